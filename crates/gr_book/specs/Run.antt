@@ -1,0 +1,78 @@
+-- What holds over every list of events.
+use Rattle.std.specs.Prelude.{◌≡◌, ℕ, ◌+◌, ◌<◌, ◌⊎◌, ⊤, List, [], ◌∷◌}
+use Rattle.std.specs.List.{AllByRecursion}
+use Rattle.gr_text.specs.declared.limits.Limits.{Limits}
+use Rattle.gr_text.specs.declared.refusal.Refusal.{Refusal}
+use Rattle.gr_text.specs.declared.refusal.Refusal.TheVariants.{Memory, JournalFull}
+use Rattle.gr_space.specs.declared.view.Change.{Change}
+use Rattle.gr_book.specs.declared.event.Event.{Event}
+use Rattle.gr_book.specs.declared.event.Event.TheVariants.{Commit, Undo, Redo}
+use Rattle.gr_book.specs.declared.event.Reply.{Reply}
+use Rattle.gr_book.specs.declared.event.Reply.TheVariants.{Done, Refused}
+use Rattle.gr_book.specs.State.{State}
+use Rattle.gr_book.specs.Machine.{Machine, Step, IsOneBefore, opening, recorded, states, cursor}
+
+-- From old, the machine may give these replies to these events, one after another, and go on to new.
+abbrev pub Run : Machine → List (Event × Reply) → Machine → Type 0
+Run old [] new = new ≡ old
+Run old (e ∷ es) new = (mid : Machine) × Step old e.0 e.1 mid × Run mid es new
+
+-- an admitted change, undo or redo
+abbrev pub IsAdmitted : Event → Reply → Type 0
+IsAdmitted (Commit basis change) (Done number) = ⊤
+IsAdmitted (Undo basis) (Done number) = ⊤
+IsAdmitted (Redo basis) (Done number) = ⊤
+IsAdmitted event reply = ⊥
+
+-- events among which no change, undo or redo is admitted
+abbrev pub IsQuiet : List (Event × Reply) → Type 0
+IsQuiet = AllByRecursion (λ e. ¬ (IsAdmitted e.0 e.1))
+
+-- Done, and the state is current again, number included; or memory or room in the journal was wanting, and nothing changed
+abbrev pub Restores : State → Machine → Reply → Machine → Type 0
+Restores state old (Done number) new = (number ≡ state.number) × (new.current ≡ state)
+Restores state old (Refused Memory) new = new ≡ old
+Restores state old (Refused JournalFull) new = new ≡ old
+Restores state old reply new = ⊥
+
+-- An admitted change followed by undo leaves the state from which the change started.
+abbrev pub UndoRestores : Type 0
+UndoRestores = (start changed settled end : Machine) (basis number : ℕ) (change : Change) (between : List (Event × Reply)) (reply : Reply)
+    → Step start (Commit basis change) (Done number) changed
+    → Run changed between settled → IsQuiet between
+    → Step settled (Undo settled.current.number) reply end
+    → Restores start.current settled reply end
+
+-- Redo then leaves the state that was current when undo left it.
+abbrev pub RedoRestores : Type 0
+RedoRestores = (start undone settled end : Machine) (basis number : ℕ) (between : List (Event × Reply)) (reply : Reply)
+    → Step start (Undo basis) (Done number) undone
+    → Run undone between settled → IsQuiet between
+    → Step settled (Redo settled.current.number) reply end
+    → Restores start.current settled reply end
+
+-- Undo and redo leave the list of states, and move the cursor by one.
+abbrev pub MovesCursor : Type 0
+MovesCursor = (before after : Machine) → IsOneBefore before after
+    → (states before ≡ states after) × (cursor before + 1 ≡ cursor after)
+
+-- Of two admitted changes the later has the greater number, whatever comes between, so no number is used twice.
+abbrev pub NumbersRise : Type 0
+NumbersRise = (start changed settled end : Machine) (basis next_basis first second : ℕ) (change next_change : Change) (between : List (Event × Reply))
+    → Step start (Commit basis change) (Done first) changed
+    → Run changed between settled
+    → Step settled (Commit next_basis next_change) (Done second) end
+    → first < second
+
+-- No change has the number of the opening state.
+abbrev pub NumbersAreNew : Type 0
+NumbersAreNew = (limits : Limits) (settled end : Machine) (before : List (Event × Reply)) (basis number : ℕ) (change : Change)
+    → Run (opening limits) before settled
+    → Step settled (Commit basis change) (Done number) end
+    → 0 < number
+
+-- A refused event changes nothing, but for the entry that the journal keeps of it.
+abbrev pub RefusalsKeepAll : Type 0
+RefusalsKeepAll = (old new : Machine) (event : Event) (refusal : Refusal)
+    → Step old event (Refused refusal) new
+    → (new ≡ old) ⊎ (new ≡ recorded old)

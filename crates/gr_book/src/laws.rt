@@ -1,0 +1,27 @@
+//! What holds over every list of events, from what `Book::step` says of one.
+ghost use Rattle.gr_book.specs.Run.{
+  UndoRestores,
+  RedoRestores,
+  MovesCursor,
+  NumbersRise,
+  NumbersAreNew,
+  RefusalsKeepAll,
+};
+
+/// An admitted change followed by undo leaves everything as before, and redo restores the change.
+pub fn undo_and_redo_restore()
+    ensures undo { UndoRestores }
+    ensures redo { RedoRestores }
+    ensures cursor { MovesCursor }
+{}
+
+/// The number of a state is never used again.
+pub fn numbers_are_used_once()
+    ensures rise { NumbersRise }
+    ensures fresh { NumbersAreNew }
+{}
+
+/// A refusal changes nothing but the number of entries.
+pub fn refusals_keep_all()
+    ensures { RefusalsKeepAll }
+{}

@@ -1,0 +1,12 @@
+//! What a client sees of a workspace, and the changes that it plans.
+#![tactic(auto)]
+
+mod fits;
+mod folders;
+mod plan;
+#[cfg(test)]
+mod tests;
+mod view;
+
+pub use plan::{plan_del, plan_put};
+pub use view::{Change, ChangeKind, Snapshot, View};

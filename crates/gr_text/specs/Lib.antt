@@ -1,0 +1,4 @@
+pub mod FaultNames
+pub mod Path
+pub mod PathRead
+pub mod Workspace
