@@ -1,0 +1,94 @@
+-- What a command does.
+use Rattle.std.specs.Prelude.{◌≡◌, ◌⊎◌, ℕ, List, ⊤, Option, Some, None, IfSome, Result, Ok, Err}
+use Rattle.gr_text.specs.Path.{IsPath}
+use Rattle.gr_text.specs.declared.refusal.Refusal.{Refusal}
+use Rattle.gr_text.specs.declared.refusal.Refusal.TheVariants.{Memory, BadPath, TooLarge, Moved}
+use Rattle.gr_space.specs.Plan.{PlansPut, PlansDel}
+use Rattle.gr_space.specs.declared.view.View.{View}
+use Rattle.gr_space.specs.declared.view.Change.{Change}
+use Rattle.gr_book.specs.declared.event.Event.{Event}
+use Rattle.gr_book.specs.declared.event.Event.TheVariants.{Look, Commit, Undo, Redo}
+use Rattle.gr_book.specs.declared.event.Reply.{Reply}
+use Rattle.gr_book.specs.declared.event.Reply.TheVariants.{Looked, Done, Refused}
+use Rattle.gr_desk.specs.Queries.{Cats, listing}
+use Rattle.gr_desk.specs.declared.command.Command.{Command}
+use Rattle.gr_desk.specs.declared.command.Command.TheVariants as command
+use Rattle.gr_desk.specs.declared.command.Response.{Response}
+use Rattle.gr_desk.specs.declared.command.Response.TheVariants as response
+
+-- the basis that a command gives, where it gives one
+abbrev pub basis_of : Command → Option ℕ
+basis_of command.Look = None
+basis_of (command.Put basis path body) = Some basis
+basis_of (command.Del basis path) = Some basis
+basis_of (command.Undo basis) = Some basis
+basis_of (command.Redo basis) = Some basis
+basis_of (command.Cat path) = None
+basis_of command.List = None
+
+-- the command is meant for the state that the view shows
+abbrev pub FitsView : View → Command → Type 0
+FitsView view asked = IfSome (basis_of asked) (λ basis. basis ≡ view.snapshot.number)
+
+-- a put whose body was not kept, and so is over the limit of a file if its path is one
+abbrev pub PlansDropped : List ℕ → Result Change Refusal → Type 0
+PlansDropped path (Err BadPath) = ¬ (IsPath 2 path)
+PlansDropped path (Err TooLarge) = IsPath 2 path
+PlansDropped path (Err Memory) = ⊤
+PlansDropped path (Err refusal) = ⊥
+PlansDropped path (Ok change) = ⊥
+
+abbrev pub PlansBody : View → List ℕ → Option (List ℕ) → Result Change Refusal → Type 0
+PlansBody view path None planned = PlansDropped path planned
+PlansBody view path (Some text) planned = PlansPut view path text planned
+
+abbrev pub response_to : Reply → Response
+response_to (Looked view) = response.Steps view.snapshot.number view.undo view.redo
+response_to (Done number) = response.Done number
+response_to (Refused refusal) = response.Refused refusal
+
+abbrev pub file_response : ℕ → Result (List ℕ) Refusal → Response
+file_response number (Ok text) = response.File number text
+file_response number (Err refusal) = response.Refused refusal
+
+-- the lines, or want of memory for them
+abbrev pub TellsLines : ℕ → List ℕ → Response → Type 0
+TellsLines number lines answer = (answer ≡ response.Lines number lines) ⊎ (answer ≡ response.Refused Memory)
+
+module _ {D : Type 0} (steps : D → Event → Reply → D → Type 0) where
+  -- one event
+  abbrev pub Sends : D → Event → Response → D → Type 0
+  Sends old event answer new = (reply : Reply) × steps old event reply new × (answer ≡ response_to reply)
+
+  -- a change that was planned, or why there is none
+  abbrev pub Commits : D → ℕ → Result Change Refusal → Response → D → Type 0
+  Commits old basis (Ok change) answer new = Sends old (Commit basis change) answer new
+  Commits old basis (Err refusal) answer new = (answer ≡ response.Refused refusal) × (new ≡ old)
+
+  -- a command that is meant for the state of the view
+  abbrev pub ActsOn : D → View → Command → Response → D → Type 0
+  ActsOn old view command.Look answer new = (answer ≡ response_to (Looked view)) × (new ≡ old)
+  ActsOn old view (command.Put basis path body) answer new =
+      (planned : Result Change Refusal) × PlansBody view path body planned × Commits old basis planned answer new
+  ActsOn old view (command.Del basis path) answer new =
+      (planned : Result Change Refusal) × PlansDel view path planned × Commits old basis planned answer new
+  ActsOn old view (command.Undo basis) answer new = Sends old (Undo basis) answer new
+  ActsOn old view (command.Redo basis) answer new = Sends old (Redo basis) answer new
+  ActsOn old view (command.Cat path) answer new =
+      ((found : Result (List ℕ) Refusal) × Cats view path found × (answer ≡ file_response view.snapshot.number found)) × (new ≡ old)
+  ActsOn old view command.List answer new = TellsLines view.snapshot.number (listing view.snapshot.files) answer × (new ≡ old)
+
+  -- the command after its look has shown this view: it is refused where it is meant for another state
+  abbrev pub ActsAfter : D → View → Command → Response → D → Type 0
+  ActsAfter old view asked answer new =
+      (¬ (FitsView view asked) × (answer ≡ response.Refused (Moved view.snapshot.number)) × (new ≡ old))
+      ⊎ (FitsView view asked × ActsOn old view asked answer new)
+
+  -- the command after the reply to its look
+  abbrev pub Continues : D → Reply → Command → Response → D → Type 0
+  Continues old (Looked view) asked answer new = ActsAfter old view asked answer new
+  Continues old reply asked answer new = (answer ≡ response_to reply) × (new ≡ old)
+
+  -- one command, which begins with a look
+  abbrev pub Acts : D → Command → Response → D → Type 0
+  Acts old asked answer new = (reply : Reply) × (mid : D) × steps old Look reply mid × Continues mid reply asked answer new

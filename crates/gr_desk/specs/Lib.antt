@@ -1,0 +1,3 @@
+pub mod MayReply
+pub mod Queries
+pub mod Act

@@ -1,0 +1,25 @@
+-- What a view answers.
+use Rattle.std.specs.Prelude.{◌≡◌, ℕ, List, [], ◌∷◌, ◌++◌, length, decimal, ⊤, Some, None, Result, Ok, Err}
+use Rattle.std.specs.List.{flat_map}
+use Rattle.std.specs.FinMap as map
+use Rattle.gr_text.specs.Path.{IsPath}
+use Rattle.gr_text.specs.Workspace.{Workspace}
+use Rattle.gr_text.specs.declared.refusal.Refusal.{Refusal}
+use Rattle.gr_text.specs.declared.refusal.Refusal.TheVariants.{Memory, BadPath, NoFile}
+use Rattle.gr_space.specs.declared.view.View.{View}
+
+-- reading one file
+abbrev pub Cats : View → List ℕ → Result (List ℕ) Refusal → Type 0
+Cats view path (Ok text) = IsPath 2 path × (map.get view.snapshot.files path ≡ Some text)
+Cats view path (Err BadPath) = ¬ (IsPath 2 path)
+Cats view path (Err NoFile) = IsPath 2 path × (map.get view.snapshot.files path ≡ None)
+Cats view path (Err Memory) = ⊤
+Cats view path (Err refusal) = ⊥
+
+-- a path, a space, the size of its text in bytes, and a newline
+abbrev pub file_line : List ℕ → List ℕ → List ℕ
+file_line path text = path ++ 32 ∷ (decimal (length text) ++ 10 ∷ [])
+
+-- a line for each file, by the bytes of the paths
+abbrev pub listing : Workspace → List ℕ
+listing files = flat_map (λ e. file_line e.0 e.1) (map.entries files)

@@ -1,0 +1,103 @@
+//! One command. Each begins with a look, and what it does is planned on the view that the look gave.
+ghost use Rattle.std.specs.Prelude.{◌≡◌, ◌↔◌, IsTrue};
+ghost use Rattle.gr_desk.specs.Act.{Acts, Commits, FitsView, PlansBody, response_to};
+
+use crate::command::{Command, Response};
+use crate::desk::Desk;
+use crate::queries::{cat, list};
+use gr_book::{Event, Reply};
+use gr_space::{Change, View, plan_del, plan_put};
+use gr_text::{FileText, Path, Refusal};
+use std::alloc::Global;
+
+fn response(reply: Reply) -> Response
+    ensures { result ≡ response_to reply }
+{
+    match reply {
+        Reply::Looked(view) => Response::Steps {
+            number: view.snapshot.number,
+            undo: view.undo,
+            redo: view.redo,
+        },
+        Reply::Done(number) => Response::Done { number },
+        Reply::Refused(refusal) => Response::Refused { refusal },
+    }
+}
+
+/// Whether the command is meant for the state that the view shows.
+fn fits_view(view: &View, command: &Command) -> bool
+    ensures { IsTrue result ↔ FitsView view.now command.now }
+{
+    match command.basis() {
+        Some(basis) => basis == view.snapshot.number,
+        None => true,
+    }
+}
+
+/// The change of a put. A body that was not kept is over the limit of a file, if its path is one.
+fn plan_body(
+    alloc: Global,
+    view: &View,
+    path: &str,
+    body: Option<FileText>,
+) -> Result<Change, Refusal>
+    ensures { PlansBody view.now path.now body result }
+{
+    match body {
+        Some(text) => plan_put(alloc, view, path, text),
+        None => {
+            let path = Path::read(alloc, path, 2)?;
+            drop(path);
+            Err(Refusal::TooLarge)
+        }
+    }
+}
+
+/// Commits a change that was planned.
+fn commit<D: Desk>(desk: &mut D, basis: u64, planned: Result<Change, Refusal>) -> Response
+    ensures { Commits D.steps desk.old basis planned result desk.new }
+{
+    match planned {
+        Ok(change) => response(desk.step(Event::Commit(basis, change))),
+        Err(refusal) => Response::Refused { refusal },
+    }
+}
+
+/// Acts on one command.
+pub fn act<D: Desk>(alloc: Global, desk: &mut D, command: Command) -> Response
+    ensures { Acts D.steps desk.old command result desk.new }
+{
+    let view = match desk.step(Event::Look) {
+        Reply::Looked(view) => view,
+        other => return response(other),
+    };
+    let number = view.snapshot.number;
+    if !fits_view(&view, &command) {
+        return Response::Refused {
+            refusal: Refusal::Moved { current: number },
+        };
+    }
+    match command {
+        Command::Look => response(Reply::Looked(view)),
+        Command::Put { basis, path, body } => {
+            let planned = plan_body(alloc, &view, path.as_str(), body);
+            commit(desk, basis, planned)
+        }
+        Command::Del { basis, path } => {
+            let planned = plan_del(alloc, &view, path.as_str());
+            commit(desk, basis, planned)
+        }
+        Command::Undo { basis } => response(desk.step(Event::Undo(basis))),
+        Command::Redo { basis } => response(desk.step(Event::Redo(basis))),
+        Command::Cat { path } => match cat(alloc, &view, path.as_str()) {
+            Ok(text) => Response::File { number, text },
+            Err(refusal) => Response::Refused { refusal },
+        },
+        Command::List => match list(alloc, &view) {
+            Ok(text) => Response::Lines { number, text },
+            Err(_) => Response::Refused {
+                refusal: Refusal::Memory,
+            },
+        },
+    }
+}

@@ -1,0 +1,61 @@
+//! Where commands take their events.
+ghost use Rattle.std.specs.Prelude.{◌≡◌};
+ghost use Rattle.gr_book.specs.declared.event.Event.{Event};
+ghost use Rattle.gr_book.specs.declared.event.Reply.{Reply};
+ghost use Rattle.gr_desk.specs.MayReply.{MayReply};
+
+use gr_book::{Book, Event, Reply};
+use std::marker::Model;
+
+/// Takes events, and gives their replies.
+pub trait Desk {
+    /// What one event may do: the desk before, the event, its reply, and the desk after.
+    ghost steps: { Self → Event → Reply → Self → Type 0 };
+
+    fn step(&mut self, event: Event) -> Reply
+        ensures step { steps self.old event result self.new }
+        ensures kind { MayReply event result };
+}
+
+/// A desk with a book of its own.
+#[derive(Drop)]
+pub struct Solo {
+    book: Book,
+}
+
+impl Model for Solo {
+    ghost use Rattle.gr_book.specs.Machine.{Machine};
+    ghost use Rattle.std.specs.Coded.{codes};
+    ghost use Rattle.gr_book.specs.State.{workspace_code};
+
+    ghost Value = { Machine };
+
+    ghost coded = { Prim.hlevel (codes, workspace_code) };
+
+    ghost view = { λ a. a.book };
+}
+
+impl Solo {
+    pub fn new(book: Book) -> Solo
+        ensures { result ≡ book }
+    {
+        Solo { book }
+    }
+
+    pub fn into_book(self) -> Book
+        ensures { result ≡ self }
+    {
+        let Solo { book } = self;
+        book
+    }
+}
+
+impl Desk for Solo {
+    ghost use Rattle.gr_book.specs.Machine.{Step};
+
+    ghost steps = { Step };
+
+    fn step(&mut self, event: Event) -> Reply {
+        self.book.step(event)
+    }
+}

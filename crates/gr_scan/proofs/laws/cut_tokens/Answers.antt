@@ -1,0 +1,5 @@
+use Rattle.gr_scan.proofs.SpanLemmas.{cut_tokens}
+use Rattle.gr_scan.proofs.laws.cut_tokens.Goals as goal
+
+pub returns : goal.returns
+returns c = cut_tokens

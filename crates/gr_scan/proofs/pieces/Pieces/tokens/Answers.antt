@@ -1,0 +1,8 @@
+use Rattle.std.proofs.Common.{subst}
+use Rattle.gr_scan.specs.CutText.{CutText, tokens_in}
+use Rattle.gr_scan.specs.Spans.{AreInOrder}
+use Rattle.gr_scan.proofs.SpanLemmas.{tokens_in_order}
+use Rattle.gr_scan.proofs.pieces.Pieces.tokens.Goals as goal
+
+pub returns-clause-order : goal.returns-clause-order
+returns-clause-order c = subst (λ (v : CutText). AreInOrder v.text (tokens_in v)) c.self.view_is (tokens_in_order c.self.inside.file c.self.inside.pieces.items c.self.invariant.cut)

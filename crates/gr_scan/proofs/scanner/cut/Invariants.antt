@@ -1,0 +1,9 @@
+use Rattle.std.proofs.Common.{◌≤◌, ◌-◌, length}
+use Rattle.gr_scan.specs.Cuts.{CutsUpTo}
+use Rattle.gr_scan.proofs.scanner.cut.Given as goal
+
+abbrev pub invariant-loop-at : goal.invariant-loop-at
+invariant-loop-at l = record { fits : l.at ≤ length l.text; cut : CutsUpTo l.text l.pieces.items l.at }
+
+abbrev pub decreases-loop-at : goal.decreases-loop-at
+decreases-loop-at l = length l.text - l.at

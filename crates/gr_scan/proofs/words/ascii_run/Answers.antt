@@ -1,0 +1,10 @@
+use Rattle.std.proofs.Common.{sym, ◌∙◌}
+use Rattle.gr_scan.proofs.AsciiLemmas.{ascii_grows}
+use Rattle.gr_scan.proofs.WordLemmas.{run_empty}
+use Rattle.gr_scan.proofs.words.ascii_run.Goals as goal
+
+pub loop-n-init : goal.loop-n-init
+loop-n-init c = run_empty c.args.bytes.now
+
+pub loop-n-preserved : goal.loop-n-preserved
+loop-n-preserved c = ?

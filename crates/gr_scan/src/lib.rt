@@ -1,0 +1,30 @@
+//! Cuts Go source into pieces and tokens.
+#![tactic(auto)]
+
+mod characters;
+mod encoding;
+mod front;
+mod integers;
+mod keywords;
+pub mod laws;
+mod operators;
+mod piece;
+mod pieces;
+mod refusal;
+mod scanner;
+mod string_values;
+mod strings;
+#[cfg(test)]
+mod tests;
+mod tokens;
+mod trivia;
+mod words;
+
+pub use integers::integer_value;
+pub use keywords::Keyword;
+pub use operators::Operator;
+pub use piece::{Class, Piece};
+pub use pieces::Pieces;
+pub use refusal::{Fault, ScanRefusal};
+pub use scanner::scan;
+pub use string_values::string_value;

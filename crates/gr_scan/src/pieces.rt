@@ -1,0 +1,109 @@
+//! A file with its pieces and tokens.
+ghost use Rattle.std.specs.Prelude.{◌≡◌, ◌<◌, ◌≤◌, ◌-◌, length, take, drop, IfOk};
+ghost use Rattle.gr_scan.specs.Cuts.{IsCut, bytes_of};
+ghost use Rattle.gr_scan.specs.TokenValues.{HasTokenValue};
+ghost use Rattle.gr_scan.specs.Tokens.{tokens_of};
+ghost use Rattle.gr_scan.specs.Spans.{IsTokenText, AreInOrder};
+ghost use Rattle.gr_scan.specs.CutText.{token_at, tokens_in};
+
+use crate::piece::{Class, Piece};
+use crate::string_values::string_value;
+use gr_text::{FileText, Span};
+use std::alloc::{AllocError, Global};
+use std::marker::Model;
+
+/// The cut of a file: its pieces, blanks and comments among them, and its tokens, inserted semicolons among them.
+#[derive(Drop)]
+pub struct Pieces {
+    file: FileText,
+    pieces: Vec<Piece>,
+    tokens: Vec<Piece>,
+}
+
+impl Model for Pieces {
+    ghost use Rattle.gr_scan.specs.CutText.{CutText, IsCutText};
+
+    ghost Value = { CutText };
+
+    ghost view = { λ a. record { text = a.file; pieces = a.pieces.items } };
+
+    ghost invariant = { λ a. IsCutText a.file a.pieces.items a.tokens.items };
+}
+
+fn part(text: &[u8], span: Span) -> &[u8]
+    requires order { span.start ≤ span.end }
+    requires fits { span.end ≤ length text.now }
+    ensures { result.now ≡ take (span.end - span.start) (drop span.start text.now) }
+{
+    &text[span.start..span.end]
+}
+
+impl Pieces {
+    /// The pieces and tokens that are known to be those of a file.
+    pub(crate) fn new(file: FileText, pieces: Vec<Piece>, tokens: Vec<Piece>) -> Pieces
+        requires cut { IsCut file pieces.items }
+        requires tokens { tokens.items ≡ tokens_of file pieces.items }
+        ensures { result ≡ record { text = file; pieces = pieces.items } }
+    {
+        Pieces {
+            file,
+            pieces,
+            tokens,
+        }
+    }
+
+    /// The file that was cut.
+    pub fn file(&self) -> &FileText
+        ensures { result.now ≡ self.now.text }
+    {
+        &self.file
+    }
+
+    /// What the file is cut into.
+    pub fn pieces(&self) -> &[Piece]
+        ensures pieces { result.now ≡ self.now.pieces }
+        ensures cut { IsCut self.now.text self.now.pieces }
+    {
+        &self.pieces
+    }
+
+    /// The tokens. An inserted semicolon is empty, and stands at the end of the token before it.
+    pub fn tokens(&self) -> &[Piece]
+        ensures tokens { result.now ≡ tokens_in self.now }
+        ensures order { AreInOrder self.now.text (tokens_in self.now) }
+    {
+        &self.tokens
+    }
+
+    /// The bytes of a token, by its number from 0.
+    pub fn span(&self, token: usize) -> Span
+        requires { token < length (tokens_in self.now) }
+        ensures { result ≡ (token_at self.now token).span }
+    {
+        self.tokens[token].span
+    }
+
+    /// How a token is spelled, by its number from 0. An inserted semicolon is empty.
+    pub fn text(&self, token: usize) -> &[u8]
+        requires { token < length (tokens_in self.now) }
+        ensures bytes { result.now ≡ bytes_of self.now.text (token_at self.now token) }
+        ensures class { IsTokenText (token_at self.now token).class result.now }
+    {
+        let span = self.tokens[token].span;
+        part(self.file.bytes(), span)
+    }
+
+    /// What a token stands for if it is a string literal, by its number from 0.
+    pub fn string_value(&self, alloc: Global, token: usize) -> Result<Option<Vec<u8>>, AllocError>
+        requires { token < length (tokens_in self.now) }
+        ensures { IfOk result (HasTokenValue (token_at self.now token).class (bytes_of self.now.text (token_at self.now token))) }
+    {
+        match self.tokens[token].class {
+            Class::InterpretedString | Class::RawString => {
+                let value = string_value(alloc, self.text(token))?;
+                Ok(Some(value))
+            }
+            _ => Ok(None),
+        }
+    }
+}

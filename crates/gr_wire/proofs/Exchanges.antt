@@ -1,0 +1,52 @@
+-- Exchanges, one after another.
+use Rattle.std.proofs.Common.{ℕ, List, [], ◌∷◌, ◌++◌, refl, sym, append-nil}
+use Rattle.std.proofs.lemmas.Grind.{flat_map-append}
+use Rattle.gr_text.specs.declared.limits.Limits.{Limits}
+use Rattle.gr_book.specs.declared.event.Event.{Event}
+use Rattle.gr_book.specs.declared.event.Reply.{Reply}
+use Rattle.gr_desk.specs.declared.command.Response.{Response}
+use Rattle.gr_wire.specs.declared.message.Message.{Message}
+use Rattle.gr_wire.specs.Wire.{Says, Reads}
+use Rattle.gr_wire.specs.Answers.{Answered, AnswersAll}
+use Rattle.gr_wire.specs.Replies.{reply_text}
+use Rattle.gr_wire.specs.Transcript.{Exchange}
+
+pub Reads-append : (limits : Limits) (input mid rest : List ℕ) (ms ns : List Message)
+    → Reads limits input ms mid → Reads limits mid ns rest → Reads limits input (ms ++ ns) rest
+Reads-append limits input mid rest [] ns h k = rw h k
+Reads-append limits input mid rest (m ∷ ms) ns h k = (h.0, h.1, Reads-append limits h.0 mid rest ms ns h.2 k)
+
+pub AnswersAll-append : {D : Type 0} (steps : D → Event → Reply → D → Type 0) (old mid new : D) (ms ns : List Message) (rs ss : List Response)
+    → AnswersAll steps old ms rs mid → AnswersAll steps mid ns ss new → AnswersAll steps old (ms ++ ns) (rs ++ ss) new
+AnswersAll-append steps old mid new [] ns [] ss h k = rw (← h) k
+AnswersAll-append steps old mid new [] ns (r ∷ rs) ss h k = absurd h
+AnswersAll-append steps old mid new (m ∷ ms) ns [] ss h k = absurd h
+AnswersAll-append steps old mid new (m ∷ ms) ns (r ∷ rs) ss h k = (h.0, h.1, AnswersAll-append steps h.0 mid new ms ns rs ss h.2 k)
+
+-- nothing read, and nothing written
+pub Exchange-none : {D : Type 0} (steps : D → Event → Reply → D → Type 0) (limits : Limits) (input : List ℕ) (old : D)
+    → Exchange steps limits input input old old []
+Exchange-none steps limits input old = record { messages = []; replies = []; read = refl; run = refl; written = refl }
+
+-- one message, and its reply
+pub Exchange-one : {D : Type 0} (steps : D → Event → Reply → D → Type 0) (limits : Limits) (input rest : List ℕ) (old new : D) (message : Message) (reply : Response)
+    → Says limits input message rest → Answered steps old message reply new
+    → Exchange steps limits input rest old new (reply_text reply)
+Exchange-one steps limits input rest old new message reply said answered = record {
+  messages = message ∷ [];
+  replies = reply ∷ [];
+  read = (rest, said, refl);
+  run = (new, answered, refl);
+  written = sym (append-nil (reply_text reply));
+}
+
+pub Exchange-append : {D : Type 0} (steps : D → Event → Reply → D → Type 0) (limits : Limits) (input mid rest : List ℕ) (old now new : D) (text more : List ℕ)
+    → Exchange steps limits input mid old now text → Exchange steps limits mid rest now new more
+    → Exchange steps limits input rest old new (text ++ more)
+Exchange-append steps limits input mid rest old now new text more a b = record {
+  messages = a.messages ++ b.messages;
+  replies = a.replies ++ b.replies;
+  read = Reads-append limits input mid rest a.messages b.messages a.read b.read;
+  run = AnswersAll-append steps old now new a.messages b.messages a.replies b.replies a.run b.run;
+  written = rw (a.written, b.written) (sym (flat_map-append reply_text a.replies b.replies));
+}

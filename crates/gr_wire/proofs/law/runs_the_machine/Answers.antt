@@ -1,0 +1,5 @@
+use Rattle.gr_wire.proofs.Runs.{exchange_runs}
+use Rattle.gr_wire.proofs.law.runs_the_machine.Goals as goal
+
+pub returns : goal.returns
+returns c = exchange_runs

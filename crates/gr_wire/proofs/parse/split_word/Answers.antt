@@ -1,0 +1,5 @@
+use Rattle.gr_wire.proofs.Words.{SplitsWord-from_split}
+use Rattle.gr_wire.proofs.parse.split_word.Goals as goal
+
+pub returns : goal.returns
+returns c = SplitsWord-from_split c.args.text.now c.split_once.result c.split_once.ensures.cases

@@ -1,0 +1,24 @@
+-- What a session answers.
+use Rattle.std.specs.Prelude.{◌≡◌, List, [], ◌∷◌, ◌⊎◌}
+use Rattle.gr_text.specs.declared.refusal.Refusal.TheVariants.{Memory, BadCommand, BodyShort}
+use Rattle.gr_book.specs.declared.event.Event.{Event}
+use Rattle.gr_book.specs.declared.event.Reply.{Reply}
+use Rattle.gr_desk.specs.declared.command.Response.{Response}
+use Rattle.gr_desk.specs.declared.command.Response.TheVariants.{Refused}
+use Rattle.gr_desk.specs.Act.{Acts}
+use Rattle.gr_wire.specs.declared.message.Message.{Message}
+use Rattle.gr_wire.specs.declared.message.Message.TheVariants.{Ask, Unknown, CutShort}
+
+module _ {D : Type 0} (steps : D → Event → Reply → D → Type 0) where
+  -- from old, a session may answer this message so; want of memory to keep a command changes nothing
+  abbrev pub Answered : D → Message → Response → D → Type 0
+  Answered old (Ask command) reply new = Acts steps old command reply new ⊎ ((reply ≡ Refused Memory) × (new ≡ old))
+  Answered old Unknown reply new = (reply ≡ Refused BadCommand) × (new ≡ old)
+  Answered old CutShort reply new = (reply ≡ Refused BodyShort) × (new ≡ old)
+
+  -- from old, a session may answer these messages so, one after another
+  abbrev pub AnswersAll : D → List Message → List Response → D → Type 0
+  AnswersAll old [] [] new = new ≡ old
+  AnswersAll old (message ∷ messages) (reply ∷ replies) new = (mid : D) × Answered old message reply mid × AnswersAll mid messages replies new
+  AnswersAll old [] (reply ∷ replies) new = ⊥
+  AnswersAll old (message ∷ messages) [] new = ⊥

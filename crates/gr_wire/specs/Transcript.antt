@@ -1,0 +1,67 @@
+-- What a session has done: the messages read, the replies given, and their text.
+use Rattle.std.specs.Prelude.{◌≡◌, ◌≢◌, ℕ, List, ◌++◌, Option, Some, IfSome, Result, Ok, Err, Bool, true, false}
+use Rattle.std.specs.List.{flat_map}
+use Rattle.std.specs.Io.KnownBytes.{Appends, Keeps}
+use Rattle.gr_text.specs.declared.limits.Limits.{Limits}
+use Rattle.gr_book.specs.declared.event.Event.{Event}
+use Rattle.gr_book.specs.declared.event.Reply.{Reply}
+use Rattle.gr_desk.specs.declared.command.Response.{Response}
+use Rattle.gr_wire.specs.declared.message.Message.{Message}
+use Rattle.gr_wire.specs.declared.exchange.SessionFault.{SessionFault}
+use Rattle.gr_wire.specs.declared.exchange.SessionFault.TheVariants.{Memory, Read, Write, Turns}
+use Rattle.gr_wire.specs.Wire.{Reads, Ends, StaysWithin}
+use Rattle.gr_wire.specs.Replies.{reply_text}
+use Rattle.gr_wire.specs.Answers.{AnswersAll}
+
+-- The input up to `rest` was read as messages, answered in one run of the desk from old to new,
+-- and `text` is the text of the replies.
+pub record Exchange {D : Type 0} (steps : D → Event → Reply → D → Type 0) (limits : Limits) (input rest : List ℕ) (old new : D) (text : List ℕ) : Type 0 where
+  pub messages : List Message
+  pub replies : List Response
+  pub read : Reads limits input messages rest
+  pub run : AnswersAll steps old messages replies new
+  pub written : text ≡ flat_map reply_text replies
+
+-- How a session ends, over an input that the reader tells. `before` and `after` are what the reader has left,
+-- `held` and `holds` what the writer holds.
+abbrev pub SessionEnds : {D : Type 0} → (D → Event → Reply → D → Type 0) → Limits → (before after held holds : Option (List ℕ)) → D → D → Result (Unit {0}) SessionFault → Type 0
+-- all messages are answered, and nothing is read beyond the last
+SessionEnds steps limits before after held holds old new (Ok done) = IfSome before (λ input.
+    (mid : List ℕ) × (rest : List ℕ) × (text : List ℕ) × Exchange steps limits input mid old new text
+    × Ends limits mid rest × (after ≡ Some rest) × Appends held holds text)
+-- nothing was read, done or written
+SessionEnds steps limits before after held holds old new (Err Memory) = Keeps before after × (new ≡ old) × Keeps held holds
+-- the messages read whole are answered, and a part of the next, if there is one, is read
+SessionEnds steps limits before after held holds old new (Err Read) = IfSome before (λ input.
+    (part : List ℕ) × (rest : List ℕ) × (text : List ℕ) × Exchange steps limits input (part ++ rest) old new text
+    × (after ≡ Some rest) × Appends held holds text × StaysWithin limits (part ++ rest) rest)
+SessionEnds steps limits before after held holds old new (Err Turns) = IfSome before (λ input.
+    (part : List ℕ) × (rest : List ℕ) × (text : List ℕ) × Exchange steps limits input (part ++ rest) old new text
+    × (after ≡ Some rest) × Appends held holds text × StaysWithin limits (part ++ rest) rest)
+-- a first part of the replies is written
+SessionEnds steps limits before after held holds old new (Err Write) = IfSome before (λ input.
+    (rest : List ℕ) × (written : List ℕ) × (unwritten : List ℕ) × Exchange steps limits input rest old new (written ++ unwritten)
+    × (after ≡ Some rest) × Appends held holds written)
+
+-- A fault of the reader or the writer is answered just where it failed in this call.
+abbrev pub CountsFaults : {T : Type 0} → (read_before read_after write_before write_after : ℕ) → Result T SessionFault → Type 0
+CountsFaults a b c d (Ok done) = (b ≡ a) × (d ≡ c)
+CountsFaults a b c d (Err Memory) = (b ≡ a) × (d ≡ c)
+CountsFaults a b c d (Err Read) = (b ≢ a) × (d ≡ c)
+CountsFaults a b c d (Err Write) = (b ≡ a) × (d ≢ c)
+CountsFaults a b c d (Err Turns) = (b ≡ a) × (d ≡ c)
+
+-- What one step of a session does: true where it goes on.
+abbrev pub StepEnds : {D : Type 0} → (D → Event → Reply → D → Type 0) → Limits → (before after held holds : Option (List ℕ)) → D → D → Result Bool SessionFault → Type 0
+StepEnds steps limits before after held holds old new (Ok true) = IfSome before (λ input.
+    (rest : List ℕ) × (text : List ℕ) × Exchange steps limits input rest old new text × (after ≡ Some rest) × Appends held holds text)
+StepEnds steps limits before after held holds old new (Ok false) = SessionEnds steps limits before after held holds old new (Ok tt)
+StepEnds steps limits before after held holds old new (Err Memory) = ⊥
+StepEnds steps limits before after held holds old new (Err Read) = SessionEnds steps limits before after held holds old new (Err Read)
+StepEnds steps limits before after held holds old new (Err Turns) = SessionEnds steps limits before after held holds old new (Err Turns)
+StepEnds steps limits before after held holds old new (Err Write) = SessionEnds steps limits before after held holds old new (Err Write)
+
+-- The whole of a session over memory: every message of the input up to its end is answered, in one run of the desk.
+abbrev pub IsTranscript : {D : Type 0} → (D → Event → Reply → D → Type 0) → Limits → List ℕ → D → D → List ℕ → Type 0
+IsTranscript steps limits input old new text =
+    (mid : List ℕ) × (rest : List ℕ) × Exchange steps limits input mid old new text × Ends limits mid rest

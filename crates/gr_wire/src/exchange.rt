@@ -1,0 +1,135 @@
+//! A session: it reads messages, has them answered, and writes the replies.
+ghost use Rattle.std.specs.Prelude.{◌≡◌, ◌+◌, ◌^◌, ◌≤◌, ◌<◌, ℕ, List, Option, IfOk};
+ghost use Rattle.gr_wire.specs.Answers.{Answered};
+ghost use Rattle.gr_wire.specs.Transcript.{SessionEnds, CountsFaults, StepEnds};
+
+use crate::input::InputFault;
+use crate::message::Message;
+use crate::next::{LineBuffer, Next, read_command};
+use crate::output::print_reply;
+use crate::stream::{Sink, Source, WriteFailed};
+use gr_desk::{Desk, Response, act};
+use gr_text::{Limits, Refusal};
+use std::alloc::Global;
+
+/// Why a session ended before its input did.
+#[derive(Clone, Copy, Debug, PartialEq, Eq)]
+pub enum SessionFault {
+    /// There is no memory for a session.
+    Memory,
+    /// The reader failed.
+    Read,
+    /// The writer failed.
+    Write,
+    /// All reads that a session may make are used up.
+    Turns,
+}
+
+impl From<InputFault> for SessionFault {
+    ghost use Rattle.gr_wire.specs.declared.input.InputFault.{InputFault};
+    ghost use Rattle.gr_wire.specs.Faults.{fault_of};
+
+    ghost from_gives = { λ fault result. result ≡ fault_of fault };
+
+    fn from(fault: InputFault) -> SessionFault {
+        match fault {
+            InputFault::Read => SessionFault::Read,
+            InputFault::Turns => SessionFault::Turns,
+        }
+    }
+}
+
+impl From<WriteFailed> for SessionFault {
+    ghost use Rattle.gr_wire.specs.declared.exchange.SessionFault.TheVariants.{Write};
+
+    ghost from_gives = { λ _ result. result ≡ Write };
+
+    fn from(_failed: WriteFailed) -> SessionFault {
+        SessionFault::Write
+    }
+}
+
+fn refuse(refusal: Refusal) -> Response
+    ensures { result ≡ Response.Refused refusal }
+{
+    Response::Refused { refusal }
+}
+
+fn answer<D: Desk>(alloc: Global, desk: &mut D, message: Message) -> Response
+    ensures { Answered D.steps desk.old message result desk.new }
+{
+    match message {
+        Message::Ask(command) => act(alloc, desk, command),
+        Message::Unknown => refuse(Refusal::BadCommand),
+        Message::CutShort => refuse(Refusal::BodyShort),
+    }
+}
+
+/// Reads the next message, has it answered, and writes the reply. It is false where the session ends.
+fn serve_next<S: Source, T: Sink, D: Desk>(
+    alloc: Global,
+    source: &mut S,
+    sink: &mut T,
+    desk: &mut D,
+    reads_left: &mut u64,
+    line: &mut LineBuffer,
+    limits: &Limits,
+) -> Result<bool, SessionFault>
+    requires reads { S.reads source.old + reads_left.old < 2 ^ 64 }
+    ensures step { StepEnds D.steps limits.now (S.remaining source.old) (S.remaining source.new)
+        (T.contents sink.old) (T.contents sink.new) desk.old desk.new result }
+    ensures counted { CountsFaults (S.failures source.old) (S.failures source.new)
+        (T.failures sink.old) (T.failures sink.new) result }
+    ensures turns { IfOk result (λ _. reads_left.new < reads_left.old) }
+    ensures turns_over { result ≡ Err SessionFault.Turns → reads_left.new ≡ 0 }
+    ensures reads { S.reads source.new + reads_left.new ≡ S.reads source.old + reads_left.old }
+{
+    match read_command(alloc, source, reads_left, line, limits)? {
+        Next::End => Ok(false),
+        Next::NoRoom => {
+            print_reply(sink, &refuse(Refusal::Memory))?;
+            Ok(true)
+        }
+        Next::Message(message) => {
+            let is_last = message.is_last();
+            let reply = answer(alloc, desk, message);
+            print_reply(sink, &reply)?;
+            Ok(!is_last)
+        }
+    }
+}
+
+/// Serves one session: reads commands to the end, has each answered, and writes the replies.
+/// What was done before a fault stands.
+pub fn session<S: Source, T: Sink, D: Desk>(
+    alloc: Global,
+    source: &mut S,
+    sink: &mut T,
+    desk: &mut D,
+    limits: Limits,
+) -> Result<(), SessionFault>
+    requires { S.reads source.old + limits.reads < 2 ^ 64 }
+    ensures session { SessionEnds D.steps limits (S.remaining source.old) (S.remaining source.new)
+        (T.contents sink.old) (T.contents sink.new) desk.old desk.new result }
+    ensures counted { CountsFaults (S.failures source.old) (S.failures source.new)
+        (T.failures sink.old) (T.failures sink.new) result }
+    ensures memory_first { result ≡ Err SessionFault.Memory → S.reads source.new ≡ S.reads source.old }
+    ensures few_reads { S.reads source.new ≤ S.reads source.old + limits.reads }
+    ensures turns { result ≡ Err SessionFault.Turns → S.reads source.new ≡ S.reads source.old + limits.reads }
+{
+    let mut line = match LineBuffer::new(alloc) {
+        Ok(line) => line,
+        Err(_) => return Err(SessionFault::Memory),
+    };
+    let mut reads_left = limits.reads;
+    while serve_next(
+        alloc,
+        source,
+        sink,
+        desk,
+        &mut reads_left,
+        &mut line,
+        &limits,
+    )? {}
+    Ok(())
+}

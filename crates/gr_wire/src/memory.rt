@@ -1,0 +1,28 @@
+//! A session over memory.
+ghost use Rattle.std.specs.Prelude.{IfOk};
+ghost use Rattle.gr_book.specs.Machine.{Step};
+ghost use Rattle.gr_wire.specs.Transcript.{IsTranscript};
+
+use crate::exchange::{SessionFault, session};
+use crate::stream::{Reading, Writing};
+use gr_desk::Solo;
+use gr_text::Limits;
+use std::alloc::Global;
+
+/// What a session over a book of its own writes for an input. An `Err` is want of memory for the session or for its text,
+/// or the reads of a session are used up; a first part of the input is then done.
+pub fn transcript(
+    alloc: Global,
+    input: &[u8],
+    solo: &mut Solo,
+    limits: Limits,
+) -> Result<Vec<u8>, SessionFault>
+    ensures { IfOk result (λ text. IsTranscript Step limits input.now solo.old solo.new text.items) }
+{
+    let mut source = Reading::new(input);
+    let mut sink = Writing::new(Vec::new(alloc));
+    match session(alloc, &mut source, &mut sink, solo, limits) {
+        Ok(()) => Ok(sink.into_inner()),
+        Err(fault) => Err(fault),
+    }
+}
