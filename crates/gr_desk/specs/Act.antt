@@ -10,7 +10,7 @@ use Rattle.gr_book.specs.declared.event.Event.{Event}
 use Rattle.gr_book.specs.declared.event.Event.TheVariants.{Look, Commit, Undo, Redo}
 use Rattle.gr_book.specs.declared.event.Reply.{Reply}
 use Rattle.gr_book.specs.declared.event.Reply.TheVariants.{Looked, Done, Refused}
-use Rattle.gr_desk.specs.Queries.{Cats, listing}
+use Rattle.gr_desk.specs.Queries.{Cats, TellsFaults, listing}
 use Rattle.gr_desk.specs.declared.command.Command.{Command}
 use Rattle.gr_desk.specs.declared.command.Command.TheVariants as command
 use Rattle.gr_desk.specs.declared.command.Response.{Response}
@@ -25,6 +25,7 @@ basis_of (command.Undo basis) = Some basis
 basis_of (command.Redo basis) = Some basis
 basis_of (command.Cat path) = None
 basis_of command.List = None
+basis_of command.Faults = None
 
 -- the command is meant for the state that the view shows
 abbrev pub FitsView : View → Command → Type 0
@@ -55,6 +56,12 @@ file_response number (Err refusal) = response.Refused refusal
 abbrev pub TellsLines : ℕ → List ℕ → Response → Type 0
 TellsLines number lines answer = (answer ≡ response.Lines number lines) ⊎ (answer ≡ response.Refused Memory)
 
+-- the lines of the faults of the view's files, or want of memory for them
+abbrev pub AnswersFaults : View → Response → Type 0
+AnswersFaults view answer =
+    ((lines : List ℕ) × TellsFaults view.snapshot.files lines × (answer ≡ response.Lines view.snapshot.number lines))
+    ⊎ (answer ≡ response.Refused Memory)
+
 module _ {D : Type 0} (steps : D → Event → Reply → D → Type 0) where
   -- one event
   abbrev pub Sends : D → Event → Response → D → Type 0
@@ -77,6 +84,7 @@ module _ {D : Type 0} (steps : D → Event → Reply → D → Type 0) where
   ActsOn old view (command.Cat path) answer new =
       ((found : Result (List ℕ) Refusal) × Cats view path found × (answer ≡ file_response view.snapshot.number found)) × (new ≡ old)
   ActsOn old view command.List answer new = TellsLines view.snapshot.number (listing view.snapshot.files) answer × (new ≡ old)
+  ActsOn old view command.Faults answer new = AnswersFaults view answer × (new ≡ old)
 
   -- the command after its look has shown this view: it is refused where it is meant for another state
   abbrev pub ActsAfter : D → View → Command → Response → D → Type 0

@@ -6,6 +6,9 @@ use Rattle.gr_text.specs.Path.{IsPath}
 use Rattle.gr_text.specs.Workspace.{Workspace}
 use Rattle.gr_text.specs.declared.refusal.Refusal.{Refusal}
 use Rattle.gr_text.specs.declared.refusal.Refusal.TheVariants.{Memory, BadPath, NoFile}
+use Rattle.gr_text.specs.PlaceText.{fault_line}
+use Rattle.gr_space.specs.Faults.{ListsFaults}
+use Rattle.gr_space.specs.declared.file_faults.FileFault.{FileFault}
 use Rattle.gr_space.specs.declared.view.View.{View}
 
 -- reading one file
@@ -19,6 +22,14 @@ Cats view path (Err refusal) = ⊥
 -- a path, a space, the size of its text in bytes, and a newline
 abbrev pub file_line : List ℕ → List ℕ → List ℕ
 file_line path text = path ++ 32 ∷ (decimal (length text) ++ 10 ∷ [])
+
+-- a line for each fault
+abbrev pub fault_lines : List FileFault → List ℕ
+fault_lines = flat_map (λ f. fault_line f.place f.kind)
+
+-- the lines of the faults of these files
+abbrev pub TellsFaults : Workspace → List ℕ → Type 0
+TellsFaults files lines = (list : List FileFault) × ListsFaults files list × (lines ≡ fault_lines list)
 
 -- a line for each file, by the bytes of the paths
 abbrev pub listing : Workspace → List ℕ

@@ -4,7 +4,7 @@ ghost use Rattle.gr_desk.specs.Act.{Acts, Commits, FitsView, PlansBody, response
 
 use crate::command::{Command, Response};
 use crate::desk::Desk;
-use crate::queries::{cat, list};
+use crate::queries::{cat, faults, list};
 use gr_book::{Event, Reply};
 use gr_space::{Change, View, plan_del, plan_put};
 use gr_text::{FileText, Path, Refusal};
@@ -94,6 +94,12 @@ pub fn act<D: Desk>(alloc: Global, desk: &mut D, command: Command) -> Response
             Err(refusal) => Response::Refused { refusal },
         },
         Command::List => match list(alloc, &view) {
+            Ok(text) => Response::Lines { number, text },
+            Err(_) => Response::Refused {
+                refusal: Refusal::Memory,
+            },
+        },
+        Command::Faults => match faults(alloc, &view) {
             Ok(text) => Response::Lines { number, text },
             Err(_) => Response::Refused {
                 refusal: Refusal::Memory,

@@ -30,6 +30,7 @@ pub enum Command {
         path: Word,
     },
     List,
+    Faults,
 }
 
 impl Command {
@@ -44,7 +45,7 @@ impl Command {
             | Command::Del { basis, .. }
             | Command::Undo { basis }
             | Command::Redo { basis } => Some(*basis),
-            Command::Look | Command::Cat { .. } | Command::List => None,
+            Command::Look | Command::Cat { .. } | Command::List | Command::Faults => None,
         }
     }
 }

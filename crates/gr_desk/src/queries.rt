@@ -1,9 +1,10 @@
 //! Questions that a view answers.
 ghost use Rattle.std.specs.Prelude.{◌≡◌, ◌++◌, IfOk, OnOk};
-ghost use Rattle.gr_desk.specs.Queries.{Cats, file_line, listing};
+ghost use Rattle.gr_text.specs.PlaceText.{fault_line};
+ghost use Rattle.gr_desk.specs.Queries.{Cats, TellsFaults, file_line, fault_lines, listing};
 
 use crate::bytes::Bytes;
-use gr_space::View;
+use gr_space::{FileFault, View};
 use gr_text::{FileText, Path, Refusal};
 use itoa::Buffer;
 use std::alloc::{AllocError, Global};
@@ -39,5 +40,39 @@ pub fn list(alloc: Global, view: &View) -> Result<Bytes, AllocError>
     for (path, text) in view.snapshot.files.files().iter() {
         push_file(&mut lines, path, text)?;
     }
+    Ok(Bytes::new(lines))
+}
+
+/// Adds the line of one fault: its place and its kind.
+fn push_fault(lines: &mut Vec<u8>, fault: &FileFault) -> Result<(), AllocError>
+    ensures { OnOk result (lines.new.items ≡ lines.old.items ++ fault_line fault.now.place fault.now.kind) }
+{
+    let mut digits = Buffer::new();
+    lines.extend_from_slice(fault.place.path.as_str().as_bytes())?;
+    lines.extend_from_slice(b":#")?;
+    lines.extend_from_slice(digits.format(fault.place.offset).as_bytes())?;
+    lines.extend_from_slice(b" ")?;
+    lines.extend_from_slice(fault.kind.name().as_bytes())?;
+    lines.extend_from_slice(b"\n")?;
+    Ok(())
+}
+
+/// A line for each fault.
+fn lines_of(alloc: Global, faults: &[FileFault]) -> Result<Vec<u8>, AllocError>
+    ensures { IfOk result (λ lines. lines.items ≡ fault_lines faults.now) }
+{
+    let mut lines = Vec::new(alloc);
+    for fault in faults {
+        push_fault(&mut lines, fault)?;
+    }
+    Ok(lines)
+}
+
+/// A line for each fault of the files, in the order of packages, paths, offsets and kinds.
+pub fn faults(alloc: Global, view: &View) -> Result<Bytes, AllocError>
+    ensures { IfOk result (λ lines. TellsFaults view.now.snapshot.files lines) }
+{
+    let faults = gr_space::faults(alloc, view.snapshot.files.files())?;
+    let lines = lines_of(alloc, &faults)?;
     Ok(Bytes::new(lines))
 }

@@ -4,14 +4,11 @@ use borrow.Author.Tests.{eqb-true}
 use Rattle.std.specs.Prelude.{slice_index, nat_eq, find}
 use Rattle.std.specs.List.{list_all, starts_with, concat}
 use Rattle.std.specs.Str.{encode_utf8_all}
-use Rattle.std.specs.Char.{is_digit, digit_value, encode_utf8}
+use Rattle.std.specs.Char.{is_digit, digit_value}
 use Rattle.std.proofs.lemmas.Bool.{and_parts, or_cases, or_left, cases_lt, false≢true}
-use Rattle.std.proofs.lemmas.Bool.Decides.{nat_tests}
 use Rattle.std.proofs.lemmas.List.{take_at, drop_at, drop_more, drop_all, get_or_append_left}
-use lib.Utf8.{scalar}
 use Rattle.bstr.specs.Find.{IsFirstByte, is_byte}
 use Rattle.bstr.specs.Utf8.{decoded}
-use Rattle.bstr.proofs.lemmas.EncodeLemmas.{decoded-encode}
 use Rattle.gr_text.specs.declared.fault_kind.FaultKind.TheVariants as kinds
 use Rattle.gr_scan.specs.declared.operators.Operator.{Operator}
 use Rattle.gr_scan.specs.declared.piece.Class.{Class}

@@ -1,6 +1,6 @@
 -- The run of characters that may stand in a name.
 use Rattle.std.proofs.Common.{◌≡◌, ℕ, ◌+◌, ◌<◌, ◌≤◌, List, [], ◌∷◌, ◌++◌, Some, Option, Bool, true, false, refl, sym, ap, ◌∙◌, subst, drop, take, length, arith, length-take-le, length-append, drop-drop, append_assoc, append-nil}
-use Rattle.std.specs.Prelude.{IsTrue, IfSome}
+use Rattle.std.specs.Prelude.{IfSome}
 use Rattle.std.specs.List.{list_all}
 use Rattle.std.specs.Char.{encode_utf8, IsScalar}
 use Rattle.std.specs.Str.{encode_utf8_all, all_scalars}

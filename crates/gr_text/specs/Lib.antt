@@ -1,4 +1,5 @@
 pub mod FaultNames
 pub mod Path
 pub mod PathRead
+pub mod PlaceText
 pub mod Workspace

@@ -21,6 +21,9 @@ three a b c h i j = (is_letters a h, (is_letters b i, (is_letters c j, tt)))
 four : (a b c d : ℕ) → 32 < a → 32 < b → 32 < c → 32 < d → HasNoSpace (a ∷ b ∷ c ∷ d ∷ [])
 four a b c d h i j k = (is_letters a h, (is_letters b i, (is_letters c j, (is_letters d k, tt))))
 
+six : (a b c d e f : ℕ) → 32 < a → 32 < b → 32 < c → 32 < d → 32 < e → 32 < f → HasNoSpace (a ∷ b ∷ c ∷ d ∷ e ∷ f ∷ [])
+six a b c d e f h i j k l m = (is_letters a h, (is_letters b i, (is_letters c j, (is_letters d k, (is_letters e l, (is_letters f m, tt))))))
+
 pub verb_no_space : (command : CommandLine) → HasNoSpace (verb_of command)
 verb_no_space Look = four 108 111 111 107 (omega arith) (omega arith) (omega arith) (omega arith)
 verb_no_space (Put basis path size) = three 112 117 116 (omega arith) (omega arith) (omega arith)
@@ -29,6 +32,7 @@ verb_no_space (Undo basis) = four 117 110 100 111 (omega arith) (omega arith) (o
 verb_no_space (Redo basis) = four 114 101 100 111 (omega arith) (omega arith) (omega arith) (omega arith)
 verb_no_space (Cat path) = three 99 97 116 (omega arith) (omega arith) (omega arith)
 verb_no_space line.List = four 108 105 115 116 (omega arith) (omega arith) (omega arith) (omega arith)
+verb_no_space line.Faults = six 102 97 117 108 116 115 (omega arith) (omega arith) (omega arith) (omega arith) (omega arith) (omega arith)
 verb_no_space End = three 101 110 100 (omega arith) (omega arith) (omega arith)
 
 args_no_space : (command : CommandLine) → FitsLine command → HaveNoSpace (args_of command)
@@ -39,6 +43,7 @@ args_no_space (Undo basis) h = (decimal_word basis h, tt)
 args_no_space (Redo basis) h = (decimal_word basis h, tt)
 args_no_space (Cat path) h = (h.1, tt)
 args_no_space line.List h = tt
+args_no_space line.Faults h = tt
 args_no_space End h = tt
 
 -- a line has its words in one way
@@ -91,6 +96,10 @@ pub only_list : (command : CommandLine) (P : CommandLine → Type 0) → verb_of
 only_list line.List P e h = h
 only_list command P e h = absurd (omega (arith, ap weight e))
 
+pub only_faults : (command : CommandLine) (P : CommandLine → Type 0) → verb_of command ≡ codes "faults" → P line.Faults → P command
+only_faults line.Faults P e h = h
+only_faults command P e h = absurd (omega (arith, ap weight e))
+
 pub only_end : (command : CommandLine) (P : CommandLine → Type 0) → verb_of command ≡ codes "end" → P End → P command
 only_end End P e h = h
 only_end command P e h = absurd (omega (arith, ap weight e))
@@ -126,18 +135,20 @@ no_verb verb words put del undo redo cat (Redo basis) h = redo (sym h.first)
 no_verb verb words put del undo redo cat (Cat path) h = cat (sym h.first)
 no_verb verb words put del undo redo cat Look h = h.others
 no_verb verb words put del undo redo cat line.List h = h.others
+no_verb verb words put del undo redo cat line.Faults h = h.others
 no_verb verb words put del undo redo cat End h = h.others
 
-pub no_bare : (verb : List ℕ) → verb ≢ codes "look" → verb ≢ codes "list" → verb ≢ codes "end"
+pub no_bare : (verb : List ℕ) → verb ≢ codes "look" → verb ≢ codes "list" → verb ≢ codes "faults" → verb ≢ codes "end"
     → (command : CommandLine) → args_of command ≡ [] → verb_of command ≢ verb
-no_bare verb look list end Look a = λ e. look (sym e)
-no_bare verb look list end line.List a = λ e. list (sym e)
-no_bare verb look list end End a = λ e. end (sym e)
-no_bare verb look list end (Put basis path size) a = absurd cc
-no_bare verb look list end (Del basis path) a = absurd cc
-no_bare verb look list end (Undo basis) a = absurd cc
-no_bare verb look list end (Redo basis) a = absurd cc
-no_bare verb look list end (Cat path) a = absurd cc
+no_bare verb look list faults end Look a = λ e. look (sym e)
+no_bare verb look list faults end line.List a = λ e. list (sym e)
+no_bare verb look list faults end line.Faults a = λ e. faults (sym e)
+no_bare verb look list faults end End a = λ e. end (sym e)
+no_bare verb look list faults end (Put basis path size) a = absurd cc
+no_bare verb look list faults end (Del basis path) a = absurd cc
+no_bare verb look list faults end (Undo basis) a = absurd cc
+no_bare verb look list faults end (Redo basis) a = absurd cc
+no_bare verb look list faults end (Cat path) a = absurd cc
 
 -- a line without a space has no other words
 bare_words : (text verb : List ℕ) (words : List (List ℕ)) → HasNoSpace text → text ≡ spaced verb words → (words ≡ []) × (text ≡ verb)

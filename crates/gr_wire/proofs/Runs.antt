@@ -47,6 +47,7 @@ acted_on old new view (Undo basis) answer h = sent old new (event.Undo basis) an
 acted_on old new view (Redo basis) answer h = sent old new (event.Redo basis) answer h
 acted_on old new view (Cat path) answer h = still old new h.1
 acted_on old new view command.List answer h = still old new h.1
+acted_on old new view command.Faults answer h = still old new h.1
 
 continued : (old new : Machine) (reply : Reply) (asked : Command) (answer : Response) → Continues Step old reply asked answer new → IsRun old new
 continued old new (Looked view) asked answer h = elim h [ inl k ↦ still old new k.2 | inr k ↦ acted_on old new view asked answer k.1 ]

@@ -14,6 +14,7 @@ verb_of (Undo basis) = codes "undo"
 verb_of (Redo basis) = codes "redo"
 verb_of (Cat path) = codes "cat"
 verb_of line.List = codes "list"
+verb_of line.Faults = codes "faults"
 verb_of End = codes "end"
 
 -- the other words; numbers are written as they are printed, so without leading zeros
@@ -25,6 +26,7 @@ args_of (Undo basis) = decimal basis ∷ []
 args_of (Redo basis) = decimal basis ∷ []
 args_of (Cat path) = path ∷ []
 args_of line.List = []
+args_of line.Faults = []
 args_of End = []
 
 -- its numbers are within their ranges, and its other arguments are words
@@ -36,6 +38,7 @@ FitsLine (Undo basis) = basis < 2 ^ 64
 FitsLine (Redo basis) = basis < 2 ^ 64
 FitsLine (Cat path) = IsWord path
 FitsLine line.List = ⊤
+FitsLine line.Faults = ⊤
 FitsLine End = ⊤
 
 -- how many bytes follow the line
@@ -47,6 +50,7 @@ size_after (Undo basis) = 0
 size_after (Redo basis) = 0
 size_after (Cat path) = 0
 size_after line.List = 0
+size_after line.Faults = 0
 size_after End = 0
 
 -- the text is this command line

@@ -1,6 +1,6 @@
 -- The text of a reply. A later form of answer is a case of `number_of` and `body_of`.
 use Rattle.std.specs.Prelude.{ℕ, List, [], ◌∷◌, ◌++◌, length, codes, decimal, Option, None, Some, Bool, true, false, if◌then◌else◌}
-use Rattle.gr_text.specs.FaultNames.{name_of}
+use Rattle.gr_text.specs.PlaceText.{place_text, fault_line}
 use Rattle.gr_text.specs.declared.place.Place.{Place}
 use Rattle.gr_text.specs.declared.refusal.Refusal.{Refusal}
 use Rattle.gr_text.specs.declared.refusal.Refusal.TheVariants as refusal
@@ -34,10 +34,6 @@ code_of refusal.Already = 22
 code_of refusal.NoJob = 23
 code_of refusal.BodyShort = 24
 
--- a path, the signs :#, and a byte offset
-abbrev pub place_text : Place → List ℕ
-place_text place = place.path ++ codes ":#" ++ decimal place.offset
-
 -- a declaration by its place, or None for one that every file has
 abbrev pub declaration_text : Option Place → List ℕ
 declaration_text None = codes "universe"
@@ -49,7 +45,7 @@ number_line number = decimal number ++ 10 ∷ []
 -- the body of the reply that tells a refusal
 abbrev pub refusal_body : Refusal → List ℕ
 refusal_body (refusal.Moved current) = number_line current
-refusal_body (refusal.Faulty place kind) = place_text place ++ 32 ∷ [] ++ name_of kind ++ 10 ∷ []
+refusal_body (refusal.Faulty place kind) = fault_line place kind
 refusal_body (refusal.Captured used by) = place_text used ++ codes " by " ++ declaration_text by ++ 10 ∷ []
 refusal_body (refusal.Lost used) = place_text used ++ 10 ∷ []
 refusal_body (refusal.Pending folder) = folder ++ 10 ∷ []

@@ -36,6 +36,7 @@ SaysCommand limits (line.Undo basis) bytes asked = asked ≡ command.Undo basis
 SaysCommand limits (line.Redo basis) bytes asked = asked ≡ command.Redo basis
 SaysCommand limits (line.Cat path) bytes asked = asked ≡ command.Cat path
 SaysCommand limits line.List bytes asked = asked ≡ command.List
+SaysCommand limits line.Faults bytes asked = asked ≡ command.Faults
 SaysCommand limits line.End bytes asked = ⊥
 
 -- the line `text`, and then `after`, say this message, and then comes `rest`

@@ -151,6 +151,7 @@ fn command_after<S: Source>(
         CommandLine::End => Ok(Next::End),
         CommandLine::Look => Ok(ask(Command::Look)),
         CommandLine::List => Ok(ask(Command::List)),
+        CommandLine::Faults => Ok(ask(Command::Faults)),
         CommandLine::Undo { basis } => Ok(ask(Command::Undo { basis })),
         CommandLine::Redo { basis } => Ok(ask(Command::Redo { basis })),
         CommandLine::Del { basis, path } => match Word::new(alloc, path.as_str()) {

@@ -52,6 +52,7 @@ pub enum CommandLine<'a> {
         path: Argument<'a>,
     },
     List,
+    Faults,
     End,
 }
 
@@ -148,6 +149,7 @@ fn parse_bare(verb: &str) -> Option<CommandLine<'_>>
     match verb {
         "look" => Some(CommandLine::Look),
         "list" => Some(CommandLine::List),
+        "faults" => Some(CommandLine::Faults),
         "end" => Some(CommandLine::End),
         _ => None,
     }

@@ -1,7 +1,8 @@
 //! How a refusal is told: its number, and the body of its reply.
 ghost use Rattle.std.specs.Prelude.{◌≡◌, ◌+◌, ◌≤◌, ◌++◌, ◌∷◌, [], codes, decimal, length};
 ghost use Rattle.arrayvec.specs.ArrayString.{array_string_len};
-ghost use Rattle.gr_wire.specs.Replies.{code_of, refusal_body, place_text};
+ghost use Rattle.gr_text.specs.PlaceText.{place_text};
+ghost use Rattle.gr_wire.specs.Replies.{code_of, refusal_body};
 
 use arrayvec::ArrayString;
 use gr_text::{Place, Refusal};

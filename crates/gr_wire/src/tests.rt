@@ -1,5 +1,6 @@
 //! Sessions over a book of their own, with a reader and a writer in memory.
 mod devices;
+mod faulty;
 mod hostile;
 mod refused;
 mod rows;

@@ -1,0 +1,15 @@
+use Rattle.std.proofs.Common.{◌∷◌, [], length, ◌+◌}
+use Rattle.gr_parse.specs.declared.syntax.Kind.TheVariants as kind
+use Rattle.gr_parse.specs.Grammar.{A, Fields}
+use Rattle.gr_parse.specs.ListSpelling.{item_spelled}
+use Rattle.gr_parse.specs.Spelling.{field_spelled}
+use Rattle.gr_parse.specs.Flatten.{all_tokens}
+use Rattle.gr_parse.specs.Parsing.{Leads, list_rest}
+use Rattle.gr_parse.proofs.StatementSteps.{flag}
+use Rattle.gr_parse.proofs.declarations.fields.Given as goal
+
+abbrev pub invariant-fields : goal.invariant-fields
+invariant-fields l = Leads (A Fields ∷ []) (list_rest Fields kind.RightBrace l.more) (all_tokens (item_spelled kind.Semicolon field_spelled) l.fields.items) l.depth l.fn.tokens l.depth l.rest
+
+abbrev pub decreases-fields : goal.decreases-fields
+decreases-fields l = length l.rest + flag l.more

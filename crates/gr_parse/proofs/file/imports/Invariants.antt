@@ -1,0 +1,12 @@
+use Rattle.std.proofs.Common.{◌∷◌, [], length}
+use Rattle.gr_parse.specs.Grammar.{A, Imports}
+use Rattle.gr_parse.specs.Parsing.{Leads}
+use Rattle.gr_parse.specs.Flatten.{all_tokens}
+use Rattle.gr_parse.specs.Spelling.{imports_spelled}
+use Rattle.gr_parse.proofs.file.imports.Given as goal
+
+abbrev pub invariant-imports : goal.invariant-imports
+invariant-imports l = Leads (A Imports ∷ []) (A Imports ∷ []) (all_tokens imports_spelled l.imports.items) l.depth l.fn.tokens l.depth l.rest
+
+abbrev pub decreases-imports : goal.decreases-imports
+decreases-imports l = length l.rest

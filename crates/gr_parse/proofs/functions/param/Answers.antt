@@ -1,0 +1,17 @@
+use Rattle.std.proofs.Common.{◌∷◌, [], sym}
+use Rattle.gr_parse.specs.Grammar.{A, TypeUse}
+use Rattle.gr_parse.proofs.MachineSteps.{exits, read_as}
+use Rattle.gr_parse.proofs.StatementSteps.{fails_in, fails_on, read_on}
+use Rattle.gr_parse.proofs.SpelledDeclarations.{param_spelled_as}
+use Rattle.gr_parse.proofs.functions.param.Goals as goal
+
+pub returns-in_err-names : goal.returns-in_err-names
+returns-in_err-names c = exits _ _ _ _ c.in_err-names.field-0.0 c.from_residual.result c.from_residual.ensures.1
+    (fails_in (A TypeUse ∷ []) c.in_err-names.ensures)
+
+pub returns-in_err-param_type : goal.returns-in_err-param_type
+returns-in_err-param_type c = exits _ _ _ _ c.in_err-param_type.field-0.0 c.from_residual-in_err-param_type.result c.from_residual-in_err-param_type.ensures.1
+    (fails_on c.in_ok-names.ensures c.in_err-param_type.ensures)
+
+pub returns : goal.returns
+returns c = read_as (read_on c.in_ok-names.ensures c.in_ok-param_type.ensures) (sym (param_spelled_as _))

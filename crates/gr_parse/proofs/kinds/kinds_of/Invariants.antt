@@ -1,0 +1,10 @@
+use Rattle.std.proofs.Common.{◌≡◌, ◌++◌, ◌≤◌, length, drop}
+use Rattle.gr_scan.specs.CutText.{tokens_in}
+use Rattle.gr_parse.specs.Kinds.{kinds_from, kinds_of}
+use Rattle.gr_parse.proofs.kinds.kinds_of.Given as goal
+
+abbrev pub invariant-loop-place : goal.invariant-loop-place
+invariant-loop-place l = record {
+  so_far : l.tokens.items ++ kinds_from l.place l.pieces.text (drop l.place (tokens_in l.pieces)) ≡ kinds_of l.pieces;
+  within : l.place ≤ length (tokens_in l.pieces);
+}

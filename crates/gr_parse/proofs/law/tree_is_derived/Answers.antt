@@ -1,0 +1,5 @@
+use Rattle.gr_parse.proofs.OneTree.{derived}
+use Rattle.gr_parse.proofs.law.tree_is_derived.Goals as goal
+
+pub returns : goal.returns
+returns c = λ tree ts w. derived w

@@ -1,0 +1,15 @@
+use Rattle.std.proofs.Common.{◌∷◌, [], length, ◌+◌}
+use Rattle.gr_parse.specs.declared.syntax.Kind.TheVariants as kind
+use Rattle.gr_parse.specs.Grammar.{A, One, is_ident, MoreIdents}
+use Rattle.gr_parse.specs.ListSpelling.{item_spelled}
+use Rattle.gr_parse.specs.Spelling.{ident_spelled}
+use Rattle.gr_parse.specs.Flatten.{all_tokens}
+use Rattle.gr_parse.specs.Parsing.{Leads, items_rest}
+use Rattle.gr_parse.proofs.StatementSteps.{flag}
+use Rattle.gr_parse.proofs.names.idents.Given as goal
+
+abbrev pub invariant-idents : goal.invariant-idents
+invariant-idents l = Leads (One is_ident ∷ A MoreIdents ∷ []) (items_rest (One is_ident ∷ A MoreIdents ∷ []) l.more) (all_tokens (item_spelled kind.Comma ident_spelled) l.idents.items) l.depth l.fn.tokens l.depth l.rest
+
+abbrev pub decreases-idents : goal.decreases-idents
+decreases-idents l = length l.rest + flag l.more

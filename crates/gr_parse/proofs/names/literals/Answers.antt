@@ -1,0 +1,23 @@
+use Rattle.std.proofs.Common.{◌∷◌, [], refl}
+use Rattle.gr_parse.specs.declared.syntax.Kind.TheVariants as kind
+use Rattle.gr_parse.specs.Grammar.{A, One, is_literal, MoreLiterals}
+use Rattle.gr_parse.specs.Flatten.{basic_tokens, item_tokens}
+use Rattle.gr_parse.specs.FileView.{basic_view}
+use Rattle.gr_parse.specs.Spelling.{basic_spelled}
+use Rattle.gr_parse.specs.Machine.{first, later, last}
+use Rattle.gr_parse.specs.Parsing.{items_rest}
+use Rattle.gr_parse.specs.ListSpelling.{item_spelled}
+use Rattle.gr_parse.specs.View.{item_view}
+use Rattle.gr_parse.proofs.MachineSteps.{read_as}
+use Rattle.gr_parse.proofs.StatementSteps.{leads_none, leads_push, leads_more, leads_item, read_items, all_tokens_map}
+use Rattle.gr_parse.proofs.names.literals.Goals as goal
+
+pub literals-init : goal.literals-init
+literals-init c = leads_none (item_spelled kind.Comma basic_spelled) _ c.new-literals.ensures.items
+
+pub literals-preserved : goal.literals-preserved
+literals-preserved c = leads_push (item_spelled kind.Comma basic_spelled) _ _ _ (leads_more (items_rest (One is_literal ∷ A MoreLiterals ∷ [])) _ c.literals.invariant c.literals-test.true)
+    (leads_item kind.Comma _ (One is_literal ∷ []) MoreLiterals _ c.is_some-more.ensures (λ us e. first e) (λ us e. later e last) c.in_ok-value.ensures c.separator-separator.ensures) c.in_ok-push.ensures.items
+
+pub returns : goal.returns
+returns c = read_as (read_items (items_rest (One is_literal ∷ A MoreLiterals ∷ [])) _ refl c.literals.invariant c.literals-test.false) (all_tokens_map (item_tokens kind.Comma basic_tokens) (item_view basic_view) _)

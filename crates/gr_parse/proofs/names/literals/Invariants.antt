@@ -1,0 +1,15 @@
+use Rattle.std.proofs.Common.{◌∷◌, [], length, ◌+◌}
+use Rattle.gr_parse.specs.declared.syntax.Kind.TheVariants as kind
+use Rattle.gr_parse.specs.Grammar.{A, One, is_literal, MoreLiterals}
+use Rattle.gr_parse.specs.ListSpelling.{item_spelled}
+use Rattle.gr_parse.specs.Spelling.{basic_spelled}
+use Rattle.gr_parse.specs.Flatten.{all_tokens}
+use Rattle.gr_parse.specs.Parsing.{Leads, items_rest}
+use Rattle.gr_parse.proofs.StatementSteps.{flag}
+use Rattle.gr_parse.proofs.names.literals.Given as goal
+
+abbrev pub invariant-literals : goal.invariant-literals
+invariant-literals l = Leads (One is_literal ∷ A MoreLiterals ∷ []) (items_rest (One is_literal ∷ A MoreLiterals ∷ []) l.more) (all_tokens (item_spelled kind.Comma basic_spelled) l.literals.items) l.depth l.fn.tokens l.depth l.rest
+
+abbrev pub decreases-literals : goal.decreases-literals
+decreases-literals l = length l.rest + flag l.more

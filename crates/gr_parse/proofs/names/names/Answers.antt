@@ -1,0 +1,22 @@
+use Rattle.std.proofs.Common.{◌∷◌, [], refl}
+use Rattle.gr_parse.specs.declared.syntax.Kind.TheVariants as kind
+use Rattle.gr_parse.specs.Grammar.{A, One, is, MoreNames}
+use Rattle.gr_parse.specs.Flatten.{name_tokens, item_tokens}
+use Rattle.gr_parse.specs.FileView.{same_place}
+use Rattle.gr_parse.specs.Machine.{first, later, last}
+use Rattle.gr_parse.specs.Parsing.{items_rest}
+use Rattle.gr_parse.specs.ListSpelling.{item_spelled}
+use Rattle.gr_parse.specs.View.{item_view}
+use Rattle.gr_parse.proofs.MachineSteps.{read_as}
+use Rattle.gr_parse.proofs.StatementSteps.{leads_none, leads_push, leads_more, leads_item, read_items, all_tokens_map}
+use Rattle.gr_parse.proofs.names.names.Goals as goal
+
+pub names-init : goal.names-init
+names-init c = leads_none (item_spelled kind.Comma name_tokens) _ c.new-names.ensures.items
+
+pub names-preserved : goal.names-preserved
+names-preserved c = leads_push (item_spelled kind.Comma name_tokens) _ _ _ (leads_more (items_rest (One (is kind.Name) ∷ A MoreNames ∷ [])) _ c.names.invariant c.names-test.true)
+    (leads_item kind.Comma _ (One (is kind.Name) ∷ []) MoreNames _ c.is_some-more.ensures (λ us e. first e) (λ us e. later e last) c.in_ok-value.ensures c.separator-separator.ensures) c.in_ok-push.ensures.items
+
+pub returns : goal.returns
+returns c = read_as (read_items (items_rest (One (is kind.Name) ∷ A MoreNames ∷ [])) _ refl c.names.invariant c.names-test.false) (all_tokens_map (item_tokens kind.Comma name_tokens) (item_view same_place) _)

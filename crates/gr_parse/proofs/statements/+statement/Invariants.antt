@@ -1,0 +1,28 @@
+use Rattle.std.proofs.Common.{◌∷◌, ◌<◌, ◌+◌, ◌*◌, [], length}
+use Rattle.gr_parse.specs.Grammar.{A, Statement, MoreStatements}
+use Rattle.gr_parse.specs.Parsing.{Leads, items_rest}
+use Rattle.gr_parse.specs.Flatten.{all_tokens}
+use Rattle.gr_parse.specs.Spelling.{block_item_spelled}
+use Rattle.gr_parse.proofs.StatementSteps.{flag}
+use Rattle.gr_parse.proofs.statements.+statement.Given as goal
+
+abbrev pub decreases-block : goal.decreases-block
+decreases-block l = 4 * length l.tokens.now
+
+abbrev pub decreases-else_part : goal.decreases-else_part
+decreases-else_part l = 4 * length l.tokens.now + 1
+
+abbrev pub decreases-statement : goal.decreases-statement
+decreases-statement l = 4 * length l.tokens.now + 2
+
+abbrev pub decreases-if_stmt : goal.decreases-if_stmt
+decreases-if_stmt l = 4 * length l.tokens.now + 3
+
+abbrev pub invariant-block-statements : goal.invariant-block-statements
+invariant-block-statements l = record {
+  leads : Leads (A Statement ∷ A MoreStatements ∷ []) (items_rest (A Statement ∷ A MoreStatements ∷ []) l.more) (all_tokens block_item_spelled l.statements.items) l.inside l.initial.rest l.inside l.rest;
+  shorter : length l.rest < length l.fn.tokens;
+}
+
+abbrev pub decreases-block-statements : goal.decreases-block-statements
+decreases-block-statements l = length l.rest + flag l.more

@@ -1,0 +1,55 @@
+//! Groups: one declaration, or any number of them in parentheses.
+ghost use Rattle.std.specs.Prelude.{◌≡◌, ◌∷◌, ◌++◌, [], List};
+ghost use Rattle.gr_parse.specs.Grammar as grammar;
+ghost use Rattle.gr_parse.specs.Grammar.{A, GroupOf, Single, Items};
+ghost use Rattle.gr_parse.specs.Parsing.{Parses};
+ghost use Rattle.gr_parse.specs.Flatten.{sign};
+ghost use Rattle.gr_parse.specs.ListSpelling.{group_spelled, items_spelled};
+ghost use Rattle.gr_parse.specs.declared.syntax.Token.{Token};
+
+use crate::syntax::{Kind, Token};
+use crate::take::{Parsed, at, expect, goes_on, open, separator};
+use crate::tree::{Group, Item};
+use std::alloc::Global;
+
+/// What a group may be of: imports, variables, types.
+pub trait Spec: Drop {
+    ghost item: { grammar.Item };
+
+    ghost spelled: { Self → List Token };
+
+    /// One of them.
+    fn parse(alloc: Global, tokens: &[Token], depth: u32) -> Parsed<'_, Self>
+        ensures { Parses (A (Single item) ∷ []) (λ x. spelled x.0) (λ x. x.1.now) depth tokens.now result };
+}
+
+/// A group.
+pub fn group<S: Spec>(alloc: Global, tokens: &[Token], depth: u32) -> Parsed<'_, Group<S>>
+    ensures { Parses (A (GroupOf S.item) ∷ []) (λ x. group_spelled S.spelled x.0) (λ x. x.1.now) depth tokens.now result }
+{
+    if at(tokens, Kind::LeftParen) {
+        let ((open, inside), rest) = open(tokens, Kind::LeftParen, depth)?;
+        let ((items, close), rest) = specs::<S>(alloc, rest, inside)?;
+        return Ok((Group::Several { open, items, close }, rest));
+    }
+    let (single, rest) = S::parse(alloc, tokens, depth)?;
+    Ok((Group::Single(single), rest))
+}
+
+/// What stands in the parentheses of a group, and the closing one.
+fn specs<S: Spec>(alloc: Global, tokens: &[Token], depth: u32) -> Parsed<'_, (Vec<Item<S>>, usize)>
+    ensures { Parses (A (Items S.item) ∷ []) (λ x. items_spelled Kind.Semicolon S.spelled x.0.0.items ++ (sign Kind.RightParen x.0.1 ∷ [])) (λ x. x.1.now) depth tokens.now result }
+{
+    let mut items = Vec::new(alloc);
+    let mut rest = tokens;
+    let mut more = true;
+    'items: while goes_on(more, rest, Kind::RightParen) {
+        let (value, after) = S::parse(alloc, rest, depth)?;
+        let (separator, after) = separator(after, Kind::Semicolon);
+        more = separator.is_some();
+        items.push(Item { value, separator })?;
+        rest = after;
+    }
+    let (close, rest) = expect(rest, Kind::RightParen, depth)?;
+    Ok(((items, close), rest))
+}

@@ -1,0 +1,29 @@
+//! The syntax of the Go subset: tokens, grammar, trees, parser.
+#![tactic(auto)]
+
+mod declarations;
+mod expressions;
+mod file;
+mod functions;
+mod groups;
+mod headers;
+mod kinds;
+pub mod law;
+mod locals;
+mod lookahead;
+mod names;
+mod operators;
+mod parser;
+mod refusal;
+mod simple;
+mod statements;
+pub mod syntax;
+mod take;
+#[cfg(test)]
+mod tests;
+pub mod tree;
+mod types;
+mod words;
+
+pub use parser::{Tree, flatten, parse};
+pub use refusal::ParseRefusal;

@@ -1,0 +1,63 @@
+//! Lists without brackets: names, identifiers, literals.
+ghost use Rattle.std.specs.Prelude.{◌≡◌, ◌∷◌, ◌++◌, []};
+ghost use Rattle.gr_parse.specs.Grammar.{A, One, is, is_ident, is_literal, MoreNames, MoreIdents, MoreLiterals};
+ghost use Rattle.gr_parse.specs.Parsing.{Parses};
+ghost use Rattle.gr_parse.specs.Spelling.{names_spelled, idents_spelled};
+ghost use Rattle.gr_parse.specs.ListSpelling.{basics_spelled};
+
+use crate::syntax::{Kind, Token};
+use crate::take::{Parsed, expect, separator};
+use crate::tree::{BasicLit, Ident, Item};
+use crate::words::{basic_lit, ident};
+use std::alloc::Global;
+
+/// Names with commas between them.
+pub fn names(alloc: Global, tokens: &[Token], depth: u32) -> Parsed<'_, Vec<Item<usize>>>
+    ensures { Parses (One (is Kind.Name) ∷ A MoreNames ∷ []) (λ x. names_spelled x.0.items) (λ x. x.1.now) depth tokens.now result }
+{
+    let mut names = Vec::new(alloc);
+    let mut rest = tokens;
+    let mut more = true;
+    'names: while more {
+        let (value, after) = expect(rest, Kind::Name, depth)?;
+        let (separator, after) = separator(after, Kind::Comma);
+        more = separator.is_some();
+        names.push(Item { value, separator })?;
+        rest = after;
+    }
+    Ok((names, rest))
+}
+
+/// Identifiers with commas between them.
+pub fn idents(alloc: Global, tokens: &[Token], depth: u32) -> Parsed<'_, Vec<Item<Ident>>>
+    ensures { Parses (One is_ident ∷ A MoreIdents ∷ []) (λ x. idents_spelled x.0.items) (λ x. x.1.now) depth tokens.now result }
+{
+    let mut idents = Vec::new(alloc);
+    let mut rest = tokens;
+    let mut more = true;
+    'idents: while more {
+        let (value, after) = ident(rest, depth)?;
+        let (separator, after) = separator(after, Kind::Comma);
+        more = separator.is_some();
+        idents.push(Item { value, separator })?;
+        rest = after;
+    }
+    Ok((idents, rest))
+}
+
+/// Literals of one token, with commas between them.
+pub fn literals(alloc: Global, tokens: &[Token], depth: u32) -> Parsed<'_, Vec<Item<BasicLit>>>
+    ensures { Parses (One is_literal ∷ A MoreLiterals ∷ []) (λ x. basics_spelled x.0.items) (λ x. x.1.now) depth tokens.now result }
+{
+    let mut literals = Vec::new(alloc);
+    let mut rest = tokens;
+    let mut more = true;
+    'literals: while more {
+        let (value, after) = basic_lit(rest, depth)?;
+        let (separator, after) = separator(after, Kind::Comma);
+        more = separator.is_some();
+        literals.push(Item { value, separator })?;
+        rest = after;
+    }
+    Ok((literals, rest))
+}

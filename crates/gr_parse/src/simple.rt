@@ -1,0 +1,135 @@
+//! Simple statements, and lists of expressions.
+ghost use Rattle.std.specs.Prelude.{◌≡◌, ◌∷◌, ◌++◌, [], IfOk};
+ghost use Rattle.gr_parse.specs.Grammar.{A, One, in_head, sets, Expression, Expressions, SimpleRest};
+ghost use Rattle.gr_parse.specs.Parsing.{Parses, Continues};
+ghost use Rattle.gr_parse.specs.Flatten.{sign_if};
+ghost use Rattle.gr_parse.specs.Spelling.{expr_spelled, exprs_spelled, simple_spelled};
+ghost use Rattle.gr_parse.specs.Words.{setting_of};
+
+use crate::expressions::expression;
+use crate::syntax::{Kind, Token};
+use crate::take::{Parsed, at, expect, separator};
+use crate::tree::{Expr, ExprItem, SimpleStmt};
+use crate::words::{SetOp, Setting, at_set, at_step, at_update, in_header, set, step, update};
+use std::alloc::{AllocError, Global};
+
+/// An expression, as it may be where a statement stands.
+pub fn expr(alloc: Global, tokens: &[Token], depth: u32, setting: Setting) -> Parsed<'_, Expr>
+    ensures { Parses (A (Expression (in_head (setting_of setting))) ∷ []) (λ x. expr_spelled x.0) (λ x. x.1.now) depth tokens.now result }
+{
+    expression(alloc, tokens, depth, in_header(setting))
+}
+
+/// Expressions with commas between them, put behind those that a list has.
+fn more_exprs(
+    alloc: Global,
+    begun: Vec<ExprItem>,
+    tokens: &[Token],
+    depth: u32,
+    setting: Setting,
+) -> Parsed<'_, Vec<ExprItem>>
+    ensures { Continues (A (Expressions (in_head (setting_of setting))) ∷ []) (exprs_spelled begun.items) (λ x. exprs_spelled x.0.items) (λ x. x.1.now) depth tokens.now result }
+{
+    let mut exprs = begun;
+    let mut rest = tokens;
+    let mut more = true;
+    'exprs: while more {
+        let (value, after) = expr(alloc, rest, depth, setting)?;
+        let (comma, after) = separator(after, Kind::Comma);
+        more = comma.is_some();
+        exprs.push(ExprItem { value, comma })?;
+        rest = after;
+    }
+    Ok((exprs, rest))
+}
+
+/// Expressions with commas between them.
+pub fn exprs(
+    alloc: Global,
+    tokens: &[Token],
+    depth: u32,
+    setting: Setting,
+) -> Parsed<'_, Vec<ExprItem>>
+    ensures { Parses (A (Expressions (in_head (setting_of setting))) ∷ []) (λ x. exprs_spelled x.0.items) (λ x. x.1.now) depth tokens.now result }
+{
+    more_exprs(alloc, Vec::new(alloc), tokens, depth, setting)
+}
+
+/// A list of that one expression.
+fn first_expr(alloc: Global, value: Expr, comma: Option<usize>) -> Result<Vec<ExprItem>, AllocError>
+    ensures { IfOk result (λ v. exprs_spelled v.items ≡ expr_spelled value ++ sign_if Kind.Comma comma) }
+{
+    let mut exprs = Vec::new(alloc);
+    exprs.push(ExprItem { value, comma })?;
+    Ok(exprs)
+}
+
+/// A simple statement.
+pub fn simple(
+    alloc: Global,
+    tokens: &[Token],
+    depth: u32,
+    setting: Setting,
+) -> Parsed<'_, SimpleStmt>
+    ensures { Parses (A (Expression (in_head (setting_of setting))) ∷ A (SimpleRest (setting_of setting)) ∷ []) (λ x. simple_spelled x.0) (λ x. x.1.now) depth tokens.now result }
+{
+    let (first, rest) = expr(alloc, tokens, depth, setting)?;
+    simple_rest(alloc, first, rest, depth, setting)
+}
+
+/// A simple statement, of which the first expression has been read.
+pub fn simple_rest(
+    alloc: Global,
+    first: Expr,
+    tokens: &[Token],
+    depth: u32,
+    setting: Setting,
+) -> Parsed<'_, SimpleStmt>
+    ensures { Continues (A (SimpleRest (setting_of setting)) ∷ []) (expr_spelled first) (λ x. simple_spelled x.0) (λ x. x.1.now) depth tokens.now result }
+{
+    if at_step(tokens) {
+        let ((op, at), rest) = step(tokens, depth)?;
+        let operand = first;
+        return Ok((SimpleStmt::Step { operand, op, at }, rest));
+    }
+    if at_update(tokens) {
+        let ((change, at), rest) = update(tokens, depth)?;
+        let (right, rest) = expr(alloc, rest, depth, setting)?;
+        let statement = SimpleStmt::Update {
+            left: first,
+            op: change,
+            at,
+            right,
+        };
+        return Ok((statement, rest));
+    }
+    if at_set(tokens, setting) {
+        let single = first_expr(alloc, first, None)?;
+        return assignment(alloc, single, tokens, depth, setting);
+    }
+    if at(tokens, Kind::Comma) {
+        let (comma, rest) = expect(tokens, Kind::Comma, depth)?;
+        let begun = first_expr(alloc, first, Some(comma))?;
+        let (left, rest) = more_exprs(alloc, begun, rest, depth, setting)?;
+        return assignment(alloc, left, rest, depth, setting);
+    }
+    Ok((SimpleStmt::Expr(first), tokens))
+}
+
+/// An assignment or definition, of which the left side has been read.
+fn assignment(
+    alloc: Global,
+    left: Vec<ExprItem>,
+    tokens: &[Token],
+    depth: u32,
+    setting: Setting,
+) -> Parsed<'_, SimpleStmt>
+    ensures { Continues (One (sets (setting_of setting)) ∷ A (Expressions (in_head (setting_of setting))) ∷ []) (exprs_spelled left.items) (λ x. simple_spelled x.0) (λ x. x.1.now) depth tokens.now result }
+{
+    let ((op, at), rest) = set(tokens, depth, setting)?;
+    let (right, rest) = exprs(alloc, rest, depth, setting)?;
+    match op {
+        SetOp::Assign => Ok((SimpleStmt::Assign { left, at, right }, rest)),
+        SetOp::Define => Ok((SimpleStmt::Define { left, at, right }, rest)),
+    }
+}

@@ -1,0 +1,149 @@
+//! Statements and blocks.
+ghost use Rattle.std.specs.Prelude.{◌≡◌, ◌∷◌, ◌++◌, [], false};
+ghost use Rattle.gr_parse.specs.Grammar as grammar;
+ghost use Rattle.gr_parse.specs.Grammar.{A, is, IfHead, ForHead, ElsePart, Statement, ReturnValues};
+ghost use Rattle.gr_parse.specs.Machine.{at};
+ghost use Rattle.gr_parse.specs.Parsing.{Parses, Continues};
+ghost use Rattle.gr_parse.specs.Flatten.{sign};
+ghost use Rattle.gr_parse.specs.Spelling.{exprs_spelled, stmt_spelled, block_spelled, if_spelled, else_spelled};
+
+use crate::groups::group;
+use crate::headers::{for_header, if_header};
+use crate::lookahead::begins_expression;
+use crate::simple::{exprs, simple};
+use crate::syntax::{Kind, Token};
+use crate::take::{Parsed, at, expect, open, separator};
+use crate::tree::{Block, BlockItem, Else, ExprItem, IfStmt, LocalSpec, Stmt};
+use crate::words::Setting;
+use std::alloc::Global;
+
+/// A brace block.
+#[cycle(statement)]
+pub fn block(alloc: Global, tokens: &[Token], depth: u32) -> Parsed<'_, Block>
+    ensures { Parses (A grammar.Block ∷ []) (λ x. block_spelled x.0) (λ x. x.1.now) depth tokens.now result }
+{
+    let ((open, inside), start) = open(tokens, Kind::LeftBrace, depth)?;
+    let mut statements = Vec::new(alloc);
+    let mut rest = start;
+    let mut more = true;
+    'statements: while more {
+        let (statement, after) = statement(alloc, rest, inside)?;
+        let (semicolon, after) = separator(after, Kind::Semicolon);
+        more = semicolon.is_some();
+        statements.push(BlockItem {
+            statement,
+            semicolon,
+        })?;
+        rest = after;
+    }
+    let (close, rest) = expect(rest, Kind::RightBrace, inside)?;
+    let block = Block {
+        open,
+        statements,
+        close,
+    };
+    Ok((block, rest))
+}
+
+/// A statement.
+#[cycle(statement)]
+fn statement(alloc: Global, tokens: &[Token], depth: u32) -> Parsed<'_, Stmt>
+    ensures { Parses (A Statement ∷ []) (λ x. stmt_spelled x.0) (λ x. x.1.now) depth tokens.now result }
+{
+    if at(tokens, Kind::Var) {
+        let (var, rest) = expect(tokens, Kind::Var, depth)?;
+        let (group, rest) = group::<LocalSpec>(alloc, rest, depth)?;
+        return Ok((Stmt::Var { at: var, group }, rest));
+    }
+    if at(tokens, Kind::LeftBrace) {
+        let (inner, rest) = block(alloc, tokens, depth)?;
+        return Ok((Stmt::Block(inner), rest));
+    }
+    if at(tokens, Kind::If) {
+        let (keyword, rest) = expect(tokens, Kind::If, depth)?;
+        let (branch, rest) = if_stmt(alloc, keyword, rest, depth)?;
+        return Ok((Stmt::If(branch), rest));
+    }
+    if at(tokens, Kind::For) {
+        let (at, rest) = expect(tokens, Kind::For, depth)?;
+        let (header, rest) = for_header(alloc, rest, depth)?;
+        let (body, rest) = block(alloc, rest, depth)?;
+        return Ok((Stmt::For { at, header, body }, rest));
+    }
+    plain_statement(alloc, tokens, depth)
+}
+
+/// An `if` statement, of which the `if` has been read.
+#[cycle(statement)]
+fn if_stmt(alloc: Global, at: usize, tokens: &[Token], depth: u32) -> Parsed<'_, IfStmt>
+    ensures { Continues (A IfHead ∷ []) (sign Kind.If at ∷ []) (λ x. if_spelled x.0) (λ x. x.1.now) depth tokens.now result }
+{
+    let ((init, condition), rest) = if_header(alloc, tokens, depth)?;
+    let (body, rest) = block(alloc, rest, depth)?;
+    let (otherwise, rest) = else_part(alloc, rest, depth)?;
+    let statement = IfStmt {
+        at,
+        init,
+        condition,
+        body,
+        otherwise,
+    };
+    Ok((statement, rest))
+}
+
+/// What stands behind the block of an `if`.
+#[cycle(statement)]
+fn else_part(alloc: Global, tokens: &[Token], depth: u32) -> Parsed<'_, Else>
+    ensures { Parses (A ElsePart ∷ []) (λ x. else_spelled x.0) (λ x. x.1.now) depth tokens.now result }
+{
+    if !at(tokens, Kind::Else) {
+        return Ok((Else::None, tokens));
+    }
+    let (word, rest) = expect(tokens, Kind::Else, depth)?;
+    if at(rest, Kind::If) {
+        let ((place, inside), rest) = open(rest, Kind::If, depth)?;
+        let (inner, rest) = if_stmt(alloc, place, rest, inside)?;
+        let branch = Box::new(alloc, inner)?;
+        return Ok((Else::If { at: word, branch }, rest));
+    }
+    let (block, rest) = block(alloc, rest, depth)?;
+    Ok((Else::Block { at: word, block }, rest))
+}
+
+/// A statement that holds no others.
+fn plain_statement(alloc: Global, tokens: &[Token], depth: u32) -> Parsed<'_, Stmt>
+    requires var { at (is Kind.Var) tokens.now ≡ false }
+    requires block { at (is Kind.LeftBrace) tokens.now ≡ false }
+    requires branch { at (is Kind.If) tokens.now ≡ false }
+    requires loops { at (is Kind.For) tokens.now ≡ false }
+    ensures { Parses (A Statement ∷ []) (λ x. stmt_spelled x.0) (λ x. x.1.now) depth tokens.now result }
+{
+    if at(tokens, Kind::Break) {
+        let (at, rest) = expect(tokens, Kind::Break, depth)?;
+        return Ok((Stmt::Break(at), rest));
+    }
+    if at(tokens, Kind::Continue) {
+        let (place, rest) = expect(tokens, Kind::Continue, depth)?;
+        return Ok((Stmt::Continue(place), rest));
+    }
+    if at(tokens, Kind::Return) {
+        let (word, rest) = expect(tokens, Kind::Return, depth)?;
+        let (values, rest) = return_values(alloc, rest, depth)?;
+        return Ok((Stmt::Return { at: word, values }, rest));
+    }
+    if begins_expression(tokens) {
+        let (simple, rest) = simple(alloc, tokens, depth, Setting::Plain)?;
+        return Ok((Stmt::Simple(simple), rest));
+    }
+    Ok((Stmt::Empty, tokens))
+}
+
+/// The values behind a `return`, where there are any.
+fn return_values(alloc: Global, tokens: &[Token], depth: u32) -> Parsed<'_, Vec<ExprItem>>
+    ensures { Parses (A ReturnValues ∷ []) (λ x. exprs_spelled x.0.items) (λ x. x.1.now) depth tokens.now result }
+{
+    if !begins_expression(tokens) {
+        return Ok((Vec::new(alloc), tokens));
+    }
+    exprs(alloc, tokens, depth, Setting::Plain)
+}

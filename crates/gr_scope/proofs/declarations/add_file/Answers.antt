@@ -1,0 +1,11 @@
+use Rattle.std.proofs.Common.{arith}
+use Rattle.gr_scope.specs.Found.{source_of}
+use Rattle.gr_scope.proofs.Adding.{adds_as, adds_then, each_all}
+use Rattle.gr_scope.proofs.FileParts.{imports_part, decl_part, file_read}
+use Rattle.gr_scope.proofs.declarations.add_file.Goals as goal
+
+pub returns : goal.returns
+returns c =
+    adds_as (adds_then (adds_then c.in_ok-add.ensures (each_all (imports_part (source_of c.args.source.now)) c.deref-import-items.result.now c.loop-import.import-index (omega arith) c.loop-import.invariant))
+    (each_all (decl_part (source_of c.args.source.now)) c.deref-decl-items.result.now c.loop-decl.decl-index (omega arith) c.loop-decl.invariant))
+    (file_read _ c.args.file.now _ _ c.deref-import-items.ensures.value c.deref-decl-items.ensures.value)

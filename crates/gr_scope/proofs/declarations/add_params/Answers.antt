@@ -1,0 +1,14 @@
+use Rattle.std.proofs.Common.{arith}
+use Rattle.gr_scope.specs.Found.{source_of}
+use Rattle.gr_scope.proofs.Adding.{adds_as, each_all}
+use Rattle.gr_scope.proofs.StatementParts.{flat_map-map}
+use Rattle.gr_scope.proofs.FileParts.{param_part}
+use Rattle.gr_parse.specs.View.{item_view}
+use Rattle.gr_parse.specs.FileView.{param_view}
+use Rattle.gr_scope.specs.FileSites.{param_sites}
+use Rattle.gr_scope.proofs.declarations.add_params.Goals as goal
+
+pub returns : goal.returns
+returns c =
+    adds_as (each_all (param_part (source_of c.args.source.now) c.args.block c.args.start) c.args.params.now c.loop-item.item-index (omega arith) c.loop-item.invariant)
+    (flat_map-map (λ x. param_sites (source_of c.args.source.now) c.args.block c.args.start x.value) (item_view param_view) c.args.params.now)

@@ -1,0 +1,5 @@
+use Rattle.gr_scope.proofs.Uniqueness.{own_binding}
+use Rattle.gr_scope.proofs.law.declarations_are_bound_to_themselves.Goals as goal
+
+pub returns : goal.returns
+returns c = λ l names u d x. own_binding l names u d x

@@ -1,0 +1,6 @@
+use Rattle.gr_scope.proofs.Nests.{nests}
+use Rattle.gr_scope.proofs.Uniqueness.{declares_if}
+use Rattle.gr_scope.proofs.law.left_names_declare_by_declarations.Goals as goal
+
+pub returns : goal.returns
+returns c = λ l w names d m h. declares_if l (nests l w) names d m h

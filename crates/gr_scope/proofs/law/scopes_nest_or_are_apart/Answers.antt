@@ -1,0 +1,5 @@
+use Rattle.gr_scope.proofs.Nests.{scopes_nest}
+use Rattle.gr_scope.proofs.law.scopes_nest_or_are_apart.Goals as goal
+
+pub returns : goal.returns
+returns c = λ l w d e md me p hd he. scopes_nest l w d e md me p hd he

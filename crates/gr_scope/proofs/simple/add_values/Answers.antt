@@ -1,0 +1,13 @@
+use Rattle.std.proofs.Common.{ap, sym, ◌∙◌}
+use Rattle.gr_scope.specs.Found.{source_of}
+use Rattle.gr_scope.specs.ExpressionSites.{sites_if, exprs_sites}
+use Rattle.gr_scope.specs.StatementSites.{value_sites}
+use Rattle.gr_scope.proofs.Adding.{call_adds}
+use Rattle.gr_parse.specs.View.{option_view, exprs_view}
+use Rattle.gr_parse.specs.FileView.{values_view}
+use Rattle.gr_scope.proofs.simple.add_values.Goals as goal
+
+pub returns-in-Some : goal.returns-in-Some
+returns-in-Some c =
+    call_adds _ _ c.add_exprs.result c.add_exprs.ensures
+    (ap (λ z. exprs_sites (source_of c.args.source.now) (exprs_view z)) c.deref.ensures.value ∙ ap (λ v. sites_if (value_sites (source_of c.args.source.now)) (option_view values_view v)) (sym c.in-Some.is))

@@ -1,0 +1,13 @@
+pub mod Scopes
+pub mod Bindings
+pub mod WellFormed
+pub mod Table
+pub mod Moves
+pub mod Site
+pub mod ExpressionSites
+pub mod StatementSites
+pub mod FileSites
+pub mod Trees
+pub mod Spelled
+pub mod Found
+pub mod Parsed

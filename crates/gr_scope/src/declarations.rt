@@ -1,0 +1,349 @@
+//! The identifiers of a file's declarations.
+ghost use Rattle.std.specs.Prelude.{◌≡◌, OnOk};
+ghost use Rattle.std.specs.List.{flat_map};
+ghost use Rattle.gr_scope.specs.ExpressionSites.{sites_if, list_sites};
+ghost use Rattle.gr_scope.specs.FileSites.{global_name, member_name, spec_sites, global_sites, field_sites, body_sites, type_spec_sites, receiver_sites, param_sites, result_sites, func_role, func_sites, import_name, import_sites, imports_sites, decl_sites, file_sites};
+ghost use Rattle.gr_scope.specs.Found.{source_of, Adds};
+ghost use Rattle.gr_parse.specs.View.{option_view, list_view, group_view};
+ghost use Rattle.gr_parse.specs.FileView.{same_place, global_view, field_view, body_view, type_spec_view, receiver_view, param_view, results_view, func_view, import_view, imports_view, decl_view, file_view};
+
+use crate::expressions::add_type;
+use crate::model::{Block, Identifier, Purpose, Role};
+use crate::simple::{add_ident, add_idents};
+use crate::source::SourceFile;
+use crate::statements::add_block;
+use gr_parse::tree::{
+    Decl, Field, File, FuncDecl, Group, ImportDecl, ImportSpec, Item, Param, Receiver, Results,
+    TypeBody, TypeSpec, VarSpec,
+};
+use std::alloc::{AllocError, Global};
+
+/// Adds names that the package's block declares.
+fn add_globals(
+    alloc: Global,
+    source: &SourceFile,
+    found: &mut Vec<Identifier>,
+    names: &[Item<usize>],
+) -> Result<(), AllocError>
+    ensures { OnOk result (Adds found.old.items found.new.items (list_sites (global_name (source_of source.now)) (list_view same_place names.now))) }
+{
+    for item in names {
+        source.add(alloc, found, item.value, Role::Declaring(Block::Package, 0))?;
+    }
+    Ok(())
+}
+
+/// Adds names of fields.
+fn add_members(
+    alloc: Global,
+    source: &SourceFile,
+    found: &mut Vec<Identifier>,
+    names: &[Item<usize>],
+) -> Result<(), AllocError>
+    ensures { OnOk result (Adds found.old.items found.new.items (list_sites (member_name (source_of source.now)) (list_view same_place names.now))) }
+{
+    for item in names {
+        source.add(alloc, found, item.value, Role::NotLexical(Purpose::Member))?;
+    }
+    Ok(())
+}
+
+fn add_var_spec(
+    alloc: Global,
+    source: &SourceFile,
+    found: &mut Vec<Identifier>,
+    spec: &VarSpec,
+) -> Result<(), AllocError>
+    ensures { OnOk result (Adds found.old.items found.new.items (global_sites (source_of source.now) (global_view spec.now))) }
+{
+    add_globals(alloc, source, found, &spec.names)?;
+    add_type(alloc, source, found, &spec.var_type)
+}
+
+fn add_field(
+    alloc: Global,
+    source: &SourceFile,
+    found: &mut Vec<Identifier>,
+    field: &Field,
+) -> Result<(), AllocError>
+    ensures { OnOk result (Adds found.old.items found.new.items (field_sites (source_of source.now) (field_view field.now))) }
+{
+    add_members(alloc, source, found, &field.names)?;
+    add_type(alloc, source, found, &field.field_type)
+}
+
+fn add_body(
+    alloc: Global,
+    source: &SourceFile,
+    found: &mut Vec<Identifier>,
+    body: &TypeBody,
+) -> Result<(), AllocError>
+    ensures { OnOk result (Adds found.old.items found.new.items (body_sites (source_of source.now) (body_view body.now))) }
+{
+    match body {
+        TypeBody::Type(type_expr) => add_type(alloc, source, found, type_expr),
+        TypeBody::Struct { fields, .. } => {
+            for item in fields {
+                add_field(alloc, source, found, &item.value)?;
+            }
+            Ok(())
+        }
+    }
+}
+
+fn add_type_spec(
+    alloc: Global,
+    source: &SourceFile,
+    found: &mut Vec<Identifier>,
+    spec: &TypeSpec,
+) -> Result<(), AllocError>
+    ensures { OnOk result (Adds found.old.items found.new.items (type_spec_sites (source_of source.now) (type_spec_view spec.now))) }
+{
+    source.add(alloc, found, spec.name, Role::Declaring(Block::Package, 0))?;
+    add_body(alloc, source, found, &spec.body)
+}
+
+/// Adds the identifiers of a receiver, which stands in the block of the body, with a scope from its beginning.
+fn add_receiver(
+    alloc: Global,
+    source: &SourceFile,
+    found: &mut Vec<Identifier>,
+    block: Block,
+    start: usize,
+    receiver: &Option<Receiver>,
+) -> Result<(), AllocError>
+    ensures { OnOk result (Adds found.old.items found.new.items (sites_if (receiver_sites (source_of source.now) block start) (option_view receiver_view receiver.now))) }
+{
+    match receiver {
+        None => Ok(()),
+        Some(part) => {
+            add_ident(
+                alloc,
+                source,
+                found,
+                Role::Declaring(block, start),
+                &part.ident,
+            )?;
+            source.add(alloc, found, part.type_name, Role::Use)
+        }
+    }
+}
+
+fn add_param(
+    alloc: Global,
+    source: &SourceFile,
+    found: &mut Vec<Identifier>,
+    block: Block,
+    start: usize,
+    param: &Param,
+) -> Result<(), AllocError>
+    ensures { OnOk result (Adds found.old.items found.new.items (param_sites (source_of source.now) block start (param_view param.now))) }
+{
+    add_idents(
+        alloc,
+        source,
+        found,
+        Role::Declaring(block, start),
+        &param.names,
+    )?;
+    add_type(alloc, source, found, &param.param_type)
+}
+
+/// Adds the identifiers of parameters, which stand in the block of the body, with scopes from its beginning.
+fn add_params(
+    alloc: Global,
+    source: &SourceFile,
+    found: &mut Vec<Identifier>,
+    block: Block,
+    start: usize,
+    params: &[Item<Param>],
+) -> Result<(), AllocError>
+    ensures { OnOk result (Adds found.old.items found.new.items (list_sites (param_sites (source_of source.now) block start) (list_view param_view params.now))) }
+{
+    for item in params {
+        add_param(alloc, source, found, block, start, &item.value)?;
+    }
+    Ok(())
+}
+
+fn add_results(
+    alloc: Global,
+    source: &SourceFile,
+    found: &mut Vec<Identifier>,
+    results: &Results,
+) -> Result<(), AllocError>
+    ensures { OnOk result (Adds found.old.items found.new.items (result_sites (source_of source.now) (results_view results.now))) }
+{
+    match results {
+        Results::None => Ok(()),
+        Results::Single(type_expr) => add_type(alloc, source, found, type_expr),
+        Results::Several { types, .. } => {
+            for item in types {
+                add_type(alloc, source, found, &item.value)?;
+            }
+            Ok(())
+        }
+    }
+}
+
+/// The role of a function's name.
+fn function_role(source: &SourceFile, func: &FuncDecl) -> Role
+    ensures { result ≡ func_role (option_view receiver_view func.now.receiver) ((source_of source.now).spell func.now.name) }
+{
+    match &func.receiver {
+        Some(_) => Role::NotLexical(Purpose::Member),
+        None if source.spelling(func.name) == b"init".as_slice() => {
+            Role::NotLexical(Purpose::InitFunction)
+        }
+        None => Role::Declaring(Block::Package, 0),
+    }
+}
+
+fn add_func(
+    alloc: Global,
+    source: &SourceFile,
+    found: &mut Vec<Identifier>,
+    func: &FuncDecl,
+) -> Result<(), AllocError>
+    ensures { OnOk result (Adds found.old.items found.new.items (func_sites (source_of source.now) (func_view func.now))) }
+{
+    let start = func.body.open;
+    let block = Block::Inner(source.rank, start, func.body.close);
+    add_receiver(alloc, source, found, block, start, &func.receiver)?;
+    source.add(alloc, found, func.name, function_role(source, func))?;
+    add_params(alloc, source, found, block, start, &func.params)?;
+    add_results(alloc, source, found, &func.results)?;
+    add_block(alloc, source, found, &func.body)
+}
+
+fn add_import_name(
+    alloc: Global,
+    source: &SourceFile,
+    found: &mut Vec<Identifier>,
+    name: Option<usize>,
+) -> Result<(), AllocError>
+    ensures { OnOk result (Adds found.old.items found.new.items (import_name (source_of source.now) name)) }
+{
+    match name {
+        None => Ok(()),
+        Some(token) => source.add(
+            alloc,
+            found,
+            token,
+            Role::Declaring(Block::File(source.rank), 0),
+        ),
+    }
+}
+
+fn add_import_spec(
+    alloc: Global,
+    source: &SourceFile,
+    found: &mut Vec<Identifier>,
+    spec: &ImportSpec,
+) -> Result<(), AllocError>
+    ensures { OnOk result (Adds found.old.items found.new.items (import_sites (source_of source.now) (import_view spec.now))) }
+{
+    add_import_name(alloc, source, found, spec.name)?;
+    source.add(
+        alloc,
+        found,
+        spec.path,
+        Role::NotLexical(Purpose::ImportPath),
+    )
+}
+
+fn add_imports(
+    alloc: Global,
+    source: &SourceFile,
+    found: &mut Vec<Identifier>,
+    decl: &ImportDecl,
+) -> Result<(), AllocError>
+    ensures { OnOk result (Adds found.old.items found.new.items (imports_sites (source_of source.now) (imports_view decl.now))) }
+{
+    match &decl.group {
+        Group::Single(spec) => add_import_spec(alloc, source, found, spec),
+        Group::Several { items, .. } => {
+            for item in items {
+                add_import_spec(alloc, source, found, &item.value)?;
+            }
+            Ok(())
+        }
+    }
+}
+
+fn add_var_specs(
+    alloc: Global,
+    source: &SourceFile,
+    found: &mut Vec<Identifier>,
+    group: &Group<VarSpec>,
+) -> Result<(), AllocError>
+    ensures { OnOk result (Adds found.old.items found.new.items (spec_sites (global_sites (source_of source.now)) (group_view global_view group.now))) }
+{
+    match group {
+        Group::Single(spec) => add_var_spec(alloc, source, found, spec),
+        Group::Several { items, .. } => {
+            for item in items {
+                add_var_spec(alloc, source, found, &item.value)?;
+            }
+            Ok(())
+        }
+    }
+}
+
+fn add_type_specs(
+    alloc: Global,
+    source: &SourceFile,
+    found: &mut Vec<Identifier>,
+    group: &Group<TypeSpec>,
+) -> Result<(), AllocError>
+    ensures { OnOk result (Adds found.old.items found.new.items (spec_sites (type_spec_sites (source_of source.now)) (group_view type_spec_view group.now))) }
+{
+    match group {
+        Group::Single(spec) => add_type_spec(alloc, source, found, spec),
+        Group::Several { items, .. } => {
+            for item in items {
+                add_type_spec(alloc, source, found, &item.value)?;
+            }
+            Ok(())
+        }
+    }
+}
+
+fn add_decl(
+    alloc: Global,
+    source: &SourceFile,
+    found: &mut Vec<Identifier>,
+    decl: &Decl,
+) -> Result<(), AllocError>
+    ensures { OnOk result (Adds found.old.items found.new.items (decl_sites (source_of source.now) (decl_view decl.now))) }
+{
+    match decl {
+        Decl::Var { group, .. } => add_var_specs(alloc, source, found, group),
+        Decl::Type { group, .. } => add_type_specs(alloc, source, found, group),
+        Decl::Func { func, .. } => add_func(alloc, source, found, func),
+    }
+}
+
+/// Adds the identifiers of a file.
+pub fn add_file(
+    alloc: Global,
+    source: &SourceFile,
+    found: &mut Vec<Identifier>,
+    file: &File,
+) -> Result<(), AllocError>
+    ensures { OnOk result (Adds found.old.items found.new.items (file_sites (source_of source.now) (file_view file.now))) }
+{
+    source.add(
+        alloc,
+        found,
+        file.name,
+        Role::NotLexical(Purpose::PackageClause),
+    )?;
+    for import in &file.imports {
+        add_imports(alloc, source, found, import)?;
+    }
+    for decl in &file.decls {
+        add_decl(alloc, source, found, decl)?;
+    }
+    Ok(())
+}

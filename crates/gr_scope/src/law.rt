@@ -1,0 +1,46 @@
+//! The laws of scopes.
+
+ghost use Rattle.std.specs.Prelude.{ℕ, List, ◌≡◌, ◌<◌, ◌↔◌, ◌⊎◌};
+ghost use Rattle.gr_scope.specs.declared.model.Position.{Position};
+ghost use Rattle.gr_scope.specs.Scopes.{Holds, IsInside};
+ghost use Rattle.gr_scope.specs.Site.{sites_layout};
+ghost use Rattle.gr_scope.specs.FileSites.{SpelledFile, package_sites};
+ghost use Rattle.gr_scope.specs.Trees.{AreNumbered};
+ghost use Rattle.gr_scope.specs.Bindings.{Layout, Names, IsBoundTo, Counts, MayDeclare, IsLeftName, Declares, SameBlock, InScope, scope_of};
+ghost use Rattle.gr_scope.specs.WellFormed.{WellFormed};
+ghost use Rattle.gr_scope.specs.Moves.{IsMoved};
+
+/// An identifier is bound to at most one declaration.
+pub fn bindings_are_unique()
+    ensures { (l : Layout) → WellFormed l → (names : Names) → (u d e : ℕ) → IsBoundTo l names u d → IsBoundTo l names u e → d ≡ e }
+{}
+
+/// Where places move and keep their order, bindings stay.
+pub fn bindings_stay_where_places_move()
+    ensures { (m : ℕ → ℕ → ℕ) → (l k : Layout) → IsMoved (λ f i. Unit {0}) m l k → (names : Names) → (u d : ℕ) →
+        IsBoundTo l names u d ↔ IsBoundTo k names u d }
+{}
+
+/// Where a left name of `:=` may declare, it declares unless a declaration of its name in the same block holds it.
+pub fn left_names_declare_by_declarations()
+    ensures { (l : Layout) → WellFormed l → (names : Names) → (d : ℕ) → MayDeclare l d →
+        (IsLeftName l d → (e : ℕ) → Declares l names e → SameBlock l e d → names e ≡ names d → InScope l e d → ⊥) →
+        Declares l names d }
+{}
+
+/// The identifiers of a package make a well-formed layout, where the tokens of each file are numbered in their order.
+pub fn packages_are_well_formed()
+    ensures { (files : List SpelledFile) → AreNumbered files → WellFormed (sites_layout (package_sites files)) }
+{}
+
+/// A declaring identifier is bound to its own declaration, exactly if that counts.
+pub fn declarations_are_bound_to_themselves()
+    ensures { (l : Layout) → (names : Names) → (u d : ℕ) → Declares l names u → IsBoundTo l names u d ↔ ((u ≡ d) × Counts l names d) }
+{}
+
+/// Of two scopes of declarations that share a place one lies inside the other.
+pub fn scopes_nest_or_are_apart()
+    ensures { (l : Layout) → WellFormed l → (d e : ℕ) → MayDeclare l d → MayDeclare l e → (place : Position) →
+        Holds (scope_of (l.role d)) place → Holds (scope_of (l.role e)) place →
+        IsInside (scope_of (l.role d)) (scope_of (l.role e)) ⊎ IsInside (scope_of (l.role e)) (scope_of (l.role d)) }
+{}

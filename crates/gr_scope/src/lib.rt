@@ -1,0 +1,15 @@
+//! Scopes and lexical bindings of a package.
+#![tactic(auto)]
+
+pub mod counting;
+pub mod declarations;
+pub mod declare;
+pub mod expressions;
+pub mod law;
+pub mod model;
+pub mod parsed;
+pub mod resolve;
+pub mod simple;
+pub mod source;
+pub mod statements;
+pub mod table;

@@ -1,0 +1,236 @@
+//! The declaration to which a use is bound.
+
+ghost use Rattle.std.specs.Prelude.{ℕ, ◌≡◌, ◌<◌, ◌↔◌, length, IsTrue, MatchOption};
+ghost use Rattle.std.specs.Option.{ForSome};
+ghost use Rattle.gr_scope.specs.WellFormed.{WellFormed};
+ghost use Rattle.gr_scope.specs.Table.{Blocks, IsNew, IsCandidate, TakesOver};
+ghost use Rattle.gr_scope.specs.Scopes.{Holds, Nests};
+ghost use Rattle.gr_scope.specs.Bindings.{may_declare, block_of, start_of, is_left_name, Declares, BindsAt};
+ghost use Rattle.gr_scope.specs.Scopes.{scope_in};
+ghost use Rattle.gr_scope.specs.Table.{layout_of, names_of};
+
+use crate::model::{Block, Identifier, Position, Role, Scope};
+
+impl Role {
+    pub fn may_declare(self) -> bool
+        ensures { result ≡ may_declare self }
+    {
+        match self {
+            Role::Declaring(_, _) | Role::LeftName(_, _) | Role::Implied(_, _) => true,
+            Role::Use | Role::NotLexical(_) => false,
+        }
+    }
+
+    pub fn is_left_name(self) -> bool
+        ensures { result ≡ is_left_name self }
+    {
+        match self {
+            Role::LeftName(_, _) => true,
+            Role::Declaring(_, _) | Role::Implied(_, _) | Role::Use | Role::NotLexical(_) => false,
+        }
+    }
+
+    pub fn block(self) -> Block
+        ensures { result ≡ block_of self }
+    {
+        match self {
+            Role::Declaring(block, _) | Role::LeftName(block, _) | Role::Implied(block, _) => block,
+            Role::Use | Role::NotLexical(_) => Block::Universe,
+        }
+    }
+
+    pub fn start(self) -> usize
+        ensures { result ≡ start_of self }
+    {
+        match self {
+            Role::Declaring(_, start) | Role::LeftName(_, start) | Role::Implied(_, start) => start,
+            Role::Use | Role::NotLexical(_) => 0,
+        }
+    }
+}
+
+impl Scope {
+    /// The scope of a declaration in a block: in an inner one it begins at an index and lasts to the block's end.
+    pub fn in_block(block: Block, start: usize) -> Scope
+        ensures { result ≡ scope_in block start }
+    {
+        match block {
+            Block::Universe => Scope::Everywhere,
+            Block::Package => Scope::WholePackage,
+            Block::File(file) => Scope::WholeFile(file),
+            Block::Inner(file, _, to) => Scope::Interval(file, start, to),
+        }
+    }
+
+    pub fn holds(self, place: Position) -> bool
+        ensures { IsTrue result ↔ Holds self place }
+    {
+        match self {
+            Scope::Everywhere | Scope::WholePackage => true,
+            Scope::WholeFile(file) => place.file == file,
+            Scope::Interval(file, from, to) => place.file == file
+                && from <= place.index
+                && place.index < to,
+        }
+    }
+}
+
+impl Block {
+    pub fn nests(self, outer: Block) -> bool
+        ensures { IsTrue result ↔ Nests self outer }
+    {
+        match (self, outer) {
+            (Block::Inner(f, a, b), Block::Inner(g, c, d)) => f == g && c < a && b <= d,
+            (Block::Inner(f, _, _), Block::File(g)) => f == g,
+            (Block::Inner(_, _, _), Block::Package | Block::Universe) => true,
+            (Block::Package, Block::File(_) | Block::Universe) => true,
+            (Block::File(_), Block::Universe) => true,
+            _ => false,
+        }
+    }
+
+    pub fn same(self, other: Block) -> bool
+        ensures { IsTrue result ↔ (self ≡ other) }
+    {
+        match (self, other) {
+            (Block::Universe, Block::Universe) | (Block::Package, Block::Package) => true,
+            (Block::File(f), Block::File(g)) => f == g,
+            (Block::Inner(f, a, b), Block::Inner(g, c, d)) => f == g && a == c && b == d,
+            _ => false,
+        }
+    }
+}
+
+pub fn role_at(identifiers: &[Identifier], d: usize) -> Role
+    requires { d < length identifiers.now }
+    ensures { result ≡ (layout_of identifiers.now).role d }
+{
+    identifiers[d].role
+}
+
+pub fn place_at(identifiers: &[Identifier], d: usize) -> Position
+    requires { d < length identifiers.now }
+    ensures { result ≡ (layout_of identifiers.now).place d }
+{
+    identifiers[d].place
+}
+
+pub fn name_at(identifiers: &[Identifier], d: usize) -> &[u8]
+    requires { d < length identifiers.now }
+    ensures { result.now ≡ names_of identifiers.now d }
+{
+    &identifiers[d].name
+}
+
+pub fn same_name(identifiers: &[Identifier], d: usize, e: usize) -> bool
+    requires first { d < length identifiers.now }
+    requires second { e < length identifiers.now }
+    ensures { IsTrue result ↔ (names_of identifiers.now d ≡ names_of identifiers.now e) }
+{
+    name_at(identifiers, d) == name_at(identifiers, e)
+}
+
+/// Whether a left name of `:=` lies in no scope of a name of its own in the same block.
+pub fn is_new(identifiers: &[Identifier], d: usize) -> bool
+    requires { d < length identifiers.now }
+    ensures { IsTrue result ↔ IsNew (layout_of identifiers.now) (names_of identifiers.now) d }
+{
+    for e in 0..identifiers.len() {
+        if blocks(identifiers, e, d) {
+            return false;
+        }
+    }
+    true
+}
+
+/// Whether e has d's name, stands in the same block and holds d.
+fn blocks(identifiers: &[Identifier], e: usize, d: usize) -> bool
+    requires first { e < length identifiers.now }
+    requires second { d < length identifiers.now }
+    ensures { IsTrue result ↔ Blocks (layout_of identifiers.now) (names_of identifiers.now) e d }
+{
+    let role = role_at(identifiers, e);
+    role.may_declare()
+        && role.block().same(role_at(identifiers, d).block())
+        && same_name(identifiers, e, d)
+        && Scope::in_block(role.block(), role.start()).holds(place_at(identifiers, d))
+}
+
+/// Whether an identifier declares.
+pub fn declares(identifiers: &[Identifier], d: usize) -> bool
+    requires { d < length identifiers.now }
+    ensures { IsTrue result ↔ Declares (layout_of identifiers.now) (names_of identifiers.now) d }
+{
+    let role = role_at(identifiers, d);
+    role.may_declare() && (!role.is_left_name() || is_new(identifiers, d))
+}
+
+/// The declaration to which a name is bound at the place of u.
+pub fn binding(identifiers: &[Identifier], name: &[u8], u: usize) -> Option<usize>
+    requires in_range { u < length identifiers.now }
+    requires well_formed { WellFormed (layout_of identifiers.now) }
+    ensures { let l = layout_of identifiers.now in
+        let names = names_of identifiers.now in
+        MatchOption result ((d : ℕ) → BindsAt l names name.now u d → ⊥) (λ d. BindsAt l names name.now u d) }
+{
+    let place = place_at(identifiers, u);
+    let mut best: Option<usize> = None;
+    for d in 0..identifiers.len() {
+        if improves(identifiers, name, u, place, best, d) {
+            best = Some(d);
+        }
+    }
+    best
+}
+
+/// Whether d is a candidate that takes over from the best so far.
+fn improves(
+    identifiers: &[Identifier],
+    name: &[u8],
+    u: usize,
+    place: Position,
+    best: Option<usize>,
+    d: usize,
+) -> bool
+    requires first { u < length identifiers.now }
+    requires second { d < length identifiers.now }
+    requires at { place ≡ (layout_of identifiers.now).place u }
+    requires known { ForSome best (λ b. b < length identifiers.now) }
+    ensures { let l = layout_of identifiers.now in
+        IsTrue result ↔ (IsCandidate l (names_of identifiers.now) name.now u d × TakesOver l best d) }
+{
+    is_candidate(identifiers, name, u, place, d) && takes_over(identifiers, best, d)
+}
+
+/// Whether d is a declaration of the name whose scope holds the place of u.
+fn is_candidate(
+    identifiers: &[Identifier],
+    name: &[u8],
+    u: usize,
+    place: Position,
+    d: usize,
+) -> bool
+    requires first { u < length identifiers.now }
+    requires second { d < length identifiers.now }
+    requires at { place ≡ (layout_of identifiers.now).place u }
+    ensures { IsTrue result ↔ IsCandidate (layout_of identifiers.now) (names_of identifiers.now) name.now u d }
+{
+    let role = role_at(identifiers, d);
+    name_at(identifiers, d) == name
+        && Scope::in_block(role.block(), role.start()).holds(place)
+        && declares(identifiers, d)
+}
+
+/// Whether a later declaration takes over from the best so far.
+fn takes_over(identifiers: &[Identifier], best: Option<usize>, d: usize) -> bool
+    requires first { d < length identifiers.now }
+    requires second { ForSome best (λ b. b < length identifiers.now) }
+    ensures { IsTrue result ↔ TakesOver (layout_of identifiers.now) best d }
+{
+    match best {
+        None => true,
+        Some(b) => role_at(identifiers, d)
+            .block()
+            .nests(role_at(identifiers, b).block()),
+    }
+}

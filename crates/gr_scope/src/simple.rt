@@ -1,0 +1,307 @@
+//! The identifiers of simple statements and of declarations of local variables.
+ghost use Rattle.std.specs.Prelude.{◌≡◌, OnOk};
+ghost use Rattle.gr_scope.specs.ExpressionSites.{sites_if, list_sites, type_sites, expr_sites, exprs_sites};
+ghost use Rattle.gr_scope.specs.StatementSites.{ident_sites, left_sites, assigned_sites, simple_sites, value_sites, local_sites, group_sites, init_sites, for_sites};
+ghost use Rattle.gr_scope.specs.Found.{source_of, Adds};
+ghost use Rattle.gr_parse.specs.View.{option_view, group_view, list_view, ident_view, type_view, expr_view, exprs_view};
+ghost use Rattle.gr_parse.specs.FileView.{local_view, values_view, simple_view, init_view, for_view};
+
+use crate::expressions::{add_expr, add_type};
+use crate::model::{Block, Identifier, Purpose, Role};
+use crate::source::SourceFile;
+use gr_parse::tree::{
+    Expr, ExprItem, ForHeader, Group, Ident, IfInit, Item, LocalSpec, SimpleStmt, TypeExpr, Values,
+};
+use std::alloc::{AllocError, Global};
+
+/// Adds the identifiers of several expressions.
+pub fn add_exprs(
+    alloc: Global,
+    source: &SourceFile,
+    found: &mut Vec<Identifier>,
+    exprs: &[ExprItem],
+) -> Result<(), AllocError>
+    ensures { OnOk result (Adds found.old.items found.new.items (exprs_sites (source_of source.now) (exprs_view exprs.now))) }
+{
+    for item in exprs {
+        add_expr(alloc, source, found, &item.value)?;
+    }
+    Ok(())
+}
+
+/// Adds names that are declared in a role.
+pub fn add_idents(
+    alloc: Global,
+    source: &SourceFile,
+    found: &mut Vec<Identifier>,
+    role: Role,
+    idents: &[Item<Ident>],
+) -> Result<(), AllocError>
+    ensures { OnOk result (Adds found.old.items found.new.items (list_sites (ident_sites (source_of source.now) role) (list_view ident_view idents.now))) }
+{
+    for item in idents {
+        add_ident(alloc, source, found, role, &item.value)?;
+    }
+    Ok(())
+}
+
+/// Adds a name that is declared in a role, or a `_`.
+pub fn add_ident(
+    alloc: Global,
+    source: &SourceFile,
+    found: &mut Vec<Identifier>,
+    role: Role,
+    ident: &Ident,
+) -> Result<(), AllocError>
+    ensures { OnOk result (Adds found.old.items found.new.items (ident_sites (source_of source.now) role (ident_view ident.now))) }
+{
+    match ident {
+        Ident::Named(name) => source.add(alloc, found, *name, role),
+        Ident::Blank(name) => source.add(alloc, found, *name, Role::NotLexical(Purpose::Blank)),
+    }
+}
+
+/// Adds the identifiers of the left side of a `:=`, whose scopes would begin at a token.
+fn add_left(
+    alloc: Global,
+    source: &SourceFile,
+    found: &mut Vec<Identifier>,
+    block: Block,
+    following: usize,
+    left: &Expr,
+) -> Result<(), AllocError>
+    ensures { OnOk result (Adds found.old.items found.new.items (left_sites (source_of source.now) block following (expr_view left.now))) }
+{
+    match left {
+        Expr::Name(name) => source.add(alloc, found, *name, Role::LeftName(block, following)),
+        Expr::Blank(name) => source.add(alloc, found, *name, Role::NotLexical(Purpose::Blank)),
+        _ => add_expr(alloc, source, found, left),
+    }
+}
+
+/// Adds the identifiers of the left sides of a `:=`.
+fn add_lefts(
+    alloc: Global,
+    source: &SourceFile,
+    found: &mut Vec<Identifier>,
+    block: Block,
+    following: usize,
+    lefts: &[ExprItem],
+) -> Result<(), AllocError>
+    ensures { OnOk result (Adds found.old.items found.new.items (list_sites (left_sites (source_of source.now) block following) (exprs_view lefts.now))) }
+{
+    for item in lefts {
+        add_left(alloc, source, found, block, following, &item.value)?;
+    }
+    Ok(())
+}
+
+/// Adds the identifiers of the left side of a `=`.
+fn add_assigned(
+    alloc: Global,
+    source: &SourceFile,
+    found: &mut Vec<Identifier>,
+    left: &Expr,
+) -> Result<(), AllocError>
+    ensures { OnOk result (Adds found.old.items found.new.items (assigned_sites (source_of source.now) (expr_view left.now))) }
+{
+    match left {
+        Expr::Blank(name) => source.add(alloc, found, *name, Role::NotLexical(Purpose::Blank)),
+        _ => add_expr(alloc, source, found, left),
+    }
+}
+
+/// Adds the identifiers of the left sides of a `=`.
+fn add_all_assigned(
+    alloc: Global,
+    source: &SourceFile,
+    found: &mut Vec<Identifier>,
+    lefts: &[ExprItem],
+) -> Result<(), AllocError>
+    ensures { OnOk result (Adds found.old.items found.new.items (list_sites (assigned_sites (source_of source.now)) (exprs_view lefts.now))) }
+{
+    for item in lefts {
+        add_assigned(alloc, source, found, &item.value)?;
+    }
+    Ok(())
+}
+
+/// Adds the identifiers of a simple statement in a block, before a token.
+pub fn add_simple(
+    alloc: Global,
+    source: &SourceFile,
+    found: &mut Vec<Identifier>,
+    block: Block,
+    following: usize,
+    simple: &SimpleStmt,
+) -> Result<(), AllocError>
+    ensures { OnOk result (Adds found.old.items found.new.items (simple_sites (source_of source.now) block following (simple_view simple.now))) }
+{
+    match simple {
+        SimpleStmt::Expr(expr) => add_expr(alloc, source, found, expr),
+        SimpleStmt::Step { operand, .. } => add_expr(alloc, source, found, operand),
+        SimpleStmt::Update { left, right, .. } => {
+            add_expr(alloc, source, found, left)?;
+            add_expr(alloc, source, found, right)
+        }
+        SimpleStmt::Assign { left, right, .. } => {
+            add_all_assigned(alloc, source, found, left)?;
+            add_exprs(alloc, source, found, right)
+        }
+        SimpleStmt::Define { left, right, .. } => {
+            add_lefts(alloc, source, found, block, following, left)?;
+            add_exprs(alloc, source, found, right)
+        }
+    }
+}
+
+/// Adds the identifiers of a simple statement, where there is one.
+pub fn add_optional(
+    alloc: Global,
+    source: &SourceFile,
+    found: &mut Vec<Identifier>,
+    block: Block,
+    following: usize,
+    simple: &Option<SimpleStmt>,
+) -> Result<(), AllocError>
+    ensures { OnOk result (Adds found.old.items found.new.items (sites_if (simple_sites (source_of source.now) block following) (option_view simple_view simple.now))) }
+{
+    match simple {
+        None => Ok(()),
+        Some(statement) => add_simple(alloc, source, found, block, following, statement),
+    }
+}
+
+/// Adds the identifiers of a type, where there is one.
+fn add_optional_type(
+    alloc: Global,
+    source: &SourceFile,
+    found: &mut Vec<Identifier>,
+    local_type: &Option<TypeExpr>,
+) -> Result<(), AllocError>
+    ensures { OnOk result (Adds found.old.items found.new.items (sites_if (type_sites (source_of source.now)) (option_view type_view local_type.now))) }
+{
+    match local_type {
+        None => Ok(()),
+        Some(type_expr) => add_type(alloc, source, found, type_expr),
+    }
+}
+
+/// Adds the identifiers of the values of a declaration, where there are any.
+fn add_values(
+    alloc: Global,
+    source: &SourceFile,
+    found: &mut Vec<Identifier>,
+    values: &Option<Values>,
+) -> Result<(), AllocError>
+    ensures { OnOk result (Adds found.old.items found.new.items (sites_if (value_sites (source_of source.now)) (option_view values_view values.now))) }
+{
+    match values {
+        None => Ok(()),
+        Some(list) => add_exprs(alloc, source, found, &list.values),
+    }
+}
+
+/// Adds the identifiers of a declaration of local variables in a block, before a token.
+pub fn add_local(
+    alloc: Global,
+    source: &SourceFile,
+    found: &mut Vec<Identifier>,
+    block: Block,
+    following: usize,
+    local: &LocalSpec,
+) -> Result<(), AllocError>
+    ensures { OnOk result (Adds found.old.items found.new.items (local_sites (source_of source.now) block following (local_view local.now))) }
+{
+    add_idents(
+        alloc,
+        source,
+        found,
+        Role::Declaring(block, following),
+        &local.names,
+    )?;
+    add_optional_type(alloc, source, found, &local.local_type)?;
+    add_values(alloc, source, found, &local.values)
+}
+
+/// Adds the identifiers of one or several declarations of local variables in a block, before a token.
+pub fn add_locals(
+    alloc: Global,
+    source: &SourceFile,
+    found: &mut Vec<Identifier>,
+    block: Block,
+    following: usize,
+    group: &Group<LocalSpec>,
+) -> Result<(), AllocError>
+    ensures { OnOk result (Adds found.old.items found.new.items (group_sites (local_sites (source_of source.now) block) following (group_view local_view group.now))) }
+{
+    match group {
+        Group::Single(local) => add_local(alloc, source, found, block, following, local),
+        Group::Several { items, close, .. } => {
+            for item in items {
+                let behind = item.separator.unwrap_or(*close);
+                add_local(alloc, source, found, block, behind, &item.value)?;
+            }
+            Ok(())
+        }
+    }
+}
+
+/// Adds the identifiers of what stands before the condition of an `if`, in the block of the `if`.
+pub fn add_init(
+    alloc: Global,
+    source: &SourceFile,
+    found: &mut Vec<Identifier>,
+    block: Block,
+    init: &Option<IfInit>,
+) -> Result<(), AllocError>
+    ensures { OnOk result (Adds found.old.items found.new.items (sites_if (init_sites (source_of source.now) block) (option_view init_view init.now))) }
+{
+    match init {
+        None => Ok(()),
+        Some(init) => add_optional(alloc, source, found, block, init.semicolon, &init.statement),
+    }
+}
+
+/// Adds the identifiers of an expression, where there is one.
+fn add_condition(
+    alloc: Global,
+    source: &SourceFile,
+    found: &mut Vec<Identifier>,
+    condition: &Option<Expr>,
+) -> Result<(), AllocError>
+    ensures { OnOk result (Adds found.old.items found.new.items (sites_if (expr_sites (source_of source.now)) (option_view expr_view condition.now))) }
+{
+    match condition {
+        None => Ok(()),
+        Some(expr) => add_expr(alloc, source, found, expr),
+    }
+}
+
+/// Adds the identifiers of what stands between `for` and the brace that opens its block, in the block of the `for`.
+pub fn add_header(
+    alloc: Global,
+    source: &SourceFile,
+    found: &mut Vec<Identifier>,
+    block: Block,
+    brace: usize,
+    header: &ForHeader,
+) -> Result<(), AllocError>
+    ensures { OnOk result (Adds found.old.items found.new.items (for_sites (source_of source.now) block brace (for_view header.now))) }
+{
+    match header {
+        ForHeader::Forever => Ok(()),
+        ForHeader::While(condition) => add_expr(alloc, source, found, condition),
+        ForHeader::Clauses {
+            init,
+            first,
+            condition,
+            post,
+            ..
+        } => {
+            add_optional(alloc, source, found, block, *first, init)?;
+            add_condition(alloc, source, found, condition)?;
+            add_optional(alloc, source, found, block, brace, post)
+        }
+    }
+}

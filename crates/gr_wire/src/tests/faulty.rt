@@ -1,0 +1,77 @@
+//! The command `faults`.
+use super::writes;
+use gr_text::Limits;
+use std::alloc::Global;
+use std::test::Fail;
+
+/// Whether a put of this text as the first file is admitted, and `faults` then replies this.
+fn tells(alloc: Global, text: &str, reply: &str) -> Result<bool, Fail> {
+    let put = format!(in alloc; "put 0 a/a.go {}\n", text.len())?;
+    writes(
+        alloc,
+        Limits::FULL,
+        &[put.as_str(), text, "faults\n"],
+        &["ok 1 0\n", reply],
+    )
+}
+
+#[test]
+fn faults_of_one_file(rt: HostRuntime) -> Result<(), Fail> {
+    let alloc = rt.alloc();
+    for (text, reply) in [
+        ("package a", "ok 1 0\n"),
+        ("package a\n}", "ok 1 18\na/a.go:#10 syntax\n"),
+        (
+            "package a\n\nvar x int = 1e5\n",
+            "ok 1 18\na/a.go:#23 number\n",
+        ),
+        ("", "ok 1 17\na/a.go:#0 syntax\n"),
+        ("package a\n\0", "ok 1 20\na/a.go:#10 encoding\n"),
+        (
+            "package a\n\nvar s string = \"ab",
+            "ok 1 18\na/a.go:#26 string\n",
+        ),
+    ] {
+        assert!(rt; tells(alloc, text, reply)?, "{text}");
+    }
+    Ok(())
+}
+
+#[test]
+fn faults_of_nesting(rt: HostRuntime) -> Result<(), Fail> {
+    let alloc = rt.alloc();
+    for (count, reply) in [(200, "ok 1 20\na/a.go:#233 nesting\n"), (199, "ok 1 0\n")] {
+        let mut text = String::new(alloc);
+        text.push_str("package a\n\nfunc F() int {\n\treturn ")?;
+        for _ in 0..count {
+            text.push_str("(")?;
+        }
+        text.push_str("1")?;
+        for _ in 0..count {
+            text.push_str(")")?;
+        }
+        text.push_str("\n}\n")?;
+        assert!(rt; tells(alloc, text.as_str(), reply)?, "{count}");
+    }
+    Ok(())
+}
+
+/// Packages come in the order of their paths, so `a/c.go` before `a/b/x.go`, though its path comes after it.
+#[test]
+fn faults_by_package(rt: HostRuntime) -> Result<(), Fail> {
+    assert!(rt;
+        writes(
+            rt.alloc(),
+            Limits::FULL,
+            &[
+                "put 0 a/b/x.go 1\n)put 1 a/c.go 1\n(put 2 a/a.go 10\npackage a\nput 3 a/n.txt 1\n)",
+                "put 4 a/b.go 0\nfaults\n",
+            ],
+            &[
+                "ok 1 0\nok 2 0\nok 3 0\nok 4 0\nok 5 0\n",
+                "ok 5 53\na/b.go:#0 syntax\na/c.go:#0 syntax\na/b/x.go:#0 syntax\n",
+            ],
+        )?
+    );
+    Ok(())
+}
