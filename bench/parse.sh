@@ -1,0 +1,50 @@
+#!/usr/bin/env bash
+# Measures the parser over generated files of 20,000 and 200,000 lines: lines a second, the scan included, and the most
+# memory for each byte of source; beside Go's own parser where go is there.
+# Needs rt on the PATH, or its name in RT. The program is proved and built in a folder that is removed afterwards.
+set -euo pipefail
+
+here=$(cd "$(dirname "$0")" && pwd)
+top=$(dirname "$here")
+rt=${RT:-rt}
+
+work=$(mktemp -d)
+trap 'rm -rf "$work"' EXIT
+mkdir -p "$work/crates"
+for crate in gr_text gr_scan gr_parse; do
+  cp -a "$top/crates/$crate" "$work/crates/$crate"
+done
+cp -r "$here/crates/parse_bench" "$work/crates/parse_bench"
+grep -E '^(gr_text|gr_scan|gr_parse):' "$top/crates.txt" > "$work/crates.txt"
+echo 'parse_bench: gr_parse gr_scan gr_text' >> "$work/crates.txt"
+
+program="$work/crates/parse_bench/out/parse_bench"
+(cd "$work/crates/parse_bench" && "$rt" run > "$work/log" 2>&1) || [ -x "$program" ] || { cat "$work/log" >&2; exit 1; }
+
+best() {
+  awk -v lines="$1" '{
+    micros = $3 + $4; if (least == 0 || micros < least) least = micros
+    parsed = $5
+  } END { printf "  %s: %9.0f lines/s (parsed: %s)\n", $1, lines / (least / 1000000), parsed }'
+}
+
+for functions in 2000 20000; do
+  awk -v count="$functions" 'BEGIN {
+    printf "package generated\n"
+    for (n = 1; n <= count; n++)
+      printf "\nfunc sum%d(values []int, limit int) int {\n\ttotal := 0\n\tfor i := 0; i < len(values) && i <= limit; i++ {\n\t\tif values[i]%%2 == 0 || values[i] >= %d {\n\t\t\ttotal += values[i] * %d\n\t\t}\n\t}\n\treturn total\n}\n", n, n, n
+  }' > "$work/source.go"
+  lines=$(wc -l < "$work/source.go")
+  size=$(wc -c < "$work/source.go")
+  echo "$lines lines, $size bytes:"
+  (cd "$work" && /usr/bin/env time -f %M -o "$work/peak" "$program" 2> /dev/null || "$program") | best "$lines"
+  if [ -s "$work/peak" ]; then
+    awk -v size="$size" '{ printf "  peak memory: %.1f times the source\n", $1 * 1024 / size }' "$work/peak"
+  fi
+  if command -v go > "$work/go-path"; then
+    cp "$here/go_parse/main.go" "$work/main.go"
+    (cd "$work" && GO111MODULE=off GOCACHE="$work/go-cache" go run "$work/main.go") | best "$lines"
+  else
+    echo "  go/parser: skipped, since go is not there"
+  fi
+done
