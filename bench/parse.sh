@@ -14,7 +14,8 @@ mkdir -p "$work/crates"
 for crate in gr_text gr_scan gr_parse; do
   cp -a "$top/crates/$crate" "$work/crates/$crate"
 done
-cp -r "$here/crates/parse_bench" "$work/crates/parse_bench"
+mkdir -p "$work/crates/parse_bench/src"
+cp "$here/parse_bench.txt" "$work/crates/parse_bench/src/main.rt"
 grep -E '^(gr_text|gr_scan|gr_parse):' "$top/crates.txt" > "$work/crates.txt"
 echo 'parse_bench: gr_parse gr_scan gr_text' >> "$work/crates.txt"
 
@@ -42,7 +43,7 @@ for functions in 2000 20000; do
     awk -v size="$size" '{ printf "  peak memory: %.1f times the source\n", $1 * 1024 / size }' "$work/peak"
   fi
   if command -v go > "$work/go-path"; then
-    cp "$here/go_parse/main.go" "$work/main.go"
+    cp "$here/go_parser/main.go" "$work/main.go"
     (cd "$work" && GO111MODULE=off GOCACHE="$work/go-cache" go run "$work/main.go") | best "$lines"
   else
     echo "  go/parser: skipped, since go is not there"

@@ -18,7 +18,8 @@ mkdir -p "$work/crates"
 for crate in gr_text gr_scan; do
   cp -a "$top/crates/$crate" "$work/crates/$crate"
 done
-cp -r "$here/crates/scan_bench" "$work/crates/scan_bench"
+mkdir -p "$work/crates/scan_bench/src"
+cp "$here/scan_bench.txt" "$work/crates/scan_bench/src/main.rt"
 grep -E '^(gr_text|gr_scan):' "$top/crates.txt" > "$work/crates.txt"
 echo 'scan_bench: gr_scan gr_text' >> "$work/crates.txt"
 
@@ -49,7 +50,7 @@ program="$work/crates/scan_bench/out/scan_bench"
 
 if command -v go > "$work/go-path"; then
   echo "go/scanner:"
-  cp "$here/go/main.go" "$work/main.go"
+  cp "$here/go_scanner/main.go" "$work/main.go"
   (cd "$work" && GO111MODULE=off GOCACHE="$work/go-cache" go run "$work/main.go") | rates
 else
   echo "go/scanner: skipped, since go is not there"
