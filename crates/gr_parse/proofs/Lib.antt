@@ -29,4 +29,7 @@ pub mod StatementSteps
 pub mod SpelledDeclarations
 pub mod SpelledSimple
 pub mod SpelledStatements
+pub mod ListedSteps
+pub mod FormedParts
+pub mod FormedStatements
 pub mod WholeFile

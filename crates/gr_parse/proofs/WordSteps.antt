@@ -18,7 +18,7 @@ use Rattle.gr_parse.specs.Machine.{Run, take}
 use Rattle.gr_parse.specs.Parsing.{Read, Fails}
 use Rattle.gr_parse.specs.Flatten.{sign, step_kind, update_kind}
 use Rattle.gr_parse.specs.Spelling.{ident_spelled, basic_spelled}
-use Rattle.gr_parse.specs.Words.{step_of, update_of, set_of, either_set, plain_set, set_kind, setting_of, ident_of, basic_of}
+use Rattle.gr_parse.specs.Words.{step_of, update_of, set_of, either_set, plain_set, set_kind, setting_of, IsAllowed, ident_of, basic_of}
 use Rattle.gr_parse.proofs.MachineSteps.{refuses_one, at_end, at_token}
 
 none_some : {X : Type 0} {x : X} → None ≡ Some x → ⊥
@@ -116,6 +116,15 @@ pub set_class : (s : Setting) (k : Kind) (op : SetOp) → set_of s k ≡ Some op
 set_class setting.Plain k op e = either_class k op e
 set_class setting.Head k op e = either_class k op e
 set_class setting.Post k op e = plain_class k op e
+
+post_allowed : (k : Kind) (op : SetOp) → plain_set k ≡ Some op → IsAllowed setting.Post op
+post_allowed kind.Assign op e = subst (IsAllowed setting.Post) (some_same e) tt
+post_allowed _ op e = absurd (none_some e)
+
+pub set_allowed : (s : Setting) (k : Kind) (op : SetOp) → set_of s k ≡ Some op → IsAllowed s op
+set_allowed setting.Plain k op e = tt
+set_allowed setting.Head k op e = tt
+set_allowed setting.Post k op e = post_allowed k op e
 
 either_refused : (k : Kind) → either_set k ≡ None → sets (setting_of setting.Plain) k ≡ false
 either_refused kind.Assign e = absurd (some_none e)

@@ -10,6 +10,7 @@ pub mod View
 pub mod FileView
 pub mod Spelling
 pub mod ListSpelling
+pub mod Listed
 pub mod Parsing
 pub mod Strength
 pub mod Lookahead

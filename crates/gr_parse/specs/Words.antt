@@ -67,3 +67,8 @@ abbrev pub set_of : Setting → Kind → Option SetOp
 set_of setting.Plain k = either_set k
 set_of setting.Head k = either_set k
 set_of setting.Post k = plain_set k
+
+-- what may stand between the sides of a statement there: last in the head of a `for` no `:=`
+abbrev pub IsAllowed : Setting → SetOp → Type 0
+IsAllowed setting.Post set.Define = ⊥
+IsAllowed _ _ = Unit {0}

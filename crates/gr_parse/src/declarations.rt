@@ -1,13 +1,14 @@
 //! Declarations of packages, variables and types.
-ghost use Rattle.std.specs.Prelude.{◌≡◌, ◌∷◌, ◌++◌, []};
+ghost use Rattle.std.specs.Prelude.{◌≡◌, ◌∷◌, ◌++◌, [], IfOk};
 ghost use Rattle.gr_parse.specs.Grammar as grammar;
 ghost use Rattle.gr_parse.specs.Grammar.{A, One, is, MoreNames, GlobalValues, TypeUse, Fields};
 ghost use Rattle.gr_parse.specs.Parsing.{Parses};
 ghost use Rattle.gr_parse.specs.Flatten.{sign, tokens_if, value_tokens, basic_tokens};
-ghost use Rattle.gr_parse.specs.View.{option_view};
-ghost use Rattle.gr_parse.specs.FileView.{var_values_view};
+ghost use Rattle.gr_parse.specs.View.{option_view, list_view};
+ghost use Rattle.gr_parse.specs.FileView.{var_values_view, body_view, field_view, global_view, type_spec_view};
 ghost use Rattle.gr_parse.specs.Spelling.{import_spelled, global_spelled, type_spec_spelled, body_spelled, field_spelled};
 ghost use Rattle.gr_parse.specs.ListSpelling.{items_spelled};
+ghost use Rattle.gr_parse.specs.WellFormed.{IsList, IsOpenList, Perhaps, Any, IsGlobal, IsField, IsBody, IsTypeSpec};
 
 use crate::groups::Spec;
 use crate::names::{literals, names};
@@ -22,6 +23,8 @@ impl Spec for ImportSpec {
 
     ghost spelled = { λ x. import_spelled x };
 
+    ghost is_formed = { λ x. Any x };
+
     /// An import: a path, perhaps with a name before it.
     fn parse(alloc: Global, tokens: &[Token], depth: u32) -> Parsed<'_, ImportSpec> {
         let (name, rest) = separator(tokens, Kind::Name);
@@ -34,6 +37,8 @@ impl Spec for VarSpec {
     ghost item = { grammar.GlobalItem };
 
     ghost spelled = { λ x. global_spelled x };
+
+    ghost is_formed = { λ x. IsGlobal (global_view x) };
 
     /// Variables of a package: names, a type, perhaps values.
     fn parse(alloc: Global, tokens: &[Token], depth: u32) -> Parsed<'_, VarSpec> {
@@ -54,6 +59,8 @@ impl Spec for TypeSpec {
 
     ghost spelled = { λ x. type_spec_spelled x };
 
+    ghost is_formed = { λ x. IsTypeSpec (type_spec_view x) };
+
     /// A type definition: a name, and what it is defined as.
     fn parse(alloc: Global, tokens: &[Token], depth: u32) -> Parsed<'_, TypeSpec> {
         let (name, rest) = expect(tokens, Kind::Name, depth)?;
@@ -64,7 +71,8 @@ impl Spec for TypeSpec {
 
 /// The values of a package's variables, where there are any.
 fn var_values(alloc: Global, tokens: &[Token], depth: u32) -> Parsed<'_, Option<VarValues>>
-    ensures { Parses (A GlobalValues ∷ []) (λ x. tokens_if (value_tokens basic_tokens) (option_view var_values_view x.0)) (λ x. x.1.now) depth tokens.now result }
+    ensures exact { Parses (A GlobalValues ∷ []) (λ x. tokens_if (value_tokens basic_tokens) (option_view var_values_view x.0)) (λ x. x.1.now) depth tokens.now result }
+    ensures formed { IfOk result (λ x. Perhaps (λ v. IsList Any v.1) (option_view var_values_view x.0)) }
 {
     if !at(tokens, Kind::Assign) {
         return Ok((None, tokens));
@@ -76,7 +84,8 @@ fn var_values(alloc: Global, tokens: &[Token], depth: u32) -> Parsed<'_, Option<
 
 /// What a name is defined as.
 fn type_body(alloc: Global, tokens: &[Token], depth: u32) -> Parsed<'_, TypeBody>
-    ensures { Parses (A grammar.TypeBody ∷ []) (λ x. body_spelled x.0) (λ x. x.1.now) depth tokens.now result }
+    ensures exact { Parses (A grammar.TypeBody ∷ []) (λ x. body_spelled x.0) (λ x. x.1.now) depth tokens.now result }
+    ensures formed { IfOk result (λ x. IsBody (body_view x.0)) }
 {
     if at(tokens, Kind::Struct) {
         let (at, rest) = expect(tokens, Kind::Struct, depth)?;
@@ -96,7 +105,8 @@ fn type_body(alloc: Global, tokens: &[Token], depth: u32) -> Parsed<'_, TypeBody
 
 /// The fields of a struct, and the closing brace.
 fn fields(alloc: Global, tokens: &[Token], depth: u32) -> Parsed<'_, (Vec<Item<Field>>, usize)>
-    ensures { Parses (A Fields ∷ []) (λ x. items_spelled Kind.Semicolon field_spelled x.0.0.items ++ (sign Kind.RightBrace x.0.1 ∷ [])) (λ x. x.1.now) depth tokens.now result }
+    ensures exact { Parses (A Fields ∷ []) (λ x. items_spelled Kind.Semicolon field_spelled x.0.0.items ++ (sign Kind.RightBrace x.0.1 ∷ [])) (λ x. x.1.now) depth tokens.now result }
+    ensures formed { IfOk result (λ x. IsOpenList IsField (list_view field_view x.0.0.items)) }
 {
     let mut fields = Vec::new(alloc);
     let mut rest = tokens;
@@ -114,7 +124,8 @@ fn fields(alloc: Global, tokens: &[Token], depth: u32) -> Parsed<'_, (Vec<Item<F
 
 /// Fields of one type.
 fn field(alloc: Global, tokens: &[Token], depth: u32) -> Parsed<'_, Field>
-    ensures { Parses (One (is Kind.Name) ∷ A MoreNames ∷ A TypeUse ∷ []) (λ x. field_spelled x.0) (λ x. x.1.now) depth tokens.now result }
+    ensures exact { Parses (One (is Kind.Name) ∷ A MoreNames ∷ A TypeUse ∷ []) (λ x. field_spelled x.0) (λ x. x.1.now) depth tokens.now result }
+    ensures formed { IfOk result (λ x. IsField (field_view x.0)) }
 {
     let (names, rest) = names(alloc, tokens, depth)?;
     let (field_type, rest) = type_expr(alloc, rest, depth)?;

@@ -6,6 +6,9 @@ ghost use Rattle.gr_parse.specs.Machine.{at};
 ghost use Rattle.gr_parse.specs.Parsing.{Parses, LeadsTo};
 ghost use Rattle.gr_parse.specs.Flatten.{all_tokens};
 ghost use Rattle.gr_parse.specs.Spelling.{imports_spelled, decl_spelled, func_spelled, file_spelled};
+ghost use Rattle.std.specs.List.{All};
+ghost use Rattle.gr_parse.specs.WellFormed.{IsFunc, IsImports, IsDecl, IsFile};
+ghost use Rattle.gr_parse.specs.FileView.{imports_view, decl_view, func_view, file_view};
 
 use crate::functions::{params, receiver_if, results};
 use crate::groups::group;
@@ -17,7 +20,8 @@ use std::alloc::Global;
 
 /// A whole file.
 pub fn file(alloc: Global, tokens: &[Token], depth: u32) -> Parsed<'_, File>
-    ensures { Parses (A grammar.File ∷ []) (λ x. file_spelled x.0) (λ x. x.1.now) depth tokens.now result }
+    ensures exact { Parses (A grammar.File ∷ []) (λ x. file_spelled x.0) (λ x. x.1.now) depth tokens.now result }
+    ensures formed { IfOk result (λ x. IsFile (file_view x.0)) }
 {
     let (package, rest) = expect(tokens, Kind::Package, depth)?;
     let (name, rest) = expect(rest, Kind::Name, depth)?;
@@ -36,7 +40,8 @@ pub fn file(alloc: Global, tokens: &[Token], depth: u32) -> Parsed<'_, File>
 
 /// The imports of a file.
 fn imports(alloc: Global, tokens: &[Token], depth: u32) -> Parsed<'_, Vec<ImportDecl>>
-    ensures { LeadsTo (A Imports ∷ []) (A Tops ∷ []) (λ x. all_tokens imports_spelled x.0.items) (λ x. x.1.now) depth tokens.now result }
+    ensures exact { LeadsTo (A Imports ∷ []) (A Tops ∷ []) (λ x. all_tokens imports_spelled x.0.items) (λ x. x.1.now) depth tokens.now result }
+    ensures formed { IfOk result (λ x. All (λ i. IsImports (imports_view i)) x.0.items) }
 {
     let mut imports = Vec::new(alloc);
     let mut rest = tokens;
@@ -53,6 +58,7 @@ fn import_decl(alloc: Global, tokens: &[Token], depth: u32) -> Parsed<'_, Import
     requires { at (is Kind.Import) tokens.now ≡ true }
     ensures exact { LeadsTo (A Imports ∷ []) (A Imports ∷ []) (λ x. imports_spelled x.0) (λ x. x.1.now) depth tokens.now result }
     ensures shorter { IfOk result (λ x. length x.1.now < length tokens.now) }
+    ensures formed { IfOk result (λ x. IsImports (imports_view x.0)) }
 {
     let (at, rest) = expect(tokens, Kind::Import, depth)?;
     let (group, rest) = group::<ImportSpec>(alloc, rest, depth)?;
@@ -67,7 +73,8 @@ fn import_decl(alloc: Global, tokens: &[Token], depth: u32) -> Parsed<'_, Import
 
 /// The declarations of a file behind its imports.
 fn decls(alloc: Global, tokens: &[Token], depth: u32) -> Parsed<'_, Vec<Decl>>
-    ensures { Parses (A Tops ∷ []) (λ x. all_tokens decl_spelled x.0.items) (λ x. x.1.now) depth tokens.now result }
+    ensures exact { Parses (A Tops ∷ []) (λ x. all_tokens decl_spelled x.0.items) (λ x. x.1.now) depth tokens.now result }
+    ensures formed { IfOk result (λ x. All (λ d. IsDecl (decl_view d)) x.0.items) }
 {
     let mut decls = Vec::new(alloc);
     let mut rest = tokens;
@@ -94,6 +101,7 @@ fn decl(alloc: Global, tokens: &[Token], depth: u32) -> Parsed<'_, Decl>
     requires { at (is Kind.Var) tokens.now ≡ false → at (is Kind.TypeWord) tokens.now ≡ false → at (is Kind.Func) tokens.now ≡ true }
     ensures exact { LeadsTo (A Tops ∷ []) (A Tops ∷ []) (λ x. decl_spelled x.0) (λ x. x.1.now) depth tokens.now result }
     ensures shorter { IfOk result (λ x. length x.1.now < length tokens.now) }
+    ensures formed { IfOk result (λ x. IsDecl (decl_view x.0)) }
 {
     if at(tokens, Kind::Var) {
         return var_decl(alloc, tokens, depth);
@@ -109,6 +117,7 @@ fn var_decl(alloc: Global, tokens: &[Token], depth: u32) -> Parsed<'_, Decl>
     requires { at (is Kind.Var) tokens.now ≡ true }
     ensures exact { LeadsTo (A Tops ∷ []) (A Tops ∷ []) (λ x. decl_spelled x.0) (λ x. x.1.now) depth tokens.now result }
     ensures shorter { IfOk result (λ x. length x.1.now < length tokens.now) }
+    ensures formed { IfOk result (λ x. IsDecl (decl_view x.0)) }
 {
     let (at, rest) = expect(tokens, Kind::Var, depth)?;
     let (group, rest) = group::<VarSpec>(alloc, rest, depth)?;
@@ -127,6 +136,7 @@ fn type_decl(alloc: Global, tokens: &[Token], depth: u32) -> Parsed<'_, Decl>
     requires type_word { at (is Kind.TypeWord) tokens.now ≡ true }
     ensures exact { LeadsTo (A Tops ∷ []) (A Tops ∷ []) (λ x. decl_spelled x.0) (λ x. x.1.now) depth tokens.now result }
     ensures shorter { IfOk result (λ x. length x.1.now < length tokens.now) }
+    ensures formed { IfOk result (λ x. IsDecl (decl_view x.0)) }
 {
     let (at, rest) = expect(tokens, Kind::TypeWord, depth)?;
     let (group, rest) = group::<TypeSpec>(alloc, rest, depth)?;
@@ -146,6 +156,7 @@ fn func_decl(alloc: Global, tokens: &[Token], depth: u32) -> Parsed<'_, Decl>
     requires func { at (is Kind.Func) tokens.now ≡ true }
     ensures exact { LeadsTo (A Tops ∷ []) (A Tops ∷ []) (λ x. decl_spelled x.0) (λ x. x.1.now) depth tokens.now result }
     ensures shorter { IfOk result (λ x. length x.1.now < length tokens.now) }
+    ensures formed { IfOk result (λ x. IsDecl (decl_view x.0)) }
 {
     let (at, rest) = expect(tokens, Kind::Func, depth)?;
     let (func, rest) = func(alloc, rest, depth)?;
@@ -160,7 +171,8 @@ fn func_decl(alloc: Global, tokens: &[Token], depth: u32) -> Parsed<'_, Decl>
 
 /// A function, behind the word `func`.
 fn func(alloc: Global, tokens: &[Token], depth: u32) -> Parsed<'_, FuncDecl>
-    ensures { Parses (A FuncHead ∷ []) (λ x. func_spelled x.0) (λ x. x.1.now) depth tokens.now result }
+    ensures exact { Parses (A FuncHead ∷ []) (λ x. func_spelled x.0) (λ x. x.1.now) depth tokens.now result }
+    ensures formed { IfOk result (λ x. IsFunc (func_view x.0)) }
 {
     let (receiver, rest) = receiver_if(tokens, depth)?;
     let (name, rest) = expect(rest, Kind::Name, depth)?;

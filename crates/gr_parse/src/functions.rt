@@ -1,13 +1,14 @@
 //! The head of a function: its receiver, parameters and results.
-ghost use Rattle.std.specs.Prelude.{◌≡◌, ◌∷◌, ◌++◌, []};
+ghost use Rattle.std.specs.Prelude.{◌≡◌, ◌∷◌, ◌++◌, [], IfOk};
 ghost use Rattle.gr_parse.specs.Grammar as grammar;
 ghost use Rattle.gr_parse.specs.Grammar.{A, One, Opening, Close, is, is_ident, FuncHead, Signature, ReceiverStar, ReceiverEnd, MoreIdents, TypeUse, Params, Result, Types};
 ghost use Rattle.gr_parse.specs.Parsing.{Parses, LeadsTo};
 ghost use Rattle.gr_parse.specs.Flatten.{sign, tokens_if, receiver_tokens};
-ghost use Rattle.gr_parse.specs.View.{option_view};
-ghost use Rattle.gr_parse.specs.FileView.{receiver_view};
+ghost use Rattle.gr_parse.specs.View.{option_view, list_view, type_view};
+ghost use Rattle.gr_parse.specs.FileView.{receiver_view, param_view, results_view};
 ghost use Rattle.gr_parse.specs.Spelling.{type_spelled, receiver_spelled, param_spelled, results_spelled};
 ghost use Rattle.gr_parse.specs.ListSpelling.{items_spelled};
+ghost use Rattle.gr_parse.specs.WellFormed.{IsOpenList, Any, IsParam, IsResult};
 
 use crate::names::idents;
 use crate::syntax::{Kind, Token};
@@ -51,7 +52,8 @@ fn receiver(tokens: &[Token], depth: u32) -> Parsed<'_, Receiver>
 
 /// The parameters of a function, and the closing parenthesis.
 pub fn params(alloc: Global, tokens: &[Token], depth: u32) -> Parsed<'_, (Vec<Item<Param>>, usize)>
-    ensures { Parses (A Params ∷ []) (λ x. items_spelled Kind.Comma param_spelled x.0.0.items ++ (sign Kind.RightParen x.0.1 ∷ [])) (λ x. x.1.now) depth tokens.now result }
+    ensures exact { Parses (A Params ∷ []) (λ x. items_spelled Kind.Comma param_spelled x.0.0.items ++ (sign Kind.RightParen x.0.1 ∷ [])) (λ x. x.1.now) depth tokens.now result }
+    ensures formed { IfOk result (λ x. IsOpenList IsParam (list_view param_view x.0.0.items)) }
 {
     let mut params = Vec::new(alloc);
     let mut rest = tokens;
@@ -69,7 +71,8 @@ pub fn params(alloc: Global, tokens: &[Token], depth: u32) -> Parsed<'_, (Vec<It
 
 /// Parameters of one type.
 fn param(alloc: Global, tokens: &[Token], depth: u32) -> Parsed<'_, Param>
-    ensures { Parses (One is_ident ∷ A MoreIdents ∷ A TypeUse ∷ []) (λ x. param_spelled x.0) (λ x. x.1.now) depth tokens.now result }
+    ensures exact { Parses (One is_ident ∷ A MoreIdents ∷ A TypeUse ∷ []) (λ x. param_spelled x.0) (λ x. x.1.now) depth tokens.now result }
+    ensures formed { IfOk result (λ x. IsParam (param_view x.0)) }
 {
     let (names, rest) = idents(alloc, tokens, depth)?;
     let (param_type, rest) = type_expr(alloc, rest, depth)?;
@@ -78,7 +81,8 @@ fn param(alloc: Global, tokens: &[Token], depth: u32) -> Parsed<'_, Param>
 
 /// The results of a function.
 pub fn results(alloc: Global, tokens: &[Token], depth: u32) -> Parsed<'_, Results>
-    ensures { Parses (A Result ∷ []) (λ x. results_spelled x.0) (λ x. x.1.now) depth tokens.now result }
+    ensures exact { Parses (A Result ∷ []) (λ x. results_spelled x.0) (λ x. x.1.now) depth tokens.now result }
+    ensures formed { IfOk result (λ x. IsResult (results_view x.0)) }
 {
     if at(tokens, Kind::LeftParen) {
         let ((open, inside), rest) = open(tokens, Kind::LeftParen, depth)?;
@@ -98,7 +102,8 @@ fn result_types(
     tokens: &[Token],
     depth: u32,
 ) -> Parsed<'_, (Vec<Item<TypeExpr>>, usize)>
-    ensures { Parses (A Types ∷ []) (λ x. items_spelled Kind.Comma type_spelled x.0.0.items ++ (sign Kind.RightParen x.0.1 ∷ [])) (λ x. x.1.now) depth tokens.now result }
+    ensures exact { Parses (A Types ∷ []) (λ x. items_spelled Kind.Comma type_spelled x.0.0.items ++ (sign Kind.RightParen x.0.1 ∷ [])) (λ x. x.1.now) depth tokens.now result }
+    ensures formed { IfOk result (λ x. IsOpenList Any (list_view type_view x.0.0.items)) }
 {
     let mut types = Vec::new(alloc);
     let mut rest = tokens;

@@ -1,11 +1,13 @@
 //! Groups: one declaration, or any number of them in parentheses.
-ghost use Rattle.std.specs.Prelude.{◌≡◌, ◌∷◌, ◌++◌, [], List};
+ghost use Rattle.std.specs.Prelude.{◌≡◌, ◌∷◌, ◌++◌, [], List, IfOk};
 ghost use Rattle.gr_parse.specs.Grammar as grammar;
 ghost use Rattle.gr_parse.specs.Grammar.{A, GroupOf, Single, Items};
 ghost use Rattle.gr_parse.specs.Parsing.{Parses};
 ghost use Rattle.gr_parse.specs.Flatten.{sign};
 ghost use Rattle.gr_parse.specs.ListSpelling.{group_spelled, items_spelled};
 ghost use Rattle.gr_parse.specs.declared.syntax.Token.{Token};
+ghost use Rattle.gr_parse.specs.WellFormed.{IsOpenList, IsGroup};
+ghost use Rattle.gr_parse.specs.View.{list_view, group_view};
 
 use crate::syntax::{Kind, Token};
 use crate::take::{Parsed, at, expect, goes_on, open, separator};
@@ -18,14 +20,18 @@ pub trait Spec: Drop {
 
     ghost spelled: { Self → List Token };
 
+    ghost is_formed: { Self → Type 0 };
+
     /// One of them.
     fn parse(alloc: Global, tokens: &[Token], depth: u32) -> Parsed<'_, Self>
-        ensures { Parses (A (Single item) ∷ []) (λ x. spelled x.0) (λ x. x.1.now) depth tokens.now result };
+        ensures exact { Parses (A (Single item) ∷ []) (λ x. spelled x.0) (λ x. x.1.now) depth tokens.now result }
+        ensures formed { IfOk result (λ x. is_formed x.0) };
 }
 
 /// A group.
 pub fn group<S: Spec>(alloc: Global, tokens: &[Token], depth: u32) -> Parsed<'_, Group<S>>
-    ensures { Parses (A (GroupOf S.item) ∷ []) (λ x. group_spelled S.spelled x.0) (λ x. x.1.now) depth tokens.now result }
+    ensures exact { Parses (A (GroupOf S.item) ∷ []) (λ x. group_spelled S.spelled x.0) (λ x. x.1.now) depth tokens.now result }
+    ensures formed { IfOk result (λ x. IsGroup S.is_formed (group_view (λ y. y) x.0)) }
 {
     if at(tokens, Kind::LeftParen) {
         let ((open, inside), rest) = open(tokens, Kind::LeftParen, depth)?;
@@ -38,7 +44,8 @@ pub fn group<S: Spec>(alloc: Global, tokens: &[Token], depth: u32) -> Parsed<'_,
 
 /// What stands in the parentheses of a group, and the closing one.
 fn specs<S: Spec>(alloc: Global, tokens: &[Token], depth: u32) -> Parsed<'_, (Vec<Item<S>>, usize)>
-    ensures { Parses (A (Items S.item) ∷ []) (λ x. items_spelled Kind.Semicolon S.spelled x.0.0.items ++ (sign Kind.RightParen x.0.1 ∷ [])) (λ x. x.1.now) depth tokens.now result }
+    ensures exact { Parses (A (Items S.item) ∷ []) (λ x. items_spelled Kind.Semicolon S.spelled x.0.0.items ++ (sign Kind.RightParen x.0.1 ∷ [])) (λ x. x.1.now) depth tokens.now result }
+    ensures formed { IfOk result (λ x. IsOpenList S.is_formed (list_view (λ y. y) x.0.0.items)) }
 {
     let mut items = Vec::new(alloc);
     let mut rest = tokens;

@@ -1,12 +1,13 @@
 //! What stands between `if` or `for` and its block.
-ghost use Rattle.std.specs.Prelude.{◌≡◌, ◌∷◌, ◌++◌, []};
+ghost use Rattle.std.specs.Prelude.{◌≡◌, ◌∷◌, ◌++◌, [], IfOk, true};
 ghost use Rattle.gr_parse.specs.Grammar as grammar;
 ghost use Rattle.gr_parse.specs.Grammar.{A, IfHead, IfBody, ForHead, ForRest, ForCondition, ForPost};
 ghost use Rattle.gr_parse.specs.Parsing.{Parses, LeadsTo};
 ghost use Rattle.gr_parse.specs.Flatten.{sign, tokens_if, init_tokens, expr_tokens, simple_tokens};
 ghost use Rattle.gr_parse.specs.View.{option_view, expr_view};
-ghost use Rattle.gr_parse.specs.FileView.{init_view, simple_view};
+ghost use Rattle.gr_parse.specs.FileView.{init_view, simple_view, for_view};
 ghost use Rattle.gr_parse.specs.Spelling.{expr_spelled, for_spelled};
+ghost use Rattle.gr_parse.specs.WellFormed.{Perhaps, IsExprIn, IsInit, IsFor, IsPost};
 
 use crate::lookahead::begins_expression;
 use crate::simple::{expr, simple, simple_rest};
@@ -18,7 +19,8 @@ use std::alloc::Global;
 
 /// The condition of an `if`, and what stands before it.
 pub fn if_header(alloc: Global, tokens: &[Token], depth: u32) -> Parsed<'_, (Option<IfInit>, Expr)>
-    ensures { LeadsTo (A IfHead ∷ []) (A IfBody ∷ []) (λ x. tokens_if init_tokens (option_view init_view x.0.0) ++ expr_spelled x.0.1) (λ x. x.1.now) depth tokens.now result }
+    ensures exact { LeadsTo (A IfHead ∷ []) (A IfBody ∷ []) (λ x. tokens_if init_tokens (option_view init_view x.0.0) ++ expr_spelled x.0.1) (λ x. x.1.now) depth tokens.now result }
+    ensures formed { IfOk result (λ x. Perhaps IsInit (option_view init_view x.0.0) × IsExprIn true (expr_view x.0.1)) }
 {
     if at(tokens, Kind::Semicolon) {
         let (alone, rest) = expect(tokens, Kind::Semicolon, depth)?;
@@ -45,7 +47,8 @@ pub fn if_header(alloc: Global, tokens: &[Token], depth: u32) -> Parsed<'_, (Opt
 
 /// What stands between `for` and its block.
 pub fn for_header(alloc: Global, tokens: &[Token], depth: u32) -> Parsed<'_, ForHeader>
-    ensures { LeadsTo (A ForHead ∷ []) (A grammar.Block ∷ []) (λ x. for_spelled x.0) (λ x. x.1.now) depth tokens.now result }
+    ensures exact { LeadsTo (A ForHead ∷ []) (A grammar.Block ∷ []) (λ x. for_spelled x.0) (λ x. x.1.now) depth tokens.now result }
+    ensures formed { IfOk result (λ x. IsFor (for_view x.0)) }
 {
     if at(tokens, Kind::LeftBrace) {
         return Ok((ForHeader::Forever, tokens));
@@ -97,7 +100,8 @@ impl Clauses {
 
 /// The clauses of a `for` behind the first.
 fn for_clauses(alloc: Global, tokens: &[Token], depth: u32) -> Parsed<'_, Clauses>
-    ensures { LeadsTo (A ForRest ∷ []) (A grammar.Block ∷ []) (λ x. sign Kind.Semicolon x.0.first ∷ (tokens_if expr_tokens (option_view expr_view x.0.condition) ++ (sign Kind.Semicolon x.0.second ∷ tokens_if simple_tokens (option_view simple_view x.0.post)))) (λ x. x.1.now) depth tokens.now result }
+    ensures exact { LeadsTo (A ForRest ∷ []) (A grammar.Block ∷ []) (λ x. sign Kind.Semicolon x.0.first ∷ (tokens_if expr_tokens (option_view expr_view x.0.condition) ++ (sign Kind.Semicolon x.0.second ∷ tokens_if simple_tokens (option_view simple_view x.0.post)))) (λ x. x.1.now) depth tokens.now result }
+    ensures formed { IfOk result (λ x. Perhaps (IsExprIn true) (option_view expr_view x.0.condition) × Perhaps IsPost (option_view simple_view x.0.post)) }
 {
     let (first, rest) = expect(tokens, Kind::Semicolon, depth)?;
     let (condition, rest) = condition_if(alloc, rest, depth)?;
@@ -114,7 +118,8 @@ fn for_clauses(alloc: Global, tokens: &[Token], depth: u32) -> Parsed<'_, Clause
 
 /// The condition of a `for` with clauses, where there is one.
 fn condition_if(alloc: Global, tokens: &[Token], depth: u32) -> Parsed<'_, Option<Expr>>
-    ensures { Parses (A ForCondition ∷ []) (λ x. tokens_if expr_tokens (option_view expr_view x.0)) (λ x. x.1.now) depth tokens.now result }
+    ensures exact { Parses (A ForCondition ∷ []) (λ x. tokens_if expr_tokens (option_view expr_view x.0)) (λ x. x.1.now) depth tokens.now result }
+    ensures formed { IfOk result (λ x. Perhaps (IsExprIn true) (option_view expr_view x.0)) }
 {
     if !begins_expression(tokens) {
         return Ok((None, tokens));
@@ -125,7 +130,8 @@ fn condition_if(alloc: Global, tokens: &[Token], depth: u32) -> Parsed<'_, Optio
 
 /// The last clause of a `for`, where there is one.
 fn post_if(alloc: Global, tokens: &[Token], depth: u32) -> Parsed<'_, Option<SimpleStmt>>
-    ensures { Parses (A ForPost ∷ []) (λ x. tokens_if simple_tokens (option_view simple_view x.0)) (λ x. x.1.now) depth tokens.now result }
+    ensures exact { Parses (A ForPost ∷ []) (λ x. tokens_if simple_tokens (option_view simple_view x.0)) (λ x. x.1.now) depth tokens.now result }
+    ensures formed { IfOk result (λ x. Perhaps IsPost (option_view simple_view x.0)) }
 {
     if !begins_expression(tokens) {
         return Ok((None, tokens));

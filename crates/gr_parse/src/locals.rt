@@ -1,12 +1,14 @@
 //! Declarations of local variables.
-ghost use Rattle.std.specs.Prelude.{◌≡◌, ◌∷◌, ◌++◌, [], false};
+ghost use Rattle.std.specs.Prelude.{◌≡◌, ◌∷◌, ◌++◌, [], false, IfOk};
 ghost use Rattle.gr_parse.specs.Grammar as grammar;
 ghost use Rattle.gr_parse.specs.Grammar.{A, One, is, Expressions, LocalRest, LocalValues};
 ghost use Rattle.gr_parse.specs.Parsing.{Parses};
 ghost use Rattle.gr_parse.specs.Flatten.{tokens_if, value_tokens, type_tokens, expr_tokens};
-ghost use Rattle.gr_parse.specs.View.{option_view, type_view};
-ghost use Rattle.gr_parse.specs.FileView.{values_view};
+ghost use Rattle.gr_parse.specs.View.{option_view, type_view, exprs_view};
+ghost use Rattle.gr_parse.specs.FileView.{values_view, local_view};
 ghost use Rattle.gr_parse.specs.Spelling.{local_spelled};
+ghost use Rattle.gr_parse.specs.WellFormed.{IsList, Perhaps, IsExprIn, IsLocal};
+ghost use Rattle.gr_parse.specs.Listed.{IsToldBy};
 
 use crate::groups::Spec;
 use crate::names::idents;
@@ -22,6 +24,8 @@ impl Spec for LocalSpec {
     ghost item = { grammar.LocalItem };
 
     ghost spelled = { λ x. local_spelled x };
+
+    ghost is_formed = { λ x. IsLocal (local_view x) };
 
     /// Local variables: identifiers, and a type, values, or both.
     fn parse(alloc: Global, tokens: &[Token], depth: u32) -> Parsed<'_, LocalSpec> {
@@ -42,7 +46,8 @@ fn type_or_values(
     tokens: &[Token],
     depth: u32,
 ) -> Parsed<'_, (Option<TypeExpr>, Option<Values>)>
-    ensures { Parses (A LocalRest ∷ []) (λ x. tokens_if type_tokens (option_view type_view x.0.0) ++ tokens_if (value_tokens expr_tokens) (option_view values_view x.0.1)) (λ x. x.1.now) depth tokens.now result }
+    ensures exact { Parses (A LocalRest ∷ []) (λ x. tokens_if type_tokens (option_view type_view x.0.0) ++ tokens_if (value_tokens expr_tokens) (option_view values_view x.0.1)) (λ x. x.1.now) depth tokens.now result }
+    ensures formed { IfOk result (λ x. IsToldBy x.0.0 x.0.1) }
 {
     if at(tokens, Kind::Assign) {
         let (only_values, rest) = values(alloc, tokens, depth)?;
@@ -55,7 +60,8 @@ fn type_or_values(
 
 /// The values of local variables of which the type is written, where there are any.
 fn values_if(alloc: Global, tokens: &[Token], depth: u32) -> Parsed<'_, Option<Values>>
-    ensures { Parses (A LocalValues ∷ []) (λ x. tokens_if (value_tokens expr_tokens) (option_view values_view x.0)) (λ x. x.1.now) depth tokens.now result }
+    ensures exact { Parses (A LocalValues ∷ []) (λ x. tokens_if (value_tokens expr_tokens) (option_view values_view x.0)) (λ x. x.1.now) depth tokens.now result }
+    ensures formed { IfOk result (λ x. Perhaps (λ v. IsList (IsExprIn false) v.1) (option_view values_view x.0)) }
 {
     if !at(tokens, Kind::Assign) {
         return Ok((None, tokens));
@@ -66,7 +72,8 @@ fn values_if(alloc: Global, tokens: &[Token], depth: u32) -> Parsed<'_, Option<V
 
 /// The values of local variables.
 fn values(alloc: Global, tokens: &[Token], depth: u32) -> Parsed<'_, Values>
-    ensures { Parses (One (is Kind.Assign) ∷ A (Expressions false) ∷ []) (λ x. value_tokens expr_tokens (values_view x.0)) (λ x. x.1.now) depth tokens.now result }
+    ensures exact { Parses (One (is Kind.Assign) ∷ A (Expressions false) ∷ []) (λ x. value_tokens expr_tokens (values_view x.0)) (λ x. x.1.now) depth tokens.now result }
+    ensures formed { IfOk result (λ x. IsList (IsExprIn false) (exprs_view x.0.values.items)) }
 {
     let (assign, rest) = expect(tokens, Kind::Assign, depth)?;
     let (values, rest) = exprs(alloc, rest, depth, Setting::Plain)?;

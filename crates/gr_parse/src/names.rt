@@ -1,9 +1,12 @@
 //! Lists without brackets: names, identifiers, literals.
-ghost use Rattle.std.specs.Prelude.{◌≡◌, ◌∷◌, ◌++◌, []};
+ghost use Rattle.std.specs.Prelude.{◌≡◌, ◌∷◌, ◌++◌, [], IfOk};
 ghost use Rattle.gr_parse.specs.Grammar.{A, One, is, is_ident, is_literal, MoreNames, MoreIdents, MoreLiterals};
 ghost use Rattle.gr_parse.specs.Parsing.{Parses};
 ghost use Rattle.gr_parse.specs.Spelling.{names_spelled, idents_spelled};
 ghost use Rattle.gr_parse.specs.ListSpelling.{basics_spelled};
+ghost use Rattle.gr_parse.specs.WellFormed.{IsList, Any};
+ghost use Rattle.gr_parse.specs.View.{list_view, ident_view};
+ghost use Rattle.gr_parse.specs.FileView.{same_place, basic_view};
 
 use crate::syntax::{Kind, Token};
 use crate::take::{Parsed, expect, separator};
@@ -13,7 +16,8 @@ use std::alloc::Global;
 
 /// Names with commas between them.
 pub fn names(alloc: Global, tokens: &[Token], depth: u32) -> Parsed<'_, Vec<Item<usize>>>
-    ensures { Parses (One (is Kind.Name) ∷ A MoreNames ∷ []) (λ x. names_spelled x.0.items) (λ x. x.1.now) depth tokens.now result }
+    ensures exact { Parses (One (is Kind.Name) ∷ A MoreNames ∷ []) (λ x. names_spelled x.0.items) (λ x. x.1.now) depth tokens.now result }
+    ensures formed { IfOk result (λ x. IsList Any (list_view same_place x.0.items)) }
 {
     let mut names = Vec::new(alloc);
     let mut rest = tokens;
@@ -30,7 +34,8 @@ pub fn names(alloc: Global, tokens: &[Token], depth: u32) -> Parsed<'_, Vec<Item
 
 /// Identifiers with commas between them.
 pub fn idents(alloc: Global, tokens: &[Token], depth: u32) -> Parsed<'_, Vec<Item<Ident>>>
-    ensures { Parses (One is_ident ∷ A MoreIdents ∷ []) (λ x. idents_spelled x.0.items) (λ x. x.1.now) depth tokens.now result }
+    ensures exact { Parses (One is_ident ∷ A MoreIdents ∷ []) (λ x. idents_spelled x.0.items) (λ x. x.1.now) depth tokens.now result }
+    ensures formed { IfOk result (λ x. IsList Any (list_view ident_view x.0.items)) }
 {
     let mut idents = Vec::new(alloc);
     let mut rest = tokens;
@@ -47,7 +52,8 @@ pub fn idents(alloc: Global, tokens: &[Token], depth: u32) -> Parsed<'_, Vec<Ite
 
 /// Literals of one token, with commas between them.
 pub fn literals(alloc: Global, tokens: &[Token], depth: u32) -> Parsed<'_, Vec<Item<BasicLit>>>
-    ensures { Parses (One is_literal ∷ A MoreLiterals ∷ []) (λ x. basics_spelled x.0.items) (λ x. x.1.now) depth tokens.now result }
+    ensures exact { Parses (One is_literal ∷ A MoreLiterals ∷ []) (λ x. basics_spelled x.0.items) (λ x. x.1.now) depth tokens.now result }
+    ensures formed { IfOk result (λ x. IsList Any (list_view basic_view x.0.items)) }
 {
     let mut literals = Vec::new(alloc);
     let mut rest = tokens;

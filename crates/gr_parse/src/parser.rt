@@ -4,6 +4,8 @@ ghost use Rattle.gr_parse.specs.Kinds.{kinds_of};
 ghost use Rattle.gr_parse.specs.Parsed.{IsRefusedFor, Answers, refusal_of};
 ghost use Rattle.gr_parse.specs.Verdict.{IsWhole};
 ghost use Rattle.gr_parse.specs.Spelling.{file_spelled};
+ghost use Rattle.gr_parse.specs.FileView.{file_view};
+ghost use Rattle.gr_parse.specs.WellFormed.{IsFile, IsTreeOf};
 
 use crate::file::file;
 use crate::kinds::{kinds_of, place_of};
@@ -24,7 +26,8 @@ pub struct Tree {
 
 /// The tree of all the tokens.
 fn whole(alloc: Global, tokens: &[Token]) -> Result<File, ParseError>
-    ensures { Answers file_spelled tokens.now result }
+    ensures exact { Answers file_spelled tokens.now result }
+    ensures formed { IfOk result (λ file. IsFile (file_view file)) }
 {
     let (file, rest) = file(alloc, tokens, 0)?;
     if rest.is_empty() {
@@ -53,7 +56,7 @@ fn refusal(pieces: &Pieces, error: ParseError) -> ParseRefusal
 
 /// The syntax tree of a file. A file's fault is its first one of `syntax` or `nesting`.
 pub fn parse(alloc: Global, pieces: &Pieces) -> Result<Tree, ParseRefusal>
-    ensures tree { IfOk result (λ tree. file_spelled tree.file ≡ kinds_of pieces.now) }
+    ensures tree { IfOk result (λ tree. IsTreeOf (file_view tree.file) (kinds_of pieces.now)) }
     ensures text { IfOk result (λ tree. IsWhole (kinds_of pieces.now)) }
     ensures refused { IfErr result (IsRefusedFor pieces.now) }
 {

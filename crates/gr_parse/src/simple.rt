@@ -1,10 +1,14 @@
 //! Simple statements, and lists of expressions.
-ghost use Rattle.std.specs.Prelude.{◌≡◌, ◌∷◌, ◌++◌, [], IfOk};
+ghost use Rattle.std.specs.Prelude.{◌≡◌, ◌∷◌, ◌++◌, [], IfOk, true};
 ghost use Rattle.gr_parse.specs.Grammar.{A, One, in_head, sets, Expression, Expressions, SimpleRest};
 ghost use Rattle.gr_parse.specs.Parsing.{Parses, Continues};
 ghost use Rattle.gr_parse.specs.Flatten.{sign_if};
 ghost use Rattle.gr_parse.specs.Spelling.{expr_spelled, exprs_spelled, simple_spelled};
 ghost use Rattle.gr_parse.specs.Words.{setting_of};
+ghost use Rattle.gr_parse.specs.WellFormed.{IsList, IsExprIn};
+ghost use Rattle.gr_parse.specs.View.{expr_view, exprs_view, expr_item_view};
+ghost use Rattle.gr_parse.specs.FileView.{simple_view};
+ghost use Rattle.gr_parse.specs.Listed.{IsSimpleIn, IsListed};
 
 use crate::expressions::expression;
 use crate::syntax::{Kind, Token};
@@ -15,7 +19,8 @@ use std::alloc::{AllocError, Global};
 
 /// An expression, as it may be where a statement stands.
 pub fn expr(alloc: Global, tokens: &[Token], depth: u32, setting: Setting) -> Parsed<'_, Expr>
-    ensures { Parses (A (Expression (in_head (setting_of setting))) ∷ []) (λ x. expr_spelled x.0) (λ x. x.1.now) depth tokens.now result }
+    ensures exact { Parses (A (Expression (in_head (setting_of setting))) ∷ []) (λ x. expr_spelled x.0) (λ x. x.1.now) depth tokens.now result }
+    ensures formed { IfOk result (λ x. IsExprIn (in_head (setting_of setting)) (expr_view x.0)) }
 {
     expression(alloc, tokens, depth, in_header(setting))
 }
@@ -28,7 +33,9 @@ fn more_exprs(
     depth: u32,
     setting: Setting,
 ) -> Parsed<'_, Vec<ExprItem>>
-    ensures { Continues (A (Expressions (in_head (setting_of setting))) ∷ []) (exprs_spelled begun.items) (λ x. exprs_spelled x.0.items) (λ x. x.1.now) depth tokens.now result }
+    requires { IsListed (IsExprIn (in_head (setting_of setting))) expr_item_view true begun.items }
+    ensures exact { Continues (A (Expressions (in_head (setting_of setting))) ∷ []) (exprs_spelled begun.items) (λ x. exprs_spelled x.0.items) (λ x. x.1.now) depth tokens.now result }
+    ensures formed { IfOk result (λ x. IsList (IsExprIn (in_head (setting_of setting))) (exprs_view x.0.items)) }
 {
     let mut exprs = begun;
     let mut rest = tokens;
@@ -50,14 +57,16 @@ pub fn exprs(
     depth: u32,
     setting: Setting,
 ) -> Parsed<'_, Vec<ExprItem>>
-    ensures { Parses (A (Expressions (in_head (setting_of setting))) ∷ []) (λ x. exprs_spelled x.0.items) (λ x. x.1.now) depth tokens.now result }
+    ensures exact { Parses (A (Expressions (in_head (setting_of setting))) ∷ []) (λ x. exprs_spelled x.0.items) (λ x. x.1.now) depth tokens.now result }
+    ensures formed { IfOk result (λ x. IsList (IsExprIn (in_head (setting_of setting))) (exprs_view x.0.items)) }
 {
     more_exprs(alloc, Vec::new(alloc), tokens, depth, setting)
 }
 
 /// A list of that one expression.
 fn first_expr(alloc: Global, value: Expr, comma: Option<usize>) -> Result<Vec<ExprItem>, AllocError>
-    ensures { IfOk result (λ v. exprs_spelled v.items ≡ expr_spelled value ++ sign_if Kind.Comma comma) }
+    ensures spelled { IfOk result (λ v. exprs_spelled v.items ≡ expr_spelled value ++ sign_if Kind.Comma comma) }
+    ensures alone { IfOk result (λ v. v.items ≡ record { value = value; comma = comma } ∷ []) }
 {
     let mut exprs = Vec::new(alloc);
     exprs.push(ExprItem { value, comma })?;
@@ -71,7 +80,8 @@ pub fn simple(
     depth: u32,
     setting: Setting,
 ) -> Parsed<'_, SimpleStmt>
-    ensures { Parses (A (Expression (in_head (setting_of setting))) ∷ A (SimpleRest (setting_of setting)) ∷ []) (λ x. simple_spelled x.0) (λ x. x.1.now) depth tokens.now result }
+    ensures exact { Parses (A (Expression (in_head (setting_of setting))) ∷ A (SimpleRest (setting_of setting)) ∷ []) (λ x. simple_spelled x.0) (λ x. x.1.now) depth tokens.now result }
+    ensures formed { IfOk result (λ x. IsSimpleIn setting (simple_view x.0)) }
 {
     let (first, rest) = expr(alloc, tokens, depth, setting)?;
     simple_rest(alloc, first, rest, depth, setting)
@@ -85,7 +95,9 @@ pub fn simple_rest(
     depth: u32,
     setting: Setting,
 ) -> Parsed<'_, SimpleStmt>
-    ensures { Continues (A (SimpleRest (setting_of setting)) ∷ []) (expr_spelled first) (λ x. simple_spelled x.0) (λ x. x.1.now) depth tokens.now result }
+    requires { IsExprIn (in_head (setting_of setting)) (expr_view first) }
+    ensures exact { Continues (A (SimpleRest (setting_of setting)) ∷ []) (expr_spelled first) (λ x. simple_spelled x.0) (λ x. x.1.now) depth tokens.now result }
+    ensures formed { IfOk result (λ x. IsSimpleIn setting (simple_view x.0)) }
 {
     if at_step(tokens) {
         let ((op, at), rest) = step(tokens, depth)?;
@@ -124,7 +136,9 @@ fn assignment(
     depth: u32,
     setting: Setting,
 ) -> Parsed<'_, SimpleStmt>
-    ensures { Continues (One (sets (setting_of setting)) ∷ A (Expressions (in_head (setting_of setting))) ∷ []) (exprs_spelled left.items) (λ x. simple_spelled x.0) (λ x. x.1.now) depth tokens.now result }
+    requires { IsList (IsExprIn (in_head (setting_of setting))) (exprs_view left.items) }
+    ensures exact { Continues (One (sets (setting_of setting)) ∷ A (Expressions (in_head (setting_of setting))) ∷ []) (exprs_spelled left.items) (λ x. simple_spelled x.0) (λ x. x.1.now) depth tokens.now result }
+    ensures formed { IfOk result (λ x. IsSimpleIn setting (simple_view x.0)) }
 {
     let ((op, at), rest) = set(tokens, depth, setting)?;
     let (right, rest) = exprs(alloc, rest, depth, setting)?;

@@ -1,11 +1,15 @@
 //! Statements and blocks.
-ghost use Rattle.std.specs.Prelude.{◌≡◌, ◌∷◌, ◌++◌, [], false};
+ghost use Rattle.std.specs.Prelude.{◌≡◌, ◌∷◌, ◌++◌, [], false, IfOk};
 ghost use Rattle.gr_parse.specs.Grammar as grammar;
 ghost use Rattle.gr_parse.specs.Grammar.{A, is, IfHead, ForHead, ElsePart, Statement, ReturnValues};
 ghost use Rattle.gr_parse.specs.Machine.{at};
 ghost use Rattle.gr_parse.specs.Parsing.{Parses, Continues};
 ghost use Rattle.gr_parse.specs.Flatten.{sign};
 ghost use Rattle.gr_parse.specs.Spelling.{exprs_spelled, stmt_spelled, block_spelled, if_spelled, else_spelled};
+ghost use Rattle.gr_parse.specs.WellFormed.{IsStatement, IsBlock, IsIf, IsElse};
+ghost use Rattle.gr_parse.specs.View.{exprs_view};
+ghost use Rattle.gr_parse.specs.FileView.{stmt_view, block_view, if_view, else_view};
+ghost use Rattle.gr_parse.specs.Listed.{AreReturned};
 
 use crate::groups::group;
 use crate::headers::{for_header, if_header};
@@ -20,7 +24,8 @@ use std::alloc::Global;
 /// A brace block.
 #[cycle(statement)]
 pub fn block(alloc: Global, tokens: &[Token], depth: u32) -> Parsed<'_, Block>
-    ensures { Parses (A grammar.Block ∷ []) (λ x. block_spelled x.0) (λ x. x.1.now) depth tokens.now result }
+    ensures exact { Parses (A grammar.Block ∷ []) (λ x. block_spelled x.0) (λ x. x.1.now) depth tokens.now result }
+    ensures formed { IfOk result (λ x. IsBlock (block_view x.0)) }
 {
     let ((open, inside), start) = open(tokens, Kind::LeftBrace, depth)?;
     let mut statements = Vec::new(alloc);
@@ -48,7 +53,8 @@ pub fn block(alloc: Global, tokens: &[Token], depth: u32) -> Parsed<'_, Block>
 /// A statement.
 #[cycle(statement)]
 fn statement(alloc: Global, tokens: &[Token], depth: u32) -> Parsed<'_, Stmt>
-    ensures { Parses (A Statement ∷ []) (λ x. stmt_spelled x.0) (λ x. x.1.now) depth tokens.now result }
+    ensures exact { Parses (A Statement ∷ []) (λ x. stmt_spelled x.0) (λ x. x.1.now) depth tokens.now result }
+    ensures formed { IfOk result (λ x. IsStatement (stmt_view x.0)) }
 {
     if at(tokens, Kind::Var) {
         let (var, rest) = expect(tokens, Kind::Var, depth)?;
@@ -76,7 +82,8 @@ fn statement(alloc: Global, tokens: &[Token], depth: u32) -> Parsed<'_, Stmt>
 /// An `if` statement, of which the `if` has been read.
 #[cycle(statement)]
 fn if_stmt(alloc: Global, at: usize, tokens: &[Token], depth: u32) -> Parsed<'_, IfStmt>
-    ensures { Continues (A IfHead ∷ []) (sign Kind.If at ∷ []) (λ x. if_spelled x.0) (λ x. x.1.now) depth tokens.now result }
+    ensures exact { Continues (A IfHead ∷ []) (sign Kind.If at ∷ []) (λ x. if_spelled x.0) (λ x. x.1.now) depth tokens.now result }
+    ensures formed { IfOk result (λ x. IsIf (if_view x.0)) }
 {
     let ((init, condition), rest) = if_header(alloc, tokens, depth)?;
     let (body, rest) = block(alloc, rest, depth)?;
@@ -94,7 +101,8 @@ fn if_stmt(alloc: Global, at: usize, tokens: &[Token], depth: u32) -> Parsed<'_,
 /// What stands behind the block of an `if`.
 #[cycle(statement)]
 fn else_part(alloc: Global, tokens: &[Token], depth: u32) -> Parsed<'_, Else>
-    ensures { Parses (A ElsePart ∷ []) (λ x. else_spelled x.0) (λ x. x.1.now) depth tokens.now result }
+    ensures exact { Parses (A ElsePart ∷ []) (λ x. else_spelled x.0) (λ x. x.1.now) depth tokens.now result }
+    ensures formed { IfOk result (λ x. IsElse (else_view x.0)) }
 {
     if !at(tokens, Kind::Else) {
         return Ok((Else::None, tokens));
@@ -116,7 +124,8 @@ fn plain_statement(alloc: Global, tokens: &[Token], depth: u32) -> Parsed<'_, St
     requires block { at (is Kind.LeftBrace) tokens.now ≡ false }
     requires branch { at (is Kind.If) tokens.now ≡ false }
     requires loops { at (is Kind.For) tokens.now ≡ false }
-    ensures { Parses (A Statement ∷ []) (λ x. stmt_spelled x.0) (λ x. x.1.now) depth tokens.now result }
+    ensures exact { Parses (A Statement ∷ []) (λ x. stmt_spelled x.0) (λ x. x.1.now) depth tokens.now result }
+    ensures formed { IfOk result (λ x. IsStatement (stmt_view x.0)) }
 {
     if at(tokens, Kind::Break) {
         let (at, rest) = expect(tokens, Kind::Break, depth)?;
@@ -140,7 +149,8 @@ fn plain_statement(alloc: Global, tokens: &[Token], depth: u32) -> Parsed<'_, St
 
 /// The values behind a `return`, where there are any.
 fn return_values(alloc: Global, tokens: &[Token], depth: u32) -> Parsed<'_, Vec<ExprItem>>
-    ensures { Parses (A ReturnValues ∷ []) (λ x. exprs_spelled x.0.items) (λ x. x.1.now) depth tokens.now result }
+    ensures exact { Parses (A ReturnValues ∷ []) (λ x. exprs_spelled x.0.items) (λ x. x.1.now) depth tokens.now result }
+    ensures formed { IfOk result (λ x. AreReturned (exprs_view x.0.items)) }
 {
     if !begins_expression(tokens) {
         return Ok((Vec::new(alloc), tokens));

@@ -1,11 +1,11 @@
 //! Tokens of which the grammar takes several kinds: identifiers, literals, the operators of statements.
-ghost use Rattle.std.specs.Prelude.{◌≡◌, ◌∷◌, ◌++◌, []};
+ghost use Rattle.std.specs.Prelude.{◌≡◌, ◌∷◌, ◌++◌, [], IfOk};
 ghost use Rattle.gr_parse.specs.Grammar.{One, is_ident, is_literal, is_step, is_update, sets, in_head, begins_type};
 ghost use Rattle.gr_parse.specs.Machine.{at};
 ghost use Rattle.gr_parse.specs.Parsing.{Parses};
 ghost use Rattle.gr_parse.specs.Flatten.{sign, step_kind, update_kind};
 ghost use Rattle.gr_parse.specs.Spelling.{ident_spelled, basic_spelled};
-ghost use Rattle.gr_parse.specs.Words.{step_of, update_of, set_of, set_kind, setting_of, ident_of, basic_of};
+ghost use Rattle.gr_parse.specs.Words.{step_of, update_of, set_of, set_kind, setting_of, IsAllowed, ident_of, basic_of};
 
 use crate::syntax::{Kind, StepOp, Token, UpdateOp};
 use crate::take::{Parsed, misplaced, next};
@@ -174,7 +174,8 @@ fn set_op(kind: Kind, setting: Setting) -> Option<SetOp>
 
 /// A `=` or `:=`, and its place.
 pub fn set(tokens: &[Token], depth: u32, setting: Setting) -> Parsed<'_, (SetOp, usize)>
-    ensures { Parses (One (sets (setting_of setting)) ∷ []) (λ x. sign (set_kind x.0.0) x.0.1 ∷ []) (λ x. x.1.now) depth tokens.now result }
+    ensures allowed { IfOk result (λ x. IsAllowed setting x.0.0) }
+    ensures exact { Parses (One (sets (setting_of setting)) ∷ []) (λ x. sign (set_kind x.0.0) x.0.1 ∷ []) (λ x. x.1.now) depth tokens.now result }
 {
     let Some((first, rest)) = next(tokens) else {
         return Err(misplaced(tokens));

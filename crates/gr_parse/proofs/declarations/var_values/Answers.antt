@@ -3,16 +3,22 @@ use Rattle.gr_parse.specs.Machine.{first, last, later}
 use Rattle.gr_parse.proofs.MachineSteps.{exits, fails_first, fails_later, fails_rule, read_end, read_rule, read_then}
 use Rattle.gr_parse.proofs.declarations.var_values.Goals as goal
 
-pub returns-then-not-at : goal.returns-then-not-at
-returns-then-not-at c = read_rule (later (sym c.at.ensures ∙ c.if-not-at.true) last) read_end
+pub returns-then-not-at-clause-exact : goal.returns-then-not-at-clause-exact
+returns-then-not-at-clause-exact c = read_rule (later (sym c.at.ensures ∙ c.if-not-at.true) last) read_end
 
-pub returns-in_err-assign : goal.returns-in_err-assign
-returns-in_err-assign c = exits _ _ _ _ c.in_err-assign.field-0.0 c.from_residual.result c.from_residual.ensures.1
+pub returns-in_err-assign-clause-exact : goal.returns-in_err-assign-clause-exact
+returns-in_err-assign-clause-exact c = exits _ _ _ _ c.in_err-assign.field-0.0 c.from_residual.result c.from_residual.ensures.1
     (fails_rule (first (sym c.at.ensures ∙ c.if-not-at.false)) (fails_first c.in_err-assign.ensures))
 
-pub returns-in_err-values : goal.returns-in_err-values
-returns-in_err-values c = exits _ _ _ _ c.in_err-values.field-0.0 c.from_residual-in_err-values.result c.from_residual-in_err-values.ensures.1
-    (fails_rule (first (sym c.at.ensures ∙ c.if-not-at.false)) (fails_later c.in_ok-assign.ensures c.in_err-values.ensures))
+pub returns-in_err-values-clause-exact : goal.returns-in_err-values-clause-exact
+returns-in_err-values-clause-exact c = exits _ _ _ _ c.in_err-values.field-0.0 c.from_residual-in_err-values.result c.from_residual-in_err-values.ensures.1
+    (fails_rule (first (sym c.at.ensures ∙ c.if-not-at.false)) (fails_later c.in_ok-assign.ensures c.in_err-values.ensures.exact))
 
-pub returns : goal.returns
-returns c = read_rule (first (sym c.at.ensures ∙ c.if-not-at.false)) (read_then c.in_ok-assign.ensures c.in_ok-values.ensures)
+pub returns-clause-exact : goal.returns-clause-exact
+returns-clause-exact c = read_rule (first (sym c.at.ensures ∙ c.if-not-at.false)) (read_then c.in_ok-assign.ensures c.in_ok-values.ensures.exact)
+
+pub returns-then-not-at-clause-formed : goal.returns-then-not-at-clause-formed
+returns-then-not-at-clause-formed c = tt
+
+pub returns-clause-formed : goal.returns-clause-formed
+returns-clause-formed c = c.in_ok-values.ensures.formed

@@ -3,10 +3,16 @@ use Rattle.gr_parse.specs.Grammar.{A, Tops}
 use Rattle.gr_parse.specs.Parsing.{Leads}
 use Rattle.gr_parse.specs.Flatten.{all_tokens}
 use Rattle.gr_parse.specs.Spelling.{decl_spelled}
+use Rattle.std.specs.List.{All}
+use Rattle.gr_parse.specs.WellFormed.{IsDecl}
+use Rattle.gr_parse.specs.FileView.{decl_view}
 use Rattle.gr_parse.proofs.file.decls.Given as goal
 
 abbrev pub invariant-decls : goal.invariant-decls
-invariant-decls l = Leads (A Tops ∷ []) (A Tops ∷ []) (all_tokens decl_spelled l.decls.items) l.depth l.fn.tokens l.depth l.rest
+invariant-decls l = record {
+  leads : Leads (A Tops ∷ []) (A Tops ∷ []) (all_tokens decl_spelled l.decls.items) l.depth l.fn.tokens l.depth l.rest;
+  formed : All (λ d. IsDecl (decl_view d)) l.decls.items;
+}
 
 abbrev pub decreases-decls : goal.decreases-decls
 decreases-decls l = length l.rest

@@ -3,10 +3,16 @@ use Rattle.gr_parse.specs.Grammar.{A, Imports}
 use Rattle.gr_parse.specs.Parsing.{Leads}
 use Rattle.gr_parse.specs.Flatten.{all_tokens}
 use Rattle.gr_parse.specs.Spelling.{imports_spelled}
+use Rattle.std.specs.List.{All}
+use Rattle.gr_parse.specs.WellFormed.{IsImports}
+use Rattle.gr_parse.specs.FileView.{imports_view}
 use Rattle.gr_parse.proofs.file.imports.Given as goal
 
 abbrev pub invariant-imports : goal.invariant-imports
-invariant-imports l = Leads (A Imports ∷ []) (A Imports ∷ []) (all_tokens imports_spelled l.imports.items) l.depth l.fn.tokens l.depth l.rest
+invariant-imports l = record {
+  leads : Leads (A Imports ∷ []) (A Imports ∷ []) (all_tokens imports_spelled l.imports.items) l.depth l.fn.tokens l.depth l.rest;
+  formed : All (λ i. IsImports (imports_view i)) l.imports.items;
+}
 
 abbrev pub decreases-imports : goal.decreases-imports
 decreases-imports l = length l.rest

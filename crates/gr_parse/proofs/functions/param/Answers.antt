@@ -3,15 +3,19 @@ use Rattle.gr_parse.specs.Grammar.{A, TypeUse}
 use Rattle.gr_parse.proofs.MachineSteps.{exits, read_as}
 use Rattle.gr_parse.proofs.StatementSteps.{fails_in, fails_on, read_on}
 use Rattle.gr_parse.proofs.SpelledDeclarations.{param_spelled_as}
+use Rattle.gr_parse.proofs.FormedParts.{param_formed}
 use Rattle.gr_parse.proofs.functions.param.Goals as goal
 
-pub returns-in_err-names : goal.returns-in_err-names
-returns-in_err-names c = exits _ _ _ _ c.in_err-names.field-0.0 c.from_residual.result c.from_residual.ensures.1
-    (fails_in (A TypeUse ∷ []) c.in_err-names.ensures)
+pub returns-in_err-names-clause-exact : goal.returns-in_err-names-clause-exact
+returns-in_err-names-clause-exact c = exits _ _ _ _ c.in_err-names.field-0.0 c.from_residual.result c.from_residual.ensures.1
+    (fails_in (A TypeUse ∷ []) c.in_err-names.ensures.exact)
 
-pub returns-in_err-param_type : goal.returns-in_err-param_type
-returns-in_err-param_type c = exits _ _ _ _ c.in_err-param_type.field-0.0 c.from_residual-in_err-param_type.result c.from_residual-in_err-param_type.ensures.1
-    (fails_on c.in_ok-names.ensures c.in_err-param_type.ensures)
+pub returns-in_err-param_type-clause-exact : goal.returns-in_err-param_type-clause-exact
+returns-in_err-param_type-clause-exact c = exits _ _ _ _ c.in_err-param_type.field-0.0 c.from_residual-in_err-param_type.result c.from_residual-in_err-param_type.ensures.1
+    (fails_on c.in_ok-names.ensures.exact c.in_err-param_type.ensures)
 
-pub returns : goal.returns
-returns c = read_as (read_on c.in_ok-names.ensures c.in_ok-param_type.ensures) (sym (param_spelled_as _))
+pub returns-clause-exact : goal.returns-clause-exact
+returns-clause-exact c = read_as (read_on c.in_ok-names.ensures.exact c.in_ok-param_type.ensures) (sym (param_spelled_as _))
+
+pub returns-clause-formed : goal.returns-clause-formed
+returns-clause-formed c = param_formed _ c.in_ok-names.ensures.formed

@@ -3,12 +3,18 @@ use Rattle.gr_parse.specs.Machine.{first, last, later}
 use Rattle.gr_parse.proofs.MachineSteps.{exits, fails_rule, read_end, read_rule}
 use Rattle.gr_parse.proofs.headers.condition_if.Goals as goal
 
-pub returns-then-not-begins_expression : goal.returns-then-not-begins_expression
-returns-then-not-begins_expression c = read_rule (later (sym c.begins_expression.ensures ∙ c.if-not-begins_expression.true) last) read_end
+pub returns-then-not-begins_expression-clause-exact : goal.returns-then-not-begins_expression-clause-exact
+returns-then-not-begins_expression-clause-exact c = read_rule (later (sym c.begins_expression.ensures ∙ c.if-not-begins_expression.true) last) read_end
 
-pub returns-in_err-condition : goal.returns-in_err-condition
-returns-in_err-condition c = exits _ _ _ _ c.in_err-condition.field-0.0 c.from_residual.result c.from_residual.ensures.1
-    (fails_rule (first (sym c.begins_expression.ensures ∙ c.if-not-begins_expression.false)) c.in_err-condition.ensures)
+pub returns-in_err-condition-clause-exact : goal.returns-in_err-condition-clause-exact
+returns-in_err-condition-clause-exact c = exits _ _ _ _ c.in_err-condition.field-0.0 c.from_residual.result c.from_residual.ensures.1
+    (fails_rule (first (sym c.begins_expression.ensures ∙ c.if-not-begins_expression.false)) c.in_err-condition.ensures.exact)
 
-pub returns : goal.returns
-returns c = read_rule (first (sym c.begins_expression.ensures ∙ c.if-not-begins_expression.false)) c.in_ok-condition.ensures
+pub returns-clause-exact : goal.returns-clause-exact
+returns-clause-exact c = read_rule (first (sym c.begins_expression.ensures ∙ c.if-not-begins_expression.false)) c.in_ok-condition.ensures.exact
+
+pub returns-then-not-begins_expression-clause-formed : goal.returns-then-not-begins_expression-clause-formed
+returns-then-not-begins_expression-clause-formed c = tt
+
+pub returns-clause-formed : goal.returns-clause-formed
+returns-clause-formed c = c.in_ok-condition.ensures.formed

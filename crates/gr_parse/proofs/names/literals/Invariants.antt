@@ -5,11 +5,18 @@ use Rattle.gr_parse.specs.ListSpelling.{item_spelled}
 use Rattle.gr_parse.specs.Spelling.{basic_spelled}
 use Rattle.gr_parse.specs.Flatten.{all_tokens}
 use Rattle.gr_parse.specs.Parsing.{Leads, items_rest}
+use Rattle.gr_parse.specs.Listed.{IsListed}
+use Rattle.gr_parse.specs.View.{item_view}
+use Rattle.gr_parse.specs.FileView.{basic_view}
+use Rattle.gr_parse.specs.WellFormed.{Any}
 use Rattle.gr_parse.proofs.StatementSteps.{flag}
 use Rattle.gr_parse.proofs.names.literals.Given as goal
 
 abbrev pub invariant-literals : goal.invariant-literals
-invariant-literals l = Leads (One is_literal ∷ A MoreLiterals ∷ []) (items_rest (One is_literal ∷ A MoreLiterals ∷ []) l.more) (all_tokens (item_spelled kind.Comma basic_spelled) l.literals.items) l.depth l.fn.tokens l.depth l.rest
+invariant-literals l = record {
+  leads : Leads (One is_literal ∷ A MoreLiterals ∷ []) (items_rest (One is_literal ∷ A MoreLiterals ∷ []) l.more) (all_tokens (item_spelled kind.Comma basic_spelled) l.literals.items) l.depth l.fn.tokens l.depth l.rest;
+  formed : IsListed (λ x. Any x) (item_view basic_view) l.more l.literals.items;
+}
 
 abbrev pub decreases-literals : goal.decreases-literals
 decreases-literals l = length l.rest + flag l.more

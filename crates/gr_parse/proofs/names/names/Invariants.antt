@@ -5,11 +5,18 @@ use Rattle.gr_parse.specs.ListSpelling.{item_spelled}
 use Rattle.gr_parse.specs.Flatten.{name_tokens}
 use Rattle.gr_parse.specs.Flatten.{all_tokens}
 use Rattle.gr_parse.specs.Parsing.{Leads, items_rest}
+use Rattle.gr_parse.specs.Listed.{IsListed}
+use Rattle.gr_parse.specs.View.{item_view}
+use Rattle.gr_parse.specs.FileView.{same_place}
+use Rattle.gr_parse.specs.WellFormed.{Any}
 use Rattle.gr_parse.proofs.StatementSteps.{flag}
 use Rattle.gr_parse.proofs.names.names.Given as goal
 
 abbrev pub invariant-names : goal.invariant-names
-invariant-names l = Leads (One (is kind.Name) ∷ A MoreNames ∷ []) (items_rest (One (is kind.Name) ∷ A MoreNames ∷ []) l.more) (all_tokens (item_spelled kind.Comma name_tokens) l.names.items) l.depth l.fn.tokens l.depth l.rest
+invariant-names l = record {
+  leads : Leads (One (is kind.Name) ∷ A MoreNames ∷ []) (items_rest (One (is kind.Name) ∷ A MoreNames ∷ []) l.more) (all_tokens (item_spelled kind.Comma name_tokens) l.names.items) l.depth l.fn.tokens l.depth l.rest;
+  formed : IsListed (λ x. Any x) (item_view same_place) l.more l.names.items;
+}
 
 abbrev pub decreases-names : goal.decreases-names
 decreases-names l = length l.rest + flag l.more

@@ -1,9 +1,15 @@
 use Rattle.std.proofs.Common.{◌∷◌, []}
 use Rattle.gr_parse.specs.Grammar.{A, Expression}
+use Rattle.gr_parse.specs.View.{expr_view}
 use Rattle.gr_parse.specs.Spelling.{expr_spelled}
 use Rattle.std.proofs.Common.{subst}
+use Rattle.std.specs.Result.{IfOk}
+use Rattle.gr_parse.specs.WellFormed.{IsExprIn}
 use Rattle.gr_parse.specs.Parsing.{Parses}
 use Rattle.gr_parse.proofs.simple.expr.Goals as goal
 
-pub returns : goal.returns
-returns c = subst (λ h. Parses (A (Expression h) ∷ []) (λ x. expr_spelled x.0) (λ x. x.1.now) c.args.depth c.args.tokens.now c.expression.result) c.in_header.ensures c.expression.ensures.exact
+pub returns-clause-exact : goal.returns-clause-exact
+returns-clause-exact c = subst (λ h. Parses (A (Expression h) ∷ []) (λ x. expr_spelled x.0) (λ x. x.1.now) c.args.depth c.args.tokens.now c.expression.result) c.in_header.ensures c.expression.ensures.exact
+
+pub returns-clause-formed : goal.returns-clause-formed
+returns-clause-formed c = subst (λ h. IfOk c.expression.result (λ x. IsExprIn h (expr_view x.0))) c.in_header.ensures c.expression.ensures.grouped

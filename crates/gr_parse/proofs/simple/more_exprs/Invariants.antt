@@ -3,12 +3,18 @@ use Rattle.gr_parse.specs.Grammar.{A, Expression, MoreExpressions, in_head}
 use Rattle.gr_parse.specs.Parsing.{items_rest}
 use Rattle.gr_parse.specs.Spelling.{exprs_spelled}
 use Rattle.gr_parse.specs.Words.{setting_of}
+use Rattle.gr_parse.specs.Listed.{IsListed}
+use Rattle.gr_parse.specs.View.{expr_item_view}
+use Rattle.gr_parse.specs.WellFormed.{IsExprIn}
 use Rattle.gr_parse.proofs.StatementSteps.{flag, LeadsFrom}
 use Rattle.gr_parse.proofs.simple.more_exprs.Given as goal
 
 abbrev pub invariant-exprs : goal.invariant-exprs
-invariant-exprs l = LeadsFrom (exprs_spelled l.fn.begun.items) (A (Expression (in_head (setting_of l.setting))) ∷ A (MoreExpressions (in_head (setting_of l.setting))) ∷ [])
-    (items_rest (A (Expression (in_head (setting_of l.setting))) ∷ A (MoreExpressions (in_head (setting_of l.setting))) ∷ []) l.more) (exprs_spelled l.exprs.items) l.depth l.fn.tokens l.depth l.rest
+invariant-exprs l = record {
+  leads : LeadsFrom (exprs_spelled l.fn.begun.items) (A (Expression (in_head (setting_of l.setting))) ∷ A (MoreExpressions (in_head (setting_of l.setting))) ∷ [])
+      (items_rest (A (Expression (in_head (setting_of l.setting))) ∷ A (MoreExpressions (in_head (setting_of l.setting))) ∷ []) l.more) (exprs_spelled l.exprs.items) l.depth l.fn.tokens l.depth l.rest;
+  formed : IsListed (IsExprIn (in_head (setting_of l.setting))) expr_item_view l.more l.exprs.items;
+}
 
 abbrev pub decreases-exprs : goal.decreases-exprs
 decreases-exprs l = length l.rest + flag l.more

@@ -5,9 +5,15 @@ use Rattle.gr_parse.proofs.MachineSteps.{exits, fails_first}
 use Rattle.gr_parse.proofs.StatementSteps.{then_continues}
 use Rattle.gr_parse.proofs.simple.simple.Goals as goal
 
-pub returns-in_err-first : goal.returns-in_err-first
-returns-in_err-first c = exits _ _ _ _ c.in_err-first.field-0.0 c.from_residual.result c.from_residual.ensures.1
-    (fails_first c.in_err-first.ensures)
+pub returns-in_err-first-clause-exact : goal.returns-in_err-first-clause-exact
+returns-in_err-first-clause-exact c = exits _ _ _ _ c.in_err-first.field-0.0 c.from_residual.result c.from_residual.ensures.1
+    (fails_first c.in_err-first.ensures.exact)
 
-pub returns : goal.returns
-returns c = then_continues (A (Expression (in_head (setting_of c.args.setting))) ∷ []) (A (SimpleRest (setting_of c.args.setting)) ∷ []) _ _ _ _ _ _ c.simple_rest.result c.in_ok-first.ensures c.simple_rest.ensures
+pub returns-clause-exact : goal.returns-clause-exact
+returns-clause-exact c = then_continues (A (Expression (in_head (setting_of c.args.setting))) ∷ []) (A (SimpleRest (setting_of c.args.setting)) ∷ []) _ _ _ _ _ _ c.simple_rest.result c.in_ok-first.ensures.exact c.simple_rest.ensures.exact
+
+pub simple_rest-requires : goal.simple_rest-requires
+simple_rest-requires c = c.in_ok-first.ensures.formed
+
+pub returns-clause-formed : goal.returns-clause-formed
+returns-clause-formed c = c.simple_rest.ensures.formed

@@ -3,7 +3,10 @@ use Rattle.gr_parse.specs.Grammar.{A, Statement, MoreStatements}
 use Rattle.gr_parse.specs.Parsing.{Leads, items_rest}
 use Rattle.gr_parse.specs.Flatten.{all_tokens}
 use Rattle.gr_parse.specs.Spelling.{block_item_spelled}
+use Rattle.gr_parse.specs.WellFormed.{IsStatement}
+use Rattle.gr_parse.specs.Listed.{IsListed}
 use Rattle.gr_parse.proofs.StatementSteps.{flag}
+use Rattle.gr_parse.proofs.FormedStatements.{block_item_view}
 use Rattle.gr_parse.proofs.statements.+statement.Given as goal
 
 abbrev pub decreases-block : goal.decreases-block
@@ -22,6 +25,7 @@ abbrev pub invariant-block-statements : goal.invariant-block-statements
 invariant-block-statements l = record {
   leads : Leads (A Statement ∷ A MoreStatements ∷ []) (items_rest (A Statement ∷ A MoreStatements ∷ []) l.more) (all_tokens block_item_spelled l.statements.items) l.inside l.initial.rest l.inside l.rest;
   shorter : length l.rest < length l.fn.tokens;
+  formed : IsListed IsStatement block_item_view l.more l.statements.items;
 }
 
 abbrev pub decreases-block-statements : goal.decreases-block-statements

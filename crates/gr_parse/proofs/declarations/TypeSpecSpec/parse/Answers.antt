@@ -2,15 +2,19 @@ use Rattle.std.proofs.Common.{sym}
 use Rattle.gr_parse.specs.Machine.{last}
 use Rattle.gr_parse.proofs.MachineSteps.{exits, fails_first, fails_later, fails_rule, read_as, read_rule, read_then}
 use Rattle.gr_parse.proofs.SpelledDeclarations.{type_spec_spelled_as}
+use Rattle.gr_parse.proofs.FormedParts.{type_spec_formed}
 use Rattle.gr_parse.proofs.declarations.TypeSpecSpec.parse.Goals as goal
 
-pub returns-in_err-name : goal.returns-in_err-name
-returns-in_err-name c = exits _ _ _ _ c.in_err-name.field-0.0 c.from_residual.result c.from_residual.ensures.1
+pub returns-in_err-name-clause-exact : goal.returns-in_err-name-clause-exact
+returns-in_err-name-clause-exact c = exits _ _ _ _ c.in_err-name.field-0.0 c.from_residual.result c.from_residual.ensures.1
     (fails_rule last (fails_first c.in_err-name.ensures))
 
-pub returns-in_err-body : goal.returns-in_err-body
-returns-in_err-body c = exits _ _ _ _ c.in_err-body.field-0.0 c.from_residual-in_err-body.result c.from_residual-in_err-body.ensures.1
-    (fails_rule last (fails_later c.in_ok-name.ensures c.in_err-body.ensures))
+pub returns-in_err-body-clause-exact : goal.returns-in_err-body-clause-exact
+returns-in_err-body-clause-exact c = exits _ _ _ _ c.in_err-body.field-0.0 c.from_residual-in_err-body.result c.from_residual-in_err-body.ensures.1
+    (fails_rule last (fails_later c.in_ok-name.ensures c.in_err-body.ensures.exact))
 
-pub returns : goal.returns
-returns c = read_as (read_rule last (read_then c.in_ok-name.ensures c.in_ok-body.ensures)) (sym (type_spec_spelled_as _))
+pub returns-clause-exact : goal.returns-clause-exact
+returns-clause-exact c = read_as (read_rule last (read_then c.in_ok-name.ensures c.in_ok-body.ensures.exact)) (sym (type_spec_spelled_as _))
+
+pub returns-clause-formed : goal.returns-clause-formed
+returns-clause-formed c = type_spec_formed _ c.in_ok-body.ensures.formed

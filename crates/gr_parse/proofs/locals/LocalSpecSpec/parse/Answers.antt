@@ -3,16 +3,20 @@ use Rattle.gr_parse.specs.Grammar.{A, LocalRest}
 use Rattle.gr_parse.specs.Machine.{last}
 use Rattle.gr_parse.proofs.MachineSteps.{exits, fails_rule, read_as, read_rule}
 use Rattle.gr_parse.proofs.StatementSteps.{fails_in, fails_on, read_on}
+use Rattle.gr_parse.proofs.FormedParts.{local_formed}
 use Rattle.gr_parse.proofs.SpelledSimple.{local_spelled_as}
 use Rattle.gr_parse.proofs.locals.LocalSpecSpec.parse.Goals as goal
 
-pub returns-in_err-names : goal.returns-in_err-names
-returns-in_err-names c = exits _ _ _ _ c.in_err-names.field-0.0 c.from_residual.result c.from_residual.ensures.1
-    (fails_rule last (fails_in (A LocalRest ∷ []) c.in_err-names.ensures))
+pub returns-in_err-names-clause-exact : goal.returns-in_err-names-clause-exact
+returns-in_err-names-clause-exact c = exits _ _ _ _ c.in_err-names.field-0.0 c.from_residual.result c.from_residual.ensures.1
+    (fails_rule last (fails_in (A LocalRest ∷ []) c.in_err-names.ensures.exact))
 
-pub returns-in_err-local_type : goal.returns-in_err-local_type
-returns-in_err-local_type c = exits _ _ _ _ c.in_err-local_type.field-0.0 c.from_residual-in_err-local_type.result c.from_residual-in_err-local_type.ensures.1
-    (fails_rule last (fails_on c.in_ok-names.ensures c.in_err-local_type.ensures))
+pub returns-in_err-local_type-clause-exact : goal.returns-in_err-local_type-clause-exact
+returns-in_err-local_type-clause-exact c = exits _ _ _ _ c.in_err-local_type.field-0.0 c.from_residual-in_err-local_type.result c.from_residual-in_err-local_type.ensures.1
+    (fails_rule last (fails_on c.in_ok-names.ensures.exact c.in_err-local_type.ensures.exact))
 
-pub returns : goal.returns
-returns c = read_as (read_rule last (read_on c.in_ok-names.ensures c.in_ok-local_type.ensures)) (sym (local_spelled_as _))
+pub returns-clause-exact : goal.returns-clause-exact
+returns-clause-exact c = read_as (read_rule last (read_on c.in_ok-names.ensures.exact c.in_ok-local_type.ensures.exact)) (sym (local_spelled_as _))
+
+pub returns-clause-formed : goal.returns-clause-formed
+returns-clause-formed c = local_formed _ c.in_ok-names.ensures.formed c.in_ok-local_type.ensures.formed
