@@ -1,3 +1,4 @@
+-- The lemmas of this crate.
 pub mod KindTests
 pub mod Tables
 pub mod Predictive

@@ -1,3 +1,4 @@
+-- The definitions of this crate.
 pub mod Grammar
 pub mod Machine
 pub mod Language

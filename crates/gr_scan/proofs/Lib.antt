@@ -1,3 +1,4 @@
+-- The lemmas of this crate.
 pub mod WordLemmas
 pub mod IntegerLemmas
 pub mod CutLemmas

@@ -1,3 +1,4 @@
+-- The definitions of this crate.
 pub mod Characters
 pub mod Words
 pub mod Integers

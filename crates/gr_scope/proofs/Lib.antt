@@ -1,3 +1,4 @@
+-- The lemmas of this crate.
 pub mod Nesting
 pub mod Innermost
 pub mod Uniqueness

@@ -1,3 +1,4 @@
+-- The definitions of this crate.
 pub mod Scopes
 pub mod Bindings
 pub mod WellFormed

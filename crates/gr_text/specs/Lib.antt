@@ -1,3 +1,4 @@
+-- The definitions of this crate.
 pub mod FaultNames
 pub mod Path
 pub mod PathRead

@@ -1,3 +1,4 @@
+-- The lemmas of this crate.
 pub mod Exchanges
 pub mod Steps
 pub mod Served

@@ -1,3 +1,4 @@
+-- The definitions of this crate.
 pub mod Failures
 pub mod Faults
 pub mod Last

@@ -1,3 +1,4 @@
+-- The answers to the goals of `laws::numbers_are_used_once`.
 use Rattle.gr_book.proofs.NumberLaws.{numbers_rise, numbers_are_new}
 use Rattle.gr_book.proofs.laws.numbers_are_used_once.Goals as goal
 

@@ -1,3 +1,4 @@
+-- The answers to the goals of `acting::act`.
 use Rattle.std.proofs.Common.{rules, inr}
 use Rattle.gr_book.specs.declared.event.Reply.TheVariants.{Looked}
 use Rattle.gr_desk.proofs.acting.act.Goals as goal

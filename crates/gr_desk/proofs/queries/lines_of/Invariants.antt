@@ -1,3 +1,4 @@
+-- The invariants of the loops of `queries::lines_of`.
 use Rattle.std.proofs.Common.{◌≡◌, take}
 use Rattle.gr_desk.specs.Queries.{fault_lines}
 use Rattle.gr_desk.proofs.queries.lines_of.Given as goal

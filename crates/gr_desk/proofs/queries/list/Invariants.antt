@@ -1,3 +1,4 @@
+-- The invariants of the loops of `queries::list`.
 use Rattle.std.proofs.Common.{◌≡◌, ◌++◌}
 use Rattle.std.specs.List.{flat_map}
 use Rattle.gr_desk.specs.Queries.{file_line, listing}

@@ -1,3 +1,4 @@
+-- The answers to the goals of `declarations::field`.
 use Rattle.std.proofs.Common.{◌∷◌, [], sym}
 use Rattle.gr_parse.specs.Grammar.{A, TypeUse}
 use Rattle.gr_parse.proofs.MachineSteps.{exits, read_as}

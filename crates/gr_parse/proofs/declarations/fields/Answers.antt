@@ -1,3 +1,4 @@
+-- The answers to the goals of `declarations::fields`.
 use Rattle.std.proofs.Common.{◌∷◌, []}
 use Rattle.gr_parse.specs.declared.syntax.Kind.TheVariants as kind
 use Rattle.gr_parse.specs.Grammar.{A, One, is, MoreNames, TypeUse, Fields, MoreFields}

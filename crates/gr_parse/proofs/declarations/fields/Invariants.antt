@@ -1,3 +1,4 @@
+-- The invariants of the loops of `declarations::fields`.
 use Rattle.std.proofs.Common.{◌∷◌, [], length, ◌+◌}
 use Rattle.gr_parse.specs.declared.syntax.Kind.TheVariants as kind
 use Rattle.gr_parse.specs.Grammar.{A, Fields}

@@ -1,3 +1,4 @@
+-- The answers to the goals of `expressions::expression`.
 use Rattle.std.proofs.Common.{subst, length, vec_len, ◌∷◌, ◌++◌, ◌<◌, [], ap, sym, ◌∙◌, refl, append-nil, false, true, arith}
 use Rattle.std.proofs.lemmas.List.{nil_from_length}
 use Rattle.std.proofs.lemmas.Bool.{eqb-true}

@@ -1,3 +1,4 @@
+-- The invariants of the loops of `expressions::expression`.
 use Rattle.std.proofs.Common.{◌≡◌, ◌∷◌, ◌≤◌, ◌<◌, ◌+◌, ◌*◌, ◌-◌, [], length}
 use Rattle.gr_parse.specs.Grammar.{A, Binaries, Links, Arguments, ElementList}
 use Rattle.gr_parse.specs.declared.syntax.Kind.TheVariants as kind

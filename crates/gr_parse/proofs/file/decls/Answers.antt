@@ -1,3 +1,4 @@
+-- The answers to the goals of `file::decls`.
 use Rattle.gr_parse.specs.Machine.{last, later}
 use Rattle.gr_parse.specs.FileView.{decl_view}
 use Rattle.gr_parse.specs.Spelling.{decl_spelled}

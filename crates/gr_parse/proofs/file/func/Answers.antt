@@ -1,3 +1,4 @@
+-- The answers to the goals of `file::func`.
 use Rattle.std.proofs.Common.{sym}
 use Rattle.gr_parse.specs.Machine.{last}
 use Rattle.gr_parse.proofs.MachineSteps.{exits, fails_close, fails_first, fails_later, fails_leads, fails_rule, read_as, read_close, read_rule, read_then}

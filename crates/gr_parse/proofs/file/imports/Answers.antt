@@ -1,3 +1,4 @@
+-- The answers to the goals of `file::imports`.
 use Rattle.std.proofs.Common.{sym, ◌∙◌}
 use Rattle.gr_parse.specs.Machine.{last, later}
 use Rattle.gr_parse.specs.FileView.{imports_view}

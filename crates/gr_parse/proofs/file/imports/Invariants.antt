@@ -1,3 +1,4 @@
+-- The invariants of the loops of `file::imports`.
 use Rattle.std.proofs.Common.{◌∷◌, [], length}
 use Rattle.gr_parse.specs.Grammar.{A, Imports}
 use Rattle.gr_parse.specs.Parsing.{Leads}

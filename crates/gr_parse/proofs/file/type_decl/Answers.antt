@@ -1,3 +1,4 @@
+-- The answers to the goals of `file::type_decl`.
 use Rattle.std.proofs.Common.{sym}
 use Rattle.gr_parse.specs.Machine.{first, later}
 use Rattle.gr_parse.proofs.MachineSteps.{exits, fails_first, fails_later, fails_rule, leads_as, leads_here, leads_rule, leads_then}

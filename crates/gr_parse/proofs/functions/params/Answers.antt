@@ -1,3 +1,4 @@
+-- The answers to the goals of `functions::params`.
 use Rattle.std.proofs.Common.{◌∷◌, []}
 use Rattle.gr_parse.specs.declared.syntax.Kind.TheVariants as kind
 use Rattle.gr_parse.specs.Grammar.{A, One, is_ident, MoreIdents, TypeUse, Params, MoreParams}

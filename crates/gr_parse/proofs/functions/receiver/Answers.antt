@@ -1,3 +1,4 @@
+-- The answers to the goals of `functions::receiver`.
 use Rattle.std.proofs.Common.{◌∷◌, [], sym}
 use Rattle.gr_parse.specs.declared.syntax.Kind.TheVariants as kind
 use Rattle.gr_parse.specs.Grammar.{One, ReceiverEnd, ReceiverStar, is}

@@ -1,3 +1,4 @@
+-- The answers to the goals of `groups::specs`.
 use Rattle.std.proofs.Common.{◌∷◌, []}
 use Rattle.gr_parse.specs.declared.syntax.Kind.TheVariants as kind
 use Rattle.gr_parse.specs.Grammar.{A, Single, Items, MoreItems}

@@ -1,3 +1,4 @@
+-- The answers to the goals of `headers::for_clauses`.
 use Rattle.std.proofs.Common.{◌∷◌, ◌++◌, ap}
 use Rattle.gr_parse.specs.declared.syntax.Kind.TheVariants as kind
 use Rattle.gr_parse.specs.Machine.{last}

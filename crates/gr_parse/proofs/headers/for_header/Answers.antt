@@ -1,3 +1,4 @@
+-- The answers to the goals of `headers::for_header`.
 use Rattle.std.proofs.Common.{◌∷◌, [], ap, sym, ◌∙◌}
 use Rattle.gr_parse.specs.Grammar.{A, ForAfter, ForRest}
 use Rattle.gr_parse.specs.Machine.{first, last, later}

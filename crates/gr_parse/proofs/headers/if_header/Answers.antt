@@ -1,3 +1,4 @@
+-- The answers to the goals of `headers::if_header`.
 use Rattle.std.proofs.Common.{◌∷◌, ◌++◌, [], ap, sym, ◌∙◌, refl, true}
 use Rattle.gr_parse.specs.declared.syntax.Kind.TheVariants as kind
 use Rattle.gr_parse.specs.Grammar.{A, Expression, IfAfter, IfBody, One, is}

@@ -1,3 +1,4 @@
+-- The answers to the goals of `kinds::kinds_of`.
 use Rattle.std.proofs.Common.{ap, ◌∙◌, arith, drop, length, ◌++◌, ◌+◌}
 use Rattle.gr_scan.specs.Tokens.{semicolon}
 use Rattle.gr_scan.specs.CutText.{tokens_in}

@@ -1,3 +1,4 @@
+-- The invariants of the loops of `kinds::kinds_of`.
 use Rattle.std.proofs.Common.{◌≡◌, ◌++◌, ◌≤◌, length, drop}
 use Rattle.gr_scan.specs.CutText.{tokens_in}
 use Rattle.gr_parse.specs.Kinds.{kinds_from, kinds_of}

@@ -1,3 +1,4 @@
+-- The answers to the goals of `law::machine_is_exact`.
 use Rattle.gr_parse.proofs.EndOfText.{file_stops}
 use Rattle.gr_parse.proofs.Predictive.{accepts, file_deep}
 use Rattle.gr_parse.proofs.Shallow.{file_shallow}

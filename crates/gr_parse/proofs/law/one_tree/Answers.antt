@@ -1,3 +1,4 @@
+-- The answers to the goals of `law::one_tree`.
 use Rattle.gr_parse.proofs.OneTree.{one_tree}
 use Rattle.gr_parse.proofs.law.one_tree.Goals as goal
 

@@ -1,3 +1,4 @@
+-- The answers to the goals of `law::one_verdict`.
 use Rattle.gr_parse.proofs.OneVerdict.{one_verdict}
 use Rattle.gr_parse.proofs.law.one_verdict.Goals as goal
 

@@ -1,3 +1,4 @@
+-- The answers to the goals of `locals::type_or_values`.
 use Rattle.std.proofs.Common.{sym, ◌∙◌}
 use Rattle.gr_parse.specs.Machine.{first, last, later}
 use Rattle.gr_parse.proofs.MachineSteps.{exits, fails_first, fails_later, fails_rule, read_rule, read_then}

@@ -1,3 +1,4 @@
+-- The answers to the goals of `locals::values`.
 use Rattle.gr_parse.proofs.MachineSteps.{exits, fails_first, fails_later, read_then}
 use Rattle.gr_parse.proofs.locals.values.Goals as goal
 

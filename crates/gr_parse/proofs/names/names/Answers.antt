@@ -1,3 +1,4 @@
+-- The answers to the goals of `names::names`.
 use Rattle.std.proofs.Common.{◌∷◌, [], refl}
 use Rattle.gr_parse.specs.declared.syntax.Kind.TheVariants as kind
 use Rattle.gr_parse.specs.Grammar.{A, One, is, MoreNames}

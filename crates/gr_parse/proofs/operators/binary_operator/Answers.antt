@@ -1,3 +1,4 @@
+-- The answers to the goals of `operators::binary_operator`.
 use Rattle.std.proofs.Common.{sym, false}
 use Rattle.gr_parse.specs.Grammar.{is_binary}
 use Rattle.gr_parse.specs.Flatten.{binary_kind}

@@ -1,3 +1,4 @@
+-- The answers to the goals of `operators::leaf`.
 use Rattle.std.proofs.Common.{sym, refl, false}
 use Rattle.gr_parse.specs.Grammar.{is_leaf}
 use Rattle.gr_parse.proofs.Spelled.{leaf_none, leaf_some, leaf_tokens}

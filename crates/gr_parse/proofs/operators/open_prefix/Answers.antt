@@ -1,3 +1,4 @@
+-- The answers to the goals of `operators::open_prefix`.
 use Rattle.std.proofs.Common.{sym, refl, false, arith}
 use Rattle.gr_parse.specs.Grammar.{is_prefix}
 use Rattle.gr_parse.specs.Flatten.{prefix_kind}

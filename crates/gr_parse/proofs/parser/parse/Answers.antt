@@ -1,3 +1,4 @@
+-- The answers to the goals of `parser::parse`.
 use Rattle.std.proofs.Common.{sym, ◌∙◌, subst}
 use Rattle.gr_parse.specs.Parsed.{IsRefusedFor}
 use Rattle.gr_parse.proofs.WholeFile.{whole_text, refused_rightly}

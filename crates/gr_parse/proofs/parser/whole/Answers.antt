@@ -1,3 +1,4 @@
+-- The answers to the goals of `parser::whole`.
 use Rattle.std.proofs.Common.{ap, sym, ◌∙◌, length, subst, ◌∷◌, []}
 use Rattle.std.proofs.lemmas.List.{nil_from_length}
 use Rattle.std.proofs.lemmas.Bool.{eqb-true}

@@ -1,3 +1,4 @@
+-- The answers to the goals of `simple::assignment`.
 use Rattle.std.proofs.Common.{◌∷◌, ◌++◌, ap, sym, ◌∙◌}
 use Rattle.gr_parse.specs.Flatten.{sign}
 use Rattle.gr_parse.specs.Spelling.{exprs_spelled}

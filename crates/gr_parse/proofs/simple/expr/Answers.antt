@@ -1,3 +1,4 @@
+-- The answers to the goals of `simple::expr`.
 use Rattle.std.proofs.Common.{◌∷◌, []}
 use Rattle.gr_parse.specs.Grammar.{A, Expression}
 use Rattle.gr_parse.specs.View.{expr_view}

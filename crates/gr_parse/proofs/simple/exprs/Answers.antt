@@ -1,3 +1,4 @@
+-- The answers to the goals of `simple::exprs`.
 use Rattle.gr_parse.proofs.StatementSteps.{continues_nothing}
 use Rattle.gr_parse.proofs.ListedSteps.{listed_none}
 use Rattle.gr_parse.proofs.SpelledSimple.{exprs_none}

@@ -1,3 +1,4 @@
+-- The answers to the goals of `simple::first_expr`.
 use Rattle.std.proofs.Common.{◌∷◌, ◌++◌, [], ap, ◌∙◌}
 use Rattle.gr_parse.proofs.SpelledSimple.{exprs_one}
 use Rattle.gr_parse.proofs.simple.first_expr.Goals as goal

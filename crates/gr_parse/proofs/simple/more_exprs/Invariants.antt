@@ -1,3 +1,4 @@
+-- The invariants of the loops of `simple::more_exprs`.
 use Rattle.std.proofs.Common.{◌∷◌, [], length, ◌+◌}
 use Rattle.gr_parse.specs.Grammar.{A, Expression, MoreExpressions, in_head}
 use Rattle.gr_parse.specs.Parsing.{items_rest}

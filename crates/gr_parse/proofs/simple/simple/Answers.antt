@@ -1,3 +1,4 @@
+-- The answers to the goals of `simple::simple`.
 use Rattle.std.proofs.Common.{◌∷◌, []}
 use Rattle.gr_parse.specs.Grammar.{A, Expression, SimpleRest, in_head}
 use Rattle.gr_parse.specs.Words.{setting_of}

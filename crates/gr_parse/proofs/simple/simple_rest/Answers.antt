@@ -1,3 +1,4 @@
+-- The answers to the goals of `simple::simple_rest`.
 use Rattle.std.proofs.Common.{◌∷◌, [], sym, ◌∙◌, refl}
 use Rattle.gr_parse.specs.declared.syntax.Kind.TheVariants as kind
 use Rattle.gr_parse.specs.Grammar.{A, Expressions, One, in_head, is, sets}

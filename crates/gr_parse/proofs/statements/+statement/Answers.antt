@@ -1,3 +1,4 @@
+-- The answers to the goals of `statements::statement`.
 use Rattle.std.proofs.Common.{◌∷◌, [], ap, sym, ◌∙◌, refl}
 use Rattle.gr_parse.specs.declared.syntax.Kind.TheVariants as kind
 use Rattle.gr_parse.specs.Grammar.{A, Close, MoreStatements, One, Statement, is}

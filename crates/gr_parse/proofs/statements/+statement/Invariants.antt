@@ -1,3 +1,4 @@
+-- The invariants of the loops of `statements::statement`.
 use Rattle.std.proofs.Common.{◌∷◌, ◌<◌, ◌+◌, ◌*◌, [], length}
 use Rattle.gr_parse.specs.Grammar.{A, Statement, MoreStatements}
 use Rattle.gr_parse.specs.Parsing.{Leads, items_rest}

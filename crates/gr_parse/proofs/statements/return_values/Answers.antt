@@ -1,3 +1,4 @@
+-- The answers to the goals of `statements::return_values`.
 use Rattle.std.proofs.Common.{inl, inr}
 use Rattle.std.proofs.Common.{◌∷◌, [], ap, sym, ◌∙◌, false}
 use Rattle.gr_parse.specs.Grammar.{A, Expressions, ReturnValues}

@@ -1,3 +1,4 @@
+-- The answers to the goals of `take::expect`.
 use Rattle.std.proofs.Common.{◌≡◌, sym, ◌∙◌, false, true}
 use Rattle.gr_parse.specs.Grammar.{is}
 use Rattle.gr_parse.specs.Machine.{at}

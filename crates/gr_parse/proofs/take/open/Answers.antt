@@ -1,3 +1,4 @@
+-- The answers to the goals of `take::open`.
 use Rattle.std.proofs.Common.{◌≡◌, sym, ◌∙◌, false, true, arith, refl}
 use Rattle.gr_parse.specs.Grammar.{is}
 use Rattle.gr_parse.proofs.MachineSteps.{passes_opening, token_text, refuses_opening, opens_too_deep, at_end, at_token}

@@ -1,3 +1,4 @@
+-- The answers to the goals of `types::types`.
 use Rattle.std.proofs.Common.{◌∷◌, ap, sym, ◌∙◌}
 use Rattle.gr_parse.specs.declared.syntax.Kind.TheVariants as kind
 use Rattle.gr_parse.specs.Flatten.{sign}

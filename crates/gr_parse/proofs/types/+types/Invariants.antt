@@ -1,3 +1,4 @@
+-- The invariants of the loops of `types::types`.
 use Rattle.std.proofs.Common.{length, ◌+◌, ◌*◌}
 use Rattle.gr_parse.proofs.types.+types.Given as goal
 

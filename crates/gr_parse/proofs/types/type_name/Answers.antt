@@ -1,3 +1,4 @@
+-- The answers to the goals of `types::type_name`.
 use Rattle.std.proofs.Common.{sym, ◌∙◌}
 use Rattle.gr_parse.specs.Machine.{first, later, last}
 use Rattle.gr_parse.proofs.MachineSteps.{exits, fails_first, fails_later, fails_rule, read_then, read_rule, read_end, read_as}

@@ -1,3 +1,4 @@
+-- The answers to the goals of `words::ident`.
 use Rattle.std.proofs.Common.{sym, ◌∙◌, refl}
 use Rattle.gr_parse.specs.Grammar.{is_ident}
 use Rattle.gr_parse.proofs.MachineSteps.{read_as}

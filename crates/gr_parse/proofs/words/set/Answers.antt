@@ -1,3 +1,4 @@
+-- The answers to the goals of `words::set`.
 use Rattle.std.proofs.Common.{sym, ◌∙◌}
 use Rattle.gr_parse.specs.Grammar.{sets}
 use Rattle.gr_parse.specs.Words.{setting_of}

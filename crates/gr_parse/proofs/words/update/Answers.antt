@@ -1,3 +1,4 @@
+-- The answers to the goals of `words::update`.
 use Rattle.std.proofs.Common.{sym, ◌∙◌}
 use Rattle.gr_parse.specs.Grammar.{is_update}
 use Rattle.gr_parse.proofs.WordSteps.{read_class, token_refused, end_refused, update_class, update_refused}

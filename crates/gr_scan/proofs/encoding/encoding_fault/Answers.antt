@@ -1,3 +1,4 @@
+-- The answers to the goals of `encoding::encoding_fault`.
 use Rattle.gr_scan.proofs.EncodingLemmas.{zero_first, valid_ends, all_valid}
 use Rattle.gr_scan.proofs.encoding.encoding_fault.Goals as goal
 

@@ -1,3 +1,4 @@
+-- The answers to the goals of `encoding::valid_len`.
 use Rattle.gr_scan.proofs.EncodingLemmas.{valid_from}
 use Rattle.gr_scan.proofs.encoding.valid_len.Goals as goal
 

@@ -1,3 +1,4 @@
+-- The answers to the goals of `keywords::keyword_of`.
 use Rattle.std.proofs.Common.{sym, ◌∙◌}
 use Rattle.gr_scan.proofs.NarrowLemmas.{keyword_among, no_keyword}
 use Rattle.gr_scan.proofs.keywords.keyword_of.Goals as goal

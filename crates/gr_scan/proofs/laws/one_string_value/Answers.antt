@@ -1,3 +1,4 @@
+-- The answers to the goals of `laws::one_string_value`.
 use Rattle.gr_scan.proofs.StringValueLemmas.{one_string_value}
 use Rattle.gr_scan.proofs.laws.one_string_value.Goals as goal
 

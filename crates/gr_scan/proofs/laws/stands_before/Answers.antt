@@ -1,3 +1,4 @@
+-- The answers to the goals of `laws::stands_before`.
 use Rattle.gr_scan.proofs.ContextLemmas.{stands_before}
 use Rattle.gr_scan.proofs.laws.stands_before.Goals as goal
 

@@ -1,3 +1,4 @@
+-- The answers to the goals of `operators::operator_at`.
 use Rattle.gr_scan.proofs.NarrowLemmas.{operator_among}
 use Rattle.gr_scan.proofs.operators.operator_at.Goals as goal
 

@@ -1,3 +1,4 @@
+-- The answers to the goals of `scanner::cut`.
 use Rattle.std.proofs.Common.{length, arith, ap, length-drop}
 use Rattle.std.proofs.lemmas.List.{take_rest}
 use Rattle.gr_scan.proofs.CutLemmas.{CutsUpTo-push}

@@ -1,3 +1,4 @@
+-- The invariants of the loops of `scanner::cut`.
 use Rattle.std.proofs.Common.{◌≤◌, ◌-◌, length}
 use Rattle.gr_scan.specs.Cuts.{CutsUpTo}
 use Rattle.gr_scan.proofs.scanner.cut.Given as goal

@@ -1,3 +1,4 @@
+-- The answers to the goals of `scanner::scan`.
 use Rattle.gr_scan.proofs.SpanLemmas.{pieces_fit}
 use Rattle.gr_scan.proofs.scanner.scan.Goals as goal
 

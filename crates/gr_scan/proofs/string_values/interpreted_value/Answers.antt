@@ -1,3 +1,4 @@
+-- The answers to the goals of `string_values::interpreted_value`.
 use Rattle.std.proofs.Common.{◌≡◌, ◌+◌, ◌-◌, sym, ◌∙◌, arith}
 use Rattle.std.proofs.lemmas.List.{take_rest}
 use Rattle.gr_scan.proofs.StringLemmas.{part_is}

@@ -1,3 +1,4 @@
+-- The invariants of the loops of `string_values::interpreted_value`.
 use Rattle.std.proofs.Common.{◌-◌, length}
 use Rattle.gr_scan.proofs.StringValueLemmas.{ValueSoFar}
 use Rattle.gr_scan.proofs.string_values.interpreted_value.Given as goal

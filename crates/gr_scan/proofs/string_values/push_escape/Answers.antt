@@ -1,3 +1,4 @@
+-- The answers to the goals of `string_values::push_escape`.
 use Rattle.std.proofs.Common.{sym, ◌∙◌}
 use Rattle.gr_scan.proofs.StringValueLemmas.{last_form}
 use Rattle.gr_scan.proofs.string_values.push_escape.Goals as goal

@@ -1,3 +1,4 @@
+-- The answers to the goals of `string_values::string_value`.
 use Rattle.gr_scan.proofs.StringValueLemmas.{raw_from, raw_literal, if_ok}
 use Rattle.gr_scan.proofs.string_values.string_value.Goals as goal
 

@@ -1,3 +1,4 @@
+-- The answers to the goals of `tokens::tokens_of`.
 use Rattle.std.proofs.Common.{◌≡◌, [], sym, ap, drop, None, Some, ◌∙◌, ◌++◌, arith}
 use Rattle.std.proofs.lemmas.List.{drop_all}
 use Rattle.gr_scan.specs.Tokens.{tokens_due}

@@ -1,3 +1,4 @@
+-- The invariants of the loops of `tokens::tokens_of`.
 use Rattle.std.proofs.Common.{◌≡◌, ◌++◌, drop}
 use Rattle.gr_scan.specs.Tokens.{tokens_of, tokens_due}
 use Rattle.gr_scan.proofs.tokens.tokens_of.Given as goal

@@ -1,3 +1,4 @@
+-- The answers to the goals of `words::ascii_run`.
 use Rattle.std.proofs.Common.{sym, ◌∙◌}
 use Rattle.gr_scan.proofs.AsciiLemmas.{ascii_grows}
 use Rattle.gr_scan.proofs.WordLemmas.{run_empty}

@@ -1,3 +1,4 @@
+-- The invariants of the loops of `words::ascii_run`.
 use Rattle.std.proofs.Common.{◌-◌, length}
 use Rattle.gr_scan.specs.Words.{NameRunSoFar}
 use Rattle.gr_scan.proofs.words.ascii_run.Given as goal

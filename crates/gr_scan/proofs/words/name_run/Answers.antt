@@ -1,3 +1,4 @@
+-- The answers to the goals of `words::name_run`.
 use Rattle.std.proofs.Common.{◌≡◌, ◌+◌, Some, drop, arith, sym, ap, ◌∙◌}
 use Rattle.std.proofs.lemmas.List.{take_rest}
 use Rattle.bstr.specs.Utf8.{decoded}

@@ -1,3 +1,4 @@
+-- The invariants of the loops of `words::name_run`.
 use Rattle.std.proofs.Common.{◌-◌, length}
 use Rattle.gr_scan.specs.Words.{NameRunSoFar}
 use Rattle.gr_scan.proofs.words.name_run.Given as goal

@@ -1,3 +1,4 @@
+-- The answers to the goals of `declarations::add_body`.
 use Rattle.std.proofs.Common.{ap, sym, arith}
 use Rattle.gr_scope.specs.Found.{source_of}
 use Rattle.gr_scope.proofs.Adding.{adds_as, call_adds, each_all}

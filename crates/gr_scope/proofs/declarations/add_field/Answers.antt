@@ -1,3 +1,4 @@
+-- The answers to the goals of `declarations::add_field`.
 use Rattle.std.proofs.Common.{ap, ◌++◌}
 use Rattle.gr_scope.specs.Found.{source_of}
 use Rattle.gr_scope.proofs.Adding.{then_adds}

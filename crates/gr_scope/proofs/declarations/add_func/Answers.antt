@@ -1,3 +1,4 @@
+-- The answers to the goals of `declarations::add_func`.
 use Rattle.gr_scope.proofs.Adding.{four_then_adds}
 use Rattle.gr_scope.proofs.FileParts.{func_read}
 use Rattle.gr_scope.proofs.declarations.add_func.Goals as goal

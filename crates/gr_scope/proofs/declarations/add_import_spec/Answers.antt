@@ -1,3 +1,4 @@
+-- The answers to the goals of `declarations::add_import_spec`.
 use Rattle.gr_scope.proofs.Adding.{then_adds}
 use Rattle.gr_scope.specs.FileSites.{import_sites}
 use Rattle.gr_parse.specs.FileView.{import_view}

@@ -1,3 +1,4 @@
+-- The answers to the goals of `declarations::add_type_spec`.
 use Rattle.gr_scope.proofs.Adding.{then_adds}
 use Rattle.std.proofs.Common.{refl}
 use Rattle.gr_scope.specs.FileSites.{type_spec_sites}

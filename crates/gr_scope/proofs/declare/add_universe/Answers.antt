@@ -1,3 +1,4 @@
+-- The answers to the goals of `declare::add_universe`.
 use Rattle.std.proofs.Common.{refl}
 use Rattle.gr_scope.proofs.Adding.{adds_then, then_adds}
 use Rattle.gr_scope.proofs.declare.add_universe.Goals as goal

@@ -1,3 +1,4 @@
+-- The answers to the goals of `declare::declare`.
 use Rattle.gr_scope.proofs.Declared.{declared_well_formed}
 use Rattle.gr_scope.proofs.declare.declare.Goals as goal
 

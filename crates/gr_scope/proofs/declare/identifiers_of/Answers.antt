@@ -1,3 +1,4 @@
+-- The answers to the goals of `declare::identifiers_of`.
 use Rattle.std.proofs.Common.{sym, arith}
 use Rattle.gr_scope.proofs.Adding.{adds_none, adds_as, adds_then}
 use Rattle.gr_scope.proofs.Declared.{files_next, no_files, package_made}

@@ -1,3 +1,4 @@
+-- The invariants of the loops of `declare::identifiers_of`.
 use Rattle.std.proofs.Common.{take, map}
 use Rattle.gr_scope.specs.FileSites.{files_sites}
 use Rattle.gr_scope.specs.Found.{Adds}

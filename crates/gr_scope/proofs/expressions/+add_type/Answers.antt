@@ -1,3 +1,4 @@
+-- The answers to the goals of `expressions::add_type`.
 use Rattle.std.proofs.Common.{ap, sym, ◌∙◌}
 use Rattle.gr_scope.specs.ExpressionSites.{type_sites}
 use Rattle.gr_scope.specs.Found.{source_of}

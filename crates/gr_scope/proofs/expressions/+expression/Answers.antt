@@ -1,3 +1,4 @@
+-- The answers to the goals of `expressions::expression`.
 use Rattle.std.proofs.Common.{ap, sym, ◌∙◌, arith}
 use Rattle.gr_scope.specs.ExpressionSites.{expr_sites, link_sites}
 use Rattle.gr_scope.specs.Found.{source_of}

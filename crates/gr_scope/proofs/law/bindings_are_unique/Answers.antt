@@ -1,3 +1,4 @@
+-- The answers to the goals of `law::bindings_are_unique`.
 use Rattle.gr_scope.proofs.Nests.{nests}
 use Rattle.gr_scope.proofs.Uniqueness.{bound_once}
 use Rattle.gr_scope.proofs.law.bindings_are_unique.Goals as goal

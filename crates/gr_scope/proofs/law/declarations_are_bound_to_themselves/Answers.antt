@@ -1,3 +1,4 @@
+-- The answers to the goals of `law::declarations_are_bound_to_themselves`.
 use Rattle.gr_scope.proofs.Uniqueness.{own_binding}
 use Rattle.gr_scope.proofs.law.declarations_are_bound_to_themselves.Goals as goal
 

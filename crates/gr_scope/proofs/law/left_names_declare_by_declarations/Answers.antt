@@ -1,3 +1,4 @@
+-- The answers to the goals of `law::left_names_declare_by_declarations`.
 use Rattle.gr_scope.proofs.Nests.{nests}
 use Rattle.gr_scope.proofs.Uniqueness.{declares_if}
 use Rattle.gr_scope.proofs.law.left_names_declare_by_declarations.Goals as goal

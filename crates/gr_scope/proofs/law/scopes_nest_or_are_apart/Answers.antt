@@ -1,3 +1,4 @@
+-- The answers to the goals of `law::scopes_nest_or_are_apart`.
 use Rattle.gr_scope.proofs.Nests.{scopes_nest}
 use Rattle.gr_scope.proofs.law.scopes_nest_or_are_apart.Goals as goal
 

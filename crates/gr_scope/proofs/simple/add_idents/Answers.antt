@@ -1,3 +1,4 @@
+-- The answers to the goals of `simple::add_idents`.
 use Rattle.std.proofs.Common.{arith}
 use Rattle.gr_scope.specs.Found.{source_of}
 use Rattle.gr_scope.specs.StatementSites.{ident_sites}

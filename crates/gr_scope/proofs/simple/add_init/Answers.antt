@@ -1,3 +1,4 @@
+-- The answers to the goals of `simple::add_init`.
 use Rattle.std.proofs.Common.{ap, sym}
 use Rattle.gr_scope.specs.Found.{source_of}
 use Rattle.gr_scope.specs.ExpressionSites.{sites_if}

@@ -1,3 +1,4 @@
+-- The invariants of the loops of `simple::add_lefts`.
 use Rattle.std.proofs.Common.{take}
 use Rattle.std.specs.List.{flat_map}
 use Rattle.gr_scope.specs.Found.{source_of, Adds}

@@ -1,3 +1,4 @@
+-- The answers to the goals of `simple::add_local`.
 use Rattle.gr_scope.proofs.Adding.{two_then_adds}
 use Rattle.gr_scope.proofs.StatementParts.{local_read}
 use Rattle.gr_scope.proofs.simple.add_local.Goals as goal

@@ -1,3 +1,4 @@
+-- The answers to the goals of `simple::add_locals`.
 use Rattle.std.proofs.Common.{ap, sym, arith}
 use Rattle.gr_scope.specs.Found.{source_of}
 use Rattle.gr_scope.specs.StatementSites.{local_sites, group_sites}

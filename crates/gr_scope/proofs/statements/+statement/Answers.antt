@@ -1,3 +1,4 @@
+-- The answers to the goals of `statements::statement`.
 use Rattle.std.proofs.Common.{ap, sym, ◌∙◌, arith}
 use Rattle.gr_scope.specs.ExpressionSites.{exprs_sites}
 use Rattle.gr_scope.specs.StatementSites.{statement_sites, if_sites, else_sites}

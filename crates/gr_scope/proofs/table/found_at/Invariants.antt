@@ -1,3 +1,4 @@
+-- The invariants of the loops of `table::found_at`.
 use Rattle.std.proofs.Common.{ℕ, ◌<◌}
 use Rattle.gr_scope.specs.Table.{StandsAt, layout_of}
 use Rattle.gr_scope.proofs.table.found_at.Given as goal

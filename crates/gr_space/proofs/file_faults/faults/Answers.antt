@@ -1,3 +1,4 @@
+-- The answers to the goals of `file_faults::faults`.
 use Rattle.std.proofs.Common.{rules}
 use Rattle.std.proofs.lemmas.List.MinMax.{ranks_by}
 use Rattle.std.proofs.lemmas.List.Sorted.{answers_always}

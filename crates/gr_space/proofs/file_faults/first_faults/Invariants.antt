@@ -1,3 +1,4 @@
+-- The invariants of the loops of `file_faults::first_faults`.
 use Rattle.std.proofs.Common.{List, ◌++◌, filter}
 use Rattle.std.specs.FinMap as map
 use Rattle.gr_space.specs.Faults.{ListsFirstFaults}

@@ -1,3 +1,4 @@
+-- The answers to the goals of `body::fill`.
 use Rattle.std.proofs.Common.{◌≡◌, ◌≤◌, ◌-◌, ◌∙◌, subst, arith, length, take, length-take-le, length-drop}
 use Rattle.std.proofs.lemmas.List.{length-take}
 use Rattle.std.specs.Io.KnownBytes.{Consumes}

@@ -1,3 +1,4 @@
+-- The invariants of the loops of `body::fill`.
 use Rattle.std.proofs.Common.{◌+◌, ◌≡◌, ◌≤◌, ◌-◌, length, take}
 use Rattle.std.specs.Io.KnownBytes.{Consumes}
 use Rattle.gr_wire.proofs.body.fill.Given as goal

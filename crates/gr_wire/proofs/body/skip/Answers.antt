@@ -1,3 +1,4 @@
+-- The answers to the goals of `body::skip`.
 use Rattle.std.proofs.Common.{◌≤◌, ◌++◌, ◌∙◌, arith, take, length-take-le, length-append}
 use Rattle.std.proofs.lemmas.List.{length-take}
 use Rattle.std.proofs.KnownBytes.{Consumes-trans}

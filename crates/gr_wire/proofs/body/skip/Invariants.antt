@@ -1,3 +1,4 @@
+-- The invariants of the loops of `body::skip`.
 use Rattle.std.proofs.Common.{◌≡◌, ◌≤◌, ◌+◌, ℕ, List, length}
 use Rattle.std.specs.Io.KnownBytes.{Consumes}
 use Rattle.gr_wire.proofs.body.skip.Given as goal

@@ -1,3 +1,4 @@
+-- The answers to the goals of `exchange::serve_next`.
 use Rattle.std.proofs.lemmas.Result.{err_from_is_err_and}
 use Rattle.gr_wire.proofs.Served.{step_faulted, step_ended, step_answered, step_cut, step_refused, step_refused_cut}
 use Rattle.gr_wire.proofs.exchange.serve_next.Goals as goal

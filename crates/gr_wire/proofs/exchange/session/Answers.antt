@@ -1,3 +1,4 @@
+-- The answers to the goals of `exchange::session`.
 use Rattle.std.proofs.Common.{Ok, Err, true, false, ap, ◌∙◌, rules}
 use Rattle.std.proofs.lemmas.Result.{err_from_is_err_and}
 use Rattle.gr_wire.proofs.Steps.{StepEnds-none, StepEnds-append, SessionEnds-from_step}

@@ -1,3 +1,4 @@
+-- The invariants of the loops of `exchange::session`.
 use Rattle.std.proofs.Common.{◌+◌, ◌≡◌, Ok, true}
 use Rattle.gr_wire.specs.Transcript.{StepEnds}
 use Rattle.gr_wire.proofs.exchange.session.Given as goal

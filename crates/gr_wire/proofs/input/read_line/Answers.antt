@@ -1,3 +1,4 @@
+-- The answers to the goals of `input::read_line`.
 use Rattle.std.proofs.Common.{rules, ◌∙◌, arith}
 use Rattle.gr_wire.proofs.LineSoFar.{long_push, line_read}
 use Rattle.gr_wire.proofs.input.read_line.Goals as goal

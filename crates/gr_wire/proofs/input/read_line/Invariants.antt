@@ -1,3 +1,4 @@
+-- The invariants of the loops of `input::read_line`.
 use Rattle.std.proofs.Common.{◌+◌, ◌≡◌, ◌≤◌, vec_capacity}
 use Rattle.gr_wire.proofs.LineSoFar.{LineSoFar}
 use Rattle.gr_wire.proofs.input.read_line.Given as goal

@@ -1,3 +1,4 @@
+-- The answers to the goals of `law::begins_one_way`.
 use Rattle.gr_wire.proofs.Unique.{Says-unique, Reads-unique}
 use Rattle.gr_wire.proofs.law.begins_one_way.Goals as goal
 

@@ -1,3 +1,4 @@
+-- The answers to the goals of `next::read_command`.
 use Rattle.gr_wire.proofs.Nexts.{next_unknown, next_line, next_stops}
 use Rattle.gr_wire.proofs.next.read_command.Goals as goal
 

@@ -1,3 +1,4 @@
+-- The answers to the goals of `next::read_put`.
 use Rattle.std.proofs.Common.{◌≡◌, ap, ◌∙◌}
 use Rattle.gr_wire.specs.Puts.{put_next}
 use Rattle.gr_wire.proofs.Puts.{put_skipped, put_read}

@@ -1,3 +1,4 @@
+-- The answers to the goals of `output::print_parts`.
 use Rattle.std.proofs.Common.{◌≡◌, ◌++◌, ℕ, List, Option, Result, Ok, Err, true, length, ◌∙◌, sym, ap, subst, append_assoc}
 use Rattle.std.proofs.lemmas.Result.{err_from_is_err_and}
 use Rattle.std.specs.Io.KnownBytes.{Appends}

@@ -1,3 +1,4 @@
+-- The invariants of the loops of `output::write_whole`.
 use Rattle.std.proofs.Common.{◌≡◌, ◌++◌, ℕ, List, length}
 use Rattle.std.specs.Io.KnownBytes.{Appends}
 use Rattle.gr_wire.proofs.output.write_whole.Given as goal

@@ -1,3 +1,4 @@
+-- The answers to the goals of `parse::has_no_space`.
 use Rattle.gr_wire.proofs.Words.{no_space_by}
 use Rattle.gr_wire.proofs.parse.has_no_space.Goals as goal
 

@@ -1,3 +1,4 @@
+-- The answers to the goals of `parse::parse_command_line`.
 use Rattle.gr_wire.proofs.LineWords.{split_line}
 use Rattle.gr_wire.proofs.parse.parse_command_line.Goals as goal
 

@@ -1,3 +1,4 @@
+-- The answers to the goals of `parse::parse_put`.
 use Rattle.std.proofs.Common.{◌++◌, ◌∷◌, ◌∙◌, sym, decimal}
 use Rattle.gr_wire.proofs.Words.{no_space, split_unique, decimal_word}
 use Rattle.gr_wire.proofs.LineWords.{put_words}

@@ -1,3 +1,4 @@
+-- The answers to the goals of `parse::parse_u32`.
 use Rattle.gr_wire.proofs.Words.{u32_of}
 use Rattle.gr_wire.proofs.parse.parse_u32.Goals as goal
 

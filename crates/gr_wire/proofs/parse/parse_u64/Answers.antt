@@ -1,3 +1,4 @@
+-- The answers to the goals of `parse::parse_u64`.
 use Rattle.std.proofs.Common.{◌≡◌, ◌∙◌, ap, sym, true, false, decimal}
 use Rattle.std.specs.Result.{result_ok}
 use Rattle.std.proofs.lemmas.Fmt.{parse-decimal}

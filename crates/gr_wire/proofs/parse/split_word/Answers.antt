@@ -1,3 +1,4 @@
+-- The answers to the goals of `parse::split_word`.
 use Rattle.gr_wire.proofs.Words.{SplitsWord-from_split}
 use Rattle.gr_wire.proofs.parse.split_word.Goals as goal
 

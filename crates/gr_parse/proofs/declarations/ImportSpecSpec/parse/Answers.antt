@@ -1,3 +1,4 @@
+-- The answers to the goals of `declarations::ImportSpecSpec::parse`.
 use Rattle.std.proofs.Common.{◌∷◌, [], sym}
 use Rattle.gr_parse.specs.declared.syntax.Kind.TheVariants as kind
 use Rattle.gr_parse.specs.Grammar.{ImportItem, One, Single, is}

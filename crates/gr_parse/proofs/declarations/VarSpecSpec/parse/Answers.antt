@@ -1,3 +1,4 @@
+-- The answers to the goals of `declarations::VarSpecSpec::parse`.
 use Rattle.std.proofs.Common.{◌∷◌, [], sym}
 use Rattle.gr_parse.specs.Grammar.{A, GlobalValues, TypeUse}
 use Rattle.gr_parse.specs.Machine.{last}

@@ -1,3 +1,4 @@
+-- The answers to the goals of `locals::LocalSpecSpec::parse`.
 use Rattle.std.proofs.Common.{◌∷◌, [], sym}
 use Rattle.gr_parse.specs.Grammar.{A, LocalRest}
 use Rattle.gr_parse.specs.Machine.{last}

@@ -1,3 +1,4 @@
+-- The answers to the goals of `pieces::Pieces::string_value`.
 use Rattle.std.proofs.Common.{◌<◌, length, sym, ap, ◌∙◌, subst}
 use Rattle.gr_scan.specs.declared.piece.Piece.{Piece}
 use Rattle.gr_scan.specs.CutText.{CutText, tokens_in, token_at}

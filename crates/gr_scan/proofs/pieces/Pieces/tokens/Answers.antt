@@ -1,3 +1,4 @@
+-- The answers to the goals of `pieces::Pieces::tokens`.
 use Rattle.std.proofs.Common.{subst}
 use Rattle.gr_scan.specs.CutText.{CutText, tokens_in}
 use Rattle.gr_scan.specs.Spans.{AreInOrder}

@@ -1,3 +1,4 @@
+-- The answers to the goals of `files::Files::same`.
 use Rattle.std.proofs.Common.{sym, ◌∙◌, eq-eqb}
 use Rattle.std.proofs.lemmas.Bool.Decides.{Decides-eqb}
 use Rattle.gr_text.proofs.WorkspaceLaws.{same_workspaces, same_len}
