@@ -16,6 +16,8 @@ pub mod OneCutLemmas
 pub mod SpanLemmas
 pub mod ReadLemmas
 pub mod ExistsLemmas
+pub mod ScanLemmas
+mod Walks
 pub mod ContextLemmas
 pub mod OneFaultLemmas
 pub mod StringValueLemmas

@@ -17,6 +17,7 @@ mod strings;
 #[cfg(test)]
 mod tests;
 mod tokens;
+mod trail;
 mod trivia;
 mod words;
 

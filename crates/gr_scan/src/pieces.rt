@@ -2,21 +2,22 @@
 ghost use Rattle.std.specs.Prelude.{◌≡◌, ◌<◌, ◌≤◌, ◌-◌, length, take, drop, IfOk};
 ghost use Rattle.gr_scan.specs.Cuts.{IsCut, bytes_of};
 ghost use Rattle.gr_scan.specs.TokenValues.{HasTokenValue};
-ghost use Rattle.gr_scan.specs.Tokens.{tokens_of};
 ghost use Rattle.gr_scan.specs.Spans.{IsTokenText, AreInOrder};
-ghost use Rattle.gr_scan.specs.CutText.{token_at, tokens_in};
+ghost use Rattle.gr_scan.specs.CutText.{IsCutText, token_at, tokens_in};
 
 use crate::piece::{Class, Piece};
 use crate::string_values::string_value;
+use crate::trail::Trail;
 use gr_text::{FileText, Span};
 use std::alloc::{AllocError, Global};
 use std::marker::Model;
 
-/// The cut of a file: its pieces, blanks and comments among them, and its tokens, inserted semicolons among them.
+/// The cut of a file: its tokens, inserted semicolons among them. Its pieces, blanks and comments among them, follow from
+/// its bytes, so only proofs see them.
 #[derive(Drop)]
 pub struct Pieces {
     file: FileText,
-    pieces: Vec<Piece>,
+    pieces: Trail<Piece>,
     tokens: Vec<Piece>,
 }
 
@@ -40,9 +41,8 @@ fn part(text: &[u8], span: Span) -> &[u8]
 
 impl Pieces {
     /// The pieces and tokens that are known to be those of a file.
-    pub(crate) fn new(file: FileText, pieces: Vec<Piece>, tokens: Vec<Piece>) -> Pieces
-        requires cut { IsCut file pieces.items }
-        requires tokens { tokens.items ≡ tokens_of file pieces.items }
+    pub(crate) fn new(file: FileText, pieces: Trail<Piece>, tokens: Vec<Piece>) -> Pieces
+        requires { IsCutText file pieces.items tokens.items }
         ensures { result ≡ record { text = file; pieces = pieces.items } }
     {
         Pieces {
@@ -54,17 +54,10 @@ impl Pieces {
 
     /// The file that was cut.
     pub fn file(&self) -> &FileText
-        ensures { result.now ≡ self.now.text }
-    {
-        &self.file
-    }
-
-    /// What the file is cut into.
-    pub fn pieces(&self) -> &[Piece]
-        ensures pieces { result.now ≡ self.now.pieces }
+        ensures text { result.now ≡ self.now.text }
         ensures cut { IsCut self.now.text self.now.pieces }
     {
-        &self.pieces
+        &self.file
     }
 
     /// The tokens. An inserted semicolon is empty, and stands at the end of the token before it.

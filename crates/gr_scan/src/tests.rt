@@ -279,8 +279,8 @@ fn every_operator_and_keyword(rt: HostRuntime) -> Result<(), Fail> {
     for operator in Operator::ALL {
         let file = file_of(alloc, operator.spelling())?;
         match scan(alloc, &file) {
-            Ok(pieces) => match pieces.pieces() {
-                [piece] => assert!(rt; piece.class == Class::Operator(operator)),
+            Ok(pieces) => match pieces.tokens() {
+                [piece, ..] => assert!(rt; piece.class == Class::Operator(operator)),
                 _ => assert!(rt; false),
             },
             Err(_) => assert!(rt; false),
@@ -289,8 +289,8 @@ fn every_operator_and_keyword(rt: HostRuntime) -> Result<(), Fail> {
     for keyword in Keyword::ALL {
         let file = file_of(alloc, keyword.spelling())?;
         match scan(alloc, &file) {
-            Ok(pieces) => match pieces.pieces() {
-                [piece] => assert!(rt; piece.class == Class::Keyword(keyword)),
+            Ok(pieces) => match pieces.tokens() {
+                [piece, ..] => assert!(rt; piece.class == Class::Keyword(keyword)),
                 _ => assert!(rt; false),
             },
             Err(_) => assert!(rt; false),

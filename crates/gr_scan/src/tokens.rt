@@ -1,13 +1,13 @@
-//! The tokens of a cut.
-ghost use Rattle.std.specs.Prelude.{◌≡◌, ◌==◌, ◌≤◌, length, All, IfOk};
+//! The tokens of a cut, piece by piece.
+ghost use Rattle.std.specs.Prelude.{◌≡◌, ◌==◌, ◌≤◌, length, IfOk};
 ghost use Rattle.std.specs.List.{list_any};
-ghost use Rattle.gr_scan.specs.Tokens.{is_trivia, ends_statement, ends_line, tokens_of, GoesOn};
+ghost use Rattle.gr_scan.specs.Tokens.{is_trivia, ends_statement, ends_line, GoesOn};
 
 use crate::keywords::Keyword;
 use crate::operators::Operator;
 use crate::piece::{Class, Piece};
 use gr_text::Span;
-use std::alloc::{AllocError, Global};
+use std::alloc::AllocError;
 
 fn is_trivia(class: Class) -> bool
     ensures { result ≡ is_trivia class }
@@ -62,7 +62,7 @@ fn ends_line(text: &[u8], piece: &Piece) -> bool
     }
 }
 
-fn semicolon(at: usize) -> Piece
+pub fn semicolon(at: usize) -> Piece
     ensures { result ≡ record { class = Class.Operator Operator.Semicolon; span = record { start = at; end = at } } }
 {
     Piece {
@@ -73,7 +73,7 @@ fn semicolon(at: usize) -> Piece
 
 /// Goes over one piece: adds its token, and the semicolon that is due where the line ends. The answer is where a
 /// semicolon is due next, if the line ends.
-fn add_piece(
+pub fn add_piece(
     found: &mut Vec<Piece>,
     due: Option<usize>,
     text: &[u8],
@@ -99,24 +99,5 @@ fn add_piece(
             Ok(None)
         }
         None => Ok(None),
-    }
-}
-
-/// The tokens of a cut.
-pub fn tokens_of(alloc: Global, text: &[u8], pieces: &[Piece]) -> Result<Vec<Piece>, AllocError>
-    requires { All (λ p. (p.span.start ≤ p.span.end) × (p.span.end ≤ length text.now)) pieces.now }
-    ensures { IfOk result (λ found. found.items ≡ tokens_of text.now pieces.now) }
-{
-    let mut found = Vec::new(alloc);
-    let mut due = None;
-    for piece in pieces {
-        due = add_piece(&mut found, due, text, piece)?;
-    }
-    match due {
-        Some(at) => {
-            found.push(semicolon(at))?;
-            Ok(found)
-        }
-        None => Ok(found),
     }
 }

@@ -1,10 +1,10 @@
 -- The invariants of the loops of `scanner::cut`.
-use Rattle.std.proofs.Common.{◌≤◌, ◌-◌, length}
-use Rattle.gr_scan.specs.Cuts.{CutsUpTo}
+use Rattle.std.proofs.Common.{◌-◌, length}
+use Rattle.gr_scan.proofs.ScanLemmas.{Scanned}
 use Rattle.gr_scan.proofs.scanner.cut.Given as goal
 
 abbrev pub invariant-loop-at : goal.invariant-loop-at
-invariant-loop-at l = record { fits : l.at ≤ length l.text; cut : CutsUpTo l.text l.pieces.items l.at }
+invariant-loop-at l = Scanned l.text l.pieces.items l.tokens.items l.due l.at
 
 abbrev pub decreases-loop-at : goal.decreases-loop-at
 decreases-loop-at l = length l.text - l.at
