@@ -12,6 +12,7 @@ ghost use Rattle.gr_parse.specs.WellFormed.{IsList, IsOpenList, Perhaps, Any, Is
 
 use crate::groups::Spec;
 use crate::names::{literals, names};
+use crate::short_lists::push;
 use crate::syntax::{Kind, Token};
 use crate::take::{Parsed, at, expect, goes_on, open, separator};
 use crate::tree::{Field, ImportSpec, Item, TypeBody, TypeSpec, VarSpec, VarValues};
@@ -115,7 +116,7 @@ fn fields(alloc: Global, tokens: &[Token], depth: u32) -> Parsed<'_, (Vec<Item<F
         let (value, after) = field(alloc, rest, depth)?;
         let (separator, after) = separator(after, Kind::Semicolon);
         more = separator.is_some();
-        fields.push(Item { value, separator })?;
+        push(&mut fields, Item { value, separator })?;
         rest = after;
     }
     let (close, rest) = expect(rest, Kind::RightBrace, depth)?;

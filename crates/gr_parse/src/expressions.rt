@@ -13,6 +13,7 @@ ghost use Rattle.gr_parse.specs.Grouping.{IsUnary, IsOperand, IsLiteralIn, IsLin
 
 use crate::lookahead::{begins_key, begins_link, literal_is_named, type_is_named};
 use crate::operators::{at_leaf, at_prefix, binary_operator, leaf, open_prefix, strength_at};
+use crate::short_lists::push;
 use crate::syntax::{Kind, Token};
 use crate::take::{Parsed, at, expect, goes_on, open, separator};
 use crate::tree::{CompositeLit, Element, Expr, ExprItem, Key, Link, Operand, TypeExpr};
@@ -53,7 +54,7 @@ fn binary(
     'operators: while strength_at(rest) == strength {
         let ((op, at), after) = binary_operator(rest, depth)?;
         let (value, after) = binary(alloc, after, depth, header, strength + 1)?;
-        operands.push(Operand { op, at, value })?;
+        push(&mut operands, Operand { op, at, value })?;
         rest = after;
     }
     if operands.is_empty() {
@@ -171,7 +172,7 @@ fn literal(
     'elements: while goes_on(more, rest, Kind::RightBrace) {
         let (element, after) = element(alloc, rest, inside)?;
         more = element.comma.is_some();
-        elements.push(element)?;
+        push(&mut elements, element)?;
         rest = after;
     }
     let (close, rest) = expect(rest, Kind::RightBrace, inside)?;
@@ -216,7 +217,7 @@ fn chain(alloc: Global, first: Expr, tokens: &[Token], depth: u32, header: bool)
     let mut rest = tokens;
     'links: while begins_link(rest) {
         let (next, after) = link(alloc, rest, depth, header)?;
-        links.push(next)?;
+        push(&mut links, next)?;
         rest = after;
     }
     if links.is_empty() {
@@ -268,7 +269,7 @@ fn arguments(alloc: Global, tokens: &[Token], depth: u32) -> Parsed<'_, (Vec<Exp
         let (value, after) = expression(alloc, rest, depth, false)?;
         let (comma, after) = separator(after, Kind::Comma);
         more = comma.is_some();
-        arguments.push(ExprItem { value, comma })?;
+        push(&mut arguments, ExprItem { value, comma })?;
         rest = after;
     }
     let (close, rest) = expect(rest, Kind::RightParen, depth)?;

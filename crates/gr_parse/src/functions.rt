@@ -11,6 +11,7 @@ ghost use Rattle.gr_parse.specs.ListSpelling.{items_spelled};
 ghost use Rattle.gr_parse.specs.WellFormed.{IsOpenList, Any, IsParam, IsResult};
 
 use crate::names::idents;
+use crate::short_lists::push;
 use crate::syntax::{Kind, Token};
 use crate::take::{Parsed, at, expect, goes_on, open, separator};
 use crate::tree::{Item, Param, Receiver, Results, TypeExpr};
@@ -62,7 +63,7 @@ pub fn params(alloc: Global, tokens: &[Token], depth: u32) -> Parsed<'_, (Vec<It
         let (value, after) = param(alloc, rest, depth)?;
         let (separator, after) = separator(after, Kind::Comma);
         more = separator.is_some();
-        params.push(Item { value, separator })?;
+        push(&mut params, Item { value, separator })?;
         rest = after;
     }
     let (close, rest) = expect(rest, Kind::RightParen, depth)?;
@@ -112,7 +113,7 @@ fn result_types(
         let (value, after) = type_expr(alloc, rest, depth)?;
         let (separator, after) = separator(after, Kind::Comma);
         more = separator.is_some();
-        types.push(Item { value, separator })?;
+        push(&mut types, Item { value, separator })?;
         rest = after;
     }
     let (close, rest) = expect(rest, Kind::RightParen, depth)?;

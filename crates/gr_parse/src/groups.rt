@@ -9,6 +9,7 @@ ghost use Rattle.gr_parse.specs.declared.syntax.Token.{Token};
 ghost use Rattle.gr_parse.specs.WellFormed.{IsOpenList, IsGroup};
 ghost use Rattle.gr_parse.specs.View.{list_view, group_view};
 
+use crate::short_lists::push;
 use crate::syntax::{Kind, Token};
 use crate::take::{Parsed, at, expect, goes_on, open, separator};
 use crate::tree::{Group, Item};
@@ -54,7 +55,7 @@ fn specs<S: Spec>(alloc: Global, tokens: &[Token], depth: u32) -> Parsed<'_, (Ve
         let (value, after) = S::parse(alloc, rest, depth)?;
         let (separator, after) = separator(after, Kind::Semicolon);
         more = separator.is_some();
-        items.push(Item { value, separator })?;
+        push(&mut items, Item { value, separator })?;
         rest = after;
     }
     let (close, rest) = expect(rest, Kind::RightParen, depth)?;

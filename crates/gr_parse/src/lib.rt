@@ -16,6 +16,7 @@ mod names;
 mod operators;
 mod parser;
 mod refusal;
+mod short_lists;
 mod simple;
 mod statements;
 pub mod syntax;

@@ -8,6 +8,7 @@ ghost use Rattle.gr_parse.specs.WellFormed.{IsList, Any};
 ghost use Rattle.gr_parse.specs.View.{list_view, ident_view};
 ghost use Rattle.gr_parse.specs.FileView.{same_place, basic_view};
 
+use crate::short_lists::push;
 use crate::syntax::{Kind, Token};
 use crate::take::{Parsed, expect, separator};
 use crate::tree::{BasicLit, Ident, Item};
@@ -26,7 +27,7 @@ pub fn names(alloc: Global, tokens: &[Token], depth: u32) -> Parsed<'_, Vec<Item
         let (value, after) = expect(rest, Kind::Name, depth)?;
         let (separator, after) = separator(after, Kind::Comma);
         more = separator.is_some();
-        names.push(Item { value, separator })?;
+        push(&mut names, Item { value, separator })?;
         rest = after;
     }
     Ok((names, rest))
@@ -44,7 +45,7 @@ pub fn idents(alloc: Global, tokens: &[Token], depth: u32) -> Parsed<'_, Vec<Ite
         let (value, after) = ident(rest, depth)?;
         let (separator, after) = separator(after, Kind::Comma);
         more = separator.is_some();
-        idents.push(Item { value, separator })?;
+        push(&mut idents, Item { value, separator })?;
         rest = after;
     }
     Ok((idents, rest))
@@ -62,7 +63,7 @@ pub fn literals(alloc: Global, tokens: &[Token], depth: u32) -> Parsed<'_, Vec<I
         let (value, after) = basic_lit(rest, depth)?;
         let (separator, after) = separator(after, Kind::Comma);
         more = separator.is_some();
-        literals.push(Item { value, separator })?;
+        push(&mut literals, Item { value, separator })?;
         rest = after;
     }
     Ok((literals, rest))

@@ -11,6 +11,7 @@ ghost use Rattle.gr_parse.specs.FileView.{simple_view};
 ghost use Rattle.gr_parse.specs.Listed.{IsSimpleIn, IsListed};
 
 use crate::expressions::expression;
+use crate::short_lists::push;
 use crate::syntax::{Kind, Token};
 use crate::take::{Parsed, at, expect, separator};
 use crate::tree::{Expr, ExprItem, SimpleStmt};
@@ -44,7 +45,7 @@ fn more_exprs(
         let (value, after) = expr(alloc, rest, depth, setting)?;
         let (comma, after) = separator(after, Kind::Comma);
         more = comma.is_some();
-        exprs.push(ExprItem { value, comma })?;
+        push(&mut exprs, ExprItem { value, comma })?;
         rest = after;
     }
     Ok((exprs, rest))
@@ -69,7 +70,7 @@ fn first_expr(alloc: Global, value: Expr, comma: Option<usize>) -> Result<Vec<Ex
     ensures alone { IfOk result (λ v. v.items ≡ record { value = value; comma = comma } ∷ []) }
 {
     let mut exprs = Vec::new(alloc);
-    exprs.push(ExprItem { value, comma })?;
+    push(&mut exprs, ExprItem { value, comma })?;
     Ok(exprs)
 }
 

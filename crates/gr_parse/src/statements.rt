@@ -14,6 +14,7 @@ ghost use Rattle.gr_parse.specs.Listed.{AreReturned};
 use crate::groups::group;
 use crate::headers::{for_header, if_header};
 use crate::lookahead::begins_expression;
+use crate::short_lists::push;
 use crate::simple::{exprs, simple};
 use crate::syntax::{Kind, Token};
 use crate::take::{Parsed, at, expect, open, separator};
@@ -35,10 +36,13 @@ pub fn block(alloc: Global, tokens: &[Token], depth: u32) -> Parsed<'_, Block>
         let (statement, after) = statement(alloc, rest, inside)?;
         let (semicolon, after) = separator(after, Kind::Semicolon);
         more = semicolon.is_some();
-        statements.push(BlockItem {
-            statement,
-            semicolon,
-        })?;
+        push(
+            &mut statements,
+            BlockItem {
+                statement,
+                semicolon,
+            },
+        )?;
         rest = after;
     }
     let (close, rest) = expect(rest, Kind::RightBrace, inside)?;

@@ -167,7 +167,7 @@ literal-elements-preserved t c = record {
   leads = leads_as (leads_rest (list_rest ElementList kind.RightBrace) (sym c.is_some-more.ensures) (leads_on (leads_rest (list_rest ElementList kind.RightBrace) (c.goes_on.ensures.separated c.elements-test.true) c.elements.invariant.leads) c.in_ok-element.ensures.exact)) (all_tokens_push element_spelled _ _ ∙ ap (all_tokens element_spelled) (sym c.in_ok-push.ensures.items));
   kept = c.elements.invariant.kept;
   grouped = subst (Each {X = Element} (λ i. IsExpr (expr_view i.value))) (sym c.in_ok-push.ensures.items) (each_push {X = Element} (λ i. IsExpr (expr_view i.value)) _ _ c.elements.invariant.grouped c.in_ok-element.ensures.grouped);
-  separated = subst (λ b. IsSeparatedSoFar {X = Element} (λ i. i.comma) b c.push.new.self.items) (sym c.is_some-more.ensures) (subst (IsSeparatedSoFar {X = Element} (λ i. i.comma) _) (sym c.in_ok-push.ensures.items) (so_far_push {X = Element} (λ i. i.comma) c.elements.more c.elements.elements.items c.in_ok-element.element (c.goes_on.ensures.separated c.elements-test.true) c.elements.invariant.separated));
+  separated = subst (λ b. IsSeparatedSoFar {X = Element} (λ i. i.comma) b c.push.new.list.items) (sym c.is_some-more.ensures) (subst (IsSeparatedSoFar {X = Element} (λ i. i.comma) _) (sym c.in_ok-push.ensures.items) (so_far_push {X = Element} (λ i. i.comma) c.elements.more c.elements.elements.items c.in_ok-element.element (c.goes_on.ensures.separated c.elements-test.true) c.elements.invariant.separated));
   shorter = omega (arith, leads_no_longer c.in_ok-element.ensures.exact, c.elements.invariant.shorter);
 }
 
@@ -269,7 +269,7 @@ pub arguments-arguments-preserved : goal.arguments-arguments-preserved
 arguments-arguments-preserved t c = record {
   leads = leads_as (leads_rest (list_rest Arguments kind.RightParen) (sym c.is_some-more.ensures) (leads_on (leads_rest (list_rest Arguments kind.RightParen) (c.goes_on.ensures.separated c.arguments-test.true) c.arguments.invariant.leads) (leads_rule (later (c.goes_on.ensures.open c.arguments-test.true) last) (leads_then c.in_ok-value.ensures.exact (list_separated Arguments MoreArguments kind.Comma kind.RightParen _ _ _ _ (λ ts e. first e) (λ ts e. later e last) c.separator-comma.ensures))))) (all_tokens_push expr_item_spelled _ _ ∙ ap (all_tokens expr_item_spelled) (sym c.in_ok-push.ensures.items));
   grouped = subst (Each {X = ExprItem} (λ i. IsExpr (expr_view i.value))) (sym c.in_ok-push.ensures.items) (each_push {X = ExprItem} (λ i. IsExpr (expr_view i.value)) _ _ c.arguments.invariant.grouped c.in_ok-value.ensures.grouped.grouped);
-  separated = subst (λ b. IsSeparatedSoFar {X = ExprItem} (λ i. i.comma) b c.push.new.self.items) (sym c.is_some-more.ensures) (subst (IsSeparatedSoFar {X = ExprItem} (λ i. i.comma) _) (sym c.in_ok-push.ensures.items) (so_far_push {X = ExprItem} (λ i. i.comma) c.arguments.more c.arguments.arguments.items _ (c.goes_on.ensures.separated c.arguments-test.true) c.arguments.invariant.separated));
+  separated = subst (λ b. IsSeparatedSoFar {X = ExprItem} (λ i. i.comma) b c.push.new.list.items) (sym c.is_some-more.ensures) (subst (IsSeparatedSoFar {X = ExprItem} (λ i. i.comma) _) (sym c.in_ok-push.ensures.items) (so_far_push {X = ExprItem} (λ i. i.comma) c.arguments.more c.arguments.arguments.items _ (c.goes_on.ensures.separated c.arguments-test.true) c.arguments.invariant.separated));
   shorter = omega (arith, read_no_longer c.in_ok-value.ensures.exact, separator_no_longer kind.Comma c.separator-comma.result.0 c.in_ok-value.after.now c.separator-comma.result.1.now c.separator-comma.ensures, c.arguments.invariant.shorter);
 }
 
