@@ -22,4 +22,4 @@ first_is_on_cycle : IsOnCycle two_and_one 0
 first_is_on_cycle = (1, first_imports_second, through second_imports_first (itself (lit< tt)))
 
 first_and_second_are_a_cycle : IsCycleOf two_and_one 0 (0 ∷ 1 ∷ [])
-first_and_second_are_a_cycle = (refl, first_imports_second, second_imports_first)
+first_and_second_are_a_cycle = (refl, (first_imports_second, second_imports_first))

@@ -1,5 +1,5 @@
 -- One more closure.
-use Rattle.std.proofs.Common.{◌≡◌, ◌+◌, length, arith, ◌∙◌, ap}
+use Rattle.std.proofs.Common.{arith}
 use Rattle.std.proofs.lemmas.List.{length_push}
 use Rattle.gr_graph.proofs.Cycles.{closures_more}
 use Rattle.gr_graph.proofs.closure.closures.Goals as goal

@@ -1,5 +1,4 @@
 -- The way that was passed, turned round.
-use Rattle.std.proofs.Common.{arith}
 use Rattle.gr_graph.proofs.Cycles.{way_is}
 use Rattle.gr_graph.proofs.closure.way_to.Goals as goal
 

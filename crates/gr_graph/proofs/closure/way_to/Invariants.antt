@@ -1,5 +1,5 @@
 -- The way that is left leads on by the packages that were passed.
-use Rattle.std.proofs.Common.{◌≡◌, ℕ, ◌<◌, Bool, List, length}
+use Rattle.std.proofs.Common.{ℕ, ◌<◌, Bool, List, length}
 use Rattle.std.proofs.Common.{reverse}
 use Rattle.gr_graph.specs.Imports.{Links, Imports, Leads}
 use Rattle.gr_graph.specs.Search.{IsSearch, package_at}

@@ -1,5 +1,5 @@
 -- One more row, and all rows at the end.
-use Rattle.std.proofs.Common.{◌≡◌, ℕ, ◌≤◌, List, length, arith, subst}
+use Rattle.std.proofs.Common.{◌≡◌, ℕ, List, length, arith, subst}
 use Rattle.gr_graph.specs.Imports.{HoldImporters, NotesRow}
 use Rattle.gr_graph.proofs.Noted.{HoldImporters-more}
 use Rattle.gr_graph.proofs.importers.importers.Goals as goal

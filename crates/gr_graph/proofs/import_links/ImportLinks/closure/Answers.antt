@@ -1,5 +1,5 @@
 -- The closure that was found.
-use Rattle.std.proofs.Common.{◌<◌, List, length, sym, subst}
+use Rattle.std.proofs.Common.{◌<◌, length, sym, subst}
 use Rattle.gr_graph.specs.Imports.{Links, IsClosure}
 use Rattle.gr_graph.proofs.Answered.{closure_read}
 use Rattle.gr_graph.proofs.import_links.ImportLinks.closure.Goals as goal

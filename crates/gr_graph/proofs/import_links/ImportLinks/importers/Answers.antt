@@ -1,5 +1,5 @@
 -- The importers that were noted.
-use Rattle.std.proofs.Common.{List, ap, sym, subst, ◌∙◌}
+use Rattle.std.proofs.Common.{ap, sym, subst, ◌∙◌}
 use Rattle.gr_graph.specs.Imports.{Links, AreImporters, imports_of}
 use Rattle.gr_graph.proofs.Answered.{importers_of_all}
 use Rattle.gr_graph.proofs.import_links.ImportLinks.importers.Goals as goal

@@ -1,11 +1,11 @@
 -- Following one package: each import is a package, and the loop's step by what one more package does.
-use Rattle.std.proofs.Common.{rules, ◌≡◌, ◌+◌, ◌<◌, length, ℕ, ◌*◌, ◌≤◌, Bool, true, false, List, [], ◌∷◌, ◌++◌, get_or, arith, below_more, sym, subst, ap, ◌∙◌}
+use Rattle.std.proofs.Common.{◌≡◌, ◌<◌, length, ℕ, true, false, List, get_or, arith, below_more, sym, subst, ap, ◌∙◌}
 use Rattle.std.proofs.Math.ListN.{set}
 use Rattle.std.proofs.lemmas.List.{get_or-set_same}
-use Rattle.gr_graph.specs.Imports.{AreLinked, Imports, imports_of}
-use Rattle.gr_graph.specs.Search.{IsSearch, IsFollowed, IsMarked, GoesOn, package_at}
+use Rattle.gr_graph.specs.Imports.{Imports, imports_of}
+use Rattle.gr_graph.specs.Search.{IsMarked, package_at}
 use Rattle.gr_graph.specs.declared.search.Found.{Found}
-use Rattle.gr_graph.proofs.SearchSteps.{IsSearch-add, GoesOn-add, GoesOn-refl, GoesOn-trans, IsFollowed-more, number_at, number_below, linked_below, row_imports, mark_read, marked_stays, longer}
+use Rattle.gr_graph.proofs.SearchSteps.{IsSearch-add, GoesOn-add, GoesOn-trans, IsFollowed-more, number_at, number_below, linked_below, row_imports, mark_read, marked_stays, longer}
 use Rattle.gr_graph.proofs.search.Search.follow.Goals as goal
 use Rattle.gr_graph.proofs.search.Search.follow.Goals.{then-not-index+in_ok-push, else-not-index}
 

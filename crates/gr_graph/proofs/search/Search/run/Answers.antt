@@ -1,5 +1,5 @@
 -- A search is over where all that was found is followed.
-use Rattle.std.proofs.Common.{◌≡◌, ◌<◌, length, arith}
+use Rattle.std.proofs.Common.{arith}
 use Rattle.gr_graph.proofs.search.Search.run.Goals as goal
 
 pub returns-clause-followed : goal.returns-clause-followed
