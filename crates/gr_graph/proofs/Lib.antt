@@ -1,0 +1,7 @@
+pub mod Reached
+pub mod SearchSteps
+pub mod Held
+pub mod Cycles
+pub mod Ordered
+pub mod Noted
+pub mod Answered

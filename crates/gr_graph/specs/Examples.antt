@@ -1,0 +1,25 @@
+-- Three packages: the first two import each other, and the third imports the first.
+use Rattle.std.specs.Prelude.{ℕ, List, [], ◌∷◌, refl}
+use Rattle.std.proofs.Common.{lit<}
+use Rattle.gr_graph.specs.Imports.{Links, Imports, Reaches, itself, through, IsOnCycle, IsCycleOf}
+
+abbrev two_and_one : Links
+two_and_one = (1 ∷ []) ∷ (0 ∷ []) ∷ (0 ∷ []) ∷ []
+
+first_imports_second : Imports two_and_one 0 1
+first_imports_second = (0, lit< tt, refl)
+
+second_imports_first : Imports two_and_one 1 0
+second_imports_first = (0, lit< tt, refl)
+
+third_imports_first : Imports two_and_one 2 0
+third_imports_first = (0, lit< tt, refl)
+
+third_reaches_second : Reaches two_and_one 2 1
+third_reaches_second = through third_imports_first (through first_imports_second (itself (lit< tt)))
+
+first_is_on_cycle : IsOnCycle two_and_one 0
+first_is_on_cycle = (1, first_imports_second, through second_imports_first (itself (lit< tt)))
+
+first_and_second_are_a_cycle : IsCycleOf two_and_one 0 (0 ∷ 1 ∷ [])
+first_and_second_are_a_cycle = (refl, (first_imports_second, second_imports_first))

@@ -1,0 +1,4 @@
+pub mod Imports
+pub mod Search
+pub mod Closures
+pub mod Examples

@@ -1,0 +1,14 @@
+//! The packages of a workspace, and which import which.
+#![tactic(auto)]
+
+mod closure;
+mod import_links;
+mod importers;
+mod order;
+mod package_list;
+mod search;
+#[cfg(test)]
+mod tests;
+
+pub use import_links::ImportLinks;
+pub use package_list::PackageList;
