@@ -11,3 +11,4 @@ pub mod Trees
 pub mod Found
 pub mod Parsed
 pub mod Scoped
+pub mod Chains
