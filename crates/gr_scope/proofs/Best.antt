@@ -1,100 +1,135 @@
--- The scan for the declaration that precedes all others.
-use Rattle.std.proofs.Common.{ℕ, ◌≡◌, ◌+◌, ◌<◌, ◌≤◌, ◌⊎◌, inl, inr, List, [], ◌∷◌, length, Option, Some, None, sym, subst, arith, zero, suc}
+-- The walk to the declaration that precedes all others, from the last identifier of its name to the first.
+use Rattle.std.proofs.Common.{ℕ, ◌≡◌, ◌+◌, ◌<◌, ◌≤◌, ◌⊎◌, inl, inr, List, [], ◌∷◌, length, get_or, Option, Some, None, refl, sym, subst, arith, zero, suc}
 use Rattle.std.specs.Prelude.{MatchOption}
 use Rattle.gr_scope.specs.declared.model.Identifier.{Identifier}
 use Rattle.gr_scope.specs.Bindings.{Layout, Names, MayDeclare, BindsAt}
 use Rattle.gr_scope.specs.WellFormed.{WellFormed}
 use Rattle.gr_scope.specs.Table.{layout_of, names_of, IsCandidate, TakesOver}
+use Rattle.std.specs.Option.{ForSome}
+use Rattle.std.proofs.lemmas.Bool.{cases_order}
+use Rattle.gr_scope.specs.Chains.{IsLinked, IsChain, IsLeft}
+use Rattle.gr_scope.proofs.Chains.{IsKnown, chain_left, walk_left, walk_before}
 use Rattle.gr_scope.proofs.Nesting.{Nested}
-use Rattle.gr_scope.proofs.Innermost.{Precedes, precedes_trans, bound_of_first}
+use Rattle.gr_scope.proofs.Innermost.{Precedes, precedes_trans, precedes_asym, same_not_nests, bound_of_first}
 use Rattle.gr_scope.proofs.Nests.{nests}
 use Rattle.gr_scope.proofs.Uniqueness.{same_or_not}
 
--- of the candidates below k
-abbrev pub BestBelow : Layout → Names → List ℕ → ℕ → ℕ → Option ℕ → Type 0
-BestBelow l names name u k None = (d : ℕ) → d < k → IsCandidate l names name u d → ⊥
-BestBelow l names name u k (Some b) = (b < k) × IsCandidate l names name u b × ((d : ℕ) → d < k → IsCandidate l names name u d → (d ≡ b) ⊎ Precedes l b d)
+-- the best of the candidates that are not left
+abbrev pub BestSoFar : Layout → Names → List ℕ → ℕ → Option ℕ → Option ℕ → Type 0
+BestSoFar l names name u at None = (d : ℕ) → IsCandidate l names name u d → IsLeft at d
+BestSoFar l names name u at (Some b) = (IsLeft at b → ⊥) × IsCandidate l names name u b × ((d : ℕ) → IsCandidate l names name u d → IsLeft at d ⊎ ((d ≡ b) ⊎ Precedes l b d))
 
 pub may_in_range : (xs : List Identifier) (d : ℕ) → MayDeclare (layout_of xs) d → d < length xs
 may_in_range [] d m = cc
 may_in_range (x ∷ xs) zero m = omega arith
 may_in_range (x ∷ xs) (suc d) m = let less : d < length xs = may_in_range xs d m in omega arith
 
-below_suc : (k z : ℕ) → z < suc k → (z ≡ k) ⊎ (z < k)
-below_suc k z h = elim (same_or_not z k) [ inl e ↦ inl e | inr ne ↦ inr (omega arith) ]
+-- the candidates that are left at d, without d
+abbrev Behind : Layout → Names → List ℕ → ℕ → ℕ → Option ℕ → Type 0
+Behind l names name u d next = (e : ℕ) → IsCandidate l names name u e → e ≤ d → (e ≡ d → ⊥) → IsLeft next e
 
-pub best_start : (l : Layout) (names : Names) (name : List ℕ) (u : ℕ) → BestBelow l names name u 0 None
-best_start l names name u = λ d lt c. omega arith
+not_left : (d : ℕ) (next : Option ℕ) → ForSome next (λ e. e < d) → IsLeft next d → ⊥
+not_left d None h k = k
+not_left d (Some e) h k = let less : e < d = h e refl in omega (arith, less, k)
 
-pub best_takes : (l : Layout) → Nested l → (names : Names) (name : List ℕ) (u k : ℕ) (best : Option ℕ) → BestBelow l names name u k best →
-    IsCandidate l names name u k → TakesOver l best k → BestBelow l names name u (k + 1) (Some k)
-best_takes l nested names name u k None h c t = (
-  omega arith,
+not_left_later : (d b : ℕ) (next : Option ℕ) → ForSome next (λ e. e < d) → (b ≤ d → ⊥) → IsLeft next b → ⊥
+not_left_later d b None h later k = k
+not_left_later d b (Some e) h later k = let less : e < d = h e refl in later (omega (arith, less, k))
+
+best_takes : (l : Layout) → Nested l → (names : Names) (name : List ℕ) (u d : ℕ) (next best : Option ℕ) → ForSome next (λ e. e < d) → Behind l names name u d next →
+    BestSoFar l names name u (Some d) best → IsCandidate l names name u d → TakesOver l best d → BestSoFar l names name u next (Some d)
+best_takes l nested names name u d next None lower behind h c t = (
+  not_left d next lower,
   c,
-  λ d lt cd. elim (below_suc k d (omega arith)) [
-    | inl e ↦ inl e
-    | inr less ↦ absurd (h d less cd)
-  ],
+  λ e ce. elim (same_or_not e d) [ inl same ↦ inr (inl same) | inr other ↦ inl (behind e ce (h e ce) other) ],
 )
-best_takes l nested names name u k (Some b) h c t = (
-  omega arith,
-  c,
-  λ d lt cd. elim (below_suc k d (omega arith)) [
-    | inl e ↦ inl e
-    | inr less ↦ elim (h.2 d less cd) [
-      | inl e ↦ inr (let P : ℕ → Type 0 = λ v. Precedes l k v in subst P (sym e) (inr t))
-      | inr p ↦ inr (precedes_trans l nested k b d u c.2.may h.1.2.may cd.2.may c.1 h.1.1 cd.1 (inr t) p)
-    ]
-  ],
-)
+best_takes l nested names name u d next (Some b) lower behind h c t =
+    let over : Precedes l d b = elim (nested.comparable d b u c.2.may h.1.2.may c.1 h.1.1) [
+      | inl same ↦ inl (
+        same,
+        elim (cases_order d b) [
+          | inl e ↦ absurd (h.0 (let le : b ≤ d = omega arith in le))
+          | inr o ↦ elim o [ inl less ↦ less | inr more ↦ absurd (h.0 (let le : b ≤ d = omega arith in le)) ]
+        ],
+      )
+      | inr o ↦ elim o [ inl n ↦ inr n | inr n ↦ absurd (t n) ]
+    ] in (
+      not_left d next lower,
+      c,
+      λ e ce. elim (h.2 e ce) [
+        | inl left ↦ elim (same_or_not e d) [ inl same ↦ inr (inl same) | inr other ↦ inl (behind e ce left other) ]
+        | inr o ↦ elim o [
+          | inl same ↦ inr (inr (let P : ℕ → Type 0 = λ v. Precedes l d v in subst P (sym same) over))
+          | inr p ↦ inr (inr (precedes_trans l nested d b e u c.2.may h.1.2.may ce.2.may c.1 h.1.1 ce.1 over p))
+        ]
+      ],
+    )
 
-pub best_stays : (l : Layout) → Nested l → (names : Names) (name : List ℕ) (u k : ℕ) (best : Option ℕ) → BestBelow l names name u k best →
-    (IsCandidate l names name u k → TakesOver l best k → ⊥) → BestBelow l names name u (k + 1) best
-best_stays l nested names name u k None h never = λ d lt cd. elim (below_suc k d (omega arith)) [
-  | inl e ↦ (let P : ℕ → Type 0 = λ v. IsCandidate l names name u v in never (subst P e cd) tt)
-  | inr less ↦ h d less cd
+best_stays : (l : Layout) → Nested l → (names : Names) (name : List ℕ) (u d : ℕ) (next best : Option ℕ) → ForSome next (λ e. e < d) → Behind l names name u d next →
+    BestSoFar l names name u (Some d) best → (IsCandidate l names name u d → TakesOver l best d → ⊥) → BestSoFar l names name u next best
+best_stays l nested names name u d next None lower behind h never = λ e ce. elim (same_or_not e d) [
+  | inl same ↦ (let P : ℕ → Type 0 = λ v. IsCandidate l names name u v in absurd (never (subst P same ce) tt))
+  | inr other ↦ behind e ce (h e ce) other
 ]
-best_stays l nested names name u k (Some b) h never = (
-  omega (arith, h.0),
+best_stays l nested names name u d next (Some b) lower behind h never = (
+  not_left_later d b next lower h.0,
   h.1,
-  λ d lt cd. elim (below_suc k d (omega arith)) [
-    | inl e ↦
-        let P : ℕ → Type 0 = λ v. IsCandidate l names name u v in
-        let Q : ℕ → Type 0 = λ v. (v ≡ b) ⊎ Precedes l b v in
-        let ck : IsCandidate l names name u k = subst P e cd in
-        let less : b < k = h.0 in
-        subst Q (sym e) (elim (nested.comparable b k u h.1.2.may ck.2.may h.1.1 ck.1) [
-          | inl s ↦ inr (inl (s, less))
-          | inr o ↦ elim o [ inl n ↦ inr (inr n) | inr n ↦ absurd (never ck n) ]
-        ])
-    | inr less ↦ h.2 d less cd
+  λ e ce. elim (h.2 e ce) [
+    | inl left ↦ elim (same_or_not e d) [
+      | inl same ↦
+          let P : ℕ → Type 0 = λ v. IsCandidate l names name u v in
+          let Q : ℕ → Type 0 = λ v. (v ≡ b) ⊎ Precedes l b v in
+          let cd : IsCandidate l names name u d = subst P same ce in
+          inr (subst Q (sym same) (elim (nested.comparable b d u h.1.2.may cd.2.may h.1.1 cd.1) [
+            | inl s ↦ absurd (never cd (λ n. same_not_nests l b d s n))
+            | inr o ↦ elim o [
+              | inl n ↦ inr (inr n)
+              | inr n ↦ absurd (never cd (λ m. precedes_asym l nested b d u h.1.2.may cd.2.may h.1.1 cd.1 (inr m) (inr n)))
+            ]
+          ]))
+      | inr other ↦ inl (behind e ce left other)
+    ]
+    | inr o ↦ inr o
   ],
 )
 
-pub best_binds : (xs : List Identifier) → WellFormed (layout_of xs) → (name : List ℕ) → (u b : ℕ) → BestBelow (layout_of xs) (names_of xs) name u (length xs) (Some b) →
+best_binds : (xs : List Identifier) → WellFormed (layout_of xs) → (name : List ℕ) → (u b : ℕ) → BestSoFar (layout_of xs) (names_of xs) name u None (Some b) →
     BindsAt (layout_of xs) (names_of xs) name u b
 best_binds xs w name u b h = bound_of_first (layout_of xs) (nests (layout_of xs) w) (names_of xs) name u b (record {
   declares = h.1.2;
   named = h.1.0;
   in_scope = h.1.1;
-  precedes = λ e de ne he. h.2 e (may_in_range xs e de.may) (ne, he, de);
+  precedes = λ e de ne he. elim (h.2 e (ne, he, de)) [ inl left ↦ absurd left | inr o ↦ o ];
 })
 
-pub none_binds : (xs : List Identifier) (name : List ℕ) (u : ℕ) → BestBelow (layout_of xs) (names_of xs) name u (length xs) None →
-    (d : ℕ) → BindsAt (layout_of xs) (names_of xs) name u d → ⊥
-none_binds xs name u h d b = h d (may_in_range xs d b.counts.declares.may) (b.named, b.in_scope, b.counts.declares)
+pub best_start : (xs : List Identifier) (name : List ℕ) (u : ℕ) (last : Option ℕ) (previous : List (Option ℕ)) → IsChain (names_of xs) (length xs) name last previous →
+    BestSoFar (layout_of xs) (names_of xs) name u last None
+best_start xs name u last previous h = λ d c. chain_left (names_of xs) (length xs) name last previous h d c.0 (may_in_range xs d c.2.may)
 
-pub best_next : (l : Layout) → Nested l → (names : Names) (name : List ℕ) (u k : ℕ) (best next : Option ℕ) → BestBelow l names name u k best →
-    ((IsCandidate l names name u k × TakesOver l best k) × (next ≡ Some k)) ⊎ ((IsCandidate l names name u k × TakesOver l best k → ⊥) × (next ≡ best)) →
-    BestBelow l names name u (k + 1) next
-best_next l nested names name u k best next h (inl x) = let P : Option ℕ → Type 0 = λ v. BestBelow l names name u (k + 1) v in subst P (sym x.1) (best_takes l nested names name u k best h x.0.0 x.0.1)
-best_next l nested names name u k best next h (inr x) = let P : Option ℕ → Type 0 = λ v. BestBelow l names name u (k + 1) v in subst P (sym x.1) (best_stays l nested names name u k best h (λ a b. x.0 (a, b)))
+pub best_next : (l : Layout) → Nested l → (names : Names) (name : List ℕ) (u d n : ℕ) (previous : List (Option ℕ)) (at next x best then : Option ℕ) → IsLinked names n previous →
+    at ≡ Some d → next ≡ get_or previous d x → IsKnown names name n at → BestSoFar l names name u at best →
+    ((IsCandidate l names name u d × TakesOver l best d) × (then ≡ Some d)) ⊎ ((IsCandidate l names name u d × TakesOver l best d → ⊥) × (then ≡ best)) →
+    BestSoFar l names name u next then
+best_next l nested names name u d n previous at next x best then linked is en known h c =
+    let lower = walk_before names n name previous at next x d linked is en known in
+    let behind : Behind l names name u d next = λ e ce le other. walk_left names n name previous at next x d linked is en known e ce.0 (let Q : Option ℕ → Type 0 = λ a. IsLeft a e in subst Q (sym is) le) other in
+    let B : Option ℕ → Type 0 = λ a. BestSoFar l names name u a best in
+    let here : BestSoFar l names name u (Some d) best = subst B is h in
+    let P : Option ℕ → Type 0 = λ v. BestSoFar l names name u next v in
+    elim c [
+      | inl y ↦ subst P (sym y.1) (best_takes l nested names name u d next best lower behind here y.0.0 y.0.1)
+      | inr y ↦ subst P (sym y.1) (best_stays l nested names name u d next best lower behind here (λ a b. y.0 (a, b)))
+    ]
 
-pub best_result : (xs : List Identifier) → WellFormed (layout_of xs) → (name : List ℕ) → (u k : ℕ) → (best : Option ℕ) → length xs ≤ k → k ≤ length xs → BestBelow (layout_of xs) (names_of xs) name u k best →
+-- the best so far is one of the identifiers
+pub best_known : (xs : List Identifier) (name : List ℕ) (u : ℕ) (at best : Option ℕ) → BestSoFar (layout_of xs) (names_of xs) name u at best → ForSome best (λ b. b < length xs)
+best_known xs name u at None h = λ x e. cc
+best_known xs name u at (Some b) h = λ x e.
+    let same : b ≡ x = cc in
+    let P : ℕ → Type 0 = λ v. v < length xs in
+    subst P same (may_in_range xs b h.1.2.may)
+
+pub best_result : (xs : List Identifier) → WellFormed (layout_of xs) → (name : List ℕ) → (u : ℕ) → (best : Option ℕ) → BestSoFar (layout_of xs) (names_of xs) name u None best →
     MatchOption best ((d : ℕ) → BindsAt (layout_of xs) (names_of xs) name u d → ⊥) (λ d. BindsAt (layout_of xs) (names_of xs) name u d)
-best_result xs w name u k None le ge h =
-    let e : k ≡ length xs = omega arith in
-    let P : ℕ → Type 0 = λ v. BestBelow (layout_of xs) (names_of xs) name u v None in none_binds xs name u (subst P e h)
-best_result xs w name u k (Some b) le ge h =
-    let e : k ≡ length xs = omega arith in
-    let P : ℕ → Type 0 = λ v. BestBelow (layout_of xs) (names_of xs) name u v (Some b) in best_binds xs w name u b (subst P e h)
+best_result xs w name u None h = λ d b. h d (b.named, b.in_scope, b.counts.declares)
+best_result xs w name u (Some b) h = best_binds xs w name u b h

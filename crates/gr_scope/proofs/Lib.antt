@@ -3,6 +3,8 @@ pub mod Nesting
 pub mod Innermost
 pub mod Uniqueness
 pub mod Nests
+pub mod Chains
+pub mod Linking
 pub mod Best
 pub mod Alike
 pub mod Moved

@@ -6,6 +6,7 @@ use Rattle.std.proofs.lemmas.Option.{slice_get-get_or}
 use Rattle.gr_parse.specs.SourceFile.{FileParts}
 use Rattle.gr_scope.specs.declared.model.Identifier.{Identifier}
 use Rattle.gr_scope.specs.Bindings.{Layout, Names}
+use Rattle.gr_scope.specs.Chains.{IsChain}
 use Rattle.gr_scope.specs.Found.{site_of}
 use Rattle.gr_scope.specs.Scoped.{ScopedPackage, layout_in, names_in}
 use Rattle.gr_scope.specs.Site.{Site, sites_layout, sites_names}
@@ -19,6 +20,14 @@ of_table P xs ys files p ex ef es h =
     let F : List FileParts → Type 0 = λ fs. P fs (layout_in p) (names_in p) (length p.sites) in
     let S : List Site → Type 0 = λ zs. P files (sites_layout zs) (sites_names zs) (length zs) in
     subst F ef (subst S es (in_sites (λ l names n. P files l names n) ys (subst X ex h)))
+
+-- the chain of an identifier's name is that which the table's links give
+pub chain_of_table : (xs ys zs : List Identifier) (u : ℕ) (name : List ℕ) (last : Option ℕ) (previous : List (Option ℕ)) → xs ≡ zs → ys ≡ zs → name ≡ names_of ys u →
+    IsChain (names_of zs) (length zs) name last previous → IsChain (names_of xs) (length xs) (names_of xs u) last previous
+chain_of_table xs ys zs u name last previous ex ey en h =
+    let N : List ℕ → Type 0 = λ n. IsChain (names_of zs) (length zs) n last previous in
+    let X : List Identifier → Type 0 = λ ws. IsChain (names_of ws) (length ws) (names_of ws u) last previous in
+    subst X (sym ex) (subst N (en ∙ ap (λ ws. names_of ws u) ey) h)
 
 pub found_file : (files : List FileParts) (at : ℕ) (x : FileParts) → at < length files → x ≡ get_or files at x → slice_get files at ≡ Some x
 found_file files at x lt e = slice_get-get_or files at x lt ∙ ap Some (sym e)

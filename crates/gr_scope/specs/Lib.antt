@@ -12,3 +12,4 @@ pub mod Trees
 pub mod Found
 pub mod Parsed
 pub mod Scoped
+pub mod Chains

@@ -38,10 +38,10 @@ IsNew l names d = (e : ℕ) → Blocks l names e d → ⊥
 abbrev pub IsCandidate : Layout → Names → List ℕ → ℕ → ℕ → Type 0
 IsCandidate l names name u d = (names d ≡ name) × InScope l d u × Declares l names d
 
--- d's block lies in that of the declaration at hand
+-- the block of the declaration at hand does not lie in that of d, which stands before it
 abbrev pub TakesOver : Layout → Option ℕ → ℕ → Type 0
 TakesOver l None d = Unit {0}
-TakesOver l (Some b) d = Nests (block_of (l.role d)) (block_of (l.role b))
+TakesOver l (Some b) d = Nests (block_of (l.role b)) (block_of (l.role d)) → ⊥
 
 -- e is a declaration of d's name, and d does not count beside it
 abbrev pub IsDisplacer : Layout → Names → ℕ → ℕ → Type 0

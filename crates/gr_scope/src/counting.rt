@@ -1,11 +1,13 @@
 //! Which declarations count, and to which an identifier is bound.
 ghost use Rattle.std.specs.Prelude.{ℕ, ◌≡◌, ◌<◌, ◌↔◌, length, IsTrue, MatchOption};
 ghost use Rattle.gr_scope.specs.Bindings.{Displaces, Declares, Counts, IsUse, IsBoundTo, IsPackageLevel, IsImport, is_use, is_implied, scope_of};
+ghost use Rattle.gr_scope.specs.Chains.{IsChain};
 ghost use Rattle.gr_scope.specs.WellFormed.{WellFormed};
 ghost use Rattle.gr_scope.specs.Table.{layout_of, names_of, IsDisplacer, IsDisplacedByNone};
 
+use crate::links::Chain;
 use crate::model::{Block, Identifier, Role, Scope};
-use crate::resolve::{binding, declares, name_at, role_at, same_name};
+use crate::resolve::{binding, declares, name_at, role_at};
 
 impl Role {
     pub fn is_use(self) -> bool
@@ -65,57 +67,65 @@ pub fn displaces(identifiers: &[Identifier], d: usize, e: usize) -> bool
         || is_pair(identifiers, d, e)
 }
 
-/// Whether e is a declaration of d's name beside which d does not count.
-fn is_displacer(identifiers: &[Identifier], d: usize, e: usize) -> bool
+/// Whether e, which has d's name, is a declaration beside which d does not count. The chain is that of their name.
+fn is_displacer(identifiers: &[Identifier], chain: Chain<'_>, d: usize, e: usize) -> bool
     requires first { d < length identifiers.now }
     requires second { e < length identifiers.now }
+    requires same { names_of identifiers.now e ≡ names_of identifiers.now d }
+    requires chain { IsChain (names_of identifiers.now) (length identifiers.now) (names_of identifiers.now e) chain.last chain.previous.now }
     ensures { IsTrue result ↔ IsDisplacer (layout_of identifiers.now) (names_of identifiers.now) d e }
 {
-    same_name(identifiers, e, d) && displaces(identifiers, e, d) && declares(identifiers, e)
+    displaces(identifiers, e, d) && declares(identifiers, chain, e)
 }
 
 /// Whether no declaration of d's name stands before it in its block, or in the package's if d is an import.
-fn is_displaced_by_none(identifiers: &[Identifier], d: usize) -> bool
-    requires { d < length identifiers.now }
+fn is_displaced_by_none(identifiers: &[Identifier], chain: Chain<'_>, d: usize) -> bool
+    requires in_range { d < length identifiers.now }
+    requires chain { IsChain (names_of identifiers.now) (length identifiers.now) (names_of identifiers.now d) chain.last chain.previous.now }
     ensures { IsTrue result ↔ IsDisplacedByNone (layout_of identifiers.now) (names_of identifiers.now) d }
 {
-    for e in 0..identifiers.len() {
-        if is_displacer(identifiers, d, e) {
+    let mut at = chain.last;
+    while let Some(e) = at {
+        if is_displacer(identifiers, chain, d, e) {
             return false;
         }
+        at = chain.previous[e];
     }
     true
 }
 
-/// Whether an identifier is a declaration that counts.
-pub fn counts(identifiers: &[Identifier], d: usize) -> bool
-    requires { d < length identifiers.now }
+/// Whether an identifier is a declaration that counts. The chain is that of its name.
+pub fn counts(identifiers: &[Identifier], chain: Chain<'_>, d: usize) -> bool
+    requires in_range { d < length identifiers.now }
+    requires chain { IsChain (names_of identifiers.now) (length identifiers.now) (names_of identifiers.now d) chain.last chain.previous.now }
     ensures { IsTrue result ↔ Counts (layout_of identifiers.now) (names_of identifiers.now) d }
 {
-    declares(identifiers, d) && is_displaced_by_none(identifiers, d)
+    declares(identifiers, chain, d) && is_displaced_by_none(identifiers, chain, d)
 }
 
-/// Whether an identifier is a lexical use.
-pub fn is_use(identifiers: &[Identifier], u: usize) -> bool
-    requires { u < length identifiers.now }
-    ensures { IsTrue result ↔ IsUse (layout_of identifiers.now) (names_of identifiers.now) u }
+/// Whether an identifier is a lexical use. The chain is that of its name.
+pub fn is_use(identifiers: &[Identifier], chain: Chain<'_>, d: usize) -> bool
+    requires in_range { d < length identifiers.now }
+    requires chain { IsChain (names_of identifiers.now) (length identifiers.now) (names_of identifiers.now d) chain.last chain.previous.now }
+    ensures { IsTrue result ↔ IsUse (layout_of identifiers.now) (names_of identifiers.now) d }
 {
-    let role = role_at(identifiers, u);
-    role.is_use() || (role.is_left_name() && !declares(identifiers, u))
+    let role = role_at(identifiers, d);
+    role.is_use() || (role.is_left_name() && !declares(identifiers, chain, d))
 }
 
-/// The declaration to which an identifier is bound.
-pub fn bound_to(identifiers: &[Identifier], u: usize) -> Option<usize>
-    requires in_range { u < length identifiers.now }
+/// The declaration to which an identifier is bound. The chain is that of its name.
+pub fn bound_to(identifiers: &[Identifier], chain: Chain<'_>, d: usize) -> Option<usize>
+    requires in_range { d < length identifiers.now }
     requires well_formed { WellFormed (layout_of identifiers.now) }
+    requires chain { IsChain (names_of identifiers.now) (length identifiers.now) (names_of identifiers.now d) chain.last chain.previous.now }
     ensures { let l = layout_of identifiers.now in
         let names = names_of identifiers.now in
-        MatchOption result ((d : ℕ) → IsBoundTo l names u d → ⊥) (λ d. IsBoundTo l names u d) }
+        MatchOption result ((e : ℕ) → IsBoundTo l names d e → ⊥) (λ e. IsBoundTo l names d e) }
 {
-    if is_use(identifiers, u) {
-        binding(identifiers, name_at(identifiers, u), u)
-    } else if counts(identifiers, u) {
-        Some(u)
+    if is_use(identifiers, chain, d) {
+        binding(identifiers, chain, name_at(identifiers, d), d)
+    } else if counts(identifiers, chain, d) {
+        Some(d)
     } else {
         None
     }

@@ -7,6 +7,7 @@ ghost use Rattle.gr_scope.specs.Scoped.{scoped};
 ghost use Rattle.gr_scope.specs.Trees.{AreNumbered};
 
 use crate::declarations::add_file;
+use crate::links::links_of;
 use crate::model::{Block, Identifier, Position, Role};
 use crate::source::RankedFile;
 use crate::table::ScopeTable;
@@ -63,5 +64,6 @@ pub fn declare<'a>(alloc: Global, files: &'a [FileTree]) -> Result<ScopeTable<'a
     ensures { IfOk result (λ table. table ≡ scoped files.now) }
 {
     let identifiers = identifiers_of(alloc, files)?;
-    Ok(ScopeTable::new(files, identifiers))
+    let links = links_of(alloc, &identifiers)?;
+    Ok(ScopeTable::new(files, identifiers, links))
 }

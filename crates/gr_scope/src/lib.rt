@@ -6,6 +6,7 @@ pub mod declarations;
 pub mod declare;
 pub mod expressions;
 pub mod law;
+pub mod links;
 pub mod model;
 pub mod resolve;
 pub mod simple;

@@ -2,14 +2,16 @@
 ghost use Rattle.std.specs.Prelude.{ℕ, ◌≡◌, ◌<◌, ◌↔◌, length, map, IsTrue, MatchOption, slice_get};
 ghost use Rattle.gr_parse.specs.SourceFile.{source_of, offset_of};
 ghost use Rattle.gr_scope.specs.Bindings.{Declares, Counts, IsIdentifier, scope_of};
+ghost use Rattle.gr_scope.specs.Chains.{AreLinks, IsChain};
 ghost use Rattle.gr_scope.specs.Found.{site_of};
 ghost use Rattle.gr_scope.specs.Scoped.{layout_in, names_in, IsBoundIn, IsPlaceOf, BeginsIn, BeginsAt};
 ghost use Rattle.gr_scope.specs.Table.{layout_of, names_of, StandsAt, IsFirstOf, IsFoundAt};
 ghost use Rattle.gr_scope.specs.WellFormed.{WellFormed};
 
 use crate::counting::{bound_to, counts};
+use crate::links::{Chain, Links};
 use crate::model::{Identifier, Position, Scope};
-use crate::resolve::{declares, place_at, role_at};
+use crate::resolve::{declares, name_at, place_at, role_at};
 use gr_parse::FileTree;
 use gr_text::Place;
 use std::marker::Model;
@@ -22,16 +24,17 @@ pub type DeclId = usize;
 pub struct ScopeTable<'a> {
     files: &'a [FileTree],
     identifiers: Vec<Identifier<'a>>,
+    links: Links<'a>,
 }
 
 impl<'a> Model for ScopeTable<'a> {
     ghost use Rattle.std.specs.Prelude.{map};
     ghost use Rattle.std.specs.Coded.{codes};
     ghost use Rattle.gr_parse.specs.contracts.tree.File as e;
+    ghost use Rattle.gr_scope.specs.Chains.{AreLinks, IsChain};
     ghost use Rattle.gr_scope.specs.Found.{site_of};
     ghost use Rattle.gr_scope.specs.Scoped.{ScopedPackage};
-    ghost use Rattle.gr_scope.specs.Table.{layout_of};
-    ghost use Rattle.gr_scope.specs.WellFormed.{WellFormed};
+    ghost use Rattle.gr_scope.specs.Chains.{IsTable};
 
     ghost Value = { ScopedPackage };
 
@@ -39,7 +42,7 @@ impl<'a> Model for ScopeTable<'a> {
 
     ghost view = { λ t. record { files = t.files.now; sites = map site_of t.identifiers.items } };
 
-    ghost invariant = { λ t. WellFormed (layout_of t.identifiers.items) };
+    ghost invariant = { λ t. IsTable t.identifiers.items t.links.last t.links.previous.items };
 }
 
 /// Whether an identifier of the package stands at a place.
@@ -107,23 +110,33 @@ fn first_beginning_at(
 }
 
 /// Whether a declaration does not count, beside another of its name.
-fn is_repeated(identifiers: &[Identifier], d: usize) -> bool
-    requires { d < length identifiers.now }
+fn is_repeated(identifiers: &[Identifier], chain: Chain<'_>, d: usize) -> bool
+    requires in_range { d < length identifiers.now }
+    requires chain { IsChain (names_of identifiers.now) (length identifiers.now) (names_of identifiers.now d) chain.last chain.previous.now }
     ensures { let l = layout_of identifiers.now in
         let names = names_of identifiers.now in
         IsTrue result ↔ (Declares l names d × (Counts l names d → ⊥)) }
 {
-    declares(identifiers, d) && !counts(identifiers, d)
+    declares(identifiers, chain, d) && !counts(identifiers, chain, d)
 }
 
 impl<'a> ScopeTable<'a> {
     /// The table of identifiers that were taken from files.
-    pub(crate) fn new(files: &'a [FileTree], identifiers: Vec<Identifier<'a>>) -> ScopeTable<'a>
-        requires { WellFormed (layout_of identifiers.items) }
+    pub(crate) fn new(
+        files: &'a [FileTree],
+        identifiers: Vec<Identifier<'a>>,
+        links: Links<'a>,
+    ) -> ScopeTable<'a>
+        requires well_formed { WellFormed (layout_of identifiers.items) }
+        requires linked { AreLinks (names_of identifiers.items) (length identifiers.items) links.last links.previous.items }
         ensures files { result.files ≡ files.now }
         ensures sites { result.sites ≡ map site_of identifiers.entry.items }
     {
-        ScopeTable { files, identifiers }
+        ScopeTable {
+            files,
+            identifiers,
+            links,
+        }
     }
 
     /// The files of the package, in the order of their paths.
@@ -162,7 +175,8 @@ impl<'a> ScopeTable<'a> {
         requires { u < length self.now.sites }
         ensures { MatchOption result ((d : ℕ) → IsBoundIn self.now u d → ⊥) (λ d. IsBoundIn self.now u d) }
     {
-        bound_to(&self.identifiers, u)
+        let chain = self.links.chain(name_at(&self.identifiers, u));
+        bound_to(&self.identifiers, chain, u)
     }
 
     /// The declaration to which the identifier at a token is bound.
@@ -202,6 +216,7 @@ impl<'a> ScopeTable<'a> {
             let names = names_in self.now in
             IsTrue result ↔ (Declares l names declaration × (Counts l names declaration → ⊥)) }
     {
-        is_repeated(&self.identifiers, declaration)
+        let chain = self.links.chain(name_at(&self.identifiers, declaration));
+        is_repeated(&self.identifiers, chain, declaration)
     }
 }

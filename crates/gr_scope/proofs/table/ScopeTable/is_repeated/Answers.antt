@@ -1,14 +1,21 @@
-use Rattle.std.proofs.Common.{ℕ, ◌<◌, ◌↔◌, ap, IsTrue}
+use Rattle.gr_scope.specs.Table.{names_of}
+use Rattle.std.proofs.Common.{length, ℕ, ◌<◌, ◌↔◌, ap, IsTrue}
 use Rattle.std.specs.Prelude.{MatchOption}
 use Rattle.gr_scope.specs.Bindings.{Declares, Counts, IsBoundTo}
 use Rattle.gr_scope.specs.Scoped.{BeginsIn}
 use Rattle.gr_scope.specs.Table.{StandsAt, IsFirstOf}
 use Rattle.gr_scope.specs.WellFormed.{WellFormed}
 use Rattle.std.proofs.Common.{refl}
-use Rattle.gr_scope.proofs.Tables.{of_table}
+use Rattle.gr_scope.proofs.Tables.{of_table, chain_of_table}
 use Rattle.gr_scope.proofs.table.ScopeTable.is_repeated.Goals as goal
 
 pub returns : goal.returns
 returns c =
     of_table (λ files l names n. IsTrue c.is_repeated.result ↔ (Declares l names c.args.declaration × (Counts l names c.args.declaration → ⊥)))
-    c.deref.result.now c.self.inside.identifiers.items c.self.inside.files.now c.args.self.now c.deref.ensures.value (ap (λ p. p.files) c.self.view_is) (ap (λ p. p.sites) c.self.view_is) c.is_repeated.ensures
+    c.deref-2.result.now c.self.inside.identifiers.items c.self.inside.files.now c.args.self.now c.deref-2.ensures.value (ap (λ p. p.files) c.self.view_is) (ap (λ p. p.sites) c.self.view_is) c.is_repeated.ensures
+
+pub is_repeated-requires-clause-chain : goal.is_repeated-requires-clause-chain
+is_repeated-requires-clause-chain c =
+    chain_of_table c.deref-2.result.now c.deref.result.now c.self.inside.identifiers.items c.args.declaration c.name_at.result.now c.chain-chain.result.last c.chain-chain.result.previous.now
+    c.deref-2.ensures.value c.deref.ensures.value c.name_at.ensures
+    (c.chain-chain.ensures (names_of c.self.inside.identifiers.items) (length c.self.inside.identifiers.items) c.self.invariant.links)

@@ -1,0 +1,51 @@
+//! Which identifiers of a package are called alike.
+ghost use Rattle.std.specs.Prelude.{ℕ, ◌≡◌, length, IfOk};
+ghost use Rattle.gr_scope.specs.Bindings.{Names};
+ghost use Rattle.gr_scope.specs.Chains.{AreLinks, IsChain};
+ghost use Rattle.gr_scope.specs.Table.{names_of};
+
+use crate::model::Identifier;
+use crate::resolve::name_at;
+use indexmap::IndexMap;
+use std::alloc::{AllocError, Global};
+
+/// Of each name the last identifier, and of each identifier the one before it that is called alike.
+#[derive(Drop)]
+pub struct Links<'a> {
+    pub last: IndexMap<&'a [u8], usize>,
+    pub previous: Vec<Option<usize>>,
+}
+
+/// The identifiers of one name, from the last to the first.
+#[derive(Clone, Copy)]
+pub struct Chain<'t> {
+    pub last: Option<usize>,
+    pub previous: &'t [Option<usize>],
+}
+
+/// The links of identifiers. It takes one look-up for each.
+pub fn links_of<'a>(alloc: Global, identifiers: &[Identifier<'a>]) -> Result<Links<'a>, AllocError>
+    ensures { IfOk result (λ links. AreLinks (names_of identifiers.now) (length identifiers.now) links.last links.previous.items) }
+{
+    let mut last: IndexMap<&'a [u8], usize> = IndexMap::new(alloc);
+    let mut previous = Vec::new(alloc);
+    for d in 0..identifiers.len() {
+        let name = name_at(identifiers, d);
+        let before = last.insert(name, d)?;
+        previous.push(before)?;
+    }
+    Ok(Links { last, previous })
+}
+
+impl<'a> Links<'a> {
+    /// The identifiers of a name.
+    pub fn chain(&self, name: &'a [u8]) -> Chain<'_>
+        ensures { (names : Names) (n : ℕ) → AreLinks names n self.now.last self.now.previous.items →
+            IsChain names n name.now result.last result.previous.now }
+    {
+        Chain {
+            last: self.last.get(&name).copied(),
+            previous: &self.previous,
+        }
+    }
+}
