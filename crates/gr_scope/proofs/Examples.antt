@@ -103,6 +103,6 @@ pub import_example : marks (imports_sites source (record {
       record { value = record { name = None; path = 5 }; separator = None } ∷ []) 6;
   semicolon = 7;
 })) ≡
-    (2, Declaring (blocks.File 0) 0) ∷ (3, NotLexical purpose.ImportPath) ∷ (5, NotLexical purpose.ImportPath) ∷ []
+    (2, Declaring (blocks.File 0) 0) ∷ (3, NotLexical purpose.ImportPath) ∷ (5, NotLexical purpose.UnnamedImport) ∷ []
 unfolding imports_sites import_sites group_sites separated_sites
 import_example = refl

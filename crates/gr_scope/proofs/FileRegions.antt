@@ -11,7 +11,7 @@ use Rattle.gr_scope.specs.Bindings.{may_declare}
 use Rattle.gr_scope.specs.Site.{Site, Source, site}
 use Rattle.gr_scope.specs.ExpressionSites.{sites_if, list_sites, type_sites}
 use Rattle.gr_scope.specs.StatementSites.{ident_sites, separated_sites, group_sites, open_of, close_of, block_sites}
-use Rattle.gr_scope.specs.FileSites.{global_name, member_name, spec_sites, global_sites, field_sites, body_sites, type_spec_sites, receiver_sites, param_sites, result_sites, func_role, func_sites, import_name, import_sites, imports_sites, decl_sites, file_sites}
+use Rattle.gr_scope.specs.FileSites.{global_name, member_name, spec_sites, global_sites, field_sites, body_sites, type_spec_sites, receiver_sites, param_sites, result_sites, func_role, func_sites, import_name, import_purpose, import_sites, imports_sites, decl_sites, file_sites}
 use Rattle.gr_scope.proofs.Regions.{Each, each_append, Segment, segment_join, segment_widen, segment_outward, Plain, segment_plain_before, Flat, Level, segment_level, level_plain, Together, segment_head, together_plain}
 use Rattle.gr_scope.proofs.PlainSites.{plain_append, plain_list, plain_type}
 use Rattle.gr_scope.proofs.StatementRegions.{idents_together, ident_together, statements_fits}
@@ -69,8 +69,8 @@ level_import_name s (Some n) = ((λ m. flat_file s n), tt)
 level_import : (s : Source) (i : ImportTree) → Level (import_sites s i)
 unfolding import_sites
 level_import s i =
-    level_append (import_name s i.name) (site s i.path (NotLexical purpose.ImportPath) ∷ []) (level_import_name s i.name)
-    (level_plain (site s i.path (NotLexical purpose.ImportPath) ∷ []) (refl, tt))
+    level_append (import_name s i.name) (site s i.path (NotLexical (import_purpose i.name)) ∷ []) (level_import_name s i.name)
+    (level_plain (site s i.path (NotLexical (import_purpose i.name)) ∷ []) (refl, tt))
 
 level_imports : (s : Source) (i : ImportsTree) → Level (imports_sites s i)
 unfolding imports_sites

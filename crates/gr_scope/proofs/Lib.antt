@@ -16,4 +16,5 @@ pub mod Parts
 pub mod StatementParts
 pub mod FileParts
 pub mod Declared
+pub mod Tables
 pub mod Examples

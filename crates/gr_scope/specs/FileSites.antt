@@ -5,6 +5,7 @@ use Rattle.gr_scope.specs.declared.model.Block.{Block}
 use Rattle.gr_scope.specs.declared.model.Block.TheVariants.{Universe, Package, File, Inner}
 use Rattle.gr_scope.specs.declared.model.Role.{Role}
 use Rattle.gr_scope.specs.declared.model.Role.TheVariants.{Use, Declaring, Implied, NotLexical}
+use Rattle.gr_scope.specs.declared.model.Purpose.{Purpose}
 use Rattle.gr_scope.specs.declared.model.Purpose.TheVariants as purpose
 use Rattle.gr_scope.specs.Site.{Site, Source, site}
 use Rattle.gr_scope.specs.ExpressionSites.{sites_if, list_sites, type_sites}
@@ -66,8 +67,13 @@ abbrev pub import_name : Source → Option ℕ → List Site
 import_name s None = []
 import_name s (Some n) = site s n (Declaring (File s.rank) 0) ∷ []
 
+-- the literal of an import tells whether the import has a name of its own
+abbrev pub import_purpose : Option ℕ → Purpose
+import_purpose None = purpose.UnnamedImport
+import_purpose (Some n) = purpose.ImportPath
+
 unfoldable pub import_sites : Source → ImportTree → List Site
-import_sites s i = import_name s i.name ++ (site s i.path (NotLexical purpose.ImportPath) ∷ [])
+import_sites s i = import_name s i.name ++ (site s i.path (NotLexical (import_purpose i.name)) ∷ [])
 
 unfoldable pub imports_sites : Source → ImportsTree → List Site
 imports_sites s i = spec_sites (import_sites s) i.imports

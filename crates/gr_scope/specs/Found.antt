@@ -1,16 +1,16 @@
 -- The identifiers that the program has found.
 use Rattle.std.specs.Prelude.{◌≡◌, List, ◌++◌, map}
+use Rattle.gr_parse.specs.SourceFile as parsed
 use Rattle.gr_scope.specs.declared.model.Identifier.{Identifier}
-use Rattle.gr_scope.specs.declared.source.SourceFile.{SourceFile}
+use Rattle.gr_scope.specs.declared.source.RankedFile.{RankedFile}
 use Rattle.gr_scope.specs.Site.{Site, Source}
-use Rattle.gr_scope.specs.Spelled.{spelled}
 
 abbrev pub site_of : Identifier → Site
-site_of x = record { place = x.place; name = x.name.items; role = x.role }
+site_of x = record { place = x.place; name = x.name.now; role = x.role }
 
 -- a file as definitions see it
-abbrev pub source_of : SourceFile → Source
-source_of f = record { rank = f.rank; spell = spelled f.spellings.now }
+abbrev pub source_of : RankedFile → Source
+source_of f = record { rank = f.rank; spell = parsed.spelling_of (parsed.source_of f.tree.now) }
 
 -- the new list is the old one, with more identifiers behind it
 pub record Adds (old new : List Identifier) (more : List Site) : Type 0 where

@@ -8,6 +8,6 @@ pub mod ExpressionSites
 pub mod StatementSites
 pub mod FileSites
 pub mod Trees
-pub mod Spelled
 pub mod Found
 pub mod Parsed
+pub mod Scoped

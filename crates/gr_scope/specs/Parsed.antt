@@ -1,8 +1,7 @@
--- A file of the program as definitions see it.
-use Rattle.gr_scope.specs.declared.parsed.ParsedFile.{ParsedFile}
-use Rattle.gr_scope.specs.Spelled.{spelled}
-use Rattle.gr_scope.specs.FileSites.{SpelledFile}
+-- A file that was parsed, as its identifiers are taken from it.
 use Rattle.gr_parse.specs.FileView.{file_view}
+use Rattle.gr_parse.specs.SourceFile.{FileParts, source_of, spelling_of}
+use Rattle.gr_scope.specs.FileSites.{SpelledFile}
 
-abbrev pub spelled_file : ParsedFile → SpelledFile
-spelled_file f = record { tree = file_view f.tree; spell = spelled f.spellings.items }
+abbrev pub spelled_file : FileParts → SpelledFile
+spelled_file f = record { tree = file_view f.file; spell = spelling_of (source_of f) }

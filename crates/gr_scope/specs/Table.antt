@@ -18,7 +18,7 @@ place_at (Some x) = x.place
 
 abbrev pub name_at : Option Identifier → List ℕ
 name_at None = []
-name_at (Some x) = x.name.items
+name_at (Some x) = x.name.now
 
 abbrev pub layout_of : List Identifier → Layout
 layout_of xs = record { role = λ i. role_at (slice_get xs i); place = λ i. place_at (slice_get xs i) }
@@ -53,8 +53,12 @@ IsDisplacedByNone l names d = (e : ℕ) → IsDisplacer l names d e → ⊥
 abbrev pub StandsAt : Layout → Position → ℕ → Type 0
 StandsAt l place u = IsIdentifier l u × ((l.place u).file ≡ place.file) × ((l.place u).index ≡ place.index)
 
--- u is the first identifier at a place, of so many
-pub record IsFoundAt (l : Layout) (size : ℕ) (place : Position) (u : ℕ) : Type 0 where
+-- u is the first of so many that is such
+pub record IsFirstOf (P : ℕ → Type 0) (size u : ℕ) : Type 0 where
   pub within : u < size
-  pub stands : StandsAt l place u
-  pub first : (v : ℕ) → v < u → StandsAt l place v → ⊥
+  pub holds : P u
+  pub first : (v : ℕ) → v < u → P v → ⊥
+
+-- u is the first identifier at a place, of so many
+abbrev pub IsFoundAt : Layout → ℕ → Position → ℕ → Type 0
+IsFoundAt l size place u = IsFirstOf (StandsAt l place) size u

@@ -6,59 +6,57 @@ ghost use Rattle.gr_parse.specs.View.{type_view, expr_view, link_view, literal_v
 ghost use Rattle.gr_parse.specs.Tree.{no_link};
 
 use crate::model::{Identifier, Purpose, Role};
-use crate::source::SourceFile;
+use crate::source::RankedFile;
 use gr_parse::tree::{CompositeLit, Expr, Link, TypeExpr};
-use std::alloc::{AllocError, Global};
+use std::alloc::AllocError;
 
 /// Adds the identifiers of a type.
-pub fn add_type(
-    alloc: Global,
-    source: &SourceFile,
-    found: &mut Vec<Identifier>,
+pub fn add_type<'a>(
+    source: &RankedFile<'a>,
+    found: &mut Vec<Identifier<'a>>,
     type_expr: &TypeExpr,
 ) -> Result<(), AllocError>
     ensures { OnOk result (Adds found.old.items found.new.items (type_sites (source_of source.now) (type_view type_expr.now))) }
 {
     match type_expr {
-        TypeExpr::Local(name) => source.add(alloc, found, *name, Role::Use),
+        TypeExpr::Local(name) => source.add(found, *name, Role::Use),
         TypeExpr::Imported { package, name, .. } => {
-            source.add(alloc, found, *package, Role::Use)?;
-            source.add(alloc, found, *name, Role::NotLexical(Purpose::Selected))
+            source.add(found, *package, Role::Use)?;
+            source.add(found, *name, Role::NotLexical(Purpose::Selected))
         }
-        TypeExpr::Pointer { target, .. } => add_type(alloc, source, found, target),
-        TypeExpr::Slice { element, .. } => add_type(alloc, source, found, element),
+        TypeExpr::Pointer { target, .. } => add_type(source, found, target),
+        TypeExpr::Slice { element, .. } => add_type(source, found, element),
     }
 }
 
 /// Adds the identifiers of an expression.
 #[cycle(expression)]
-pub fn add_expr(
-    alloc: Global,
-    source: &SourceFile,
-    found: &mut Vec<Identifier>,
+pub fn add_expr<'a>(
+    source: &RankedFile<'a>,
+    found: &mut Vec<Identifier<'a>>,
     expr: &Expr,
 ) -> Result<(), AllocError>
     ensures { OnOk result (Adds found.old.items found.new.items (expr_sites (source_of source.now) (expr_view expr.now))) }
 {
     match expr {
         Expr::Number(_) | Expr::Text(_) => Ok(()),
-        Expr::Name(name) => source.add(alloc, found, *name, Role::Use),
-        Expr::Blank(name) => source.add(alloc, found, *name, Role::Use),
-        Expr::Composite(literal) => add_literal(alloc, source, found, literal),
-        Expr::Paren { inner, .. } => add_expr(alloc, source, found, inner),
-        Expr::Prefix { operand, .. } => add_expr(alloc, source, found, operand),
-        Expr::Address { literal, .. } => add_literal(alloc, source, found, literal),
+        Expr::Name(name) => source.add(found, *name, Role::Use),
+        Expr::Blank(name) => source.add(found, *name, Role::Use),
+        Expr::Composite(literal) => add_literal(source, found, literal),
+        Expr::Paren { inner, .. } => add_expr(source, found, inner),
+        Expr::Prefix { operand, .. } => add_expr(source, found, operand),
+        Expr::Address { literal, .. } => add_literal(source, found, literal),
         Expr::Chain { first, links } => {
-            add_expr(alloc, source, found, first)?;
+            add_expr(source, found, first)?;
             for link in links {
-                add_link(alloc, source, found, link)?;
+                add_link(source, found, link)?;
             }
             Ok(())
         }
         Expr::Binary { first, rest } => {
-            add_expr(alloc, source, found, first)?;
+            add_expr(source, found, first)?;
             for operand in rest {
-                add_expr(alloc, source, found, &operand.value)?;
+                add_expr(source, found, &operand.value)?;
             }
             Ok(())
         }
@@ -67,22 +65,21 @@ pub fn add_expr(
 
 /// Adds the identifiers of a selector, an index or a call.
 #[cycle(expression)]
-fn add_link(
-    alloc: Global,
-    source: &SourceFile,
-    found: &mut Vec<Identifier>,
+fn add_link<'a>(
+    source: &RankedFile<'a>,
+    found: &mut Vec<Identifier<'a>>,
     link: &Link,
 ) -> Result<(), AllocError>
     ensures { OnOk result (Adds found.old.items found.new.items (link_sites (source_of source.now) (link_view link.now no_link))) }
 {
     match link {
         Link::Selector { name, .. } => {
-            source.add(alloc, found, *name, Role::NotLexical(Purpose::Selected))
+            source.add(found, *name, Role::NotLexical(Purpose::Selected))
         }
-        Link::Index { index, .. } => add_expr(alloc, source, found, index),
+        Link::Index { index, .. } => add_expr(source, found, index),
         Link::Call { arguments, .. } => {
             for argument in arguments {
-                add_expr(alloc, source, found, &argument.value)?;
+                add_expr(source, found, &argument.value)?;
             }
             Ok(())
         }
@@ -91,20 +88,19 @@ fn add_link(
 
 /// Adds the identifiers of a composite literal.
 #[cycle(expression)]
-fn add_literal(
-    alloc: Global,
-    source: &SourceFile,
-    found: &mut Vec<Identifier>,
+fn add_literal<'a>(
+    source: &RankedFile<'a>,
+    found: &mut Vec<Identifier<'a>>,
     literal: &CompositeLit,
 ) -> Result<(), AllocError>
     ensures { OnOk result (Adds found.old.items found.new.items (literal_sites (source_of source.now) (literal_view literal.now))) }
 {
-    add_type(alloc, source, found, &literal.literal_type)?;
+    add_type(source, found, &literal.literal_type)?;
     for element in &literal.elements {
         if let Some(key) = &element.key {
-            source.add(alloc, found, key.name, Role::NotLexical(Purpose::Key))?;
+            source.add(found, key.name, Role::NotLexical(Purpose::Key))?;
         }
-        add_expr(alloc, source, found, &element.value)?;
+        add_expr(source, found, &element.value)?;
     }
     Ok(())
 }

@@ -7,7 +7,6 @@ pub mod declare;
 pub mod expressions;
 pub mod law;
 pub mod model;
-pub mod parsed;
 pub mod resolve;
 pub mod simple;
 pub mod source;

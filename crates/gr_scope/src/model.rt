@@ -49,8 +49,10 @@ pub enum Purpose {
     PackageClause,
     /// The name of a field or a method where it is declared.
     Member,
-    /// The literal of an import.
+    /// The literal of an import that has a name.
     ImportPath,
+    /// The literal of an import without a name.
+    UnnamedImport,
     /// The name of a function `init`.
     InitFunction,
     /// A `_` where a name is declared or a value is assigned.
@@ -59,8 +61,8 @@ pub enum Purpose {
 
 /// An identifier, or the literal of an import, in a package. Its name is what stands in the file, in UTF-8.
 #[derive(Drop)]
-pub struct Identifier {
+pub struct Identifier<'a> {
     pub place: Position,
-    pub name: Vec<u8>,
+    pub name: &'a [u8],
     pub role: Role,
 }

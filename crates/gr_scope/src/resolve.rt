@@ -115,11 +115,11 @@ pub fn place_at(identifiers: &[Identifier], d: usize) -> Position
     identifiers[d].place
 }
 
-pub fn name_at(identifiers: &[Identifier], d: usize) -> &[u8]
+pub fn name_at<'a>(identifiers: &[Identifier<'a>], d: usize) -> &'a [u8]
     requires { d < length identifiers.now }
     ensures { result.now ≡ names_of identifiers.now d }
 {
-    &identifiers[d].name
+    identifiers[d].name
 }
 
 pub fn same_name(identifiers: &[Identifier], d: usize, e: usize) -> bool

@@ -3,39 +3,36 @@ ghost use Rattle.std.specs.Prelude.{◌≡◌, ◌∷◌, [], OnOk};
 ghost use Rattle.gr_scope.specs.Site.{site};
 
 use crate::model::{Identifier, Position, Role};
-use std::alloc::{AllocError, Global};
+use gr_parse::FileTree;
+use std::alloc::AllocError;
 
-/// A file of a package: its rank among the package's paths, and the bytes of each of its tokens.
+/// A file of a package, with its rank among the package's paths.
 #[derive(Clone, Copy)]
-pub struct SourceFile<'a> {
+pub struct RankedFile<'a> {
     pub rank: usize,
-    pub spellings: &'a [Vec<u8>],
+    pub tree: &'a FileTree,
 }
 
-impl SourceFile<'_> {
+impl<'a> RankedFile<'a> {
     ghost use Rattle.gr_scope.specs.Found.{source_of, Adds};
 
     /// The bytes of a token, or none if there is no such token.
-    pub fn spelling(&self, token: usize) -> &[u8]
+    pub fn spelling(&self, token: usize) -> &'a [u8]
         ensures { result.now ≡ (source_of self.now).spell token }
     {
-        match self.spellings.get(token) {
-            Some(bytes) => bytes,
-            None => &[],
-        }
+        self.tree.spelling(token)
     }
 
     /// Adds the identifier at a token.
     pub fn add(
         &self,
-        alloc: Global,
-        found: &mut Vec<Identifier>,
+        found: &mut Vec<Identifier<'a>>,
         token: usize,
         role: Role,
     ) -> Result<(), AllocError>
         ensures { OnOk result (Adds found.old.items found.new.items (site (source_of self.now) token role ∷ [])) }
     {
-        let name = self.spelling(token).to_vec(alloc)?;
+        let name = self.spelling(token);
         let place = Position {
             file: self.rank,
             index: token,

@@ -7,17 +7,16 @@ ghost use Rattle.gr_parse.specs.FileView.{stmt_view, block_view, if_view, else_v
 use crate::expressions::add_expr;
 use crate::model::{Block, Identifier};
 use crate::simple::{add_exprs, add_header, add_init, add_locals, add_simple};
-use crate::source::SourceFile;
+use crate::source::RankedFile;
 use gr_parse::tree;
 use gr_parse::tree::{Else, IfStmt, Stmt};
-use std::alloc::{AllocError, Global};
+use std::alloc::AllocError;
 
 /// Adds the identifiers of a statement in a block, before a token.
 #[cycle(statement)]
-pub fn add_statement(
-    alloc: Global,
-    source: &SourceFile,
-    found: &mut Vec<Identifier>,
+pub fn add_statement<'a>(
+    source: &RankedFile<'a>,
+    found: &mut Vec<Identifier<'a>>,
     block: Block,
     following: usize,
     statement: &Stmt,
@@ -26,27 +25,26 @@ pub fn add_statement(
 {
     match statement {
         Stmt::Empty => Ok(()),
-        Stmt::Var { group, .. } => add_locals(alloc, source, found, block, following, group),
-        Stmt::Simple(simple) => add_simple(alloc, source, found, block, following, simple),
-        Stmt::Block(inner) => add_block(alloc, source, found, inner),
-        Stmt::If(branch) => add_if(alloc, source, found, following, branch),
+        Stmt::Var { group, .. } => add_locals(source, found, block, following, group),
+        Stmt::Simple(simple) => add_simple(source, found, block, following, simple),
+        Stmt::Block(inner) => add_block(source, found, inner),
+        Stmt::If(branch) => add_if(source, found, following, branch),
         Stmt::For { at, header, body } => {
             let round = Block::Inner(source.rank, *at, following);
-            add_header(alloc, source, found, round, body.open, header)?;
-            add_block(alloc, source, found, body)
+            add_header(source, found, round, body.open, header)?;
+            add_block(source, found, body)
         }
         Stmt::Break(_) => Ok(()),
         Stmt::Continue(_) => Ok(()),
-        Stmt::Return { values, .. } => add_exprs(alloc, source, found, values),
+        Stmt::Return { values, .. } => add_exprs(source, found, values),
     }
 }
 
 /// Adds the identifiers of a brace block.
 #[cycle(statement)]
-pub fn add_block(
-    alloc: Global,
-    source: &SourceFile,
-    found: &mut Vec<Identifier>,
+pub fn add_block<'a>(
+    source: &RankedFile<'a>,
+    found: &mut Vec<Identifier<'a>>,
     block: &tree::Block,
 ) -> Result<(), AllocError>
     ensures { OnOk result (Adds found.old.items found.new.items (block_sites (source_of source.now) (block_view block.now))) }
@@ -54,35 +52,33 @@ pub fn add_block(
     let inner = Block::Inner(source.rank, block.open, block.close);
     for item in &block.statements {
         let behind = item.semicolon.unwrap_or(block.close);
-        add_statement(alloc, source, found, inner, behind, &item.statement)?;
+        add_statement(source, found, inner, behind, &item.statement)?;
     }
     Ok(())
 }
 
 /// Adds the identifiers of an `if`, before a token.
 #[cycle(statement)]
-fn add_if(
-    alloc: Global,
-    source: &SourceFile,
-    found: &mut Vec<Identifier>,
+fn add_if<'a>(
+    source: &RankedFile<'a>,
+    found: &mut Vec<Identifier<'a>>,
     following: usize,
     branch: &IfStmt,
 ) -> Result<(), AllocError>
     ensures { OnOk result (Adds found.old.items found.new.items (if_sites (source_of source.now) following (if_view branch.now))) }
 {
     let round = Block::Inner(source.rank, branch.at, following);
-    add_init(alloc, source, found, round, &branch.init)?;
-    add_expr(alloc, source, found, &branch.condition)?;
-    add_block(alloc, source, found, &branch.body)?;
-    add_else(alloc, source, found, following, &branch.otherwise)
+    add_init(source, found, round, &branch.init)?;
+    add_expr(source, found, &branch.condition)?;
+    add_block(source, found, &branch.body)?;
+    add_else(source, found, following, &branch.otherwise)
 }
 
 /// Adds the identifiers of what stands behind the block of an `if`.
 #[cycle(statement)]
-fn add_else(
-    alloc: Global,
-    source: &SourceFile,
-    found: &mut Vec<Identifier>,
+fn add_else<'a>(
+    source: &RankedFile<'a>,
+    found: &mut Vec<Identifier<'a>>,
     following: usize,
     otherwise: &Else,
 ) -> Result<(), AllocError>
@@ -90,7 +86,7 @@ fn add_else(
 {
     match otherwise {
         Else::None => Ok(()),
-        Else::If { branch, .. } => add_if(alloc, source, found, following, branch),
-        Else::Block { block, .. } => add_block(alloc, source, found, block),
+        Else::If { branch, .. } => add_if(source, found, following, branch),
+        Else::Block { block, .. } => add_block(source, found, block),
     }
 }

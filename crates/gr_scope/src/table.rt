@@ -1,20 +1,45 @@
 //! The table of a package's identifiers, scopes and bindings.
-ghost use Rattle.std.specs.Prelude.{ℕ, ◌≡◌, ◌<◌, ◌↔◌, length, IsTrue, MatchOption};
-ghost use Rattle.gr_scope.specs.Bindings.{Declares, Counts, IsBoundTo, scope_of};
+ghost use Rattle.std.specs.Prelude.{ℕ, ◌≡◌, ◌<◌, ◌↔◌, length, map, IsTrue, MatchOption, slice_get};
+ghost use Rattle.gr_parse.specs.SourceFile.{source_of, offset_of};
+ghost use Rattle.gr_scope.specs.Bindings.{Declares, Counts, IsIdentifier, scope_of};
+ghost use Rattle.gr_scope.specs.Found.{site_of};
+ghost use Rattle.gr_scope.specs.Scoped.{layout_in, names_in, IsBoundIn, IsPlaceOf, BeginsIn, BeginsAt};
+ghost use Rattle.gr_scope.specs.Table.{layout_of, names_of, StandsAt, IsFirstOf, IsFoundAt};
 ghost use Rattle.gr_scope.specs.WellFormed.{WellFormed};
-ghost use Rattle.gr_scope.specs.Table.{layout_of, names_of, StandsAt, IsFoundAt};
 
 use crate::counting::{bound_to, counts};
 use crate::model::{Identifier, Position, Scope};
 use crate::resolve::{declares, place_at, role_at};
+use gr_parse::FileTree;
+use gr_text::Place;
+use std::marker::Model;
 
 /// A declaration: the number of its identifier in the table. The predeclared names have the first eleven numbers.
 pub type DeclId = usize;
 
 /// The identifiers of a package, in the order of its files and of their tokens, behind the predeclared names.
 #[derive(Drop)]
-pub struct ScopeTable {
-    pub identifiers: Vec<Identifier>,
+pub struct ScopeTable<'a> {
+    files: &'a [FileTree],
+    identifiers: Vec<Identifier<'a>>,
+}
+
+impl<'a> Model for ScopeTable<'a> {
+    ghost use Rattle.std.specs.Prelude.{map};
+    ghost use Rattle.std.specs.Coded.{codes};
+    ghost use Rattle.gr_parse.specs.contracts.tree.File as e;
+    ghost use Rattle.gr_scope.specs.Found.{site_of};
+    ghost use Rattle.gr_scope.specs.Scoped.{ScopedPackage};
+    ghost use Rattle.gr_scope.specs.Table.{layout_of};
+    ghost use Rattle.gr_scope.specs.WellFormed.{WellFormed};
+
+    ghost Value = { ScopedPackage };
+
+    ghost coded = { Prim.hlevel (codes, e.the_row.coded) };
+
+    ghost view = { λ t. record { files = t.files.now; sites = map site_of t.identifiers.items } };
+
+    ghost invariant = { λ t. WellFormed (layout_of t.identifiers.items) };
 }
 
 /// Whether an identifier of the package stands at a place.
@@ -38,44 +63,145 @@ fn found_at(identifiers: &[Identifier], place: Position) -> Option<usize>
     None
 }
 
-impl ScopeTable {
+/// Whether a token of a file begins at a place.
+fn is_token_at(file: &FileTree, token: usize, place: &Place) -> bool
+    ensures { IsTrue result ↔ ((file.now.path ≡ place.now.path) × (offset_of (source_of file.now) token ≡ place.now.offset)) }
+{
+    file.path().as_str().as_bytes() == place.path.as_str().as_bytes()
+        && file.offset(token) == place.offset
+}
+
+/// Whether a token of one of the files begins at a place.
+fn is_place(files: &[FileTree], at: Position, place: &Place) -> bool
+    ensures { IsTrue result ↔ IsPlaceOf (slice_get files.now at.file) at.index place.now.path place.now.offset }
+{
+    if at.file < files.len() {
+        is_token_at(&files[at.file], at.index, place)
+    } else {
+        false
+    }
+}
+
+/// Whether an identifier, or the literal of an import, begins at a place.
+fn begins_at(files: &[FileTree], identifiers: &[Identifier], u: usize, place: &Place) -> bool
+    requires { u < length identifiers.now }
+    ensures { IsTrue result ↔ BeginsIn files.now (layout_of identifiers.now) place.now.path place.now.offset u }
+{
+    !role_at(identifiers, u).is_implied() && is_place(files, place_at(identifiers, u), place)
+}
+
+fn first_beginning_at(
+    files: &[FileTree],
+    identifiers: &[Identifier],
+    place: &Place,
+) -> Option<usize>
+    ensures { MatchOption result ((u : ℕ) → u < length identifiers.now → BeginsIn files.now (layout_of identifiers.now) place.now.path place.now.offset u → ⊥)
+        (λ u. IsFirstOf (BeginsIn files.now (layout_of identifiers.now) place.now.path place.now.offset) (length identifiers.now) u) }
+{
+    for u in 0..identifiers.len() {
+        if begins_at(files, identifiers, u, place) {
+            return Some(u);
+        }
+    }
+    None
+}
+
+/// Whether a declaration does not count, beside another of its name.
+fn is_repeated(identifiers: &[Identifier], d: usize) -> bool
+    requires { d < length identifiers.now }
+    ensures { let l = layout_of identifiers.now in
+        let names = names_of identifiers.now in
+        IsTrue result ↔ (Declares l names d × (Counts l names d → ⊥)) }
+{
+    declares(identifiers, d) && !counts(identifiers, d)
+}
+
+impl<'a> ScopeTable<'a> {
+    /// The table of identifiers that were taken from files.
+    pub(crate) fn new(files: &'a [FileTree], identifiers: Vec<Identifier<'a>>) -> ScopeTable<'a>
+        requires { WellFormed (layout_of identifiers.items) }
+        ensures files { result.files ≡ files.now }
+        ensures sites { result.sites ≡ map site_of identifiers.entry.items }
+    {
+        ScopeTable { files, identifiers }
+    }
+
+    /// The files of the package, in the order of their paths.
+    pub fn files(&self) -> &'a [FileTree]
+        ensures { result.now ≡ self.now.files }
+    {
+        self.files
+    }
+
+    /// All identifiers, behind the predeclared names.
+    pub fn identifiers(&self) -> &[Identifier<'a>]
+        ensures sites { map site_of result.now ≡ self.now.sites }
+        ensures well_formed { WellFormed (layout_in self.now) }
+    {
+        &self.identifiers
+    }
+
     /// The identifier at a token, or the literal of an import.
     pub fn identifier_at(&self, place: Position) -> Option<usize>
-        ensures { MatchOption result ((u : ℕ) → u < length self.now.identifiers.items → StandsAt (layout_of self.now.identifiers.items) place u → ⊥)
-            (λ u. IsFoundAt (layout_of self.now.identifiers.items) (length self.now.identifiers.items) place u) }
+        ensures { MatchOption result ((u : ℕ) → u < length self.now.sites → StandsAt (layout_in self.now) place u → ⊥)
+            (λ u. IsFoundAt (layout_in self.now) (length self.now.sites) place u) }
     {
         found_at(&self.identifiers, place)
     }
 
-    /// The declaration to which the identifier at a token is bound.
-    pub fn resolve(&self, place: Position) -> Option<DeclId>
-        requires { WellFormed (layout_of self.now.identifiers.items) }
-        ensures { let l = layout_of self.now.identifiers.items in
-            let names = names_of self.now.identifiers.items in
-            MatchOption result ((u d : ℕ) → IsFoundAt l (length self.now.identifiers.items) place u → IsBoundTo l names u d → ⊥)
-            (λ d. (u : ℕ) × (IsFoundAt l (length self.now.identifiers.items) place u × IsBoundTo l names u d)) }
+    /// The identifier that begins at a place, or the literal of an import.
+    pub fn identifier_beginning_at(&self, place: &Place) -> Option<usize>
+        ensures { MatchOption result ((u : ℕ) → u < length self.now.sites → BeginsAt self.now place.now.path place.now.offset u → ⊥)
+            (λ u. IsFirstOf (BeginsAt self.now place.now.path place.now.offset) (length self.now.sites) u) }
     {
-        match found_at(&self.identifiers, place) {
+        first_beginning_at(self.files, &self.identifiers, place)
+    }
+
+    /// The declaration to which an identifier is bound.
+    pub fn binding(&self, u: usize) -> Option<DeclId>
+        requires { u < length self.now.sites }
+        ensures { MatchOption result ((d : ℕ) → IsBoundIn self.now u d → ⊥) (λ d. IsBoundIn self.now u d) }
+    {
+        bound_to(&self.identifiers, u)
+    }
+
+    /// The declaration to which the identifier at a token is bound.
+    pub fn resolve_at(&self, place: Position) -> Option<DeclId>
+        ensures { let found = IsFoundAt (layout_in self.now) (length self.now.sites) place in
+            MatchOption result ((u d : ℕ) → found u → IsBoundIn self.now u d → ⊥) (λ d. (u : ℕ) × (found u × IsBoundIn self.now u d)) }
+    {
+        match self.identifier_at(place) {
             None => None,
-            Some(u) => bound_to(&self.identifiers, u),
+            Some(u) => self.binding(u),
+        }
+    }
+
+    /// The declaration to which the identifier that begins at a place is bound.
+    pub fn resolve(&self, place: &Place) -> Option<DeclId>
+        ensures { let found = IsFirstOf (BeginsAt self.now place.now.path place.now.offset) (length self.now.sites) in
+            MatchOption result ((u d : ℕ) → found u → IsBoundIn self.now u d → ⊥) (λ d. (u : ℕ) × (found u × IsBoundIn self.now u d)) }
+    {
+        match self.identifier_beginning_at(place) {
+            None => None,
+            Some(u) => self.binding(u),
         }
     }
 
     /// The scope of a declaration.
     pub fn scope_of(&self, declaration: DeclId) -> Scope
-        requires { declaration < length self.now.identifiers.items }
-        ensures { result ≡ scope_of ((layout_of self.now.identifiers.items).role declaration) }
+        requires { declaration < length self.now.sites }
+        ensures { result ≡ scope_of ((layout_in self.now).role declaration) }
     {
         role_at(&self.identifiers, declaration).scope()
     }
 
     /// Whether a declaration does not count, beside another of its name.
     pub fn is_repeated(&self, declaration: DeclId) -> bool
-        requires { declaration < length self.now.identifiers.items }
-        ensures { let l = layout_of self.now.identifiers.items in
-            let names = names_of self.now.identifiers.items in
+        requires { declaration < length self.now.sites }
+        ensures { let l = layout_in self.now in
+            let names = names_in self.now in
             IsTrue result ↔ (Declares l names declaration × (Counts l names declaration → ⊥)) }
     {
-        declares(&self.identifiers, declaration) && !counts(&self.identifiers, declaration)
+        is_repeated(&self.identifiers, declaration)
     }
 }

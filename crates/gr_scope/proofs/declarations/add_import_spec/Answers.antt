@@ -1,9 +1,15 @@
 use Rattle.gr_scope.proofs.Adding.{then_adds}
-use Rattle.gr_scope.specs.FileSites.{import_sites}
+use Rattle.gr_scope.specs.Found.{source_of}
+use Rattle.gr_scope.specs.FileSites.{import_name, import_sites}
+use Rattle.gr_scope.specs.Site.{site}
+use Rattle.gr_scope.specs.declared.model.Role.TheVariants.{NotLexical}
 use Rattle.gr_parse.specs.FileView.{import_view}
-use Rattle.std.proofs.Common.{refl}
+use Rattle.std.proofs.Common.{ap, [], ◌∷◌, ◌++◌}
 use Rattle.gr_scope.proofs.declarations.add_import_spec.Goals as goal
 
 pub returns : goal.returns
 unfolding import_sites import_view
-returns c = then_adds _ _ c.add.result c.in_ok-add_import_name.ensures c.add.ensures refl
+returns c =
+    let s = source_of c.args.source.now in
+    then_adds _ _ c.add.result c.in_ok-add_import_name.ensures c.add.ensures
+    (ap (λ p. import_name s c.args.spec.now.name ++ (site s c.args.spec.now.path (NotLexical p) ∷ [])) c.import_purpose.ensures)
