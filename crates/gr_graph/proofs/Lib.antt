@@ -5,3 +5,4 @@ pub mod Cycles
 pub mod Ordered
 pub mod Noted
 pub mod Answered
+pub mod ImportViews

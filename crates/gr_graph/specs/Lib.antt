@@ -2,3 +2,4 @@ pub mod Imports
 pub mod Search
 pub mod Closures
 pub mod Examples
+pub mod FileImports

@@ -2,6 +2,7 @@
 #![tactic(auto)]
 
 mod closure;
+mod file_imports;
 mod import_links;
 mod importers;
 mod order;
@@ -10,5 +11,6 @@ mod search;
 #[cfg(test)]
 mod tests;
 
+pub use file_imports::{FileImport, read_imports};
 pub use import_links::ImportLinks;
 pub use package_list::PackageList;

@@ -1,0 +1,16 @@
+-- The literals of one import, or of those in parentheses.
+use Rattle.std.proofs.Common.{List, ◌++◌, map, ap, sym, ◌∙◌}
+use Rattle.gr_parse.specs.View.{group_view, list_view}
+use Rattle.gr_parse.specs.FileView.{import_view}
+use Rattle.gr_graph.specs.FileImports.{paths_in}
+use Rattle.gr_graph.proofs.ImportViews.{item_paths, several_paths, single_paths}
+use Rattle.gr_graph.proofs.file_imports.add_group.Goals as goal
+
+pub returns-in_ok-push-in-Single : goal.returns-in_ok-push-in-Single
+returns-in_ok-push-in-Single c =
+    c.in_ok-push-in-Single.ensures.items ∙ ap (λ paths. c.args.literals.now.items ++ paths) (single_paths c.in-Single.spec c.args.group.now c.in-Single.is)
+
+pub returns-in_ok-add_items-in-Several : goal.returns-in_ok-add_items-in-Several
+returns-in_ok-add_items-in-Several c =
+    c.in_ok-add_items-in-Several.ensures ∙ ap (λ paths. c.args.literals.now.items ++ paths)
+    (ap (λ items. map (λ item. item.value.path) items) c.deref.ensures.value ∙ several_paths c.in-Several.«open» c.in-Several.items c.in-Several.close c.args.group.now c.in-Several.is)
