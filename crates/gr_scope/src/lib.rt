@@ -13,3 +13,5 @@ pub mod simple;
 pub mod source;
 pub mod statements;
 pub mod table;
+#[cfg(test)]
+mod tests;
