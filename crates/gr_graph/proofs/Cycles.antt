@@ -1,9 +1,9 @@
 -- Cycles: a way back is one, and who has none among what was found is on none.
-use Rattle.std.proofs.Common.{◌≡◌, ℕ, ◌+◌, ◌<◌, ◌≤◌, ◌↔◌, Bool, List, [], ◌∷◌, ◌++◌, length, get_or, reverse, refl, sym, subst, ◌∙◌, ⊎_elim, arith, Option, Some, None}
+use Rattle.std.proofs.Common.{◌≡◌, ℕ, ◌+◌, ◌<◌, ◌≤◌, Bool, List, [], ◌∷◌, ◌++◌, length, get_or, reverse, refl, sym, subst, ⊎_elim, arith, Option}
 use Rattle.std.proofs.lemmas.Bool.{cases_lt}
 use Rattle.std.proofs.lemmas.List.{reverse-append, get_or_append_left, get_or_push}
 use Rattle.gr_graph.specs.Imports.{Links, AreLinked, Imports, Reaches, itself, through, IsOnCycle, Leads, IsWay, IsCycleOf, FindsCycle}
-use Rattle.gr_graph.specs.Search.{IsSearch, IsMarked, IsFollowed, HoldsMarked, package_at}
+use Rattle.gr_graph.specs.Search.{IsSearch, IsFollowed, HoldsMarked, package_at}
 use Rattle.gr_graph.specs.Closures.{IsClosed, nothing}
 use Rattle.gr_graph.specs.declared.closure.Closure.{Closure}
 use Rattle.gr_graph.specs.declared.search.Found.{Found}

@@ -1,8 +1,6 @@
 -- What a search that is over says of the packages that are reached.
-use Rattle.std.proofs.Common.{◌≡◌, ℕ, zero, suc, ◌+◌, ◌-◌, ◌<◌, ◌≤◌, ◌↔◌, Bool, true, false, List, length, get_or, refl, sym, ap, subst, ◌∙◌, ⊎_elim, arith}
-use Rattle.std.proofs.lemmas.Bool.{cases_eq, cases_lt}
-use Rattle.std.specs.List.{All, Contains}
-use Rattle.gr_graph.specs.Imports.{Links, AreLinked, Imports, imports_of, Reaches, itself, through, IsOnCycle}
+use Rattle.std.proofs.Common.{◌≡◌, ℕ, zero, suc, ◌+◌, ◌<◌, ◌↔◌, Bool, List, length, sym, subst, arith}
+use Rattle.gr_graph.specs.Imports.{Links, Imports, Reaches, itself, through}
 use Rattle.gr_graph.specs.Search.{IsSearch, IsMarked, IsFollowed, package_at, importer_at}
 use Rattle.gr_graph.specs.declared.search.Found.{Found}
 use Rattle.gr_graph.proofs.SearchSteps.{marked_within}

@@ -1,5 +1,5 @@
 -- Three packages: the first two import each other, and the third imports the first.
-use Rattle.std.specs.Prelude.{ℕ, List, [], ◌∷◌, refl}
+use Rattle.std.specs.Prelude.{[], ◌∷◌, refl}
 use Rattle.std.proofs.Common.{lit<}
 use Rattle.gr_graph.specs.Imports.{Links, Imports, Reaches, itself, through, IsOnCycle, IsCycleOf}
 

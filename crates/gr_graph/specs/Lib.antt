@@ -3,3 +3,4 @@ pub mod Search
 pub mod Closures
 pub mod Examples
 pub mod FileImports
+pub mod Packages

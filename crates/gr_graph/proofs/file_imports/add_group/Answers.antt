@@ -1,9 +1,6 @@
 -- The literals of one import, or of those in parentheses.
-use Rattle.std.proofs.Common.{List, ◌++◌, map, ap, sym, ◌∙◌}
-use Rattle.gr_parse.specs.View.{group_view, list_view}
-use Rattle.gr_parse.specs.FileView.{import_view}
-use Rattle.gr_graph.specs.FileImports.{paths_in}
-use Rattle.gr_graph.proofs.ImportViews.{item_paths, several_paths, single_paths}
+use Rattle.std.proofs.Common.{◌++◌, map, ap, ◌∙◌}
+use Rattle.gr_graph.proofs.ImportViews.{several_paths, single_paths}
 use Rattle.gr_graph.proofs.file_imports.add_group.Goals as goal
 
 pub returns-in_ok-push-in-Single : goal.returns-in_ok-push-in-Single
