@@ -1,3 +1,4 @@
+-- The lemmas of this crate.
 pub mod Reached
 pub mod SearchSteps
 pub mod Held

@@ -1,3 +1,4 @@
+-- The definitions of this crate.
 pub mod Imports
 pub mod Search
 pub mod Closures

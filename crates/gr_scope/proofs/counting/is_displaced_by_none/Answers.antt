@@ -1,3 +1,4 @@
+-- The answers to the goals of `counting::is_displaced_by_none`.
 use Rattle.std.proofs.Common.{ℕ, ◌≡◌, length, true, false, refl, subst, None}
 use Rattle.gr_scope.specs.Table.{IsDisplacer, layout_of, names_of}
 use Rattle.gr_scope.proofs.Chains.{walk_left, walk_known, chain_named}

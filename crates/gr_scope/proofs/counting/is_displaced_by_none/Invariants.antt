@@ -1,3 +1,4 @@
+-- The invariants of the loops of `counting::is_displaced_by_none`.
 use Rattle.std.proofs.Common.{ℕ, length}
 use Rattle.std.specs.Option.{option_map_or}
 use Rattle.gr_scope.specs.Chains.{IsLeft}

@@ -1,3 +1,4 @@
+-- The answers to the goals of `links::links_of`.
 use Rattle.std.proofs.Common.{ℕ, List, Option, sym, subst}
 use Rattle.gr_scope.specs.Chains.{IsLastBelow}
 use Rattle.gr_scope.specs.Table.{names_of}

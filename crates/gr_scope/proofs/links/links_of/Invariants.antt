@@ -1,3 +1,4 @@
+-- The invariants of the loops of `links::links_of`.
 use Rattle.std.proofs.Common.{ℕ, List}
 use Rattle.std.specs.Prelude.{◌==◌}
 use Rattle.std.specs.Borrow.{Bor}

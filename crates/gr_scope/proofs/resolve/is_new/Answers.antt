@@ -1,3 +1,4 @@
+-- The answers to the goals of `resolve::is_new`.
 use Rattle.std.proofs.Common.{ℕ, ◌≡◌, length, true, false, refl, subst, None}
 use Rattle.gr_scope.specs.Table.{Blocks, layout_of, names_of}
 use Rattle.gr_scope.proofs.Chains.{walk_left, walk_known}

@@ -1,3 +1,4 @@
+-- The invariants of the loops of `table::first_beginning_at`.
 use Rattle.std.proofs.Common.{ℕ, ◌<◌}
 use Rattle.gr_scope.specs.Scoped.{BeginsIn}
 use Rattle.gr_scope.specs.Table.{layout_of}

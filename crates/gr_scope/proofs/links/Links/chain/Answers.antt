@@ -1,3 +1,4 @@
+-- The answers to the goals of `links::Links::chain`.
 use Rattle.std.proofs.Common.{ℕ, List, Option, sym, subst, ◌∙◌}
 use Rattle.gr_scope.specs.Chains.{IsLastBelow, IsLinked}
 use Rattle.gr_scope.proofs.links.Links.chain.Goals as goal

@@ -1,3 +1,4 @@
+-- The answers to the goals of `table::ScopeTable::binding`.
 use Rattle.gr_scope.specs.Table.{names_of}
 use Rattle.std.proofs.Common.{length, ℕ, ◌<◌, ◌↔◌, ap, IsTrue}
 use Rattle.std.specs.Prelude.{MatchOption}

@@ -1,3 +1,4 @@
+-- The answers to the goals of `table::ScopeTable::identifier_at`.
 use Rattle.std.proofs.Common.{ℕ, ◌<◌, ◌↔◌, ap, IsTrue}
 use Rattle.std.specs.Prelude.{MatchOption}
 use Rattle.gr_scope.specs.Bindings.{Declares, Counts, IsBoundTo}

@@ -1,3 +1,4 @@
+-- The answers to the goals of `table::ScopeTable::resolve`.
 use Rattle.std.proofs.Common.{length}
 use Rattle.gr_scope.specs.Scoped.{IsBoundIn, BeginsAt}
 use Rattle.gr_scope.proofs.Tables.{resolved}
