@@ -1,12 +1,13 @@
 -- The faults of the items of a list, added one item after the other.
-use Rattle.std.proofs.Common.{ℕ, suc, ◌≡◌, ◌+◌, ◌<◌, ◌⊎◌, inl, inr, List, [], ◌∷◌, ◌++◌, length, take, get_or, ap, subst, sym, ◌∙◌, append-nil, arith, refl}
+use Rattle.std.proofs.Common.{ℕ, suc, ◌≡◌, ◌+◌, ◌<◌, ◌≤◌, ◌⊎◌, inl, inr, List, [], ◌∷◌, ◌++◌, length, take, get_or, ap, subst, sym, ◌∙◌, append-nil, arith, refl}
 use Rattle.std.specs.Prelude.{map, Result, OnOk}
 use Rattle.std.specs.List.{flat_map}
 use Rattle.std.proofs.Math.Seq.{take-suc, take-length}
 use Rattle.std.proofs.lemmas.Grind.{flat_map-append}
 use Rattle.std.proofs.lemmas.Result.{on_ok_weaker}
+use Rattle.std.proofs.lemmas.Bool.{cases_lt}
 use Rattle.gr_fault.specs.declared.fault.Fault.{Fault}
-use Rattle.gr_fault.specs.Listing.{Adds, SomeOf, AddsEach}
+use Rattle.gr_fault.specs.Listing.{Adds, SomeOf, AddsEach, Below}
 use Rattle.gr_fault.proofs.Listings.{adds_none, adds_as, adds_then}
 
 pub some_left : {X : Type 0} (Q : X → Fault → Type 0) (xs ys : List X) (f : Fault) → SomeOf Q xs f → SomeOf Q (xs ++ ys) f
@@ -64,3 +65,23 @@ each_next Q a b c g ys i d lt h k =
 pub each_all : {X Y : Type 0} (Q : X → Fault → Type 0) (a b : List Fault) (g : Y → List X) (ys : List Y) (i : ℕ) → i ≡ length ys →
     AddsEach Q a b (flat_map g (take i ys)) → AddsEach Q a b (flat_map g ys)
 each_all Q a b g ys i e h = each_as Q a b (flat_map g (take i ys)) (flat_map g ys) h (ap (λ k. flat_map g (take k ys)) e ∙ ap (flat_map g) (take-length ys))
+
+-- a loop over numbers
+
+pub below_none : (Q : ℕ → Fault → Type 0) (a : List Fault) → Adds a a (Below Q 0)
+below_none Q a = adds_none a (Below Q 0) (λ f h. let lt : h.0 < 0 = h.1 in absurd (omega arith))
+
+below_to : (Q : ℕ → Fault → Type 0) (i : ℕ) (f : Fault) → Below Q i f ⊎ Q i f → Below Q (i + 1) f
+below_to Q i f h = elim h [
+  inl q ↦ (q.0, (let lt : q.0 < i = q.1 in omega arith), q.2)
+  | inr q ↦ (i, omega arith, q)
+]
+
+below_from : (Q : ℕ → Fault → Type 0) (i : ℕ) (f : Fault) → Below Q (i + 1) f → Below Q i f ⊎ Q i f
+below_from Q i f h = elim (cases_lt h.0 i) [
+  inl lt ↦ inl (h.0, lt, h.2)
+  | inr ge ↦ inr (let lt : h.0 < i + 1 = h.1 in let e : h.0 ≡ i = omega arith in subst (λ u. Q u f) e h.2)
+]
+
+pub below_next : (Q : ℕ → Fault → Type 0) (a b c : List Fault) (i : ℕ) → Adds a b (Below Q i) → Adds b c (Q i) → Adds a c (Below Q (i + 1))
+below_next Q a b c i h k = adds_as a c (λ f. Below Q i f ⊎ Q i f) (Below Q (i + 1)) (adds_then a b c (Below Q i) (Q i) h k) (below_to Q i) (below_from Q i)

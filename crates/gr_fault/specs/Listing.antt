@@ -1,5 +1,5 @@
 -- Lists of faults, told by what they hold.
-use Rattle.std.specs.Prelude.{ℕ, ◌≡◌, ◌⊎◌, List, [], ◌∷◌, Contains}
+use Rattle.std.specs.Prelude.{ℕ, ◌≡◌, ◌<◌, ◌⊎◌, List, [], ◌∷◌, Contains}
 use Rattle.gr_fault.specs.declared.fault.Fault.{Fault}
 
 -- the new list holds what the old one does, and what P tells, and nothing else
@@ -26,3 +26,7 @@ SomeOf Q (x ∷ xs) f = Q x f ⊎ SomeOf Q xs f
 -- the new list holds what the old one does, and the faults of some items
 abbrev pub AddsEach : {X : Type 0} → (X → Fault → Type 0) → List Fault → List Fault → List X → Type 0
 AddsEach Q old new xs = Adds old new (SomeOf Q xs)
+
+-- one of the numbers below n has that fault
+abbrev pub Below : (ℕ → Fault → Type 0) → ℕ → Fault → Type 0
+Below Q n f = (u : ℕ) × (u < n) × Q u f
