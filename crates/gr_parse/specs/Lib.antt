@@ -18,3 +18,5 @@ pub mod Leaf
 pub mod Words
 pub mod Kinds
 pub mod Parsed
+pub mod SourceFile
+pub mod Faults

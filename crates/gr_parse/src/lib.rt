@@ -4,6 +4,7 @@
 mod declarations;
 mod expressions;
 mod file;
+mod file_tree;
 mod functions;
 mod groups;
 mod headers;
@@ -25,5 +26,6 @@ pub mod tree;
 mod types;
 mod words;
 
+pub use file_tree::{FileTree, parse_file};
 pub use parser::{Tree, flatten, parse};
 pub use refusal::ParseRefusal;

@@ -20,7 +20,7 @@ use std::alloc::{AllocError, Global};
 #[derive(Drop)]
 pub struct Tree {
     pub file: File,
-    tokens: Vec<Token>,
+    pub(crate) tokens: Vec<Token>,
     ghost spelled: { tokens.items ≡ file_spelled file },
 }
 

@@ -1,14 +1,15 @@
 //! The faults of the files of a workspace.
 ghost use Rattle.std.specs.Prelude.{◌≡◌, IfOk};
-ghost use Rattle.gr_space.specs.Faults.{FindsFault, ListsFaults, ListsFirstFaults};
+ghost use Rattle.gr_parse.specs.Faults.{FindsFault};
+ghost use Rattle.gr_space.specs.Faults.{ListsFaults, ListsFirstFaults};
 ghost use Rattle.gr_space.specs.Fits.{is_go};
 ghost use Rattle.std.specs.Prelude.{filter};
 ghost use Rattle.std.specs.FinMap as map;
 
 use crate::fits::is_go;
-use gr_parse::{ParseRefusal, parse};
-use gr_scan::{Fault, ScanRefusal, scan};
-use gr_text::{FaultKind, FileText, Files, Place};
+use gr_parse::{ParseRefusal, parse_file};
+use gr_scan::Fault;
+use gr_text::{FaultKind, FileText, Files, Path, Place};
 use std::alloc::{AllocError, Global};
 
 /// A fault of one file.
@@ -18,16 +19,11 @@ pub struct FileFault {
     pub kind: FaultKind,
 }
 
-/// The first fault of a text.
-fn first_fault(alloc: Global, text: &FileText) -> Result<Option<Fault>, AllocError>
+/// The first fault of a file.
+fn first_fault(alloc: Global, path: &Path, text: &FileText) -> Result<Option<Fault>, AllocError>
     ensures { IfOk result (FindsFault text.now) }
 {
-    let pieces = match scan(alloc, text) {
-        Ok(pieces) => pieces,
-        Err(ScanRefusal::Fault(fault)) => return Ok(Some(fault)),
-        Err(ScanRefusal::Memory) => return Err(AllocError),
-    };
-    match parse(alloc, &pieces) {
+    match parse_file(alloc, path, text) {
         Ok(_) => Ok(None),
         Err(ParseRefusal::Fault(fault)) => Ok(Some(fault)),
         Err(ParseRefusal::Memory) => Err(AllocError),
@@ -41,7 +37,7 @@ fn first_faults(alloc: Global, files: &Files) -> Result<Vec<FileFault>, AllocErr
     let mut found = Vec::new(alloc);
     for (path, text) in files.iter() {
         if is_go(path) {
-            if let Some(fault) = first_fault(alloc, text)? {
+            if let Some(fault) = first_fault(alloc, path, text)? {
                 let path = path.clone()?;
                 let offset = fault.offset;
                 found.push(FileFault {
