@@ -27,12 +27,12 @@ all_ranked Q a b g ys i e h = each_all Q a b g (enumerate_from 0 ys) i (e ∙ sy
 pub next_file : {V X Y : Type 0} (Q : X → Fault → Type 0) (a b c : List Fault) (g : ℕ × Y → List X) (v : V → Y) (vs : List V) (i : ℕ) (x : V) → i < length vs → x ≡ get_or vs i x →
     AddsEach Q a b (flat_map g (take i (enumerate_from 0 (map v vs)))) → AddsEach Q b c (g (i, v x)) → AddsEach Q a c (flat_map g (take (i + 1) (enumerate_from 0 (map v vs))))
 next_file Q a b c g v vs i x lt e h k =
-    let short : i < length (map v vs) = rw (length-map v vs) lt in
+    let short : i < length (map v vs) = rw (length-map vs v) lt in
     next_ranked Q a b c g (map v vs) i (v x) short (ap v e ∙ sym (get_or-map v vs i x)) h k
 
 pub all_files : {V X Y : Type 0} (Q : X → Fault → Type 0) (a b : List Fault) (g : ℕ × Y → List X) (v : V → Y) (vs : List V) (i : ℕ) → i ≡ length vs →
     AddsEach Q a b (flat_map g (take i (enumerate_from 0 (map v vs)))) → AddsEach Q a b (flat_map g (enumerate_from 0 (map v vs)))
-all_files Q a b g v vs i e h = all_ranked Q a b g (map v vs) i (e ∙ sym (length-map v vs)) h
+all_files Q a b g v vs i e h = all_ranked Q a b g (map v vs) i (e ∙ sym (length-map vs v)) h
 
 -- each item for itself
 pub flat_map-single : {X : Type 0} (xs : List X) → flat_map (λ x. x ∷ []) xs ≡ xs

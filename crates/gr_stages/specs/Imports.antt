@@ -22,13 +22,17 @@ import_fault Good = None
 abbrev pub PlacedImport : Type 0
 PlacedImport = Ranked × ImportTree
 
+-- the fault of an import of a path of that state, at that token
+pub record IsFaultOfState (file token : ℕ) (state : ImportState) (f : Fault) : Type 0 where
+  pub in_file : f.file ≡ file
+  pub at_token : f.token ≡ token
+  pub kind : import_fault state ≡ Some f.kind
+
 -- the import's path is no package that may be imported
 pub record IsFaultOfImport (state : List ℕ → ImportState) (i : PlacedImport) (f : Fault) : Type 0 where
   pub path : List ℕ
   pub has_path : HasLiteral i.0.1 i.1.path path
-  pub file : f.file ≡ i.0.0
-  pub token : f.token ≡ i.1.path
-  pub kind : import_fault (state path) ≡ Some f.kind
+  pub of_state : IsFaultOfState i.0.0 i.1.path (state path) f
 
 abbrev pub placed_imports : Ranked → List PlacedImport
 placed_imports r = map (λ i. (r, i)) (imports_in r.1.tree)

@@ -1,11 +1,11 @@
 //! The faults of imports.
 ghost use Rattle.std.specs.Prelude.{ℕ, List, ◌≡◌, OnOk, map};
-ghost use Rattle.std.specs.List.{flat_map};
 ghost use Rattle.gr_fault.specs.Listing.{Adds, AddsEach};
-ghost use Rattle.gr_parse.specs.FileView.{import_view, imports_view, file_view};
-ghost use Rattle.gr_stages.specs.Files.{group_items, imports_in};
+ghost use Rattle.gr_parse.specs.FileView.{import_view, imports_view};
+ghost use Rattle.gr_parse.specs.SourceFile.{source_of};
+ghost use Rattle.gr_stages.specs.Files.{group_items};
 ghost use Rattle.gr_stages.specs.States.{state_in};
-ghost use Rattle.gr_stages.specs.Imports.{IsFaultOfImport, IsImportFault, placed_imports};
+ghost use Rattle.gr_stages.specs.Imports.{IsFaultOfImport, IsFaultOfState, IsImportFault, placed_imports};
 
 use crate::files::literal;
 use crate::states::{ImportState, ImportStates};
@@ -45,7 +45,7 @@ fn add_import(
     file: &FileTree,
     spec: &ImportSpec,
 ) -> Result<(), AllocError>
-    ensures { OnOk result (Adds found.old.items found.new.items (IsFaultOfImport (state_in states.now) ((rank, file.now), import_view spec.now))) }
+    ensures { OnOk result (Adds found.old.items found.new.items (IsFaultOfImport (state_in states.now) ((rank, source_of file.now), import_view spec.now))) }
 {
     gr_scan::laws::one_string_value();
     match literal(alloc, file, spec.path)? {
@@ -63,7 +63,7 @@ fn add_import_decl(
     file: &FileTree,
     decl: &ImportDecl,
 ) -> Result<(), AllocError>
-    ensures { OnOk result (AddsEach (IsFaultOfImport (state_in states.now)) found.old.items found.new.items (map (λ i. ((rank, file.now), i)) (group_items (imports_view decl.now).imports))) }
+    ensures { OnOk result (AddsEach (IsFaultOfImport (state_in states.now)) found.old.items found.new.items (map (λ i. ((rank, source_of file.now), i)) (group_items (imports_view decl.now).imports))) }
 {
     match &decl.group {
         Group::Single(spec) => add_import(alloc, found, states, rank, file, spec),
@@ -84,9 +84,10 @@ fn add_file(
     rank: usize,
     file: &FileTree,
 ) -> Result<(), AllocError>
-    ensures { OnOk result (AddsEach (IsFaultOfImport (state_in states.now)) found.old.items found.new.items (placed_imports (rank, file.now))) }
+    ensures { OnOk result (AddsEach (IsFaultOfImport (state_in states.now)) found.old.items found.new.items (placed_imports (rank, source_of file.now))) }
 {
-    for decl in &file.file().imports {
+    let tree = file.file();
+    for decl in &tree.imports {
         add_import_decl(alloc, found, states, rank, file, decl)?;
     }
     Ok(())
@@ -99,7 +100,7 @@ pub fn add_imports(
     states: &ImportStates,
     files: &[FileTree],
 ) -> Result<(), AllocError>
-    ensures { OnOk result (Adds found.old.items found.new.items (IsImportFault (state_in states.now) files.now)) }
+    ensures { OnOk result (Adds found.old.items found.new.items (IsImportFault (state_in states.now) (map source_of files.now))) }
 {
     for rank in 0..files.len() {
         add_file(alloc, found, states, rank, &files[rank])?;
