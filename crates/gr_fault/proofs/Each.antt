@@ -85,3 +85,13 @@ below_from Q i f h = elim (cases_lt h.0 i) [
 
 pub below_next : (Q : ℕ → Fault → Type 0) (a b c : List Fault) (i : ℕ) → Adds a b (Below Q i) → Adds b c (Q i) → Adds a c (Below Q (i + 1))
 below_next Q a b c i h k = adds_as a c (λ f. Below Q i f ⊎ Q i f) (Below Q (i + 1)) (adds_then a b c (Below Q i) (Q i) h k) (below_to Q i) (below_from Q i)
+
+-- the item at an index, which was read
+pub each_step : {X Y : Type 0} (Q : X → Fault → Type 0) (a b c : List Fault) (g : Y → List X) (ys : List Y) (i : ℕ) (y : Y) → i < length ys → y ≡ get_or ys i y →
+    AddsEach Q a b (flat_map g (take i ys)) → AddsEach Q b c (g y) → AddsEach Q a c (flat_map g (take (i + 1) ys))
+each_step Q a b c g ys i y lt e h k = each_next Q a b c g ys i y lt h (subst (λ z. AddsEach Q b c (g z)) e k)
+
+-- a call that adds one item
+pub call_one : {E X : Type 0} (Q : X → Fault → Type 0) (a b : List Fault) (x : X) (ys : List X) (r : Result (Unit {0}) E) →
+    OnOk r (Adds a b (Q x)) → (x ∷ []) ≡ ys → OnOk r (AddsEach Q a b ys)
+call_one Q a b x ys r k e = on_ok_weaker r (λ q. each_as Q a b (x ∷ []) ys (each_one Q a b x q) e) k

@@ -1,7 +1,8 @@
 -- Lists of faults, and what is added to them.
-use Rattle.std.proofs.Common.{arith, ◌<◌, ℕ, ◌≡◌, ◌⊎◌, inl, inr, List, [], ◌∷◌, ◌++◌, IsTrue, true, Bool, refl, subst, sym}
+use Rattle.std.proofs.Common.{arith, ◌<◌, ℕ, ◌≡◌, ◌⊎◌, inl, inr, List, [], ◌∷◌, ◌++◌, IsTrue, ◌↔◌, true, false, Bool, ap, ◌∙◌}
 use Rattle.std.specs.Prelude.{Contains, Result, OnOk}
 use Rattle.std.proofs.lemmas.Result.{on_ok_weaker}
+use Rattle.gr_text.specs.declared.fault_kind.FaultKind.{FaultKind}
 use Rattle.gr_fault.specs.declared.fault.Fault.{Fault}
 use Rattle.gr_fault.specs.Listing.{Adds, Lists}
 
@@ -43,3 +44,14 @@ lists_from b P h = record {
   holds = h.holds;
   only = λ f x. elim (h.only f x) [ inl o ↦ absurd (let lt : o.0 < 0 = o.1 in omega arith) | inr p ↦ p ];
 }
+
+abbrev pub make : ℕ → ℕ → FaultKind → Fault
+make file token kind = record { file = file; token = token; kind = kind }
+
+-- a fault from its parts
+pub fault_from : (f : Fault) (file token : ℕ) (kind : FaultKind) → f.file ≡ file → f.token ≡ token → f.kind ≡ kind → f ≡ make file token kind
+fault_from f file token kind e g h = ap (λ v. make v f.token f.kind) e ∙ ap (λ v. make file v f.kind) g ∙ ap (λ v. make file token v) h
+
+-- a test that failed
+pub is_false : (P : Type 0) (b : Bool) → (IsTrue b ↔ P) → b ≡ false → P → ⊥
+is_false P b h e p = let t : b ≡ true = h.1 p in let z : ⊥ = cc in z
