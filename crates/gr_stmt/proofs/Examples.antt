@@ -13,7 +13,7 @@ use Rattle.gr_expr.specs.Operations.{fits, operate, joined, class_of, family_of,
 use Rattle.gr_expr.specs.Places.{first_token, place_of, place_of_links}
 use Rattle.gr_expr.specs.Judge.{judge, as_value, value_kind, select, select_member, all_whole, misfit, misfits, unless_faults, call_function, convert, call_builtin, call_of, all_of_class, judge_type, named_type, imported_type}
 use Rattle.gr_stmt.specs.Checked.{Checked}
-use Rattle.gr_stmt.specs.Sides.{rights, lone, results_at, judge_each, given_to, all_refused, all_sound, assignable, own_type, assigned, assigned_one, defined, defined_one, no_name, default_type, taken_type, taken, with_locals, defined_name, named, ident_place, first_of_exprs, first_of_idents}
+use Rattle.gr_stmt.specs.Sides.{rights, values_of, results_at, judge_each, given_to, refused, nil_refused, all_refused, all_sound, assignable, own_type, assigned, assigned_one, defined, defined_one, no_name, default_type, taken_type, taken, with_locals, defined_name, named, ident_place, first_of_exprs, first_of_idents}
 use Rattle.gr_stmt.specs.Simple.{condition_faults, check_condition, step_faults, update_faults, ends_in_call, without_last, may_stand, is_statement, stands_faults, check_simple, check_local_of, check_local}
 use Rattle.gr_stmt.specs.Statements.{returned, check_return}
 use Rattle.gr_stmt.specs.Headers.{may_receive, receiving, receiver_base, judge_receiver, check_receiver, check_param, judge_types, judge_results, init_faults}
@@ -84,27 +84,27 @@ t_s = Chain (Name 30) (selector 32 35 no_link)
 
 -- `x := nil`: at nil
 nil_defined : (check_simple w start (Define (item (Name 70) ∷ []) 1 (item (Name 40) ∷ []))).faults ≡ 40 ∷ []
-unfolding check_simple defined defined_one defined_name first_of_exprs with_locals taken taken_type default_type rights lone given_to all_refused judge place_of first_token as_value value_kind
+unfolding check_simple defined defined_one defined_name first_of_exprs with_locals taken taken_type default_type rights values_of given_to all_refused refused nil_refused judge place_of first_token as_value value_kind
 nil_defined = refl
 
 -- `_ = nil`: at nil
 nil_assigned : (check_simple w start (Assign (item (Blank 5) ∷ []) 1 (item (Name 40) ∷ []))).faults ≡ 40 ∷ []
-unfolding check_simple assigned assigned_one first_of_exprs rights lone given_to all_refused judge place_of first_token as_value value_kind
+unfolding check_simple assigned assigned_one first_of_exprs rights values_of given_to all_refused refused nil_refused judge place_of first_token as_value value_kind
 nil_assigned = refl
 
 -- `x, y := 1, nil`: x is an int, y is broken
 types_taken : found_both (check_simple w start (Define (item (Name 70) ∷ item (Name 72) ∷ []) 1 (item (Number 2) ∷ item (Name 40) ∷ []))) ≡ (Some int, None, 40 ∷ [])
-unfolding check_simple defined defined_one defined_name first_of_exprs with_locals taken taken_type default_type rights lone judge_each given_to all_refused judge place_of first_token as_value value_kind
+unfolding check_simple defined defined_one defined_name first_of_exprs with_locals taken taken_type default_type rights values_of judge_each given_to all_refused refused nil_refused judge place_of first_token as_value value_kind
 types_taken = refl
 
 -- `x := 1`, `x = "a"`: at the string
 misfit_assigned : (check_simple w (check_simple w start (Define (item (Name 70) ∷ []) 1 (item (Number 2) ∷ []))) (Assign (item (Name 71) ∷ []) 3 (item (Text 4) ∷ []))).faults ≡ 4 ∷ []
-unfolding check_simple defined defined_one defined_name first_of_exprs with_locals taken taken_type default_type rights lone given_to all_refused judge place_of first_token as_value value_kind assigned assigned_one assignable own_type misfit fits same_underlying
+unfolding check_simple defined defined_one defined_name first_of_exprs with_locals taken taken_type default_type rights values_of given_to all_refused refused nil_refused judge place_of first_token as_value value_kind assigned assigned_one assignable own_type misfit fits same_underlying
 misfit_assigned = refl
 
 -- `x := g()`, g without results: at the statement; a use of x is broken and no fault
 nothing_defined : (check_simple w (check_simple w start (Define (item (Name 70) ∷ []) 1 (item g ∷ []))) (Assign (item (Name 71) ∷ []) 3 (item (Text 4) ∷ []))).faults ≡ 70 ∷ []
-unfolding check_simple defined defined_one defined_name first_of_exprs with_locals taken rights lone results_at given_to all_refused all_sound judge place_of place_of_links first_token as_value value_kind call_of call_function misfits unless_faults all_whole assigned assigned_one assignable own_type
+unfolding check_simple defined defined_one defined_name first_of_exprs with_locals taken rights values_of results_at given_to all_refused refused nil_refused all_sound judge place_of place_of_links first_token as_value value_kind call_of call_function misfits unless_faults all_whole assigned assigned_one assignable own_type
 nothing_defined = refl
 
 -- `x := 1, len(5)`: a wrong count, but of a broken value; the value is looked through
@@ -114,22 +114,22 @@ values_looked_through = refl
 
 -- `a, b = two()` with misfits: at the first token of the call
 misfit_results : (check_simple w start (Assign (item (Name 10) ∷ item (Name 11) ∷ []) 1 (item two ∷ []))).faults ≡ 22 ∷ 22 ∷ []
-unfolding check_simple assigned assigned_one assignable own_type first_of_exprs rights lone results_at given_to all_refused misfit fits same_type same_underlying is_named judge place_of place_of_links first_token as_value call_of call_function misfits unless_faults all_whole
+unfolding check_simple assigned assigned_one assignable own_type first_of_exprs rights values_of results_at given_to all_refused refused nil_refused misfit fits same_type same_underlying is_named judge place_of place_of_links first_token as_value call_of call_function misfits unless_faults all_whole
 misfit_results = refl
 
 -- `x, y := two()`
 results_taken : found_both (check_simple w start (Define (item (Name 70) ∷ item (Name 72) ∷ []) 1 (item two ∷ []))) ≡ (Some int, Some text, [])
-unfolding check_simple defined defined_one defined_name first_of_exprs with_locals taken taken_type default_type rights lone results_at given_to all_refused judge place_of place_of_links first_token as_value call_of call_function misfits unless_faults all_whole
+unfolding check_simple defined defined_one defined_name first_of_exprs with_locals taken taken_type default_type rights values_of results_at given_to all_refused refused nil_refused judge place_of place_of_links first_token as_value call_of call_function misfits unless_faults all_whole
 results_taken = refl
 
 -- `5 = n`, `f(1) = s`: at the left side
 not_assigned : (check_simple w start (Assign (item (Number 5) ∷ item f ∷ []) 6 (item (Name 11) ∷ item (Name 10) ∷ []))).faults ≡ 5 ∷ 20 ∷ []
-unfolding check_simple assigned assigned_one assignable own_type first_of_exprs rights judge_each given_to all_refused judge place_of place_of_links first_token as_value value_kind call_of call_function misfits misfit fits same_underlying unless_faults all_whole
+unfolding check_simple assigned assigned_one assignable own_type first_of_exprs rights judge_each given_to all_refused refused nil_refused judge place_of place_of_links first_token as_value value_kind call_of call_function misfits misfit fits same_underlying unless_faults all_whole
 not_assigned = refl
 
 -- `x, t.s := 1, "a"`: no identifier, behind the dot
 no_identifier : (check_simple w start (Define (item (Name 70) ∷ item t_s ∷ []) 1 (item (Number 2) ∷ item (Text 3) ∷ []))).faults ≡ 35 ∷ []
-unfolding check_simple defined defined_one no_name defined_name first_of_exprs with_locals taken taken_type default_type rights judge_each given_to all_refused judge place_of place_of_links first_token as_value value_kind select select_member
+unfolding check_simple defined defined_one no_name defined_name first_of_exprs with_locals taken taken_type default_type rights judge_each given_to all_refused refused nil_refused judge place_of place_of_links first_token as_value value_kind select select_member
 no_identifier = refl
 
 -- `var x int = 1, 2`: at x
@@ -144,7 +144,7 @@ local_count_of_broken = refl
 
 -- `var _ = nil`
 local_nil : (check_local w start (record { names = record { value = Underscore 70; separator = None } ∷ []; type_use = None; values = Some (1, item (Name 40) ∷ []) })).faults ≡ 40 ∷ []
-unfolding check_local check_local_of first_of_idents ident_place named with_locals taken taken_type default_type rights lone given_to all_refused judge place_of first_token as_value value_kind
+unfolding check_local check_local_of first_of_idents ident_place named with_locals taken taken_type default_type rights values_of given_to all_refused refused nil_refused judge place_of first_token as_value value_kind
 local_nil = refl
 
 -- Conditions, `++`, `+=`
@@ -206,7 +206,7 @@ conversion_stands = refl
 
 -- `return (s)` of an int: at the parenthesis
 misfit_in_parentheses : (check_return w start 80 (Some int ∷ []) (item (Paren 81 (Name 10) 82) ∷ [])).faults ≡ 81 ∷ []
-unfolding check_return returned rights lone all_refused misfit fits same_type same_underlying is_named judge place_of first_token as_value value_kind
+unfolding check_return returned rights values_of all_refused refused nil_refused misfit fits same_type same_underlying is_named judge place_of first_token as_value value_kind
 misfit_in_parentheses = refl
 
 -- `return "a", 1` of one result, also where it is broken: at the `return`
@@ -216,12 +216,12 @@ return_count = refl
 
 -- `return g()` where neither has results
 nothing_returned : (check_return w start 80 [] (item g ∷ [])).faults ≡ []
-unfolding check_return returned rights lone results_at all_refused judge place_of place_of_links first_token as_value call_of call_function misfits unless_faults all_whole
+unfolding check_return returned rights values_of results_at all_refused refused nil_refused judge place_of place_of_links first_token as_value call_of call_function misfits unless_faults all_whole
 nothing_returned = refl
 
 -- `return two()` with a misfit: at the first token of the call
 misfit_returned : (check_return w start 80 (Some int ∷ Some int ∷ []) (item two ∷ [])).faults ≡ 22 ∷ []
-unfolding check_return returned rights lone results_at all_refused misfit fits same_type same_underlying is_named judge place_of place_of_links first_token as_value call_of call_function misfits unless_faults all_whole
+unfolding check_return returned rights values_of results_at all_refused refused nil_refused misfit fits same_type same_underlying is_named judge place_of place_of_links first_token as_value call_of call_function misfits unless_faults all_whole
 misfit_returned = refl
 
 -- Headers
@@ -303,7 +303,7 @@ type_as_package = refl
 
 -- `var x int = "a"`: at the literal
 global_misfit : global_faults w (record { names = record { value = 90; separator = None } ∷ []; type_use = LocalType 61; values = Some (1, record { value = String 91; separator = None } ∷ []) }) ≡ 91 ∷ []
-unfolding global_faults value_faults all_refused misfit fits same_underlying judge_type named_type
+unfolding global_faults value_faults all_refused refused nil_refused misfit fits same_underlying judge_type named_type
 global_misfit = refl
 
 -- `var x T = 1, 2`: at x, also where T is broken

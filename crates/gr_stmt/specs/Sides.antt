@@ -14,23 +14,23 @@ unfoldable pub results_at : ℕ → List PlainType → List Argued
 results_at place [] = []
 results_at place (t ∷ ts) = record { place = place; kind = Some (Typed t) } ∷ results_at place ts
 
-abbrev pub lone_values : ℕ → Meaning → List Argued
-lone_values place (Results ts) = results_at place ts
-lone_values place m = record { place = place; kind = value_kind m } ∷ []
+abbrev pub one_value : ℕ → Judged → JudgedList
+one_value place j = record { values = record { place = place; kind = value_kind j.meaning } ∷ []; faults = j.faults; uses = j.uses }
 
-abbrev pub lone_faults : ℕ → Meaning → List ℕ
-lone_faults place (Results ts) = []
-lone_faults place m = (as_value place m).faults
+unfoldable pub values_of : ℕ → Meaning → JudgedList
+values_of place (Results ts) = record { values = results_at place ts; faults = []; uses = [] }
+values_of place m = one_value place (as_value place m)
 
-unfoldable pub lone : ℕ → Judged → JudgedList
-lone place j = record { values = lone_values place j.meaning; faults = j.faults ++ lone_faults place j.meaning; uses = j.uses }
+-- what is found of one part, and then by a rule of what it means
+abbrev pub list_followed : Judged → (Meaning → JudgedList) → JudgedList
+list_followed j rule = record { values = (rule j.meaning).values; faults = j.faults ++ (rule j.meaning).faults; uses = j.uses ++ (rule j.meaning).uses }
 
 unfoldable pub judge_each : World → Locals → List (Item ExprTree) → JudgedList
 judge_each w ls [] = record { values = []; faults = []; uses = [] }
 judge_each w ls (i ∷ is) = value_before (place_of i.value) (judge_value w ls i.value) (judge_each w ls is)
 
 unfoldable pub rights : World → Locals → List (Item ExprTree) → JudgedList
-rights w ls (i ∷ []) = lone (place_of i.value) (judge w ls i.value)
+rights w ls (i ∷ []) = list_followed (judge w ls i.value) (values_of (place_of i.value))
 rights w ls is = judge_each w ls is
 
 -- Left sides: what each takes. A new name or `_` takes a value of any type, any other wants one that fits its own
@@ -48,12 +48,16 @@ unfoldable pub all_sound : List Target → Bool
 all_sound [] = true
 all_sound (t ∷ ts) = is_sound t && all_sound ts
 
--- the place of a value that its target refuses; nil has no type of its own to give
-abbrev pub refused : World → ℕ → Option Kind → Target → List ℕ
+-- nil has no type of its own to give
+unfoldable pub nil_refused : ℕ → Option Kind → List ℕ
+nil_refused place (Some Nil) = place ∷ []
+nil_refused place k = []
+
+-- the place of a value that its target refuses
+unfoldable pub refused : World → ℕ → Option Kind → Target → List ℕ
 refused w place k (Wants None) = []
 refused w place k (Wants (Some t)) = misfit w place k t
-refused w place (Some Nil) Takes = place ∷ []
-refused w place k Takes = []
+refused w place k Takes = nil_refused place k
 
 unfoldable pub all_refused : World → List Argued → List Target → List ℕ
 all_refused w [] ts = []
