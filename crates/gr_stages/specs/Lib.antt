@@ -2,3 +2,6 @@ pub mod States
 pub mod Files
 pub mod Clauses
 pub mod Imports
+pub mod Scoping
+pub mod Marks
+pub mod Stages

@@ -1,6 +1,6 @@
 -- The faults of scopes: what a package's identifiers and imports are bound to, and which of its declarations count. The
 -- layout is that in which each import without a name declares the imported package's name at its literal.
-use Rattle.std.specs.Prelude.{ℕ, suc, ◌≡◌, ◌+◌, ◌<◌, ◌⊎◌, Bool, true, false, List, [], ◌∷◌, Option, Some, None, slice_get, length, codes, if◌then◌else◌}
+use Rattle.std.specs.Prelude.{ℕ, suc, ◌≡◌, ◌+◌, ◌<◌, ◌⊎◌, Bool, true, false, List, [], ◌∷◌, Option, Some, None, ◌↔◌, get_or, slice_get, length, codes, if◌then◌else◌}
 use Rattle.bstr.specs.Utf8.{decoded}
 use Rattle.unicode.specs.GeneralCategory.{general_category, general_category_eq}
 use Rattle.ucd_category.specs.declared.GeneralCategory.TheVariants.{UppercaseLetter}
@@ -12,7 +12,7 @@ use Rattle.gr_scope.specs.declared.model.Role.{Role}
 use Rattle.gr_scope.specs.declared.model.Role.TheVariants.{Use, Declaring, LeftName, Implied, NotLexical}
 use Rattle.gr_scope.specs.declared.model.Purpose.{Purpose}
 use Rattle.gr_scope.specs.declared.model.Purpose.TheVariants as purpose
-use Rattle.gr_scope.specs.declared.model.Identifier.{Identifier}
+use Rattle.gr_scope.specs.declared.table.ScopeTable.{ScopeTable}
 use Rattle.gr_scope.specs.Table.{layout_of, names_of}
 use Rattle.gr_fault.specs.Listing.{Below}
 use Rattle.gr_scope.specs.Bindings.{Layout, Names, MayDeclare, IsIdentifier, IsPackageLevel, IsImport, IsUse, IsBoundTo, Declares, Counts}
@@ -24,9 +24,9 @@ pub record Laid : Type 0 where
   pub names : Names
   pub size : ℕ
 
--- those that the program has found
-abbrev pub laid_of : List Identifier → Laid
-laid_of xs = record { layout = layout_of xs; names = names_of xs; size = length xs }
+-- those of a table
+abbrev pub laid_in : ScopeTable → Laid
+laid_in t = record { layout = layout_of t.identifiers.items; names = names_of t.identifiers.items; size = length t.identifiers.items }
 
 abbrev pub fault_at : Layout → ℕ → FaultKind → Fault
 fault_at l u k = record { file = (l.place u).file; token = (l.place u).index; kind = k }
@@ -55,13 +55,25 @@ is_literal r = false
 
 -- where an import's literal stands: behind its name, or where it has none in its own place
 abbrev pub literal_of : Layout → ℕ → ℕ
-literal_of l d = if is_literal (l.role (suc d)) then suc d else d
+literal_of l d = if is_literal (l.role (d + 1)) then d + 1 else d
+
+-- one of the identifiers below n is a use of d
+pub record IsUsedBelow (p : Laid) (n d : ℕ) : Type 0 where
+  pub user : ℕ
+  pub below : user < n
+  pub is_use : IsUse p.layout p.names user
+  pub bound : IsBoundTo p.layout p.names user d
 
 -- an import to which no use is bound
 pub record IsUnused (p : Laid) (d : ℕ) (f : Fault) : Type 0 where
   pub at : f ≡ fault_at p.layout (literal_of p.layout d) kind.Unused
   pub is_import : IsImport p.layout d
-  pub unused : (u : ℕ) → u < p.size → IsUse p.layout p.names u → IsBoundTo p.layout p.names u d → ⊥
+  pub unused : IsUsedBelow p p.size d → ⊥
+
+-- what is known of a table: of each identifier, whether it is used
+pub record AreUsed (p : Laid) (n : ℕ) (used : List Bool) : Type 0 where
+  pub all : length used ≡ p.size
+  pub each : (d : ℕ) → d < p.size → (get_or used d false ≡ true) ↔ IsUsedBelow p n d
 
 -- Names behind the name of a package
 
