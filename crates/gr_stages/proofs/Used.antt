@@ -14,7 +14,7 @@ now_used p n d u b = record { user = n; below = omega arith; is_use = u; bound =
 
 earlier : (p : Laid) (n d : ℕ) → IsUsedBelow p (n + 1) d → IsUsedBelow p n d ⊎ (IsUse p.layout p.names n × IsBoundTo p.layout p.names n d)
 earlier p n d h = elim (cases_lt h.user n) [
-  inl lt ↦ inl (record { user = h.user; below = lt; is_use = h.is_use; bound = h.bound })
+  | inl lt ↦ inl (record { user = h.user; below = lt; is_use = h.is_use; bound = h.bound })
   | inr ge ↦ inr (let lt : h.user < n + 1 = h.below in let e : h.user ≡ n = omega arith in
       (subst (IsUse p.layout p.names) e h.is_use, subst (λ u. IsBoundTo p.layout p.names u d) e h.bound))
 ]
@@ -27,7 +27,7 @@ set_other used k d ne = let apart : d ≢ k = ne in rw get_or-set_other refl
 
 same_or_not : (d k : ℕ) → (d ≡ k) ⊎ (d ≡ k → ⊥)
 same_or_not d k = elim (cases_lt d k) [
-  inl lt ↦ inr (λ e. let z : ⊥ = omega arith in z)
+  | inl lt ↦ inr (λ e. let z : ⊥ = omega arith in z)
   | inr ge ↦ elim (cases_lt k d) [ inl gt ↦ inr (λ e. let z : ⊥ = omega arith in z) | inr le ↦ inl (omega arith) ]
 ]
 
@@ -35,7 +35,8 @@ same_or_not d k = elim (cases_lt d k) [
 kept : (p : Laid) (n d : ℕ) (b c : Bool) → c ≡ b → ((b ≡ true) ↔ IsUsedBelow p n d) → (IsUse p.layout p.names n → IsBoundTo p.layout p.names n d → ⊥) → (c ≡ true) ↔ IsUsedBelow p (n + 1) d
 kept p n d b c e h no_use = (
   (λ t. later p n d (h.0 (sym e ∙ t))),
-  (λ u. elim (earlier p n d u) [ inl o ↦ e ∙ h.1 o | inr q ↦ absurd (no_use q.0 q.1) ]))
+  (λ u. elim (earlier p n d u) [ inl o ↦ e ∙ h.1 o | inr q ↦ absurd (no_use q.0 q.1) ]),
+)
 
 pub marked : (p : Laid) (used new : List Bool) (u : ℕ) (r : Option ℕ) → ((v d e : ℕ) → IsBoundTo p.layout p.names v d → IsBoundTo p.layout p.names v e → d ≡ e) →
     AreUsed p u used → MatchOption r (IsUse p.layout p.names u → (d : ℕ) → IsBoundTo p.layout p.names u d → ⊥) (λ d. IsUse p.layout p.names u × IsBoundTo p.layout p.names u d) →
@@ -47,8 +48,10 @@ marked p used new u None one h no_use e = record {
 marked p used new u (Some k) one h bound_now e = record {
   all = ap length e ∙ (rw length-set h.all);
   each = λ d lt. elim (same_or_not d k) [
-    inl same ↦ ((λ t. now_used p u d bound_now.0 (subst (IsBoundTo p.layout p.names u) (sym same) bound_now.1)),
-      (λ q. ap (λ z. get_or z d false) (e ∙ ap (λ j. set used j true) (sym same)) ∙ set_same used d (rw h.all lt)))
+    | inl same ↦ (
+      (λ t. now_used p u d bound_now.0 (subst (IsBoundTo p.layout p.names u) (sym same) bound_now.1)),
+      (λ q. ap (λ z. get_or z d false) (e ∙ ap (λ j. set used j true) (sym same)) ∙ set_same used d (rw h.all lt)),
+    )
     | inr apart ↦ kept p u d (get_or used d false) (get_or new d false) (ap (λ z. get_or z d false) e ∙ set_other used k d apart) (h.each d lt) (λ q b. apart (one u d k b bound_now.1))
   ];
 }

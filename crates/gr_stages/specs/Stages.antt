@@ -14,9 +14,13 @@ use Rattle.gr_stages.specs.Marks.{IsMarkFault}
 abbrev pub IsOuterFault : (List ℕ → ImportState) → List SourceFile → Fault → Type 0
 IsOuterFault state files = FirstOf (IsClauseFault files) (IsImportFault state files)
 
+-- the faults that a package's own scopes tell
+abbrev pub IsOwnFault : List SourceFile → Laid → Fault → Type 0
+IsOwnFault files p f = IsScopeFault p f ⊎ IsMarkFault files p f
+
 -- the faults that scopes tell
 abbrev pub IsInnerFault : List SourceFile → ((path name : List ℕ) → Bool) → Laid → Fault → Type 0
-IsInnerFault files exports p f = IsScopeFault p f ⊎ (IsUnknownFault files exports p f ⊎ IsMarkFault files p f)
+IsInnerFault files exports p f = IsOwnFault files p f ⊎ IsUnknownFault files exports p f
 
 -- the faults of the first stage that has some; members and types: those of the last two stages
 abbrev pub IsFaultIn : (List ℕ → ImportState) → List SourceFile → ((path name : List ℕ) → Bool) → Laid → (members types : Fault → Type 0) → Fault → Type 0

@@ -6,11 +6,12 @@ mod files;
 mod imports;
 mod marks;
 mod scoping;
+mod stages;
 mod states;
 mod table;
+#[cfg(test)]
+mod tests;
 mod uses;
 
-pub use clauses::add_clauses;
-pub use imports::add_imports;
-pub use scoping::add_scopes;
+pub use stages::{outer_faults, own_faults};
 pub use states::{ImportState, ImportStates};

@@ -1,15 +1,19 @@
 //! The faults of statements that need no types: a `:=` that declares nothing, and a `break` or `continue` outside of a
 //! `for`.
-ghost use Rattle.std.specs.Prelude.{ℕ, ◌≡◌, ◌↔◌, ◌∷◌, [], IsTrue, OnOk};
-ghost use Rattle.gr_fault.specs.Listing.{AddsEach};
+ghost use Rattle.std.specs.Prelude.{ℕ, ◌≡◌, ◌↔◌, ◌∷◌, [], IsTrue, OnOk, map};
+ghost use Rattle.gr_fault.specs.Listing.{Adds, AddsEach};
 ghost use Rattle.gr_parse.specs.View.{expr_view, exprs_view, option_view};
-ghost use Rattle.gr_parse.specs.FileView.{simple_view, init_view, for_view, stmt_view, block_view, if_view, else_view};
+ghost use Rattle.gr_parse.specs.FileView.{simple_view, init_view, for_view, stmt_view, block_view, if_view, else_view, decl_view};
+ghost use Rattle.gr_parse.specs.SourceFile.{source_of};
 ghost use Rattle.gr_stages.specs.Scoping.{laid_in};
-ghost use Rattle.gr_stages.specs.Marks.{Defines, DeclaresName, SomeDeclares, IsFaultOfMark, simple_marks, optional_marks, init_marks, for_marks, stray, statement_marks, block_marks, if_marks, else_marks};
+ghost use Rattle.gr_stages.specs.Marks.{Defines, DeclaresName, SomeDeclares, IsFaultOfMark, IsFaultOfMarks, IsMarkFault, decl_marks, simple_marks, optional_marks, init_marks, for_marks, stray, statement_marks, block_marks, if_marks, else_marks};
 
 use crate::table::declares_at;
 use gr_fault::{Fault, push, push_if};
-use gr_parse::tree::{Block, Else, Expr, ExprItem, ForHeader, IfInit, IfStmt, SimpleStmt, Stmt};
+use gr_parse::FileTree;
+use gr_parse::tree::{
+    Block, Decl, Else, Expr, ExprItem, ForHeader, IfInit, IfStmt, SimpleStmt, Stmt,
+};
 use gr_scope::table::ScopeTable;
 use gr_text::FaultKind;
 use std::alloc::AllocError;
@@ -69,10 +73,10 @@ fn add_simple(
 {
     match statement {
         SimpleStmt::Define { left, at, .. } => add_define(found, scope, left, *at),
-        SimpleStmt::Expr(_)
-        | SimpleStmt::Step { .. }
-        | SimpleStmt::Update { .. }
-        | SimpleStmt::Assign { .. } => Ok(()),
+        SimpleStmt::Expr(_) => Ok(()),
+        SimpleStmt::Step { .. } => Ok(()),
+        SimpleStmt::Update { .. } => Ok(()),
+        SimpleStmt::Assign { .. } => Ok(()),
     }
 }
 
@@ -130,7 +134,8 @@ fn add_header(
     ensures { OnOk result (AddsEach (IsFaultOfMark (laid_in scope.entry.table.now) scope.entry.rank) found.old.items found.new.items (for_marks (for_view header.now))) }
 {
     match header {
-        ForHeader::Forever | ForHeader::While(_) => Ok(()),
+        ForHeader::Forever => Ok(()),
+        ForHeader::While(_) => Ok(()),
         ForHeader::Clauses { init, post, .. } => {
             add_optional(found, scope, init)?;
             add_optional(found, scope, post)
@@ -207,4 +212,39 @@ fn add_else(
         Else::If { branch, .. } => add_if(found, scope, in_for, branch),
         Else::Block { block, .. } => add_block(found, scope, in_for, block),
     }
+}
+
+fn add_decl(found: &mut Vec<Fault>, scope: FileScope<'_>, decl: &Decl) -> Result<(), AllocError>
+    ensures { OnOk result (AddsEach (IsFaultOfMark (laid_in scope.entry.table.now) scope.entry.rank) found.old.items found.new.items (decl_marks (decl_view decl.now))) }
+{
+    match decl {
+        Decl::Var { .. } => Ok(()),
+        Decl::Type { .. } => Ok(()),
+        Decl::Func { func, .. } => add_block(found, scope, false, &func.body),
+    }
+}
+
+/// Adds the faults of a file's statements.
+fn add_file(found: &mut Vec<Fault>, scope: FileScope<'_>, file: &FileTree) -> Result<(), AllocError>
+    ensures { OnOk result (Adds found.old.items found.new.items (IsFaultOfMarks (laid_in scope.entry.table.now) (scope.entry.rank, source_of file.now))) }
+{
+    let tree = file.file();
+    for decl in &tree.decls {
+        add_decl(found, scope, decl)?;
+    }
+    Ok(())
+}
+
+/// Adds the faults of a package's statements that need no types.
+pub fn add_marks(
+    found: &mut Vec<Fault>,
+    table: &ScopeTable,
+    files: &[FileTree],
+) -> Result<(), AllocError>
+    ensures { OnOk result (Adds found.old.items found.new.items (IsMarkFault (map source_of files.now) (laid_in table.now))) }
+{
+    for rank in 0..files.len() {
+        add_file(found, FileScope { table, rank }, &files[rank])?;
+    }
+    Ok(())
 }

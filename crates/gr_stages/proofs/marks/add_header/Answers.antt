@@ -18,7 +18,7 @@ unfolding for_marks for_view
 returns-in-Forever c =
     each_as (IsFaultOfMark (laid_in c.args.scope.table.now) c.args.scope.rank) c.args.found.now.items c.args.found.now.items [] _ (each_none (IsFaultOfMark (laid_in c.args.scope.table.now) c.args.scope.rank) c.args.found.now.items) (ap (λ v. for_marks (for_view v)) (sym c.in-Forever.is))
 
-pub returns-in-Forever-2 : goal.returns-in-Forever-2
+pub returns-in-While : goal.returns-in-While
 unfolding for_marks for_view
-returns-in-Forever-2 c =
-    each_as (IsFaultOfMark (laid_in c.args.scope.table.now) c.args.scope.rank) c.args.found.now.items c.args.found.now.items [] _ (each_none (IsFaultOfMark (laid_in c.args.scope.table.now) c.args.scope.rank) c.args.found.now.items) (ap (λ v. for_marks (for_view v)) (sym c.in-Forever.is))
+returns-in-While c =
+    each_as (IsFaultOfMark (laid_in c.args.scope.table.now) c.args.scope.rank) c.args.found.now.items c.args.found.now.items [] _ (each_none (IsFaultOfMark (laid_in c.args.scope.table.now) c.args.scope.rank) c.args.found.now.items) (ap (λ v. for_marks (for_view v)) (sym c.in-While.is))

@@ -17,17 +17,17 @@ unfolding simple_marks simple_view
 returns-in-Expr c =
     each_as (IsFaultOfMark (laid_in c.args.scope.table.now) c.args.scope.rank) c.args.found.now.items c.args.found.now.items [] _ (each_none (IsFaultOfMark (laid_in c.args.scope.table.now) c.args.scope.rank) c.args.found.now.items) (ap (λ v. simple_marks (simple_view v)) (sym c.in-Expr.is))
 
-pub returns-in-Expr-2 : goal.returns-in-Expr-2
+pub returns-in-Step : goal.returns-in-Step
 unfolding simple_marks simple_view
-returns-in-Expr-2 c =
-    each_as (IsFaultOfMark (laid_in c.args.scope.table.now) c.args.scope.rank) c.args.found.now.items c.args.found.now.items [] _ (each_none (IsFaultOfMark (laid_in c.args.scope.table.now) c.args.scope.rank) c.args.found.now.items) (ap (λ v. simple_marks (simple_view v)) (sym c.in-Expr.is))
+returns-in-Step c =
+    each_as (IsFaultOfMark (laid_in c.args.scope.table.now) c.args.scope.rank) c.args.found.now.items c.args.found.now.items [] _ (each_none (IsFaultOfMark (laid_in c.args.scope.table.now) c.args.scope.rank) c.args.found.now.items) (ap (λ v. simple_marks (simple_view v)) (sym c.in-Step.is))
 
-pub returns-in-Expr-3 : goal.returns-in-Expr-3
+pub returns-in-Update : goal.returns-in-Update
 unfolding simple_marks simple_view
-returns-in-Expr-3 c =
-    each_as (IsFaultOfMark (laid_in c.args.scope.table.now) c.args.scope.rank) c.args.found.now.items c.args.found.now.items [] _ (each_none (IsFaultOfMark (laid_in c.args.scope.table.now) c.args.scope.rank) c.args.found.now.items) (ap (λ v. simple_marks (simple_view v)) (sym c.in-Expr.is))
+returns-in-Update c =
+    each_as (IsFaultOfMark (laid_in c.args.scope.table.now) c.args.scope.rank) c.args.found.now.items c.args.found.now.items [] _ (each_none (IsFaultOfMark (laid_in c.args.scope.table.now) c.args.scope.rank) c.args.found.now.items) (ap (λ v. simple_marks (simple_view v)) (sym c.in-Update.is))
 
-pub returns-in-Expr-4 : goal.returns-in-Expr-4
+pub returns-in-Assign : goal.returns-in-Assign
 unfolding simple_marks simple_view
-returns-in-Expr-4 c =
-    each_as (IsFaultOfMark (laid_in c.args.scope.table.now) c.args.scope.rank) c.args.found.now.items c.args.found.now.items [] _ (each_none (IsFaultOfMark (laid_in c.args.scope.table.now) c.args.scope.rank) c.args.found.now.items) (ap (λ v. simple_marks (simple_view v)) (sym c.in-Expr.is))
+returns-in-Assign c =
+    each_as (IsFaultOfMark (laid_in c.args.scope.table.now) c.args.scope.rank) c.args.found.now.items c.args.found.now.items [] _ (each_none (IsFaultOfMark (laid_in c.args.scope.table.now) c.args.scope.rank) c.args.found.now.items) (ap (λ v. simple_marks (simple_view v)) (sym c.in-Assign.is))

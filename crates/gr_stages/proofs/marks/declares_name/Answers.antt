@@ -15,4 +15,5 @@ returns-in-Name c =
 pub returns-in_default : goal.returns-in_default
 returns-in_default c = (
   (λ t. let z : ⊥ = cc in absurd z),
-  (λ h. absurd (not_a_name (laid_in c.args.scope.table.now) c.args.scope.rank c.args.left.now c.in_default.not-Name h)))
+  (λ h. absurd (not_a_name (laid_in c.args.scope.table.now) c.args.scope.rank c.args.left.now c.in_default.not-Name h)),
+)

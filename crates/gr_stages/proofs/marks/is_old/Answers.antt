@@ -8,10 +8,11 @@ use Rattle.gr_stages.proofs.marks.is_old.Goals as goal
 
 pub returns-then-declares_name : goal.returns-then-declares_name
 returns-then-declares_name c =
-    let p = laid_in c.args.scope.table.now in
-    ((λ t. let z : ⊥ = cc in absurd z),
+    let p = laid_in c.args.scope.table.now in (
+      (λ t. let z : ⊥ = cc in absurd z),
       (λ none. absurd (none (some_at p c.args.scope.rank c.args.left.now c.loop-item.item-index c.item-item.result (omega arith)
-        (subst (λ x. DeclaresName p c.args.scope.rank (expr_view x.value)) c.item-item.is (c.declares_name.ensures.0 c.if-declares_name.true))))))
+          (subst (λ x. DeclaresName p c.args.scope.rank (expr_view x.value)) c.item-item.is (c.declares_name.ensures.0 c.if-declares_name.true))))),
+    )
 
 pub loop-item-preserved : goal.loop-item-preserved
 loop-item-preserved c =
