@@ -86,7 +86,7 @@ package_functions p = flat_map functions_in (ranked p.files)
 
 -- a type definition of the package by its rank, as it is known in others
 abbrev pub symbol_in : Package → ℕ → Symbol
-symbol_in p rank = record { package = p.path; rank = rank }
+symbol_in p rank = record { «package» = p.path; rank = rank }
 
 -- how a token of a file is spelled
 abbrev pub spelled_at : Option SourceFile → ℕ → List ℕ

@@ -45,10 +45,10 @@ basic_name basic.Int = codes "int"
 basic_name basic.String = codes "string"
 
 -- `a.T` names the exported T of the package that a is bound to
-pub record NamesExport (p : Package) (file package name : ℕ) (t : PlainType) : Type 0 where
+pub record NamesExport (p : Package) (file qualifier name : ℕ) (t : PlainType) : Type 0 where
   pub import : ℕ
   pub path : List ℕ
-  pub binds : BindsToken p file package import
+  pub binds : BindsToken p file qualifier import
   pub imports : ImportsPath p import path
   pub export : _
   pub exported : (p.interface_of path).exported (spelled p file name) ≡ Some export
