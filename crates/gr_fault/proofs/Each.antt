@@ -21,7 +21,7 @@ some_right Q (x ∷ xs) ys f h = inr (some_right Q xs ys f h)
 pub some_cases : {X : Type 0} (Q : X → Fault → Type 0) (xs ys : List X) (f : Fault) → SomeOf Q (xs ++ ys) f → SomeOf Q xs f ⊎ SomeOf Q ys f
 some_cases Q [] ys f h = inr h
 some_cases Q (x ∷ xs) ys f h = elim h [
-  inl q ↦ inl (inl q)
+  | inl q ↦ inl (inl q)
   | inr r ↦ elim (some_cases Q xs ys f r) [ inl a ↦ inl (inr a) | inr b ↦ inr b ]
 ]
 
@@ -73,13 +73,13 @@ below_none Q a = adds_none a (Below Q 0) (λ f h. let lt : h.0 < 0 = h.1 in absu
 
 below_to : (Q : ℕ → Fault → Type 0) (i : ℕ) (f : Fault) → Below Q i f ⊎ Q i f → Below Q (i + 1) f
 below_to Q i f h = elim h [
-  inl q ↦ (q.0, (let lt : q.0 < i = q.1 in omega arith), q.2)
+  | inl q ↦ (q.0, (let lt : q.0 < i = q.1 in omega arith), q.2)
   | inr q ↦ (i, omega arith, q)
 ]
 
 below_from : (Q : ℕ → Fault → Type 0) (i : ℕ) (f : Fault) → Below Q (i + 1) f → Below Q i f ⊎ Q i f
 below_from Q i f h = elim (cases_lt h.0 i) [
-  inl lt ↦ inl (h.0, lt, h.2)
+  | inl lt ↦ inl (h.0, lt, h.2)
   | inr ge ↦ inr (let lt : h.0 < i + 1 = h.1 in let e : h.0 ≡ i = omega arith in subst (λ u. Q u f) e h.2)
 ]
 
