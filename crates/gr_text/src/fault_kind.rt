@@ -2,8 +2,8 @@
 ghost use Rattle.std.specs.Prelude.{◌≡◌};
 ghost use Rattle.gr_text.specs.FaultNames.{name_of};
 
-/// A kind of fault.
-#[derive(Clone, Copy, Debug, PartialEq, Eq)]
+/// A kind of fault. Kinds are ordered as they are listed here.
+#[derive(Clone, Copy, Debug, PartialEq, Eq, PartialOrd, Ord)]
 pub enum FaultKind {
     Encoding,
     Number,

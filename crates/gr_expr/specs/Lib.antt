@@ -1,0 +1,5 @@
+pub mod Places
+pub mod Types
+pub mod World
+pub mod Operations
+pub mod Judge

@@ -1,0 +1,54 @@
+//! Declarations as they are known in other packages: by package and rank.
+ghost use Rattle.std.specs.Prelude.{◌≡◌, IfOk};
+
+use gr_text::Path;
+use std::alloc::{AllocError, Global};
+use std::marker::Model;
+use std::sync::Arc;
+
+/// A package's path, shared by all that name it.
+#[derive(Drop)]
+pub struct SharedPath {
+    path: Arc<Path, Global>,
+}
+
+impl Model for SharedPath {
+    ghost use Rattle.std.specs.Prelude.{List, ℕ};
+    ghost use Rattle.std.specs.Arc.{arc_value};
+
+    ghost Value = { List ℕ };
+
+    ghost view = { λ a. arc_value a.path };
+}
+
+impl SharedPath {
+    pub fn new(alloc: Global, path: Path) -> Result<SharedPath, AllocError>
+        ensures { IfOk result (λ shared. shared ≡ path) }
+    {
+        let path = Arc::new(alloc, path)?;
+        Ok(SharedPath { path })
+    }
+
+    pub fn path(&self) -> &Path
+        ensures { result.now ≡ self.now }
+    {
+        &self.path
+    }
+}
+
+impl Clone for SharedPath {
+    ghost is_clone = { λ shared copy. copy ≡ shared };
+
+    fn clone(&self) -> Result<SharedPath, AllocError> {
+        let path = Arc::try_clone(&self.path)?;
+        Ok(SharedPath { path })
+    }
+}
+
+/// A type definition, or a field or method: the package that declares it, and its rank among those of its kind there, by
+/// path and offset, from 0.
+#[derive(Drop)]
+pub struct Symbol {
+    pub package: SharedPath,
+    pub rank: usize,
+}

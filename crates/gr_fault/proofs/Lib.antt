@@ -1,0 +1,4 @@
+pub mod Listings
+pub mod Each
+pub mod Ranked
+pub mod Stages

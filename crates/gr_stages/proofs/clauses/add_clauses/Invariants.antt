@@ -1,0 +1,9 @@
+use Rattle.std.proofs.Common.{take, map, ◌∷◌, []}
+use Rattle.std.specs.List.{flat_map, enumerate_from}
+use Rattle.gr_fault.specs.Listing.{AddsEach}
+use Rattle.gr_parse.specs.SourceFile.{source_of}
+use Rattle.gr_stages.specs.Clauses.{IsFaultOfClause}
+use Rattle.gr_stages.proofs.clauses.add_clauses.Given as goal
+
+abbrev pub invariant-loop-rank : goal.invariant-loop-rank
+invariant-loop-rank l = AddsEach (IsFaultOfClause l.name) l.initial.found.items l.found.items (flat_map (λ r. r ∷ []) (take l.rank (enumerate_from 0 (map source_of l.files))))

@@ -1,0 +1,10 @@
+use Rattle.std.proofs.Common.{take}
+use Rattle.std.specs.List.{flat_map}
+use Rattle.gr_fault.specs.Listing.{AddsEach}
+use Rattle.gr_parse.specs.FileView.{decl_view}
+use Rattle.gr_stages.specs.Scoping.{laid_in}
+use Rattle.gr_stages.specs.Marks.{IsFaultOfMark, decl_marks}
+use Rattle.gr_stages.proofs.marks.add_file.Given as goal
+
+abbrev pub invariant-loop-decl : goal.invariant-loop-decl
+invariant-loop-decl l = AddsEach (IsFaultOfMark (laid_in l.scope.table.now) l.scope.rank) l.initial.found.items l.found.items (flat_map (λ d. decl_marks (decl_view d)) (take l.decl-index l.decl-items))

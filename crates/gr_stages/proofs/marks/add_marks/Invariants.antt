@@ -1,0 +1,10 @@
+use Rattle.std.proofs.Common.{take, map, ◌∷◌, []}
+use Rattle.std.specs.List.{flat_map, enumerate_from}
+use Rattle.gr_fault.specs.Listing.{AddsEach}
+use Rattle.gr_parse.specs.SourceFile.{source_of}
+use Rattle.gr_stages.specs.Scoping.{laid_in}
+use Rattle.gr_stages.specs.Marks.{IsFaultOfMarks}
+use Rattle.gr_stages.proofs.marks.add_marks.Given as goal
+
+abbrev pub invariant-loop-rank : goal.invariant-loop-rank
+invariant-loop-rank l = AddsEach (IsFaultOfMarks (laid_in l.table)) l.initial.found.items l.found.items (flat_map (λ r. r ∷ []) (take l.rank (enumerate_from 0 (map source_of l.files))))

@@ -1,0 +1,12 @@
+use Rattle.std.proofs.Common.{◌≡◌, [], ◌∷◌, ◌∙◌, ap, sym}
+use Rattle.gr_fault.proofs.Each.{each_none, each_as, call_each, then_each}
+use Rattle.gr_parse.specs.View.{exprs_view, option_view}
+use Rattle.gr_parse.specs.FileView.{simple_view, init_view, for_view}
+use Rattle.gr_stages.specs.Scoping.{laid_in}
+use Rattle.gr_stages.specs.Marks.{Defines, IsFaultOfMark, simple_marks, optional_marks, init_marks, for_marks}
+use Rattle.gr_stages.proofs.marks.add_optional.Goals as goal
+
+pub returns-in-Some : goal.returns-in-Some
+returns-in-Some c =
+    call_each (IsFaultOfMark (laid_in c.args.scope.table.now) c.args.scope.rank) c.args.found.now.items c.add_simple.new.found.items (simple_marks (simple_view c.in-Some.simple)) (optional_marks (option_view simple_view c.args.statement.now)) c.add_simple.result c.add_simple.ensures
+    (ap (λ v. optional_marks (option_view simple_view v)) (sym c.in-Some.is))

@@ -1,0 +1,9 @@
+use Rattle.gr_stages.proofs.Used.{marked}
+use Rattle.gr_stages.specs.Scoping.{laid_in}
+use Rattle.gr_stages.proofs.uses.uses.Goals as goal
+
+pub loop-u-preserved : goal.loop-u-preserved
+loop-u-preserved c =
+    let p = laid_in c.args.table.now in
+    marked p c.loop-u.used.items c.mark.new.used.items c.loop-u.u c.used_by.result
+    (λ v d e b b'. c.bindings_are_unique.ensures p.layout c.requires p.names v d e b b') c.loop-u.invariant c.used_by.ensures c.mark.ensures

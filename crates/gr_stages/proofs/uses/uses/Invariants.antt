@@ -1,0 +1,5 @@
+use Rattle.gr_stages.specs.Scoping.{laid_in, AreUsed}
+use Rattle.gr_stages.proofs.uses.uses.Given as goal
+
+abbrev pub invariant-loop-u : goal.invariant-loop-u
+invariant-loop-u l = AreUsed (laid_in l.table) l.u l.used.items

@@ -1,0 +1,34 @@
+-- The files of a package in the order of their paths, each with its rank, and what they import.
+use Rattle.std.specs.Prelude.{ℕ, ◌≡◌, List, [], ◌∷◌, map, Option, Some, None, unwrap_or}
+use Rattle.std.specs.List.{flat_map, enumerate_from}
+use Rattle.gr_scan.specs.Cuts.{bytes_of}
+use Rattle.gr_scan.specs.CutText.{token_at}
+use Rattle.gr_scan.specs.StringValues.{HasStringValue}
+use Rattle.gr_scan.specs.TokenValues.{IsStringClass}
+use Rattle.gr_parse.specs.Tree.{Group, single, several, ImportTree, ImportsTree, FileTree}
+use Rattle.gr_parse.specs.SourceFile.{SourceFile, spelling_of}
+
+-- a file with its rank
+abbrev pub Ranked : Type 0
+Ranked = ℕ × SourceFile
+
+abbrev pub ranked : List SourceFile → List Ranked
+ranked files = enumerate_from 0 files
+
+-- what stands alone or in the parentheses of a group
+abbrev pub group_items : {X : Type 0} → Group X → List X
+group_items (single x) = x ∷ []
+group_items (several o xs c) = map (λ x. x.value) xs
+
+-- the imports of a file
+abbrev pub imports_in : FileTree → List ImportTree
+imports_in t = flat_map (λ d. group_items d.imports) t.imports
+
+-- the name in the package clause of a file
+abbrev pub clause_name : SourceFile → List ℕ
+clause_name s = spelling_of s s.tree.name
+
+-- the string literal at a token stands for these bytes
+pub record HasLiteral (s : SourceFile) (token : ℕ) (value : List ℕ) : Type 0 where
+  pub is_string : IsStringClass (token_at s.cut token).class
+  pub stands_for : HasStringValue (bytes_of s.cut.text (token_at s.cut token)) value

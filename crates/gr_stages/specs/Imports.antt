@@ -1,0 +1,41 @@
+-- The faults of imports: at the literal of a path that is missing, on a cycle, or has faults.
+use Rattle.std.specs.Prelude.{ℕ, ◌≡◌, List, map, Option, Some, None}
+use Rattle.std.specs.List.{flat_map}
+use Rattle.gr_text.specs.declared.fault_kind.FaultKind.{FaultKind}
+use Rattle.gr_text.specs.declared.fault_kind.FaultKind.TheVariants as kind
+use Rattle.gr_fault.specs.declared.fault.Fault.{Fault}
+use Rattle.gr_fault.specs.Listing.{SomeOf}
+use Rattle.gr_parse.specs.Tree.{ImportTree}
+use Rattle.gr_parse.specs.SourceFile.{SourceFile}
+use Rattle.gr_stages.specs.declared.states.ImportState.{ImportState}
+use Rattle.gr_stages.specs.declared.states.ImportState.TheVariants.{Missing, OnCycle, Faulty, Good}
+use Rattle.gr_stages.specs.Files.{Ranked, ranked, imports_in, HasLiteral}
+
+-- what is wrong with an import of such a path
+abbrev pub import_fault : ImportState → Option FaultKind
+import_fault Missing = Some kind.Missing
+import_fault OnCycle = Some kind.Cycle
+import_fault Faulty = Some kind.Import
+import_fault Good = None
+
+-- an import, in a file of that rank
+abbrev pub PlacedImport : Type 0
+PlacedImport = Ranked × ImportTree
+
+-- the fault of an import of a path of that state, at that token
+pub record IsFaultOfState (file token : ℕ) (state : ImportState) (f : Fault) : Type 0 where
+  pub in_file : f.file ≡ file
+  pub at_token : f.token ≡ token
+  pub kind : import_fault state ≡ Some f.kind
+
+-- the import's path is no package that may be imported
+pub record IsFaultOfImport (state : List ℕ → ImportState) (i : PlacedImport) (f : Fault) : Type 0 where
+  pub path : List ℕ
+  pub has_path : HasLiteral i.0.1 i.1.path path
+  pub of_state : IsFaultOfState i.0.0 i.1.path (state path) f
+
+abbrev pub placed_imports : Ranked → List PlacedImport
+placed_imports r = map (λ i. (r, i)) (imports_in r.1.tree)
+
+abbrev pub IsImportFault : (List ℕ → ImportState) → List SourceFile → Fault → Type 0
+IsImportFault state files = SomeOf (IsFaultOfImport state) (flat_map placed_imports (ranked files))

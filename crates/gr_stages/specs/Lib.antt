@@ -1,0 +1,7 @@
+pub mod States
+pub mod Files
+pub mod Clauses
+pub mod Imports
+pub mod Scoping
+pub mod Marks
+pub mod Stages

@@ -1,0 +1,130 @@
+-- The faults of scopes: what a package's identifiers and imports are bound to, and which of its declarations count. The
+-- layout is that in which each import without a name declares the imported package's name at its literal.
+use Rattle.std.specs.Prelude.{ℕ, suc, ◌≡◌, ◌+◌, ◌<◌, ◌⊎◌, Bool, true, false, List, [], ◌∷◌, Option, Some, None, ◌↔◌, get_or, slice_get, length, codes, if◌then◌else◌}
+use Rattle.bstr.specs.Utf8.{decoded}
+use Rattle.unicode.specs.GeneralCategory.{general_category, general_category_eq}
+use Rattle.ucd_category.specs.declared.GeneralCategory.TheVariants.{UppercaseLetter}
+use Rattle.gr_text.specs.declared.fault_kind.FaultKind.{FaultKind}
+use Rattle.gr_text.specs.declared.fault_kind.FaultKind.TheVariants as kind
+use Rattle.gr_fault.specs.declared.fault.Fault.{Fault}
+use Rattle.gr_parse.specs.SourceFile.{SourceFile}
+use Rattle.gr_scope.specs.declared.model.Role.{Role}
+use Rattle.gr_scope.specs.declared.model.Role.TheVariants.{Use, Declaring, LeftName, Implied, NotLexical}
+use Rattle.gr_scope.specs.declared.model.Purpose.{Purpose}
+use Rattle.gr_scope.specs.declared.model.Purpose.TheVariants as purpose
+use Rattle.gr_scope.specs.declared.table.ScopeTable.{ScopeTable}
+use Rattle.gr_scope.specs.Table.{layout_of, names_of}
+use Rattle.gr_fault.specs.Listing.{Below}
+use Rattle.gr_scope.specs.Bindings.{Layout, Names, MayDeclare, IsIdentifier, IsPackageLevel, IsImport, IsUse, IsBoundTo, Declares, Counts}
+use Rattle.gr_stages.specs.Files.{HasLiteral}
+
+-- the identifiers of a package, laid out: so many, with their names
+pub record Laid : Type 0 where
+  pub layout : Layout
+  pub names : Names
+  pub size : ℕ
+
+-- those of a table
+abbrev pub laid_in : ScopeTable → Laid
+laid_in t = record { layout = layout_of t.identifiers.items; names = names_of t.identifiers.items; size = length t.identifiers.items }
+
+abbrev pub fault_at : Layout → ℕ → FaultKind → Fault
+fault_at l u k = record { file = (l.place u).file; token = (l.place u).index; kind = k }
+
+-- a lexical use that is bound to nothing
+pub record IsUndeclared (p : Laid) (u : ℕ) (f : Fault) : Type 0 where
+  pub at : f ≡ fault_at p.layout u kind.Undeclared
+  pub is_use : IsUse p.layout p.names u
+  pub unbound : (d : ℕ) → IsBoundTo p.layout p.names u d → ⊥
+
+-- no variable and no type of a package is named so
+abbrev pub init_name : List ℕ
+init_name = codes "init"
+
+-- a declaration that does not count, or a package-level one of the name `init`
+abbrev pub IsRepetition : Laid → ℕ → Type 0
+IsRepetition p u = (Declares p.layout p.names u × (Counts p.layout p.names u → ⊥)) ⊎ (IsPackageLevel p.layout u × (p.names u ≡ init_name))
+
+pub record IsRepeated (p : Laid) (u : ℕ) (f : Fault) : Type 0 where
+  pub at : f ≡ fault_at p.layout u kind.Repeated
+  pub repeats : IsRepetition p u
+
+abbrev pub is_literal : Role → Bool
+is_literal (NotLexical purpose.ImportPath) = true
+is_literal r = false
+
+-- where an import's literal stands: behind its name, or where it has none in its own place
+abbrev pub literal_of : Layout → ℕ → ℕ
+literal_of l d = if is_literal (l.role (d + 1)) then d + 1 else d
+
+-- one of the identifiers below n is a use of d
+pub record IsUsedBelow (p : Laid) (n d : ℕ) : Type 0 where
+  pub user : ℕ
+  pub below : user < n
+  pub is_use : IsUse p.layout p.names user
+  pub bound : IsBoundTo p.layout p.names user d
+
+-- an import to which no use is bound
+pub record IsUnused (p : Laid) (d : ℕ) (f : Fault) : Type 0 where
+  pub at : f ≡ fault_at p.layout (literal_of p.layout d) kind.Unused
+  pub is_import : IsImport p.layout d
+  pub unused : IsUsedBelow p p.size d → ⊥
+
+-- what is known of a table: of each identifier, whether it is used
+pub record AreUsed (p : Laid) (n : ℕ) (used : List Bool) : Type 0 where
+  pub all : length used ≡ p.size
+  pub each : (d : ℕ) → d < p.size → (get_or used d false ≡ true) ↔ IsUsedBelow p n d
+
+-- Names behind the name of a package
+
+-- whether a name's first character is of category Lu
+abbrev pub is_upper_at : Option ℕ → Bool
+is_upper_at None = false
+is_upper_at (Some c) = general_category_eq (general_category c) UppercaseLetter
+
+unfoldable pub is_exported : List ℕ → Bool
+is_exported name = is_upper_at (decoded name).char
+
+-- u stands behind a dot behind the use b, which is bound to the import d
+pub record IsQualified (p : Laid) (b u d : ℕ) : Type 0 where
+  pub selected : p.layout.role u ≡ NotLexical purpose.Selected
+  pub next : u ≡ suc b
+  pub same_file : (p.layout.place u).file ≡ (p.layout.place b).file
+  pub behind_dot : (p.layout.place u).index ≡ (p.layout.place b).index + 2
+  pub bound : IsBoundTo p.layout p.names b d
+  pub is_import : IsImport p.layout d
+
+-- the path that an import names
+pub record IsPathOf (files : List SourceFile) (p : Laid) (d : ℕ) (path : List ℕ) : Type 0 where
+  pub source : SourceFile
+  pub is_file : slice_get files (p.layout.place d).file ≡ Some source
+  pub has_literal : HasLiteral source (p.layout.place (literal_of p.layout d)).index path
+
+abbrev pub qualified_fault : (exported found : Bool) → Option FaultKind
+qualified_fault false found = Some kind.Unexported
+qualified_fault true false = Some kind.Undeclared
+qualified_fault true true = None
+
+-- A name behind a package's that is not exported, or that the package does not declare. exports: whether the package of a
+-- path declares an exported name.
+pub record IsUnknown (files : List SourceFile) (exports : (path name : List ℕ) → Bool) (p : Laid) (u : ℕ) (f : Fault) : Type 0 where
+  pub before : ℕ
+  pub import : ℕ
+  pub path : List ℕ
+  pub qualified : IsQualified p before u import
+  pub of_path : IsPathOf files p import path
+  pub file : f.file ≡ (p.layout.place u).file
+  pub token : f.token ≡ (p.layout.place u).index
+  pub kind : qualified_fault (is_exported (p.names u)) (exports path (p.names u)) ≡ Some f.kind
+
+-- a fault of one identifier that its own package tells
+abbrev pub IsFaultOfIdentifier : Laid → ℕ → Fault → Type 0
+IsFaultOfIdentifier p u f = IsUndeclared p u f ⊎ (IsRepeated p u f ⊎ IsUnused p u f)
+
+-- a fault of some identifier
+abbrev pub IsScopeFault : Laid → Fault → Type 0
+IsScopeFault p = Below (IsFaultOfIdentifier p) p.size
+
+-- a fault of some name behind a package's
+abbrev pub IsUnknownFault : List SourceFile → ((path name : List ℕ) → Bool) → Laid → Fault → Type 0
+IsUnknownFault files exports p = Below (IsUnknown files exports p) p.size

@@ -1,0 +1,53 @@
+//! The faults of package clauses.
+ghost use Rattle.std.specs.Prelude.{ℕ, List, ◌≡◌, ◌↔◌, IsTrue, OnOk, map};
+ghost use Rattle.gr_fault.specs.Listing.{Adds};
+ghost use Rattle.gr_parse.specs.SourceFile.{source_of};
+ghost use Rattle.gr_stages.specs.Files.{clause_name};
+ghost use Rattle.gr_stages.specs.Clauses.{IsFaultOfClause, IsClauseFault};
+
+use crate::files::{clause_name, clause_token};
+use gr_fault::{Fault, push};
+use gr_parse::FileTree;
+use gr_text::FaultKind;
+use std::alloc::AllocError;
+
+/// Whether the name in a file's package clause is that one.
+fn is_named(file: &FileTree, name: &[u8]) -> bool
+    ensures { IsTrue result ↔ (clause_name (source_of file.now) ≡ name.now) }
+{
+    clause_name(file) == name
+}
+
+/// Adds the fault of a file's package clause, where it has another name.
+fn add_clause(
+    found: &mut Vec<Fault>,
+    name: &[u8],
+    rank: usize,
+    file: &FileTree,
+) -> Result<(), AllocError>
+    ensures { OnOk result (Adds found.old.items found.new.items (IsFaultOfClause name.now (rank, source_of file.now))) }
+{
+    if is_named(file, name) {
+        return Ok(());
+    }
+    let fault = Fault {
+        file: rank,
+        token: clause_token(file),
+        kind: FaultKind::Package,
+    };
+    push(found, fault)
+}
+
+/// Adds the faults of package clauses.
+pub fn add_clauses(found: &mut Vec<Fault>, files: &[FileTree]) -> Result<(), AllocError>
+    ensures { OnOk result (Adds found.old.items found.new.items (IsClauseFault (map source_of files.now))) }
+{
+    let Some(first) = files.first() else {
+        return Ok(());
+    };
+    let name = clause_name(first);
+    for rank in 0..files.len() {
+        add_clause(found, name, rank, &files[rank])?;
+    }
+    Ok(())
+}

@@ -1,0 +1,89 @@
+//! The stages of a package's faults: a later one has faults only where the earlier ones have none.
+ghost use Rattle.std.specs.Prelude.{ℕ, ◌≡◌, ◌↔◌, [], IsTrue, IfOk, map};
+ghost use Rattle.std.specs.List.Sorted.{IsStrictlySortedBy};
+ghost use Rattle.gr_fault.specs.contracts.fault.FaultOrd.TheImpl as order;
+ghost use Rattle.gr_fault.specs.Listing.{Lists};
+ghost use Rattle.gr_parse.specs.SourceFile.{source_of};
+ghost use Rattle.gr_scope.specs.WellFormed.{WellFormed};
+ghost use Rattle.gr_stages.specs.States.{state_in};
+ghost use Rattle.gr_stages.specs.Scoping.{laid_in};
+ghost use Rattle.gr_stages.specs.Stages.{IsOuterFault, IsOwnFault};
+
+use crate::clauses::add_clauses;
+use crate::imports::add_imports;
+use crate::marks::add_marks;
+use crate::scoping::add_scopes;
+use crate::states::ImportStates;
+use gr_fault::{Fault, sort};
+use gr_parse::FileTree;
+use gr_scope::table::ScopeTable;
+use std::alloc::{AllocError, Global};
+
+/// Whether no fault was found.
+fn has_none(found: &[Fault]) -> bool
+    ensures { IsTrue result ↔ (found.now ≡ []) }
+{
+    found.is_empty()
+}
+
+/// The faults of a package's clauses, or without one those of its imports.
+fn first_found(
+    alloc: Global,
+    states: &ImportStates,
+    files: &[FileTree],
+) -> Result<Vec<Fault>, AllocError>
+    ensures { IfOk result (λ found. Lists (IsOuterFault (state_in states.now) (map source_of files.now)) found.items) }
+{
+    let mut found = Vec::new(alloc);
+    add_clauses(&mut found, files)?;
+    if has_none(found.as_slice()) {
+        add_imports(alloc, &mut found, states, files)?;
+    }
+    Ok(found)
+}
+
+/// The faults of a package's clauses, or without one those of its imports, by file and token. The files are those of one
+/// package in the order of their paths.
+pub fn outer_faults(
+    alloc: Global,
+    states: &ImportStates,
+    files: &[FileTree],
+) -> Result<Vec<Fault>, AllocError>
+    ensures listed { IfOk result (λ found. Lists (IsOuterFault (state_in states.now) (map source_of files.now)) found.items) }
+    ensures order { IfOk result (λ found. IsStrictlySortedBy order.ghosts.cmp found.items) }
+{
+    let mut found = first_found(alloc, states, files)?;
+    sort(&mut found);
+    Ok(found)
+}
+
+/// The faults that a package's own scopes tell, in the order of their finding.
+fn own_found(
+    alloc: Global,
+    table: &ScopeTable,
+    files: &[FileTree],
+) -> Result<Vec<Fault>, AllocError>
+    requires { WellFormed (laid_in table.now).layout }
+    ensures { IfOk result (λ found. Lists (IsOwnFault (map source_of files.now) (laid_in table.now)) found.items) }
+{
+    let mut found = Vec::new(alloc);
+    add_scopes(alloc, &mut found, table)?;
+    add_marks(&mut found, table, files)?;
+    Ok(found)
+}
+
+/// The faults that a package's own scopes tell, by file and token. In the table each import without a name declares the
+/// name of the imported package.
+pub fn own_faults(
+    alloc: Global,
+    table: &ScopeTable,
+    files: &[FileTree],
+) -> Result<Vec<Fault>, AllocError>
+    requires { WellFormed (laid_in table.now).layout }
+    ensures listed { IfOk result (λ found. Lists (IsOwnFault (map source_of files.now) (laid_in table.now)) found.items) }
+    ensures order { IfOk result (λ found. IsStrictlySortedBy order.ghosts.cmp found.items) }
+{
+    let mut found = own_found(alloc, table, files)?;
+    sort(&mut found);
+    Ok(found)
+}

@@ -1,0 +1,140 @@
+//! What a table says of an identifier, by its number.
+ghost use Rattle.std.specs.Prelude.{ℕ, ◌≡◌, ◌<◌, ◌↔◌, ◌⊎◌, IsTrue, MatchOption};
+ghost use Rattle.gr_scope.specs.Bindings.{IsUse, IsBoundTo, IsImport, IsPackageLevel, Declares, Counts};
+ghost use Rattle.gr_scope.specs.Table.{layout_of};
+ghost use Rattle.gr_scope.specs.WellFormed.{WellFormed};
+ghost use Rattle.gr_stages.specs.Scoping.{laid_in, fault_at, init_name, is_literal, literal_of, IsRepetition};
+ghost use Rattle.gr_stages.specs.Marks.{DeclaresAt};
+
+use gr_fault::Fault;
+use gr_scope::counting::{bound_to, counts, is_use};
+use gr_scope::model::{Block, Position, Purpose, Role};
+use gr_scope::resolve::{declares, name_at, place_at, role_at};
+use gr_scope::table::ScopeTable;
+use gr_text::FaultKind;
+
+/// A fault at an identifier.
+pub fn fault_at(table: &ScopeTable, u: usize, kind: FaultKind) -> Fault
+    requires { u < (laid_in table.now).size }
+    ensures { result ≡ fault_at (laid_in table.now).layout u kind }
+{
+    let place = place_at(&table.identifiers, u);
+    Fault {
+        file: place.file,
+        token: place.index,
+        kind,
+    }
+}
+
+/// Whether an identifier is a lexical use.
+pub fn is_name_use(table: &ScopeTable, u: usize) -> bool
+    requires { u < (laid_in table.now).size }
+    ensures { IsTrue result ↔ IsUse (laid_in table.now).layout (laid_in table.now).names u }
+{
+    is_use(&table.identifiers, u)
+}
+
+/// The declaration to which an identifier is bound.
+pub fn binding(table: &ScopeTable, u: usize) -> Option<usize>
+    requires in_range { u < (laid_in table.now).size }
+    requires well_formed { WellFormed (laid_in table.now).layout }
+    ensures { let l = (laid_in table.now).layout in
+        let names = (laid_in table.now).names in
+        MatchOption result ((d : ℕ) → IsBoundTo l names u d → ⊥) (λ d. IsBoundTo l names u d) }
+{
+    bound_to(&table.identifiers, u)
+}
+
+/// Whether an identifier is bound to nothing.
+fn is_unbound(table: &ScopeTable, u: usize) -> bool
+    requires in_range { u < (laid_in table.now).size }
+    requires well_formed { WellFormed (laid_in table.now).layout }
+    ensures { IsTrue result ↔ ((d : ℕ) → IsBoundTo (laid_in table.now).layout (laid_in table.now).names u d → ⊥) }
+{
+    match bound_to(&table.identifiers, u) {
+        None => true,
+        Some(_) => false,
+    }
+}
+
+/// Whether an identifier is a use that is bound to nothing.
+pub fn is_undeclared(table: &ScopeTable, u: usize) -> bool
+    requires in_range { u < (laid_in table.now).size }
+    requires well_formed { WellFormed (laid_in table.now).layout }
+    ensures { let l = (laid_in table.now).layout in
+        let names = (laid_in table.now).names in
+        IsTrue result ↔ (IsUse l names u × ((d : ℕ) → IsBoundTo l names u d → ⊥)) }
+{
+    is_use(&table.identifiers, u) && is_unbound(table, u)
+}
+
+/// Whether a declaration does not count.
+fn is_displaced(table: &ScopeTable, u: usize) -> bool
+    requires { u < (laid_in table.now).size }
+    ensures { let l = (laid_in table.now).layout in
+        let names = (laid_in table.now).names in
+        IsTrue result ↔ (Declares l names u × (Counts l names u → ⊥)) }
+{
+    declares(&table.identifiers, u) && !counts(&table.identifiers, u)
+}
+
+/// Whether an identifier is declared in the package's block under the name `init`.
+fn is_init(table: &ScopeTable, u: usize) -> bool
+    requires { u < (laid_in table.now).size }
+    ensures { IsTrue result ↔ (IsPackageLevel (laid_in table.now).layout u × ((laid_in table.now).names u ≡ init_name)) }
+{
+    role_at(&table.identifiers, u).block().same(Block::Package)
+        && name_at(&table.identifiers, u) == b"init".as_slice()
+}
+
+/// Whether an identifier repeats a declaration, or is a variable or type of a name that is no variable's and no type's.
+pub fn is_repetition(table: &ScopeTable, u: usize) -> bool
+    requires { u < (laid_in table.now).size }
+    ensures { IsTrue result ↔ IsRepetition (laid_in table.now) u }
+{
+    is_displaced(table, u) || is_init(table, u)
+}
+
+/// Whether an identifier is declared in the block of a file.
+pub fn is_import(table: &ScopeTable, u: usize) -> bool
+    requires { u < (laid_in table.now).size }
+    ensures { IsTrue result ↔ IsImport (laid_in table.now).layout u }
+{
+    match role_at(&table.identifiers, u).block() {
+        Block::File(_) => true,
+        Block::Universe | Block::Package | Block::Inner(_, _, _) => false,
+    }
+}
+
+/// Whether a role is that of the literal of an import with a name.
+fn is_literal(role: Role) -> bool
+    ensures { result ≡ is_literal role }
+{
+    match role {
+        Role::NotLexical(Purpose::ImportPath) => true,
+        _ => false,
+    }
+}
+
+/// The identifier that stands for an import's literal: the next one where the import has a name, else itself.
+pub fn literal_of(table: &ScopeTable, d: usize) -> usize
+    requires { d < (laid_in table.now).size }
+    ensures literal { result ≡ literal_of (laid_in table.now).layout d }
+    ensures in_range { result < (laid_in table.now).size }
+{
+    if d + 1 < table.identifiers.len() && is_literal(role_at(&table.identifiers, d + 1)) {
+        d + 1
+    } else {
+        d
+    }
+}
+
+/// Whether the identifier at a token declares.
+pub fn declares_at(table: &ScopeTable, file: usize, token: usize) -> bool
+    ensures { IsTrue result ↔ DeclaresAt (laid_in table.now) file token }
+{
+    match table.identifier_at(Position { file, index: token }) {
+        None => false,
+        Some(u) => declares(&table.identifiers, u),
+    }
+}

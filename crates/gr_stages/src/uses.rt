@@ -1,0 +1,49 @@
+//! Which identifiers of a table are used.
+ghost use Rattle.std.specs.Prelude.{ℕ, ◌≡◌, ◌<◌, true, length, slice_set, IfOk, MatchOption};
+ghost use Rattle.gr_scope.specs.Bindings.{IsUse, IsBoundTo};
+ghost use Rattle.gr_scope.specs.WellFormed.{WellFormed};
+ghost use Rattle.gr_stages.specs.Scoping.{laid_in, AreUsed};
+
+use crate::table::{binding, is_name_use};
+use gr_scope::table::ScopeTable;
+use std::alloc::{AllocError, Global};
+
+/// The declaration that an identifier is a use of.
+fn used_by(table: &ScopeTable, u: usize) -> Option<usize>
+    requires in_range { u < (laid_in table.now).size }
+    requires well_formed { WellFormed (laid_in table.now).layout }
+    ensures { let l = (laid_in table.now).layout in
+        let names = (laid_in table.now).names in
+        MatchOption result (IsUse l names u → (d : ℕ) → IsBoundTo l names u d → ⊥)
+        (λ d. IsUse l names u × IsBoundTo l names u d) }
+{
+    if is_name_use(table, u) {
+        binding(table, u)
+    } else {
+        None
+    }
+}
+
+/// Marks a number, where there is one.
+fn mark(used: &mut Vec<bool>, d: Option<usize>)
+    ensures { MatchOption d (used.new.items ≡ used.old.items) (λ k. used.new.items ≡ slice_set used.old.items k true) }
+{
+    if let Some(k) = d {
+        if k < used.len() {
+            used[k] = true;
+        }
+    }
+}
+
+/// Whether each identifier is used.
+pub fn uses(alloc: Global, table: &ScopeTable) -> Result<Vec<bool>, AllocError>
+    requires { WellFormed (laid_in table.now).layout }
+    ensures { IfOk result (λ used. AreUsed (laid_in table.now) (laid_in table.now).size used.items) }
+{
+    gr_scope::law::bindings_are_unique();
+    let mut used = vec![in alloc; false; table.identifiers.len()]?;
+    for u in 0..table.identifiers.len() {
+        mark(&mut used, used_by(table, u));
+    }
+    Ok(used)
+}

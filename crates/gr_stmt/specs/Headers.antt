@@ -1,0 +1,92 @@
+-- Function headers: receivers, parameters and results, and whole functions.
+use Rattle.std.specs.Prelude.{ℕ, Bool, true, false, if◌then◌else◌, List, [], ◌∷◌, ◌++◌, Option, Some, None, map}
+use Rattle.gr_parse.specs.Tree.{Item, IdentTree, TypeTree, ReceiverTree, ParamTree, ResultTree, no_result, one_result, results, FuncTree}
+use Rattle.gr_expr.specs.Types.{PlainType, Defined, Pointer, Underlying, points}
+use Rattle.gr_expr.specs.World.{World}
+use Rattle.gr_expr.specs.Judge.{TypeJudged, good_type, no_type_at, named_type, judge_type, under}
+use Rattle.gr_stmt.specs.Checked.{Checked, reaching, noting, check_items}
+use Rattle.gr_stmt.specs.Sides.{with_locals, named}
+use Rattle.gr_stmt.specs.Simple.{written_locals}
+use Rattle.gr_stmt.specs.Statements.{check_block}
+
+-- Receivers: T or *T, where T is a definition of the package whose underlying type is no pointer. A name that stands
+-- alone and is a type is one of the universe or a definition of its own package.
+
+unfoldable pub may_receive : World → PlainType → Bool
+may_receive w (Defined s) = if points (w.definition s) then false else true
+may_receive w t = false
+
+unfoldable pub receiving : World → ℕ → Option PlainType → TypeJudged
+receiving w place None = record { type_of = None; faults = [] }
+receiving w place (Some t) = if may_receive w t then good_type t else no_type_at place
+
+-- the type that a receiver names, and its faults: the name's own, or that it may be no receiver's
+abbrev pub received : World → ℕ → TypeJudged → TypeJudged
+received w place j = record { type_of = (receiving w place j.type_of).type_of; faults = j.faults ++ (receiving w place j.type_of).faults }
+
+unfoldable pub receiver_base : World → ℕ → TypeJudged
+receiver_base w place = received w place (named_type (w.bound place) place)
+
+-- the same with its star
+abbrev pub starred : Option ℕ → TypeJudged → TypeJudged
+starred None t = t
+starred (Some star) t = under Pointer t
+
+unfoldable pub judge_receiver : World → ReceiverTree → TypeJudged
+judge_receiver w r = starred r.star (receiver_base w r.type_name)
+
+unfoldable pub check_receiver : World → Checked → ReceiverTree → Checked
+check_receiver w s r =
+    reaching s (with_locals s.locals (named r.name ∷ []) ((judge_receiver w r).type_of ∷ [])) (judge_receiver w r).faults []
+
+abbrev pub check_optional_receiver : World → Checked → Option ReceiverTree → Checked
+check_optional_receiver w s None = s
+check_optional_receiver w s (Some r) = check_receiver w s r
+
+-- Parameters
+
+unfoldable pub check_param : World → Checked → ParamTree → Checked
+check_param w s p = reaching s (written_locals s.locals p.names (judge_type w p.type_use).type_of) (judge_type w p.type_use).faults []
+
+-- Results
+
+-- types in turn, none for one that is broken, and the faults in them
+pub record TypesJudged : Type 0 where
+  pub types : List (Option PlainType)
+  pub faults : List ℕ
+
+unfoldable pub judge_types : World → List (Item TypeTree) → TypesJudged
+judge_types w [] = record { types = []; faults = [] }
+judge_types w (i ∷ is) = record {
+  types = (judge_type w i.value).type_of ∷ (judge_types w is).types;
+  faults = (judge_type w i.value).faults ++ (judge_types w is).faults;
+}
+
+unfoldable pub judge_results : World → ResultTree → TypesJudged
+judge_results w no_result = record { types = []; faults = [] }
+judge_results w (one_result t) = record { types = (judge_type w t).type_of ∷ []; faults = (judge_type w t).faults }
+judge_results w (results o ts c) = judge_types w ts
+
+-- Functions
+
+-- whether there is none
+abbrev pub is_none_of : {A : Type 0} → List A → Bool
+is_none_of [] = true
+is_none_of (x ∷ xs) = false
+
+abbrev pub has_none : {A : Type 0} → Option A → Bool
+has_none None = true
+has_none (Some x) = false
+
+-- a function `init` has no parameters and no results; is_init: whether that is its name
+unfoldable pub init_faults : Bool → FuncTree → List (Option PlainType) → List ℕ
+init_faults false f ts = []
+init_faults true f ts = if has_none f.receiver then (if is_none_of f.params then (if is_none_of ts then [] else f.name ∷ []) else f.name ∷ []) else []
+
+-- what a function's header declares, and the faults in it
+unfoldable pub check_signature : World → Bool → Checked → FuncTree → Checked
+check_signature w is_init s f =
+    noting (check_items (check_param w) (check_optional_receiver w s f.receiver) f.params) ((judge_results w f.result).faults ++ init_faults is_init f (judge_results w f.result).types) []
+
+unfoldable pub check_function : World → Bool → Checked → FuncTree → Checked
+check_function w is_init s f = check_block w (judge_results w f.result).types (check_signature w is_init s f) f.body

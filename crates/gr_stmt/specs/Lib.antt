@@ -1,0 +1,6 @@
+pub mod Checked
+pub mod Sides
+pub mod Simple
+pub mod Statements
+pub mod Headers
+pub mod Declarations

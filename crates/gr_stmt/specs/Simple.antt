@@ -1,0 +1,135 @@
+-- Simple statements, conditions, and declarations of locals.
+use Rattle.std.specs.Prelude.{ℕ, Bool, true, false, if◌then◌else◌, List, [], ◌∷◌, ◌++◌, Option, Some, None, option_map, length, map}
+use Rattle.gr_parse.specs.declared.syntax.BinaryOp.{BinaryOp}
+use Rattle.gr_parse.specs.declared.syntax.BinaryOp.TheVariants as binary
+use Rattle.gr_parse.specs.declared.syntax.UpdateOp.{UpdateOp}
+use Rattle.gr_parse.specs.declared.syntax.UpdateOp.TheVariants as update
+use Rattle.gr_parse.specs.Tree.{Item, IdentTree, TypeTree, ExprTree, Chain, LinkTrees, no_link, selector, index, call, SimpleTree, Alone, Step, Update, Assign, Define, LocalTree}
+use Rattle.gr_expr.specs.Types.{PlainType, Kind, Meaning, Value, Function, BuiltinName, Broken}
+use Rattle.gr_expr.specs.World.{World, Locals}
+use Rattle.gr_expr.specs.Operations.{operate, class_of, is_int, is_bool}
+use Rattle.gr_expr.specs.Places.{place_of, first_token}
+use Rattle.gr_expr.specs.declared.types.Builtin.{Builtin}
+use Rattle.gr_expr.specs.declared.types.Builtin.TheVariants as builtin
+use Rattle.gr_expr.specs.Judge.{Argued, JudgedList, TypeJudged, judge, judge_value, judge_type}
+use Rattle.gr_stmt.specs.Checked.{Checked, reaching, noting, finding}
+use Rattle.gr_stmt.specs.Sides.{rights, Target, Takes, Wants, given_to, Lefts, judge_operand, assigned, defined, taken, with_locals, defined_names, all_named, first_of_exprs, first_of_idents}
+
+-- Conditions: a value of underlying bool
+
+unfoldable pub condition_faults : World → ℕ → Meaning → List ℕ
+condition_faults w place (Value k a) = if is_bool (class_of w k) then [] else place ∷ []
+condition_faults w place m = []
+
+unfoldable pub check_condition : World → Checked → ExprTree → Checked
+check_condition w s e = finding s (judge_value w s.locals e) (condition_faults w (place_of e) (judge_value w s.locals e).meaning)
+
+-- `++` and `--`: an operand of underlying int
+
+unfoldable pub step_faults : World → ℕ → Meaning → List ℕ
+step_faults w place (Value k a) = if is_int (class_of w k) then [] else place ∷ []
+step_faults w place m = []
+
+-- `+=` and its kin: an operation of the two whose result fits the first
+
+abbrev pub binary_of : UpdateOp → BinaryOp
+binary_of update.Add = binary.Add
+binary_of update.Subtract = binary.Subtract
+binary_of update.Multiply = binary.Multiply
+binary_of update.Divide = binary.Divide
+binary_of update.Remainder = binary.Remainder
+
+abbrev pub fault_if_none : Option Kind → ℕ → List ℕ
+fault_if_none None place = place ∷ []
+fault_if_none (Some k) place = []
+
+-- the result of such an operation has the type of the first, so that it fits
+unfoldable pub update_faults : World → ℕ → BinaryOp → Meaning → Meaning → List ℕ
+update_faults w start o (Value a x) (Value b y) = fault_if_none (operate w o a b) start
+update_faults w start o a b = []
+
+-- Expression statements: a call of a function, a method, panic, print or println
+
+unfoldable pub ends_in_call : LinkTrees → Bool
+ends_in_call no_link = false
+ends_in_call (selector d n rest) = ends_in_call rest
+ends_in_call (index o e c rest) = ends_in_call rest
+ends_in_call (call o xs c no_link) = true
+ends_in_call (call o xs c rest) = ends_in_call rest
+
+unfoldable pub without_last : LinkTrees → LinkTrees
+without_last no_link = no_link
+without_last (selector d n no_link) = no_link
+without_last (selector d n rest) = selector d n (without_last rest)
+without_last (index o e c no_link) = no_link
+without_last (index o e c rest) = index o e c (without_last rest)
+without_last (call o xs c no_link) = no_link
+without_last (call o xs c rest) = call o xs c (without_last rest)
+
+abbrev pub may_stand_builtin : Builtin → Bool
+may_stand_builtin builtin.Append = false
+may_stand_builtin builtin.Len = false
+may_stand_builtin b = true
+
+-- whether a call of what means that may stand as a statement
+unfoldable pub may_stand : Meaning → Bool
+may_stand (Function s) = true
+may_stand (BuiltinName b) = may_stand_builtin b
+may_stand m = false
+
+-- whether an expression is such a call
+unfoldable pub is_statement : World → Locals → ExprTree → Bool
+is_statement w ls (Chain e links) = if ends_in_call links then may_stand (judge w ls (Chain e (without_last links))).meaning else false
+is_statement w ls e = false
+
+unfoldable pub stands_faults : ℕ → Bool → Meaning → List ℕ
+stands_faults place true m = []
+stands_faults place false Broken = []
+stands_faults place false m = place ∷ []
+
+-- left sides that are given right sides, with the locals that this declares
+abbrev pub giving : World → Checked → ℕ → Locals → Lefts → JudgedList → Checked
+giving w s place locals l r = reaching s locals (l.faults ++ (r.faults ++ given_to w place r.values l.targets)) (l.uses ++ r.uses)
+
+unfoldable pub check_simple : World → Checked → SimpleTree → Checked
+check_simple w s (Alone e) = finding s (judge w s.locals e) (stands_faults (place_of e) (is_statement w s.locals e) (judge w s.locals e).meaning)
+check_simple w s (Step e op p) = finding s (judge_operand w s.locals e) (step_faults w (place_of e) (judge_operand w s.locals e).meaning)
+check_simple w s (Update x o p y) =
+    noting s ((judge_operand w s.locals x).faults ++ ((judge_value w s.locals y).faults
+    ++ update_faults w (first_token x) (binary_of o) (judge_operand w s.locals x).meaning (judge_value w s.locals y).meaning))
+    ((judge_operand w s.locals x).uses ++ (judge_value w s.locals y).uses)
+check_simple w s (Assign xs p ys) = giving w s (first_of_exprs xs) s.locals (assigned w s.locals xs) (rights w s.locals ys)
+check_simple w s (Define xs p ys) =
+    giving w s (first_of_exprs xs) (with_locals s.locals (defined_names w xs) (taken (length xs) (rights w s.locals ys).values)) (defined w s.locals xs) (rights w s.locals ys)
+
+abbrev pub check_optional : World → Checked → Option SimpleTree → Checked
+check_optional w s None = s
+check_optional w s (Some a) = check_simple w s a
+
+abbrev pub check_optional_condition : World → Checked → Option ExprTree → Checked
+check_optional_condition w s None = s
+check_optional_condition w s (Some e) = check_condition w s e
+
+-- Declarations of locals
+
+-- the names of a declaration, each a target of that kind
+abbrev pub name_targets : List (Item IdentTree) → Target → Lefts
+name_targets names t = record { targets = map (λ i. t) names; faults = []; uses = [] }
+
+abbrev pub written_targets : List (Item IdentTree) → TypeJudged → Lefts
+written_targets names t = record { targets = map (λ i. Wants t.type_of) names; faults = t.faults; uses = [] }
+
+-- locals with a written type
+abbrev pub written_locals : Locals → List (Item IdentTree) → Option PlainType → Locals
+written_locals ls names t = with_locals ls (all_named names) (map (λ i. t) names)
+
+unfoldable pub check_local_of : World → Checked → List (Item IdentTree) → Option TypeJudged → Option (ℕ × List (Item ExprTree)) → Checked
+check_local_of w s names (Some t) None = reaching s (written_locals s.locals names t.type_of) t.faults []
+check_local_of w s names (Some t) (Some v) =
+    giving w s (first_of_idents names) (written_locals s.locals names t.type_of) (written_targets names t) (rights w s.locals v.1)
+check_local_of w s names None None = reaching s (with_locals s.locals (all_named names) []) [] []
+check_local_of w s names None (Some v) =
+    giving w s (first_of_idents names) (with_locals s.locals (all_named names) (taken (length names) (rights w s.locals v.1).values)) (name_targets names Takes) (rights w s.locals v.1)
+
+unfoldable pub check_local : World → Checked → LocalTree → Checked
+check_local w s l = check_local_of w s l.names (option_map (judge_type w) l.type_use) l.values

@@ -1,0 +1,2 @@
+//! Statements, function bodies and declarations: the types of locals, and the faults of types.
+#![tactic(auto)]

@@ -1,0 +1,72 @@
+-- What the names of a package are bound to, as expressions are judged by it.
+use Rattle.std.specs.Prelude.{ℕ, ◌≡◌, ◌⊎◌, Bool, true, false, List, [], ◌∷◌, map, Option, Some, None, slice_get, Contains, codes}
+use Rattle.gr_parse.specs.Tree.{Item, TypeTree, ParamTree, ResultTree, no_result, one_result, results, FuncTree}
+use Rattle.gr_scope.specs.declared.model.Block.TheVariants.{Inner}
+use Rattle.gr_scope.specs.Bindings.{block_of}
+use Rattle.gr_scope.specs.Table.{StandsAt}
+use Rattle.std.specs.List.{flat_map}
+use Rattle.std.specs.Cmp.Lexicographic.{pointwise}
+use Rattle.gr_expr.specs.declared.types.Basic.{Basic}
+use Rattle.gr_expr.specs.declared.types.Basic.TheVariants as basic
+use Rattle.gr_expr.specs.declared.types.Builtin.{Builtin}
+use Rattle.gr_expr.specs.declared.types.Builtin.TheVariants as builtin
+use Rattle.gr_expr.specs.Types.{PlainType, BasicType, Defined, Kind, Typed, Untyped, Nil, Signature, Meaning, Value, TypeName, Function, BuiltinName}
+use Rattle.gr_expr.specs.Types.{Package as PackageName}
+use Rattle.gr_expr.specs.World.{Bound, Local, BrokenVariable, BrokenFunction, BrokenType}
+use Rattle.gr_expr.specs.World.{Means as Stands}
+use Rattle.gr_types.specs.Package.{Package, PlacedVariable, PlacedFunction, package_variables, package_functions, symbol_in, spelled}
+use Rattle.gr_types.specs.Written.{BindsToken, IsPredeclared, DeclaresType, ImportsPath, basic_name, IsBroken, IsTypeOf}
+
+-- predeclared values and functions
+
+abbrev pub builtin_name : Builtin → List ℕ
+builtin_name builtin.Append = codes "append"
+builtin_name builtin.Len = codes "len"
+builtin_name builtin.Panic = codes "panic"
+builtin_name builtin.Print = codes "print"
+builtin_name builtin.Println = codes "println"
+
+pub data PredeclaredMeans : List ℕ → Meaning → Type 0 where
+  a_type : (b : Basic) → PredeclaredMeans (basic_name b) (TypeName (BasicType b))
+  a_truth : PredeclaredMeans (codes "true") (Value (Untyped basic.Bool) false)
+  an_untruth : PredeclaredMeans (codes "false") (Value (Untyped basic.Bool) false)
+  a_nil : PredeclaredMeans (codes "nil") (Value Nil false)
+  a_function : (b : Builtin) → PredeclaredMeans (builtin_name b) (BuiltinName b)
+
+-- each Type of a list, in the order in which they are written, is the type beside it
+abbrev pub AreTypesOf : Package → ℕ → List TypeTree → List PlainType → Type 0
+AreTypesOf p file [] [] = Unit {0}
+AreTypesOf p file [] (t ∷ ts) = ⊥
+AreTypesOf p file (x ∷ xs) [] = ⊥
+AreTypesOf p file (x ∷ xs) (t ∷ ts) = IsTypeOf p file x t × AreTypesOf p file xs ts
+
+-- the Types of parameters, once for each name
+abbrev pub parameter_types : List (Item ParamTree) → List TypeTree
+parameter_types ps = flat_map (λ i. map (λ n. i.value.type_use) i.value.names) ps
+
+abbrev pub result_types : ResultTree → List TypeTree
+result_types no_result = []
+result_types (one_result t) = t ∷ []
+result_types (results o ts c) = map (λ i. i.value) ts
+
+pub record HasSignature (p : Package) (f : PlacedFunction) (s : Signature) : Type 0 where
+  pub parameters : AreTypesOf p f.file (parameter_types f.function.params) s.parameters
+  pub results : AreTypesOf p f.file (result_types f.function.result) s.results
+
+-- d is the declaration of a variable or function at that place
+abbrev pub Declares : Package → (d file token : ℕ) → Type 0
+Declares p d file token = StandsAt p.layout (record { file = file; index = token }) d
+
+-- what a declaration means where it is used
+pub data IsMeantBy (p : Package) (d : ℕ) : Bound → Type 0 where
+  predeclared : {name : List ℕ} {m : Meaning} → IsPredeclared p d name → PredeclaredMeans name m → IsMeantBy p d (Stands m)
+  import_name : {path : List ℕ} → ImportsPath p d path → IsMeantBy p d (Stands PackageName)
+  local : {file from to : ℕ} → block_of (p.layout.role d) ≡ Inner file from to → IsMeantBy p d (Local (p.layout.place d).index)
+  variable : {v : PlacedVariable} {t : PlainType} → Contains (package_variables p) v → Declares p d v.file v.name → IsTypeOf p v.file v.type_use t →
+      IsMeantBy p d (Stands (Value (Typed t) true))
+  broken_variable : {v : PlacedVariable} → Contains (package_variables p) v → Declares p d v.file v.name → ((t : PlainType) → IsTypeOf p v.file v.type_use t → ⊥) → IsMeantBy p d BrokenVariable
+  function : {f : PlacedFunction} {s : Signature} → Contains (package_functions p) f → Declares p d f.file f.function.name → HasSignature p f s →
+      IsMeantBy p d (Stands (Function s))
+  broken_function : {f : PlacedFunction} → Contains (package_functions p) f → Declares p d f.file f.function.name → ((s : Signature) → HasSignature p f s → ⊥) → IsMeantBy p d BrokenFunction
+  definition : {rank : ℕ} → DeclaresType p d rank → (IsBroken p rank → ⊥) → IsMeantBy p d (Stands (TypeName (Defined (symbol_in p rank))))
+  broken_definition : {rank : ℕ} → DeclaresType p d rank → IsBroken p rank → IsMeantBy p d BrokenType

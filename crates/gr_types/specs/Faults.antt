@@ -1,0 +1,50 @@
+-- The faults of a package in all stages, and what a file of it is judged by.
+use Rattle.std.specs.Prelude.{ℕ, suc, ◌≡◌, ◌==◌, Bool, List, Some, slice_get, Contains}
+use Rattle.std.specs.Cmp.Lexicographic.{pointwise}
+use Rattle.gr_text.specs.declared.fault_kind.FaultKind.TheVariants as kind
+use Rattle.gr_fault.specs.declared.fault.Fault.{Fault}
+use Rattle.gr_parse.specs.SourceFile.{SourceFile, spelling_of}
+use Rattle.gr_stages.specs.Scoping.{init_name}
+use Rattle.gr_expr.specs.declared.symbol.Symbol.{Symbol}
+use Rattle.gr_expr.specs.Types.{PlainType}
+use Rattle.gr_expr.specs.World.{World, Bound, Definition, member_by}
+use Rattle.gr_expr.specs.World.{Means as Stands}
+use Rattle.gr_stmt.specs.Declarations.{check_file}
+use Rattle.gr_types.specs.Package.{Package, Export}
+use Rattle.gr_types.specs.Written.{BindsToken, ImportsPath}
+use Rattle.gr_types.specs.Bound.{IsMeantBy}
+use Rattle.gr_types.specs.Definitions.{AreDefinitions}
+
+-- the name at a token stands behind the name of an imported package, which exports it so
+pub record IsSelected (p : Package) (file token : ℕ) (e : Export) : Type 0 where
+  pub import : ℕ
+  pub before : ℕ
+  pub behind_dot : token ≡ suc (suc before)
+  pub binds : BindsToken p file before import
+  pub path : List ℕ
+  pub imports : ImportsPath p import path
+  pub source : SourceFile
+  pub in_file : slice_get p.files file ≡ Some source
+  pub exported : (p.interface_of path).exported (spelling_of source token) ≡ Some e
+
+-- what a file of a package is judged by
+pub record IsWorldOf (p : Package) (file : ℕ) (s : SourceFile) (w : World) : Type 0 where
+  pub bound : (token declaration : ℕ) (b : Bound) → BindsToken p file token declaration → IsMeantBy p declaration b → w.bound token ≡ b
+  pub selected : (token : ℕ) (e : Export) → IsSelected p file token e → w.bound token ≡ Stands e.meaning
+  pub definitions : Symbol → Definition
+  pub are_definitions : AreDefinitions p definitions
+  pub member : (token : ℕ) (t : PlainType) → w.member token t ≡ member_by definitions p.path (spelling_of s token) t
+  pub definition : (symbol : Symbol) → w.definition symbol ≡ (definitions symbol).underlying
+
+-- whether the name at a token is `init`
+abbrev pub is_init : SourceFile → ℕ → Bool
+is_init s token = pointwise ◌==◌ (spelling_of s token) init_name
+
+-- a fault of types in some file
+pub record IsTypeFault (p : Package) (f : Fault) : Type 0 where
+  pub source : SourceFile
+  pub in_file : slice_get p.files f.file ≡ Some source
+  pub world : World
+  pub judged_by : IsWorldOf p f.file source world
+  pub found : Contains (check_file world (is_init source) source.tree).faults f.token
+  pub kind : f.kind ≡ kind.«Type»

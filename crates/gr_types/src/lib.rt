@@ -1,0 +1,2 @@
+//! The checker of a package: types, members and all faults.
+#![tactic(auto)]
