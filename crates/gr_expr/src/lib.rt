@@ -4,3 +4,4 @@
 pub mod classes;
 pub mod symbol;
 pub mod types;
+pub mod world;
