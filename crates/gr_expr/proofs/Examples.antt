@@ -11,7 +11,7 @@ use Rattle.gr_expr.specs.Places.{first_token, place_of, place_of_links}
 use Rattle.gr_expr.specs.Types.{PlainType, BasicType, Defined, Pointer, Slice, Struct, Typed, Untyped, Nil, Meaning, Value, TypeName, Function, BuiltinName, Package, Results, Broken, same_type, same_underlying, is_named, has_nil}
 use Rattle.gr_expr.specs.World.{World, Bound, Means, BrokenVariable, BrokenFunction, BrokenType, Member, AField, AMethod, ABrokenMethod, no_locals}
 use Rattle.gr_expr.specs.Operations.{fits, operate, joined, class_of, family_of, result_of, is_nil, prefixed}
-use Rattle.gr_expr.specs.Judge.{MemberUse, judge, judge_type, as_value, value_kind, select, select_member, all_whole, misfit, misfits, all_misfits, unless_faults, call_function, convert, append, all_of_class, call_builtin, call_of, bad_index, indexed, index_of, operation, prefix_of, named_type, imported_type, address_of, is_among}
+use Rattle.gr_expr.specs.Judge.{MemberUse, judge, judge_type, as_value, value_kind, select, select_member, all_whole, misfit, misfits, all_misfits, unless_faults, call_function, convert, append, all_printed, call_builtin, call_of, bad_index, indexed, index_of, operation, prefix_of, named_type, imported_type, address_of}
 
 abbrev int : PlainType
 int = BasicType basic.Int
@@ -185,7 +185,7 @@ values =
     []
 
 faults_stand : map (λ e. faults_of e.0) expressions ≡ map (λ e. e.1) expressions
-unfolding first_token place_of place_of_links same_type same_underlying is_named has_nil fits operate joined class_of family_of result_of is_nil prefixed judge judge_type as_value value_kind select select_member all_whole misfit misfits all_misfits unless_faults call_function convert append all_of_class call_builtin call_of bad_index indexed index_of operation prefix_of named_type imported_type address_of is_among
+unfolding first_token place_of place_of_links same_type same_underlying is_named has_nil fits operate joined class_of family_of result_of is_nil prefixed judge judge_type as_value value_kind select select_member all_whole misfit misfits all_misfits unless_faults call_function convert append all_printed call_builtin call_of bad_index indexed index_of operation prefix_of named_type imported_type address_of
 faults_stand = refl
 
 types_stand : map (λ t. (judge_type w t.0).faults) types ≡ map (λ t. t.1) types
@@ -193,10 +193,10 @@ unfolding judge_type named_type imported_type
 types_stand = refl
 
 values_stand : map (λ e. meaning_of e.0) values ≡ map (λ e. e.1) values
-unfolding first_token place_of place_of_links same_type same_underlying is_named has_nil fits operate joined class_of family_of result_of is_nil prefixed judge judge_type as_value value_kind select select_member all_whole misfit misfits all_misfits unless_faults call_function convert append all_of_class call_builtin call_of bad_index indexed index_of operation prefix_of named_type imported_type address_of is_among
+unfolding first_token place_of place_of_links same_type same_underlying is_named has_nil fits operate joined class_of family_of result_of is_nil prefixed judge judge_type as_value value_kind select select_member all_whole misfit misfits all_misfits unless_faults call_function convert append all_printed call_builtin call_of bad_index indexed index_of operation prefix_of named_type imported_type address_of
 values_stand = refl
 
 -- the members that are used, in source order
 uses_found : (judge w no_locals (brace (LocalType 30) (keyed 60 (Chain (Name 13) (dot 64)) no_element))).uses ≡ record { place = 60; before = Defined here; member = Some (member_at 0) } ∷ record { place = 64; before = Pointer (Defined here); member = Some (member_at 0) } ∷ []
-unfolding first_token place_of place_of_links same_type same_underlying is_named has_nil fits operate joined class_of family_of result_of is_nil prefixed judge judge_type as_value value_kind select select_member all_whole misfit misfits all_misfits unless_faults call_function convert append all_of_class call_builtin call_of bad_index indexed index_of operation prefix_of named_type imported_type address_of is_among
+unfolding first_token place_of place_of_links same_type same_underlying is_named has_nil fits operate joined class_of family_of result_of is_nil prefixed judge judge_type as_value value_kind select select_member all_whole misfit misfits all_misfits unless_faults call_function convert append all_printed call_builtin call_of bad_index indexed index_of operation prefix_of named_type imported_type address_of
 uses_found = refl

@@ -5,3 +5,5 @@ pub mod Operations
 pub mod Judge
 pub mod View
 pub mod WorldView
+pub mod Found
+pub mod Lists

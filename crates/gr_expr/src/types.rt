@@ -1,7 +1,7 @@
 //! Types, kinds and signatures.
 ghost use Rattle.std.specs.Prelude.{◌≡◌, IfOk};
 ghost use Rattle.gr_expr.specs.Types.{same_type, same_basic, is_named, is_pointer};
-ghost use Rattle.gr_expr.specs.View.{type_of};
+ghost use Rattle.gr_expr.specs.View.{type_of, kind_of};
 
 use crate::symbol::Symbol;
 use std::alloc::{AllocError, Global};
@@ -96,6 +96,20 @@ impl GoType {
         ensures { result ≡ is_named (type_of self.now) }
     {
         matches!(self, GoType::Basic(_) | GoType::Defined(_))
+    }
+}
+
+impl Kind {
+    /// The same kind, in other memory.
+    #[tactic(auto, unfolding(crate::specs::View::kind_of))]
+    pub fn copy(&self, alloc: Global) -> Result<Kind, AllocError>
+        ensures { IfOk result (λ k. kind_of k ≡ kind_of self.now) }
+    {
+        match self {
+            Kind::Typed(own) => Ok(Kind::Typed(own.copy(alloc)?)),
+            Kind::Untyped(basic) => Ok(Kind::Untyped(*basic)),
+            Kind::Nil => Ok(Kind::Nil),
+        }
     }
 }
 
