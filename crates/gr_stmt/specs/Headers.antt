@@ -5,7 +5,7 @@ use Rattle.gr_expr.specs.Types.{PlainType, Defined, Pointer, Underlying, points}
 use Rattle.gr_expr.specs.World.{World}
 use Rattle.gr_expr.specs.Judge.{TypeJudged, good_type, no_type_at, named_type, judge_type, under}
 use Rattle.gr_stmt.specs.Checked.{Checked, reaching, noting, check_items}
-use Rattle.gr_stmt.specs.Sides.{with_locals, named}
+use Rattle.gr_stmt.specs.Sides.{Wants, with_locals, named}
 use Rattle.gr_stmt.specs.Simple.{written_locals}
 use Rattle.gr_stmt.specs.Statements.{check_block}
 
@@ -89,4 +89,4 @@ check_signature w is_init s f =
     noting (check_items (check_param w) (check_optional_receiver w s f.receiver) f.params) ((judge_results w f.result).faults ++ init_faults is_init f (judge_results w f.result).types) []
 
 unfoldable pub check_function : World → Bool → Checked → FuncTree → Checked
-check_function w is_init s f = check_block w (judge_results w f.result).types (check_signature w is_init s f) f.body
+check_function w is_init s f = check_block w (map Wants (judge_results w f.result).types) (check_signature w is_init s f) f.body
