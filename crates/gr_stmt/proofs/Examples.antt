@@ -16,7 +16,7 @@ use Rattle.gr_stmt.specs.Checked.{Checked}
 use Rattle.gr_stmt.specs.Sides.{Wants, rights, values_of, judge_each, given_to, refused, nil_refused, all_refused, assignable, own_type, assigned, assigned_one, defined, defined_one, no_name, default_type, taken_type, taken, with_locals, defined_name, named, ident_place, first_of_exprs, first_of_idents}
 use Rattle.gr_stmt.specs.Simple.{condition_faults, check_condition, step_faults, update_faults, ends_in_call, without_last, may_stand, is_statement, stands_faults, check_alone, check_step, check_update, check_assign, check_define, check_simple, check_written, check_unwritten, check_local}
 use Rattle.gr_stmt.specs.Statements.{returned, check_return}
-use Rattle.gr_stmt.specs.Headers.{may_receive, receiving, receiver_base, judge_receiver, check_receiver, check_param, judge_types, judge_results, init_faults}
+use Rattle.gr_stmt.specs.Headers.{may_receive, receiving, receiver_base, judge_receiver, check_receiver, check_param, is_bad_init}
 use Rattle.gr_stmt.specs.Declarations.{first_name, value_faults, global_faults}
 
 abbrev int : PlainType
@@ -273,12 +273,12 @@ header r = record {
 }
 
 -- `func init(x T)`: at the name, also where T is broken; a method may be named so
-init_with_parameter : init_faults true (header None) [] ≡ 6 ∷ []
-unfolding init_faults
+init_with_parameter : is_bad_init true (header None) [] ≡ true
+unfolding is_bad_init
 init_with_parameter = refl
 
-init_as_method : init_faults true (header (Some (receiver 60 None))) [] ≡ []
-unfolding init_faults
+init_as_method : is_bad_init true (header (Some (receiver 60 None))) [] ≡ false
+unfolding is_bad_init
 init_as_method = refl
 
 -- Package-level declarations
