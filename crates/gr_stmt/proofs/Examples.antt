@@ -17,7 +17,7 @@ use Rattle.gr_stmt.specs.Sides.{Wants, rights, values_of, judge_each, given_to, 
 use Rattle.gr_stmt.specs.Simple.{condition_faults, check_condition, step_faults, update_faults, ends_in_call, without_last, may_stand, is_statement, stands_faults, check_alone, check_step, check_update, check_assign, check_define, check_simple, check_written, check_unwritten, check_local}
 use Rattle.gr_stmt.specs.Statements.{returned, check_return}
 use Rattle.gr_stmt.specs.Headers.{may_receive, receiving, receiver_base, judge_receiver, check_receiver, check_param, is_bad_init}
-use Rattle.gr_stmt.specs.Declarations.{first_name, value_faults, global_faults}
+use Rattle.gr_stmt.specs.Declarations.{first_name, literal_faults, value_faults, global_faults}
 
 abbrev int : PlainType
 int = BasicType basic.Int
@@ -303,10 +303,10 @@ type_as_package = refl
 
 -- `var x int = "a"`: at the literal
 global_misfit : global_faults w (record { names = record { value = 90; separator = None } ∷ []; type_use = LocalType 61; values = Some (1, record { value = String 91; separator = None } ∷ []) }) ≡ 91 ∷ []
-unfolding global_faults value_faults all_refused refused nil_refused misfit fits same_underlying judge_type named_type
+unfolding global_faults value_faults literal_faults all_refused refused nil_refused misfit fits same_underlying judge_type named_type
 global_misfit = refl
 
 -- `var x T = 1, 2`: at x, also where T is broken
 global_count : global_faults w (record { names = record { value = 90; separator = None } ∷ []; type_use = LocalType 63; values = Some (1, record { value = Integer 91; separator = None } ∷ record { value = Integer 92; separator = None } ∷ []) }) ≡ 90 ∷ []
-unfolding global_faults value_faults first_name judge_type named_type
+unfolding global_faults value_faults literal_faults first_name judge_type named_type
 global_count = refl

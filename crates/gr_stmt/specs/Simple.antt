@@ -1,5 +1,5 @@
 -- Simple statements, conditions, and declarations of locals.
-use Rattle.std.specs.Prelude.{ℕ, Bool, true, false, if◌then◌else◌, List, [], ◌∷◌, ◌++◌, Option, Some, None, map}
+use Rattle.std.specs.Prelude.{ℕ, Bool, true, false, ◌||◌, if◌then◌else◌, List, [], ◌∷◌, ◌++◌, Option, Some, None, map}
 use Rattle.gr_parse.specs.declared.syntax.BinaryOp.{BinaryOp}
 use Rattle.gr_parse.specs.declared.syntax.BinaryOp.TheVariants as binary
 use Rattle.gr_parse.specs.declared.syntax.UpdateOp.{UpdateOp}
@@ -59,21 +59,24 @@ check_update w s o x y =
 
 -- Expression statements: a call of a function, a method, panic, print or println
 
+abbrev pub is_end : LinkTrees → Bool
+is_end no_link = true
+is_end links = false
+
 unfoldable pub ends_in_call : LinkTrees → Bool
 ends_in_call no_link = false
 ends_in_call (selector d n rest) = ends_in_call rest
 ends_in_call (index o e c rest) = ends_in_call rest
-ends_in_call (call o xs c no_link) = true
-ends_in_call (call o xs c rest) = ends_in_call rest
+ends_in_call (call o xs c rest) = is_end rest || ends_in_call rest
+
+abbrev pub unless_end : LinkTrees → LinkTrees → LinkTrees
+unless_end rest links = if is_end rest then no_link else links
 
 unfoldable pub without_last : LinkTrees → LinkTrees
 without_last no_link = no_link
-without_last (selector d n no_link) = no_link
-without_last (selector d n rest) = selector d n (without_last rest)
-without_last (index o e c no_link) = no_link
-without_last (index o e c rest) = index o e c (without_last rest)
-without_last (call o xs c no_link) = no_link
-without_last (call o xs c rest) = call o xs c (without_last rest)
+without_last (selector d n rest) = unless_end rest (selector d n (without_last rest))
+without_last (index o e c rest) = unless_end rest (index o e c (without_last rest))
+without_last (call o xs c rest) = unless_end rest (call o xs c (without_last rest))
 
 abbrev pub may_stand_builtin : Builtin → Bool
 may_stand_builtin builtin.Append = false
