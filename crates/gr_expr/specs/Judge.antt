@@ -5,7 +5,6 @@ use Rattle.gr_parse.specs.declared.syntax.BinaryOp.{BinaryOp}
 use Rattle.gr_parse.specs.declared.syntax.PrefixOp.{PrefixOp}
 use Rattle.gr_parse.specs.Tree.{TypeTree, ExprTree, Number, Text, Name, Blank, Composite, Paren, Prefix, Address, Chain, Binary, OperandTrees, no_operand, operand, LinkTrees, no_link, selector, index, call, ArgumentTrees, no_argument, argument, LiteralTree, literal, ElementTrees, no_element, element}
 use Rattle.gr_parse.specs.Tree.{Local as LocalType, Imported as ImportedType, Pointer as PointerType, Slice as SliceType}
-use Rattle.gr_expr.specs.declared.classes.Class.{Class}
 use Rattle.gr_expr.specs.declared.types.Basic.TheVariants as basic
 use Rattle.gr_expr.specs.declared.types.Builtin.{Builtin}
 use Rattle.gr_expr.specs.declared.types.Builtin.TheVariants as builtin
@@ -160,24 +159,32 @@ unfoldable pub append : World → ℕ → List Argued → Judged
 append w start [] = wrong start
 append w start (v ∷ vs) = append_first w start v.kind vs
 
--- whether each of the values that are not broken is of such a class
-abbrev pub of_class : World → (Class → Bool) → Option Kind → Bool
-of_class w test None = true
-of_class w test (Some k) = test (class_of w k)
+-- what `len` takes: one value that has a length; what `print` takes: a value of such a class. Broken ones are let pass
+abbrev pub len_value : World → Option Kind → Bool
+len_value w None = true
+len_value w (Some k) = has_length (class_of w k)
 
-unfoldable pub all_of_class : World → (Class → Bool) → List Argued → Bool
-all_of_class w test [] = true
-all_of_class w test (v ∷ vs) = of_class w test v.kind && all_of_class w test vs
+abbrev pub len_fits : World → List Argued → Bool
+len_fits w (v ∷ []) = len_value w v.kind
+len_fits w vs = false
+
+abbrev pub is_printed_value : World → Option Kind → Bool
+is_printed_value w None = true
+is_printed_value w (Some k) = is_printed (class_of w k)
+
+unfoldable pub all_printed : World → List Argued → Bool
+all_printed w [] = true
+all_printed w (v ∷ vs) = is_printed_value w v.kind && all_printed w vs
 
 abbrev pub call_when : Bool → List Argued → ℕ → Meaning → Judged
 call_when fine vs start m = if all_whole vs then (if fine then means m else wrong start) else means Broken
 
 unfoldable pub call_builtin : World → ℕ → Builtin → List Argued → Judged
 call_builtin w start builtin.Append vs = append w start vs
-call_builtin w start builtin.Len vs = call_when (length vs == 1 && all_of_class w has_length vs) vs start (Value (Typed (BasicType basic.Int)) false)
+call_builtin w start builtin.Len vs = call_when (len_fits w vs) vs start (Value (Typed (BasicType basic.Int)) false)
 call_builtin w start builtin.Panic vs = call_when (length vs == 1) vs start (Results [])
-call_builtin w start builtin.Print vs = call_when (all_of_class w is_printed vs) vs start (Results [])
-call_builtin w start builtin.Println vs = call_when (all_of_class w is_printed vs) vs start (Results [])
+call_builtin w start builtin.Print vs = call_when (all_printed w vs) vs start (Results [])
+call_builtin w start builtin.Println vs = call_when (all_printed w vs) vs start (Results [])
 
 -- the call of an operand that stands at `place`, in a chain that starts at `start`
 unfoldable pub call_of : World → (start place : ℕ) → List Argued → Meaning → Judged
@@ -278,17 +285,19 @@ pub data Key : Type 0 where
   BrokenKey : Key
   WrongKey : Key
 
-unfoldable pub is_among : ℕ → List ℕ → Bool
-is_among n [] = false
-is_among n (x ∷ xs) = x == n || is_among n xs
+-- the ranks of the fields that earlier keys named
+abbrev pub Seen : Type 0
+Seen = ℕ → Bool
 
--- seen: the fields that earlier keys named
-abbrev pub key_of_member : List ℕ → Option Member → Key
-key_of_member seen (Some (AField s t)) = if is_among s.rank seen then WrongKey else FieldKey s.rank t
+abbrev pub none_seen : Seen
+none_seen = λ rank. false
+
+abbrev pub key_of_member : Seen → Option Member → Key
+key_of_member seen (Some (AField s t)) = if seen s.rank then WrongKey else FieldKey s.rank t
 key_of_member seen (Some (ABrokenMethod s)) = BrokenKey
 key_of_member seen m = WrongKey
 
-abbrev pub key_in : Underlying → List ℕ → Option Member → Key
+abbrev pub key_in : Underlying → Seen → Option Member → Key
 key_in (Struct s) seen m = key_of_member seen m
 key_in u seen m = WrongKey
 
@@ -304,8 +313,8 @@ abbrev pub is_whole_key : Key → Bool
 is_whole_key (FieldKey rank t) = true
 is_whole_key k = false
 
-abbrev pub seen_with : Key → List ℕ → List ℕ
-seen_with (FieldKey rank t) seen = rank ∷ seen
+abbrev pub seen_with : Key → Seen → Seen
+seen_with (FieldKey rank t) seen = λ other. other == rank || seen other
 seen_with k seen = seen
 
 -- what the value behind a key has to fit: the field's type; in a slice its element type, though a key is a fault there
@@ -352,8 +361,18 @@ judge_key w t place k = record {
   uses = record { place = place; before = t; member = member_in (underlying w t) (w.member place t) } ∷ [];
 }
 
-abbrev pub key_at : World → List ℕ → PlainType → ℕ → Key
+abbrev pub key_at : World → Seen → PlainType → ℕ → Key
 key_at w seen t place = key_in (underlying w t) seen (w.member place t)
+
+-- what stands before an element's value in a literal of type t, none where that is broken
+abbrev pub element_key : World → Option PlainType → Seen → Option (ℕ × ℕ) → JudgedKey
+element_key w None seen k = unjudged_key
+element_key w (Some t) seen None = no_key w t
+element_key w (Some t) seen (Some k) = judge_key w t k.0 (key_at w seen t k.0)
+
+abbrev pub seen_after : World → Option PlainType → Seen → Option (ℕ × ℕ) → Seen
+seen_after w (Some t) seen (Some k) = seen_with (key_at w seen t k.0) seen
+seen_after w t seen k = seen
 
 -- an element before the others: its key, then its value, which stands at `place`, and whether that fits
 abbrev pub element_then : World → JudgedKey → ℕ → Judged → JudgedElements → JudgedElements
@@ -427,18 +446,13 @@ unfoldable mutual
   judge_arguments w locals (argument e c rest) = value_before (place_of e) (value_at e (judge w locals e)) (judge_arguments w locals rest)
 
   pub judge_literal : World → Locals → LiteralTree → Judged
-  judge_literal w locals (literal t o es c) = literal_of w (first_of_type t) (judge_type w t) (judge_elements w locals (judge_type w t).type_of [] es)
+  judge_literal w locals (literal t o es c) = literal_of w (first_of_type t) (judge_type w t) (judge_elements w locals (judge_type w t).type_of none_seen es)
 
-  -- t: the literal's type, none where it is broken; seen: the fields that earlier keys named
-  pub judge_elements : World → Locals → Option PlainType → List ℕ → ElementTrees → JudgedElements
+  -- t: the literal's type, none where it is broken
+  pub judge_elements : World → Locals → Option PlainType → Seen → ElementTrees → JudgedElements
   judge_elements w locals t seen no_element = record { whole = true; unkeyed = false; faults = []; uses = [] }
-  judge_elements w locals None seen (element k e c rest) =
-      element_then w unjudged_key (place_of e) (value_at e (judge w locals e)) (judge_elements w locals None seen rest)
-  judge_elements w locals (Some t) seen (element None e c rest) =
-      element_then w (no_key w t) (place_of e) (value_at e (judge w locals e)) (judge_elements w locals (Some t) seen rest)
-  judge_elements w locals (Some t) seen (element (Some key) e c rest) =
-      element_then w (judge_key w t key.0 (key_at w seen t key.0)) (place_of e) (value_at e (judge w locals e))
-      (judge_elements w locals (Some t) (seen_with (key_at w seen t key.0) seen) rest)
+  judge_elements w locals t seen (element k e c rest) =
+      element_then w (element_key w t seen k) (place_of e) (value_at e (judge w locals e)) (judge_elements w locals t (seen_after w t seen k) rest)
 
 abbrev pub judge_value : World → Locals → ExprTree → Judged
 judge_value w locals e = value_at e (judge w locals e)

@@ -33,6 +33,13 @@ place_of_links start here (selector d n rest) = place_of_links start n rest
 place_of_links start here (index o e c rest) = place_of_links start start rest
 place_of_links start here (call o xs c rest) = place_of_links start start rest
 
+-- the same of a chain that ends in the first of these links
+abbrev pub place_behind : (start : ℕ) → LinkTrees → ℕ
+place_behind start no_link = start
+place_behind start (selector d n rest) = n
+place_behind start (index o e c rest) = start
+place_behind start (call o args c rest) = start
+
 -- where a fault of the expression itself stands
 unfoldable pub place_of : ExprTree → ℕ
 place_of (Chain e ls) = place_of_links (first_token e) (first_token e) ls

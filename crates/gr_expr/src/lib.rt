@@ -1,6 +1,17 @@
 //! What the expressions of a package stand for: types, kinds, the world of names, and the judgement of expressions.
 #![tactic(auto)]
 
+pub mod calls;
 pub mod classes;
+pub mod found;
+pub mod keys;
+pub mod literals;
+pub mod locals;
+pub mod meaning;
+pub mod operations;
+pub mod operators;
+pub mod places;
 pub mod symbol;
+pub mod type_exprs;
 pub mod types;
+pub mod world;

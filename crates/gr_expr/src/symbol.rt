@@ -1,5 +1,6 @@
 //! Declarations as they are known in other packages: by package and rank.
 ghost use Rattle.std.specs.Prelude.{◌≡◌, IfOk};
+ghost use Rattle.gr_expr.specs.Types.{same_symbol};
 
 use gr_text::Path;
 use std::alloc::{AllocError, Global};
@@ -51,4 +52,24 @@ impl Clone for SharedPath {
 pub struct Symbol {
     pub package: SharedPath,
     pub rank: usize,
+}
+
+impl Symbol {
+    /// The same symbol, with the path shared.
+    pub fn copy(&self) -> Result<Symbol, AllocError>
+        ensures { IfOk result (λ copy. copy ≡ self.now) }
+    {
+        let package = self.package.clone()?;
+        Ok(Symbol {
+            package,
+            rank: self.rank,
+        })
+    }
+
+    /// Whether the two are the same.
+    pub fn same(&self, other: &Symbol) -> bool
+        ensures { result ≡ same_symbol self.now other.now }
+    {
+        self.rank == other.rank && self.package.path() == other.package.path()
+    }
 }

@@ -1,5 +1,10 @@
 //! Types, kinds and signatures.
+ghost use Rattle.std.specs.Prelude.{◌≡◌, IfOk};
+ghost use Rattle.gr_expr.specs.Types.{same_type, same_basic, is_named, is_pointer};
+ghost use Rattle.gr_expr.specs.View.{type_of, kind_of};
+
 use crate::symbol::Symbol;
+use std::alloc::{AllocError, Global};
 
 /// The types that are predeclared.
 #[derive(Clone, Copy, PartialEq, Eq, Debug)]
@@ -41,4 +46,78 @@ pub enum Builtin {
     Panic,
     Print,
     Println,
+}
+
+impl GoType {
+    /// The same type, in other memory.
+    #[tactic(auto, unfolding(crate::specs::View::type_of))]
+    pub fn copy(&self, alloc: Global) -> Result<GoType, AllocError>
+        ensures { IfOk result (λ t. type_of t ≡ type_of self.now) }
+    {
+        match self {
+            GoType::Basic(basic) => Ok(GoType::Basic(*basic)),
+            GoType::Defined(symbol) => Ok(GoType::Defined(symbol.copy()?)),
+            GoType::Pointer(target) => {
+                let target = target.copy(alloc)?;
+                Ok(GoType::Pointer(Box::new(alloc, target)?))
+            }
+            GoType::Slice(element) => {
+                let element = element.copy(alloc)?;
+                Ok(GoType::Slice(Box::new(alloc, element)?))
+            }
+        }
+    }
+
+    /// Whether the two are identical.
+    #[tactic(auto, unfolding(crate::specs::View::type_of, crate::specs::Types::same_type))]
+    pub fn same(&self, other: &GoType) -> bool
+        ensures { result ≡ same_type (type_of self.now) (type_of other.now) }
+    {
+        match (self, other) {
+            (GoType::Basic(a), GoType::Basic(b)) => a.same(*b),
+            (GoType::Defined(a), GoType::Defined(b)) => a.same(b),
+            (GoType::Pointer(a), GoType::Pointer(b)) => a.same(b),
+            (GoType::Slice(a), GoType::Slice(b)) => a.same(b),
+            _ => false,
+        }
+    }
+
+    /// Whether it is written as a pointer.
+    #[tactic(auto, unfolding(crate::specs::View::type_of))]
+    pub fn is_pointer(&self) -> bool
+        ensures { result ≡ is_pointer (type_of self.now) }
+    {
+        matches!(self, GoType::Pointer(_))
+    }
+
+    /// Whether it has a name, as all but pointers and slices have.
+    #[tactic(auto, unfolding(crate::specs::View::type_of, crate::specs::Types::is_named))]
+    pub fn is_named(&self) -> bool
+        ensures { result ≡ is_named (type_of self.now) }
+    {
+        matches!(self, GoType::Basic(_) | GoType::Defined(_))
+    }
+}
+
+impl Kind {
+    /// The same kind, in other memory.
+    #[tactic(auto, unfolding(crate::specs::View::kind_of))]
+    pub fn copy(&self, alloc: Global) -> Result<Kind, AllocError>
+        ensures { IfOk result (λ k. kind_of k ≡ kind_of self.now) }
+    {
+        match self {
+            Kind::Typed(own) => Ok(Kind::Typed(own.copy(alloc)?)),
+            Kind::Untyped(basic) => Ok(Kind::Untyped(*basic)),
+            Kind::Nil => Ok(Kind::Nil),
+        }
+    }
+}
+
+impl Basic {
+    /// Whether the two are the same.
+    pub fn same(self, other: Basic) -> bool
+        ensures { result ≡ same_basic self other }
+    {
+        self == other
+    }
 }

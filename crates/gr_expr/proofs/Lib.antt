@@ -1,0 +1,8 @@
+pub mod Adding
+pub mod Examples
+pub mod Items
+pub mod LocalTypes
+pub mod Misfits
+pub mod SeenRanks
+pub mod Trees
+pub mod Values

@@ -1,0 +1,242 @@
+//! The rules of the operations, on types and kinds.
+ghost use Rattle.std.specs.Prelude.{◌≡◌, option_copied, option_map};
+ghost use Rattle.gr_expr.specs.Types.{same_underlying, is_named, has_nil, either_unnamed, points};
+ghost use Rattle.gr_expr.specs.Operations.{fits, converts, joined, operate, class_of, class_of_underlying, family_of, result_of, is_nil, is_int, is_bool, is_ordered, has_length, is_printed, compares, element_of_kind};
+ghost use Rattle.gr_expr.specs.View.{type_of, kind_of};
+ghost use Rattle.gr_expr.specs.WorldView.{world_of, shape_of};
+
+use crate::classes::{Class, Family};
+use crate::types::{Basic, GoType, Kind};
+use crate::world::{Shape, World};
+use gr_parse::syntax::BinaryOp;
+
+#[tactic(auto, unfolding(crate::specs::WorldView::shape_of, crate::specs::Types::same_underlying))]
+fn same_shape(a: Shape<'_>, b: Shape<'_>) -> bool
+    ensures { result ≡ same_underlying (shape_of a.entry) (shape_of b.entry) }
+{
+    match (a, b) {
+        (Shape::Plain(a), Shape::Plain(b)) => a.same(b),
+        (Shape::PointerTo(a), Shape::PointerTo(b)) => a.same(b),
+        (Shape::SliceOf(a), Shape::SliceOf(b)) => a.same(b),
+        (Shape::Struct(a), Shape::Struct(b)) => a.same(b),
+        _ => false,
+    }
+}
+
+impl Shape<'_> {
+    /// Whether nil is a value of such a type.
+    #[tactic(auto, unfolding(crate::specs::WorldView::shape_of, crate::specs::Types::has_nil))]
+    fn has_nil(self) -> bool
+        ensures { result ≡ has_nil (shape_of self.entry) }
+    {
+        matches!(self, Shape::PointerTo(_) | Shape::SliceOf(_))
+    }
+
+    /// Whether it is a pointer.
+    #[tactic(auto, unfolding(crate::specs::WorldView::shape_of))]
+    pub fn is_pointer(self) -> bool
+        ensures { result ≡ points (shape_of self.entry) }
+    {
+        matches!(self, Shape::PointerTo(_))
+    }
+
+    /// The values of such a type, as operators tell them apart.
+    #[tactic(auto, unfolding(crate::specs::WorldView::shape_of))]
+    fn class(self) -> Class
+        ensures { result ≡ class_of_underlying (shape_of self.entry) }
+    {
+        match self {
+            Shape::Plain(basic) => Class::Of(basic),
+            Shape::PointerTo(_) => Class::Pointer,
+            Shape::SliceOf(_) => Class::Slice,
+            Shape::Struct(_) => Class::Struct,
+        }
+    }
+}
+
+impl Class {
+    pub fn is_int(self) -> bool
+        ensures { result ≡ is_int self }
+    {
+        matches!(self, Class::Of(Basic::Int))
+    }
+
+    pub fn is_bool(self) -> bool
+        ensures { result ≡ is_bool self }
+    {
+        matches!(self, Class::Of(Basic::Bool))
+    }
+
+    fn is_ordered(self) -> bool
+        ensures { result ≡ is_ordered self }
+    {
+        matches!(self, Class::Of(Basic::Int | Basic::String))
+    }
+
+    /// Whether `len` takes such a value.
+    pub fn has_length(self) -> bool
+        ensures { result ≡ has_length self }
+    {
+        matches!(self, Class::Of(Basic::String) | Class::Slice)
+    }
+
+    /// Whether `print` and `println` take such a value.
+    pub fn is_printed(self) -> bool
+        ensures { result ≡ is_printed self }
+    {
+        matches!(self, Class::Of(_))
+    }
+
+    fn compares(self, with_nil: bool) -> bool
+        ensures { result ≡ compares with_nil self }
+    {
+        match self {
+            Class::Of(_) | Class::Pointer => true,
+            Class::Slice => with_nil,
+            Class::Struct | Class::Nil => false,
+        }
+    }
+}
+
+#[tactic(auto, unfolding(crate::specs::Operations::family_of))]
+fn family_of(op: BinaryOp) -> Family
+    ensures { result ≡ family_of op }
+{
+    match op {
+        BinaryOp::Multiply | BinaryOp::Divide | BinaryOp::Remainder | BinaryOp::Subtract => {
+            Family::Arithmetic
+        }
+        BinaryOp::Add => Family::Addition,
+        BinaryOp::Equal | BinaryOp::NotEqual => Family::Equality,
+        BinaryOp::Less | BinaryOp::LessEqual | BinaryOp::Greater | BinaryOp::GreaterEqual => {
+            Family::Order
+        }
+        BinaryOp::And | BinaryOp::Or => Family::Logic,
+    }
+}
+
+/// The kind of an operation on operands of one class, none where the class has no such operation.
+#[tactic(auto, unfolding(crate::specs::View::kind_of, crate::specs::Operations::result_of))]
+fn result_of(family: Family, with_nil: bool, class: Class, kind: Kind) -> Option<Kind>
+    ensures { option_map kind_of result ≡ result_of family with_nil class (kind_of kind) }
+{
+    let fine = match family {
+        Family::Arithmetic => class.is_int(),
+        Family::Addition | Family::Order => class.is_ordered(),
+        Family::Equality => class.compares(with_nil),
+        Family::Logic => class.is_bool(),
+    };
+    if !fine {
+        return None;
+    }
+    match family {
+        Family::Equality | Family::Order => Some(Kind::Untyped(Basic::Bool)),
+        _ => Some(kind),
+    }
+}
+
+#[tactic(auto, unfolding(crate::specs::Types::is_named))]
+fn either_unnamed(a: &GoType, b: &GoType) -> bool
+    ensures { result ≡ either_unnamed (is_named (type_of a.now)) (is_named (type_of b.now)) }
+{
+    !(a.is_named() && b.is_named())
+}
+
+impl Kind {
+    #[tactic(auto, unfolding(crate::specs::View::kind_of, crate::specs::Operations::is_nil))]
+    fn is_nil(&self) -> bool
+        ensures { result ≡ is_nil (kind_of self.now) }
+    {
+        matches!(self, Kind::Nil)
+    }
+}
+
+impl World<'_> {
+    /// Whether a value of that kind fits the type.
+    #[tactic(auto, unfolding(crate::specs::View::kind_of, crate::specs::WorldView::shape_of, crate::specs::Operations::fits))]
+    pub fn fits(&self, kind: &Kind, wanted: &GoType) -> bool
+        ensures { result ≡ fits (world_of self.now) (kind_of kind.now) (type_of wanted.now) }
+    {
+        match kind {
+            Kind::Typed(own) => {
+                own.same(wanted)
+                    || (either_unnamed(own, wanted)
+                        && same_shape(self.underlying(own), self.underlying(wanted)))
+            }
+            Kind::Untyped(basic) => same_shape(Shape::Plain(*basic), self.underlying(wanted)),
+            Kind::Nil => self.underlying(wanted).has_nil(),
+        }
+    }
+
+    /// Whether a value of that kind converts to the type.
+    #[tactic(auto, unfolding(crate::specs::View::kind_of))]
+    pub fn converts(&self, kind: &Kind, wanted: &GoType) -> bool
+        ensures { result ≡ converts (world_of self.now) (kind_of kind.now) (type_of wanted.now) }
+    {
+        match kind {
+            Kind::Typed(own) => {
+                self.fits(kind, wanted) || same_shape(self.underlying(own), self.underlying(wanted))
+            }
+            _ => self.fits(kind, wanted),
+        }
+    }
+
+    /// The values of that kind, as operators tell them apart.
+    #[tactic(auto, unfolding(crate::specs::View::kind_of, crate::specs::Operations::class_of))]
+    pub fn class_of(&self, kind: &Kind) -> Class
+        ensures { result ≡ class_of (world_of self.now) (kind_of kind.now) }
+    {
+        match kind {
+            Kind::Typed(own) => self.underlying(own).class(),
+            Kind::Untyped(basic) => Class::Of(*basic),
+            Kind::Nil => Class::Nil,
+        }
+    }
+
+    /// The kind that two operands have in common, none where they do not go together.
+    #[tactic(auto, unfolding(crate::specs::View::kind_of, crate::specs::Operations::joined))]
+    fn joined(&self, left: Kind, right: Kind) -> Option<Kind>
+        ensures { option_map kind_of result ≡ joined (world_of self.now) (kind_of left) (kind_of right) }
+    {
+        let together = match (&left, &right) {
+            (Kind::Typed(a), Kind::Typed(b)) => a.same(b),
+            (Kind::Typed(a), _) => self.fits(&right, a),
+            (_, Kind::Typed(b)) => self.fits(&left, b),
+            (Kind::Untyped(a), Kind::Untyped(b)) => a.same(*b),
+            (Kind::Nil, Kind::Nil) => true,
+            _ => false,
+        };
+        if !together {
+            return None;
+        }
+        match left {
+            Kind::Typed(_) => Some(left),
+            _ => Some(right),
+        }
+    }
+
+    /// The kind of a binary operation, none where it breaks a rule.
+    #[tactic(auto, unfolding(crate::specs::Operations::operate))]
+    pub fn operate(&self, op: BinaryOp, left: Kind, right: Kind) -> Option<Kind>
+        ensures { option_map kind_of result ≡ operate (world_of self.now) op (kind_of left) (kind_of right) }
+    {
+        let with_nil = left.is_nil() || right.is_nil();
+        let kind = self.joined(left, right)?;
+        let class = self.class_of(&kind);
+        result_of(family_of(op), with_nil, class, kind)
+    }
+
+    /// The element type of a slice value.
+    #[tactic(auto, unfolding(crate::specs::View::kind_of, crate::specs::WorldView::shape_of))]
+    pub fn element_of<'a>(&'a self, kind: &'a Kind) -> Option<&'a GoType>
+        ensures { option_map (λ t. type_of t.now) result ≡ element_of_kind (world_of self.now) (kind_of kind.now) }
+    {
+        let Kind::Typed(own) = kind else {
+            return None;
+        };
+        match self.underlying(own) {
+            Shape::SliceOf(element) => Some(element),
+            _ => None,
+        }
+    }
+}
