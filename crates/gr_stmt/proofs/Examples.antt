@@ -11,7 +11,7 @@ use Rattle.gr_expr.specs.Types.{PlainType, BasicType, Defined, Pointer, Underlyi
 use Rattle.gr_expr.specs.World.{World, Bound, Local, Means, BrokenVariable, BrokenFunction, BrokenType, Member, AField, Locals, no_locals}
 use Rattle.gr_expr.specs.Operations.{fits, operate, joined, class_of, family_of, result_of, is_nil}
 use Rattle.gr_expr.specs.Places.{first_token, place_of, place_of_links}
-use Rattle.gr_expr.specs.Judge.{judge, as_value, value_kind, select, select_member, all_whole, misfit, misfits, unless_faults, call_function, convert, call_builtin, call_of, all_of_class, judge_type, named_type, imported_type}
+use Rattle.gr_expr.specs.Judge.{judge, as_value, value_kind, select, select_member, all_whole, misfit, misfits, unless_faults, call_function, convert, call_builtin, call_of, all_printed, judge_type, named_type, imported_type}
 use Rattle.gr_stmt.specs.Checked.{Checked}
 use Rattle.gr_stmt.specs.Sides.{Wants, rights, values_of, judge_each, given_to, refused, nil_refused, all_refused, assignable, own_type, assigned, assigned_one, defined, defined_one, no_name, default_type, taken_type, taken, with_locals, defined_name, named, ident_place, first_of_exprs, first_of_idents}
 use Rattle.gr_stmt.specs.Simple.{condition_faults, check_condition, step_faults, update_faults, ends_in_call, without_last, may_stand, is_statement, stands_faults, check_alone, check_step, check_update, check_assign, check_define, check_simple, check_written, check_unwritten, check_local}
@@ -109,7 +109,7 @@ nothing_defined = refl
 
 -- `x := 1, len(5)`: a wrong count, but of a broken value; the value is looked through
 values_looked_through : (check_simple w start (Define (item (Name 70) ∷ []) 1 (item (Number 2) ∷ item (Chain (Name 50) (call 4 (argument (Number 5) None no_argument) 6 no_link)) ∷ []))).faults ≡ 50 ∷ []
-unfolding check_simple check_define defined defined_one defined_name first_of_exprs with_locals taken rights judge_each given_to judge place_of place_of_links first_token as_value value_kind call_of call_builtin all_of_class class_of all_whole
+unfolding check_simple check_define defined defined_one defined_name first_of_exprs with_locals taken rights judge_each given_to judge place_of place_of_links first_token as_value value_kind call_of call_builtin all_printed class_of all_whole
 values_looked_through = refl
 
 -- `a, b = two()` with misfits: at the first token of the call
@@ -186,7 +186,7 @@ value_stands = refl
 
 -- `g()`, `f(1)`, `println(n)`
 calls_stand : (check_simple w (check_simple w (check_simple w start (Alone g)) (Alone f)) (Alone (Chain (Name 51) (call 2 (argument (Name 11) None no_argument) 3 no_link)))).faults ≡ []
-unfolding check_simple check_alone is_statement ends_in_call without_last may_stand stands_faults judge place_of place_of_links first_token as_value value_kind call_of call_function call_builtin all_of_class class_of misfits misfit fits same_underlying unless_faults all_whole
+unfolding check_simple check_alone is_statement ends_in_call without_last may_stand stands_faults judge place_of place_of_links first_token as_value value_kind call_of call_function call_builtin all_printed class_of misfits misfit fits same_underlying unless_faults all_whole
 calls_stand = refl
 
 -- `(g())`: at the parenthesis; `len(s)`, `int(n)`: at the first token
@@ -195,7 +195,7 @@ unfolding check_simple check_alone is_statement stands_faults judge place_of pla
 call_in_parentheses = refl
 
 length_stands : (check_simple w start (Alone (Chain (Name 50) (call 2 (argument (Name 10) None no_argument) 3 no_link)))).faults ≡ 50 ∷ []
-unfolding check_simple check_alone is_statement ends_in_call without_last may_stand stands_faults judge place_of place_of_links first_token as_value value_kind call_of call_builtin all_of_class class_of all_whole
+unfolding check_simple check_alone is_statement ends_in_call without_last may_stand stands_faults judge place_of place_of_links first_token as_value value_kind call_of call_builtin all_printed class_of all_whole
 length_stands = refl
 
 conversion_stands : (check_simple w start (Alone (Chain (Name 61) (call 2 (argument (Name 11) None no_argument) 3 no_link)))).faults ≡ 61 ∷ []
