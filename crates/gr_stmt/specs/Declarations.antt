@@ -20,10 +20,13 @@ unfoldable pub first_name : List (Item ℕ) → ℕ
 first_name [] = 0
 first_name (i ∷ is) = i.value
 
+unfoldable pub literal_faults : World → List (Item ℕ) → Option PlainType → List (Item BasicTree) → List ℕ
+literal_faults w names t literals =
+    if length literals == length names then all_refused w (map (λ i. literal_value i.value) literals) (map (λ i. Wants t) names) else first_name names ∷ []
+
 unfoldable pub value_faults : World → List (Item ℕ) → Option PlainType → Option (ℕ × List (Item BasicTree)) → List ℕ
 value_faults w names t None = []
-value_faults w names t (Some v) =
-    if length v.1 == length names then all_refused w (map (λ i. literal_value i.value) v.1) (map (λ i. Wants t) names) else first_name names ∷ []
+value_faults w names t (Some v) = literal_faults w names t v.1
 
 unfoldable pub global_faults : World → GlobalTree → List ℕ
 global_faults w g = (judge_type w g.type_use).faults ++ value_faults w g.names (judge_type w g.type_use).type_of g.values

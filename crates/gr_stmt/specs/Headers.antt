@@ -1,11 +1,11 @@
 -- Function headers: receivers, parameters and results, and whole functions.
-use Rattle.std.specs.Prelude.{ℕ, Bool, true, false, if◌then◌else◌, List, [], ◌∷◌, ◌++◌, Option, Some, None, map}
+use Rattle.std.specs.Prelude.{ℕ, Bool, true, false, if◌then◌else◌, List, [], ◌∷◌, ◌++◌, Option, Some, None, is_none, ◌&&◌}
 use Rattle.gr_parse.specs.Tree.{Item, IdentTree, TypeTree, ReceiverTree, ParamTree, ResultTree, no_result, one_result, results, FuncTree}
 use Rattle.gr_expr.specs.Types.{PlainType, Defined, Pointer, Underlying, points}
 use Rattle.gr_expr.specs.World.{World}
 use Rattle.gr_expr.specs.Judge.{TypeJudged, good_type, no_type_at, named_type, judge_type, under}
-use Rattle.gr_stmt.specs.Checked.{Checked, reaching, noting, check_items}
-use Rattle.gr_stmt.specs.Sides.{with_locals, named}
+use Rattle.gr_stmt.specs.Checked.{Checked, reaching, noting, fault_if, check_items}
+use Rattle.gr_stmt.specs.Sides.{Target, Wants, with_locals, named}
 use Rattle.gr_stmt.specs.Simple.{written_locals}
 use Rattle.gr_stmt.specs.Statements.{check_block}
 
@@ -50,43 +50,38 @@ check_param w s p = reaching s (written_locals s.locals p.names (judge_type w p.
 
 -- Results
 
--- types in turn, none for one that is broken, and the faults in them
-pub record TypesJudged : Type 0 where
-  pub types : List (Option PlainType)
+-- what a function's results want, and the faults in them
+pub record ResultsJudged : Type 0 where
+  pub wanted : List Target
   pub faults : List ℕ
 
-unfoldable pub judge_types : World → List (Item TypeTree) → TypesJudged
-judge_types w [] = record { types = []; faults = [] }
-judge_types w (i ∷ is) = record {
-  types = (judge_type w i.value).type_of ∷ (judge_types w is).types;
-  faults = (judge_type w i.value).faults ++ (judge_types w is).faults;
-}
+abbrev pub result_then : TypeJudged → ResultsJudged → ResultsJudged
+result_then t rest = record { wanted = Wants t.type_of ∷ rest.wanted; faults = t.faults ++ rest.faults }
 
-unfoldable pub judge_results : World → ResultTree → TypesJudged
-judge_results w no_result = record { types = []; faults = [] }
-judge_results w (one_result t) = record { types = (judge_type w t).type_of ∷ []; faults = (judge_type w t).faults }
+unfoldable pub judge_types : World → List (Item TypeTree) → ResultsJudged
+judge_types w [] = record { wanted = []; faults = [] }
+judge_types w (i ∷ is) = result_then (judge_type w i.value) (judge_types w is)
+
+unfoldable pub judge_results : World → ResultTree → ResultsJudged
+judge_results w no_result = record { wanted = []; faults = [] }
+judge_results w (one_result t) = result_then (judge_type w t) (record { wanted = []; faults = [] })
 judge_results w (results o ts c) = judge_types w ts
 
 -- Functions
 
--- whether there is none
-abbrev pub is_none_of : {A : Type 0} → List A → Bool
-is_none_of [] = true
-is_none_of (x ∷ xs) = false
+abbrev pub is_empty_list : {A : Type 0} → List A → Bool
+is_empty_list [] = true
+is_empty_list (x ∷ xs) = false
 
-abbrev pub has_none : {A : Type 0} → Option A → Bool
-has_none None = true
-has_none (Some x) = false
-
--- a function `init` has no parameters and no results; is_init: whether that is its name
-unfoldable pub init_faults : Bool → FuncTree → List (Option PlainType) → List ℕ
-init_faults false f ts = []
-init_faults true f ts = if has_none f.receiver then (if is_none_of f.params then (if is_none_of ts then [] else f.name ∷ []) else f.name ∷ []) else []
+-- whether a function breaks the rule that an `init` without a receiver has no parameters and no results; is_init: whether
+-- that is its name
+unfoldable pub is_bad_init : Bool → FuncTree → List Target → Bool
+is_bad_init is_init f wanted = is_init && (is_none f.receiver && (if is_empty_list f.params then (if is_empty_list wanted then false else true) else true))
 
 -- what a function's header declares, and the faults in it
 unfoldable pub check_signature : World → Bool → Checked → FuncTree → Checked
 check_signature w is_init s f =
-    noting (check_items (check_param w) (check_optional_receiver w s f.receiver) f.params) ((judge_results w f.result).faults ++ init_faults is_init f (judge_results w f.result).types) []
+    noting (check_items (check_param w) (check_optional_receiver w s f.receiver) f.params) ((judge_results w f.result).faults ++ fault_if (is_bad_init is_init f (judge_results w f.result).wanted) f.name) []
 
 unfoldable pub check_function : World → Bool → Checked → FuncTree → Checked
-check_function w is_init s f = check_block w (judge_results w f.result).types (check_signature w is_init s f) f.body
+check_function w is_init s f = check_block w (judge_results w f.result).wanted (check_signature w is_init s f) f.body

@@ -1,6 +1,7 @@
 -- The two sides of assignments and declarations of locals: what the right sides give, what the left sides take, and
 -- the faults where the two do not go together.
 use Rattle.std.specs.Prelude.{ℕ, ◌==◌, Bool, true, false, ◌&&◌, if◌then◌else◌, List, [], ◌∷◌, ◌++◌, Option, Some, None, length, map}
+use Rattle.std.specs.List.{list_all}
 use Rattle.gr_parse.specs.Tree.{Item, IdentTree, Named, Underscore, ExprTree, Name, Blank}
 use Rattle.gr_expr.specs.Types.{PlainType, BasicType, Kind, Typed, Untyped, Nil, Meaning, Value, Results, Broken}
 use Rattle.gr_expr.specs.World.{World, Bound, Local, Locals, declared}
@@ -10,9 +11,11 @@ use Rattle.gr_stmt.specs.Checked.{fault_if}
 
 -- Right sides: a lone call of several results, or of none, gives those, each at the place of the call
 
-unfoldable pub results_at : ℕ → List PlainType → List Argued
-results_at place [] = []
-results_at place (t ∷ ts) = record { place = place; kind = Some (Typed t) } ∷ results_at place ts
+abbrev pub result_at : ℕ → PlainType → Argued
+result_at place t = record { place = place; kind = Some (Typed t) }
+
+abbrev pub results_at : ℕ → List PlainType → List Argued
+results_at place ts = map (result_at place) ts
 
 abbrev pub one_value : ℕ → Judged → JudgedList
 one_value place j = record { values = record { place = place; kind = value_kind j.meaning } ∷ []; faults = j.faults; uses = j.uses }
@@ -44,9 +47,8 @@ is_sound Takes = true
 is_sound (Wants None) = false
 is_sound (Wants (Some t)) = true
 
-unfoldable pub all_sound : List Target → Bool
-all_sound [] = true
-all_sound (t ∷ ts) = is_sound t && all_sound ts
+abbrev pub all_sound : List Target → Bool
+all_sound ts = list_all is_sound ts
 
 -- nil has no type of its own to give
 unfoldable pub nil_refused : ℕ → Option Kind → List ℕ
@@ -143,9 +145,12 @@ unfoldable pub taken_type : Option Kind → Option PlainType
 taken_type None = None
 taken_type (Some k) = default_type k
 
+abbrev pub taken_types : List Argued → List (Option PlainType)
+taken_types vs = map (λ v. taken_type v.kind) vs
+
 -- the types that locals without a written type take from the values; broken under a wrong count
 unfoldable pub taken : ℕ → List Argued → List (Option PlainType)
-taken count vs = if length vs == count then map (λ v. taken_type v.kind) vs else []
+taken count vs = if length vs == count then taken_types vs else []
 
 abbrev pub head_or_none : List (Option PlainType) → Option PlainType
 head_or_none [] = None
@@ -163,6 +168,10 @@ declared_if ls (Some p) t = declared ls p t
 unfoldable pub with_locals : Locals → List (Option ℕ) → List (Option PlainType) → Locals
 with_locals ls [] ts = ls
 with_locals ls (n ∷ ns) ts = with_locals (declared_if ls n (head_or_none ts)) ns (tail_of ts)
+
+-- the locals with those names besides, of the types that they take from values
+abbrev pub with_taken : Locals → List (Option ℕ) → List Argued → Locals
+with_taken ls ns vs = with_locals ls ns (taken (length ns) vs)
 
 unfoldable pub defined_name : World → ExprTree → Option ℕ
 defined_name w (Name p) = if declares w p then Some p else None

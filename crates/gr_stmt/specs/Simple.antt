@@ -1,5 +1,5 @@
 -- Simple statements, conditions, and declarations of locals.
-use Rattle.std.specs.Prelude.{ℕ, Bool, true, false, if◌then◌else◌, List, [], ◌∷◌, ◌++◌, Option, Some, None, option_map, length, map}
+use Rattle.std.specs.Prelude.{ℕ, Bool, true, false, ◌||◌, if◌then◌else◌, List, [], ◌∷◌, ◌++◌, Option, Some, None, map}
 use Rattle.gr_parse.specs.declared.syntax.BinaryOp.{BinaryOp}
 use Rattle.gr_parse.specs.declared.syntax.BinaryOp.TheVariants as binary
 use Rattle.gr_parse.specs.declared.syntax.UpdateOp.{UpdateOp}
@@ -11,24 +11,27 @@ use Rattle.gr_expr.specs.Operations.{operate, class_of, is_int, is_bool}
 use Rattle.gr_expr.specs.Places.{place_of, first_token}
 use Rattle.gr_expr.specs.declared.types.Builtin.{Builtin}
 use Rattle.gr_expr.specs.declared.types.Builtin.TheVariants as builtin
-use Rattle.gr_expr.specs.Judge.{Argued, JudgedList, TypeJudged, judge, judge_value, judge_type}
+use Rattle.gr_expr.specs.Judge.{JudgedList, TypeJudged, judge, judge_value, judge_type, value_kind}
 use Rattle.gr_stmt.specs.Checked.{Checked, reaching, noting, finding}
-use Rattle.gr_stmt.specs.Sides.{rights, Target, Takes, Wants, given_to, Lefts, judge_operand, assigned, defined, taken, with_locals, defined_names, all_named, first_of_exprs, first_of_idents}
+use Rattle.gr_stmt.specs.Sides.{rights, Target, Takes, Wants, given_to, Lefts, judge_operand, assigned, defined, with_taken, with_locals, defined_names, all_named, first_of_exprs, first_of_idents}
 
 -- Conditions: a value of underlying bool
 
-unfoldable pub condition_faults : World → ℕ → Meaning → List ℕ
-condition_faults w place (Value k a) = if is_bool (class_of w k) then [] else place ∷ []
-condition_faults w place m = []
+unfoldable pub condition_faults : World → ℕ → Option Kind → List ℕ
+condition_faults w place None = []
+condition_faults w place (Some k) = if is_bool (class_of w k) then [] else place ∷ []
 
 unfoldable pub check_condition : World → Checked → ExprTree → Checked
-check_condition w s e = finding s (judge_value w s.locals e) (condition_faults w (place_of e) (judge_value w s.locals e).meaning)
+check_condition w s e = finding s (judge_value w s.locals e) (condition_faults w (place_of e) (value_kind (judge_value w s.locals e).meaning))
 
 -- `++` and `--`: an operand of underlying int
 
-unfoldable pub step_faults : World → ℕ → Meaning → List ℕ
-step_faults w place (Value k a) = if is_int (class_of w k) then [] else place ∷ []
-step_faults w place m = []
+unfoldable pub step_faults : World → ℕ → Option Kind → List ℕ
+step_faults w place None = []
+step_faults w place (Some k) = if is_int (class_of w k) then [] else place ∷ []
+
+unfoldable pub check_step : World → Checked → ExprTree → Checked
+check_step w s e = finding s (judge_operand w s.locals e) (step_faults w (place_of e) (value_kind (judge_operand w s.locals e).meaning))
 
 -- `+=` and its kin: an operation of the two whose result fits the first
 
@@ -44,27 +47,36 @@ fault_if_none None place = place ∷ []
 fault_if_none (Some k) place = []
 
 -- the result of such an operation has the type of the first, so that it fits
-unfoldable pub update_faults : World → ℕ → BinaryOp → Meaning → Meaning → List ℕ
-update_faults w start o (Value a x) (Value b y) = fault_if_none (operate w o a b) start
+unfoldable pub update_faults : World → ℕ → BinaryOp → Option Kind → Option Kind → List ℕ
+update_faults w start o (Some a) (Some b) = fault_if_none (operate w o a b) start
 update_faults w start o a b = []
 
+unfoldable pub check_update : World → Checked → BinaryOp → ExprTree → ExprTree → Checked
+check_update w s o x y =
+    noting s ((judge_operand w s.locals x).faults ++ ((judge_value w s.locals y).faults
+    ++ update_faults w (first_token x) o (value_kind (judge_operand w s.locals x).meaning) (value_kind (judge_value w s.locals y).meaning)))
+    ((judge_operand w s.locals x).uses ++ (judge_value w s.locals y).uses)
+
 -- Expression statements: a call of a function, a method, panic, print or println
+
+abbrev pub is_end : LinkTrees → Bool
+is_end no_link = true
+is_end links = false
 
 unfoldable pub ends_in_call : LinkTrees → Bool
 ends_in_call no_link = false
 ends_in_call (selector d n rest) = ends_in_call rest
 ends_in_call (index o e c rest) = ends_in_call rest
-ends_in_call (call o xs c no_link) = true
-ends_in_call (call o xs c rest) = ends_in_call rest
+ends_in_call (call o xs c rest) = is_end rest || ends_in_call rest
+
+abbrev pub unless_end : LinkTrees → LinkTrees → LinkTrees
+unless_end rest links = if is_end rest then no_link else links
 
 unfoldable pub without_last : LinkTrees → LinkTrees
 without_last no_link = no_link
-without_last (selector d n no_link) = no_link
-without_last (selector d n rest) = selector d n (without_last rest)
-without_last (index o e c no_link) = no_link
-without_last (index o e c rest) = index o e c (without_last rest)
-without_last (call o xs c no_link) = no_link
-without_last (call o xs c rest) = call o xs c (without_last rest)
+without_last (selector d n rest) = unless_end rest (selector d n (without_last rest))
+without_last (index o e c rest) = unless_end rest (index o e c (without_last rest))
+without_last (call o xs c rest) = unless_end rest (call o xs c (without_last rest))
 
 abbrev pub may_stand_builtin : Builtin → Bool
 may_stand_builtin builtin.Append = false
@@ -87,20 +99,28 @@ stands_faults place true m = []
 stands_faults place false Broken = []
 stands_faults place false m = place ∷ []
 
+unfoldable pub check_alone : World → Checked → ExprTree → Checked
+check_alone w s e = finding s (judge w s.locals e) (stands_faults (place_of e) (is_statement w s.locals e) (judge w s.locals e).meaning)
+
+-- Assignments and definitions
+
 -- left sides that are given right sides, with the locals that this declares
 abbrev pub giving : World → Checked → ℕ → Locals → Lefts → JudgedList → Checked
 giving w s place locals l r = reaching s locals (l.faults ++ (r.faults ++ given_to w place r.values l.targets)) (l.uses ++ r.uses)
 
+unfoldable pub check_assign : World → Checked → List (Item ExprTree) → List (Item ExprTree) → Checked
+check_assign w s xs ys = giving w s (first_of_exprs xs) s.locals (assigned w s.locals xs) (rights w s.locals ys)
+
+unfoldable pub check_define : World → Checked → List (Item ExprTree) → List (Item ExprTree) → Checked
+check_define w s xs ys =
+    giving w s (first_of_exprs xs) (with_taken s.locals (defined_names w xs) (rights w s.locals ys).values) (defined w s.locals xs) (rights w s.locals ys)
+
 unfoldable pub check_simple : World → Checked → SimpleTree → Checked
-check_simple w s (Alone e) = finding s (judge w s.locals e) (stands_faults (place_of e) (is_statement w s.locals e) (judge w s.locals e).meaning)
-check_simple w s (Step e op p) = finding s (judge_operand w s.locals e) (step_faults w (place_of e) (judge_operand w s.locals e).meaning)
-check_simple w s (Update x o p y) =
-    noting s ((judge_operand w s.locals x).faults ++ ((judge_value w s.locals y).faults
-    ++ update_faults w (first_token x) (binary_of o) (judge_operand w s.locals x).meaning (judge_value w s.locals y).meaning))
-    ((judge_operand w s.locals x).uses ++ (judge_value w s.locals y).uses)
-check_simple w s (Assign xs p ys) = giving w s (first_of_exprs xs) s.locals (assigned w s.locals xs) (rights w s.locals ys)
-check_simple w s (Define xs p ys) =
-    giving w s (first_of_exprs xs) (with_locals s.locals (defined_names w xs) (taken (length xs) (rights w s.locals ys).values)) (defined w s.locals xs) (rights w s.locals ys)
+check_simple w s (Alone e) = check_alone w s e
+check_simple w s (Step e op p) = check_step w s e
+check_simple w s (Update x o p y) = check_update w s (binary_of o) x y
+check_simple w s (Assign xs p ys) = check_assign w s xs ys
+check_simple w s (Define xs p ys) = check_define w s xs ys
 
 abbrev pub check_optional : World → Checked → Option SimpleTree → Checked
 check_optional w s None = s
@@ -123,13 +143,19 @@ written_targets names t = record { targets = map (λ i. Wants t.type_of) names; 
 abbrev pub written_locals : Locals → List (Item IdentTree) → Option PlainType → Locals
 written_locals ls names t = with_locals ls (all_named names) (map (λ i. t) names)
 
-unfoldable pub check_local_of : World → Checked → List (Item IdentTree) → Option TypeJudged → Option (ℕ × List (Item ExprTree)) → Checked
-check_local_of w s names (Some t) None = reaching s (written_locals s.locals names t.type_of) t.faults []
-check_local_of w s names (Some t) (Some v) =
-    giving w s (first_of_idents names) (written_locals s.locals names t.type_of) (written_targets names t) (rights w s.locals v.1)
-check_local_of w s names None None = reaching s (with_locals s.locals (all_named names) []) [] []
-check_local_of w s names None (Some v) =
-    giving w s (first_of_idents names) (with_locals s.locals (all_named names) (taken (length names) (rights w s.locals v.1).values)) (name_targets names Takes) (rights w s.locals v.1)
+unfoldable pub check_written : World → Checked → List (Item IdentTree) → TypeJudged → Option (ℕ × List (Item ExprTree)) → Checked
+check_written w s names t None = reaching s (written_locals s.locals names t.type_of) t.faults []
+check_written w s names t (Some v) = giving w s (first_of_idents names) (written_locals s.locals names t.type_of) (written_targets names t) (rights w s.locals v.1)
+
+-- the grammar has no declaration without a type and without values
+unfoldable pub check_unwritten : World → Checked → List (Item IdentTree) → Option (ℕ × List (Item ExprTree)) → Checked
+check_unwritten w s names None = reaching s (with_locals s.locals (all_named names) []) [] []
+check_unwritten w s names (Some v) =
+    giving w s (first_of_idents names) (with_taken s.locals (all_named names) (rights w s.locals v.1).values) (name_targets names Takes) (rights w s.locals v.1)
+
+abbrev pub check_local_of : World → Checked → List (Item IdentTree) → Option TypeTree → Option (ℕ × List (Item ExprTree)) → Checked
+check_local_of w s names (Some t) values = check_written w s names (judge_type w t) values
+check_local_of w s names None values = check_unwritten w s names values
 
 unfoldable pub check_local : World → Checked → LocalTree → Checked
-check_local w s l = check_local_of w s l.names (option_map (judge_type w) l.type_use) l.values
+check_local w s l = check_local_of w s l.names l.type_use l.values
