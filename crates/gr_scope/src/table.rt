@@ -1,16 +1,16 @@
 //! The table of a package's identifiers, scopes and bindings.
 ghost use Rattle.std.specs.Prelude.{ℕ, ◌≡◌, ◌<◌, ◌↔◌, length, map, IsTrue, MatchOption, slice_get};
 ghost use Rattle.gr_parse.specs.SourceFile.{source_of, offset_of};
-ghost use Rattle.gr_scope.specs.Bindings.{Declares, Counts, IsIdentifier, scope_of};
+ghost use Rattle.gr_scope.specs.Bindings.{Declares, Counts, IsIdentifier, IsUse, scope_of};
 ghost use Rattle.gr_scope.specs.Chains.{AreLinks, IsChain};
 ghost use Rattle.gr_scope.specs.Found.{site_of};
 ghost use Rattle.gr_scope.specs.Scoped.{layout_in, names_in, IsBoundIn, IsPlaceOf, BeginsIn, BeginsAt};
 ghost use Rattle.gr_scope.specs.Table.{layout_of, names_of, StandsAt, IsFirstOf, IsFoundAt};
 ghost use Rattle.gr_scope.specs.WellFormed.{WellFormed};
 
-use crate::counting::{bound_to, counts};
+use crate::counting::{bound_to, counts, is_use};
 use crate::links::{Chain, Links};
-use crate::model::{Identifier, Position, Scope};
+use crate::model::{Identifier, Position, Role, Scope};
 use crate::resolve::{declares, name_at, place_at, role_at};
 use gr_parse::FileTree;
 use gr_text::Place;
@@ -144,6 +144,55 @@ impl<'a> ScopeTable<'a> {
         ensures { result.now ≡ self.now.files }
     {
         self.files
+    }
+
+    /// How many identifiers there are, the predeclared names among them.
+    pub fn len(&self) -> usize
+        ensures { result ≡ length self.now.sites }
+    {
+        self.identifiers.len()
+    }
+
+    /// What an identifier is there for.
+    pub fn role(&self, u: usize) -> Role
+        requires { u < length self.now.sites }
+        ensures { result ≡ (layout_in self.now).role u }
+    {
+        role_at(&self.identifiers, u)
+    }
+
+    /// Where an identifier stands.
+    pub fn place(&self, u: usize) -> Position
+        requires { u < length self.now.sites }
+        ensures { result ≡ (layout_in self.now).place u }
+    {
+        place_at(&self.identifiers, u)
+    }
+
+    /// How an identifier is spelled, in UTF-8.
+    pub fn name(&self, u: usize) -> &'a [u8]
+        requires { u < length self.now.sites }
+        ensures { result.now ≡ names_in self.now u }
+    {
+        name_at(&self.identifiers, u)
+    }
+
+    /// Whether an identifier is a lexical use: also a left name of `:=` that does not declare.
+    pub fn is_use(&self, u: usize) -> bool
+        requires { u < length self.now.sites }
+        ensures { IsTrue result ↔ IsUse (layout_in self.now) (names_in self.now) u }
+    {
+        let chain = self.links.chain(name_at(&self.identifiers, u));
+        is_use(&self.identifiers, chain, u)
+    }
+
+    /// Whether an identifier declares.
+    pub fn declares(&self, u: usize) -> bool
+        requires { u < length self.now.sites }
+        ensures { IsTrue result ↔ Declares (layout_in self.now) (names_in self.now) u }
+    {
+        let chain = self.links.chain(name_at(&self.identifiers, u));
+        declares(&self.identifiers, chain, u)
     }
 
     /// All identifiers, behind the predeclared names.
