@@ -172,6 +172,10 @@ reached_element w k place at j kind wanted {total} {rest} {more} {before} {now} 
       goes_on = element_split w c.so_far k place j more ∙ (ap (λ x. elements_then c.so_far x) (sym r) ∙ c.goes_on);
     }
 
+pub reached_elements_as : {total rest : JudgedElements} {before now : Found} {a b c d : Bool} → c ≡ a → d ≡ b → ReachedElements total rest before now a b → ReachedElements total rest before now c d
+reached_elements_as {total} {rest} {before} {now} {a} {b} {c} {d} e f r =
+    subst (λ (x : Bool). ReachedElements total rest before now c x) (sym f) (subst (λ (x : Bool). ReachedElements total rest before now x b) (sym e) r)
+
 or_end : (a : Bool) → (a || false) ≡ a
 or_end true = refl
 or_end false = refl

@@ -1,4 +1,5 @@
 pub mod Adding
+pub mod Equations
 pub mod Examples
 pub mod Items
 pub mod LocalTypes
