@@ -146,6 +146,13 @@ impl<'a> ScopeTable<'a> {
         self.files
     }
 
+    /// The layout of a table is well formed, since it is that of a package's trees.
+    pub fn is_well_formed(&self)
+        ensures { WellFormed (layout_in self.now) }
+    {
+        let _identifiers = &self.identifiers;
+    }
+
     /// How many identifiers there are, the predeclared names among them.
     pub fn len(&self) -> usize
         ensures { result ≡ length self.now.sites }

@@ -12,8 +12,7 @@ use Rattle.gr_scope.specs.declared.model.Role.{Role}
 use Rattle.gr_scope.specs.declared.model.Role.TheVariants.{Use, Declaring, LeftName, Implied, NotLexical}
 use Rattle.gr_scope.specs.declared.model.Purpose.{Purpose}
 use Rattle.gr_scope.specs.declared.model.Purpose.TheVariants as purpose
-use Rattle.gr_scope.specs.declared.table.ScopeTable.{ScopeTable}
-use Rattle.gr_scope.specs.Table.{layout_of, names_of}
+use Rattle.gr_scope.specs.Scoped.{ScopedPackage, layout_in, names_in}
 use Rattle.gr_fault.specs.Listing.{Below}
 use Rattle.gr_scope.specs.Bindings.{Layout, Names, MayDeclare, IsIdentifier, IsPackageLevel, IsImport, IsUse, IsBoundTo, Declares, Counts}
 use Rattle.gr_stages.specs.Files.{HasLiteral}
@@ -25,8 +24,8 @@ pub record Laid : Type 0 where
   pub size : ℕ
 
 -- those of a table
-abbrev pub laid_in : ScopeTable → Laid
-laid_in t = record { layout = layout_of t.identifiers.items; names = names_of t.identifiers.items; size = length t.identifiers.items }
+abbrev pub laid_in : ScopedPackage → Laid
+laid_in t = record { layout = layout_in t; names = names_in t; size = length t.sites }
 
 abbrev pub fault_at : Layout → ℕ → FaultKind → Fault
 fault_at l u k = record { file = (l.place u).file; token = (l.place u).index; kind = k }

@@ -21,7 +21,7 @@ use std::alloc::AllocError;
 /// A file of a package of which the identifiers are known.
 #[derive(Clone, Copy)]
 pub struct FileScope<'a> {
-    pub table: &'a ScopeTable,
+    pub table: &'a ScopeTable<'a>,
     pub rank: usize,
 }
 
@@ -244,7 +244,10 @@ pub fn add_marks(
     ensures { OnOk result (Adds found.old.items found.new.items (IsMarkFault (map source_of files.now) (laid_in table.now))) }
 {
     for rank in 0..files.len() {
-        add_file(found, FileScope { table, rank }, &files[rank])?;
+        add_file(found, FileScope {
+            table: &*table,
+            rank,
+        }, &files[rank])?;
     }
     Ok(())
 }

@@ -2,7 +2,6 @@
 ghost use Rattle.std.specs.Prelude.{ℕ, ◌≡◌, ◌<◌, ◌↔◌, IsTrue, OnOk};
 ghost use Rattle.gr_fault.specs.Listing.{Adds};
 ghost use Rattle.gr_scope.specs.Bindings.{IsImport};
-ghost use Rattle.gr_scope.specs.WellFormed.{WellFormed};
 ghost use Rattle.gr_stages.specs.Scoping.{laid_in, AreUsed, IsUsedBelow, IsUndeclared, IsRepeated, IsUnused, IsFaultOfIdentifier, IsScopeFault};
 
 use crate::table::{fault_at, is_import, is_repetition, is_undeclared, literal_of};
@@ -14,8 +13,7 @@ use std::alloc::{AllocError, Global};
 
 /// Adds the fault of a use that is bound to nothing.
 fn add_undeclared(found: &mut Vec<Fault>, table: &ScopeTable, u: usize) -> Result<(), AllocError>
-    requires in_range { u < (laid_in table.now).size }
-    requires well_formed { WellFormed (laid_in table.now).layout }
+    requires { u < (laid_in table.now).size }
     ensures { OnOk result (Adds found.old.items found.new.items (IsUndeclared (laid_in table.now) u)) }
 {
     let fault = fault_at(table, u, FaultKind::Undeclared);
@@ -72,7 +70,6 @@ fn add_identifier(
     u: usize,
 ) -> Result<(), AllocError>
     requires in_range { u < (laid_in table.now).size }
-    requires well_formed { WellFormed (laid_in table.now).layout }
     requires used { AreUsed (laid_in table.now) (laid_in table.now).size used.now }
     ensures { OnOk result (Adds found.old.items found.new.items (IsFaultOfIdentifier (laid_in table.now) u)) }
 {
@@ -88,11 +85,10 @@ pub fn add_scopes(
     found: &mut Vec<Fault>,
     table: &ScopeTable,
 ) -> Result<(), AllocError>
-    requires { WellFormed (laid_in table.now).layout }
     ensures { OnOk result (Adds found.old.items found.new.items (IsScopeFault (laid_in table.now))) }
 {
     let used = uses(alloc, table)?;
-    for u in 0..table.identifiers.len() {
+    for u in 0..table.len() {
         add_identifier(found, table, &used, u)?;
     }
     Ok(())

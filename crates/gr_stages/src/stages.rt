@@ -4,7 +4,6 @@ ghost use Rattle.std.specs.List.Sorted.{IsStrictlySortedBy};
 ghost use Rattle.gr_fault.specs.contracts.fault.FaultOrd.TheImpl as order;
 ghost use Rattle.gr_fault.specs.Listing.{Lists};
 ghost use Rattle.gr_parse.specs.SourceFile.{source_of};
-ghost use Rattle.gr_scope.specs.WellFormed.{WellFormed};
 ghost use Rattle.gr_stages.specs.States.{state_in};
 ghost use Rattle.gr_stages.specs.Scoping.{laid_in};
 ghost use Rattle.gr_stages.specs.Stages.{IsOuterFault, IsOwnFault};
@@ -63,7 +62,6 @@ fn own_found(
     table: &ScopeTable,
     files: &[FileTree],
 ) -> Result<Vec<Fault>, AllocError>
-    requires { WellFormed (laid_in table.now).layout }
     ensures { IfOk result (λ found. Lists (IsOwnFault (map source_of files.now) (laid_in table.now)) found.items) }
 {
     let mut found = Vec::new(alloc);
@@ -79,7 +77,6 @@ pub fn own_faults(
     table: &ScopeTable,
     files: &[FileTree],
 ) -> Result<Vec<Fault>, AllocError>
-    requires { WellFormed (laid_in table.now).layout }
     ensures listed { IfOk result (λ found. Lists (IsOwnFault (map source_of files.now) (laid_in table.now)) found.items) }
     ensures order { IfOk result (λ found. IsStrictlySortedBy order.ghosts.cmp found.items) }
 {

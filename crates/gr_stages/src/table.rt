@@ -1,15 +1,11 @@
 //! What a table says of an identifier, by its number.
 ghost use Rattle.std.specs.Prelude.{ℕ, ◌≡◌, ◌<◌, ◌↔◌, ◌⊎◌, IsTrue, MatchOption};
 ghost use Rattle.gr_scope.specs.Bindings.{IsUse, IsBoundTo, IsImport, IsPackageLevel, Declares, Counts};
-ghost use Rattle.gr_scope.specs.Table.{layout_of};
-ghost use Rattle.gr_scope.specs.WellFormed.{WellFormed};
 ghost use Rattle.gr_stages.specs.Scoping.{laid_in, fault_at, init_name, is_literal, literal_of, IsRepetition};
 ghost use Rattle.gr_stages.specs.Marks.{DeclaresAt};
 
 use gr_fault::Fault;
-use gr_scope::counting::{bound_to, counts, is_use};
 use gr_scope::model::{Block, Position, Purpose, Role};
-use gr_scope::resolve::{declares, name_at, place_at, role_at};
 use gr_scope::table::ScopeTable;
 use gr_text::FaultKind;
 
@@ -18,7 +14,7 @@ pub fn fault_at(table: &ScopeTable, u: usize, kind: FaultKind) -> Fault
     requires { u < (laid_in table.now).size }
     ensures { result ≡ fault_at (laid_in table.now).layout u kind }
 {
-    let place = place_at(&table.identifiers, u);
+    let place = table.place(u);
     Fault {
         file: place.file,
         token: place.index,
@@ -31,27 +27,25 @@ pub fn is_name_use(table: &ScopeTable, u: usize) -> bool
     requires { u < (laid_in table.now).size }
     ensures { IsTrue result ↔ IsUse (laid_in table.now).layout (laid_in table.now).names u }
 {
-    is_use(&table.identifiers, u)
+    table.is_use(u)
 }
 
 /// The declaration to which an identifier is bound.
 pub fn binding(table: &ScopeTable, u: usize) -> Option<usize>
-    requires in_range { u < (laid_in table.now).size }
-    requires well_formed { WellFormed (laid_in table.now).layout }
+    requires { u < (laid_in table.now).size }
     ensures { let l = (laid_in table.now).layout in
         let names = (laid_in table.now).names in
         MatchOption result ((d : ℕ) → IsBoundTo l names u d → ⊥) (λ d. IsBoundTo l names u d) }
 {
-    bound_to(&table.identifiers, u)
+    table.binding(u)
 }
 
 /// Whether an identifier is bound to nothing.
 fn is_unbound(table: &ScopeTable, u: usize) -> bool
-    requires in_range { u < (laid_in table.now).size }
-    requires well_formed { WellFormed (laid_in table.now).layout }
+    requires { u < (laid_in table.now).size }
     ensures { IsTrue result ↔ ((d : ℕ) → IsBoundTo (laid_in table.now).layout (laid_in table.now).names u d → ⊥) }
 {
-    match bound_to(&table.identifiers, u) {
+    match table.binding(u) {
         None => true,
         Some(_) => false,
     }
@@ -59,13 +53,12 @@ fn is_unbound(table: &ScopeTable, u: usize) -> bool
 
 /// Whether an identifier is a use that is bound to nothing.
 pub fn is_undeclared(table: &ScopeTable, u: usize) -> bool
-    requires in_range { u < (laid_in table.now).size }
-    requires well_formed { WellFormed (laid_in table.now).layout }
+    requires { u < (laid_in table.now).size }
     ensures { let l = (laid_in table.now).layout in
         let names = (laid_in table.now).names in
         IsTrue result ↔ (IsUse l names u × ((d : ℕ) → IsBoundTo l names u d → ⊥)) }
 {
-    is_use(&table.identifiers, u) && is_unbound(table, u)
+    table.is_use(u) && is_unbound(table, u)
 }
 
 /// Whether a declaration does not count.
@@ -75,7 +68,7 @@ fn is_displaced(table: &ScopeTable, u: usize) -> bool
         let names = (laid_in table.now).names in
         IsTrue result ↔ (Declares l names u × (Counts l names u → ⊥)) }
 {
-    declares(&table.identifiers, u) && !counts(&table.identifiers, u)
+    table.is_repeated(u)
 }
 
 /// Whether an identifier is declared in the package's block under the name `init`.
@@ -83,8 +76,8 @@ fn is_init(table: &ScopeTable, u: usize) -> bool
     requires { u < (laid_in table.now).size }
     ensures { IsTrue result ↔ (IsPackageLevel (laid_in table.now).layout u × ((laid_in table.now).names u ≡ init_name)) }
 {
-    role_at(&table.identifiers, u).block().same(Block::Package)
-        && name_at(&table.identifiers, u) == b"init".as_slice()
+    table.role(u).block().same(Block::Package)
+        && table.name(u) == b"init".as_slice()
 }
 
 /// Whether an identifier repeats a declaration, or is a variable or type of a name that is no variable's and no type's.
@@ -100,7 +93,7 @@ pub fn is_import(table: &ScopeTable, u: usize) -> bool
     requires { u < (laid_in table.now).size }
     ensures { IsTrue result ↔ IsImport (laid_in table.now).layout u }
 {
-    match role_at(&table.identifiers, u).block() {
+    match table.role(u).block() {
         Block::File(_) => true,
         Block::Universe | Block::Package | Block::Inner(_, _, _) => false,
     }
@@ -122,7 +115,7 @@ pub fn literal_of(table: &ScopeTable, d: usize) -> usize
     ensures literal { result ≡ literal_of (laid_in table.now).layout d }
     ensures in_range { result < (laid_in table.now).size }
 {
-    if d + 1 < table.identifiers.len() && is_literal(role_at(&table.identifiers, d + 1)) {
+    if 1 < table.len() - d && is_literal(table.role(d + 1)) {
         d + 1
     } else {
         d
@@ -135,6 +128,6 @@ pub fn declares_at(table: &ScopeTable, file: usize, token: usize) -> bool
 {
     match table.identifier_at(Position { file, index: token }) {
         None => false,
-        Some(u) => declares(&table.identifiers, u),
+        Some(u) => table.declares(u),
     }
 }

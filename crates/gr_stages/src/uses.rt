@@ -1,7 +1,6 @@
 //! Which identifiers of a table are used.
 ghost use Rattle.std.specs.Prelude.{ℕ, ◌≡◌, ◌<◌, true, length, slice_set, IfOk, MatchOption};
 ghost use Rattle.gr_scope.specs.Bindings.{IsUse, IsBoundTo};
-ghost use Rattle.gr_scope.specs.WellFormed.{WellFormed};
 ghost use Rattle.gr_stages.specs.Scoping.{laid_in, AreUsed};
 
 use crate::table::{binding, is_name_use};
@@ -10,8 +9,7 @@ use std::alloc::{AllocError, Global};
 
 /// The declaration that an identifier is a use of.
 fn used_by(table: &ScopeTable, u: usize) -> Option<usize>
-    requires in_range { u < (laid_in table.now).size }
-    requires well_formed { WellFormed (laid_in table.now).layout }
+    requires { u < (laid_in table.now).size }
     ensures { let l = (laid_in table.now).layout in
         let names = (laid_in table.now).names in
         MatchOption result (IsUse l names u → (d : ℕ) → IsBoundTo l names u d → ⊥)
@@ -37,12 +35,12 @@ fn mark(used: &mut Vec<bool>, d: Option<usize>)
 
 /// Whether each identifier is used.
 pub fn uses(alloc: Global, table: &ScopeTable) -> Result<Vec<bool>, AllocError>
-    requires { WellFormed (laid_in table.now).layout }
     ensures { IfOk result (λ used. AreUsed (laid_in table.now) (laid_in table.now).size used.items) }
 {
     gr_scope::law::bindings_are_unique();
-    let mut used = vec![in alloc; false; table.identifiers.len()]?;
-    for u in 0..table.identifiers.len() {
+    table.is_well_formed();
+    let mut used = vec![in alloc; false; table.len()]?;
+    for u in 0..table.len() {
         mark(&mut used, used_by(table, u));
     }
     Ok(used)

@@ -13,5 +13,5 @@ loop-u-preserved c =
 
 pub returns : goal.returns
 returns c =
-    let e : c.loop-u.u ≡ length c.args.table.now.identifiers.items = omega arith in
+    let e : c.loop-u.u ≡ length c.args.table.now.sites = omega arith in
     subst (λ n. Adds c.args.found.now.items c.loop-u.found.items (Below (IsFaultOfIdentifier (laid_in c.args.table.now)) n)) e c.loop-u.invariant
