@@ -17,8 +17,8 @@ use Rattle.gr_expr.specs.Lists.{links_in, operands_in, arguments_in, elements_in
 use Rattle.gr_expr.specs.Places.{first_token, first_of_type, place_of, place_behind}
 use Rattle.gr_expr.specs.Types.{Meaning, Value, Untyped, Broken, PlainType}
 use Rattle.gr_expr.specs.World.{World, Locals, name_meaning}
-use Rattle.gr_expr.specs.Judge.{Judged, JudgedList, Argued, JudgedElements, Seen, none_seen, judge, judge_value, judge_links, judge_link, judge_operands, judge_arguments, judge_literal, judge_elements, judge_type, means, select, with_values, call_of, followed, operation, value_before, prefix_of, address_of, index_rule, call_rule, element_then, element_key, seen_after, literal_of}
-use Rattle.gr_expr.specs.Found.{Adds, AddsList, AddsElements}
+use Rattle.gr_expr.specs.Judge.{Judged, JudgedList, Argued, Seen, none_seen, judge, judge_value, judge_links, judge_link, judge_operands, judge_arguments, judge_literal, judge_elements, judge_type, means, select, followed, operation, value_before, prefix_of, address_of, index_rule, call_rule, element_then, element_key, seen_after, literal_of}
+use Rattle.gr_expr.specs.Found.{Adds, AddsList}
 use Rattle.gr_expr.proofs.Trees.{chain_tree, binary_tree, call_tree, literal_tree}
 
 pub ok_map : {X E : Type 0} {P Q : X → Type 0} (r : Result X E) → ((x : X) → P x → Q x) → IfOk r P → IfOk r Q

@@ -8,10 +8,10 @@ use Rattle.gr_expr.specs.declared.types.Basic.TheVariants as basic
 use Rattle.gr_expr.specs.declared.types.Builtin.TheVariants as builtin
 use Rattle.gr_expr.specs.declared.symbol.Symbol.{Symbol}
 use Rattle.gr_expr.specs.Places.{first_token, place_of, place_of_links}
-use Rattle.gr_expr.specs.Types.{PlainType, BasicType, Defined, Pointer, Slice, Struct, Typed, Untyped, Nil, Meaning, Value, TypeName, Function, BuiltinName, Package, Results, Broken, same_type, same_underlying, is_named, has_nil}
+use Rattle.gr_expr.specs.Types.{PlainType, BasicType, Defined, Pointer, Slice, Struct, Typed, Untyped, Nil, Meaning, Value, TypeName, Function, BuiltinName, Package, Broken, same_type, same_underlying, is_named, has_nil}
 use Rattle.gr_expr.specs.World.{World, Bound, Means, BrokenVariable, BrokenFunction, BrokenType, Member, AField, AMethod, ABrokenMethod, no_locals}
 use Rattle.gr_expr.specs.Operations.{fits, operate, joined, class_of, family_of, result_of, is_nil, prefixed}
-use Rattle.gr_expr.specs.Judge.{MemberUse, judge, judge_type, as_value, value_kind, select, select_member, all_whole, misfit, misfits, all_misfits, unless_faults, call_function, convert, append, all_printed, call_builtin, call_of, bad_index, indexed, index_of, operation, prefix_of, named_type, imported_type, address_of}
+use Rattle.gr_expr.specs.Judge.{judge, judge_type, as_value, value_kind, select, select_member, all_whole, misfit, misfits, all_misfits, unless_faults, call_function, convert, append, all_printed, call_builtin, call_of, bad_index, indexed, index_of, operation, prefix_of, named_type, imported_type, address_of}
 
 abbrev int : PlainType
 int = BasicType basic.Int

@@ -1,3 +1,4 @@
+-- The lemmas of this crate.
 pub mod Adding
 pub mod Equations
 pub mod Examples

@@ -1,12 +1,11 @@
 -- Locals as a function of the token that declares them.
-use Rattle.std.proofs.Common.{ℕ, ◌≡◌, ◌==◌, Bool, true, false, Option, Some, None, option_map, cond, if◌then◌else◌, ap, ◌∙◌, refl, [], List, arith}
+use Rattle.std.proofs.Common.{ℕ, ◌≡◌, ◌==◌, Bool, true, false, Option, option_map, cond, if◌then◌else◌, ap, ◌∙◌, refl, [], arith}
 use Rattle.std.proofs.Math.Path.{fun_ext}
 use Rattle.std.specs.BTreeMap.{get, is_at, Updates}
 use Rattle.std.specs.Map.{lookup}
 use Rattle.std.specs.Ordering.{nat_cmp}
 use Rattle.gr_expr.specs.declared.locals.Locals.{Locals}
 use Rattle.gr_expr.specs.declared.types.GoType.{GoType}
-use Rattle.gr_expr.specs.Types.{PlainType}
 use Rattle.gr_expr.specs.World.{no_locals, declared}
 use Rattle.gr_expr.specs.Found.{locals_of}
 use Rattle.gr_expr.specs.View.{type_of}

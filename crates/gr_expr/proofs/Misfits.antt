@@ -1,5 +1,5 @@
 -- How far the values of a list are compared with types.
-use Rattle.std.proofs.Common.{ℕ, ◌≡◌, ◌∷◌, [], List, Bool, true, ◌&&◌, ap, sym, refl, map, ◌++◌, append_assoc, append-nil, Option, option_map, ◌∙◌}
+use Rattle.std.proofs.Common.{ℕ, ◌≡◌, ◌∷◌, [], List, Bool, true, ◌&&◌, ap, sym, refl, map, ◌++◌, append_assoc, append-nil, option_map, ◌∙◌}
 use Rattle.gr_expr.specs.declared.meaning.Argued.{Argued}
 use Rattle.gr_expr.specs.declared.found.Found.{Found}
 use Rattle.gr_expr.specs.declared.types.GoType.{GoType}

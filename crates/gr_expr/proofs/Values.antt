@@ -1,5 +1,5 @@
 -- Lists of values.
-use Rattle.std.proofs.Common.{ℕ, ◌≡◌, ◌∷◌, [], List, Bool, true, ◌&&◌, ap, sym, refl, map, Option, Some, None, is_some, option_map, ◌∙◌}
+use Rattle.std.proofs.Common.{◌≡◌, ◌∷◌, [], List, ◌&&◌, ap, refl, map, Option, Some, None, is_some, option_map, ◌∙◌}
 use Rattle.std.specs.List.{list_all}
 use Rattle.gr_expr.specs.declared.meaning.Argued.{Argued}
 use Rattle.gr_expr.specs.declared.types.Kind.{Kind}

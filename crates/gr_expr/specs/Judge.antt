@@ -10,7 +10,7 @@ use Rattle.gr_expr.specs.declared.types.Builtin.{Builtin}
 use Rattle.gr_expr.specs.declared.types.Builtin.TheVariants as builtin
 use Rattle.gr_expr.specs.declared.symbol.Symbol.{Symbol}
 use Rattle.gr_expr.specs.Places.{first_token, first_of_type, place_of}
-use Rattle.gr_expr.specs.Types.{PlainType, BasicType, Pointer, Slice, Underlying, SliceOf, Struct, Kind, Typed, Untyped, Signature, Meaning, Value, TypeName, Function, BuiltinName, Package, Results, Broken, is_pointer, points, is_struct, element_of}
+use Rattle.gr_expr.specs.Types.{PlainType, BasicType, Pointer, Slice, Underlying, SliceOf, Struct, Kind, Typed, Untyped, Signature, Meaning, Value, TypeName, Function, BuiltinName, Package, Results, Broken, is_pointer, points, element_of}
 use Rattle.gr_expr.specs.World.{World, Locals, Bound, Local, Means, BrokenVariable, BrokenType, Member, AField, AMethod, ABrokenMethod, member_symbol, underlying, name_meaning}
 use Rattle.gr_expr.specs.Operations.{fits, converts, operate, class_of, is_int, has_length, is_printed, element_of_kind, prefixed}
 

@@ -1,3 +1,4 @@
+-- The definitions of this crate.
 pub mod Places
 pub mod Types
 pub mod World

@@ -1,5 +1,5 @@
 -- The types and kinds of src/, without where they lie in memory.
-use Rattle.std.specs.Prelude.{ℕ, List, map}
+use Rattle.std.specs.Prelude.{map}
 use Rattle.gr_expr.specs.declared.types.GoType.{GoType}
 use Rattle.gr_expr.specs.declared.types.GoType.TheVariants as type
 use Rattle.gr_expr.specs.declared.types.Kind.{Kind}

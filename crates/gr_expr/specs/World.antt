@@ -1,7 +1,7 @@
 -- What the names of a file are bound to, the members of types, and the types of local variables.
-use Rattle.std.specs.Prelude.{ℕ, ◌==◌, Bool, true, false, ◌||◌, if◌then◌else◌, List, Option, Some, None, option_map}
+use Rattle.std.specs.Prelude.{ℕ, ◌==◌, Bool, true, ◌||◌, if◌then◌else◌, List, Option, Some, None}
 use Rattle.gr_expr.specs.declared.symbol.Symbol.{Symbol}
-use Rattle.gr_expr.specs.Types.{PlainType, BasicType, Defined, Pointer, Slice, Underlying, Plain, PointerTo, SliceOf, Struct, Typed, Signature, Meaning, Value, Broken, same_path, underlying_by}
+use Rattle.gr_expr.specs.Types.{PlainType, Defined, Pointer, Underlying, PointerTo, Struct, Typed, Signature, Meaning, Value, Broken, same_path, underlying_by}
 
 -- What a name is bound to: a parameter or a local, by the place of its declaration; or what all its uses mean; or a
 -- variable, function or type whose written type, parameters, results or underlying type has a broken part. A name that is

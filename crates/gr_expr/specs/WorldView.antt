@@ -1,5 +1,5 @@
 -- The world of src/ as the plain one.
-use Rattle.std.specs.Prelude.{ℕ, ◌≡◌, Bool, true, false, if◌then◌else◌, List, [], ◌∷◌, Option, Some, None, option_map, slice_get}
+use Rattle.std.specs.Prelude.{ℕ, true, false, if◌then◌else◌, List, [], Option, Some, None, option_map, slice_get}
 use Rattle.std.specs.BTreeMap.{get, get_by}
 use Rattle.std.specs.Cmp.Lexicographic.{slice_cmp}
 use Rattle.std.specs.Ordering.{nat_cmp}

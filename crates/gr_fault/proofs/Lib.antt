@@ -1,3 +1,4 @@
+-- The lemmas of this crate.
 pub mod Listings
 pub mod Each
 pub mod Ranked

@@ -1,5 +1,5 @@
 -- Walks along the identifiers of one name.
-use Rattle.std.proofs.Common.{ℕ, ◌≡◌, ◌+◌, ◌<◌, ◌≤◌, ◌⊎◌, inl, inr, List, [], ◌∷◌, ◌++◌, length, get_or, Option, Some, None, sym, ◌∙◌, subst, arith, suc, refl}
+use Rattle.std.proofs.Common.{ℕ, ◌≡◌, ◌<◌, ◌≤◌, inl, inr, List, get_or, Option, Some, None, sym, subst, arith, suc, refl}
 use Rattle.std.specs.Option.{ForSome}
 use Rattle.std.proofs.lemmas.Bool.{cases_order}
 use Rattle.gr_scope.specs.Bindings.{Names}

@@ -1,5 +1,5 @@
 -- What is true of a table's list of identifiers is true of the value that the table stands for.
-use Rattle.std.proofs.Common.{ℕ, ◌≡◌, List, length, map, ◌≤◌, ◌⊎◌, inl, inr, Option, Some, None, arith, sym, ap, subst, ◌∙◌, ◌<◌, get_or}
+use Rattle.std.proofs.Common.{ℕ, ◌≡◌, List, length, map, inl, inr, Option, Some, None, sym, ap, subst, ◌∙◌, ◌<◌, get_or}
 use Rattle.std.specs.Prelude.{slice_get, MatchOption}
 use Rattle.std.proofs.lemmas.Bool.{cases_order}
 use Rattle.std.proofs.lemmas.Option.{slice_get-get_or}

@@ -1,11 +1,11 @@
 -- Examples of marks, computed: where a `break` is stray, and which `:=` there are.
-use Rattle.std.proofs.Common.{◌≡◌, Bool, true, false, List, [], ◌∷◌, refl}
-use Rattle.std.specs.Prelude.{Option, Some, None}
-use Rattle.gr_parse.specs.Tree.{Item, ExprTree, Name, Number, SimpleTree, Define, ForTree, forever, clauses, StatementTree, Empty, Simple, If, For, Break, Continue, BlockTree, block, no_statement, statement, if_tree, no_else}
+use Rattle.std.proofs.Common.{◌≡◌, false, List, [], ◌∷◌, refl}
+use Rattle.std.specs.Prelude.{Some, None}
+use Rattle.gr_parse.specs.Tree.{Item, ExprTree, Name, Number, Define, forever, clauses, StatementTree, If, For, Break, Continue, BlockTree, block, no_statement, statement, if_tree, no_else}
 use Rattle.gr_text.specs.declared.fault_kind.FaultKind.TheVariants as kind
 use Rattle.gr_stages.specs.declared.states.ImportState.TheVariants as states
 use Rattle.gr_stages.specs.Imports.{import_fault}
-use Rattle.gr_stages.specs.Marks.{Mark, Defines, Stray, statement_marks, statements_marks, block_marks, if_marks, else_marks, simple_marks, for_marks}
+use Rattle.gr_stages.specs.Marks.{Defines, Stray, statement_marks, statements_marks, block_marks, if_marks, else_marks, simple_marks, for_marks}
 
 abbrev lone : StatementTree → BlockTree
 lone s = block 10 (statement s None no_statement) 20

@@ -1,11 +1,11 @@
 -- The files of a package in the order of their paths, each with its rank, and what they import.
-use Rattle.std.specs.Prelude.{ℕ, ◌≡◌, List, [], ◌∷◌, map, Option, Some, None, unwrap_or}
+use Rattle.std.specs.Prelude.{ℕ, List, [], ◌∷◌, map}
 use Rattle.std.specs.List.{flat_map, enumerate_from}
 use Rattle.gr_scan.specs.Cuts.{bytes_of}
 use Rattle.gr_scan.specs.CutText.{token_at}
 use Rattle.gr_scan.specs.StringValues.{HasStringValue}
 use Rattle.gr_scan.specs.TokenValues.{IsStringClass}
-use Rattle.gr_parse.specs.Tree.{Group, single, several, ImportTree, ImportsTree, FileTree}
+use Rattle.gr_parse.specs.Tree.{Group, single, several, ImportTree, FileTree}
 use Rattle.gr_parse.specs.SourceFile.{SourceFile, spelling_of}
 
 -- a file with its rank

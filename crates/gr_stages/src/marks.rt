@@ -244,10 +244,14 @@ pub fn add_marks(
     ensures { OnOk result (Adds found.old.items found.new.items (IsMarkFault (map source_of files.now) (laid_in table.now))) }
 {
     for rank in 0..files.len() {
-        add_file(found, FileScope {
-            table: &*table,
-            rank,
-        }, &files[rank])?;
+        add_file(
+            found,
+            FileScope {
+                table: &*table,
+                rank,
+            },
+            &files[rank],
+        )?;
     }
     Ok(())
 }

@@ -76,8 +76,7 @@ fn is_init(table: &ScopeTable, u: usize) -> bool
     requires { u < (laid_in table.now).size }
     ensures { IsTrue result ↔ (IsPackageLevel (laid_in table.now).layout u × ((laid_in table.now).names u ≡ init_name)) }
 {
-    table.role(u).block().same(Block::Package)
-        && table.name(u) == b"init".as_slice()
+    table.role(u).block().same(Block::Package) && table.name(u) == b"init".as_slice()
 }
 
 /// Whether an identifier repeats a declaration, or is a variable or type of a name that is no variable's and no type's.

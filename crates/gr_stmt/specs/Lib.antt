@@ -1,3 +1,4 @@
+-- The definitions of this crate.
 pub mod Checked
 pub mod Sides
 pub mod Simple

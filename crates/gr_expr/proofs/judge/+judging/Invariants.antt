@@ -1,3 +1,4 @@
+-- The invariants of the loops of `judge::judging`.
 use Rattle.std.proofs.Common.{drop, map, option_map}
 use Rattle.gr_expr.specs.declared.found.Found.{Found}
 use Rattle.gr_expr.specs.Judge.{Judged, judge_links, judge_operands, judge_arguments, judge_elements, none_seen}

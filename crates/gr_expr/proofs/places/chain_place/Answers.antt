@@ -1,3 +1,4 @@
+-- The answers to the goals of `places::chain_place`.
 use Rattle.std.proofs.Math.ListN.{drop_of_length-le}
 use Rattle.std.proofs.Common.{◌+◌, ap, sym, ◌∙◌, drop}
 use Rattle.gr_expr.specs.Places.{place_of_links}

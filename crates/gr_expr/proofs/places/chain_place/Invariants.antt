@@ -1,3 +1,4 @@
+-- The invariants of the loops of `places::chain_place`.
 use Rattle.std.proofs.Common.{◌≡◌, drop}
 use Rattle.gr_expr.specs.Places.{place_of_links}
 use Rattle.gr_expr.specs.Lists.{links_in}

@@ -1,3 +1,4 @@
+-- The answers to the goals of `places::place_of`.
 use Rattle.gr_expr.proofs.Trees.{chain_stands}
 use Rattle.gr_expr.proofs.places.place_of.Goals as goal
 

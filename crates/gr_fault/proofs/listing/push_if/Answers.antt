@@ -1,3 +1,4 @@
+-- The answers to the goals of `listing::push_if`.
 use Rattle.std.proofs.Common.{IsTrue, ◌≡◌}
 use Rattle.gr_fault.proofs.Listings.{call_adds}
 use Rattle.gr_fault.proofs.listing.push_if.Goals as goal

@@ -1,3 +1,4 @@
+-- The answers to the goals of `listing::sort`.
 use Rattle.std.proofs.Common.{ℕ, ◌≡◌, ◌<◌, ◌&&◌, ◌∙◌, Bool, true, false, List, length, get_or, rules, subst, sym, refl, ap, eqb→eq, nat_eq, T}
 use Rattle.std.specs.Prelude.{Contains}
 use denote.Enum.Bare.{same_true, sameb}

@@ -1,8 +1,7 @@
 -- The invariants of the loops of `counting::is_displaced_by_none`.
 use Rattle.std.proofs.Common.{ℕ, length}
-use Rattle.std.specs.Option.{option_map_or}
 use Rattle.gr_scope.specs.Chains.{IsLeft}
-use Rattle.gr_scope.specs.Table.{Blocks, IsDisplacer, layout_of, names_of}
+use Rattle.gr_scope.specs.Table.{IsDisplacer, layout_of, names_of}
 use Rattle.gr_scope.proofs.Chains.{IsKnown, left_of}
 use Rattle.gr_scope.proofs.counting.is_displaced_by_none.Given as goal
 

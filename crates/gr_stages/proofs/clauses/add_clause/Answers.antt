@@ -1,3 +1,4 @@
+-- The answers to the goals of `clauses::add_clause`.
 use Rattle.std.proofs.Common.{◌≡◌, ◌∙◌, ap, sym}
 use Rattle.gr_text.specs.declared.fault_kind.FaultKind.TheVariants as kind
 use Rattle.gr_fault.proofs.Listings.{call_adds, make, is_false}

@@ -1,5 +1,6 @@
-use Rattle.std.proofs.Common.{◌≡◌, List, [], ◌∷◌, ◌∙◌, ap, sym, subst, arith, map, ℕ, length}
-use Rattle.std.specs.Prelude.{Option, Some, None, slice_get}
+-- The answers to the goals of `clauses::add_clauses`.
+use Rattle.std.proofs.Common.{◌≡◌, List, [], ◌∷◌, ◌∙◌, ap, subst, arith, map}
+use Rattle.std.specs.Prelude.{Some, slice_get}
 use Rattle.std.specs.List.{enumerate_from}
 use Rattle.gr_fault.specs.Listing.{AddsEach}
 use Rattle.gr_fault.proofs.Each.{each_as, each_one}

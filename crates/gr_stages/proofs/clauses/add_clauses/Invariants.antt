@@ -1,3 +1,4 @@
+-- The invariants of the loops of `clauses::add_clauses`.
 use Rattle.std.proofs.Common.{take, map, ◌∷◌, []}
 use Rattle.std.specs.List.{flat_map, enumerate_from}
 use Rattle.gr_fault.specs.Listing.{AddsEach}

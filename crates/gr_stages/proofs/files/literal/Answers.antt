@@ -1,3 +1,4 @@
+-- The answers to the goals of `files::literal`.
 use Rattle.std.proofs.Common.{ℕ, ◌≡◌, List, subst, MatchOption}
 use Rattle.std.specs.Prelude.{Option, Some, None}
 use Rattle.std.specs.declared.vec.Vec.{Vec}

@@ -1,3 +1,4 @@
+-- The answers to the goals of `imports::add_file`.
 use Rattle.std.proofs.Common.{◌≡◌, List, ◌∙◌, ap, sym, arith, map}
 use Rattle.std.specs.List.{flat_map}
 use Rattle.gr_fault.proofs.Each.{each_as, each_step, each_all}
@@ -9,7 +10,7 @@ use Rattle.gr_parse.specs.FileView.{imports_view, file_view}
 use Rattle.gr_parse.specs.SourceFile.{FileParts, source_of}
 use Rattle.gr_stages.specs.Files.{Ranked, group_items, imports_in}
 use Rattle.gr_stages.specs.States.{state_in}
-use Rattle.gr_stages.specs.Imports.{IsFaultOfImport, PlacedImport, placed_imports}
+use Rattle.gr_stages.specs.Imports.{IsFaultOfImport, PlacedImport}
 use Rattle.gr_stages.proofs.imports.add_file.Goals as goal
 
 abbrev paired : Ranked → ImportTree → PlacedImport

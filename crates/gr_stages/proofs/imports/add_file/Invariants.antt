@@ -1,3 +1,4 @@
+-- The invariants of the loops of `imports::add_file`.
 use Rattle.std.proofs.Common.{take, map}
 use Rattle.std.specs.List.{flat_map}
 use Rattle.gr_fault.specs.Listing.{AddsEach}

@@ -1,3 +1,4 @@
+-- The answers to the goals of `imports::add_import`.
 use Rattle.std.proofs.Common.{ℕ, ◌≡◌, List, ◌∙◌, ap, sym, subst, MatchOption}
 use Rattle.gr_scan.specs.Cuts.{bytes_of}
 use Rattle.gr_scan.specs.CutText.{token_at}

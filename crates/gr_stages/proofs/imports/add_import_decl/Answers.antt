@@ -1,3 +1,4 @@
+-- The answers to the goals of `imports::add_import_decl`.
 use Rattle.std.proofs.Common.{ℕ, ◌≡◌, List, [], ◌∷◌, ◌∙◌, ap, sym, refl, arith, map}
 use Rattle.std.specs.List.{flat_map}
 use Rattle.gr_fault.proofs.Each.{each_as, each_one, each_next, each_all, call_one}

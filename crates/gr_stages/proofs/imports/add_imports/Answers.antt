@@ -1,3 +1,4 @@
+-- The answers to the goals of `imports::add_imports`.
 use Rattle.std.proofs.Common.{arith}
 use Rattle.gr_fault.proofs.Ranked.{next_file, all_files}
 use Rattle.gr_parse.specs.SourceFile.{source_of}

@@ -1,3 +1,4 @@
+-- The answers to the goals of `imports::add_state`.
 use Rattle.std.proofs.Common.{◌≡◌, ◌∙◌, ap, sym}
 use Rattle.std.specs.Prelude.{Some}
 use Rattle.gr_text.specs.declared.fault_kind.FaultKind.{FaultKind}

@@ -1,4 +1,5 @@
-use Rattle.std.proofs.Common.{◌≡◌, [], ◌++◌, ◌∙◌, ap, sym, arith, true, refl}
+-- The answers to the goals of `marks::statement`.
+use Rattle.std.proofs.Common.{[], ◌++◌, ◌∙◌, ap, sym, arith, true, refl}
 use Rattle.std.specs.List.{flat_map}
 use Rattle.gr_fault.proofs.Each.{each_none, each_as, each_step, each_all, call_each, then_each}
 use Rattle.gr_parse.specs.View.{option_view}

@@ -1,3 +1,4 @@
+-- The invariants of the loops of `marks::statement`.
 use Rattle.std.proofs.Common.{take}
 use Rattle.std.specs.List.{flat_map}
 use Rattle.gr_fault.specs.Listing.{AddsEach}

@@ -1,3 +1,4 @@
+-- The answers to the goals of `marks::add_decl`.
 use Rattle.std.proofs.Common.{[], ap, sym, false}
 use Rattle.gr_fault.proofs.Each.{each_none, each_as, call_each}
 use Rattle.gr_parse.specs.FileView.{block_view, func_view, decl_view}

@@ -1,3 +1,4 @@
+-- The answers to the goals of `marks::add_define`.
 use Rattle.std.proofs.Common.{◌≡◌, [], ◌∷◌, refl, IsTrue}
 use Rattle.gr_text.specs.declared.fault_kind.FaultKind.TheVariants as kind
 use Rattle.gr_fault.proofs.Listings.{call_adds, make}

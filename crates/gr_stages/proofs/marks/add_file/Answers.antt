@@ -1,3 +1,4 @@
+-- The answers to the goals of `marks::add_file`.
 use Rattle.std.proofs.Common.{◌≡◌, List, [], ◌∷◌, ◌++◌, ◌∙◌, ap, refl, arith, map}
 use Rattle.std.specs.List.{flat_map}
 use Rattle.gr_fault.proofs.Each.{each_as, each_step, each_all}

@@ -1,4 +1,5 @@
-use Rattle.std.proofs.Common.{◌≡◌, [], ◌∷◌, arith, map}
+-- The answers to the goals of `marks::add_marks`.
+use Rattle.std.proofs.Common.{[], ◌∷◌, arith, map}
 use Rattle.std.specs.List.{enumerate_from}
 use Rattle.gr_fault.proofs.Each.{each_as, each_one}
 use Rattle.gr_fault.proofs.Ranked.{next_file, all_files, flat_map-single}

@@ -1,9 +1,10 @@
-use Rattle.std.proofs.Common.{◌≡◌, [], ◌∷◌, ◌∙◌, ap, sym}
-use Rattle.gr_fault.proofs.Each.{each_none, each_as, call_each, then_each}
-use Rattle.gr_parse.specs.View.{exprs_view, option_view}
-use Rattle.gr_parse.specs.FileView.{simple_view, init_view, for_view}
+-- The answers to the goals of `marks::add_simple`.
+use Rattle.std.proofs.Common.{[], ◌∷◌, ◌∙◌, ap, sym}
+use Rattle.gr_fault.proofs.Each.{each_none, each_as, call_each}
+use Rattle.gr_parse.specs.View.{exprs_view}
+use Rattle.gr_parse.specs.FileView.{simple_view}
 use Rattle.gr_stages.specs.Scoping.{laid_in}
-use Rattle.gr_stages.specs.Marks.{Defines, IsFaultOfMark, simple_marks, optional_marks, init_marks, for_marks}
+use Rattle.gr_stages.specs.Marks.{Defines, IsFaultOfMark, simple_marks}
 use Rattle.gr_stages.proofs.marks.add_simple.Goals as goal
 
 pub returns-in-Define : goal.returns-in-Define

@@ -1,3 +1,4 @@
+-- The answers to the goals of `marks::add_stray`.
 use Rattle.std.proofs.Common.{ap, sym}
 use Rattle.gr_fault.proofs.Each.{call_one}
 use Rattle.gr_stages.specs.Scoping.{laid_in}

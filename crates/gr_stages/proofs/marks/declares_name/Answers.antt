@@ -1,4 +1,5 @@
-use Rattle.std.proofs.Common.{◌≡◌, ◌↔◌, true, false, sym, subst, IsTrue}
+-- The answers to the goals of `marks::declares_name`.
+use Rattle.std.proofs.Common.{◌↔◌, sym, subst, IsTrue}
 use Rattle.gr_parse.specs.View.{expr_view}
 use Rattle.gr_parse.specs.declared.tree.Expr.{Expr}
 use Rattle.gr_stages.specs.Scoping.{laid_in}

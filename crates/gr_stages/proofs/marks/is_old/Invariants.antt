@@ -1,3 +1,4 @@
+-- The invariants of the loops of `marks::is_old`.
 use Rattle.std.proofs.Common.{take}
 use Rattle.gr_parse.specs.View.{exprs_view}
 use Rattle.gr_stages.specs.Scoping.{laid_in}

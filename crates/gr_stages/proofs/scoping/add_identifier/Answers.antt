@@ -1,3 +1,4 @@
+-- The answers to the goals of `scoping::add_identifier`.
 use Rattle.std.proofs.Common.{◌⊎◌}
 use Rattle.gr_fault.proofs.Listings.{then_adds}
 use Rattle.gr_stages.specs.Scoping.{laid_in, IsUndeclared, IsRepeated, IsUnused, IsFaultOfIdentifier}

@@ -1,3 +1,4 @@
+-- The answers to the goals of `scoping::add_repeated`.
 use Rattle.std.proofs.Common.{◌≡◌, ◌∙◌, sym, IsTrue}
 use Rattle.gr_fault.proofs.Listings.{call_adds}
 use Rattle.gr_stages.specs.Scoping.{laid_in, IsRepeated}

@@ -1,3 +1,4 @@
+-- The answers to the goals of `scoping::add_scopes`.
 use Rattle.std.proofs.Common.{◌≡◌, arith, subst, length}
 use Rattle.gr_fault.specs.Listing.{Adds, Below}
 use Rattle.gr_fault.proofs.Each.{below_none, below_next}

@@ -1,3 +1,4 @@
+-- The invariants of the loops of `scoping::add_scopes`.
 use Rattle.gr_fault.specs.Listing.{Adds, Below}
 use Rattle.gr_stages.specs.Scoping.{laid_in, IsFaultOfIdentifier}
 use Rattle.gr_stages.proofs.scoping.add_scopes.Given as goal

@@ -1,3 +1,4 @@
+-- The answers to the goals of `scoping::add_unused`.
 use Rattle.std.proofs.Common.{◌≡◌, ◌∙◌, sym, ap, IsTrue}
 use Rattle.gr_text.specs.declared.fault_kind.FaultKind.TheVariants as kind
 use Rattle.gr_fault.proofs.Listings.{call_adds}

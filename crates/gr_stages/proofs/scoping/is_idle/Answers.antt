@@ -1,3 +1,4 @@
+-- The answers to the goals of `scoping::is_idle`.
 use Rattle.std.proofs.Common.{◌≡◌, ◌↔◌, Bool, true, false, not, IsTrue, refl}
 use Rattle.gr_stages.proofs.scoping.is_idle.Goals as goal
 

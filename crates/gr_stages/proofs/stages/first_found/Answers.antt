@@ -1,3 +1,4 @@
+-- The answers to the goals of `stages::first_found`.
 use Rattle.std.proofs.Common.{◌≡◌, ◌∙◌, [], subst, sym, map}
 use Rattle.gr_fault.specs.Listing.{Adds, Lists}
 use Rattle.gr_fault.proofs.Listings.{is_false}

@@ -1,3 +1,4 @@
+-- The answers to the goals of `stages::has_none`.
 use Rattle.std.proofs.Common.{◌≡◌, ◌↔◌, ◌∙◌, Bool, true, List, [], ◌∷◌, length, nat_eq, sym, refl, subst, eqb→eq, arith, T}
 use Rattle.gr_fault.specs.declared.fault.Fault.{Fault}
 use Rattle.gr_stages.proofs.stages.has_none.Goals as goal

@@ -1,3 +1,4 @@
+-- The answers to the goals of `stages::own_found`.
 use Rattle.std.proofs.Common.{subst, map}
 use Rattle.gr_fault.specs.Listing.{Adds}
 use Rattle.gr_fault.proofs.Stages.{both_listed}

@@ -1,3 +1,4 @@
+-- The answers to the goals of `uses::used_by`.
 use Rattle.std.proofs.Common.{ℕ, MatchOption}
 use Rattle.std.specs.Prelude.{Option, Some, None}
 use Rattle.gr_scope.specs.Bindings.{IsUse, IsBoundTo}

@@ -1,3 +1,4 @@
+-- The answers to the goals of `uses::uses`.
 use Rattle.gr_stages.proofs.Used.{marked}
 use Rattle.std.proofs.Common.{◌≡◌, arith, length, subst}
 use Rattle.gr_stages.specs.Scoping.{laid_in, AreUsed}

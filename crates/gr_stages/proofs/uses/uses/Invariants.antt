@@ -1,3 +1,4 @@
+-- The invariants of the loops of `uses::uses`.
 use Rattle.gr_stages.specs.Scoping.{laid_in, AreUsed}
 use Rattle.gr_stages.proofs.uses.uses.Given as goal
 

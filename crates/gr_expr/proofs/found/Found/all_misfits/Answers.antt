@@ -1,3 +1,4 @@
+-- The answers to the goals of `found::Found::all_misfits`.
 use Rattle.std.proofs.Common.{◌≡◌, ◌+◌, ◌&&◌, Bool, ap, sym, ◌∙◌, drop, map, subst}
 use Rattle.std.proofs.Math.ListN.{drop_of_length-le}
 use Rattle.gr_expr.specs.Judge.{all_misfits}

@@ -1,3 +1,4 @@
+-- The invariants of the loops of `found::Found::all_misfits`.
 use Rattle.std.proofs.Common.{drop, map}
 use Rattle.gr_expr.specs.Judge.{all_misfits}
 use Rattle.gr_expr.specs.WorldView.{world_of}

@@ -1,3 +1,4 @@
+-- The invariants of the loops of `found::Found::misfits`.
 use Rattle.std.proofs.Common.{◌-◌, drop, map, length}
 use Rattle.gr_expr.specs.Judge.{misfits}
 use Rattle.gr_expr.specs.WorldView.{world_of}

@@ -1,3 +1,4 @@
+-- The answers to the goals of `keys::SeenFields::add`.
 use Rattle.std.proofs.Common.{ap, sym, ◌∙◌}
 use Rattle.gr_expr.specs.Judge.{seen_with}
 use Rattle.gr_expr.specs.Found.{seen_of, key_of}

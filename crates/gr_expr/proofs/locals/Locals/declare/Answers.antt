@@ -1,3 +1,4 @@
+-- The answers to the goals of `locals::Locals::declare`.
 use Rattle.std.proofs.Common.{ap, sym, ◌∙◌, Some, None, option_map}
 use Rattle.gr_expr.specs.World.{declared}
 use Rattle.gr_expr.specs.Found.{locals_of}

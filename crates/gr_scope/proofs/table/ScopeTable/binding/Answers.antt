@@ -1,12 +1,8 @@
 -- The answers to the goals of `table::ScopeTable::binding`.
 use Rattle.gr_scope.specs.Table.{names_of}
-use Rattle.std.proofs.Common.{length, ℕ, ◌<◌, ◌↔◌, ap, IsTrue}
+use Rattle.std.proofs.Common.{length, ℕ, ap}
 use Rattle.std.specs.Prelude.{MatchOption}
-use Rattle.gr_scope.specs.Bindings.{Declares, Counts, IsBoundTo}
-use Rattle.gr_scope.specs.Scoped.{BeginsIn}
-use Rattle.gr_scope.specs.Table.{StandsAt, IsFirstOf}
-use Rattle.gr_scope.specs.WellFormed.{WellFormed}
-use Rattle.std.proofs.Common.{refl}
+use Rattle.gr_scope.specs.Bindings.{IsBoundTo}
 use Rattle.gr_scope.proofs.Tables.{of_table, chain_of_table}
 use Rattle.gr_scope.proofs.table.ScopeTable.binding.Goals as goal
 

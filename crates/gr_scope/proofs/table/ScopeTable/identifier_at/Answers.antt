@@ -1,11 +1,7 @@
 -- The answers to the goals of `table::ScopeTable::identifier_at`.
-use Rattle.std.proofs.Common.{ℕ, ◌<◌, ◌↔◌, ap, IsTrue}
+use Rattle.std.proofs.Common.{ℕ, ◌<◌, ap}
 use Rattle.std.specs.Prelude.{MatchOption}
-use Rattle.gr_scope.specs.Bindings.{Declares, Counts, IsBoundTo}
-use Rattle.gr_scope.specs.Scoped.{BeginsIn}
 use Rattle.gr_scope.specs.Table.{StandsAt, IsFirstOf}
-use Rattle.gr_scope.specs.WellFormed.{WellFormed}
-use Rattle.std.proofs.Common.{refl}
 use Rattle.gr_scope.proofs.Tables.{of_table}
 use Rattle.gr_scope.proofs.table.ScopeTable.identifier_at.Goals as goal
 

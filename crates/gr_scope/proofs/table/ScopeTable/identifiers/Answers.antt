@@ -1,9 +1,5 @@
 -- The answers to the goals of `table::ScopeTable::identifiers`.
-use Rattle.std.proofs.Common.{ℕ, ◌<◌, ◌↔◌, ap, IsTrue}
-use Rattle.std.specs.Prelude.{MatchOption}
-use Rattle.gr_scope.specs.Bindings.{Declares, Counts, IsBoundTo}
-use Rattle.gr_scope.specs.Scoped.{BeginsIn}
-use Rattle.gr_scope.specs.Table.{StandsAt, IsFirstOf}
+use Rattle.std.proofs.Common.{ap}
 use Rattle.gr_scope.specs.WellFormed.{WellFormed}
 use Rattle.std.proofs.Common.{refl}
 use Rattle.gr_scope.proofs.Tables.{of_table}

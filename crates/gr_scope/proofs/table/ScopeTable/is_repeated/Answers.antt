@@ -1,12 +1,7 @@
 -- The answers to the goals of `table::ScopeTable::is_repeated`.
 use Rattle.gr_scope.specs.Table.{names_of}
-use Rattle.std.proofs.Common.{length, ℕ, ◌<◌, ◌↔◌, ap, IsTrue}
-use Rattle.std.specs.Prelude.{MatchOption}
-use Rattle.gr_scope.specs.Bindings.{Declares, Counts, IsBoundTo}
-use Rattle.gr_scope.specs.Scoped.{BeginsIn}
-use Rattle.gr_scope.specs.Table.{StandsAt, IsFirstOf}
-use Rattle.gr_scope.specs.WellFormed.{WellFormed}
-use Rattle.std.proofs.Common.{refl}
+use Rattle.std.proofs.Common.{length, ◌↔◌, ap, IsTrue}
+use Rattle.gr_scope.specs.Bindings.{Declares, Counts}
 use Rattle.gr_scope.proofs.Tables.{of_table, chain_of_table}
 use Rattle.gr_scope.proofs.table.ScopeTable.is_repeated.Goals as goal
 
