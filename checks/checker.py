@@ -496,10 +496,10 @@ class Checker(Scopes):
         whole = all(kind is not None for _, kind in values)
         if callee.mode == "broken":
             return BROKEN
-        if callee.mode == "package":
+        if callee.mode in ("package", "results"):
             self.fault(self.place(node.parts[0]), "type")
             return BROKEN
-        if callee.mode in ("value", "results"):
+        if callee.mode == "value":
             if whole:
                 self.fault(node.first, "type")
             return BROKEN
@@ -570,6 +570,8 @@ class Checker(Scopes):
             if element.name is not None:
                 want, fine = self.key(element.name, typ, under, seen)
                 whole &= fine
+                if under is not None and under[0] == "slice":
+                    want = under[1]
             elif fields:
                 unkeyed = True
             elif under is not None and under[0] == "slice":
