@@ -8,8 +8,6 @@ mod importers;
 mod order;
 mod package_list;
 mod search;
-#[cfg(test)]
-mod tests;
 
 pub use file_imports::{FileImport, read_imports};
 pub use import_links::ImportLinks;
