@@ -1,2 +1,2 @@
-//! Statements, function bodies and declarations: the types of locals, and the faults of types.
+//! Definitions of statements, function bodies and declarations: the types of locals, and the faults of types. No code yet.
 #![tactic(auto)]

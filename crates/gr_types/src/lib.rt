@@ -1,2 +1,2 @@
-//! The checker of a package: types, members and all faults.
+//! Definitions for the checker of a package: what its names mean, its members, its interface, all faults. No code yet.
 #![tactic(auto)]
