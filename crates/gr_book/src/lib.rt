@@ -5,8 +5,6 @@ mod book;
 mod event;
 mod laws;
 mod state;
-#[cfg(test)]
-mod tests;
 
 pub use book::Book;
 pub use event::{Event, Reply};

@@ -21,8 +21,6 @@ mod simple;
 mod statements;
 pub mod syntax;
 mod take;
-#[cfg(test)]
-mod tests;
 pub mod tree;
 mod types;
 mod words;

@@ -14,8 +14,6 @@ mod refusal;
 mod scanner;
 mod string_values;
 mod strings;
-#[cfg(test)]
-mod tests;
 mod tokens;
 mod trail;
 mod trivia;

@@ -13,5 +13,3 @@ pub mod simple;
 pub mod source;
 pub mod statements;
 pub mod table;
-#[cfg(test)]
-mod tests;

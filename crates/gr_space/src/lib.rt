@@ -5,8 +5,6 @@ mod file_faults;
 mod fits;
 mod folders;
 mod plan;
-#[cfg(test)]
-mod tests;
 mod view;
 
 pub use file_faults::{FileFault, faults};

@@ -9,8 +9,6 @@ mod scoping;
 mod stages;
 mod states;
 mod table;
-#[cfg(test)]
-mod tests;
 mod uses;
 
 pub use stages::{outer_faults, own_faults};

@@ -9,8 +9,6 @@ mod path;
 mod place;
 mod refusal;
 mod shared_files;
-#[cfg(test)]
-mod tests;
 
 pub use fault_kind::FaultKind;
 pub use file_text::FileText;

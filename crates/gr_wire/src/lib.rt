@@ -12,8 +12,6 @@ mod output;
 mod parse;
 mod refusal;
 mod stream;
-#[cfg(test)]
-mod tests;
 
 pub use exchange::{SessionFault, session};
 pub use input::InputFault;

@@ -1,7 +1,7 @@
 //! Whole sessions with the replies that the protocol gives them.
 use super::{A, joined, opened, writes};
-use crate::memory::transcript;
 use gr_text::Limits;
+use gr_wire::transcript;
 use std::test::Fail;
 
 #[test]

@@ -1,8 +1,7 @@
 //! Programs that are files of the Go subset or are not, with the place of the first fault.
-use crate::parser::{flatten, parse};
-use crate::refusal::ParseRefusal;
-use crate::syntax::Kind;
-use crate::tree::{Decl, Expr, SimpleStmt, Stmt};
+use gr_parse::syntax::Kind;
+use gr_parse::tree::{Decl, Expr, SimpleStmt, Stmt};
+use gr_parse::{ParseRefusal, flatten, parse};
 use gr_scan::{Fault, Pieces, ScanRefusal, scan};
 use gr_text::FileText;
 use std::alloc::Global;

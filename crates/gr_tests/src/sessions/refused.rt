@@ -1,9 +1,8 @@
 //! Sessions in which one allocation is refused: run with each allocation failing in turn.
 use super::opened;
-use crate::exchange::{SessionFault, session};
-use crate::stream::{Reading, Writing};
 use gr_desk::Solo;
 use gr_text::Limits;
+use gr_wire::{Reading, SessionFault, Writing, session};
 use std::alloc::Global;
 use std::test::Fail;
 

@@ -1,8 +1,7 @@
 //! Readers and writers that are slow, and that fail.
 use super::{A, joined, opened};
-use crate::exchange::{SessionFault, session};
-use crate::stream::{Reading, Writing};
 use gr_text::Limits;
+use gr_wire::{Reading, SessionFault, Writing, session};
 use std::alloc::Global;
 use std::io;
 use std::io::{Read, Write};

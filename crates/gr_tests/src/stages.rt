@@ -1,7 +1,7 @@
 //! The faults of small packages in the stages that need no types.
-use crate::{ImportStates, outer_faults};
 use gr_fault::Fault;
 use gr_parse::{FileTree, parse_file};
+use gr_stages::{ImportStates, outer_faults};
 use gr_text::{FaultKind, FileText, Path};
 use std::alloc::Global;
 use std::test::Fail;

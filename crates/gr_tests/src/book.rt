@@ -1,5 +1,5 @@
 //! Histories of a few events.
-use crate::{Book, Event, Reply};
+use gr_book::{Book, Event, Reply};
 use gr_space::{View, plan_del, plan_put};
 use gr_text::{FileText, Limits, Path, Refusal};
 use std::alloc::Global;

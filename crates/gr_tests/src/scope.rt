@@ -1,8 +1,8 @@
 //! What names are bound to in small programs. In a text `@` stands before a use and `^` before the identifier that declares
 //! what the use means; without a `^` it means no declaration of the package.
-use crate::declare::declare;
-use crate::table::ScopeTable;
 use gr_parse::{FileTree, ParseRefusal, parse_file};
+use gr_scope::declare::declare;
+use gr_scope::table::ScopeTable;
 use gr_text::{FileText, Path, Place};
 use std::alloc::Global;
 use std::process::Abort;

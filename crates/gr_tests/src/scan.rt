@@ -1,10 +1,5 @@
 //! Texts with their tokens or their fault, as the Go specification's lexical elements have them.
-use crate::integers::integer_value;
-use crate::keywords::Keyword;
-use crate::operators::Operator;
-use crate::piece::{Class, Piece};
-use crate::refusal::ScanRefusal;
-use crate::scanner::scan;
+use gr_scan::{Class, Keyword, Operator, Piece, ScanRefusal, integer_value, scan};
 use gr_text::{FileText, Span};
 use std::alloc::Global;
 use std::process::Abort;

@@ -5,10 +5,10 @@ mod hostile;
 mod refused;
 mod rows;
 
-use crate::memory::transcript;
 use gr_book::Book;
 use gr_desk::Solo;
 use gr_text::Limits;
+use gr_wire::transcript;
 use std::alloc::{AllocError, Global};
 use std::test::Fail;
 

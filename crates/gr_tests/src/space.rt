@@ -1,5 +1,5 @@
 //! Plans of one file, and each limit.
-use crate::{Change, ChangeKind, Snapshot, View, plan_del, plan_put};
+use gr_space::{Change, ChangeKind, Snapshot, View, plan_del, plan_put};
 use gr_text::{FileText, Files, Limits, Path, Refusal, SharedFiles};
 use std::alloc::Global;
 use std::test::Fail;

@@ -1,5 +1,5 @@
 //! What the calls answer, each once.
-use crate::{FaultKind, FileText, Files, Path, Refusal, SharedFiles};
+use gr_text::{FaultKind, FileText, Files, Path, Refusal, SharedFiles};
 use std::alloc::Global;
 use std::test::Fail;
 
