@@ -22,7 +22,12 @@ use std::alloc::Global;
 
 /// An expression. In the header of an `if` or a `for`, outside any brackets, no literal begins with a name.
 #[cycle(expression)]
-pub fn expression(alloc: Global, tokens: &[Token], depth: u32, header: bool) -> Parsed<'_, Expr>
+pub(crate) fn expression(
+    alloc: Global,
+    tokens: &[Token],
+    depth: u32,
+    header: bool,
+) -> Parsed<'_, Expr>
     ensures exact { Parses (A (Expression header) ∷ []) (λ x. expr_spelled x.0) (λ x. x.1.now) depth tokens.now result }
     ensures grouped { IfOk result (λ x. IsExprIn header (expr_view x.0)) }
 {

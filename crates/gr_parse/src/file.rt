@@ -19,7 +19,7 @@ use crate::tree::{Decl, File, FuncDecl, ImportDecl, ImportSpec, TypeSpec, VarSpe
 use std::alloc::Global;
 
 /// A whole file.
-pub fn file(alloc: Global, tokens: &[Token], depth: u32) -> Parsed<'_, File>
+pub(crate) fn file(alloc: Global, tokens: &[Token], depth: u32) -> Parsed<'_, File>
     ensures exact { Parses (A grammar.File ∷ []) (λ x. file_spelled x.0) (λ x. x.1.now) depth tokens.now result }
     ensures formed { IfOk result (λ x. IsFile (file_view x.0)) }
 {

@@ -20,7 +20,7 @@ use crate::words::{begins_type, ident};
 use std::alloc::Global;
 
 /// The receiver of a method, where there is one. A function's name comes behind it.
-pub fn receiver_if(tokens: &[Token], depth: u32) -> Parsed<'_, Option<Receiver>>
+pub(crate) fn receiver_if(tokens: &[Token], depth: u32) -> Parsed<'_, Option<Receiver>>
     ensures { LeadsTo (A FuncHead ∷ []) (One (is Kind.Name) ∷ A Signature ∷ []) (λ x. tokens_if receiver_tokens (option_view receiver_view x.0)) (λ x. x.1.now) depth tokens.now result }
 {
     if !at(tokens, Kind::LeftParen) {
@@ -52,7 +52,11 @@ fn receiver(tokens: &[Token], depth: u32) -> Parsed<'_, Receiver>
 }
 
 /// The parameters of a function, and the closing parenthesis.
-pub fn params(alloc: Global, tokens: &[Token], depth: u32) -> Parsed<'_, (Vec<Item<Param>>, usize)>
+pub(crate) fn params(
+    alloc: Global,
+    tokens: &[Token],
+    depth: u32,
+) -> Parsed<'_, (Vec<Item<Param>>, usize)>
     ensures exact { Parses (A Params ∷ []) (λ x. items_spelled Kind.Comma param_spelled x.0.0.items ++ (sign Kind.RightParen x.0.1 ∷ [])) (λ x. x.1.now) depth tokens.now result }
     ensures formed { IfOk result (λ x. IsOpenList IsParam (list_view param_view x.0.0.items)) }
 {
@@ -81,7 +85,7 @@ fn param(alloc: Global, tokens: &[Token], depth: u32) -> Parsed<'_, Param>
 }
 
 /// The results of a function.
-pub fn results(alloc: Global, tokens: &[Token], depth: u32) -> Parsed<'_, Results>
+pub(crate) fn results(alloc: Global, tokens: &[Token], depth: u32) -> Parsed<'_, Results>
     ensures exact { Parses (A Result ∷ []) (λ x. results_spelled x.0) (λ x. x.1.now) depth tokens.now result }
     ensures formed { IfOk result (λ x. IsResult (results_view x.0)) }
 {

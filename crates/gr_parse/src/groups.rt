@@ -30,7 +30,7 @@ pub trait Spec: Drop {
 }
 
 /// A group.
-pub fn group<S: Spec>(alloc: Global, tokens: &[Token], depth: u32) -> Parsed<'_, Group<S>>
+pub(crate) fn group<S: Spec>(alloc: Global, tokens: &[Token], depth: u32) -> Parsed<'_, Group<S>>
     ensures exact { Parses (A (GroupOf S.item) ∷ []) (λ x. group_spelled S.spelled x.0) (λ x. x.1.now) depth tokens.now result }
     ensures formed { IfOk result (λ x. IsGroup S.is_formed (group_view (λ y. y) x.0)) }
 {

@@ -18,7 +18,11 @@ use crate::words::Setting;
 use std::alloc::Global;
 
 /// The condition of an `if`, and what stands before it.
-pub fn if_header(alloc: Global, tokens: &[Token], depth: u32) -> Parsed<'_, (Option<IfInit>, Expr)>
+pub(crate) fn if_header(
+    alloc: Global,
+    tokens: &[Token],
+    depth: u32,
+) -> Parsed<'_, (Option<IfInit>, Expr)>
     ensures exact { LeadsTo (A IfHead ∷ []) (A IfBody ∷ []) (λ x. tokens_if init_tokens (option_view init_view x.0.0) ++ expr_spelled x.0.1) (λ x. x.1.now) depth tokens.now result }
     ensures formed { IfOk result (λ x. Perhaps IsInit (option_view init_view x.0.0) × IsExprIn true (expr_view x.0.1)) }
 {
@@ -46,7 +50,7 @@ pub fn if_header(alloc: Global, tokens: &[Token], depth: u32) -> Parsed<'_, (Opt
 }
 
 /// What stands between `for` and its block.
-pub fn for_header(alloc: Global, tokens: &[Token], depth: u32) -> Parsed<'_, ForHeader>
+pub(crate) fn for_header(alloc: Global, tokens: &[Token], depth: u32) -> Parsed<'_, ForHeader>
     ensures exact { LeadsTo (A ForHead ∷ []) (A grammar.Block ∷ []) (λ x. for_spelled x.0) (λ x. x.1.now) depth tokens.now result }
     ensures formed { IfOk result (λ x. IsFor (for_view x.0)) }
 {

@@ -105,7 +105,7 @@ fn kind_at(pieces: &Pieces, place: usize) -> Kind
 }
 
 /// The file's tokens by their kinds.
-pub fn kinds_of(alloc: Global, pieces: &Pieces) -> Result<Vec<Token>, AllocError>
+pub(crate) fn kinds_of(alloc: Global, pieces: &Pieces) -> Result<Vec<Token>, AllocError>
     ensures { IfOk result (λ tokens. tokens.items ≡ kinds_of pieces.now) }
 {
     let mut tokens = Vec::new(alloc);
@@ -118,7 +118,7 @@ pub fn kinds_of(alloc: Global, pieces: &Pieces) -> Result<Vec<Token>, AllocError
 }
 
 /// Where the last tokens of a file begin, by how many they are: at the file's end where they are none.
-pub fn place_of(pieces: &Pieces, left: usize) -> usize
+pub(crate) fn place_of(pieces: &Pieces, left: usize) -> usize
     ensures { result ≡ place_of pieces.now left }
 {
     let tokens = pieces.tokens();

@@ -29,28 +29,28 @@ fn names_literal(tokens: &[Token]) -> bool
 }
 
 /// Whether a composite literal may begin here with the name that comes next. In a header none may.
-pub fn literal_is_named(tokens: &[Token], header: bool) -> bool
+pub(crate) fn literal_is_named(tokens: &[Token], header: bool) -> bool
     ensures { result ≡ cond header false (names_literal tokens.now) }
 {
     !header && names_literal(tokens)
 }
 
 /// Whether the type of a composite literal may begin here with the name that comes next. In a header none may.
-pub fn type_is_named(tokens: &[Token], header: bool) -> bool
+pub(crate) fn type_is_named(tokens: &[Token], header: bool) -> bool
     ensures { result ≡ cond header false (at (is Kind.Name) tokens.now) }
 {
     !header && at(tokens, Kind::Name)
 }
 
 /// Whether the key of an element comes next.
-pub fn begins_key(tokens: &[Token]) -> bool
+pub(crate) fn begins_key(tokens: &[Token]) -> bool
     ensures { result ≡ begins_key tokens.now }
 {
     at(tokens, Kind::Name) && at(behind(tokens), Kind::Colon)
 }
 
 /// Whether a selector, index or call comes next.
-pub fn begins_link(tokens: &[Token]) -> bool
+pub(crate) fn begins_link(tokens: &[Token]) -> bool
     ensures begins { result ≡ true → at (is Kind.Dot) tokens.now ≡ false → at (is Kind.LeftBracket) tokens.now ≡ false → at (is Kind.LeftParen) tokens.now ≡ true }
     ensures dot { result ≡ false → at (is Kind.Dot) tokens.now ≡ false }
     ensures bracket { result ≡ false → at (is Kind.LeftBracket) tokens.now ≡ false }
@@ -60,7 +60,7 @@ pub fn begins_link(tokens: &[Token]) -> bool
 }
 
 /// Whether an expression may begin with the next token.
-pub fn begins_expression(tokens: &[Token]) -> bool
+pub(crate) fn begins_expression(tokens: &[Token]) -> bool
     ensures { result ≡ at begins_expression tokens.now }
 {
     at(tokens, Kind::Name)

@@ -16,7 +16,7 @@ use crate::words::{basic_lit, ident};
 use std::alloc::Global;
 
 /// Names with commas between them.
-pub fn names(alloc: Global, tokens: &[Token], depth: u32) -> Parsed<'_, Vec<Item<usize>>>
+pub(crate) fn names(alloc: Global, tokens: &[Token], depth: u32) -> Parsed<'_, Vec<Item<usize>>>
     ensures exact { Parses (One (is Kind.Name) ∷ A MoreNames ∷ []) (λ x. names_spelled x.0.items) (λ x. x.1.now) depth tokens.now result }
     ensures formed { IfOk result (λ x. IsList Any (list_view same_place x.0.items)) }
 {
@@ -34,7 +34,7 @@ pub fn names(alloc: Global, tokens: &[Token], depth: u32) -> Parsed<'_, Vec<Item
 }
 
 /// Identifiers with commas between them.
-pub fn idents(alloc: Global, tokens: &[Token], depth: u32) -> Parsed<'_, Vec<Item<Ident>>>
+pub(crate) fn idents(alloc: Global, tokens: &[Token], depth: u32) -> Parsed<'_, Vec<Item<Ident>>>
     ensures exact { Parses (One is_ident ∷ A MoreIdents ∷ []) (λ x. idents_spelled x.0.items) (λ x. x.1.now) depth tokens.now result }
     ensures formed { IfOk result (λ x. IsList Any (list_view ident_view x.0.items)) }
 {
@@ -52,7 +52,11 @@ pub fn idents(alloc: Global, tokens: &[Token], depth: u32) -> Parsed<'_, Vec<Ite
 }
 
 /// Literals of one token, with commas between them.
-pub fn literals(alloc: Global, tokens: &[Token], depth: u32) -> Parsed<'_, Vec<Item<BasicLit>>>
+pub(crate) fn literals(
+    alloc: Global,
+    tokens: &[Token],
+    depth: u32,
+) -> Parsed<'_, Vec<Item<BasicLit>>>
     ensures exact { Parses (One is_literal ∷ A MoreLiterals ∷ []) (λ x. basics_spelled x.0.items) (λ x. x.1.now) depth tokens.now result }
     ensures formed { IfOk result (λ x. IsList Any (list_view basic_view x.0.items)) }
 {

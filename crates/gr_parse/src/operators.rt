@@ -16,7 +16,7 @@ use crate::take::{LIMIT, Parsed, binary_op, misplaced, next, prefix_op};
 use crate::tree::Expr;
 
 /// How strongly an operator binds, from 1 to 5.
-pub fn strength_of(op: BinaryOp) -> u32
+pub(crate) fn strength_of(op: BinaryOp) -> u32
     ensures { result ≡ strength op }
 {
     match op {
@@ -34,7 +34,7 @@ pub fn strength_of(op: BinaryOp) -> u32
 }
 
 /// How strongly the binary operator binds that comes next; 0 where none does.
-pub fn strength_at(tokens: &[Token]) -> u32
+pub(crate) fn strength_at(tokens: &[Token]) -> u32
     ensures { result ≡ strength_at tokens.now }
 {
     match next(tokens) {
@@ -47,7 +47,7 @@ pub fn strength_at(tokens: &[Token]) -> u32
 }
 
 /// A binary operator and its place.
-pub fn binary_operator(tokens: &[Token], depth: u32) -> Parsed<'_, (BinaryOp, usize)>
+pub(crate) fn binary_operator(tokens: &[Token], depth: u32) -> Parsed<'_, (BinaryOp, usize)>
     ensures { Parses (One is_binary ∷ []) (λ x. sign (binary_kind x.0.0) x.0.1 ∷ []) (λ x. x.1.now) depth tokens.now result }
 {
     let Some((first, rest)) = next(tokens) else {
@@ -60,7 +60,7 @@ pub fn binary_operator(tokens: &[Token], depth: u32) -> Parsed<'_, (BinaryOp, us
 }
 
 /// Whether a prefix operator comes next.
-pub fn at_prefix(tokens: &[Token]) -> bool
+pub(crate) fn at_prefix(tokens: &[Token]) -> bool
     ensures { result ≡ at is_prefix tokens.now }
 {
     match next(tokens) {
@@ -70,7 +70,7 @@ pub fn at_prefix(tokens: &[Token]) -> bool
 }
 
 /// A prefix operator, which opens a level: the operator, its place, and the levels that are then open.
-pub fn open_prefix(tokens: &[Token], depth: u32) -> Parsed<'_, (PrefixOp, usize, u32)>
+pub(crate) fn open_prefix(tokens: &[Token], depth: u32) -> Parsed<'_, (PrefixOp, usize, u32)>
     ensures { OpensAs is_prefix (λ x. sign (prefix_kind x.0.0) x.0.1 ∷ []) (λ x. x.0.2) (λ x. x.1.now) depth tokens.now result }
 {
     let Some((first, rest)) = next(tokens) else {
@@ -105,7 +105,7 @@ fn is_leaf(kind: Kind) -> bool
 }
 
 /// Whether an operand of one token comes next, other than a name.
-pub fn at_leaf(tokens: &[Token]) -> bool
+pub(crate) fn at_leaf(tokens: &[Token]) -> bool
     ensures { result ≡ at is_leaf tokens.now }
 {
     match next(tokens) {
@@ -115,7 +115,7 @@ pub fn at_leaf(tokens: &[Token]) -> bool
 }
 
 /// A literal of one token, or `_`.
-pub fn leaf(tokens: &[Token], depth: u32) -> Parsed<'_, Expr>
+pub(crate) fn leaf(tokens: &[Token], depth: u32) -> Parsed<'_, Expr>
     ensures exact { Parses (One is_leaf ∷ []) (λ x. expr_spelled x.0) (λ x. x.1.now) depth tokens.now result }
     ensures grouped { IfOk result (λ x. (h : Bool) → IsOperand h (expr_view x.0)) }
 {

@@ -4,7 +4,7 @@ ghost use Rattle.std.specs.Prelude.{◌≡◌, ◌+◌, ◌∷◌, ◌++◌, [],
 use std::alloc::AllocError;
 
 /// Puts an item at the end of a list. The first item takes room for itself alone.
-pub fn push<T: Drop>(list: &mut Vec<T>, item: T) -> Result<(), AllocError>
+pub(crate) fn push<T: Drop>(list: &mut Vec<T>, item: T) -> Result<(), AllocError>
     ensures items { OnOk result (list.new.items ≡ list.old.items ++ item ∷ []) }
     ensures len { OnOk result (vec_len list.new ≡ vec_len list.old + 1) }
 {

@@ -19,7 +19,12 @@ use crate::words::{SetOp, Setting, at_set, at_step, at_update, in_header, set, s
 use std::alloc::{AllocError, Global};
 
 /// An expression, as it may be where a statement stands.
-pub fn expr(alloc: Global, tokens: &[Token], depth: u32, setting: Setting) -> Parsed<'_, Expr>
+pub(crate) fn expr(
+    alloc: Global,
+    tokens: &[Token],
+    depth: u32,
+    setting: Setting,
+) -> Parsed<'_, Expr>
     ensures exact { Parses (A (Expression (in_head (setting_of setting))) ∷ []) (λ x. expr_spelled x.0) (λ x. x.1.now) depth tokens.now result }
     ensures formed { IfOk result (λ x. IsExprIn (in_head (setting_of setting)) (expr_view x.0)) }
 {
@@ -52,7 +57,7 @@ fn more_exprs(
 }
 
 /// Expressions with commas between them.
-pub fn exprs(
+pub(crate) fn exprs(
     alloc: Global,
     tokens: &[Token],
     depth: u32,
@@ -75,7 +80,7 @@ fn first_expr(alloc: Global, value: Expr, comma: Option<usize>) -> Result<Vec<Ex
 }
 
 /// A simple statement.
-pub fn simple(
+pub(crate) fn simple(
     alloc: Global,
     tokens: &[Token],
     depth: u32,
@@ -89,7 +94,7 @@ pub fn simple(
 }
 
 /// A simple statement, of which the first expression has been read.
-pub fn simple_rest(
+pub(crate) fn simple_rest(
     alloc: Global,
     first: Expr,
     tokens: &[Token],

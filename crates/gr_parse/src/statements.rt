@@ -24,7 +24,7 @@ use std::alloc::Global;
 
 /// A brace block.
 #[cycle(statement)]
-pub fn block(alloc: Global, tokens: &[Token], depth: u32) -> Parsed<'_, Block>
+pub(crate) fn block(alloc: Global, tokens: &[Token], depth: u32) -> Parsed<'_, Block>
     ensures exact { Parses (A grammar.Block ∷ []) (λ x. block_spelled x.0) (λ x. x.1.now) depth tokens.now result }
     ensures formed { IfOk result (λ x. IsBlock (block_view x.0)) }
 {

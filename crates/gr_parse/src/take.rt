@@ -14,7 +14,7 @@ pub const LIMIT: u32 = 200;
 pub type Parsed<'a, T> = Result<(T, &'a [Token]), ParseError>;
 
 /// The first token and those after it.
-pub fn next(tokens: &[Token]) -> Option<(Token, &[Token])>
+pub(crate) fn next(tokens: &[Token]) -> Option<(Token, &[Token])>
     ensures { MatchOption result (tokens.now ≡ []) (λ x. tokens.now ≡ x.0 ∷ x.1.now) }
 {
     let (first, rest) = tokens.split_first()?;
@@ -22,7 +22,7 @@ pub fn next(tokens: &[Token]) -> Option<(Token, &[Token])>
 }
 
 /// The syntax fault at the first of the tokens.
-pub fn misplaced(tokens: &[Token]) -> ParseError
+pub(crate) fn misplaced(tokens: &[Token]) -> ParseError
     ensures { result ≡ ParseError.Fault FaultKind.Syntax (length tokens.now) }
 {
     ParseError::Fault(FaultKind::Syntax, tokens.len())
@@ -36,14 +36,14 @@ fn number(kind: Kind) -> u8
 }
 
 /// Whether a token of this kind is one of that kind.
-pub fn is_kind(kind: Kind, wanted: Kind) -> bool
+pub(crate) fn is_kind(kind: Kind, wanted: Kind) -> bool
     ensures { result ≡ is wanted kind }
 {
     number(wanted) == number(kind)
 }
 
 /// One token of that kind, of which the place is kept.
-pub fn expect(tokens: &[Token], kind: Kind, depth: u32) -> Parsed<'_, usize>
+pub(crate) fn expect(tokens: &[Token], kind: Kind, depth: u32) -> Parsed<'_, usize>
     ensures { Parses (One (is kind) ∷ []) (λ x. sign kind x.0 ∷ []) (λ x. x.1.now) depth tokens.now result }
 {
     match next(tokens) {
@@ -53,7 +53,7 @@ pub fn expect(tokens: &[Token], kind: Kind, depth: u32) -> Parsed<'_, usize>
 }
 
 /// Whether the first token is of that kind.
-pub fn at(tokens: &[Token], kind: Kind) -> bool
+pub(crate) fn at(tokens: &[Token], kind: Kind) -> bool
     ensures { result ≡ at (is kind) tokens.now }
 {
     match next(tokens) {
@@ -63,7 +63,7 @@ pub fn at(tokens: &[Token], kind: Kind) -> bool
 }
 
 /// One token of that kind, which opens a level: its place, and the levels that are then open.
-pub fn open(tokens: &[Token], kind: Kind, depth: u32) -> Parsed<'_, (usize, u32)>
+pub(crate) fn open(tokens: &[Token], kind: Kind, depth: u32) -> Parsed<'_, (usize, u32)>
     ensures { Opens kind (λ x. x.0.0) (λ x. x.0.1) (λ x. x.1.now) depth tokens.now result }
 {
     let Some((first, rest)) = next(tokens) else {
@@ -79,7 +79,7 @@ pub fn open(tokens: &[Token], kind: Kind, depth: u32) -> Parsed<'_, (usize, u32)
 }
 
 /// The binary operator that a token of this kind is.
-pub fn binary_op(kind: Kind) -> Option<BinaryOp>
+pub(crate) fn binary_op(kind: Kind) -> Option<BinaryOp>
     ensures { result ≡ binary_of kind }
 {
     Some(match kind {
@@ -101,7 +101,7 @@ pub fn binary_op(kind: Kind) -> Option<BinaryOp>
 }
 
 /// The prefix operator that a token of this kind is.
-pub fn prefix_op(kind: Kind) -> Option<PrefixOp>
+pub(crate) fn prefix_op(kind: Kind) -> Option<PrefixOp>
     ensures { result ≡ prefix_of kind }
 {
     Some(match kind {
@@ -114,7 +114,7 @@ pub fn prefix_op(kind: Kind) -> Option<PrefixOp>
 }
 
 /// A separator of that kind, where one comes next, and the tokens behind it.
-pub fn separator(tokens: &[Token], kind: Kind) -> (Option<usize>, &[Token])
+pub(crate) fn separator(tokens: &[Token], kind: Kind) -> (Option<usize>, &[Token])
     ensures { Separates kind result.0 tokens.now result.1.now }
 {
     match next(tokens) {
@@ -124,7 +124,7 @@ pub fn separator(tokens: &[Token], kind: Kind) -> (Option<usize>, &[Token])
 }
 
 /// Whether a list in brackets has another item: not where its last item had no separator, nor at its closing bracket.
-pub fn goes_on(more: bool, tokens: &[Token], closer: Kind) -> bool
+pub(crate) fn goes_on(more: bool, tokens: &[Token], closer: Kind) -> bool
     ensures ends { result ≡ false → more ≡ true → at (is closer) tokens.now ≡ true }
     ensures separated { result ≡ true → more ≡ true }
     ensures open { result ≡ true → at (is closer) tokens.now ≡ false }

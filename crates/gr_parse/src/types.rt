@@ -12,7 +12,7 @@ use crate::tree::TypeExpr;
 use std::alloc::Global;
 
 /// The name of a type, perhaps of an imported package.
-pub fn type_name(tokens: &[Token], depth: u32) -> Parsed<'_, TypeExpr>
+pub(crate) fn type_name(tokens: &[Token], depth: u32) -> Parsed<'_, TypeExpr>
     ensures exact { Parses (One (is Kind.Name) ∷ A AfterTypeName ∷ []) (λ x. type_spelled x.0) (λ x. x.1.now) depth tokens.now result }
     ensures named { IfOk result (λ x. is_literal_type (type_view x.0) ≡ true) }
 {
@@ -28,7 +28,7 @@ pub fn type_name(tokens: &[Token], depth: u32) -> Parsed<'_, TypeExpr>
 
 /// A type.
 #[cycle(types)]
-pub fn type_expr(alloc: Global, tokens: &[Token], depth: u32) -> Parsed<'_, TypeExpr>
+pub(crate) fn type_expr(alloc: Global, tokens: &[Token], depth: u32) -> Parsed<'_, TypeExpr>
     ensures { Parses (A TypeUse ∷ []) (λ x. type_spelled x.0) (λ x. x.1.now) depth tokens.now result }
 {
     if at(tokens, Kind::Star) {
@@ -45,7 +45,7 @@ pub fn type_expr(alloc: Global, tokens: &[Token], depth: u32) -> Parsed<'_, Type
 
 /// A slice type.
 #[cycle(types)]
-pub fn slice_type(alloc: Global, tokens: &[Token], depth: u32) -> Parsed<'_, TypeExpr>
+pub(crate) fn slice_type(alloc: Global, tokens: &[Token], depth: u32) -> Parsed<'_, TypeExpr>
     ensures exact { Parses (slice_type []) (λ x. type_spelled x.0) (λ x. x.1.now) depth tokens.now result }
     ensures slice { IfOk result (λ x. is_slice (type_view x.0) ≡ true) }
 {

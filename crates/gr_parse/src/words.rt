@@ -27,7 +27,7 @@ pub enum SetOp {
 }
 
 /// Whether a statement stands in the header of an `if` or a `for`.
-pub fn in_header(setting: Setting) -> bool
+pub(crate) fn in_header(setting: Setting) -> bool
     ensures { result ≡ in_head (setting_of setting) }
 {
     match setting {
@@ -48,7 +48,7 @@ fn ident_of(kind: Kind, place: usize) -> Option<Ident>
 }
 
 /// An identifier.
-pub fn ident(tokens: &[Token], depth: u32) -> Parsed<'_, Ident>
+pub(crate) fn ident(tokens: &[Token], depth: u32) -> Parsed<'_, Ident>
     ensures { Parses (One is_ident ∷ []) (λ x. ident_spelled x.0) (λ x. x.1.now) depth tokens.now result }
 {
     let Some((first, rest)) = next(tokens) else {
@@ -72,7 +72,7 @@ fn basic_of(kind: Kind, place: usize) -> Option<BasicLit>
 }
 
 /// A literal of one token.
-pub fn basic_lit(tokens: &[Token], depth: u32) -> Parsed<'_, BasicLit>
+pub(crate) fn basic_lit(tokens: &[Token], depth: u32) -> Parsed<'_, BasicLit>
     ensures { Parses (One is_literal ∷ []) (λ x. basic_spelled x.0) (λ x. x.1.now) depth tokens.now result }
 {
     let Some((first, rest)) = next(tokens) else {
@@ -96,7 +96,7 @@ fn step_op(kind: Kind) -> Option<StepOp>
 }
 
 /// A `++` or `--`, where one comes next, its place, and the tokens behind it.
-pub fn step(tokens: &[Token], depth: u32) -> Parsed<'_, (StepOp, usize)>
+pub(crate) fn step(tokens: &[Token], depth: u32) -> Parsed<'_, (StepOp, usize)>
     ensures { Parses (One is_step ∷ []) (λ x. sign (step_kind x.0.0) x.0.1 ∷ []) (λ x. x.1.now) depth tokens.now result }
 {
     let Some((first, rest)) = next(tokens) else {
@@ -109,7 +109,7 @@ pub fn step(tokens: &[Token], depth: u32) -> Parsed<'_, (StepOp, usize)>
 }
 
 /// Whether `++` or `--` comes next.
-pub fn at_step(tokens: &[Token]) -> bool
+pub(crate) fn at_step(tokens: &[Token]) -> bool
     ensures { result ≡ at is_step tokens.now }
 {
     match next(tokens) {
@@ -133,7 +133,7 @@ fn update_op(kind: Kind) -> Option<UpdateOp>
 }
 
 /// A `+=` or its kin, and its place.
-pub fn update(tokens: &[Token], depth: u32) -> Parsed<'_, (UpdateOp, usize)>
+pub(crate) fn update(tokens: &[Token], depth: u32) -> Parsed<'_, (UpdateOp, usize)>
     ensures { Parses (One is_update ∷ []) (λ x. sign (update_kind x.0.0) x.0.1 ∷ []) (λ x. x.1.now) depth tokens.now result }
 {
     let Some((first, rest)) = next(tokens) else {
@@ -146,7 +146,7 @@ pub fn update(tokens: &[Token], depth: u32) -> Parsed<'_, (UpdateOp, usize)>
 }
 
 /// Whether `+=` or its kin comes next.
-pub fn at_update(tokens: &[Token]) -> bool
+pub(crate) fn at_update(tokens: &[Token]) -> bool
     ensures { result ≡ at is_update tokens.now }
 {
     match next(tokens) {
@@ -173,7 +173,7 @@ fn set_op(kind: Kind, setting: Setting) -> Option<SetOp>
 }
 
 /// A `=` or `:=`, and its place.
-pub fn set(tokens: &[Token], depth: u32, setting: Setting) -> Parsed<'_, (SetOp, usize)>
+pub(crate) fn set(tokens: &[Token], depth: u32, setting: Setting) -> Parsed<'_, (SetOp, usize)>
     ensures allowed { IfOk result (λ x. IsAllowed setting x.0.0) }
     ensures exact { Parses (One (sets (setting_of setting)) ∷ []) (λ x. sign (set_kind x.0.0) x.0.1 ∷ []) (λ x. x.1.now) depth tokens.now result }
 {
@@ -187,7 +187,7 @@ pub fn set(tokens: &[Token], depth: u32, setting: Setting) -> Parsed<'_, (SetOp,
 }
 
 /// Whether `=` or `:=` comes next.
-pub fn at_set(tokens: &[Token], setting: Setting) -> bool
+pub(crate) fn at_set(tokens: &[Token], setting: Setting) -> bool
     ensures { result ≡ at (sets (setting_of setting)) tokens.now }
 {
     match next(tokens) {
@@ -204,7 +204,7 @@ fn is_type_start(kind: Kind) -> bool
 }
 
 /// Whether a type may begin with the next token.
-pub fn begins_type(tokens: &[Token]) -> bool
+pub(crate) fn begins_type(tokens: &[Token]) -> bool
     ensures { result ≡ at begins_type tokens.now }
 {
     match next(tokens) {

@@ -11,7 +11,7 @@ pub struct Tie<W: Write + Drop> {
 }
 
 impl<W: Write + Drop> Tie<W> {
-    pub fn new(output: BufWriter<W>) -> Tie<W> {
+    pub(crate) fn new(output: BufWriter<W>) -> Tie<W> {
         Tie {
             output: RefCell::new(output),
             has_failed: Cell::new(false),
@@ -19,7 +19,7 @@ impl<W: Write + Drop> Tie<W> {
     }
 
     /// Sends what is not yet sent.
-    pub fn flush(&self) -> io::Result<()> {
+    pub(crate) fn flush(&self) -> io::Result<()> {
         let sent = match self.output.try_borrow_mut() {
             Ok(mut output) => output.flush(),
             Err(_) => Err(io::Error::from(ErrorKind::Other)),
@@ -31,7 +31,7 @@ impl<W: Write + Drop> Tie<W> {
     }
 
     /// Whether what was written could not be sent.
-    pub fn has_failed(&self) -> bool {
+    pub(crate) fn has_failed(&self) -> bool {
         self.has_failed.get()
     }
 }
@@ -44,7 +44,7 @@ pub struct TiedReader<'a, R, W: Write + Drop> {
 }
 
 impl<'a, R: Read, W: Write + Drop> TiedReader<'a, R, W> {
-    pub fn new(reader: R, tie: &'a Tie<W>) -> TiedReader<'a, R, W> {
+    pub(crate) fn new(reader: R, tie: &'a Tie<W>) -> TiedReader<'a, R, W> {
         TiedReader { reader, tie }
     }
 }
@@ -63,7 +63,7 @@ pub struct TiedWriter<'a, W: Write + Drop> {
 }
 
 impl<'a, W: Write + Drop> TiedWriter<'a, W> {
-    pub fn new(tie: &'a Tie<W>) -> TiedWriter<'a, W> {
+    pub(crate) fn new(tie: &'a Tie<W>) -> TiedWriter<'a, W> {
         TiedWriter { tie }
     }
 }

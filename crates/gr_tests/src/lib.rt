@@ -5,6 +5,8 @@
 #[cfg(test)]
 mod book;
 #[cfg(test)]
+mod expressions;
+#[cfg(test)]
 mod parse;
 #[cfg(test)]
 mod scan;

@@ -13,13 +13,13 @@ use std::alloc::{AllocError, Global};
 use std::test::Fail;
 
 /// A file of 58 bytes.
-pub const A: &str = "package a\n\nvar x int\n\nfunc F(y int) int {\n\treturn x + y\n}\n";
+const A: &str = "package a\n\nvar x int\n\nfunc F(y int) int {\n\treturn x + y\n}\n";
 
-pub fn opened(alloc: Global, limits: Limits) -> Result<Solo, AllocError> {
+fn opened(alloc: Global, limits: Limits) -> Result<Solo, AllocError> {
     Ok(Solo::new(Book::new(alloc, limits)?))
 }
 
-pub fn joined(alloc: Global, parts: &[&str]) -> Result<Vec<u8>, AllocError> {
+fn joined(alloc: Global, parts: &[&str]) -> Result<Vec<u8>, AllocError> {
     let mut bytes = Vec::new(alloc);
     for part in parts {
         bytes.extend_from_slice(part.as_bytes())?;
@@ -28,13 +28,13 @@ pub fn joined(alloc: Global, parts: &[&str]) -> Result<Vec<u8>, AllocError> {
 }
 
 /// What a session of its own writes.
-pub fn written(alloc: Global, limits: Limits, input: &[u8]) -> Result<Vec<u8>, Fail> {
+fn written(alloc: Global, limits: Limits, input: &[u8]) -> Result<Vec<u8>, Fail> {
     let mut solo = opened(alloc, limits)?;
     Ok(transcript(alloc, input, &mut solo, limits)?)
 }
 
 /// Whether a session of its own writes just this.
-pub fn writes(
+fn writes(
     alloc: Global,
     limits: Limits,
     input: &[&str],
