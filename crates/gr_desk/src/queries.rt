@@ -61,7 +61,7 @@ fn place_lines(alloc: Global, places: &[Place]) -> Result<Vec<u8>, AllocError>
     let mut lines = Vec::new(alloc);
     for place in places {
         push_place(&mut lines, place)?;
-        lines.extend_from_slice(b"\n")?;
+        lines.push(b'\n')?;
     }
     Ok(lines)
 }
