@@ -64,11 +64,11 @@ place_word_no_space path offset h k =
     (no_space_append path (58 ∷ 35 ∷ decimal offset) h (not_32 58 (omega arith), (not_32 35 (omega arith), decimal_word offset (omega (arith, k)))))
 
 -- what a search from the end for the mark finds
-pub SplitsPlace-from_split : (text : List ℕ) (r : Option (Bor (List ℕ) × Bor (List ℕ)))
+pub last_mark : (text : List ℕ) (r : Option (Bor (List ℕ) × Bor (List ℕ)))
     → MatchOption r (RFindsText (codes ":#") text None) (λ x. SplitsAroundMatch (RFindsText (codes ":#")) text x.0.now x.1.now) → SplitsPlace text r
-SplitsPlace-from_split text None h = λ front back e.
+last_mark text None h = λ front back e.
     h (length front) (omega (arith, ap length e, length-append front (58 ∷ 35 ∷ back))) back (ap (drop (length front)) e ∙ drop_at front (58 ∷ 35 ∷ back) (length front) refl)
-SplitsPlace-from_split text (Some x) h = (
+last_mark text (Some x) h = (
   sym (take-append-drop h.0 text) ∙ ap (λ l. take h.0 text ++ l) h.2.1.split ∙ (λ k. sym h.3 k ++ 58 ∷ 35 ∷ sym h.4 k),
   λ front back e.
       let further = length front in

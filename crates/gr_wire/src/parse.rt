@@ -94,6 +94,7 @@ fn has_no_space(text: &str) -> bool
 }
 
 /// What stands before the last `:#`, and after it.
+#[tactic(auto, using(crate::proofs::Places::last_mark))]
 fn split_place(text: &str) -> Option<(&str, &str)>
     ensures { SplitsPlace text.now result }
 {

@@ -1,5 +1,5 @@
 //! Sessions that ask which identifiers are bound to the declaration of one.
-use super::{A, joined, written, writes};
+use super::{A, joined, writes, written};
 use gr_text::Limits;
 use std::alloc::Global;
 use std::test::Fail;
@@ -35,7 +35,9 @@ fn assigned_and_declared_by_one_statement(rt: HostRuntime) -> Result<(), Fail> {
                 "package a\n\nfunc f() (int, int) {\n\treturn 1, 2\n}\n\nfunc G() int {\n\tvar x int\n\tx, z := f()\n\tif z > 0 {\n\t\tx, w := f()\n\t\treturn x + w\n\t}\n\treturn x\n}\n",
                 "uses a/a.go:#69\nuses a/a.go:#102\n",
             ],
-            &["ok 1 0\nok 1 34\na/a.go:#69\na/a.go:#76\na/a.go:#140\nok 1 24\na/a.go:#102\na/a.go:#123\n"],
+            &[
+                "ok 1 0\nok 1 34\na/a.go:#69\na/a.go:#76\na/a.go:#140\nok 1 24\na/a.go:#102\na/a.go:#123\n"
+            ],
         )?
     );
     Ok(())
@@ -218,13 +220,31 @@ fn import_with_a_name(rt: HostRuntime) -> Result<(), Fail> {
             "ok 1 0\nok 2 0\n",
             &[
                 (
-                    &["m/m.go:#18", "m/m.go:#20", "m/m.go:#21", "m/m.go:#22", "m/m.go:#63"],
+                    &[
+                        "m/m.go:#18",
+                        "m/m.go:#20",
+                        "m/m.go:#21",
+                        "m/m.go:#22",
+                        "m/m.go:#63"
+                    ],
                     "ok 2 22\nm/m.go:#18\nm/m.go:#63\n",
                 ),
-                (&["m/m.go:#29", "m/m.go:#69"], "ok 2 22\nm/m.go:#29\nm/m.go:#69\n"),
+                (
+                    &["m/m.go:#29", "m/m.go:#69"],
+                    "ok 2 22\nm/m.go:#29\nm/m.go:#69\n"
+                ),
                 (&["b/b.go:#15"], "ok 2 11\nb/b.go:#15\n"),
                 (&["m/m.go:#65", "m/m.go:#8"], "no 11 0\n"),
-                (&["m/m.go:#11", "m/m.go:#19", "m/m.go:#23", "m/m.go:#37", "m/m.go:#64"], "no 10 0\n"),
+                (
+                    &[
+                        "m/m.go:#11",
+                        "m/m.go:#19",
+                        "m/m.go:#23",
+                        "m/m.go:#37",
+                        "m/m.go:#64"
+                    ],
+                    "no 10 0\n"
+                ),
             ],
         )?
     );
@@ -237,7 +257,12 @@ fn predeclared_name(rt: HostRuntime) -> Result<(), Fail> {
     assert!(rt;
         answers(
             rt.alloc(),
-            &["put 0 b/b.go 21\n", "package b\n\nvar T int\n", "put 1 a/a.go 58\n", A],
+            &[
+                "put 0 b/b.go 21\n",
+                "package b\n\nvar T int\n",
+                "put 1 a/a.go 58\n",
+                A
+            ],
             "ok 1 0\nok 2 0\n",
             &[(
                 &["a/a.go:#17", "a/a.go:#31", "a/a.go:#38", "b/b.go:#19"],
@@ -259,10 +284,22 @@ fn parameter_against_its_body(rt: HostRuntime) -> Result<(), Fail> {
             ],
             "ok 1 0\n",
             &[
-                (&["a/a.go:#18", "a/a.go:#51", "a/a.go:#91"], "ok 1 33\na/a.go:#18\na/a.go:#51\na/a.go:#91\n"),
-                (&["a/a.go:#25", "a/a.go:#70"], "ok 1 22\na/a.go:#25\na/a.go:#70\n"),
-                (&["a/a.go:#43", "a/a.go:#74", "a/a.go:#95"], "ok 1 33\na/a.go:#43\na/a.go:#74\na/a.go:#95\n"),
-                (&["a/a.go:#62", "a/a.go:#78"], "ok 1 22\na/a.go:#62\na/a.go:#78\n"),
+                (
+                    &["a/a.go:#18", "a/a.go:#51", "a/a.go:#91"],
+                    "ok 1 33\na/a.go:#18\na/a.go:#51\na/a.go:#91\n"
+                ),
+                (
+                    &["a/a.go:#25", "a/a.go:#70"],
+                    "ok 1 22\na/a.go:#25\na/a.go:#70\n"
+                ),
+                (
+                    &["a/a.go:#43", "a/a.go:#74", "a/a.go:#95"],
+                    "ok 1 33\na/a.go:#43\na/a.go:#74\na/a.go:#95\n"
+                ),
+                (
+                    &["a/a.go:#62", "a/a.go:#78"],
+                    "ok 1 22\na/a.go:#62\na/a.go:#78\n"
+                ),
             ],
         )?
     );
@@ -280,10 +317,28 @@ fn if_header_holds_in_both_branches(rt: HostRuntime) -> Result<(), Fail> {
             ],
             "ok 1 0\n",
             &[
-                (&["a/a.go:#18", "a/a.go:#40", "a/a.go:#145"], "ok 1 34\na/a.go:#18\na/a.go:#40\na/a.go:#145\n"),
-                (&["a/a.go:#35", "a/a.go:#43", "a/a.go:#58", "a/a.go:#87", "a/a.go:#128"], "ok 1 56\na/a.go:#35\na/a.go:#43\na/a.go:#58\na/a.go:#87\na/a.go:#128\n"),
-                (&["a/a.go:#53", "a/a.go:#69"], "ok 1 22\na/a.go:#53\na/a.go:#69\n"),
-                (&["a/a.go:#82", "a/a.go:#90", "a/a.go:#107", "a/a.go:#132"], "ok 1 46\na/a.go:#82\na/a.go:#90\na/a.go:#107\na/a.go:#132\n"),
+                (
+                    &["a/a.go:#18", "a/a.go:#40", "a/a.go:#145"],
+                    "ok 1 34\na/a.go:#18\na/a.go:#40\na/a.go:#145\n"
+                ),
+                (
+                    &[
+                        "a/a.go:#35",
+                        "a/a.go:#43",
+                        "a/a.go:#58",
+                        "a/a.go:#87",
+                        "a/a.go:#128"
+                    ],
+                    "ok 1 56\na/a.go:#35\na/a.go:#43\na/a.go:#58\na/a.go:#87\na/a.go:#128\n"
+                ),
+                (
+                    &["a/a.go:#53", "a/a.go:#69"],
+                    "ok 1 22\na/a.go:#53\na/a.go:#69\n"
+                ),
+                (
+                    &["a/a.go:#82", "a/a.go:#90", "a/a.go:#107", "a/a.go:#132"],
+                    "ok 1 46\na/a.go:#82\na/a.go:#90\na/a.go:#107\na/a.go:#132\n"
+                ),
             ],
         )?
     );
@@ -301,9 +356,18 @@ fn for_header_holds_in_its_body(rt: HostRuntime) -> Result<(), Fail> {
             ],
             "ok 1 0\n",
             &[
-                (&["a/a.go:#18", "a/a.go:#41", "a/a.go:#83"], "ok 1 33\na/a.go:#18\na/a.go:#41\na/a.go:#83\n"),
-                (&["a/a.go:#36", "a/a.go:#44", "a/a.go:#51", "a/a.go:#64"], "ok 1 44\na/a.go:#36\na/a.go:#44\na/a.go:#51\na/a.go:#64\n"),
-                (&["a/a.go:#59", "a/a.go:#68"], "ok 1 22\na/a.go:#59\na/a.go:#68\n"),
+                (
+                    &["a/a.go:#18", "a/a.go:#41", "a/a.go:#83"],
+                    "ok 1 33\na/a.go:#18\na/a.go:#41\na/a.go:#83\n"
+                ),
+                (
+                    &["a/a.go:#36", "a/a.go:#44", "a/a.go:#51", "a/a.go:#64"],
+                    "ok 1 44\na/a.go:#36\na/a.go:#44\na/a.go:#51\na/a.go:#64\n"
+                ),
+                (
+                    &["a/a.go:#59", "a/a.go:#68"],
+                    "ok 1 22\na/a.go:#59\na/a.go:#68\n"
+                ),
             ],
         )?
     );
@@ -321,11 +385,23 @@ fn new_name_reads_the_outer_one(rt: HostRuntime) -> Result<(), Fail> {
             ],
             "ok 1 0\n",
             &[
-                (&["a/a.go:#15", "a/a.go:#43"], "ok 1 22\na/a.go:#15\na/a.go:#43\n"),
-                (&["a/a.go:#38", "a/a.go:#55"], "ok 1 22\na/a.go:#38\na/a.go:#55\n"),
-                (&["a/a.go:#50", "a/a.go:#74", "a/a.go:#77", "a/a.go:#88"], "ok 1 44\na/a.go:#50\na/a.go:#74\na/a.go:#77\na/a.go:#88\n"),
+                (
+                    &["a/a.go:#15", "a/a.go:#43"],
+                    "ok 1 22\na/a.go:#15\na/a.go:#43\n"
+                ),
+                (
+                    &["a/a.go:#38", "a/a.go:#55"],
+                    "ok 1 22\na/a.go:#38\na/a.go:#55\n"
+                ),
+                (
+                    &["a/a.go:#50", "a/a.go:#74", "a/a.go:#77", "a/a.go:#88"],
+                    "ok 1 44\na/a.go:#50\na/a.go:#74\na/a.go:#77\na/a.go:#88\n"
+                ),
                 (&["a/a.go:#63"], "no 11 0\n"),
-                (&["a/a.go:#66", "a/a.go:#92"], "ok 1 22\na/a.go:#66\na/a.go:#92\n"),
+                (
+                    &["a/a.go:#66", "a/a.go:#92"],
+                    "ok 1 22\na/a.go:#66\na/a.go:#92\n"
+                ),
             ],
         )?
     );
@@ -343,11 +419,26 @@ fn used_before_its_declaration(rt: HostRuntime) -> Result<(), Fail> {
             ],
             "ok 1 0\n",
             &[
-                (&["a/a.go:#16", "a/a.go:#66"], "ok 1 22\na/a.go:#16\na/a.go:#66\n"),
-                (&["a/a.go:#34", "a/a.go:#47"], "ok 1 22\na/a.go:#34\na/a.go:#47\n"),
-                (&["a/a.go:#36", "a/a.go:#81"], "ok 1 22\na/a.go:#36\na/a.go:#81\n"),
-                (&["a/a.go:#49", "a/a.go:#72"], "ok 1 22\na/a.go:#49\na/a.go:#72\n"),
-                (&["a/a.go:#51", "a/a.go:#54", "a/a.go:#83", "a/a.go:#91"], "ok 1 44\na/a.go:#51\na/a.go:#54\na/a.go:#83\na/a.go:#91\n"),
+                (
+                    &["a/a.go:#16", "a/a.go:#66"],
+                    "ok 1 22\na/a.go:#16\na/a.go:#66\n"
+                ),
+                (
+                    &["a/a.go:#34", "a/a.go:#47"],
+                    "ok 1 22\na/a.go:#34\na/a.go:#47\n"
+                ),
+                (
+                    &["a/a.go:#36", "a/a.go:#81"],
+                    "ok 1 22\na/a.go:#36\na/a.go:#81\n"
+                ),
+                (
+                    &["a/a.go:#49", "a/a.go:#72"],
+                    "ok 1 22\na/a.go:#49\na/a.go:#72\n"
+                ),
+                (
+                    &["a/a.go:#51", "a/a.go:#54", "a/a.go:#83", "a/a.go:#91"],
+                    "ok 1 44\na/a.go:#51\na/a.go:#54\na/a.go:#83\na/a.go:#91\n"
+                ),
             ],
         )?
     );
@@ -365,10 +456,30 @@ fn predeclared_names_declared_again(rt: HostRuntime) -> Result<(), Fail> {
             ],
             "ok 1 0\n",
             &[
-                (&["a/a.go:#16", "a/a.go:#18", "a/a.go:#40", "a/a.go:#42", "a/a.go:#45", "a/a.go:#47", "a/a.go:#60", "a/a.go:#62", "a/a.go:#92", "a/a.go:#94"], "ok 1 55\na/a.go:#16\na/a.go:#40\na/a.go:#45\na/a.go:#60\na/a.go:#92\n"),
+                (
+                    &[
+                        "a/a.go:#16",
+                        "a/a.go:#18",
+                        "a/a.go:#40",
+                        "a/a.go:#42",
+                        "a/a.go:#45",
+                        "a/a.go:#47",
+                        "a/a.go:#60",
+                        "a/a.go:#62",
+                        "a/a.go:#92",
+                        "a/a.go:#94"
+                    ],
+                    "ok 1 55\na/a.go:#16\na/a.go:#40\na/a.go:#45\na/a.go:#60\na/a.go:#92\n"
+                ),
                 (&["a/a.go:#31", "a/a.go:#33"], "ok 1 11\na/a.go:#31\n"),
-                (&["a/a.go:#35", "a/a.go:#38", "a/a.go:#66", "a/a.go:#69"], "ok 1 22\na/a.go:#35\na/a.go:#66\n"),
-                (&["a/a.go:#56", "a/a.go:#58", "a/a.go:#79", "a/a.go:#81"], "ok 1 22\na/a.go:#56\na/a.go:#79\n"),
+                (
+                    &["a/a.go:#35", "a/a.go:#38", "a/a.go:#66", "a/a.go:#69"],
+                    "ok 1 22\na/a.go:#35\na/a.go:#66\n"
+                ),
+                (
+                    &["a/a.go:#56", "a/a.go:#58", "a/a.go:#79", "a/a.go:#81"],
+                    "ok 1 22\na/a.go:#56\na/a.go:#79\n"
+                ),
                 (&["a/a.go:#90"], "ok 1 11\na/a.go:#90\n"),
             ],
         )?
@@ -396,13 +507,28 @@ fn files_of_one_package(rt: HostRuntime) -> Result<(), Fail> {
             ],
             "ok 1 0\nok 2 0\nok 3 0\nok 4 0\nok 5 0\n",
             &[
-                (&["a/b.go:#18", "a/b.go:#31"], "ok 5 22\na/b.go:#18\na/b.go:#31\n"),
-                (&["a/b.go:#29", "a/a.go:#41"], "ok 5 22\na/a.go:#41\na/b.go:#29\n"),
+                (
+                    &["a/b.go:#18", "a/b.go:#31"],
+                    "ok 5 22\na/b.go:#18\na/b.go:#31\n"
+                ),
+                (
+                    &["a/b.go:#29", "a/a.go:#41"],
+                    "ok 5 22\na/a.go:#41\na/b.go:#29\n"
+                ),
                 (&["a/b.go:#33", "a/a.b.go:#37"], "no 11 0\n"),
-                (&["a/a.go:#18", "a/a.go:#37"], "ok 5 22\na/a.go:#18\na/a.go:#37\n"),
-                (&["a/a.go:#44", "a/a.b.go:#15"], "ok 5 24\na/a.b.go:#15\na/a.go:#44\n"),
+                (
+                    &["a/a.go:#18", "a/a.go:#37"],
+                    "ok 5 22\na/a.go:#18\na/a.go:#37\n"
+                ),
+                (
+                    &["a/a.go:#44", "a/a.b.go:#15"],
+                    "ok 5 24\na/a.b.go:#15\na/a.go:#44\n"
+                ),
                 (&["a/a/a.go:#15"], "ok 5 13\na/a/a.go:#15\n"),
-                (&["a/a.b.go:#17", "a/a.b.go:#25", "a/a.b.go:#39"], "ok 5 39\na/a.b.go:#17\na/a.b.go:#25\na/a.b.go:#39\n"),
+                (
+                    &["a/a.b.go:#17", "a/a.b.go:#25", "a/a.b.go:#39"],
+                    "ok 5 39\na/a.b.go:#17\na/a.b.go:#25\na/a.b.go:#39\n"
+                ),
             ],
         )?
     );
@@ -424,7 +550,10 @@ fn import_gives_way_to_a_package_name(rt: HostRuntime) -> Result<(), Fail> {
             &[
                 (&["a/a.go:#18", "a/a.go:#20", "a/a.go:#22"], "no 11 0\n"),
                 (&["a/a.go:#29"], "ok 2 11\na/a.go:#29\n"),
-                (&["a/a.go:#31", "a/b.go:#15"], "ok 2 22\na/a.go:#31\na/b.go:#15\n"),
+                (
+                    &["a/a.go:#31", "a/b.go:#15"],
+                    "ok 2 22\na/a.go:#31\na/b.go:#15\n"
+                ),
             ],
         )?
     );
@@ -442,11 +571,23 @@ fn second_declaration_of_a_block(rt: HostRuntime) -> Result<(), Fail> {
             ],
             "ok 1 0\n",
             &[
-                (&["a/a.go:#15", "a/a.go:#90"], "ok 1 22\na/a.go:#15\na/a.go:#90\n"),
-                (&["a/a.go:#26", "a/a.go:#47", "a/a.go:#76", "a/a.go:#108"], "no 11 0\n"),
+                (
+                    &["a/a.go:#15", "a/a.go:#90"],
+                    "ok 1 22\na/a.go:#15\na/a.go:#90\n"
+                ),
+                (
+                    &["a/a.go:#26", "a/a.go:#47", "a/a.go:#76", "a/a.go:#108"],
+                    "no 11 0\n"
+                ),
                 (&["a/a.go:#38"], "ok 1 11\na/a.go:#38\n"),
-                (&["a/a.go:#40", "a/a.go:#94"], "ok 1 22\na/a.go:#40\na/a.go:#94\n"),
-                (&["a/a.go:#65", "a/a.go:#98"], "ok 1 22\na/a.go:#65\na/a.go:#98\n"),
+                (
+                    &["a/a.go:#40", "a/a.go:#94"],
+                    "ok 1 22\na/a.go:#40\na/a.go:#94\n"
+                ),
+                (
+                    &["a/a.go:#65", "a/a.go:#98"],
+                    "ok 1 22\na/a.go:#65\na/a.go:#98\n"
+                ),
             ],
         )?
     );
@@ -466,12 +607,46 @@ fn bound_to_nothing(rt: HostRuntime) -> Result<(), Fail> {
             ],
             "ok 1 0\n",
             &[
-                (&["a/a.go:#8", "a/a.go:#18", "a/a.go:#20", "a/a.go:#29", "a/a.go:#31", "a/a.go:#51", "a/a.go:#71", "a/a.go:#73", "a/a.go:#87", "a/a.go:#97", "a/a.go:#102", "a/a.go:#120", "a/a.go:#141", "a/a.go:#145", "a/a.go:#155", "a/a.go:#158", "a/a.go:#172", "a/a.go:#175"], "no 11 0\n"),
+                (
+                    &[
+                        "a/a.go:#8",
+                        "a/a.go:#18",
+                        "a/a.go:#20",
+                        "a/a.go:#29",
+                        "a/a.go:#31",
+                        "a/a.go:#51",
+                        "a/a.go:#71",
+                        "a/a.go:#73",
+                        "a/a.go:#87",
+                        "a/a.go:#97",
+                        "a/a.go:#102",
+                        "a/a.go:#120",
+                        "a/a.go:#141",
+                        "a/a.go:#145",
+                        "a/a.go:#155",
+                        "a/a.go:#158",
+                        "a/a.go:#172",
+                        "a/a.go:#175"
+                    ],
+                    "no 11 0\n"
+                ),
                 (&["a/a.go:#27"], "ok 1 11\na/a.go:#27\n"),
-                (&["a/a.go:#39", "a/a.go:#68", "a/a.go:#114", "a/a.go:#118"], "ok 1 46\na/a.go:#39\na/a.go:#68\na/a.go:#114\na/a.go:#118\n"),
-                (&["a/a.go:#66", "a/a.go:#95", "a/a.go:#100", "a/a.go:#127"], "ok 1 46\na/a.go:#66\na/a.go:#95\na/a.go:#100\na/a.go:#127\n"),
-                (&["a/a.go:#90", "a/a.go:#123"], "ok 1 23\na/a.go:#90\na/a.go:#123\n"),
-                (&["a/a.go:#112", "a/a.go:#131"], "ok 1 24\na/a.go:#112\na/a.go:#131\n"),
+                (
+                    &["a/a.go:#39", "a/a.go:#68", "a/a.go:#114", "a/a.go:#118"],
+                    "ok 1 46\na/a.go:#39\na/a.go:#68\na/a.go:#114\na/a.go:#118\n"
+                ),
+                (
+                    &["a/a.go:#66", "a/a.go:#95", "a/a.go:#100", "a/a.go:#127"],
+                    "ok 1 46\na/a.go:#66\na/a.go:#95\na/a.go:#100\na/a.go:#127\n"
+                ),
+                (
+                    &["a/a.go:#90", "a/a.go:#123"],
+                    "ok 1 23\na/a.go:#90\na/a.go:#123\n"
+                ),
+                (
+                    &["a/a.go:#112", "a/a.go:#131"],
+                    "ok 1 24\na/a.go:#112\na/a.go:#131\n"
+                ),
             ],
         )?
     );
