@@ -84,6 +84,8 @@ def a_place(generator, texts):
     except lexer.Fault:
         return path, 0
     tokens = [t for t in tokens if t.kind in ("name", "_", "string")]
+    if not tokens:
+        return path, 0
     token = generator.choice(tokens)
     return path, token.offset + generator.randrange(len(token.text.encode()) + (generator.random() < 0.1))
 
