@@ -10,7 +10,7 @@ use Rattle.gr_book.specs.declared.event.Event.{Event}
 use Rattle.gr_book.specs.declared.event.Event.TheVariants.{Look, Commit, Undo, Redo}
 use Rattle.gr_book.specs.declared.event.Reply.{Reply}
 use Rattle.gr_book.specs.declared.event.Reply.TheVariants.{Looked, Done, Refused}
-use Rattle.gr_desk.specs.Queries.{Cats, TellsFaults, listing}
+use Rattle.gr_desk.specs.Queries.{Cats, WritesUses, TellsFaults, listing}
 use Rattle.gr_desk.specs.declared.command.Command.{Command}
 use Rattle.gr_desk.specs.declared.command.Command.TheVariants as command
 use Rattle.gr_desk.specs.declared.command.Response.{Response}
@@ -24,6 +24,7 @@ basis_of (command.Del basis path) = Some basis
 basis_of (command.Undo basis) = Some basis
 basis_of (command.Redo basis) = Some basis
 basis_of (command.Cat path) = None
+basis_of (command.Uses path offset) = None
 basis_of command.List = None
 basis_of command.Faults = None
 
@@ -51,6 +52,10 @@ response_to (Refused refusal) = response.Refused refusal
 abbrev pub file_response : ℕ → Result (List ℕ) Refusal → Response
 file_response number (Ok text) = response.File number text
 file_response number (Err refusal) = response.Refused refusal
+
+abbrev pub lines_response : ℕ → Result (List ℕ) Refusal → Response
+lines_response number (Ok lines) = response.Lines number lines
+lines_response number (Err refusal) = response.Refused refusal
 
 -- the lines, or want of memory for them
 abbrev pub TellsLines : ℕ → List ℕ → Response → Type 0
@@ -83,6 +88,8 @@ module _ {D : Type 0} (steps : D → Event → Reply → D → Type 0) where
   ActsOn old view (command.Redo basis) answer new = Sends old (Redo basis) answer new
   ActsOn old view (command.Cat path) answer new =
       ((found : Result (List ℕ) Refusal) × Cats view path found × (answer ≡ file_response view.snapshot.number found)) × (new ≡ old)
+  ActsOn old view (command.Uses path offset) answer new =
+      ((found : Result (List ℕ) Refusal) × WritesUses view path offset found × (answer ≡ lines_response view.snapshot.number found)) × (new ≡ old)
   ActsOn old view command.List answer new = TellsLines view.snapshot.number (listing view.snapshot.files) answer × (new ≡ old)
   ActsOn old view command.Faults answer new = AnswersFaults view answer × (new ≡ old)
 

@@ -4,12 +4,14 @@ use Rattle.std.specs.List.{flat_map}
 use Rattle.std.specs.FinMap as map
 use Rattle.gr_text.specs.Path.{IsPath}
 use Rattle.gr_text.specs.Workspace.{Workspace}
+use Rattle.gr_text.specs.declared.place.Place.{Place}
 use Rattle.gr_text.specs.declared.refusal.Refusal.{Refusal}
 use Rattle.gr_text.specs.declared.refusal.Refusal.TheVariants.{Memory, BadPath, NoFile}
-use Rattle.gr_text.specs.PlaceText.{fault_line}
+use Rattle.gr_text.specs.PlaceText.{place_text, fault_line}
 use Rattle.gr_space.specs.Faults.{ListsFaults}
 use Rattle.gr_space.specs.declared.file_faults.FileFault.{FileFault}
 use Rattle.gr_space.specs.declared.view.View.{View}
+use Rattle.gr_check.specs.Uses.{TellsUses}
 
 -- reading one file
 abbrev pub Cats : View → List ℕ → Result (List ℕ) Refusal → Type 0
@@ -22,6 +24,16 @@ Cats view path (Err refusal) = ⊥
 -- a path, a space, the size of its text in bytes, and a newline
 abbrev pub file_line : List ℕ → List ℕ → List ℕ
 file_line path text = path ++ 32 ∷ (decimal (length text) ++ 10 ∷ [])
+
+-- a line for each place
+abbrev pub place_lines : List Place → List ℕ
+place_lines = flat_map (λ place. place_text place ++ 10 ∷ [])
+
+-- the lines of the identifiers that are bound to the same declaration as the one here, or why there are none
+abbrev pub WritesUses : View → List ℕ → ℕ → Result (List ℕ) Refusal → Type 0
+WritesUses view path offset (Ok lines) =
+    (places : List Place) × TellsUses view.snapshot.files path offset (Ok places) × (lines ≡ place_lines places)
+WritesUses view path offset (Err refusal) = TellsUses view.snapshot.files path offset (Err refusal)
 
 -- a line for each fault
 abbrev pub fault_lines : List FileFault → List ℕ

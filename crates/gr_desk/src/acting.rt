@@ -4,7 +4,7 @@ ghost use Rattle.gr_desk.specs.Act.{Acts, Commits, FitsView, PlansBody, response
 
 use crate::command::{Command, Response};
 use crate::desk::Desk;
-use crate::queries::{cat, faults, list};
+use crate::queries::{cat, faults, list, uses};
 use gr_book::{Event, Reply};
 use gr_space::{Change, View, plan_del, plan_put};
 use gr_text::{FileText, Path, Refusal};
@@ -91,6 +91,10 @@ pub fn act<D: Desk>(alloc: Global, desk: &mut D, command: Command) -> Response
         Command::Redo { basis } => response(desk.step(Event::Redo(basis))),
         Command::Cat { path } => match cat(alloc, &view, path.as_str()) {
             Ok(text) => Response::File { number, text },
+            Err(refusal) => Response::Refused { refusal },
+        },
+        Command::Uses { path, offset } => match uses(alloc, &view, path.as_str(), offset) {
+            Ok(text) => Response::Lines { number, text },
             Err(refusal) => Response::Refused { refusal },
         },
         Command::List => match list(alloc, &view) {

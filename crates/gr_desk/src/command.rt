@@ -29,6 +29,11 @@ pub enum Command {
     Cat {
         path: Word,
     },
+    /// The offset is that of any byte of an identifier, or of the path literal of an import.
+    Uses {
+        path: Word,
+        offset: usize,
+    },
     List,
     Faults,
 }
@@ -45,7 +50,11 @@ impl Command {
             | Command::Del { basis, .. }
             | Command::Undo { basis }
             | Command::Redo { basis } => Some(*basis),
-            Command::Look | Command::Cat { .. } | Command::List | Command::Faults => None,
+            Command::Look
+            | Command::Cat { .. }
+            | Command::Uses { .. }
+            | Command::List
+            | Command::Faults => None,
         }
     }
 }

@@ -12,5 +12,5 @@ pub use acting::act;
 pub use bytes::Bytes;
 pub use command::{Command, Response};
 pub use desk::{Desk, Solo};
-pub use queries::{cat, faults, list};
+pub use queries::{cat, faults, list, uses};
 pub use word::Word;

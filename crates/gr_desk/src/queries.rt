@@ -1,11 +1,11 @@
 //! Questions that a view answers.
 ghost use Rattle.std.specs.Prelude.{◌≡◌, ◌++◌, IfOk, OnOk};
-ghost use Rattle.gr_text.specs.PlaceText.{fault_line};
-ghost use Rattle.gr_desk.specs.Queries.{Cats, TellsFaults, file_line, fault_lines, listing};
+ghost use Rattle.gr_text.specs.PlaceText.{place_text, fault_line};
+ghost use Rattle.gr_desk.specs.Queries.{Cats, WritesUses, TellsFaults, file_line, place_lines, fault_lines, listing};
 
 use crate::bytes::Bytes;
 use gr_space::{FileFault, View};
-use gr_text::{FileText, Path, Refusal};
+use gr_text::{FileText, Path, Place, Refusal};
 use itoa::Buffer;
 use std::alloc::{AllocError, Global};
 
@@ -43,14 +43,43 @@ pub fn list(alloc: Global, view: &View) -> Result<Bytes, AllocError>
     Ok(Bytes::new(lines))
 }
 
+/// Adds the text of one place: its path and its offset.
+fn push_place(lines: &mut Vec<u8>, place: &Place) -> Result<(), AllocError>
+    ensures { OnOk result (lines.new.items ≡ lines.old.items ++ place_text place.now) }
+{
+    let mut digits = Buffer::new();
+    lines.extend_from_slice(place.path.as_str().as_bytes())?;
+    lines.extend_from_slice(b":#")?;
+    lines.extend_from_slice(digits.format(place.offset).as_bytes())?;
+    Ok(())
+}
+
+/// A line for each place.
+fn place_lines(alloc: Global, places: &[Place]) -> Result<Vec<u8>, AllocError>
+    ensures { IfOk result (λ lines. lines.items ≡ place_lines places.now) }
+{
+    let mut lines = Vec::new(alloc);
+    for place in places {
+        push_place(&mut lines, place)?;
+        lines.push(b'\n')?;
+    }
+    Ok(lines)
+}
+
+/// A line for each identifier that is bound to the same declaration as the one at this place.
+pub fn uses(alloc: Global, view: &View, path: &str, offset: usize) -> Result<Bytes, Refusal>
+    ensures { WritesUses view.now path.now offset result }
+{
+    let places = gr_check::uses(alloc, view.snapshot.files.files(), path, offset)?;
+    let lines = place_lines(alloc, places.as_slice())?;
+    Ok(Bytes::new(lines))
+}
+
 /// Adds the line of one fault: its place and its kind.
 fn push_fault(lines: &mut Vec<u8>, fault: &FileFault) -> Result<(), AllocError>
     ensures { OnOk result (lines.new.items ≡ lines.old.items ++ fault_line fault.now.place fault.now.kind) }
 {
-    let mut digits = Buffer::new();
-    lines.extend_from_slice(fault.place.path.as_str().as_bytes())?;
-    lines.extend_from_slice(b":#")?;
-    lines.extend_from_slice(digits.format(fault.place.offset).as_bytes())?;
+    push_place(lines, &fault.place)?;
     lines.extend_from_slice(b" ")?;
     lines.extend_from_slice(fault.kind.name().as_bytes())?;
     lines.extend_from_slice(b"\n")?;

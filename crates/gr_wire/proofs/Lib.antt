@@ -4,6 +4,7 @@ pub mod Steps
 pub mod Served
 pub mod LineSoFar
 pub mod Words
+pub mod Places
 pub mod LineWords
 pub mod Filled
 pub mod Puts

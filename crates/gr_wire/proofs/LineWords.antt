@@ -2,12 +2,13 @@
 use Rattle.std.proofs.Common.{◌≡◌, ◌≢◌, ℕ, ◌^◌, ◌+◌, ◌*◌, ◌<◌, List, [], ◌∷◌, ◌++◌, Option, None, Some, refl, sym, ap, ◌∙◌, arith, decimal, codes}
 use Rattle.std.specs.List.{AllByRecursion}
 use Rattle.gr_wire.specs.declared.parse.CommandLine.{CommandLine}
-use Rattle.gr_wire.specs.declared.parse.CommandLine.TheVariants.{Look, Put, Del, Undo, Redo, Cat, End}
+use Rattle.gr_wire.specs.declared.parse.CommandLine.TheVariants.{Look, Put, Del, Undo, Redo, Cat, Uses, End}
 use Rattle.gr_wire.specs.declared.parse.CommandLine.TheVariants as line
 use Rattle.gr_wire.specs.Words.{HasNoSpace, IsWord, spaced}
-use Rattle.gr_wire.specs.Lines.{verb_of, args_of, FitsLine, IsCommandLine}
+use Rattle.gr_wire.specs.Lines.{verb_of, args_of, place_word, FitsLine, IsCommandLine}
 use Rattle.gr_wire.specs.Parsing.{HasWords, ParsesArgs, ParsesBare, ParsesLine, IsSpaced}
 use Rattle.gr_wire.proofs.Words.{split_unique, no_space, decimal_word}
+use Rattle.gr_wire.proofs.Places.{place_word_no_space}
 
 abbrev HaveNoSpace : List (List ℕ) → Type 0
 HaveNoSpace = AllByRecursion HasNoSpace
@@ -31,6 +32,7 @@ verb_no_space (Del basis path) = three 100 101 108 (omega arith) (omega arith) (
 verb_no_space (Undo basis) = four 117 110 100 111 (omega arith) (omega arith) (omega arith) (omega arith)
 verb_no_space (Redo basis) = four 114 101 100 111 (omega arith) (omega arith) (omega arith) (omega arith)
 verb_no_space (Cat path) = three 99 97 116 (omega arith) (omega arith) (omega arith)
+verb_no_space (Uses path offset) = four 117 115 101 115 (omega arith) (omega arith) (omega arith) (omega arith)
 verb_no_space line.List = four 108 105 115 116 (omega arith) (omega arith) (omega arith) (omega arith)
 verb_no_space line.Faults = six 102 97 117 108 116 115 (omega arith) (omega arith) (omega arith) (omega arith) (omega arith) (omega arith)
 verb_no_space End = three 101 110 100 (omega arith) (omega arith) (omega arith)
@@ -42,6 +44,7 @@ args_no_space (Del basis path) h = (decimal_word basis h.0, (h.1.1, tt))
 args_no_space (Undo basis) h = (decimal_word basis h, tt)
 args_no_space (Redo basis) h = (decimal_word basis h, tt)
 args_no_space (Cat path) h = (h.1, tt)
+args_no_space (Uses path offset) h = (place_word_no_space path offset h.0 h.1, tt)
 args_no_space line.List h = tt
 args_no_space line.Faults h = tt
 args_no_space End h = tt
@@ -88,6 +91,10 @@ pub only_cat : (command : CommandLine) (P : CommandLine → Type 0) → verb_of 
 only_cat (Cat path) P e h = h path
 only_cat command P e h = absurd (omega (arith, ap weight e))
 
+pub only_uses : (command : CommandLine) (P : CommandLine → Type 0) → verb_of command ≡ codes "uses" → ((path : List ℕ) (offset : ℕ) → P (Uses path offset)) → P command
+only_uses (Uses path offset) P e h = h path offset
+only_uses command P e h = absurd (omega (arith, ap weight e))
+
 pub only_look : (command : CommandLine) (P : CommandLine → Type 0) → verb_of command ≡ codes "look" → P Look → P command
 only_look Look P e h = h
 only_look command P e h = absurd (omega (arith, ap weight e))
@@ -125,18 +132,23 @@ pub cat_words : (words : List ℕ) → ((path : List ℕ) → IsWord path → wo
     → (command : CommandLine) → HasWords (codes "cat") words command → ⊥
 cat_words words never command h = only_cat command (λ c. FitsLine c → IsSpaced (args_of c) words → ⊥) h.first never h.fits h.others
 
+pub uses_words : (words : List ℕ) → ((path : List ℕ) (offset : ℕ) → FitsLine (Uses path offset) → words ≡ place_word path offset → ⊥)
+    → (command : CommandLine) → HasWords (codes "uses") words command → ⊥
+uses_words words never command h = only_uses command (λ c. FitsLine c → IsSpaced (args_of c) words → ⊥) h.first never h.fits h.others
+
 -- lines of several words begin with one of these
-pub no_verb : (verb words : List ℕ) → verb ≢ codes "put" → verb ≢ codes "del" → verb ≢ codes "undo" → verb ≢ codes "redo" → verb ≢ codes "cat"
+pub no_verb : (verb words : List ℕ) → verb ≢ codes "put" → verb ≢ codes "del" → verb ≢ codes "undo" → verb ≢ codes "redo" → verb ≢ codes "cat" → verb ≢ codes "uses"
     → (command : CommandLine) → HasWords verb words command → ⊥
-no_verb verb words put del undo redo cat (Put basis path size) h = put (sym h.first)
-no_verb verb words put del undo redo cat (Del basis path) h = del (sym h.first)
-no_verb verb words put del undo redo cat (Undo basis) h = undo (sym h.first)
-no_verb verb words put del undo redo cat (Redo basis) h = redo (sym h.first)
-no_verb verb words put del undo redo cat (Cat path) h = cat (sym h.first)
-no_verb verb words put del undo redo cat Look h = h.others
-no_verb verb words put del undo redo cat line.List h = h.others
-no_verb verb words put del undo redo cat line.Faults h = h.others
-no_verb verb words put del undo redo cat End h = h.others
+no_verb verb words put del undo redo cat uses (Put basis path size) h = put (sym h.first)
+no_verb verb words put del undo redo cat uses (Del basis path) h = del (sym h.first)
+no_verb verb words put del undo redo cat uses (Undo basis) h = undo (sym h.first)
+no_verb verb words put del undo redo cat uses (Redo basis) h = redo (sym h.first)
+no_verb verb words put del undo redo cat uses (Cat path) h = cat (sym h.first)
+no_verb verb words put del undo redo cat uses (Uses path offset) h = uses (sym h.first)
+no_verb verb words put del undo redo cat uses Look h = h.others
+no_verb verb words put del undo redo cat uses line.List h = h.others
+no_verb verb words put del undo redo cat uses line.Faults h = h.others
+no_verb verb words put del undo redo cat uses End h = h.others
 
 pub no_bare : (verb : List ℕ) → verb ≢ codes "look" → verb ≢ codes "list" → verb ≢ codes "faults" → verb ≢ codes "end"
     → (command : CommandLine) → args_of command ≡ [] → verb_of command ≢ verb
@@ -149,6 +161,7 @@ no_bare verb look list faults end (Del basis path) a = absurd cc
 no_bare verb look list faults end (Undo basis) a = absurd cc
 no_bare verb look list faults end (Redo basis) a = absurd cc
 no_bare verb look list faults end (Cat path) a = absurd cc
+no_bare verb look list faults end (Uses path offset) a = absurd cc
 
 -- a line without a space has no other words
 bare_words : (text verb : List ℕ) (words : List (List ℕ)) → HasNoSpace text → text ≡ spaced verb words → (words ≡ []) × (text ≡ verb)

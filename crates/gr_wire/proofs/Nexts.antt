@@ -16,7 +16,7 @@ use Rattle.gr_wire.specs.declared.message.Message.TheVariants.{Ask, Unknown, Cut
 use Rattle.gr_wire.specs.declared.next.Next.{Next}
 use Rattle.gr_wire.specs.declared.next.Next.TheVariants as next
 use Rattle.gr_wire.specs.declared.parse.CommandLine.{CommandLine}
-use Rattle.gr_wire.specs.declared.parse.CommandLine.TheVariants.{Look, Put, Del, Undo, Redo, Cat, End}
+use Rattle.gr_wire.specs.declared.parse.CommandLine.TheVariants.{Look, Put, Del, Undo, Redo, Cat, Uses, End}
 use Rattle.gr_wire.specs.declared.parse.CommandLine.TheVariants as line
 use Rattle.gr_wire.specs.Limit.{is_newline, line_of, after_line}
 use Rattle.gr_wire.specs.Lines.{IsCommandLine, size_after}
@@ -169,4 +169,7 @@ next_line limits (Some input) mid after text (Del basis path) r h t k =
     (kept_is (after_line input) after (rw h.3 at k.1))
 next_line limits (Some input) mid after text (Cat path) r h t k =
     next_bare limits input (command.Cat path) after r (h.0, (Cat path, readable_line limits text input h.1 h.2 t.0, rw (← h.2) t.1, zero_below (length (after_line input)), refl, refl)) k.0
+    (kept_is (after_line input) after (rw h.3 at k.1))
+next_line limits (Some input) mid after text (Uses path offset) r h t k =
+    next_bare limits input (command.Uses path offset) after r (h.0, (Uses path offset, readable_line limits text input h.1 h.2 t.0, rw (← h.2) t.1, zero_below (length (after_line input)), refl, refl)) k.0
     (kept_is (after_line input) after (rw h.3 at k.1))

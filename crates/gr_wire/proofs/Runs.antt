@@ -10,7 +10,7 @@ use Rattle.gr_book.specs.declared.event.Reply.TheVariants.{Looked, Done, Refused
 use Rattle.gr_book.specs.Machine.{Machine, Step}
 use Rattle.gr_book.specs.Run.{Run}
 use Rattle.gr_desk.specs.declared.command.Command.{Command}
-use Rattle.gr_desk.specs.declared.command.Command.TheVariants.{Look, Put, Del, Undo, Redo, Cat}
+use Rattle.gr_desk.specs.declared.command.Command.TheVariants.{Look, Put, Del, Undo, Redo, Cat, Uses}
 use Rattle.gr_desk.specs.declared.command.Command.TheVariants as command
 use Rattle.gr_desk.specs.declared.command.Response.{Response}
 use Rattle.gr_desk.specs.Act.{Acts, ActsOn, Commits, Continues, Sends}
@@ -46,6 +46,7 @@ acted_on old new view (Del basis path) answer h = committed old new basis h.0 an
 acted_on old new view (Undo basis) answer h = sent old new (event.Undo basis) answer h
 acted_on old new view (Redo basis) answer h = sent old new (event.Redo basis) answer h
 acted_on old new view (Cat path) answer h = still old new h.1
+acted_on old new view (Uses path offset) answer h = still old new h.1
 acted_on old new view command.List answer h = still old new h.1
 acted_on old new view command.Faults answer h = still old new h.1
 

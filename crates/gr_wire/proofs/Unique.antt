@@ -7,13 +7,14 @@ use Rattle.gr_desk.specs.declared.command.Command.TheVariants as command
 use Rattle.gr_wire.specs.declared.message.Message.{Message}
 use Rattle.gr_wire.specs.declared.message.Message.TheVariants.{Ask, Unknown, CutShort}
 use Rattle.gr_wire.specs.declared.parse.CommandLine.{CommandLine}
-use Rattle.gr_wire.specs.declared.parse.CommandLine.TheVariants.{Look, Put, Del, Undo, Redo, Cat, End}
+use Rattle.gr_wire.specs.declared.parse.CommandLine.TheVariants.{Look, Put, Del, Undo, Redo, Cat, Uses, End}
 use Rattle.gr_wire.specs.declared.parse.CommandLine.TheVariants as line
-use Rattle.gr_wire.specs.Lines.{verb_of, args_of, FitsLine, IsCommandLine, size_after}
+use Rattle.gr_wire.specs.Lines.{verb_of, args_of, place_word, FitsLine, IsCommandLine, size_after}
 use Rattle.gr_wire.specs.Wire.{IsReadable, KeepsBody, SaysCommand, SaysLine, Says, Ends}
 use Rattle.gr_wire.specs.Laws.{BeginsOneWay, ReadsOneWay}
 use Rattle.gr_wire.specs.Limit.{line_of, after_line}
-use Rattle.gr_wire.proofs.LineWords.{same_words, only_put, only_del, only_undo, only_redo, only_cat, only_look, only_list, only_faults, only_end}
+use Rattle.gr_wire.proofs.Places.{place_word_unique}
+use Rattle.gr_wire.proofs.LineWords.{same_words, only_put, only_del, only_undo, only_redo, only_cat, only_uses, only_look, only_list, only_faults, only_end}
 
 -- two lists of words that are equal have equal parts
 head_of_two : (x y : List ℕ) (xs ys : List (List ℕ)) → x ∷ xs ≡ y ∷ ys → x ≡ y
@@ -37,6 +38,9 @@ same_line End b e = only_end b (Same End) e (λ h k f. refl)
 same_line (Undo basis) b e = only_undo b (Same (Undo basis)) e (λ other h k f. ap (λ x. Undo x) (same_basis basis other [] [] h k f))
 same_line (Redo basis) b e = only_redo b (Same (Redo basis)) e (λ other h k f. ap (λ x. Redo x) (same_basis basis other [] [] h k f))
 same_line (Cat path) b e = only_cat b (Same (Cat path)) e (λ other h k f. ap (λ x. Cat x) (head_of_two path other [] [] f))
+same_line (Uses path offset) b e = only_uses b (Same (Uses path offset)) e (λ way other h k f.
+    let same = place_word_unique path way offset other h.1 k.1 (head_of_two (place_word path offset) (place_word way other) [] [] f) in
+    ap (λ x. Uses x offset) same.0 ∙ ap (λ x. Uses way x) same.1)
 same_line (Del basis path) b e = only_del b (Same (Del basis path)) e (λ other way h k f.
     let same = same_basis basis other (path ∷ []) (way ∷ []) h.0 k.0 f in
     let rest = head_of_two path way [] [] (tail_of_two (decimal basis) (decimal other) (path ∷ []) (way ∷ []) f) in
@@ -70,6 +74,7 @@ SaysCommand-unique limits (Del basis path) bytes a b h k = h ∙ sym k
 SaysCommand-unique limits (Undo basis) bytes a b h k = h ∙ sym k
 SaysCommand-unique limits (Redo basis) bytes a b h k = h ∙ sym k
 SaysCommand-unique limits (Cat path) bytes a b h k = h ∙ sym k
+SaysCommand-unique limits (Uses path offset) bytes a b h k = h ∙ sym k
 SaysCommand-unique limits line.List bytes a b h k = h ∙ sym k
 SaysCommand-unique limits line.Faults bytes a b h k = h ∙ sym k
 SaysCommand-unique limits End bytes a b h k = absurd h

@@ -1,5 +1,6 @@
 -- Words, and the spaces between them.
 use Rattle.std.proofs.Common.{◌≡◌, ◌≢◌, ℕ, suc, ◌<◌, List, [], ◌∷◌, ◌++◌, length, get_or, Option, None, Some, refl, sym, ap, ◌∙◌, arith, decimal}
+use Rattle.std.specs.List.{AllByRecursion}
 use Rattle.std.specs.Borrow.{Bor}
 use Rattle.std.proofs.lemmas.Str.Pattern.{IsSplitOnceResult, split_parts}
 use Rattle.std.specs.Prelude.{◌^◌, Result, Ok, Err, MatchBool, is_some, Bool, true, false, not}
@@ -12,9 +13,16 @@ use Rattle.std.proofs.lemmas.Fmt.{digits_decimal, decimal_injective}
 use Rattle.gr_wire.specs.Words.{HasNoSpace}
 use Rattle.gr_wire.specs.Parsing.{SplitsWord, ReadsNumber}
 
+-- no byte of the text is this one
+abbrev pub HasNone : ℕ → List ℕ → Type 0
+HasNone c text = AllByRecursion (λ b. b ≢ c) text
+
+none_by_index : (c : ℕ) (xs : List ℕ) → ((i : ℕ) → i < length xs → get_or xs i 0 ≢ c) → HasNone c xs
+none_by_index c [] h = tt
+none_by_index c (x ∷ xs) h = (h 0 (omega arith), none_by_index c xs (λ i l. h (suc i) (omega (arith, l))))
+
 word_by_index : (xs : List ℕ) → ((i : ℕ) → i < length xs → get_or xs i 0 ≢ 32) → HasNoSpace xs
-word_by_index [] h = tt
-word_by_index (x ∷ xs) h = (h 0 (omega arith), word_by_index xs (λ i l. h (suc i) (omega (arith, l))))
+word_by_index xs h = none_by_index 32 xs h
 
 pub SplitsWord-from_split : (text : List ℕ) (r : Option (Bor (List ℕ) × Bor (List ℕ))) → IsSplitOnceResult 32 text r → SplitsWord text r
 SplitsWord-from_split text None h = word_by_index text (split_parts 32 text None h (omega arith))
@@ -33,22 +41,29 @@ split_unique (x ∷ xs) ys (a ∷ zs) bs h k e =
     let same : x ≡ a = cc in
     (ap (λ l. x ∷ l) r.0 ∙ ap (λ y. y ∷ zs) same, r.1)
 
+pub none_within : (c : ℕ) (word xs ys : List ℕ) → HasNone c word → word ≢ xs ++ c ∷ ys
+none_within c [] [] ys h = λ e. cc
+none_within c [] (x ∷ xs) ys h = λ e. cc
+none_within c (w ∷ word) [] ys h = λ e. h.0 cc
+none_within c (w ∷ word) (x ∷ xs) ys h = λ e. let rest : word ≡ xs ++ c ∷ ys = cc in none_within c word xs ys h.1 rest
+
 -- no word has a space
 pub no_space : (word xs ys : List ℕ) → HasNoSpace word → word ≢ xs ++ 32 ∷ ys
-no_space [] [] ys h = λ e. cc
-no_space [] (x ∷ xs) ys h = λ e. cc
-no_space (w ∷ word) [] ys h = λ e. h.0 cc
-no_space (w ∷ word) (x ∷ xs) ys h = λ e. let rest : word ≡ xs ++ 32 ∷ ys = cc in no_space word xs ys h.1 rest
+no_space word xs ys h = none_within 32 word xs ys h
 
 own_digits : IsNumeralModel (AllDigits 10) (digits_value 10)
 own_digits = numerals_by_value (AllDigits 10) tells_digits
+
+-- a number has digits alone
+pub decimal_none : (c n : ℕ) → n < 2 ^ 64 → ¬ (IsInRange 48 57 c) → HasNone c (decimal n)
+decimal_none c n h none = none_by_index c (decimal n) (λ i l. not_in_digits own_digits (decimal n) c (digits_decimal own_digits n h) none i l)
 
 no_digit : ¬ (IsInRange 48 57 32)
 no_digit h = absurd (omega (arith, h.0, h.1))
 
 -- a number is a word
 pub decimal_word : (n : ℕ) → n < 2 ^ 64 → HasNoSpace (decimal n)
-decimal_word n h = word_by_index (decimal n) (λ i l. not_in_digits own_digits (decimal n) 32 (digits_decimal own_digits n h) no_digit i l)
+decimal_word n h = decimal_none 32 n h no_digit
 
 pub no_space_by : (text : List ℕ) (r : Option (Bor (List ℕ) × Bor (List ℕ))) (b : Bool) → is_some r ≡ not b → SplitsWord text r → MatchBool b (HasNoSpace text) (HasNoSpace text → ⊥)
 no_space_by text None true e h = h

@@ -2,7 +2,7 @@
 use Rattle.std.specs.Prelude.{◌≡◌, ◌≢◌, ℕ, ◌<◌, List, [], ◌∷◌, ◌++◌, Option, None, Some, decimal}
 use Rattle.std.specs.Str.{IsUtf8}
 use Rattle.std.specs.Borrow.{Bor}
-use Rattle.gr_wire.specs.Words.{HasNoSpace, IsWord, spaced}
+use Rattle.gr_wire.specs.Words.{HasNoSpace, HasNoMark, IsWord, spaced}
 use Rattle.gr_wire.specs.Lines.{IsCommandLine, verb_of, args_of, FitsLine}
 use Rattle.gr_wire.specs.declared.parse.CommandLine.{CommandLine}
 
@@ -15,6 +15,16 @@ ReadsNumber limit text (Some n) = (text ≡ decimal n) × (n < limit)
 abbrev pub SplitsWord : List ℕ → Option (Bor (List ℕ) × Bor (List ℕ)) → Type 0
 SplitsWord text None = HasNoSpace text
 SplitsWord text (Some parts) = (text ≡ parts.0.now ++ 32 ∷ parts.1.now) × HasNoSpace parts.0.now
+
+-- the text is two parts round its last :#, or it has none
+abbrev pub SplitsPlace : List ℕ → Option (Bor (List ℕ) × Bor (List ℕ)) → Type 0
+SplitsPlace text None = HasNoMark text
+SplitsPlace text (Some parts) = (text ≡ parts.0.now ++ 58 ∷ 35 ∷ parts.1.now) × HasNoMark parts.1.now
+
+-- the text is a part of a word, which may be empty, or it is none
+abbrev pub ReadsPart : List ℕ → Option (List ℕ) → Type 0
+ReadsPart text None = ¬ (HasNoSpace text)
+ReadsPart text (Some part) = (part ≡ text) × HasNoSpace text
 
 -- the text is a word, or it is none
 abbrev pub ReadsArgument : List ℕ → Option (List ℕ) → Type 0

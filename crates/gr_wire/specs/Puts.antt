@@ -56,5 +56,6 @@ ReadsAfter limits (line.Del basis path) before after r = AsksOf (command.Del bas
 ReadsAfter limits (line.Undo basis) before after r = AsksOf (command.Undo basis) r × Keeps before after
 ReadsAfter limits (line.Redo basis) before after r = AsksOf (command.Redo basis) r × Keeps before after
 ReadsAfter limits (line.Cat path) before after r = AsksOf (command.Cat path) r × Keeps before after
+ReadsAfter limits (line.Uses path offset) before after r = AsksOf (command.Uses path offset) r × Keeps before after
 ReadsAfter limits line.List before after r = AsksOf command.List r × Keeps before after
 ReadsAfter limits line.Faults before after r = AsksOf command.Faults r × Keeps before after

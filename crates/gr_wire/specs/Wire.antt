@@ -35,6 +35,7 @@ SaysCommand limits (line.Del basis path) bytes asked = asked ≡ command.Del bas
 SaysCommand limits (line.Undo basis) bytes asked = asked ≡ command.Undo basis
 SaysCommand limits (line.Redo basis) bytes asked = asked ≡ command.Redo basis
 SaysCommand limits (line.Cat path) bytes asked = asked ≡ command.Cat path
+SaysCommand limits (line.Uses path offset) bytes asked = asked ≡ command.Uses path offset
 SaysCommand limits line.List bytes asked = asked ≡ command.List
 SaysCommand limits line.Faults bytes asked = asked ≡ command.Faults
 SaysCommand limits line.End bytes asked = ⊥

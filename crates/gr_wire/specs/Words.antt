@@ -5,6 +5,10 @@ use Rattle.std.specs.List.{AllByRecursion}
 abbrev pub HasNoSpace : List ℕ → Type 0
 HasNoSpace text = AllByRecursion (λ b. b ≢ 32) text
 
+-- a text without the signs :#, which stand between a path and an offset
+abbrev pub HasNoMark : List ℕ → Type 0
+HasNoMark text = (front back : List ℕ) → text ≢ front ++ 58 ∷ 35 ∷ back
+
 -- a word that names something
 abbrev pub IsWord : List ℕ → Type 0
 IsWord word = (word ≢ []) × HasNoSpace word

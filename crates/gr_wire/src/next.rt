@@ -162,6 +162,13 @@ fn command_after<S: Source>(
             Ok(path) => Ok(ask(Command::Cat { path })),
             Err(_) => Ok(Next::NoRoom),
         },
+        CommandLine::Uses { path, offset } => match Word::new(alloc, path.as_str()) {
+            Ok(path) => Ok(ask(Command::Uses {
+                path,
+                offset: offset as usize,
+            })),
+            Err(_) => Ok(Next::NoRoom),
+        },
     }
 }
 

@@ -2,12 +2,12 @@
 //! in specs/Lines.antt, and an arm here.
 ghost use Rattle.std.specs.Prelude.{◌≡◌, ◌^◌, codes, MatchBool};
 ghost use Rattle.gr_wire.specs.Words.{HasNoSpace};
-ghost use Rattle.gr_wire.specs.Parsing.{SplitsWord, ReadsNumber, ReadsArgument, ParsesBare, ParsesArgs, ParsesLine};
+ghost use Rattle.gr_wire.specs.Parsing.{SplitsWord, SplitsPlace, ReadsNumber, ReadsPart, ReadsArgument, ParsesBare, ParsesArgs, ParsesLine};
 
 use itoa::Buffer;
 use std::marker::Model;
 
-/// A word of a command line that names something.
+/// A word of a command line that names something, or the part of one before an offset.
 #[derive(Drop)]
 pub struct Argument<'a> {
     text: &'a str,
@@ -51,6 +51,10 @@ pub enum CommandLine<'a> {
     Cat {
         path: Argument<'a>,
     },
+    Uses {
+        path: Argument<'a>,
+        offset: u32,
+    },
     List,
     Faults,
     End,
@@ -87,6 +91,25 @@ fn has_no_space(text: &str) -> bool
     ensures { MatchBool result (HasNoSpace text.now) (HasNoSpace text.now → ⊥) }
 {
     split_word(text).is_none()
+}
+
+/// What stands before the last `:#`, and after it.
+#[tactic(auto, using(crate::proofs::Places::last_mark))]
+fn split_place(text: &str) -> Option<(&str, &str)>
+    ensures { SplitsPlace text.now result }
+{
+    text.rsplit_once(":#")
+}
+
+/// What names something within a word.
+fn parse_part(text: &str) -> Option<Argument<'_>>
+    ensures { ReadsPart text.now result }
+{
+    if has_no_space(text) {
+        Some(Argument { text })
+    } else {
+        None
+    }
 }
 
 fn parse_argument(text: &str) -> Option<Argument<'_>>
@@ -142,6 +165,16 @@ fn parse_cat(words: &str) -> Option<CommandLine<'_>>
     Some(CommandLine::Cat { path })
 }
 
+fn parse_uses(words: &str) -> Option<CommandLine<'_>>
+    ensures { ParsesArgs (codes "uses") words.now result }
+{
+    let (path, offset) = split_place(words)?;
+    Some(CommandLine::Uses {
+        path: parse_part(path)?,
+        offset: parse_u32(offset)?,
+    })
+}
+
 /// A command line of one word.
 fn parse_bare(verb: &str) -> Option<CommandLine<'_>>
     ensures { ParsesBare verb.now result }
@@ -165,6 +198,7 @@ fn parse_verb<'a>(verb: &str, words: &'a str) -> Option<CommandLine<'a>>
         "undo" => parse_undo(words),
         "redo" => parse_redo(words),
         "cat" => parse_cat(words),
+        "uses" => parse_uses(words),
         _ => None,
     }
 }
