@@ -20,4 +20,5 @@ pub mod StatementParts
 pub mod FileParts
 pub mod Declared
 pub mod Tables
+pub mod NamedSites
 pub mod Examples
