@@ -22,3 +22,4 @@ pub mod Declared
 pub mod Tables
 pub mod NamedSites
 pub mod Examples
+pub mod NamedExamples
