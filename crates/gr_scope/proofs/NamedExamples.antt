@@ -1,6 +1,6 @@
 -- Worked examples: what names are bound to where imports without a name declare. The package that `"b/q"` names is called
 -- `q`, and another one `len`.
-use Rattle.std.proofs.Common.{ℕ, ◌≡◌, ◌<◌, ◌⊎◌, inl, inr, true, List, [], ◌∷◌, length, Option, Some, None, refl, arith, zero, suc}
+use Rattle.std.proofs.Common.{ℕ, ◌≡◌, ◌<◌, inl, inr, true, List, [], ◌∷◌, Option, Some, None, refl, arith, zero, suc}
 use Rattle.std.specs.Prelude.{codes}
 use Rattle.gr_scope.specs.declared.model.Block.TheVariants.{Package, File}
 use Rattle.gr_scope.specs.declared.model.Role.{Role}

@@ -9,7 +9,7 @@ use Rattle.gr_scope.specs.declared.model.Identifier.{Identifier}
 use Rattle.gr_scope.specs.declared.model.Position.{Position}
 use Rattle.gr_scope.specs.declared.model.Role.{Role}
 use Rattle.gr_scope.specs.declared.model.Role.TheVariants.{Use, Declaring, LeftName, Implied, NotLexical}
-use Rattle.gr_scope.specs.Bindings.{Layout, MayDeclare, IsLeftName, SameBlock, block_of, start_of, may_declare, is_left_name}
+use Rattle.gr_scope.specs.Bindings.{Layout, MayDeclare, IsLeftName, block_of, start_of, may_declare, is_left_name}
 use Rattle.gr_scope.specs.FileSites.{SpelledFile, package_sites}
 use Rattle.gr_scope.specs.Found.{site_of}
 use Rattle.gr_scope.specs.Named.{is_unnamed_import, named_where, named_site, named_sites}

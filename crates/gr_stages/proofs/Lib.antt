@@ -1,4 +1,5 @@
 -- The lemmas of this crate.
 pub mod Used
 pub mod MarkParts
+pub mod UnknownParts
 mod Examples

@@ -4,5 +4,6 @@ pub mod Files
 pub mod Clauses
 pub mod Imports
 pub mod Scoping
+pub mod Unknown
 pub mod Marks
 pub mod Stages

@@ -2,6 +2,7 @@
 #![tactic(auto)]
 
 mod clauses;
+mod exports;
 mod files;
 mod imports;
 mod marks;
@@ -9,7 +10,9 @@ mod scoping;
 mod stages;
 mod states;
 mod table;
+mod unknown;
 mod uses;
 
-pub use stages::{outer_faults, own_faults};
+pub use exports::{Exports, is_exported};
+pub use stages::{inner_faults, outer_faults, own_faults};
 pub use states::{ImportState, ImportStates};

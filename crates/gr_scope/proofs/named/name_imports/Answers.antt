@@ -1,6 +1,5 @@
 -- The answers to the goals of `named::name_imports`.
-use Rattle.std.proofs.Common.{ap, map, ◌∙◌}
-use Rattle.gr_scope.specs.Found.{site_of}
+use Rattle.std.proofs.Common.{ap, ◌∙◌}
 use Rattle.gr_scope.specs.Named.{name_given, named_sites}
 use Rattle.gr_scope.proofs.NamedSites.{named_list_well_formed}
 use Rattle.gr_scope.proofs.named.name_imports.Goals as goal
