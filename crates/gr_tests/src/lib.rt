@@ -5,6 +5,8 @@
 #[cfg(test)]
 mod book;
 #[cfg(test)]
+mod imports;
+#[cfg(test)]
 mod parse;
 #[cfg(test)]
 mod scan;
