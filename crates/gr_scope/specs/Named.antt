@@ -35,10 +35,13 @@ named_sites names (x ∷ xs) = named_site (names 0) x ∷ named_sites (λ u. nam
 abbrev pub named : (ℕ → Option (List ℕ)) → ScopedPackage → ScopedPackage
 named names p = record { files = p.files; sites = named_sites names p.sites }
 
+abbrev pub name_value : Option (Bor (List ℕ)) → Option (List ℕ)
+name_value None = None
+name_value (Some name) = Some name.now
+
 abbrev pub name_in : Option (Option (Bor (List ℕ))) → Option (List ℕ)
 name_in None = None
-name_in (Some None) = None
-name_in (Some (Some name)) = Some name.now
+name_in (Some name) = name_value name
 
 -- the name that a list holds for a number
 abbrev pub name_given : List (Option (Bor (List ℕ))) → ℕ → Option (List ℕ)

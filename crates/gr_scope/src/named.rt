@@ -1,7 +1,7 @@
 //! The table in which an import without a name declares the name of the package that it imports.
 ghost use Rattle.std.specs.Prelude.{◌≡◌, ◌<◌, ◌∷◌, [], length, map, slice_get, OnOk, IfOk};
 ghost use Rattle.gr_scope.specs.Found.{Adds, site_of};
-ghost use Rattle.gr_scope.specs.Named.{is_unnamed_import, name_in, name_given, named, named_site, named_sites};
+ghost use Rattle.gr_scope.specs.Named.{is_unnamed_import, name_value, name_given, named, named_site, named_sites};
 ghost use Rattle.gr_scope.specs.Site.{found_site};
 
 use crate::links::links_of;
@@ -23,7 +23,7 @@ impl Role {
 
 /// The name that is known for a number.
 fn name_given<'a>(names: &[Option<&'a [u8]>], u: usize) -> Option<&'a [u8]>
-    ensures { name_in (Some result) ≡ name_given names.now u }
+    ensures { name_value result ≡ name_given names.now u }
 {
     match names.get(u) {
         None => None,
@@ -33,7 +33,7 @@ fn name_given<'a>(names: &[Option<&'a [u8]>], u: usize) -> Option<&'a [u8]>
 
 /// An identifier, with the name of the package where it is the literal of an import without a name.
 fn named_identifier<'a>(identifier: &Identifier<'a>, name: Option<&'a [u8]>) -> Identifier<'a>
-    ensures { site_of result ≡ named_site (name_in (Some name.entry)) (site_of identifier.now) }
+    ensures { site_of result ≡ named_site (name_value name.entry) (site_of identifier.now) }
 {
     let place = identifier.place;
     match name {

@@ -2,4 +2,5 @@
 pub mod Used
 pub mod MarkParts
 pub mod UnknownParts
+pub mod NameParts
 mod Examples

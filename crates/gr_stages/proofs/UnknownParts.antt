@@ -37,7 +37,7 @@ path_at files p d s None e h = λ v path.
     h v (subst (λ t. HasLiteral t token v) (same_file path.source s (sym path.is_file ∙ e)) path.has_literal)
 path_at files p d s (Some v) e h = record { source = s; is_file = e; has_literal = h }
 
-one_path : ((bytes v w : List ℕ) → HasStringValue bytes v → HasStringValue bytes w → v ≡ w) → (files : List SourceFile) (p : Laid) (d : ℕ) (v w : List ℕ) →
+pub one_path : ((bytes v w : List ℕ) → HasStringValue bytes v → HasStringValue bytes w → v ≡ w) → (files : List SourceFile) (p : Laid) (d : ℕ) (v w : List ℕ) →
     IsPathOf files p d v → IsPathOf files p d w → v ≡ w
 one_path one files p d v w a b =
     let token = (p.layout.place (literal_of p.layout d)).index in

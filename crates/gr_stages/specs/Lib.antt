@@ -5,5 +5,6 @@ pub mod Clauses
 pub mod Imports
 pub mod Scoping
 pub mod Unknown
+pub mod PackageNames
 pub mod Marks
 pub mod Stages

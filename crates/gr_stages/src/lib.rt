@@ -6,6 +6,7 @@ mod exports;
 mod files;
 mod imports;
 mod marks;
+mod names;
 mod scoping;
 mod stages;
 mod states;
@@ -14,5 +15,6 @@ mod unknown;
 mod uses;
 
 pub use exports::{Exports, is_exported};
+pub use names::{PackageNames, lay_names};
 pub use stages::{inner_faults, outer_faults, own_faults};
 pub use states::{ImportState, ImportStates};
