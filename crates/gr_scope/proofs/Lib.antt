@@ -21,5 +21,6 @@ pub mod FileParts
 pub mod Declared
 pub mod Tables
 pub mod NamedSites
+pub mod BoundImports
 pub mod Examples
 pub mod NamedExamples
