@@ -40,3 +40,7 @@ same_listed P a b l s = record { holds = λ f p. s.keeps f (l.holds f p); only =
 -- faults of two sorts
 pub both_listed : (P Q : Fault → Type 0) (a b : List Fault) → Adds [] a P → Adds a b Q → Lists (λ f. P f ⊎ Q f) b
 both_listed P Q a b h k = lists_from b (λ f. P f ⊎ Q f) (adds_then [] a b P Q h k)
+
+-- further faults
+pub listed_then : (P Q : Fault → Type 0) (a b : List Fault) → Lists P a → Adds a b Q → Lists (λ f. P f ⊎ Q f) b
+listed_then P Q a b l k = both_listed P Q a b (record { keeps = λ f h. absurd (no_element f h); holds = l.holds; only = λ f h. inr (l.only f h) }) k

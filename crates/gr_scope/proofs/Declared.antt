@@ -109,7 +109,7 @@ same_place (x ∷ xs) (suc i) = same_place xs i
 layout_made : (ℕ → Role) → (ℕ → Position) → Layout
 layout_made r p = record { role = r; place = p }
 
-layout-sites : (xs : List Identifier) → layout_of xs ≡ sites_layout (map site_of xs)
+pub layout-sites : (xs : List Identifier) → layout_of xs ≡ sites_layout (map site_of xs)
 unfolding layout_made
 layout-sites xs =
     ap (λ r. layout_made r (λ i. place_at (slice_get xs i))) (fun_ext (same_role xs)) ∙

@@ -20,4 +20,7 @@ pub mod StatementParts
 pub mod FileParts
 pub mod Declared
 pub mod Tables
+pub mod NamedSites
+pub mod BoundImports
 pub mod Examples
+pub mod NamedExamples

@@ -18,7 +18,7 @@ use Rattle.gr_parse.specs.Flatten.{sign, all_tokens, imports_tokens, decl_tokens
 use Rattle.gr_parse.specs.Tree.{FileTree}
 
 -- a declaration of a file whose rank is at least this
-abbrev From : ℕ → Site → Type 0
+abbrev pub From : ℕ → Site → Type 0
 From rank x = may_declare x.role ≡ true → Flat x ⊎ ((f : ℕ) × ((rank ≤ f) × Framed f x))
 
 abbrev At : ℕ → Site → Type 0
@@ -94,7 +94,7 @@ universe_flat : (names : List (List ℕ)) → Each Flat (map universe_site names
 universe_flat [] = tt
 universe_flat (x ∷ xs) = (flat_universe x, universe_flat xs)
 
-package_agrees : (fs : List SpelledFile) → AreNumbered fs → Each (From 0) (package_sites fs) × EachPair Related (package_sites fs)
+pub package_agrees : (fs : List SpelledFile) → AreNumbered fs → Each (From 0) (package_sites fs) × EachPair Related (package_sites fs)
 unfolding package_sites
 package_agrees fs w =
     let names = map universe_site universe in
@@ -105,10 +105,10 @@ package_agrees fs w =
           (pairs_of_each Related Flat (λ x y h k mx my. flat_first x y h) names flat) rest.1,
     )
 
-not_may : {A : Type 0} → false ≡ true → A
+pub not_may : {A : Type 0} → false ≡ true → A
 not_may e = cc
 
-each_at : (P : Site → Type 0) → P (found_site (slice_get [] 0)) → (xs : List Site) → Each P xs → (d : ℕ) → P (found_site (slice_get xs d))
+pub each_at : (P : Site → Type 0) → P (found_site (slice_get [] 0)) → (xs : List Site) → Each P xs → (d : ℕ) → P (found_site (slice_get xs d))
 each_at P p [] a d = p
 each_at P p (x ∷ xs) a zero = a.0
 each_at P p (x ∷ xs) a (suc d) = each_at P p xs a.1 d
@@ -121,7 +121,7 @@ pair_at R p q (x ∷ xs) a zero (suc e) h = each_at (R x) (p x) xs a.0 e
 pair_at R p q (x ∷ xs) a (suc d) zero h = absurd (omega arith)
 pair_at R p q (x ∷ xs) a (suc d) (suc e) h = pair_at R p q xs a.1 d e (omega arith)
 
-may_at : (xs : List Site) (d : ℕ) → may_declare (found_site (slice_get xs d)).role ≡ true → d < length xs
+pub may_at : (xs : List Site) (d : ℕ) → may_declare (found_site (slice_get xs d)).role ≡ true → d < length xs
 may_at [] d m = cc
 may_at (x ∷ xs) zero m = omega arith
 may_at (x ∷ xs) (suc d) m = let less : d < length xs = may_at xs d m in omega arith

@@ -6,7 +6,7 @@ use Rattle.std.specs.Cmp.Lexicographic.{pointwise}
 use Rattle.indexmap.specs.IndexMap.{IndexMap, get}
 use Rattle.gr_scope.specs.Bindings.{Names}
 use Rattle.gr_scope.specs.Table.{layout_of, names_of}
-use Rattle.gr_scope.specs.WellFormed.{WellFormed}
+use Rattle.gr_scope.specs.WellFormed.{WellFormed, AreImportsLevel}
 use Rattle.gr_scope.specs.declared.model.Identifier.{Identifier}
 
 -- the last of that name below a number, or none
@@ -37,4 +37,5 @@ IsLeft (Some k) d = d ≤ k
 -- the identifiers of a package, with their links
 pub record IsTable {S : Type 0} (xs : List Identifier) (last : IndexMap (Bor (List ℕ)) ℕ S) (previous : List (Option ℕ)) : Type 0 where
   pub well_formed : WellFormed (layout_of xs)
+  pub imports : AreImportsLevel (layout_of xs)
   pub links : AreLinks (names_of xs) (length xs) last previous

@@ -13,3 +13,4 @@ pub mod Found
 pub mod Parsed
 pub mod Scoped
 pub mod Chains
+pub mod Named

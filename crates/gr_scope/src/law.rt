@@ -2,11 +2,12 @@
 
 ghost use Rattle.std.specs.Prelude.{ℕ, List, ◌≡◌, ◌<◌, ◌↔◌, ◌⊎◌};
 ghost use Rattle.gr_scope.specs.declared.model.Position.{Position};
+ghost use Rattle.gr_scope.specs.declared.model.Block.TheVariants.{File, Inner};
 ghost use Rattle.gr_scope.specs.Scopes.{Holds, IsInside};
 ghost use Rattle.gr_scope.specs.Site.{sites_layout};
 ghost use Rattle.gr_scope.specs.FileSites.{SpelledFile, package_sites};
 ghost use Rattle.gr_scope.specs.Trees.{AreNumbered};
-ghost use Rattle.gr_scope.specs.Bindings.{Layout, Names, IsBoundTo, Counts, MayDeclare, IsLeftName, Declares, SameBlock, InScope, scope_of};
+ghost use Rattle.gr_scope.specs.Bindings.{Layout, Names, IsBoundTo, IsUse, Counts, MayDeclare, IsLeftName, Declares, SameBlock, InScope, scope_of, block_of};
 ghost use Rattle.gr_scope.specs.WellFormed.{WellFormed};
 ghost use Rattle.gr_scope.specs.Moves.{IsMoved};
 
@@ -43,4 +44,11 @@ pub fn scopes_nest_or_are_apart()
     ensures { (l : Layout) → WellFormed l → (d e : ℕ) → MayDeclare l d → MayDeclare l e → (place : Position) →
         Holds (scope_of (l.role d)) place → Holds (scope_of (l.role e)) place →
         IsInside (scope_of (l.role d)) (scope_of (l.role e)) ⊎ IsInside (scope_of (l.role e)) (scope_of (l.role d)) }
+{}
+
+/// A use is bound to the import of its name that counts in its file, where no inner declaration holds it.
+pub fn uses_are_bound_to_imports()
+    ensures { (l : Layout) → (names : Names) → (u i f : ℕ) → Counts l names i → block_of (l.role i) ≡ File f → names i ≡ names u → (l.place u).file ≡ f →
+        IsUse l names u → ((e g a b : ℕ) → Counts l names e → names e ≡ names u → InScope l e u → block_of (l.role e) ≡ Inner g a b → ⊥) →
+        IsBoundTo l names u i }
 {}

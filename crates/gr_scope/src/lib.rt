@@ -8,6 +8,7 @@ pub mod expressions;
 pub mod law;
 pub mod links;
 pub mod model;
+pub mod named;
 pub mod resolve;
 pub mod simple;
 pub mod source;

@@ -6,7 +6,7 @@ ghost use Rattle.gr_scope.specs.Chains.{AreLinks, IsChain};
 ghost use Rattle.gr_scope.specs.Found.{site_of};
 ghost use Rattle.gr_scope.specs.Scoped.{layout_in, names_in, IsBoundIn, IsPlaceOf, BeginsIn, BeginsAt};
 ghost use Rattle.gr_scope.specs.Table.{layout_of, names_of, StandsAt, IsFirstOf, IsFoundAt};
-ghost use Rattle.gr_scope.specs.WellFormed.{WellFormed};
+ghost use Rattle.gr_scope.specs.WellFormed.{WellFormed, AreImportsLevel};
 
 use crate::counting::{bound_to, counts, is_use};
 use crate::links::{Chain, Links};
@@ -128,6 +128,7 @@ impl<'a> ScopeTable<'a> {
         links: Links<'a>,
     ) -> ScopeTable<'a>
         requires well_formed { WellFormed (layout_of identifiers.items) }
+        requires imports { AreImportsLevel (layout_of identifiers.items) }
         requires linked { AreLinks (names_of identifiers.items) (length identifiers.items) links.last links.previous.items }
         ensures files { result.files ≡ files.now }
         ensures sites { result.sites ≡ map site_of identifiers.entry.items }
@@ -149,6 +150,13 @@ impl<'a> ScopeTable<'a> {
     /// The layout of a table is well formed, since it is that of a package's trees.
     pub fn is_well_formed(&self)
         ensures { WellFormed (layout_in self.now) }
+    {
+        let _identifiers = &self.identifiers;
+    }
+
+    /// What a table declares in a file's block is seen from the file's beginning.
+    pub(crate) fn imports_are_level(&self)
+        ensures { AreImportsLevel (layout_in self.now) }
     {
         let _identifiers = &self.identifiers;
     }

@@ -1,4 +1,6 @@
 -- The lemmas of this crate.
 pub mod Used
 pub mod MarkParts
+pub mod UnknownParts
+pub mod NameParts
 mod Examples

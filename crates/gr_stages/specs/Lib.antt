@@ -4,5 +4,7 @@ pub mod Files
 pub mod Clauses
 pub mod Imports
 pub mod Scoping
+pub mod Unknown
+pub mod PackageNames
 pub mod Marks
 pub mod Stages

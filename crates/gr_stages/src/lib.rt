@@ -2,14 +2,19 @@
 #![tactic(auto)]
 
 mod clauses;
+mod exports;
 mod files;
 mod imports;
 mod marks;
+mod names;
 mod scoping;
 mod stages;
 mod states;
 mod table;
+mod unknown;
 mod uses;
 
-pub use stages::{outer_faults, own_faults};
+pub use exports::{Exports, is_exported};
+pub use names::{PackageNames, lay_names};
+pub use stages::{inner_faults, outer_faults, own_faults};
 pub use states::{ImportState, ImportStates};

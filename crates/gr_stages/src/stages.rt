@@ -6,13 +6,15 @@ ghost use Rattle.gr_fault.specs.Listing.{Lists};
 ghost use Rattle.gr_parse.specs.SourceFile.{source_of};
 ghost use Rattle.gr_stages.specs.States.{state_in};
 ghost use Rattle.gr_stages.specs.Scoping.{laid_in};
-ghost use Rattle.gr_stages.specs.Stages.{IsOuterFault, IsOwnFault};
+ghost use Rattle.gr_stages.specs.Stages.{IsOuterFault, IsOwnFault, IsInnerFault};
 
 use crate::clauses::add_clauses;
+use crate::exports::Exports;
 use crate::imports::add_imports;
 use crate::marks::add_marks;
 use crate::scoping::add_scopes;
 use crate::states::ImportStates;
+use crate::unknown::add_unknowns;
 use gr_fault::{Fault, sort};
 use gr_parse::FileTree;
 use gr_scope::table::ScopeTable;
@@ -81,6 +83,37 @@ pub fn own_faults(
     ensures order { IfOk result (λ found. IsStrictlySortedBy order.ghosts.cmp found.items) }
 {
     let mut found = own_found(alloc, table, files)?;
+    sort(&mut found);
+    Ok(found)
+}
+
+/// The faults that scopes tell, in the order of their finding.
+fn inner_found<E: Exports>(
+    alloc: Global,
+    table: &ScopeTable,
+    files: &[FileTree],
+    exports: &E,
+) -> Result<Vec<Fault>, AllocError>
+    ensures { IfOk result (λ found. Lists (IsInnerFault (map source_of files.now) (E.exported exports.now) (laid_in table.now)) found.items) }
+{
+    let mut found = own_found(alloc, table, files)?;
+    add_unknowns(alloc, &mut found, table, files, exports)?;
+    Ok(found)
+}
+
+/// The faults that scopes tell, by file and token: those of the package's own scopes, and those of names behind the names of
+/// packages, of which `exports` tells what they declare. In the table each import without a name declares the name of the
+/// imported package.
+pub fn inner_faults<E: Exports>(
+    alloc: Global,
+    table: &ScopeTable,
+    files: &[FileTree],
+    exports: &E,
+) -> Result<Vec<Fault>, AllocError>
+    ensures listed { IfOk result (λ found. Lists (IsInnerFault (map source_of files.now) (E.exported exports.now) (laid_in table.now)) found.items) }
+    ensures order { IfOk result (λ found. IsStrictlySortedBy order.ghosts.cmp found.items) }
+{
+    let mut found = inner_found(alloc, table, files, exports)?;
     sort(&mut found);
     Ok(found)
 }

@@ -6,6 +6,7 @@
 mod book;
 #[cfg(test)]
 mod expressions;
+mod imports;
 #[cfg(test)]
 mod parse;
 #[cfg(test)]

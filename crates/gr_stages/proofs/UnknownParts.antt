@@ -1,0 +1,78 @@
+-- The faults of names behind a package's, from their parts.
+use Rattle.std.proofs.Common.{ℕ, suc, ◌≡◌, ◌<◌, List, length, get_or, map, Bool, Option, Some, None, ap, sym, ◌∙◌, subst, arith, MatchOption}
+use Rattle.std.specs.Prelude.{slice_get, Result, OnOk}
+use Rattle.std.specs.Option.{option_map}
+use Rattle.std.specs.declared.vec.Vec.{Vec}
+use Rattle.std.specs.declared.alloc.Global.{Global}
+use Rattle.std.proofs.lemmas.List.{length-map}
+use Rattle.std.proofs.lemmas.Option.{slice_get-map, slice_get-get_or, slice_get_within}
+use Rattle.gr_text.specs.declared.fault_kind.FaultKind.{FaultKind}
+use Rattle.gr_scan.specs.Cuts.{bytes_of}
+use Rattle.gr_scan.specs.CutText.{token_at}
+use Rattle.gr_scan.specs.StringValues.{HasStringValue}
+use Rattle.gr_fault.specs.declared.fault.Fault.{Fault}
+use Rattle.gr_fault.specs.Listing.{Adds}
+use Rattle.gr_fault.proofs.Listings.{adds_none, call_adds}
+use Rattle.gr_parse.specs.SourceFile.{FileParts, SourceFile, source_of}
+use Rattle.gr_scope.specs.Bindings.{IsBoundTo}
+use Rattle.gr_stages.specs.Files.{HasLiteral}
+use Rattle.gr_stages.specs.Scoping.{Laid, literal_of, IsPathOf, IsUnknown, is_exported, qualified_fault}
+use Rattle.gr_stages.specs.Unknown.{IsFaultOfKind, IsUnknownOf, IsQualifiedBy}
+
+same_file : (s t : SourceFile) → Some s ≡ Some t → s ≡ t
+same_file s t e = cc
+
+pub source_at : (files : List FileParts) (i : ℕ) (x : FileParts) → i < length files → x ≡ get_or files i x → slice_get (map source_of files) i ≡ Some (source_of x)
+source_at files i x lt e = slice_get-map source_of files i ∙ ap (option_map source_of) (slice_get-get_or files i x lt ∙ ap Some (sym e))
+
+pub no_source : (files : List FileParts) (i : ℕ) (s : SourceFile) → slice_get (map source_of files) i ≡ Some s → i < length files
+no_source files i s e = rw length-map at (slice_get_within (map source_of files) i s e)
+
+-- what a literal stands for is the import's path
+pub path_at : (files : List SourceFile) (p : Laid) (d : ℕ) (s : SourceFile) (o : Option (Vec ℕ Global)) → slice_get files (p.layout.place d).file ≡ Some s →
+    (let token = (p.layout.place (literal_of p.layout d)).index in MatchOption o ((v : List ℕ) → HasLiteral s token v → ⊥) (λ v. HasLiteral s token v.items)) →
+    MatchOption o ((v : List ℕ) → IsPathOf files p d v → ⊥) (λ v. IsPathOf files p d v.items)
+path_at files p d s None e h = λ v path.
+    let token = (p.layout.place (literal_of p.layout d)).index in
+    h v (subst (λ t. HasLiteral t token v) (same_file path.source s (sym path.is_file ∙ e)) path.has_literal)
+path_at files p d s (Some v) e h = record { source = s; is_file = e; has_literal = h }
+
+pub one_path : ((bytes v w : List ℕ) → HasStringValue bytes v → HasStringValue bytes w → v ≡ w) → (files : List SourceFile) (p : Laid) (d : ℕ) (v w : List ℕ) →
+    IsPathOf files p d v → IsPathOf files p d w → v ≡ w
+one_path one files p d v w a b =
+    let token = (p.layout.place (literal_of p.layout d)).index in
+    let other : HasLiteral a.source token w = subst (λ t. HasLiteral t token w) (same_file b.source a.source (sym b.is_file ∙ a.is_file)) b.has_literal in
+    one (bytes_of a.source.cut.text (token_at a.source.cut token)) v w a.has_literal.stands_for other.stands_for
+
+-- the fault of a name of the package of a path
+pub name_added : {E : Type 0} (one : (bytes v w : List ℕ) → HasStringValue bytes v → HasStringValue bytes w → v ≡ w) (files : List SourceFile) (exports : (path name : List ℕ) → Bool) (p : Laid) (d u : ℕ)
+    (path : List ℕ) (kind : Option FaultKind) (a b : List Fault) (r : Result (Unit {0}) E) → IsPathOf files p d path →
+    kind ≡ qualified_fault (is_exported (p.names u)) (exports path (p.names u)) → OnOk r (Adds a b (IsFaultOfKind p u kind)) → OnOk r (Adds a b (IsUnknownOf files exports p d u))
+name_added one files exports p d u path kind a b r of_path is k =
+    let kind_of : List ℕ → Option FaultKind = λ v. qualified_fault (is_exported (p.names u)) (exports v (p.names u)) in
+    call_adds a b (IsFaultOfKind p u kind) (IsUnknownOf files exports p d u) r k
+    (λ f h. record { path = path; of_path = of_path; of_kind = subst (λ z. IsFaultOfKind p u z f) is h })
+    (λ f h. subst (λ z. IsFaultOfKind p u z f) (ap kind_of (one_path one files p d h.path path h.of_path of_path) ∙ sym is) h.of_kind)
+
+before_one : (u a b : ℕ) → u ≡ suc a → u ≡ suc b → a ≡ b
+before_one u a b e h = omega arith
+
+-- the fault of a name behind that of the one import to which the use before it is bound
+pub unknown_added : {E : Type 0} (files : List SourceFile) (exports : (path name : List ℕ) → Bool) (p : Laid) (d u : ℕ) (a b : List Fault) (r : Result (Unit {0}) E) →
+    ((v x y : ℕ) → IsBoundTo p.layout p.names v x → IsBoundTo p.layout p.names v y → x ≡ y) → IsQualifiedBy p u d →
+    OnOk r (Adds a b (IsUnknownOf files exports p d u)) → OnOk r (Adds a b (IsUnknown files exports p u))
+unknown_added files exports p d u a b r one q k =
+    call_adds a b (IsUnknownOf files exports p d u) (IsUnknown files exports p u) r k
+    (λ f h. record { before = q.0; import = d; path = h.path; qualified = q.1; of_path = h.of_path; file = h.of_kind.file; token = h.of_kind.token; kind = h.of_kind.is_kind })
+    (λ f h.
+    let same : h.before ≡ q.0 = before_one u h.before q.0 h.qualified.next q.1.next in
+    let import : h.import ≡ d = one q.0 h.import d (subst (λ v. IsBoundTo p.layout p.names v h.import) same h.qualified.bound) q.1.bound in
+    record {
+      path = h.path;
+      of_path = subst (λ x. IsPathOf files p x h.path) import h.of_path;
+      of_kind = record { file = h.file; token = h.token; is_kind = h.kind };
+    })
+
+pub none_unknown : (files : List SourceFile) (exports : (path name : List ℕ) → Bool) (p : Laid) (u : ℕ) (a : List Fault) → ((d : ℕ) → IsQualifiedBy p u d → ⊥) →
+    Adds a a (IsUnknown files exports p u)
+none_unknown files exports p u a none = adds_none a (IsUnknown files exports p u) (λ f h. none h.import (h.before, h.qualified))

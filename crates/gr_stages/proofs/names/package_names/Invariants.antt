@@ -1,0 +1,14 @@
+-- The invariants of the loops of `names::package_names`.
+use Rattle.std.proofs.Common.{ℕ, ◌≡◌, ◌<◌, true, length, map}
+use Rattle.gr_parse.specs.SourceFile.{source_of}
+use Rattle.gr_scope.specs.Named.{is_unnamed_import, name_given}
+use Rattle.gr_stages.specs.Scoping.{laid_in}
+use Rattle.gr_stages.specs.PackageNames.{IsPackageName}
+use Rattle.gr_stages.proofs.names.package_names.Given as goal
+
+abbrev pub invariant-loop-u : goal.invariant-loop-u
+invariant-loop-u g l = record {
+  sized : length l.names.items ≡ l.u;
+  each : (k : ℕ) → k < l.u → is_unnamed_import ((laid_in l.table).layout.role k) ≡ true →
+      IsPackageName (map source_of l.files) (g.N.PackageNames.name_of l.packages) (laid_in l.table) k (name_given l.names.items k);
+}

@@ -1,0 +1,166 @@
+//! The faults of names behind a package's: not exported, or not declared there.
+ghost use Rattle.std.specs.Prelude.{ℕ, List, ◌≡◌, ◌<◌, ◌↔◌, suc, IsTrue, IfOk, OnOk, MatchOption, map};
+ghost use Rattle.gr_fault.specs.Listing.{Adds};
+ghost use Rattle.gr_parse.specs.SourceFile.{source_of};
+ghost use Rattle.gr_scope.specs.declared.model.Role.TheVariants.{NotLexical};
+ghost use Rattle.gr_scope.specs.declared.model.Purpose.TheVariants as purpose;
+ghost use Rattle.gr_stages.specs.Scoping.{laid_in, IsPathOf, IsUnknown, IsUnknownFault};
+ghost use Rattle.gr_stages.specs.Unknown.{IsFaultOfKind, IsUnknownOf, IsBehind, IsOfImport, IsQualifiedBy};
+
+use crate::exports::{Exports, qualified_fault};
+use crate::files::literal;
+use crate::table::{binding, fault_at, is_import, literal_of};
+use gr_fault::{Fault, push};
+use gr_parse::FileTree;
+use gr_scope::model::{Purpose, Role};
+use gr_scope::table::ScopeTable;
+use gr_text::FaultKind;
+use std::alloc::{AllocError, Global};
+
+/// Whether a role is that of a name behind a dot.
+fn is_selected(role: Role) -> bool
+    ensures { IsTrue result ↔ (role ≡ NotLexical purpose.Selected) }
+{
+    match role {
+        Role::NotLexical(Purpose::Selected) => true,
+        _ => false,
+    }
+}
+
+/// Whether an identifier stands behind a dot behind another one.
+fn is_behind(table: &ScopeTable, b: usize, u: usize) -> bool
+    requires before { b < (laid_in table.now).size }
+    requires behind { u < (laid_in table.now).size }
+    ensures { IsTrue result ↔ IsBehind (laid_in table.now) b u }
+{
+    let before = table.place(b);
+    let at = table.place(u);
+    is_selected(table.role(u))
+        && at.file == before.file
+        && 2 <= at.index
+        && at.index - 2 == before.index
+}
+
+/// The import that an identifier is bound to.
+fn import_of(table: &ScopeTable, b: usize) -> Option<usize>
+    requires { b < (laid_in table.now).size }
+    ensures bound { MatchOption result ((d : ℕ) → IsOfImport (laid_in table.now) b d → ⊥) (λ d. IsOfImport (laid_in table.now) b d) }
+    ensures in_range { MatchOption result (Unit {0}) (λ d. d < (laid_in table.now).size) }
+{
+    gr_scope::law::bindings_are_unique();
+    table.is_well_formed();
+    match binding(table, b) {
+        Some(d) if d < table.len() && is_import(table, d) => Some(d),
+        _ => None,
+    }
+}
+
+/// The import behind whose name an identifier stands.
+fn qualifier_of(table: &ScopeTable, u: usize) -> Option<usize>
+    requires { u < (laid_in table.now).size }
+    ensures qualified { MatchOption result ((d : ℕ) → IsQualifiedBy (laid_in table.now) u d → ⊥) (λ d. IsQualifiedBy (laid_in table.now) u d) }
+    ensures in_range { MatchOption result (Unit {0}) (λ d. d < (laid_in table.now).size) }
+{
+    if 0 < u && is_behind(table, u - 1, u) {
+        import_of(table, u - 1)
+    } else {
+        None
+    }
+}
+
+/// The path that an import names.
+pub fn path_of(
+    alloc: Global,
+    table: &ScopeTable,
+    files: &[FileTree],
+    d: usize,
+) -> Result<Option<Vec<u8>>, AllocError>
+    requires { d < (laid_in table.now).size }
+    ensures { IfOk result (λ path. MatchOption path ((v : List ℕ) → IsPathOf (map source_of files.now) (laid_in table.now) d v → ⊥)
+        (λ v. IsPathOf (map source_of files.now) (laid_in table.now) d v.items)) }
+{
+    let file = table.place(d).file;
+    if file < files.len() {
+        literal(alloc, &files[file], table.place(literal_of(table, d)).index)
+    } else {
+        Ok(None)
+    }
+}
+
+/// Adds an identifier's fault, if there is one.
+fn add_kind(
+    found: &mut Vec<Fault>,
+    table: &ScopeTable,
+    u: usize,
+    kind: Option<FaultKind>,
+) -> Result<(), AllocError>
+    requires { u < (laid_in table.now).size }
+    ensures { OnOk result (Adds found.old.items found.new.items (IsFaultOfKind (laid_in table.now) u kind)) }
+{
+    match kind {
+        None => Ok(()),
+        Some(kind) => push(found, fault_at(table, u, kind)),
+    }
+}
+
+/// Adds the fault of a name of the package that an import names.
+fn add_name<E: Exports>(
+    alloc: Global,
+    found: &mut Vec<Fault>,
+    table: &ScopeTable,
+    files: &[FileTree],
+    exports: &E,
+    import: usize,
+    u: usize,
+) -> Result<(), AllocError>
+    requires import { import < (laid_in table.now).size }
+    requires name { u < (laid_in table.now).size }
+    ensures { OnOk result (Adds found.old.items found.new.items (IsUnknownOf (map source_of files.now) (E.exported exports.now) (laid_in table.now) import u)) }
+{
+    gr_scan::laws::one_string_value();
+    match path_of(alloc, table, files, import)? {
+        None => Ok(()),
+        Some(path) => add_kind(
+            found,
+            table,
+            u,
+            qualified_fault(exports, &path, table.name(u)),
+        ),
+    }
+}
+
+/// Adds the fault of an identifier that stands behind a package's name.
+fn add_unknown<E: Exports>(
+    alloc: Global,
+    found: &mut Vec<Fault>,
+    table: &ScopeTable,
+    files: &[FileTree],
+    exports: &E,
+    u: usize,
+) -> Result<(), AllocError>
+    requires { u < (laid_in table.now).size }
+    ensures { OnOk result (Adds found.old.items found.new.items (IsUnknown (map source_of files.now) (E.exported exports.now) (laid_in table.now) u)) }
+{
+    gr_scope::law::bindings_are_unique();
+    table.is_well_formed();
+    match qualifier_of(table, u) {
+        None => Ok(()),
+        Some(import) => add_name(alloc, found, table, files, exports, import, u),
+    }
+}
+
+/// Adds the faults of names behind packages' names.
+pub fn add_unknowns<E: Exports>(
+    alloc: Global,
+    found: &mut Vec<Fault>,
+    table: &ScopeTable,
+    files: &[FileTree],
+    exports: &E,
+) -> Result<(), AllocError>
+    ensures { OnOk result (Adds found.old.items found.new.items (IsUnknownFault (map source_of files.now) (E.exported exports.now) (laid_in table.now))) }
+{
+    for u in 0..table.len() {
+        add_unknown(alloc, found, table, files, exports, u)?;
+    }
+    Ok(())
+}
