@@ -77,7 +77,7 @@ pub fn judge_value<'w>(
 
 /// The links of a chain, behind an operand that has that meaning and stands at `place`.
 #[cycle(judging)]
-fn chain<'w>(
+pub fn chain<'w>(
     alloc: Global,
     scope: Scope<'w>,
     start: usize,

@@ -205,7 +205,7 @@ impl<'w> World<'w> {
     }
 
     /// How the name at a token is spelled.
-    fn spelling(&self, place: usize) -> &'w [u8]
+    pub fn spelling(&self, place: usize) -> &'w [u8]
         ensures { result.now ≡ spelling_of (name_in self.now place) }
     {
         match self.names.get(place) {
