@@ -113,6 +113,7 @@ fn is_bad_init(is_init: bool, func: &FuncDecl, results: &[Target]) -> bool
 }
 
 impl Checked {
+    /// Declares a receiver, and notes what its type may not be.
     fn check_receiver(
         &mut self,
         alloc: Global,
@@ -139,6 +140,7 @@ impl Checked {
         }
     }
 
+    /// Declares parameters of one type.
     fn check_param(
         &mut self,
         alloc: Global,
@@ -151,6 +153,7 @@ impl Checked {
         declare_written(alloc, &mut self.locals, &param.names, &own)
     }
 
+    /// Declares all parameters.
     fn check_params(
         &mut self,
         alloc: Global,

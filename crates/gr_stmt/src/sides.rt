@@ -90,6 +90,7 @@ fn results_at(alloc: Global, place: usize, types: &[GoType]) -> Result<Vec<Argue
     Ok(values)
 }
 
+/// The values of expressions, each one value.
 fn each_value(
     alloc: Global,
     scope: Scope<'_>,
@@ -160,6 +161,7 @@ fn refuse_nil(value: &Argued, found: &mut Found) -> Result<(), AllocError>
     Ok(())
 }
 
+/// Notes the values that their targets refuse, in turn.
 pub fn refuse_all(
     world: &World<'_>,
     values: &[Argued],
