@@ -147,9 +147,9 @@ pub fn judge_link<'w>(
     }
 }
 
-/// The values of the arguments of a call.
+/// The values of the arguments of a call, or of other expressions in turn.
 #[cycle(judging)]
-fn arguments<'w>(
+pub fn arguments<'w>(
     alloc: Global,
     scope: Scope<'w>,
     list: &[ExprItem],

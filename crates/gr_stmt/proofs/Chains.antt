@@ -16,7 +16,8 @@ use Rattle.gr_expr.specs.Found.{Adds}
 use Rattle.gr_expr.proofs.Trees.{chain_tree, place_step}
 use Rattle.gr_expr.proofs.Equations.{links_step, links_end}
 use Rattle.gr_stmt.specs.Simple.{is_end, is_statement, may_stand, ends_in_call, without_last}
-use Rattle.gr_stmt.proofs.Growing.{adds_as, adds_then}
+use Rattle.gr_expr.proofs.Adding.{adds_then}
+use Rattle.gr_stmt.proofs.Growing.{adds_as}
 
 -- links that end in one are not at their end
 not_end : (xs : List Link) (l : Link) → is_end (links_in (xs ++ (l ∷ []))) ≡ false

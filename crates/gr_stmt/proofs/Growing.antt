@@ -1,8 +1,8 @@
 -- What loops over values, left sides and faults have found so far, with what is still to come.
-use Rattle.std.proofs.Common.{ℕ, ◌≡◌, List, [], ◌∷◌, ◌++◌, ap, sym, ◌∙◌, refl, subst, append_assoc, append-nil, map, Option, Result, Ok, Err, IfOk}
+use Rattle.std.proofs.Common.{ℕ, ◌≡◌, List, [], ◌∷◌, ◌++◌, ap, sym, ◌∙◌, refl, subst, append_assoc, append-nil, map, Option}
 use Rattle.gr_expr.specs.declared.found.Found.{Found}
-use Rattle.gr_expr.specs.Types.{Meaning, Kind, PlainType, Results}
-use Rattle.gr_expr.specs.Judge.{Judged, JudgedList, TypeJudged, Argued, value_kind, value_before, means, followed}
+use Rattle.gr_expr.specs.Types.{Meaning, PlainType, Results}
+use Rattle.gr_expr.specs.Judge.{Judged, JudgedList, TypeJudged, Argued, value_kind, means}
 use Rattle.gr_expr.specs.Found.{use_of, Adds, AddsList, AddsType}
 use Rattle.gr_stmt.specs.Sides.{Target, Wants, Lefts, left_side, lefts_then, one_value, list_followed, values_of, results_at}
 use Rattle.gr_stmt.specs.Headers.{ResultsJudged, result_then}
@@ -10,10 +10,6 @@ use Rattle.gr_stmt.specs.View.{AddsLefts, AddsResults, Notes}
 
 grown : {X : Type 0} (now more rest : List X) {total : List X} → now ++ (more ++ rest) ≡ total → (now ++ more) ++ rest ≡ total
 grown now more rest e = append_assoc now more rest ∙ e
-
-pub ok_map : {X E : Type 0} {P Q : X → Type 0} (r : Result X E) → ((x : X) → P x → Q x) → IfOk r P → IfOk r Q
-ok_map (Ok x) f p = f x p
-ok_map (Err e) f p = tt
 
 -- left sides
 
@@ -52,37 +48,6 @@ lefts_as {old = old} {new = new} {ts = ts} a e = subst (λ (x : Lefts). AddsLeft
 
 -- values
 
-pub record GrownList (rest total : JudgedList) (old now : Found) (vs : List Argued) : Type 0 where
-  pub values : vs ++ rest.values ≡ total.values
-  pub faults : now.faults.items ++ rest.faults ≡ old.faults.items ++ total.faults
-  pub uses : map use_of now.uses.items ++ rest.uses ≡ map use_of old.uses.items ++ total.uses
-
-pub grown_list_start : {f : Found} (l : JudgedList) → GrownList l l f f []
-grown_list_start l = record { values = refl; faults = refl; uses = refl }
-
-pub grown_list_step : {rest more total : JudgedList} (place : ℕ) (j : Judged) {old now new : Found} {m : Meaning} {vs : List Argued} (v : Argued) →
-    GrownList rest total old now vs → Adds j now new m → v ≡ record { place = place; kind = value_kind m } → rest ≡ value_before place j more → GrownList more total old new (vs ++ (v ∷ []))
-grown_list_step {rest} {more} {total} place j {old} {now} {new} {m} {vs} v g a is e = record {
-  values = ap (λ x. (vs ++ (x ∷ [])) ++ more.values) (is ∙ ap (λ k. record { place = place; kind = value_kind k }) a.meaning)
-      ∙ grown vs (record { place = place; kind = value_kind j.meaning } ∷ []) more.values (ap (λ x. vs ++ x.values) (sym e) ∙ g.values);
-  faults = ap (λ x. x ++ more.faults) a.faults ∙ grown now.faults.items j.faults more.faults (ap (λ x. now.faults.items ++ x.faults) (sym e) ∙ g.faults);
-  uses = ap (λ x. x ++ more.uses) a.uses ∙ grown (map use_of now.uses.items) j.uses more.uses (ap (λ x. map use_of now.uses.items ++ x.uses) (sym e) ∙ g.uses);
-}
-
-pub grown_list_end : {rest total : JudgedList} {old now : Found} {vs : List Argued} → GrownList rest total old now vs →
-    rest ≡ record { values = []; faults = []; uses = [] } → AddsList total old now vs
-grown_list_end {rest} {total} {old} {now} {vs} g e = record {
-  values = sym (append-nil vs) ∙ (ap (λ x. vs ++ x.values) (sym e) ∙ g.values);
-  faults = sym (append-nil now.faults.items) ∙ (ap (λ x. now.faults.items ++ x.faults) (sym e) ∙ g.faults);
-  uses = sym (append-nil (map use_of now.uses.items)) ∙ (ap (λ x. map use_of now.uses.items ++ x.uses) (sym e) ∙ g.uses);
-}
-
-abbrev pub Same : Argued → Argued → Type 0
-Same a b = a ≡ b
-
-pub argued_at : {p q : ℕ} {k l : Option Kind} → p ≡ q → k ≡ l → Same (record { place = p; kind = k }) (record { place = q; kind = l })
-argued_at {p} {q} {k} {l} e f = ap (λ x. record { place = x; kind = k }) e ∙ ap (λ x. record { place = q; kind = x }) f
-
 pub adds_one : {j : Judged} (place : ℕ) {old new : Found} {m : Meaning} {vs : List Argued} → Adds j old new m → vs ≡ record { place = place; kind = value_kind m } ∷ [] → AddsList (one_value place j) old new vs
 adds_one place a e = record { values = e ∙ ap (λ k. record { place = place; kind = value_kind k } ∷ []) a.meaning; faults = a.faults; uses = a.uses }
 
@@ -104,16 +69,6 @@ list_as {old = old} {new = new} {vs = vs} a e = subst (λ (x : JudgedList). Adds
 pub adds_results : (place : ℕ) (ts : List PlainType) (f : Found) {vs : List Argued} → vs ≡ results_at place ts → AddsList (values_of place (Results ts)) f f vs
 unfolding values_of
 adds_results place ts f e = record { values = e; faults = sym (append-nil f.faults.items); uses = sym (append-nil (map use_of f.uses.items)) }
-
--- what one rule adds behind another
-pub adds_then : {j : Judged} (rule : Meaning → Judged) {old mid new : Found} {m r : Meaning} → Adds j old mid m → Adds (rule m) mid new r → Adds (followed j rule) old new r
-adds_then {j} rule {old} {mid} {new} {m} {r} a b =
-    let b' : Adds (rule j.meaning) mid new r = subst (λ (x : Meaning). Adds (rule x) mid new r) a.meaning b in
-    record {
-      meaning = b'.meaning;
-      faults = b'.faults ∙ (ap (λ x. x ++ (rule j.meaning).faults) a.faults ∙ append_assoc old.faults.items j.faults (rule j.meaning).faults);
-      uses = b'.uses ∙ (ap (λ x. x ++ (rule j.meaning).uses) a.uses ∙ append_assoc (map use_of old.uses.items) j.uses (rule j.meaning).uses);
-    }
 
 -- faults alone
 

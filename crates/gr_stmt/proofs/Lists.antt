@@ -9,11 +9,7 @@ pub list_all_map : {X Y : Type 0} (p : Y → Bool) (f : X → Y) (xs : List X) �
 list_all_map p f [] = refl
 list_all_map p f (x ∷ xs) = ap (λ b. p (f x) && b) (list_all_map p f xs)
 
--- the item at an index, and those behind it
-pub next_item : {X : Type 0} (xs : List X) (i : ℕ) (x : X) → i < length xs → x ≡ get_or xs i x → drop i xs ≡ x ∷ drop (i + 1) xs
-next_item xs i x h e = rw add-one (drop-cons xs i x h ∙ ap (λ y. y ∷ drop (suc i) xs) (sym e))
-
--- the same where the items are plain numbers or enums
+-- the item at an index and those behind it, where the items are plain numbers or enums
 pub next_plain : {X : Type 0} (xs : List X) (i : ℕ) (d : X) → i < length xs → drop i xs ≡ get_or xs i d ∷ drop (i + 1) xs
 next_plain xs i d h = rw add-one (drop-cons xs i d h)
 

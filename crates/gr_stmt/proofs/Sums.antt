@@ -1,5 +1,5 @@
 -- The definitions of several items, by the first and the others.
-use Rattle.std.proofs.Common.{ℕ, ◌≡◌, Bool, List, [], ◌∷◌, ◌++◌, refl, map, Option}
+use Rattle.std.proofs.Common.{ℕ, ◌≡◌, Bool, List, [], ◌∷◌, ◌++◌, ap, refl, map, Option}
 use Rattle.gr_parse.specs.View.{expr_view, exprs_view, list_view, type_view}
 use Rattle.gr_parse.specs.FileView.{field_view, decl_view}
 use Rattle.gr_parse.specs.declared.tree.Field.{Field}
@@ -7,23 +7,21 @@ use Rattle.gr_parse.specs.declared.tree.Item.{Item}
 use Rattle.gr_parse.specs.declared.tree.Decl.{Decl}
 use Rattle.gr_parse.specs.declared.tree.TypeExpr.{TypeExpr}
 use Rattle.gr_parse.specs.declared.tree.ExprItem.{ExprItem}
+use Rattle.gr_expr.specs.Lists.{arguments_in}
 use Rattle.gr_expr.specs.Places.{place_of}
 use Rattle.gr_expr.specs.Types.{PlainType}
 use Rattle.gr_expr.specs.World.{World, Locals}
-use Rattle.gr_expr.specs.Judge.{judge_type, judge_value, value_before, Argued}
+use Rattle.gr_expr.specs.Judge.{judge_type, judge_value, judge_arguments, value_before, Argued}
 use Rattle.gr_stmt.specs.Checked.{Checked, check_items}
 use Rattle.gr_stmt.specs.Headers.{judge_types, result_then}
 use Rattle.gr_stmt.specs.Declarations.{field_faults, check_decl, check_decls}
 use Rattle.gr_stmt.specs.Sides.{judge_each, assigned, assigned_one, defined, defined_one, lefts_then, Target, refused, all_refused, with_locals, declared_if, head_or_none, tail_of}
 
-pub judge_each_step : (w : World) (ls : Locals) (x : ExprItem) (xs : List ExprItem) →
-    judge_each w ls (exprs_view (x ∷ xs)) ≡ value_before (place_of (expr_view x.value)) (judge_value w ls (expr_view x.value)) (judge_each w ls (exprs_view xs))
-unfolding judge_each
-judge_each_step w ls x xs = refl
-
-pub judge_each_end : (w : World) (ls : Locals) → judge_each w ls (exprs_view []) ≡ record { values = []; faults = []; uses = [] }
-unfolding judge_each
-judge_each_end w ls = refl
+-- values in turn are the arguments of a call
+pub arguments_each : (w : World) (ls : Locals) (xs : List ExprItem) → judge_arguments w ls (arguments_in xs) ≡ judge_each w ls (exprs_view xs)
+unfolding judge_arguments arguments_in judge_each
+arguments_each w ls [] = refl
+arguments_each w ls (x ∷ xs) = ap (value_before (place_of (expr_view x.value)) (judge_value w ls (expr_view x.value))) (arguments_each w ls xs)
 
 pub assigned_step : (w : World) (ls : Locals) (x : ExprItem) (xs : List ExprItem) →
     assigned w ls (exprs_view (x ∷ xs)) ≡ lefts_then (assigned_one w ls (expr_view x.value)) (assigned w ls (exprs_view xs))

@@ -68,7 +68,7 @@ fn calls_statement(link: &Link, meaning: &Meaning<'_>) -> bool
     is_call(link) && may_stand(meaning)
 }
 
-/// The same of a chain that ends in that link.
+/// What a chain that ends in that link stands for, and whether it may stand as a statement.
 fn judge_last<'w>(
     alloc: Global,
     scope: Scope<'w>,
@@ -90,7 +90,7 @@ fn judge_last<'w>(
     Ok(Alone { meaning, stands })
 }
 
-/// The same of a chain.
+/// What a chain stands for, and whether it may stand as a statement.
 fn judge_chain<'w>(
     alloc: Global,
     scope: Scope<'w>,

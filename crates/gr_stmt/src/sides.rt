@@ -14,7 +14,7 @@ ghost use Rattle.gr_stmt.specs.View.{target_of, AddsLefts, Notes};
 
 use crate::locals::declares;
 use gr_expr::found::{Found, Scope};
-use gr_expr::judge::{judge, judge_value};
+use gr_expr::judge::{arguments, judge, judge_value};
 use gr_expr::meaning::{Argued, Meaning, all_whole};
 use gr_expr::places::place_of;
 use gr_expr::types::{GoType, Kind};
@@ -99,13 +99,7 @@ fn each_value(
 ) -> Result<Vec<Argued>, AllocError>
     ensures { IfOk result (λ vs. AddsList (judge_each (world_of scope.entry.world.now) (locals_of scope.entry.locals.now) (exprs_view exprs.now)) found.old found.new (map argued_of vs.items)) }
 {
-    let mut values = Vec::new(alloc);
-    for item in exprs {
-        let place = place_of(&item.value);
-        let kind = judge_value(alloc, scope, &item.value, found)?.into_kind();
-        values.push(Argued { place, kind })?;
-    }
-    Ok(values)
+    arguments(alloc, scope, exprs, found)
 }
 
 /// Whether the left side is not broken.

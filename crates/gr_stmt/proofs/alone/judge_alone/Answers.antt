@@ -4,7 +4,8 @@ use Rattle.gr_expr.specs.WorldView.{world_of}
 use Rattle.gr_expr.specs.Found.{locals_of}
 use Rattle.gr_stmt.specs.Simple.{is_statement}
 use Rattle.gr_stmt.proofs.Chains.{chain_is}
-use Rattle.gr_stmt.proofs.Growing.{adds_as, ok_map}
+use Rattle.gr_expr.proofs.Equations.{ok_map}
+use Rattle.gr_stmt.proofs.Growing.{adds_as}
 use Rattle.gr_stmt.proofs.alone.judge_alone.Goals as goal
 
 pub returns-in-Chain-clause-found : goal.returns-in-Chain-clause-found

@@ -8,7 +8,8 @@ use Rattle.gr_expr.specs.WorldView.{world_of}
 use Rattle.gr_expr.specs.Found.{locals_of}
 use Rattle.gr_stmt.specs.Simple.{is_statement}
 use Rattle.gr_stmt.proofs.Chains.{bare_adds, bare_stands}
-use Rattle.gr_stmt.proofs.Growing.{adds_as, ok_map}
+use Rattle.gr_expr.proofs.Equations.{ok_map}
+use Rattle.gr_stmt.proofs.Growing.{adds_as}
 use Rattle.gr_stmt.proofs.alone.judge_chain.Goals as goal
 
 pub returns-in-Some-clause-found : goal.returns-in-Some-clause-found

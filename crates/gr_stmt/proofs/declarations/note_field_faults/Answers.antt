@@ -6,7 +6,7 @@ use Rattle.gr_expr.specs.Judge.{judge_type}
 use Rattle.gr_expr.specs.WorldView.{world_of}
 use Rattle.gr_stmt.specs.Declarations.{field_faults}
 use Rattle.gr_stmt.proofs.Growing.{grown_faults_step, grown_faults_end}
-use Rattle.gr_stmt.proofs.Lists.{next_item}
+use Rattle.gr_expr.proofs.Items.{next_item}
 use Rattle.gr_stmt.proofs.Making.{type_notes}
 use Rattle.gr_stmt.proofs.Sums.{field_faults_step, field_faults_end}
 use Rattle.gr_stmt.proofs.declarations.note_field_faults.Goals as goal

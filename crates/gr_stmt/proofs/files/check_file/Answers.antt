@@ -4,7 +4,7 @@ use Rattle.gr_parse.specs.FileView.{decl_view, file_view}
 use Rattle.gr_expr.specs.WorldView.{world_of}
 use Rattle.gr_stmt.specs.Declarations.{check_decls, check_file}
 use Rattle.gr_stmt.specs.View.{checked_of, is_init_in}
-use Rattle.gr_stmt.proofs.Lists.{next_item}
+use Rattle.gr_expr.proofs.Items.{next_item}
 use Rattle.gr_stmt.proofs.Sums.{decls_step, decls_end}
 use Rattle.gr_stmt.proofs.files.check_file.Goals as goal
 

@@ -8,7 +8,7 @@ use Rattle.gr_stmt.specs.Sides.{Target}
 use Rattle.gr_stmt.specs.Headers.{judge_types}
 use Rattle.gr_stmt.specs.View.{target_of}
 use Rattle.gr_stmt.proofs.Growing.{GrownResults, grown_results_step, grown_results_end}
-use Rattle.gr_stmt.proofs.Lists.{next_item}
+use Rattle.gr_expr.proofs.Items.{next_item}
 use Rattle.gr_stmt.proofs.Sums.{judge_types_step, judge_types_end}
 use Rattle.gr_stmt.proofs.headers.result_types.Goals as goal
 

@@ -5,7 +5,8 @@ use Rattle.gr_expr.specs.WorldView.{world_of}
 use Rattle.gr_stmt.specs.declared.sides.Target.TheVariants as target
 use Rattle.gr_stmt.specs.Headers.{judge_types, judge_results}
 use Rattle.gr_stmt.specs.View.{target_of}
-use Rattle.gr_stmt.proofs.Growing.{adds_no_results, adds_one_result, results_as, ok_map}
+use Rattle.gr_expr.proofs.Equations.{ok_map}
+use Rattle.gr_stmt.proofs.Growing.{adds_no_results, adds_one_result, results_as}
 use Rattle.gr_stmt.proofs.headers.results_of.Goals as goal
 
 pub returns-in-None : goal.returns-in-None

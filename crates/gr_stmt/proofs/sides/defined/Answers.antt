@@ -7,7 +7,7 @@ use Rattle.gr_expr.specs.Found.{locals_of}
 use Rattle.gr_stmt.specs.Sides.{Target, defined, defined_one}
 use Rattle.gr_stmt.specs.View.{target_of}
 use Rattle.gr_stmt.proofs.Growing.{GrownLefts, grown_lefts_step, grown_lefts_end}
-use Rattle.gr_stmt.proofs.Lists.{next_item}
+use Rattle.gr_expr.proofs.Items.{next_item}
 use Rattle.gr_stmt.proofs.Sums.{defined_step, defined_end}
 use Rattle.gr_stmt.proofs.sides.defined.Goals as goal
 

@@ -8,7 +8,8 @@ use Rattle.gr_expr.specs.Found.{locals_of, meaning_of}
 use Rattle.gr_stmt.specs.Sides.{Takes, Wants, own_type, left_side, renewed, no_name, defined_one}
 use Rattle.gr_stmt.specs.View.{target_of}
 use Rattle.gr_stmt.proofs.Cases.{defined_default}
-use Rattle.gr_stmt.proofs.Growing.{adds_as, adds_left, adds_no_left, adds_then, lefts_as}
+use Rattle.gr_expr.proofs.Adding.{adds_then}
+use Rattle.gr_stmt.proofs.Growing.{adds_as, adds_left, adds_no_left, lefts_as}
 use Rattle.gr_stmt.proofs.sides.defined_one.Goals as goal
 
 pub returns-in-Blank : goal.returns-in-Blank

@@ -6,7 +6,8 @@ use Rattle.gr_expr.specs.View.{type_of}
 use Rattle.gr_expr.specs.Found.{meaning_of}
 use Rattle.gr_stmt.specs.Sides.{values_of, one_value}
 use Rattle.gr_stmt.proofs.Cases.{values_default}
-use Rattle.gr_stmt.proofs.Growing.{adds_followed, adds_results, list_as, ok_map}
+use Rattle.gr_expr.proofs.Equations.{ok_map}
+use Rattle.gr_stmt.proofs.Growing.{adds_followed, adds_results, list_as}
 use Rattle.gr_stmt.proofs.sides.lone.Goals as goal
 
 pub returns-in-Results : goal.returns-in-Results

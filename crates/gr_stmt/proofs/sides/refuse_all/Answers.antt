@@ -6,7 +6,7 @@ use Rattle.gr_expr.specs.Found.{argued_of}
 use Rattle.gr_stmt.specs.Sides.{all_refused, refused}
 use Rattle.gr_stmt.specs.View.{target_of}
 use Rattle.gr_stmt.proofs.Growing.{grown_faults_step, grown_faults_end}
-use Rattle.gr_stmt.proofs.Lists.{next_item}
+use Rattle.gr_expr.proofs.Items.{next_item}
 use Rattle.gr_stmt.proofs.Sums.{all_refused_step, all_refused_no_values, all_refused_no_targets}
 use Rattle.gr_stmt.proofs.sides.refuse_all.Goals as goal
 

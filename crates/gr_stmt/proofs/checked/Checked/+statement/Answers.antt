@@ -9,7 +9,7 @@ use Rattle.gr_stmt.specs.Simple.{check_condition}
 use Rattle.gr_stmt.specs.Statements.{check_return, check_statement, check_block, check_if, check_else}
 use Rattle.gr_stmt.specs.View.{checked_of, target_of}
 use Rattle.gr_stmt.proofs.Blocks.{check_each, each_step, each_end, block_read, if_from}
-use Rattle.gr_stmt.proofs.Lists.{next_item}
+use Rattle.gr_expr.proofs.Items.{next_item}
 use Rattle.gr_stmt.proofs.checked.Checked.+statement.Goals as goal
 
 pub check_statement-returns-in-Empty : goal.check_statement-returns-in-Empty

@@ -6,7 +6,7 @@ use Rattle.gr_expr.specs.WorldView.{world_of}
 use Rattle.gr_stmt.specs.Checked.{check_items}
 use Rattle.gr_stmt.specs.Headers.{check_param}
 use Rattle.gr_stmt.specs.View.{checked_of}
-use Rattle.gr_stmt.proofs.Lists.{next_item}
+use Rattle.gr_expr.proofs.Items.{next_item}
 use Rattle.gr_stmt.proofs.Sums.{items_step, items_end}
 use Rattle.gr_stmt.proofs.checked.Checked.check_params.Goals as goal
 
