@@ -76,6 +76,7 @@ pub struct Definitions {
 }
 
 /// What a file is judged by.
+#[derive(Clone, Copy)]
 pub struct World<'w> {
     /// The path of the file's package.
     pub package: &'w SharedPath,
