@@ -77,7 +77,7 @@ pub fn judge_value<'w>(
 
 /// The links of a chain, behind an operand that has that meaning and stands at `place`.
 #[cycle(judging)]
-fn chain<'w>(
+pub fn chain<'w>(
     alloc: Global,
     scope: Scope<'w>,
     start: usize,
@@ -147,9 +147,9 @@ pub fn judge_link<'w>(
     }
 }
 
-/// The values of the arguments of a call.
+/// The values of the arguments of a call, or of other expressions in turn.
 #[cycle(judging)]
-fn arguments<'w>(
+pub fn arguments<'w>(
     alloc: Global,
     scope: Scope<'w>,
     list: &[ExprItem],

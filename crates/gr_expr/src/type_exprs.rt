@@ -23,7 +23,7 @@ impl Found {
 
     /// The type that a name means; no fault again where it is broken.
     #[tactic(auto, unfolding(crate::specs::Judge::named_type, crate::specs::WorldView::bound_of))]
-    fn named_type(
+    pub fn named_type(
         &mut self,
         alloc: Global,
         world: &World<'_>,

@@ -76,7 +76,7 @@ pub struct Definitions {
 }
 
 /// What a file is judged by.
-#[derive(Drop)]
+#[derive(Clone, Copy)]
 pub struct World<'w> {
     /// The path of the file's package.
     pub package: &'w SharedPath,
@@ -206,7 +206,7 @@ impl<'w> World<'w> {
     }
 
     /// How the name at a token is spelled.
-    fn spelling(&self, place: usize) -> &'w [u8]
+    pub fn spelling(&self, place: usize) -> &'w [u8]
         ensures { result.now ≡ spelling_of (name_in self.now place) }
     {
         match self.names.get(place) {

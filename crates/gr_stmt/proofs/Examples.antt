@@ -1,15 +1,15 @@
 -- What the definitions give on small statements and declarations, by computation.
-use Rattle.std.proofs.Common.{ℕ, ◌≡◌, ◌==◌, List, [], ◌∷◌, Option, Some, None, Bool, true, false, refl, if◌then◌else◌}
+use Rattle.std.proofs.Common.{ℕ, ◌≡◌, ◌==◌, List, [], ◌∷◌, Option, Some, None, true, false, refl, if◌then◌else◌}
 use Rattle.gr_parse.specs.declared.syntax.StepOp.TheVariants as step
 use Rattle.gr_parse.specs.declared.syntax.UpdateOp.TheVariants as update
-use Rattle.gr_parse.specs.Tree.{Item, IdentTree, Named, Underscore, TypeTree, ExprTree, Number, Text, Name, Blank, Paren, Chain, LinkTrees, selector, call, no_link, argument, no_argument, SimpleTree, Alone, Step, Update, Assign, Define, LocalTree, ReceiverTree, FuncTree, no_result, one_result, block, no_statement, Integer, String, GlobalTree, Return}
-use Rattle.gr_parse.specs.Tree.{Local as LocalType, Imported as ImportedType, Pointer as PointerType}
+use Rattle.gr_parse.specs.Tree.{Item, Named, Underscore, ExprTree, Number, Text, Name, Blank, Paren, Chain, selector, call, no_link, argument, no_argument, Alone, Step, Update, Assign, Define, ReceiverTree, FuncTree, no_result, block, no_statement, Integer, String, GlobalTree}
+use Rattle.gr_parse.specs.Tree.{Local as LocalType, Imported as ImportedType}
 use Rattle.gr_expr.specs.declared.types.Basic.TheVariants as basic
 use Rattle.gr_expr.specs.declared.types.Builtin.TheVariants as builtin
 use Rattle.gr_expr.specs.declared.symbol.Symbol.{Symbol}
-use Rattle.gr_expr.specs.Types.{PlainType, BasicType, Defined, Pointer, Underlying, Plain, PointerTo, Struct, Kind, Typed, Nil, Value, TypeName, Function, BuiltinName, Package, Broken, same_type, same_underlying, is_named, has_nil}
-use Rattle.gr_expr.specs.World.{World, Bound, Local, Means, BrokenVariable, BrokenFunction, BrokenType, Member, AField, Locals, no_locals}
-use Rattle.gr_expr.specs.Operations.{fits, operate, joined, class_of, family_of, result_of, is_nil}
+use Rattle.gr_expr.specs.Types.{PlainType, BasicType, Defined, Pointer, PointerTo, Struct, Typed, Nil, Value, TypeName, Function, BuiltinName, Broken, same_type, same_underlying, is_named}
+use Rattle.gr_expr.specs.World.{World, Bound, Local, Means, BrokenVariable, BrokenFunction, BrokenType, Member, AField, no_locals}
+use Rattle.gr_expr.specs.Operations.{fits, operate, joined, class_of}
 use Rattle.gr_expr.specs.Places.{first_token, place_of, place_of_links}
 use Rattle.gr_expr.specs.Judge.{judge, as_value, value_kind, select, select_member, all_whole, misfit, misfits, unless_faults, call_function, convert, call_builtin, call_of, all_printed, judge_type, named_type, imported_type}
 use Rattle.gr_stmt.specs.Checked.{Checked}

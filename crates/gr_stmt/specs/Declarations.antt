@@ -1,10 +1,10 @@
 -- Package-level declarations, and whole files.
 use Rattle.std.specs.Prelude.{ℕ, ◌==◌, Bool, if◌then◌else◌, List, [], ◌∷◌, ◌++◌, Option, Some, None, length, map}
-use Rattle.gr_parse.specs.Tree.{Item, TypeTree, BasicTree, Integer, String, GlobalTree, FieldTree, BodyTree, Other, Struct, TypeSpecTree, DeclTree, VarDecl, TypeDecl, FuncDecl, FuncTree, FileTree}
+use Rattle.gr_parse.specs.Tree.{Item, BasicTree, Integer, String, GlobalTree, FieldTree, BodyTree, Other, Struct, TypeSpecTree, DeclTree, VarDecl, TypeDecl, FuncDecl, FileTree}
 use Rattle.gr_expr.specs.declared.types.Basic.TheVariants as basic
-use Rattle.gr_expr.specs.Types.{PlainType, Kind, Untyped}
+use Rattle.gr_expr.specs.Types.{PlainType, Untyped}
 use Rattle.gr_expr.specs.World.{World, no_locals}
-use Rattle.gr_expr.specs.Judge.{Argued, TypeJudged, judge_type}
+use Rattle.gr_expr.specs.Judge.{Argued, judge_type}
 use Rattle.gr_stmt.specs.Checked.{Checked, noting, check_group}
 use Rattle.gr_stmt.specs.Sides.{Wants, all_refused}
 use Rattle.gr_stmt.specs.Headers.{check_function}

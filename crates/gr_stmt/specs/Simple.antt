@@ -5,7 +5,7 @@ use Rattle.gr_parse.specs.declared.syntax.BinaryOp.TheVariants as binary
 use Rattle.gr_parse.specs.declared.syntax.UpdateOp.{UpdateOp}
 use Rattle.gr_parse.specs.declared.syntax.UpdateOp.TheVariants as update
 use Rattle.gr_parse.specs.Tree.{Item, IdentTree, TypeTree, ExprTree, Chain, LinkTrees, no_link, selector, index, call, SimpleTree, Alone, Step, Update, Assign, Define, LocalTree}
-use Rattle.gr_expr.specs.Types.{PlainType, Kind, Meaning, Value, Function, BuiltinName, Broken}
+use Rattle.gr_expr.specs.Types.{PlainType, Kind, Meaning, Function, BuiltinName, Broken}
 use Rattle.gr_expr.specs.World.{World, Locals}
 use Rattle.gr_expr.specs.Operations.{operate, class_of, is_int, is_bool}
 use Rattle.gr_expr.specs.Places.{place_of, first_token}

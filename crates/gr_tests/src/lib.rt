@@ -6,6 +6,7 @@
 mod book;
 #[cfg(test)]
 mod expressions;
+#[cfg(test)]
 mod imports;
 #[cfg(test)]
 mod parse;

@@ -1,0 +1,10 @@
+use Rattle.std.proofs.Common.{◌≡◌, drop, map}
+use Rattle.gr_parse.specs.FileView.{decl_view}
+use Rattle.gr_expr.specs.WorldView.{world_of}
+use Rattle.gr_stmt.specs.Declarations.{check_decls}
+use Rattle.gr_stmt.specs.View.{checked_of, is_init_in}
+use Rattle.gr_stmt.proofs.files.check_file.Given as goal
+
+abbrev pub invariant-loop-decl : goal.invariant-loop-decl
+invariant-loop-decl l =
+    check_decls (world_of l.world) (is_init_in l.world) (checked_of l.checked) (map decl_view (drop l.decl-index l.decl-items)) ≡ check_decls (world_of l.world) (is_init_in l.world) (checked_of l.initial.checked) (map decl_view l.decl-items)

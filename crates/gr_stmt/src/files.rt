@@ -1,0 +1,67 @@
+//! Whole files: all that is declared in one, in turn.
+ghost use Rattle.std.specs.Prelude.{◌≡◌, [], IfOk, OnOk};
+ghost use Rattle.gr_parse.specs.FileView.{decl_view, file_view};
+ghost use Rattle.gr_expr.specs.World.{no_locals};
+ghost use Rattle.gr_expr.specs.WorldView.{world_of};
+ghost use Rattle.gr_stmt.specs.Declarations.{check_decl, check_file};
+ghost use Rattle.gr_stmt.specs.View.{checked_of, is_init_in};
+
+use crate::checked::Checked;
+use gr_expr::found::Found;
+use gr_expr::locals::Locals;
+use gr_expr::world::World;
+use gr_parse::tree::{Decl, File};
+use std::alloc::{AllocError, Global};
+
+/// Whether the name at a token is `init`.
+fn is_init(world: &World<'_>, place: usize) -> bool
+    ensures { result ≡ is_init_in world.now place }
+{
+    world.spelling(place) == b"init".as_slice()
+}
+
+impl Checked {
+    /// Nothing known yet.
+    fn new(alloc: Global) -> Checked
+        ensures { checked_of result ≡ record { locals = no_locals; faults = []; uses = [] } }
+    {
+        let found = Found {
+            faults: Vec::new(alloc),
+            uses: Vec::new(alloc),
+        };
+        Checked {
+            locals: Locals::new(alloc),
+            found,
+        }
+    }
+
+    /// Checks what one keyword declares.
+    fn check_decl(
+        &mut self,
+        alloc: Global,
+        world: &World<'_>,
+        decl: &Decl,
+    ) -> Result<(), AllocError>
+        ensures { OnOk result (checked_of self.new ≡ check_decl (world_of world.now) (is_init_in world.now) (checked_of self.old) (decl_view decl.now)) }
+    {
+        match decl {
+            Decl::Var { group, .. } => self.check_globals(alloc, world, group),
+            Decl::Type { group, .. } => self.check_types(alloc, world, group),
+            Decl::Func { func, .. } => {
+                let named_init = is_init(world, func.name);
+                self.check_function(alloc, world, named_init, func)
+            }
+        }
+    }
+}
+
+/// The types of the locals of a file, its faults of types and its member uses.
+pub fn check_file(alloc: Global, world: &World<'_>, file: &File) -> Result<Checked, AllocError>
+    ensures { IfOk result (λ checked. checked_of checked ≡ check_file (world_of world.now) (is_init_in world.now) (file_view file.now)) }
+{
+    let mut checked = Checked::new(alloc);
+    for decl in &file.decls {
+        checked.check_decl(alloc, world, decl)?;
+    }
+    Ok(checked)
+}
