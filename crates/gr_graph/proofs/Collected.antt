@@ -1,5 +1,5 @@
 -- Numbers that are collected, and the imports that they stand for.
-use Rattle.std.proofs.Common.{◌≡◌, ℕ, zero, suc, ◌<◌, ◌+◌, ◌↔◌, ◌⊎◌, List, [], ◌∷◌, ◌++◌, length, take, Option, Some, None, slice_get, get_or, refl, sym, ap, subst, ◌∙◌, ⊎_elim, inl, inr, arith, Global, eqb}
+use Rattle.std.proofs.Common.{◌≡◌, ℕ, zero, suc, ◌<◌, ◌+◌, ◌↔◌, ◌⊎◌, List, [], ◌∷◌, ◌++◌, length, take, Option, Some, None, slice_get, get_or, refl, sym, ap, subst, ◌∙◌, ⊎_elim, inl, inr, arith, Global, eqb, Result, Ok, Err, OnOk}
 use Rattle.std.specs.Prelude.{Vec}
 use Rattle.std.specs.List.{Contains, AllZip}
 use Rattle.std.specs.List.Sorted.{IsPermutation, IsSorted, IsStrictlyIncreasing}
@@ -64,9 +64,9 @@ none_held x has = absurd (omega (arith, has.1))
 more_cases : {X : Type 0} (xs : List X) (k : ℕ) (d x : X) → k < length xs → Contains (take (k + 1) xs) x → Contains (take k xs) x ⊎ (get_or xs k d ≡ x)
 more_cases xs k d x within has = Contains-push_cases (take k xs) (get_or xs k d) x (subst (λ ys. Contains ys x) (take_more xs k d within) has)
 
-pub one_more : {X : Type 0} (R : X → ℕ → Type 0) (xs : List X) (k : ℕ) (d : X) → k < length xs → (j : ℕ)
+one_more_at : {X : Type 0} (R : X → ℕ → Type 0) (xs : List X) (k : ℕ) (d : X) → k < length xs → (j : ℕ)
     → ((x : X) × Contains (take (k + 1) xs) x × R x j) ↔ (((x : X) × Contains (take k xs) x × R x j) ⊎ R (get_or xs k d) j)
-one_more R xs k d within j = (
+one_more_at R xs k d within j = (
   λ w. ⊎_elim (λ (o : Contains (take k xs) w.0). inl (w.0, o, w.2)) (λ (e : get_or xs k d ≡ w.0). inr (subst (λ x. R x j) (sym e) w.2)) (more_cases xs k d w.0 within w.1),
   λ either. ⊎_elim
     (λ w. (w.0, subst (λ ys. Contains ys w.0) (sym (take_more xs k d within)) (Contains-append_left (take k xs) (get_or xs k d ∷ []) w.0 w.1), w.2))
@@ -74,8 +74,12 @@ one_more R xs k d within j = (
     either,
 )
 
+pub one_more : {X : Type 0} (R : X → ℕ → Type 0) (xs : List X) (k : ℕ) (item : X) → k < length xs → item ≡ get_or xs k item → (j : ℕ)
+    → ((x : X) × Contains (take (k + 1) xs) x × R x j) ↔ (((x : X) × Contains (take k xs) x × R x j) ⊎ R item j)
+one_more R xs k item within is j = subst (λ (y : _). ((x : _) × Contains (take (k + 1) xs) x × R x j) ↔ (((x : _) × Contains (take k xs) x × R x j) ⊎ R y j)) (sym is) (one_more_at R xs k item within j)
+
 -- ---- what stands in the other list at the same place
-abbrev no_import : FileImport
+abbrev pub no_import : FileImport
 no_import = record { literal = 0; path = None }
 
 zip_at : {A B : Type 0} (R : A → B → Type 0) (xs : List A) (ys : List B) → AllZip R xs ys → (k : ℕ) (d : A) (e : B) → k < length xs → R (get_or xs k d) (get_or ys k e)
@@ -148,3 +152,16 @@ pub number_none : (paths : List (List ℕ)) (v : Vec ℕ Global) (o : Option (Ve
 number_none paths v o is none j here =
     let at : slice_get paths j ≡ Some v.items = subst (HasNumber paths j) is here in
     none (j, slice_get_within paths j v.items at, get_or_from_slice_get paths j v.items v.items at)
+
+-- ---- one more file
+pub holds_more : (R : FileParts → ℕ → Type 0) (files : List FileParts) (k : ℕ) (item : FileParts) → k < length files → item ≡ get_or files k item → (old new : List ℕ)
+    → Holds old (λ j. (f : FileParts) × Contains (take k files) f × R f j) → AddsNumbers (R item) old new
+    → Holds new (λ j. (f : FileParts) × Contains (take (k + 1) files) f × R f j)
+holds_more R files k item within is old new holds adds j = (
+  λ has. (one_more R files k item within is j).1 (⊎_elim (λ (o : Contains old j). inl ((holds j).0 o)) (λ (r : R item j). inr r) ((adds j).0 has)),
+  λ some. (adds j).1 (⊎_elim (λ w. inl ((holds j).1 w)) (λ r. inr r) ((one_more R files k item within is j).0 some)),
+)
+
+pub ok_adds : {X E : Type 0} {P Q : Type 0} (r : Result X E) → (P → Q) → OnOk r P → OnOk r Q
+ok_adds (Ok x) gives p = gives p
+ok_adds (Err e) gives p = tt

@@ -11,3 +11,5 @@ pub mod PackagePaths
 pub mod Filled
 pub mod Numbers
 pub mod Collected
+pub mod OneFile
+pub mod Linked

@@ -4,6 +4,7 @@
 mod closure;
 mod faulty_file;
 mod file_imports;
+mod graph;
 mod import_links;
 mod importers;
 mod order;
@@ -16,6 +17,7 @@ mod search;
 
 pub use faulty_file::FaultyFile;
 pub use file_imports::{FileImport, read_imports};
+pub use graph::Graph;
 pub use import_links::ImportLinks;
 pub use package::Package;
 pub use package_list::PackageList;
