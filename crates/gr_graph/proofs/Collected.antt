@@ -82,7 +82,7 @@ one_more R xs k item within is j = subst (λ (y : _). ((x : _) × Contains (take
 abbrev pub no_import : FileImport
 no_import = record { literal = 0; path = None }
 
-zip_at : {A B : Type 0} (R : A → B → Type 0) (xs : List A) (ys : List B) → AllZip R xs ys → (k : ℕ) (d : A) (e : B) → k < length xs → R (get_or xs k d) (get_or ys k e)
+pub zip_at : {A B : Type 0} (R : A → B → Type 0) (xs : List A) (ys : List B) → AllZip R xs ys → (k : ℕ) (d : A) (e : B) → k < length xs → R (get_or xs k d) (get_or ys k e)
 zip_at R [] ys all k d e h = absurd (omega arith)
 zip_at R (x ∷ xs) [] all k d e h = absurd all
 zip_at R (x ∷ xs) (y ∷ ys) all zero d e h = all.0

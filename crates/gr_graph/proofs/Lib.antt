@@ -13,3 +13,4 @@ pub mod Numbers
 pub mod Collected
 pub mod OneFile
 pub mod Linked
+pub mod Asked

@@ -11,7 +11,7 @@ use Rattle.gr_graph.specs.FaultyFiles.{FaultyParts}
 use Rattle.gr_graph.specs.Imports.{Links, AreLinked, Imports, imports_of}
 use Rattle.gr_graph.specs.Packages.{IsParsed, ImportsPath, PackageImports, AreLinksOf, package_paths, package_files}
 use Rattle.gr_graph.specs.Parsed.{AreParsed, IsFaulty, none, tree, fault}
-use Rattle.gr_graph.specs.Graphs.{paths_of}
+use Rattle.gr_graph.specs.Graphs.{paths_of, IsGraph}
 use Rattle.gr_graph.specs.Rows.{IsRow}
 use Rattle.gr_graph.specs.declared.package.Package.{Package}
 use Rattle.gr_graph.proofs.Collected.{zip_at, zip_length, none_held}
@@ -31,21 +31,21 @@ first_or_later P x xs first later y (suc k, within, is) = later y (k, omega (ari
 -- ---- files and their trees
 pub tree_is_of : {es : List (List ℕ × List ℕ)} {ts : List FileParts} {fs : List FaultyParts} → AreParsed es ts fs → (t : FileParts) → Contains ts t → (e : List ℕ × List ℕ) × Contains es e × IsParsed e.0 e.1 (source_of t)
 tree_is_of none t has = absurd (none_held t has)
-tree_is_of (tree {e} {es} {s} {ts} {fs} is parsed) t has =
+tree_is_of (tree {e = e} {es = es} {t = s} {ts = ts} is parsed) t has =
     first_or_later (λ t. (d : List ℕ × List ℕ) × Contains (e ∷ es) d × IsParsed d.0 d.1 (source_of t)) s ts
     (e, has_first e es, is)
     (λ y h. let w = tree_is_of parsed y h in (w.0, has_later e es w.0 w.1, w.2))
     t has
-tree_is_of (fault {e} {es} {ts} {f} {fs} is parsed) t has = let w = tree_is_of parsed t has in (w.0, has_later e es w.0 w.1, w.2)
+tree_is_of (fault {e = e} {es = es} is parsed) t has = let w = tree_is_of parsed t has in (w.0, has_later e es w.0 w.1, w.2)
 
 pub tree_of : {es : List (List ℕ × List ℕ)} {ts : List FileParts} {fs : List FaultyParts} → AreParsed es ts fs → (e : List ℕ × List ℕ) → Contains es e → (file : SourceFile) → IsParsed e.0 e.1 file → (t : FileParts) × Contains ts t × (file ≡ source_of t)
 tree_of none e has file parsed = absurd (none_held e has)
-tree_of (tree {d} {es} {s} {ts} {fs} is rest) e has file parsed =
+tree_of (tree {e = d} {es = es} {t = s} {ts = ts} is rest) e has file parsed =
     first_or_later (λ e. IsParsed e.0 e.1 file → (t : FileParts) × Contains (s ∷ ts) t × (file ≡ source_of t)) d es
     (λ here. (s, has_first s ts, one_file d.0 d.1 file (source_of s) here is))
     (λ y h here. let w = tree_of rest y h file here in (w.0, has_later s ts w.0 w.1, w.2))
     e has parsed
-tree_of (fault {d} {es} {ts} {f} {fs} is rest) e has file parsed =
+tree_of (fault {e = d} {es = es} {ts = ts} {f = f} is rest) e has file parsed =
     first_or_later (λ e. IsParsed e.0 e.1 file → (t : FileParts) × Contains ts t × (file ≡ source_of t)) d es
     (λ here. absurd (file_or_fault d.0 d.1 file f.fault here is.is_fault))
     (λ y h here. tree_of rest y h file here)
@@ -115,3 +115,6 @@ module _ (w : Workspace) (ps : List Package) (g : Links) (paths : paths_of ps �
       let d = get_or (paths_of ps) i [] in
       let here = package_at ps i d (slice_get-get_or (paths_of ps) i [] (omega (arith, size))) in
       (row_at i here.0 here.1).rising
+
+  pub graph_is : IsGraph w ps g
+  graph_is = record { paths = paths; each = parsed; linked = are_links; rising = are_rising }
