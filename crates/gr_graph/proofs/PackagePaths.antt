@@ -217,3 +217,7 @@ there_by paths (e ∷ es) all = (
 pub all_there : (w : Workspace) → AreThere (package_paths w) (entries w)
 all_there w = there_by (package_paths w) (entries w) (λ q one.
     Contains-from_any exact_names q (package_paths w) (sym (contains_key-keys (folders w) q) ∙ has_folder w q ∙ one))
+
+pub none_sorted : IsStrictlySortedBy path_cmp []
+unfolding IsStrictlySortedBy
+none_sorted = tt

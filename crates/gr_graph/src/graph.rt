@@ -1,9 +1,11 @@
 //! The graph of a workspace: its packages with their parsed files, and which imports which.
 ghost use Rattle.std.specs.Prelude.{◌≡◌, ◌<◌, length, IfOk, MatchOption, Some, slice_get};
 ghost use Rattle.std.specs.List.{Contains};
-ghost use Rattle.std.specs.List.Sorted.{IsStrictlyIncreasing};
+ghost use Rattle.std.specs.List.Sorted.{IsStrictlyIncreasing, IsStrictlySortedBy};
+ghost use Rattle.gr_text.specs.Workspace.{path_cmp};
 ghost use Rattle.gr_graph.specs.Packages.{package_paths, PackageImports, IsInClosure, AreLinksOf};
 ghost use Rattle.gr_graph.specs.Graphs.{
+  paths_of,
   IsPackage,
   OfPackage,
   HoldsPackages,
@@ -58,7 +60,23 @@ impl Graph {
     pub fn of(alloc: Global, files: &Files) -> Result<Graph, AllocError>
         ensures { IfOk result (λ graph. graph ≡ files.now) }
     {
-        let packages = packages(alloc, files)?;
+        let none = Vec::new(alloc);
+        Graph::behind(alloc, &none, files)
+    }
+
+    /// The graph of other files. It parses only those that the graph before does not have with the same text.
+    pub fn after(alloc: Global, before: &Graph, files: &Files) -> Result<Graph, AllocError>
+        ensures { IfOk result (λ graph. graph ≡ files.now) }
+    {
+        Graph::behind(alloc, &before.parts.packages, files)
+    }
+
+    /// The graph of some files. What is among the packages before is not parsed again.
+    fn behind(alloc: Global, before: &[Package], files: &Files) -> Result<Graph, AllocError>
+        requires { IsStrictlySortedBy path_cmp (paths_of before.now) }
+        ensures { IfOk result (λ graph. graph ≡ files.now) }
+    {
+        let packages = packages(alloc, before, files)?;
         let links = ImportLinks::new(alloc, rows(alloc, &packages)?)?;
         let files = files.copy()?;
         let parts = Parts {

@@ -7,6 +7,7 @@ mod file_imports;
 mod graph;
 mod import_links;
 mod importers;
+mod kept;
 mod order;
 mod package;
 mod package_list;

@@ -9,8 +9,9 @@ ghost use Rattle.gr_graph.specs.Graphs.{paths_of, IsEmpty};
 ghost use Rattle.gr_graph.specs.declared.package.Package.{Package};
 ghost use Rattle.std.specs.List.{All};
 
+use crate::kept::parse_unless_kept;
 use crate::package::{Package, number_of};
-use crate::parsed::{Parsed, parse};
+use crate::parsed::Parsed;
 use gr_text::{Files, Path};
 use std::alloc::{AllocError, Global};
 use std::collections::BTreeSet;
@@ -70,8 +71,13 @@ fn add_file(packages: &mut Vec<Package>, number: usize, file: Parsed) -> Result<
     }
 }
 
-/// The packages of some files.
-pub(crate) fn packages(alloc: Global, files: &Files) -> Result<Vec<Package>, AllocError>
+/// The packages of some files. What is among the packages before is not parsed again.
+pub(crate) fn packages(
+    alloc: Global,
+    before: &[Package],
+    files: &Files,
+) -> Result<Vec<Package>, AllocError>
+    requires { IsStrictlySortedBy path_cmp (paths_of before.now) }
     ensures paths { IfOk result (λ packages. paths_of packages.items ≡ package_paths files.now) }
     ensures files { IfOk result (λ packages. (i : ℕ) (p : Package) → slice_get packages.items i ≡ Some p → AreParsed (package_files files.now p.path.items) p.trees.items p.faulty.items) }
 {
@@ -79,7 +85,7 @@ pub(crate) fn packages(alloc: Global, files: &Files) -> Result<Vec<Package>, All
     for (path, text) in files.iter() {
         if is_go(path) {
             if let Some(number) = number_of(&packages, path.folder()) {
-                let file = parse(alloc, path, text)?;
+                let file = parse_unless_kept(alloc, before, path, text)?;
                 add_file(&mut packages, number, file)?;
             }
         }
