@@ -5,3 +5,8 @@ pub mod Closures
 pub mod Examples
 pub mod FileImports
 pub mod Packages
+pub mod FaultyFiles
+pub mod Parsed
+pub mod Graphs
+pub mod Rows
+pub mod Filling

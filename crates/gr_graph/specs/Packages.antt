@@ -2,7 +2,6 @@
 use Rattle.std.specs.Prelude.{◌≡◌, ℕ, ◌↔◌, ◌&&◌, ◌==◌, nat_eq, Bool, List, [], ◌∷◌, length, filter, map, Some, slice_get}
 use Rattle.std.specs.List.{Contains, ends_with}
 use Rattle.std.specs.FinMap as files
-use Rattle.std.specs.FinSet as set
 use Rattle.std.specs.Cmp.Lexicographic.{pointwise}
 use Rattle.gr_text.specs.Path.{folder}
 use Rattle.gr_text.specs.Workspace.{Workspace, path_cmp}
@@ -19,9 +18,13 @@ use Rattle.gr_graph.specs.Imports.{Links, AreLinked, Imports}
 abbrev pub is_go : List ℕ → Bool
 is_go path = ends_with nat_eq path (46 ∷ 103 ∷ 111 ∷ [])
 
--- the folders of the .go files, by their bytes: a package's number is its place here
+-- the folders of the .go files
+abbrev pub folders : Workspace → files.FinMap path_cmp (Unit {0})
+folders w = files.from_entries (map (λ path. (folder path, tt)) (filter is_go (files.keys w)))
+
+-- the folders by their bytes: a package's number is its place here
 abbrev pub package_paths : Workspace → List (List ℕ)
-package_paths w = set.items (set.from_list {R = path_cmp} (map folder (filter is_go (files.keys w))))
+package_paths w = files.keys (folders w)
 
 -- the files of a package, by path
 abbrev pub package_files : Workspace → List ℕ → List (List ℕ × List ℕ)

@@ -2,13 +2,24 @@
 #![tactic(auto)]
 
 mod closure;
+mod faulty_file;
 mod file_imports;
+mod graph;
 mod import_links;
 mod importers;
+mod kept;
 mod order;
+mod package;
 mod package_list;
+mod packages;
+mod parsed;
+mod rows;
 mod search;
 
+pub use faulty_file::FaultyFile;
 pub use file_imports::{FileImport, read_imports};
+pub use graph::Graph;
 pub use import_links::ImportLinks;
+pub use package::Package;
 pub use package_list::PackageList;
+pub use packages::is_go;

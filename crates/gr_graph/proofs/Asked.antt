@@ -1,0 +1,160 @@
+-- What is asked of a workspace's links by number, in the words of the workspace.
+use Rattle.std.proofs.Common.{◌≡◌, ℕ, ◌<◌, ◌↔◌, Bool, true, false, ◌&&◌, List, [], ◌∷◌, length, filter, cond, Option, Some, None, slice_get, get_or, refl, sym, ap, subst, ◌∙◌, arith, MatchOption, zero, suc, ◌==◌}
+use Rattle.std.specs.FinMap.{entries}
+use Rattle.std.specs.List.{Contains, All, AllByRecursion}
+use Rattle.std.specs.Cmp.Lexicographic.{pointwise, bytes_decides}
+use Rattle.std.proofs.lemmas.Bool.{true≢false, and_parts}
+use Rattle.std.proofs.lemmas.List.Elements.{All-contains}
+use Rattle.std.proofs.lemmas.Option.{same_Some, none-some, slice_get_within, get_or_from_slice_get, slice_get-get_or, slice_get_read}
+use Rattle.gr_text.specs.Path.{folder}
+use Rattle.gr_text.specs.Workspace.{Workspace}
+use Rattle.gr_graph.specs.Imports.{Links, AreLinked, Imports, imports_of, Reaches, itself, through, IsOnCycle, Leads, IsWay, IsCycleOf, IsClosure, AreImporters, ReachesNoCycle, IsOrder}
+use Rattle.gr_graph.specs.Packages as packages
+use Rattle.gr_graph.specs.Packages.{is_go, package_paths, package_files, PackageImports, AreLinksOf, IsInClosure}
+use Rattle.gr_graph.specs.Graphs.{HoldsPackages, IsOnImportCycle, LeadsTo, IsImportCycle, ReachesNoImportCycle, IsPackageOrder}
+use Rattle.gr_graph.proofs.PackagePaths.{all_there, AreThere, paths_sorted, one_number}
+
+-- ---- a package with a file is a package
+filter_has : {X : Type 0} (test : X → Bool) (xs : List X) (P : X → Type 0) → AllByRecursion (λ x. test x ≡ true → P x) xs → AllByRecursion P (filter test xs)
+filter_has test [] P all = tt
+filter_has test (x ∷ xs) P all =
+    elim (test x) as (λ b. test x ≡ b → AllByRecursion P (cond b (x ∷ filter test xs) (filter test xs))) [
+      | true ↦ λ h. (all.0 h, filter_has test xs P all.1)
+      | false ↦ λ h. filter_has test xs P all.1
+    ] refl
+
+by_contains : {X : Type 0} (P : X → Type 0) (xs : List X) → AllByRecursion P xs → (x : X) (k : ℕ) → k < length xs → get_or xs k x ≡ x → P x
+by_contains P [] all x k within is = absurd (omega arith)
+by_contains P (y ∷ xs) all x zero within is = subst P is all.0
+by_contains P (y ∷ xs) all x (suc k) within is = by_contains P xs all.1 x k (omega arith) is
+
+in_folder : (paths : List (List ℕ)) (p : List ℕ) (es : List (List ℕ × List ℕ)) → AreThere paths es → AllByRecursion (λ e. (is_go e.0 && pointwise ◌==◌ (folder e.0) p) ≡ true → Contains paths p) es
+in_folder paths p [] there = tt
+in_folder paths p (e ∷ es) there = (
+  λ h. let both = and_parts (is_go e.0) (pointwise ◌==◌ (folder e.0) p) h in subst (Contains paths) ((bytes_decides _ _).0 both.1) (there.0 both.0),
+  in_folder paths p es there.1,
+)
+
+pub has_file : (w : Workspace) (p : List ℕ) (e : List ℕ × List ℕ) → Contains (package_files w p) e → Contains (package_paths w) p
+has_file w p e has =
+    by_contains (λ (d : List ℕ × List ℕ). Contains (package_paths w) p) (package_files w p)
+    (filter_has (λ d. is_go d.0 && pointwise ◌==◌ (folder d.0) p) (entries w) (λ d. Contains (package_paths w) p) (in_folder (package_paths w) p (entries w) (all_there w)))
+    e has.0 has.1 has.2
+
+is_package : (w : Workspace) (p q : List ℕ) → IsInClosure w p q → Contains (package_paths w) p
+is_package w p q (packages.itself has) = has
+is_package w p q (packages.through pi rest) = has_file w p pi.entry pi.of_package
+
+number : (w : Workspace) (p : List ℕ) → Contains (package_paths w) p → (i : ℕ) × (slice_get (package_paths w) i ≡ Some p)
+number w p has = (has.0, slice_get_read (package_paths w) (length (package_paths w)) has.0 p refl has.1 (sym has.2))
+
+at_contains : (w : Workspace) (i : ℕ) (p : List ℕ) → slice_get (package_paths w) i ≡ Some p → Contains (package_paths w) p
+at_contains w i p at = (i, slice_get_within (package_paths w) i p at, get_or_from_slice_get (package_paths w) i p p at)
+
+module _ (w : Workspace) (g : Links) (links : AreLinksOf w g) where
+
+  abbrev At : ℕ → List ℕ → Type 0
+  At i p = slice_get (package_paths w) i ≡ Some p
+
+  name : (i : ℕ) → i < length g → (p : List ℕ) × At i p
+  name i within = (get_or (package_paths w) i [], slice_get-get_or (package_paths w) i [] (omega (arith, links.size)))
+
+  inside : (i : ℕ) (p : List ℕ) → At i p → i < length g
+  inside i p at = omega (arith, links.size, slice_get_within (package_paths w) i p at)
+
+  from_within : (i j : ℕ) → Imports g i j → i < length g
+  from_within i j h = row_within g i j h
+    where
+      row_within : (rows : Links) (i j : ℕ) → Contains (imports_of rows i) j → i < length rows
+      row_within [] i j h = absurd (omega (arith, h.1))
+      row_within (row ∷ rows) zero j h = omega arith
+      row_within (row ∷ rows) (suc i) j h = omega (arith, row_within rows i j h)
+
+  to_within : (i j : ℕ) → Imports g i j → j < length g
+  to_within i j h = All-contains (λ q. q < length g) (imports_of g i) j (links.linked i [] (from_within i j h)) h
+
+  one : (i j : ℕ) (p : List ℕ) → At i p → At j p → i ≡ j
+  one i j p a b = one_number (package_paths w) (paths_sorted w) i j p a b
+
+  -- ---- direct imports
+  pub imports_are : (n : ℕ) (p : List ℕ) → At n p → HoldsPackages w (PackageImports w p) (imports_of g n)
+  imports_are n p at i = (
+    λ h. let q = name i (to_within n i h) in (q.0, q.1, (links.each n i p q.0 at q.1).0 h),
+    λ s. (links.each n i p s.0 at s.1).1 s.2,
+  )
+
+  pub importers_are : (n : ℕ) (p : List ℕ) (found : List ℕ) → At n p → AreImporters g n found → HoldsPackages w (λ q. PackageImports w q p) found
+  importers_are n p found at are i = (
+    λ h. let imports = (are i).0 h in let q = name i (from_within i n imports) in (q.0, q.1, (links.each i n q.0 p q.1 at).0 imports),
+    λ s. (are i).1 ((links.each i n s.0 p s.1 at).1 s.2),
+  )
+
+  -- ---- the closure
+  in_closure : {i j : ℕ} → Reaches g i j → (p q : List ℕ) → At i p → At j q → IsInClosure w p q
+  in_closure (itself {p = i} h) p q a b = subst (IsInClosure w p) (same_Some _ _ (sym a ∙ b)) (packages.itself (at_contains w i p a))
+  in_closure (through {p = i} {q = k} imports rest) p q a b =
+      let r = name k (to_within i k imports) in
+      packages.through ((links.each i k p r.0 a r.1).0 imports) (in_closure rest r.0 q r.1 b)
+
+  reached : {p q : List ℕ} → IsInClosure w p q → (i : ℕ) → At i p → (j : ℕ) × At j q × Reaches g i j
+  reached (packages.itself has) i at = (i, at, itself (inside i _ at))
+  reached (packages.through {p = p} {q = q} {r = r} pi rest) i at =
+      let k = number w q (is_package w q r rest) in
+      let found = reached rest k.0 k.1 in
+      (found.0, found.1, through ((links.each i k.0 p q at k.1).1 pi) found.2)
+
+  reached_at : (p q : List ℕ) (i j : ℕ) → IsInClosure w p q → At i p → At j q → Reaches g i j
+  reached_at p q i j c a b = let found = reached c i a in subst (Reaches g i) (one found.0 j q found.1 b) found.2
+
+  reach_within : {i j : ℕ} → Reaches g i j → j < length g
+  reach_within (itself h) = h
+  reach_within (through imports rest) = reach_within rest
+
+  pub closure_is : (n : ℕ) (p : List ℕ) (found : List ℕ) → At n p → IsClosure g n found → HoldsPackages w (IsInClosure w p) found
+  closure_is n p found at is i = (
+    λ h. let reaches = (is i).0 h in let q = name i (reach_within reaches) in (q.0, q.1, in_closure reaches p q.0 at q.1),
+    λ s. (is i).1 (reached_at p s.0 n i s.2 at s.1),
+  )
+
+  -- ---- cycles
+  on_cycle : (n : ℕ) (p : List ℕ) → At n p → IsOnImportCycle w p → IsOnCycle g n
+  on_cycle n p at c =
+      let k = number w c.0 (is_package w c.0 p c.2) in
+      (k.0, (links.each n k.0 p c.0 at k.1).1 c.1, reached_at c.0 p k.0 n c.2 k.1 at)
+
+  on_import_cycle : (n : ℕ) (p : List ℕ) → At n p → IsOnCycle g n → IsOnImportCycle w p
+  on_import_cycle n p at c =
+      let q = name c.0 (to_within n c.0 c.1) in
+      (q.0, (links.each n c.0 p q.0 at q.1).0 c.1, in_closure c.2 q.0 p q.1 at)
+
+  leads_to : (cycle : List ℕ) (n : ℕ) (p : List ℕ) (last : ℕ) (l : List ℕ) → At n p → At last l → Leads g n cycle last → LeadsTo w p cycle l
+  leads_to [] n p last l a b leads = (links.each n last p l a b).0 leads
+  leads_to (i ∷ is) n p last l a b leads =
+      let q = name i (to_within n i leads.0) in
+      (q.0, q.1, (links.each n i p q.0 a q.1).0 leads.0, leads_to is i q.0 last l q.1 b leads.1)
+
+  pub cycle_is : (n : ℕ) (p : List ℕ) → At n p → (cycle : List ℕ) → IsCycleOf g n cycle → IsImportCycle w p cycle
+  cycle_is n p at [] is = absurd is
+  cycle_is n p at (i ∷ is) way =
+      let here : At i p = subst (λ (k : ℕ). At k p) (sym way.0) at in
+      (here, leads_to is i p n p here at (subst (λ (k : ℕ). Leads g k is n) (sym way.0) way.1))
+
+  pub cycle_found : {X : Type 0} (o : Option X) (of : X → List ℕ) (n : ℕ) (p : List ℕ) → At n p → MatchOption o (IsOnCycle g n → ⊥) (λ x. IsCycleOf g n (of x)) → MatchOption o (IsOnImportCycle w p → ⊥) (λ x. IsImportCycle w p (of x))
+  cycle_found None of n p at is = λ c. is (on_cycle n p at c)
+  cycle_found (Some x) of n p at is = cycle_is n p at (of x) is
+
+  -- ---- the order
+  pub order_is : (order : List ℕ) → IsOrder g order → IsPackageOrder w order
+  order_is order is = record {
+    each = λ i. (
+      λ h. let of = (is.each i).0 h in let p = name i of.0 in
+        (p.0, p.1, λ q c cycle. let k = reached c i p.1 in of.1 k.0 k.2 (on_cycle k.0 q k.1 cycle)),
+      λ s. (is.each i).1 (inside i s.0 s.1, λ j reaches cycle. let q = name j (reach_within reaches) in s.2 q.0 (in_closure reaches s.0 q.0 s.1 q.1) (on_import_cycle j q.0 q.1 cycle)),
+    );
+    once = is.once;
+    behind = λ i m n p q at at_m at_n imports. is.behind i m n at ((links.each m n p q at_m at_n).1 imports);
+  }
+
+-- the links of the same workspace
+pub links_at : (w v : Workspace) (g h : Links) → w ≡ v → h ≡ g → AreLinksOf w g → AreLinksOf v h
+links_at w v g h one_workspace one_list links = subst (λ (u : Workspace). AreLinksOf u h) one_workspace (subst (λ (l : Links). AreLinksOf w l) (sym one_list) links)

@@ -1,0 +1,120 @@
+-- The rows of the packages are the links of the workspace.
+use Rattle.std.proofs.Common.{◌≡◌, ℕ, zero, suc, ◌<◌, ◌↔◌, List, [], ◌∷◌, length, Option, Some, None, slice_get, get_or, refl, sym, ap, subst, ◌∙◌, arith}
+use Rattle.std.specs.List.{Contains, AllZip, All}
+use Rattle.std.specs.List.Sorted.{IsStrictlyIncreasing}
+use Rattle.std.proofs.lemmas.List.{length-map}
+use Rattle.std.proofs.lemmas.List.Elements.{Contains-get_or, All-from_get_or}
+use Rattle.std.proofs.lemmas.Option.{same_Some, none-some, slice_get_within, get_or_from_slice_get, slice_get-get_or}
+use Rattle.gr_text.specs.Workspace.{Workspace}
+use Rattle.gr_parse.specs.SourceFile.{SourceFile, FileParts, source_of}
+use Rattle.gr_graph.specs.FaultyFiles.{FaultyParts}
+use Rattle.gr_graph.specs.Imports.{Links, AreLinked, Imports, imports_of}
+use Rattle.gr_graph.specs.Packages.{IsParsed, ImportsPath, PackageImports, AreLinksOf, package_paths, package_files}
+use Rattle.gr_graph.specs.Parsed.{AreParsed, IsFaulty, none, tree, fault}
+use Rattle.gr_graph.specs.Graphs.{paths_of, IsGraph}
+use Rattle.gr_graph.specs.Rows.{IsRow}
+use Rattle.gr_graph.specs.declared.package.Package.{Package}
+use Rattle.gr_graph.proofs.Collected.{zip_at, zip_length, none_held}
+use Rattle.gr_graph.proofs.OneFile.{one_file, file_or_fault}
+
+-- ---- one element more at the front
+has_later : {X : Type 0} (x : X) (xs : List X) (y : X) → Contains xs y → Contains (x ∷ xs) y
+has_later x xs y h = (suc h.0, omega (arith, h.1), h.2)
+
+has_first : {X : Type 0} (x : X) (xs : List X) → Contains (x ∷ xs) x
+has_first x xs = (0, omega arith, refl)
+
+first_or_later : {X : Type 0} (P : X → Type 0) (x : X) (xs : List X) → P x → ((y : X) → Contains xs y → P y) → (y : X) → Contains (x ∷ xs) y → P y
+first_or_later P x xs first later y (zero, within, is) = subst P is first
+first_or_later P x xs first later y (suc k, within, is) = later y (k, omega (arith, within), is)
+
+-- ---- files and their trees
+pub tree_is_of : {es : List (List ℕ × List ℕ)} {ts : List FileParts} {fs : List FaultyParts} → AreParsed es ts fs → (t : FileParts) → Contains ts t → (e : List ℕ × List ℕ) × Contains es e × IsParsed e.0 e.1 (source_of t)
+tree_is_of none t has = absurd (none_held t has)
+tree_is_of (tree {e = e} {es = es} {t = s} {ts = ts} is parsed) t has =
+    first_or_later (λ t. (d : List ℕ × List ℕ) × Contains (e ∷ es) d × IsParsed d.0 d.1 (source_of t)) s ts
+    (e, has_first e es, is)
+    (λ y h. let w = tree_is_of parsed y h in (w.0, has_later e es w.0 w.1, w.2))
+    t has
+tree_is_of (fault {e = e} {es = es} is parsed) t has = let w = tree_is_of parsed t has in (w.0, has_later e es w.0 w.1, w.2)
+
+pub tree_of : {es : List (List ℕ × List ℕ)} {ts : List FileParts} {fs : List FaultyParts} → AreParsed es ts fs → (e : List ℕ × List ℕ) → Contains es e → (file : SourceFile) → IsParsed e.0 e.1 file → (t : FileParts) × Contains ts t × (file ≡ source_of t)
+tree_of none e has file parsed = absurd (none_held e has)
+tree_of (tree {e = d} {es = es} {t = s} {ts = ts} is rest) e has file parsed =
+    first_or_later (λ e. IsParsed e.0 e.1 file → (t : FileParts) × Contains (s ∷ ts) t × (file ≡ source_of t)) d es
+    (λ here. (s, has_first s ts, one_file d.0 d.1 file (source_of s) here is))
+    (λ y h here. let w = tree_of rest y h file here in (w.0, has_later s ts w.0 w.1, w.2))
+    e has parsed
+tree_of (fault {e = d} {es = es} {ts = ts} {f = f} is rest) e has file parsed =
+    first_or_later (λ e. IsParsed e.0 e.1 file → (t : FileParts) × Contains ts t × (file ≡ source_of t)) d es
+    (λ here. absurd (file_or_fault d.0 d.1 file f.fault here is.is_fault))
+    (λ y h here. tree_of rest y h file here)
+    e has parsed
+
+-- ---- packages by number
+pub package_at : (ps : List Package) (i : ℕ) (p : List ℕ) → slice_get (paths_of ps) i ≡ Some p → (q : Package) × (slice_get ps i ≡ Some q) × (q.path.items ≡ p)
+package_at [] i p h = absurd (none-some p h)
+package_at (q ∷ ps) zero p h = (q, refl, same_Some _ _ h)
+package_at (q ∷ ps) (suc i) p h = package_at ps i p h
+
+module _ (w : Workspace) (ps : List Package) (g : Links) (paths : paths_of ps ≡ package_paths w)
+    (parsed : (i : ℕ) (p : Package) → slice_get ps i ≡ Some p → AreParsed (package_files w p.path.items) p.trees.items p.faulty.items)
+    (rows : AllZip (λ p row. IsRow (paths_of ps) p.trees.items row) ps g) where
+
+  abbrev R : Package → List ℕ → Type 0
+  R = λ p row. IsRow (paths_of ps) p.trees.items row
+
+  row_at : (i : ℕ) (p : Package) → slice_get ps i ≡ Some p → IsRow (paths_of ps) p.trees.items (imports_of g i)
+  row_at i p at = subst (λ (q : Package). R q (imports_of g i)) (get_or_from_slice_get ps i p p at) (zip_at R ps g rows i p [] (slice_get_within ps i p at))
+
+  size : length g ≡ length (paths_of ps)
+  size = sym (zip_length R ps g rows) ∙ sym (length-map ps (λ (p : Package). p.path.items))
+
+  imports_is : (i j : ℕ) (p q : List ℕ) → slice_get (paths_of ps) i ≡ Some p → slice_get (paths_of ps) j ≡ Some q → Imports g i j → PackageImports w p q
+  imports_is i j p q at_i at_j has =
+      let here = package_at ps i p at_i in
+      let some = ((row_at i here.0 here.1).each j).0 has in
+      let same : some.2.0 ≡ q = same_Some _ _ (sym some.2.1 ∙ at_j) in
+      let of = tree_is_of (parsed i here.0 here.1) some.0 some.1 in
+      record {
+        entry = of.0;
+        of_package = subst (λ (path : List ℕ). Contains (package_files w path) of.0) here.2 of.1;
+        file = source_of some.0;
+        parsed = of.2;
+        imports = subst (ImportsPath (source_of some.0)) same some.2.2;
+      }
+
+  is_imports : (i j : ℕ) (p q : List ℕ) → slice_get (paths_of ps) i ≡ Some p → slice_get (paths_of ps) j ≡ Some q → PackageImports w p q → Imports g i j
+  is_imports i j p q at_i at_j pi =
+      let here = package_at ps i p at_i in
+      let found = tree_of (parsed i here.0 here.1) pi.entry (subst (λ (path : List ℕ). Contains (package_files w path) pi.entry) (sym here.2) pi.of_package) pi.file pi.parsed in
+      ((row_at i here.0 here.1).each j).1 (found.0, found.1, (q, at_j, subst (λ (f : SourceFile). ImportsPath f q) found.2 pi.imports))
+
+  below : (i : ℕ) → i < length g → (j : ℕ) → Imports g i j → j < length g
+  below i within j has =
+      let d = get_or (paths_of ps) i [] in
+      let here = package_at ps i d (slice_get-get_or (paths_of ps) i [] (omega (arith, size))) in
+      let some = ((row_at i here.0 here.1).each j).0 has in
+      omega (arith, size, slice_get_within (paths_of ps) j some.2.0 some.2.1)
+
+  pub are_linked : AreLinked g
+  are_linked = All-from_get_or (λ row. All (λ j. j < length g) row) g [] (λ i within. All-from_get_or (λ j. j < length g) (imports_of g i) 0 (λ k h. below i within (get_or (imports_of g i) k 0) (Contains-get_or (imports_of g i) k 0 h)))
+
+  pub are_links : AreLinksOf w g
+  are_links = record {
+    size = size ∙ ap length paths;
+    linked = are_linked;
+    each = λ i j p q at_i at_j.
+        let here = ap (λ names. slice_get names i) paths ∙ at_i in
+        let there = ap (λ names. slice_get names j) paths ∙ at_j in
+        (imports_is i j p q here there, is_imports i j p q here there);
+  }
+
+  pub are_rising : (i : ℕ) → i < length g → IsStrictlyIncreasing (imports_of g i)
+  are_rising i within =
+      let d = get_or (paths_of ps) i [] in
+      let here = package_at ps i d (slice_get-get_or (paths_of ps) i [] (omega (arith, size))) in
+      (row_at i here.0 here.1).rising
+
+  pub graph_is : IsGraph w ps g
+  graph_is = record { paths = paths; each = parsed; linked = are_links; rising = are_rising }

@@ -1,0 +1,43 @@
+-- A path and a text have one parsed file at most, and a text with a fault has none.
+use Rattle.std.proofs.Common.{◌≡◌, ℕ, Bool, true, false, List, sym, ap, subst, ◌∙◌, ⊎_elim}
+use Rattle.std.proofs.lemmas.Bool.{true≢false}
+use Rattle.gr_scan.specs.declared.piece.Piece.{Piece}
+use Rattle.gr_scan.specs.declared.refusal.Fault.{Fault}
+use Rattle.gr_scan.specs.Cuts.{IsCut, IsFirstFault}
+use Rattle.gr_scan.specs.CutText.{CutText}
+use Rattle.gr_scan.proofs.OneCutLemmas.{one_cut, cut_or_fault}
+use Rattle.gr_parse.specs.Faults.{IsFaultOf, IsFaultOfTokens}
+use Rattle.gr_parse.specs.Kinds.{kinds_of}
+use Rattle.gr_parse.specs.SourceFile.{SourceFile}
+use Rattle.gr_parse.specs.Tree.{FileTree}
+use Rattle.gr_parse.specs.Verdict.{IsWhole, Verdict, Whole, Faulty}
+use Rattle.gr_parse.specs.WellFormed.{IsTreeOf}
+use Rattle.gr_parse.proofs.OneTree.{one_tree}
+use Rattle.gr_parse.proofs.OneVerdict.{one_verdict}
+use Rattle.gr_graph.specs.Packages.{IsParsed}
+
+same_cut : (c d : CutText) → c.text ≡ d.text → IsCut c.text c.pieces → IsCut d.text d.pieces → c ≡ d
+same_cut c d texts a b =
+    let pieces : c.pieces ≡ d.pieces = one_cut d.text c.pieces d.pieces (subst (λ (t : List ℕ). IsCut t c.pieces) texts a) b in
+    λ i. record { text = texts i; pieces = pieces i }
+
+pub one_file : (path text : List ℕ) (f g : SourceFile) → IsParsed path text f → IsParsed path text g → f ≡ g
+one_file path text f g a b =
+    let paths : f.path ≡ g.path = a.of_path ∙ sym b.of_path in
+    let cuts : f.cut ≡ g.cut = same_cut f.cut g.cut (a.of_text ∙ sym b.of_text) a.is_file.is_cut b.is_file.is_cut in
+    let trees : f.tree ≡ g.tree = one_tree (subst (λ (c : CutText). IsTreeOf f.tree (kinds_of c)) cuts a.is_file.is_tree) b.is_file.is_tree in
+    λ i. record { path = paths i; cut = cuts i; tree = trees i }
+
+abbrev is_whole : Verdict → Bool
+is_whole Whole = true
+is_whole (Faulty kind left) = false
+
+pub file_or_fault : (path text : List ℕ) (f : SourceFile) (fault : Fault) → IsParsed path text f → IsFaultOf text fault → ⊥
+file_or_fault path text f fault parsed faulty =
+    ⊎_elim
+    (λ (first : IsFirstFault text fault). cut_or_fault text f.cut.pieces fault (subst (λ (t : List ℕ). IsCut t f.cut.pieces) parsed.of_text parsed.is_file.is_cut) first)
+    (λ (tokens : IsFaultOfTokens text fault).
+      let cuts : f.cut ≡ tokens.cut = same_cut f.cut tokens.cut (parsed.of_text ∙ sym tokens.of_text) parsed.is_file.is_cut tokens.is_cut in
+      let whole : IsWhole (kinds_of tokens.cut) = subst (λ (c : CutText). IsWhole (kinds_of c)) cuts parsed.is_file.whole in
+      true≢false (ap is_whole (one_verdict (kinds_of tokens.cut) Whole (Faulty tokens.fault_is.kind tokens.fault_is.left) whole tokens.fault_is.verdict)))
+    faulty

@@ -1,0 +1,26 @@
+-- The packages and their rows are the graph of the files.
+use Rattle.std.proofs.Common.{◌≡◌, List, sym, ap, subst, ◌∙◌}
+use Rattle.std.specs.List.{AllZip}
+use Rattle.gr_graph.specs.Graphs.{paths_of, IsGraph}
+use Rattle.gr_graph.specs.Rows.{IsRow}
+use Rattle.gr_graph.specs.declared.package.Package.{Package}
+use Rattle.gr_graph.proofs.PackagePaths.{paths_sorted}
+use Rattle.gr_graph.proofs.Linked.{are_linked, graph_is}
+use Rattle.gr_graph.proofs.graph.Graph.behind.Goals as goal
+
+pub rows-requires : goal.rows-requires
+rows-requires c =
+    let paths = ap paths_of c.deref.ensures.value ∙ c.in_ok-packages.ensures.paths in
+    rw paths (paths_sorted c.args.files.now)
+
+pub new-requires : goal.new-requires
+new-requires c =
+    let ps = c.in_ok-packages.packages.items in
+    let rows = subst (λ (qs : List Package). AllZip (λ p row. IsRow (paths_of qs) p.trees.items row) qs c.in_ok-rows.field-0.items) c.deref.ensures.value c.in_ok-rows.ensures in
+    are_linked c.args.files.now ps c.in_ok-rows.field-0.items c.in_ok-packages.ensures.paths c.in_ok-packages.ensures.files rows
+
+pub invariant_of-result : goal.invariant_of-result
+invariant_of-result c =
+    let ps = c.in_ok-packages.packages.items in
+    let rows = subst (λ (qs : List Package). AllZip (λ p row. IsRow (paths_of qs) p.trees.items row) qs c.in_ok-rows.field-0.items) c.deref.ensures.value c.in_ok-rows.ensures in
+    rw (c.in_ok-new.ensures.ok, c.in_ok-files.ensures, c.in_ok-links.ensures) (graph_is c.args.files.now ps c.in_ok-rows.field-0.items c.in_ok-packages.ensures.paths c.in_ok-packages.ensures.files rows)

@@ -1,0 +1,40 @@
+-- How packages are filled with their files.
+use Rattle.std.specs.Prelude.{◌≡◌, ℕ, List, [], ◌∷◌, ◌++◌, Some, slice_get, filter, map, ◌&&◌, ◌==◌}
+use Rattle.std.specs.Borrow.{Bor}
+use Rattle.std.specs.Cmp.Lexicographic.{pointwise}
+use Rattle.std.proofs.Math.ListN.{set}
+use Rattle.gr_text.specs.Path.{folder}
+use Rattle.gr_parse.specs.SourceFile.{FileParts}
+use Rattle.gr_graph.specs.FaultyFiles.{FaultyParts}
+use Rattle.gr_graph.specs.Packages.{is_go}
+use Rattle.gr_graph.specs.Parsed.{AreParsed}
+use Rattle.gr_graph.specs.declared.package.Package.{Package}
+use Rattle.gr_graph.specs.declared.parsed.Parsed.{Parsed}
+use Rattle.gr_graph.specs.declared.parsed.Parsed.TheVariants.{Sound, Faulty}
+
+-- folders by what they point to
+abbrev pub names : List (Bor (List ℕ)) → List (List ℕ)
+names folders = map (λ folder. folder.now) folders
+
+-- the file is the last in its list
+abbrev pub IsWithFile : Parsed → Package → Package → Type 0
+IsWithFile (Sound file) old new = (new.path ≡ old.path) × (new.trees.items ≡ old.trees.items ++ file ∷ []) × (new.faulty.items ≡ old.faulty.items)
+IsWithFile (Faulty file) old new = (new.path ≡ old.path) × (new.trees.items ≡ old.trees.items) × (new.faulty.items ≡ old.faulty.items ++ file ∷ [])
+
+-- the package of a number has one file more
+pub record AddsFile (number : ℕ) (file : Parsed) (old new : List Package) : Type 0 where
+  pub before : Package
+  pub at : slice_get old number ≡ Some before
+  pub after : Package
+  pub with_file : IsWithFile file before after
+  pub new_is : new ≡ set old number after
+
+-- the Go files of a folder among some files
+abbrev pub files_in : List ℕ → List (List ℕ × List ℕ) → List (List ℕ × List ℕ)
+files_in path files = filter (λ e. is_go e.0 && pointwise ◌==◌ (folder e.0) path) files
+
+-- with the files that are left, parsed, each package has all its files
+abbrev pub AreFilled : List (List ℕ × List ℕ) → List (List ℕ × List ℕ) → List Package → Type 0
+AreFilled all left packages = (i : ℕ) (p : Package) → slice_get packages i ≡ Some p
+    → (ts : List FileParts) (fs : List FaultyParts) → AreParsed (files_in p.path.items left) ts fs
+    → AreParsed (files_in p.path.items all) (p.trees.items ++ ts) (p.faulty.items ++ fs)

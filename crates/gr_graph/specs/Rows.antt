@@ -1,0 +1,34 @@
+-- The packages that are imported, by number, while they are collected.
+use Rattle.std.specs.Prelude.{◌≡◌, ℕ, ◌↔◌, ◌⊎◌, List, Option, Some, None, slice_get, Vec}
+use Rattle.std.specs.List.{Contains}
+use Rattle.std.specs.List.Sorted.{IsStrictlyIncreasing}
+use Rattle.gr_parse.specs.SourceFile.{FileParts, source_of}
+use Rattle.gr_graph.specs.Imports.{Holds}
+use Rattle.gr_graph.specs.Packages.{ImportsPath}
+use Rattle.gr_graph.specs.declared.file_imports.FileImport.{FileImport}
+
+-- the numbers of which something holds were added
+abbrev pub AddsNumbers : (ℕ → Type 0) → List ℕ → List ℕ → Type 0
+AddsNumbers P old new = (j : ℕ) → Contains new j ↔ (Contains old j ⊎ P j)
+
+-- the path of that number is what an import's literal stands for
+abbrev pub HasNumber : {Z : Type 0} → List (List ℕ) → ℕ → Option (Vec ℕ Z) → Type 0
+HasNumber paths j None = ⊥
+HasNumber paths j (Some value) = slice_get paths j ≡ Some value.items
+
+-- one of the imports is that of the package of a number
+abbrev pub AreImported : List (List ℕ) → List FileImport → ℕ → Type 0
+AreImported paths imports j = (found : FileImport) × Contains imports found × HasNumber paths j found.path
+
+-- a file imports the package of a number
+abbrev pub FileImports : List (List ℕ) → FileParts → ℕ → Type 0
+FileImports paths file j = (q : List ℕ) × (slice_get paths j ≡ Some q) × ImportsPath (source_of file) q
+
+-- one of the files imports the package of a number
+abbrev pub SomeImports : List (List ℕ) → List FileParts → ℕ → Type 0
+SomeImports paths files j = (file : FileParts) × Contains files file × FileImports paths file j
+
+-- exactly the packages that some of the files import, in order
+pub record IsRow (paths : List (List ℕ)) (files : List FileParts) (row : List ℕ) : Type 0 where
+  pub each : Holds row (SomeImports paths files)
+  pub rising : IsStrictlyIncreasing row

@@ -1,0 +1,177 @@
+//! The graph of a workspace: its packages with their parsed files, and which imports which.
+ghost use Rattle.std.specs.Prelude.{◌≡◌, ◌<◌, length, IfOk, MatchOption, Some, slice_get};
+ghost use Rattle.std.specs.List.{Contains};
+ghost use Rattle.std.specs.List.Sorted.{IsStrictlyIncreasing, IsStrictlySortedBy};
+ghost use Rattle.gr_text.specs.Workspace.{path_cmp};
+ghost use Rattle.gr_graph.specs.Packages.{package_paths, PackageImports, IsInClosure, AreLinksOf};
+ghost use Rattle.gr_graph.specs.Graphs.{
+  paths_of,
+  IsPackage,
+  OfPackage,
+  HoldsPackages,
+  IsOnImportCycle,
+  IsImportCycle,
+  IsPackageOrder,
+};
+
+use crate::import_links::ImportLinks;
+use crate::package::{Package, number_of};
+use crate::packages::packages;
+use crate::rows::rows;
+use gr_text::Files;
+use std::alloc::{AllocError, Global};
+use std::marker::Model;
+use std::sync::Arc;
+
+/// What the owners of a graph share.
+#[derive(Drop)]
+struct Parts {
+    files: Files,
+    packages: Vec<Package>,
+    links: ImportLinks,
+}
+
+/// The graph of a workspace, which no longer changes: its packages by number, in the order of their paths, each with
+/// its parsed files, and all that is asked of their imports. A clone shares it.
+#[derive(Drop)]
+pub struct Graph {
+    parts: Arc<Parts, Global>,
+}
+
+impl Model for Graph {
+    ghost use Rattle.std.specs.Prelude.{List, ℕ};
+    ghost use Rattle.std.specs.Coded.{coded_ℕ, coded_list};
+    ghost use Rattle.std.specs.FinMap as map;
+    ghost use Rattle.std.specs.Arc.{arc_value};
+    ghost use Rattle.gr_text.specs.Workspace.{path_cmp};
+    ghost use Rattle.gr_graph.specs.Graphs.{IsGraph};
+
+    ghost Value = { map.FinMap path_cmp (List ℕ) };
+
+    ghost coded = { map.code (coded_list coded_ℕ) (coded_list coded_ℕ) };
+
+    ghost view = { λ a. (arc_value a.parts).files };
+
+    ghost invariant = { λ a. IsGraph (arc_value a.parts).files (arc_value a.parts).packages.items (arc_value a.parts).links };
+}
+
+impl Graph {
+    /// Parses the Go files and finds which packages they import.
+    pub fn of(alloc: Global, files: &Files) -> Result<Graph, AllocError>
+        ensures { IfOk result (λ graph. graph ≡ files.now) }
+    {
+        let none = Vec::new(alloc);
+        Graph::behind(alloc, &none, files)
+    }
+
+    /// The graph of other files. It parses only those that the graph before does not have with the same text.
+    pub fn after(alloc: Global, before: &Graph, files: &Files) -> Result<Graph, AllocError>
+        ensures { IfOk result (λ graph. graph ≡ files.now) }
+    {
+        Graph::behind(alloc, &before.parts.packages, files)
+    }
+
+    /// The graph of some files. What is among the packages before is not parsed again.
+    fn behind(alloc: Global, before: &[Package], files: &Files) -> Result<Graph, AllocError>
+        requires { IsStrictlySortedBy path_cmp (paths_of before.now) }
+        ensures { IfOk result (λ graph. graph ≡ files.now) }
+    {
+        let packages = packages(alloc, before, files)?;
+        let links = ImportLinks::new(alloc, rows(alloc, &packages)?)?;
+        let files = files.copy()?;
+        let parts = Parts {
+            files,
+            packages,
+            links,
+        };
+        Ok(Graph {
+            parts: Arc::new(alloc, parts)?,
+        })
+    }
+
+    /// The files that the graph is of.
+    pub fn files(&self) -> &Files
+        ensures { result.now ≡ self.now }
+    {
+        &self.parts.files
+    }
+
+    /// How many packages there are.
+    pub fn len(&self) -> usize
+        ensures { result ≡ length (package_paths self.now) }
+    {
+        self.parts.packages.len()
+    }
+
+    /// The number of the package that has a path.
+    pub fn number_of(&self, path: &[u8]) -> Option<usize>
+        ensures { MatchOption result (Contains (package_paths self.now) path.now → ⊥) (λ number. slice_get (package_paths self.now) number ≡ Some path.now) }
+    {
+        number_of(&self.parts.packages, path)
+    }
+
+    /// A package with its parsed files.
+    pub fn package(&self, number: usize) -> &Package
+        requires { number < length (package_paths self.now) }
+        ensures { IsPackage self.now number result.now }
+    {
+        &self.parts.packages[number]
+    }
+
+    /// Which packages import which, by number.
+    pub fn links(&self) -> &ImportLinks
+        ensures { AreLinksOf self.now result.now }
+    {
+        &self.parts.links
+    }
+
+    /// The packages that one imports directly, in their order.
+    pub fn imports(&self, number: usize) -> &[usize]
+        requires { number < length (package_paths self.now) }
+        ensures imports { OfPackage self.now number (λ p. HoldsPackages self.now (PackageImports self.now p) result.now) }
+        ensures rising { IsStrictlyIncreasing result.now }
+    {
+        self.parts.links.imports(number)
+    }
+
+    /// The packages that import one directly.
+    pub fn importers(&self, number: usize) -> &[usize]
+        requires { number < length (package_paths self.now) }
+        ensures { OfPackage self.now number (λ p. HoldsPackages self.now (λ q. PackageImports self.now q p) result.now) }
+    {
+        self.parts.links.importers(number)
+    }
+
+    /// A package, and all that it imports directly or indirectly, in their order.
+    pub fn closure(&self, number: usize) -> &[usize]
+        requires { number < length (package_paths self.now) }
+        ensures closure { OfPackage self.now number (λ p. HoldsPackages self.now (IsInClosure self.now p) result.now) }
+        ensures rising { IsStrictlyIncreasing result.now }
+    {
+        self.parts.links.closure(number)
+    }
+
+    /// Packages from one back to itself, each importing the next. The last imports the first.
+    pub fn cycle_of(&self, number: usize) -> Option<&[usize]>
+        requires { number < length (package_paths self.now) }
+        ensures { OfPackage self.now number (λ p. MatchOption result (IsOnImportCycle self.now p → ⊥) (λ cycle. IsImportCycle self.now p cycle.now)) }
+    {
+        self.parts.links.cycle_of(number)
+    }
+
+    /// The packages that reach no cycle, each behind all that it imports.
+    pub fn order(&self) -> &[usize]
+        ensures { IsPackageOrder self.now result.now }
+    {
+        self.parts.links.order()
+    }
+}
+
+impl Clone for Graph {
+    ghost is_clone = { λ graph copy. copy ≡ graph };
+
+    fn clone(&self) -> Result<Graph, AllocError> {
+        let parts = Arc::try_clone(&self.parts)?;
+        Ok(Graph { parts })
+    }
+}
