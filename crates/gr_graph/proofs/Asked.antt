@@ -52,7 +52,6 @@ at_contains : (w : Workspace) (i : ℕ) (p : List ℕ) → slice_get (package_pa
 at_contains w i p at = (i, slice_get_within (package_paths w) i p at, get_or_from_slice_get (package_paths w) i p p at)
 
 module _ (w : Workspace) (g : Links) (links : AreLinksOf w g) where
-
   abbrev At : ℕ → List ℕ → Type 0
   At i p = slice_get (package_paths w) i ≡ Some p
 
@@ -148,13 +147,9 @@ module _ (w : Workspace) (g : Links) (links : AreLinksOf w g) where
   order_is order is = record {
     each = λ i. (
       λ h. let of = (is.each i).0 h in let p = name i of.0 in
-        (p.0, p.1, λ q c cycle. let k = reached c i p.1 in of.1 k.0 k.2 (on_cycle k.0 q k.1 cycle)),
+          (p.0, p.1, λ q c cycle. let k = reached c i p.1 in of.1 k.0 k.2 (on_cycle k.0 q k.1 cycle)),
       λ s. (is.each i).1 (inside i s.0 s.1, λ j reaches cycle. let q = name j (reach_within reaches) in s.2 q.0 (in_closure reaches s.0 q.0 s.1 q.1) (on_import_cycle j q.0 q.1 cycle)),
     );
     once = is.once;
     behind = λ i m n p q at at_m at_n imports. is.behind i m n at ((links.each m n p q at_m at_n).1 imports);
   }
-
--- the links of the same workspace
-pub links_at : (w v : Workspace) (g h : Links) → w ≡ v → h ≡ g → AreLinksOf w g → AreLinksOf v h
-links_at w v g h one_workspace one_list links = subst (λ (u : Workspace). AreLinksOf u h) one_workspace (subst (λ (l : Links). AreLinksOf w l) (sym one_list) links)

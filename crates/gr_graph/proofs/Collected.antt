@@ -31,9 +31,9 @@ pub adds_one : (P : ℕ → Type 0) (old : List ℕ) (n : ℕ) → P n → ((j :
 adds_one P old n here only j = (
   λ has. ⊎_elim (λ (o : Contains old j). inl o) (λ (e : n ≡ j). inr (subst P e here)) (Contains-push_cases old n j has),
   λ either. ⊎_elim
-    (λ (o : Contains old j). Contains-append_left old (n ∷ []) j o)
-    (λ (p : P j). subst (Contains (old ++ n ∷ [])) (sym (only j p)) (Contains-push old n))
-    either,
+      (λ (o : Contains old j). Contains-append_left old (n ∷ []) j o)
+      (λ (p : P j). subst (Contains (old ++ n ∷ [])) (sym (only j p)) (Contains-push old n))
+      either,
 )
 
 pub adds_none : (P : ℕ → Type 0) (old : List ℕ) → ((j : ℕ) → P j → ⊥) → AddsNumbers P old old
@@ -42,13 +42,13 @@ adds_none P old not j = (λ has. inl has, λ either. ⊎_elim (λ (o : Contains 
 pub adds_more : (P Q S : ℕ → Type 0) (a b c : List ℕ) → ((j : ℕ) → S j ↔ (P j ⊎ Q j)) → AddsNumbers P a b → AddsNumbers Q b c → AddsNumbers S a c
 adds_more P Q S a b c are first second j = (
   λ has. ⊎_elim
-    (λ (h : Contains b j). ⊎_elim (λ (o : Contains a j). inl o) (λ (p : P j). inr ((are j).1 (inl p))) ((first j).0 h))
-    (λ (q : Q j). inr ((are j).1 (inr q)))
-    ((second j).0 has),
+      (λ (h : Contains b j). ⊎_elim (λ (o : Contains a j). inl o) (λ (p : P j). inr ((are j).1 (inl p))) ((first j).0 h))
+      (λ (q : Q j). inr ((are j).1 (inr q)))
+      ((second j).0 has),
   λ either. (second j).1 (⊎_elim
-    (λ (o : Contains a j). inl ((first j).1 (inl o)))
-    (λ (s : S j). ⊎_elim (λ (p : P j). inl ((first j).1 (inr p))) (λ (q : Q j). inr q) ((are j).0 s))
-    either),
+      (λ (o : Contains a j). inl ((first j).1 (inl o)))
+      (λ (s : S j). ⊎_elim (λ (p : P j). inl ((first j).1 (inr p))) (λ (q : Q j). inr q) ((are j).0 s))
+      either),
 )
 
 pub adds_same : (P Q : ℕ → Type 0) (a b : List ℕ) → ((j : ℕ) → Q j ↔ P j) → AddsNumbers P a b → AddsNumbers Q a b
@@ -69,9 +69,9 @@ one_more_at : {X : Type 0} (R : X → ℕ → Type 0) (xs : List X) (k : ℕ) (d
 one_more_at R xs k d within j = (
   λ w. ⊎_elim (λ (o : Contains (take k xs) w.0). inl (w.0, o, w.2)) (λ (e : get_or xs k d ≡ w.0). inr (subst (λ x. R x j) (sym e) w.2)) (more_cases xs k d w.0 within w.1),
   λ either. ⊎_elim
-    (λ w. (w.0, subst (λ ys. Contains ys w.0) (sym (take_more xs k d within)) (Contains-append_left (take k xs) (get_or xs k d ∷ []) w.0 w.1), w.2))
-    (λ r. (get_or xs k d, subst (λ ys. Contains ys (get_or xs k d)) (sym (take_more xs k d within)) (Contains-push (take k xs) (get_or xs k d)), r))
-    either,
+      (λ w. (w.0, subst (λ ys. Contains ys w.0) (sym (take_more xs k d within)) (Contains-append_left (take k xs) (get_or xs k d ∷ []) w.0 w.1), w.2))
+      (λ r. (get_or xs k d, subst (λ ys. Contains ys (get_or xs k d)) (sym (take_more xs k d within)) (Contains-push (take k xs) (get_or xs k d)), r))
+      either,
 )
 
 pub one_more : {X : Type 0} (R : X → ℕ → Type 0) (xs : List X) (k : ℕ) (item : X) → k < length xs → item ≡ get_or xs k item → (j : ℕ)

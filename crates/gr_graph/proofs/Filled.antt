@@ -93,16 +93,16 @@ filled_add all e left old new n file sorted go at adds is filled i p there =
     let path : a.path ≡ b.path = same_path file b a adds.with_file in
     ⊎_elim
     (λ (here : i ≡ n).
-      let is_a : a ≡ p = same_Some _ _ (sym (set_there old n b a adds.at) ∙ subst (λ (k : ℕ). slice_get (set old n a) k ≡ Some p) here now) in
-      let folder_is : folder e.0 ≡ b.path.items = same_Some _ _ (sym at ∙ path_at old n b adds.at) in
-      let gives = with_one (files_in b.path.items all) e (files_in b.path.items left) file b a adds.with_file is
-        (λ ts fs parsed. filled n b adds.at ts fs (subst (λ es. AreParsed es ts fs) (sym (in_folder e left b.path.items go folder_is)) parsed)) in
-      subst (λ (q : Package). (ts : List FileParts) (fs : List FaultyParts) → AreParsed (files_in q.path.items left) ts fs → AreParsed (files_in q.path.items all) (q.trees.items ++ ts) (q.faulty.items ++ fs)) is_a
-      (subst (λ path. (ts : List FileParts) (fs : List FaultyParts) → AreParsed (files_in path.items left) ts fs → AreParsed (files_in path.items all) (a.trees.items ++ ts) (a.faulty.items ++ fs)) (sym path) gives))
+    let is_a : a ≡ p = same_Some _ _ (sym (set_there old n b a adds.at) ∙ subst (λ (k : ℕ). slice_get (set old n a) k ≡ Some p) here now) in
+    let folder_is : folder e.0 ≡ b.path.items = same_Some _ _ (sym at ∙ path_at old n b adds.at) in
+    let gives = with_one (files_in b.path.items all) e (files_in b.path.items left) file b a adds.with_file is
+    (λ ts fs parsed. filled n b adds.at ts fs (subst (λ es. AreParsed es ts fs) (sym (in_folder e left b.path.items go folder_is)) parsed)) in
+    subst (λ (q : Package). (ts : List FileParts) (fs : List FaultyParts) → AreParsed (files_in q.path.items left) ts fs → AreParsed (files_in q.path.items all) (q.trees.items ++ ts) (q.faulty.items ++ fs)) is_a
+    (subst (λ path. (ts : List FileParts) (fs : List FaultyParts) → AreParsed (files_in path.items left) ts fs → AreParsed (files_in path.items all) (a.trees.items ++ ts) (a.faulty.items ++ fs)) (sym path) gives))
     (λ (other : i ≡ n → ⊥).
-      let was : slice_get old i ≡ Some p = sym (set_elsewhere old n i a other) ∙ now in
-      let apart : folder e.0 ≡ p.path.items → ⊥ = λ same. other (one_number (paths_of old) sorted i n (folder e.0) (path_at old i p was ∙ ap Some (sym same)) at) in
-      λ ts fs parsed. filled i p was ts fs (subst (λ es. AreParsed es ts fs) (sym (not_in_folder e left p.path.items apart)) parsed))
+    let was : slice_get old i ≡ Some p = sym (set_elsewhere old n i a other) ∙ now in
+    let apart : folder e.0 ≡ p.path.items → ⊥ = λ same. other (one_number (paths_of old) sorted i n (folder e.0) (path_at old i p was ∙ ap Some (sym same)) at) in
+    λ ts fs parsed. filled i p was ts fs (subst (λ es. AreParsed es ts fs) (sym (not_in_folder e left p.path.items apart)) parsed))
     (cases_eq i n)
 
 -- ---- nothing is left

@@ -60,7 +60,6 @@ package_at (q ∷ ps) (suc i) p h = package_at ps i p h
 module _ (w : Workspace) (ps : List Package) (g : Links) (paths : paths_of ps ≡ package_paths w)
     (parsed : (i : ℕ) (p : Package) → slice_get ps i ≡ Some p → AreParsed (package_files w p.path.items) p.trees.items p.faulty.items)
     (rows : AllZip (λ p row. IsRow (paths_of ps) p.trees.items row) ps g) where
-
   abbrev R : Package → List ℕ → Type 0
   R = λ p row. IsRow (paths_of ps) p.trees.items row
 

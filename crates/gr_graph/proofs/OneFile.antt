@@ -37,7 +37,7 @@ file_or_fault path text f fault parsed faulty =
     ⊎_elim
     (λ (first : IsFirstFault text fault). cut_or_fault text f.cut.pieces fault (subst (λ (t : List ℕ). IsCut t f.cut.pieces) parsed.of_text parsed.is_file.is_cut) first)
     (λ (tokens : IsFaultOfTokens text fault).
-      let cuts : f.cut ≡ tokens.cut = same_cut f.cut tokens.cut (parsed.of_text ∙ sym tokens.of_text) parsed.is_file.is_cut tokens.is_cut in
-      let whole : IsWhole (kinds_of tokens.cut) = subst (λ (c : CutText). IsWhole (kinds_of c)) cuts parsed.is_file.whole in
-      true≢false (ap is_whole (one_verdict (kinds_of tokens.cut) Whole (Faulty tokens.fault_is.kind tokens.fault_is.left) whole tokens.fault_is.verdict)))
+    let cuts : f.cut ≡ tokens.cut = same_cut f.cut tokens.cut (parsed.of_text ∙ sym tokens.of_text) parsed.is_file.is_cut tokens.is_cut in
+    let whole : IsWhole (kinds_of tokens.cut) = subst (λ (c : CutText). IsWhole (kinds_of c)) cuts parsed.is_file.whole in
+    true≢false (ap is_whole (one_verdict (kinds_of tokens.cut) Whole (Faulty tokens.fault_is.kind tokens.fault_is.left) whole tokens.fault_is.verdict)))
     faulty

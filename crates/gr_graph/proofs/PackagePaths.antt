@@ -83,7 +83,7 @@ made_keys ks sorted = ap (λ es. map (λ e. e.0) es) (entries-from_sorted path_c
 keys_are : (m : FinMap path_cmp (Unit {0})) (ks : List (List ℕ)) → IsStrictlySortedBy path_cmp ks → ((q : List ℕ) → contains_key m q ≡ list_any (eq_by_cmp path_cmp q) ks) → keys m ≡ ks
 keys_are m ks sorted same =
     ap keys (same_map path_cmp_total path_cmp_exact m (from_sorted (units ks)) (λ q. some_there _ _
-      (same q ∙ ap (λ ns. list_any (eq_by_cmp path_cmp q) ns) (sym (made_keys ks sorted)) ∙ sym (contains_key-keys (from_sorted (units ks)) q))))
+    (same q ∙ ap (λ ns. list_any (eq_by_cmp path_cmp q) ns) (sym (made_keys ks sorted)) ∙ sym (contains_key-keys (from_sorted (units ks)) q))))
     ∙ made_keys ks sorted
 
 abbrev go_folders : List (List ℕ × List ℕ) → List (List ℕ)
@@ -187,9 +187,9 @@ one_number ks sorted i j p a b =
     ⊎_elim
     (λ (h : i < j). absurd (less_apart _ _ (Less-from_sorted path_cmp ks i j [] sorted h in_j) (at_i ∙ sym at_j)))
     (λ (h : j ≤ i). ⊎_elim
-      (λ (k : j < i). absurd (less_apart _ _ (Less-from_sorted path_cmp ks j i [] sorted k in_i) (at_j ∙ sym at_i)))
-      (λ (k : i ≤ j). omega arith)
-      (cases_lt j i))
+    (λ (k : j < i). absurd (less_apart _ _ (Less-from_sorted path_cmp ks j i [] sorted k in_i) (at_j ∙ sym at_i)))
+    (λ (k : i ≤ j). omega arith)
+    (cases_lt j i))
     (cases_lt i j)
 
 -- ---- the folder of a Go file
@@ -204,15 +204,15 @@ there_by : (paths : List (List ℕ)) (es : List (List ℕ × List ℕ)) → ((q 
 there_by paths [] all = tt
 there_by paths (e ∷ es) all = (
   λ go. all (folder e.0) (ap (λ b. list_any (eq_by_cmp path_cmp (folder e.0)) (map folder (cond b (e.0 ∷ filter is_go (map (λ d. d.0) es)) (filter is_go (map (λ d. d.0) es))))) go
-    ∙ ap (λ o. is_eq o || list_any (eq_by_cmp path_cmp (folder e.0)) (go_folders es)) (tied_itself path_cmp_total (folder e.0))),
+      ∙ ap (λ o. is_eq o || list_any (eq_by_cmp path_cmp (folder e.0)) (go_folders es)) (tied_itself path_cmp_total (folder e.0))),
   there_by paths es (λ q one. all q (more q one)),
 )
   where
     more : (q : List ℕ) → list_any (eq_by_cmp path_cmp q) (go_folders es) ≡ true → list_any (eq_by_cmp path_cmp q) (go_folders (e ∷ es)) ≡ true
     more q one = elim (is_go e.0) as (λ b. list_any (eq_by_cmp path_cmp q) (map folder (cond b (e.0 ∷ filter is_go (map (λ d. d.0) es)) (filter is_go (map (λ d. d.0) es)))) ≡ true) [
-        | true ↦ ap (λ b. eq_by_cmp path_cmp q (folder e.0) || b) one ∙ or_true _
-        | false ↦ one
-      ]
+      | true ↦ ap (λ b. eq_by_cmp path_cmp q (folder e.0) || b) one ∙ or_true _
+      | false ↦ one
+    ]
 
 pub all_there : (w : Workspace) → AreThere (package_paths w) (entries w)
 all_there w = there_by (package_paths w) (entries w) (λ q one.

@@ -1,6 +1,8 @@
--- Three packages: the first two import each other, and the third imports the first.
-use Rattle.std.specs.Prelude.{[], ◌∷◌, refl}
+-- Small cases of the definitions. Three packages: the first two import each other, and the third imports the first.
+use Rattle.std.specs.Prelude.{◌≡◌, true, false, [], ◌∷◌, refl}
 use Rattle.std.proofs.Common.{lit<}
+use Rattle.gr_graph.specs.Packages.{is_go}
+use Rattle.gr_graph.specs.Filling.{files_in}
 use Rattle.gr_graph.specs.Imports.{Links, Imports, Reaches, itself, through, IsOnCycle, IsCycleOf}
 
 abbrev two_and_one : Links
@@ -23,3 +25,15 @@ first_is_on_cycle = (1, first_imports_second, through second_imports_first (itse
 
 first_and_second_are_a_cycle : IsCycleOf two_and_one 0 (0 ∷ 1 ∷ [])
 first_and_second_are_a_cycle = (refl, (first_imports_second, second_imports_first))
+
+-- of a/a.go, a/b.go, a/c.txt and b/a.go the Go files of a
+go_files_of_a : files_in (97 ∷ []) ((97 ∷ 47 ∷ 97 ∷ 46 ∷ 103 ∷ 111 ∷ [], []) ∷ (97 ∷ 47 ∷ 98 ∷ 46 ∷ 103 ∷ 111 ∷ [], []) ∷ (97 ∷ 47 ∷ 99 ∷ 46 ∷ 116 ∷ 120 ∷ 116 ∷ [], []) ∷ (98 ∷ 47 ∷ 97 ∷ 46 ∷ 103 ∷ 111 ∷ [], []) ∷ [])
+    ≡ (97 ∷ 47 ∷ 97 ∷ 46 ∷ 103 ∷ 111 ∷ [], []) ∷ (97 ∷ 47 ∷ 98 ∷ 46 ∷ 103 ∷ 111 ∷ [], []) ∷ []
+go_files_of_a = refl
+
+-- a name behind .go is no Go file, and .go alone is one
+not_go : is_go (97 ∷ 47 ∷ 97 ∷ 46 ∷ 103 ∷ 111 ∷ 120 ∷ []) ≡ false
+not_go = refl
+
+only_go : is_go (97 ∷ 47 ∷ 46 ∷ 103 ∷ 111 ∷ []) ≡ true
+only_go = refl

@@ -1,8 +1,9 @@
 //! The graph of a workspace: its packages with their parsed files, and which imports which.
-ghost use Rattle.std.specs.Prelude.{◌≡◌, ◌<◌, length, IfOk, MatchOption, Some, slice_get};
+ghost use Rattle.std.specs.Prelude.{◌≡◌, ◌<◌, ℕ, length, IfOk, MatchOption, Some, slice_get};
 ghost use Rattle.std.specs.List.{Contains};
 ghost use Rattle.std.specs.List.Sorted.{IsStrictlyIncreasing, IsStrictlySortedBy};
 ghost use Rattle.gr_text.specs.Workspace.{path_cmp};
+ghost use Rattle.gr_graph.specs.Imports.{imports_of};
 ghost use Rattle.gr_graph.specs.Packages.{package_paths, PackageImports, IsInClosure, AreLinksOf};
 ghost use Rattle.gr_graph.specs.Graphs.{
   paths_of,
@@ -18,6 +19,7 @@ use crate::import_links::ImportLinks;
 use crate::package::{Package, number_of};
 use crate::packages::packages;
 use crate::rows::rows;
+use crate::shared_links::SharedLinks;
 use gr_text::Files;
 use std::alloc::{AllocError, Global};
 use std::marker::Model;
@@ -28,7 +30,7 @@ use std::sync::Arc;
 struct Parts {
     files: Files,
     packages: Vec<Package>,
-    links: ImportLinks,
+    links: SharedLinks,
 }
 
 /// The graph of a workspace, which no longer changes: its packages by number, in the order of their paths, each with
@@ -61,23 +63,30 @@ impl Graph {
         ensures { IfOk result (λ graph. graph ≡ files.now) }
     {
         let none = Vec::new(alloc);
-        Graph::behind(alloc, &none, files)
+        Graph::behind(alloc, &none, None, files)
     }
 
     /// The graph of other files. It parses only those that the graph before does not have with the same text.
     pub fn after(alloc: Global, before: &Graph, files: &Files) -> Result<Graph, AllocError>
         ensures { IfOk result (λ graph. graph ≡ files.now) }
     {
-        Graph::behind(alloc, &before.parts.packages, files)
+        let before = &before.parts;
+        Graph::behind(alloc, &before.packages, Some(&before.links), files)
     }
 
-    /// The graph of some files. What is among the packages before is not parsed again.
-    fn behind(alloc: Global, before: &[Package], files: &Files) -> Result<Graph, AllocError>
+    /// The graph of some files. What is among the packages before is not parsed again, and what is asked of the links
+    /// before is not found again where no link changed.
+    fn behind(
+        alloc: Global,
+        before: &[Package],
+        links_before: Option<&SharedLinks>,
+        files: &Files,
+    ) -> Result<Graph, AllocError>
         requires { IsStrictlySortedBy path_cmp (paths_of before.now) }
         ensures { IfOk result (λ graph. graph ≡ files.now) }
     {
         let packages = packages(alloc, before, files)?;
-        let links = ImportLinks::new(alloc, rows(alloc, &packages)?)?;
+        let links = SharedLinks::of(alloc, links_before, rows(alloc, &packages)?)?;
         let files = files.copy()?;
         let parts = Parts {
             files,
@@ -120,9 +129,10 @@ impl Graph {
 
     /// Which packages import which, by number.
     pub fn links(&self) -> &ImportLinks
-        ensures { AreLinksOf self.now result.now }
+        ensures links { AreLinksOf self.now result.now }
+        ensures rising { (i : ℕ) → i < length result.now → IsStrictlyIncreasing (imports_of result.now i) }
     {
-        &self.parts.links
+        self.parts.links.links()
     }
 
     /// The packages that one imports directly, in their order.
@@ -131,7 +141,7 @@ impl Graph {
         ensures imports { OfPackage self.now number (λ p. HoldsPackages self.now (PackageImports self.now p) result.now) }
         ensures rising { IsStrictlyIncreasing result.now }
     {
-        self.parts.links.imports(number)
+        self.links().imports(number)
     }
 
     /// The packages that import one directly.
@@ -139,7 +149,7 @@ impl Graph {
         requires { number < length (package_paths self.now) }
         ensures { OfPackage self.now number (λ p. HoldsPackages self.now (λ q. PackageImports self.now q p) result.now) }
     {
-        self.parts.links.importers(number)
+        self.links().importers(number)
     }
 
     /// A package, and all that it imports directly or indirectly, in their order.
@@ -148,7 +158,7 @@ impl Graph {
         ensures closure { OfPackage self.now number (λ p. HoldsPackages self.now (IsInClosure self.now p) result.now) }
         ensures rising { IsStrictlyIncreasing result.now }
     {
-        self.parts.links.closure(number)
+        self.links().closure(number)
     }
 
     /// Packages from one back to itself, each importing the next. The last imports the first.
@@ -156,14 +166,14 @@ impl Graph {
         requires { number < length (package_paths self.now) }
         ensures { OfPackage self.now number (λ p. MatchOption result (IsOnImportCycle self.now p → ⊥) (λ cycle. IsImportCycle self.now p cycle.now)) }
     {
-        self.parts.links.cycle_of(number)
+        self.links().cycle_of(number)
     }
 
     /// The packages that reach no cycle, each behind all that it imports.
     pub fn order(&self) -> &[usize]
         ensures { IsPackageOrder self.now result.now }
     {
-        self.parts.links.order()
+        self.links().order()
     }
 }
 

@@ -33,11 +33,7 @@ fn kept_tree<'a>(trees: &'a [FileTree], path: &Path, text: &FileText) -> Option<
 }
 
 /// The file without a tree that has this path and text, if it is here. The files are in the order of their paths.
-fn kept_fault<'a>(
-    faulty: &'a [FaultyFile],
-    path: &Path,
-    text: &FileText,
-) -> Option<&'a FaultyFile>
+fn kept_fault<'a>(faulty: &'a [FaultyFile], path: &Path, text: &FileText) -> Option<&'a FaultyFile>
     ensures { IfSome result (λ file. IsFaulty path.now text.now file.now) }
 {
     match faulty.binary_search_by(|file| file.path().cmp(path)) {

@@ -15,6 +15,7 @@ mod packages;
 mod parsed;
 mod rows;
 mod search;
+mod shared_links;
 
 pub use faulty_file::FaultyFile;
 pub use file_imports::{FileImport, read_imports};

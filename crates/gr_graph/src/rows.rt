@@ -59,7 +59,11 @@ fn add_file(
 }
 
 /// The packages that some files import.
-fn row_of(alloc: Global, packages: &[Package], trees: &[FileTree]) -> Result<PackageList, AllocError>
+fn row_of(
+    alloc: Global,
+    packages: &[Package],
+    trees: &[FileTree],
+) -> Result<PackageList, AllocError>
     requires { IsStrictlySortedBy path_cmp (paths_of packages.now) }
     ensures { IfOk result (IsRow (paths_of packages.now) trees.now) }
 {

@@ -20,10 +20,10 @@ pub loop-path-init : goal.loop-path-init
 loop-path-init c =
     let begun : map.entries c.args.files.now ≡ c.into_iter-path-iterator.result = sym (c.into_iter-path-iterator.ensures.into_iter_gives ∙ c.iter-path-items.ensures.files) in
     record {
-  paths = c.in_ok-packages.ensures.paths;
-  filled = subst (λ es. AreFilled (map.entries c.args.files.now) es c.in_ok-packages.packages.items) begun (filled_start (map.entries c.args.files.now) c.in_ok-packages.packages.items c.in_ok-packages.ensures.empty);
-  there = subst (AreThere (package_paths c.args.files.now)) begun (all_there c.args.files.now);
-}
+      paths = c.in_ok-packages.ensures.paths;
+      filled = subst (λ es. AreFilled (map.entries c.args.files.now) es c.in_ok-packages.packages.items) begun (filled_start (map.entries c.args.files.now) c.in_ok-packages.packages.items c.in_ok-packages.ensures.empty);
+      there = subst (AreThere (package_paths c.args.files.now)) begun (all_there c.args.files.now);
+    }
 
 pub number_of-requires : goal.number_of-requires
 number_of-requires c =
@@ -50,7 +50,7 @@ loop-path-preserved-in-Continue-branch-3 c =
     record {
       paths = paths_added _ _ _ _ adds ∙ c.loop-path.invariant.paths;
       filled = filled_add all e c.next.new.self old c.add_file.new.packages.items c.in-Some-number_of.number c.in_ok-file.file sorted (sym c.is_go.ensures ∙ c.if-is_go.true) at adds c.in_ok-file.ensures
-        (subst (λ es. AreFilled all es old) left c.loop-path.invariant.filled);
+          (subst (λ es. AreFilled all es old) left c.loop-path.invariant.filled);
       there = there.1;
     }
 

@@ -13,8 +13,8 @@ rows-requires c =
     let paths = ap paths_of c.deref.ensures.value ∙ c.in_ok-packages.ensures.paths in
     rw paths (paths_sorted c.args.files.now)
 
-pub new-requires : goal.new-requires
-new-requires c =
+pub of-requires : goal.of-requires
+of-requires c =
     let ps = c.in_ok-packages.packages.items in
     let rows = subst (λ (qs : List Package). AllZip (λ p row. IsRow (paths_of qs) p.trees.items row) qs c.in_ok-rows.field-0.items) c.deref.ensures.value c.in_ok-rows.ensures in
     are_linked c.args.files.now ps c.in_ok-rows.field-0.items c.in_ok-packages.ensures.paths c.in_ok-packages.ensures.files rows

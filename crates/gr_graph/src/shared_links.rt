@@ -1,0 +1,75 @@
+//! Links that several graphs share.
+ghost use Rattle.std.specs.Prelude.{◌≡◌, IfOk, IsTrue};
+ghost use Rattle.gr_graph.specs.Imports.{AreLinked};
+
+use crate::import_links::ImportLinks;
+use crate::package_list::PackageList;
+use std::alloc::{AllocError, Global};
+use std::marker::Model;
+use std::sync::Arc;
+
+/// Links that no longer change. A clone shares them.
+#[derive(Drop)]
+pub(crate) struct SharedLinks {
+    links: Arc<ImportLinks, Global>,
+}
+
+impl Model for SharedLinks {
+    ghost use Rattle.std.specs.Arc.{arc_value};
+    ghost use Rattle.gr_graph.specs.Imports.{Links};
+
+    ghost Value = { Links };
+
+    ghost view = { λ a. arc_value a.links };
+}
+
+/// Whether the links are those of the rows.
+fn has_rows(links: &ImportLinks, rows: &[PackageList]) -> bool
+    ensures { IsTrue result → links.now ≡ rows.now }
+{
+    if links.len() != rows.len() {
+        return false;
+    }
+    for number in 0..rows.len() {
+        if links.imports(number) != rows[number].as_slice() {
+            return false;
+        }
+    }
+    true
+}
+
+impl SharedLinks {
+    /// Finds what is asked of the rows, unless they are those of the links before.
+    pub(crate) fn of(
+        alloc: Global,
+        before: Option<&SharedLinks>,
+        rows: Vec<PackageList>,
+    ) -> Result<SharedLinks, AllocError>
+        requires { AreLinked rows.items }
+        ensures { IfOk result (λ shared. shared ≡ rows.items) }
+    {
+        if let Some(before) = before {
+            if has_rows(before.links(), &rows) {
+                return before.clone();
+            }
+        }
+        let links = ImportLinks::new(alloc, rows)?;
+        let links = Arc::new(alloc, links)?;
+        Ok(SharedLinks { links })
+    }
+
+    pub(crate) fn links(&self) -> &ImportLinks
+        ensures { result.now ≡ self.now }
+    {
+        &self.links
+    }
+}
+
+impl Clone for SharedLinks {
+    ghost is_clone = { λ links copy. copy ≡ links };
+
+    fn clone(&self) -> Result<SharedLinks, AllocError> {
+        let links = Arc::try_clone(&self.links)?;
+        Ok(SharedLinks { links })
+    }
+}
