@@ -4,6 +4,7 @@ mod faulty;
 mod hostile;
 mod refused;
 mod rows;
+mod uses;
 
 use gr_book::Book;
 use gr_desk::Solo;
@@ -34,12 +35,7 @@ fn written(alloc: Global, limits: Limits, input: &[u8]) -> Result<Vec<u8>, Fail>
 }
 
 /// Whether a session of its own writes just this.
-fn writes(
-    alloc: Global,
-    limits: Limits,
-    input: &[&str],
-    output: &[&str],
-) -> Result<bool, Fail> {
+fn writes(alloc: Global, limits: Limits, input: &[&str], output: &[&str]) -> Result<bool, Fail> {
     let input = joined(alloc, input)?;
     let output = joined(alloc, output)?;
     Ok(written(alloc, limits, &input)?.as_slice() == output.as_slice())
