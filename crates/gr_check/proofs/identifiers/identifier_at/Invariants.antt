@@ -1,0 +1,7 @@
+-- The invariants of the loops of `identifiers::identifier_at`.
+use Rattle.std.proofs.Common.{ℕ, ◌<◌}
+use Rattle.gr_check.specs.Package.{package_in, HoldsByte}
+use Rattle.gr_check.proofs.identifiers.identifier_at.Given as goal
+
+abbrev pub invariant-loop-u : goal.invariant-loop-u
+invariant-loop-u l = (v : ℕ) → v < l.u → HoldsByte (package_in l.table) l.path l.offset v → ⊥
