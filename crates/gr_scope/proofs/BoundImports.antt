@@ -1,5 +1,5 @@
 -- A use is bound to the counting import of its name, where no inner declaration holds it.
-use Rattle.std.proofs.Common.{ℕ, ◌≡◌, ◌<◌, List, inl, inr, refl, sym, ◌∙◌, subst, ap, arith}
+use Rattle.std.proofs.Common.{ℕ, ◌≡◌, inl, inr, refl, sym, ◌∙◌, subst, ap}
 use Rattle.std.proofs.lemmas.Bool.{cases_order}
 use Rattle.gr_scope.specs.declared.model.Block.{Block}
 use Rattle.gr_scope.specs.declared.model.Block.TheVariants.{Universe, Package, File, Inner}

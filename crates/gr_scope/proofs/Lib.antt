@@ -22,5 +22,6 @@ pub mod Declared
 pub mod Tables
 pub mod NamedSites
 pub mod BoundImports
+pub mod KeptBindings
 pub mod Examples
 pub mod NamedExamples

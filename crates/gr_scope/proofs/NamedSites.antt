@@ -48,7 +48,7 @@ stays_in_place true (Some name) x = refl
 stays_in_place true None x = refl
 stays_in_place false name x = refl
 
-place_stays : (names : ℕ → Option (List ℕ)) (xs : List Site) (d : ℕ) → (found_site (slice_get (named_sites names xs) d)).place ≡ (found_site (slice_get xs d)).place
+pub place_stays : (names : ℕ → Option (List ℕ)) (xs : List Site) (d : ℕ) → (found_site (slice_get (named_sites names xs) d)).place ≡ (found_site (slice_get xs d)).place
 unfolding named_sites
 place_stays names [] d = refl
 place_stays names (x ∷ xs) zero = stays_in_place (is_unnamed_import x.role) (names 0) x

@@ -1,13 +1,15 @@
 //! The laws of scopes.
 
-ghost use Rattle.std.specs.Prelude.{ℕ, List, ◌≡◌, ◌<◌, ◌↔◌, ◌⊎◌};
+ghost use Rattle.std.specs.Prelude.{ℕ, List, Option, ◌≡◌, ◌<◌, ◌↔◌, ◌⊎◌};
 ghost use Rattle.gr_scope.specs.declared.model.Position.{Position};
 ghost use Rattle.gr_scope.specs.declared.model.Block.TheVariants.{File, Inner};
 ghost use Rattle.gr_scope.specs.Scopes.{Holds, IsInside};
 ghost use Rattle.gr_scope.specs.Site.{sites_layout};
 ghost use Rattle.gr_scope.specs.FileSites.{SpelledFile, package_sites};
 ghost use Rattle.gr_scope.specs.Trees.{AreNumbered};
-ghost use Rattle.gr_scope.specs.Bindings.{Layout, Names, IsBoundTo, IsUse, Counts, MayDeclare, IsLeftName, Declares, SameBlock, InScope, scope_of, block_of};
+ghost use Rattle.gr_scope.specs.Bindings.{Layout, Names, BindsAt, IsBoundTo, IsUse, Counts, MayDeclare, IsLeftName, Declares, SameBlock, InScope, scope_of, block_of};
+ghost use Rattle.gr_scope.specs.Named.{named};
+ghost use Rattle.gr_scope.specs.Scoped.{ScopedPackage, layout_in, names_in};
 ghost use Rattle.gr_scope.specs.WellFormed.{WellFormed};
 ghost use Rattle.gr_scope.specs.Moves.{IsMoved};
 
@@ -51,4 +53,15 @@ pub fn uses_are_bound_to_imports()
     ensures { (l : Layout) → (names : Names) → (u i f : ℕ) → Counts l names i → block_of (l.role i) ≡ File f → names i ≡ names u → (l.place u).file ≡ f →
         IsUse l names u → ((e g a b : ℕ) → Counts l names e → names e ≡ names u → InScope l e u → block_of (l.role e) ≡ Inner g a b → ⊥) →
         IsBoundTo l names u i }
+{}
+
+/// Where imports without a name declare, a name keeps its binding to what is no import, unless an import of that name counts
+/// whose scope lies within.
+pub fn bindings_stay_where_imports_are_named()
+    ensures { (names : ℕ → Option (List ℕ)) → (p : ScopedPackage) → WellFormed (layout_in p) → (name : List ℕ) → (u d : ℕ) →
+        let laid = named names p in
+        BindsAt (layout_in p) (names_in p) name u d → ((f : ℕ) → block_of ((layout_in p).role d) ≡ File f → ⊥) →
+        ((i f : ℕ) → Counts (layout_in laid) (names_in laid) i → block_of ((layout_in laid).role i) ≡ File f → names_in laid i ≡ name →
+        InScope (layout_in laid) i u → IsInside (scope_of ((layout_in laid).role i)) (scope_of ((layout_in laid).role d)) → ⊥) →
+        BindsAt (layout_in laid) (names_in laid) name u d }
 {}
