@@ -1,13 +1,13 @@
 //! What names are bound to where imports without a name declare the names of packages, and the faults of names behind them.
 //! In a text `@` stands before a use and `^` before what declares it; without a `^` it means no declaration of the package.
-ghost use Rattle.std.specs.Prelude.{true};
+ghost use Rattle.std.specs.Prelude.{true, Some, codes};
 
 use gr_fault::Fault;
 use gr_parse::{FileTree, parse_file};
 use gr_scope::declare::declare;
 use gr_scope::named::name_imports;
 use gr_scope::table::ScopeTable;
-use gr_stages::{Exports, inner_faults};
+use gr_stages::{Exports, PackageNames, inner_faults, lay_names};
 use gr_text::{FaultKind, FileText, Path, Place};
 use std::alloc::Global;
 use std::process::Abort;
@@ -149,6 +149,36 @@ impl Exports for AllNames {
     fn exports(&self, _path: &[u8], _name: &[u8]) -> bool {
         true
     }
+}
+
+impl PackageNames for AllNames {
+    ghost name_of = { λ all path. Some (codes "q") };
+
+    fn name(&self, _path: &[u8]) -> Option<&[u8]> {
+        Some(b"q".as_slice())
+    }
+}
+
+/// An import without a name is called as its package, and one with a name as it was.
+#[test]
+fn names_by_paths(rt: HostRuntime) -> Result<(), Fail> {
+    let text = b"package a\nimport \"b/r\"\nimport s \"b/t\"\n"
+        .as_slice()
+        .to_vec(rt.alloc())?;
+    let mut files = Vec::new(rt.alloc());
+    files.push(tree(rt.alloc(), "a/a.go", text)?)?;
+    let plain = declare(rt.alloc(), &files)?;
+    let table = lay_names(rt.alloc(), &plain, &files, &AllNames)?;
+    let mut names = Vec::new(rt.alloc());
+    for u in 0..table.len() {
+        if table.declares(u) && !table.role(u).is_implied() {
+            names.push(table.name(u))?;
+        }
+    }
+    assert_eq!(rt; names.len(), 2);
+    assert_eq!(rt; names[0], b"q".as_slice());
+    assert_eq!(rt; names[1], b"s".as_slice());
+    Ok(())
 }
 
 fn faults(alloc: Global, text: &str) -> Result<Vec<Fault>, Fail> {
