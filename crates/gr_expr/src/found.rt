@@ -100,7 +100,7 @@ impl Found {
 
     /// The meaning of a selector behind an operand that has that meaning and stands at `place`.
     #[tactic(auto, unfolding(crate::specs::Found::meaning_of, crate::specs::View::kind_of, crate::specs::Judge::select))]
-    pub fn select<'w>(
+    pub(crate) fn select<'w>(
         &mut self,
         alloc: Global,
         scope: Scope<'w>,
@@ -139,7 +139,11 @@ impl<'w> Scope<'w> {
 
     /// What the name at a token means.
     #[tactic(auto, unfolding(crate::specs::Found::meaning_of, crate::specs::View::kind_of, crate::specs::WorldView::bound_of))]
-    pub fn name_meaning(&self, alloc: Global, place: usize) -> Result<Meaning<'w>, AllocError>
+    pub(crate) fn name_meaning(
+        &self,
+        alloc: Global,
+        place: usize,
+    ) -> Result<Meaning<'w>, AllocError>
         ensures { IfOk result (λ m. meaning_of m ≡ name_meaning (world_of self.now.world.now) (locals_of self.now.locals.now) place) }
     {
         match self.world.bound(place) {

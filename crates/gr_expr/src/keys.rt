@@ -107,7 +107,7 @@ impl<'w> World<'w> {
 
     /// The element type, if the type is one of slices.
     #[tactic(auto, unfolding(crate::specs::WorldView::shape_of))]
-    pub fn element_type<'a>(&'a self, of: &'a GoType) -> Option<&'a GoType>
+    pub(crate) fn element_type<'a>(&'a self, of: &'a GoType) -> Option<&'a GoType>
         ensures { option_map (λ t. type_of t.now) result ≡ element_of (underlying (world_of self.now) (type_of of.now)) }
     {
         match self.underlying(of) {
@@ -163,7 +163,7 @@ impl Found {
     }
 
     /// Judges what stands before the value of an element, in a literal of that type; it has none where it is broken.
-    pub fn element_key<'a>(
+    pub(crate) fn element_key<'a>(
         &mut self,
         alloc: Global,
         world: &'a World<'_>,

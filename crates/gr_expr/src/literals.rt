@@ -35,7 +35,7 @@ impl Elements {
 
 impl Found {
     /// Notes a value that does not fit what it has to, if that is known; whether it fits or is broken.
-    pub fn misfit_if(
+    pub(crate) fn misfit_if(
         &mut self,
         world: &World<'_>,
         value: &Argued,
@@ -51,7 +51,7 @@ impl Found {
 
     /// The meaning of a literal of that type, none where it is broken, with such elements.
     #[tactic(auto, unfolding(crate::specs::Found::meaning_of, crate::specs::View::kind_of, crate::specs::WorldView::shape_of))]
-    pub fn literal_meaning<'w>(
+    pub(crate) fn literal_meaning<'w>(
         &mut self,
         world: &World<'w>,
         start: usize,

@@ -55,7 +55,10 @@ impl<'w> Meaning<'w> {
 
 /// What a call with those results stands for.
 #[tactic(auto, unfolding(crate::specs::Found::meaning_of, crate::specs::View::kind_of))]
-pub fn result_meaning<'w>(alloc: Global, results: &'w [GoType]) -> Result<Meaning<'w>, AllocError>
+pub(crate) fn result_meaning<'w>(
+    alloc: Global,
+    results: &'w [GoType],
+) -> Result<Meaning<'w>, AllocError>
     ensures { IfOk result (λ m. meaning_of m ≡ result_meaning (map type_of results.now)) }
 {
     match results {

@@ -74,14 +74,14 @@ impl Class {
     }
 
     /// Whether `len` takes such a value.
-    pub fn has_length(self) -> bool
+    pub(crate) fn has_length(self) -> bool
         ensures { result ≡ has_length self }
     {
         matches!(self, Class::Of(Basic::String) | Class::Slice)
     }
 
     /// Whether `print` and `println` take such a value.
-    pub fn is_printed(self) -> bool
+    pub(crate) fn is_printed(self) -> bool
         ensures { result ≡ is_printed self }
     {
         matches!(self, Class::Of(_))
@@ -170,7 +170,7 @@ impl World<'_> {
 
     /// Whether a value of that kind converts to the type.
     #[tactic(auto, unfolding(crate::specs::View::kind_of))]
-    pub fn converts(&self, kind: &Kind, wanted: &GoType) -> bool
+    pub(crate) fn converts(&self, kind: &Kind, wanted: &GoType) -> bool
         ensures { result ≡ converts (world_of self.now) (kind_of kind.now) (type_of wanted.now) }
     {
         match kind {
@@ -228,7 +228,7 @@ impl World<'_> {
 
     /// The element type of a slice value.
     #[tactic(auto, unfolding(crate::specs::View::kind_of, crate::specs::WorldView::shape_of))]
-    pub fn element_of<'a>(&'a self, kind: &'a Kind) -> Option<&'a GoType>
+    pub(crate) fn element_of<'a>(&'a self, kind: &'a Kind) -> Option<&'a GoType>
         ensures { option_map (λ t. type_of t.now) result ≡ element_of_kind (world_of self.now) (kind_of kind.now) }
     {
         let Kind::Typed(own) = kind else {

@@ -89,7 +89,7 @@ impl Found {
 
     /// The meaning of a prefix operator at `place`, before an operand of that meaning.
     #[tactic(auto, unfolding(crate::specs::Found::meaning_of, crate::specs::Judge::prefix_of))]
-    pub fn prefix<'w>(
+    pub(crate) fn prefix<'w>(
         &mut self,
         alloc: Global,
         world: &World<'w>,
@@ -157,7 +157,7 @@ impl Found {
 impl<'w> Meaning<'w> {
     /// What `&` makes of a literal.
     #[tactic(auto, unfolding(crate::specs::Found::meaning_of, crate::specs::View::kind_of, crate::specs::View::type_of, crate::specs::Judge::address_of))]
-    pub fn into_address(self, alloc: Global) -> Result<Meaning<'w>, AllocError>
+    pub(crate) fn into_address(self, alloc: Global) -> Result<Meaning<'w>, AllocError>
         ensures { IfOk result (λ m. means (meaning_of m) ≡ address_of (meaning_of self.entry)) }
     {
         match self {

@@ -9,7 +9,7 @@ use gr_parse::tree::{Expr, Link, TypeExpr};
 
 /// The first token of a type.
 #[tactic(auto, unfolding(gr_parse::specs::View::type_view))]
-pub fn first_of_type(t: &TypeExpr) -> usize
+pub(crate) fn first_of_type(t: &TypeExpr) -> usize
     ensures { result ≡ first_of_type (type_view t.now) }
 {
     match t {

@@ -92,7 +92,7 @@ impl GoType {
 
     /// Whether it has a name, as all but pointers and slices have.
     #[tactic(auto, unfolding(crate::specs::View::type_of, crate::specs::Types::is_named))]
-    pub fn is_named(&self) -> bool
+    pub(crate) fn is_named(&self) -> bool
         ensures { result ≡ is_named (type_of self.now) }
     {
         matches!(self, GoType::Basic(_) | GoType::Defined(_))

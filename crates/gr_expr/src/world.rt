@@ -108,7 +108,7 @@ pub enum Shape<'a> {
 
 impl Underlying {
     #[tactic(auto, unfolding(crate::specs::WorldView::underlying_of, crate::specs::WorldView::shape_of))]
-    pub fn shape(&self) -> Shape<'_>
+    pub(crate) fn shape(&self) -> Shape<'_>
         ensures { shape_of result ≡ underlying_of self.now }
     {
         match self {

@@ -39,7 +39,7 @@ fn add_clause(
 }
 
 /// Adds the faults of package clauses.
-pub fn add_clauses(found: &mut Vec<Fault>, files: &[FileTree]) -> Result<(), AllocError>
+pub(crate) fn add_clauses(found: &mut Vec<Fault>, files: &[FileTree]) -> Result<(), AllocError>
     ensures { OnOk result (Adds found.old.items found.new.items (IsClauseFault (map source_of files.now))) }
 {
     let Some(first) = files.first() else {

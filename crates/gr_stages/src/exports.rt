@@ -29,7 +29,11 @@ pub fn is_exported(name: &[u8]) -> bool
 }
 
 /// What is wrong with a name of the package of a path.
-pub fn qualified_fault<E: Exports>(exports: &E, path: &[u8], name: &[u8]) -> Option<FaultKind>
+pub(crate) fn qualified_fault<E: Exports>(
+    exports: &E,
+    path: &[u8],
+    name: &[u8],
+) -> Option<FaultKind>
     ensures { result ≡ qualified_fault (is_exported name.now) (E.exported exports.now path.now name.now) }
 {
     if !is_exported(name) {

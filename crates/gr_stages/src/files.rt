@@ -7,7 +7,11 @@ use gr_parse::FileTree;
 use std::alloc::{AllocError, Global};
 
 /// What the string literal at a token stands for; none where no string literal stands there.
-pub fn literal(alloc: Global, file: &FileTree, token: usize) -> Result<Option<Vec<u8>>, AllocError>
+pub(crate) fn literal(
+    alloc: Global,
+    file: &FileTree,
+    token: usize,
+) -> Result<Option<Vec<u8>>, AllocError>
     ensures { IfOk result (λ value. MatchOption value ((v : List ℕ) → HasLiteral (source_of file.now) token v → ⊥) (λ v. HasLiteral (source_of file.now) token v.items)) }
 {
     let pieces = file.pieces();
@@ -20,14 +24,14 @@ pub fn literal(alloc: Global, file: &FileTree, token: usize) -> Result<Option<Ve
 
 /// The token of the name in a file's package clause.
 #[tactic(auto, unfolding(gr_parse::specs::FileView::file_view))]
-pub fn clause_token(file: &FileTree) -> usize
+pub(crate) fn clause_token(file: &FileTree) -> usize
     ensures { result ≡ (source_of file.now).tree.name }
 {
     file.file().name
 }
 
 /// The name in a file's package clause.
-pub fn clause_name(file: &FileTree) -> &[u8]
+pub(crate) fn clause_name(file: &FileTree) -> &[u8]
     ensures { result.now ≡ clause_name (source_of file.now) }
 {
     file.spelling(clause_token(file))

@@ -94,7 +94,7 @@ fn add_file(
 }
 
 /// Adds the faults of a package's imports.
-pub fn add_imports(
+pub(crate) fn add_imports(
     alloc: Global,
     found: &mut Vec<Fault>,
     states: &ImportStates,

@@ -236,7 +236,7 @@ fn add_file(found: &mut Vec<Fault>, scope: FileScope<'_>, file: &FileTree) -> Re
 }
 
 /// Adds the faults of a package's statements that need no types.
-pub fn add_marks(
+pub(crate) fn add_marks(
     found: &mut Vec<Fault>,
     table: &ScopeTable,
     files: &[FileTree],

@@ -80,7 +80,7 @@ fn add_identifier(
 
 /// Adds the faults of a package's identifiers: uses that are bound to nothing, declarations that do not count, and imports
 /// without a use.
-pub fn add_scopes(
+pub(crate) fn add_scopes(
     alloc: Global,
     found: &mut Vec<Fault>,
     table: &ScopeTable,

@@ -10,7 +10,7 @@ use gr_scope::table::ScopeTable;
 use gr_text::FaultKind;
 
 /// A fault at an identifier.
-pub fn fault_at(table: &ScopeTable, u: usize, kind: FaultKind) -> Fault
+pub(crate) fn fault_at(table: &ScopeTable, u: usize, kind: FaultKind) -> Fault
     requires { u < (laid_in table.now).size }
     ensures { result ≡ fault_at (laid_in table.now).layout u kind }
 {
@@ -23,7 +23,7 @@ pub fn fault_at(table: &ScopeTable, u: usize, kind: FaultKind) -> Fault
 }
 
 /// Whether an identifier is a lexical use.
-pub fn is_name_use(table: &ScopeTable, u: usize) -> bool
+pub(crate) fn is_name_use(table: &ScopeTable, u: usize) -> bool
     requires { u < (laid_in table.now).size }
     ensures { IsTrue result ↔ IsUse (laid_in table.now).layout (laid_in table.now).names u }
 {
@@ -31,7 +31,7 @@ pub fn is_name_use(table: &ScopeTable, u: usize) -> bool
 }
 
 /// The declaration to which an identifier is bound.
-pub fn binding(table: &ScopeTable, u: usize) -> Option<usize>
+pub(crate) fn binding(table: &ScopeTable, u: usize) -> Option<usize>
     requires { u < (laid_in table.now).size }
     ensures { let l = (laid_in table.now).layout in
         let names = (laid_in table.now).names in
@@ -52,7 +52,7 @@ fn is_unbound(table: &ScopeTable, u: usize) -> bool
 }
 
 /// Whether an identifier is a use that is bound to nothing.
-pub fn is_undeclared(table: &ScopeTable, u: usize) -> bool
+pub(crate) fn is_undeclared(table: &ScopeTable, u: usize) -> bool
     requires { u < (laid_in table.now).size }
     ensures { let l = (laid_in table.now).layout in
         let names = (laid_in table.now).names in
@@ -80,7 +80,7 @@ fn is_init(table: &ScopeTable, u: usize) -> bool
 }
 
 /// Whether an identifier repeats a declaration, or is a variable or type of a name that is no variable's and no type's.
-pub fn is_repetition(table: &ScopeTable, u: usize) -> bool
+pub(crate) fn is_repetition(table: &ScopeTable, u: usize) -> bool
     requires { u < (laid_in table.now).size }
     ensures { IsTrue result ↔ IsRepetition (laid_in table.now) u }
 {
@@ -88,7 +88,7 @@ pub fn is_repetition(table: &ScopeTable, u: usize) -> bool
 }
 
 /// Whether an identifier is declared in the block of a file.
-pub fn is_import(table: &ScopeTable, u: usize) -> bool
+pub(crate) fn is_import(table: &ScopeTable, u: usize) -> bool
     requires { u < (laid_in table.now).size }
     ensures { IsTrue result ↔ IsImport (laid_in table.now).layout u }
 {
@@ -109,7 +109,7 @@ fn is_literal(role: Role) -> bool
 }
 
 /// The identifier that stands for an import's literal: the next one where the import has a name, else itself.
-pub fn literal_of(table: &ScopeTable, d: usize) -> usize
+pub(crate) fn literal_of(table: &ScopeTable, d: usize) -> usize
     requires { d < (laid_in table.now).size }
     ensures literal { result ≡ literal_of (laid_in table.now).layout d }
     ensures in_range { result < (laid_in table.now).size }
@@ -122,7 +122,7 @@ pub fn literal_of(table: &ScopeTable, d: usize) -> usize
 }
 
 /// Whether the identifier at a token declares.
-pub fn declares_at(table: &ScopeTable, file: usize, token: usize) -> bool
+pub(crate) fn declares_at(table: &ScopeTable, file: usize, token: usize) -> bool
     ensures { IsTrue result ↔ DeclaresAt (laid_in table.now) file token }
 {
     match table.identifier_at(Position { file, index: token }) {

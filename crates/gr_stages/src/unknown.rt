@@ -69,7 +69,7 @@ fn qualifier_of(table: &ScopeTable, u: usize) -> Option<usize>
 }
 
 /// The path that an import names.
-pub fn path_of(
+pub(crate) fn path_of(
     alloc: Global,
     table: &ScopeTable,
     files: &[FileTree],
@@ -150,7 +150,7 @@ fn add_unknown<E: Exports>(
 }
 
 /// Adds the faults of names behind packages' names.
-pub fn add_unknowns<E: Exports>(
+pub(crate) fn add_unknowns<E: Exports>(
     alloc: Global,
     found: &mut Vec<Fault>,
     table: &ScopeTable,

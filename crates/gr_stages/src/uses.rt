@@ -34,7 +34,7 @@ fn mark(used: &mut Vec<bool>, d: Option<usize>)
 }
 
 /// Whether each identifier is used.
-pub fn uses(alloc: Global, table: &ScopeTable) -> Result<Vec<bool>, AllocError>
+pub(crate) fn uses(alloc: Global, table: &ScopeTable) -> Result<Vec<bool>, AllocError>
     ensures { IfOk result (λ used. AreUsed (laid_in table.now) (laid_in table.now).size used.items) }
 {
     gr_scope::law::bindings_are_unique();

@@ -150,7 +150,7 @@ fn require_statement(place: usize, alone: Alone<'_>, found: &mut Found) -> Resul
 
 impl Checked {
     /// Checks an expression that is a statement.
-    pub fn check_alone(
+    pub(crate) fn check_alone(
         &mut self,
         alloc: Global,
         world: &World<'_>,

@@ -158,7 +158,7 @@ impl Checked {
     }
 
     /// Checks one or several declarations of package-level variables.
-    pub fn check_globals(
+    pub(crate) fn check_globals(
         &mut self,
         alloc: Global,
         world: &World<'_>,
@@ -190,7 +190,7 @@ impl Checked {
     }
 
     /// Checks one or several type definitions.
-    pub fn check_types(
+    pub(crate) fn check_types(
         &mut self,
         alloc: Global,
         world: &World<'_>,

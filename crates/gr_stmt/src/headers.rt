@@ -169,7 +169,7 @@ impl Checked {
     }
 
     /// Checks a function; `is_init` says whether its name is `init`.
-    pub fn check_function(
+    pub(crate) fn check_function(
         &mut self,
         alloc: Global,
         world: &World<'_>,

@@ -1,12 +1,15 @@
 //! Statements, function bodies and declarations: the types of locals, and the faults of types.
 #![tactic(auto)]
 
-pub mod alone;
-pub mod checked;
-pub mod declarations;
-pub mod files;
-pub mod headers;
-pub mod locals;
-pub mod sides;
-pub mod simple;
-pub mod statements;
+mod alone;
+mod checked;
+mod declarations;
+mod files;
+mod headers;
+mod locals;
+mod sides;
+mod simple;
+mod statements;
+
+pub use checked::Checked;
+pub use files::check_file;

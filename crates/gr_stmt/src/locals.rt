@@ -18,7 +18,7 @@ use std::alloc::{AllocError, Global};
 
 /// Whether a left name of `:=` declares: where it is bound to itself.
 #[tactic(auto, unfolding(gr_expr::specs::WorldView::bound_of))]
-pub fn declares(world: &World<'_>, place: usize) -> bool
+pub(crate) fn declares(world: &World<'_>, place: usize) -> bool
     ensures { result ≡ declares (world_of world.now) place }
 {
     match world.bound(place) {
@@ -57,7 +57,7 @@ fn defined_name(world: &World<'_>, expr: &Expr) -> Option<usize>
 }
 
 /// The names that left sides of `:=` declare.
-pub fn defined_names(
+pub(crate) fn defined_names(
     alloc: Global,
     world: &World<'_>,
     exprs: &[ExprItem],
@@ -73,7 +73,7 @@ pub fn defined_names(
 
 /// The name that an identifier declares.
 #[tactic(auto, unfolding(crate::specs::Sides::named))]
-pub fn named(ident: &Ident) -> Option<usize>
+pub(crate) fn named(ident: &Ident) -> Option<usize>
     ensures { result ≡ named (ident_view ident.now) }
 {
     match ident {
@@ -83,7 +83,10 @@ pub fn named(ident: &Ident) -> Option<usize>
 }
 
 /// The names that identifiers declare.
-pub fn all_named(alloc: Global, idents: &[Item<Ident>]) -> Result<Vec<Option<usize>>, AllocError>
+pub(crate) fn all_named(
+    alloc: Global,
+    idents: &[Item<Ident>],
+) -> Result<Vec<Option<usize>>, AllocError>
     ensures { IfOk result (λ names. names.items ≡ all_named (list_view ident_view idents.now)) }
 {
     let mut names = Vec::new(alloc);
@@ -95,7 +98,7 @@ pub fn all_named(alloc: Global, idents: &[Item<Ident>]) -> Result<Vec<Option<usi
 
 /// The place of the first of several expressions; 0 where there is none.
 #[tactic(auto, unfolding(crate::specs::Sides::first_of_exprs))]
-pub fn first_of_exprs(exprs: &[ExprItem]) -> usize
+pub(crate) fn first_of_exprs(exprs: &[ExprItem]) -> usize
     ensures { result ≡ first_of_exprs (exprs_view exprs.now) }
 {
     match exprs {
@@ -116,7 +119,7 @@ fn ident_place(ident: &Ident) -> usize
 
 /// The place of the first of several identifiers; 0 where there is none.
 #[tactic(auto, unfolding(crate::specs::Sides::first_of_idents))]
-pub fn first_of_idents(idents: &[Item<Ident>]) -> usize
+pub(crate) fn first_of_idents(idents: &[Item<Ident>]) -> usize
     ensures { result ≡ first_of_idents (list_view ident_view idents.now) }
 {
     match idents {
@@ -126,7 +129,7 @@ pub fn first_of_idents(idents: &[Item<Ident>]) -> usize
 }
 
 /// Declares a local, where there is a name.
-pub fn declare_if(
+pub(crate) fn declare_if(
     locals: &mut Locals,
     name: Option<usize>,
     own: Option<GoType>,
@@ -140,7 +143,7 @@ pub fn declare_if(
 }
 
 /// Declares broken locals.
-pub fn declare_broken(locals: &mut Locals, names: &[Option<usize>]) -> Result<(), AllocError>
+pub(crate) fn declare_broken(locals: &mut Locals, names: &[Option<usize>]) -> Result<(), AllocError>
     ensures { OnOk result (locals_of locals.new ≡ with_locals (locals_of locals.old) names.now []) }
 {
     for name in names {
@@ -168,7 +171,7 @@ fn declare_each(
 
 /// Declares locals of the types that they take from values; under a wrong count they are broken.
 #[tactic(auto, unfolding(crate::specs::Sides::taken))]
-pub fn declare_taken(
+pub(crate) fn declare_taken(
     alloc: Global,
     locals: &mut Locals,
     names: &[Option<usize>],
@@ -184,7 +187,7 @@ pub fn declare_taken(
 }
 
 /// The same type, in other memory.
-pub fn copied(alloc: Global, own: &Option<GoType>) -> Result<Option<GoType>, AllocError>
+pub(crate) fn copied(alloc: Global, own: &Option<GoType>) -> Result<Option<GoType>, AllocError>
     ensures { IfOk result (λ t. option_map type_of t ≡ option_map type_of own.now) }
 {
     match own {
@@ -194,7 +197,7 @@ pub fn copied(alloc: Global, own: &Option<GoType>) -> Result<Option<GoType>, All
 }
 
 /// Declares locals of one written type.
-pub fn declare_written(
+pub(crate) fn declare_written(
     alloc: Global,
     locals: &mut Locals,
     idents: &[Item<Ident>],

@@ -32,7 +32,7 @@ pub enum Target {
 
 /// The values of right sides: those of each, or the results of a lone call.
 #[tactic(auto, unfolding(crate::specs::Sides::rights))]
-pub fn rights(
+pub(crate) fn rights(
     alloc: Global,
     scope: Scope<'_>,
     exprs: &[ExprItem],
@@ -156,7 +156,7 @@ fn refuse_nil(value: &Argued, found: &mut Found) -> Result<(), AllocError>
 }
 
 /// Notes the values that their targets refuse, in turn.
-pub fn refuse_all(
+pub(crate) fn refuse_all(
     world: &World<'_>,
     values: &[Argued],
     targets: &[Target],
@@ -173,7 +173,7 @@ pub fn refuse_all(
 }
 
 /// Notes a fault at a place, if there is one.
-pub fn note_if(test: bool, place: usize, found: &mut Found) -> Result<(), AllocError>
+pub(crate) fn note_if(test: bool, place: usize, found: &mut Found) -> Result<(), AllocError>
     ensures { OnOk result (Notes (fault_if test place) found.old found.new) }
 {
     if test {
@@ -184,7 +184,7 @@ pub fn note_if(test: bool, place: usize, found: &mut Found) -> Result<(), AllocE
 
 /// Notes where values do not go with the left sides that they are given to; a wrong count at that place.
 #[tactic(auto, unfolding(crate::specs::Sides::given_to))]
-pub fn given_to(
+pub(crate) fn given_to(
     world: &World<'_>,
     place: usize,
     values: &[Argued],
@@ -202,7 +202,7 @@ pub fn given_to(
 
 /// An operand that can be assigned; any other is a fault.
 #[tactic(auto, unfolding(crate::specs::Sides::assignable, gr_expr::specs::Found::meaning_of))]
-pub fn assignable<'w>(
+pub(crate) fn assignable<'w>(
     place: usize,
     meaning: Meaning<'w>,
     found: &mut Found,
@@ -220,7 +220,7 @@ pub fn assignable<'w>(
 }
 
 /// What an expression stands for that is assigned.
-pub fn operand<'w>(
+pub(crate) fn operand<'w>(
     alloc: Global,
     scope: Scope<'w>,
     expr: &Expr,
@@ -266,7 +266,7 @@ fn assigned_one(
 }
 
 /// The left sides of `=`.
-pub fn assigned(
+pub(crate) fn assigned(
     alloc: Global,
     scope: Scope<'_>,
     exprs: &[ExprItem],
@@ -325,7 +325,7 @@ fn defined_one(
 }
 
 /// The left sides of `:=`.
-pub fn defined(
+pub(crate) fn defined(
     alloc: Global,
     scope: Scope<'_>,
     exprs: &[ExprItem],
@@ -343,7 +343,7 @@ pub fn defined(
 
 /// Notes where values do not go with the results that they are returned as; a wrong count at that place.
 #[tactic(auto, unfolding(crate::specs::Statements::returned))]
-pub fn returned(
+pub(crate) fn returned(
     world: &World<'_>,
     place: usize,
     values: &[Argued],

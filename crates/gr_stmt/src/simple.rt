@@ -102,7 +102,7 @@ fn require_operation(
 
 impl Checked {
     /// Checks the condition of an `if` or `for`.
-    pub fn check_condition(
+    pub(crate) fn check_condition(
         &mut self,
         alloc: Global,
         world: &World<'_>,
@@ -201,7 +201,7 @@ impl Checked {
     }
 
     /// Checks a simple statement.
-    pub fn check_simple(
+    pub(crate) fn check_simple(
         &mut self,
         alloc: Global,
         world: &World<'_>,
@@ -278,7 +278,7 @@ impl Checked {
 
     /// Checks a declaration of locals.
     #[tactic(auto, unfolding(crate::specs::Simple::check_local, gr_parse::specs::FileView::local_view))]
-    pub fn check_local(
+    pub(crate) fn check_local(
         &mut self,
         alloc: Global,
         world: &World<'_>,

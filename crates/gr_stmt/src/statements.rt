@@ -155,7 +155,7 @@ impl Checked {
 
     /// Checks a block of a function with those results.
     #[cycle(statement)]
-    pub fn check_block(
+    pub(crate) fn check_block(
         &mut self,
         alloc: Global,
         world: &World<'_>,

@@ -21,4 +21,6 @@ mod space;
 #[cfg(test)]
 mod stages;
 #[cfg(test)]
+mod stmt;
+#[cfg(test)]
 mod text;
