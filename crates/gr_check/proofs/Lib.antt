@@ -7,3 +7,4 @@ pub mod Spots
 pub mod Folders
 pub mod Groups
 pub mod Workspaces
+pub mod Examples

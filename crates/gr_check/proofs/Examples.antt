@@ -1,0 +1,44 @@
+-- Small examples of the definitions.
+use Rattle.std.proofs.Common.{◌≡◌, [], ◌∷◌, true, false, refl}
+use Rattle.std.specs.Prelude.{codes}
+use Rattle.std.specs.declared.cmp.Ordering.TheVariants.{Less}
+use Rattle.gr_scope.specs.Bindings.{Layout}
+use Rattle.gr_scope.specs.Site.{sites_layout}
+use Rattle.gr_scope.specs.declared.model.Block.TheVariants.{File}
+use Rattle.gr_scope.specs.declared.model.Role.TheVariants.{Declaring, NotLexical}
+use Rattle.gr_scope.specs.declared.model.Purpose.TheVariants.{ImportPath, UnnamedImport}
+use Rattle.gr_check.specs.Package.{is_of_package}
+use Rattle.gr_check.specs.Uses.{named_by, place_cmp}
+
+-- the package a has the .go files of its folder, and not those of folders in it
+in_its_folder : is_of_package (codes "a") (codes "a/b.go") ≡ true
+in_its_folder = refl
+
+in_a_folder_below : is_of_package (codes "a") (codes "a/b/c.go") ≡ false
+in_a_folder_below = refl
+
+not_go : is_of_package (codes "a") (codes "a/b.txt") ≡ false
+not_go = refl
+
+-- by paths, although the folder a comes before a-b; and then by numbers
+by_path : place_cmp (record { path = codes "a-b/x.go"; offset = 9 }) (record { path = codes "a/b.go"; offset = 0 }) ≡ Less
+by_path = refl
+
+by_offset : place_cmp (record { path = codes "a/b.go"; offset = 2 }) (record { path = codes "a/b.go"; offset = 10 }) ≡ Less
+by_offset = refl
+
+-- import q "b", and then import "c"
+abbrev imports : Layout
+imports = sites_layout (
+    record { place = record { file = 0; index = 4 }; name = codes "q"; role = Declaring (File 0) 0 }
+    ∷ record { place = record { file = 0; index = 5 }; name = codes "\"b\""; role = NotLexical ImportPath }
+    ∷ record { place = record { file = 0; index = 8 }; name = codes "\"c\""; role = NotLexical UnnamedImport } ∷ [])
+
+name_for_itself : named_by imports 0 ≡ 0
+name_for_itself = refl
+
+literal_for_the_name : named_by imports 1 ≡ 0
+literal_for_the_name = refl
+
+unnamed_for_itself : named_by imports 2 ≡ 2
+unnamed_for_itself = refl
