@@ -1,17 +1,17 @@
 -- What is asked of a workspace's links by number, in the words of the workspace.
-use Rattle.std.proofs.Common.{◌≡◌, ℕ, ◌<◌, ◌↔◌, Bool, true, false, ◌&&◌, List, [], ◌∷◌, length, filter, cond, Option, Some, None, slice_get, get_or, refl, sym, ap, subst, ◌∙◌, arith, MatchOption, zero, suc, ◌==◌}
+use Rattle.std.proofs.Common.{◌≡◌, ℕ, ◌<◌, Bool, true, false, ◌&&◌, List, [], ◌∷◌, length, filter, cond, Option, Some, None, slice_get, get_or, refl, sym, subst, ◌∙◌, arith, MatchOption, zero, suc, ◌==◌}
 use Rattle.std.specs.FinMap.{entries}
-use Rattle.std.specs.List.{Contains, All, AllByRecursion}
+use Rattle.std.specs.List.{Contains, AllByRecursion}
 use Rattle.std.specs.Cmp.Lexicographic.{pointwise, bytes_decides}
-use Rattle.std.proofs.lemmas.Bool.{true≢false, and_parts}
+use Rattle.std.proofs.lemmas.Bool.{and_parts}
 use Rattle.std.proofs.lemmas.List.Elements.{All-contains}
-use Rattle.std.proofs.lemmas.Option.{same_Some, none-some, slice_get_within, get_or_from_slice_get, slice_get-get_or, slice_get_read}
+use Rattle.std.proofs.lemmas.Option.{same_Some, slice_get_within, get_or_from_slice_get, slice_get-get_or, slice_get_read}
 use Rattle.gr_text.specs.Path.{folder}
 use Rattle.gr_text.specs.Workspace.{Workspace}
-use Rattle.gr_graph.specs.Imports.{Links, AreLinked, Imports, imports_of, Reaches, itself, through, IsOnCycle, Leads, IsWay, IsCycleOf, IsClosure, AreImporters, ReachesNoCycle, IsOrder}
+use Rattle.gr_graph.specs.Imports.{Links, Imports, imports_of, Reaches, itself, through, IsOnCycle, Leads, IsCycleOf, IsClosure, AreImporters, IsOrder}
 use Rattle.gr_graph.specs.Packages as packages
 use Rattle.gr_graph.specs.Packages.{is_go, package_paths, package_files, PackageImports, AreLinksOf, IsInClosure}
-use Rattle.gr_graph.specs.Graphs.{HoldsPackages, IsOnImportCycle, LeadsTo, IsImportCycle, ReachesNoImportCycle, IsPackageOrder}
+use Rattle.gr_graph.specs.Graphs.{HoldsPackages, IsOnImportCycle, LeadsTo, IsImportCycle, IsPackageOrder}
 use Rattle.gr_graph.proofs.PackagePaths.{all_there, AreThere, paths_sorted, one_number}
 
 -- ---- a package with a file is a package

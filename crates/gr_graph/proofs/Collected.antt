@@ -2,7 +2,7 @@
 use Rattle.std.proofs.Common.{◌≡◌, ℕ, zero, suc, ◌<◌, ◌+◌, ◌↔◌, ◌⊎◌, List, [], ◌∷◌, ◌++◌, length, take, Option, Some, None, slice_get, get_or, refl, sym, ap, subst, ◌∙◌, ⊎_elim, inl, inr, arith, Global, eqb, Result, Ok, Err, OnOk}
 use Rattle.std.specs.Prelude.{Vec}
 use Rattle.std.specs.List.{Contains, AllZip}
-use Rattle.std.specs.List.Sorted.{IsPermutation, IsSorted, IsStrictlyIncreasing}
+use Rattle.std.specs.List.Sorted.{IsPermutation, IsSorted}
 use Rattle.std.specs.List.{dedup}
 use Rattle.std.specs.Ordering.{nat_cmp}
 use Rattle.std.proofs.lemmas.List.Elements.{Contains-push, Contains-push_cases, Contains-append_left, Contains-get_or}
@@ -14,7 +14,6 @@ use Rattle.std.proofs.lemmas.Option.{none-some, slice_get_within, get_or_from_sl
 use Rattle.gr_scan.specs.declared.piece.Piece.{Piece}
 use Rattle.gr_scan.specs.Cuts.{bytes_of}
 use Rattle.gr_scan.specs.CutText.{tokens_in}
-use Rattle.gr_scan.specs.StringValues.{HasStringValue}
 use Rattle.gr_scan.proofs.StringValueLemmas.{one_string_value}
 use Rattle.std.specs.List.Sorted.{IsStrictlySortedBy}
 use Rattle.gr_text.specs.Workspace.{path_cmp}

@@ -1,5 +1,5 @@
 -- The rows of the packages are the links of the workspace.
-use Rattle.std.proofs.Common.{◌≡◌, ℕ, zero, suc, ◌<◌, ◌↔◌, List, [], ◌∷◌, length, Option, Some, None, slice_get, get_or, refl, sym, ap, subst, ◌∙◌, arith}
+use Rattle.std.proofs.Common.{◌≡◌, ℕ, zero, suc, ◌<◌, List, [], ◌∷◌, length, Some, slice_get, get_or, refl, sym, ap, subst, ◌∙◌, arith}
 use Rattle.std.specs.List.{Contains, AllZip, All}
 use Rattle.std.specs.List.Sorted.{IsStrictlyIncreasing}
 use Rattle.std.proofs.lemmas.List.{length-map}
@@ -10,7 +10,7 @@ use Rattle.gr_parse.specs.SourceFile.{SourceFile, FileParts, source_of}
 use Rattle.gr_graph.specs.FaultyFiles.{FaultyParts}
 use Rattle.gr_graph.specs.Imports.{Links, AreLinked, Imports, imports_of}
 use Rattle.gr_graph.specs.Packages.{IsParsed, ImportsPath, PackageImports, AreLinksOf, package_paths, package_files}
-use Rattle.gr_graph.specs.Parsed.{AreParsed, IsFaulty, none, tree, fault}
+use Rattle.gr_graph.specs.Parsed.{AreParsed, none, tree, fault}
 use Rattle.gr_graph.specs.Graphs.{paths_of, IsGraph}
 use Rattle.gr_graph.specs.Rows.{IsRow}
 use Rattle.gr_graph.specs.declared.package.Package.{Package}

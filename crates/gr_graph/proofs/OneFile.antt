@@ -1,7 +1,6 @@
 -- A path and a text have one parsed file at most, and a text with a fault has none.
 use Rattle.std.proofs.Common.{◌≡◌, ℕ, Bool, true, false, List, sym, ap, subst, ◌∙◌, ⊎_elim}
 use Rattle.std.proofs.lemmas.Bool.{true≢false}
-use Rattle.gr_scan.specs.declared.piece.Piece.{Piece}
 use Rattle.gr_scan.specs.declared.refusal.Fault.{Fault}
 use Rattle.gr_scan.specs.Cuts.{IsCut, IsFirstFault}
 use Rattle.gr_scan.specs.CutText.{CutText}
@@ -9,7 +8,6 @@ use Rattle.gr_scan.proofs.OneCutLemmas.{one_cut, cut_or_fault}
 use Rattle.gr_parse.specs.Faults.{IsFaultOf, IsFaultOfTokens}
 use Rattle.gr_parse.specs.Kinds.{kinds_of}
 use Rattle.gr_parse.specs.SourceFile.{SourceFile}
-use Rattle.gr_parse.specs.Tree.{FileTree}
 use Rattle.gr_parse.specs.Verdict.{IsWhole, Verdict, Whole, Faulty}
 use Rattle.gr_parse.specs.WellFormed.{IsTreeOf}
 use Rattle.gr_parse.proofs.OneTree.{one_tree}

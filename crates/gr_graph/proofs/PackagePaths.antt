@@ -1,6 +1,6 @@
 -- The paths of a workspace's packages are in order, each once, and hold the folder of each Go file.
-use Rattle.std.proofs.Common.{◌≡◌, ℕ, zero, suc, ◌<◌, ◌+◌, Bool, true, false, ◌&&◌, ◌||◌, List, [], ◌∷◌, ◌++◌, length, map, filter, Option, Some, None, is_some, ◌≤◌, slice_get, slice_index_or, refl, sym, ap, subst, ◌∙◌, ⊎_elim, arith, cond, Bor}
-use Rattle.std.proofs.Common.{get_or, T, ◌⊎◌}
+use Rattle.std.proofs.Common.{◌≡◌, ℕ, ◌<◌, Bool, true, false, ◌&&◌, ◌||◌, List, [], ◌∷◌, map, filter, Option, Some, None, is_some, ◌≤◌, slice_get, refl, sym, ap, subst, ◌∙◌, ⊎_elim, arith, cond, Bor}
+use Rattle.std.proofs.Common.{T}
 use Rattle.std.specs.declared.cmp.Ordering.{Ordering}
 use Rattle.std.specs.declared.cmp.Ordering.TheVariants.{Less, Equal, Greater}
 use Rattle.std.specs.Ordering.{eq_by_cmp, is_lt, is_eq, match_ordering}

@@ -1,11 +1,10 @@
 -- The packages of a workspace by their numbers, with their parsed files, and what of the graph is asked by number.
-use Rattle.std.specs.Prelude.{◌≡◌, ℕ, ◌<◌, ◌↔◌, ◌⊎◌, List, [], ◌∷◌, map, length, Option, Some, None, slice_get, Vec}
+use Rattle.std.specs.Prelude.{◌≡◌, ℕ, ◌<◌, ◌↔◌, List, [], ◌∷◌, map, length, Some, slice_get}
 use Rattle.std.specs.List.{Contains}
 use Rattle.std.specs.List.Sorted.{IsStrictlyIncreasing}
 use Rattle.gr_text.specs.Workspace.{Workspace}
-use Rattle.gr_parse.specs.SourceFile.{FileParts, source_of}
-use Rattle.gr_graph.specs.Imports.{Links, imports_of, Holds}
-use Rattle.gr_graph.specs.Packages.{package_paths, package_files, AreLinksOf, ImportsPath, PackageImports, IsInClosure}
+use Rattle.gr_graph.specs.Imports.{Links, imports_of}
+use Rattle.gr_graph.specs.Packages.{package_paths, package_files, AreLinksOf, PackageImports, IsInClosure}
 use Rattle.gr_graph.specs.Parsed.{AreParsed}
 use Rattle.gr_graph.specs.declared.package.Package.{Package}
 

@@ -1,6 +1,5 @@
 -- The files of a package as they were parsed.
 use Rattle.std.specs.Prelude.{◌≡◌, ℕ, List, [], ◌∷◌}
-use Rattle.gr_scan.specs.declared.refusal.Fault.{Fault}
 use Rattle.gr_parse.specs.Faults.{IsFaultOf}
 use Rattle.gr_parse.specs.SourceFile.{FileParts, source_of}
 use Rattle.gr_graph.specs.FaultyFiles.{FaultyParts}

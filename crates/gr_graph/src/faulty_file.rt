@@ -27,7 +27,7 @@ impl Model for FaultyFile {
 }
 
 impl FaultyFile {
-    pub fn new(path: &Path, text: &FileText, fault: Fault) -> Result<FaultyFile, AllocError>
+    pub(crate) fn new(path: &Path, text: &FileText, fault: Fault) -> Result<FaultyFile, AllocError>
         requires { IsFaultOf text.now fault }
         ensures path { IfOk result (λ file. file.path ≡ path.now) }
         ensures text { IfOk result (λ file. file.text ≡ text.now) }

@@ -1,5 +1,5 @@
 -- A package that compares equal has the path, and where none does none has it.
-use Rattle.std.proofs.Common.{◌≡◌, ℕ, ◌<◌, ◌≤◌, length, Some, slice_get, slice_index_or, List, ⊎_elim, rules}
+use Rattle.std.proofs.Common.{rules}
 use Rattle.gr_graph.proofs.Numbers.{found_is, none_is, search_cmp}
 use Rattle.std.proofs.lemmas.Fn.{always_returns_same}
 use Rattle.gr_graph.proofs.package.number_of.Goals as goal

@@ -1,10 +1,9 @@
 -- The file is the last of its package, and the other packages stay.
-use Rattle.std.proofs.Common.{◌≡◌, ℕ, length, subst, sym, refl, arith}
+use Rattle.std.proofs.Common.{length, subst, sym, refl, arith}
 use Rattle.std.proofs.lemmas.Option.{slice_get_read}
-use Rattle.gr_graph.specs.Filling.{AddsFile, IsWithFile}
+use Rattle.gr_graph.specs.Filling.{IsWithFile}
 use Rattle.gr_graph.specs.declared.package.Package.{Package}
 use Rattle.gr_graph.specs.declared.parsed.Parsed.{Parsed}
-use Rattle.gr_graph.specs.declared.parsed.Parsed.TheVariants.{Sound, Faulty}
 use Rattle.gr_graph.proofs.packages.add_file.Goals as goal
 
 pub returns-in_ok-push-in-Sound : goal.returns-in_ok-push-in-Sound

@@ -1,8 +1,7 @@
 -- One more folder, and all of them at the end.
-use Rattle.std.proofs.Common.{◌≡◌, [], ap, sym, ◌∙◌, subst}
+use Rattle.std.proofs.Common.{sym, ◌∙◌, subst}
 use Rattle.std.specs.FinMap as map
 use Rattle.std.specs.Map.Iter.{deref_pair}
-use Rattle.std.specs.Prelude.{List, ℕ}
 use Rattle.std.proofs.lemmas.Map.Iter.{rest_all, rest_more}
 use Rattle.gr_graph.proofs.PackagePaths.{AreFound, found_all, found_add}
 use Rattle.gr_graph.proofs.Filled.{ok_both}

@@ -1,5 +1,5 @@
 -- The package of the import, or none.
-use Rattle.std.proofs.Common.{◌≡◌, ℕ, Some, ap, subst, ◌∙◌}
+use Rattle.std.proofs.Common.{Some, ap, subst, ◌∙◌}
 use Rattle.std.specs.List.{Contains}
 use Rattle.gr_graph.specs.Graphs.{paths_of}
 use Rattle.gr_graph.specs.Rows.{HasNumber}

@@ -1,5 +1,5 @@
 -- One more import, and all of them at the end.
-use Rattle.std.proofs.Common.{◌≡◌, ℕ, None, take, ◌+◌, subst, arith}
+use Rattle.std.proofs.Common.{ℕ, take, ◌+◌, subst, arith}
 use Rattle.std.proofs.lemmas.List.{take_all}
 use Rattle.gr_graph.specs.Graphs.{paths_of}
 use Rattle.gr_graph.specs.Rows.{HasNumber, AreImported, AddsNumbers}

@@ -1,8 +1,7 @@
 -- One more file, and the row in order at the end.
-use Rattle.std.proofs.Common.{◌≡◌, ℕ, take, subst, arith}
+use Rattle.std.proofs.Common.{subst, arith}
 use Rattle.std.proofs.lemmas.List.{take_all}
 use Rattle.std.proofs.lemmas.List.Filters.{dedup_is}
-use Rattle.gr_parse.specs.SourceFile.{FileParts}
 use Rattle.gr_graph.specs.Graphs.{paths_of}
 use Rattle.gr_graph.specs.Imports.{Holds}
 use Rattle.gr_graph.specs.Rows.{FileImports, SomeImports}

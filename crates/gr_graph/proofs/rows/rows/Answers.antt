@@ -1,5 +1,5 @@
 -- One more row.
-use Rattle.std.proofs.Common.{◌≡◌, ℕ, List, ◌+◌, take, get_or, sym, subst, ◌∷◌, [], ◌++◌}
+use Rattle.std.proofs.Common.{ℕ, List, take, get_or, sym, subst, ◌∷◌, [], ◌++◌}
 use Rattle.std.specs.List.{AllZip}
 use Rattle.std.proofs.lemmas.List.{take_more}
 use Rattle.gr_graph.specs.Graphs.{paths_of}

@@ -1,5 +1,5 @@
 -- The rows that were passed are the same.
-use Rattle.std.proofs.Common.{◌≡◌, ℕ, ◌<◌, length}
+use Rattle.std.proofs.Common.{◌≡◌, ℕ, ◌<◌}
 use Rattle.gr_graph.specs.Imports.{imports_of}
 use Rattle.gr_graph.proofs.shared_links.has_rows.Given as goal
 

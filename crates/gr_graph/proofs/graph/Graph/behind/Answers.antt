@@ -1,7 +1,7 @@
 -- The packages and their rows are the graph of the files.
-use Rattle.std.proofs.Common.{◌≡◌, List, sym, ap, subst, ◌∙◌}
+use Rattle.std.proofs.Common.{List, ap, subst, ◌∙◌}
 use Rattle.std.specs.List.{AllZip}
-use Rattle.gr_graph.specs.Graphs.{paths_of, IsGraph}
+use Rattle.gr_graph.specs.Graphs.{paths_of}
 use Rattle.gr_graph.specs.Rows.{IsRow}
 use Rattle.gr_graph.specs.declared.package.Package.{Package}
 use Rattle.gr_graph.proofs.PackagePaths.{paths_sorted}
