@@ -7,6 +7,8 @@ mod book;
 #[cfg(test)]
 mod expressions;
 #[cfg(test)]
+mod graph;
+#[cfg(test)]
 mod imports;
 #[cfg(test)]
 mod parse;
