@@ -102,17 +102,17 @@ best_binds xs w name u b h = bound_of_first (layout_of xs) (nests (layout_of xs)
   precedes = λ e de ne he. elim (h.2 e (ne, he, de)) [ inl left ↦ absurd left | inr o ↦ o ];
 })
 
-pub best_start : (xs : List Identifier) (name : List ℕ) (u : ℕ) (last : Option ℕ) (previous : List (Option ℕ)) → IsChain (names_of xs) (length xs) name last previous →
+pub best_start : (xs : List Identifier) (name : List ℕ) (u : ℕ) (last : Option ℕ) (previous : List (Option ℕ)) → IsChain (layout_of xs) (names_of xs) (length xs) name last previous →
     BestSoFar (layout_of xs) (names_of xs) name u last None
-best_start xs name u last previous h = λ d c. chain_left (names_of xs) (length xs) name last previous h d c.0 (may_in_range xs d c.2.may)
+best_start xs name u last previous h = λ d c. chain_left (layout_of xs) (names_of xs) (length xs) name last previous h d (c.2.may, c.0) (may_in_range xs d c.2.may)
 
-pub best_next : (l : Layout) → Nested l → (names : Names) (name : List ℕ) (u d n : ℕ) (previous : List (Option ℕ)) (at next x best then : Option ℕ) → IsLinked names n previous →
-    at ≡ Some d → next ≡ get_or previous d x → IsKnown names name n at → BestSoFar l names name u at best →
+pub best_next : (l : Layout) → Nested l → (names : Names) (name : List ℕ) (u d n : ℕ) (previous : List (Option ℕ)) (at next x best then : Option ℕ) → IsLinked l names n previous →
+    at ≡ Some d → next ≡ get_or previous d x → IsKnown l names name n at → BestSoFar l names name u at best →
     ((IsCandidate l names name u d × TakesOver l best d) × (then ≡ Some d)) ⊎ ((IsCandidate l names name u d × TakesOver l best d → ⊥) × (then ≡ best)) →
     BestSoFar l names name u next then
 best_next l nested names name u d n previous at next x best then linked is en known h c =
-    let lower = walk_before names n name previous at next x d linked is en known in
-    let behind : Behind l names name u d next = λ e ce le other. walk_left names n name previous at next x d linked is en known e ce.0 (let Q : Option ℕ → Type 0 = λ a. IsLeft a e in subst Q (sym is) le) other in
+    let lower = walk_before l names n name previous at next x d linked is en known in
+    let behind : Behind l names name u d next = λ e ce le other. walk_left l names n name previous at next x d linked is en known e (ce.2.may, ce.0) (let Q : Option ℕ → Type 0 = λ a. IsLeft a e in subst Q (sym is) le) other in
     let B : Option ℕ → Type 0 = λ a. BestSoFar l names name u a best in
     let here : BestSoFar l names name u (Some d) best = subst B is h in
     let P : Option ℕ → Type 0 = λ v. BestSoFar l names name u next v in

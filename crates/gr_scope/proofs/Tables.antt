@@ -23,10 +23,10 @@ of_table P xs ys files p ex ef es h =
 
 -- the chain of an identifier's name is that which the table's links give
 pub chain_of_table : (xs ys zs : List Identifier) (u : ℕ) (name : List ℕ) (last : Option ℕ) (previous : List (Option ℕ)) → xs ≡ zs → ys ≡ zs → name ≡ names_of ys u →
-    IsChain (names_of zs) (length zs) name last previous → IsChain (names_of xs) (length xs) (names_of xs u) last previous
+    IsChain (layout_of zs) (names_of zs) (length zs) name last previous → IsChain (layout_of xs) (names_of xs) (length xs) (names_of xs u) last previous
 chain_of_table xs ys zs u name last previous ex ey en h =
-    let N : List ℕ → Type 0 = λ n. IsChain (names_of zs) (length zs) n last previous in
-    let X : List Identifier → Type 0 = λ ws. IsChain (names_of ws) (length ws) (names_of ws u) last previous in
+    let N : List ℕ → Type 0 = λ n. IsChain (layout_of zs) (names_of zs) (length zs) n last previous in
+    let X : List Identifier → Type 0 = λ ws. IsChain (layout_of ws) (names_of ws) (length ws) (names_of ws u) last previous in
     subst X (sym ex) (subst N (en ∙ ap (λ ws. names_of ws u) ey) h)
 
 pub found_file : (files : List FileParts) (at : ℕ) (x : FileParts) → at < length files → x ≡ get_or files at x → slice_get files at ≡ Some x

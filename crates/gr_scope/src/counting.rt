@@ -72,7 +72,7 @@ fn is_displacer(identifiers: &[Identifier], chain: Chain<'_>, d: usize, e: usize
     requires first { d < length identifiers.now }
     requires second { e < length identifiers.now }
     requires same { names_of identifiers.now e ≡ names_of identifiers.now d }
-    requires chain { IsChain (names_of identifiers.now) (length identifiers.now) (names_of identifiers.now e) chain.last chain.previous.now }
+    requires chain { IsChain (layout_of identifiers.now) (names_of identifiers.now) (length identifiers.now) (names_of identifiers.now e) chain.last chain.previous.now }
     ensures { IsTrue result ↔ IsDisplacer (layout_of identifiers.now) (names_of identifiers.now) d e }
 {
     displaces(identifiers, e, d) && declares(identifiers, chain, e)
@@ -81,7 +81,7 @@ fn is_displacer(identifiers: &[Identifier], chain: Chain<'_>, d: usize, e: usize
 /// Whether no declaration of d's name stands before it in its block, or in the package's if d is an import.
 fn is_displaced_by_none(identifiers: &[Identifier], chain: Chain<'_>, d: usize) -> bool
     requires in_range { d < length identifiers.now }
-    requires chain { IsChain (names_of identifiers.now) (length identifiers.now) (names_of identifiers.now d) chain.last chain.previous.now }
+    requires chain { IsChain (layout_of identifiers.now) (names_of identifiers.now) (length identifiers.now) (names_of identifiers.now d) chain.last chain.previous.now }
     ensures { IsTrue result ↔ IsDisplacedByNone (layout_of identifiers.now) (names_of identifiers.now) d }
 {
     let mut at = chain.last;
@@ -97,7 +97,7 @@ fn is_displaced_by_none(identifiers: &[Identifier], chain: Chain<'_>, d: usize) 
 /// Whether an identifier is a declaration that counts. The chain is that of its name.
 pub fn counts(identifiers: &[Identifier], chain: Chain<'_>, d: usize) -> bool
     requires in_range { d < length identifiers.now }
-    requires chain { IsChain (names_of identifiers.now) (length identifiers.now) (names_of identifiers.now d) chain.last chain.previous.now }
+    requires chain { IsChain (layout_of identifiers.now) (names_of identifiers.now) (length identifiers.now) (names_of identifiers.now d) chain.last chain.previous.now }
     ensures { IsTrue result ↔ Counts (layout_of identifiers.now) (names_of identifiers.now) d }
 {
     declares(identifiers, chain, d) && is_displaced_by_none(identifiers, chain, d)
@@ -106,7 +106,7 @@ pub fn counts(identifiers: &[Identifier], chain: Chain<'_>, d: usize) -> bool
 /// Whether an identifier is a lexical use. The chain is that of its name.
 pub fn is_use(identifiers: &[Identifier], chain: Chain<'_>, d: usize) -> bool
     requires in_range { d < length identifiers.now }
-    requires chain { IsChain (names_of identifiers.now) (length identifiers.now) (names_of identifiers.now d) chain.last chain.previous.now }
+    requires chain { IsChain (layout_of identifiers.now) (names_of identifiers.now) (length identifiers.now) (names_of identifiers.now d) chain.last chain.previous.now }
     ensures { IsTrue result ↔ IsUse (layout_of identifiers.now) (names_of identifiers.now) d }
 {
     let role = role_at(identifiers, d);
@@ -117,7 +117,7 @@ pub fn is_use(identifiers: &[Identifier], chain: Chain<'_>, d: usize) -> bool
 pub fn bound_to(identifiers: &[Identifier], chain: Chain<'_>, d: usize) -> Option<usize>
     requires in_range { d < length identifiers.now }
     requires well_formed { WellFormed (layout_of identifiers.now) }
-    requires chain { IsChain (names_of identifiers.now) (length identifiers.now) (names_of identifiers.now d) chain.last chain.previous.now }
+    requires chain { IsChain (layout_of identifiers.now) (names_of identifiers.now) (length identifiers.now) (names_of identifiers.now d) chain.last chain.previous.now }
     ensures { let l = layout_of identifiers.now in
         let names = names_of identifiers.now in
         MatchOption result ((e : ℕ) → IsBoundTo l names d e → ⊥) (λ e. IsBoundTo l names d e) }

@@ -1,22 +1,23 @@
-//! Which identifiers of a package are called alike.
+//! Which identifiers of a package may declare one name.
 ghost use Rattle.std.specs.Prelude.{ℕ, ◌≡◌, length, IfOk};
-ghost use Rattle.gr_scope.specs.Bindings.{Names};
+ghost use Rattle.gr_scope.specs.Bindings.{Layout, Names};
 ghost use Rattle.gr_scope.specs.Chains.{AreLinks, IsChain};
-ghost use Rattle.gr_scope.specs.Table.{names_of};
+ghost use Rattle.gr_scope.specs.Table.{layout_of, names_of};
 
 use crate::model::Identifier;
-use crate::resolve::name_at;
+use crate::resolve::{name_at, role_at};
 use indexmap::IndexMap;
 use std::alloc::{AllocError, Global};
 
-/// Of each name the last identifier, and of each identifier the one before it that is called alike.
+/// Of each name the last identifier that may declare it, and of each identifier the last one before it that may declare
+/// its name.
 #[derive(Drop)]
 pub struct Links<'a> {
     pub last: IndexMap<&'a [u8], usize>,
     pub previous: Vec<Option<usize>>,
 }
 
-/// The identifiers of one name, from the last to the first.
+/// The identifiers that may declare one name, from the last to the first.
 #[derive(Clone, Copy)]
 pub struct Chain<'t> {
     pub last: Option<usize>,
@@ -25,23 +26,27 @@ pub struct Chain<'t> {
 
 /// The links of identifiers. It takes one look-up for each.
 pub fn links_of<'a>(alloc: Global, identifiers: &[Identifier<'a>]) -> Result<Links<'a>, AllocError>
-    ensures { IfOk result (λ links. AreLinks (names_of identifiers.now) (length identifiers.now) links.last links.previous.items) }
+    ensures { IfOk result (λ links. AreLinks (layout_of identifiers.now) (names_of identifiers.now) (length identifiers.now) links.last links.previous.items) }
 {
     let mut last: IndexMap<&'a [u8], usize> = IndexMap::new(alloc);
     let mut previous = Vec::new(alloc);
     for d in 0..identifiers.len() {
         let name = name_at(identifiers, d);
-        let before = last.insert(name, d)?;
+        let before = if role_at(identifiers, d).may_declare() {
+            last.insert(name, d)?
+        } else {
+            last.get(&name).copied()
+        };
         previous.push(before)?;
     }
     Ok(Links { last, previous })
 }
 
 impl<'a> Links<'a> {
-    /// The identifiers of a name.
+    /// The identifiers that may declare a name.
     pub fn chain(&self, name: &'a [u8]) -> Chain<'_>
-        ensures { (names : Names) (n : ℕ) → AreLinks names n self.now.last self.now.previous.items →
-            IsChain names n name.now result.last result.previous.now }
+        ensures { (l : Layout) (names : Names) (n : ℕ) → AreLinks l names n self.now.last self.now.previous.items →
+            IsChain l names n name.now result.last result.previous.now }
     {
         Chain {
             last: self.last.get(&name).copied(),

@@ -135,7 +135,7 @@ pub fn same_name(identifiers: &[Identifier], d: usize, e: usize) -> bool
 /// Whether a left name of `:=` lies in no scope of a name of its own in the same block.
 pub fn is_new(identifiers: &[Identifier], chain: Chain<'_>, d: usize) -> bool
     requires in_range { d < length identifiers.now }
-    requires chain { IsChain (names_of identifiers.now) (length identifiers.now) (names_of identifiers.now d) chain.last chain.previous.now }
+    requires chain { IsChain (layout_of identifiers.now) (names_of identifiers.now) (length identifiers.now) (names_of identifiers.now d) chain.last chain.previous.now }
     ensures { IsTrue result ↔ IsNew (layout_of identifiers.now) (names_of identifiers.now) d }
 {
     let mut at = chain.last;
@@ -164,7 +164,7 @@ fn blocks(identifiers: &[Identifier], e: usize, d: usize) -> bool
 /// Whether an identifier declares. The chain is that of its name.
 pub fn declares(identifiers: &[Identifier], chain: Chain<'_>, d: usize) -> bool
     requires in_range { d < length identifiers.now }
-    requires chain { IsChain (names_of identifiers.now) (length identifiers.now) (names_of identifiers.now d) chain.last chain.previous.now }
+    requires chain { IsChain (layout_of identifiers.now) (names_of identifiers.now) (length identifiers.now) (names_of identifiers.now d) chain.last chain.previous.now }
     ensures { IsTrue result ↔ Declares (layout_of identifiers.now) (names_of identifiers.now) d }
 {
     let role = role_at(identifiers, d);
@@ -175,7 +175,7 @@ pub fn declares(identifiers: &[Identifier], chain: Chain<'_>, d: usize) -> bool
 pub fn binding(identifiers: &[Identifier], chain: Chain<'_>, name: &[u8], u: usize) -> Option<usize>
     requires in_range { u < length identifiers.now }
     requires well_formed { WellFormed (layout_of identifiers.now) }
-    requires chain { IsChain (names_of identifiers.now) (length identifiers.now) name.now chain.last chain.previous.now }
+    requires chain { IsChain (layout_of identifiers.now) (names_of identifiers.now) (length identifiers.now) name.now chain.last chain.previous.now }
     ensures { let l = layout_of identifiers.now in
         let names = names_of identifiers.now in
         MatchOption result ((d : ℕ) → BindsAt l names name.now u d → ⊥) (λ d. BindsAt l names name.now u d) }
@@ -203,7 +203,7 @@ fn improves(
     requires first { u < length identifiers.now }
     requires second { d < length identifiers.now }
     requires named { names_of identifiers.now d ≡ name.now }
-    requires chain { IsChain (names_of identifiers.now) (length identifiers.now) (names_of identifiers.now d) chain.last chain.previous.now }
+    requires chain { IsChain (layout_of identifiers.now) (names_of identifiers.now) (length identifiers.now) (names_of identifiers.now d) chain.last chain.previous.now }
     requires known { ForSome best (λ b. b < length identifiers.now) }
     ensures { let l = layout_of identifiers.now in
         IsTrue result ↔ (IsCandidate l (names_of identifiers.now) name.now u d × TakesOver l best d) }
@@ -222,7 +222,7 @@ fn is_candidate(
     requires first { u < length identifiers.now }
     requires second { d < length identifiers.now }
     requires named { names_of identifiers.now d ≡ name.now }
-    requires chain { IsChain (names_of identifiers.now) (length identifiers.now) (names_of identifiers.now d) chain.last chain.previous.now }
+    requires chain { IsChain (layout_of identifiers.now) (names_of identifiers.now) (length identifiers.now) (names_of identifiers.now d) chain.last chain.previous.now }
     ensures { IsTrue result ↔ IsCandidate (layout_of identifiers.now) (names_of identifiers.now) name.now u d }
 {
     let role = role_at(identifiers, d);

@@ -112,7 +112,7 @@ fn first_beginning_at(
 /// Whether a declaration does not count, beside another of its name.
 fn is_repeated(identifiers: &[Identifier], chain: Chain<'_>, d: usize) -> bool
     requires in_range { d < length identifiers.now }
-    requires chain { IsChain (names_of identifiers.now) (length identifiers.now) (names_of identifiers.now d) chain.last chain.previous.now }
+    requires chain { IsChain (layout_of identifiers.now) (names_of identifiers.now) (length identifiers.now) (names_of identifiers.now d) chain.last chain.previous.now }
     ensures { let l = layout_of identifiers.now in
         let names = names_of identifiers.now in
         IsTrue result ↔ (Declares l names d × (Counts l names d → ⊥)) }
@@ -129,7 +129,7 @@ impl<'a> ScopeTable<'a> {
     ) -> ScopeTable<'a>
         requires well_formed { WellFormed (layout_of identifiers.items) }
         requires imports { AreImportsLevel (layout_of identifiers.items) }
-        requires linked { AreLinks (names_of identifiers.items) (length identifiers.items) links.last links.previous.items }
+        requires linked { AreLinks (layout_of identifiers.items) (names_of identifiers.items) (length identifiers.items) links.last links.previous.items }
         ensures files { result.files ≡ files.now }
         ensures sites { result.sites ≡ map site_of identifiers.entry.items }
     {

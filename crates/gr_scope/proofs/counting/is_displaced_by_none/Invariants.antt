@@ -8,7 +8,7 @@ use Rattle.gr_scope.proofs.counting.is_displaced_by_none.Given as goal
 abbrev pub invariant-loop-at : goal.invariant-loop-at
 invariant-loop-at l = record {
   left : (e : ℕ) → IsDisplacer (layout_of l.identifiers) (names_of l.identifiers) l.d e → IsLeft l.at e;
-  known : IsKnown (names_of l.identifiers) (names_of l.identifiers l.d) (length l.identifiers) l.at;
+  known : IsKnown (layout_of l.identifiers) (names_of l.identifiers) (names_of l.identifiers l.d) (length l.identifiers) l.at;
 }
 
 abbrev pub decreases-loop-at : goal.decreases-loop-at

@@ -12,11 +12,11 @@ loop-at-preserved c =
     let xs = c.args.identifiers.now in
     let names = names_of xs in
     record {
-      left = λ e b. walk_left names (length xs) (names c.args.d) c.args.chain.previous.now c.loop-at.at _ None c.in-Some.e c.requires.chain.linked c.in-Some.is refl c.loop-at.invariant.known
-          e b.2 (c.loop-at.invariant.left e b)
+      left = λ e b. walk_left (layout_of xs) names (length xs) (names c.args.d) c.args.chain.previous.now c.loop-at.at _ None c.in-Some.e c.requires.chain.linked c.in-Some.is refl c.loop-at.invariant.known
+          e (b.0, b.2) (c.loop-at.invariant.left e b)
           (λ same.
           let P : ℕ → Type 0 = λ v. Blocks (layout_of xs) names v c.args.d in
           let t : c.blocks-in-Some.result ≡ true = c.blocks-in-Some.ensures.1 (subst P same b) in
           let f : c.blocks-in-Some.result ≡ false = c.if-blocks.false in cc);
-      known = walk_known names (length xs) (names c.args.d) c.args.chain.previous.now c.loop-at.at _ None c.in-Some.e c.requires.chain.linked c.in-Some.is refl c.loop-at.invariant.known;
+      known = walk_known (layout_of xs) names (length xs) (names c.args.d) c.args.chain.previous.now c.loop-at.at _ None c.in-Some.e c.requires.chain.linked c.in-Some.is refl c.loop-at.invariant.known;
     }

@@ -4,9 +4,9 @@ use Rattle.gr_scope.specs.Chains.{IsLastBelow, IsLinked}
 use Rattle.gr_scope.proofs.links.Links.chain.Goals as goal
 
 pub returns : goal.returns
-returns c = λ names n h.
-    let L : Option ℕ → Type 0 = λ x. IsLastBelow names c.args.name.now n x in
-    let P : List (Option ℕ) → Type 0 = λ xs. IsLinked names n xs in
+returns c = λ l names n h.
+    let L : Option ℕ → Type 0 = λ x. IsLastBelow l names c.args.name.now n x in
+    let P : List (Option ℕ) → Type 0 = λ xs. IsLinked l names n xs in
     record {
       is_last = subst L (sym (c.copied.ensures ∙ c.get.ensures.value)) (h.lasts c.args.name);
       linked = subst P (sym c.deref.ensures.value) h.linked;

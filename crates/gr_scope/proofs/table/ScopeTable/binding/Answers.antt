@@ -1,5 +1,5 @@
 -- The answers to the goals of `table::ScopeTable::binding`.
-use Rattle.gr_scope.specs.Table.{names_of}
+use Rattle.gr_scope.specs.Table.{layout_of, names_of}
 use Rattle.std.proofs.Common.{length, ℕ, ap}
 use Rattle.std.specs.Prelude.{MatchOption}
 use Rattle.gr_scope.specs.Bindings.{IsBoundTo}
@@ -15,4 +15,4 @@ pub bound_to-requires-clause-chain : goal.bound_to-requires-clause-chain
 bound_to-requires-clause-chain c =
     chain_of_table c.deref-2.result.now c.deref.result.now c.self.inside.identifiers.items c.args.u c.name_at.result.now c.chain-chain.result.last c.chain-chain.result.previous.now
     c.deref-2.ensures.value c.deref.ensures.value c.name_at.ensures
-    (c.chain-chain.ensures (names_of c.self.inside.identifiers.items) (length c.self.inside.identifiers.items) c.self.invariant.links)
+    (c.chain-chain.ensures (layout_of c.self.inside.identifiers.items) (names_of c.self.inside.identifiers.items) (length c.self.inside.identifiers.items) c.self.invariant.links)

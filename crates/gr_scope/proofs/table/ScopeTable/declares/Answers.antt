@@ -1,6 +1,6 @@
 -- The answers to the goals of `table::ScopeTable::declares`.
 use Rattle.std.proofs.Common.{length, ◌↔◌, ap, IsTrue}
-use Rattle.gr_scope.specs.Table.{names_of}
+use Rattle.gr_scope.specs.Table.{layout_of, names_of}
 use Rattle.gr_scope.specs.Bindings.{Declares}
 use Rattle.gr_scope.proofs.Tables.{of_table, chain_of_table}
 use Rattle.gr_scope.proofs.table.ScopeTable.declares.Goals as goal
@@ -14,4 +14,4 @@ pub declares-requires-clause-chain : goal.declares-requires-clause-chain
 declares-requires-clause-chain c =
     chain_of_table c.deref-2.result.now c.deref.result.now c.self.inside.identifiers.items c.args.u c.name_at.result.now c.chain-chain.result.last c.chain-chain.result.previous.now
     c.deref-2.ensures.value c.deref.ensures.value c.name_at.ensures
-    (c.chain-chain.ensures (names_of c.self.inside.identifiers.items) (length c.self.inside.identifiers.items) c.self.invariant.links)
+    (c.chain-chain.ensures (layout_of c.self.inside.identifiers.items) (names_of c.self.inside.identifiers.items) (length c.self.inside.identifiers.items) c.self.invariant.links)

@@ -1,5 +1,5 @@
 -- The answers to the goals of `table::ScopeTable::is_repeated`.
-use Rattle.gr_scope.specs.Table.{names_of}
+use Rattle.gr_scope.specs.Table.{layout_of, names_of}
 use Rattle.std.proofs.Common.{length, ◌↔◌, ap, IsTrue}
 use Rattle.gr_scope.specs.Bindings.{Declares, Counts}
 use Rattle.gr_scope.proofs.Tables.{of_table, chain_of_table}
@@ -14,4 +14,4 @@ pub is_repeated-requires-clause-chain : goal.is_repeated-requires-clause-chain
 is_repeated-requires-clause-chain c =
     chain_of_table c.deref-2.result.now c.deref.result.now c.self.inside.identifiers.items c.args.declaration c.name_at.result.now c.chain-chain.result.last c.chain-chain.result.previous.now
     c.deref-2.ensures.value c.deref.ensures.value c.name_at.ensures
-    (c.chain-chain.ensures (names_of c.self.inside.identifiers.items) (length c.self.inside.identifiers.items) c.self.invariant.links)
+    (c.chain-chain.ensures (layout_of c.self.inside.identifiers.items) (names_of c.self.inside.identifiers.items) (length c.self.inside.identifiers.items) c.self.invariant.links)
