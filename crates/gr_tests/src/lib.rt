@@ -26,3 +26,5 @@ mod stages;
 mod stmt;
 #[cfg(test)]
 mod text;
+#[cfg(test)]
+mod uses;
