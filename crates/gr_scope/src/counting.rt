@@ -10,7 +10,7 @@ use crate::model::{Block, Identifier, Role, Scope};
 use crate::resolve::{binding, declares, name_at, role_at};
 
 impl Role {
-    pub fn is_use(self) -> bool
+    pub(crate) fn is_use(self) -> bool
         ensures { result ≡ is_use self }
     {
         match self {
@@ -55,7 +55,7 @@ fn is_pair(identifiers: &[Identifier], d: usize, e: usize) -> bool
 }
 
 /// Whether e does not count beside d, where both have one name.
-pub fn displaces(identifiers: &[Identifier], d: usize, e: usize) -> bool
+pub(crate) fn displaces(identifiers: &[Identifier], d: usize, e: usize) -> bool
     requires first { d < length identifiers.now }
     requires second { e < length identifiers.now }
     ensures { IsTrue result ↔ Displaces (layout_of identifiers.now) d e }
@@ -95,7 +95,7 @@ fn is_displaced_by_none(identifiers: &[Identifier], chain: Chain<'_>, d: usize) 
 }
 
 /// Whether an identifier is a declaration that counts. The chain is that of its name.
-pub fn counts(identifiers: &[Identifier], chain: Chain<'_>, d: usize) -> bool
+pub(crate) fn counts(identifiers: &[Identifier], chain: Chain<'_>, d: usize) -> bool
     requires in_range { d < length identifiers.now }
     requires chain { IsChain (layout_of identifiers.now) (names_of identifiers.now) (length identifiers.now) (names_of identifiers.now d) chain.last chain.previous.now }
     ensures { IsTrue result ↔ Counts (layout_of identifiers.now) (names_of identifiers.now) d }
@@ -104,7 +104,7 @@ pub fn counts(identifiers: &[Identifier], chain: Chain<'_>, d: usize) -> bool
 }
 
 /// Whether an identifier is a lexical use. The chain is that of its name.
-pub fn is_use(identifiers: &[Identifier], chain: Chain<'_>, d: usize) -> bool
+pub(crate) fn is_use(identifiers: &[Identifier], chain: Chain<'_>, d: usize) -> bool
     requires in_range { d < length identifiers.now }
     requires chain { IsChain (layout_of identifiers.now) (names_of identifiers.now) (length identifiers.now) (names_of identifiers.now d) chain.last chain.previous.now }
     ensures { IsTrue result ↔ IsUse (layout_of identifiers.now) (names_of identifiers.now) d }
@@ -114,7 +114,7 @@ pub fn is_use(identifiers: &[Identifier], chain: Chain<'_>, d: usize) -> bool
 }
 
 /// The declaration to which an identifier is bound. The chain is that of its name.
-pub fn bound_to(identifiers: &[Identifier], chain: Chain<'_>, d: usize) -> Option<usize>
+pub(crate) fn bound_to(identifiers: &[Identifier], chain: Chain<'_>, d: usize) -> Option<usize>
     requires in_range { d < length identifiers.now }
     requires well_formed { WellFormed (layout_of identifiers.now) }
     requires chain { IsChain (layout_of identifiers.now) (names_of identifiers.now) (length identifiers.now) (names_of identifiers.now d) chain.last chain.previous.now }

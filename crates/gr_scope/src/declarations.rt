@@ -297,7 +297,7 @@ fn add_decl<'a>(
 }
 
 /// Adds the identifiers of a file.
-pub fn add_file<'a>(
+pub(crate) fn add_file<'a>(
     source: &RankedFile<'a>,
     found: &mut Vec<Identifier<'a>>,
     file: &File,

@@ -11,7 +11,7 @@ use gr_parse::tree::{CompositeLit, Expr, Link, TypeExpr};
 use std::alloc::AllocError;
 
 /// Adds the identifiers of a type.
-pub fn add_type<'a>(
+pub(crate) fn add_type<'a>(
     source: &RankedFile<'a>,
     found: &mut Vec<Identifier<'a>>,
     type_expr: &TypeExpr,
@@ -31,7 +31,7 @@ pub fn add_type<'a>(
 
 /// Adds the identifiers of an expression.
 #[cycle(expression)]
-pub fn add_expr<'a>(
+pub(crate) fn add_expr<'a>(
     source: &RankedFile<'a>,
     found: &mut Vec<Identifier<'a>>,
     expr: &Expr,

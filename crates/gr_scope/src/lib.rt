@@ -1,16 +1,16 @@
 //! Scopes and lexical bindings of a package.
 #![tactic(auto)]
 
-pub mod counting;
-pub mod declarations;
+mod counting;
+mod declarations;
 pub mod declare;
-pub mod expressions;
+mod expressions;
 pub mod law;
-pub mod links;
+mod links;
 pub mod model;
 pub mod named;
-pub mod resolve;
-pub mod simple;
-pub mod source;
-pub mod statements;
+mod resolve;
+mod simple;
+mod source;
+mod statements;
 pub mod table;

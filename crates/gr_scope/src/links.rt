@@ -25,7 +25,10 @@ pub struct Chain<'t> {
 }
 
 /// The links of identifiers. It takes one look-up for each.
-pub fn links_of<'a>(alloc: Global, identifiers: &[Identifier<'a>]) -> Result<Links<'a>, AllocError>
+pub(crate) fn links_of<'a>(
+    alloc: Global,
+    identifiers: &[Identifier<'a>],
+) -> Result<Links<'a>, AllocError>
     ensures { IfOk result (λ links. AreLinks (layout_of identifiers.now) (names_of identifiers.now) (length identifiers.now) links.last links.previous.items) }
 {
     let mut last: IndexMap<&'a [u8], usize> = IndexMap::new(alloc);
@@ -44,7 +47,7 @@ pub fn links_of<'a>(alloc: Global, identifiers: &[Identifier<'a>]) -> Result<Lin
 
 impl<'a> Links<'a> {
     /// The identifiers that may declare a name.
-    pub fn chain(&self, name: &'a [u8]) -> Chain<'_>
+    pub(crate) fn chain(&self, name: &'a [u8]) -> Chain<'_>
         ensures { (l : Layout) (names : Names) (n : ℕ) → AreLinks l names n self.now.last self.now.previous.items →
             IsChain l names n name.now result.last result.previous.now }
     {

@@ -14,7 +14,7 @@ use crate::links::Chain;
 use crate::model::{Block, Identifier, Position, Role, Scope};
 
 impl Role {
-    pub fn may_declare(self) -> bool
+    pub(crate) fn may_declare(self) -> bool
         ensures { result ≡ may_declare self }
     {
         match self {
@@ -23,7 +23,7 @@ impl Role {
         }
     }
 
-    pub fn is_left_name(self) -> bool
+    pub(crate) fn is_left_name(self) -> bool
         ensures { result ≡ is_left_name self }
     {
         match self {
@@ -53,7 +53,7 @@ impl Role {
 
 impl Scope {
     /// The scope of a declaration in a block: in an inner one it begins at an index and lasts to the block's end.
-    pub fn in_block(block: Block, start: usize) -> Scope
+    pub(crate) fn in_block(block: Block, start: usize) -> Scope
         ensures { result ≡ scope_in block start }
     {
         match block {
@@ -64,7 +64,7 @@ impl Scope {
         }
     }
 
-    pub fn holds(self, place: Position) -> bool
+    pub(crate) fn holds(self, place: Position) -> bool
         ensures { IsTrue result ↔ Holds self place }
     {
         match self {
@@ -78,7 +78,7 @@ impl Scope {
 }
 
 impl Block {
-    pub fn nests(self, outer: Block) -> bool
+    pub(crate) fn nests(self, outer: Block) -> bool
         ensures { IsTrue result ↔ Nests self outer }
     {
         match (self, outer) {
@@ -103,28 +103,28 @@ impl Block {
     }
 }
 
-pub fn role_at(identifiers: &[Identifier], d: usize) -> Role
+pub(crate) fn role_at(identifiers: &[Identifier], d: usize) -> Role
     requires { d < length identifiers.now }
     ensures { result ≡ (layout_of identifiers.now).role d }
 {
     identifiers[d].role
 }
 
-pub fn place_at(identifiers: &[Identifier], d: usize) -> Position
+pub(crate) fn place_at(identifiers: &[Identifier], d: usize) -> Position
     requires { d < length identifiers.now }
     ensures { result ≡ (layout_of identifiers.now).place d }
 {
     identifiers[d].place
 }
 
-pub fn name_at<'a>(identifiers: &[Identifier<'a>], d: usize) -> &'a [u8]
+pub(crate) fn name_at<'a>(identifiers: &[Identifier<'a>], d: usize) -> &'a [u8]
     requires { d < length identifiers.now }
     ensures { result.now ≡ names_of identifiers.now d }
 {
     identifiers[d].name
 }
 
-pub fn same_name(identifiers: &[Identifier], d: usize, e: usize) -> bool
+pub(crate) fn same_name(identifiers: &[Identifier], d: usize, e: usize) -> bool
     requires first { d < length identifiers.now }
     requires second { e < length identifiers.now }
     ensures { IsTrue result ↔ (names_of identifiers.now d ≡ names_of identifiers.now e) }
@@ -133,7 +133,7 @@ pub fn same_name(identifiers: &[Identifier], d: usize, e: usize) -> bool
 }
 
 /// Whether a left name of `:=` lies in no scope of a name of its own in the same block.
-pub fn is_new(identifiers: &[Identifier], chain: Chain<'_>, d: usize) -> bool
+pub(crate) fn is_new(identifiers: &[Identifier], chain: Chain<'_>, d: usize) -> bool
     requires in_range { d < length identifiers.now }
     requires chain { IsChain (layout_of identifiers.now) (names_of identifiers.now) (length identifiers.now) (names_of identifiers.now d) chain.last chain.previous.now }
     ensures { IsTrue result ↔ IsNew (layout_of identifiers.now) (names_of identifiers.now) d }
@@ -162,7 +162,7 @@ fn blocks(identifiers: &[Identifier], e: usize, d: usize) -> bool
 }
 
 /// Whether an identifier declares. The chain is that of its name.
-pub fn declares(identifiers: &[Identifier], chain: Chain<'_>, d: usize) -> bool
+pub(crate) fn declares(identifiers: &[Identifier], chain: Chain<'_>, d: usize) -> bool
     requires in_range { d < length identifiers.now }
     requires chain { IsChain (layout_of identifiers.now) (names_of identifiers.now) (length identifiers.now) (names_of identifiers.now d) chain.last chain.previous.now }
     ensures { IsTrue result ↔ Declares (layout_of identifiers.now) (names_of identifiers.now) d }
@@ -172,7 +172,12 @@ pub fn declares(identifiers: &[Identifier], chain: Chain<'_>, d: usize) -> bool
 }
 
 /// The declaration to which a name is bound at the place of u. The chain is that of the name.
-pub fn binding(identifiers: &[Identifier], chain: Chain<'_>, name: &[u8], u: usize) -> Option<usize>
+pub(crate) fn binding(
+    identifiers: &[Identifier],
+    chain: Chain<'_>,
+    name: &[u8],
+    u: usize,
+) -> Option<usize>
     requires in_range { u < length identifiers.now }
     requires well_formed { WellFormed (layout_of identifiers.now) }
     requires chain { IsChain (layout_of identifiers.now) (names_of identifiers.now) (length identifiers.now) name.now chain.last chain.previous.now }

@@ -15,7 +15,7 @@ use gr_parse::tree::{
 use std::alloc::AllocError;
 
 /// Adds the identifiers of several expressions.
-pub fn add_exprs<'a>(
+pub(crate) fn add_exprs<'a>(
     source: &RankedFile<'a>,
     found: &mut Vec<Identifier<'a>>,
     exprs: &[ExprItem],
@@ -29,7 +29,7 @@ pub fn add_exprs<'a>(
 }
 
 /// Adds names that are declared in a role.
-pub fn add_idents<'a>(
+pub(crate) fn add_idents<'a>(
     source: &RankedFile<'a>,
     found: &mut Vec<Identifier<'a>>,
     role: Role,
@@ -44,7 +44,7 @@ pub fn add_idents<'a>(
 }
 
 /// Adds a name that is declared in a role, or a `_`.
-pub fn add_ident<'a>(
+pub(crate) fn add_ident<'a>(
     source: &RankedFile<'a>,
     found: &mut Vec<Identifier<'a>>,
     role: Role,
@@ -120,7 +120,7 @@ fn add_all_assigned<'a>(
 }
 
 /// Adds the identifiers of a simple statement in a block, before a token.
-pub fn add_simple<'a>(
+pub(crate) fn add_simple<'a>(
     source: &RankedFile<'a>,
     found: &mut Vec<Identifier<'a>>,
     block: Block,
@@ -148,7 +148,7 @@ pub fn add_simple<'a>(
 }
 
 /// Adds the identifiers of a simple statement, where there is one.
-pub fn add_optional<'a>(
+pub(crate) fn add_optional<'a>(
     source: &RankedFile<'a>,
     found: &mut Vec<Identifier<'a>>,
     block: Block,
@@ -192,7 +192,7 @@ fn add_values<'a>(
 }
 
 /// Adds the identifiers of a declaration of local variables in a block, before a token.
-pub fn add_local<'a>(
+pub(crate) fn add_local<'a>(
     source: &RankedFile<'a>,
     found: &mut Vec<Identifier<'a>>,
     block: Block,
@@ -212,7 +212,7 @@ pub fn add_local<'a>(
 }
 
 /// Adds the identifiers of one or several declarations of local variables in a block, before a token.
-pub fn add_locals<'a>(
+pub(crate) fn add_locals<'a>(
     source: &RankedFile<'a>,
     found: &mut Vec<Identifier<'a>>,
     block: Block,
@@ -234,7 +234,7 @@ pub fn add_locals<'a>(
 }
 
 /// Adds the identifiers of what stands before the condition of an `if`, in the block of the `if`.
-pub fn add_init<'a>(
+pub(crate) fn add_init<'a>(
     source: &RankedFile<'a>,
     found: &mut Vec<Identifier<'a>>,
     block: Block,
@@ -263,7 +263,7 @@ fn add_condition<'a>(
 }
 
 /// Adds the identifiers of what stands between `for` and the brace that opens its block, in the block of the `for`.
-pub fn add_header<'a>(
+pub(crate) fn add_header<'a>(
     source: &RankedFile<'a>,
     found: &mut Vec<Identifier<'a>>,
     block: Block,

@@ -17,14 +17,14 @@ impl<'a> RankedFile<'a> {
     ghost use Rattle.gr_scope.specs.Found.{source_of, Adds};
 
     /// The bytes of a token, or none if there is no such token.
-    pub fn spelling(&self, token: usize) -> &'a [u8]
+    pub(crate) fn spelling(&self, token: usize) -> &'a [u8]
         ensures { result.now ≡ (source_of self.now).spell token }
     {
         self.tree.spelling(token)
     }
 
     /// Adds the identifier at a token.
-    pub fn add(
+    pub(crate) fn add(
         &self,
         found: &mut Vec<Identifier<'a>>,
         token: usize,

@@ -14,7 +14,7 @@ use std::alloc::AllocError;
 
 /// Adds the identifiers of a statement in a block, before a token.
 #[cycle(statement)]
-pub fn add_statement<'a>(
+pub(crate) fn add_statement<'a>(
     source: &RankedFile<'a>,
     found: &mut Vec<Identifier<'a>>,
     block: Block,
@@ -42,7 +42,7 @@ pub fn add_statement<'a>(
 
 /// Adds the identifiers of a brace block.
 #[cycle(statement)]
-pub fn add_block<'a>(
+pub(crate) fn add_block<'a>(
     source: &RankedFile<'a>,
     found: &mut Vec<Identifier<'a>>,
     block: &tree::Block,
