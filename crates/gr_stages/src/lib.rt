@@ -18,3 +18,5 @@ pub use exports::{Exports, is_exported};
 pub use names::{PackageNames, lay_names};
 pub use stages::{inner_faults, outer_faults, own_faults};
 pub use states::{ImportState, ImportStates};
+pub use table::is_import;
+pub use unknown::path_of;

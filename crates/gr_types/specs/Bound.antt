@@ -1,21 +1,20 @@
 -- What the names of a package are bound to, as expressions are judged by it.
-use Rattle.std.specs.Prelude.{ℕ, ◌≡◌, ◌⊎◌, Bool, true, false, List, [], ◌∷◌, map, Option, Some, None, slice_get, Contains, codes}
-use Rattle.gr_parse.specs.Tree.{Item, TypeTree, ParamTree, ResultTree, no_result, one_result, results, FuncTree}
+use Rattle.std.specs.Prelude.{ℕ, ◌≡◌, true, false, List, [], ◌∷◌, map, Contains, codes}
+use Rattle.gr_parse.specs.Tree.{Item, TypeTree, ParamTree, ResultTree, no_result, one_result, results}
 use Rattle.gr_scope.specs.declared.model.Block.TheVariants.{Inner}
 use Rattle.gr_scope.specs.Bindings.{block_of}
 use Rattle.gr_scope.specs.Table.{StandsAt}
 use Rattle.std.specs.List.{flat_map}
-use Rattle.std.specs.Cmp.Lexicographic.{pointwise}
 use Rattle.gr_expr.specs.declared.types.Basic.{Basic}
 use Rattle.gr_expr.specs.declared.types.Basic.TheVariants as basic
 use Rattle.gr_expr.specs.declared.types.Builtin.{Builtin}
 use Rattle.gr_expr.specs.declared.types.Builtin.TheVariants as builtin
-use Rattle.gr_expr.specs.Types.{PlainType, BasicType, Defined, Kind, Typed, Untyped, Nil, Signature, Meaning, Value, TypeName, Function, BuiltinName}
+use Rattle.gr_expr.specs.Types.{PlainType, BasicType, Defined, Typed, Untyped, Nil, Signature, Meaning, Value, TypeName, Function, BuiltinName}
 use Rattle.gr_expr.specs.Types.{Package as PackageName}
 use Rattle.gr_expr.specs.World.{Bound, Local, BrokenVariable, BrokenFunction, BrokenType}
 use Rattle.gr_expr.specs.World.{Means as Stands}
-use Rattle.gr_types.specs.Package.{Package, PlacedVariable, PlacedFunction, package_variables, package_functions, symbol_in, spelled}
-use Rattle.gr_types.specs.Written.{BindsToken, IsPredeclared, DeclaresType, ImportsPath, basic_name, IsBroken, IsTypeOf}
+use Rattle.gr_types.specs.Package.{Package, PlacedVariable, PlacedFunction, package_variables, package_functions, symbol_in}
+use Rattle.gr_types.specs.Written.{IsPredeclared, DeclaresType, ImportsPath, basic_name, IsBroken, IsTypeOf}
 
 -- predeclared values and functions
 

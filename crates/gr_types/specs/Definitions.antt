@@ -1,5 +1,5 @@
 -- The type definitions of a package: underlying types, and the fields and methods that count.
-use Rattle.std.specs.Prelude.{ℕ, suc, ◌≡◌, ◌<◌, Bool, true, is_some, List, [], ◌∷◌, ◌++◌, map, Option, Some, None, slice_get, Contains}
+use Rattle.std.specs.Prelude.{ℕ, suc, ◌≡◌, ◌<◌, Bool, true, is_some, List, [], ◌∷◌, ◌++◌, map, Option, Some, None, slice_get}
 use Rattle.std.specs.List.{flat_map}
 use Rattle.gr_parse.specs.Tree.{TypeTree, BodyTree, Other, Struct, ReceiverTree}
 use Rattle.gr_expr.specs.declared.symbol.Symbol.{Symbol}
@@ -7,7 +7,7 @@ use Rattle.gr_expr.specs.Types.{PlainType, BasicType, Defined, Pointer, Slice, U
 use Rattle.gr_expr.specs.Types.{Struct as StructOf}
 use Rattle.gr_expr.specs.World.{Definition, Field, Method}
 use Rattle.gr_stages.specs.Scoping.{is_exported}
-use Rattle.gr_types.specs.Package.{Package, Interface, PlacedType, PlacedFunction, package_types, package_functions, symbol_in, spelled}
+use Rattle.gr_types.specs.Package.{Package, PlacedType, PlacedFunction, package_types, package_functions, symbol_in, spelled}
 use Rattle.gr_types.specs.Written.{BindsToken, DeclaresType, IsTypeOf}
 use Rattle.gr_types.specs.Bound.{HasSignature}
 

@@ -1,5 +1,5 @@
 -- The faults of a package in all stages, and what a file of it is judged by.
-use Rattle.std.specs.Prelude.{ℕ, suc, ◌≡◌, ◌==◌, Bool, List, Some, slice_get, Contains}
+use Rattle.std.specs.Prelude.{ℕ, suc, ◌≡◌, ◌==◌, Bool, Some, slice_get, Contains}
 use Rattle.std.specs.Cmp.Lexicographic.{pointwise}
 use Rattle.gr_text.specs.declared.fault_kind.FaultKind.TheVariants as kind
 use Rattle.gr_fault.specs.declared.fault.Fault.{Fault}
@@ -11,21 +11,15 @@ use Rattle.gr_expr.specs.World.{World, Bound, Definition, member_by}
 use Rattle.gr_expr.specs.World.{Means as Stands}
 use Rattle.gr_stmt.specs.Declarations.{check_file}
 use Rattle.gr_types.specs.Package.{Package, Export}
-use Rattle.gr_types.specs.Written.{BindsToken, ImportsPath}
+use Rattle.gr_types.specs.Written.{BindsToken, IsExportAt}
 use Rattle.gr_types.specs.Bound.{IsMeantBy}
 use Rattle.gr_types.specs.Definitions.{AreDefinitions}
 
 -- the name at a token stands behind the name of an imported package, which exports it so
 pub record IsSelected (p : Package) (file token : ℕ) (e : Export) : Type 0 where
-  pub import : ℕ
   pub before : ℕ
   pub behind_dot : token ≡ suc (suc before)
-  pub binds : BindsToken p file before import
-  pub path : List ℕ
-  pub imports : ImportsPath p import path
-  pub source : SourceFile
-  pub in_file : slice_get p.files file ≡ Some source
-  pub exported : (p.interface_of path).exported (spelling_of source token) ≡ Some e
+  pub exported : IsExportAt p file before token e
 
 -- what a file of a package is judged by
 pub record IsWorldOf (p : Package) (file : ℕ) (s : SourceFile) (w : World) : Type 0 where

@@ -1,9 +1,7 @@
 -- What other packages see of one.
-use Rattle.std.specs.Prelude.{ℕ, ◌≡◌, Bool, true, false, List, Option, Some, None, slice_get}
+use Rattle.std.specs.Prelude.{ℕ, ◌≡◌, true, List, Option, Some, None, slice_get}
 use Rattle.gr_parse.specs.SourceFile.{SourceFile, offset_of}
 use Rattle.gr_scope.specs.Bindings.{Counts, IsPackageLevel}
-use Rattle.gr_expr.specs.Types.{Meaning}
-use Rattle.gr_expr.specs.World.{Definition}
 use Rattle.gr_expr.specs.World.{Means as Stands}
 use Rattle.gr_stages.specs.Clauses.{package_name}
 use Rattle.gr_stages.specs.Scoping.{is_exported}

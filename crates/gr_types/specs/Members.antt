@@ -1,8 +1,8 @@
 -- The faults of members: fields and methods that do not count, and type definitions that contain themselves.
-use Rattle.std.specs.Prelude.{ℕ, ◌≡◌, ◌<◌, ◌⊎◌, List, Option, Some, None, slice_get, Contains}
+use Rattle.std.specs.Prelude.{ℕ, ◌≡◌, ◌⊎◌, List, Some, slice_get, Contains}
 use Rattle.gr_text.specs.declared.fault_kind.FaultKind.TheVariants as kind
 use Rattle.gr_fault.specs.declared.fault.Fault.{Fault}
-use Rattle.gr_parse.specs.Tree.{Local, BodyTree, Other, Struct}
+use Rattle.gr_parse.specs.Tree.{Local}
 use Rattle.gr_types.specs.Package.{Package, PlacedType, PlacedFunction, package_types}
 use Rattle.gr_types.specs.Written.{BindsToken, DeclaresType, written_types}
 use Rattle.gr_types.specs.Definitions.{PlacedField, IsFieldOf, IsCountingField, IsMethodOf, IsCountingMethod}

@@ -1,23 +1,21 @@
 -- What the names in the written types of a package's definitions stand for, and which definitions are broken: a Type in
 -- them names no type, or a broken one.
-use Rattle.std.specs.Prelude.{ℕ, ◌≡◌, ◌⊎◌, List, [], ◌∷◌, map, Option, Some, None, slice_get, Contains, codes}
+use Rattle.std.specs.Prelude.{ℕ, ◌≡◌, List, [], ◌∷◌, map, Some, slice_get, Contains, codes}
 use Rattle.gr_parse.specs.Tree.{TypeTree, Local, Imported, Pointer, Slice, BodyTree, Other, Struct}
-use Rattle.gr_scope.specs.declared.model.Block.{Block}
 use Rattle.gr_scope.specs.declared.model.Block.TheVariants.{Universe}
-use Rattle.gr_scope.specs.Bindings.{IsIdentifier, IsBoundTo, IsImport, block_of}
-use Rattle.gr_scope.specs.Table.{StandsAt}
+use Rattle.gr_scope.specs.Bindings.{IsBoundTo, IsImport, block_of}
+use Rattle.gr_scope.specs.Table.{IsFoundAt}
 use Rattle.gr_expr.specs.declared.types.Basic.{Basic}
 use Rattle.gr_expr.specs.declared.types.Basic.TheVariants as basic
 use Rattle.gr_expr.specs.Types.{PlainType, BasicType, Defined, TypeName}
 use Rattle.gr_expr.specs.Types.{Pointer as PointerType, Slice as SliceType}
-use Rattle.gr_stages.specs.Files.{HasLiteral}
-use Rattle.gr_stages.specs.Scoping.{literal_of}
-use Rattle.gr_types.specs.Package.{Package, Interface, PlacedType, package_types, symbol_in, spelled}
+use Rattle.gr_stages.specs.Scoping.{IsPathOf}
+use Rattle.gr_types.specs.Package.{Package, Export, PlacedType, IsRanked, package_types, type_place, laid_of, symbol_in, spelled}
 
 -- the identifier at a token is bound to d
 pub record BindsToken (p : Package) (file token d : ℕ) : Type 0 where
   pub identifier : ℕ
-  pub stands : StandsAt p.layout (record { file = file; index = token }) identifier
+  pub found : IsFoundAt p.layout p.size (record { file = file; index = token }) identifier
   pub bound : IsBoundTo p.layout p.names identifier d
 
 -- d is the predeclared name
@@ -26,17 +24,13 @@ pub record IsPredeclared (p : Package) (d : ℕ) (name : List ℕ) : Type 0 wher
   pub named : p.names d ≡ name
 
 -- d is the declaration of the type definition of that rank
-pub record DeclaresType (p : Package) (d rank : ℕ) : Type 0 where
-  pub definition : PlacedType
-  pub has_rank : slice_get (package_types p) rank ≡ Some definition
-  pub stands : StandsAt p.layout (record { file = definition.file; index = definition.spec.name }) d
+abbrev pub DeclaresType : Package → (d rank : ℕ) → Type 0
+DeclaresType p d rank = IsRanked type_place (package_types p) p.layout d rank
 
 -- d is an import of that path
 pub record ImportsPath (p : Package) (d : ℕ) (path : List ℕ) : Type 0 where
   pub is_import : IsImport p.layout d
-  pub source : _
-  pub is_file : slice_get p.files (p.layout.place d).file ≡ Some source
-  pub has_literal : HasLiteral source (p.layout.place (literal_of p.layout d)).index path
+  pub of_path : IsPathOf p.files (laid_of p) d path
 
 -- the predeclared types
 abbrev pub basic_name : Basic → List ℕ
@@ -44,14 +38,22 @@ basic_name basic.Bool = codes "bool"
 basic_name basic.Int = codes "int"
 basic_name basic.String = codes "string"
 
+-- the package that the import d names exports what the name at a token spells
+pub record IsExportOf (p : Package) (d file name : ℕ) (e : Export) : Type 0 where
+  pub path : List ℕ
+  pub imports : ImportsPath p d path
+  pub exported : (p.interface_of path).exported (spelled p file name) ≡ Some e
+
+-- `a.b`, with a bound to an import, is what that package exports as b
+pub record IsExportAt (p : Package) (file qualifier name : ℕ) (e : Export) : Type 0 where
+  pub import : ℕ
+  pub binds : BindsToken p file qualifier import
+  pub of_import : IsExportOf p import file name e
+
 -- `a.T` names the exported T of the package that a is bound to
 pub record NamesExport (p : Package) (file qualifier name : ℕ) (t : PlainType) : Type 0 where
-  pub import : ℕ
-  pub path : List ℕ
-  pub binds : BindsToken p file qualifier import
-  pub imports : ImportsPath p import path
-  pub export : _
-  pub exported : (p.interface_of path).exported (spelled p file name) ≡ Some export
+  pub export : Export
+  pub exported : IsExportAt p file qualifier name export
   pub is_type : export.meaning ≡ TypeName t
 
 -- the type that a Type names, whether or not its definition is broken

@@ -1,0 +1,43 @@
+-- Marks that spread along links.
+use Rattle.std.specs.Prelude.{ℕ, ◌≡◌, ◌<◌, ◌≤◌, ◌⊎◌, Bool, true, false, List, [], Option, Some, None, length, slice_get, slice_index_or, Contains}
+use Rattle.std.specs.List.{count_by}
+use Rattle.std.specs.Global.{Vec}
+
+abbrev pub row_of : Option (Vec ℕ) → List ℕ
+row_of None = []
+row_of (Some row) = row.items
+
+-- a links to b; numbers are linked by rows
+abbrev pub Leads : List (Vec ℕ) → ℕ → ℕ → Type 0
+Leads links a b = Contains (row_of (slice_get links a)) b
+
+-- each number that is linked to has a row
+abbrev pub AreLinked : List (Vec ℕ) → Type 0
+AreLinked links = (a b : ℕ) → Leads links a b → b < length links
+
+abbrev pub IsMarked : List Bool → ℕ → Type 0
+IsMarked marks q = slice_index_or marks q false ≡ true
+
+-- the list holds each marked number once
+pub record IsListed (found : List ℕ) (marks : List Bool) : Type 0 where
+  pub counted : length found ≡ count_by (λ m. m) marks
+  pub marked : (i : ℕ) → i < length found → IsMarked marks (slice_index_or found i 0)
+  pub places : (q : ℕ) → IsMarked marks q → (i : ℕ) × ((i < length found) × (slice_index_or found i 0 ≡ q))
+
+-- the numbers of which P holds were marked, and no other
+pub record Marks (found : List ℕ) (marks : List Bool) (more : List ℕ) (marked : List Bool) (P : ℕ → Type 0) : Type 0 where
+  pub size : length marked ≡ length marks
+  pub longer : length found ≤ length more
+  pub same : (i : ℕ) → i < length found → slice_index_or more i 0 ≡ slice_index_or found i 0
+  pub keeps : (q : ℕ) → IsMarked marks q → IsMarked marked q
+  pub holds : (q : ℕ) → P q → IsMarked marked q
+  pub only : (q : ℕ) → IsMarked marked q → IsMarked marks q ⊎ P q
+
+-- all that the first of what was found lead to is marked
+abbrev pub IsFollowed : List (Vec ℕ) → List ℕ → List Bool → ℕ → Type 0
+IsFollowed links found marks count = (i q : ℕ) → i < count → Leads links (slice_index_or found i 0) q → IsMarked marks q
+
+-- what begins, and what it leads to, directly or through others
+pub data IsReached (links : List (Vec ℕ)) (Begins : ℕ → Type 0) : ℕ → Type 0 where
+  first : {q : ℕ} → Begins q → IsReached links Begins q
+  behind : {a b : ℕ} → IsReached links Begins a → Leads links a b → IsReached links Begins b
