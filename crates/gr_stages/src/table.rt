@@ -88,7 +88,7 @@ pub(crate) fn is_repetition(table: &ScopeTable, u: usize) -> bool
 }
 
 /// Whether an identifier is declared in the block of a file.
-pub(crate) fn is_import(table: &ScopeTable, u: usize) -> bool
+pub fn is_import(table: &ScopeTable, u: usize) -> bool
     requires { u < (laid_in table.now).size }
     ensures { IsTrue result ↔ IsImport (laid_in table.now).layout u }
 {

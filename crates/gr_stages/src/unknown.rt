@@ -69,7 +69,7 @@ fn qualifier_of(table: &ScopeTable, u: usize) -> Option<usize>
 }
 
 /// The path that an import names.
-pub(crate) fn path_of(
+pub fn path_of(
     alloc: Global,
     table: &ScopeTable,
     files: &[FileTree],
