@@ -339,7 +339,7 @@ class Checker(Scopes):
     def check_call_statement(self, node):
         if node.kind == "call":
             callee = self.callee(node.parts[0])
-            operand = self.call(node, callee)
+            operand = self.note(node, self.call(node, callee))
             stands = callee.mode == "func" or callee.mode == "builtin" and callee.declaration.name not in ("len", "append")
             if operand.mode != "broken" and not stands:
                 self.fault(self.place(node), "type")
@@ -363,7 +363,12 @@ class Checker(Scopes):
         return self.as_value(node, self.expression(node))
 
     def expression(self, node):
-        return getattr(self, "judge_" + node.kind)(node)
+        return self.note(node, getattr(self, "judge_" + node.kind)(node))
+
+    def note(self, node, operand):
+        """Keeps what an expression is, by its node."""
+        self.operands[id(node)] = operand
+        return operand
 
     def judge_int(self, node):
         return Operand("value", ("untyped", INT))

@@ -63,6 +63,7 @@ class Scopes:
         self.file = None
         self.bound = {}
         self.loops = 0
+        self.operands = {}
 
     def fault(self, token, kind, path=None):
         self.found.append((path or self.file.path, token.offset, kind))

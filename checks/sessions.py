@@ -2,8 +2,9 @@
 
     python3 checks/sessions.py PROGRAM [FIRST LAST [KIND]]
 
-runs sessions FIRST to LAST (0 to 99), each a few dozen puts and questions, of the kind `faults` (as without a word) or
-`uses`. A difference is printed with its session, and ends the run with status 1.
+runs sessions FIRST to LAST (0 to 99), each a few dozen puts and questions, of the kind `faults` (as without a word),
+`uses`, `checked` (packages that import one another: faults of all stages, and uses of all identifiers) or `objects`. A
+difference is printed with its session, and ends the run with status 1.
 """
 
 import random
@@ -12,7 +13,8 @@ import sys
 
 import lexer
 import programs
-from lexical import Uses
+from lexical import Uses, is_path
+from objects import object_of
 from workspace import SourceFile, Workspace
 
 
@@ -113,7 +115,105 @@ def uses_in_files(generator, count):
     return session
 
 
-KINDS = {"faults": (faults_of_files, 40), "uses": (uses_in_files, 12)}
+def fault_lines(faults):
+    return "".join("%s:#%d %s\n" % fault for fault in faults)
+
+
+def uses_of(workspace, texts, path, offset):
+    """The number of a refusal and its body, or None and the lines."""
+    if not is_path(path):
+        return 3, ""
+    if path not in texts:
+        return 4, ""
+    found = workspace.uses(path, offset) if path.endswith(".go") or workspace.faults() else 10
+    if found == 9:
+        return 9, fault_lines(workspace.faults()[:1])
+    if isinstance(found, int):
+        return found, ""
+    return None, "".join("%s:#%d\n" % place for place in found)
+
+
+class Packages:
+    """Packages that import some of those before them, put one after another."""
+
+    NAMES = ["a", "b", "c", "d"]
+
+    def __init__(self, generator, slips):
+        self.generator = generator
+        self.slips = slips
+        self.session = Session()
+        self.texts = {}
+        self.typed = {}
+
+    def text(self):
+        """A new text of one package: its path, its bytes, and what it declares."""
+        generator = self.generator
+        number = generator.randrange(len(self.NAMES))
+        name = self.NAMES[number]
+        among = self.NAMES if generator.random() < self.slips else self.NAMES[:number]
+        among = [other for other in among if other in self.typed]
+        imports = {other: self.typed[other] for other in generator.sample(among, min(len(among), generator.randrange(3)))}
+        return (name, *programs.typed_text(generator, name, imports, self.slips))
+
+    def put(self):
+        """Puts a new text of one package, mostly one without faults, and answers the workspace."""
+        for _ in range(12):
+            name, text, typed = self.text()
+            path = f"{name}/{name}.go"
+            workspace = Workspace({**self.texts, path: text})
+            if self.texts.get(path) == text or first_fault(text) is not None:
+                continue
+            if not workspace.faults() or self.generator.random() < self.slips * 10:
+                break
+        if self.texts.get(path) != text and first_fault(text) is None:
+            self.session.put(path, text)
+            self.texts[path] = text
+            self.typed[name] = typed
+        return Workspace(self.texts)
+
+
+def checked_packages(generator, count):
+    """Faults of all stages, and uses where there are none, or the refusal that names the first."""
+    packages = Packages(generator, generator.choice([0.0, 0.005, 0.05]))
+    for _ in range(count):
+        workspace = packages.put()
+        packages.session.ask("faults", fault_lines(workspace.faults()))
+        for _ in range(generator.randrange(8)):
+            place = a_place(generator, packages.texts)
+            packages.session.tell("uses %s:#%d" % place, *uses_of(workspace, packages.texts, *place))
+    return packages.session
+
+
+def objects_of_packages(generator, count):
+    """All packages built, and the objects of those without faults."""
+    packages = Packages(generator, generator.choice([0.0, 0.005]))
+    finished = {}
+    for _ in range(count):
+        workspace = packages.put()
+        closures = {
+            name: sorted((file.path, file.source) for other in workspace.closure(name) for file in workspace.packages[other].files)
+            for name in workspace.order
+        }
+        for name in workspace.order:
+            if finished.get(name) != closures[name]:
+                packages.session.ask("work", name + "\n")
+        finished = closures
+        packages.session.tell("work", 23, "")
+        for name in workspace.order:
+            faults = workspace.package_faults(name)
+            if faults:
+                packages.session.tell(f"object {name}", 9, fault_lines(faults[:1]))
+            else:
+                packages.session.ask(f"object {name}", object_of(workspace, name))
+    return packages.session
+
+
+KINDS = {
+    "faults": (faults_of_files, 40),
+    "uses": (uses_in_files, 12),
+    "checked": (checked_packages, 12),
+    "objects": (objects_of_packages, 12),
+}
 
 
 def compare(program, seed, kind):

@@ -4,8 +4,9 @@ ghost use Rattle.gr_book.specs.Machine.{Machine, Step, HasRoom, opening, newest,
 
 use crate::event::{Event, Reply};
 use crate::state::State;
+use gr_graph::Graph;
 use gr_space::{Change, Snapshot, View};
-use gr_text::{Files, Limits, Refusal, SharedFiles};
+use gr_text::{Files, Limits, Refusal};
 use std::alloc::{AllocError, Global};
 use std::marker::Model;
 use std::mem;
@@ -51,7 +52,7 @@ impl Book {
     pub fn new(alloc: Global, limits: Limits) -> Result<Book, AllocError>
         ensures { IfOk result (λ book. book ≡ opening limits) }
     {
-        let files = SharedFiles::new(alloc, Files::new(alloc))?;
+        let files = Graph::of(alloc, Files::new(alloc))?;
         Ok(Book {
             limits,
             earlier: Vec::new(alloc),

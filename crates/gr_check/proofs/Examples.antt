@@ -7,8 +7,15 @@ use Rattle.gr_scope.specs.Site.{sites_layout}
 use Rattle.gr_scope.specs.declared.model.Block.TheVariants.{File}
 use Rattle.gr_scope.specs.declared.model.Role.TheVariants.{Declaring, NotLexical}
 use Rattle.gr_scope.specs.declared.model.Purpose.TheVariants.{ImportPath, UnnamedImport}
-use Rattle.gr_check.specs.Package.{is_of_package}
-use Rattle.gr_check.specs.Uses.{named_by, place_cmp}
+use Rattle.gr_text.specs.Packages.{is_of_package}
+use Rattle.gr_expr.specs.declared.symbol.Symbol.{Symbol}
+use Rattle.gr_expr.specs.declared.types.Basic.TheVariants as basic
+use Rattle.gr_expr.specs.Types.{BasicType}
+use Rattle.gr_expr.specs.World.{AField, ABrokenMethod}
+use Rattle.gr_check.specs.declared.declaration.Declaration.TheVariants.{Field, Method}
+use Rattle.gr_check.specs.Binding.{declaration_of}
+use Rattle.gr_check.specs.Identifiers.{named_by}
+use Rattle.gr_check.specs.Places.{place_cmp}
 
 -- the package a has the .go files of its folder, and not those of folders in it
 in_its_folder : is_of_package (codes "a") (codes "a/b.go") ≡ true
@@ -42,3 +49,13 @@ literal_for_the_name = refl
 
 unnamed_for_itself : named_by imports 2 ≡ 2
 unnamed_for_itself = refl
+
+-- the fourth field of the package a, and its fourth function
+abbrev fourth : Symbol
+fourth = record { «package» = codes "a"; rank = 3 }
+
+field_by_its_rank : declaration_of (AField fourth (BasicType basic.Int)) ≡ Field fourth
+field_by_its_rank = refl
+
+method_without_signature : declaration_of (ABrokenMethod fourth) ≡ Method fourth
+method_without_signature = refl

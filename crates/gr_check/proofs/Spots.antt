@@ -11,7 +11,7 @@ use Rattle.gr_check.specs.contracts.spot.SpotOrd.TheImpl as order
 use Rattle.gr_check.specs.contracts.spot.SpotPartialEq.TheImpl as equal
 use Rattle.gr_check.specs.declared.spot.Spot.{Spot}
 use Rattle.gr_check.specs.Steps.{place_of}
-use Rattle.gr_check.specs.Uses.{place_cmp}
+use Rattle.gr_check.specs.Places.{place_cmp}
 
 abbrev spot_of : Place → Spot
 spot_of p = record { path = p.path; offset = p.offset }

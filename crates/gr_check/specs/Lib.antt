@@ -1,4 +1,8 @@
 -- The definitions of this crate.
-pub mod Package
+pub mod Places
+pub mod Identifiers
+pub mod Binding
 pub mod Uses
 pub mod Steps
+pub mod Members
+pub mod Workspaces

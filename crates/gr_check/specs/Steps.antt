@@ -1,21 +1,17 @@
 -- What the steps of `uses` answer.
-use Rattle.std.specs.Prelude.{ℕ, ◌≡◌, ◌≢◌, ◌≤◌, ◌<◌, ◌⊎◌, ◌↔◌, Bool, List, [], length, get_or, map, filter, Contains, ⊤, Result, Ok, Err}
-use Rattle.std.specs.List.{All}
-use Rattle.std.specs.List.Sorted.{IsPermutation, IsSortedBy, IsStrictlySortedBy}
-use Rattle.std.specs.FinMap as files
-use Rattle.std.specs.Ordering.{is_lt}
-use Rattle.gr_parse.specs.Faults.{IsSound}
-use Rattle.gr_check.specs.declared.package.GoFile.{GoFile}
-use Rattle.gr_text.specs.Path.{folder}
-use Rattle.gr_space.specs.Fits.{is_go}
-use Rattle.gr_text.specs.Workspace.{Workspace, path_cmp}
+use Rattle.std.specs.Prelude.{ℕ, ◌≡◌, ◌⊎◌, ◌↔◌, ◌<◌, List, [], Contains, Option, Some, None, slice_index_or, MatchOption}
+use Rattle.std.specs.Borrow.{Bor}
 use Rattle.gr_text.specs.declared.place.Place.{Place}
-use Rattle.gr_text.specs.declared.refusal.Refusal.{Refusal}
-use Rattle.gr_text.specs.declared.refusal.Refusal.TheVariants.{Memory, Faulty, NoIdentifier, NotRenamable}
-use Rattle.gr_space.specs.Faults.{ListsFaults}
-use Rattle.gr_check.specs.Package.{Package, AreRead, HoldsByte, IsPredeclared, is_of_package, package_files}
-use Rattle.gr_check.specs.Uses.{IsNamedIn, IsUseIn, HasFirstFault, place_cmp}
+use Rattle.gr_scope.specs.declared.model.Position.{Position}
+use Rattle.gr_scope.specs.Bindings.{IsBoundTo}
+use Rattle.gr_scope.specs.Table.{StandsAt}
+use Rattle.gr_types.specs.Package.{Package}
+use Rattle.gr_types.specs.Interfaces.{IsSeen}
+use Rattle.gr_check.specs.declared.declaration.Declaration.{Declaration}
+use Rattle.gr_check.specs.declared.declaration.Declaration.TheVariants.{Predeclared, Declared, Field, Method}
 use Rattle.gr_check.specs.declared.spot.Spot.{Spot}
+use Rattle.gr_check.specs.Binding.{BindsByScope, BindsByMember, BindsByName, IsBehindPackage, IsNameOf, IsFieldAt, IsMethodAt}
+use Rattle.gr_check.specs.Identifiers.{BeginsAt}
 
 abbrev pub place_of : Spot → Place
 place_of s = record { path = s.path; offset = s.offset }
@@ -26,70 +22,64 @@ pub record Adds (old new : List Spot) (P : Place → Type 0) : Type 0 where
   pub holds : (s : Spot) → P (place_of s) → Contains new s
   pub only : (s : Spot) → Contains new s → Contains old s ⊎ P (place_of s)
 
--- whether a workspace has no fault, or else its first one
-abbrev pub RefusesFaults : Workspace → Result (Unit {0}) Refusal → Type 0
-RefusesFaults w (Ok done) = ListsFaults w []
-RefusesFaults w (Err (Faulty place kind)) = HasFirstFault w place kind
-RefusesFaults w (Err Memory) = ⊤
-RefusesFaults w (Err refusal) = ⊥
+-- an identifier of which K holds begins at the place
+abbrev pub UsesIn : Package → (ℕ → Type 0) → Place → Type 0
+UsesIn p K place = (u : ℕ) × (BeginsAt p place.path place.offset u × K u)
 
--- the declaration of what holds a byte
-abbrev pub FindsDeclaration : Package → List ℕ → ℕ → Result ℕ Refusal → Type 0
-FindsDeclaration p path offset (Ok d) = (u : ℕ) × (HoldsByte p path offset u × IsNamedIn p u d)
-FindsDeclaration p path offset (Err NoIdentifier) = (u : ℕ) → HoldsByte p path offset u → ⊥
-FindsDeclaration p path offset (Err NotRenamable) = (u : ℕ) × (HoldsByte p path offset u × ((d : ℕ) → IsNamedIn p u d → ⊥))
-FindsDeclaration p path offset (Err refusal) = ⊥
+-- an identifier that stands at that token begins at the place
+abbrev pub AtToken : Package → Position → Place → Type 0
+AtToken p at = UsesIn p (StandsAt p.layout at)
 
--- a file of the workspace, as an entry of the map
-abbrev pub entry_of : GoFile → List ℕ × List ℕ
-entry_of f = (f.path.now, f.text.now)
+-- the same of a token that was found; no place where none was
+abbrev pub AtFound : Package → Option Position → Place → Type 0
+AtFound p None place = ⊥
+AtFound p (Some at) place = AtToken p at place
 
-abbrev pub texts_of : List GoFile → List (List ℕ × List ℕ)
-texts_of fs = map entry_of fs
+-- the declaration of which K holds; none where it holds of none
+abbrev pub IsDeclarationFound : (Declaration → Type 0) → Option Declaration → Type 0
+IsDeclarationFound K found = MatchOption found ((d : Declaration) → K d → ⊥) (λ d. K d)
 
--- none of the files has a fault
-abbrev pub AreSound : List (List ℕ × List ℕ) → Type 0
-AreSound texts = All (λ e. IsSound e.1) texts
+-- the one path of which P holds; none where it holds of none
+abbrev pub IsOnePath : (List ℕ → Type 0) → Option (Bor (List ℕ)) → Type 0
+IsOnePath P found = MatchOption found ((path : List ℕ) → P path → ⊥) (λ path. P path.now × ((other : List ℕ) → P other → other ≡ path.now))
 
--- those of the files that lie directly in the folder
-abbrev pub in_folder : List ℕ → List (List ℕ × List ℕ) → List (List ℕ × List ℕ)
-in_folder p texts = filter (λ e. is_of_package p e.0) texts
+-- the number that a declaration has in the table of a package; none where the package's scopes do not bind to it
+abbrev pub IsNumberOf : Package → Declaration → Option ℕ → Type 0
+IsNumberOf p d number =
+    MatchOption number ((u : ℕ) → BindsByScope p u d → ⊥) (λ n. (u : ℕ) → BindsByScope p u d ↔ IsBoundTo p.layout p.names u n)
 
--- the folder of one file comes before that of another
-abbrev pub folder_before : GoFile → GoFile → Bool
-folder_before a b = is_lt (path_cmp (folder a.path.now) (folder b.path.now))
+-- the name under which a declaration of a package's block is seen in others; none where it is not
+abbrev pub IsExportedBy : Package → ℕ → Option (List ℕ) → Type 0
+IsExportedBy p d name = MatchOption name (IsSeen p d → ⊥) (λ n. IsSeen p d × (p.names d ≡ n))
 
--- the .go files of a workspace, by folder, and in each folder by path
-pub record AreByFolder (w : Workspace) (fs : List GoFile) : Type 0 where
-  pub by_folder : IsSortedBy folder_before fs
-  pub same : IsPermutation (filter (λ e. is_go e.0) (files.entries w)) (texts_of fs)
-  pub packages : (p : List ℕ) → in_folder p (texts_of fs) ≡ package_files w p
+-- u stands behind the name of the package of the declaration, and has the name under which that is exported, if it is
+abbrev pub BindsAs : Package → Declaration → Option (List ℕ) → ℕ → Type 0
+BindsAs p d None u = ⊥
+BindsAs p (Predeclared n) (Some name) u = ⊥
+BindsAs p (Declared path n) (Some name) u = IsBehindPackage p u path × (p.names u ≡ name)
+BindsAs p (Field s) (Some name) u = ⊥
+BindsAs p (Method s) (Some name) u = ⊥
 
--- the first files, up to this number, lie in the folder, and the next one does not
-pub record IsRun (p : List ℕ) (fs : List GoFile) (size : ℕ) : Type 0 where
-  pub within : size ≤ length fs
-  pub there : (k : ℕ) (d : GoFile) → k < size → folder (get_or fs k d).path.now ≡ p
-  pub next : (d : GoFile) → size < length fs → folder (get_or fs size d).path.now ≢ p
+-- for each rank the place of the name of what has that rank; none where there is none
+abbrev pub ArePlaces : ((rank : ℕ) → Position → Type 0) → List (Option Position) → Type 0
+ArePlaces IsAt places = (rank : ℕ) → MatchOption (slice_index_or places rank None) ((at : Position) → IsAt rank at → ⊥) (λ at. IsAt rank at)
 
--- the same of the folder of the first one
-abbrev pub IsFirstRun : List GoFile → ℕ → Type 0
-IsFirstRun fs size = (d : GoFile) → IsRun (folder (get_or fs 0 d).path.now) fs size
+-- u is the name of a field, of a method
+abbrev pub NamesField : Package → ℕ → Declaration → Type 0
+NamesField p u (Predeclared n) = ⊥
+NamesField p u (Declared path n) = ⊥
+NamesField p u (Field s) = (s.package ≡ p.path) × IsNameOf (IsFieldAt p) p u s.rank
+NamesField p u (Method s) = ⊥
 
--- an identifier in these files that begins at the place is bound to d
-pub record IsUseAmong (texts : List (List ℕ × List ℕ)) (d : ℕ) (place : Place) : Type 0 where
-  pub used_in : Package
-  pub read : AreRead texts used_in
-  pub is_use : IsUseIn used_in d place
+abbrev pub NamesMethod : Package → ℕ → Declaration → Type 0
+NamesMethod p u (Predeclared n) = ⊥
+NamesMethod p u (Declared path n) = ⊥
+NamesMethod p u (Field s) = ⊥
+NamesMethod p u (Method s) = (s.package ≡ p.path) × IsNameOf (IsMethodAt p) p u s.rank
 
--- the same in some package of the workspace
-abbrev pub IsUseAnywhere : Workspace → ℕ → Place → Type 0
-IsUseAnywhere w d place = (p : List ℕ) × IsUseAmong (package_files w p) d place
-
--- an identifier that begins at the place is bound to d: in any package where d is predeclared, else in p
-abbrev pub IsFoundUse : Workspace → Package → ℕ → Place → Type 0
-IsFoundUse w p d place = (IsPredeclared d × IsUseAnywhere w d place) ⊎ ((IsPredeclared d → ⊥) × IsUseIn p d place)
-
--- the places of all of these, in order
-pub record ListsFound (w : Workspace) (p : Package) (d : ℕ) (places : List Place) : Type 0 where
-  pub in_order : IsStrictlySortedBy place_cmp places
-  pub each : (place : Place) → Contains places place ↔ IsFoundUse w p d place
+-- what is bound to a declaration in one package, by the name under which it is exported
+pub data BindsIn (p : Package) (d : Declaration) (name : Option (List ℕ)) (u : ℕ) : Type 0 where
+  by_scope : BindsByScope p u d → BindsIn p d name u
+  by_package : BindsAs p d name u → BindsIn p d name u
+  by_member : BindsByMember p u d → BindsIn p d name u
+  by_name : BindsByName p u d → BindsIn p d name u

@@ -1,76 +1,81 @@
 -- Which identifiers of a workspace are bound to the same declaration as the one at a place.
-use Rattle.std.specs.Prelude.{ℕ, ◌≡◌, ◌≢◌, ◌-◌, ◌⊎◌, ◌↔◌, Bool, true, false, List, [], ◌∷◌, Contains, ⊤, None, Result, Ok, Err, if◌then◌else◌}
+use Rattle.std.specs.Prelude.{ℕ, ◌≡◌, ◌≢◌, ◌↔◌, List, [], ◌∷◌, Contains, ⊤, None, Result, Ok, Err}
 use Rattle.std.specs.List.Sorted.{IsStrictlySortedBy}
 use Rattle.std.specs.FinMap as files
-use Rattle.std.specs.Ordering.{nat_cmp, ordering_then}
-use Rattle.std.specs.declared.cmp.Ordering.{Ordering}
+use Rattle.gr_text.specs.Packages.{package_paths}
 use Rattle.gr_text.specs.Path.{IsPath, folder}
-use Rattle.gr_text.specs.Workspace.{Workspace, path_cmp}
+use Rattle.gr_text.specs.Workspace.{Workspace}
 use Rattle.gr_text.specs.declared.place.Place.{Place}
 use Rattle.gr_text.specs.declared.fault_kind.FaultKind.{FaultKind}
 use Rattle.gr_text.specs.declared.refusal.Refusal.{Refusal}
 use Rattle.gr_text.specs.declared.refusal.Refusal.TheVariants.{Memory, BadPath, NoFile, Faulty, NoIdentifier, NotRenamable}
-use Rattle.gr_space.specs.Faults.{ListsFaults}
-use Rattle.gr_space.specs.declared.file_faults.FileFault.{FileFault}
-use Rattle.gr_scope.specs.Bindings.{Layout}
-use Rattle.gr_scope.specs.declared.model.Role.{Role}
-use Rattle.gr_scope.specs.declared.model.Role.TheVariants.{NotLexical}
-use Rattle.gr_scope.specs.declared.model.Purpose.TheVariants.{ImportPath}
-use Rattle.gr_check.specs.Package.{Package, IsPackage, IsPredeclared, IsBoundIn, BeginsAt, HoldsByte, layout_in}
+use Rattle.gr_types.specs.Package.{Package}
+use Rattle.gr_verdict.specs.declared.fault.FileFault.{FileFault}
+use Rattle.gr_verdict.specs.Verdicts.{Verdicts, IsPackageIn, AreVerdicts}
+use Rattle.gr_verdict.specs.FaultLists.{ListsFaults}
+use Rattle.gr_check.specs.declared.declaration.Declaration.{Declaration}
+use Rattle.gr_check.specs.Identifiers.{BeginsAt, HoldsByte, named_by}
+use Rattle.gr_check.specs.Places.{place_cmp}
+use Rattle.gr_check.specs.Binding.{Binds}
 
--- by the bytes of the path, and then by offset
-abbrev pub place_cmp : Place → Place → Ordering
-place_cmp a b = ordering_then (path_cmp a.path b.path) (nat_cmp a.offset b.offset)
+-- a package of the workspace, as it is checked
+pub record IsPackage (w : Workspace) (known : Verdicts) (p : Package) : Type 0 where
+  pub of_workspace : Contains (package_paths w) p.path
+  pub is_checked : IsPackageIn w known p.path p
 
-abbrev pub is_named_literal : Role → Bool
-is_named_literal (NotLexical ImportPath) = true
-is_named_literal role = false
+-- the identifier u of the package p is bound to the declaration
+abbrev pub IsBoundTo : Workspace → Verdicts → Package → ℕ → Declaration → Type 0
+IsBoundTo w known p u d = Binds (IsPackage w known) p u d
 
--- the literal of an import that has a name stands for the name, which is the identifier before it
-abbrev pub named_by : Layout → ℕ → ℕ
-named_by l u = if is_named_literal (l.role u) then u - 1 else u
+-- the same of what u stands for: the literal of an import that has a name stands for the name
+abbrev pub IsNamedTo : Workspace → Verdicts → Package → ℕ → Declaration → Type 0
+IsNamedTo w known p u d = IsBoundTo w known p (named_by p.layout u) d
 
--- what u stands for is bound to d
-abbrev pub IsNamedIn : Package → ℕ → ℕ → Type 0
-IsNamedIn p u d = IsBoundIn p (named_by (layout_in p) u) d
-
--- an identifier that begins at the place is bound to d
-abbrev pub IsUseIn : Package → ℕ → Place → Type 0
-IsUseIn p d place = (u : ℕ) × (BeginsAt p place.path place.offset u × IsBoundIn p u d)
-
--- an identifier that begins at the place is bound to the declaration d of the folder's package; a predeclared name is used
--- in each package
-pub record IsUseOf (w : Workspace) (p : List ℕ) (d : ℕ) (place : Place) : Type 0 where
-  pub in_folder : List ℕ
-  pub same_declaration : (in_folder ≡ p) ⊎ IsPredeclared d
+-- an identifier of some package, and no literal of an import, begins at the place and is bound to the declaration
+pub record IsUseOf (w : Workspace) (known : Verdicts) (d : Declaration) (place : Place) : Type 0 where
   pub used_in : Package
-  pub is_package : IsPackage w in_folder used_in
-  pub is_use : IsUseIn used_in d place
+  pub is_package : IsPackage w known used_in
+  pub user : ℕ
+  pub begins : BeginsAt used_in place.path place.offset user
+  pub bound : IsBoundTo w known used_in user d
+
+-- the package of a file's folder, as it is checked
+pub record IsAskedIn (w : Workspace) (known : Verdicts) (path : List ℕ) (p : Package) : Type 0 where
+  pub is_package : IsPackage w known p
+  pub of_folder : p.path ≡ folder path
+
+-- what holds the byte is bound to the declaration
+pub record HasDeclaration (w : Workspace) (known : Verdicts) (path : List ℕ) (offset : ℕ) (d : Declaration) : Type 0 where
+  pub asked_in : Package
+  pub is_asked : IsAskedIn w known path asked_in
+  pub number : ℕ
+  pub at : HoldsByte asked_in path offset number
+  pub bound : IsNamedTo w known asked_in number d
 
 -- The identifier at the byte is bound to a declaration, and these are the places of all that are bound to the same one.
 pub record ListsUses (w : Workspace) (path : List ℕ) (offset : ℕ) (places : List Place) : Type 0 where
-  pub asked_in : Package
-  pub is_package : IsPackage w (folder path) asked_in
-  pub number : ℕ
-  pub at : HoldsByte asked_in path offset number
-  pub declaration : ℕ
-  pub bound : IsNamedIn asked_in number declaration
+  pub known : Verdicts
+  pub right : AreVerdicts w known
+  pub declaration : Declaration
+  pub is_asked : HasDeclaration w known path offset declaration
   pub in_order : IsStrictlySortedBy place_cmp places
-  pub each : (place : Place) → Contains places place ↔ IsUseOf w (folder path) declaration place
+  pub each : (place : Place) → Contains places place ↔ IsUseOf w known declaration place
 
 -- no identifier and no literal of an import holds the byte
 pub record HasNoIdentifier (w : Workspace) (path : List ℕ) (offset : ℕ) : Type 0 where
-  pub asked_in : Package
-  pub is_package : IsPackage w (folder path) asked_in
-  pub none : (u : ℕ) → HoldsByte asked_in path offset u → ⊥
+  pub known : Verdicts
+  pub right : AreVerdicts w known
+  pub none : (p : Package) → IsAskedIn w known path p → (u : ℕ) → HoldsByte p path offset u → ⊥
 
 -- what holds the byte is bound to no declaration
 pub record HasNoDeclaration (w : Workspace) (path : List ℕ) (offset : ℕ) : Type 0 where
+  pub known : Verdicts
+  pub right : AreVerdicts w known
   pub asked_in : Package
-  pub is_package : IsPackage w (folder path) asked_in
+  pub is_asked : IsAskedIn w known path asked_in
   pub number : ℕ
   pub at : HoldsByte asked_in path offset number
-  pub unbound : (d : ℕ) → IsNamedIn asked_in number d → ⊥
+  pub unbound : (d : Declaration) → IsNamedTo w known asked_in number d → ⊥
 
 abbrev pub IsFile : Workspace → List ℕ → Type 0
 IsFile w path = IsPath 2 path × (files.get w path ≢ None)

@@ -2,7 +2,7 @@
 ghost use Rattle.std.specs.Prelude.{◌≡◌, ◌↔◌, true, map, Any, Contains, IfOk};
 ghost use Rattle.std.specs.List.Sorted.{IsStrictlySortedBy};
 ghost use Rattle.gr_check.specs.Steps.{place_of};
-ghost use Rattle.gr_check.specs.Uses.{place_cmp};
+ghost use Rattle.gr_check.specs.Places.{place_cmp};
 
 use gr_text::{Path, Place};
 use std::alloc::{AllocError, Global};

@@ -1,143 +1,176 @@
-//! The identifiers that are bound to the same declaration.
-ghost use Rattle.std.specs.Prelude.{◌<◌, [], length, take, IfOk, OnOk};
-ghost use Rattle.gr_space.specs.Faults.{ListsFaults};
-ghost use Rattle.gr_check.specs.Steps.{Adds, RefusesFaults, AreSound, IsUseAnywhere, IsUseAmong, IsFirstRun, IsFoundUse, ListsFound, texts_of};
-ghost use Rattle.gr_check.specs.Package.{package_in};
-ghost use Rattle.gr_check.specs.Uses.{TellsUses, TellsUsesAt};
+//! The identifiers of a workspace that are bound to the same declaration.
+ghost use Rattle.std.specs.Prelude.{◌≡◌, ◌<◌, length, map, option_map, IfOk, OnOk};
+ghost use Rattle.gr_text.specs.Packages.{package_paths};
+ghost use Rattle.gr_parse.specs.SourceFile.{source_of};
+ghost use Rattle.gr_scope.specs.Named.{name_value};
+ghost use Rattle.gr_types.specs.Check.{package_in};
+ghost use Rattle.gr_types.specs.InterfacesView.{interface_in};
+ghost use Rattle.gr_types.specs.MemberUses.{AreMemberUses, uses_in};
+ghost use Rattle.gr_check.specs.Members.{KnowsOwn};
+ghost use Rattle.gr_check.specs.Steps.{Adds, UsesIn, BindsIn};
+ghost use Rattle.gr_check.specs.Uses.{IsUseOf, TellsUses, TellsUsesAt};
+ghost use Rattle.gr_check.specs.Workspaces.{IsSound, known_in, bytes_of, IsExportedUnder, IsUseAt, ListsFound, TellsUsesIn};
 
-use crate::identifiers::{add_uses, declaration_at};
-use crate::package::{GoFile, files_by_folder, package_files, run_length, trees_of};
+use crate::asked::{declaration_at, exported_under};
+use crate::declaration::Declaration;
+use crate::faults::refuse_faults;
 use crate::places::Places;
+use crate::reading::{laid_table, members_of, own_of, path_of, trees};
 use crate::spot::{Spot, places};
-use gr_scope::declare::declare;
-use gr_scope::table::{DeclId, ScopeTable};
-use gr_text::{Files, Path, Refusal};
+use crate::unit_uses::add_unit_uses;
+use gr_expr::found::MemberUse;
+use gr_expr::symbol::SharedPath;
+use gr_expr::world::Definition;
+use gr_graph::Graph;
+use gr_parse::FileTree;
+use gr_scope::table::ScopeTable;
+use gr_text::{Path, Refusal};
+use gr_types::{Interfaces, Package};
+use gr_verdict::{Findings, seen, verdicts};
 use std::alloc::{AllocError, Global};
 
-/// How many names are predeclared: they have the first numbers in the table of each package.
-const PREDECLARED: usize = 11;
-
-/// Refuses a workspace for its first fault.
-fn refuse_faults(alloc: Global, files: &Files) -> Result<(), Refusal>
-    ensures { RefusesFaults files.now result }
-{
-    match gr_space::faults(alloc, files)?.into_iter().next() {
-        None => Ok(()),
-        Some(fault) => Err(Refusal::Faulty {
-            place: fault.place,
-            kind: fault.kind,
-        }),
-    }
-}
-
-/// Adds the identifiers in a package's files that are bound to a declaration.
-fn add_uses_among(
+/// Adds the places of the identifiers of the package of a path that are bound to a declaration.
+fn add_uses_by(
     alloc: Global,
-    found: &mut Vec<Spot>,
-    files: &[GoFile],
-    d: DeclId,
+    spots: &mut Vec<Spot>,
+    path: &SharedPath,
+    files: &[FileTree],
+    table: &ScopeTable<'_>,
+    interfaces: &Interfaces,
+    own: &[Definition],
+    members: &[Vec<MemberUse>],
+    declaration: &Declaration,
+    name: Option<&[u8]>,
 ) -> Result<(), AllocError>
-    requires { AreSound (texts_of files.now) }
-    ensures { OnOk result (Adds found.old.items found.new.items (IsUseAmong (texts_of files.now) d)) }
+    requires own { KnowsOwn (package_in path.now (map source_of files.now) table.now (interface_in interfaces.now)) own.now }
+    requires members { AreMemberUses (package_in path.now (map source_of files.now) table.now (interface_in interfaces.now)) (map uses_in members.now) }
+    ensures { let p = package_in path.now (map source_of files.now) table.now (interface_in interfaces.now) in
+        OnOk result (Adds spots.old.items spots.new.items (UsesIn p (BindsIn p declaration.now (name_value name.entry)))) }
 {
-    let trees = trees_of(alloc, files)?;
-    let table = declare(alloc, &trees)?;
-    add_uses(found, &table, d)
+    let unit = Package {
+        path,
+        files,
+        table,
+        interfaces,
+    };
+    add_unit_uses(alloc, spots, unit, own, members, declaration, name)
 }
 
-/// Adds the uses of a predeclared name in the package of the first of some files, which are sorted by folder, and tells
-/// how many files it has.
-fn add_first_package(
+/// Adds the places of the identifiers of the package of a number that are bound to a declaration.
+fn add_package_uses(
     alloc: Global,
-    found: &mut Vec<Spot>,
-    files: &[GoFile],
-    d: DeclId,
-) -> Result<usize, AllocError>
-    requires some { 0 < length files.now }
-    requires sound { AreSound (texts_of files.now) }
-    ensures run { IfOk result (IsFirstRun files.now) }
-    ensures added { IfOk result (λ size. Adds found.old.items found.new.items (IsUseAmong (texts_of (take size files.now)) d)) }
-{
-    let size = run_length(files, files[0].path.folder());
-    add_uses_among(alloc, found, &files[..size], d)?;
-    Ok(size)
-}
-
-/// Adds the uses of a predeclared name in all packages.
-fn add_uses_anywhere(
-    alloc: Global,
-    found: &mut Vec<Spot>,
-    files: &Files,
-    d: DeclId,
+    spots: &mut Vec<Spot>,
+    graph: &Graph,
+    found: &Findings,
+    number: usize,
+    declaration: &Declaration,
+    name: Option<&[u8]>,
 ) -> Result<(), AllocError>
-    requires { ListsFaults files.now [] }
-    ensures { OnOk result (Adds found.old.items found.new.items (IsUseAnywhere files.now d)) }
+    requires in_range { number < length (package_paths graph.now) }
+    requires sound { IsSound graph.now found.now }
+    ensures { OnOk result (Adds spots.old.items spots.new.items (IsUseAt graph.now (known_in found.now) declaration.now (name_value name.entry) number)) }
 {
-    let all = files_by_folder(alloc, files)?;
-    let mut start = 0;
-    while start < all.len() {
-        let (_, rest) = all.split_at(start);
-        start += add_first_package(alloc, found, rest, d)?;
+    let files = trees(graph, found, number);
+    let seen = seen(alloc, graph, number, &found.interfaces)?;
+    let table = laid_table(alloc, files, &seen)?;
+    let path = path_of(graph, found, number);
+    let own = own_of(graph, found, number);
+    let members = members_of(graph, found, number);
+    add_uses_by(
+        alloc,
+        spots,
+        path,
+        files,
+        &table,
+        &seen,
+        own,
+        members,
+        declaration,
+        name,
+    )
+}
+
+/// Adds the places of the identifiers of all packages that are bound to a declaration.
+fn add_all_uses(
+    alloc: Global,
+    spots: &mut Vec<Spot>,
+    graph: &Graph,
+    found: &Findings,
+    declaration: &Declaration,
+    name: Option<&[u8]>,
+) -> Result<(), AllocError>
+    requires sound { IsSound graph.now found.now }
+    requires name { IsExportedUnder graph.now (known_in found.now) declaration.now (name_value name) }
+    ensures { OnOk result (Adds spots.old.items spots.new.items (IsUseOf graph.now (known_in found.now) declaration.now)) }
+{
+    for number in 0..graph.len() {
+        add_package_uses(alloc, spots, graph, found, number, declaration, name)?;
     }
     Ok(())
 }
 
-/// Adds the uses of a declaration of a table, in all packages where it is a predeclared name.
-fn add_all_uses(
-    alloc: Global,
-    found: &mut Vec<Spot>,
-    files: &Files,
-    table: &ScopeTable,
-    d: DeclId,
-) -> Result<(), AllocError>
-    requires { ListsFaults files.now [] }
-    ensures { OnOk result (Adds found.old.items found.new.items (IsFoundUse files.now (package_in table.now) d)) }
+/// The bytes of a name.
+fn bytes(name: &Option<Vec<u8>>) -> Option<&[u8]>
+    ensures { name_value result ≡ option_map bytes_of name.now }
 {
-    if d < PREDECLARED {
-        add_uses_anywhere(alloc, found, files, d)
-    } else {
-        add_uses(found, table, d)
+    match name {
+        None => None,
+        Some(name) => Some(name.as_slice()),
     }
 }
 
-/// The uses of a declaration of a table, in order.
+/// The places of all uses of a declaration, in order.
 fn list_uses(
     alloc: Global,
-    files: &Files,
-    table: &ScopeTable,
-    d: DeclId,
+    graph: &Graph,
+    found: &Findings,
+    declaration: &Declaration,
 ) -> Result<Places, AllocError>
-    requires { ListsFaults files.now [] }
-    ensures { IfOk result (ListsFound files.now (package_in table.now) d) }
+    requires { IsSound graph.now found.now }
+    ensures { IfOk result (ListsFound graph.now (known_in found.now) declaration.now) }
 {
-    let mut found = Vec::new(alloc);
-    add_all_uses(alloc, &mut found, files, table, d)?;
-    Ok(Places::new(places(alloc, found)?))
+    let name = exported_under(alloc, graph, found, declaration)?;
+    let mut spots = Vec::new(alloc);
+    add_all_uses(alloc, &mut spots, graph, found, declaration, bytes(&name))?;
+    Ok(Places::new(places(alloc, spots)?))
 }
 
 /// The uses of what holds a byte of a file. The workspace has no fault.
-fn uses_at(alloc: Global, files: &Files, path: &Path, offset: usize) -> Result<Places, Refusal>
-    requires { ListsFaults files.now [] }
-    ensures { TellsUsesAt files.now path.now offset result }
+fn uses_at(
+    alloc: Global,
+    graph: &Graph,
+    found: &Findings,
+    path: &Path,
+    offset: usize,
+) -> Result<Places, Refusal>
+    requires { IsSound graph.now found.now }
+    ensures { TellsUsesAt graph.now path.now offset result }
 {
-    let package = package_files(alloc, files, path.folder())?;
-    let trees = trees_of(alloc, &package)?;
-    let table = declare(alloc, &trees)?;
-    match declaration_at(&table, path, offset) {
+    match declaration_at(alloc, graph, found, path, offset) {
         Err(refusal) => Err(refusal),
-        Ok(declaration) => Ok(list_uses(alloc, files, &table, declaration)?),
+        Ok(declaration) => Ok(list_uses(alloc, graph, found, &declaration)?),
+    }
+}
+
+/// The uses of what holds a byte of a file, or the first fault of the workspace.
+fn uses_in(alloc: Global, graph: &Graph, path: &Path, offset: usize) -> Result<Places, Refusal>
+    ensures { TellsUsesIn graph.now path.now offset result }
+{
+    let found = verdicts(alloc, graph)?;
+    match refuse_faults(alloc, graph, &found) {
+        Err(refusal) => Err(refusal),
+        Ok(()) => uses_at(alloc, graph, &found, path, offset),
     }
 }
 
 /// The places of the identifiers of a workspace that are bound to the same declaration as the one at a byte of a file, by
 /// path and offset.
-pub fn uses(alloc: Global, files: &Files, path: &str, offset: usize) -> Result<Places, Refusal>
-    ensures { TellsUses files.now path.now offset result }
+pub fn uses(alloc: Global, graph: &Graph, path: &str, offset: usize) -> Result<Places, Refusal>
+    ensures { TellsUses graph.now path.now offset result }
 {
     let path = Path::read(alloc, path, 2)?;
-    if files.get(&path).is_none() {
+    if graph.files().get(&path).is_none() {
         return Err(Refusal::NoFile);
     }
-    refuse_faults(alloc, files)?;
-    uses_at(alloc, files, &path, offset)
+    uses_in(alloc, graph, &path, offset)
 }

@@ -8,8 +8,8 @@ use Rattle.gr_text.specs.declared.place.Place.{Place}
 use Rattle.gr_text.specs.declared.refusal.Refusal.{Refusal}
 use Rattle.gr_text.specs.declared.refusal.Refusal.TheVariants.{Memory, BadPath, NoFile}
 use Rattle.gr_text.specs.PlaceText.{place_text, fault_line}
-use Rattle.gr_space.specs.Faults.{ListsFaults}
-use Rattle.gr_space.specs.declared.file_faults.FileFault.{FileFault}
+use Rattle.gr_verdict.specs.FaultLists.{ListsFaults}
+use Rattle.gr_verdict.specs.declared.fault.FileFault.{FileFault}
 use Rattle.gr_space.specs.declared.view.View.{View}
 use Rattle.gr_check.specs.Uses.{TellsUses}
 

@@ -4,8 +4,9 @@ ghost use Rattle.gr_text.specs.PlaceText.{place_text, fault_line};
 ghost use Rattle.gr_desk.specs.Queries.{Cats, WritesUses, TellsFaults, file_line, place_lines, fault_lines, listing};
 
 use crate::bytes::Bytes;
-use gr_space::{FileFault, View};
+use gr_space::View;
 use gr_text::{FileText, Path, Place, Refusal};
+use gr_verdict::FileFault;
 use itoa::Buffer;
 use std::alloc::{AllocError, Global};
 
@@ -70,7 +71,7 @@ fn place_lines(alloc: Global, places: &[Place]) -> Result<Vec<u8>, AllocError>
 pub fn uses(alloc: Global, view: &View, path: &str, offset: usize) -> Result<Bytes, Refusal>
     ensures { WritesUses view.now path.now offset result }
 {
-    let places = gr_check::uses(alloc, view.snapshot.files.files(), path, offset)?;
+    let places = gr_check::uses(alloc, &view.snapshot.files, path, offset)?;
     let lines = place_lines(alloc, places.as_slice())?;
     Ok(Bytes::new(lines))
 }
@@ -101,7 +102,7 @@ fn lines_of(alloc: Global, faults: &[FileFault]) -> Result<Vec<u8>, AllocError>
 pub fn faults(alloc: Global, view: &View) -> Result<Bytes, AllocError>
     ensures { IfOk result (λ lines. TellsFaults view.now.snapshot.files lines) }
 {
-    let faults = gr_space::faults(alloc, view.snapshot.files.files())?;
+    let faults = gr_verdict::faults(alloc, &view.snapshot.files)?;
     let lines = lines_of(alloc, &faults)?;
     Ok(Bytes::new(lines))
 }

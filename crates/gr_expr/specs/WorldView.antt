@@ -1,8 +1,11 @@
 -- The world of src/ as the plain one.
 use Rattle.std.specs.Prelude.{ℕ, true, false, if◌then◌else◌, List, [], Option, Some, None, option_map, slice_get}
-use Rattle.std.specs.BTreeMap.{get, get_by}
+use Rattle.std.specs.Arc.{arc_value}
+use Rattle.std.specs.BTreeMap.{get_by}
 use Rattle.std.specs.Cmp.Lexicographic.{slice_cmp}
+use Rattle.std.specs.Global.{Vec, Global}
 use Rattle.std.specs.Ordering.{nat_cmp}
+use Rattle.std.specs.declared.sync.Arc.{Arc}
 use Rattle.gr_expr.specs.declared.types.Basic.TheVariants as basic
 use Rattle.gr_expr.specs.declared.symbol.Symbol.{Symbol}
 use Rattle.gr_expr.specs.declared.world.Bound.{Bound}
@@ -77,8 +80,16 @@ abbrev pub ranked : Option (List Definition) → ℕ → Option Definition
 ranked None rank = None
 ranked (Some ds) rank = slice_get ds rank
 
+-- the type definitions that are shared, as a list
+abbrev pub shared_definitions : Option (Arc (Vec Definition) Global) → Option (List Definition)
+shared_definitions held = option_map (λ (v : Arc (Vec Definition) Global). (arc_value v).items) held
+
+-- the type definitions of the package of a path, where they are known
+abbrev pub definitions_at : Definitions → List ℕ → Option (List Definition)
+definitions_at ds path = shared_definitions (get_by (λ key. slice_cmp nat_cmp path key.items) ds.packages)
+
 abbrev pub imported_at : Definitions → Symbol → Option Definition
-imported_at ds s = ranked (option_map (λ v. v.items) (get (slice_cmp nat_cmp) ds.packages s.package)) s.rank
+imported_at ds s = ranked (definitions_at ds s.package) s.rank
 
 -- the definition of a symbol, in the file's own package or in another
 unfoldable pub definition_at : World → Symbol → Option Definition

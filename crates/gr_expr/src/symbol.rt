@@ -2,7 +2,6 @@
 ghost use Rattle.std.specs.Prelude.{◌≡◌, IfOk};
 ghost use Rattle.gr_expr.specs.Types.{same_symbol};
 
-use gr_text::Path;
 use std::alloc::{AllocError, Global};
 use std::marker::Model;
 use std::sync::Arc;
@@ -10,7 +9,7 @@ use std::sync::Arc;
 /// A package's path, shared by all that name it.
 #[derive(Drop)]
 pub struct SharedPath {
-    path: Arc<Path, Global>,
+    path: Arc<Vec<u8>, Global>,
 }
 
 impl Model for SharedPath {
@@ -19,21 +18,22 @@ impl Model for SharedPath {
 
     ghost Value = { List ℕ };
 
-    ghost view = { λ a. arc_value a.path };
+    ghost view = { λ a. (arc_value a.path).items };
 }
 
 impl SharedPath {
-    pub fn new(alloc: Global, path: Path) -> Result<SharedPath, AllocError>
-        ensures { IfOk result (λ shared. shared ≡ path) }
+    pub fn new(alloc: Global, path: &[u8]) -> Result<SharedPath, AllocError>
+        ensures { IfOk result (λ shared. shared ≡ path.now) }
     {
-        let path = Arc::new(alloc, path)?;
+        let bytes = Vec::from_slice(alloc, path)?;
+        let path = Arc::new(alloc, bytes)?;
         Ok(SharedPath { path })
     }
 
-    pub fn path(&self) -> &Path
+    pub fn path(&self) -> &[u8]
         ensures { result.now ≡ self.now }
     {
-        &self.path
+        self.path.as_slice()
     }
 }
 

@@ -7,8 +7,9 @@ ghost use Rattle.gr_expr.specs.WorldView.{definition_at, definition_in, definiti
 
 use crate::symbol::{SharedPath, Symbol};
 use crate::types::{Basic, Builtin, GoType, Signature};
-use gr_text::Path;
+use std::alloc::Global;
 use std::collections::BTreeMap;
+use std::sync::Arc;
 
 /// What all uses of a name mean, or the parameter or local that it is, by the token that declares it. The broken ones are
 /// declarations whose written type, parameters, results or underlying type has a broken part.
@@ -69,10 +70,10 @@ pub struct Definition {
     pub methods: BTreeMap<Vec<u8>, Method>,
 }
 
-/// The type definitions of packages, each at its rank.
+/// The type definitions of packages by their paths, each at its rank. Those of a package are shared by all that have them.
 #[derive(Drop)]
 pub struct Definitions {
-    pub packages: BTreeMap<Path, Vec<Definition>>,
+    pub packages: BTreeMap<Vec<u8>, Arc<Vec<Definition>, Global>>,
 }
 
 /// What a file is judged by.

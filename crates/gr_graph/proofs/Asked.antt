@@ -10,7 +10,8 @@ use Rattle.gr_text.specs.Path.{folder}
 use Rattle.gr_text.specs.Workspace.{Workspace}
 use Rattle.gr_graph.specs.Imports.{Links, Imports, imports_of, Reaches, itself, through, IsOnCycle, Leads, IsCycleOf, IsClosure, AreImporters, IsOrder}
 use Rattle.gr_graph.specs.Packages as packages
-use Rattle.gr_graph.specs.Packages.{is_go, package_paths, package_files, PackageImports, AreLinksOf, IsInClosure}
+use Rattle.gr_text.specs.Packages.{is_go, package_paths, package_files}
+use Rattle.gr_graph.specs.Packages.{PackageImports, AreLinksOf, IsInClosure}
 use Rattle.gr_graph.specs.Graphs.{HoldsPackages, IsOnImportCycle, LeadsTo, IsImportCycle, IsPackageOrder}
 use Rattle.gr_graph.proofs.PackagePaths.{all_there, AreThere, paths_sorted, one_number}
 
@@ -45,10 +46,10 @@ is_package : (w : Workspace) (p q : List ℕ) → IsInClosure w p q → Contains
 is_package w p q (packages.itself has) = has
 is_package w p q (packages.through pi rest) = has_file w p pi.entry pi.of_package
 
-number : (w : Workspace) (p : List ℕ) → Contains (package_paths w) p → (i : ℕ) × (slice_get (package_paths w) i ≡ Some p)
+pub number : (w : Workspace) (p : List ℕ) → Contains (package_paths w) p → (i : ℕ) × (slice_get (package_paths w) i ≡ Some p)
 number w p has = (has.0, slice_get_read (package_paths w) (length (package_paths w)) has.0 p refl has.1 (sym has.2))
 
-at_contains : (w : Workspace) (i : ℕ) (p : List ℕ) → slice_get (package_paths w) i ≡ Some p → Contains (package_paths w) p
+pub at_contains : (w : Workspace) (i : ℕ) (p : List ℕ) → slice_get (package_paths w) i ≡ Some p → Contains (package_paths w) p
 at_contains w i p at = (i, slice_get_within (package_paths w) i p at, get_or_from_slice_get (package_paths w) i p p at)
 
 module _ (w : Workspace) (g : Links) (links : AreLinksOf w g) where

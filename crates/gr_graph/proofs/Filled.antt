@@ -12,9 +12,10 @@ use Rattle.gr_text.specs.Path.{folder}
 use Rattle.gr_text.specs.Workspace.{path_cmp}
 use Rattle.gr_parse.specs.SourceFile.{FileParts}
 use Rattle.gr_graph.specs.FaultyFiles.{FaultyParts}
-use Rattle.gr_graph.specs.Packages.{is_go}
+use Rattle.gr_text.specs.Packages.{is_go}
 use Rattle.gr_graph.specs.Parsed.{AreParsed, IsParsedAs, none, tree, fault}
-use Rattle.gr_graph.specs.Filling.{IsWithFile, AddsFile, files_in, AreFilled}
+use Rattle.gr_text.specs.Packages.{files_in}
+use Rattle.gr_graph.specs.Filling.{IsWithFile, AddsFile, AreFilled}
 use Rattle.gr_graph.specs.Graphs.{paths_of, IsEmpty}
 use Rattle.gr_graph.specs.declared.package.Package.{Package}
 use Rattle.gr_graph.specs.declared.parsed.Parsed.{Parsed}

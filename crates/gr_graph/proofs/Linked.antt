@@ -9,7 +9,8 @@ use Rattle.gr_text.specs.Workspace.{Workspace}
 use Rattle.gr_parse.specs.SourceFile.{SourceFile, FileParts, source_of}
 use Rattle.gr_graph.specs.FaultyFiles.{FaultyParts}
 use Rattle.gr_graph.specs.Imports.{Links, AreLinked, Imports, imports_of}
-use Rattle.gr_graph.specs.Packages.{IsParsed, ImportsPath, PackageImports, AreLinksOf, package_paths, package_files}
+use Rattle.gr_text.specs.Packages.{package_paths, package_files}
+use Rattle.gr_graph.specs.Packages.{IsParsed, ImportsPath, PackageImports, AreLinksOf}
 use Rattle.gr_graph.specs.Parsed.{AreParsed, none, tree, fault}
 use Rattle.gr_graph.specs.Graphs.{paths_of, IsGraph}
 use Rattle.gr_graph.specs.Rows.{IsRow}

@@ -5,7 +5,7 @@ use Rattle.gr_scan.specs.declared.refusal.Fault.{Fault}
 use Rattle.gr_scan.specs.Cuts.{IsCut, IsFirstFault}
 use Rattle.gr_scan.specs.CutText.{CutText}
 use Rattle.gr_scan.proofs.OneCutLemmas.{one_cut, cut_or_fault}
-use Rattle.gr_parse.specs.Faults.{IsFaultOf, IsFaultOfTokens}
+use Rattle.gr_parse.specs.Faults.{IsSound, IsFaultOf, IsFaultOfTokens}
 use Rattle.gr_parse.specs.Kinds.{kinds_of}
 use Rattle.gr_parse.specs.SourceFile.{SourceFile}
 use Rattle.gr_parse.specs.Verdict.{IsWhole, Verdict, Whole, Faulty}
@@ -30,12 +30,20 @@ abbrev is_whole : Verdict → Bool
 is_whole Whole = true
 is_whole (Faulty kind left) = false
 
-pub file_or_fault : (path text : List ℕ) (f : SourceFile) (fault : Fault) → IsParsed path text f → IsFaultOf text fault → ⊥
-file_or_fault path text f fault parsed faulty =
+-- a text without fault has none
+pub sound_or_fault : (text : List ℕ) (fault : Fault) → IsSound text → IsFaultOf text fault → ⊥
+sound_or_fault text fault sound faulty =
     ⊎_elim
-    (λ (first : IsFirstFault text fault). cut_or_fault text f.cut.pieces fault (subst (λ (t : List ℕ). IsCut t f.cut.pieces) parsed.of_text parsed.is_file.is_cut) first)
+    (λ (first : IsFirstFault text fault). cut_or_fault text sound.cut.pieces fault (subst (λ (t : List ℕ). IsCut t sound.cut.pieces) sound.of_text sound.is_cut) first)
     (λ (tokens : IsFaultOfTokens text fault).
-    let cuts : f.cut ≡ tokens.cut = same_cut f.cut tokens.cut (parsed.of_text ∙ sym tokens.of_text) parsed.is_file.is_cut tokens.is_cut in
-    let whole : IsWhole (kinds_of tokens.cut) = subst (λ (c : CutText). IsWhole (kinds_of c)) cuts parsed.is_file.whole in
+    let cuts : sound.cut ≡ tokens.cut = same_cut sound.cut tokens.cut (sound.of_text ∙ sym tokens.of_text) sound.is_cut tokens.is_cut in
+    let whole : IsWhole (kinds_of tokens.cut) = subst (λ (c : CutText). IsWhole (kinds_of c)) cuts sound.whole in
     true≢false (ap is_whole (one_verdict (kinds_of tokens.cut) Whole (Faulty tokens.fault_is.kind tokens.fault_is.left) whole tokens.fault_is.verdict)))
     faulty
+
+-- the text of a file that has a tree
+pub parsed_sound : (path text : List ℕ) (f : SourceFile) → IsParsed path text f → IsSound text
+parsed_sound path text f parsed = record { cut = f.cut; of_text = parsed.of_text; is_cut = parsed.is_file.is_cut; whole = parsed.is_file.whole }
+
+pub file_or_fault : (path text : List ℕ) (f : SourceFile) (fault : Fault) → IsParsed path text f → IsFaultOf text fault → ⊥
+file_or_fault path text f fault parsed faulty = sound_or_fault text fault (parsed_sound path text f parsed) faulty

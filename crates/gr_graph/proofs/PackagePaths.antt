@@ -18,7 +18,7 @@ use Rattle.gr_text.specs.Path.{folder}
 use Rattle.gr_text.specs.Workspace.{Workspace, path_cmp}
 use Rattle.gr_text.proofs.WorkspaceLaws.{path_cmp_total, path_cmp_exact}
 use Rattle.gr_graph.specs.Filling.{names}
-use Rattle.gr_graph.specs.Packages.{is_go, folders, package_paths}
+use Rattle.gr_text.specs.Packages.{is_go, folders, package_paths}
 
 T_true : (b : Bool) → T b → b ≡ true
 T_true true h = refl

@@ -1,8 +1,8 @@
 -- Small cases of the definitions. Three packages: the first two import each other, and the third imports the first.
 use Rattle.std.specs.Prelude.{◌≡◌, true, false, [], ◌∷◌, refl}
 use Rattle.std.proofs.Common.{lit<}
-use Rattle.gr_graph.specs.Packages.{is_go}
-use Rattle.gr_graph.specs.Filling.{files_in}
+use Rattle.gr_text.specs.Packages.{is_go}
+use Rattle.gr_text.specs.Packages.{files_in}
 use Rattle.gr_graph.specs.Imports.{Links, Imports, Reaches, itself, through, IsOnCycle, IsCycleOf}
 
 abbrev two_and_one : Links

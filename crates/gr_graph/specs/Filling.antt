@@ -1,12 +1,10 @@
 -- How packages are filled with their files.
-use Rattle.std.specs.Prelude.{◌≡◌, ℕ, List, [], ◌∷◌, ◌++◌, Some, slice_get, filter, map, ◌&&◌, ◌==◌}
+use Rattle.std.specs.Prelude.{◌≡◌, ℕ, List, [], ◌∷◌, ◌++◌, Some, slice_get, map}
 use Rattle.std.specs.Borrow.{Bor}
-use Rattle.std.specs.Cmp.Lexicographic.{pointwise}
 use Rattle.std.proofs.Math.ListN.{set}
-use Rattle.gr_text.specs.Path.{folder}
 use Rattle.gr_parse.specs.SourceFile.{FileParts}
 use Rattle.gr_graph.specs.FaultyFiles.{FaultyParts}
-use Rattle.gr_graph.specs.Packages.{is_go}
+use Rattle.gr_text.specs.Packages.{files_in}
 use Rattle.gr_graph.specs.Parsed.{AreParsed}
 use Rattle.gr_graph.specs.declared.package.Package.{Package}
 use Rattle.gr_graph.specs.declared.parsed.Parsed.{Parsed}
@@ -28,10 +26,6 @@ pub record AddsFile (number : ℕ) (file : Parsed) (old new : List Package) : Ty
   pub after : Package
   pub with_file : IsWithFile file before after
   pub new_is : new ≡ set old number after
-
--- the Go files of a folder among some files
-abbrev pub files_in : List ℕ → List (List ℕ × List ℕ) → List (List ℕ × List ℕ)
-files_in path files = filter (λ e. is_go e.0 && pointwise ◌==◌ (folder e.0) path) files
 
 -- with the files that are left, parsed, each package has all its files
 abbrev pub AreFilled : List (List ℕ × List ℕ) → List (List ℕ × List ℕ) → List Package → Type 0

@@ -4,7 +4,8 @@ use Rattle.std.specs.List.{Contains}
 use Rattle.std.specs.List.Sorted.{IsStrictlyIncreasing}
 use Rattle.gr_text.specs.Workspace.{Workspace}
 use Rattle.gr_graph.specs.Imports.{Links, imports_of}
-use Rattle.gr_graph.specs.Packages.{package_paths, package_files, AreLinksOf, PackageImports, IsInClosure}
+use Rattle.gr_text.specs.Packages.{package_paths, package_files}
+use Rattle.gr_graph.specs.Packages.{AreLinksOf, PackageImports, IsInClosure}
 use Rattle.gr_graph.specs.Parsed.{AreParsed}
 use Rattle.gr_graph.specs.declared.package.Package.{Package}
 

@@ -1,10 +1,8 @@
--- The packages of a workspace, and which import which.
-use Rattle.std.specs.Prelude.{◌≡◌, ℕ, ◌↔◌, ◌&&◌, ◌==◌, nat_eq, Bool, List, [], ◌∷◌, length, filter, map, Some, slice_get}
-use Rattle.std.specs.List.{Contains, ends_with}
-use Rattle.std.specs.FinMap as files
-use Rattle.std.specs.Cmp.Lexicographic.{pointwise}
-use Rattle.gr_text.specs.Path.{folder}
-use Rattle.gr_text.specs.Workspace.{Workspace, path_cmp}
+-- What the packages of a workspace import.
+use Rattle.std.specs.Prelude.{◌≡◌, ℕ, ◌↔◌, List, length, Some, slice_get}
+use Rattle.std.specs.List.{Contains}
+use Rattle.gr_text.specs.Packages.{package_paths, package_files}
+use Rattle.gr_text.specs.Workspace.{Workspace}
 use Rattle.gr_scan.specs.StringValues.{HasStringValue}
 use Rattle.gr_scan.specs.TokenValues.{IsStringClass}
 use Rattle.gr_scan.specs.declared.piece.Piece.{Piece}
@@ -13,22 +11,6 @@ use Rattle.gr_scan.specs.CutText.{tokens_in}
 use Rattle.gr_parse.specs.SourceFile.{SourceFile, IsSourceFile}
 use Rattle.gr_graph.specs.FileImports.{import_literals}
 use Rattle.gr_graph.specs.Imports.{Links, AreLinked, Imports}
-
--- whether the path ends in .go
-abbrev pub is_go : List ℕ → Bool
-is_go path = ends_with nat_eq path (46 ∷ 103 ∷ 111 ∷ [])
-
--- the folders of the .go files
-abbrev pub folders : Workspace → files.FinMap path_cmp (Unit {0})
-folders w = files.from_entries (map (λ path. (folder path, tt)) (filter is_go (files.keys w)))
-
--- the folders by their bytes: a package's number is its place here
-abbrev pub package_paths : Workspace → List (List ℕ)
-package_paths w = files.keys (folders w)
-
--- the files of a package, by path
-abbrev pub package_files : Workspace → List ℕ → List (List ℕ × List ℕ)
-package_files w path = filter (λ e. is_go e.0 && pointwise ◌==◌ (folder e.0) path) (files.entries w)
 
 -- a file with a tree that has this path and text
 pub record IsParsed (path : List ℕ) (text : List ℕ) (file : SourceFile) : Type 0 where

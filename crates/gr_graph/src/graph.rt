@@ -4,7 +4,8 @@ ghost use Rattle.std.specs.List.{Contains};
 ghost use Rattle.std.specs.List.Sorted.{IsStrictlyIncreasing, IsStrictlySortedBy};
 ghost use Rattle.gr_text.specs.Workspace.{path_cmp};
 ghost use Rattle.gr_graph.specs.Imports.{imports_of};
-ghost use Rattle.gr_graph.specs.Packages.{package_paths, PackageImports, IsInClosure, AreLinksOf};
+ghost use Rattle.gr_text.specs.Packages.{package_paths};
+ghost use Rattle.gr_graph.specs.Packages.{PackageImports, IsInClosure, AreLinksOf};
 ghost use Rattle.gr_graph.specs.Graphs.{
   paths_of,
   IsPackage,
@@ -59,16 +60,16 @@ impl Model for Graph {
 
 impl Graph {
     /// Parses the Go files and finds which packages they import.
-    pub fn of(alloc: Global, files: &Files) -> Result<Graph, AllocError>
-        ensures { IfOk result (λ graph. graph ≡ files.now) }
+    pub fn of(alloc: Global, files: Files) -> Result<Graph, AllocError>
+        ensures { IfOk result (λ graph. graph ≡ files) }
     {
         let none = Vec::new(alloc);
         Graph::behind(alloc, &none, None, files)
     }
 
     /// The graph of other files. It parses only those that the graph before does not have with the same text.
-    pub fn after(alloc: Global, before: &Graph, files: &Files) -> Result<Graph, AllocError>
-        ensures { IfOk result (λ graph. graph ≡ files.now) }
+    pub fn after(alloc: Global, before: &Graph, files: Files) -> Result<Graph, AllocError>
+        ensures { IfOk result (λ graph. graph ≡ files) }
     {
         let before = &before.parts;
         Graph::behind(alloc, &before.packages, Some(&before.links), files)
@@ -80,14 +81,13 @@ impl Graph {
         alloc: Global,
         before: &[Package],
         links_before: Option<&SharedLinks>,
-        files: &Files,
+        files: Files,
     ) -> Result<Graph, AllocError>
         requires { IsStrictlySortedBy path_cmp (paths_of before.now) }
-        ensures { IfOk result (λ graph. graph ≡ files.now) }
+        ensures { IfOk result (λ graph. graph ≡ files) }
     {
-        let packages = packages(alloc, before, files)?;
+        let packages = packages(alloc, before, &files)?;
         let links = SharedLinks::of(alloc, links_before, rows(alloc, &packages)?)?;
-        let files = files.copy()?;
         let parts = Parts {
             files,
             packages,

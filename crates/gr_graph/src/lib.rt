@@ -23,4 +23,3 @@ pub use graph::Graph;
 pub use import_links::ImportLinks;
 pub use package::Package;
 pub use package_list::PackageList;
-pub use packages::is_go;

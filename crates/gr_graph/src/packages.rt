@@ -2,7 +2,7 @@
 ghost use Rattle.std.specs.Prelude.{◌≡◌, ◌<◌, ℕ, length, vec_len, IfOk, OnOk, Some, slice_get};
 ghost use Rattle.std.specs.List.Sorted.{IsStrictlySortedBy};
 ghost use Rattle.gr_text.specs.Workspace.{path_cmp};
-ghost use Rattle.gr_graph.specs.Packages.{is_go, package_paths, package_files};
+ghost use Rattle.gr_text.specs.Packages.{package_paths, package_files};
 ghost use Rattle.gr_graph.specs.Parsed.{AreParsed};
 ghost use Rattle.gr_graph.specs.Filling.{AddsFile, names};
 ghost use Rattle.gr_graph.specs.Graphs.{paths_of, IsEmpty};
@@ -12,16 +12,9 @@ ghost use Rattle.std.specs.List.{All};
 use crate::kept::parse_unless_kept;
 use crate::package::{Package, number_of};
 use crate::parsed::Parsed;
-use gr_text::{Files, Path};
+use gr_text::Files;
 use std::alloc::{AllocError, Global};
 use std::collections::BTreeSet;
-
-/// Whether the path is that of a Go file.
-pub fn is_go(path: &Path) -> bool
-    ensures { result ≡ is_go path.now }
-{
-    path.as_str().as_bytes().ends_with(b".go".as_slice())
-}
 
 /// Packages at some folders, with no file yet.
 fn packages_at(alloc: Global, folders: &BTreeSet<&[u8]>) -> Result<Vec<Package>, AllocError>
@@ -47,7 +40,7 @@ fn empty_packages(alloc: Global, files: &Files) -> Result<Vec<Package>, AllocErr
 {
     let mut folders = BTreeSet::new(alloc);
     for (path, _) in files.iter() {
-        if is_go(path) {
+        if path.is_go() {
             folders.insert(path.folder())?;
         }
     }
@@ -83,7 +76,7 @@ pub(crate) fn packages(
 {
     let mut packages = empty_packages(alloc, files)?;
     for (path, text) in files.iter() {
-        if is_go(path) {
+        if path.is_go() {
             if let Some(number) = number_of(&packages, path.folder()) {
                 let file = parse_unless_kept(alloc, before, path, text)?;
                 add_file(&mut packages, number, file)?;

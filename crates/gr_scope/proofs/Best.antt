@@ -1,23 +1,23 @@
--- The walk to the declaration that precedes all others, from the last identifier of its name to the first.
-use Rattle.std.proofs.Common.{ℕ, ◌≡◌, ◌<◌, ◌≤◌, ◌⊎◌, inl, inr, List, [], ◌∷◌, length, get_or, Option, Some, None, refl, sym, subst, arith, zero, suc}
-use Rattle.std.specs.Prelude.{MatchOption}
+-- The walk to the declaration that precedes all others, from the last identifier of its name in a region to the first.
+use Rattle.std.proofs.Common.{ℕ, ◌≡◌, ◌<◌, ◌≤◌, ◌⊎◌, inl, inr, List, [], ◌∷◌, length, get_or, Option, Some, None, refl, sym, ap, subst, arith, zero, suc}
 use Rattle.gr_scope.specs.declared.model.Identifier.{Identifier}
-use Rattle.gr_scope.specs.Bindings.{Layout, Names, MayDeclare, BindsAt}
-use Rattle.gr_scope.specs.WellFormed.{WellFormed}
-use Rattle.gr_scope.specs.Table.{layout_of, names_of, IsCandidate, TakesOver}
+use Rattle.gr_scope.specs.declared.region.Region.{Region}
+use Rattle.gr_scope.specs.Bindings.{Layout, Names, MayDeclare, InScope, Declares}
+use Rattle.gr_scope.specs.Regions.{keys_of, region_at}
+use Rattle.gr_scope.specs.Table.{layout_of, names_of, IsCandidate, IsNearest, Precedes, TakesOver}
 use Rattle.std.specs.Option.{ForSome}
 use Rattle.std.proofs.lemmas.Bool.{cases_order}
 use Rattle.gr_scope.specs.Chains.{IsLinked, IsChain, IsLeft}
 use Rattle.gr_scope.proofs.Chains.{IsKnown, chain_left, walk_left, walk_before}
 use Rattle.gr_scope.proofs.Nesting.{Nested}
-use Rattle.gr_scope.proofs.Innermost.{Precedes, precedes_trans, precedes_asym, same_not_nests, bound_of_first}
-use Rattle.gr_scope.proofs.Nests.{nests}
+use Rattle.gr_scope.proofs.Innermost.{precedes_trans, precedes_asym, same_not_nests}
+use Rattle.gr_scope.proofs.KeptRegions.{pair, pair_same}
 use Rattle.gr_scope.proofs.Uniqueness.{same_or_not}
 
 -- the best of the candidates that are not left
-abbrev pub BestSoFar : Layout → Names → List ℕ → ℕ → Option ℕ → Option ℕ → Type 0
-BestSoFar l names name u at None = (d : ℕ) → IsCandidate l names name u d → IsLeft at d
-BestSoFar l names name u at (Some b) = (IsLeft at b → ⊥) × IsCandidate l names name u b × ((d : ℕ) → IsCandidate l names name u d → IsLeft at d ⊎ ((d ≡ b) ⊎ Precedes l b d))
+abbrev pub BestSoFar : Layout → Names → List ℕ → (Region → Type 0) → ℕ → Option ℕ → Option ℕ → Type 0
+BestSoFar l names name R u at None = (d : ℕ) → IsCandidate l names name R u d → IsLeft at d
+BestSoFar l names name R u at (Some b) = (IsLeft at b → ⊥) × IsCandidate l names name R u b × ((d : ℕ) → IsCandidate l names name R u d → IsLeft at d ⊎ ((d ≡ b) ⊎ Precedes l b d))
 
 pub may_in_range : (xs : List Identifier) (d : ℕ) → MayDeclare (layout_of xs) d → d < length xs
 may_in_range [] d m = cc
@@ -25,8 +25,8 @@ may_in_range (x ∷ xs) zero m = omega arith
 may_in_range (x ∷ xs) (suc d) m = let less : d < length xs = may_in_range xs d m in omega arith
 
 -- the candidates that are left at d, without d
-abbrev Behind : Layout → Names → List ℕ → ℕ → ℕ → Option ℕ → Type 0
-Behind l names name u d next = (e : ℕ) → IsCandidate l names name u e → e ≤ d → (e ≡ d → ⊥) → IsLeft next e
+abbrev Behind : Layout → Names → List ℕ → (Region → Type 0) → ℕ → ℕ → Option ℕ → Type 0
+Behind l names name R u d next = (e : ℕ) → IsCandidate l names name R u e → e ≤ d → (e ≡ d → ⊥) → IsLeft next e
 
 not_left : (d : ℕ) (next : Option ℕ) → ForSome next (λ e. e < d) → IsLeft next d → ⊥
 not_left d None h k = k
@@ -36,14 +36,14 @@ not_left_later : (d b : ℕ) (next : Option ℕ) → ForSome next (λ e. e < d) 
 not_left_later d b None h later k = k
 not_left_later d b (Some e) h later k = let less : e < d = h e refl in later (omega (arith, less, k))
 
-best_takes : (l : Layout) → Nested l → (names : Names) (name : List ℕ) (u d : ℕ) (next best : Option ℕ) → ForSome next (λ e. e < d) → Behind l names name u d next →
-    BestSoFar l names name u (Some d) best → IsCandidate l names name u d → TakesOver l best d → BestSoFar l names name u next (Some d)
-best_takes l nested names name u d next None lower behind h c t = (
+best_takes : (l : Layout) → Nested l → (names : Names) (name : List ℕ) (R : Region → Type 0) (u d : ℕ) (next best : Option ℕ) → ForSome next (λ e. e < d) → Behind l names name R u d next →
+    BestSoFar l names name R u (Some d) best → IsCandidate l names name R u d → TakesOver l best d → BestSoFar l names name R u next (Some d)
+best_takes l nested names name R u d next None lower behind h c t = (
   not_left d next lower,
   c,
   λ e ce. elim (same_or_not e d) [ inl same ↦ inr (inl same) | inr other ↦ inl (behind e ce (h e ce) other) ],
 )
-best_takes l nested names name u d next (Some b) lower behind h c t =
+best_takes l nested names name R u d next (Some b) lower behind h c t =
     let over : Precedes l d b = elim (nested.comparable d b u c.2.may h.1.2.may c.1 h.1.1) [
       | inl same ↦ inl (
         same,
@@ -65,21 +65,21 @@ best_takes l nested names name u d next (Some b) lower behind h c t =
       ],
     )
 
-best_stays : (l : Layout) → Nested l → (names : Names) (name : List ℕ) (u d : ℕ) (next best : Option ℕ) → ForSome next (λ e. e < d) → Behind l names name u d next →
-    BestSoFar l names name u (Some d) best → (IsCandidate l names name u d → TakesOver l best d → ⊥) → BestSoFar l names name u next best
-best_stays l nested names name u d next None lower behind h never = λ e ce. elim (same_or_not e d) [
-  | inl same ↦ (let P : ℕ → Type 0 = λ v. IsCandidate l names name u v in absurd (never (subst P same ce) tt))
+best_stays : (l : Layout) → Nested l → (names : Names) (name : List ℕ) (R : Region → Type 0) (u d : ℕ) (next best : Option ℕ) → ForSome next (λ e. e < d) → Behind l names name R u d next →
+    BestSoFar l names name R u (Some d) best → (IsCandidate l names name R u d → TakesOver l best d → ⊥) → BestSoFar l names name R u next best
+best_stays l nested names name R u d next None lower behind h never = λ e ce. elim (same_or_not e d) [
+  | inl same ↦ (let P : ℕ → Type 0 = λ v. IsCandidate l names name R u v in absurd (never (subst P same ce) tt))
   | inr other ↦ behind e ce (h e ce) other
 ]
-best_stays l nested names name u d next (Some b) lower behind h never = (
+best_stays l nested names name R u d next (Some b) lower behind h never = (
   not_left_later d b next lower h.0,
   h.1,
   λ e ce. elim (h.2 e ce) [
     | inl left ↦ elim (same_or_not e d) [
       | inl same ↦
-          let P : ℕ → Type 0 = λ v. IsCandidate l names name u v in
+          let P : ℕ → Type 0 = λ v. IsCandidate l names name R u v in
           let Q : ℕ → Type 0 = λ v. (v ≡ b) ⊎ Precedes l b v in
-          let cd : IsCandidate l names name u d = subst P same ce in
+          let cd : IsCandidate l names name R u d = subst P same ce in
           inr (subst Q (sym same) (elim (nested.comparable b d u h.1.2.may cd.2.may h.1.1 cd.1) [
             | inl s ↦ absurd (never cd (λ n. same_not_nests l b d s n))
             | inr o ↦ elim o [
@@ -93,43 +93,47 @@ best_stays l nested names name u d next (Some b) lower behind h never = (
   ],
 )
 
-best_binds : (xs : List Identifier) → WellFormed (layout_of xs) → (name : List ℕ) → (u b : ℕ) → BestSoFar (layout_of xs) (names_of xs) name u None (Some b) →
-    BindsAt (layout_of xs) (names_of xs) name u b
-best_binds xs w name u b h = bound_of_first (layout_of xs) (nests (layout_of xs) w) (names_of xs) name u b (record {
-  declares = h.1.2;
-  named = h.1.0;
-  in_scope = h.1.1;
-  precedes = λ e de ne he. elim (h.2 e (ne, he, de)) [ inl left ↦ absurd left | inr o ↦ o ];
-})
+pub best_start : (xs : List Identifier) (name : List ℕ) (region : Region) (u : ℕ) (last : Option ℕ) (previous : List (Option ℕ)) →
+    IsChain (layout_of xs) (keys_of (layout_of xs) (names_of xs)) (length xs) (pair name region) last previous →
+    BestSoFar (layout_of xs) (names_of xs) name (λ r. r ≡ region) u last None
+best_start xs name region u last previous h = λ d c.
+    chain_left (layout_of xs) (keys_of (layout_of xs) (names_of xs)) (length xs) (pair name region) last previous h d
+    (c.2.may, pair_same (names_of xs d) name (region_at (layout_of xs) d) region c.0 c.3) (may_in_range xs d c.2.may)
 
-pub best_start : (xs : List Identifier) (name : List ℕ) (u : ℕ) (last : Option ℕ) (previous : List (Option ℕ)) → IsChain (layout_of xs) (names_of xs) (length xs) name last previous →
-    BestSoFar (layout_of xs) (names_of xs) name u last None
-best_start xs name u last previous h = λ d c. chain_left (layout_of xs) (names_of xs) (length xs) name last previous h d (c.2.may, c.0) (may_in_range xs d c.2.may)
-
-pub best_next : (l : Layout) → Nested l → (names : Names) (name : List ℕ) (u d n : ℕ) (previous : List (Option ℕ)) (at next x best then : Option ℕ) → IsLinked l names n previous →
-    at ≡ Some d → next ≡ get_or previous d x → IsKnown l names name n at → BestSoFar l names name u at best →
-    ((IsCandidate l names name u d × TakesOver l best d) × (then ≡ Some d)) ⊎ ((IsCandidate l names name u d × TakesOver l best d → ⊥) × (then ≡ best)) →
-    BestSoFar l names name u next then
-best_next l nested names name u d n previous at next x best then linked is en known h c =
-    let lower = walk_before l names n name previous at next x d linked is en known in
-    let behind : Behind l names name u d next = λ e ce le other. walk_left l names n name previous at next x d linked is en known e (ce.2.may, ce.0) (let Q : Option ℕ → Type 0 = λ a. IsLeft a e in subst Q (sym is) le) other in
-    let B : Option ℕ → Type 0 = λ a. BestSoFar l names name u a best in
-    let here : BestSoFar l names name u (Some d) best = subst B is h in
-    let P : Option ℕ → Type 0 = λ v. BestSoFar l names name u next v in
+pub best_next : (l : Layout) → Nested l → (names : Names) (name : List ℕ) (region : Region) (u d n : ℕ) (previous : List (Option ℕ)) (at next x best then : Option ℕ) →
+    IsLinked l (keys_of l names) n previous → at ≡ Some d → next ≡ get_or previous d x → IsKnown l (keys_of l names) (pair name region) n at →
+    BestSoFar l names name (λ r. r ≡ region) u at best →
+    (((InScope l d u × Declares l names d) × TakesOver l best d) × (then ≡ Some d)) ⊎ (((InScope l d u × Declares l names d) × TakesOver l best d → ⊥) × (then ≡ best)) →
+    BestSoFar l names name (λ r. r ≡ region) u next then
+best_next l nested names name region u d n previous at next x best then linked is en known h c =
+    let R : Region → Type 0 = λ r. r ≡ region in
+    let keys = keys_of l names in
+    let key = pair name region in
+    let here_known = (known d is).1.1 in
+    let lower = walk_before l keys n key previous at next x d linked is en known in
+    let behind : Behind l names name R u d next = λ e ce le other.
+    walk_left l keys n key previous at next x d linked is en known e (ce.2.may, pair_same (names e) name (region_at l e) region ce.0 ce.3)
+    (let Q : Option ℕ → Type 0 = λ a. IsLeft a e in subst Q (sym is) le) other in
+    let B : Option ℕ → Type 0 = λ a. BestSoFar l names name R u a best in
+    let here : BestSoFar l names name R u (Some d) best = subst B is h in
+    let P : Option ℕ → Type 0 = λ v. BestSoFar l names name R u next v in
     elim c [
-      | inl y ↦ subst P (sym y.1) (best_takes l nested names name u d next best lower behind here y.0.0 y.0.1)
-      | inr y ↦ subst P (sym y.1) (best_stays l nested names name u d next best lower behind here (λ a b. y.0 (a, b)))
+      | inl y ↦ subst P (sym y.1) (best_takes l nested names name R u d next best lower behind here
+          (ap (λ k. k.0) here_known, y.0.0.0, y.0.0.1, ap (λ k. k.1) here_known) y.0.1)
+      | inr y ↦ subst P (sym y.1) (best_stays l nested names name R u d next best lower behind here (λ a b. y.0 ((a.1, a.2), b)))
     ]
 
 -- the best so far is one of the identifiers
-pub best_known : (xs : List Identifier) (name : List ℕ) (u : ℕ) (at best : Option ℕ) → BestSoFar (layout_of xs) (names_of xs) name u at best → ForSome best (λ b. b < length xs)
-best_known xs name u at None h = λ x e. cc
-best_known xs name u at (Some b) h = λ x e.
+pub best_known : (xs : List Identifier) (name : List ℕ) (R : Region → Type 0) (u : ℕ) (at best : Option ℕ) → BestSoFar (layout_of xs) (names_of xs) name R u at best →
+    ForSome best (λ b. b < length xs)
+best_known xs name R u at None h = λ x e. cc
+best_known xs name R u at (Some b) h = λ x e.
     let same : b ≡ x = cc in
     let P : ℕ → Type 0 = λ v. v < length xs in
     subst P same (may_in_range xs b h.1.2.may)
 
-pub best_result : (xs : List Identifier) → WellFormed (layout_of xs) → (name : List ℕ) → (u : ℕ) → (best : Option ℕ) → BestSoFar (layout_of xs) (names_of xs) name u None best →
-    MatchOption best ((d : ℕ) → BindsAt (layout_of xs) (names_of xs) name u d → ⊥) (λ d. BindsAt (layout_of xs) (names_of xs) name u d)
-best_result xs w name u None h = λ d b. h d (b.named, b.in_scope, b.counts.declares)
-best_result xs w name u (Some b) h = best_binds xs w name u b h
+-- at the end it is the best of all
+pub best_nearest : (l : Layout) (names : Names) (name : List ℕ) (R : Region → Type 0) (u : ℕ) (best : Option ℕ) → BestSoFar l names name R u None best →
+    IsNearest l (IsCandidate l names name R u) best
+best_nearest l names name R u None h = h
+best_nearest l names name R u (Some b) h = (h.1, λ d c. elim (h.2 d c) [ inl left ↦ absurd left | inr o ↦ o ])

@@ -1,15 +1,12 @@
 -- A name is bound to the one declaration that precedes all others in a linear order.
-use Rattle.std.proofs.Common.{ℕ, ◌≡◌, ◌<◌, ◌⊎◌, inl, inr, List, sym, ◌∙◌, subst, arith}
+use Rattle.std.proofs.Common.{ℕ, ◌≡◌, ◌⊎◌, inl, inr, List, sym, ◌∙◌, subst, arith}
 use Rattle.std.proofs.lemmas.Bool.{cases_order}
 use Rattle.gr_scope.specs.declared.model.Block.{Block}
 use Rattle.gr_scope.specs.declared.model.Block.TheVariants.{Package, File}
 use Rattle.gr_scope.specs.Bindings.{Layout, Names, MayDeclare, SameBlock, InScope, Declares, IsPackageLevel, IsImport, Displaces, Counts, AllCount, BindsAt, block_of}
 use Rattle.gr_scope.proofs.Nesting.{NestsAt, nests_not, Nested}
 use Rattle.gr_scope.specs.Scopes.{Nests}
-
--- of two declarations of a name whose scopes hold a use, the first takes the use
-abbrev pub Precedes : Layout → ℕ → ℕ → Type 0
-Precedes l a b = (SameBlock l a b × (a < b)) ⊎ NestsAt l a b
+use Rattle.gr_scope.specs.Table.{Precedes}
 
 -- d is the declaration of a name that precedes all others whose scopes hold u
 pub record IsFirstAt (l : Layout) (names : Names) (name : List ℕ) (u d : ℕ) : Type 0 where

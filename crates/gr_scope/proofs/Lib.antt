@@ -3,9 +3,11 @@ pub mod Nesting
 pub mod Innermost
 pub mod Uniqueness
 pub mod Nests
+pub mod KeptRegions
 pub mod Chains
 pub mod Linking
 pub mod Best
+pub mod Combining
 pub mod Alike
 pub mod Moved
 pub mod Regions

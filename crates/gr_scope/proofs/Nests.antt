@@ -70,11 +70,11 @@ compare_blocks Universe Package p n x y = inr (inr tt)
 compare_blocks Universe Universe p n x y = inl refl
 
 -- a scope lies in its block
-abbrev Starts : Block → ℕ → Type 0
+abbrev pub Starts : Block → ℕ → Type 0
 Starts (Inner f a b) s = (a ≤ s) × (s ≤ b)
 Starts _ s = Unit {0}
 
-starts_at : (l : Layout) → WellFormed l → (d : ℕ) → MayDeclare l d → (B : Block) → IsIn l d B → Starts B (start_of (l.role d))
+pub starts_at : (l : Layout) → WellFormed l → (d : ℕ) → MayDeclare l d → (B : Block) → IsIn l d B → Starts B (start_of (l.role d))
 starts_at l w d md (Inner f a b) h = w.starts d f a b md h
 starts_at l w d md _ h = tt
 

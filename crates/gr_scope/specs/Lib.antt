@@ -12,5 +12,6 @@ pub mod Trees
 pub mod Found
 pub mod Parsed
 pub mod Scoped
+pub mod Regions
 pub mod Chains
 pub mod Named

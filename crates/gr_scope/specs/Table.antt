@@ -1,10 +1,12 @@
 -- A list of identifiers as a layout with names.
-use Rattle.std.specs.Prelude.{ℕ, List, [], ◌≡◌, ◌<◌, Option, Some, None, slice_get}
+use Rattle.std.specs.Prelude.{ℕ, List, [], ◌≡◌, ◌<◌, ◌⊎◌, Option, Some, None, slice_get}
 use Rattle.gr_scope.specs.declared.model.Position.{Position}
 use Rattle.gr_scope.specs.declared.model.Role.{Role}
 use Rattle.gr_scope.specs.declared.model.Role.TheVariants.{NotLexical}
 use Rattle.gr_scope.specs.declared.model.Purpose.TheVariants.{Blank}
 use Rattle.gr_scope.specs.declared.model.Identifier.{Identifier}
+use Rattle.gr_scope.specs.declared.region.Region.{Region}
+use Rattle.gr_scope.specs.Regions.{region_at}
 use Rattle.gr_scope.specs.Scopes.{Nests}
 use Rattle.gr_scope.specs.Bindings.{Layout, Names, MayDeclare, SameBlock, InScope, Declares, Displaces, IsIdentifier, block_of}
 
@@ -34,14 +36,28 @@ Blocks l names e d = MayDeclare l e × SameBlock l e d × (names e ≡ names d) 
 abbrev pub IsNew : Layout → Names → ℕ → Type 0
 IsNew l names d = (e : ℕ) → Blocks l names e d → ⊥
 
--- d declares the name and its scope holds u
-abbrev pub IsCandidate : Layout → Names → List ℕ → ℕ → ℕ → Type 0
-IsCandidate l names name u d = (names d ≡ name) × InScope l d u × Declares l names d
+-- d declares the name, its scope holds u, and it is kept in such a region
+abbrev pub IsCandidate : Layout → Names → List ℕ → (Region → Type 0) → ℕ → ℕ → Type 0
+IsCandidate l names name R u d = (names d ≡ name) × InScope l d u × Declares l names d × R (region_at l d)
 
--- the block of the declaration at hand does not lie in that of d, which stands before it
+-- the block of the declaration at hand does not lie in that of d
 abbrev pub TakesOver : Layout → Option ℕ → ℕ → Type 0
 TakesOver l None d = Unit {0}
 TakesOver l (Some b) d = Nests (block_of (l.role b)) (block_of (l.role d)) → ⊥
+
+-- of two declarations of a name whose scopes hold a use, the first takes the use
+abbrev pub Precedes : Layout → ℕ → ℕ → Type 0
+Precedes l a b = (SameBlock l a b × (a < b)) ⊎ Nests (block_of (l.role a)) (block_of (l.role b))
+
+-- the one of such declarations that precedes the others, or none
+abbrev pub IsNearest : Layout → (ℕ → Type 0) → Option ℕ → Type 0
+IsNearest l P None = (d : ℕ) → P d → ⊥
+IsNearest l P (Some b) = P b × ((d : ℕ) → P d → (d ≡ b) ⊎ Precedes l b d)
+
+-- the second declaration where it takes over from the first, and else the first
+abbrev pub IsNearer : Layout → Option ℕ → Option ℕ → Option ℕ → Type 0
+IsNearer l first None result = result ≡ first
+IsNearer l first (Some d) result = (TakesOver l first d × (result ≡ Some d)) ⊎ ((TakesOver l first d → ⊥) × (result ≡ first))
 
 -- e is a declaration of d's name, and d does not count beside it
 abbrev pub IsDisplacer : Layout → Names → ℕ → ℕ → Type 0
@@ -49,6 +65,10 @@ IsDisplacer l names d e = Declares l names e × (names e ≡ names d) × Displac
 
 abbrev pub IsDisplacedByNone : Layout → Names → ℕ → Type 0
 IsDisplacedByNone l names d = (e : ℕ) → IsDisplacer l names d e → ⊥
+
+-- the same of the declarations that are kept in a region
+abbrev pub IsDisplacedByNoneIn : Layout → Names → Region → ℕ → Type 0
+IsDisplacedByNoneIn l names region d = (e : ℕ) → region_at l e ≡ region → IsDisplacer l names d e → ⊥
 
 abbrev pub StandsAt : Layout → Position → ℕ → Type 0
 StandsAt l place u = IsIdentifier l u × ((l.place u).file ≡ place.file) × ((l.place u).index ≡ place.index)

@@ -1,13 +1,15 @@
 //! Which declarations count, and to which an identifier is bound.
 ghost use Rattle.std.specs.Prelude.{ℕ, ◌≡◌, ◌<◌, ◌↔◌, length, IsTrue, MatchOption};
 ghost use Rattle.gr_scope.specs.Bindings.{Displaces, Declares, Counts, IsUse, IsBoundTo, IsPackageLevel, IsImport, is_use, is_implied, scope_of};
-ghost use Rattle.gr_scope.specs.Chains.{IsChain};
+ghost use Rattle.gr_scope.specs.Chains.{AreLinks};
 ghost use Rattle.gr_scope.specs.WellFormed.{WellFormed};
-ghost use Rattle.gr_scope.specs.Table.{layout_of, names_of, IsDisplacer, IsDisplacedByNone};
+ghost use Rattle.gr_scope.specs.Table.{layout_of, names_of, IsDisplacer, IsDisplacedByNone, IsDisplacedByNoneIn};
 
-use crate::links::Chain;
+use crate::links::{Key, Links};
 use crate::model::{Block, Identifier, Role, Scope};
-use crate::resolve::{binding, declares, name_at, role_at};
+use crate::nearest::binding;
+use crate::region::Region;
+use crate::resolve::{declares, name_at, role_at};
 
 impl Role {
     pub(crate) fn is_use(self) -> bool
@@ -67,26 +69,33 @@ pub(crate) fn displaces(identifiers: &[Identifier], d: usize, e: usize) -> bool
         || is_pair(identifiers, d, e)
 }
 
-/// Whether e, which has d's name, is a declaration beside which d does not count. The chain is that of their name.
-fn is_displacer(identifiers: &[Identifier], chain: Chain<'_>, d: usize, e: usize) -> bool
+/// Whether e, which has d's name, is a declaration beside which d does not count.
+fn is_displacer<'a>(identifiers: &[Identifier<'a>], links: &Links<'a>, d: usize, e: usize) -> bool
     requires first { d < length identifiers.now }
     requires second { e < length identifiers.now }
     requires same { names_of identifiers.now e ≡ names_of identifiers.now d }
-    requires chain { IsChain (layout_of identifiers.now) (names_of identifiers.now) (length identifiers.now) (names_of identifiers.now e) chain.last chain.previous.now }
+    requires linked { AreLinks (layout_of identifiers.now) (names_of identifiers.now) (length identifiers.now) links.now.last links.now.previous.items }
     ensures { IsTrue result ↔ IsDisplacer (layout_of identifiers.now) (names_of identifiers.now) d e }
 {
-    displaces(identifiers, e, d) && declares(identifiers, chain, e)
+    displaces(identifiers, e, d) && declares(identifiers, links, e)
 }
 
-/// Whether no declaration of d's name stands before it in its block, or in the package's if d is an import.
-fn is_displaced_by_none(identifiers: &[Identifier], chain: Chain<'_>, d: usize) -> bool
+/// Whether d counts beside all declarations of its name that are kept in a region.
+fn is_displaced_by_none_in<'a>(
+    identifiers: &[Identifier<'a>],
+    links: &Links<'a>,
+    region: Region,
+    d: usize,
+) -> bool
     requires in_range { d < length identifiers.now }
-    requires chain { IsChain (layout_of identifiers.now) (names_of identifiers.now) (length identifiers.now) (names_of identifiers.now d) chain.last chain.previous.now }
-    ensures { IsTrue result ↔ IsDisplacedByNone (layout_of identifiers.now) (names_of identifiers.now) d }
+    requires linked { AreLinks (layout_of identifiers.now) (names_of identifiers.now) (length identifiers.now) links.now.last links.now.previous.items }
+    ensures { IsTrue result ↔ IsDisplacedByNoneIn (layout_of identifiers.now) (names_of identifiers.now) region d }
 {
+    let name = name_at(identifiers, d);
+    let chain = links.chain(Key { name, region });
     let mut at = chain.last;
     while let Some(e) = at {
-        if is_displacer(identifiers, chain, d, e) {
+        if is_displacer(identifiers, links, d, e) {
             return false;
         }
         at = chain.previous[e];
@@ -94,37 +103,52 @@ fn is_displaced_by_none(identifiers: &[Identifier], chain: Chain<'_>, d: usize) 
     true
 }
 
-/// Whether an identifier is a declaration that counts. The chain is that of its name.
-pub(crate) fn counts(identifiers: &[Identifier], chain: Chain<'_>, d: usize) -> bool
+/// Whether no declaration of d's name stands before it in its block, or in the package's if d is an import.
+fn is_displaced_by_none<'a>(identifiers: &[Identifier<'a>], links: &Links<'a>, d: usize) -> bool
     requires in_range { d < length identifiers.now }
-    requires chain { IsChain (layout_of identifiers.now) (names_of identifiers.now) (length identifiers.now) (names_of identifiers.now d) chain.last chain.previous.now }
-    ensures { IsTrue result ↔ Counts (layout_of identifiers.now) (names_of identifiers.now) d }
+    requires linked { AreLinks (layout_of identifiers.now) (names_of identifiers.now) (length identifiers.now) links.now.last links.now.previous.items }
+    ensures { IsTrue result ↔ IsDisplacedByNone (layout_of identifiers.now) (names_of identifiers.now) d }
 {
-    declares(identifiers, chain, d) && is_displaced_by_none(identifiers, chain, d)
+    let region = role_at(identifiers, d).block().region();
+    is_displaced_by_none_in(identifiers, links, region, d)
+        && is_displaced_by_none_in(identifiers, links, Region::Package, d)
 }
 
-/// Whether an identifier is a lexical use. The chain is that of its name.
-pub(crate) fn is_use(identifiers: &[Identifier], chain: Chain<'_>, d: usize) -> bool
+/// Whether an identifier is a declaration that counts.
+pub(crate) fn counts<'a>(identifiers: &[Identifier<'a>], links: &Links<'a>, d: usize) -> bool
     requires in_range { d < length identifiers.now }
-    requires chain { IsChain (layout_of identifiers.now) (names_of identifiers.now) (length identifiers.now) (names_of identifiers.now d) chain.last chain.previous.now }
+    requires linked { AreLinks (layout_of identifiers.now) (names_of identifiers.now) (length identifiers.now) links.now.last links.now.previous.items }
+    ensures { IsTrue result ↔ Counts (layout_of identifiers.now) (names_of identifiers.now) d }
+{
+    declares(identifiers, links, d) && is_displaced_by_none(identifiers, links, d)
+}
+
+/// Whether an identifier is a lexical use.
+pub(crate) fn is_use<'a>(identifiers: &[Identifier<'a>], links: &Links<'a>, d: usize) -> bool
+    requires in_range { d < length identifiers.now }
+    requires linked { AreLinks (layout_of identifiers.now) (names_of identifiers.now) (length identifiers.now) links.now.last links.now.previous.items }
     ensures { IsTrue result ↔ IsUse (layout_of identifiers.now) (names_of identifiers.now) d }
 {
     let role = role_at(identifiers, d);
-    role.is_use() || (role.is_left_name() && !declares(identifiers, chain, d))
+    role.is_use() || (role.is_left_name() && !declares(identifiers, links, d))
 }
 
-/// The declaration to which an identifier is bound. The chain is that of its name.
-pub(crate) fn bound_to(identifiers: &[Identifier], chain: Chain<'_>, d: usize) -> Option<usize>
+/// The declaration to which an identifier is bound.
+pub(crate) fn bound_to<'a>(
+    identifiers: &[Identifier<'a>],
+    links: &Links<'a>,
+    d: usize,
+) -> Option<usize>
     requires in_range { d < length identifiers.now }
     requires well_formed { WellFormed (layout_of identifiers.now) }
-    requires chain { IsChain (layout_of identifiers.now) (names_of identifiers.now) (length identifiers.now) (names_of identifiers.now d) chain.last chain.previous.now }
+    requires linked { AreLinks (layout_of identifiers.now) (names_of identifiers.now) (length identifiers.now) links.now.last links.now.previous.items }
     ensures { let l = layout_of identifiers.now in
         let names = names_of identifiers.now in
         MatchOption result ((e : ℕ) → IsBoundTo l names d e → ⊥) (λ e. IsBoundTo l names d e) }
 {
-    if is_use(identifiers, chain, d) {
-        binding(identifiers, chain, name_at(identifiers, d), d)
-    } else if counts(identifiers, chain, d) {
+    if is_use(identifiers, links, d) {
+        binding(identifiers, links, name_at(identifiers, d), d)
+    } else if counts(identifiers, links, d) {
         Some(d)
     } else {
         None

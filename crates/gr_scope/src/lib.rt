@@ -9,6 +9,8 @@ pub mod law;
 mod links;
 pub mod model;
 pub mod named;
+mod nearest;
+mod region;
 mod resolve;
 mod simple;
 mod source;

@@ -1,16 +1,14 @@
-//! The declaration to which a use is bound.
+//! Roles, blocks and scopes of identifiers, and which identifiers declare.
 
-ghost use Rattle.std.specs.Prelude.{ℕ, ◌≡◌, ◌<◌, ◌↔◌, length, IsTrue, MatchOption};
-ghost use Rattle.std.specs.Option.{ForSome};
-ghost use Rattle.gr_scope.specs.Chains.{IsChain};
-ghost use Rattle.gr_scope.specs.WellFormed.{WellFormed};
-ghost use Rattle.gr_scope.specs.Table.{Blocks, IsNew, IsCandidate, TakesOver};
+ghost use Rattle.std.specs.Prelude.{◌≡◌, ◌<◌, ◌↔◌, length, IsTrue};
+ghost use Rattle.gr_scope.specs.Chains.{AreLinks};
+ghost use Rattle.gr_scope.specs.Table.{Blocks, IsNew};
 ghost use Rattle.gr_scope.specs.Scopes.{Holds, Nests};
-ghost use Rattle.gr_scope.specs.Bindings.{may_declare, block_of, start_of, is_left_name, Declares, BindsAt};
+ghost use Rattle.gr_scope.specs.Bindings.{may_declare, block_of, start_of, is_left_name, Declares};
 ghost use Rattle.gr_scope.specs.Scopes.{scope_in};
 ghost use Rattle.gr_scope.specs.Table.{layout_of, names_of};
 
-use crate::links::Chain;
+use crate::links::{Links, key_at};
 use crate::model::{Block, Identifier, Position, Role, Scope};
 
 impl Role {
@@ -133,11 +131,12 @@ pub(crate) fn same_name(identifiers: &[Identifier], d: usize, e: usize) -> bool
 }
 
 /// Whether a left name of `:=` lies in no scope of a name of its own in the same block.
-pub(crate) fn is_new(identifiers: &[Identifier], chain: Chain<'_>, d: usize) -> bool
+fn is_new<'a>(identifiers: &[Identifier<'a>], links: &Links<'a>, d: usize) -> bool
     requires in_range { d < length identifiers.now }
-    requires chain { IsChain (layout_of identifiers.now) (names_of identifiers.now) (length identifiers.now) (names_of identifiers.now d) chain.last chain.previous.now }
+    requires linked { AreLinks (layout_of identifiers.now) (names_of identifiers.now) (length identifiers.now) links.now.last links.now.previous.items }
     ensures { IsTrue result ↔ IsNew (layout_of identifiers.now) (names_of identifiers.now) d }
 {
+    let chain = links.chain(key_at(identifiers, d));
     let mut at = chain.last;
     while let Some(e) = at {
         if blocks(identifiers, e, d) {
@@ -161,90 +160,12 @@ fn blocks(identifiers: &[Identifier], e: usize, d: usize) -> bool
         && Scope::in_block(role.block(), role.start()).holds(place_at(identifiers, d))
 }
 
-/// Whether an identifier declares. The chain is that of its name.
-pub(crate) fn declares(identifiers: &[Identifier], chain: Chain<'_>, d: usize) -> bool
+/// Whether an identifier declares.
+pub(crate) fn declares<'a>(identifiers: &[Identifier<'a>], links: &Links<'a>, d: usize) -> bool
     requires in_range { d < length identifiers.now }
-    requires chain { IsChain (layout_of identifiers.now) (names_of identifiers.now) (length identifiers.now) (names_of identifiers.now d) chain.last chain.previous.now }
+    requires linked { AreLinks (layout_of identifiers.now) (names_of identifiers.now) (length identifiers.now) links.now.last links.now.previous.items }
     ensures { IsTrue result ↔ Declares (layout_of identifiers.now) (names_of identifiers.now) d }
 {
     let role = role_at(identifiers, d);
-    role.may_declare() && (!role.is_left_name() || is_new(identifiers, chain, d))
-}
-
-/// The declaration to which a name is bound at the place of u. The chain is that of the name.
-pub(crate) fn binding(
-    identifiers: &[Identifier],
-    chain: Chain<'_>,
-    name: &[u8],
-    u: usize,
-) -> Option<usize>
-    requires in_range { u < length identifiers.now }
-    requires well_formed { WellFormed (layout_of identifiers.now) }
-    requires chain { IsChain (layout_of identifiers.now) (names_of identifiers.now) (length identifiers.now) name.now chain.last chain.previous.now }
-    ensures { let l = layout_of identifiers.now in
-        let names = names_of identifiers.now in
-        MatchOption result ((d : ℕ) → BindsAt l names name.now u d → ⊥) (λ d. BindsAt l names name.now u d) }
-{
-    let mut best: Option<usize> = None;
-    let mut at = chain.last;
-    while let Some(d) = at {
-        if improves(identifiers, chain, name, u, best, d) {
-            best = Some(d);
-        }
-        at = chain.previous[d];
-    }
-    best
-}
-
-/// Whether d, which is of the name, is a candidate that takes over from the best so far.
-fn improves(
-    identifiers: &[Identifier],
-    chain: Chain<'_>,
-    name: &[u8],
-    u: usize,
-    best: Option<usize>,
-    d: usize,
-) -> bool
-    requires first { u < length identifiers.now }
-    requires second { d < length identifiers.now }
-    requires named { names_of identifiers.now d ≡ name.now }
-    requires chain { IsChain (layout_of identifiers.now) (names_of identifiers.now) (length identifiers.now) (names_of identifiers.now d) chain.last chain.previous.now }
-    requires known { ForSome best (λ b. b < length identifiers.now) }
-    ensures { let l = layout_of identifiers.now in
-        IsTrue result ↔ (IsCandidate l (names_of identifiers.now) name.now u d × TakesOver l best d) }
-{
-    is_candidate(identifiers, chain, name, u, d) && takes_over(identifiers, best, d)
-}
-
-/// Whether d, which is of the name, is a declaration whose scope holds the place of u.
-fn is_candidate(
-    identifiers: &[Identifier],
-    chain: Chain<'_>,
-    name: &[u8],
-    u: usize,
-    d: usize,
-) -> bool
-    requires first { u < length identifiers.now }
-    requires second { d < length identifiers.now }
-    requires named { names_of identifiers.now d ≡ name.now }
-    requires chain { IsChain (layout_of identifiers.now) (names_of identifiers.now) (length identifiers.now) (names_of identifiers.now d) chain.last chain.previous.now }
-    ensures { IsTrue result ↔ IsCandidate (layout_of identifiers.now) (names_of identifiers.now) name.now u d }
-{
-    let role = role_at(identifiers, d);
-    Scope::in_block(role.block(), role.start()).holds(place_at(identifiers, u))
-        && declares(identifiers, chain, d)
-}
-
-/// Whether an earlier declaration takes over from the best so far.
-fn takes_over(identifiers: &[Identifier], best: Option<usize>, d: usize) -> bool
-    requires first { d < length identifiers.now }
-    requires second { ForSome best (λ b. b < length identifiers.now) }
-    ensures { IsTrue result ↔ TakesOver (layout_of identifiers.now) best d }
-{
-    match best {
-        None => true,
-        Some(b) => !role_at(identifiers, b)
-            .block()
-            .nests(role_at(identifiers, d).block()),
-    }
+    role.may_declare() && (!role.is_left_name() || is_new(identifiers, links, d))
 }

@@ -2,14 +2,14 @@
 ghost use Rattle.std.specs.Prelude.{ℕ, ◌≡◌, ◌<◌, ◌↔◌, length, map, IsTrue, MatchOption, slice_get};
 ghost use Rattle.gr_parse.specs.SourceFile.{source_of, offset_of};
 ghost use Rattle.gr_scope.specs.Bindings.{Declares, Counts, IsIdentifier, IsUse, scope_of};
-ghost use Rattle.gr_scope.specs.Chains.{AreLinks, IsChain};
+ghost use Rattle.gr_scope.specs.Chains.{AreLinks};
 ghost use Rattle.gr_scope.specs.Found.{site_of};
 ghost use Rattle.gr_scope.specs.Scoped.{layout_in, names_in, IsBoundIn, IsPlaceOf, BeginsIn, BeginsAt};
 ghost use Rattle.gr_scope.specs.Table.{layout_of, names_of, StandsAt, IsFirstOf, IsFoundAt};
 ghost use Rattle.gr_scope.specs.WellFormed.{WellFormed, AreImportsLevel};
 
 use crate::counting::{bound_to, counts, is_use};
-use crate::links::{Chain, Links};
+use crate::links::Links;
 use crate::model::{Identifier, Position, Role, Scope};
 use crate::resolve::{declares, name_at, place_at, role_at};
 use gr_parse::FileTree;
@@ -110,14 +110,14 @@ fn first_beginning_at(
 }
 
 /// Whether a declaration does not count, beside another of its name.
-fn is_repeated(identifiers: &[Identifier], chain: Chain<'_>, d: usize) -> bool
+fn is_repeated<'a>(identifiers: &[Identifier<'a>], links: &Links<'a>, d: usize) -> bool
     requires in_range { d < length identifiers.now }
-    requires chain { IsChain (layout_of identifiers.now) (names_of identifiers.now) (length identifiers.now) (names_of identifiers.now d) chain.last chain.previous.now }
+    requires linked { AreLinks (layout_of identifiers.now) (names_of identifiers.now) (length identifiers.now) links.now.last links.now.previous.items }
     ensures { let l = layout_of identifiers.now in
         let names = names_of identifiers.now in
         IsTrue result ↔ (Declares l names d × (Counts l names d → ⊥)) }
 {
-    declares(identifiers, chain, d) && !counts(identifiers, chain, d)
+    declares(identifiers, links, d) && !counts(identifiers, links, d)
 }
 
 impl<'a> ScopeTable<'a> {
@@ -197,8 +197,7 @@ impl<'a> ScopeTable<'a> {
         requires { u < length self.now.sites }
         ensures { IsTrue result ↔ IsUse (layout_in self.now) (names_in self.now) u }
     {
-        let chain = self.links.chain(name_at(&self.identifiers, u));
-        is_use(&self.identifiers, chain, u)
+        is_use(&self.identifiers, &self.links, u)
     }
 
     /// Whether an identifier declares.
@@ -206,8 +205,7 @@ impl<'a> ScopeTable<'a> {
         requires { u < length self.now.sites }
         ensures { IsTrue result ↔ Declares (layout_in self.now) (names_in self.now) u }
     {
-        let chain = self.links.chain(name_at(&self.identifiers, u));
-        declares(&self.identifiers, chain, u)
+        declares(&self.identifiers, &self.links, u)
     }
 
     /// All identifiers, behind the predeclared names.
@@ -239,8 +237,7 @@ impl<'a> ScopeTable<'a> {
         requires { u < length self.now.sites }
         ensures { MatchOption result ((d : ℕ) → IsBoundIn self.now u d → ⊥) (λ d. IsBoundIn self.now u d) }
     {
-        let chain = self.links.chain(name_at(&self.identifiers, u));
-        bound_to(&self.identifiers, chain, u)
+        bound_to(&self.identifiers, &self.links, u)
     }
 
     /// The declaration to which the identifier at a token is bound.
@@ -280,7 +277,6 @@ impl<'a> ScopeTable<'a> {
             let names = names_in self.now in
             IsTrue result ↔ (Declares l names declaration × (Counts l names declaration → ⊥)) }
     {
-        let chain = self.links.chain(name_at(&self.identifiers, declaration));
-        is_repeated(&self.identifiers, chain, declaration)
+        is_repeated(&self.identifiers, &self.links, declaration)
     }
 }

@@ -4,6 +4,7 @@ mod faulty;
 mod hostile;
 mod refused;
 mod rows;
+mod types;
 mod uses;
 
 use gr_book::Book;

@@ -1,6 +1,7 @@
 //! Plans of one file, and each limit.
+use gr_graph::Graph;
 use gr_space::{Change, ChangeKind, Snapshot, View, plan_del, plan_put};
-use gr_text::{FileText, Files, Limits, Path, Refusal, SharedFiles};
+use gr_text::{FileText, Files, Limits, Path, Refusal};
 use std::alloc::Global;
 use std::test::Fail;
 
@@ -18,7 +19,7 @@ fn view(alloc: Global, limits: Limits) -> Result<View, Fail> {
     let snapshot = Snapshot {
         number: 1,
         limits,
-        files: SharedFiles::new(alloc, files)?,
+        files: Graph::of(alloc, files)?,
     };
     Ok(View {
         snapshot,
@@ -53,6 +54,25 @@ fn a_put_has_the_new_text(rt: HostRuntime) -> Result<(), Fail> {
                 (change.base.files().len(), change.files.files().len()),
                 (1, 2)
             );
+        }
+        Err(_) => Err("no plan")?,
+    }
+    Ok(())
+}
+
+#[test]
+fn a_put_has_the_new_graph(rt: HostRuntime) -> Result<(), Fail> {
+    let alloc = rt.alloc();
+    let view = view(alloc, Limits::FULL)?;
+    let body = text(alloc, "package b\n\nimport \"a\"\n")?;
+    match plan_put(alloc, &view, "b/b.go", body) {
+        Ok(change) => {
+            if change.files.len() != 2 {
+                Err("not two packages")?;
+                return Ok(());
+            }
+            assert_eq!(rt; change.base.len(), 1);
+            assert!(rt; change.files.imports(1) == [0].as_slice());
         }
         Err(_) => Err("no plan")?,
     }

@@ -1,5 +1,5 @@
 //! What the calls answer, each once.
-use gr_text::{FaultKind, FileText, Files, Path, Refusal, SharedFiles};
+use gr_text::{FaultKind, FileText, Files, Path, Refusal};
 use std::alloc::Global;
 use std::test::Fail;
 
@@ -42,6 +42,14 @@ fn folders_lack_the_last_segment(rt: HostRuntime) -> Result<(), Fail> {
 }
 
 #[test]
+fn go_files_end_in_go(rt: HostRuntime) -> Result<(), Fail> {
+    for (name, is_go) in [("a/a.go", true), ("a/.go", true), ("a/go", false)] {
+        assert_eq!(rt; path(rt.alloc(), name)?.is_go(), is_go);
+    }
+    Ok(())
+}
+
+#[test]
 fn lines_count_from_one(rt: HostRuntime) -> Result<(), Fail> {
     let file = text(rt.alloc(), "a\n\nb")?;
     assert_eq!(rt; file.len(), 4);
@@ -64,19 +72,15 @@ fn files_are_a_map_in_path_order(rt: HostRuntime) -> Result<(), Fail> {
     files.remove(&path(alloc, "b/b.go")?);
     assert!(rt; !files.same(&before));
     assert_eq!(rt; (before.len(), files.len()), (4, 3));
-    let shared = SharedFiles::new(alloc, files)?;
     let mut names = String::new(alloc);
-    for (name, _) in shared.files().iter() {
+    for (name, _) in files.iter() {
         names.push_str(name.as_str())?;
         names.push(' ')?;
     }
     assert_eq!(rt; names.as_str(), "a/b.go a/b/c.go a/c.go ");
-    let found = shared
-        .files()
-        .get(&path(alloc, "a/b.go")?)
-        .map(|text| text.len());
+    let found = files.get(&path(alloc, "a/b.go")?).map(|text| text.len());
     assert_eq!(rt; found, Some(10));
-    assert!(rt; shared.files().get(&path(alloc, "b/b.go")?).is_none());
+    assert!(rt; files.get(&path(alloc, "b/b.go")?).is_none());
     Ok(())
 }
 

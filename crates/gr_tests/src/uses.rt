@@ -1,5 +1,6 @@
 //! Which identifiers are bound to the same declaration, on small workspaces.
 use gr_check::uses;
+use gr_graph::Graph;
 use gr_text::{FileText, Files, Path, Refusal};
 use std::alloc::Global;
 use std::test::Fail;
@@ -12,13 +13,13 @@ fn put(files: &mut Files, alloc: Global, path: &str, text: &str) -> Result<(), F
     }
 }
 
-/// The files of a workspace, each as its path and its text.
-fn workspace(alloc: Global, texts: &[(&str, &str)]) -> Result<Files, Fail> {
+/// The graph of a workspace of files, each as its path and its text.
+fn workspace(alloc: Global, texts: &[(&str, &str)]) -> Result<Graph, Fail> {
     let mut files = Files::new(alloc);
     for text in texts {
         put(&mut files, alloc, text.0, text.1)?;
     }
-    Ok(files)
+    Ok(Graph::of(alloc, files)?)
 }
 
 fn name(refusal: Refusal) -> &'static str {
@@ -34,9 +35,9 @@ fn name(refusal: Refusal) -> &'static str {
 }
 
 /// The places that are answered, each with a space behind it, or the name of the refusal.
-fn told(alloc: Global, files: &Files, path: &str, offset: usize) -> Result<String, Fail> {
+fn told(alloc: Global, graph: &Graph, path: &str, offset: usize) -> Result<String, Fail> {
     let mut text = String::new(alloc);
-    match uses(alloc, files, path, offset) {
+    match uses(alloc, graph, path, offset) {
         Ok(places) => {
             for place in places.as_slice() {
                 let line = format!(in alloc; "{}:{} ", place.path.as_str(), place.offset)?;
@@ -110,7 +111,7 @@ fn an_import_by_its_literal(rt: HostRuntime) -> Result<(), Fail> {
     );
     assert_eq!(rt;
         told(alloc, &files, "a/a.go", 50)?.as_str(),
-        "not renamable"
+        "a/a.go:50 b/b.go:15 "
     );
     Ok(())
 }

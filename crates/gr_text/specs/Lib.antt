@@ -1,5 +1,6 @@
 -- The definitions of this crate.
 pub mod FaultNames
+pub mod Packages
 pub mod Path
 pub mod PathRead
 pub mod PlaceText

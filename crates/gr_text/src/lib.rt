@@ -8,7 +8,6 @@ mod limits;
 mod path;
 mod place;
 mod refusal;
-mod shared_files;
 
 pub use fault_kind::FaultKind;
 pub use file_text::FileText;
@@ -17,4 +16,3 @@ pub use limits::Limits;
 pub use path::Path;
 pub use place::{Place, Span};
 pub use refusal::Refusal;
-pub use shared_files::SharedFiles;

@@ -2,6 +2,7 @@
 ghost use Rattle.std.specs.Prelude.{◌≡◌, ◌==◌, ℕ, List, IfOk, IsTrue, ◌↔◌, ◌≤◌, length};
 ghost use Rattle.std.specs.List.{list_all};
 ghost use Rattle.gr_text.specs.Path.{is_path_byte, is_dots, is_segment, segments, IsPath, folder};
+ghost use Rattle.gr_text.specs.Packages.{is_go};
 ghost use Rattle.gr_text.specs.PathRead.{ReadsPath};
 ghost use Rattle.std.proofs.Common.{rules};
 ghost use Rattle.std.specs.Cmp.{partial_order_from_own_ties, partial_equiv_from_equiv};
@@ -112,6 +113,13 @@ impl Path {
         ensures { result.now ≡ folder self.now }
     {
         without_last_segment(self.text.as_bytes())
+    }
+
+    /// Whether the path is that of a Go file.
+    pub fn is_go(&self) -> bool
+        ensures { result ≡ is_go self.now }
+    {
+        self.text.as_bytes().ends_with(b".go".as_slice())
     }
 }
 

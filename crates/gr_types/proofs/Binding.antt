@@ -10,7 +10,7 @@ use Rattle.gr_types.specs.Package.{Package}
 use Rattle.gr_types.specs.Written.{BindsToken}
 use Rattle.gr_types.specs.ByToken.{IsFirstBelow}
 
-one_first : (P : ℕ → Type 0) (n u v : ℕ) → IsFirstOf P n u → IsFirstOf P n v → u ≡ v
+pub one_first : (P : ℕ → Type 0) (n u v : ℕ) → IsFirstOf P n u → IsFirstOf P n v → u ≡ v
 one_first P n u v h k = elim (cases_order u v) [
   | inl same ↦ same
   | inr o ↦ elim o [ inl less ↦ absurd (k.first u less h.holds) | inr more ↦ absurd (h.first v more k.holds) ]
@@ -28,7 +28,7 @@ pub found_at : (p : Package) (file token u : ℕ) (o : Option ℕ) → o ≡ Som
     IsFoundAt p.layout p.size (record { file = file; index = token }) u
 found_at p file token u o e h = subst (IsFirstBelow (StandsAt p.layout (record { file = file; index = token })) p.size) e h
 
-same_bound : (p : Package) (file token u d : ℕ) → IsFoundAt p.layout p.size (record { file = file; index = token }) u → BindsToken p file token d → IsBoundTo p.layout p.names u d
+pub same_bound : (p : Package) (file token u d : ℕ) → IsFoundAt p.layout p.size (record { file = file; index = token }) u → BindsToken p file token d → IsBoundTo p.layout p.names u d
 same_bound p file token u d found b =
     subst (λ v. IsBoundTo p.layout p.names v d) (one_first (StandsAt p.layout (record { file = file; index = token })) p.size b.identifier u b.found found) b.bound
 

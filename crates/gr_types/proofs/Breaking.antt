@@ -1,11 +1,11 @@
 -- Broken definitions: what is reached from the Types that name nothing, along what definitions mention.
 use Rattle.std.proofs.Common.{ℕ, zero, suc, ◌≡◌, ◌+◌, ◌<◌, ◌≤◌, ◌⊎◌, inl, inr, Bool, true, false, List, [], ◌∷◌, ◌++◌, length, get_or, ap, sym, subst, refl, ◌∙◌, arith}
-use Rattle.std.specs.Prelude.{Option, Some, None, option_map, slice_get, map, Contains, ◌↔◌}
+use Rattle.std.specs.Prelude.{Option, Some, None, slice_get, map, Contains, ◌↔◌}
 use Rattle.std.specs.Global.{Vec}
 use Rattle.std.proofs.Math.ListN.{replicate, length-map}
 use Rattle.std.proofs.lemmas.Bool.{cases_lt, cases_eq, false≢true}
 use Rattle.std.proofs.lemmas.List.{get_or-replicate, get_or_append_left, get_or_push, length-replicate, get_or_past, length_push}
-use Rattle.std.proofs.lemmas.Option.{slice_get_within, slice_get-map, slice_get-get_or}
+use Rattle.std.proofs.lemmas.Option.{slice_get_within}
 use Rattle.gr_types.specs.declared.declared.TypeDef.{TypeDef}
 use Rattle.gr_types.specs.DeclaredView.{type_of}
 use Rattle.gr_types.specs.Package.{Package, PlacedType, package_types}
@@ -15,10 +15,6 @@ use Rattle.gr_types.specs.Broken.{IsTarget, nothing, definition, IsTargetOfSome,
 use Rattle.gr_types.proofs.Mentioning.{mention_within}
 
 -- the definition of a rank
-
-pub definition_at : (p : Package) (items : List TypeDef) (rank : ℕ) (x : TypeDef) → map type_of items ≡ package_types p → rank < length items → x ≡ get_or items rank x → slice_get (package_types p) rank ≡ Some (type_of x)
-definition_at p items rank x e lt is =
-    ap (λ ts. slice_get ts rank) (sym e) ∙ slice_get-map type_of items rank ∙ ap (option_map type_of) (slice_get-get_or items rank x lt ∙ ap Some (sym is))
 
 type_or : PlacedType → Option PlacedType → PlacedType
 type_or d None = d

@@ -74,10 +74,10 @@ adds_then f g h to T U V k l from back = record {
 
 -- a link that was added to a row
 
-get_set_same : {X : Type 0} (xs : List X) (i : ℕ) (x : X) → i < length xs → slice_get (set xs i x) i ≡ Some x
+pub get_set_same : {X : Type 0} (xs : List X) (i : ℕ) (x : X) → i < length xs → slice_get (set xs i x) i ≡ Some x
 get_set_same xs i x lt = slice_get-get_or (set xs i x) i x (subst (λ n. i < n) (sym (length-set xs i x)) lt) ∙ ap Some (get_or-set_same xs i x x lt)
 
-get_set_other : {X : Type 0} (xs : List X) (i j : ℕ) (x : X) → (j ≡ i → ⊥) → slice_get (set xs i x) j ≡ slice_get xs j
+pub get_set_other : {X : Type 0} (xs : List X) (i j : ℕ) (x : X) → (j ≡ i → ⊥) → slice_get (set xs i x) j ≡ slice_get xs j
 get_set_other xs i j x ne = elim (cases_lt j (length xs)) [
   | inl lt ↦ slice_get-get_or (set xs i x) j x (subst (λ n. j < n) (sym (length-set xs i x)) lt) ∙ ap Some (get_or-set_other xs i j x x ne) ∙ sym (slice_get-get_or xs j x lt)
   | inr ge ↦ slice_get_past (set xs i x) j (subst (λ n. n ≤ j) (sym (length-set xs i x)) ge) ∙ sym (slice_get_past xs j ge)

@@ -20,12 +20,12 @@ path_of_import p d (Some v) is h = record { is_import = is; of_path = h }
 
 -- what is found where one more is pushed
 
-get_before : {X : Type 0} (xs : List X) (x : X) (k : ℕ) → k < length xs → slice_get (xs ++ (x ∷ [])) k ≡ slice_get xs k
+pub get_before : {X : Type 0} (xs : List X) (x : X) (k : ℕ) → k < length xs → slice_get (xs ++ (x ∷ [])) k ≡ slice_get xs k
 get_before [] x k lt = absurd (omega arith)
 get_before (y ∷ ys) x zero lt = refl
 get_before (y ∷ ys) x (suc k) lt = get_before ys x k (omega arith)
 
-get_last : {X : Type 0} (xs : List X) (x : X) → slice_get (xs ++ (x ∷ [])) (length xs) ≡ Some x
+pub get_last : {X : Type 0} (xs : List X) (x : X) → slice_get (xs ++ (x ∷ [])) (length xs) ≡ Some x
 get_last [] x = refl
 get_last (y ∷ ys) x = get_last ys x
 

@@ -1,25 +1,26 @@
 -- Marks that spread, one number after the other.
-use Rattle.std.proofs.Common.{ℕ, ◌≡◌, ◌+◌, ◌<◌, ◌⊎◌, inl, inr, Bool, true, false, cond, List, [], ◌∷◌, ◌++◌, length, get_or, refl, sym, ap, subst, ◌∙◌, arith}
+use Rattle.std.proofs.Common.{ℕ, ◌≡◌, ◌+◌, ◌<◌, ◌≤◌, ◌⊎◌, inl, inr, Bool, true, false, cond, List, [], ◌∷◌, ◌++◌, length, get_or, refl, sym, ap, subst, ◌∙◌, arith}
 use Rattle.std.proofs.Math.ListN.{set}
 use Rattle.std.proofs.lemmas.Bool.{cases_eq, cases_lt, false≢true}
 use Rattle.std.proofs.lemmas.List.{get_or-set_same, get_or-set_other, get_or_append_left, get_or_push, length_push, get_or_past, get_or_read, get_or_default}
 use Rattle.std.proofs.lemmas.List.Sums.{sum_by-set}
 use Rattle.std.specs.List.{count_by}
 use Rattle.std.specs.List.{Contains}
+use Rattle.std.specs.Prelude.{◌↔◌}
 use Rattle.std.specs.Global.{Vec}
 use Rattle.std.proofs.lemmas.List.Elements.{Contains-get_or}
-use Rattle.gr_types.specs.Spread.{IsMarked, IsListed, Marks, IsFollowed, Leads, IsReached, first, behind}
+use Rattle.gr_types.specs.Spread.{IsMarked, IsListed, Marks, IsFollowed, IsOrdered, IsOrderOf, Leads, IsReached, first, behind}
 
-marked_within : (marks : List Bool) (q : ℕ) → IsMarked marks q → q < length marks
+pub marked_within : (marks : List Bool) (q : ℕ) → IsMarked marks q → q < length marks
 marked_within marks q m = elim (cases_lt q (length marks)) [ inl h ↦ h | inr h ↦ absurd (false≢true (sym (get_or_past marks q false h) ∙ m)) ]
 
-marked_stays : (marks : List Bool) (n q : ℕ) → n < length marks → IsMarked marks q → IsMarked (set marks n true) q
+pub marked_stays : (marks : List Bool) (n q : ℕ) → n < length marks → IsMarked marks q → IsMarked (set marks n true) q
 marked_stays marks n q within m = elim (cases_eq q n) [
   | inl e ↦ subst (λ k. IsMarked (set marks n true) k) (sym e) (get_or-set_same marks n true false within)
   | inr ne ↦ get_or-set_other marks n q true false ne ∙ m
 ]
 
-marked_before : (marks : List Bool) (n q : ℕ) → (q ≡ n → ⊥) → IsMarked (set marks n true) q → IsMarked marks q
+pub marked_before : (marks : List Bool) (n q : ℕ) → (q ≡ n → ⊥) → IsMarked (set marks n true) q → IsMarked marks q
 marked_before marks n q ne m = sym (get_or-set_other marks n q true false ne) ∙ m
 
 -- one more mark
@@ -126,3 +127,44 @@ holds_reached links Begins f m listed begun done q (first b) = begun q b
 holds_reached links Begins f m listed begun done q (behind {a} r leads) =
     let at = listed.places a (holds_reached links Begins f m listed begun done a r) in
     done at.0 q at.1.0 (subst (λ k. Leads links k q) (sym at.1.1) leads)
+
+-- the order in which numbers are found
+
+abbrev IsLedTo : List (Vec ℕ) → List ℕ → (i q : ℕ) → Type 0
+IsLedTo links found i q = (j : ℕ) × ((j < i) × Leads links (get_or found j 0) q)
+
+led_later : (links : List (Vec ℕ)) (f g : List ℕ) (i k q : ℕ) → k ≤ length f → k ≤ i → ((j : ℕ) → j < length f → get_or g j 0 ≡ get_or f j 0) → IsLedTo links f k q → IsLedTo links g i q
+led_later links f g i k q within le same h =
+    let lt : h.0 < k = h.1.0 in
+    (h.0, (omega arith, subst (λ a. Leads links a q) (sym (same h.0 (omega arith))) h.1.1))
+
+pub ordered_more : (links : List (Vec ℕ)) (Begins : ℕ → Type 0) (f : List ℕ) (m : List Bool) (g : List ℕ) (n : List Bool) (place : ℕ) → place < length f → IsListed f m → IsListed g n →
+    IsOrdered links Begins f → Marks f m g n (Leads links (get_or f place 0)) → IsOrdered links Begins g
+ordered_more links Begins f m g n place within listed now ordered more i lt =
+    let q : ℕ = get_or g i 0 in
+    elim (cases_lt i (length f)) [
+      | inl below ↦ (let same : q ≡ get_or f i 0 = more.same i below in
+          elim (ordered i below) [
+            | inl b ↦ inl (subst Begins (sym same) b)
+            | inr h ↦ inr (subst (IsLedTo links g i) (sym same) (led_later links f g i i (get_or f i 0) (omega arith) (omega arith) more.same h))
+          ])
+      | inr ge ↦ elim (more.only q (now.marked i lt)) [
+        | inl before ↦ (let at = listed.places q before in
+            let k : ℕ = at.0 in
+            let klt : k < length f = at.1.0 in
+            let same : get_or f k 0 ≡ q = at.1.1 in
+            elim (ordered k klt) [
+              | inl b ↦ inl (subst Begins same b)
+              | inr h ↦ inr (subst (IsLedTo links g i) same (led_later links f g i k (get_or f k 0) (omega arith) (omega arith) more.same h))
+            ])
+        | inr leads ↦ inr (place, (omega arith, subst (λ a. Leads links a q) (sym (more.same place within)) leads))
+      ]
+    ]
+
+pub order_of : (links : List (Vec ℕ)) (Begins : ℕ → Type 0) (found : List ℕ) (marks : List Bool) → IsListed found marks → IsOrdered links Begins found →
+    ((q : ℕ) → IsMarked marks q ↔ IsReached links Begins q) → IsOrderOf links Begins found
+order_of links Begins found marks listed ordered reached = record {
+  reached = λ i lt. (reached (get_or found i 0)).0 (listed.marked i lt);
+  places = λ q r. listed.places q ((reached q).1 r);
+  ordered = ordered;
+}

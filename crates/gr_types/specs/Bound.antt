@@ -1,9 +1,8 @@
 -- What the names of a package are bound to, as expressions are judged by it.
-use Rattle.std.specs.Prelude.{ℕ, ◌≡◌, true, false, List, [], ◌∷◌, map, Contains, codes}
+use Rattle.std.specs.Prelude.{ℕ, ◌≡◌, true, false, List, [], ◌∷◌, map, Some, slice_get, codes}
 use Rattle.gr_parse.specs.Tree.{Item, TypeTree, ParamTree, ResultTree, no_result, one_result, results}
 use Rattle.gr_scope.specs.declared.model.Block.TheVariants.{Inner}
-use Rattle.gr_scope.specs.Bindings.{block_of}
-use Rattle.gr_scope.specs.Table.{StandsAt}
+use Rattle.gr_scope.specs.Bindings.{block_of, IsPackageLevel}
 use Rattle.std.specs.List.{flat_map}
 use Rattle.gr_expr.specs.declared.types.Basic.{Basic}
 use Rattle.gr_expr.specs.declared.types.Basic.TheVariants as basic
@@ -13,7 +12,7 @@ use Rattle.gr_expr.specs.Types.{PlainType, BasicType, Defined, Typed, Untyped, N
 use Rattle.gr_expr.specs.Types.{Package as PackageName}
 use Rattle.gr_expr.specs.World.{Bound, Local, BrokenVariable, BrokenFunction, BrokenType}
 use Rattle.gr_expr.specs.World.{Means as Stands}
-use Rattle.gr_types.specs.Package.{Package, PlacedVariable, PlacedFunction, package_variables, package_functions, symbol_in}
+use Rattle.gr_types.specs.Package.{Package, PlacedVariable, PlacedFunction, IsRanked, package_variables, package_functions, variable_place, function_place, symbol_in}
 use Rattle.gr_types.specs.Written.{IsPredeclared, DeclaresType, ImportsPath, basic_name, IsBroken, IsTypeOf}
 
 -- predeclared values and functions
@@ -52,20 +51,28 @@ pub record HasSignature (p : Package) (f : PlacedFunction) (s : Signature) : Typ
   pub parameters : AreTypesOf p f.file (parameter_types f.function.params) s.parameters
   pub results : AreTypesOf p f.file (result_types f.function.result) s.results
 
--- d is the declaration of a variable or function at that place
-abbrev pub Declares : Package → (d file token : ℕ) → Type 0
-Declares p d file token = StandsAt p.layout (record { file = file; index = token }) d
+-- d is the declaration of the variable of that rank
+abbrev pub DeclaresVariable : Package → (d rank : ℕ) → Type 0
+DeclaresVariable p d rank = IsRanked variable_place (package_variables p) p.layout d rank
 
--- what a declaration means where it is used
+-- d is the declaration of the function of that rank
+abbrev pub DeclaresFunction : Package → (d rank : ℕ) → Type 0
+DeclaresFunction p d rank = IsRanked function_place (package_functions p) p.layout d rank
+
+abbrev pub IsVariable : Package → (d : ℕ) → PlacedVariable → Type 0
+IsVariable p d v = IsPackageLevel p.layout d × ((rank : ℕ) × (DeclaresVariable p d rank × (slice_get (package_variables p) rank ≡ Some v)))
+
+abbrev pub IsFunction : Package → (d : ℕ) → PlacedFunction → Type 0
+IsFunction p d f = IsPackageLevel p.layout d × ((rank : ℕ) × (DeclaresFunction p d rank × (slice_get (package_functions p) rank ≡ Some f)))
+
+-- What a declaration means where it is used. Methods and functions `init` are declared in no block, and mean nothing so.
 pub data IsMeantBy (p : Package) (d : ℕ) : Bound → Type 0 where
   predeclared : {name : List ℕ} {m : Meaning} → IsPredeclared p d name → PredeclaredMeans name m → IsMeantBy p d (Stands m)
   import_name : {path : List ℕ} → ImportsPath p d path → IsMeantBy p d (Stands PackageName)
   local : {file from to : ℕ} → block_of (p.layout.role d) ≡ Inner file from to → IsMeantBy p d (Local (p.layout.place d).index)
-  variable : {v : PlacedVariable} {t : PlainType} → Contains (package_variables p) v → Declares p d v.file v.name → IsTypeOf p v.file v.type_use t →
-      IsMeantBy p d (Stands (Value (Typed t) true))
-  broken_variable : {v : PlacedVariable} → Contains (package_variables p) v → Declares p d v.file v.name → ((t : PlainType) → IsTypeOf p v.file v.type_use t → ⊥) → IsMeantBy p d BrokenVariable
-  function : {f : PlacedFunction} {s : Signature} → Contains (package_functions p) f → Declares p d f.file f.function.name → HasSignature p f s →
-      IsMeantBy p d (Stands (Function s))
-  broken_function : {f : PlacedFunction} → Contains (package_functions p) f → Declares p d f.file f.function.name → ((s : Signature) → HasSignature p f s → ⊥) → IsMeantBy p d BrokenFunction
-  definition : {rank : ℕ} → DeclaresType p d rank → (IsBroken p rank → ⊥) → IsMeantBy p d (Stands (TypeName (Defined (symbol_in p rank))))
-  broken_definition : {rank : ℕ} → DeclaresType p d rank → IsBroken p rank → IsMeantBy p d BrokenType
+  variable : {v : PlacedVariable} {t : PlainType} → IsVariable p d v → IsTypeOf p v.file v.type_use t → IsMeantBy p d (Stands (Value (Typed t) true))
+  broken_variable : {v : PlacedVariable} → IsVariable p d v → ((t : PlainType) → IsTypeOf p v.file v.type_use t → ⊥) → IsMeantBy p d BrokenVariable
+  function : {f : PlacedFunction} {s : Signature} → IsFunction p d f → HasSignature p f s → IsMeantBy p d (Stands (Function s))
+  broken_function : {f : PlacedFunction} → IsFunction p d f → ((s : Signature) → HasSignature p f s → ⊥) → IsMeantBy p d BrokenFunction
+  definition : {rank : ℕ} → IsPackageLevel p.layout d → DeclaresType p d rank → (IsBroken p rank → ⊥) → IsMeantBy p d (Stands (TypeName (Defined (symbol_in p rank))))
+  broken_definition : {rank : ℕ} → IsPackageLevel p.layout d → DeclaresType p d rank → IsBroken p rank → IsMeantBy p d BrokenType

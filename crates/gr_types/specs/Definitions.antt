@@ -6,20 +6,22 @@ use Rattle.gr_expr.specs.declared.symbol.Symbol.{Symbol}
 use Rattle.gr_expr.specs.Types.{PlainType, BasicType, Defined, Pointer, Slice, Underlying, Plain, PointerTo, SliceOf, Signature}
 use Rattle.gr_expr.specs.Types.{Struct as StructOf}
 use Rattle.gr_expr.specs.World.{Definition, Field, Method}
+use Rattle.gr_expr.specs.WorldView.{no_definition}
 use Rattle.gr_stages.specs.Scoping.{is_exported}
 use Rattle.gr_types.specs.Package.{Package, PlacedType, PlacedFunction, package_types, package_functions, symbol_in, spelled}
-use Rattle.gr_types.specs.Written.{BindsToken, DeclaresType, IsTypeOf}
+use Rattle.gr_types.specs.Written.{BindsToken, DeclaresType, Names, IsTypeOf}
 use Rattle.gr_types.specs.Bound.{HasSignature}
 
 -- The underlying type of a type, of this package or of an imported one: following names until a type is written that is
--- none. A struct is known by the definition that writes it. None where names lead back to themselves.
+-- none, whether or not a definition on the way is broken. A struct is known by the definition that writes it. None where
+-- names lead back to themselves or to what is no type.
 pub data HasUnderlying (p : Package) : PlainType → Underlying → Type 0 where
   basic : {b : _} → HasUnderlying p (BasicType b) (Plain b)
   pointer : {t : PlainType} → HasUnderlying p (Pointer t) (PointerTo t)
   slice : {t : PlainType} → HasUnderlying p (Slice t) (SliceOf t)
   struct : {rank : ℕ} {d : PlacedType} {k o c : ℕ} {fs : _} → slice_get (package_types p) rank ≡ Some d → d.spec.body ≡ Struct k o fs c →
       HasUnderlying p (Defined (symbol_in p rank)) (StructOf (symbol_in p rank))
-  named : {rank : ℕ} {d : PlacedType} {tree : TypeTree} {t : PlainType} {u : Underlying} → slice_get (package_types p) rank ≡ Some d → d.spec.body ≡ Other tree → IsTypeOf p d.file tree t →
+  named : {rank : ℕ} {d : PlacedType} {tree : TypeTree} {t : PlainType} {u : Underlying} → slice_get (package_types p) rank ≡ Some d → d.spec.body ≡ Other tree → Names p d.file tree t →
       HasUnderlying p t u → HasUnderlying p (Defined (symbol_in p rank)) u
   imported : {path : List ℕ} {rank : ℕ} → (path ≡ p.path → ⊥) → HasUnderlying p (Defined (record { «package» = path; rank = rank })) (((p.interface_of path).definition rank).underlying)
 
@@ -99,12 +101,18 @@ IsMethod p definition name None = (rank : ℕ) (f : PlacedFunction) → IsCounti
 IsMethod p definition name (Some x) = (f : PlacedFunction) × (c : IsCountingMethod p definition name x.symbol.rank f) × IsSignature p f x.signature
     × (x.on_pointer ≡ is_on_pointer c.is_method.receiver) × (x.symbol ≡ symbol_in p x.symbol.rank) × (x.exported ≡ is_exported name)
 
+-- the underlying type of a definition; one that has none counts as a struct of its own
+pub data IsUnderlyingOf (p : Package) (rank : ℕ) : Underlying → Type 0 where
+  has : {u : Underlying} → HasUnderlying p (Defined (symbol_in p rank)) u → IsUnderlyingOf p rank u
+  has_none : ((u : Underlying) → HasUnderlying p (Defined (symbol_in p rank)) u → ⊥) → IsUnderlyingOf p rank (StructOf (symbol_in p rank))
+
 pub record IsDefinition (p : Package) (rank : ℕ) (d : Definition) : Type 0 where
-  pub underlying : HasUnderlying p (Defined (symbol_in p rank)) d.underlying
+  pub underlying : IsUnderlyingOf p rank d.underlying
   pub fields : (name : List ℕ) → IsField p rank name (d.field name)
   pub methods : (name : List ℕ) → IsMethod p rank name (d.method name)
 
--- definitions by symbol, of this package and of the imported ones
+-- definitions by symbol, of this package and of the imported ones; there is one such function at most
 pub record AreDefinitions (p : Package) (definition : Symbol → Definition) : Type 0 where
   pub own : (rank : ℕ) (d : PlacedType) → slice_get (package_types p) rank ≡ Some d → IsDefinition p rank (definition (symbol_in p rank))
+  pub beyond : (rank : ℕ) → slice_get (package_types p) rank ≡ None → definition (symbol_in p rank) ≡ no_definition (symbol_in p rank)
   pub imported : (path : List ℕ) (rank : ℕ) → (path ≡ p.path → ⊥) → definition (record { «package» = path; rank = rank }) ≡ (p.interface_of path).definition rank

@@ -4,9 +4,12 @@ use Rattle.std.specs.Cmp.Lexicographic.{pointwise}
 use Rattle.gr_text.specs.declared.fault_kind.FaultKind.TheVariants as kind
 use Rattle.gr_fault.specs.declared.fault.Fault.{Fault}
 use Rattle.gr_parse.specs.SourceFile.{SourceFile, spelling_of}
+use Rattle.gr_scope.specs.declared.model.Role.TheVariants.{NotLexical}
+use Rattle.gr_scope.specs.declared.model.Purpose.TheVariants as purpose
+use Rattle.gr_scope.specs.Table.{IsFoundAt}
 use Rattle.gr_stages.specs.Scoping.{init_name}
 use Rattle.gr_expr.specs.declared.symbol.Symbol.{Symbol}
-use Rattle.gr_expr.specs.Types.{PlainType}
+use Rattle.gr_expr.specs.Types.{PlainType, Broken}
 use Rattle.gr_expr.specs.World.{World, Bound, Definition, member_by}
 use Rattle.gr_expr.specs.World.{Means as Stands}
 use Rattle.gr_stmt.specs.Declarations.{check_file}
@@ -19,12 +22,24 @@ use Rattle.gr_types.specs.Definitions.{AreDefinitions}
 pub record IsSelected (p : Package) (file token : ℕ) (e : Export) : Type 0 where
   pub before : ℕ
   pub behind_dot : token ≡ suc (suc before)
+  pub identifier : ℕ
+  pub found : IsFoundAt p.layout p.size (record { file = file; index = token }) identifier
+  pub selected : p.layout.role identifier ≡ NotLexical purpose.Selected
   pub exported : IsExportAt p file before token e
 
--- what a file of a package is judged by
+-- what the name at a token is bound to
+pub data IsBoundAt (p : Package) (file token : ℕ) : Bound → Type 0 where
+  by_scope : {declaration : ℕ} {b : Bound} → BindsToken p file token declaration → IsMeantBy p declaration b → IsBoundAt p file token b
+  by_package : {e : Export} → IsSelected p file token e → IsBoundAt p file token (Stands e.meaning)
+
+-- what the name at a token is bound to; one that is bound to nothing means Broken
+pub data IsName (p : Package) (file token : ℕ) : Bound → Type 0 where
+  is_bound : {b : Bound} → IsBoundAt p file token b → IsName p file token b
+  is_unbound : ((b : Bound) → IsBoundAt p file token b → ⊥) → IsName p file token (Stands Broken)
+
+-- what a file of a package is judged by; there is one at most
 pub record IsWorldOf (p : Package) (file : ℕ) (s : SourceFile) (w : World) : Type 0 where
-  pub bound : (token declaration : ℕ) (b : Bound) → BindsToken p file token declaration → IsMeantBy p declaration b → w.bound token ≡ b
-  pub selected : (token : ℕ) (e : Export) → IsSelected p file token e → w.bound token ≡ Stands e.meaning
+  pub names : (token : ℕ) → IsName p file token (w.bound token)
   pub definitions : Symbol → Definition
   pub are_definitions : AreDefinitions p definitions
   pub member : (token : ℕ) (t : PlainType) → w.member token t ≡ member_by definitions p.path (spelling_of s token) t

@@ -1,26 +1,41 @@
 -- What other packages see of one.
-use Rattle.std.specs.Prelude.{ℕ, ◌≡◌, true, List, Option, Some, None, slice_get}
+use Rattle.std.specs.Prelude.{ℕ, ◌≡◌, ◌<◌, true, List, Option, Some, None, slice_get, MatchOption}
 use Rattle.gr_parse.specs.SourceFile.{SourceFile, offset_of}
 use Rattle.gr_scope.specs.Bindings.{Counts, IsPackageLevel}
+use Rattle.gr_expr.specs.Types.{PlainType, Typed, Signature, Meaning, Value, TypeName, Function}
+use Rattle.gr_expr.specs.World.{Bound}
 use Rattle.gr_expr.specs.World.{Means as Stands}
+use Rattle.gr_expr.specs.WorldView.{no_definition}
 use Rattle.gr_stages.specs.Clauses.{package_name}
 use Rattle.gr_stages.specs.Scoping.{is_exported}
-use Rattle.gr_types.specs.Package.{Package, Interface, Export, PlacedType, package_types}
+use Rattle.gr_types.specs.Package.{Package, Interface, Export, PlacedType, package_types, symbol_in}
 use Rattle.gr_types.specs.Bound.{IsMeantBy}
 use Rattle.gr_types.specs.Definitions.{IsDefinition}
 
--- the declaration d of the package's block is seen so in other packages
+-- the declaration d of the package's block is seen in other packages
+pub record IsSeen (p : Package) (d : ℕ) : Type 0 where
+  pub package_level : IsPackageLevel p.layout d
+  pub counts : Counts p.layout p.names d
+  pub exported : is_exported (p.names d) ≡ true
+
+-- the place of an identifier, as a path and an offset
+pub record IsPlacedAt (p : Package) (d : ℕ) (path : List ℕ) (offset : ℕ) : Type 0 where
+  pub source : SourceFile
+  pub in_file : slice_get p.files (p.layout.place d).file ≡ Some source
+  pub has_path : path ≡ source.path
+  pub has_offset : offset ≡ offset_of source (p.layout.place d).index
+
+-- the declaration d is seen so
+pub record IsExportBy (p : Package) (d : ℕ) (e : Export) : Type 0 where
+  pub seen : IsSeen p d
+  pub means : IsMeantBy p d (Stands e.meaning)
+  pub placed : IsPlacedAt p d e.path e.offset
+
+-- a declaration of that name is seen so
 pub record IsExport (p : Package) (name : List ℕ) (e : Export) : Type 0 where
   pub declaration : ℕ
-  pub package_level : IsPackageLevel p.layout declaration
-  pub counts : Counts p.layout p.names declaration
   pub named : p.names declaration ≡ name
-  pub exported : is_exported name ≡ true
-  pub means : IsMeantBy p declaration (Stands e.meaning)
-  pub source : SourceFile
-  pub in_file : slice_get p.files (p.layout.place declaration).file ≡ Some source
-  pub path : e.path ≡ source.path
-  pub offset : e.offset ≡ offset_of source (p.layout.place declaration).index
+  pub by_declaration : IsExportBy p declaration e
 
 abbrev pub IsExported : Package → List ℕ → Option Export → Type 0
 IsExported p name None = (e : Export) → IsExport p name e → ⊥
@@ -31,3 +46,35 @@ pub record IsInterface (p : Package) (i : Interface) : Type 0 where
   pub name : i.name ≡ package_name p.files
   pub exported : (name : List ℕ) → IsExported p name (i.exported name)
   pub definitions : (rank : ℕ) (d : PlacedType) → slice_get (package_types p) rank ≡ Some d → IsDefinition p rank (i.definition rank)
+  pub beyond : (rank : ℕ) → slice_get (package_types p) rank ≡ None → i.definition rank ≡ no_definition (symbol_in p rank)
+
+-- a package exports one thing under a name at most
+abbrev pub IsExportedOnce : Package → Type 0
+IsExportedOnce p = (name : List ℕ) (e f : Export) → IsExport p name e → IsExport p name f → e ≡ f
+
+-- The same, as it is found
+
+-- what declarations of a package's block mean
+pub data IsGlobalMeaning : Meaning → Type 0 where
+  variable : {t : PlainType} → IsGlobalMeaning (Value (Typed t) true)
+  type_name : {t : PlainType} → IsGlobalMeaning (TypeName t)
+  function : {s : Signature} → IsGlobalMeaning (Function s)
+
+-- which of these it is that names are bound to; none where they are bound to something else
+abbrev pub IsGlobalFound : Bound → Option Meaning → Type 0
+IsGlobalFound b found = MatchOption found ((m : Meaning) → IsGlobalMeaning m → b ≡ Stands m → ⊥) (λ m. b ≡ Stands m)
+
+-- what the declaration d is in other packages; none where it is not seen there
+abbrev pub IsExportFound : Package → ℕ → Option Export → Type 0
+IsExportFound p d found = MatchOption found ((e : Export) → IsExportBy p d e → ⊥) (λ e. IsExportBy p d e)
+
+-- one of the declarations below n is seen so, by that name
+pub record IsExportBelow (p : Package) (n : ℕ) (name : List ℕ) (e : Export) : Type 0 where
+  pub declaration : ℕ
+  pub below : declaration < n
+  pub named : p.names declaration ≡ name
+  pub by_declaration : IsExportBy p declaration e
+
+-- for each name an export by one of the declarations below n; none where there is none
+abbrev pub AreExportsBelow : Package → ℕ → (List ℕ → Option Export) → Type 0
+AreExportsBelow p n found = (name : List ℕ) → MatchOption (found name) ((e : Export) → IsExportBelow p n name e → ⊥) (λ e. IsExportBelow p n name e)

@@ -41,3 +41,14 @@ IsFollowed links found marks count = (i q : ℕ) → i < count → Leads links (
 pub data IsReached (links : List (Vec ℕ)) (Begins : ℕ → Type 0) : ℕ → Type 0 where
   first : {q : ℕ} → Begins q → IsReached links Begins q
   behind : {a b : ℕ} → IsReached links Begins a → Leads links a b → IsReached links Begins b
+
+-- each number of a list begins, or stands behind one that leads to it
+abbrev pub IsOrdered : List (Vec ℕ) → (ℕ → Type 0) → List ℕ → Type 0
+IsOrdered links Begins found =
+    (i : ℕ) → i < length found → Begins (slice_index_or found i 0) ⊎ ((j : ℕ) × ((j < i) × Leads links (slice_index_or found j 0) (slice_index_or found i 0)))
+
+-- a list of all that is reached, each behind one that leads to it
+pub record IsOrderOf (links : List (Vec ℕ)) (Begins : ℕ → Type 0) (found : List ℕ) : Type 0 where
+  pub reached : (i : ℕ) → i < length found → IsReached links Begins (slice_index_or found i 0)
+  pub places : (q : ℕ) → IsReached links Begins q → (i : ℕ) × ((i < length found) × (slice_index_or found i 0 ≡ q))
+  pub ordered : IsOrdered links Begins found

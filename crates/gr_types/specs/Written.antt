@@ -1,9 +1,9 @@
 -- What the names in the written types of a package's definitions stand for, and which definitions are broken: a Type in
 -- them names no type, or a broken one.
-use Rattle.std.specs.Prelude.{ℕ, ◌≡◌, List, [], ◌∷◌, map, Some, slice_get, Contains, codes}
+use Rattle.std.specs.Prelude.{ℕ, ◌≡◌, true, List, [], ◌∷◌, map, Some, slice_get, Contains, codes}
 use Rattle.gr_parse.specs.Tree.{TypeTree, Local, Imported, Pointer, Slice, BodyTree, Other, Struct}
 use Rattle.gr_scope.specs.declared.model.Block.TheVariants.{Universe}
-use Rattle.gr_scope.specs.Bindings.{IsBoundTo, IsImport, block_of}
+use Rattle.gr_scope.specs.Bindings.{IsBoundTo, IsImport, block_of, is_implied}
 use Rattle.gr_scope.specs.Table.{IsFoundAt}
 use Rattle.gr_expr.specs.declared.types.Basic.{Basic}
 use Rattle.gr_expr.specs.declared.types.Basic.TheVariants as basic
@@ -18,8 +18,9 @@ pub record BindsToken (p : Package) (file token d : ℕ) : Type 0 where
   pub found : IsFoundAt p.layout p.size (record { file = file; index = token }) identifier
   pub bound : IsBoundTo p.layout p.names identifier d
 
--- d is the predeclared name
+-- d is the declaration of the predeclared name, which no identifier declares
 pub record IsPredeclared (p : Package) (d : ℕ) (name : List ℕ) : Type 0 where
+  pub implied : is_implied (p.layout.role d) ≡ true
   pub universe : block_of (p.layout.role d) ≡ Universe
   pub named : p.names d ≡ name
 

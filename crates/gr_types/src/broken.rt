@@ -16,7 +16,7 @@ use gr_parse::tree::{Field, Item, TypeBody, TypeExpr};
 use std::alloc::{AllocError, Global};
 
 /// Notes that a definition mentions what has a number.
-fn note(links: &mut Vec<Vec<usize>>, to: usize, rank: usize) -> Result<(), AllocError>
+pub(crate) fn note(links: &mut Vec<Vec<usize>>, to: usize, rank: usize) -> Result<(), AllocError>
     requires { to < length links.old.items }
     ensures { OnOk result (AddsLinks links.old.items links.new.items rank (λ a. a ≡ to)) }
 {
@@ -129,7 +129,7 @@ fn note_definition(
 }
 
 /// No links yet, between so many numbers and one more.
-fn no_links(alloc: Global, size: usize) -> Result<Vec<Vec<usize>>, AllocError>
+pub(crate) fn no_links(alloc: Global, size: usize) -> Result<Vec<Vec<usize>>, AllocError>
     ensures size { IfOk result (λ links. length links.items ≡ suc size) }
     ensures none { IfOk result (λ links. (a b : ℕ) → Leads links.items a b → ⊥) }
 {

@@ -1,7 +1,7 @@
 //! Numbers that stand at tokens of files: found again in one step.
-ghost use Rattle.std.specs.Prelude.{◌≡◌, ◌<◌, ℕ, None, length, IfOk, OnOk};
+ghost use Rattle.std.specs.Prelude.{◌≡◌, ◌<◌, ◌≤◌, ℕ, None, length, slice_get, IfOk, OnOk};
 ghost use Rattle.gr_scope.specs.Scoped.{layout_in};
-ghost use Rattle.gr_types.specs.ByToken.{number_at, number_in, Sets, SetsToken, Notes, NotesIdentifier, AreIdentifiers, AreRanksOf};
+ghost use Rattle.gr_types.specs.ByToken.{number_at, number_in, row_at, Sets, SetsToken, Notes, NotesIdentifier, AreIdentifiers, AreRanksOf};
 
 use gr_scope::model::Position;
 use gr_scope::table::ScopeTable;
@@ -49,6 +49,23 @@ impl ByToken {
     {
         let row = self.rows.get(place.file)?;
         *row.get(place.index)?
+    }
+
+    /// The numbers at the tokens of a file, as far as some are known.
+    fn row(&self, file: usize) -> &[Option<usize>]
+        ensures { result.now ≡ row_at (slice_get self.now.rows.items file) }
+    {
+        match self.rows.get(file) {
+            None => &[],
+            Some(row) => row,
+        }
+    }
+
+    /// A number of tokens of a file, behind which there is no number.
+    pub fn width(&self, file: usize) -> usize
+        ensures { (token : ℕ) → result ≤ token → number_at self.now file token ≡ None }
+    {
+        self.row(file).len()
     }
 
     /// Makes the rows reach to a file.

@@ -1,6 +1,6 @@
 //! Marks that spread along links: what is marked at first, and all that links lead to from there.
 ghost use Rattle.std.specs.Prelude.{◌≡◌, ◌<◌, ◌↔◌, ℕ, length, slice_get, slice_index_or, IfOk, OnOk};
-ghost use Rattle.gr_types.specs.Spread.{AreLinked, IsMarked, IsListed, Marks, Leads, IsReached, row_of};
+ghost use Rattle.gr_types.specs.Spread.{AreLinked, IsMarked, IsListed, IsOrdered, IsOrderOf, Marks, Leads, IsReached, row_of};
 
 use std::alloc::{AllocError, Global};
 
@@ -12,7 +12,7 @@ struct Spread {
 }
 
 /// What a number leads to.
-fn row(links: &[Vec<usize>], from: usize) -> &[usize]
+pub(crate) fn row(links: &[Vec<usize>], from: usize) -> &[usize]
     ensures { result.now ≡ row_of (slice_get links.now from) }
 {
     match links.get(from) {
@@ -77,6 +77,25 @@ impl Spread {
         }
         Ok(())
     }
+
+    /// Marks all that is marked in a list, and all that it leads to along links.
+    fn over(alloc: Global, links: &[Vec<usize>], begins: &[bool]) -> Result<Spread, AllocError>
+        requires linked { AreLinked links.now }
+        requires size { length begins.now ≡ length links.now }
+        ensures size { IfOk result (λ s. length s.marks.items ≡ length links.now) }
+        ensures listed { IfOk result (λ s. IsListed s.found.items s.marks.items) }
+        ensures ordered { IfOk result (λ s. IsOrdered links.now (IsMarked begins.now) s.found.items) }
+        ensures reached { IfOk result (λ s. (q : ℕ) → IsMarked s.marks.items q ↔ IsReached links.now (IsMarked begins.now) q) }
+    {
+        let mut spread = Spread::new(alloc, links.len())?;
+        spread.begin(begins)?;
+        let mut place = 0;
+        while place < spread.found.len() {
+            spread.follow(links, place)?;
+            place += 1;
+        }
+        Ok(spread)
+    }
 }
 
 /// All that is marked in a list, and all that it leads to along links.
@@ -90,12 +109,20 @@ pub fn reached(
     ensures size { IfOk result (λ marks. length marks.items ≡ length links.now) }
     ensures reached { IfOk result (λ marks. (q : ℕ) → IsMarked marks.items q ↔ IsReached links.now (IsMarked begins.now) q) }
 {
-    let mut spread = Spread::new(alloc, links.len())?;
-    spread.begin(begins)?;
-    let mut place = 0;
-    while place < spread.found.len() {
-        spread.follow(links, place)?;
-        place += 1;
-    }
+    let spread = Spread::over(alloc, links, begins)?;
     Ok(spread.marks)
+}
+
+/// The same as a list, in which each number stands behind one that leads to it.
+pub fn reached_in_order(
+    alloc: Global,
+    links: &[Vec<usize>],
+    begins: &[bool],
+) -> Result<Vec<usize>, AllocError>
+    requires linked { AreLinked links.now }
+    requires size { length begins.now ≡ length links.now }
+    ensures { IfOk result (λ found. IsOrderOf links.now (IsMarked begins.now) found.items) }
+{
+    let spread = Spread::over(alloc, links, begins)?;
+    Ok(spread.found)
 }

@@ -2,6 +2,7 @@
 ghost use Rattle.std.specs.Prelude.{◌≡◌, ◌<◌, ℕ, List, length, slice_get, IfOk, MatchOption};
 ghost use Rattle.gr_scope.specs.Named.{name_value};
 ghost use Rattle.gr_types.specs.Package.{spelled};
+ghost use Rattle.gr_types.specs.Bound.{DeclaresVariable, DeclaresFunction};
 ghost use Rattle.gr_types.specs.Written.{BindsToken, DeclaresType, ImportsPath};
 ghost use Rattle.gr_types.specs.PackageView.{package_of, path_in, IsIndexOf, ArePaths};
 
@@ -110,6 +111,24 @@ impl<'a> Index<'a> {
             None => None,
             Some(u) => unit.table.binding(u),
         }
+    }
+
+    /// The variable of the package that a declaration is, by its rank.
+    pub fn variable(&self, unit: Package<'_>, d: usize) -> Option<usize>
+        requires index { IsIndexOf (package_of unit) self.now }
+        requires in_range { d < length unit.table.now.sites }
+        ensures { MatchOption result ((r : ℕ) → DeclaresVariable (package_of unit.entry) d r → ⊥) (λ r. DeclaresVariable (package_of unit.entry) d r) }
+    {
+        self.ranks.variable(d)
+    }
+
+    /// The function that a declaration is, by its rank.
+    pub fn function(&self, unit: Package<'_>, d: usize) -> Option<usize>
+        requires index { IsIndexOf (package_of unit) self.now }
+        requires in_range { d < length unit.table.now.sites }
+        ensures { MatchOption result ((r : ℕ) → DeclaresFunction (package_of unit.entry) d r → ⊥) (λ r. DeclaresFunction (package_of unit.entry) d r) }
+    {
+        self.ranks.function(d)
     }
 
     /// The type definition that a declaration is, by its rank.

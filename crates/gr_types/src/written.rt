@@ -24,7 +24,8 @@ fn is_predeclared(unit: Package<'_>, d: usize, name: &[u8]) -> bool
     requires { d < length unit.table.now.sites }
     ensures { IsTrue result ↔ IsPredeclared (package_of unit.entry) d name.now }
 {
-    unit.table.role(d).block().same(Block::Universe) && unit.table.name(d) == name
+    let role = unit.table.role(d);
+    role.is_implied() && role.block().same(Block::Universe) && unit.table.name(d) == name
 }
 
 /// The predeclared type that a declaration is.
@@ -45,7 +46,7 @@ fn basic_type(unit: Package<'_>, d: usize) -> Option<Basic>
 
 /// A type definition of the package, as a type.
 #[tactic(auto, unfolding(gr_expr::specs::View::type_of))]
-fn defined_type(unit: Package<'_>, rank: usize) -> Result<GoType, AllocError>
+pub fn defined_type(unit: Package<'_>, rank: usize) -> Result<GoType, AllocError>
     ensures { IfOk result (λ t. type_of t ≡ Defined (symbol_in (package_of unit.entry) rank)) }
 {
     let package = unit.path.clone()?;
@@ -181,7 +182,12 @@ pub fn named_type(
 }
 
 /// The type definition of the package that a name alone names.
-fn local_definition(unit: Package<'_>, index: &Index<'_>, file: usize, name: usize) -> Option<usize>
+pub(crate) fn local_definition(
+    unit: Package<'_>,
+    index: &Index<'_>,
+    file: usize,
+    name: usize,
+) -> Option<usize>
     requires { IsIndexOf (package_of unit) index.now }
     ensures { IsMentionedBy (package_of unit.entry) file (Local name) result }
 {

@@ -75,3 +75,69 @@ fn faults_by_package(rt: HostRuntime) -> Result<(), Fail> {
     );
     Ok(())
 }
+
+/// Later stages come only where each file of the package has a tree and earlier ones have no fault.
+#[test]
+fn faults_of_later_stages(rt: HostRuntime) -> Result<(), Fail> {
+    let alloc = rt.alloc();
+    for (text, reply) in [
+        (
+            "package a\n\nfunc F() int {\n\treturn y\n}\n",
+            "ok 1 22\na/a.go:#34 undeclared\n",
+        ),
+        (
+            "package a\n\nimport \"b\"\n",
+            "ok 1 19\na/a.go:#18 missing\n",
+        ),
+        ("package a\n\nimport \"a\"\n", "ok 1 17\na/a.go:#18 cycle\n"),
+        (
+            "package a\n\nfunc F() int {\n\treturn \"\"\n}\n",
+            "ok 1 16\na/a.go:#34 type\n",
+        ),
+        (
+            "package a\n\nfunc F() int {\n\treturn y\n}\n}",
+            "ok 1 18\na/a.go:#38 syntax\n",
+        ),
+    ] {
+        assert!(rt; tells(alloc, text, reply)?, "{text}");
+    }
+    Ok(())
+}
+
+/// A package that imports one with faults has the fault of its import, and none of a later stage.
+#[test]
+fn faults_of_what_is_imported(rt: HostRuntime) -> Result<(), Fail> {
+    assert!(rt;
+        writes(
+            rt.alloc(),
+            Limits::FULL,
+            &[
+                "put 0 b/b.go 38\npackage b\n\nfunc T() int {\n\treturn x\n}\nput 1 a/a.go 58\npackage a\n\nimport \"b\"\n\nfunc F() int {\n\treturn b.T() + y\n}\nfaults\n"
+            ],
+            &[
+                "ok 1 0\nok 2 0\n",
+                "ok 2 40\na/a.go:#18 import\nb/b.go:#34 undeclared\n"
+            ],
+        )?
+    );
+    Ok(())
+}
+
+/// Of two packages that import each other both have a fault, and one that imports them has another.
+#[test]
+fn faults_of_cycles(rt: HostRuntime) -> Result<(), Fail> {
+    assert!(rt;
+        writes(
+            rt.alloc(),
+            Limits::FULL,
+            &[
+                "put 0 a/a.go 54\npackage a\n\nimport \"b\"\n\nfunc F() int {\n\treturn b.T()\n}\nput 1 b/b.go 54\npackage b\n\nimport \"a\"\n\nfunc T() int {\n\treturn a.F()\n}\nput 2 c/c.go 54\npackage c\n\nimport \"a\"\n\nfunc G() int {\n\treturn a.F()\n}\nfaults\n"
+            ],
+            &[
+                "ok 1 0\nok 2 0\nok 3 0\n",
+                "ok 3 52\na/a.go:#18 cycle\nb/b.go:#18 cycle\nc/c.go:#18 import\n"
+            ],
+        )?
+    );
+    Ok(())
+}

@@ -205,7 +205,6 @@ fn lines_that_are_almost_questions(rt: HostRuntime) -> Result<(), Fail> {
     Ok(())
 }
 
-/// The literal of an import that has a name stands for it; a name behind an import's is not told yet.
 #[test]
 fn import_with_a_name(rt: HostRuntime) -> Result<(), Fail> {
     assert!(rt;
@@ -219,32 +218,24 @@ fn import_with_a_name(rt: HostRuntime) -> Result<(), Fail> {
             ],
             "ok 1 0\nok 2 0\n",
             &[
+                (&["b/b.go:#8", "m/m.go:#8"], "no 11 0\n"),
                 (
-                    &[
-                        "m/m.go:#18",
-                        "m/m.go:#20",
-                        "m/m.go:#21",
-                        "m/m.go:#22",
-                        "m/m.go:#63"
-                    ],
-                    "ok 2 22\nm/m.go:#18\nm/m.go:#63\n",
+                    &["b/b.go:#15", "m/m.go:#65"],
+                    "ok 2 22\nb/b.go:#15\nm/m.go:#65\n"
+                ),
+                (
+                    &["b/b.go:#17", "m/m.go:#31", "m/m.go:#49"],
+                    "ok 2 33\nb/b.go:#17\nm/m.go:#31\nm/m.go:#49\n"
+                ),
+                (
+                    &["m/m.go:#18", "m/m.go:#20", "m/m.go:#63"],
+                    "ok 2 22\nm/m.go:#18\nm/m.go:#63\n"
                 ),
                 (
                     &["m/m.go:#29", "m/m.go:#69"],
                     "ok 2 22\nm/m.go:#29\nm/m.go:#69\n"
                 ),
-                (&["b/b.go:#15"], "ok 2 11\nb/b.go:#15\n"),
-                (&["m/m.go:#65", "m/m.go:#8"], "no 11 0\n"),
-                (
-                    &[
-                        "m/m.go:#11",
-                        "m/m.go:#19",
-                        "m/m.go:#23",
-                        "m/m.go:#37",
-                        "m/m.go:#64"
-                    ],
-                    "no 10 0\n"
-                ),
+                (&["m/m.go:#45"], "ok 2 11\nm/m.go:#45\n"),
             ],
         )?
     );
@@ -380,27 +371,36 @@ fn new_name_reads_the_outer_one(rt: HostRuntime) -> Result<(), Fail> {
         answers(
             rt.alloc(),
             &[
-                "put 0 a/a.go 99\n",
-                "package a\n\nvar x int\n\nfunc F() int {\n\tx := x\n\t{\n\t\tx := x\n\t\tvar x, y int = x, x\n\t\treturn x + y\n\t}\n}\n",
+                "put 0 a/a.go 109\n",
+                "package a\n\nvar x int\n\nfunc F() int {\n\tx := x\n\t{\n\t\tx := x\n\t\t{\n\t\t\tvar x, y int = x, x\n\t\t\treturn x + y\n\t\t}\n\t}\n}\n",
             ],
             "ok 1 0\n",
             &[
+                (&["a/a.go:#8"], "no 11 0\n"),
                 (
                     &["a/a.go:#15", "a/a.go:#43"],
                     "ok 1 22\na/a.go:#15\na/a.go:#43\n"
                 ),
                 (
+                    &["a/a.go:#17", "a/a.go:#31", "a/a.go:#73"],
+                    "ok 1 33\na/a.go:#17\na/a.go:#31\na/a.go:#73\n"
+                ),
+                (&["a/a.go:#27"], "ok 1 11\na/a.go:#27\n"),
+                (
                     &["a/a.go:#38", "a/a.go:#55"],
                     "ok 1 22\na/a.go:#38\na/a.go:#55\n"
                 ),
                 (
-                    &["a/a.go:#50", "a/a.go:#74", "a/a.go:#77", "a/a.go:#88"],
-                    "ok 1 44\na/a.go:#50\na/a.go:#74\na/a.go:#77\na/a.go:#88\n"
+                    &["a/a.go:#50", "a/a.go:#79", "a/a.go:#82"],
+                    "ok 1 33\na/a.go:#50\na/a.go:#79\na/a.go:#82\n"
                 ),
-                (&["a/a.go:#63"], "no 11 0\n"),
                 (
-                    &["a/a.go:#66", "a/a.go:#92"],
-                    "ok 1 22\na/a.go:#66\na/a.go:#92\n"
+                    &["a/a.go:#68", "a/a.go:#94"],
+                    "ok 1 22\na/a.go:#68\na/a.go:#94\n"
+                ),
+                (
+                    &["a/a.go:#71", "a/a.go:#98"],
+                    "ok 1 22\na/a.go:#71\na/a.go:#98\n"
                 ),
             ],
         )?
@@ -414,31 +414,39 @@ fn used_before_its_declaration(rt: HostRuntime) -> Result<(), Fail> {
         answers(
             rt.alloc(),
             &[
-                "put 0 a/a.go 97\n",
-                "package a\n\nfunc F() int {\n\treturn G(v)\n}\n\nfunc G(n T) T {\n\treturn F() + n\n}\n\nvar v T\n\ntype T int\n",
+                "put 0 a/a.go 95\n",
+                "package a\n\nfunc F() T {\n\treturn G(v)\n}\n\nfunc G(n T) T {\n\treturn F() + n\n}\n\nvar v T\n\ntype T int\n",
             ],
             "ok 1 0\n",
             &[
+                (&["a/a.go:#8"], "no 11 0\n"),
                 (
-                    &["a/a.go:#16", "a/a.go:#66"],
-                    "ok 1 22\na/a.go:#16\na/a.go:#66\n"
+                    &["a/a.go:#16", "a/a.go:#64"],
+                    "ok 1 22\na/a.go:#16\na/a.go:#64\n"
                 ),
                 (
-                    &["a/a.go:#34", "a/a.go:#47"],
-                    "ok 1 22\na/a.go:#34\na/a.go:#47\n"
+                    &[
+                        "a/a.go:#20",
+                        "a/a.go:#49",
+                        "a/a.go:#52",
+                        "a/a.go:#81",
+                        "a/a.go:#89"
+                    ],
+                    "ok 1 55\na/a.go:#20\na/a.go:#49\na/a.go:#52\na/a.go:#81\na/a.go:#89\n"
                 ),
                 (
-                    &["a/a.go:#36", "a/a.go:#81"],
-                    "ok 1 22\na/a.go:#36\na/a.go:#81\n"
+                    &["a/a.go:#32", "a/a.go:#45"],
+                    "ok 1 22\na/a.go:#32\na/a.go:#45\n"
                 ),
                 (
-                    &["a/a.go:#49", "a/a.go:#72"],
-                    "ok 1 22\na/a.go:#49\na/a.go:#72\n"
+                    &["a/a.go:#34", "a/a.go:#79"],
+                    "ok 1 22\na/a.go:#34\na/a.go:#79\n"
                 ),
                 (
-                    &["a/a.go:#51", "a/a.go:#54", "a/a.go:#83", "a/a.go:#91"],
-                    "ok 1 44\na/a.go:#51\na/a.go:#54\na/a.go:#83\na/a.go:#91\n"
+                    &["a/a.go:#47", "a/a.go:#70"],
+                    "ok 1 22\na/a.go:#47\na/a.go:#70\n"
                 ),
+                (&["a/a.go:#91"], "ok 1 11\na/a.go:#91\n"),
             ],
         )?
     );
@@ -451,33 +459,30 @@ fn predeclared_names_declared_again(rt: HostRuntime) -> Result<(), Fail> {
         answers(
             rt.alloc(),
             &[
-                "put 0 a/a.go 100\n",
-                "package a\n\ntype int bool\n\nfunc len(true int) int {\n\tvar nil int = true\n\treturn nil\n}\n\nvar x int = 1\n",
+                "put 0 a/a.go 96\n",
+                "package a\n\ntype int bool\n\nfunc len(true int) int {\n\tvar nil int = true\n\treturn nil\n}\n\nvar x int\n",
             ],
             "ok 1 0\n",
             &[
+                (&["a/a.go:#8"], "no 11 0\n"),
                 (
                     &[
                         "a/a.go:#16",
-                        "a/a.go:#18",
                         "a/a.go:#40",
-                        "a/a.go:#42",
                         "a/a.go:#45",
-                        "a/a.go:#47",
                         "a/a.go:#60",
-                        "a/a.go:#62",
-                        "a/a.go:#92",
-                        "a/a.go:#94"
+                        "a/a.go:#92"
                     ],
                     "ok 1 55\na/a.go:#16\na/a.go:#40\na/a.go:#45\na/a.go:#60\na/a.go:#92\n"
                 ),
-                (&["a/a.go:#31", "a/a.go:#33"], "ok 1 11\na/a.go:#31\n"),
+                (&["a/a.go:#20"], "ok 1 11\na/a.go:#20\n"),
+                (&["a/a.go:#31"], "ok 1 11\na/a.go:#31\n"),
                 (
-                    &["a/a.go:#35", "a/a.go:#38", "a/a.go:#66", "a/a.go:#69"],
+                    &["a/a.go:#35", "a/a.go:#66"],
                     "ok 1 22\na/a.go:#35\na/a.go:#66\n"
                 ),
                 (
-                    &["a/a.go:#56", "a/a.go:#58", "a/a.go:#79", "a/a.go:#81"],
+                    &["a/a.go:#56", "a/a.go:#79"],
                     "ok 1 22\na/a.go:#56\na/a.go:#79\n"
                 ),
                 (&["a/a.go:#90"], "ok 1 11\na/a.go:#90\n"),
@@ -487,72 +492,110 @@ fn predeclared_names_declared_again(rt: HostRuntime) -> Result<(), Fail> {
     Ok(())
 }
 
-/// Places come by the bytes of their paths; a subfolder is another package, and a file of another kind is in none.
 #[test]
 fn files_of_one_package(rt: HostRuntime) -> Result<(), Fail> {
     assert!(rt;
         answers(
             rt.alloc(),
             &[
-                "put 0 a/b.go 35\n",
+                "put 0 c/c.go 39\n",
+                "package c\n\ntype T int\n\nfunc F(t T) {\n}\n",
+                "put 1 a/b.go 35\n",
                 "package a\n\nimport k \"c\"\n\nvar v k.T\n",
-                "put 1 a/a.go 49\n",
-                "package a\n\nimport k \"c\"\n\nfunc F() {\n\tk.F(v, x)\n}\n",
-                "put 2 a/a/a.go 22\n",
+                "put 2 a/a.go 53\n",
+                "package a\n\nimport k \"c\"\n\nfunc F() {\n\tk.F(v)\n\t_ = x\n}\n",
+                "put 3 a/a/a.go 22\n",
                 "package a\n\nvar v bool\n",
-                "put 3 a/b.txt 10\n",
+                "put 4 a/b.txt 10\n",
                 "var x int\n",
-                "put 4 a/a.b.go 43\n",
-                "package a\n\nvar x T\n\ntype T struct {\n\tx T\n}\n",
+                "put 5 a/a.b.go 44\n",
+                "package a\n\nvar x T\n\ntype T struct {\n\tx *T\n}\n",
             ],
-            "ok 1 0\nok 2 0\nok 3 0\nok 4 0\nok 5 0\n",
+            "ok 1 0\nok 2 0\nok 3 0\nok 4 0\nok 5 0\nok 6 0\n",
             &[
                 (
-                    &["a/b.go:#18", "a/b.go:#31"],
-                    "ok 5 22\na/b.go:#18\na/b.go:#31\n"
+                    &[
+                        "c/c.go:#8",
+                        "a/b.go:#8",
+                        "a/a.go:#8",
+                        "a/a.go:#45",
+                        "a/a/a.go:#8",
+                        "a/a.b.go:#8"
+                    ],
+                    "no 11 0\n"
+                ),
+                (
+                    &["c/c.go:#16", "c/c.go:#32", "a/b.go:#33"],
+                    "ok 6 33\na/b.go:#33\nc/c.go:#16\nc/c.go:#32\n"
+                ),
+                (&["c/c.go:#18"], "ok 6 11\nc/c.go:#18\n"),
+                (
+                    &["c/c.go:#28", "a/a.go:#39"],
+                    "ok 6 22\na/a.go:#39\nc/c.go:#28\n"
+                ),
+                (&["c/c.go:#30"], "ok 6 11\nc/c.go:#30\n"),
+                (
+                    &["a/b.go:#18", "a/b.go:#20", "a/b.go:#31"],
+                    "ok 6 22\na/b.go:#18\na/b.go:#31\n"
                 ),
                 (
                     &["a/b.go:#29", "a/a.go:#41"],
-                    "ok 5 22\na/a.go:#41\na/b.go:#29\n"
-                ),
-                (&["a/b.go:#33", "a/a.b.go:#37"], "no 11 0\n"),
-                (
-                    &["a/a.go:#18", "a/a.go:#37"],
-                    "ok 5 22\na/a.go:#18\na/a.go:#37\n"
+                    "ok 6 22\na/a.go:#41\na/b.go:#29\n"
                 ),
                 (
-                    &["a/a.go:#44", "a/a.b.go:#15"],
-                    "ok 5 24\na/a.b.go:#15\na/a.go:#44\n"
+                    &["a/a.go:#18", "a/a.go:#20", "a/a.go:#37"],
+                    "ok 6 22\na/a.go:#18\na/a.go:#37\n"
                 ),
-                (&["a/a/a.go:#15"], "ok 5 13\na/a/a.go:#15\n"),
+                (&["a/a.go:#30"], "ok 6 11\na/a.go:#30\n"),
                 (
-                    &["a/a.b.go:#17", "a/a.b.go:#25", "a/a.b.go:#39"],
-                    "ok 5 39\na/a.b.go:#17\na/a.b.go:#25\na/a.b.go:#39\n"
+                    &["a/a.go:#49", "a/a.b.go:#15"],
+                    "ok 6 24\na/a.b.go:#15\na/a.go:#49\n"
                 ),
+                (&["a/a/a.go:#15"], "ok 6 13\na/a/a.go:#15\n"),
+                (&["a/a/a.go:#17"], "ok 6 13\na/a/a.go:#17\n"),
+                (
+                    &["a/a.b.go:#17", "a/a.b.go:#25", "a/a.b.go:#40"],
+                    "ok 6 39\na/a.b.go:#17\na/a.b.go:#25\na/a.b.go:#40\n"
+                ),
+                (&["a/a.b.go:#37"], "ok 6 13\na/a.b.go:#37\n"),
             ],
         )?
     );
     Ok(())
 }
 
+/// The literal of an import without a name stands for the import, and is no identifier.
 #[test]
-fn import_gives_way_to_a_package_name(rt: HostRuntime) -> Result<(), Fail> {
+fn import_without_a_name(rt: HostRuntime) -> Result<(), Fail> {
     assert!(rt;
         answers(
             rt.alloc(),
             &[
-                "put 0 a/a.go 33\n",
-                "package a\n\nimport k \"c\"\n\nvar v k\n",
-                "put 1 a/b.go 21\n",
-                "package a\n\nvar k int\n",
+                "put 0 b/b.go 31\n",
+                "package b\n\ntype T int\n\nvar V T\n",
+                "put 1 m/m.go 61\n",
+                "package m\n\nimport \"b\"\n\nfunc F(V b.T) b.T {\n\treturn V + b.V\n}\n",
             ],
             "ok 1 0\nok 2 0\n",
             &[
-                (&["a/a.go:#18", "a/a.go:#20", "a/a.go:#22"], "no 11 0\n"),
-                (&["a/a.go:#29"], "ok 2 11\na/a.go:#29\n"),
+                (&["b/b.go:#8", "m/m.go:#8"], "no 11 0\n"),
                 (
-                    &["a/a.go:#31", "a/b.go:#15"],
-                    "ok 2 22\na/a.go:#31\na/b.go:#15\n"
+                    &["b/b.go:#16", "b/b.go:#29", "m/m.go:#34", "m/m.go:#39"],
+                    "ok 2 44\nb/b.go:#16\nb/b.go:#29\nm/m.go:#34\nm/m.go:#39\n"
+                ),
+                (&["b/b.go:#18"], "ok 2 11\nb/b.go:#18\n"),
+                (
+                    &["b/b.go:#27", "m/m.go:#57"],
+                    "ok 2 22\nb/b.go:#27\nm/m.go:#57\n"
+                ),
+                (
+                    &["m/m.go:#18", "m/m.go:#32", "m/m.go:#37", "m/m.go:#55"],
+                    "ok 2 33\nm/m.go:#32\nm/m.go:#37\nm/m.go:#55\n"
+                ),
+                (&["m/m.go:#28"], "ok 2 11\nm/m.go:#28\n"),
+                (
+                    &["m/m.go:#30", "m/m.go:#51"],
+                    "ok 2 22\nm/m.go:#30\nm/m.go:#51\n"
                 ),
             ],
         )?
@@ -560,33 +603,66 @@ fn import_gives_way_to_a_package_name(rt: HostRuntime) -> Result<(), Fail> {
     Ok(())
 }
 
+/// A type that is written as another has its fields and none of its methods.
 #[test]
-fn second_declaration_of_a_block(rt: HostRuntime) -> Result<(), Fail> {
+fn fields_and_methods(rt: HostRuntime) -> Result<(), Fail> {
     assert!(rt;
         answers(
             rt.alloc(),
             &[
-                "put 0 a/a.go 116\n",
-                "package a\n\nvar x int\n\nvar x int\n\nfunc F(y int, y int) int {\n\tvar z int\n\tvar z int\n\treturn x + y + z\n}\n\nfunc F() {\n}\n",
+                "put 0 a/a.go 92\n",
+                "package a\n\ntype A struct {\n\tX, y int\n}\n\ntype B A\n\nfunc (b *B) M() int {\n\treturn b.X + b.y\n}\n",
+                "put 1 b/b.go 119\n",
+                "package b\n\nimport \"a\"\n\ntype X struct {\n\ty int\n}\n\nfunc F(v X) int {\n\tp := &a.B{X: v.y}\n\tp.X = X{y: 1}.y\n\treturn p.M()\n}\n",
             ],
-            "ok 1 0\n",
+            "ok 1 0\nok 2 0\n",
             &[
+                (&["a/a.go:#8", "b/b.go:#8"], "no 11 0\n"),
                 (
-                    &["a/a.go:#15", "a/a.go:#90"],
-                    "ok 1 22\na/a.go:#15\na/a.go:#90\n"
+                    &["a/a.go:#16", "a/a.go:#47"],
+                    "ok 2 22\na/a.go:#16\na/a.go:#47\n"
                 ),
                 (
-                    &["a/a.go:#26", "a/a.go:#47", "a/a.go:#76", "a/a.go:#108"],
-                    "no 11 0\n"
-                ),
-                (&["a/a.go:#38"], "ok 1 11\na/a.go:#38\n"),
-                (
-                    &["a/a.go:#40", "a/a.go:#94"],
-                    "ok 1 22\na/a.go:#40\na/a.go:#94\n"
+                    &["a/a.go:#28", "a/a.go:#82", "b/b.go:#78", "b/b.go:#89"],
+                    "ok 2 44\na/a.go:#28\na/a.go:#82\nb/b.go:#78\nb/b.go:#89\n"
                 ),
                 (
-                    &["a/a.go:#65", "a/a.go:#98"],
-                    "ok 1 22\na/a.go:#65\na/a.go:#98\n"
+                    &["a/a.go:#31", "a/a.go:#88"],
+                    "ok 2 22\na/a.go:#31\na/a.go:#88\n"
+                ),
+                (
+                    &["a/a.go:#33", "a/a.go:#66", "b/b.go:#42", "b/b.go:#61"],
+                    "ok 2 44\na/a.go:#33\na/a.go:#66\nb/b.go:#42\nb/b.go:#61\n"
+                ),
+                (
+                    &["a/a.go:#45", "a/a.go:#59", "b/b.go:#76"],
+                    "ok 2 33\na/a.go:#45\na/a.go:#59\nb/b.go:#76\n"
+                ),
+                (
+                    &["a/a.go:#56", "a/a.go:#80", "a/a.go:#86"],
+                    "ok 2 33\na/a.go:#56\na/a.go:#80\na/a.go:#86\n"
+                ),
+                (
+                    &["a/a.go:#62", "b/b.go:#113"],
+                    "ok 2 23\na/a.go:#62\nb/b.go:#113\n"
+                ),
+                (&["b/b.go:#18", "b/b.go:#74"], "ok 2 11\nb/b.go:#74\n"),
+                (
+                    &["b/b.go:#28", "b/b.go:#58", "b/b.go:#93"],
+                    "ok 2 33\nb/b.go:#28\nb/b.go:#58\nb/b.go:#93\n"
+                ),
+                (
+                    &["b/b.go:#40", "b/b.go:#83", "b/b.go:#95", "b/b.go:#101"],
+                    "ok 2 45\nb/b.go:#40\nb/b.go:#83\nb/b.go:#95\nb/b.go:#101\n"
+                ),
+                (&["b/b.go:#54"], "ok 2 11\nb/b.go:#54\n"),
+                (
+                    &["b/b.go:#56", "b/b.go:#81"],
+                    "ok 2 22\nb/b.go:#56\nb/b.go:#81\n"
+                ),
+                (
+                    &["b/b.go:#68", "b/b.go:#87", "b/b.go:#111"],
+                    "ok 2 34\nb/b.go:#68\nb/b.go:#87\nb/b.go:#111\n"
                 ),
             ],
         )?
@@ -594,58 +670,51 @@ fn second_declaration_of_a_block(rt: HostRuntime) -> Result<(), Fail> {
     Ok(())
 }
 
-/// Package clauses, imports without a name, names behind a dot, fields, methods, keys, blanks, functions `init`, and names
-/// that nothing declares.
+/// The name of a package clause, `_`, and functions `init` are bound to nothing.
 #[test]
 fn bound_to_nothing(rt: HostRuntime) -> Result<(), Fail> {
     assert!(rt;
         answers(
             rt.alloc(),
             &[
-                "put 0 a/a.go 183\n",
-                "package a\n\nimport \"b\"\n\nvar w b.T\n\ntype T struct {\n\tx int\n}\n\nfunc (t T) m(_ int) int {\n\t_, u := t.x, t.m(1)\n\tvar s T = T{x: u}\n\tt = s\n\treturn _ + q\n}\n\nfunc init() {\n}\n\nfunc init() {\n}\n",
+                "put 0 a/a.go 130\n",
+                "package a\n\ntype T struct {\n\tx int\n}\n\nfunc (t T) m(_ int) int {\n\t_, u := t.x, t.m(1)\n\treturn u\n}\n\nfunc init() {\n}\n\nfunc init() {\n}\n",
             ],
             "ok 1 0\n",
             &[
                 (
                     &[
                         "a/a.go:#8",
-                        "a/a.go:#18",
-                        "a/a.go:#20",
-                        "a/a.go:#29",
-                        "a/a.go:#31",
-                        "a/a.go:#51",
-                        "a/a.go:#71",
-                        "a/a.go:#73",
-                        "a/a.go:#87",
-                        "a/a.go:#97",
+                        "a/a.go:#50",
+                        "a/a.go:#64",
                         "a/a.go:#102",
-                        "a/a.go:#120",
-                        "a/a.go:#141",
-                        "a/a.go:#145",
-                        "a/a.go:#155",
-                        "a/a.go:#158",
-                        "a/a.go:#172",
-                        "a/a.go:#175"
+                        "a/a.go:#119"
                     ],
                     "no 11 0\n"
                 ),
-                (&["a/a.go:#27"], "ok 1 11\na/a.go:#27\n"),
                 (
-                    &["a/a.go:#39", "a/a.go:#68", "a/a.go:#114", "a/a.go:#118"],
-                    "ok 1 46\na/a.go:#39\na/a.go:#68\na/a.go:#114\na/a.go:#118\n"
+                    &["a/a.go:#16", "a/a.go:#45"],
+                    "ok 1 22\na/a.go:#16\na/a.go:#45\n"
                 ),
                 (
-                    &["a/a.go:#66", "a/a.go:#95", "a/a.go:#100", "a/a.go:#127"],
-                    "ok 1 46\na/a.go:#66\na/a.go:#95\na/a.go:#100\na/a.go:#127\n"
+                    &["a/a.go:#28", "a/a.go:#74"],
+                    "ok 1 22\na/a.go:#28\na/a.go:#74\n"
                 ),
                 (
-                    &["a/a.go:#90", "a/a.go:#123"],
-                    "ok 1 23\na/a.go:#90\na/a.go:#123\n"
+                    &["a/a.go:#30", "a/a.go:#52", "a/a.go:#57"],
+                    "ok 1 33\na/a.go:#30\na/a.go:#52\na/a.go:#57\n"
                 ),
                 (
-                    &["a/a.go:#112", "a/a.go:#131"],
-                    "ok 1 24\na/a.go:#112\na/a.go:#131\n"
+                    &["a/a.go:#43", "a/a.go:#72", "a/a.go:#77"],
+                    "ok 1 33\na/a.go:#43\na/a.go:#72\na/a.go:#77\n"
+                ),
+                (
+                    &["a/a.go:#48", "a/a.go:#79"],
+                    "ok 1 22\na/a.go:#48\na/a.go:#79\n"
+                ),
+                (
+                    &["a/a.go:#67", "a/a.go:#92"],
+                    "ok 1 22\na/a.go:#67\na/a.go:#92\n"
                 ),
             ],
         )?

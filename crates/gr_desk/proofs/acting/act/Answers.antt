@@ -11,3 +11,12 @@ returns-in-Del g c =
       search rules,
       inr (search rules, (c.plan_del-planned.result, rw (← c.as_str-in-Del.ensures) c.plan_del-planned.ensures, c.commit-in-Del.ensures)),
     )
+
+pub returns-in-Put : goal.returns-in-Put
+returns-in-Put g c =
+    rw c.in-Put.is (
+      Looked c.in-Looked.view,
+      c.step.new.self,
+      search rules,
+      inr (search rules, (c.plan_body-planned.result, rw (← c.as_str.ensures) c.plan_body-planned.ensures, c.commit.ensures)),
+    )

@@ -13,7 +13,7 @@ use Rattle.gr_graph.specs.Filling.{AreFilled}
 use Rattle.gr_graph.specs.declared.package.Package.{Package}
 use Rattle.gr_graph.proofs.PackagePaths.{AreThere, all_there, paths_sorted}
 use Rattle.gr_graph.proofs.Filled.{filled_start, filled_add, filled_end, paths_added}
-use Rattle.gr_graph.specs.Packages.{package_paths}
+use Rattle.gr_text.specs.Packages.{package_paths}
 use Rattle.gr_graph.proofs.packages.packages.Goals as goal
 
 pub loop-path-init : goal.loop-path-init

@@ -1,7 +1,7 @@
 -- With the files that are left each package has all its files, and each folder that is left is a package.
 use Rattle.std.proofs.Common.{◌≡◌}
 use Rattle.std.specs.FinMap as map
-use Rattle.gr_graph.specs.Packages.{package_paths}
+use Rattle.gr_text.specs.Packages.{package_paths}
 use Rattle.gr_graph.specs.Filling.{AreFilled}
 use Rattle.gr_graph.specs.Graphs.{paths_of}
 use Rattle.gr_graph.proofs.PackagePaths.{AreThere}

@@ -1,3 +1,4 @@
+-- The answers to the goals of `stages::outer_faults`.
 use Rattle.gr_fault.proofs.Stages.{same_listed}
 use Rattle.std.proofs.Common.{map}
 use Rattle.gr_parse.specs.SourceFile.{source_of}

@@ -1,3 +1,4 @@
+-- The answers to the goals of `alone::judge_alone`.
 use Rattle.std.proofs.Common.{◌∙◌, ap}
 use Rattle.gr_expr.specs.Judge.{judge}
 use Rattle.gr_expr.specs.WorldView.{world_of}

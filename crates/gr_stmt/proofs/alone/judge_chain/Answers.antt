@@ -1,3 +1,4 @@
+-- The answers to the goals of `alone::judge_chain`.
 use Rattle.std.proofs.Common.{◌∙◌, ap, sym}
 use Rattle.std.proofs.lemmas.List.{nil_from_length}
 use Rattle.gr_parse.specs.Tree.{Chain}

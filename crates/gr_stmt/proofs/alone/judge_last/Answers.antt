@@ -1,3 +1,4 @@
+-- The answers to the goals of `alone::judge_last`.
 use Rattle.std.proofs.Common.{◌∙◌}
 use Rattle.gr_parse.specs.View.{expr_view}
 use Rattle.gr_expr.specs.Judge.{judge}

@@ -1,3 +1,4 @@
+-- The answers to the goals of `alone::place_behind_all`.
 use Rattle.gr_stmt.proofs.Chains.{no_links}
 use Rattle.gr_stmt.proofs.alone.place_behind_all.Goals as goal
 

@@ -1,3 +1,4 @@
+-- The answers to the goals of `declarations::global_targets`.
 use Rattle.std.proofs.Common.{ℕ, None, ap, sym, ◌∙◌, arith, option_map}
 use Rattle.gr_parse.specs.View.{item_view}
 use Rattle.gr_parse.specs.FileView.{same_place}

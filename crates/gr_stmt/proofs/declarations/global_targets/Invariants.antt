@@ -1,3 +1,4 @@
+-- The invariants of the loops of `declarations::global_targets`.
 use Rattle.std.proofs.Common.{◌≡◌, take, map, option_map}
 use Rattle.gr_expr.specs.View.{type_of}
 use Rattle.gr_stmt.specs.Sides.{Wants}

@@ -1,3 +1,4 @@
+-- The answers to the goals of `declarations::literal_values`.
 use Rattle.std.proofs.Common.{None, sym, ◌∙◌, arith}
 use Rattle.gr_parse.specs.View.{item_view}
 use Rattle.gr_parse.specs.FileView.{basic_view}

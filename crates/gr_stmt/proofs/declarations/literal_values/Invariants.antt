@@ -1,3 +1,4 @@
+-- The invariants of the loops of `declarations::literal_values`.
 use Rattle.std.proofs.Common.{◌≡◌, take, map}
 use Rattle.gr_parse.specs.FileView.{basic_view}
 use Rattle.gr_expr.specs.Found.{argued_of}

@@ -1,3 +1,4 @@
+-- The answers to the goals of `declarations::note_body_faults`.
 use Rattle.std.proofs.Common.{ap, sym, ◌∙◌}
 use Rattle.std.proofs.lemmas.Result.{on_ok_weaker}
 use Rattle.gr_parse.specs.View.{list_view}

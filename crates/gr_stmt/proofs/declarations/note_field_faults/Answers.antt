@@ -1,3 +1,4 @@
+-- The answers to the goals of `declarations::note_field_faults`.
 use Rattle.std.proofs.Common.{ap, ◌∙◌}
 use Rattle.std.proofs.Math.ListN.{drop_of_length-le}
 use Rattle.gr_parse.specs.View.{list_view, type_view}

@@ -1,3 +1,4 @@
+-- The invariants of the loops of `declarations::note_field_faults`.
 use Rattle.std.proofs.Common.{drop}
 use Rattle.gr_parse.specs.View.{list_view}
 use Rattle.gr_parse.specs.FileView.{field_view}

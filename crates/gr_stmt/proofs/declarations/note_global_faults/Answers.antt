@@ -1,3 +1,4 @@
+-- The answers to the goals of `declarations::note_global_faults`.
 use Rattle.std.proofs.Common.{◌++◌, ap, sym, ◌∙◌, append-nil, option_map}
 use Rattle.std.proofs.lemmas.Result.{on_ok_weaker}
 use Rattle.gr_parse.specs.View.{list_view, option_view, type_view}

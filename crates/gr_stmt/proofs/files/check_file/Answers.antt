@@ -1,3 +1,4 @@
+-- The answers to the goals of `files::check_file`.
 use Rattle.std.proofs.Common.{◌+◌, ap, sym, ◌∙◌, drop, map}
 use Rattle.std.proofs.Math.ListN.{drop_of_length-le}
 use Rattle.gr_parse.specs.FileView.{decl_view, file_view}

@@ -1,3 +1,4 @@
+-- The invariants of the loops of `files::check_file`.
 use Rattle.std.proofs.Common.{◌≡◌, drop, map}
 use Rattle.gr_parse.specs.FileView.{decl_view}
 use Rattle.gr_expr.specs.WorldView.{world_of}

@@ -1,3 +1,4 @@
+-- The answers to the goals of `headers::result_types`.
 use Rattle.std.proofs.Common.{List, ap, sym, ◌∙◌, ◌+◌, drop, map, refl, subst}
 use Rattle.std.proofs.Math.ListN.{drop_of_length-le}
 use Rattle.std.proofs.lemmas.List.{map-append}

@@ -1,3 +1,4 @@
+-- The answers to the goals of `headers::results_of`.
 use Rattle.std.proofs.Common.{[], ◌∷◌, ◌++◌, ap, sym, ◌∙◌, map}
 use Rattle.gr_parse.specs.View.{list_view, type_view}
 use Rattle.gr_parse.specs.FileView.{results_view}

@@ -1,3 +1,4 @@
+-- The invariants of the loops of `locals::all_named`.
 use Rattle.std.proofs.Common.{◌≡◌, take}
 use Rattle.gr_parse.specs.View.{list_view, ident_view}
 use Rattle.gr_stmt.specs.Sides.{all_named}

@@ -1,3 +1,4 @@
+-- The answers to the goals of `locals::declare_broken`.
 use Rattle.std.proofs.Common.{None, [], ◌+◌, ap, sym, ◌∙◌, drop}
 use Rattle.std.proofs.Math.ListN.{drop_of_length-le}
 use Rattle.gr_expr.specs.Found.{locals_of}

@@ -1,3 +1,4 @@
+-- The invariants of the loops of `locals::declare_broken`.
 use Rattle.std.proofs.Common.{◌≡◌, drop, []}
 use Rattle.gr_expr.specs.Found.{locals_of}
 use Rattle.gr_stmt.specs.Sides.{with_locals}

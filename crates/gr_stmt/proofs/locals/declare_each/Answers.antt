@@ -1,3 +1,4 @@
+-- The answers to the goals of `locals::declare_each`.
 use Rattle.std.proofs.Common.{None, ◌+◌, ◌<◌, ◌∷◌, arith, length, get_or, ap, sym, ◌∙◌, drop, map}
 use Rattle.std.proofs.Math.ListN.{drop_of_length-le}
 use Rattle.gr_expr.specs.Found.{locals_of, argued_of}

@@ -1,3 +1,4 @@
+-- The invariants of the loops of `locals::declare_each`.
 use Rattle.std.proofs.Common.{◌≡◌, drop, map}
 use Rattle.gr_expr.specs.Found.{locals_of, argued_of}
 use Rattle.gr_stmt.specs.Sides.{with_locals, taken_types}

@@ -1,3 +1,4 @@
+-- The answers to the goals of `locals::declare_written`.
 use Rattle.std.proofs.Common.{None, ◌+◌, get_or, ap, sym, ◌∙◌, drop, option_map}
 use Rattle.std.proofs.Math.ListN.{drop_of_length-le}
 use Rattle.gr_parse.specs.View.{list_view, ident_view}

@@ -1,3 +1,4 @@
+-- The invariants of the loops of `locals::defined_names`.
 use Rattle.std.proofs.Common.{◌≡◌, take}
 use Rattle.gr_parse.specs.View.{exprs_view}
 use Rattle.gr_expr.specs.WorldView.{world_of}

@@ -1,3 +1,4 @@
+-- The answers to the goals of `sides::all_sound`.
 use Rattle.std.proofs.Common.{◌∙◌}
 use Rattle.gr_stmt.specs.Sides.{is_sound}
 use Rattle.gr_stmt.specs.View.{target_of}

@@ -1,3 +1,4 @@
+-- The answers to the goals of `sides::assigned_one`.
 use Rattle.std.proofs.Common.{[], ◌∷◌, ap, sym, ◌∙◌}
 use Rattle.gr_parse.specs.View.{expr_view}
 use Rattle.gr_expr.specs.Types.{Broken}

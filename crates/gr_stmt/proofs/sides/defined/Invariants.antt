@@ -1,3 +1,4 @@
+-- The invariants of the loops of `sides::defined`.
 use Rattle.std.proofs.Common.{drop, map}
 use Rattle.gr_parse.specs.View.{exprs_view}
 use Rattle.gr_expr.specs.WorldView.{world_of}

@@ -1,3 +1,4 @@
+-- The answers to the goals of `sides::defined_one`.
 use Rattle.std.proofs.Common.{Bool, if◌then◌else◌, None, [], ◌∷◌, ap, sym, ◌∙◌, refl}
 use Rattle.gr_parse.specs.View.{expr_view}
 use Rattle.gr_expr.specs.Types.{Broken}

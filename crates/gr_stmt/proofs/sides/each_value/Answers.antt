@@ -1,3 +1,4 @@
+-- The answers to the goals of `sides::each_value`.
 use Rattle.gr_expr.specs.WorldView.{world_of}
 use Rattle.gr_expr.specs.Found.{locals_of}
 use Rattle.gr_expr.proofs.Equations.{ok_map}

@@ -1,3 +1,4 @@
+-- The answers to the goals of `sides::lone`.
 use Rattle.std.proofs.Common.{ap, sym, ◌∙◌, map}
 use Rattle.gr_parse.specs.View.{expr_view}
 use Rattle.gr_expr.specs.Places.{place_of}

@@ -1,3 +1,4 @@
+-- The answers to the goals of `sides::refuse_all`.
 use Rattle.std.proofs.Common.{◌+◌, ◌∷◌, ap, ◌∙◌, drop, map, option_map}
 use Rattle.std.proofs.Math.ListN.{drop_of_length-le}
 use Rattle.gr_expr.specs.View.{kind_of}

@@ -1,3 +1,4 @@
+-- The invariants of the loops of `sides::refuse_all`.
 use Rattle.std.proofs.Common.{◌-◌, drop, map, length}
 use Rattle.gr_expr.specs.WorldView.{world_of}
 use Rattle.gr_expr.specs.Found.{argued_of}

@@ -1,3 +1,4 @@
+-- The answers to the goals of `sides::results_at`.
 use Rattle.std.proofs.Common.{ap, sym, ◌∙◌, arith}
 use Rattle.gr_expr.specs.View.{type_of, kind_of}
 use Rattle.gr_expr.specs.Found.{argued_of}

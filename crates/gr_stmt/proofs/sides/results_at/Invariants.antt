@@ -1,3 +1,4 @@
+-- The invariants of the loops of `sides::results_at`.
 use Rattle.std.proofs.Common.{◌≡◌, take, map}
 use Rattle.gr_expr.specs.View.{type_of}
 use Rattle.gr_expr.specs.Found.{argued_of}

@@ -1,3 +1,4 @@
+-- The answers to the goals of `simple::name_targets`.
 use Rattle.std.proofs.Common.{None, sym, ◌∙◌, refl, arith}
 use Rattle.gr_parse.specs.View.{item_view, ident_view}
 use Rattle.gr_parse.specs.declared.tree.Item.{Item}

@@ -1,3 +1,4 @@
+-- The invariants of the loops of `simple::name_targets`.
 use Rattle.std.proofs.Common.{◌≡◌, take, map}
 use Rattle.gr_stmt.specs.Sides.{Takes}
 use Rattle.gr_stmt.specs.View.{target_of}

@@ -1,3 +1,4 @@
+-- The answers to the goals of `simple::written_targets`.
 use Rattle.std.proofs.Common.{None, ap, sym, ◌∙◌, arith, option_map}
 use Rattle.gr_parse.specs.View.{item_view, ident_view}
 use Rattle.gr_parse.specs.declared.tree.Item.{Item}

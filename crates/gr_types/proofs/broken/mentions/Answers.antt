@@ -4,7 +4,8 @@ use Rattle.gr_parse.specs.FileView.{type_spec_view}
 use Rattle.gr_types.specs.DeclaredView.{type_of}
 use Rattle.gr_types.specs.Package.{package_types}
 use Rattle.gr_types.specs.PackageView.{package_of}
-use Rattle.gr_types.proofs.Breaking.{none_below, one_more, all_mentions, definition_at, definition_count}
+use Rattle.gr_types.proofs.Breaking.{none_below, one_more, all_mentions, definition_count}
+use Rattle.gr_types.proofs.Noting.{item_at}
 use Rattle.gr_types.proofs.broken.mentions.Goals as goal
 
 pub loop-rank-init : goal.loop-rank-init
@@ -22,7 +23,7 @@ loop-rank-preserved c =
     let p = package_of c.args.unit in
     let items = c.args.index.now.declared.types.items in
     one_more p c.loop-rank.links.items c.note_definition.new.links.items c.loop-rank.rank (type_of c.index.result.now)
-    (definition_at p items c.loop-rank.rank c.index.result.now c.requires.types (omega (arith, c.loop-rank-test.true, c.len-rank-end.ensures)) c.index.ensures) c.in_ok-note_definition.ensures
+    (item_at type_of items (package_types p) c.loop-rank.rank c.index.result.now c.requires.types (omega (arith, c.loop-rank-test.true, c.len-rank-end.ensures)) c.index.ensures) c.in_ok-note_definition.ensures
     c.loop-rank.invariant
 
 pub returns : goal.returns

@@ -1,7 +1,7 @@
 -- The packages before are in order.
 use Rattle.std.proofs.Common.{◌≡◌, ap, ◌∙◌}
 use Rattle.gr_graph.specs.Graphs.{paths_of}
-use Rattle.gr_graph.specs.Packages.{package_paths}
+use Rattle.gr_text.specs.Packages.{package_paths}
 use Rattle.gr_graph.proofs.PackagePaths.{paths_sorted}
 use Rattle.gr_graph.proofs.graph.Graph.after.Goals as goal
 

@@ -2,7 +2,7 @@
 use Rattle.std.proofs.Common.{◌≡◌, Some, slice_get, ap, subst, ◌∙◌, MatchOption}
 use Rattle.std.specs.List.{Contains}
 use Rattle.gr_graph.specs.Graphs.{paths_of}
-use Rattle.gr_graph.specs.Packages.{package_paths}
+use Rattle.gr_text.specs.Packages.{package_paths}
 use Rattle.gr_graph.proofs.PackagePaths.{paths_sorted}
 use Rattle.gr_graph.proofs.graph.Graph.number_of.Goals as goal
 

@@ -1,17 +1,13 @@
 -- The answers to the goals of `table::ScopeTable::declares`.
-use Rattle.std.proofs.Common.{length, ◌↔◌, ap, IsTrue}
-use Rattle.gr_scope.specs.Table.{layout_of, names_of}
+use Rattle.std.proofs.Common.{◌↔◌, ap, IsTrue}
 use Rattle.gr_scope.specs.Bindings.{Declares}
-use Rattle.gr_scope.proofs.Tables.{of_table, chain_of_table}
+use Rattle.gr_scope.proofs.Tables.{of_table, linked_in_table}
 use Rattle.gr_scope.proofs.table.ScopeTable.declares.Goals as goal
 
 pub returns : goal.returns
 returns c =
     of_table (λ files l names n. IsTrue c.declares.result ↔ Declares l names c.args.u)
-    c.deref-2.result.now c.self.inside.identifiers.items c.self.inside.files.now c.args.self.now c.deref-2.ensures.value (ap (λ p. p.files) c.self.view_is) (ap (λ p. p.sites) c.self.view_is) c.declares.ensures
+    c.deref.result.now c.self.inside.identifiers.items c.self.inside.files.now c.args.self.now c.deref.ensures.value (ap (λ p. p.files) c.self.view_is) (ap (λ p. p.sites) c.self.view_is) c.declares.ensures
 
-pub declares-requires-clause-chain : goal.declares-requires-clause-chain
-declares-requires-clause-chain c =
-    chain_of_table c.deref-2.result.now c.deref.result.now c.self.inside.identifiers.items c.args.u c.name_at.result.now c.chain-chain.result.last c.chain-chain.result.previous.now
-    c.deref-2.ensures.value c.deref.ensures.value c.name_at.ensures
-    (c.chain-chain.ensures (layout_of c.self.inside.identifiers.items) (names_of c.self.inside.identifiers.items) (length c.self.inside.identifiers.items) c.self.invariant.links)
+pub declares-requires-clause-linked : goal.declares-requires-clause-linked
+declares-requires-clause-linked c = linked_in_table c.deref.result.now c.self.inside.identifiers.items c.self.inside.links.last c.self.inside.links.previous.items c.deref.ensures.value c.self.invariant.links

@@ -1,3 +1,4 @@
+-- The invariants of the loops of `checked::Checked::statement`.
 use Rattle.std.proofs.Common.{◌≡◌, drop, map}
 use Rattle.gr_expr.specs.WorldView.{world_of}
 use Rattle.gr_stmt.specs.View.{checked_of, target_of}

@@ -1,3 +1,4 @@
+-- The answers to the goals of `checked::Checked::check_define`.
 use Rattle.std.proofs.Common.{ap, ◌∙◌, map}
 use Rattle.std.proofs.lemmas.Result.{on_ok_weaker}
 use Rattle.gr_parse.specs.View.{exprs_view}

@@ -1,3 +1,4 @@
+-- The answers to the goals of `checked::Checked::check_params`.
 use Rattle.std.proofs.Common.{◌+◌, ap, sym, ◌∙◌, drop}
 use Rattle.std.proofs.Math.ListN.{drop_of_length-le}
 use Rattle.gr_parse.specs.View.{list_view}

@@ -1,3 +1,4 @@
+-- The invariants of the loops of `checked::Checked::check_types`.
 use Rattle.std.proofs.Common.{◌≡◌, drop}
 use Rattle.gr_parse.specs.View.{list_view}
 use Rattle.gr_parse.specs.FileView.{type_spec_view}

@@ -1,0 +1,169 @@
+"""Checks a generated workspace without faults, and compares the time with that of `go vet` on the same files.
+
+The workspace has packages in layers, each importing some of the layer below. Measured: `faults` after all files were put,
+`faults` once more, and a put of one file of a top package and of a package that many import, each with `faults` behind it.
+"""
+import os
+import shutil
+import subprocess
+import sys
+import tempfile
+import time
+
+FILES = 8  # of a package
+FUNCTIONS = 12  # of a file
+WIDTH = 10  # packages of a layer
+
+
+def package_path(number):
+    return f"gen/l{number // WIDTH}/p{number}"
+
+
+def imports_of(number):
+    layer, place = divmod(number, WIDTH)
+    if layer == 0:
+        return []
+    below = (layer - 1) * WIDTH
+    return [below + place, below + (place + 3) % WIDTH]
+
+
+def file_text(number, file):
+    """One file of a package: a type with methods in the first, and functions that use it and the packages below."""
+    lines = [f"package p{number}", ""]
+    below = imports_of(number)
+    for other in below:
+        lines.append(f'import "{package_path(other)}"')
+    if below:
+        lines.append("")
+    if file == 0:
+        lines += [
+            "type Item struct {",
+            "\tCount int",
+            "\tName string",
+            "\tNext *Item",
+            "}",
+            "",
+            "func (i *Item) Add(n int) {",
+            "\ti.Count += n",
+            "}",
+            "",
+            "func (i Item) Total() int {",
+            "\treturn i.Count + len(i.Name)",
+            "}",
+            "",
+            "var Size int = 7",
+            "",
+        ]
+    for function in range(FUNCTIONS):
+        name = f"Sum{file}x{function}"
+        lines += [
+            f"func {name}(values []int, limit int) int {{",
+            "\ttotal := 0",
+            f"\titem := &Item{{Count: limit, Name: \"n{function}\"}}",
+            "\tfor i := 0; i < len(values) && i <= limit; i++ {",
+            f"\t\tif values[i]%2 == 0 || values[i] >= {function} {{",
+            f"\t\t\ttotal += values[i] * {function}",
+            "\t\t} else {",
+            "\t\t\titem.Add(values[i])",
+            "\t\t}",
+            "\t}",
+        ]
+        for other in below:
+            lines.append(f"\ttotal += p{other}.{name}(values, p{other}.Size)")
+        lines += [
+            "\tif item.Next != nil {",
+            "\t\ttotal = total + item.Next.Count",
+            "\t}",
+            "\treturn total + item.Total() + Size",
+            "}",
+            "",
+        ]
+    return "\n".join(lines)
+
+
+def workspace(lines):
+    """Files by path, of about so many lines."""
+    found, count, number = {}, 0, 0
+    while count < lines:
+        for file in range(FILES):
+            text = file_text(number, file)
+            found[f"{package_path(number)}/f{file}.go"] = text.encode()
+            count += text.count("\n")
+        number += 1
+    return found, count, number
+
+
+class Session:
+    def __init__(self, program):
+        self.child = subprocess.Popen([program, "run"], stdin=subprocess.PIPE, stdout=subprocess.PIPE)
+
+    def ask(self, line, body=b""):
+        """The first word, the number and the body of the reply, and its seconds."""
+        begin = time.perf_counter()
+        self.child.stdin.write(line + b"\n" + body)
+        self.child.stdin.flush()
+        word, number, size = self.child.stdout.readline().split()
+        body = self.child.stdout.read(int(size))
+        return word, int(number), body, time.perf_counter() - begin
+
+    def put(self, basis, path, text):
+        word, number, body, seconds = self.ask(b"put %d %s %d" % (basis, path.encode(), len(text)), text)
+        if word != b"ok":
+            sys.exit(f"{path}: {word} {number} {body}")
+        return number, seconds
+
+    def faults(self):
+        word, number, body, seconds = self.ask(b"faults")
+        if word != b"ok" or body:
+            sys.exit(f"faults: {word} {number} {body[:200]}")
+        return seconds
+
+
+def vet(files):
+    """The seconds of `go vet` on the same files, afresh."""
+    if shutil.which("go") is None:
+        return None
+    with tempfile.TemporaryDirectory() as top:
+        for path, text in files.items():
+            name = os.path.join(top, "src", path)
+            os.makedirs(os.path.dirname(name), exist_ok=True)
+            with open(name, "wb") as file:
+                file.write(text)
+        environment = dict(os.environ, GO111MODULE="off", GOPATH=top, GOCACHE=os.path.join(top, "cache"), GOFLAGS="")
+        begin = time.perf_counter()
+        subprocess.run(["go", "vet", "gen/..."], cwd=os.path.join(top, "src"), env=environment, check=True)
+        return time.perf_counter() - begin
+
+
+def measure(program, lines):
+    files, count, packages = workspace(lines)
+    print(f"{count} lines, {len(files)} files, {packages} packages:")
+    session = Session(program)
+    basis, loading = 0, 0.0
+    for path, text in files.items():
+        basis, seconds = session.put(basis, path, text)
+        loading += seconds
+    print(f"  put, all files: {loading:.2f} s")
+    fresh = session.faults()
+    print(f"  faults: {fresh:.2f} s, once more {session.faults():.2f} s")
+    for label, path in (("top", list(files)[-1]), ("bottom", list(files)[0])):
+        basis, seconds = session.put(basis, path, files[path] + b"\nvar more int\n")
+        print(f"  one put in a {label} package: {seconds:.3f} s, then faults: {session.faults():.2f} s")
+    session.child.stdin.close()
+    session.child.wait()
+    beside = vet(files)
+    if beside is None:
+        print("  go vet: skipped, since go is not there")
+    else:
+        print(f"  go vet: {beside:.2f} s; faults takes {fresh / beside:.2f} of it")
+
+
+def main():
+    if len(sys.argv) != 2:
+        sys.exit("usage: bench/check.sh PROGRAM")
+    for lines in (20_000, 200_000):
+        measure(sys.argv[1], lines)
+
+
+if __name__ == "__main__":
+    main()

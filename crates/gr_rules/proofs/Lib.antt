@@ -1,0 +1,21 @@
+-- The lemmas of this crate.
+pub mod Tests
+pub mod Same
+pub mod Fitting
+pub mod Classes
+pub mod Operating
+pub mod Steps
+pub mod Naming
+pub mod Selecting
+pub mod Arguments
+pub mod Calling
+pub mod Elements
+pub mod Soundness
+pub mod Completeness
+pub mod Refusing
+pub mod Settling
+pub mod Placing
+pub mod Misplaced
+pub mod Finding
+pub mod Laws
+pub mod Examples

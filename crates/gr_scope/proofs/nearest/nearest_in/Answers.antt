@@ -1,0 +1,68 @@
+-- The answers to the goals of `nearest::nearest_in`.
+use Rattle.std.proofs.Common.{ℕ, ◌≡◌, ◌<◌, arith, length, inl, inr, true, false, refl, subst, None, Option}
+use Rattle.gr_scope.specs.Regions.{keys_of}
+use Rattle.gr_scope.specs.Table.{layout_of, names_of}
+use Rattle.gr_scope.proofs.Best.{BestSoFar, best_start, best_next, best_known, best_nearest}
+use Rattle.gr_scope.proofs.Chains.{chain_known, walk_known, walk_ends}
+use Rattle.gr_scope.proofs.KeptRegions.{pair}
+use Rattle.gr_scope.proofs.Nests.{nests}
+use Rattle.gr_scope.proofs.nearest.nearest_in.Goals as goal
+use Rattle.gr_scope.proofs.nearest.nearest_in.Goals.{then-improves, else-improves}
+
+pub loop-at-init : goal.loop-at-init
+loop-at-init c =
+    let xs = c.args.identifiers.now in
+    let l = layout_of xs in
+    let names = names_of xs in
+    let last = c.chain-chain.result.last in
+    let previous = c.chain-chain.result.previous.now in
+    let chained = c.chain-chain.ensures l names (length xs) c.requires.linked in
+    record {
+      best = best_start xs c.args.name.now c.args.region c.args.u last previous chained;
+      known = chain_known l (keys_of l names) (length xs) (pair c.args.name.now c.args.region) last previous chained;
+    }
+
+pub improves-requires-clause-second : goal.improves-requires-clause-second
+improves-requires-clause-second c = (c.loop-at.invariant.known c.in-Some.d c.in-Some.is).0
+
+pub improves-requires-clause-known : goal.improves-requires-clause-known
+improves-requires-clause-known c = best_known c.args.identifiers.now c.args.name.now (λ r. r ≡ c.args.region) c.args.u c.loop-at.at c.loop-at.best c.loop-at.invariant.best
+
+pub loop-at-preserved : goal.loop-at-preserved
+loop-at-preserved c =
+    let xs = c.args.identifiers.now in
+    let l = layout_of xs in
+    let names = names_of xs in
+    let previous = c.chain-chain.result.previous.now in
+    let linked = (c.chain-chain.ensures l names (length xs) c.requires.linked).linked in
+    record {
+      best = best_next l (nests l c.requires.well_formed) names c.args.name.now c.args.region c.args.u c.in-Some.d (length xs) previous
+          c.loop-at.at _ None c.loop-at.best c.if-improves.best linked c.in-Some.is refl c.loop-at.invariant.known c.loop-at.invariant.best
+          (elim c.if-improves.branch [
+            | then-improves w ↦ inl (c.improves.ensures.0 w.if-improves.true, w.best-is)
+            | else-improves w ↦ inr ((λ x. let t : c.improves.result ≡ true = c.improves.ensures.1 x in let f : c.improves.result ≡ false = w.if-improves.false in cc), w.best-is)
+          ]);
+      known = walk_known l (keys_of l names) (length xs) (pair c.args.name.now c.args.region) previous c.loop-at.at _ None c.in-Some.d linked c.in-Some.is refl c.loop-at.invariant.known;
+    }
+
+pub returns : goal.returns
+returns c =
+    let xs = c.args.identifiers.now in
+    let P : Option ℕ → Type 0 = λ a. BestSoFar (layout_of xs) (names_of xs) c.args.name.now (λ r. r ≡ c.args.region) c.args.u a c.loop-at.best in
+    best_nearest (layout_of xs) (names_of xs) c.args.name.now (λ r. r ≡ c.args.region) c.args.u c.loop-at.best (subst P c.in_default.is c.loop-at.invariant.best)
+
+pub bounds-chain-d : goal.bounds-chain-d
+bounds-chain-d c =
+    let xs = c.args.identifiers.now in
+    let linked = (c.chain-chain.ensures (layout_of xs) (names_of xs) (length xs) c.requires.linked).linked in
+    let sized : length c.chain-chain.result.previous.now ≡ length xs = linked.sized in
+    let within : c.in-Some.d < length xs = (c.loop-at.invariant.known c.in-Some.d c.in-Some.is).0 in
+    omega arith
+
+pub loop-at-smaller : goal.loop-at-smaller
+loop-at-smaller c =
+    let xs = c.args.identifiers.now in
+    let l = layout_of xs in
+    let names = names_of xs in
+    let linked = (c.chain-chain.ensures l names (length xs) c.requires.linked).linked in
+    walk_ends l (keys_of l names) (length xs) (pair c.args.name.now c.args.region) c.chain-chain.result.previous.now c.loop-at.at _ None c.in-Some.d linked c.in-Some.is refl c.loop-at.invariant.known

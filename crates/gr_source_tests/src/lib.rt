@@ -1,0 +1,20 @@
+//! The tests of the crates that read Go source, over their public calls alone: from the scanner to the checker and the graph.
+//! They stand apart from the crates, since a crate with tests of its own is proved twice.
+#![tactic(auto)]
+
+#[cfg(test)]
+mod expressions;
+#[cfg(test)]
+mod graph;
+#[cfg(test)]
+mod imports;
+#[cfg(test)]
+mod parse;
+#[cfg(test)]
+mod scan;
+#[cfg(test)]
+mod scope;
+#[cfg(test)]
+mod stages;
+#[cfg(test)]
+mod stmt;

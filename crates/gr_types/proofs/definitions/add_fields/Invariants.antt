@@ -1,0 +1,7 @@
+-- The invariants of the loops of `definitions::add_fields`.
+use Rattle.gr_types.specs.PackageView.{package_of}
+use Rattle.gr_types.specs.Building.{HaveMembersBelow}
+use Rattle.gr_types.proofs.definitions.add_fields.Given as goal
+
+abbrev pub invariant-loop-rank : goal.invariant-loop-rank
+invariant-loop-rank l = HaveMembersBelow (package_of l.unit) l.rank 0 l.definitions.items

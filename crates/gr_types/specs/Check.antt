@@ -1,0 +1,66 @@
+-- All the faults of a package, and what is found when it is checked.
+use Rattle.std.specs.Prelude.{ℕ, ◌≡◌, Bool, List, [], Option, None, is_some, length, map, MatchOption}
+use Rattle.std.specs.List.Sorted.{IsStrictlySortedBy}
+use Rattle.gr_fault.specs.declared.fault.Fault.{Fault}
+use Rattle.gr_fault.specs.contracts.fault.FaultOrd.TheImpl as order
+use Rattle.gr_fault.specs.Listing.{Lists}
+use Rattle.gr_fault.specs.Stage.{HasNone, FirstOf}
+use Rattle.gr_parse.specs.SourceFile.{SourceFile, FileParts, source_of}
+use Rattle.gr_scope.specs.Scoped.{ScopedPackage, scoped, layout_in, names_in}
+use Rattle.gr_stages.specs.declared.states.ImportState.{ImportState}
+use Rattle.gr_stages.specs.PackageNames.{IsLaidOver}
+use Rattle.gr_stages.specs.Stages.{IsOuterFault, IsInnerFault, IsFaultIn}
+use Rattle.gr_types.specs.declared.checking.Checked.{Checked}
+use Rattle.gr_types.specs.Package.{Package, Interface, laid_of}
+use Rattle.gr_types.specs.InterfacesView.{interface_of}
+use Rattle.gr_types.specs.Interfaces.{IsInterface}
+use Rattle.gr_types.specs.Members.{IsMemberFault}
+use Rattle.gr_types.specs.Faults.{IsTypeFault}
+use Rattle.gr_types.specs.MemberUses.{AreMemberUses, uses_in}
+
+-- the package of a path and of files, with the identifiers of a table and with the interfaces of other packages
+abbrev pub package_in : (path : List ℕ) → List SourceFile → ScopedPackage → (List ℕ → Interface) → Package
+package_in path files table interface_of = record {
+  path = path;
+  files = files;
+  layout = layout_in table;
+  names = names_in table;
+  size = length table.sites;
+  interface_of = interface_of;
+}
+
+-- The package that is checked, given the names of other packages, by their paths, and what it sees of them: in its table each
+-- import without a name declares the name of the imported package. There is one such package at most.
+pub record IsPackageOf (path : List ℕ) (files : List FileParts) (name_of : List ℕ → Option (List ℕ)) (interface_of : List ℕ → Interface) (p : Package) : Type 0 where
+  pub laid : ScopedPackage
+  pub is_laid : IsLaidOver (map source_of files) name_of (scoped files) laid
+  pub is_package : p ≡ package_in path (map source_of files) laid interface_of
+
+-- whether the package of a path exports a name
+abbrev pub exports_in : Package → (path name : List ℕ) → Bool
+exports_in p path name = is_some ((p.interface_of path).exported name)
+
+-- a fault of a package: one of the first stage that has some; state: what each path is that may be imported
+abbrev pub IsPackageFault : (List ℕ → ImportState) → Package → Fault → Type 0
+IsPackageFault state p = IsFaultIn state p.files (exports_in p) (laid_of p) (IsMemberFault p) (IsTypeFault p)
+
+-- What is found of a package whose faults are those of which P tells: all its faults, each once, by file and token; and where
+-- it has none, what other packages see of it, and its uses of members.
+pub record IsCheckedBy (P : Fault → Type 0) (p : Package) (c : Checked) : Type 0 where
+  pub faults : Lists P c.faults.items
+  pub order : IsStrictlySortedBy order.ghosts.cmp c.faults.items
+  pub interface : MatchOption c.interface (c.faults.items ≡ [] → ⊥) (λ i. (c.faults.items ≡ []) × IsInterface p (interface_of p.path i))
+  pub members : c.faults.items ≡ [] → AreMemberUses p (map uses_in c.members.items)
+
+abbrev pub IsCheckedPackage : (List ℕ → ImportState) → Package → Checked → Type 0
+IsCheckedPackage state p c = IsCheckedBy (IsPackageFault state p) p c
+
+-- the faults of a package whose clauses and imports have none
+abbrev pub IsLaterFault : Package → Fault → Type 0
+IsLaterFault p = FirstOf (IsInnerFault p.files (exports_in p) (laid_of p)) (FirstOf (IsMemberFault p) (IsTypeFault p))
+
+-- What is found of the files of a package: the faults of their clauses or imports, or where these have none what is found in
+-- the package that they make.
+pub data IsFoundIn (path : List ℕ) (files : List FileParts) (state : List ℕ → ImportState) (name_of : List ℕ → Option (List ℕ)) (interface_of : List ℕ → Interface) (c : Checked) : Type 0 where
+  outside : (c.faults.items ≡ [] → ⊥) → Lists (IsOuterFault state (map source_of files)) c.faults.items → c.interface ≡ None → IsFoundIn path files state name_of interface_of c
+  inside : {p : Package} → HasNone (IsOuterFault state (map source_of files)) → IsPackageOf path files name_of interface_of p → IsCheckedBy (IsLaterFault p) p c → IsFoundIn path files state name_of interface_of c

@@ -1,0 +1,207 @@
+//! The check of a package: all its faults, and where it has none, what other packages see of it and its uses of members.
+ghost use Rattle.std.specs.Prelude.{ℕ, List, Option, None, ◌≡◌, map, IfOk};
+ghost use Rattle.std.specs.List.Sorted.{IsStrictlySortedBy};
+ghost use Rattle.gr_fault.specs.contracts.fault.FaultOrd.TheImpl as order;
+ghost use Rattle.gr_parse.specs.SourceFile.{FileParts, source_of};
+ghost use Rattle.gr_scope.specs.Scoped.{scoped};
+ghost use Rattle.gr_stages.specs.PackageNames.{IsLaidOver};
+ghost use Rattle.gr_types.specs.Package.{Package as Plain, Interface as Exported};
+ghost use Rattle.gr_types.specs.InterfacesView.{name_in, interface_in};
+ghost use Rattle.gr_fault.specs.Stage.{FirstOf};
+ghost use Rattle.gr_stages.specs.States.{state_in};
+ghost use Rattle.gr_types.specs.Broken.{AreBroken};
+ghost use Rattle.gr_types.specs.Members.{IsMemberFault};
+ghost use Rattle.gr_types.specs.MembersView.{HaveDefinitions};
+ghost use Rattle.gr_types.specs.Faults.{IsTypeFault};
+ghost use Rattle.gr_types.specs.Check.{package_in, IsPackageOf, IsCheckedBy, IsCheckedPackage, IsLaterFault, IsFoundIn};
+ghost use Rattle.gr_types.specs.PackageView.{package_of, IsIndexOf};
+
+use crate::bounds::bounds_of;
+use crate::broken::broken_definitions;
+use crate::definitions::definitions;
+use crate::exporting::interface;
+use crate::field_marks::counting_fields;
+use crate::interfaces::{Interface, Interfaces};
+use crate::members::member_faults;
+use crate::method_marks::counting_methods;
+use crate::methods::owners;
+use crate::struct_fields::fields;
+use crate::type_faults::type_faults;
+use crate::underlying::underlying_types;
+use crate::unit::{Index, Package};
+use gr_expr::found::MemberUse;
+use gr_expr::symbol::SharedPath;
+use gr_expr::world::Definition;
+use gr_fault::Fault;
+use gr_parse::FileTree;
+use gr_scope::declare::declare;
+use gr_scope::table::ScopeTable;
+use gr_stages::{inner_faults, lay_names, outer_faults};
+use std::alloc::{AllocError, Global};
+
+/// What is found in a package: its faults by file and token; where it has none, its interface, and for each file by its rank
+/// the uses of members.
+#[derive(Drop)]
+pub struct Checked {
+    pub faults: Vec<Fault>,
+    pub interface: Option<Interface>,
+    pub members: Vec<Vec<MemberUse>>,
+}
+
+impl Checked {
+    /// What is found of a package that has faults.
+    fn faulty(alloc: Global, faults: Vec<Fault>) -> Checked
+        ensures faults { result.faults ≡ faults }
+        ensures interface { result.interface ≡ None }
+    {
+        Checked {
+            faults,
+            interface: None,
+            members: Vec::new(alloc),
+        }
+    }
+}
+
+/// The last stage: the faults of types.
+fn check_types(
+    alloc: Global,
+    unit: Package<'_>,
+    index: &Index<'_>,
+    broken: &[bool],
+    definitions: Vec<Definition>,
+) -> Result<Checked, AllocError>
+    requires index { IsIndexOf (package_of unit) index.now }
+    requires broken { AreBroken (package_of unit) broken.now }
+    requires definitions { HaveDefinitions (package_of unit) definitions.items }
+    ensures { IfOk result (λ c. IsCheckedBy (IsTypeFault (package_of unit.entry)) (package_of unit.entry) c) }
+{
+    let mut bounds = bounds_of(alloc, unit, index, broken)?;
+    let typed = type_faults(alloc, unit, index, &mut bounds, &definitions)?;
+    if !typed.faults.is_empty() {
+        return Ok(Checked::faulty(alloc, typed.faults));
+    }
+    let interface = interface(alloc, unit, &bounds, definitions)?;
+    Ok(Checked {
+        faults: typed.faults,
+        interface: Some(interface),
+        members: typed.members,
+    })
+}
+
+/// The last two stages: the faults of members, and without one those of types.
+fn check_definitions(alloc: Global, unit: Package<'_>) -> Result<Checked, AllocError>
+    ensures { IfOk result (λ c. IsCheckedBy (FirstOf (IsMemberFault (package_of unit.entry)) (IsTypeFault (package_of unit.entry))) (package_of unit.entry) c) }
+{
+    let index = Index::of(alloc, unit)?;
+    let broken = broken_definitions(alloc, unit, &index)?;
+    let underlying = underlying_types(alloc, unit, &index)?;
+    let fields = fields(alloc, unit, &index)?;
+    let own_fields = counting_fields(alloc, unit, &fields)?;
+    let owners = owners(alloc, unit, &index)?;
+    let own_methods = counting_methods(alloc, unit, &index, &fields, &owners, &underlying)?;
+    let faults = member_faults(
+        alloc,
+        unit,
+        &index,
+        &fields,
+        &own_fields,
+        &owners,
+        &own_methods,
+    )?;
+    if !faults.is_empty() {
+        return Ok(Checked::faulty(alloc, faults));
+    }
+    let definitions = definitions(
+        alloc,
+        unit,
+        &index,
+        &broken,
+        &underlying,
+        &fields,
+        &own_fields,
+        &owners,
+        &own_methods,
+    )?;
+    check_types(alloc, unit, &index, &broken, definitions)
+}
+
+/// The stages behind those of clauses and imports.
+fn check_package(alloc: Global, unit: Package<'_>) -> Result<Checked, AllocError>
+    ensures { IfOk result (λ c. IsCheckedBy (IsLaterFault (package_of unit.entry)) (package_of unit.entry) c) }
+{
+    let faults = inner_faults(alloc, unit.table, unit.files, unit.interfaces)?;
+    if !faults.is_empty() {
+        return Ok(Checked::faulty(alloc, faults));
+    }
+    check_definitions(alloc, unit)
+}
+
+/// The table of a package in which each import without a name declares the name of the imported package.
+fn laid<'a>(
+    alloc: Global,
+    files: &'a [FileTree],
+    interfaces: &'a Interfaces,
+) -> Result<ScopeTable<'a>, AllocError>
+    ensures { IfOk result (λ table. IsLaidOver (map source_of files.now) (name_in interfaces.now) (scoped files.now) table) }
+{
+    let plain = declare(alloc, files)?;
+    lay_names(alloc, &plain, files, interfaces)
+}
+
+/// What is found in the package of a path whose clauses and imports have no faults.
+fn check_laid(
+    alloc: Global,
+    path: &SharedPath,
+    files: &[FileTree],
+    table: &ScopeTable<'_>,
+    interfaces: &Interfaces,
+) -> Result<Checked, AllocError>
+    ensures { IfOk result (λ c. let p = package_in path.now (map source_of files.now) table.now (interface_in interfaces.now) in IsCheckedBy (IsLaterFault p) p c) }
+{
+    let unit = Package {
+        path,
+        files,
+        table,
+        interfaces,
+    };
+    check_package(alloc, unit)
+}
+
+/// What is found in the package of a path, where its files and what it sees last equally long.
+fn check_files<'a>(
+    alloc: Global,
+    path: &SharedPath,
+    files: &'a [FileTree],
+    interfaces: &'a Interfaces,
+) -> Result<Checked, AllocError>
+    ensures order { IfOk result (λ c. IsStrictlySortedBy order.ghosts.cmp c.faults.items) }
+    ensures found { IfOk result (IsFoundIn path.now files.now (state_in interfaces.now.states) (name_in interfaces.now) (interface_in interfaces.now)) }
+    ensures checked { IfOk result (λ c. (p : Plain) → IsPackageOf path.now files.now (name_in interfaces.now) (interface_in interfaces.now) p → IsCheckedPackage (state_in interfaces.now.states) p c) }
+{
+    let faults = outer_faults(alloc, interfaces.states(), files)?;
+    if !faults.is_empty() {
+        return Ok(Checked::faulty(alloc, faults));
+    }
+    let table = laid(alloc, files, interfaces)?;
+    check_laid(alloc, path, files, &table, interfaces)
+}
+
+/// What is found in the package of a path. Its files are in the order of their paths.
+pub fn check(
+    alloc: Global,
+    path: &SharedPath,
+    files: &[FileTree],
+    interfaces: &Interfaces,
+) -> Result<Checked, AllocError>
+    ensures order { IfOk result (λ c. IsStrictlySortedBy order.ghosts.cmp c.faults.items) }
+    ensures found { IfOk result (IsFoundIn path.now files.now (state_in interfaces.now.states) (name_in interfaces.now) (interface_in interfaces.now)) }
+    ensures checked { IfOk result (λ c. (p : Plain) → IsPackageOf path.now files.now (name_in interfaces.now) (interface_in interfaces.now) p → IsCheckedPackage (state_in interfaces.now.states) p c) }
+{
+    check_files(alloc, path, files, interfaces)
+}
+
+/// The package that is checked is determined by its path, its files and the interfaces of other packages.
+pub fn packages_are_unique()
+    ensures { (path : List ℕ) → (files : List FileParts) → (name_of : List ℕ → Option (List ℕ)) → (interface_of : List ℕ → Exported) → (p q : Plain) →
+        IsPackageOf path files name_of interface_of p → IsPackageOf path files name_of interface_of q → p ≡ q }
+{}

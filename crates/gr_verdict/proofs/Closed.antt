@@ -1,0 +1,36 @@
+-- What lies in the closure of a package.
+use Rattle.std.proofs.Common.{ℕ, ◌≡◌, List, sym, subst}
+use Rattle.std.specs.Prelude.{Contains}
+use Rattle.gr_text.specs.Workspace.{Workspace}
+use Rattle.gr_text.specs.Packages.{package_paths}
+use Rattle.gr_graph.specs.Packages.{PackageImports, IsInClosure, itself, through}
+use Rattle.gr_graph.proofs.Asked.{has_file}
+use Rattle.gr_verdict.specs.Verdicts.{BuildsOn}
+
+-- both ends are packages
+
+pub from_package : (w : Workspace) (p q : List ℕ) → IsInClosure w p q → Contains (package_paths w) p
+from_package w p q (itself has) = has
+from_package w p q (through imports rest) = has_file w p imports.entry imports.of_package
+
+pub to_package : (w : Workspace) (p q : List ℕ) → IsInClosure w p q → Contains (package_paths w) q
+to_package w p q (itself has) = has
+to_package w p r (through {q = q} imports rest) = to_package w q r rest
+
+pub in_closure_then : (w : Workspace) (p q r : List ℕ) → IsInClosure w p q → IsInClosure w q r → IsInClosure w p r
+in_closure_then w p q r (itself has) b = b
+in_closure_then w p q r (through {q = m} imports rest) b = through imports (in_closure_then w m q r rest b)
+
+pub imports_closed : (w : Workspace) (p q : List ℕ) → PackageImports w p q → Contains (package_paths w) q → IsInClosure w p q
+imports_closed w p q imports has = through imports (itself has)
+
+-- a package does not build on itself
+pub not_on_itself : (w : Workspace) (p q : List ℕ) → BuildsOn w p q → q ≡ p → ⊥
+not_on_itself w p q on e = on.not_back (subst (λ r. IsInClosure w q r) e (subst (λ r. IsInClosure w r r) (sym e) (itself (from_package w p q on.imported))))
+
+-- what it builds on builds on no less
+pub builds_then : (w : Workspace) (p q r : List ℕ) → BuildsOn w p q → BuildsOn w q r → BuildsOn w p r
+builds_then w p q r a b = record {
+  imported = in_closure_then w p q r a.imported b.imported;
+  not_back = λ back. b.not_back (in_closure_then w r p q back a.imported);
+}

@@ -1,0 +1,23 @@
+-- The lemmas of this crate.
+pub mod Members
+pub mod FaultOrder
+pub mod Closed
+pub mod OneSeen
+pub mod Alike
+pub mod OnePackage
+pub mod OneVerdict
+pub mod OneList
+pub mod Local
+pub mod PlacedSites
+pub mod FaultFiles
+pub mod PackageFiles
+pub mod Importing
+pub mod Sizes
+pub mod Sharing
+pub mod Noting
+pub mod Placed
+pub mod Unread
+pub mod Judged
+pub mod Adding
+pub mod Listing
+pub mod Examples

@@ -1,0 +1,14 @@
+-- The invariants of the loops of `seeing::note_imports`.
+use Rattle.std.proofs.Common.{take}
+use Rattle.gr_graph.specs.Graphs.{OfPackage}
+use Rattle.gr_stages.specs.States.{state_in}
+use Rattle.gr_verdict.specs.Found.{known_by}
+use Rattle.gr_verdict.specs.Steps.{KnowsSameOfOthers}
+use Rattle.gr_verdict.proofs.Noting.{AreNoted}
+use Rattle.gr_verdict.proofs.seeing.note_imports.Given as goal
+
+abbrev pub invariant-loop-import : goal.invariant-loop-import
+invariant-loop-import l = record {
+  noted : OfPackage l.graph l.number (λ p. AreNoted l.graph (known_by l.all) p (take l.import-index l.import-items) (state_in l.seen.states));
+  kept : KnowsSameOfOthers l.initial.seen l.seen;
+}

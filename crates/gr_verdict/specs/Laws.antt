@@ -1,0 +1,43 @@
+-- The laws of verdicts, as statements.
+use Rattle.std.specs.Prelude.{ℕ, ◌≡◌, false, List, Contains}
+use Rattle.gr_text.specs.Workspace.{Workspace}
+use Rattle.gr_text.specs.Packages.{package_paths}
+use Rattle.gr_types.specs.Package.{Package}
+use Rattle.gr_verdict.specs.declared.fault.FileFault.{FileFault}
+use Rattle.gr_verdict.specs.Verdicts.{Verdict, Verdicts, IsPackageIn, IsVerdict, AreVerdictsBelow}
+use Rattle.gr_verdict.specs.FaultLists.{ListsPackageFaults, ListsFaults}
+use Rattle.gr_verdict.specs.Closures.{HasSameClosure}
+
+-- both say the same: whether there are faults, and where there are none, what others see
+pub record IsSameVerdict (v u : Verdict) : Type 0 where
+  pub faulty : v.faulty ≡ u.faulty
+  pub interface : v.faulty ≡ false → v.interface ≡ u.interface
+
+-- a package has one verdict at most
+abbrev pub HaveOneVerdict : Type 0
+HaveOneVerdict = (w : Workspace) (p : List ℕ) (v u : Verdict) → IsVerdict w p v → IsVerdict w p u → IsSameVerdict v u
+
+-- a package is checked as one thing at most
+abbrev pub AreCheckedAsOne : Type 0
+AreCheckedAsOne = (w : Workspace) (p : List ℕ) (a b : Verdicts) → AreVerdictsBelow w p a → AreVerdictsBelow w p b →
+    (x y : Package) → IsPackageIn w a p x → IsPackageIn w b p y → x ≡ y
+
+-- a package has one fault list at most, and so has a workspace
+abbrev pub HaveOneList : Type 0
+HaveOneList = (w : Workspace) (p : List ℕ) (a b : List FileFault) → ListsPackageFaults w p a → ListsPackageFaults w p b → a ≡ b
+
+abbrev pub HaveOneWholeList : Type 0
+HaveOneWholeList = (w : Workspace) (a b : List FileFault) → ListsFaults w a → ListsFaults w b → a ≡ b
+
+-- where the closure of a package has the same texts in two workspaces, it has the same verdict in both
+abbrev pub AreLocalVerdicts : Type 0
+AreLocalVerdicts = (w x : Workspace) (p : List ℕ) (v : Verdict) → Contains (package_paths w) p → HasSameClosure w x p → IsVerdict w p v → IsVerdict x p v
+
+-- and the same fault list
+abbrev pub AreLocalLists : Type 0
+AreLocalLists = (w x : Workspace) (p : List ℕ) (list : List FileFault) → Contains (package_paths w) p → HasSameClosure w x p → ListsPackageFaults w p list → ListsPackageFaults x p list
+
+-- and is checked as the same
+abbrev pub AreLocallyChecked : Type 0
+AreLocallyChecked = (w x : Workspace) (p : List ℕ) (known : Verdicts) (c : Package) → Contains (package_paths w) p → HasSameClosure w x p → AreVerdictsBelow w p known → IsPackageIn w known p c →
+    AreVerdictsBelow x p known × IsPackageIn x known p c

@@ -1,0 +1,8 @@
+-- The definitions of this crate.
+pub mod Faults
+pub mod Verdicts
+pub mod FaultLists
+pub mod Closures
+pub mod Laws
+pub mod Found
+pub mod Steps

@@ -1,0 +1,113 @@
+-- What is found on the way: an order of the packages, what one of them sees, its faults with their places, and what is found
+-- with one package more.
+use Rattle.std.specs.Prelude.{ℕ, ◌≡◌, ◌<◌, ◌↔◌, ◌⊎◌, List, [], length, map, Option, Some, None, slice_get, slice_index_or, MatchOption, Contains}
+use Rattle.std.specs.List.Sorted.{IsStrictlyIncreasing}
+use Rattle.std.proofs.Math.ListN.{set}
+use Rattle.gr_text.specs.Workspace.{Workspace}
+use Rattle.gr_text.specs.Packages.{package_paths}
+use Rattle.gr_fault.specs.declared.fault.Fault.{Fault}
+use Rattle.gr_parse.specs.SourceFile.{SourceFile, FileParts, source_of}
+use Rattle.gr_graph.specs.FaultyFiles.{FaultyParts}
+use Rattle.gr_graph.specs.Graphs.{HoldsPackages}
+use Rattle.gr_graph.specs.Packages.{IsInClosure}
+use Rattle.gr_types.specs.InterfacesView.{name_in, interface_in, interface_of, KnowsSame, Shares, AddsInterface}
+use Rattle.gr_types.specs.declared.interfaces.Interface.{Interface}
+use Rattle.gr_types.specs.declared.interfaces.Interfaces.{Interfaces}
+use Rattle.gr_verdict.specs.Faults.{placed, placed_in}
+use Rattle.gr_verdict.specs.Verdicts.{Verdicts, BuildsOn, IsFaultBy, HasInterface, IsVerdictBy, IsVerdict}
+use Rattle.gr_verdict.specs.FaultLists.{AreListed}
+use Rattle.gr_verdict.specs.Found.{known_by, AreWhole, AreUsesOf, IsFinding}
+use Rattle.gr_verdict.specs.declared.fault.FileFault.{FileFault}
+use Rattle.gr_verdict.specs.declared.finding.Finding.{Finding}
+use Rattle.gr_verdict.specs.declared.judging.Judged.{Judged}
+
+-- An order
+
+-- how many packages the closure of p holds
+pub record IsSize (w : Workspace) (p : List ℕ) (size : ℕ) : Type 0 where
+  pub numbers : List ℕ
+  pub rising : IsStrictlyIncreasing numbers
+  pub holds : HoldsPackages w (IsInClosure w p) numbers
+  pub is : size ≡ length numbers
+
+-- that of each of the first packages
+pub record AreSizes (w : Workspace) (count : ℕ) (sizes : List ℕ) : Type 0 where
+  pub size : length sizes ≡ count
+  pub each : (i : ℕ) (p : List ℕ) → i < count → slice_get (package_paths w) i ≡ Some p → IsSize w p (slice_index_or sizes i 0)
+
+-- all packages, each once, behind those that it builds on
+pub record IsBuildOrder (w : Workspace) (order : List ℕ) : Type 0 where
+  pub each : (n : ℕ) → Contains order n ↔ (n < length (package_paths w))
+  pub once : (i j n : ℕ) → slice_get order i ≡ Some n → slice_get order j ≡ Some n → i ≡ j
+  pub behind : (i n m : ℕ) (p q : List ℕ) → slice_get order i ≡ Some n → slice_get (package_paths w) n ≡ Some p → slice_get (package_paths w) m ≡ Some q → BuildsOn w p q →
+      (j : ℕ) × (j < i) × (slice_get order j ≡ Some m)
+
+-- What a package sees
+
+-- what all know of q is shared, if p builds on q
+abbrev pub MayShare : Workspace → (p q : List ℕ) → (all old new : Interfaces) → Type 0
+MayShare w p q all old new = (BuildsOn w p q × Shares all old new q) ⊎ ((BuildsOn w p q → ⊥) × (new ≡ old))
+
+-- one of some packages, by their numbers, on which p builds
+pub record IsSharedOf (w : Workspace) (p : List ℕ) (numbers : List ℕ) (q : List ℕ) : Type 0 where
+  pub number : ℕ
+  pub among : Contains numbers number
+  pub has_path : slice_get (package_paths w) number ≡ Some q
+  pub builds_on : BuildsOn w p q
+
+-- the names and the interfaces stay
+pub record KnowsSameOfOthers (old new : Interfaces) : Type 0 where
+  pub names : (q : List ℕ) → name_in new q ≡ name_in old q
+  pub interfaces : (q : List ℕ) → interface_in new q ≡ interface_in old q
+
+-- Faults with their places
+
+-- the faults of files that have no tree
+abbrev pub unread_faults : List FaultyParts → List FileFault
+unread_faults files = map (λ f. placed f.path f.fault) files
+
+-- a fault of one of the files
+pub record IsPlacedAs (files : List FileParts) (fault : Fault) (f : FileFault) : Type 0 where
+  pub source : SourceFile
+  pub in_file : slice_get (map source_of files) fault.file ≡ Some source
+  pub at : f ≡ placed_in source fault
+
+-- one of some faults
+pub record IsPlacedOf (files : List FileParts) (faults : List Fault) (f : FileFault) : Type 0 where
+  pub fault : Fault
+  pub among : Contains faults fault
+  pub is_placed : IsPlacedAs files fault f
+
+-- the fault was added, if it is one of the files
+abbrev pub AddsPlaced : List FileParts → Fault → List FileFault → List FileFault → Type 0
+AddsPlaced files fault old new = (f : FileFault) → Contains new f ↔ (Contains old f ⊎ IsPlacedAs files fault f)
+
+-- One package
+
+-- the faults of p, or what others see of it and its uses of members
+pub record IsJudged (w : Workspace) (known : Verdicts) (p : List ℕ) (j : Judged) : Type 0 where
+  pub listed : AreListed (IsFaultBy w known p) j.faults.items
+  pub has_interface : MatchOption j.interface (j.faults.items ≡ [] → ⊥) (λ i. (j.faults.items ≡ []) × HasInterface w known p (interface_of p i))
+  pub uses : j.faults.items ≡ [] → AreUsesOf w known p j.members.items
+
+-- an interface was added, if there is one
+abbrev pub MayAdd : (old new : Interfaces) (path : List ℕ) → Option Interface → Type 0
+MayAdd old new path None = new ≡ old
+MayAdd old new path (Some i) = AddsInterface old new path i
+
+-- the package p of that number was judged by what was known
+pub record Judges (w : Workspace) (p : List ℕ) (number : ℕ) (old new : List Finding) (all more : Interfaces) : Type 0 where
+  pub finding : Finding
+  pub is_set : new ≡ set old number finding
+  pub is_finding : IsFinding w (known_by all) p finding
+  pub is_verdict : IsVerdictBy w (known_by all) p (known_by more p)
+  pub elsewhere : (q : List ℕ) → (q ≡ p → ⊥) → KnowsSame all more q
+  pub whole : AreWhole more
+
+-- the packages of some numbers were judged
+pub record AreJudged (w : Workspace) (numbers : List ℕ) (packages : List Finding) (all : Interfaces) : Type 0 where
+  pub paths : map (λ f. f.path) packages ≡ package_paths w
+  pub found : (n : ℕ) (p : List ℕ) (f : Finding) → Contains numbers n → slice_get (package_paths w) n ≡ Some p → slice_get packages n ≡ Some f → IsFinding w (known_by all) p f
+  pub right : (n : ℕ) (p : List ℕ) → Contains numbers n → slice_get (package_paths w) n ≡ Some p → IsVerdict w p (known_by all p)
+  pub fresh : (n : ℕ) (p : List ℕ) → (Contains numbers n → ⊥) → slice_get (package_paths w) n ≡ Some p → name_in all p ≡ None
+  pub whole : AreWhole all

@@ -1,0 +1,92 @@
+//! The faults of one package, or its interface and its uses of members.
+ghost use Rattle.std.specs.Prelude.{ℕ, ◌≡◌, ◌<◌, [], length, IfOk};
+ghost use Rattle.gr_text.specs.Packages.{package_paths};
+ghost use Rattle.gr_text.specs.Workspace.{Workspace};
+ghost use Rattle.gr_graph.specs.Graphs.{IsPackage, OfPackage};
+ghost use Rattle.gr_verdict.specs.Verdicts.{Verdicts};
+ghost use Rattle.gr_verdict.specs.Found.{known_by, AreWhole};
+ghost use Rattle.gr_verdict.specs.Steps.{IsJudged};
+
+use crate::fault::{FileFault, sort};
+use crate::placing::{placed_faults, unread_faults};
+use crate::seeing::{note_imports, seen};
+use gr_expr::found::MemberUse;
+use gr_expr::symbol::SharedPath;
+use gr_graph::{Graph, Package};
+use gr_types::{Checked, Interface, Interfaces, check};
+use std::alloc::{AllocError, Global};
+
+/// The faults of a package; where it has none its interface, and for each of its files the uses of members.
+#[derive(Drop)]
+pub(crate) struct Judged {
+    pub(crate) faults: Vec<FileFault>,
+    pub(crate) interface: Option<Interface>,
+    pub(crate) members: Vec<Vec<MemberUse>>,
+}
+
+/// What is found in a package of which some file has no tree.
+fn judge_unread(alloc: Global, files: &Package) -> Result<Judged, AllocError>
+    requires { files.now.faulty.items ≡ [] → ⊥ }
+    ensures { IfOk result (λ j. (w : Workspace) → (number : ℕ) → (known : Verdicts) → IsPackage w number files.now → OfPackage w number (λ p. IsJudged w known p j)) }
+{
+    let mut faults = unread_faults(alloc, &files.faulty)?;
+    sort(&mut faults);
+    Ok(Judged {
+        faults,
+        interface: None,
+        members: Vec::new(alloc),
+    })
+}
+
+/// What is found in a package each of whose files has a tree.
+fn judge_read(
+    alloc: Global,
+    graph: &Graph,
+    number: usize,
+    files: &Package,
+    path: &SharedPath,
+    all: &Interfaces,
+) -> Result<Judged, AllocError>
+    requires in_range { number < length (package_paths graph.now) }
+    requires files { IsPackage graph.now number files.now }
+    requires read { files.now.faulty.items ≡ [] }
+    requires path { OfPackage graph.now number (λ p. path.now ≡ p) }
+    requires whole { AreWhole all.now }
+    ensures { IfOk result (λ j. OfPackage graph.now number (λ p. IsJudged graph.now (known_by all.now) p j)) }
+{
+    let mut interfaces = seen(alloc, graph, number, all)?;
+    note_imports(alloc, &mut interfaces, graph, number, all)?;
+    let Checked {
+        faults,
+        interface,
+        members,
+    } = check(alloc, path, &files.trees, &interfaces)?;
+    let mut faults = placed_faults(alloc, &files.trees, &faults)?;
+    sort(&mut faults);
+    Ok(Judged {
+        faults,
+        interface,
+        members,
+    })
+}
+
+/// What is found in a package, by the interfaces of those that it builds on.
+pub(crate) fn judge(
+    alloc: Global,
+    graph: &Graph,
+    number: usize,
+    path: &SharedPath,
+    all: &Interfaces,
+) -> Result<Judged, AllocError>
+    requires in_range { number < length (package_paths graph.now) }
+    requires path { OfPackage graph.now number (λ p. path.now ≡ p) }
+    requires whole { AreWhole all.now }
+    ensures { IfOk result (λ j. OfPackage graph.now number (λ p. IsJudged graph.now (known_by all.now) p j)) }
+{
+    let files = graph.package(number);
+    if files.faulty.is_empty() {
+        judge_read(alloc, graph, number, files, path, all)
+    } else {
+        judge_unread(alloc, files)
+    }
+}

@@ -1,0 +1,34 @@
+//! The laws of verdicts and fault lists.
+ghost use Rattle.gr_verdict.specs.Laws.{
+  HaveOneVerdict,
+  AreCheckedAsOne,
+  HaveOneList,
+  HaveOneWholeList,
+  AreLocalVerdicts,
+  AreLocalLists,
+  AreLocallyChecked,
+};
+
+/// A package has one verdict at most.
+pub fn verdicts_are_unique()
+    ensures { HaveOneVerdict }
+{}
+
+/// A package is checked as one thing at most.
+pub fn checked_packages_are_unique()
+    ensures { AreCheckedAsOne }
+{}
+
+/// A package and a workspace have one fault list at most.
+pub fn fault_lists_are_unique()
+    ensures of_package { HaveOneList }
+    ensures of_workspace { HaveOneWholeList }
+{}
+
+/// Where the closure of a package has the same texts in two workspaces, the package has the same verdict and the same fault
+/// list in both, and is checked as the same.
+pub fn verdicts_are_local()
+    ensures verdicts { AreLocalVerdicts }
+    ensures lists { AreLocalLists }
+    ensures checked { AreLocallyChecked }
+{}

@@ -1,0 +1,20 @@
+//! What is found in each package of a workspace: its faults, and where it has none what other packages see of it, and its uses
+//! of members.
+#![tactic(auto)]
+
+mod fault;
+mod fault_list;
+mod finding;
+mod findings;
+mod judging;
+pub mod laws;
+mod order;
+mod placing;
+mod reaching;
+mod seeing;
+
+pub use fault::FileFault;
+pub use fault_list::faults;
+pub use finding::Finding;
+pub use findings::{Findings, verdicts};
+pub use seeing::seen;

@@ -1,0 +1,49 @@
+//! An order of all packages, in which each comes behind those that it builds on.
+ghost use Rattle.std.specs.Prelude.{ℕ, ◌≡◌, length, slice_index_or, IfOk};
+ghost use Rattle.gr_text.specs.Packages.{package_paths};
+ghost use Rattle.gr_graph.specs.Imports.{HoldsBelow};
+ghost use Rattle.gr_verdict.specs.Steps.{AreSizes, IsBuildOrder};
+
+use gr_graph::Graph;
+use std::alloc::{AllocError, Global};
+
+/// How many packages each one reaches.
+fn sizes(alloc: Global, graph: &Graph) -> Result<Vec<usize>, AllocError>
+    ensures { IfOk result (λ sizes. AreSizes graph.now (length (package_paths graph.now)) sizes.items) }
+{
+    let mut sizes = Vec::new(alloc);
+    for number in 0..graph.len() {
+        sizes.push(graph.closure(number).len())?;
+    }
+    Ok(sizes)
+}
+
+fn size_at(sizes: &[usize], number: usize) -> usize
+    ensures { result ≡ slice_index_or sizes.now number 0 }
+{
+    match sizes.get(number) {
+        Some(size) => *size,
+        None => 0,
+    }
+}
+
+/// The numbers below one.
+fn numbers(alloc: Global, count: usize) -> Result<Vec<usize>, AllocError>
+    ensures { IfOk result (λ numbers. HoldsBelow (λ n. Unit {0}) count numbers.items) }
+{
+    let mut numbers = Vec::new(alloc);
+    for number in 0..count {
+        numbers.push(number)?;
+    }
+    Ok(numbers)
+}
+
+/// All packages, those first that reach the fewest: what a package builds on reaches fewer than it.
+pub(crate) fn order(alloc: Global, graph: &Graph) -> Result<Vec<usize>, AllocError>
+    ensures { IfOk result (λ order. IsBuildOrder graph.now order.items) }
+{
+    let sizes = sizes(alloc, graph)?;
+    let mut order = numbers(alloc, graph.len())?;
+    order.sort_by_key(|number| size_at(&sizes, *number))?;
+    Ok(order)
+}

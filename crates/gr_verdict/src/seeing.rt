@@ -1,0 +1,91 @@
+//! What a package sees of others, and what each path is that it imports.
+ghost use Rattle.std.specs.Prelude.{ℕ, ◌≡◌, ◌<◌, List, length, IfOk, OnOk};
+ghost use Rattle.gr_text.specs.Packages.{package_paths};
+ghost use Rattle.gr_graph.specs.Graphs.{OfPackage};
+ghost use Rattle.gr_graph.specs.Packages.{PackageImports, IsInClosure};
+ghost use Rattle.gr_stages.specs.States.{state_in};
+ghost use Rattle.gr_stages.specs.declared.states.ImportState.TheVariants.{Missing};
+ghost use Rattle.gr_types.specs.InterfacesView.{name_in, interface_in};
+ghost use Rattle.gr_verdict.specs.Verdicts.{IsStateOf, AreStates, AreSeen};
+ghost use Rattle.gr_verdict.specs.Found.{known_by, AreWhole};
+ghost use Rattle.gr_verdict.specs.Steps.{MayShare, KnowsSameOfOthers};
+
+use crate::reaching::reaches;
+use gr_graph::Graph;
+use gr_stages::{ImportState, PackageNames};
+use gr_types::Interfaces;
+use std::alloc::{AllocError, Global};
+
+/// Shares what all know of a package in the closure of another with what that one sees, if that one builds on it.
+fn share(
+    alloc: Global,
+    seen: &mut Interfaces,
+    graph: &Graph,
+    number: usize,
+    other: usize,
+    all: &Interfaces,
+) -> Result<(), AllocError>
+    requires in_range { other < length (package_paths graph.now) }
+    requires in_closure { OfPackage graph.now number (λ p. OfPackage graph.now other (λ q. IsInClosure graph.now p q)) }
+    ensures { OnOk result (OfPackage graph.now number (λ p. OfPackage graph.now other (λ q. MayShare graph.now p q all.now seen.old seen.new))) }
+{
+    if reaches(graph, other, number) {
+        return Ok(());
+    }
+    seen.share(alloc, all, &graph.package(other).path)
+}
+
+/// What a package sees of others: the names and the interfaces of those without faults that it builds on. What the imported
+/// paths are is not noted.
+pub fn seen(
+    alloc: Global,
+    graph: &Graph,
+    number: usize,
+    all: &Interfaces,
+) -> Result<Interfaces, AllocError>
+    requires in_range { number < length (package_paths graph.now) }
+    requires whole { AreWhole all.now }
+    ensures seen { IfOk result (λ i. OfPackage graph.now number (λ p. AreSeen graph.now (known_by all.now) p (name_in i) (interface_in i))) }
+    ensures states { IfOk result (λ i. (path : List ℕ) → state_in i.states path ≡ Missing) }
+{
+    let mut seen = Interfaces::new(alloc);
+    for other in graph.closure(number) {
+        share(alloc, &mut seen, graph, number, *other, all)?;
+    }
+    Ok(seen)
+}
+
+/// What an imported package is to the one that imports it.
+fn state_of(graph: &Graph, number: usize, import: usize, all: &Interfaces) -> ImportState
+    requires in_range { import < length (package_paths graph.now) }
+    requires imports { OfPackage graph.now number (λ p. OfPackage graph.now import (λ q. PackageImports graph.now p q)) }
+    ensures { OfPackage graph.now number (λ p. OfPackage graph.now import (λ q. IsStateOf graph.now (known_by all.now) p q result)) }
+{
+    if reaches(graph, import, number) {
+        return ImportState::OnCycle;
+    }
+    match all.name(&graph.package(import).path) {
+        None => ImportState::Faulty,
+        Some(_) => ImportState::Good,
+    }
+}
+
+/// Notes what each path is that a package imports.
+pub(crate) fn note_imports(
+    alloc: Global,
+    seen: &mut Interfaces,
+    graph: &Graph,
+    number: usize,
+    all: &Interfaces,
+) -> Result<(), AllocError>
+    requires in_range { number < length (package_paths graph.now) }
+    requires nothing { (path : List ℕ) → state_in seen.old.states path ≡ Missing }
+    ensures states { OnOk result (OfPackage graph.now number (λ p. AreStates graph.now (known_by all.now) p (state_in seen.new.states))) }
+    ensures kept { OnOk result (KnowsSameOfOthers seen.old seen.new) }
+{
+    for import in graph.imports(number) {
+        let path = Vec::from_slice(alloc, &graph.package(*import).path)?;
+        seen.note(path, state_of(graph, number, *import, all))?;
+    }
+    Ok(())
+}
