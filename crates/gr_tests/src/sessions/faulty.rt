@@ -95,6 +95,22 @@ fn faults_of_later_stages(rt: HostRuntime) -> Result<(), Fail> {
             "ok 1 16\na/a.go:#34 type\n",
         ),
         (
+            "package a\n\nfunc F(n int) {\n\tn := 1\n}\n",
+            "ok 1 17\na/a.go:#30 nonew\n",
+        ),
+        (
+            "package a\n\nfunc F() {\n\tbreak\n\tfor {\n\t\tcontinue\n\t}\n\tcontinue\n}\n",
+            "ok 1 32\na/a.go:#23 loop\na/a.go:#51 loop\n",
+        ),
+        (
+            "package a\n\nvar x int\n\nfunc x() {\n}\n\nvar init int\n",
+            "ok 1 40\na/a.go:#27 repeated\na/a.go:#40 repeated\n",
+        ),
+        (
+            "package a\n\nfunc F() {\n\t_ = _\n\t_++\n}\n",
+            "ok 1 44\na/a.go:#27 undeclared\na/a.go:#30 undeclared\n",
+        ),
+        (
             "package a\n\nfunc F() int {\n\treturn y\n}\n}",
             "ok 1 18\na/a.go:#38 syntax\n",
         ),
@@ -139,5 +155,31 @@ fn faults_of_cycles(rt: HostRuntime) -> Result<(), Fail> {
             ],
         )?
     );
+    Ok(())
+}
+
+/// Faults at imports, and at names behind the name of a package.
+#[test]
+fn faults_of_imports(rt: HostRuntime) -> Result<(), Fail> {
+    let alloc = rt.alloc();
+    for (message, reply) in [
+        (
+            "put 0 b/b.go 10\npackage b\nput 1 a/a.go 22\npackage a\n\nimport \"b\"\nfaults\n",
+            "ok 1 0\nok 2 0\nok 2 18\na/a.go:#18 unused\n",
+        ),
+        (
+            "put 0 b/b.go 22\npackage b\n\ntype t int\nput 1 a/a.go 33\npackage a\n\nimport \"b\"\n\nvar x b.t\nfaults\n",
+            "ok 1 0\nok 2 0\nok 2 22\na/a.go:#31 unexported\n",
+        ),
+        (
+            "put 0 b/b.go 22\npackage b\n\ntype T int\nput 1 a/a.go 59\npackage a\n\nimport \"b\"\n\nimport q \"b\"\n\nimport \"b\"\n\nvar x b.T\nfaults\n",
+            "ok 1 0\nok 2 0\nok 2 56\na/a.go:#32 unused\na/a.go:#44 repeated\na/a.go:#44 unused\n",
+        ),
+    ] {
+        assert!(rt;
+            writes(alloc, Limits::FULL, &[message], &[reply])?,
+            "{message}"
+        );
+    }
     Ok(())
 }
