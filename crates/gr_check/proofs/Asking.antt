@@ -1,6 +1,6 @@
 -- The declaration of what holds a byte.
 use Rattle.std.proofs.Common.{ℕ, ◌≡◌, ◌<◌, inl, inr, List, [], sym, subst, ◌∙◌, arith}
-use Rattle.std.specs.Prelude.{Option, Some, None, Contains, Result, Ok, Err, slice_get, ◌↔◌}
+use Rattle.std.specs.Prelude.{Some, Contains, Result, Ok, Err, slice_get, ◌↔◌}
 use Rattle.std.specs.List.Sorted.{IsStrictlySortedBy}
 use Rattle.std.proofs.lemmas.Option.{same_Some}
 use Rattle.gr_text.specs.Packages.{package_paths}

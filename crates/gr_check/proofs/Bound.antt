@@ -1,5 +1,5 @@
 -- What is bound to a declaration by scopes.
-use Rattle.std.proofs.Common.{ℕ, ◌≡◌, ◌<◌, ◌≤◌, List, length, true, false, sym, ap, subst, refl, arith}
+use Rattle.std.proofs.Common.{ℕ, ◌≡◌, ◌<◌, ◌≤◌, List, length, sym, ap, subst, refl, arith}
 use Rattle.std.specs.Prelude.{Option, Some, None, MatchOption, ◌↔◌}
 use Rattle.gr_scope.specs.Bindings.{Layout, Names, Counts, IsBoundTo, use_bound, own}
 use Rattle.gr_scope.specs.Site.{Site, sites_layout, sites_names}
@@ -8,7 +8,6 @@ use Rattle.gr_types.proofs.Binding.{within}
 use Rattle.gr_check.specs.declared.declaration.Declaration.{Declaration}
 use Rattle.gr_check.specs.declared.declaration.Declaration.TheVariants.{Predeclared, Declared, Field, Method}
 use Rattle.gr_check.specs.Binding.{BindsByScope, IsPredeclared}
-use Rattle.gr_check.specs.Steps.{IsDeclarationFound}
 
 -- what is bound to a declaration has its name
 pub bound_named : (l : Layout) (names : Names) (u d : ℕ) → IsBoundTo l names u d → names u ≡ names d

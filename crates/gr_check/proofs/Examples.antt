@@ -1,7 +1,8 @@
 -- Small examples of the definitions.
 use Rattle.std.proofs.Common.{◌≡◌, [], ◌∷◌, true, false, refl}
-use Rattle.std.specs.Prelude.{codes}
+use Rattle.std.specs.Prelude.{Some, None, codes}
 use Rattle.std.specs.declared.cmp.Ordering.TheVariants.{Less}
+use Rattle.gr_scan.specs.declared.piece.Class.TheVariants.{Name, InterpretedString}
 use Rattle.gr_scope.specs.Bindings.{Layout}
 use Rattle.gr_scope.specs.Site.{sites_layout}
 use Rattle.gr_scope.specs.declared.model.Block.TheVariants.{File}
@@ -14,7 +15,7 @@ use Rattle.gr_expr.specs.Types.{BasicType}
 use Rattle.gr_expr.specs.World.{AField, ABrokenMethod}
 use Rattle.gr_check.specs.declared.declaration.Declaration.TheVariants.{Field, Method}
 use Rattle.gr_check.specs.Binding.{declaration_of}
-use Rattle.gr_check.specs.Identifiers.{named_by}
+use Rattle.gr_check.specs.Identifiers.{IsName, named_by}
 use Rattle.gr_check.specs.Places.{place_cmp}
 
 -- the package a has the .go files of its folder, and not those of folders in it
@@ -49,6 +50,16 @@ literal_for_the_name = refl
 
 unnamed_for_itself : named_by imports 2 ≡ 2
 unnamed_for_itself = refl
+
+-- of these tokens the name is listed, and the literal is not; nor is what stands at no token
+name_is_listed : IsName (Some (record { class = Name; span = record { start = 18; end = 19 } }))
+name_is_listed = refl
+
+literal_is_not : IsName (Some (record { class = InterpretedString; span = record { start = 20; end = 23 } })) → ⊥
+literal_is_not e = let z : ⊥ = cc in z
+
+no_token_is_not : IsName None → ⊥
+no_token_is_not h = h
 
 -- the fourth field of the package a, and its fourth function
 abbrev fourth : Symbol

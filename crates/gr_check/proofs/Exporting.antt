@@ -1,9 +1,6 @@
 -- Names that other packages export, and what is bound in all packages.
-use Rattle.std.proofs.Common.{ℕ, ◌≡◌, ◌<◌, ◌⊎◌, inl, inr, List, [], length, ap, sym, subst, refl, ◌∙◌, arith}
-use Rattle.std.specs.Prelude.{Option, Some, None, Contains, MatchOption, ◌↔◌}
-use Rattle.std.proofs.lemmas.Option.{none-some, same_Some}
-use Rattle.std.specs.Borrow.{Bor}
-use Rattle.gr_scope.specs.Named.{name_value}
+use Rattle.std.proofs.Common.{ℕ, ◌≡◌, ◌<◌, inl, inr, List, length, ap, sym, subst, ◌∙◌}
+use Rattle.std.specs.Prelude.{Option, Some, None, Contains}
 use Rattle.gr_text.specs.Packages.{package_paths}
 use Rattle.gr_text.specs.Workspace.{Workspace}
 use Rattle.gr_text.specs.declared.place.Place.{Place}
@@ -18,7 +15,7 @@ use Rattle.gr_check.specs.Binding as binding
 use Rattle.gr_check.specs.Steps as step
 use Rattle.gr_check.specs.Steps.{Adds, UsesIn, BindsIn, BindsAs, IsExportedBy, IsOnePath, IsDeclarationFound}
 use Rattle.gr_check.specs.Uses.{IsPackage, IsBoundTo, IsUseOf}
-use Rattle.gr_check.specs.Workspaces.{IsPackageAt, ExportsAs, IsExportedUnder, IsExportedNumber, IsNameAt, IsUseAt, BindsMember}
+use Rattle.gr_check.specs.Workspaces.{IsPackageAt, ExportsAs, IsExportedUnder, IsUseAt, BindsMember}
 use Rattle.gr_check.proofs.Adding.{Below, adds_as}
 use Rattle.gr_check.proofs.Units.{one_package, one_at, numbered, number_within}
 

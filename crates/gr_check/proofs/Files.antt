@@ -8,7 +8,6 @@ use Rattle.gr_scan.specs.declared.piece.Class.TheVariants.{Name}
 use Rattle.gr_scan.specs.declared.piece.Piece.{Piece}
 use Rattle.gr_scan.specs.CutText.{tokens_in}
 use Rattle.gr_parse.specs.SourceFile.{SourceFile, FileParts, source_of, offset_of}
-use Rattle.gr_text.specs.declared.place.Place.{Place}
 use Rattle.gr_check.specs.declared.spot.Spot.{Spot}
 use Rattle.gr_check.specs.Identifiers.{IsName, NameBegins}
 use Rattle.gr_check.specs.Steps.{Adds}

@@ -1,10 +1,10 @@
 -- Members that are used, from the member uses and the definitions that the program has.
-use Rattle.std.proofs.Common.{ℕ, ◌≡◌, ◌<◌, ◌≤◌, inl, inr, List, [], length, ap, sym, subst, refl, ◌∙◌, arith, true, false, Bool, if◌then◌else◌, get_or}
-use Rattle.std.specs.Prelude.{Option, Some, None, Contains, MatchOption, option_map, slice_get, map}
+use Rattle.std.proofs.Common.{ℕ, ◌≡◌, ◌<◌, List, [], length, ap, sym, subst, refl, ◌∙◌, arith, true, false, Bool, if◌then◌else◌}
+use Rattle.std.specs.Prelude.{Option, Some, None, Contains, option_map, slice_get, map}
 use Rattle.std.specs.Global.{Vec}
 use Rattle.std.specs.Cmp.Lexicographic.{bytes_decides}
 use Rattle.std.proofs.Math.ListN.{length-map}
-use Rattle.std.proofs.lemmas.Option.{none-some, same_Some, slice_get-map, slice_get-get_or, slice_get_within}
+use Rattle.std.proofs.lemmas.Option.{none-some, same_Some, slice_get-map, slice_get_within}
 use Rattle.gr_parse.specs.SourceFile.{spelling_of}
 use Rattle.gr_scope.specs.WellFormed.{WellFormed}
 use Rattle.gr_expr.specs.declared.found.MemberUse.{MemberUse as FoundUse}

@@ -13,7 +13,7 @@ use Rattle.gr_expr.specs.Judge.{MemberUse}
 use Rattle.gr_expr.specs.World as plain
 use Rattle.gr_types.specs.Package.{Package}
 use Rattle.gr_types.specs.Definitions.{AreDefinitions}
-use Rattle.gr_types.specs.MemberUses.{AreUsesIn, AreMemberUses, uses_in}
+use Rattle.gr_types.specs.MemberUses.{AreMemberUses, uses_in}
 use Rattle.gr_types.specs.TypesView.{IsOneWorld}
 use Rattle.gr_types.proofs.BoundLists.{slice_get_some}
 use Rattle.gr_check.specs.declared.declaration.Declaration.{Declaration}

@@ -1,6 +1,6 @@
 -- The places of identifiers are those of their tokens.
 use Rattle.std.proofs.Common.{ℕ, ◌≡◌, ◌<◌, ◌∙◌, List, sym, subst, true, false}
-use Rattle.std.specs.Prelude.{Option, Some, None, Result, OnOk, slice_get}
+use Rattle.std.specs.Prelude.{Option, None, Result, OnOk, slice_get}
 use Rattle.std.proofs.lemmas.Bool.{true≢false}
 use Rattle.gr_text.specs.declared.place.Place.{Place}
 use Rattle.gr_scope.specs.declared.model.Position.{Position}
@@ -9,7 +9,7 @@ use Rattle.gr_scope.specs.Table.{StandsAt, IsFoundAt}
 use Rattle.gr_types.specs.ByToken.{IsFirstBelow}
 use Rattle.gr_types.specs.Package.{Package}
 use Rattle.gr_check.specs.declared.spot.Spot.{Spot}
-use Rattle.gr_check.specs.Identifiers.{NameBegins, BeginsAt, file_of}
+use Rattle.gr_check.specs.Identifiers.{NameBegins, BeginsAt}
 use Rattle.gr_check.specs.Steps.{Adds, AtToken}
 use Rattle.gr_check.proofs.Adding.{adds_none, call_adds}
 

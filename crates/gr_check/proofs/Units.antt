@@ -1,7 +1,6 @@
 -- The packages of a workspace without faults, read again.
-use Rattle.std.proofs.Common.{ℕ, suc, ◌≡◌, ◌<◌, ◌⊎◌, inl, inr, Bool, true, false, List, [], ◌∷◌, ◌+◌, length, get_or, ap, sym, subst, refl, ◌∙◌, arith}
-use Rattle.std.specs.Prelude.{Option, Some, None, Contains, map, slice_get, ◌↔◌}
-use Rattle.std.specs.Global.{Vec}
+use Rattle.std.proofs.Common.{ℕ, ◌≡◌, ◌<◌, inl, inr, Bool, true, false, List, [], ◌+◌, length, get_or, ap, sym, subst, refl, ◌∙◌, arith}
+use Rattle.std.specs.Prelude.{Option, Some, None, Contains, map, slice_get}
 use Rattle.std.specs.List.Sorted.{IsStrictlySortedBy}
 use Rattle.std.proofs.lemmas.Bool.{cases_lt}
 use Rattle.std.proofs.lemmas.Option.{same_Some, slice_get_within, slice_get_read}
@@ -15,11 +14,10 @@ use Rattle.gr_graph.specs.FaultyFiles.{FaultyParts}
 use Rattle.gr_graph.specs.Graphs.{OfPackage}
 use Rattle.gr_graph.specs.Parsed.{AreParsed, none, tree, fault}
 use Rattle.gr_graph.proofs.Asked.{number, at_contains}
-use Rattle.gr_expr.specs.declared.found.MemberUse.{MemberUse}
 use Rattle.gr_expr.specs.declared.world.Definition.{Definition}
-use Rattle.gr_expr.specs.WorldView.{definition_or_none, no_definition, definitions_at, ranked}
-use Rattle.gr_types.specs.Package.{Package, Interface, PlacedType, package_types, symbol_in}
-use Rattle.gr_types.specs.Check.{IsPackageOf, package_in}
+use Rattle.gr_expr.specs.WorldView.{definition_or_none, definitions_at, ranked}
+use Rattle.gr_types.specs.Package.{Package, symbol_in}
+use Rattle.gr_types.specs.Check.{package_in}
 use Rattle.gr_types.specs.Definitions.{IsDefinition}
 use Rattle.gr_types.specs.Interfaces.{IsInterface}
 use Rattle.gr_types.specs.InterfacesView.{name_in, interface_in}
@@ -29,9 +27,9 @@ use Rattle.gr_verdict.specs.declared.fault.FileFault.{FileFault}
 use Rattle.gr_verdict.specs.declared.finding.Finding.{Finding}
 use Rattle.gr_verdict.specs.declared.findings.Findings.{Findings}
 use Rattle.gr_verdict.specs.Faults.{placed, fault_cmp}
-use Rattle.gr_verdict.specs.FaultLists.{AreListed, ListsFaults, IsFaultOfSome}
-use Rattle.gr_verdict.specs.Found.{AreFindings, IsFinding, AreUsesOf, known_by}
-use Rattle.gr_verdict.specs.Verdicts.{Verdict, Verdicts, AreSeen, IsPackageIn, IsFaultBy, HasInterface, IsVerdictBy, AreVerdicts}
+use Rattle.gr_verdict.specs.FaultLists.{AreListed, ListsFaults}
+use Rattle.gr_verdict.specs.Found.{AreFindings, IsFinding, known_by}
+use Rattle.gr_verdict.specs.Verdicts.{Verdict, Verdicts, AreSeen, IsPackageIn, IsFaultBy, IsVerdictBy}
 use Rattle.gr_verdict.proofs.Alike.{fault_as}
 use Rattle.gr_verdict.proofs.Members.{empty_by, nothing_in, first_in, later_in}
 use Rattle.gr_verdict.proofs.OnePackage.{one_checked}

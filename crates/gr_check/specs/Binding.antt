@@ -7,7 +7,6 @@ use Rattle.gr_scope.specs.declared.model.Purpose.TheVariants as purpose
 use Rattle.gr_scope.specs.Bindings.{IsBoundTo}
 use Rattle.gr_scope.specs.FileSites.{universe}
 use Rattle.gr_scope.specs.Table.{StandsAt}
-use Rattle.gr_expr.specs.declared.symbol.Symbol.{Symbol}
 use Rattle.gr_expr.specs.Judge.{MemberUse}
 use Rattle.gr_expr.specs.World.{Member, AField, AMethod, ABrokenMethod}
 use Rattle.gr_types.specs.Package.{Package, function_place}

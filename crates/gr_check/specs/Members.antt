@@ -1,11 +1,10 @@
 -- The members of types as the program finds them: by the definitions that it has.
-use Rattle.std.specs.Prelude.{ℕ, ◌≡◌, List, [], Option, Some, None, Contains, option_map, slice_get, map, if◌then◌else◌}
+use Rattle.std.specs.Prelude.{ℕ, ◌≡◌, List, [], Option, Some, None, Contains, option_map, slice_get, if◌then◌else◌}
 use Rattle.std.specs.Global.{Vec}
 use Rattle.gr_text.specs.declared.place.Place.{Place}
 use Rattle.gr_expr.specs.declared.found.MemberUse.{MemberUse as FoundUse}
 use Rattle.gr_expr.specs.declared.symbol.Symbol.{Symbol}
 use Rattle.gr_expr.specs.declared.world.Definition.{Definition}
-use Rattle.gr_expr.specs.Found.{use_of}
 use Rattle.gr_expr.specs.Judge.{MemberUse}
 use Rattle.gr_expr.specs.Types.{PlainType, same_path}
 use Rattle.gr_expr.specs.World.{member_by}
@@ -14,7 +13,6 @@ use Rattle.gr_expr.specs.WorldView.{definition_or_none, no_definition, imported_
 use Rattle.gr_types.specs.declared.unit.Package.{Package as PackageUnit}
 use Rattle.gr_types.specs.Package.{Package, PlacedType, package_types, symbol_in, spelled}
 use Rattle.gr_types.specs.Definitions.{IsDefinition}
-use Rattle.gr_types.specs.MemberUses.{uses_in}
 use Rattle.gr_check.specs.declared.declaration.Declaration.{Declaration}
 use Rattle.gr_check.specs.Binding.{declaration_of}
 use Rattle.gr_check.specs.Steps.{AtToken}

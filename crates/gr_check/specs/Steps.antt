@@ -1,5 +1,5 @@
 -- What the steps of `uses` answer.
-use Rattle.std.specs.Prelude.{ℕ, ◌≡◌, ◌⊎◌, ◌↔◌, ◌<◌, List, [], Contains, Option, Some, None, slice_index_or, MatchOption}
+use Rattle.std.specs.Prelude.{ℕ, ◌≡◌, ◌⊎◌, ◌↔◌, List, Contains, Option, Some, None, slice_index_or, MatchOption}
 use Rattle.std.specs.Borrow.{Bor}
 use Rattle.gr_text.specs.declared.place.Place.{Place}
 use Rattle.gr_scope.specs.declared.model.Position.{Position}

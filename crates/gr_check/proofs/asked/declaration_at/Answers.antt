@@ -1,6 +1,6 @@
 -- The answers to the goals of `asked::declaration_at`.
 use Rattle.std.proofs.Common.{◌∙◌, ap, sym, subst}
-use Rattle.std.specs.Prelude.{Some, Contains, slice_get}
+use Rattle.std.specs.Prelude.{Some, Contains}
 use Rattle.gr_text.specs.Packages.{package_paths}
 use Rattle.gr_check.specs.Workspaces.{known_in}
 use Rattle.gr_check.proofs.Asking.{no_folder, found_at}

@@ -1,5 +1,5 @@
 -- The answers to the goals of `member_uses::add_member_uses`.
-use Rattle.std.proofs.Common.{◌≡◌, ◌∙◌, length, refl, sym, ap, subst, arith}
+use Rattle.std.proofs.Common.{◌≡◌, length, refl, subst, arith}
 use Rattle.std.specs.Prelude.{map}
 use Rattle.std.proofs.lemmas.Option.{slice_get_read}
 use Rattle.gr_expr.specs.Found.{use_of}

@@ -1,5 +1,5 @@
 -- The answers to the goals of `member_uses::declaration_by_member`.
-use Rattle.std.proofs.Common.{sym, subst}
+use Rattle.std.proofs.Common.{subst}
 use Rattle.std.proofs.lemmas.Result.{IfOk-weaker}
 use Rattle.gr_types.specs.PackageView.{package_of}
 use Rattle.gr_check.specs.Binding.{IsMemberAt}

@@ -1,6 +1,6 @@
 -- The answers to the goals of `own_names::add_named`.
-use Rattle.std.proofs.Common.{◌≡◌, sym, subst, ◌∙◌}
-use Rattle.std.specs.Prelude.{Some, None, OnOk}
+use Rattle.std.proofs.Common.{sym, subst, ◌∙◌}
+use Rattle.std.specs.Prelude.{OnOk}
 use Rattle.gr_types.specs.PackageView.{package_of}
 use Rattle.gr_check.specs.Steps.{Adds, AtFound}
 use Rattle.gr_check.proofs.Adding.{adds_none}

@@ -1,5 +1,5 @@
 -- The answers to the goals of `own_names::add_own_method`.
-use Rattle.std.proofs.Common.{◌≡◌, ap, sym, ◌∙◌}
+use Rattle.std.proofs.Common.{sym, ◌∙◌}
 use Rattle.std.proofs.lemmas.Bool.{false≢true}
 use Rattle.gr_check.specs.declared.declaration.Declaration.TheVariants.{Method}
 use Rattle.gr_types.specs.PackageView.{package_of}

@@ -1,5 +1,5 @@
 -- The answers to the goals of `package_uses::exported_as`.
-use Rattle.std.proofs.Common.{◌≡◌, ◌<◌, ◌≤◌, ◌+◌, ◌∙◌, ℕ, inl, inr, length, sym, subst, arith}
+use Rattle.std.proofs.Common.{◌≡◌, ◌<◌, ◌∙◌, inl, inr, length, sym, subst, arith}
 use Rattle.std.proofs.lemmas.Bool.{cases_lt, false≢true}
 use Rattle.gr_types.specs.Interfaces.{IsSeen}
 use Rattle.gr_types.specs.PackageView.{package_of}

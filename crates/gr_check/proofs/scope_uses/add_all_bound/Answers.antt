@@ -1,9 +1,8 @@
 -- The answers to the goals of `scope_uses::add_all_bound`.
-use Rattle.std.proofs.Common.{◌≡◌, ◌<◌, length, subst, sym, arith}
+use Rattle.std.proofs.Common.{◌≡◌, length, arith}
 use Rattle.gr_scope.specs.Bindings.{IsBoundTo}
 use Rattle.gr_types.specs.PackageView.{package_of}
 use Rattle.gr_check.specs.Identifiers.{BeginsAt}
-use Rattle.gr_check.specs.Steps.{UsesIn}
 use Rattle.gr_check.proofs.Adding.{below_none, below_next, all_below}
 use Rattle.gr_check.proofs.scope_uses.add_all_bound.Goals as goal
 

@@ -1,7 +1,6 @@
 -- The answers to the goals of `scope_uses::add_bound`.
 use Rattle.std.proofs.lemmas.Bool.{false≢true}
 use Rattle.std.proofs.Common.{sym, ◌∙◌}
-use Rattle.gr_scope.specs.Bindings.{IsBoundTo}
 use Rattle.gr_types.specs.PackageView.{package_of}
 use Rattle.gr_check.specs.Identifiers.{BeginsAt}
 use Rattle.gr_check.proofs.Adding.{adds_none, call_adds}

@@ -1,5 +1,5 @@
 -- The answers to the goals of `scope_uses::numbered`.
-use Rattle.std.proofs.Common.{◌<◌, arith, refl}
+use Rattle.std.proofs.Common.{◌<◌, arith}
 use Rattle.gr_check.specs.Binding.{IsPredeclared}
 use Rattle.gr_check.proofs.scope_uses.numbered.Goals as goal
 
