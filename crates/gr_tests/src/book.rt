@@ -18,10 +18,11 @@ fn put(alloc: Global, book: &mut Book, path: &str, bytes: &str) -> Result<&'stat
     let view = view_of(book)?;
     let text = FileText::new(alloc, bytes.as_bytes().to_vec(alloc)?)?;
     let number = view.snapshot.number;
-    Ok(match plan_put(alloc, &view, path, text) {
-        Ok(change) => answer(&book.step(Event::Commit(number, change))),
-        Err(refusal) => answer(&Reply::Refused(refusal)),
-    })
+    let reply = match plan_put(alloc, &view, path, text) {
+        Ok(change) => book.step(Event::Commit(number, change)),
+        Err(refusal) => Reply::Refused(refusal),
+    };
+    Ok(answer(&reply))
 }
 
 fn answer(reply: &Reply) -> &'static str {
