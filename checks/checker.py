@@ -274,7 +274,8 @@ class Checker(Scopes):
         new = []
         for left in node.parts:
             if left.kind != "ident":
-                self.fault(self.place(left), "type")
+                if self.value(left).mode == "value":
+                    self.fault(self.place(left), "type")
                 wanted.append(None)
                 fine = False
             elif left.name.text == "_":

@@ -3,18 +3,20 @@
     python3 checks/sessions.py PROGRAM [FIRST LAST [KIND]]
 
 runs sessions FIRST to LAST (0 to 99), each a few dozen puts and questions, of the kind `faults` (as without a word),
-`uses`, `checked` (packages that import one another: faults of all stages, and uses of all identifiers) or `objects`. A
-difference is printed with its session, and ends the run with status 1.
+`uses`, `checked` (packages that import one another: faults of all stages, and uses of all identifiers), `objects`
+(packages that are built, with changes, undo and redo between) or `changed` (small changes of the workspaces of the stored
+sessions: faults, uses and objects). A difference is printed with its session, and ends the run with status 1.
 """
 
 import random
 import subprocess
 import sys
 
+import changes
 import lexer
 import programs
-from lexical import Uses, is_path
-from objects import object_of
+from history import History, fault_lines, reply, uses_of
+from lexical import Uses
 from workspace import SourceFile, Workspace
 
 
@@ -115,24 +117,6 @@ def uses_in_files(generator, count):
     return session
 
 
-def fault_lines(faults):
-    return "".join("%s:#%d %s\n" % fault for fault in faults)
-
-
-def uses_of(workspace, texts, path, offset):
-    """The number of a refusal and its body, or None and the lines."""
-    if not is_path(path):
-        return 3, ""
-    if path not in texts:
-        return 4, ""
-    found = workspace.uses(path, offset) if path.endswith(".go") or workspace.faults() else 10
-    if found == 9:
-        return 9, fault_lines(workspace.faults()[:1])
-    if isinstance(found, int):
-        return found, ""
-    return None, "".join("%s:#%d\n" % place for place in found)
-
-
 class Packages:
     """Packages that import some of those before them, put one after another."""
 
@@ -141,78 +125,125 @@ class Packages:
     def __init__(self, generator, slips):
         self.generator = generator
         self.slips = slips
-        self.session = Session()
         self.texts = {}
-        self.typed = {}
+        self.declared = {}
+
+    def typed(self):
+        """What each package declares, as it stands."""
+        return {path[0]: self.declared[path, text] for path, text in self.texts.items()}
 
     def text(self):
         """A new text of one package: its path, its bytes, and what it declares."""
         generator = self.generator
+        typed = self.typed()
         number = generator.randrange(len(self.NAMES))
         name = self.NAMES[number]
         among = self.NAMES if generator.random() < self.slips else self.NAMES[:number]
-        among = [other for other in among if other in self.typed]
-        imports = {other: self.typed[other] for other in generator.sample(among, min(len(among), generator.randrange(3)))}
-        return (name, *programs.typed_text(generator, name, imports, self.slips))
+        among = [other for other in among if other in typed]
+        imports = {other: typed[other] for other in generator.sample(among, min(len(among), generator.randrange(3)))}
+        return (f"{name}/{name}.go", *programs.typed_text(generator, name, imports, self.slips))
 
-    def put(self):
-        """Puts a new text of one package, mostly one without faults, and answers the workspace."""
+    def chosen(self):
+        """A path with a new text for it, mostly one without faults; or None."""
         for _ in range(12):
-            name, text, typed = self.text()
-            path = f"{name}/{name}.go"
-            workspace = Workspace({**self.texts, path: text})
+            path, text, typed = self.text()
             if self.texts.get(path) == text or first_fault(text) is not None:
                 continue
+            workspace = Workspace({**self.texts, path: text})
             if not workspace.faults() or self.generator.random() < self.slips * 10:
                 break
-        if self.texts.get(path) != text and first_fault(text) is None:
-            self.session.put(path, text)
-            self.texts[path] = text
-            self.typed[name] = typed
-        return Workspace(self.texts)
+        if self.texts.get(path) == text or first_fault(text) is not None:
+            return None
+        self.declared[path, text] = typed
+        return path, text
 
 
 def checked_packages(generator, count):
     """Faults of all stages, and uses where there are none, or the refusal that names the first."""
     packages = Packages(generator, generator.choice([0.0, 0.005, 0.05]))
+    session = Session()
     for _ in range(count):
-        workspace = packages.put()
-        packages.session.ask("faults", fault_lines(workspace.faults()))
+        chosen = packages.chosen()
+        if chosen is not None:
+            session.put(*chosen)
+            packages.texts[chosen[0]] = chosen[1]
+        workspace = Workspace(packages.texts)
+        session.ask("faults", fault_lines(workspace.faults()))
         for _ in range(generator.randrange(8)):
             place = a_place(generator, packages.texts)
-            packages.session.tell("uses %s:#%d" % place, *uses_of(workspace, packages.texts, *place))
-    return packages.session
+            session.tell("uses %s:#%d" % place, *uses_of(workspace, packages.texts, *place))
+    return session
+
+
+class Talk:
+    """A session whose replies are those of the model's history."""
+
+    def __init__(self):
+        self.session = Session()
+        self.history = History()
+
+    def send(self, line, body=b""):
+        self.session.sent += line.encode() + b"\n" + body
+        self.session.answered += reply(self.history, line.encode(), body)
+
+    def change_to(self, texts):
+        """Deletes and puts files until the workspace has these texts."""
+        for path in sorted(set(self.history.current.texts) - set(texts)):
+            self.send(f"del {self.history.current.number} {path}")
+        for path, text in texts.items():
+            if self.history.current.texts.get(path) != text:
+                self.send(f"put {self.history.current.number} {path} {len(text)}", text)
+
+
+def changed_workspaces(generator, count):
+    """What a workspace of a stored session is answered after small changes: its faults, some uses, and its objects."""
+    talk = Talk()
+    stored = changes.workspaces()
+    for _ in range(count):
+        texts = changes.changed(generator, generator.choice(stored))
+        talk.change_to(texts)
+        talk.send("faults")
+        for _ in range(generator.randrange(4)):
+            talk.send("uses %s:#%d" % a_place(generator, texts))
+        if generator.random() < 0.5:
+            packages = talk.history.current.workspace.order
+            for _ in packages:
+                talk.send("work")
+            for path in packages:
+                talk.send(f"object {path}")
+    return talk.session
 
 
 def objects_of_packages(generator, count):
-    """All packages built, and the objects of those without faults."""
+    """Packages that are put, deleted, built, undone and redone, and their objects."""
     packages = Packages(generator, generator.choice([0.0, 0.005]))
-    finished = {}
+    talk = Talk()
     for _ in range(count):
-        workspace = packages.put()
-        closures = {
-            name: sorted((file.path, file.source) for other in workspace.closure(name) for file in workspace.packages[other].files)
-            for name in workspace.order
-        }
-        for name in workspace.order:
-            if finished.get(name) != closures[name]:
-                packages.session.ask("work", name + "\n")
-        finished = closures
-        packages.session.tell("work", 23, "")
-        for name in workspace.order:
-            faults = workspace.package_faults(name)
-            if faults:
-                packages.session.tell(f"object {name}", 9, fault_lines(faults[:1]))
-            else:
-                packages.session.ask(f"object {name}", object_of(workspace, name))
-    return packages.session
+        packages.texts = talk.history.current.texts
+        number = talk.history.current.number
+        way = generator.random()
+        chosen = packages.chosen()
+        if way < 0.6 and chosen is not None:
+            talk.send(f"put {number} {chosen[0]} {len(chosen[1])}", chosen[1])
+        elif way < 0.66 and packages.texts:
+            talk.send(f"del {number} {generator.choice(sorted(packages.texts))}")
+        elif way < 0.84:
+            talk.send(f"undo {number}")
+        else:
+            talk.send(f"redo {number}")
+        for _ in range(generator.randrange(3)):
+            talk.send("work")
+        for name in generator.sample(packages.NAMES + ["q"], 3):
+            talk.send(f"object {name}")
+    return talk.session
 
 
 KINDS = {
     "faults": (faults_of_files, 40),
     "uses": (uses_in_files, 12),
     "checked": (checked_packages, 12),
-    "objects": (objects_of_packages, 12),
+    "objects": (objects_of_packages, 30),
+    "changed": (changed_workspaces, 30),
 }
 
 

@@ -1,3 +1,14 @@
 -- The lemmas of this crate.
+pub mod Entries
+pub mod ClosureTexts
+pub mod Numbered
+pub mod ClosureFiles
+pub mod Changed
+pub mod Carrying
+pub mod Waits
+pub mod Fresh
+pub mod Settled
+pub mod NoPackages
 pub mod NumberLaws
 pub mod RunLaws
+pub mod CurrentLaws

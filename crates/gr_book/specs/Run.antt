@@ -3,14 +3,16 @@ use Rattle.std.specs.Prelude.{◌≡◌, ℕ, ◌+◌, ◌<◌, ◌⊎◌, ⊤, 
 use Rattle.std.specs.List.{AllByRecursion}
 use Rattle.gr_text.specs.declared.limits.Limits.{Limits}
 use Rattle.gr_text.specs.declared.refusal.Refusal.{Refusal}
-use Rattle.gr_text.specs.declared.refusal.Refusal.TheVariants.{Memory, JournalFull}
+use Rattle.gr_text.specs.declared.refusal.Refusal.TheVariants.{Memory, JournalFull, Stale, Already}
+use Rattle.gr_compile.specs.Jobs.{JobsOut}
 use Rattle.gr_space.specs.declared.view.Change.{Change}
 use Rattle.gr_book.specs.declared.event.Event.{Event}
 use Rattle.gr_book.specs.declared.event.Event.TheVariants.{Commit, Undo, Redo}
 use Rattle.gr_book.specs.declared.event.Reply.{Reply}
-use Rattle.gr_book.specs.declared.event.Reply.TheVariants.{Done, Refused}
+use Rattle.gr_book.specs.declared.event.Reply.TheVariants.{Done, Refused, Back}
 use Rattle.gr_book.specs.State.{State}
-use Rattle.gr_book.specs.Machine.{Machine, Step, IsOneBefore, opening, recorded, states, cursor}
+use Rattle.gr_book.specs.Machine.{Machine, IsOneBefore, opening, recorded, states, cursor}
+use Rattle.gr_book.specs.Step.{Step}
 
 -- From old, the machine may give these replies to these events, one after another, and go on to new.
 abbrev pub Run : Machine → List (Event × Reply) → Machine → Type 0
@@ -71,8 +73,24 @@ NumbersAreNew = (limits : Limits) (settled end : Machine) (before : List (Event 
     → Step settled (Commit basis change) (Done number) end
     → 0 < number
 
--- A refused event changes nothing, but for the entry that the journal keeps of it.
+-- nothing changed, but for the entry that the journal keeps
+abbrev pub KeepsAll : Machine → Machine → Type 0
+KeepsAll old new = (new ≡ old) ⊎ (new ≡ recorded old)
+
+-- the same, but for the Jobs out
+abbrev pub SpendsJob : Machine → Machine → Type 0
+SpendsJob old new = (out : JobsOut) × (new ≡ recorded (record old { out = out }))
+
+-- what the reply to an event leaves, if it refuses the event
+abbrev pub KeepsIfRefused : Machine → Reply → Machine → Type 0
+KeepsIfRefused old (Refused (Stale current)) new = SpendsJob old new
+KeepsIfRefused old (Refused Already) new = SpendsJob old new
+KeepsIfRefused old (Refused refusal) new = KeepsAll old new
+KeepsIfRefused old (Back refusal job unit) new = KeepsAll old new
+KeepsIfRefused old reply new = ⊤
+
+-- A refused event changes nothing, but for the entry that the journal keeps of it, and for the Job of a delivery that came late.
 abbrev pub RefusalsKeepAll : Type 0
-RefusalsKeepAll = (old new : Machine) (event : Event) (refusal : Refusal)
-    → Step old event (Refused refusal) new
-    → (new ≡ old) ⊎ (new ≡ recorded old)
+RefusalsKeepAll = (old new : Machine) (event : Event) (reply : Reply)
+    → Step old event reply new
+    → KeepsIfRefused old reply new

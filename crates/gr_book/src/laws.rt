@@ -1,4 +1,5 @@
 //! What holds over every list of events, from what `Book::step` says of one.
+ghost use Rattle.gr_book.specs.Current.{FinishedAreCurrent, StepsKeepUnits};
 ghost use Rattle.gr_book.specs.Run.{
   UndoRestores,
   RedoRestores,
@@ -21,7 +22,14 @@ pub fn numbers_are_used_once()
     ensures fresh { NumbersAreNew }
 {}
 
-/// A refusal changes nothing but the number of entries.
+/// A refusal changes nothing but the number of entries, and spends the Job of a delivery that came late.
 pub fn refusals_keep_all()
     ensures { RefusalsKeepAll }
+{}
+
+/// Each finished unit of each state is that of its package in the state's whole workspace, whatever is delivered and in
+/// whatever order.
+pub fn finished_units_are_current()
+    ensures steps { StepsKeepUnits }
+    ensures always { FinishedAreCurrent }
 {}

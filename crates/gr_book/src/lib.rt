@@ -1,11 +1,18 @@
-//! The history of a workspace as a machine of events.
+//! The history of a workspace as a machine of events, with the Jobs that build its packages.
 #![tactic(auto)]
 
 mod book;
+mod carried;
+mod changes;
+mod deliveries;
 mod event;
+mod inputs;
 mod laws;
 mod state;
+mod waiting;
 
 pub use book::Book;
-pub use event::{Event, Reply};
-pub use laws::{numbers_are_used_once, refusals_keep_all, undo_and_redo_restore};
+pub use event::{Event, Reply, refuse};
+pub use laws::{
+    finished_units_are_current, numbers_are_used_once, refusals_keep_all, undo_and_redo_restore,
+};

@@ -9,8 +9,9 @@ use Rattle.gr_space.specs.declared.view.Change.{Change}
 use Rattle.gr_book.specs.declared.event.Event.{Event}
 use Rattle.gr_book.specs.declared.event.Event.TheVariants.{Look, Commit, Undo, Redo}
 use Rattle.gr_book.specs.declared.event.Reply.{Reply}
-use Rattle.gr_book.specs.declared.event.Reply.TheVariants.{Looked, Done, Refused}
-use Rattle.gr_desk.specs.Queries.{Cats, WritesUses, TellsFaults, listing}
+use Rattle.gr_book.specs.declared.event.Reply.TheVariants.{Looked, Done, Taken, Refused, Back}
+use Rattle.gr_desk.specs.Queries.{Cats, WritesUses, TellsFaults, TellsObject, listing}
+use Rattle.gr_desk.specs.Work.{Works}
 use Rattle.gr_desk.specs.declared.command.Command.{Command}
 use Rattle.gr_desk.specs.declared.command.Command.TheVariants as command
 use Rattle.gr_desk.specs.declared.command.Response.{Response}
@@ -27,6 +28,8 @@ basis_of (command.Cat path) = None
 basis_of (command.Uses path offset) = None
 basis_of command.List = None
 basis_of command.Faults = None
+basis_of (command.Object path) = None
+basis_of command.Work = None
 
 -- the command is meant for the state that the view shows
 abbrev pub FitsView : View → Command → Type 0
@@ -44,10 +47,13 @@ abbrev pub PlansBody : View → List ℕ → Option (List ℕ) → Result Change
 PlansBody view path None planned = PlansDropped path planned
 PlansBody view path (Some text) planned = PlansPut view path text planned
 
-abbrev pub response_to : Reply → Response
-response_to (Looked view) = response.Steps view.snapshot.number view.undo view.redo
-response_to (Done number) = response.Done number
-response_to (Refused refusal) = response.Refused refusal
+-- the answer that tells a reply without a Job
+abbrev pub TellsReply : Reply → Response → Type 0
+TellsReply (Looked view) answer = answer ≡ response.Steps view.snapshot.number view.undo view.redo
+TellsReply (Done number) answer = answer ≡ response.Done number
+TellsReply (Taken job) answer = ⊥
+TellsReply (Refused refusal) answer = answer ≡ response.Refused refusal
+TellsReply (Back refusal job unit) answer = ⊥
 
 abbrev pub file_response : ℕ → Result (List ℕ) Refusal → Response
 file_response number (Ok text) = response.File number text
@@ -70,7 +76,7 @@ AnswersFaults view answer =
 module _ {D : Type 0} (steps : D → Event → Reply → D → Type 0) where
   -- one event
   abbrev pub Sends : D → Event → Response → D → Type 0
-  Sends old event answer new = (reply : Reply) × steps old event reply new × (answer ≡ response_to reply)
+  Sends old event answer new = (reply : Reply) × steps old event reply new × TellsReply reply answer
 
   -- a change that was planned, or why there is none
   abbrev pub Commits : D → ℕ → Result Change Refusal → Response → D → Type 0
@@ -79,7 +85,7 @@ module _ {D : Type 0} (steps : D → Event → Reply → D → Type 0) where
 
   -- a command that is meant for the state of the view
   abbrev pub ActsOn : D → View → Command → Response → D → Type 0
-  ActsOn old view command.Look answer new = (answer ≡ response_to (Looked view)) × (new ≡ old)
+  ActsOn old view command.Look answer new = TellsReply (Looked view) answer × (new ≡ old)
   ActsOn old view (command.Put basis path body) answer new =
       (planned : Result Change Refusal) × PlansBody view path body planned × Commits old basis planned answer new
   ActsOn old view (command.Del basis path) answer new =
@@ -92,6 +98,9 @@ module _ {D : Type 0} (steps : D → Event → Reply → D → Type 0) where
       ((found : Result (List ℕ) Refusal) × WritesUses view path offset found × (answer ≡ lines_response view.snapshot.number found)) × (new ≡ old)
   ActsOn old view command.List answer new = TellsLines view.snapshot.number (listing view.snapshot.files) answer × (new ≡ old)
   ActsOn old view command.Faults answer new = AnswersFaults view answer × (new ≡ old)
+  ActsOn old view (command.Object path) answer new =
+      ((found : Result (List ℕ) Refusal) × TellsObject view path found × (answer ≡ file_response view.snapshot.number found)) × (new ≡ old)
+  ActsOn old view command.Work answer new = Works steps old answer new
 
   -- the command after its look has shown this view: it is refused where it is meant for another state
   abbrev pub ActsAfter : D → View → Command → Response → D → Type 0
@@ -102,7 +111,7 @@ module _ {D : Type 0} (steps : D → Event → Reply → D → Type 0) where
   -- the command after the reply to its look
   abbrev pub Continues : D → Reply → Command → Response → D → Type 0
   Continues old (Looked view) asked answer new = ActsAfter old view asked answer new
-  Continues old reply asked answer new = (answer ≡ response_to reply) × (new ≡ old)
+  Continues old reply asked answer new = TellsReply reply answer × (new ≡ old)
 
   -- one command, which begins with a look
   abbrev pub Acts : D → Command → Response → D → Type 0

@@ -1,4 +1,5 @@
 -- The definitions of this crate.
 pub mod MayReply
 pub mod Queries
+pub mod Work
 pub mod Act

@@ -1,28 +1,15 @@
 //! One command. Each begins with a look, and what it does is planned on the view that the look gave.
 ghost use Rattle.std.specs.Prelude.{◌≡◌, ◌↔◌, IsTrue};
-ghost use Rattle.gr_desk.specs.Act.{Acts, Commits, FitsView, PlansBody, response_to};
+ghost use Rattle.gr_desk.specs.Act.{Acts, Commits, FitsView, PlansBody, Sends};
 
 use crate::command::{Command, Response};
 use crate::desk::Desk;
-use crate::queries::{cat, faults, list, uses};
+use crate::queries::{cat, faults, list, object, uses};
+use crate::working::work;
 use gr_book::{Event, Reply};
 use gr_space::{Change, View, plan_del, plan_put};
 use gr_text::{FileText, Path, Refusal};
 use std::alloc::Global;
-
-fn response(reply: Reply) -> Response
-    ensures { result ≡ response_to reply }
-{
-    match reply {
-        Reply::Looked(view) => Response::Steps {
-            number: view.snapshot.number,
-            undo: view.undo,
-            redo: view.redo,
-        },
-        Reply::Done(number) => Response::Done { number },
-        Reply::Refused(refusal) => Response::Refused { refusal },
-    }
-}
 
 /// Whether the command is meant for the state that the view shows.
 fn fits_view(view: &View, command: &Command) -> bool
@@ -53,12 +40,49 @@ fn plan_body(
     }
 }
 
+/// Sends a change. No view and no Job answers it.
+fn change_to<D: Desk>(desk: &mut D, basis: u64, change: Change) -> Response
+    ensures { Sends D.steps desk.old (Event.Commit basis change) result desk.new }
+{
+    match desk.step(Event::Commit(basis, change)) {
+        Reply::Done(number) => Response::Done { number },
+        Reply::Refused(refusal) => Response::Refused { refusal },
+        Reply::Looked(_view) => unreachable!(),
+        Reply::Taken(_job) => unreachable!(),
+        Reply::Back(_refusal, _job, _built) => unreachable!(),
+    }
+}
+
+fn undo<D: Desk>(desk: &mut D, basis: u64) -> Response
+    ensures { Sends D.steps desk.old (Event.Undo basis) result desk.new }
+{
+    match desk.step(Event::Undo(basis)) {
+        Reply::Done(number) => Response::Done { number },
+        Reply::Refused(refusal) => Response::Refused { refusal },
+        Reply::Looked(_view) => unreachable!(),
+        Reply::Taken(_job) => unreachable!(),
+        Reply::Back(_refusal, _job, _built) => unreachable!(),
+    }
+}
+
+fn redo<D: Desk>(desk: &mut D, basis: u64) -> Response
+    ensures { Sends D.steps desk.old (Event.Redo basis) result desk.new }
+{
+    match desk.step(Event::Redo(basis)) {
+        Reply::Done(number) => Response::Done { number },
+        Reply::Refused(refusal) => Response::Refused { refusal },
+        Reply::Looked(_view) => unreachable!(),
+        Reply::Taken(_job) => unreachable!(),
+        Reply::Back(_refusal, _job, _built) => unreachable!(),
+    }
+}
+
 /// Commits a change that was planned.
 fn commit<D: Desk>(desk: &mut D, basis: u64, planned: Result<Change, Refusal>) -> Response
     ensures { Commits D.steps desk.old basis planned result desk.new }
 {
     match planned {
-        Ok(change) => response(desk.step(Event::Commit(basis, change))),
+        Ok(change) => change_to(desk, basis, change),
         Err(refusal) => Response::Refused { refusal },
     }
 }
@@ -69,7 +93,10 @@ pub fn act<D: Desk>(alloc: Global, desk: &mut D, command: Command) -> Response
 {
     let view = match desk.step(Event::Look) {
         Reply::Looked(view) => view,
-        other => return response(other),
+        Reply::Refused(refusal) => return Response::Refused { refusal },
+        Reply::Done(_) => unreachable!(),
+        Reply::Taken(_job) => unreachable!(),
+        Reply::Back(_refusal, _job, _built) => unreachable!(),
     };
     let number = view.snapshot.number;
     if !fits_view(&view, &command) {
@@ -78,7 +105,11 @@ pub fn act<D: Desk>(alloc: Global, desk: &mut D, command: Command) -> Response
         };
     }
     match command {
-        Command::Look => response(Reply::Looked(view)),
+        Command::Look => Response::Steps {
+            number,
+            undo: view.undo,
+            redo: view.redo,
+        },
         Command::Put { basis, path, body } => {
             let planned = plan_body(alloc, &view, path.as_str(), body);
             commit(desk, basis, planned)
@@ -87,8 +118,8 @@ pub fn act<D: Desk>(alloc: Global, desk: &mut D, command: Command) -> Response
             let planned = plan_del(alloc, &view, path.as_str());
             commit(desk, basis, planned)
         }
-        Command::Undo { basis } => response(desk.step(Event::Undo(basis))),
-        Command::Redo { basis } => response(desk.step(Event::Redo(basis))),
+        Command::Undo { basis } => undo(desk, basis),
+        Command::Redo { basis } => redo(desk, basis),
         Command::Cat { path } => match cat(alloc, &view, path.as_str()) {
             Ok(text) => Response::File { number, text },
             Err(refusal) => Response::Refused { refusal },
@@ -97,6 +128,11 @@ pub fn act<D: Desk>(alloc: Global, desk: &mut D, command: Command) -> Response
             Ok(text) => Response::Lines { number, text },
             Err(refusal) => Response::Refused { refusal },
         },
+        Command::Object { path } => match object(alloc, &view, path.as_str()) {
+            Ok(text) => Response::File { number, text },
+            Err(refusal) => Response::Refused { refusal },
+        },
+        Command::Work => work(alloc, desk),
         Command::List => match list(alloc, &view) {
             Ok(text) => Response::Lines { number, text },
             Err(_) => Response::Refused {

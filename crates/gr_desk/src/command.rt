@@ -36,6 +36,12 @@ pub enum Command {
     },
     List,
     Faults,
+    /// The object of a package.
+    Object {
+        path: Word,
+    },
+    /// Builds one package in this session.
+    Work,
 }
 
 impl Command {
@@ -54,7 +60,9 @@ impl Command {
             | Command::Cat { .. }
             | Command::Uses { .. }
             | Command::List
-            | Command::Faults => None,
+            | Command::Faults
+            | Command::Object { .. }
+            | Command::Work => None,
         }
     }
 }
@@ -71,7 +79,7 @@ pub enum Response {
         undo: usize,
         redo: usize,
     },
-    /// The text of one file.
+    /// The text of one file, or an object.
     File {
         number: u64,
         text: FileText,

@@ -17,8 +17,8 @@ pub trait Desk {
         ensures kind { MayReply event result };
 }
 
-/// A desk with a book of its own.
-#[derive(Drop)]
+/// A desk with a book of its own. It is ended by `into_book`.
+#[must_use]
 pub struct Solo {
     book: Book,
 }
@@ -26,11 +26,11 @@ pub struct Solo {
 impl Model for Solo {
     ghost use Rattle.gr_book.specs.Machine.{Machine};
     ghost use Rattle.std.specs.Coded.{codes};
-    ghost use Rattle.gr_book.specs.State.{workspace_code};
+    ghost use Rattle.gr_compile.specs.Codes.{unit_code, workspace_code};
 
     ghost Value = { Machine };
 
-    ghost coded = { Prim.hlevel (codes, workspace_code) };
+    ghost coded = { Prim.hlevel (codes, unit_code, workspace_code) };
 
     ghost view = { λ a. a.book };
 }
@@ -51,7 +51,7 @@ impl Solo {
 }
 
 impl Desk for Solo {
-    ghost use Rattle.gr_book.specs.Machine.{Step};
+    ghost use Rattle.gr_book.specs.Step.{Step};
 
     ghost steps = { Step };
 

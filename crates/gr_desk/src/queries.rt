@@ -1,7 +1,7 @@
 //! Questions that a view answers.
 ghost use Rattle.std.specs.Prelude.{◌≡◌, ◌++◌, IfOk, OnOk};
 ghost use Rattle.gr_text.specs.PlaceText.{place_text, fault_line};
-ghost use Rattle.gr_desk.specs.Queries.{Cats, WritesUses, TellsFaults, file_line, place_lines, fault_lines, listing};
+ghost use Rattle.gr_desk.specs.Queries.{Cats, WritesUses, TellsFaults, TellsObject, file_line, place_lines, fault_lines, listing};
 
 use crate::bytes::Bytes;
 use gr_space::View;
@@ -18,6 +18,30 @@ pub fn cat(alloc: Global, view: &View, path: &str) -> Result<FileText, Refusal>
     match view.snapshot.files.files().get(&path) {
         Some(text) => Ok(text.clone()?),
         None => Err(Refusal::NoFile),
+    }
+}
+
+/// The object of a package. It is shared, not copied.
+pub fn object(alloc: Global, view: &View, path: &str) -> Result<FileText, Refusal>
+    ensures { TellsObject view.now path.now result }
+{
+    let path = Path::read(alloc, path, 1)?;
+    let Some(number) = view.snapshot.files.number_of(path.as_str().as_bytes()) else {
+        return Err(Refusal::NoPackage);
+    };
+    let Some(unit) = view.finished.get(number) else {
+        return Err(Refusal::Pending { package: path });
+    };
+    match unit.result() {
+        Ok(text) => Ok(text.clone()?),
+        Err(fault) => {
+            let path = fault.place.path.clone()?;
+            let offset = fault.place.offset;
+            Err(Refusal::Faulty {
+                place: Place { path, offset },
+                kind: fault.kind,
+            })
+        }
     }
 }
 

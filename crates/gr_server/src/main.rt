@@ -24,7 +24,9 @@ fn serve<R: Read + Drop, W: Write + Drop>(
     let mut source = Reading::new(input);
     let mut sink = Writing::new(TiedWriter::new(tie));
     let mut solo = Solo::new(Book::new(alloc, Limits::FULL)?);
-    session(alloc, &mut source, &mut sink, &mut solo, Limits::FULL)?;
+    let ended = session(alloc, &mut source, &mut sink, &mut solo, Limits::FULL);
+    let _entries = solo.into_book().close();
+    ended?;
     Ok(())
 }
 

@@ -183,85 +183,86 @@ fn faults_of(alloc: Global, expression: &str) -> Result<Vec<usize>, Fail> {
     Ok(places)
 }
 
-#[test]
-fn whole_expressions(rt: HostRuntime) -> Result<(), Fail> {
-    let alloc = rt.alloc();
-    for expression in [
-        "n + 1",
-        "s + \"a\"",
-        "-n * 2",
-        "!b && n < 1",
-        "*p + n",
-        "p == nil",
-        "nil != l",
-        "l[n]",
-        "len(l) + len(s)",
-        "append(l, 1, n)",
-        "F(n)",
-        "t.f",
-        "(&T{}).f",
-        "t.m() + t.q()",
-        "T{f: 1}.f",
-        "&T{}",
-        "[]int{1, n}",
-        "U(n) + 1",
-        "u + U(2)",
-        "T{}.m()",
-    ] {
-        let faults = faults_of(alloc, expression)?;
-        assert!(rt; faults.is_empty(), "{expression}");
-    }
-    Ok(())
-}
+/// Expressions, in which `@` marks the place of the one fault.
+const EXPRESSIONS: &str = r#"n + 1
+s + "a"
+-n * 2
+!b && n < 1
+*p + n
+p == nil
+nil != l
+l[n]
+len(l) + len(s)
+append(l, 1, n)
+F(n)
+t.f
+(&T{}).f
+t.m() + t.q()
+T{f: 1}.f
+&T{}
+[]int{1, n}
+U(n) + 1
+u + U(2)
+T{}.m()
+@-s
+@!1
+@*n
+@n[0]
+l[@"a"]
+@n + "a"
+@n + u
+1 + F(@"a")
+@F(n, n)
+n + @G()
+@n(1)
+@t.f(1)
+t.@g
+n.@f
+@F.f
+@T.f
+@len(5)
+@len(l, l)
+@append(5, 1)
+append(l, @s)
+@T(n)
+@U(s)
+@T{1}
+T{f: @s}
+T{@g: 1}
+T{@m: 1}
+T{f: 1, @f: 2}
+[]int{@f: 1}
+[]int{1, @s}
+@U{}
+@n{}
+@nil == nil
+@l == l
+@t == t
+T{}.@q()
+t.@m
+(t.@g) + 1
+@(n)(1)
+(@F)(1)
+(t.@m)()"#;
 
 #[test]
 fn each_fault_at_its_place(rt: HostRuntime) -> Result<(), Fail> {
     let alloc = rt.alloc();
-    let table: [(&str, usize); 40] = [
-        ("-s", 0),
-        ("!1", 0),
-        ("*n", 0),
-        ("n[0]", 0),
-        ("l[\"a\"]", 2),
-        ("n + \"a\"", 0),
-        ("n + u", 0),
-        ("1 + F(\"a\")", 6),
-        ("F(n, n)", 0),
-        ("n + G()", 4),
-        ("n(1)", 0),
-        ("t.f(1)", 0),
-        ("t.g", 2),
-        ("n.f", 2),
-        ("F.f", 0),
-        ("T.f", 0),
-        ("len(5)", 0),
-        ("len(l, l)", 0),
-        ("append(5, 1)", 0),
-        ("append(l, s)", 10),
-        ("T(n)", 0),
-        ("U(s)", 0),
-        ("T{1}", 0),
-        ("T{f: s}", 5),
-        ("T{g: 1}", 2),
-        ("T{m: 1}", 2),
-        ("T{f: 1, f: 2}", 8),
-        ("[]int{f: 1}", 6),
-        ("[]int{1, s}", 9),
-        ("U{}", 0),
-        ("n{}", 0),
-        ("nil == nil", 0),
-        ("l == l", 0),
-        ("t == t", 0),
-        ("T{}.q()", 4),
-        ("t.m", 2),
-        ("(t.g) + 1", 3),
-        ("(n)(1)", 0),
-        ("(F)(1)", 1),
-        ("(t.m)()", 3),
-    ];
-    for (expression, place) in table {
-        let faults = faults_of(alloc, expression)?;
-        assert!(rt; faults.as_slice() == [place].as_slice(), "{expression}");
+    for expression in EXPRESSIONS.lines() {
+        match expression.split_once('@') {
+            Some((front, back)) => {
+                let whole = format!(in alloc; "{front}{back}")?;
+                let faults = faults_of(alloc, &whole)?;
+                assert!(rt;
+                    faults.as_slice() == [front.len()].as_slice(),
+                    "{expression}"
+                );
+            }
+            None => {
+                let faults = faults_of(alloc, expression)?;
+                assert!(rt; faults.is_empty(), "{expression}");
+            }
+        }
     }
     Ok(())
 }

@@ -2,44 +2,16 @@
 //! In a text `@` stands before a use and `^` before what declares it; without a `^` it means no declaration of the package.
 ghost use Rattle.std.specs.Prelude.{true, Some, codes};
 
+use crate::bound::{declared_at, path, tree, unmarked};
 use gr_fault::Fault;
-use gr_parse::{FileTree, parse_file};
+use gr_parse::FileTree;
 use gr_scope::declare::declare;
 use gr_scope::named::name_imports;
 use gr_scope::table::ScopeTable;
 use gr_stages::{Exports, PackageNames, inner_faults, lay_names};
-use gr_text::{FaultKind, FileText, Path, Place};
+use gr_text::{FaultKind, Place};
 use std::alloc::Global;
-use std::process::Abort;
 use std::test::Fail;
-
-/// The bytes of a text without its marks, and where the use and the declaration begin.
-fn unmarked(alloc: Global, marked: &str) -> Result<(Vec<u8>, Option<usize>, Option<usize>), Fail> {
-    let mut text = Vec::new(alloc);
-    let mut used = None;
-    let mut declared = None;
-    for byte in marked.as_bytes() {
-        match *byte {
-            b'@' => used = Some(text.len()),
-            b'^' => declared = Some(text.len()),
-            other => text.push(other)?,
-        }
-    }
-    Ok((text, used, declared))
-}
-
-fn path(alloc: Global, text: &str) -> Result<Path, Fail> {
-    match Path::read(alloc, text, 2) {
-        Ok(path) => Ok(path),
-        Err(_) => Err("no path".into()),
-    }
-}
-
-fn tree(alloc: Global, name: &str, text: Vec<u8>) -> Result<FileTree, Fail> {
-    let path = path(alloc, name)?;
-    let text = FileText::new(alloc, text)?;
-    Ok(parse_file(alloc, &path, &text)?)
-}
 
 /// The table in which each import without a name declares a name.
 fn laid<'a>(alloc: Global, files: &'a [FileTree], name: &'a [u8]) -> Result<ScopeTable<'a>, Fail> {
@@ -51,74 +23,36 @@ fn laid<'a>(alloc: Global, files: &'a [FileTree], name: &'a [u8]) -> Result<Scop
     Ok(name_imports(alloc, &table, &names)?)
 }
 
-fn declared_at(table: &ScopeTable<'_>, place: &Place) -> Option<usize> {
-    let declaration = table.resolve(place)?;
-    let identifier = table.identifiers().get(declaration)?;
-    if identifier.role.is_implied() {
-        return None;
-    }
-    let file = table.files().get(identifier.place.file)?;
-    Some(file.offset(identifier.place.index))
-}
+/// What all packages are called, and a text behind a package clause, with `$` for each newline in it.
+const NAMES_OF_PACKAGES: &str = r#"q import ^"b/q"$func f() { print(@q.X) }
+q import ^"b/r"$func f() { print(@q.X) }
+q import "b/r"$func f() { print(@r.X) }
+len import ^"b/len"$func f() { print(@len.X) }
+q import ^"b/q"$import "c/q"$func f() { print(@q.X) }
+q import ^"b/q"$import q "c/r"$func f() { print(@q.X) }
+q import ^q "c/r"$import "b/q"$func f() { print(@q.X) }
+q import "b/q"$var ^q int$func f() { print(@q) }
+q import "b/q"$func f(^q int) { print(@q) }
+q import "b/q"$func f() { ^q := q.X; print(@q) }
+q import ^"b/q"$func f() { q := @q.X; print(q) }
+q import ^@"b/q"
+q import ^"b/q"$var x @q.T"#;
 
-/// Each row with what all packages are called that it imports.
 #[test]
 fn names_of_packages(rt: HostRuntime) -> Result<(), Fail> {
-    let rows = [
-        (
-            "q",
-            "package a\nimport ^\"b/q\"\nfunc f() { print(@q.X) }\n",
-        ),
-        (
-            "q",
-            "package a\nimport ^\"b/r\"\nfunc f() { print(@q.X) }\n",
-        ),
-        ("q", "package a\nimport \"b/r\"\nfunc f() { print(@r.X) }\n"),
-        (
-            "len",
-            "package a\nimport ^\"b/len\"\nfunc f() { print(@len.X) }\n",
-        ),
-        (
-            "q",
-            "package a\nimport ^\"b/q\"\nimport \"c/q\"\nfunc f() { print(@q.X) }\n",
-        ),
-        (
-            "q",
-            "package a\nimport ^\"b/q\"\nimport q \"c/r\"\nfunc f() { print(@q.X) }\n",
-        ),
-        (
-            "q",
-            "package a\nimport ^q \"c/r\"\nimport \"b/q\"\nfunc f() { print(@q.X) }\n",
-        ),
-        (
-            "q",
-            "package a\nimport \"b/q\"\nvar ^q int\nfunc f() { print(@q) }\n",
-        ),
-        (
-            "q",
-            "package a\nimport \"b/q\"\nfunc f(^q int) { print(@q) }\n",
-        ),
-        (
-            "q",
-            "package a\nimport \"b/q\"\nfunc f() { ^q := q.X; print(@q) }\n",
-        ),
-        (
-            "q",
-            "package a\nimport ^\"b/q\"\nfunc f() { q := @q.X; print(q) }\n",
-        ),
-        ("q", "package a\nimport ^@\"b/q\"\n"),
-        ("q", "package a\nimport ^\"b/q\"\nvar x @q.T\n"),
-    ];
-    for row in rows {
-        let (text, used, declared) = unmarked(rt.alloc(), row.1)?;
-        let mut files = Vec::new(rt.alloc());
-        files.push(tree(rt.alloc(), "a/a.go", text)?)?;
-        let table = laid(rt.alloc(), &files, row.0.as_bytes())?;
+    let alloc = rt.alloc();
+    for row in NAMES_OF_PACKAGES.lines() {
+        let (name, behind) = row.split_once(' ').ok_or("no name")?;
+        let marked = format!(in alloc; "package a\n{behind}\n")?;
+        let (text, used, declared) = unmarked(alloc, &marked)?;
+        let mut files = Vec::new(alloc);
+        files.push(tree(alloc, "a/a.go", text)?)?;
+        let table = laid(alloc, &files, name.as_bytes())?;
         let place = Place {
-            path: path(rt.alloc(), "a/a.go")?,
+            path: path(alloc, "a/a.go")?,
             offset: used.ok_or("no use")?,
         };
-        assert_eq!(rt; declared_at(&table, &place), declared, "in {}", row.1);
+        assert_eq!(rt; declared_at(&table, &place), declared, "in {row}");
     }
     Ok(())
 }

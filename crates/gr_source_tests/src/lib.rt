@@ -1,13 +1,17 @@
-//! The tests of the crates that read Go source, over their public calls alone: from the scanner to the checker and the graph.
-//! They stand apart from the crates, since a crate with tests of its own is proved twice.
+//! The tests of texts and of the crates that read Go source, over their public calls alone: from the scanner to statements and
+//! the graph. They stand apart from the crates, since a crate with tests of its own is proved twice.
 #![tactic(auto)]
 
+#[cfg(test)]
+mod bound;
 #[cfg(test)]
 mod expressions;
 #[cfg(test)]
 mod graph;
 #[cfg(test)]
 mod imports;
+#[cfg(test)]
+mod marks;
 #[cfg(test)]
 mod parse;
 #[cfg(test)]
@@ -18,3 +22,5 @@ mod scope;
 mod stages;
 #[cfg(test)]
 mod stmt;
+#[cfg(test)]
+mod text;

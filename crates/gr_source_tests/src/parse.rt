@@ -1,4 +1,6 @@
-//! Programs that are files of the Go subset or are not, with the place of the first fault.
+//! Programs that are files of the Go subset or are not, with the place of the first fault. A table has a text a line, in which
+//! `@` marks that place and `$` stands for a newline.
+use crate::marks::unmarked;
 use gr_parse::syntax::Kind;
 use gr_parse::tree::{Decl, Expr, SimpleStmt, Stmt};
 use gr_parse::{ParseRefusal, flatten, parse};
@@ -32,23 +34,19 @@ fn verdict(alloc: Global, text: &[u8]) -> Result<String, Fail> {
 
 /// Checks a text in which `@` marks the place of the first `syntax` fault; without one it is a file.
 fn check_marked(rt: &impl Abort, alloc: Global, marked: &str) -> Result<(), Fail> {
-    let mut text = Vec::new(alloc);
-    let mut want = "ok".to_string(alloc)?;
-    for byte in marked.as_bytes() {
-        if *byte == b'@' {
-            want = format!(in alloc; "{} syntax", text.len())?;
-        } else {
-            text.push(*byte)?;
-        }
-    }
+    let (text, marks) = unmarked(alloc, marked)?;
+    let want = match marks.first() {
+        Some(place) => format!(in alloc; "{place} syntax")?,
+        None => "ok".to_string(alloc)?,
+    };
     let got = verdict(alloc, &text)?;
     assert_eq!(rt; got, want, "at {marked}");
     Ok(())
 }
 
 /// Checks texts that stand behind a package clause.
-fn check_files(rt: &impl Abort, alloc: Global, rows: &[&str]) -> Result<(), Fail> {
-    for row in rows {
+fn check_files(rt: &impl Abort, alloc: Global, rows: &str) -> Result<(), Fail> {
+    for row in rows.lines() {
         let text = format!(in alloc; "package a\n{row}\n")?;
         check_marked(rt, alloc, &text)?;
     }
@@ -56,295 +54,285 @@ fn check_files(rt: &impl Abort, alloc: Global, rows: &[&str]) -> Result<(), Fail
 }
 
 /// Checks statements of a function.
-fn check_bodies(rt: &impl Abort, alloc: Global, rows: &[&str]) -> Result<(), Fail> {
-    for row in rows {
+fn check_bodies(rt: &impl Abort, alloc: Global, rows: &str) -> Result<(), Fail> {
+    for row in rows.lines() {
         let text = format!(in alloc; "package a\n\nfunc f() {{\n\t{row}\n}}\n")?;
         check_marked(rt, alloc, &text)?;
     }
     Ok(())
 }
 
+const PACKAGE_CLAUSES: &str = r#"package a
+package a$
+package a;
+@
+package@
+package a$@}
+package @_$
+package @1$
+package a @b$
+@import "b"$
+package a; @package b
+package a$var x int = 1,$@
+package a$func f() {$@
+package a$func f() { x +@"#;
+
 #[test]
 fn package_clauses(rt: HostRuntime) -> Result<(), Fail> {
-    let rows = [
-        "package a",
-        "package a\n",
-        "package a;",
-        "@",
-        "package@",
-        "package a\n@}",
-        "package @_\n",
-        "package @1\n",
-        "package a @b\n",
-        "@import \"b\"\n",
-        "package a; @package b",
-        "package a\nvar x int = 1,\n@",
-        "package a\nfunc f() {\n@",
-        "package a\nfunc f() { x +@",
-    ];
-    for row in rows {
+    for row in PACKAGE_CLAUSES.lines() {
         check_marked(&rt, rt.alloc(), row)?;
     }
     Ok(())
 }
 
+const IMPORTS: &str = r#"import "b"
+import c "b"
+import ()
+import ($"b"$c "c"$)
+import ("b"; c `c`)
+import "b"; import "c"
+import @_ "b"
+import @. "b"
+import @1
+import "b" @"c"
+import ("b" @"c")
+import (@; "b")
+var x int$@import "b""#;
+
 #[test]
 fn imports(rt: HostRuntime) -> Result<(), Fail> {
-    let rows = [
-        "import \"b\"",
-        "import c \"b\"",
-        "import ()",
-        "import (\n\"b\"\nc \"c\"\n)",
-        "import (\"b\"; c `c`)",
-        "import \"b\"; import \"c\"",
-        "import @_ \"b\"",
-        "import @. \"b\"",
-        "import @1",
-        "import \"b\" @\"c\"",
-        "import (\"b\" @\"c\")",
-        "import (@; \"b\")",
-        "var x int\n@import \"b\"",
-    ];
-    check_files(&rt, rt.alloc(), &rows)
+    check_files(&rt, rt.alloc(), IMPORTS)
 }
+
+const VARIABLES: &str = r#"var x int
+var x, y int = 1, "a"
+var x []*b.T
+var x *[]T
+var (x int; y string)
+var ($x int$y int = 2$)
+var ()
+var x int = @-1
+var x int = @y
+var x @= 1
+var @_ int
+var x, @_ int
+var x [@3]int
+var x b.@_
+var x b@,c int
+var x int @y
+var x@$"#;
 
 #[test]
 fn variables(rt: HostRuntime) -> Result<(), Fail> {
-    let rows = [
-        "var x int",
-        "var x, y int = 1, \"a\"",
-        "var x []*b.T",
-        "var x *[]T",
-        "var (x int; y string)",
-        "var (\nx int\ny int = 2\n)",
-        "var ()",
-        "var x int = @-1",
-        "var x int = @y",
-        "var x @= 1",
-        "var @_ int",
-        "var x, @_ int",
-        "var x [@3]int",
-        "var x b.@_",
-        "var x b@,c int",
-        "var x int @y",
-        "var x@\n",
-    ];
-    check_files(&rt, rt.alloc(), &rows)
+    check_files(&rt, rt.alloc(), VARIABLES)
 }
+
+const TYPES: &str = r"type T int
+type T b.U
+type T struct{}
+type T struct { a, b int; c []T }
+type T struct {$a int$b *T$}
+type (A int; B struct { x A })
+type T @= int
+type @_ int
+type T struct { @_ int }
+type T struct { a int @b int }
+type T struct { a@; b int }
+type T struct { a int }@.x
+type T @interface {}";
 
 #[test]
 fn types(rt: HostRuntime) -> Result<(), Fail> {
-    let rows = [
-        "type T int",
-        "type T b.U",
-        "type T struct{}",
-        "type T struct { a, b int; c []T }",
-        "type T struct {\na int\nb *T\n}",
-        "type (A int; B struct { x A })",
-        "type T @= int",
-        "type @_ int",
-        "type T struct { @_ int }",
-        "type T struct { a int @b int }",
-        "type T struct { a@; b int }",
-        "type T struct { a int }@.x",
-        "type T @interface {}",
-    ];
-    check_files(&rt, rt.alloc(), &rows)
+    check_files(&rt, rt.alloc(), TYPES)
 }
+
+const FUNCTIONS: &str = r"func f() {}
+func (t T) m() {}
+func (t *T,) m() {}
+func (_ *T) m() {}
+func f(a int) {}
+func f(a, _ int, c string,) int {}
+func f() *b.T {}
+func f() []int {}
+func f() (int, string,) {}
+func f() () {}
+func f(a int) (b) { return 1 }
+func f() {}; func g() {}
+func (T@) m() {}
+func (t *@*T) m() {}
+func (t b@.T) m() {}
+func @_() {}
+func f(a@) {}
+func f(a, b@) {}
+func f(a int@; b int) {}
+func f(a @...int) {}
+func f() (a @int) {}
+func f()@${}
+func f() @= 1
+func f() {} @func g() {}";
 
 #[test]
 fn functions(rt: HostRuntime) -> Result<(), Fail> {
-    let rows = [
-        "func f() {}",
-        "func (t T) m() {}",
-        "func (t *T,) m() {}",
-        "func (_ *T) m() {}",
-        "func f(a int) {}",
-        "func f(a, _ int, c string,) int {}",
-        "func f() *b.T {}",
-        "func f() []int {}",
-        "func f() (int, string,) {}",
-        "func f() () {}",
-        "func f(a int) (b) { return 1 }",
-        "func f() {}; func g() {}",
-        "func (T@) m() {}",
-        "func (t *@*T) m() {}",
-        "func (t b@.T) m() {}",
-        "func @_() {}",
-        "func f(a@) {}",
-        "func f(a, b@) {}",
-        "func f(a int@; b int) {}",
-        "func f(a @...int) {}",
-        "func f() (a @int) {}",
-        "func f()@\n{}",
-        "func f() @= 1",
-        "func f() {} @func g() {}",
-    ];
-    check_files(&rt, rt.alloc(), &rows)
+    check_files(&rt, rt.alloc(), FUNCTIONS)
 }
+
+const SIMPLE_STATEMENTS: &str = r"
+;
+x
+x;;y
+f()
+x = 1
+x, y = y, x
+x := 1
+x, _ := f()
+x += 1
+x -= 1; x *= 2; x /= 3; x %= 4
+x++; x--
+{ x() }
+{}
+break
+continue
+return
+return x, y
+var x int
+var x = 1
+var x, _ int = 1, 2
+var (x = 1; y int)
+x++ @++
+@++x
+x, y @+= 1
+x, y@++
+x, y@
+x = y @= z
+x := y @:= z
+x @&= y
+@:= 1
+break @x
+return x @return
+var x@
+var @1
+@go f()
+@defer f()
+@switch x {}
+x@: y()
+@type T int
+@func() {}";
+
+const SIMPLE_STATEMENTS_AT_THE_END: &str = r"func f() {$ return x,$@}
+func f() {$ x = $@}
+func f() { x }@}";
 
 #[test]
 fn simple_statements(rt: HostRuntime) -> Result<(), Fail> {
-    let rows = [
-        "",
-        ";",
-        "x",
-        "x;;y",
-        "f()",
-        "x = 1",
-        "x, y = y, x",
-        "x := 1",
-        "x, _ := f()",
-        "x += 1",
-        "x -= 1; x *= 2; x /= 3; x %= 4",
-        "x++; x--",
-        "{ x() }",
-        "{}",
-        "break",
-        "continue",
-        "return",
-        "return x, y",
-        "var x int",
-        "var x = 1",
-        "var x, _ int = 1, 2",
-        "var (x = 1; y int)",
-        "x++ @++",
-        "@++x",
-        "x, y @+= 1",
-        "x, y@++",
-        "x, y@",
-        "x = y @= z",
-        "x := y @:= z",
-        "x @&= y",
-        "@:= 1",
-        "break @x",
-        "return x @return",
-        "var x@",
-        "var @1",
-        "@go f()",
-        "@defer f()",
-        "@switch x {}",
-        "x@: y()",
-        "@type T int",
-        "@func() {}",
-    ];
-    check_bodies(&rt, rt.alloc(), &rows)?;
-    let rows = [
-        "func f() {\n\treturn x,\n@}",
-        "func f() {\n\tx = \n@}",
-        "func f() { x }@}",
-    ];
-    check_files(&rt, rt.alloc(), &rows)
+    check_bodies(&rt, rt.alloc(), SIMPLE_STATEMENTS)?;
+    check_files(&rt, rt.alloc(), SIMPLE_STATEMENTS_AT_THE_END)
 }
+
+const IF_STATEMENTS: &str = r"if x {}
+if x { y() }
+if x {} else {}
+if x {} else if y {} else if z {} else {}
+if x := f(); x {}
+if ; x {}
+if x; y {}
+if x++; y {}
+if x, y = 1, 2; y {}
+if x == (T{}) {}
+if x == []T{} {}
+if f(T{}) {}
+if a[T{}] {}
+if &[]T{1} == x {}
+if x := (T{}); x {}
+if x {}$@else {}
+if x {} else @x
+if x {} else {} @else {}
+if x == T{} @{}
+if x == b.T{} @{}
+if x == T{1} @{}
+if &@T{} == x {}
+if x := T@{}; x {}
+if x := 1 @{}
+if @{}
+if x; @{}
+if x; y@; z {}
+if x; y @:= 1 {}
+if x$@{}";
 
 #[test]
 fn if_statements(rt: HostRuntime) -> Result<(), Fail> {
-    let rows = [
-        "if x {}",
-        "if x { y() }",
-        "if x {} else {}",
-        "if x {} else if y {} else if z {} else {}",
-        "if x := f(); x {}",
-        "if ; x {}",
-        "if x; y {}",
-        "if x++; y {}",
-        "if x, y = 1, 2; y {}",
-        "if x == (T{}) {}",
-        "if x == []T{} {}",
-        "if f(T{}) {}",
-        "if a[T{}] {}",
-        "if &[]T{1} == x {}",
-        "if x := (T{}); x {}",
-        "if x {}\n@else {}",
-        "if x {} else @x",
-        "if x {} else {} @else {}",
-        "if x == T{} @{}",
-        "if x == b.T{} @{}",
-        "if x == T{1} @{}",
-        "if &@T{} == x {}",
-        "if x := T@{}; x {}",
-        "if x := 1 @{}",
-        "if @{}",
-        "if x; @{}",
-        "if x; y@; z {}",
-        "if x; y @:= 1 {}",
-        "if x\n@{}",
-    ];
-    check_bodies(&rt, rt.alloc(), &rows)
+    check_bodies(&rt, rt.alloc(), IF_STATEMENTS)
 }
+
+const FOR_STATEMENTS: &str = r"for {}
+for x {}
+for x < 3 { y() }
+for i := 0; i < 3; i++ {}
+for ; ; {}
+for ;; i++ {}
+for i := 0; ; {}
+for x; y; z {}
+for i := 0; i < 3; i, j = 1, 2 {}
+for x == []T{} {}
+for i := 0; i < 3; i @:= 1 {}
+for i := 0; i < 3; i, j @:= 1, 2 {}
+for i := 0 @{}
+for x; y @{}
+for x := T@{}; x; {}
+for @range x {}
+for i := @range x {}
+for x == T{} @{}
+for x, y @{}
+for x {} @else {}";
 
 #[test]
 fn for_statements(rt: HostRuntime) -> Result<(), Fail> {
-    let rows = [
-        "for {}",
-        "for x {}",
-        "for x < 3 { y() }",
-        "for i := 0; i < 3; i++ {}",
-        "for ; ; {}",
-        "for ;; i++ {}",
-        "for i := 0; ; {}",
-        "for x; y; z {}",
-        "for i := 0; i < 3; i, j = 1, 2 {}",
-        "for x == []T{} {}",
-        "for i := 0; i < 3; i @:= 1 {}",
-        "for i := 0; i < 3; i, j @:= 1, 2 {}",
-        "for i := 0 @{}",
-        "for x; y @{}",
-        "for x := T@{}; x; {}",
-        "for @range x {}",
-        "for i := @range x {}",
-        "for x == T{} @{}",
-        "for x, y @{}",
-        "for x {} @else {}",
-    ];
-    check_bodies(&rt, rt.alloc(), &rows)
+    check_bodies(&rt, rt.alloc(), FOR_STATEMENTS)
 }
+
+const EXPRESSIONS: &str = r"x = 1 + 2 * 3 == 4 && !y || -z < w
+x = *p + +q % 2
+x = &T{}
+x = &b.T{1, 2,}
+x = &[]int{}
+x = T{}.x
+x = T{a: 1, b: 2}
+x = T{a.b, f(c), -d}
+x = []int{1, 2,}
+x = []b.T{T{}, @{1}}
+x = f(1, 2,)
+x = f()
+x = a.b.c[1](2).d
+x = (1)(2)[3]
+x = _
+x = T{1}
+x = &T{}@.x
+x = T{1@$}
+x = T{@,}
+x = T{1 @2}
+x = T{_@: 1}
+x = T{a.b@: 1}
+x = T{a: b@: 1}
+x = &x@
+x = f(1@$)
+x = f(@,)
+x = f(1 @2)
+x = a[@]
+x = a[1@:2]
+x = a.@_
+x = a.@(int)
+x = (@)
+x = (1@]
+x = 1 @2
+x = a @<< b
+x = a @& b
+x = @func() {}
+x = [@3]int{}
+x = []int@(y)
+x = @struct{}{}";
 
 #[test]
 fn expressions(rt: HostRuntime) -> Result<(), Fail> {
-    let rows = [
-        "x = 1 + 2 * 3 == 4 && !y || -z < w",
-        "x = *p + +q % 2",
-        "x = &T{}",
-        "x = &b.T{1, 2,}",
-        "x = &[]int{}",
-        "x = T{}.x",
-        "x = T{a: 1, b: 2}",
-        "x = T{a.b, f(c), -d}",
-        "x = []int{1, 2,}",
-        "x = []b.T{T{}, @{1}}",
-        "x = f(1, 2,)",
-        "x = f()",
-        "x = a.b.c[1](2).d",
-        "x = (1)(2)[3]",
-        "x = _",
-        "x = T{1}",
-        "x = &T{}@.x",
-        "x = T{1@\n}",
-        "x = T{@,}",
-        "x = T{1 @2}",
-        "x = T{_@: 1}",
-        "x = T{a.b@: 1}",
-        "x = T{a: b@: 1}",
-        "x = &x@",
-        "x = f(1@\n)",
-        "x = f(@,)",
-        "x = f(1 @2)",
-        "x = a[@]",
-        "x = a[1@:2]",
-        "x = a.@_",
-        "x = a.@(int)",
-        "x = (@)",
-        "x = (1@]",
-        "x = 1 @2",
-        "x = a @<< b",
-        "x = a @& b",
-        "x = @func() {}",
-        "x = [@3]int{}",
-        "x = []int@(y)",
-        "x = @struct{}{}",
-    ];
-    check_bodies(&rt, rt.alloc(), &rows)
+    check_bodies(&rt, rt.alloc(), EXPRESSIONS)
 }
 
 fn repeated(alloc: Global, part: &str, count: usize, last: &str) -> Result<String, Fail> {

@@ -44,208 +44,203 @@ fn shown(alloc: Global, text: &[u8]) -> Result<String, Fail> {
     }
 }
 
-fn expect_rows(rt: &impl Abort, alloc: Global, rows: &[(&str, &str)]) -> Result<(), Fail> {
-    for (text, want) in rows {
-        let got = shown(alloc, text.as_bytes())?;
-        assert_eq!(rt; got.as_str(), *want, "at {text}");
+/// Checks a row a line: a text, with `$` for each newline in it, and what is shown of it.
+fn expect_rows(rt: &impl Abort, alloc: Global, rows: &str) -> Result<(), Fail> {
+    for row in rows.lines() {
+        let (text, want) = row.split_once(" => ").ok_or("no answer")?;
+        let text = with_newlines(alloc, text)?;
+        let got = shown(alloc, &text)?;
+        assert_eq!(rt; got.as_str(), want, "at {row}");
     }
     Ok(())
 }
 
+fn with_newlines(alloc: Global, text: &str) -> Result<Vec<u8>, Fail> {
+    let mut bytes = Vec::new(alloc);
+    for byte in text.as_bytes() {
+        bytes.push(if *byte == b'$' { b'\n' } else { *byte })?;
+    }
+    Ok(bytes)
+}
+
+const NAMES: &str = concat!(
+    "package a => keyword0-7 name8-9 ;9-9 \n",
+    "_x9 => name0-3 ;3-3 \n",
+    "breaks => name0-6 ;6-6 \n",
+    "\u{3b1}\u{3b2} => name0-4 ;4-4 \n",
+    "a\u{661} => name0-3 ;3-3 \n",
+    "a\u{1d7d8} => name0-5 ;5-5 \n",
+    "\u{661}a => character 0\n",
+    "a\u{b2} => character 1\n",
+    "x\u{301} => character 1\n",
+    "\u{2160} => character 0\n",
+);
+
 #[test]
 fn names(rt: HostRuntime) -> Result<(), Fail> {
-    expect_rows(
-        &rt,
-        rt.alloc(),
-        &[
-            ("package a", "keyword0-7 name8-9 ;9-9 "),
-            ("_x9", "name0-3 ;3-3 "),
-            ("breaks", "name0-6 ;6-6 "),
-            ("\u{3b1}\u{3b2}", "name0-4 ;4-4 "),
-            ("a\u{661}", "name0-3 ;3-3 "),
-            ("a\u{1d7d8}", "name0-5 ;5-5 "),
-            ("\u{661}a", "character 0"),
-            ("a\u{b2}", "character 1"),
-            ("x\u{301}", "character 1"),
-            ("\u{2160}", "character 0"),
-        ],
-    )
+    expect_rows(&rt, rt.alloc(), NAMES)
 }
+
+const INTEGERS: &str = concat!(
+    "0 => int0-1 ;1-1 \n",
+    "42 => int0-2 ;2-2 \n",
+    "1_000 => int0-5 ;5-5 \n",
+    "0600 => int0-4 ;4-4 \n",
+    "0_600 => int0-5 ;5-5 \n",
+    "0o600 => int0-5 ;5-5 \n",
+    "0O600 => int0-5 ;5-5 \n",
+    "0b_1 => int0-4 ;4-4 \n",
+    "0B01 => int0-4 ;4-4 \n",
+    "0xBadFace => int0-9 ;9-9 \n",
+    "0X_67_7a => int0-8 ;8-8 \n",
+    "1+2 => int0-1 op1-2 int2-3 ;3-3 \n",
+    "_42 => name0-3 ;3-3 \n",
+    "9223372036854775807 => int0-19 ;19-19 \n",
+    "0x7FFF_FFFF_FFFF_FFFF => int0-21 ;21-21 \n",
+    "0777777777777777777777 => int0-22 ;22-22 \n",
+    "x...5 => name0-1 op1-4 int4-5 ;5-5 \n",
+    "a..b => name0-1 op1-2 op2-3 name3-4 ;4-4 \n",
+);
 
 #[test]
 fn integers(rt: HostRuntime) -> Result<(), Fail> {
-    expect_rows(
-        &rt,
-        rt.alloc(),
-        &[
-            ("0", "int0-1 ;1-1 "),
-            ("42", "int0-2 ;2-2 "),
-            ("1_000", "int0-5 ;5-5 "),
-            ("0600", "int0-4 ;4-4 "),
-            ("0_600", "int0-5 ;5-5 "),
-            ("0o600", "int0-5 ;5-5 "),
-            ("0O600", "int0-5 ;5-5 "),
-            ("0b_1", "int0-4 ;4-4 "),
-            ("0B01", "int0-4 ;4-4 "),
-            ("0xBadFace", "int0-9 ;9-9 "),
-            ("0X_67_7a", "int0-8 ;8-8 "),
-            ("1+2", "int0-1 op1-2 int2-3 ;3-3 "),
-            ("_42", "name0-3 ;3-3 "),
-            ("9223372036854775807", "int0-19 ;19-19 "),
-            ("0x7FFF_FFFF_FFFF_FFFF", "int0-21 ;21-21 "),
-            ("0777777777777777777777", "int0-22 ;22-22 "),
-            ("x...5", "name0-1 op1-4 int4-5 ;5-5 "),
-            ("a..b", "name0-1 op1-2 op2-3 name3-4 ;4-4 "),
-        ],
-    )
+    expect_rows(&rt, rt.alloc(), INTEGERS)
 }
+
+const BAD_NUMBERS: &str = concat!(
+    "a 42_ => number 2\n",
+    "4__2 => number 0\n",
+    "0_xBadFace => number 0\n",
+    "0x => number 0\n",
+    "0b2 => number 0\n",
+    "0o8 => number 0\n",
+    "08 => number 0\n",
+    "0_8 => number 0\n",
+    "1e5 => number 0\n",
+    "1i => number 0\n",
+    "1\u{e9} => number 0\n",
+    "1\u{661} => number 0\n",
+    "1. => number 0\n",
+    "1.5 => number 0\n",
+    "x.5 => number 1\n",
+    "..5 => number 1\n",
+    "9223372036854775808 => number 0\n",
+    "0x8000_0000_0000_0000 => number 0\n",
+    "01000000000000000000000 => number 0\n",
+);
 
 #[test]
 fn bad_numbers(rt: HostRuntime) -> Result<(), Fail> {
-    expect_rows(
-        &rt,
-        rt.alloc(),
-        &[
-            ("a 42_", "number 2"),
-            ("4__2", "number 0"),
-            ("0_xBadFace", "number 0"),
-            ("0x", "number 0"),
-            ("0b2", "number 0"),
-            ("0o8", "number 0"),
-            ("08", "number 0"),
-            ("0_8", "number 0"),
-            ("1e5", "number 0"),
-            ("1i", "number 0"),
-            ("1\u{e9}", "number 0"),
-            ("1\u{661}", "number 0"),
-            ("1.", "number 0"),
-            ("1.5", "number 0"),
-            ("x.5", "number 1"),
-            ("..5", "number 1"),
-            ("9223372036854775808", "number 0"),
-            ("0x8000_0000_0000_0000", "number 0"),
-            ("01000000000000000000000", "number 0"),
-        ],
-    )
+    expect_rows(&rt, rt.alloc(), BAD_NUMBERS)
 }
+
+const STRINGS: &str = concat!(
+    "\"\" => string0-2 ;2-2 \n",
+    "\"\\a\\b\\f\\n\\r\\t\\v\\\\\\\"\" => string0-20 ;20-20 \n",
+    "\"\\000\\377\" => string0-10 ;10-10 \n",
+    "\"\\x4A\" => string0-6 ;6-6 \n",
+    "\"\\ue000\" => string0-8 ;8-8 \n",
+    "\"\\U0010ffff\" => string0-12 ;12-12 \n",
+    "\"\u{65e5}\u{672c}\" => string0-8 ;8-8 \n",
+    "\"`\" => string0-3 ;3-3 \n",
+    "`\"` => raw0-3 ;3-3 \n",
+    "`a\r$b` => raw0-6 ;6-6 \n",
+    "`\\n` => raw0-4 ;4-4 \n",
+);
 
 #[test]
 fn strings(rt: HostRuntime) -> Result<(), Fail> {
-    expect_rows(
-        &rt,
-        rt.alloc(),
-        &[
-            (r#""""#, "string0-2 ;2-2 "),
-            (r#""\a\b\f\n\r\t\v\\\"""#, "string0-20 ;20-20 "),
-            (r#""\000\377""#, "string0-10 ;10-10 "),
-            (r#""\x4A""#, "string0-6 ;6-6 "),
-            (r#""\ue000""#, "string0-8 ;8-8 "),
-            (r#""\U0010ffff""#, "string0-12 ;12-12 "),
-            ("\"\u{65e5}\u{672c}\"", "string0-8 ;8-8 "),
-            ("\"`\"", "string0-3 ;3-3 "),
-            ("`\"`", "raw0-3 ;3-3 "),
-            ("`a\r\nb`", "raw0-6 ;6-6 "),
-            ("`\\n`", "raw0-4 ;4-4 "),
-        ],
-    )
+    expect_rows(&rt, rt.alloc(), STRINGS)
 }
+
+const BAD_STRINGS: &str = concat!(
+    "a \"b\\q\" => string 4\n",
+    "\"\\'\" => string 1\n",
+    "\"\\7\" => string 1\n",
+    "\"\\38\" => string 1\n",
+    "\"\\400\" => string 1\n",
+    "\"\\x4\" => string 1\n",
+    "\"\\xg1\" => string 1\n",
+    "\"\\u00e\" => string 1\n",
+    "\"\\ud800\" => string 1\n",
+    "\"\\udfff\" => string 1\n",
+    "\"\\U000e9\" => string 1\n",
+    "\"\\U00110000\" => string 1\n",
+    "\"a\\ => string 2\n",
+    "\"a\\$\" => string 2\n",
+    "\"a\\qb => string 2\n",
+    "a \"b => string 2\n",
+    "\"a$b\" => string 0\n",
+    "a `b => string 2\n",
+    "'a' => character 0\n",
+);
 
 #[test]
 fn bad_strings(rt: HostRuntime) -> Result<(), Fail> {
-    expect_rows(
-        &rt,
-        rt.alloc(),
-        &[
-            (r#"a "b\q""#, "string 4"),
-            (r#""\'""#, "string 1"),
-            (r#""\7""#, "string 1"),
-            (r#""\38""#, "string 1"),
-            (r#""\400""#, "string 1"),
-            (r#""\x4""#, "string 1"),
-            (r#""\xg1""#, "string 1"),
-            (r#""\u00e""#, "string 1"),
-            (r#""\ud800""#, "string 1"),
-            (r#""\udfff""#, "string 1"),
-            (r#""\U000e9""#, "string 1"),
-            (r#""\U00110000""#, "string 1"),
-            ("\"a\\", "string 2"),
-            ("\"a\\\n\"", "string 2"),
-            ("\"a\\qb", "string 2"),
-            ("a \"b", "string 2"),
-            ("\"a\nb\"", "string 0"),
-            ("a `b", "string 2"),
-            ("'a'", "character 0"),
-        ],
-    )
+    expect_rows(&rt, rt.alloc(), BAD_STRINGS)
 }
+
+const COMMENTS: &str = concat!(
+    "// a => \n",
+    "a // b => name0-1 ;1-1 \n",
+    "a // b$c => name0-1 ;1-1 name7-8 ;8-8 \n",
+    "a /* b */ c => name0-1 name10-11 ;11-11 \n",
+    "a /* $ */ c => name0-1 ;1-1 name10-11 ;11-11 \n",
+    "/* /* */ a => name9-10 ;10-10 \n",
+    "/**/ => \n",
+    "a / b => name0-1 op2-3 name4-5 ;5-5 \n",
+    "/*/ a => comment 0\n",
+    "a /* b => comment 2\n",
+    "a /* * => comment 2\n",
+);
 
 #[test]
 fn comments(rt: HostRuntime) -> Result<(), Fail> {
-    expect_rows(
-        &rt,
-        rt.alloc(),
-        &[
-            ("// a", ""),
-            ("a // b", "name0-1 ;1-1 "),
-            ("a // b\nc", "name0-1 ;1-1 name7-8 ;8-8 "),
-            ("a /* b */ c", "name0-1 name10-11 ;11-11 "),
-            ("a /* \n */ c", "name0-1 ;1-1 name10-11 ;11-11 "),
-            ("/* /* */ a", "name9-10 ;10-10 "),
-            ("/**/", ""),
-            ("a / b", "name0-1 op2-3 name4-5 ;5-5 "),
-            ("/*/ a", "comment 0"),
-            ("a /* b", "comment 2"),
-            ("a /* *", "comment 2"),
-        ],
-    )
+    expect_rows(&rt, rt.alloc(), COMMENTS)
 }
+
+const OPERATORS: &str = concat!(
+    "a&^=b => name0-1 op1-4 name4-5 ;5-5 \n",
+    "a<-b => name0-1 op1-3 name3-4 ;4-4 \n",
+    "a---b => name0-1 op1-3 op3-4 name4-5 ;5-5 \n",
+    ">>> => op0-2 op2-3 \n",
+    "!== => op0-2 op2-3 \n",
+    ".... => op0-3 op3-4 \n",
+    "a # b => character 2\n",
+    "@ => character 0\n",
+    "a\u{c}b => character 1\n",
+    "a\u{a0}b => character 1\n",
+    "\u{feff}a => name3-4 ;4-4 \n",
+    "a\u{feff} => character 1\n",
+    "\u{feff}\u{feff} => character 3\n",
+);
 
 #[test]
 fn operators(rt: HostRuntime) -> Result<(), Fail> {
-    expect_rows(
-        &rt,
-        rt.alloc(),
-        &[
-            ("a&^=b", "name0-1 op1-4 name4-5 ;5-5 "),
-            ("a<-b", "name0-1 op1-3 name3-4 ;4-4 "),
-            ("a---b", "name0-1 op1-3 op3-4 name4-5 ;5-5 "),
-            (">>>", "op0-2 op2-3 "),
-            ("!==", "op0-2 op2-3 "),
-            ("....", "op0-3 op3-4 "),
-            ("a # b", "character 2"),
-            ("@", "character 0"),
-            ("a\u{c}b", "character 1"),
-            ("a\u{a0}b", "character 1"),
-            ("\u{feff}a", "name3-4 ;4-4 "),
-            ("a\u{feff}", "character 1"),
-            ("\u{feff}\u{feff}", "character 3"),
-        ],
-    )
+    expect_rows(&rt, rt.alloc(), OPERATORS)
 }
+
+const SEMICOLONS: &str = concat!(
+    " => \n",
+    "$ => \n",
+    "a$b$ => name0-1 ;1-1 name2-3 ;3-3 \n",
+    "a \t\r$$ b => name0-1 ;1-1 name7-8 ;8-8 \n",
+    "a;$ => name0-1 op1-2 \n",
+    "a /* */ => name0-1 ;1-1 \n",
+    "a /*$*/ /*$*/ b => name0-1 ;1-1 name14-15 ;15-15 \n",
+    "1$``$\"\"$ => int0-1 ;1-1 raw2-4 ;4-4 string5-7 ;7-7 \n",
+    ")$]$}$ => op0-1 ;1-1 op2-3 ;3-3 op4-5 ;5-5 \n",
+    "($[${$ => op0-1 op2-3 op4-5 \n",
+    "x++$x--$ => name0-1 op1-3 ;3-3 name4-5 op5-7 ;7-7 \n",
+    "x+$y => name0-1 op1-2 name3-4 ;4-4 \n",
+    "return$break$ => keyword0-6 ;6-6 keyword7-12 ;12-12 \n",
+    "continue$goto$ => keyword0-8 ;8-8 keyword9-13 \n",
+    "fallthrough$else$ => keyword0-11 ;11-11 keyword12-16 \n",
+);
 
 #[test]
 fn semicolons(rt: HostRuntime) -> Result<(), Fail> {
-    expect_rows(
-        &rt,
-        rt.alloc(),
-        &[
-            ("", ""),
-            ("\n", ""),
-            ("a\nb\n", "name0-1 ;1-1 name2-3 ;3-3 "),
-            ("a \t\r\n\n b", "name0-1 ;1-1 name7-8 ;8-8 "),
-            ("a;\n", "name0-1 op1-2 "),
-            ("a /* */", "name0-1 ;1-1 "),
-            ("a /*\n*/ /*\n*/ b", "name0-1 ;1-1 name14-15 ;15-15 "),
-            ("1\n``\n\"\"\n", "int0-1 ;1-1 raw2-4 ;4-4 string5-7 ;7-7 "),
-            (")\n]\n}\n", "op0-1 ;1-1 op2-3 ;3-3 op4-5 ;5-5 "),
-            ("(\n[\n{\n", "op0-1 op2-3 op4-5 "),
-            ("x++\nx--\n", "name0-1 op1-3 ;3-3 name4-5 op5-7 ;7-7 "),
-            ("x+\ny", "name0-1 op1-2 name3-4 ;4-4 "),
-            ("return\nbreak\n", "keyword0-6 ;6-6 keyword7-12 ;12-12 "),
-            ("continue\ngoto\n", "keyword0-8 ;8-8 keyword9-13 "),
-            ("fallthrough\nelse\n", "keyword0-11 ;11-11 keyword12-16 "),
-        ],
-    )
+    expect_rows(&rt, rt.alloc(), SEMICOLONS)
 }
 
 #[test]

@@ -1,55 +1,11 @@
 //! What names are bound to in small programs. In a text `@` stands before a use and `^` before the identifier that declares
 //! what the use means; without a `^` it means no declaration of the package.
-use gr_parse::{FileTree, ParseRefusal, parse_file};
+use crate::bound::{declared_at, path, tree, unmarked};
 use gr_scope::declare::declare;
-use gr_scope::table::ScopeTable;
-use gr_text::{FileText, Path, Place};
+use gr_text::Place;
 use std::alloc::Global;
 use std::process::Abort;
 use std::test::Fail;
-
-/// The bytes of a text without its marks, and where the use and the declaration begin.
-fn unmarked(alloc: Global, marked: &str) -> Result<(Vec<u8>, Option<usize>, Option<usize>), Fail> {
-    let mut text = Vec::new(alloc);
-    let mut used = None;
-    let mut declared = None;
-    for byte in marked.as_bytes() {
-        match *byte {
-            b'@' => used = Some(text.len()),
-            b'^' => declared = Some(text.len()),
-            other => text.push(other)?,
-        }
-    }
-    Ok((text, used, declared))
-}
-
-fn path(alloc: Global, text: &str) -> Result<Path, Fail> {
-    match Path::read(alloc, text, 2) {
-        Ok(path) => Ok(path),
-        Err(_) => Err("no path".into()),
-    }
-}
-
-fn tree(alloc: Global, name: &str, text: Vec<u8>) -> Result<FileTree, Fail> {
-    let path = path(alloc, name)?;
-    let text = FileText::new(alloc, text)?;
-    match parse_file(alloc, &path, &text) {
-        Ok(tree) => Ok(tree),
-        Err(ParseRefusal::Fault(_)) => Err("a fault".into()),
-        Err(ParseRefusal::Memory) => Err("no memory".into()),
-    }
-}
-
-/// Where the identifier begins that declares what an identifier means, or None for none and for a predeclared name.
-fn declared_at(table: &ScopeTable<'_>, place: &Place) -> Option<usize> {
-    let declaration = table.resolve(place)?;
-    let identifier = table.identifiers().get(declaration)?;
-    if identifier.role.is_implied() {
-        return None;
-    }
-    let file = table.files().get(identifier.place.file)?;
-    Some(file.offset(identifier.place.index))
-}
 
 fn check(rt: &impl Abort, alloc: Global, rows: &[&str]) -> Result<(), Fail> {
     for row in rows {

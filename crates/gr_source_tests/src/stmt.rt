@@ -1,4 +1,6 @@
-//! The faults of types in small files, judged by a world of a few names.
+//! The faults of types in small files, judged by a world of a few names. A table has a text a line, in which `@` marks the
+//! places of the faults.
+use crate::marks::unmarked;
 use gr_expr::symbol::{SharedPath, Symbol};
 use gr_expr::types::{Basic, Builtin, GoType, Signature};
 use gr_expr::world::{Bound, Definition, Definitions, Field, Name, Underlying, World};
@@ -15,20 +17,6 @@ fn path(alloc: Global, text: &str) -> Result<Path, Fail> {
         Ok(path) => Ok(path),
         Err(_) => Err("no path")?,
     }
-}
-
-/// A text without its marks `@`, and the places of the marks.
-fn unmarked(alloc: Global, marked: &str) -> Result<(Vec<u8>, Vec<usize>), Fail> {
-    let mut text = Vec::new(alloc);
-    let mut marks = Vec::new(alloc);
-    for byte in marked.as_bytes() {
-        if *byte == b'@' {
-            marks.push(text.len())?;
-        } else {
-            text.push(*byte)?;
-        }
-    }
-    Ok((text, marks))
 }
 
 fn ints(alloc: Global, count: usize) -> Result<Vec<GoType>, Fail> {
@@ -159,8 +147,8 @@ fn check_marked(rt: &impl Abort, alloc: Global, marked: &str) -> Result<(), Fail
     Ok(())
 }
 
-fn check_files(rt: &impl Abort, alloc: Global, rows: &[&str]) -> Result<(), Fail> {
-    for row in rows {
+fn check_files(rt: &impl Abort, alloc: Global, rows: &str) -> Result<(), Fail> {
+    for row in rows.lines() {
         let text = format!(in alloc; "package a\n\n{row}\n")?;
         check_marked(rt, alloc, &text)?;
     }
@@ -168,86 +156,82 @@ fn check_files(rt: &impl Abort, alloc: Global, rows: &[&str]) -> Result<(), Fail
 }
 
 /// Checks the statements of a function with a parameter `i` of int and an int as its result.
-fn check_bodies(rt: &impl Abort, alloc: Global, rows: &[&str]) -> Result<(), Fail> {
-    for row in rows {
+fn check_bodies(rt: &impl Abort, alloc: Global, rows: &str) -> Result<(), Fail> {
+    for row in rows.lines() {
         let text = format!(in alloc; "package a\n\nfunc f(i int) int {{\n\t{row}\n}}\n")?;
         check_marked(rt, alloc, &text)?;
     }
     Ok(())
 }
 
+const ASSIGNMENTS: &str = r#"i = 1
+i = @"a"
+_ = @nil
+@one = 1
+@i = two()
+x, y := two(); x = y
+x, y := @nil, 1; x = y; i = y
+@x := two(); i = x
+lost, i = 1
+t := T{n: 1}; i = t.n; t.n = @""
+i += 2; @i += "a"
+i++; s := "a"; @s++"#;
+
 #[test]
 fn assignments(rt: HostRuntime) -> Result<(), Fail> {
-    let rows = [
-        "i = 1",
-        "i = @\"a\"",
-        "_ = @nil",
-        "@one = 1",
-        "@i = two()",
-        "x, y := two(); x = y",
-        "x, y := @nil, 1; x = y; i = y",
-        "@x := two(); i = x",
-        "lost, i = 1",
-        "t := T{n: 1}; i = t.n; t.n = @\"\"",
-        "i += 2; @i += \"a\"",
-        "i++; s := \"a\"; @s++",
-    ];
-    check_bodies(&rt, rt.alloc(), &rows)
+    check_bodies(&rt, rt.alloc(), ASSIGNMENTS)
 }
+
+const LOCALS: &str = r#"var x int; i = x
+var x string = "a"; i = @x
+var @x int = 1, 2; i = x
+var x = @nil; i = x
+var x @i; x = 1
+var (x = 1; y string = @x)"#;
 
 #[test]
 fn locals(rt: HostRuntime) -> Result<(), Fail> {
-    let rows = [
-        "var x int; i = x",
-        "var x string = \"a\"; i = @x",
-        "var @x int = 1, 2; i = x",
-        "var x = @nil; i = x",
-        "var x @i; x = 1",
-        "var (x = 1; y string = @x)",
-    ];
-    check_bodies(&rt, rt.alloc(), &rows)
+    check_bodies(&rt, rt.alloc(), LOCALS)
 }
+
+const STATEMENTS: &str = r#"none(); one(i); two(); println(i)
+@i
+@append(nil, 1)
+@(one(1))
+@int(i)
+none(); lost.a()
+return i
+return @"a"
+@return
+@return two()
+if i < 1 { return @"" } else { i = @"" }
+if @i { @return } else if true { }
+for @i { i = @true }
+for j := 0; j < 3; j++ { i = j }
+for s := ""; true; @s++ { }"#;
 
 #[test]
 fn statements(rt: HostRuntime) -> Result<(), Fail> {
-    let rows = [
-        "none(); one(i); two(); println(i)",
-        "@i",
-        "@append(nil, 1)",
-        "@(one(1))",
-        "@int(i)",
-        "none(); lost.a()",
-        "return i",
-        "return @\"a\"",
-        "@return",
-        "@return two()",
-        "if i < 1 { return @\"\" } else { i = @\"\" }",
-        "if @i { @return } else if true { }",
-        "for @i { i = @true }",
-        "for j := 0; j < 3; j++ { i = j }",
-        "for s := \"\"; true; @s++ { }",
-    ];
-    check_bodies(&rt, rt.alloc(), &rows)
+    check_bodies(&rt, rt.alloc(), STATEMENTS)
 }
+
+const FUNCTIONS_AND_DECLARATIONS: &str = r#"func (t T) m() int { return t.n }
+func (t *T) m() { t.n = @"" }
+func (t @P) m() { }
+func (t @int) m() { }
+func init() { }
+func @init() int { return 1 }
+func (t T) init(i int) { }
+func @init(i int) { }
+func f(s string) string { return s }
+func f() (int, string) { return 1, @2 }
+var v int = 1
+var v, w int = 1, @"a"
+var @v, w int = 1
+type U struct { n int; m @none }
+type V []@nil"#;
 
 #[test]
 fn functions_and_declarations(rt: HostRuntime) -> Result<(), Fail> {
-    let rows = [
-        "func (t T) m() int { return t.n }",
-        "func (t *T) m() { t.n = @\"\" }",
-        "func (t @P) m() { }",
-        "func (t @int) m() { }",
-        "func init() { }",
-        "func @init() int { return 1 }",
-        "func (t T) init(i int) { }",
-        "func @init(i int) { }",
-        "func f(s string) string { return s }",
-        "func f() (int, string) { return 1, @2 }",
-        "var v int = 1",
-        "var v, w int = 1, @\"a\"",
-        "var @v, w int = 1",
-        "type U struct { n int; m @none }",
-        "type V []@nil",
-    ];
-    check_files(&rt, rt.alloc(), &rows)
+    check_files(&rt, rt.alloc(), FUNCTIONS_AND_DECLARATIONS)
 }

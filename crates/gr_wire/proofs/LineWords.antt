@@ -35,6 +35,8 @@ verb_no_space (Cat path) = three 99 97 116 (omega arith) (omega arith) (omega ar
 verb_no_space (Uses path offset) = four 117 115 101 115 (omega arith) (omega arith) (omega arith) (omega arith)
 verb_no_space line.List = four 108 105 115 116 (omega arith) (omega arith) (omega arith) (omega arith)
 verb_no_space line.Faults = six 102 97 117 108 116 115 (omega arith) (omega arith) (omega arith) (omega arith) (omega arith) (omega arith)
+verb_no_space (line.Object path) = six 111 98 106 101 99 116 (omega arith) (omega arith) (omega arith) (omega arith) (omega arith) (omega arith)
+verb_no_space line.Work = four 119 111 114 107 (omega arith) (omega arith) (omega arith) (omega arith)
 verb_no_space End = three 101 110 100 (omega arith) (omega arith) (omega arith)
 
 args_no_space : (command : CommandLine) → FitsLine command → HaveNoSpace (args_of command)
@@ -47,6 +49,8 @@ args_no_space (Cat path) h = (h.1, tt)
 args_no_space (Uses path offset) h = (place_word_no_space path offset h.0 h.1, tt)
 args_no_space line.List h = tt
 args_no_space line.Faults h = tt
+args_no_space (line.Object path) h = (h.1, tt)
+args_no_space line.Work h = tt
 args_no_space End h = tt
 
 -- a line has its words in one way
@@ -107,6 +111,14 @@ pub only_faults : (command : CommandLine) (P : CommandLine → Type 0) → verb_
 only_faults line.Faults P e h = h
 only_faults command P e h = absurd (omega (arith, ap weight e))
 
+pub only_object : (command : CommandLine) (P : CommandLine → Type 0) → verb_of command ≡ codes "object" → ((path : List ℕ) → P (line.Object path)) → P command
+only_object (line.Object path) P e h = h path
+only_object command P e h = absurd (omega (arith, ap weight e))
+
+pub only_work : (command : CommandLine) (P : CommandLine → Type 0) → verb_of command ≡ codes "work" → P line.Work → P command
+only_work line.Work P e h = h
+only_work command P e h = absurd (omega (arith, ap weight e))
+
 pub only_end : (command : CommandLine) (P : CommandLine → Type 0) → verb_of command ≡ codes "end" → P End → P command
 only_end End P e h = h
 only_end command P e h = absurd (omega (arith, ap weight e))
@@ -136,32 +148,40 @@ pub uses_words : (words : List ℕ) → ((path : List ℕ) (offset : ℕ) → Fi
     → (command : CommandLine) → HasWords (codes "uses") words command → ⊥
 uses_words words never command h = only_uses command (λ c. FitsLine c → IsSpaced (args_of c) words → ⊥) h.first never h.fits h.others
 
--- lines of several words begin with one of these
-pub no_verb : (verb words : List ℕ) → verb ≢ codes "put" → verb ≢ codes "del" → verb ≢ codes "undo" → verb ≢ codes "redo" → verb ≢ codes "cat" → verb ≢ codes "uses"
-    → (command : CommandLine) → HasWords verb words command → ⊥
-no_verb verb words put del undo redo cat uses (Put basis path size) h = put (sym h.first)
-no_verb verb words put del undo redo cat uses (Del basis path) h = del (sym h.first)
-no_verb verb words put del undo redo cat uses (Undo basis) h = undo (sym h.first)
-no_verb verb words put del undo redo cat uses (Redo basis) h = redo (sym h.first)
-no_verb verb words put del undo redo cat uses (Cat path) h = cat (sym h.first)
-no_verb verb words put del undo redo cat uses (Uses path offset) h = uses (sym h.first)
-no_verb verb words put del undo redo cat uses Look h = h.others
-no_verb verb words put del undo redo cat uses line.List h = h.others
-no_verb verb words put del undo redo cat uses line.Faults h = h.others
-no_verb verb words put del undo redo cat uses End h = h.others
+pub object_words : (words : List ℕ) → ((path : List ℕ) → IsWord path → words ≡ path → ⊥)
+    → (command : CommandLine) → HasWords (codes "object") words command → ⊥
+object_words words never command h = only_object command (λ c. FitsLine c → IsSpaced (args_of c) words → ⊥) h.first never h.fits h.others
 
-pub no_bare : (verb : List ℕ) → verb ≢ codes "look" → verb ≢ codes "list" → verb ≢ codes "faults" → verb ≢ codes "end"
+-- lines of several words begin with one of these
+pub no_verb : (verb words : List ℕ) → verb ≢ codes "put" → verb ≢ codes "del" → verb ≢ codes "undo" → verb ≢ codes "redo" → verb ≢ codes "cat" → verb ≢ codes "uses" → verb ≢ codes "object"
+    → (command : CommandLine) → HasWords verb words command → ⊥
+no_verb verb words put del undo redo cat uses object (Put basis path size) h = put (sym h.first)
+no_verb verb words put del undo redo cat uses object (Del basis path) h = del (sym h.first)
+no_verb verb words put del undo redo cat uses object (Undo basis) h = undo (sym h.first)
+no_verb verb words put del undo redo cat uses object (Redo basis) h = redo (sym h.first)
+no_verb verb words put del undo redo cat uses object (Cat path) h = cat (sym h.first)
+no_verb verb words put del undo redo cat uses object (Uses path offset) h = uses (sym h.first)
+no_verb verb words put del undo redo cat uses object Look h = h.others
+no_verb verb words put del undo redo cat uses object line.List h = h.others
+no_verb verb words put del undo redo cat uses object line.Faults h = h.others
+no_verb verb words put del undo redo cat uses object (line.Object path) h = object (sym h.first)
+no_verb verb words put del undo redo cat uses object line.Work h = h.others
+no_verb verb words put del undo redo cat uses object End h = h.others
+
+pub no_bare : (verb : List ℕ) → verb ≢ codes "look" → verb ≢ codes "list" → verb ≢ codes "faults" → verb ≢ codes "work" → verb ≢ codes "end"
     → (command : CommandLine) → args_of command ≡ [] → verb_of command ≢ verb
-no_bare verb look list faults end Look a = λ e. look (sym e)
-no_bare verb look list faults end line.List a = λ e. list (sym e)
-no_bare verb look list faults end line.Faults a = λ e. faults (sym e)
-no_bare verb look list faults end End a = λ e. end (sym e)
-no_bare verb look list faults end (Put basis path size) a = absurd cc
-no_bare verb look list faults end (Del basis path) a = absurd cc
-no_bare verb look list faults end (Undo basis) a = absurd cc
-no_bare verb look list faults end (Redo basis) a = absurd cc
-no_bare verb look list faults end (Cat path) a = absurd cc
-no_bare verb look list faults end (Uses path offset) a = absurd cc
+no_bare verb look list faults work end Look a = λ e. look (sym e)
+no_bare verb look list faults work end line.List a = λ e. list (sym e)
+no_bare verb look list faults work end line.Faults a = λ e. faults (sym e)
+no_bare verb look list faults work end (line.Object path) a = absurd cc
+no_bare verb look list faults work end line.Work a = λ e. work (sym e)
+no_bare verb look list faults work end End a = λ e. end (sym e)
+no_bare verb look list faults work end (Put basis path size) a = absurd cc
+no_bare verb look list faults work end (Del basis path) a = absurd cc
+no_bare verb look list faults work end (Undo basis) a = absurd cc
+no_bare verb look list faults work end (Redo basis) a = absurd cc
+no_bare verb look list faults work end (Cat path) a = absurd cc
+no_bare verb look list faults work end (Uses path offset) a = absurd cc
 
 -- a line without a space has no other words
 bare_words : (text verb : List ℕ) (words : List (List ℕ)) → HasNoSpace text → text ≡ spaced verb words → (words ≡ []) × (text ≡ verb)

@@ -1,19 +1,23 @@
 -- What a session does to a book, as a run of the machine.
 use Rattle.std.proofs.Common.{◌≡◌, ℕ, List, [], ◌∷◌, ◌++◌, Result, Ok, Err, inl, inr, refl}
 use Rattle.gr_text.specs.declared.refusal.Refusal.{Refusal}
+use Rattle.gr_compile.specs.declared.built.Built.{Built}
+use Rattle.gr_compile.specs.declared.job.JobRecord.{JobRecord}
 use Rattle.gr_space.specs.declared.view.View.{View}
 use Rattle.gr_space.specs.declared.view.Change.{Change}
 use Rattle.gr_book.specs.declared.event.Event.{Event}
 use Rattle.gr_book.specs.declared.event.Event.TheVariants as event
 use Rattle.gr_book.specs.declared.event.Reply.{Reply}
-use Rattle.gr_book.specs.declared.event.Reply.TheVariants.{Looked, Done, Refused}
-use Rattle.gr_book.specs.Machine.{Machine, Step}
+use Rattle.gr_book.specs.declared.event.Reply.TheVariants.{Looked, Done, Taken, Refused, Back}
+use Rattle.gr_book.specs.Machine.{Machine}
+use Rattle.gr_book.specs.Step.{Step}
 use Rattle.gr_book.specs.Run.{Run}
 use Rattle.gr_desk.specs.declared.command.Command.{Command}
 use Rattle.gr_desk.specs.declared.command.Command.TheVariants.{Look, Put, Del, Undo, Redo, Cat, Uses}
 use Rattle.gr_desk.specs.declared.command.Command.TheVariants as command
 use Rattle.gr_desk.specs.declared.command.Response.{Response}
 use Rattle.gr_desk.specs.Act.{Acts, ActsOn, Commits, Continues, Sends}
+use Rattle.gr_desk.specs.Work.{Works, AfterTake, AfterDelivery, Builds, Delivers, GivesBack}
 use Rattle.gr_wire.specs.declared.message.Message.{Message}
 use Rattle.gr_wire.specs.declared.message.Message.TheVariants.{Ask, Unknown, CutShort}
 use Rattle.gr_wire.specs.Answers.{Answered, AnswersAll}
@@ -39,6 +43,33 @@ committed : (old new : Machine) (basis : ℕ) (planned : Result Change Refusal) 
 committed old new basis (Ok change) answer h = sent old new (event.Commit basis change) answer h
 committed old new basis (Err refusal) answer h = still old new h.1
 
+-- what a step leads to, with what comes behind it
+led_on : (old mid new : Machine) (asked : Event) (reply : Reply) → Step old asked reply mid → IsRun mid new → IsRun old new
+led_on old mid new asked reply s rest = ((asked, reply) ∷ rest.0, (mid, s, rest.1))
+
+given_back : (old new : Machine) (job : JobRecord) → GivesBack Step old job new → IsRun old new
+given_back old new job h = led_on old new new (event.GiveBack job) h.0 h.1 (still new new refl)
+
+after_delivery : (old new : Machine) (path : List ℕ) (reply : Reply) (answer : Response) → AfterDelivery Step old path reply answer new → IsRun old new
+after_delivery old new path (Done number) answer h = still old new h.1
+after_delivery old new path (Refused refusal) answer h = still old new h.1
+after_delivery old new path (Back refusal job unit) answer h = given_back old new job h.1
+after_delivery old new path reply answer h = absurd h
+
+delivered : (old new : Machine) (job : JobRecord) (built : Built) (answer : Response) → Delivers Step old job built answer new → IsRun old new
+delivered old new job built answer h = led_on old h.1 new (event.Deliver job built) h.0 h.2 (after_delivery h.1 new job.package h.0 answer h.3)
+
+built_in : (old new : Machine) (job : JobRecord) (answer : Response) → Builds Step old job answer new → IsRun old new
+built_in old new job answer h = elim h [ inl k ↦ delivered old new job k.0 answer k.2 | inr k ↦ given_back old new job k.1 ]
+
+after_take : (old new : Machine) (reply : Reply) (answer : Response) → AfterTake Step old reply answer new → IsRun old new
+after_take old new (Taken job) answer h = built_in old new job answer h
+after_take old new (Refused refusal) answer h = still old new h.1
+after_take old new reply answer h = absurd h
+
+worked : (old new : Machine) (answer : Response) → Works Step old answer new → IsRun old new
+worked old new answer h = led_on old h.1 new event.Take h.0 h.2 (after_take h.1 new h.0 answer h.3)
+
 acted_on : (old new : Machine) (view : View) (asked : Command) (answer : Response) → ActsOn Step old view asked answer new → IsRun old new
 acted_on old new view Look answer h = still old new h.1
 acted_on old new view (Put basis path body) answer h = committed old new basis h.0 answer h.2
@@ -49,11 +80,15 @@ acted_on old new view (Cat path) answer h = still old new h.1
 acted_on old new view (Uses path offset) answer h = still old new h.1
 acted_on old new view command.List answer h = still old new h.1
 acted_on old new view command.Faults answer h = still old new h.1
+acted_on old new view (command.Object path) answer h = still old new h.1
+acted_on old new view command.Work answer h = worked old new answer h
 
 continued : (old new : Machine) (reply : Reply) (asked : Command) (answer : Response) → Continues Step old reply asked answer new → IsRun old new
 continued old new (Looked view) asked answer h = elim h [ inl k ↦ still old new k.2 | inr k ↦ acted_on old new view asked answer k.1 ]
 continued old new (Done number) asked answer h = still old new h.1
+continued old new (Taken job) asked answer h = absurd h.0
 continued old new (Refused refusal) asked answer h = still old new h.1
+continued old new (Back refusal job unit) asked answer h = absurd h.0
 
 acted : (old new : Machine) (asked : Command) (answer : Response) → Acts Step old asked answer new → IsRun old new
 acted old new asked answer h =

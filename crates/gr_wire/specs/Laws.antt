@@ -3,7 +3,8 @@ use Rattle.std.specs.Prelude.{◌≡◌, ℕ, List}
 use Rattle.gr_text.specs.declared.limits.Limits.{Limits}
 use Rattle.gr_book.specs.declared.event.Event.{Event}
 use Rattle.gr_book.specs.declared.event.Reply.{Reply}
-use Rattle.gr_book.specs.Machine.{Machine, Step}
+use Rattle.gr_book.specs.Machine.{Machine}
+use Rattle.gr_book.specs.Step.{Step}
 use Rattle.gr_book.specs.Run.{Run}
 use Rattle.gr_wire.specs.declared.message.Message.{Message}
 use Rattle.gr_wire.specs.Wire.{Says, Reads, Ends}

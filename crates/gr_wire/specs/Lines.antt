@@ -17,6 +17,8 @@ verb_of (Cat path) = codes "cat"
 verb_of (Uses path offset) = codes "uses"
 verb_of line.List = codes "list"
 verb_of line.Faults = codes "faults"
+verb_of (line.Object path) = codes "object"
+verb_of line.Work = codes "work"
 verb_of End = codes "end"
 
 -- a place as it is printed. An offset has digits alone, so the last :# of the word stands between it and the path
@@ -34,6 +36,8 @@ args_of (Cat path) = path ∷ []
 args_of (Uses path offset) = place_word path offset ∷ []
 args_of line.List = []
 args_of line.Faults = []
+args_of (line.Object path) = path ∷ []
+args_of line.Work = []
 args_of End = []
 
 -- its numbers are within their ranges, and its other arguments are words; what stands before an offset may be empty
@@ -47,6 +51,8 @@ FitsLine (Cat path) = IsWord path
 FitsLine (Uses path offset) = HasNoSpace path × (offset < 2 ^ 32)
 FitsLine line.List = ⊤
 FitsLine line.Faults = ⊤
+FitsLine (line.Object path) = IsWord path
+FitsLine line.Work = ⊤
 FitsLine End = ⊤
 
 -- how many bytes follow the line
@@ -60,6 +66,8 @@ size_after (Cat path) = 0
 size_after (Uses path offset) = 0
 size_after line.List = 0
 size_after line.Faults = 0
+size_after (line.Object path) = 0
+size_after line.Work = 0
 size_after End = 0
 
 -- the text is this command line

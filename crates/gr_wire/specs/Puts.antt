@@ -59,3 +59,5 @@ ReadsAfter limits (line.Cat path) before after r = AsksOf (command.Cat path) r �
 ReadsAfter limits (line.Uses path offset) before after r = AsksOf (command.Uses path offset) r × Keeps before after
 ReadsAfter limits line.List before after r = AsksOf command.List r × Keeps before after
 ReadsAfter limits line.Faults before after r = AsksOf command.Faults r × Keeps before after
+ReadsAfter limits (line.Object path) before after r = AsksOf (command.Object path) r × Keeps before after
+ReadsAfter limits line.Work before after r = AsksOf command.Work r × Keeps before after

@@ -38,6 +38,8 @@ SaysCommand limits (line.Cat path) bytes asked = asked ≡ command.Cat path
 SaysCommand limits (line.Uses path offset) bytes asked = asked ≡ command.Uses path offset
 SaysCommand limits line.List bytes asked = asked ≡ command.List
 SaysCommand limits line.Faults bytes asked = asked ≡ command.Faults
+SaysCommand limits (line.Object path) bytes asked = asked ≡ command.Object path
+SaysCommand limits line.Work bytes asked = asked ≡ command.Work
 SaysCommand limits line.End bytes asked = ⊥
 
 -- the line `text`, and then `after`, say this message, and then comes `rest`

@@ -1,6 +1,6 @@
 //! A session over memory.
 ghost use Rattle.std.specs.Prelude.{IfOk};
-ghost use Rattle.gr_book.specs.Machine.{Step};
+ghost use Rattle.gr_book.specs.Step.{Step};
 ghost use Rattle.gr_wire.specs.Transcript.{IsTranscript};
 
 use crate::exchange::{SessionFault, session};

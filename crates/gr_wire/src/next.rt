@@ -152,6 +152,7 @@ fn command_after<S: Source>(
         CommandLine::Look => Ok(ask(Command::Look)),
         CommandLine::List => Ok(ask(Command::List)),
         CommandLine::Faults => Ok(ask(Command::Faults)),
+        CommandLine::Work => Ok(ask(Command::Work)),
         CommandLine::Undo { basis } => Ok(ask(Command::Undo { basis })),
         CommandLine::Redo { basis } => Ok(ask(Command::Redo { basis })),
         CommandLine::Del { basis, path } => match Word::new(alloc, path.as_str()) {
@@ -160,6 +161,10 @@ fn command_after<S: Source>(
         },
         CommandLine::Cat { path } => match Word::new(alloc, path.as_str()) {
             Ok(path) => Ok(ask(Command::Cat { path })),
+            Err(_) => Ok(Next::NoRoom),
+        },
+        CommandLine::Object { path } => match Word::new(alloc, path.as_str()) {
+            Ok(path) => Ok(ask(Command::Object { path })),
             Err(_) => Ok(Next::NoRoom),
         },
         CommandLine::Uses { path, offset } => match Word::new(alloc, path.as_str()) {

@@ -57,6 +57,10 @@ pub enum CommandLine<'a> {
     },
     List,
     Faults,
+    Object {
+        path: Argument<'a>,
+    },
+    Work,
     End,
 }
 
@@ -165,6 +169,13 @@ fn parse_cat(words: &str) -> Option<CommandLine<'_>>
     Some(CommandLine::Cat { path })
 }
 
+fn parse_object(words: &str) -> Option<CommandLine<'_>>
+    ensures { ParsesArgs (codes "object") words.now result }
+{
+    let path = parse_argument(words)?;
+    Some(CommandLine::Object { path })
+}
+
 fn parse_uses(words: &str) -> Option<CommandLine<'_>>
     ensures { ParsesArgs (codes "uses") words.now result }
 {
@@ -183,6 +194,7 @@ fn parse_bare(verb: &str) -> Option<CommandLine<'_>>
         "look" => Some(CommandLine::Look),
         "list" => Some(CommandLine::List),
         "faults" => Some(CommandLine::Faults),
+        "work" => Some(CommandLine::Work),
         "end" => Some(CommandLine::End),
         _ => None,
     }
@@ -199,6 +211,7 @@ fn parse_verb<'a>(verb: &str, words: &'a str) -> Option<CommandLine<'a>>
         "redo" => parse_redo(words),
         "cat" => parse_cat(words),
         "uses" => parse_uses(words),
+        "object" => parse_object(words),
         _ => None,
     }
 }

@@ -1,0 +1,31 @@
+"""Compares the stored sessions of `crates/gr_sessions` with the model.
+
+    python3 checks/stored.py
+
+names each session that the model answers otherwise, and each that is stored and not run, and ends with status 1 where there
+is one.
+"""
+
+import pathlib
+import sys
+
+from history import replies
+
+CRATE = pathlib.Path(__file__).resolve().parent.parent / "crates" / "gr_sessions"
+
+
+def main():
+    names = (CRATE / "args").read_text().split()
+    stored = {path.stem for path in (CRATE / "data").iterdir()}
+    wrong = [f"{name}: not run" for name in sorted(stored - set(names))]
+    for name in names:
+        if replies((CRATE / "data" / f"{name}.in").read_bytes()) != (CRATE / "data" / f"{name}.out").read_bytes():
+            wrong.append(f"{name}: the model answers otherwise")
+    for line in wrong:
+        print(line)
+    print(f"{len(names)} sessions, {len(wrong)} differ")
+    sys.exit(1 if wrong else 0)
+
+
+if __name__ == "__main__":
+    main()

@@ -1,0 +1,6 @@
+-- The lemmas of this crate.
+pub mod Named
+pub mod Faultless
+pub mod ClosureFiles
+pub mod Locality
+pub mod OneUnit

@@ -1,0 +1,9 @@
+-- The definitions of this crate.
+pub mod Codes
+pub mod Inputs
+pub mod Jobs
+pub mod Units
+pub mod BuiltUnits
+pub mod Builds
+pub mod Compiling
+pub mod Laws

@@ -1,0 +1,86 @@
+//! What a Job is of, built.
+ghost use Rattle.std.specs.Prelude.{◌≡◌, IfOk};
+ghost use Rattle.gr_compile.specs.Builds.{IsBuiltOf};
+ghost use Rattle.gr_compile.specs.Units.{IsUnitIn};
+
+use crate::compiling::unit_in;
+use crate::job::Job;
+use crate::unit::Unit;
+use gr_expr::symbol::SharedPath;
+use gr_graph::Graph;
+use std::alloc::{AllocError, Global};
+use std::marker::Model;
+
+/// The unit of a package, with the inputs that it was built from, and the number of the state that they are of.
+#[derive(Drop)]
+pub struct Built {
+    number: u64,
+    package: SharedPath,
+    inputs: Graph,
+    unit: Unit,
+}
+
+impl Model for Built {
+    ghost use Rattle.std.specs.Coded.{codes};
+    ghost use Rattle.gr_compile.specs.BuiltUnits.{BuiltUnit};
+    ghost use Rattle.gr_compile.specs.Codes.{unit_code, workspace_code};
+    ghost use Rattle.gr_compile.specs.Units.{IsUnitIn};
+
+    ghost Value = { BuiltUnit };
+
+    ghost coded = { Prim.hlevel (codes, unit_code, workspace_code) };
+
+    ghost view = { λ a. record { number = a.number; «package» = a.package; inputs = a.inputs; unit = a.unit } };
+
+    ghost invariant = { λ a. IsUnitIn a.inputs a.package a.unit };
+}
+
+impl Built {
+    /// The number of the state that the inputs are of.
+    pub fn number(&self) -> u64
+        ensures { result ≡ self.now.number }
+    {
+        self.number
+    }
+
+    pub fn package(&self) -> &SharedPath
+        ensures { result.now ≡ self.now.package }
+    {
+        &self.package
+    }
+
+    pub fn inputs(&self) -> &Graph
+        ensures { result.now ≡ self.now.inputs }
+    {
+        &self.inputs
+    }
+
+    /// The unit of the package in the inputs, if it is one of their packages.
+    pub fn unit(&self) -> &Unit
+        ensures { result.now ≡ self.now.unit }
+    {
+        &self.unit
+    }
+
+    /// Whatever was built is the unit of the package in the inputs.
+    pub fn is_right(&self)
+        ensures { IsUnitIn self.now.inputs self.now.package self.now.unit }
+    {
+        let _unit = &self.unit;
+    }
+}
+
+/// Builds what a Job is of. Of a path that is no package of the Job's inputs something is answered too, of which nothing is said.
+pub fn build(alloc: Global, job: &Job) -> Result<Built, AllocError>
+    ensures { IfOk result (IsBuiltOf job.now) }
+{
+    let package = job.package().clone()?;
+    let inputs = job.inputs().clone()?;
+    let unit = unit_in(alloc, &inputs, &package)?;
+    Ok(Built {
+        number: job.number(),
+        package,
+        inputs,
+        unit,
+    })
+}

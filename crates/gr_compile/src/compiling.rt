@@ -1,0 +1,140 @@
+//! The unit of a package.
+ghost use Rattle.std.specs.Prelude.{◌≡◌, ℕ, [], Some, slice_get, IfOk};
+ghost use Rattle.gr_text.specs.Packages.{package_paths};
+ghost use Rattle.gr_expr.specs.WorldView.{definitions_at, ranked};
+ghost use Rattle.gr_types.specs.InterfacesView.{interface_in};
+ghost use Rattle.gr_compile.specs.Compiling.{HoldsFaults, IsFaultless};
+ghost use Rattle.gr_compile.specs.Units.{IsCompiled, IsUnitIn, IsUnitOf};
+
+use crate::naming::names_below;
+use crate::unit::{Compiled, Unit};
+use gr_expr::found::MemberUse;
+use gr_expr::symbol::SharedPath;
+use gr_expr::world::Definition;
+use gr_graph::Graph;
+use gr_object::objects::object;
+use gr_text::FileText;
+use gr_types::Interfaces;
+use gr_verdict::{FileFault, Finding, seen, verdicts};
+use std::alloc::{AllocError, Global};
+
+/// The type definitions of a package, by their ranks.
+fn definitions_of<'a>(all: &'a Interfaces, path: &[u8]) -> &'a [Definition]
+    ensures { (rank : ℕ) → slice_get result.now rank ≡ ranked (definitions_at all.now.definitions path.now) rank }
+{
+    match all.definitions().packages.get(path) {
+        None => &[],
+        Some(definitions) => definitions.as_slice(),
+    }
+}
+
+/// The interface of one package alone.
+fn interface_of(
+    alloc: Global,
+    all: &Interfaces,
+    path: &SharedPath,
+) -> Result<Interfaces, AllocError>
+    ensures { IfOk result (λ one. interface_in one path.now ≡ interface_in all.now path.now) }
+{
+    let mut one = Interfaces::new(alloc);
+    one.share(alloc, all, path.path())?;
+    Ok(one)
+}
+
+/// The text of the object of a package without faults.
+fn object_of(
+    alloc: Global,
+    graph: &Graph,
+    number: usize,
+    path: &SharedPath,
+    all: &Interfaces,
+    members: &[Vec<MemberUse>],
+) -> Result<FileText, AllocError>
+    requires at { slice_get (package_paths graph.now) number ≡ Some path.now }
+    requires found { IsFaultless graph.now all.now path.now members.now }
+    ensures { IfOk result (λ text. IsCompiled graph.now path.now (interface_in all.now path.now) text) }
+{
+    let files = graph.package(number);
+    let interfaces = seen(alloc, graph, number, all)?;
+    let packages = names_below(alloc, graph, number)?;
+    let definitions = definitions_of(all, path.path());
+    let text = object(
+        alloc,
+        path,
+        &files.trees,
+        &interfaces,
+        definitions,
+        members,
+        &packages,
+    )?;
+    FileText::new(alloc, text)
+}
+
+/// The unit of a package without faults.
+fn faultless_unit(
+    alloc: Global,
+    graph: &Graph,
+    number: usize,
+    path: &SharedPath,
+    all: &Interfaces,
+    members: &[Vec<MemberUse>],
+) -> Result<Unit, AllocError>
+    requires at { slice_get (package_paths graph.now) number ≡ Some path.now }
+    requires found { IsFaultless graph.now all.now path.now members.now }
+    ensures { IfOk result (IsUnitOf graph.now path.now) }
+{
+    let object = object_of(alloc, graph, number, path, all, members)?;
+    let interface = interface_of(alloc, all, path)?;
+    Unit::new(alloc, Compiled::Done { interface, object })
+}
+
+/// The unit of a package with these faults.
+fn faulty_unit(alloc: Global, faults: Vec<FileFault>) -> Result<Unit, AllocError>
+    requires { faults.items ≡ [] → ⊥ }
+    ensures { IfOk result (HoldsFaults faults.items) }
+{
+    let mut others = faults;
+    let first = others.remove(0);
+    Unit::new(alloc, Compiled::Faults { first, others })
+}
+
+/// The unit of a package of a graph.
+fn unit_of(
+    alloc: Global,
+    graph: &Graph,
+    number: usize,
+    path: &SharedPath,
+) -> Result<Unit, AllocError>
+    requires { slice_get (package_paths graph.now) number ≡ Some path.now }
+    ensures { IfOk result (IsUnitOf graph.now path.now) }
+{
+    let mut found = verdicts(alloc, graph)?;
+    let Finding {
+        path: own,
+        faults,
+        members,
+    } = found.packages.remove(number);
+    drop(own);
+    if faults.is_empty() {
+        faultless_unit(alloc, graph, number, path, &found.interfaces, &members)
+    } else {
+        faulty_unit(alloc, faults)
+    }
+}
+
+/// What stands for the unit of a path that is no package.
+fn no_unit(alloc: Global) -> Result<Unit, AllocError> {
+    let interface = Interfaces::new(alloc);
+    let object = FileText::new(alloc, Vec::new(alloc))?;
+    Unit::new(alloc, Compiled::Done { interface, object })
+}
+
+/// The unit of a package, if it is one of a graph.
+pub(crate) fn unit_in(alloc: Global, graph: &Graph, path: &SharedPath) -> Result<Unit, AllocError>
+    ensures { IfOk result (IsUnitIn graph.now path.now) }
+{
+    match graph.number_of(path.path()) {
+        Some(number) => unit_of(alloc, graph, number, path),
+        None => no_unit(alloc),
+    }
+}

@@ -1,0 +1,8 @@
+-- What was built is delivered.
+use Rattle.std.proofs.Common.{inl}
+use Rattle.gr_desk.proofs.working.build_in.Goals as goal
+
+pub returns-in-Ok : goal.returns-in-Ok
+returns-in-Ok g c =
+    let told = rw c.in-Ok.is at c.made_of.ensures in
+    inl (c.in-Ok.built, told.0, c.deliver.ensures)

@@ -1,0 +1,93 @@
+//! The command `work`: one package is built in this session.
+ghost use Rattle.std.specs.Prelude.{◌≡◌, IfOk};
+ghost use Rattle.gr_compile.specs.Builds.{IsBuiltOf};
+ghost use Rattle.gr_desk.specs.Work.{Builds, Delivers, GivesBack, Works, package_line};
+
+use crate::bytes::Bytes;
+use crate::command::Response;
+use crate::desk::Desk;
+use gr_book::{Event, Reply};
+use gr_compile::{Built, Job, build};
+use gr_text::Refusal;
+use std::alloc::{AllocError, Global};
+
+/// Gives a Job back. Where it comes back, it is retired.
+fn give_back<D: Desk>(desk: &mut D, job: Job)
+    ensures { GivesBack D.steps desk.old job desk.new }
+{
+    match desk.step(Event::GiveBack(job)) {
+        Reply::Done(_) => {}
+        Reply::Back(refusal, job, built) => {
+            drop(refusal);
+            drop(built);
+            drop(job.retire());
+        }
+        Reply::Looked(_view) => unreachable!(),
+        Reply::Taken(_job) => unreachable!(),
+        Reply::Refused(_refusal) => unreachable!(),
+    }
+}
+
+/// The line that tells a Job's package.
+fn line_of(alloc: Global, job: &Job) -> Result<Bytes, AllocError>
+    ensures { IfOk result (λ line. line ≡ package_line job.now.package) }
+{
+    let mut line = Vec::from_slice(alloc, job.package().path())?;
+    line.push(b'\n')?;
+    Ok(Bytes::new(line))
+}
+
+/// What a Job is built into, and the line that tells its package, which is made before anything is delivered.
+fn made_of(alloc: Global, job: &Job) -> Result<(Built, Bytes), AllocError>
+    ensures { IfOk result (λ made. IsBuiltOf job.now made.0 × (made.1 ≡ package_line job.now.package)) }
+{
+    let line = line_of(alloc, job)?;
+    let built = build(alloc, job)?;
+    Ok((built, line))
+}
+
+/// Delivers what was built. A Job that comes back is given back.
+fn deliver<D: Desk>(desk: &mut D, job: Job, built: Built, line: Bytes) -> Response
+    requires { line ≡ package_line job.package }
+    ensures { Delivers D.steps desk.old job built result desk.new }
+{
+    match desk.step(Event::Deliver(job, built)) {
+        Reply::Done(number) => Response::Lines { number, text: line },
+        Reply::Refused(refusal) => Response::Refused { refusal },
+        Reply::Back(refusal, job, built) => {
+            drop(built);
+            give_back(desk, job);
+            Response::Refused { refusal }
+        }
+        Reply::Looked(_view) => unreachable!(),
+        Reply::Taken(_job) => unreachable!(),
+    }
+}
+
+/// Builds what a Job is of, and delivers it. For want of memory the Job is given back.
+fn build_in<D: Desk>(alloc: Global, desk: &mut D, job: Job) -> Response
+    ensures { Builds D.steps desk.old job result desk.new }
+{
+    match made_of(alloc, &job) {
+        Ok((built, line)) => deliver(desk, job, built, line),
+        Err(_) => {
+            give_back(desk, job);
+            Response::Refused {
+                refusal: Refusal::Memory,
+            }
+        }
+    }
+}
+
+/// Takes a Job, builds it and delivers what was built.
+pub(crate) fn work<D: Desk>(alloc: Global, desk: &mut D) -> Response
+    ensures { Works D.steps desk.old result desk.new }
+{
+    match desk.step(Event::Take) {
+        Reply::Taken(job) => build_in(alloc, desk, job),
+        Reply::Refused(refusal) => Response::Refused { refusal },
+        Reply::Looked(_view) => unreachable!(),
+        Reply::Done(_) => unreachable!(),
+        Reply::Back(_refusal, _job, _built) => unreachable!(),
+    }
+}

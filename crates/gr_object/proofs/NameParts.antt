@@ -1,0 +1,81 @@
+-- What functions are called and where fields stand, by the parts that the program goes over.
+use Rattle.std.proofs.Common.{ℕ, ◌≡◌, ◌+◌, ◌-◌, ◌<◌, ◌≤◌, ◌∷◌, ◌++◌, [], List, None, ap, sym, ◌∙◌, refl, append_assoc, append-nil, length, length-append, drop, map, get_or, arith, suc}
+use Rattle.std.proofs.Math.ListN.{drop_of_length-le}
+use Rattle.std.proofs.lemmas.List.{drop_more}
+use Rattle.gr_parse.specs.declared.tree.Item as items
+use Rattle.gr_parse.specs.declared.tree.Field.{Field}
+use Rattle.gr_parse.specs.Tree.{Item}
+use Rattle.gr_parse.specs.View.{list_view}
+use Rattle.gr_parse.specs.FileView.{field_view, same_place}
+use Rattle.gr_parse.specs.SourceFile.{SourceFile}
+use Rattle.gr_types.specs.declared.declared.Function.{Function}
+use Rattle.gr_types.specs.DeclaredView.{function_of as placed_function}
+use Rattle.gr_expr.proofs.Items.{next_item}
+use Rattle.gr_object.specs.Lines.{FunctionName}
+use Rattle.gr_object.specs.Names.{function_behind, functions_behind, initializers_with, names_of_fields, positions_from}
+
+-- Functions
+
+pub names_step : (path : List ℕ) (files : List SourceFile) (k n : ℕ) (fs : List Function) (i : ℕ) (f : Function) (now new total : List FunctionName) → i < length fs → f ≡ get_or fs i f →
+    now ++ functions_behind path files k (map placed_function (drop i fs)) ≡ total → new ≡ now ++ (function_behind path files k (placed_function f) ∷ []) →
+    n ≡ initializers_with files k (placed_function f) → new ++ functions_behind path files n (map placed_function (drop (i + 1) fs)) ≡ total
+names_step path files k n fs i f now new total lt is h e m =
+    ap (λ z. z ++ functions_behind path files n (map placed_function (drop (i + 1) fs))) e
+    ∙ (append_assoc now (function_behind path files k (placed_function f) ∷ []) (functions_behind path files n (map placed_function (drop (i + 1) fs)))
+    ∙ (ap (λ j. now ++ (function_behind path files k (placed_function f) ∷ functions_behind path files j (map placed_function (drop (i + 1) fs)))) m
+    ∙ (ap (λ xs. now ++ functions_behind path files k (map placed_function xs)) (sym (next_item fs i f lt is)) ∙ h)))
+
+-- Fields
+
+positions_length : (k : ℕ) (xs : List (Item ℕ)) → length (positions_from k xs) ≡ length xs
+positions_length k [] = refl
+positions_length k (x ∷ xs) = ap suc (positions_length (suc k) xs)
+
+positions_append : (k : ℕ) (xs ys : List (Item ℕ)) → positions_from k (xs ++ ys) ≡ positions_from k xs ++ positions_from (k + length xs) ys
+positions_append k [] ys = let e : k ≡ k + 0 = omega arith in ap (λ n. positions_from n ys) e
+positions_append k (x ∷ xs) ys =
+    let e : suc k + length xs ≡ k + suc (length xs) = omega arith in
+    ap (λ z. k ∷ z) (positions_append (suc k) xs ys ∙ ap (λ n. positions_from (suc k) xs ++ positions_from n ys) e)
+
+pub positions_within : (begin p : ℕ) (now new : List ℕ) → begin ≤ length now → new ≡ now ++ (p ∷ []) → begin ≤ length new
+positions_within begin p now new h e = let grown : length new ≡ length now + 1 = ap length e ∙ length-append now (p ∷ []) in omega arith
+
+no_name : items.Item ℕ
+no_name = record { value = 0; separator = None }
+
+pub positions_step : (begin : ℕ) (now new total : List ℕ) (xs : List (items.Item ℕ)) (i : ℕ) → begin ≤ length now → i < length xs →
+    now ++ positions_from (length now - begin) (list_view same_place (drop i xs)) ≡ total → new ≡ now ++ ((length now - begin) ∷ []) →
+    new ++ positions_from (length new - begin) (list_view same_place (drop (i + 1) xs)) ≡ total
+positions_step begin now new total xs i within lt h e =
+    let grown : length new ≡ length now + 1 = ap length e ∙ length-append now ((length now - begin) ∷ []) in
+    let next : length new - begin ≡ suc (length now - begin) = omega arith in
+    ap (λ z. z ++ positions_from (length new - begin) (list_view same_place (drop (i + 1) xs))) e
+    ∙ (append_assoc now ((length now - begin) ∷ []) (positions_from (length new - begin) (list_view same_place (drop (i + 1) xs)))
+    ∙ (ap (λ k. now ++ ((length now - begin) ∷ positions_from k (list_view same_place (drop (i + 1) xs)))) next
+    ∙ (ap (λ ys. now ++ positions_from (length now - begin) (list_view same_place ys)) (sym (drop_more xs i no_name lt)) ∙ h)))
+
+pub positions_end : (begin : ℕ) (now total : List ℕ) (xs : List (items.Item ℕ)) (i : ℕ) → length xs ≤ i → now ++ positions_from (length now - begin) (list_view same_place (drop i xs)) ≡ total → now ≡ total
+positions_end begin now total xs i all h = sym (append-nil now) ∙ (ap (λ ys. now ++ positions_from (length now - begin) (list_view same_place ys)) (sym (drop_of_length-le xs all)) ∙ h)
+
+-- the names of the fields of a struct
+abbrev pub struct_names : List (items.Item Field) → List (Item ℕ)
+struct_names fs = names_of_fields (list_view field_view fs)
+
+pub fields_within : (begin k : ℕ) (now new : List ℕ) (xs : List (Item ℕ)) → begin ≤ length now → new ≡ now ++ positions_from k xs → begin ≤ length new
+fields_within begin k now new xs h e = let grown : length new ≡ length now + length (positions_from k xs) = ap length e ∙ length-append now (positions_from k xs) in omega arith
+
+pub fields_step : (begin : ℕ) (now new total : List ℕ) (fs : List (items.Item Field)) (i : ℕ) (f : items.Item Field) → begin ≤ length now → i < length fs → f ≡ get_or fs i f →
+    now ++ positions_from (length now - begin) (struct_names (drop i fs)) ≡ total → new ≡ now ++ positions_from (length now - begin) (field_view f.value).names →
+    new ++ positions_from (length new - begin) (struct_names (drop (i + 1) fs)) ≡ total
+fields_step begin now new total fs i f within lt is h e =
+    let grown : length new ≡ length now + length (field_view f.value).names = ap length e ∙ (length-append now (positions_from (length now - begin) (field_view f.value).names)
+    ∙ ap (λ n. length now + n) (positions_length (length now - begin) (field_view f.value).names)) in
+    let next : length new - begin ≡ length now - begin + length (field_view f.value).names = omega arith in
+    ap (λ z. z ++ positions_from (length new - begin) (struct_names (drop (i + 1) fs))) e
+    ∙ (append_assoc now (positions_from (length now - begin) (field_view f.value).names) (positions_from (length new - begin) (struct_names (drop (i + 1) fs)))
+    ∙ (ap (λ n. now ++ (positions_from (length now - begin) (field_view f.value).names ++ positions_from n (struct_names (drop (i + 1) fs)))) next
+    ∙ (ap (λ z. now ++ z) (sym (positions_append (length now - begin) (field_view f.value).names (struct_names (drop (i + 1) fs))))
+    ∙ (ap (λ ys. now ++ positions_from (length now - begin) (struct_names ys)) (sym (next_item fs i f lt is)) ∙ h))))
+
+pub fields_end : (begin : ℕ) (now total : List ℕ) (fs : List (items.Item Field)) (i : ℕ) → length fs ≤ i → now ++ positions_from (length now - begin) (struct_names (drop i fs)) ≡ total → now ≡ total
+fields_end begin now total fs i all h = sym (append-nil now) ∙ (ap (λ ys. now ++ positions_from (length now - begin) (struct_names ys)) (sym (drop_of_length-le fs all)) ∙ h)

@@ -1,0 +1,12 @@
+-- The invariants of the loops of `objects::push_files`.
+use Rattle.std.proofs.Common.{◌≤◌, length}
+use Rattle.gr_types.specs.BoundsView.{AreBounds}
+use Rattle.gr_types.specs.PackageView.{package_of}
+use Rattle.gr_object.specs.ObjectSteps.{PutsFiles}
+use Rattle.gr_object.proofs.objects.push_files.Given as goal
+
+abbrev pub invariant-loop-file : goal.invariant-loop-file
+invariant-loop-file l = record {
+  puts : PutsFiles (package_of l.unit) l.file l.members l.packages l.names l.others l.initial.text.items l.text.items;
+  kept : AreBounds (package_of l.unit) l.bounds.list.items l.bounds.of.items;
+}

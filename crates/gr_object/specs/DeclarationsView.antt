@@ -1,0 +1,25 @@
+-- Parts of declarations in src/, as the definition has them.
+use Rattle.std.specs.Prelude.{Option, Some, None, map}
+use Rattle.gr_parse.specs.declared.tree.Item.{Item}
+use Rattle.gr_parse.specs.declared.tree.BasicLit.{BasicLit}
+use Rattle.gr_parse.specs.FileView.{basic_view}
+use Rattle.gr_expr.specs.View.{type_of}
+use Rattle.gr_object.specs.declared.declarations.Initial.{Initial}
+use Rattle.gr_object.specs.declared.declarations.Initial.TheVariants as initial
+use Rattle.gr_object.specs.declared.declarations.Definition.{Definition}
+use Rattle.gr_object.specs.declared.declarations.Definition.TheVariants as definition
+use Rattle.gr_object.specs.Source.{Source}
+use Rattle.gr_object.specs.Objects as object
+
+unfoldable pub initial_view : Initial → object.Initial
+initial_view (initial.Integer n) = object.IntegerValue n
+initial_view (initial.Text bytes) = object.TextValue bytes.now
+
+unfoldable pub definition_view : Definition → object.Definition
+definition_view (definition.SameAs t) = object.SameAs (type_of t)
+definition_view (definition.Fields ts) = object.Fields (map type_of ts.items)
+
+-- the value of a literal, where there is one
+abbrev pub literal_at : Source → Option (Item BasicLit) → Option object.Initial
+literal_at s None = None
+literal_at s (Some i) = object.initial_of s (basic_view i.value)

@@ -1,0 +1,27 @@
+-- The definitions of this crate.
+pub mod Lines
+pub mod Source
+pub mod Literals
+pub mod Numbering
+pub mod Operands
+pub mod Expressions
+pub mod Statements
+pub mod Slots
+pub mod Names
+pub mod Objects
+pub mod Text
+pub mod ObjectText
+pub mod Sources
+pub mod LineView
+pub mod DeclarationsView
+pub mod PackagesView
+pub mod SourceView
+pub mod Making
+pub mod ExitsView
+pub mod NamesView
+pub mod TablesView
+pub mod ObjectView
+pub mod ImportsView
+pub mod ObjectSteps
+pub mod Fitting
+pub mod Laws

@@ -1,0 +1,25 @@
+//! What the declarations of packages are called, as it is kept.
+ghost use Rattle.std.specs.BTreeMap.{get_by};
+ghost use Rattle.std.specs.Cmp.Lexicographic.{slice_cmp};
+ghost use Rattle.std.specs.Ordering.{nat_cmp};
+ghost use Rattle.std.specs.Prelude.{◌≡◌, ◌<◌, ℕ, List, Some, length};
+
+use crate::instructions::{FunctionName, GlobalName};
+use std::collections::BTreeMap;
+
+/// What a package declares, by ranks: what its types and its functions are called, and for each field where it stands in its
+/// struct.
+#[derive(Drop)]
+pub struct PackageNames<'a> {
+    pub types: Vec<GlobalName<'a>>,
+    pub functions: Vec<FunctionName<'a>>,
+    pub positions: Vec<usize>,
+}
+
+/// The same of packages, by the numbers that their paths have.
+#[derive(Drop)]
+pub struct Packages<'a> {
+    pub numbers: BTreeMap<Vec<u8>, usize>,
+    pub names: Vec<PackageNames<'a>>,
+    ghost within: { (path : List ℕ) (n : ℕ) → get_by (λ key. slice_cmp nat_cmp path key.items) numbers ≡ Some n → n < length names.items },
+}

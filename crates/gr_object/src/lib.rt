@@ -1,0 +1,27 @@
+//! The object of a package: the code of its functions, and its text.
+#![tactic(auto)]
+
+mod called;
+mod code;
+mod declarations;
+mod expressions;
+mod functions;
+mod imports;
+mod instructions;
+pub mod laws;
+mod members;
+mod names;
+mod numbered;
+pub mod objects;
+mod operands;
+pub mod packages;
+mod printing;
+mod scope;
+mod simple;
+mod slots;
+mod source;
+mod sources;
+mod statements;
+mod types;
+
+pub use instructions::{FunctionName, GlobalName};

@@ -1,0 +1,104 @@
+//! What expressions are to the code that uses them.
+ghost use Rattle.std.specs.Prelude.{◌≡◌, option_map};
+ghost use Rattle.gr_object.specs.Operands.{qualifies, builtin_results, left_by_call, unqualified, value_count, function_standing};
+ghost use Rattle.gr_object.specs.LineView.{function_of};
+ghost use Rattle.gr_object.specs.Making.{standing_of};
+
+use crate::instructions::FunctionName;
+use gr_expr::types::Builtin;
+
+/// What of an expression is wanted: its value, or the address of its value.
+#[derive(Clone, Copy, PartialEq, Eq, Debug)]
+pub enum Wanted {
+    Value,
+    Address,
+}
+
+/// What stands there: so many values; a function, or a method whose receiver is there, with how many results it has; a type,
+/// whose call is a conversion; a predeclared function; the name of a package.
+#[derive(Clone, Copy)]
+pub enum Standing<'a> {
+    Values(usize),
+    Called {
+        received: bool,
+        function: FunctionName<'a>,
+        results: usize,
+    },
+    Converts,
+    Predeclared(Builtin),
+    Qualifies,
+}
+
+impl<'a> Standing<'a> {
+    /// A function or method of that name.
+    #[tactic(auto, unfolding(crate::specs::Making::standing_of))]
+    pub fn of_function(
+        name: Option<FunctionName<'a>>,
+        received: bool,
+        results: usize,
+    ) -> Standing<'a>
+        ensures { standing_of result ≡ function_standing (option_map function_of name.entry) received results }
+    {
+        match name {
+            None => Standing::Values(0),
+            Some(function) => Standing::Called {
+                received,
+                function,
+                results,
+            },
+        }
+    }
+
+    /// Whether it is the name of a package.
+    #[tactic(auto, unfolding(crate::specs::Making::standing_of))]
+    pub fn qualifies(self) -> bool
+        ensures { result ≡ qualifies (standing_of self.entry) }
+    {
+        matches!(self, Standing::Qualifies)
+    }
+
+    /// What stands behind a package's name alone.
+    #[tactic(auto, unfolding(crate::specs::Making::standing_of))]
+    pub fn unqualified(self) -> Standing<'a>
+        ensures { standing_of result ≡ unqualified (standing_of self.entry) }
+    {
+        match self {
+            Standing::Qualifies => Standing::Values(0),
+            _ => self,
+        }
+    }
+
+    /// How many values a call leaves.
+    #[tactic(auto, unfolding(crate::specs::Making::standing_of, crate::specs::Operands::left_by_call))]
+    pub fn left_by_call(self) -> usize
+        ensures { result ≡ left_by_call (standing_of self.entry) }
+    {
+        match self {
+            Standing::Called { results, .. } => results,
+            Standing::Predeclared(builtin) => results_of(builtin),
+            Standing::Converts => 1,
+            Standing::Values(_) | Standing::Qualifies => 0,
+        }
+    }
+
+    /// How many values stand there.
+    #[tactic(auto, unfolding(crate::specs::Making::standing_of))]
+    pub fn values(self) -> usize
+        ensures { result ≡ value_count (standing_of self.entry) }
+    {
+        match self {
+            Standing::Values(count) => count,
+            _ => 0,
+        }
+    }
+}
+
+/// How many values a predeclared function leaves.
+fn results_of(builtin: Builtin) -> usize
+    ensures { result ≡ builtin_results builtin }
+{
+    match builtin {
+        Builtin::Append | Builtin::Len => 1,
+        Builtin::Panic | Builtin::Print | Builtin::Println => 0,
+    }
+}

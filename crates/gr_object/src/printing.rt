@@ -1,0 +1,430 @@
+//! The text of the lines of code.
+ghost use Rattle.std.specs.Prelude.{◌≡◌, ◌<◌, ◌++◌, codes, decimal, OnOk, map, reverse};
+ghost use Rattle.std.specs.List.{flat_map};
+ghost use Rattle.gr_expr.specs.View.{type_of};
+ghost use Rattle.gr_types.specs.Written.{basic_name};
+ghost use Rattle.gr_types.specs.Bound.{builtin_name};
+ghost use Rattle.gr_object.specs.LineView.{global_of, function_of, line_of, lines_in};
+ghost use Rattle.gr_object.specs.PackagesView.{type_in};
+ghost use Rattle.gr_object.specs.Text.{global_text, function_text, known_text, type_text, type_behind, types_behind, types_joined, type_list, hex_digit, hex_byte, bytes_text, truth_text, operator_text, with_number, words_of, ended, code_text};
+
+use crate::code::Code;
+use crate::instructions::{FunctionName, GlobalName, Instruction};
+use crate::packages::Packages;
+use gr_expr::symbol::Symbol;
+use gr_expr::types::{Basic, Builtin, GoType};
+use gr_parse::syntax::BinaryOp;
+use itoa::Buffer;
+use std::alloc::AllocError;
+
+/// Adds a number in decimal.
+pub fn push_number(text: &mut Vec<u8>, number: usize) -> Result<(), AllocError>
+    ensures { OnOk result (text.new.items ≡ text.old.items ++ decimal number) }
+{
+    let mut digits = Buffer::new();
+    text.extend_from_slice(digits.format(number).as_bytes())?;
+    Ok(())
+}
+
+/// Adds the value of an integer literal in decimal.
+pub fn push_integer(text: &mut Vec<u8>, number: u64) -> Result<(), AllocError>
+    ensures { OnOk result (text.new.items ≡ text.old.items ++ decimal number) }
+{
+    let mut digits = Buffer::new();
+    text.extend_from_slice(digits.format(number).as_bytes())?;
+    Ok(())
+}
+
+/// Adds a word and a number.
+pub fn push_numbered(text: &mut Vec<u8>, word: &[u8], number: usize) -> Result<(), AllocError>
+    ensures { OnOk result (text.new.items ≡ text.old.items ++ with_number word.now number) }
+{
+    text.extend_from_slice(word)?;
+    push_number(text, number)
+}
+
+/// Adds the name of a declaration of a package's block.
+pub fn push_global(text: &mut Vec<u8>, name: GlobalName<'_>) -> Result<(), AllocError>
+    ensures { OnOk result (text.new.items ≡ text.old.items ++ global_text (global_of name.entry)) }
+{
+    text.extend_from_slice(name.path)?;
+    text.extend_from_slice(b"#")?;
+    text.extend_from_slice(name.name)?;
+    Ok(())
+}
+
+/// Adds the name of a function.
+#[tactic(auto, unfolding(crate::specs::LineView::function_of, crate::specs::Text::function_text))]
+pub fn push_function(text: &mut Vec<u8>, name: FunctionName<'_>) -> Result<(), AllocError>
+    ensures { OnOk result (text.new.items ≡ text.old.items ++ function_text (function_of name.entry)) }
+{
+    match name {
+        FunctionName::Plain(name) => push_global(text, name),
+        FunctionName::Method { receiver, name } => {
+            push_global(text, receiver)?;
+            text.extend_from_slice(b"#")?;
+            text.extend_from_slice(name)?;
+            Ok(())
+        }
+        FunctionName::Initializer { path, number } => {
+            text.extend_from_slice(path)?;
+            push_numbered(text, b"#init.", number)
+        }
+    }
+}
+
+/// The name of a predeclared type.
+fn basic_name(basic: Basic) -> &'static [u8]
+    ensures { result.now ≡ basic_name basic }
+{
+    match basic {
+        Basic::Bool => b"bool",
+        Basic::Int => b"int",
+        Basic::String => b"string",
+    }
+}
+
+/// The name of a predeclared function.
+fn builtin_name(builtin: Builtin) -> &'static [u8]
+    ensures { result.now ≡ builtin_name builtin }
+{
+    match builtin {
+        Builtin::Append => b"append",
+        Builtin::Len => b"len",
+        Builtin::Panic => b"panic",
+        Builtin::Print => b"print",
+        Builtin::Println => b"println",
+    }
+}
+
+/// Adds the name of a type definition.
+fn push_symbol(
+    text: &mut Vec<u8>,
+    packages: &Packages<'_>,
+    symbol: &Symbol,
+) -> Result<(), AllocError>
+    ensures { OnOk result (text.new.items ≡ text.old.items ++ known_text (type_in packages.now symbol.now)) }
+{
+    match packages.type_name(symbol) {
+        None => Ok(()),
+        Some(name) => push_global(text, name),
+    }
+}
+
+/// Adds the text of a type.
+#[tactic(auto, unfolding(gr_expr::specs::View::type_of, crate::specs::Text::type_text))]
+pub fn push_type(
+    text: &mut Vec<u8>,
+    packages: &Packages<'_>,
+    own: &GoType,
+) -> Result<(), AllocError>
+    ensures { OnOk result (text.new.items ≡ text.old.items ++ type_text (type_in packages.now) (type_of own.now)) }
+{
+    match own {
+        GoType::Basic(basic) => {
+            text.extend_from_slice(basic_name(*basic))?;
+            Ok(())
+        }
+        GoType::Defined(symbol) => push_symbol(text, packages, symbol),
+        GoType::Pointer(target) => {
+            text.extend_from_slice(b"*")?;
+            push_type(text, packages, target)
+        }
+        GoType::Slice(element) => {
+            text.extend_from_slice(b"[]")?;
+            push_type(text, packages, element)
+        }
+    }
+}
+
+/// Adds a separator and the text of a type.
+fn push_type_behind(
+    text: &mut Vec<u8>,
+    packages: &Packages<'_>,
+    separator: &[u8],
+    own: &GoType,
+) -> Result<(), AllocError>
+    ensures { OnOk result (text.new.items ≡ text.old.items ++ type_behind (type_in packages.now) separator.now (type_of own.now)) }
+{
+    text.extend_from_slice(separator)?;
+    push_type(text, packages, own)
+}
+
+/// Adds types, each behind a separator.
+fn push_types_behind(
+    text: &mut Vec<u8>,
+    packages: &Packages<'_>,
+    separator: &[u8],
+    types: &[GoType],
+) -> Result<(), AllocError>
+    ensures { OnOk result (text.new.items ≡ text.old.items ++ types_behind (type_in packages.now) separator.now (map type_of types.now)) }
+{
+    for own in types {
+        push_type_behind(text, packages, separator, own)?;
+    }
+    Ok(())
+}
+
+/// Adds types with a separator between them.
+pub fn push_types(
+    text: &mut Vec<u8>,
+    packages: &Packages<'_>,
+    separator: &[u8],
+    types: &[GoType],
+) -> Result<(), AllocError>
+    ensures { OnOk result (text.new.items ≡ text.old.items ++ types_joined (type_in packages.now) separator.now (map type_of types.now)) }
+{
+    let [first, others @ ..] = types else {
+        return Ok(());
+    };
+    push_type(text, packages, first)?;
+    push_types_behind(text, packages, separator, others)
+}
+
+/// Adds the list of the types of parameters or results.
+pub fn push_type_list(
+    text: &mut Vec<u8>,
+    packages: &Packages<'_>,
+    types: &[GoType],
+) -> Result<(), AllocError>
+    ensures { OnOk result (text.new.items ≡ text.old.items ++ type_list (type_in packages.now) (map type_of types.now)) }
+{
+    text.extend_from_slice(b"(")?;
+    push_types(text, packages, b",", types)?;
+    text.extend_from_slice(b")")?;
+    Ok(())
+}
+
+/// A digit of base 16, in lower case.
+fn hex_digit(digit: u8) -> u8
+    requires { digit < 16 }
+    ensures { result ≡ hex_digit digit }
+{
+    if digit < 10 { b'0' + digit } else { 87 + digit }
+}
+
+/// Adds the two digits of a byte.
+fn push_hex_byte(text: &mut Vec<u8>, byte: u8) -> Result<(), AllocError>
+    ensures { OnOk result (text.new.items ≡ text.old.items ++ hex_byte byte) }
+{
+    text.push(hex_digit(byte / 16))?;
+    text.push(hex_digit(byte % 16))?;
+    Ok(())
+}
+
+/// Adds two digits for each byte.
+fn push_hex(text: &mut Vec<u8>, bytes: &[u8]) -> Result<(), AllocError>
+    ensures { OnOk result (text.new.items ≡ text.old.items ++ flat_map hex_byte bytes.now) }
+{
+    for byte in bytes {
+        push_hex_byte(text, *byte)?;
+    }
+    Ok(())
+}
+
+/// Adds the bytes of a string.
+pub fn push_bytes(text: &mut Vec<u8>, bytes: &[u8]) -> Result<(), AllocError>
+    ensures { OnOk result (text.new.items ≡ text.old.items ++ bytes_text bytes.now) }
+{
+    text.extend_from_slice(b"x")?;
+    push_hex(text, bytes)
+}
+
+/// The text of an operator.
+#[tactic(auto, unfolding(crate::specs::Text::operator_text))]
+fn operator_text(op: BinaryOp) -> &'static [u8]
+    ensures { result.now ≡ operator_text op }
+{
+    match op {
+        BinaryOp::Multiply => b"*",
+        BinaryOp::Divide => b"/",
+        BinaryOp::Remainder => b"%",
+        BinaryOp::Add => b"+",
+        BinaryOp::Subtract => b"-",
+        BinaryOp::Equal => b"==",
+        BinaryOp::NotEqual => b"!=",
+        BinaryOp::Less => b"<",
+        BinaryOp::LessEqual => b"<=",
+        BinaryOp::Greater => b">",
+        BinaryOp::GreaterEqual => b">=",
+        BinaryOp::And => b"&&",
+        BinaryOp::Or => b"||",
+    }
+}
+
+/// Adds a word.
+fn push_word(text: &mut Vec<u8>, word: &[u8]) -> Result<(), AllocError>
+    ensures { OnOk result (text.new.items ≡ text.old.items ++ word.now) }
+{
+    text.extend_from_slice(word)?;
+    Ok(())
+}
+
+/// Adds a word and a name of a declaration of a package's block.
+pub fn push_word_global(
+    text: &mut Vec<u8>,
+    word: &[u8],
+    name: GlobalName<'_>,
+) -> Result<(), AllocError>
+    ensures { OnOk result (text.new.items ≡ text.old.items ++ (word.now ++ global_text (global_of name.entry))) }
+{
+    text.extend_from_slice(word)?;
+    push_global(text, name)
+}
+
+/// Adds the words of a call of a function.
+fn push_call(
+    text: &mut Vec<u8>,
+    function: FunctionName<'_>,
+    arguments: usize,
+) -> Result<(), AllocError>
+    ensures { OnOk result (text.new.items ≡ text.old.items ++ (codes "call " ++ (function_text (function_of function.entry) ++ with_number (codes " ") arguments))) }
+{
+    text.extend_from_slice(b"call ")?;
+    push_function(text, function)?;
+    push_numbered(text, b" ", arguments)
+}
+
+/// Adds the words of a call of a predeclared function.
+fn push_builtin(text: &mut Vec<u8>, builtin: Builtin, arguments: usize) -> Result<(), AllocError>
+    ensures { OnOk result (text.new.items ≡ text.old.items ++ (codes "builtin " ++ (builtin_name builtin ++ with_number (codes " ") arguments))) }
+{
+    text.extend_from_slice(b"builtin ")?;
+    text.extend_from_slice(builtin_name(builtin))?;
+    push_numbered(text, b" ", arguments)
+}
+
+/// Adds a word and a string's bytes.
+fn push_word_bytes(text: &mut Vec<u8>, word: &[u8], bytes: &[u8]) -> Result<(), AllocError>
+    ensures { OnOk result (text.new.items ≡ text.old.items ++ (word.now ++ bytes_text bytes.now)) }
+{
+    text.extend_from_slice(word)?;
+    push_bytes(text, bytes)
+}
+
+/// Adds a word and an integer literal.
+fn push_word_integer(text: &mut Vec<u8>, word: &[u8], number: u64) -> Result<(), AllocError>
+    ensures { OnOk result (text.new.items ≡ text.old.items ++ (word.now ++ decimal number)) }
+{
+    text.extend_from_slice(word)?;
+    push_integer(text, number)
+}
+
+/// Adds a word and another.
+fn push_words(text: &mut Vec<u8>, word: &[u8], other: &[u8]) -> Result<(), AllocError>
+    ensures { OnOk result (text.new.items ≡ text.old.items ++ (word.now ++ other.now)) }
+{
+    text.extend_from_slice(word)?;
+    text.extend_from_slice(other)?;
+    Ok(())
+}
+
+/// Adds a word and a type.
+pub fn push_word_type(
+    text: &mut Vec<u8>,
+    packages: &Packages<'_>,
+    word: &[u8],
+    own: &GoType,
+) -> Result<(), AllocError>
+    ensures { OnOk result (text.new.items ≡ text.old.items ++ (word.now ++ type_text (type_in packages.now) (type_of own.now))) }
+{
+    text.extend_from_slice(word)?;
+    push_type(text, packages, own)
+}
+
+/// The text of a truth value.
+fn truth_text(truth: bool) -> &'static [u8]
+    ensures { result.now ≡ truth_text truth }
+{
+    if truth { b"1" } else { b"0" }
+}
+
+/// Adds the words of a line.
+#[tactic(auto, unfolding(crate::specs::LineView::line_of, crate::specs::Text::words_of))]
+fn push_line_words(
+    text: &mut Vec<u8>,
+    packages: &Packages<'_>,
+    line: &Instruction<'_>,
+) -> Result<(), AllocError>
+    ensures { OnOk result (text.new.items ≡ text.old.items ++ words_of (type_in packages.now) (line_of line.now)) }
+{
+    match line {
+        Instruction::Integer(n) => push_word_integer(text, b"int ", *n),
+        Instruction::Text(bytes) => push_word_bytes(text, b"str ", *bytes),
+        Instruction::Truth(truth) => push_words(text, b"bool ", truth_text(*truth)),
+        Instruction::Nil => push_word(text, b"nil"),
+        Instruction::Local(slot) => push_numbered(text, b"local ", *slot),
+        Instruction::Global(name) => push_word_global(text, b"global ", *name),
+        Instruction::Field(position) => push_numbered(text, b"field ", *position),
+        Instruction::FieldThrough(position) => push_numbered(text, b"ptrfield ", *position),
+        Instruction::Index => push_word(text, b"index"),
+        Instruction::Load => push_word(text, b"load"),
+        Instruction::Negate => push_word(text, b"neg"),
+        Instruction::Not => push_word(text, b"not"),
+        Instruction::Operate(op) => push_words(text, b"op ", operator_text(*op)),
+        Instruction::Duplicate => push_word(text, b"dup"),
+        Instruction::Pop => push_word(text, b"pop"),
+        Instruction::JumpUnless(lines) => push_numbered(text, b"jz ", *lines),
+        Instruction::JumpIf(lines) => push_numbered(text, b"jnz ", *lines),
+        Instruction::Jump(lines) => push_numbered(text, b"jump ", *lines),
+        Instruction::JumpBack(lines) => push_numbered(text, b"jump -", *lines),
+        Instruction::Call {
+            function,
+            arguments,
+        } => push_call(text, *function, *arguments),
+        Instruction::CallBuiltin { builtin, arguments } => {
+            push_builtin(text, *builtin, *arguments)
+        }
+        Instruction::Zero(own) => push_word_type(text, packages, b"zero ", own),
+        Instruction::With(position) => push_numbered(text, b"with ", *position),
+        Instruction::MakeSlice(count) => push_numbered(text, b"slice ", *count),
+        Instruction::New => push_word(text, b"new"),
+        Instruction::LocalAddress(slot) => push_numbered(text, b"addrlocal ", *slot),
+        Instruction::GlobalAddress(name) => push_word_global(text, b"addrglobal ", *name),
+        Instruction::FieldAddress(position) => push_numbered(text, b"addrfield ", *position),
+        Instruction::IndexAddress => push_word(text, b"addrindex"),
+        Instruction::BlankAddress => push_word(text, b"blank"),
+        Instruction::Set(slot) => push_numbered(text, b"set ", *slot),
+        Instruction::Assign(count) => push_numbered(text, b"assign ", *count),
+        Instruction::Return(count) => push_numbered(text, b"ret ", *count),
+        Instruction::End => push_word(text, b"end"),
+    }
+}
+
+/// Adds a line.
+fn push_line(
+    text: &mut Vec<u8>,
+    packages: &Packages<'_>,
+    line: &Instruction<'_>,
+) -> Result<(), AllocError>
+    ensures { OnOk result (text.new.items ≡ text.old.items ++ ended (words_of (type_in packages.now) (line_of line.now))) }
+{
+    push_line_words(text, packages, line)?;
+    text.push(b'\n')?;
+    Ok(())
+}
+
+/// Adds lines of which the last one stands first.
+fn push_lines(
+    text: &mut Vec<u8>,
+    packages: &Packages<'_>,
+    lines: &[Instruction<'_>],
+) -> Result<(), AllocError>
+    ensures { OnOk result (text.new.items ≡ text.old.items ++ code_text (type_in packages.now) (reverse (map line_of lines.now))) }
+{
+    for i in (0..lines.len()).rev() {
+        push_line(text, packages, &lines[i])?;
+    }
+    Ok(())
+}
+
+/// Adds all lines of code.
+pub fn push_code(
+    text: &mut Vec<u8>,
+    packages: &Packages<'_>,
+    code: &Code<'_>,
+) -> Result<(), AllocError>
+    ensures { OnOk result (text.new.items ≡ text.old.items ++ code_text (type_in packages.now) (lines_in code.now)) }
+{
+    push_lines(text, packages, code.lines())
+}

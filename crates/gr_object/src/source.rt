@@ -1,0 +1,73 @@
+//! What the code of a file is made of beside its tree.
+ghost use Rattle.std.specs.Prelude.{◌≡◌, option_map};
+ghost use Rattle.gr_expr.specs.View.{type_of};
+ghost use Rattle.gr_object.specs.LineView.{global_of};
+ghost use Rattle.gr_scope.specs.Named.{name_value};
+ghost use Rattle.gr_object.specs.SourceView.{source_of};
+
+use crate::instructions::GlobalName;
+use crate::numbered::Numbered;
+use crate::packages::Packages;
+use gr_expr::found::MemberUse;
+use gr_expr::types::GoType;
+use gr_expr::world::World;
+use gr_scan::integer_value;
+
+/// What names are bound to, by their tokens; the uses of members, with the tokens at which they stand; by tokens the declaration of
+/// a package's block that a name is bound to, whether a truth value is the true one, and the values of string literals. And what
+/// is called how in packages.
+#[derive(Drop)]
+pub struct Source<'a> {
+    pub world: World<'a>,
+    pub uses: &'a [MemberUse],
+    pub used: Numbered,
+    pub globals: Vec<Option<GlobalName<'a>>>,
+    pub truths: Vec<bool>,
+    pub texts: Vec<Option<Vec<u8>>>,
+    pub packages: &'a Packages<'a>,
+}
+
+impl<'a> Source<'a> {
+    /// The type before the name at a token.
+    pub fn before(&self, token: usize) -> Option<&GoType>
+        ensures { option_map (λ t. type_of t.now) result ≡ (source_of self.now).before token }
+    {
+        let number = self.used.get(token)?;
+        Some(&self.uses.get(number)?.before)
+    }
+
+    /// The declaration of a package's block that the name at a token is bound to.
+    pub fn global(&self, token: usize) -> Option<GlobalName<'a>>
+        ensures { option_map global_of result ≡ (source_of self.now).global token }
+    {
+        *self.globals.get(token)?
+    }
+
+    /// Whether the truth value at a token is the true one.
+    pub fn truth(&self, token: usize) -> bool
+        ensures { result ≡ (source_of self.now).truth token }
+    {
+        match self.truths.get(token) {
+            None => false,
+            Some(truth) => *truth,
+        }
+    }
+
+    /// The value of the integer literal at a token.
+    pub fn number(&self, token: usize) -> Option<u64>
+        ensures { result ≡ (source_of self.now).number token }
+    {
+        integer_value(self.world.spelling(token))
+    }
+
+    /// The value of the string literal at a token.
+    pub fn text(&self, token: usize) -> Option<&[u8]>
+        ensures { name_value result ≡ (source_of self.now).text token }
+    {
+        match self.texts.get(token) {
+            None => None,
+            Some(None) => None,
+            Some(Some(text)) => Some(text),
+        }
+    }
+}

@@ -1,0 +1,82 @@
+//! Sessions in which one allocation is refused: run with each allocation failing in turn.
+use crate::desks::opened;
+use gr_desk::Solo;
+use gr_text::Limits;
+use gr_wire::{Reading, SessionFault, Writing, session};
+use std::alloc::Global;
+use std::process::Abort;
+
+/// What a session wrote, or None where its writer or the session itself got no memory.
+fn answered(alloc: Global, solo: &mut Solo, input: &[u8]) -> Option<Vec<u8>> {
+    let mut source = Reading::new(input);
+    let mut sink = Writing::new(Vec::new(alloc));
+    match session(alloc, &mut source, &mut sink, solo, Limits::FULL) {
+        Ok(()) => Some(sink.into_inner()),
+        Err(SessionFault::Memory) | Err(SessionFault::Write) => None,
+        Err(SessionFault::Read) | Err(SessionFault::Turns) => Some(Vec::new(alloc)),
+    }
+}
+
+const NO_MEMORY: &[u8] = b"no 1 0\n";
+
+/// Whether of the same command, sent twice, the one was refused for want of memory and the other answered as where nothing
+/// was sent before it; or none was refused, and the second answered as where the first is done.
+fn keeps_all(text: &[u8], reply: &[u8], again: &[u8]) -> bool {
+    if let Some(rest) = text.strip_prefix(NO_MEMORY) {
+        return rest == reply;
+    }
+    match text.strip_prefix(reply) {
+        Some(rest) => rest == again || rest == NO_MEMORY,
+        None => false,
+    }
+}
+
+/// Sends each command twice.
+fn sends_each_twice(rt: &(impl Abort + AllocGlobal), solo: &mut Solo) {
+    for (input, reply, again) in [
+        (
+            "put 0 a/a.go 24\npackage a\n\nfunc F() {\n}\nput 0 a/a.go 24\npackage a\n\nfunc F() {\n}\n",
+            "ok 1 0\n",
+            "no 6 2\n1\n",
+        ),
+        (
+            "cat a/a.go\ncat a/a.go\n",
+            "ok 1 24\npackage a\n\nfunc F() {\n}\n",
+            "ok 1 24\npackage a\n\nfunc F() {\n}\n",
+        ),
+        ("undo 1\nundo 1\n", "ok 0 0\n", "no 6 2\n0\n"),
+        ("redo 0\nredo 0\n", "ok 1 0\n", "no 6 2\n1\n"),
+        (
+            "list\nlist\n",
+            "ok 1 10\na/a.go 24\n",
+            "ok 1 10\na/a.go 24\n",
+        ),
+        ("work\nwork\n", "ok 1 2\na\n", "no 23 0\n"),
+        (
+            "object a\nobject a\n",
+            "ok 1 34\nobject a a\nfunc a#F () () 0 1\nend\n",
+            "ok 1 34\nobject a a\nfunc a#F () () 0 1\nend\n",
+        ),
+        ("del 1 a/a.go\ndel 1 a/a.go\n", "ok 2 0\n", "no 6 2\n2\n"),
+    ] {
+        match answered(rt.alloc(), solo, input.as_bytes()) {
+            Some(text) => {
+                assert!(rt;
+                    keeps_all(&text, reply.as_bytes(), again.as_bytes()),
+                    "{input}"
+                )
+            }
+            None => return,
+        }
+    }
+}
+
+#[test]
+fn a_refused_command_changes_nothing(rt: HostRuntime) {
+    let mut solo = match opened(rt.alloc(), Limits::FULL) {
+        Ok(solo) => solo,
+        Err(_) => return,
+    };
+    sends_each_twice(&rt, &mut solo);
+    let _entries = solo.into_book().close();
+}

@@ -1,0 +1,72 @@
+//! The packages of a workspace that are finished, with their units.
+ghost use Rattle.std.specs.Prelude.{◌≡◌, ◌<◌, IfOk, MatchOption, Some, length, slice_get, slice_set};
+ghost use Rattle.gr_compile.specs.declared.unit.Unit.{Unit as PackageUnit};
+
+use gr_compile::Unit;
+use std::alloc::{AllocError, Global};
+use std::marker::Model;
+use std::sync::Arc;
+
+/// For each package of a workspace, by its number, its unit if it is finished. A clone shares the table.
+#[derive(Drop)]
+pub struct Finished {
+    units: Arc<Vec<Option<Unit>>, Global>,
+}
+
+impl Model for Finished {
+    ghost use Rattle.std.specs.Prelude.{List, Option};
+    ghost use Rattle.std.specs.Arc.{arc_value};
+    ghost use Rattle.std.specs.Coded.{codes};
+    ghost use Rattle.gr_compile.specs.Codes.{unit_code};
+    ghost use Rattle.gr_compile.specs.declared.unit.Unit.{Unit as PackageUnit};
+
+    ghost Value = { List (Option PackageUnit) };
+
+    ghost coded = { Prim.hlevel (codes, unit_code) };
+
+    ghost view = { λ a. (arc_value a.units).items };
+}
+
+impl Finished {
+    pub fn new(alloc: Global, units: Vec<Option<Unit>>) -> Result<Finished, AllocError>
+        ensures { IfOk result (λ table. table ≡ units.items) }
+    {
+        let units = Arc::new(alloc, units)?;
+        Ok(Finished { units })
+    }
+
+    /// The unit of a package, if it is finished.
+    pub fn get(&self, number: usize) -> Option<&Unit>
+        ensures { MatchOption result ((unit : PackageUnit) → slice_get self.now number ≡ Some (Some unit) → ⊥) (λ unit. slice_get self.now number ≡ Some (Some unit.now)) }
+    {
+        match self.units.get(number) {
+            Some(unit) => unit.as_ref(),
+            None => None,
+        }
+    }
+
+    /// The table in which one package more is finished.
+    pub fn with_unit(
+        &self,
+        alloc: Global,
+        number: usize,
+        unit: Unit,
+    ) -> Result<Finished, AllocError>
+        requires { number < length self.now }
+        ensures { IfOk result (λ table. table ≡ slice_set self.now number (Some unit)) }
+    {
+        let units: &Vec<Option<Unit>> = &self.units;
+        let mut units = units.clone()?;
+        units[number] = Some(unit);
+        Finished::new(alloc, units)
+    }
+}
+
+impl Clone for Finished {
+    ghost is_clone = { λ table copy. copy ≡ table };
+
+    fn clone(&self) -> Result<Finished, AllocError> {
+        let units = Arc::try_clone(&self.units)?;
+        Ok(Finished { units })
+    }
+}
