@@ -89,7 +89,8 @@ KeepsIfRefused old (Refused refusal) new = KeepsAll old new
 KeepsIfRefused old (Back refusal job unit) new = KeepsAll old new
 KeepsIfRefused old reply new = ⊤
 
--- A refused event changes nothing, but for the entry that the journal keeps of it, and for the Job of a delivery that came late.
+-- A refused event changes nothing, but for the entry that the journal keeps of it, and for the Jobs out where a delivery is refused as
+-- stale or as already there.
 abbrev pub RefusalsKeepAll : Type 0
 RefusalsKeepAll = (old new : Machine) (event : Event) (reply : Reply)
     → Step old event reply new

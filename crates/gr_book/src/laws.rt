@@ -22,7 +22,7 @@ pub fn numbers_are_used_once()
     ensures fresh { NumbersAreNew }
 {}
 
-/// A refusal changes nothing but the number of entries, and spends the Job of a delivery that came late.
+/// A refusal changes nothing but the number of entries and, where a delivery is stale or already there, the Jobs out.
 pub fn refusals_keep_all()
     ensures { RefusalsKeepAll }
 {}
