@@ -1,11 +1,9 @@
-//! The tests of texts and of the crates that read Go source, over their public calls alone: from the scanner to statements and
-//! the graph. They stand apart from the crates, since a crate with tests of its own is proved twice.
+//! The tests of texts and of the crates that read Go source, over their public calls alone: from the scanner to the stages
+//! and the graph. They stand apart from the crates, since a crate with tests of its own is proved twice.
 #![tactic(auto)]
 
 #[cfg(test)]
 mod bound;
-#[cfg(test)]
-mod expressions;
 #[cfg(test)]
 mod graph;
 #[cfg(test)]
@@ -20,7 +18,5 @@ mod scan;
 mod scope;
 #[cfg(test)]
 mod stages;
-#[cfg(test)]
-mod stmt;
 #[cfg(test)]
 mod text;
