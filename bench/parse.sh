@@ -11,12 +11,12 @@ rt=${RT:-rt}
 work=$(mktemp -d)
 trap 'rm -rf "$work"' EXIT
 mkdir -p "$work/crates"
-for crate in gr_text gr_scan gr_parse; do
+for crate in gr_text gr_scan gr_tree gr_parse; do
   cp -a "$top/crates/$crate" "$work/crates/$crate"
 done
 mkdir -p "$work/crates/parse_bench/src"
 cp "$here/parse_bench.txt" "$work/crates/parse_bench/src/main.rt"
-grep -E '^(gr_text|gr_scan|gr_parse):' "$top/crates.txt" > "$work/crates.txt"
+grep -E '^(gr_text|gr_scan|gr_tree|gr_parse):' "$top/crates.txt" > "$work/crates.txt"
 echo 'parse_bench: gr_parse gr_scan gr_text' >> "$work/crates.txt"
 
 program="$work/crates/parse_bench/out/parse_bench"

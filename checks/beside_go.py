@@ -4,7 +4,7 @@
 
 needs `go`. Each operator stands between each two operands, each operation on each operand, each value where each type is
 wanted. What the program refuses and Go takes is listed, and the other way, by forms: the first list is to be what
-docs/DECISIONS.md calls narrower than Go, the second what the README says is not looked for.
+docs/GO.md calls narrower, the second what it calls wider.
 """
 
 import collections

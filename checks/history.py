@@ -6,16 +6,11 @@ packages are a set of names: what a package is built into depends on the files o
 
 import re
 
-from lexical import is_path
+from moves import plan_move
 from objects import object_of
+from refusals import Refusal, fault_lines, is_path
+from renames import plan_rename
 from workspace import Workspace
-
-
-class Refusal(Exception):
-    def __init__(self, code, body=""):
-        super().__init__(code)
-        self.code = code
-        self.body = body
 
 
 class State:
@@ -90,7 +85,7 @@ class History:
         return waiting[0] + "\n"
 
     def object(self, package):
-        if not is_path("x/" + package):
+        if not is_path(package, 1):
             raise Refusal(3)
         workspace = self.current.workspace
         if package not in workspace.packages:
@@ -115,10 +110,6 @@ def a_place(word):
     if not sign:
         raise Refusal(2)
     return path, a_number(offset, 32)
-
-
-def fault_lines(faults):
-    return "".join("%s:#%d %s\n" % fault for fault in faults)
 
 
 def uses_of(workspace, texts, path, offset):
@@ -162,6 +153,8 @@ VERBS = {
     "look": 0,
     "put": 3,
     "del": 2,
+    "rename": 3,
+    "move": 3,
     "undo": 1,
     "redo": 1,
     "cat": 1,
@@ -177,10 +170,10 @@ VERBS = {
 def body_of(history, words, body):
     """The body of the reply to a command that was read whole."""
     verb, *rest = words
-    basis = a_number(rest[0]) if verb in ("put", "del", "undo", "redo") else None
+    basis = a_number(rest[0]) if verb in ("put", "del", "rename", "move", "undo", "redo") else None
     if verb == "put":
         a_number(rest[2], 32)
-    place = a_place(rest[0]) if verb == "uses" else None
+    place = a_place(rest[0] if verb == "uses" else rest[1]) if verb in ("uses", "rename") else None
     history.enter()
     if basis is not None:
         history.meant_for(basis)
@@ -197,6 +190,12 @@ def body_of(history, words, body):
         history.change({**texts, path: body})
     elif verb == "del":
         history.change({other: text for other, text in texts.items() if other != path})
+    elif verb == "rename":
+        edits = plan_rename(history.current.workspace, texts, *place, rest[2])
+        history.change(edits.edited(texts))
+    elif verb == "move":
+        edits = plan_move(history.current.workspace, texts, rest[1], rest[2])
+        history.change(edits.edited(texts))
     elif verb == "undo":
         history.move(-1, 7)
     elif verb == "redo":

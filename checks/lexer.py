@@ -17,6 +17,7 @@ OPERATORS = sorted(
     ).split(),
     key=lambda operator: -len(operator),
 )
+OPERATOR = re.compile("|".join(re.escape(operator) for operator in OPERATORS))
 INTEGER = re.compile(
     r"0[xX](_?[0-9a-fA-F])+|0[bB](_?[01])+|0[oO](_?[0-7])+|0(_?[0-7])+|0|[1-9](_?[0-9])*"
 )
@@ -208,12 +209,11 @@ class Lexer:
         self.add("string", start, True)
 
     def operator(self, start):
-        for operator in OPERATORS:
-            if self.text.startswith(operator, start):
-                self.at += len(operator)
-                self.add(operator, start, operator in ("++", "--", ")", "]", "}"))
-                return
-        raise Fault(self.offsets[start], "character")
+        longest = OPERATOR.match(self.text, start)
+        if longest is None:
+            raise Fault(self.offsets[start], "character")
+        self.at = longest.end()
+        self.add(longest.group(), start, longest.group() in ("++", "--", ")", "]", "}"))
 
 
 def tokens_of(source):

@@ -4,6 +4,7 @@ An import without a name gives no name, and a name behind a dot, a field, a meth
 """
 
 import lexer
+from refusals import fault_lines, is_path
 from scopes import Declaration, Scopes
 
 
@@ -39,17 +40,6 @@ def bindings_of(package):
                 entry = (file.path, token.offset, len(token.text.encode()), None, True)
                 found.setdefault(entry[:2], entry)
     return found.values()
-
-
-def is_path(path):
-    """Whether it is the path of a file."""
-    plain = set("abcdefghijklmnopqrstuvwxyzABCDEFGHIJKLMNOPQRSTUVWXYZ0123456789_-.~+")
-    segments = path.split("/")
-    return (
-        len(path) <= 255
-        and len(segments) >= 2
-        and all(set(s) <= plain and s not in ("", ".", "..") for s in segments)
-    )
 
 
 class Uses:

@@ -4,8 +4,9 @@
 
 runs sessions FIRST to LAST (0 to 99), each a few dozen puts and questions, of the kind `faults` (as without a word),
 `uses`, `checked` (packages that import one another: faults of all stages, and uses of all identifiers), `objects`
-(packages that are built, with changes, undo and redo between) or `changed` (small changes of the workspaces of the stored
-sessions: faults, uses and objects). A difference is printed with its session, and ends the run with status 1.
+(packages that are built, with changes, undo and redo between), `changed` (small changes of the workspaces of the stored
+sessions: faults, uses and objects), `renames` or `moves` (mostly of workspaces without faults, with questions, undo, redo and
+objects between). A difference is printed with its session, and ends the run with status 1.
 """
 
 import random
@@ -15,6 +16,7 @@ import sys
 import changes
 import lexer
 import programs
+import shadows
 from history import History, fault_lines, reply, uses_of
 from lexical import Uses
 from workspace import SourceFile, Workspace
@@ -238,12 +240,99 @@ def objects_of_packages(generator, count):
     return talk.session
 
 
+NEW_NAMES = "x y z q X Y T len int nil append k b init main func _ 1x a.b é Ж x٣".split()
+FOLDERS = "a b c p q k/p k/q k/len x/init x/main x/a-b x/_ x/func p/x q/T z/X c-d a/ /b x/../y p/../q é".split()
+
+
+def a_workspace(generator, stored):
+    """Texts, mostly without faults, in which there is much to rename and to move."""
+    if generator.random() < 0.7:
+        return shadows.shadowed(generator)
+    return changes.changed(generator, generator.choice(stored))
+
+
+def a_new_name(generator, texts):
+    words = [word for text in texts.values() for word in changes.TOKEN.findall(text.decode())]
+    names = [word for word in words if word.isidentifier() and word not in changes.KEYWORDS]
+    return generator.choice(names) if names and generator.random() < 0.75 else generator.choice(NEW_NAMES)
+
+
+def a_folder(generator, texts):
+    folders = sorted({path.rsplit("/", 1)[0] for path in texts} | {path.split("/")[0] for path in texts})
+    return generator.choice(folders) if folders and generator.random() < 0.9 else generator.choice(FOLDERS)
+
+
+def a_target(generator, texts):
+    way = generator.random()
+    if way < 0.2:
+        return a_folder(generator, texts)
+    if way < 0.5:
+        return generator.choice(FOLDERS)
+    return generator.choice(["", "k/", "p/", "a/b/"]) + a_new_name(generator, texts)
+
+
+def question(generator, talk):
+    """A command that changes no text."""
+    texts = talk.history.current.texts
+    way = generator.randrange(7)
+    if way == 0:
+        talk.send("faults")
+    elif way == 1 and texts:
+        talk.send("cat " + generator.choice(sorted(texts)))
+    elif way == 2:
+        talk.send("uses %s:#%d" % a_place(generator, texts))
+    elif way == 3:
+        talk.send(generator.choice(["list", "look"]))
+    elif way == 4:
+        talk.send("object " + a_folder(generator, texts))
+    else:
+        talk.send("work")
+
+
+def rename_or_move(generator, talk, moves):
+    texts = talk.history.current.texts
+    number = talk.history.current.number + (generator.random() < 0.02)
+    if generator.random() < moves:
+        talk.send(f"move {number} {a_folder(generator, texts)} {a_target(generator, texts)}")
+    else:
+        place = "%s:#%d" % a_place(generator, texts)
+        talk.send(f"rename {number} {place} {a_new_name(generator, texts)}")
+
+
+def edited_workspaces(generator, count, moves):
+    """Renames, or in that part moves, each followed by questions or by undo and redo."""
+    talk = Talk()
+    stored = changes.workspaces()
+    talk.change_to(a_workspace(generator, stored))
+    for _ in range(count):
+        way = generator.random()
+        if way < 0.06:
+            talk.change_to(a_workspace(generator, stored))
+        elif way < 0.8:
+            rename_or_move(generator, talk, moves)
+        else:
+            talk.send(f"{generator.choice(['undo', 'redo'])} {talk.history.current.number}")
+        for _ in range(generator.randrange(3)):
+            question(generator, talk)
+    return talk.session
+
+
+def renames_in_workspaces(generator, count):
+    return edited_workspaces(generator, count, 0.03)
+
+
+def moves_in_workspaces(generator, count):
+    return edited_workspaces(generator, count, 0.75)
+
+
 KINDS = {
     "faults": (faults_of_files, 40),
     "uses": (uses_in_files, 12),
     "checked": (checked_packages, 12),
     "objects": (objects_of_packages, 30),
     "changed": (changed_workspaces, 30),
+    "renames": (renames_in_workspaces, 60),
+    "moves": (moves_in_workspaces, 60),
 }
 
 

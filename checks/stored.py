@@ -1,8 +1,8 @@
 """Compares the stored sessions of `crates/gr_sessions` with the model.
 
-    python3 checks/stored.py
+    python3 checks/stored.py [FOLDER]
 
-names each session that the model answers otherwise, and each that is stored and not run, and ends with status 1 where there
+of another folder those that its file `args` lists. It names each session that the model answers otherwise, and each that is stored and not run, and ends with status 1 where there
 is one.
 """
 
@@ -15,11 +15,13 @@ CRATE = pathlib.Path(__file__).resolve().parent.parent / "crates" / "gr_sessions
 
 
 def main():
-    names = (CRATE / "args").read_text().split()
-    stored = {path.stem for path in (CRATE / "data").iterdir()}
+    folder = pathlib.Path(sys.argv[1]) if len(sys.argv) > 1 else CRATE
+    data = folder / "data" if (folder / "data").is_dir() else folder
+    names = (folder / "args").read_text().split()
+    stored = {path.stem for path in data.glob("*.*")}
     wrong = [f"{name}: not run" for name in sorted(stored - set(names))]
     for name in names:
-        if replies((CRATE / "data" / f"{name}.in").read_bytes()) != (CRATE / "data" / f"{name}.out").read_bytes():
+        if replies((data / f"{name}.in").read_bytes()) != (data / f"{name}.out").read_bytes():
             wrong.append(f"{name}: the model answers otherwise")
     for line in wrong:
         print(line)

@@ -4,9 +4,17 @@ The order of stages, kinds and places follows the rules of the subset. A path is
 bytes.
 """
 
+import functools
+
 import lexer
 import syntax
 from checker import Checker
+
+
+@functools.lru_cache(maxsize=256)
+def tokens_of_file(path, source):
+    """The tokens of a text that stands in a file; several workspaces share them, two files never do."""
+    return lexer.tokens_of(source)
 
 
 class SourceFile:
@@ -16,7 +24,7 @@ class SourceFile:
         self.fault = None
         self.tree = None
         try:
-            tokens = lexer.tokens_of(source)
+            tokens = tokens_of_file(path, source)
         except lexer.Fault as fault:
             self.fault = (fault.offset, fault.kind)
             return

@@ -18,7 +18,7 @@ use Rattle.gr_graph.proofs.PackagePaths.{one_number, paths_sorted}
 use Rattle.gr_graph.proofs.Asked.{at_contains}
 use Rattle.gr_verdict.proofs.Members.{nothing_in, first_in, later_in, first_or_later, passes, passed}
 use Rattle.gr_book.specs.Changes.{HasSameFiles, HasText, HasPath, AddsFolders, AreChanged, AreMarks, MarkFolders}
-use Rattle.gr_book.proofs.Entries.{entry_of, get_entry}
+use Rattle.gr_edit.proofs.Entries.{entry_of, get_entry}
 use Rattle.gr_book.proofs.ClosureTexts.{of_folder}
 
 -- ---- one folder after another

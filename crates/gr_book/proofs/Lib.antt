@@ -1,7 +1,7 @@
 -- The lemmas of this crate.
 pub mod Entries
 pub mod ClosureTexts
-pub mod Numbered
+pub mod Learning
 pub mod ClosureFiles
 pub mod Changed
 pub mod Carrying

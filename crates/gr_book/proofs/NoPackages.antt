@@ -6,7 +6,7 @@ use Rattle.gr_text.specs.Packages.{package_paths, is_of_package}
 use Rattle.gr_text.specs.Workspace.{Workspace, path_cmp}
 use Rattle.gr_verdict.proofs.Members.{empty_by, passes}
 use Rattle.gr_verdict.proofs.PackageFiles.{package_file}
-use Rattle.gr_book.proofs.Entries.{get_entry}
+use Rattle.gr_edit.proofs.Entries.{get_entry}
 
 abbrev no_files : Workspace
 no_files = map.empty

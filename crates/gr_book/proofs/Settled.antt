@@ -21,5 +21,5 @@ module _ (m : Machine) (job : JobRecord) (built : Built) (out : JobsOut) (has : 
       subst (λ (r : Reply). Step m (Deliver job built) r (after new)) (sym s.0) (inl has, (comes, refl, (out, lost, ap (λ (x : State). after x) s.1)))
   settled Known reply new comes s =
       subst (λ (r : Reply). Step m (Deliver job built) r (after new)) (sym s.0) (inl has, (comes.0, comes.1, (out, lost, ap (λ (x : State). after x) s.1)))
-  settled (Entered finished) reply new comes s =
+  settled (Entered finished known) reply new comes s =
       subst (λ (r : Reply). Step m (Deliver job built) r (after new)) (sym s.0) (inl has, (comes.0, comes.1, refl, (out, finished, lost, comes.2, ap (λ (x : State). after x) s.1), comes.4))

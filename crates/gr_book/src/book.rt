@@ -5,15 +5,18 @@ ghost use Rattle.gr_book.specs.Machine.{Machine, opening, newest};
 ghost use Rattle.gr_book.specs.Step.{HasRoom, Step, done, entries_due, looked, taken};
 
 use crate::carried::carried;
+use crate::changes::changed_marks;
 use crate::deliveries::{outcome_of, settle};
 use crate::event::{Event, Reply, refuse};
 use crate::inputs::inputs_of;
+use crate::knowing::{kept, known_within};
 use crate::state::State;
 use crate::waiting::first_waiting;
 use gr_compile::{Built, Job, Out, SharedPath};
 use gr_graph::Graph;
 use gr_space::{Change, Finished, Snapshot, View};
 use gr_text::{Files, Limits, Refusal};
+use gr_verdict::Known;
 use std::alloc::{AllocError, Global};
 use std::marker::Model;
 use std::mem;
@@ -97,6 +100,7 @@ impl Book {
     {
         let files = Graph::of(alloc, Files::new(alloc))?;
         let finished = Finished::new(alloc, Vec::new(alloc))?;
+        let known = Known::new(alloc);
         Ok(Book {
             alloc,
             limits,
@@ -105,6 +109,7 @@ impl Book {
                 number: 0,
                 files,
                 finished,
+                known,
             },
             later: Vec::new(alloc),
             next: 1,
@@ -145,13 +150,22 @@ impl Book {
             return Err(Refusal::Moved { current: number });
         }
         let files = change.files;
-        let finished = carried(self.alloc, &current.files, &current.finished, &files)?;
+        let marks = changed_marks(self.alloc, &current.files, &files)?;
+        let finished = carried(
+            self.alloc,
+            &current.files,
+            &current.finished,
+            &files,
+            &marks,
+        )?;
+        let known = kept(self.alloc, &current.files, &current.known, &files, &marks)?;
         self.earlier.reserve(1)?;
         let number = self.next;
         let next = State {
             number,
             files,
             finished,
+            known,
         };
         let previous = mem::replace(&mut self.current, next);
         self.earlier.push(previous).unwrap();
@@ -220,9 +234,10 @@ impl Book {
         };
         let package = SharedPath::new(self.alloc, &current.files.package(number).path)?;
         let inputs = inputs_of(self.alloc, &current.files, number)?;
+        let known = known_within(self.alloc, &current.files, &current.known, &inputs)?;
         let job = self
             .out
-            .hand_out(current.number, self.visit, package, inputs)?;
+            .hand_out(current.number, self.visit, package, inputs, known)?;
         self.entries += 1;
         Ok(job)
     }

@@ -8,7 +8,7 @@ ghost use Rattle.gr_verdict.specs.Closures.{HasSameClosure};
 ghost use Rattle.gr_book.specs.Carried.{IsCarried};
 ghost use Rattle.gr_book.specs.Changes.{AreMarks, KeepsUnit};
 
-use crate::changes::{Marks, changed_marks};
+use crate::changes::Marks;
 use gr_compile::Unit;
 use gr_graph::Graph;
 use gr_space::Finished;
@@ -37,7 +37,13 @@ fn are_unmarked(marks: &[bool], numbers: &[usize]) -> bool
 
 /// Whether the closure of a package has the same texts before and after a change. The numbers are those that the package has
 /// before and after.
-fn keeps_texts(before: &Graph, old: usize, after: &Graph, new: usize, marks: &Marks) -> bool
+pub(crate) fn keeps_texts(
+    before: &Graph,
+    old: usize,
+    after: &Graph,
+    new: usize,
+    marks: &Marks,
+) -> bool
     requires old { old < length (package_paths before.now) }
     requires same { slice_get (package_paths before.now) old ≡ slice_get (package_paths after.now) new }
     requires new { new < length (package_paths after.now) }
@@ -82,13 +88,15 @@ pub(crate) fn carried(
     before: &Graph,
     finished: &Finished,
     after: &Graph,
+    marks: &Marks,
 ) -> Result<Finished, AllocError>
+    requires before_marks { AreMarks before.now after.now marks.now.before.items }
+    requires after_marks { AreMarks after.now before.now marks.now.after.items }
     ensures { IfOk result (λ table. IsCarried before.now finished.now after.now table) }
 {
-    let marks = changed_marks(alloc, before, after)?;
     let mut units = Vec::new(alloc);
     for number in 0..after.len() {
-        let unit = kept_unit(before, finished, after, number, &marks)?;
+        let unit = kept_unit(before, finished, after, number, marks)?;
         units.push(unit)?;
     }
     Finished::new(alloc, units)

@@ -4,10 +4,12 @@ ghost use Rattle.gr_book.specs.Outcomes.{ComesTo, FindsFresh, HasTable, Settles}
 
 use crate::event::Reply;
 use crate::inputs::closure_files;
+use crate::knowing::learned;
 use crate::state::State;
 use gr_compile::{Built, Job};
 use gr_space::Finished;
 use gr_text::Refusal;
+use gr_verdict::Known;
 use std::alloc::{AllocError, Global};
 
 /// What a delivery comes to.
@@ -17,8 +19,8 @@ pub(crate) enum Outcome {
     Late,
     /// The package is finished.
     Known,
-    /// The package is finished now, and this is the table.
-    Entered(Finished),
+    /// The package is finished now: this is the table, and what is known then.
+    Entered(Finished, Known),
 }
 
 fn is_same_package(job: &Job, built: &Built) -> bool
@@ -75,7 +77,14 @@ pub(crate) fn outcome_of(
     let made = built.unit();
     let unit = made.clone()?;
     let finished = state.finished.with_unit(alloc, number, unit)?;
-    Ok(Outcome::Entered(finished))
+    let known = learned(
+        alloc,
+        &state.files,
+        &state.known,
+        built.inputs(),
+        built.known(),
+    )?;
+    Ok(Outcome::Entered(finished, known))
 }
 
 /// The reply to a delivery, which the current state takes in.
@@ -88,8 +97,9 @@ pub(crate) fn settle(current: &mut State, outcome: Outcome) -> Reply
             current: current.number,
         }),
         Outcome::Known => Reply::Refused(Refusal::Already),
-        Outcome::Entered(finished) => {
+        Outcome::Entered(finished, known) => {
             current.finished = finished;
+            current.known = known;
             Reply::Done(current.number)
         }
     }

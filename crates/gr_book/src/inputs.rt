@@ -1,38 +1,50 @@
 //! The texts of a package's closure.
-ghost use Rattle.std.specs.Prelude.{◌↔◌, ◌<◌, IfOk, IsTrue, length};
+ghost use Rattle.std.specs.Prelude.{◌<◌, IfOk, OnOk, length, map as mapped};
 ghost use Rattle.std.specs.FinMap as map;
-ghost use Rattle.std.specs.List.{Contains};
-ghost use Rattle.std.specs.List.Sorted.{IsStrictlyIncreasing};
-ghost use Rattle.gr_text.specs.Packages.{package_paths};
+ghost use Rattle.gr_text.specs.Packages.{package_files, package_paths};
 ghost use Rattle.gr_graph.specs.Graphs.{OfPackage};
 ghost use Rattle.gr_graph.specs.Packages.{AreClosureTexts};
 ghost use Rattle.gr_compile.specs.Inputs.{AreInputs};
-ghost use Rattle.gr_book.specs.Inputs.{IsOfClosure};
+ghost use Rattle.gr_book.specs.Inputs.{Adds, faulty_file, tree_file};
 
-use gr_graph::Graph;
-use gr_text::{Files, Path};
+use gr_graph::{FaultyFile, Graph};
+use gr_text::Files;
+use gr_tree::FileTree;
 use std::alloc::{AllocError, Global};
 
-/// Whether a number is among numbers that rise.
-fn has_number(numbers: &[usize], number: usize) -> bool
-    requires { IsStrictlyIncreasing numbers.now }
-    ensures { IsTrue result ↔ Contains numbers.now number }
+/// Adds files that have trees.
+fn add_trees(files: &mut Files, trees: &[FileTree]) -> Result<(), AllocError>
+    ensures { OnOk result (Adds (mapped tree_file trees.now) files.old files.new) }
 {
-    numbers.binary_search(&number).is_ok()
+    for tree in trees {
+        let path = tree.path().clone()?;
+        let text = tree.pieces().file().clone()?;
+        files.insert(path, text)?;
+    }
+    Ok(())
 }
 
-/// Whether a file is of a package in the closure of one.
-fn is_of_closure(graph: &Graph, number: usize, path: &Path) -> bool
-    requires { number < length (package_paths graph.now) }
-    ensures { IsTrue result ↔ IsOfClosure graph.now number path.now }
+/// Adds files that have none.
+fn add_faulty(files: &mut Files, faulty: &[FaultyFile]) -> Result<(), AllocError>
+    ensures { OnOk result (Adds (mapped faulty_file faulty.now) files.old files.new) }
 {
-    if !path.is_go() {
-        return false;
+    for file in faulty {
+        let path = file.path().clone()?;
+        let text = file.text().clone()?;
+        files.insert(path, text)?;
     }
-    match graph.number_of(path.folder()) {
-        Some(found) => has_number(graph.closure(number), found),
-        None => false,
-    }
+    Ok(())
+}
+
+/// Adds the files of a package.
+fn add_package(files: &mut Files, graph: &Graph, number: usize) -> Result<(), AllocError>
+    requires { number < length (package_paths graph.now) }
+    ensures { OnOk result (OfPackage graph.now number (λ p. Adds (package_files graph.now p) files.old files.new)) }
+{
+    let package = graph.package(number);
+    add_trees(files, &package.trees)?;
+    add_faulty(files, &package.faulty)?;
+    Ok(())
 }
 
 /// The files of a package's closure.
@@ -45,10 +57,8 @@ pub(crate) fn closure_files(
     ensures { IfOk result (λ files. OfPackage graph.now number (λ p. AreClosureTexts graph.now p (map.entries files))) }
 {
     let mut files = Files::new(alloc);
-    for (path, text) in graph.files().iter() {
-        if is_of_closure(graph, number, path) {
-            files.insert(path.clone()?, text.clone()?)?;
-        }
+    for other in graph.closure(number) {
+        add_package(&mut files, graph, *other)?;
     }
     Ok(files)
 }

@@ -7,6 +7,7 @@ mod changes;
 mod deliveries;
 mod event;
 mod inputs;
+mod knowing;
 mod laws;
 mod state;
 mod waiting;

@@ -3,7 +3,7 @@
 #![tactic(auto)]
 
 #[cfg(test)]
-mod events;
+mod bench;
 #[cfg(test)]
 mod jobs;
 #[cfg(test)]

@@ -2,35 +2,64 @@
 use gr_graph::Graph;
 use gr_space::{Finished, Snapshot, View, plan_put};
 use gr_text::{FileText, Files, Limits, Path, Refusal};
-use std::alloc::Global;
-use std::test::Fail;
+use std::process::Abort;
 
-fn text(alloc: Global, bytes: &str) -> Result<FileText, Fail> {
-    Ok(FileText::new(alloc, bytes.as_bytes().to_vec(alloc)?)?)
+/// Which limit is lowered, and how far.
+#[derive(Clone, Copy)]
+enum Lowered {
+    Nothing,
+    FileBytes(u8),
+    TotalBytes(u8),
+    Files(u8),
+    Packages(u8),
 }
 
-/// A view of one file, `a/a.go`, of ten bytes.
-fn view(alloc: Global, limits: Limits) -> Result<View, Fail> {
-    let mut files = Files::new(alloc);
-    match Path::read(alloc, "a/a.go", 2) {
-        Ok(path) => files.insert(path, text(alloc, "package a\n")?)?,
-        Err(_) => Err("no path")?,
+fn limits(lowered: Lowered) -> Limits {
+    let mut limits = Limits::FULL;
+    match lowered {
+        Lowered::Nothing => (),
+        Lowered::FileBytes(bytes) => limits.file_bytes = bytes as usize,
+        Lowered::TotalBytes(bytes) => limits.total_bytes = bytes as usize,
+        Lowered::Files(files) => limits.files = files as usize,
+        Lowered::Packages(packages) => limits.packages = packages as usize,
     }
-    let snapshot = Snapshot {
-        number: 1,
-        limits,
-        files: Graph::of(alloc, files)?,
-    };
-    Ok(View {
-        snapshot,
-        finished: Finished::new(alloc, Vec::new(alloc))?,
+    limits
+}
+
+fn text(rt: &(impl Abort + AllocGlobal), bytes: &str) -> FileText {
+    let bytes = bytes.as_bytes().to_vec(rt.alloc()).expect(rt, "bytes");
+    FileText::new(rt.alloc(), bytes).expect(rt, "a text")
+}
+
+/// One file, `a/a.go`, of ten bytes.
+fn files(rt: &(impl Abort + AllocGlobal)) -> Files {
+    let path = Path::read(rt.alloc(), "a/a.go", 2)
+        .ok()
+        .expect(rt, "a path");
+    let mut files = Files::new(rt.alloc());
+    files
+        .insert(path, text(rt, "package a\n"))
+        .expect(rt, "room");
+    files
+}
+
+fn view(rt: &(impl Abort + AllocGlobal), limits: Limits) -> View {
+    let files = Graph::of(rt.alloc(), files(rt)).expect(rt, "a graph");
+    let none = Vec::new(rt.alloc());
+    View {
+        snapshot: Snapshot {
+            number: 1,
+            limits,
+            files,
+        },
+        finished: Finished::new(rt.alloc(), none).expect(rt, "a table"),
         undo: 1,
         redo: 0,
-    })
+    }
 }
 
 /// What becomes of a put of that text.
-#[derive(Clone, Copy, Debug, PartialEq, Eq)]
+#[derive(Clone, Copy, PartialEq, Eq)]
 enum Plan {
     Planned,
     BadPath,
@@ -39,39 +68,39 @@ enum Plan {
     Refused,
 }
 
-fn put(alloc: Global, limits: Limits, path: &str, bytes: &str) -> Result<Plan, Fail> {
-    let view = view(alloc, limits)?;
-    Ok(match plan_put(alloc, &view, path, text(alloc, bytes)?) {
+fn put(rt: &(impl Abort + AllocGlobal), limits: Limits, path: &str, bytes: &str) -> Plan {
+    match plan_put(rt.alloc(), &view(rt, limits), path, text(rt, bytes)) {
         Ok(_) => Plan::Planned,
         Err(Refusal::BadPath) => Plan::BadPath,
         Err(Refusal::Same) => Plan::Same,
         Err(Refusal::TooLarge) => Plan::TooLarge,
         Err(_) => Plan::Refused,
-    })
+    }
+}
+
+/// Asserts what becomes of a put under a limit.
+fn becomes(rt: &(impl Abort + AllocGlobal), lowered: Lowered, path: &str, bytes: &str, plan: Plan) {
+    let planned = put(rt, limits(lowered), path, bytes);
+    assert!(rt; planned == plan);
 }
 
 #[test]
-fn each_limit_is_kept(rt: HostRuntime) -> Result<(), Fail> {
-    let alloc = rt.alloc();
-    let full = Limits::FULL;
-    assert_eq!(rt; put(alloc, full, "a.go", "x")?, Plan::BadPath);
-    assert_eq!(rt; put(alloc, full, "a/a.go", "package a\n")?, Plan::Same);
-    let mut limits = full;
-    limits.file_bytes = 9;
-    assert_eq!(rt; put(alloc, limits, "b/b.txt", "x")?, Plan::TooLarge);
-    let mut limits = full;
-    limits.total_bytes = 11;
-    assert_eq!(rt; put(alloc, limits, "b/b.txt", "x")?, Plan::Planned);
-    assert_eq!(rt; put(alloc, limits, "b/b.txt", "xx")?, Plan::TooLarge);
-    let mut limits = full;
-    limits.files = 1;
-    assert_eq!(rt; put(alloc, limits, "b/b.txt", "x")?, Plan::TooLarge);
-    assert_eq!(rt; put(alloc, limits, "a/a.go", "x")?, Plan::Planned);
-    let mut limits = full;
-    limits.packages = 1;
-    assert_eq!(rt; put(alloc, limits, "b/b.go", "x")?, Plan::TooLarge);
-    assert_eq!(rt; put(alloc, limits, "a/b/b.go", "x")?, Plan::TooLarge);
-    assert_eq!(rt; put(alloc, limits, "b/b.txt", "x")?, Plan::Planned);
-    assert_eq!(rt; put(alloc, limits, "a/b.go", "x")?, Plan::Planned);
-    Ok(())
+fn each_limit_is_kept(rt: HostRuntime) {
+    becomes(&rt, Lowered::Nothing, "a.go", "x", Plan::BadPath);
+    becomes(&rt, Lowered::Nothing, "a/a.go", "package a\n", Plan::Same);
+    becomes(&rt, Lowered::FileBytes(9), "b/b.txt", "x", Plan::TooLarge);
+    becomes(&rt, Lowered::TotalBytes(11), "b/b.txt", "x", Plan::Planned);
+    becomes(
+        &rt,
+        Lowered::TotalBytes(11),
+        "b/b.txt",
+        "xx",
+        Plan::TooLarge,
+    );
+    becomes(&rt, Lowered::Files(1), "b/b.txt", "x", Plan::TooLarge);
+    becomes(&rt, Lowered::Files(1), "a/a.go", "x", Plan::Planned);
+    becomes(&rt, Lowered::Packages(1), "b/b.go", "x", Plan::TooLarge);
+    becomes(&rt, Lowered::Packages(1), "a/b/b.go", "x", Plan::TooLarge);
+    becomes(&rt, Lowered::Packages(1), "b/b.txt", "x", Plan::Planned);
+    becomes(&rt, Lowered::Packages(1), "a/b.go", "x", Plan::Planned);
 }

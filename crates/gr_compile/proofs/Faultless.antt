@@ -2,29 +2,29 @@
 -- object that is printed.
 use Rattle.std.proofs.Common.{ℕ, ◌≡◌, inl, inr, List, [], map, refl, sym, ap, subst, ◌∙◌}
 use Rattle.std.specs.Global.{Vec}
-use Rattle.std.specs.Prelude.{Contains, Option, slice_get}
+use Rattle.std.specs.Prelude.{Option, slice_get}
 use Rattle.std.proofs.lemmas.Bool.{cases_Bool}
 use Rattle.gr_text.specs.Workspace.{Workspace}
-use Rattle.gr_text.specs.Packages.{package_paths, package_files}
-use Rattle.gr_parse.specs.SourceFile.{FileParts, source_of}
+use Rattle.gr_text.specs.Packages.{package_files}
+use Rattle.gr_tree.specs.SourceFile.{FileParts, source_of}
 use Rattle.gr_graph.specs.FaultyFiles.{FaultyParts}
 use Rattle.gr_graph.specs.Parsed.{AreParsed, none, tree, fault}
 use Rattle.gr_graph.proofs.OneFile.{file_or_fault}
 use Rattle.gr_expr.specs.declared.found.MemberUse.{MemberUse}
 use Rattle.gr_expr.specs.declared.world.Definition.{Definition}
 use Rattle.gr_expr.specs.WorldView.{definition_or_none, definitions_at, ranked}
-use Rattle.gr_types.specs.Check.{IsPackageOf}
-use Rattle.gr_types.specs.declared.interfaces.Interfaces.{Interfaces}
-use Rattle.gr_types.specs.Definitions.{IsDefinition}
+use Rattle.gr_meanings.specs.PackageOf.{IsPackageOf}
+use Rattle.gr_declared.specs.declared.interfaces.Interfaces.{Interfaces}
+use Rattle.gr_declared.specs.Definitions.{IsDefinition}
 use Rattle.gr_types.specs.Interfaces.{IsInterface}
-use Rattle.gr_types.specs.InterfacesView.{interface_in}
-use Rattle.gr_types.specs.MemberUses.{AreMemberUses, uses_in}
-use Rattle.gr_types.specs.Package.{Package, Interface, symbol_in}
+use Rattle.gr_declared.specs.InterfacesView.{interface_in}
+use Rattle.gr_meanings.specs.MemberUses.{AreMemberUses, uses_in}
+use Rattle.gr_declared.specs.Package.{Package, Interface, symbol_in}
 use Rattle.gr_verdict.specs.Found.{known_by}
-use Rattle.gr_verdict.specs.Verdicts.{Verdicts, AreSeen, AreVerdictsBelow, HasInterface, IsPackageIn, IsVerdictBy}
+use Rattle.gr_verdict.specs.Verdicts.{Verdicts, AreSeen, HasInterface, IsPackageIn, IsVerdictBy}
 use Rattle.gr_verdict.proofs.Members.{nothing_in}
 use Rattle.gr_verdict.proofs.OnePackage.{one_checked}
-use Rattle.gr_verdict.proofs.OneVerdict.{right_below, verdict_by}
+use Rattle.gr_verdict.proofs.OneVerdict.{verdict_by}
 use Rattle.gr_object.specs.declared.packages.Packages.{Packages}
 use Rattle.gr_object.specs.ObjectView.{AreOwnDefinitions, IsObjectTextOf, OwnDefinitionsOf}
 use Rattle.gr_compile.specs.Compiling.{HaveNamesBelow, IsFaultless}
@@ -43,17 +43,14 @@ own_definitions p all list i same = record {
   beyond = λ rank past. ap (λ (o : Option Definition). definition_or_none (symbol_in p rank) o) (same rank) ∙ i.beyond rank past;
 }
 
-module _ (w : Workspace) (p : List ℕ) (all : Interfaces) (members : List (Vec MemberUse)) (has : Contains (package_paths w) p) (found : IsFaultless w all p members) where
+module _ (w : Workspace) (p : List ℕ) (all : Interfaces) (members : List (Vec MemberUse)) (found : IsFaultless w all p members) where
   abbrev known : Verdicts
   known = known_by all
-
-  below : AreVerdictsBelow w p known
-  below = right_below w known found.right p
 
   -- what others see of it
   own : HasInterface w known p (interface_in all p)
   own =
-      let verdict : IsVerdictBy w known p (known p) = verdict_by w p known (known p) below (found.right p has) in
+      let verdict : IsVerdictBy w known p (known p) = verdict_by w p known (known p) found.below found.own in
       verdict.has_interface (elim (cases_Bool (known p).faulty) [
         | inl e ↦ (let f = verdict.has_faults.0 e in absurd (nothing_in f.0 ((found.listed.each f.0).1 f.1)))
         | inr e ↦ e
@@ -87,8 +84,8 @@ module _ (w : Workspace) (p : List ℕ) (all : Interfaces) (members : List (Vec 
         let uses : AreMemberUses c (map uses_in members) = subst (λ d. AreMemberUses d (map uses_in members)) same found.uses.are_uses in
         record {
           known = known;
-          right = below;
-          faultless = record { known = known; right = below; listed = found.listed };
+          right = found.below;
+          faultless = record { known = known; right = found.below; listed = found.listed };
           checked = c;
           is_package = is;
           interface = seen_as c made.1;

@@ -3,7 +3,7 @@ use Rattle.std.proofs.Common.{ℕ, List, [], subst}
 use Rattle.std.specs.Prelude.{Contains}
 use Rattle.gr_text.specs.Workspace.{Workspace}
 use Rattle.gr_text.specs.Packages.{package_paths}
-use Rattle.gr_parse.specs.SourceFile.{SourceFile}
+use Rattle.gr_tree.specs.SourceFile.{SourceFile}
 use Rattle.gr_graph.specs.Packages.{IsInClosure}
 use Rattle.gr_graph.specs.Parsed.{AreParsed}
 use Rattle.gr_verdict.specs.Closures.{HasSameClosure}

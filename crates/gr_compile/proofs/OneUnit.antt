@@ -2,12 +2,12 @@
 use Rattle.std.proofs.Common.{ℕ, ◌≡◌, List, [], ◌∷◌, map, refl, sym, ap, subst, ◌∙◌}
 use Rattle.std.proofs.Math.Path.{ap₂, fun_ext}
 use Rattle.gr_text.specs.Workspace.{Workspace}
-use Rattle.gr_parse.specs.SourceFile.{SourceFile, FileParts, source_of}
+use Rattle.gr_tree.specs.SourceFile.{SourceFile, FileParts, source_of}
 use Rattle.gr_graph.specs.FaultyFiles.{FaultyParts}
 use Rattle.gr_graph.specs.Parsed.{AreParsed, none, tree, fault}
 use Rattle.gr_graph.proofs.OneFile.{one_file, file_or_fault}
 use Rattle.gr_types.specs.Interfaces.{IsInterface}
-use Rattle.gr_types.specs.Package.{Interface}
+use Rattle.gr_declared.specs.Package.{Interface}
 use Rattle.gr_verdict.proofs.OneList.{one_list}
 use Rattle.gr_verdict.proofs.OnePackage.{layout_formed, files_in_order, one_interface}
 use Rattle.gr_verdict.proofs.OneVerdict.{checked_as_one}

@@ -2,13 +2,13 @@
 use Rattle.std.specs.Prelude.{ℕ, ◌≡◌, List, [], ◌∷◌, map, Contains}
 use Rattle.gr_text.specs.Workspace.{Workspace}
 use Rattle.gr_text.specs.Packages.{package_paths, package_files}
-use Rattle.gr_parse.specs.SourceFile.{SourceFile, FileParts, source_of}
+use Rattle.gr_tree.specs.SourceFile.{SourceFile, FileParts, source_of}
 use Rattle.gr_graph.specs.FaultyFiles.{FaultyParts}
 use Rattle.gr_graph.specs.Packages.{IsInClosure}
 use Rattle.gr_graph.specs.Parsed.{AreParsed}
-use Rattle.gr_types.specs.InterfacesView.{interface_in}
+use Rattle.gr_declared.specs.InterfacesView.{interface_in}
 use Rattle.gr_types.specs.Interfaces.{IsInterface}
-use Rattle.gr_types.specs.Package.{Package, Interface}
+use Rattle.gr_declared.specs.Package.{Package, Interface}
 use Rattle.gr_verdict.specs.declared.fault.FileFault.{FileFault}
 use Rattle.gr_verdict.specs.FaultLists.{ListsPackageFaults}
 use Rattle.gr_verdict.specs.Verdicts.{Verdicts, AreVerdictsBelow, IsPackageIn}

@@ -1,5 +1,6 @@
 //! What a Job is of, built.
 ghost use Rattle.std.specs.Prelude.{◌≡◌, IfOk};
+ghost use Rattle.gr_verdict.specs.Found.{KnowsVerdicts};
 ghost use Rattle.gr_compile.specs.Builds.{IsBuiltOf};
 ghost use Rattle.gr_compile.specs.Units.{IsUnitIn};
 
@@ -8,20 +9,24 @@ use crate::job::Job;
 use crate::unit::Unit;
 use gr_expr::symbol::SharedPath;
 use gr_graph::Graph;
+use gr_verdict::Known;
 use std::alloc::{AllocError, Global};
 use std::marker::Model;
 
-/// The unit of a package, with the inputs that it was built from, and the number of the state that they are of.
+/// The unit of a package, with the inputs that it was built from, and the number of the state that they are of; and what is known of
+/// packages of the inputs since it was built.
 #[derive(Drop)]
 pub struct Built {
     number: u64,
     package: SharedPath,
     inputs: Graph,
     unit: Unit,
+    known: Known,
 }
 
 impl Model for Built {
     ghost use Rattle.std.specs.Coded.{codes};
+    ghost use Rattle.gr_verdict.specs.Found.{KnowsVerdicts};
     ghost use Rattle.gr_compile.specs.BuiltUnits.{BuiltUnit};
     ghost use Rattle.gr_compile.specs.Codes.{unit_code, workspace_code};
     ghost use Rattle.gr_compile.specs.Units.{IsUnitIn};
@@ -32,7 +37,7 @@ impl Model for Built {
 
     ghost view = { λ a. record { number = a.number; «package» = a.package; inputs = a.inputs; unit = a.unit } };
 
-    ghost invariant = { λ a. IsUnitIn a.inputs a.package a.unit };
+    ghost invariant = { λ a. IsUnitIn a.inputs a.package a.unit × KnowsVerdicts a.inputs a.known };
 }
 
 impl Built {
@@ -62,6 +67,13 @@ impl Built {
         &self.unit
     }
 
+    /// What is known of packages of the inputs: the verdicts on the package and on those that it builds on, if no more.
+    pub fn known(&self) -> &Known
+        ensures { KnowsVerdicts self.now.inputs result.now }
+    {
+        &self.known
+    }
+
     /// Whatever was built is the unit of the package in the inputs.
     pub fn is_right(&self)
         ensures { IsUnitIn self.now.inputs self.now.package self.now.unit }
@@ -70,17 +82,19 @@ impl Built {
     }
 }
 
-/// Builds what a Job is of. Of a path that is no package of the Job's inputs something is answered too, of which nothing is said.
+/// Builds what a Job is of. Of the packages of its inputs only the one that is built and those are checked of which it brings
+/// nothing. Of a path that is no package of the Job's inputs something is answered too, of which nothing is said.
 pub fn build(alloc: Global, job: &Job) -> Result<Built, AllocError>
     ensures { IfOk result (IsBuiltOf job.now) }
 {
     let package = job.package().clone()?;
     let inputs = job.inputs().clone()?;
-    let unit = unit_in(alloc, &inputs, &package)?;
+    let made = unit_in(alloc, &inputs, &package, job.known())?;
     Ok(Built {
         number: job.number(),
         package,
         inputs,
-        unit,
+        unit: made.unit,
+        known: made.known,
     })
 }

@@ -1,21 +1,23 @@
 //! The unit of a package.
 ghost use Rattle.std.specs.Prelude.{◌≡◌, ℕ, [], Some, slice_get, IfOk};
 ghost use Rattle.gr_text.specs.Packages.{package_paths};
+ghost use Rattle.gr_text.specs.Workspace.{Workspace};
 ghost use Rattle.gr_expr.specs.WorldView.{definitions_at, ranked};
-ghost use Rattle.gr_types.specs.InterfacesView.{interface_in};
-ghost use Rattle.gr_compile.specs.Compiling.{HoldsFaults, IsFaultless};
-ghost use Rattle.gr_compile.specs.Units.{IsCompiled, IsUnitIn, IsUnitOf};
+ghost use Rattle.gr_declared.specs.InterfacesView.{interface_in};
+ghost use Rattle.gr_verdict.specs.Found.{IsFoundBy, KnowsVerdicts};
+ghost use Rattle.gr_compile.specs.Compiling.{HoldsFaults, IsFaultless, IsMade, IsMadeIn};
+ghost use Rattle.gr_compile.specs.Units.{IsCompiled, IsUnitOf};
 
 use crate::naming::names_below;
 use crate::unit::{Compiled, Unit};
+use gr_declared::Interfaces;
 use gr_expr::found::MemberUse;
 use gr_expr::symbol::SharedPath;
 use gr_expr::world::Definition;
 use gr_graph::Graph;
 use gr_object::objects::object;
 use gr_text::FileText;
-use gr_types::Interfaces;
-use gr_verdict::{FileFault, Finding, seen, verdicts};
+use gr_verdict::{FileFault, Finding, Known, OneFinding, finding_of, seen};
 use std::alloc::{AllocError, Global};
 
 /// The type definitions of a package, by their ranks.
@@ -98,43 +100,83 @@ fn faulty_unit(alloc: Global, faults: Vec<FileFault>) -> Result<Unit, AllocError
     Unit::new(alloc, Compiled::Faults { first, others })
 }
 
-/// The unit of a package of a graph.
-fn unit_of(
+/// A unit, and what is known of packages then.
+#[derive(Drop)]
+pub(crate) struct Made {
+    pub(crate) unit: Unit,
+    pub(crate) known: Known,
+}
+
+/// The unit of a package of a graph, by what was found in it.
+fn unit_by(
     alloc: Global,
     graph: &Graph,
     number: usize,
     path: &SharedPath,
+    finding: Finding,
+    all: &Interfaces,
 ) -> Result<Unit, AllocError>
-    requires { slice_get (package_paths graph.now) number ≡ Some path.now }
+    requires at { slice_get (package_paths graph.now) number ≡ Some path.now }
+    requires found { IsFoundBy graph.now path.now all.now finding }
     ensures { IfOk result (IsUnitOf graph.now path.now) }
 {
-    let mut found = verdicts(alloc, graph)?;
     let Finding {
         path: own,
         faults,
         members,
-    } = found.packages.remove(number);
+    } = finding;
     drop(own);
     if faults.is_empty() {
-        faultless_unit(alloc, graph, number, path, &found.interfaces, &members)
+        faultless_unit(alloc, graph, number, path, all, &members)
     } else {
         faulty_unit(alloc, faults)
     }
 }
 
-/// What stands for the unit of a path that is no package.
-fn no_unit(alloc: Global) -> Result<Unit, AllocError> {
-    let interface = Interfaces::new(alloc);
-    let object = FileText::new(alloc, Vec::new(alloc))?;
-    Unit::new(alloc, Compiled::Done { interface, object })
+/// The unit of a package of a graph. What is known of other packages is not found again.
+fn unit_of(
+    alloc: Global,
+    graph: &Graph,
+    number: usize,
+    path: &SharedPath,
+    known: &Known,
+) -> Result<Made, AllocError>
+    requires at { slice_get (package_paths graph.now) number ≡ Some path.now }
+    requires known { KnowsVerdicts graph.now known.now }
+    ensures { IfOk result (IsMade graph.now path.now) }
+{
+    let OneFinding {
+        finding,
+        interfaces,
+        known,
+    } = finding_of(alloc, graph, number, known)?;
+    let unit = unit_by(alloc, graph, number, path, finding, &interfaces)?;
+    Ok(Made { unit, known })
 }
 
-/// The unit of a package, if it is one of a graph.
-pub(crate) fn unit_in(alloc: Global, graph: &Graph, path: &SharedPath) -> Result<Unit, AllocError>
-    ensures { IfOk result (IsUnitIn graph.now path.now) }
+/// What stands for the unit of a path that is no package.
+fn no_unit(alloc: Global) -> Result<Made, AllocError>
+    ensures { IfOk result (λ made. (w : Workspace) → KnowsVerdicts w made.known) }
+{
+    let interface = Interfaces::new(alloc);
+    let object = FileText::new(alloc, Vec::new(alloc))?;
+    let unit = Unit::new(alloc, Compiled::Done { interface, object })?;
+    let known = Known::new(alloc);
+    Ok(Made { unit, known })
+}
+
+/// The unit of a package, if it is one of a graph, where some is known of packages.
+pub(crate) fn unit_in(
+    alloc: Global,
+    graph: &Graph,
+    path: &SharedPath,
+    known: &Known,
+) -> Result<Made, AllocError>
+    requires { KnowsVerdicts graph.now known.now }
+    ensures { IfOk result (IsMadeIn graph.now path.now) }
 {
     match graph.number_of(path.path()) {
-        Some(number) => unit_of(alloc, graph, number, path),
+        Some(number) => unit_of(alloc, graph, number, path, known),
         None => no_unit(alloc),
     }
 }

@@ -1,11 +1,13 @@
 //! The Jobs that are out.
 ghost use Rattle.std.specs.Prelude.{◌≡◌, ◌↔◌, ◌<◌, [], IfOk, IsTrue, MatchOption, Some, length, slice_get};
 ghost use Rattle.std.specs.List.{Contains};
+ghost use Rattle.gr_verdict.specs.Found.{KnowsVerdicts};
 ghost use Rattle.gr_compile.specs.Jobs.{HandsOut, IsOut, IsTaken, TakesBack, label_of};
 
 use crate::job::{Job, JobRecord};
 use gr_expr::symbol::SharedPath;
 use gr_graph::Graph;
+use gr_verdict::Known;
 use std::alloc::{AllocError, Global};
 use std::marker::Model;
 
@@ -101,16 +103,18 @@ impl Out {
         false
     }
 
-    /// Hands out a Job with the next ticket. It is for the caller to see that the path is that of a package of the inputs: of
-    /// any other nothing is said of what is built.
+    /// Hands out a Job with the next ticket, and with what is known of packages of its inputs. It is for the caller to see that
+    /// the path is that of a package of the inputs: of any other nothing is said of what is built.
     pub fn hand_out(
         &mut self,
         number: u64,
         visit: u64,
         path: SharedPath,
         inputs: Graph,
+        known: Known,
     ) -> Result<Job, AllocError>
-        requires { self.old.ticket < u64.MAX }
+        requires ticket { self.old.ticket < u64.MAX }
+        requires known { KnowsVerdicts inputs known }
         ensures { HandsOut self.old number visit path inputs result self.new }
     {
         let ticket = self.next;
@@ -122,13 +126,14 @@ impl Out {
         };
         self.labels.push(label)?;
         self.next += 1;
-        Ok(Job::new(JobRecord {
+        let record = JobRecord {
             ticket,
             number,
             visit,
             package: path,
             inputs,
-        }))
+        };
+        Ok(Job::new(record, known))
     }
 
     /// Takes a Job back that is out. It takes no memory.

@@ -2,8 +2,8 @@
 ghost use Rattle.std.specs.Prelude.{◌≡◌, MatchResult, Ok, Err, IfOk};
 ghost use Rattle.gr_compile.specs.Builds.{result_of};
 
+use gr_declared::Interfaces;
 use gr_text::FileText;
-use gr_types::Interfaces;
 use gr_verdict::FileFault;
 use std::alloc::{AllocError, Global};
 use std::marker::Model;

@@ -15,7 +15,7 @@ use Rattle.gr_compile.specs.Builds.{result_of}
 use Rattle.gr_compile.specs.declared.unit.Unit.{Unit as PackageUnit}
 use Rattle.gr_space.specs.Finished.{IsFinished}
 use Rattle.gr_space.specs.declared.view.View.{View}
-use Rattle.gr_check.specs.Uses.{TellsUses}
+use Rattle.gr_bound.specs.Uses.{TellsUses}
 
 -- reading one file
 abbrev pub Cats : View → List ℕ → Result (List ℕ) Refusal → Type 0

@@ -95,7 +95,7 @@ fn place_lines(alloc: Global, places: &[Place]) -> Result<Vec<u8>, AllocError>
 pub fn uses(alloc: Global, view: &View, path: &str, offset: usize) -> Result<Bytes, Refusal>
     ensures { WritesUses view.now path.now offset result }
 {
-    let places = gr_check::uses(alloc, &view.snapshot.files, path, offset)?;
+    let places = gr_bound::uses(alloc, &view.snapshot.files, path, offset)?;
     let lines = place_lines(alloc, places.as_slice())?;
     Ok(Bytes::new(lines))
 }

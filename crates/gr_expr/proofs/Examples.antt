@@ -1,9 +1,9 @@
 -- What the definitions give on small expressions, by computation: where each kind of fault stands.
 use Rattle.std.proofs.Common.{ℕ, ◌≡◌, ◌==◌, [], ◌∷◌, List, Option, Some, None, true, false, refl, map, if◌then◌else◌}
-use Rattle.gr_parse.specs.declared.syntax.BinaryOp.TheVariants as op
-use Rattle.gr_parse.specs.declared.syntax.PrefixOp.TheVariants as prefix
-use Rattle.gr_parse.specs.Tree.{ExprTree, Number, Text, Name, Composite, Paren, Prefix, Address, Chain, Binary, no_operand, operand, LinkTrees, no_link, selector, index, call, ArgumentTrees, no_argument, argument, TypeTree, literal, ElementTrees, no_element, element}
-use Rattle.gr_parse.specs.Tree.{Local as LocalType, Imported as ImportedType, Pointer as PointerType, Slice as SliceType}
+use Rattle.gr_tree.specs.declared.syntax.BinaryOp.TheVariants as op
+use Rattle.gr_tree.specs.declared.syntax.PrefixOp.TheVariants as prefix
+use Rattle.gr_tree.specs.Tree.{ExprTree, Number, Text, Name, Composite, Paren, Prefix, Address, Chain, Binary, no_operand, operand, LinkTrees, no_link, selector, index, call, ArgumentTrees, no_argument, argument, TypeTree, literal, ElementTrees, no_element, element}
+use Rattle.gr_tree.specs.Tree.{Local as LocalType, Imported as ImportedType, Pointer as PointerType, Slice as SliceType}
 use Rattle.gr_expr.specs.declared.types.Basic.TheVariants as basic
 use Rattle.gr_expr.specs.declared.types.Builtin.TheVariants as builtin
 use Rattle.gr_expr.specs.declared.symbol.Symbol.{Symbol}

@@ -1,13 +1,13 @@
 -- The parts of an expression's tree, from the lists that src/ holds them in.
 use Rattle.std.proofs.Common.{ℕ, ◌≡◌, ap, ◌∙◌, sym, refl}
-use Rattle.gr_parse.specs.declared.tree.Expr.{Row_of-Link, end_of-Link, more_of-Link, items-the_row-Link, items_hidden-the_row-Link-0, Row_of-Operand, end_of-Operand, more_of-Operand, items-the_row-Operand, items_hidden-the_row-Operand-1}
-use Rattle.gr_parse.specs.declared.tree.Expr.TheBlock.{hidden-the_row-Link-0, hidden-the_row-Operand-1, hidden-the_row-ExprItem-2}
-use Rattle.gr_parse.specs.declared.tree.Expr.TheVariants as expr
-use Rattle.gr_parse.specs.declared.tree.Link.{Link, Row_of-ExprItem, end_of-ExprItem, more_of-ExprItem, items-the_row-ExprItem, items_hidden-the_row-ExprItem-2}
-use Rattle.gr_parse.specs.declared.tree.Link.TheVariants as link
-use Rattle.gr_parse.specs.declared.tree.CompositeLit.{CompositeLit, CompositeLit', out-CompositeLit, Row_of-Element, end_of-Element, more_of-Element, items-the_row-Element, items_shown-the_row-Element-3, outs-CompositeLit'}
-use Rattle.gr_parse.specs.Tree as tree
-use Rattle.gr_parse.specs.View.{type_view, expr_view, literal_view, link_view, links_view, operands_view, arguments_view, elements_view, key_view}
+use Rattle.gr_tree.specs.declared.tree.Expr.{Row_of-Link, end_of-Link, more_of-Link, items-the_row-Link, items_hidden-the_row-Link-0, Row_of-Operand, end_of-Operand, more_of-Operand, items-the_row-Operand, items_hidden-the_row-Operand-1}
+use Rattle.gr_tree.specs.declared.tree.Expr.TheBlock.{hidden-the_row-Link-0, hidden-the_row-Operand-1, hidden-the_row-ExprItem-2}
+use Rattle.gr_tree.specs.declared.tree.Expr.TheVariants as expr
+use Rattle.gr_tree.specs.declared.tree.Link.{Link, Row_of-ExprItem, end_of-ExprItem, more_of-ExprItem, items-the_row-ExprItem, items_hidden-the_row-ExprItem-2}
+use Rattle.gr_tree.specs.declared.tree.Link.TheVariants as link
+use Rattle.gr_tree.specs.declared.tree.CompositeLit.{CompositeLit, CompositeLit', out-CompositeLit, Row_of-Element, end_of-Element, more_of-Element, items-the_row-Element, items_shown-the_row-Element-3, outs-CompositeLit'}
+use Rattle.gr_tree.specs.Tree as tree
+use Rattle.gr_tree.specs.View.{type_view, expr_view, literal_view, link_view, links_view, operands_view, arguments_view, elements_view, key_view}
 use Rattle.gr_expr.specs.Lists.{links_in, operands_in, arguments_in, elements_in}
 use Rattle.gr_expr.specs.Places.{first_of_type, first_of_literal, place_behind, place_of, place_of_links, first_token}
 

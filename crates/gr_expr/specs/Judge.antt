@@ -1,10 +1,10 @@
 -- What an expression stands for, the faults in it, and the members that its names bring: one rule for each form. A rule
 -- answers with a fault only where its parts are whole; on a part that is broken it answers Broken and nothing else.
 use Rattle.std.specs.Prelude.{ℕ, ◌==◌, Bool, true, false, ◌&&◌, ◌||◌, if◌then◌else◌, List, [], ◌∷◌, ◌++◌, Option, Some, None, length, option_map}
-use Rattle.gr_parse.specs.declared.syntax.BinaryOp.{BinaryOp}
-use Rattle.gr_parse.specs.declared.syntax.PrefixOp.{PrefixOp}
-use Rattle.gr_parse.specs.Tree.{TypeTree, ExprTree, Number, Text, Name, Blank, Composite, Paren, Prefix, Address, Chain, Binary, OperandTrees, no_operand, operand, LinkTrees, no_link, selector, index, call, ArgumentTrees, no_argument, argument, LiteralTree, literal, ElementTrees, no_element, element}
-use Rattle.gr_parse.specs.Tree.{Local as LocalType, Imported as ImportedType, Pointer as PointerType, Slice as SliceType}
+use Rattle.gr_tree.specs.declared.syntax.BinaryOp.{BinaryOp}
+use Rattle.gr_tree.specs.declared.syntax.PrefixOp.{PrefixOp}
+use Rattle.gr_tree.specs.Tree.{TypeTree, ExprTree, Number, Text, Name, Blank, Composite, Paren, Prefix, Address, Chain, Binary, OperandTrees, no_operand, operand, LinkTrees, no_link, selector, index, call, ArgumentTrees, no_argument, argument, LiteralTree, literal, ElementTrees, no_element, element}
+use Rattle.gr_tree.specs.Tree.{Local as LocalType, Imported as ImportedType, Pointer as PointerType, Slice as SliceType}
 use Rattle.gr_expr.specs.declared.types.Basic.TheVariants as basic
 use Rattle.gr_expr.specs.declared.types.Builtin.{Builtin}
 use Rattle.gr_expr.specs.declared.types.Builtin.TheVariants as builtin

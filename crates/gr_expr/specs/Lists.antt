@@ -1,11 +1,11 @@
 -- Lists of parts of an expression in src/, as the trees have them.
 use Rattle.std.specs.Prelude.{List, [], ◌∷◌}
-use Rattle.gr_parse.specs.Tree as tree
-use Rattle.gr_parse.specs.declared.tree.Link.{Link}
-use Rattle.gr_parse.specs.declared.tree.Operand.{Operand}
-use Rattle.gr_parse.specs.declared.tree.ExprItem.{ExprItem}
-use Rattle.gr_parse.specs.declared.tree.Element.{Element}
-use Rattle.gr_parse.specs.View.{expr_view, link_view, key_view}
+use Rattle.gr_tree.specs.Tree as tree
+use Rattle.gr_tree.specs.declared.tree.Link.{Link}
+use Rattle.gr_tree.specs.declared.tree.Operand.{Operand}
+use Rattle.gr_tree.specs.declared.tree.ExprItem.{ExprItem}
+use Rattle.gr_tree.specs.declared.tree.Element.{Element}
+use Rattle.gr_tree.specs.View.{expr_view, link_view, key_view}
 
 unfoldable pub links_in : List Link → tree.LinkTrees
 links_in [] = tree.no_link

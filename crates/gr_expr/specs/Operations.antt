@@ -1,9 +1,9 @@
 -- The rules of the operations: which values fit a type, which operands go together, and the kind of the result.
 use Rattle.std.specs.Prelude.{Bool, true, false, ◌&&◌, ◌||◌, if◌then◌else◌, Option, Some, None}
-use Rattle.gr_parse.specs.declared.syntax.BinaryOp.{BinaryOp}
-use Rattle.gr_parse.specs.declared.syntax.BinaryOp.TheVariants as op
-use Rattle.gr_parse.specs.declared.syntax.PrefixOp.{PrefixOp}
-use Rattle.gr_parse.specs.declared.syntax.PrefixOp.TheVariants as prefix
+use Rattle.gr_tree.specs.declared.syntax.BinaryOp.{BinaryOp}
+use Rattle.gr_tree.specs.declared.syntax.BinaryOp.TheVariants as op
+use Rattle.gr_tree.specs.declared.syntax.PrefixOp.{PrefixOp}
+use Rattle.gr_tree.specs.declared.syntax.PrefixOp.TheVariants as prefix
 use Rattle.gr_expr.specs.declared.types.Basic.TheVariants as basic
 use Rattle.gr_expr.specs.declared.classes.Class.{Class}
 use Rattle.gr_expr.specs.declared.classes.Class.TheVariants as class

@@ -1,7 +1,7 @@
 //! What expressions stand for, and the faults and member uses in them.
 ghost use Rattle.std.specs.Prelude.{◌≡◌, IfOk, map, option_map};
-ghost use Rattle.gr_parse.specs.Tree.{no_link};
-ghost use Rattle.gr_parse.specs.View.{expr_view, link_view, literal_view};
+ghost use Rattle.gr_tree.specs.Tree.{no_link};
+ghost use Rattle.gr_tree.specs.View.{expr_view, link_view, literal_view};
 ghost use Rattle.gr_expr.specs.Judge.{judge, judge_value, judge_link, judge_links, judge_operands, judge_arguments, judge_literal, judge_elements, none_seen};
 ghost use Rattle.gr_expr.specs.View.{type_of};
 ghost use Rattle.gr_expr.specs.WorldView.{world_of};
@@ -14,7 +14,7 @@ use crate::literals::Elements;
 use crate::meaning::{Argued, Meaning};
 use crate::places::{first_of_type, first_token, place_behind, place_of};
 use crate::types::{Basic, GoType, Kind};
-use gr_parse::tree::{CompositeLit, Element, Expr, ExprItem, Link, Operand};
+use gr_tree::tree::{CompositeLit, Element, Expr, ExprItem, Link, Operand};
 use std::alloc::{AllocError, Global};
 
 /// What an expression stands for. Its faults and member uses are added to what was found.

@@ -1,6 +1,6 @@
 //! Keys of composite literals.
 ghost use Rattle.std.specs.Prelude.{◌≡◌, IfOk, OnOk, option_map, map, ◌++◌, ◌∷◌, []};
-ghost use Rattle.gr_parse.specs.View.{key_view};
+ghost use Rattle.gr_tree.specs.View.{key_view};
 ghost use Rattle.gr_expr.specs.Judge.{none_seen, seen_with, key_at, element_key, seen_after, key_faults, is_whole_key, wanted_behind, member_in};
 ghost use Rattle.gr_expr.specs.World.{underlying};
 ghost use Rattle.gr_expr.specs.Types.{element_of};
@@ -11,7 +11,7 @@ ghost use Rattle.gr_expr.specs.Found.{seen_of, key_of, use_of, AddsKey};
 use crate::found::{Found, MemberUse};
 use crate::types::GoType;
 use crate::world::{Member, Shape, World};
-use gr_parse::tree;
+use gr_tree::tree;
 use std::alloc::{AllocError, Global};
 use std::collections::BTreeSet;
 

@@ -8,7 +8,7 @@ ghost use Rattle.gr_expr.specs.WorldView.{world_of, shape_of};
 use crate::classes::{Class, Family};
 use crate::types::{Basic, GoType, Kind};
 use crate::world::{Shape, World};
-use gr_parse::syntax::BinaryOp;
+use gr_tree::syntax::BinaryOp;
 
 #[tactic(auto, unfolding(crate::specs::WorldView::shape_of, crate::specs::Types::same_underlying))]
 fn same_shape(a: Shape<'_>, b: Shape<'_>) -> bool

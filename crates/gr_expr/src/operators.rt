@@ -8,9 +8,9 @@ ghost use Rattle.gr_expr.specs.Found.{meaning_of, Adds};
 
 use crate::found::Found;
 use crate::meaning::Meaning;
-use crate::types::{GoType, Kind};
+use crate::types::{Kind, pointer_to};
 use crate::world::{Shape, World};
-use gr_parse::syntax::{BinaryOp, PrefixOp};
+use gr_tree::syntax::{BinaryOp, PrefixOp};
 use std::alloc::{AllocError, Global};
 
 impl World<'_> {
@@ -163,8 +163,8 @@ impl<'w> Meaning<'w> {
         match self {
             Meaning::Value { kind, .. } => match kind {
                 Kind::Typed(own) => {
-                    let target = Box::new(alloc, own)?;
-                    Ok(Meaning::value(Kind::Typed(GoType::Pointer(target))))
+                    let pointer = pointer_to(alloc, own)?;
+                    Ok(Meaning::value(Kind::Typed(pointer)))
                 }
                 _ => Ok(Meaning::Broken),
             },

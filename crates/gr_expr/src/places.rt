@@ -1,14 +1,14 @@
 //! Where expressions and types stand.
 ghost use Rattle.std.specs.Prelude.{◌≡◌};
-ghost use Rattle.gr_parse.specs.Tree.{no_link};
-ghost use Rattle.gr_parse.specs.View.{expr_view, link_view, type_view};
+ghost use Rattle.gr_tree.specs.Tree.{no_link};
+ghost use Rattle.gr_tree.specs.View.{expr_view, link_view, type_view};
 ghost use Rattle.gr_expr.specs.Places.{first_token, first_of_type, place_of, place_behind, place_of_links};
 ghost use Rattle.gr_expr.specs.Lists.{links_in};
 
-use gr_parse::tree::{Expr, Link, TypeExpr};
+use gr_tree::tree::{Expr, Link, TypeExpr};
 
 /// The first token of a type.
-#[tactic(auto, unfolding(gr_parse::specs::View::type_view))]
+#[tactic(auto, unfolding(gr_tree::specs::View::type_view))]
 pub(crate) fn first_of_type(t: &TypeExpr) -> usize
     ensures { result ≡ first_of_type (type_view t.now) }
 {
@@ -21,7 +21,7 @@ pub(crate) fn first_of_type(t: &TypeExpr) -> usize
 }
 
 /// The first token of an expression.
-#[tactic(auto, using(crate::proofs::Trees::first_of_literal_tree), unfolding(gr_parse::specs::View::expr_view, crate::specs::Places::first_token))]
+#[tactic(auto, using(crate::proofs::Trees::first_of_literal_tree), unfolding(gr_tree::specs::View::expr_view, crate::specs::Places::first_token))]
 pub fn first_token(e: &Expr) -> usize
     ensures { result ≡ first_token (expr_view e.now) }
 {
@@ -37,7 +37,7 @@ pub fn first_token(e: &Expr) -> usize
 }
 
 /// Where a fault of the expression itself stands: at the name behind the dot for a selector, else at its first token.
-#[tactic(auto, unfolding(gr_parse::specs::View::expr_view, crate::specs::Places::place_of))]
+#[tactic(auto, unfolding(gr_tree::specs::View::expr_view, crate::specs::Places::place_of))]
 pub fn place_of(e: &Expr) -> usize
     ensures { result ≡ place_of (expr_view e.now) }
 {
@@ -59,7 +59,7 @@ fn chain_place(start: usize, links: &[Link]) -> usize
 }
 
 /// Where a fault of a chain stands that begins at `start` and ends in that link.
-#[tactic(auto, unfolding(gr_parse::specs::View::link_view))]
+#[tactic(auto, unfolding(gr_tree::specs::View::link_view))]
 pub fn place_behind(start: usize, link: &Link) -> usize
     ensures { result ≡ place_behind start (link_view link.now no_link) }
 {

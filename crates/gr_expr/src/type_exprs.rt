@@ -1,16 +1,37 @@
 //! Types as they are written.
 ghost use Rattle.std.specs.Prelude.{◌≡◌, IfOk, option_map};
-ghost use Rattle.gr_parse.specs.View.{type_view};
+ghost use Rattle.gr_tree.specs.View.{type_view};
 ghost use Rattle.gr_expr.specs.Judge.{judge_type, named_type, imported_type, no_type_at};
+ghost use Rattle.gr_expr.specs.Types.{Pointer, Slice};
 ghost use Rattle.gr_expr.specs.View.{type_of};
 ghost use Rattle.gr_expr.specs.WorldView.{world_of, bound_in};
 ghost use Rattle.gr_expr.specs.Found.{AddsType};
 
 use crate::found::Found;
-use crate::types::GoType;
+use crate::types::{GoType, pointer_to, slice_of};
 use crate::world::{Bound, World};
-use gr_parse::tree::TypeExpr;
+use gr_tree::tree::TypeExpr;
 use std::alloc::{AllocError, Global};
+
+/// The type of pointers to values of a type, if there is one.
+fn pointer_if(alloc: Global, target: Option<GoType>) -> Result<Option<GoType>, AllocError>
+    ensures { IfOk result (λ t. option_map type_of t ≡ option_map Pointer (option_map type_of target)) }
+{
+    match target {
+        Some(target) => Ok(Some(pointer_to(alloc, target)?)),
+        None => Ok(None),
+    }
+}
+
+/// The type of slices with elements of a type, if there is one.
+fn slice_if(alloc: Global, element: Option<GoType>) -> Result<Option<GoType>, AllocError>
+    ensures { IfOk result (λ t. option_map type_of t ≡ option_map Slice (option_map type_of element)) }
+{
+    match element {
+        Some(element) => Ok(Some(slice_of(alloc, element)?)),
+        None => Ok(None),
+    }
+}
 
 impl Found {
     /// Notes that no type stands at a token.
@@ -67,7 +88,7 @@ impl Found {
     }
 
     /// The type that is written; none where it is broken.
-    #[tactic(auto, unfolding(gr_parse::specs::View::type_view, crate::specs::View::type_of, crate::specs::Judge::judge_type))]
+    #[tactic(auto, unfolding(gr_tree::specs::View::type_view, crate::specs::View::type_of, crate::specs::Judge::judge_type))]
     pub fn judge_type(
         &mut self,
         alloc: Global,
@@ -81,14 +102,14 @@ impl Found {
             TypeExpr::Imported { package, name, .. } => {
                 self.imported_type(alloc, world, *package, *name)
             }
-            TypeExpr::Pointer { target, .. } => match self.judge_type(alloc, world, target)? {
-                Some(target) => Ok(Some(GoType::Pointer(Box::new(alloc, target)?))),
-                None => Ok(None),
-            },
-            TypeExpr::Slice { element, .. } => match self.judge_type(alloc, world, element)? {
-                Some(element) => Ok(Some(GoType::Slice(Box::new(alloc, element)?))),
-                None => Ok(None),
-            },
+            TypeExpr::Pointer { target, .. } => {
+                let target = self.judge_type(alloc, world, target)?;
+                pointer_if(alloc, target)
+            }
+            TypeExpr::Slice { element, .. } => {
+                let element = self.judge_type(alloc, world, element)?;
+                slice_if(alloc, element)
+            }
         }
     }
 }

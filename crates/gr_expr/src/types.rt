@@ -1,6 +1,6 @@
 //! Types, kinds and signatures.
 ghost use Rattle.std.specs.Prelude.{◌≡◌, IfOk};
-ghost use Rattle.gr_expr.specs.Types.{same_type, same_basic, is_named, is_pointer};
+ghost use Rattle.gr_expr.specs.Types.{Defined, Pointer, Slice, same_type, same_basic, is_named, is_pointer};
 ghost use Rattle.gr_expr.specs.View.{type_of, kind_of};
 
 use crate::symbol::Symbol;
@@ -48,6 +48,33 @@ pub enum Builtin {
     Println,
 }
 
+/// The type of a definition.
+#[tactic(auto, unfolding(crate::specs::View::type_of))]
+fn defined(symbol: &Symbol) -> Result<GoType, AllocError>
+    ensures { IfOk result (λ t. type_of t ≡ Defined symbol.now) }
+{
+    let symbol = symbol.copy()?;
+    Ok(GoType::Defined(symbol))
+}
+
+/// The type of pointers to values of a type.
+#[tactic(auto, unfolding(crate::specs::View::type_of))]
+pub(crate) fn pointer_to(alloc: Global, target: GoType) -> Result<GoType, AllocError>
+    ensures { IfOk result (λ t. type_of t ≡ Pointer (type_of target)) }
+{
+    let target = Box::new(alloc, target)?;
+    Ok(GoType::Pointer(target))
+}
+
+/// The type of slices with elements of a type.
+#[tactic(auto, unfolding(crate::specs::View::type_of))]
+pub(crate) fn slice_of(alloc: Global, element: GoType) -> Result<GoType, AllocError>
+    ensures { IfOk result (λ t. type_of t ≡ Slice (type_of element)) }
+{
+    let element = Box::new(alloc, element)?;
+    Ok(GoType::Slice(element))
+}
+
 impl GoType {
     /// The same type, in other memory.
     #[tactic(auto, unfolding(crate::specs::View::type_of))]
@@ -56,15 +83,9 @@ impl GoType {
     {
         match self {
             GoType::Basic(basic) => Ok(GoType::Basic(*basic)),
-            GoType::Defined(symbol) => Ok(GoType::Defined(symbol.copy()?)),
-            GoType::Pointer(target) => {
-                let target = target.copy(alloc)?;
-                Ok(GoType::Pointer(Box::new(alloc, target)?))
-            }
-            GoType::Slice(element) => {
-                let element = element.copy(alloc)?;
-                Ok(GoType::Slice(Box::new(alloc, element)?))
-            }
+            GoType::Defined(symbol) => defined(symbol),
+            GoType::Pointer(target) => pointer_to(alloc, target.copy(alloc)?),
+            GoType::Slice(element) => slice_of(alloc, element.copy(alloc)?),
         }
     }
 

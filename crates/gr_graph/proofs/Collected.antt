@@ -18,7 +18,7 @@ use Rattle.gr_scan.proofs.StringValueLemmas.{one_string_value}
 use Rattle.std.specs.List.Sorted.{IsStrictlySortedBy}
 use Rattle.gr_text.specs.Workspace.{path_cmp}
 use Rattle.gr_graph.proofs.PackagePaths.{one_number}
-use Rattle.gr_parse.specs.SourceFile.{SourceFile, FileParts, source_of}
+use Rattle.gr_tree.specs.SourceFile.{SourceFile, FileParts, source_of}
 use Rattle.gr_graph.specs.FileImports.{import_literals, HasValue, HasPieceValue, ListsImports}
 use Rattle.gr_graph.specs.Imports.{Holds}
 use Rattle.gr_graph.specs.Packages.{ImportsPath}

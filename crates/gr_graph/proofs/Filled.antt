@@ -10,7 +10,7 @@ use Rattle.std.proofs.lemmas.List.{append_assoc}
 use Rattle.std.proofs.lemmas.Option.{slice_get-map, slice_get_within, get_or_from_slice_get, none-some, same_Some}
 use Rattle.gr_text.specs.Path.{folder}
 use Rattle.gr_text.specs.Workspace.{path_cmp}
-use Rattle.gr_parse.specs.SourceFile.{FileParts}
+use Rattle.gr_tree.specs.SourceFile.{FileParts}
 use Rattle.gr_graph.specs.FaultyFiles.{FaultyParts}
 use Rattle.gr_text.specs.Packages.{is_go}
 use Rattle.gr_graph.specs.Parsed.{AreParsed, IsParsedAs, none, tree, fault}

@@ -1,15 +1,16 @@
 -- What the trees of the code and those of the definitions say of imports is the same.
-use Rattle.std.proofs.Common.{◌≡◌, ℕ, List, [], ◌∷◌, ◌++◌, map, ap, sym, ◌∙◌, refl, Global}
+use Rattle.std.proofs.Common.{◌≡◌, ℕ, ◌+◌, ◌<◌, List, [], ◌∷◌, ◌++◌, length, get_or, take, map, ap, sym, ◌∙◌, refl, append_assoc, Global}
+use Rattle.std.proofs.lemmas.List.{map-append, take_more}
 use Rattle.std.specs.Prelude.{Vec}
 use Rattle.std.specs.List.{flat_map, AllZip}
-use Rattle.gr_parse.specs.declared.tree.ImportSpec.{ImportSpec}
-use Rattle.gr_parse.specs.declared.tree.ImportDecl.{ImportDecl}
-use Rattle.gr_parse.specs.declared.tree.Item.{Item}
-use Rattle.gr_parse.specs.declared.tree.File.{File}
-use Rattle.gr_parse.specs.declared.tree.Group.{Group}
-use Rattle.gr_parse.specs.declared.tree.Group.TheVariants as group
-use Rattle.gr_parse.specs.View.{list_view, group_view}
-use Rattle.gr_parse.specs.FileView.{import_view, imports_view, file_view}
+use Rattle.gr_tree.specs.declared.tree.ImportSpec.{ImportSpec}
+use Rattle.gr_tree.specs.declared.tree.ImportDecl.{ImportDecl}
+use Rattle.gr_tree.specs.declared.tree.Item.{Item}
+use Rattle.gr_tree.specs.declared.tree.File.{File}
+use Rattle.gr_tree.specs.declared.tree.Group.{Group}
+use Rattle.gr_tree.specs.declared.tree.Group.TheVariants as group
+use Rattle.gr_tree.specs.View.{list_view, group_view}
+use Rattle.gr_tree.specs.FileView.{import_view, imports_view, file_view}
 use Rattle.gr_graph.specs.FileImports.{paths_in, import_literals}
 
 pub item_paths : (items : List (Item ImportSpec)) → map (λ item. item.value.path) (list_view import_view items) ≡ map (λ item. item.value.path) items
@@ -40,3 +41,10 @@ zip_push R [] [] x y all here = (here, tt)
 zip_push R [] (z ∷ ys) x y all here = absurd all
 zip_push R (z ∷ xs) [] x y all here = absurd all
 zip_push R (z ∷ xs) (u ∷ ys) x y all here = (all.0, zip_push R xs ys x y all.1 here)
+
+-- the numbers of one more of some items
+pub one_more : {X : Type 0} (f : X → ℕ) (xs : List X) (i : ℕ) (d : X) (start : List ℕ) {before after : List ℕ} →
+    i < length xs → before ≡ start ++ map f (take i xs) → after ≡ before ++ (f (get_or xs i d) ∷ []) → after ≡ start ++ map f (take (i + 1) xs)
+one_more f xs i d start lt so_far more =
+    more ∙ (ap (λ l. l ++ (f (get_or xs i d) ∷ [])) so_far ∙ (append_assoc start (map f (take i xs)) (f (get_or xs i d) ∷ [])
+    ∙ ap (λ l. start ++ l) (sym (map-append f (take i xs) (get_or xs i d ∷ [])) ∙ ap (map f) (sym (take_more xs i d lt)))))

@@ -5,13 +5,13 @@ use Rattle.gr_scan.specs.declared.refusal.Fault.{Fault}
 use Rattle.gr_scan.specs.Cuts.{IsCut, IsFirstFault}
 use Rattle.gr_scan.specs.CutText.{CutText}
 use Rattle.gr_scan.proofs.OneCutLemmas.{one_cut, cut_or_fault}
-use Rattle.gr_parse.specs.Faults.{IsSound, IsFaultOf, IsFaultOfTokens}
-use Rattle.gr_parse.specs.Kinds.{kinds_of}
-use Rattle.gr_parse.specs.SourceFile.{SourceFile}
-use Rattle.gr_parse.specs.Verdict.{IsWhole, Verdict, Whole, Faulty}
-use Rattle.gr_parse.specs.WellFormed.{IsTreeOf}
+use Rattle.gr_tree.specs.Faults.{IsSound, IsFaultOf, IsFaultOfTokens}
+use Rattle.gr_tree.specs.Kinds.{kinds_of}
+use Rattle.gr_tree.specs.SourceFile.{SourceFile}
+use Rattle.gr_tree.specs.Verdict.{IsWhole, Verdict, Whole, Faulty}
+use Rattle.gr_tree.specs.WellFormed.{IsTreeOf}
 use Rattle.gr_parse.proofs.OneTree.{one_tree}
-use Rattle.gr_parse.proofs.OneVerdict.{one_verdict}
+use Rattle.gr_tree.proofs.OneVerdict.{one_verdict}
 use Rattle.gr_graph.specs.Packages.{IsParsed}
 
 same_cut : (c d : CutText) → c.text ≡ d.text → IsCut c.text c.pieces → IsCut d.text d.pieces → c ≡ d

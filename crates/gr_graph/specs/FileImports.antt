@@ -5,8 +5,8 @@ use Rattle.gr_scan.specs.declared.piece.Piece.{Piece}
 use Rattle.gr_scan.specs.Cuts.{bytes_of}
 use Rattle.gr_scan.specs.CutText.{tokens_in}
 use Rattle.gr_scan.specs.TokenValues.{HasTokenValue}
-use Rattle.gr_parse.specs.Tree.{FileTree, ImportTree, Group, single, several}
-use Rattle.gr_parse.specs.SourceFile.{SourceFile}
+use Rattle.gr_tree.specs.Tree.{FileTree, ImportTree, Group, single, several}
+use Rattle.gr_tree.specs.SourceFile.{SourceFile}
 use Rattle.gr_graph.specs.declared.file_imports.FileImport.{FileImport}
 
 -- the path literals of a group of imports

@@ -8,7 +8,7 @@ use Rattle.gr_scan.specs.TokenValues.{IsStringClass}
 use Rattle.gr_scan.specs.declared.piece.Piece.{Piece}
 use Rattle.gr_scan.specs.Cuts.{bytes_of}
 use Rattle.gr_scan.specs.CutText.{tokens_in}
-use Rattle.gr_parse.specs.SourceFile.{SourceFile, IsSourceFile}
+use Rattle.gr_tree.specs.SourceFile.{SourceFile, IsSourceFile}
 use Rattle.gr_graph.specs.FileImports.{import_literals}
 use Rattle.gr_graph.specs.Imports.{Links, AreLinked, Imports}
 

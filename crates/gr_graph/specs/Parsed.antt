@@ -1,7 +1,7 @@
 -- The files of a package as they were parsed.
 use Rattle.std.specs.Prelude.{◌≡◌, ℕ, List, [], ◌∷◌}
-use Rattle.gr_parse.specs.Faults.{IsFaultOf}
-use Rattle.gr_parse.specs.SourceFile.{FileParts, source_of}
+use Rattle.gr_tree.specs.Faults.{IsFaultOf}
+use Rattle.gr_tree.specs.SourceFile.{FileParts, source_of}
 use Rattle.gr_graph.specs.FaultyFiles.{FaultyParts}
 use Rattle.gr_graph.specs.declared.parsed.Parsed.{Parsed}
 use Rattle.gr_graph.specs.declared.parsed.Parsed.TheVariants as parsed

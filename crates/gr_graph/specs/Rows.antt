@@ -2,7 +2,7 @@
 use Rattle.std.specs.Prelude.{◌≡◌, ℕ, ◌↔◌, ◌⊎◌, List, Option, Some, None, slice_get, Vec}
 use Rattle.std.specs.List.{Contains}
 use Rattle.std.specs.List.Sorted.{IsStrictlyIncreasing}
-use Rattle.gr_parse.specs.SourceFile.{FileParts, source_of}
+use Rattle.gr_tree.specs.SourceFile.{FileParts, source_of}
 use Rattle.gr_graph.specs.Imports.{Holds}
 use Rattle.gr_graph.specs.Packages.{ImportsPath}
 use Rattle.gr_graph.specs.declared.file_imports.FileImport.{FileImport}

@@ -1,6 +1,6 @@
 //! A file that has no tree, with its first fault.
 ghost use Rattle.std.specs.Prelude.{◌≡◌, IfOk};
-ghost use Rattle.gr_parse.specs.Faults.{IsFaultOf};
+ghost use Rattle.gr_tree.specs.Faults.{IsFaultOf};
 
 use gr_scan::Fault;
 use gr_text::{FileText, Path};
@@ -16,7 +16,7 @@ pub struct FaultyFile {
 }
 
 impl Model for FaultyFile {
-    ghost use Rattle.gr_parse.specs.Faults.{IsFaultOf};
+    ghost use Rattle.gr_tree.specs.Faults.{IsFaultOf};
     ghost use Rattle.gr_graph.specs.FaultyFiles.{FaultyParts};
 
     ghost Value = { FaultyParts };

@@ -1,12 +1,12 @@
 //! What a file imports.
 ghost use Rattle.std.specs.Prelude.{◌≡◌, ◌++◌, map, IfOk, OnOk};
 ghost use Rattle.gr_graph.specs.FileImports.{paths_in, import_literals, HasValue, ListsImports};
-ghost use Rattle.gr_parse.specs.SourceFile.{source_of};
-ghost use Rattle.gr_parse.specs.View.{group_view};
-ghost use Rattle.gr_parse.specs.FileView.{import_view, file_view};
+ghost use Rattle.gr_tree.specs.SourceFile.{source_of};
+ghost use Rattle.gr_tree.specs.View.{group_view};
+ghost use Rattle.gr_tree.specs.FileView.{import_view, file_view};
 
-use gr_parse::FileTree;
-use gr_parse::tree::{File, Group, ImportSpec, Item};
+use gr_tree::FileTree;
+use gr_tree::tree::{File, Group, ImportSpec, Item};
 use std::alloc::{AllocError, Global};
 
 /// An import of a file: the number of its path literal among the file's tokens, and what that stands for.
@@ -34,10 +34,7 @@ fn add_group(literals: &mut Vec<usize>, group: &Group<ImportSpec>) -> Result<(),
             literals.push(spec.path)?;
             Ok(())
         }
-        Group::Several { items, .. } => {
-            add_items(literals, items)?;
-            Ok(())
-        }
+        Group::Several { items, .. } => add_items(literals, items),
     }
 }
 

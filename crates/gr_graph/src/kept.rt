@@ -2,7 +2,7 @@
 ghost use Rattle.std.specs.Prelude.{IfOk, IfSome};
 ghost use Rattle.std.specs.List.Sorted.{IsStrictlySortedBy};
 ghost use Rattle.gr_text.specs.Workspace.{path_cmp};
-ghost use Rattle.gr_parse.specs.SourceFile.{source_of};
+ghost use Rattle.gr_tree.specs.SourceFile.{source_of};
 ghost use Rattle.gr_graph.specs.Packages.{IsParsed};
 ghost use Rattle.gr_graph.specs.Parsed.{IsFaulty, IsParsedAs};
 ghost use Rattle.gr_graph.specs.Graphs.{paths_of};
@@ -10,8 +10,8 @@ ghost use Rattle.gr_graph.specs.Graphs.{paths_of};
 use crate::faulty_file::FaultyFile;
 use crate::package::{Package, number_of};
 use crate::parsed::{Parsed, parse};
-use gr_parse::FileTree;
 use gr_text::{FileText, Path};
+use gr_tree::FileTree;
 use std::alloc::{AllocError, Global};
 
 /// The tree of a file with this path and text, if it is here. The trees are in the order of their paths.

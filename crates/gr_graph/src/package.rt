@@ -6,7 +6,7 @@ ghost use Rattle.gr_text.specs.Workspace.{path_cmp};
 ghost use Rattle.gr_graph.specs.Graphs.{paths_of};
 
 use crate::faulty_file::FaultyFile;
-use gr_parse::FileTree;
+use gr_tree::FileTree;
 
 /// The Go files of a folder in the order of their paths: those that have a tree, and the others.
 #[derive(Drop)]

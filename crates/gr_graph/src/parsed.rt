@@ -1,10 +1,14 @@
 //! A file as it was parsed.
 ghost use Rattle.std.specs.Prelude.{IfOk};
+ghost use Rattle.gr_tree.specs.Faults.{IsFaultOf};
+ghost use Rattle.gr_tree.specs.SourceFile.{IsSourceFile, source_of};
 ghost use Rattle.gr_graph.specs.Parsed.{IsParsedAs};
 
 use crate::faulty_file::FaultyFile;
-use gr_parse::{FileTree, ParseRefusal, parse_file};
+use gr_parse::{ParseRefusal, parse_file};
+use gr_scan::Fault;
 use gr_text::{FileText, Path};
+use gr_tree::FileTree;
 use std::alloc::{AllocError, Global};
 
 /// A Go file's tree, or its first fault.
@@ -14,16 +18,32 @@ pub(crate) enum Parsed {
     Faulty(FaultyFile),
 }
 
+/// A file's tree is that of its cut.
+fn is_source_file(tree: &FileTree)
+    ensures { IsSourceFile (source_of tree.now) }
+{
+    let _ = tree.file();
+}
+
+/// A file without a tree, with its first fault.
+fn faulty(path: &Path, text: &FileText, fault: Fault) -> Result<Parsed, AllocError>
+    requires { IsFaultOf text.now fault }
+    ensures { IfOk result (IsParsedAs path.now text.now) }
+{
+    let file = FaultyFile::new(path, text, fault)?;
+    Ok(Parsed::Faulty(file))
+}
+
 /// Parses a file.
 pub(crate) fn parse(alloc: Global, path: &Path, text: &FileText) -> Result<Parsed, AllocError>
     ensures { IfOk result (IsParsedAs path.now text.now) }
 {
     match parse_file(alloc, path, text) {
         Ok(tree) => {
-            let _ = tree.file();
+            is_source_file(&tree);
             Ok(Parsed::Sound(tree))
         }
-        Err(ParseRefusal::Fault(fault)) => Ok(Parsed::Faulty(FaultyFile::new(path, text, fault)?)),
+        Err(ParseRefusal::Fault(fault)) => faulty(path, text, fault),
         Err(ParseRefusal::Memory) => Err(AllocError),
     }
 }

@@ -9,7 +9,7 @@ ghost use Rattle.gr_graph.specs.Rows.{AddsNumbers, HasNumber, AreImported, FileI
 use crate::file_imports::{FileImport, read_imports};
 use crate::package::{Package, number_of};
 use crate::package_list::PackageList;
-use gr_parse::FileTree;
+use gr_tree::FileTree;
 use std::alloc::{AllocError, Global};
 
 /// Adds the package that an import stands for, if it is one.

@@ -10,17 +10,17 @@ use Rattle.gr_scan.specs.Cuts.{bytes_of}
 use Rattle.gr_scan.specs.CutText.{CutText, token_at, tokens_in}
 use Rattle.gr_scan.specs.Tokens.{semicolon}
 use Rattle.gr_scan.specs.TokenValues.{HasTokenValue, IsStringClass}
-use Rattle.gr_parse.specs.SourceFile.{SourceFile}
+use Rattle.gr_tree.specs.SourceFile.{SourceFile}
 use Rattle.gr_scope.specs.Bindings.{IsPackageLevel}
 use Rattle.gr_scope.specs.Table.{StandsAt}
 use Rattle.gr_stages.specs.Files.{HasLiteral}
-use Rattle.gr_types.specs.ByToken.{IsFirstBelow}
-use Rattle.gr_types.specs.NamesView.{IsBehindDot}
-use Rattle.gr_types.specs.Package.{Package, spelled}
-use Rattle.gr_types.specs.Written.{BindsToken, IsPredeclared}
-use Rattle.gr_types.specs.Written.{ImportsPath as DeclaresImport}
-use Rattle.gr_types.proofs.Binding.{bound_nowhere}
-use Rattle.gr_types.proofs.NameParts.{no_dot}
+use Rattle.gr_declared.specs.ByToken.{IsFirstBelow}
+use Rattle.gr_meanings.specs.NamesView.{IsBehindDot}
+use Rattle.gr_declared.specs.Package.{Package, spelled}
+use Rattle.gr_declared.specs.Written.{BindsToken, IsPredeclared}
+use Rattle.gr_declared.specs.Written.{ImportsPath as DeclaresImport}
+use Rattle.gr_declared.proofs.Binding.{bound_nowhere}
+use Rattle.gr_meanings.proofs.NameParts.{no_dot}
 use Rattle.gr_object.specs.Lines.{GlobalName}
 use Rattle.gr_object.specs.Sources.{IsBehindImport, IsGlobalAt, own, imported, IsTextAt, IsTrueAt}
 

@@ -1,13 +1,13 @@
 -- The code of blocks, ifs and loops, by the parts that the program goes over.
 use Rattle.std.proofs.Common.{ℕ, ◌≡◌, ◌+◌, ◌-◌, ◌<◌, ◌≤◌, List, [], ◌∷◌, ◌++◌, length, length-append, drop, get_or, ap, ◌∙◌, sym, refl, arith, suc, append_assoc, Option, Some, None, Bool, true, false, is_some}
 use Rattle.std.proofs.lemmas.Bool.{true≢false}
-use Rattle.gr_parse.specs.Tree.{ExprTree, BlockTree}
-use Rattle.gr_parse.specs.View.{expr_view, option_view}
-use Rattle.gr_parse.specs.FileView.{init_view, stmt_view, block_view, statements_view, if_view, else_view}
-use Rattle.gr_parse.specs.declared.tree.BlockItem.{BlockItem}
-use Rattle.gr_parse.specs.declared.tree.Block as trees
-use Rattle.gr_parse.specs.declared.tree.Block.{Block', out-Block, outs-Block', Row_of-BlockItem, end_of-BlockItem, more_of-BlockItem, items-the_row-BlockItem, items_shown-the_row-BlockItem-0}
-use Rattle.gr_parse.specs.declared.tree.IfStmt.{IfStmt, IfStmt', out-IfStmt, outs-IfStmt'}
+use Rattle.gr_tree.specs.Tree.{ExprTree, BlockTree}
+use Rattle.gr_tree.specs.View.{expr_view, option_view}
+use Rattle.gr_tree.specs.FileView.{init_view, stmt_view, block_view, statements_view, if_view, else_view}
+use Rattle.gr_tree.specs.declared.tree.BlockItem.{BlockItem}
+use Rattle.gr_tree.specs.declared.tree.Block as trees
+use Rattle.gr_tree.specs.declared.tree.Block.{Block', out-Block, outs-Block', Row_of-BlockItem, end_of-BlockItem, more_of-BlockItem, items-the_row-BlockItem, items_shown-the_row-BlockItem-0}
+use Rattle.gr_tree.specs.declared.tree.IfStmt.{IfStmt, IfStmt', out-IfStmt, outs-IfStmt'}
 use Rattle.gr_expr.proofs.Items.{next_item}
 use Rattle.gr_object.specs.declared.statements.Marks.{Marks}
 use Rattle.gr_object.specs.Lines.{Line, End, Jump, JumpBack, JumpUnless}

@@ -3,12 +3,12 @@ use Rattle.std.proofs.Common.{ℕ, ◌≡◌, ◌==◌, ◌||◌, [], ◌∷◌,
 use Rattle.std.specs.Prelude.{codes}
 use Rattle.std.specs.Fmt.{digits}
 use Rattle.std.specs.List.{flat_map}
-use Rattle.gr_parse.specs.declared.syntax.BinaryOp.TheVariants as op
-use Rattle.gr_parse.specs.declared.syntax.PrefixOp.TheVariants as prefix
-use Rattle.gr_parse.specs.declared.syntax.StepOp.TheVariants as step
-use Rattle.gr_parse.specs.declared.syntax.UpdateOp.TheVariants as update
-use Rattle.gr_parse.specs.Tree as tree
-use Rattle.gr_parse.specs.Tree.{ExprTree, Number, Text, Name, Blank, Composite, Paren, Prefix, Address, Chain, Binary, no_operand, operand, LinkTrees, no_link, selector, index, call, ArgumentTrees, no_argument, argument, literal, ElementTrees, no_element, element, StatementTree, StatementTrees, no_statement, statement, BlockTree, block}
+use Rattle.gr_tree.specs.declared.syntax.BinaryOp.TheVariants as op
+use Rattle.gr_tree.specs.declared.syntax.PrefixOp.TheVariants as prefix
+use Rattle.gr_tree.specs.declared.syntax.StepOp.TheVariants as step
+use Rattle.gr_tree.specs.declared.syntax.UpdateOp.TheVariants as update
+use Rattle.gr_tree.specs.Tree as tree
+use Rattle.gr_tree.specs.Tree.{ExprTree, Number, Text, Name, Blank, Composite, Paren, Prefix, Address, Chain, Binary, no_operand, operand, LinkTrees, no_link, selector, index, call, ArgumentTrees, no_argument, argument, literal, ElementTrees, no_element, element, StatementTree, StatementTrees, no_statement, statement, BlockTree, block}
 use Rattle.gr_expr.specs.declared.types.Basic.TheVariants as basic
 use Rattle.gr_expr.specs.declared.types.Builtin.TheVariants as builtin
 use Rattle.gr_expr.specs.declared.symbol.Symbol.{Symbol}

@@ -3,12 +3,12 @@ use Rattle.std.proofs.Common.{ℕ, List, [], ◌∷◌, ◌++◌, map, length, �
 use Rattle.std.specs.Prelude.{⊤, Contains}
 use Rattle.std.specs.List.{flat_map, AllByRecursion}
 use Rattle.std.proofs.lemmas.List.Elements.{All-from_recursion, All-contains}
-use Rattle.gr_parse.specs.Tree.{Item, GlobalTree, TypeSpecTree, FuncTree, DeclTree, VarDecl, TypeDecl, FuncDecl, FileTree}
-use Rattle.gr_parse.specs.SourceFile.{SourceFile}
+use Rattle.gr_tree.specs.Tree.{Item, GlobalTree, TypeSpecTree, FuncTree, DeclTree, VarDecl, TypeDecl, FuncDecl, FileTree}
+use Rattle.gr_tree.specs.SourceFile.{SourceFile}
 use Rattle.gr_expr.specs.Types.{PlainType}
 use Rattle.gr_expr.specs.Judge.{judge_type}
 use Rattle.gr_stages.specs.Files.{group_items}
-use Rattle.gr_types.specs.Package.{Package}
+use Rattle.gr_declared.specs.Package.{Package}
 use Rattle.gr_object.specs.Lines.{FunctionName, GlobalName}
 use Rattle.gr_object.specs.Source.{Source}
 use Rattle.gr_object.specs.Names.{function_names}

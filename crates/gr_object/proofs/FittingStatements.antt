@@ -1,14 +1,14 @@
 -- The code of statements and of functions stays within its function.
 use Rattle.std.proofs.Common.{ℕ, zero, suc, ◌≡◌, ◌+◌, ◌<◌, ◌≤◌, List, [], ◌∷◌, ◌++◌, length, length-append, refl, subst, Bool, true, false, Option, Some, None, arith}
 use Rattle.std.specs.Prelude.{⊤}
-use Rattle.gr_parse.specs.declared.syntax.BinaryOp.{BinaryOp}
-use Rattle.gr_parse.specs.Tree.{Item, Group, IdentTree, Named, Underscore, TypeTree, ExprTree, Number, Text, Name, Blank, Composite, Paren, Prefix, Address, Chain, Binary, SimpleTree, Alone, Step, Update, Assign, Define, LocalTree, InitTree, ForTree, forever, while, clauses, StatementTree, Empty, Var, Simple, Inner, If, For, Break, Continue, Return, BlockTree, block, StatementTrees, no_statement, statement, IfTree, if_tree, ElseTree, no_else, else_if, else_block, FuncTree}
+use Rattle.gr_tree.specs.declared.syntax.BinaryOp.{BinaryOp}
+use Rattle.gr_tree.specs.Tree.{Item, Group, IdentTree, Named, Underscore, TypeTree, ExprTree, Number, Text, Name, Blank, Composite, Paren, Prefix, Address, Chain, Binary, SimpleTree, Alone, Step, Update, Assign, Define, LocalTree, InitTree, ForTree, forever, while, clauses, StatementTree, Empty, Var, Simple, Inner, If, For, Break, Continue, Return, BlockTree, block, StatementTrees, no_statement, statement, IfTree, if_tree, ElseTree, no_else, else_if, else_block, FuncTree}
 use Rattle.gr_expr.specs.World.{Bound, Means, BrokenVariable, BrokenFunction, BrokenType}
 use Rattle.gr_expr.specs.World.{Local as LocalName}
 use Rattle.gr_expr.specs.Judge.{judge_type}
 use Rattle.gr_stages.specs.Files.{group_items}
 use Rattle.gr_stmt.specs.Simple.{binary_of}
-use Rattle.gr_types.specs.Bound.{result_types}
+use Rattle.gr_declared.specs.Bound.{result_types}
 use Rattle.gr_object.specs.Lines.{Line, FunctionName, Duplicate, Load, Pop, Operate, Jump, JumpUnless, JumpBack, Zero, Set, BlankAddress, End, line_if_known, pops}
 use Rattle.gr_object.specs.Lines as line
 use Rattle.gr_object.specs.Source.{Source}

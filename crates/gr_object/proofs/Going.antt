@@ -1,9 +1,9 @@
 -- Links that are gone over from the last to the first, and what is wanted of what stands before them.
 use Rattle.std.proofs.Common.{ℕ, ◌≡◌, ◌+◌, ◌-◌, ◌<◌, ◌≤◌, ◌∷◌, ◌++◌, [], List, ap, sym, ◌∙◌, refl, take, length, get_or, subst, append_assoc, Bool, arith}
 use Rattle.std.proofs.lemmas.List.{take_more}
-use Rattle.gr_parse.specs.declared.tree.Link.{Link}
-use Rattle.gr_parse.specs.Tree.{no_link}
-use Rattle.gr_parse.specs.View.{link_view}
+use Rattle.gr_tree.specs.declared.tree.Link.{Link}
+use Rattle.gr_tree.specs.Tree.{no_link}
+use Rattle.gr_tree.specs.View.{link_view}
 use Rattle.gr_expr.specs.Lists.{links_in}
 use Rattle.gr_object.specs.declared.operands.Wanted.{Wanted}
 use Rattle.gr_object.specs.declared.operands.Wanted.TheVariants as wanted

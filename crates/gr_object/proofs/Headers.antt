@@ -1,8 +1,8 @@
 -- The types in the headers of functions.
 use Rattle.std.proofs.Common.{◌≡◌, ◌∷◌, ◌++◌, [], List, ap, refl, map}
-use Rattle.gr_parse.specs.declared.tree.Item.{Item}
-use Rattle.gr_parse.specs.declared.tree.TypeExpr.{TypeExpr}
-use Rattle.gr_parse.specs.View.{list_view, type_view}
+use Rattle.gr_tree.specs.declared.tree.Item.{Item}
+use Rattle.gr_tree.specs.declared.tree.TypeExpr.{TypeExpr}
+use Rattle.gr_tree.specs.View.{list_view, type_view}
 use Rattle.gr_expr.specs.World.{World}
 use Rattle.gr_object.specs.Objects.{all_written, written}
 use Rattle.gr_object.proofs.TypeParts.{for_results}

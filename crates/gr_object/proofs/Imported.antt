@@ -11,7 +11,7 @@ use Rattle.std.proofs.lemmas.List.Elements.{Contains-push, Contains-push_cases, 
 use Rattle.std.proofs.lemmas.Option.{same_Some}
 use Rattle.gr_text.specs.Workspace.{path_cmp}
 use Rattle.gr_text.proofs.WorkspaceLaws.{path_cmp_exact}
-use Rattle.gr_parse.specs.SourceFile.{SourceFile, FileParts, source_of}
+use Rattle.gr_tree.specs.SourceFile.{SourceFile, FileParts, source_of}
 use Rattle.gr_graph.specs.FileImports.{ListsImports}
 use Rattle.gr_graph.specs.Packages.{ImportsPath}
 use Rattle.gr_graph.specs.Rows.{HasNumber}

@@ -1,17 +1,17 @@
 -- What stands behind the last of some links, and the lines of tests and operators.
 use Rattle.std.proofs.Common.{ℕ, Option, Some, None, true, false, drop, ◌≡◌, ◌+◌, ◌-◌, ◌<◌, ◌≤◌, ◌∷◌, ◌++◌, [], List, ap, sym, ◌∙◌, refl, Bool, ◌==◌, ◌&&◌, zero, suc, take, length, get_or, subst, arith, append_assoc}
-use Rattle.gr_parse.specs.declared.syntax.BinaryOp.{BinaryOp}
-use Rattle.gr_parse.specs.declared.syntax.BinaryOp.TheVariants as op
-use Rattle.gr_parse.specs.declared.syntax.PrefixOp.{PrefixOp}
-use Rattle.gr_parse.specs.declared.syntax.PrefixOp.TheVariants as prefix
-use Rattle.gr_parse.specs.declared.tree.Expr.{Expr}
-use Rattle.gr_parse.specs.declared.tree.Expr.TheVariants as expr
-use Rattle.gr_parse.specs.declared.tree.Operand as operand
-use Rattle.gr_parse.specs.declared.tree.CompositeLit.{CompositeLit, out-CompositeLit}
-use Rattle.gr_parse.specs.declared.tree.Link.{Link}
-use Rattle.gr_parse.specs.declared.tree.Link.TheVariants as link
-use Rattle.gr_parse.specs.Tree.{no_link}
-use Rattle.gr_parse.specs.View.{type_view, expr_view, link_view, literal_view}
+use Rattle.gr_tree.specs.declared.syntax.BinaryOp.{BinaryOp}
+use Rattle.gr_tree.specs.declared.syntax.BinaryOp.TheVariants as op
+use Rattle.gr_tree.specs.declared.syntax.PrefixOp.{PrefixOp}
+use Rattle.gr_tree.specs.declared.syntax.PrefixOp.TheVariants as prefix
+use Rattle.gr_tree.specs.declared.tree.Expr.{Expr}
+use Rattle.gr_tree.specs.declared.tree.Expr.TheVariants as expr
+use Rattle.gr_tree.specs.declared.tree.Operand as operand
+use Rattle.gr_tree.specs.declared.tree.CompositeLit.{CompositeLit, out-CompositeLit}
+use Rattle.gr_tree.specs.declared.tree.Link.{Link}
+use Rattle.gr_tree.specs.declared.tree.Link.TheVariants as link
+use Rattle.gr_tree.specs.Tree.{no_link}
+use Rattle.gr_tree.specs.View.{type_view, expr_view, link_view, literal_view}
 use Rattle.gr_expr.specs.Lists.{links_in, operands_in, elements_in}
 use Rattle.gr_expr.specs.Types.{PlainType, is_struct}
 use Rattle.gr_expr.specs.World.{underlying}

@@ -2,7 +2,7 @@
 use Rattle.std.proofs.Common.{ℕ, ◌≡◌, ◌+◌, ◌-◌, ◌<◌, ◌≤◌, ◌∷◌, ◌++◌, [], List, ap, sym, ◌∙◌, refl, append_assoc, append-nil, length, drop, take, map, get_or, arith, zero, suc}
 use Rattle.std.proofs.Math.ListN.{drop_of_length-le}
 use Rattle.std.proofs.lemmas.List.{map-append, take_more}
-use Rattle.gr_parse.specs.Tree.{Item}
+use Rattle.gr_tree.specs.Tree.{Item}
 use Rattle.gr_expr.proofs.Items.{next_item}
 use Rattle.gr_object.proofs.Links.{same_item}
 use Rattle.gr_object.specs.Statements.{from_last}

@@ -2,14 +2,14 @@
 use Rattle.std.proofs.Common.{ℕ, ◌≡◌, ◌+◌, ◌-◌, ◌<◌, ◌≤◌, ◌∷◌, ◌++◌, [], List, None, ap, sym, ◌∙◌, refl, append_assoc, append-nil, length, length-append, drop, map, get_or, arith, suc}
 use Rattle.std.proofs.Math.ListN.{drop_of_length-le}
 use Rattle.std.proofs.lemmas.List.{drop_more}
-use Rattle.gr_parse.specs.declared.tree.Item as items
-use Rattle.gr_parse.specs.declared.tree.Field.{Field}
-use Rattle.gr_parse.specs.Tree.{Item}
-use Rattle.gr_parse.specs.View.{list_view}
-use Rattle.gr_parse.specs.FileView.{field_view, same_place}
-use Rattle.gr_parse.specs.SourceFile.{SourceFile}
-use Rattle.gr_types.specs.declared.declared.Function.{Function}
-use Rattle.gr_types.specs.DeclaredView.{function_of as placed_function}
+use Rattle.gr_tree.specs.declared.tree.Item as items
+use Rattle.gr_tree.specs.declared.tree.Field.{Field}
+use Rattle.gr_tree.specs.Tree.{Item}
+use Rattle.gr_tree.specs.View.{list_view}
+use Rattle.gr_tree.specs.FileView.{field_view, same_place}
+use Rattle.gr_tree.specs.SourceFile.{SourceFile}
+use Rattle.gr_declared.specs.declared.declared.Function.{Function}
+use Rattle.gr_declared.specs.DeclaredView.{function_of as placed_function}
 use Rattle.gr_expr.proofs.Items.{next_item}
 use Rattle.gr_object.specs.Lines.{FunctionName}
 use Rattle.gr_object.specs.Names.{function_behind, functions_behind, initializers_with, names_of_fields, positions_from}

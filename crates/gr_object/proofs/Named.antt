@@ -7,8 +7,8 @@ use Rattle.std.specs.Global.{Vec}
 use Rattle.std.specs.Map.{lookup}
 use Rattle.std.specs.Ordering.{nat_cmp}
 use Rattle.std.proofs.lemmas.Option.{none-some, same_Some}
-use Rattle.gr_types.proofs.ByteKeys.{cases_bytes}
-use Rattle.gr_types.proofs.Paths.{get_before, get_last}
+use Rattle.gr_declared.proofs.ByteKeys.{cases_bytes}
+use Rattle.gr_declared.proofs.Paths.{get_before, get_last}
 use Rattle.gr_object.specs.declared.called.PackageNames.{PackageNames}
 use Rattle.gr_object.specs.PackagesView.{names_at}
 

@@ -7,7 +7,7 @@ use Rattle.std.proofs.lemmas.Bool.Decides.{same_from_decides}
 use Rattle.std.proofs.lemmas.Option.{slice_get_within}
 use Rattle.gr_text.proofs.WorkspaceLaws.{path_cmp_total}
 use Rattle.gr_scan.proofs.StringValueLemmas.{one_string_value}
-use Rattle.gr_parse.specs.SourceFile.{SourceFile}
+use Rattle.gr_tree.specs.SourceFile.{SourceFile}
 use Rattle.gr_scope.specs.declared.model.Role.TheVariants.{NotLexical}
 use Rattle.gr_scope.specs.declared.model.Purpose.TheVariants as purpose
 use Rattle.gr_scope.specs.Bindings.{Layout, Names, IsBoundTo, use_bound, own, may_declare, is_use, is_left_name}
@@ -16,14 +16,14 @@ use Rattle.gr_scope.specs.WellFormed.{WellFormed}
 use Rattle.gr_stages.specs.Files.{HasLiteral}
 use Rattle.gr_stages.specs.Clauses.{package_name}
 use Rattle.gr_stmt.specs.Declarations.{check_file}
-use Rattle.gr_types.specs.Package.{Package, spelled}
-use Rattle.gr_types.specs.Written.{BindsToken, ImportsPath}
-use Rattle.gr_types.specs.Faults.{is_init}
-use Rattle.gr_types.specs.TypesView.{AreInOrder}
-use Rattle.gr_types.proofs.Binding.{one_first}
-use Rattle.gr_types.proofs.BoundLists.{slice_get_some}
-use Rattle.gr_types.proofs.Naming.{one_binding, one_import_path}
-use Rattle.gr_types.proofs.OneWorld.{one_world}
+use Rattle.gr_declared.specs.Package.{Package, spelled}
+use Rattle.gr_declared.specs.Written.{BindsToken, ImportsPath}
+use Rattle.gr_meanings.specs.Worlds.{is_init}
+use Rattle.gr_meanings.specs.Uniqueness.{AreInOrder}
+use Rattle.gr_declared.proofs.Binding.{one_first}
+use Rattle.gr_meanings.proofs.BoundLists.{slice_get_some}
+use Rattle.gr_declared.proofs.Naming.{one_binding, one_import_path}
+use Rattle.gr_meanings.proofs.OneWorld.{one_world}
 use Rattle.gr_object.specs.Lines.{GlobalName}
 use Rattle.gr_object.specs.Source.{Source}
 use Rattle.gr_object.specs.Names.{function_names, type_name}

@@ -6,8 +6,8 @@ use Rattle.gr_expr.specs.declared.symbol.Symbol.{Symbol}
 use Rattle.gr_expr.specs.declared.world.World.{World}
 use Rattle.gr_expr.specs.Types.{same_path}
 use Rattle.gr_expr.specs.WorldView.{definition_or_none, imported_at, definition_at, definition_in}
-use Rattle.gr_types.specs.Package.{Package, symbol_in}
-use Rattle.gr_types.specs.Definitions.{IsDefinition, AreDefinitions}
+use Rattle.gr_declared.specs.Package.{Package, symbol_in}
+use Rattle.gr_declared.specs.Definitions.{IsDefinition, AreDefinitions}
 use Rattle.gr_object.specs.ObjectView.{AreOwnDefinitions}
 
 at_own : (w : World) (s : Symbol) → w.package.now ≡ s.package → definition_in w s ≡ definition_or_none s (slice_get w.own.now s.rank)

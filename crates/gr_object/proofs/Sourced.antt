@@ -3,8 +3,8 @@ use Rattle.std.proofs.Common.{ℕ, ◌≡◌, ◌+◌, ◌==◌, ◌∷◌, ◌+
 use Rattle.std.specs.Prelude.{Option, Some, None, option_map, slice_get}
 use Rattle.std.proofs.Math.Path.{fun_ext}
 use Rattle.std.proofs.lemmas.Option.{same_Some, slice_get-map}
-use Rattle.gr_parse.specs.SourceFile.{SourceFile}
-use Rattle.gr_parse.specs.SourceFile as file
+use Rattle.gr_tree.specs.SourceFile.{SourceFile}
+use Rattle.gr_tree.specs.SourceFile as file
 use Rattle.gr_expr.specs.declared.symbol.Symbol.{Symbol}
 use Rattle.gr_expr.specs.declared.found.MemberUse.{MemberUse}
 use Rattle.gr_expr.specs.declared.world.World.{World}
@@ -14,10 +14,10 @@ use Rattle.gr_expr.specs.View.{type_of}
 use Rattle.gr_expr.specs.World as plain
 use Rattle.gr_expr.specs.WorldView.{world_of, name_in, spelling_of}
 use Rattle.gr_stmt.specs.Declarations.{check_file}
-use Rattle.gr_types.specs.Package.{Package, spelled, spelled_at}
-use Rattle.gr_types.specs.Faults.{IsWorldOf, is_init}
-use Rattle.gr_types.specs.MemberUses.{AreUsesIn}
-use Rattle.gr_types.specs.TypesView.{IsOneWorld}
+use Rattle.gr_declared.specs.Package.{Package, spelled, spelled_at}
+use Rattle.gr_meanings.specs.Worlds.{IsWorldOf, is_init}
+use Rattle.gr_meanings.specs.MemberUses.{AreUsesIn}
+use Rattle.gr_meanings.specs.Uniqueness.{IsOneWorld}
 use Rattle.gr_object.specs.declared.called.Packages.{Packages}
 use Rattle.gr_object.specs.declared.called.PackageNames.{PackageNames}
 use Rattle.gr_object.specs.declared.source.Source.{Source}

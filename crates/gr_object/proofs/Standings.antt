@@ -2,10 +2,10 @@
 use Rattle.std.proofs.Common.{ℕ, ◌≡◌, ◌∷◌, ◌++◌, [], List, ap, sym, ◌∙◌, refl, Bool, true, false, Option, Some, None, zero, suc, ◌+◌, ◌<◌, ◌==◌, ◌&&◌, length, take, get_or, arith}
 use Rattle.std.proofs.Math.Seq.{take-suc}
 use Rattle.std.proofs.lemmas.List.{take_more}
-use Rattle.gr_parse.specs.declared.tree.Link.{Link}
-use Rattle.gr_parse.specs.declared.tree.Link.TheVariants as link
-use Rattle.gr_parse.specs.Tree.{LinkTrees, no_link, selector, index, call}
-use Rattle.gr_parse.specs.View.{link_view}
+use Rattle.gr_tree.specs.declared.tree.Link.{Link}
+use Rattle.gr_tree.specs.declared.tree.Link.TheVariants as link
+use Rattle.gr_tree.specs.Tree.{LinkTrees, no_link, selector, index, call}
+use Rattle.gr_tree.specs.View.{link_view}
 use Rattle.gr_expr.specs.Lists.{links_in}
 use Rattle.gr_expr.specs.Types.{PlainType, Signature}
 use Rattle.gr_expr.specs.World.{Member, AField, AMethod, ABrokenMethod}

@@ -5,17 +5,17 @@ use Rattle.std.specs.List.{flat_map}
 use Rattle.std.proofs.lemmas.Grind.{flat_map-append}
 use Rattle.std.proofs.lemmas.List.{drop_more}
 use Rattle.std.proofs.Math.ListN.{drop_of_length-le}
-use Rattle.gr_parse.specs.declared.tree.Item.{Item}
-use Rattle.gr_parse.specs.declared.tree.TypeSpec.{TypeSpec}
-use Rattle.gr_parse.specs.declared.tree.VarSpec.{VarSpec}
-use Rattle.gr_parse.specs.declared.tree.BasicLit.{BasicLit}
-use Rattle.gr_parse.specs.declared.tree.Decl.{Decl}
-use Rattle.gr_parse.specs.Tree as tree
-use Rattle.gr_parse.specs.View.{list_view}
-use Rattle.gr_parse.specs.FileView.{basic_view, same_place, type_spec_view, global_view, decl_view}
+use Rattle.gr_tree.specs.declared.tree.Item.{Item}
+use Rattle.gr_tree.specs.declared.tree.TypeSpec.{TypeSpec}
+use Rattle.gr_tree.specs.declared.tree.VarSpec.{VarSpec}
+use Rattle.gr_tree.specs.declared.tree.BasicLit.{BasicLit}
+use Rattle.gr_tree.specs.declared.tree.Decl.{Decl}
+use Rattle.gr_tree.specs.Tree as tree
+use Rattle.gr_tree.specs.View.{list_view}
+use Rattle.gr_tree.specs.FileView.{basic_view, same_place, type_spec_view, global_view, decl_view}
 use Rattle.gr_expr.specs.Types.{PlainType}
 use Rattle.gr_expr.proofs.Items.{next_item}
-use Rattle.gr_types.specs.Bound.{result_types}
+use Rattle.gr_declared.specs.Bound.{result_types}
 use Rattle.gr_object.specs.declared.source.Source.{Source}
 use Rattle.gr_object.specs.Source as pure
 use Rattle.gr_object.specs.Lines.{FunctionName, Line}

@@ -1,16 +1,16 @@
 -- The code of expressions of src/, form by form.
 use Rattle.std.proofs.Common.{ℕ, ◌≡◌, ◌∷◌, ◌++◌, [], List, ap, sym, ◌∙◌, refl, length, suc, map, Option, Some, None}
-use Rattle.gr_parse.specs.declared.syntax.PrefixOp.{PrefixOp}
-use Rattle.gr_parse.specs.declared.tree.Expr.TheVariants as expr
-use Rattle.gr_parse.specs.declared.tree.Expr.{Expr}
-use Rattle.gr_parse.specs.declared.tree.Operand.{Operand}
-use Rattle.gr_parse.specs.declared.tree.ExprItem.{ExprItem}
-use Rattle.gr_parse.specs.declared.tree.Element.{Element}
-use Rattle.gr_parse.specs.declared.tree.Link.{Link}
-use Rattle.gr_parse.specs.declared.tree.Link.TheVariants as link
-use Rattle.gr_parse.specs.declared.tree.CompositeLit.{CompositeLit, out-CompositeLit}
-use Rattle.gr_parse.specs.Tree as tree
-use Rattle.gr_parse.specs.View.{type_view, expr_view, link_view, literal_view, key_view}
+use Rattle.gr_tree.specs.declared.syntax.PrefixOp.{PrefixOp}
+use Rattle.gr_tree.specs.declared.tree.Expr.TheVariants as expr
+use Rattle.gr_tree.specs.declared.tree.Expr.{Expr}
+use Rattle.gr_tree.specs.declared.tree.Operand.{Operand}
+use Rattle.gr_tree.specs.declared.tree.ExprItem.{ExprItem}
+use Rattle.gr_tree.specs.declared.tree.Element.{Element}
+use Rattle.gr_tree.specs.declared.tree.Link.{Link}
+use Rattle.gr_tree.specs.declared.tree.Link.TheVariants as link
+use Rattle.gr_tree.specs.declared.tree.CompositeLit.{CompositeLit, out-CompositeLit}
+use Rattle.gr_tree.specs.Tree as tree
+use Rattle.gr_tree.specs.View.{type_view, expr_view, link_view, literal_view, key_view}
 use Rattle.gr_expr.specs.Lists.{links_in, operands_in, arguments_in, elements_in}
 use Rattle.gr_expr.specs.Judge.{judge_type}
 use Rattle.gr_expr.proofs.Trees.{chain_tree, binary_tree, call_tree, literal_tree}

@@ -1,17 +1,17 @@
 -- What the parts of headers and of structs add to lists of types.
 use Rattle.std.proofs.Common.{ℕ, ◌≡◌, ◌∷◌, ◌++◌, [], List, refl, map}
 use Rattle.std.specs.List.{flat_map}
-use Rattle.gr_parse.specs.declared.tree.Item.{Item}
-use Rattle.gr_parse.specs.declared.tree.Ident.{Ident}
-use Rattle.gr_parse.specs.declared.tree.Param.{Param}
-use Rattle.gr_parse.specs.declared.tree.Field.{Field}
-use Rattle.gr_parse.specs.declared.tree.TypeExpr.{TypeExpr}
-use Rattle.gr_parse.specs.Tree.{TypeTree}
-use Rattle.gr_parse.specs.View.{list_view, ident_view, type_view}
-use Rattle.gr_parse.specs.FileView.{param_view, field_view, same_place}
+use Rattle.gr_tree.specs.declared.tree.Item.{Item}
+use Rattle.gr_tree.specs.declared.tree.Ident.{Ident}
+use Rattle.gr_tree.specs.declared.tree.Param.{Param}
+use Rattle.gr_tree.specs.declared.tree.Field.{Field}
+use Rattle.gr_tree.specs.declared.tree.TypeExpr.{TypeExpr}
+use Rattle.gr_tree.specs.Tree.{TypeTree}
+use Rattle.gr_tree.specs.View.{list_view, ident_view, type_view}
+use Rattle.gr_tree.specs.FileView.{param_view, field_view, same_place}
 use Rattle.gr_expr.specs.Types.{PlainType}
 use Rattle.gr_expr.specs.World.{World}
-use Rattle.gr_types.specs.Bound.{parameter_types}
+use Rattle.gr_declared.specs.Bound.{parameter_types}
 use Rattle.gr_object.specs.Objects.{written, all_written, field_types}
 
 -- one type for each name

@@ -1,7 +1,7 @@
 -- Values in turn, as arguments and as items.
 use Rattle.std.proofs.Common.{ℕ, ◌≡◌, ◌∷◌, ◌++◌, [], List, ap, refl}
-use Rattle.gr_parse.specs.declared.tree.ExprItem.{ExprItem}
-use Rattle.gr_parse.specs.View.{expr_view, exprs_view}
+use Rattle.gr_tree.specs.declared.tree.ExprItem.{ExprItem}
+use Rattle.gr_tree.specs.View.{expr_view, exprs_view}
 use Rattle.gr_expr.specs.Lists.{arguments_in}
 use Rattle.gr_object.specs.Source.{Source}
 use Rattle.gr_object.specs.Expressions.{argument_lines, value_lines}

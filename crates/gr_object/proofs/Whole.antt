@@ -9,15 +9,15 @@ use Rattle.std.proofs.lemmas.Grind.{flat_map-append}
 use Rattle.std.proofs.lemmas.List.{length-map}
 use Rattle.std.proofs.lemmas.Option.{none-some, same_Some, slice_get-map, slice_get_within}
 use Rattle.gr_text.specs.Workspace.{path_cmp}
-use Rattle.gr_parse.specs.Tree.{FileTree}
-use Rattle.gr_parse.specs.SourceFile.{SourceFile}
+use Rattle.gr_tree.specs.Tree.{FileTree}
+use Rattle.gr_tree.specs.SourceFile.{SourceFile}
 use Rattle.gr_stages.specs.Clauses.{package_name}
 use Rattle.gr_expr.specs.declared.found.MemberUse.{MemberUse}
 use Rattle.gr_expr.specs.Found.{use_of}
-use Rattle.gr_types.specs.Package.{Package}
-use Rattle.gr_types.specs.MemberUses.{AreUsesIn, AreMemberUses, uses_in}
-use Rattle.gr_types.proofs.BoundLists.{slice_get_some}
-use Rattle.gr_types.proofs.Paths.{get_before, get_last}
+use Rattle.gr_declared.specs.Package.{Package}
+use Rattle.gr_meanings.specs.MemberUses.{AreUsesIn, AreMemberUses, uses_in}
+use Rattle.gr_meanings.proofs.BoundLists.{slice_get_some}
+use Rattle.gr_declared.proofs.Paths.{get_before, get_last}
 use Rattle.gr_object.specs.declared.instructions.FunctionName as program
 use Rattle.gr_object.specs.declared.called.Packages.{Packages}
 use Rattle.gr_object.specs.Lines.{FunctionName}

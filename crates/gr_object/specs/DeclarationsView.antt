@@ -1,8 +1,8 @@
 -- Parts of declarations in src/, as the definition has them.
 use Rattle.std.specs.Prelude.{Option, Some, None, map}
-use Rattle.gr_parse.specs.declared.tree.Item.{Item}
-use Rattle.gr_parse.specs.declared.tree.BasicLit.{BasicLit}
-use Rattle.gr_parse.specs.FileView.{basic_view}
+use Rattle.gr_tree.specs.declared.tree.Item.{Item}
+use Rattle.gr_tree.specs.declared.tree.BasicLit.{BasicLit}
+use Rattle.gr_tree.specs.FileView.{basic_view}
 use Rattle.gr_expr.specs.View.{type_of}
 use Rattle.gr_object.specs.declared.declarations.Initial.{Initial}
 use Rattle.gr_object.specs.declared.declarations.Initial.TheVariants as initial

@@ -1,7 +1,7 @@
 -- Where jumps out of statements lead, as the program keeps it, statements in turn, and what stands behind an `else`.
 use Rattle.std.specs.Prelude.{ℕ, ◌≡◌, ◌≤◌, ◌-◌, Bool, true, false, List, [], ◌∷◌, ◌++◌, Option, Some, None, is_some, length}
-use Rattle.gr_parse.specs.FileView.{stmt_view}
-use Rattle.gr_parse.specs.declared.tree.BlockItem.{BlockItem}
+use Rattle.gr_tree.specs.FileView.{stmt_view}
+use Rattle.gr_tree.specs.declared.tree.BlockItem.{BlockItem}
 use Rattle.gr_object.specs.declared.code.Code.{Code}
 use Rattle.gr_object.specs.declared.statements.Marks.{Marks}
 use Rattle.gr_object.specs.Lines.{Line, Jump}

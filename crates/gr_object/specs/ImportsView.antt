@@ -1,6 +1,6 @@
 -- The paths that are imported, while they are collected.
 use Rattle.std.specs.Prelude.{ℕ, ◌≡◌, ◌↔◌, ◌⊎◌, List, map, Option, Some, None, Contains, Vec}
-use Rattle.gr_parse.specs.SourceFile.{SourceFile}
+use Rattle.gr_tree.specs.SourceFile.{SourceFile}
 use Rattle.gr_graph.specs.declared.file_imports.FileImport.{FileImport}
 use Rattle.gr_graph.specs.Packages.{ImportsPath}
 

@@ -1,9 +1,9 @@
 -- The laws of objects.
 use Rattle.std.specs.Prelude.{ℕ, ◌≡◌, List, Contains}
-use Rattle.gr_parse.specs.SourceFile.{SourceFile}
+use Rattle.gr_tree.specs.SourceFile.{SourceFile}
 use Rattle.gr_scope.specs.WellFormed.{WellFormed}
-use Rattle.gr_types.specs.Package.{Package}
-use Rattle.gr_types.specs.TypesView.{AreInOrder}
+use Rattle.gr_declared.specs.Package.{Package}
+use Rattle.gr_meanings.specs.Uniqueness.{AreInOrder}
 use Rattle.gr_object.specs.Objects.{Object, Function, FunctionOf}
 use Rattle.gr_object.specs.Sources.{IsObjectOf, IsObjectText}
 use Rattle.gr_object.specs.Fitting.{HasFittingCode}

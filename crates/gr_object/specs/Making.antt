@@ -1,7 +1,7 @@
 -- What calls of src/ put before code that is there.
 use Rattle.std.specs.Prelude.{ℕ, suc, ◌≡◌, Bool, true, false, List, [], ◌∷◌, ◌++◌, Option}
-use Rattle.gr_parse.specs.declared.syntax.BinaryOp.{BinaryOp}
-use Rattle.gr_parse.specs.declared.syntax.BinaryOp.TheVariants as op
+use Rattle.gr_tree.specs.declared.syntax.BinaryOp.{BinaryOp}
+use Rattle.gr_tree.specs.declared.syntax.BinaryOp.TheVariants as op
 use Rattle.gr_object.specs.declared.operands.Wanted.{Wanted}
 use Rattle.gr_object.specs.declared.operands.Wanted.TheVariants as wanted
 use Rattle.gr_object.specs.declared.operands.Standing.{Standing}

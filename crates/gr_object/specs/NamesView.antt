@@ -1,6 +1,6 @@
 -- What is known of the names of a package, by its files.
 use Rattle.std.specs.Prelude.{ℕ, ◌≡◌, List, map}
-use Rattle.gr_parse.specs.SourceFile.{SourceFile}
+use Rattle.gr_tree.specs.SourceFile.{SourceFile}
 use Rattle.gr_object.specs.declared.called.PackageNames.{PackageNames}
 use Rattle.gr_object.specs.LineView.{global_of, function_of}
 use Rattle.gr_object.specs.Names.{type_names, function_names, field_positions}

@@ -2,12 +2,12 @@
 use Rattle.std.specs.Prelude.{ℕ, ◌≡◌, ◌≤◌, List, [], ◌∷◌, ◌++◌, map, length, drop, take, Option, Some, None, slice_get}
 use Rattle.std.specs.List.{flat_map}
 use Rattle.std.specs.Global.{Vec}
-use Rattle.gr_parse.specs.Tree.{FileTree}
-use Rattle.gr_parse.specs.SourceFile.{SourceFile}
+use Rattle.gr_tree.specs.Tree.{FileTree}
+use Rattle.gr_tree.specs.SourceFile.{SourceFile}
 use Rattle.gr_stages.specs.Clauses.{package_name}
 use Rattle.gr_expr.specs.declared.found.MemberUse.{MemberUse}
-use Rattle.gr_types.specs.Package.{Package}
-use Rattle.gr_types.specs.MemberUses.{AreMemberUses, uses_in}
+use Rattle.gr_declared.specs.Package.{Package}
+use Rattle.gr_meanings.specs.MemberUses.{AreMemberUses, uses_in}
 use Rattle.gr_object.specs.declared.instructions.FunctionName as program
 use Rattle.gr_object.specs.declared.called.Packages.{Packages}
 use Rattle.gr_object.specs.Lines.{FunctionName}

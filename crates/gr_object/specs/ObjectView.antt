@@ -1,16 +1,16 @@
 -- What is known where the object of a package is printed, and what the texts of its files add.
 use Rattle.std.specs.Prelude.{ℕ, ◌≡◌, ◌≤◌, List, [], ◌++◌, drop, map, length, Option, Some, None, slice_get, MatchOption}
 use Rattle.std.specs.List.{flat_map}
-use Rattle.gr_parse.specs.SourceFile.{FileParts, SourceFile}
+use Rattle.gr_tree.specs.SourceFile.{FileParts, SourceFile}
 use Rattle.gr_expr.specs.declared.world.Definition.{Definition}
 use Rattle.gr_expr.specs.declared.found.MemberUse.{MemberUse}
 use Rattle.gr_expr.specs.WorldView.{definition_or_none, no_definition}
 use Rattle.gr_expr.specs.Found.{use_of}
 use Rattle.gr_expr.specs.Judge as plain
-use Rattle.gr_types.specs.Check.{IsPackageOf}
-use Rattle.gr_types.specs.Package.{Interface, Package, PlacedType, package_types, symbol_in}
-use Rattle.gr_types.specs.Definitions.{IsDefinition}
-use Rattle.gr_types.specs.MemberUses.{AreMemberUses, AreUsesIn}
+use Rattle.gr_meanings.specs.PackageOf.{IsPackageOf}
+use Rattle.gr_declared.specs.Package.{Interface, Package, PlacedType, package_types, symbol_in}
+use Rattle.gr_declared.specs.Definitions.{IsDefinition}
+use Rattle.gr_meanings.specs.MemberUses.{AreMemberUses, AreUsesIn}
 use Rattle.gr_object.specs.declared.called.Packages.{Packages}
 use Rattle.gr_object.specs.declared.called.PackageNames.{PackageNames}
 use Rattle.gr_object.specs.declared.instructions.FunctionName.{FunctionName}

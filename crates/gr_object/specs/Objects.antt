@@ -1,13 +1,13 @@
 -- The object of a package: what it imports and declares, with the code of its functions.
 use Rattle.std.specs.Prelude.{ℕ, List, [], ◌∷◌, ◌++◌, map, Option, Some, None, length, option_map, option_to_list}
 use Rattle.std.specs.List.{flat_map}
-use Rattle.gr_parse.specs.Tree.{Item, TypeTree, BasicTree, Integer, String, GlobalTree, FieldTree, BodyTree, Other, Struct, TypeSpecTree, ReceiverTree, FuncTree, DeclTree, VarDecl, TypeDecl, FuncDecl, FileTree}
+use Rattle.gr_tree.specs.Tree.{Item, TypeTree, BasicTree, Integer, String, GlobalTree, FieldTree, BodyTree, Other, Struct, TypeSpecTree, ReceiverTree, FuncTree, DeclTree, VarDecl, TypeDecl, FuncDecl, FileTree}
 use Rattle.gr_expr.specs.Types.{PlainType}
 use Rattle.gr_expr.specs.World.{World}
 use Rattle.gr_expr.specs.Judge.{judge_type, named_type}
 use Rattle.gr_stages.specs.Files.{group_items}
 use Rattle.gr_stmt.specs.Headers.{starred}
-use Rattle.gr_types.specs.Bound.{parameter_types, result_types}
+use Rattle.gr_declared.specs.Bound.{parameter_types, result_types}
 use Rattle.gr_object.specs.Lines.{GlobalName, FunctionName, Line}
 use Rattle.gr_object.specs.Source.{Source}
 use Rattle.gr_object.specs.Slots.{slots_of}

@@ -2,7 +2,7 @@
 use Rattle.std.specs.Prelude.{ℕ, suc, ◌≡◌, ◌==◌, ◌↔◌, true, if◌then◌else◌, List, [], ◌∷◌, map, Option, Some, None, length, slice_get, codes, Contains}
 use Rattle.std.specs.List.Sorted.{IsStrictlySortedBy}
 use Rattle.gr_text.specs.Workspace.{path_cmp}
-use Rattle.gr_parse.specs.SourceFile.{SourceFile, spelling_of}
+use Rattle.gr_tree.specs.SourceFile.{SourceFile, spelling_of}
 use Rattle.gr_scope.specs.declared.model.Role.TheVariants.{NotLexical}
 use Rattle.gr_scope.specs.declared.model.Purpose.TheVariants as purpose
 use Rattle.gr_scope.specs.Bindings.{IsPackageLevel}
@@ -14,10 +14,10 @@ use Rattle.gr_expr.specs.Types.{PlainType}
 use Rattle.gr_expr.specs.Judge.{MemberUse}
 use Rattle.gr_stmt.specs.Declarations.{check_file}
 use Rattle.gr_graph.specs.Packages.{ImportsPath}
-use Rattle.gr_types.specs.Package.{Package, spelled}
-use Rattle.gr_types.specs.Written.{BindsToken, IsPredeclared}
-use Rattle.gr_types.specs.Written.{ImportsPath as DeclaresImport}
-use Rattle.gr_types.specs.Faults.{IsWorldOf, is_init}
+use Rattle.gr_declared.specs.Package.{Package, spelled}
+use Rattle.gr_declared.specs.Written.{BindsToken, IsPredeclared}
+use Rattle.gr_declared.specs.Written.{ImportsPath as DeclaresImport}
+use Rattle.gr_meanings.specs.Worlds.{IsWorldOf, is_init}
 use Rattle.gr_object.specs.Lines.{GlobalName}
 use Rattle.gr_object.specs.Source.{Source}
 use Rattle.gr_object.specs.Literals.{number_of}

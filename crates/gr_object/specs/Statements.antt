@@ -1,11 +1,11 @@
 -- The code of statements. A jump is told by the lines that it passes, so that code stands for itself wherever it is put.
 use Rattle.std.specs.Prelude.{ℕ, suc, ◌+◌, List, [], ◌∷◌, ◌++◌, Option, Some, None, length}
 use Rattle.std.specs.List.{flat_map}
-use Rattle.gr_parse.specs.declared.syntax.BinaryOp.{BinaryOp}
-use Rattle.gr_parse.specs.declared.syntax.BinaryOp.TheVariants as op
-use Rattle.gr_parse.specs.declared.syntax.StepOp.{StepOp}
-use Rattle.gr_parse.specs.declared.syntax.StepOp.TheVariants as step
-use Rattle.gr_parse.specs.Tree.{Item, Group, IdentTree, Named, Underscore, TypeTree, ExprTree, Number, Text, Name, Blank, Composite, Paren, Prefix, Address, Chain, Binary, SimpleTree, Alone, Step, Update, Assign, Define, LocalTree, InitTree, ForTree, forever, while, clauses, StatementTree, Empty, Var, Simple, Inner, If, For, Break, Continue, Return, BlockTree, block, StatementTrees, no_statement, statement, IfTree, if_tree, ElseTree, no_else, else_if, else_block}
+use Rattle.gr_tree.specs.declared.syntax.BinaryOp.{BinaryOp}
+use Rattle.gr_tree.specs.declared.syntax.BinaryOp.TheVariants as op
+use Rattle.gr_tree.specs.declared.syntax.StepOp.{StepOp}
+use Rattle.gr_tree.specs.declared.syntax.StepOp.TheVariants as step
+use Rattle.gr_tree.specs.Tree.{Item, Group, IdentTree, Named, Underscore, TypeTree, ExprTree, Number, Text, Name, Blank, Composite, Paren, Prefix, Address, Chain, Binary, SimpleTree, Alone, Step, Update, Assign, Define, LocalTree, InitTree, ForTree, forever, while, clauses, StatementTree, Empty, Var, Simple, Inner, If, For, Break, Continue, Return, BlockTree, block, StatementTrees, no_statement, statement, IfTree, if_tree, ElseTree, no_else, else_if, else_block}
 use Rattle.gr_expr.specs.World.{World, Bound, Local, Means, BrokenVariable, BrokenFunction, BrokenType}
 use Rattle.gr_expr.specs.Judge.{judge_type}
 use Rattle.gr_stages.specs.Files.{group_items}

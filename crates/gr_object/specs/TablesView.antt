@@ -1,10 +1,10 @@
 -- What is found of a file's tokens, as the program keeps it.
 use Rattle.std.specs.Prelude.{ℕ, ◌≡◌, ◌↔◌, true, false, Bool, List, Option, Some, None, option_map, slice_get, slice_index_or, map}
 use Rattle.std.specs.Global.{Vec}
-use Rattle.gr_parse.specs.SourceFile.{SourceFile}
+use Rattle.gr_tree.specs.SourceFile.{SourceFile}
 use Rattle.gr_expr.specs.declared.world.World.{World}
 use Rattle.gr_expr.specs.declared.found.MemberUse.{MemberUse}
-use Rattle.gr_types.specs.Package.{Package}
+use Rattle.gr_declared.specs.Package.{Package}
 use Rattle.gr_object.specs.declared.called.Packages.{Packages}
 use Rattle.gr_object.specs.declared.source.Source.{Source}
 use Rattle.gr_object.specs.Lines.{GlobalName}

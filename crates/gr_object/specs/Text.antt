@@ -1,15 +1,15 @@
 -- The text of lines of code: of the names, types and values in them.
 use Rattle.std.specs.Prelude.{ℕ, ◌+◌, ◌/◌, ◌%◌, Bool, true, false, if◌then◌else◌, List, [], ◌∷◌, ◌++◌, Option, Some, None, nat_lt, codes, decimal}
 use Rattle.std.specs.List.{flat_map}
-use Rattle.gr_parse.specs.declared.syntax.BinaryOp.{BinaryOp}
-use Rattle.gr_parse.specs.declared.syntax.BinaryOp.TheVariants as op
+use Rattle.gr_tree.specs.declared.syntax.BinaryOp.{BinaryOp}
+use Rattle.gr_tree.specs.declared.syntax.BinaryOp.TheVariants as op
 use Rattle.gr_expr.specs.declared.types.Basic.{Basic}
 use Rattle.gr_expr.specs.declared.types.Basic.TheVariants as basic
 use Rattle.gr_expr.specs.declared.types.Builtin.{Builtin}
 use Rattle.gr_expr.specs.declared.symbol.Symbol.{Symbol}
 use Rattle.gr_expr.specs.Types.{PlainType, BasicType, Defined, Pointer, Slice}
-use Rattle.gr_types.specs.Written.{basic_name}
-use Rattle.gr_types.specs.Bound.{builtin_name}
+use Rattle.gr_declared.specs.Written.{basic_name}
+use Rattle.gr_declared.specs.Bound.{builtin_name}
 use Rattle.gr_object.specs.Lines.{GlobalName, FunctionName, Plain, Method, Initializer, Line}
 use Rattle.gr_object.specs.Lines as line
 

@@ -1,8 +1,8 @@
 //! The text of what files declare.
 ghost use Rattle.std.specs.Prelude.{◌≡◌, ◌≤◌, ◌++◌, ◌∷◌, [], Some, drop, length, map, option_map, slice_get, IfOk, OnOk};
 ghost use Rattle.std.specs.List.{flat_map};
-ghost use Rattle.gr_parse.specs.View.{list_view, option_view, group_view, type_view};
-ghost use Rattle.gr_parse.specs.FileView.{same_place, basic_view, body_view, decl_view, field_view, func_view, global_view, type_spec_view, var_values_view};
+ghost use Rattle.gr_tree.specs.View.{list_view, option_view, group_view, type_view};
+ghost use Rattle.gr_tree.specs.FileView.{same_place, basic_view, body_view, decl_view, field_view, func_view, global_view, type_spec_view, var_values_view};
 ghost use Rattle.gr_stages.specs.Files.{group_items};
 ghost use Rattle.gr_expr.specs.Judge.{judge_type};
 ghost use Rattle.gr_expr.specs.View.{type_of};
@@ -32,7 +32,7 @@ use crate::source::Source;
 use crate::types::written_type;
 use gr_expr::types::GoType;
 use gr_expr::world::World;
-use gr_parse::tree::{
+use gr_tree::tree::{
     BasicLit, Decl, Field, FuncDecl, Group, Item, TypeBody, TypeExpr, TypeSpec, VarSpec, VarValues,
 };
 use std::alloc::{AllocError, Global};
@@ -52,7 +52,7 @@ pub enum Definition {
 }
 
 /// Adds the type of fields, once for each name.
-#[tactic(auto, unfolding(gr_parse::specs::FileView::field_view))]
+#[tactic(auto, unfolding(gr_tree::specs::FileView::field_view))]
 fn add_field(
     alloc: Global,
     world: &World<'_>,
@@ -98,7 +98,7 @@ fn same_as(
 }
 
 /// What a type is defined as, where that is known.
-#[tactic(auto, unfolding(gr_parse::specs::FileView::body_view, crate::specs::Objects::definition_of, crate::specs::DeclarationsView::definition_view))]
+#[tactic(auto, unfolding(gr_tree::specs::FileView::body_view, crate::specs::Objects::definition_of, crate::specs::DeclarationsView::definition_view))]
 fn defined_as(
     alloc: Global,
     world: &World<'_>,
@@ -169,7 +169,7 @@ fn push_defined(
 }
 
 /// Adds the line of a type definition, where all of it is known.
-#[tactic(auto, unfolding(gr_parse::specs::FileView::type_spec_view))]
+#[tactic(auto, unfolding(gr_tree::specs::FileView::type_spec_view))]
 fn push_type_spec(
     alloc: Global,
     source: &Source<'_>,
@@ -185,7 +185,7 @@ fn push_type_spec(
 }
 
 /// Adds the lines of type definitions.
-#[tactic(auto, unfolding(gr_parse::specs::View::group_view))]
+#[tactic(auto, unfolding(gr_tree::specs::View::group_view))]
 fn push_type_specs(
     alloc: Global,
     source: &Source<'_>,
@@ -310,7 +310,7 @@ fn push_typed(
 }
 
 /// Adds the lines of variables, where their type is known.
-#[tactic(auto, unfolding(gr_parse::specs::FileView::global_view))]
+#[tactic(auto, unfolding(gr_tree::specs::FileView::global_view))]
 fn push_var_spec(
     alloc: Global,
     source: &Source<'_>,
@@ -326,7 +326,7 @@ fn push_var_spec(
 }
 
 /// Adds the lines of all variables of a `var`.
-#[tactic(auto, unfolding(gr_parse::specs::View::group_view))]
+#[tactic(auto, unfolding(gr_tree::specs::View::group_view))]
 fn push_var_specs(
     alloc: Global,
     source: &Source<'_>,
@@ -487,7 +487,7 @@ fn push_next(
 }
 
 /// Adds the lines of what one keyword declares, and answers behind how many functions the next one stands.
-#[tactic(auto, unfolding(gr_parse::specs::FileView::decl_view, crate::specs::Objects::declared_by))]
+#[tactic(auto, unfolding(gr_tree::specs::FileView::decl_view, crate::specs::Objects::declared_by))]
 fn push_decl(
     alloc: Global,
     source: &Source<'_>,

@@ -1,7 +1,7 @@
 //! The code of expressions, made from its last line to its first.
 ghost use Rattle.std.specs.Prelude.{ℕ, suc, ◌∷◌, [], ◌≡◌, ◌==◌, ◌&&◌, ◌≤◌, ◌<◌, ◌+◌, ◌-◌, ◌^◌, IfOk, OnOk, take, length};
-ghost use Rattle.gr_parse.specs.Tree.{no_link};
-ghost use Rattle.gr_parse.specs.View.{expr_view, link_view, literal_view};
+ghost use Rattle.gr_tree.specs.Tree.{no_link};
+ghost use Rattle.gr_tree.specs.View.{expr_view, link_view, literal_view};
 ghost use Rattle.gr_expr.specs.Lists.{links_in, operands_in, arguments_in, elements_in};
 ghost use Rattle.gr_object.specs.LineView.{line_of, lines_in, Puts};
 ghost use Rattle.gr_object.specs.Lines.{Duplicate, Pop};
@@ -16,8 +16,8 @@ use crate::instructions::Instruction;
 use crate::operands::{Standing, Wanted};
 use crate::scope::Scope;
 use crate::types::{is_struct, written_type};
-use gr_parse::syntax::{BinaryOp, PrefixOp};
-use gr_parse::tree::{CompositeLit, Element, Expr, ExprItem, Link, Operand};
+use gr_tree::syntax::{BinaryOp, PrefixOp};
+use gr_tree::tree::{CompositeLit, Element, Expr, ExprItem, Link, Operand};
 use std::alloc::{AllocError, Global};
 
 /// Whether an operand that stands so is the name of a package when so many links stand behind it.

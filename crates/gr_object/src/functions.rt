@@ -1,11 +1,11 @@
 //! The code of functions, and the types in their headers.
 ghost use Rattle.std.specs.Prelude.{◌≡◌, ◌++◌, length, map, option_map, option_to_list, IfOk, OnOk};
 ghost use Rattle.std.specs.List.{flat_map};
-ghost use Rattle.gr_parse.specs.View.{list_view, option_view, type_view};
-ghost use Rattle.gr_parse.specs.FileView.{func_view, param_view, receiver_view, results_view};
+ghost use Rattle.gr_tree.specs.View.{list_view, option_view, type_view};
+ghost use Rattle.gr_tree.specs.FileView.{func_view, param_view, receiver_view, results_view};
 ghost use Rattle.gr_expr.specs.View.{type_of};
 ghost use Rattle.gr_expr.specs.WorldView.{world_of};
-ghost use Rattle.gr_types.specs.Bound.{parameter_types, result_types};
+ghost use Rattle.gr_declared.specs.Bound.{parameter_types, result_types};
 ghost use Rattle.gr_object.specs.LineView.{lines_in};
 ghost use Rattle.gr_object.specs.SourceView.{source_of};
 ghost use Rattle.gr_object.specs.Statements.{body_lines};
@@ -18,11 +18,11 @@ use crate::statements::{Marks, block};
 use crate::types::{nothing, written_type};
 use gr_expr::types::GoType;
 use gr_expr::world::World;
-use gr_parse::tree::{FuncDecl, Item, Param, Receiver, Results, TypeExpr};
+use gr_tree::tree::{FuncDecl, Item, Param, Receiver, Results, TypeExpr};
 use std::alloc::{AllocError, Global};
 
 /// How many results a function has.
-#[tactic(auto, unfolding(gr_parse::specs::FileView::results_view))]
+#[tactic(auto, unfolding(gr_tree::specs::FileView::results_view))]
 fn result_count(results: &Results) -> usize
     ensures { result ≡ length (result_types (results_view results.now)) }
 {
@@ -34,7 +34,7 @@ fn result_count(results: &Results) -> usize
 }
 
 /// The code of a function's body.
-#[tactic(auto, unfolding(gr_parse::specs::FileView::func_view, crate::specs::LineView::line_of))]
+#[tactic(auto, unfolding(gr_tree::specs::FileView::func_view, crate::specs::LineView::line_of))]
 pub fn body<'a>(alloc: Global, scope: Scope<'a>, func: &FuncDecl) -> Result<Code<'a>, AllocError>
     ensures { IfOk result (λ code. lines_in code ≡ body_lines (source_of scope.entry.source.now) scope.entry.slots.now.places.items (length (result_types (func_view func.now).result)) (func_view func.now).body) }
 {
@@ -69,7 +69,7 @@ pub fn add_written(
 }
 
 /// The type that a receiver names, with its star.
-#[tactic(auto, unfolding(gr_parse::specs::FileView::receiver_view, gr_expr::specs::View::type_of))]
+#[tactic(auto, unfolding(gr_tree::specs::FileView::receiver_view, gr_expr::specs::View::type_of))]
 fn received_type(
     alloc: Global,
     world: &World<'_>,
@@ -106,7 +106,7 @@ fn add_receiver(
 }
 
 /// Adds the type of parameters, once for each name.
-#[tactic(auto, unfolding(gr_parse::specs::FileView::param_view))]
+#[tactic(auto, unfolding(gr_tree::specs::FileView::param_view))]
 fn add_param(
     alloc: Global,
     world: &World<'_>,
@@ -137,7 +137,7 @@ fn add_params(
 }
 
 /// The types of a function's receiver and parameters.
-#[tactic(auto, unfolding(gr_parse::specs::FileView::func_view))]
+#[tactic(auto, unfolding(gr_tree::specs::FileView::func_view))]
 pub fn parameters(
     alloc: Global,
     world: &World<'_>,
@@ -167,7 +167,7 @@ fn add_items(
 }
 
 /// Adds the types of results.
-#[tactic(auto, unfolding(gr_parse::specs::FileView::results_view))]
+#[tactic(auto, unfolding(gr_tree::specs::FileView::results_view))]
 fn add_results(
     alloc: Global,
     world: &World<'_>,
@@ -184,7 +184,7 @@ fn add_results(
 }
 
 /// The types of a function's results.
-#[tactic(auto, unfolding(gr_parse::specs::FileView::func_view))]
+#[tactic(auto, unfolding(gr_tree::specs::FileView::func_view))]
 pub fn results(alloc: Global, world: &World<'_>, func: &FuncDecl) -> Result<Vec<GoType>, AllocError>
     ensures { IfOk result (λ types. map type_of types.items ≡ results_of (world_of world.now) (func_view func.now)) }
 {

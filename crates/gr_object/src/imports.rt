@@ -3,13 +3,13 @@ ghost use Rattle.std.specs.Prelude.{◌≡◌, ◌++◌, map, IfOk, OnOk};
 ghost use Rattle.std.specs.List.{flat_map};
 ghost use Rattle.std.specs.List.Sorted.{IsStrictlySortedBy};
 ghost use Rattle.gr_text.specs.Workspace.{path_cmp};
-ghost use Rattle.gr_parse.specs.SourceFile.{source_of};
+ghost use Rattle.gr_tree.specs.SourceFile.{source_of};
 ghost use Rattle.gr_graph.specs.Packages.{ImportsPath};
 ghost use Rattle.gr_object.specs.ObjectText.{import_line};
 ghost use Rattle.gr_object.specs.ImportsView.{paths_in, AddsPaths, HoldsPaths, SomeImport, SomeStandFor, StandsFor};
 
 use gr_graph::{FileImport, read_imports};
-use gr_parse::FileTree;
+use gr_tree::FileTree;
 use std::alloc::{AllocError, Global};
 use std::collections::BTreeSet;
 

@@ -1,6 +1,6 @@
 //! The lines of a function's code, and what they name.
 use gr_expr::types::{Builtin, GoType};
-use gr_parse::syntax::BinaryOp;
+use gr_tree::syntax::BinaryOp;
 
 /// A declaration of a package's block, by the package's path and its name.
 #[derive(Clone, Copy)]

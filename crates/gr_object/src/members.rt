@@ -1,6 +1,6 @@
 //! Selectors and keys, as the code of a function uses them.
 ghost use Rattle.std.specs.Prelude.{◌≡◌, ◌++◌, ◌∷◌, [], IfOk, OnOk};
-ghost use Rattle.gr_parse.specs.View.{key_view};
+ghost use Rattle.gr_tree.specs.View.{key_view};
 ghost use Rattle.gr_expr.specs.View.{type_of};
 ghost use Rattle.gr_expr.specs.WorldView.{member_of};
 ghost use Rattle.gr_object.specs.Lines.{line_if_known, With};
@@ -16,7 +16,7 @@ use crate::operands::{Standing, Wanted};
 use crate::scope::Scope;
 use gr_expr::types::GoType;
 use gr_expr::world::Member;
-use gr_parse::tree::Key;
+use gr_tree::tree::Key;
 use std::alloc::AllocError;
 
 /// The line of a field that stands at a place of its struct.

@@ -1,19 +1,19 @@
 //! What the declarations of packages are called, made from their files.
 ghost use Rattle.std.specs.Prelude.{◌≡◌, ◌<◌, ◌≤◌, ◌+◌, ◌-◌, ◌^◌, ◌∷◌, ◌++◌, [], length, map, IfOk, OnOk};
 ghost use Rattle.std.specs.List.{flat_map};
-ghost use Rattle.gr_parse.specs.View.{list_view, option_view};
-ghost use Rattle.gr_parse.specs.FileView.{body_view, field_view, receiver_view};
-ghost use Rattle.gr_parse.specs.SourceFile.{source_of};
-ghost use Rattle.gr_types.specs.DeclaredView.{type_of, function_of as placed_function};
+ghost use Rattle.gr_tree.specs.View.{list_view, option_view};
+ghost use Rattle.gr_tree.specs.FileView.{body_view, field_view, receiver_view};
+ghost use Rattle.gr_tree.specs.SourceFile.{source_of};
+ghost use Rattle.gr_declared.specs.DeclaredView.{type_of, function_of as placed_function};
 ghost use Rattle.gr_object.specs.LineView.{global_of, function_of};
 ghost use Rattle.gr_object.specs.Names.{body_positions, function_behind, function_called, function_named, functions_behind, initializers_with, is_initializer, is_named_init, names_of_fields, positions_from, spelled_in, type_called, type_positions};
 ghost use Rattle.gr_object.specs.NamesView.{AreNamesOf};
 
 use crate::instructions::{FunctionName, GlobalName};
 use crate::packages::PackageNames;
-use gr_parse::FileTree;
-use gr_parse::tree::{Field, Item, Receiver, TypeBody};
-use gr_types::{Declared, Function, TypeDef};
+use gr_declared::{Declared, Function, TypeDef};
+use gr_tree::FileTree;
+use gr_tree::tree::{Field, Item, Receiver, TypeBody};
 use std::alloc::{AllocError, Global};
 
 /// How a token of a file is spelled, by the rank of the file.
@@ -27,7 +27,7 @@ fn spelling(files: &[FileTree], file: usize, token: usize) -> &[u8]
 }
 
 /// What a type definition is called.
-#[tactic(auto, unfolding(gr_parse::specs::FileView::type_spec_view))]
+#[tactic(auto, unfolding(gr_tree::specs::FileView::type_spec_view))]
 fn type_called<'a>(path: &'a [u8], files: &'a [FileTree], own: TypeDef<'_>) -> GlobalName<'a>
     ensures { global_of result ≡ type_called path.now (map source_of files.now) (type_of own.entry) }
 {
@@ -64,7 +64,7 @@ fn is_named_init(receiver: &Option<Receiver>, name: &[u8]) -> bool
 }
 
 /// Whether a function is a function `init`.
-#[tactic(auto, unfolding(gr_parse::specs::FileView::func_view))]
+#[tactic(auto, unfolding(gr_tree::specs::FileView::func_view))]
 fn is_initializer(files: &[FileTree], function: Function<'_>) -> bool
     ensures { result ≡ is_initializer (map source_of files.now) (placed_function function.entry) }
 {
@@ -73,7 +73,7 @@ fn is_initializer(files: &[FileTree], function: Function<'_>) -> bool
 }
 
 /// What a function or method of that name is called.
-#[tactic(auto, unfolding(gr_parse::specs::FileView::receiver_view, crate::specs::LineView::function_of))]
+#[tactic(auto, unfolding(gr_tree::specs::FileView::receiver_view, crate::specs::LineView::function_of))]
 fn function_named<'a>(
     path: &'a [u8],
     files: &'a [FileTree],
@@ -96,7 +96,7 @@ fn function_named<'a>(
 }
 
 /// What a function is called that is no `init`.
-#[tactic(auto, unfolding(gr_parse::specs::FileView::func_view))]
+#[tactic(auto, unfolding(gr_tree::specs::FileView::func_view))]
 fn function_called<'a>(
     path: &'a [u8],
     files: &'a [FileTree],
@@ -190,7 +190,7 @@ fn add_fields(positions: &mut Vec<usize>, fields: &[Item<Field>]) -> Result<(), 
 }
 
 /// Adds where the fields of what a type is defined as stand.
-#[tactic(auto, unfolding(gr_parse::specs::FileView::body_view))]
+#[tactic(auto, unfolding(gr_tree::specs::FileView::body_view))]
 fn add_body(positions: &mut Vec<usize>, body: &TypeBody) -> Result<(), AllocError>
     ensures { OnOk result (positions.new.items ≡ positions.old.items ++ body_positions (body_view body.now)) }
 {
@@ -201,7 +201,7 @@ fn add_body(positions: &mut Vec<usize>, body: &TypeBody) -> Result<(), AllocErro
 }
 
 /// Where the fields of a package's structs stand in them.
-#[tactic(auto, unfolding(gr_parse::specs::FileView::type_spec_view))]
+#[tactic(auto, unfolding(gr_tree::specs::FileView::type_spec_view))]
 fn field_positions(alloc: Global, types: &[TypeDef<'_>]) -> Result<Vec<usize>, AllocError>
     ensures { IfOk result (λ positions. positions.items ≡ flat_map type_positions (map type_of types.now)) }
 {

@@ -1,19 +1,19 @@
 //! The text of the object of a package without faults.
 ghost use Rattle.std.specs.Prelude.{◌≡◌, ◌<◌, ◌≤◌, ◌++◌, ℕ, List, IfOk, OnOk, Some, length, map, slice_get};
-ghost use Rattle.gr_parse.specs.SourceFile.{SourceFile, source_of};
+ghost use Rattle.gr_tree.specs.SourceFile.{SourceFile, source_of};
 ghost use Rattle.gr_scope.specs.Scoped.{scoped};
 ghost use Rattle.gr_stages.specs.Clauses.{package_name};
 ghost use Rattle.gr_stages.specs.PackageNames.{IsLaidOver};
 ghost use Rattle.gr_expr.specs.WorldView.{world_of, name_in, spelling_of};
-ghost use Rattle.gr_types.specs.BoundsView.{AreBounds};
-ghost use Rattle.gr_types.specs.Check.{package_in};
-ghost use Rattle.gr_types.specs.Faults.{IsWorldOf};
-ghost use Rattle.gr_types.specs.InterfacesView.{name_in as known_name, interface_in};
-ghost use Rattle.gr_types.specs.MemberUses.{AreMemberUses, uses_in};
-ghost use Rattle.gr_types.specs.NamesView.{AreNames};
-ghost use Rattle.gr_types.specs.Package.{spelled};
-ghost use Rattle.gr_types.specs.PackageView.{package_of, IsIndexOf};
-ghost use Rattle.gr_types.specs.TypesView.{IsOneWorld};
+ghost use Rattle.gr_meanings.specs.BoundsView.{AreBounds};
+ghost use Rattle.gr_meanings.specs.PackageOf.{package_in};
+ghost use Rattle.gr_meanings.specs.Worlds.{IsWorldOf};
+ghost use Rattle.gr_declared.specs.InterfacesView.{name_in as known_name, interface_in};
+ghost use Rattle.gr_meanings.specs.MemberUses.{AreMemberUses, uses_in};
+ghost use Rattle.gr_meanings.specs.NamesView.{AreNames};
+ghost use Rattle.gr_declared.specs.Package.{spelled};
+ghost use Rattle.gr_declared.specs.PackageView.{package_of, IsIndexOf};
+ghost use Rattle.gr_meanings.specs.Uniqueness.{IsOneWorld};
 ghost use Rattle.gr_object.specs.Objects.{Object};
 ghost use Rattle.gr_object.specs.ObjectText.{first_line};
 ghost use Rattle.gr_object.specs.ObjectSteps.{uses_or_none, PutsHead, PutsFiles};
@@ -25,14 +25,15 @@ use crate::imports::{import_paths, push_imports};
 use crate::instructions::FunctionName;
 use crate::packages::{PackageNames, Packages, path_bytes};
 use crate::sources::source;
+use gr_declared::{Index, Interfaces, Package, broken_definitions};
 use gr_expr::found::MemberUse;
 use gr_expr::symbol::SharedPath;
 use gr_expr::world::{Bound, Definition, Name, World};
-use gr_parse::FileTree;
+use gr_meanings::{Bounds, bounds_of, file_names, one_world};
 use gr_scope::declare::declare;
 use gr_scope::table::ScopeTable;
 use gr_stages::lay_names;
-use gr_types::{Bounds, Index, Interfaces, Package, bounds_of, broken_definitions, file_names};
+use gr_tree::FileTree;
 use std::alloc::{AllocError, Global};
 
 /// What a file is judged by, with the type definitions of its package as other packages see them.
@@ -176,7 +177,7 @@ fn push_files(
 }
 
 /// The name in the clause of a package's first file.
-#[tactic(auto, unfolding(gr_parse::specs::FileView::file_view))]
+#[tactic(auto, unfolding(gr_tree::specs::FileView::file_view))]
 fn package_name(files: &[FileTree]) -> &[u8]
     ensures { result.now ≡ package_name (map source_of files.now) }
 {
@@ -218,7 +219,7 @@ fn package_text(
     requires { AreOwnDefinitions (package_of unit) definitions.now }
     ensures { IfOk result (λ text. (files_of : List ℕ → List SourceFile) → AreMemberUses (package_of unit.entry) (map uses_in members.now) → HaveNames packages.now files_of → IsObjectText (package_of unit.entry) files_of text.items) }
 {
-    unit.one_world();
+    one_world(unit);
     let index = Index::of(alloc, unit)?;
     let broken = broken_definitions(alloc, unit, &index)?;
     let mut bounds = bounds_of(alloc, unit, &index, &broken)?;

@@ -2,8 +2,8 @@
 ghost use Rattle.std.specs.Prelude.{◌≡◌, ◌<◌, ◌++◌, codes, decimal, OnOk, map, reverse};
 ghost use Rattle.std.specs.List.{flat_map};
 ghost use Rattle.gr_expr.specs.View.{type_of};
-ghost use Rattle.gr_types.specs.Written.{basic_name};
-ghost use Rattle.gr_types.specs.Bound.{builtin_name};
+ghost use Rattle.gr_declared.specs.Written.{basic_name};
+ghost use Rattle.gr_declared.specs.Bound.{builtin_name};
 ghost use Rattle.gr_object.specs.LineView.{global_of, function_of, line_of, lines_in};
 ghost use Rattle.gr_object.specs.PackagesView.{type_in};
 ghost use Rattle.gr_object.specs.Text.{global_text, function_text, known_text, type_text, type_behind, types_behind, types_joined, type_list, hex_digit, hex_byte, bytes_text, truth_text, operator_text, with_number, words_of, ended, code_text};
@@ -13,7 +13,7 @@ use crate::instructions::{FunctionName, GlobalName, Instruction};
 use crate::packages::Packages;
 use gr_expr::symbol::Symbol;
 use gr_expr::types::{Basic, Builtin, GoType};
-use gr_parse::syntax::BinaryOp;
+use gr_tree::syntax::BinaryOp;
 use itoa::Buffer;
 use std::alloc::AllocError;
 

@@ -1,8 +1,8 @@
 //! The code of simple statements and of declarations of locals.
 ghost use Rattle.std.specs.Prelude.{◌≡◌, ◌∷◌, [], OnOk};
 ghost use Rattle.std.specs.List.{flat_map};
-ghost use Rattle.gr_parse.specs.View.{expr_view, exprs_view, option_view, list_view, group_view, ident_view, type_view};
-ghost use Rattle.gr_parse.specs.FileView.{simple_view, local_view, init_view};
+ghost use Rattle.gr_tree.specs.View.{expr_view, exprs_view, option_view, list_view, group_view, ident_view, type_view};
+ghost use Rattle.gr_tree.specs.FileView.{simple_view, local_view, init_view};
 ghost use Rattle.gr_expr.specs.WorldView.{bound_of};
 ghost use Rattle.gr_stages.specs.Files.{group_items};
 ghost use Rattle.gr_stmt.specs.Simple.{binary_of};
@@ -21,8 +21,8 @@ use crate::operands::Wanted;
 use crate::scope::Scope;
 use crate::types::written_type;
 use gr_expr::world::Bound;
-use gr_parse::syntax::{BinaryOp, StepOp, UpdateOp};
-use gr_parse::tree::{Expr, ExprItem, Group, Ident, IfInit, Item, LocalSpec, SimpleStmt, TypeExpr};
+use gr_tree::syntax::{BinaryOp, StepOp, UpdateOp};
+use gr_tree::tree::{Expr, ExprItem, Group, Ident, IfInit, Item, LocalSpec, SimpleStmt, TypeExpr};
 use std::alloc::{AllocError, Global};
 
 /// The values of expressions in turn.
@@ -85,7 +85,7 @@ fn put_set_at<'a>(scope: Scope<'a>, place: usize, code: &mut Code<'a>) -> Result
 }
 
 /// Puts the line of a left side of `:=`.
-#[tactic(auto, unfolding(crate::specs::LineView::line_of, crate::specs::Statements::set_left, gr_parse::specs::View::expr_view))]
+#[tactic(auto, unfolding(crate::specs::LineView::line_of, crate::specs::Statements::set_left, gr_tree::specs::View::expr_view))]
 fn put_set_left<'a>(scope: Scope<'a>, left: &Expr, code: &mut Code<'a>) -> Result<(), AllocError>
     ensures { OnOk result (Puts (set_left (source_of scope.entry.source.now) scope.entry.slots.now.places.items (expr_view left.now)) code.old code.new) }
 {
@@ -111,7 +111,7 @@ fn put_set_lefts<'a>(
 }
 
 /// The address of a left side of `=`.
-#[tactic(auto, unfolding(crate::specs::LineView::line_of, crate::specs::Statements::target_lines, gr_parse::specs::View::expr_view))]
+#[tactic(auto, unfolding(crate::specs::LineView::line_of, crate::specs::Statements::target_lines, gr_tree::specs::View::expr_view))]
 fn target<'a>(
     alloc: Global,
     scope: Scope<'a>,
@@ -218,7 +218,7 @@ fn update<'a>(
 }
 
 /// A simple statement.
-#[tactic(auto, unfolding(gr_parse::specs::FileView::simple_view, crate::specs::Statements::simple_lines, crate::specs::LineView::line_of))]
+#[tactic(auto, unfolding(gr_tree::specs::FileView::simple_view, crate::specs::Statements::simple_lines, crate::specs::LineView::line_of))]
 pub fn simple<'a>(
     alloc: Global,
     scope: Scope<'a>,
@@ -271,7 +271,7 @@ pub fn optional<'a>(
 }
 
 /// What stands before the condition of an `if`.
-#[tactic(auto, unfolding(gr_parse::specs::FileView::init_view))]
+#[tactic(auto, unfolding(gr_tree::specs::FileView::init_view))]
 pub fn init<'a>(
     alloc: Global,
     scope: Scope<'a>,
@@ -336,7 +336,7 @@ fn zeros<'a>(
 }
 
 /// The values that locals are declared with.
-#[tactic(auto, unfolding(gr_parse::specs::FileView::local_view, crate::specs::Statements::first_values))]
+#[tactic(auto, unfolding(gr_tree::specs::FileView::local_view, crate::specs::Statements::first_values))]
 fn first_values<'a>(
     alloc: Global,
     scope: Scope<'a>,
@@ -352,7 +352,7 @@ fn first_values<'a>(
 }
 
 /// A declaration of locals.
-#[tactic(auto, unfolding(gr_parse::specs::FileView::local_view, crate::specs::Statements::local_lines))]
+#[tactic(auto, unfolding(gr_tree::specs::FileView::local_view, crate::specs::Statements::local_lines))]
 fn local<'a>(
     alloc: Global,
     scope: Scope<'a>,
@@ -381,7 +381,7 @@ fn each_local<'a>(
 }
 
 /// The declarations of a `var`.
-#[tactic(auto, unfolding(gr_parse::specs::View::group_view))]
+#[tactic(auto, unfolding(gr_tree::specs::View::group_view))]
 pub fn locals<'a>(
     alloc: Global,
     scope: Scope<'a>,

@@ -1,8 +1,8 @@
 //! The slots of a function: its receiver, its parameters and the locals that its body declares.
 ghost use Rattle.std.specs.Prelude.{◌≡◌, ◌++◌, ◌∷◌, [], IfOk, OnOk, option_to_list};
 ghost use Rattle.std.specs.List.{flat_map};
-ghost use Rattle.gr_parse.specs.View.{expr_view, exprs_view, list_view, ident_view, group_view, option_view};
-ghost use Rattle.gr_parse.specs.FileView.{local_view, simple_view, init_view, for_view, stmt_view, block_view, if_view, else_view, receiver_view, param_view, func_view};
+ghost use Rattle.gr_tree.specs.View.{expr_view, exprs_view, list_view, ident_view, group_view, option_view};
+ghost use Rattle.gr_tree.specs.FileView.{local_view, simple_view, init_view, for_view, stmt_view, block_view, if_view, else_view, receiver_view, param_view, func_view};
 ghost use Rattle.gr_expr.specs.WorldView.{world_of};
 ghost use Rattle.gr_stages.specs.Files.{group_items};
 ghost use Rattle.gr_stmt.specs.Sides.{declares, defined_name, ident_place, named};
@@ -10,7 +10,7 @@ ghost use Rattle.gr_object.specs.Slots.{receiver_places, parameter_places, local
 
 use crate::numbered::Numbered;
 use gr_expr::world::{Bound, World};
-use gr_parse::tree::{
+use gr_tree::tree::{
     Block, Else, Expr, ExprItem, ForHeader, FuncDecl, Group, Ident, IfInit, IfStmt, Item,
     LocalSpec, Param, Receiver, SimpleStmt, Stmt,
 };
@@ -27,7 +27,7 @@ fn ident_place(ident: &Ident) -> usize
 }
 
 /// Adds the receiver, where there is one.
-#[tactic(auto, unfolding(gr_parse::specs::FileView::receiver_view))]
+#[tactic(auto, unfolding(gr_tree::specs::FileView::receiver_view))]
 fn add_receiver(places: &mut Vec<usize>, receiver: &Option<Receiver>) -> Result<(), AllocError>
     ensures { OnOk result (places.new.items ≡ places.old.items ++ receiver_places (option_view receiver_view receiver.now)) }
 {
@@ -51,7 +51,7 @@ fn add_names(places: &mut Vec<usize>, names: &[Item<Ident>]) -> Result<(), Alloc
 }
 
 /// Adds all parameters.
-#[tactic(auto, unfolding(gr_parse::specs::FileView::param_view))]
+#[tactic(auto, unfolding(gr_tree::specs::FileView::param_view))]
 fn add_params(places: &mut Vec<usize>, params: &[Item<Param>]) -> Result<(), AllocError>
     ensures { OnOk result (places.new.items ≡ places.old.items ++ parameter_places (list_view param_view params.now)) }
 {
@@ -76,7 +76,7 @@ fn add_ident(places: &mut Vec<usize>, ident: &Ident) -> Result<(), AllocError>
 }
 
 /// Adds the locals of one declaration.
-#[tactic(auto, unfolding(gr_parse::specs::FileView::local_view))]
+#[tactic(auto, unfolding(gr_tree::specs::FileView::local_view))]
 fn add_local(places: &mut Vec<usize>, local: &LocalSpec) -> Result<(), AllocError>
     ensures { OnOk result (places.new.items ≡ places.old.items ++ local_places (local_view local.now)) }
 {
@@ -87,7 +87,7 @@ fn add_local(places: &mut Vec<usize>, local: &LocalSpec) -> Result<(), AllocErro
 }
 
 /// Adds the locals of a `var`.
-#[tactic(auto, unfolding(gr_parse::specs::View::group_view))]
+#[tactic(auto, unfolding(gr_tree::specs::View::group_view))]
 fn add_locals(places: &mut Vec<usize>, group: &Group<LocalSpec>) -> Result<(), AllocError>
     ensures { OnOk result (places.new.items ≡ places.old.items ++ flat_map local_places (group_items (group_view local_view group.now))) }
 {
@@ -114,7 +114,7 @@ fn declares(world: &World<'_>, place: usize) -> bool
 }
 
 /// Adds the local that a left side of `:=` declares.
-#[tactic(auto, unfolding(gr_stmt::specs::Sides::defined_name, gr_parse::specs::View::expr_view))]
+#[tactic(auto, unfolding(gr_stmt::specs::Sides::defined_name, gr_tree::specs::View::expr_view))]
 fn add_defined(places: &mut Vec<usize>, world: &World<'_>, left: &Expr) -> Result<(), AllocError>
     ensures { OnOk result (places.new.items ≡ places.old.items ++ option_to_list (defined_name (world_of world.now) (expr_view left.now))) }
 {
@@ -144,7 +144,7 @@ fn add_all_defined(
 }
 
 /// Adds the locals of a simple statement.
-#[tactic(auto, unfolding(gr_parse::specs::FileView::simple_view, crate::specs::Slots::simple_places))]
+#[tactic(auto, unfolding(gr_tree::specs::FileView::simple_view, crate::specs::Slots::simple_places))]
 fn add_simple(
     places: &mut Vec<usize>,
     world: &World<'_>,
@@ -175,7 +175,7 @@ fn add_optional(
 }
 
 /// Adds the locals before the condition of an `if`.
-#[tactic(auto, unfolding(gr_parse::specs::FileView::init_view))]
+#[tactic(auto, unfolding(gr_tree::specs::FileView::init_view))]
 fn add_init(
     places: &mut Vec<usize>,
     world: &World<'_>,
@@ -190,7 +190,7 @@ fn add_init(
 }
 
 /// Adds the locals between `for` and its block.
-#[tactic(auto, unfolding(gr_parse::specs::FileView::for_view, crate::specs::Slots::header_places))]
+#[tactic(auto, unfolding(gr_tree::specs::FileView::for_view, crate::specs::Slots::header_places))]
 fn add_header(
     places: &mut Vec<usize>,
     world: &World<'_>,
@@ -267,7 +267,7 @@ fn add_else(places: &mut Vec<usize>, world: &World<'_>, otherwise: &Else) -> Res
 }
 
 /// The slots of a function.
-#[tactic(auto, unfolding(gr_parse::specs::FileView::func_view))]
+#[tactic(auto, unfolding(gr_tree::specs::FileView::func_view))]
 pub fn slots(alloc: Global, world: &World<'_>, func: &FuncDecl) -> Result<Numbered, AllocError>
     ensures { IfOk result (λ slots. slots.places.items ≡ slots_of (world_of world.now) (func_view func.now)) }
 {

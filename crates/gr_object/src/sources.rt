@@ -1,13 +1,13 @@
 //! What the code of a file is made of, from the scopes of its package and what checking found.
 ghost use Rattle.std.specs.Prelude.{◌≡◌, ◌<◌, ◌≤◌, ◌↔◌, ℕ, List, codes, length, map, option_map, IfOk, IsTrue, MatchOption};
-ghost use Rattle.gr_parse.specs.SourceFile.{source_of as plain_file};
+ghost use Rattle.gr_tree.specs.SourceFile.{source_of as plain_file};
 ghost use Rattle.gr_scope.specs.declared.model.Role.TheVariants.{NotLexical};
 ghost use Rattle.gr_scope.specs.declared.model.Purpose.TheVariants as purpose;
 ghost use Rattle.gr_scope.specs.Bindings.{IsPackageLevel};
-ghost use Rattle.gr_types.specs.NamesView.{IsBehindDot};
-ghost use Rattle.gr_types.specs.PackageView.{package_of, IsIndexOf};
-ghost use Rattle.gr_types.specs.Written.{BindsToken, IsPredeclared};
-ghost use Rattle.gr_types.specs.Written.{ImportsPath as DeclaresImport};
+ghost use Rattle.gr_meanings.specs.NamesView.{IsBehindDot};
+ghost use Rattle.gr_declared.specs.PackageView.{package_of, IsIndexOf};
+ghost use Rattle.gr_declared.specs.Written.{BindsToken, IsPredeclared};
+ghost use Rattle.gr_declared.specs.Written.{ImportsPath as DeclaresImport};
 ghost use Rattle.gr_object.specs.LineView.{global_of};
 ghost use Rattle.gr_object.specs.Sources.{IsBehindImport, IsGlobal, IsTextAt, IsTrueAt};
 ghost use Rattle.gr_object.specs.TablesView.{AreGlobals, AreTexts, AreTruths, IsTabled};
@@ -16,11 +16,11 @@ use crate::instructions::GlobalName;
 use crate::numbered::Numbered;
 use crate::packages::{Packages, path_bytes};
 use crate::source::Source;
+use gr_declared::{Index, Package};
 use gr_expr::found::MemberUse;
 use gr_expr::world::World;
-use gr_parse::FileTree;
 use gr_scope::model::{Block, Position, Purpose, Role};
-use gr_types::{Index, Package};
+use gr_tree::FileTree;
 use std::alloc::{AllocError, Global};
 
 /// What the string literal at a token stands for; none where no string literal stands there.

@@ -1,7 +1,7 @@
 //! The code of statements, made from its last line to its first.
 ghost use Rattle.std.specs.Prelude.{◌≡◌, ◌≤◌, ◌-◌, ◌++◌, ◌∷◌, [], IfOk, OnOk, length};
-ghost use Rattle.gr_parse.specs.View.{expr_view, exprs_view, option_view};
-ghost use Rattle.gr_parse.specs.FileView.{for_view, stmt_view, block_view, if_view, else_view};
+ghost use Rattle.gr_tree.specs.View.{expr_view, exprs_view, option_view};
+ghost use Rattle.gr_tree.specs.FileView.{for_view, stmt_view, block_view, if_view, else_view};
 ghost use Rattle.gr_object.specs.Lines.{Jump, JumpUnless, Return};
 ghost use Rattle.gr_object.specs.LineView.{lines_in, Puts};
 ghost use Rattle.gr_object.specs.Expressions.{value_lines};
@@ -15,7 +15,7 @@ use crate::instructions::Instruction;
 use crate::operands::Wanted;
 use crate::scope::Scope;
 use crate::simple::{init, locals, optional, simple, values};
-use gr_parse::tree::{Block, BlockItem, Else, Expr, ExprItem, ForHeader, IfStmt, Stmt};
+use gr_tree::tree::{Block, BlockItem, Else, Expr, ExprItem, ForHeader, IfStmt, Stmt};
 use std::alloc::{AllocError, Global};
 
 /// How many lines lie behind where `continue` and `break` lead.
@@ -60,7 +60,7 @@ fn test<'a>(
 }
 
 /// What is done after each turn of a loop.
-#[tactic(auto, unfolding(gr_parse::specs::FileView::for_view))]
+#[tactic(auto, unfolding(gr_tree::specs::FileView::for_view))]
 fn post<'a>(
     alloc: Global,
     scope: Scope<'a>,
@@ -76,7 +76,7 @@ fn post<'a>(
 }
 
 /// The condition of a loop, where it has one, behind which there were `end` lines.
-#[tactic(auto, unfolding(gr_parse::specs::FileView::for_view))]
+#[tactic(auto, unfolding(gr_tree::specs::FileView::for_view))]
 fn header_condition<'a>(
     alloc: Global,
     scope: Scope<'a>,
@@ -98,7 +98,7 @@ fn header_condition<'a>(
 }
 
 /// What is done before a loop.
-#[tactic(auto, unfolding(gr_parse::specs::FileView::for_view))]
+#[tactic(auto, unfolding(gr_tree::specs::FileView::for_view))]
 fn header_init<'a>(
     alloc: Global,
     scope: Scope<'a>,

@@ -1,6 +1,6 @@
 //! Types as code names them.
 ghost use Rattle.std.specs.Prelude.{◌≡◌, [], IfOk, option_map};
-ghost use Rattle.gr_parse.specs.View.{type_view};
+ghost use Rattle.gr_tree.specs.View.{type_view};
 ghost use Rattle.gr_expr.specs.Types.{is_struct};
 ghost use Rattle.gr_expr.specs.World.{underlying};
 ghost use Rattle.gr_expr.specs.Judge.{judge_type};
@@ -10,7 +10,7 @@ ghost use Rattle.gr_expr.specs.WorldView.{world_of};
 use gr_expr::found::Found;
 use gr_expr::types::GoType;
 use gr_expr::world::{Shape, World};
-use gr_parse::tree::TypeExpr;
+use gr_tree::tree::TypeExpr;
 use std::alloc::{AllocError, Global};
 
 /// Nothing found yet.

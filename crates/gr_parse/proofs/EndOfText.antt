@@ -1,11 +1,11 @@
 -- What the machine stops in for syntax is no whole text: at the end of a text, too, a derivation goes by the selected rule.
 use Rattle.std.proofs.Common.{ℕ, ◌≡◌, Bool, true, false, List, [], ◌∷◌, ◌++◌, refl, sym, ◌∙◌, subst}
 use Rattle.std.specs.Prelude.{◌&&◌}
-use Rattle.gr_parse.specs.declared.syntax.Kind.TheVariants as kind
-use Rattle.gr_parse.specs.declared.syntax.Token.{Token}
-use Rattle.gr_parse.specs.declared.syntax.FaultKind.TheVariants.{Syntax}
-use Rattle.gr_parse.specs.Grammar.{Symbol, One, Opening, Close, A, Part, Rule, Begins, Otherwise, rules, Single, ImportItem, GlobalItem, TypeItem, LocalItem, AfterName, AfterSelector, Address, File}
-use Rattle.gr_parse.specs.Language.{Among, tested, untested, below, Derives, ends, token, opening, closing, by_rule, FirstFault}
+use Rattle.gr_tree.specs.declared.syntax.Kind.TheVariants as kind
+use Rattle.gr_tree.specs.declared.syntax.Token.{Token}
+use Rattle.gr_tree.specs.declared.syntax.FaultKind.TheVariants.{Syntax}
+use Rattle.gr_tree.specs.Grammar.{Symbol, One, Opening, Close, A, Part, Rule, Begins, Otherwise, rules, Single, ImportItem, GlobalItem, TypeItem, LocalItem, AfterName, AfterSelector, Address, File}
+use Rattle.gr_tree.specs.Language.{Among, tested, untested, below, Derives, ends, token, opening, closing, by_rule, FirstFault}
 use Rattle.gr_parse.specs.Machine.{Run, take, opens, closes, expand, refused, refused_opening, left_over, Stopped, Selects, first as selects_first, later, last}
 use Rattle.gr_parse.proofs.Tables.{first, firsts, followed, nullable, nullables, implies, symbols_of}
 use Rattle.gr_parse.proofs.Predictive.{and_left, and_right, and_both, rule_at, implied, no, Good, good_rule, followed_at, selected, goes_by, after_token, after_opening, after_closing, stops_at}

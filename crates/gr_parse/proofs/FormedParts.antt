@@ -3,26 +3,26 @@ use Rattle.std.proofs.Common.{ℕ, ◌≡◌, false, List, [], ◌∷◌, Option
 use Rattle.std.specs.Result.{IfOk}
 use Rattle.std.specs.List.{All}
 use Rattle.std.proofs.lemmas.List.Elements.{All-cons, All-nil, All-map}
-use Rattle.gr_parse.specs.declared.tree.Item.{Item}
-use Rattle.gr_parse.specs.declared.tree.Group.{Group}
-use Rattle.gr_parse.specs.declared.tree.Group.TheVariants as group
-use Rattle.gr_parse.specs.declared.tree.VarSpec.{VarSpec}
-use Rattle.gr_parse.specs.declared.tree.Field.{Field}
-use Rattle.gr_parse.specs.declared.tree.Param.{Param}
-use Rattle.gr_parse.specs.declared.tree.TypeExpr.{TypeExpr}
-use Rattle.gr_parse.specs.declared.tree.TypeBody.TheVariants as body
-use Rattle.gr_parse.specs.declared.tree.TypeSpec.{TypeSpec}
-use Rattle.gr_parse.specs.declared.tree.Results.TheVariants as results
-use Rattle.gr_parse.specs.declared.tree.Values.{Values}
-use Rattle.gr_parse.specs.declared.tree.LocalSpec.{LocalSpec}
-use Rattle.gr_parse.specs.declared.tree.ImportDecl.{ImportDecl}
-use Rattle.gr_parse.specs.declared.tree.FuncDecl.{FuncDecl}
-use Rattle.gr_parse.specs.declared.tree.Decl.TheVariants as decl
-use Rattle.gr_parse.specs.declared.tree.File.{File}
-use Rattle.gr_parse.specs.WellFormed.{IsSeparated, IsList, IsOpenList, IsGroup, Perhaps, Any, IsExprIn, IsLocal, IsGlobal, IsField, IsBody, IsTypeSpec, IsParam, IsResult, IsBlock, IsFunc, IsImports, IsDecl, IsFile}
+use Rattle.gr_tree.specs.declared.tree.Item.{Item}
+use Rattle.gr_tree.specs.declared.tree.Group.{Group}
+use Rattle.gr_tree.specs.declared.tree.Group.TheVariants as group
+use Rattle.gr_tree.specs.declared.tree.VarSpec.{VarSpec}
+use Rattle.gr_tree.specs.declared.tree.Field.{Field}
+use Rattle.gr_tree.specs.declared.tree.Param.{Param}
+use Rattle.gr_tree.specs.declared.tree.TypeExpr.{TypeExpr}
+use Rattle.gr_tree.specs.declared.tree.TypeBody.TheVariants as body
+use Rattle.gr_tree.specs.declared.tree.TypeSpec.{TypeSpec}
+use Rattle.gr_tree.specs.declared.tree.Results.TheVariants as results
+use Rattle.gr_tree.specs.declared.tree.Values.{Values}
+use Rattle.gr_tree.specs.declared.tree.LocalSpec.{LocalSpec}
+use Rattle.gr_tree.specs.declared.tree.ImportDecl.{ImportDecl}
+use Rattle.gr_tree.specs.declared.tree.FuncDecl.{FuncDecl}
+use Rattle.gr_tree.specs.declared.tree.Decl.TheVariants as decl
+use Rattle.gr_tree.specs.declared.tree.File.{File}
+use Rattle.gr_tree.specs.WellFormed.{IsSeparated, IsList, IsOpenList, IsGroup, Perhaps, Any, IsExprIn, IsLocal, IsGlobal, IsField, IsBody, IsTypeSpec, IsParam, IsResult, IsBlock, IsFunc, IsImports, IsDecl, IsFile}
 use Rattle.gr_parse.specs.Listed.{IsToldBy}
-use Rattle.gr_parse.specs.View.{option_view, list_view, item_view, group_view, ident_view, type_view, exprs_view}
-use Rattle.gr_parse.specs.FileView.{same_place, values_view, local_view, import_view, var_values_view, global_view, field_view, body_view, type_spec_view, param_view, results_view, block_view, func_view, imports_view, decl_view, file_view}
+use Rattle.gr_tree.specs.View.{option_view, list_view, item_view, group_view, ident_view, type_view, exprs_view}
+use Rattle.gr_tree.specs.FileView.{same_place, values_view, local_view, import_view, var_values_view, global_view, field_view, body_view, type_spec_view, param_view, results_view, block_view, func_view, imports_view, decl_view, file_view}
 
 pub if_ok : {Y E : Type 0} (P Q : Y → Type 0) (r : Result Y E) → ((y : Y) → P y → Q y) → IfOk r P → IfOk r Q
 if_ok P Q (Ok y) f h = f y h

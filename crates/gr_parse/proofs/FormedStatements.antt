@@ -1,34 +1,34 @@
 -- How well-formed statements are made from their parts.
 use Rattle.std.proofs.Common.{ℕ, ◌≡◌, ◌≢◌, Bool, true, false, List, [], ◌∷◌, Option, Some, None, is_some, sym, subst, refl, arith}
 use Rattle.std.specs.List.{All}
-use Rattle.gr_parse.specs.declared.syntax.StepOp.{StepOp}
-use Rattle.gr_parse.specs.declared.syntax.UpdateOp.{UpdateOp}
+use Rattle.gr_tree.specs.declared.syntax.StepOp.{StepOp}
+use Rattle.gr_tree.specs.declared.syntax.UpdateOp.{UpdateOp}
 use Rattle.gr_parse.specs.declared.words.Setting.{Setting}
 use Rattle.gr_parse.specs.declared.words.Setting.TheVariants as setting
 use Rattle.gr_parse.specs.declared.words.SetOp.{SetOp}
 use Rattle.gr_parse.specs.declared.words.SetOp.TheVariants as set
-use Rattle.gr_parse.specs.declared.tree.Expr.{Expr}
-use Rattle.gr_parse.specs.declared.tree.ExprItem.{ExprItem}
-use Rattle.gr_parse.specs.declared.tree.SimpleStmt.{SimpleStmt}
-use Rattle.gr_parse.specs.declared.tree.SimpleStmt.TheVariants as simple
-use Rattle.gr_parse.specs.declared.tree.IfInit.{IfInit}
-use Rattle.gr_parse.specs.declared.tree.ForHeader.{ForHeader}
-use Rattle.gr_parse.specs.declared.tree.ForHeader.TheVariants as for
-use Rattle.gr_parse.specs.declared.tree.Stmt.TheVariants as stmt
-use Rattle.gr_parse.specs.declared.tree.Else.{Else}
-use Rattle.gr_parse.specs.declared.tree.Else.TheBlock.{hidden-the_row-BlockItem-0}
-use Rattle.gr_parse.specs.declared.tree.Else.TheViews.{roll-Block, roll-IfStmt}
-use Rattle.gr_parse.specs.declared.tree.Else.TheVariants as else
-use Rattle.gr_parse.specs.declared.tree.Block.{Block, Row_of-BlockItem, end_of-BlockItem, more_of-BlockItem, items-the_row-BlockItem, items_hidden-the_row-BlockItem-0}
-use Rattle.gr_parse.specs.declared.tree.BlockItem.{BlockItem}
-use Rattle.gr_parse.specs.declared.tree.IfStmt.{IfStmt}
-use Rattle.gr_parse.specs.Tree as tree
-use Rattle.gr_parse.specs.Grammar.{in_head}
+use Rattle.gr_tree.specs.declared.tree.Expr.{Expr}
+use Rattle.gr_tree.specs.declared.tree.ExprItem.{ExprItem}
+use Rattle.gr_tree.specs.declared.tree.SimpleStmt.{SimpleStmt}
+use Rattle.gr_tree.specs.declared.tree.SimpleStmt.TheVariants as simple
+use Rattle.gr_tree.specs.declared.tree.IfInit.{IfInit}
+use Rattle.gr_tree.specs.declared.tree.ForHeader.{ForHeader}
+use Rattle.gr_tree.specs.declared.tree.ForHeader.TheVariants as for
+use Rattle.gr_tree.specs.declared.tree.Stmt.TheVariants as stmt
+use Rattle.gr_tree.specs.declared.tree.Else.{Else}
+use Rattle.gr_tree.specs.declared.tree.Else.TheBlock.{hidden-the_row-BlockItem-0}
+use Rattle.gr_tree.specs.declared.tree.Else.TheViews.{roll-Block, roll-IfStmt}
+use Rattle.gr_tree.specs.declared.tree.Else.TheVariants as else
+use Rattle.gr_tree.specs.declared.tree.Block.{Block, Row_of-BlockItem, end_of-BlockItem, more_of-BlockItem, items-the_row-BlockItem, items_hidden-the_row-BlockItem-0}
+use Rattle.gr_tree.specs.declared.tree.BlockItem.{BlockItem}
+use Rattle.gr_tree.specs.declared.tree.IfStmt.{IfStmt}
+use Rattle.gr_tree.specs.Tree as tree
+use Rattle.gr_tree.specs.Grammar.{in_head}
 use Rattle.gr_parse.specs.Words.{setting_of, IsAllowed}
-use Rattle.gr_parse.specs.WellFormed.{IsList, IsGroup, Perhaps, IsExprIn, IsSimple, IsPost, IsInit, IsFor, IsLocal, IsStatement, AreStatements, IsBlock, IsIf, IsElse}
+use Rattle.gr_tree.specs.WellFormed.{IsList, IsGroup, Perhaps, IsExprIn, IsSimple, IsPost, IsInit, IsFor, IsLocal, IsStatement, AreStatements, IsBlock, IsIf, IsElse}
 use Rattle.gr_parse.specs.Listed.{IsJoinedBy, IsListed, IsSimpleIn, AreReturned}
-use Rattle.gr_parse.specs.View.{option_view, group_view, expr_view, expr_item_view, exprs_view}
-use Rattle.gr_parse.specs.FileView.{local_view, simple_view, init_view, for_view, stmt_view, block_view, statements_view, if_view, else_view}
+use Rattle.gr_tree.specs.View.{option_view, group_view, expr_view, expr_item_view, exprs_view}
+use Rattle.gr_tree.specs.FileView.{local_view, simple_view, init_view, for_view, stmt_view, block_view, statements_view, if_view, else_view}
 use Rattle.gr_parse.proofs.ListedSteps.{listed_none, listed_push, listed_list}
 use Rattle.gr_parse.proofs.FormedParts.{group_formed, tail_of}
 

@@ -1,31 +1,31 @@
 -- How well-formed expressions are made from their parts.
 use Rattle.std.proofs.Common.{ℕ, ◌≡◌, ◌≢◌, ◌<◌, ◌≤◌, ap, sym, ◌∙◌, subst, Bool, true, false, List, [], ◌∷◌, ◌++◌, refl, Option, Some, None, arith, Result, Ok, Err, is_some, cond, ◌==◌}
 use Rattle.std.specs.Result.{IfOk}
-use Rattle.gr_parse.specs.declared.syntax.Kind.{Kind}
-use Rattle.gr_parse.specs.declared.syntax.Kind.TheVariants as kind
-use Rattle.gr_parse.specs.declared.syntax.PrefixOp.{PrefixOp}
-use Rattle.gr_parse.specs.declared.syntax.BinaryOp.{BinaryOp}
-use Rattle.gr_parse.specs.declared.syntax.BinaryOp.TheVariants as binary
-use Rattle.gr_parse.specs.declared.syntax.Token.{Token}
-use Rattle.gr_parse.specs.Grammar.{binary_of}
-use Rattle.gr_parse.specs.Flatten.{sign, binary_kind}
+use Rattle.gr_tree.specs.declared.syntax.Kind.{Kind}
+use Rattle.gr_tree.specs.declared.syntax.Kind.TheVariants as kind
+use Rattle.gr_tree.specs.declared.syntax.PrefixOp.{PrefixOp}
+use Rattle.gr_tree.specs.declared.syntax.BinaryOp.{BinaryOp}
+use Rattle.gr_tree.specs.declared.syntax.BinaryOp.TheVariants as binary
+use Rattle.gr_tree.specs.declared.syntax.Token.{Token}
+use Rattle.gr_tree.specs.Grammar.{binary_of}
+use Rattle.gr_tree.specs.Flatten.{sign, binary_kind}
 use Rattle.gr_parse.specs.Strength.{strength_if, strength_at}
-use Rattle.gr_parse.specs.declared.tree.Expr.{Expr, Row_of-Link, end_of-Link, more_of-Link, items-the_row-Link, items_hidden-the_row-Link-0, Row_of-Operand, end_of-Operand, more_of-Operand, items-the_row-Operand, items_hidden-the_row-Operand-1}
-use Rattle.gr_parse.specs.declared.tree.Expr.TheBlock.{hidden-the_row-Link-0, hidden-the_row-Operand-1, hidden-the_row-ExprItem-2, hidden-the_row-Element-3}
-use Rattle.gr_parse.specs.declared.tree.Expr.TheVariants as expr
-use Rattle.gr_parse.specs.declared.tree.Expr.TheViews.{roll-CompositeLit}
-use Rattle.gr_parse.specs.declared.tree.Link.{Row_of-ExprItem, end_of-ExprItem, more_of-ExprItem, items-the_row-ExprItem, items_hidden-the_row-ExprItem-2}
-use Rattle.gr_parse.specs.declared.tree.Link.TheVariants as link
-use Rattle.gr_parse.specs.declared.tree.ExprItem.{ExprItem}
-use Rattle.gr_parse.specs.declared.tree.Element.{Element}
-use Rattle.gr_parse.specs.declared.tree.TypeExpr.{TypeExpr}
-use Rattle.gr_parse.specs.declared.tree.TypeExpr.TheVariants as type
-use Rattle.gr_parse.specs.declared.tree.CompositeLit.{CompositeLit, Row_of-Element, end_of-Element, more_of-Element, items-the_row-Element, items_hidden-the_row-Element-3}
+use Rattle.gr_tree.specs.declared.tree.Expr.{Expr, Row_of-Link, end_of-Link, more_of-Link, items-the_row-Link, items_hidden-the_row-Link-0, Row_of-Operand, end_of-Operand, more_of-Operand, items-the_row-Operand, items_hidden-the_row-Operand-1}
+use Rattle.gr_tree.specs.declared.tree.Expr.TheBlock.{hidden-the_row-Link-0, hidden-the_row-Operand-1, hidden-the_row-ExprItem-2, hidden-the_row-Element-3}
+use Rattle.gr_tree.specs.declared.tree.Expr.TheVariants as expr
+use Rattle.gr_tree.specs.declared.tree.Expr.TheViews.{roll-CompositeLit}
+use Rattle.gr_tree.specs.declared.tree.Link.{Row_of-ExprItem, end_of-ExprItem, more_of-ExprItem, items-the_row-ExprItem, items_hidden-the_row-ExprItem-2}
+use Rattle.gr_tree.specs.declared.tree.Link.TheVariants as link
+use Rattle.gr_tree.specs.declared.tree.ExprItem.{ExprItem}
+use Rattle.gr_tree.specs.declared.tree.Element.{Element}
+use Rattle.gr_tree.specs.declared.tree.TypeExpr.{TypeExpr}
+use Rattle.gr_tree.specs.declared.tree.TypeExpr.TheVariants as type
+use Rattle.gr_tree.specs.declared.tree.CompositeLit.{CompositeLit, Row_of-Element, end_of-Element, more_of-Element, items-the_row-Element, items_hidden-the_row-Element-3}
 use Rattle.gr_parse.specs.Leaf.{leaf_of}
-use Rattle.gr_parse.specs.Tree as tree
-use Rattle.gr_parse.specs.Tree.{TypeTree, Local, Imported, Pointer, Slice, ExprTree, LinkTrees, no_link, LiteralTree, literal, ArgumentTrees, ElementTrees, OperandTrees}
-use Rattle.gr_parse.specs.View.{type_view, expr_view, literal_view, link_view, links_view, operands_view, arguments_view, elements_view}
-use Rattle.gr_parse.specs.WellFormed.{strength, strength_of, is_operand, is_binary_tree, IsExpr, IsExprIn, AreOperands, AreLinks, AreArguments, IsLiteral, IsLiteralType, AreElements, IsUnnamed, HasNoNamedLiteral, HaveNoNamedLiteral}
+use Rattle.gr_tree.specs.Tree as tree
+use Rattle.gr_tree.specs.Tree.{TypeTree, Local, Imported, Pointer, Slice, ExprTree, LinkTrees, no_link, LiteralTree, literal, ArgumentTrees, ElementTrees, OperandTrees}
+use Rattle.gr_tree.specs.View.{type_view, expr_view, literal_view, link_view, links_view, operands_view, arguments_view, elements_view}
+use Rattle.gr_tree.specs.WellFormed.{strength, strength_of, is_operand, is_binary_tree, IsExpr, IsExprIn, AreOperands, AreLinks, AreArguments, IsLiteral, IsLiteralType, AreElements, IsUnnamed, HasNoNamedLiteral, HaveNoNamedLiteral}
 use Rattle.gr_parse.specs.Grouping.{is_slice, is_literal_type, literal_type_of, IsUnary, IsOperand, IsLiteralIn, IsLink, IsJoined, IsSeparatedBy, IsSeparatedSoFar, AreItems, Each}
 
 clash : {X : Type 0} → false ≡ true → X

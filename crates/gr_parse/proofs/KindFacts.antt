@@ -1,11 +1,11 @@
 -- Facts on each kind of token, by a test of all kinds.
 use Rattle.std.proofs.Common.{ℕ, zero, suc, ◌≡◌, Bool, true, false, List, [], ◌∷◌, ◌&&◌, get_or, ap, sym, ◌∙◌, subst, refl, Option, Some, None}
-use Rattle.gr_parse.specs.declared.syntax.Kind.{Kind}
-use Rattle.gr_parse.specs.declared.syntax.Kind.TheVariants as kind
-use Rattle.gr_parse.specs.declared.syntax.BinaryOp.{BinaryOp}
-use Rattle.gr_parse.specs.declared.syntax.PrefixOp.{PrefixOp}
-use Rattle.gr_parse.specs.Grammar.{number_of, is, binary_of, prefix_of, is_binary, is_prefix, is_some}
-use Rattle.gr_parse.specs.Flatten.{binary_kind, prefix_kind}
+use Rattle.gr_tree.specs.declared.syntax.Kind.{Kind}
+use Rattle.gr_tree.specs.declared.syntax.Kind.TheVariants as kind
+use Rattle.gr_tree.specs.declared.syntax.BinaryOp.{BinaryOp}
+use Rattle.gr_tree.specs.declared.syntax.PrefixOp.{PrefixOp}
+use Rattle.gr_tree.specs.Grammar.{number_of, is, binary_of, prefix_of, is_binary, is_prefix, is_some}
+use Rattle.gr_tree.specs.Flatten.{binary_kind, prefix_kind}
 use Rattle.gr_parse.proofs.KindTests.{kinds, at_number, is_only}
 
 abbrev pub every : (Kind → Bool) → List Kind → Bool

@@ -3,9 +3,9 @@ use Rattle.std.proofs.Common.{ℕ, ◌≡◌, ◌<◌, ◌≤◌, ◌+◌, ap, s
 use Rattle.std.proofs.lemmas.List.{nil_from_length}
 use Rattle.gr_scan.specs.declared.piece.Piece.{Piece}
 use Rattle.gr_scan.specs.Cuts.{bytes_of}
-use Rattle.gr_parse.specs.declared.syntax.Kind.{Kind}
-use Rattle.gr_parse.specs.declared.syntax.Token.{Token}
-use Rattle.gr_parse.specs.Kinds.{kinds_from, kind_of}
+use Rattle.gr_tree.specs.declared.syntax.Kind.{Kind}
+use Rattle.gr_tree.specs.declared.syntax.Token.{Token}
+use Rattle.gr_tree.specs.Kinds.{kinds_from, kind_of}
 
 pub kinds_step : (n : ℕ) (text : List ℕ) (ps : List Piece) (d : Piece) → n < length ps →
     kinds_from n text (drop n ps) ≡ record { kind = kind_of (get_or ps n d).class (bytes_of text (get_or ps n d)); place = n } ∷ kinds_from (n + 1) text (drop (n + 1) ps)

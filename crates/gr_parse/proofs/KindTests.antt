@@ -1,9 +1,9 @@
 -- Tests on kinds of tokens.
 use Rattle.std.proofs.Common.{◌≡◌, true, List, [], ◌∷◌, get_or, ap, sym, ◌∙◌, eq-eqb, refl}
-use Rattle.gr_parse.specs.declared.syntax.Kind.{Kind}
-use Rattle.gr_parse.specs.declared.syntax.Kind.TheVariants.{Name, Blank, Number, Text, LeftParen, RightParen, LeftBracket, RightBracket, LeftBrace, RightBrace, Comma, Dot, Colon, Semicolon, Plus, Minus, Star, Slash, Percent, Equal, NotEqual, Less, LessEqual, Greater, GreaterEqual, AndAnd, OrOr, Not, Ampersand, Assign, Define, AddAssign, SubAssign, MulAssign, DivAssign, RemAssign, Increment, Decrement, If, Else, For, Break, Continue, Return, Var, Package, Import, Func, TypeWord, Struct, Other}
+use Rattle.gr_tree.specs.declared.syntax.Kind.{Kind}
+use Rattle.gr_tree.specs.declared.syntax.Kind.TheVariants.{Name, Blank, Number, Text, LeftParen, RightParen, LeftBracket, RightBracket, LeftBrace, RightBrace, Comma, Dot, Colon, Semicolon, Plus, Minus, Star, Slash, Percent, Equal, NotEqual, Less, LessEqual, Greater, GreaterEqual, AndAnd, OrOr, Not, Ampersand, Assign, Define, AddAssign, SubAssign, MulAssign, DivAssign, RemAssign, Increment, Decrement, If, Else, For, Break, Continue, Return, Var, Package, Import, Func, TypeWord, Struct, Other}
 use Rattle.std.proofs.lemmas.Bool.{eqb-true}
-use Rattle.gr_parse.specs.Grammar.{number_of, is}
+use Rattle.gr_tree.specs.Grammar.{number_of, is}
 
 abbrev pub kinds : List Kind
 kinds = Name ∷ Blank ∷ Number ∷ Text ∷ LeftParen ∷ RightParen ∷ LeftBracket ∷ RightBracket ∷ LeftBrace ∷ RightBrace ∷ Comma ∷ Dot ∷ Colon ∷ Semicolon ∷ Plus ∷ Minus ∷ Star ∷ Slash ∷ Percent ∷ Equal ∷ NotEqual ∷ Less ∷ LessEqual ∷ Greater ∷ GreaterEqual ∷ AndAnd ∷ OrOr ∷ Not ∷ Ampersand ∷ Assign ∷ Define ∷ AddAssign ∷ SubAssign ∷ MulAssign ∷ DivAssign ∷ RemAssign ∷ Increment ∷ Decrement ∷ If ∷ Else ∷ For ∷ Break ∷ Continue ∷ Return ∷ Var ∷ Package ∷ Import ∷ Func ∷ TypeWord ∷ Struct ∷ Other ∷ []

@@ -1,17 +1,17 @@
 -- Each type and each expression has at least one token, so that what is left behind it is shorter.
 use Rattle.std.proofs.Common.{ℕ, ◌≡◌, ◌≤◌, ◌<◌, ◌+◌, ap, List, [], ◌∷◌, ◌++◌, length, length-append, arith, Option, Some, None}
-use Rattle.gr_parse.specs.declared.syntax.Kind.{Kind}
-use Rattle.gr_parse.specs.declared.syntax.Kind.TheVariants as kind
-use Rattle.gr_parse.specs.declared.syntax.Token.{Token}
-use Rattle.gr_parse.specs.declared.tree.Expr.{Expr}
-use Rattle.gr_parse.specs.declared.tree.ExprItem.{ExprItem}
-use Rattle.gr_parse.specs.declared.tree.Element.{Element}
-use Rattle.gr_parse.specs.declared.tree.TypeExpr.{TypeExpr}
-use Rattle.gr_parse.specs.Tree.{TypeTree, Local, Imported, Pointer, Slice, ExprTree, Number, Text, Name, Blank, Composite, Paren, Prefix, Address, Chain, Binary, LiteralTree, literal}
-use Rattle.gr_parse.specs.Flatten.{sign, sign_if, type_tokens, expr_tokens, literal_tokens, link_tokens, operand_tokens, element_tokens, key_tokens, prefix_kind}
-use Rattle.gr_parse.specs.View.{type_view, expr_view, key_view}
+use Rattle.gr_tree.specs.declared.syntax.Kind.{Kind}
+use Rattle.gr_tree.specs.declared.syntax.Kind.TheVariants as kind
+use Rattle.gr_tree.specs.declared.syntax.Token.{Token}
+use Rattle.gr_tree.specs.declared.tree.Expr.{Expr}
+use Rattle.gr_tree.specs.declared.tree.ExprItem.{ExprItem}
+use Rattle.gr_tree.specs.declared.tree.Element.{Element}
+use Rattle.gr_tree.specs.declared.tree.TypeExpr.{TypeExpr}
+use Rattle.gr_tree.specs.Tree.{TypeTree, Local, Imported, Pointer, Slice, ExprTree, Number, Text, Name, Blank, Composite, Paren, Prefix, Address, Chain, Binary, LiteralTree, literal}
+use Rattle.gr_tree.specs.Flatten.{sign, sign_if, type_tokens, expr_tokens, literal_tokens, link_tokens, operand_tokens, element_tokens, key_tokens, prefix_kind}
+use Rattle.gr_tree.specs.View.{type_view, expr_view, key_view}
 use Rattle.gr_parse.specs.Spelling.{type_spelled, expr_spelled, expr_item_spelled, element_spelled}
-use Rattle.gr_parse.specs.Grammar.{Symbol}
+use Rattle.gr_tree.specs.Grammar.{Symbol}
 use Rattle.gr_parse.specs.Parsing.{Separates, Read, Leads}
 
 pub length_of : (a b : List Token) → length (a ++ b) ≡ length a + length b

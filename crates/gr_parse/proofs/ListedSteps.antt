@@ -3,9 +3,9 @@ use Rattle.std.proofs.Common.{ℕ, ◌≡◌, Bool, true, false, List, [], ◌�
 use Rattle.std.specs.Option.{IsSome}
 use Rattle.std.specs.List.{All}
 use Rattle.std.proofs.lemmas.List.Elements.{All-cons, All-nil, All-map, All-append}
-use Rattle.gr_parse.specs.Tree.{Item}
+use Rattle.gr_tree.specs.Tree.{Item}
 use Rattle.gr_parse.specs.Grouping.{Each}
-use Rattle.gr_parse.specs.WellFormed.{IsNonEmpty, IsSeparated, IsJoined, IsList, IsOpenList}
+use Rattle.gr_tree.specs.WellFormed.{IsNonEmpty, IsSeparated, IsJoined, IsList, IsOpenList}
 use Rattle.gr_parse.specs.Listed.{IsJoinedBy, IsListed}
 
 clash : {X : Type 0} → true ≡ false → X

@@ -1,11 +1,11 @@
 -- Lists of items, with and without brackets, as a parser's loops read them.
 use Rattle.std.proofs.Common.{subst, ℕ, ◌≡◌, Bool, true, false, List, [], ◌∷◌, ap, sym, ◌∙◌, refl, Option, Some, None, is_some}
-use Rattle.gr_parse.specs.declared.syntax.Kind.{Kind}
-use Rattle.gr_parse.specs.declared.syntax.Token.{Token}
-use Rattle.gr_parse.specs.Grammar.{is, One, A, Symbol, Part, rules}
+use Rattle.gr_tree.specs.declared.syntax.Kind.{Kind}
+use Rattle.gr_tree.specs.declared.syntax.Token.{Token}
+use Rattle.gr_tree.specs.Grammar.{is, One, A, Symbol, Part, rules}
 use Rattle.gr_parse.specs.Machine.{Run, expand, at, Selects}
 use Rattle.gr_parse.specs.Parsing.{Leads, Read, Separates, list_rest, items_rest}
-use Rattle.gr_parse.specs.Flatten.{sign, sign_if}
+use Rattle.gr_tree.specs.Flatten.{sign, sign_if}
 use Rattle.gr_parse.proofs.KindTests.{is_itself}
 use Rattle.gr_parse.proofs.MachineSteps.{leads_rule, leads_then, leads_here, passes_one}
 

@@ -1,17 +1,18 @@
 -- Steps of the machine, as a parser takes them.
 use Rattle.std.proofs.Common.{add-one, append_assoc, ℕ, ◌≡◌, Bool, true, false, List, [], ◌∷◌, ◌++◌, ◌+◌, ◌<◌, ◌≤◌, length, ap, sym, ◌∙◌, subst, refl}
-use Rattle.gr_parse.specs.declared.syntax.Kind.{Kind}
-use Rattle.gr_parse.specs.declared.syntax.Token.{Token}
-use Rattle.gr_parse.specs.declared.syntax.FaultKind.{FaultKind}
-use Rattle.gr_parse.specs.declared.syntax.FaultKind.TheVariants.{Syntax, Nesting}
-use Rattle.gr_parse.specs.Grammar.{is, One, Opening, Close, A, Symbol, Part, rules}
-use Rattle.gr_parse.specs.Machine.{Run, Outcome, Accepted, Stopped, refused_opening, too_deep, take, refused, expand, closes, opens, at, Selects, limit}
+use Rattle.gr_tree.specs.declared.syntax.Kind.{Kind}
+use Rattle.gr_tree.specs.declared.syntax.Token.{Token}
+use Rattle.gr_tree.specs.declared.syntax.FaultKind.{FaultKind}
+use Rattle.gr_tree.specs.declared.syntax.FaultKind.TheVariants.{Syntax, Nesting}
+use Rattle.gr_tree.specs.Grammar.{is, One, Opening, Close, A, Symbol, Part, rules}
+use Rattle.gr_parse.specs.Machine.{Run, Outcome, Accepted, Stopped, refused_opening, too_deep, take, refused, expand, closes, opens, at, Selects}
+use Rattle.gr_tree.specs.Verdict.{limit}
 use Rattle.std.proofs.Common.{Result, Ok, Err}
 use Rattle.std.specs.Result.{IsErrAnd}
-use Rattle.gr_parse.specs.declared.syntax.ParseError.{ParseError}
-use Rattle.gr_parse.specs.declared.syntax.ParseError.TheVariants.{Memory, Fault}
+use Rattle.gr_parse.specs.declared.parse_error.ParseError.{ParseError}
+use Rattle.gr_parse.specs.declared.parse_error.ParseError.TheVariants.{Memory, Fault}
 use Rattle.gr_parse.specs.Parsing.{Leads, Continued, Read, Fails, Passes, Parses, Gives, Continues}
-use Rattle.gr_parse.specs.Flatten.{sign}
+use Rattle.gr_tree.specs.Flatten.{sign}
 use Rattle.gr_parse.proofs.KindTests.{is_only}
 
 pub passes_token : (k : Kind) (t : Token) (d : ℕ) (ts rest : List Token) → ts ≡ t ∷ rest → is k t.kind ≡ true →

@@ -1,11 +1,11 @@
 -- Derivations with the values that they build, put together from the end of a text to its beginning.
 use Rattle.std.proofs.Common.{◌≡◌, Bool, true, List, ◌∷◌, ◌++◌, refl, ap, sym, ◌∙◌, subst}
-use Rattle.gr_parse.specs.declared.syntax.Kind.{Kind}
-use Rattle.gr_parse.specs.declared.syntax.Token.{Token}
-use Rattle.gr_parse.specs.Grammar.{Symbol, One, Opening, Close, A, Part, rules, TypeUse}
-use Rattle.gr_parse.specs.Language.{Among, tested, untested, below, Derives, token, opening, closing, by_rule}
-use Rattle.gr_parse.specs.Tree.{TypeTree, Local, Imported, Pointer, Slice}
-use Rattle.gr_parse.specs.Flatten.{type_tokens}
+use Rattle.gr_tree.specs.declared.syntax.Kind.{Kind}
+use Rattle.gr_tree.specs.declared.syntax.Token.{Token}
+use Rattle.gr_tree.specs.Grammar.{Symbol, One, Opening, Close, A, Part, rules, TypeUse}
+use Rattle.gr_tree.specs.Language.{Among, tested, untested, below, Derives, token, opening, closing, by_rule}
+use Rattle.gr_tree.specs.Tree.{TypeTree, Local, Imported, Pointer, Slice}
+use Rattle.gr_tree.specs.Flatten.{type_tokens}
 use Rattle.gr_parse.proofs.OneValue.{Values, built, value}
 
 pub record Made (ss : List Symbol) (vs : Values ss) (ts : List Token) : Type 0 where

@@ -1,12 +1,12 @@
 -- Each well-formed block is derived, and its derivation builds it.
 use Rattle.std.proofs.Common.{◌⊎◌, ℕ, ◌≡◌, ◌≢◌, true, false, List, [], ◌∷◌, ◌++◌, Option, Some, None, refl, ap, sym, ◌∙◌, subst, append_assoc, inl, inr}
-use Rattle.gr_parse.specs.declared.syntax.Kind.TheVariants as kind
-use Rattle.gr_parse.specs.declared.syntax.Token.{Token}
-use Rattle.gr_parse.specs.Grammar.{ReturnValues, Expression, is, Symbol, One, A, Plain, Head, Post, LocalItem, Block, MoreStatements, Statement, IfHead, IfBody, ElsePart, ForHead, ForRest, ForCondition, ForPost}
-use Rattle.gr_parse.specs.Language.{tested, untested, below}
-use Rattle.gr_parse.specs.Tree.{Item, ExprTree, SimpleTree, InitTree, ForTree, forever, while, clauses, StatementTree, Empty, Var, Simple, Inner, If, For, Break, Continue, Return, BlockTree, block, StatementTrees, no_statement, statement, if_tree, ElseTree, no_else, else_if, else_block}
-use Rattle.gr_parse.specs.Flatten.{sign, sign_if, tokens_if, all_tokens, exprs_tokens, expr_tokens, simple_tokens, local_tokens, init_tokens, for_tokens, statement_tokens, block_tokens, statements_tokens, else_tokens}
-use Rattle.gr_parse.specs.WellFormed.{Perhaps, IsList, IsExprIn, IsSimple, IsPost, IsInit, IsFor, IsLocal, IsStatement, IsBlock, AreStatements, IsElse}
+use Rattle.gr_tree.specs.declared.syntax.Kind.TheVariants as kind
+use Rattle.gr_tree.specs.declared.syntax.Token.{Token}
+use Rattle.gr_tree.specs.Grammar.{ReturnValues, Expression, is, Symbol, One, A, Plain, Head, Post, LocalItem, Block, MoreStatements, Statement, IfHead, IfBody, ElsePart, ForHead, ForRest, ForCondition, ForPost}
+use Rattle.gr_tree.specs.Language.{tested, untested, below}
+use Rattle.gr_tree.specs.Tree.{Item, ExprTree, SimpleTree, InitTree, ForTree, forever, while, clauses, StatementTree, Empty, Var, Simple, Inner, If, For, Break, Continue, Return, BlockTree, block, StatementTrees, no_statement, statement, if_tree, ElseTree, no_else, else_if, else_block}
+use Rattle.gr_tree.specs.Flatten.{sign, sign_if, tokens_if, all_tokens, exprs_tokens, expr_tokens, simple_tokens, local_tokens, init_tokens, for_tokens, statement_tokens, block_tokens, statements_tokens, else_tokens}
+use Rattle.gr_tree.specs.WellFormed.{Perhaps, IsList, IsExprIn, IsSimple, IsPost, IsInit, IsFor, IsLocal, IsStatement, IsBlock, AreStatements, IsElse}
 use Rattle.gr_parse.proofs.OneValue.{Values}
 use Rattle.gr_parse.proofs.Made.{Made, one, opens, closes, rule, along}
 use Rattle.gr_parse.proofs.MadeExprs.{made_expr}

@@ -1,13 +1,13 @@
 -- Each well-formed file is derived, and its derivation builds it.
 use Rattle.std.proofs.Common.{ℕ, ◌≡◌, List, [], ◌∷◌, ◌++◌, Option, Some, None, refl, ap, ◌∙◌, append_assoc}
 use Rattle.std.specs.List.{All}
-use Rattle.gr_parse.specs.declared.syntax.Kind.TheVariants as kind
-use Rattle.gr_parse.specs.declared.syntax.Token.{Token}
-use Rattle.gr_parse.specs.Grammar.{Symbol, One, Close, A, is, is_literal, ImportItem, GlobalItem, TypeItem, Single, File, Imports, Tops, MoreNames, GlobalValues, MoreLiterals, TypeBody, Fields, MoreFields, FuncHead, ReceiverStar, ReceiverEnd, Signature, Params, MoreParams, Result, Types, MoreTypes}
-use Rattle.gr_parse.specs.Language.{tested, untested, below}
-use Rattle.gr_parse.specs.Tree.{Item, IdentTree, BasicTree, Integer, String, TypeTree, BlockTree, ImportTree, GlobalTree, FieldTree, BodyTree, Other, Struct, TypeSpecTree, ReceiverTree, ParamTree, ResultTree, no_result, one_result, results, FuncTree, ImportsTree, DeclTree, VarDecl, TypeDecl, FuncDecl, FileTree}
-use Rattle.gr_parse.specs.Flatten.{sign, sign_if, tokens_if, all_tokens, list_tokens, group_tokens, name_tokens, ident_tokens, basic_tokens, value_tokens, type_tokens, block_tokens, import_tokens, global_tokens, field_tokens, body_tokens, type_spec_tokens, receiver_tokens, param_tokens, result_tokens, func_tokens, imports_tokens, decl_tokens, flatten}
-use Rattle.gr_parse.specs.WellFormed.{Any, Perhaps, IsList, IsGlobal, IsField, IsBody, IsTypeSpec, IsParam, IsOpenList, IsResult, IsFunc, IsBlock, IsImports, IsDecl, IsFile}
+use Rattle.gr_tree.specs.declared.syntax.Kind.TheVariants as kind
+use Rattle.gr_tree.specs.declared.syntax.Token.{Token}
+use Rattle.gr_tree.specs.Grammar.{Symbol, One, Close, A, is, is_literal, ImportItem, GlobalItem, TypeItem, Single, File, Imports, Tops, MoreNames, GlobalValues, MoreLiterals, TypeBody, Fields, MoreFields, FuncHead, ReceiverStar, ReceiverEnd, Signature, Params, MoreParams, Result, Types, MoreTypes}
+use Rattle.gr_tree.specs.Language.{tested, untested, below}
+use Rattle.gr_tree.specs.Tree.{Item, IdentTree, BasicTree, Integer, String, TypeTree, BlockTree, ImportTree, GlobalTree, FieldTree, BodyTree, Other, Struct, TypeSpecTree, ReceiverTree, ParamTree, ResultTree, no_result, one_result, results, FuncTree, ImportsTree, DeclTree, VarDecl, TypeDecl, FuncDecl, FileTree}
+use Rattle.gr_tree.specs.Flatten.{sign, sign_if, tokens_if, all_tokens, list_tokens, group_tokens, name_tokens, ident_tokens, basic_tokens, value_tokens, type_tokens, block_tokens, import_tokens, global_tokens, field_tokens, body_tokens, type_spec_tokens, receiver_tokens, param_tokens, result_tokens, func_tokens, imports_tokens, decl_tokens, flatten}
+use Rattle.gr_tree.specs.WellFormed.{Any, Perhaps, IsList, IsGlobal, IsField, IsBody, IsTypeSpec, IsParam, IsOpenList, IsResult, IsFunc, IsBlock, IsImports, IsDecl, IsFile}
 use Rattle.gr_parse.proofs.Values.{basic}
 use Rattle.gr_parse.proofs.OneValue.{Values}
 use Rattle.gr_parse.proofs.Made.{Made, one, opens, closes, rule, along, made_type}

@@ -1,16 +1,16 @@
 -- Each well-formed expression is derived, and its derivation builds it.
 use Rattle.std.proofs.Common.{ℕ, ◌≡◌, ◌≢◌, Bool, true, false, List, [], ◌∷◌, ◌++◌, Option, Some, None, refl, ap, sym, ◌∙◌, subst, append_assoc}
-use Rattle.gr_parse.specs.declared.syntax.Kind.TheVariants as kind
-use Rattle.gr_parse.specs.declared.syntax.Token.{Token}
-use Rattle.gr_parse.specs.declared.syntax.BinaryOp.{BinaryOp}
-use Rattle.gr_parse.specs.declared.syntax.BinaryOp.TheVariants as binary
-use Rattle.gr_parse.specs.declared.syntax.PrefixOp.{PrefixOp}
-use Rattle.gr_parse.specs.declared.syntax.PrefixOp.TheVariants as prefix
-use Rattle.gr_parse.specs.Grammar.{Symbol, Close, A, is_binary, is_prefix, Expression, Binaries, Unary, Operand, AfterName, AfterSelector, Links, Arguments, MoreArguments, Address as AddressPart, Elements, ElementList, MoreElements, Element}
-use Rattle.gr_parse.specs.Language.{tested, untested, below}
-use Rattle.gr_parse.specs.Tree.{TypeTree, Local, Imported, Pointer, Slice, ExprTree, Number, Text, Name, Blank, Composite, Paren, Prefix, Address, Chain, Binary, OperandTrees, no_operand, operand, LinkTrees, no_link, selector, index, call, ArgumentTrees, no_argument, argument, literal, ElementTrees, no_element, element}
-use Rattle.gr_parse.specs.Flatten.{sign, sign_if, binary_kind, prefix_kind, type_tokens, expr_tokens, operand_tokens, link_tokens, argument_tokens, literal_tokens, element_tokens}
-use Rattle.gr_parse.specs.WellFormed.{is_operand, is_binary_tree, IsLiteralType, IsUnnamed, IsExpr, AreOperands, AreLinks, AreArguments, AreElements, HasNoNamedLiteral, HaveNoNamedLiteral, IsExprIn, strength}
+use Rattle.gr_tree.specs.declared.syntax.Kind.TheVariants as kind
+use Rattle.gr_tree.specs.declared.syntax.Token.{Token}
+use Rattle.gr_tree.specs.declared.syntax.BinaryOp.{BinaryOp}
+use Rattle.gr_tree.specs.declared.syntax.BinaryOp.TheVariants as binary
+use Rattle.gr_tree.specs.declared.syntax.PrefixOp.{PrefixOp}
+use Rattle.gr_tree.specs.declared.syntax.PrefixOp.TheVariants as prefix
+use Rattle.gr_tree.specs.Grammar.{Symbol, Close, A, is_binary, is_prefix, Expression, Binaries, Unary, Operand, AfterName, AfterSelector, Links, Arguments, MoreArguments, Address as AddressPart, Elements, ElementList, MoreElements, Element}
+use Rattle.gr_tree.specs.Language.{tested, untested, below}
+use Rattle.gr_tree.specs.Tree.{TypeTree, Local, Imported, Pointer, Slice, ExprTree, Number, Text, Name, Blank, Composite, Paren, Prefix, Address, Chain, Binary, OperandTrees, no_operand, operand, LinkTrees, no_link, selector, index, call, ArgumentTrees, no_argument, argument, literal, ElementTrees, no_element, element}
+use Rattle.gr_tree.specs.Flatten.{sign, sign_if, binary_kind, prefix_kind, type_tokens, expr_tokens, operand_tokens, link_tokens, argument_tokens, literal_tokens, element_tokens}
+use Rattle.gr_tree.specs.WellFormed.{is_operand, is_binary_tree, IsLiteralType, IsUnnamed, IsExpr, AreOperands, AreLinks, AreArguments, AreElements, HasNoNamedLiteral, HaveNoNamedLiteral, IsExprIn, strength}
 use Rattle.gr_parse.proofs.Predictive.{no}
 use Rattle.gr_parse.proofs.Precedence.{head_of, tail_of, spread, grouped, grouped-tail_of}
 use Rattle.gr_parse.proofs.Values.{binary_op, prefix_op, chain}

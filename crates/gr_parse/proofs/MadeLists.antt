@@ -2,14 +2,14 @@
 use Rattle.std.proofs.Common.{ℕ, ◌≡◌, List, [], ◌∷◌, ◌++◌, Option, Some, None, refl, sym, ◌∙◌, subst, append_assoc, arith, suc}
 use Rattle.std.specs.List.{All}
 use Rattle.std.specs.Option.{IsSome}
-use Rattle.gr_parse.specs.declared.syntax.Kind.{Kind}
-use Rattle.gr_parse.specs.declared.syntax.Kind.TheVariants as kind
-use Rattle.gr_parse.specs.declared.syntax.Token.{Token}
-use Rattle.gr_parse.specs.Grammar.{Symbol, Close, A, Item as Sort, GroupOf, Items, MoreItems, Single}
-use Rattle.gr_parse.specs.Language.{tested, untested, below}
-use Rattle.gr_parse.specs.Tree.{Item, Group, single, several}
-use Rattle.gr_parse.specs.Flatten.{sign, sign_if, all_tokens, list_tokens, group_tokens}
-use Rattle.gr_parse.specs.WellFormed.{IsSeparated, IsJoined, IsGroup}
+use Rattle.gr_tree.specs.declared.syntax.Kind.{Kind}
+use Rattle.gr_tree.specs.declared.syntax.Kind.TheVariants as kind
+use Rattle.gr_tree.specs.declared.syntax.Token.{Token}
+use Rattle.gr_tree.specs.Grammar.{Symbol, Close, A, Item as Sort, GroupOf, Items, MoreItems, Single}
+use Rattle.gr_tree.specs.Language.{tested, untested, below}
+use Rattle.gr_tree.specs.Tree.{Item, Group, single, several}
+use Rattle.gr_tree.specs.Flatten.{sign, sign_if, all_tokens, list_tokens, group_tokens}
+use Rattle.gr_tree.specs.WellFormed.{IsSeparated, IsJoined, IsGroup}
 use Rattle.gr_parse.proofs.Predictive.{no}
 use Rattle.gr_parse.proofs.Values.{Closed, ItemOf}
 use Rattle.gr_parse.proofs.OneValue.{Values}

@@ -2,18 +2,18 @@
 use Rattle.std.proofs.Common.{ℕ, ◌≡◌, ◌≢◌, Bool, true, false, List, [], ◌∷◌, ◌++◌, Option, Some, None, refl, ap, sym, ◌∙◌, append_assoc}
 use Rattle.std.specs.List.{All}
 use Rattle.std.specs.Option.{IsSome}
-use Rattle.gr_parse.specs.declared.syntax.Kind.{Kind}
-use Rattle.gr_parse.specs.declared.syntax.Kind.TheVariants as kind
-use Rattle.gr_parse.specs.declared.syntax.Token.{Token}
-use Rattle.gr_parse.specs.declared.syntax.StepOp.{StepOp}
-use Rattle.gr_parse.specs.declared.syntax.StepOp.TheVariants as step
-use Rattle.gr_parse.specs.declared.syntax.UpdateOp.{UpdateOp}
-use Rattle.gr_parse.specs.declared.syntax.UpdateOp.TheVariants as update
-use Rattle.gr_parse.specs.Grammar.{Symbol, One, A, is_ident, is_step, is_update, sets, Setting, Plain, Head, Post, in_head, LocalItem, Single, MoreIdents, LocalRest, LocalValues, Expressions, MoreExpressions, SimpleRest}
-use Rattle.gr_parse.specs.Language.{tested, untested, below}
-use Rattle.gr_parse.specs.Tree.{Item, IdentTree, Named, Underscore, TypeTree, ExprTree, SimpleTree, Alone, Step, Update, Assign, Define, LocalTree}
-use Rattle.gr_parse.specs.Flatten.{sign, sign_if, step_kind, update_kind, tokens_if, all_tokens, list_tokens, ident_tokens, exprs_tokens, value_tokens, type_tokens, expr_tokens, simple_tokens, local_tokens}
-use Rattle.gr_parse.specs.WellFormed.{Any, Perhaps, IsList, IsExprIn, IsSimple, IsPost, IsLocal}
+use Rattle.gr_tree.specs.declared.syntax.Kind.{Kind}
+use Rattle.gr_tree.specs.declared.syntax.Kind.TheVariants as kind
+use Rattle.gr_tree.specs.declared.syntax.Token.{Token}
+use Rattle.gr_tree.specs.declared.syntax.StepOp.{StepOp}
+use Rattle.gr_tree.specs.declared.syntax.StepOp.TheVariants as step
+use Rattle.gr_tree.specs.declared.syntax.UpdateOp.{UpdateOp}
+use Rattle.gr_tree.specs.declared.syntax.UpdateOp.TheVariants as update
+use Rattle.gr_tree.specs.Grammar.{Symbol, One, A, is_ident, is_step, is_update, sets, Setting, Plain, Head, Post, in_head, LocalItem, Single, MoreIdents, LocalRest, LocalValues, Expressions, MoreExpressions, SimpleRest}
+use Rattle.gr_tree.specs.Language.{tested, untested, below}
+use Rattle.gr_tree.specs.Tree.{Item, IdentTree, Named, Underscore, TypeTree, ExprTree, SimpleTree, Alone, Step, Update, Assign, Define, LocalTree}
+use Rattle.gr_tree.specs.Flatten.{sign, sign_if, step_kind, update_kind, tokens_if, all_tokens, list_tokens, ident_tokens, exprs_tokens, value_tokens, type_tokens, expr_tokens, simple_tokens, local_tokens}
+use Rattle.gr_tree.specs.WellFormed.{Any, Perhaps, IsList, IsExprIn, IsSimple, IsPost, IsLocal}
 use Rattle.gr_parse.proofs.Predictive.{no}
 use Rattle.gr_parse.proofs.Values.{step_op, update_op, ident, set_by}
 use Rattle.gr_parse.proofs.OneValue.{Values}

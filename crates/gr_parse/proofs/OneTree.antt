@@ -1,11 +1,11 @@
 -- The tokens of a file's tree are derived by the grammar, and have no other tree.
 use Rattle.std.proofs.Common.{◌≡◌, List, [], ◌∷◌, refl, ap, sym, ◌∙◌, append-nil}
-use Rattle.gr_parse.specs.declared.syntax.Token.{Token}
-use Rattle.gr_parse.specs.Grammar.{A, File}
-use Rattle.gr_parse.specs.Language.{Derives, ends}
-use Rattle.gr_parse.specs.Tree.{FileTree}
-use Rattle.gr_parse.specs.Flatten.{flatten}
-use Rattle.gr_parse.specs.WellFormed.{IsTreeOf}
+use Rattle.gr_tree.specs.declared.syntax.Token.{Token}
+use Rattle.gr_tree.specs.Grammar.{A, File}
+use Rattle.gr_tree.specs.Language.{Derives, ends}
+use Rattle.gr_tree.specs.Tree.{FileTree}
+use Rattle.gr_tree.specs.Flatten.{flatten}
+use Rattle.gr_tree.specs.WellFormed.{IsTreeOf}
 use Rattle.gr_parse.proofs.OneValue.{one_value}
 use Rattle.gr_parse.proofs.Made.{Made, along}
 use Rattle.gr_parse.proofs.MadeDecls.{made_file}

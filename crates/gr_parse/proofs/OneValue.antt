@@ -1,10 +1,10 @@
 -- A text has one derivation, as far as the values that it builds go.
 use Rattle.std.proofs.Common.{◌≡◌, true, false, List, [], ◌∷◌, ◌++◌, refl, ap, subst}
 use Rattle.std.specs.Prelude.{◌&&◌}
-use Rattle.gr_parse.specs.declared.syntax.Kind.{Kind}
-use Rattle.gr_parse.specs.declared.syntax.Token.{Token}
-use Rattle.gr_parse.specs.Grammar.{Symbol, One, Opening, Close, A, Part, Rule, Begins, Otherwise, rules}
-use Rattle.gr_parse.specs.Language.{Among, tested, untested, below, Derives, ends, token, opening, closing, by_rule}
+use Rattle.gr_tree.specs.declared.syntax.Kind.{Kind}
+use Rattle.gr_tree.specs.declared.syntax.Token.{Token}
+use Rattle.gr_tree.specs.Grammar.{Symbol, One, Opening, Close, A, Part, Rule, Begins, Otherwise, rules}
+use Rattle.gr_tree.specs.Language.{Among, tested, untested, below, Derives, ends, token, opening, closing, by_rule}
 use Rattle.gr_parse.proofs.Tables.{nullables, implies, looks, rules_fit, none_looks, decides}
 use Rattle.gr_parse.proofs.Predictive.{and_left, and_right, implied, none_at, sound_at, begins_so, looks_append, Good, good_rule, followed_at}
 use Rattle.gr_parse.proofs.EndOfText.{ends_decided, end_checked, none_empty_at, not_empty, nullables_append, derives_empty}

@@ -1,9 +1,9 @@
 -- From the run of some parts to the run of others, by what the parser has looked ahead for.
 use Rattle.std.proofs.Common.{ℕ, ◌≡◌, ap, sym, ◌∙◌, subst, Bool, true, false, List, [], ◌∷◌, refl, cond, ◌&&◌, ◌||◌}
-use Rattle.gr_parse.specs.declared.syntax.Kind.{Kind}
-use Rattle.gr_parse.specs.declared.syntax.Kind.TheVariants as kind
-use Rattle.gr_parse.specs.declared.syntax.Token.{Token}
-use Rattle.gr_parse.specs.Grammar.{Symbol, One, A, rules, is, Links, AfterName, AfterSelector, AfterTypeName, AfterLiteralName, Address, Elements, Element, Expression, Unary, slice_type}
+use Rattle.gr_tree.specs.declared.syntax.Kind.{Kind}
+use Rattle.gr_tree.specs.declared.syntax.Kind.TheVariants as kind
+use Rattle.gr_tree.specs.declared.syntax.Token.{Token}
+use Rattle.gr_tree.specs.Grammar.{Symbol, One, A, rules, is, Links, AfterName, AfterSelector, AfterTypeName, AfterLiteralName, Address, Elements, Element, Expression, Unary, slice_type}
 use Rattle.gr_parse.specs.Machine.{Run, take, refused, expand, Selects, first, later, last, at, Outcome}
 use Rattle.gr_parse.specs.Lookahead.{behind, names_literal, begins_key}
 use Rattle.gr_parse.specs.Parsing.{Leads}

@@ -1,10 +1,10 @@
 -- Grouping operators by precedence: a list of operands with the operators between them, read from left to right.
 use Rattle.std.proofs.Common.{ℕ, ◌≡◌, ◌<◌, ◌≤◌, cond, refl, sym, ◌∙◌, ap, subst, arith, ltb}
 use Rattle.std.proofs.lemmas.Bool.{lt-ltb, le-ltb}
-use Rattle.gr_parse.specs.declared.syntax.BinaryOp.{BinaryOp}
-use Rattle.gr_parse.specs.declared.syntax.BinaryOp.TheVariants as binary
-use Rattle.gr_parse.specs.Tree.{ExprTree, Number, Text, Name, Blank, Composite, Paren, Prefix, Address, Chain, Binary, OperandTrees, no_operand, operand}
-use Rattle.gr_parse.specs.WellFormed.{strength, strength_of, IsExpr, AreOperands}
+use Rattle.gr_tree.specs.declared.syntax.BinaryOp.{BinaryOp}
+use Rattle.gr_tree.specs.declared.syntax.BinaryOp.TheVariants as binary
+use Rattle.gr_tree.specs.Tree.{ExprTree, Number, Text, Name, Blank, Composite, Paren, Prefix, Address, Chain, Binary, OperandTrees, no_operand, operand}
+use Rattle.gr_tree.specs.WellFormed.{strength, strength_of, IsExpr, AreOperands}
 
 abbrev pub one_operand : BinaryOp → ℕ → ExprTree → OperandTrees
 one_operand op p u = operand op p u no_operand

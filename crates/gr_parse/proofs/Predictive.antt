@@ -2,12 +2,12 @@
 -- which it stops no text begins.
 use Rattle.std.proofs.Common.{◌≤◌, ◌<◌, arith, ℕ, ◌≡◌, ◌⊎◌, inl, inr, Bool, true, false, List, [], ◌∷◌, ◌++◌, length, refl, ap, sym, ◌∙◌, subst, get_or, zero, suc, append_assoc, drop}
 use Rattle.std.specs.Prelude.{◌&&◌, ◌||◌}
-use Rattle.gr_parse.specs.declared.syntax.Kind.{Kind}
-use Rattle.gr_parse.specs.declared.syntax.Kind.TheVariants as kind
-use Rattle.gr_parse.specs.declared.syntax.Token.{Token}
-use Rattle.gr_parse.specs.declared.syntax.FaultKind.TheVariants.{Syntax, Nesting}
-use Rattle.gr_parse.specs.Grammar.{number_of, Symbol, One, Opening, Close, A, Part, Rule, Begins, Otherwise, rules, is, Item, ImportItem, GlobalItem, TypeItem, LocalItem, Plain, Head, Post, File, Imports, Tops, GroupOf, Items, MoreItems, Single, MoreNames, GlobalValues, MoreLiterals, TypeBody, Fields, MoreFields, MoreIdents, LocalRest, LocalValues, FuncHead, ReceiverStar, ReceiverEnd, Signature, Params, MoreParams, Result, Types, MoreTypes, Block, MoreStatements, Statement, ReturnValues, Expressions, MoreExpressions, SimpleRest, IfHead, IfAfter, IfBody, ElsePart, ElseBody, ForHead, ForAfter, ForRest, ForCondition, ForPost, TypeUse, AfterTypeName, Expression, Binaries, Unary, Operand, AfterName, AfterSelector, Links, Arguments, MoreArguments, Address, AfterLiteralName, Elements, ElementList, MoreElements, Element, AfterKey}
-use Rattle.gr_parse.specs.Language.{levels, DeepFault, Among, tested, untested, below, Derives, ends, token, opening, closing, by_rule}
+use Rattle.gr_tree.specs.declared.syntax.Kind.{Kind}
+use Rattle.gr_tree.specs.declared.syntax.Kind.TheVariants as kind
+use Rattle.gr_tree.specs.declared.syntax.Token.{Token}
+use Rattle.gr_tree.specs.declared.syntax.FaultKind.TheVariants.{Syntax, Nesting}
+use Rattle.gr_tree.specs.Grammar.{number_of, Symbol, One, Opening, Close, A, Part, Rule, Begins, Otherwise, rules, is, Item, ImportItem, GlobalItem, TypeItem, LocalItem, Plain, Head, Post, File, Imports, Tops, GroupOf, Items, MoreItems, Single, MoreNames, GlobalValues, MoreLiterals, TypeBody, Fields, MoreFields, MoreIdents, LocalRest, LocalValues, FuncHead, ReceiverStar, ReceiverEnd, Signature, Params, MoreParams, Result, Types, MoreTypes, Block, MoreStatements, Statement, ReturnValues, Expressions, MoreExpressions, SimpleRest, IfHead, IfAfter, IfBody, ElsePart, ElseBody, ForHead, ForAfter, ForRest, ForCondition, ForPost, TypeUse, AfterTypeName, Expression, Binaries, Unary, Operand, AfterName, AfterSelector, Links, Arguments, MoreArguments, Address, AfterLiteralName, Elements, ElementList, MoreElements, Element, AfterKey}
+use Rattle.gr_tree.specs.Language.{levels, DeepFault, Among, tested, untested, below, Derives, ends, token, opening, closing, by_rule}
 use Rattle.gr_parse.specs.Machine.{Run, take, opens, closes, expand, refused, refused_opening, left_over, too_deep, Stopped, Accepted, accept, Selects, first as selects_first, later, last, at}
 use Rattle.gr_parse.proofs.KindTests.{kinds, at_number}
 use Rattle.gr_parse.proofs.Tables.{nullable, first, follow, firsts, nullables, implies, looks, followed, symbols_of, rule_fits, rules_fit, none_looks, decides, every, sound, checked}

@@ -2,9 +2,9 @@
 use Rattle.std.proofs.Common.{◌≤◌, arith, ℕ, ◌≡◌, List, [], ◌∷◌, ◌++◌, refl, sym, subst, suc}
 use Rattle.std.specs.List.{All}
 use Rattle.std.proofs.lemmas.List.Elements.{All-nil, All-cons}
-use Rattle.gr_parse.specs.declared.syntax.Token.{Token}
-use Rattle.gr_parse.specs.Grammar.{Symbol, A, Part, rules, File}
-use Rattle.gr_parse.specs.Language.{levels, Derives, ends, closing, by_rule}
+use Rattle.gr_tree.specs.declared.syntax.Token.{Token}
+use Rattle.gr_tree.specs.Grammar.{Symbol, A, Part, rules, File}
+use Rattle.gr_tree.specs.Language.{levels, Derives, ends, closing, by_rule}
 use Rattle.gr_parse.specs.Machine.{Run, take, opens, closes, expand, Accepted, accept, Selects}
 use Rattle.gr_parse.proofs.Predictive.{Good, good_rule, followed_at, selected, goes_by_levels, token_levels, opening_levels, closing_levels, after_token, after_opening, after_closing}
 

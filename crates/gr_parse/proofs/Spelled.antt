@@ -1,24 +1,24 @@
 -- What the trees of the program's types and expressions write out.
 use Rattle.std.proofs.Common.{ℕ, ◌≡◌, ◌∷◌, ◌++◌, [], List, Option, Some, None, true, false, ap, sym, ◌∙◌, refl, append_assoc, append-nil}
-use Rattle.gr_parse.specs.declared.syntax.Kind.{Kind}
-use Rattle.gr_parse.specs.declared.syntax.Kind.TheVariants as kind
-use Rattle.gr_parse.specs.declared.syntax.Token.{Token}
-use Rattle.gr_parse.specs.declared.syntax.PrefixOp.{PrefixOp}
-use Rattle.gr_parse.specs.declared.tree.TypeExpr.{TypeExpr}
-use Rattle.gr_parse.specs.declared.tree.TypeExpr.TheVariants as type
-use Rattle.gr_parse.specs.declared.tree.Expr.{Expr, Row_of-Link, end_of-Link, more_of-Link, items-the_row-Link, items_hidden-the_row-Link-0, Row_of-Operand, end_of-Operand, more_of-Operand, items-the_row-Operand, items_hidden-the_row-Operand-1}
-use Rattle.gr_parse.specs.declared.tree.Expr.TheBlock.{hidden-the_row-Link-0, hidden-the_row-Operand-1, hidden-the_row-ExprItem-2, hidden-the_row-Element-3}
-use Rattle.gr_parse.specs.declared.tree.Expr.TheVariants as expr
-use Rattle.gr_parse.specs.declared.tree.Expr.TheViews.{roll-CompositeLit}
-use Rattle.gr_parse.specs.declared.tree.Link.{Link, Row_of-ExprItem, end_of-ExprItem, more_of-ExprItem, items-the_row-ExprItem, items_hidden-the_row-ExprItem-2}
-use Rattle.gr_parse.specs.declared.tree.Link.TheVariants as link
-use Rattle.gr_parse.specs.declared.tree.CompositeLit.{CompositeLit, Row_of-Element, end_of-Element, more_of-Element, items-the_row-Element, items_hidden-the_row-Element-3}
-use Rattle.gr_parse.specs.Tree.{LinkTrees}
+use Rattle.gr_tree.specs.declared.syntax.Kind.{Kind}
+use Rattle.gr_tree.specs.declared.syntax.Kind.TheVariants as kind
+use Rattle.gr_tree.specs.declared.syntax.Token.{Token}
+use Rattle.gr_tree.specs.declared.syntax.PrefixOp.{PrefixOp}
+use Rattle.gr_tree.specs.declared.tree.TypeExpr.{TypeExpr}
+use Rattle.gr_tree.specs.declared.tree.TypeExpr.TheVariants as type
+use Rattle.gr_tree.specs.declared.tree.Expr.{Expr, Row_of-Link, end_of-Link, more_of-Link, items-the_row-Link, items_hidden-the_row-Link-0, Row_of-Operand, end_of-Operand, more_of-Operand, items-the_row-Operand, items_hidden-the_row-Operand-1}
+use Rattle.gr_tree.specs.declared.tree.Expr.TheBlock.{hidden-the_row-Link-0, hidden-the_row-Operand-1, hidden-the_row-ExprItem-2, hidden-the_row-Element-3}
+use Rattle.gr_tree.specs.declared.tree.Expr.TheVariants as expr
+use Rattle.gr_tree.specs.declared.tree.Expr.TheViews.{roll-CompositeLit}
+use Rattle.gr_tree.specs.declared.tree.Link.{Link, Row_of-ExprItem, end_of-ExprItem, more_of-ExprItem, items-the_row-ExprItem, items_hidden-the_row-ExprItem-2}
+use Rattle.gr_tree.specs.declared.tree.Link.TheVariants as link
+use Rattle.gr_tree.specs.declared.tree.CompositeLit.{CompositeLit, Row_of-Element, end_of-Element, more_of-Element, items-the_row-Element, items_hidden-the_row-Element-3}
+use Rattle.gr_tree.specs.Tree.{LinkTrees}
 use Rattle.gr_parse.specs.Spelling.{type_spelled, expr_spelled, literal_spelled, operand_spelled, link_spelled, expr_item_spelled, element_spelled}
-use Rattle.gr_parse.specs.Grammar.{is_leaf, is_some}
+use Rattle.gr_tree.specs.Grammar.{is_leaf, is_some}
 use Rattle.gr_parse.specs.Leaf.{leaf_of}
-use Rattle.gr_parse.specs.Flatten.{sign, sign_if, binary_kind, prefix_kind, all_tokens, type_tokens, key_tokens, expr_tokens, operand_tokens, link_tokens, argument_tokens, literal_tokens, element_tokens}
-use Rattle.gr_parse.specs.View.{type_view, key_view, expr_view, literal_view, link_view, links_view, operands_view, arguments_view, elements_view}
+use Rattle.gr_tree.specs.Flatten.{sign, sign_if, binary_kind, prefix_kind, all_tokens, type_tokens, key_tokens, expr_tokens, operand_tokens, link_tokens, argument_tokens, literal_tokens, element_tokens}
+use Rattle.gr_tree.specs.View.{type_view, key_view, expr_view, literal_view, link_view, links_view, operands_view, arguments_view, elements_view}
 
 -- types
 

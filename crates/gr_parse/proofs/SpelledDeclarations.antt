@@ -1,21 +1,21 @@
 -- What the program's declarations write out, by their parts.
 use Rattle.std.proofs.Common.{ℕ, ◌≡◌, ◌∷◌, ◌++◌, [], List, ap, sym, refl}
-use Rattle.gr_parse.specs.declared.syntax.Kind.TheVariants as kind
-use Rattle.gr_parse.specs.declared.syntax.Token.{Token}
-use Rattle.gr_parse.specs.declared.tree.ImportSpec.{ImportSpec}
-use Rattle.gr_parse.specs.declared.tree.VarSpec.{VarSpec}
-use Rattle.gr_parse.specs.declared.tree.Field.{Field}
-use Rattle.gr_parse.specs.declared.tree.TypeExpr.{TypeExpr}
-use Rattle.gr_parse.specs.declared.tree.TypeBody.TheVariants as body
-use Rattle.gr_parse.specs.declared.tree.TypeSpec.{TypeSpec}
-use Rattle.gr_parse.specs.declared.tree.Receiver.{Receiver}
-use Rattle.gr_parse.specs.declared.tree.Param.{Param}
-use Rattle.gr_parse.specs.declared.tree.Results.TheVariants as results
-use Rattle.gr_parse.specs.declared.tree.Group.{Group}
-use Rattle.gr_parse.specs.declared.tree.Group.TheVariants as group
-use Rattle.gr_parse.specs.Flatten.{sign, sign_if, tokens_if, value_tokens, item_tokens, group_tokens, basic_tokens, type_tokens, import_tokens, global_tokens, field_tokens, body_tokens, type_spec_tokens, receiver_tokens, param_tokens, result_tokens}
-use Rattle.gr_parse.specs.View.{option_view, item_view, group_view, type_view}
-use Rattle.gr_parse.specs.FileView.{import_view, var_values_view, global_view, field_view, body_view, type_spec_view, receiver_view, param_view, results_view}
+use Rattle.gr_tree.specs.declared.syntax.Kind.TheVariants as kind
+use Rattle.gr_tree.specs.declared.syntax.Token.{Token}
+use Rattle.gr_tree.specs.declared.tree.ImportSpec.{ImportSpec}
+use Rattle.gr_tree.specs.declared.tree.VarSpec.{VarSpec}
+use Rattle.gr_tree.specs.declared.tree.Field.{Field}
+use Rattle.gr_tree.specs.declared.tree.TypeExpr.{TypeExpr}
+use Rattle.gr_tree.specs.declared.tree.TypeBody.TheVariants as body
+use Rattle.gr_tree.specs.declared.tree.TypeSpec.{TypeSpec}
+use Rattle.gr_tree.specs.declared.tree.Receiver.{Receiver}
+use Rattle.gr_tree.specs.declared.tree.Param.{Param}
+use Rattle.gr_tree.specs.declared.tree.Results.TheVariants as results
+use Rattle.gr_tree.specs.declared.tree.Group.{Group}
+use Rattle.gr_tree.specs.declared.tree.Group.TheVariants as group
+use Rattle.gr_tree.specs.Flatten.{sign, sign_if, tokens_if, value_tokens, item_tokens, group_tokens, basic_tokens, type_tokens, import_tokens, global_tokens, field_tokens, body_tokens, type_spec_tokens, receiver_tokens, param_tokens, result_tokens}
+use Rattle.gr_tree.specs.View.{option_view, item_view, group_view, type_view}
+use Rattle.gr_tree.specs.FileView.{import_view, var_values_view, global_view, field_view, body_view, type_spec_view, receiver_view, param_view, results_view}
 use Rattle.gr_parse.specs.Spelling.{names_spelled, ident_spelled, idents_spelled, type_spelled, import_spelled, global_spelled, field_spelled, body_spelled, type_spec_spelled, receiver_spelled, param_spelled, results_spelled}
 use Rattle.gr_parse.specs.ListSpelling.{items_spelled, group_spelled}
 use Rattle.gr_parse.proofs.StatementSteps.{all_tokens_map}

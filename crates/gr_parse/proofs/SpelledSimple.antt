@@ -1,15 +1,15 @@
 -- What the program's simple statements and local variables write out, by their parts.
 use Rattle.std.proofs.Common.{ℕ, ◌≡◌, ◌∷◌, ◌++◌, [], List, ap, sym, ◌∙◌, refl}
-use Rattle.gr_parse.specs.declared.syntax.Kind.TheVariants as kind
-use Rattle.gr_parse.specs.declared.syntax.StepOp.{StepOp}
-use Rattle.gr_parse.specs.declared.syntax.UpdateOp.{UpdateOp}
-use Rattle.gr_parse.specs.declared.tree.Expr.{Expr}
-use Rattle.gr_parse.specs.declared.tree.ExprItem.{ExprItem}
-use Rattle.gr_parse.specs.declared.tree.LocalSpec.{LocalSpec}
-use Rattle.gr_parse.specs.declared.tree.SimpleStmt.TheVariants as simple
-use Rattle.gr_parse.specs.Flatten.{sign, tokens_if, value_tokens, item_tokens, all_tokens, step_kind, update_kind, expr_tokens, type_tokens, simple_tokens, local_tokens}
-use Rattle.gr_parse.specs.View.{option_view, type_view, expr_item_view}
-use Rattle.gr_parse.specs.FileView.{simple_view, values_view, local_view}
+use Rattle.gr_tree.specs.declared.syntax.Kind.TheVariants as kind
+use Rattle.gr_tree.specs.declared.syntax.StepOp.{StepOp}
+use Rattle.gr_tree.specs.declared.syntax.UpdateOp.{UpdateOp}
+use Rattle.gr_tree.specs.declared.tree.Expr.{Expr}
+use Rattle.gr_tree.specs.declared.tree.ExprItem.{ExprItem}
+use Rattle.gr_tree.specs.declared.tree.LocalSpec.{LocalSpec}
+use Rattle.gr_tree.specs.declared.tree.SimpleStmt.TheVariants as simple
+use Rattle.gr_tree.specs.Flatten.{sign, tokens_if, value_tokens, item_tokens, all_tokens, step_kind, update_kind, expr_tokens, type_tokens, simple_tokens, local_tokens}
+use Rattle.gr_tree.specs.View.{option_view, type_view, expr_item_view}
+use Rattle.gr_tree.specs.FileView.{simple_view, values_view, local_view}
 use Rattle.gr_parse.specs.Spelling.{expr_spelled, expr_item_spelled, exprs_spelled, idents_spelled, simple_spelled, local_spelled}
 use Rattle.gr_parse.proofs.StatementSteps.{all_tokens_map, tokens_push}
 

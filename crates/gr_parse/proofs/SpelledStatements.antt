@@ -1,25 +1,25 @@
 -- What the program's statements and files write out, by their parts.
 use Rattle.std.proofs.Common.{append_assoc, ℕ, ◌≡◌, ◌∷◌, ◌++◌, [], Option, ap, sym, ◌∙◌, refl, map}
-use Rattle.gr_parse.specs.declared.syntax.Kind.TheVariants as kind
-use Rattle.gr_parse.specs.declared.tree.Expr.{Expr}
-use Rattle.gr_parse.specs.declared.tree.IfInit.{IfInit}
-use Rattle.gr_parse.specs.declared.tree.SimpleStmt.{SimpleStmt}
-use Rattle.gr_parse.specs.declared.tree.ForHeader.{ForHeader}
-use Rattle.gr_parse.specs.declared.tree.ForHeader.TheVariants as for
-use Rattle.gr_parse.specs.declared.tree.Stmt.TheVariants as stmt
-use Rattle.gr_parse.specs.declared.tree.Else.{Else}
-use Rattle.gr_parse.specs.declared.tree.Else.TheBlock.{hidden-the_row-BlockItem-0}
-use Rattle.gr_parse.specs.declared.tree.Else.TheViews.{roll-Block, roll-IfStmt}
-use Rattle.gr_parse.specs.declared.tree.Else.TheVariants as else
-use Rattle.gr_parse.specs.declared.tree.Block.{Block, Row_of-BlockItem, end_of-BlockItem, more_of-BlockItem, items-the_row-BlockItem, items_hidden-the_row-BlockItem-0}
-use Rattle.gr_parse.specs.declared.tree.IfStmt.{IfStmt}
-use Rattle.gr_parse.specs.declared.tree.FuncDecl.{FuncDecl}
-use Rattle.gr_parse.specs.declared.tree.ImportDecl.{ImportDecl}
-use Rattle.gr_parse.specs.declared.tree.Decl.TheVariants as decl
-use Rattle.gr_parse.specs.declared.tree.File.{File}
-use Rattle.gr_parse.specs.Flatten.{sign, sign_if, tokens_if, item_tokens, all_tokens, expr_tokens, simple_tokens, init_tokens, for_tokens, statement_tokens, block_tokens, statements_tokens, if_tokens, else_tokens, local_tokens, import_tokens, global_tokens, type_spec_tokens, receiver_tokens, param_tokens, func_tokens, imports_tokens, decl_tokens, flatten}
-use Rattle.gr_parse.specs.View.{option_view, item_view, expr_view}
-use Rattle.gr_parse.specs.FileView.{simple_view, init_view, for_view, stmt_view, block_view, statements_view, if_view, else_view, local_view, import_view, global_view, type_spec_view, receiver_view, param_view, func_view, imports_view, decl_view, file_view}
+use Rattle.gr_tree.specs.declared.syntax.Kind.TheVariants as kind
+use Rattle.gr_tree.specs.declared.tree.Expr.{Expr}
+use Rattle.gr_tree.specs.declared.tree.IfInit.{IfInit}
+use Rattle.gr_tree.specs.declared.tree.SimpleStmt.{SimpleStmt}
+use Rattle.gr_tree.specs.declared.tree.ForHeader.{ForHeader}
+use Rattle.gr_tree.specs.declared.tree.ForHeader.TheVariants as for
+use Rattle.gr_tree.specs.declared.tree.Stmt.TheVariants as stmt
+use Rattle.gr_tree.specs.declared.tree.Else.{Else}
+use Rattle.gr_tree.specs.declared.tree.Else.TheBlock.{hidden-the_row-BlockItem-0}
+use Rattle.gr_tree.specs.declared.tree.Else.TheViews.{roll-Block, roll-IfStmt}
+use Rattle.gr_tree.specs.declared.tree.Else.TheVariants as else
+use Rattle.gr_tree.specs.declared.tree.Block.{Block, Row_of-BlockItem, end_of-BlockItem, more_of-BlockItem, items-the_row-BlockItem, items_hidden-the_row-BlockItem-0}
+use Rattle.gr_tree.specs.declared.tree.IfStmt.{IfStmt}
+use Rattle.gr_tree.specs.declared.tree.FuncDecl.{FuncDecl}
+use Rattle.gr_tree.specs.declared.tree.ImportDecl.{ImportDecl}
+use Rattle.gr_tree.specs.declared.tree.Decl.TheVariants as decl
+use Rattle.gr_tree.specs.declared.tree.File.{File}
+use Rattle.gr_tree.specs.Flatten.{sign, sign_if, tokens_if, item_tokens, all_tokens, expr_tokens, simple_tokens, init_tokens, for_tokens, statement_tokens, block_tokens, statements_tokens, if_tokens, else_tokens, local_tokens, import_tokens, global_tokens, type_spec_tokens, receiver_tokens, param_tokens, func_tokens, imports_tokens, decl_tokens, flatten}
+use Rattle.gr_tree.specs.View.{option_view, item_view, expr_view}
+use Rattle.gr_tree.specs.FileView.{simple_view, init_view, for_view, stmt_view, block_view, statements_view, if_view, else_view, local_view, import_view, global_view, type_spec_view, receiver_view, param_view, func_view, imports_view, decl_view, file_view}
 use Rattle.gr_parse.specs.Spelling.{expr_spelled, exprs_spelled, simple_spelled, init_spelled, for_spelled, stmt_spelled, block_spelled, block_item_spelled, if_spelled, else_spelled, local_spelled, import_spelled, global_spelled, type_spec_spelled, param_spelled, results_spelled, func_spelled, imports_spelled, decl_spelled, file_spelled}
 use Rattle.gr_parse.specs.ListSpelling.{items_spelled, group_spelled}
 use Rattle.gr_parse.proofs.StatementSteps.{all_tokens_map}

@@ -1,12 +1,12 @@
 -- Steps of the machine over several symbols, over lists, and from what has been read before.
 use Rattle.std.proofs.Common.{append-nil, append_assoc, ℕ, ◌≡◌, Bool, true, false, List, [], ◌∷◌, ◌++◌, ◌+◌, ◌≤◌, length, ap, sym, ◌∙◌, subst, refl, Option, Some, None, Result, Ok, Err, map, is_some, arith, add-one, length-append}
-use Rattle.gr_parse.specs.declared.syntax.Kind.{Kind}
-use Rattle.gr_parse.specs.declared.syntax.Token.{Token}
-use Rattle.gr_parse.specs.declared.syntax.ParseError.{ParseError}
-use Rattle.gr_parse.specs.Grammar.{is, One, Close, A, Symbol, Part, rules}
+use Rattle.gr_tree.specs.declared.syntax.Kind.{Kind}
+use Rattle.gr_tree.specs.declared.syntax.Token.{Token}
+use Rattle.gr_parse.specs.declared.parse_error.ParseError.{ParseError}
+use Rattle.gr_tree.specs.Grammar.{is, One, Close, A, Symbol, Part, rules}
 use Rattle.gr_parse.specs.Machine.{Run, Stopped, take, expand, closes, at, Selects}
 use Rattle.gr_parse.specs.Parsing.{Leads, Continued, Read, Fails, Passes, Parses, Continues, Separates, list_rest, items_rest}
-use Rattle.gr_parse.specs.Flatten.{sign, sign_if, all_tokens}
+use Rattle.gr_tree.specs.Flatten.{sign, sign_if, all_tokens}
 use Rattle.gr_parse.proofs.KindTests.{is_itself}
 
 -- several symbols, and then others

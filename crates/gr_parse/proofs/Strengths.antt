@@ -1,14 +1,14 @@
 -- How strongly operators bind, and expressions by their operands.
 use Rattle.std.proofs.Common.{ℕ, ◌≡◌, ◌≤◌, ◌<◌, Bool, true, false, List, [], ◌∷◌, arith, refl, Option, Some, None, Result, Ok, Err, lit≤}
 use Rattle.std.specs.Result.{IfOk}
-use Rattle.gr_parse.specs.declared.syntax.Token.{Token}
-use Rattle.gr_parse.specs.declared.syntax.ParseError.{ParseError}
-use Rattle.gr_parse.specs.declared.syntax.BinaryOp.{BinaryOp}
-use Rattle.gr_parse.specs.declared.syntax.BinaryOp.TheVariants as binary
-use Rattle.gr_parse.specs.Grammar.{A, Expression, Unary, Binaries, is_binary, is_some, binary_of}
+use Rattle.gr_tree.specs.declared.syntax.Token.{Token}
+use Rattle.gr_parse.specs.declared.parse_error.ParseError.{ParseError}
+use Rattle.gr_tree.specs.declared.syntax.BinaryOp.{BinaryOp}
+use Rattle.gr_tree.specs.declared.syntax.BinaryOp.TheVariants as binary
+use Rattle.gr_tree.specs.Grammar.{A, Expression, Unary, Binaries, is_binary, is_some, binary_of}
 use Rattle.gr_parse.specs.Machine.{at, later, last, expand}
 use Rattle.gr_parse.specs.Parsing.{LeadsTo, Parses}
-use Rattle.gr_parse.specs.WellFormed.{strength}
+use Rattle.gr_tree.specs.WellFormed.{strength}
 use Rattle.gr_parse.specs.Strength.{strength_if, strength_at}
 use Rattle.gr_parse.proofs.MachineSteps.{fails_rule, fails_more}
 

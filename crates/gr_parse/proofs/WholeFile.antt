@@ -2,16 +2,16 @@
 use Rattle.std.proofs.Common.{ℕ, ◌≡◌, ap, sym, ◌∙◌, subst, false, List, [], ◌∷◌, ◌++◌, refl, length, append-nil}
 use Rattle.std.specs.Prelude.{◌==◌}
 use Rattle.gr_scan.specs.CutText.{CutText}
-use Rattle.gr_parse.specs.declared.syntax.Token.{Token}
-use Rattle.gr_parse.specs.declared.syntax.FaultKind.{FaultKind}
-use Rattle.gr_parse.specs.declared.syntax.FaultKind.TheVariants.{Syntax, Nesting}
-use Rattle.gr_parse.specs.declared.syntax.ParseError.{ParseError}
-use Rattle.gr_parse.specs.declared.syntax.ParseError.TheVariants as error
-use Rattle.gr_parse.specs.Grammar.{A, File}
+use Rattle.gr_tree.specs.declared.syntax.Token.{Token}
+use Rattle.gr_tree.specs.declared.syntax.FaultKind.{FaultKind}
+use Rattle.gr_tree.specs.declared.syntax.FaultKind.TheVariants.{Syntax, Nesting}
+use Rattle.gr_parse.specs.declared.parse_error.ParseError.{ParseError}
+use Rattle.gr_parse.specs.declared.parse_error.ParseError.TheVariants as error
+use Rattle.gr_tree.specs.Grammar.{A, File}
 use Rattle.gr_parse.specs.Machine.{Run, Accepted, Stopped, accept, left_over}
-use Rattle.gr_parse.specs.Verdict.{IsVerdict, IsWhole, Faulty}
+use Rattle.gr_tree.specs.Verdict.{IsVerdict, IsWhole, Faulty}
 use Rattle.gr_parse.specs.Parsing.{Read}
-use Rattle.gr_parse.specs.Kinds.{kinds_of}
+use Rattle.gr_tree.specs.Kinds.{kinds_of}
 use Rattle.gr_parse.specs.Parsed.{IsRefusedFor, refusal_of}
 use Rattle.gr_parse.proofs.Predictive.{accepts, file_deep}
 use Rattle.gr_parse.proofs.EndOfText.{file_stops}

@@ -1,22 +1,22 @@
 -- Tokens of a class: what a parser of one of them shows.
 use Rattle.std.proofs.Common.{ℕ, ◌≡◌, Bool, true, false, List, [], ◌∷◌, length, ap, sym, ◌∙◌, subst, refl, Some, None}
-use Rattle.gr_parse.specs.declared.syntax.Kind.{Kind}
-use Rattle.gr_parse.specs.declared.syntax.Kind.TheVariants as kind
-use Rattle.gr_parse.specs.declared.syntax.Token.{Token}
-use Rattle.gr_parse.specs.declared.syntax.StepOp.{StepOp}
-use Rattle.gr_parse.specs.declared.syntax.UpdateOp.{UpdateOp}
-use Rattle.gr_parse.specs.declared.syntax.FaultKind.TheVariants.{Syntax}
-use Rattle.gr_parse.specs.declared.syntax.ParseError.{ParseError}
-use Rattle.gr_parse.specs.declared.syntax.ParseError.TheVariants.{Fault}
-use Rattle.gr_parse.specs.declared.tree.Ident.{Ident}
-use Rattle.gr_parse.specs.declared.tree.BasicLit.{BasicLit}
+use Rattle.gr_tree.specs.declared.syntax.Kind.{Kind}
+use Rattle.gr_tree.specs.declared.syntax.Kind.TheVariants as kind
+use Rattle.gr_tree.specs.declared.syntax.Token.{Token}
+use Rattle.gr_tree.specs.declared.syntax.StepOp.{StepOp}
+use Rattle.gr_tree.specs.declared.syntax.UpdateOp.{UpdateOp}
+use Rattle.gr_tree.specs.declared.syntax.FaultKind.TheVariants.{Syntax}
+use Rattle.gr_parse.specs.declared.parse_error.ParseError.{ParseError}
+use Rattle.gr_parse.specs.declared.parse_error.ParseError.TheVariants.{Fault}
+use Rattle.gr_tree.specs.declared.tree.Ident.{Ident}
+use Rattle.gr_tree.specs.declared.tree.BasicLit.{BasicLit}
 use Rattle.gr_parse.specs.declared.words.Setting.{Setting}
 use Rattle.gr_parse.specs.declared.words.Setting.TheVariants as setting
 use Rattle.gr_parse.specs.declared.words.SetOp.{SetOp}
-use Rattle.gr_parse.specs.Grammar.{One, is_ident, is_literal, is_step, is_update, sets}
+use Rattle.gr_tree.specs.Grammar.{One, is_ident, is_literal, is_step, is_update, sets}
 use Rattle.gr_parse.specs.Machine.{Run, take}
 use Rattle.gr_parse.specs.Parsing.{Read, Fails}
-use Rattle.gr_parse.specs.Flatten.{sign, step_kind, update_kind}
+use Rattle.gr_tree.specs.Flatten.{sign, step_kind, update_kind}
 use Rattle.gr_parse.specs.Spelling.{ident_spelled, basic_spelled}
 use Rattle.gr_parse.specs.Words.{step_of, update_of, set_of, either_set, plain_set, set_kind, setting_of, IsAllowed, ident_of, basic_of}
 use Rattle.gr_parse.proofs.MachineSteps.{refuses_one, at_end, at_token}

@@ -1,12 +1,12 @@
 -- What each form of a tree writes out.
 use Rattle.std.proofs.Common.{ℕ, ◌≡◌, List, [], ◌∷◌, ◌++◌, Option, refl}
-use Rattle.gr_parse.specs.declared.syntax.Kind.TheVariants as kind
-use Rattle.gr_parse.specs.declared.syntax.BinaryOp.{BinaryOp}
-use Rattle.gr_parse.specs.declared.syntax.PrefixOp.{PrefixOp}
-use Rattle.gr_parse.specs.declared.syntax.StepOp.{StepOp}
-use Rattle.gr_parse.specs.declared.syntax.UpdateOp.{UpdateOp}
-use Rattle.gr_parse.specs.Tree.{Item, Group, TypeTree, Local, Imported, Pointer, Slice, ExprTree, Number, Text, Name, Blank, Composite, Paren, Prefix, Address, Chain, Binary, OperandTrees, no_operand, operand, LinkTrees, no_link, selector, index, call, ArgumentTrees, no_argument, argument, LiteralTree, literal, ElementTrees, no_element, element, SimpleTree, Alone, Step, Update, Assign, Define, LocalTree, InitTree, ForTree, forever, while, clauses, StatementTree, Empty, Var, Simple, Inner, If, For, Break, Continue, Return, BlockTree, block, StatementTrees, no_statement, statement, IfTree, if_tree, ElseTree, no_else, else_if, else_block, GlobalTree, FieldTree, Other, Struct, TypeSpecTree, no_result, one_result, results, FuncTree, VarDecl, TypeDecl, FuncDecl}
-use Rattle.gr_parse.specs.Flatten.{sign, type_spec_tokens, binary_kind, prefix_kind, step_kind, update_kind, sign_if, tokens_if, list_tokens, group_tokens, key_tokens, exprs_tokens, local_tokens, init_tokens, global_tokens, field_tokens, func_tokens, type_tokens, expr_tokens, operand_tokens, link_tokens, argument_tokens, literal_tokens, element_tokens, simple_tokens, for_tokens, statement_tokens, block_tokens, statements_tokens, if_tokens, else_tokens, body_tokens, result_tokens, decl_tokens}
+use Rattle.gr_tree.specs.declared.syntax.Kind.TheVariants as kind
+use Rattle.gr_tree.specs.declared.syntax.BinaryOp.{BinaryOp}
+use Rattle.gr_tree.specs.declared.syntax.PrefixOp.{PrefixOp}
+use Rattle.gr_tree.specs.declared.syntax.StepOp.{StepOp}
+use Rattle.gr_tree.specs.declared.syntax.UpdateOp.{UpdateOp}
+use Rattle.gr_tree.specs.Tree.{Item, Group, TypeTree, Local, Imported, Pointer, Slice, ExprTree, Number, Text, Name, Blank, Composite, Paren, Prefix, Address, Chain, Binary, OperandTrees, no_operand, operand, LinkTrees, no_link, selector, index, call, ArgumentTrees, no_argument, argument, LiteralTree, literal, ElementTrees, no_element, element, SimpleTree, Alone, Step, Update, Assign, Define, LocalTree, InitTree, ForTree, forever, while, clauses, StatementTree, Empty, Var, Simple, Inner, If, For, Break, Continue, Return, BlockTree, block, StatementTrees, no_statement, statement, IfTree, if_tree, ElseTree, no_else, else_if, else_block, GlobalTree, FieldTree, Other, Struct, TypeSpecTree, no_result, one_result, results, FuncTree, VarDecl, TypeDecl, FuncDecl}
+use Rattle.gr_tree.specs.Flatten.{sign, type_spec_tokens, binary_kind, prefix_kind, step_kind, update_kind, sign_if, tokens_if, list_tokens, group_tokens, key_tokens, exprs_tokens, local_tokens, init_tokens, global_tokens, field_tokens, func_tokens, type_tokens, expr_tokens, operand_tokens, link_tokens, argument_tokens, literal_tokens, element_tokens, simple_tokens, for_tokens, statement_tokens, block_tokens, statements_tokens, if_tokens, else_tokens, body_tokens, result_tokens, decl_tokens}
 
 pub type_tokens-Local : (n : ℕ) → type_tokens (Local n) ≡ sign kind.Name n ∷ []
 unfolding type_tokens

@@ -1,11 +1,11 @@
 -- What the parser keeps of well-formed expressions, by the part that it reads.
 use Rattle.std.specs.Prelude.{ℕ, ◌≡◌, ◌≢◌, ◌<◌, Bool, true, false, List, [], ◌∷◌, Option, None}
-use Rattle.gr_parse.specs.declared.tree.ExprItem.{ExprItem}
-use Rattle.gr_parse.specs.declared.tree.Link.{Link}
-use Rattle.gr_parse.specs.declared.tree.Operand.{Operand}
-use Rattle.gr_parse.specs.Tree.{TypeTree, Pointer, Slice, ExprTree, no_link, LiteralTree, literal}
-use Rattle.gr_parse.specs.View.{expr_view, link_view}
-use Rattle.gr_parse.specs.WellFormed.{strength, strength_of, is_operand, is_binary_tree, IsExpr, IsExprIn, AreLinks, IsLiteral}
+use Rattle.gr_tree.specs.declared.tree.ExprItem.{ExprItem}
+use Rattle.gr_tree.specs.declared.tree.Link.{Link}
+use Rattle.gr_tree.specs.declared.tree.Operand.{Operand}
+use Rattle.gr_tree.specs.Tree.{TypeTree, Pointer, Slice, ExprTree, no_link, LiteralTree, literal}
+use Rattle.gr_tree.specs.View.{expr_view, link_view}
+use Rattle.gr_tree.specs.WellFormed.{strength, strength_of, is_operand, is_binary_tree, IsExpr, IsExprIn, AreLinks, IsLiteral}
 
 abbrev pub is_slice : TypeTree → Bool
 is_slice (Slice o c t) = true

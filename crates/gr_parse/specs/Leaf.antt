@@ -1,9 +1,9 @@
 -- Operands of one token, other than names.
 use Rattle.std.specs.Prelude.{ℕ, Option, Some, None}
-use Rattle.gr_parse.specs.declared.syntax.Kind.{Kind}
-use Rattle.gr_parse.specs.declared.syntax.Kind.TheVariants.{Number, Text, Blank}
-use Rattle.gr_parse.specs.declared.tree.Expr.{Expr}
-use Rattle.gr_parse.specs.declared.tree.Expr.TheVariants as expr
+use Rattle.gr_tree.specs.declared.syntax.Kind.{Kind}
+use Rattle.gr_tree.specs.declared.syntax.Kind.TheVariants.{Number, Text, Blank}
+use Rattle.gr_tree.specs.declared.tree.Expr.{Expr}
+use Rattle.gr_tree.specs.declared.tree.Expr.TheVariants as expr
 
 -- the operand that a token of this kind is by itself, where it is one
 abbrev pub leaf_of : Kind → ℕ → Option Expr

@@ -1,14 +1,6 @@
 -- The definitions of this crate.
-pub mod Grammar
 pub mod Machine
-pub mod Language
-pub mod Verdict
-pub mod Tree
-pub mod Flatten
-pub mod WellFormed
 pub mod Grouping
-pub mod View
-pub mod FileView
 pub mod Spelling
 pub mod ListSpelling
 pub mod Listed
@@ -17,7 +9,4 @@ pub mod Strength
 pub mod Lookahead
 pub mod Leaf
 pub mod Words
-pub mod Kinds
 pub mod Parsed
-pub mod SourceFile
-pub mod Faults

@@ -1,16 +1,16 @@
 -- The tokens of lists and groups that values of the program write out.
 use Rattle.std.specs.Prelude.{List, [], ◌∷◌, ◌++◌}
-use Rattle.gr_parse.specs.declared.syntax.Kind.{Kind}
-use Rattle.gr_parse.specs.declared.syntax.Kind.TheVariants as kind
-use Rattle.gr_parse.specs.declared.syntax.Token.{Token}
-use Rattle.gr_parse.specs.declared.tree.Item.{Item}
-use Rattle.gr_parse.specs.declared.tree.Group.{Group}
-use Rattle.gr_parse.specs.declared.tree.Group.TheVariants as group
-use Rattle.gr_parse.specs.declared.tree.BasicLit.{BasicLit}
-use Rattle.gr_parse.specs.Flatten as flat
-use Rattle.gr_parse.specs.Flatten.{sign, sign_if, all_tokens}
-use Rattle.gr_parse.specs.View.{list_view}
-use Rattle.gr_parse.specs.FileView.{basic_view}
+use Rattle.gr_tree.specs.declared.syntax.Kind.{Kind}
+use Rattle.gr_tree.specs.declared.syntax.Kind.TheVariants as kind
+use Rattle.gr_tree.specs.declared.syntax.Token.{Token}
+use Rattle.gr_tree.specs.declared.tree.Item.{Item}
+use Rattle.gr_tree.specs.declared.tree.Group.{Group}
+use Rattle.gr_tree.specs.declared.tree.Group.TheVariants as group
+use Rattle.gr_tree.specs.declared.tree.BasicLit.{BasicLit}
+use Rattle.gr_tree.specs.Flatten as flat
+use Rattle.gr_tree.specs.Flatten.{sign, sign_if, all_tokens}
+use Rattle.gr_tree.specs.View.{list_view}
+use Rattle.gr_tree.specs.FileView.{basic_view}
 
 -- an item's tokens and its separator, which is of that kind
 abbrev pub item_spelled : {X : Type 0} → Kind → (X → List Token) → Item X → List Token

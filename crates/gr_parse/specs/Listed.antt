@@ -1,14 +1,14 @@
 -- What the parser keeps of a list whose items it reads one by one.
 use Rattle.std.specs.Prelude.{ℕ, ◌≡◌, ◌≢◌, ◌⊎◌, Bool, true, false, List, [], ◌∷◌, Option, None, IsSome}
 use Rattle.std.specs.List.{All}
-use Rattle.gr_parse.specs.Tree.{Item, ExprTree, SimpleTree}
-use Rattle.gr_parse.specs.declared.tree.TypeExpr.{TypeExpr}
-use Rattle.gr_parse.specs.declared.tree.Values.{Values}
+use Rattle.gr_tree.specs.Tree.{Item, ExprTree, SimpleTree}
+use Rattle.gr_tree.specs.declared.tree.TypeExpr.{TypeExpr}
+use Rattle.gr_tree.specs.declared.tree.Values.{Values}
 use Rattle.gr_parse.specs.declared.words.Setting.{Setting}
 use Rattle.gr_parse.specs.declared.words.Setting.TheVariants as setting
-use Rattle.gr_parse.specs.View.{option_view, type_view}
-use Rattle.gr_parse.specs.FileView.{values_view}
-use Rattle.gr_parse.specs.WellFormed.{IsList, IsExprIn, IsSimple, IsPost, Perhaps}
+use Rattle.gr_tree.specs.View.{option_view, type_view}
+use Rattle.gr_tree.specs.FileView.{values_view}
+use Rattle.gr_tree.specs.WellFormed.{IsList, IsExprIn, IsSimple, IsPost, Perhaps}
 use Rattle.gr_parse.specs.Grouping.{Each}
 
 -- at least one; each but the last has its separator, and the last has none

@@ -1,8 +1,8 @@
 -- What the parser looks ahead for.
 use Rattle.std.specs.Prelude.{List, [], ◌∷◌, Bool, ◌&&◌, ◌||◌}
-use Rattle.gr_parse.specs.declared.syntax.Token.{Token}
-use Rattle.gr_parse.specs.declared.syntax.Kind.TheVariants.{LeftBrace, Dot, Name, Colon}
-use Rattle.gr_parse.specs.Grammar.{is}
+use Rattle.gr_tree.specs.declared.syntax.Token.{Token}
+use Rattle.gr_tree.specs.declared.syntax.Kind.TheVariants.{LeftBrace, Dot, Name, Colon}
+use Rattle.gr_tree.specs.Grammar.{is}
 use Rattle.gr_parse.specs.Machine.{at}
 
 -- the tokens behind the first

@@ -1,14 +1,12 @@
 -- The predictive machine of the grammar. Its stack is what has still to come, and it knows how many levels
 -- are open.
 use Rattle.std.specs.Prelude.{ℕ, suc, ◌≡◌, Bool, true, false, List, [], ◌∷◌, ◌++◌, ◌≤◌, ◌<◌, length}
-use Rattle.gr_parse.specs.declared.syntax.Kind.{Kind}
-use Rattle.gr_parse.specs.declared.syntax.Token.{Token}
-use Rattle.gr_parse.specs.declared.syntax.FaultKind.{FaultKind}
-use Rattle.gr_parse.specs.declared.syntax.FaultKind.TheVariants.{Syntax, Nesting}
-use Rattle.gr_parse.specs.Grammar.{Symbol, One, Opening, Close, A, Part, Rule, Begins, Otherwise, rules}
-
-abbrev pub limit : ℕ
-limit = 200
+use Rattle.gr_tree.specs.declared.syntax.Kind.{Kind}
+use Rattle.gr_tree.specs.declared.syntax.Token.{Token}
+use Rattle.gr_tree.specs.declared.syntax.FaultKind.{FaultKind}
+use Rattle.gr_tree.specs.declared.syntax.FaultKind.TheVariants.{Syntax, Nesting}
+use Rattle.gr_tree.specs.Grammar.{Symbol, One, Opening, Close, A, Part, Rule, Begins, Otherwise, rules}
+use Rattle.gr_tree.specs.Verdict.{limit}
 
 -- whether the first token is of a class; where there is none it is of no class
 abbrev pub at : (Kind → Bool) → List Token → Bool

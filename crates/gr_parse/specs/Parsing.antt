@@ -1,13 +1,14 @@
 -- What a parser of one part of a text gives.
 use Rattle.std.specs.Prelude.{ℕ, ◌≡◌, Bool, List, [], ◌∷◌, ◌++◌, Option, Some, None, Result, Ok, Err, ◌≤◌, ◌+◌, true, false, is_some}
-use Rattle.gr_parse.specs.declared.syntax.Token.{Token}
-use Rattle.gr_parse.specs.declared.syntax.FaultKind.{FaultKind}
-use Rattle.gr_parse.specs.declared.syntax.ParseError.{ParseError}
-use Rattle.gr_parse.specs.declared.syntax.ParseError.TheVariants as errors
-use Rattle.gr_parse.specs.Grammar.{Symbol, A, Part, One, Opening, is}
-use Rattle.gr_parse.specs.Machine.{Run, Outcome, Stopped, limit, at}
-use Rattle.gr_parse.specs.Flatten.{sign}
-use Rattle.gr_parse.specs.declared.syntax.Kind.{Kind}
+use Rattle.gr_tree.specs.declared.syntax.Token.{Token}
+use Rattle.gr_tree.specs.declared.syntax.FaultKind.{FaultKind}
+use Rattle.gr_parse.specs.declared.parse_error.ParseError.{ParseError}
+use Rattle.gr_parse.specs.declared.parse_error.ParseError.TheVariants as errors
+use Rattle.gr_tree.specs.Grammar.{Symbol, A, Part, One, Opening, is}
+use Rattle.gr_parse.specs.Machine.{Run, Outcome, Stopped, at}
+use Rattle.gr_tree.specs.Verdict.{limit}
+use Rattle.gr_tree.specs.Flatten.{sign}
+use Rattle.gr_tree.specs.declared.syntax.Kind.{Kind}
 
 -- The machine takes the symbols: from depth d and tokens ts it comes to e and rest.
 pub record Passes (symbols : List Symbol) (d : ℕ) (ts : List Token) (e : ℕ) (rest : List Token) : Type 0 where

@@ -1,43 +1,43 @@
 -- The tokens that a value of the program writes out: those of the tree that it stands for.
 use Rattle.std.specs.Prelude.{ℕ, List, ◌∷◌, ◌++◌}
-use Rattle.gr_parse.specs.declared.syntax.Kind.TheVariants as kind
-use Rattle.gr_parse.specs.declared.syntax.Token.{Token}
-use Rattle.gr_parse.specs.declared.tree.Item.{Item}
-use Rattle.gr_parse.specs.declared.tree.Ident.{Ident}
-use Rattle.gr_parse.specs.declared.tree.TypeExpr.{TypeExpr}
-use Rattle.gr_parse.specs.declared.tree.Expr.{Expr}
-use Rattle.gr_parse.specs.declared.tree.ExprItem.{ExprItem}
-use Rattle.gr_parse.specs.declared.tree.Link.{Link}
-use Rattle.gr_parse.specs.declared.tree.Operand.{Operand}
-use Rattle.gr_parse.specs.declared.tree.Element.{Element}
-use Rattle.gr_parse.specs.declared.tree.CompositeLit.{CompositeLit}
-use Rattle.gr_parse.specs.declared.tree.LocalSpec.{LocalSpec}
-use Rattle.gr_parse.specs.declared.tree.SimpleStmt.{SimpleStmt}
-use Rattle.gr_parse.specs.declared.tree.IfInit.{IfInit}
-use Rattle.gr_parse.specs.declared.tree.ForHeader.{ForHeader}
-use Rattle.gr_parse.specs.declared.tree.Stmt.{Stmt}
-use Rattle.gr_parse.specs.declared.tree.Block.{Block}
-use Rattle.gr_parse.specs.declared.tree.BlockItem.{BlockItem}
-use Rattle.gr_parse.specs.declared.tree.IfStmt.{IfStmt}
-use Rattle.gr_parse.specs.declared.tree.Else.{Else}
-use Rattle.gr_parse.specs.declared.tree.ImportSpec.{ImportSpec}
-use Rattle.gr_parse.specs.declared.tree.BasicLit.{BasicLit}
-use Rattle.gr_parse.specs.declared.tree.VarSpec.{VarSpec}
-use Rattle.gr_parse.specs.declared.tree.Field.{Field}
-use Rattle.gr_parse.specs.declared.tree.TypeBody.{TypeBody}
-use Rattle.gr_parse.specs.declared.tree.TypeSpec.{TypeSpec}
-use Rattle.gr_parse.specs.declared.tree.Receiver.{Receiver}
-use Rattle.gr_parse.specs.declared.tree.Param.{Param}
-use Rattle.gr_parse.specs.declared.tree.Results.{Results}
-use Rattle.gr_parse.specs.declared.tree.FuncDecl.{FuncDecl}
-use Rattle.gr_parse.specs.declared.tree.ImportDecl.{ImportDecl}
-use Rattle.gr_parse.specs.declared.tree.Decl.{Decl}
-use Rattle.gr_parse.specs.declared.tree.File.{File}
-use Rattle.gr_parse.specs.Tree as tree
-use Rattle.gr_parse.specs.Flatten as flat
-use Rattle.gr_parse.specs.Flatten.{sign, sign_if, binary_kind, all_tokens}
-use Rattle.gr_parse.specs.View.{list_view, ident_view, type_view, key_view, expr_view, literal_view, link_view, exprs_view}
-use Rattle.gr_parse.specs.FileView.{same_place, local_view, simple_view, init_view, for_view, stmt_view, block_view, if_view, else_view, import_view, basic_view, global_view, field_view, body_view, type_spec_view, receiver_view, param_view, results_view, func_view, imports_view, decl_view, file_view}
+use Rattle.gr_tree.specs.declared.syntax.Kind.TheVariants as kind
+use Rattle.gr_tree.specs.declared.syntax.Token.{Token}
+use Rattle.gr_tree.specs.declared.tree.Item.{Item}
+use Rattle.gr_tree.specs.declared.tree.Ident.{Ident}
+use Rattle.gr_tree.specs.declared.tree.TypeExpr.{TypeExpr}
+use Rattle.gr_tree.specs.declared.tree.Expr.{Expr}
+use Rattle.gr_tree.specs.declared.tree.ExprItem.{ExprItem}
+use Rattle.gr_tree.specs.declared.tree.Link.{Link}
+use Rattle.gr_tree.specs.declared.tree.Operand.{Operand}
+use Rattle.gr_tree.specs.declared.tree.Element.{Element}
+use Rattle.gr_tree.specs.declared.tree.CompositeLit.{CompositeLit}
+use Rattle.gr_tree.specs.declared.tree.LocalSpec.{LocalSpec}
+use Rattle.gr_tree.specs.declared.tree.SimpleStmt.{SimpleStmt}
+use Rattle.gr_tree.specs.declared.tree.IfInit.{IfInit}
+use Rattle.gr_tree.specs.declared.tree.ForHeader.{ForHeader}
+use Rattle.gr_tree.specs.declared.tree.Stmt.{Stmt}
+use Rattle.gr_tree.specs.declared.tree.Block.{Block}
+use Rattle.gr_tree.specs.declared.tree.BlockItem.{BlockItem}
+use Rattle.gr_tree.specs.declared.tree.IfStmt.{IfStmt}
+use Rattle.gr_tree.specs.declared.tree.Else.{Else}
+use Rattle.gr_tree.specs.declared.tree.ImportSpec.{ImportSpec}
+use Rattle.gr_tree.specs.declared.tree.BasicLit.{BasicLit}
+use Rattle.gr_tree.specs.declared.tree.VarSpec.{VarSpec}
+use Rattle.gr_tree.specs.declared.tree.Field.{Field}
+use Rattle.gr_tree.specs.declared.tree.TypeBody.{TypeBody}
+use Rattle.gr_tree.specs.declared.tree.TypeSpec.{TypeSpec}
+use Rattle.gr_tree.specs.declared.tree.Receiver.{Receiver}
+use Rattle.gr_tree.specs.declared.tree.Param.{Param}
+use Rattle.gr_tree.specs.declared.tree.Results.{Results}
+use Rattle.gr_tree.specs.declared.tree.FuncDecl.{FuncDecl}
+use Rattle.gr_tree.specs.declared.tree.ImportDecl.{ImportDecl}
+use Rattle.gr_tree.specs.declared.tree.Decl.{Decl}
+use Rattle.gr_tree.specs.declared.tree.File.{File}
+use Rattle.gr_tree.specs.Tree as tree
+use Rattle.gr_tree.specs.Flatten as flat
+use Rattle.gr_tree.specs.Flatten.{sign, sign_if, binary_kind, all_tokens}
+use Rattle.gr_tree.specs.View.{list_view, ident_view, type_view, key_view, expr_view, literal_view, link_view, exprs_view}
+use Rattle.gr_tree.specs.FileView.{same_place, local_view, simple_view, init_view, for_view, stmt_view, block_view, if_view, else_view, import_view, basic_view, global_view, field_view, body_view, type_spec_view, receiver_view, param_view, results_view, func_view, imports_view, decl_view, file_view}
 
 abbrev pub type_spelled : TypeExpr → List Token
 type_spelled t = flat.type_tokens (type_view t)

@@ -1,9 +1,9 @@
 -- How strongly binary operators bind. Source: Go specification, Operator precedence.
 use Rattle.std.specs.Prelude.{ℕ, List, [], ◌∷◌, Option, Some, None}
-use Rattle.gr_parse.specs.declared.syntax.Token.{Token}
-use Rattle.gr_parse.specs.declared.syntax.BinaryOp.{BinaryOp}
-use Rattle.gr_parse.specs.Grammar.{binary_of}
-use Rattle.gr_parse.specs.WellFormed.{strength}
+use Rattle.gr_tree.specs.declared.syntax.Token.{Token}
+use Rattle.gr_tree.specs.declared.syntax.BinaryOp.{BinaryOp}
+use Rattle.gr_tree.specs.Grammar.{binary_of}
+use Rattle.gr_tree.specs.WellFormed.{strength}
 
 abbrev pub strength_if : Option BinaryOp → ℕ
 strength_if None = 0

@@ -1,20 +1,20 @@
 -- What the tokens are of which the grammar takes several kinds.
 use Rattle.std.specs.Prelude.{ℕ, Option, Some, None}
-use Rattle.gr_parse.specs.declared.syntax.Kind.{Kind}
-use Rattle.gr_parse.specs.declared.syntax.Kind.TheVariants as kind
-use Rattle.gr_parse.specs.declared.syntax.StepOp.{StepOp}
-use Rattle.gr_parse.specs.declared.syntax.StepOp.TheVariants as step
-use Rattle.gr_parse.specs.declared.syntax.UpdateOp.{UpdateOp}
-use Rattle.gr_parse.specs.declared.syntax.UpdateOp.TheVariants as update
-use Rattle.gr_parse.specs.declared.tree.Ident.{Ident}
-use Rattle.gr_parse.specs.declared.tree.Ident.TheVariants as ident
-use Rattle.gr_parse.specs.declared.tree.BasicLit.{BasicLit}
-use Rattle.gr_parse.specs.declared.tree.BasicLit.TheVariants as basic
+use Rattle.gr_tree.specs.declared.syntax.Kind.{Kind}
+use Rattle.gr_tree.specs.declared.syntax.Kind.TheVariants as kind
+use Rattle.gr_tree.specs.declared.syntax.StepOp.{StepOp}
+use Rattle.gr_tree.specs.declared.syntax.StepOp.TheVariants as step
+use Rattle.gr_tree.specs.declared.syntax.UpdateOp.{UpdateOp}
+use Rattle.gr_tree.specs.declared.syntax.UpdateOp.TheVariants as update
+use Rattle.gr_tree.specs.declared.tree.Ident.{Ident}
+use Rattle.gr_tree.specs.declared.tree.Ident.TheVariants as ident
+use Rattle.gr_tree.specs.declared.tree.BasicLit.{BasicLit}
+use Rattle.gr_tree.specs.declared.tree.BasicLit.TheVariants as basic
 use Rattle.gr_parse.specs.declared.words.Setting.{Setting}
 use Rattle.gr_parse.specs.declared.words.Setting.TheVariants as setting
 use Rattle.gr_parse.specs.declared.words.SetOp.{SetOp}
 use Rattle.gr_parse.specs.declared.words.SetOp.TheVariants as set
-use Rattle.gr_parse.specs.Grammar as grammar
+use Rattle.gr_tree.specs.Grammar as grammar
 
 -- the grammar's word for where a simple statement stands
 abbrev pub setting_of : Setting → grammar.Setting

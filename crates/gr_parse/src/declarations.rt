@@ -1,22 +1,22 @@
 //! Declarations of packages, variables and types.
 ghost use Rattle.std.specs.Prelude.{◌≡◌, ◌∷◌, ◌++◌, [], IfOk};
-ghost use Rattle.gr_parse.specs.Grammar as grammar;
-ghost use Rattle.gr_parse.specs.Grammar.{A, One, is, MoreNames, GlobalValues, TypeUse, Fields};
+ghost use Rattle.gr_tree.specs.Grammar as grammar;
+ghost use Rattle.gr_tree.specs.Grammar.{A, One, is, MoreNames, GlobalValues, TypeUse, Fields};
 ghost use Rattle.gr_parse.specs.Parsing.{Parses};
-ghost use Rattle.gr_parse.specs.Flatten.{sign, tokens_if, value_tokens, basic_tokens};
-ghost use Rattle.gr_parse.specs.View.{option_view, list_view};
-ghost use Rattle.gr_parse.specs.FileView.{var_values_view, body_view, field_view, global_view, type_spec_view};
+ghost use Rattle.gr_tree.specs.Flatten.{sign, tokens_if, value_tokens, basic_tokens};
+ghost use Rattle.gr_tree.specs.View.{option_view, list_view};
+ghost use Rattle.gr_tree.specs.FileView.{var_values_view, body_view, field_view, global_view, type_spec_view};
 ghost use Rattle.gr_parse.specs.Spelling.{import_spelled, global_spelled, type_spec_spelled, body_spelled, field_spelled};
 ghost use Rattle.gr_parse.specs.ListSpelling.{items_spelled};
-ghost use Rattle.gr_parse.specs.WellFormed.{IsList, IsOpenList, Perhaps, Any, IsGlobal, IsField, IsBody, IsTypeSpec};
+ghost use Rattle.gr_tree.specs.WellFormed.{IsList, IsOpenList, Perhaps, Any, IsGlobal, IsField, IsBody, IsTypeSpec};
 
 use crate::groups::Spec;
 use crate::names::{literals, names};
 use crate::short_lists::push;
-use crate::syntax::{Kind, Token};
 use crate::take::{Parsed, at, expect, goes_on, open, separator};
-use crate::tree::{Field, ImportSpec, Item, TypeBody, TypeSpec, VarSpec, VarValues};
 use crate::types::type_expr;
+use gr_tree::syntax::{Kind, Token};
+use gr_tree::tree::{Field, ImportSpec, Item, TypeBody, TypeSpec, VarSpec, VarValues};
 use std::alloc::Global;
 
 impl Spec for ImportSpec {

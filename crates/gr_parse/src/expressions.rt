@@ -1,23 +1,23 @@
 //! Expressions.
 ghost use Rattle.std.specs.Prelude.{◌≡◌, ◌∷◌, ◌≤◌, ◌<◌, ◌+◌, ◌++◌, [], length, true, false, IfOk, cond, is_some};
-ghost use Rattle.gr_parse.specs.Grammar.{A, Opening, Close, Expression, Unary, Binaries, Links, Arguments, Address, Elements, ElementList, slice_type, is};
-ghost use Rattle.gr_parse.specs.Grammar as grammar;
+ghost use Rattle.gr_tree.specs.Grammar.{A, Opening, Close, Expression, Unary, Binaries, Links, Arguments, Address, Elements, ElementList, slice_type, is};
+ghost use Rattle.gr_tree.specs.Grammar as grammar;
 ghost use Rattle.gr_parse.specs.Machine.{at};
 ghost use Rattle.gr_parse.specs.Parsing.{Parses, LeadsTo, LeadsBy, Continues, list_rest};
-ghost use Rattle.gr_parse.specs.Flatten.{sign, all_tokens};
+ghost use Rattle.gr_tree.specs.Flatten.{sign, all_tokens};
 ghost use Rattle.gr_parse.specs.Spelling.{type_spelled, expr_spelled, literal_spelled, link_spelled, expr_item_spelled, element_spelled};
 ghost use Rattle.gr_parse.specs.Strength.{strength_at};
-ghost use Rattle.gr_parse.specs.View.{type_view, expr_view, literal_view};
-ghost use Rattle.gr_parse.specs.WellFormed.{strength_of, IsExpr, IsExprIn, IsLiteral};
+ghost use Rattle.gr_tree.specs.View.{type_view, expr_view, literal_view};
+ghost use Rattle.gr_tree.specs.WellFormed.{strength_of, IsExpr, IsExprIn, IsLiteral};
 ghost use Rattle.gr_parse.specs.Grouping.{IsUnary, IsOperand, IsLiteralIn, IsLink, AreItems, is_literal_type, literal_type_of};
 
 use crate::lookahead::{begins_key, begins_link, literal_is_named, type_is_named};
 use crate::operators::{at_leaf, at_prefix, binary_operator, leaf, open_prefix, strength_at};
 use crate::short_lists::push;
-use crate::syntax::{Kind, Token};
 use crate::take::{Parsed, at, expect, goes_on, open, separator};
-use crate::tree::{CompositeLit, Element, Expr, ExprItem, Key, Link, Operand, TypeExpr};
 use crate::types::{slice_type, type_name};
+use gr_tree::syntax::{Kind, Token};
+use gr_tree::tree::{CompositeLit, Element, Expr, ExprItem, Key, Link, Operand, TypeExpr};
 use std::alloc::Global;
 
 /// An expression. In the header of an `if` or a `for`, outside any brackets, no literal begins with a name.

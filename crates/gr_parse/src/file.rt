@@ -1,21 +1,21 @@
 //! Whole files.
 ghost use Rattle.std.specs.Prelude.{◌≡◌, ◌∷◌, ◌++◌, [], ◌<◌, length, IfOk, true, false};
-ghost use Rattle.gr_parse.specs.Grammar as grammar;
-ghost use Rattle.gr_parse.specs.Grammar.{A, is, Imports, Tops, FuncHead};
+ghost use Rattle.gr_tree.specs.Grammar as grammar;
+ghost use Rattle.gr_tree.specs.Grammar.{A, is, Imports, Tops, FuncHead};
 ghost use Rattle.gr_parse.specs.Machine.{at};
 ghost use Rattle.gr_parse.specs.Parsing.{Parses, LeadsTo};
-ghost use Rattle.gr_parse.specs.Flatten.{all_tokens};
+ghost use Rattle.gr_tree.specs.Flatten.{all_tokens};
 ghost use Rattle.gr_parse.specs.Spelling.{imports_spelled, decl_spelled, func_spelled, file_spelled};
 ghost use Rattle.std.specs.List.{All};
-ghost use Rattle.gr_parse.specs.WellFormed.{IsFunc, IsImports, IsDecl, IsFile};
-ghost use Rattle.gr_parse.specs.FileView.{imports_view, decl_view, func_view, file_view};
+ghost use Rattle.gr_tree.specs.WellFormed.{IsFunc, IsImports, IsDecl, IsFile};
+ghost use Rattle.gr_tree.specs.FileView.{imports_view, decl_view, func_view, file_view};
 
 use crate::functions::{params, receiver_if, results};
 use crate::groups::group;
 use crate::statements::block;
-use crate::syntax::{Kind, Token};
 use crate::take::{Parsed, at, expect, open};
-use crate::tree::{Decl, File, FuncDecl, ImportDecl, ImportSpec, TypeSpec, VarSpec};
+use gr_tree::syntax::{Kind, Token};
+use gr_tree::tree::{Decl, File, FuncDecl, ImportDecl, ImportSpec, TypeSpec, VarSpec};
 use std::alloc::Global;
 
 /// A whole file.

@@ -1,46 +1,14 @@
-//! A file with its path, its cut and its tree, shared by everyone who holds it.
-ghost use Rattle.std.specs.Prelude.{◌≡◌, ◌<◌, length, IfOk, IfErr};
-ghost use Rattle.gr_scan.specs.CutText.{tokens_in};
-ghost use Rattle.gr_parse.specs.Faults.{IsSound, IsTextRefusedFor};
-ghost use Rattle.gr_parse.specs.SourceFile.{IsSourceFile, source_of, spelling_of, offset_of};
+//! A file's tree, read from its text.
+ghost use Rattle.std.specs.Prelude.{◌≡◌, IfOk, IfErr};
+ghost use Rattle.gr_parse.specs.Parsed.{IsTextRefusedFor};
+ghost use Rattle.gr_tree.specs.Faults.{IsSound};
 
 use crate::parser::{Tree, parse};
 use crate::refusal::ParseRefusal;
-use crate::tree::File;
-use gr_scan::{Pieces, ScanRefusal, scan};
+use gr_scan::{ScanRefusal, scan};
 use gr_text::{FileText, Path};
-use std::alloc::{AllocError, Global};
-use std::marker::Model;
-use std::sync::Arc;
-
-/// What the owners of a file's tree share.
-#[derive(Drop)]
-struct Parts {
-    path: Path,
-    pieces: Pieces,
-    file: File,
-}
-
-/// A Go file without fault: its path, its cut and its syntax tree, which no longer change. A clone shares them.
-#[derive(Drop)]
-pub struct FileTree {
-    parts: Arc<Parts, Global>,
-}
-
-impl Model for FileTree {
-    ghost use Rattle.std.specs.Arc.{arc_value};
-    ghost use Rattle.std.specs.Coded.{codes};
-    ghost use Rattle.gr_parse.specs.SourceFile.{FileParts, IsSourceFile, source_of};
-    ghost use Rattle.gr_parse.specs.contracts.tree.File as e;
-
-    ghost Value = { FileParts };
-
-    ghost coded = { Prim.hlevel (codes, e.the_row.coded) };
-
-    ghost view = { λ a. record { path = (arc_value a.parts).path; cut = (arc_value a.parts).pieces; file = (arc_value a.parts).file } };
-
-    ghost invariant = { λ a. IsSourceFile (source_of (record { path = (arc_value a.parts).path; cut = (arc_value a.parts).pieces; file = (arc_value a.parts).file })) };
-}
+use gr_tree::FileTree;
+use std::alloc::Global;
 
 /// Reads a Go file. A fault of its pieces comes before one of its tokens.
 pub fn parse_file(alloc: Global, path: &Path, text: &FileText) -> Result<FileTree, ParseRefusal>
@@ -56,62 +24,6 @@ pub fn parse_file(alloc: Global, path: &Path, text: &FileText) -> Result<FileTre
     };
     let Tree { file, tokens: _ } = parse(alloc, &pieces)?;
     let path = path.clone()?;
-    let parts = Arc::new(alloc, Parts { path, pieces, file })?;
-    Ok(FileTree { parts })
-}
-
-impl FileTree {
-    /// The file's path.
-    pub fn path(&self) -> &Path
-        ensures { result.now ≡ self.now.path }
-    {
-        &self.parts.path
-    }
-
-    /// The file's text with its pieces and tokens.
-    pub fn pieces(&self) -> &Pieces
-        ensures { result.now ≡ self.now.cut }
-    {
-        &self.parts.pieces
-    }
-
-    /// The syntax tree. Its places are numbers of tokens, from 0.
-    pub fn file(&self) -> &File
-        ensures tree { result.now ≡ self.now.file }
-        ensures is_file { IsSourceFile (source_of self.now) }
-    {
-        &self.parts.file
-    }
-
-    /// The bytes of a token, by its number from 0. An inserted semicolon has none, nor has a number beyond the last.
-    pub fn spelling(&self, token: usize) -> &[u8]
-        ensures { result.now ≡ spelling_of (source_of self.now) token }
-    {
-        let pieces = self.pieces();
-        if token < pieces.tokens().len() {
-            pieces.text(token)
-        } else {
-            &[]
-        }
-    }
-
-    /// Where a token begins, by its number from 0: a byte offset. Beyond the last token it is the length of the file.
-    pub fn offset(&self, token: usize) -> usize
-        ensures { result ≡ offset_of (source_of self.now) token }
-    {
-        let pieces = self.pieces();
-        match pieces.tokens().get(token) {
-            Some(piece) => piece.span.start,
-            None => pieces.file().len(),
-        }
-    }
-}
-
-impl Clone for FileTree {
-    ghost is_clone = { λ file copy. copy ≡ file };
-
-    fn clone(&self) -> Result<FileTree, AllocError> {
-        let parts = Arc::try_clone(&self.parts)?;
-        Ok(FileTree { parts })
-    }
+    let file = FileTree::new(alloc, path, pieces, file)?;
+    Ok(file)
 }

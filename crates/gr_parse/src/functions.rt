@@ -1,22 +1,22 @@
 //! The head of a function: its receiver, parameters and results.
 ghost use Rattle.std.specs.Prelude.{◌≡◌, ◌∷◌, ◌++◌, [], IfOk};
-ghost use Rattle.gr_parse.specs.Grammar as grammar;
-ghost use Rattle.gr_parse.specs.Grammar.{A, One, Opening, Close, is, is_ident, FuncHead, Signature, ReceiverStar, ReceiverEnd, MoreIdents, TypeUse, Params, Result, Types};
+ghost use Rattle.gr_tree.specs.Grammar as grammar;
+ghost use Rattle.gr_tree.specs.Grammar.{A, One, Opening, Close, is, is_ident, FuncHead, Signature, ReceiverStar, ReceiverEnd, MoreIdents, TypeUse, Params, Result, Types};
 ghost use Rattle.gr_parse.specs.Parsing.{Parses, LeadsTo};
-ghost use Rattle.gr_parse.specs.Flatten.{sign, tokens_if, receiver_tokens};
-ghost use Rattle.gr_parse.specs.View.{option_view, list_view, type_view};
-ghost use Rattle.gr_parse.specs.FileView.{receiver_view, param_view, results_view};
+ghost use Rattle.gr_tree.specs.Flatten.{sign, tokens_if, receiver_tokens};
+ghost use Rattle.gr_tree.specs.View.{option_view, list_view, type_view};
+ghost use Rattle.gr_tree.specs.FileView.{receiver_view, param_view, results_view};
 ghost use Rattle.gr_parse.specs.Spelling.{type_spelled, receiver_spelled, param_spelled, results_spelled};
 ghost use Rattle.gr_parse.specs.ListSpelling.{items_spelled};
-ghost use Rattle.gr_parse.specs.WellFormed.{IsOpenList, Any, IsParam, IsResult};
+ghost use Rattle.gr_tree.specs.WellFormed.{IsOpenList, Any, IsParam, IsResult};
 
 use crate::names::idents;
 use crate::short_lists::push;
-use crate::syntax::{Kind, Token};
 use crate::take::{Parsed, at, expect, goes_on, open, separator};
-use crate::tree::{Item, Param, Receiver, Results, TypeExpr};
 use crate::types::type_expr;
 use crate::words::{begins_type, ident};
+use gr_tree::syntax::{Kind, Token};
+use gr_tree::tree::{Item, Param, Receiver, Results, TypeExpr};
 use std::alloc::Global;
 
 /// The receiver of a method, where there is one. A function's name comes behind it.

@@ -1,18 +1,18 @@
 //! Groups: one declaration, or any number of them in parentheses.
 ghost use Rattle.std.specs.Prelude.{◌≡◌, ◌∷◌, ◌++◌, [], List, IfOk};
-ghost use Rattle.gr_parse.specs.Grammar as grammar;
-ghost use Rattle.gr_parse.specs.Grammar.{A, GroupOf, Single, Items};
+ghost use Rattle.gr_tree.specs.Grammar as grammar;
+ghost use Rattle.gr_tree.specs.Grammar.{A, GroupOf, Single, Items};
 ghost use Rattle.gr_parse.specs.Parsing.{Parses};
-ghost use Rattle.gr_parse.specs.Flatten.{sign};
+ghost use Rattle.gr_tree.specs.Flatten.{sign};
 ghost use Rattle.gr_parse.specs.ListSpelling.{group_spelled, items_spelled};
-ghost use Rattle.gr_parse.specs.declared.syntax.Token.{Token};
-ghost use Rattle.gr_parse.specs.WellFormed.{IsOpenList, IsGroup};
-ghost use Rattle.gr_parse.specs.View.{list_view, group_view};
+ghost use Rattle.gr_tree.specs.declared.syntax.Token.{Token};
+ghost use Rattle.gr_tree.specs.WellFormed.{IsOpenList, IsGroup};
+ghost use Rattle.gr_tree.specs.View.{list_view, group_view};
 
 use crate::short_lists::push;
-use crate::syntax::{Kind, Token};
 use crate::take::{Parsed, at, expect, goes_on, open, separator};
-use crate::tree::{Group, Item};
+use gr_tree::syntax::{Kind, Token};
+use gr_tree::tree::{Group, Item};
 use std::alloc::Global;
 
 /// What a group may be of: imports, variables, types.

@@ -2,10 +2,10 @@
 ghost use Rattle.std.specs.Prelude.{◌≡◌, ◌-◌, ◌<◌, length, drop, IfOk};
 ghost use Rattle.gr_scan.specs.Cuts.{bytes_of};
 ghost use Rattle.gr_scan.specs.CutText.{tokens_in, token_at};
-ghost use Rattle.gr_parse.specs.Kinds.{kind_of_keyword, kind_of_operator, kind_of_name, kind_of, kinds_of, place_of};
+ghost use Rattle.gr_tree.specs.Kinds.{kind_of_keyword, kind_of_operator, kind_of_name, kind_of, kinds_of, place_of};
 
-use crate::syntax::{Kind, Token};
 use gr_scan::{Class, Keyword, Operator, Pieces};
+use gr_tree::syntax::{Kind, Token};
 use std::alloc::{AllocError, Global};
 
 fn kind_of_keyword(keyword: Keyword) -> Kind

@@ -2,14 +2,13 @@
 
 ghost use Rattle.std.specs.Prelude.{ℕ, ◌≡◌, ◌≤◌, List, [], ◌∷◌};
 ghost use Rattle.std.specs.List.{All};
-ghost use Rattle.gr_parse.specs.declared.syntax.Token.{Token};
-ghost use Rattle.gr_parse.specs.declared.syntax.FaultKind.TheVariants.{Syntax, Nesting};
-ghost use Rattle.gr_parse.specs.Grammar.{A, File};
+ghost use Rattle.gr_tree.specs.declared.syntax.Token.{Token};
+ghost use Rattle.gr_tree.specs.declared.syntax.FaultKind.TheVariants.{Syntax, Nesting};
+ghost use Rattle.gr_tree.specs.Grammar.{A, File};
 ghost use Rattle.gr_parse.specs.Machine.{Run, Stopped, Accepted};
-ghost use Rattle.gr_parse.specs.Language.{Derives, FirstFault, DeepFault, levels};
-ghost use Rattle.gr_parse.specs.Tree.{FileTree};
-ghost use Rattle.gr_parse.specs.Verdict.{Verdict, IsVerdict};
-ghost use Rattle.gr_parse.specs.WellFormed.{IsTreeOf};
+ghost use Rattle.gr_tree.specs.Language.{Derives, FirstFault, DeepFault, levels};
+ghost use Rattle.gr_tree.specs.Tree.{FileTree};
+ghost use Rattle.gr_tree.specs.WellFormed.{IsTreeOf};
 
 /// What the machine takes whole is a file, in which no token opens a level over the limit; where it stops for syntax is the first token such that no file begins
 /// with the tokens up to and including it.
@@ -28,9 +27,4 @@ pub fn tree_is_derived()
 /// A token list has at most one syntax tree.
 pub fn one_tree()
     ensures { (tree other : FileTree) → (ts : List Token) → IsTreeOf tree ts → IsTreeOf other ts → tree ≡ other }
-{}
-
-/// A token list is a file within the limit, or has its first fault at one place: no two of these hold of it.
-pub fn one_verdict()
-    ensures { (ts : List Token) → (verdict other : Verdict) → IsVerdict ts verdict → IsVerdict ts other → verdict ≡ other }
 {}

@@ -1,4 +1,4 @@
-//! The syntax of the Go subset: tokens, grammar, trees, parser.
+//! The parser of the Go subset.
 #![tactic(auto)]
 
 mod declarations;
@@ -14,17 +14,16 @@ mod locals;
 mod lookahead;
 mod names;
 mod operators;
+mod parse_error;
 mod parser;
 mod refusal;
 mod short_lists;
 mod simple;
 mod statements;
-pub mod syntax;
 mod take;
-pub mod tree;
 mod types;
 mod words;
 
-pub use file_tree::{FileTree, parse_file};
+pub use file_tree::parse_file;
 pub use parser::{Tree, flatten, parse};
 pub use refusal::ParseRefusal;

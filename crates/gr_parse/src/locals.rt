@@ -1,23 +1,23 @@
 //! Declarations of local variables.
 ghost use Rattle.std.specs.Prelude.{◌≡◌, ◌∷◌, ◌++◌, [], false, IfOk};
-ghost use Rattle.gr_parse.specs.Grammar as grammar;
-ghost use Rattle.gr_parse.specs.Grammar.{A, One, is, Expressions, LocalRest, LocalValues};
+ghost use Rattle.gr_tree.specs.Grammar as grammar;
+ghost use Rattle.gr_tree.specs.Grammar.{A, One, is, Expressions, LocalRest, LocalValues};
 ghost use Rattle.gr_parse.specs.Parsing.{Parses};
-ghost use Rattle.gr_parse.specs.Flatten.{tokens_if, value_tokens, type_tokens, expr_tokens};
-ghost use Rattle.gr_parse.specs.View.{option_view, type_view, exprs_view};
-ghost use Rattle.gr_parse.specs.FileView.{values_view, local_view};
+ghost use Rattle.gr_tree.specs.Flatten.{tokens_if, value_tokens, type_tokens, expr_tokens};
+ghost use Rattle.gr_tree.specs.View.{option_view, type_view, exprs_view};
+ghost use Rattle.gr_tree.specs.FileView.{values_view, local_view};
 ghost use Rattle.gr_parse.specs.Spelling.{local_spelled};
-ghost use Rattle.gr_parse.specs.WellFormed.{IsList, Perhaps, IsExprIn, IsLocal};
+ghost use Rattle.gr_tree.specs.WellFormed.{IsList, Perhaps, IsExprIn, IsLocal};
 ghost use Rattle.gr_parse.specs.Listed.{IsToldBy};
 
 use crate::groups::Spec;
 use crate::names::idents;
 use crate::simple::exprs;
-use crate::syntax::{Kind, Token};
 use crate::take::{Parsed, at, expect};
-use crate::tree::{LocalSpec, TypeExpr, Values};
 use crate::types::type_expr;
 use crate::words::Setting;
+use gr_tree::syntax::{Kind, Token};
+use gr_tree::tree::{LocalSpec, TypeExpr, Values};
 use std::alloc::Global;
 
 impl Spec for LocalSpec {

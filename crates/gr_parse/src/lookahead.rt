@@ -1,12 +1,12 @@
 //! What the parser looks ahead for, by at most four tokens.
 ghost use Rattle.std.specs.Prelude.{◌≡◌, true, false, cond};
-ghost use Rattle.gr_parse.specs.Grammar.{is, begins_expression};
+ghost use Rattle.gr_tree.specs.Grammar.{is, begins_expression};
 ghost use Rattle.gr_parse.specs.Machine.{at};
 ghost use Rattle.gr_parse.specs.Lookahead.{behind, names_literal, begins_key};
 
 use crate::operators::{at_leaf, at_prefix};
-use crate::syntax::{Kind, Token};
 use crate::take::{at, next};
+use gr_tree::syntax::{Kind, Token};
 
 /// The tokens behind the first.
 fn behind(tokens: &[Token]) -> &[Token]

@@ -1,18 +1,18 @@
 //! Lists without brackets: names, identifiers, literals.
 ghost use Rattle.std.specs.Prelude.{◌≡◌, ◌∷◌, ◌++◌, [], IfOk};
-ghost use Rattle.gr_parse.specs.Grammar.{A, One, is, is_ident, is_literal, MoreNames, MoreIdents, MoreLiterals};
+ghost use Rattle.gr_tree.specs.Grammar.{A, One, is, is_ident, is_literal, MoreNames, MoreIdents, MoreLiterals};
 ghost use Rattle.gr_parse.specs.Parsing.{Parses};
 ghost use Rattle.gr_parse.specs.Spelling.{names_spelled, idents_spelled};
 ghost use Rattle.gr_parse.specs.ListSpelling.{basics_spelled};
-ghost use Rattle.gr_parse.specs.WellFormed.{IsList, Any};
-ghost use Rattle.gr_parse.specs.View.{list_view, ident_view};
-ghost use Rattle.gr_parse.specs.FileView.{same_place, basic_view};
+ghost use Rattle.gr_tree.specs.WellFormed.{IsList, Any};
+ghost use Rattle.gr_tree.specs.View.{list_view, ident_view};
+ghost use Rattle.gr_tree.specs.FileView.{same_place, basic_view};
 
 use crate::short_lists::push;
-use crate::syntax::{Kind, Token};
 use crate::take::{Parsed, expect, separator};
-use crate::tree::{BasicLit, Ident, Item};
 use crate::words::{basic_lit, ident};
+use gr_tree::syntax::{Kind, Token};
+use gr_tree::tree::{BasicLit, Ident, Item};
 use std::alloc::Global;
 
 /// Names with commas between them.

@@ -1,19 +1,20 @@
 //! Operators and operands of one token.
 ghost use Rattle.std.specs.Prelude.{◌≡◌, ◌∷◌, ◌++◌, [], Option, Bool, IfOk};
-ghost use Rattle.gr_parse.specs.Grammar.{One, Opening, is_binary, is_prefix, is_leaf};
+ghost use Rattle.gr_tree.specs.Grammar.{One, Opening, is_binary, is_prefix, is_leaf};
 ghost use Rattle.gr_parse.specs.Machine.{at};
 ghost use Rattle.gr_parse.specs.Parsing.{Parses, OpensAs};
-ghost use Rattle.gr_parse.specs.Flatten.{sign, binary_kind, prefix_kind};
+ghost use Rattle.gr_tree.specs.Flatten.{sign, binary_kind, prefix_kind};
 ghost use Rattle.gr_parse.specs.Spelling.{expr_spelled};
 ghost use Rattle.gr_parse.specs.Strength.{strength_at};
-ghost use Rattle.gr_parse.specs.WellFormed.{strength};
+ghost use Rattle.gr_tree.specs.WellFormed.{strength};
 ghost use Rattle.gr_parse.specs.Leaf.{leaf_of};
-ghost use Rattle.gr_parse.specs.View.{expr_view};
+ghost use Rattle.gr_tree.specs.View.{expr_view};
 ghost use Rattle.gr_parse.specs.Grouping.{IsOperand};
 
-use crate::syntax::{BinaryOp, FaultKind, Kind, ParseError, PrefixOp, Token};
+use crate::parse_error::ParseError;
 use crate::take::{LIMIT, Parsed, binary_op, misplaced, next, prefix_op};
-use crate::tree::Expr;
+use gr_tree::syntax::{BinaryOp, FaultKind, Kind, PrefixOp, Token};
+use gr_tree::tree::Expr;
 
 /// How strongly an operator binds, from 1 to 5.
 pub(crate) fn strength_of(op: BinaryOp) -> u32

@@ -1,19 +1,20 @@
 //! The syntax tree of a file.
 ghost use Rattle.std.specs.Prelude.{◌≡◌, IfOk, IfErr};
-ghost use Rattle.gr_parse.specs.Kinds.{kinds_of};
+ghost use Rattle.gr_tree.specs.Kinds.{kinds_of};
 ghost use Rattle.gr_parse.specs.Parsed.{IsRefusedFor, Answers, refusal_of};
-ghost use Rattle.gr_parse.specs.Verdict.{IsWhole};
+ghost use Rattle.gr_tree.specs.Verdict.{IsWhole};
 ghost use Rattle.gr_parse.specs.Spelling.{file_spelled};
-ghost use Rattle.gr_parse.specs.FileView.{file_view};
-ghost use Rattle.gr_parse.specs.WellFormed.{IsFile, IsTreeOf};
+ghost use Rattle.gr_tree.specs.FileView.{file_view};
+ghost use Rattle.gr_tree.specs.WellFormed.{IsFile, IsTreeOf};
 
 use crate::file::file;
 use crate::kinds::{kinds_of, place_of};
+use crate::parse_error::ParseError;
 use crate::refusal::ParseRefusal;
-use crate::syntax::{FaultKind, ParseError, Token};
 use crate::take::misplaced;
-use crate::tree::File;
 use gr_scan::{Fault, Pieces};
+use gr_tree::syntax::{FaultKind, Token};
+use gr_tree::tree::File;
 use std::alloc::{AllocError, Global};
 
 /// A file's syntax tree, and the tokens that it writes out.

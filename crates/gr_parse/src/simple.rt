@@ -1,22 +1,24 @@
 //! Simple statements, and lists of expressions.
+//! Where reading fails, trees that were read go by a call of `drop`: one that goes unsaid is proved field by field.
 ghost use Rattle.std.specs.Prelude.{◌≡◌, ◌∷◌, ◌++◌, [], IfOk, true};
-ghost use Rattle.gr_parse.specs.Grammar.{A, One, in_head, sets, Expression, Expressions, SimpleRest};
+ghost use Rattle.gr_tree.specs.Grammar.{A, One, in_head, is, is_step, is_update, sets, Expression, Expressions, SimpleRest};
 ghost use Rattle.gr_parse.specs.Parsing.{Parses, Continues};
-ghost use Rattle.gr_parse.specs.Flatten.{sign_if};
+ghost use Rattle.gr_tree.specs.Flatten.{sign, sign_if, update_kind};
 ghost use Rattle.gr_parse.specs.Spelling.{expr_spelled, exprs_spelled, simple_spelled};
 ghost use Rattle.gr_parse.specs.Words.{setting_of};
-ghost use Rattle.gr_parse.specs.WellFormed.{IsList, IsExprIn};
-ghost use Rattle.gr_parse.specs.View.{expr_view, exprs_view, expr_item_view};
-ghost use Rattle.gr_parse.specs.FileView.{simple_view};
+ghost use Rattle.gr_tree.specs.WellFormed.{IsList, IsExprIn};
+ghost use Rattle.gr_tree.specs.View.{expr_view, exprs_view, expr_item_view};
+ghost use Rattle.gr_tree.specs.FileView.{simple_view};
 ghost use Rattle.gr_parse.specs.Listed.{IsSimpleIn, IsListed};
 
 use crate::expressions::expression;
 use crate::short_lists::push;
-use crate::syntax::{Kind, Token};
 use crate::take::{Parsed, at, expect, separator};
-use crate::tree::{Expr, ExprItem, SimpleStmt};
 use crate::words::{SetOp, Setting, at_set, at_step, at_update, in_header, set, step, update};
+use gr_tree::syntax::{Kind, Token, UpdateOp};
+use gr_tree::tree::{Expr, ExprItem, SimpleStmt};
 use std::alloc::{AllocError, Global};
+use std::mem::drop;
 
 /// An expression, as it may be where a statement stands.
 pub(crate) fn expr(
@@ -106,32 +108,112 @@ pub(crate) fn simple_rest(
     ensures formed { IfOk result (λ x. IsSimpleIn setting (simple_view x.0)) }
 {
     if at_step(tokens) {
-        let ((op, at), rest) = step(tokens, depth)?;
-        let operand = first;
-        return Ok((SimpleStmt::Step { operand, op, at }, rest));
+        return stepped(first, tokens, depth, setting);
     }
     if at_update(tokens) {
-        let ((change, at), rest) = update(tokens, depth)?;
-        let (right, rest) = expr(alloc, rest, depth, setting)?;
-        let statement = SimpleStmt::Update {
-            left: first,
-            op: change,
-            at,
-            right,
-        };
-        return Ok((statement, rest));
+        return updated(alloc, first, tokens, depth, setting);
     }
     if at_set(tokens, setting) {
-        let single = first_expr(alloc, first, None)?;
-        return assignment(alloc, single, tokens, depth, setting);
+        return one_set(alloc, first, tokens, depth, setting);
     }
     if at(tokens, Kind::Comma) {
-        let (comma, rest) = expect(tokens, Kind::Comma, depth)?;
-        let begun = first_expr(alloc, first, Some(comma))?;
-        let (left, rest) = more_exprs(alloc, begun, rest, depth, setting)?;
-        return assignment(alloc, left, rest, depth, setting);
+        return several_set(alloc, first, tokens, depth, setting);
     }
     Ok((SimpleStmt::Expr(first), tokens))
+}
+
+/// A `++` or `--` behind that operand.
+fn stepped(operand: Expr, tokens: &[Token], depth: u32, setting: Setting) -> Parsed<'_, SimpleStmt>
+    requires { IsExprIn (in_head (setting_of setting)) (expr_view operand) }
+    ensures exact { Continues (One is_step ∷ []) (expr_spelled operand) (λ x. simple_spelled x.0) (λ x. x.1.now) depth tokens.now result }
+    ensures formed { IfOk result (λ x. IsSimpleIn setting (simple_view x.0)) }
+{
+    match step(tokens, depth) {
+        Ok(((op, at), rest)) => Ok((SimpleStmt::Step { operand, op, at }, rest)),
+        Err(error) => {
+            drop(operand);
+            Err(error)
+        }
+    }
+}
+
+/// An operator such as `+=` and its right side, behind that left side.
+fn updated(
+    alloc: Global,
+    left: Expr,
+    tokens: &[Token],
+    depth: u32,
+    setting: Setting,
+) -> Parsed<'_, SimpleStmt>
+    requires { IsExprIn (in_head (setting_of setting)) (expr_view left) }
+    ensures exact { Continues (One is_update ∷ A (Expression (in_head (setting_of setting))) ∷ []) (expr_spelled left) (λ x. simple_spelled x.0) (λ x. x.1.now) depth tokens.now result }
+    ensures formed { IfOk result (λ x. IsSimpleIn setting (simple_view x.0)) }
+{
+    match change(alloc, tokens, depth, setting) {
+        Ok((change, rest)) => {
+            let (op, at, right) = change;
+            let statement = SimpleStmt::Update {
+                left,
+                op,
+                at,
+                right,
+            };
+            Ok((statement, rest))
+        }
+        Err(error) => {
+            drop(left);
+            Err(error)
+        }
+    }
+}
+
+/// An operator such as `+=`, its place, and its right side.
+fn change(
+    alloc: Global,
+    tokens: &[Token],
+    depth: u32,
+    setting: Setting,
+) -> Parsed<'_, (UpdateOp, usize, Expr)>
+    ensures exact { Parses (One is_update ∷ A (Expression (in_head (setting_of setting))) ∷ []) (λ x. sign (update_kind x.0.0) x.0.1 ∷ expr_spelled x.0.2) (λ x. x.1.now) depth tokens.now result }
+    ensures formed { IfOk result (λ x. IsExprIn (in_head (setting_of setting)) (expr_view x.0.2)) }
+{
+    let ((op, at), rest) = update(tokens, depth)?;
+    let (right, rest) = expr(alloc, rest, depth, setting)?;
+    Ok(((op, at, right), rest))
+}
+
+/// An assignment or definition behind that one expression.
+fn one_set(
+    alloc: Global,
+    first: Expr,
+    tokens: &[Token],
+    depth: u32,
+    setting: Setting,
+) -> Parsed<'_, SimpleStmt>
+    requires { IsExprIn (in_head (setting_of setting)) (expr_view first) }
+    ensures exact { Continues (One (sets (setting_of setting)) ∷ A (Expressions (in_head (setting_of setting))) ∷ []) (expr_spelled first) (λ x. simple_spelled x.0) (λ x. x.1.now) depth tokens.now result }
+    ensures formed { IfOk result (λ x. IsSimpleIn setting (simple_view x.0)) }
+{
+    let single = first_expr(alloc, first, None)?;
+    assignment(alloc, single, tokens, depth, setting)
+}
+
+/// A comma, further expressions, and an assignment or definition, behind that expression.
+fn several_set(
+    alloc: Global,
+    first: Expr,
+    tokens: &[Token],
+    depth: u32,
+    setting: Setting,
+) -> Parsed<'_, SimpleStmt>
+    requires { IsExprIn (in_head (setting_of setting)) (expr_view first) }
+    ensures exact { Continues (One (is Kind.Comma) ∷ A (Expressions (in_head (setting_of setting))) ∷ One (sets (setting_of setting)) ∷ A (Expressions (in_head (setting_of setting))) ∷ []) (expr_spelled first) (λ x. simple_spelled x.0) (λ x. x.1.now) depth tokens.now result }
+    ensures formed { IfOk result (λ x. IsSimpleIn setting (simple_view x.0)) }
+{
+    let (comma, rest) = expect(tokens, Kind::Comma, depth)?;
+    let begun = first_expr(alloc, first, Some(comma))?;
+    let (left, rest) = more_exprs(alloc, begun, rest, depth, setting)?;
+    assignment(alloc, left, rest, depth, setting)
 }
 
 /// An assignment or definition, of which the left side has been read.

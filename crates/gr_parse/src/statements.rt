@@ -1,14 +1,15 @@
 //! Statements and blocks.
+//! Where reading fails, trees that were read go by a call of `drop`: one that goes unsaid is proved field by field.
 ghost use Rattle.std.specs.Prelude.{◌≡◌, ◌∷◌, ◌++◌, [], false, IfOk};
-ghost use Rattle.gr_parse.specs.Grammar as grammar;
-ghost use Rattle.gr_parse.specs.Grammar.{A, is, IfHead, ForHead, ElsePart, Statement, ReturnValues};
+ghost use Rattle.gr_tree.specs.Grammar as grammar;
+ghost use Rattle.gr_tree.specs.Grammar.{A, One, is, IfHead, IfBody, ForHead, ElsePart, Statement, ReturnValues};
 ghost use Rattle.gr_parse.specs.Machine.{at};
 ghost use Rattle.gr_parse.specs.Parsing.{Parses, Continues};
-ghost use Rattle.gr_parse.specs.Flatten.{sign};
+ghost use Rattle.gr_tree.specs.Flatten.{sign};
 ghost use Rattle.gr_parse.specs.Spelling.{exprs_spelled, stmt_spelled, block_spelled, if_spelled, else_spelled};
-ghost use Rattle.gr_parse.specs.WellFormed.{IsStatement, IsBlock, IsIf, IsElse};
-ghost use Rattle.gr_parse.specs.View.{exprs_view};
-ghost use Rattle.gr_parse.specs.FileView.{stmt_view, block_view, if_view, else_view};
+ghost use Rattle.gr_tree.specs.WellFormed.{IsStatement, IsBlock, IsIf, IsElse};
+ghost use Rattle.gr_tree.specs.View.{exprs_view};
+ghost use Rattle.gr_tree.specs.FileView.{stmt_view, block_view, if_view, else_view};
 ghost use Rattle.gr_parse.specs.Listed.{AreReturned};
 
 use crate::groups::group;
@@ -16,11 +17,12 @@ use crate::headers::{for_header, if_header};
 use crate::lookahead::begins_expression;
 use crate::short_lists::push;
 use crate::simple::{exprs, simple};
-use crate::syntax::{Kind, Token};
 use crate::take::{Parsed, at, expect, open, separator};
-use crate::tree::{Block, BlockItem, Else, ExprItem, IfStmt, LocalSpec, Stmt};
 use crate::words::Setting;
+use gr_tree::syntax::{Kind, Token};
+use gr_tree::tree::{Block, BlockItem, Else, ExprItem, IfStmt, LocalSpec, Stmt};
 use std::alloc::Global;
+use std::mem::drop;
 
 /// A brace block.
 #[cycle(statement)]
@@ -75,12 +77,26 @@ fn statement(alloc: Global, tokens: &[Token], depth: u32) -> Parsed<'_, Stmt>
         return Ok((Stmt::If(branch), rest));
     }
     if at(tokens, Kind::For) {
-        let (at, rest) = expect(tokens, Kind::For, depth)?;
-        let (header, rest) = for_header(alloc, rest, depth)?;
-        let (body, rest) = block(alloc, rest, depth)?;
-        return Ok((Stmt::For { at, header, body }, rest));
+        return for_stmt(alloc, tokens, depth);
     }
     plain_statement(alloc, tokens, depth)
+}
+
+/// A `for` statement.
+#[cycle(statement)]
+fn for_stmt(alloc: Global, tokens: &[Token], depth: u32) -> Parsed<'_, Stmt>
+    ensures exact { Parses (One (is Kind.For) ∷ A ForHead ∷ []) (λ x. stmt_spelled x.0) (λ x. x.1.now) depth tokens.now result }
+    ensures formed { IfOk result (λ x. IsStatement (stmt_view x.0)) }
+{
+    let (at, rest) = expect(tokens, Kind::For, depth)?;
+    let (header, rest) = for_header(alloc, rest, depth)?;
+    match block(alloc, rest, depth) {
+        Ok((body, rest)) => Ok((Stmt::For { at, header, body }, rest)),
+        Err(error) => {
+            drop(header);
+            Err(error)
+        }
+    }
 }
 
 /// An `if` statement, of which the `if` has been read.
@@ -90,16 +106,40 @@ fn if_stmt(alloc: Global, at: usize, tokens: &[Token], depth: u32) -> Parsed<'_,
     ensures formed { IfOk result (λ x. IsIf (if_view x.0)) }
 {
     let ((init, condition), rest) = if_header(alloc, tokens, depth)?;
-    let (body, rest) = block(alloc, rest, depth)?;
-    let (otherwise, rest) = else_part(alloc, rest, depth)?;
-    let statement = IfStmt {
-        at,
-        init,
-        condition,
-        body,
-        otherwise,
-    };
-    Ok((statement, rest))
+    match branches(alloc, rest, depth) {
+        Ok((branches, rest)) => {
+            let (body, otherwise) = branches;
+            let statement = IfStmt {
+                at,
+                init,
+                condition,
+                body,
+                otherwise,
+            };
+            Ok((statement, rest))
+        }
+        Err(error) => {
+            drop(init);
+            drop(condition);
+            Err(error)
+        }
+    }
+}
+
+/// The block of an `if`, and what stands behind it.
+#[cycle(statement)]
+fn branches(alloc: Global, tokens: &[Token], depth: u32) -> Parsed<'_, (Block, Else)>
+    ensures exact { Parses (A IfBody ∷ []) (λ x. block_spelled x.0.0 ++ else_spelled x.0.1) (λ x. x.1.now) depth tokens.now result }
+    ensures formed { IfOk result (λ x. IsBlock (block_view x.0.0) × IsElse (else_view x.0.1)) }
+{
+    let (body, rest) = block(alloc, tokens, depth)?;
+    match else_part(alloc, rest, depth) {
+        Ok((otherwise, rest)) => Ok(((body, otherwise), rest)),
+        Err(error) => {
+            drop(body);
+            Err(error)
+        }
+    }
 }
 
 /// What stands behind the block of an `if`.

@@ -1,12 +1,13 @@
 //! Steps over one token.
 
 ghost use Rattle.std.specs.Prelude.{◌≡◌, ◌∷◌, ◌≤◌, ◌<◌, ◌+◌, ◌++◌, [], length, MatchOption, IsTrue, ◌↔◌, true, false};
-ghost use Rattle.gr_parse.specs.Grammar.{number_of, One, is, binary_of, prefix_of};
+ghost use Rattle.gr_tree.specs.Grammar.{number_of, One, is, binary_of, prefix_of};
 ghost use Rattle.gr_parse.specs.Parsing.{Parses, Opens, Separates};
 ghost use Rattle.gr_parse.specs.Machine.{at};
-ghost use Rattle.gr_parse.specs.Flatten.{sign};
+ghost use Rattle.gr_tree.specs.Flatten.{sign};
 
-use crate::syntax::{BinaryOp, FaultKind, Kind, ParseError, PrefixOp, Token};
+use crate::parse_error::ParseError;
+use gr_tree::syntax::{BinaryOp, FaultKind, Kind, PrefixOp, Token};
 
 /// How many levels may be open at once.
 pub const LIMIT: u32 = 200;

@@ -1,14 +1,14 @@
 //! Types.
 ghost use Rattle.std.specs.Prelude.{◌≡◌, ◌∷◌, ◌++◌, [], true, IfOk};
-ghost use Rattle.gr_parse.specs.Grammar.{A, TypeUse, AfterTypeName, One, is, slice_type};
+ghost use Rattle.gr_tree.specs.Grammar.{A, TypeUse, AfterTypeName, One, is, slice_type};
 ghost use Rattle.gr_parse.specs.Parsing.{Parses};
 ghost use Rattle.gr_parse.specs.Spelling.{type_spelled};
-ghost use Rattle.gr_parse.specs.View.{type_view};
+ghost use Rattle.gr_tree.specs.View.{type_view};
 ghost use Rattle.gr_parse.specs.Grouping.{is_literal_type, is_slice};
 
-use crate::syntax::{Kind, Token};
 use crate::take::{Parsed, at, expect, open};
-use crate::tree::TypeExpr;
+use gr_tree::syntax::{Kind, Token};
+use gr_tree::tree::TypeExpr;
 use std::alloc::Global;
 
 /// The name of a type, perhaps of an imported package.

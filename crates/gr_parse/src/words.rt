@@ -1,15 +1,15 @@
 //! Tokens of which the grammar takes several kinds: identifiers, literals, the operators of statements.
 ghost use Rattle.std.specs.Prelude.{◌≡◌, ◌∷◌, ◌++◌, [], IfOk};
-ghost use Rattle.gr_parse.specs.Grammar.{One, is_ident, is_literal, is_step, is_update, sets, in_head, begins_type};
+ghost use Rattle.gr_tree.specs.Grammar.{One, is_ident, is_literal, is_step, is_update, sets, in_head, begins_type};
 ghost use Rattle.gr_parse.specs.Machine.{at};
 ghost use Rattle.gr_parse.specs.Parsing.{Parses};
-ghost use Rattle.gr_parse.specs.Flatten.{sign, step_kind, update_kind};
+ghost use Rattle.gr_tree.specs.Flatten.{sign, step_kind, update_kind};
 ghost use Rattle.gr_parse.specs.Spelling.{ident_spelled, basic_spelled};
 ghost use Rattle.gr_parse.specs.Words.{step_of, update_of, set_of, set_kind, setting_of, IsAllowed, ident_of, basic_of};
 
-use crate::syntax::{Kind, StepOp, Token, UpdateOp};
 use crate::take::{Parsed, misplaced, next};
-use crate::tree::{BasicLit, Ident};
+use gr_tree::syntax::{Kind, StepOp, Token, UpdateOp};
+use gr_tree::tree::{BasicLit, Ident};
 
 /// Where a simple statement stands: by itself, first in the head of an `if` or a `for`, or last in the head of a `for`.
 #[derive(Clone, Copy, PartialEq, Eq, Debug)]

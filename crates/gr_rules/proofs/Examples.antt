@@ -1,8 +1,8 @@
 -- What small expressions mean by the rules, and some that mean nothing.
 use Rattle.std.proofs.Common.{ℕ, ◌==◌, [], ◌∷◌, Option, Some, None, true, false, refl, sym, inl, if◌then◌else◌}
-use Rattle.gr_parse.specs.declared.syntax.BinaryOp.TheVariants as op
-use Rattle.gr_parse.specs.Tree.{ExprTree}
-use Rattle.gr_parse.specs.Tree as tree
+use Rattle.gr_tree.specs.declared.syntax.BinaryOp.TheVariants as op
+use Rattle.gr_tree.specs.Tree.{ExprTree}
+use Rattle.gr_tree.specs.Tree as tree
 use Rattle.gr_expr.specs.declared.types.Basic.TheVariants as basic
 use Rattle.gr_expr.specs.declared.types.Builtin.TheVariants as builtin
 use Rattle.gr_expr.specs.declared.symbol.Symbol.{Symbol}

@@ -1,6 +1,6 @@
 -- The laws of typing.
 use Rattle.std.proofs.Common.{◌≡◌, ◌↔◌, ◌⊎◌, inl, inr, All, [], sym, ◌∙◌, subst}
-use Rattle.gr_parse.specs.Tree.{ExprTree}
+use Rattle.gr_tree.specs.Tree.{ExprTree}
 use Rattle.gr_expr.specs.Types.{Meaning}
 use Rattle.gr_expr.specs.World.{World, Locals}
 use Rattle.gr_expr.specs.Judge.{judge}

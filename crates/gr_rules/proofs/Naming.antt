@@ -1,7 +1,7 @@
 -- What names mean and which types are written, as it is found.
 use Rattle.std.proofs.Common.{ℕ, ◌≡◌, Option, Some, None, option_map, refl, ap, ◌∙◌, subst}
-use Rattle.gr_parse.specs.Tree.{TypeTree}
-use Rattle.gr_parse.specs.Tree as tree
+use Rattle.gr_tree.specs.Tree.{TypeTree}
+use Rattle.gr_tree.specs.Tree as tree
 use Rattle.gr_expr.specs.Types.{PlainType, Pointer, Slice, Meaning, Value, TypeName, Function, BuiltinName, Package, Results, Broken}
 use Rattle.gr_expr.specs.World.{World, Locals, Bound, Local, Means, BrokenVariable, BrokenFunction, BrokenType, variable, meaning_of_bound, name_meaning}
 use Rattle.gr_expr.specs.Judge.{judge_type, named_type, named_meaning, imported_type, imported_meaning, good_type, under}

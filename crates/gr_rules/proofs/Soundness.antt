@@ -1,8 +1,8 @@
 -- What means something by the rules is found to mean that, without a fault.
 use Rattle.std.proofs.Common.{ℕ, ◌≡◌, Bool, false, List, [], Some, refl, sym, ap, ◌∙◌, subst}
-use Rattle.gr_parse.specs.declared.syntax.BinaryOp.{BinaryOp}
-use Rattle.gr_parse.specs.declared.syntax.PrefixOp.{PrefixOp}
-use Rattle.gr_parse.specs.Tree.{ExprTree, LinkTrees, OperandTrees, ArgumentTrees, LiteralTree, ElementTrees}
+use Rattle.gr_tree.specs.declared.syntax.BinaryOp.{BinaryOp}
+use Rattle.gr_tree.specs.declared.syntax.PrefixOp.{PrefixOp}
+use Rattle.gr_tree.specs.Tree.{ExprTree, LinkTrees, OperandTrees, ArgumentTrees, LiteralTree, ElementTrees}
 use Rattle.gr_expr.specs.declared.symbol.Symbol.{Symbol}
 use Rattle.gr_expr.specs.Places.{first_token, first_of_type, place_of}
 use Rattle.gr_expr.specs.Types.{PlainType, SliceOf, Struct, Kind, Typed, Meaning, Value, element_of}

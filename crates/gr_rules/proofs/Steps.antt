@@ -1,6 +1,6 @@
 -- What is found of an expression from what is found of its parts.
 use Rattle.std.proofs.Common.{ℕ, ◌≡◌, Bool, true, false, List, [], ◌∷◌, ◌++◌, Option, Some, refl, sym, ap, ◌∙◌, subst}
-use Rattle.gr_parse.specs.Tree.{ExprTree}
+use Rattle.gr_tree.specs.Tree.{ExprTree}
 use Rattle.gr_expr.specs.Places.{place_of}
 use Rattle.gr_expr.specs.Types.{PlainType, Kind, Signature, Meaning, Value, TypeName, Function, BuiltinName, Package, Results, Broken}
 use Rattle.gr_expr.specs.Judge.{Judged, MemberUse, means, means_or_wrong, followed, with_use, as_value, value_at, value_kind, wrong_if_whole}

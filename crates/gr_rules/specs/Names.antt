@@ -1,7 +1,7 @@
 -- What names mean, and which types are written.
 use Rattle.std.specs.Prelude.{◌≡◌, ℕ, Some, true}
-use Rattle.gr_parse.specs.Tree.{TypeTree}
-use Rattle.gr_parse.specs.Tree as tree
+use Rattle.gr_tree.specs.Tree.{TypeTree}
+use Rattle.gr_tree.specs.Tree as tree
 use Rattle.gr_expr.specs.Types.{PlainType, Pointer, Slice, Typed, Meaning, Value, TypeName, Package, Broken}
 use Rattle.gr_expr.specs.World.{World, Locals, Local, Means}
 

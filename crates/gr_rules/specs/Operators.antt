@@ -1,9 +1,9 @@
 -- Which operands an operator takes, and what it makes of them.
 use Rattle.std.specs.Prelude.{◌≡◌, ◌⊎◌, false, true}
-use Rattle.gr_parse.specs.declared.syntax.BinaryOp.{BinaryOp}
-use Rattle.gr_parse.specs.declared.syntax.BinaryOp.TheVariants as op
-use Rattle.gr_parse.specs.declared.syntax.PrefixOp.{PrefixOp}
-use Rattle.gr_parse.specs.declared.syntax.PrefixOp.TheVariants as sign
+use Rattle.gr_tree.specs.declared.syntax.BinaryOp.{BinaryOp}
+use Rattle.gr_tree.specs.declared.syntax.BinaryOp.TheVariants as op
+use Rattle.gr_tree.specs.declared.syntax.PrefixOp.{PrefixOp}
+use Rattle.gr_tree.specs.declared.syntax.PrefixOp.TheVariants as sign
 use Rattle.gr_expr.specs.declared.types.Basic.{Basic}
 use Rattle.gr_expr.specs.declared.types.Basic.TheVariants as basic
 use Rattle.gr_expr.specs.Types.{PlainType, Plain, PointerTo, Kind, Typed, Untyped, Nil, Meaning, Value}

@@ -1,7 +1,7 @@
 //! The laws of typing.
 
 ghost use Rattle.std.specs.Prelude.{◌≡◌, ◌↔◌, ◌⊎◌, [], All};
-ghost use Rattle.gr_parse.specs.Tree.{ExprTree};
+ghost use Rattle.gr_tree.specs.Tree.{ExprTree};
 ghost use Rattle.gr_expr.specs.Types.{Meaning};
 ghost use Rattle.gr_expr.specs.World.{World, Locals};
 ghost use Rattle.gr_expr.specs.Judge.{judge};

@@ -1,5 +1,5 @@
 //! The bytes that string literals stand for.
-ghost use Rattle.std.specs.Prelude.{◌≡◌, ◌<◌, ◌≤◌, ◌^◌, ◌++◌, IfOk, true};
+ghost use Rattle.std.specs.Prelude.{◌≡◌, ◌<◌, ◌≤◌, ◌^◌, ◌++◌, ◌∷◌, [], IfOk, true};
 ghost use Rattle.std.specs.Char.{encode_utf8};
 ghost use Rattle.gr_scan.specs.Integers.{number_in};
 ghost use Rattle.gr_scan.specs.Strings.{is_character, is_escape, is_string_part, IsString};
@@ -49,6 +49,14 @@ fn push_character(value: &mut Vec<u8>, code: u32) -> Result<(), AllocError>
     }
 }
 
+/// Adds one byte.
+fn push_byte(value: &mut Vec<u8>, byte: u8) -> Result<(), AllocError>
+    ensures { IfOk result (λ _. value.new.items ≡ value.old.items ++ (byte ∷ [])) }
+{
+    value.push(byte)?;
+    Ok(())
+}
+
 /// Adds what stands behind a backslash.
 fn push_escape(value: &mut Vec<u8>, escape: &[u8]) -> Result<(), AllocError>
     requires { is_escape escape.now ≡ true }
@@ -58,18 +66,14 @@ fn push_escape(value: &mut Vec<u8>, escape: &[u8]) -> Result<(), AllocError>
         return Ok(());
     };
     if is_plain_escape(*first) {
-        value.push(plain_escape_value(*first))?;
-        return Ok(());
+        push_byte(value, plain_escape_value(*first))
+    } else if is_digit(*first, 8) {
+        push_byte(value, small_number(8, escape) as u8)
+    } else if *first == b'x' {
+        push_byte(value, small_number(16, digits) as u8)
+    } else {
+        push_character(value, small_number(16, digits))
     }
-    if is_digit(*first, 8) {
-        value.push(small_number(8, escape) as u8)?;
-        return Ok(());
-    }
-    if *first == b'x' {
-        value.push(small_number(16, digits) as u8)?;
-        return Ok(());
-    }
-    push_character(value, small_number(16, digits))
 }
 
 /// Adds what a part of an interpreted string stands for.
@@ -79,10 +83,7 @@ fn push_part(value: &mut Vec<u8>, part: &[u8]) -> Result<(), AllocError>
 {
     match part {
         [] => Ok(()),
-        [byte] => {
-            value.push(*byte)?;
-            Ok(())
-        }
+        [byte] => push_byte(value, *byte),
         [_, escape @ ..] => push_escape(value, escape),
     }
 }

@@ -51,5 +51,10 @@ pub each_next : {X : Type 0} {a b c : List Identifier} (f : X → List Site) (xs
     Adds a b (flat_map f (take i xs)) → Adds b c (f (get_or xs i d)) → Adds a c (flat_map f (take (i + 1) xs))
 each_next f xs i d lt h k = adds_as (adds_then h k) (flat_map-take f xs i d lt)
 
+-- the same at an item that was read
+pub each_step : {X : Type 0} {a b c : List Identifier} (f : X → List Site) (xs : List X) (i : ℕ) (x : X) → i < length xs → x ≡ get_or xs i x →
+    Adds a b (flat_map f (take i xs)) → Adds b c (f x) → Adds a c (flat_map f (take (i + 1) xs))
+each_step f xs i x lt is h k = each_next f xs i x lt h (adds_as k (ap f is))
+
 pub each_all : {X : Type 0} {a b : List Identifier} (f : X → List Site) (xs : List X) (i : ℕ) → i ≡ length xs → Adds a b (flat_map f (take i xs)) → Adds a b (flat_map f xs)
 each_all f xs i e h = adds_as h (ap (λ k. flat_map f (take k xs)) e ∙ ap (flat_map f) (take-length xs))

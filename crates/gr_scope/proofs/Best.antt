@@ -2,7 +2,8 @@
 use Rattle.std.proofs.Common.{ℕ, ◌≡◌, ◌<◌, ◌≤◌, ◌⊎◌, inl, inr, List, [], ◌∷◌, length, get_or, Option, Some, None, refl, sym, ap, subst, arith, zero, suc}
 use Rattle.gr_scope.specs.declared.model.Identifier.{Identifier}
 use Rattle.gr_scope.specs.declared.region.Region.{Region}
-use Rattle.gr_scope.specs.Bindings.{Layout, Names, MayDeclare, InScope, Declares}
+use Rattle.gr_scope.specs.Bindings.{Layout, Names, MayDeclare, InScope}
+use Rattle.gr_scope.specs.Leading.{Leads}
 use Rattle.gr_scope.specs.Regions.{keys_of, region_at}
 use Rattle.gr_scope.specs.Table.{layout_of, names_of, IsCandidate, IsNearest, Precedes, TakesOver}
 use Rattle.std.specs.Option.{ForSome}
@@ -44,7 +45,7 @@ best_takes l nested names name R u d next None lower behind h c t = (
   λ e ce. elim (same_or_not e d) [ inl same ↦ inr (inl same) | inr other ↦ inl (behind e ce (h e ce) other) ],
 )
 best_takes l nested names name R u d next (Some b) lower behind h c t =
-    let over : Precedes l d b = elim (nested.comparable d b u c.2.may h.1.2.may c.1 h.1.1) [
+    let over : Precedes l d b = elim (nested.comparable d b u c.2.declares.may h.1.2.declares.may c.1 h.1.1) [
       | inl same ↦ inl (
         same,
         elim (cases_order d b) [
@@ -60,7 +61,7 @@ best_takes l nested names name R u d next (Some b) lower behind h c t =
         | inl left ↦ elim (same_or_not e d) [ inl same ↦ inr (inl same) | inr other ↦ inl (behind e ce left other) ]
         | inr o ↦ elim o [
           | inl same ↦ inr (inr (let P : ℕ → Type 0 = λ v. Precedes l d v in subst P (sym same) over))
-          | inr p ↦ inr (inr (precedes_trans l nested d b e u c.2.may h.1.2.may ce.2.may c.1 h.1.1 ce.1 over p))
+          | inr p ↦ inr (inr (precedes_trans l nested d b e u c.2.declares.may h.1.2.declares.may ce.2.declares.may c.1 h.1.1 ce.1 over p))
         ]
       ],
     )
@@ -80,11 +81,11 @@ best_stays l nested names name R u d next (Some b) lower behind h never = (
           let P : ℕ → Type 0 = λ v. IsCandidate l names name R u v in
           let Q : ℕ → Type 0 = λ v. (v ≡ b) ⊎ Precedes l b v in
           let cd : IsCandidate l names name R u d = subst P same ce in
-          inr (subst Q (sym same) (elim (nested.comparable b d u h.1.2.may cd.2.may h.1.1 cd.1) [
+          inr (subst Q (sym same) (elim (nested.comparable b d u h.1.2.declares.may cd.2.declares.may h.1.1 cd.1) [
             | inl s ↦ absurd (never cd (λ n. same_not_nests l b d s n))
             | inr o ↦ elim o [
               | inl n ↦ inr (inr n)
-              | inr n ↦ absurd (never cd (λ m. precedes_asym l nested b d u h.1.2.may cd.2.may h.1.1 cd.1 (inr m) (inr n)))
+              | inr n ↦ absurd (never cd (λ m. precedes_asym l nested b d u h.1.2.declares.may cd.2.declares.may h.1.1 cd.1 (inr m) (inr n)))
             ]
           ]))
       | inr other ↦ inl (behind e ce left other)
@@ -93,34 +94,35 @@ best_stays l nested names name R u d next (Some b) lower behind h never = (
   ],
 )
 
-pub best_start : (xs : List Identifier) (name : List ℕ) (region : Region) (u : ℕ) (last : Option ℕ) (previous : List (Option ℕ)) →
-    IsChain (layout_of xs) (keys_of (layout_of xs) (names_of xs)) (length xs) (pair name region) last previous →
+pub best_start : (xs : List Identifier) (name : List ℕ) (region : Region) (u n : ℕ) (last : Option ℕ) (previous : List (Option ℕ)) → n ≡ length xs →
+    IsChain (Leads (layout_of xs) (names_of xs)) (keys_of (layout_of xs) (names_of xs)) (pair name region) n last previous →
     BestSoFar (layout_of xs) (names_of xs) name (λ r. r ≡ region) u last None
-best_start xs name region u last previous h = λ d c.
-    chain_left (layout_of xs) (keys_of (layout_of xs) (names_of xs)) (length xs) (pair name region) last previous h d
-    (c.2.may, pair_same (names_of xs d) name (region_at (layout_of xs) d) region c.0 c.3) (may_in_range xs d c.2.may)
+best_start xs name region u n last previous sized h = λ d c.
+    let less : d < length xs = may_in_range xs d c.2.declares.may in
+    chain_left (Leads (layout_of xs) (names_of xs)) (keys_of (layout_of xs) (names_of xs)) n (pair name region) last previous h d
+    (c.2, pair_same (names_of xs d) name (region_at (layout_of xs) d) region c.0 c.3) (let within : d < n = omega arith in within)
 
 pub best_next : (l : Layout) → Nested l → (names : Names) (name : List ℕ) (region : Region) (u d n : ℕ) (previous : List (Option ℕ)) (at next x best then : Option ℕ) →
-    IsLinked l (keys_of l names) n previous → at ≡ Some d → next ≡ get_or previous d x → IsKnown l (keys_of l names) (pair name region) n at →
+    IsLinked (Leads l names) (keys_of l names) n previous → at ≡ Some d → next ≡ get_or previous d x → IsKnown (Leads l names) (keys_of l names) (pair name region) n at →
     BestSoFar l names name (λ r. r ≡ region) u at best →
-    (((InScope l d u × Declares l names d) × TakesOver l best d) × (then ≡ Some d)) ⊎ (((InScope l d u × Declares l names d) × TakesOver l best d → ⊥) × (then ≡ best)) →
+    ((InScope l d u × TakesOver l best d) × (then ≡ Some d)) ⊎ ((InScope l d u × TakesOver l best d → ⊥) × (then ≡ best)) →
     BestSoFar l names name (λ r. r ≡ region) u next then
 best_next l nested names name region u d n previous at next x best then linked is en known h c =
     let R : Region → Type 0 = λ r. r ≡ region in
     let keys = keys_of l names in
     let key = pair name region in
     let here_known = (known d is).1.1 in
-    let lower = walk_before l keys n key previous at next x d linked is en known in
+    let lower = walk_before (Leads l names) keys n key previous at next x d linked is en known in
     let behind : Behind l names name R u d next = λ e ce le other.
-    walk_left l keys n key previous at next x d linked is en known e (ce.2.may, pair_same (names e) name (region_at l e) region ce.0 ce.3)
+    walk_left (Leads l names) keys n key previous at next x d linked is en known e (ce.2, pair_same (names e) name (region_at l e) region ce.0 ce.3)
     (let Q : Option ℕ → Type 0 = λ a. IsLeft a e in subst Q (sym is) le) other in
     let B : Option ℕ → Type 0 = λ a. BestSoFar l names name R u a best in
     let here : BestSoFar l names name R u (Some d) best = subst B is h in
     let P : Option ℕ → Type 0 = λ v. BestSoFar l names name R u next v in
     elim c [
       | inl y ↦ subst P (sym y.1) (best_takes l nested names name R u d next best lower behind here
-          (ap (λ k. k.0) here_known, y.0.0.0, y.0.0.1, ap (λ k. k.1) here_known) y.0.1)
-      | inr y ↦ subst P (sym y.1) (best_stays l nested names name R u d next best lower behind here (λ a b. y.0 ((a.1, a.2), b)))
+          (ap (λ k. k.0) here_known, y.0.0, (known d is).1.0, ap (λ k. k.1) here_known) y.0.1)
+      | inr y ↦ subst P (sym y.1) (best_stays l nested names name R u d next best lower behind here (λ a b. y.0 (a.1, b)))
     ]
 
 -- the best so far is one of the identifiers
@@ -130,7 +132,7 @@ best_known xs name R u at None h = λ x e. cc
 best_known xs name R u at (Some b) h = λ x e.
     let same : b ≡ x = cc in
     let P : ℕ → Type 0 = λ v. v < length xs in
-    subst P same (may_in_range xs b h.1.2.may)
+    subst P same (may_in_range xs b h.1.2.declares.may)
 
 -- at the end it is the best of all
 pub best_nearest : (l : Layout) (names : Names) (name : List ℕ) (R : Region → Type 0) (u : ℕ) (best : Option ℕ) → BestSoFar l names name R u None best →

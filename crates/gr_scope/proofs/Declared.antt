@@ -19,11 +19,11 @@ use Rattle.std.proofs.lemmas.List.Elements.{All-cons, All-head, All-tail}
 use Rattle.std.proofs.lemmas.List.{length-map}
 use Rattle.gr_scan.specs.CutText.{tokens_in}
 use Rattle.gr_scan.specs.declared.piece.Piece.{Piece}
-use Rattle.gr_parse.specs.FileView.{file_view}
-use Rattle.gr_parse.specs.Kinds.{kinds_from}
-use Rattle.gr_parse.specs.SourceFile.{FileParts, IsSourceFile, source_of, spelling_of}
-use Rattle.gr_parse.specs.declared.syntax.Token.{Token}
-use Rattle.gr_parse.specs.declared.tree.File.{File}
+use Rattle.gr_tree.specs.FileView.{file_view}
+use Rattle.gr_tree.specs.Kinds.{kinds_from}
+use Rattle.gr_tree.specs.SourceFile.{FileParts, IsSourceFile, source_of, spelling_of}
+use Rattle.gr_tree.specs.declared.syntax.Token.{Token}
+use Rattle.gr_tree.specs.declared.tree.File.{File}
 
 abbrev file_part : ℕ → FileParts → List Site
 file_part r x = file_sites (record { rank = r; spell = spelling_of (source_of x) }) (file_view x.file)

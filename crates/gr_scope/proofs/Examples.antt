@@ -9,8 +9,8 @@ use Rattle.gr_scope.specs.Site.{Site, Source}
 use Rattle.gr_scope.specs.ExpressionSites.{type_sites, expr_sites, literal_sites, element_sites, link_sites, argument_sites}
 use Rattle.gr_scope.specs.StatementSites.{simple_sites, local_sites, separated_sites, group_sites, init_sites, for_sites, statement_sites, block_sites, statements_sites, if_sites, else_sites}
 use Rattle.gr_scope.specs.FileSites.{func_sites, param_sites, result_sites, receiver_sites, import_sites, imports_sites}
-use Rattle.gr_parse.specs.declared.syntax.StepOp.TheVariants as step
-use Rattle.gr_parse.specs.Tree.{Item, single, several, Named, Local, Imported, Number, Name, Blank, Composite, Chain, no_link, selector, call, no_argument, literal, no_element, element, Alone, Step, Define, Assign, clauses, Empty, Var, Simple, If, For, block, no_statement, statement, if_tree, else_block, no_result}
+use Rattle.gr_tree.specs.declared.syntax.StepOp.TheVariants as step
+use Rattle.gr_tree.specs.Tree.{Item, single, several, Named, Local, Imported, Number, Name, Blank, Composite, Chain, no_link, selector, call, no_argument, literal, no_element, element, Alone, Step, Define, Assign, clauses, Empty, Var, Simple, If, For, block, no_statement, statement, if_tree, else_block, no_result}
 
 -- the number and the role of an identifier
 abbrev mark : Site → ℕ × Role

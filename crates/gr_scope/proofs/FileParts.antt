@@ -11,27 +11,27 @@ use Rattle.gr_scope.specs.ExpressionSites.{sites_if, list_sites, type_sites}
 use Rattle.gr_scope.specs.StatementSites.{separated_sites, group_sites, open_of, close_of, block_sites}
 use Rattle.gr_scope.specs.FileSites.{global_name, member_name, spec_sites, global_sites, field_sites, body_sites, type_spec_sites, receiver_sites, param_sites, result_sites, func_role, func_sites, import_sites, imports_sites, decl_sites, file_sites}
 use Rattle.gr_scope.proofs.StatementParts.{flat_map-map, open_from}
-use Rattle.gr_parse.specs.View.{option_view, item_view, list_view, group_view, type_view}
-use Rattle.gr_parse.specs.FileView.{global_view, field_view, body_view, type_spec_view, receiver_view, param_view, results_view, func_view, block_view, import_view, imports_view, decl_view, file_view}
-use Rattle.gr_parse.specs.declared.tree.Group.{Group}
-use Rattle.gr_parse.specs.declared.tree.Group.TheVariants as group
-use Rattle.gr_parse.specs.declared.tree.TypeBody.{TypeBody}
-use Rattle.gr_parse.specs.declared.tree.TypeBody.TheVariants as body
-use Rattle.gr_parse.specs.declared.tree.Results.{Results}
-use Rattle.gr_parse.specs.declared.tree.Results.TheVariants as results
-use Rattle.gr_parse.specs.declared.tree.FuncDecl.{FuncDecl}
-use Rattle.gr_parse.specs.declared.tree.File.{File}
-use Rattle.gr_parse.specs.declared.tree.Block as trees
-use Rattle.gr_parse.specs.declared.tree.Block.{Block', out-Block, outs-Block'}
-use Rattle.gr_parse.specs.declared.tree.Item.{Item}
-use Rattle.gr_parse.specs.declared.tree.TypeExpr.{TypeExpr}
-use Rattle.gr_parse.specs.declared.tree.VarSpec.{VarSpec}
-use Rattle.gr_parse.specs.declared.tree.TypeSpec.{TypeSpec}
-use Rattle.gr_parse.specs.declared.tree.Field.{Field}
-use Rattle.gr_parse.specs.declared.tree.Param.{Param}
-use Rattle.gr_parse.specs.declared.tree.ImportSpec.{ImportSpec}
-use Rattle.gr_parse.specs.declared.tree.ImportDecl.{ImportDecl}
-use Rattle.gr_parse.specs.declared.tree.Decl.{Decl}
+use Rattle.gr_tree.specs.View.{option_view, item_view, list_view, group_view, type_view}
+use Rattle.gr_tree.specs.FileView.{global_view, field_view, body_view, type_spec_view, receiver_view, param_view, results_view, func_view, block_view, import_view, imports_view, decl_view, file_view}
+use Rattle.gr_tree.specs.declared.tree.Group.{Group}
+use Rattle.gr_tree.specs.declared.tree.Group.TheVariants as group
+use Rattle.gr_tree.specs.declared.tree.TypeBody.{TypeBody}
+use Rattle.gr_tree.specs.declared.tree.TypeBody.TheVariants as body
+use Rattle.gr_tree.specs.declared.tree.Results.{Results}
+use Rattle.gr_tree.specs.declared.tree.Results.TheVariants as results
+use Rattle.gr_tree.specs.declared.tree.FuncDecl.{FuncDecl}
+use Rattle.gr_tree.specs.declared.tree.File.{File}
+use Rattle.gr_tree.specs.declared.tree.Block as trees
+use Rattle.gr_tree.specs.declared.tree.Block.{Block', out-Block, outs-Block'}
+use Rattle.gr_tree.specs.declared.tree.Item.{Item}
+use Rattle.gr_tree.specs.declared.tree.TypeExpr.{TypeExpr}
+use Rattle.gr_tree.specs.declared.tree.VarSpec.{VarSpec}
+use Rattle.gr_tree.specs.declared.tree.TypeSpec.{TypeSpec}
+use Rattle.gr_tree.specs.declared.tree.Field.{Field}
+use Rattle.gr_tree.specs.declared.tree.Param.{Param}
+use Rattle.gr_tree.specs.declared.tree.ImportSpec.{ImportSpec}
+use Rattle.gr_tree.specs.declared.tree.ImportDecl.{ImportDecl}
+use Rattle.gr_tree.specs.declared.tree.Decl.{Decl}
 
 abbrev pub global_part : Source → Item ℕ → List Site
 global_part s x = global_name s x.value

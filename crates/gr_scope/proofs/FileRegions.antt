@@ -16,10 +16,10 @@ use Rattle.gr_scope.proofs.Regions.{Each, each_append, Segment, segment_join, se
 use Rattle.gr_scope.proofs.PlainSites.{plain_append, plain_list, plain_type}
 use Rattle.gr_scope.proofs.StatementRegions.{idents_together, ident_together, statements_fits}
 use Rattle.gr_scope.proofs.Rising.{Rises, rises_le, rises_up, rises_down, rises_split}
-use Rattle.gr_parse.specs.declared.syntax.Kind.TheVariants as kind
-use Rattle.gr_parse.specs.Flatten.{sign, tokens_if, all_tokens, list_tokens, group_tokens, param_tokens, receiver_tokens, result_tokens, block_tokens, statements_tokens, global_tokens, type_spec_tokens, func_tokens, imports_tokens, decl_tokens, flatten}
-use Rattle.gr_parse.specs.WellFormed.{IsFunc, IsDecl, IsFile, IsBlock}
-use Rattle.gr_parse.specs.Tree.{Item, Group, single, several, GlobalTree, FieldTree, BodyTree, Other, Struct, TypeSpecTree, ReceiverTree, ParamTree, ResultTree, no_result, one_result, results, FuncTree, ImportTree, ImportsTree, DeclTree, VarDecl, TypeDecl, FuncDecl, FileTree, BlockTree, block}
+use Rattle.gr_tree.specs.declared.syntax.Kind.TheVariants as kind
+use Rattle.gr_tree.specs.Flatten.{sign, tokens_if, all_tokens, list_tokens, group_tokens, param_tokens, receiver_tokens, result_tokens, block_tokens, statements_tokens, global_tokens, type_spec_tokens, func_tokens, imports_tokens, decl_tokens, flatten}
+use Rattle.gr_tree.specs.WellFormed.{IsFunc, IsDecl, IsFile, IsBlock}
+use Rattle.gr_tree.specs.Tree.{Item, Group, single, several, GlobalTree, FieldTree, BodyTree, Other, Struct, TypeSpecTree, ReceiverTree, ParamTree, ResultTree, no_result, one_result, results, FuncTree, ImportTree, ImportsTree, DeclTree, VarDecl, TypeDecl, FuncDecl, FileTree, BlockTree, block}
 
 level_append : (xs ys : List Site) → Level xs → Level ys → Level (xs ++ ys)
 level_append xs ys a b = each_append (λ x. may_declare x.role ≡ true → Flat x) xs ys a b

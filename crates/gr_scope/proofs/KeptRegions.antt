@@ -24,7 +24,7 @@ pair_same m n r s e f = ap (λ x. pair x r) e ∙ ap (λ y. pair n y) f
 pub same_block_same_key : (l : Layout) (names : Names) (d e : ℕ) → names d ≡ names e → SameBlock l d e → keys_of l names d ≡ keys_of l names e
 same_block_same_key l names d e n s = pair_same (names d) (names e) (region_at l d) (region_at l e) n (ap region_of s)
 
-run_number : (a b : ℕ) → a ≤ b → a / 16 ≤ b / 16
+pub run_number : (a b : ℕ) → a ≤ b → a / 16 ≤ b / 16
 run_number a b h = omega (arith, h)
 
 -- the run that holds two runs, one size after another

@@ -6,8 +6,11 @@ pub mod Nests
 pub mod KeptRegions
 pub mod Chains
 pub mod Linking
+pub mod Leading
+pub mod Kept
 pub mod Best
 pub mod Combining
+pub mod Nearby
 pub mod Alike
 pub mod Moved
 pub mod Regions

@@ -1,13 +1,16 @@
--- The links of identifiers, one identifier after another.
+-- The links of numbers, one number after another.
 use Rattle.std.proofs.Common.{rules, ℕ, ◌≡◌, ◌+◌, ◌<◌, inl, inr, List, [], ◌∷◌, ◌++◌, length, get_or, Option, Some, None, sym, ◌∙◌, ap, subst, arith, Bool, true, false, cond, length-append, refl}
 use Rattle.std.proofs.lemmas.Grind.{common_steps}
 use Rattle.std.specs.Prelude.{◌↔◌}
 use Rattle.std.proofs.lemmas.Bool.{cases_order}
 use Rattle.gr_scope.specs.contracts.links.KeyPartialEq.TheImpl as equal
 use Rattle.gr_scope.specs.declared.links.Key.{Key}
-use Rattle.gr_scope.specs.Bindings.{Layout, Names, MayDeclare}
+use Rattle.gr_scope.specs.declared.region.Region.{Region}
+use Rattle.indexmap.specs.IndexMap.{IndexMap, get}
+use Rattle.gr_scope.specs.Bindings.{Layout, Names}
+use Rattle.gr_scope.specs.Leading.{Leads}
 use Rattle.gr_scope.specs.Regions.{key_of, keys_of}
-use Rattle.gr_scope.specs.Chains.{MayDeclareAs, IsLastBelow, IsLinked}
+use Rattle.gr_scope.specs.Chains.{IsKeyed, IsLastBelow, IsLinked, AreLinks}
 use Rattle.gr_scope.proofs.KeptRegions.{pair_same}
 use Rattle.gr_scope.proofs.Uniqueness.{same_or_not}
 
@@ -18,55 +21,54 @@ get_before : (xs : List (Option ℕ)) (y x : Option ℕ) (k : ℕ) → k < lengt
 get_before xs y x k lt = grind (arith, common_steps)
 
 module _ {K : Type 0} where
-  -- one more identifier, which may declare and have that key or not
-  last_with : (l : Layout) (keys : ℕ → K) (key : K) (d : ℕ) → MayDeclareAs l keys key d → IsLastBelow l keys key (d + 1) (Some d)
-  last_with l keys key d m = (omega arith, m, λ k lt le ne. omega arith)
+  -- one more number, which is such and has that key or not
+  last_with : (D : ℕ → Type 0) (keys : ℕ → K) (key : K) (d : ℕ) → IsKeyed D keys key d → IsLastBelow D keys key (d + 1) (Some d)
+  last_with D keys key d m = (omega arith, m, λ k lt le ne. omega arith)
 
-  last_without : (l : Layout) (keys : ℕ → K) (key : K) (d : ℕ) (old : Option ℕ) → (MayDeclareAs l keys key d → ⊥) → IsLastBelow l keys key d old → IsLastBelow l keys key (d + 1) old
-  last_without l keys key d None other h = λ k lt m. elim (same_or_not k d) [
-    | inl same ↦ (let P : ℕ → Type 0 = λ v. MayDeclareAs l keys key v in other (subst P same m))
+  last_without : (D : ℕ → Type 0) (keys : ℕ → K) (key : K) (d : ℕ) (old : Option ℕ) → (IsKeyed D keys key d → ⊥) → IsLastBelow D keys key d old → IsLastBelow D keys key (d + 1) old
+  last_without D keys key d None other h = λ k lt m. elim (same_or_not k d) [
+    | inl same ↦ (let P : ℕ → Type 0 = λ v. IsKeyed D keys key v in other (subst P same m))
     | inr not ↦ h k (elim (cases_order k d) [ inl same ↦ absurd (not same) | inr o ↦ elim o [ inl less ↦ less | inr more ↦ omega arith ] ]) m
   ]
-  last_without l keys key d (Some b) other h = (
+  last_without D keys key d (Some b) other h = (
     omega (arith, h.0),
     h.1,
     λ k lt le m. elim (same_or_not k d) [
-      | inl same ↦ (let P : ℕ → Type 0 = λ v. MayDeclareAs l keys key v in other (subst P same m))
+      | inl same ↦ (let P : ℕ → Type 0 = λ v. IsKeyed D keys key v in other (subst P same m))
       | inr not ↦ h.2 k lt (elim (cases_order k d) [ inl same ↦ absurd (not same) | inr o ↦ elim o [ inl less ↦ less | inr more ↦ omega arith ] ]) m
     ],
   )
 
-  last_by : (l : Layout) (keys : ℕ → K) (own key : K) (d : ℕ) (old : Option ℕ) (b : Bool) → MayDeclare l d → keys d ≡ own → (b ≡ true → own ≡ key) × (own ≡ key → b ≡ true) →
-      IsLastBelow l keys key d old → IsLastBelow l keys key (d + 1) (cond b (Some d) old)
-  last_by l keys own key d old true m e t h = last_with l keys key d (m, e ∙ t.0 refl)
-  last_by l keys own key d old false m e t h = last_without l keys key d old (λ k. (let f : false ≡ true = t.1 (sym e ∙ k.1) in cc)) h
+  last_by : (D : ℕ → Type 0) (keys : ℕ → K) (own key : K) (d : ℕ) (old : Option ℕ) (b : Bool) → D d → keys d ≡ own → (b ≡ true → own ≡ key) × (own ≡ key → b ≡ true) →
+      IsLastBelow D keys key d old → IsLastBelow D keys key (d + 1) (cond b (Some d) old)
+  last_by D keys own key d old true m e t h = last_with D keys key d (m, e ∙ t.0 refl)
+  last_by D keys own key d old false m e t h = last_without D keys key d old (λ k. (let f : false ≡ true = t.1 (sym e ∙ k.1) in cc)) h
 
-  -- one more identifier, which may not declare
-  pub last_kept : (l : Layout) (keys : ℕ → K) (key : K) (d : ℕ) (old : Option ℕ) → (MayDeclare l d → ⊥) → IsLastBelow l keys key d old → IsLastBelow l keys key (d + 1) old
-  last_kept l keys key d old none h = last_without l keys key d old (λ m. none m.0) h
+  -- one more number, which is not such
+  pub last_kept : (D : ℕ → Type 0) (keys : ℕ → K) (key : K) (d : ℕ) (old : Option ℕ) → (D d → ⊥) → IsLastBelow D keys key d old → IsLastBelow D keys key (d + 1) old
+  last_kept D keys key d old none h = last_without D keys key d old (λ m. none m.0) h
 
-  pub linked_next : (l : Layout) (keys : ℕ → K) (d : ℕ) (previous new : List (Option ℕ)) (before : Option ℕ) → IsLinked l keys d previous → new ≡ previous ++ (before ∷ []) →
-      IsLastBelow l keys (keys d) d before → IsLinked l keys (d + 1) new
-  linked_next l keys d previous new before h e b = record {
+  pub linked_next : (D : ℕ → Type 0) (keys : ℕ → K) (d : ℕ) (previous new : List (Option ℕ)) (before : Option ℕ) → IsLinked D keys d previous → new ≡ previous ++ (before ∷ []) →
+      (D d → IsLastBelow D keys (keys d) d before) → IsLinked D keys (d + 1) new
+  linked_next D keys d previous new before h e b = record {
     sized = ap length e ∙ length-append previous (before ∷ []) ∙ (let s : length previous ≡ d = h.sized in omega arith);
-    before = λ k x lt.
-        let P : List (Option ℕ) → Type 0 = λ xs. IsLastBelow l keys (keys k) k (get_or xs k x) in
+    before = λ k x lt m.
+        let P : List (Option ℕ) → Type 0 = λ xs. IsLastBelow D keys (keys k) k (get_or xs k x) in
+        let Q : Option ℕ → Type 0 = λ y. IsLastBelow D keys (keys k) k y in
         let s : length previous ≡ d = h.sized in
         subst P (sym e) (elim (same_or_not k d) [
           | inl same ↦
-              let Q : Option ℕ → Type 0 = λ y. IsLastBelow l keys (keys k) k y in
-              let R : ℕ → Type 0 = λ j. IsLastBelow l keys (keys j) j before in
+              let R : ℕ → Type 0 = λ j. IsLastBelow D keys (keys j) j before in
               let z : get_or (previous ++ (before ∷ [])) k x ≡ before = ap (λ j. get_or (previous ++ (before ∷ [])) j x) (same ∙ sym s) ∙ get_last previous before x in
-              subst Q (sym z) (subst R (sym same) b)
+              subst Q (sym z) (subst R (sym same) (b (subst D same m)))
           | inr not ↦
-              let Q : Option ℕ → Type 0 = λ y. IsLastBelow l keys (keys k) k y in
               let less : k < length previous = elim (cases_order k d) [ inl same ↦ absurd (not same) | inr o ↦ elim o [ inl less ↦ omega arith | inr more ↦ omega arith ] ] in
-              subst Q (sym (get_before previous before x k less)) (h.before k x (omega arith))
+              subst Q (sym (get_before previous before x k less)) (h.before k x (omega arith) m)
         ]);
   }
 
-  pub no_links : (l : Layout) (keys : ℕ → K) → IsLinked l keys 0 []
-  no_links l keys = record { sized = refl; before = λ d x lt. absurd (omega arith) }
+  pub no_links : (D : ℕ → Type 0) (keys : ℕ → K) → IsLinked D keys 0 []
+  no_links D keys = record { sized = refl; before = λ d x lt m. absurd (omega arith) }
 
 -- keys that compare as equal are one name in one region
 equal_fields : (x y : Key) → equal.ghosts.eq x y ≡ true ↔ ((x.name.now ≡ y.name.now) × (x.region ≡ y.region))
@@ -78,8 +80,51 @@ key_decides x y = (
   (λ e. (equal_fields x y).1 (ap (λ k. k.0) e, ap (λ k. k.1) e)),
 )
 
-pub last_next : (l : Layout) (names : Names) (own key : Key) (d : ℕ) (old new : Option ℕ) → MayDeclare l d → keys_of l names d ≡ key_of own → new ≡ cond (equal.ghosts.eq own key) (Some d) old →
-    IsLastBelow l (keys_of l names) (key_of key) d old → IsLastBelow l (keys_of l names) (key_of key) (d + 1) new
-last_next l names own key d old new m e u h =
-    let P : Option ℕ → Type 0 = λ x. IsLastBelow l (keys_of l names) (key_of key) (d + 1) x in
-    subst P (sym u) (last_by l (keys_of l names) (key_of own) (key_of key) d old (equal.ghosts.eq own key) m e (key_decides own key) h)
+-- the links of no identifiers
+pub links_none : {S : Type 0} (l : Layout) (names : Names) (last : IndexMap Key ℕ S) (previous : List (Option ℕ)) → previous ≡ [] → ((key : Key) → get equal.ghosts.eq last key ≡ None) →
+    AreLinks l names last previous
+links_none l names last previous e none =
+    let P : List (Option ℕ) → Type 0 = λ xs. AreLinks l names last xs in
+    subst P (sym e) (record {
+      lasts = λ key.
+          let Q : Option ℕ → Type 0 = λ x. IsLastBelow (Leads l names) (keys_of l names) (key_of key) 0 x in
+          subst Q (sym (none key)) (λ d lt m. absurd (omega arith));
+      linked = no_links (Leads l names) (keys_of l names);
+    })
+
+-- one more identifier, which leads or not
+module _ {S : Type 0} (l : Layout) (names : Names) (d : ℕ) (last after : IndexMap Key ℕ S) (previous new : List (Option ℕ)) (before : Option ℕ) where
+  links_by : length previous ≡ d → new ≡ previous ++ (before ∷ []) → AreLinks l names last previous →
+      ((key : Key) → IsLastBelow (Leads l names) (keys_of l names) (key_of key) d (get equal.ghosts.eq last key) →
+      IsLastBelow (Leads l names) (keys_of l names) (key_of key) (d + 1) (get equal.ghosts.eq after key)) →
+      (Leads l names d → IsLastBelow (Leads l names) (keys_of l names) (keys_of l names d) d before) → AreLinks l names after new
+  links_by s e h up own =
+      let N : ℕ → Type 0 = λ n. (key : Key) → IsLastBelow (Leads l names) (keys_of l names) (key_of key) n (get equal.ghosts.eq last key) in
+      let L : ℕ → Type 0 = λ n. IsLinked (Leads l names) (keys_of l names) n previous in
+      let M : ℕ → Type 0 = λ n. (key : Key) → IsLastBelow (Leads l names) (keys_of l names) (key_of key) n (get equal.ghosts.eq after key) in
+      let K : ℕ → Type 0 = λ n. IsLinked (Leads l names) (keys_of l names) n new in
+      let z : d + 1 ≡ length new = sym (ap length e ∙ length-append previous (before ∷ []) ∙ (omega arith)) in
+      record {
+        lasts = subst M z (λ key. up key (subst N s h.lasts key));
+        linked = subst K z (linked_next (Leads l names) (keys_of l names) d previous new before (subst L s h.linked) e own);
+      }
+
+  pub links_with : (own : Key) → length previous ≡ d → new ≡ previous ++ (before ∷ []) → AreLinks l names last previous → Leads l names d → keys_of l names d ≡ key_of own →
+      before ≡ get equal.ghosts.eq last own → ((key : Key) → get equal.ghosts.eq after key ≡ cond (equal.ghosts.eq own key) (Some d) (get equal.ghosts.eq last key)) → AreLinks l names after new
+  links_with own s e h m k b up =
+      let N : ℕ → Type 0 = λ n. IsLastBelow (Leads l names) (keys_of l names) (key_of own) n (get equal.ghosts.eq last own) in
+      let B : Option ℕ → Type 0 = λ x. IsLastBelow (Leads l names) (keys_of l names) (key_of own) d x in
+      let X : List ℕ × Region → Type 0 = λ x. IsLastBelow (Leads l names) (keys_of l names) x d before in
+      links_by s e h
+      (λ key below.
+      let P : Option ℕ → Type 0 = λ x. IsLastBelow (Leads l names) (keys_of l names) (key_of key) (d + 1) x in
+      subst P (sym (up key)) (last_by (Leads l names) (keys_of l names) (key_of own) (key_of key) d (get equal.ghosts.eq last key) (equal.ghosts.eq own key) m k (key_decides own key) below))
+      (λ n. subst X (sym k) (subst B (sym b) (subst N s (h.lasts own))))
+
+  pub links_without : length previous ≡ d → new ≡ previous ++ (before ∷ []) → AreLinks l names last previous → (Leads l names d → ⊥) → after ≡ last → AreLinks l names after new
+  links_without s e h m same =
+      let kept : (x : IndexMap Key ℕ S) → x ≡ last → (key : Key) → IsLastBelow (Leads l names) (keys_of l names) (key_of key) d (get equal.ghosts.eq last key) →
+      IsLastBelow (Leads l names) (keys_of l names) (key_of key) (d + 1) (get equal.ghosts.eq x key) = λ x ex key below.
+      (let P : IndexMap Key ℕ S → Type 0 = λ y. IsLastBelow (Leads l names) (keys_of l names) (key_of key) (d + 1) (get equal.ghosts.eq y key) in
+      subst P (sym ex) (last_kept (Leads l names) (keys_of l names) (key_of key) d (get equal.ghosts.eq last key) m below)) in
+      links_by s e h (kept after same) (λ n. absurd (m n))

@@ -13,9 +13,9 @@ use Rattle.gr_scope.proofs.Nests.{left_may}
 use Rattle.gr_scope.proofs.Regions.{Each, EachPair, each_append, each_map, pairs_append, pairs_of_each, inner_from, inner_to, inner_file, Flat, Framed, Fits, Pair, Related, flat_first, flat_second}
 use Rattle.gr_scope.proofs.FileRegions.{file_fits}
 use Rattle.gr_scope.proofs.Rising.{Rises, rises_le, rises_of}
-use Rattle.gr_parse.specs.declared.syntax.Kind.TheVariants as kind
-use Rattle.gr_parse.specs.Flatten.{sign, all_tokens, imports_tokens, decl_tokens, flatten}
-use Rattle.gr_parse.specs.Tree.{FileTree}
+use Rattle.gr_tree.specs.declared.syntax.Kind.TheVariants as kind
+use Rattle.gr_tree.specs.Flatten.{sign, all_tokens, imports_tokens, decl_tokens, flatten}
+use Rattle.gr_tree.specs.Tree.{FileTree}
 
 -- a declaration of a file whose rank is at least this
 abbrev pub From : ℕ → Site → Type 0

@@ -5,7 +5,7 @@ use Rattle.gr_scope.specs.ExpressionSites.{sites_if, list_sites, type_sites, key
 use Rattle.gr_scope.specs.Bindings.{may_declare}
 use Rattle.gr_scope.specs.StatementSites.{assigned_sites}
 use Rattle.gr_scope.proofs.Regions.{Plain, each_append}
-use Rattle.gr_parse.specs.Tree.{Item, TypeTree, Local, Imported, Pointer, Slice, ExprTree, Number, Text, Name, Blank, Composite, Paren, Prefix, Address, Chain, Binary, OperandTrees, no_operand, operand, LinkTrees, no_link, selector, index, call, ArgumentTrees, no_argument, argument, LiteralTree, literal, ElementTrees, no_element, element}
+use Rattle.gr_tree.specs.Tree.{Item, TypeTree, Local, Imported, Pointer, Slice, ExprTree, Number, Text, Name, Blank, Composite, Paren, Prefix, Address, Chain, Binary, OperandTrees, no_operand, operand, LinkTrees, no_link, selector, index, call, ArgumentTrees, no_argument, argument, LiteralTree, literal, ElementTrees, no_element, element}
 use Rattle.std.specs.Prelude.{◌≡◌, false}
 
 pub plain_append : (xs ys : List Site) → Plain xs → Plain ys → Plain (xs ++ ys)

@@ -1,6 +1,6 @@
 -- Tokens whose numbers rise from one bound to before another.
 use Rattle.std.proofs.Common.{ℕ, ◌≤◌, List, [], ◌∷◌, ◌++◌, arith, suc}
-use Rattle.gr_parse.specs.declared.syntax.Token.{Token}
+use Rattle.gr_tree.specs.declared.syntax.Token.{Token}
 use Rattle.gr_scope.specs.Trees.{AreRising}
 
 abbrev pub Rises : ℕ → List Token → ℕ → Type 0

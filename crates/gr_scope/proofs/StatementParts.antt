@@ -10,25 +10,25 @@ use Rattle.gr_scope.specs.ExpressionSites.{list_sites, expr_sites, exprs_sites}
 use Rattle.gr_scope.specs.StatementSites.{ident_sites, left_sites, assigned_sites, simple_sites, value_sites, for_sites, local_sites, separated_sites, group_sites, statement_sites, statements_sites, block_sites, if_sites, else_sites, init_sites, open_of}
 use Rattle.gr_scope.specs.ExpressionSites.{sites_if, type_sites}
 use Rattle.gr_scope.specs.declared.model.Role.TheVariants.{Declaring}
-use Rattle.gr_parse.specs.View.{option_view, item_view, list_view, group_view, ident_view, type_view, expr_view, exprs_view}
-use Rattle.gr_parse.specs.FileView.{local_view, simple_view, values_view, for_view, init_view, stmt_view, block_view, statements_view, if_view, else_view}
-use Rattle.gr_parse.specs.declared.tree.Item.{Item}
-use Rattle.gr_parse.specs.declared.tree.Expr.{Expr}
-use Rattle.gr_parse.specs.declared.tree.Expr.TheVariants as expr
-use Rattle.gr_parse.specs.declared.tree.SimpleStmt.{SimpleStmt}
-use Rattle.gr_parse.specs.declared.tree.SimpleStmt.TheVariants as simple
-use Rattle.gr_parse.specs.declared.tree.Stmt.{Stmt}
-use Rattle.gr_parse.specs.declared.tree.Stmt.TheVariants as stmt
-use Rattle.gr_parse.specs.declared.tree.ForHeader.{ForHeader}
-use Rattle.gr_parse.specs.declared.tree.Ident.{Ident}
-use Rattle.gr_parse.specs.declared.tree.ExprItem.{ExprItem}
-use Rattle.gr_parse.specs.declared.tree.LocalSpec.{LocalSpec}
-use Rattle.gr_parse.specs.declared.tree.Group.{Group}
-use Rattle.gr_parse.specs.declared.tree.Group.TheVariants as group
-use Rattle.gr_parse.specs.declared.tree.BlockItem.{BlockItem}
-use Rattle.gr_parse.specs.declared.tree.Block as trees
-use Rattle.gr_parse.specs.declared.tree.Block.{Block', out-Block, outs-Block', Row_of-BlockItem, end_of-BlockItem, more_of-BlockItem, items-the_row-BlockItem, items_shown-the_row-BlockItem-0}
-use Rattle.gr_parse.specs.declared.tree.IfStmt.{IfStmt, IfStmt', out-IfStmt, outs-IfStmt'}
+use Rattle.gr_tree.specs.View.{option_view, item_view, list_view, group_view, ident_view, type_view, expr_view, exprs_view}
+use Rattle.gr_tree.specs.FileView.{local_view, simple_view, values_view, for_view, init_view, stmt_view, block_view, statements_view, if_view, else_view}
+use Rattle.gr_tree.specs.declared.tree.Item.{Item}
+use Rattle.gr_tree.specs.declared.tree.Expr.{Expr}
+use Rattle.gr_tree.specs.declared.tree.Expr.TheVariants as expr
+use Rattle.gr_tree.specs.declared.tree.SimpleStmt.{SimpleStmt}
+use Rattle.gr_tree.specs.declared.tree.SimpleStmt.TheVariants as simple
+use Rattle.gr_tree.specs.declared.tree.Stmt.{Stmt}
+use Rattle.gr_tree.specs.declared.tree.Stmt.TheVariants as stmt
+use Rattle.gr_tree.specs.declared.tree.ForHeader.{ForHeader}
+use Rattle.gr_tree.specs.declared.tree.Ident.{Ident}
+use Rattle.gr_tree.specs.declared.tree.ExprItem.{ExprItem}
+use Rattle.gr_tree.specs.declared.tree.LocalSpec.{LocalSpec}
+use Rattle.gr_tree.specs.declared.tree.Group.{Group}
+use Rattle.gr_tree.specs.declared.tree.Group.TheVariants as group
+use Rattle.gr_tree.specs.declared.tree.BlockItem.{BlockItem}
+use Rattle.gr_tree.specs.declared.tree.Block as trees
+use Rattle.gr_tree.specs.declared.tree.Block.{Block', out-Block, outs-Block', Row_of-BlockItem, end_of-BlockItem, more_of-BlockItem, items-the_row-BlockItem, items_shown-the_row-BlockItem-0}
+use Rattle.gr_tree.specs.declared.tree.IfStmt.{IfStmt, IfStmt', out-IfStmt, outs-IfStmt'}
 
 abbrev pub expr_part : Source → ExprItem → List Site
 expr_part s x = expr_sites s (expr_view x.value)

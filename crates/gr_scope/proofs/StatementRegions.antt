@@ -12,12 +12,12 @@ use Rattle.gr_scope.specs.StatementSites.{ident_sites, left_sites, assigned_site
 use Rattle.gr_scope.proofs.Regions.{Each, each_append, Segment, segment_join, segment_widen, segment_outward, Plain, segment_plain, segment_plain_after, segment_plain_before, Together, segment_together, together_plain}
 use Rattle.gr_scope.proofs.PlainSites.{plain_append, plain_list, plain_if, plain_type, plain_expr, plain_exprs, plain_assigned}
 use Rattle.gr_scope.proofs.Rising.{Rises, rises_le, rises_up, rises_down, rises_split}
-use Rattle.gr_parse.specs.declared.syntax.Kind.{Kind}
-use Rattle.gr_parse.specs.declared.syntax.Kind.TheVariants as kind
-use Rattle.gr_parse.specs.declared.syntax.Token.{Token}
-use Rattle.gr_parse.specs.Flatten.{sign, sign_if, tokens_if, all_tokens, item_tokens, list_tokens, group_tokens, expr_tokens, exprs_tokens, simple_tokens, local_tokens, init_tokens, for_tokens, statement_tokens, block_tokens, statements_tokens, if_tokens, else_tokens}
-use Rattle.gr_parse.specs.WellFormed.{IsSeparated, IsGroup, Perhaps, IsPost, IsFor, IsLocal, IsStatement, IsBlock, AreStatements, IsIf, IsElse}
-use Rattle.gr_parse.specs.Tree.{Item, Group, single, several, IdentTree, Named, Underscore, ExprTree, Number, Text, Name, Blank, Composite, Paren, Prefix, Address, Chain, Binary, SimpleTree, Alone, Step, Update, Assign, Define, LocalTree, InitTree, ForTree, forever, while, clauses, StatementTree, Empty, Var, Simple, Inner, If, For, Break, Continue, Return, BlockTree, block, StatementTrees, no_statement, statement, IfTree, if_tree, ElseTree, no_else, else_if, else_block}
+use Rattle.gr_tree.specs.declared.syntax.Kind.{Kind}
+use Rattle.gr_tree.specs.declared.syntax.Kind.TheVariants as kind
+use Rattle.gr_tree.specs.declared.syntax.Token.{Token}
+use Rattle.gr_tree.specs.Flatten.{sign, sign_if, tokens_if, all_tokens, item_tokens, list_tokens, group_tokens, expr_tokens, exprs_tokens, simple_tokens, local_tokens, init_tokens, for_tokens, statement_tokens, block_tokens, statements_tokens, if_tokens, else_tokens}
+use Rattle.gr_tree.specs.WellFormed.{IsSeparated, IsGroup, Perhaps, IsPost, IsFor, IsLocal, IsStatement, IsBlock, AreStatements, IsIf, IsElse}
+use Rattle.gr_tree.specs.Tree.{Item, Group, single, several, IdentTree, Named, Underscore, ExprTree, Number, Text, Name, Blank, Composite, Paren, Prefix, Address, Chain, Binary, SimpleTree, Alone, Step, Update, Assign, Define, LocalTree, InitTree, ForTree, forever, while, clauses, StatementTree, Empty, Var, Simple, Inner, If, For, Break, Continue, Return, BlockTree, block, StatementTrees, no_statement, statement, IfTree, if_tree, ElseTree, no_else, else_if, else_block}
 
 -- what begins later begins late enough
 together_down : (f a b n k q : ℕ) (xs : List Site) → n ≤ k → Each (Together f a b k q) xs → Each (Together f a b n q) xs

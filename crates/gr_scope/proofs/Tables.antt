@@ -3,12 +3,9 @@ use Rattle.std.proofs.Common.{ℕ, ◌≡◌, List, length, map, inl, inr, Optio
 use Rattle.std.specs.Prelude.{slice_get, MatchOption}
 use Rattle.std.proofs.lemmas.Bool.{cases_order}
 use Rattle.std.proofs.lemmas.Option.{slice_get-get_or}
-use Rattle.indexmap.specs.IndexMap.{IndexMap}
-use Rattle.gr_parse.specs.SourceFile.{FileParts}
-use Rattle.gr_scope.specs.declared.links.Key.{Key}
+use Rattle.gr_tree.specs.SourceFile.{FileParts}
 use Rattle.gr_scope.specs.declared.model.Identifier.{Identifier}
 use Rattle.gr_scope.specs.Bindings.{Layout, Names}
-use Rattle.gr_scope.specs.Chains.{AreLinks}
 use Rattle.gr_scope.specs.Found.{site_of}
 use Rattle.gr_scope.specs.Scoped.{ScopedPackage, layout_in, names_in}
 use Rattle.gr_scope.specs.Site.{Site, sites_layout, sites_names}
@@ -23,10 +20,9 @@ of_table P xs ys files p ex ef es h =
     let S : List Site → Type 0 = λ zs. P files (sites_layout zs) (sites_names zs) (length zs) in
     subst F ef (subst S es (in_sites (λ l names n. P files l names n) ys (subst X ex h)))
 
--- the table's links are those of its identifiers
-pub linked_in_table : {S : Type 0} → (xs ys : List Identifier) (last : IndexMap Key ℕ S) (previous : List (Option ℕ)) → xs ≡ ys → AreLinks (layout_of ys) (names_of ys) (length ys) last previous →
-    AreLinks (layout_of xs) (names_of xs) (length xs) last previous
-linked_in_table xs ys last previous e h = let X : List Identifier → Type 0 = λ ws. AreLinks (layout_of ws) (names_of ws) (length ws) last previous in subst X (sym e) h
+-- what is true of a table's list of identifiers is true of the slice that is read
+pub in_slice : (P : List Identifier → Type 0) (xs ys : List Identifier) → xs ≡ ys → P ys → P xs
+in_slice P xs ys e h = subst P (sym e) h
 
 pub found_file : (files : List FileParts) (at : ℕ) (x : FileParts) → at < length files → x ≡ get_or files at x → slice_get files at ≡ Some x
 found_file files at x lt e = slice_get-get_or files at x lt ∙ ap Some (sym e)

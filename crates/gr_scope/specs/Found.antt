@@ -1,6 +1,6 @@
 -- The identifiers that the program has found.
 use Rattle.std.specs.Prelude.{◌≡◌, List, ◌++◌, map}
-use Rattle.gr_parse.specs.SourceFile as parsed
+use Rattle.gr_tree.specs.SourceFile as parsed
 use Rattle.gr_scope.specs.declared.model.Identifier.{Identifier}
 use Rattle.gr_scope.specs.declared.source.RankedFile.{RankedFile}
 use Rattle.gr_scope.specs.Site.{Site, Source}

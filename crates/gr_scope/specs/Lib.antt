@@ -2,6 +2,7 @@
 pub mod Scopes
 pub mod Bindings
 pub mod WellFormed
+pub mod Leading
 pub mod Table
 pub mod Moves
 pub mod Site
@@ -14,4 +15,5 @@ pub mod Parsed
 pub mod Scoped
 pub mod Regions
 pub mod Chains
+pub mod Known
 pub mod Named

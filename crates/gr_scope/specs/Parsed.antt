@@ -1,6 +1,6 @@
 -- A file that was parsed, as its identifiers are taken from it.
-use Rattle.gr_parse.specs.FileView.{file_view}
-use Rattle.gr_parse.specs.SourceFile.{FileParts, source_of, spelling_of}
+use Rattle.gr_tree.specs.FileView.{file_view}
+use Rattle.gr_tree.specs.SourceFile.{FileParts, source_of, spelling_of}
 use Rattle.gr_scope.specs.FileSites.{SpelledFile}
 
 abbrev pub spelled_file : FileParts → SpelledFile

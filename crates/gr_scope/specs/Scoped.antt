@@ -1,6 +1,6 @@
 -- A package's files with the identifiers that are taken from them.
 use Rattle.std.specs.Prelude.{ℕ, ◌≡◌, List, map, Option, Some, None, slice_get}
-use Rattle.gr_parse.specs.SourceFile.{FileParts, source_of, offset_of}
+use Rattle.gr_tree.specs.SourceFile.{FileParts, source_of, offset_of}
 use Rattle.gr_scope.specs.Bindings.{Layout, Names, IsIdentifier, IsBoundTo}
 use Rattle.gr_scope.specs.FileSites.{package_sites}
 use Rattle.gr_scope.specs.Parsed.{spelled_file}

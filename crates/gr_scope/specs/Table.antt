@@ -4,11 +4,13 @@ use Rattle.gr_scope.specs.declared.model.Position.{Position}
 use Rattle.gr_scope.specs.declared.model.Role.{Role}
 use Rattle.gr_scope.specs.declared.model.Role.TheVariants.{NotLexical}
 use Rattle.gr_scope.specs.declared.model.Purpose.TheVariants.{Blank}
+use Rattle.gr_scope.specs.declared.model.Block.TheVariants.{Package}
 use Rattle.gr_scope.specs.declared.model.Identifier.{Identifier}
 use Rattle.gr_scope.specs.declared.region.Region.{Region}
 use Rattle.gr_scope.specs.Regions.{region_at}
 use Rattle.gr_scope.specs.Scopes.{Nests}
-use Rattle.gr_scope.specs.Bindings.{Layout, Names, MayDeclare, SameBlock, InScope, Declares, Displaces, IsIdentifier, block_of}
+use Rattle.gr_scope.specs.Bindings.{Layout, Names, SameBlock, InScope, IsIdentifier, block_of}
+use Rattle.gr_scope.specs.Leading.{Leads}
 
 abbrev pub role_at : Option Identifier → Role
 role_at None = NotLexical Blank
@@ -28,17 +30,9 @@ layout_of xs = record { role = λ i. role_at (slice_get xs i); place = λ i. pla
 abbrev pub names_of : List Identifier → Names
 names_of xs = λ i. name_at (slice_get xs i)
 
--- e has d's name, stands in the same block and holds d
-abbrev pub Blocks : Layout → Names → ℕ → ℕ → Type 0
-Blocks l names e d = MayDeclare l e × SameBlock l e d × (names e ≡ names d) × InScope l e d
-
--- no declaration of its name in its block holds d
-abbrev pub IsNew : Layout → Names → ℕ → Type 0
-IsNew l names d = (e : ℕ) → Blocks l names e d → ⊥
-
--- d declares the name, its scope holds u, and it is kept in such a region
+-- d is the first to declare the name in its block, its scope holds u, and it is kept in such a region
 abbrev pub IsCandidate : Layout → Names → List ℕ → (Region → Type 0) → ℕ → ℕ → Type 0
-IsCandidate l names name R u d = (names d ≡ name) × InScope l d u × Declares l names d × R (region_at l d)
+IsCandidate l names name R u d = (names d ≡ name) × InScope l d u × Leads l names d × R (region_at l d)
 
 -- the block of the declaration at hand does not lie in that of d
 abbrev pub TakesOver : Layout → Option ℕ → ℕ → Type 0
@@ -49,6 +43,11 @@ TakesOver l (Some b) d = Nests (block_of (l.role b)) (block_of (l.role d)) → �
 abbrev pub Precedes : Layout → ℕ → ℕ → Type 0
 Precedes l a b = (SameBlock l a b × (a < b)) ⊎ Nests (block_of (l.role a)) (block_of (l.role b))
 
+-- there is a declaration, and its block lies in the package's
+abbrev pub IsInner : Layout → Option ℕ → Type 0
+IsInner l None = ⊥
+IsInner l (Some b) = Nests (block_of (l.role b)) Package
+
 -- the one of such declarations that precedes the others, or none
 abbrev pub IsNearest : Layout → (ℕ → Type 0) → Option ℕ → Type 0
 IsNearest l P None = (d : ℕ) → P d → ⊥
@@ -58,17 +57,6 @@ IsNearest l P (Some b) = P b × ((d : ℕ) → P d → (d ≡ b) ⊎ Precedes l 
 abbrev pub IsNearer : Layout → Option ℕ → Option ℕ → Option ℕ → Type 0
 IsNearer l first None result = result ≡ first
 IsNearer l first (Some d) result = (TakesOver l first d × (result ≡ Some d)) ⊎ ((TakesOver l first d → ⊥) × (result ≡ first))
-
--- e is a declaration of d's name, and d does not count beside it
-abbrev pub IsDisplacer : Layout → Names → ℕ → ℕ → Type 0
-IsDisplacer l names d e = Declares l names e × (names e ≡ names d) × Displaces l e d
-
-abbrev pub IsDisplacedByNone : Layout → Names → ℕ → Type 0
-IsDisplacedByNone l names d = (e : ℕ) → IsDisplacer l names d e → ⊥
-
--- the same of the declarations that are kept in a region
-abbrev pub IsDisplacedByNoneIn : Layout → Names → Region → ℕ → Type 0
-IsDisplacedByNoneIn l names region d = (e : ℕ) → region_at l e ≡ region → IsDisplacer l names d e → ⊥
 
 abbrev pub StandsAt : Layout → Position → ℕ → Type 0
 StandsAt l place u = IsIdentifier l u × ((l.place u).file ≡ place.file) × ((l.place u).index ≡ place.index)

@@ -1,9 +1,9 @@
 -- The trees of which identifiers are taken.
 use Rattle.std.specs.Prelude.{ℕ, suc, ◌≤◌, List, [], ◌∷◌}
 use Rattle.std.specs.List.{All}
-use Rattle.gr_parse.specs.declared.syntax.Token.{Token}
-use Rattle.gr_parse.specs.Flatten.{flatten}
-use Rattle.gr_parse.specs.WellFormed.{IsFile}
+use Rattle.gr_tree.specs.declared.syntax.Token.{Token}
+use Rattle.gr_tree.specs.Flatten.{flatten}
+use Rattle.gr_tree.specs.WellFormed.{IsFile}
 use Rattle.gr_scope.specs.FileSites.{SpelledFile}
 
 -- each token has a greater number than the one before it; the first has at least that number

@@ -4,15 +4,15 @@ ghost use Rattle.std.specs.List.{flat_map};
 ghost use Rattle.gr_scope.specs.ExpressionSites.{sites_if, list_sites};
 ghost use Rattle.gr_scope.specs.FileSites.{global_name, member_name, spec_sites, global_sites, field_sites, body_sites, type_spec_sites, receiver_sites, param_sites, result_sites, func_role, func_sites, import_name, import_purpose, import_sites, imports_sites, decl_sites, file_sites};
 ghost use Rattle.gr_scope.specs.Found.{source_of, Adds};
-ghost use Rattle.gr_parse.specs.View.{option_view, list_view, group_view};
-ghost use Rattle.gr_parse.specs.FileView.{same_place, global_view, field_view, body_view, type_spec_view, receiver_view, param_view, results_view, func_view, import_view, imports_view, decl_view, file_view};
+ghost use Rattle.gr_tree.specs.View.{option_view, list_view, group_view};
+ghost use Rattle.gr_tree.specs.FileView.{same_place, global_view, field_view, body_view, type_spec_view, receiver_view, param_view, results_view, func_view, import_view, imports_view, decl_view, file_view};
 
 use crate::expressions::add_type;
 use crate::model::{Block, Identifier, Purpose, Role};
 use crate::simple::{add_ident, add_idents};
 use crate::source::RankedFile;
 use crate::statements::add_block;
-use gr_parse::tree::{
+use gr_tree::tree::{
     Decl, Field, File, FuncDecl, Group, ImportDecl, ImportSpec, Item, Param, Receiver, Results,
     TypeBody, TypeSpec, VarSpec,
 };

@@ -7,11 +7,11 @@ ghost use Rattle.gr_scope.specs.Scoped.{scoped};
 ghost use Rattle.gr_scope.specs.Trees.{AreNumbered};
 
 use crate::declarations::add_file;
-use crate::links::links_of;
+use crate::declaring::declared_of;
 use crate::model::{Block, Identifier, Position, Role};
 use crate::source::RankedFile;
 use crate::table::ScopeTable;
-use gr_parse::FileTree;
+use gr_tree::FileTree;
 use std::alloc::{AllocError, Global};
 
 /// Adds a predeclared name.
@@ -64,6 +64,6 @@ pub fn declare<'a>(alloc: Global, files: &'a [FileTree]) -> Result<ScopeTable<'a
     ensures { IfOk result (λ table. table ≡ scoped files.now) }
 {
     let identifiers = identifiers_of(alloc, files)?;
-    let links = links_of(alloc, &identifiers)?;
-    Ok(ScopeTable::new(files, identifiers, links))
+    let declared = declared_of(alloc, &identifiers)?;
+    Ok(ScopeTable::new(files, identifiers, declared, None))
 }

@@ -2,12 +2,12 @@
 ghost use Rattle.std.specs.Prelude.{◌≡◌, OnOk};
 ghost use Rattle.gr_scope.specs.ExpressionSites.{type_sites, expr_sites, link_sites, literal_sites};
 ghost use Rattle.gr_scope.specs.Found.{source_of, Adds};
-ghost use Rattle.gr_parse.specs.View.{type_view, expr_view, link_view, literal_view};
-ghost use Rattle.gr_parse.specs.Tree.{no_link};
+ghost use Rattle.gr_tree.specs.View.{type_view, expr_view, link_view, literal_view};
+ghost use Rattle.gr_tree.specs.Tree.{no_link};
 
 use crate::model::{Identifier, Purpose, Role};
 use crate::source::RankedFile;
-use gr_parse::tree::{CompositeLit, Expr, Link, TypeExpr};
+use gr_tree::tree::{CompositeLit, Expr, Link, TypeExpr};
 use std::alloc::AllocError;
 
 /// Adds the identifiers of a type.

@@ -4,7 +4,9 @@
 mod counting;
 mod declarations;
 pub mod declare;
+mod declaring;
 mod expressions;
+mod known;
 pub mod law;
 mod links;
 pub mod model;

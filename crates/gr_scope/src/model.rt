@@ -1,7 +1,7 @@
 //! Places, blocks, scopes, and the roles of identifiers.
 
 /// A file by its rank among the package's paths, and the number of a token in it.
-#[derive(Clone, Copy)]
+#[derive(Clone, Copy, PartialEq, Eq, Hash)]
 pub struct Position {
     pub file: usize,
     pub index: usize,

@@ -3,10 +3,14 @@ ghost use Rattle.std.specs.Prelude.{◌≡◌, ◌<◌, ◌∷◌, [], length, m
 ghost use Rattle.gr_scope.specs.Found.{Adds, site_of};
 ghost use Rattle.gr_scope.specs.Named.{is_unnamed_import, name_value, name_given, named, named_site, named_sites};
 ghost use Rattle.gr_scope.specs.Site.{found_site};
+ghost use Rattle.gr_scope.specs.Table.{layout_of};
+ghost use Rattle.gr_scope.specs.WellFormed.{WellFormed, AreImportsLevel};
 
-use crate::links::links_of;
+use crate::declaring::declared_of;
+use crate::known::known_of;
 use crate::model::{Block, Identifier, Purpose, Role};
 use crate::table::ScopeTable;
+use gr_tree::FileTree;
 use std::alloc::{AllocError, Global};
 
 impl Role {
@@ -65,6 +69,22 @@ fn named_identifiers<'a>(
     Ok(found)
 }
 
+/// The table of identifiers that were taken from files, with what is found of them once.
+fn known_table<'a>(
+    alloc: Global,
+    files: &'a [FileTree],
+    identifiers: Vec<Identifier<'a>>,
+) -> Result<ScopeTable<'a>, AllocError>
+    requires well_formed { WellFormed (layout_of identifiers.items) }
+    requires imports { AreImportsLevel (layout_of identifiers.items) }
+    ensures files { IfOk result (λ table. table.files ≡ files.now) }
+    ensures sites { IfOk result (λ table. table.sites ≡ map site_of identifiers.entry.items) }
+{
+    let declared = declared_of(alloc, &identifiers)?;
+    let known = known_of(alloc, &identifiers, &declared)?;
+    Ok(ScopeTable::new(files, identifiers, declared, Some(known)))
+}
+
 /// The table in which an import without a name declares in its file, at its literal, the name that is known of the package
 /// that it imports. The names are given by the numbers of the literals; of those without one nothing is known.
 pub fn name_imports<'a>(
@@ -77,6 +97,5 @@ pub fn name_imports<'a>(
     table.is_well_formed();
     table.imports_are_level();
     let identifiers = named_identifiers(alloc, table.identifiers(), names)?;
-    let links = links_of(alloc, &identifiers)?;
-    Ok(ScopeTable::new(table.files(), identifiers, links))
+    known_table(alloc, table.files(), identifiers)
 }

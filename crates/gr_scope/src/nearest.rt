@@ -1,16 +1,16 @@
 //! The declaration to which a use is bound.
 ghost use Rattle.std.specs.Prelude.{ℕ, ◌≡◌, ◌<◌, ◌↔◌, length, IsTrue, MatchOption};
 ghost use Rattle.std.specs.Option.{ForSome};
-ghost use Rattle.gr_scope.specs.Bindings.{BindsAt, Declares, InScope};
-ghost use Rattle.gr_scope.specs.Chains.{AreLinks};
+ghost use Rattle.gr_scope.specs.Bindings.{BindsAt, InScope};
+ghost use Rattle.gr_scope.specs.Chains.{AreAllLinks};
 ghost use Rattle.gr_scope.specs.Regions.{Surrounds};
-ghost use Rattle.gr_scope.specs.Table.{IsCandidate, IsNearer, IsNearest, TakesOver, layout_of, names_of};
+ghost use Rattle.gr_scope.specs.Table.{IsCandidate, IsInner, IsNearer, IsNearest, TakesOver, layout_of, names_of};
 ghost use Rattle.gr_scope.specs.WellFormed.{WellFormed};
 
 use crate::links::{Key, Links};
-use crate::model::{Identifier, Scope};
+use crate::model::{Block, Identifier};
 use crate::region::{Region, SIZES};
-use crate::resolve::{declares, place_at, role_at};
+use crate::resolve::{in_scope, place_at, role_at};
 
 /// The declaration to which a name is bound at the place of u: the nearest one round it, or one of no file.
 pub(crate) fn binding<'a>(
@@ -21,19 +21,22 @@ pub(crate) fn binding<'a>(
 ) -> Option<usize>
     requires in_range { u < length identifiers.now }
     requires well_formed { WellFormed (layout_of identifiers.now) }
-    requires linked { AreLinks (layout_of identifiers.now) (names_of identifiers.now) (length identifiers.now) links.now.last links.now.previous.items }
+    requires linked { AreAllLinks identifiers.now links.now.last links.now.previous.items }
     ensures { let l = layout_of identifiers.now in
         let names = names_of identifiers.now in
         MatchOption result ((d : ℕ) → BindsAt l names name.now u d → ⊥) (λ d. BindsAt l names name.now u d) }
 {
     let at = place_at(identifiers, u).index / 16;
     let around = nearest_around(identifiers, links, name, u, SIZES, at);
+    if is_inner(identifiers, around) {
+        return around;
+    }
     let outside = nearest_in(identifiers, links, name, Region::Package, u);
     nearer(identifiers, around, outside)
 }
 
 /// The nearest declaration of a name whose scope holds the place of u, among those that are kept in u's file, or in that run
-/// and the larger ones round it, of so many sizes.
+/// and the larger ones round it, of so many sizes. What is found in a run is nearer than all in the larger ones.
 fn nearest_around<'a>(
     identifiers: &[Identifier<'a>],
     links: &Links<'a>,
@@ -44,7 +47,7 @@ fn nearest_around<'a>(
 ) -> Option<usize>
     requires in_range { u < length identifiers.now }
     requires well_formed { WellFormed (layout_of identifiers.now) }
-    requires linked { AreLinks (layout_of identifiers.now) (names_of identifiers.now) (length identifiers.now) links.now.last links.now.previous.items }
+    requires linked { AreAllLinks identifiers.now links.now.last links.now.previous.items }
     ensures { let l = layout_of identifiers.now in
         IsNearest l (IsCandidate l (names_of identifiers.now) name.now (Surrounds (l.place u).file sizes at) u) result }
 {
@@ -53,9 +56,21 @@ fn nearest_around<'a>(
         nearest_in(identifiers, links, name, Region::File(file), u)
     } else {
         let region = Region::Run(file, sizes - 1, at);
-        let here = nearest_in(identifiers, links, name, region, u);
-        let around = nearest_around(identifiers, links, name, u, sizes - 1, at / 16);
-        nearer(identifiers, here, around)
+        match nearest_in(identifiers, links, name, region, u) {
+            None => nearest_around(identifiers, links, name, u, sizes - 1, at / 16),
+            Some(d) => Some(d),
+        }
+    }
+}
+
+/// Whether there is a declaration, in an inner block.
+fn is_inner(identifiers: &[Identifier], found: Option<usize>) -> bool
+    requires { ForSome found (λ b. b < length identifiers.now) }
+    ensures { IsTrue result ↔ IsInner (layout_of identifiers.now) found }
+{
+    match found {
+        None => false,
+        Some(b) => role_at(identifiers, b).block().nests(Block::Package),
     }
 }
 
@@ -81,7 +96,7 @@ fn nearest_in<'a>(
 ) -> Option<usize>
     requires in_range { u < length identifiers.now }
     requires well_formed { WellFormed (layout_of identifiers.now) }
-    requires linked { AreLinks (layout_of identifiers.now) (names_of identifiers.now) (length identifiers.now) links.now.last links.now.previous.items }
+    requires linked { AreAllLinks identifiers.now links.now.last links.now.previous.items }
     ensures { let l = layout_of identifiers.now in
         IsNearest l (IsCandidate l (names_of identifiers.now) name.now (λ r. r ≡ region) u) result }
 {
@@ -89,7 +104,7 @@ fn nearest_in<'a>(
     let mut best: Option<usize> = None;
     let mut at = chain.last;
     while let Some(d) = at {
-        if improves(identifiers, links, u, best, d) {
+        if improves(identifiers, u, best, d) {
             best = Some(d);
         }
         at = chain.previous[d];
@@ -97,35 +112,14 @@ fn nearest_in<'a>(
     best
 }
 
-/// Whether d is a declaration whose scope holds the place of u, and takes over from the best so far.
-fn improves<'a>(
-    identifiers: &[Identifier<'a>],
-    links: &Links<'a>,
-    u: usize,
-    best: Option<usize>,
-    d: usize,
-) -> bool
+/// Whether the scope of d holds the place of u, and d takes over from the best so far.
+fn improves(identifiers: &[Identifier], u: usize, best: Option<usize>, d: usize) -> bool
     requires first { u < length identifiers.now }
     requires second { d < length identifiers.now }
-    requires linked { AreLinks (layout_of identifiers.now) (names_of identifiers.now) (length identifiers.now) links.now.last links.now.previous.items }
     requires known { ForSome best (λ b. b < length identifiers.now) }
-    ensures { let l = layout_of identifiers.now in
-        IsTrue result ↔ ((InScope l d u × Declares l (names_of identifiers.now) d) × TakesOver l best d) }
+    ensures { let l = layout_of identifiers.now in IsTrue result ↔ (InScope l d u × TakesOver l best d) }
 {
-    is_seen(identifiers, links, u, d) && takes_over(identifiers, best, d)
-}
-
-/// Whether d is a declaration whose scope holds the place of u.
-fn is_seen<'a>(identifiers: &[Identifier<'a>], links: &Links<'a>, u: usize, d: usize) -> bool
-    requires first { u < length identifiers.now }
-    requires second { d < length identifiers.now }
-    requires linked { AreLinks (layout_of identifiers.now) (names_of identifiers.now) (length identifiers.now) links.now.last links.now.previous.items }
-    ensures { let l = layout_of identifiers.now in
-        IsTrue result ↔ (InScope l d u × Declares l (names_of identifiers.now) d) }
-{
-    let role = role_at(identifiers, d);
-    Scope::in_block(role.block(), role.start()).holds(place_at(identifiers, u))
-        && declares(identifiers, links, d)
+    in_scope(identifiers, d, u) && takes_over(identifiers, best, d)
 }
 
 /// Whether an earlier declaration takes over from the best so far.

@@ -1,14 +1,11 @@
-//! Roles, blocks and scopes of identifiers, and which identifiers declare.
+//! Roles, blocks and scopes of identifiers.
 
 ghost use Rattle.std.specs.Prelude.{◌≡◌, ◌<◌, ◌↔◌, length, IsTrue};
-ghost use Rattle.gr_scope.specs.Chains.{AreLinks};
-ghost use Rattle.gr_scope.specs.Table.{Blocks, IsNew};
 ghost use Rattle.gr_scope.specs.Scopes.{Holds, Nests};
-ghost use Rattle.gr_scope.specs.Bindings.{may_declare, block_of, start_of, is_left_name, Declares};
+ghost use Rattle.gr_scope.specs.Bindings.{may_declare, block_of, start_of, is_left_name, InScope};
 ghost use Rattle.gr_scope.specs.Scopes.{scope_in};
 ghost use Rattle.gr_scope.specs.Table.{layout_of, names_of};
 
-use crate::links::{Links, key_at};
 use crate::model::{Block, Identifier, Position, Role, Scope};
 
 impl Role {
@@ -122,50 +119,12 @@ pub(crate) fn name_at<'a>(identifiers: &[Identifier<'a>], d: usize) -> &'a [u8]
     identifiers[d].name
 }
 
-pub(crate) fn same_name(identifiers: &[Identifier], d: usize, e: usize) -> bool
+/// Whether the scope of a declaration holds the place of u.
+pub(crate) fn in_scope(identifiers: &[Identifier], d: usize, u: usize) -> bool
     requires first { d < length identifiers.now }
-    requires second { e < length identifiers.now }
-    ensures { IsTrue result ↔ (names_of identifiers.now d ≡ names_of identifiers.now e) }
-{
-    name_at(identifiers, d) == name_at(identifiers, e)
-}
-
-/// Whether a left name of `:=` lies in no scope of a name of its own in the same block.
-fn is_new<'a>(identifiers: &[Identifier<'a>], links: &Links<'a>, d: usize) -> bool
-    requires in_range { d < length identifiers.now }
-    requires linked { AreLinks (layout_of identifiers.now) (names_of identifiers.now) (length identifiers.now) links.now.last links.now.previous.items }
-    ensures { IsTrue result ↔ IsNew (layout_of identifiers.now) (names_of identifiers.now) d }
-{
-    let chain = links.chain(key_at(identifiers, d));
-    let mut at = chain.last;
-    while let Some(e) = at {
-        if blocks(identifiers, e, d) {
-            return false;
-        }
-        at = chain.previous[e];
-    }
-    true
-}
-
-/// Whether e has d's name, stands in the same block and holds d.
-fn blocks(identifiers: &[Identifier], e: usize, d: usize) -> bool
-    requires first { e < length identifiers.now }
-    requires second { d < length identifiers.now }
-    ensures { IsTrue result ↔ Blocks (layout_of identifiers.now) (names_of identifiers.now) e d }
-{
-    let role = role_at(identifiers, e);
-    role.may_declare()
-        && role.block().same(role_at(identifiers, d).block())
-        && same_name(identifiers, e, d)
-        && Scope::in_block(role.block(), role.start()).holds(place_at(identifiers, d))
-}
-
-/// Whether an identifier declares.
-pub(crate) fn declares<'a>(identifiers: &[Identifier<'a>], links: &Links<'a>, d: usize) -> bool
-    requires in_range { d < length identifiers.now }
-    requires linked { AreLinks (layout_of identifiers.now) (names_of identifiers.now) (length identifiers.now) links.now.last links.now.previous.items }
-    ensures { IsTrue result ↔ Declares (layout_of identifiers.now) (names_of identifiers.now) d }
+    requires second { u < length identifiers.now }
+    ensures { IsTrue result ↔ InScope (layout_of identifiers.now) d u }
 {
     let role = role_at(identifiers, d);
-    role.may_declare() && (!role.is_left_name() || is_new(identifiers, links, d))
+    Scope::in_block(role.block(), role.start()).holds(place_at(identifiers, u))
 }

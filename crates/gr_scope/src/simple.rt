@@ -3,13 +3,13 @@ ghost use Rattle.std.specs.Prelude.{◌≡◌, OnOk};
 ghost use Rattle.gr_scope.specs.ExpressionSites.{sites_if, list_sites, type_sites, expr_sites, exprs_sites};
 ghost use Rattle.gr_scope.specs.StatementSites.{ident_sites, left_sites, assigned_sites, simple_sites, value_sites, local_sites, group_sites, init_sites, for_sites};
 ghost use Rattle.gr_scope.specs.Found.{source_of, Adds};
-ghost use Rattle.gr_parse.specs.View.{option_view, group_view, list_view, ident_view, type_view, expr_view, exprs_view};
-ghost use Rattle.gr_parse.specs.FileView.{local_view, values_view, simple_view, init_view, for_view};
+ghost use Rattle.gr_tree.specs.View.{option_view, group_view, list_view, ident_view, type_view, expr_view, exprs_view};
+ghost use Rattle.gr_tree.specs.FileView.{local_view, values_view, simple_view, init_view, for_view};
 
 use crate::expressions::{add_expr, add_type};
 use crate::model::{Block, Identifier, Purpose, Role};
 use crate::source::RankedFile;
-use gr_parse::tree::{
+use gr_tree::tree::{
     Expr, ExprItem, ForHeader, Group, Ident, IfInit, Item, LocalSpec, SimpleStmt, TypeExpr, Values,
 };
 use std::alloc::AllocError;

@@ -3,7 +3,7 @@ ghost use Rattle.std.specs.Prelude.{◌≡◌, ◌∷◌, [], OnOk};
 ghost use Rattle.gr_scope.specs.Site.{site};
 
 use crate::model::{Identifier, Position, Role};
-use gr_parse::FileTree;
+use gr_tree::FileTree;
 use std::alloc::AllocError;
 
 /// A file of a package, with its rank among the package's paths.

@@ -2,14 +2,14 @@
 ghost use Rattle.std.specs.Prelude.{◌≡◌, OnOk};
 ghost use Rattle.gr_scope.specs.StatementSites.{statement_sites, block_sites, if_sites, else_sites};
 ghost use Rattle.gr_scope.specs.Found.{source_of, Adds};
-ghost use Rattle.gr_parse.specs.FileView.{stmt_view, block_view, if_view, else_view};
+ghost use Rattle.gr_tree.specs.FileView.{stmt_view, block_view, if_view, else_view};
 
 use crate::expressions::add_expr;
 use crate::model::{Block, Identifier};
 use crate::simple::{add_exprs, add_header, add_init, add_locals, add_simple};
 use crate::source::RankedFile;
-use gr_parse::tree;
-use gr_parse::tree::{Else, IfStmt, Stmt};
+use gr_tree::tree;
+use gr_tree::tree::{Else, IfStmt, Stmt};
 use std::alloc::AllocError;
 
 /// Adds the identifiers of a statement in a block, before a token.

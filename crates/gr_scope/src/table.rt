@@ -1,40 +1,44 @@
 //! The table of a package's identifiers, scopes and bindings.
 ghost use Rattle.std.specs.Prelude.{ℕ, ◌≡◌, ◌<◌, ◌↔◌, length, map, IsTrue, MatchOption, slice_get};
-ghost use Rattle.gr_parse.specs.SourceFile.{source_of, offset_of};
+ghost use Rattle.std.specs.Option.{ForSome};
+ghost use Rattle.gr_tree.specs.SourceFile.{source_of, offset_of};
 ghost use Rattle.gr_scope.specs.Bindings.{Declares, Counts, IsIdentifier, IsUse, scope_of};
-ghost use Rattle.gr_scope.specs.Chains.{AreLinks};
+ghost use Rattle.gr_scope.specs.Known.{AreDeclared, AreKnown, IsBinding, IsNumberAt};
 ghost use Rattle.gr_scope.specs.Found.{site_of};
 ghost use Rattle.gr_scope.specs.Scoped.{layout_in, names_in, IsBoundIn, IsPlaceOf, BeginsIn, BeginsAt};
 ghost use Rattle.gr_scope.specs.Table.{layout_of, names_of, StandsAt, IsFirstOf, IsFoundAt};
 ghost use Rattle.gr_scope.specs.WellFormed.{WellFormed, AreImportsLevel};
 
-use crate::counting::{bound_to, counts, is_use};
-use crate::links::Links;
+use crate::counting::{bound_to, is_use};
+use crate::declaring::Declared;
+use crate::known::Known;
 use crate::model::{Identifier, Position, Role, Scope};
-use crate::resolve::{declares, name_at, place_at, role_at};
-use gr_parse::FileTree;
+use crate::resolve::{name_at, place_at, role_at};
 use gr_text::Place;
+use gr_tree::FileTree;
 use std::marker::Model;
 
 /// A declaration: the number of its identifier in the table. The predeclared names have the first eleven numbers.
 pub type DeclId = usize;
 
-/// The identifiers of a package, in the order of its files and of their tokens, behind the predeclared names.
+/// The identifiers of a package, in the order of its files and of their tokens, behind the predeclared names. To what each is
+/// bound is found once, when the names of imports are laid in; a table without them finds it when it is asked.
 #[derive(Drop)]
 pub struct ScopeTable<'a> {
     files: &'a [FileTree],
     identifiers: Vec<Identifier<'a>>,
-    links: Links<'a>,
+    declared: Declared<'a>,
+    known: Option<Known>,
 }
 
 impl<'a> Model for ScopeTable<'a> {
     ghost use Rattle.std.specs.Prelude.{map};
     ghost use Rattle.std.specs.Coded.{codes};
-    ghost use Rattle.gr_parse.specs.contracts.tree.File as e;
-    ghost use Rattle.gr_scope.specs.Chains.{AreLinks, IsChain};
+    ghost use Rattle.gr_tree.specs.contracts.tree.File as e;
+    ghost use Rattle.std.specs.Option.{ForSome};
     ghost use Rattle.gr_scope.specs.Found.{site_of};
     ghost use Rattle.gr_scope.specs.Scoped.{ScopedPackage};
-    ghost use Rattle.gr_scope.specs.Chains.{IsTable};
+    ghost use Rattle.gr_scope.specs.Known.{IsTable, AreKnown};
 
     ghost Value = { ScopedPackage };
 
@@ -42,7 +46,8 @@ impl<'a> Model for ScopeTable<'a> {
 
     ghost view = { λ t. record { files = t.files.now; sites = map site_of t.identifiers.items } };
 
-    ghost invariant = { λ t. IsTable t.identifiers.items t.links.last t.links.previous.items };
+    ghost invariant = { λ t. IsTable t.identifiers.items t.declared.links.last t.declared.links.previous.items t.declared.declaring.items ×
+        ForSome t.known (λ k. AreKnown t.identifiers.items k.bindings.items k.numbers) };
 }
 
 /// Whether an identifier of the package stands at a place.
@@ -109,15 +114,51 @@ fn first_beginning_at(
     None
 }
 
+/// The declaration to which an identifier is bound, from what is known where it was found before.
+fn found_binding<'a>(
+    identifiers: &[Identifier<'a>],
+    declared: &Declared<'a>,
+    known: &Option<Known>,
+    u: usize,
+) -> Option<DeclId>
+    requires in_range { u < length identifiers.now }
+    requires well_formed { WellFormed (layout_of identifiers.now) }
+    requires declared { AreDeclared identifiers.now declared.now.links.last declared.now.links.previous.items declared.now.declaring.items }
+    requires known { ForSome known.now (λ k. AreKnown identifiers.now k.bindings.items k.numbers) }
+    ensures { IsBinding (layout_of identifiers.now) (names_of identifiers.now) u result }
+{
+    match known {
+        None => bound_to(identifiers, declared, u),
+        Some(known) => known.bindings[u],
+    }
+}
+
+/// The identifier at a token, from what is known where it was found before.
+fn found_number(identifiers: &[Identifier], known: &Option<Known>, place: Position) -> Option<usize>
+    requires { ForSome known.now (λ k. AreKnown identifiers.now k.bindings.items k.numbers) }
+    ensures { IsNumberAt (layout_of identifiers.now) (length identifiers.now) place result }
+{
+    match known {
+        None => found_at(identifiers, place),
+        Some(known) => known.numbers.get(&place).copied(),
+    }
+}
+
 /// Whether a declaration does not count, beside another of its name.
-fn is_repeated<'a>(identifiers: &[Identifier<'a>], links: &Links<'a>, d: usize) -> bool
+fn is_repeated(
+    identifiers: &[Identifier],
+    declared: &Declared,
+    bound: Option<DeclId>,
+    d: usize,
+) -> bool
     requires in_range { d < length identifiers.now }
-    requires linked { AreLinks (layout_of identifiers.now) (names_of identifiers.now) (length identifiers.now) links.now.last links.now.previous.items }
+    requires declared { AreDeclared identifiers.now declared.now.links.last declared.now.links.previous.items declared.now.declaring.items }
+    requires bound { IsBinding (layout_of identifiers.now) (names_of identifiers.now) d bound }
     ensures { let l = layout_of identifiers.now in
         let names = names_of identifiers.now in
         IsTrue result ↔ (Declares l names d × (Counts l names d → ⊥)) }
 {
-    declares(identifiers, links, d) && !counts(identifiers, links, d)
+    declared.declaring[d] && bound.is_none()
 }
 
 impl<'a> ScopeTable<'a> {
@@ -125,18 +166,21 @@ impl<'a> ScopeTable<'a> {
     pub(crate) fn new(
         files: &'a [FileTree],
         identifiers: Vec<Identifier<'a>>,
-        links: Links<'a>,
+        declared: Declared<'a>,
+        known: Option<Known>,
     ) -> ScopeTable<'a>
         requires well_formed { WellFormed (layout_of identifiers.items) }
         requires imports { AreImportsLevel (layout_of identifiers.items) }
-        requires linked { AreLinks (layout_of identifiers.items) (names_of identifiers.items) (length identifiers.items) links.last links.previous.items }
+        requires declared { AreDeclared identifiers.items declared.links.last declared.links.previous.items declared.declaring.items }
+        requires known { ForSome known (λ k. AreKnown identifiers.items k.bindings.items k.numbers) }
         ensures files { result.files ≡ files.now }
         ensures sites { result.sites ≡ map site_of identifiers.entry.items }
     {
         ScopeTable {
             files,
             identifiers,
-            links,
+            declared,
+            known,
         }
     }
 
@@ -197,7 +241,7 @@ impl<'a> ScopeTable<'a> {
         requires { u < length self.now.sites }
         ensures { IsTrue result ↔ IsUse (layout_in self.now) (names_in self.now) u }
     {
-        is_use(&self.identifiers, &self.links, u)
+        is_use(&self.identifiers, &self.declared, u)
     }
 
     /// Whether an identifier declares.
@@ -205,7 +249,7 @@ impl<'a> ScopeTable<'a> {
         requires { u < length self.now.sites }
         ensures { IsTrue result ↔ Declares (layout_in self.now) (names_in self.now) u }
     {
-        declares(&self.identifiers, &self.links, u)
+        self.declared.declaring[u]
     }
 
     /// All identifiers, behind the predeclared names.
@@ -221,7 +265,7 @@ impl<'a> ScopeTable<'a> {
         ensures { MatchOption result ((u : ℕ) → u < length self.now.sites → StandsAt (layout_in self.now) place u → ⊥)
             (λ u. IsFoundAt (layout_in self.now) (length self.now.sites) place u) }
     {
-        found_at(&self.identifiers, place)
+        found_number(&self.identifiers, &self.known, place)
     }
 
     /// The identifier that begins at a place, or the literal of an import.
@@ -237,7 +281,7 @@ impl<'a> ScopeTable<'a> {
         requires { u < length self.now.sites }
         ensures { MatchOption result ((d : ℕ) → IsBoundIn self.now u d → ⊥) (λ d. IsBoundIn self.now u d) }
     {
-        bound_to(&self.identifiers, &self.links, u)
+        found_binding(&self.identifiers, &self.declared, &self.known, u)
     }
 
     /// The declaration to which the identifier at a token is bound.
@@ -277,6 +321,7 @@ impl<'a> ScopeTable<'a> {
             let names = names_in self.now in
             IsTrue result ↔ (Declares l names declaration × (Counts l names declaration → ⊥)) }
     {
-        is_repeated(&self.identifiers, &self.links, declaration)
+        let bound = self.binding(declaration);
+        is_repeated(&self.identifiers, &self.declared, bound, declaration)
     }
 }

@@ -1,7 +1,8 @@
 //! Readers and writers that are slow, and that fail.
 use crate::desks::opened;
+use gr_desk::Solo;
 use gr_text::Limits;
-use gr_wire::{Reading, SessionFault, Writing, session};
+use gr_wire::{Reading, SessionFault, Writing, session, transcript};
 use std::alloc::Global;
 use std::io;
 use std::io::{Read, Write};
@@ -73,14 +74,14 @@ impl Write for FullWriter {
     }
 }
 
-/// How a session over slow devices ends, what it wrote, and what a second session on the same book then writes.
-fn served(
+/// How a session over slow devices ends, and what it wrote.
+fn slow_session(
     alloc: Global,
+    solo: &mut Solo,
     input: &[u8],
     reads_left: u64,
     writes_left: u64,
-) -> Result<(Result<(), SessionFault>, Vec<u8>, Vec<u8>), Fail> {
-    let mut solo = opened(alloc, Limits::FULL)?;
+) -> (Result<(), SessionFault>, Vec<u8>) {
     let mut source = Reading::new(SlowReader {
         bytes: input,
         reads_left,
@@ -89,73 +90,100 @@ fn served(
         taken: Vec::new(alloc),
         writes_left,
     });
-    let ended = session(alloc, &mut source, &mut sink, &mut solo, Limits::FULL);
-    let mut next = Reading::new(b"list\n".as_slice());
-    let mut listed = Writing::new(Vec::new(alloc));
-    let again = session(alloc, &mut next, &mut listed, &mut solo, Limits::FULL);
-    let _entries = solo.into_book().close();
-    again?;
-    Ok((ended, sink.into_inner().taken, listed.into_inner()))
+    let ended = session(alloc, &mut source, &mut sink, solo, Limits::FULL);
+    (ended, sink.into_inner().taken)
 }
+
+/// How a session ended, what it wrote, and what a second one on the same book then writes.
+#[derive(Drop)]
+struct Served {
+    ended: Result<(), SessionFault>,
+    taken: Vec<u8>,
+    listed: Vec<u8>,
+}
+
+impl Served {
+    fn is(&self, ended: Result<(), SessionFault>, taken: &[u8], listed: &[u8]) -> bool {
+        self.ended == ended && self.taken.as_slice() == taken && self.listed.as_slice() == listed
+    }
+}
+
+fn run_on_devices(
+    alloc: Global,
+    input: &[u8],
+    reads_left: u64,
+    writes_left: u64,
+) -> Result<Served, Fail> {
+    let mut solo = opened(alloc, Limits::FULL)?;
+    let (ended, taken) = slow_session(alloc, &mut solo, input, reads_left, writes_left);
+    let listed = transcript(alloc, b"list\n", &mut solo, Limits::FULL);
+    let _entries = solo.into_book().close();
+    Ok(Served {
+        ended,
+        taken,
+        listed: listed?,
+    })
+}
+
+const PUT_AND_UNDO: &[u8] =
+    b"put 0 a/a.go 58\npackage a\n\nvar x int\n\nfunc F(y int) int {\n\treturn x + y\n}\nundo 1\nend\nrest";
 
 #[test]
 fn one_byte_at_a_time(rt: HostRuntime) -> Result<(), Fail> {
-    let input =
-        b"put 0 a/a.go 58\npackage a\n\nvar x int\n\nfunc F(y int) int {\n\treturn x + y\n}\nundo 1\nend\nrest".as_slice();
-    let (ended, taken, listed) = served(rt.alloc(), input, 1000, 1000)?;
-    assert_eq!(rt; ended, Ok(()));
-    assert_eq!(rt; taken.as_slice(), b"ok 1 0\nok 0 0\n".as_slice());
-    assert_eq!(rt; listed.as_slice(), b"ok 0 0\n".as_slice());
+    let served = run_on_devices(rt.alloc(), PUT_AND_UNDO, 1000, 1000)?;
+    assert!(rt; served.is(Ok(()), b"ok 1 0\nok 0 0\n", b"ok 0 0\n"));
     Ok(())
+}
+
+/// Two puts, the first of 18 bytes, both of 35.
+const TWO_PUTS: &[u8] = b"put 0 a/a.go 3\nabcput 1 b/b.go 2\nde";
+
+/// What is written, and what then stands there, after so many reads of a byte, with a last one that tells the end.
+fn after_reads(reads: u64) -> (Result<(), SessionFault>, &'static [u8], &'static [u8]) {
+    let failed = Err(SessionFault::Read);
+    match reads {
+        0..18 => (failed, b"", b"ok 0 0\n"),
+        18..35 => (failed, b"ok 1 0\n", b"ok 1 9\na/a.go 3\n"),
+        _ => (
+            if reads == 35 { failed } else { Ok(()) },
+            b"ok 1 0\nok 2 0\n",
+            b"ok 2 18\na/a.go 3\nb/b.go 2\n",
+        ),
+    }
 }
 
 #[test]
 fn a_read_that_fails_anywhere(rt: HostRuntime) -> Result<(), Fail> {
-    let input = b"put 0 a/a.go 3\nabcput 1 b/b.go 2\nde".as_slice();
     for reads in 0..37 {
-        let (ended, taken, listed) = served(rt.alloc(), input, reads, 1000)?;
-        let (wrote, holds) = if reads < 18 {
-            (b"".as_slice(), b"ok 0 0\n".as_slice())
-        } else if reads < 35 {
-            (b"ok 1 0\n".as_slice(), b"ok 1 9\na/a.go 3\n".as_slice())
-        } else {
-            (
-                b"ok 1 0\nok 2 0\n".as_slice(),
-                b"ok 2 18\na/a.go 3\nb/b.go 2\n".as_slice(),
-            )
-        };
-        let expected = if reads < 36 {
-            Err(SessionFault::Read)
-        } else {
-            Ok(())
-        };
-        assert_eq!(rt; ended, expected, "at {reads}");
-        assert_eq!(rt; taken.as_slice(), wrote, "at {reads}");
-        assert_eq!(rt; listed.as_slice(), holds, "at {reads}");
+        let (ended, taken, listed) = after_reads(reads);
+        let served = run_on_devices(rt.alloc(), TWO_PUTS, reads, 1000)?;
+        assert!(rt; served.is(ended, taken, listed), "at {reads}");
     }
     Ok(())
 }
 
+/// How a session ends, and what then stands there, after so many writes of a byte. The replies have 14.
+fn after_writes(writes: u64) -> (Result<(), SessionFault>, &'static [u8]) {
+    let ended = if writes < 14 {
+        Err(SessionFault::Write)
+    } else {
+        Ok(())
+    };
+    if writes < 7 {
+        (ended, b"ok 1 9\na/a.go 3\n")
+    } else {
+        (ended, b"ok 2 18\na/a.go 3\nb/b.go 2\n")
+    }
+}
+
 #[test]
 fn a_write_that_fails_anywhere(rt: HostRuntime) -> Result<(), Fail> {
-    let input = b"put 0 a/a.go 3\nabcput 1 b/b.go 2\nde".as_slice();
     let output = b"ok 1 0\nok 2 0\n".as_slice();
     for writes in 0..16 {
-        let (ended, taken, listed) = served(rt.alloc(), input, 1000, writes)?;
-        let holds = if writes < 7 {
-            b"ok 1 9\na/a.go 3\n".as_slice()
-        } else {
-            b"ok 2 18\na/a.go 3\nb/b.go 2\n".as_slice()
-        };
-        let expected = if writes < 14 {
-            Err(SessionFault::Write)
-        } else {
-            Ok(())
-        };
-        assert_eq!(rt; ended, expected, "at {writes}");
-        assert!(rt; output.starts_with(taken.as_slice()), "at {writes}");
-        assert_eq!(rt; taken.len() as u64, writes.min(14), "at {writes}");
-        assert_eq!(rt; listed.as_slice(), holds, "at {writes}");
+        let (ended, listed) = after_writes(writes);
+        let taken = &output[..writes.min(14) as usize];
+        let served = run_on_devices(rt.alloc(), TWO_PUTS, 1000, writes)?;
+        assert!(rt; served.is(ended, taken, listed), "at {writes}");
     }
     Ok(())
 }

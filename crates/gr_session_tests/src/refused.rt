@@ -31,44 +31,62 @@ fn keeps_all(text: &[u8], reply: &[u8], again: &[u8]) -> bool {
     }
 }
 
-/// Sends each command twice.
-fn sends_each_twice(rt: &(impl Abort + AllocGlobal), solo: &mut Solo) {
-    for (input, reply, again) in [
-        (
-            "put 0 a/a.go 24\npackage a\n\nfunc F() {\n}\nput 0 a/a.go 24\npackage a\n\nfunc F() {\n}\n",
-            "ok 1 0\n",
-            "no 6 2\n1\n",
-        ),
-        (
-            "cat a/a.go\ncat a/a.go\n",
-            "ok 1 24\npackage a\n\nfunc F() {\n}\n",
-            "ok 1 24\npackage a\n\nfunc F() {\n}\n",
-        ),
-        ("undo 1\nundo 1\n", "ok 0 0\n", "no 6 2\n0\n"),
-        ("redo 0\nredo 0\n", "ok 1 0\n", "no 6 2\n1\n"),
-        (
+/// Sends a command twice, where the ones before got memory, and tells whether these two did.
+fn sends_twice(
+    rt: &(impl Abort + AllocGlobal),
+    solo: &mut Solo,
+    input: &str,
+    reply: &str,
+    again: &str,
+) -> bool {
+    match answered(rt.alloc(), solo, input.as_bytes()) {
+        Some(text) => {
+            let keeps = keeps_all(&text, reply.as_bytes(), again.as_bytes());
+            assert!(rt; keeps, "{input}");
+            true
+        }
+        None => false,
+    }
+}
+
+/// Sends each command twice, until memory was wanting.
+fn sends_each_twice(rt: &(impl Abort + AllocGlobal), solo: &mut Solo) -> bool {
+    sends_twice(
+        rt,
+        solo,
+        "put 0 a/a.go 24\npackage a\n\nfunc F() {\n}\nput 0 a/a.go 24\npackage a\n\nfunc F() {\n}\n",
+        "ok 1 0\n",
+        "no 6 2\n1\n",
+    ) && sends_twice(
+        rt,
+        solo,
+        "cat a/a.go\ncat a/a.go\n",
+        "ok 1 24\npackage a\n\nfunc F() {\n}\n",
+        "ok 1 24\npackage a\n\nfunc F() {\n}\n",
+    ) && sends_twice(rt, solo, "undo 1\nundo 1\n", "ok 0 0\n", "no 6 2\n0\n")
+        && sends_twice(rt, solo, "redo 0\nredo 0\n", "ok 1 0\n", "no 6 2\n1\n")
+        && sends_twice(
+            rt,
+            solo,
             "list\nlist\n",
             "ok 1 10\na/a.go 24\n",
             "ok 1 10\na/a.go 24\n",
-        ),
-        ("work\nwork\n", "ok 1 2\na\n", "no 23 0\n"),
-        (
+        )
+        && sends_twice(rt, solo, "work\nwork\n", "ok 1 2\na\n", "no 23 0\n")
+        && sends_twice(
+            rt,
+            solo,
             "object a\nobject a\n",
             "ok 1 34\nobject a a\nfunc a#F () () 0 1\nend\n",
             "ok 1 34\nobject a a\nfunc a#F () () 0 1\nend\n",
-        ),
-        ("del 1 a/a.go\ndel 1 a/a.go\n", "ok 2 0\n", "no 6 2\n2\n"),
-    ] {
-        match answered(rt.alloc(), solo, input.as_bytes()) {
-            Some(text) => {
-                assert!(rt;
-                    keeps_all(&text, reply.as_bytes(), again.as_bytes()),
-                    "{input}"
-                )
-            }
-            None => return,
-        }
-    }
+        )
+        && sends_twice(
+            rt,
+            solo,
+            "del 1 a/a.go\ndel 1 a/a.go\n",
+            "ok 2 0\n",
+            "no 6 2\n2\n",
+        )
 }
 
 #[test]
@@ -77,6 +95,6 @@ fn a_refused_command_changes_nothing(rt: HostRuntime) {
         Ok(solo) => solo,
         Err(_) => return,
     };
-    sends_each_twice(&rt, &mut solo);
+    let _all = sends_each_twice(&rt, &mut solo);
     let _entries = solo.into_book().close();
 }

@@ -1,130 +1,133 @@
 //! The graph of a workspace: its packages with their parsed files, and which imports which.
+use crate::assertion::holds;
+use crate::text::put;
 use gr_graph::{FaultyFile, Graph, Package, read_imports};
-use gr_text::{FaultKind, FileText, Files, Path};
+use gr_text::{FaultKind, Files};
 use std::alloc::Global;
+use std::process::Abort;
 use std::test::Fail;
 
-fn path(alloc: Global, text: &str) -> Result<Path, Fail> {
-    match Path::read(alloc, text, 2) {
-        Ok(path) => Ok(path),
-        Err(_) => Err("no path".into()),
-    }
-}
+/// Package a imports b, c imports both, d imports itself, and e has a fault. A row is a path and a text, with `$` for each
+/// newline in it.
+const FIVE_PACKAGES: &str = r#"a/a.go package a$import "b"$
+b/b.go package b$
+b/c.txt package c$
+c/c.go package c$import ("a";`b`;"z")$
+c/d.go package c$import "a"$
+d/d.go package d$import "d"$
+e/e.go package e$$)$"#;
 
-fn put(alloc: Global, files: &mut Files, at: &str, text: &str) -> Result<(), Fail> {
-    let text = FileText::new(alloc, text.as_bytes().to_vec(alloc)?)?;
-    files.insert(path(alloc, at)?, text)?;
+/// What is put anew: now a and b import each other, and e has no fault.
+const OTHER_TEXTS: &str = r#"b/b.go package b$import "a"$
+e/e.go package e$"#;
+
+fn put_all(alloc: Global, files: &mut Files, rows: &str) -> Result<(), Fail> {
+    for row in rows.lines() {
+        put(alloc, files, row)?;
+    }
     Ok(())
 }
 
-/// Package a imports b, c imports both, d imports itself, and e has a fault.
-fn five_packages(alloc: Global) -> Result<Files, Fail> {
+fn five_packages(alloc: Global) -> Result<Graph, Fail> {
     let mut files = Files::new(alloc);
-    put(alloc, &mut files, "a/a.go", "package a\n\nimport \"b\"\n")?;
-    put(alloc, &mut files, "b/b.go", "package b\n")?;
-    put(alloc, &mut files, "b/c.txt", "package c\n")?;
-    put(
-        alloc,
-        &mut files,
-        "c/c.go",
-        "package c\n\nimport (\n\t\"a\"\n\t`b`\n\t\"z\"\n)\n",
-    )?;
-    put(alloc, &mut files, "c/d.go", "package c\n\nimport \"a\"\n")?;
-    put(alloc, &mut files, "d/d.go", "package d\n\nimport \"d\"\n")?;
-    put(alloc, &mut files, "e/e.go", "package e\n\n)\n")?;
-    Ok(files)
+    put_all(alloc, &mut files, FIVE_PACKAGES)?;
+    Ok(Graph::of(alloc, files)?)
 }
 
-fn is_fault_at(file: &FaultyFile, path: &str, offset: usize) -> bool {
-    file.path().as_str() == path
+/// The graph with some files put anew.
+fn after(alloc: Global, before: &Graph, rows: &str) -> Result<Graph, Fail> {
+    let mut files = before.files().copy()?;
+    put_all(alloc, &mut files, rows)?;
+    Ok(Graph::after(alloc, before, files)?)
+}
+
+fn are_numbered(rt: &impl Abort, graph: &Graph) {
+    holds(rt, graph.len() == 5);
+    holds(rt, graph.files().len() == 7);
+    holds(rt, graph.number_of(b"b") == Some(1));
+    holds(rt, graph.number_of(b"z").is_none());
+    holds(rt, graph.package(2).path.as_slice() == b"c".as_slice());
+    holds(rt, graph.package(2).trees.len() == 2);
+}
+
+fn is_fault_of_e(file: &FaultyFile) -> bool {
+    let fault = file.fault();
+    file.path().as_str() == "e/e.go"
         && file.text().len() == 13
-        && file.fault().offset == offset
-        && file.fault().kind == FaultKind::Syntax
+        && fault.offset == 11
+        && fault.kind == FaultKind::Syntax
 }
 
-fn has_one_fault(package: &Package) -> bool {
-    match package.faulty.first() {
-        Some(file) => package.faulty.len() == 1 && is_fault_at(file, "e/e.go", 11),
-        None => false,
-    }
+/// A file without a tree has its first fault.
+fn is_e(package: &Package) -> bool {
+    package.trees.is_empty()
+        && package.faulty.len() == 1
+        && package.faulty.iter().all(is_fault_of_e)
 }
 
-#[test]
-fn packages_are_numbered_by_their_paths(rt: HostRuntime) -> Result<(), Fail> {
-    let alloc = rt.alloc();
-    let graph = Graph::of(alloc, five_packages(alloc)?)?;
-    if graph.len() != 5 {
-        Err("not five packages")?;
-        return Ok(());
-    }
-    assert_eq!(rt; graph.files().len(), 7);
-    assert!(rt; graph.number_of(b"b".as_slice()) == Some(1));
-    assert!(rt; graph.number_of(b"z".as_slice()).is_none());
-    assert!(rt; graph.package(2).path.as_slice() == b"c".as_slice());
-    assert_eq!(rt;
-        (graph.package(2).trees.len(), graph.package(2).faulty.len()),
-        (2, 0)
-    );
-    assert!(rt; graph.package(4).trees.is_empty() && has_one_fault(graph.package(4)));
-    Ok(())
+fn import_each_other(rt: &impl Abort, graph: &Graph) {
+    holds(rt, graph.len() == 5);
+    holds(rt, graph.imports(2) == [0, 1].as_slice());
+    holds(rt, graph.imports(4).is_empty());
+    holds(rt, graph.importers(1) == [0, 2].as_slice());
+    holds(rt, graph.closure(2) == [0, 1, 2].as_slice());
+    holds(rt, is_e(graph.package(4)));
+}
+
+fn have_cycles(rt: &impl Abort, graph: &Graph) {
+    holds(rt, graph.len() == 5);
+    holds(rt, graph.cycle_of(2).is_none());
+    holds(rt, graph.cycle_of(3) == Some([3].as_slice()));
+    holds(rt, graph.order().len() == 4);
+    holds(rt, graph.links().len() == 5);
 }
 
 #[test]
-fn imports_are_those_of_the_files(rt: HostRuntime) -> Result<(), Fail> {
-    let alloc = rt.alloc();
-    let graph = Graph::of(alloc, five_packages(alloc)?)?.clone()?;
-    if graph.len() != 5 {
-        Err("not five packages")?;
-        return Ok(());
-    }
-    assert!(rt; graph.imports(2) == [0, 1].as_slice());
-    assert!(rt; graph.imports(4).is_empty());
-    assert!(rt; graph.importers(1) == [0, 2].as_slice());
-    assert!(rt; graph.closure(2) == [0, 1, 2].as_slice());
-    assert!(rt; graph.cycle_of(2).is_none());
-    match graph.cycle_of(3) {
-        Some(cycle) => assert!(rt; cycle == [3].as_slice()),
-        None => Err("no cycle")?,
-    }
-    assert_eq!(rt; graph.order().len(), 4);
-    assert_eq!(rt; graph.links().len(), 5);
+fn packages_and_their_imports(rt: HostRuntime) -> Result<(), Fail> {
+    let graph = five_packages(rt.alloc())?;
+    are_numbered(&rt, &graph);
+    import_each_other(&rt, &graph);
+    have_cycles(&rt, &graph);
     Ok(())
+}
+
+fn are_other_packages(rt: &impl Abort, graph: &Graph) {
+    holds(rt, graph.len() == 5);
+    holds(rt, graph.imports(1) == [0].as_slice());
+    holds(rt, graph.package(4).faulty.is_empty());
+    holds(rt, graph.cycle_of(0) == Some([0, 1].as_slice()));
 }
 
 #[test]
 fn a_graph_after_another_is_of_the_new_files(rt: HostRuntime) -> Result<(), Fail> {
-    let alloc = rt.alloc();
-    let mut files = five_packages(alloc)?;
-    let before = Graph::of(alloc, files.copy()?)?;
-    put(alloc, &mut files, "b/b.go", "package b\n\nimport \"a\"\n")?;
-    put(alloc, &mut files, "e/e.go", "package e\n")?;
-    let graph = Graph::after(alloc, &before, files.copy()?)?;
-    if graph.len() != 5 {
-        Err("not five packages")?;
-        return Ok(());
-    }
-    assert!(rt; graph.imports(1) == [0].as_slice());
-    assert!(rt; graph.package(4).faulty.is_empty());
-    match graph.cycle_of(0) {
-        Some(cycle) => assert!(rt; cycle == [0, 1].as_slice()),
-        None => Err("no cycle")?,
-    }
-    let again = Graph::after(alloc, &graph, files)?;
-    assert_eq!(rt; again.order().len(), graph.order().len());
+    let before = five_packages(rt.alloc())?;
+    let graph = after(rt.alloc(), &before, OTHER_TEXTS)?;
+    are_other_packages(&rt, &graph);
     Ok(())
 }
 
+/// What is asked of the links is the same where none changed.
 #[test]
-fn imports_are_read_in_order(rt: HostRuntime) -> Result<(), Fail> {
-    let alloc = rt.alloc();
-    let graph = Graph::of(alloc, five_packages(alloc)?)?;
-    if graph.len() != 5 {
-        Err("not five packages")?;
-        return Ok(());
+fn a_graph_after_one_of_the_same_files(rt: HostRuntime) -> Result<(), Fail> {
+    let before = five_packages(rt.alloc())?;
+    let graph = after(rt.alloc(), &before, "")?;
+    import_each_other(&rt, &graph);
+    Ok(())
+}
+
+/// How many imports the files of a package have.
+fn import_count(alloc: Global, package: &Package) -> Result<usize, Fail> {
+    let mut count = 0usize;
+    for tree in &package.trees {
+        count = count.saturating_add(read_imports(alloc, tree)?.len());
     }
-    match graph.package(2).trees.first() {
-        Some(tree) => assert_eq!(rt; read_imports(alloc, tree)?.len(), 3),
-        None => Err("no tree")?,
-    }
+    Ok(count)
+}
+
+#[test]
+fn imports_are_read_one_by_one(rt: HostRuntime) -> Result<(), Fail> {
+    let graph = five_packages(rt.alloc())?;
+    holds(&rt, graph.len() == 5);
+    holds(&rt, import_count(rt.alloc(), graph.package(2))? == 4);
     Ok(())
 }

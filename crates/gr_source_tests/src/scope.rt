@@ -1,98 +1,121 @@
-//! What names are bound to in small programs. In a text `@` stands before a use and `^` before the identifier that declares
-//! what the use means; without a `^` it means no declaration of the package.
-use crate::bound::{declared_at, path, tree, unmarked};
+//! What names are bound to in packages with faults, of which no session tells the uses. In a text `@` stands before a use and
+//! `^` before the identifier that declares what the use means; without a `^` it means no declaration of the package.
+use crate::assertion::holds;
+use crate::text::{file, path};
+use gr_parse::parse_file;
 use gr_scope::declare::declare;
+use gr_scope::named::name_imports;
+use gr_scope::table::ScopeTable;
 use gr_text::Place;
+use gr_tree::FileTree;
 use std::alloc::Global;
-use std::process::Abort;
 use std::test::Fail;
 
-fn check(rt: &impl Abort, alloc: Global, rows: &[&str]) -> Result<(), Fail> {
-    for row in rows {
-        let (text, used, declared) = unmarked(alloc, row)?;
-        let mut files = Vec::new(alloc);
-        files.push(tree(alloc, "a/a.go", text)?)?;
-        let table = declare(alloc, &files)?;
-        let place = Place {
-            path: path(alloc, "a/a.go")?,
-            offset: used.ok_or("no use")?,
-        };
-        assert_eq!(rt; declared_at(&table, &place), declared, "in {row}");
+/// A text without its marks, where the use begins in it, and where the declaration, if one is marked.
+#[derive(Drop)]
+struct Marked {
+    text: Vec<u8>,
+    used: usize,
+    declared: Option<usize>,
+}
+
+impl Marked {
+    fn read(&mut self, byte: u8) -> Result<(), Fail> {
+        match byte {
+            b'@' => self.used = self.text.len(),
+            b'^' => self.declared = Some(self.text.len()),
+            other => self.text.push(other)?,
+        }
+        Ok(())
+    }
+}
+
+fn unmarked(alloc: Global, row: &str) -> Result<Marked, Fail> {
+    let mut marked = Marked {
+        text: Vec::new(alloc),
+        used: 0,
+        declared: None,
+    };
+    for byte in row.as_bytes() {
+        marked.read(*byte)?;
+    }
+    Ok(marked)
+}
+
+fn tree(alloc: Global, text: &[u8]) -> Result<FileTree, Fail> {
+    let path = path(alloc, "a/a.go")?;
+    let text = file(alloc, text)?;
+    Ok(parse_file(alloc, &path, &text)?)
+}
+
+/// The one file of a package.
+fn files(alloc: Global, text: &[u8]) -> Result<Vec<FileTree>, Fail> {
+    let mut files = Vec::new(alloc);
+    files.push(tree(alloc, text)?)?;
+    Ok(files)
+}
+
+/// Where the identifier begins that declares what an identifier means, or None for none and for a predeclared name.
+fn declared_at(table: &ScopeTable<'_>, place: &Place) -> Option<usize> {
+    let declaration = table.resolve(place)?;
+    let identifier = table.identifiers().get(declaration)?;
+    if identifier.role.is_implied() {
+        return None;
+    }
+    let file = table.files().get(identifier.place.file)?;
+    Some(file.offset(identifier.place.index))
+}
+
+/// Whether what is used there in the one file is declared there.
+fn is_bound(
+    alloc: Global,
+    files: &[FileTree],
+    used: usize,
+    declared: Option<usize>,
+) -> Result<bool, Fail> {
+    let table = declare(alloc, files)?;
+    let place = Place {
+        path: path(alloc, "a/a.go")?,
+        offset: used,
+    };
+    Ok(declared_at(&table, &place) == declared)
+}
+
+fn is_right(alloc: Global, row: &str) -> Result<bool, Fail> {
+    let marked = unmarked(alloc, row)?;
+    let files = files(alloc, &marked.text)?;
+    is_bound(alloc, &files, marked.used, marked.declared)
+}
+
+const BINDINGS: &str = r#"package a$func f(^p int) { var p int; @p = 1 }$
+package a$var ^x int$var x int$func f() { print(@x) }$
+package a$var ^x int$var x int$func f() { @x = 1 }$
+package a$var x int$var @x int$
+package a$var ^int string$var x @int$
+package a$import q "b"$var ^q int$func f() { print(@q) }$
+package a$func f() { var x int = @x; print(x) }$
+package a$func init() { }$func f() { @init() }$
+package a$import @"b"$"#;
+
+#[test]
+fn bindings(rt: HostRuntime) -> Result<(), Fail> {
+    for row in BINDINGS.lines() {
+        assert!(rt; is_right(rt.alloc(), row)?, "{row}");
     }
     Ok(())
 }
 
-#[test]
-fn blocks(rt: HostRuntime) -> Result<(), Fail> {
-    let rows = [
-        "package a\nfunc f(^p int) { @p = 1 }\n",
-        "package a\nfunc f(^p int) { var p int; @p = 1 }\n",
-        "package a\nfunc f(^p int) { { var p int; p = 1 }; @p = 1 }\n",
-        "package a\nfunc f() { if ^x := 1; x > 0 { } else { print(@x) } }\n",
-        "package a\nfunc f() { if x := 1; x > 0 { ^x := 2; print(@x) } else { print(x) } }\n",
-        "package a\nfunc f() { for ^i := 0; i < 3; @i++ { i := 2; print(i) } }\n",
-        "package a\nfunc f() { for i := 0; i < 3; i++ { ^i := 2; print(@i) } }\n",
-        "package a\nvar ^x int\nfunc f() { if x := 1; x > 0 { }; print(@x) }\n",
-    ];
-    check(&rt, rt.alloc(), &rows)
+/// Whether no import declares a name where nothing is known of any package.
+fn gives_no_name(alloc: Global, files: &[FileTree]) -> Result<bool, Fail> {
+    let plain = declare(alloc, files)?;
+    let none: [Option<&[u8]>; 0] = [];
+    let table = name_imports(alloc, &plain, &none)?;
+    Ok((0..table.len()).all(|u| table.declares(u) == table.role(u).is_implied()))
 }
 
 #[test]
-fn short_declarations(rt: HostRuntime) -> Result<(), Fail> {
-    let rows = [
-        "package a\nfunc f() { var ^x int; { x := @x; print(x) } }\n",
-        "package a\nfunc f() { var x int; { ^x := x; print(@x) } }\n",
-        "package a\nfunc f() { var ^x int; @x, y := 1, 2; print(y) }\n",
-        "package a\nfunc f() { var ^x int; x, y := 1, 2; print(@x, y) }\n",
-        "package a\nfunc f() { var x int; { ^@x, y := 1, 2; print(x, y) } }\n",
-        "package a\nfunc f(^x int) { @x, y := 1, 2; print(y) }\n",
-        "package a\nfunc f() { var x int = @x; print(x) }\n",
-    ];
-    check(&rt, rt.alloc(), &rows)
-}
-
-#[test]
-fn package_level(rt: HostRuntime) -> Result<(), Fail> {
-    let rows = [
-        "package a\nfunc f() { print(@x) }\nvar ^x int\n",
-        "package a\nvar ^x int\nvar x int\nfunc f() { print(@x) }\n",
-        "package a\nvar ^x int\nvar x int\nfunc f() { @x = 1 }\n",
-        "package a\nvar x int\nvar @x int\n",
-        "package a\nimport ^q \"b\"\nfunc f() { print(@q.X) }\n",
-        "package a\nimport q \"b\"\nvar ^q int\nfunc f() { print(@q) }\n",
-        "package a\nfunc @init() { }\n",
-        "package a\nfunc init() { }\nfunc f() { @init() }\n",
-        "package a\nfunc f() { var x int; @_ = x }\n",
-        "package @a\n",
-        "package a\nvar x @int\n",
-        "package a\nvar ^int string\nvar x @int\n",
-        "package a\ntype T struct { @b int }\n",
-        "package a\nimport @\"b\"\n",
-    ];
-    check(&rt, rt.alloc(), &rows)
-}
-
-/// An import is seen in its own file alone; a package-level name in each.
-#[test]
-fn files(rt: HostRuntime) -> Result<(), Fail> {
-    let alloc = rt.alloc();
-    let (first, _, declared) = unmarked(alloc, "package a\nimport q \"b\"\nvar ^x q.T\n")?;
-    let (second, used, _) = unmarked(alloc, "package a\nfunc f() { print(@x) }\n")?;
-    let (third, unseen, _) = unmarked(alloc, "package a\nvar z @q.T\n")?;
-    let mut trees = Vec::new(alloc);
-    trees.push(tree(alloc, "a/a.go", first)?)?;
-    trees.push(tree(alloc, "a/b.go", second)?)?;
-    trees.push(tree(alloc, "a/c.go", third)?)?;
-    let table = declare(alloc, &trees)?;
-    let place = Place {
-        path: path(alloc, "a/c.go")?,
-        offset: unseen.ok_or("no use")?,
-    };
-    assert_eq!(rt; table.resolve(&place), None);
-    let seen = Place {
-        path: path(alloc, "a/b.go")?,
-        offset: used.ok_or("no use")?,
-    };
-    assert_eq!(rt; declared_at(&table, &seen), declared);
+fn an_unknown_package_gives_no_name(rt: HostRuntime) -> Result<(), Fail> {
+    let files = files(rt.alloc(), b"package a$import \"b/q\"$")?;
+    holds(&rt, gives_no_name(rt.alloc(), &files)?);
     Ok(())
 }

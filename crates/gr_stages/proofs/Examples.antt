@@ -1,7 +1,7 @@
 -- Examples of marks, computed: where a `break` is stray, and which `:=` there are.
 use Rattle.std.proofs.Common.{◌≡◌, false, List, [], ◌∷◌, refl}
 use Rattle.std.specs.Prelude.{Some, None}
-use Rattle.gr_parse.specs.Tree.{Item, ExprTree, Name, Number, Define, forever, clauses, StatementTree, If, For, Break, Continue, BlockTree, block, no_statement, statement, if_tree, no_else}
+use Rattle.gr_tree.specs.Tree.{Item, ExprTree, Name, Number, Define, forever, clauses, StatementTree, If, For, Break, Continue, BlockTree, block, no_statement, statement, if_tree, no_else}
 use Rattle.gr_text.specs.declared.fault_kind.FaultKind.TheVariants as kind
 use Rattle.gr_stages.specs.declared.states.ImportState.TheVariants as states
 use Rattle.gr_stages.specs.Imports.{import_fault}

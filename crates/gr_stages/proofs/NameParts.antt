@@ -2,7 +2,7 @@
 use Rattle.std.proofs.Common.{ℕ, zero, suc, ◌≡◌, ◌+◌, ◌<◌, inl, inr, true, List, [], ◌∷◌, ◌++◌, length, length-append, Option, None, ap, sym, ◌∙◌, refl, subst, arith}
 use Rattle.std.specs.Borrow.{Bor}
 use Rattle.std.proofs.lemmas.Bool.{cases_order}
-use Rattle.gr_parse.specs.SourceFile.{SourceFile}
+use Rattle.gr_tree.specs.SourceFile.{SourceFile}
 use Rattle.gr_scan.specs.StringValues.{HasStringValue}
 use Rattle.gr_scope.specs.Named.{is_unnamed_import, name_value, name_given}
 use Rattle.gr_stages.specs.Scoping.{Laid, IsPathOf}

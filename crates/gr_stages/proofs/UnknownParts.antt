@@ -13,7 +13,7 @@ use Rattle.gr_scan.specs.StringValues.{HasStringValue}
 use Rattle.gr_fault.specs.declared.fault.Fault.{Fault}
 use Rattle.gr_fault.specs.Listing.{Adds}
 use Rattle.gr_fault.proofs.Listings.{adds_none, call_adds}
-use Rattle.gr_parse.specs.SourceFile.{FileParts, SourceFile, source_of}
+use Rattle.gr_tree.specs.SourceFile.{FileParts, SourceFile, source_of}
 use Rattle.gr_scope.specs.Bindings.{IsBoundTo}
 use Rattle.gr_stages.specs.Files.{HasLiteral}
 use Rattle.gr_stages.specs.Scoping.{Laid, literal_of, IsPathOf, IsUnknown, is_exported, qualified_fault}

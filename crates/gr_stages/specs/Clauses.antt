@@ -3,7 +3,7 @@ use Rattle.std.specs.Prelude.{ℕ, ◌≡◌, ◌≢◌, List, [], ◌∷◌}
 use Rattle.gr_text.specs.declared.fault_kind.FaultKind.TheVariants as kind
 use Rattle.gr_fault.specs.declared.fault.Fault.{Fault}
 use Rattle.gr_fault.specs.Listing.{SomeOf}
-use Rattle.gr_parse.specs.SourceFile.{SourceFile}
+use Rattle.gr_tree.specs.SourceFile.{SourceFile}
 use Rattle.gr_stages.specs.Files.{Ranked, ranked, clause_name}
 
 -- the name in a file's clause is not that one

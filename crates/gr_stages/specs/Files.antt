@@ -5,8 +5,8 @@ use Rattle.gr_scan.specs.Cuts.{bytes_of}
 use Rattle.gr_scan.specs.CutText.{token_at}
 use Rattle.gr_scan.specs.StringValues.{HasStringValue}
 use Rattle.gr_scan.specs.TokenValues.{IsStringClass}
-use Rattle.gr_parse.specs.Tree.{Group, single, several, ImportTree, FileTree}
-use Rattle.gr_parse.specs.SourceFile.{SourceFile, spelling_of}
+use Rattle.gr_tree.specs.Tree.{Group, single, several, ImportTree, FileTree}
+use Rattle.gr_tree.specs.SourceFile.{SourceFile, spelling_of}
 
 -- a file with its rank
 abbrev pub Ranked : Type 0

@@ -5,8 +5,8 @@ use Rattle.gr_text.specs.declared.fault_kind.FaultKind.{FaultKind}
 use Rattle.gr_text.specs.declared.fault_kind.FaultKind.TheVariants as kind
 use Rattle.gr_fault.specs.declared.fault.Fault.{Fault}
 use Rattle.gr_fault.specs.Listing.{SomeOf}
-use Rattle.gr_parse.specs.Tree.{ImportTree}
-use Rattle.gr_parse.specs.SourceFile.{SourceFile}
+use Rattle.gr_tree.specs.Tree.{ImportTree}
+use Rattle.gr_tree.specs.SourceFile.{SourceFile}
 use Rattle.gr_stages.specs.declared.states.ImportState.{ImportState}
 use Rattle.gr_stages.specs.declared.states.ImportState.TheVariants.{Missing, OnCycle, Faulty, Good}
 use Rattle.gr_stages.specs.Files.{Ranked, ranked, imports_in, HasLiteral}

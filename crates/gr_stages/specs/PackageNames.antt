@@ -1,6 +1,6 @@
 -- What the packages that a package imports are called, and the table in which its imports without a name are called so.
 use Rattle.std.specs.Prelude.{ℕ, ◌≡◌, ◌<◌, true, List, Option, None}
-use Rattle.gr_parse.specs.SourceFile.{SourceFile}
+use Rattle.gr_tree.specs.SourceFile.{SourceFile}
 use Rattle.gr_scope.specs.Named.{is_unnamed_import, named}
 use Rattle.gr_scope.specs.Scoped.{ScopedPackage}
 use Rattle.gr_stages.specs.Scoping.{Laid, laid_in, IsPathOf}

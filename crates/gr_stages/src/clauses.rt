@@ -1,14 +1,14 @@
 //! The faults of package clauses.
 ghost use Rattle.std.specs.Prelude.{ℕ, List, ◌≡◌, ◌↔◌, IsTrue, OnOk, map};
 ghost use Rattle.gr_fault.specs.Listing.{Adds};
-ghost use Rattle.gr_parse.specs.SourceFile.{source_of};
+ghost use Rattle.gr_tree.specs.SourceFile.{source_of};
 ghost use Rattle.gr_stages.specs.Files.{clause_name};
 ghost use Rattle.gr_stages.specs.Clauses.{IsFaultOfClause, IsClauseFault};
 
 use crate::files::{clause_name, clause_token};
 use gr_fault::{Fault, push};
-use gr_parse::FileTree;
 use gr_text::FaultKind;
+use gr_tree::FileTree;
 use std::alloc::AllocError;
 
 /// Whether the name in a file's package clause is that one.

@@ -1,9 +1,9 @@
 //! What a package's files say of their names and imports.
 ghost use Rattle.std.specs.Prelude.{◌≡◌, ℕ, List, IfOk, MatchOption};
-ghost use Rattle.gr_parse.specs.SourceFile.{source_of};
+ghost use Rattle.gr_tree.specs.SourceFile.{source_of};
 ghost use Rattle.gr_stages.specs.Files.{clause_name, HasLiteral};
 
-use gr_parse::FileTree;
+use gr_tree::FileTree;
 use std::alloc::{AllocError, Global};
 
 /// What the string literal at a token stands for; none where no string literal stands there.
@@ -23,7 +23,7 @@ pub(crate) fn literal(
 }
 
 /// The token of the name in a file's package clause.
-#[tactic(auto, unfolding(gr_parse::specs::FileView::file_view))]
+#[tactic(auto, unfolding(gr_tree::specs::FileView::file_view))]
 pub(crate) fn clause_token(file: &FileTree) -> usize
     ensures { result ≡ (source_of file.now).tree.name }
 {

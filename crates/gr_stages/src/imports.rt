@@ -1,8 +1,8 @@
 //! The faults of imports.
 ghost use Rattle.std.specs.Prelude.{ℕ, List, ◌≡◌, OnOk, map};
 ghost use Rattle.gr_fault.specs.Listing.{Adds, AddsEach};
-ghost use Rattle.gr_parse.specs.FileView.{import_view, imports_view};
-ghost use Rattle.gr_parse.specs.SourceFile.{source_of};
+ghost use Rattle.gr_tree.specs.FileView.{import_view, imports_view};
+ghost use Rattle.gr_tree.specs.SourceFile.{source_of};
 ghost use Rattle.gr_stages.specs.Files.{group_items};
 ghost use Rattle.gr_stages.specs.States.{state_in};
 ghost use Rattle.gr_stages.specs.Imports.{IsFaultOfImport, IsFaultOfState, IsImportFault, placed_imports};
@@ -10,8 +10,8 @@ ghost use Rattle.gr_stages.specs.Imports.{IsFaultOfImport, IsFaultOfState, IsImp
 use crate::files::literal;
 use crate::states::{ImportState, ImportStates};
 use gr_fault::{Fault, push};
-use gr_parse::FileTree;
-use gr_parse::tree::{Group, ImportDecl, ImportSpec};
+use gr_tree::FileTree;
+use gr_tree::tree::{Group, ImportDecl, ImportSpec};
 use std::alloc::{AllocError, Global};
 
 /// Adds the fault of an import of a path of that state.

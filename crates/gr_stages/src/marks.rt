@@ -2,20 +2,20 @@
 //! `for`.
 ghost use Rattle.std.specs.Prelude.{ℕ, ◌≡◌, ◌↔◌, ◌∷◌, [], IsTrue, OnOk, map};
 ghost use Rattle.gr_fault.specs.Listing.{Adds, AddsEach};
-ghost use Rattle.gr_parse.specs.View.{expr_view, exprs_view, option_view};
-ghost use Rattle.gr_parse.specs.FileView.{simple_view, init_view, for_view, stmt_view, block_view, if_view, else_view, decl_view};
-ghost use Rattle.gr_parse.specs.SourceFile.{source_of};
+ghost use Rattle.gr_tree.specs.View.{expr_view, exprs_view, option_view};
+ghost use Rattle.gr_tree.specs.FileView.{simple_view, init_view, for_view, stmt_view, block_view, if_view, else_view, decl_view};
+ghost use Rattle.gr_tree.specs.SourceFile.{source_of};
 ghost use Rattle.gr_stages.specs.Scoping.{laid_in};
 ghost use Rattle.gr_stages.specs.Marks.{Defines, DeclaresName, SomeDeclares, IsFaultOfMark, IsFaultOfMarks, IsMarkFault, decl_marks, simple_marks, optional_marks, init_marks, for_marks, stray, statement_marks, block_marks, if_marks, else_marks};
 
 use crate::table::declares_at;
 use gr_fault::{Fault, push, push_if};
-use gr_parse::FileTree;
-use gr_parse::tree::{
-    Block, Decl, Else, Expr, ExprItem, ForHeader, IfInit, IfStmt, SimpleStmt, Stmt,
-};
 use gr_scope::table::ScopeTable;
 use gr_text::FaultKind;
+use gr_tree::FileTree;
+use gr_tree::tree::{
+    Block, Decl, Else, Expr, ExprItem, ForHeader, IfInit, IfStmt, SimpleStmt, Stmt,
+};
 use std::alloc::AllocError;
 
 /// A file of a package of which the identifiers are known.

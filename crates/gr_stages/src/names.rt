@@ -1,14 +1,14 @@
 //! The table of a package in which its imports without a name declare the names of the packages that they import.
 ghost use Rattle.std.specs.Prelude.{ℕ, List, Option, ◌≡◌, ◌<◌, true, IfOk, map};
-ghost use Rattle.gr_parse.specs.SourceFile.{source_of};
+ghost use Rattle.gr_tree.specs.SourceFile.{source_of};
 ghost use Rattle.gr_scope.specs.Named.{is_unnamed_import, name_value, name_given};
 ghost use Rattle.gr_stages.specs.Scoping.{laid_in};
 ghost use Rattle.gr_stages.specs.PackageNames.{IsPackageName, ArePackageNames, IsLaidOver};
 
 use crate::unknown::path_of;
-use gr_parse::FileTree;
 use gr_scope::named::name_imports;
 use gr_scope::table::ScopeTable;
+use gr_tree::FileTree;
 use std::alloc::{AllocError, Global};
 
 /// What packages are called.

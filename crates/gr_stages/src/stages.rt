@@ -3,7 +3,7 @@ ghost use Rattle.std.specs.Prelude.{ℕ, ◌≡◌, ◌↔◌, [], IsTrue, IfOk,
 ghost use Rattle.std.specs.List.Sorted.{IsStrictlySortedBy};
 ghost use Rattle.gr_fault.specs.contracts.fault.FaultOrd.TheImpl as order;
 ghost use Rattle.gr_fault.specs.Listing.{Lists};
-ghost use Rattle.gr_parse.specs.SourceFile.{source_of};
+ghost use Rattle.gr_tree.specs.SourceFile.{source_of};
 ghost use Rattle.gr_stages.specs.States.{state_in};
 ghost use Rattle.gr_stages.specs.Scoping.{laid_in};
 ghost use Rattle.gr_stages.specs.Stages.{IsOuterFault, IsOwnFault, IsInnerFault};
@@ -16,8 +16,8 @@ use crate::scoping::add_scopes;
 use crate::states::ImportStates;
 use crate::unknown::add_unknowns;
 use gr_fault::{Fault, sort};
-use gr_parse::FileTree;
 use gr_scope::table::ScopeTable;
+use gr_tree::FileTree;
 use std::alloc::{AllocError, Global};
 
 /// Whether no fault was found.

@@ -1,7 +1,7 @@
 //! The faults of names behind a package's: not exported, or not declared there.
 ghost use Rattle.std.specs.Prelude.{ℕ, List, ◌≡◌, ◌<◌, ◌↔◌, suc, IsTrue, IfOk, OnOk, MatchOption, map};
 ghost use Rattle.gr_fault.specs.Listing.{Adds};
-ghost use Rattle.gr_parse.specs.SourceFile.{source_of};
+ghost use Rattle.gr_tree.specs.SourceFile.{source_of};
 ghost use Rattle.gr_scope.specs.declared.model.Role.TheVariants.{NotLexical};
 ghost use Rattle.gr_scope.specs.declared.model.Purpose.TheVariants as purpose;
 ghost use Rattle.gr_stages.specs.Scoping.{laid_in, IsPathOf, IsUnknown, IsUnknownFault};
@@ -11,10 +11,10 @@ use crate::exports::{Exports, qualified_fault};
 use crate::files::literal;
 use crate::table::{binding, fault_at, is_import, literal_of};
 use gr_fault::{Fault, push};
-use gr_parse::FileTree;
 use gr_scope::model::{Purpose, Role};
 use gr_scope::table::ScopeTable;
 use gr_text::FaultKind;
+use gr_tree::FileTree;
 use std::alloc::{AllocError, Global};
 
 /// Whether a role is that of a name behind a dot.

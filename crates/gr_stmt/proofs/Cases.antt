@@ -1,8 +1,8 @@
 -- What the definitions are on the forms of expressions that the program does not tell apart.
 use Rattle.std.proofs.Common.{ℕ, ◌≡◌, refl, None}
-use Rattle.gr_parse.specs.View.{expr_view}
-use Rattle.gr_parse.specs.declared.tree.Expr.{Expr}
-use Rattle.gr_parse.specs.declared.tree.Expr.TheVariants as expr
+use Rattle.gr_tree.specs.View.{expr_view}
+use Rattle.gr_tree.specs.declared.tree.Expr.{Expr}
+use Rattle.gr_tree.specs.declared.tree.Expr.TheVariants as expr
 use Rattle.gr_expr.specs.Places.{place_of}
 use Rattle.gr_expr.specs.World.{World, Locals}
 use Rattle.gr_expr.specs.declared.meaning.Meaning.{Meaning}

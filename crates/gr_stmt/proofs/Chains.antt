@@ -1,11 +1,11 @@
 -- Chains, by the links before the last and the last.
 use Rattle.std.proofs.Common.{ℕ, ◌≡◌, Bool, true, false, ◌||◌, ◌&&◌, length, arith, List, [], ◌∷◌, ◌++◌, ap, sym, ◌∙◌, refl, if◌then◌else◌}
-use Rattle.gr_parse.specs.Tree.{ExprTree, Chain, LinkTrees, selector, index, call, no_link}
-use Rattle.gr_parse.specs.View.{expr_view, link_view, arguments_view}
-use Rattle.gr_parse.specs.declared.tree.Expr.{Expr}
-use Rattle.gr_parse.specs.declared.tree.Expr.TheVariants as expr
-use Rattle.gr_parse.specs.declared.tree.Link.{Link}
-use Rattle.gr_parse.specs.declared.tree.Link.TheVariants as link
+use Rattle.gr_tree.specs.Tree.{ExprTree, Chain, LinkTrees, selector, index, call, no_link}
+use Rattle.gr_tree.specs.View.{expr_view, link_view, arguments_view}
+use Rattle.gr_tree.specs.declared.tree.Expr.{Expr}
+use Rattle.gr_tree.specs.declared.tree.Expr.TheVariants as expr
+use Rattle.gr_tree.specs.declared.tree.Link.{Link}
+use Rattle.gr_tree.specs.declared.tree.Link.TheVariants as link
 use Rattle.gr_expr.specs.Places.{first_token, place_of, place_of_links, place_behind}
 use Rattle.gr_expr.specs.World.{World, Locals}
 use Rattle.gr_expr.specs.Judge.{Judged, judge, judge_link, judge_value, judge_links, judge_arguments, select, index_rule, call_rule, followed}

@@ -1,9 +1,9 @@
 -- What the definitions give on small statements and declarations, by computation.
 use Rattle.std.proofs.Common.{ℕ, ◌≡◌, ◌==◌, List, [], ◌∷◌, Option, Some, None, true, false, refl, if◌then◌else◌}
-use Rattle.gr_parse.specs.declared.syntax.StepOp.TheVariants as step
-use Rattle.gr_parse.specs.declared.syntax.UpdateOp.TheVariants as update
-use Rattle.gr_parse.specs.Tree.{Item, Named, Underscore, ExprTree, Number, Text, Name, Blank, Paren, Chain, selector, call, no_link, argument, no_argument, Alone, Step, Update, Assign, Define, ReceiverTree, FuncTree, no_result, block, no_statement, Integer, String, GlobalTree}
-use Rattle.gr_parse.specs.Tree.{Local as LocalType, Imported as ImportedType}
+use Rattle.gr_tree.specs.declared.syntax.StepOp.TheVariants as step
+use Rattle.gr_tree.specs.declared.syntax.UpdateOp.TheVariants as update
+use Rattle.gr_tree.specs.Tree.{Item, Named, Underscore, ExprTree, Number, Text, Name, Blank, Paren, Chain, selector, call, no_link, argument, no_argument, Alone, Step, Update, Assign, Define, ReceiverTree, FuncTree, no_result, block, no_statement, Integer, String, GlobalTree}
+use Rattle.gr_tree.specs.Tree.{Local as LocalType, Imported as ImportedType}
 use Rattle.gr_expr.specs.declared.types.Basic.TheVariants as basic
 use Rattle.gr_expr.specs.declared.types.Builtin.TheVariants as builtin
 use Rattle.gr_expr.specs.declared.symbol.Symbol.{Symbol}

@@ -1,6 +1,6 @@
 -- What is known behind a statement, from what its parts add.
 use Rattle.std.proofs.Common.{ℕ, ◌≡◌, List, [], ◌++◌, ap, sym, ◌∙◌, refl, subst, append_assoc, append-nil, map, Option}
-use Rattle.gr_parse.specs.Tree.{Item, IdentTree}
+use Rattle.gr_tree.specs.Tree.{Item, IdentTree}
 use Rattle.gr_expr.specs.declared.found.Found.{Found}
 use Rattle.gr_expr.specs.Types.{Meaning, PlainType}
 use Rattle.gr_expr.specs.World.{World, Locals}

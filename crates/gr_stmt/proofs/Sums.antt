@@ -1,12 +1,12 @@
 -- The definitions of several items, by the first and the others.
 use Rattle.std.proofs.Common.{ℕ, ◌≡◌, Bool, List, [], ◌∷◌, ◌++◌, ap, refl, map, Option}
-use Rattle.gr_parse.specs.View.{expr_view, exprs_view, list_view, type_view}
-use Rattle.gr_parse.specs.FileView.{field_view, decl_view}
-use Rattle.gr_parse.specs.declared.tree.Field.{Field}
-use Rattle.gr_parse.specs.declared.tree.Item.{Item}
-use Rattle.gr_parse.specs.declared.tree.Decl.{Decl}
-use Rattle.gr_parse.specs.declared.tree.TypeExpr.{TypeExpr}
-use Rattle.gr_parse.specs.declared.tree.ExprItem.{ExprItem}
+use Rattle.gr_tree.specs.View.{expr_view, exprs_view, list_view, type_view}
+use Rattle.gr_tree.specs.FileView.{field_view, decl_view}
+use Rattle.gr_tree.specs.declared.tree.Field.{Field}
+use Rattle.gr_tree.specs.declared.tree.Item.{Item}
+use Rattle.gr_tree.specs.declared.tree.Decl.{Decl}
+use Rattle.gr_tree.specs.declared.tree.TypeExpr.{TypeExpr}
+use Rattle.gr_tree.specs.declared.tree.ExprItem.{ExprItem}
 use Rattle.gr_expr.specs.Lists.{arguments_in}
 use Rattle.gr_expr.specs.Places.{place_of}
 use Rattle.gr_expr.specs.Types.{PlainType}

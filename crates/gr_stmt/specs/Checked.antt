@@ -1,6 +1,6 @@
 -- What is known after some statements or declarations, and how it grows from one to the next.
 use Rattle.std.specs.Prelude.{ℕ, Bool, if◌then◌else◌, List, [], ◌∷◌, ◌++◌}
-use Rattle.gr_parse.specs.Tree.{Item, Group, single, several}
+use Rattle.gr_tree.specs.Tree.{Item, Group, single, several}
 use Rattle.gr_expr.specs.World.{Locals}
 use Rattle.gr_expr.specs.Judge.{Judged, MemberUse}
 

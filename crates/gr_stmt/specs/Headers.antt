@@ -1,6 +1,6 @@
 -- Function headers: receivers, parameters and results, and whole functions.
 use Rattle.std.specs.Prelude.{ℕ, Bool, true, false, if◌then◌else◌, List, [], ◌∷◌, ◌++◌, Option, Some, None, is_none, ◌&&◌}
-use Rattle.gr_parse.specs.Tree.{Item, TypeTree, ReceiverTree, ParamTree, ResultTree, no_result, one_result, results, FuncTree}
+use Rattle.gr_tree.specs.Tree.{Item, TypeTree, ReceiverTree, ParamTree, ResultTree, no_result, one_result, results, FuncTree}
 use Rattle.gr_expr.specs.Types.{PlainType, Defined, Pointer, points}
 use Rattle.gr_expr.specs.World.{World}
 use Rattle.gr_expr.specs.Judge.{TypeJudged, good_type, no_type_at, named_type, judge_type, under}

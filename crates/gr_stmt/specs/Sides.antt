@@ -2,7 +2,7 @@
 -- the faults where the two do not go together.
 use Rattle.std.specs.Prelude.{ℕ, ◌==◌, Bool, true, false, ◌&&◌, if◌then◌else◌, List, [], ◌∷◌, ◌++◌, Option, Some, None, length, map}
 use Rattle.std.specs.List.{list_all}
-use Rattle.gr_parse.specs.Tree.{Item, IdentTree, Named, Underscore, ExprTree, Name, Blank}
+use Rattle.gr_tree.specs.Tree.{Item, IdentTree, Named, Underscore, ExprTree, Name, Blank}
 use Rattle.gr_expr.specs.Types.{PlainType, BasicType, Kind, Typed, Untyped, Nil, Meaning, Value, Results, Broken}
 use Rattle.gr_expr.specs.World.{World, Bound, Local, Locals, declared}
 use Rattle.gr_expr.specs.Places.{place_of, first_token}

@@ -1,10 +1,10 @@
 -- Simple statements, conditions, and declarations of locals.
 use Rattle.std.specs.Prelude.{ℕ, Bool, true, false, ◌||◌, if◌then◌else◌, List, [], ◌∷◌, ◌++◌, Option, Some, None, map}
-use Rattle.gr_parse.specs.declared.syntax.BinaryOp.{BinaryOp}
-use Rattle.gr_parse.specs.declared.syntax.BinaryOp.TheVariants as binary
-use Rattle.gr_parse.specs.declared.syntax.UpdateOp.{UpdateOp}
-use Rattle.gr_parse.specs.declared.syntax.UpdateOp.TheVariants as update
-use Rattle.gr_parse.specs.Tree.{Item, IdentTree, TypeTree, ExprTree, Chain, LinkTrees, no_link, selector, index, call, SimpleTree, Alone, Step, Update, Assign, Define, LocalTree}
+use Rattle.gr_tree.specs.declared.syntax.BinaryOp.{BinaryOp}
+use Rattle.gr_tree.specs.declared.syntax.BinaryOp.TheVariants as binary
+use Rattle.gr_tree.specs.declared.syntax.UpdateOp.{UpdateOp}
+use Rattle.gr_tree.specs.declared.syntax.UpdateOp.TheVariants as update
+use Rattle.gr_tree.specs.Tree.{Item, IdentTree, TypeTree, ExprTree, Chain, LinkTrees, no_link, selector, index, call, SimpleTree, Alone, Step, Update, Assign, Define, LocalTree}
 use Rattle.gr_expr.specs.Types.{PlainType, Kind, Meaning, Function, BuiltinName, Broken}
 use Rattle.gr_expr.specs.World.{World, Locals}
 use Rattle.gr_expr.specs.Operations.{operate, class_of, is_int, is_bool}

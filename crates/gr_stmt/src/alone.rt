@@ -1,7 +1,7 @@
 //! Expressions that are statements: calls.
 ghost use Rattle.std.specs.Prelude.{◌≡◌, ◌∷◌, ◌++◌, [], ◌&&◌, IfOk, OnOk};
-ghost use Rattle.gr_parse.specs.Tree.{Chain, no_link};
-ghost use Rattle.gr_parse.specs.View.{expr_view, link_view};
+ghost use Rattle.gr_tree.specs.Tree.{Chain, no_link};
+ghost use Rattle.gr_tree.specs.View.{expr_view, link_view};
 ghost use Rattle.gr_expr.specs.Lists.{links_in};
 ghost use Rattle.gr_expr.specs.Judge.{judge};
 ghost use Rattle.gr_expr.specs.Places.{place_of_links};
@@ -17,7 +17,7 @@ use gr_expr::meaning::Meaning;
 use gr_expr::places::{first_token, place_behind, place_of};
 use gr_expr::types::Builtin;
 use gr_expr::world::World;
-use gr_parse::tree::{Expr, Link};
+use gr_tree::tree::{Expr, Link};
 use std::alloc::{AllocError, Global};
 
 /// What an expression stands for, and whether it may stand as a statement.
@@ -43,7 +43,7 @@ fn may_stand(meaning: &Meaning<'_>) -> bool
 }
 
 /// Whether a link is a call.
-#[tactic(auto, unfolding(gr_parse::specs::View::link_view, crate::specs::Simple::ends_in_call))]
+#[tactic(auto, unfolding(gr_tree::specs::View::link_view, crate::specs::Simple::ends_in_call))]
 fn is_call(link: &Link) -> bool
     ensures { result ≡ ends_in_call (link_view link.now no_link) }
 {
@@ -114,7 +114,7 @@ fn judge_chain<'w>(
 }
 
 /// What an expression stands for, and whether it may stand as a statement.
-#[tactic(auto, unfolding(gr_parse::specs::View::expr_view, crate::specs::Simple::is_statement))]
+#[tactic(auto, unfolding(gr_tree::specs::View::expr_view, crate::specs::Simple::is_statement))]
 fn judge_alone<'w>(
     alloc: Global,
     scope: Scope<'w>,

@@ -1,6 +1,6 @@
 //! Whole files: all that is declared in one, in turn.
 ghost use Rattle.std.specs.Prelude.{◌≡◌, [], IfOk, OnOk};
-ghost use Rattle.gr_parse.specs.FileView.{decl_view, file_view};
+ghost use Rattle.gr_tree.specs.FileView.{decl_view, file_view};
 ghost use Rattle.gr_expr.specs.World.{no_locals};
 ghost use Rattle.gr_expr.specs.WorldView.{world_of};
 ghost use Rattle.gr_stmt.specs.Declarations.{check_decl, check_file};
@@ -10,7 +10,7 @@ use crate::checked::Checked;
 use gr_expr::found::Found;
 use gr_expr::locals::Locals;
 use gr_expr::world::World;
-use gr_parse::tree::{Decl, File};
+use gr_tree::tree::{Decl, File};
 use std::alloc::{AllocError, Global};
 
 /// Whether the name at a token is `init`.

@@ -1,7 +1,7 @@
 //! Function headers and whole functions.
 ghost use Rattle.std.specs.Prelude.{◌≡◌, IfOk, OnOk, map, option_map};
-ghost use Rattle.gr_parse.specs.View.{list_view, option_view, type_view};
-ghost use Rattle.gr_parse.specs.FileView.{receiver_view, param_view, results_view, func_view};
+ghost use Rattle.gr_tree.specs.View.{list_view, option_view, type_view};
+ghost use Rattle.gr_tree.specs.FileView.{receiver_view, param_view, results_view, func_view};
 ghost use Rattle.gr_expr.specs.View.{type_of};
 ghost use Rattle.gr_expr.specs.WorldView.{world_of};
 ghost use Rattle.gr_expr.specs.Found.{AddsType};
@@ -15,7 +15,7 @@ use crate::sides::{Target, note_if};
 use gr_expr::found::Found;
 use gr_expr::types::GoType;
 use gr_expr::world::World;
-use gr_parse::tree::{FuncDecl, Item, Param, Receiver, Results, TypeExpr};
+use gr_tree::tree::{FuncDecl, Item, Param, Receiver, Results, TypeExpr};
 use std::alloc::{AllocError, Global};
 
 /// Whether a receiver may be of that type: a definition whose underlying type is no pointer.
@@ -50,7 +50,7 @@ fn receiver_base(
 }
 
 /// The type of a receiver; none where it is broken.
-#[tactic(auto, unfolding(crate::specs::Headers::judge_receiver, gr_parse::specs::FileView::receiver_view, gr_expr::specs::View::type_of))]
+#[tactic(auto, unfolding(crate::specs::Headers::judge_receiver, gr_tree::specs::FileView::receiver_view, gr_expr::specs::View::type_of))]
 fn receiver_type(
     alloc: Global,
     world: &World<'_>,
@@ -105,7 +105,7 @@ fn results_of(
 }
 
 /// Whether a function is an `init` with parameters or results.
-#[tactic(auto, unfolding(crate::specs::Headers::is_bad_init, gr_parse::specs::FileView::func_view))]
+#[tactic(auto, unfolding(crate::specs::Headers::is_bad_init, gr_tree::specs::FileView::func_view))]
 fn is_bad_init(is_init: bool, func: &FuncDecl, results: &[Target]) -> bool
     ensures { result ≡ is_bad_init is_init (func_view func.now) (map target_of results.now) }
 {

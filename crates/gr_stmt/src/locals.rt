@@ -1,6 +1,6 @@
 //! The names that statements declare, and the types that these take.
 ghost use Rattle.std.specs.Prelude.{◌≡◌, [], length, IfOk, OnOk, map, option_map};
-ghost use Rattle.gr_parse.specs.View.{expr_view, exprs_view, list_view, ident_view};
+ghost use Rattle.gr_tree.specs.View.{expr_view, exprs_view, list_view, ident_view};
 ghost use Rattle.gr_expr.specs.View.{type_of, kind_of};
 ghost use Rattle.gr_expr.specs.WorldView.{world_of};
 ghost use Rattle.gr_expr.specs.Found.{locals_of, argued_of};
@@ -13,7 +13,7 @@ use gr_expr::meaning::Argued;
 use gr_expr::places::first_token;
 use gr_expr::types::{GoType, Kind};
 use gr_expr::world::{Bound, World};
-use gr_parse::tree::{Expr, ExprItem, Ident, Item};
+use gr_tree::tree::{Expr, ExprItem, Ident, Item};
 use std::alloc::{AllocError, Global};
 
 /// Whether a left name of `:=` declares: where it is bound to itself.
@@ -40,7 +40,7 @@ fn taken_type(alloc: Global, kind: &Option<Kind>) -> Result<Option<GoType>, Allo
 }
 
 /// The name that a left side of `:=` declares.
-#[tactic(auto, unfolding(crate::specs::Sides::defined_name, gr_parse::specs::View::expr_view))]
+#[tactic(auto, unfolding(crate::specs::Sides::defined_name, gr_tree::specs::View::expr_view))]
 fn defined_name(world: &World<'_>, expr: &Expr) -> Option<usize>
     ensures { result ≡ defined_name (world_of world.now) (expr_view expr.now) }
 {

@@ -1,7 +1,7 @@
 //! The two sides of assignments and declarations of locals.
 ghost use Rattle.std.specs.Prelude.{◌≡◌, ◌∷◌, [], IfOk, OnOk, map, option_map};
 ghost use Rattle.std.specs.List.{list_all};
-ghost use Rattle.gr_parse.specs.View.{expr_view, exprs_view};
+ghost use Rattle.gr_tree.specs.View.{expr_view, exprs_view};
 ghost use Rattle.gr_expr.specs.Judge.{judge, as_value, value_kind};
 ghost use Rattle.gr_expr.specs.Places.{place_of};
 ghost use Rattle.gr_expr.specs.View.{type_of, kind_of};
@@ -19,7 +19,7 @@ use gr_expr::meaning::{Argued, Meaning, all_whole};
 use gr_expr::places::place_of;
 use gr_expr::types::{GoType, Kind};
 use gr_expr::world::World;
-use gr_parse::tree::{Expr, ExprItem};
+use gr_tree::tree::{Expr, ExprItem};
 use std::alloc::{AllocError, Global};
 
 /// What a left side takes: a new name or `_` a value of any type, any other one that fits its own type, which is none

@@ -1,7 +1,7 @@
 //! Simple statements, conditions, and declarations of locals.
 ghost use Rattle.std.specs.Prelude.{◌≡◌, IfOk, OnOk, map, option_map};
-ghost use Rattle.gr_parse.specs.View.{expr_view, exprs_view, option_view, list_view, ident_view, type_view};
-ghost use Rattle.gr_parse.specs.FileView.{simple_view, local_view, values_view};
+ghost use Rattle.gr_tree.specs.View.{expr_view, exprs_view, option_view, list_view, ident_view, type_view};
+ghost use Rattle.gr_tree.specs.FileView.{simple_view, local_view, values_view};
 ghost use Rattle.gr_expr.specs.Judge.{value_kind, judge_type};
 ghost use Rattle.gr_expr.specs.View.{kind_of, type_of};
 ghost use Rattle.gr_expr.specs.WorldView.{world_of};
@@ -21,8 +21,8 @@ use gr_expr::judge::judge_value;
 use gr_expr::places::{first_token, place_of};
 use gr_expr::types::{GoType, Kind};
 use gr_expr::world::World;
-use gr_parse::syntax::{BinaryOp, UpdateOp};
-use gr_parse::tree::{Expr, ExprItem, Ident, Item, LocalSpec, SimpleStmt, TypeExpr, Values};
+use gr_tree::syntax::{BinaryOp, UpdateOp};
+use gr_tree::tree::{Expr, ExprItem, Ident, Item, LocalSpec, SimpleStmt, TypeExpr, Values};
 use std::alloc::{AllocError, Global};
 
 /// Notes a condition that is no bool.
@@ -277,7 +277,7 @@ impl Checked {
     }
 
     /// Checks a declaration of locals.
-    #[tactic(auto, unfolding(crate::specs::Simple::check_local, gr_parse::specs::FileView::local_view))]
+    #[tactic(auto, unfolding(crate::specs::Simple::check_local, gr_tree::specs::FileView::local_view))]
     pub(crate) fn check_local(
         &mut self,
         alloc: Global,

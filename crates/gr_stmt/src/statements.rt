@@ -1,7 +1,7 @@
 //! Statements and blocks.
 ghost use Rattle.std.specs.Prelude.{◌≡◌, OnOk, map};
-ghost use Rattle.gr_parse.specs.View.{expr_view, exprs_view, option_view, group_view};
-ghost use Rattle.gr_parse.specs.FileView.{simple_view, local_view, init_view, for_view, stmt_view, block_view, if_view, else_view};
+ghost use Rattle.gr_tree.specs.View.{expr_view, exprs_view, option_view, group_view};
+ghost use Rattle.gr_tree.specs.FileView.{simple_view, local_view, init_view, for_view, stmt_view, block_view, if_view, else_view};
 ghost use Rattle.gr_expr.specs.WorldView.{world_of};
 ghost use Rattle.gr_stmt.specs.Checked.{check_group};
 ghost use Rattle.gr_stmt.specs.Simple.{check_optional, check_optional_condition, check_local};
@@ -12,7 +12,7 @@ use crate::checked::Checked;
 use crate::sides::{Target, returned, rights};
 use gr_expr::found::Scope;
 use gr_expr::world::World;
-use gr_parse::tree::{
+use gr_tree::tree::{
     Block, Else, Expr, ExprItem, ForHeader, Group, IfInit, IfStmt, LocalSpec, SimpleStmt, Stmt,
 };
 use std::alloc::{AllocError, Global};
@@ -66,7 +66,7 @@ impl Checked {
     }
 
     /// Checks what stands before the condition of an `if`.
-    #[tactic(auto, unfolding(gr_parse::specs::FileView::init_view))]
+    #[tactic(auto, unfolding(gr_tree::specs::FileView::init_view))]
     fn check_init(
         &mut self,
         alloc: Global,

@@ -7,21 +7,22 @@ use Rattle.std.proofs.lemmas.Bool.{cases_lt, cases_eq}
 use Rattle.std.proofs.lemmas.List.{length-set}
 use Rattle.std.proofs.lemmas.Option.{same_Some, none-some, slice_get_within, slice_get_read}
 use Rattle.gr_scope.specs.WellFormed.{WellFormed}
-use Rattle.gr_parse.specs.Tree.{Item, FieldTree, BodyTree, Other, Struct}
+use Rattle.gr_tree.specs.Tree.{Item, FieldTree, BodyTree, Other, Struct}
 use Rattle.gr_expr.specs.declared.world.Definition.{Definition}
 use Rattle.gr_expr.specs.Types.{PlainType, Signature}
 use Rattle.gr_expr.specs.World.{Field, Method}
 use Rattle.gr_expr.specs.World as plain
 use Rattle.gr_expr.specs.WorldView.{definition_of}
-use Rattle.gr_types.specs.Package.{Package, PlacedType, PlacedFunction, package_types, package_functions, spelled}
-use Rattle.gr_types.specs.Written.{IsTypeOf}
-use Rattle.gr_types.specs.Definitions.{PlacedField, body_fields, fields_from, package_fields, IsCountingField, IsMethodOf, IsCountingMethod, IsField, IsSignature, IsMethod, IsUnderlyingOf}
-use Rattle.gr_types.specs.MembersView.{CountsAsField, IsMethodOn, CountsAsMethod, HaveDefinitions}
+use Rattle.gr_declared.specs.Package.{Package, PlacedType, PlacedFunction, package_types, package_functions, spelled}
+use Rattle.gr_declared.specs.Written.{IsTypeOf}
+use Rattle.gr_declared.specs.Definitions.{PlacedField, body_fields, fields_from, package_fields, IsCountingField, IsMethodOf, IsCountingMethod, IsField, IsSignature, IsMethod, IsUnderlyingOf}
+use Rattle.gr_members.specs.MembersView.{CountsAsField, IsMethodOn, CountsAsMethod}
+use Rattle.gr_meanings.specs.DefinitionsView.{HaveDefinitions}
 use Rattle.gr_types.specs.Building.{IsFieldBelow, IsMethodBelow, IsDefinitionBelow, HaveMembersBelow, SetsField, field_by, received_by_pointer, method_by, SetsMethodOf, ChangesAt, AddsField, typed, untyped}
-use Rattle.gr_types.proofs.ByteKeys.{cases_bytes}
-use Rattle.gr_types.proofs.Mentioning.{get_set_same, get_set_other}
-use Rattle.gr_types.proofs.Owning.{HasOwner}
-use Rattle.gr_types.proofs.MethodNames.{same_function, one_owner}
+use Rattle.gr_declared.proofs.ByteKeys.{cases_bytes}
+use Rattle.gr_declared.proofs.Mentioning.{get_set_same, get_set_other}
+use Rattle.gr_members.proofs.Owning.{HasOwner}
+use Rattle.gr_members.proofs.MethodNames.{same_function, one_owner}
 
 -- each field stands in a definition of the package
 

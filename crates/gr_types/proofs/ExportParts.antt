@@ -10,25 +10,25 @@ use Rattle.std.proofs.lemmas.Option.{slice_get_past, slice_get_within, same_Some
 use Rattle.gr_stages.proofs.UnknownParts.{source_at}
 use Rattle.gr_scope.specs.declared.model.Block.{Block}
 use Rattle.gr_scope.specs.declared.model.Block.TheVariants as block
-use Rattle.gr_parse.specs.SourceFile.{FileParts, source_of, offset_of}
+use Rattle.gr_tree.specs.SourceFile.{FileParts, source_of, offset_of}
 use Rattle.gr_scope.specs.Bindings.{Layout, Names, Counts, IsPackageLevel, Declares, IsBoundTo, block_of}
 use Rattle.gr_scope.specs.Site.{Site, found_site, sites_layout}
 use Rattle.gr_expr.specs.Types.{Meaning}
 use Rattle.gr_expr.specs.World.{Bound}
 use Rattle.gr_expr.specs.World.{Means as Stands}
-use Rattle.gr_types.specs.declared.interfaces.Export.{Export}
-use Rattle.gr_types.specs.Package as plain
+use Rattle.gr_declared.specs.declared.interfaces.Export.{Export}
+use Rattle.gr_declared.specs.Package as plain
 use Rattle.gr_expr.specs.declared.world.Definition.{Definition}
 use Rattle.gr_expr.specs.WorldView.{definition_or_none, no_definition}
-use Rattle.gr_types.specs.Package.{Package, PlacedType, package_types, symbol_in}
-use Rattle.gr_types.specs.Definitions.{IsDefinition}
-use Rattle.gr_types.specs.MembersView.{HaveDefinitions}
-use Rattle.gr_types.specs.Bound.{IsMeantBy}
-use Rattle.gr_types.specs.Bound as bound
-use Rattle.gr_types.specs.InterfacesView.{export_of, exports_at}
+use Rattle.gr_declared.specs.Package.{Package, PlacedType, package_types, symbol_in}
+use Rattle.gr_declared.specs.Definitions.{IsDefinition}
+use Rattle.gr_meanings.specs.DefinitionsView.{HaveDefinitions}
+use Rattle.gr_declared.specs.Bound.{IsMeantBy}
+use Rattle.gr_declared.specs.Bound as bound
+use Rattle.gr_declared.specs.InterfacesView.{export_of, exports_at}
 use Rattle.gr_types.specs.Interfaces.{IsSeen, IsPlacedAt, IsExportBy, IsExport, IsExported, IsGlobalMeaning, variable, type_name, function, IsGlobalFound, IsExportFound, IsExportBelow, AreExportsBelow}
-use Rattle.gr_types.proofs.BoundLists.{slice_get_some, none_past}
-use Rattle.gr_types.proofs.ByteKeys.{cases_bytes, others_stay}
+use Rattle.gr_meanings.proofs.BoundLists.{slice_get_some, none_past}
+use Rattle.gr_declared.proofs.ByteKeys.{cases_bytes, others_stay}
 
 -- whether a declaration counts
 

@@ -3,15 +3,15 @@ use Rattle.std.proofs.Common.{ℕ, suc, ◌≡◌, ◌⊎◌, ◌<◌, inl, inr,
 use Rattle.std.specs.Prelude.{Option, Some, None, slice_get, map}
 use Rattle.std.proofs.Math.Path.{ap₂}
 use Rattle.std.proofs.lemmas.Option.{none-some}
-use Rattle.gr_parse.specs.SourceFile.{SourceFile, FileParts, source_of}
+use Rattle.gr_tree.specs.SourceFile.{SourceFile, FileParts, source_of}
 use Rattle.gr_scope.specs.Named.{is_unnamed_import, named_sites, named_where}
 use Rattle.gr_scope.specs.Scoped.{ScopedPackage, scoped}
 use Rattle.gr_scope.specs.Site.{Site, found_site}
 use Rattle.gr_stages.specs.Scoping.{Laid, laid_in, IsPathOf}
 use Rattle.gr_stages.specs.PackageNames.{IsPackageName, IsLaidOver}
-use Rattle.gr_types.specs.Package.{Package, Interface}
-use Rattle.gr_types.specs.Check.{IsPackageOf, package_in}
-use Rattle.gr_types.proofs.ByteKeys.{cases_bytes}
+use Rattle.gr_declared.specs.Package.{Package, Interface}
+use Rattle.gr_meanings.specs.PackageOf.{IsPackageOf, package_in}
+use Rattle.gr_declared.proofs.ByteKeys.{cases_bytes}
 
 cases_names : (a b : Option (List ℕ)) → (a ≡ b) ⊎ (a ≡ b → ⊥)
 cases_names None None = inl refl

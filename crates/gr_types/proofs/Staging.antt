@@ -11,8 +11,8 @@ use Rattle.gr_fault.specs.Listing.{Lists}
 use Rattle.gr_fault.specs.Stage.{FirstOf}
 use Rattle.gr_fault.proofs.Stages.{first_listed}
 use Rattle.gr_types.specs.declared.checking.Checked.{Checked}
-use Rattle.gr_types.specs.Package.{Package}
-use Rattle.gr_types.specs.InterfacesView.{interface_of}
+use Rattle.gr_declared.specs.Package.{Package}
+use Rattle.gr_declared.specs.InterfacesView.{interface_of}
 use Rattle.gr_types.specs.Interfaces.{IsInterface}
 use Rattle.gr_types.specs.Check.{IsCheckedBy}
 

@@ -10,8 +10,8 @@ use Rattle.gr_text.specs.declared.fault_kind.FaultKind.TheVariants as kind
 use Rattle.gr_fault.specs.declared.fault.Fault.{Fault}
 use Rattle.gr_fault.specs.Listing.{Adds, Below, Lists}
 use Rattle.gr_fault.proofs.Listings.{adds_none, adds_as, adds_then, lists_from, make, fault_from}
-use Rattle.gr_parse.specs.Tree.{FileTree}
-use Rattle.gr_parse.specs.SourceFile.{FileParts, source_of}
+use Rattle.gr_tree.specs.Tree.{FileTree}
+use Rattle.gr_tree.specs.SourceFile.{FileParts, source_of}
 use Rattle.gr_expr.specs.declared.world.World.{World as FileWorld}
 use Rattle.gr_expr.specs.WorldView.{world_of}
 use Rattle.gr_stmt.specs.View.{is_init_in}
@@ -19,11 +19,13 @@ use Rattle.gr_expr.specs.declared.found.MemberUse.{MemberUse as FoundUse}
 use Rattle.gr_expr.specs.Judge.{MemberUse}
 use Rattle.gr_stmt.specs.Checked.{Checked}
 use Rattle.gr_stmt.specs.Declarations.{check_file}
-use Rattle.gr_types.specs.Package.{Package}
-use Rattle.gr_types.specs.Faults.{IsWorldOf, is_init, IsTypeFault}
-use Rattle.gr_types.specs.MemberUses.{AreUsesIn, AreMemberUsesBelow, AreMemberUses, uses_in, AddsUses, AddsFile}
-use Rattle.gr_types.specs.TypesView.{IsOneWorld, IsChecked, IsAtToken, IsTypeFaultIn}
-use Rattle.gr_types.proofs.Paths.{get_before, get_last}
+use Rattle.gr_declared.specs.Package.{Package}
+use Rattle.gr_meanings.specs.Worlds.{IsWorldOf, is_init}
+use Rattle.gr_types.specs.Faults.{IsTypeFault}
+use Rattle.gr_meanings.specs.MemberUses.{AreUsesIn, AreMemberUsesBelow, AreMemberUses, uses_in, AddsUses, AddsFile}
+use Rattle.gr_meanings.specs.Uniqueness.{IsOneWorld}
+use Rattle.gr_types.specs.TypesView.{IsChecked, IsAtToken, IsTypeFaultIn}
+use Rattle.gr_declared.proofs.Paths.{get_before, get_last}
 
 -- faults at tokens
 

@@ -7,14 +7,15 @@ use Rattle.gr_fault.specs.declared.fault.Fault.{Fault}
 use Rattle.gr_fault.specs.contracts.fault.FaultOrd.TheImpl as order
 use Rattle.gr_fault.specs.Listing.{Lists}
 use Rattle.gr_fault.specs.Stage.{HasNone, FirstOf}
-use Rattle.gr_parse.specs.SourceFile.{SourceFile, FileParts, source_of}
+use Rattle.gr_tree.specs.SourceFile.{SourceFile, FileParts, source_of}
 use Rattle.gr_stages.specs.declared.states.ImportState.{ImportState}
 use Rattle.gr_stages.specs.Clauses.{IsClauseFault}
 use Rattle.gr_stages.specs.Imports.{IsImportFault}
 use Rattle.gr_stages.specs.Stages.{IsOuterFault}
 use Rattle.gr_types.specs.declared.checking.Checked.{Checked}
-use Rattle.gr_types.specs.Package.{Package, Interface}
-use Rattle.gr_types.specs.Check.{IsPackageOf, IsPackageFault, IsLaterFault, IsCheckedBy, IsCheckedPackage, IsFoundIn, outside, inside}
+use Rattle.gr_declared.specs.Package.{Package, Interface}
+use Rattle.gr_meanings.specs.PackageOf.{IsPackageOf}
+use Rattle.gr_types.specs.Check.{IsPackageFault, IsLaterFault, IsCheckedBy, IsCheckedPackage, IsFoundIn, outside, inside}
 use Rattle.gr_types.proofs.OneLaid.{one_package}
 use Rattle.gr_types.proofs.Staging.{nothing_in, some_found, none_found, checked_same, after_both, ends_with, goes_on}
 

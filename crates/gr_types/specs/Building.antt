@@ -1,15 +1,15 @@
 -- The definitions of a package while their members are added, one rank after the other.
 use Rattle.std.specs.Prelude.{ℕ, ◌≡◌, ◌<◌, Bool, false, List, Option, Some, None, length, slice_get}
-use Rattle.gr_parse.specs.Tree.{ReceiverTree}
+use Rattle.gr_tree.specs.Tree.{ReceiverTree}
 use Rattle.gr_expr.specs.declared.world.Definition.{Definition}
 use Rattle.gr_expr.specs.Types.{PlainType, Signature}
 use Rattle.gr_expr.specs.World.{Field, Method}
 use Rattle.gr_expr.specs.World as plain
 use Rattle.gr_expr.specs.WorldView.{definition_of}
 use Rattle.gr_stages.specs.Scoping.{is_exported}
-use Rattle.gr_types.specs.Package.{Package, PlacedFunction, package_types, symbol_in, spelled}
-use Rattle.gr_types.specs.Written.{IsTypeOf}
-use Rattle.gr_types.specs.Definitions.{PlacedField, IsCountingField, IsCountingMethod, IsField, IsSignature, IsMethod, IsUnderlyingOf, is_on_pointer}
+use Rattle.gr_declared.specs.Package.{Package, PlacedFunction, package_types, symbol_in, spelled}
+use Rattle.gr_declared.specs.Written.{IsTypeOf}
+use Rattle.gr_declared.specs.Definitions.{PlacedField, IsCountingField, IsCountingMethod, IsField, IsSignature, IsMethod, IsUnderlyingOf, is_on_pointer}
 
 -- the field of a name, where only the fields below a rank were added
 abbrev pub IsFieldBelow : Package → (count definition : ℕ) → List ℕ → Option Field → Type 0

@@ -1,40 +1,21 @@
 -- All the faults of a package, and what is found when it is checked.
-use Rattle.std.specs.Prelude.{ℕ, ◌≡◌, Bool, List, [], Option, None, is_some, length, map, MatchOption}
+use Rattle.std.specs.Prelude.{ℕ, ◌≡◌, Bool, List, [], Option, None, is_some, map, MatchOption}
 use Rattle.std.specs.List.Sorted.{IsStrictlySortedBy}
 use Rattle.gr_fault.specs.declared.fault.Fault.{Fault}
 use Rattle.gr_fault.specs.contracts.fault.FaultOrd.TheImpl as order
 use Rattle.gr_fault.specs.Listing.{Lists}
 use Rattle.gr_fault.specs.Stage.{HasNone, FirstOf}
-use Rattle.gr_parse.specs.SourceFile.{SourceFile, FileParts, source_of}
-use Rattle.gr_scope.specs.Scoped.{ScopedPackage, scoped, layout_in, names_in}
+use Rattle.gr_tree.specs.SourceFile.{FileParts, source_of}
 use Rattle.gr_stages.specs.declared.states.ImportState.{ImportState}
-use Rattle.gr_stages.specs.PackageNames.{IsLaidOver}
 use Rattle.gr_stages.specs.Stages.{IsOuterFault, IsInnerFault, IsFaultIn}
 use Rattle.gr_types.specs.declared.checking.Checked.{Checked}
-use Rattle.gr_types.specs.Package.{Package, Interface, laid_of}
-use Rattle.gr_types.specs.InterfacesView.{interface_of}
+use Rattle.gr_declared.specs.Package.{Package, Interface, laid_of}
+use Rattle.gr_declared.specs.InterfacesView.{interface_of}
 use Rattle.gr_types.specs.Interfaces.{IsInterface}
-use Rattle.gr_types.specs.Members.{IsMemberFault}
+use Rattle.gr_members.specs.Members.{IsMemberFault}
 use Rattle.gr_types.specs.Faults.{IsTypeFault}
-use Rattle.gr_types.specs.MemberUses.{AreMemberUses, uses_in}
-
--- the package of a path and of files, with the identifiers of a table and with the interfaces of other packages
-abbrev pub package_in : (path : List ℕ) → List SourceFile → ScopedPackage → (List ℕ → Interface) → Package
-package_in path files table interface_of = record {
-  path = path;
-  files = files;
-  layout = layout_in table;
-  names = names_in table;
-  size = length table.sites;
-  interface_of = interface_of;
-}
-
--- The package that is checked, given the names of other packages, by their paths, and what it sees of them: in its table each
--- import without a name declares the name of the imported package. There is one such package at most.
-pub record IsPackageOf (path : List ℕ) (files : List FileParts) (name_of : List ℕ → Option (List ℕ)) (interface_of : List ℕ → Interface) (p : Package) : Type 0 where
-  pub laid : ScopedPackage
-  pub is_laid : IsLaidOver (map source_of files) name_of (scoped files) laid
-  pub is_package : p ≡ package_in path (map source_of files) laid interface_of
+use Rattle.gr_meanings.specs.MemberUses.{AreMemberUses, uses_in}
+use Rattle.gr_meanings.specs.PackageOf.{IsPackageOf}
 
 -- whether the package of a path exports a name
 abbrev pub exports_in : Package → (path name : List ℕ) → Bool

@@ -1,53 +1,12 @@
--- The faults of a package in all stages, and what a file of it is judged by.
-use Rattle.std.specs.Prelude.{ℕ, suc, ◌≡◌, ◌==◌, Bool, Some, slice_get, Contains}
-use Rattle.std.specs.Cmp.Lexicographic.{pointwise}
+-- The faults of types of a package.
+use Rattle.std.specs.Prelude.{◌≡◌, Some, slice_get, Contains}
 use Rattle.gr_text.specs.declared.fault_kind.FaultKind.TheVariants as kind
 use Rattle.gr_fault.specs.declared.fault.Fault.{Fault}
-use Rattle.gr_parse.specs.SourceFile.{SourceFile, spelling_of}
-use Rattle.gr_scope.specs.declared.model.Role.TheVariants.{NotLexical}
-use Rattle.gr_scope.specs.declared.model.Purpose.TheVariants as purpose
-use Rattle.gr_scope.specs.Table.{IsFoundAt}
-use Rattle.gr_stages.specs.Scoping.{init_name}
-use Rattle.gr_expr.specs.declared.symbol.Symbol.{Symbol}
-use Rattle.gr_expr.specs.Types.{PlainType, Broken}
-use Rattle.gr_expr.specs.World.{World, Bound, Definition, member_by}
-use Rattle.gr_expr.specs.World.{Means as Stands}
+use Rattle.gr_tree.specs.SourceFile.{SourceFile}
+use Rattle.gr_expr.specs.World.{World}
 use Rattle.gr_stmt.specs.Declarations.{check_file}
-use Rattle.gr_types.specs.Package.{Package, Export}
-use Rattle.gr_types.specs.Written.{BindsToken, IsExportAt}
-use Rattle.gr_types.specs.Bound.{IsMeantBy}
-use Rattle.gr_types.specs.Definitions.{AreDefinitions}
-
--- the name at a token stands behind the name of an imported package, which exports it so
-pub record IsSelected (p : Package) (file token : ℕ) (e : Export) : Type 0 where
-  pub before : ℕ
-  pub behind_dot : token ≡ suc (suc before)
-  pub identifier : ℕ
-  pub found : IsFoundAt p.layout p.size (record { file = file; index = token }) identifier
-  pub selected : p.layout.role identifier ≡ NotLexical purpose.Selected
-  pub exported : IsExportAt p file before token e
-
--- what the name at a token is bound to
-pub data IsBoundAt (p : Package) (file token : ℕ) : Bound → Type 0 where
-  by_scope : {declaration : ℕ} {b : Bound} → BindsToken p file token declaration → IsMeantBy p declaration b → IsBoundAt p file token b
-  by_package : {e : Export} → IsSelected p file token e → IsBoundAt p file token (Stands e.meaning)
-
--- what the name at a token is bound to; one that is bound to nothing means Broken
-pub data IsName (p : Package) (file token : ℕ) : Bound → Type 0 where
-  is_bound : {b : Bound} → IsBoundAt p file token b → IsName p file token b
-  is_unbound : ((b : Bound) → IsBoundAt p file token b → ⊥) → IsName p file token (Stands Broken)
-
--- what a file of a package is judged by; there is one at most
-pub record IsWorldOf (p : Package) (file : ℕ) (s : SourceFile) (w : World) : Type 0 where
-  pub names : (token : ℕ) → IsName p file token (w.bound token)
-  pub definitions : Symbol → Definition
-  pub are_definitions : AreDefinitions p definitions
-  pub member : (token : ℕ) (t : PlainType) → w.member token t ≡ member_by definitions p.path (spelling_of s token) t
-  pub definition : (symbol : Symbol) → w.definition symbol ≡ (definitions symbol).underlying
-
--- whether the name at a token is `init`
-abbrev pub is_init : SourceFile → ℕ → Bool
-is_init s token = pointwise ◌==◌ (spelling_of s token) init_name
+use Rattle.gr_declared.specs.Package.{Package}
+use Rattle.gr_meanings.specs.Worlds.{IsWorldOf, is_init}
 
 -- a fault of types in some file
 pub record IsTypeFault (p : Package) (f : Fault) : Type 0 where

@@ -1,6 +1,6 @@
 -- What other packages see of one.
 use Rattle.std.specs.Prelude.{ℕ, ◌≡◌, ◌<◌, true, List, Option, Some, None, slice_get, MatchOption}
-use Rattle.gr_parse.specs.SourceFile.{SourceFile, offset_of}
+use Rattle.gr_tree.specs.SourceFile.{SourceFile, offset_of}
 use Rattle.gr_scope.specs.Bindings.{Counts, IsPackageLevel}
 use Rattle.gr_expr.specs.Types.{PlainType, Typed, Signature, Meaning, Value, TypeName, Function}
 use Rattle.gr_expr.specs.World.{Bound}
@@ -8,9 +8,9 @@ use Rattle.gr_expr.specs.World.{Means as Stands}
 use Rattle.gr_expr.specs.WorldView.{no_definition}
 use Rattle.gr_stages.specs.Clauses.{package_name}
 use Rattle.gr_stages.specs.Scoping.{is_exported}
-use Rattle.gr_types.specs.Package.{Package, Interface, Export, PlacedType, package_types, symbol_in}
-use Rattle.gr_types.specs.Bound.{IsMeantBy}
-use Rattle.gr_types.specs.Definitions.{IsDefinition}
+use Rattle.gr_declared.specs.Package.{Package, Interface, Export, PlacedType, package_types, symbol_in}
+use Rattle.gr_declared.specs.Bound.{IsMeantBy}
+use Rattle.gr_declared.specs.Definitions.{IsDefinition}
 
 -- the declaration d of the package's block is seen in other packages
 pub record IsSeen (p : Package) (d : ℕ) : Type 0 where

@@ -2,27 +2,13 @@
 use Rattle.std.specs.Prelude.{ℕ, ◌≡◌, List, Some, slice_get, Contains}
 use Rattle.gr_text.specs.declared.fault_kind.FaultKind.TheVariants as kind
 use Rattle.gr_fault.specs.declared.fault.Fault.{Fault}
-use Rattle.gr_parse.specs.Flatten.{flatten}
-use Rattle.gr_parse.specs.SourceFile.{SourceFile}
-use Rattle.gr_scope.specs.Trees.{AreRising}
-use Rattle.gr_expr.specs.World.{World, Bound}
+use Rattle.gr_tree.specs.SourceFile.{SourceFile}
+use Rattle.gr_expr.specs.World.{World}
 use Rattle.gr_stmt.specs.Checked.{Checked}
 use Rattle.gr_stmt.specs.Declarations.{check_file}
-use Rattle.gr_types.specs.Package.{Package}
-use Rattle.gr_types.specs.Bound.{IsMeantBy}
-use Rattle.gr_types.specs.Faults.{IsWorldOf, is_init, IsTypeFault}
-
--- the tokens of each tree are numbered in their order
-abbrev pub AreInOrder : List SourceFile → Type 0
-AreInOrder files = (file : ℕ) (s : SourceFile) → slice_get files file ≡ Some s → AreRising 0 (flatten s.tree)
-
--- a declaration means one thing at most
-abbrev pub IsOneMeaning : Package → Type 0
-IsOneMeaning p = (d : ℕ) (b c : Bound) → IsMeantBy p d b → IsMeantBy p d c → b ≡ c
-
--- a file is judged by one world at most
-abbrev pub IsOneWorld : Package → Type 0
-IsOneWorld p = (file : ℕ) (s : SourceFile) (v w : World) → IsWorldOf p file s v → IsWorldOf p file s w → v ≡ w
+use Rattle.gr_declared.specs.Package.{Package}
+use Rattle.gr_meanings.specs.Worlds.{IsWorldOf, is_init}
+use Rattle.gr_types.specs.Faults.{IsTypeFault}
 
 -- what is found in a file
 pub record IsChecked (p : Package) (file : ℕ) (c : Checked) : Type 0 where

@@ -2,41 +2,39 @@
 ghost use Rattle.std.specs.Prelude.{ℕ, List, Option, None, ◌≡◌, map, IfOk};
 ghost use Rattle.std.specs.List.Sorted.{IsStrictlySortedBy};
 ghost use Rattle.gr_fault.specs.contracts.fault.FaultOrd.TheImpl as order;
-ghost use Rattle.gr_parse.specs.SourceFile.{FileParts, source_of};
+ghost use Rattle.gr_tree.specs.SourceFile.{FileParts, source_of};
 ghost use Rattle.gr_scope.specs.Scoped.{scoped};
 ghost use Rattle.gr_stages.specs.PackageNames.{IsLaidOver};
-ghost use Rattle.gr_types.specs.Package.{Package as Plain, Interface as Exported};
-ghost use Rattle.gr_types.specs.InterfacesView.{name_in, interface_in};
+ghost use Rattle.gr_declared.specs.Package.{Package as Plain, Interface as Exported};
+ghost use Rattle.gr_declared.specs.InterfacesView.{name_in, interface_in};
+ghost use Rattle.gr_fault.specs.Listing.{Lists};
 ghost use Rattle.gr_fault.specs.Stage.{FirstOf};
 ghost use Rattle.gr_stages.specs.States.{state_in};
-ghost use Rattle.gr_types.specs.Broken.{AreBroken};
-ghost use Rattle.gr_types.specs.Members.{IsMemberFault};
-ghost use Rattle.gr_types.specs.MembersView.{HaveDefinitions};
+ghost use Rattle.gr_declared.specs.Broken.{AreBroken};
+ghost use Rattle.gr_members.specs.Members.{IsMemberFault};
+ghost use Rattle.gr_meanings.specs.DefinitionsView.{HaveDefinitions};
 ghost use Rattle.gr_types.specs.Faults.{IsTypeFault};
-ghost use Rattle.gr_types.specs.Check.{package_in, IsPackageOf, IsCheckedBy, IsCheckedPackage, IsLaterFault, IsFoundIn};
-ghost use Rattle.gr_types.specs.PackageView.{package_of, IsIndexOf};
+ghost use Rattle.gr_meanings.specs.PackageOf.{package_in, IsPackageOf};
+ghost use Rattle.gr_types.specs.Check.{IsCheckedBy, IsCheckedPackage, IsLaterFault, IsFoundIn};
+ghost use Rattle.gr_members.specs.Found.{AreMembers};
+ghost use Rattle.gr_meanings.specs.BoundsView.{AreBounds};
+ghost use Rattle.gr_meanings.specs.MemberUses.{AreMemberUses, uses_in};
+ghost use Rattle.gr_declared.specs.PackageView.{package_of, IsIndexOf};
 
-use crate::bounds::bounds_of;
-use crate::broken::broken_definitions;
 use crate::definitions::definitions;
 use crate::exporting::interface;
-use crate::field_marks::counting_fields;
-use crate::interfaces::{Interface, Interfaces};
-use crate::members::member_faults;
-use crate::method_marks::counting_methods;
-use crate::methods::owners;
-use crate::struct_fields::fields;
-use crate::type_faults::type_faults;
-use crate::underlying::underlying_types;
-use crate::unit::{Index, Package};
+use crate::type_faults::{Typed, type_faults};
+use gr_declared::{Index, Interface, Interfaces, Package, broken_definitions};
 use gr_expr::found::MemberUse;
 use gr_expr::symbol::SharedPath;
 use gr_expr::world::Definition;
 use gr_fault::Fault;
-use gr_parse::FileTree;
+use gr_meanings::{Bounds, bounds_of};
+use gr_members::{Members, member_faults};
 use gr_scope::declare::declare;
 use gr_scope::table::ScopeTable;
 use gr_stages::{inner_faults, lay_names, outer_faults};
+use gr_tree::FileTree;
 use std::alloc::{AllocError, Global};
 
 /// What is found in a package: its faults by file and token; where it has none, its interface, and for each file by its rank
@@ -62,6 +60,32 @@ impl Checked {
     }
 }
 
+/// What is found in a package whose files were judged.
+fn judged(
+    alloc: Global,
+    unit: Package<'_>,
+    bounds: &Bounds,
+    definitions: Vec<Definition>,
+    typed: Typed,
+) -> Result<Checked, AllocError>
+    requires bounds { AreBounds (package_of unit) bounds.now.list.items bounds.now.of.items }
+    requires definitions { HaveDefinitions (package_of unit) definitions.items }
+    requires listed { Lists (IsTypeFault (package_of unit)) typed.faults.items }
+    requires order { IsStrictlySortedBy order.ghosts.cmp typed.faults.items }
+    requires members { AreMemberUses (package_of unit) (map uses_in typed.members.items) }
+    ensures { IfOk result (λ c. IsCheckedBy (IsTypeFault (package_of unit.entry)) (package_of unit.entry) c) }
+{
+    if !typed.faults.is_empty() {
+        return Ok(Checked::faulty(alloc, typed.faults));
+    }
+    let interface = interface(alloc, unit, bounds, definitions)?;
+    Ok(Checked {
+        faults: typed.faults,
+        interface: Some(interface),
+        members: typed.members,
+    })
+}
+
 /// The last stage: the faults of types.
 fn check_types(
     alloc: Global,
@@ -77,52 +101,50 @@ fn check_types(
 {
     let mut bounds = bounds_of(alloc, unit, index, broken)?;
     let typed = type_faults(alloc, unit, index, &mut bounds, &definitions)?;
-    if !typed.faults.is_empty() {
-        return Ok(Checked::faulty(alloc, typed.faults));
-    }
-    let interface = interface(alloc, unit, &bounds, definitions)?;
-    Ok(Checked {
-        faults: typed.faults,
-        interface: Some(interface),
-        members: typed.members,
-    })
+    judged(alloc, unit, &bounds, definitions, typed)
 }
 
-/// The last two stages: the faults of members, and without one those of types.
-fn check_definitions(alloc: Global, unit: Package<'_>) -> Result<Checked, AllocError>
+/// The last stage, of a package of which the members are known.
+fn check_definitions(
+    alloc: Global,
+    unit: Package<'_>,
+    index: &Index<'_>,
+    members: &Members<'_>,
+) -> Result<Checked, AllocError>
+    requires index { IsIndexOf (package_of unit) index.now }
+    requires members { AreMembers (package_of unit) members.now }
+    ensures { IfOk result (λ c. IsCheckedBy (IsTypeFault (package_of unit.entry)) (package_of unit.entry) c) }
+{
+    let broken = broken_definitions(alloc, unit, index)?;
+    let definitions = definitions(alloc, unit, index, &broken, members)?;
+    check_types(alloc, unit, index, &broken, definitions)
+}
+
+/// The last two stages, of a package of which the members are known.
+fn check_known(
+    alloc: Global,
+    unit: Package<'_>,
+    index: &Index<'_>,
+    members: &Members<'_>,
+) -> Result<Checked, AllocError>
+    requires index { IsIndexOf (package_of unit) index.now }
+    requires members { AreMembers (package_of unit) members.now }
     ensures { IfOk result (λ c. IsCheckedBy (FirstOf (IsMemberFault (package_of unit.entry)) (IsTypeFault (package_of unit.entry))) (package_of unit.entry) c) }
 {
-    let index = Index::of(alloc, unit)?;
-    let broken = broken_definitions(alloc, unit, &index)?;
-    let underlying = underlying_types(alloc, unit, &index)?;
-    let fields = fields(alloc, unit, &index)?;
-    let own_fields = counting_fields(alloc, unit, &fields)?;
-    let owners = owners(alloc, unit, &index)?;
-    let own_methods = counting_methods(alloc, unit, &index, &fields, &owners, &underlying)?;
-    let faults = member_faults(
-        alloc,
-        unit,
-        &index,
-        &fields,
-        &own_fields,
-        &owners,
-        &own_methods,
-    )?;
+    let faults = member_faults(alloc, unit, index, members)?;
     if !faults.is_empty() {
         return Ok(Checked::faulty(alloc, faults));
     }
-    let definitions = definitions(
-        alloc,
-        unit,
-        &index,
-        &broken,
-        &underlying,
-        &fields,
-        &own_fields,
-        &owners,
-        &own_methods,
-    )?;
-    check_types(alloc, unit, &index, &broken, definitions)
+    check_definitions(alloc, unit, index, members)
+}
+
+/// The last two stages: the faults of members, and without one those of types.
+fn check_members(alloc: Global, unit: Package<'_>) -> Result<Checked, AllocError>
+    ensures { IfOk result (λ c. IsCheckedBy (FirstOf (IsMemberFault (package_of unit.entry)) (IsTypeFault (package_of unit.entry))) (package_of unit.entry) c) }
+{
+    let index = Index::of(alloc, unit)?;
+    let members = Members::of(alloc, unit, &index)?;
+    check_known(alloc, unit, &index, &members)
 }
 
 /// The stages behind those of clauses and imports.
@@ -133,7 +155,7 @@ fn check_package(alloc: Global, unit: Package<'_>) -> Result<Checked, AllocError
     if !faults.is_empty() {
         return Ok(Checked::faulty(alloc, faults));
     }
-    check_definitions(alloc, unit)
+    check_members(alloc, unit)
 }
 
 /// The table of a package in which each import without a name declares the name of the imported package.

@@ -2,24 +2,23 @@
 ghost use Rattle.std.specs.Prelude.{◌≡◌, ◌<◌, length, map, option_map, IfOk, OnOk};
 ghost use Rattle.gr_expr.specs.View.{type_of};
 ghost use Rattle.gr_expr.specs.WorldView.{definition_of, field_of as plain_field, method_of as plain_method, underlying_of};
-ghost use Rattle.gr_types.specs.Package.{package_functions, spelled};
-ghost use Rattle.gr_types.specs.Definitions.{IsUnderlyingOf, package_fields};
-ghost use Rattle.gr_types.specs.DeclaredView.{function_of};
-ghost use Rattle.gr_types.specs.FieldsView.{field_of};
-ghost use Rattle.gr_types.specs.Broken.{AreBroken};
+ghost use Rattle.gr_declared.specs.Package.{package_functions, spelled};
+ghost use Rattle.gr_declared.specs.Definitions.{IsUnderlyingOf, package_fields};
+ghost use Rattle.gr_declared.specs.DeclaredView.{function_of};
+ghost use Rattle.gr_members.specs.FieldsView.{field_of};
+ghost use Rattle.gr_declared.specs.Broken.{AreBroken};
 ghost use Rattle.gr_types.specs.Building.{IsDefinitionBelow, HaveMembersBelow, SetsField, SetsMethod, SetsMethodOf, AddsField, field_by, received_by_pointer};
-ghost use Rattle.gr_types.specs.MembersView.{IsUnderlyingFound, AreUnderlying, AreCountingFields, AreOwners, AreCountingMethods, HaveDefinitions};
-ghost use Rattle.gr_types.specs.PackageView.{package_of, IsIndexOf};
+ghost use Rattle.gr_members.specs.MembersView.{IsUnderlyingFound, AreUnderlying, AreCountingFields, AreOwners, AreCountingMethods};
+ghost use Rattle.gr_meanings.specs.DefinitionsView.{HaveDefinitions};
+ghost use Rattle.gr_members.specs.Found.{AreMembers};
+ghost use Rattle.gr_declared.specs.PackageView.{package_of, IsIndexOf};
 
-use crate::declared::Function;
-use crate::signatures::signature;
-use crate::struct_fields::FieldDef;
-use crate::underlying::{copy, own_struct};
-use crate::unit::{Index, Package};
-use crate::whole_types::whole_type;
+use gr_declared::{Function, Index, Package};
 use gr_expr::symbol::Symbol;
 use gr_expr::types::GoType;
 use gr_expr::world::{Definition, Field, Method, Underlying};
+use gr_meanings::{signature, whole_type};
+use gr_members::{FieldDef, Members, copy, own_struct};
 use gr_stages::is_exported;
 use std::alloc::{AllocError, Global};
 use std::collections::BTreeMap;
@@ -159,7 +158,7 @@ fn add_fields(
 }
 
 /// Whether a method is declared on a pointer.
-#[tactic(auto, unfolding(gr_parse::specs::FileView::func_view, gr_parse::specs::FileView::receiver_view))]
+#[tactic(auto, unfolding(gr_tree::specs::FileView::func_view, gr_tree::specs::FileView::receiver_view))]
 fn is_on_pointer(function: Function<'_>) -> bool
     ensures { result ≡ received_by_pointer (function_of function.entry).function.receiver }
 {
@@ -182,7 +181,7 @@ fn insert_method(
 }
 
 /// Sets a method of a definition, by what is written.
-#[tactic(auto, unfolding(gr_parse::specs::FileView::func_view))]
+#[tactic(auto, unfolding(gr_tree::specs::FileView::func_view))]
 fn set_method(
     alloc: Global,
     unit: Package<'_>,
@@ -251,30 +250,24 @@ pub fn definitions(
     unit: Package<'_>,
     index: &Index<'_>,
     broken: &[bool],
-    underlying: &[Option<Underlying>],
-    fields: &[FieldDef<'_>],
-    counting_fields: &[bool],
-    owners: &[Option<usize>],
-    counting_methods: &[bool],
+    members: &Members<'_>,
 ) -> Result<Vec<Definition>, AllocError>
     requires index { IsIndexOf (package_of unit) index.now }
     requires broken { AreBroken (package_of unit) broken.now }
-    requires underlying { AreUnderlying (package_of unit) underlying.now }
-    requires fields { map field_of fields.now ≡ package_fields (package_of unit) }
-    requires counting_fields { AreCountingFields (package_of unit) counting_fields.now }
-    requires owners { AreOwners (package_of unit) owners.now }
-    requires counting_methods { AreCountingMethods (package_of unit) counting_methods.now }
+    requires members { AreMembers (package_of unit) members.now }
     ensures { IfOk result (λ found. HaveDefinitions (package_of unit.entry) found.items) }
 {
-    let mut found = bare_definitions(alloc, unit, underlying)?;
+    let fields = &members.fields;
+    let methods = &members.methods;
+    let mut found = bare_definitions(alloc, unit, &members.underlying)?;
     add_fields(
         alloc,
         unit,
         index,
         broken,
         &mut found,
-        fields,
-        counting_fields,
+        &fields.all,
+        &fields.counting,
     )?;
     add_methods(
         alloc,
@@ -282,8 +275,8 @@ pub fn definitions(
         index,
         broken,
         &mut found,
-        owners,
-        counting_methods,
+        &methods.owners,
+        &methods.counting,
     )?;
     Ok(found)
 }

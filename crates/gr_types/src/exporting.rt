@@ -1,23 +1,21 @@
 //! The interface of a package: what other packages see of it.
 ghost use Rattle.std.specs.Prelude.{◌≡◌, ◌+◌, ◌<◌, ◌↔◌, None, length, map, slice_index_or, option_copied, option_map, IsTrue, IfOk, OnOk};
-ghost use Rattle.gr_parse.specs.SourceFile.{source_of};
+ghost use Rattle.gr_tree.specs.SourceFile.{source_of};
 ghost use Rattle.gr_scope.specs.Bindings.{Counts};
 ghost use Rattle.gr_scope.specs.Scoped.{layout_in, names_in};
 ghost use Rattle.gr_expr.specs.WorldView.{bound_of, bound_at};
 ghost use Rattle.gr_stages.specs.Clauses.{package_name};
-ghost use Rattle.gr_types.specs.InterfacesView.{export_of, exports_at, meaning_of, interface_of};
+ghost use Rattle.gr_declared.specs.InterfacesView.{export_of, exports_at, meaning_of, interface_of};
 ghost use Rattle.gr_types.specs.Interfaces.{IsSeen, IsGlobalFound, IsExportFound, AreExportsBelow, IsExportedOnce, IsInterface};
-ghost use Rattle.gr_types.specs.Bound.{IsMeantBy};
-ghost use Rattle.gr_types.specs.BoundsView.{AreBounds};
-ghost use Rattle.gr_types.specs.TypesView.{IsOneMeaning};
-ghost use Rattle.gr_types.specs.MembersView.{HaveDefinitions};
-ghost use Rattle.gr_types.specs.PackageView.{package_of};
+ghost use Rattle.gr_declared.specs.Bound.{IsMeantBy};
+ghost use Rattle.gr_meanings.specs.BoundsView.{AreBounds};
+ghost use Rattle.gr_meanings.specs.Uniqueness.{IsOneMeaning};
+ghost use Rattle.gr_meanings.specs.DefinitionsView.{HaveDefinitions};
+ghost use Rattle.gr_declared.specs.PackageView.{package_of};
 
-use crate::bounds::Bounds;
-use crate::copies::copy_signature;
-use crate::interfaces::{Export, ExportMeaning, Interface, PackageScope};
-use crate::unit::Package;
+use gr_declared::{Export, ExportMeaning, Interface, Package, PackageScope};
 use gr_expr::world::{Bound, Definition};
+use gr_meanings::{Bounds, copy_signature, one_meaning};
 use gr_scope::model::Block;
 use gr_scope::table::ScopeTable;
 use gr_stages::is_exported;
@@ -25,7 +23,7 @@ use std::alloc::{AllocError, Global};
 use std::collections::BTreeMap;
 
 /// What a declaration of the package's block is in other packages, by what it means.
-#[tactic(auto, unfolding(gr_expr::specs::WorldView::bound_of, crate::specs::InterfacesView::meaning_of))]
+#[tactic(auto, unfolding(gr_expr::specs::WorldView::bound_of, gr_declared::specs::InterfacesView::meaning_of))]
 fn global_meaning(alloc: Global, bound: &Bound) -> Result<Option<ExportMeaning>, AllocError>
     ensures { IfOk result (λ m. IsGlobalFound (bound_of bound.now) (option_map meaning_of m)) }
 {
@@ -160,7 +158,7 @@ fn exports(
 }
 
 /// The name in the clause of a package's first file.
-#[tactic(auto, unfolding(gr_parse::specs::FileView::file_view))]
+#[tactic(auto, unfolding(gr_tree::specs::FileView::file_view))]
 fn package_name(alloc: Global, unit: Package<'_>) -> Result<Vec<u8>, AllocError>
     ensures { IfOk result (λ name. name.items ≡ package_name (map source_of unit.entry.files.now)) }
 {
@@ -181,7 +179,7 @@ pub fn interface(
     requires definitions { HaveDefinitions (package_of unit) definitions.items }
     ensures { IfOk result (λ i. IsInterface (package_of unit.entry) (interface_of unit.entry.path.now i)) }
 {
-    unit.one_meaning();
+    one_meaning(unit);
     let name = package_name(alloc, unit)?;
     let exported = exports(alloc, unit, bounds)?;
     Ok(Interface {
@@ -190,11 +188,9 @@ pub fn interface(
     })
 }
 
-impl Package<'_> {
-    /// A package exports one thing under a name at most.
-    pub fn exports_once(self)
-        ensures { IsExportedOnce (package_of self.entry) }
-    {
-        self.one_meaning();
-    }
+/// A package exports one thing under a name at most.
+pub fn exports_once(unit: Package<'_>)
+    ensures { IsExportedOnce (package_of unit.entry) }
+{
+    one_meaning(unit);
 }

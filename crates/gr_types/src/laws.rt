@@ -1,11 +1,11 @@
 //! The laws of what Types name.
 ghost use Rattle.std.specs.Prelude.{◌≡◌, ℕ};
 ghost use Rattle.gr_scope.specs.WellFormed.{WellFormed};
-ghost use Rattle.gr_parse.specs.Tree.{TypeTree};
+ghost use Rattle.gr_tree.specs.Tree.{TypeTree};
 ghost use Rattle.gr_expr.specs.Types.{PlainType, Underlying};
-ghost use Rattle.gr_types.specs.Package.{Package};
-ghost use Rattle.gr_types.specs.Written.{Names};
-ghost use Rattle.gr_types.specs.Definitions.{HasUnderlying};
+ghost use Rattle.gr_declared.specs.Package.{Package};
+ghost use Rattle.gr_declared.specs.Written.{Names};
+ghost use Rattle.gr_declared.specs.Definitions.{HasUnderlying};
 
 /// A Type names at most one type.
 pub fn types_are_named_once()

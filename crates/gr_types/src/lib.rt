@@ -1,53 +1,14 @@
 //! The check of a package: all its faults, and where it has none, what other packages see of it and its uses of members.
 #![tactic(auto)]
 
-mod bounds;
-mod broken;
-mod by_token;
 mod checking;
-mod copies;
-mod declared;
 mod definitions;
 mod exporting;
-mod field_marks;
-mod interfaces;
 pub mod laws;
-mod member_names;
-mod members;
-mod method_marks;
-mod methods;
-mod names;
-mod peeling;
-mod predeclared;
-mod ranks;
-mod recursion;
-mod signatures;
-mod spread;
-mod struct_fields;
 mod type_faults;
-mod underlying;
-mod uniqueness;
-mod unit;
-mod whole_types;
 mod worlds;
-mod written;
 
-pub use bounds::{Bounds, bounds_of};
-pub use broken::broken_definitions;
-pub use by_token::{ByToken, identifiers_by_token};
 pub use checking::{Checked, check, packages_are_unique};
-pub use declared::{Declared, Function, TypeDef, Variable};
-pub use exporting::is_seen;
-pub use field_marks::counting_fields;
-pub use interfaces::{Export, ExportMeaning, Interface, Interfaces, PackageScope};
-pub use members::member_faults;
-pub use method_marks::counting_methods;
-pub use methods::owners;
-pub use names::file_names;
-pub use ranks::Ranks;
-pub use recursion::recursive_definitions;
-pub use struct_fields::{FieldDef, fields};
+pub use exporting::{exports_once, is_seen};
 pub use type_faults::Typed;
-pub use underlying::underlying_types;
-pub use unit::{Index, Package};
 pub use worlds::file_world;

@@ -4,21 +4,21 @@ ghost use Rattle.std.specs.List.Sorted.{IsStrictlySortedBy};
 ghost use Rattle.gr_fault.specs.contracts.fault.FaultOrd.TheImpl as order;
 ghost use Rattle.gr_fault.specs.Listing.{Adds, Lists};
 ghost use Rattle.gr_stmt.specs.View.{checked_of};
-ghost use Rattle.gr_types.specs.BoundsView.{AreBounds};
-ghost use Rattle.gr_types.specs.MembersView.{HaveDefinitions};
+ghost use Rattle.gr_meanings.specs.BoundsView.{AreBounds};
+ghost use Rattle.gr_meanings.specs.DefinitionsView.{HaveDefinitions};
 ghost use Rattle.gr_types.specs.Faults.{IsTypeFault};
-ghost use Rattle.gr_types.specs.MemberUses.{AddsUses, AddsFile, AreMemberUses, uses_in};
-ghost use Rattle.gr_types.specs.NamesView.{AreNames};
-ghost use Rattle.gr_types.specs.TypesView.{IsOneWorld, IsChecked, IsAtToken, IsTypeFaultIn};
-ghost use Rattle.gr_types.specs.PackageView.{package_of, IsIndexOf};
+ghost use Rattle.gr_meanings.specs.MemberUses.{AddsUses, AddsFile, AreMemberUses, uses_in};
+ghost use Rattle.gr_meanings.specs.NamesView.{AreNames};
+ghost use Rattle.gr_meanings.specs.Uniqueness.{IsOneWorld};
+ghost use Rattle.gr_types.specs.TypesView.{IsChecked, IsAtToken, IsTypeFaultIn};
+ghost use Rattle.gr_declared.specs.PackageView.{package_of, IsIndexOf};
 
-use crate::bounds::Bounds;
-use crate::names::file_names;
-use crate::unit::{Index, Package};
 use crate::worlds::file_world;
+use gr_declared::{Index, Package};
 use gr_expr::found::{Found, MemberUse};
 use gr_expr::world::{Bound, Definition, Name};
 use gr_fault::{Fault, push, sort};
+use gr_meanings::{Bounds, file_names, one_world};
 use gr_stmt::{Checked, check_file};
 use gr_text::FaultKind;
 use std::alloc::{AllocError, Global};
@@ -139,7 +139,7 @@ pub fn type_faults(
     ensures members { IfOk result (λ t. AreMemberUses (package_of unit.entry) (map uses_in t.members.items)) }
     ensures bounds { OnOk result (AreBounds (package_of unit.entry) bounds.new.list.items bounds.new.of.items) }
 {
-    unit.one_world();
+    one_world(unit);
     let mut typed = Typed {
         faults: Vec::new(alloc),
         members: Vec::new(alloc),

@@ -1,14 +1,14 @@
 //! What a file of a package is judged by.
 ghost use Rattle.std.specs.Prelude.{◌≡◌, Some, slice_get};
-ghost use Rattle.gr_parse.specs.SourceFile.{SourceFile};
+ghost use Rattle.gr_tree.specs.SourceFile.{SourceFile};
 ghost use Rattle.gr_expr.specs.WorldView.{world_of};
 ghost use Rattle.gr_stmt.specs.View.{is_init_in};
-ghost use Rattle.gr_types.specs.MembersView.{HaveDefinitions};
-ghost use Rattle.gr_types.specs.Faults.{IsWorldOf, is_init};
-ghost use Rattle.gr_types.specs.NamesView.{AreNames};
-ghost use Rattle.gr_types.specs.PackageView.{package_of};
+ghost use Rattle.gr_meanings.specs.DefinitionsView.{HaveDefinitions};
+ghost use Rattle.gr_meanings.specs.Worlds.{IsWorldOf, is_init};
+ghost use Rattle.gr_meanings.specs.NamesView.{AreNames};
+ghost use Rattle.gr_declared.specs.PackageView.{package_of};
 
-use crate::unit::Package;
+use gr_declared::Package;
 use gr_expr::world::{Bound, Definition, Name, World};
 
 /// What a file is judged by.

@@ -1,5 +1,5 @@
 -- What is found in packages, one package further.
-use Rattle.std.proofs.Common.{ℕ, zero, suc, ◌≡◌, ◌+◌, ◌<◌, ◌⊎◌, inl, inr, Bool, true, false, List, [], ◌∷◌, ◌++◌, length, take, map, get_or, refl, sym, ap, subst, ◌∙◌, arith, MatchOption}
+use Rattle.std.proofs.Common.{ℕ, zero, suc, ◌≡◌, ◌+◌, ◌<◌, ◌⊎◌, inl, inr, true, false, List, [], ◌∷◌, ◌++◌, length, take, map, get_or, refl, sym, ap, subst, ◌∙◌, arith, MatchOption}
 use Rattle.std.specs.Prelude.{Contains, Option, Some, None, slice_get, option_map}
 use Rattle.std.specs.Global.{Vec}
 use Rattle.std.proofs.Math.ListN.{set}
@@ -11,30 +11,24 @@ use Rattle.gr_text.specs.Workspace.{Workspace}
 use Rattle.gr_text.specs.Packages.{package_paths}
 use Rattle.gr_expr.specs.declared.found.MemberUse.{MemberUse}
 use Rattle.gr_graph.proofs.Asked.{number}
-use Rattle.gr_graph.proofs.PackagePaths.{paths_sorted, one_number}
-use Rattle.gr_stages.specs.States.{state_in}
-use Rattle.gr_types.specs.Package.{Interface}
-use Rattle.gr_types.specs.InterfacesView.{name_in, interface_in, interface_of, KnowsSame}
-use Rattle.gr_types.specs.declared.interfaces.Interface.{Interface as FoundInterface}
-use Rattle.gr_types.specs.declared.interfaces.Interfaces.{Interfaces}
-use Rattle.gr_types.proofs.ByteKeys.{cases_bytes}
+use Rattle.gr_declared.specs.InterfacesView.{name_in, interface_in, interface_of, KnowsSame}
+use Rattle.gr_declared.specs.declared.interfaces.Interface.{Interface as FoundInterface}
+use Rattle.gr_declared.specs.declared.interfaces.Interfaces.{Interfaces}
+use Rattle.gr_declared.proofs.ByteKeys.{cases_bytes}
 use Rattle.gr_verdict.specs.declared.fault.FileFault.{FileFault}
 use Rattle.gr_verdict.specs.declared.finding.Finding.{Finding}
 use Rattle.gr_verdict.specs.declared.judging.Judged.{Judged}
 use Rattle.gr_verdict.specs.declared.findings.Findings.{Findings}
-use Rattle.gr_verdict.specs.Verdicts.{BuildsOn, Verdict, Verdicts, IsFaultBy, HasInterface, IsVerdictBy, IsVerdict, follows}
+use Rattle.gr_verdict.specs.Verdicts.{BuildsOn, Verdicts, IsFaultBy, HasInterface, IsVerdictBy}
 use Rattle.gr_verdict.specs.FaultLists.{AreListed}
-use Rattle.gr_verdict.specs.Laws.{IsSameVerdict}
 use Rattle.gr_verdict.specs.Found.{is_unknown, known_by, AreWhole, AreUsesOf, IsFinding, AreFindings}
-use Rattle.gr_verdict.specs.Steps.{IsBuildOrder, IsJudged, MayAdd, Judges, AreJudged}
+use Rattle.gr_verdict.specs.Steps.{IsBuildOrder, IsJudged, MayAdd, Learns, Judges, AreJudged}
 use Rattle.gr_verdict.proofs.Alike.{KnowsAlike, alike_back, package_as, fault_as}
 use Rattle.gr_verdict.proofs.Closed.{to_package, not_on_itself}
+use Rattle.gr_verdict.proofs.Knowing.{same_known, verdict_alike, another, learnt_next}
 use Rattle.gr_verdict.proofs.Members.{nothing_in, some_in}
 
 -- one package
-
-same_known : (all more : Interfaces) → more ≡ all → (q : List ℕ) → KnowsSame all more q
-same_known all more e q = record { interface = ap (λ i. interface_in i q) e; name = ap (λ i. name_in i q) e; state = ap (λ (i : Interfaces). state_in i.states q) e }
 
 elsewhere_by : (all more : Interfaces) (p : List ℕ) (o : Option FoundInterface) → MayAdd all more p o → (q : List ℕ) → (q ≡ p → ⊥) → KnowsSame all more q
 elsewhere_by all more p None e q ne = same_known all more e q
@@ -65,11 +59,9 @@ verdict_found w known p faults (Some i) all more fresh listed found s =
       has_interface = λ e. subst (HasInterface w known p) (sym s.has_interface) found.1;
     }
 
-pub judges_by : (w : Workspace) (p : List ℕ) (n : ℕ) (old new : List Finding) (all more : Interfaces) (j : Judged) (f : Finding) → name_in all p ≡ None → AreWhole all → IsJudged w (known_by all) p j → MayAdd all more p j.interface →
-    f.path ≡ p → f.faults ≡ j.faults → f.members ≡ j.members → new ≡ set old n f → Judges w p n old new all more
-judges_by w p n old new all more j f fresh whole h may path faults members is = record {
-  finding = f;
-  is_set = is;
+pub learns_by : (w : Workspace) (p : List ℕ) (all more : Interfaces) (j : Judged) (f : Finding) → name_in all p ≡ None → AreWhole all → IsJudged w (known_by all) p j → MayAdd all more p j.interface →
+    f.path ≡ p → f.faults ≡ j.faults → f.members ≡ j.members → Learns w p f all more
+learns_by w p all more j f fresh whole h may path faults members = record {
   is_finding = record {
     has_path = path;
     listed = subst (λ (v : Vec FileFault). AreListed (IsFaultBy w (known_by all) p) v.items) (sym faults) h.listed;
@@ -105,16 +97,7 @@ same_mapped f xs i a ys e at = stays_mapped f xs i a (subst (λ l. slice_get l i
 
 -- one package further
 
-verdict_alike : (all more : Interfaces) (q : List ℕ) → KnowsSame all more q → IsSameVerdict (known_by all q) (known_by more q)
-verdict_alike all more q same = record { faulty = sym (ap is_unknown same.name); interface = λ e. sym same.interface }
-
-abbrev verdict_of : Bool → Interface → Verdict
-verdict_of faulty interface = record { faulty = faulty; interface = interface }
-
-verdict_same : (all more : Interfaces) (q : List ℕ) → KnowsSame all more q → known_by all q ≡ known_by more q
-verdict_same all more q same = ap₂ verdict_of (sym (ap is_unknown same.name)) (sym same.interface)
-
-finding_as : (w : Workspace) (p : List ℕ) (a b : Verdicts) → KnowsAlike w p a b → (f : Finding) → IsFinding w a p f → IsFinding w b p f
+pub finding_as : (w : Workspace) (p : List ℕ) (a b : Verdicts) → KnowsAlike w p a b → (f : Finding) → IsFinding w a p f → IsFinding w b p f
 finding_as w p a b same f h = record {
   has_path = h.has_path;
   listed = record {
@@ -131,18 +114,13 @@ IsClosedList w xs = (m : ℕ) (r q : List ℕ) → Contains xs m → slice_get (
 module _ (w : Workspace) (xs ys : List ℕ) (n : ℕ) (p : List ℕ) (at : slice_get (package_paths w) n ≡ Some p) (more_in : (m : ℕ) → Contains ys m → Contains xs m ⊎ (n ≡ m)) (keeps : (m : ℕ) → Contains xs m → Contains ys m)
     (here : Contains ys n) (new_one : Contains xs n → ⊥) (closed : IsClosedList w xs) (below : (q : List ℕ) → BuildsOn w p q → (k : ℕ) × (Contains xs k × (slice_get (package_paths w) k ≡ Some q)))
     (old new : List Finding) (all more : Interfaces) (h : AreJudged w xs old all) (j : Judges w p n old new all more) where
-  -- a package that was judged is another
-  another : (m : ℕ) (r : List ℕ) → Contains xs m → slice_get (package_paths w) m ≡ Some r → r ≡ p → ⊥
-  another m r c at_m e =
-      new_one (subst (Contains xs) (one_number (package_paths w) (paths_sorted w) m n p (at_m ∙ ap Some e) at) c)
-
   alike_own : KnowsAlike w p (known_by all) (known_by more)
-  alike_own q on = verdict_alike all more q (j.elsewhere q (not_on_itself w p q on))
+  alike_own q on = verdict_alike all more q (j.learns.elsewhere q (not_on_itself w p q on))
 
   alike_before : (m : ℕ) (r : List ℕ) → Contains xs m → slice_get (package_paths w) m ≡ Some r → KnowsAlike w r (known_by all) (known_by more)
   alike_before m r c at_m q on =
       let k = closed m r q c at_m on in
-      verdict_alike all more q (j.elsewhere q (another k.0 q k.1.0 k.1.1))
+      verdict_alike all more q (j.learns.elsewhere q (another w (Contains xs) n p at new_one k.0 q k.1.0 k.1.1))
 
   found_next : (m : ℕ) (r : List ℕ) (f : Finding) → Contains ys m → slice_get (package_paths w) m ≡ Some r → slice_get new m ≡ Some f → IsFinding w (known_by more) r f
   found_next m r f c at_m is = elim (more_in m c) [
@@ -153,29 +131,14 @@ module _ (w : Workspace) (xs ys : List ℕ) (n : ℕ) (p : List ℕ) (at : slice
     | inr e ↦ (
         let path : p ≡ r = same_Some p r (sym at ∙ subst (λ k. slice_get (package_paths w) k ≡ Some r) (sym e) at_m) in
         let one : j.finding ≡ f = get_set_same old n j.finding f (sym (ap (λ l. slice_get l n) j.is_set) ∙ subst (λ k. slice_get new k ≡ Some f) (sym e) is) in
-        subst (λ q. IsFinding w (known_by more) q f) path (subst (IsFinding w (known_by more) p) one (finding_as w p (known_by all) (known_by more) alike_own j.finding j.is_finding)))
+        subst (λ q. IsFinding w (known_by more) q f) path (subst (IsFinding w (known_by more) p) one (finding_as w p (known_by all) (known_by more) alike_own j.finding j.learns.is_finding)))
   ]
-
-  right_next : (m : ℕ) (r : List ℕ) → Contains ys m → slice_get (package_paths w) m ≡ Some r → IsVerdict w r (known_by more r)
-  right_next m r c at_m = elim (more_in m c) [
-    | inl before ↦ subst (IsVerdict w r) (verdict_same all more r (j.elsewhere r (another m r before at_m))) (h.right m r before at_m)
-    | inr e ↦ (
-        let path : p ≡ r = same_Some p r (sym at ∙ subst (λ k. slice_get (package_paths w) k ≡ Some r) (sym e) at_m) in
-        subst (λ q. IsVerdict w q (known_by more q)) path (follows (known_by all) (λ q on. (let k = below q on in h.right k.0 q k.1.0 k.1.1)) j.is_verdict))
-  ]
-
-  fresh_next : (m : ℕ) (r : List ℕ) → (Contains ys m → ⊥) → slice_get (package_paths w) m ≡ Some r → name_in more r ≡ None
-  fresh_next m r none at_m =
-      let other : r ≡ p → ⊥ = λ e. none (subst (Contains ys) (sym (one_number (package_paths w) (paths_sorted w) m n p (at_m ∙ ap Some e) at)) here) in
-      (j.elsewhere r other).name ∙ h.fresh m r (λ c. none (keeps m c)) at_m
 
   pub judged_next : AreJudged w ys new more
   judged_next = record {
-    paths = ap (map (λ (f : Finding). f.path)) j.is_set ∙ same_mapped (λ (f : Finding). f.path) old n j.finding (package_paths w) h.paths (at ∙ ap Some (sym j.is_finding.has_path));
+    paths = ap (map (λ (f : Finding). f.path)) j.is_set ∙ same_mapped (λ (f : Finding). f.path) old n j.finding (package_paths w) h.paths (at ∙ ap Some (sym j.learns.is_finding.has_path));
     found = found_next;
-    right = right_next;
-    fresh = fresh_next;
-    whole = j.whole;
+    known = learnt_next w (Contains xs) (Contains ys) n p at more_in keeps here new_one all more h.known j.finding below j.learns;
   }
 
 -- all packages
@@ -185,17 +148,15 @@ pub none_judged : (w : Workspace) (numbers : List ℕ) (packages : List Finding)
 none_judged w numbers packages all e paths fresh whole = record {
   paths = paths;
   found = λ n p f c at is. absurd (nothing_in n (subst (λ l. Contains l n) e c));
-  right = λ n p c at. absurd (nothing_in n (subst (λ l. Contains l n) e c));
-  fresh = λ n p none at. fresh p;
-  whole = whole;
+  known = record { right = λ n p c at. absurd (nothing_in n (subst (λ l. Contains l n) e c)); fresh = λ n p none at. fresh p; whole = whole };
 }
 
 pub all_judged : (w : Workspace) (order : List ℕ) (found : Findings) → IsBuildOrder w order → AreJudged w order found.packages.items found.interfaces → AreFindings w found
 all_judged w order found built h = record {
   size = sym (length-map found.packages.items (λ (f : Finding). f.path)) ∙ ap length h.paths;
-  right = λ p has. (let n = number w p has in h.right n.0 p ((built.each n.0).1 (slice_get_within (package_paths w) n.0 p n.1)) n.1);
+  right = λ p has. (let n = number w p has in h.known.right n.0 p ((built.each n.0).1 (slice_get_within (package_paths w) n.0 p n.1)) n.1);
   each = λ n p f at is. h.found n p f ((built.each n).1 (slice_get_within (package_paths w) n p at)) at is;
-  whole = h.whole;
+  whole = h.known.whole;
 }
 
 -- the order

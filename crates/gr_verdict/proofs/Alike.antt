@@ -4,10 +4,10 @@ use Rattle.std.specs.Prelude.{Option, Some, map}
 use Rattle.gr_text.specs.Workspace.{Workspace}
 use Rattle.gr_fault.specs.declared.fault.Fault.{Fault}
 use Rattle.gr_fault.specs.Stage.{FirstOf}
-use Rattle.gr_parse.specs.SourceFile.{source_of}
+use Rattle.gr_tree.specs.SourceFile.{source_of}
 use Rattle.gr_stages.specs.declared.states.ImportState.{ImportState}
 use Rattle.gr_stages.specs.Stages.{IsOuterFault}
-use Rattle.gr_types.specs.Package.{Package, Interface}
+use Rattle.gr_declared.specs.Package.{Package, Interface}
 use Rattle.gr_verdict.specs.declared.fault.FileFault.{FileFault}
 use Rattle.gr_verdict.specs.Verdicts.{BuildsOn, Verdict, Verdicts, IsStateOf, is_missing, is_on_cycle, is_faulty, is_good, AreStates, IsSeenAs, seen, unseen, IsPackageIn, IsInnerFault, IsReadFault, IsFaultBy, HasInterface, IsVerdictBy}
 use Rattle.gr_verdict.specs.Laws.{IsSameVerdict}

@@ -10,7 +10,7 @@ use Rattle.gr_text.specs.declared.fault_kind.FaultKind.TheVariants as kind
 use Rattle.gr_graph.specs.Packages.{PackageImports, itself, through}
 use Rattle.gr_graph.proofs.Asked.{has_file}
 use Rattle.gr_stages.specs.declared.states.ImportState.TheVariants.{Missing, OnCycle}
-use Rattle.gr_types.specs.InterfacesView.{no_interface}
+use Rattle.gr_declared.specs.InterfacesView.{no_interface}
 use Rattle.gr_verdict.specs.declared.fault.FileFault.{FileFault}
 use Rattle.gr_verdict.specs.Faults.{fault_cmp}
 use Rattle.gr_verdict.specs.Verdicts.{BuildsOn, Verdicts, IsStateOf, is_missing, is_on_cycle, IsSeenAs, unseen}

@@ -7,8 +7,8 @@ use Rattle.std.proofs.lemmas.Option.{same_Some, none-some, slice_get_within}
 use Rattle.gr_text.specs.Workspace.{Workspace}
 use Rattle.gr_fault.specs.declared.fault.Fault.{Fault}
 use Rattle.gr_fault.specs.Listing.{SomeOf}
-use Rattle.gr_parse.specs.Tree.{Item, FieldTree, BodyTree, Other, Struct, DeclTree, VarDecl, TypeDecl, FuncDecl}
-use Rattle.gr_parse.specs.SourceFile.{SourceFile, source_of}
+use Rattle.gr_tree.specs.Tree.{Item, FieldTree, BodyTree, Other, Struct, DeclTree, VarDecl, TypeDecl, FuncDecl}
+use Rattle.gr_tree.specs.SourceFile.{SourceFile, source_of}
 use Rattle.gr_scope.specs.FileSites.{package_sites}
 use Rattle.gr_scope.specs.Named.{named_sites}
 use Rattle.gr_scope.specs.Parsed.{spelled_file}
@@ -24,11 +24,11 @@ use Rattle.gr_stages.specs.Imports.{PlacedImport, IsFaultOfImport, placed_import
 use Rattle.gr_stages.specs.Marks.{Mark, Defines, Stray, file_marks, IsFaultOfMark, IsFaultOfMarks, IsMarkFault}
 use Rattle.gr_stages.specs.Scoping.{literal_of, IsFaultOfIdentifier}
 use Rattle.gr_stages.specs.Stages.{IsOuterFault, IsInnerFault}
-use Rattle.gr_types.specs.Package.{Package, laid_of, PlacedType, PlacedFunction, placed_type, decl_types, decl_functions, types_in, functions_in, package_types, package_functions}
-use Rattle.gr_types.specs.Definitions.{PlacedField, body_fields, fields_from, package_fields}
-use Rattle.gr_types.specs.Members.{IsMemberFault}
+use Rattle.gr_declared.specs.Package.{Package, laid_of, PlacedType, PlacedFunction, placed_type, decl_types, decl_functions, types_in, functions_in, package_types, package_functions}
+use Rattle.gr_declared.specs.Definitions.{PlacedField, body_fields, fields_from, package_fields}
+use Rattle.gr_members.specs.Members.{IsMemberFault}
 use Rattle.gr_types.specs.Check.{exports_in, IsLaterFault}
-use Rattle.gr_types.proofs.BoundLists.{slice_get_some}
+use Rattle.gr_meanings.proofs.BoundLists.{slice_get_some}
 use Rattle.gr_verdict.specs.Verdicts.{Verdicts, IsPackageIn}
 use Rattle.gr_verdict.proofs.PlacedSites.{stands_in_file}
 

@@ -14,8 +14,8 @@ use Rattle.gr_scan.specs.TokenValues.{IsStringClass}
 use Rattle.gr_scan.specs.Tokens.{semicolon}
 use Rattle.gr_fault.specs.declared.fault.Fault.{Fault}
 use Rattle.gr_fault.specs.Listing.{SomeOf}
-use Rattle.gr_parse.specs.Tree.{Item, Group, single, several, ImportTree, ImportsTree, FileTree}
-use Rattle.gr_parse.specs.SourceFile.{SourceFile, FileParts, source_of}
+use Rattle.gr_tree.specs.Tree.{Item, Group, single, several, ImportTree, ImportsTree, FileTree}
+use Rattle.gr_tree.specs.SourceFile.{SourceFile, FileParts, source_of}
 use Rattle.gr_graph.specs.FileImports.{paths_in, import_literals}
 use Rattle.gr_graph.specs.Packages.{IsParsed, ImportsPath, PackageImports}
 use Rattle.gr_graph.specs.Parsed.{AreParsed, none, tree}

@@ -8,18 +8,19 @@ use Rattle.gr_text.specs.Packages.{package_paths, package_files}
 use Rattle.gr_fault.specs.declared.fault.Fault.{Fault}
 use Rattle.gr_fault.specs.Listing.{Lists}
 use Rattle.gr_fault.specs.Stage.{HasNone, FirstOf}
-use Rattle.gr_parse.specs.SourceFile.{FileParts, source_of}
+use Rattle.gr_tree.specs.SourceFile.{FileParts, source_of}
 use Rattle.gr_graph.specs.Parsed.{AreParsed, none, tree}
 use Rattle.gr_stages.specs.declared.states.ImportState.{ImportState}
 use Rattle.gr_stages.specs.Stages.{IsOuterFault}
 use Rattle.gr_types.specs.declared.checking.Checked.{Checked}
-use Rattle.gr_types.specs.declared.interfaces.Interface.{Interface as FoundInterface}
-use Rattle.gr_types.specs.Package.{Package, Interface}
+use Rattle.gr_declared.specs.declared.interfaces.Interface.{Interface as FoundInterface}
+use Rattle.gr_declared.specs.Package.{Package, Interface}
 use Rattle.gr_types.specs.Interfaces.{IsInterface}
-use Rattle.gr_types.specs.InterfacesView.{interface_of}
+use Rattle.gr_declared.specs.InterfacesView.{interface_of}
 use Rattle.gr_expr.specs.declared.found.MemberUse.{MemberUse}
-use Rattle.gr_types.specs.MemberUses.{AreMemberUses, uses_in}
-use Rattle.gr_types.specs.Check.{IsPackageOf, IsCheckedBy, IsLaterFault, IsFoundIn, outside, inside}
+use Rattle.gr_meanings.specs.MemberUses.{AreMemberUses, uses_in}
+use Rattle.gr_meanings.specs.PackageOf.{IsPackageOf}
+use Rattle.gr_types.specs.Check.{IsCheckedBy, IsLaterFault, IsFoundIn, outside, inside}
 use Rattle.gr_verdict.specs.declared.fault.FileFault.{FileFault}
 use Rattle.gr_verdict.specs.declared.judging.Judged.{Judged}
 use Rattle.gr_verdict.specs.Faults.{placed_in, fault_cmp}

@@ -18,6 +18,10 @@ pub mod Noting
 pub mod Placed
 pub mod Unread
 pub mod Judged
+pub mod Knowing
 pub mod Adding
+pub mod Taking
+pub mod Telling
+pub mod Asking
 pub mod Listing
 pub mod Examples

@@ -8,7 +8,7 @@ use Rattle.std.proofs.lemmas.Option.{same_Some, none-some, slice_get_within}
 use Rattle.gr_text.specs.Workspace.{Workspace}
 use Rattle.gr_text.specs.Packages.{package_paths}
 use Rattle.gr_graph.proofs.Asked.{number, at_contains}
-use Rattle.gr_types.proofs.BoundLists.{slice_get_some}
+use Rattle.gr_meanings.proofs.BoundLists.{slice_get_some}
 use Rattle.gr_verdict.specs.declared.fault.FileFault.{FileFault}
 use Rattle.gr_verdict.specs.declared.finding.Finding.{Finding}
 use Rattle.gr_verdict.specs.declared.findings.Findings.{Findings}

@@ -12,7 +12,7 @@ use Rattle.std.proofs.lemmas.Bool.{true≢false, cases_lt, eqb-true, eqb-false}
 use Rattle.std.proofs.lemmas.List.{take_more, nil_from_length}
 use Rattle.std.proofs.lemmas.List.Elements.{All-from_recursion, All-contains, Contains-append_left, Contains-push, Contains-push_cases}
 use Rattle.std.proofs.lemmas.Map.Keys.{sorted_head, sorted_tail}
-use Rattle.gr_types.proofs.ByteKeys.{cases_bytes}
+use Rattle.gr_declared.proofs.ByteKeys.{cases_bytes}
 
 -- the first, or one behind it
 

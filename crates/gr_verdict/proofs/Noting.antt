@@ -9,9 +9,9 @@ use Rattle.gr_graph.specs.Packages.{PackageImports, IsInClosure}
 use Rattle.gr_graph.proofs.Asked.{number, at_contains}
 use Rattle.gr_stages.specs.declared.states.ImportState.{ImportState}
 use Rattle.gr_stages.specs.declared.states.ImportState.TheVariants.{Missing}
-use Rattle.gr_types.specs.InterfacesView.{Notes, name_in, interface_in}
-use Rattle.gr_types.specs.declared.interfaces.Interfaces.{Interfaces}
-use Rattle.gr_types.proofs.ByteKeys.{cases_bytes}
+use Rattle.gr_declared.specs.InterfacesView.{Notes, name_in, interface_in}
+use Rattle.gr_declared.specs.declared.interfaces.Interfaces.{Interfaces}
+use Rattle.gr_declared.proofs.ByteKeys.{cases_bytes}
 use Rattle.gr_verdict.specs.Found.{is_unknown, known_by}
 use Rattle.gr_verdict.specs.Verdicts.{BuildsOn, Verdicts, IsStateOf, is_missing, AreStates, IsSeenAs, AreSeen}
 use Rattle.gr_verdict.specs.Steps.{KnowsSameOfOthers}

@@ -5,8 +5,8 @@ use Rattle.std.proofs.Math.Path.{ap₂, fun_ext}
 use Rattle.std.proofs.lemmas.List.Elements.{All-nil, All-cons}
 use Rattle.std.proofs.lemmas.Option.{same_Some, none-some}
 use Rattle.gr_text.specs.Workspace.{Workspace}
-use Rattle.gr_parse.specs.Flatten.{flatten}
-use Rattle.gr_parse.specs.SourceFile.{SourceFile, FileParts, source_of, spelling_of}
+use Rattle.gr_tree.specs.Flatten.{flatten}
+use Rattle.gr_tree.specs.SourceFile.{SourceFile, FileParts, source_of, spelling_of}
 use Rattle.gr_graph.specs.Parsed.{AreParsed, none, tree}
 use Rattle.gr_graph.proofs.OneFile.{one_file}
 use Rattle.gr_scope.specs.FileSites.{SpelledFile, package_sites}
@@ -21,14 +21,14 @@ use Rattle.gr_scope.proofs.NamedSites.{named_well_formed, package_level}
 use Rattle.gr_scope.proofs.PackageRegions.{package_well_formed}
 use Rattle.gr_stages.specs.PackageNames.{ArePackageNames}
 use Rattle.gr_stages.specs.Scoping.{Laid}
-use Rattle.gr_types.specs.Package.{Package, Interface, Export, PlacedType, package_types}
+use Rattle.gr_declared.specs.Package.{Package, Interface, Export, PlacedType, package_types}
 use Rattle.gr_types.specs.Interfaces.{IsExport, IsExported, IsInterface}
-use Rattle.gr_types.specs.TypesView.{AreInOrder}
-use Rattle.gr_types.specs.Check.{IsPackageOf, package_in}
+use Rattle.gr_meanings.specs.Uniqueness.{AreInOrder}
+use Rattle.gr_meanings.specs.PackageOf.{IsPackageOf, package_in}
 use Rattle.gr_types.proofs.ExportParts.{one_export}
 use Rattle.gr_types.proofs.OneLaid.{one_package}
-use Rattle.gr_types.proofs.OneMeaning.{one_meaning, one_found}
-use Rattle.gr_types.proofs.OneWorld.{one_definition}
+use Rattle.gr_meanings.proofs.OneMeaning.{one_meaning, one_found}
+use Rattle.gr_meanings.proofs.OneWorld.{one_definition}
 use Rattle.gr_verdict.specs.Verdicts.{Verdicts, IsPackageIn}
 use Rattle.gr_verdict.proofs.OneSeen.{one_names, one_interfaces}
 

@@ -1,7 +1,7 @@
 -- A package has one verdict at most.
 use Rattle.std.proofs.Common.{ℕ, ◌≡◌, Bool, true, false, List, refl, sym, subst, ◌∙◌}
 use Rattle.gr_text.specs.Workspace.{Workspace}
-use Rattle.gr_types.specs.Package.{Package, Interface}
+use Rattle.gr_declared.specs.Package.{Package, Interface}
 use Rattle.gr_types.specs.Interfaces.{IsInterface}
 use Rattle.gr_verdict.specs.Verdicts.{Verdict, Verdicts, IsPackageIn, HasInterface, IsVerdictBy, IsVerdict, follows, AreVerdictsBelow, AreVerdicts}
 use Rattle.gr_verdict.specs.Laws.{IsSameVerdict}

@@ -4,7 +4,7 @@ use Rattle.std.specs.Prelude.{Contains, Some, None, slice_get, option_map}
 use Rattle.std.proofs.lemmas.List.Elements.{Contains-append_left, Contains-push, Contains-push_cases}
 use Rattle.std.proofs.lemmas.Option.{none-some, same_Some, slice_get-map}
 use Rattle.gr_fault.specs.declared.fault.Fault.{Fault}
-use Rattle.gr_parse.specs.SourceFile.{SourceFile, FileParts, source_of, offset_of}
+use Rattle.gr_tree.specs.SourceFile.{SourceFile, FileParts, source_of, offset_of}
 use Rattle.gr_verdict.specs.declared.fault.FileFault.{FileFault}
 use Rattle.gr_verdict.specs.Faults.{placed_in}
 use Rattle.gr_verdict.specs.Steps.{IsPlacedAs, IsPlacedOf, AddsPlaced}

@@ -9,9 +9,9 @@ use Rattle.gr_graph.specs.Packages.{IsInClosure}
 use Rattle.gr_graph.proofs.Asked.{number}
 use Rattle.gr_stages.specs.States.{state_in}
 use Rattle.gr_stages.specs.declared.states.ImportState.TheVariants.{Missing}
-use Rattle.gr_types.specs.InterfacesView.{name_in, interface_in, name_or_none, no_interface, KnowsSame}
-use Rattle.gr_types.specs.declared.interfaces.Interfaces.{Interfaces}
-use Rattle.gr_types.proofs.ByteKeys.{cases_bytes}
+use Rattle.gr_declared.specs.InterfacesView.{name_in, interface_in, name_or_none, no_interface, KnowsSame}
+use Rattle.gr_declared.specs.declared.interfaces.Interfaces.{Interfaces}
+use Rattle.gr_declared.proofs.ByteKeys.{cases_bytes}
 use Rattle.gr_verdict.specs.Verdicts.{BuildsOn, IsSeenAs, seen, unseen, AreSeen}
 use Rattle.gr_verdict.specs.Found.{is_unknown, known_by, AreWhole}
 use Rattle.gr_verdict.specs.Steps.{MayShare, IsSharedOf}

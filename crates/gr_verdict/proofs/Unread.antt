@@ -9,20 +9,19 @@ use Rattle.gr_scan.specs.Cuts.{IsCut}
 use Rattle.gr_scan.specs.CutText.{CutText}
 use Rattle.gr_scan.proofs.OneCutLemmas.{one_cut, cut_or_fault}
 use Rattle.gr_scan.proofs.OneFaultLemmas.{one_fault}
-use Rattle.gr_parse.specs.Faults.{IsFaultOf, IsFaultOfTokens}
-use Rattle.gr_parse.specs.Kinds.{kinds_of, place_of}
-use Rattle.gr_parse.specs.Parsed.{IsParseFault, kind_for}
-use Rattle.gr_parse.specs.SourceFile.{FileParts, source_of}
-use Rattle.gr_parse.specs.Verdict.{Faulty}
-use Rattle.gr_parse.specs.declared.syntax.FaultKind.{FaultKind as TokenFault}
-use Rattle.gr_parse.proofs.OneVerdict.{one_verdict}
+use Rattle.gr_tree.specs.Faults.{IsFaultOf, IsFaultOfTokens, IsParseFault, kind_for}
+use Rattle.gr_tree.specs.Kinds.{kinds_of, place_of}
+use Rattle.gr_tree.specs.SourceFile.{FileParts, source_of}
+use Rattle.gr_tree.specs.Verdict.{Faulty}
+use Rattle.gr_tree.specs.declared.syntax.FaultKind.{FaultKind as TokenFault}
+use Rattle.gr_tree.proofs.OneVerdict.{one_verdict}
 use Rattle.gr_graph.specs.FaultyFiles.{FaultyParts}
 use Rattle.gr_graph.specs.Parsed.{AreParsed, none, tree, fault}
 use Rattle.gr_graph.proofs.OneFile.{file_or_fault}
 use Rattle.gr_verdict.specs.declared.fault.FileFault.{FileFault}
 use Rattle.gr_verdict.specs.declared.judging.Judged.{Judged}
 use Rattle.gr_verdict.specs.Faults.{placed, fault_cmp}
-use Rattle.gr_types.specs.InterfacesView.{interface_of}
+use Rattle.gr_declared.specs.InterfacesView.{interface_of}
 use Rattle.gr_verdict.specs.Verdicts.{Verdicts, IsUnreadFault, HasInterface}
 use Rattle.gr_verdict.specs.Steps.{unread_faults, IsJudged}
 use Rattle.gr_verdict.proofs.Members.{nothing_in, first_in, later_in, first_or_later, not_empty_by}

@@ -9,7 +9,7 @@ use Rattle.gr_text.specs.Path.{folder}
 use Rattle.gr_text.specs.Workspace.{path_cmp}
 use Rattle.gr_scan.specs.declared.refusal.Fault.{Fault as TextFault}
 use Rattle.gr_fault.specs.declared.fault.Fault.{Fault}
-use Rattle.gr_parse.specs.SourceFile.{SourceFile, offset_of}
+use Rattle.gr_tree.specs.SourceFile.{SourceFile, offset_of}
 use Rattle.gr_verdict.specs.declared.fault.FileFault.{FileFault}
 
 -- a fault of a text, in the file of a path

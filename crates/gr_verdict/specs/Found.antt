@@ -4,14 +4,16 @@ use Rattle.std.specs.Global.{Vec}
 use Rattle.gr_text.specs.Workspace.{Workspace}
 use Rattle.gr_text.specs.Packages.{package_paths}
 use Rattle.gr_expr.specs.declared.found.MemberUse.{MemberUse}
-use Rattle.gr_types.specs.Package.{Package}
-use Rattle.gr_types.specs.InterfacesView.{name_in, interface_in, no_interface}
-use Rattle.gr_types.specs.MemberUses.{AreMemberUses, uses_in}
-use Rattle.gr_types.specs.declared.interfaces.Interfaces.{Interfaces}
-use Rattle.gr_verdict.specs.Verdicts.{Verdicts, IsPackageIn, IsFaultBy, AreVerdicts}
+use Rattle.gr_declared.specs.Package.{Package}
+use Rattle.gr_declared.specs.InterfacesView.{name_in, interface_in, no_interface}
+use Rattle.gr_meanings.specs.MemberUses.{AreMemberUses, uses_in}
+use Rattle.gr_declared.specs.declared.interfaces.Interfaces.{Interfaces}
+use Rattle.gr_verdict.specs.Verdicts.{Verdicts, IsPackageIn, IsFaultBy, IsVerdict, AreVerdictsBelow, AreVerdicts}
 use Rattle.gr_verdict.specs.FaultLists.{AreListed}
 use Rattle.gr_verdict.specs.declared.finding.Finding.{Finding}
+use Rattle.gr_verdict.specs.declared.asked.OneFinding.{OneFinding}
 use Rattle.gr_verdict.specs.declared.findings.Findings.{Findings}
+use Rattle.gr_verdict.specs.declared.known.Known.{Known}
 
 abbrev pub is_unknown : Option (List ℕ) → Bool
 is_unknown None = true
@@ -24,6 +26,24 @@ known_by all q = record { faulty = is_unknown (name_in all q); interface = inter
 -- of a package without a name nothing is known
 abbrev pub AreWhole : Interfaces → Type 0
 AreWhole all = (q : List ℕ) → name_in all q ≡ None → interface_in all q ≡ no_interface q
+
+-- the verdict on p, as interfaces that tell of p alone
+pub record TellsVerdict (w : Workspace) (p : List ℕ) (one : Interfaces) : Type 0 where
+  pub right : IsVerdict w p (known_by one p)
+  pub whole : name_in one p ≡ None → interface_in one p ≡ no_interface p
+
+-- the verdict on p, if there is one
+abbrev pub MayTell : Workspace → List ℕ → Option Interfaces → Type 0
+MayTell w p found = (one : Interfaces) → found ≡ Some one → TellsVerdict w p one
+
+-- what is known is right: each verdict is that on the package of its number
+abbrev pub KnowsVerdicts : Workspace → Known → Type 0
+KnowsVerdicts w known = (n : ℕ) (p : List ℕ) (one : Interfaces) → slice_get (package_paths w) n ≡ Some p → slice_get known.verdicts.items n ≡ Some (Some one) → TellsVerdict w p one
+
+-- and it is of the first packages, as many as are told
+pub record AreKnownNext (w : Workspace) (count : ℕ) (known : Known) : Type 0 where
+  pub size : length known.verdicts.items ≡ count
+  pub verdicts : KnowsVerdicts w known
 
 -- the uses of members in the files of p
 pub record AreUsesOf (w : Workspace) (known : Verdicts) (p : List ℕ) (members : List (Vec MemberUse)) : Type 0 where
@@ -43,3 +63,15 @@ pub record AreFindings (w : Workspace) (found : Findings) : Type 0 where
   pub right : AreVerdicts w (known_by found.interfaces)
   pub each : (n : ℕ) (p : List ℕ) (f : Finding) → slice_get (package_paths w) n ≡ Some p → slice_get found.packages.items n ≡ Some f → IsFinding w (known_by found.interfaces) p f
   pub whole : AreWhole found.interfaces
+
+-- what is found in p, by the verdicts on the packages that it builds on; they and that on p are known where these interfaces are
+pub record IsFoundBy (w : Workspace) (p : List ℕ) (all : Interfaces) (f : Finding) : Type 0 where
+  pub below : AreVerdictsBelow w p (known_by all)
+  pub own : IsVerdict w p (known_by all p)
+  pub whole : AreWhole all
+  pub finding : IsFinding w (known_by all) p f
+
+-- what is found in p, and what is known then
+pub record IsOneFinding (w : Workspace) (p : List ℕ) (found : OneFinding) : Type 0 where
+  pub found_by : IsFoundBy w p found.interfaces found.finding
+  pub verdicts : KnowsVerdicts w found.known

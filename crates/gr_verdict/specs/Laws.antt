@@ -2,7 +2,7 @@
 use Rattle.std.specs.Prelude.{ℕ, ◌≡◌, false, List, Contains}
 use Rattle.gr_text.specs.Workspace.{Workspace}
 use Rattle.gr_text.specs.Packages.{package_paths}
-use Rattle.gr_types.specs.Package.{Package}
+use Rattle.gr_declared.specs.Package.{Package}
 use Rattle.gr_verdict.specs.declared.fault.FileFault.{FileFault}
 use Rattle.gr_verdict.specs.Verdicts.{Verdict, Verdicts, IsPackageIn, IsVerdict, AreVerdictsBelow}
 use Rattle.gr_verdict.specs.FaultLists.{ListsPackageFaults, ListsFaults}

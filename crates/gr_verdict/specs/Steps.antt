@@ -1,18 +1,19 @@
 -- What is found on the way: an order of the packages, what one of them sees, its faults with their places, and what is found
 -- with one package more.
-use Rattle.std.specs.Prelude.{ℕ, ◌≡◌, ◌<◌, ◌↔◌, ◌⊎◌, List, [], length, map, Option, Some, None, slice_get, slice_index_or, MatchOption, Contains}
+use Rattle.std.specs.Prelude.{ℕ, ◌≡◌, ◌<◌, ◌↔◌, ◌⊎◌, true, List, [], length, map, Option, Some, None, slice_get, slice_index_or, MatchOption, Contains}
 use Rattle.std.specs.List.Sorted.{IsStrictlyIncreasing}
 use Rattle.std.proofs.Math.ListN.{set}
 use Rattle.gr_text.specs.Workspace.{Workspace}
 use Rattle.gr_text.specs.Packages.{package_paths}
 use Rattle.gr_fault.specs.declared.fault.Fault.{Fault}
-use Rattle.gr_parse.specs.SourceFile.{SourceFile, FileParts, source_of}
+use Rattle.gr_tree.specs.SourceFile.{SourceFile, FileParts, source_of}
 use Rattle.gr_graph.specs.FaultyFiles.{FaultyParts}
 use Rattle.gr_graph.specs.Graphs.{HoldsPackages}
 use Rattle.gr_graph.specs.Packages.{IsInClosure}
-use Rattle.gr_types.specs.InterfacesView.{name_in, interface_in, interface_of, KnowsSame, Shares, AddsInterface}
-use Rattle.gr_types.specs.declared.interfaces.Interface.{Interface}
-use Rattle.gr_types.specs.declared.interfaces.Interfaces.{Interfaces}
+use Rattle.gr_graph.specs.Search.{IsMarked}
+use Rattle.gr_declared.specs.InterfacesView.{name_in, interface_in, interface_of, KnowsSame, Shares, AddsInterface}
+use Rattle.gr_declared.specs.declared.interfaces.Interface.{Interface}
+use Rattle.gr_declared.specs.declared.interfaces.Interfaces.{Interfaces}
 use Rattle.gr_verdict.specs.Faults.{placed, placed_in}
 use Rattle.gr_verdict.specs.Verdicts.{Verdicts, BuildsOn, IsFaultBy, HasInterface, IsVerdictBy, IsVerdict}
 use Rattle.gr_verdict.specs.FaultLists.{AreListed}
@@ -20,6 +21,7 @@ use Rattle.gr_verdict.specs.Found.{known_by, AreWhole, AreUsesOf, IsFinding}
 use Rattle.gr_verdict.specs.declared.fault.FileFault.{FileFault}
 use Rattle.gr_verdict.specs.declared.finding.Finding.{Finding}
 use Rattle.gr_verdict.specs.declared.judging.Judged.{Judged}
+use Rattle.gr_verdict.specs.declared.marked.MarkedVerdicts.{MarkedVerdicts}
 
 -- An order
 
@@ -95,19 +97,61 @@ abbrev pub MayAdd : (old new : Interfaces) (path : List ℕ) → Option Interfac
 MayAdd old new path None = new ≡ old
 MayAdd old new path (Some i) = AddsInterface old new path i
 
--- the package p of that number was judged by what was known
-pub record Judges (w : Workspace) (p : List ℕ) (number : ℕ) (old new : List Finding) (all more : Interfaces) : Type 0 where
-  pub finding : Finding
-  pub is_set : new ≡ set old number finding
+-- Of the packages of these numbers the verdicts are known, and of any other package nothing is.
+pub record AreKnown (w : Workspace) (Is : ℕ → Type 0) (all : Interfaces) : Type 0 where
+  pub right : (n : ℕ) (p : List ℕ) → Is n → slice_get (package_paths w) n ≡ Some p → IsVerdict w p (known_by all p)
+  pub fresh : (n : ℕ) (p : List ℕ) → (Is n → ⊥) → slice_get (package_paths w) n ≡ Some p → name_in all p ≡ None
+  pub whole : AreWhole all
+
+-- the package p was judged by what was known, and this was found in it
+pub record Learns (w : Workspace) (p : List ℕ) (finding : Finding) (all more : Interfaces) : Type 0 where
   pub is_finding : IsFinding w (known_by all) p finding
   pub is_verdict : IsVerdictBy w (known_by all) p (known_by more p)
   pub elsewhere : (q : List ℕ) → (q ≡ p → ⊥) → KnowsSame all more q
   pub whole : AreWhole more
 
+-- the package p of that number was judged, and its finding is set
+pub record Judges (w : Workspace) (p : List ℕ) (number : ℕ) (old new : List Finding) (all more : Interfaces) : Type 0 where
+  pub finding : Finding
+  pub is_set : new ≡ set old number finding
+  pub learns : Learns w p finding all more
+
 -- the packages of some numbers were judged
 pub record AreJudged (w : Workspace) (numbers : List ℕ) (packages : List Finding) (all : Interfaces) : Type 0 where
   pub paths : map (λ f. f.path) packages ≡ package_paths w
   pub found : (n : ℕ) (p : List ℕ) (f : Finding) → Contains numbers n → slice_get (package_paths w) n ≡ Some p → slice_get packages n ≡ Some f → IsFinding w (known_by all) p f
-  pub right : (n : ℕ) (p : List ℕ) → Contains numbers n → slice_get (package_paths w) n ≡ Some p → IsVerdict w p (known_by all p)
-  pub fresh : (n : ℕ) (p : List ℕ) → (Contains numbers n → ⊥) → slice_get (package_paths w) n ≡ Some p → name_in all p ≡ None
-  pub whole : AreWhole all
+  pub known : AreKnown w (Contains numbers) all
+
+-- Where some are known
+
+-- the verdicts on the packages that are marked are known
+abbrev pub AreMarkedVerdicts : Workspace → MarkedVerdicts → Type 0
+AreMarkedVerdicts w known = AreKnown w (IsMarked known.marks.items) known.interfaces
+
+-- and the marks are those of the first packages, as many as are told
+pub record AreMarkedNext (w : Workspace) (count : ℕ) (known : MarkedVerdicts) : Type 0 where
+  pub size : length known.marks.items ≡ count
+  pub verdicts : AreMarkedVerdicts w known
+
+-- the package of that number is one that p builds on
+pub record IsBelow (w : Workspace) (p : List ℕ) (number : ℕ) : Type 0 where
+  pub path : List ℕ
+  pub has_path : slice_get (package_paths w) number ≡ Some path
+  pub builds_on : BuildsOn w p path
+
+-- the package p of that number was judged, and is known now
+pub record LearnsOf (w : Workspace) (p : List ℕ) (number : ℕ) (finding : Finding) (old new : MarkedVerdicts) : Type 0 where
+  pub marks : new.marks.items ≡ set old.marks.items number true
+  pub learns : Learns w p finding old.interfaces new.interfaces
+
+-- q, which was not known, was judged, since p builds on it; or it was known, or p does not build on it, and nothing was judged
+abbrev pub MayLearn : Workspace → (p q : List ℕ) → ℕ → (old new : MarkedVerdicts) → Type 0
+MayLearn w p q n old new =
+    ((IsMarked old.marks.items n → ⊥) × BuildsOn w p q × ((f : Finding) × LearnsOf w q n f old new))
+    ⊎ ((IsMarked old.marks.items n ⊎ (BuildsOn w p q → ⊥)) × (new ≡ old))
+
+-- of some packages those are known that p builds on; p, which has that number, is not
+pub record AreBelowKnown (w : Workspace) (p : List ℕ) (number : ℕ) (numbers : List ℕ) (known : MarkedVerdicts) : Type 0 where
+  pub are_known : AreMarkedNext w (length (package_paths w)) known
+  pub below : (m : ℕ) → Contains numbers m → IsBelow w p m → IsMarked known.marks.items m
+  pub not_own : IsMarked known.marks.items number → ⊥

@@ -4,8 +4,8 @@ use Rattle.std.specs.Prelude.{ℕ, ◌≡◌, ◌⊎◌, ◌↔◌, Bool, true, 
 use Rattle.gr_text.specs.Workspace.{Workspace}
 use Rattle.gr_text.specs.Packages.{package_paths, package_files}
 use Rattle.gr_scan.specs.declared.refusal.Fault.{Fault as TextFault}
-use Rattle.gr_parse.specs.Faults.{IsFaultOf}
-use Rattle.gr_parse.specs.SourceFile.{SourceFile, FileParts, source_of}
+use Rattle.gr_tree.specs.Faults.{IsFaultOf}
+use Rattle.gr_tree.specs.SourceFile.{SourceFile, FileParts, source_of}
 use Rattle.gr_graph.specs.Packages.{PackageImports, IsInClosure}
 use Rattle.gr_graph.specs.Parsed.{AreParsed}
 use Rattle.gr_fault.specs.declared.fault.Fault.{Fault}
@@ -13,10 +13,11 @@ use Rattle.gr_fault.specs.Stage.{FirstOf}
 use Rattle.gr_stages.specs.declared.states.ImportState.{ImportState}
 use Rattle.gr_stages.specs.declared.states.ImportState.TheVariants.{Missing, OnCycle, Faulty, Good}
 use Rattle.gr_stages.specs.Stages.{IsOuterFault}
-use Rattle.gr_types.specs.Package.{Package, Interface}
+use Rattle.gr_declared.specs.Package.{Package, Interface}
 use Rattle.gr_types.specs.Interfaces.{IsInterface}
-use Rattle.gr_types.specs.InterfacesView.{no_interface}
-use Rattle.gr_types.specs.Check.{IsPackageOf, IsLaterFault}
+use Rattle.gr_declared.specs.InterfacesView.{no_interface}
+use Rattle.gr_meanings.specs.PackageOf.{IsPackageOf}
+use Rattle.gr_types.specs.Check.{IsLaterFault}
 use Rattle.gr_verdict.specs.declared.fault.FileFault.{FileFault}
 use Rattle.gr_verdict.specs.Faults.{placed, placed_in}
 

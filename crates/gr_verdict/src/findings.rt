@@ -2,16 +2,16 @@
 ghost use Rattle.std.specs.Prelude.{◌≡◌, ◌<◌, length, map, None, IfOk, OnOk};
 ghost use Rattle.gr_text.specs.Packages.{package_paths};
 ghost use Rattle.gr_graph.specs.Graphs.{OfPackage};
-ghost use Rattle.gr_types.specs.InterfacesView.{name_in};
+ghost use Rattle.gr_declared.specs.InterfacesView.{name_in};
 ghost use Rattle.gr_verdict.specs.Found.{AreWhole, AreFindings};
-ghost use Rattle.gr_verdict.specs.Steps.{MayAdd, Judges};
+ghost use Rattle.gr_verdict.specs.Steps.{MayAdd, Learns, Judges};
 
 use crate::finding::Finding;
 use crate::judging::{Judged, judge};
 use crate::order::order;
+use gr_declared::{Interface, Interfaces};
 use gr_expr::symbol::SharedPath;
 use gr_graph::Graph;
-use gr_types::{Interface, Interfaces};
 use std::alloc::{AllocError, Global};
 
 /// What is found in each package of a workspace, by the packages' numbers, and the interfaces of those without faults.
@@ -51,6 +51,33 @@ fn add(
     }
 }
 
+/// Judges a package by what is known of all that it builds on, and adds its interface.
+pub(crate) fn judge_one(
+    alloc: Global,
+    graph: &Graph,
+    number: usize,
+    path: SharedPath,
+    all: &mut Interfaces,
+) -> Result<Finding, AllocError>
+    requires in_range { number < length (package_paths graph.now) }
+    requires path { OfPackage graph.now number (λ p. path ≡ p) }
+    requires whole { AreWhole all.old }
+    requires fresh { OfPackage graph.now number (λ p. name_in all.old p ≡ None) }
+    ensures { IfOk result (λ finding. OfPackage graph.now number (λ p. Learns graph.now p finding all.old all.new)) }
+{
+    let Judged {
+        faults,
+        interface,
+        members,
+    } = judge(alloc, graph, number, &path, all)?;
+    add(alloc, all, &path, interface)?;
+    Ok(Finding {
+        path,
+        faults,
+        members,
+    })
+}
+
 /// Judges a package, where all that it builds on were judged.
 fn judge_next(
     alloc: Global,
@@ -66,17 +93,8 @@ fn judge_next(
     ensures { OnOk result (OfPackage graph.now number (λ p. Judges graph.now p number packages.old.items packages.new.items all.old all.new)) }
 {
     let path = packages[number].path.clone()?;
-    let Judged {
-        faults,
-        interface,
-        members,
-    } = judge(alloc, graph, number, &path, all)?;
-    add(alloc, all, &path, interface)?;
-    packages[number] = Finding {
-        path,
-        faults,
-        members,
-    };
+    let finding = judge_one(alloc, graph, number, path, all)?;
+    packages[number] = finding;
     Ok(())
 }
 

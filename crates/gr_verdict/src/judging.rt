@@ -10,10 +10,11 @@ ghost use Rattle.gr_verdict.specs.Steps.{IsJudged};
 use crate::fault::{FileFault, sort};
 use crate::placing::{placed_faults, unread_faults};
 use crate::seeing::{note_imports, seen};
+use gr_declared::{Interface, Interfaces};
 use gr_expr::found::MemberUse;
 use gr_expr::symbol::SharedPath;
 use gr_graph::{Graph, Package};
-use gr_types::{Checked, Interface, Interfaces, check};
+use gr_types::{Checked, check};
 use std::alloc::{AllocError, Global};
 
 /// The faults of a package; where it has none its interface, and for each of its files the uses of members.

@@ -5,8 +5,8 @@ ghost use Rattle.gr_verdict.specs.Steps.{IsPlacedOf, AddsPlaced, unread_faults};
 use crate::fault::FileFault;
 use gr_fault::Fault;
 use gr_graph::FaultyFile;
-use gr_parse::FileTree;
 use gr_text::Place;
+use gr_tree::FileTree;
 use std::alloc::{AllocError, Global};
 
 /// The faults of files that have no tree.

@@ -1,42 +1,41 @@
--- One more file, and all of them at the end.
-use Rattle.std.proofs.Common.{◌≡◌, List, ℕ, sym, ap, subst, ◌∙◌}
-use Rattle.std.specs.FinMap as map
-use Rattle.std.specs.Map.Iter.{deref_pair}
-use Rattle.std.proofs.lemmas.Bool.{false≢true}
-use Rattle.std.proofs.lemmas.Map.Iter.{rest_all, rest_more}
+-- One package more, and the whole closure at the end.
+use Rattle.std.proofs.Common.{◌+◌, ◌<◌, [], take, length, get_or, refl, sym, subst, arith}
+use Rattle.std.proofs.lemmas.List.{take_all}
+use Rattle.std.proofs.lemmas.List.Elements.{Contains-get_or}
+use Rattle.std.proofs.lemmas.Option.{slice_get_within, slice_get-get_or}
+use Rattle.gr_text.specs.Packages.{package_paths}
 use Rattle.gr_text.specs.Workspace.{Workspace}
-use Rattle.gr_book.specs.Inputs.{IsOfClosure}
-use Rattle.gr_book.proofs.ClosureFiles.{AreTaken, taken_none, taken_skip, taken_more, closure_texts}
+use Rattle.gr_verdict.proofs.Members.{taken_or_next, still_taken, next_taken}
+use Rattle.gr_book.specs.Inputs.{AreGathered}
+use Rattle.gr_book.proofs.ClosureFiles.{none_gathered, gathered_next, closure_texts}
 use Rattle.gr_book.proofs.inputs.closure_files.Goals as goal
 
-pub loop-path-init : goal.loop-path-init
-loop-path-init c =
-    let w = c.args.graph.now in
-    let P = IsOfClosure w c.args.number in
-    let begun : map.entries w ≡ c.into_iter-path-iterator.result = sym (c.into_iter-path-iterator.ensures.into_iter_gives ∙ c.iter-path-items.ensures.files ∙ ap map.entries c.files.ensures) in
-    subst (λ es. AreTaken P w es c.new-files.result) begun (subst (λ (m : Workspace). AreTaken P w (map.entries w) m) (sym c.new-files.ensures) (taken_none P w))
+pub loop-other-init : goal.loop-other-init
+loop-other-init c = subst (λ (m : Workspace). AreGathered c.args.graph.now (take 0 c.closure-other-items.result.now) m) (sym c.new-files.ensures) (none_gathered c.args.graph.now _ refl)
 
-pub loop-path-preserved-in_ok-insert : goal.loop-path-preserved-in_ok-insert
-loop-path-preserved-in_ok-insert c =
+pub add_package-requires : goal.add_package-requires
+add_package-requires c =
     let w = c.args.graph.now in
-    let P = IsOfClosure w c.args.number in
-    let e : List ℕ × List ℕ = (c.in-Some.path.now, c.in-Some.text.now) in
-    let left = rest_more deref_pair _ _ _ (c.in-Some.path, c.in-Some.text) c.in-Some.is c.next.ensures.steps in
-    let so = subst (λ es. AreTaken P w es c.loop-path.files) left c.loop-path.invariant in
-    let more = taken_more P w e c.next.new.self c.loop-path.files (c.is_of_closure.ensures.0 c.if-is_of_closure.true) so in
-    rw (c.in_ok-insert.ensures.ok, c.in_ok-clone.ensures.cases, c.in_ok-clone-2.ensures.cases) more
+    let items = c.closure-other-items.result.now in
+    let k = c.loop-other.other-index in
+    let p = slice_get-get_or (package_paths w) c.args.number [] c.requires in
+    let s = (c.closure-other-items.ensures.closure (get_or (package_paths w) c.args.number []) p (get_or items k 0)).0 (Contains-get_or items k 0 (omega arith)) in
+    slice_get_within (package_paths w) (get_or items k 0) s.0 s.1
 
-pub loop-path-preserved : goal.loop-path-preserved
-loop-path-preserved c =
+pub loop-other-preserved : goal.loop-other-preserved
+loop-other-preserved c =
     let w = c.args.graph.now in
-    let P = IsOfClosure w c.args.number in
-    let e : List ℕ × List ℕ = (c.in-Some.path.now, c.in-Some.text.now) in
-    let left = rest_more deref_pair _ _ _ (c.in-Some.path, c.in-Some.text) c.in-Some.is c.next.ensures.steps in
-    let so = subst (λ es. AreTaken P w es c.loop-path.files) left c.loop-path.invariant in
-    taken_skip P w e c.next.new.self c.loop-path.files (λ of. false≢true (sym c.if-is_of_closure.false ∙ c.is_of_closure.ensures.1 of)) so
+    let items = c.closure-other-items.result.now in
+    let k = c.loop-other.other-index in
+    let lt : k < length items = omega arith in
+    let n = get_or items k 0 in
+    let p = slice_get-get_or (package_paths w) c.args.number [] c.requires in
+    let s = (c.closure-other-items.ensures.closure (get_or (package_paths w) c.args.number []) p n).0 (Contains-get_or items k 0 lt) in
+    gathered_next w (take k items) (take (k + 1) items) n s.0 s.1 (λ m h. taken_or_next items k 0 m lt h) (λ m h. still_taken items k 0 m lt h) (next_taken items k 0 lt) c.loop-other.files c.add_package.new.files
+    (c.in_ok-add_package.ensures s.0 s.1) c.loop-other.invariant
 
 pub returns : goal.returns
-returns c =
+returns c = λ p at.
     let w = c.args.graph.now in
-    let none = rest_all deref_pair _ _ _ c.in-None.is c.next.ensures.steps in
-    closure_texts w c.args.number c.loop-path.files (subst (λ es. AreTaken (IsOfClosure w c.args.number) w es c.loop-path.files) none c.loop-path.invariant)
+    let items = c.closure-other-items.result.now in
+    closure_texts w p items c.loop-other.files (c.closure-other-items.ensures.closure p at) (subst (λ l. AreGathered w l c.loop-other.files) (take_all c.loop-other.other-index items (omega arith)) c.loop-other.invariant)

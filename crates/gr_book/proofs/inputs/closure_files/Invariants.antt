@@ -1,7 +1,7 @@
--- Of the files that were passed, those of the closure were taken.
-use Rattle.gr_book.specs.Inputs.{IsOfClosure}
-use Rattle.gr_book.proofs.ClosureFiles.{AreTaken}
+-- The files of the packages that were passed were gathered.
+use Rattle.std.proofs.Common.{take}
+use Rattle.gr_book.specs.Inputs.{AreGathered}
 use Rattle.gr_book.proofs.inputs.closure_files.Given as goal
 
-abbrev pub invariant-loop-path : goal.invariant-loop-path
-invariant-loop-path l = AreTaken (IsOfClosure l.graph l.number) l.graph l.path-iterator l.files
+abbrev pub invariant-loop-other : goal.invariant-loop-other
+invariant-loop-other l = AreGathered l.graph (take l.other-index l.other-items) l.files

@@ -1,6 +1,6 @@
 -- The answers to the goals of `compiling::interface_of`.
 use Rattle.std.proofs.Common.{◌≡◌, subst}
-use Rattle.gr_types.specs.InterfacesView.{interface_in}
+use Rattle.gr_declared.specs.InterfacesView.{interface_in}
 use Rattle.gr_compile.proofs.compiling.interface_of.Goals as goal
 
 pub returns : goal.returns

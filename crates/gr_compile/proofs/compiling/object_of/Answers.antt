@@ -5,10 +5,9 @@ use Rattle.std.proofs.lemmas.Option.{same_Some, slice_get_within}
 use Rattle.std.proofs.lemmas.Result.{IfOk-weaker}
 use Rattle.gr_text.specs.Packages.{package_paths, package_files}
 use Rattle.gr_graph.specs.Parsed.{AreParsed}
-use Rattle.gr_graph.proofs.Asked.{at_contains}
 use Rattle.gr_expr.specs.WorldView.{definitions_at, ranked}
-use Rattle.gr_types.specs.InterfacesView.{name_in, interface_in}
-use Rattle.gr_types.specs.MemberUses.{uses_in}
+use Rattle.gr_declared.specs.InterfacesView.{name_in, interface_in}
+use Rattle.gr_meanings.specs.MemberUses.{uses_in}
 use Rattle.gr_object.specs.ObjectView.{OwnDefinitionsOf, IsObjectTextOf}
 use Rattle.gr_compile.specs.Units.{IsCompiled}
 use Rattle.gr_compile.proofs.Faultless.{definitions_by, compiled_by}
@@ -36,7 +35,7 @@ object-requires c =
     let same : (rank : ℕ) → slice_get list rank ≡ ranked (definitions_at all.definitions p) rank =
     subst (λ (q : List ℕ). (rank : ℕ) → slice_get list rank ≡ ranked (definitions_at all.definitions q) rank) c.path.ensures c.definitions_of-definitions.ensures in
     subst (λ ts. OwnDefinitionsOf p ts (name_in i) (interface_in i) list) (sym c.deref.ensures.value)
-    (definitions_by w p all c.args.members.now (at_contains w c.args.number p c.requires.at) c.requires.found files.trees.items files.faulty.items parsed (name_in i) (interface_in i) (c.in_ok-interfaces.ensures.seen p c.requires.at) list same)
+    (definitions_by w p all c.args.members.now c.requires.found files.trees.items files.faulty.items parsed (name_in i) (interface_in i) (c.in_ok-interfaces.ensures.seen p c.requires.at) list same)
 
 pub returns : goal.returns
 returns c =
@@ -52,6 +51,6 @@ returns c =
     let text = c.in_ok-text.text.items in
     let made = subst (λ ts. IsObjectTextOf p ts (name_in i) (interface_in i) (map uses_in members) packages text) c.deref.ensures.value c.in_ok-text.ensures in
     let compiled : IsCompiled w p (interface_in all p) text =
-    compiled_by w p all members (at_contains w c.args.number p c.requires.at) c.requires.found files.trees.items files.faulty.items parsed (name_in i) (interface_in i) (c.in_ok-interfaces.ensures.seen p c.requires.at)
+    compiled_by w p all members c.requires.found files.trees.items files.faulty.items parsed (name_in i) (interface_in i) (c.in_ok-interfaces.ensures.seen p c.requires.at)
     packages text (c.in_ok-packages.ensures p c.requires.at) made in
     IfOk-weaker c.new.result (λ t. t ≡ text) (IsCompiled w p (interface_in all p)) (λ t is. subst (IsCompiled w p (interface_in all p)) (sym is) compiled) c.new.ensures

@@ -4,8 +4,8 @@ use Rattle.std.proofs.lemmas.List.{take_all}
 use Rattle.std.proofs.lemmas.List.Elements.{Contains-get_or}
 use Rattle.std.proofs.lemmas.Option.{slice_get_within}
 use Rattle.gr_text.specs.Packages.{package_paths}
-use Rattle.gr_parse.specs.SourceFile.{source_of}
-use Rattle.gr_types.proofs.BoundLists.{slice_get_some}
+use Rattle.gr_tree.specs.SourceFile.{source_of}
+use Rattle.gr_meanings.proofs.BoundLists.{slice_get_some}
 use Rattle.gr_verdict.proofs.Members.{taken_or_next, still_taken, next_taken}
 use Rattle.gr_object.specs.NamesView.{AreNamesOf}
 use Rattle.gr_object.specs.PackagesView.{package_in}

@@ -2,9 +2,9 @@
 use Rattle.std.proofs.Math.ListN.{drop_of_length-le}
 use Rattle.std.proofs.lemmas.List.{map-append}
 use Rattle.std.proofs.Common.{◌≡◌, ◌+◌, List, map, option_map, drop, ap, sym, ◌∙◌, refl, subst, true, false}
-use Rattle.gr_parse.specs.Tree.{no_link}
-use Rattle.gr_parse.specs.View.{expr_view, link_view, key_view, type_view}
-use Rattle.gr_parse.specs.declared.tree.CompositeLit.{out-CompositeLit}
+use Rattle.gr_tree.specs.Tree.{no_link}
+use Rattle.gr_tree.specs.View.{expr_view, link_view, key_view, type_view}
+use Rattle.gr_tree.specs.declared.tree.CompositeLit.{out-CompositeLit}
 use Rattle.gr_expr.specs.Judge.{Argued, followed, judge, judge_value, judge_link, judge_links, judge_operands, judge_arguments, judge_elements, index_of, JudgedElements, judge_type, element_then, element_key, call_of, operation, prefix_of, address_of, none_seen}
 use Rattle.gr_expr.specs.Places.{place_of}
 use Rattle.gr_expr.specs.View.{type_of, kind_of}

@@ -2,8 +2,8 @@
 use Rattle.std.proofs.Common.{ap, ◌∙◌, arith}
 use Rattle.std.specs.List.{flat_map}
 use Rattle.std.proofs.lemmas.List.{take_all}
-use Rattle.gr_parse.specs.View.{group_view}
-use Rattle.gr_parse.specs.FileView.{import_view}
+use Rattle.gr_tree.specs.View.{group_view}
+use Rattle.gr_tree.specs.FileView.{import_view}
 use Rattle.gr_graph.specs.FileImports.{paths_in}
 use Rattle.gr_graph.proofs.ImportViews.{file_paths}
 use Rattle.gr_graph.proofs.file_imports.import_literals.Goals as goal

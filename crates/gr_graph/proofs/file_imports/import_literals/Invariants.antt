@@ -1,8 +1,8 @@
 -- The literals of the declarations that were passed.
 use Rattle.std.proofs.Common.{◌≡◌, take}
 use Rattle.std.specs.List.{flat_map}
-use Rattle.gr_parse.specs.View.{group_view}
-use Rattle.gr_parse.specs.FileView.{import_view}
+use Rattle.gr_tree.specs.View.{group_view}
+use Rattle.gr_tree.specs.FileView.{import_view}
 use Rattle.gr_graph.specs.FileImports.{paths_in}
 use Rattle.gr_graph.proofs.file_imports.import_literals.Given as goal
 

@@ -1,7 +1,7 @@
 -- The imports of the literals that were passed.
 use Rattle.std.proofs.Common.{◌≡◌, take}
 use Rattle.std.specs.List.{AllZip}
-use Rattle.gr_parse.specs.SourceFile.{source_of}
+use Rattle.gr_tree.specs.SourceFile.{source_of}
 use Rattle.gr_graph.specs.FileImports.{HasValue}
 use Rattle.gr_graph.proofs.file_imports.read_imports.Given as goal
 

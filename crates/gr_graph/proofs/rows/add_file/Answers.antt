@@ -1,6 +1,6 @@
 -- The imports that were read are the file's.
 use Rattle.std.proofs.Common.{sym, subst}
-use Rattle.gr_parse.specs.SourceFile.{source_of}
+use Rattle.gr_tree.specs.SourceFile.{source_of}
 use Rattle.gr_graph.specs.FileImports.{ListsImports}
 use Rattle.gr_graph.specs.Graphs.{paths_of}
 use Rattle.gr_graph.specs.Rows.{AreImported, FileImports}

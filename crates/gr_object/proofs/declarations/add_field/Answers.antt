@@ -1,9 +1,9 @@
 -- The answers to the goals of `declarations::add_field`.
 use Rattle.std.proofs.Common.{ℕ, ◌++◌, ◌∙◌, ap, map, refl}
 use Rattle.std.specs.Prelude.{None}
-use Rattle.gr_parse.specs.declared.tree.Item.{Item}
-use Rattle.gr_parse.specs.View.{type_view}
-use Rattle.gr_parse.specs.FileView.{field_view}
+use Rattle.gr_tree.specs.declared.tree.Item.{Item}
+use Rattle.gr_tree.specs.View.{type_view}
+use Rattle.gr_tree.specs.FileView.{field_view}
 use Rattle.gr_expr.specs.View.{type_of}
 use Rattle.gr_expr.specs.WorldView.{world_of}
 use Rattle.gr_object.specs.Objects.{written}

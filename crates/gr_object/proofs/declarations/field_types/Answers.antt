@@ -1,7 +1,7 @@
 -- The answers to the goals of `declarations::field_types`.
 use Rattle.std.proofs.Common.{map, refl}
 use Rattle.std.specs.List.{flat_map}
-use Rattle.gr_parse.specs.FileView.{field_view}
+use Rattle.gr_tree.specs.FileView.{field_view}
 use Rattle.gr_expr.specs.View.{type_of}
 use Rattle.gr_expr.specs.WorldView.{world_of}
 use Rattle.gr_object.specs.Objects.{written}

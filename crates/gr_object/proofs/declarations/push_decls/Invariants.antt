@@ -1,6 +1,6 @@
 -- The invariants of the loops of `declarations::push_decls`.
 use Rattle.std.proofs.Common.{◌≡◌, ◌≤◌, ◌++◌, drop, length, map}
-use Rattle.gr_parse.specs.FileView.{decl_view}
+use Rattle.gr_tree.specs.FileView.{decl_view}
 use Rattle.gr_object.specs.LineView.{function_of}
 use Rattle.gr_object.specs.Objects.{names_behind_all}
 use Rattle.gr_object.proofs.TextParts.{decls_text}

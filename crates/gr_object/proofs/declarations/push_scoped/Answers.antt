@@ -1,7 +1,7 @@
 -- The answers to the goals of `declarations::push_scoped`.
 use Rattle.std.proofs.Common.{◌∙◌, ap, length, map}
 use Rattle.std.proofs.lemmas.Result.{on_ok_weaker}
-use Rattle.gr_parse.specs.FileView.{func_view}
+use Rattle.gr_tree.specs.FileView.{func_view}
 use Rattle.gr_expr.specs.View.{type_of}
 use Rattle.gr_object.specs.LineView.{function_of, lines_in}
 use Rattle.gr_object.proofs.TextParts.{function_put}

@@ -2,7 +2,7 @@
 use Rattle.std.proofs.Common.{◌++◌, ◌∙◌, ap, append-nil, sym}
 use Rattle.std.specs.List.{flat_map}
 use Rattle.std.proofs.lemmas.Result.{on_ok_weaker}
-use Rattle.gr_parse.specs.FileView.{body_view, type_spec_view}
+use Rattle.gr_tree.specs.FileView.{body_view, type_spec_view}
 use Rattle.gr_expr.specs.WorldView.{world_of}
 use Rattle.gr_object.specs.PackagesView.{type_in}
 use Rattle.gr_object.specs.Objects.{defined, definition_of}

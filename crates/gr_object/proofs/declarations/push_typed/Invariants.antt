@@ -1,7 +1,7 @@
 -- The invariants of the loops of `declarations::push_typed`.
 use Rattle.std.proofs.Common.{◌≡◌, ◌++◌, drop}
-use Rattle.gr_parse.specs.View.{list_view}
-use Rattle.gr_parse.specs.FileView.{basic_view}
+use Rattle.gr_tree.specs.View.{list_view}
+use Rattle.gr_tree.specs.FileView.{basic_view}
 use Rattle.gr_expr.specs.View.{type_of}
 use Rattle.gr_object.specs.SourceView.{source_of}
 use Rattle.gr_object.specs.Objects.{initials_of}

@@ -3,8 +3,8 @@ use Rattle.std.proofs.Common.{◌++◌, ◌∙◌, Some, None, ap, append-nil, s
 use Rattle.std.specs.Prelude.{option_map}
 use Rattle.std.specs.List.{flat_map}
 use Rattle.std.proofs.lemmas.Result.{on_ok_weaker}
-use Rattle.gr_parse.specs.View.{list_view, option_view}
-use Rattle.gr_parse.specs.FileView.{basic_view, global_view, same_place, var_values_view}
+use Rattle.gr_tree.specs.View.{list_view, option_view}
+use Rattle.gr_tree.specs.FileView.{basic_view, global_view, same_place, var_values_view}
 use Rattle.gr_expr.specs.View.{type_of}
 use Rattle.gr_object.specs.SourceView.{source_of}
 use Rattle.gr_object.specs.PackagesView.{type_in}

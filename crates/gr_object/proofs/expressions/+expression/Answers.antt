@@ -1,8 +1,8 @@
 -- The answers to the goals of `expressions::expression`.
 use Rattle.std.proofs.Common.{ℕ, ◌≡◌, ◌+◌, ◌∷◌, ◌++◌, [], List, ◌-◌, ap, sym, ◌∙◌, refl, drop, take, length, get_or, option_map, arith, append_assoc}
 use Rattle.std.proofs.lemmas.Result.{on_ok_weaker}
-use Rattle.gr_parse.specs.View.{expr_view, key_view}
-use Rattle.gr_parse.specs.declared.tree.CompositeLit.{out-CompositeLit}
+use Rattle.gr_tree.specs.View.{expr_view, key_view}
+use Rattle.gr_tree.specs.declared.tree.CompositeLit.{out-CompositeLit}
 use Rattle.gr_expr.specs.View.{type_of}
 use Rattle.gr_object.specs.SourceView.{source_of}
 use Rattle.gr_expr.specs.Lists.{operands_in, arguments_in, elements_in}

@@ -1,6 +1,6 @@
 -- The answers to the goals of `functions::add_items`.
 use Rattle.std.proofs.Common.{refl, map}
-use Rattle.gr_parse.specs.View.{type_view}
+use Rattle.gr_tree.specs.View.{type_view}
 use Rattle.gr_expr.specs.View.{type_of}
 use Rattle.gr_expr.specs.WorldView.{world_of}
 use Rattle.gr_object.specs.Objects.{written}

@@ -1,7 +1,7 @@
 -- The answers to the goals of `functions::add_param`.
 use Rattle.std.proofs.Common.{◌++◌, ap, ◌∙◌, refl, map}
-use Rattle.gr_parse.specs.View.{type_view}
-use Rattle.gr_parse.specs.FileView.{param_view}
+use Rattle.gr_tree.specs.View.{type_view}
+use Rattle.gr_tree.specs.FileView.{param_view}
 use Rattle.gr_expr.specs.View.{type_of}
 use Rattle.gr_expr.specs.WorldView.{world_of}
 use Rattle.gr_object.specs.Objects.{written}

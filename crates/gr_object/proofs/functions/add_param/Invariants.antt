@@ -1,6 +1,6 @@
 -- The invariants of the loops of `functions::add_param`.
 use Rattle.std.proofs.Common.{◌≡◌, ◌++◌, drop, map}
-use Rattle.gr_parse.specs.View.{type_view}
+use Rattle.gr_tree.specs.View.{type_view}
 use Rattle.gr_expr.specs.View.{type_of}
 use Rattle.gr_expr.specs.WorldView.{world_of}
 use Rattle.gr_object.proofs.TypeParts.{for_names}

@@ -1,11 +1,11 @@
 -- The answers to the goals of `functions::add_params`.
 use Rattle.std.proofs.Common.{refl, map}
 use Rattle.std.proofs.lemmas.Grind.{flat_map-append}
-use Rattle.gr_parse.specs.View.{list_view}
-use Rattle.gr_parse.specs.FileView.{param_view}
+use Rattle.gr_tree.specs.View.{list_view}
+use Rattle.gr_tree.specs.FileView.{param_view}
 use Rattle.gr_expr.specs.View.{type_of}
 use Rattle.gr_expr.specs.WorldView.{world_of}
-use Rattle.gr_types.specs.Bound.{parameter_types}
+use Rattle.gr_declared.specs.Bound.{parameter_types}
 use Rattle.gr_object.specs.Objects.{all_written, written}
 use Rattle.gr_object.proofs.Loops.{rest_step, rest_end}
 use Rattle.gr_object.proofs.TypeParts.{for_params}

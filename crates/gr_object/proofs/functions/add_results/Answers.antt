@@ -1,11 +1,11 @@
 -- The answers to the goals of `functions::add_results`.
 use Rattle.std.proofs.Common.{◌++◌, append-nil, ap, sym, ◌∙◌, map}
 use Rattle.std.proofs.lemmas.Result.{on_ok_weaker}
-use Rattle.gr_parse.specs.View.{type_view}
-use Rattle.gr_parse.specs.FileView.{results_view}
+use Rattle.gr_tree.specs.View.{type_view}
+use Rattle.gr_tree.specs.FileView.{results_view}
 use Rattle.gr_expr.specs.View.{type_of}
 use Rattle.gr_expr.specs.WorldView.{world_of}
-use Rattle.gr_types.specs.Bound.{result_types}
+use Rattle.gr_declared.specs.Bound.{result_types}
 use Rattle.gr_object.specs.Objects.{all_written, written}
 use Rattle.gr_object.proofs.Headers.{several_results}
 use Rattle.gr_object.proofs.TypeParts.{for_results}

@@ -1,6 +1,6 @@
 -- The answers to the goals of `functions::body`.
 use Rattle.std.proofs.Common.{ap, ◌∙◌, arith}
-use Rattle.gr_parse.specs.FileView.{block_view, func_view}
+use Rattle.gr_tree.specs.FileView.{block_view, func_view}
 use Rattle.gr_object.specs.LineView.{line_of}
 use Rattle.gr_object.specs.SourceView.{source_of}
 use Rattle.gr_object.specs.Statements.{body_lines}

@@ -1,9 +1,9 @@
 -- The answers to the goals of `functions::result_count`.
 use Rattle.std.proofs.Common.{ap, sym, ◌∙◌, length}
 use Rattle.std.proofs.lemmas.List.{length-map}
-use Rattle.gr_parse.specs.View.{item_view, list_view, type_view}
-use Rattle.gr_parse.specs.FileView.{results_view}
-use Rattle.gr_types.specs.Bound.{result_types}
+use Rattle.gr_tree.specs.View.{item_view, list_view, type_view}
+use Rattle.gr_tree.specs.FileView.{results_view}
+use Rattle.gr_declared.specs.Bound.{result_types}
 use Rattle.gr_object.proofs.functions.result_count.Goals as goal
 
 pub returns-in-Several : goal.returns-in-Several

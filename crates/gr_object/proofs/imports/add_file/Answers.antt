@@ -1,7 +1,7 @@
 -- The answers to the goals of `imports::add_file`.
 use Rattle.std.proofs.Common.{sym, subst}
 use Rattle.std.proofs.lemmas.Result.{on_ok_weaker}
-use Rattle.gr_parse.specs.SourceFile.{source_of}
+use Rattle.gr_tree.specs.SourceFile.{source_of}
 use Rattle.gr_graph.specs.FileImports.{ListsImports}
 use Rattle.gr_graph.specs.Packages.{ImportsPath}
 use Rattle.gr_object.specs.ImportsView.{SomeStandFor}

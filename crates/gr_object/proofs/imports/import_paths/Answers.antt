@@ -1,6 +1,6 @@
 -- The answers to the goals of `imports::import_paths`.
 use Rattle.std.proofs.Common.{◌+◌, [], ap, subst, map, take}
-use Rattle.gr_parse.specs.SourceFile.{SourceFile, source_of}
+use Rattle.gr_tree.specs.SourceFile.{SourceFile, source_of}
 use Rattle.gr_graph.specs.Packages.{ImportsPath}
 use Rattle.gr_graph.proofs.Collected.{none_held}
 use Rattle.gr_object.specs.ImportsView.{HoldsPaths, SomeImport}

@@ -1,6 +1,6 @@
 -- The invariants of the loops of `imports::import_paths`.
 use Rattle.std.proofs.Common.{map, take}
-use Rattle.gr_parse.specs.SourceFile.{source_of}
+use Rattle.gr_tree.specs.SourceFile.{source_of}
 use Rattle.gr_object.specs.ImportsView.{HoldsPaths, SomeImport}
 use Rattle.gr_object.proofs.imports.import_paths.Given as goal
 

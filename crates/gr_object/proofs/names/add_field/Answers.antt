@@ -1,7 +1,7 @@
 -- The answers to the goals of `names::add_field`.
 use Rattle.std.proofs.Common.{◌-◌, ◌++◌, ◌∙◌, ap, arith, length}
-use Rattle.gr_parse.specs.View.{list_view}
-use Rattle.gr_parse.specs.FileView.{field_view, same_place}
+use Rattle.gr_tree.specs.View.{list_view}
+use Rattle.gr_tree.specs.FileView.{field_view, same_place}
 use Rattle.gr_object.specs.Names.{positions_from}
 use Rattle.gr_object.proofs.NameParts.{positions_within, positions_step, positions_end}
 use Rattle.gr_object.proofs.names.add_field.Goals as goal

@@ -1,7 +1,7 @@
 -- The invariants of the loops of `names::add_field`.
 use Rattle.std.proofs.Common.{◌≡◌, ◌≤◌, ◌-◌, ◌++◌, drop, length}
-use Rattle.gr_parse.specs.View.{list_view}
-use Rattle.gr_parse.specs.FileView.{same_place}
+use Rattle.gr_tree.specs.View.{list_view}
+use Rattle.gr_tree.specs.FileView.{same_place}
 use Rattle.gr_object.specs.Names.{positions_from}
 use Rattle.gr_object.proofs.names.add_field.Given as goal
 

@@ -1,6 +1,6 @@
 -- The answers to the goals of `names::add_fields`.
 use Rattle.std.proofs.Common.{◌≡◌, ◌-◌, ◌++◌, ◌∙◌, ap, arith, length}
-use Rattle.gr_parse.specs.FileView.{field_view}
+use Rattle.gr_tree.specs.FileView.{field_view}
 use Rattle.gr_object.specs.Names.{positions_from}
 use Rattle.gr_object.proofs.NameParts.{fields_within, fields_step, fields_end, struct_names}
 use Rattle.gr_object.proofs.names.add_fields.Goals as goal

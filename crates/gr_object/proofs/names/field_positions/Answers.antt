@@ -1,8 +1,8 @@
 -- The answers to the goals of `names::field_positions`.
 use Rattle.std.proofs.Common.{map, refl}
 use Rattle.std.specs.List.{flat_map}
-use Rattle.gr_parse.specs.FileView.{type_spec_view}
-use Rattle.gr_types.specs.DeclaredView.{type_of}
+use Rattle.gr_tree.specs.FileView.{type_spec_view}
+use Rattle.gr_declared.specs.DeclaredView.{type_of}
 use Rattle.gr_object.specs.Names.{type_positions}
 use Rattle.gr_object.proofs.Loops.{rest_step, rest_end}
 use Rattle.gr_object.proofs.names.field_positions.Goals as goal

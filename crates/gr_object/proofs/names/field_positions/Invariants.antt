@@ -1,7 +1,7 @@
 -- The invariants of the loops of `names::field_positions`.
 use Rattle.std.proofs.Common.{◌≡◌, ◌++◌, drop, map}
 use Rattle.std.specs.List.{flat_map}
-use Rattle.gr_types.specs.DeclaredView.{type_of}
+use Rattle.gr_declared.specs.DeclaredView.{type_of}
 use Rattle.gr_object.specs.Names.{type_positions}
 use Rattle.gr_object.proofs.names.field_positions.Given as goal
 

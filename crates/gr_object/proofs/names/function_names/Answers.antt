@@ -1,8 +1,8 @@
 -- The answers to the goals of `names::function_names`.
 use Rattle.std.proofs.Common.{◌∷◌, ◌++◌, [], ◌∙◌, ap, arith, map, refl}
 use Rattle.std.proofs.lemmas.List.{map-append}
-use Rattle.gr_parse.specs.SourceFile.{source_of}
-use Rattle.gr_types.specs.DeclaredView.{function_of as placed_function}
+use Rattle.gr_tree.specs.SourceFile.{source_of}
+use Rattle.gr_declared.specs.DeclaredView.{function_of as placed_function}
 use Rattle.gr_object.specs.LineView.{function_of}
 use Rattle.gr_object.specs.Names.{functions_behind}
 use Rattle.gr_object.proofs.Loops.{rest_end}

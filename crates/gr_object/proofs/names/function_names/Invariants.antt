@@ -1,7 +1,7 @@
 -- The invariants of the loops of `names::function_names`.
 use Rattle.std.proofs.Common.{◌≡◌, ◌≤◌, ◌++◌, drop, map}
-use Rattle.gr_parse.specs.SourceFile.{source_of}
-use Rattle.gr_types.specs.DeclaredView.{function_of as placed_function}
+use Rattle.gr_tree.specs.SourceFile.{source_of}
+use Rattle.gr_declared.specs.DeclaredView.{function_of as placed_function}
 use Rattle.gr_object.specs.LineView.{function_of}
 use Rattle.gr_object.specs.Names.{functions_behind}
 use Rattle.gr_object.proofs.names.function_names.Given as goal

@@ -1,7 +1,7 @@
 -- The answers to the goals of `names::type_names`.
 use Rattle.std.proofs.Common.{◌∙◌, arith, map, sym}
-use Rattle.gr_parse.specs.SourceFile.{source_of}
-use Rattle.gr_types.specs.DeclaredView.{type_of}
+use Rattle.gr_tree.specs.SourceFile.{source_of}
+use Rattle.gr_declared.specs.DeclaredView.{type_of}
 use Rattle.gr_stmt.proofs.Lists.{map_map, push_mapped, all_mapped}
 use Rattle.gr_object.specs.LineView.{global_of}
 use Rattle.gr_object.specs.Names.{type_called}

@@ -1,7 +1,7 @@
 -- The invariants of the loops of `names::type_names`.
 use Rattle.std.proofs.Common.{◌≡◌, take, map}
-use Rattle.gr_parse.specs.SourceFile.{source_of}
-use Rattle.gr_types.specs.DeclaredView.{type_of}
+use Rattle.gr_tree.specs.SourceFile.{source_of}
+use Rattle.gr_declared.specs.DeclaredView.{type_of}
 use Rattle.gr_object.specs.LineView.{global_of}
 use Rattle.gr_object.specs.Names.{type_called}
 use Rattle.gr_object.proofs.names.type_names.Given as goal

@@ -2,9 +2,9 @@
 use Rattle.std.proofs.Common.{refl}
 use Rattle.std.specs.Prelude.{map}
 use Rattle.std.proofs.lemmas.Result.{IfOk-weaker}
-use Rattle.gr_parse.specs.SourceFile.{source_of}
-use Rattle.gr_types.specs.Check.{package_in, IsPackageOf}
-use Rattle.gr_types.specs.InterfacesView.{name_in, interface_in}
+use Rattle.gr_tree.specs.SourceFile.{source_of}
+use Rattle.gr_meanings.specs.PackageOf.{package_in, IsPackageOf}
+use Rattle.gr_declared.specs.InterfacesView.{name_in, interface_in}
 use Rattle.gr_object.proofs.objects.object_text.Goals as goal
 
 pub laid_text-requires : goal.laid_text-requires

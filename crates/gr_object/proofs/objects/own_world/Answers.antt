@@ -2,8 +2,8 @@
 use Rattle.std.proofs.Common.{ap, refl}
 use Rattle.gr_expr.specs.declared.world.World.{World}
 use Rattle.gr_expr.specs.WorldView.{definition_or_none, imported_at}
-use Rattle.gr_types.specs.PackageView.{package_of}
-use Rattle.gr_types.proofs.WorldParts.{world_from}
+use Rattle.gr_declared.specs.PackageView.{package_of}
+use Rattle.gr_meanings.proofs.WorldParts.{world_from}
 use Rattle.gr_object.proofs.OwnDefinitions.{own_definitions}
 use Rattle.gr_object.proofs.objects.own_world.Goals as goal
 

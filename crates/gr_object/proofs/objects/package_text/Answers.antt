@@ -1,8 +1,8 @@
 -- The answers to the goals of `objects::package_text`.
 use Rattle.std.proofs.Common.{ap, sym, subst, ◌∙◌, map}
 use Rattle.std.proofs.lemmas.List.{length-map}
-use Rattle.gr_parse.specs.SourceFile.{source_of}
-use Rattle.gr_types.specs.PackageView.{package_of}
+use Rattle.gr_tree.specs.SourceFile.{source_of}
+use Rattle.gr_declared.specs.PackageView.{package_of}
 use Rattle.gr_object.specs.LineView.{function_of}
 use Rattle.gr_object.specs.Names.{function_names}
 use Rattle.gr_object.specs.ObjectSteps.{PutsFiles, PutsHead}

@@ -1,8 +1,8 @@
 -- The answers to the goals of `objects::push_files`.
 use Rattle.std.proofs.Common.{◌≡◌, ap, sym, subst, ◌∙◌, length, map, arith}
 use Rattle.std.proofs.lemmas.List.{length-map}
-use Rattle.gr_parse.specs.SourceFile.{source_of}
-use Rattle.gr_types.specs.PackageView.{package_of}
+use Rattle.gr_tree.specs.SourceFile.{source_of}
+use Rattle.gr_declared.specs.PackageView.{package_of}
 use Rattle.gr_object.specs.ObjectSteps.{PutsFiles}
 use Rattle.gr_object.specs.ObjectView.{PutsFile}
 use Rattle.gr_object.proofs.Whole.{no_files, one_file_more}

@@ -1,7 +1,7 @@
 -- The invariants of the loops of `objects::push_files`.
 use Rattle.std.proofs.Common.{◌≤◌, length}
-use Rattle.gr_types.specs.BoundsView.{AreBounds}
-use Rattle.gr_types.specs.PackageView.{package_of}
+use Rattle.gr_meanings.specs.BoundsView.{AreBounds}
+use Rattle.gr_declared.specs.PackageView.{package_of}
 use Rattle.gr_object.specs.ObjectSteps.{PutsFiles}
 use Rattle.gr_object.proofs.objects.push_files.Given as goal
 

@@ -1,6 +1,6 @@
 -- The answers to the goals of `objects::push_head`.
 use Rattle.std.proofs.Common.{sym, ◌∙◌}
-use Rattle.gr_types.specs.PackageView.{package_of}
+use Rattle.gr_declared.specs.PackageView.{package_of}
 use Rattle.gr_object.proofs.Whole.{head_put, on_ok_both}
 use Rattle.gr_object.proofs.objects.push_head.Goals as goal
 

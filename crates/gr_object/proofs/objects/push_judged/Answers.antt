@@ -1,10 +1,10 @@
 -- The answers to the goals of `objects::push_judged`.
 use Rattle.std.proofs.Common.{◌++◌, ap, ◌∙◌, map, drop}
 use Rattle.std.specs.List.{flat_map}
-use Rattle.gr_parse.specs.FileView.{decl_view, file_view}
-use Rattle.gr_parse.specs.SourceFile.{source_of as plain_file}
+use Rattle.gr_tree.specs.FileView.{decl_view, file_view}
+use Rattle.gr_tree.specs.SourceFile.{source_of as plain_file}
 use Rattle.gr_stages.proofs.UnknownParts.{source_at}
-use Rattle.gr_types.specs.PackageView.{package_of}
+use Rattle.gr_declared.specs.PackageView.{package_of}
 use Rattle.gr_object.specs.LineView.{function_of}
 use Rattle.gr_object.specs.Objects.{declared_in, names_behind_all}
 use Rattle.gr_object.specs.ObjectText.{declaration_text}

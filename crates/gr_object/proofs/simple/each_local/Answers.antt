@@ -1,8 +1,8 @@
 -- The answers to the goals of `simple::each_local`.
 use Rattle.std.proofs.Common.{◌-◌, ap, refl, get_or, arith}
 use Rattle.std.specs.List.{flat_map}
-use Rattle.gr_parse.specs.View.{list_view}
-use Rattle.gr_parse.specs.FileView.{local_view}
+use Rattle.gr_tree.specs.View.{list_view}
+use Rattle.gr_tree.specs.FileView.{local_view}
 use Rattle.gr_object.specs.SourceView.{source_of}
 use Rattle.gr_object.specs.Statements.{local_lines}
 use Rattle.gr_object.proofs.Loops.{back_turn}

@@ -2,8 +2,8 @@
 use Rattle.std.proofs.Common.{ap, sym, ◌∙◌}
 use Rattle.std.specs.List.{flat_map}
 use Rattle.std.proofs.lemmas.Result.{on_ok_weaker}
-use Rattle.gr_parse.specs.View.{list_view, group_view}
-use Rattle.gr_parse.specs.FileView.{local_view}
+use Rattle.gr_tree.specs.View.{list_view, group_view}
+use Rattle.gr_tree.specs.FileView.{local_view}
 use Rattle.gr_stages.specs.Files.{group_items}
 use Rattle.gr_object.specs.SourceView.{source_of}
 use Rattle.gr_object.specs.Statements.{local_lines}

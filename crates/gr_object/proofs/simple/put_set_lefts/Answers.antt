@@ -1,5 +1,5 @@
 -- The answers to the goals of `simple::put_set_lefts`.
-use Rattle.gr_parse.specs.View.{expr_item_view}
+use Rattle.gr_tree.specs.View.{expr_item_view}
 use Rattle.gr_object.specs.SourceView.{source_of}
 use Rattle.gr_object.specs.Statements.{set_left}
 use Rattle.gr_object.proofs.Putting.{puts_none, puts_as}

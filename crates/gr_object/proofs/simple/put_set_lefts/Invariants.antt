@@ -1,6 +1,6 @@
 -- The invariants of the loops of `simple::put_set_lefts`.
 use Rattle.std.proofs.Common.{take}
-use Rattle.gr_parse.specs.View.{exprs_view}
+use Rattle.gr_tree.specs.View.{exprs_view}
 use Rattle.gr_object.specs.LineView.{Puts}
 use Rattle.gr_object.specs.SourceView.{source_of}
 use Rattle.gr_object.specs.Statements.{from_last, set_left}

@@ -1,5 +1,5 @@
 -- The answers to the goals of `simple::put_set_names`.
-use Rattle.gr_parse.specs.View.{item_view, ident_view}
+use Rattle.gr_tree.specs.View.{item_view, ident_view}
 use Rattle.gr_object.specs.Statements.{set_name}
 use Rattle.gr_object.proofs.Putting.{puts_none, puts_as}
 use Rattle.gr_object.proofs.Loops.{from_last_none, taken_at}

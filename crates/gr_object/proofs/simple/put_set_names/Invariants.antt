@@ -1,6 +1,6 @@
 -- The invariants of the loops of `simple::put_set_names`.
 use Rattle.std.proofs.Common.{take}
-use Rattle.gr_parse.specs.View.{list_view, ident_view}
+use Rattle.gr_tree.specs.View.{list_view, ident_view}
 use Rattle.gr_object.specs.LineView.{Puts}
 use Rattle.gr_object.specs.Statements.{from_last, set_name}
 use Rattle.gr_object.proofs.simple.put_set_names.Given as goal

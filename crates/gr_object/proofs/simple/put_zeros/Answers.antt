@@ -1,7 +1,7 @@
 -- The answers to the goals of `simple::put_zeros`.
 use Rattle.std.proofs.Common.{refl, arith}
 use Rattle.std.specs.List.{flat_map}
-use Rattle.gr_parse.specs.View.{list_view, ident_view, type_view}
+use Rattle.gr_tree.specs.View.{list_view, ident_view, type_view}
 use Rattle.gr_expr.specs.Judge.{judge_type}
 use Rattle.gr_object.specs.Lines.{line_if_known}
 use Rattle.gr_object.specs.Lines as line

@@ -2,8 +2,8 @@
 use Rattle.std.proofs.Common.{◌++◌, ◌∷◌, [], ap, sym, ◌∙◌, length}
 use Rattle.std.proofs.lemmas.List.{length-map}
 use Rattle.std.proofs.lemmas.Result.{on_ok_weaker}
-use Rattle.gr_parse.specs.View.{expr_item_view, exprs_view}
-use Rattle.gr_parse.specs.FileView.{simple_view}
+use Rattle.gr_tree.specs.View.{expr_item_view, exprs_view}
+use Rattle.gr_tree.specs.FileView.{simple_view}
 use Rattle.gr_object.specs.Lines.{Assign}
 use Rattle.gr_object.specs.LineView.{line_of}
 use Rattle.gr_object.specs.SourceView.{source_of}

@@ -1,6 +1,6 @@
 -- The invariants of the loops of `simple::targets`.
 use Rattle.std.proofs.Common.{drop}
-use Rattle.gr_parse.specs.View.{exprs_view}
+use Rattle.gr_tree.specs.View.{exprs_view}
 use Rattle.gr_object.specs.LineView.{Puts}
 use Rattle.gr_object.specs.SourceView.{source_of}
 use Rattle.gr_object.specs.Statements.{targets_of}

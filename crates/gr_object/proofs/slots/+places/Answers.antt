@@ -1,7 +1,7 @@
 -- The answers to the goals of `slots::places`.
 use Rattle.std.proofs.Common.{◌++◌, ap, sym, ◌∙◌, append-nil}
 use Rattle.std.proofs.lemmas.Result.{on_ok_weaker}
-use Rattle.gr_parse.specs.FileView.{stmt_view, block_view, if_view, else_view}
+use Rattle.gr_tree.specs.FileView.{stmt_view, block_view, if_view, else_view}
 use Rattle.gr_expr.specs.WorldView.{world_of}
 use Rattle.gr_object.specs.Slots.{statement_places, block_places, if_places, else_places}
 use Rattle.gr_object.proofs.Loops.{rest_step, rest_end}

@@ -1,6 +1,6 @@
 -- The answers to the goals of `slots::add_names`.
 use Rattle.std.proofs.Common.{◌∷◌, ◌++◌, [], ap, ◌∙◌, refl}
-use Rattle.gr_parse.specs.View.{ident_view}
+use Rattle.gr_tree.specs.View.{ident_view}
 use Rattle.gr_stmt.specs.Sides.{ident_place}
 use Rattle.gr_object.proofs.Loops.{rest_at, rest_end}
 use Rattle.gr_object.proofs.Parts.{name_places}

@@ -1,7 +1,7 @@
 -- The answers to the goals of `sources::global_at`.
 use Rattle.std.proofs.Common.{◌∙◌, sym, refl}
 use Rattle.std.proofs.lemmas.Bool.{false≢true}
-use Rattle.gr_types.specs.PackageView.{package_of}
+use Rattle.gr_declared.specs.PackageView.{package_of}
 use Rattle.gr_object.specs.Sources.{own, imported}
 use Rattle.gr_object.proofs.Bindings.{global_as, no_global}
 use Rattle.gr_object.proofs.sources.global_at.Goals as goal

@@ -2,7 +2,7 @@
 use Rattle.std.proofs.Common.{map, ap, ◌∙◌, arith}
 use Rattle.std.specs.Prelude.{None, option_map}
 use Rattle.std.proofs.lemmas.List.{map-append}
-use Rattle.gr_types.specs.PackageView.{package_of}
+use Rattle.gr_declared.specs.PackageView.{package_of}
 use Rattle.gr_object.specs.LineView.{global_of}
 use Rattle.gr_object.specs.Sources.{IsGlobal}
 use Rattle.gr_object.proofs.Bindings.{no_global_past}

@@ -1,7 +1,7 @@
 -- The invariants of the loops of `sources::globals`.
 use Rattle.std.proofs.Common.{map}
 use Rattle.std.specs.Prelude.{None, option_map}
-use Rattle.gr_types.specs.PackageView.{package_of}
+use Rattle.gr_declared.specs.PackageView.{package_of}
 use Rattle.gr_object.specs.LineView.{global_of}
 use Rattle.gr_object.specs.Sources.{IsGlobal}
 use Rattle.gr_object.proofs.Tables.{IsTableBelow}

@@ -1,5 +1,5 @@
 -- The answers to the goals of `sources::import_at`.
-use Rattle.gr_types.specs.PackageView.{package_of}
+use Rattle.gr_declared.specs.PackageView.{package_of}
 use Rattle.gr_object.proofs.Bindings.{import_by}
 use Rattle.gr_object.proofs.sources.import_at.Goals as goal
 

@@ -1,9 +1,9 @@
 -- The answers to the goals of `sources::is_behind_dot`.
 use Rattle.std.proofs.Common.{◌∙◌, sym}
 use Rattle.std.proofs.lemmas.Bool.{false≢true}
-use Rattle.gr_types.specs.PackageView.{package_of}
-use Rattle.gr_types.proofs.Binding.{found_at}
-use Rattle.gr_types.proofs.NameParts.{no_dot, role_behind}
+use Rattle.gr_declared.specs.PackageView.{package_of}
+use Rattle.gr_declared.proofs.Binding.{found_at}
+use Rattle.gr_meanings.proofs.NameParts.{no_dot, role_behind}
 use Rattle.gr_object.proofs.sources.is_behind_dot.Goals as goal
 
 pub role-requires : goal.role-requires

@@ -1,8 +1,8 @@
 -- The answers to the goals of `sources::is_true_at`.
 use Rattle.std.proofs.Common.{subst, codes}
 use Rattle.std.proofs.lemmas.Bool.{false≢true}
-use Rattle.gr_types.specs.PackageView.{package_of}
-use Rattle.gr_types.specs.Written.{IsPredeclared}
+use Rattle.gr_declared.specs.PackageView.{package_of}
+use Rattle.gr_declared.specs.Written.{IsPredeclared}
 use Rattle.gr_object.proofs.sources.is_true_at.Goals as goal
 
 pub returns-in-None : goal.returns-in-None

@@ -1,6 +1,6 @@
 -- The answers to the goals of `sources::literal`.
 use Rattle.std.proofs.lemmas.Result.{IfOk-weaker}
-use Rattle.gr_parse.specs.SourceFile.{source_of}
+use Rattle.gr_tree.specs.SourceFile.{source_of}
 use Rattle.gr_object.proofs.Bindings.{text_from}
 use Rattle.gr_object.proofs.sources.literal.Goals as goal
 

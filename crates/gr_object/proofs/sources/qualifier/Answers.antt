@@ -1,6 +1,6 @@
 -- The answers to the goals of `sources::qualifier`.
 use Rattle.std.proofs.Common.{arith}
-use Rattle.gr_types.specs.PackageView.{package_of}
+use Rattle.gr_declared.specs.PackageView.{package_of}
 use Rattle.gr_object.proofs.Bindings.{late}
 use Rattle.gr_object.proofs.sources.qualifier.Goals as goal
 

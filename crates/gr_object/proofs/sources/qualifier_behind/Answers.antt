@@ -1,7 +1,7 @@
 -- The answers to the goals of `sources::qualifier_behind`.
 use Rattle.std.proofs.Common.{◌≡◌, ◌-◌, ◌∙◌, suc, sym, arith}
 use Rattle.std.proofs.lemmas.Bool.{false≢true}
-use Rattle.gr_types.specs.PackageView.{package_of}
+use Rattle.gr_declared.specs.PackageView.{package_of}
 use Rattle.gr_object.proofs.Bindings.{behind_by, dot_before}
 use Rattle.gr_object.proofs.sources.qualifier_behind.Goals as goal
 

@@ -2,7 +2,7 @@
 use Rattle.std.proofs.Common.{◌≤◌, ap, ◌∙◌, length, arith}
 use Rattle.std.specs.Prelude.{None, option_map}
 use Rattle.gr_scan.specs.CutText.{tokens_in}
-use Rattle.gr_parse.specs.SourceFile.{source_of}
+use Rattle.gr_tree.specs.SourceFile.{source_of}
 use Rattle.gr_object.specs.Sources.{IsTextAt}
 use Rattle.gr_object.proofs.Bindings.{no_text}
 use Rattle.gr_object.proofs.Tables.{no_row, next_row, all_rows}

@@ -1,6 +1,6 @@
 -- The invariants of the loops of `sources::texts`.
 use Rattle.std.specs.Prelude.{None, option_map}
-use Rattle.gr_parse.specs.SourceFile.{source_of}
+use Rattle.gr_tree.specs.SourceFile.{source_of}
 use Rattle.gr_object.specs.Sources.{IsTextAt}
 use Rattle.gr_object.proofs.Tables.{IsTableBelow}
 use Rattle.gr_object.proofs.sources.texts.Given as goal

@@ -1,6 +1,6 @@
 -- The answers to the goals of `sources::truths`.
 use Rattle.std.proofs.Common.{◌≡◌, ◌↔◌, true, false, ap, ◌∙◌, arith}
-use Rattle.gr_types.specs.PackageView.{package_of}
+use Rattle.gr_declared.specs.PackageView.{package_of}
 use Rattle.gr_object.specs.Sources.{IsTrueAt}
 use Rattle.gr_object.proofs.Bindings.{no_truth_past}
 use Rattle.gr_object.proofs.Tables.{no_row, next_row, all_rows}

@@ -1,6 +1,6 @@
 -- The invariants of the loops of `sources::truths`.
 use Rattle.std.proofs.Common.{◌≡◌, ◌↔◌, true, false}
-use Rattle.gr_types.specs.PackageView.{package_of}
+use Rattle.gr_declared.specs.PackageView.{package_of}
 use Rattle.gr_object.specs.Sources.{IsTrueAt}
 use Rattle.gr_object.proofs.Tables.{IsTableBelow}
 use Rattle.gr_object.proofs.sources.truths.Given as goal

@@ -1,10 +1,10 @@
 -- The answers to the goals of `statements::statement`.
 use Rattle.std.proofs.Common.{◌+◌, ◌-◌, ◌++◌, ◌∷◌, [], ap, sym, ◌∙◌, length, get_or, rules, arith, Some}
 use Rattle.std.proofs.lemmas.Result.{on_ok_weaker}
-use Rattle.gr_parse.specs.View.{exprs_view}
-use Rattle.gr_parse.specs.FileView.{stmt_view, block_view, for_view, if_view, else_view}
-use Rattle.gr_parse.specs.declared.tree.Stmt as stmts
-use Rattle.gr_parse.specs.declared.tree.IfStmt as ifs
+use Rattle.gr_tree.specs.View.{exprs_view}
+use Rattle.gr_tree.specs.FileView.{stmt_view, block_view, for_view, if_view, else_view}
+use Rattle.gr_tree.specs.declared.tree.Stmt as stmts
+use Rattle.gr_tree.specs.declared.tree.IfStmt as ifs
 use Rattle.gr_object.specs.Lines.{Return}
 use Rattle.gr_object.specs.LineView.{lines_in}
 use Rattle.gr_object.specs.SourceView.{source_of}

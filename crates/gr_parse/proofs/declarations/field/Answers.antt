@@ -1,6 +1,6 @@
 -- The answers to the goals of `declarations::field`.
 use Rattle.std.proofs.Common.{◌∷◌, [], sym}
-use Rattle.gr_parse.specs.Grammar.{A, TypeUse}
+use Rattle.gr_tree.specs.Grammar.{A, TypeUse}
 use Rattle.gr_parse.proofs.MachineSteps.{exits, read_as}
 use Rattle.gr_parse.proofs.StatementSteps.{fails_in, fails_on, read_on}
 use Rattle.gr_parse.proofs.SpelledDeclarations.{field_spelled_as}

@@ -1,7 +1,7 @@
 -- The answers to the goals of `declarations::fields`.
 use Rattle.std.proofs.Common.{◌∷◌, []}
-use Rattle.gr_parse.specs.declared.syntax.Kind.TheVariants as kind
-use Rattle.gr_parse.specs.Grammar.{A, One, is, MoreNames, TypeUse, Fields, MoreFields}
+use Rattle.gr_tree.specs.declared.syntax.Kind.TheVariants as kind
+use Rattle.gr_tree.specs.Grammar.{A, One, is, MoreNames, TypeUse, Fields, MoreFields}
 use Rattle.gr_parse.specs.Spelling.{field_spelled}
 use Rattle.gr_parse.specs.Machine.{first, later, last}
 use Rattle.gr_parse.specs.Parsing.{list_rest}

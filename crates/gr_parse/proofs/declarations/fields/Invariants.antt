@@ -1,15 +1,15 @@
 -- The invariants of the loops of `declarations::fields`.
 use Rattle.std.proofs.Common.{◌∷◌, [], length, ◌+◌}
-use Rattle.gr_parse.specs.declared.syntax.Kind.TheVariants as kind
-use Rattle.gr_parse.specs.Grammar.{A, Fields}
+use Rattle.gr_tree.specs.declared.syntax.Kind.TheVariants as kind
+use Rattle.gr_tree.specs.Grammar.{A, Fields}
 use Rattle.gr_parse.specs.ListSpelling.{item_spelled}
 use Rattle.gr_parse.specs.Spelling.{field_spelled}
-use Rattle.gr_parse.specs.Flatten.{all_tokens}
+use Rattle.gr_tree.specs.Flatten.{all_tokens}
 use Rattle.gr_parse.specs.Parsing.{Leads, list_rest}
 use Rattle.gr_parse.specs.Listed.{IsListed}
-use Rattle.gr_parse.specs.View.{item_view}
-use Rattle.gr_parse.specs.FileView.{field_view}
-use Rattle.gr_parse.specs.WellFormed.{IsField}
+use Rattle.gr_tree.specs.View.{item_view}
+use Rattle.gr_tree.specs.FileView.{field_view}
+use Rattle.gr_tree.specs.WellFormed.{IsField}
 use Rattle.gr_parse.proofs.StatementSteps.{flag}
 use Rattle.gr_parse.proofs.declarations.fields.Given as goal
 

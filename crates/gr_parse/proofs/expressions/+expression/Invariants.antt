@@ -1,15 +1,15 @@
 -- The invariants of the loops of `expressions::expression`.
 use Rattle.std.proofs.Common.{◌≡◌, ◌∷◌, ◌≤◌, ◌<◌, ◌+◌, ◌*◌, ◌-◌, [], length}
-use Rattle.gr_parse.specs.Grammar.{A, Binaries, Links, Arguments, ElementList}
-use Rattle.gr_parse.specs.declared.syntax.Kind.TheVariants as kind
+use Rattle.gr_tree.specs.Grammar.{A, Binaries, Links, Arguments, ElementList}
+use Rattle.gr_tree.specs.declared.syntax.Kind.TheVariants as kind
 use Rattle.gr_parse.specs.Parsing.{Leads, list_rest}
-use Rattle.gr_parse.specs.Flatten.{all_tokens}
+use Rattle.gr_tree.specs.Flatten.{all_tokens}
 use Rattle.gr_parse.specs.Spelling.{operand_spelled, link_spelled, expr_item_spelled, element_spelled}
-use Rattle.gr_parse.specs.View.{type_view, expr_view}
-use Rattle.gr_parse.specs.WellFormed.{IsExpr}
+use Rattle.gr_tree.specs.View.{type_view, expr_view}
+use Rattle.gr_tree.specs.WellFormed.{IsExpr}
 use Rattle.gr_parse.specs.Grouping.{Each, IsJoined, IsLink, IsSeparatedSoFar}
-use Rattle.gr_parse.specs.declared.tree.Element.{Element}
-use Rattle.gr_parse.specs.declared.tree.ExprItem.{ExprItem}
+use Rattle.gr_tree.specs.declared.tree.Element.{Element}
+use Rattle.gr_tree.specs.declared.tree.ExprItem.{ExprItem}
 use Rattle.gr_parse.specs.Strength.{strength_at}
 use Rattle.gr_parse.proofs.expressions.+expression.Given as goal
 

@@ -1,11 +1,11 @@
 -- The answers to the goals of `file::decls`.
 use Rattle.gr_parse.specs.Machine.{last, later}
-use Rattle.gr_parse.specs.FileView.{decl_view}
+use Rattle.gr_tree.specs.FileView.{decl_view}
 use Rattle.gr_parse.specs.Spelling.{decl_spelled}
 use Rattle.gr_parse.proofs.MachineSteps.{exits, fails_leads, leads_to_end}
 use Rattle.gr_parse.proofs.StatementSteps.{leads_none, leads_push}
 use Rattle.gr_parse.proofs.ListedSteps.{all_none, all_push}
-use Rattle.gr_parse.specs.WellFormed.{IsDecl}
+use Rattle.gr_tree.specs.WellFormed.{IsDecl}
 use Rattle.gr_parse.proofs.file.decls.Goals as goal
 
 pub decls-init : goal.decls-init

@@ -1,12 +1,12 @@
 -- The invariants of the loops of `file::decls`.
 use Rattle.std.proofs.Common.{◌∷◌, [], length}
-use Rattle.gr_parse.specs.Grammar.{A, Tops}
+use Rattle.gr_tree.specs.Grammar.{A, Tops}
 use Rattle.gr_parse.specs.Parsing.{Leads}
-use Rattle.gr_parse.specs.Flatten.{all_tokens}
+use Rattle.gr_tree.specs.Flatten.{all_tokens}
 use Rattle.gr_parse.specs.Spelling.{decl_spelled}
 use Rattle.std.specs.List.{All}
-use Rattle.gr_parse.specs.WellFormed.{IsDecl}
-use Rattle.gr_parse.specs.FileView.{decl_view}
+use Rattle.gr_tree.specs.WellFormed.{IsDecl}
+use Rattle.gr_tree.specs.FileView.{decl_view}
 use Rattle.gr_parse.proofs.file.decls.Given as goal
 
 abbrev pub invariant-decls : goal.invariant-decls

@@ -1,12 +1,12 @@
 -- The answers to the goals of `file::imports`.
 use Rattle.std.proofs.Common.{sym, ◌∙◌}
 use Rattle.gr_parse.specs.Machine.{last, later}
-use Rattle.gr_parse.specs.FileView.{imports_view}
+use Rattle.gr_tree.specs.FileView.{imports_view}
 use Rattle.gr_parse.specs.Spelling.{imports_spelled}
 use Rattle.gr_parse.proofs.MachineSteps.{exits, fails_leads}
 use Rattle.gr_parse.proofs.StatementSteps.{leads_next, leads_none, leads_push}
 use Rattle.gr_parse.proofs.ListedSteps.{all_none, all_push}
-use Rattle.gr_parse.specs.WellFormed.{IsImports}
+use Rattle.gr_tree.specs.WellFormed.{IsImports}
 use Rattle.gr_parse.proofs.file.imports.Goals as goal
 
 pub imports-init : goal.imports-init

@@ -1,12 +1,12 @@
 -- The invariants of the loops of `file::imports`.
 use Rattle.std.proofs.Common.{◌∷◌, [], length}
-use Rattle.gr_parse.specs.Grammar.{A, Imports}
+use Rattle.gr_tree.specs.Grammar.{A, Imports}
 use Rattle.gr_parse.specs.Parsing.{Leads}
-use Rattle.gr_parse.specs.Flatten.{all_tokens}
+use Rattle.gr_tree.specs.Flatten.{all_tokens}
 use Rattle.gr_parse.specs.Spelling.{imports_spelled}
 use Rattle.std.specs.List.{All}
-use Rattle.gr_parse.specs.WellFormed.{IsImports}
-use Rattle.gr_parse.specs.FileView.{imports_view}
+use Rattle.gr_tree.specs.WellFormed.{IsImports}
+use Rattle.gr_tree.specs.FileView.{imports_view}
 use Rattle.gr_parse.proofs.file.imports.Given as goal
 
 abbrev pub invariant-imports : goal.invariant-imports

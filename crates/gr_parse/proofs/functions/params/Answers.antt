@@ -1,7 +1,7 @@
 -- The answers to the goals of `functions::params`.
 use Rattle.std.proofs.Common.{◌∷◌, []}
-use Rattle.gr_parse.specs.declared.syntax.Kind.TheVariants as kind
-use Rattle.gr_parse.specs.Grammar.{A, One, is_ident, MoreIdents, TypeUse, Params, MoreParams}
+use Rattle.gr_tree.specs.declared.syntax.Kind.TheVariants as kind
+use Rattle.gr_tree.specs.Grammar.{A, One, is_ident, MoreIdents, TypeUse, Params, MoreParams}
 use Rattle.gr_parse.specs.Spelling.{param_spelled}
 use Rattle.gr_parse.specs.Machine.{first, later, last}
 use Rattle.gr_parse.specs.Parsing.{list_rest}

@@ -1,7 +1,7 @@
 -- The answers to the goals of `functions::receiver`.
 use Rattle.std.proofs.Common.{◌∷◌, [], sym}
-use Rattle.gr_parse.specs.declared.syntax.Kind.TheVariants as kind
-use Rattle.gr_parse.specs.Grammar.{One, ReceiverEnd, ReceiverStar, is}
+use Rattle.gr_tree.specs.declared.syntax.Kind.TheVariants as kind
+use Rattle.gr_tree.specs.Grammar.{One, ReceiverEnd, ReceiverStar, is}
 use Rattle.gr_parse.specs.Machine.{first, last, later}
 use Rattle.gr_parse.proofs.MachineSteps.{exits, fails_first, fails_later, fails_leads, read_as, read_then, read_to_close}
 use Rattle.gr_parse.proofs.StatementSteps.{leads_optional, read_leads, read_optional}

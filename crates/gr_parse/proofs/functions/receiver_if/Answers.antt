@@ -1,7 +1,7 @@
 -- The answers to the goals of `functions::receiver_if`.
 use Rattle.std.proofs.Common.{◌∷◌, [], sym, ◌∙◌}
-use Rattle.gr_parse.specs.declared.syntax.Kind.TheVariants as kind
-use Rattle.gr_parse.specs.Grammar.{A, One, Signature, is}
+use Rattle.gr_tree.specs.declared.syntax.Kind.TheVariants as kind
+use Rattle.gr_tree.specs.Grammar.{A, One, Signature, is}
 use Rattle.gr_parse.specs.Machine.{first, last, later}
 use Rattle.gr_parse.proofs.MachineSteps.{exits, fails_rule, leads_here, leads_rule}
 use Rattle.gr_parse.proofs.StatementSteps.{fails_in, leads_read}

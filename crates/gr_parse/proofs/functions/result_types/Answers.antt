@@ -1,7 +1,7 @@
 -- The answers to the goals of `functions::result_types`.
 use Rattle.std.proofs.Common.{◌∷◌, []}
-use Rattle.gr_parse.specs.declared.syntax.Kind.TheVariants as kind
-use Rattle.gr_parse.specs.Grammar.{A, TypeUse, Types, MoreTypes}
+use Rattle.gr_tree.specs.declared.syntax.Kind.TheVariants as kind
+use Rattle.gr_tree.specs.Grammar.{A, TypeUse, Types, MoreTypes}
 use Rattle.gr_parse.specs.Spelling.{type_spelled}
 use Rattle.gr_parse.specs.Machine.{first, later, last}
 use Rattle.gr_parse.specs.Parsing.{list_rest}

@@ -1,7 +1,7 @@
 -- The answers to the goals of `groups::specs`.
 use Rattle.std.proofs.Common.{◌∷◌, []}
-use Rattle.gr_parse.specs.declared.syntax.Kind.TheVariants as kind
-use Rattle.gr_parse.specs.Grammar.{A, Single, Items, MoreItems}
+use Rattle.gr_tree.specs.declared.syntax.Kind.TheVariants as kind
+use Rattle.gr_tree.specs.Grammar.{A, Single, Items, MoreItems}
 use Rattle.gr_parse.specs.Machine.{first, later, last}
 use Rattle.gr_parse.specs.Parsing.{list_rest}
 use Rattle.gr_parse.specs.ListSpelling.{item_spelled}

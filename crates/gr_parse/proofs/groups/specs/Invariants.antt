@@ -1,12 +1,12 @@
 -- The invariants of the loops of `groups::specs`.
 use Rattle.std.proofs.Common.{◌∷◌, [], length, ◌+◌}
-use Rattle.gr_parse.specs.declared.syntax.Kind.TheVariants as kind
-use Rattle.gr_parse.specs.Grammar.{A, Items}
+use Rattle.gr_tree.specs.declared.syntax.Kind.TheVariants as kind
+use Rattle.gr_tree.specs.Grammar.{A, Items}
 use Rattle.gr_parse.specs.ListSpelling.{item_spelled}
-use Rattle.gr_parse.specs.Flatten.{all_tokens}
+use Rattle.gr_tree.specs.Flatten.{all_tokens}
 use Rattle.gr_parse.specs.Parsing.{Leads, list_rest}
 use Rattle.gr_parse.specs.Listed.{IsListed}
-use Rattle.gr_parse.specs.View.{item_view}
+use Rattle.gr_tree.specs.View.{item_view}
 use Rattle.gr_parse.proofs.StatementSteps.{flag}
 use Rattle.gr_parse.proofs.groups.specs.Given as goal
 

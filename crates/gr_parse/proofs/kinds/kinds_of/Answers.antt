@@ -2,7 +2,7 @@
 use Rattle.std.proofs.Common.{ap, ◌∙◌, arith, drop, length, ◌++◌, ◌+◌}
 use Rattle.gr_scan.specs.Tokens.{semicolon}
 use Rattle.gr_scan.specs.CutText.{tokens_in}
-use Rattle.gr_parse.specs.Kinds.{kinds_from}
+use Rattle.gr_tree.specs.Kinds.{kinds_from}
 use Rattle.gr_parse.proofs.KindSteps.{kinds_more, kinds_past, token_of}
 use Rattle.gr_parse.proofs.kinds.kinds_of.Goals as goal
 

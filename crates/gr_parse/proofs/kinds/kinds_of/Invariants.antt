@@ -1,7 +1,7 @@
 -- The invariants of the loops of `kinds::kinds_of`.
 use Rattle.std.proofs.Common.{◌≡◌, ◌++◌, ◌≤◌, length, drop}
 use Rattle.gr_scan.specs.CutText.{tokens_in}
-use Rattle.gr_parse.specs.Kinds.{kinds_from, kinds_of}
+use Rattle.gr_tree.specs.Kinds.{kinds_from, kinds_of}
 use Rattle.gr_parse.proofs.kinds.kinds_of.Given as goal
 
 abbrev pub invariant-loop-place : goal.invariant-loop-place

@@ -1,7 +1,7 @@
 -- The answers to the goals of `operators::binary_operator`.
 use Rattle.std.proofs.Common.{sym, false}
-use Rattle.gr_parse.specs.Grammar.{is_binary}
-use Rattle.gr_parse.specs.Flatten.{binary_kind}
+use Rattle.gr_tree.specs.Grammar.{is_binary}
+use Rattle.gr_tree.specs.Flatten.{binary_kind}
 use Rattle.gr_parse.proofs.KindFacts.{binary_back, binary_some, binary_none}
 use Rattle.gr_parse.proofs.MachineSteps.{refuses_one, at_end, at_token, read_one}
 use Rattle.gr_parse.proofs.operators.binary_operator.Goals as goal

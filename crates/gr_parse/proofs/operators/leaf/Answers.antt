@@ -1,6 +1,6 @@
 -- The answers to the goals of `operators::leaf`.
 use Rattle.std.proofs.Common.{sym, refl, false}
-use Rattle.gr_parse.specs.Grammar.{is_leaf}
+use Rattle.gr_tree.specs.Grammar.{is_leaf}
 use Rattle.gr_parse.proofs.Spelled.{leaf_none, leaf_some, leaf_tokens}
 use Rattle.gr_parse.proofs.MachineSteps.{refuses_one, at_end, at_token, read_one, read_as}
 use Rattle.gr_parse.proofs.Grouping.{leaf_grouped}

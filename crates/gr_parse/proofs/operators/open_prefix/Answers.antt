@@ -1,7 +1,7 @@
 -- The answers to the goals of `operators::open_prefix`.
 use Rattle.std.proofs.Common.{sym, refl, false, arith}
-use Rattle.gr_parse.specs.Grammar.{is_prefix}
-use Rattle.gr_parse.specs.Flatten.{prefix_kind}
+use Rattle.gr_tree.specs.Grammar.{is_prefix}
+use Rattle.gr_tree.specs.Flatten.{prefix_kind}
 use Rattle.gr_parse.proofs.KindFacts.{prefix_back, prefix_some, prefix_none}
 use Rattle.gr_parse.proofs.MachineSteps.{refuses_opening, opens_too_deep, at_end, at_token, opened_one}
 use Rattle.gr_parse.proofs.operators.open_prefix.Goals as goal

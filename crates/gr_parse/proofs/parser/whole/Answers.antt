@@ -2,7 +2,7 @@
 use Rattle.std.proofs.Common.{ap, sym, ◌∙◌, length, subst, ◌∷◌, []}
 use Rattle.std.proofs.lemmas.List.{nil_from_length}
 use Rattle.std.proofs.lemmas.Bool.{eqb-true}
-use Rattle.gr_parse.specs.Grammar.{A, File}
+use Rattle.gr_tree.specs.Grammar.{A, File}
 use Rattle.gr_parse.specs.Machine.{Run}
 use Rattle.gr_parse.proofs.MachineSteps.{outcome_of}
 use Rattle.gr_parse.proofs.WholeFile.{whole_taken, whole_left}

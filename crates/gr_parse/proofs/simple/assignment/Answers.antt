@@ -1,6 +1,6 @@
 -- The answers to the goals of `simple::assignment`.
 use Rattle.std.proofs.Common.{◌∷◌, ◌++◌, ap, sym, ◌∙◌}
-use Rattle.gr_parse.specs.Flatten.{sign}
+use Rattle.gr_tree.specs.Flatten.{sign}
 use Rattle.gr_parse.specs.Spelling.{exprs_spelled}
 use Rattle.gr_parse.specs.Words.{set_kind}
 use Rattle.gr_parse.proofs.MachineSteps.{exits, fails_first, fails_later, read_then}

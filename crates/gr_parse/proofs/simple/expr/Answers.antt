@@ -1,11 +1,11 @@
 -- The answers to the goals of `simple::expr`.
 use Rattle.std.proofs.Common.{◌∷◌, []}
-use Rattle.gr_parse.specs.Grammar.{A, Expression}
-use Rattle.gr_parse.specs.View.{expr_view}
+use Rattle.gr_tree.specs.Grammar.{A, Expression}
+use Rattle.gr_tree.specs.View.{expr_view}
 use Rattle.gr_parse.specs.Spelling.{expr_spelled}
 use Rattle.std.proofs.Common.{subst}
 use Rattle.std.specs.Result.{IfOk}
-use Rattle.gr_parse.specs.WellFormed.{IsExprIn}
+use Rattle.gr_tree.specs.WellFormed.{IsExprIn}
 use Rattle.gr_parse.specs.Parsing.{Parses}
 use Rattle.gr_parse.proofs.simple.expr.Goals as goal
 

@@ -1,7 +1,7 @@
 -- The answers to the goals of `simple::more_exprs`.
 use Rattle.std.proofs.Common.{◌∷◌, [], refl}
-use Rattle.gr_parse.specs.declared.syntax.Kind.TheVariants as kind
-use Rattle.gr_parse.specs.Grammar.{A, Expression, MoreExpressions, in_head}
+use Rattle.gr_tree.specs.declared.syntax.Kind.TheVariants as kind
+use Rattle.gr_tree.specs.Grammar.{A, Expression, MoreExpressions, in_head}
 use Rattle.gr_parse.specs.Machine.{first, last, later}
 use Rattle.gr_parse.specs.Parsing.{items_rest}
 use Rattle.gr_parse.specs.Words.{setting_of}

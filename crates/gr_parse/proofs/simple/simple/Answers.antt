@@ -1,6 +1,6 @@
 -- The answers to the goals of `simple::simple`.
 use Rattle.std.proofs.Common.{◌∷◌, []}
-use Rattle.gr_parse.specs.Grammar.{A, Expression, SimpleRest, in_head}
+use Rattle.gr_tree.specs.Grammar.{A, Expression, SimpleRest, in_head}
 use Rattle.gr_parse.specs.Words.{setting_of}
 use Rattle.gr_parse.proofs.MachineSteps.{exits, fails_first}
 use Rattle.gr_parse.proofs.StatementSteps.{then_continues}

@@ -1,19 +1,19 @@
 -- The answers to the goals of `statements::statement`.
 use Rattle.std.proofs.Common.{◌∷◌, [], ap, sym, ◌∙◌, refl}
-use Rattle.gr_parse.specs.declared.syntax.Kind.TheVariants as kind
-use Rattle.gr_parse.specs.Grammar.{A, Close, MoreStatements, One, Statement, is}
+use Rattle.gr_tree.specs.declared.syntax.Kind.TheVariants as kind
+use Rattle.gr_tree.specs.Grammar.{A, Close, MoreStatements, One, Statement, is}
 use Rattle.gr_parse.specs.Machine.{first, last, later}
 use Rattle.gr_parse.specs.Parsing.{items_rest}
-use Rattle.gr_parse.specs.Flatten.{sign}
+use Rattle.gr_tree.specs.Flatten.{sign}
 use Rattle.gr_parse.specs.Spelling.{block_item_spelled, if_spelled}
-use Rattle.gr_parse.proofs.MachineSteps.{exits, fails_first, fails_later, fails_leads, fails_rule, read_as, read_end, read_rule, read_then, read_to_close}
+use Rattle.gr_parse.proofs.MachineSteps.{exits, fails_first, fails_later, fails_leads, fails_rule, read_as, read_end, read_rule, read_then, read_to_close, tail_rule}
 use Rattle.gr_parse.proofs.StatementSteps.{continued, fails_in, fails_on, item_shorter, leads_item, leads_more, leads_none, leads_push, read_continued, read_items, read_leads, read_level, read_on}
 use Rattle.gr_parse.proofs.FormedStatements.{block_formed, block_stmt_formed, else_block_formed, else_if_formed, for_stmt_formed, if_formed, if_stmt_formed, no_else_formed, var_formed}
 use Rattle.gr_parse.proofs.ListedSteps.{listed_false, listed_none, listed_push}
 use Rattle.gr_parse.proofs.SpelledStatements.{block_spelled_as, block_stmt_spelled, else_block_spelled, else_if_spelled, for_stmt_spelled, if_spelled_as, if_stmt_spelled, no_else_spelled, var_spelled}
 use Rattle.std.proofs.Common.{arith, length, ◌≤◌, subst}
-use Rattle.gr_parse.specs.WellFormed.{IsIf}
-use Rattle.gr_parse.specs.FileView.{if_view}
+use Rattle.gr_tree.specs.WellFormed.{IsIf}
+use Rattle.gr_tree.specs.FileView.{if_view}
 use Rattle.gr_parse.proofs.statements.+statement.Goals as goal
 
 pub block-returns-in_err-open-clause-exact : goal.block-returns-in_err-open-clause-exact
@@ -73,35 +73,48 @@ statement-returns-in_err-branch-clause-exact t c = exits _ _ _ _ c.in_err-branch
 pub statement-returns-then-at-3-clause-exact : goal.statement-returns-then-at-3-clause-exact
 statement-returns-then-at-3-clause-exact t c = read_as (read_rule (later (sym c.at.ensures ∙ c.if-at.false) (later (sym c.at-2.ensures ∙ c.if-at-2.false) (first (sym c.at-3.ensures ∙ c.if-at-3.true)))) (read_continued c.in_ok-keyword.ensures c.in_ok-branch.ensures.exact)) (sym (if_stmt_spelled _))
 
-pub statement-returns-in_err-at-clause-exact : goal.statement-returns-in_err-at-clause-exact
-statement-returns-in_err-at-clause-exact t c = exits _ _ _ _ c.in_err-at.field-0.0 c.from_residual-in_err-at.result c.from_residual-in_err-at.ensures.1
-    (fails_rule (later (sym c.at.ensures ∙ c.if-at.false) (later (sym c.at-2.ensures ∙ c.if-at-2.false) (later (sym c.at-3.ensures ∙ c.if-at-3.false) (first (sym c.at-4.ensures ∙ c.if-at-4.true))))) (fails_first c.in_err-at.ensures))
-
-pub statement-returns-in_err-header-clause-exact : goal.statement-returns-in_err-header-clause-exact
-statement-returns-in_err-header-clause-exact t c = exits _ _ _ _ c.in_err-header.field-0.0 c.from_residual-in_err-header.result c.from_residual-in_err-header.ensures.1
-    (fails_rule (later (sym c.at.ensures ∙ c.if-at.false) (later (sym c.at-2.ensures ∙ c.if-at-2.false) (later (sym c.at-3.ensures ∙ c.if-at-3.false) (first (sym c.at-4.ensures ∙ c.if-at-4.true))))) (fails_later c.in_ok-at.ensures c.in_err-header.ensures.exact))
-
-pub statement-returns-in_err-body-clause-exact : goal.statement-returns-in_err-body-clause-exact
-statement-returns-in_err-body-clause-exact t c = exits _ _ _ _ c.in_err-body.field-0.0 c.from_residual-in_err-body.result c.from_residual-in_err-body.ensures.1
-    (fails_rule (later (sym c.at.ensures ∙ c.if-at.false) (later (sym c.at-2.ensures ∙ c.if-at-2.false) (later (sym c.at-3.ensures ∙ c.if-at-3.false) (first (sym c.at-4.ensures ∙ c.if-at-4.true))))) (fails_later c.in_ok-at.ensures (fails_leads c.in_ok-header.ensures.exact c.in_err-body.ensures.exact)))
-
 pub statement-returns-then-at-4-clause-exact : goal.statement-returns-then-at-4-clause-exact
-statement-returns-then-at-4-clause-exact t c = read_as (read_rule (later (sym c.at.ensures ∙ c.if-at.false) (later (sym c.at-2.ensures ∙ c.if-at-2.false) (later (sym c.at-3.ensures ∙ c.if-at-3.false) (first (sym c.at-4.ensures ∙ c.if-at-4.true))))) (read_then c.in_ok-at.ensures (read_leads c.in_ok-header.ensures.exact c.in_ok-body.ensures.exact))) (sym (for_stmt_spelled _ _ _))
+statement-returns-then-at-4-clause-exact t c = tail_rule _ _ _ _ _ _ c.for_stmt.result (later (sym c.at.ensures ∙ c.if-at.false) (later (sym c.at-2.ensures ∙ c.if-at-2.false) (later (sym c.at-3.ensures ∙ c.if-at-3.false) (first (sym c.at-4.ensures ∙ c.if-at-4.true))))) c.for_stmt.ensures.exact
+
+pub for_stmt-returns-in_err-at-clause-exact : goal.for_stmt-returns-in_err-at-clause-exact
+for_stmt-returns-in_err-at-clause-exact t c = exits _ _ _ _ c.in_err-at.field-0.0 c.from_residual.result c.from_residual.ensures.1
+    (fails_first c.in_err-at.ensures)
+
+pub for_stmt-returns-in_err-header-clause-exact : goal.for_stmt-returns-in_err-header-clause-exact
+for_stmt-returns-in_err-header-clause-exact t c = exits _ _ _ _ c.in_err-header.field-0.0 c.from_residual-in_err-header.result c.from_residual-in_err-header.ensures.1
+    (fails_later c.in_ok-at.ensures c.in_err-header.ensures.exact)
+
+pub for_stmt-returns-in-Err-clause-exact : goal.for_stmt-returns-in-Err-clause-exact
+for_stmt-returns-in-Err-clause-exact t c = fails_later c.in_ok-at.ensures (fails_leads c.in_ok-header.ensures.exact c.in-Err.ensures.exact)
+
+pub for_stmt-returns-in-Ok-clause-exact : goal.for_stmt-returns-in-Ok-clause-exact
+for_stmt-returns-in-Ok-clause-exact t c = read_as (read_then c.in_ok-at.ensures (read_leads c.in_ok-header.ensures.exact c.in-Ok.ensures.exact)) (sym (for_stmt_spelled _ _ _))
+
+pub for_stmt-returns-in-Ok-clause-formed : goal.for_stmt-returns-in-Ok-clause-formed
+for_stmt-returns-in-Ok-clause-formed t c = for_stmt_formed _ _ _ c.in_ok-header.ensures.formed c.in-Ok.ensures.formed
 
 pub if_stmt-returns-in_err-init-clause-exact : goal.if_stmt-returns-in_err-init-clause-exact
 if_stmt-returns-in_err-init-clause-exact t c = exits _ _ _ _ c.in_err-init.field-0.0 c.from_residual.result c.from_residual.ensures.1
     (c.in_err-init.ensures.exact)
 
-pub if_stmt-returns-in_err-body-clause-exact : goal.if_stmt-returns-in_err-body-clause-exact
-if_stmt-returns-in_err-body-clause-exact t c = exits _ _ _ _ c.in_err-body.field-0.0 c.from_residual-in_err-body.result c.from_residual-in_err-body.ensures.1
-    (fails_leads c.in_ok-init.ensures.exact (fails_rule last (fails_first c.in_err-body.ensures.exact)))
+pub branches-returns-in_err-body-clause-exact : goal.branches-returns-in_err-body-clause-exact
+branches-returns-in_err-body-clause-exact t c = exits _ _ _ _ c.in_err-body.field-0.0 c.from_residual.result c.from_residual.ensures.1
+    (fails_rule last (fails_first c.in_err-body.ensures.exact))
 
-pub if_stmt-returns-in_err-otherwise-clause-exact : goal.if_stmt-returns-in_err-otherwise-clause-exact
-if_stmt-returns-in_err-otherwise-clause-exact t c = exits _ _ _ _ c.in_err-otherwise.field-0.0 c.from_residual-in_err-otherwise.result c.from_residual-in_err-otherwise.ensures.1
-    (fails_leads c.in_ok-init.ensures.exact (fails_rule last (fails_later c.in_ok-body.ensures.exact c.in_err-otherwise.ensures.exact)))
+pub branches-returns-in-Err-clause-exact : goal.branches-returns-in-Err-clause-exact
+branches-returns-in-Err-clause-exact t c = fails_rule last (fails_later c.in_ok-body.ensures.exact c.in-Err.ensures.exact)
 
-pub if_stmt-returns-clause-exact : goal.if_stmt-returns-clause-exact
-if_stmt-returns-clause-exact t c = continued (sign kind.If c.args.at ∷ []) (read_leads c.in_ok-init.ensures.exact (read_rule last (read_then c.in_ok-body.ensures.exact c.in_ok-otherwise.ensures.exact))) (sym (if_spelled_as _ _ _ _ _))
+pub branches-returns-in-Ok-clause-exact : goal.branches-returns-in-Ok-clause-exact
+branches-returns-in-Ok-clause-exact t c = read_rule last (read_then c.in_ok-body.ensures.exact c.in-Ok.ensures.exact)
+
+pub branches-returns-in-Ok-clause-formed : goal.branches-returns-in-Ok-clause-formed
+branches-returns-in-Ok-clause-formed t c = (c.in_ok-body.ensures.formed, c.in-Ok.ensures.formed)
+
+pub if_stmt-returns-in-Err-clause-exact : goal.if_stmt-returns-in-Err-clause-exact
+if_stmt-returns-in-Err-clause-exact t c = fails_leads c.in_ok-init.ensures.exact c.in-Err.ensures.exact
+
+pub if_stmt-returns-in-Ok-clause-exact : goal.if_stmt-returns-in-Ok-clause-exact
+if_stmt-returns-in-Ok-clause-exact t c = continued (sign kind.If c.args.at ∷ []) (read_leads c.in_ok-init.ensures.exact c.in-Ok.ensures.exact) (sym (if_spelled_as _ _ _ _ _))
 
 pub else_part-returns-then-not-at-clause-exact : goal.else_part-returns-then-not-at-clause-exact
 else_part-returns-then-not-at-clause-exact t c = read_as (read_rule (later (sym c.at.ensures ∙ c.if-not-at.true) last) read_end) (sym no_else_spelled)
@@ -142,10 +155,10 @@ pub statement-returns-then-at-3-clause-formed : goal.statement-returns-then-at-3
 statement-returns-then-at-3-clause-formed t c = if_stmt_formed _ c.in_ok-branch.ensures.formed
 
 pub statement-returns-then-at-4-clause-formed : goal.statement-returns-then-at-4-clause-formed
-statement-returns-then-at-4-clause-formed t c = for_stmt_formed _ _ _ c.in_ok-header.ensures.formed c.in_ok-body.ensures.formed
+statement-returns-then-at-4-clause-formed t c = c.for_stmt.ensures.formed
 
-pub if_stmt-returns-clause-formed : goal.if_stmt-returns-clause-formed
-if_stmt-returns-clause-formed t c = if_formed _ _ _ _ _ c.in_ok-init.ensures.formed.0 c.in_ok-init.ensures.formed.1 c.in_ok-body.ensures.formed c.in_ok-otherwise.ensures.formed
+pub if_stmt-returns-in-Ok-clause-formed : goal.if_stmt-returns-in-Ok-clause-formed
+if_stmt-returns-in-Ok-clause-formed t c = if_formed _ _ _ _ _ c.in_ok-init.ensures.formed.0 c.in_ok-init.ensures.formed.1 c.in-Ok.ensures.formed.0 c.in-Ok.ensures.formed.1
 
 pub else_part-returns-then-not-at-clause-formed : goal.else_part-returns-then-not-at-clause-formed
 else_part-returns-then-not-at-clause-formed t c = no_else_formed

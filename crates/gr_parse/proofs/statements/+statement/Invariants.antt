@@ -1,26 +1,32 @@
 -- The invariants of the loops of `statements::statement`.
 use Rattle.std.proofs.Common.{◌∷◌, ◌<◌, ◌+◌, ◌*◌, [], length}
-use Rattle.gr_parse.specs.Grammar.{A, Statement, MoreStatements}
+use Rattle.gr_tree.specs.Grammar.{A, Statement, MoreStatements}
 use Rattle.gr_parse.specs.Parsing.{Leads, items_rest}
-use Rattle.gr_parse.specs.Flatten.{all_tokens}
+use Rattle.gr_tree.specs.Flatten.{all_tokens}
 use Rattle.gr_parse.specs.Spelling.{block_item_spelled}
-use Rattle.gr_parse.specs.WellFormed.{IsStatement}
+use Rattle.gr_tree.specs.WellFormed.{IsStatement}
 use Rattle.gr_parse.specs.Listed.{IsListed}
 use Rattle.gr_parse.proofs.StatementSteps.{flag}
 use Rattle.gr_parse.proofs.FormedStatements.{block_item_view}
 use Rattle.gr_parse.proofs.statements.+statement.Given as goal
 
 abbrev pub decreases-block : goal.decreases-block
-decreases-block l = 4 * length l.tokens.now
+decreases-block l = 8 * length l.tokens.now
 
 abbrev pub decreases-else_part : goal.decreases-else_part
-decreases-else_part l = 4 * length l.tokens.now + 1
+decreases-else_part l = 8 * length l.tokens.now + 1
+
+abbrev pub decreases-for_stmt : goal.decreases-for_stmt
+decreases-for_stmt l = 8 * length l.tokens.now + 1
+
+abbrev pub decreases-branches : goal.decreases-branches
+decreases-branches l = 8 * length l.tokens.now + 2
 
 abbrev pub decreases-statement : goal.decreases-statement
-decreases-statement l = 4 * length l.tokens.now + 2
+decreases-statement l = 8 * length l.tokens.now + 2
 
 abbrev pub decreases-if_stmt : goal.decreases-if_stmt
-decreases-if_stmt l = 4 * length l.tokens.now + 3
+decreases-if_stmt l = 8 * length l.tokens.now + 3
 
 abbrev pub invariant-block-statements : goal.invariant-block-statements
 invariant-block-statements l = record {

@@ -1,9 +1,9 @@
 -- The answers to the goals of `statements::return_values`.
 use Rattle.std.proofs.Common.{inl, inr}
 use Rattle.std.proofs.Common.{◌∷◌, [], ap, sym, ◌∙◌, false}
-use Rattle.gr_parse.specs.Grammar.{A, Expressions, ReturnValues}
+use Rattle.gr_tree.specs.Grammar.{A, Expressions, ReturnValues}
 use Rattle.gr_parse.specs.Machine.{first, last, later}
-use Rattle.gr_parse.specs.View.{exprs_view}
+use Rattle.gr_tree.specs.View.{exprs_view}
 use Rattle.gr_parse.proofs.MachineSteps.{read_as, read_end, read_rule, tail_rule}
 use Rattle.gr_parse.proofs.FormedParts.{if_ok}
 use Rattle.gr_parse.proofs.SpelledSimple.{exprs_none}

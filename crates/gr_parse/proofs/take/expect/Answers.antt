@@ -1,6 +1,6 @@
 -- The answers to the goals of `take::expect`.
 use Rattle.std.proofs.Common.{◌≡◌, sym, ◌∙◌, false, true}
-use Rattle.gr_parse.specs.Grammar.{is}
+use Rattle.gr_tree.specs.Grammar.{is}
 use Rattle.gr_parse.specs.Machine.{at}
 use Rattle.gr_parse.proofs.MachineSteps.{passes_token, token_text, refuses_one, at_end, at_token}
 use Rattle.gr_parse.proofs.take.expect.Goals as goal

@@ -1,6 +1,6 @@
 -- The answers to the goals of `take::open`.
 use Rattle.std.proofs.Common.{◌≡◌, sym, ◌∙◌, false, true, arith, refl}
-use Rattle.gr_parse.specs.Grammar.{is}
+use Rattle.gr_tree.specs.Grammar.{is}
 use Rattle.gr_parse.proofs.MachineSteps.{passes_opening, token_text, refuses_opening, opens_too_deep, at_end, at_token}
 use Rattle.gr_parse.proofs.take.open.Goals as goal
 

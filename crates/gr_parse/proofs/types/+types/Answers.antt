@@ -1,9 +1,9 @@
 -- The answers to the goals of `types::types`.
 use Rattle.std.proofs.Common.{◌∷◌, ap, sym, ◌∙◌}
-use Rattle.gr_parse.specs.declared.syntax.Kind.TheVariants as kind
-use Rattle.gr_parse.specs.Flatten.{sign}
+use Rattle.gr_tree.specs.declared.syntax.Kind.TheVariants as kind
+use Rattle.gr_tree.specs.Flatten.{sign}
 use Rattle.gr_parse.specs.Spelling.{type_spelled}
-use Rattle.gr_parse.specs.Grammar.{TypeUse}
+use Rattle.gr_tree.specs.Grammar.{TypeUse}
 use Rattle.gr_parse.specs.Machine.{first, later, last}
 use Rattle.gr_parse.proofs.MachineSteps.{exits, fails_first, fails_later, fails_rule, read_then, read_rule, read_to_close, read_as, tail_rule}
 use Rattle.gr_parse.proofs.Spelled.{pointer_tokens, slice_tokens}

@@ -1,6 +1,6 @@
 -- The answers to the goals of `words::ident`.
 use Rattle.std.proofs.Common.{sym, ◌∙◌, refl}
-use Rattle.gr_parse.specs.Grammar.{is_ident}
+use Rattle.gr_tree.specs.Grammar.{is_ident}
 use Rattle.gr_parse.proofs.MachineSteps.{read_as}
 use Rattle.gr_parse.proofs.WordSteps.{read_class, token_refused, end_refused, ident_class, ident_refused}
 use Rattle.gr_parse.proofs.words.ident.Goals as goal

@@ -1,6 +1,6 @@
 -- The answers to the goals of `words::set`.
 use Rattle.std.proofs.Common.{sym, ◌∙◌}
-use Rattle.gr_parse.specs.Grammar.{sets}
+use Rattle.gr_tree.specs.Grammar.{sets}
 use Rattle.gr_parse.specs.Words.{setting_of}
 use Rattle.gr_parse.proofs.WordSteps.{read_class, token_refused, end_refused, set_class, set_refused, set_allowed}
 use Rattle.gr_parse.proofs.words.set.Goals as goal

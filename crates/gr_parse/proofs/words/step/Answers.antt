@@ -1,6 +1,6 @@
 -- The answers to the goals of `words::step`.
 use Rattle.std.proofs.Common.{sym, ◌∙◌}
-use Rattle.gr_parse.specs.Grammar.{is_step}
+use Rattle.gr_tree.specs.Grammar.{is_step}
 use Rattle.gr_parse.proofs.WordSteps.{read_class, token_refused, end_refused, step_class, step_refused}
 use Rattle.gr_parse.proofs.words.step.Goals as goal
 

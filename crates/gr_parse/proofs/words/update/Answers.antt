@@ -1,6 +1,6 @@
 -- The answers to the goals of `words::update`.
 use Rattle.std.proofs.Common.{sym, ◌∙◌}
-use Rattle.gr_parse.specs.Grammar.{is_update}
+use Rattle.gr_tree.specs.Grammar.{is_update}
 use Rattle.gr_parse.proofs.WordSteps.{read_class, token_refused, end_refused, update_class, update_refused}
 use Rattle.gr_parse.proofs.words.update.Goals as goal
 

@@ -3,7 +3,7 @@ use Rattle.std.proofs.Common.{ap, sym}
 use Rattle.gr_scope.specs.Found.{source_of}
 use Rattle.gr_scope.proofs.Adding.{call_adds}
 use Rattle.gr_scope.specs.FileSites.{decl_sites}
-use Rattle.gr_parse.specs.FileView.{decl_view}
+use Rattle.gr_tree.specs.FileView.{decl_view}
 use Rattle.gr_scope.proofs.declarations.add_decl.Goals as goal
 
 pub returns-in-Var : goal.returns-in-Var

@@ -4,7 +4,7 @@ use Rattle.gr_scope.specs.Found.{source_of}
 use Rattle.gr_scope.specs.FileSites.{import_name, import_sites}
 use Rattle.gr_scope.specs.Site.{site}
 use Rattle.gr_scope.specs.declared.model.Role.TheVariants.{NotLexical}
-use Rattle.gr_parse.specs.FileView.{import_view}
+use Rattle.gr_tree.specs.FileView.{import_view}
 use Rattle.std.proofs.Common.{ap, [], ◌∷◌, ◌++◌}
 use Rattle.gr_scope.proofs.declarations.add_import_spec.Goals as goal
 

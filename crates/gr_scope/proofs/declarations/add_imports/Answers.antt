@@ -5,8 +5,8 @@ use Rattle.gr_scope.proofs.Adding.{adds_as, call_adds, each_all}
 use Rattle.gr_scope.specs.StatementSites.{group_sites}
 use Rattle.gr_scope.specs.FileSites.{spec_sites, import_sites, imports_sites}
 use Rattle.gr_scope.proofs.FileParts.{import_part, spec_from}
-use Rattle.gr_parse.specs.View.{group_view}
-use Rattle.gr_parse.specs.FileView.{import_view, imports_view}
+use Rattle.gr_tree.specs.View.{group_view}
+use Rattle.gr_tree.specs.FileView.{import_view, imports_view}
 use Rattle.gr_scope.proofs.declarations.add_imports.Goals as goal
 
 pub returns-in-Single : goal.returns-in-Single

@@ -6,8 +6,8 @@ use Rattle.gr_scope.specs.declared.model.Role.TheVariants.{Declaring}
 use Rattle.gr_scope.specs.ExpressionSites.{list_sites, type_sites}
 use Rattle.gr_scope.specs.StatementSites.{ident_sites}
 use Rattle.gr_scope.specs.FileSites.{param_sites}
-use Rattle.gr_parse.specs.View.{list_view, ident_view, type_view}
-use Rattle.gr_parse.specs.FileView.{param_view}
+use Rattle.gr_tree.specs.View.{list_view, ident_view, type_view}
+use Rattle.gr_tree.specs.FileView.{param_view}
 use Rattle.gr_scope.proofs.declarations.add_param.Goals as goal
 
 pub returns : goal.returns

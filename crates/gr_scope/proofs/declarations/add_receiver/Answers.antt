@@ -4,8 +4,8 @@ use Rattle.gr_scope.specs.Found.{source_of}
 use Rattle.gr_scope.proofs.Adding.{then_adds}
 use Rattle.gr_scope.specs.ExpressionSites.{sites_if}
 use Rattle.gr_scope.specs.FileSites.{receiver_sites}
-use Rattle.gr_parse.specs.View.{option_view}
-use Rattle.gr_parse.specs.FileView.{receiver_view}
+use Rattle.gr_tree.specs.View.{option_view}
+use Rattle.gr_tree.specs.FileView.{receiver_view}
 use Rattle.gr_scope.proofs.declarations.add_receiver.Goals as goal
 
 pub returns-in_ok-add_ident-in-Some : goal.returns-in_ok-add_ident-in-Some

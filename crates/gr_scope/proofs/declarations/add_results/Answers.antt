@@ -1,10 +1,10 @@
 -- The answers to the goals of `declarations::add_results`.
 use Rattle.std.proofs.Common.{ap, sym, arith}
 use Rattle.gr_scope.specs.Found.{source_of}
-use Rattle.gr_scope.proofs.Adding.{adds_none, adds_as, call_adds, each_all}
+use Rattle.gr_scope.proofs.Adding.{adds_none, adds_as, call_adds, each_step, each_all}
 use Rattle.gr_scope.specs.FileSites.{result_sites}
 use Rattle.gr_scope.proofs.FileParts.{type_part, results_from}
-use Rattle.gr_parse.specs.FileView.{results_view}
+use Rattle.gr_tree.specs.FileView.{results_view}
 use Rattle.gr_scope.proofs.declarations.add_results.Goals as goal
 
 pub returns-in-None : goal.returns-in-None
@@ -19,3 +19,8 @@ pub returns-after-loop-item : goal.returns-after-loop-item
 returns-after-loop-item c =
     adds_as (each_all (type_part (source_of c.args.source.now)) c.deref-item-items.result.now c.loop-item.item-index (omega arith) c.loop-item.invariant)
     (results_from _ c.args.results.now c.in-Several.«open» c.in-Several.types c.in-Several.close _ c.in-Several.is c.deref-item-items.ensures.value)
+
+pub loop-item-preserved : goal.loop-item-preserved
+loop-item-preserved c =
+    each_step (type_part (source_of c.args.source.now)) c.deref-item-items.result.now c.loop-item.item-index c.item-item.result (omega arith)
+    c.item-item.is c.loop-item.invariant c.in_ok-add_type-in-Several.ensures

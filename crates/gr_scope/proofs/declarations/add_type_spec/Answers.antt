@@ -2,7 +2,7 @@
 use Rattle.gr_scope.proofs.Adding.{then_adds}
 use Rattle.std.proofs.Common.{refl}
 use Rattle.gr_scope.specs.FileSites.{type_spec_sites}
-use Rattle.gr_parse.specs.FileView.{type_spec_view}
+use Rattle.gr_tree.specs.FileView.{type_spec_view}
 use Rattle.gr_scope.proofs.declarations.add_type_spec.Goals as goal
 
 pub returns : goal.returns

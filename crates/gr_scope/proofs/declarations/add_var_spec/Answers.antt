@@ -4,8 +4,8 @@ use Rattle.gr_scope.specs.Found.{source_of}
 use Rattle.gr_scope.proofs.Adding.{then_adds}
 use Rattle.gr_scope.specs.ExpressionSites.{list_sites, type_sites}
 use Rattle.gr_scope.specs.FileSites.{global_name, global_sites}
-use Rattle.gr_parse.specs.View.{list_view, type_view}
-use Rattle.gr_parse.specs.FileView.{same_place, global_view}
+use Rattle.gr_tree.specs.View.{list_view, type_view}
+use Rattle.gr_tree.specs.FileView.{same_place, global_view}
 use Rattle.gr_scope.proofs.declarations.add_var_spec.Goals as goal
 
 pub returns : goal.returns

@@ -3,7 +3,7 @@ use Rattle.std.proofs.Common.{ap, sym, ◌∙◌}
 use Rattle.gr_scope.specs.ExpressionSites.{type_sites}
 use Rattle.gr_scope.specs.Found.{source_of}
 use Rattle.gr_scope.proofs.Adding.{call_adds, then_adds}
-use Rattle.gr_parse.specs.View.{type_view}
+use Rattle.gr_tree.specs.View.{type_view}
 use Rattle.gr_scope.proofs.expressions.+add_type.Goals as goal
 
 pub returns-in-Local : goal.returns-in-Local

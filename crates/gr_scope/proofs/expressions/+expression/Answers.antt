@@ -2,9 +2,9 @@
 use Rattle.std.proofs.Common.{ap, sym, ◌∙◌, arith}
 use Rattle.gr_scope.specs.ExpressionSites.{expr_sites, link_sites}
 use Rattle.gr_scope.specs.Found.{source_of}
-use Rattle.gr_scope.proofs.Adding.{adds_none, adds_as, adds_then, call_adds, each_all}
+use Rattle.gr_scope.proofs.Adding.{adds_none, adds_as, adds_then, call_adds, each_step, each_all}
 use Rattle.gr_scope.proofs.Parts.{leaf_none, link_part, operand_part, argument_part, element_part, chain_from, binary_from, call_from, index_from, literal_read}
-use Rattle.gr_parse.specs.View.{expr_view, link_view}
+use Rattle.gr_tree.specs.View.{expr_view, link_view}
 use Rattle.gr_scope.proofs.expressions.+expression.Goals as goal
 
 pub add_expr-returns-in-Name : goal.add_expr-returns-in-Name
@@ -67,3 +67,18 @@ pub add_literal-returns : goal.add_literal-returns
 add_literal-returns t c =
     adds_as (adds_then c.in_ok-add_type.ensures (each_all (element_part (source_of c.args.source.now)) c.deref-element-items.result.now c.loop-element.element-index (omega arith) c.loop-element.invariant))
     (literal_read _ c.args.literal.now _ c.deref-element-items.ensures.value)
+
+pub add_expr-loop-link-preserved : goal.add_expr-loop-link-preserved
+add_expr-loop-link-preserved t c =
+    each_step (link_part (source_of c.args.source.now)) c.deref-link-items.result.now c.loop-link.link-index c.link-item.result (omega arith)
+    c.link-item.is c.loop-link.invariant c.in_ok-add_link-in-Chain.ensures
+
+pub add_expr-loop-operand-preserved : goal.add_expr-loop-operand-preserved
+add_expr-loop-operand-preserved t c =
+    each_step (operand_part (source_of c.args.source.now)) c.deref-operand-items.result.now c.loop-operand.operand-index c.operand-item.result
+    (omega arith) c.operand-item.is c.loop-operand.invariant c.in_ok-add_expr-in-Binary-2.ensures
+
+pub add_link-loop-argument-preserved : goal.add_link-loop-argument-preserved
+add_link-loop-argument-preserved t c =
+    each_step (argument_part (source_of c.args.source.now)) c.deref-argument-items.result.now c.loop-argument.argument-index c.argument-item.result
+    (omega arith) c.argument-item.is c.loop-argument.invariant c.in_ok-add_expr-in-Call.ensures

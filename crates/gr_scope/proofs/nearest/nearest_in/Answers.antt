@@ -1,5 +1,6 @@
 -- The answers to the goals of `nearest::nearest_in`.
 use Rattle.std.proofs.Common.{ℕ, ◌≡◌, ◌<◌, arith, length, inl, inr, true, false, refl, subst, None, Option}
+use Rattle.gr_scope.specs.Leading.{Leads}
 use Rattle.gr_scope.specs.Regions.{keys_of}
 use Rattle.gr_scope.specs.Table.{layout_of, names_of}
 use Rattle.gr_scope.proofs.Best.{BestSoFar, best_start, best_next, best_known, best_nearest}
@@ -16,14 +17,18 @@ loop-at-init c =
     let names = names_of xs in
     let last = c.chain-chain.result.last in
     let previous = c.chain-chain.result.previous.now in
-    let chained = c.chain-chain.ensures l names (length xs) c.requires.linked in
+    let n = length c.args.links.now.previous.items in
+    let chained = c.chain-chain.ensures l names c.requires.linked.links in
     record {
-      best = best_start xs c.args.name.now c.args.region c.args.u last previous chained;
-      known = chain_known l (keys_of l names) (length xs) (pair c.args.name.now c.args.region) last previous chained;
+      best = best_start xs c.args.name.now c.args.region c.args.u n last previous c.requires.linked.sized chained;
+      known = chain_known (Leads l names) (keys_of l names) n (pair c.args.name.now c.args.region) last previous chained;
     }
 
 pub improves-requires-clause-second : goal.improves-requires-clause-second
-improves-requires-clause-second c = (c.loop-at.invariant.known c.in-Some.d c.in-Some.is).0
+improves-requires-clause-second c =
+    let sized : length c.args.links.now.previous.items ≡ length c.args.identifiers.now = c.requires.linked.sized in
+    let within : c.in-Some.d < length c.args.links.now.previous.items = (c.loop-at.invariant.known c.in-Some.d c.in-Some.is).0 in
+    omega arith
 
 pub improves-requires-clause-known : goal.improves-requires-clause-known
 improves-requires-clause-known c = best_known c.args.identifiers.now c.args.name.now (λ r. r ≡ c.args.region) c.args.u c.loop-at.at c.loop-at.best c.loop-at.invariant.best
@@ -34,15 +39,15 @@ loop-at-preserved c =
     let l = layout_of xs in
     let names = names_of xs in
     let previous = c.chain-chain.result.previous.now in
-    let linked = (c.chain-chain.ensures l names (length xs) c.requires.linked).linked in
+    let linked = (c.chain-chain.ensures l names c.requires.linked.links).linked in
     record {
-      best = best_next l (nests l c.requires.well_formed) names c.args.name.now c.args.region c.args.u c.in-Some.d (length xs) previous
+      best = best_next l (nests l c.requires.well_formed) names c.args.name.now c.args.region c.args.u c.in-Some.d (length c.args.links.now.previous.items) previous
           c.loop-at.at _ None c.loop-at.best c.if-improves.best linked c.in-Some.is refl c.loop-at.invariant.known c.loop-at.invariant.best
           (elim c.if-improves.branch [
             | then-improves w ↦ inl (c.improves.ensures.0 w.if-improves.true, w.best-is)
             | else-improves w ↦ inr ((λ x. let t : c.improves.result ≡ true = c.improves.ensures.1 x in let f : c.improves.result ≡ false = w.if-improves.false in cc), w.best-is)
           ]);
-      known = walk_known l (keys_of l names) (length xs) (pair c.args.name.now c.args.region) previous c.loop-at.at _ None c.in-Some.d linked c.in-Some.is refl c.loop-at.invariant.known;
+      known = walk_known (Leads l names) (keys_of l names) (length c.args.links.now.previous.items) (pair c.args.name.now c.args.region) previous c.loop-at.at _ None c.in-Some.d linked c.in-Some.is refl c.loop-at.invariant.known;
     }
 
 pub returns : goal.returns
@@ -54,9 +59,9 @@ returns c =
 pub bounds-chain-d : goal.bounds-chain-d
 bounds-chain-d c =
     let xs = c.args.identifiers.now in
-    let linked = (c.chain-chain.ensures (layout_of xs) (names_of xs) (length xs) c.requires.linked).linked in
-    let sized : length c.chain-chain.result.previous.now ≡ length xs = linked.sized in
-    let within : c.in-Some.d < length xs = (c.loop-at.invariant.known c.in-Some.d c.in-Some.is).0 in
+    let linked = (c.chain-chain.ensures (layout_of xs) (names_of xs) c.requires.linked.links).linked in
+    let sized : length c.chain-chain.result.previous.now ≡ length c.args.links.now.previous.items = linked.sized in
+    let within : c.in-Some.d < length c.args.links.now.previous.items = (c.loop-at.invariant.known c.in-Some.d c.in-Some.is).0 in
     omega arith
 
 pub loop-at-smaller : goal.loop-at-smaller
@@ -64,5 +69,5 @@ loop-at-smaller c =
     let xs = c.args.identifiers.now in
     let l = layout_of xs in
     let names = names_of xs in
-    let linked = (c.chain-chain.ensures l names (length xs) c.requires.linked).linked in
-    walk_ends l (keys_of l names) (length xs) (pair c.args.name.now c.args.region) c.chain-chain.result.previous.now c.loop-at.at _ None c.in-Some.d linked c.in-Some.is refl c.loop-at.invariant.known
+    let linked = (c.chain-chain.ensures l names c.requires.linked.links).linked in
+    walk_ends (Leads l names) (keys_of l names) (length c.args.links.now.previous.items) (pair c.args.name.now c.args.region) c.chain-chain.result.previous.now c.loop-at.at _ None c.in-Some.d linked c.in-Some.is refl c.loop-at.invariant.known

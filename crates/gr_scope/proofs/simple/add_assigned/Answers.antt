@@ -4,7 +4,7 @@ use Rattle.gr_scope.specs.Found.{source_of}
 use Rattle.gr_scope.specs.StatementSites.{assigned_sites}
 use Rattle.gr_scope.proofs.Adding.{call_adds}
 use Rattle.gr_scope.proofs.StatementParts.{assigned_default}
-use Rattle.gr_parse.specs.View.{expr_view}
+use Rattle.gr_tree.specs.View.{expr_view}
 use Rattle.gr_scope.proofs.simple.add_assigned.Goals as goal
 
 pub returns-in-Blank : goal.returns-in-Blank

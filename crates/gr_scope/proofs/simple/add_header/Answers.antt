@@ -3,7 +3,7 @@ use Rattle.std.proofs.Common.{ap, sym}
 use Rattle.gr_scope.specs.Found.{source_of}
 use Rattle.gr_scope.specs.StatementSites.{for_sites}
 use Rattle.gr_scope.proofs.Adding.{adds_none, adds_as, call_adds, two_then_adds}
-use Rattle.gr_parse.specs.FileView.{for_view}
+use Rattle.gr_tree.specs.FileView.{for_view}
 use Rattle.gr_scope.proofs.simple.add_header.Goals as goal
 
 pub returns-in-Forever : goal.returns-in-Forever

@@ -4,7 +4,7 @@ use Rattle.gr_scope.specs.Found.{source_of}
 use Rattle.gr_scope.specs.StatementSites.{left_sites}
 use Rattle.gr_scope.proofs.Adding.{call_adds}
 use Rattle.gr_scope.proofs.StatementParts.{left_default}
-use Rattle.gr_parse.specs.View.{expr_view}
+use Rattle.gr_tree.specs.View.{expr_view}
 use Rattle.gr_scope.proofs.simple.add_left.Goals as goal
 
 pub returns-in-Name : goal.returns-in-Name

@@ -4,7 +4,7 @@ use Rattle.gr_scope.specs.Found.{source_of}
 use Rattle.gr_scope.specs.StatementSites.{simple_sites}
 use Rattle.gr_scope.proofs.Adding.{call_adds, then_adds}
 use Rattle.gr_scope.proofs.StatementParts.{assign_from, define_from}
-use Rattle.gr_parse.specs.FileView.{simple_view}
+use Rattle.gr_tree.specs.FileView.{simple_view}
 use Rattle.gr_scope.proofs.simple.add_simple.Goals as goal
 
 pub returns-in-Expr : goal.returns-in-Expr

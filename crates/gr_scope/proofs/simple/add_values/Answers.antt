@@ -4,8 +4,8 @@ use Rattle.gr_scope.specs.Found.{source_of}
 use Rattle.gr_scope.specs.ExpressionSites.{sites_if, exprs_sites}
 use Rattle.gr_scope.specs.StatementSites.{value_sites}
 use Rattle.gr_scope.proofs.Adding.{call_adds}
-use Rattle.gr_parse.specs.View.{option_view, exprs_view}
-use Rattle.gr_parse.specs.FileView.{values_view}
+use Rattle.gr_tree.specs.View.{option_view, exprs_view}
+use Rattle.gr_tree.specs.FileView.{values_view}
 use Rattle.gr_scope.proofs.simple.add_values.Goals as goal
 
 pub returns-in-Some : goal.returns-in-Some

@@ -3,10 +3,12 @@ use Rattle.std.proofs.Common.{ap, sym, ◌∙◌, arith}
 use Rattle.gr_scope.specs.ExpressionSites.{exprs_sites}
 use Rattle.gr_scope.specs.StatementSites.{statement_sites, if_sites, else_sites}
 use Rattle.gr_scope.specs.Found.{source_of}
-use Rattle.gr_scope.proofs.Adding.{adds_none, adds_as, call_adds, then_adds, three_then_adds, each_all}
+use Rattle.gr_scope.proofs.Adding.{adds_none, adds_as, call_adds, then_adds, three_then_adds, each_step, each_all}
 use Rattle.gr_scope.proofs.StatementParts.{for_from, block_read, if_from}
-use Rattle.gr_parse.specs.View.{exprs_view}
-use Rattle.gr_parse.specs.FileView.{stmt_view, if_view, else_view}
+use Rattle.gr_scope.specs.declared.model.Block.TheVariants as blocks
+use Rattle.gr_tree.specs.declared.tree.Block.{out-Block}
+use Rattle.gr_tree.specs.View.{exprs_view}
+use Rattle.gr_tree.specs.FileView.{stmt_view, if_view, else_view}
 use Rattle.gr_scope.proofs.statements.+statement.Goals as goal
 
 pub add_statement-returns-in-Empty : goal.add_statement-returns-in-Empty
@@ -46,6 +48,13 @@ pub add_statement-returns-in_ok-add_header-in-For : goal.add_statement-returns-i
 add_statement-returns-in_ok-add_header-in-For t c =
     then_adds _ _ c.add_block-in-For.result c.in_ok-add_header-in-For.ensures c.add_block-in-For.ensures
     (for_from _ c.args.block c.args.following c.args.statement.now c.in-For.at c.in-For.header c.in-For.body c.in-For.is)
+
+pub add_block-loop-item-preserved : goal.add_block-loop-item-preserved
+add_block-loop-item-preserved t c =
+    each_step _ c.deref-item-items.result.now c.loop-item.item-index c.item-item.result (omega arith) c.item-item.is c.loop-item.invariant
+    (adds_as c.in_ok-add_statement.ensures
+    (ap (λ q. statement_sites (source_of c.args.source.now) (blocks.Inner (source_of c.args.source.now).rank (out-Block c.args.block.now).«open»
+    (out-Block c.args.block.now).close) q (stmt_view c.item-item.result.statement)) c.unwrap_or-behind.ensures))
 
 pub add_block-returns : goal.add_block-returns
 add_block-returns t c =

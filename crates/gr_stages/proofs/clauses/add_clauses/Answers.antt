@@ -5,7 +5,7 @@ use Rattle.std.specs.List.{enumerate_from}
 use Rattle.gr_fault.specs.Listing.{AddsEach}
 use Rattle.gr_fault.proofs.Each.{each_as, each_one}
 use Rattle.gr_fault.proofs.Ranked.{next_file, all_files, flat_map-single}
-use Rattle.gr_parse.specs.SourceFile.{FileParts, source_of}
+use Rattle.gr_tree.specs.SourceFile.{FileParts, source_of}
 use Rattle.gr_stages.specs.Files.{clause_name}
 use Rattle.gr_stages.specs.Clauses.{IsFaultOfClause, package_name}
 use Rattle.gr_stages.proofs.clauses.add_clauses.Goals as goal

@@ -7,7 +7,7 @@ use Rattle.std.proofs.lemmas.Result.{IfOk-weaker}
 use Rattle.gr_scan.specs.Cuts.{bytes_of}
 use Rattle.gr_scan.specs.CutText.{CutText, token_at}
 use Rattle.gr_scan.specs.TokenValues.{HasTokenValue}
-use Rattle.gr_parse.specs.SourceFile.{SourceFile, source_of}
+use Rattle.gr_tree.specs.SourceFile.{SourceFile, source_of}
 use Rattle.gr_stages.specs.Files.{HasLiteral}
 use Rattle.gr_stages.proofs.files.literal.Goals as goal
 

@@ -3,11 +3,11 @@ use Rattle.std.proofs.Common.{◌≡◌, List, ◌∙◌, ap, sym, arith, map}
 use Rattle.std.specs.List.{flat_map}
 use Rattle.gr_fault.proofs.Each.{each_as, each_step, each_all}
 use Rattle.gr_fault.proofs.Ranked.{map-flat_map-map}
-use Rattle.gr_parse.specs.declared.tree.File.{File}
-use Rattle.gr_parse.specs.declared.tree.ImportDecl.{ImportDecl}
-use Rattle.gr_parse.specs.Tree.{ImportTree}
-use Rattle.gr_parse.specs.FileView.{imports_view, file_view}
-use Rattle.gr_parse.specs.SourceFile.{FileParts, source_of}
+use Rattle.gr_tree.specs.declared.tree.File.{File}
+use Rattle.gr_tree.specs.declared.tree.ImportDecl.{ImportDecl}
+use Rattle.gr_tree.specs.Tree.{ImportTree}
+use Rattle.gr_tree.specs.FileView.{imports_view, file_view}
+use Rattle.gr_tree.specs.SourceFile.{FileParts, source_of}
 use Rattle.gr_stages.specs.Files.{Ranked, group_items, imports_in}
 use Rattle.gr_stages.specs.States.{state_in}
 use Rattle.gr_stages.specs.Imports.{IsFaultOfImport, PlacedImport}

@@ -2,8 +2,8 @@
 use Rattle.std.proofs.Common.{take, map}
 use Rattle.std.specs.List.{flat_map}
 use Rattle.gr_fault.specs.Listing.{AddsEach}
-use Rattle.gr_parse.specs.FileView.{imports_view}
-use Rattle.gr_parse.specs.SourceFile.{source_of}
+use Rattle.gr_tree.specs.FileView.{imports_view}
+use Rattle.gr_tree.specs.SourceFile.{source_of}
 use Rattle.gr_stages.specs.Files.{group_items}
 use Rattle.gr_stages.specs.States.{state_in}
 use Rattle.gr_stages.specs.Imports.{IsFaultOfImport}

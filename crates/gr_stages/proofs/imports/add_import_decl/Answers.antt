@@ -2,12 +2,12 @@
 use Rattle.std.proofs.Common.{ℕ, ◌≡◌, List, [], ◌∷◌, ◌∙◌, ap, sym, refl, arith, map}
 use Rattle.std.specs.List.{flat_map}
 use Rattle.gr_fault.proofs.Each.{each_as, each_one, each_next, each_all, call_one}
-use Rattle.gr_parse.specs.declared.tree.Item.{Item}
-use Rattle.gr_parse.specs.declared.tree.Group.{Group}
-use Rattle.gr_parse.specs.declared.tree.Group.TheVariants as group
-use Rattle.gr_parse.specs.View.{item_view, group_view}
-use Rattle.gr_parse.specs.FileView.{import_view, imports_view}
-use Rattle.gr_parse.specs.SourceFile.{source_of}
+use Rattle.gr_tree.specs.declared.tree.Item.{Item}
+use Rattle.gr_tree.specs.declared.tree.Group.{Group}
+use Rattle.gr_tree.specs.declared.tree.Group.TheVariants as group
+use Rattle.gr_tree.specs.View.{item_view, group_view}
+use Rattle.gr_tree.specs.FileView.{import_view, imports_view}
+use Rattle.gr_tree.specs.SourceFile.{source_of}
 use Rattle.gr_stages.specs.Files.{group_items}
 use Rattle.gr_stages.specs.States.{state_in}
 use Rattle.gr_stages.specs.Imports.{IsFaultOfImport}

@@ -1,7 +1,7 @@
 -- The answers to the goals of `marks::add_decl`.
 use Rattle.std.proofs.Common.{[], ap, sym, false}
 use Rattle.gr_fault.proofs.Each.{each_none, each_as, call_each}
-use Rattle.gr_parse.specs.FileView.{block_view, func_view, decl_view}
+use Rattle.gr_tree.specs.FileView.{block_view, func_view, decl_view}
 use Rattle.gr_stages.specs.Scoping.{laid_in}
 use Rattle.gr_stages.specs.Marks.{IsFaultOfMark, block_marks, decl_marks}
 use Rattle.gr_stages.proofs.marks.add_decl.Goals as goal

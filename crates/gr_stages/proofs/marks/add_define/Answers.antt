@@ -3,7 +3,7 @@ use Rattle.std.proofs.Common.{◌≡◌, [], ◌∷◌, refl, IsTrue}
 use Rattle.gr_text.specs.declared.fault_kind.FaultKind.TheVariants as kind
 use Rattle.gr_fault.proofs.Listings.{call_adds, make}
 use Rattle.gr_fault.proofs.Each.{call_one}
-use Rattle.gr_parse.specs.View.{exprs_view}
+use Rattle.gr_tree.specs.View.{exprs_view}
 use Rattle.gr_stages.specs.Scoping.{laid_in}
 use Rattle.gr_stages.specs.Marks.{Mark, Defines, IsFaultOfMark}
 use Rattle.gr_stages.proofs.marks.add_define.Goals as goal

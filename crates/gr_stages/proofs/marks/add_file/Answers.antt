@@ -2,10 +2,10 @@
 use Rattle.std.proofs.Common.{◌≡◌, List, [], ◌∷◌, ◌++◌, ◌∙◌, ap, refl, arith, map}
 use Rattle.std.specs.List.{flat_map}
 use Rattle.gr_fault.proofs.Each.{each_as, each_step, each_all}
-use Rattle.gr_parse.specs.declared.tree.File.{File}
-use Rattle.gr_parse.specs.declared.tree.Decl.{Decl}
-use Rattle.gr_parse.specs.FileView.{decl_view, file_view}
-use Rattle.gr_parse.specs.SourceFile.{FileParts, source_of}
+use Rattle.gr_tree.specs.declared.tree.File.{File}
+use Rattle.gr_tree.specs.declared.tree.Decl.{Decl}
+use Rattle.gr_tree.specs.FileView.{decl_view, file_view}
+use Rattle.gr_tree.specs.SourceFile.{FileParts, source_of}
 use Rattle.gr_stages.specs.Scoping.{laid_in}
 use Rattle.gr_stages.specs.Marks.{Mark, IsFaultOfMark, decl_marks, file_marks}
 use Rattle.gr_stages.proofs.marks.add_file.Goals as goal

@@ -1,7 +1,7 @@
 -- The answers to the goals of `marks::declares_name`.
 use Rattle.std.proofs.Common.{◌↔◌, sym, subst, IsTrue}
-use Rattle.gr_parse.specs.View.{expr_view}
-use Rattle.gr_parse.specs.declared.tree.Expr.{Expr}
+use Rattle.gr_tree.specs.View.{expr_view}
+use Rattle.gr_tree.specs.declared.tree.Expr.{Expr}
 use Rattle.gr_stages.specs.Scoping.{laid_in}
 use Rattle.gr_stages.specs.Marks.{DeclaresName}
 use Rattle.gr_stages.proofs.MarkParts.{not_a_name}

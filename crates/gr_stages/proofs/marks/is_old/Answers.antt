@@ -1,6 +1,6 @@
 -- The answers to the goals of `marks::is_old`.
 use Rattle.std.proofs.Common.{arith, subst}
-use Rattle.gr_parse.specs.View.{expr_view}
+use Rattle.gr_tree.specs.View.{expr_view}
 use Rattle.gr_fault.proofs.Listings.{is_false}
 use Rattle.gr_stages.specs.Scoping.{laid_in}
 use Rattle.gr_stages.specs.Marks.{DeclaresName}

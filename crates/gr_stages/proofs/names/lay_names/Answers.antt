@@ -1,7 +1,7 @@
 -- The answers to the goals of `names::lay_names`.
 use Rattle.std.proofs.Common.{◌≡◌, map, subst, sym}
 use Rattle.std.proofs.lemmas.Result.{IfOk-weaker}
-use Rattle.gr_parse.specs.SourceFile.{source_of}
+use Rattle.gr_tree.specs.SourceFile.{source_of}
 use Rattle.gr_scope.specs.Named.{named, name_given}
 use Rattle.gr_stages.specs.PackageNames.{ArePackageNames, IsLaidOver}
 use Rattle.gr_stages.specs.Scoping.{laid_in}

@@ -1,6 +1,6 @@
 -- The answers to the goals of `names::package_names`.
 use Rattle.std.proofs.Common.{◌≡◌, ap, arith, length, map}
-use Rattle.gr_parse.specs.SourceFile.{source_of}
+use Rattle.gr_tree.specs.SourceFile.{source_of}
 use Rattle.gr_stages.specs.Scoping.{laid_in}
 use Rattle.gr_stages.proofs.NameParts.{sized_next, names_next}
 use Rattle.gr_stages.proofs.names.package_names.Goals as goal

@@ -1,6 +1,6 @@
 -- The invariants of the loops of `names::package_names`.
 use Rattle.std.proofs.Common.{ℕ, ◌≡◌, ◌<◌, true, length, map}
-use Rattle.gr_parse.specs.SourceFile.{source_of}
+use Rattle.gr_tree.specs.SourceFile.{source_of}
 use Rattle.gr_scope.specs.Named.{is_unnamed_import, name_given}
 use Rattle.gr_stages.specs.Scoping.{laid_in}
 use Rattle.gr_stages.specs.PackageNames.{IsPackageName}

@@ -3,7 +3,7 @@ use Rattle.std.proofs.Common.{◌≡◌, ◌∙◌, [], subst, sym, map}
 use Rattle.gr_fault.specs.Listing.{Adds, Lists}
 use Rattle.gr_fault.proofs.Listings.{is_false}
 use Rattle.gr_fault.proofs.Stages.{first_listed, later_listed}
-use Rattle.gr_parse.specs.SourceFile.{source_of}
+use Rattle.gr_tree.specs.SourceFile.{source_of}
 use Rattle.gr_stages.specs.Clauses.{IsClauseFault}
 use Rattle.gr_stages.specs.Imports.{IsImportFault}
 use Rattle.gr_stages.specs.States.{state_in}

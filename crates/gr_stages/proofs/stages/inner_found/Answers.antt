@@ -1,7 +1,7 @@
 -- The answers to the goals of `stages::inner_found`.
 use Rattle.std.proofs.Common.{map}
 use Rattle.gr_fault.proofs.Stages.{listed_then}
-use Rattle.gr_parse.specs.SourceFile.{source_of}
+use Rattle.gr_tree.specs.SourceFile.{source_of}
 use Rattle.gr_stages.specs.Scoping.{laid_in, IsUnknownFault}
 use Rattle.gr_stages.specs.Stages.{IsOwnFault}
 use Rattle.gr_stages.proofs.stages.inner_found.Goals as goal

@@ -1,7 +1,7 @@
 -- The answers to the goals of `unknown::add_name`.
 use Rattle.std.proofs.Common.{ℕ, ◌∙◌, List, map, ap, subst, MatchOption}
 use Rattle.gr_fault.proofs.Listings.{adds_none}
-use Rattle.gr_parse.specs.SourceFile.{source_of}
+use Rattle.gr_tree.specs.SourceFile.{source_of}
 use Rattle.gr_stages.specs.Scoping.{laid_in, IsPathOf, is_exported, qualified_fault}
 use Rattle.gr_stages.specs.Unknown.{IsUnknownOf}
 use Rattle.gr_stages.proofs.UnknownParts.{name_added}

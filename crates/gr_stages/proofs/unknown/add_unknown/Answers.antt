@@ -1,6 +1,6 @@
 -- The answers to the goals of `unknown::add_unknown`.
 use Rattle.std.proofs.Common.{map}
-use Rattle.gr_parse.specs.SourceFile.{source_of}
+use Rattle.gr_tree.specs.SourceFile.{source_of}
 use Rattle.gr_stages.specs.Scoping.{laid_in}
 use Rattle.gr_stages.proofs.UnknownParts.{unknown_added, none_unknown}
 use Rattle.gr_stages.proofs.unknown.add_unknown.Goals as goal

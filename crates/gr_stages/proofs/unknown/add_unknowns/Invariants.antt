@@ -1,7 +1,7 @@
 -- The invariants of the loops of `unknown::add_unknowns`.
 use Rattle.std.proofs.Common.{map}
 use Rattle.gr_fault.specs.Listing.{Adds, Below}
-use Rattle.gr_parse.specs.SourceFile.{source_of}
+use Rattle.gr_tree.specs.SourceFile.{source_of}
 use Rattle.gr_stages.specs.Scoping.{laid_in, IsUnknown}
 use Rattle.gr_stages.proofs.unknown.add_unknowns.Given as goal
 

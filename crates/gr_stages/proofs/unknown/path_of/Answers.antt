@@ -2,7 +2,7 @@
 use Rattle.std.proofs.Common.{ℕ, ◌≡◌, ◌<◌, ◌∙◌, List, length, map, ap, subst, arith, MatchOption}
 use Rattle.std.specs.Prelude.{Some, slice_get}
 use Rattle.std.proofs.lemmas.Result.{IfOk-weaker}
-use Rattle.gr_parse.specs.SourceFile.{source_of}
+use Rattle.gr_tree.specs.SourceFile.{source_of}
 use Rattle.gr_stages.specs.Files.{HasLiteral}
 use Rattle.gr_stages.specs.Scoping.{laid_in, literal_of, IsPathOf}
 use Rattle.gr_stages.proofs.UnknownParts.{source_at, no_source, path_at}

@@ -1,8 +1,8 @@
 -- The answers to the goals of `alone::judge_chain`.
 use Rattle.std.proofs.Common.{◌∙◌, ap, sym}
 use Rattle.std.proofs.lemmas.List.{nil_from_length}
-use Rattle.gr_parse.specs.Tree.{Chain}
-use Rattle.gr_parse.specs.View.{expr_view}
+use Rattle.gr_tree.specs.Tree.{Chain}
+use Rattle.gr_tree.specs.View.{expr_view}
 use Rattle.gr_expr.specs.Lists.{links_in}
 use Rattle.gr_expr.specs.Judge.{judge}
 use Rattle.gr_expr.specs.WorldView.{world_of}

@@ -1,6 +1,6 @@
 -- The answers to the goals of `alone::judge_last`.
 use Rattle.std.proofs.Common.{◌∙◌}
-use Rattle.gr_parse.specs.View.{expr_view}
+use Rattle.gr_tree.specs.View.{expr_view}
 use Rattle.gr_expr.specs.Judge.{judge}
 use Rattle.gr_expr.specs.WorldView.{world_of}
 use Rattle.gr_expr.specs.Found.{locals_of}

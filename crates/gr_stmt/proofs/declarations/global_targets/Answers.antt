@@ -1,8 +1,8 @@
 -- The answers to the goals of `declarations::global_targets`.
 use Rattle.std.proofs.Common.{ℕ, None, ap, sym, ◌∙◌, arith, option_map}
-use Rattle.gr_parse.specs.View.{item_view}
-use Rattle.gr_parse.specs.FileView.{same_place}
-use Rattle.gr_parse.specs.declared.tree.Item.{Item}
+use Rattle.gr_tree.specs.View.{item_view}
+use Rattle.gr_tree.specs.FileView.{same_place}
+use Rattle.gr_tree.specs.declared.tree.Item.{Item}
 use Rattle.gr_expr.specs.View.{type_of}
 use Rattle.gr_stmt.specs.Sides.{Wants}
 use Rattle.gr_stmt.specs.View.{target_of}

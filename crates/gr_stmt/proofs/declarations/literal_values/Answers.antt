@@ -1,10 +1,10 @@
 -- The answers to the goals of `declarations::literal_values`.
 use Rattle.std.proofs.Common.{None, sym, ◌∙◌, arith}
-use Rattle.gr_parse.specs.View.{item_view}
-use Rattle.gr_parse.specs.FileView.{basic_view}
-use Rattle.gr_parse.specs.declared.tree.Item.{Item}
-use Rattle.gr_parse.specs.declared.tree.BasicLit.{BasicLit}
-use Rattle.gr_parse.specs.declared.tree.BasicLit.TheVariants as literal
+use Rattle.gr_tree.specs.View.{item_view}
+use Rattle.gr_tree.specs.FileView.{basic_view}
+use Rattle.gr_tree.specs.declared.tree.Item.{Item}
+use Rattle.gr_tree.specs.declared.tree.BasicLit.{BasicLit}
+use Rattle.gr_tree.specs.declared.tree.BasicLit.TheVariants as literal
 use Rattle.gr_expr.specs.Found.{argued_of}
 use Rattle.gr_stmt.specs.Declarations.{literal_value}
 use Rattle.gr_stmt.proofs.Lists.{map_map, push_at, all_mapped}

@@ -1,6 +1,6 @@
 -- The invariants of the loops of `declarations::literal_values`.
 use Rattle.std.proofs.Common.{◌≡◌, take, map}
-use Rattle.gr_parse.specs.FileView.{basic_view}
+use Rattle.gr_tree.specs.FileView.{basic_view}
 use Rattle.gr_expr.specs.Found.{argued_of}
 use Rattle.gr_stmt.specs.Declarations.{literal_value}
 use Rattle.gr_stmt.proofs.declarations.literal_values.Given as goal

@@ -1,8 +1,8 @@
 -- The answers to the goals of `declarations::note_body_faults`.
 use Rattle.std.proofs.Common.{ap, sym, ◌∙◌}
 use Rattle.std.proofs.lemmas.Result.{on_ok_weaker}
-use Rattle.gr_parse.specs.View.{list_view}
-use Rattle.gr_parse.specs.FileView.{field_view, body_view}
+use Rattle.gr_tree.specs.View.{list_view}
+use Rattle.gr_tree.specs.FileView.{field_view, body_view}
 use Rattle.gr_expr.specs.WorldView.{world_of}
 use Rattle.gr_stmt.specs.Declarations.{field_faults, body_faults}
 use Rattle.gr_stmt.proofs.Making.{type_notes, notes_as}

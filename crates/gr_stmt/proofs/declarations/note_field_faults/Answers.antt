@@ -1,8 +1,8 @@
 -- The answers to the goals of `declarations::note_field_faults`.
 use Rattle.std.proofs.Common.{ap, ◌∙◌}
 use Rattle.std.proofs.Math.ListN.{drop_of_length-le}
-use Rattle.gr_parse.specs.View.{list_view, type_view}
-use Rattle.gr_parse.specs.FileView.{field_view}
+use Rattle.gr_tree.specs.View.{list_view, type_view}
+use Rattle.gr_tree.specs.FileView.{field_view}
 use Rattle.gr_expr.specs.Judge.{judge_type}
 use Rattle.gr_expr.specs.WorldView.{world_of}
 use Rattle.gr_stmt.specs.Declarations.{field_faults}

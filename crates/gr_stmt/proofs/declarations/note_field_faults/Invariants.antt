@@ -1,7 +1,7 @@
 -- The invariants of the loops of `declarations::note_field_faults`.
 use Rattle.std.proofs.Common.{drop}
-use Rattle.gr_parse.specs.View.{list_view}
-use Rattle.gr_parse.specs.FileView.{field_view}
+use Rattle.gr_tree.specs.View.{list_view}
+use Rattle.gr_tree.specs.FileView.{field_view}
 use Rattle.gr_expr.specs.WorldView.{world_of}
 use Rattle.gr_stmt.specs.Declarations.{field_faults}
 use Rattle.gr_stmt.proofs.Growing.{GrownFaults}

@@ -1,8 +1,8 @@
 -- The answers to the goals of `declarations::note_global_faults`.
 use Rattle.std.proofs.Common.{◌++◌, ap, sym, ◌∙◌, append-nil, option_map}
 use Rattle.std.proofs.lemmas.Result.{on_ok_weaker}
-use Rattle.gr_parse.specs.View.{list_view, option_view, type_view}
-use Rattle.gr_parse.specs.FileView.{same_place, basic_view, var_values_view, global_view}
+use Rattle.gr_tree.specs.View.{list_view, option_view, type_view}
+use Rattle.gr_tree.specs.FileView.{same_place, basic_view, var_values_view, global_view}
 use Rattle.gr_expr.specs.Judge.{judge_type}
 use Rattle.gr_expr.specs.View.{type_of}
 use Rattle.gr_expr.specs.WorldView.{world_of}

@@ -1,7 +1,7 @@
 -- The answers to the goals of `files::check_file`.
 use Rattle.std.proofs.Common.{◌+◌, ap, sym, ◌∙◌, drop, map}
 use Rattle.std.proofs.Math.ListN.{drop_of_length-le}
-use Rattle.gr_parse.specs.FileView.{decl_view, file_view}
+use Rattle.gr_tree.specs.FileView.{decl_view, file_view}
 use Rattle.gr_expr.specs.WorldView.{world_of}
 use Rattle.gr_stmt.specs.Declarations.{check_decls, check_file}
 use Rattle.gr_stmt.specs.View.{checked_of, is_init_in}

@@ -1,6 +1,6 @@
 -- The invariants of the loops of `files::check_file`.
 use Rattle.std.proofs.Common.{◌≡◌, drop, map}
-use Rattle.gr_parse.specs.FileView.{decl_view}
+use Rattle.gr_tree.specs.FileView.{decl_view}
 use Rattle.gr_expr.specs.WorldView.{world_of}
 use Rattle.gr_stmt.specs.Declarations.{check_decls}
 use Rattle.gr_stmt.specs.View.{checked_of, is_init_in}

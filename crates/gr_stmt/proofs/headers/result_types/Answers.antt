@@ -2,7 +2,7 @@
 use Rattle.std.proofs.Common.{List, ap, sym, ◌∙◌, ◌+◌, drop, map, refl, subst}
 use Rattle.std.proofs.Math.ListN.{drop_of_length-le}
 use Rattle.std.proofs.lemmas.List.{map-append}
-use Rattle.gr_parse.specs.View.{list_view, type_view}
+use Rattle.gr_tree.specs.View.{list_view, type_view}
 use Rattle.gr_expr.specs.Judge.{judge_type}
 use Rattle.gr_expr.specs.WorldView.{world_of}
 use Rattle.gr_stmt.specs.Sides.{Target}

@@ -1,6 +1,6 @@
 -- The invariants of the loops of `headers::result_types`.
 use Rattle.std.proofs.Common.{drop, map}
-use Rattle.gr_parse.specs.View.{list_view, type_view}
+use Rattle.gr_tree.specs.View.{list_view, type_view}
 use Rattle.gr_expr.specs.WorldView.{world_of}
 use Rattle.gr_stmt.specs.Headers.{judge_types}
 use Rattle.gr_stmt.specs.View.{target_of}

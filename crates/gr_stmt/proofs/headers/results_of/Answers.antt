@@ -1,7 +1,7 @@
 -- The answers to the goals of `headers::results_of`.
 use Rattle.std.proofs.Common.{[], ◌∷◌, ◌++◌, ap, sym, ◌∙◌, map}
-use Rattle.gr_parse.specs.View.{list_view, type_view}
-use Rattle.gr_parse.specs.FileView.{results_view}
+use Rattle.gr_tree.specs.View.{list_view, type_view}
+use Rattle.gr_tree.specs.FileView.{results_view}
 use Rattle.gr_expr.specs.WorldView.{world_of}
 use Rattle.gr_stmt.specs.declared.sides.Target.TheVariants as target
 use Rattle.gr_stmt.specs.Headers.{judge_types, judge_results}

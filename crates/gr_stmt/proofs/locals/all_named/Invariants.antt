@@ -1,6 +1,6 @@
 -- The invariants of the loops of `locals::all_named`.
 use Rattle.std.proofs.Common.{◌≡◌, take}
-use Rattle.gr_parse.specs.View.{list_view, ident_view}
+use Rattle.gr_tree.specs.View.{list_view, ident_view}
 use Rattle.gr_stmt.specs.Sides.{all_named}
 use Rattle.gr_stmt.proofs.locals.all_named.Given as goal
 

@@ -1,10 +1,10 @@
 -- The answers to the goals of `locals::declare_written`.
 use Rattle.std.proofs.Common.{None, ◌+◌, get_or, ap, sym, ◌∙◌, drop, option_map}
 use Rattle.std.proofs.Math.ListN.{drop_of_length-le}
-use Rattle.gr_parse.specs.View.{list_view, ident_view}
-use Rattle.gr_parse.specs.declared.tree.Item.{Item}
-use Rattle.gr_parse.specs.declared.tree.Ident.{Ident}
-use Rattle.gr_parse.specs.declared.tree.Ident.TheVariants as ident
+use Rattle.gr_tree.specs.View.{list_view, ident_view}
+use Rattle.gr_tree.specs.declared.tree.Item.{Item}
+use Rattle.gr_tree.specs.declared.tree.Ident.{Ident}
+use Rattle.gr_tree.specs.declared.tree.Ident.TheVariants as ident
 use Rattle.gr_expr.specs.View.{type_of}
 use Rattle.gr_expr.specs.Found.{locals_of}
 use Rattle.gr_stmt.specs.Sides.{declared_if, named}

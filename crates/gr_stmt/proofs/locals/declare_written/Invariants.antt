@@ -1,6 +1,6 @@
 -- The invariants of the loops of `locals::declare_written`.
 use Rattle.std.proofs.Common.{◌≡◌, drop, option_map}
-use Rattle.gr_parse.specs.View.{list_view, ident_view}
+use Rattle.gr_tree.specs.View.{list_view, ident_view}
 use Rattle.gr_expr.specs.View.{type_of}
 use Rattle.gr_expr.specs.Found.{locals_of}
 use Rattle.gr_stmt.specs.Simple.{written_locals}

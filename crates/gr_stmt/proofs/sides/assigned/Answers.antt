@@ -2,7 +2,7 @@
 use Rattle.std.proofs.Common.{List, ap, sym, ◌∙◌, ◌+◌, drop, map, subst}
 use Rattle.std.proofs.Math.ListN.{drop_of_length-le}
 use Rattle.std.proofs.lemmas.List.{map-append}
-use Rattle.gr_parse.specs.View.{expr_view, exprs_view}
+use Rattle.gr_tree.specs.View.{expr_view, exprs_view}
 use Rattle.gr_expr.specs.WorldView.{world_of}
 use Rattle.gr_expr.specs.Found.{locals_of}
 use Rattle.gr_stmt.specs.Sides.{Target, assigned, assigned_one}

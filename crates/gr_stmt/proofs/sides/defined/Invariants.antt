@@ -1,6 +1,6 @@
 -- The invariants of the loops of `sides::defined`.
 use Rattle.std.proofs.Common.{drop, map}
-use Rattle.gr_parse.specs.View.{exprs_view}
+use Rattle.gr_tree.specs.View.{exprs_view}
 use Rattle.gr_expr.specs.WorldView.{world_of}
 use Rattle.gr_expr.specs.Found.{locals_of}
 use Rattle.gr_stmt.specs.Sides.{defined}

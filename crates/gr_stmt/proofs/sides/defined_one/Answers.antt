@@ -1,6 +1,6 @@
 -- The answers to the goals of `sides::defined_one`.
 use Rattle.std.proofs.Common.{Bool, if◌then◌else◌, None, [], ◌∷◌, ap, sym, ◌∙◌, refl}
-use Rattle.gr_parse.specs.View.{expr_view}
+use Rattle.gr_tree.specs.View.{expr_view}
 use Rattle.gr_expr.specs.Types.{Broken}
 use Rattle.gr_expr.specs.Places.{place_of}
 use Rattle.gr_expr.specs.Judge.{judge_value, means}

@@ -1,6 +1,6 @@
 -- The answers to the goals of `sides::lone`.
 use Rattle.std.proofs.Common.{ap, sym, ◌∙◌, map}
-use Rattle.gr_parse.specs.View.{expr_view}
+use Rattle.gr_tree.specs.View.{expr_view}
 use Rattle.gr_expr.specs.Places.{place_of}
 use Rattle.gr_expr.specs.Judge.{as_value}
 use Rattle.gr_expr.specs.View.{type_of}

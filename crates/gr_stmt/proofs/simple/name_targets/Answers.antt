@@ -1,9 +1,9 @@
 -- The answers to the goals of `simple::name_targets`.
 use Rattle.std.proofs.Common.{None, sym, ◌∙◌, refl, arith}
-use Rattle.gr_parse.specs.View.{item_view, ident_view}
-use Rattle.gr_parse.specs.declared.tree.Item.{Item}
-use Rattle.gr_parse.specs.declared.tree.Ident.{Ident}
-use Rattle.gr_parse.specs.declared.tree.Ident.TheVariants as ident
+use Rattle.gr_tree.specs.View.{item_view, ident_view}
+use Rattle.gr_tree.specs.declared.tree.Item.{Item}
+use Rattle.gr_tree.specs.declared.tree.Ident.{Ident}
+use Rattle.gr_tree.specs.declared.tree.Ident.TheVariants as ident
 use Rattle.gr_stmt.specs.Sides.{Takes}
 use Rattle.gr_stmt.specs.View.{target_of}
 use Rattle.gr_stmt.proofs.Lists.{map_map, push_at, all_mapped}

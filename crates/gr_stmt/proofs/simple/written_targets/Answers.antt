@@ -1,9 +1,9 @@
 -- The answers to the goals of `simple::written_targets`.
 use Rattle.std.proofs.Common.{None, ap, sym, ◌∙◌, arith, option_map}
-use Rattle.gr_parse.specs.View.{item_view, ident_view}
-use Rattle.gr_parse.specs.declared.tree.Item.{Item}
-use Rattle.gr_parse.specs.declared.tree.Ident.{Ident}
-use Rattle.gr_parse.specs.declared.tree.Ident.TheVariants as ident
+use Rattle.gr_tree.specs.View.{item_view, ident_view}
+use Rattle.gr_tree.specs.declared.tree.Item.{Item}
+use Rattle.gr_tree.specs.declared.tree.Ident.{Ident}
+use Rattle.gr_tree.specs.declared.tree.Ident.TheVariants as ident
 use Rattle.gr_expr.specs.View.{type_of}
 use Rattle.gr_stmt.specs.Sides.{Wants}
 use Rattle.gr_stmt.specs.View.{target_of}

@@ -7,12 +7,13 @@ use Rattle.std.proofs.lemmas.Result.{IfOk-weaker}
 use Rattle.gr_fault.specs.declared.fault.Fault.{Fault}
 use Rattle.gr_fault.specs.contracts.fault.FaultOrd.TheImpl as order
 use Rattle.gr_fault.specs.Listing.{Lists}
-use Rattle.gr_parse.specs.SourceFile.{source_of}
+use Rattle.gr_tree.specs.SourceFile.{source_of}
 use Rattle.gr_stages.specs.Stages.{IsOuterFault}
 use Rattle.gr_stages.specs.States.{state_in}
-use Rattle.gr_types.specs.Package.{Package}
-use Rattle.gr_types.specs.InterfacesView.{name_in, interface_in}
-use Rattle.gr_types.specs.Check.{package_in, IsPackageOf, IsCheckedBy, IsCheckedPackage, IsLaterFault, IsFoundIn}
+use Rattle.gr_declared.specs.Package.{Package}
+use Rattle.gr_declared.specs.InterfacesView.{name_in, interface_in}
+use Rattle.gr_meanings.specs.PackageOf.{package_in, IsPackageOf}
+use Rattle.gr_types.specs.Check.{IsCheckedBy, IsCheckedPackage, IsLaterFault, IsFoundIn}
 use Rattle.gr_types.proofs.WholeCheck.{outer_ends, outer_goes_on, found_outside, found_inside}
 use Rattle.gr_types.proofs.checking.check_files.Goals as goal
 

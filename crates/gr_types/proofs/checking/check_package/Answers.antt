@@ -2,11 +2,11 @@
 use Rattle.std.proofs.lemmas.Result.{IfOk-weaker}
 use Rattle.gr_fault.specs.Stage.{FirstOf}
 use Rattle.gr_stages.specs.Stages.{IsInnerFault}
-use Rattle.gr_types.specs.Package.{laid_of}
-use Rattle.gr_types.specs.Members.{IsMemberFault}
+use Rattle.gr_declared.specs.Package.{laid_of}
+use Rattle.gr_members.specs.Members.{IsMemberFault}
 use Rattle.gr_types.specs.Faults.{IsTypeFault}
 use Rattle.gr_types.specs.Check.{exports_in, IsCheckedBy, IsLaterFault}
-use Rattle.gr_types.specs.PackageView.{package_of}
+use Rattle.gr_declared.specs.PackageView.{package_of}
 use Rattle.gr_types.proofs.Staging.{ends_with, goes_on}
 use Rattle.gr_types.proofs.checking.check_package.Goals as goal
 
@@ -20,6 +20,6 @@ pub returns : goal.returns
 returns c =
     let p = package_of c.args.unit in
     let later = FirstOf (IsMemberFault p) (IsTypeFault p) in
-    IfOk-weaker c.check_definitions.result (λ x. IsCheckedBy later p x) (λ x. IsCheckedBy (IsLaterFault p) p x)
+    IfOk-weaker c.check_members.result (λ x. IsCheckedBy later p x) (λ x. IsCheckedBy (IsLaterFault p) p x)
     (λ x h. goes_on (IsInnerFault p.files (exports_in p) (laid_of p)) later p c.in_ok-faults.faults c.is_empty.result c.is_empty.ensures c.if-not-is_empty.false c.in_ok-faults.ensures.listed x h)
-    c.check_definitions.ensures
+    c.check_members.ensures

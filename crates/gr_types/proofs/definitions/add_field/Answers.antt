@@ -3,10 +3,10 @@ use Rattle.std.proofs.Common.{subst}
 use Rattle.std.specs.Prelude.{option_map}
 use Rattle.std.proofs.lemmas.Result.{on_ok_weaker}
 use Rattle.gr_expr.specs.View.{type_of}
-use Rattle.gr_types.specs.Written.{IsTypeOf}
-use Rattle.gr_types.specs.WrittenView.{IsTypeFound}
-use Rattle.gr_types.specs.FieldsView.{field_of}
-use Rattle.gr_types.specs.PackageView.{package_of}
+use Rattle.gr_declared.specs.Written.{IsTypeOf}
+use Rattle.gr_declared.specs.WrittenView.{IsTypeFound}
+use Rattle.gr_members.specs.FieldsView.{field_of}
+use Rattle.gr_declared.specs.PackageView.{package_of}
 use Rattle.gr_types.proofs.Building.{field_changed}
 use Rattle.gr_types.proofs.definitions.add_field.Goals as goal
 

@@ -4,12 +4,12 @@ use Rattle.std.specs.Global.{Vec}
 use Rattle.std.proofs.Math.ListN.{length-map}
 use Rattle.std.proofs.lemmas.Bool.{false≢true}
 use Rattle.gr_expr.specs.declared.world.Definition.{Definition}
-use Rattle.gr_types.specs.Package.{package_types}
-use Rattle.gr_types.specs.Definitions.{package_fields}
-use Rattle.gr_types.specs.FieldsView.{field_of}
+use Rattle.gr_declared.specs.Package.{package_types}
+use Rattle.gr_declared.specs.Definitions.{package_fields}
+use Rattle.gr_members.specs.FieldsView.{field_of}
 use Rattle.gr_types.specs.Building.{HaveMembersBelow}
-use Rattle.gr_types.specs.PackageView.{package_of}
-use Rattle.gr_types.proofs.Noting.{item_at}
+use Rattle.gr_declared.specs.PackageView.{package_of}
+use Rattle.gr_declared.proofs.Items.{item_at}
 use Rattle.gr_types.proofs.Building.{field_within, field_skipped, field_added}
 use Rattle.gr_types.proofs.definitions.add_fields.Goals as goal
 use Rattle.gr_types.proofs.definitions.add_fields.Goals.{then-counting-rank+in_ok-add_field, else-counting-rank}

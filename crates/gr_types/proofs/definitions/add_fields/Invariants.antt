@@ -1,5 +1,5 @@
 -- The invariants of the loops of `definitions::add_fields`.
-use Rattle.gr_types.specs.PackageView.{package_of}
+use Rattle.gr_declared.specs.PackageView.{package_of}
 use Rattle.gr_types.specs.Building.{HaveMembersBelow}
 use Rattle.gr_types.proofs.definitions.add_fields.Given as goal
 

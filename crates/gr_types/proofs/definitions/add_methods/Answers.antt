@@ -5,15 +5,15 @@ use Rattle.std.specs.Global.{Vec}
 use Rattle.std.proofs.Math.ListN.{length-map}
 use Rattle.std.proofs.lemmas.Bool.{false≢true}
 use Rattle.gr_expr.specs.declared.world.Definition.{Definition}
-use Rattle.gr_types.specs.Package.{package_types, package_functions}
-use Rattle.gr_types.specs.Definitions.{package_fields}
-use Rattle.gr_types.specs.DeclaredView.{function_of}
-use Rattle.gr_types.specs.MembersView.{IsMethodOn}
+use Rattle.gr_declared.specs.Package.{package_types, package_functions}
+use Rattle.gr_declared.specs.Definitions.{package_fields}
+use Rattle.gr_declared.specs.DeclaredView.{function_of}
+use Rattle.gr_members.specs.MembersView.{IsMethodOn}
 use Rattle.gr_types.specs.Building.{HaveMembersBelow}
-use Rattle.gr_types.specs.PackageView.{package_of}
-use Rattle.gr_types.proofs.Noting.{item_at}
-use Rattle.gr_types.proofs.Owning.{HasOwner}
-use Rattle.gr_types.proofs.MethodNames.{owner_within}
+use Rattle.gr_declared.specs.PackageView.{package_of}
+use Rattle.gr_declared.proofs.Items.{item_at}
+use Rattle.gr_members.proofs.Owning.{HasOwner}
+use Rattle.gr_members.proofs.MethodNames.{owner_within}
 use Rattle.gr_types.proofs.Building.{method_changed, method_skipped, method_added, no_owner}
 use Rattle.gr_types.proofs.definitions.add_methods.Goals as goal
 use Rattle.gr_types.proofs.definitions.add_methods.Goals.{then-counting-rank+in-Some+in_ok-set_method, then-counting-rank+in_default, else-counting-rank}

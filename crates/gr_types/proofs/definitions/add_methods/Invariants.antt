@@ -1,7 +1,7 @@
 -- The invariants of the loops of `definitions::add_methods`.
 use Rattle.std.proofs.Common.{length}
-use Rattle.gr_types.specs.Definitions.{package_fields}
-use Rattle.gr_types.specs.PackageView.{package_of}
+use Rattle.gr_declared.specs.Definitions.{package_fields}
+use Rattle.gr_declared.specs.PackageView.{package_of}
 use Rattle.gr_types.specs.Building.{HaveMembersBelow}
 use Rattle.gr_types.proofs.definitions.add_methods.Given as goal
 

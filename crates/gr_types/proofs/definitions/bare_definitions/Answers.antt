@@ -3,11 +3,11 @@ use Rattle.std.proofs.Common.{rules, arith, ◌<◌, length, sym, subst}
 use Rattle.std.specs.Prelude.{None, option_map}
 use Rattle.std.proofs.lemmas.List.{get_or_read}
 use Rattle.gr_expr.specs.WorldView.{definition_of, underlying_of}
-use Rattle.gr_types.specs.Package.{package_types}
-use Rattle.gr_types.specs.MembersView.{IsUnderlyingFound}
-use Rattle.gr_types.specs.PackageView.{package_of}
+use Rattle.gr_declared.specs.Package.{package_types}
+use Rattle.gr_members.specs.MembersView.{IsUnderlyingFound}
+use Rattle.gr_declared.specs.PackageView.{package_of}
 use Rattle.gr_types.specs.Building.{IsDefinitionBelow}
-use Rattle.gr_types.proofs.Steps.{each_push}
+use Rattle.gr_members.proofs.Steps.{each_push}
 use Rattle.gr_types.proofs.definitions.bare_definitions.Goals as goal
 
 pub bare_definition-requires : goal.bare_definition-requires

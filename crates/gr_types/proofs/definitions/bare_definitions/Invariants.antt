@@ -3,7 +3,7 @@ use Rattle.std.proofs.Common.{ℕ, ◌≡◌, length}
 use Rattle.std.specs.Prelude.{Some, slice_get}
 use Rattle.gr_expr.specs.declared.world.Definition.{Definition}
 use Rattle.gr_expr.specs.WorldView.{definition_of}
-use Rattle.gr_types.specs.PackageView.{package_of}
+use Rattle.gr_declared.specs.PackageView.{package_of}
 use Rattle.gr_types.specs.Building.{IsDefinitionBelow}
 use Rattle.gr_types.proofs.definitions.bare_definitions.Given as goal
 

@@ -1,5 +1,5 @@
 -- The answers to the goals of `definitions::definitions`.
-use Rattle.gr_types.specs.PackageView.{package_of}
+use Rattle.gr_declared.specs.PackageView.{package_of}
 use Rattle.gr_types.proofs.Building.{have_definitions}
 use Rattle.gr_types.proofs.definitions.definitions.Goals as goal
 

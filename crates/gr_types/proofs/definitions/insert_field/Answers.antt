@@ -2,7 +2,7 @@
 use Rattle.std.proofs.Common.{ap, refl}
 use Rattle.std.specs.Prelude.{Some, option_map}
 use Rattle.gr_expr.specs.WorldView.{field_of}
-use Rattle.gr_types.proofs.ByteKeys.{others_stay}
+use Rattle.gr_declared.proofs.ByteKeys.{others_stay}
 use Rattle.gr_types.proofs.definitions.insert_field.Goals as goal
 
 pub returns : goal.returns

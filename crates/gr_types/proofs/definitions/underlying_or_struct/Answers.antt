@@ -4,10 +4,10 @@ use Rattle.std.specs.Prelude.{None, Some, option_map}
 use Rattle.std.proofs.lemmas.Result.{IfOk-weaker}
 use Rattle.gr_expr.specs.Types.{Struct}
 use Rattle.gr_expr.specs.WorldView.{underlying_of}
-use Rattle.gr_types.specs.Package.{symbol_in}
-use Rattle.gr_types.specs.Definitions.{IsUnderlyingOf, has, has_none}
-use Rattle.gr_types.specs.MembersView.{IsUnderlyingFound}
-use Rattle.gr_types.specs.PackageView.{package_of}
+use Rattle.gr_declared.specs.Package.{symbol_in}
+use Rattle.gr_declared.specs.Definitions.{IsUnderlyingOf, has, has_none}
+use Rattle.gr_members.specs.MembersView.{IsUnderlyingFound}
+use Rattle.gr_declared.specs.PackageView.{package_of}
 use Rattle.gr_types.proofs.definitions.underlying_or_struct.Goals as goal
 
 pub returns-in-None : goal.returns-in-None

@@ -1,9 +1,9 @@
 -- The answers to the goals of `exporting::add_export`.
 use Rattle.std.proofs.Common.{subst, ◌∙◌}
 use Rattle.std.specs.Prelude.{option_map}
-use Rattle.gr_types.specs.InterfacesView.{export_of, exports_at}
+use Rattle.gr_declared.specs.InterfacesView.{export_of, exports_at}
 use Rattle.gr_types.specs.Interfaces.{IsExportFound}
-use Rattle.gr_types.specs.PackageView.{package_of}
+use Rattle.gr_declared.specs.PackageView.{package_of}
 use Rattle.gr_types.proofs.ExportParts.{one_more_export, same_exports}
 use Rattle.gr_types.proofs.exporting.add_export.Goals as goal
 

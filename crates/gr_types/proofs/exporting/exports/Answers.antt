@@ -1,8 +1,8 @@
 -- The answers to the goals of `exporting::exports`.
 use Rattle.std.proofs.Common.{◌≡◌, length, subst, arith}
-use Rattle.gr_types.specs.InterfacesView.{exports_at}
+use Rattle.gr_declared.specs.InterfacesView.{exports_at}
 use Rattle.gr_types.specs.Interfaces.{AreExportsBelow}
-use Rattle.gr_types.specs.PackageView.{package_of}
+use Rattle.gr_declared.specs.PackageView.{package_of}
 use Rattle.gr_types.proofs.exporting.exports.Goals as goal
 
 pub returns : goal.returns

@@ -1,7 +1,7 @@
 -- The answers to the goals of `exporting::interface`.
 use Rattle.std.proofs.Common.{refl}
-use Rattle.gr_types.specs.InterfacesView.{exports_at}
-use Rattle.gr_types.specs.PackageView.{package_of}
+use Rattle.gr_declared.specs.InterfacesView.{exports_at}
+use Rattle.gr_declared.specs.PackageView.{package_of}
 use Rattle.gr_types.proofs.ExportParts.{all_exports, all_definitions, beyond_definitions}
 use Rattle.gr_types.proofs.exporting.interface.Goals as goal
 

@@ -1,11 +1,11 @@
 -- The answers to the goals of `exporting::placed`.
 use Rattle.std.proofs.Common.{ap, subst, ◌∙◌}
 use Rattle.std.specs.Prelude.{option_map}
-use Rattle.gr_parse.specs.SourceFile.{source_of, offset_of}
+use Rattle.gr_tree.specs.SourceFile.{source_of, offset_of}
 use Rattle.gr_expr.specs.WorldView.{bound_of}
-use Rattle.gr_types.specs.InterfacesView.{export_of, meaning_of}
+use Rattle.gr_declared.specs.InterfacesView.{export_of, meaning_of}
 use Rattle.gr_types.specs.Interfaces.{IsGlobalFound}
-use Rattle.gr_types.specs.PackageView.{package_of}
+use Rattle.gr_declared.specs.PackageView.{package_of}
 use Rattle.gr_types.proofs.ExportParts.{no_export, is_export, file_at}
 use Rattle.gr_types.proofs.exporting.placed.Goals as goal
 

@@ -1,7 +1,7 @@
 -- The answers to the goals of `type_faults::add_file`.
 use Rattle.std.proofs.lemmas.Result.{on_ok_weaker}
 use Rattle.gr_stmt.specs.View.{checked_of}
-use Rattle.gr_types.specs.PackageView.{package_of}
+use Rattle.gr_declared.specs.PackageView.{package_of}
 use Rattle.gr_types.proofs.TypeFaultParts.{faults_of_file, uses_of_file}
 use Rattle.gr_types.proofs.type_faults.add_file.Goals as goal
 

@@ -3,10 +3,10 @@ use Rattle.std.proofs.Common.{◌≡◌, length, arith}
 use Rattle.std.proofs.Math.ListN.{length-map}
 use Rattle.gr_fault.proofs.Each.{below_next}
 use Rattle.gr_fault.proofs.Stages.{same_listed}
-use Rattle.gr_parse.specs.SourceFile.{source_of}
+use Rattle.gr_tree.specs.SourceFile.{source_of}
 use Rattle.gr_types.specs.Faults.{IsTypeFault}
 use Rattle.gr_types.specs.TypesView.{IsTypeFaultIn}
-use Rattle.gr_types.specs.PackageView.{package_of}
+use Rattle.gr_declared.specs.PackageView.{package_of}
 use Rattle.gr_types.proofs.TypeFaultParts.{next_uses, all_faults, all_uses}
 use Rattle.gr_types.proofs.type_faults.type_faults.Goals as goal
 

@@ -1,10 +1,10 @@
 -- The invariants of the loops of `type_faults::type_faults`.
 use Rattle.std.proofs.Common.{[], map}
 use Rattle.gr_fault.specs.Listing.{Adds, Below}
-use Rattle.gr_types.specs.BoundsView.{AreBounds}
-use Rattle.gr_types.specs.MemberUses.{AreMemberUsesBelow, uses_in}
+use Rattle.gr_meanings.specs.BoundsView.{AreBounds}
+use Rattle.gr_meanings.specs.MemberUses.{AreMemberUsesBelow, uses_in}
 use Rattle.gr_types.specs.TypesView.{IsTypeFaultIn}
-use Rattle.gr_types.specs.PackageView.{package_of}
+use Rattle.gr_declared.specs.PackageView.{package_of}
 use Rattle.gr_types.proofs.type_faults.type_faults.Given as goal
 
 abbrev pub invariant-loop-file : goal.invariant-loop-file

@@ -2,8 +2,8 @@
 use Rattle.std.proofs.Common.{ap, refl}
 use Rattle.gr_expr.specs.declared.world.World.{World}
 use Rattle.gr_expr.specs.WorldView.{definition_or_none, imported_at}
-use Rattle.gr_types.specs.PackageView.{package_of}
-use Rattle.gr_types.proofs.WorldParts.{world_definitions, world_from, init_from}
+use Rattle.gr_declared.specs.PackageView.{package_of}
+use Rattle.gr_meanings.proofs.WorldParts.{world_definitions, world_from, init_from}
 use Rattle.gr_types.proofs.worlds.file_world.Goals as goal
 
 pub returns : goal.returns

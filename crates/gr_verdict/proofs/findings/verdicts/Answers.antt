@@ -3,7 +3,7 @@ use Rattle.std.proofs.Common.{◌+◌, ◌<◌, take, length, get_or, refl, sym,
 use Rattle.std.proofs.lemmas.List.{take_all}
 use Rattle.std.proofs.lemmas.List.Elements.{Contains-get_or}
 use Rattle.std.proofs.lemmas.Option.{slice_get-get_or}
-use Rattle.gr_types.proofs.BoundLists.{slice_get_some}
+use Rattle.gr_meanings.proofs.BoundLists.{slice_get_some}
 use Rattle.gr_text.specs.Packages.{package_paths}
 use Rattle.gr_verdict.specs.Steps.{IsBuildOrder, AreJudged}
 use Rattle.gr_verdict.proofs.Members.{taken_or_next, still_taken, next_taken}
@@ -25,8 +25,8 @@ judge_next-requires c =
     record {
       in_range = (built.each n).0 (Contains-get_or order k 0 lt);
       paths = c.loop-number.invariant.paths;
-      whole = c.loop-number.invariant.whole;
-      fresh = λ p at. c.loop-number.invariant.fresh n p (not_before w order built k n (slice_get-get_or order k 0 lt)) at;
+      whole = c.loop-number.invariant.known.whole;
+      fresh = λ p at. c.loop-number.invariant.known.fresh n p (not_before w order built k n (slice_get-get_or order k 0 lt)) at;
     }
 
 pub loop-number-preserved : goal.loop-number-preserved

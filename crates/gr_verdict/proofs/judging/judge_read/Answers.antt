@@ -6,7 +6,7 @@ use Rattle.gr_text.specs.Packages.{package_files}
 use Rattle.gr_graph.specs.Parsed.{AreParsed}
 use Rattle.gr_graph.proofs.Asked.{at_contains}
 use Rattle.gr_stages.specs.States.{state_in}
-use Rattle.gr_types.specs.InterfacesView.{name_in, interface_in}
+use Rattle.gr_declared.specs.InterfacesView.{name_in, interface_in}
 use Rattle.gr_types.specs.Check.{IsFoundIn}
 use Rattle.gr_verdict.specs.declared.fault.FileFault.{FileFault}
 use Rattle.gr_verdict.specs.Found.{known_by}

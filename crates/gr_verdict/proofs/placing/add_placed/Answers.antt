@@ -2,7 +2,7 @@
 use Rattle.std.proofs.Common.{refl, sym, ap, ◌∙◌}
 use Rattle.std.specs.Prelude.{Some, length}
 use Rattle.std.proofs.lemmas.Option.{slice_get-get_or, slice_get_past}
-use Rattle.gr_parse.specs.SourceFile.{source_of}
+use Rattle.gr_tree.specs.SourceFile.{source_of}
 use Rattle.gr_verdict.proofs.Members.{not_below}
 use Rattle.gr_verdict.proofs.Placed.{placed_as, placed_nowhere, placed_here}
 use Rattle.gr_verdict.proofs.placing.add_placed.Goals as goal

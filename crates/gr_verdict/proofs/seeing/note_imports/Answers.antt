@@ -6,8 +6,8 @@ use Rattle.std.proofs.lemmas.Option.{same_Some, slice_get_within}
 use Rattle.gr_text.specs.Packages.{package_paths}
 use Rattle.gr_graph.specs.Packages.{PackageImports}
 use Rattle.gr_stages.specs.States.{state_in}
-use Rattle.gr_types.specs.InterfacesView.{Notes}
-use Rattle.gr_types.proofs.BoundLists.{slice_get_some}
+use Rattle.gr_declared.specs.InterfacesView.{Notes}
+use Rattle.gr_meanings.proofs.BoundLists.{slice_get_some}
 use Rattle.gr_verdict.specs.Found.{known_by}
 use Rattle.gr_verdict.proofs.Members.{taken_or_next}
 use Rattle.gr_verdict.proofs.Noting.{AreNoted, none_noted, noted_next, all_noted}

@@ -5,7 +5,7 @@ use Rattle.std.proofs.lemmas.List.Elements.{Contains-get_or}
 use Rattle.std.proofs.lemmas.Option.{same_Some, slice_get_within}
 use Rattle.gr_text.specs.Packages.{package_paths}
 use Rattle.gr_graph.specs.Packages.{IsInClosure}
-use Rattle.gr_types.proofs.BoundLists.{slice_get_some}
+use Rattle.gr_meanings.proofs.BoundLists.{slice_get_some}
 use Rattle.gr_verdict.proofs.Members.{taken_or_next, still_taken, next_taken}
 use Rattle.gr_verdict.proofs.Sharing.{none_shared, shared_next, all_seen, AreShared}
 use Rattle.gr_verdict.proofs.seeing.seen.Goals as goal

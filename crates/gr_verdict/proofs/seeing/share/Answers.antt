@@ -3,7 +3,7 @@ use Rattle.std.proofs.Common.{◌≡◌, inl, inr, refl, sym, subst, ◌∙◌}
 use Rattle.std.proofs.lemmas.Bool.{false≢true}
 use Rattle.std.proofs.lemmas.Option.{same_Some}
 use Rattle.std.proofs.lemmas.Result.{on_ok_weaker}
-use Rattle.gr_types.specs.InterfacesView.{Shares}
+use Rattle.gr_declared.specs.InterfacesView.{Shares}
 use Rattle.gr_verdict.proofs.seeing.share.Goals as goal
 
 pub returns-then-reaches : goal.returns-then-reaches

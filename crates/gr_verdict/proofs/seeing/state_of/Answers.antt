@@ -2,7 +2,7 @@
 use Rattle.std.proofs.Common.{◌≡◌, sym, ap, ◌∙◌}
 use Rattle.std.proofs.lemmas.Bool.{false≢true}
 use Rattle.std.proofs.lemmas.Option.{same_Some}
-use Rattle.gr_types.specs.InterfacesView.{name_in}
+use Rattle.gr_declared.specs.InterfacesView.{name_in}
 use Rattle.gr_verdict.specs.Verdicts.{is_on_cycle, is_faulty, is_good}
 use Rattle.gr_verdict.proofs.Noting.{builds_by, unknown_by, known_as}
 use Rattle.gr_verdict.proofs.seeing.state_of.Goals as goal

@@ -1,4 +1,4 @@
--- The first state has no package, and no unit.
+-- The first state has no package, and no unit, and nothing is known.
 use Rattle.std.proofs.Common.{◌≡◌, ℕ, length, sym, ap, ◌∙◌}
 use Rattle.gr_text.specs.Packages.{package_paths}
 use Rattle.gr_text.specs.Workspace.{Workspace}
@@ -10,4 +10,4 @@ pub invariant_of-result : goal.invariant_of-result
 invariant_of-result c =
     let files : length (package_paths c.in_ok-files.files) ≡ 0 = ap (λ (w : Workspace). length (package_paths w)) (c.in_ok-files.ensures ∙ c.new.ensures) ∙ no_packages in
     let units : length c.in_ok-finished.finished ≡ 0 = ap (λ (t : Table). length t) (c.in_ok-finished.ensures ∙ c.new-2.ensures.items) in
-    units ∙ sym files
+    (units ∙ sym files, c.new-known.ensures.right c.in_ok-files.files)

@@ -8,10 +8,18 @@ use Rattle.gr_compile.specs.declared.job.JobRecord.{JobRecord}
 use Rattle.gr_book.specs.State.{State}
 use Rattle.gr_book.specs.Machine.{Machine, recorded}
 use Rattle.gr_book.specs.Waiting.{WaitsIn, IsFirstWaiting, IsNextJob}
+use Rattle.gr_book.proofs.Learning.{inputs_closures}
 use Rattle.gr_book.proofs.book.Book.take.Goals as goal
 
 pub returns-in_default : goal.returns-in_default
 returns-in_default c = (c.requires, (subst (λ (m : Machine). (p : List ℕ) → WaitsIn m p → ⊥) c.self.view_is c.in_default.ensures, ap recorded c.self.view_is))
+
+pub known_within-requires : goal.known_within-requires
+known_within-requires c =
+    let files = c.current.inside.files in
+    let p = c.deref.result.now in
+    let here : slice_get (package_paths files) c.in-Some.number ≡ Some p = c.package.ensures.path ∙ ap Some (sym c.deref.ensures.value) in
+    record { known = c.current.invariant.1; closures = inputs_closures files p c.in_ok-inputs.inputs (c.in_ok-inputs.ensures p here) }
 
 pub returns : goal.returns
 returns c =

@@ -5,4 +5,4 @@ use Rattle.gr_compile.specs.Units.{IsUnitIn}
 use Rattle.gr_compile.proofs.built.Built.is_right.Goals as goal
 
 pub returns : goal.returns
-returns c = subst (λ (b : BuiltUnit). IsUnitIn b.inputs b.package b.unit) c.self.view_is c.self.invariant
+returns c = subst (λ (b : BuiltUnit). IsUnitIn b.inputs b.package b.unit) c.self.view_is c.self.invariant.0

@@ -1,7 +1,7 @@
 -- The answers to the goals of `called::Packages::add`.
 use Rattle.std.proofs.Common.{◌+◌, ◌<◌, ◌∷◌, [], ◌∙◌, ap, length, length-append, arith, Some}
 use Rattle.std.proofs.lemmas.Result.{on_ok_weaker}
-use Rattle.gr_types.proofs.ByteKeys.{others_stay}
+use Rattle.gr_declared.proofs.ByteKeys.{others_stay}
 use Rattle.gr_object.proofs.Named.{number_in, added_here, added_elsewhere, within_inserted}
 use Rattle.gr_object.proofs.called.Packages.add.Goals as goal
 

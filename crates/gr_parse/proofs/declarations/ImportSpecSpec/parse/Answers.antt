@@ -1,7 +1,7 @@
 -- The answers to the goals of `declarations::ImportSpecSpec::parse`.
 use Rattle.std.proofs.Common.{◌∷◌, [], sym}
-use Rattle.gr_parse.specs.declared.syntax.Kind.TheVariants as kind
-use Rattle.gr_parse.specs.Grammar.{ImportItem, One, Single, is}
+use Rattle.gr_tree.specs.declared.syntax.Kind.TheVariants as kind
+use Rattle.gr_tree.specs.Grammar.{ImportItem, One, Single, is}
 use Rattle.gr_parse.specs.Machine.{first, last, later}
 use Rattle.gr_parse.proofs.MachineSteps.{exits, fails_leads, read_as}
 use Rattle.gr_parse.proofs.StatementSteps.{leads_optional, read_leads}

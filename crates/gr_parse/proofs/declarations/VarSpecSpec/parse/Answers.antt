@@ -1,6 +1,6 @@
 -- The answers to the goals of `declarations::VarSpecSpec::parse`.
 use Rattle.std.proofs.Common.{◌∷◌, [], sym}
-use Rattle.gr_parse.specs.Grammar.{A, GlobalValues, TypeUse}
+use Rattle.gr_tree.specs.Grammar.{A, GlobalValues, TypeUse}
 use Rattle.gr_parse.specs.Machine.{last}
 use Rattle.gr_parse.proofs.MachineSteps.{exits, fails_first, fails_later, fails_rule, read_as, read_rule, read_then}
 use Rattle.gr_parse.proofs.StatementSteps.{fails_in, fails_on, read_on}

@@ -1,6 +1,6 @@
 -- The answers to the goals of `locals::LocalSpecSpec::parse`.
 use Rattle.std.proofs.Common.{◌∷◌, [], sym}
-use Rattle.gr_parse.specs.Grammar.{A, LocalRest}
+use Rattle.gr_tree.specs.Grammar.{A, LocalRest}
 use Rattle.gr_parse.specs.Machine.{last}
 use Rattle.gr_parse.proofs.MachineSteps.{exits, fails_rule, read_as, read_rule}
 use Rattle.gr_parse.proofs.StatementSteps.{fails_in, fails_on, read_on}

@@ -2,9 +2,9 @@
 use Rattle.std.proofs.Common.{◌+◌, ap, sym, ◌∙◌, drop, map}
 use Rattle.std.proofs.Math.ListN.{drop_of_length-le}
 use Rattle.std.proofs.lemmas.Result.{on_ok_weaker}
-use Rattle.gr_parse.specs.View.{expr_view, exprs_view}
-use Rattle.gr_parse.specs.FileView.{stmt_view, block_view, if_view, else_view}
-use Rattle.gr_parse.specs.declared.tree.IfStmt.{out-IfStmt}
+use Rattle.gr_tree.specs.View.{expr_view, exprs_view}
+use Rattle.gr_tree.specs.FileView.{stmt_view, block_view, if_view, else_view}
+use Rattle.gr_tree.specs.declared.tree.IfStmt.{out-IfStmt}
 use Rattle.gr_expr.specs.WorldView.{world_of}
 use Rattle.gr_stmt.specs.Simple.{check_condition}
 use Rattle.gr_stmt.specs.Statements.{check_return, check_statement, check_block, check_if, check_else}

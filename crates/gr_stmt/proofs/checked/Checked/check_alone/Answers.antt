@@ -1,7 +1,7 @@
 -- The answers to the goals of `checked::Checked::check_alone`.
 use Rattle.std.proofs.Common.{ap, ◌∙◌}
 use Rattle.std.proofs.lemmas.Result.{on_ok_weaker}
-use Rattle.gr_parse.specs.View.{expr_view}
+use Rattle.gr_tree.specs.View.{expr_view}
 use Rattle.gr_expr.specs.Places.{place_of}
 use Rattle.gr_expr.specs.WorldView.{world_of}
 use Rattle.gr_expr.specs.Found.{locals_of, meaning_of}

@@ -1,7 +1,7 @@
 -- The answers to the goals of `checked::Checked::check_decl`.
 use Rattle.std.proofs.Common.{ap, sym, ◌∙◌}
 use Rattle.std.proofs.lemmas.Result.{on_ok_weaker}
-use Rattle.gr_parse.specs.FileView.{decl_view, func_view}
+use Rattle.gr_tree.specs.FileView.{decl_view, func_view}
 use Rattle.gr_expr.specs.WorldView.{world_of}
 use Rattle.gr_stmt.specs.Headers.{check_function}
 use Rattle.gr_stmt.specs.Declarations.{check_decl}

@@ -1,7 +1,7 @@
 -- The answers to the goals of `checked::Checked::check_define`.
 use Rattle.std.proofs.Common.{ap, ◌∙◌, map}
 use Rattle.std.proofs.lemmas.Result.{on_ok_weaker}
-use Rattle.gr_parse.specs.View.{exprs_view}
+use Rattle.gr_tree.specs.View.{exprs_view}
 use Rattle.gr_expr.specs.WorldView.{world_of}
 use Rattle.gr_expr.specs.Found.{locals_of, argued_of}
 use Rattle.gr_stmt.specs.Sides.{given_to, first_of_exprs, defined_names, rights, with_taken}

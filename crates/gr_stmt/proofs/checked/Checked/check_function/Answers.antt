@@ -1,8 +1,8 @@
 -- The answers to the goals of `checked::Checked::check_function`.
 use Rattle.std.proofs.Common.{ap, ◌∙◌, ◌++◌, [], map}
 use Rattle.std.proofs.lemmas.Result.{on_ok_weaker}
-use Rattle.gr_parse.specs.View.{list_view}
-use Rattle.gr_parse.specs.FileView.{block_view, func_view, param_view, results_view}
+use Rattle.gr_tree.specs.View.{list_view}
+use Rattle.gr_tree.specs.FileView.{block_view, func_view, param_view, results_view}
 use Rattle.gr_expr.specs.WorldView.{world_of}
 use Rattle.gr_expr.specs.Found.{locals_of}
 use Rattle.gr_stmt.specs.Checked.{noting, fault_if, check_items}

@@ -1,7 +1,7 @@
 -- The invariants of the loops of `checked::Checked::check_globals`.
 use Rattle.std.proofs.Common.{◌≡◌, drop}
-use Rattle.gr_parse.specs.View.{list_view}
-use Rattle.gr_parse.specs.FileView.{global_view}
+use Rattle.gr_tree.specs.View.{list_view}
+use Rattle.gr_tree.specs.FileView.{global_view}
 use Rattle.gr_expr.specs.WorldView.{world_of}
 use Rattle.gr_stmt.specs.Checked.{check_items}
 use Rattle.gr_stmt.specs.Declarations.{check_global}

@@ -1,8 +1,8 @@
 -- The answers to the goals of `checked::Checked::check_header`.
 use Rattle.std.proofs.Common.{ap, sym, ◌∙◌}
 use Rattle.std.proofs.lemmas.Result.{on_ok_weaker}
-use Rattle.gr_parse.specs.View.{option_view, expr_view}
-use Rattle.gr_parse.specs.FileView.{for_view, simple_view}
+use Rattle.gr_tree.specs.View.{option_view, expr_view}
+use Rattle.gr_tree.specs.FileView.{for_view, simple_view}
 use Rattle.gr_expr.specs.WorldView.{world_of}
 use Rattle.gr_stmt.specs.Simple.{check_optional, check_optional_condition}
 use Rattle.gr_stmt.specs.Statements.{check_header}

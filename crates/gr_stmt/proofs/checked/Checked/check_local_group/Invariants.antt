@@ -1,7 +1,7 @@
 -- The invariants of the loops of `checked::Checked::check_local_group`.
 use Rattle.std.proofs.Common.{◌≡◌, drop}
-use Rattle.gr_parse.specs.View.{list_view}
-use Rattle.gr_parse.specs.FileView.{local_view}
+use Rattle.gr_tree.specs.View.{list_view}
+use Rattle.gr_tree.specs.FileView.{local_view}
 use Rattle.gr_expr.specs.WorldView.{world_of}
 use Rattle.gr_stmt.specs.Checked.{check_items}
 use Rattle.gr_stmt.specs.Simple.{check_local}

@@ -1,8 +1,8 @@
 -- The answers to the goals of `checked::Checked::check_param`.
 use Rattle.std.proofs.Common.{ap, ◌∙◌, option_map}
 use Rattle.std.proofs.lemmas.Result.{on_ok_weaker}
-use Rattle.gr_parse.specs.View.{list_view, ident_view, type_view}
-use Rattle.gr_parse.specs.FileView.{param_view}
+use Rattle.gr_tree.specs.View.{list_view, ident_view, type_view}
+use Rattle.gr_tree.specs.FileView.{param_view}
 use Rattle.gr_expr.specs.Judge.{judge_type}
 use Rattle.gr_expr.specs.View.{type_of}
 use Rattle.gr_expr.specs.WorldView.{world_of}

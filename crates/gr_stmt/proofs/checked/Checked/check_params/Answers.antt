@@ -1,8 +1,8 @@
 -- The answers to the goals of `checked::Checked::check_params`.
 use Rattle.std.proofs.Common.{◌+◌, ap, sym, ◌∙◌, drop}
 use Rattle.std.proofs.Math.ListN.{drop_of_length-le}
-use Rattle.gr_parse.specs.View.{list_view}
-use Rattle.gr_parse.specs.FileView.{param_view}
+use Rattle.gr_tree.specs.View.{list_view}
+use Rattle.gr_tree.specs.FileView.{param_view}
 use Rattle.gr_expr.specs.WorldView.{world_of}
 use Rattle.gr_stmt.specs.Checked.{check_items}
 use Rattle.gr_stmt.specs.Headers.{check_param}

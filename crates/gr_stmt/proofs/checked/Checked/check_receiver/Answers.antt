@@ -1,8 +1,8 @@
 -- The answers to the goals of `checked::Checked::check_receiver`.
 use Rattle.std.proofs.Common.{ap, ◌∙◌, option_map}
 use Rattle.std.proofs.lemmas.Result.{on_ok_weaker}
-use Rattle.gr_parse.specs.View.{ident_view}
-use Rattle.gr_parse.specs.FileView.{receiver_view}
+use Rattle.gr_tree.specs.View.{ident_view}
+use Rattle.gr_tree.specs.FileView.{receiver_view}
 use Rattle.gr_expr.specs.View.{type_of}
 use Rattle.gr_expr.specs.WorldView.{world_of}
 use Rattle.gr_expr.specs.Found.{locals_of}

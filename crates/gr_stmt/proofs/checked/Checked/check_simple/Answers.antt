@@ -1,8 +1,8 @@
 -- The answers to the goals of `checked::Checked::check_simple`.
 use Rattle.std.proofs.Common.{ap, sym, ◌∙◌}
 use Rattle.std.proofs.lemmas.Result.{on_ok_weaker}
-use Rattle.gr_parse.specs.View.{expr_view, exprs_view}
-use Rattle.gr_parse.specs.FileView.{simple_view}
+use Rattle.gr_tree.specs.View.{expr_view, exprs_view}
+use Rattle.gr_tree.specs.FileView.{simple_view}
 use Rattle.gr_expr.specs.WorldView.{world_of}
 use Rattle.gr_stmt.specs.Simple.{check_update, check_assign, check_define, check_simple}
 use Rattle.gr_stmt.specs.View.{checked_of}

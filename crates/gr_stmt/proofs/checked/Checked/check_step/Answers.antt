@@ -1,7 +1,7 @@
 -- The answers to the goals of `checked::Checked::check_step`.
 use Rattle.std.proofs.Common.{ap, ◌∙◌, option_map}
 use Rattle.std.proofs.lemmas.Result.{on_ok_weaker}
-use Rattle.gr_parse.specs.View.{expr_view}
+use Rattle.gr_tree.specs.View.{expr_view}
 use Rattle.gr_expr.specs.Places.{place_of}
 use Rattle.gr_expr.specs.Judge.{value_kind}
 use Rattle.gr_expr.specs.View.{kind_of}

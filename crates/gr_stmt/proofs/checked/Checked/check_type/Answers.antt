@@ -1,6 +1,6 @@
 -- The answers to the goals of `checked::Checked::check_type`.
 use Rattle.std.proofs.lemmas.Result.{on_ok_weaker}
-use Rattle.gr_parse.specs.FileView.{type_spec_view}
+use Rattle.gr_tree.specs.FileView.{type_spec_view}
 use Rattle.gr_expr.specs.Found.{locals_of}
 use Rattle.gr_stmt.proofs.Making.{noted}
 use Rattle.gr_stmt.proofs.checked.Checked.check_type.Goals as goal

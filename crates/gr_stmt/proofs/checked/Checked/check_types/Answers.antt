@@ -2,8 +2,8 @@
 use Rattle.std.proofs.Common.{◌+◌, ap, sym, ◌∙◌, drop}
 use Rattle.std.proofs.lemmas.Result.{on_ok_weaker}
 use Rattle.std.proofs.Math.ListN.{drop_of_length-le}
-use Rattle.gr_parse.specs.View.{list_view, group_view}
-use Rattle.gr_parse.specs.FileView.{type_spec_view}
+use Rattle.gr_tree.specs.View.{list_view, group_view}
+use Rattle.gr_tree.specs.FileView.{type_spec_view}
 use Rattle.gr_expr.specs.WorldView.{world_of}
 use Rattle.gr_stmt.specs.Checked.{check_items, check_group}
 use Rattle.gr_stmt.specs.Declarations.{check_type}

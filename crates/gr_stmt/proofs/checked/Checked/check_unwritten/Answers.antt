@@ -1,8 +1,8 @@
 -- The answers to the goals of `checked::Checked::check_unwritten`.
 use Rattle.std.proofs.Common.{ap, sym, ◌∙◌, append-nil, [], map}
 use Rattle.std.proofs.lemmas.Result.{on_ok_weaker}
-use Rattle.gr_parse.specs.View.{exprs_view, list_view, option_view, ident_view}
-use Rattle.gr_parse.specs.FileView.{values_view}
+use Rattle.gr_tree.specs.View.{exprs_view, list_view, option_view, ident_view}
+use Rattle.gr_tree.specs.FileView.{values_view}
 use Rattle.gr_expr.specs.WorldView.{world_of}
 use Rattle.gr_expr.specs.Found.{locals_of, argued_of, use_of}
 use Rattle.gr_stmt.specs.Sides.{Takes, given_to, first_of_idents, all_named, rights, with_locals, with_taken}

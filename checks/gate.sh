@@ -1,0 +1,26 @@
+#!/usr/bin/env bash
+# The gate: proves every crate and its tests from nothing, tries the must-fail edits, and runs each program and test.
+# It tells of each crate when it was proved, and before the last line how long the whole took.
+set -u
+cd "$(dirname "$0")/.."
+# A proof for each processor, as far as free memory holds 4 GB for each, which is the most that one was seen to take.
+# Left to itself rt plans for more memory than that, and lets processors wait.
+processors=$(nproc)
+held_at_once=$(awk '/^MemAvailable:/ { print int($2 / 4000000) }' /proc/meminfo)
+jobs=$((held_at_once < processors ? held_at_once : processors))
+export RT_JOBS=$((jobs < 1 ? 1 : jobs))
+export PYTHONUNBUFFERED=1
+SECONDS=0
+passed() { printf '%d:%02d' $((SECONDS / 60)) $((SECONDS % 60)); }
+rt ci | {
+    while IFS= read -r line; do
+        [ -z "${last+set}" ] || printf '%s\n' "$last"
+        case $line in
+            'rt: '*' proved') last="$line (at $(passed))" ;;
+            *) last=$line ;;
+        esac
+    done
+    echo "whole time: $(passed), $RT_JOBS proofs at a time"
+    printf '%s\n' "${last-}"
+}
+exit "${PIPESTATUS[0]}"

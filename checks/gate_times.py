@@ -1,0 +1,78 @@
+#!/usr/bin/env python3
+"""Where the prover's time goes, by crate and function, read from what `rt check --jobs 1` leaves in the out/ folders.
+
+    (cd crates/NAME && rm -rf out/incremental && rt check --jobs 1)     for each crate to be measured
+    python3 checks/gate_times.py [CRATE..]
+
+The prover saves each module as soon as it is checked, so the time of a module is what passed since the one saved
+before it. Printed are, for each crate with kept work, its seconds and seconds a line of Rust, and each function that
+took over 5 s (or over --over N); crates over 0.15 s a line are marked. Kept work that was checked at more than one
+time, or by more jobs than one, tells no times: gaps of over ten minutes are left out, and say so.
+"""
+import collections
+import os
+import pathlib
+import re
+import sys
+
+TOP = pathlib.Path(__file__).resolve().parent.parent
+SLOW_FUNCTION = 5.0
+SLOW_LINE = 0.15
+PAUSE = 600.0
+
+
+def lines_of(crate):
+    return sum(len(file.read_bytes().splitlines()) for file in (crate / "src").rglob("*.rt"))
+
+
+def owner(name, crate):
+    """The function that a saved module belongs to, as file::function, or the lemma file that it is."""
+    name = re.sub(rf"^Rattle-{crate}-", "", name)
+    part, _, path = name.partition(".")
+    path = re.sub(r"\.[A-Z][A-Za-z]*(-[0-9-]+)?$", "", path)
+    return f"{path.replace('.', '::') or part} ({part})"
+
+
+def times_of(crate):
+    """Seconds by function, and the pauses that were left out."""
+    saved = []
+    for folder in (crate / "out" / "incremental").glob("*"):
+        for file in folder.glob(f"Rattle-{crate.name}-*.oantt"):
+            saved.append((file.stat().st_mtime, file.name.removesuffix(".oantt")))
+    saved.sort()
+    seconds, pauses = collections.Counter(), 0
+    for (before, _), (after, name) in zip(saved, saved[1:]):
+        if after - before > PAUSE:
+            pauses += 1
+        else:
+            seconds[owner(name, crate.name)] += after - before
+    return seconds, pauses
+
+
+def main(words):
+    over = SLOW_FUNCTION
+    if "--over" in words:
+        at = words.index("--over")
+        over = float(words[at + 1])
+        del words[at : at + 2]
+    crates = [TOP / "crates" / name for name in words] or sorted((TOP / "crates").iterdir())
+    found = False
+    for crate in crates:
+        seconds, pauses = times_of(crate)
+        if not seconds:
+            continue
+        found = True
+        whole, lines = sum(seconds.values()), lines_of(crate)
+        each = whole / lines
+        marks = f"{'  OVER ' + str(SLOW_LINE) if each > SLOW_LINE else ''}{f'  {pauses} pauses left out' if pauses else ''}"
+        print(f"{crate.name}: {whole:.0f} s, {lines} lines, {each:.2f} s a line{marks}")
+        for name, took in seconds.most_common():
+            if took <= over:
+                break
+            print(f"    {took:6.1f} s  {name}")
+    if not found:
+        sys.exit("no kept work in crates/*/out/incremental: run `rt check --jobs 1` there first")
+
+
+if __name__ == "__main__":
+    main(sys.argv[1:])

@@ -1,0 +1,16 @@
+-- The invariants of the loops of `bound_unit::bind_numbers`.
+use Rattle.std.proofs.Common.{◌⊎◌}
+use Rattle.gr_declared.specs.PackageView.{package_of}
+use Rattle.gr_bound.specs.Binding.{BindsByScope, BindsByPackage}
+use Rattle.gr_bound.specs.Bindings.{AddsAll, place_at}
+use Rattle.gr_bound.specs.Identifiers.{BeginsAt}
+use Rattle.gr_bound.specs.Uses.{IsPackage}
+use Rattle.gr_bound.specs.Workspaces.{known_in}
+use Rattle.gr_bound.proofs.AddingAll.{BelowAll}
+use Rattle.gr_bound.proofs.bound_unit.bind_numbers.Given as goal
+
+-- the identifiers that were passed were added
+abbrev pub invariant-loop-u : goal.invariant-loop-u
+invariant-loop-u l =
+    AddsAll l.initial.bound.items l.bound.items
+    (BelowAll (λ u b. BeginsAt (package_of l.unit) (place_at b).path (place_at b).offset u × (BindsByScope (package_of l.unit) u b.declaration ⊎ BindsByPackage (IsPackage l.graph (known_in l.found)) (package_of l.unit) u b.declaration)) l.u)

@@ -1,0 +1,12 @@
+-- The invariants of the loops of `member_uses::add_member_uses`.
+use Rattle.gr_declared.specs.PackageView.{package_of}
+use Rattle.gr_bound.specs.Members.{definitions_seen}
+use Rattle.gr_bound.specs.Steps.{Adds}
+use Rattle.gr_bound.proofs.Adding.{Below}
+use Rattle.gr_bound.proofs.MemberPlaces.{IsFileUse}
+use Rattle.gr_bound.proofs.member_uses.add_member_uses.Given as goal
+
+-- the member uses of the files that were passed were added
+abbrev pub invariant-loop-file : goal.invariant-loop-file
+invariant-loop-file l =
+    Adds l.initial.found.items l.found.items (Below (IsFileUse (definitions_seen l.unit l.own) (package_of l.unit) l.declaration l.members) l.file)

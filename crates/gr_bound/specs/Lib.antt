@@ -1,0 +1,10 @@
+-- The definitions of this crate.
+pub mod Places
+pub mod Identifiers
+pub mod Binding
+pub mod Uses
+pub mod Steps
+pub mod Members
+pub mod Workspaces
+pub mod Exports
+pub mod Bindings

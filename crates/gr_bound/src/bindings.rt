@@ -1,0 +1,184 @@
+//! All bound identifiers of a workspace, by their places.
+ghost use Rattle.std.specs.Prelude.{ℕ, ◌≡◌, ◌<◌, ◌↔◌, length, map, Contains, IfOk, OnOk, MatchOption};
+ghost use Rattle.std.specs.List.Sorted.{IsSortedBy};
+ghost use Rattle.std.specs.Ordering.{is_lt};
+ghost use Rattle.gr_text.specs.Packages.{package_paths};
+ghost use Rattle.gr_text.specs.Workspace.{Workspace};
+ghost use Rattle.gr_tree.specs.SourceFile.{source_of};
+ghost use Rattle.gr_meanings.specs.PackageOf.{package_in};
+ghost use Rattle.gr_declared.specs.InterfacesView.{interface_in};
+ghost use Rattle.gr_meanings.specs.MemberUses.{AreMemberUses, uses_in};
+ghost use Rattle.gr_verdict.specs.Verdicts.{Verdicts};
+ghost use Rattle.gr_bound.specs.declared.bound_spot.BoundSpot.{BoundSpot as Bound};
+ghost use Rattle.gr_bound.specs.declared.declaration.Declaration.{Declaration as Declared};
+ghost use Rattle.gr_bound.specs.Bindings.{AddsAll, BoundIn, IsBoundAt, IsBound, AreBindings, place_at};
+ghost use Rattle.gr_bound.specs.Exports.{AreExports};
+ghost use Rattle.gr_bound.specs.Members.{KnowsOwn};
+ghost use Rattle.gr_bound.specs.Places.{place_cmp};
+ghost use Rattle.gr_bound.specs.Uses.{IsBoundTo, IsUseOf};
+ghost use Rattle.gr_bound.specs.Workspaces.{IsSound, known_in};
+
+use crate::bound_spot::BoundSpot;
+use crate::bound_unit::bind_unit;
+use crate::declaration::Declaration;
+use crate::exports::exports;
+use crate::reading::{laid_table, members_of, own_of, path_of, trees};
+use gr_declared::{Interfaces, Package};
+use gr_expr::found::MemberUse;
+use gr_expr::symbol::SharedPath;
+use gr_expr::world::Definition;
+use gr_graph::Graph;
+use gr_scope::table::ScopeTable;
+use gr_text::Place;
+use gr_tree::FileTree;
+use gr_verdict::{Findings, seen};
+use std::alloc::{AllocError, Global};
+use std::cmp::Ordering;
+use std::collections::BTreeMap;
+use std::marker::Model;
+
+/// The bound identifiers of a workspace, each by the place at which it begins and with its declaration, in the order of places.
+#[derive(Drop)]
+pub struct Bindings {
+    bound: Vec<BoundSpot>,
+}
+
+impl Model for Bindings {
+    ghost use Rattle.std.specs.Prelude.{List};
+    ghost use Rattle.std.specs.List.Sorted.{IsSortedBy};
+    ghost use Rattle.std.specs.Ordering.{is_lt};
+    ghost use Rattle.gr_bound.specs.declared.bound_spot.BoundSpot.{BoundSpot};
+    ghost use Rattle.gr_bound.specs.Bindings.{place_at};
+    ghost use Rattle.gr_bound.specs.Places.{place_cmp};
+
+    ghost Value = { List BoundSpot };
+
+    ghost view = { λ a. a.bound.items };
+
+    ghost invariant = { λ a. IsSortedBy (λ b c. is_lt (place_cmp (place_at b) (place_at c))) a.bound.items };
+}
+
+/// Adds the bound identifiers of the package of a path.
+fn bind_by(
+    alloc: Global,
+    bound: &mut Vec<BoundSpot>,
+    graph: &Graph,
+    found: &Findings,
+    exports: &[BTreeMap<Vec<u8>, usize>],
+    path: &SharedPath,
+    files: &[FileTree],
+    table: &ScopeTable<'_>,
+    interfaces: &Interfaces,
+    own: &[Definition],
+    members: &[Vec<MemberUse>],
+) -> Result<(), AllocError>
+    requires sound { IsSound graph.now found.now }
+    requires exports { AreExports graph.now (known_in found.now) exports.now }
+    requires own { KnowsOwn (package_in path.now (map source_of files.now) table.now (interface_in interfaces.now)) own.now }
+    requires members { AreMemberUses (package_in path.now (map source_of files.now) table.now (interface_in interfaces.now)) (map uses_in members.now) }
+    ensures { let p = package_in path.now (map source_of files.now) table.now (interface_in interfaces.now) in
+        OnOk result (AddsAll bound.old.items bound.new.items (BoundIn p (IsBoundTo graph.now (known_in found.now) p))) }
+{
+    let unit = Package {
+        path,
+        files,
+        table,
+        interfaces,
+    };
+    bind_unit(alloc, bound, graph, found, exports, unit, own, members)
+}
+
+/// Adds the bound identifiers of the package of a number.
+fn bind_package(
+    alloc: Global,
+    bound: &mut Vec<BoundSpot>,
+    graph: &Graph,
+    found: &Findings,
+    exports: &[BTreeMap<Vec<u8>, usize>],
+    number: usize,
+) -> Result<(), AllocError>
+    requires in_range { number < length (package_paths graph.now) }
+    requires sound { IsSound graph.now found.now }
+    requires exports { AreExports graph.now (known_in found.now) exports.now }
+    ensures { OnOk result (AddsAll bound.old.items bound.new.items (IsBoundAt graph.now (known_in found.now) number)) }
+{
+    let files = trees(graph, found, number);
+    let seen = seen(alloc, graph, number, &found.interfaces)?;
+    let table = laid_table(alloc, files, &seen)?;
+    let path = path_of(graph, found, number);
+    let own = own_of(graph, found, number);
+    let members = members_of(graph, found, number);
+    bind_by(
+        alloc, bound, graph, found, exports, path, files, &table, &seen, own, members,
+    )
+}
+
+/// Adds the bound identifiers of all packages.
+fn bind_all(
+    alloc: Global,
+    bound: &mut Vec<BoundSpot>,
+    graph: &Graph,
+    found: &Findings,
+    exports: &[BTreeMap<Vec<u8>, usize>],
+) -> Result<(), AllocError>
+    requires sound { IsSound graph.now found.now }
+    requires exports { AreExports graph.now (known_in found.now) exports.now }
+    ensures { OnOk result (AddsAll bound.old.items bound.new.items (IsBound graph.now (known_in found.now))) }
+{
+    for number in 0..graph.len() {
+        bind_package(alloc, bound, graph, found, exports, number)?;
+    }
+    Ok(())
+}
+
+/// Sorts bound identifiers by their places.
+fn sort(bound: &mut Vec<BoundSpot>)
+    ensures order { IsSortedBy (λ a b. is_lt (place_cmp (place_at a) (place_at b))) bound.new.items }
+    ensures same { (b : Bound) → Contains bound.new.items b ↔ Contains bound.old.items b }
+{
+    bound.sort_unstable_by(|a, b| a.spot.cmp(&b.spot));
+}
+
+/// The bound identifiers of a workspace in which nothing is a fault.
+pub fn bindings_of(alloc: Global, graph: &Graph, found: &Findings) -> Result<Bindings, AllocError>
+    requires { IsSound graph.now found.now }
+    ensures { IfOk result (AreBindings graph.now (known_in found.now)) }
+{
+    let exports = exports(alloc, graph, found)?;
+    let mut bound = Vec::new(alloc);
+    bind_all(alloc, &mut bound, graph, found, &exports)?;
+    sort(&mut bound);
+    Ok(Bindings { bound })
+}
+
+/// How the place of a bound identifier compares with another.
+fn compare(bound: &BoundSpot, place: &Place) -> Ordering
+    ensures { result ≡ place_cmp (place_at bound.now) place.now }
+{
+    let by_path = bound.spot.path.cmp(&place.path);
+    by_path.then(bound.spot.offset.cmp(&place.offset))
+}
+
+/// One of the bound identifiers that begin at a place.
+fn find<'a>(bound: &'a [BoundSpot], place: &Place) -> Option<&'a BoundSpot>
+    requires { IsSortedBy (λ a b. is_lt (place_cmp (place_at a) (place_at b))) bound.now }
+    ensures { MatchOption result ((b : Bound) → Contains bound.now b → place_at b ≡ place.now → ⊥) (λ b. Contains bound.now b.now × (place_at b.now ≡ place.now)) }
+{
+    match bound.binary_search_by(|b| compare(b, place)) {
+        Ok(number) => Some(&bound[number]),
+        Err(_) => None,
+    }
+}
+
+impl Bindings {
+    /// The declaration to which the identifier that begins at a place is bound.
+    pub fn at(&self, place: &Place) -> Option<&Declaration>
+        ensures { (w : Workspace) → (known : Verdicts) → AreBindings w known self.now →
+            MatchOption result ((d : Declared) → IsUseOf w known d place.now → ⊥) (λ d. IsUseOf w known d.now place.now) }
+    {
+        match find(&self.bound, place) {
+            None => None,
+            Some(b) => Some(&b.declaration),
+        }
+    }
+}

@@ -1,0 +1,296 @@
+//! The bound identifiers of one package, each with its declaration.
+ghost use Rattle.std.specs.Prelude.{ℕ, ◌≡◌, ◌<◌, ◌⊎◌, length, map, slice_index_or, None, OnOk};
+ghost use Rattle.gr_expr.specs.Found.{use_of};
+ghost use Rattle.gr_meanings.specs.MemberUses.{AreMemberUses, uses_in};
+ghost use Rattle.gr_declared.specs.Package.{symbol_in};
+ghost use Rattle.gr_declared.specs.PackageView.{package_of, IsIndexOf};
+ghost use Rattle.gr_bound.specs.declared.declaration.Declaration.{Declaration as Bound};
+ghost use Rattle.gr_bound.specs.declared.declaration.Declaration.TheVariants.{Field, Method};
+ghost use Rattle.gr_bound.specs.Binding.{BindsByScope, BindsByPackage, BindsByMember, BindsByName, IsFieldAt, IsMethodAt};
+ghost use Rattle.gr_bound.specs.Bindings.{AddsAll, BoundIn, place_at};
+ghost use Rattle.gr_bound.specs.Exports.{AreExports};
+ghost use Rattle.gr_bound.specs.Identifiers.{BeginsAt};
+ghost use Rattle.gr_bound.specs.Members.{definitions_seen, IsMemberUseOf, IsMemberUseAmong, KnowsOwn};
+ghost use Rattle.gr_bound.specs.Steps.{AtFound, ArePlaces};
+ghost use Rattle.gr_bound.specs.Uses.{IsPackage, IsBoundTo};
+ghost use Rattle.gr_bound.specs.Workspaces.{IsSound, known_in};
+
+use crate::bound_spot::{BoundSpot, bind_identifier, bind_token};
+use crate::declaration::Declaration;
+use crate::exports::exported;
+use crate::member_uses::member_declaration;
+use crate::own_names::{field_places, method_places, place_of, symbol};
+use crate::package_uses::package_before;
+use crate::scope_uses::declaration_in_scope;
+use gr_declared::{Index, Package};
+use gr_expr::found::MemberUse;
+use gr_expr::world::Definition;
+use gr_graph::Graph;
+use gr_meanings::one_world;
+use gr_scope::model::Position;
+use gr_verdict::Findings;
+use std::alloc::{AllocError, Global};
+use std::collections::BTreeMap;
+
+/// Adds an identifier, if the scopes of its package bind it.
+fn bind_by_scope(
+    alloc: Global,
+    bound: &mut Vec<BoundSpot>,
+    unit: Package<'_>,
+    u: usize,
+) -> Result<(), AllocError>
+    requires { u < length unit.table.now.sites }
+    ensures { let p = package_of unit.entry in
+        OnOk result (AddsAll bound.old.items bound.new.items (λ b. BeginsAt p (place_at b).path (place_at b).offset u × BindsByScope p u b.declaration)) }
+{
+    gr_scope::law::bindings_are_unique();
+    unit.table.is_well_formed();
+    match declaration_in_scope(unit, u)? {
+        None => Ok(()),
+        Some(declaration) => bind_identifier(alloc, bound, unit, u, &declaration),
+    }
+}
+
+/// Adds an identifier, if it stands behind the name of a package that exports its name.
+fn bind_by_package(
+    alloc: Global,
+    bound: &mut Vec<BoundSpot>,
+    graph: &Graph,
+    found: &Findings,
+    exports: &[BTreeMap<Vec<u8>, usize>],
+    unit: Package<'_>,
+    index: &Index<'_>,
+    u: usize,
+) -> Result<(), AllocError>
+    requires sound { IsSound graph.now found.now }
+    requires exports { AreExports graph.now (known_in found.now) exports.now }
+    requires index { IsIndexOf (package_of unit) index.now }
+    requires in_range { u < length unit.table.now.sites }
+    ensures { let p = package_of unit.entry in
+        OnOk result (AddsAll bound.old.items bound.new.items (λ b. BeginsAt p (place_at b).path (place_at b).offset u × BindsByPackage (IsPackage graph.now (known_in found.now)) p u b.declaration)) }
+{
+    match package_before(unit, index, u) {
+        None => Ok(()),
+        Some(path) => match exported(graph, found, exports, path, unit.table.name(u))? {
+            None => Ok(()),
+            Some(declaration) => bind_identifier(alloc, bound, unit, u, &declaration),
+        },
+    }
+}
+
+/// Adds an identifier, if it is bound to a declaration of a scope, of its package or of another.
+fn bind_number(
+    alloc: Global,
+    bound: &mut Vec<BoundSpot>,
+    graph: &Graph,
+    found: &Findings,
+    exports: &[BTreeMap<Vec<u8>, usize>],
+    unit: Package<'_>,
+    index: &Index<'_>,
+    u: usize,
+) -> Result<(), AllocError>
+    requires sound { IsSound graph.now found.now }
+    requires exports { AreExports graph.now (known_in found.now) exports.now }
+    requires index { IsIndexOf (package_of unit) index.now }
+    requires in_range { u < length unit.table.now.sites }
+    ensures { let p = package_of unit.entry in
+        OnOk result (AddsAll bound.old.items bound.new.items
+        (λ b. BeginsAt p (place_at b).path (place_at b).offset u × (BindsByScope p u b.declaration ⊎ BindsByPackage (IsPackage graph.now (known_in found.now)) p u b.declaration))) }
+{
+    bind_by_scope(alloc, bound, unit, u)?;
+    bind_by_package(alloc, bound, graph, found, exports, unit, index, u)
+}
+
+/// Adds the identifiers that are bound to a declaration of a scope.
+fn bind_numbers(
+    alloc: Global,
+    bound: &mut Vec<BoundSpot>,
+    graph: &Graph,
+    found: &Findings,
+    exports: &[BTreeMap<Vec<u8>, usize>],
+    unit: Package<'_>,
+    index: &Index<'_>,
+) -> Result<(), AllocError>
+    requires sound { IsSound graph.now found.now }
+    requires exports { AreExports graph.now (known_in found.now) exports.now }
+    requires index { IsIndexOf (package_of unit) index.now }
+    ensures { let p = package_of unit.entry in
+        OnOk result (AddsAll bound.old.items bound.new.items (BoundIn p (λ u d. BindsByScope p u d ⊎ BindsByPackage (IsPackage graph.now (known_in found.now)) p u d))) }
+{
+    for u in 0..unit.table.len() {
+        bind_number(alloc, bound, graph, found, exports, unit, index, u)?;
+    }
+    Ok(())
+}
+
+/// Adds the place of a member that is used, if the type before it has one.
+fn bind_member(
+    alloc: Global,
+    bound: &mut Vec<BoundSpot>,
+    unit: Package<'_>,
+    index: &Index<'_>,
+    own: &[Definition],
+    file: usize,
+    member: &MemberUse,
+) -> Result<(), AllocError>
+    requires { IsIndexOf (package_of unit) index.now }
+    ensures { let p = package_of unit.entry in
+        let ds = definitions_seen unit.entry own.now in
+        OnOk result (AddsAll bound.old.items bound.new.items (λ b. IsMemberUseOf ds p file b.declaration (use_of member.now) (place_at b))) }
+{
+    match member_declaration(unit, own, file, member)? {
+        None => Ok(()),
+        Some(declaration) => {
+            let at = Position {
+                file,
+                index: member.place,
+            };
+            bind_token(alloc, bound, unit, index, at, &declaration)
+        }
+    }
+}
+
+/// Adds the places of the members that are used in a file.
+fn bind_file_members(
+    alloc: Global,
+    bound: &mut Vec<BoundSpot>,
+    unit: Package<'_>,
+    index: &Index<'_>,
+    own: &[Definition],
+    file: usize,
+    uses: &[MemberUse],
+) -> Result<(), AllocError>
+    requires { IsIndexOf (package_of unit) index.now }
+    ensures { let p = package_of unit.entry in
+        let ds = definitions_seen unit.entry own.now in
+        OnOk result (AddsAll bound.old.items bound.new.items (λ b. IsMemberUseAmong ds p file b.declaration (map use_of uses.now) (place_at b))) }
+{
+    for k in 0..uses.len() {
+        bind_member(alloc, bound, unit, index, own, file, &uses[k])?;
+    }
+    Ok(())
+}
+
+/// Adds the identifiers that are a field or method, behind a dot or as a key.
+fn bind_members(
+    alloc: Global,
+    bound: &mut Vec<BoundSpot>,
+    unit: Package<'_>,
+    index: &Index<'_>,
+    own: &[Definition],
+    members: &[Vec<MemberUse>],
+) -> Result<(), AllocError>
+    requires index { IsIndexOf (package_of unit) index.now }
+    requires own { KnowsOwn (package_of unit) own.now }
+    requires members { AreMemberUses (package_of unit) (map uses_in members.now) }
+    ensures { let p = package_of unit.entry in
+        OnOk result (AddsAll bound.old.items bound.new.items (BoundIn p (BindsByMember p))) }
+{
+    unit.table.is_well_formed();
+    one_world(unit);
+    for file in 0..members.len() {
+        bind_file_members(alloc, bound, unit, index, own, file, &members[file])?;
+    }
+    Ok(())
+}
+
+/// Adds the name of a field or method, if there is one at its rank.
+fn bind_name(
+    alloc: Global,
+    bound: &mut Vec<BoundSpot>,
+    unit: Package<'_>,
+    index: &Index<'_>,
+    places: &[Option<Position>],
+    rank: usize,
+    declaration: &Declaration,
+) -> Result<(), AllocError>
+    requires { IsIndexOf (package_of unit) index.now }
+    ensures { let p = package_of unit.entry in
+        OnOk result (AddsAll bound.old.items bound.new.items (λ b. AtFound p (slice_index_or places.now rank None) (place_at b) × (b.declaration ≡ declaration.now))) }
+{
+    match place_of(places, rank) {
+        None => Ok(()),
+        Some(at) => bind_token(alloc, bound, unit, index, at, declaration),
+    }
+}
+
+/// Adds the names of the fields of a package.
+fn bind_fields(
+    alloc: Global,
+    bound: &mut Vec<BoundSpot>,
+    unit: Package<'_>,
+    index: &Index<'_>,
+    places: &[Option<Position>],
+) -> Result<(), AllocError>
+    requires index { IsIndexOf (package_of unit) index.now }
+    requires places { ArePlaces (IsFieldAt (package_of unit)) places.now }
+    ensures { let p = package_of unit.entry in
+        OnOk result (AddsAll bound.old.items bound.new.items (λ b. (rank : ℕ) × (AtFound p (slice_index_or places.now rank None) (place_at b) × (b.declaration ≡ Field (symbol_in p rank))))) }
+{
+    for rank in 0..places.len() {
+        let declaration = Declaration::Field(symbol(unit, rank)?);
+        bind_name(alloc, bound, unit, index, places, rank, &declaration)?;
+    }
+    Ok(())
+}
+
+/// Adds the names of the methods of a package.
+fn bind_methods(
+    alloc: Global,
+    bound: &mut Vec<BoundSpot>,
+    unit: Package<'_>,
+    index: &Index<'_>,
+    places: &[Option<Position>],
+) -> Result<(), AllocError>
+    requires index { IsIndexOf (package_of unit) index.now }
+    requires places { ArePlaces (IsMethodAt (package_of unit)) places.now }
+    ensures { let p = package_of unit.entry in
+        OnOk result (AddsAll bound.old.items bound.new.items (λ b. (rank : ℕ) × (AtFound p (slice_index_or places.now rank None) (place_at b) × (b.declaration ≡ Method (symbol_in p rank))))) }
+{
+    for rank in 0..places.len() {
+        let declaration = Declaration::Method(symbol(unit, rank)?);
+        bind_name(alloc, bound, unit, index, places, rank, &declaration)?;
+    }
+    Ok(())
+}
+
+/// Adds the names by which a package's own fields and methods are declared.
+fn bind_own_names(
+    alloc: Global,
+    bound: &mut Vec<BoundSpot>,
+    unit: Package<'_>,
+    index: &Index<'_>,
+) -> Result<(), AllocError>
+    requires { IsIndexOf (package_of unit) index.now }
+    ensures { let p = package_of unit.entry in
+        OnOk result (AddsAll bound.old.items bound.new.items (BoundIn p (BindsByName p))) }
+{
+    let fields = field_places(alloc, unit, index)?;
+    let methods = method_places(alloc, unit, index)?;
+    bind_fields(alloc, bound, unit, index, &fields)?;
+    bind_methods(alloc, bound, unit, index, &methods)
+}
+
+/// Adds the bound identifiers of a package.
+pub fn bind_unit(
+    alloc: Global,
+    bound: &mut Vec<BoundSpot>,
+    graph: &Graph,
+    found: &Findings,
+    exports: &[BTreeMap<Vec<u8>, usize>],
+    unit: Package<'_>,
+    own: &[Definition],
+    members: &[Vec<MemberUse>],
+) -> Result<(), AllocError>
+    requires sound { IsSound graph.now found.now }
+    requires exports { AreExports graph.now (known_in found.now) exports.now }
+    requires own { KnowsOwn (package_of unit) own.now }
+    requires members { AreMemberUses (package_of unit) (map uses_in members.now) }
+    ensures { let p = package_of unit.entry in
+        OnOk result (AddsAll bound.old.items bound.new.items (BoundIn p (IsBoundTo graph.now (known_in found.now) p))) }
+{
+    let index = Index::of(alloc, unit)?;
+    bind_numbers(alloc, bound, graph, found, exports, unit, &index)?;
+    bind_members(alloc, bound, unit, &index, own, members)?;
+    bind_own_names(alloc, bound, unit, &index)
+}

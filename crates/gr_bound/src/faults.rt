@@ -1,0 +1,47 @@
+//! The first fault of a workspace.
+ghost use Rattle.std.specs.Prelude.{ℕ, ◌≡◌, ◌↔◌, [], slice_get, Some, IsTrue};
+ghost use Rattle.gr_verdict.specs.declared.finding.Finding.{Finding as Found};
+ghost use Rattle.gr_verdict.specs.Found.{AreFindings};
+ghost use Rattle.gr_bound.specs.Workspaces.{RefusesFaults, RefusesFirst};
+
+use gr_graph::Graph;
+use gr_text::Refusal;
+use gr_verdict::{Finding, Findings, faults};
+use std::alloc::Global;
+
+/// Refuses a workspace for its first fault.
+fn refuse_first(alloc: Global, graph: &Graph) -> Result<(), Refusal>
+    ensures { RefusesFirst graph.now result }
+{
+    match faults(alloc, graph)?.into_iter().next() {
+        None => Ok(()),
+        Some(fault) => Err(Refusal::Faulty {
+            place: fault.place,
+            kind: fault.kind,
+        }),
+    }
+}
+
+/// Whether nothing that was found is a fault.
+fn are_sound(packages: &[Finding]) -> bool
+    ensures { IsTrue result → (n : ℕ) (f : Found) → slice_get packages.now n ≡ Some f → f.faults.items ≡ [] }
+{
+    for finding in packages {
+        if !finding.faults.is_empty() {
+            return false;
+        }
+    }
+    true
+}
+
+/// Refuses a workspace in which a fault was found for the first one.
+pub fn refuse_faults(alloc: Global, graph: &Graph, found: &Findings) -> Result<(), Refusal>
+    requires { AreFindings graph.now found.now }
+    ensures { RefusesFaults graph.now found.now result }
+{
+    if are_sound(&found.packages) {
+        Ok(())
+    } else {
+        refuse_first(alloc, graph)
+    }
+}

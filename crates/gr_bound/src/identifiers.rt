@@ -1,0 +1,158 @@
+//! The identifiers of a package, by the bytes that they hold, and their places.
+ghost use Rattle.std.specs.Prelude.{ℕ, ◌≡◌, ◌<◌, ◌↔◌, Some, length, slice_get, map, IsTrue, MatchOption, OnOk};
+ghost use Rattle.gr_scan.specs.declared.piece.Class.TheVariants.{Name};
+ghost use Rattle.gr_scan.specs.CutText.{tokens_in};
+ghost use Rattle.gr_tree.specs.SourceFile.{source_of};
+ghost use Rattle.gr_declared.specs.PackageView.{package_of, IsIndexOf};
+ghost use Rattle.gr_bound.specs.Identifiers.{IsName, BeginsAt, HoldsByte, NameBegins, is_named_literal, named_by};
+ghost use Rattle.gr_order.specs.Bytes.{TokenHolds};
+ghost use Rattle.gr_bound.specs.Steps.{Adds, AtToken};
+
+use crate::spot::Spot;
+use gr_declared::{Index, Package};
+use gr_scan::{Class, Piece};
+use gr_scope::model::{Position, Purpose, Role};
+use gr_text::Path;
+use gr_tree::FileTree;
+use std::alloc::AllocError;
+
+/// Whether a token of a file holds a byte.
+fn token_holds(file: &FileTree, token: usize, path: &Path, offset: usize) -> bool
+    ensures { IsTrue result ↔ TokenHolds (Some (source_of file.now)) token path.now offset }
+{
+    let begins = file.offset(token);
+    begins <= offset
+        && offset - begins < file.spelling(token).len()
+        && file.path().as_str().as_bytes() == path.as_str().as_bytes()
+}
+
+/// Whether a token at a place of a package's files holds a byte.
+fn place_holds(files: &[FileTree], at: Position, path: &Path, offset: usize) -> bool
+    ensures { IsTrue result ↔ TokenHolds (slice_get (map source_of files.now) at.file) at.index path.now offset }
+{
+    if at.file < files.len() {
+        token_holds(&files[at.file], at.index, path, offset)
+    } else {
+        false
+    }
+}
+
+/// Whether an identifier, or the literal of an import, holds a byte.
+fn holds_byte(unit: Package<'_>, u: usize, path: &Path, offset: usize) -> bool
+    requires { u < length unit.table.now.sites }
+    ensures { IsTrue result ↔ HoldsByte (package_of unit.entry) path.now offset u }
+{
+    !unit.table.role(u).is_implied() && place_holds(unit.files, unit.table.place(u), path, offset)
+}
+
+/// The identifier, or the literal of an import, that holds a byte.
+pub fn identifier_at(unit: Package<'_>, path: &Path, offset: usize) -> Option<usize>
+    ensures { MatchOption result ((u : ℕ) → HoldsByte (package_of unit.entry) path.now offset u → ⊥) (λ u. HoldsByte (package_of unit.entry) path.now offset u) }
+{
+    for u in 0..unit.table.len() {
+        if holds_byte(unit, u, path, offset) {
+            return Some(u);
+        }
+    }
+    None
+}
+
+/// Whether a role is that of the literal of an import with a name.
+fn is_named_literal(role: Role) -> bool
+    ensures { result ≡ is_named_literal role }
+{
+    match role {
+        Role::NotLexical(Purpose::ImportPath) => true,
+        _ => false,
+    }
+}
+
+/// The identifier that another stands for: the name of an import for its literal.
+pub fn named_by(unit: Package<'_>, u: usize) -> usize
+    requires { u < length unit.table.now.sites }
+    ensures named { result ≡ named_by (package_of unit.entry).layout u }
+    ensures in_range { result < length unit.entry.table.now.sites }
+{
+    if is_named_literal(unit.table.role(u)) {
+        u.saturating_sub(1)
+    } else {
+        u
+    }
+}
+
+/// Whether a token is a name, by what it is.
+fn is_name_class(class: Class) -> bool
+    ensures { IsTrue result ↔ (class ≡ Name) }
+{
+    match class {
+        Class::Name => true,
+        _ => false,
+    }
+}
+
+/// Whether a name stands at a number of some tokens.
+fn is_name_at(tokens: &[Piece], token: usize) -> bool
+    ensures { IsTrue result ↔ IsName (slice_get tokens.now token) }
+{
+    match tokens.get(token) {
+        None => false,
+        Some(piece) => is_name_class(piece.class),
+    }
+}
+
+/// Whether a token of a file is a name.
+fn is_name(file: &FileTree, token: usize) -> bool
+    ensures { IsTrue result ↔ IsName (slice_get (tokens_in file.now.cut) token) }
+{
+    is_name_at(file.pieces().tokens(), token)
+}
+
+/// Adds the place at which a name of a file begins.
+fn add_name(found: &mut Vec<Spot>, file: &FileTree, token: usize) -> Result<(), AllocError>
+    ensures { OnOk result (Adds found.old.items found.new.items (λ place. NameBegins (Some (source_of file.now)) token place.path place.offset)) }
+{
+    if is_name(file, token) {
+        let path = file.path().clone()?;
+        let offset = file.offset(token);
+        found.push(Spot { path, offset })?;
+    }
+    Ok(())
+}
+
+/// Adds the place at which a token begins, if it has one and is a name.
+fn add_place(found: &mut Vec<Spot>, files: &[FileTree], at: Position) -> Result<(), AllocError>
+    ensures { OnOk result (Adds found.old.items found.new.items (λ place. NameBegins (slice_get (map source_of files.now) at.file) at.index place.path place.offset)) }
+{
+    if at.file < files.len() {
+        add_name(found, &files[at.file], at.index)
+    } else {
+        Ok(())
+    }
+}
+
+/// Adds the place of an identifier, unless it stands in no file. The literal of an import is none.
+pub fn add_identifier(found: &mut Vec<Spot>, unit: Package<'_>, u: usize) -> Result<(), AllocError>
+    requires { u < length unit.table.now.sites }
+    ensures { OnOk result (Adds found.old.items found.new.items (λ place. BeginsAt (package_of unit.entry) place.path place.offset u)) }
+{
+    if unit.table.role(u).is_implied() {
+        return Ok(());
+    }
+    add_place(found, unit.files, unit.table.place(u))
+}
+
+/// Adds the place of a token, if an identifier stands there.
+pub fn add_token(
+    found: &mut Vec<Spot>,
+    unit: Package<'_>,
+    index: &Index<'_>,
+    at: Position,
+) -> Result<(), AllocError>
+    requires { IsIndexOf (package_of unit) index.now }
+    ensures { OnOk result (Adds found.old.items found.new.items (AtToken (package_of unit.entry) at)) }
+{
+    match index.identifiers.get(at) {
+        None => Ok(()),
+        Some(_) => add_place(found, unit.files, at),
+    }
+}

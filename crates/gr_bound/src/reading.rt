@@ -1,0 +1,85 @@
+//! A package of a workspace without faults, read again: its trees, its table, its type definitions and its uses of members.
+ghost use Rattle.std.specs.Prelude.{◌≡◌, ◌<◌, [], length, map, IfOk};
+ghost use Rattle.gr_text.specs.Packages.{package_paths, package_files};
+ghost use Rattle.gr_graph.specs.Graphs.{OfPackage};
+ghost use Rattle.gr_graph.specs.Parsed.{AreParsed};
+ghost use Rattle.gr_tree.specs.SourceFile.{source_of};
+ghost use Rattle.gr_scope.specs.Scoped.{scoped};
+ghost use Rattle.gr_stages.specs.PackageNames.{IsLaidOver};
+ghost use Rattle.gr_expr.specs.WorldView.{definitions_at};
+ghost use Rattle.gr_declared.specs.InterfacesView.{name_in, interface_in};
+ghost use Rattle.gr_meanings.specs.MemberUses.{AreMemberUses, uses_in};
+ghost use Rattle.gr_declared.specs.Package.{Package as Checked};
+ghost use Rattle.gr_bound.specs.Members.{KnowsOwn, definitions_or_none};
+ghost use Rattle.gr_bound.specs.Workspaces.{IsSound, known_in, IsPackageAt};
+
+use gr_declared::Interfaces;
+use gr_expr::found::MemberUse;
+use gr_expr::symbol::SharedPath;
+use gr_expr::world::{Definition, Definitions};
+use gr_graph::Graph;
+use gr_scope::declare::declare;
+use gr_scope::table::ScopeTable;
+use gr_stages::lay_names;
+use gr_tree::FileTree;
+use gr_verdict::Findings;
+use std::alloc::{AllocError, Global};
+
+/// The trees of a package's files, each of which has one.
+pub fn trees<'a>(graph: &'a Graph, found: &Findings, number: usize) -> &'a [FileTree]
+    requires in_range { number < length (package_paths graph.now) }
+    requires sound { IsSound graph.now found.now }
+    ensures { OfPackage graph.now number (λ p. AreParsed (package_files graph.now p) result.now []) }
+{
+    &graph.package(number).trees
+}
+
+/// The path of a package.
+pub fn path_of<'a>(graph: &Graph, found: &'a Findings, number: usize) -> &'a SharedPath
+    requires in_range { number < length (package_paths graph.now) }
+    requires sound { IsSound graph.now found.now }
+    ensures { OfPackage graph.now number (λ p. result.now ≡ p) }
+{
+    &found.packages[number].path
+}
+
+/// The table of a package in which imports without a name declare the names of the packages that it sees.
+pub fn laid_table<'a>(
+    alloc: Global,
+    files: &'a [FileTree],
+    seen: &'a Interfaces,
+) -> Result<ScopeTable<'a>, AllocError>
+    ensures { IfOk result (λ laid. IsLaidOver (map source_of files.now) (name_in seen.now) (scoped files.now) laid) }
+{
+    let plain = declare(alloc, files)?;
+    lay_names(alloc, &plain, files, seen)
+}
+
+/// The type definitions that are known of the package of a path.
+fn definitions_of<'a>(all: &'a Definitions, path: &[u8]) -> &'a [Definition]
+    ensures { result.now ≡ definitions_or_none (definitions_at all.now path.now) }
+{
+    match all.packages.get(path) {
+        None => &[],
+        Some(definitions) => definitions.as_slice(),
+    }
+}
+
+/// The type definitions of a package.
+pub fn own_of<'a>(graph: &Graph, found: &'a Findings, number: usize) -> &'a [Definition]
+    requires in_range { number < length (package_paths graph.now) }
+    requires sound { IsSound graph.now found.now }
+    ensures { (p : Checked) → IsPackageAt graph.now (known_in found.now) number p → KnowsOwn p result.now }
+{
+    let path = path_of(graph, found, number).path();
+    definitions_of(found.interfaces.definitions(), path)
+}
+
+/// The uses of members in the files of a package.
+pub fn members_of<'a>(graph: &Graph, found: &'a Findings, number: usize) -> &'a [Vec<MemberUse>]
+    requires in_range { number < length (package_paths graph.now) }
+    requires sound { IsSound graph.now found.now }
+    ensures { (p : Checked) → IsPackageAt graph.now (known_in found.now) number p → AreMemberUses p (map uses_in result.now) }
+{
+    &found.packages[number].members
+}

@@ -1,8 +1,0 @@
--- The definitions of this crate.
-pub mod Places
-pub mod Identifiers
-pub mod Binding
-pub mod Uses
-pub mod Steps
-pub mod Members
-pub mod Workspaces

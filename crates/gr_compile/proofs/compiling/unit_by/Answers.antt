@@ -1,0 +1,42 @@
+-- The answers to the goals of `compiling::unit_by`.
+use Rattle.std.proofs.Common.{◌≡◌, [], sym, subst}
+use Rattle.std.proofs.lemmas.Result.{IfOk-weaker}
+use Rattle.gr_verdict.specs.FaultLists.{AreListed}
+use Rattle.gr_verdict.specs.Found.{known_by, AreUsesOf}
+use Rattle.gr_verdict.specs.Verdicts.{IsFaultBy}
+use Rattle.gr_verdict.proofs.Members.{vec_empty, vec_holds}
+use Rattle.gr_compile.specs.Compiling.{HoldsFaults}
+use Rattle.gr_compile.specs.Units.{IsUnitOf, IsUnitValue}
+use Rattle.gr_compile.proofs.compiling.unit_by.Goals as goal
+
+pub faultless_unit-requires : goal.faultless_unit-requires
+faultless_unit-requires c =
+    let w = c.args.graph.now in
+    let p = c.args.path.now in
+    let all = c.args.all.now in
+    let faults = c.args.finding.faults in
+    let is = c.requires.found in
+    let empty : faults.items ≡ [] = vec_empty faults c.is_empty.result c.is_empty.ensures c.if-is_empty.true in
+    record {
+      at = c.requires.at;
+      found = record {
+        below = is.below;
+        own = is.own;
+        whole = is.whole;
+        listed = subst (λ l. AreListed (IsFaultBy w (known_by all) p) l) empty is.finding.listed;
+        uses = subst (λ ms. AreUsesOf w (known_by all) p ms) (sym c.deref.ensures.value) (is.finding.members empty);
+      };
+    }
+
+pub faulty_unit-requires : goal.faulty_unit-requires
+faulty_unit-requires c = vec_holds c.args.finding.faults c.is_empty.result c.is_empty.ensures c.if-is_empty.false
+
+pub returns-else-is_empty : goal.returns-else-is_empty
+returns-else-is_empty c =
+    let w = c.args.graph.now in
+    let p = c.args.path.now in
+    let faults = c.args.finding.faults in
+    let is = c.requires.found in
+    let some = vec_holds faults c.is_empty.result c.is_empty.ensures c.if-is_empty.false in
+    IfOk-weaker c.faulty_unit.result (HoldsFaults faults.items) (IsUnitOf w p)
+    (λ unit holds. subst (IsUnitValue w p) (sym (holds p)) (record { known = known_by c.args.all.now; right = is.below; listed = is.finding.listed }, some)) c.faulty_unit.ensures

@@ -1,0 +1,60 @@
+-- What lists hold.
+use Rattle.std.proofs.Common.{zero, suc, ◌≡◌, ◌<◌, ◌⊎◌, inl, inr, List, [], ◌∷◌, length, map, Option, Some, None, refl, sym, ap, subst, ◌∙◌, ⊎_elim, arith}
+use Rattle.std.specs.List.{Contains, filter_map, cons_option}
+
+pub nothing_in : {X : Type 0} (x : X) → Contains [] x → ⊥
+nothing_in x h = let lt : h.0 < 0 = h.1 in omega arith
+
+pub first_in : {X : Type 0} (x : X) (xs : List X) → Contains (x ∷ xs) x
+first_in x xs = (0, omega arith, refl)
+
+pub later_in : {X : Type 0} (x : X) (xs : List X) (y : X) → Contains xs y → Contains (x ∷ xs) y
+later_in x xs y h = (suc h.0, (let lt : h.0 < length xs = h.1 in omega arith), h.2)
+
+-- the first, or one behind it
+pub first_or_later : {X : Type 0} (x : X) (xs : List X) (y : X) → Contains (x ∷ xs) y → (x ≡ y) ⊎ Contains xs y
+first_or_later x xs y (zero, lt, e) = inl e
+first_or_later x xs y (suc k, lt, e) = inr (k, omega arith, e)
+
+-- ---- what a partial function gives of a list
+made_from : {X Y : Type 0} (h : X → Option Y) (x : X) (xs : List X) (o : Option Y) (y : Y) → h x ≡ o
+    → (Contains (filter_map h xs) y → (z : X) × Contains xs z × (h z ≡ Some y)) → Contains (cons_option o (filter_map h xs)) y → (z : X) × Contains (x ∷ xs) z × (h z ≡ Some y)
+made_from h x xs None y is rest has = let r = rest has in (r.0, later_in x xs r.0 r.1, r.2)
+made_from h x xs (Some v) y is rest has =
+    ⊎_elim
+    (λ (same : v ≡ y). (x, first_in x xs, is ∙ ap Some same))
+    (λ (later : Contains (filter_map h xs) y). let r = rest later in (r.0, later_in x xs r.0 r.1, r.2))
+    (first_or_later v (filter_map h xs) y has)
+
+pub given_from : {X Y : Type 0} (h : X → Option Y) (xs : List X) (y : Y) → Contains (filter_map h xs) y → (x : X) × Contains xs x × (h x ≡ Some y)
+given_from h [] y has = absurd (nothing_in y has)
+given_from h (x ∷ xs) y has = made_from h x xs (h x) y refl (given_from h xs y) has
+
+behind : {Y : Type 0} (o : Option Y) (ys : List Y) (y : Y) → Contains ys y → Contains (cons_option o ys) y
+behind None ys y has = has
+behind (Some v) ys y has = later_in v ys y has
+
+pub is_given : {X Y : Type 0} (h : X → Option Y) (xs : List X) (x : X) (y : Y) → Contains xs x → h x ≡ Some y → Contains (filter_map h xs) y
+is_given h [] x y has is = absurd (nothing_in x has)
+is_given h (z ∷ xs) x y has is =
+    ⊎_elim
+    (λ (same : z ≡ x). subst (λ (o : Option _). Contains (cons_option o (filter_map h xs)) y) (sym (ap h same ∙ is)) (first_in y (filter_map h xs)))
+    (λ (later : Contains xs x). behind (h z) (filter_map h xs) y (is_given h xs x y later is))
+    (first_or_later z xs x has)
+
+-- ---- what a function gives of a list
+pub mapped_from : {X Y : Type 0} (f : X → Y) (xs : List X) (y : Y) → Contains (map f xs) y → (x : X) × Contains xs x × (f x ≡ y)
+mapped_from f [] y has = absurd (nothing_in y has)
+mapped_from f (x ∷ xs) y has =
+    ⊎_elim
+    (λ (same : f x ≡ y). (x, first_in x xs, same))
+    (λ (later : Contains (map f xs) y). let r = mapped_from f xs y later in (r.0, later_in x xs r.0 r.1, r.2))
+    (first_or_later (f x) (map f xs) y has)
+
+pub is_mapped : {X Y : Type 0} (f : X → Y) (xs : List X) (x : X) → Contains xs x → Contains (map f xs) (f x)
+is_mapped f [] x has = absurd (nothing_in x has)
+is_mapped f (z ∷ xs) x has =
+    ⊎_elim
+    (λ (same : z ≡ x). subst (Contains (map f (z ∷ xs))) (ap f same) (first_in (f z) (map f xs)))
+    (λ (later : Contains xs x). later_in (f z) (map f xs) (f x) (is_mapped f xs x later))
+    (first_or_later z xs x has)

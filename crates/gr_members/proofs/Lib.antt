@@ -1,0 +1,13 @@
+-- The lemmas of this crate.
+pub mod FieldParts
+pub mod Steps
+pub mod Filling
+pub mod NameKeys
+pub mod Noting
+pub mod FieldNames
+pub mod Owning
+pub mod FieldsHad
+pub mod MethodNames
+pub mod Holding
+pub mod Taking
+pub mod Displacing

@@ -1,0 +1,80 @@
+-- Names noted one item after the other, and marks for the items that came first.
+use Rattle.std.proofs.Common.{ℕ, ◌≡◌, ◌+◌, ◌<◌, inl, inr, Bool, true, false, not, List, [], ◌∷◌, ◌++◌, length, get_or, ap, sym, subst, ◌∙◌, arith}
+use Rattle.std.specs.Prelude.{◌↔◌}
+use Rattle.std.proofs.lemmas.Bool.{cases_lt, cases_eq, true≢false, false≢true, not-true, not_from_false, false_from_ne_true}
+use Rattle.std.proofs.lemmas.List.{get_or_append_left, get_or_push, length_push}
+use Rattle.gr_declared.specs.Spread.{IsMarked}
+use Rattle.gr_members.specs.MemberNames.{Naming, NotesName, AreNamesBelow, IsFirstNamed}
+use Rattle.gr_declared.proofs.ByteKeys.{cases_bytes}
+
+pub names_none : (K : Naming) (noted : ℕ → List ℕ → Bool) → ((d : ℕ) (n : List ℕ) → noted d n ≡ false) → AreNamesBelow K 0 noted
+names_none K noted none = record { holds = λ i d n lt k. absurd (omega arith); only = λ d n e. absurd (false≢true (sym (none d n) ∙ e)) }
+
+-- one more item, which has just that name
+pub names_next : (K : Naming) (count d : ℕ) (n : List ℕ) (old new : ℕ → List ℕ → Bool) → K count d n → ((e : ℕ) (m : List ℕ) → K count e m → (e ≡ d) × (m ≡ n)) → NotesName old new d n →
+    AreNamesBelow K count old → AreNamesBelow K (count + 1) new
+names_next K count d n old new is only notes h = record {
+  holds = λ i e m lt k. elim (cases_lt i count) [
+    | inl below ↦ elim (cases_eq e d) [
+      | inl same ↦ elim (cases_bytes m n) [
+        | inl alike ↦ subst (λ z. new z m ≡ true) (sym same) (subst (λ z. new d z ≡ true) (sym alike) notes.here)
+        | inr unlike ↦ notes.elsewhere e m (λ a b. unlike b) ∙ h.holds i e m below k
+      ]
+      | inr other ↦ notes.elsewhere e m (λ a b. other a) ∙ h.holds i e m below k
+    ]
+    | inr ge ↦ let last : i ≡ count = omega arith in
+        let at = only e m (subst (λ z. K z e m) last k) in
+        subst (λ z. new z m ≡ true) (sym at.0) (subst (λ z. new d z ≡ true) (sym at.1) notes.here)
+  ];
+  only = λ e m t. elim (cases_eq e d) [
+    | inl same ↦ elim (cases_bytes m n) [
+      | inl alike ↦ (count, (omega arith, subst (λ z. K count z m) (sym same) (subst (λ z. K count d z) (sym alike) is)))
+      | inr unlike ↦ let w = h.only e m (sym (notes.elsewhere e m (λ a b. unlike b)) ∙ t) in let lt : w.0 < count = w.1.0 in (w.0, (omega arith, w.1.1))
+    ]
+    | inr other ↦ let w = h.only e m (sym (notes.elsewhere e m (λ a b. other a)) ∙ t) in let lt : w.0 < count = w.1.0 in (w.0, (omega arith, w.1.1))
+  ];
+}
+
+-- one more item, which has no name
+pub names_skip : (K : Naming) (count : ℕ) (noted : ℕ → List ℕ → Bool) → ((e : ℕ) (m : List ℕ) → K count e m → ⊥) → AreNamesBelow K count noted → AreNamesBelow K (count + 1) noted
+names_skip K count noted none h = record {
+  holds = λ i e m lt k. elim (cases_lt i count) [
+    | inl below ↦ h.holds i e m below k
+    | inr ge ↦ let last : i ≡ count = omega arith in absurd (none e m (subst (λ z. K z e m) last k))
+  ];
+  only = λ e m t. let w = h.only e m t in let lt : w.0 < count = w.1.0 in (w.0, (omega arith, w.1.1));
+}
+
+-- a name that was not noted is the first
+pub first_if_new : (K : Naming) (count d : ℕ) (n : List ℕ) (noted : ℕ → List ℕ → Bool) (added : Bool) → K count d n → ((e : ℕ) (m : List ℕ) → K count e m → (e ≡ d) × (m ≡ n)) → added ≡ not (noted d n) →
+    AreNamesBelow K count noted → (added ≡ true) ↔ IsFirstNamed K count
+first_if_new K count d n noted added is only e h = (
+  (λ t. record { definition = d; name = n; named = is; first = λ i lt k. true≢false (sym (h.holds i d n lt k) ∙ not-true (noted d n) (sym e ∙ t)) }),
+  (λ f. let at = only f.definition f.name f.named in
+      e ∙ not_from_false (noted d n) (false_from_ne_true (noted d n) (λ t. let w = h.only d n t in
+      f.first w.0 w.1.0 (subst (λ z. K w.0 z f.name) (sym at.0) (subst (λ z. K w.0 d z) (sym at.1) w.1.1))))),
+)
+
+-- marks for the items below a number
+pub record MarksBelow (P : ℕ → Type 0) (marks : List Bool) (count : ℕ) : Type 0 where
+  pub all : length marks ≡ count
+  pub each : (item : ℕ) → item < count → IsMarked marks item ↔ P item
+
+pub marks_none : (P : ℕ → Type 0) (marks : List Bool) → marks ≡ [] → MarksBelow P marks 0
+marks_none P marks e = record { all = ap length e; each = λ i lt. absurd (omega arith) }
+
+pub marks_next : (P : ℕ → Type 0) (old new : List Bool) (count : ℕ) (b : Bool) → new ≡ old ++ (b ∷ []) → (b ≡ true) ↔ P count → MarksBelow P old count → MarksBelow P new (count + 1)
+marks_next P old new count b e is h =
+    let len : length (old ++ (b ∷ [])) ≡ length old + 1 = length_push old b in
+    record {
+      all = ap length e ∙ len ∙ ap (λ n. n + 1) h.all;
+      each = λ i lt. elim (cases_lt i count) [
+        | inl below ↦ (
+            let same : get_or new i false ≡ get_or old i false = ap (λ xs. get_or xs i false) e ∙ get_or_append_left old (b ∷ []) false i (omega (arith, h.all)) in
+            ((λ m. (h.each i below).0 (sym same ∙ m)), (λ p. same ∙ (h.each i below).1 p)))
+        | inr ge ↦ (
+            let last : i ≡ count = omega arith in
+            let here : get_or new i false ≡ b = ap (λ xs. get_or xs i false) e ∙ get_or_push old b false i (omega (arith, h.all)) in
+            ((λ m. subst P (sym last) (is.0 (sym here ∙ m))), (λ p. here ∙ is.1 (subst P last p))))
+      ];
+    }

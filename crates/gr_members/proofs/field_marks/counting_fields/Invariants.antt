@@ -1,0 +1,12 @@
+-- The invariants of the loops of `field_marks::counting_fields`.
+use Rattle.gr_members.specs.FieldsView.{IsFieldNamed}
+use Rattle.gr_members.specs.MemberNames.{is_noted, AreNamesBelow, IsFirstNamed}
+use Rattle.gr_declared.specs.PackageView.{package_of}
+use Rattle.gr_members.proofs.Noting.{MarksBelow}
+use Rattle.gr_members.proofs.field_marks.counting_fields.Given as goal
+
+abbrev pub invariant-loop-field : goal.invariant-loop-field
+invariant-loop-field l = record {
+  names : AreNamesBelow (IsFieldNamed (package_of l.unit)) l.field-index (is_noted l.names);
+  marks : MarksBelow (IsFirstNamed (IsFieldNamed (package_of l.unit))) l.marks.items l.field-index;
+}

@@ -1,0 +1,190 @@
+//! Recursive type definitions: those that hold themselves, by name or in fields, and not behind a pointer or slice.
+ghost use Rattle.std.specs.Prelude.{◌≡◌, ◌<◌, ◌↔◌, ℕ, length, map, Contains, IsTrue, IfOk, OnOk, MatchOption};
+ghost use Rattle.gr_tree.specs.View.{type_view, list_view};
+ghost use Rattle.gr_tree.specs.FileView.{field_view, body_view};
+ghost use Rattle.gr_declared.specs.Package.{package_types};
+ghost use Rattle.gr_declared.specs.Written.{written_types};
+ghost use Rattle.gr_declared.specs.Spread.{AreLinked, IsMarked, Leads};
+ghost use Rattle.gr_members.specs.Recursion.{AddsItems, IsHeldAs, IsHeldAsOne, AreHeld, IsOnCycle, AreRecursive};
+ghost use Rattle.gr_declared.specs.PackageView.{package_of, IsIndexOf};
+
+use crate::peeling::peeled;
+use gr_declared::{Index, Package, TypeDef, local_definition, reached, row};
+use gr_tree::tree::{Field, Item, TypeBody, TypeExpr};
+use std::alloc::{AllocError, Global};
+
+/// The definition that a Type is by name.
+fn held_as(unit: Package<'_>, index: &Index<'_>, file: usize, written: &TypeExpr) -> Option<usize>
+    requires { IsIndexOf (package_of unit) index.now }
+    ensures { MatchOption result ((r : ℕ) → IsHeldAs (package_of unit.entry) file (type_view written.now) r → ⊥)
+        (λ r. IsHeldAs (package_of unit.entry) file (type_view written.now) r × ((other : ℕ) → IsHeldAs (package_of unit.entry) file (type_view written.now) other → other ≡ r)) }
+{
+    match written {
+        TypeExpr::Local(name) => local_definition(unit, index, file, *name),
+        TypeExpr::Imported { .. } => None,
+        TypeExpr::Pointer { .. } => None,
+        TypeExpr::Slice { .. } => None,
+    }
+}
+
+/// Adds the definition that a Type is by name.
+fn add_type(
+    found: &mut Vec<usize>,
+    unit: Package<'_>,
+    index: &Index<'_>,
+    file: usize,
+    written: &TypeExpr,
+) -> Result<(), AllocError>
+    requires { IsIndexOf (package_of unit) index.now }
+    ensures { OnOk result (AddsItems found.old.items found.new.items (IsHeldAs (package_of unit.entry) file (type_view written.now))) }
+{
+    match held_as(unit, index, file, written) {
+        None => Ok(()),
+        Some(rank) => {
+            found.push(rank)?;
+            Ok(())
+        }
+    }
+}
+
+/// Adds the definitions that the types of fields are by name.
+fn add_fields(
+    found: &mut Vec<usize>,
+    unit: Package<'_>,
+    index: &Index<'_>,
+    file: usize,
+    fields: &[Item<Field>],
+) -> Result<(), AllocError>
+    requires { IsIndexOf (package_of unit) index.now }
+    ensures { OnOk result (AddsItems found.old.items found.new.items (IsHeldAsOne (package_of unit.entry) file (map (λ f. f.value.type_use) (list_view field_view fields.now)))) }
+{
+    for field in fields {
+        add_type(found, unit, index, file, &field.value.field_type)?;
+    }
+    Ok(())
+}
+
+/// Adds the definitions that a definition holds.
+fn add_body(
+    found: &mut Vec<usize>,
+    unit: Package<'_>,
+    index: &Index<'_>,
+    file: usize,
+    body: &TypeBody,
+) -> Result<(), AllocError>
+    requires { IsIndexOf (package_of unit) index.now }
+    ensures { OnOk result (AddsItems found.old.items found.new.items (IsHeldAsOne (package_of unit.entry) file (written_types (body_view body.now)))) }
+{
+    match body {
+        TypeBody::Type(written) => add_type(found, unit, index, file, written),
+        TypeBody::Struct { fields, .. } => add_fields(found, unit, index, file, fields),
+    }
+}
+
+/// The definitions that a definition holds.
+#[tactic(auto, unfolding(gr_tree::specs::FileView::type_spec_view))]
+fn held_by(
+    alloc: Global,
+    unit: Package<'_>,
+    index: &Index<'_>,
+    definition: TypeDef<'_>,
+) -> Result<Vec<usize>, AllocError>
+    requires { IsIndexOf (package_of unit) index.now }
+    ensures { IfOk result (λ found. (r : ℕ) → Contains found.items r ↔ IsHeldAsOne (package_of unit.entry) definition.entry.file (written_types (body_view definition.entry.spec.now.body)) r) }
+{
+    let mut found = Vec::new(alloc);
+    add_body(
+        &mut found,
+        unit,
+        index,
+        definition.file,
+        &definition.spec.body,
+    )?;
+    Ok(found)
+}
+
+/// The links from each definition to those that it holds.
+fn held(alloc: Global, unit: Package<'_>, index: &Index<'_>) -> Result<Vec<Vec<usize>>, AllocError>
+    requires { IsIndexOf (package_of unit) index.now }
+    ensures { IfOk result (λ links. AreHeld (package_of unit.entry) links.items) }
+{
+    let types = &index.declared.types;
+    let mut links = Vec::new(alloc);
+    for rank in 0..types.len() {
+        let definition = types[rank];
+        links.push(held_by(alloc, unit, index, definition)?)?;
+    }
+    Ok(links)
+}
+
+/// A mark for each number that one leads to.
+fn led_to(alloc: Global, links: &[Vec<usize>], from: usize) -> Result<Vec<bool>, AllocError>
+    requires { AreLinked links.now }
+    ensures size { IfOk result (λ marks. length marks.items ≡ length links.now) }
+    ensures marked { IfOk result (λ marks. (q : ℕ) → IsMarked marks.items q ↔ Leads links.now from q) }
+{
+    let mut marks = vec![in alloc; false; links.len()]?;
+    for to in row(links, from) {
+        marks[*to] = true;
+    }
+    Ok(marks)
+}
+
+/// Whether a number leads back to itself.
+fn is_on_cycle(alloc: Global, links: &[Vec<usize>], number: usize) -> Result<bool, AllocError>
+    requires linked { AreLinked links.now }
+    requires in_range { number < length links.now }
+    ensures { IfOk result (λ found. IsTrue found ↔ IsOnCycle links.now number) }
+{
+    let begins = led_to(alloc, links, number)?;
+    let marks = reached(alloc, links, &begins)?;
+    Ok(marks[number])
+}
+
+/// Whether a number leads back to itself, with a mark for each of some that lead to none that leads back.
+fn leads_back(
+    alloc: Global,
+    links: &[Vec<usize>],
+    clear: &[bool],
+    number: usize,
+) -> Result<bool, AllocError>
+    requires linked { AreLinked links.now }
+    requires in_range { number < length links.now }
+    requires clear { (q : ℕ) → IsMarked clear.now q → IsOnCycle links.now q → ⊥ }
+    requires size { length clear.now ≡ length links.now }
+    ensures { IfOk result (λ found. IsTrue found ↔ IsOnCycle links.now number) }
+{
+    if clear[number] {
+        return Ok(false);
+    }
+    is_on_cycle(alloc, links, number)
+}
+
+/// A mark for each number that leads back to itself. Numbers that cannot are told first, so that a search begins at the
+/// others alone.
+fn cycles(alloc: Global, links: &[Vec<usize>]) -> Result<Vec<bool>, AllocError>
+    requires { AreLinked links.now }
+    ensures size { IfOk result (λ marks. length marks.items ≡ length links.now) }
+    ensures marked { IfOk result (λ marks. (q : ℕ) → q < length links.now → IsMarked marks.items q ↔ IsOnCycle links.now q) }
+{
+    let clear = peeled(alloc, links)?;
+    let mut marks = Vec::new(alloc);
+    for number in 0..links.len() {
+        marks.push(leads_back(alloc, links, &clear, number)?)?;
+    }
+    Ok(marks)
+}
+
+/// Which type definitions of a package hold themselves, by their ranks.
+pub fn recursive_definitions(
+    alloc: Global,
+    unit: Package<'_>,
+    index: &Index<'_>,
+) -> Result<Vec<bool>, AllocError>
+    requires { IsIndexOf (package_of unit) index.now }
+    ensures { IfOk result (λ marks. AreRecursive (package_of unit.entry) marks.items) }
+{
+    let links = held(alloc, unit, index)?;
+    let marks = cycles(alloc, &links)?;
+    Ok(marks)
+}

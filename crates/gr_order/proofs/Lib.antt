@@ -1,0 +1,14 @@
+-- The lemmas of this crate.
+pub mod Covers
+pub mod CoveredExpressions
+pub mod CoveredStatements
+pub mod CoveredFiles
+pub mod Covering
+pub mod Links
+pub mod Ordered
+pub mod Roles
+pub mod Lexical
+pub mod Places
+pub mod HeldBytes
+pub mod Members
+pub mod OwnPaths

@@ -1,0 +1,7 @@
+-- The definitions of this crate.
+pub mod Order
+pub mod Tokens
+pub mod Covered
+pub mod Roles
+pub mod MemberNames
+pub mod Bytes

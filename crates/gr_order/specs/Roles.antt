@@ -1,0 +1,19 @@
+-- Which roles of identifiers are told by the tokens round them.
+use Rattle.std.specs.Prelude.{ℕ, suc, ◌≡◌, ◌↔◌, Some, slice_get}
+use Rattle.gr_scan.specs.CutText.{CutText}
+use Rattle.gr_tree.specs.declared.syntax.Kind.{Kind}
+use Rattle.gr_tree.specs.declared.syntax.Kind.TheVariants.{Dot, Colon}
+use Rattle.gr_tree.specs.declared.syntax.Token.{Token}
+use Rattle.gr_tree.specs.Kinds.{kinds_of}
+use Rattle.gr_scope.specs.declared.model.Purpose.TheVariants.{Selected, Key}
+use Rattle.gr_scope.specs.declared.model.Role.{Role}
+use Rattle.gr_scope.specs.declared.model.Role.TheVariants.{NotLexical}
+
+-- the token of that number is of that kind
+abbrev pub IsOfKind : CutText → ℕ → Kind → Type 0
+IsOfKind c i k = (t : Token) × ((slice_get (kinds_of c) i ≡ Some t) × (t.kind ≡ k))
+
+-- the identifier at a token is a selected name exactly where a dot stands before it, and a key exactly where a colon stands behind it
+pub record IsToldByTokens (c : CutText) (index : ℕ) (role : Role) : Type 0 where
+  pub selected : (role ≡ NotLexical Selected) ↔ ((i : ℕ) × ((suc i ≡ index) × IsOfKind c i Dot))
+  pub key : (role ≡ NotLexical Key) ↔ IsOfKind c (suc index) Colon

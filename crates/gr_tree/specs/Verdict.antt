@@ -1,0 +1,27 @@
+-- What is said of a token list: that it is a file within the limit, or where its first fault is.
+use Rattle.std.specs.Prelude.{ℕ, ◌≤◌, List, [], ◌∷◌}
+use Rattle.std.specs.List.{All}
+use Rattle.gr_tree.specs.declared.syntax.Token.{Token}
+use Rattle.gr_tree.specs.declared.syntax.FaultKind.{FaultKind}
+use Rattle.gr_tree.specs.declared.syntax.FaultKind.TheVariants.{Syntax, Nesting}
+use Rattle.gr_tree.specs.Grammar.{A, File}
+use Rattle.gr_tree.specs.Language.{Derives, FirstFault, DeepFault, levels}
+
+-- so many levels may be open at once
+abbrev pub limit : ℕ
+limit = 200
+
+-- a fault of that kind, with the number of tokens from it on
+pub data Verdict : Type 0 where
+  Whole : Verdict
+  Faulty : FaultKind → ℕ → Verdict
+
+-- a file in which no token opens a level over the limit
+pub record IsWhole (ts : List Token) : Type 0 where
+  pub derived : Derives (A File ∷ []) ts
+  pub shallow : (x : Derives (A File ∷ []) ts) → All (λ l. l ≤ limit) (levels 0 x)
+
+abbrev pub IsVerdict : List Token → Verdict → Type 0
+IsVerdict ts Whole = IsWhole ts
+IsVerdict ts (Faulty Syntax left) = FirstFault (A File ∷ []) limit 0 ts left
+IsVerdict ts (Faulty Nesting left) = DeepFault (A File ∷ []) limit 0 ts left

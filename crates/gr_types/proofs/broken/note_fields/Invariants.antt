@@ -1,9 +1,0 @@
--- The invariants of the loops of `broken::note_fields`.
-use Rattle.std.proofs.Common.{take}
-use Rattle.gr_types.specs.PackageView.{package_of}
-use Rattle.gr_types.specs.Broken.{AddsLinks, IsTargetOfSome}
-use Rattle.gr_types.proofs.Mentioning.{field_types}
-use Rattle.gr_types.proofs.broken.note_fields.Given as goal
-
-abbrev pub invariant-loop-field : goal.invariant-loop-field
-invariant-loop-field l = AddsLinks l.initial.links.items l.links.items l.rank (IsTargetOfSome (package_of l.unit) l.file (field_types (take l.field-index l.fields)))

@@ -1,9 +1,0 @@
--- The answers to the goals of `interfaces::Interfaces::new`.
-use Rattle.gr_types.specs.declared.interfaces.Interfaces.{Interfaces}
-use Rattle.gr_types.proofs.AddingInterfaces.{nothing_known}
-use Rattle.gr_types.proofs.interfaces.Interfaces.new.Goals as goal
-
-pub returns-clause-interfaces : goal.returns-clause-interfaces
-returns-clause-interfaces c = λ path.
-    let i : Interfaces = record { scopes = c.new.result; definitions = record { packages = c.new-2.result }; states = c.new-3.result } in
-    nothing_known i c.new.ensures.empty c.new-2.ensures.empty path

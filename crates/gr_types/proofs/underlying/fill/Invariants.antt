@@ -1,7 +1,0 @@
--- The invariants of the loops of `underlying::fill`.
-use Rattle.gr_types.specs.PackageView.{package_of}
-use Rattle.gr_types.specs.Steps.{AreFilled}
-use Rattle.gr_types.proofs.underlying.fill.Given as goal
-
-abbrev pub invariant-loop-rank : goal.invariant-loop-rank
-invariant-loop-rank l = AreFilled (package_of l.unit) l.order l.rank-index l.found.items

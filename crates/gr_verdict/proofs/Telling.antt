@@ -1,0 +1,47 @@
+-- What is known of packages is told, one package further.
+use Rattle.std.proofs.Common.{ℕ, ◌≡◌, ◌+◌, ◌<◌, ◌≤◌, inl, inr, List, [], ◌∷◌, ◌++◌, length, sym, ap, subst, ◌∙◌, arith, length-append}
+use Rattle.std.specs.Prelude.{Option, Some, None, slice_get}
+use Rattle.std.proofs.lemmas.Bool.{cases_lt}
+use Rattle.std.proofs.lemmas.Option.{none-some, same_Some, slice_get_within}
+use Rattle.gr_text.specs.Workspace.{Workspace}
+use Rattle.gr_text.specs.Packages.{package_paths}
+use Rattle.gr_graph.specs.Graphs.{OfPackage}
+use Rattle.gr_declared.specs.InterfacesView.{name_in, interface_in}
+use Rattle.gr_declared.specs.declared.interfaces.Interfaces.{Interfaces}
+use Rattle.gr_declared.proofs.Paths.{get_before, get_last}
+use Rattle.gr_verdict.specs.declared.known.Known.{Known}
+use Rattle.gr_verdict.specs.Found.{known_by, AreWhole, TellsVerdict, MayTell, KnowsVerdicts, AreKnownNext}
+use Rattle.gr_verdict.specs.Verdicts.{IsVerdict}
+use Rattle.gr_verdict.proofs.Knowing.{verdict_as}
+
+-- nothing yet: it is right of every workspace
+
+pub nothing_known : (known : Known) → known.verdicts.items ≡ [] → (w : Workspace) → KnowsVerdicts w known
+nothing_known known e w n p one at is = absurd (none-some (Some one) (subst (λ l. slice_get l n ≡ Some (Some one)) e is))
+
+pub nothing_told : (known : Known) → known.verdicts.items ≡ [] → (w : Workspace) → AreKnownNext w 0 known
+nothing_told known e w = record { size = ap length e; verdicts = nothing_known known e w }
+
+-- one package further
+
+module _ (w : Workspace) (n : ℕ) (old new : Known) (found : Option Interfaces) (e : new.verdicts.items ≡ old.verdicts.items ++ found ∷ []) (h : AreKnownNext w n old) where
+  told_then : OfPackage w n (λ p. MayTell w p found) → KnowsVerdicts w new
+  told_then tells m p one at is =
+      let items = old.verdicts.items in
+      let told : slice_get (items ++ found ∷ []) m ≡ Some (Some one) = subst (λ l. slice_get l m ≡ Some (Some one)) e is in
+      elim (cases_lt m (length items)) [
+        | inl before ↦ h.verdicts m p one at (sym (get_before items found m before) ∙ told)
+        | inr past ↦ (
+            let within : m < length (items ++ found ∷ []) = slice_get_within (items ++ found ∷ []) m (Some one) told in
+            let here : m ≡ length items = omega (arith, length-append items (found ∷ [])) in
+            let last : found ≡ Some one = same_Some found (Some one) (sym (get_last items found) ∙ subst (λ k. slice_get (items ++ found ∷ []) k ≡ Some (Some one)) here told) in
+            tells p (subst (λ k. slice_get (package_paths w) k ≡ Some p) (here ∙ h.size) at) one last)
+      ]
+
+  pub told_next : OfPackage w n (λ p. MayTell w p found) → AreKnownNext w (n + 1) new
+  told_next tells = record { size = ap length e ∙ length-append old.verdicts.items (found ∷ []) ∙ ap (λ k. k + 1) h.size; verdicts = told_then tells }
+
+-- a verdict that all tell, told alone
+
+pub told_alone : (w : Workspace) (p : List ℕ) (all one : Interfaces) → name_in one p ≡ name_in all p → interface_in one p ≡ interface_in all p → AreWhole all → IsVerdict w p (known_by all p) → TellsVerdict w p one
+told_alone w p all one name interface whole right = record { right = verdict_as w p all one name interface right; whole = λ gone. interface ∙ whole p (sym name ∙ gone) }
