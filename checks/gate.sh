@@ -1,6 +1,6 @@
 #!/usr/bin/env bash
 # The gate: proves every crate and its tests from nothing, tries the must-fail edits, and runs each program and test.
-# It tells of each crate when it was proved, and before the last line how long the whole took.
+# It tells of each crate when it was proved, and before the last line when each proof ended and how long the whole took.
 set -u
 cd "$(dirname "$0")/.."
 # A proof for each processor, as far as free memory holds 4 GB for each, which is the most that one was seen to take.
@@ -15,11 +15,16 @@ passed() { printf '%d:%02d' $((SECONDS / 60)) $((SECONDS % 60)); }
 rt ci | {
     while IFS= read -r line; do
         [ -z "${last+set}" ] || printf '%s\n' "$last"
+        last=$line
         case $line in
-            'rt: '*' proved') last="$line (at $(passed))" ;;
-            *) last=$line ;;
+            'rt: '*' proved') what=${line#rt: }; what=${what% proved} ;;
+            'rt: '*': trying its must-fail edits'*) what="${line#rt: }"; what="${what%%:*}: its edits begin" ;;
+            *) continue ;;
         esac
+        last="$line (at $(passed))"
+        ends="${ends-}${ends+, }${what/: its tests are/: its tests} $(passed)"
     done
+    echo "ended at: ${ends-}"
     echo "whole time: $(passed), $RT_JOBS proofs at a time"
     printf '%s\n' "${last-}"
 }
