@@ -3,6 +3,7 @@
 # It tells of each crate when it was proved, and before the last line when each proof ended and how long the whole took.
 set -u
 cd "$(dirname "$0")/.."
+python3 checks/memory.py || exit
 # A proof for each processor, as far as free memory holds 4 GB for each, which is the most that one was seen to take.
 # Left to itself rt plans for more memory than that, and lets processors wait.
 processors=$(nproc)
