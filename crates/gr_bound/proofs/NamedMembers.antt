@@ -15,7 +15,7 @@ use Rattle.gr_order.specs.MemberNames.{in_group, field_names, body_members, meth
 use Rattle.gr_order.proofs.Lexical.{never_bound}
 use Rattle.gr_order.proofs.Members.{named_member_stands}
 use Rattle.gr_order.proofs.OwnPaths.{package_sources}
-use Rattle.gr_stages.specs.Files.{Ranked, ranked, group_items}
+use Rattle.gr_imports.specs.Files.{Ranked, ranked, group_items}
 use Rattle.gr_declared.specs.Definitions.{PlacedField, body_fields, fields_from, package_fields}
 use Rattle.gr_declared.specs.Package.{Package, PlacedType, PlacedFunction, placed_type, decl_types, decl_functions, types_in, functions_in, package_types, package_functions, function_place}
 use Rattle.gr_meanings.proofs.DeclKinds.{Holds, holds_got}

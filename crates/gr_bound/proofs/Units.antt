@@ -9,7 +9,7 @@ use Rattle.gr_text.specs.Packages.{package_paths, package_files}
 use Rattle.gr_text.specs.Workspace.{Workspace}
 use Rattle.gr_tree.specs.SourceFile.{FileParts, source_of}
 use Rattle.gr_scope.specs.Scoped.{ScopedPackage, scoped}
-use Rattle.gr_stages.specs.PackageNames.{IsLaidOver}
+use Rattle.gr_imports.specs.PackageNames.{IsLaidOver}
 use Rattle.gr_graph.specs.FaultyFiles.{FaultyParts}
 use Rattle.gr_graph.specs.Graphs.{OfPackage}
 use Rattle.gr_graph.specs.Parsed.{AreParsed, none, tree, fault}

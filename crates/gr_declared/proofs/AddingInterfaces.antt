@@ -11,7 +11,7 @@ use Rattle.std.specs.declared.sync.Arc.{Arc}
 use Rattle.std.proofs.Math.Path.{ap₂}
 use Rattle.gr_expr.specs.declared.world.Definition.{Definition}
 use Rattle.gr_expr.specs.WorldView.{shared_definitions, definitions_at}
-use Rattle.gr_stages.specs.States.{state_in}
+use Rattle.gr_imports.specs.States.{state_in}
 use Rattle.gr_declared.specs.declared.interfaces.PackageScope.{PackageScope}
 use Rattle.gr_declared.specs.declared.interfaces.Interfaces.{Interfaces}
 use Rattle.gr_declared.specs.InterfacesView.{held_at, shared_scope, scope_in, scope_name, interface_by, interface_in, no_interface, KnowsSame, Sets}

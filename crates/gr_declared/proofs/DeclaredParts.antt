@@ -15,7 +15,7 @@ use Rattle.gr_tree.specs.Tree.{DeclTree}
 use Rattle.gr_tree.specs.View.{item_view, group_view, type_view}
 use Rattle.gr_tree.specs.FileView.{same_place, global_view, type_spec_view, decl_view, file_view}
 use Rattle.gr_tree.specs.SourceFile.{FileParts, source_of}
-use Rattle.gr_stages.specs.Files.{group_items}
+use Rattle.gr_imports.specs.Files.{group_items}
 use Rattle.gr_declared.specs.Package.{PlacedVariable, PlacedType, variables_of, placed_type}
 
 abbrev pub name_part : ℕ → VarSpec → Item ℕ → List PlacedVariable

@@ -6,7 +6,7 @@ use Rattle.gr_scan.proofs.StringValueLemmas.{one_string_value}
 use Rattle.gr_scope.specs.WellFormed.{WellFormed}
 use Rattle.gr_scope.proofs.Nests.{nests}
 use Rattle.gr_scope.proofs.Uniqueness.{bound_once}
-use Rattle.gr_stages.proofs.UnknownParts.{one_path}
+use Rattle.gr_imports.proofs.PathParts.{one_path}
 use Rattle.gr_tree.specs.Tree.{TypeTree, Local, Imported, Pointer, Slice}
 use Rattle.gr_expr.specs.declared.types.Basic.{Basic}
 use Rattle.gr_expr.specs.declared.types.Basic.TheVariants as basic

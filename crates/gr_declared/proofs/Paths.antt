@@ -7,8 +7,8 @@ use Rattle.gr_scope.specs.Named.{name_value}
 use Rattle.std.proofs.lemmas.Bool.{cases_lt}
 use Rattle.gr_scope.specs.Bindings.{IsImport}
 use Rattle.gr_scan.specs.StringValues.{HasStringValue}
-use Rattle.gr_stages.specs.Scoping.{IsPathOf}
-use Rattle.gr_stages.proofs.UnknownParts.{one_path}
+use Rattle.gr_imports.specs.Laid.{IsPathOf}
+use Rattle.gr_imports.proofs.PathParts.{one_path}
 use Rattle.gr_declared.specs.Package.{Package, laid_of}
 use Rattle.gr_declared.specs.Written.{ImportsPath}
 use Rattle.gr_declared.specs.PackageView.{ArePaths, path_in}

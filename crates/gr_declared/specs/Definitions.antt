@@ -7,7 +7,7 @@ use Rattle.gr_expr.specs.Types.{PlainType, BasicType, Defined, Pointer, Slice, U
 use Rattle.gr_expr.specs.Types.{Struct as StructOf}
 use Rattle.gr_expr.specs.World.{Definition, Field, Method}
 use Rattle.gr_expr.specs.WorldView.{no_definition}
-use Rattle.gr_stages.specs.Scoping.{is_exported}
+use Rattle.gr_imports.specs.Laid.{is_exported}
 use Rattle.gr_declared.specs.Package.{Package, PlacedType, PlacedFunction, package_types, package_functions, symbol_in, spelled}
 use Rattle.gr_declared.specs.Written.{BindsToken, DeclaresType, Names, IsTypeOf}
 use Rattle.gr_declared.specs.Bound.{HasSignature}

@@ -10,12 +10,12 @@ use Rattle.std.specs.declared.sync.Arc.{Arc}
 use Rattle.gr_expr.specs.Types.{Meaning, Value, Typed, TypeName, Function}
 use Rattle.gr_expr.specs.View.{type_of, signature_of}
 use Rattle.gr_expr.specs.WorldView.{no_definition, definition_or_none, ranked, definitions_at}
-use Rattle.gr_stages.specs.declared.states.ImportState.{ImportState}
+use Rattle.gr_imports.specs.declared.states.ImportState.{ImportState}
 use Rattle.gr_expr.specs.declared.world.Definition.{Definition}
 use Rattle.gr_declared.specs.declared.interfaces.ExportMeaning.{ExportMeaning}
 use Rattle.gr_declared.specs.declared.interfaces.ExportMeaning.TheVariants as exported
 use Rattle.gr_declared.specs.declared.interfaces.Export.{Export}
-use Rattle.gr_stages.specs.States.{state_in}
+use Rattle.gr_imports.specs.States.{state_in}
 use Rattle.gr_declared.specs.declared.interfaces.PackageScope.{PackageScope}
 use Rattle.gr_declared.specs.declared.interfaces.Interface.{Interface}
 use Rattle.gr_declared.specs.declared.interfaces.Interfaces.{Interfaces}

@@ -7,8 +7,8 @@ use Rattle.gr_tree.specs.SourceFile.{SourceFile, spelling_of}
 use Rattle.gr_scope.specs.declared.model.Position.{Position}
 use Rattle.gr_scope.specs.Bindings.{Layout, Names}
 use Rattle.gr_scope.specs.Table.{StandsAt}
-use Rattle.gr_stages.specs.Files.{Ranked, ranked, group_items}
-use Rattle.gr_stages.specs.Scoping.{Laid}
+use Rattle.gr_imports.specs.Files.{Ranked, ranked, group_items}
+use Rattle.gr_imports.specs.Laid.{Laid}
 use Rattle.gr_expr.specs.declared.symbol.Symbol.{Symbol}
 use Rattle.gr_expr.specs.Types.{Meaning}
 use Rattle.gr_expr.specs.World.{Definition}

@@ -9,7 +9,7 @@ use Rattle.gr_expr.specs.declared.types.Basic.{Basic}
 use Rattle.gr_expr.specs.declared.types.Basic.TheVariants as basic
 use Rattle.gr_expr.specs.Types.{PlainType, BasicType, Defined, TypeName}
 use Rattle.gr_expr.specs.Types.{Pointer as PointerType, Slice as SliceType}
-use Rattle.gr_stages.specs.Scoping.{IsPathOf}
+use Rattle.gr_imports.specs.Laid.{IsPathOf}
 use Rattle.gr_declared.specs.Package.{Package, Export, PlacedType, IsRanked, package_types, type_place, laid_of, symbol_in, spelled}
 
 -- the identifier at a token is bound to d

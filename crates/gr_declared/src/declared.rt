@@ -4,7 +4,7 @@ ghost use Rattle.std.specs.List.{flat_map};
 ghost use Rattle.gr_tree.specs.View.{group_view};
 ghost use Rattle.gr_tree.specs.FileView.{global_view, type_spec_view, decl_view};
 ghost use Rattle.gr_tree.specs.SourceFile.{source_of};
-ghost use Rattle.gr_stages.specs.Files.{group_items};
+ghost use Rattle.gr_imports.specs.Files.{group_items};
 ghost use Rattle.gr_declared.specs.Package.{variables_of, decl_variables, decl_types, decl_functions, variables_in, types_in, functions_in, declared_variables, declared_types, declared_functions, placed_type};
 ghost use Rattle.gr_declared.specs.Appending.{Appends};
 ghost use Rattle.gr_declared.specs.DeclaredView.{variable_of, type_of, function_of, AddsDeclared};

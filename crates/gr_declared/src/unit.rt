@@ -11,9 +11,9 @@ use crate::declared::Declared;
 use crate::interfaces::Interfaces;
 use crate::ranks::Ranks;
 use gr_expr::symbol::SharedPath;
+use gr_imports::{is_import, path_of};
 use gr_scope::model::Position;
 use gr_scope::table::ScopeTable;
-use gr_stages::{is_import, path_of};
 use gr_tree::FileTree;
 use std::alloc::{AllocError, Global};
 

@@ -9,7 +9,7 @@ use Rattle.gr_tree.specs.declared.syntax.Token.{Token}
 use Rattle.gr_tree.specs.Tree.{Item, Group, single, several, DeclTree, VarDecl, TypeDecl, FuncDecl, FileTree}
 use Rattle.gr_tree.specs.Flatten.{sign, sign_if, tokens_if, all_tokens, item_tokens, list_tokens, group_tokens, name_tokens, global_tokens, type_spec_tokens, receiver_tokens, func_tokens, imports_tokens, decl_tokens, flatten}
 use Rattle.gr_tree.specs.SourceFile.{SourceFile}
-use Rattle.gr_stages.specs.Files.{Ranked, ranked, group_items}
+use Rattle.gr_imports.specs.Files.{Ranked, ranked, group_items}
 use Rattle.gr_scope.specs.Trees.{AreRising}
 use Rattle.gr_scope.proofs.Rising.{Rises, rises_le, rises_split, rises_of}
 use Rattle.gr_declared.specs.Package.{PlacedVariable, PlacedType, PlacedFunction, variables_of, placed_type, decl_variables, decl_types, decl_functions, variables_in, types_in, functions_in, declared_variables, declared_types, declared_functions}

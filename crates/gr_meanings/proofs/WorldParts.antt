@@ -5,7 +5,7 @@ use Rattle.std.specs.Cmp.Lexicographic.{pointwise, bytes_decides}
 use Rattle.std.proofs.Math.Path.{fun_ext}
 use Rattle.std.proofs.lemmas.Option.{slice_get_within, slice_get_past}
 use Rattle.gr_tree.specs.SourceFile.{SourceFile}
-use Rattle.gr_stages.specs.Scoping.{init_name}
+use Rattle.gr_imports.specs.Laid.{init_name}
 use Rattle.gr_expr.specs.declared.symbol.Symbol.{Symbol}
 use Rattle.gr_expr.specs.declared.world.World.{World}
 use Rattle.gr_expr.specs.Types.{same_path}

@@ -2,7 +2,7 @@
 use Rattle.std.specs.Prelude.{ℕ, ◌≡◌, List, Option, length, map}
 use Rattle.gr_tree.specs.SourceFile.{SourceFile, FileParts, source_of}
 use Rattle.gr_scope.specs.Scoped.{ScopedPackage, scoped, layout_in, names_in}
-use Rattle.gr_stages.specs.PackageNames.{IsLaidOver}
+use Rattle.gr_imports.specs.PackageNames.{IsLaidOver}
 use Rattle.gr_declared.specs.Package.{Package, Interface}
 
 -- the package of a path and of files, with the identifiers of a table and with the interfaces of other packages

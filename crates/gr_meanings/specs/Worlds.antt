@@ -5,7 +5,7 @@ use Rattle.gr_tree.specs.SourceFile.{SourceFile, spelling_of}
 use Rattle.gr_scope.specs.declared.model.Role.TheVariants.{NotLexical}
 use Rattle.gr_scope.specs.declared.model.Purpose.TheVariants as purpose
 use Rattle.gr_scope.specs.Table.{IsFoundAt}
-use Rattle.gr_stages.specs.Scoping.{init_name}
+use Rattle.gr_imports.specs.Laid.{init_name}
 use Rattle.gr_expr.specs.declared.symbol.Symbol.{Symbol}
 use Rattle.gr_expr.specs.Types.{PlainType, Broken}
 use Rattle.gr_expr.specs.World.{World, Bound, Definition, member_by}

@@ -13,7 +13,7 @@ use Rattle.gr_scan.specs.TokenValues.{HasTokenValue, IsStringClass}
 use Rattle.gr_tree.specs.SourceFile.{SourceFile}
 use Rattle.gr_scope.specs.Bindings.{IsPackageLevel}
 use Rattle.gr_scope.specs.Table.{StandsAt}
-use Rattle.gr_stages.specs.Files.{HasLiteral}
+use Rattle.gr_imports.specs.Files.{HasLiteral}
 use Rattle.gr_declared.specs.ByToken.{IsFirstBelow}
 use Rattle.gr_meanings.specs.NamesView.{IsBehindDot}
 use Rattle.gr_declared.specs.Package.{Package, spelled}

@@ -7,7 +7,7 @@ use Rattle.gr_tree.specs.Tree.{Item, GlobalTree, TypeSpecTree, FuncTree, DeclTre
 use Rattle.gr_tree.specs.SourceFile.{SourceFile}
 use Rattle.gr_expr.specs.Types.{PlainType}
 use Rattle.gr_expr.specs.Judge.{judge_type}
-use Rattle.gr_stages.specs.Files.{group_items}
+use Rattle.gr_imports.specs.Files.{group_items}
 use Rattle.gr_declared.specs.Package.{Package}
 use Rattle.gr_object.specs.Lines.{FunctionName, GlobalName}
 use Rattle.gr_object.specs.Source.{Source}

@@ -6,7 +6,7 @@ use Rattle.gr_tree.specs.Tree.{Item, Group, IdentTree, Named, Underscore, TypeTr
 use Rattle.gr_expr.specs.World.{Bound, Means, BrokenVariable, BrokenFunction, BrokenType}
 use Rattle.gr_expr.specs.World.{Local as LocalName}
 use Rattle.gr_expr.specs.Judge.{judge_type}
-use Rattle.gr_stages.specs.Files.{group_items}
+use Rattle.gr_imports.specs.Files.{group_items}
 use Rattle.gr_stmt.specs.Simple.{binary_of}
 use Rattle.gr_declared.specs.Bound.{result_types}
 use Rattle.gr_object.specs.Lines.{Line, FunctionName, Duplicate, Load, Pop, Operate, Jump, JumpUnless, JumpBack, Zero, Set, BlankAddress, End, line_if_known, pops}

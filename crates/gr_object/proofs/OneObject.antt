@@ -13,8 +13,7 @@ use Rattle.gr_scope.specs.declared.model.Purpose.TheVariants as purpose
 use Rattle.gr_scope.specs.Bindings.{Layout, Names, IsBoundTo, use_bound, own, may_declare, is_use, is_left_name}
 use Rattle.gr_scope.specs.Table.{StandsAt}
 use Rattle.gr_scope.specs.WellFormed.{WellFormed}
-use Rattle.gr_stages.specs.Files.{HasLiteral}
-use Rattle.gr_stages.specs.Clauses.{package_name}
+use Rattle.gr_imports.specs.Files.{HasLiteral, package_name}
 use Rattle.gr_stmt.specs.Declarations.{check_file}
 use Rattle.gr_declared.specs.Package.{Package, spelled}
 use Rattle.gr_declared.specs.Written.{BindsToken, ImportsPath}

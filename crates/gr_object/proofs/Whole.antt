@@ -11,7 +11,7 @@ use Rattle.std.proofs.lemmas.Option.{none-some, same_Some, slice_get-map, slice_
 use Rattle.gr_text.specs.Workspace.{path_cmp}
 use Rattle.gr_tree.specs.Tree.{FileTree}
 use Rattle.gr_tree.specs.SourceFile.{SourceFile}
-use Rattle.gr_stages.specs.Clauses.{package_name}
+use Rattle.gr_imports.specs.Files.{package_name}
 use Rattle.gr_expr.specs.declared.found.MemberUse.{MemberUse}
 use Rattle.gr_expr.specs.Found.{use_of}
 use Rattle.gr_declared.specs.Package.{Package}

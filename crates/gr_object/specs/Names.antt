@@ -4,7 +4,7 @@ use Rattle.std.specs.List.{flat_map}
 use Rattle.std.specs.Cmp.Lexicographic.{pointwise}
 use Rattle.gr_tree.specs.Tree.{Item, FieldTree, BodyTree, Other, Struct, ReceiverTree}
 use Rattle.gr_tree.specs.SourceFile.{SourceFile}
-use Rattle.gr_stages.specs.Scoping.{init_name}
+use Rattle.gr_imports.specs.Laid.{init_name}
 use Rattle.gr_expr.specs.declared.symbol.Symbol.{Symbol}
 use Rattle.gr_declared.specs.Package.{PlacedType, PlacedFunction, declared_types, declared_functions, spelled_at}
 use Rattle.gr_object.specs.Lines.{GlobalName, FunctionName, Plain, Method, Initializer}

@@ -4,7 +4,7 @@ use Rattle.std.specs.List.{flat_map}
 use Rattle.std.specs.Global.{Vec}
 use Rattle.gr_tree.specs.Tree.{FileTree}
 use Rattle.gr_tree.specs.SourceFile.{SourceFile}
-use Rattle.gr_stages.specs.Clauses.{package_name}
+use Rattle.gr_imports.specs.Files.{package_name}
 use Rattle.gr_expr.specs.declared.found.MemberUse.{MemberUse}
 use Rattle.gr_declared.specs.Package.{Package}
 use Rattle.gr_meanings.specs.MemberUses.{AreMemberUses, uses_in}

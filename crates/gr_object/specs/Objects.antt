@@ -5,7 +5,7 @@ use Rattle.gr_tree.specs.Tree.{Item, TypeTree, BasicTree, Integer, String, Globa
 use Rattle.gr_expr.specs.Types.{PlainType}
 use Rattle.gr_expr.specs.World.{World}
 use Rattle.gr_expr.specs.Judge.{judge_type, named_type}
-use Rattle.gr_stages.specs.Files.{group_items}
+use Rattle.gr_imports.specs.Files.{group_items}
 use Rattle.gr_stmt.specs.Headers.{starred}
 use Rattle.gr_declared.specs.Bound.{parameter_types, result_types}
 use Rattle.gr_object.specs.Lines.{GlobalName, FunctionName, Line}

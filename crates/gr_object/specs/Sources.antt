@@ -7,8 +7,7 @@ use Rattle.gr_scope.specs.declared.model.Role.TheVariants.{NotLexical}
 use Rattle.gr_scope.specs.declared.model.Purpose.TheVariants as purpose
 use Rattle.gr_scope.specs.Bindings.{IsPackageLevel}
 use Rattle.gr_scope.specs.Table.{IsFoundAt}
-use Rattle.gr_stages.specs.Files.{HasLiteral}
-use Rattle.gr_stages.specs.Clauses.{package_name}
+use Rattle.gr_imports.specs.Files.{HasLiteral, package_name}
 use Rattle.gr_expr.specs.declared.symbol.Symbol.{Symbol}
 use Rattle.gr_expr.specs.Types.{PlainType}
 use Rattle.gr_expr.specs.Judge.{MemberUse}

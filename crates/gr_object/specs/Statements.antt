@@ -8,7 +8,7 @@ use Rattle.gr_tree.specs.declared.syntax.StepOp.TheVariants as step
 use Rattle.gr_tree.specs.Tree.{Item, Group, IdentTree, Named, Underscore, TypeTree, ExprTree, Number, Text, Name, Blank, Composite, Paren, Prefix, Address, Chain, Binary, SimpleTree, Alone, Step, Update, Assign, Define, LocalTree, InitTree, ForTree, forever, while, clauses, StatementTree, Empty, Var, Simple, Inner, If, For, Break, Continue, Return, BlockTree, block, StatementTrees, no_statement, statement, IfTree, if_tree, ElseTree, no_else, else_if, else_block}
 use Rattle.gr_expr.specs.World.{World, Bound, Local, Means, BrokenVariable, BrokenFunction, BrokenType}
 use Rattle.gr_expr.specs.Judge.{judge_type}
-use Rattle.gr_stages.specs.Files.{group_items}
+use Rattle.gr_imports.specs.Files.{group_items}
 use Rattle.gr_stmt.specs.Simple.{binary_of}
 use Rattle.gr_object.specs.Lines.{Line, line_if_known, pops}
 use Rattle.gr_object.specs.Lines as line

@@ -3,7 +3,7 @@ ghost use Rattle.std.specs.Prelude.{◌≡◌, ◌≤◌, ◌++◌, ◌∷◌, [
 ghost use Rattle.std.specs.List.{flat_map};
 ghost use Rattle.gr_tree.specs.View.{list_view, option_view, group_view, type_view};
 ghost use Rattle.gr_tree.specs.FileView.{same_place, basic_view, body_view, decl_view, field_view, func_view, global_view, type_spec_view, var_values_view};
-ghost use Rattle.gr_stages.specs.Files.{group_items};
+ghost use Rattle.gr_imports.specs.Files.{group_items};
 ghost use Rattle.gr_expr.specs.Judge.{judge_type};
 ghost use Rattle.gr_expr.specs.View.{type_of};
 ghost use Rattle.gr_expr.specs.WorldView.{world_of};

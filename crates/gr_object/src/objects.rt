@@ -2,8 +2,8 @@
 ghost use Rattle.std.specs.Prelude.{◌≡◌, ◌<◌, ◌≤◌, ◌++◌, ℕ, List, IfOk, OnOk, Some, length, map, slice_get};
 ghost use Rattle.gr_tree.specs.SourceFile.{SourceFile, source_of};
 ghost use Rattle.gr_scope.specs.Scoped.{scoped};
-ghost use Rattle.gr_stages.specs.Clauses.{package_name};
-ghost use Rattle.gr_stages.specs.PackageNames.{IsLaidOver};
+ghost use Rattle.gr_imports.specs.Files.{package_name};
+ghost use Rattle.gr_imports.specs.PackageNames.{IsLaidOver};
 ghost use Rattle.gr_expr.specs.WorldView.{world_of, name_in, spelling_of};
 ghost use Rattle.gr_meanings.specs.BoundsView.{AreBounds};
 ghost use Rattle.gr_meanings.specs.PackageOf.{package_in};
@@ -29,10 +29,10 @@ use gr_declared::{Index, Interfaces, Package, broken_definitions};
 use gr_expr::found::MemberUse;
 use gr_expr::symbol::SharedPath;
 use gr_expr::world::{Bound, Definition, Name, World};
+use gr_imports::lay_names;
 use gr_meanings::{Bounds, bounds_of, file_names, one_world};
 use gr_scope::declare::declare;
 use gr_scope::table::ScopeTable;
-use gr_stages::lay_names;
 use gr_tree::FileTree;
 use std::alloc::{AllocError, Global};
 

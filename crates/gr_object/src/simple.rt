@@ -4,7 +4,7 @@ ghost use Rattle.std.specs.List.{flat_map};
 ghost use Rattle.gr_tree.specs.View.{expr_view, exprs_view, option_view, list_view, group_view, ident_view, type_view};
 ghost use Rattle.gr_tree.specs.FileView.{simple_view, local_view, init_view};
 ghost use Rattle.gr_expr.specs.WorldView.{bound_of};
-ghost use Rattle.gr_stages.specs.Files.{group_items};
+ghost use Rattle.gr_imports.specs.Files.{group_items};
 ghost use Rattle.gr_stmt.specs.Simple.{binary_of};
 ghost use Rattle.gr_expr.specs.Judge.{judge_type};
 ghost use Rattle.gr_object.specs.Lines.{line_if_known};

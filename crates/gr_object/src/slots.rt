@@ -4,7 +4,7 @@ ghost use Rattle.std.specs.List.{flat_map};
 ghost use Rattle.gr_tree.specs.View.{expr_view, exprs_view, list_view, ident_view, group_view, option_view};
 ghost use Rattle.gr_tree.specs.FileView.{local_view, simple_view, init_view, for_view, stmt_view, block_view, if_view, else_view, receiver_view, param_view, func_view};
 ghost use Rattle.gr_expr.specs.WorldView.{world_of};
-ghost use Rattle.gr_stages.specs.Files.{group_items};
+ghost use Rattle.gr_imports.specs.Files.{group_items};
 ghost use Rattle.gr_stmt.specs.Sides.{declares, defined_name, ident_place, named};
 ghost use Rattle.gr_object.specs.Slots.{receiver_places, parameter_places, local_places, simple_places, optional_places, init_places, header_places, statement_places, block_places, if_places, else_places, slots_of};
 

@@ -3,8 +3,8 @@ use Rattle.std.proofs.Common.{◌≡◌, false, List, [], ◌∷◌, refl}
 use Rattle.std.specs.Prelude.{Some, None}
 use Rattle.gr_tree.specs.Tree.{Item, ExprTree, Name, Number, Define, forever, clauses, StatementTree, If, For, Break, Continue, BlockTree, block, no_statement, statement, if_tree, no_else}
 use Rattle.gr_text.specs.declared.fault_kind.FaultKind.TheVariants as kind
-use Rattle.gr_stages.specs.declared.states.ImportState.TheVariants as states
-use Rattle.gr_stages.specs.Imports.{import_fault}
+use Rattle.gr_imports.specs.declared.states.ImportState.TheVariants as states
+use Rattle.gr_imports.specs.States.{import_fault}
 use Rattle.gr_stages.specs.Marks.{Defines, Stray, statement_marks, statements_marks, block_marks, if_marks, else_marks, simple_marks, for_marks}
 
 abbrev lone : StatementTree → BlockTree

@@ -2,5 +2,4 @@
 pub mod Used
 pub mod MarkParts
 pub mod UnknownParts
-pub mod NameParts
 mod Examples

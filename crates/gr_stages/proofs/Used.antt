@@ -4,7 +4,8 @@ use Rattle.std.specs.Prelude.{Option, Some, None}
 use Rattle.std.proofs.Math.ListN.{set, length-set}
 use Rattle.std.proofs.lemmas.Bool.{cases_lt}
 use Rattle.gr_scope.specs.Bindings.{IsUse, IsBoundTo}
-use Rattle.gr_stages.specs.Scoping.{Laid, IsUsedBelow, AreUsed}
+use Rattle.gr_stages.specs.Scoping.{IsUsedBelow, AreUsed}
+use Rattle.gr_imports.specs.Laid.{Laid}
 
 later : (p : Laid) (n d : ℕ) → IsUsedBelow p n d → IsUsedBelow p (n + 1) d
 later p n d h = record { user = h.user; below = (let lt : h.user < n = h.below in omega arith); is_use = h.is_use; bound = h.bound }

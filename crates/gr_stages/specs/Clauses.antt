@@ -1,20 +1,15 @@
 -- The faults of package clauses: a name that differs from that of the package's first file.
-use Rattle.std.specs.Prelude.{ℕ, ◌≡◌, ◌≢◌, List, [], ◌∷◌}
+use Rattle.std.specs.Prelude.{ℕ, ◌≡◌, ◌≢◌, List}
 use Rattle.gr_text.specs.declared.fault_kind.FaultKind.TheVariants as kind
 use Rattle.gr_fault.specs.declared.fault.Fault.{Fault}
 use Rattle.gr_fault.specs.Listing.{SomeOf}
 use Rattle.gr_tree.specs.SourceFile.{SourceFile}
-use Rattle.gr_stages.specs.Files.{Ranked, ranked, clause_name}
+use Rattle.gr_imports.specs.Files.{Ranked, ranked, clause_name, package_name}
 
 -- the name in a file's clause is not that one
 pub record IsFaultOfClause (name : List ℕ) (r : Ranked) (f : Fault) : Type 0 where
   pub at : f ≡ record { file = r.0; token = r.1.tree.name; kind = kind.Package }
   pub differs : clause_name r.1 ≢ name
-
--- the package's name: that in the clause of its first file
-abbrev pub package_name : List SourceFile → List ℕ
-package_name [] = []
-package_name (s ∷ others) = clause_name s
 
 abbrev pub IsClauseFault : List SourceFile → Fault → Type 0
 IsClauseFault files = SomeOf (IsFaultOfClause (package_name files)) (ranked files)

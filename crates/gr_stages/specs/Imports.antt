@@ -1,22 +1,13 @@
 -- The faults of imports: at the literal of a path that is missing, on a cycle, or has faults.
-use Rattle.std.specs.Prelude.{ℕ, ◌≡◌, List, map, Option, Some, None}
+use Rattle.std.specs.Prelude.{ℕ, ◌≡◌, List, map, Some}
 use Rattle.std.specs.List.{flat_map}
-use Rattle.gr_text.specs.declared.fault_kind.FaultKind.{FaultKind}
-use Rattle.gr_text.specs.declared.fault_kind.FaultKind.TheVariants as kind
 use Rattle.gr_fault.specs.declared.fault.Fault.{Fault}
 use Rattle.gr_fault.specs.Listing.{SomeOf}
 use Rattle.gr_tree.specs.Tree.{ImportTree}
 use Rattle.gr_tree.specs.SourceFile.{SourceFile}
-use Rattle.gr_stages.specs.declared.states.ImportState.{ImportState}
-use Rattle.gr_stages.specs.declared.states.ImportState.TheVariants.{Missing, OnCycle, Faulty, Good}
-use Rattle.gr_stages.specs.Files.{Ranked, ranked, imports_in, HasLiteral}
-
--- what is wrong with an import of such a path
-abbrev pub import_fault : ImportState → Option FaultKind
-import_fault Missing = Some kind.Missing
-import_fault OnCycle = Some kind.Cycle
-import_fault Faulty = Some kind.Import
-import_fault Good = None
+use Rattle.gr_imports.specs.declared.states.ImportState.{ImportState}
+use Rattle.gr_imports.specs.States.{import_fault}
+use Rattle.gr_imports.specs.Files.{Ranked, ranked, imports_in, HasLiteral}
 
 -- an import, in a file of that rank
 abbrev pub PlacedImport : Type 0

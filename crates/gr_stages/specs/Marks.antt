@@ -9,8 +9,8 @@ use Rattle.gr_tree.specs.SourceFile.{SourceFile}
 use Rattle.gr_tree.specs.Tree.{Item, ExprTree, Number, Text, Name, Blank, Composite, Paren, Prefix, Address, Chain, Binary, SimpleTree, Alone, Step, Update, Assign, Define, InitTree, ForTree, forever, while, clauses, StatementTree, Empty, Var, Simple, Inner, If, For, Break, Continue, Return, BlockTree, block, StatementTrees, no_statement, statement, IfTree, if_tree, ElseTree, no_else, else_if, else_block, DeclTree, VarDecl, TypeDecl, FuncDecl, FileTree}
 use Rattle.gr_scope.specs.Bindings.{Declares}
 use Rattle.gr_scope.specs.Table.{IsFoundAt}
-use Rattle.gr_stages.specs.Files.{Ranked, ranked}
-use Rattle.gr_stages.specs.Scoping.{Laid}
+use Rattle.gr_imports.specs.Files.{Ranked, ranked}
+use Rattle.gr_imports.specs.Laid.{Laid}
 
 -- a `:=` with its left sides and its place, or a `break` or `continue` outside of a `for`
 pub data Mark : Type 0 where

@@ -14,17 +14,7 @@ use Rattle.gr_scope.specs.declared.model.Purpose.TheVariants as purpose
 use Rattle.gr_scope.specs.Scoped.{ScopedPackage, layout_in, names_in}
 use Rattle.gr_fault.specs.Listing.{Below}
 use Rattle.gr_scope.specs.Bindings.{Layout, Names, IsPackageLevel, IsImport, IsUse, IsBoundTo, Declares, Counts}
-use Rattle.gr_stages.specs.Files.{HasLiteral}
-
--- the identifiers of a package, laid out: so many, with their names
-pub record Laid : Type 0 where
-  pub layout : Layout
-  pub names : Names
-  pub size : ℕ
-
--- those of a table
-abbrev pub laid_in : ScopedPackage → Laid
-laid_in t = record { layout = layout_in t; names = names_in t; size = length t.sites }
+use Rattle.gr_imports.specs.Files.{HasLiteral}
 
 abbrev pub fault_at : Layout → ℕ → FaultKind → Fault
 fault_at l u k = record { file = (l.place u).file; token = (l.place u).index; kind = k }
@@ -35,10 +25,6 @@ pub record IsUndeclared (p : Laid) (u : ℕ) (f : Fault) : Type 0 where
   pub is_use : IsUse p.layout p.names u
   pub unbound : (d : ℕ) → IsBoundTo p.layout p.names u d → ⊥
 
--- no variable and no type of a package is named so
-abbrev pub init_name : List ℕ
-init_name = codes "init"
-
 -- a declaration that does not count, or a package-level one of the name `init`
 abbrev pub IsRepetition : Laid → ℕ → Type 0
 IsRepetition p u = (Declares p.layout p.names u × (Counts p.layout p.names u → ⊥)) ⊎ (IsPackageLevel p.layout u × (p.names u ≡ init_name))
@@ -46,14 +32,6 @@ IsRepetition p u = (Declares p.layout p.names u × (Counts p.layout p.names u �
 pub record IsRepeated (p : Laid) (u : ℕ) (f : Fault) : Type 0 where
   pub at : f ≡ fault_at p.layout u kind.Repeated
   pub repeats : IsRepetition p u
-
-abbrev pub is_literal : Role → Bool
-is_literal (NotLexical purpose.ImportPath) = true
-is_literal r = false
-
--- where an import's literal stands: behind its name, or where it has none in its own place
-abbrev pub literal_of : Layout → ℕ → ℕ
-literal_of l d = if is_literal (l.role (d + 1)) then d + 1 else d
 
 -- one of the identifiers below n is a use of d
 pub record IsUsedBelow (p : Laid) (n d : ℕ) : Type 0 where
@@ -75,14 +53,6 @@ pub record AreUsed (p : Laid) (n : ℕ) (used : List Bool) : Type 0 where
 
 -- Names behind the name of a package
 
--- whether a name's first character is of category Lu
-abbrev pub is_upper_at : Option ℕ → Bool
-is_upper_at None = false
-is_upper_at (Some c) = general_category_eq (general_category c) UppercaseLetter
-
-unfoldable pub is_exported : List ℕ → Bool
-is_exported name = is_upper_at (decoded name).char
-
 -- u stands behind a dot behind the use b, which is bound to the import d
 pub record IsQualified (p : Laid) (b u d : ℕ) : Type 0 where
   pub selected : p.layout.role u ≡ NotLexical purpose.Selected
@@ -91,12 +61,6 @@ pub record IsQualified (p : Laid) (b u d : ℕ) : Type 0 where
   pub behind_dot : (p.layout.place u).index ≡ (p.layout.place b).index + 2
   pub bound : IsBoundTo p.layout p.names b d
   pub is_import : IsImport p.layout d
-
--- the path that an import names
-pub record IsPathOf (files : List SourceFile) (p : Laid) (d : ℕ) (path : List ℕ) : Type 0 where
-  pub source : SourceFile
-  pub is_file : slice_get files (p.layout.place d).file ≡ Some source
-  pub has_literal : HasLiteral source (p.layout.place (literal_of p.layout d)).index path
 
 abbrev pub qualified_fault : (exported found : Bool) → Option FaultKind
 qualified_fault false found = Some kind.Unexported

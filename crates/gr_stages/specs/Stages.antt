@@ -4,10 +4,11 @@ use Rattle.std.specs.Prelude.{ℕ, ◌⊎◌, Bool, List}
 use Rattle.gr_fault.specs.declared.fault.Fault.{Fault}
 use Rattle.gr_fault.specs.Stage.{FirstOf}
 use Rattle.gr_tree.specs.SourceFile.{SourceFile}
-use Rattle.gr_stages.specs.declared.states.ImportState.{ImportState}
+use Rattle.gr_imports.specs.declared.states.ImportState.{ImportState}
 use Rattle.gr_stages.specs.Clauses.{IsClauseFault}
 use Rattle.gr_stages.specs.Imports.{IsImportFault}
-use Rattle.gr_stages.specs.Scoping.{Laid, IsScopeFault, IsUnknownFault}
+use Rattle.gr_stages.specs.Scoping.{IsScopeFault, IsUnknownFault}
+use Rattle.gr_imports.specs.Laid.{Laid}
 use Rattle.gr_stages.specs.Marks.{IsMarkFault}
 
 -- the faults of package clauses, or without one those of imports

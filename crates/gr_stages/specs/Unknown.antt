@@ -6,7 +6,8 @@ use Rattle.gr_tree.specs.SourceFile.{SourceFile}
 use Rattle.gr_scope.specs.declared.model.Role.TheVariants.{NotLexical}
 use Rattle.gr_scope.specs.declared.model.Purpose.TheVariants as purpose
 use Rattle.gr_scope.specs.Bindings.{IsBoundTo, IsImport}
-use Rattle.gr_stages.specs.Scoping.{Laid, IsPathOf, IsQualified, is_exported, qualified_fault}
+use Rattle.gr_stages.specs.Scoping.{IsQualified, qualified_fault}
+use Rattle.gr_imports.specs.Laid.{Laid, IsPathOf, is_exported}
 
 -- an identifier's fault, if that kind is one
 pub record IsFaultOfKind (p : Laid) (u : ℕ) (kind : Option FaultKind) (f : Fault) : Type 0 where

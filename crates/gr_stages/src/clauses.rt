@@ -2,11 +2,11 @@
 ghost use Rattle.std.specs.Prelude.{ℕ, List, ◌≡◌, ◌↔◌, IsTrue, OnOk, map};
 ghost use Rattle.gr_fault.specs.Listing.{Adds};
 ghost use Rattle.gr_tree.specs.SourceFile.{source_of};
-ghost use Rattle.gr_stages.specs.Files.{clause_name};
+ghost use Rattle.gr_imports.specs.Files.{clause_name};
 ghost use Rattle.gr_stages.specs.Clauses.{IsFaultOfClause, IsClauseFault};
 
-use crate::files::{clause_name, clause_token};
 use gr_fault::{Fault, push};
+use gr_imports::{clause_name, clause_token};
 use gr_text::FaultKind;
 use gr_tree::FileTree;
 use std::alloc::AllocError;

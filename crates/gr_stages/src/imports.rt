@@ -3,13 +3,12 @@ ghost use Rattle.std.specs.Prelude.{ℕ, List, ◌≡◌, OnOk, map};
 ghost use Rattle.gr_fault.specs.Listing.{Adds, AddsEach};
 ghost use Rattle.gr_tree.specs.FileView.{import_view, imports_view};
 ghost use Rattle.gr_tree.specs.SourceFile.{source_of};
-ghost use Rattle.gr_stages.specs.Files.{group_items};
-ghost use Rattle.gr_stages.specs.States.{state_in};
+ghost use Rattle.gr_imports.specs.Files.{group_items};
+ghost use Rattle.gr_imports.specs.States.{state_in};
 ghost use Rattle.gr_stages.specs.Imports.{IsFaultOfImport, IsFaultOfState, IsImportFault, placed_imports};
 
-use crate::files::literal;
-use crate::states::{ImportState, ImportStates};
 use gr_fault::{Fault, push};
+use gr_imports::{ImportState, ImportStates, literal};
 use gr_tree::FileTree;
 use gr_tree::tree::{Group, ImportDecl, ImportSpec};
 use std::alloc::{AllocError, Global};

@@ -5,7 +5,7 @@ ghost use Rattle.gr_fault.specs.Listing.{Adds, AddsEach};
 ghost use Rattle.gr_tree.specs.View.{expr_view, exprs_view, option_view};
 ghost use Rattle.gr_tree.specs.FileView.{simple_view, init_view, for_view, stmt_view, block_view, if_view, else_view, decl_view};
 ghost use Rattle.gr_tree.specs.SourceFile.{source_of};
-ghost use Rattle.gr_stages.specs.Scoping.{laid_in};
+ghost use Rattle.gr_imports.specs.Laid.{laid_in};
 ghost use Rattle.gr_stages.specs.Marks.{Defines, DeclaresName, SomeDeclares, IsFaultOfMark, IsFaultOfMarks, IsMarkFault, decl_marks, simple_marks, optional_marks, init_marks, for_marks, stray, statement_marks, block_marks, if_marks, else_marks};
 
 use crate::table::declares_at;

@@ -2,11 +2,13 @@
 ghost use Rattle.std.specs.Prelude.{ℕ, ◌≡◌, ◌<◌, ◌↔◌, IsTrue, OnOk};
 ghost use Rattle.gr_fault.specs.Listing.{Adds};
 ghost use Rattle.gr_scope.specs.Bindings.{IsImport};
-ghost use Rattle.gr_stages.specs.Scoping.{laid_in, AreUsed, IsUsedBelow, IsUndeclared, IsRepeated, IsUnused, IsFaultOfIdentifier, IsScopeFault};
+ghost use Rattle.gr_stages.specs.Scoping.{AreUsed, IsUsedBelow, IsUndeclared, IsRepeated, IsUnused, IsFaultOfIdentifier, IsScopeFault};
+ghost use Rattle.gr_imports.specs.Laid.{laid_in};
 
-use crate::table::{fault_at, is_import, is_repetition, is_undeclared, literal_of};
+use crate::table::{fault_at, is_repetition, is_undeclared};
 use crate::uses::uses;
 use gr_fault::{Fault, push_if};
+use gr_imports::{is_import, literal_of};
 use gr_scope::table::ScopeTable;
 use gr_text::FaultKind;
 use std::alloc::{AllocError, Global};

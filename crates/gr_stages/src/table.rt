@@ -1,11 +1,12 @@
 //! What a table says of an identifier, by its number.
 ghost use Rattle.std.specs.Prelude.{ℕ, ◌≡◌, ◌<◌, ◌↔◌, ◌⊎◌, IsTrue, MatchOption};
-ghost use Rattle.gr_scope.specs.Bindings.{IsUse, IsBoundTo, IsImport, IsPackageLevel, Declares, Counts};
-ghost use Rattle.gr_stages.specs.Scoping.{laid_in, fault_at, init_name, is_literal, literal_of, IsRepetition};
+ghost use Rattle.gr_scope.specs.Bindings.{IsUse, IsBoundTo, IsPackageLevel, Declares, Counts};
+ghost use Rattle.gr_stages.specs.Scoping.{fault_at, IsRepetition};
+ghost use Rattle.gr_imports.specs.Laid.{laid_in, init_name};
 ghost use Rattle.gr_stages.specs.Marks.{DeclaresAt};
 
 use gr_fault::Fault;
-use gr_scope::model::{Block, Position, Purpose, Role};
+use gr_scope::model::{Block, Position};
 use gr_scope::table::ScopeTable;
 use gr_text::FaultKind;
 
@@ -85,40 +86,6 @@ pub(crate) fn is_repetition(table: &ScopeTable, u: usize) -> bool
     ensures { IsTrue result ↔ IsRepetition (laid_in table.now) u }
 {
     is_displaced(table, u) || is_init(table, u)
-}
-
-/// Whether an identifier is declared in the block of a file.
-pub fn is_import(table: &ScopeTable, u: usize) -> bool
-    requires { u < (laid_in table.now).size }
-    ensures { IsTrue result ↔ IsImport (laid_in table.now).layout u }
-{
-    match table.role(u).block() {
-        Block::File(_) => true,
-        Block::Universe | Block::Package | Block::Inner(_, _, _) => false,
-    }
-}
-
-/// Whether a role is that of the literal of an import with a name.
-fn is_literal(role: Role) -> bool
-    ensures { result ≡ is_literal role }
-{
-    match role {
-        Role::NotLexical(Purpose::ImportPath) => true,
-        _ => false,
-    }
-}
-
-/// The identifier that stands for an import's literal: the next one where the import has a name, else itself.
-pub(crate) fn literal_of(table: &ScopeTable, d: usize) -> usize
-    requires { d < (laid_in table.now).size }
-    ensures literal { result ≡ literal_of (laid_in table.now).layout d }
-    ensures in_range { result < (laid_in table.now).size }
-{
-    if 1 < table.len() - d && is_literal(table.role(d + 1)) {
-        d + 1
-    } else {
-        d
-    }
 }
 
 /// Whether the identifier at a token declares.

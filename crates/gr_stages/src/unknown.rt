@@ -1,16 +1,16 @@
 //! The faults of names behind a package's: not exported, or not declared there.
-ghost use Rattle.std.specs.Prelude.{ℕ, List, ◌≡◌, ◌<◌, ◌↔◌, suc, IsTrue, IfOk, OnOk, MatchOption, map};
+ghost use Rattle.std.specs.Prelude.{ℕ, List, ◌≡◌, ◌<◌, ◌↔◌, suc, IsTrue, OnOk, MatchOption, map};
 ghost use Rattle.gr_fault.specs.Listing.{Adds};
 ghost use Rattle.gr_tree.specs.SourceFile.{source_of};
 ghost use Rattle.gr_scope.specs.declared.model.Role.TheVariants.{NotLexical};
 ghost use Rattle.gr_scope.specs.declared.model.Purpose.TheVariants as purpose;
-ghost use Rattle.gr_stages.specs.Scoping.{laid_in, IsPathOf, IsUnknown, IsUnknownFault};
+ghost use Rattle.gr_stages.specs.Scoping.{qualified_fault, IsUnknown, IsUnknownFault};
+ghost use Rattle.gr_imports.specs.Laid.{laid_in, is_exported};
 ghost use Rattle.gr_stages.specs.Unknown.{IsFaultOfKind, IsUnknownOf, IsBehind, IsOfImport, IsQualifiedBy};
 
-use crate::exports::{Exports, qualified_fault};
-use crate::files::literal;
-use crate::table::{binding, fault_at, is_import, literal_of};
+use crate::table::{binding, fault_at};
 use gr_fault::{Fault, push};
+use gr_imports::{Exports, is_exported, is_import, path_of};
 use gr_scope::model::{Purpose, Role};
 use gr_scope::table::ScopeTable;
 use gr_text::FaultKind;
@@ -68,22 +68,16 @@ fn qualifier_of(table: &ScopeTable, u: usize) -> Option<usize>
     }
 }
 
-/// The path that an import names.
-pub fn path_of(
-    alloc: Global,
-    table: &ScopeTable,
-    files: &[FileTree],
-    d: usize,
-) -> Result<Option<Vec<u8>>, AllocError>
-    requires { d < (laid_in table.now).size }
-    ensures { IfOk result (λ path. MatchOption path ((v : List ℕ) → IsPathOf (map source_of files.now) (laid_in table.now) d v → ⊥)
-        (λ v. IsPathOf (map source_of files.now) (laid_in table.now) d v.items)) }
+/// What is wrong with a name of the package of a path.
+fn qualified_fault<E: Exports>(exports: &E, path: &[u8], name: &[u8]) -> Option<FaultKind>
+    ensures { result ≡ qualified_fault (is_exported name.now) (E.exported exports.now path.now name.now) }
 {
-    let file = table.place(d).file;
-    if file < files.len() {
-        literal(alloc, &files[file], table.place(literal_of(table, d)).index)
+    if !is_exported(name) {
+        Some(FaultKind::Unexported)
+    } else if !exports.exports(path, name) {
+        Some(FaultKind::Undeclared)
     } else {
-        Ok(None)
+        None
     }
 }
 

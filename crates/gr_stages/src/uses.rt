@@ -1,7 +1,8 @@
 //! Which identifiers of a table are used.
 ghost use Rattle.std.specs.Prelude.{ℕ, ◌≡◌, ◌<◌, true, length, slice_set, IfOk, MatchOption};
 ghost use Rattle.gr_scope.specs.Bindings.{IsUse, IsBoundTo};
-ghost use Rattle.gr_stages.specs.Scoping.{laid_in, AreUsed};
+ghost use Rattle.gr_stages.specs.Scoping.{AreUsed};
+ghost use Rattle.gr_imports.specs.Laid.{laid_in};
 
 use crate::table::{binding, is_name_use};
 use gr_scope::table::ScopeTable;

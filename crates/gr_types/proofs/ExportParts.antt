@@ -7,7 +7,7 @@ use Rattle.std.specs.Cmp.Lexicographic.{slice_cmp}
 use Rattle.std.specs.Ordering.{nat_cmp}
 use Rattle.std.proofs.lemmas.Bool.{cases_lt, cases_order}
 use Rattle.std.proofs.lemmas.Option.{slice_get_past, slice_get_within, same_Some, none-some}
-use Rattle.gr_stages.proofs.UnknownParts.{source_at}
+use Rattle.gr_imports.proofs.PathParts.{source_at}
 use Rattle.gr_scope.specs.declared.model.Block.{Block}
 use Rattle.gr_scope.specs.declared.model.Block.TheVariants as block
 use Rattle.gr_tree.specs.SourceFile.{FileParts, source_of, offset_of}

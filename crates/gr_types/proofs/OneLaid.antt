@@ -7,8 +7,8 @@ use Rattle.gr_tree.specs.SourceFile.{SourceFile, FileParts, source_of}
 use Rattle.gr_scope.specs.Named.{is_unnamed_import, named_sites, named_where}
 use Rattle.gr_scope.specs.Scoped.{ScopedPackage, scoped}
 use Rattle.gr_scope.specs.Site.{Site, found_site}
-use Rattle.gr_stages.specs.Scoping.{Laid, laid_in, IsPathOf}
-use Rattle.gr_stages.specs.PackageNames.{IsPackageName, IsLaidOver}
+use Rattle.gr_imports.specs.Laid.{Laid, laid_in, IsPathOf}
+use Rattle.gr_imports.specs.PackageNames.{IsPackageName, IsLaidOver}
 use Rattle.gr_declared.specs.Package.{Package, Interface}
 use Rattle.gr_meanings.specs.PackageOf.{IsPackageOf, package_in}
 use Rattle.gr_declared.proofs.ByteKeys.{cases_bytes}

@@ -8,7 +8,7 @@ use Rattle.gr_fault.specs.contracts.fault.FaultOrd.TheImpl as order
 use Rattle.gr_fault.specs.Listing.{Lists}
 use Rattle.gr_fault.specs.Stage.{HasNone, FirstOf}
 use Rattle.gr_tree.specs.SourceFile.{SourceFile, FileParts, source_of}
-use Rattle.gr_stages.specs.declared.states.ImportState.{ImportState}
+use Rattle.gr_imports.specs.declared.states.ImportState.{ImportState}
 use Rattle.gr_stages.specs.Clauses.{IsClauseFault}
 use Rattle.gr_stages.specs.Imports.{IsImportFault}
 use Rattle.gr_stages.specs.Stages.{IsOuterFault}

@@ -6,7 +6,7 @@ use Rattle.gr_expr.specs.Types.{PlainType, Signature}
 use Rattle.gr_expr.specs.World.{Field, Method}
 use Rattle.gr_expr.specs.World as plain
 use Rattle.gr_expr.specs.WorldView.{definition_of}
-use Rattle.gr_stages.specs.Scoping.{is_exported}
+use Rattle.gr_imports.specs.Laid.{is_exported}
 use Rattle.gr_declared.specs.Package.{Package, PlacedFunction, package_types, symbol_in, spelled}
 use Rattle.gr_declared.specs.Written.{IsTypeOf}
 use Rattle.gr_declared.specs.Definitions.{PlacedField, IsCountingField, IsCountingMethod, IsField, IsSignature, IsMethod, IsUnderlyingOf, is_on_pointer}

@@ -6,7 +6,7 @@ use Rattle.gr_fault.specs.contracts.fault.FaultOrd.TheImpl as order
 use Rattle.gr_fault.specs.Listing.{Lists}
 use Rattle.gr_fault.specs.Stage.{HasNone, FirstOf}
 use Rattle.gr_tree.specs.SourceFile.{FileParts, source_of}
-use Rattle.gr_stages.specs.declared.states.ImportState.{ImportState}
+use Rattle.gr_imports.specs.declared.states.ImportState.{ImportState}
 use Rattle.gr_stages.specs.Stages.{IsOuterFault, IsInnerFault, IsFaultIn}
 use Rattle.gr_types.specs.declared.checking.Checked.{Checked}
 use Rattle.gr_declared.specs.Package.{Package, Interface, laid_of}

@@ -6,8 +6,8 @@ use Rattle.gr_expr.specs.Types.{PlainType, Typed, Signature, Meaning, Value, Typ
 use Rattle.gr_expr.specs.World.{Bound}
 use Rattle.gr_expr.specs.World.{Means as Stands}
 use Rattle.gr_expr.specs.WorldView.{no_definition}
-use Rattle.gr_stages.specs.Clauses.{package_name}
-use Rattle.gr_stages.specs.Scoping.{is_exported}
+use Rattle.gr_imports.specs.Files.{package_name}
+use Rattle.gr_imports.specs.Laid.{is_exported}
 use Rattle.gr_declared.specs.Package.{Package, Interface, Export, PlacedType, package_types, symbol_in}
 use Rattle.gr_declared.specs.Bound.{IsMeantBy}
 use Rattle.gr_declared.specs.Definitions.{IsDefinition}

@@ -17,9 +17,9 @@ use gr_declared::{Function, Index, Package};
 use gr_expr::symbol::Symbol;
 use gr_expr::types::GoType;
 use gr_expr::world::{Definition, Field, Method, Underlying};
+use gr_imports::is_exported;
 use gr_meanings::{signature, whole_type};
 use gr_members::{FieldDef, Members, copy, own_struct};
-use gr_stages::is_exported;
 use std::alloc::{AllocError, Global};
 use std::collections::BTreeMap;
 

@@ -4,7 +4,7 @@ ghost use Rattle.gr_tree.specs.SourceFile.{source_of};
 ghost use Rattle.gr_scope.specs.Bindings.{Counts};
 ghost use Rattle.gr_scope.specs.Scoped.{layout_in, names_in};
 ghost use Rattle.gr_expr.specs.WorldView.{bound_of, bound_at};
-ghost use Rattle.gr_stages.specs.Clauses.{package_name};
+ghost use Rattle.gr_imports.specs.Files.{package_name};
 ghost use Rattle.gr_declared.specs.InterfacesView.{export_of, exports_at, meaning_of, interface_of};
 ghost use Rattle.gr_types.specs.Interfaces.{IsSeen, IsGlobalFound, IsExportFound, AreExportsBelow, IsExportedOnce, IsInterface};
 ghost use Rattle.gr_declared.specs.Bound.{IsMeantBy};
@@ -15,10 +15,10 @@ ghost use Rattle.gr_declared.specs.PackageView.{package_of};
 
 use gr_declared::{Export, ExportMeaning, Interface, Package, PackageScope};
 use gr_expr::world::{Bound, Definition};
+use gr_imports::is_exported;
 use gr_meanings::{Bounds, copy_signature, one_meaning};
 use gr_scope::model::Block;
 use gr_scope::table::ScopeTable;
-use gr_stages::is_exported;
 use std::alloc::{AllocError, Global};
 use std::collections::BTreeMap;
 

@@ -9,7 +9,7 @@ use Rattle.gr_text.specs.declared.fault_kind.FaultKind.{FaultKind}
 use Rattle.gr_text.specs.declared.fault_kind.FaultKind.TheVariants as kind
 use Rattle.gr_graph.specs.Packages.{PackageImports, itself, through}
 use Rattle.gr_graph.proofs.Asked.{has_file}
-use Rattle.gr_stages.specs.declared.states.ImportState.TheVariants.{Missing, OnCycle}
+use Rattle.gr_imports.specs.declared.states.ImportState.TheVariants.{Missing, OnCycle}
 use Rattle.gr_declared.specs.InterfacesView.{no_interface}
 use Rattle.gr_verdict.specs.declared.fault.FileFault.{FileFault}
 use Rattle.gr_verdict.specs.Faults.{fault_cmp}

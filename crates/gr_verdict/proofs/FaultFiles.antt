@@ -17,12 +17,13 @@ use Rattle.gr_scope.specs.Site.{Site, found_site, sites_layout}
 use Rattle.gr_scope.specs.Bindings.{Layout}
 use Rattle.gr_scope.proofs.NamedSites.{place_stays}
 use Rattle.gr_scope.proofs.PackageRegions.{each_at}
-use Rattle.gr_stages.specs.declared.states.ImportState.{ImportState}
-use Rattle.gr_stages.specs.Files.{Ranked, ranked, group_items, imports_in}
-use Rattle.gr_stages.specs.Clauses.{IsFaultOfClause, package_name, IsClauseFault}
+use Rattle.gr_imports.specs.declared.states.ImportState.{ImportState}
+use Rattle.gr_imports.specs.Files.{Ranked, ranked, group_items, imports_in, package_name}
+use Rattle.gr_stages.specs.Clauses.{IsFaultOfClause, IsClauseFault}
 use Rattle.gr_stages.specs.Imports.{PlacedImport, IsFaultOfImport, placed_imports, IsImportFault}
 use Rattle.gr_stages.specs.Marks.{Mark, Defines, Stray, file_marks, IsFaultOfMark, IsFaultOfMarks, IsMarkFault}
-use Rattle.gr_stages.specs.Scoping.{literal_of, IsFaultOfIdentifier}
+use Rattle.gr_stages.specs.Scoping.{IsFaultOfIdentifier}
+use Rattle.gr_imports.specs.Laid.{literal_of}
 use Rattle.gr_stages.specs.Stages.{IsOuterFault, IsInnerFault}
 use Rattle.gr_declared.specs.Package.{Package, laid_of, PlacedType, PlacedFunction, placed_type, decl_types, decl_functions, types_in, functions_in, package_types, package_functions}
 use Rattle.gr_declared.specs.Definitions.{PlacedField, body_fields, fields_from, package_fields}

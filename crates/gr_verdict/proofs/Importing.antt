@@ -19,10 +19,11 @@ use Rattle.gr_tree.specs.SourceFile.{SourceFile, FileParts, source_of}
 use Rattle.gr_graph.specs.FileImports.{paths_in, import_literals}
 use Rattle.gr_graph.specs.Packages.{IsParsed, ImportsPath, PackageImports}
 use Rattle.gr_graph.specs.Parsed.{AreParsed, none, tree}
-use Rattle.gr_stages.specs.declared.states.ImportState.{ImportState}
-use Rattle.gr_stages.specs.Files.{Ranked, group_items, imports_in, HasLiteral}
+use Rattle.gr_imports.specs.declared.states.ImportState.{ImportState}
+use Rattle.gr_imports.specs.Files.{Ranked, group_items, imports_in, HasLiteral}
 use Rattle.gr_stages.specs.Clauses.{IsClauseFault}
-use Rattle.gr_stages.specs.Imports.{PlacedImport, import_fault, IsFaultOfImport, placed_imports, IsImportFault}
+use Rattle.gr_stages.specs.Imports.{PlacedImport, IsFaultOfImport, placed_imports, IsImportFault}
+use Rattle.gr_imports.specs.States.{import_fault}
 use Rattle.gr_stages.specs.Stages.{IsOuterFault}
 use Rattle.gr_verdict.specs.Verdicts.{Verdicts, AreStates}
 use Rattle.gr_verdict.proofs.Alike.{first_as}

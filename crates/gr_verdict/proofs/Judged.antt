@@ -10,7 +10,7 @@ use Rattle.gr_fault.specs.Listing.{Lists}
 use Rattle.gr_fault.specs.Stage.{HasNone, FirstOf}
 use Rattle.gr_tree.specs.SourceFile.{FileParts, source_of}
 use Rattle.gr_graph.specs.Parsed.{AreParsed, none, tree}
-use Rattle.gr_stages.specs.declared.states.ImportState.{ImportState}
+use Rattle.gr_imports.specs.declared.states.ImportState.{ImportState}
 use Rattle.gr_stages.specs.Stages.{IsOuterFault}
 use Rattle.gr_types.specs.declared.checking.Checked.{Checked}
 use Rattle.gr_declared.specs.declared.interfaces.Interface.{Interface as FoundInterface}

@@ -6,7 +6,7 @@ use Rattle.std.proofs.lemmas.Option.{same_Some}
 use Rattle.gr_text.specs.Workspace.{Workspace}
 use Rattle.gr_text.specs.Packages.{package_paths}
 use Rattle.gr_graph.proofs.PackagePaths.{paths_sorted, one_number}
-use Rattle.gr_stages.specs.States.{state_in}
+use Rattle.gr_imports.specs.States.{state_in}
 use Rattle.gr_declared.specs.Package.{Interface}
 use Rattle.gr_declared.specs.InterfacesView.{name_in, interface_in, KnowsSame}
 use Rattle.gr_declared.specs.declared.interfaces.Interfaces.{Interfaces}

@@ -7,8 +7,8 @@ use Rattle.gr_text.specs.Packages.{package_paths}
 use Rattle.gr_graph.specs.Graphs.{HoldsPackages}
 use Rattle.gr_graph.specs.Packages.{PackageImports, IsInClosure}
 use Rattle.gr_graph.proofs.Asked.{number, at_contains}
-use Rattle.gr_stages.specs.declared.states.ImportState.{ImportState}
-use Rattle.gr_stages.specs.declared.states.ImportState.TheVariants.{Missing}
+use Rattle.gr_imports.specs.declared.states.ImportState.{ImportState}
+use Rattle.gr_imports.specs.declared.states.ImportState.TheVariants.{Missing}
 use Rattle.gr_declared.specs.InterfacesView.{Notes, name_in, interface_in}
 use Rattle.gr_declared.specs.declared.interfaces.Interfaces.{Interfaces}
 use Rattle.gr_declared.proofs.ByteKeys.{cases_bytes}

@@ -19,8 +19,8 @@ use Rattle.gr_scope.specs.WellFormed.{WellFormed}
 use Rattle.gr_scope.proofs.Declared.{file_numbered}
 use Rattle.gr_scope.proofs.NamedSites.{named_well_formed, package_level}
 use Rattle.gr_scope.proofs.PackageRegions.{package_well_formed}
-use Rattle.gr_stages.specs.PackageNames.{ArePackageNames}
-use Rattle.gr_stages.specs.Scoping.{Laid}
+use Rattle.gr_imports.specs.PackageNames.{ArePackageNames}
+use Rattle.gr_imports.specs.Laid.{Laid}
 use Rattle.gr_declared.specs.Package.{Package, Interface, Export, PlacedType, package_types}
 use Rattle.gr_types.specs.Interfaces.{IsExport, IsExported, IsInterface}
 use Rattle.gr_meanings.specs.Uniqueness.{AreInOrder}

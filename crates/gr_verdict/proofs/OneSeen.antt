@@ -4,7 +4,7 @@ use Rattle.std.specs.Prelude.{Option}
 use Rattle.std.proofs.Math.Path.{fun_ext}
 use Rattle.std.proofs.lemmas.Bool.{true≢false}
 use Rattle.gr_text.specs.Workspace.{Workspace}
-use Rattle.gr_stages.specs.declared.states.ImportState.{ImportState}
+use Rattle.gr_imports.specs.declared.states.ImportState.{ImportState}
 use Rattle.gr_declared.specs.Package.{Interface}
 use Rattle.gr_verdict.specs.Verdicts.{Verdicts, IsStateOf, is_missing, is_on_cycle, is_faulty, is_good, IsSeenAs, seen, unseen, AreSeen}
 use Rattle.gr_verdict.proofs.Closed.{from_package, to_package}

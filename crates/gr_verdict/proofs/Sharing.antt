@@ -7,8 +7,8 @@ use Rattle.gr_text.specs.Packages.{package_paths}
 use Rattle.gr_graph.specs.Graphs.{HoldsPackages}
 use Rattle.gr_graph.specs.Packages.{IsInClosure}
 use Rattle.gr_graph.proofs.Asked.{number}
-use Rattle.gr_stages.specs.States.{state_in}
-use Rattle.gr_stages.specs.declared.states.ImportState.TheVariants.{Missing}
+use Rattle.gr_imports.specs.States.{state_in}
+use Rattle.gr_imports.specs.declared.states.ImportState.TheVariants.{Missing}
 use Rattle.gr_declared.specs.InterfacesView.{name_in, interface_in, name_or_none, no_interface, KnowsSame}
 use Rattle.gr_declared.specs.declared.interfaces.Interfaces.{Interfaces}
 use Rattle.gr_declared.proofs.ByteKeys.{cases_bytes}

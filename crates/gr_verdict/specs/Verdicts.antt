@@ -10,8 +10,8 @@ use Rattle.gr_graph.specs.Packages.{PackageImports, IsInClosure}
 use Rattle.gr_graph.specs.Parsed.{AreParsed}
 use Rattle.gr_fault.specs.declared.fault.Fault.{Fault}
 use Rattle.gr_fault.specs.Stage.{FirstOf}
-use Rattle.gr_stages.specs.declared.states.ImportState.{ImportState}
-use Rattle.gr_stages.specs.declared.states.ImportState.TheVariants.{Missing, OnCycle, Faulty, Good}
+use Rattle.gr_imports.specs.declared.states.ImportState.{ImportState}
+use Rattle.gr_imports.specs.declared.states.ImportState.TheVariants.{Missing, OnCycle, Faulty, Good}
 use Rattle.gr_stages.specs.Stages.{IsOuterFault}
 use Rattle.gr_declared.specs.Package.{Package, Interface}
 use Rattle.gr_types.specs.Interfaces.{IsInterface}

@@ -3,8 +3,8 @@ ghost use Rattle.std.specs.Prelude.{ℕ, ◌≡◌, ◌<◌, List, length, IfOk,
 ghost use Rattle.gr_text.specs.Packages.{package_paths};
 ghost use Rattle.gr_graph.specs.Graphs.{OfPackage};
 ghost use Rattle.gr_graph.specs.Packages.{PackageImports, IsInClosure};
-ghost use Rattle.gr_stages.specs.States.{state_in};
-ghost use Rattle.gr_stages.specs.declared.states.ImportState.TheVariants.{Missing};
+ghost use Rattle.gr_imports.specs.States.{state_in};
+ghost use Rattle.gr_imports.specs.declared.states.ImportState.TheVariants.{Missing};
 ghost use Rattle.gr_declared.specs.InterfacesView.{name_in, interface_in};
 ghost use Rattle.gr_verdict.specs.Verdicts.{IsStateOf, AreStates, AreSeen};
 ghost use Rattle.gr_verdict.specs.Found.{known_by, AreWhole};
@@ -13,7 +13,7 @@ ghost use Rattle.gr_verdict.specs.Steps.{MayShare, KnowsSameOfOthers};
 use crate::reaching::reaches;
 use gr_declared::Interfaces;
 use gr_graph::Graph;
-use gr_stages::{ImportState, PackageNames};
+use gr_imports::{ImportState, PackageNames};
 use std::alloc::{AllocError, Global};
 
 /// Shares what all know of a package in the closure of another with what that one sees, if that one builds on it.

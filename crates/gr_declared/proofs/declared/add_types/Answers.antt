@@ -3,7 +3,7 @@ use Rattle.std.proofs.Common.{arith, ap, sym}
 use Rattle.std.specs.Prelude.{map}
 use Rattle.gr_tree.specs.View.{group_view}
 use Rattle.gr_tree.specs.FileView.{type_spec_view}
-use Rattle.gr_stages.specs.Files.{group_items}
+use Rattle.gr_imports.specs.Files.{group_items}
 use Rattle.gr_declared.specs.Package.{placed_type}
 use Rattle.gr_declared.specs.DeclaredView.{type_of}
 use Rattle.gr_declared.proofs.Appending.{appends_as, appends_all, appends_next, call_appends}

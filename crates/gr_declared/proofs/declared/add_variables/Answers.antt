@@ -3,7 +3,7 @@ use Rattle.std.proofs.Common.{arith, ap, sym, ◌∙◌, append-nil}
 use Rattle.std.specs.List.{flat_map}
 use Rattle.gr_tree.specs.View.{group_view}
 use Rattle.gr_tree.specs.FileView.{global_view}
-use Rattle.gr_stages.specs.Files.{group_items}
+use Rattle.gr_imports.specs.Files.{group_items}
 use Rattle.gr_declared.specs.Package.{variables_of}
 use Rattle.gr_declared.specs.DeclaredView.{variable_of}
 use Rattle.gr_declared.proofs.Appending.{appends_as, appends_all, appends_next, call_appends}

@@ -3,7 +3,7 @@ use Rattle.std.proofs.Common.{◌++◌, ap, ◌∙◌, map, drop}
 use Rattle.std.specs.List.{flat_map}
 use Rattle.gr_tree.specs.FileView.{decl_view, file_view}
 use Rattle.gr_tree.specs.SourceFile.{source_of as plain_file}
-use Rattle.gr_stages.proofs.UnknownParts.{source_at}
+use Rattle.gr_imports.proofs.PathParts.{source_at}
 use Rattle.gr_declared.specs.PackageView.{package_of}
 use Rattle.gr_object.specs.LineView.{function_of}
 use Rattle.gr_object.specs.Objects.{declared_in, names_behind_all}

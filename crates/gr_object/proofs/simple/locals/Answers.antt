@@ -4,7 +4,7 @@ use Rattle.std.specs.List.{flat_map}
 use Rattle.std.proofs.lemmas.Result.{on_ok_weaker}
 use Rattle.gr_tree.specs.View.{list_view, group_view}
 use Rattle.gr_tree.specs.FileView.{local_view}
-use Rattle.gr_stages.specs.Files.{group_items}
+use Rattle.gr_imports.specs.Files.{group_items}
 use Rattle.gr_object.specs.SourceView.{source_of}
 use Rattle.gr_object.specs.Statements.{local_lines}
 use Rattle.gr_object.proofs.Putting.{puts_as}

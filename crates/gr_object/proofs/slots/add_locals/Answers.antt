@@ -3,7 +3,7 @@ use Rattle.std.proofs.Common.{◌++◌, ap, sym, ◌∙◌, refl}
 use Rattle.std.specs.List.{flat_map}
 use Rattle.gr_tree.specs.View.{group_view}
 use Rattle.gr_tree.specs.FileView.{local_view}
-use Rattle.gr_stages.specs.Files.{group_items}
+use Rattle.gr_imports.specs.Files.{group_items}
 use Rattle.gr_object.specs.Slots.{local_places}
 use Rattle.gr_object.proofs.Loops.{rest_end}
 use Rattle.gr_object.proofs.Parts.{local_list_places, several_places}

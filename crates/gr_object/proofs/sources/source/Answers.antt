@@ -1,7 +1,7 @@
 -- The answers to the goals of `sources::source`.
 use Rattle.std.proofs.Common.{◌∙◌, refl, subst, sym}
 use Rattle.gr_tree.specs.SourceFile.{source_of}
-use Rattle.gr_stages.proofs.UnknownParts.{source_at}
+use Rattle.gr_imports.proofs.PathParts.{source_at}
 use Rattle.gr_declared.specs.PackageView.{package_of}
 use Rattle.std.proofs.lemmas.Option.{same_Some}
 use Rattle.gr_object.specs.TablesView.{AreTexts}

@@ -3,7 +3,7 @@ use Rattle.std.proofs.Common.{◌≡◌, ◌∙◌, ap, sym}
 use Rattle.gr_text.specs.declared.fault_kind.FaultKind.TheVariants as kind
 use Rattle.gr_fault.proofs.Listings.{call_adds, make, is_false}
 use Rattle.gr_tree.specs.SourceFile.{source_of}
-use Rattle.gr_stages.specs.Files.{clause_name}
+use Rattle.gr_imports.specs.Files.{clause_name}
 use Rattle.gr_stages.specs.Clauses.{IsFaultOfClause}
 use Rattle.gr_stages.proofs.clauses.add_clause.Goals as goal
 

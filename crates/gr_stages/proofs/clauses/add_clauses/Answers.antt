@@ -6,8 +6,8 @@ use Rattle.gr_fault.specs.Listing.{AddsEach}
 use Rattle.gr_fault.proofs.Each.{each_as, each_one}
 use Rattle.gr_fault.proofs.Ranked.{next_file, all_files, flat_map-single}
 use Rattle.gr_tree.specs.SourceFile.{FileParts, source_of}
-use Rattle.gr_stages.specs.Files.{clause_name}
-use Rattle.gr_stages.specs.Clauses.{IsFaultOfClause, package_name}
+use Rattle.gr_imports.specs.Files.{clause_name, package_name}
+use Rattle.gr_stages.specs.Clauses.{IsFaultOfClause}
 use Rattle.gr_stages.proofs.clauses.add_clauses.Goals as goal
 
 first_name : (fs : List FileParts) (x : FileParts) → Some x ≡ slice_get fs 0 → clause_name (source_of x) ≡ package_name (map source_of fs)

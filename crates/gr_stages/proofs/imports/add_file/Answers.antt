@@ -8,8 +8,8 @@ use Rattle.gr_tree.specs.declared.tree.ImportDecl.{ImportDecl}
 use Rattle.gr_tree.specs.Tree.{ImportTree}
 use Rattle.gr_tree.specs.FileView.{imports_view, file_view}
 use Rattle.gr_tree.specs.SourceFile.{FileParts, source_of}
-use Rattle.gr_stages.specs.Files.{Ranked, group_items, imports_in}
-use Rattle.gr_stages.specs.States.{state_in}
+use Rattle.gr_imports.specs.Files.{Ranked, group_items, imports_in}
+use Rattle.gr_imports.specs.States.{state_in}
 use Rattle.gr_stages.specs.Imports.{IsFaultOfImport, PlacedImport}
 use Rattle.gr_stages.proofs.imports.add_file.Goals as goal
 

@@ -4,8 +4,8 @@ use Rattle.std.specs.List.{flat_map}
 use Rattle.gr_fault.specs.Listing.{AddsEach}
 use Rattle.gr_tree.specs.FileView.{imports_view}
 use Rattle.gr_tree.specs.SourceFile.{source_of}
-use Rattle.gr_stages.specs.Files.{group_items}
-use Rattle.gr_stages.specs.States.{state_in}
+use Rattle.gr_imports.specs.Files.{group_items}
+use Rattle.gr_imports.specs.States.{state_in}
 use Rattle.gr_stages.specs.Imports.{IsFaultOfImport}
 use Rattle.gr_stages.proofs.imports.add_file.Given as goal
 

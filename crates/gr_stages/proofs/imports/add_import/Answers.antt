@@ -5,8 +5,8 @@ use Rattle.gr_scan.specs.CutText.{token_at}
 use Rattle.gr_fault.proofs.Listings.{adds_none, call_adds}
 use Rattle.gr_tree.specs.FileView.{import_view}
 use Rattle.gr_tree.specs.SourceFile.{source_of}
-use Rattle.gr_stages.specs.Files.{HasLiteral}
-use Rattle.gr_stages.specs.States.{state_in}
+use Rattle.gr_imports.specs.Files.{HasLiteral}
+use Rattle.gr_imports.specs.States.{state_in}
 use Rattle.gr_stages.specs.Imports.{IsFaultOfState, IsFaultOfImport}
 use Rattle.gr_stages.proofs.imports.add_import.Goals as goal
 

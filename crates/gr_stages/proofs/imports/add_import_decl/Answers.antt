@@ -8,8 +8,8 @@ use Rattle.gr_tree.specs.declared.tree.Group.TheVariants as group
 use Rattle.gr_tree.specs.View.{item_view, group_view}
 use Rattle.gr_tree.specs.FileView.{import_view, imports_view}
 use Rattle.gr_tree.specs.SourceFile.{source_of}
-use Rattle.gr_stages.specs.Files.{group_items}
-use Rattle.gr_stages.specs.States.{state_in}
+use Rattle.gr_imports.specs.Files.{group_items}
+use Rattle.gr_imports.specs.States.{state_in}
 use Rattle.gr_stages.specs.Imports.{IsFaultOfImport}
 use Rattle.gr_stages.proofs.imports.add_import_decl.Goals as goal
 

@@ -2,7 +2,7 @@
 use Rattle.std.proofs.Common.{arith}
 use Rattle.gr_fault.proofs.Ranked.{next_file, all_files}
 use Rattle.gr_tree.specs.SourceFile.{source_of}
-use Rattle.gr_stages.specs.States.{state_in}
+use Rattle.gr_imports.specs.States.{state_in}
 use Rattle.gr_stages.specs.Imports.{IsFaultOfImport, placed_imports}
 use Rattle.gr_stages.proofs.imports.add_imports.Goals as goal
 

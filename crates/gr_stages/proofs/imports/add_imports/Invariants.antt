@@ -3,7 +3,7 @@ use Rattle.std.proofs.Common.{take, map}
 use Rattle.std.specs.List.{flat_map, enumerate_from}
 use Rattle.gr_fault.specs.Listing.{AddsEach}
 use Rattle.gr_tree.specs.SourceFile.{source_of}
-use Rattle.gr_stages.specs.States.{state_in}
+use Rattle.gr_imports.specs.States.{state_in}
 use Rattle.gr_stages.specs.Imports.{IsFaultOfImport, placed_imports}
 use Rattle.gr_stages.proofs.imports.add_imports.Given as goal
 

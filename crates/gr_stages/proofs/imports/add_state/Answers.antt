@@ -3,7 +3,8 @@ use Rattle.std.proofs.Common.{◌≡◌, ◌∙◌, ap, sym}
 use Rattle.std.specs.Prelude.{Some}
 use Rattle.gr_text.specs.declared.fault_kind.FaultKind.{FaultKind}
 use Rattle.gr_fault.proofs.Listings.{call_adds, make, fault_from}
-use Rattle.gr_stages.specs.Imports.{import_fault, IsFaultOfState}
+use Rattle.gr_stages.specs.Imports.{IsFaultOfState}
+use Rattle.gr_imports.specs.States.{import_fault}
 use Rattle.gr_stages.proofs.imports.add_state.Goals as goal
 
 same_kind : (k j : FaultKind) → Some k ≡ Some j → k ≡ j

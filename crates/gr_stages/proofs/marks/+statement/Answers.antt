@@ -5,7 +5,7 @@ use Rattle.gr_fault.proofs.Each.{each_none, each_as, each_step, each_all, call_e
 use Rattle.gr_tree.specs.View.{option_view}
 use Rattle.gr_tree.specs.FileView.{simple_view, init_view, for_view, stmt_view, block_view, if_view, else_view}
 use Rattle.gr_tree.specs.declared.tree.IfStmt.{out-IfStmt}
-use Rattle.gr_stages.specs.Scoping.{laid_in}
+use Rattle.gr_imports.specs.Laid.{laid_in}
 use Rattle.gr_stages.specs.Marks.{IsFaultOfMark, simple_marks, init_marks, for_marks, stray, statement_marks, block_marks, if_marks, else_marks}
 use Rattle.gr_stages.proofs.MarkParts.{statement_part, block_read, if_from}
 use Rattle.gr_stages.proofs.marks.+statement.Goals as goal

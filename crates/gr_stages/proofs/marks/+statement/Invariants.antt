@@ -3,7 +3,7 @@ use Rattle.std.proofs.Common.{take}
 use Rattle.std.specs.List.{flat_map}
 use Rattle.gr_fault.specs.Listing.{AddsEach}
 use Rattle.gr_tree.specs.FileView.{stmt_view}
-use Rattle.gr_stages.specs.Scoping.{laid_in}
+use Rattle.gr_imports.specs.Laid.{laid_in}
 use Rattle.gr_stages.specs.Marks.{IsFaultOfMark, statement_marks}
 use Rattle.gr_stages.proofs.marks.+statement.Given as goal
 

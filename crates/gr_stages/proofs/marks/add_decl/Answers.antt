@@ -2,7 +2,7 @@
 use Rattle.std.proofs.Common.{[], ap, sym, false}
 use Rattle.gr_fault.proofs.Each.{each_none, each_as, call_each}
 use Rattle.gr_tree.specs.FileView.{block_view, func_view, decl_view}
-use Rattle.gr_stages.specs.Scoping.{laid_in}
+use Rattle.gr_imports.specs.Laid.{laid_in}
 use Rattle.gr_stages.specs.Marks.{IsFaultOfMark, block_marks, decl_marks}
 use Rattle.gr_stages.proofs.marks.add_decl.Goals as goal
 

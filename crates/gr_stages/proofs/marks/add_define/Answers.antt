@@ -4,7 +4,7 @@ use Rattle.gr_text.specs.declared.fault_kind.FaultKind.TheVariants as kind
 use Rattle.gr_fault.proofs.Listings.{call_adds, make}
 use Rattle.gr_fault.proofs.Each.{call_one}
 use Rattle.gr_tree.specs.View.{exprs_view}
-use Rattle.gr_stages.specs.Scoping.{laid_in}
+use Rattle.gr_imports.specs.Laid.{laid_in}
 use Rattle.gr_stages.specs.Marks.{Mark, Defines, IsFaultOfMark}
 use Rattle.gr_stages.proofs.marks.add_define.Goals as goal
 

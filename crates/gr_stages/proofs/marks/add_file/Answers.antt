@@ -6,7 +6,7 @@ use Rattle.gr_tree.specs.declared.tree.File.{File}
 use Rattle.gr_tree.specs.declared.tree.Decl.{Decl}
 use Rattle.gr_tree.specs.FileView.{decl_view, file_view}
 use Rattle.gr_tree.specs.SourceFile.{FileParts, source_of}
-use Rattle.gr_stages.specs.Scoping.{laid_in}
+use Rattle.gr_imports.specs.Laid.{laid_in}
 use Rattle.gr_stages.specs.Marks.{Mark, IsFaultOfMark, decl_marks, file_marks}
 use Rattle.gr_stages.proofs.marks.add_file.Goals as goal
 

@@ -3,7 +3,7 @@ use Rattle.std.proofs.Common.{ap, sym}
 use Rattle.gr_fault.proofs.Each.{call_each}
 use Rattle.gr_tree.specs.View.{option_view}
 use Rattle.gr_tree.specs.FileView.{simple_view, init_view}
-use Rattle.gr_stages.specs.Scoping.{laid_in}
+use Rattle.gr_imports.specs.Laid.{laid_in}
 use Rattle.gr_stages.specs.Marks.{IsFaultOfMark, optional_marks, init_marks}
 use Rattle.gr_stages.proofs.marks.add_init.Goals as goal
 

@@ -4,7 +4,7 @@ use Rattle.std.specs.List.{enumerate_from}
 use Rattle.gr_fault.proofs.Each.{each_as, each_one}
 use Rattle.gr_fault.proofs.Ranked.{next_file, all_files, flat_map-single}
 use Rattle.gr_tree.specs.SourceFile.{source_of}
-use Rattle.gr_stages.specs.Scoping.{laid_in}
+use Rattle.gr_imports.specs.Laid.{laid_in}
 use Rattle.gr_stages.specs.Marks.{IsFaultOfMarks}
 use Rattle.gr_stages.proofs.marks.add_marks.Goals as goal
 

@@ -3,7 +3,7 @@ use Rattle.std.proofs.Common.{take, map, ◌∷◌, []}
 use Rattle.std.specs.List.{flat_map, enumerate_from}
 use Rattle.gr_fault.specs.Listing.{AddsEach}
 use Rattle.gr_tree.specs.SourceFile.{source_of}
-use Rattle.gr_stages.specs.Scoping.{laid_in}
+use Rattle.gr_imports.specs.Laid.{laid_in}
 use Rattle.gr_stages.specs.Marks.{IsFaultOfMarks}
 use Rattle.gr_stages.proofs.marks.add_marks.Given as goal
 

@@ -3,7 +3,7 @@ use Rattle.std.proofs.Common.{[], ◌∷◌, ◌∙◌, ap, sym}
 use Rattle.gr_fault.proofs.Each.{each_none, each_as, call_each}
 use Rattle.gr_tree.specs.View.{exprs_view}
 use Rattle.gr_tree.specs.FileView.{simple_view}
-use Rattle.gr_stages.specs.Scoping.{laid_in}
+use Rattle.gr_imports.specs.Laid.{laid_in}
 use Rattle.gr_stages.specs.Marks.{Defines, IsFaultOfMark, simple_marks}
 use Rattle.gr_stages.proofs.marks.add_simple.Goals as goal
 

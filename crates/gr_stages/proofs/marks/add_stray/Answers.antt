@@ -1,7 +1,7 @@
 -- The answers to the goals of `marks::add_stray`.
 use Rattle.std.proofs.Common.{ap, sym}
 use Rattle.gr_fault.proofs.Each.{call_one}
-use Rattle.gr_stages.specs.Scoping.{laid_in}
+use Rattle.gr_imports.specs.Laid.{laid_in}
 use Rattle.gr_stages.specs.Marks.{Stray, stray, IsFaultOfMark}
 use Rattle.gr_stages.proofs.marks.add_stray.Goals as goal
 

@@ -2,7 +2,7 @@
 use Rattle.std.proofs.Common.{◌↔◌, sym, subst, IsTrue}
 use Rattle.gr_tree.specs.View.{expr_view}
 use Rattle.gr_tree.specs.declared.tree.Expr.{Expr}
-use Rattle.gr_stages.specs.Scoping.{laid_in}
+use Rattle.gr_imports.specs.Laid.{laid_in}
 use Rattle.gr_stages.specs.Marks.{DeclaresName}
 use Rattle.gr_stages.proofs.MarkParts.{not_a_name}
 use Rattle.gr_stages.proofs.marks.declares_name.Goals as goal

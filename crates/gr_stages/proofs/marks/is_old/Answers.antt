@@ -2,7 +2,7 @@
 use Rattle.std.proofs.Common.{arith, subst}
 use Rattle.gr_tree.specs.View.{expr_view}
 use Rattle.gr_fault.proofs.Listings.{is_false}
-use Rattle.gr_stages.specs.Scoping.{laid_in}
+use Rattle.gr_imports.specs.Laid.{laid_in}
 use Rattle.gr_stages.specs.Marks.{DeclaresName}
 use Rattle.gr_stages.proofs.MarkParts.{some_at, old_next}
 use Rattle.gr_stages.proofs.marks.is_old.Goals as goal

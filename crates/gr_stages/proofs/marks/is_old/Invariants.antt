@@ -1,7 +1,7 @@
 -- The invariants of the loops of `marks::is_old`.
 use Rattle.std.proofs.Common.{take}
 use Rattle.gr_tree.specs.View.{exprs_view}
-use Rattle.gr_stages.specs.Scoping.{laid_in}
+use Rattle.gr_imports.specs.Laid.{laid_in}
 use Rattle.gr_stages.specs.Marks.{SomeDeclares}
 use Rattle.gr_stages.proofs.marks.is_old.Given as goal
 

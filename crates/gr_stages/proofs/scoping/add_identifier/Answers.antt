@@ -1,7 +1,8 @@
 -- The answers to the goals of `scoping::add_identifier`.
 use Rattle.std.proofs.Common.{◌⊎◌}
 use Rattle.gr_fault.proofs.Listings.{then_adds}
-use Rattle.gr_stages.specs.Scoping.{laid_in, IsUndeclared, IsRepeated, IsUnused, IsFaultOfIdentifier}
+use Rattle.gr_stages.specs.Scoping.{IsUndeclared, IsRepeated, IsUnused, IsFaultOfIdentifier}
+use Rattle.gr_imports.specs.Laid.{laid_in}
 use Rattle.gr_stages.proofs.scoping.add_identifier.Goals as goal
 
 pub returns : goal.returns

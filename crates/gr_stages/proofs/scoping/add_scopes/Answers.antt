@@ -2,7 +2,8 @@
 use Rattle.std.proofs.Common.{◌≡◌, arith, subst, length}
 use Rattle.gr_fault.specs.Listing.{Adds, Below}
 use Rattle.gr_fault.proofs.Each.{below_none, below_next}
-use Rattle.gr_stages.specs.Scoping.{laid_in, IsFaultOfIdentifier}
+use Rattle.gr_stages.specs.Scoping.{IsFaultOfIdentifier}
+use Rattle.gr_imports.specs.Laid.{laid_in}
 use Rattle.gr_stages.proofs.scoping.add_scopes.Goals as goal
 
 pub loop-u-init : goal.loop-u-init

@@ -1,7 +1,8 @@
 -- The answers to the goals of `scoping::add_undeclared`.
 use Rattle.std.proofs.Common.{◌≡◌, ◌∙◌, sym, IsTrue}
 use Rattle.gr_fault.proofs.Listings.{call_adds}
-use Rattle.gr_stages.specs.Scoping.{laid_in, IsUndeclared}
+use Rattle.gr_stages.specs.Scoping.{IsUndeclared}
+use Rattle.gr_imports.specs.Laid.{laid_in}
 use Rattle.gr_stages.proofs.scoping.add_undeclared.Goals as goal
 
 pub returns : goal.returns

@@ -2,7 +2,8 @@
 use Rattle.std.proofs.Common.{◌≡◌, ◌∙◌, sym, ap, IsTrue}
 use Rattle.gr_text.specs.declared.fault_kind.FaultKind.TheVariants as kind
 use Rattle.gr_fault.proofs.Listings.{call_adds}
-use Rattle.gr_stages.specs.Scoping.{laid_in, fault_at, IsUnused}
+use Rattle.gr_stages.specs.Scoping.{fault_at, IsUnused}
+use Rattle.gr_imports.specs.Laid.{laid_in}
 use Rattle.gr_stages.proofs.scoping.add_unused.Goals as goal
 
 pub returns : goal.returns

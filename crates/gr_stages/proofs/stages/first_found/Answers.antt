@@ -6,7 +6,7 @@ use Rattle.gr_fault.proofs.Stages.{first_listed, later_listed}
 use Rattle.gr_tree.specs.SourceFile.{source_of}
 use Rattle.gr_stages.specs.Clauses.{IsClauseFault}
 use Rattle.gr_stages.specs.Imports.{IsImportFault}
-use Rattle.gr_stages.specs.States.{state_in}
+use Rattle.gr_imports.specs.States.{state_in}
 use Rattle.gr_stages.specs.Stages.{IsOuterFault}
 use Rattle.gr_stages.proofs.stages.first_found.Goals as goal
 use Rattle.gr_stages.proofs.stages.first_found.Goals.{then-has_none+in_ok-add_imports, else-has_none}

@@ -2,7 +2,8 @@
 use Rattle.std.proofs.Common.{map}
 use Rattle.gr_fault.proofs.Stages.{listed_then}
 use Rattle.gr_tree.specs.SourceFile.{source_of}
-use Rattle.gr_stages.specs.Scoping.{laid_in, IsUnknownFault}
+use Rattle.gr_stages.specs.Scoping.{IsUnknownFault}
+use Rattle.gr_imports.specs.Laid.{laid_in}
 use Rattle.gr_stages.specs.Stages.{IsOwnFault}
 use Rattle.gr_stages.proofs.stages.inner_found.Goals as goal
 

@@ -2,7 +2,7 @@
 use Rattle.gr_fault.proofs.Stages.{same_listed}
 use Rattle.std.proofs.Common.{map}
 use Rattle.gr_tree.specs.SourceFile.{source_of}
-use Rattle.gr_stages.specs.States.{state_in}
+use Rattle.gr_imports.specs.States.{state_in}
 use Rattle.gr_stages.specs.Stages.{IsOuterFault}
 use Rattle.gr_stages.proofs.stages.outer_faults.Goals as goal
 

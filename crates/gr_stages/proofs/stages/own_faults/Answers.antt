@@ -2,7 +2,7 @@
 use Rattle.gr_fault.proofs.Stages.{same_listed}
 use Rattle.std.proofs.Common.{map}
 use Rattle.gr_tree.specs.SourceFile.{source_of}
-use Rattle.gr_stages.specs.Scoping.{laid_in}
+use Rattle.gr_imports.specs.Laid.{laid_in}
 use Rattle.gr_stages.specs.Stages.{IsOwnFault}
 use Rattle.gr_stages.proofs.stages.own_faults.Goals as goal
 

@@ -3,7 +3,8 @@ use Rattle.std.proofs.Common.{subst, map}
 use Rattle.gr_fault.specs.Listing.{Adds}
 use Rattle.gr_fault.proofs.Stages.{both_listed}
 use Rattle.gr_tree.specs.SourceFile.{source_of}
-use Rattle.gr_stages.specs.Scoping.{laid_in, IsScopeFault}
+use Rattle.gr_stages.specs.Scoping.{IsScopeFault}
+use Rattle.gr_imports.specs.Laid.{laid_in}
 use Rattle.gr_stages.specs.Marks.{IsMarkFault}
 use Rattle.gr_stages.proofs.stages.own_found.Goals as goal
 

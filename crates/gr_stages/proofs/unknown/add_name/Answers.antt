@@ -2,7 +2,8 @@
 use Rattle.std.proofs.Common.{ℕ, ◌∙◌, List, map, ap, subst, MatchOption}
 use Rattle.gr_fault.proofs.Listings.{adds_none}
 use Rattle.gr_tree.specs.SourceFile.{source_of}
-use Rattle.gr_stages.specs.Scoping.{laid_in, IsPathOf, is_exported, qualified_fault}
+use Rattle.gr_stages.specs.Scoping.{qualified_fault}
+use Rattle.gr_imports.specs.Laid.{laid_in, IsPathOf, is_exported}
 use Rattle.gr_stages.specs.Unknown.{IsUnknownOf}
 use Rattle.gr_stages.proofs.UnknownParts.{name_added}
 use Rattle.gr_stages.proofs.unknown.add_name.Goals as goal

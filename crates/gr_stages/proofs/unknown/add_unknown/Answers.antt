@@ -1,7 +1,7 @@
 -- The answers to the goals of `unknown::add_unknown`.
 use Rattle.std.proofs.Common.{map}
 use Rattle.gr_tree.specs.SourceFile.{source_of}
-use Rattle.gr_stages.specs.Scoping.{laid_in}
+use Rattle.gr_imports.specs.Laid.{laid_in}
 use Rattle.gr_stages.proofs.UnknownParts.{unknown_added, none_unknown}
 use Rattle.gr_stages.proofs.unknown.add_unknown.Goals as goal
 

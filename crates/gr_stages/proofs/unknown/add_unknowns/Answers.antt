@@ -3,7 +3,8 @@ use Rattle.std.proofs.Common.{◌≡◌, arith, subst, length, map}
 use Rattle.gr_fault.specs.Listing.{Adds, Below}
 use Rattle.gr_fault.proofs.Each.{below_none, below_next}
 use Rattle.gr_tree.specs.SourceFile.{source_of}
-use Rattle.gr_stages.specs.Scoping.{laid_in, IsUnknown}
+use Rattle.gr_stages.specs.Scoping.{IsUnknown}
+use Rattle.gr_imports.specs.Laid.{laid_in}
 use Rattle.gr_stages.proofs.unknown.add_unknowns.Goals as goal
 
 pub loop-u-init : goal.loop-u-init

@@ -2,7 +2,8 @@
 use Rattle.std.proofs.Common.{map}
 use Rattle.gr_fault.specs.Listing.{Adds, Below}
 use Rattle.gr_tree.specs.SourceFile.{source_of}
-use Rattle.gr_stages.specs.Scoping.{laid_in, IsUnknown}
+use Rattle.gr_stages.specs.Scoping.{IsUnknown}
+use Rattle.gr_imports.specs.Laid.{laid_in}
 use Rattle.gr_stages.proofs.unknown.add_unknowns.Given as goal
 
 abbrev pub invariant-loop-u : goal.invariant-loop-u

@@ -2,7 +2,7 @@
 use Rattle.std.proofs.Common.{ℕ, MatchOption}
 use Rattle.std.specs.Prelude.{Option, Some, None}
 use Rattle.gr_scope.specs.Bindings.{IsUse, IsBoundTo}
-use Rattle.gr_stages.specs.Scoping.{laid_in}
+use Rattle.gr_imports.specs.Laid.{laid_in}
 use Rattle.gr_stages.proofs.uses.used_by.Goals as goal
 
 used_from : (U : Type 0) (B : ℕ → Type 0) (r : Option ℕ) → U → MatchOption r ((d : ℕ) → B d → ⊥) B → MatchOption r (U → (d : ℕ) → B d → ⊥) (λ d. U × B d)

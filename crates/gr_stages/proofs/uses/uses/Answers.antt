@@ -1,7 +1,8 @@
 -- The answers to the goals of `uses::uses`.
 use Rattle.gr_stages.proofs.Used.{marked}
 use Rattle.std.proofs.Common.{◌≡◌, arith, length, subst}
-use Rattle.gr_stages.specs.Scoping.{laid_in, AreUsed}
+use Rattle.gr_stages.specs.Scoping.{AreUsed}
+use Rattle.gr_imports.specs.Laid.{laid_in}
 use Rattle.gr_stages.proofs.uses.uses.Goals as goal
 
 pub loop-u-preserved : goal.loop-u-preserved

@@ -1,5 +1,6 @@
 -- The invariants of the loops of `uses::uses`.
-use Rattle.gr_stages.specs.Scoping.{laid_in, AreUsed}
+use Rattle.gr_stages.specs.Scoping.{AreUsed}
+use Rattle.gr_imports.specs.Laid.{laid_in}
 use Rattle.gr_stages.proofs.uses.uses.Given as goal
 
 abbrev pub invariant-loop-u : goal.invariant-loop-u

@@ -9,7 +9,7 @@ use Rattle.gr_fault.specs.contracts.fault.FaultOrd.TheImpl as order
 use Rattle.gr_fault.specs.Listing.{Lists}
 use Rattle.gr_tree.specs.SourceFile.{source_of}
 use Rattle.gr_stages.specs.Stages.{IsOuterFault}
-use Rattle.gr_stages.specs.States.{state_in}
+use Rattle.gr_imports.specs.States.{state_in}
 use Rattle.gr_declared.specs.Package.{Package}
 use Rattle.gr_declared.specs.InterfacesView.{name_in, interface_in}
 use Rattle.gr_meanings.specs.PackageOf.{package_in, IsPackageOf}

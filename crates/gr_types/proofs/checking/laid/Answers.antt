@@ -4,7 +4,7 @@ use Rattle.std.specs.Prelude.{map}
 use Rattle.std.proofs.lemmas.Result.{IfOk-weaker}
 use Rattle.gr_tree.specs.SourceFile.{source_of}
 use Rattle.gr_scope.specs.Scoped.{scoped}
-use Rattle.gr_stages.specs.PackageNames.{IsLaidOver}
+use Rattle.gr_imports.specs.PackageNames.{IsLaidOver}
 use Rattle.gr_declared.specs.InterfacesView.{name_in}
 use Rattle.gr_types.proofs.checking.laid.Goals as goal
 

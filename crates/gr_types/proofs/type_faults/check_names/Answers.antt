@@ -4,7 +4,7 @@ use Rattle.std.proofs.lemmas.Result.{IfOk-weaker}
 use Rattle.gr_tree.specs.FileView.{file_view}
 use Rattle.gr_stmt.specs.View.{checked_of}
 use Rattle.gr_tree.specs.SourceFile.{source_of}
-use Rattle.gr_stages.proofs.UnknownParts.{source_at}
+use Rattle.gr_imports.proofs.PathParts.{source_at}
 use Rattle.gr_declared.specs.PackageView.{package_of}
 use Rattle.gr_types.proofs.TypeFaultParts.{checked_by}
 use Rattle.gr_types.proofs.type_faults.check_names.Goals as goal

@@ -5,7 +5,7 @@ use Rattle.std.proofs.lemmas.Option.{same_Some}
 use Rattle.gr_text.specs.Packages.{package_files}
 use Rattle.gr_graph.specs.Parsed.{AreParsed}
 use Rattle.gr_graph.proofs.Asked.{at_contains}
-use Rattle.gr_stages.specs.States.{state_in}
+use Rattle.gr_imports.specs.States.{state_in}
 use Rattle.gr_declared.specs.InterfacesView.{name_in, interface_in}
 use Rattle.gr_types.specs.Check.{IsFoundIn}
 use Rattle.gr_verdict.specs.declared.fault.FileFault.{FileFault}

@@ -1,7 +1,7 @@
 -- The invariants of the loops of `seeing::note_imports`.
 use Rattle.std.proofs.Common.{take}
 use Rattle.gr_graph.specs.Graphs.{OfPackage}
-use Rattle.gr_stages.specs.States.{state_in}
+use Rattle.gr_imports.specs.States.{state_in}
 use Rattle.gr_verdict.specs.Found.{known_by}
 use Rattle.gr_verdict.specs.Steps.{KnowsSameOfOthers}
 use Rattle.gr_verdict.proofs.Noting.{AreNoted}

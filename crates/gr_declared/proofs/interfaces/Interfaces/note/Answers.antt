@@ -1,7 +1,7 @@
 -- The answers to the goals of `interfaces::Interfaces::note`.
 use Rattle.std.proofs.Common.{ap}
 use Rattle.std.specs.Prelude.{unwrap_or, Some}
-use Rattle.gr_stages.specs.declared.states.ImportState.TheVariants.{Missing}
+use Rattle.gr_imports.specs.declared.states.ImportState.TheVariants.{Missing}
 use Rattle.gr_declared.proofs.ByteKeys.{others_stay}
 use Rattle.gr_declared.proofs.interfaces.Interfaces.note.Goals as goal
 

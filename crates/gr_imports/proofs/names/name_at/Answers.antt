@@ -1,9 +1,9 @@
 -- The answers to the goals of `names::name_at`.
 use Rattle.std.proofs.Common.{ℕ, ◌∙◌, List, map, ap, subst, MatchOption}
 use Rattle.gr_tree.specs.SourceFile.{source_of}
-use Rattle.gr_stages.specs.Scoping.{laid_in, IsPathOf}
-use Rattle.gr_stages.proofs.NameParts.{path_named, path_missing}
-use Rattle.gr_stages.proofs.names.name_at.Goals as goal
+use Rattle.gr_imports.specs.Laid.{laid_in, IsPathOf}
+use Rattle.gr_imports.proofs.NameParts.{path_named, path_missing}
+use Rattle.gr_imports.proofs.names.name_at.Goals as goal
 
 pub returns-in-None : goal.returns-in-None
 returns-in-None g c =

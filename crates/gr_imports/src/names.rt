@@ -2,10 +2,10 @@
 ghost use Rattle.std.specs.Prelude.{ℕ, List, Option, ◌≡◌, ◌<◌, true, IfOk, map};
 ghost use Rattle.gr_tree.specs.SourceFile.{source_of};
 ghost use Rattle.gr_scope.specs.Named.{is_unnamed_import, name_value, name_given};
-ghost use Rattle.gr_stages.specs.Scoping.{laid_in};
-ghost use Rattle.gr_stages.specs.PackageNames.{IsPackageName, ArePackageNames, IsLaidOver};
+ghost use Rattle.gr_imports.specs.Laid.{laid_in};
+ghost use Rattle.gr_imports.specs.PackageNames.{IsPackageName, ArePackageNames, IsLaidOver};
 
-use crate::unknown::path_of;
+use crate::paths::path_of;
 use gr_scope::named::name_imports;
 use gr_scope::table::ScopeTable;
 use gr_tree::FileTree;

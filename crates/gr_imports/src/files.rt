@@ -1,17 +1,13 @@
 //! What a package's files say of their names and imports.
 ghost use Rattle.std.specs.Prelude.{◌≡◌, ℕ, List, IfOk, MatchOption};
 ghost use Rattle.gr_tree.specs.SourceFile.{source_of};
-ghost use Rattle.gr_stages.specs.Files.{clause_name, HasLiteral};
+ghost use Rattle.gr_imports.specs.Files.{clause_name, HasLiteral};
 
 use gr_tree::FileTree;
 use std::alloc::{AllocError, Global};
 
 /// What the string literal at a token stands for; none where no string literal stands there.
-pub(crate) fn literal(
-    alloc: Global,
-    file: &FileTree,
-    token: usize,
-) -> Result<Option<Vec<u8>>, AllocError>
+pub fn literal(alloc: Global, file: &FileTree, token: usize) -> Result<Option<Vec<u8>>, AllocError>
     ensures { IfOk result (λ value. MatchOption value ((v : List ℕ) → HasLiteral (source_of file.now) token v → ⊥) (λ v. HasLiteral (source_of file.now) token v.items)) }
 {
     let pieces = file.pieces();
@@ -24,14 +20,14 @@ pub(crate) fn literal(
 
 /// The token of the name in a file's package clause.
 #[tactic(auto, unfolding(gr_tree::specs::FileView::file_view))]
-pub(crate) fn clause_token(file: &FileTree) -> usize
+pub fn clause_token(file: &FileTree) -> usize
     ensures { result ≡ (source_of file.now).tree.name }
 {
     file.file().name
 }
 
 /// The name in a file's package clause.
-pub(crate) fn clause_name(file: &FileTree) -> &[u8]
+pub fn clause_name(file: &FileTree) -> &[u8]
     ensures { result.now ≡ clause_name (source_of file.now) }
 {
     file.spelling(clause_token(file))

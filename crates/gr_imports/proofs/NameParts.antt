@@ -5,9 +5,9 @@ use Rattle.std.proofs.lemmas.Bool.{cases_order}
 use Rattle.gr_tree.specs.SourceFile.{SourceFile}
 use Rattle.gr_scan.specs.StringValues.{HasStringValue}
 use Rattle.gr_scope.specs.Named.{is_unnamed_import, name_value, name_given}
-use Rattle.gr_stages.specs.Scoping.{Laid, IsPathOf}
-use Rattle.gr_stages.specs.PackageNames.{IsPackageName}
-use Rattle.gr_stages.proofs.UnknownParts.{one_path}
+use Rattle.gr_imports.specs.Laid.{Laid, IsPathOf}
+use Rattle.gr_imports.specs.PackageNames.{IsPackageName}
+use Rattle.gr_imports.proofs.PathParts.{one_path}
 
 abbrev Names : Type 0
 Names = List (Option (Bor (List ℕ)))

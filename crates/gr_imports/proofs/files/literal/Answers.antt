@@ -8,8 +8,8 @@ use Rattle.gr_scan.specs.Cuts.{bytes_of}
 use Rattle.gr_scan.specs.CutText.{CutText, token_at}
 use Rattle.gr_scan.specs.TokenValues.{HasTokenValue}
 use Rattle.gr_tree.specs.SourceFile.{SourceFile, source_of}
-use Rattle.gr_stages.specs.Files.{HasLiteral}
-use Rattle.gr_stages.proofs.files.literal.Goals as goal
+use Rattle.gr_imports.specs.Files.{HasLiteral}
+use Rattle.gr_imports.proofs.files.literal.Goals as goal
 
 literal_at : (s : SourceFile) (token : ℕ) (o : Option (Vec ℕ Global)) → HasTokenValue (token_at s.cut token).class (bytes_of s.cut.text (token_at s.cut token)) o →
     MatchOption o ((v : List ℕ) → HasLiteral s token v → ⊥) (λ v. HasLiteral s token v.items)

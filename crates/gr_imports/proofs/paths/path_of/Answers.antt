@@ -1,12 +1,12 @@
--- The answers to the goals of `unknown::path_of`.
+-- The answers to the goals of `paths::path_of`.
 use Rattle.std.proofs.Common.{ℕ, ◌≡◌, ◌<◌, ◌∙◌, List, length, map, ap, subst, arith, MatchOption}
 use Rattle.std.specs.Prelude.{Some, slice_get}
 use Rattle.std.proofs.lemmas.Result.{IfOk-weaker}
 use Rattle.gr_tree.specs.SourceFile.{source_of}
-use Rattle.gr_stages.specs.Files.{HasLiteral}
-use Rattle.gr_stages.specs.Scoping.{laid_in, literal_of, IsPathOf}
-use Rattle.gr_stages.proofs.UnknownParts.{source_at, no_source, path_at}
-use Rattle.gr_stages.proofs.unknown.path_of.Goals as goal
+use Rattle.gr_imports.specs.Files.{HasLiteral}
+use Rattle.gr_imports.specs.Laid.{laid_in, literal_of, IsPathOf}
+use Rattle.gr_imports.proofs.PathParts.{source_at, no_source, path_at}
+use Rattle.gr_imports.proofs.paths.path_of.Goals as goal
 
 pub returns-then-file-files : goal.returns-then-file-files
 returns-then-file-files c =

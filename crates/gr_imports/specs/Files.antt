@@ -28,6 +28,11 @@ imports_in t = flat_map (λ d. group_items d.imports) t.imports
 abbrev pub clause_name : SourceFile → List ℕ
 clause_name s = spelling_of s s.tree.name
 
+-- the package's name: that in the clause of its first file
+abbrev pub package_name : List SourceFile → List ℕ
+package_name [] = []
+package_name (s ∷ others) = clause_name s
+
 -- the string literal at a token stands for these bytes
 pub record HasLiteral (s : SourceFile) (token : ℕ) (value : List ℕ) : Type 0 where
   pub is_string : IsStringClass (token_at s.cut token).class

@@ -3,7 +3,7 @@ use Rattle.std.specs.Prelude.{ℕ, ◌≡◌, ◌<◌, true, List, Option, None}
 use Rattle.gr_tree.specs.SourceFile.{SourceFile}
 use Rattle.gr_scope.specs.Named.{is_unnamed_import, named}
 use Rattle.gr_scope.specs.Scoped.{ScopedPackage}
-use Rattle.gr_stages.specs.Scoping.{Laid, laid_in, IsPathOf}
+use Rattle.gr_imports.specs.Laid.{Laid, laid_in, IsPathOf}
 
 -- the name of the package of the path that an import names, as far as it is known
 pub record IsPackageName (files : List SourceFile) (name_of : (path : List ℕ) → Option (List ℕ)) (p : Laid) (u : ℕ) (name : Option (List ℕ)) : Type 0 where

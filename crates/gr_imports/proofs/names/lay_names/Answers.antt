@@ -3,9 +3,9 @@ use Rattle.std.proofs.Common.{◌≡◌, map, subst, sym}
 use Rattle.std.proofs.lemmas.Result.{IfOk-weaker}
 use Rattle.gr_tree.specs.SourceFile.{source_of}
 use Rattle.gr_scope.specs.Named.{named, name_given}
-use Rattle.gr_stages.specs.PackageNames.{ArePackageNames, IsLaidOver}
-use Rattle.gr_stages.specs.Scoping.{laid_in}
-use Rattle.gr_stages.proofs.names.lay_names.Goals as goal
+use Rattle.gr_imports.specs.PackageNames.{ArePackageNames, IsLaidOver}
+use Rattle.gr_imports.specs.Laid.{laid_in}
+use Rattle.gr_imports.proofs.names.lay_names.Goals as goal
 
 pub returns : goal.returns
 returns g c =

@@ -1,7 +1,6 @@
 //! What the paths that a package imports are to it.
 ghost use Rattle.std.specs.Prelude.{◌≡◌, ℕ, List};
-ghost use Rattle.gr_stages.specs.States.{state_in};
-ghost use Rattle.gr_stages.specs.Imports.{import_fault};
+ghost use Rattle.gr_imports.specs.States.{import_fault, state_in};
 
 use gr_text::FaultKind;
 use std::alloc::Global;

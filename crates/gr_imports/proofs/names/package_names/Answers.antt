@@ -1,9 +1,9 @@
 -- The answers to the goals of `names::package_names`.
 use Rattle.std.proofs.Common.{◌≡◌, ap, arith, length, map}
 use Rattle.gr_tree.specs.SourceFile.{source_of}
-use Rattle.gr_stages.specs.Scoping.{laid_in}
-use Rattle.gr_stages.proofs.NameParts.{sized_next, names_next}
-use Rattle.gr_stages.proofs.names.package_names.Goals as goal
+use Rattle.gr_imports.specs.Laid.{laid_in}
+use Rattle.gr_imports.proofs.NameParts.{sized_next, names_next}
+use Rattle.gr_imports.proofs.names.package_names.Goals as goal
 
 pub loop-u-init : goal.loop-u-init
 loop-u-init g c = record { sized = ap length c.new-names.ensures.items; each = λ k lt. absurd (omega arith) }

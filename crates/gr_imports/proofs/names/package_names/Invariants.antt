@@ -2,9 +2,9 @@
 use Rattle.std.proofs.Common.{ℕ, ◌≡◌, ◌<◌, true, length, map}
 use Rattle.gr_tree.specs.SourceFile.{source_of}
 use Rattle.gr_scope.specs.Named.{is_unnamed_import, name_given}
-use Rattle.gr_stages.specs.Scoping.{laid_in}
-use Rattle.gr_stages.specs.PackageNames.{IsPackageName}
-use Rattle.gr_stages.proofs.names.package_names.Given as goal
+use Rattle.gr_imports.specs.Laid.{laid_in}
+use Rattle.gr_imports.specs.PackageNames.{IsPackageName}
+use Rattle.gr_imports.proofs.names.package_names.Given as goal
 
 abbrev pub invariant-loop-u : goal.invariant-loop-u
 invariant-loop-u g l = record {

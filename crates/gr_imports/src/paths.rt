@@ -1,0 +1,64 @@
+//! The imports of a table, and the paths that they name.
+ghost use Rattle.std.specs.Prelude.{ℕ, List, ◌≡◌, ◌<◌, ◌↔◌, IsTrue, IfOk, MatchOption, map};
+ghost use Rattle.gr_tree.specs.SourceFile.{source_of};
+ghost use Rattle.gr_scope.specs.Bindings.{IsImport};
+ghost use Rattle.gr_imports.specs.Laid.{laid_in, is_literal, literal_of, IsPathOf};
+
+use crate::files::literal;
+use gr_scope::model::{Block, Purpose, Role};
+use gr_scope::table::ScopeTable;
+use gr_tree::FileTree;
+use std::alloc::{AllocError, Global};
+
+/// Whether an identifier is declared in the block of a file.
+pub fn is_import(table: &ScopeTable, u: usize) -> bool
+    requires { u < (laid_in table.now).size }
+    ensures { IsTrue result ↔ IsImport (laid_in table.now).layout u }
+{
+    match table.role(u).block() {
+        Block::File(_) => true,
+        Block::Universe | Block::Package | Block::Inner(_, _, _) => false,
+    }
+}
+
+/// Whether a role is that of the literal of an import with a name.
+fn is_literal(role: Role) -> bool
+    ensures { result ≡ is_literal role }
+{
+    match role {
+        Role::NotLexical(Purpose::ImportPath) => true,
+        _ => false,
+    }
+}
+
+/// The identifier that stands for an import's literal: the next one where the import has a name, else itself.
+pub fn literal_of(table: &ScopeTable, d: usize) -> usize
+    requires { d < (laid_in table.now).size }
+    ensures literal { result ≡ literal_of (laid_in table.now).layout d }
+    ensures in_range { result < (laid_in table.now).size }
+{
+    if 1 < table.len() - d && is_literal(table.role(d + 1)) {
+        d + 1
+    } else {
+        d
+    }
+}
+
+/// The path that an import names.
+pub fn path_of(
+    alloc: Global,
+    table: &ScopeTable,
+    files: &[FileTree],
+    d: usize,
+) -> Result<Option<Vec<u8>>, AllocError>
+    requires { d < (laid_in table.now).size }
+    ensures { IfOk result (λ path. MatchOption path ((v : List ℕ) → IsPathOf (map source_of files.now) (laid_in table.now) d v → ⊥)
+        (λ v. IsPathOf (map source_of files.now) (laid_in table.now) d v.items)) }
+{
+    let file = table.place(d).file;
+    if file < files.len() {
+        literal(alloc, &files[file], table.place(literal_of(table, d)).index)
+    } else {
+        Ok(None)
+    }
+}
