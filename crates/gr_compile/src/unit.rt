@@ -24,9 +24,16 @@ pub enum Compiled {
 }
 
 /// What a package compiles to. A clone shares it.
-#[derive(Drop)]
 pub struct Unit {
     compiled: Arc<Compiled, Global>,
+}
+
+/// Written out, so that crates above call it and don't prove again how each part is dropped.
+impl Drop for Unit {
+    fn drop(self) {
+        let Unit { compiled } = self;
+        drop(compiled);
+    }
 }
 
 impl Model for Unit {

@@ -49,11 +49,24 @@ pub struct Interface {
 type Scopes = BTreeMap<Vec<u8>, Option<Arc<PackageScope, Global>>>;
 
 /// The interfaces of imported packages, which can be shared with others, and what each imported path is.
-#[derive(Drop)]
 pub struct Interfaces {
     scopes: Scopes,
     definitions: Definitions,
     states: ImportStates,
+}
+
+/// Written out, so that crates above call it and don't prove again how each part is dropped.
+impl Drop for Interfaces {
+    fn drop(self) {
+        let Interfaces {
+            scopes,
+            definitions,
+            states,
+        } = self;
+        drop(scopes);
+        drop(definitions);
+        drop(states);
+    }
 }
 
 impl PackageScope {

@@ -8,10 +8,18 @@ use gr_text::{FileText, Files, Path};
 use std::marker::Model;
 
 /// Changes of files in the order of their paths, and files that are added.
-#[derive(Drop)]
 pub struct EditSet {
     changed: Vec<FileChange>,
     added: Vec<(Path, FileText)>,
+}
+
+/// Written out, so that crates above call it and don't prove again how each part is dropped.
+impl Drop for EditSet {
+    fn drop(self) {
+        let EditSet { changed, added } = self;
+        drop(changed);
+        drop(added);
+    }
 }
 
 impl Model for EditSet {

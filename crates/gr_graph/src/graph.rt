@@ -36,9 +36,16 @@ struct Parts {
 
 /// The graph of a workspace, which no longer changes: its packages by number, in the order of their paths, each with
 /// its parsed files, and all that is asked of their imports. A clone shares it.
-#[derive(Drop)]
 pub struct Graph {
     parts: Arc<Parts, Global>,
+}
+
+/// Written out, so that crates above call it and don't prove again how each part is dropped.
+impl Drop for Graph {
+    fn drop(self) {
+        let Graph { parts } = self;
+        drop(parts);
+    }
 }
 
 impl Model for Graph {

@@ -8,9 +8,16 @@ use std::marker::Model;
 use std::sync::Arc;
 
 /// For each package of a workspace, by its number, its unit if it is finished. A clone shares the table.
-#[derive(Drop)]
 pub struct Finished {
     units: Arc<Vec<Option<Unit>>, Global>,
+}
+
+/// Written out, so that crates above call it and don't prove again how each part is dropped.
+impl Drop for Finished {
+    fn drop(self) {
+        let Finished { units } = self;
+        drop(units);
+    }
 }
 
 impl Model for Finished {

@@ -1,20 +1,15 @@
 -- The faults of scopes: what a package's identifiers and imports are bound to, and which of its declarations count. The
 -- layout is that in which each import without a name declares the imported package's name at its literal.
-use Rattle.std.specs.Prelude.{ℕ, suc, ◌≡◌, ◌+◌, ◌<◌, ◌⊎◌, Bool, true, false, List, Option, Some, None, ◌↔◌, get_or, slice_get, length, codes, if◌then◌else◌}
-use Rattle.bstr.specs.Utf8.{decoded}
-use Rattle.unicode.specs.GeneralCategory.{general_category, general_category_eq}
-use Rattle.ucd_category.specs.declared.GeneralCategory.TheVariants.{UppercaseLetter}
+use Rattle.std.specs.Prelude.{ℕ, suc, ◌≡◌, ◌+◌, ◌<◌, ◌⊎◌, Bool, true, false, List, Option, Some, None, ◌↔◌, get_or, length}
 use Rattle.gr_text.specs.declared.fault_kind.FaultKind.{FaultKind}
 use Rattle.gr_text.specs.declared.fault_kind.FaultKind.TheVariants as kind
 use Rattle.gr_fault.specs.declared.fault.Fault.{Fault}
 use Rattle.gr_tree.specs.SourceFile.{SourceFile}
-use Rattle.gr_scope.specs.declared.model.Role.{Role}
 use Rattle.gr_scope.specs.declared.model.Role.TheVariants.{NotLexical}
 use Rattle.gr_scope.specs.declared.model.Purpose.TheVariants as purpose
-use Rattle.gr_scope.specs.Scoped.{ScopedPackage, layout_in, names_in}
 use Rattle.gr_fault.specs.Listing.{Below}
-use Rattle.gr_scope.specs.Bindings.{Layout, Names, IsPackageLevel, IsImport, IsUse, IsBoundTo, Declares, Counts}
-use Rattle.gr_imports.specs.Files.{HasLiteral}
+use Rattle.gr_scope.specs.Bindings.{Layout, IsPackageLevel, IsImport, IsUse, IsBoundTo, Declares, Counts}
+use Rattle.gr_imports.specs.Laid.{Laid, init_name, literal_of, is_exported, IsPathOf}
 
 abbrev pub fault_at : Layout → ℕ → FaultKind → Fault
 fault_at l u k = record { file = (l.place u).file; token = (l.place u).index; kind = k }

@@ -20,9 +20,16 @@ struct Parts {
 }
 
 /// A Go file without fault: its path, its cut and its syntax tree, which no longer change. A clone shares them.
-#[derive(Drop)]
 pub struct FileTree {
     parts: Arc<Parts, Global>,
+}
+
+/// Written out, so that crates above call it and don't prove again how each part is dropped.
+impl Drop for FileTree {
+    fn drop(self) {
+        let FileTree { parts } = self;
+        drop(parts);
+    }
 }
 
 impl Model for FileTree {

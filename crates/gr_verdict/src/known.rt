@@ -63,9 +63,16 @@ impl Clone for KnownVerdict {
 }
 
 /// The verdicts on some packages of a workspace, by the packages' numbers.
-#[derive(Drop)]
 pub struct Known {
     verdicts: Vec<Option<KnownVerdict>>,
+}
+
+/// Written out, so that crates above call it and don't prove again how each part is dropped.
+impl Drop for Known {
+    fn drop(self) {
+        let Known { verdicts } = self;
+        drop(verdicts);
+    }
 }
 
 impl Known {
