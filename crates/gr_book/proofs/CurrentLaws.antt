@@ -23,13 +23,13 @@ use Rattle.gr_book.specs.declared.event.Event.TheVariants.{Look, Commit, Undo, R
 use Rattle.gr_book.specs.declared.event.Reply.{Reply}
 use Rattle.gr_book.specs.declared.event.Reply.TheVariants.{Looked, Done, Taken, Refused, Back}
 use Rattle.gr_book.specs.State.{State}
-use Rattle.gr_book.specs.Carried.{IsCarried}
+use Rattle.gr_keep.specs.Carried.{IsCarried}
 use Rattle.gr_book.specs.Machine.{Machine, IsOneBefore, opening}
 use Rattle.gr_book.specs.Run.{Run}
 use Rattle.gr_book.specs.Deliveries.{IsFresh, IsRightlyBuilt}
 use Rattle.gr_book.specs.Step.{Step, Answers}
 use Rattle.gr_book.specs.Current.{AreUnits, HasCurrentUnits, UnitsAreCurrent, StepsKeepUnits, FinishedAreCurrent}
-use Rattle.gr_book.proofs.ClosureTexts.{inputs_same, package_there}
+use Rattle.gr_keep.proofs.ClosureTexts.{inputs_same, package_there}
 
 -- what a list has where it was written
 set_here : {X : Type 0} (xs : List X) (n : ℕ) (y z : X) → slice_get (set xs n y) n ≡ Some z → y ≡ z

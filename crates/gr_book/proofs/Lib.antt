@@ -1,10 +1,5 @@
 -- The lemmas of this crate.
 pub mod Entries
-pub mod ClosureTexts
-pub mod Learning
-pub mod ClosureFiles
-pub mod Changed
-pub mod Carrying
 pub mod Waits
 pub mod Fresh
 pub mod Settled

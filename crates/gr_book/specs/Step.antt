@@ -12,7 +12,7 @@ use Rattle.gr_book.specs.declared.event.Event.{Event}
 use Rattle.gr_book.specs.declared.event.Event.TheVariants.{Look, Commit, Undo, Redo, Take, Deliver, GiveBack}
 use Rattle.gr_book.specs.declared.event.Reply.{Reply}
 use Rattle.gr_book.specs.declared.event.Reply.TheVariants.{Looked, Done, Taken, Refused, Back}
-use Rattle.gr_book.specs.Carried.{IsCarried}
+use Rattle.gr_keep.specs.Carried.{IsCarried}
 use Rattle.gr_book.specs.Machine.{Machine, BeginsVisit, Enters, FitsCurrent, IsOneBefore, Returns, changed, recorded, view_of}
 use Rattle.gr_book.specs.Waiting.{IsNextJob, WaitsIn}
 use Rattle.gr_book.specs.Deliveries.{IsFresh, IsRightlyBuilt, HasUnit}

@@ -4,16 +4,13 @@ ghost use Rattle.gr_compile.specs.Jobs.{IsOut};
 ghost use Rattle.gr_book.specs.Machine.{Machine, opening, newest};
 ghost use Rattle.gr_book.specs.Step.{HasRoom, Step, done, entries_due, looked, taken};
 
-use crate::carried::carried;
-use crate::changes::changed_marks;
 use crate::deliveries::{outcome_of, settle};
 use crate::event::{Event, Reply, refuse};
-use crate::inputs::inputs_of;
-use crate::knowing::{kept, known_within};
 use crate::state::State;
 use crate::waiting::first_waiting;
 use gr_compile::{Built, Job, Out, SharedPath};
 use gr_graph::Graph;
+use gr_keep::{carried_units, changed_marks, inputs_of, kept, known_within};
 use gr_space::{Change, Finished, Snapshot, View};
 use gr_text::{Files, Limits, Refusal};
 use gr_verdict::Known;
@@ -151,7 +148,7 @@ impl Book {
         }
         let files = change.files;
         let marks = changed_marks(self.alloc, &current.files, &files)?;
-        let finished = carried(
+        let finished = carried_units(
             self.alloc,
             &current.files,
             &current.finished,

@@ -3,10 +3,9 @@ ghost use Rattle.std.specs.Prelude.{◌≡◌, ◌↔◌, IfOk, IsTrue};
 ghost use Rattle.gr_book.specs.Outcomes.{ComesTo, FindsFresh, HasTable, Settles};
 
 use crate::event::Reply;
-use crate::inputs::closure_files;
-use crate::knowing::learned;
 use crate::state::State;
 use gr_compile::{Built, Job};
+use gr_keep::{closure_files, learned};
 use gr_space::Finished;
 use gr_text::Refusal;
 use gr_verdict::Known;

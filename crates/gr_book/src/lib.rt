@@ -2,12 +2,8 @@
 #![tactic(auto)]
 
 mod book;
-mod carried;
-mod changes;
 mod deliveries;
 mod event;
-mod inputs;
-mod knowing;
 mod laws;
 mod state;
 mod waiting;

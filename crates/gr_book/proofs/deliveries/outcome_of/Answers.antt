@@ -9,9 +9,9 @@ use Rattle.gr_verdict.specs.Found.{KnowsVerdicts}
 use Rattle.gr_compile.specs.declared.unit.Unit.{Unit as PackageUnit}
 use Rattle.gr_space.specs.Finished.{Table}
 use Rattle.gr_book.specs.State.{State}
-use Rattle.gr_book.specs.Knowing.{HasClosuresOf}
+use Rattle.gr_keep.specs.Knowing.{HasClosuresOf}
 use Rattle.gr_book.specs.Outcomes.{FindsFresh}
-use Rattle.gr_book.proofs.Learning.{inputs_closures}
+use Rattle.gr_keep.proofs.Learning.{inputs_closures}
 use Rattle.gr_book.proofs.Fresh.{is_there, not_there, no_unit}
 use Rattle.gr_book.proofs.deliveries.outcome_of.Goals as goal
 

@@ -8,7 +8,7 @@ use Rattle.gr_compile.specs.declared.job.JobRecord.{JobRecord}
 use Rattle.gr_book.specs.State.{State}
 use Rattle.gr_book.specs.Machine.{Machine, recorded}
 use Rattle.gr_book.specs.Waiting.{WaitsIn, IsFirstWaiting, IsNextJob}
-use Rattle.gr_book.proofs.Learning.{inputs_closures}
+use Rattle.gr_keep.proofs.Learning.{inputs_closures}
 use Rattle.gr_book.proofs.book.Book.take.Goals as goal
 
 pub returns-in_default : goal.returns-in_default

@@ -1,0 +1,6 @@
+-- The lemmas of this crate.
+pub mod ClosureTexts
+pub mod Learning
+pub mod ClosureFiles
+pub mod Changed
+pub mod Carrying

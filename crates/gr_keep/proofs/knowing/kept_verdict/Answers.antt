@@ -1,0 +1,30 @@
+-- The verdict of before, where the closure stays.
+use Rattle.std.proofs.Common.{◌≡◌, ℕ, List, Some, slice_get, sym, ap, subst, ◌∙◌}
+use Rattle.std.proofs.lemmas.Option.{none-some, same_Some, slice_get_within}
+use Rattle.gr_text.specs.Packages.{package_paths}
+use Rattle.gr_graph.proofs.Asked.{at_contains}
+use Rattle.gr_verdict.specs.Found.{TellsVerdict}
+use Rattle.gr_keep.proofs.Learning.{verdict_stays}
+use Rattle.gr_keep.proofs.knowing.kept_verdict.Goals as goal
+
+pub returns-in_default : goal.returns-in_default
+returns-in_default c = λ p at one is. absurd (none-some one is)
+
+pub returns-in_default-get : goal.returns-in_default-get
+returns-in_default-get c = λ p at one is. absurd (none-some one is)
+
+pub keeps_texts-requires-clause-old : goal.keeps_texts-requires-clause-old
+keeps_texts-requires-clause-old c = slice_get_within (package_paths c.args.before.now) c.in-Some.old _ c.in-Some.ensures
+
+pub returns-then-not-keeps_texts : goal.returns-then-not-keeps_texts
+returns-then-not-keeps_texts c = λ p at one is. absurd (none-some one is)
+
+pub returns : goal.returns
+returns c = λ p at one is.
+    let v = c.args.before.now in
+    let old = c.in-Some.old in
+    let path : c.deref.result.now ≡ p = c.deref.ensures.value ∙ same_Some _ _ (sym c.package.ensures.path ∙ at) in
+    let before : slice_get (package_paths v) old ≡ Some p = c.in-Some.ensures ∙ ap Some path in
+    let told = c.requires.known old p c.in-Some-get.verdict.now before c.in-Some-get.ensures in
+    let tells = subst (TellsVerdict v p) (sym c.in_ok-verdict.ensures.cases ∙ same_Some c.in_ok-verdict.verdict one is) told in
+    verdict_stays v c.args.after.now p one (at_contains v old p before) (c.keeps_texts.ensures.0 c.if-not-keeps_texts.false p before) tells

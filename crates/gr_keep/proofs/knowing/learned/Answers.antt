@@ -1,0 +1,13 @@
+-- One package further.
+use Rattle.gr_verdict.proofs.Telling.{nothing_told, told_next}
+use Rattle.gr_keep.proofs.knowing.learned.Goals as goal
+
+pub loop-number-init : goal.loop-number-init
+loop-number-init c = nothing_told c.new-known.result c.new-known.ensures.nothing c.args.files.now
+
+pub loop-number-preserved : goal.loop-number-preserved
+loop-number-preserved c =
+    told_next c.args.files.now c.loop-number.number c.loop-number.known c.push.new.self c.in_ok-verdict.verdict c.in_ok-push.ensures c.loop-number.invariant c.in_ok-verdict.ensures
+
+pub returns : goal.returns
+returns c = c.loop-number.invariant.verdicts

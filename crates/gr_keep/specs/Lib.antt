@@ -1,0 +1,5 @@
+-- The definitions of this crate.
+pub mod Carried
+pub mod Inputs
+pub mod Changes
+pub mod Knowing

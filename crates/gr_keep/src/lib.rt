@@ -1,0 +1,12 @@
+//! What a change carries over and keeps of a workspace's packages, and what a Job of one of them is given.
+#![tactic(auto)]
+
+mod carried;
+mod changes;
+mod inputs;
+mod knowing;
+
+pub use carried::carried_units;
+pub use changes::{Marks, changed_marks};
+pub use inputs::{closure_files, inputs_of};
+pub use knowing::{kept, known_within, learned};
