@@ -12,24 +12,11 @@ use Rattle.gr_book.specs.declared.event.Reply.{Reply}
 use Rattle.gr_book.specs.declared.event.Reply.TheVariants.{Looked, Done, Taken, Refused, Back}
 use Rattle.gr_desk.specs.Queries.{Cats, WritesUses, TellsFaults, TellsObject, listing}
 use Rattle.gr_desk.specs.Work.{Works}
-use Rattle.gr_desk.specs.declared.command.Command.{Command}
-use Rattle.gr_desk.specs.declared.command.Command.TheVariants as command
-use Rattle.gr_desk.specs.declared.command.Response.{Response}
-use Rattle.gr_desk.specs.declared.command.Response.TheVariants as response
-
--- the basis that a command gives, where it gives one
-abbrev pub basis_of : Command → Option ℕ
-basis_of command.Look = None
-basis_of (command.Put basis path body) = Some basis
-basis_of (command.Del basis path) = Some basis
-basis_of (command.Undo basis) = Some basis
-basis_of (command.Redo basis) = Some basis
-basis_of (command.Cat path) = None
-basis_of (command.Uses path offset) = None
-basis_of command.List = None
-basis_of command.Faults = None
-basis_of (command.Object path) = None
-basis_of command.Work = None
+use Rattle.gr_line.specs.Commands.{basis_of}
+use Rattle.gr_line.specs.declared.command.Command.{Command}
+use Rattle.gr_line.specs.declared.command.Command.TheVariants as command
+use Rattle.gr_line.specs.declared.command.Response.{Response}
+use Rattle.gr_line.specs.declared.command.Response.TheVariants as response
 
 -- the command is meant for the state that the view shows
 abbrev pub FitsView : View → Command → Type 0

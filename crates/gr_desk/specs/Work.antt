@@ -8,8 +8,8 @@ use Rattle.gr_book.specs.declared.event.Event.{Event}
 use Rattle.gr_book.specs.declared.event.Event.TheVariants.{Take, Deliver, GiveBack}
 use Rattle.gr_book.specs.declared.event.Reply.{Reply}
 use Rattle.gr_book.specs.declared.event.Reply.TheVariants.{Done, Taken, Refused, Back}
-use Rattle.gr_desk.specs.declared.command.Response.{Response}
-use Rattle.gr_desk.specs.declared.command.Response.TheVariants as response
+use Rattle.gr_line.specs.declared.command.Response.{Response}
+use Rattle.gr_line.specs.declared.command.Response.TheVariants as response
 
 -- the path of a package, and a newline
 abbrev pub package_line : List ℕ → List ℕ

@@ -2,11 +2,11 @@
 ghost use Rattle.std.specs.Prelude.{◌≡◌, ◌↔◌, IsTrue};
 ghost use Rattle.gr_desk.specs.Act.{Acts, Commits, FitsView, PlansBody, Sends};
 
-use crate::command::{Command, Response};
 use crate::desk::Desk;
 use crate::queries::{cat, faults, list, object, uses};
 use crate::working::work;
 use gr_book::{Event, Reply};
+use gr_line::{Command, Response};
 use gr_space::{Change, View, plan_del, plan_put};
 use gr_text::{FileText, Path, Refusal};
 use std::alloc::Global;

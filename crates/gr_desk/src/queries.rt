@@ -3,7 +3,7 @@ ghost use Rattle.std.specs.Prelude.{◌≡◌, ◌++◌, IfOk, OnOk};
 ghost use Rattle.gr_text.specs.PlaceText.{place_text, fault_line};
 ghost use Rattle.gr_desk.specs.Queries.{Cats, WritesUses, TellsFaults, TellsObject, file_line, place_lines, fault_lines, listing};
 
-use crate::bytes::Bytes;
+use gr_line::Bytes;
 use gr_space::View;
 use gr_text::{FileText, Path, Place, Refusal};
 use gr_verdict::FileFault;

@@ -3,11 +3,10 @@ ghost use Rattle.std.specs.Prelude.{◌≡◌, IfOk};
 ghost use Rattle.gr_compile.specs.Builds.{IsBuiltOf};
 ghost use Rattle.gr_desk.specs.Work.{Builds, Delivers, GivesBack, Works, package_line};
 
-use crate::bytes::Bytes;
-use crate::command::Response;
 use crate::desk::Desk;
 use gr_book::{Event, Reply};
 use gr_compile::{Built, Job, build};
+use gr_line::{Bytes, Response};
 use gr_text::Refusal;
 use std::alloc::{AllocError, Global};
 

@@ -1,8 +1,9 @@
 //! Readers and writers that are slow, and that fail.
 use crate::desks::opened;
 use gr_desk::Solo;
+use gr_line::{Reading, Writing};
 use gr_text::Limits;
-use gr_wire::{Reading, SessionFault, Writing, session, transcript};
+use gr_wire::{SessionFault, session, transcript};
 use std::alloc::Global;
 use std::io;
 use std::io::{Read, Write};

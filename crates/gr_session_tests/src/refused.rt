@@ -1,8 +1,9 @@
 //! Sessions in which one allocation is refused: run with each allocation failing in turn.
 use crate::desks::opened;
 use gr_desk::Solo;
+use gr_line::{Reading, Writing};
 use gr_text::Limits;
-use gr_wire::{Reading, SessionFault, Writing, session};
+use gr_wire::{SessionFault, session};
 use std::alloc::Global;
 use std::process::Abort;
 

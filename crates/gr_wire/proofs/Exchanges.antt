@@ -4,11 +4,11 @@ use Rattle.std.proofs.lemmas.Grind.{flat_map-append}
 use Rattle.gr_text.specs.declared.limits.Limits.{Limits}
 use Rattle.gr_book.specs.declared.event.Event.{Event}
 use Rattle.gr_book.specs.declared.event.Reply.{Reply}
-use Rattle.gr_desk.specs.declared.command.Response.{Response}
-use Rattle.gr_wire.specs.declared.message.Message.{Message}
-use Rattle.gr_wire.specs.Wire.{Says, Reads}
+use Rattle.gr_line.specs.declared.command.Response.{Response}
+use Rattle.gr_line.specs.declared.message.Message.{Message}
+use Rattle.gr_line.specs.Wire.{Says, Reads}
 use Rattle.gr_wire.specs.Answers.{Answered, AnswersAll}
-use Rattle.gr_wire.specs.Replies.{reply_text}
+use Rattle.gr_line.specs.Replies.{reply_text}
 use Rattle.gr_wire.specs.Transcript.{Exchange}
 
 pub Reads-append : (limits : Limits) (input mid rest : List ℕ) (ms ns : List Message)

@@ -2,12 +2,4 @@
 pub mod Exchanges
 pub mod Steps
 pub mod Served
-pub mod LineSoFar
-pub mod Words
-pub mod Places
-pub mod LineWords
-pub mod Filled
-pub mod Puts
-pub mod Nexts
-pub mod Unique
 pub mod Runs

@@ -12,14 +12,14 @@ use Rattle.gr_book.specs.declared.event.Reply.TheVariants.{Looked, Done, Taken, 
 use Rattle.gr_book.specs.Machine.{Machine}
 use Rattle.gr_book.specs.Step.{Step}
 use Rattle.gr_book.specs.Run.{Run}
-use Rattle.gr_desk.specs.declared.command.Command.{Command}
-use Rattle.gr_desk.specs.declared.command.Command.TheVariants.{Look, Put, Del, Undo, Redo, Cat, Uses}
-use Rattle.gr_desk.specs.declared.command.Command.TheVariants as command
-use Rattle.gr_desk.specs.declared.command.Response.{Response}
+use Rattle.gr_line.specs.declared.command.Command.{Command}
+use Rattle.gr_line.specs.declared.command.Command.TheVariants.{Look, Put, Del, Undo, Redo, Cat, Uses}
+use Rattle.gr_line.specs.declared.command.Command.TheVariants as command
+use Rattle.gr_line.specs.declared.command.Response.{Response}
 use Rattle.gr_desk.specs.Act.{Acts, ActsOn, Commits, Continues, Sends}
 use Rattle.gr_desk.specs.Work.{Works, AfterTake, AfterDelivery, Builds, Delivers, GivesBack}
-use Rattle.gr_wire.specs.declared.message.Message.{Message}
-use Rattle.gr_wire.specs.declared.message.Message.TheVariants.{Ask, Unknown, CutShort}
+use Rattle.gr_line.specs.declared.message.Message.{Message}
+use Rattle.gr_line.specs.declared.message.Message.TheVariants.{Ask, Unknown, CutShort}
 use Rattle.gr_wire.specs.Answers.{Answered, AnswersAll}
 use Rattle.gr_wire.specs.Laws.{RunsTheMachine}
 

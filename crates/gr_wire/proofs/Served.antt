@@ -5,20 +5,20 @@ use Rattle.std.proofs.KnownBytes.{Appends-nil}
 use Rattle.gr_text.specs.declared.limits.Limits.{Limits}
 use Rattle.gr_book.specs.declared.event.Event.{Event}
 use Rattle.gr_book.specs.declared.event.Reply.{Reply}
-use Rattle.gr_desk.specs.declared.command.Response.{Response}
-use Rattle.gr_wire.specs.declared.message.Message.{Message}
-use Rattle.gr_wire.specs.declared.message.Message.TheVariants.{Ask, Unknown, CutShort}
-use Rattle.gr_desk.specs.declared.command.Response.TheVariants.{Refused}
+use Rattle.gr_line.specs.declared.command.Response.{Response}
+use Rattle.gr_line.specs.declared.message.Message.{Message}
+use Rattle.gr_line.specs.declared.message.Message.TheVariants.{Ask, Unknown, CutShort}
+use Rattle.gr_line.specs.declared.command.Response.TheVariants.{Refused}
 use Rattle.gr_text.specs.declared.refusal.Refusal.TheVariants as refusal
-use Rattle.gr_wire.specs.declared.input.InputFault.{InputFault}
-use Rattle.gr_wire.specs.declared.input.InputFault.TheVariants as fault
-use Rattle.gr_wire.specs.declared.next.Next.TheVariants as next
+use Rattle.gr_line.specs.declared.input.InputFault.{InputFault}
+use Rattle.gr_line.specs.declared.input.InputFault.TheVariants as fault
+use Rattle.gr_line.specs.declared.next.Next.TheVariants as next
 use Rattle.gr_wire.specs.declared.exchange.SessionFault.TheVariants.{Write}
 use Rattle.gr_wire.specs.Answers.{Answered}
-use Rattle.gr_wire.specs.Replies.{reply_text}
-use Rattle.gr_wire.specs.Incoming.{ReadsNext}
+use Rattle.gr_line.specs.Replies.{reply_text}
+use Rattle.gr_line.specs.Incoming.{ReadsNext}
 use Rattle.gr_wire.specs.Faults.{fault_of}
-use Rattle.gr_wire.specs.Last.{is_last}
+use Rattle.gr_line.specs.Last.{is_last}
 use Rattle.gr_wire.specs.Transcript.{StepEnds}
 use Rattle.gr_wire.proofs.Exchanges.{Exchange-none, Exchange-one}
 

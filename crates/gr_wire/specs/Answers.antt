@@ -3,11 +3,11 @@ use Rattle.std.specs.Prelude.{◌≡◌, List, [], ◌∷◌, ◌⊎◌}
 use Rattle.gr_text.specs.declared.refusal.Refusal.TheVariants.{Memory, BadCommand, BodyShort}
 use Rattle.gr_book.specs.declared.event.Event.{Event}
 use Rattle.gr_book.specs.declared.event.Reply.{Reply}
-use Rattle.gr_desk.specs.declared.command.Response.{Response}
-use Rattle.gr_desk.specs.declared.command.Response.TheVariants.{Refused}
+use Rattle.gr_line.specs.declared.command.Response.{Response}
+use Rattle.gr_line.specs.declared.command.Response.TheVariants.{Refused}
 use Rattle.gr_desk.specs.Act.{Acts}
-use Rattle.gr_wire.specs.declared.message.Message.{Message}
-use Rattle.gr_wire.specs.declared.message.Message.TheVariants.{Ask, Unknown, CutShort}
+use Rattle.gr_line.specs.declared.message.Message.{Message}
+use Rattle.gr_line.specs.declared.message.Message.TheVariants.{Ask, Unknown, CutShort}
 
 module _ {D : Type 0} (steps : D → Event → Reply → D → Type 0) where
   -- from old, a session may answer this message so; want of memory to keep a command changes nothing

@@ -1,17 +1,5 @@
 -- The definitions of this crate.
-pub mod Failures
 pub mod Faults
-pub mod Last
-pub mod Limit
-pub mod Words
-pub mod Lines
-pub mod Wire
-pub mod Replies
 pub mod Answers
-pub mod Incoming
 pub mod Transcript
 pub mod Laws
-pub mod Parsing
-pub mod Stops
-pub mod Bodies
-pub mod Puts

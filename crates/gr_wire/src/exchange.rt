@@ -3,12 +3,11 @@ ghost use Rattle.std.specs.Prelude.{◌≡◌, ◌+◌, ◌^◌, ◌≤◌, ◌<
 ghost use Rattle.gr_wire.specs.Answers.{Answered};
 ghost use Rattle.gr_wire.specs.Transcript.{SessionEnds, CountsFaults, StepEnds};
 
-use crate::input::InputFault;
-use crate::message::Message;
-use crate::next::{LineBuffer, Next, read_command};
-use crate::output::print_reply;
-use crate::stream::{Sink, Source, WriteFailed};
-use gr_desk::{Desk, Response, act};
+use gr_desk::{Desk, act};
+use gr_line::{
+    InputFault, LineBuffer, Message, Next, Response, Sink, Source, WriteFailed, print_reply,
+    read_command,
+};
 use gr_text::{Limits, Refusal};
 use std::alloc::Global;
 
@@ -26,7 +25,7 @@ pub enum SessionFault {
 }
 
 impl From<InputFault> for SessionFault {
-    ghost use Rattle.gr_wire.specs.declared.input.InputFault.{InputFault};
+    ghost use Rattle.gr_line.specs.declared.input.InputFault.{InputFault};
     ghost use Rattle.gr_wire.specs.Faults.{fault_of};
 
     ghost from_gives = { λ fault result. result ≡ fault_of fault };

@@ -4,8 +4,8 @@ ghost use Rattle.gr_book.specs.Step.{Step};
 ghost use Rattle.gr_wire.specs.Transcript.{IsTranscript};
 
 use crate::exchange::{SessionFault, session};
-use crate::stream::{Reading, Writing};
 use gr_desk::Solo;
+use gr_line::{Reading, Writing};
 use gr_text::Limits;
 use std::alloc::Global;
 

@@ -1,0 +1,18 @@
+-- What a command gives besides what it asks.
+use Rattle.std.specs.Prelude.{ℕ, Option, Some, None}
+use Rattle.gr_line.specs.declared.command.Command.{Command}
+use Rattle.gr_line.specs.declared.command.Command.TheVariants as command
+
+-- the basis that a command gives, where it gives one
+abbrev pub basis_of : Command → Option ℕ
+basis_of command.Look = None
+basis_of (command.Put basis path body) = Some basis
+basis_of (command.Del basis path) = Some basis
+basis_of (command.Undo basis) = Some basis
+basis_of (command.Redo basis) = Some basis
+basis_of (command.Cat path) = None
+basis_of (command.Uses path offset) = None
+basis_of command.List = None
+basis_of command.Faults = None
+basis_of (command.Object path) = None
+basis_of command.Work = None

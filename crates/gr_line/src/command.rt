@@ -1,0 +1,95 @@
+//! What a session asks, and what it is answered. A later command is a variant here and a case of
+//! `basis_of` in specs/Commands.antt.
+ghost use Rattle.std.specs.Prelude.{◌≡◌};
+
+use crate::bytes::Bytes;
+use crate::word::Word;
+use gr_text::{FileText, Refusal};
+
+/// A command. Its basis is the number of the state that it is meant for.
+#[derive(Drop)]
+pub enum Command {
+    Look,
+    /// The body is None where it was not kept: the word is no path of a file, or it is over the limit of a file.
+    Put {
+        basis: u64,
+        path: Word,
+        body: Option<FileText>,
+    },
+    Del {
+        basis: u64,
+        path: Word,
+    },
+    Undo {
+        basis: u64,
+    },
+    Redo {
+        basis: u64,
+    },
+    Cat {
+        path: Word,
+    },
+    /// The offset is that of any byte of an identifier, or of the path literal of an import.
+    Uses {
+        path: Word,
+        offset: usize,
+    },
+    List,
+    Faults,
+    /// The object of a package.
+    Object {
+        path: Word,
+    },
+    /// Builds one package in this session.
+    Work,
+}
+
+impl Command {
+    ghost use Rattle.gr_line.specs.Commands.{basis_of};
+
+    /// The basis, where the command gives one.
+    pub fn basis(&self) -> Option<u64>
+        ensures { result ≡ basis_of self.now }
+    {
+        match self {
+            Command::Put { basis, .. }
+            | Command::Del { basis, .. }
+            | Command::Undo { basis }
+            | Command::Redo { basis } => Some(*basis),
+            Command::Look
+            | Command::Cat { .. }
+            | Command::Uses { .. }
+            | Command::List
+            | Command::Faults
+            | Command::Object { .. }
+            | Command::Work => None,
+        }
+    }
+}
+
+/// The answer to a command. The number is that of the current state after it.
+#[derive(Drop)]
+pub enum Response {
+    Done {
+        number: u64,
+    },
+    /// How many steps undo and redo can make.
+    Steps {
+        number: u64,
+        undo: usize,
+        redo: usize,
+    },
+    /// The text of one file, or an object.
+    File {
+        number: u64,
+        text: FileText,
+    },
+    /// Lines that were made for this answer.
+    Lines {
+        number: u64,
+        text: Bytes,
+    },
+    Refused {
+        refusal: Refusal,
+    },
+}

@@ -1,0 +1,215 @@
+//! The next message of an input. A later command is an arm of `command_after` and a case of
+//! `SaysCommand` in specs/Wire.antt.
+ghost use Rattle.std.specs.Prelude.{◌≡◌, ◌+◌, ◌^◌, ◌≤◌, ◌<◌, IfOk, vec_capacity};
+ghost use Rattle.gr_line.specs.Failures.{CountsReadFault};
+ghost use Rattle.gr_line.specs.Incoming.{ReadsNext};
+ghost use Rattle.gr_line.specs.Puts.{ReadsPut, ReadsAfter, put_next, TellsKept};
+ghost use Rattle.gr_line.specs.Parsing.{ReadsLineText};
+
+use crate::body::{Body, read_body, skip};
+use crate::command::Command;
+use crate::input::{InputFault, Line, read_line};
+use crate::message::Message;
+use crate::parse::{CommandLine, parse_command_line};
+use crate::stream::Source;
+use crate::word::Word;
+use gr_text::{Limits, Path, Refusal};
+use std::alloc::{AllocError, Global};
+
+/// What comes next in an input.
+#[derive(Drop)]
+pub enum Next {
+    /// The end of the session.
+    End,
+    Message(Message),
+    /// A command that there was no memory to keep.
+    NoRoom,
+}
+
+/// Room for the longest command line.
+#[derive(Drop)]
+pub struct LineBuffer {
+    bytes: Vec<u8>,
+    ghost room: { 1024 ≤ vec_capacity bytes },
+}
+
+impl LineBuffer {
+    pub fn new(alloc: Global) -> Result<LineBuffer, AllocError> {
+        let bytes = Vec::with_capacity(alloc, 1024)?;
+        Ok(LineBuffer { bytes })
+    }
+}
+
+/// Whether the body of a put is kept: its path is one of a file, and it is within the limit of a file.
+fn is_kept(alloc: Global, path: &str, size: u32, limits: &Limits) -> Result<bool, AllocError>
+    ensures { IfOk result (TellsKept limits.now path.now size) }
+{
+    if size as usize > limits.file_bytes {
+        return Ok(false);
+    }
+    match Path::read(alloc, path, 2) {
+        Ok(path) => {
+            drop(path);
+            Ok(true)
+        }
+        Err(Refusal::Memory) => Err(AllocError),
+        Err(_) => Ok(false),
+    }
+}
+
+/// The message of a line `put` and its body.
+fn put_message(basis: u64, path: Word, body: Body) -> Next
+    ensures { result ≡ put_next basis path body }
+{
+    let body = match body {
+        Body::Kept(text) => Some(text),
+        Body::Dropped => None,
+        Body::NoRoom => return Next::NoRoom,
+        Body::Short => return Next::Message(Message::CutShort),
+    };
+    Next::Message(Message::Ask(Command::Put { basis, path, body }))
+}
+
+/// The word of a put, and whether its body is kept.
+fn prepare_put(
+    alloc: Global,
+    path: &str,
+    size: u32,
+    limits: &Limits,
+) -> Result<(Word, bool), AllocError>
+    ensures { IfOk result (λ put. (put.0 ≡ path.now) × TellsKept limits.now path.now size put.1) }
+{
+    let is_kept = is_kept(alloc, path, size, limits)?;
+    Ok((Word::new(alloc, path)?, is_kept))
+}
+
+/// Reads the body that a line announces, and makes the command.
+fn read_put<S: Source>(
+    alloc: Global,
+    source: &mut S,
+    reads_left: &mut u64,
+    basis: u64,
+    path: &str,
+    size: u32,
+    limits: &Limits,
+) -> Result<Next, InputFault>
+    requires reads { S.reads source.old + reads_left.old < 2 ^ 64 }
+    ensures put { ReadsPut limits.now basis path.now size (S.remaining source.old) (S.remaining source.new) result }
+    ensures counted { CountsReadFault (S.failures source.old) (S.failures source.new) result }
+    ensures turns { IfOk result (λ _. reads_left.new ≤ reads_left.old) }
+    ensures reads { S.reads source.new + reads_left.new ≡ S.reads source.old + reads_left.old }
+    ensures turns_over { result ≡ Err InputFault.Turns → reads_left.new ≡ 0 }
+{
+    match prepare_put(alloc, path, size, limits) {
+        Err(_) => {
+            let is_whole = skip(source, reads_left, size as usize)?;
+            Ok(if is_whole {
+                Next::NoRoom
+            } else {
+                Next::Message(Message::CutShort)
+            })
+        }
+        Ok((path, is_kept)) => {
+            let body = read_body(alloc, source, reads_left, size as usize, is_kept)?;
+            Ok(put_message(basis, path, body))
+        }
+    }
+}
+
+fn ask(command: Command) -> Next
+    ensures { result ≡ Next.Message (Message.Ask command) }
+{
+    Next::Message(Message::Ask(command))
+}
+
+/// What a command line says, once the bytes that it announces are read.
+fn command_after<S: Source>(
+    alloc: Global,
+    source: &mut S,
+    reads_left: &mut u64,
+    line: CommandLine<'_>,
+    limits: &Limits,
+) -> Result<Next, InputFault>
+    requires reads { S.reads source.old + reads_left.old < 2 ^ 64 }
+    ensures line { ReadsAfter limits.now line.entry (S.remaining source.old) (S.remaining source.new) result }
+    ensures counted { CountsReadFault (S.failures source.old) (S.failures source.new) result }
+    ensures turns { IfOk result (λ _. reads_left.new ≤ reads_left.old) }
+    ensures reads { S.reads source.new + reads_left.new ≡ S.reads source.old + reads_left.old }
+    ensures turns_over { result ≡ Err InputFault.Turns → reads_left.new ≡ 0 }
+{
+    match line {
+        CommandLine::Put { basis, path, size } => {
+            read_put(
+                alloc,
+                source,
+                reads_left,
+                basis,
+                path.as_str(),
+                size,
+                limits,
+            )
+        }
+        CommandLine::End => Ok(Next::End),
+        CommandLine::Look => Ok(ask(Command::Look)),
+        CommandLine::List => Ok(ask(Command::List)),
+        CommandLine::Faults => Ok(ask(Command::Faults)),
+        CommandLine::Work => Ok(ask(Command::Work)),
+        CommandLine::Undo { basis } => Ok(ask(Command::Undo { basis })),
+        CommandLine::Redo { basis } => Ok(ask(Command::Redo { basis })),
+        CommandLine::Del { basis, path } => match Word::new(alloc, path.as_str()) {
+            Ok(path) => Ok(ask(Command::Del { basis, path })),
+            Err(_) => Ok(Next::NoRoom),
+        },
+        CommandLine::Cat { path } => match Word::new(alloc, path.as_str()) {
+            Ok(path) => Ok(ask(Command::Cat { path })),
+            Err(_) => Ok(Next::NoRoom),
+        },
+        CommandLine::Object { path } => match Word::new(alloc, path.as_str()) {
+            Ok(path) => Ok(ask(Command::Object { path })),
+            Err(_) => Ok(Next::NoRoom),
+        },
+        CommandLine::Uses { path, offset } => match Word::new(alloc, path.as_str()) {
+            Ok(path) => Ok(ask(Command::Uses {
+                path,
+                offset: offset as usize,
+            })),
+            Err(_) => Ok(Next::NoRoom),
+        },
+    }
+}
+
+/// The command line that a line is, or None.
+fn command_line_of(line: &[u8]) -> Option<CommandLine<'_>>
+    ensures { ReadsLineText line.now result }
+{
+    match str::from_utf8(line) {
+        Ok(text) => parse_command_line(text),
+        Err(_) => None,
+    }
+}
+
+/// Reads the next message whole, and nothing beyond it. A read is taken from `reads_left` for each read of the source.
+pub fn read_command<S: Source>(
+    alloc: Global,
+    source: &mut S,
+    reads_left: &mut u64,
+    line: &mut LineBuffer,
+    limits: &Limits,
+) -> Result<Next, InputFault>
+    requires reads { S.reads source.old + reads_left.old < 2 ^ 64 }
+    ensures next { ReadsNext limits.now (S.remaining source.old) (S.remaining source.new) result }
+    ensures counted { CountsReadFault (S.failures source.old) (S.failures source.new) result }
+    ensures turns { IfOk result (λ _. reads_left.new < reads_left.old) }
+    ensures reads { S.reads source.new + reads_left.new ≡ S.reads source.old + reads_left.old }
+    ensures turns_over { result ≡ Err InputFault.Turns → reads_left.new ≡ 0 }
+{
+    match read_line(source, reads_left, &mut line.bytes, limits.command_bytes) {
+        Err(fault) => Err(fault),
+        Ok(Line::Nothing) => Ok(Next::End),
+        Ok(Line::TooLong) => Ok(Next::Message(Message::Unknown)),
+        Ok(Line::Whole) => match command_line_of(&line.bytes) {
+            None => Ok(Next::Message(Message::Unknown)),
+            Some(command) => command_after(alloc, source, reads_left, command, limits),
+        },
+    }
+}

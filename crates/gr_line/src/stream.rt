@@ -1,0 +1,131 @@
+//! What a session reads from and writes to. Both count their failures, so that a contract can say
+//! that a fault is answered only where the reader or the writer failed in that call.
+ghost use Rattle.std.specs.Prelude.{◌≡◌, ◌≢◌, ◌<◌, ◌+◌, ◌-◌, ◌^◌, ℕ, List, Option, IfOk};
+ghost use Rattle.std.specs.Io.{ReadsAtMost, WritesAtMost};
+ghost use Rattle.std.specs.Io.KnownBytes.{ReadConsumes, WriteAppends};
+ghost use Rattle.gr_line.specs.Failures.{CountsFailure};
+
+use std::io::{Read, Write};
+
+#[derive(Clone, Copy, Debug, PartialEq, Eq)]
+pub struct ReadFailed;
+
+#[derive(Clone, Copy, Debug, PartialEq, Eq)]
+pub struct WriteFailed;
+
+pub trait Source {
+    /// The bytes that reads will give from here on, where they are known.
+    ghost remaining: { Self → Option (List ℕ) };
+
+    /// The count of failed reads, which changes at each failure and at nothing else.
+    ghost failures: { Self → ℕ };
+
+    /// The count of reads.
+    ghost reads: { Self → ℕ };
+
+    fn read(&mut self, buf: &mut [u8]) -> Result<usize, ReadFailed>
+        requires { reads self.old < 2 ^ 64 - 1 }
+        ensures bound { ReadsAtMost result buf.new }
+        ensures bytes { ReadConsumes (remaining self.old) (remaining self.new) result buf.new }
+        ensures reads { reads self.new ≡ reads self.old + 1 }
+        ensures counted { CountsFailure (failures self.old) (failures self.new) result };
+}
+
+pub trait Sink {
+    /// The bytes written so far, where they are known.
+    ghost contents: { Self → Option (List ℕ) };
+
+    /// The count of failed writes, which changes at each failure and at nothing else.
+    ghost failures: { Self → ℕ };
+
+    /// Writes at least one byte, or fails.
+    fn write(&mut self, buf: &[u8]) -> Result<usize, WriteFailed>
+        ensures bound { WritesAtMost result buf.now }
+        ensures some { IfOk result (λ n. 0 < n) }
+        ensures bytes { WriteAppends (contents self.old) (contents self.new) result buf.now }
+        ensures counted { CountsFailure (failures self.old) (failures self.new) result };
+}
+
+/// Any reader, with the count of its failures.
+#[derive(Drop)]
+pub struct Reading<R> {
+    reader: R,
+    reads: u64,
+    failures: u64,
+}
+
+impl<R: Read> Reading<R> {
+    pub fn new(reader: R) -> Self
+        ensures bytes { ⟦<Reading<R> as Source>⟧.remaining result ≡ R.remaining reader }
+        ensures none { ⟦<Reading<R> as Source>⟧.failures result ≡ 0 }
+        ensures unread { ⟦<Reading<R> as Source>⟧.reads result ≡ 0 }
+    {
+        Reading {
+            reader,
+            reads: 0,
+            failures: 0,
+        }
+    }
+}
+
+impl<R: Read> Source for Reading<R> {
+    ghost remaining = { λ r. R.remaining r.reader };
+
+    ghost failures = { λ r. r.failures };
+
+    ghost reads = { λ r. r.reads };
+
+    fn read(&mut self, buf: &mut [u8]) -> Result<usize, ReadFailed> {
+        self.reads += 1;
+        match self.reader.read(buf) {
+            Ok(count) => Ok(count),
+            Err(_) => {
+                self.failures = self.failures.wrapping_add(1);
+                Err(ReadFailed)
+            }
+        }
+    }
+}
+
+/// Any writer, with the count of its failures.
+#[derive(Drop)]
+pub struct Writing<W> {
+    writer: W,
+    failures: u64,
+}
+
+impl<W: Write> Writing<W> {
+    pub fn new(writer: W) -> Self
+        ensures bytes { ⟦<Writing<W> as Sink>⟧.contents result ≡ W.contents writer }
+        ensures none { ⟦<Writing<W> as Sink>⟧.failures result ≡ 0 }
+    {
+        Writing {
+            writer,
+            failures: 0,
+        }
+    }
+
+    /// The writer, with what was written.
+    pub fn into_inner(self) -> W
+        ensures bytes { W.contents result ≡ ⟦<Writing<W> as Sink>⟧.contents self }
+    {
+        let Writing { writer, .. } = self;
+        writer
+    }
+}
+
+impl<W: Write> Sink for Writing<W> {
+    ghost contents = { λ w. W.contents w.writer };
+
+    ghost failures = { λ w. w.failures };
+
+    fn write(&mut self, buf: &[u8]) -> Result<usize, WriteFailed> {
+        match self.writer.write(buf) {
+            Ok(count) if count > 0 => Ok(count),
+            _ => {
+                self.failures = self.failures.wrapping_add(1);
+                Err(WriteFailed)
+            }
+        }
+    }
+}
