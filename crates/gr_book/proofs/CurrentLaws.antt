@@ -17,7 +17,7 @@ use Rattle.gr_compile.specs.declared.job.JobRecord.{JobRecord}
 use Rattle.gr_compile.specs.declared.unit.Unit.{Unit as PackageUnit}
 use Rattle.gr_compile.specs.Units.{IsUnitOf}
 use Rattle.gr_compile.proofs.Locality.{local_unit}
-use Rattle.gr_space.specs.Finished.{Table, IsFinished, Gains}
+use Rattle.gr_keep.specs.Finished.{Table, IsFinished, Gains}
 use Rattle.gr_book.specs.declared.event.Event.{Event}
 use Rattle.gr_book.specs.declared.event.Event.TheVariants.{Look, Commit, Undo, Redo, Take, Deliver, GiveBack}
 use Rattle.gr_book.specs.declared.event.Reply.{Reply}

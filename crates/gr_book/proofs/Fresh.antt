@@ -11,8 +11,8 @@ use Rattle.gr_compile.specs.Inputs.{AreInputs}
 use Rattle.gr_compile.specs.declared.built.Built.{Built}
 use Rattle.gr_compile.specs.declared.job.JobRecord.{JobRecord}
 use Rattle.gr_compile.specs.declared.unit.Unit.{Unit as PackageUnit}
-use Rattle.gr_space.specs.Finished.{Table}
-use Rattle.gr_space.proofs.FinishedUnits.{unit_at}
+use Rattle.gr_keep.specs.Finished.{Table}
+use Rattle.gr_keep.proofs.FinishedUnits.{unit_at}
 use Rattle.gr_book.specs.State.{State}
 use Rattle.gr_book.specs.Deliveries.{IsFresh, HasUnit}
 use Rattle.gr_book.proofs.Entries.{same_workspace}

@@ -5,7 +5,7 @@ use Rattle.gr_text.specs.declared.limits.Limits.{Limits}
 use Rattle.gr_text.specs.declared.refusal.Refusal.{Refusal}
 use Rattle.gr_text.specs.declared.refusal.Refusal.TheVariants.{Memory, JournalFull, Stale, Already}
 use Rattle.gr_compile.specs.Jobs.{JobsOut}
-use Rattle.gr_space.specs.declared.view.Change.{Change}
+use Rattle.gr_space.specs.declared.change.Change.{Change}
 use Rattle.gr_book.specs.declared.event.Event.{Event}
 use Rattle.gr_book.specs.declared.event.Event.TheVariants.{Commit, Undo, Redo}
 use Rattle.gr_book.specs.declared.event.Reply.{Reply}

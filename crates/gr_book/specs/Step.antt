@@ -6,8 +6,8 @@ use Rattle.gr_text.specs.declared.refusal.Refusal.TheVariants.{Memory, Moved, No
 use Rattle.gr_compile.specs.Jobs.{IsOut, label_of, with_job}
 use Rattle.gr_compile.specs.declared.built.Built.{Built}
 use Rattle.gr_compile.specs.declared.job.JobRecord.{JobRecord}
-use Rattle.gr_space.specs.Finished.{Table}
-use Rattle.gr_space.specs.declared.view.View.{View}
+use Rattle.gr_keep.specs.Finished.{Table}
+use Rattle.gr_book.specs.declared.view.View.{View}
 use Rattle.gr_book.specs.declared.event.Event.{Event}
 use Rattle.gr_book.specs.declared.event.Event.TheVariants.{Look, Commit, Undo, Redo, Take, Deliver, GiveBack}
 use Rattle.gr_book.specs.declared.event.Reply.{Reply}

@@ -7,11 +7,12 @@ ghost use Rattle.gr_book.specs.Step.{HasRoom, Step, done, entries_due, looked, t
 use crate::deliveries::{outcome_of, settle};
 use crate::event::{Event, Reply, refuse};
 use crate::state::State;
+use crate::view::View;
 use crate::waiting::first_waiting;
 use gr_compile::{Built, Job, Out, SharedPath};
 use gr_graph::Graph;
-use gr_keep::{carried_units, changed_marks, inputs_of, kept, known_within};
-use gr_space::{Change, Finished, Snapshot, View};
+use gr_keep::{Finished, carried_units, changed_marks, inputs_of, kept, known_within};
+use gr_space::{Change, Snapshot};
 use gr_text::{Files, Limits, Refusal};
 use gr_verdict::Known;
 use std::alloc::{AllocError, Global};

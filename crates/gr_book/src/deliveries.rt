@@ -5,8 +5,7 @@ ghost use Rattle.gr_book.specs.Outcomes.{ComesTo, FindsFresh, HasTable, Settles}
 use crate::event::Reply;
 use crate::state::State;
 use gr_compile::{Built, Job};
-use gr_keep::{closure_files, learned};
-use gr_space::Finished;
+use gr_keep::{Finished, closure_files, learned};
 use gr_text::Refusal;
 use gr_verdict::Known;
 use std::alloc::{AllocError, Global};

@@ -2,8 +2,9 @@
 ghost use Rattle.std.specs.Prelude.{◌≡◌};
 ghost use Rattle.gr_book.specs.Step.{refused};
 
+use crate::view::View;
 use gr_compile::{Built, Job};
-use gr_space::{Change, View};
+use gr_space::Change;
 use gr_text::Refusal;
 
 /// What happens to a book. The number is the basis: the state that the sender believes to be current.

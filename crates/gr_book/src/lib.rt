@@ -6,6 +6,7 @@ mod deliveries;
 mod event;
 mod laws;
 mod state;
+mod view;
 mod waiting;
 
 pub use book::Book;
@@ -13,3 +14,4 @@ pub use event::{Event, Reply, refuse};
 pub use laws::{
     finished_units_are_current, numbers_are_used_once, refusals_keep_all, undo_and_redo_restore,
 };
+pub use view::View;

@@ -1,8 +1,8 @@
 //! What the tests of histories do with a book, and what the replies to it tell. A book and a Job are no values that may be
 //! dropped, so no test ends by `?` while it has one.
-use gr_book::{Book, Event, Reply};
+use gr_book::{Book, Event, Reply, View};
 use gr_compile::{Built, Job, build};
-use gr_space::{Change, View, plan_put};
+use gr_space::{Change, plan_put};
 use gr_text::{FileText, Limits, Refusal};
 use std::process::Abort;
 
@@ -119,7 +119,7 @@ fn told(jobs: &mut Vec<Job>, reply: Reply) -> Outcome {
 fn planned(rt: &(impl Abort + AllocGlobal), view: &View, path: &str, bytes: &str) -> Change {
     let bytes = bytes.as_bytes().to_vec(rt.alloc()).expect(rt, "bytes");
     let text = FileText::new(rt.alloc(), bytes).expect(rt, "a text");
-    plan_put(rt.alloc(), view, path, text)
+    plan_put(rt.alloc(), &view.snapshot, path, text)
         .ok()
         .expect(rt, "a plan")
 }

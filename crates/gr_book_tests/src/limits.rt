@@ -1,6 +1,6 @@
 //! Each limit of a workspace, by plans of one file.
 use gr_graph::Graph;
-use gr_space::{Finished, Snapshot, View, plan_put};
+use gr_space::{Snapshot, plan_put};
 use gr_text::{FileText, Files, Limits, Path, Refusal};
 use std::process::Abort;
 
@@ -43,18 +43,11 @@ fn files(rt: &(impl Abort + AllocGlobal)) -> Files {
     files
 }
 
-fn view(rt: &(impl Abort + AllocGlobal), limits: Limits) -> View {
-    let files = Graph::of(rt.alloc(), files(rt)).expect(rt, "a graph");
-    let none = Vec::new(rt.alloc());
-    View {
-        snapshot: Snapshot {
-            number: 1,
-            limits,
-            files,
-        },
-        finished: Finished::new(rt.alloc(), none).expect(rt, "a table"),
-        undo: 1,
-        redo: 0,
+fn snapshot(rt: &(impl Abort + AllocGlobal), limits: Limits) -> Snapshot {
+    Snapshot {
+        number: 1,
+        limits,
+        files: Graph::of(rt.alloc(), files(rt)).expect(rt, "a graph"),
     }
 }
 
@@ -69,7 +62,7 @@ enum Plan {
 }
 
 fn put(rt: &(impl Abort + AllocGlobal), limits: Limits, path: &str, bytes: &str) -> Plan {
-    match plan_put(rt.alloc(), &view(rt, limits), path, text(rt, bytes)) {
+    match plan_put(rt.alloc(), &snapshot(rt, limits), path, text(rt, bytes)) {
         Ok(_) => Plan::Planned,
         Err(Refusal::BadPath) => Plan::BadPath,
         Err(Refusal::Same) => Plan::Same,

@@ -4,8 +4,8 @@ use Rattle.gr_text.specs.Path.{IsPath}
 use Rattle.gr_text.specs.declared.refusal.Refusal.{Refusal}
 use Rattle.gr_text.specs.declared.refusal.Refusal.TheVariants.{Memory, BadPath, TooLarge, Moved}
 use Rattle.gr_space.specs.Plan.{PlansPut, PlansDel}
-use Rattle.gr_space.specs.declared.view.View.{View}
-use Rattle.gr_space.specs.declared.view.Change.{Change}
+use Rattle.gr_book.specs.declared.view.View.{View}
+use Rattle.gr_space.specs.declared.change.Change.{Change}
 use Rattle.gr_book.specs.declared.event.Event.{Event}
 use Rattle.gr_book.specs.declared.event.Event.TheVariants.{Look, Commit, Undo, Redo}
 use Rattle.gr_book.specs.declared.event.Reply.{Reply}
@@ -32,7 +32,7 @@ PlansDropped path (Ok change) = ⊥
 
 abbrev pub PlansBody : View → List ℕ → Option (List ℕ) → Result Change Refusal → Type 0
 PlansBody view path None planned = PlansDropped path planned
-PlansBody view path (Some text) planned = PlansPut view path text planned
+PlansBody view path (Some text) planned = PlansPut view.snapshot path text planned
 
 -- the answer that tells a reply without a Job
 abbrev pub TellsReply : Reply → Response → Type 0
@@ -76,7 +76,7 @@ module _ {D : Type 0} (steps : D → Event → Reply → D → Type 0) where
   ActsOn old view (command.Put basis path body) answer new =
       (planned : Result Change Refusal) × PlansBody view path body planned × Commits old basis planned answer new
   ActsOn old view (command.Del basis path) answer new =
-      (planned : Result Change Refusal) × PlansDel view path planned × Commits old basis planned answer new
+      (planned : Result Change Refusal) × PlansDel view.snapshot path planned × Commits old basis planned answer new
   ActsOn old view (command.Undo basis) answer new = Sends old (Undo basis) answer new
   ActsOn old view (command.Redo basis) answer new = Sends old (Redo basis) answer new
   ActsOn old view (command.Cat path) answer new =

@@ -13,8 +13,8 @@ use Rattle.gr_verdict.specs.FaultLists.{ListsFaults}
 use Rattle.gr_verdict.specs.declared.fault.FileFault.{FileFault}
 use Rattle.gr_compile.specs.Builds.{result_of}
 use Rattle.gr_compile.specs.declared.unit.Unit.{Unit as PackageUnit}
-use Rattle.gr_space.specs.Finished.{IsFinished}
-use Rattle.gr_space.specs.declared.view.View.{View}
+use Rattle.gr_keep.specs.Finished.{IsFinished}
+use Rattle.gr_book.specs.declared.view.View.{View}
 use Rattle.gr_bound.specs.Uses.{TellsUses}
 
 -- reading one file

@@ -5,9 +5,9 @@ ghost use Rattle.gr_desk.specs.Act.{Acts, Commits, FitsView, PlansBody, Sends};
 use crate::desk::Desk;
 use crate::queries::{cat, faults, list, object, uses};
 use crate::working::work;
-use gr_book::{Event, Reply};
+use gr_book::{Event, Reply, View};
 use gr_line::{Command, Response};
-use gr_space::{Change, View, plan_del, plan_put};
+use gr_space::{Change, plan_del, plan_put};
 use gr_text::{FileText, Path, Refusal};
 use std::alloc::Global;
 
@@ -31,7 +31,7 @@ fn plan_body(
     ensures { PlansBody view.now path.now body result }
 {
     match body {
-        Some(text) => plan_put(alloc, view, path, text),
+        Some(text) => plan_put(alloc, &view.snapshot, path, text),
         None => {
             let path = Path::read(alloc, path, 2)?;
             drop(path);
@@ -115,7 +115,7 @@ pub fn act<D: Desk>(alloc: Global, desk: &mut D, command: Command) -> Response
             commit(desk, basis, planned)
         }
         Command::Del { basis, path } => {
-            let planned = plan_del(alloc, &view, path.as_str());
+            let planned = plan_del(alloc, &view.snapshot, path.as_str());
             commit(desk, basis, planned)
         }
         Command::Undo { basis } => undo(desk, basis),

@@ -3,8 +3,8 @@ ghost use Rattle.std.specs.Prelude.{◌≡◌, ◌++◌, IfOk, OnOk};
 ghost use Rattle.gr_text.specs.PlaceText.{place_text, fault_line};
 ghost use Rattle.gr_desk.specs.Queries.{Cats, WritesUses, TellsFaults, TellsObject, file_line, place_lines, fault_lines, listing};
 
+use gr_book::View;
 use gr_line::Bytes;
-use gr_space::View;
 use gr_text::{FileText, Path, Place, Refusal};
 use gr_verdict::FileFault;
 use itoa::Buffer;

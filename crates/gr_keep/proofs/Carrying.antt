@@ -14,8 +14,8 @@ use Rattle.gr_verdict.specs.Closures.{HasSameClosure}
 use Rattle.gr_verdict.proofs.Closed.{to_package}
 use Rattle.gr_verdict.proofs.Local.{same_back}
 use Rattle.gr_compile.specs.declared.unit.Unit.{Unit as PackageUnit}
-use Rattle.gr_space.specs.Finished.{Table, IsFinished}
-use Rattle.gr_space.proofs.FinishedUnits.{unit_at}
+use Rattle.gr_keep.specs.Finished.{Table, IsFinished}
+use Rattle.gr_keep.proofs.FinishedUnits.{unit_at}
 use Rattle.gr_keep.specs.Carried.{IsCarried}
 use Rattle.gr_keep.specs.Changes.{AreMarks, KeepsUnit}
 use Rattle.gr_keep.proofs.ClosureTexts.{KeepsClosure, same_texts, same_files, package_there}

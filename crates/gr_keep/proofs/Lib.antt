@@ -1,4 +1,5 @@
 -- The lemmas of this crate.
+pub mod FinishedUnits
 pub mod ClosureTexts
 pub mod Learning
 pub mod ClosureFiles

@@ -4,7 +4,7 @@ use Rattle.gr_text.specs.Workspace.{Workspace}
 use Rattle.gr_text.specs.Packages.{package_paths}
 use Rattle.gr_verdict.specs.Closures.{HasSameClosure}
 use Rattle.gr_compile.specs.declared.unit.Unit.{Unit as PackageUnit}
-use Rattle.gr_space.specs.Finished.{Table, IsFinished}
+use Rattle.gr_keep.specs.Finished.{Table, IsFinished}
 
 -- Of a change from the files v to the files w: the unit of each finished package whose closure has the same texts, and of no
 -- other. There is one such table.

@@ -7,7 +7,7 @@ use Rattle.gr_text.specs.Workspace.{Workspace}
 use Rattle.gr_graph.specs.Search.{IsMarked}
 use Rattle.gr_verdict.specs.Closures.{HasSameClosure}
 use Rattle.gr_compile.specs.declared.unit.Unit.{Unit as PackageUnit}
-use Rattle.gr_space.specs.Finished.{Table, IsFinished}
+use Rattle.gr_keep.specs.Finished.{Table, IsFinished}
 
 -- the package p has the same files in both workspaces
 abbrev pub HasSameFiles : Workspace → Workspace → List ℕ → Type 0

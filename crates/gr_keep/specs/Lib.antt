@@ -1,4 +1,5 @@
 -- The definitions of this crate.
+pub mod Finished
 pub mod Carried
 pub mod Inputs
 pub mod Changes

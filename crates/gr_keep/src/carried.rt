@@ -9,9 +9,9 @@ ghost use Rattle.gr_keep.specs.Carried.{IsCarried};
 ghost use Rattle.gr_keep.specs.Changes.{AreMarks, KeepsUnit};
 
 use crate::changes::Marks;
+use crate::finished::Finished;
 use gr_compile::Unit;
 use gr_graph::Graph;
-use gr_space::Finished;
 use std::alloc::{AllocError, Global};
 
 fn is_marked(marks: &[bool], number: usize) -> bool

@@ -3,10 +3,12 @@
 
 mod carried;
 mod changes;
+mod finished;
 mod inputs;
 mod knowing;
 
 pub use carried::carried_units;
 pub use changes::{Marks, changed_marks};
+pub use finished::Finished;
 pub use inputs::{closure_files, inputs_of};
 pub use knowing::{kept, known_within, learned};

@@ -1,11 +1,11 @@
-//! What a client sees of a workspace, and the changes that it plans.
+//! Snapshots of a workspace, and the changes that are planned on them.
 #![tactic(auto)]
 
-mod finished;
+mod change;
 mod fits;
 mod plan;
-mod view;
+mod snapshot;
 
-pub use finished::Finished;
+pub use change::{Change, ChangeKind};
 pub use plan::{plan_del, plan_put};
-pub use view::{Change, ChangeKind, Snapshot, View};
+pub use snapshot::Snapshot;

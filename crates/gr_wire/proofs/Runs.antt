@@ -3,8 +3,8 @@ use Rattle.std.proofs.Common.{◌≡◌, ℕ, List, [], ◌∷◌, ◌++◌, Res
 use Rattle.gr_text.specs.declared.refusal.Refusal.{Refusal}
 use Rattle.gr_compile.specs.declared.built.Built.{Built}
 use Rattle.gr_compile.specs.declared.job.JobRecord.{JobRecord}
-use Rattle.gr_space.specs.declared.view.View.{View}
-use Rattle.gr_space.specs.declared.view.Change.{Change}
+use Rattle.gr_book.specs.declared.view.View.{View}
+use Rattle.gr_space.specs.declared.change.Change.{Change}
 use Rattle.gr_book.specs.declared.event.Event.{Event}
 use Rattle.gr_book.specs.declared.event.Event.TheVariants as event
 use Rattle.gr_book.specs.declared.event.Reply.{Reply}

@@ -7,7 +7,7 @@ use Rattle.gr_text.specs.Packages.{package_paths}
 use Rattle.gr_text.specs.Workspace.{Workspace}
 use Rattle.gr_verdict.specs.Found.{KnowsVerdicts}
 use Rattle.gr_compile.specs.declared.unit.Unit.{Unit as PackageUnit}
-use Rattle.gr_space.specs.Finished.{Table}
+use Rattle.gr_keep.specs.Finished.{Table}
 use Rattle.gr_book.specs.State.{State}
 use Rattle.gr_keep.specs.Knowing.{HasClosuresOf}
 use Rattle.gr_book.specs.Outcomes.{FindsFresh}

@@ -5,20 +5,20 @@ use Rattle.std.specs.FinMap.{get, remove}
 use Rattle.gr_edit.specs.EditSet.{FileChanges, edited}
 use Rattle.gr_edit.specs.Fits.{Fits}
 use Rattle.gr_space.specs.Plan.{del_changes}
-use Rattle.gr_space.specs.declared.view.Change.{Change}
-use Rattle.gr_space.specs.declared.view.ChangeKind.TheVariants.{Del}
+use Rattle.gr_space.specs.declared.change.Change.{Change}
+use Rattle.gr_space.specs.declared.change.ChangeKind.TheVariants.{Del}
 use Rattle.gr_space.proofs.OneFile.{del_fits, del_edited, some_from}
 use Rattle.gr_space.proofs.plan.del_change.Goals as goal
 
 pub of-requires : goal.of-requires
 of-requires c =
-    let w = c.args.view.now.snapshot.files in
+    let w = c.args.snapshot.now.files in
     let path = c.args.path.now in
     subst (λ (s : FileChanges). Fits s w) (sym c.in_ok-edits.ensures) (del_fits w path (some_from (get w path) c.requires))
 
 pub returns : goal.returns
 returns c =
-    let w = c.args.view.now.snapshot.files in
+    let w = c.args.snapshot.now.files in
     let path = c.args.path.now in
     let is = c.in_ok-edits.ensures in
     let files = ap (λ (s : FileChanges). edited s w) is ∙ del_edited w path (some_from (get w path) c.requires) in

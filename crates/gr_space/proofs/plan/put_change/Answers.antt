@@ -6,20 +6,20 @@ use Rattle.gr_text.specs.Workspace.{Workspace}
 use Rattle.gr_edit.specs.EditSet.{FileChanges, edited}
 use Rattle.gr_edit.specs.Fits.{Fits}
 use Rattle.gr_space.specs.Plan.{put_changes}
-use Rattle.gr_space.specs.declared.view.Change.{Change}
-use Rattle.gr_space.specs.declared.view.ChangeKind.TheVariants.{Put}
+use Rattle.gr_space.specs.declared.change.Change.{Change}
+use Rattle.gr_space.specs.declared.change.ChangeKind.TheVariants.{Put}
 use Rattle.gr_space.proofs.OneFile.{put_fits, put_edited}
 use Rattle.gr_space.proofs.plan.put_change.Goals as goal
 
 pub of-requires : goal.of-requires
 of-requires c =
-    let w = c.args.view.now.snapshot.files in
+    let w = c.args.snapshot.now.files in
     let is = c.in_ok-edits.ensures ∙ ap (λ (v : Workspace). put_changes v c.args.path c.args.text) c.files.ensures in
     subst (λ (s : FileChanges). Fits s w) (sym is) (put_fits w c.args.path c.args.text)
 
 pub returns : goal.returns
 returns c =
-    let w = c.args.view.now.snapshot.files in
+    let w = c.args.snapshot.now.files in
     let is = c.in_ok-edits.ensures ∙ ap (λ (v : Workspace). put_changes v c.args.path c.args.text) c.files.ensures in
     let files = ap (λ (s : FileChanges). edited s w) is ∙ put_edited w c.args.path c.args.text in
     let whole : ◌≡◌ {A = Change} (record { base = w; kind = Put; edits = c.in_ok-edits.edits; files = edited c.in_ok-edits.edits w }) (record { base = w; kind = Put; edits = put_changes w c.args.path c.args.text; files = insert w c.args.path c.args.text }) =
