@@ -3,9 +3,9 @@ use Rattle.std.proofs.Common.{ℕ, ◌≡◌, ◌∷◌, ◌++◌, [], List, ap,
 use Rattle.gr_expr.specs.declared.found.Found.{Found}
 use Rattle.gr_expr.specs.declared.keys.ElementKey.{ElementKey}
 use Rattle.gr_expr.specs.Types.{Meaning, Kind, PlainType}
-use Rattle.gr_expr.specs.World.{World}
+use Rattle.gr_expr.specs.World.{World, Member, member_symbol}
 use Rattle.gr_expr.specs.View.{type_of}
-use Rattle.gr_expr.specs.Judge.{Judged, followed, means, JudgedList, Argued, with_values, value_before, value_kind, JudgedElements, JudgedKey, TypeJudged, MemberUse, element_then, literal_of, literal_meaning, misfit_if, is_whole, is_empty}
+use Rattle.gr_expr.specs.Judge.{Judged, followed, means, JudgedList, Argued, with_values, value_before, value_kind, JudgedElements, JudgedKey, TypeJudged, MemberUse, with_use, means_or_wrong, member_meaning, select_member, element_then, literal_of, literal_meaning, misfit_if, is_whole, is_empty}
 use Rattle.gr_expr.specs.Found.{Adds, AddsList, AddsType, AddsKey, AddsElements, AddsPlaces, Continues, use_of}
 
 -- a meaning alone
@@ -19,6 +19,22 @@ pub adds_then : {j : Judged} (rule : Meaning → Judged) {old mid new : Found} {
 adds_then {j} rule {old} {mid} {new} {m} {r} a b =
     let b' : Adds (rule j.meaning) mid new r = subst (λ (x : Meaning). Adds (rule x) mid new r) a.meaning b in
     record { meaning = b'.meaning; faults = joined _ _ _ a.faults b'.faults; uses = joined _ _ _ a.uses b'.uses }
+
+-- the use of a member, and then what the member means
+adds_use : {u : MemberUse} {j : Judged} {old mid new : Found} {m : Meaning} → mid.faults.items ≡ old.faults.items →
+    map use_of mid.uses.items ≡ map use_of old.uses.items ++ (u ∷ []) → Adds j mid new m → Adds (with_use u j) old new m
+adds_use {u} {j} {old} {mid} {new} {m} faults uses b =
+    record { meaning = b.meaning; faults = b.faults ∙ ap (λ x. x ++ j.faults) faults; uses = joined (map use_of old.uses.items) (u ∷ []) j.uses uses b.uses }
+
+pub adds_member : (w : World) (t : PlainType) (name : ℕ) (a : Bool) (o : Option Member) (x : Option Meaning) {old mid new : Found} {m : Meaning} →
+    o ≡ w.member name t → x ≡ member_meaning w t a o → mid.faults.items ≡ old.faults.items →
+    map use_of mid.uses.items ≡ map use_of old.uses.items ++ (record { place = name; before = t; member = option_map member_symbol o } ∷ []) →
+    Adds (means_or_wrong x name) mid new m → Adds (select_member w name t a) old new m
+unfolding select_member
+adds_member w t name a o x {old} {mid} {new} {m} o_is x_is faults uses b =
+    subst (λ (z : Option Member). Adds (with_use (record { place = name; before = t; member = option_map member_symbol z })
+    (means_or_wrong (member_meaning w t a z) name)) old new m) o_is
+    (adds_use faults uses (subst (λ (z : Option Meaning). Adds (means_or_wrong z name) mid new m) x_is b))
 
 pub continues_here : {m : Meaning} {old : Found} → Continues (λ j. j) m old old m
 continues_here = record { after = λ j before a. a }

@@ -1,16 +1,17 @@
 //! What is found in expressions: faults, and uses of members.
-ghost use Rattle.std.specs.Prelude.{◌≡◌, IfOk};
-ghost use Rattle.gr_expr.specs.Judge.{as_value, select, select_member, wrong};
-ghost use Rattle.gr_expr.specs.World.{name_meaning, variable};
-ghost use Rattle.gr_expr.specs.View.{type_of};
-ghost use Rattle.gr_expr.specs.WorldView.{world_of};
-ghost use Rattle.gr_expr.specs.Found.{locals_of, meaning_of, Adds};
+ghost use Rattle.std.specs.Prelude.{◌≡◌, IfOk, OnOk, option_map, Some, map, ◌++◌, ◌∷◌, []};
+ghost use Rattle.gr_expr.specs.Judge.{as_value, means_or_wrong, member_meaning, select, select_member, wrong};
+ghost use Rattle.gr_expr.specs.Types.{Typed, Value};
+ghost use Rattle.gr_expr.specs.World.{World as PlainWorld, a_method, member_symbol, name_meaning, variable};
+ghost use Rattle.gr_expr.specs.View.{signature_of, type_of};
+ghost use Rattle.gr_expr.specs.WorldView.{member_of, world_of};
+ghost use Rattle.gr_expr.specs.Found.{locals_of, meaning_of, use_of, Adds};
 
 use crate::locals::Locals;
 use crate::meaning::Meaning;
 use crate::symbol::Symbol;
 use crate::types::{Basic, GoType, Kind};
-use crate::world::{Bound, Member, World};
+use crate::world::{Bound, Field, Member, Method, World};
 use std::alloc::{AllocError, Global};
 
 /// A name behind a dot, or a key: its token, the type before it, and the field or method that it is, if any.
@@ -33,6 +34,66 @@ pub struct Found {
 pub struct Scope<'w> {
     pub world: &'w World<'w>,
     pub locals: &'w Locals,
+}
+
+/// The field or method as others know it.
+pub(crate) fn symbol_of(member: Option<Member<'_>>) -> Result<Option<Symbol>, AllocError>
+    ensures { IfOk result (λ s. s ≡ option_map member_symbol (option_map member_of member.entry)) }
+{
+    match member {
+        Some(member) => Ok(Some(member.symbol().copy()?)),
+        None => Ok(None),
+    }
+}
+
+/// What a field of a value means.
+#[tactic(auto, unfolding(crate::specs::Found::meaning_of, crate::specs::View::kind_of))]
+fn field_meaning<'w>(
+    alloc: Global,
+    field: &Field,
+    addressable: bool,
+) -> Result<Meaning<'w>, AllocError>
+    ensures { IfOk result (λ m. meaning_of m ≡ Value (Typed (type_of field.now.field_type)) addressable) }
+{
+    let kind = Kind::Typed(field.field_type.copy(alloc)?);
+    Ok(Meaning::Value { kind, addressable })
+}
+
+/// What a method of a value means in any world; none where it is one of pointers and the value is none and has no address.
+#[tactic(auto, unfolding(crate::specs::Found::meaning_of))]
+fn method_meaning<'w>(method: &'w Method, of: &GoType, addressable: bool) -> Option<Meaning<'w>>
+    ensures { (w : PlainWorld) → option_map meaning_of result ≡
+        member_meaning w (type_of of.now) addressable (Some (a_method method.now.symbol method.now.on_pointer (option_map signature_of method.now.signature))) }
+{
+    match &method.signature {
+        None => Some(Meaning::Broken),
+        Some(_) if method.on_pointer && !of.is_pointer() && !addressable => None,
+        Some(signature) => Some(Meaning::Function(signature)),
+    }
+}
+
+impl World<'_> {
+    /// What a member of a value of that type means, none where there is none, or not for such a value.
+    #[tactic(auto, unfolding(crate::specs::WorldView::member_of))]
+    fn member_meaning<'m>(
+        &self,
+        alloc: Global,
+        of: &GoType,
+        addressable: bool,
+        member: Option<Member<'m>>,
+    ) -> Result<Option<Meaning<'m>>, AllocError>
+        ensures { IfOk result (λ m. option_map meaning_of m ≡ member_meaning (world_of self.now) (type_of of.now) addressable (option_map member_of member.entry)) }
+    {
+        match member {
+            None => Ok(None),
+            Some(Member::Field(field)) => {
+                let through = self.underlying(of).is_pointer();
+                let meaning = field_meaning(alloc, field, through || addressable)?;
+                Ok(Some(meaning))
+            }
+            Some(Member::Method(method)) => Ok(method_meaning(method, of, addressable)),
+        }
+    }
 }
 
 impl Found {
@@ -60,8 +121,40 @@ impl Found {
         }
     }
 
+    /// Notes the use of a field or method, or of a name that is none, behind a value of a type.
+    pub(crate) fn note_use(
+        &mut self,
+        place: usize,
+        before: GoType,
+        member: Option<Symbol>,
+    ) -> Result<(), AllocError>
+        ensures faults { OnOk result (self.new.faults.items ≡ self.old.faults.items) }
+        ensures uses { OnOk result (map use_of self.new.uses.items ≡ map use_of self.old.uses.items ++ (record { place = place; before = type_of before; member = member } ∷ [])) }
+    {
+        self.uses.push(MemberUse {
+            place,
+            before,
+            member,
+        })?;
+        Ok(())
+    }
+
+    /// That meaning, or a fault where there is none.
+    #[tactic(auto, unfolding(crate::specs::Found::meaning_of))]
+    fn means_or_wrong<'w>(
+        &mut self,
+        place: usize,
+        meaning: Option<Meaning<'w>>,
+    ) -> Result<Meaning<'w>, AllocError>
+        ensures { IfOk result (λ m. Adds (means_or_wrong (option_map meaning_of meaning.entry) place) self.old self.new (meaning_of m)) }
+    {
+        match meaning {
+            Some(meaning) => Ok(meaning),
+            None => self.wrong(place),
+        }
+    }
+
     /// The meaning of the member of that name of a value.
-    #[tactic(auto, unfolding(crate::specs::Found::meaning_of, crate::specs::View::kind_of, crate::specs::WorldView::member_of, crate::specs::Judge::select_member))]
     fn member<'w>(
         &mut self,
         alloc: Global,
@@ -73,29 +166,10 @@ impl Found {
         ensures { IfOk result (λ m. Adds (select_member (world_of world.now) name (type_of before) addressable) self.old self.new (meaning_of m)) }
     {
         let member = world.member(name, &before);
-        let through = world.underlying(&before).is_pointer();
-        let on_value = !before.is_pointer() && !addressable;
-        let symbol = match member {
-            Some(member) => Some(member.symbol().copy()?),
-            None => None,
-        };
-        self.uses.push(MemberUse {
-            place: name,
-            before,
-            member: symbol,
-        })?;
-        match member {
-            None => self.wrong(name),
-            Some(Member::Field(field)) => Ok(Meaning::Value {
-                kind: Kind::Typed(field.field_type.copy(alloc)?),
-                addressable: through || addressable,
-            }),
-            Some(Member::Method(method)) => match &method.signature {
-                None => Ok(Meaning::Broken),
-                Some(_) if method.on_pointer && on_value => self.wrong(name),
-                Some(signature) => Ok(Meaning::Function(signature)),
-            },
-        }
+        let meaning = world.member_meaning(alloc, &before, addressable, member)?;
+        let symbol = symbol_of(member)?;
+        self.note_use(name, before, symbol)?;
+        self.means_or_wrong(name, meaning)
     }
 
     /// The meaning of a selector behind an operand that has that meaning and stands at `place`.

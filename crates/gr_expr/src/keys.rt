@@ -8,7 +8,8 @@ ghost use Rattle.gr_expr.specs.View.{type_of};
 ghost use Rattle.gr_expr.specs.WorldView.{world_of};
 ghost use Rattle.gr_expr.specs.Found.{seen_of, key_of, use_of, AddsKey};
 
-use crate::found::{Found, MemberUse};
+use crate::found::{Found, symbol_of};
+use crate::symbol::Symbol;
 use crate::types::GoType;
 use crate::world::{Member, Shape, World};
 use gr_tree::tree;
@@ -116,6 +117,17 @@ impl<'w> World<'w> {
         }
     }
 
+    /// The field or method that the name at a token is as a key of a literal of that type, if any.
+    #[tactic(auto, unfolding(crate::specs::WorldView::shape_of))]
+    fn key_symbol(&self, literal_type: &GoType, place: usize) -> Result<Option<Symbol>, AllocError>
+        ensures { IfOk result (λ s. s ≡ member_in (underlying (world_of self.now) (type_of literal_type.now)) ((world_of self.now).member place (type_of literal_type.now))) }
+    {
+        match self.underlying(literal_type) {
+            Shape::Struct(_) => symbol_of(self.member(place, literal_type)),
+            _ => Ok(None),
+        }
+    }
+
     /// What the value behind a key has to fit.
     #[tactic(auto, unfolding(crate::specs::Found::key_of))]
     fn wanted_behind<'a>(&'a self, key: Key<'a>, literal_type: &'a GoType) -> Option<&'a GoType>
@@ -130,7 +142,7 @@ impl<'w> World<'w> {
 
 impl Found {
     /// Notes the use of a key, and its fault if it is one.
-    #[tactic(auto, unfolding(crate::specs::Found::key_of, crate::specs::WorldView::shape_of))]
+    #[tactic(auto, unfolding(crate::specs::Found::key_of))]
     fn note_key(
         &mut self,
         alloc: Global,
@@ -143,19 +155,9 @@ impl Found {
         ensures uses { OnOk result (map use_of self.new.uses.items ≡ map use_of self.old.uses.items ++
             (record { place = place; before = type_of literal_type.now; member = member_in (underlying (world_of world.now) (type_of literal_type.now)) ((world_of world.now).member place (type_of literal_type.now)) } ∷ [])) }
     {
-        let member = match world.underlying(literal_type) {
-            Shape::Struct(_) => match world.member(place, literal_type) {
-                Some(member) => Some(member.symbol().copy()?),
-                None => None,
-            },
-            _ => None,
-        };
+        let member = world.key_symbol(literal_type, place)?;
         let before = literal_type.copy(alloc)?;
-        self.uses.push(MemberUse {
-            place,
-            before,
-            member,
-        })?;
+        self.note_use(place, before, member)?;
         if let Key::Wrong = key {
             self.faults.push(place)?;
         }

@@ -5,14 +5,14 @@ use Rattle.std.proofs.Common.{◌≡◌, ◌+◌, List, map, option_map, drop, a
 use Rattle.gr_tree.specs.Tree.{no_link}
 use Rattle.gr_tree.specs.View.{expr_view, link_view, key_view, type_view}
 use Rattle.gr_tree.specs.declared.tree.CompositeLit.{out-CompositeLit}
-use Rattle.gr_expr.specs.Judge.{Argued, followed, judge, judge_value, judge_link, judge_links, judge_operands, judge_arguments, judge_elements, index_of, JudgedElements, judge_type, element_then, element_key, call_of, operation, prefix_of, address_of, none_seen}
+use Rattle.gr_expr.specs.Judge.{Argued, followed, as_value, judge, judge_value, judge_link, judge_links, judge_operands, judge_arguments, judge_elements, index_of, JudgedElements, judge_type, element_then, element_key, call_of, operation, prefix_of, address_of, none_seen}
 use Rattle.gr_expr.specs.Places.{place_of}
 use Rattle.gr_expr.specs.View.{type_of, kind_of}
 use Rattle.gr_expr.specs.WorldView.{world_of}
 use Rattle.gr_expr.specs.Lists.{links_in, operands_in, arguments_in, elements_in}
 use Rattle.gr_expr.specs.Found.{meaning_of, locals_of, argued_of, seen_of}
 use Rattle.gr_expr.proofs.Items.{next_item}
-use Rattle.gr_expr.proofs.Adding.{ReachedList, reached_list_end, argued_at, reached_step, reached_end, reached_list_start, reached_list_step, adds_then, adds_meaning, adds_values, ReachedElements, reached_elements_start, reached_element, reached_elements_end, reached_elements_as, adds_literal}
+use Rattle.gr_expr.proofs.Adding.{ReachedList, reached_list_end, argued_at, reached_start, reached_step, reached_end, reached_list_start, reached_list_step, adds_then, adds_meaning, adds_values, ReachedElements, reached_elements_start, reached_element, reached_elements_end, reached_elements_as, adds_literal}
 use Rattle.gr_expr.proofs.Equations.{ok_map, adds_as, list_as, number_judged, text_judged, name_judged, blank_judged, composite_judged, paren_judged, prefix_judged, address_judged, chain_found, binary_found, selector_judged, index_judged, call_judged, links_step, links_end, operands_step, operands_end, arguments_step, arguments_end, elements_step, elements_end, literal_found}
 use Rattle.gr_expr.proofs.judge.+judging.Goals as goal
 
@@ -132,3 +132,15 @@ judge_link-returns-in_ok-value-in-Index t c = ok_map c.index.result (λ m a. add
 pub literal-returns : goal.literal-returns
 literal-returns t c = ok_map c.literal_meaning.result (λ m a. adds_as (literal_found (world_of c.args.scope.world.now) (locals_of c.args.scope.locals.now) c.args.lit.now c.first_of_type-start.result c.deref.result.now c.first_of_type-start.ensures c.deref.ensures.value)
     (adds_literal (world_of c.args.scope.world.now) c.first_of_type-start.result (judge_type (world_of c.args.scope.world.now) (type_view (out-CompositeLit c.args.lit.now).literal_type)) (λ own. judge_elements (world_of c.args.scope.world.now) (locals_of c.args.scope.locals.now) own none_seen (elements_in c.deref.result.now)) c.in_ok-own.ensures c.in_ok-elements.ensures a)) c.literal_meaning.ensures
+
+pub judge_value-returns : goal.judge_value-returns
+judge_value-returns t c = ok_map c.as_value.result (λ m a. adds_then (as_value (place_of (expr_view c.args.e.now))) c.in_ok-meaning.ensures
+    (adds_as (ap (λ p. as_value p (meaning_of c.in_ok-meaning.meaning)) (sym c.place_of.ensures)) a)) c.as_value.ensures
+
+pub chain-loop-next-init : goal.chain-loop-next-init
+chain-loop-next-init t c = λ j before a. reached_start (λ k. judge_links (world_of c.args.scope.world.now) (locals_of c.args.scope.locals.now)
+    c.args.start c.args.place k (links_in c.args.links.now)) a
+
+pub binary-loop-operand-init : goal.binary-loop-operand-init
+binary-loop-operand-init t c = λ j before a. reached_start (λ k. judge_operands (world_of c.args.scope.world.now) (locals_of c.args.scope.locals.now)
+    c.args.start k (operands_in c.args.rest.now)) a
