@@ -14,7 +14,7 @@ use Rattle.gr_verdict.specs.declared.finding.Finding.{Finding}
 use Rattle.gr_verdict.specs.declared.marked.MarkedVerdicts.{MarkedVerdicts}
 use Rattle.gr_verdict.specs.Verdicts.{BuildsOn, IsVerdict, follows, AreVerdictsBelow}
 use Rattle.gr_verdict.specs.Found.{known_by, IsFoundBy}
-use Rattle.gr_verdict.specs.Steps.{AreKnown, AreMarkedNext, IsBuildOrder, IsBelow, LearnsOf, MayLearn, AreBelowKnown}
+use Rattle.gr_verdict.specs.Steps.{AreKnown, AreMarkedNext, IsBuildOrder, LearnsOf, MayLearn, AreBelowKnown}
 use Rattle.gr_verdict.proofs.Adding.{finding_as}
 use Rattle.gr_verdict.proofs.Closed.{to_package, not_on_itself, builds_then}
 use Rattle.gr_verdict.proofs.Knowing.{verdict_alike, verdict_same, learnt_next}

@@ -8,6 +8,9 @@ pub mod OnePackage
 pub mod OneVerdict
 pub mod OneList
 pub mod Local
+pub mod PlacedExpressions
+pub mod PlacedStatements
+pub mod PlacedDeclarations
 pub mod PlacedSites
 pub mod FaultFiles
 pub mod PackageFiles
