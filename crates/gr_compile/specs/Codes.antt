@@ -5,8 +5,8 @@ use Rattle.gr_text.specs.Workspace.{Workspace}
 use Rattle.gr_compile.specs.declared.unit.Compiled.{Compiled}
 use Rattle.gr_compile.specs.contracts.unit.Compiled.{the_row}
 
-abbrev pub workspace_code : Coded Workspace
+pub workspace_code : Coded Workspace
 workspace_code = files.code (coded_list coded_ℕ) (coded_list coded_ℕ)
 
-abbrev pub unit_code : Coded Compiled
+pub unit_code : Coded Compiled
 unit_code = the_row.coded
