@@ -1,12 +1,28 @@
 //! One command. Each begins with a look, and what it does is planned on the view that the look gave.
-ghost use Rattle.std.specs.Prelude.{◌≡◌, ◌↔◌, IsTrue};
-ghost use Rattle.gr_desk.specs.Act.{Acts, Commits, FitsView, PlansBody, Sends};
+ghost use Rattle.std.specs.Prelude.{◌≡◌, ◌↔◌, ℕ, IsTrue, List, Result};
+ghost use Rattle.gr_text.specs.declared.refusal.Refusal.{Refusal as WhyRefused};
+ghost use Rattle.gr_space.specs.Plan.{PlansDel};
+ghost use Rattle.gr_space.specs.declared.change.Change.{Change as PlannedChange};
+ghost use Rattle.gr_desk.specs.Act.{
+  Acts,
+  ActsAfter,
+  ActsOn,
+  AnswersFaults,
+  Commits,
+  FitsView,
+  PlansBody,
+  Sends,
+  TellsLines,
+  file_response,
+  lines_response,
+};
+ghost use Rattle.gr_desk.specs.Queries.{Cats, TellsObject, WritesUses, listing};
 
 use crate::desk::Desk;
 use crate::queries::{cat, faults, list, object, uses};
 use crate::working::work;
 use gr_book::{Event, Reply, View};
-use gr_line::{Command, Response};
+use gr_line::{Bytes, Command, Response, Word};
 use gr_space::{Change, plan_del, plan_put};
 use gr_text::{FileText, Path, Refusal};
 use std::alloc::Global;
@@ -87,63 +103,144 @@ fn commit<D: Desk>(desk: &mut D, basis: u64, planned: Result<Change, Refusal>) -
     }
 }
 
+/// The change that a put asks for, committed.
+fn put<D: Desk>(
+    alloc: Global,
+    desk: &mut D,
+    view: &View,
+    basis: u64,
+    path: Word,
+    body: Option<FileText>,
+) -> Response
+    ensures { (planned : Result PlannedChange WhyRefused) × PlansBody view.now path body planned × Commits D.steps desk.old basis planned result desk.new }
+{
+    let planned = plan_body(alloc, view, path.as_str(), body);
+    commit(desk, basis, planned)
+}
+
+/// The change that a del asks for, committed.
+fn del<D: Desk>(alloc: Global, desk: &mut D, view: &View, basis: u64, path: Word) -> Response
+    ensures { (planned : Result PlannedChange WhyRefused) × PlansDel view.now.snapshot path planned × Commits D.steps desk.old basis planned result desk.new }
+{
+    let planned = plan_del(alloc, &view.snapshot, path.as_str());
+    commit(desk, basis, planned)
+}
+
+fn file_response(number: u64, found: Result<FileText, Refusal>) -> Response
+    ensures { result ≡ file_response number found }
+{
+    match found {
+        Ok(text) => Response::File { number, text },
+        Err(refusal) => Response::Refused { refusal },
+    }
+}
+
+fn lines_response(number: u64, found: Result<Bytes, Refusal>) -> Response
+    ensures { result ≡ lines_response number found }
+{
+    match found {
+        Ok(text) => Response::Lines { number, text },
+        Err(refusal) => Response::Refused { refusal },
+    }
+}
+
+fn tell_file(alloc: Global, view: &View, path: Word) -> Response
+    ensures { (found : Result (List ℕ) WhyRefused) × Cats view.now path found × (result ≡ file_response view.now.snapshot.number found) }
+{
+    let found = cat(alloc, view, path.as_str());
+    file_response(view.snapshot.number, found)
+}
+
+fn tell_object(alloc: Global, view: &View, path: Word) -> Response
+    ensures { (found : Result (List ℕ) WhyRefused) × TellsObject view.now path found × (result ≡ file_response view.now.snapshot.number found) }
+{
+    let found = object(alloc, view, path.as_str());
+    file_response(view.snapshot.number, found)
+}
+
+fn tell_uses(alloc: Global, view: &View, path: Word, offset: usize) -> Response
+    ensures { (found : Result (List ℕ) WhyRefused) × WritesUses view.now path offset found × (result ≡ lines_response view.now.snapshot.number found) }
+{
+    let found = uses(alloc, view, path.as_str(), offset);
+    lines_response(view.snapshot.number, found)
+}
+
+fn tell_list(alloc: Global, view: &View) -> Response
+    ensures { TellsLines view.now.snapshot.number (listing view.now.snapshot.files) result }
+{
+    match list(alloc, view) {
+        Ok(text) => Response::Lines {
+            number: view.snapshot.number,
+            text,
+        },
+        Err(_) => Response::Refused {
+            refusal: Refusal::Memory,
+        },
+    }
+}
+
+fn tell_faults(alloc: Global, view: &View) -> Response
+    ensures { AnswersFaults view.now result }
+{
+    match faults(alloc, view) {
+        Ok(text) => Response::Lines {
+            number: view.snapshot.number,
+            text,
+        },
+        Err(_) => Response::Refused {
+            refusal: Refusal::Memory,
+        },
+    }
+}
+
+/// Acts on a command that is meant for the state of the view.
+fn act_on<D: Desk>(alloc: Global, desk: &mut D, view: &View, command: Command) -> Response
+    ensures { ActsOn D.steps desk.old view.now command result desk.new }
+{
+    match command {
+        Command::Look => Response::Steps {
+            number: view.snapshot.number,
+            undo: view.undo,
+            redo: view.redo,
+        },
+        Command::Put { basis, path, body } => put(alloc, desk, view, basis, path, body),
+        Command::Del { basis, path } => del(alloc, desk, view, basis, path),
+        Command::Undo { basis } => undo(desk, basis),
+        Command::Redo { basis } => redo(desk, basis),
+        Command::Cat { path } => tell_file(alloc, view, path),
+        Command::Uses { path, offset } => tell_uses(alloc, view, path, offset),
+        Command::Object { path } => tell_object(alloc, view, path),
+        Command::Work => work(alloc, desk),
+        Command::List => tell_list(alloc, view),
+        Command::Faults => tell_faults(alloc, view),
+    }
+}
+
+/// Acts on a command after its look has shown the view.
+fn act_after<D: Desk>(alloc: Global, desk: &mut D, view: &View, command: Command) -> Response
+    ensures { ActsAfter D.steps desk.old view.now command result desk.new }
+{
+    if fits_view(view, &command) {
+        act_on(alloc, desk, view, command)
+    } else {
+        drop(command);
+        Response::Refused {
+            refusal: Refusal::Moved {
+                current: view.snapshot.number,
+            },
+        }
+    }
+}
+
 /// Acts on one command.
 pub fn act<D: Desk>(alloc: Global, desk: &mut D, command: Command) -> Response
     ensures { Acts D.steps desk.old command result desk.new }
 {
-    let view = match desk.step(Event::Look) {
-        Reply::Looked(view) => view,
-        Reply::Refused(refusal) => return Response::Refused { refusal },
+    match desk.step(Event::Look) {
+        Reply::Looked(view) => act_after(alloc, desk, &view, command),
+        Reply::Refused(refusal) => Response::Refused { refusal },
         Reply::Done(_) => unreachable!(),
         Reply::Taken(_job) => unreachable!(),
         Reply::Back(_refusal, _job, _built) => unreachable!(),
-    };
-    let number = view.snapshot.number;
-    if !fits_view(&view, &command) {
-        return Response::Refused {
-            refusal: Refusal::Moved { current: number },
-        };
-    }
-    match command {
-        Command::Look => Response::Steps {
-            number,
-            undo: view.undo,
-            redo: view.redo,
-        },
-        Command::Put { basis, path, body } => {
-            let planned = plan_body(alloc, &view, path.as_str(), body);
-            commit(desk, basis, planned)
-        }
-        Command::Del { basis, path } => {
-            let planned = plan_del(alloc, &view.snapshot, path.as_str());
-            commit(desk, basis, planned)
-        }
-        Command::Undo { basis } => undo(desk, basis),
-        Command::Redo { basis } => redo(desk, basis),
-        Command::Cat { path } => match cat(alloc, &view, path.as_str()) {
-            Ok(text) => Response::File { number, text },
-            Err(refusal) => Response::Refused { refusal },
-        },
-        Command::Uses { path, offset } => match uses(alloc, &view, path.as_str(), offset) {
-            Ok(text) => Response::Lines { number, text },
-            Err(refusal) => Response::Refused { refusal },
-        },
-        Command::Object { path } => match object(alloc, &view, path.as_str()) {
-            Ok(text) => Response::File { number, text },
-            Err(refusal) => Response::Refused { refusal },
-        },
-        Command::Work => work(alloc, desk),
-        Command::List => match list(alloc, &view) {
-            Ok(text) => Response::Lines { number, text },
-            Err(_) => Response::Refused {
-                refusal: Refusal::Memory,
-            },
-        },
-        Command::Faults => match faults(alloc, &view) {
-            Ok(text) => Response::Lines { number, text },
-            Err(_) => Response::Refused {
-                refusal: Refusal::Memory,
-            },
-        },
     }
 }
