@@ -17,17 +17,17 @@ use Rattle.gr_compile.specs.declared.job.JobRecord.{JobRecord}
 use Rattle.gr_compile.specs.declared.unit.Unit.{Unit as PackageUnit}
 use Rattle.gr_compile.specs.Units.{IsUnitOf}
 use Rattle.gr_compile.proofs.Locality.{local_unit}
-use Rattle.gr_keep.specs.Finished.{Table, IsFinished, Gains}
+use Rattle.gr_keep.specs.Finished.{Table, Gains}
 use Rattle.gr_book.specs.declared.event.Event.{Event}
 use Rattle.gr_book.specs.declared.event.Event.TheVariants.{Look, Commit, Undo, Redo, Take, Deliver, GiveBack}
 use Rattle.gr_book.specs.declared.event.Reply.{Reply}
 use Rattle.gr_book.specs.declared.event.Reply.TheVariants.{Looked, Done, Taken, Refused, Back}
 use Rattle.gr_book.specs.State.{State}
 use Rattle.gr_keep.specs.Carried.{IsCarried}
-use Rattle.gr_book.specs.Machine.{Machine, IsOneBefore, opening}
+use Rattle.gr_book.specs.Machine.{Content, Machine, IsOneBefore, content, opening, with_entries}
 use Rattle.gr_book.specs.Run.{Run}
 use Rattle.gr_book.specs.Deliveries.{IsFresh, IsRightlyBuilt}
-use Rattle.gr_book.specs.Step.{Step, Answers}
+use Rattle.gr_book.specs.Step.{Answers}
 use Rattle.gr_book.specs.Current.{AreUnits, HasCurrentUnits, UnitsAreCurrent, StepsKeepUnits, FinishedAreCurrent}
 use Rattle.gr_keep.proofs.ClosureTexts.{inputs_same, package_there}
 
@@ -37,16 +37,26 @@ set_here [] n y z h = absurd (none-some z h)
 set_here (x ∷ xs) zero y z h = same_Some y z h
 set_here (x ∷ xs) (suc n) y z h = set_here xs n y z h
 
+-- the units of the states alone
+abbrev Units : Content → Type 0
+Units c = UnitsAreCurrent (with_entries c 0)
+
+units_of : (m : Machine) → UnitsAreCurrent m → Units (content m)
+units_of m u = record { earlier = u.earlier; current = u.current; later = u.later }
+
+units_with : (m : Machine) → Units (content m) → UnitsAreCurrent m
+units_with m u = record { earlier = u.earlier; current = u.current; later = u.later }
+
 -- the same states have the same units
-units_stay : (old k new : Machine) → new ≡ k → k.earlier ≡ old.earlier → k.current ≡ old.current → k.later ≡ old.later → UnitsAreCurrent old → UnitsAreCurrent new
-units_stay old k new e earlier current later u = subst UnitsAreCurrent (sym e) (record {
+units_stay : (old k new : Content) → new ≡ k → k.earlier ≡ old.earlier → k.current ≡ old.current → k.later ≡ old.later → Units old → Units new
+units_stay old k new e earlier current later u = subst Units (sym e) (record {
   earlier = subst (All HasCurrentUnits) (sym earlier) u.earlier;
   current = subst HasCurrentUnits (sym current) u.current;
   later = subst (All HasCurrentUnits) (sym later) u.later;
 })
 
 -- the cursor moved by one state
-units_before : (n m : Machine) → IsOneBefore n m → UnitsAreCurrent m → UnitsAreCurrent n
+units_before : (n m : Content) → IsOneBefore n m → Units m → Units n
 units_before n m moved u =
     let back = All-pop HasCurrentUnits m.earlier n.earlier (Some n.current) moved.earlier u.earlier in
     record {
@@ -55,7 +65,7 @@ units_before n m moved u =
       later = subst (All HasCurrentUnits) (sym moved.later) (All-push HasCurrentUnits m.later m.current u.later u.current);
     }
 
-units_after : (n m : Machine) → IsOneBefore n m → UnitsAreCurrent n → UnitsAreCurrent m
+units_after : (n m : Content) → IsOneBefore n m → Units n → Units m
 units_after n m moved u =
     let back = All-pop HasCurrentUnits n.later m.later (Some m.current) moved.later u.later in
     record {
@@ -90,10 +100,10 @@ units_gained w old p unit new gains is u q other finished =
     (λ (elsewhere : finished.0 ≡ gains.0 → ⊥). u q other (finished.0, finished.1, sym (set_elsewhere old gains.0 finished.0 (Some unit) elsewhere) ∙ there))
     (cases_eq finished.0 gains.0)
 
-answer_units : (old : Machine) (event : Event) (reply : Reply) (new : Machine) → Answers old event reply new → UnitsAreCurrent old → UnitsAreCurrent new
+answer_units : (old : Content) (event : Event) (reply : Reply) (new : Content) → Answers old event reply new → Units old → Units new
 answer_units old Look (Looked view) new a u = units_stay old _ new a.1 refl refl refl u
 answer_units old (Commit basis change) (Done number) new a u =
-    subst UnitsAreCurrent (sym a.2.2) (record {
+    subst Units (sym a.2.2) (record {
       earlier = All-drop HasCurrentUnits _ (old.earlier ++ old.current ∷ []) (All-push HasCurrentUnits old.earlier old.current u.earlier u.current);
       current = units_carried old.current.files old.current.finished change.files a.2.0 a.2.1 u.current;
       later = All-nil HasCurrentUnits;
@@ -111,7 +121,7 @@ answer_units old (Deliver job built) (Back NoJob back unit) new a u = units_stay
 answer_units old (Deliver job built) (Refused (Stale current)) new a u = units_stay old _ new a.2.2 refl refl refl u
 answer_units old (Deliver job built) (Refused Already) new a u = units_stay old _ new a.2.2 refl refl refl u
 answer_units old (Deliver job built) (Done number) new a u =
-    subst UnitsAreCurrent (sym a.3.4) (record {
+    subst Units (sym a.3.4) (record {
       earlier = u.earlier;
       current = units_gained old.current.files old.current.finished job.package built.unit a.3.1 a.3.3 (unit_built old.current job built a.0 a.4) u.current;
       later = u.later;
@@ -121,14 +131,14 @@ answer_units old (GiveBack job) (Done number) new a u = units_stay old _ new a.1
 answer_units old event reply new a u = absurd a
 
 pub steps_keep_units : StepsKeepUnits
-steps_keep_units old new event (Refused Memory) s u = units_stay old _ new s.1 refl refl refl u
-steps_keep_units old new event (Refused JournalFull) s u = units_stay old _ new s.2 refl refl refl u
-steps_keep_units old new event (Back Memory job unit) s u = units_stay old _ new s.2 refl refl refl u
-steps_keep_units old new event (Back JournalFull job unit) s u = units_stay old _ new s.2 refl refl refl u
-steps_keep_units old new event reply s u = answer_units old event reply new s.1 u
+steps_keep_units old new event (Refused Memory) s u = subst UnitsAreCurrent (sym s.1) u
+steps_keep_units old new event (Refused JournalFull) s u = subst UnitsAreCurrent (sym s.2) u
+steps_keep_units old new event (Back Memory job unit) s u = subst UnitsAreCurrent (sym s.2) u
+steps_keep_units old new event (Back JournalFull job unit) s u = subst UnitsAreCurrent (sym s.2) u
+steps_keep_units old new event reply s u = units_with new (answer_units (content old) event reply (content new) s.1 (units_of old u))
 
 run_units : (old : Machine) (events : List (Event × Reply)) (new : Machine) → Run old events new → UnitsAreCurrent old → UnitsAreCurrent new
-run_units old [] new run u = units_stay old old new run refl refl refl u
+run_units old [] new run u = subst UnitsAreCurrent (sym run) u
 run_units old (e ∷ events) new run u = run_units run.0 events new run.2 (steps_keep_units old run.0 e.0 e.1 run.1 u)
 
 pub finished_are_current : FinishedAreCurrent

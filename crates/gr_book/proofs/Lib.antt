@@ -3,6 +3,7 @@ pub mod Entries
 pub mod Waits
 pub mod Fresh
 pub mod Settled
+pub mod Stepped
 pub mod NoPackages
 pub mod NumberLaws
 pub mod RunLaws

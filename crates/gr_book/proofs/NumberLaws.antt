@@ -1,25 +1,24 @@
 -- The next number never falls, and refused events keep the states.
-use Rattle.std.proofs.Common.{◌≡◌, ℕ, ◌+◌, ◌≤◌, ◌<◌, List, [], ◌∷◌, inl, inr, refl, sym, ap, ◌∙◌, arith}
-use Rattle.gr_text.specs.declared.refusal.Refusal.{Refusal}
+use Rattle.std.proofs.Common.{◌≡◌, ◌+◌, ◌≤◌, List, [], ◌∷◌, refl, sym, ap, ◌∙◌, arith}
 use Rattle.gr_text.specs.declared.refusal.Refusal.TheVariants.{Memory, Moved, NothingToUndo, NothingToRedo, JournalFull, Stale, Already, NoJob}
 use Rattle.gr_book.specs.declared.event.Event.{Event}
 use Rattle.gr_book.specs.declared.event.Event.TheVariants.{Look, Commit, Undo, Redo, Take, Deliver, GiveBack}
 use Rattle.gr_book.specs.declared.event.Reply.{Reply}
 use Rattle.gr_book.specs.declared.event.Reply.TheVariants.{Looked, Done, Taken, Refused, Back}
-use Rattle.gr_book.specs.Machine.{Machine, recorded, changed}
+use Rattle.gr_book.specs.Machine.{Content, Machine, content, with_entries}
 use Rattle.gr_book.specs.Step.{Step, Answers}
-use Rattle.gr_book.specs.Run.{Run, KeepsAll, KeepsIfRefused, NumbersRise, NumbersAreNew, RefusalsKeepAll}
+use Rattle.gr_book.specs.Run.{Run, KeepsIfRefused, NumbersRise, NumbersAreNew, RefusalsKeepAll}
 
-next_kept : (m n : Machine) → n.next ≡ m.next → m.next ≤ n.next
+next_kept : (m n : Content) → n.next ≡ m.next → m.next ≤ n.next
 next_kept m n e = omega (arith, e)
 
-next_by : (m n k : Machine) → n ≡ k → k.next ≡ m.next → m.next ≤ n.next
-next_by m n k e same = next_kept m n (ap (λ (x : Machine). x.next) e ∙ same)
+next_by : (m n k : Content) → n ≡ k → k.next ≡ m.next → m.next ≤ n.next
+next_by m n k e same = next_kept m n (ap (λ (x : Content). x.next) e ∙ same)
 
-answer_next : (old : Machine) (event : Event) (reply : Reply) (new : Machine) → Answers old event reply new → old.next ≤ new.next
+answer_next : (old : Content) (event : Event) (reply : Reply) (new : Content) → Answers old event reply new → old.next ≤ new.next
 answer_next old Look (Looked view) new a = next_by old new _ a.1 refl
 answer_next old (Commit basis change) (Done number) new a =
-    let e : new.next ≡ old.next + 1 = ap (λ (k : Machine). k.next) a.2.2 in omega (arith, e)
+    let e : new.next ≡ old.next + 1 = ap (λ (k : Content). k.next) a.2.2 in omega (arith, e)
 answer_next old (Commit basis change) (Refused (Moved current)) new a = next_by old new _ a.2 refl
 answer_next old (Undo basis) (Done number) new a = next_kept old new a.3.next
 answer_next old (Undo basis) (Refused (Moved current)) new a = next_by old new _ a.2 refl
@@ -37,15 +36,18 @@ answer_next old (GiveBack job) (Back NoJob back unit) new a = next_by old new _ 
 answer_next old (GiveBack job) (Done number) new a = next_by old new _ a.1.2 refl
 answer_next old event reply new a = absurd a
 
+machine_next : (old new : Machine) → new ≡ old → old.next ≤ new.next
+machine_next old new e = next_by (content old) (content new) (content old) (ap content e) refl
+
 step_next : (old : Machine) (event : Event) (reply : Reply) (new : Machine) → Step old event reply new → old.next ≤ new.next
-step_next old event (Refused Memory) new s = next_by old new _ s.1 refl
-step_next old event (Refused JournalFull) new s = next_by old new _ s.2 refl
-step_next old event (Back Memory job unit) new s = next_by old new _ s.2 refl
-step_next old event (Back JournalFull job unit) new s = next_by old new _ s.2 refl
-step_next old event reply new s = answer_next old event reply new s.1
+step_next old event (Refused Memory) new s = machine_next old new s.1
+step_next old event (Refused JournalFull) new s = machine_next old new s.2
+step_next old event (Back Memory job unit) new s = machine_next old new s.2
+step_next old event (Back JournalFull job unit) new s = machine_next old new s.2
+step_next old event reply new s = answer_next (content old) event reply (content new) s.1
 
 run_next : (old : Machine) (es : List (Event × Reply)) (new : Machine) → Run old es new → old.next ≤ new.next
-run_next old [] new r = next_by old new _ r refl
+run_next old [] new r = machine_next old new r
 run_next old (e ∷ es) new r =
     let first = step_next old e.0 e.1 r.0 r.1 in
     let rest = run_next r.0 es new r.2 in
@@ -53,7 +55,7 @@ run_next old (e ∷ es) new r =
 
 pub numbers_rise : NumbersRise
 numbers_rise start changed settled end basis next_basis first second change next_change between committed run again =
-    let after : changed.next ≡ start.next + 1 = ap (λ (k : Machine). k.next) committed.1.2.2 in
+    let after : changed.next ≡ start.next + 1 = ap (λ (k : Content). k.next) committed.1.2.2 in
     let one : first ≡ start.next = committed.1.1 in
     let two : second ≡ settled.next = again.1.1 in
     let along = run_next changed between settled run in
@@ -65,29 +67,33 @@ numbers_are_new limits settled end before basis number change run committed =
     let along : 1 ≤ settled.next = run_next _ before settled run in
     omega (arith, is, along)
 
-answer_kept : (old : Machine) (event : Event) (reply : Reply) (new : Machine) → Answers old event reply new → KeepsIfRefused old reply new
-answer_kept old Look (Looked view) new a = tt
-answer_kept old (Commit basis change) (Done number) new a = tt
-answer_kept old (Commit basis change) (Refused (Moved current)) new a = inr a.2
-answer_kept old (Undo basis) (Done number) new a = tt
-answer_kept old (Undo basis) (Refused (Moved current)) new a = inr a.2
-answer_kept old (Undo basis) (Refused NothingToUndo) new a = inr a.2
-answer_kept old (Redo basis) (Done number) new a = tt
-answer_kept old (Redo basis) (Refused (Moved current)) new a = inr a.2
-answer_kept old (Redo basis) (Refused NothingToRedo) new a = inr a.2
-answer_kept old Take (Taken job) new a = tt
-answer_kept old Take (Refused NoJob) new a = inr a.1
-answer_kept old (Deliver job built) (Back NoJob back unit) new a = inr a.2
-answer_kept old (Deliver job built) (Refused (Stale current)) new a = (a.2.0, a.2.2)
-answer_kept old (Deliver job built) (Refused Already) new a = (a.2.0, a.2.2)
-answer_kept old (Deliver job built) (Done number) new a = tt
-answer_kept old (GiveBack job) (Back NoJob back unit) new a = inr a.2
-answer_kept old (GiveBack job) (Done number) new a = tt
-answer_kept old event reply new a = absurd a
+-- the machine is what its states are, with its entries
+one_more : (old new : Machine) (c : Content) → content new ≡ c → new.entries ≡ old.entries + 1 → new ≡ with_entries c (old.entries + 1)
+one_more old new c is more = ap (λ (x : Content). with_entries x new.entries) is ∙ ap (λ n. with_entries c n) more
+
+answer_kept : (old : Machine) (event : Event) (reply : Reply) (new : Machine) → Answers (content old) event reply (content new) → new.entries ≡ old.entries + 1 → KeepsIfRefused old event reply new
+answer_kept old Look (Looked view) new a more = tt
+answer_kept old (Commit basis change) (Done number) new a more = tt
+answer_kept old (Commit basis change) (Refused (Moved current)) new a more = one_more old new (content old) a.2 more
+answer_kept old (Undo basis) (Done number) new a more = tt
+answer_kept old (Undo basis) (Refused (Moved current)) new a more = one_more old new (content old) a.2 more
+answer_kept old (Undo basis) (Refused NothingToUndo) new a more = one_more old new (content old) a.2 more
+answer_kept old (Redo basis) (Done number) new a more = tt
+answer_kept old (Redo basis) (Refused (Moved current)) new a more = one_more old new (content old) a.2 more
+answer_kept old (Redo basis) (Refused NothingToRedo) new a more = one_more old new (content old) a.2 more
+answer_kept old Take (Taken job) new a more = tt
+answer_kept old Take (Refused NoJob) new a more = one_more old new (content old) a.1 more
+answer_kept old (Deliver job built) (Back NoJob back unit) new a more = one_more old new (content old) a.2 more
+answer_kept old (Deliver job built) (Refused (Stale current)) new a more = (a.2.0, a.2.1, one_more old new _ a.2.2 more)
+answer_kept old (Deliver job built) (Refused Already) new a more = (a.2.0, a.2.1, one_more old new _ a.2.2 more)
+answer_kept old (Deliver job built) (Done number) new a more = tt
+answer_kept old (GiveBack job) (Back NoJob back unit) new a more = one_more old new (content old) a.2 more
+answer_kept old (GiveBack job) (Done number) new a more = tt
+answer_kept old event reply new a more = absurd a
 
 pub refusals_keep_all : RefusalsKeepAll
-refusals_keep_all old new event (Refused Memory) s = inl s.1
-refusals_keep_all old new event (Refused JournalFull) s = inl s.2
-refusals_keep_all old new event (Back Memory job unit) s = inl s.2
-refusals_keep_all old new event (Back JournalFull job unit) s = inl s.2
-refusals_keep_all old new event reply s = answer_kept old event reply new s.1
+refusals_keep_all old new event (Refused Memory) s = s.1
+refusals_keep_all old new event (Refused JournalFull) s = s.2
+refusals_keep_all old new event (Back Memory job unit) s = s.2
+refusals_keep_all old new event (Back JournalFull job unit) s = s.2
+refusals_keep_all old new event reply s = answer_kept old event reply new s.1 s.2

@@ -1,17 +1,17 @@
 -- What holds over every list of events.
-use Rattle.std.specs.Prelude.{◌≡◌, ℕ, ◌+◌, ◌<◌, ◌⊎◌, ⊤, List, [], ◌∷◌}
+use Rattle.std.specs.Prelude.{◌≡◌, ℕ, ◌+◌, ◌<◌, ⊤, List, [], ◌∷◌}
 use Rattle.std.specs.List.{AllByRecursion}
 use Rattle.gr_text.specs.declared.limits.Limits.{Limits}
-use Rattle.gr_text.specs.declared.refusal.Refusal.{Refusal}
-use Rattle.gr_text.specs.declared.refusal.Refusal.TheVariants.{Memory, JournalFull, Stale, Already}
-use Rattle.gr_compile.specs.Jobs.{JobsOut}
+use Rattle.gr_text.specs.declared.refusal.Refusal.TheVariants.{Memory, JournalFull}
+use Rattle.gr_compile.specs.Jobs.{JobsOut, Loses, label_of}
+use Rattle.gr_compile.specs.declared.job.JobRecord.{JobRecord}
 use Rattle.gr_space.specs.declared.change.Change.{Change}
 use Rattle.gr_book.specs.declared.event.Event.{Event}
-use Rattle.gr_book.specs.declared.event.Event.TheVariants.{Commit, Undo, Redo}
+use Rattle.gr_book.specs.declared.event.Event.TheVariants.{Commit, Undo, Redo, Deliver}
 use Rattle.gr_book.specs.declared.event.Reply.{Reply}
 use Rattle.gr_book.specs.declared.event.Reply.TheVariants.{Done, Refused, Back}
 use Rattle.gr_book.specs.State.{State}
-use Rattle.gr_book.specs.Machine.{Machine, IsOneBefore, opening, recorded, states, cursor}
+use Rattle.gr_book.specs.Machine.{Content, Machine, IsOneBefore, opening, recorded, states, cursor}
 use Rattle.gr_book.specs.Step.{Step}
 
 -- From old, the machine may give these replies to these events, one after another, and go on to new.
@@ -55,7 +55,7 @@ RedoRestores = (start undone settled end : Machine) (basis number : ℕ) (betwee
 
 -- Undo and redo leave the list of states, and move the cursor by one.
 abbrev pub MovesCursor : Type 0
-MovesCursor = (before after : Machine) → IsOneBefore before after
+MovesCursor = (before after : Content) → IsOneBefore before after
     → (states before ≡ states after) × (cursor before + 1 ≡ cursor after)
 
 -- Of two admitted changes the later has the greater number, whatever comes between, so no number is used twice.
@@ -73,25 +73,24 @@ NumbersAreNew = (limits : Limits) (settled end : Machine) (before : List (Event 
     → Step settled (Commit basis change) (Done number) end
     → 0 < number
 
--- nothing changed, but for the entry that the journal keeps
-abbrev pub KeepsAll : Machine → Machine → Type 0
-KeepsAll old new = (new ≡ old) ⊎ (new ≡ recorded old)
-
--- the same, but for the Jobs out
-abbrev pub SpendsJob : Machine → Machine → Type 0
-SpendsJob old new = (out : JobsOut) × (new ≡ recorded (record old { out = out }))
+-- the Job that was handed in is out no more, and the journal has one entry more
+abbrev pub SpendsJob : Machine → JobRecord → Machine → Type 0
+SpendsJob old job new = (out : JobsOut) × Loses old.out (label_of job) out × (new ≡ recorded (record old { out = out }))
 
 -- what the reply to an event leaves, if it refuses the event
-abbrev pub KeepsIfRefused : Machine → Reply → Machine → Type 0
-KeepsIfRefused old (Refused (Stale current)) new = SpendsJob old new
-KeepsIfRefused old (Refused Already) new = SpendsJob old new
-KeepsIfRefused old (Refused refusal) new = KeepsAll old new
-KeepsIfRefused old (Back refusal job unit) new = KeepsAll old new
-KeepsIfRefused old reply new = ⊤
+abbrev pub KeepsIfRefused : Machine → Event → Reply → Machine → Type 0
+KeepsIfRefused old event (Refused Memory) new = new ≡ old
+KeepsIfRefused old event (Refused JournalFull) new = new ≡ old
+KeepsIfRefused old event (Back Memory job unit) new = new ≡ old
+KeepsIfRefused old event (Back JournalFull job unit) new = new ≡ old
+KeepsIfRefused old (Deliver job built) (Refused refusal) new = SpendsJob old job new
+KeepsIfRefused old event (Refused refusal) new = new ≡ recorded old
+KeepsIfRefused old event (Back refusal job unit) new = new ≡ recorded old
+KeepsIfRefused old event reply new = ⊤
 
--- A refused event changes nothing, but for the entry that the journal keeps of it, and for the Jobs out where a delivery is refused as
--- stale or as already there.
+-- Want of memory or of room in the journal leaves all as it was. Any other refusal adds one entry to the journal and changes
+-- nothing else, but that a delivery that is refused and does not come back spends its Job.
 abbrev pub RefusalsKeepAll : Type 0
 RefusalsKeepAll = (old new : Machine) (event : Event) (reply : Reply)
     → Step old event reply new
-    → KeepsIfRefused old reply new
+    → KeepsIfRefused old event reply new

@@ -3,7 +3,7 @@
 use Rattle.std.specs.Prelude.{◌≡◌, ℕ, ◌+◌, ◌≤◌, ◌⊎◌, ⊤, List, [], length, Option, Some, None, Result, Ok, Err}
 use Rattle.gr_text.specs.declared.refusal.Refusal.{Refusal}
 use Rattle.gr_text.specs.declared.refusal.Refusal.TheVariants.{Memory, Moved, NothingToUndo, NothingToRedo, JournalFull, Stale, Already, NoJob}
-use Rattle.gr_compile.specs.Jobs.{IsOut, label_of, with_job}
+use Rattle.gr_compile.specs.Jobs.{IsOut, JobsOut, label_of, with_job}
 use Rattle.gr_compile.specs.declared.built.Built.{Built}
 use Rattle.gr_compile.specs.declared.job.JobRecord.{JobRecord}
 use Rattle.gr_keep.specs.Finished.{Table}
@@ -13,7 +13,7 @@ use Rattle.gr_book.specs.declared.event.Event.TheVariants.{Look, Commit, Undo, R
 use Rattle.gr_book.specs.declared.event.Reply.{Reply}
 use Rattle.gr_book.specs.declared.event.Reply.TheVariants.{Looked, Done, Taken, Refused, Back}
 use Rattle.gr_keep.specs.Carried.{IsCarried}
-use Rattle.gr_book.specs.Machine.{Machine, BeginsVisit, Enters, FitsCurrent, IsOneBefore, Returns, changed, recorded, view_of}
+use Rattle.gr_book.specs.Machine.{Content, Machine, BeginsVisit, Enters, FitsCurrent, IsOneBefore, Returns, changed, content, view_of}
 use Rattle.gr_book.specs.Waiting.{IsNextJob, WaitsIn}
 use Rattle.gr_book.specs.Deliveries.{IsFresh, IsRightlyBuilt, HasUnit}
 
@@ -41,44 +41,58 @@ IsBackOf (GiveBack job) back unit = (back ≡ job) × (unit ≡ None)
 IsBackOf event back unit = ⊥
 
 -- to give back a Job that is out takes no memory
-abbrev pub MayLackMemory : Machine → Event → Type 0
-MayLackMemory m (GiveBack job) = ¬ (IsOut m.out job)
-MayLackMemory m event = ⊤
+abbrev pub MayLackMemory : JobsOut → Event → Type 0
+MayLackMemory out (GiveBack job) = ¬ (IsOut out job)
+MayLackMemory out event = ⊤
 
--- The reply to an event that the journal keeps, and the machine after it.
-abbrev pub Answers : Machine → Event → Reply → Machine → Type 0
-Answers old Look (Looked view) new = (view ≡ view_of old) × (new ≡ recorded old)
+-- The reply to an event, and what is after it. It speaks of the states and the Jobs out alone, not of the journal.
+abbrev pub Answers : Content → Event → Reply → Content → Type 0
+Answers old Look (Looked view) new = (view ≡ view_of old) × (new ≡ old)
 Answers old (Commit basis change) (Done number) new =
     FitsCurrent old basis change × (number ≡ old.next)
-    × ((finished : Table) × IsCarried old.current.files old.current.finished change.files finished
-    × (new ≡ recorded (changed old change.files finished)))
-Answers old (Commit basis change) (Refused (Moved current)) new = ¬ (FitsCurrent old basis change) × (current ≡ old.current.number) × (new ≡ recorded old)
+    × ((finished : Table) × IsCarried old.current.files old.current.finished change.files finished × (new ≡ changed old change.files finished))
+Answers old (Commit basis change) (Refused (Moved current)) new = ¬ (FitsCurrent old basis change) × (current ≡ old.current.number) × (new ≡ old)
 Answers old (Undo basis) (Done number) new = (basis ≡ old.current.number) × (number ≡ new.current.number) × BeginsVisit old new × IsOneBefore new old
-Answers old (Undo basis) (Refused (Moved current)) new = ¬ (basis ≡ old.current.number) × (current ≡ old.current.number) × (new ≡ recorded old)
-Answers old (Undo basis) (Refused NothingToUndo) new = (basis ≡ old.current.number) × (old.earlier ≡ []) × (new ≡ recorded old)
+Answers old (Undo basis) (Refused (Moved current)) new = ¬ (basis ≡ old.current.number) × (current ≡ old.current.number) × (new ≡ old)
+Answers old (Undo basis) (Refused NothingToUndo) new = (basis ≡ old.current.number) × (old.earlier ≡ []) × (new ≡ old)
 Answers old (Redo basis) (Done number) new = (basis ≡ old.current.number) × (number ≡ new.current.number) × BeginsVisit old new × IsOneBefore old new
-Answers old (Redo basis) (Refused (Moved current)) new = ¬ (basis ≡ old.current.number) × (current ≡ old.current.number) × (new ≡ recorded old)
-Answers old (Redo basis) (Refused NothingToRedo) new = (basis ≡ old.current.number) × (old.later ≡ []) × (new ≡ recorded old)
-Answers old Take (Taken job) new = IsNextJob old job × (new ≡ recorded (record old { out = with_job old.out (label_of job) }))
-Answers old Take (Refused NoJob) new = ((p : List ℕ) → WaitsIn old p → ⊥) × (new ≡ recorded old)
-Answers old (Deliver job built) (Back NoJob back unit) new = ¬ (IsOut old.out job) × IsBackOf (Deliver job built) back unit × (new ≡ recorded old)
+Answers old (Redo basis) (Refused (Moved current)) new = ¬ (basis ≡ old.current.number) × (current ≡ old.current.number) × (new ≡ old)
+Answers old (Redo basis) (Refused NothingToRedo) new = (basis ≡ old.current.number) × (old.later ≡ []) × (new ≡ old)
+Answers old Take (Taken job) new = IsNextJob old job × (new ≡ record old { out = with_job old.out (label_of job) })
+Answers old Take (Refused NoJob) new = ((p : List ℕ) → WaitsIn old p → ⊥) × (new ≡ old)
+Answers old (Deliver job built) (Back NoJob back unit) new = ¬ (IsOut old.out job) × IsBackOf (Deliver job built) back unit × (new ≡ old)
 Answers old (Deliver job built) (Refused (Stale current)) new = ¬ (IsFresh old.current job built) × (current ≡ old.current.number) × Returns old job new
 Answers old (Deliver job built) (Refused Already) new = IsFresh old.current job built × HasUnit old.current job.package × Returns old job new
 Answers old (Deliver job built) (Done number) new =
     IsFresh old.current job built × ¬ (HasUnit old.current job.package) × (number ≡ old.current.number) × Enters old job built.unit new
     × IsRightlyBuilt built
-Answers old (GiveBack job) (Back NoJob back unit) new = ¬ (IsOut old.out job) × IsBackOf (GiveBack job) back unit × (new ≡ recorded old)
+Answers old (GiveBack job) (Back NoJob back unit) new = ¬ (IsOut old.out job) × IsBackOf (GiveBack job) back unit × (new ≡ old)
 Answers old (GiveBack job) (Done number) new = (number ≡ old.current.number) × Returns old job new
 Answers old event reply new = ⊥
 
--- From old, the machine may give this reply to the event and go on to new.
+-- the same, or memory was wanting: then nothing changes, and what the event brought comes back
+abbrev pub AnswersOrLacks : Content → Event → Reply → Content → Type 0
+AnswersOrLacks old event (Refused Memory) new = ¬ (BringsJob event) × (new ≡ old)
+AnswersOrLacks old event (Back Memory job unit) new = IsBackOf event job unit × MayLackMemory old.out event × (new ≡ old)
+AnswersOrLacks old event reply new = Answers old event reply new
+
+-- the journal keeps each event with its reply, but for want of memory, or of room in the journal
+abbrev pub IsKept : Reply → Type 0
+IsKept (Refused Memory) = ⊥
+IsKept (Refused JournalFull) = ⊥
+IsKept (Back Memory job unit) = ⊥
+IsKept (Back JournalFull job unit) = ⊥
+IsKept reply = ⊤
+
+-- From old, the machine may give this reply to the event and go on to new: there is room, the event is answered, and the journal
+-- has one entry more.
 abbrev pub Step : Machine → Event → Reply → Machine → Type 0
 -- for want of memory, or of room in the journal, an event is refused: nothing changes, no entry is kept, and its Job comes back
 Step old event (Refused Memory) new = ¬ (BringsJob event) × (new ≡ old)
 Step old event (Refused JournalFull) new = ¬ (BringsJob event) × ¬ (HasRoom old event) × (new ≡ old)
-Step old event (Back Memory job unit) new = IsBackOf event job unit × MayLackMemory old event × (new ≡ old)
+Step old event (Back Memory job unit) new = IsBackOf event job unit × MayLackMemory old.out event × (new ≡ old)
 Step old event (Back JournalFull job unit) new = IsBackOf event job unit × ¬ (HasRoom old event) × (new ≡ old)
-Step old event reply new = HasRoom old event × Answers old event reply new
+Step old event reply new = HasRoom old event × Answers (content old) event reply (content new) × (new.entries ≡ old.entries + 1)
 
 -- the replies that the parts of a step give
 abbrev pub looked : Result View Refusal → Reply

@@ -9,7 +9,7 @@ use Rattle.gr_compile.specs.declared.job.JobRecord.{JobRecord}
 use Rattle.gr_compile.specs.declared.unit.Unit.{Unit as PackageUnit}
 use Rattle.gr_keep.specs.Finished.{IsFinished}
 use Rattle.gr_book.specs.State.{State}
-use Rattle.gr_book.specs.Machine.{Machine}
+use Rattle.gr_book.specs.Machine.{Content}
 
 -- the package p of the state is unfinished, and no Job of it is out that was taken in this visit
 pub record IsWaiting (state : State) (out : JobsOut) (visit : ℕ) (p : List ℕ) : Type 0 where
@@ -24,12 +24,12 @@ pub record IsFirstWaiting (state : State) (out : JobsOut) (visit : ℕ) (p : Lis
   pub at : slice_get (package_paths state.files) number ≡ Some p
   pub first : (i : ℕ) (q : List ℕ) → i < number → slice_get (package_paths state.files) i ≡ Some q → IsWaiting state out visit q → ⊥
 
--- a package of the machine's current state waits to be built
-abbrev pub WaitsIn : Machine → List ℕ → Type 0
+-- a package of the current state waits to be built
+abbrev pub WaitsIn : Content → List ℕ → Type 0
 WaitsIn m = IsWaiting m.current m.out m.visit
 
 -- the Job that is handed out next: it has the next ticket, and is of the first package that waits
-pub record IsNextJob (m : Machine) (job : JobRecord) : Type 0 where
+pub record IsNextJob (m : Content) (job : JobRecord) : Type 0 where
   pub ticket : job.ticket ≡ m.out.ticket
   pub number : job.number ≡ m.current.number
   pub visit : job.visit ≡ m.visit

@@ -2,6 +2,7 @@
 #![tactic(auto)]
 
 mod book;
+mod content;
 mod deliveries;
 mod event;
 mod laws;

@@ -1,18 +1,18 @@
 -- The Job of the first package that waits, and none where none waits.
-use Rattle.std.proofs.Common.{◌≡◌, ℕ, List, Some, slice_get, sym, ap, subst, ◌∙◌}
+use Rattle.std.proofs.Common.{◌≡◌, ℕ, List, Some, slice_get, refl, sym, ap, subst, ◌∙◌}
 use Rattle.gr_text.specs.Packages.{package_paths}
 use Rattle.gr_text.specs.Workspace.{Workspace}
 use Rattle.gr_compile.specs.Inputs.{AreInputs}
 use Rattle.gr_compile.specs.Jobs.{JobsOut, label_of, with_job}
 use Rattle.gr_compile.specs.declared.job.JobRecord.{JobRecord}
 use Rattle.gr_book.specs.State.{State}
-use Rattle.gr_book.specs.Machine.{Machine, recorded}
+use Rattle.gr_book.specs.Machine.{Content}
 use Rattle.gr_book.specs.Waiting.{WaitsIn, IsFirstWaiting, IsNextJob}
 use Rattle.gr_keep.proofs.Learning.{inputs_closures}
-use Rattle.gr_book.proofs.book.Book.take.Goals as goal
+use Rattle.gr_book.proofs.content.Content.take.Goals as goal
 
 pub returns-in_default : goal.returns-in_default
-returns-in_default c = (c.requires, (subst (λ (m : Machine). (p : List ℕ) → WaitsIn m p → ⊥) c.self.view_is c.in_default.ensures, ap recorded c.self.view_is))
+returns-in_default c = (subst (λ (m : Content). (p : List ℕ) → WaitsIn m p → ⊥) c.self.view_is c.in_default.ensures, refl)
 
 pub known_within-requires : goal.known_within-requires
 known_within-requires c =
@@ -27,7 +27,7 @@ returns c =
     let p = c.deref.result.now in
     let job = c.in_ok-job.job in
     let state = c.self.inside.current in
-    let m : Machine = record { limits = c.self.inside.limits; earlier = c.self.inside.earlier.items; current = c.self.inside.current; later = c.self.inside.later.items; next = c.self.inside.next; visit = c.self.inside.visit; out = c.self.inside.out; entries = c.self.inside.entries } in
+    let m : Content = record { limits = c.self.inside.limits; earlier = c.self.inside.earlier.items; current = c.self.inside.current; later = c.self.inside.later.items; next = c.self.inside.next; visit = c.self.inside.visit; out = c.self.inside.out } in
     let handed = c.in_ok-job.ensures in
     let here : slice_get (package_paths c.current.inside.files) n ≡ Some p = c.package.ensures.path ∙ ap Some (sym c.deref.ensures.value) in
     let at : slice_get (package_paths state.files) n ≡ Some p = subst (λ (s : State). slice_get (package_paths s.files) n ≡ Some p) c.current.view_is here in
@@ -40,9 +40,6 @@ returns c =
       first = subst (IsFirstWaiting state m.out m.visit) named (c.in-Some.ensures.1 p at);
       inputs = subst (λ (x : Workspace). AreInputs state.files job.package x) (sym (ap (λ (j : JobRecord). j.inputs) handed.0)) (subst (λ (q : List ℕ). AreInputs state.files q c.in_ok-inputs.inputs) named inputs);
     } in (
-      c.requires,
-      (
-        subst (λ (x : Machine). IsNextJob x job) c.self.view_is next,
-        ap (λ (o : JobsOut). recorded (record m { out = o })) handed.1 ∙ ap (λ (x : Machine). recorded (record x { out = with_job x.out (label_of job) })) c.self.view_is,
-      ),
+      subst (λ (x : Content). IsNextJob x job) c.self.view_is next,
+      ap (λ (o : JobsOut). record m { out = o }) handed.1 ∙ ap (λ (x : Content). record x { out = with_job x.out (label_of job) }) c.self.view_is,
     )

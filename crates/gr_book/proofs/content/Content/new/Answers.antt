@@ -1,10 +1,10 @@
 -- The first state has no package, and no unit, and nothing is known.
-use Rattle.std.proofs.Common.{◌≡◌, ℕ, length, sym, ap, ◌∙◌}
+use Rattle.std.proofs.Common.{◌≡◌, length, sym, ap, ◌∙◌}
 use Rattle.gr_text.specs.Packages.{package_paths}
 use Rattle.gr_text.specs.Workspace.{Workspace}
 use Rattle.gr_keep.specs.Finished.{Table}
 use Rattle.gr_book.proofs.NoPackages.{no_packages}
-use Rattle.gr_book.proofs.book.Book.new.Goals as goal
+use Rattle.gr_book.proofs.content.Content.new.Goals as goal
 
 pub invariant_of-result : goal.invariant_of-result
 invariant_of-result c =

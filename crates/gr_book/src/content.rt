@@ -1,0 +1,294 @@
+//! The states of a workspace with the Jobs that are out, and what events make of them.
+ghost use Rattle.std.specs.Prelude.{◌≡◌, ℕ, ◌+◌, ◌≤◌, IfOk, vec_len};
+ghost use Rattle.gr_compile.specs.Jobs.{IsOut};
+ghost use Rattle.gr_book.specs.Machine.{HasNumbers, content, newest, opening};
+ghost use Rattle.gr_book.specs.Step.{AnswersOrLacks, done, looked, taken};
+
+use crate::deliveries::{outcome_of, settle};
+use crate::event::{Event, Reply};
+use crate::state::State;
+use crate::view::View;
+use crate::waiting::first_waiting;
+use gr_compile::{Built, Job, Out, SharedPath};
+use gr_graph::Graph;
+use gr_keep::{Finished, carried_units, changed_marks, inputs_of, kept, known_within};
+use gr_space::{Change, Snapshot};
+use gr_text::{Files, Limits, Refusal};
+use gr_verdict::Known;
+use std::alloc::{AllocError, Global};
+use std::marker::Model;
+use std::mem;
+
+/// The states of a workspace, with a cursor on the current one, and the Jobs that are out.
+pub(crate) struct Content {
+    pub(crate) alloc: Global,
+    pub(crate) limits: Limits,
+    pub(crate) earlier: Vec<State>,
+    pub(crate) current: State,
+    pub(crate) later: Vec<State>,
+    pub(crate) next: u64,
+    pub(crate) visit: u64,
+    pub(crate) out: Out,
+}
+
+impl Model for Content {
+    ghost use Rattle.std.specs.Prelude.{◌+◌, ◌≤◌, length};
+    ghost use Rattle.gr_book.specs.Machine.{Content};
+    ghost use Rattle.std.specs.Coded.{codes};
+    ghost use Rattle.gr_compile.specs.Codes.{unit_code, workspace_code};
+
+    ghost Value = { Content };
+
+    ghost coded = { Prim.hlevel (codes, unit_code, workspace_code) };
+
+    ghost view = { λ a. record { limits = a.limits; earlier = a.earlier.items; current = a.current; later = a.later.items; next = a.next; visit = a.visit; out = a.out } };
+
+    ghost invariant = { λ a. length a.earlier.items + length a.later.items ≤ a.limits.undo_depth };
+}
+
+/// Drops the oldest state where there is one too many.
+fn keep_newest(states: &mut Vec<State>, depth: usize)
+    requires { vec_len states.old ≤ depth + 1 }
+    ensures { states.new.items ≡ newest depth states.old.items }
+{
+    if states.len() > depth {
+        drop(states.remove(0));
+    }
+}
+
+fn looked_reply(outcome: Result<View, Refusal>) -> Reply
+    ensures { result ≡ looked outcome }
+{
+    match outcome {
+        Ok(view) => Reply::Looked(view),
+        Err(refusal) => Reply::Refused(refusal),
+    }
+}
+
+fn done_reply(outcome: Result<u64, Refusal>) -> Reply
+    ensures { result ≡ done outcome }
+{
+    match outcome {
+        Ok(number) => Reply::Done(number),
+        Err(refusal) => Reply::Refused(refusal),
+    }
+}
+
+fn taken_reply(outcome: Result<Job, Refusal>) -> Reply
+    ensures { result ≡ taken outcome }
+{
+    match outcome {
+        Ok(job) => Reply::Taken(job),
+        Err(refusal) => Reply::Refused(refusal),
+    }
+}
+
+impl Content {
+    /// One state, which has the number 0 and no files.
+    pub(crate) fn new(alloc: Global, limits: Limits) -> Result<Content, AllocError>
+        ensures { IfOk result (λ states. states ≡ content (opening limits)) }
+    {
+        let files = Graph::of(alloc, Files::new(alloc))?;
+        let finished = Finished::new(alloc, Vec::new(alloc))?;
+        let known = Known::new(alloc);
+        Ok(Content {
+            alloc,
+            limits,
+            earlier: Vec::new(alloc),
+            current: State {
+                number: 0,
+                files,
+                finished,
+                known,
+            },
+            later: Vec::new(alloc),
+            next: 1,
+            visit: 0,
+            out: Out::new(alloc),
+        })
+    }
+
+    fn look(&self) -> Result<View, Refusal>
+        ensures { AnswersOrLacks self.now Event.Look (looked result) self.now }
+    {
+        let current = &self.current;
+        let snapshot = Snapshot {
+            number: current.number,
+            limits: self.limits,
+            files: current.files.clone()?,
+        };
+        let finished = current.finished.clone()?;
+        Ok(View {
+            snapshot,
+            finished,
+            undo: self.earlier.len(),
+            redo: self.later.len(),
+        })
+    }
+
+    fn commit(&mut self, basis: u64, change: Change) -> Result<u64, Refusal>
+        requires { HasNumbers self.old }
+        ensures { AnswersOrLacks self.old (Event.Commit basis change) (done result) self.new }
+    {
+        let current = &self.current;
+        let number = current.number;
+        if basis != number || !change.base.files().same(current.files.files()) {
+            return Err(Refusal::Moved { current: number });
+        }
+        let files = change.files;
+        let marks = changed_marks(self.alloc, &current.files, &files)?;
+        let finished = carried_units(
+            self.alloc,
+            &current.files,
+            &current.finished,
+            &files,
+            &marks,
+        )?;
+        let known = kept(self.alloc, &current.files, &current.known, &files, &marks)?;
+        self.earlier.reserve(1)?;
+        let number = self.next;
+        let next = State {
+            number,
+            files,
+            finished,
+            known,
+        };
+        let previous = mem::replace(&mut self.current, next);
+        self.earlier.push(previous).unwrap();
+        keep_newest(&mut self.earlier, self.limits.undo_depth);
+        self.later.clear();
+        self.next += 1;
+        self.visit += 1;
+        Ok(number)
+    }
+
+    fn undo(&mut self, basis: u64) -> Result<u64, Refusal>
+        requires { HasNumbers self.old }
+        ensures { AnswersOrLacks self.old (Event.Undo basis) (done result) self.new }
+    {
+        let number = self.current.number;
+        if basis != number {
+            return Err(Refusal::Moved { current: number });
+        }
+        if self.earlier.is_empty() {
+            return Err(Refusal::NothingToUndo);
+        }
+        self.later.reserve(1)?;
+        let previous = self.earlier.pop().unwrap();
+        let number = previous.number;
+        let left = mem::replace(&mut self.current, previous);
+        self.later.push(left).unwrap();
+        self.visit += 1;
+        Ok(number)
+    }
+
+    fn redo(&mut self, basis: u64) -> Result<u64, Refusal>
+        requires { HasNumbers self.old }
+        ensures { AnswersOrLacks self.old (Event.Redo basis) (done result) self.new }
+    {
+        let number = self.current.number;
+        if basis != number {
+            return Err(Refusal::Moved { current: number });
+        }
+        if self.later.is_empty() {
+            return Err(Refusal::NothingToRedo);
+        }
+        self.earlier.reserve(1)?;
+        let next = self.later.pop().unwrap();
+        let number = next.number;
+        let left = mem::replace(&mut self.current, next);
+        self.earlier.push(left).unwrap();
+        self.visit += 1;
+        Ok(number)
+    }
+
+    fn take(&mut self) -> Result<Job, Refusal>
+        requires { HasNumbers self.old }
+        ensures { AnswersOrLacks self.old Event.Take (taken result) self.new }
+    {
+        let current = &self.current;
+        let Some(number) = first_waiting(current, &self.out, self.visit) else {
+            return Err(Refusal::NoJob);
+        };
+        let package = SharedPath::new(self.alloc, &current.files.package(number).path)?;
+        let inputs = inputs_of(self.alloc, &current.files, number)?;
+        let known = known_within(self.alloc, &current.files, &current.known, &inputs)?;
+        let job = self
+            .out
+            .hand_out(current.number, self.visit, package, inputs, known)?;
+        Ok(job)
+    }
+
+    /// Takes in a delivery for a Job that is out.
+    fn enter(&mut self, job: Job, built: Built) -> Reply
+        requires { IsOut self.old.out job }
+        ensures { AnswersOrLacks self.old (Event.Deliver job built) result self.new }
+    {
+        match outcome_of(self.alloc, &self.current, &job, &built) {
+            Err(_) => Reply::Back(Refusal::Memory, job, Some(built)),
+            Ok(outcome) => match self.out.take_back(job) {
+                Err(_job) => unreachable!(),
+                Ok(record) => {
+                    drop(record);
+                    drop(built);
+                    settle(&mut self.current, outcome)
+                }
+            },
+        }
+    }
+
+    fn deliver(&mut self, job: Job, built: Built) -> Reply
+        ensures { AnswersOrLacks self.old (Event.Deliver job built) result self.new }
+    {
+        if !self.out.is_out(&job) {
+            return Reply::Back(Refusal::NoJob, job, Some(built));
+        }
+        self.enter(job, built)
+    }
+
+    /// It takes no memory, and always succeeds for a Job that is out.
+    fn give_back(&mut self, job: Job) -> Reply
+        ensures { AnswersOrLacks self.old (Event.GiveBack job) result self.new }
+    {
+        let number = self.current.number();
+        let record = match self.out.take_back(job) {
+            Ok(record) => record,
+            Err(job) => return Reply::Back(Refusal::NoJob, job, None),
+        };
+        drop(record);
+        Reply::Done(number)
+    }
+
+    /// Answers an event. Room is made before anything changes, so want of memory leaves all as it was.
+    pub(crate) fn answer(&mut self, event: Event) -> Reply
+        requires { HasNumbers self.old }
+        ensures { AnswersOrLacks self.old event result self.new }
+    {
+        match event {
+            Event::Look => looked_reply(self.look()),
+            Event::Commit(basis, change) => done_reply(self.commit(basis, change)),
+            Event::Undo(basis) => done_reply(self.undo(basis)),
+            Event::Redo(basis) => done_reply(self.redo(basis)),
+            Event::Take => taken_reply(self.take()),
+            Event::Deliver(job, built) => self.deliver(job, built),
+            Event::GiveBack(job) => self.give_back(job),
+        }
+    }
+
+    pub(crate) fn close(self) {
+        let Content {
+            alloc: _,
+            limits: _,
+            earlier,
+            current,
+            later,
+            next: _,
+            visit: _,
+            out,
+        } = self;
+        drop(earlier);
+        drop(current);
+        drop(later);
+        drop(out);
+    }
+}
