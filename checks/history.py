@@ -38,6 +38,9 @@ class State:
         }
 
 
+UNDO_DEPTH = 100
+
+
 class History:
     def __init__(self, journal=None):
         self.states = [State(0, {}, set())]
@@ -63,8 +66,8 @@ class History:
     def change(self, texts):
         self.enter()
         state = State(self.numbers, texts, self.current.carried(texts))
-        self.states = self.states[: self.cursor + 1] + [state]
-        self.cursor += 1
+        self.states = (self.states[: self.cursor + 1] + [state])[-UNDO_DEPTH - 1 :]
+        self.cursor = len(self.states) - 1
         self.numbers += 1
 
     def move(self, by, code):
