@@ -5,22 +5,23 @@ use Rattle.gr_tree.specs.declared.syntax.PrefixOp.{PrefixOp}
 use Rattle.gr_tree.specs.declared.syntax.Kind.TheVariants as kind
 use Rattle.gr_tree.specs.declared.syntax.Token.{Token}
 use Rattle.gr_tree.specs.Flatten.{sign, sign_if, binary_kind, prefix_kind, type_tokens, key_tokens, expr_tokens, operand_tokens, link_tokens, argument_tokens, literal_tokens, element_tokens}
-use Rattle.gr_tree.specs.Tree.{TypeTree, ExprTree, Number, Text, Name, Blank, Composite, Paren, Prefix, Address, Chain, Binary, OperandTrees, no_operand, operand, LinkTrees, no_link, selector, index, call, ArgumentTrees, no_argument, argument, LiteralTree, literal, ElementTrees, no_element, element}
+use Rattle.gr_tree.specs.Tree.{ExprTree, Number, Text, Name, Blank, Composite, Paren, Prefix, Address, Chain, Binary, OperandTrees, no_operand, operand, LinkTrees, no_link, selector, index, call, ArgumentTrees, no_argument, argument, LiteralTree, literal, ElementTrees, no_element, element}
+use Rattle.gr_expr.specs.declared.types.Basic.TheVariants as basic
 use Rattle.gr_expr.specs.declared.types.Builtin.{Builtin}
 use Rattle.gr_expr.specs.declared.types.Builtin.TheVariants as builtin
 use Rattle.gr_expr.specs.Places.{first_token, first_of_type, place_of}
-use Rattle.gr_expr.specs.Types.{PlainType, Underlying, SliceOf, Struct, Kind, Typed, Untyped, Nil, Signature, Meaning, Value, TypeName, Function, BuiltinName, Package, Results, Broken}
-use Rattle.gr_expr.specs.World.{World, Locals, Bound, Means, Member, name_meaning, meaning_of_bound, underlying}
-use Rattle.gr_expr.specs.Operations.{operate, converts, prefixed, class_of, element_of_kind, is_int}
-use Rattle.gr_expr.specs.Judge.{Judged, Argued, Seen, none_seen, MemberUse, TypeJudged, JudgedElements, means, wrong, means_or_wrong, value_or_wrong, also, followed, as_value, value_kind, member_meaning, select_member, select, misfits, all_misfits, all_whole, is_whole, result_meaning, unless_faults, wrong_if_whole, call_function, convert_one, convert, append_to, append_first, append, len_fits, all_printed, call_when, call_builtin, call_of, with_values, bad_index, element_meaning, indexed, index_of, operation_on, operation, prefix_of, address_of, judge_type, element_key, seen_after, literal_ends, literal_meaning, literal_of, value_at, value_before, index_rule, call_rule, judge, judge_operands, judge_links, judge_arguments, judge_literal, judge_elements, judge_value}
-use Rattle.gr_walk.proofs.Picked.{IsPackage, MayUse, Picked, stops, passes, closes, leaves, selects, keys, Passes, pass_append, pass_none, pass_behind, pass_before, IsNoValue, Fits, Ends, Walks, walk_passes, walk_append, walk_before, walk_closed, walk_same}
+use Rattle.gr_expr.specs.Types.{PlainType, BasicType, Underlying, SliceOf, Struct, Kind, Typed, Untyped, Nil, Signature, Meaning, Value, TypeName, Function, BuiltinName, Package, Results, Broken}
+use Rattle.gr_expr.specs.World.{World, Locals, name_meaning, meaning_of_bound, underlying}
+use Rattle.gr_expr.specs.Operations.{operate, converts, prefixed, element_of_kind}
+use Rattle.gr_expr.specs.Judge.{Judged, Argued, Seen, none_seen, means, wrong, means_or_wrong, value_or_wrong, followed, as_value, value_kind, member_meaning, select_member, select, misfits, all_misfits, all_whole, is_whole, result_meaning, unless_faults, wrong_if_whole, call_function, convert_one, convert, append_to, append_first, append, len_fits, all_printed, call_when, call_builtin, call_of, bad_index, element_meaning, indexed, index_of, operation_on, operation, prefix_of, address_of, judge_type, element_key, seen_after, literal_ends, literal_meaning, value_at, index_rule, call_rule, judge, judge_operands, judge_links, judge_arguments, judge_literal, judge_elements}
+use Rattle.gr_walk.proofs.Picked.{IsPackage, MayUse, Picked, stops, passes, closes, leaves, selects, keys, Passes, pass_append, pass_none, pass_before, IsNoValue, Fits, Ends, Walks, walk_passes, walk_append, walk_before, walk_closed, walk_same}
 
 -- what uses nothing
 
 abbrev pub UsesNone : Judged → Type 0
 UsesNone j = j.uses ≡ []
 
-value_uses : (place : ℕ) (m : Meaning) → UsesNone (as_value place m)
+pub value_uses : (place : ℕ) (m : Meaning) → UsesNone (as_value place m)
 unfolding as_value
 value_uses place (Value k a) = refl
 value_uses place Broken = refl
@@ -114,10 +115,10 @@ when_uses fine vs start m =
 builtin_uses : (w : World) (start : ℕ) (b : Builtin) (vs : List Argued) → UsesNone (call_builtin w start b vs)
 unfolding call_builtin
 builtin_uses w start builtin.Append vs = append_uses w start vs
-builtin_uses w start builtin.Len vs = when_uses _ vs start _
-builtin_uses w start builtin.Panic vs = when_uses _ vs start _
-builtin_uses w start builtin.Print vs = when_uses _ vs start _
-builtin_uses w start builtin.Println vs = when_uses _ vs start _
+builtin_uses w start builtin.Len vs = when_uses (len_fits w vs) vs start (Value (Typed (BasicType basic.Int)) false)
+builtin_uses w start builtin.Panic vs = when_uses (length vs == 1) vs start (Results [])
+builtin_uses w start builtin.Print vs = when_uses (all_printed w vs) vs start (Results [])
+builtin_uses w start builtin.Println vs = when_uses (all_printed w vs) vs start (Results [])
 
 call_uses : (w : World) (start place : ℕ) (vs : List Argued) (m : Meaning) → UsesNone (call_of w start place vs m)
 unfolding call_of

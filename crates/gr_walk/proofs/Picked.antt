@@ -1,10 +1,10 @@
 -- The uses of members among tokens.
-use Rattle.std.proofs.Common.{ℕ, suc, ◌≡◌, List, [], ◌∷◌, ◌++◌, Option, Some, None, Bool, true, false, append_assoc, append-nil, ap, sym, refl, subst}
+use Rattle.std.proofs.Common.{ℕ, ◌≡◌, List, [], ◌∷◌, ◌++◌, Option, Some, None, Bool, true, false, append-nil, sym, subst}
 use Rattle.gr_tree.specs.declared.syntax.Kind.{Kind}
 use Rattle.gr_tree.specs.declared.syntax.Kind.TheVariants as kind
 use Rattle.gr_tree.specs.declared.syntax.Token.{Token}
-use Rattle.gr_tree.specs.Flatten.{sign, sign_if}
-use Rattle.gr_expr.specs.Types.{Meaning, Value, Package, Broken}
+use Rattle.gr_tree.specs.Flatten.{sign}
+use Rattle.gr_expr.specs.Types.{Meaning, Package, Broken}
 use Rattle.gr_expr.specs.World.{World, Means}
 use Rattle.gr_expr.specs.Judge.{MemberUse}
 
@@ -89,9 +89,9 @@ walk_before w us t ts m h b = let r = h (Some t.place) in (r.0, (passes r.1.0, r
 -- a sign that closes what is walked
 pub walk_closed : (w : World) (us : List MemberUse) (ts : List Token) (k : Kind) (c : ℕ) (m : Meaning) → is_word k ≡ false → Passes w us ts →
     Walks w us (ts ++ (sign k c ∷ [])) m
-walk_closed w us ts k c m no p b =
+walk_closed w us ts k c m other p b =
     let r = p b in
-    (None, (subst (λ xs. Picked w b xs (ts ++ (sign k c ∷ [])) None) (append-nil us) (picked_append w b r.0 None us [] ts (sign k c ∷ []) r.1 (closes no stops)), tt))
+    (None, (subst (λ xs. Picked w b xs (ts ++ (sign k c ∷ [])) None) (append-nil us) (picked_append w b r.0 None us [] ts (sign k c ∷ []) r.1 (closes other stops)), tt))
 
 pub fits_still : (w : World) (m n : Meaning) (o : Option ℕ) → (IsNoValue m → IsNoValue n) → Fits w m o → Fits w n o
 fits_still w m n None f h = tt

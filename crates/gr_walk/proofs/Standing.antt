@@ -1,5 +1,5 @@
 -- Where the uses of members stand that are picked from the tokens of a file.
-use Rattle.std.proofs.Common.{ℕ, zero, suc, ◌≡◌, ◌+◌, ◌<◌, ◌≤◌, ◌⊎◌, inl, inr, List, [], ◌∷◌, Option, Some, None, true, false, length, ap, sym, ◌∙◌, refl, subst, arith}
+use Rattle.std.proofs.Common.{ℕ, zero, suc, ◌≡◌, ◌<◌, ◌≤◌, ◌⊎◌, inl, inr, List, [], ◌∷◌, Option, Some, None, true, false, length, ap, sym, ◌∙◌, refl, subst, arith}
 use Rattle.std.specs.Prelude.{Contains, slice_index_or, Bool}
 use Rattle.std.specs.List.{AllByRecursion}
 use Rattle.std.proofs.lemmas.Bool.{true≢false}
@@ -7,10 +7,8 @@ use Rattle.gr_scan.specs.CutText.{CutText, tokens_in}
 use Rattle.gr_tree.specs.declared.syntax.Kind.{Kind}
 use Rattle.gr_tree.specs.declared.syntax.Kind.TheVariants as kind
 use Rattle.gr_tree.specs.declared.syntax.Token.{Token}
-use Rattle.gr_tree.specs.Flatten.{flatten}
 use Rattle.gr_tree.specs.Kinds.{kinds_of}
 use Rattle.gr_tree.specs.SourceFile.{SourceFile, IsSourceFile}
-use Rattle.gr_order.specs.Roles.{IsOfKind, IsBehindDot}
 use Rattle.gr_order.proofs.Links.{AreConsecutive, HasKind, kind_from}
 use Rattle.gr_order.proofs.Roles.{consecutive, of_kind, by_kind}
 use Rattle.gr_expr.specs.Judge.{MemberUse}
@@ -132,9 +130,12 @@ module _ (w : World) (L : ℕ → Type 0) (named : (k : ℕ) → L k → IsPacka
         let here : u.place ≡ x.place = ap (λ (z : MemberUse). z.place) same in
         let first : d.place ≡ n = c.0 in
         let second : t.place ≡ suc n = c.1.0 in
-        inr ((n, ((omega arith), inl (c.0, k))), λ j g l. let far : suc (suc j) ≡ x.place = g in
-        let before : suc j ≡ n = omega arith in
-        let use_of : MayUse w (Some j) = subst (MayUse w) (f j before l) may in use_of (named j l)))
+        inr (
+          (n, ((omega arith), inl (c.0, k))),
+          λ j g l. let far : suc (suc j) ≡ x.place = g in
+              let before : suc j ≡ n = omega arith in
+              let use_of : MayUse w (Some j) = subst (MayUse w) (f j before l) may in use_of (named j l),
+        ))
     | inr rest ↦
         beside_more L d (t ∷ ts) x.place
         (beside_more L t ts x.place (each_beside (suc (suc n)) None e us ts p c.1.1 (told_dotted n d c.0 k a.0) a.1.1 x rest))

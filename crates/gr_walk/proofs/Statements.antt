@@ -1,23 +1,22 @@
 -- The uses of members in the statements and declarations of a file stand among its tokens.
 use Rattle.std.proofs.Common.{ℕ, ◌≡◌, List, [], ◌∷◌, ◌++◌, Option, Some, None, Bool, true, false, append_assoc, append-nil, ap, sym, ◌∙◌, refl, subst, if◌then◌else◌}
-use Rattle.gr_tree.specs.declared.syntax.UpdateOp.{UpdateOp}
 use Rattle.gr_tree.specs.declared.syntax.Kind.{Kind}
 use Rattle.gr_tree.specs.declared.syntax.Kind.TheVariants as kind
 use Rattle.gr_tree.specs.declared.syntax.Token.{Token}
 use Rattle.gr_tree.specs.Flatten.{sign, sign_if, tokens_if, all_tokens, item_tokens, list_tokens, group_tokens, step_kind, update_kind, ident_tokens, type_tokens, expr_tokens, exprs_tokens, value_tokens, simple_tokens, local_tokens, init_tokens, for_tokens, statement_tokens, block_tokens, statements_tokens, if_tokens, else_tokens, global_tokens, type_spec_tokens, receiver_tokens, param_tokens, result_tokens, func_tokens, imports_tokens, decl_tokens, flatten}
-use Rattle.gr_tree.specs.Tree.{Item, Group, single, several, IdentTree, TypeTree, ExprTree, Number, Text, Name, Blank, Composite, Paren, Prefix, Address, Chain, Binary, SimpleTree, Alone, Step, Update, Assign, Define, LocalTree, InitTree, ForTree, forever, while, clauses, StatementTree, Empty, Var, Simple, Inner, If, For, Break, Continue, Return, BlockTree, block, StatementTrees, no_statement, statement, IfTree, if_tree, ElseTree, no_else, else_if, else_block, GlobalTree, TypeSpecTree, ReceiverTree, ParamTree, FuncTree, DeclTree, VarDecl, TypeDecl, FuncDecl, FileTree}
-use Rattle.gr_expr.specs.Places.{place_of, first_token}
-use Rattle.gr_expr.specs.Types.{PlainType, Meaning, Value, Results, Broken}
+use Rattle.gr_tree.specs.Tree.{Item, Group, single, several, IdentTree, TypeTree, ExprTree, Name, Blank, SimpleTree, Alone, Step, Update, Assign, Define, LocalTree, InitTree, ForTree, forever, while, clauses, StatementTree, Empty, Var, Simple, Inner, If, For, Break, Continue, Return, BlockTree, block, StatementTrees, no_statement, statement, IfTree, if_tree, ElseTree, no_else, else_if, else_block, ReceiverTree, ParamTree, FuncTree, DeclTree, VarDecl, TypeDecl, FuncDecl, FileTree}
+use Rattle.gr_expr.specs.Places.{place_of}
+use Rattle.gr_expr.specs.Types.{Meaning, Value, Results, Broken}
 use Rattle.gr_expr.specs.World.{World, Locals}
-use Rattle.gr_expr.specs.Judge.{Judged, MemberUse, JudgedList, TypeJudged, judge, judge_value, judge_type, as_value, value_at, followed, value_kind}
-use Rattle.gr_stmt.specs.Checked.{Checked, reaching, noting, finding, check_items, check_group}
-use Rattle.gr_stmt.specs.Sides.{Target, Lefts, values_of, list_followed, judge_each, rights, assignable, judge_operand, assigned_one, assigned, no_name, declares, renewed, defined_one, defined}
+use Rattle.gr_expr.specs.Judge.{MemberUse, TypeJudged, judge, judge_value, judge_type, as_value, followed}
+use Rattle.gr_stmt.specs.Checked.{Checked, reaching, check_items, check_group}
+use Rattle.gr_stmt.specs.Sides.{Target, Lefts, values_of, judge_each, rights, assignable, judge_operand, assigned_one, assigned, no_name, declares, renewed, defined_one, defined}
 use Rattle.gr_stmt.specs.Simple.{check_condition, check_step, check_update, check_alone, check_assign, check_define, check_simple, check_optional, check_optional_condition, check_written, check_unwritten, check_local_of, check_local}
 use Rattle.gr_stmt.specs.Statements.{check_return, check_init, check_header, check_statement, check_block, check_statements, check_if, check_else}
 use Rattle.gr_stmt.specs.Headers.{judge_results, check_optional_receiver, check_receiver, check_param, check_signature, check_function}
 use Rattle.gr_stmt.specs.Declarations.{check_global, check_type, check_decl, check_decls, check_file}
-use Rattle.gr_walk.proofs.Picked.{Picked, stops, Passes, pass_append, pass_none, pass_behind, pass_before, Walks, walk_passes}
-use Rattle.gr_walk.proofs.Expressions.{UsesNone, expr_walks, value_walks, value_uses}
+use Rattle.gr_walk.proofs.Picked.{Passes, pass_append, pass_none, pass_behind, pass_before, walk_passes}
+use Rattle.gr_walk.proofs.Expressions.{UsesNone, expr_walks, value_uses}
 
 -- lists of expressions
 
@@ -288,17 +287,17 @@ mutual
 
 -- functions, declarations and files
 
-noted : (w : World) (s : Checked) (ls : Locals) (faults : List ℕ) (rs : List Token) → Grows w s (reaching s ls faults []) rs
-noted w s ls faults rs ts h = pass_append w s.uses [] ts rs h (pass_none w rs)
+noted : (w : World) (a b : Checked) (rs : List Token) → b.uses ≡ a.uses ++ [] → Grows w a b rs
+noted w a b rs e ts h = subst (λ us. Passes w us (ts ++ rs)) (sym e) (pass_append w a.uses [] ts rs h (pass_none w rs))
 
 receiver_grows : (w : World) (s : Checked) (r : Option ReceiverTree) → Grows w s (check_optional_receiver w s r) (tokens_if receiver_tokens r)
 unfolding check_receiver
 receiver_grows w s None = grows_none w s []
-receiver_grows w s (Some r) = noted w s _ _ (receiver_tokens r)
+receiver_grows w s (Some r) = noted w s (check_receiver w s r) (receiver_tokens r) refl
 
 param_grows : (w : World) (s : Checked) (p : ParamTree) → Grows w s (check_param w s p) (param_tokens p)
 unfolding check_param
-param_grows w s p = noted w s _ _ (param_tokens p)
+param_grows w s p = noted w s (check_param w s p) (param_tokens p) refl
 
 function_grows : (w : World) (is_init : Bool) (s : Checked) (f : FuncTree) → Grows w s (check_function w is_init s f) (func_tokens f)
 unfolding check_function check_signature func_tokens
@@ -313,7 +312,7 @@ function_grows w is_init s f =
     grows_then w s a d (tokens_if receiver_tokens f.receiver) (sign kind.Name f.name ∷ (sign kind.LeftParen f.lparen ∷ (params ++ rest))) (receiver_grows w s f.receiver)
     (grows_after w a d (sign kind.Name f.name ∷ (sign kind.LeftParen f.lparen ∷ [])) (params ++ rest)
     (grows_then w a b d params rest (items_grow w (check_param w) kind.Comma param_tokens (param_grows w) a f.params)
-    (grows_then w b c d (sign kind.RightParen f.rparen ∷ results) (block_tokens f.body) (noted w b _ _ (sign kind.RightParen f.rparen ∷ results))
+    (grows_then w b c d (sign kind.RightParen f.rparen ∷ results) (block_tokens f.body) (noted w b c (sign kind.RightParen f.rparen ∷ results) refl)
     (block_grows w (judge_results w f.result).wanted c f.body))))
 
 decl_grows : (w : World) (is_init : ℕ → Bool) (s : Checked) (d : DeclTree) → Grows w s (check_decl w is_init s d) (decl_tokens d)
@@ -321,11 +320,11 @@ unfolding check_decl decl_tokens
 decl_grows w is_init s (VarDecl k g c) =
     let a = check_group (check_global w) s g in
     grows_behind w s a (sign kind.Var k) (group_tokens global_tokens g ++ (sign kind.Semicolon c ∷ []))
-    (grows_before w s a (group_tokens global_tokens g) (sign kind.Semicolon c ∷ []) (group_grows w (check_global w) global_tokens (λ x y. noted w x _ _ (global_tokens y)) s g))
+    (grows_before w s a (group_tokens global_tokens g) (sign kind.Semicolon c ∷ []) (group_grows w (check_global w) global_tokens (λ x y. noted w x (check_global w x y) (global_tokens y) refl) s g))
 decl_grows w is_init s (TypeDecl k g c) =
     let a = check_group (check_type w) s g in
     grows_behind w s a (sign kind.TypeWord k) (group_tokens type_spec_tokens g ++ (sign kind.Semicolon c ∷ []))
-    (grows_before w s a (group_tokens type_spec_tokens g) (sign kind.Semicolon c ∷ []) (group_grows w (check_type w) type_spec_tokens (λ x y. noted w x _ _ (type_spec_tokens y)) s g))
+    (grows_before w s a (group_tokens type_spec_tokens g) (sign kind.Semicolon c ∷ []) (group_grows w (check_type w) type_spec_tokens (λ x y. noted w x (check_type w x y) (type_spec_tokens y) refl) s g))
 decl_grows w is_init s (FuncDecl k f c) =
     let a = check_function w (is_init f.name) s f in
     grows_behind w s a (sign kind.Func k) (func_tokens f ++ (sign kind.Semicolon c ∷ []))
