@@ -21,3 +21,4 @@ pub mod BindingOrder
 pub mod OnePlace
 pub mod Excluding
 pub mod NamedMembers
+pub mod UsedMembers

@@ -169,7 +169,7 @@ method_in_tree p rank f x is e =
 
 -- their roles
 
-part_at : (ts : List FileParts) (i : ℕ) (s : SourceFile) → slice_get (map source_of ts) i ≡ Some s → (t : FileParts) ×
+pub part_at : (ts : List FileParts) (i : ℕ) (s : SourceFile) → slice_get (map source_of ts) i ≡ Some s → (t : FileParts) ×
     ((slice_get ts i ≡ Some t) × (source_of t ≡ s))
 part_at [] i s at = absurd (none-some s at)
 part_at (t ∷ ts) zero s at = (t, (refl, same_Some (source_of t) s at))

@@ -4,8 +4,8 @@ ghost use Rattle.gr_text.specs.Workspace.{Workspace};
 ghost use Rattle.gr_declared.specs.Package.{Package};
 ghost use Rattle.gr_verdict.specs.Verdicts.{Verdicts};
 ghost use Rattle.gr_bound.specs.declared.declaration.Declaration.{Declaration};
-ghost use Rattle.gr_bound.specs.Binding.{BindsByScope, BindsByPackage, BindsByName};
-ghost use Rattle.gr_bound.specs.Identifiers.{BeginsAt, HoldsByte};
+ghost use Rattle.gr_bound.specs.Binding.{BindsByScope, BindsByPackage, BindsByMember, BindsByName};
+ghost use Rattle.gr_bound.specs.Identifiers.{Stands, BeginsAt, HoldsByte};
 ghost use Rattle.gr_bound.specs.Uses.{IsPackage, IsAskedIn};
 
 /// One identifier of a package, at most, begins at a place.
@@ -46,4 +46,17 @@ pub fn member_names_exclude_other_ways()
         BindsByName p u d → BindsByScope p u e → ⊥ }
     ensures packages { (w : Workspace) → (known : Verdicts) → (p : Package) → IsPackage w known p → (u : ℕ) → (d e : Declaration) → u < p.size →
         BindsByName p u d → BindsByPackage (IsPackage w known) p u e → ⊥ }
+{}
+
+/// As a member that is used an identifier is bound to one declaration at most.
+pub fn one_declaration_by_member()
+    ensures { (w : Workspace) → (known : Verdicts) → (p : Package) → IsPackage w known p → (u : ℕ) → (d e : Declaration) → BindsByMember p u d → BindsByMember p u e → d ≡ e }
+{}
+
+/// A member that is used is bound by no scope, and is not the name by which a field or a method is declared.
+pub fn used_members_exclude_other_ways()
+    ensures scopes { (w : Workspace) → (known : Verdicts) → (p : Package) → IsPackage w known p → (u : ℕ) → (d e : Declaration) → Stands p u →
+        BindsByMember p u d → BindsByScope p u e → ⊥ }
+    ensures names { (w : Workspace) → (known : Verdicts) → (p : Package) → IsPackage w known p → (u : ℕ) → (d e : Declaration) → Stands p u →
+        BindsByMember p u d → BindsByName p u e → ⊥ }
 {}

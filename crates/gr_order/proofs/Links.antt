@@ -75,7 +75,7 @@ abbrev pub HasKind : Kind → ℕ → List Token → Type 0
 HasKind k i [] = ⊥
 HasKind k i (t ∷ ts) = ((t.place ≡ i) × (t.kind ≡ k)) ⊎ HasKind k i ts
 
-kind_from : (n : ℕ) (ts : List Token) → AreConsecutive n ts → (k : Kind) (i : ℕ) → HasKind k i ts → n ≤ i
+pub kind_from : (n : ℕ) (ts : List Token) → AreConsecutive n ts → (k : Kind) (i : ℕ) → HasKind k i ts → n ≤ i
 kind_from n [] w k i h = absurd h
 kind_from n (t ∷ ts) w k i h = elim h [
   | inl here ↦ (let e : t.place ≡ i = here.0 in let f : t.place ≡ n = w.0 in omega arith)

@@ -35,7 +35,7 @@ use Rattle.gr_order.proofs.Links.{AreConsecutive, HasKind, Told, ToldIn, file_to
 use Rattle.gr_order.proofs.Ordered.{identifier_stays, same_length}
 
 -- the tokens of a cut are numbered one by one
-consecutive : (n : ℕ) (text : List ℕ) (ps : List Piece) → AreConsecutive n (kinds_from n text ps)
+pub consecutive : (n : ℕ) (text : List ℕ) (ps : List Piece) → AreConsecutive n (kinds_from n text ps)
 unfolding kinds_from
 consecutive n text [] = tt
 consecutive n text (p ∷ ps) = (
@@ -58,13 +58,13 @@ has_kind n [] w k j i at t is e = absurd (none-some t is)
 has_kind n (u ∷ us) w k zero i at t is e = let f : u.place ≡ n = w.0 in inl ((omega arith), ap (λ (x : Token). x.kind) (same_Some u t is) ∙ e)
 has_kind n (u ∷ us) w k (suc j) i at t is e = inr (has_kind (suc n) us w.1 k j i (omega arith) t is e)
 
-of_kind : (c : CutText) (k : Kind) (i : ℕ) → HasKind k i (kinds_of c) → IsOfKind c i k
+pub of_kind : (c : CutText) (k : Kind) (i : ℕ) → HasKind k i (kinds_of c) → IsOfKind c i k
 of_kind c k i h =
     let r = kind_at 0 (kinds_of c) (consecutive 0 c.text (tokens_in c)) k i h in
     let same : r.0 ≡ i = (let e : 0 + r.0 ≡ i = r.1.0 in omega arith) in
     (r.1.1.0, (subst (λ j. slice_get (kinds_of c) j ≡ Some r.1.1.0) same r.1.1.1.0, r.1.1.1.1))
 
-by_kind : (c : CutText) (k : Kind) (i : ℕ) → IsOfKind c i k → HasKind k i (kinds_of c)
+pub by_kind : (c : CutText) (k : Kind) (i : ℕ) → IsOfKind c i k → HasKind k i (kinds_of c)
 by_kind c k i h = has_kind 0 (kinds_of c) (consecutive 0 c.text (tokens_in c)) k i i (omega arith) h.0 h.1.0 h.1.1
 
 told_by_tokens : (c : CutText) (index : ℕ) (role : Role) → Told (kinds_of c) index role → IsToldByTokens c index role

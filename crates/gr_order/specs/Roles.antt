@@ -13,7 +13,11 @@ use Rattle.gr_scope.specs.declared.model.Role.TheVariants.{NotLexical}
 abbrev pub IsOfKind : CutText → ℕ → Kind → Type 0
 IsOfKind c i k = (t : Token) × ((slice_get (kinds_of c) i ≡ Some t) × (t.kind ≡ k))
 
+-- a dot stands before the token
+abbrev pub IsBehindDot : CutText → ℕ → Type 0
+IsBehindDot c index = (i : ℕ) × ((suc i ≡ index) × IsOfKind c i Dot)
+
 -- the identifier at a token is a selected name exactly where a dot stands before it, and a key exactly where a colon stands behind it
 pub record IsToldByTokens (c : CutText) (index : ℕ) (role : Role) : Type 0 where
-  pub selected : (role ≡ NotLexical Selected) ↔ ((i : ℕ) × ((suc i ≡ index) × IsOfKind c i Dot))
+  pub selected : (role ≡ NotLexical Selected) ↔ IsBehindDot c index
   pub key : (role ≡ NotLexical Key) ↔ IsOfKind c (suc index) Colon

@@ -1,0 +1,18 @@
+-- The places at which members are used.
+use Rattle.std.specs.Prelude.{ℕ, suc, ◌≡◌}
+use Rattle.gr_scan.specs.CutText.{CutText}
+use Rattle.gr_tree.specs.declared.syntax.Kind.TheVariants.{Colon, Name}
+use Rattle.gr_expr.specs.Types.{Package}
+use Rattle.gr_expr.specs.World.{World, Means}
+use Rattle.gr_order.specs.Roles.{IsOfKind, IsBehindDot}
+
+-- the token is the name of a package, and no name behind a dot
+pub record IsPackageName (w : World) (c : CutText) (token : ℕ) : Type 0 where
+  pub is_name : IsOfKind c token Name
+  pub undotted : IsBehindDot c token → ⊥
+  pub names : w.bound token ≡ Means Package
+
+-- the token stands before a colon; or it stands behind a dot, and not behind the name of a package
+pub data StandsAtLink (w : World) (c : CutText) (place : ℕ) : Type 0 where
+  as_key : IsOfKind c (suc place) Colon → StandsAtLink w c place
+  as_selected : IsBehindDot c place → ((token : ℕ) → suc (suc token) ≡ place → IsPackageName w c token → ⊥) → StandsAtLink w c place
