@@ -1,5 +1,6 @@
 -- Which names may be given.
-use Rattle.std.specs.Prelude.{ℕ, ◌≡◌, ◌≢◌, ◌≤◌, ◌⊎◌, Bool, false, List, [], ◌∷◌, length, codes}
+use Rattle.std.specs.Prelude.{ℕ, ◌≡◌, ◌≢◌, ◌≤◌, ◌⊎◌, Bool, false, not, List, [], ◌∷◌, length, codes}
+use Rattle.std.specs.Str.{bytes_eq}
 use Rattle.gr_scan.specs.declared.piece.Class.TheVariants.{Name}
 use Rattle.gr_scan.specs.Characters.{is_letter}
 use Rattle.gr_scan.specs.Pieces.{IsPiece}
@@ -18,3 +19,7 @@ IsReserved name = (name ≡ codes "init") ⊎ (name ≡ codes "main")
 abbrev pub begins_with_letter : List ℕ → Bool
 begins_with_letter [] = false
 begins_with_letter (c ∷ cs) = is_letter c
+
+-- whether two texts differ
+abbrev pub is_other_text : List ℕ → List ℕ → Bool
+is_other_text a b = not (bytes_eq a b)

@@ -1,14 +1,13 @@
 //! Which names may be given.
-ghost use Rattle.std.specs.Prelude.{◌≡◌, ◌↔◌, ◌≢◌, IsTrue};
+ghost use Rattle.std.specs.Prelude.{◌≡◌, ◌↔◌, IsTrue};
 ghost use Rattle.std.specs.List.{list_all};
 ghost use Rattle.std.specs.Str.{chars};
 ghost use Rattle.gr_scan.specs.Characters.{continues_name};
-ghost use Rattle.gr_scan.specs.Keywords.{keyword_spelling};
+ghost use Rattle.gr_scan.specs.Keywords.{keyword_spelling, all_keywords};
 ghost use Rattle.gr_scan.specs.Words.{IsWord};
-ghost use Rattle.gr_scan.specs.declared.keywords.Keyword.{Keyword as Word};
 ghost use Rattle.gr_scan.specs.declared.piece.Class.TheVariants.{Name};
 ghost use Rattle.gr_scan.specs.Pieces.{IsPiece};
-ghost use Rattle.gr_naming.specs.NewName.{IsNewName, IsReserved, begins_with_letter};
+ghost use Rattle.gr_naming.specs.NewName.{IsNewName, IsReserved, begins_with_letter, is_other_text};
 
 use crate::characters::{continues_name, is_letter};
 use gr_scan::Keyword;
@@ -37,11 +36,18 @@ fn is_word(name: &str) -> bool
     begins_with_letter(name) && all_continue(name)
 }
 
+/// Whether a text is not that of a keyword.
+fn is_other(k: Keyword, name: &str) -> bool
+    ensures { result ≡ is_other_text (keyword_spelling k) name.now }
+{
+    k.spelling() != name.as_bytes()
+}
+
 /// Whether a text is that of no keyword.
 fn is_no_keyword(name: &str) -> bool
-    ensures { IsTrue result ↔ ((k : Word) → name.now ≢ keyword_spelling k) }
+    ensures { result ≡ list_all (λ k. is_other_text (keyword_spelling k) name.now) all_keywords }
 {
-    Keyword::ALL.iter().all(|k| k.spelling() != name.as_bytes())
+    Keyword::ALL.iter().all(|k| is_other(*k, name))
 }
 
 /// Whether a text is an identifier.
