@@ -1,6 +1,6 @@
 -- Refusals for one of three reasons.
-use Rattle.std.proofs.Common.{ℕ, ◌≡◌, ◌⊎◌, inl, inr, List, ap, sym, subst, refl, ◌∙◌}
-use Rattle.std.specs.Prelude.{Option, Some, None, MatchOption, Result, Ok, Err, ◌↔◌}
+use Rattle.std.proofs.Common.{ℕ, ◌≡◌, List, subst}
+use Rattle.std.specs.Prelude.{Option, Some, None, MatchOption, Result, Ok, Err}
 use Rattle.gr_text.specs.declared.refusal.Refusal.{Refusal}
 use Rattle.gr_text.specs.declared.refusal.Refusal.TheVariants as refusal
 use Rattle.gr_scope.specs.declared.model.Position.{Position}

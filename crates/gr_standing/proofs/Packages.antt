@@ -1,5 +1,5 @@
 -- The packages of a workspace without faults.
-use Rattle.std.proofs.Common.{ℕ, ◌≡◌, ◌<◌, Bool, true, false, List, [], length, ap, sym, subst, refl, ◌∙◌}
+use Rattle.std.proofs.Common.{ℕ, ◌≡◌, ◌<◌, Bool, true, false, List, length, ap, sym, subst, refl, ◌∙◌}
 use Rattle.std.specs.Prelude.{Some, Contains, slice_get}
 use Rattle.std.proofs.lemmas.Option.{same_Some}
 use Rattle.gr_text.specs.Packages.{package_paths}
@@ -14,7 +14,7 @@ use Rattle.gr_verdict.specs.Found.{known_by}
 use Rattle.gr_verdict.proofs.OneVerdict.{right_below, verdict_by}
 use Rattle.gr_bound.specs.Uses.{IsPackage}
 use Rattle.gr_bound.specs.Workspaces.{IsSound, IsPackageAt, known_in}
-use Rattle.gr_bound.proofs.Units.{no_fault_in, one_package, one_at, numbered}
+use Rattle.gr_bound.proofs.Units.{no_fault_in, one_package}
 use Rattle.gr_standing.specs.Standing.{InPackage}
 
 without_faults : (w : Workspace) (known : Verdicts) (p : List ℕ) (v : Verdict) → IsVerdictBy w known p v → ((f : FileFault) → IsFaultBy w known p f → ⊥) → (b : Bool) → v.faulty ≡ b → v.faulty ≡ false
