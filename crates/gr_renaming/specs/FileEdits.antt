@@ -34,7 +34,7 @@ pub record InsertsName (f : SourceFile) (r : Renamed) (i : ℕ) (e : Edit) : Typ
   pub text : IsNameBefore f i r.name e.text
 
 abbrev pub IsEditAt : SourceFile → Renamed → ℕ → Edit → Type 0
-IsEditAt f r i e = ReplacesName f r i e ⊎ InsertsName f r i e
+IsEditAt f r i e = InsertsName f r i e ⊎ ReplacesName f r i e
 
 -- edits in order, none of which ends behind an offset
 pub record EndBy (edits : List Edit) (offset : ℕ) : Type 0 where

@@ -1,5 +1,5 @@
 //! The edits of one file.
-ghost use Rattle.std.specs.Prelude.{ℕ, ◌≡◌, ◌<◌, ◌≤◌, ◌↔◌, ◌⊎◌, Contains, IsTrue, IfOk, OnOk, Some, length, slice_get};
+ghost use Rattle.std.specs.Prelude.{ℕ, ◌≡◌, ◌<◌, ◌≤◌, ◌↔◌, ◌⊎◌, ◌++◌, ◌∷◌, [], Contains, IsTrue, IfOk, OnOk, Some, length, slice_get};
 ghost use Rattle.std.specs.List.Sorted.{IsStrictlySortedBy};
 ghost use Rattle.gr_text.specs.declared.place.Place.{Place as Spot};
 ghost use Rattle.gr_scan.specs.CutText.{tokens_in};
@@ -30,9 +30,10 @@ fn is_among(places: &[Place], path: &Path, offset: usize) -> bool
     requires { IsStrictlySortedBy place_cmp places.now }
     ensures { IsTrue result ↔ Contains places.now (record { path = path.now; offset = offset }) }
 {
-    places
-        .binary_search_by(|place| compare_place(place, path, offset))
-        .is_ok()
+    match places.binary_search_by(|place| compare_place(place, path, offset)) {
+        Ok(_) => true,
+        Err(_) => false,
+    }
 }
 
 /// Whether a token of a file is the literal.
@@ -60,6 +61,16 @@ fn is_behind_import(file: &FileTree, number: usize) -> bool
     number > 0 && ends_import(file, number - 1, file.offset(number))
 }
 
+/// A name with some bytes before it and a space behind it.
+fn spaced(alloc: Global, before: &[u8], name: &[u8]) -> Result<FileText, AllocError>
+    ensures { IfOk result (λ text. text ≡ before.now ++ (name.now ++ 32 ∷ [])) }
+{
+    let mut text = Vec::from_slice(alloc, before)?;
+    text.extend_from_slice(name)?;
+    text.push(b' ')?;
+    FileText::new(alloc, text)
+}
+
 /// The name of an import, with the spaces that part it from what stands round it.
 fn name_before(
     alloc: Global,
@@ -69,13 +80,11 @@ fn name_before(
 ) -> Result<FileText, AllocError>
     ensures { IfOk result (λ text. IsNameBefore (source_of file.now) number name.now text) }
 {
-    let mut text = Vec::new(alloc);
     if is_behind_import(file, number) {
-        text.push(b' ')?;
+        spaced(alloc, b" ", name)
+    } else {
+        spaced(alloc, b"", name)
     }
-    text.extend_from_slice(name)?;
-    text.push(b' ')?;
-    FileText::new(alloc, text)
 }
 
 /// Adds the insertion before a token, if that is the literal.
@@ -149,7 +158,7 @@ fn add_edits(
 }
 
 /// The edits of a file, in the order of its tokens.
-pub(crate) fn file_edits(
+pub fn file_edits(
     alloc: Global,
     file: &FileTree,
     renamed: &Renamed,

@@ -2,4 +2,9 @@
 #![tactic(auto)]
 
 mod file_edits;
+mod literal;
 mod renamed;
+
+pub use file_edits::file_edits;
+pub use literal::literal_of;
+pub use renamed::{Literal, Renamed};
