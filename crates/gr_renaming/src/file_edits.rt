@@ -158,7 +158,7 @@ fn add_edits(
 }
 
 /// The edits of a file, in the order of its tokens.
-pub fn file_edits(
+pub fn edits_of(
     alloc: Global,
     file: &FileTree,
     renamed: &Renamed,

@@ -5,6 +5,6 @@ mod file_edits;
 mod literal;
 mod renamed;
 
-pub use file_edits::file_edits;
+pub use file_edits::edits_of;
 pub use literal::literal_of;
 pub use renamed::{Literal, Renamed};
