@@ -1,4 +1,4 @@
 //! Where the declarations of a workspace stand, and what they are called.
 #![tactic(auto)]
 
-mod positions;
+pub mod laws;
