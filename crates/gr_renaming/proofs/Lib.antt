@@ -1,0 +1,4 @@
+-- The lemmas of this crate.
+pub mod Searching
+pub mod Editing
+pub mod Literals

@@ -1,0 +1,18 @@
+-- The literal of an import, in a package and in the workspace.
+use Rattle.std.proofs.Common.{ℕ, ◌≡◌, List}
+use Rattle.std.specs.Prelude.{Option, Some, None, slice_get}
+use Rattle.gr_text.specs.Packages.{package_paths}
+use Rattle.gr_text.specs.Workspace.{Workspace}
+use Rattle.gr_declared.specs.Package.{Package}
+use Rattle.gr_verdict.specs.Verdicts.{Verdicts}
+use Rattle.gr_bound.specs.declared.declaration.Declaration.TheVariants.{Declared}
+use Rattle.gr_bound.specs.Uses.{IsPackage}
+use Rattle.gr_bound.specs.Workspaces.{IsPackageAt}
+use Rattle.gr_standing.proofs.Packages.{in_package, of_package}
+use Rattle.gr_renaming.specs.declared.renamed.Literal.{Literal}
+use Rattle.gr_renaming.specs.Literals.{IsLiteralIn, IsLiteralOf, IsLiteralFound}
+
+pub found_in : (w : Workspace) (known : Verdicts) (n : ℕ) (p : Package) (path : List ℕ) (d : ℕ) → IsPackageAt w known n p → slice_get (package_paths w) n ≡ Some path → (o : Option Literal) →
+    IsLiteralFound (IsLiteralIn p d) o → IsLiteralFound (IsLiteralOf (IsPackage w known) (Declared path d)) o
+found_in w known n p path d is at None h = λ l k. h l (of_package w known n p path (λ q. IsLiteralIn q d l) is at k)
+found_in w known n p path d is at (Some l) h = in_package w known n p path (λ q. IsLiteralIn q d l) is at h

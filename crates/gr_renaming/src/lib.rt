@@ -1,0 +1,10 @@
+//! The edits that give a declaration, with all that is bound to it, another name.
+#![tactic(auto)]
+
+mod file_edits;
+mod literal;
+mod renamed;
+
+pub use file_edits::edits_of;
+pub use literal::literal_of;
+pub use renamed::{Literal, Renamed};

@@ -1,0 +1,18 @@
+//! What gets another name.
+use gr_bound::Places;
+use gr_text::{FileText, Path};
+
+/// A token of a file.
+#[derive(Drop)]
+pub struct Literal {
+    pub path: Path,
+    pub token: usize,
+}
+
+/// The identifiers at some places, sorted by path and offset, and the literal of an import without a name; and the name.
+#[derive(Drop)]
+pub struct Renamed {
+    pub places: Places,
+    pub literal: Option<Literal>,
+    pub name: FileText,
+}

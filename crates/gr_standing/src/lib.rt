@@ -1,0 +1,4 @@
+//! Where the declarations of a workspace stand, and what they are called.
+#![tactic(auto)]
+
+pub mod laws;
