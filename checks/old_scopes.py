@@ -10,7 +10,18 @@ from members import definition_before, is_same_name, struct_before, underlying
 from scopes import UNIVERSE, is_exported
 
 
-class ByScope:
+class ByIdentifier:
+    """Asks `conflict_at` of the identifiers, in their order."""
+
+    def conflict(self):
+        for identifier in self.identifiers.all:
+            conflict = self.conflict_at(identifier)
+            if conflict is not None:
+                return conflict
+        return None
+
+
+class ByScope(ByIdentifier):
     """A variable, function, type or import of another name."""
 
     def __init__(self, identifiers, declaration, name):
@@ -33,13 +44,6 @@ class ByScope:
         if scope.block is other.block:
             return in_order(place_of(scope.declaration)) < in_order(place_of(other.declaration))
         return scope.block.kind == "package"
-
-    def conflict(self):
-        for identifier in self.identifiers.all:
-            conflict = self.conflict_at(identifier)
-            if conflict is not None:
-                return conflict
-        return None
 
     def conflict_at(self, identifier):
         bound = identifier.declaration
@@ -74,7 +78,7 @@ class ByScope:
         return lost(use) if found is None else captured(use, found)
 
 
-class ByMember:
+class ByMember(ByIdentifier):
     """A field or method of another name."""
 
     def __init__(self, identifiers, member, name):
@@ -105,13 +109,6 @@ class ByMember:
         if rival.kind == self.member.kind:
             return min((rival, self.member), key=lambda member: in_order(place_of(member)))
         return rival if rival.kind == "field" else self.member
-
-    def conflict(self):
-        for identifier in self.identifiers.all:
-            conflict = self.conflict_at(identifier)
-            if conflict is not None:
-                return conflict
-        return None
 
     def conflict_at(self, identifier):
         bound = identifier.declaration

@@ -1,9 +1,7 @@
 //! The path literal of an import without a name, which stands for its declaration.
-ghost use Rattle.std.specs.Prelude.{◌≡◌, ◌+◌, ◌<◌, ◌↔◌, length, map, slice_get, true, IsTrue, IfOk};
+ghost use Rattle.std.specs.Prelude.{◌<◌, ◌↔◌, length, map, slice_get, IsTrue, IfOk};
 ghost use Rattle.gr_text.specs.Packages.{package_paths};
 ghost use Rattle.gr_tree.specs.SourceFile.{source_of};
-ghost use Rattle.gr_scope.specs.Scoped.{layout_in};
-ghost use Rattle.gr_imports.specs.Laid.{is_literal};
 ghost use Rattle.gr_declared.specs.Package.{Package as Checked};
 ghost use Rattle.gr_declared.specs.PackageView.{package_of};
 ghost use Rattle.gr_declared.specs.InterfacesView.{interface_in};
@@ -19,36 +17,17 @@ use gr_declared::{Interfaces, Package};
 use gr_expr::symbol::SharedPath;
 use gr_graph::Graph;
 use gr_imports::is_import;
-use gr_scope::model::{Purpose, Role};
 use gr_scope::table::ScopeTable;
 use gr_tree::FileTree;
 use gr_verdict::{Findings, seen};
 use std::alloc::{AllocError, Global};
-
-/// Whether a role is that of the literal of an import with a name.
-fn is_named_literal(role: Role) -> bool
-    ensures { result ≡ is_literal role }
-{
-    match role {
-        Role::NotLexical(Purpose::ImportPath) => true,
-        _ => false,
-    }
-}
-
-/// Whether the identifier behind a declaration is the literal of an import with a name.
-fn is_named(table: &ScopeTable<'_>, d: usize) -> bool
-    requires { d < length table.now.sites }
-    ensures { IsTrue result ↔ (is_literal ((layout_in table.now).role (d + 1)) ≡ true) }
-{
-    1 < table.len() - d && is_named_literal(table.role(d + 1))
-}
 
 /// Whether a declaration is an import without a name.
 fn is_unnamed(unit: Package<'_>, d: usize) -> bool
     requires { d < length unit.table.now.sites }
     ensures { IsTrue result ↔ IsUnnamed (package_of unit.entry) d }
 {
-    is_import(unit.table, d) && !is_named(unit.table, d)
+    is_import(unit.table, d) && gr_imports::literal_of(unit.table, d) == d
 }
 
 /// A token of a file of some files, if there is one.
