@@ -6,7 +6,8 @@ Want of memory is `AllocError`, a variant `Memory` or `NoRoom`. A place may make
 
 - in a conversion from an allocation that was refused (`impl From<AllocError> for ..`),
 - in the arm of a match whose pattern is want of memory itself,
-- in the arm `Err(_)` of a match on a call that fails for want of memory alone, or by `map_err` behind such a call.
+- in the arm `Err(_)` of a match on a call that fails for want of memory alone, or by `map_err` behind such a call,
+- for a sum of lengths that passes what can be addressed (`checked_add(..).ok_or(AllocError)`), as the library does where it grows.
 
 It ends with status 1 where it lists a place.
 """
@@ -68,6 +69,8 @@ def around(lines, number):
 
 def is_sound(lines, number, crate, answers):
     """Whether the place on the line makes want of memory of an allocation that was refused."""
+    if re.search(r"\.checked_add\(.*\)\.ok_or\(AllocError\)$", lines[number].strip()):
+        return True
     mapped = re.search(r"(.*)\.map_err\(\|_\|", lines[number])
     if mapped:
         return any(lacks_memory_alone(call, crate, answers) for call in CALL.findall(mapped[1])[:1])

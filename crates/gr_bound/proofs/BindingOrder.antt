@@ -39,7 +39,7 @@ compared place b = place_cmp (place_at b) place
 pub found_is : (bs : List BoundSpot) (place : Place) (n : ℕ) (b : BoundSpot) → n < length bs → b ≡ get_or bs n b → HoldsAt (λ x. compared place x ≡ Equal) bs n → Contains bs b × (place_at b ≡ place)
 found_is bs place n b lt is at = ((n, lt, sym is), place_cmp_exact (place_at b) place (subst (λ x. compared place x ≡ Equal) (sym is) (at b)))
 
-rises : (bs : List BoundSpot) (place : Place) → IsSortedBy (λ a b. is_lt (place_cmp (place_at a) (place_at b))) bs → IsNonDecreasingBy (λ y. ordering_index (compared place y)) bs
+pub rises : (bs : List BoundSpot) (place : Place) → IsSortedBy (λ a b. is_lt (place_cmp (place_at a) (place_at b))) bs → IsNonDecreasingBy (λ y. ordering_index (compared place y)) bs
 rises bs place sorted = searchable_from_sorted place_cmp_total place_at bs place sorted
 
 not_tied : (o : Ordering) (x y : Place) → place_cmp x y ≡ o → (o ≡ Equal → ⊥) → x ≡ y → ⊥

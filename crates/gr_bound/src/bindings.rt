@@ -132,7 +132,7 @@ fn bind_all(
 }
 
 /// Sorts bound identifiers by their places.
-fn sort(bound: &mut Vec<BoundSpot>)
+pub fn sort(bound: &mut Vec<BoundSpot>)
     ensures order { IsSortedBy (λ a b. is_lt (place_cmp (place_at a) (place_at b))) bound.new.items }
     ensures same { (b : Bound) → Contains bound.new.items b ↔ Contains bound.old.items b }
 {
@@ -152,7 +152,7 @@ pub fn bindings_of(alloc: Global, graph: &Graph, found: &Findings) -> Result<Bin
 }
 
 /// How the place of a bound identifier compares with another.
-fn compare(bound: &BoundSpot, place: &Place) -> Ordering
+pub fn compare(bound: &BoundSpot, place: &Place) -> Ordering
     ensures { result ≡ place_cmp (place_at bound.now) place.now }
 {
     let by_path = bound.spot.path.cmp(&place.path);
@@ -160,7 +160,7 @@ fn compare(bound: &BoundSpot, place: &Place) -> Ordering
 }
 
 /// One of the bound identifiers that begin at a place.
-fn find<'a>(bound: &'a [BoundSpot], place: &Place) -> Option<&'a BoundSpot>
+pub fn find<'a>(bound: &'a [BoundSpot], place: &Place) -> Option<&'a BoundSpot>
     requires { IsSortedBy (λ a b. is_lt (place_cmp (place_at a) (place_at b))) bound.now }
     ensures { MatchOption result ((b : Bound) → Contains bound.now b → place_at b ≡ place.now → ⊥) (λ b. Contains bound.now b.now × (place_at b.now ≡ place.now)) }
 {
@@ -171,6 +171,13 @@ fn find<'a>(bound: &'a [BoundSpot], place: &Place) -> Option<&'a BoundSpot>
 }
 
 impl Bindings {
+    /// The bound identifiers in the order of their places.
+    pub fn as_slice(&self) -> &[BoundSpot]
+        ensures { result.now ≡ self.now }
+    {
+        self.bound.as_slice()
+    }
+
     /// The declaration to which the identifier that begins at a place is bound.
     pub fn at(&self, place: &Place) -> Option<&Declaration>
         ensures { (w : Workspace) → (known : Verdicts) → AreBindings w known self.now →

@@ -50,7 +50,7 @@ fn numbers(alloc: Global, unit: Package<'_>) -> Result<BTreeMap<Vec<u8>, usize>,
 }
 
 /// The same of the package of a path.
-fn numbers_by(
+pub fn numbers_by(
     alloc: Global,
     path: &SharedPath,
     files: &[FileTree],

@@ -101,7 +101,7 @@ fn is_name_at(tokens: &[Piece], token: usize) -> bool
 }
 
 /// Whether a token of a file is a name.
-fn is_name(file: &FileTree, token: usize) -> bool
+pub fn is_name(file: &FileTree, token: usize) -> bool
     ensures { IsTrue result ↔ IsName (slice_get (tokens_in file.now.cut) token) }
 {
     is_name_at(file.pieces().tokens(), token)

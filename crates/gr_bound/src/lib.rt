@@ -2,11 +2,11 @@
 #![tactic(auto)]
 
 mod asked;
-mod bindings;
+pub mod bindings;
 mod bound_spot;
 mod bound_unit;
 mod declaration;
-mod exports;
+pub mod exports;
 mod faults;
 mod identifiers;
 pub mod laws;
@@ -25,7 +25,12 @@ pub use bindings::{Bindings, bindings_of};
 pub use bound_spot::BoundSpot;
 pub use declaration::Declaration;
 pub use faults::refuse_faults;
+pub use identifiers::is_name;
+pub use member_uses::member_declaration;
 pub use own_names::{field_places, method_places};
+pub use package_uses::package_before;
 pub use places::Places;
 pub use reading::{laid_table, members_of, own_of, path_of, trees};
+pub use scope_uses::declaration_in_scope;
+pub use spot::Spot;
 pub use workspace_uses::{list_uses, uses};

@@ -2,3 +2,6 @@
 pub mod Searching
 pub mod Editing
 pub mod Literals
+pub mod TreeSearch
+pub mod Sources
+pub mod Changing

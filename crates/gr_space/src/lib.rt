@@ -7,5 +7,6 @@ mod plan;
 mod snapshot;
 
 pub use change::{Change, ChangeKind};
+pub use fits::fits_limits;
 pub use plan::{plan_del, plan_put};
 pub use snapshot::Snapshot;

@@ -223,7 +223,7 @@ mutual
   expr_walks w ls (Number p) = λ b. (None, (closes refl stops, tt))
   expr_walks w ls (Text p) = λ b. (None, (closes refl stops, tt))
   expr_walks w ls (Name p) = λ b. (Some p, (passes stops, no_name w ls p))
-  expr_walks w ls (Blank p) = λ b. (None, (closes refl stops, tt))
+  expr_walks w ls (Blank p) = λ b. (Some p, (passes stops, λ h. tt))
   expr_walks w ls (Composite l) = literal_walks w ls l (judge_literal w ls l).meaning
   expr_walks w ls (Paren o e c) =
       let v = value_at e (judge w ls e) in

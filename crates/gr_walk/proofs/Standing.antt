@@ -9,13 +9,14 @@ use Rattle.gr_tree.specs.declared.syntax.Kind.TheVariants as kind
 use Rattle.gr_tree.specs.declared.syntax.Token.{Token}
 use Rattle.gr_tree.specs.Kinds.{kinds_of}
 use Rattle.gr_tree.specs.SourceFile.{SourceFile, IsSourceFile}
+use Rattle.gr_order.specs.Tokens.{is_name}
 use Rattle.gr_order.proofs.Links.{AreConsecutive, HasKind, kind_from}
 use Rattle.gr_order.proofs.Roles.{consecutive, of_kind, by_kind}
 use Rattle.gr_expr.specs.Judge.{MemberUse}
 use Rattle.gr_expr.specs.World.{World}
 use Rattle.gr_stmt.specs.Declarations.{check_file}
 use Rattle.gr_walk.specs.Places.{IsPackageName, StandsAtLink, as_key, as_selected}
-use Rattle.gr_walk.proofs.Picked.{is_word, IsPackage, MayUse, Picked, stops, passes, closes, leaves, selects, keys, Passes}
+use Rattle.gr_walk.proofs.Picked.{IsPackage, MayUse, Picked, stops, passes, closes, leaves, selects, keys, Passes}
 use Rattle.gr_walk.proofs.Statements.{file_pass}
 
 abbrev IsIn : MemberUse → List MemberUse → Type 0
@@ -78,7 +79,7 @@ one_use n (u ∷ us) h x y a b at = elim a [
 -- The dots and colons beside them. L: the tokens that are names of packages, with no dot before.
 
 abbrev Local : (ℕ → Type 0) → Token → Type 0
-Local L t = (L t.place → is_word t.kind ≡ true) × (t.kind ≡ kind.Dot → L (suc t.place) → ⊥)
+Local L t = (L t.place → is_name t.kind ≡ true) × (t.kind ≡ kind.Dot → L (suc t.place) → ⊥)
 
 -- what is told to stand before is what does
 abbrev Faithful : (ℕ → Type 0) → ℕ → Option ℕ → Type 0
@@ -93,14 +94,14 @@ beside_more L t ts place h = elim h [
   | inr q ↦ inr ((q.0.0, (q.0.1.0, inr q.0.1.1)), q.1)
 ]
 
-no_word : (k : Kind) → k ≡ kind.Colon → is_word k ≡ false
-no_word k e = ap is_word e
+no_name : (k : Kind) → k ≡ kind.Colon → is_name k ≡ false
+no_name k e = ap is_name e
 
 module _ (w : World) (L : ℕ → Type 0) (named : (k : ℕ) → L k → IsPackage w k) where
   told_some : (n : ℕ) (t : Token) → t.place ≡ n → Faithful L (suc n) (Some t.place)
   told_some n t at k e l = ap Some (let f : t.place ≡ n = at in let g : suc k ≡ suc n = e in let h : t.place ≡ k = omega arith in h)
 
-  told_none : (n : ℕ) (t : Token) → t.place ≡ n → is_word t.kind ≡ false → Local L t → Faithful L (suc n) None
+  told_none : (n : ℕ) (t : Token) → t.place ≡ n → is_name t.kind ≡ false → Local L t → Faithful L (suc n) None
   told_none n t at other h k e l =
       let f : t.place ≡ n = at in
       let g : suc k ≡ suc n = e in
@@ -150,7 +151,7 @@ module _ (w : World) (L : ℕ → Type 0) (named : (k : ℕ) → L k → IsPacka
     | inr rest ↦
         beside_more L t (colon ∷ ts) x.place
         (beside_more L colon ts x.place
-        (each_beside (suc (suc n)) None e us ts p c.1.1 (told_none (suc n) colon c.1.0 (no_word colon.kind k) a.1.0) a.1.1 x rest))
+        (each_beside (suc (suc n)) None e us ts p c.1.1 (told_none (suc n) colon c.1.0 (no_name colon.kind k) a.1.0) a.1.1 x rest))
   ]
 
 -- in a file
@@ -175,8 +176,8 @@ local_all : (w : World) (cut : CutText) (ts : List Token) → ((k : Kind) (i : �
 local_all w cut [] within = tt
 local_all w cut (t ∷ ts) within = (
   (
-    (λ l. ap is_word (one_kind 0 (kinds_of cut) (consecutive 0 cut.text (tokens_in cut)) t.kind kind.Name t.place (within t.kind t.place (inl (refl, refl)))
-        (by_kind cut kind.Name t.place l.is_name))),
+    (λ l. ap is_name (one_kind 0 (kinds_of cut) (consecutive 0 cut.text (tokens_in cut)) t.kind l.kind t.place (within t.kind t.place (inl (refl, refl)))
+        (by_kind cut l.kind t.place l.of_kind)) ∙ l.named),
     (λ dot l. l.undotted (t.place, (refl, of_kind cut kind.Dot t.place (within kind.Dot t.place (inl (refl, dot)))))),
   ),
   local_all w cut ts (λ k i h. within k i (inr h)),

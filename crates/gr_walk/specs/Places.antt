@@ -1,14 +1,18 @@
 -- The places at which members are used.
-use Rattle.std.specs.Prelude.{ℕ, suc, ◌≡◌}
+use Rattle.std.specs.Prelude.{ℕ, suc, ◌≡◌, true}
 use Rattle.gr_scan.specs.CutText.{CutText}
-use Rattle.gr_tree.specs.declared.syntax.Kind.TheVariants.{Colon, Name}
+use Rattle.gr_tree.specs.declared.syntax.Kind.{Kind}
+use Rattle.gr_tree.specs.declared.syntax.Kind.TheVariants.{Colon}
 use Rattle.gr_expr.specs.Types.{Package}
 use Rattle.gr_expr.specs.World.{World, Means}
 use Rattle.gr_order.specs.Roles.{IsOfKind, IsBehindDot}
+use Rattle.gr_order.specs.Tokens.{is_name}
 
--- the token is the name of a package, and no name behind a dot
+-- the token is a name or `_` that is bound to a package, and stands behind no dot
 pub record IsPackageName (w : World) (c : CutText) (token : ℕ) : Type 0 where
-  pub is_name : IsOfKind c token Name
+  pub kind : Kind
+  pub of_kind : IsOfKind c token kind
+  pub named : is_name kind ≡ true
   pub undotted : IsBehindDot c token → ⊥
   pub names : w.bound token ≡ Means Package
 

@@ -1,0 +1,39 @@
+-- The changes of the files of a workspace in which something gets another name.
+use Rattle.std.specs.Prelude.{◌≡◌, ◌⊎◌, List, [], ◌∷◌, ◌++◌, Contains}
+use Rattle.std.specs.List.Sorted.{IsStrictlySortedBy}
+use Rattle.gr_text.specs.Workspace.{Workspace, path_cmp}
+use Rattle.gr_tree.specs.SourceFile.{SourceFile}
+use Rattle.gr_verdict.specs.Verdicts.{Verdicts}
+use Rattle.gr_edit.specs.EditSet.{paths_of}
+use Rattle.gr_edit.specs.declared.edit.Edit.{Edit}
+use Rattle.gr_edit.specs.declared.change.FileChange.{FileChange}
+use Rattle.gr_edit.specs.declared.change.Fate.TheVariants.{Stays}
+use Rattle.gr_renaming.specs.declared.renamed.Renamed.{Renamed}
+use Rattle.gr_renaming.specs.FileEdits.{AreFileEdits}
+use Rattle.gr_renaming.specs.RenameEdits.{IsSourceIn}
+
+-- a file is edited, and stays where it is
+abbrev pub change_to : SourceFile → List Edit → FileChange
+change_to f edits = record { path = f.path; edits = edits; fate = Stays }
+
+-- the change of a file is added, unless nothing gets another name there
+pub data AddsChange (f : SourceFile) (r : Renamed) (old : List FileChange) : List FileChange → Type 0 where
+  none : AreFileEdits f r [] → AddsChange f r old old
+  one : (edits : List Edit) → AreFileEdits f r edits → AddsChange f r old (old ++ change_to f edits ∷ [])
+
+-- the change of a file of some package
+pub record ChangesSource (w : Workspace) (known : Verdicts) (r : Renamed) (c : FileChange) : Type 0 where
+  pub source : SourceFile
+  pub is_source : IsSourceIn w known source
+  pub edits : AreFileEdits source r c.edits
+  pub is_change : c ≡ change_to source c.edits
+
+-- a file is changed, or nothing gets another name there
+abbrev pub IsChanged : List FileChange → Renamed → SourceFile → Type 0
+IsChanged changes r f = ((c : FileChange) × (Contains changes c × (c.path ≡ f.path))) ⊎ AreFileEdits f r []
+
+-- the changes of all files in which something gets another name, in the order of their paths
+pub record AreSourceChanges (w : Workspace) (known : Verdicts) (r : Renamed) (changes : List FileChange) : Type 0 where
+  pub by_path : IsStrictlySortedBy path_cmp (paths_of changes)
+  pub each : (c : FileChange) → Contains changes c → ChangesSource w known r c
+  pub all : (f : SourceFile) → IsSourceIn w known f → IsChanged changes r f

@@ -1,0 +1,83 @@
+//! The changes of the files of a workspace.
+ghost use Rattle.std.specs.Prelude.{◌≡◌, [], Contains, map, IfOk, OnOk, MatchOption};
+ghost use Rattle.std.specs.List.Sorted.{IsStrictlySortedBy};
+ghost use Rattle.gr_text.specs.Workspace.{path_cmp};
+ghost use Rattle.gr_tree.specs.SourceFile.{SourceFile, FileParts, source_of};
+ghost use Rattle.gr_bound.specs.Places.{place_cmp};
+ghost use Rattle.gr_bound.specs.Workspaces.{IsSound, known_in};
+ghost use Rattle.gr_renaming.specs.RenameEdits.{IsSourceIn};
+ghost use Rattle.gr_renaming.specs.Changes.{AddsChange, AreSourceChanges};
+
+use crate::file_edits::edits_of;
+use crate::renamed::Renamed;
+use gr_bound::trees;
+use gr_edit::{Edits, Fate, FileChange};
+use gr_graph::Graph;
+use gr_text::Path;
+use gr_tree::FileTree;
+use gr_verdict::Findings;
+use std::alloc::{AllocError, Global};
+
+/// The tree of the file of a path, if it is among these, which are in the order of their paths.
+fn tree_in<'a>(files: &'a [FileTree], path: &Path) -> Option<&'a FileTree>
+    requires { IsStrictlySortedBy path_cmp (map (λ t. t.path) files.now) }
+    ensures { MatchOption result ((t : FileParts) → Contains files.now t → t.path ≡ path.now → ⊥) (λ file. Contains files.now file.now × (file.now.path ≡ path.now)) }
+{
+    match files.binary_search_by(|file| file.path().cmp(path)) {
+        Ok(place) => Some(&files[place]),
+        Err(_) => None,
+    }
+}
+
+/// The tree of the file of a path, if it is a Go file.
+fn tree_of<'a>(graph: &'a Graph, found: &Findings, path: &Path) -> Option<&'a FileTree>
+    requires { IsSound graph.now found.now }
+    ensures { MatchOption result ((f : SourceFile) → IsSourceIn graph.now (known_in found.now) f → f.path ≡ path.now → ⊥)
+        (λ file. IsSourceIn graph.now (known_in found.now) (source_of file.now) × (file.now.path ≡ path.now)) }
+{
+    match graph.number_of(path.folder()) {
+        None => None,
+        Some(number) => tree_in(trees(graph, found, number), path),
+    }
+}
+
+/// Adds the change of a file, if something is renamed there.
+fn add_change(
+    alloc: Global,
+    changed: &mut Vec<FileChange>,
+    file: &FileTree,
+    renamed: &Renamed,
+) -> Result<(), AllocError>
+    requires { IsStrictlySortedBy place_cmp renamed.now.places }
+    ensures { OnOk result (AddsChange (source_of file.now) renamed.now changed.old.items changed.new.items) }
+{
+    let edits = edits_of(alloc, file, renamed)?;
+    if !edits.is_empty() {
+        changed.push(FileChange {
+            path: file.path().clone()?,
+            edits: Edits::new(edits),
+            fate: Fate::Stays,
+        })?;
+    }
+    Ok(())
+}
+
+/// The changes of all files in which something is renamed, in the order of their paths.
+pub(crate) fn changes_of(
+    alloc: Global,
+    graph: &Graph,
+    found: &Findings,
+    renamed: &Renamed,
+) -> Result<Vec<FileChange>, AllocError>
+    requires sound { IsSound graph.now found.now }
+    requires sorted { IsStrictlySortedBy place_cmp renamed.now.places }
+    ensures { IfOk result (λ changed. AreSourceChanges graph.now (known_in found.now) renamed.now changed.items) }
+{
+    let mut changed = Vec::new(alloc);
+    for (path, _) in graph.files().iter() {
+        if let Some(file) = tree_of(graph, found, path) {
+            add_change(alloc, &mut changed, file, renamed)?;
+        }
+    }
+    Ok(changed)
+}

@@ -1,0 +1,4 @@
+-- The definitions of this crate.
+pub mod Revisions
+pub mod RevisionsOfEdits
+pub mod Ends

@@ -1,0 +1,59 @@
+-- The scopes of the packages of a workspace, as they are found.
+use Rattle.std.specs.Prelude.{ℕ, ◌≡◌, List, [], Option, Some, None, Contains, length, map, slice_get, MatchOption}
+use Rattle.gr_text.specs.Packages.{package_paths, package_files}
+use Rattle.gr_text.specs.Workspace.{Workspace}
+use Rattle.gr_tree.specs.SourceFile.{FileParts, source_of}
+use Rattle.gr_graph.specs.Parsed.{AreParsed}
+use Rattle.gr_scope.specs.Scoped.{ScopedPackage, scoped, layout_in}
+use Rattle.gr_imports.specs.PackageNames.{IsLaidOver}
+use Rattle.gr_declared.specs.Package.{Package}
+use Rattle.gr_declared.specs.InterfacesView.{no_interface}
+use Rattle.gr_declared.specs.ByToken.{number_at, AreIdentifiers}
+use Rattle.gr_meanings.specs.PackageOf.{package_in}
+use Rattle.gr_bound.specs.Exports.{number_named, AreNumbers}
+use Rattle.gr_scoped.specs.ScopedPackages.{IsScopedIn}
+use Rattle.gr_scoped.specs.declared.scopes.PackageScopes.{PackageScopes}
+
+-- the package of a path whose scopes these are; of what others export nothing is known
+abbrev pub package_by : (path : List ℕ) → List FileParts → ScopedPackage → Package
+package_by path files table = package_in path (map source_of files) table no_interface
+
+abbrev pub package_scoped : (path : List ℕ) → PackageScopes → Package
+package_scoped path s = package_by path s.files.now s.table
+
+-- the identifier at each token of a package's files, and what it exports, by its table
+pub record AreScopesOf (path : List ℕ) (files : List FileParts) (table : ScopedPackage) (s : PackageScopes) : Type 0 where
+  pub same_files : s.files.now ≡ files
+  pub same_table : s.table ≡ table
+  pub users : AreIdentifiers (layout_in s.table) (length s.table.sites) (number_at s.users)
+  pub exports : AreNumbers (package_scoped path s) (number_named s.exports)
+
+-- the same by a table in which these names are given to the imports without a name
+pub record AreScopesNamed (path : List ℕ) (files : List FileParts) (name_of : List ℕ → Option (List ℕ)) (s : PackageScopes) : Type 0 where
+  pub laid : ScopedPackage
+  pub is_laid : IsLaidOver (map source_of files) name_of (scoped files) laid
+  pub are_scopes : AreScopesOf path files laid s
+
+-- the scopes of the package of a path
+pub record AreScopes (w : Workspace) (path : List ℕ) (s : PackageScopes) : Type 0 where
+  pub is_scoped : IsScopedIn w (package_scoped path s)
+  pub parsed : AreParsed (package_files w path) s.files.now []
+  pub users : AreIdentifiers (layout_in s.table) (length s.table.sites) (number_at s.users)
+  pub exports : AreNumbers (package_scoped path s) (number_named s.exports)
+
+-- some file of the package of a path has no tree, or there is no such package
+abbrev pub IsNotScoped : Workspace → List ℕ → Type 0
+IsNotScoped w path = (p : Package) → IsScopedIn w p → p.path ≡ path → ⊥
+
+-- the scopes of the package of a path; none where a file of it has no tree
+abbrev pub MayBeScopes : Workspace → List ℕ → Option PackageScopes → Type 0
+MayBeScopes w path found = MatchOption found (IsNotScoped w path) (λ s. AreScopes w path s)
+
+-- the same of each of the first packages
+pub record AreScopesBelow (w : Workspace) (count : ℕ) (list : List (Option PackageScopes)) : Type 0 where
+  pub size : length list ≡ count
+  pub each : (n : ℕ) (path : List ℕ) (found : Option PackageScopes) → slice_get (package_paths w) n ≡ Some path → slice_get list n ≡ Some found → MayBeScopes w path found
+
+-- the same of all packages
+abbrev pub AreAllScopes : Workspace → List (Option PackageScopes) → Type 0
+AreAllScopes w list = AreScopesBelow w (length (package_paths w)) list

@@ -1,0 +1,125 @@
+//! The scopes of the packages of a workspace, by the packages' numbers.
+ghost use Rattle.std.specs.Prelude.{ℕ, ◌≡◌, ◌<◌, List, [], None, length, map, IfOk, MatchOption};
+ghost use Rattle.gr_text.specs.Packages.{package_paths};
+ghost use Rattle.gr_graph.specs.Graphs.{OfPackage};
+ghost use Rattle.gr_tree.specs.SourceFile.{source_of};
+ghost use Rattle.gr_declared.specs.InterfacesView.{name_in, no_interface};
+ghost use Rattle.gr_meanings.specs.PackageOf.{package_in};
+ghost use Rattle.gr_bound.specs.Exports.{number_named, AreNumbers};
+ghost use Rattle.gr_scoped.specs.ScopedPackages.{AreClauseNames};
+ghost use Rattle.gr_scoped.specs.Scopes.{AreScopes, AreScopesOf, AreScopesNamed, MayBeScopes, AreAllScopes, IsNotScoped};
+
+use gr_bound::exports::numbers_by;
+use gr_bound::laid_table;
+use gr_declared::{ByToken, Interfaces, identifiers_by_token};
+use gr_expr::symbol::SharedPath;
+use gr_graph::Graph;
+use gr_scope::table::ScopeTable;
+use gr_tree::FileTree;
+use std::alloc::{AllocError, Global};
+use std::collections::BTreeMap;
+
+/// The scopes of a package: its table, the identifier at each token, and what it exports, by name.
+#[derive(Drop)]
+pub struct PackageScopes<'a> {
+    pub files: &'a [FileTree],
+    pub table: ScopeTable<'a>,
+    pub users: ByToken,
+    pub exports: BTreeMap<Vec<u8>, usize>,
+}
+
+/// What a package exports, by its table.
+fn exports_in(
+    alloc: Global,
+    path: &[u8],
+    files: &[FileTree],
+    table: &ScopeTable<'_>,
+) -> Result<BTreeMap<Vec<u8>, usize>, AllocError>
+    ensures { IfOk result (λ numbers. AreNumbers (package_in path.now (map source_of files.now) table.now no_interface) (number_named numbers)) }
+{
+    let path = SharedPath::new(alloc, path)?;
+    let nothing = Interfaces::new(alloc);
+    numbers_by(alloc, &path, files, table, &nothing)
+}
+
+/// The scopes of a package by its table.
+fn scopes_by<'a>(
+    alloc: Global,
+    path: &[u8],
+    files: &'a [FileTree],
+    table: ScopeTable<'a>,
+) -> Result<PackageScopes<'a>, AllocError>
+    ensures { IfOk result (AreScopesOf path.now files.now table.entry) }
+{
+    let users = identifiers_by_token(alloc, &table)?;
+    let exports = exports_in(alloc, path, files, &table)?;
+    Ok(PackageScopes {
+        files,
+        table,
+        users,
+        exports,
+    })
+}
+
+/// The scopes of a package by its files, where names are given to its imports.
+fn scopes_of<'a>(
+    alloc: Global,
+    path: &[u8],
+    files: &'a [FileTree],
+    names: &'a Interfaces,
+) -> Result<PackageScopes<'a>, AllocError>
+    ensures { IfOk result (AreScopesNamed path.now files.now (name_in names.now)) }
+{
+    let table = laid_table(alloc, files, names)?;
+    scopes_by(alloc, path, files, table)
+}
+
+/// The scopes of the package of a number, if each of its files has a tree.
+fn package_scopes<'a>(
+    alloc: Global,
+    graph: &'a Graph,
+    names: &'a Interfaces,
+    number: usize,
+) -> Result<Option<PackageScopes<'a>>, AllocError>
+    requires in_range { number < length (package_paths graph.now) }
+    requires names { AreClauseNames graph.now (name_in names.now) }
+    ensures { IfOk result (λ s. OfPackage graph.now number (λ path. MayBeScopes graph.now path s)) }
+{
+    let package = graph.package(number);
+    if !package.faulty.is_empty() {
+        return Ok(None);
+    }
+    let scopes = scopes_of(alloc, &package.path, &package.trees, names)?;
+    Ok(Some(scopes))
+}
+
+/// The scopes of all packages of a workspace, by their numbers; none where a file has no tree.
+pub fn scoped_packages<'a>(
+    alloc: Global,
+    graph: &'a Graph,
+    names: &'a Interfaces,
+) -> Result<Vec<Option<PackageScopes<'a>>>, AllocError>
+    requires { AreClauseNames graph.now (name_in names.now) }
+    ensures { IfOk result (λ all. AreAllScopes graph.now all.items) }
+{
+    let mut packages = Vec::new(alloc);
+    for number in 0..graph.len() {
+        packages.push(package_scopes(alloc, graph, names, number)?)?;
+    }
+    Ok(packages)
+}
+
+/// The scopes of the package of a path.
+pub fn scopes_at<'a>(
+    graph: &Graph,
+    packages: &'a [Option<PackageScopes<'a>>],
+    path: &[u8],
+) -> Option<&'a PackageScopes<'a>>
+    requires { AreAllScopes graph.now packages.now }
+    ensures { MatchOption result (IsNotScoped graph.now path.now) (λ s. AreScopes graph.now path.now s.now) }
+{
+    match graph.number_of(path) {
+        None => None,
+        Some(number) => packages[number].as_ref(),
+    }
+}
