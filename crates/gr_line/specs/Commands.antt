@@ -16,3 +16,4 @@ basis_of command.List = None
 basis_of command.Faults = None
 basis_of (command.Object path) = None
 basis_of command.Work = None
+basis_of (command.Log number) = None

@@ -42,6 +42,10 @@ pub enum Command {
     },
     /// Builds one package in this session.
     Work,
+    /// An entry of the journal, by its number.
+    Log {
+        number: u64,
+    },
 }
 
 impl Command {
@@ -62,7 +66,8 @@ impl Command {
             | Command::List
             | Command::Faults
             | Command::Object { .. }
-            | Command::Work => None,
+            | Command::Work
+            | Command::Log { .. } => None,
         }
     }
 }
