@@ -4,6 +4,7 @@ pub mod Waits
 pub mod Fresh
 pub mod Settled
 pub mod Stepped
+pub mod Legal
 pub mod NoPackages
 pub mod NumberLaws
 pub mod RunLaws

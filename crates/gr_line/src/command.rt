@@ -49,7 +49,7 @@ pub enum Command {
 }
 
 impl Command {
-    ghost use Rattle.gr_line.specs.Commands.{basis_of};
+    ghost use Rattle.gr_line.specs.Commands.{basis_of, entry_asked};
 
     /// The basis, where the command gives one.
     pub fn basis(&self) -> Option<u64>
@@ -68,6 +68,16 @@ impl Command {
             | Command::Object { .. }
             | Command::Work
             | Command::Log { .. } => None,
+        }
+    }
+
+    /// The number of the entry that a log asks for.
+    pub fn entry(&self) -> Option<u64>
+        ensures { result ≡ entry_asked self.now }
+    {
+        match self {
+            Command::Log { number } => Some(*number),
+            _ => None,
         }
     }
 }
