@@ -51,12 +51,18 @@ fn brings_out(out: &Out, event: &Event) -> bool
     match event {
         Event::Deliver(job, _) => out.is_out(job),
         Event::GiveBack(job) => out.is_out(job),
-        Event::Look | Event::Log(_) | Event::Commit(..) | Event::Undo(_) | Event::Redo(_) | Event::Take => false,
+        Event::Look
+        | Event::Log(_)
+        | Event::Commit(..)
+        | Event::Undo(_)
+        | Event::Redo(_)
+        | Event::Take => false,
     }
 }
 
 /// Makes room for the entry of an event, and for those of the Jobs out then. For a Job that is out the room is there.
 fn make_room(journal: &mut Vec<Entry>, out: &Out, event: &Event) -> Result<(), AllocError>
+    requires { length out.now.jobs ≤ 1000000 }
     ensures items { journal.new.items ≡ journal.old.items }
     ensures grows { vec_capacity journal.old ≤ vec_capacity journal.new }
     ensures ok { OnOk result (HasPlace (vec_capacity journal.new) (length journal.new.items + length out.now.jobs) out.now event.now) }
@@ -83,11 +89,12 @@ fn answer(content: &mut Content, journal: &mut Vec<Entry>, event: Event) -> Repl
     if let Some(out) = reply.told() {
         let line = Line { kind, basis, out };
         let subject = reply.subject(asked);
-        journal.push_reserved(Entry {
+        let entry = Entry {
             line,
             subject,
             edits,
-        });
+        };
+        journal.push_reserved(entry);
     }
     reply
 }

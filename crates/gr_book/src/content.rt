@@ -295,11 +295,7 @@ impl Content {
 
     /// Answers an event, and gives the edits of an admitted change. A log is shown an entry of the journal. Room is made before
     /// anything changes, so want of memory leaves all as it was.
-    pub(crate) fn answer(
-        &mut self,
-        journal: &[Entry],
-        event: Event,
-    ) -> (Reply, Option<SharedEdits>)
+    pub(crate) fn answer(&mut self, journal: &[Entry], event: Event) -> (Reply, Option<SharedEdits>)
         requires { HasNumbers self.old }
         ensures answer { AnswersOrLacks self.old event result.0 self.new }
         ensures shows { ShowsLine journal.now event result.0 }
