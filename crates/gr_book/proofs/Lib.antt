@@ -5,6 +5,7 @@ pub mod Fresh
 pub mod Settled
 pub mod Stepped
 pub mod Legal
+pub mod Journaled
 pub mod NoPackages
 pub mod NumberLaws
 pub mod RunLaws

@@ -1,5 +1,5 @@
 -- What holds over every list of events.
-use Rattle.std.specs.Prelude.{◌≡◌, ℕ, ◌+◌, ◌<◌, ⊤, List, [], ◌∷◌, Some}
+use Rattle.std.specs.Prelude.{◌≡◌, ℕ, ◌+◌, ◌<◌, ⊤, List, [], ◌∷◌, ◌++◌, MatchOption, Some}
 use Rattle.std.specs.List.{AllByRecursion}
 use Rattle.gr_text.specs.declared.limits.Limits.{Limits}
 use Rattle.gr_text.specs.declared.refusal.Refusal.TheVariants.{Memory, JournalFull}
@@ -14,7 +14,7 @@ use Rattle.gr_book.specs.declared.entry.Entry.{Entry}
 use Rattle.gr_book.specs.declared.entry.Told.{Told}
 use Rattle.gr_book.specs.Journal.{entry_of, told_of}
 use Rattle.gr_book.specs.State.{State}
-use Rattle.gr_book.specs.Machine.{Content, Machine, IsOneBefore, opening, recorded, states, with_journal, cursor}
+use Rattle.gr_book.specs.Machine.{Content, Machine, IsOneBefore, content, opening, recorded, states, with_journal, cursor}
 use Rattle.gr_book.specs.Step.{Step}
 
 -- From old, the machine may give these replies to these events, one after another, and go on to new.
@@ -27,9 +27,24 @@ Run old (e ∷ es) new = (mid : Machine) × Step old e.0 e.1 mid × Run mid es n
 abbrev pub IsReplay : Limits → List Entry → Content → Type 0
 IsReplay limits journal c = (events : List (Event × Reply)) × Run (opening limits) events (with_journal c journal)
 
--- The journal is that of a run from the opening state.
+-- The journal is legal: it is that of a run from the opening state.
 abbrev pub IsLegal : Limits → List Entry → Type 0
 IsLegal limits journal = (c : Content) × IsReplay limits journal c
+
+-- the journal goes on by the entries of these events, each with its reply, in their order; an event that has none is passed over
+abbrev pub GoesOn : List Entry → List (Event × Reply) → List Entry → Type 0
+GoesOn journal [] new = new ≡ journal
+GoesOn journal (e ∷ es) new =
+    MatchOption (told_of e.1) (GoesOn journal es new) (λ told. (current : ℕ) × GoesOn (journal ++ entry_of current e.0 e.1 told ∷ []) es new)
+
+-- A run adds to the journal the entries of its events, in their order, and no others.
+abbrev pub HasEntries : Type 0
+HasEntries = (old : Machine) (events : List (Event × Reply)) (new : Machine) → Run old events new → GoesOn old.journal events new.journal
+
+-- What a run from the opening state leaves has a legal journal, of which its content is the replay.
+abbrev pub RunsAreLegal : Type 0
+RunsAreLegal = (limits : Limits) (events : List (Event × Reply)) (m : Machine) → Run (opening limits) events m
+    → IsLegal limits m.journal × IsReplay limits m.journal (content m)
 
 -- an admitted change, undo or redo
 abbrev pub IsAdmitted : Event → Reply → Type 0

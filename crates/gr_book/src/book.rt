@@ -7,7 +7,6 @@ ghost use Rattle.gr_book.specs.Step.{BringsOut, HasPlace, HasRoom, Keeps, Step, 
 use crate::content::Content;
 use crate::entry::{Entry, Line};
 use crate::event::{Event, Reply, refuse};
-use gr_compile::Out;
 use gr_text::{Limits, Refusal};
 use std::alloc::{AllocError, Global};
 use std::marker::Model;
@@ -44,34 +43,18 @@ impl Model for Book {
         × ∥ IsReplay a.content.limits a.journal.items a.content ∥₁ };
 }
 
-/// Whether an event brings a Job that is out.
-fn brings_out(out: &Out, event: &Event) -> bool
-    ensures { IsTrue result ↔ BringsOut out.now event.now }
-{
-    match event {
-        Event::Deliver(job, _) => out.is_out(job),
-        Event::GiveBack(job) => out.is_out(job),
-        Event::Look
-        | Event::Log(_)
-        | Event::Commit(..)
-        | Event::Undo(_)
-        | Event::Redo(_)
-        | Event::Take => false,
-    }
-}
-
 /// Makes room for the entry of an event, and for those of the Jobs out then. For a Job that is out the room is there.
-fn make_room(journal: &mut Vec<Entry>, out: &Out, event: &Event) -> Result<(), AllocError>
-    requires { length out.now.jobs ≤ 1000000 }
+fn make_room(journal: &mut Vec<Entry>, content: &Content, event: &Event) -> Result<(), AllocError>
+    requires { length content.now.out.jobs ≤ 1000000 }
     ensures items { journal.new.items ≡ journal.old.items }
     ensures grows { vec_capacity journal.old ≤ vec_capacity journal.new }
-    ensures ok { OnOk result (HasPlace (vec_capacity journal.new) (length journal.new.items + length out.now.jobs) out.now event.now) }
-    ensures err { OnErr result (BringsOut out.now event.now → ⊥) }
+    ensures ok { OnOk result (HasPlace (vec_capacity journal.new) (length journal.new.items + length content.now.out.jobs) content.now.out event.now) }
+    ensures err { OnErr result (BringsOut content.now.out event.now → ⊥) }
 {
-    if brings_out(out, event) {
+    if content.brings_out(event) {
         return Ok(());
     }
-    journal.reserve(out.len() + 2)
+    journal.reserve(content.jobs() + 2)
 }
 
 /// Answers an event, and adds its entry to the journal.
@@ -157,7 +140,7 @@ impl Book {
         if !self.has_room(&event) {
             return refuse(event, Refusal::JournalFull);
         }
-        match make_room(&mut self.journal, &self.content.out, &event) {
+        match make_room(&mut self.journal, &self.content, &event) {
             Ok(()) => answer(&mut self.content, &mut self.journal, event),
             Err(_) => refuse(event, Refusal::Memory),
         }

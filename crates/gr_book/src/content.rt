@@ -1,9 +1,9 @@
 //! The states of a workspace with the Jobs that are out, and what events make of them.
-ghost use Rattle.std.specs.Prelude.{◌≡◌, ℕ, ◌+◌, ◌≤◌, IfOk, vec_len};
+ghost use Rattle.std.specs.Prelude.{◌≡◌, ℕ, ◌+◌, ◌≤◌, ◌↔◌, IfOk, IsTrue, length, vec_len};
 ghost use Rattle.gr_compile.specs.Jobs.{IsOut};
 ghost use Rattle.gr_book.specs.Machine.{HasNumbers, content, newest, opening};
 ghost use Rattle.gr_book.specs.Journal.{ShowsLine, edits_of, line_at};
-ghost use Rattle.gr_book.specs.Step.{AnswersOrLacks, committed, done, looked, taken};
+ghost use Rattle.gr_book.specs.Step.{AnswersOrLacks, BringsOut, committed, done, looked, taken};
 
 use crate::deliveries::{outcome_of, settle};
 use crate::entry::{Entry, Line, SharedEdits};
@@ -125,6 +125,24 @@ impl Content {
         ensures { result ≡ self.now.current.number }
     {
         self.current.number()
+    }
+
+    /// How many Jobs are out.
+    pub(crate) fn jobs(&self) -> usize
+        ensures { result ≡ length self.now.out.jobs }
+    {
+        self.out.len()
+    }
+
+    /// Whether an event brings a Job that is out.
+    pub(crate) fn brings_out(&self, event: &Event) -> bool
+        ensures { IsTrue result ↔ BringsOut self.now.out event.now }
+    {
+        match event {
+            Event::Deliver(job, _) => self.out.is_out(job),
+            Event::GiveBack(job) => self.out.is_out(job),
+            _ => false,
+        }
     }
 
     fn look(&self) -> Result<View, Refusal>

@@ -15,6 +15,7 @@ pub use book::Book;
 pub use entry::{Entry, Kind, Line, Reason, SharedEdits, Told};
 pub use event::{Event, Reply, refuse};
 pub use laws::{
-    finished_units_are_current, numbers_are_used_once, refusals_keep_all, undo_and_redo_restore,
+    finished_units_are_current, journals_are_legal, numbers_are_used_once, refusals_keep_all,
+    undo_and_redo_restore,
 };
 pub use view::View;
