@@ -19,7 +19,7 @@ matches : (o : Option Told) (x : Told) (P : Type 0) (Q : Told → Type 0) → o 
 matches o x P Q e q = subst (λ (y : Option Told). MatchOption y P Q) (sym e) q
 
 recorded_after : (old : Machine) (event : Event) (reply : Reply) (new : Machine) → Records old.current.number old.journal event reply new.journal → After old event reply new
-recorded_after old event reply new r = matches (told_of reply) r.out _ (λ told. new.journal ≡ old.journal ++ entry_of old.current.number event reply told ∷ []) r.tells r.journal
+recorded_after old event reply new r = matches (told_of reply) r.out (new.journal ≡ old.journal) (λ told. new.journal ≡ old.journal ++ entry_of old.current.number event reply told ∷ []) r.tells r.journal
 
 after_step : (old : Machine) (event : Event) (reply : Reply) (new : Machine) → Step old event reply new → After old event reply new
 after_step old event (Refused Memory) new s = ap (λ (m : Machine). m.journal) s.1
