@@ -47,45 +47,51 @@ class History:
         self.cursor = 0
         self.numbers = 1
         self.journal = journal
-        self.entries = 0
+        self.entries = []
 
     @property
     def current(self):
         return self.states[self.cursor]
 
-    def enter(self, kept=0):
-        """Counts an entry, where the journal has room for it and for those that are kept."""
-        if self.journal is not None and self.entries + kept + 1 > self.journal:
+    def enter(self, kind, out=None, kept=0):
+        """Adds an entry, where the journal has room for it and for those that are kept."""
+        if self.journal is not None and len(self.entries) + kept + 1 > self.journal:
             raise Refusal(19)
-        self.entries += 1
+        number = self.current.number
+        self.entries.append(f"{kind} {number} {out or f'ok {number}'}\n")
 
     def meant_for(self, basis):
         if basis != self.current.number:
             raise Refusal(6, f"{self.current.number}\n")
 
     def change(self, texts):
-        self.enter()
+        self.enter("commit", f"ok {self.numbers}")
         state = State(self.numbers, texts, self.current.carried(texts))
         self.states = (self.states[: self.cursor + 1] + [state])[-UNDO_DEPTH - 1 :]
         self.cursor = len(self.states) - 1
         self.numbers += 1
 
-    def move(self, by, code):
-        self.enter()
-        if not 0 <= self.cursor + by < len(self.states):
+    def move(self, kind, by, code):
+        there = 0 <= self.cursor + by < len(self.states)
+        self.enter(kind, f"ok {self.states[self.cursor + by].number}" if there else f"no {code}")
+        if not there:
             raise Refusal(code)
         self.cursor += by
 
     def work(self):
         waiting = [p for p in self.current.workspace.order if p not in self.current.finished]
-        if self.journal is not None and self.entries + 2 > self.journal:
-            raise Refusal(19)
-        self.entries += 1
+        self.enter("take", None if waiting else "no 23", kept=1)
         if not waiting:
             raise Refusal(23)
-        self.entries += 1
+        self.enter("deliver")
         self.current.finished.add(waiting[0])
         return waiting[0] + "\n"
+
+    def log(self, number):
+        """The line of an entry of those before this event."""
+        before = len(self.entries)
+        self.enter("log")
+        return self.entries[number] if number < before else ""
 
     def object(self, package):
         if not is_path(package, 1):
@@ -166,6 +172,7 @@ VERBS = {
     "uses": 1,
     "object": 1,
     "work": 0,
+    "log": 1,
     "end": 0,
 }
 
@@ -177,7 +184,9 @@ def body_of(history, words, body):
     if verb == "put":
         a_number(rest[2], 32)
     place = a_place(rest[0] if verb == "uses" else rest[1]) if verb in ("uses", "rename") else None
-    history.enter()
+    if verb == "log":
+        return history.log(a_number(rest[0]))
+    history.enter("look")
     if basis is not None:
         history.meant_for(basis)
     texts = history.current.texts
@@ -200,9 +209,9 @@ def body_of(history, words, body):
         edits = plan_move(history.current.workspace, texts, rest[1], rest[2])
         history.change(edits.edited(texts))
     elif verb == "undo":
-        history.move(-1, 7)
+        history.move(verb, -1, 7)
     elif verb == "redo":
-        history.move(1, 8)
+        history.move(verb, 1, 8)
     elif verb == "cat":
         return texts[path]
     elif verb == "look":

@@ -19,12 +19,12 @@ use Rattle.gr_compile.specs.Units.{IsUnitOf}
 use Rattle.gr_compile.proofs.Locality.{local_unit}
 use Rattle.gr_keep.specs.Finished.{Table, Gains}
 use Rattle.gr_book.specs.declared.event.Event.{Event}
-use Rattle.gr_book.specs.declared.event.Event.TheVariants.{Look, Commit, Undo, Redo, Take, Deliver, GiveBack}
+use Rattle.gr_book.specs.declared.event.Event.TheVariants.{Look, Log, Commit, Undo, Redo, Take, Deliver, GiveBack}
 use Rattle.gr_book.specs.declared.event.Reply.{Reply}
-use Rattle.gr_book.specs.declared.event.Reply.TheVariants.{Looked, Done, Taken, Refused, Back}
+use Rattle.gr_book.specs.declared.event.Reply.TheVariants.{Looked, Logged, Done, Taken, Refused, Back}
 use Rattle.gr_book.specs.State.{State}
 use Rattle.gr_keep.specs.Carried.{IsCarried}
-use Rattle.gr_book.specs.Machine.{Content, Machine, IsOneBefore, content, opening, with_entries}
+use Rattle.gr_book.specs.Machine.{Content, Machine, IsOneBefore, content, opening, with_journal}
 use Rattle.gr_book.specs.Run.{Run}
 use Rattle.gr_book.specs.Deliveries.{IsFresh, IsRightlyBuilt}
 use Rattle.gr_book.specs.Step.{Answers}
@@ -39,7 +39,7 @@ set_here (x ∷ xs) (suc n) y z h = set_here xs n y z h
 
 -- the units of the states alone
 abbrev Units : Content → Type 0
-Units c = UnitsAreCurrent (with_entries c 0)
+Units c = UnitsAreCurrent (with_journal c [])
 
 units_of : (m : Machine) → UnitsAreCurrent m → Units (content m)
 units_of m u = record { earlier = u.earlier; current = u.current; later = u.later }
@@ -102,6 +102,7 @@ units_gained w old p unit new gains is u q other finished =
 
 answer_units : (old : Content) (event : Event) (reply : Reply) (new : Content) → Answers old event reply new → Units old → Units new
 answer_units old Look (Looked view) new a u = units_stay old _ new a.1 refl refl refl u
+answer_units old (Log asked) (Logged number line) new a u = units_stay old _ new a.1 refl refl refl u
 answer_units old (Commit basis change) (Done number) new a u =
     subst Units (sym a.2.2) (record {
       earlier = All-drop HasCurrentUnits _ (old.earlier ++ old.current ∷ []) (All-push HasCurrentUnits old.earlier old.current u.earlier u.current);

@@ -4,6 +4,8 @@ pub mod Waits
 pub mod Fresh
 pub mod Settled
 pub mod Stepped
+pub mod Legal
+pub mod Journaled
 pub mod NoPackages
 pub mod NumberLaws
 pub mod RunLaws

@@ -2,12 +2,13 @@
 use Rattle.std.proofs.Common.{◌≡◌, ◌+◌, ◌≤◌, List, [], ◌∷◌, refl, sym, ap, ◌∙◌, arith}
 use Rattle.gr_text.specs.declared.refusal.Refusal.TheVariants.{Memory, Moved, NothingToUndo, NothingToRedo, JournalFull, Stale, Already, NoJob}
 use Rattle.gr_book.specs.declared.event.Event.{Event}
-use Rattle.gr_book.specs.declared.event.Event.TheVariants.{Look, Commit, Undo, Redo, Take, Deliver, GiveBack}
+use Rattle.gr_book.specs.declared.event.Event.TheVariants.{Look, Log, Commit, Undo, Redo, Take, Deliver, GiveBack}
 use Rattle.gr_book.specs.declared.event.Reply.{Reply}
-use Rattle.gr_book.specs.declared.event.Reply.TheVariants.{Looked, Done, Taken, Refused, Back}
-use Rattle.gr_book.specs.Machine.{Content, Machine, content, with_entries}
+use Rattle.gr_book.specs.declared.event.Reply.TheVariants.{Looked, Logged, Done, Taken, Refused, Back}
+use Rattle.gr_book.specs.Journal.{Records}
+use Rattle.gr_book.specs.Machine.{Content, Machine, content, with_journal}
 use Rattle.gr_book.specs.Step.{Step, Answers}
-use Rattle.gr_book.specs.Run.{Run, KeepsIfRefused, NumbersRise, NumbersAreNew, RefusalsKeepAll}
+use Rattle.gr_book.specs.Run.{AddsEntry, Run, KeepsIfRefused, NumbersRise, NumbersAreNew, RefusalsKeepAll}
 
 next_kept : (m n : Content) → n.next ≡ m.next → m.next ≤ n.next
 next_kept m n e = omega (arith, e)
@@ -17,6 +18,7 @@ next_by m n k e same = next_kept m n (ap (λ (x : Content). x.next) e ∙ same)
 
 answer_next : (old : Content) (event : Event) (reply : Reply) (new : Content) → Answers old event reply new → old.next ≤ new.next
 answer_next old Look (Looked view) new a = next_by old new _ a.1 refl
+answer_next old (Log asked) (Logged number line) new a = next_by old new _ a.1 refl
 answer_next old (Commit basis change) (Done number) new a =
     let e : new.next ≡ old.next + 1 = ap (λ (k : Content). k.next) a.2.2 in omega (arith, e)
 answer_next old (Commit basis change) (Refused (Moved current)) new a = next_by old new _ a.2 refl
@@ -67,29 +69,31 @@ numbers_are_new limits settled end before basis number change run committed =
     let along : 1 ≤ settled.next = run_next _ before settled run in
     omega (arith, is, along)
 
--- the machine is what its states are, with its entries
-one_more : (old new : Machine) (c : Content) → content new ≡ c → new.entries ≡ old.entries + 1 → new ≡ with_entries c (old.entries + 1)
-one_more old new c is more = ap (λ (x : Content). with_entries x new.entries) is ∙ ap (λ n. with_entries c n) more
+-- the machine is what its states are, with its journal
+one_more : (old : Machine) (event : Event) (reply : Reply) (new : Machine) (c : Content) → content new ≡ c → Records old.current.number old.journal event reply new.journal
+    → AddsEntry old event reply (with_journal c old.journal) new
+one_more old event reply new c is r = (r.out, r.tells, ap (λ (x : Content). with_journal x new.journal) is ∙ ap (λ entries. with_journal c entries) r.journal)
 
-answer_kept : (old : Machine) (event : Event) (reply : Reply) (new : Machine) → Answers (content old) event reply (content new) → new.entries ≡ old.entries + 1 → KeepsIfRefused old event reply new
-answer_kept old Look (Looked view) new a more = tt
-answer_kept old (Commit basis change) (Done number) new a more = tt
-answer_kept old (Commit basis change) (Refused (Moved current)) new a more = one_more old new (content old) a.2 more
-answer_kept old (Undo basis) (Done number) new a more = tt
-answer_kept old (Undo basis) (Refused (Moved current)) new a more = one_more old new (content old) a.2 more
-answer_kept old (Undo basis) (Refused NothingToUndo) new a more = one_more old new (content old) a.2 more
-answer_kept old (Redo basis) (Done number) new a more = tt
-answer_kept old (Redo basis) (Refused (Moved current)) new a more = one_more old new (content old) a.2 more
-answer_kept old (Redo basis) (Refused NothingToRedo) new a more = one_more old new (content old) a.2 more
-answer_kept old Take (Taken job) new a more = tt
-answer_kept old Take (Refused NoJob) new a more = one_more old new (content old) a.1 more
-answer_kept old (Deliver job built) (Back NoJob back unit) new a more = one_more old new (content old) a.2 more
-answer_kept old (Deliver job built) (Refused (Stale current)) new a more = (a.2.0, a.2.1, one_more old new _ a.2.2 more)
-answer_kept old (Deliver job built) (Refused Already) new a more = (a.2.0, a.2.1, one_more old new _ a.2.2 more)
-answer_kept old (Deliver job built) (Done number) new a more = tt
-answer_kept old (GiveBack job) (Back NoJob back unit) new a more = one_more old new (content old) a.2 more
-answer_kept old (GiveBack job) (Done number) new a more = tt
-answer_kept old event reply new a more = absurd a
+answer_kept : (old : Machine) (event : Event) (reply : Reply) (new : Machine) → Answers (content old) event reply (content new) → Records old.current.number old.journal event reply new.journal → KeepsIfRefused old event reply new
+answer_kept old Look (Looked view) new a r = tt
+answer_kept old (Log asked) (Logged number line) new a r = tt
+answer_kept old (Commit basis change) (Done number) new a r = tt
+answer_kept old (Commit basis change) (Refused (Moved current)) new a r = one_more old (Commit basis change) (Refused (Moved current)) new (content old) a.2 r
+answer_kept old (Undo basis) (Done number) new a r = tt
+answer_kept old (Undo basis) (Refused (Moved current)) new a r = one_more old (Undo basis) (Refused (Moved current)) new (content old) a.2 r
+answer_kept old (Undo basis) (Refused NothingToUndo) new a r = one_more old (Undo basis) (Refused NothingToUndo) new (content old) a.2 r
+answer_kept old (Redo basis) (Done number) new a r = tt
+answer_kept old (Redo basis) (Refused (Moved current)) new a r = one_more old (Redo basis) (Refused (Moved current)) new (content old) a.2 r
+answer_kept old (Redo basis) (Refused NothingToRedo) new a r = one_more old (Redo basis) (Refused NothingToRedo) new (content old) a.2 r
+answer_kept old Take (Taken job) new a r = tt
+answer_kept old Take (Refused NoJob) new a r = one_more old Take (Refused NoJob) new (content old) a.1 r
+answer_kept old (Deliver job built) (Back NoJob back unit) new a r = one_more old (Deliver job built) (Back NoJob back unit) new (content old) a.2 r
+answer_kept old (Deliver job built) (Refused (Stale current)) new a r = (a.2.0, a.2.1, one_more old (Deliver job built) (Refused (Stale current)) new _ a.2.2 r)
+answer_kept old (Deliver job built) (Refused Already) new a r = (a.2.0, a.2.1, one_more old (Deliver job built) (Refused Already) new _ a.2.2 r)
+answer_kept old (Deliver job built) (Done number) new a r = tt
+answer_kept old (GiveBack job) (Back NoJob back unit) new a r = one_more old (GiveBack job) (Back NoJob back unit) new (content old) a.2 r
+answer_kept old (GiveBack job) (Done number) new a r = tt
+answer_kept old event reply new a r = absurd a
 
 pub refusals_keep_all : RefusalsKeepAll
 refusals_keep_all old new event (Refused Memory) s = s.1

@@ -1,6 +1,6 @@
 -- The steps of the machine: a reply to each event, and the machine that it leaves. Jobs, and what was built, stand in it as their
 -- data.
-use Rattle.std.specs.Prelude.{◌≡◌, ℕ, ◌+◌, ◌≤◌, ◌⊎◌, ⊤, List, [], length, Option, Some, None, Result, Ok, Err}
+use Rattle.std.specs.Prelude.{◌≡◌, ℕ, ◌+◌, ◌≤◌, ◌⊎◌, ⊤, List, [], ◌∷◌, ◌++◌, length, Option, MatchOption, Some, None, Result, Ok, Err}
 use Rattle.gr_text.specs.declared.refusal.Refusal.{Refusal}
 use Rattle.gr_text.specs.declared.refusal.Refusal.TheVariants.{Memory, Moved, NothingToUndo, NothingToRedo, JournalFull, Stale, Already, NoJob}
 use Rattle.gr_compile.specs.Jobs.{IsOut, JobsOut, label_of, with_job}
@@ -9,24 +9,38 @@ use Rattle.gr_compile.specs.declared.job.JobRecord.{JobRecord}
 use Rattle.gr_keep.specs.Finished.{Table}
 use Rattle.gr_book.specs.declared.view.View.{View}
 use Rattle.gr_book.specs.declared.event.Event.{Event}
-use Rattle.gr_book.specs.declared.event.Event.TheVariants.{Look, Commit, Undo, Redo, Take, Deliver, GiveBack}
+use Rattle.gr_book.specs.declared.event.Event.TheVariants.{Look, Log, Commit, Undo, Redo, Take, Deliver, GiveBack}
 use Rattle.gr_book.specs.declared.event.Reply.{Reply}
-use Rattle.gr_book.specs.declared.event.Reply.TheVariants.{Looked, Done, Taken, Refused, Back}
+use Rattle.gr_book.specs.declared.event.Reply.TheVariants.{Looked, Logged, Done, Taken, Refused, Back}
 use Rattle.gr_keep.specs.Carried.{IsCarried}
+use Rattle.gr_edit.specs.EditSet.{FileChanges}
+use Rattle.gr_book.specs.declared.entry.Entry.{Entry}
+use Rattle.gr_book.specs.Journal.{Records, ShowsLine, entry_of, told_of}
 use Rattle.gr_book.specs.Machine.{Content, Machine, BeginsVisit, Enters, FitsCurrent, IsOneBefore, Returns, changed, content, view_of}
 use Rattle.gr_book.specs.Waiting.{IsNextJob, WaitsIn}
 use Rattle.gr_book.specs.Deliveries.{IsFresh, IsRightlyBuilt, HasUnit}
 
 -- how many entries the journal has, with those that are kept for the Jobs out
 abbrev pub entries_due : Machine → ℕ
-entries_due m = m.entries + length m.out.jobs
+entries_due m = length m.journal + length m.out.jobs
 
--- The journal has room for the entry of the event, and for those of the Jobs out. One is kept for each Job that is out.
+-- Among so many entries there is place for that of the event beside those that are due, and for those of the Jobs out then. One is
+-- kept for each Job that is out.
+abbrev pub HasPlace : (most due : ℕ) → JobsOut → Event → Type 0
+HasPlace most due out Take = due + 2 ≤ most
+HasPlace most due out (Deliver job built) = IsOut out job ⊎ (due + 1 ≤ most)
+HasPlace most due out (GiveBack job) = IsOut out job ⊎ (due + 1 ≤ most)
+HasPlace most due out event = due + 1 ≤ most
+
+-- the journal has room for the entry of the event
 abbrev pub HasRoom : Machine → Event → Type 0
-HasRoom m Take = entries_due m + 2 ≤ m.limits.journal
-HasRoom m (Deliver job built) = IsOut m.out job ⊎ (entries_due m + 1 ≤ m.limits.journal)
-HasRoom m (GiveBack job) = IsOut m.out job ⊎ (entries_due m + 1 ≤ m.limits.journal)
-HasRoom m event = entries_due m + 1 ≤ m.limits.journal
+HasRoom m event = HasPlace m.limits.journal (entries_due m) m.out event
+
+-- the event brings a Job that is out
+abbrev pub BringsOut : JobsOut → Event → Type 0
+BringsOut out (Deliver job built) = IsOut out job
+BringsOut out (GiveBack job) = IsOut out job
+BringsOut out event = ⊥
 
 -- the event brings a Job, or a Job with what was built
 abbrev pub BringsJob : Event → Type 0
@@ -48,6 +62,7 @@ MayLackMemory out event = ⊤
 -- The reply to an event, and what is after it. It speaks of the states and the Jobs out alone, not of the journal.
 abbrev pub Answers : Content → Event → Reply → Content → Type 0
 Answers old Look (Looked view) new = (view ≡ view_of old) × (new ≡ old)
+Answers old (Log asked) (Logged number line) new = (number ≡ old.current.number) × (new ≡ old)
 Answers old (Commit basis change) (Done number) new =
     FitsCurrent old basis change × (number ≡ old.next)
     × ((finished : Table) × IsCarried old.current.files old.current.finished change.files finished × (new ≡ changed old change.files finished))
@@ -76,13 +91,11 @@ AnswersOrLacks old event (Refused Memory) new = ¬ (BringsJob event) × (new ≡
 AnswersOrLacks old event (Back Memory job unit) new = IsBackOf event job unit × MayLackMemory old.out event × (new ≡ old)
 AnswersOrLacks old event reply new = Answers old event reply new
 
--- the journal keeps each event with its reply, but for want of memory, or of room in the journal
-abbrev pub IsKept : Reply → Type 0
-IsKept (Refused Memory) = ⊥
-IsKept (Refused JournalFull) = ⊥
-IsKept (Back Memory job unit) = ⊥
-IsKept (Back JournalFull job unit) = ⊥
-IsKept reply = ⊤
+-- The event is answered, and the journal has its entry; or memory was wanting, and nothing changes.
+abbrev pub Keeps : Content → List Entry → Event → Reply → Content → List Entry → Type 0
+Keeps old journal event reply new journals =
+    AnswersOrLacks old event reply new × ShowsLine journal event reply
+    × MatchOption (told_of reply) (journals ≡ journal) (λ told. journals ≡ journal ++ entry_of old.current.number event reply told ∷ [])
 
 -- From old, the machine may give this reply to the event and go on to new: there is room, the event is answered, and the journal
 -- has one entry more.
@@ -92,7 +105,7 @@ Step old event (Refused Memory) new = ¬ (BringsJob event) × (new ≡ old)
 Step old event (Refused JournalFull) new = ¬ (BringsJob event) × ¬ (HasRoom old event) × (new ≡ old)
 Step old event (Back Memory job unit) new = IsBackOf event job unit × MayLackMemory old.out event × (new ≡ old)
 Step old event (Back JournalFull job unit) new = IsBackOf event job unit × ¬ (HasRoom old event) × (new ≡ old)
-Step old event reply new = HasRoom old event × Answers (content old) event reply (content new) × (new.entries ≡ old.entries + 1)
+Step old event reply new = HasRoom old event × Answers (content old) event reply (content new) × Records old.current.number old.journal event reply new.journal
 
 -- the replies that the parts of a step give
 abbrev pub looked : Result View Refusal → Reply
@@ -106,6 +119,10 @@ done (Err refusal) = Refused refusal
 abbrev pub taken : Result JobRecord Refusal → Reply
 taken (Ok job) = Taken job
 taken (Err refusal) = Refused refusal
+
+abbrev pub committed : Result (ℕ × FileChanges) Refusal → Reply
+committed (Ok made) = Done made.0
+committed (Err refusal) = Refused refusal
 
 -- the reply that refuses an event, with what it brought
 abbrev pub refused : Event → Refusal → Reply

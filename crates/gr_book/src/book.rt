@@ -1,51 +1,85 @@
 //! The book: the states of a workspace with the Jobs that are out, and the journal of the events that move among them.
-ghost use Rattle.std.specs.Prelude.{◌≡◌, ℕ, ◌+◌, ◌≤◌, ◌↔◌, IfOk, IsTrue};
-ghost use Rattle.gr_book.specs.Machine.{Machine, opening};
-ghost use Rattle.gr_book.specs.Step.{HasRoom, IsKept, Step, entries_due};
+ghost use Rattle.std.specs.Prelude.{◌≡◌, ℕ, ◌+◌, ◌≤◌, ◌↔◌, IfOk, IsTrue, OnErr, OnOk, length, vec_capacity};
+ghost use Rattle.gr_book.specs.Machine.{HasNumbers, Machine, content, opening};
+ghost use Rattle.gr_book.specs.Run.{IsReplay};
+ghost use Rattle.gr_book.specs.Step.{BringsOut, HasPlace, HasRoom, Keeps, Step, entries_due};
 
 use crate::content::Content;
+use crate::entry::{Entry, Line};
 use crate::event::{Event, Reply, refuse};
 use gr_text::{Limits, Refusal};
 use std::alloc::{AllocError, Global};
 use std::marker::Model;
 
-/// The states of a workspace, with a cursor on the current one, and the Jobs that are out. Its contracts speak of it as a
-/// machine of events. It is ended by `close`.
+/// The states of a workspace, with a cursor on the current one, the Jobs that are out, and the journal. Its contracts speak of it
+/// as a machine of events. It is ended by `close`.
 #[must_use]
 pub struct Book {
     content: Content,
-    entries: u64,
+    journal: Vec<Entry>,
 }
 
+/// It is a fact of each book that its content is the replay of its journal.
 impl Model for Book {
-    ghost use Rattle.std.specs.Prelude.{◌+◌, ◌≤◌, length};
-    ghost use Rattle.gr_book.specs.Machine.{Machine, with_entries};
+    ghost use Rattle.std.specs.Prelude.{◌+◌, ◌≤◌, length, vec_capacity};
+    ghost use Rattle.gr_book.specs.Codes.{entry_code};
+    ghost use Rattle.gr_book.specs.Machine.{Machine, with_journal};
+    ghost use Rattle.gr_book.specs.Run.{IsReplay};
     ghost use Rattle.std.specs.Coded.{codes};
     ghost use Rattle.gr_compile.specs.Codes.{unit_code, workspace_code};
 
     ghost Value = { Machine };
 
-    ghost coded = { Prim.hlevel (codes, unit_code, workspace_code) };
+    ghost coded = { Prim.hlevel (codes, unit_code, workspace_code, entry_code) };
 
-    ghost view = { λ a. with_entries a.content a.entries };
+    ghost view = { λ a. with_journal a.content a.journal.items };
 
     ghost invariant = { λ a.
-        (a.content.next ≤ a.entries + 1)
-        × (a.content.visit ≤ a.entries)
-        × (a.content.out.ticket ≤ a.entries)
-        × (a.entries + length a.content.out.jobs ≤ a.content.limits.journal) };
+        (a.content.next ≤ length a.journal.items + 1)
+        × (a.content.visit ≤ length a.journal.items)
+        × (a.content.out.ticket ≤ length a.journal.items)
+        × (length a.journal.items + length a.content.out.jobs ≤ a.content.limits.journal)
+        × (length a.journal.items + length a.content.out.jobs ≤ vec_capacity a.journal)
+        × ∥ IsReplay a.content.limits a.journal.items a.content ∥₁ };
 }
 
-/// Whether the journal keeps an event that has this reply.
-fn is_kept(reply: &Reply) -> bool
-    ensures { IsTrue result ↔ IsKept reply.now }
+/// Makes room for the entry of an event, and for those of the Jobs out then. For a Job that is out the room is there.
+fn make_room(journal: &mut Vec<Entry>, content: &Content, event: &Event) -> Result<(), AllocError>
+    requires { length content.now.out.jobs ≤ 1000000 }
+    ensures items { journal.new.items ≡ journal.old.items }
+    ensures grows { vec_capacity journal.old ≤ vec_capacity journal.new }
+    ensures ok { OnOk result (HasPlace (vec_capacity journal.new) (length journal.new.items + length content.now.out.jobs) content.now.out event.now) }
+    ensures err { OnErr result (BringsOut content.now.out event.now → ⊥) }
 {
-    match reply {
-        Reply::Refused(refusal) | Reply::Back(refusal, _, _) => {
-            !matches!(refusal, Refusal::Memory | Refusal::JournalFull)
-        }
-        Reply::Looked(_) | Reply::Done(_) | Reply::Taken(_) => true,
+    if content.brings_out(event) {
+        return Ok(());
     }
+    journal.reserve(content.jobs() + 2)
+}
+
+/// Answers an event, and adds its entry to the journal.
+fn answer(content: &mut Content, journal: &mut Vec<Entry>, event: Event) -> Reply
+    requires numbers { HasNumbers content.old }
+    requires due { length journal.old.items + length content.old.out.jobs ≤ vec_capacity journal.old }
+    requires place { HasPlace (vec_capacity journal.old) (length journal.old.items + length content.old.out.jobs) content.old.out event }
+    ensures keeps { Keeps content.old journal.old.items event result content.new journal.new.items }
+    ensures capacity { vec_capacity journal.new ≡ vec_capacity journal.old }
+{
+    let kind = event.kind();
+    let basis = event.basis(content.number());
+    let asked = event.subject();
+    let (reply, edits) = content.answer(journal.as_slice(), event);
+    if let Some(out) = reply.told() {
+        let line = Line { kind, basis, out };
+        let subject = reply.subject(asked);
+        let entry = Entry {
+            line,
+            subject,
+            edits,
+        };
+        journal.push_reserved(entry);
+    }
+    reply
 }
 
 impl Book {
@@ -56,15 +90,30 @@ impl Book {
         let content = Content::new(alloc, limits)?;
         Ok(Book {
             content,
-            entries: 0,
+            journal: Vec::new(alloc),
         })
+    }
+
+    /// The entries of the events, each with its reply, the first first.
+    pub fn journal(&self) -> &[Entry]
+        ensures journal { result.now ≡ self.now.journal }
+        ensures replay { ∥ IsReplay self.now.limits self.now.journal (content self.now) ∥₁ }
+    {
+        self.journal.as_slice()
+    }
+
+    /// How many steps undo can make.
+    pub fn depth(&self) -> usize
+        ensures { result ≡ length self.now.earlier }
+    {
+        self.content.earlier.len()
     }
 
     /// How many entries the journal has, with those that are kept for the Jobs out.
     fn entries_due(&self) -> u64
         ensures { result ≡ entries_due self.now }
     {
-        self.entries + self.content.out.len() as u64
+        self.journal.len() as u64 + self.content.out.len() as u64
     }
 
     /// Whether the journal has room for the entry of an event.
@@ -73,7 +122,9 @@ impl Book {
     {
         let left = self.content.limits.journal - self.entries_due();
         match event {
-            Event::Look | Event::Commit(..) | Event::Undo(_) | Event::Redo(_) => left >= 1,
+            Event::Look | Event::Log(_) | Event::Commit(..) | Event::Undo(_) | Event::Redo(_) => {
+                left >= 1
+            }
             Event::Take => left >= 2,
             Event::Deliver(job, _) | Event::GiveBack(job) => {
                 left >= 1 || self.content.out.is_out(job)
@@ -89,19 +140,20 @@ impl Book {
         if !self.has_room(&event) {
             return refuse(event, Refusal::JournalFull);
         }
-        let reply = self.content.answer(event);
-        if is_kept(&reply) {
-            self.entries += 1;
+        match make_room(&mut self.journal, &self.content, &event) {
+            Ok(()) => answer(&mut self.content, &mut self.journal, event),
+            Err(_) => refuse(event, Refusal::Memory),
         }
-        reply
     }
 
     /// Ends the history, and tells how many entries its journal had.
     pub fn close(self) -> u64
-        ensures { result ≡ self.entries }
+        ensures { result ≡ length self.journal }
     {
-        let Book { content, entries } = self;
+        let Book { content, journal } = self;
         content.close();
+        let entries = journal.len() as u64;
+        drop(journal);
         entries
     }
 }

@@ -1,10 +1,12 @@
 //! The states of a workspace with the Jobs that are out, and what events make of them.
-ghost use Rattle.std.specs.Prelude.{◌≡◌, ℕ, ◌+◌, ◌≤◌, IfOk, vec_len};
+ghost use Rattle.std.specs.Prelude.{◌≡◌, ℕ, ◌+◌, ◌≤◌, ◌↔◌, IfOk, IsTrue, length, vec_len};
 ghost use Rattle.gr_compile.specs.Jobs.{IsOut};
 ghost use Rattle.gr_book.specs.Machine.{HasNumbers, content, newest, opening};
-ghost use Rattle.gr_book.specs.Step.{AnswersOrLacks, done, looked, taken};
+ghost use Rattle.gr_book.specs.Journal.{ShowsLine, edits_of, line_at};
+ghost use Rattle.gr_book.specs.Step.{AnswersOrLacks, BringsOut, committed, done, looked, taken};
 
 use crate::deliveries::{outcome_of, settle};
+use crate::entry::{Entry, Line, SharedEdits};
 use crate::event::{Event, Reply};
 use crate::state::State;
 use crate::view::View;
@@ -53,6 +55,16 @@ fn keep_newest(states: &mut Vec<State>, depth: usize)
 {
     if states.len() > depth {
         drop(states.remove(0));
+    }
+}
+
+/// What is shown of the entry of a number.
+fn line_at(journal: &[Entry], number: u64) -> Option<Line>
+    ensures { result ≡ line_at journal.now number }
+{
+    match journal.get(number as usize) {
+        Some(entry) => Some(entry.line),
+        None => None,
     }
 }
 
@@ -108,6 +120,31 @@ impl Content {
         })
     }
 
+    /// The number of the current state.
+    pub(crate) fn number(&self) -> u64
+        ensures { result ≡ self.now.current.number }
+    {
+        self.current.number()
+    }
+
+    /// How many Jobs are out.
+    pub(crate) fn jobs(&self) -> usize
+        ensures { result ≡ length self.now.out.jobs }
+    {
+        self.out.len()
+    }
+
+    /// Whether an event brings a Job that is out.
+    pub(crate) fn brings_out(&self, event: &Event) -> bool
+        ensures { IsTrue result ↔ BringsOut self.now.out event.now }
+    {
+        match event {
+            Event::Deliver(job, _) => self.out.is_out(job),
+            Event::GiveBack(job) => self.out.is_out(job),
+            _ => false,
+        }
+    }
+
     fn look(&self) -> Result<View, Refusal>
         ensures { AnswersOrLacks self.now Event.Look (looked result) self.now }
     {
@@ -126,9 +163,11 @@ impl Content {
         })
     }
 
-    fn commit(&mut self, basis: u64, change: Change) -> Result<u64, Refusal>
+    /// Besides the number of the new state it gives the edits, for the entry.
+    fn commit(&mut self, basis: u64, change: Change) -> Result<(u64, SharedEdits), Refusal>
         requires { HasNumbers self.old }
-        ensures { AnswersOrLacks self.old (Event.Commit basis change) (done result) self.new }
+        ensures answer { AnswersOrLacks self.old (Event.Commit basis change) (committed result) self.new }
+        ensures edits { IfOk result (λ made. made.1 ≡ change.edits) }
     {
         let current = &self.current;
         let number = current.number;
@@ -136,6 +175,7 @@ impl Content {
             return Err(Refusal::Moved { current: number });
         }
         let files = change.files;
+        let edits = SharedEdits::new(self.alloc, change.edits)?;
         let marks = changed_marks(self.alloc, &current.files, &files)?;
         let finished = carried_units(
             self.alloc,
@@ -159,7 +199,7 @@ impl Content {
         self.later.clear();
         self.next += 1;
         self.visit += 1;
-        Ok(number)
+        Ok((number, edits))
     }
 
     fn undo(&mut self, basis: u64) -> Result<u64, Refusal>
@@ -259,20 +299,37 @@ impl Content {
         Reply::Done(number)
     }
 
-    /// Answers an event. Room is made before anything changes, so want of memory leaves all as it was.
-    pub(crate) fn answer(&mut self, event: Event) -> Reply
+    /// Answers a change, and gives its edits if it is admitted.
+    fn change(&mut self, basis: u64, change: Change) -> (Reply, Option<SharedEdits>)
         requires { HasNumbers self.old }
-        ensures { AnswersOrLacks self.old event result self.new }
+        ensures answer { AnswersOrLacks self.old (Event.Commit basis change) result.0 self.new }
+        ensures edits { result.1 ≡ edits_of (Event.Commit basis change) result.0 }
     {
-        match event {
+        match self.commit(basis, change) {
+            Ok((number, edits)) => (Reply::Done(number), Some(edits)),
+            Err(refusal) => (Reply::Refused(refusal), None),
+        }
+    }
+
+    /// Answers an event, and gives the edits of an admitted change. A log is shown an entry of the journal. Room is made before
+    /// anything changes, so want of memory leaves all as it was.
+    pub(crate) fn answer(&mut self, journal: &[Entry], event: Event) -> (Reply, Option<SharedEdits>)
+        requires { HasNumbers self.old }
+        ensures answer { AnswersOrLacks self.old event result.0 self.new }
+        ensures shows { ShowsLine journal.now event result.0 }
+        ensures edits { result.1 ≡ edits_of event result.0 }
+    {
+        let reply = match event {
+            Event::Commit(basis, change) => return self.change(basis, change),
             Event::Look => looked_reply(self.look()),
-            Event::Commit(basis, change) => done_reply(self.commit(basis, change)),
+            Event::Log(number) => Reply::Logged(self.current.number(), line_at(journal, number)),
             Event::Undo(basis) => done_reply(self.undo(basis)),
             Event::Redo(basis) => done_reply(self.redo(basis)),
             Event::Take => taken_reply(self.take()),
             Event::Deliver(job, built) => self.deliver(job, built),
             Event::GiveBack(job) => self.give_back(job),
-        }
+        };
+        (reply, None)
     }
 
     pub(crate) fn close(self) {

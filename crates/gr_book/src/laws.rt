@@ -7,6 +7,8 @@ ghost use Rattle.gr_book.specs.Run.{
   NumbersRise,
   NumbersAreNew,
   RefusalsKeepAll,
+  HasEntries,
+  RunsAreLegal,
 };
 
 /// An admitted change followed by undo leaves everything as before, and redo restores the change.
@@ -25,6 +27,13 @@ pub fn numbers_are_used_once()
 /// A refusal changes nothing but the number of entries and, where a delivery is stale or already there, the Jobs out.
 pub fn refusals_keep_all()
     ensures { RefusalsKeepAll }
+{}
+
+/// A run adds to the journal the entries of its events, each with its reply, in their order, and no others; so what a run from
+/// the opening state leaves is the replay of its journal.
+pub fn journals_are_legal()
+    ensures entries { HasEntries }
+    ensures legal { RunsAreLegal }
 {}
 
 /// Each finished unit of each state is that of its package in the state's whole workspace, whatever is delivered and in

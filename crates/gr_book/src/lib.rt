@@ -4,6 +4,7 @@
 mod book;
 mod content;
 mod deliveries;
+mod entry;
 mod event;
 mod laws;
 mod state;
@@ -11,8 +12,10 @@ mod view;
 mod waiting;
 
 pub use book::Book;
+pub use entry::{Entry, Kind, Line, Reason, SharedEdits, Told};
 pub use event::{Event, Reply, refuse};
 pub use laws::{
-    finished_units_are_current, numbers_are_used_once, refusals_keep_all, undo_and_redo_restore,
+    finished_units_are_current, journals_are_legal, numbers_are_used_once, refusals_keep_all,
+    undo_and_redo_restore,
 };
 pub use view::View;

@@ -1,6 +1,6 @@
 //! What the tests of histories do with a book, and what the replies to it tell. A book and a Job are no values that may be
 //! dropped, so no test ends by `?` while it has one.
-use gr_book::{Book, Event, Reply, View};
+use gr_book::{Book, Event, Line, Reply, View};
 use gr_compile::{Built, Job, build};
 use gr_space::{Change, plan_put};
 use gr_text::{FileText, Limits, Refusal};
@@ -21,12 +21,15 @@ pub(crate) enum Act {
     /// The same with a book that the Job is not of.
     DeliverElsewhere(u64),
     GiveBackElsewhere(u64),
+    /// Asks for an entry of the journal.
+    Log(u64),
 }
 
 /// What the reply tells. A Job that is taken has a ticket, the number of a state, and a visit.
 #[derive(Clone, Copy, Debug, PartialEq, Eq)]
 pub(crate) enum Outcome {
     Looked,
+    Logged(u64, Option<Line>),
     Done(u64),
     Taken(u64, u64, u64),
     Stale(u64),
@@ -108,6 +111,7 @@ fn told(jobs: &mut Vec<Job>, reply: Reply) -> Outcome {
             drop(view);
             Outcome::Looked
         }
+        Reply::Logged(number, line) => Outcome::Logged(number, line),
         Reply::Done(number) => Outcome::Done(number),
         Reply::Taken(job) => taken(jobs, job),
         Reply::Refused(refusal) => refused(&refusal),
@@ -179,6 +183,7 @@ fn replied(rt: &(impl Abort + AllocGlobal), bench: &mut Bench, act: Act) -> Repl
     match act {
         Act::Put(path, bytes) => put(rt, &mut bench.book, path, bytes),
         Act::Take(path) => take(rt, &mut bench.book, path),
+        Act::Log(number) => bench.book.step(Event::Log(number)),
         Act::Undo(basis) => bench.book.step(Event::Undo(basis)),
         Act::Redo(basis) => bench.book.step(Event::Redo(basis)),
         Act::Deliver(ticket) => {

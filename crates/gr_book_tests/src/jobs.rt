@@ -1,6 +1,7 @@
 //! Jobs of a book: they are handed out, delivered late, given back and handed in elsewhere. A put is two entries of the
 //! journal, each other act one.
-use crate::bench::{Act, Outcome, does, ends, opened, retires};
+use crate::bench::{Act, Bench, Outcome, does, ends, opened, retires};
+use gr_book::{Kind, Line, Reason, Told};
 use gr_compile::{Job, Out, SharedPath};
 use gr_graph::Graph;
 use gr_text::Files;
@@ -58,6 +59,41 @@ fn a_delivery_after_undo_and_redo_enters(rt: HostRuntime) {
     does(&rt, &mut bench, Act::Deliver(0), Outcome::Done(1));
     does(&rt, &mut bench, Act::Take("a"), Outcome::NoJob);
     ends(&rt, bench, (8, 0))
+}
+
+/// Asks for an entry of a journal whose current state has the number 1, and asserts what it shows.
+fn shows(
+    rt: &(impl Abort + AllocGlobal),
+    bench: &mut Bench,
+    entry: u64,
+    kind: Kind,
+    basis: u64,
+    out: Told,
+) {
+    let line = Line { kind, basis, out };
+    does(rt, bench, Act::Log(entry), Outcome::Logged(1, Some(line)))
+}
+
+/// A Job that is delivered late and one that is given back, as the journal shows them.
+#[test]
+fn entries_tell_of_each_event(rt: HostRuntime) {
+    let mut bench = opened(&rt);
+    does(&rt, &mut bench, Act::Put("a/a.go", A), Outcome::Done(1));
+    does(&rt, &mut bench, Act::Take("a"), Outcome::Taken(0, 1, 1));
+    does(&rt, &mut bench, Act::Undo(1), Outcome::Done(0));
+    does(&rt, &mut bench, Act::Deliver(0), Outcome::Stale(0));
+    does(&rt, &mut bench, Act::Redo(0), Outcome::Done(1));
+    does(&rt, &mut bench, Act::Take("a"), Outcome::Taken(1, 1, 3));
+    does(&rt, &mut bench, Act::GiveBack(1), Outcome::Done(1));
+    shows(&rt, &mut bench, 1, Kind::Commit, 0, Told::Done(1));
+    shows(&rt, &mut bench, 2, Kind::Take, 1, Told::Done(1));
+    shows(&rt, &mut bench, 3, Kind::Undo, 1, Told::Done(0));
+    let stale = Told::Refused(Reason::Stale { current: 0 });
+    shows(&rt, &mut bench, 4, Kind::Deliver, 1, stale);
+    shows(&rt, &mut bench, 7, Kind::GiveBack, 1, Told::Done(1));
+    shows(&rt, &mut bench, 8, Kind::Log, 1, Told::Done(1));
+    does(&rt, &mut bench, Act::Log(14), Outcome::Logged(1, None));
+    ends(&rt, bench, (15, 0))
 }
 
 #[test]

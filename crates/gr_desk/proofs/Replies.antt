@@ -1,9 +1,9 @@
 -- Which replies the machine gives.
 use Rattle.gr_text.specs.declared.refusal.Refusal.TheVariants.{Memory, JournalFull, NoJob}
 use Rattle.gr_book.specs.declared.event.Event.{Event}
-use Rattle.gr_book.specs.declared.event.Event.TheVariants.{Look, Commit, Undo, Redo, Take, Deliver, GiveBack}
+use Rattle.gr_book.specs.declared.event.Event.TheVariants.{Look, Log, Commit, Undo, Redo, Take, Deliver, GiveBack}
 use Rattle.gr_book.specs.declared.event.Reply.{Reply}
-use Rattle.gr_book.specs.declared.event.Reply.TheVariants.{Looked, Done, Taken, Refused, Back}
+use Rattle.gr_book.specs.declared.event.Reply.TheVariants.{Looked, Logged, Done, Taken, Refused, Back}
 use Rattle.gr_book.specs.Machine.{Machine}
 use Rattle.gr_book.specs.Step.{Step}
 use Rattle.gr_desk.specs.MayReply.{MayReply}
@@ -11,6 +11,8 @@ use Rattle.gr_desk.specs.MayReply.{MayReply}
 pub may_reply : (old : Machine) (event : Event) (reply : Reply) (new : Machine) → Step old event reply new → MayReply event reply
 may_reply old Look (Looked view) new s = tt
 may_reply old Look (Refused refusal) new s = tt
+may_reply old (Log asked) (Logged current line) new s = tt
+may_reply old (Log asked) (Refused refusal) new s = tt
 may_reply old (Commit basis change) (Done number) new s = tt
 may_reply old (Commit basis change) (Refused refusal) new s = tt
 may_reply old (Undo basis) (Done number) new s = tt

@@ -1,5 +1,5 @@
 -- What a command does.
-use Rattle.std.specs.Prelude.{◌≡◌, ◌⊎◌, ℕ, List, ⊤, Option, Some, None, IfSome, Result, Ok, Err}
+use Rattle.std.specs.Prelude.{◌≡◌, ◌⊎◌, ℕ, List, ⊤, Option, MatchOption, Some, None, IfSome, Result, Ok, Err}
 use Rattle.gr_text.specs.Path.{IsPath}
 use Rattle.gr_text.specs.declared.refusal.Refusal.{Refusal}
 use Rattle.gr_text.specs.declared.refusal.Refusal.TheVariants.{Memory, BadPath, TooLarge, Moved}
@@ -7,12 +7,13 @@ use Rattle.gr_space.specs.Plan.{PlansPut, PlansDel}
 use Rattle.gr_book.specs.declared.view.View.{View}
 use Rattle.gr_space.specs.declared.change.Change.{Change}
 use Rattle.gr_book.specs.declared.event.Event.{Event}
-use Rattle.gr_book.specs.declared.event.Event.TheVariants.{Look, Commit, Undo, Redo}
+use Rattle.gr_book.specs.declared.event.Event.TheVariants.{Look, Log, Commit, Undo, Redo}
 use Rattle.gr_book.specs.declared.event.Reply.{Reply}
-use Rattle.gr_book.specs.declared.event.Reply.TheVariants.{Looked, Done, Taken, Refused, Back}
+use Rattle.gr_book.specs.declared.event.Reply.TheVariants.{Looked, Logged, Done, Taken, Refused, Back}
 use Rattle.gr_desk.specs.Queries.{Cats, WritesUses, TellsFaults, TellsObject, listing}
+use Rattle.gr_desk.specs.Logging.{entry_text}
 use Rattle.gr_desk.specs.Work.{Works}
-use Rattle.gr_line.specs.Commands.{basis_of}
+use Rattle.gr_line.specs.Commands.{basis_of, entry_asked}
 use Rattle.gr_line.specs.declared.command.Command.{Command}
 use Rattle.gr_line.specs.declared.command.Command.TheVariants as command
 use Rattle.gr_line.specs.declared.command.Response.{Response}
@@ -34,9 +35,14 @@ abbrev pub PlansBody : View → List ℕ → Option (List ℕ) → Result Change
 PlansBody view path None planned = PlansDropped path planned
 PlansBody view path (Some text) planned = PlansPut view.snapshot path text planned
 
+-- the lines, or want of memory for them
+abbrev pub TellsLines : ℕ → List ℕ → Response → Type 0
+TellsLines number lines answer = (answer ≡ response.Lines number lines) ⊎ (answer ≡ response.Refused Memory)
+
 -- the answer that tells a reply without a Job
 abbrev pub TellsReply : Reply → Response → Type 0
 TellsReply (Looked view) answer = answer ≡ response.Steps view.snapshot.number view.undo view.redo
+TellsReply (Logged current line) answer = TellsLines current (entry_text line) answer
 TellsReply (Done number) answer = answer ≡ response.Done number
 TellsReply (Taken job) answer = ⊥
 TellsReply (Refused refusal) answer = answer ≡ response.Refused refusal
@@ -49,10 +55,6 @@ file_response number (Err refusal) = response.Refused refusal
 abbrev pub lines_response : ℕ → Result (List ℕ) Refusal → Response
 lines_response number (Ok lines) = response.Lines number lines
 lines_response number (Err refusal) = response.Refused refusal
-
--- the lines, or want of memory for them
-abbrev pub TellsLines : ℕ → List ℕ → Response → Type 0
-TellsLines number lines answer = (answer ≡ response.Lines number lines) ⊎ (answer ≡ response.Refused Memory)
 
 -- the lines of the faults of the view's files, or want of memory for them
 abbrev pub AnswersFaults : View → Response → Type 0
@@ -88,6 +90,8 @@ module _ {D : Type 0} (steps : D → Event → Reply → D → Type 0) where
   ActsOn old view (command.Object path) answer new =
       ((found : Result (List ℕ) Refusal) × TellsObject view path found × (answer ≡ file_response view.snapshot.number found)) × (new ≡ old)
   ActsOn old view command.Work answer new = Works steps old answer new
+  -- a log is answered without a view
+  ActsOn old view (command.Log number) answer new = ⊥
 
   -- the command after its look has shown this view: it is refused where it is meant for another state
   abbrev pub ActsAfter : D → View → Command → Response → D → Type 0
@@ -100,6 +104,10 @@ module _ {D : Type 0} (steps : D → Event → Reply → D → Type 0) where
   Continues old (Looked view) asked answer new = ActsAfter old view asked answer new
   Continues old reply asked answer new = TellsReply reply answer × (new ≡ old)
 
-  -- one command, which begins with a look
+  -- a command that begins with a look
+  abbrev pub Looks : D → Command → Response → D → Type 0
+  Looks old asked answer new = (reply : Reply) × (mid : D) × steps old Look reply mid × Continues mid reply asked answer new
+
+  -- one command: a log is one event alone, any other begins with a look
   abbrev pub Acts : D → Command → Response → D → Type 0
-  Acts old asked answer new = (reply : Reply) × (mid : D) × steps old Look reply mid × Continues mid reply asked answer new
+  Acts old asked answer new = MatchOption (entry_asked asked) (Looks old asked answer new) (λ number. Sends old (Log number) answer new)

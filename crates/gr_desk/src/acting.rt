@@ -1,8 +1,9 @@
-//! One command. Each begins with a look, and what it does is planned on the view that the look gave.
-ghost use Rattle.std.specs.Prelude.{◌≡◌, ◌↔◌, ℕ, IsTrue, List, Result};
+//! One command. Each but a log begins with a look, and what it does is planned on the view that the look gave.
+ghost use Rattle.std.specs.Prelude.{◌≡◌, ◌↔◌, ℕ, IsTrue, List, None, Result};
 ghost use Rattle.gr_text.specs.declared.refusal.Refusal.{Refusal as WhyRefused};
 ghost use Rattle.gr_space.specs.Plan.{PlansDel};
 ghost use Rattle.gr_space.specs.declared.change.Change.{Change as PlannedChange};
+ghost use Rattle.gr_line.specs.Commands.{entry_asked};
 ghost use Rattle.gr_desk.specs.Act.{
   Acts,
   ActsAfter,
@@ -10,6 +11,7 @@ ghost use Rattle.gr_desk.specs.Act.{
   AnswersFaults,
   Commits,
   FitsView,
+  Looks,
   PlansBody,
   Sends,
   TellsLines,
@@ -19,6 +21,7 @@ ghost use Rattle.gr_desk.specs.Act.{
 ghost use Rattle.gr_desk.specs.Queries.{Cats, TellsObject, WritesUses, listing};
 
 use crate::desk::Desk;
+use crate::logging::log;
 use crate::queries::{cat, faults, list, object, uses};
 use crate::working::work;
 use gr_book::{Event, Reply, View};
@@ -64,6 +67,7 @@ fn change_to<D: Desk>(desk: &mut D, basis: u64, change: Change) -> Response
         Reply::Done(number) => Response::Done { number },
         Reply::Refused(refusal) => Response::Refused { refusal },
         Reply::Looked(_view) => unreachable!(),
+        Reply::Logged(_, _) => unreachable!(),
         Reply::Taken(_job) => unreachable!(),
         Reply::Back(_refusal, _job, _built) => unreachable!(),
     }
@@ -76,6 +80,7 @@ fn undo<D: Desk>(desk: &mut D, basis: u64) -> Response
         Reply::Done(number) => Response::Done { number },
         Reply::Refused(refusal) => Response::Refused { refusal },
         Reply::Looked(_view) => unreachable!(),
+        Reply::Logged(_, _) => unreachable!(),
         Reply::Taken(_job) => unreachable!(),
         Reply::Back(_refusal, _job, _built) => unreachable!(),
     }
@@ -88,6 +93,7 @@ fn redo<D: Desk>(desk: &mut D, basis: u64) -> Response
         Reply::Done(number) => Response::Done { number },
         Reply::Refused(refusal) => Response::Refused { refusal },
         Reply::Looked(_view) => unreachable!(),
+        Reply::Logged(_, _) => unreachable!(),
         Reply::Taken(_job) => unreachable!(),
         Reply::Back(_refusal, _job, _built) => unreachable!(),
     }
@@ -195,6 +201,7 @@ fn tell_faults(alloc: Global, view: &View) -> Response
 
 /// Acts on a command that is meant for the state of the view.
 fn act_on<D: Desk>(alloc: Global, desk: &mut D, view: &View, command: Command) -> Response
+    requires { entry_asked command ≡ None }
     ensures { ActsOn D.steps desk.old view.now command result desk.new }
 {
     match command {
@@ -213,11 +220,13 @@ fn act_on<D: Desk>(alloc: Global, desk: &mut D, view: &View, command: Command) -
         Command::Work => work(alloc, desk),
         Command::List => tell_list(alloc, view),
         Command::Faults => tell_faults(alloc, view),
+        Command::Log { number: _ } => unreachable!(),
     }
 }
 
 /// Acts on a command after its look has shown the view.
 fn act_after<D: Desk>(alloc: Global, desk: &mut D, view: &View, command: Command) -> Response
+    requires { entry_asked command ≡ None }
     ensures { ActsAfter D.steps desk.old view.now command result desk.new }
 {
     if fits_view(view, &command) {
@@ -232,15 +241,30 @@ fn act_after<D: Desk>(alloc: Global, desk: &mut D, view: &View, command: Command
     }
 }
 
-/// Acts on one command.
-pub fn act<D: Desk>(alloc: Global, desk: &mut D, command: Command) -> Response
-    ensures { Acts D.steps desk.old command result desk.new }
+/// Acts on a command that begins with a look.
+fn act_looking<D: Desk>(alloc: Global, desk: &mut D, command: Command) -> Response
+    requires { entry_asked command ≡ None }
+    ensures { Looks D.steps desk.old command result desk.new }
 {
     match desk.step(Event::Look) {
         Reply::Looked(view) => act_after(alloc, desk, &view, command),
         Reply::Refused(refusal) => Response::Refused { refusal },
+        Reply::Logged(_, _) => unreachable!(),
         Reply::Done(_) => unreachable!(),
         Reply::Taken(_job) => unreachable!(),
         Reply::Back(_refusal, _job, _built) => unreachable!(),
+    }
+}
+
+/// Acts on one command.
+pub fn act<D: Desk>(alloc: Global, desk: &mut D, command: Command) -> Response
+    ensures { Acts D.steps desk.old command result desk.new }
+{
+    match command.entry() {
+        Some(number) => {
+            drop(command);
+            log(alloc, desk, number)
+        }
+        None => act_looking(alloc, desk, command),
     }
 }

@@ -24,13 +24,14 @@ pub struct Solo {
 }
 
 impl Model for Solo {
+    ghost use Rattle.gr_book.specs.Codes.{entry_code};
     ghost use Rattle.gr_book.specs.Machine.{Machine};
     ghost use Rattle.std.specs.Coded.{codes};
     ghost use Rattle.gr_compile.specs.Codes.{unit_code, workspace_code};
 
     ghost Value = { Machine };
 
-    ghost coded = { Prim.hlevel (codes, unit_code, workspace_code) };
+    ghost coded = { Prim.hlevel (codes, unit_code, workspace_code, entry_code) };
 
     ghost view = { λ a. a.book };
 }

@@ -3,6 +3,7 @@
 
 mod acting;
 mod desk;
+mod logging;
 mod queries;
 mod working;
 

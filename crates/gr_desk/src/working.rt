@@ -22,6 +22,7 @@ fn give_back<D: Desk>(desk: &mut D, job: Job)
             drop(job.retire());
         }
         Reply::Looked(_view) => unreachable!(),
+        Reply::Logged(_, _) => unreachable!(),
         Reply::Taken(_job) => unreachable!(),
         Reply::Refused(_refusal) => unreachable!(),
     }
@@ -59,6 +60,7 @@ fn deliver<D: Desk>(desk: &mut D, job: Job, built: Built, line: Bytes) -> Respon
             Response::Refused { refusal }
         }
         Reply::Looked(_view) => unreachable!(),
+        Reply::Logged(_, _) => unreachable!(),
         Reply::Taken(_job) => unreachable!(),
     }
 }
@@ -86,6 +88,7 @@ pub(crate) fn work<D: Desk>(alloc: Global, desk: &mut D) -> Response
         Reply::Taken(job) => build_in(alloc, desk, job),
         Reply::Refused(refusal) => Response::Refused { refusal },
         Reply::Looked(_view) => unreachable!(),
+        Reply::Logged(_, _) => unreachable!(),
         Reply::Done(_) => unreachable!(),
         Reply::Back(_refusal, _job, _built) => unreachable!(),
     }

@@ -37,6 +37,7 @@ verb_no_space line.List = four 108 105 115 116 (omega arith) (omega arith) (omeg
 verb_no_space line.Faults = six 102 97 117 108 116 115 (omega arith) (omega arith) (omega arith) (omega arith) (omega arith) (omega arith)
 verb_no_space (line.Object path) = six 111 98 106 101 99 116 (omega arith) (omega arith) (omega arith) (omega arith) (omega arith) (omega arith)
 verb_no_space line.Work = four 119 111 114 107 (omega arith) (omega arith) (omega arith) (omega arith)
+verb_no_space (line.Log number) = three 108 111 103 (omega arith) (omega arith) (omega arith)
 verb_no_space End = three 101 110 100 (omega arith) (omega arith) (omega arith)
 
 args_no_space : (command : CommandLine) → FitsLine command → HaveNoSpace (args_of command)
@@ -51,6 +52,7 @@ args_no_space line.List h = tt
 args_no_space line.Faults h = tt
 args_no_space (line.Object path) h = (h.1, tt)
 args_no_space line.Work h = tt
+args_no_space (line.Log number) h = (decimal_word number h, tt)
 args_no_space End h = tt
 
 -- a line has its words in one way
@@ -119,6 +121,10 @@ pub only_work : (command : CommandLine) (P : CommandLine → Type 0) → verb_of
 only_work line.Work P e h = h
 only_work command P e h = absurd (omega (arith, ap weight e))
 
+pub only_log : (command : CommandLine) (P : CommandLine → Type 0) → verb_of command ≡ codes "log" → ((number : ℕ) → P (line.Log number)) → P command
+only_log (line.Log number) P e h = h number
+only_log command P e h = absurd (omega (arith, ap weight e))
+
 pub only_end : (command : CommandLine) (P : CommandLine → Type 0) → verb_of command ≡ codes "end" → P End → P command
 only_end End P e h = h
 only_end command P e h = absurd (omega (arith, ap weight e))
@@ -152,21 +158,26 @@ pub object_words : (words : List ℕ) → ((path : List ℕ) → IsWord path →
     → (command : CommandLine) → HasWords (codes "object") words command → ⊥
 object_words words never command h = only_object command (λ c. FitsLine c → IsSpaced (args_of c) words → ⊥) h.first never h.fits h.others
 
+pub log_words : (words : List ℕ) → ((number : ℕ) → number < 2 ^ 64 → words ≡ decimal number → ⊥)
+    → (command : CommandLine) → HasWords (codes "log") words command → ⊥
+log_words words never command h = only_log command (λ c. FitsLine c → IsSpaced (args_of c) words → ⊥) h.first never h.fits h.others
+
 -- lines of several words begin with one of these
-pub no_verb : (verb words : List ℕ) → verb ≢ codes "put" → verb ≢ codes "del" → verb ≢ codes "undo" → verb ≢ codes "redo" → verb ≢ codes "cat" → verb ≢ codes "uses" → verb ≢ codes "object"
+pub no_verb : (verb words : List ℕ) → verb ≢ codes "put" → verb ≢ codes "del" → verb ≢ codes "undo" → verb ≢ codes "redo" → verb ≢ codes "cat" → verb ≢ codes "uses" → verb ≢ codes "object" → verb ≢ codes "log"
     → (command : CommandLine) → HasWords verb words command → ⊥
-no_verb verb words put del undo redo cat uses object (Put basis path size) h = put (sym h.first)
-no_verb verb words put del undo redo cat uses object (Del basis path) h = del (sym h.first)
-no_verb verb words put del undo redo cat uses object (Undo basis) h = undo (sym h.first)
-no_verb verb words put del undo redo cat uses object (Redo basis) h = redo (sym h.first)
-no_verb verb words put del undo redo cat uses object (Cat path) h = cat (sym h.first)
-no_verb verb words put del undo redo cat uses object (Uses path offset) h = uses (sym h.first)
-no_verb verb words put del undo redo cat uses object Look h = h.others
-no_verb verb words put del undo redo cat uses object line.List h = h.others
-no_verb verb words put del undo redo cat uses object line.Faults h = h.others
-no_verb verb words put del undo redo cat uses object (line.Object path) h = object (sym h.first)
-no_verb verb words put del undo redo cat uses object line.Work h = h.others
-no_verb verb words put del undo redo cat uses object End h = h.others
+no_verb verb words put del undo redo cat uses object log (Put basis path size) h = put (sym h.first)
+no_verb verb words put del undo redo cat uses object log (Del basis path) h = del (sym h.first)
+no_verb verb words put del undo redo cat uses object log (Undo basis) h = undo (sym h.first)
+no_verb verb words put del undo redo cat uses object log (Redo basis) h = redo (sym h.first)
+no_verb verb words put del undo redo cat uses object log (Cat path) h = cat (sym h.first)
+no_verb verb words put del undo redo cat uses object log (Uses path offset) h = uses (sym h.first)
+no_verb verb words put del undo redo cat uses object log Look h = h.others
+no_verb verb words put del undo redo cat uses object log line.List h = h.others
+no_verb verb words put del undo redo cat uses object log line.Faults h = h.others
+no_verb verb words put del undo redo cat uses object log (line.Object path) h = object (sym h.first)
+no_verb verb words put del undo redo cat uses object log line.Work h = h.others
+no_verb verb words put del undo redo cat uses object log (line.Log number) h = log (sym h.first)
+no_verb verb words put del undo redo cat uses object log End h = h.others
 
 pub no_bare : (verb : List ℕ) → verb ≢ codes "look" → verb ≢ codes "list" → verb ≢ codes "faults" → verb ≢ codes "work" → verb ≢ codes "end"
     → (command : CommandLine) → args_of command ≡ [] → verb_of command ≢ verb
@@ -179,6 +190,7 @@ no_bare verb look list faults work end End a = λ e. end (sym e)
 no_bare verb look list faults work end (Put basis path size) a = absurd cc
 no_bare verb look list faults work end (Del basis path) a = absurd cc
 no_bare verb look list faults work end (Undo basis) a = absurd cc
+no_bare verb look list faults work end (line.Log number) a = absurd cc
 no_bare verb look list faults work end (Redo basis) a = absurd cc
 no_bare verb look list faults work end (Cat path) a = absurd cc
 no_bare verb look list faults work end (Uses path offset) a = absurd cc

@@ -16,3 +16,9 @@ basis_of command.List = None
 basis_of command.Faults = None
 basis_of (command.Object path) = None
 basis_of command.Work = None
+basis_of (command.Log number) = None
+
+-- the number of the entry that a log asks for
+abbrev pub entry_asked : Command → Option ℕ
+entry_asked (command.Log number) = Some number
+entry_asked asked = None

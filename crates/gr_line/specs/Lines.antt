@@ -19,6 +19,7 @@ verb_of line.List = codes "list"
 verb_of line.Faults = codes "faults"
 verb_of (line.Object path) = codes "object"
 verb_of line.Work = codes "work"
+verb_of (line.Log number) = codes "log"
 verb_of End = codes "end"
 
 -- a place as it is printed. An offset has digits alone, so the last :# of the word stands between it and the path
@@ -38,6 +39,7 @@ args_of line.List = []
 args_of line.Faults = []
 args_of (line.Object path) = path ∷ []
 args_of line.Work = []
+args_of (line.Log number) = decimal number ∷ []
 args_of End = []
 
 -- its numbers are within their ranges, and its other arguments are words; what stands before an offset may be empty
@@ -53,6 +55,7 @@ FitsLine line.List = ⊤
 FitsLine line.Faults = ⊤
 FitsLine (line.Object path) = IsWord path
 FitsLine line.Work = ⊤
+FitsLine (line.Log number) = number < 2 ^ 64
 FitsLine End = ⊤
 
 -- how many bytes follow the line
@@ -68,6 +71,7 @@ size_after line.List = 0
 size_after line.Faults = 0
 size_after (line.Object path) = 0
 size_after line.Work = 0
+size_after (line.Log number) = 0
 size_after End = 0
 
 -- the text is this command line

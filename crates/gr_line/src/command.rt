@@ -42,10 +42,14 @@ pub enum Command {
     },
     /// Builds one package in this session.
     Work,
+    /// An entry of the journal, by its number.
+    Log {
+        number: u64,
+    },
 }
 
 impl Command {
-    ghost use Rattle.gr_line.specs.Commands.{basis_of};
+    ghost use Rattle.gr_line.specs.Commands.{basis_of, entry_asked};
 
     /// The basis, where the command gives one.
     pub fn basis(&self) -> Option<u64>
@@ -62,7 +66,18 @@ impl Command {
             | Command::List
             | Command::Faults
             | Command::Object { .. }
-            | Command::Work => None,
+            | Command::Work
+            | Command::Log { .. } => None,
+        }
+    }
+
+    /// The number of the entry that a log asks for.
+    pub fn entry(&self) -> Option<u64>
+        ensures { result ≡ entry_asked self.now }
+    {
+        match self {
+            Command::Log { number } => Some(*number),
+            _ => None,
         }
     }
 }

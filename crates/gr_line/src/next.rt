@@ -154,6 +154,7 @@ fn command_after<S: Source>(
         CommandLine::List => Ok(ask(Command::List)),
         CommandLine::Faults => Ok(ask(Command::Faults)),
         CommandLine::Work => Ok(ask(Command::Work)),
+        CommandLine::Log { number } => Ok(ask(Command::Log { number })),
         CommandLine::Undo { basis } => Ok(ask(Command::Undo { basis })),
         CommandLine::Redo { basis } => Ok(ask(Command::Redo { basis })),
         CommandLine::Del { basis, path } => match Word::new(alloc, path.as_str()) {

@@ -61,6 +61,9 @@ pub enum CommandLine<'a> {
         path: Argument<'a>,
     },
     Work,
+    Log {
+        number: u64,
+    },
     End,
 }
 
@@ -186,6 +189,13 @@ fn parse_uses(words: &str) -> Option<CommandLine<'_>>
     })
 }
 
+fn parse_log(words: &str) -> Option<CommandLine<'_>>
+    ensures { ParsesArgs (codes "log") words.now result }
+{
+    let number = parse_u64(words)?;
+    Some(CommandLine::Log { number })
+}
+
 /// A command line of one word.
 fn parse_bare(verb: &str) -> Option<CommandLine<'_>>
     ensures { ParsesBare verb.now result }
@@ -212,6 +222,7 @@ fn parse_verb<'a>(verb: &str, words: &'a str) -> Option<CommandLine<'a>>
         "cat" => parse_cat(words),
         "uses" => parse_uses(words),
         "object" => parse_object(words),
+        "log" => parse_log(words),
         _ => None,
     }
 }

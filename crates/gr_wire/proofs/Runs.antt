@@ -8,10 +8,11 @@ use Rattle.gr_space.specs.declared.change.Change.{Change}
 use Rattle.gr_book.specs.declared.event.Event.{Event}
 use Rattle.gr_book.specs.declared.event.Event.TheVariants as event
 use Rattle.gr_book.specs.declared.event.Reply.{Reply}
-use Rattle.gr_book.specs.declared.event.Reply.TheVariants.{Looked, Done, Taken, Refused, Back}
+use Rattle.gr_book.specs.declared.event.Reply.TheVariants.{Looked, Logged, Done, Taken, Refused, Back}
 use Rattle.gr_book.specs.Machine.{Machine}
 use Rattle.gr_book.specs.Step.{Step}
 use Rattle.gr_book.specs.Run.{Run}
+use Rattle.gr_book.proofs.Legal.{Run-append}
 use Rattle.gr_line.specs.declared.command.Command.{Command}
 use Rattle.gr_line.specs.declared.command.Command.TheVariants.{Look, Put, Del, Undo, Redo, Cat, Uses}
 use Rattle.gr_line.specs.declared.command.Command.TheVariants as command
@@ -25,10 +26,6 @@ use Rattle.gr_wire.specs.Laws.{RunsTheMachine}
 
 abbrev IsRun : Machine → Machine → Type 0
 IsRun old new = (events : List (Event × Reply)) × Run old events new
-
-Run-append : (old mid new : Machine) (es fs : List (Event × Reply)) → Run old es mid → Run mid fs new → Run old (es ++ fs) new
-Run-append old mid new [] fs h k = rw (← h) k
-Run-append old mid new (e ∷ es) fs h k = (h.0, h.1, Run-append h.0 mid new es fs h.2 k)
 
 join : (old mid new : Machine) → IsRun old mid → IsRun mid new → IsRun old new
 join old mid new h k = (h.0 ++ k.0, Run-append old mid new h.0 k.0 h.1 k.1)
@@ -82,15 +79,18 @@ acted_on old new view command.List answer h = still old new h.1
 acted_on old new view command.Faults answer h = still old new h.1
 acted_on old new view (command.Object path) answer h = still old new h.1
 acted_on old new view command.Work answer h = worked old new answer h
+acted_on old new view (command.Log number) answer h = absurd h
 
 continued : (old new : Machine) (reply : Reply) (asked : Command) (answer : Response) → Continues Step old reply asked answer new → IsRun old new
 continued old new (Looked view) asked answer h = elim h [ inl k ↦ still old new k.2 | inr k ↦ acted_on old new view asked answer k.1 ]
+continued old new (Logged current line) asked answer h = still old new h.1
 continued old new (Done number) asked answer h = still old new h.1
 continued old new (Taken job) asked answer h = absurd h.0
 continued old new (Refused refusal) asked answer h = still old new h.1
 continued old new (Back refusal job unit) asked answer h = absurd h.0
 
 acted : (old new : Machine) (asked : Command) (answer : Response) → Acts Step old asked answer new → IsRun old new
+acted old new (command.Log number) answer h = sent old new (event.Log number) answer h
 acted old new asked answer h =
     let after = continued h.1 new h.0 asked answer h.3 in
     ((event.Look, h.0) ∷ after.0, (h.1, h.2, after.1))

@@ -1,23 +1,27 @@
--- The answer with its entry is a step, and what the journal bounds stays within it.
-use Rattle.std.proofs.Common.{◌+◌, sym, subst, arith}
-use Rattle.gr_book.specs.Machine.{Machine, with_entries}
+-- The answer with its entry is a step, what the journal bounds stays within it, and the content stays its replay.
+use Rattle.std.proofs.Common.{sym, subst, vec_capacity}
+use Rattle.gr_book.specs.Machine.{Machine, with_journal}
 use Rattle.gr_book.specs.Step.{HasRoom, Step}
-use Rattle.gr_book.proofs.Stepped.{answer_fits, answered, kept_step}
+use Rattle.gr_book.proofs.Legal.{holds_on, holds_still}
 use Rattle.gr_book.proofs.book.Book.step.Goals as goal
+
+pub invariant_of-self-in-Err : goal.invariant_of-self-in-Err
+invariant_of-self-in-Err c =
+    holds_still c.self.inside.content c.self.inside.journal.items c.make_room.new.journal.items (vec_capacity c.self.inside.journal) (vec_capacity c.make_room.new.journal)
+    c.make_room.ensures.items c.make_room.ensures.grows c.self.invariant
 
 pub invariant_of-self : goal.invariant_of-self
 invariant_of-self c =
-    let old : Machine = with_entries c.self.inside.content c.self.inside.entries in
-    let new = c.answer-reply.new.self in
-    let room : HasRoom old c.args.event = subst (λ (x : Machine). HasRoom x c.args.event) (sym c.self.view_is) (c.has_room.ensures.0 c.if-not-has_room.false) in
-    let answer = answered c.self.inside.content c.args.event c.answer-reply.result new c.answer-reply.ensures (c.is_kept.ensures.0 c.if-is_kept.true) in
-    let fits = answer_fits old c.self.invariant.3 c.args.event c.answer-reply.result new room answer in
-    (omega (arith, fits.next, c.self.invariant.0), omega (arith, fits.visit, c.self.invariant.1), omega (arith, fits.ticket, c.self.invariant.2), fits.room)
+    let room : HasRoom (with_journal c.self.inside.content c.self.inside.journal.items) c.args.event = subst (λ (x : Machine). HasRoom x c.args.event) (sym c.self.view_is) (c.has_room.ensures.0 c.if-not-has_room.false) in
+    let on = holds_on c.self.inside.content c.answer.new.content c.self.inside.journal.items c.make_room.new.journal.items c.answer.new.journal.items
+    (vec_capacity c.self.inside.journal) (vec_capacity c.make_room.new.journal) (vec_capacity c.answer.new.journal) c.args.event c.answer.result
+    c.self.invariant c.make_room.ensures.items c.make_room.ensures.grows c.answer.ensures.capacity room c.in-Ok.ensures.ok c.answer.ensures.keeps in
+    on.0
 
-pub returns-then-is_kept : goal.returns-then-is_kept
-returns-then-is_kept c =
-    let old : Machine = with_entries c.self.inside.content c.self.inside.entries in
-    let new = c.answer-reply.new.self in
-    let room : HasRoom old c.args.event = subst (λ (x : Machine). HasRoom x c.args.event) (sym c.self.view_is) (c.has_room.ensures.0 c.if-not-has_room.false) in
-    subst (λ (x : Machine). Step x c.args.event c.answer-reply.result (with_entries new (c.self.inside.entries + 1))) c.self.view_is
-    (kept_step old c.args.event c.answer-reply.result new room c.answer-reply.ensures (c.is_kept.ensures.0 c.if-is_kept.true))
+pub returns-in-Ok : goal.returns-in-Ok
+returns-in-Ok c =
+    let room : HasRoom (with_journal c.self.inside.content c.self.inside.journal.items) c.args.event = subst (λ (x : Machine). HasRoom x c.args.event) (sym c.self.view_is) (c.has_room.ensures.0 c.if-not-has_room.false) in
+    let on = holds_on c.self.inside.content c.answer.new.content c.self.inside.journal.items c.make_room.new.journal.items c.answer.new.journal.items
+    (vec_capacity c.self.inside.journal) (vec_capacity c.make_room.new.journal) (vec_capacity c.answer.new.journal) c.args.event c.answer.result
+    c.self.invariant c.make_room.ensures.items c.make_room.ensures.grows c.answer.ensures.capacity room c.in-Ok.ensures.ok c.answer.ensures.keeps in
+    subst (λ (x : Machine). Step x c.args.event c.answer.result (with_journal c.answer.new.content c.answer.new.journal.items)) c.self.view_is on.1
