@@ -1,0 +1,10 @@
+-- The answers to the goals of `identifier_places::identifier_places`.
+use Rattle.gr_bound.specs.Workspaces.{known_in}
+use Rattle.gr_check.specs.Preserved.{IsIdentifierAt}
+use Rattle.gr_check.proofs.Identifiers.{all_added}
+use Rattle.gr_check.proofs.identifier_places.identifier_places.Goals as goal
+
+pub returns : goal.returns
+returns c =
+    all_added c.new-places.result.items c.add_all.new.places.items (IsIdentifierAt c.args.graph.now (known_in c.args.found.now)) c.new-places.ensures.items
+    c.in_ok-add_all.ensures

@@ -1,0 +1,41 @@
+-- When a change preserves all bindings.
+use Rattle.std.specs.Prelude.{ℕ, []}
+use Rattle.gr_text.specs.Workspace.{Workspace}
+use Rattle.gr_text.specs.declared.place.Place.{Place}
+use Rattle.gr_declared.specs.Package.{Package}
+use Rattle.gr_verdict.specs.Verdicts.{Verdicts, AreVerdicts}
+use Rattle.gr_verdict.specs.FaultLists.{ListsFaults}
+use Rattle.gr_bound.specs.declared.declaration.Declaration.{Declaration}
+use Rattle.gr_bound.specs.Identifiers.{BeginsAt}
+use Rattle.gr_bound.specs.Uses.{IsPackage, IsUseOf}
+use Rattle.gr_revision.specs.Revisions.{Revision}
+use Rattle.gr_check.specs.Corresponding.{Corresponds}
+
+-- an identifier of some package, and no literal of an import, begins at the place
+pub record IsIdentifierAt (w : Workspace) (known : Verdicts) (place : Place) : Type 0 where
+  pub used_in : Package
+  pub is_package : IsPackage w known used_in
+  pub user : ℕ
+  pub begins : BeginsAt used_in place.path place.offset user
+
+-- a declaration that some use at a place is bound to, of two workspaces
+pub record IsBoundToOne (w : Workspace) (known : Verdicts) (place : Place) (P : Declaration → Type 0) : Type 0 where
+  pub declaration : Declaration
+  pub is_use : IsUseOf w known declaration place
+  pub holds : P declaration
+
+-- Each identifier is bound to a declaration exactly where it is afterwards bound to the one that this has become.
+pub record KeepsBindings (w : Workspace) (before : Verdicts) (r : Revision) (after : Verdicts) : Type 0 where
+  pub keeps : (place : Place) (d : Declaration) → IsUseOf w before d place →
+      IsBoundToOne r.after after (r.moved place) (λ e. Corresponds (IsPackage w before) (IsPackage r.after after) r.moved d e)
+  pub adds_none : (place : Place) (e : Declaration) → IsIdentifierAt w before place → IsUseOf r.after after e (r.moved place) →
+      IsBoundToOne w before place (λ d. Corresponds (IsPackage w before) (IsPackage r.after after) r.moved d e)
+
+-- No fault is there afterwards, and each identifier stays bound to what its declaration has become.
+pub record Preserves (w : Workspace) (r : Revision) : Type 0 where
+  pub before : Verdicts
+  pub right : AreVerdicts w before
+  pub after : Verdicts
+  pub right_after : AreVerdicts r.after after
+  pub sound : ListsFaults r.after []
+  pub kept : KeepsBindings w before r after

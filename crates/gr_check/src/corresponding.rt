@@ -1,0 +1,70 @@
+//! Whether a declaration has become another.
+ghost use Rattle.std.specs.Prelude.{ℕ, ◌≡◌, ◌↔◌, IsTrue, IfOk};
+ghost use Rattle.gr_edit.specs.Moved.{moved};
+ghost use Rattle.gr_check.specs.Held.{IsHeld};
+ghost use Rattle.gr_check.specs.Sound.{view_in};
+ghost use Rattle.gr_check.specs.Steps.{IsSamePredeclared, Becomes};
+
+use crate::held::SoundWorkspace;
+use gr_bound::Declaration;
+use gr_revision::Moves;
+use gr_text::{Path, Place};
+use std::alloc::AllocError;
+
+/// Whether two declarations are the same predeclared name.
+fn are_predeclared(d: &Declaration, e: &Declaration) -> bool
+    ensures { IsTrue result ↔ IsSamePredeclared d.now e.now }
+{
+    match d {
+        Declaration::Predeclared(m) => match e {
+            Declaration::Predeclared(n) => *m == *n,
+            Declaration::Declared(_, _) | Declaration::Field(_) | Declaration::Method(_) => false,
+        },
+        Declaration::Declared(_, _) | Declaration::Field(_) | Declaration::Method(_) => false,
+    }
+}
+
+fn is_path(one: &Path, other: &Path) -> bool
+    ensures { IsTrue result ↔ (one.now ≡ other.now) }
+{
+    one.as_str().as_bytes() == other.as_str().as_bytes()
+}
+
+/// Whether two places are the same.
+fn is_place(one: &Place, other: &Place) -> bool
+    ensures { IsTrue result ↔ (one.now ≡ other.now) }
+{
+    one.offset == other.offset && is_path(&one.path, &other.path)
+}
+
+/// Whether a place goes to another.
+fn goes_to(moves: &Moves<'_>, old: &Place, new: &Place) -> Result<bool, AllocError>
+    ensures { IfOk result (λ yes. IsTrue yes ↔ (moved moves.now old.now ≡ new.now)) }
+{
+    let place = moves.place(&old.path, old.offset)?;
+    Ok(is_place(&place, new))
+}
+
+/// Whether a declaration of the one workspace has become a declaration of the other.
+pub fn corresponds(
+    moves: &Moves<'_>,
+    before: &SoundWorkspace<'_>,
+    then: &SoundWorkspace<'_>,
+    d: &Declaration,
+    e: &Declaration,
+) -> Result<bool, AllocError>
+    requires before { IsHeld before.now }
+    requires then { IsHeld then.now }
+    ensures { IfOk result (λ yes. IsTrue yes ↔ Becomes (view_in before.now) (view_in then.now) (moved moves.now) d.now e.now) }
+{
+    if are_predeclared(d, e) {
+        return Ok(true);
+    }
+    match before.declared_at(d) {
+        None => Ok(false),
+        Some(old) => match then.declared_at(e) {
+            None => Ok(false),
+            Some(new) => goes_to(moves, old, new),
+        },
+    }
+}

@@ -1,0 +1,17 @@
+//! Whether an edit set preserves the bindings of a workspace.
+#![tactic(auto)]
+
+mod bound_here;
+mod corresponding;
+mod declared_places;
+mod held;
+mod identifier_places;
+mod keeping;
+mod places;
+mod preserving;
+mod sound_workspace;
+
+pub use corresponding::corresponds;
+pub use held::SoundWorkspace;
+pub use places::{beginning, name_beginning, place_of};
+pub use preserving::preserves;

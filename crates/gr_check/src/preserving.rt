@@ -1,0 +1,94 @@
+//! Whether a change preserves the bindings of a workspace.
+ghost use Rattle.std.specs.Prelude.{◌≡◌, ◌↔◌, [], IsTrue, IfOk, MatchBool};
+ghost use Rattle.gr_edit.specs.EditSet.{edited};
+ghost use Rattle.gr_edit.specs.Moved.{moved};
+ghost use Rattle.gr_verdict.specs.FaultLists.{ListsFaults};
+ghost use Rattle.gr_verdict.specs.Found.{AreFindings};
+ghost use Rattle.gr_bound.specs.Workspaces.{IsSound, known_in};
+ghost use Rattle.gr_check.specs.Held.{IsHeld};
+ghost use Rattle.gr_check.specs.Preserved.{KeepsBindings, Preserves};
+ghost use Rattle.gr_check.specs.Sound.{view_in};
+ghost use Rattle.gr_check.specs.Steps.{KeepsAll, AddsNowhere};
+ghost use Rattle.gr_revision.specs.RevisionsOfEdits.{revision_of};
+
+use crate::held::SoundWorkspace;
+use crate::keeping::{adds_nowhere, are_kept};
+use gr_bound::refuse_faults;
+use gr_edit::EditSet;
+use gr_graph::Graph;
+use gr_revision::Moves;
+use gr_text::Refusal;
+use gr_verdict::{Findings, verdicts};
+use std::alloc::{AllocError, Global};
+
+/// Whether each identifier of a workspace stays bound to what its declaration becomes in another.
+fn keeps(
+    alloc: Global,
+    moves: &Moves<'_>,
+    before: &SoundWorkspace<'_>,
+    then: &SoundWorkspace<'_>,
+) -> Result<bool, AllocError>
+    requires before { IsHeld before.now }
+    requires then { IsHeld then.now }
+    ensures { IfOk result (λ kept. IsTrue kept
+        ↔ (KeepsAll (view_in before.now) (view_in then.now) (moved moves.now) × AddsNowhere (view_in before.now) (view_in then.now) (moved moves.now))) }
+{
+    if are_kept(moves, before, then)? {
+        adds_nowhere(alloc, moves, before, then)
+    } else {
+        Ok(false)
+    }
+}
+
+/// Whether each identifier of a workspace without faults is bound, in another without faults, to what its declaration has become.
+fn keeps_bindings(
+    alloc: Global,
+    graph: &Graph,
+    found: &Findings,
+    edits: &EditSet,
+    after: &Graph,
+    found_after: &Findings,
+) -> Result<bool, AllocError>
+    requires sound { IsSound graph.now found.now }
+    requires after { after.now ≡ edited edits.now graph.now }
+    requires sound_after { IsSound after.now found_after.now }
+    ensures { IfOk result (λ kept. IsTrue kept ↔ KeepsBindings graph.now (known_in found.now) (revision_of graph.now edits.now) (known_in found_after.now)) }
+{
+    let moves = Moves::of(alloc, edits)?;
+    let before = SoundWorkspace::of(alloc, graph, found)?;
+    let then = SoundWorkspace::of(alloc, after, found_after)?;
+    keeps(alloc, &moves, &before, &then)
+}
+
+/// Whether nothing that was found in a workspace is a fault.
+fn is_sound(alloc: Global, graph: &Graph, found: &Findings) -> Result<bool, AllocError>
+    requires { AreFindings graph.now found.now }
+    ensures { IfOk result (λ sound. MatchBool sound (IsSound graph.now found.now) (ListsFaults graph.now [] → ⊥)) }
+{
+    match refuse_faults(alloc, graph, found) {
+        Ok(()) => Ok(true),
+        Err(Refusal::Memory) => Err(AllocError),
+        Err(_) => Ok(false),
+    }
+}
+
+/// Whether an edit set leaves a workspace without faults in which each identifier is bound to what its declaration has become.
+/// `after` is the edited workspace.
+pub fn preserves(
+    alloc: Global,
+    graph: &Graph,
+    found: &Findings,
+    edits: &EditSet,
+    after: &Graph,
+) -> Result<bool, AllocError>
+    requires sound { IsSound graph.now found.now }
+    requires after { after.now ≡ edited edits.now graph.now }
+    ensures { IfOk result (λ kept. IsTrue kept ↔ Preserves graph.now (revision_of graph.now edits.now)) }
+{
+    let found_after = verdicts(alloc, after)?;
+    if is_sound(alloc, after, &found_after)? {
+        keeps_bindings(alloc, graph, found, edits, after, &found_after)
+    } else {
+        Ok(false)
+    }
+}
