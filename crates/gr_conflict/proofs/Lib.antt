@@ -1,0 +1,4 @@
+-- The lemmas of this crate.
+pub mod Beginnings
+pub mod Taking
+pub mod Telling

@@ -1,0 +1,462 @@
+//! The identifiers of one package, each judged alone by the way in which it was bound.
+ghost use Rattle.std.specs.Prelude.{◌<◌, length, map, OnOk};
+ghost use Rattle.gr_text.specs.Packages.{package_paths};
+ghost use Rattle.gr_expr.specs.Found.{use_of};
+ghost use Rattle.gr_declared.specs.PackageView.{package_of, IsIndexOf};
+ghost use Rattle.gr_bound.specs.Binding.{BindsByScope, BindsByPackage, IsBehindPackage};
+ghost use Rattle.gr_bound.specs.Members.{definitions_seen};
+ghost use Rattle.gr_bound.specs.Workspaces.{known_in, IsPackageAt};
+ghost use Rattle.gr_conflict.specs.Conflicts.{IsConflictIn, IsOf, IsAtToken, IsAtFound, IsMemberConflict, IsMemberConflictAmong, Takes};
+ghost use Rattle.gr_conflict.specs.Judging.{KnowsChange, known_packages};
+
+use crate::beginning::{beginning, token_beginning};
+use crate::conflict::Conflict;
+use crate::judge::Judge;
+use crate::noting::note;
+use crate::now::{now_by_member, now_by_name, now_by_package, now_by_scope};
+use crate::old_places::symbol;
+use gr_bound::exports::exported;
+use gr_bound::{
+    Declaration, declaration_in_scope, field_places, member_declaration, members_of, method_places,
+    own_of, package_before,
+};
+use gr_declared::{Index, Package};
+use gr_expr::found::MemberUse;
+use gr_expr::world::Definition;
+use gr_meanings::one_world;
+use gr_scope::model::Position;
+use gr_text::Place;
+use std::alloc::{AllocError, Global};
+
+/// Judges the identifier at a place that the scopes of its package bind to a declaration.
+fn note_by_scope(
+    first: &mut Option<Conflict>,
+    judge: &Judge<'_, '_, '_>,
+    place: Place,
+    old: &Declaration,
+) -> Result<(), AllocError>
+    requires { KnowsChange judge.now }
+    ensures { OnOk result (Takes (IsOf place) first.old first.new) }
+{
+    let now = now_by_scope(judge, &place)?;
+    note(judge, first, place, old, now)
+}
+
+/// Judges an identifier that the scopes of its package bind to a declaration.
+fn judge_bound(
+    first: &mut Option<Conflict>,
+    judge: &Judge<'_, '_, '_>,
+    unit: Package<'_>,
+    u: usize,
+    old: &Declaration,
+) -> Result<(), AllocError>
+    requires knows { KnowsChange judge.now }
+    requires in_range { u < length unit.table.now.sites }
+    requires was { BindsByScope (package_of unit) u old.now }
+    ensures { OnOk result (Takes (IsConflictIn (known_packages judge.now) (package_of unit.entry)) first.old first.new) }
+{
+    match beginning(unit, u)? {
+        None => Ok(()),
+        Some(place) => note_by_scope(first, judge, place, old),
+    }
+}
+
+/// Judges an identifier, if the scopes of its package bind it.
+fn judge_by_scope(
+    first: &mut Option<Conflict>,
+    judge: &Judge<'_, '_, '_>,
+    unit: Package<'_>,
+    u: usize,
+) -> Result<(), AllocError>
+    requires knows { KnowsChange judge.now }
+    requires in_range { u < length unit.table.now.sites }
+    ensures { OnOk result (Takes (IsConflictIn (known_packages judge.now) (package_of unit.entry)) first.old first.new) }
+{
+    match declaration_in_scope(unit, u)? {
+        None => Ok(()),
+        Some(old) => judge_bound(first, judge, unit, u, &old),
+    }
+}
+
+/// Judges the identifier at a place that is a name which the package of a path exports.
+fn note_by_package(
+    first: &mut Option<Conflict>,
+    judge: &Judge<'_, '_, '_>,
+    behind: &[u8],
+    name: &[u8],
+    place: Place,
+    old: &Declaration,
+) -> Result<(), AllocError>
+    requires { KnowsChange judge.now }
+    ensures { OnOk result (Takes (IsOf place) first.old first.new) }
+{
+    let now = now_by_package(judge, behind, &place, name)?;
+    note(judge, first, place, old, now)
+}
+
+/// Judges an identifier that stands behind the name of the package of a path, which exports a declaration under its name.
+fn judge_exported(
+    first: &mut Option<Conflict>,
+    judge: &Judge<'_, '_, '_>,
+    unit: Package<'_>,
+    behind: &[u8],
+    u: usize,
+    old: &Declaration,
+) -> Result<(), AllocError>
+    requires knows { KnowsChange judge.now }
+    requires in_range { u < length unit.table.now.sites }
+    requires was { BindsByPackage (known_packages judge.now) (package_of unit) u old.now }
+    ensures { OnOk result (Takes (IsConflictIn (known_packages judge.now) (package_of unit.entry)) first.old first.new) }
+{
+    match beginning(unit, u)? {
+        None => Ok(()),
+        Some(place) => note_by_package(first, judge, behind, unit.table.name(u), place, old),
+    }
+}
+
+/// Judges an identifier that stands behind the name of the package of a path, if that exports its name.
+fn judge_behind(
+    first: &mut Option<Conflict>,
+    judge: &Judge<'_, '_, '_>,
+    unit: Package<'_>,
+    behind: &[u8],
+    u: usize,
+) -> Result<(), AllocError>
+    requires knows { KnowsChange judge.now }
+    requires in_range { u < length unit.table.now.sites }
+    requires behind { IsBehindPackage (package_of unit) u behind.now }
+    ensures { OnOk result (Takes (IsConflictIn (known_packages judge.now) (package_of unit.entry)) first.old first.new) }
+{
+    let name = unit.table.name(u);
+    match exported(judge.graph, judge.found, judge.exports, behind, name)? {
+        None => Ok(()),
+        Some(old) => judge_exported(first, judge, unit, behind, u, &old),
+    }
+}
+
+/// Judges an identifier, if it stands behind the name of a package.
+fn judge_by_package(
+    first: &mut Option<Conflict>,
+    judge: &Judge<'_, '_, '_>,
+    unit: Package<'_>,
+    index: &Index<'_>,
+    u: usize,
+) -> Result<(), AllocError>
+    requires knows { KnowsChange judge.now }
+    requires index { IsIndexOf (package_of unit) index.now }
+    requires in_range { u < length unit.table.now.sites }
+    ensures { OnOk result (Takes (IsConflictIn (known_packages judge.now) (package_of unit.entry)) first.old first.new) }
+{
+    match package_before(unit, index, u) {
+        None => Ok(()),
+        Some(behind) => judge_behind(first, judge, unit, behind, u),
+    }
+}
+
+/// Judges the identifiers of a package that are bound to a declaration of a scope.
+fn judge_numbers(
+    first: &mut Option<Conflict>,
+    judge: &Judge<'_, '_, '_>,
+    unit: Package<'_>,
+    index: &Index<'_>,
+) -> Result<(), AllocError>
+    requires knows { KnowsChange judge.now }
+    requires index { IsIndexOf (package_of unit) index.now }
+    ensures { OnOk result (Takes (IsConflictIn (known_packages judge.now) (package_of unit.entry)) first.old first.new) }
+{
+    for u in 0..unit.table.len() {
+        judge_by_scope(first, judge, unit, u)?;
+        judge_by_package(first, judge, unit, index, u)?;
+    }
+    Ok(())
+}
+
+/// Judges the name at a place that is used as a member.
+fn note_by_member(
+    first: &mut Option<Conflict>,
+    judge: &Judge<'_, '_, '_>,
+    unit: Package<'_>,
+    own: &[Definition],
+    at: Position,
+    found: &MemberUse,
+    place: Place,
+    old: &Declaration,
+) -> Result<(), AllocError>
+    requires { KnowsChange judge.now }
+    ensures { OnOk result (Takes (IsOf place) first.old first.new) }
+{
+    let name = unit.spelling(at.file, at.index);
+    let now = now_by_member(judge, unit, own, found, &place, name)?;
+    note(judge, first, place, old, now)
+}
+
+/// Judges the identifier at a token that is used as a member, if one stands there.
+fn judge_token(
+    first: &mut Option<Conflict>,
+    judge: &Judge<'_, '_, '_>,
+    unit: Package<'_>,
+    index: &Index<'_>,
+    own: &[Definition],
+    at: Position,
+    found: &MemberUse,
+    old: &Declaration,
+) -> Result<(), AllocError>
+    requires knows { KnowsChange judge.now }
+    requires index { IsIndexOf (package_of unit) index.now }
+    ensures { OnOk result (Takes (IsAtToken (package_of unit.entry) at) first.old first.new) }
+{
+    match token_beginning(unit, index, at)? {
+        None => Ok(()),
+        Some(place) => note_by_member(first, judge, unit, own, at, found, place, old),
+    }
+}
+
+/// Judges a name behind another dot, or a key.
+fn judge_by_member(
+    first: &mut Option<Conflict>,
+    judge: &Judge<'_, '_, '_>,
+    unit: Package<'_>,
+    index: &Index<'_>,
+    own: &[Definition],
+    file: usize,
+    found: &MemberUse,
+) -> Result<(), AllocError>
+    requires knows { KnowsChange judge.now }
+    requires index { IsIndexOf (package_of unit) index.now }
+    ensures { OnOk result (Takes (IsMemberConflict (definitions_seen unit.entry own.now) (package_of unit.entry) file (use_of found.now)) first.old first.new) }
+{
+    match member_declaration(unit, own, file, found)? {
+        None => Ok(()),
+        Some(old) => {
+            let at = Position {
+                file,
+                index: found.place,
+            };
+            judge_token(first, judge, unit, index, own, at, found, &old)
+        }
+    }
+}
+
+/// Judges the members that are used in a file.
+fn judge_file(
+    first: &mut Option<Conflict>,
+    judge: &Judge<'_, '_, '_>,
+    unit: Package<'_>,
+    index: &Index<'_>,
+    own: &[Definition],
+    file: usize,
+    uses: &[MemberUse],
+) -> Result<(), AllocError>
+    requires knows { KnowsChange judge.now }
+    requires index { IsIndexOf (package_of unit) index.now }
+    ensures { OnOk result (Takes (IsMemberConflictAmong (definitions_seen unit.entry own.now) (package_of unit.entry) file (map use_of uses.now)) first.old first.new) }
+{
+    for k in 0..uses.len() {
+        judge_by_member(first, judge, unit, index, own, file, &uses[k])?;
+    }
+    Ok(())
+}
+
+/// Judges the members that are used in the package of a number.
+fn judge_members(
+    first: &mut Option<Conflict>,
+    judge: &Judge<'_, '_, '_>,
+    unit: Package<'_>,
+    index: &Index<'_>,
+    number: usize,
+) -> Result<(), AllocError>
+    requires in_range { number < length (package_paths judge.now.graph.now) }
+    requires knows { KnowsChange judge.now }
+    requires index { IsIndexOf (package_of unit) index.now }
+    requires is_package { IsPackageAt judge.now.graph.now (known_in judge.now.found.now) number (package_of unit) }
+    ensures { OnOk result (Takes (IsConflictIn (known_packages judge.now) (package_of unit.entry)) first.old first.new) }
+{
+    unit.table.is_well_formed();
+    one_world(unit);
+    let own = own_of(judge.graph, judge.found, number);
+    let members = members_of(judge.graph, judge.found, number);
+    for file in 0..members.len() {
+        judge_file(first, judge, unit, index, own, file, &members[file])?;
+    }
+    Ok(())
+}
+
+/// Judges the name at a place by which a field or method is declared.
+fn note_by_name(
+    first: &mut Option<Conflict>,
+    judge: &Judge<'_, '_, '_>,
+    place: Place,
+    old: &Declaration,
+) -> Result<(), AllocError>
+    requires { KnowsChange judge.now }
+    ensures { OnOk result (Takes (IsOf place) first.old first.new) }
+{
+    let now = now_by_name(judge, old)?;
+    note(judge, first, place, old, now)
+}
+
+/// Judges the name by which a field or method is declared, if an identifier stands there.
+fn judge_by_name(
+    first: &mut Option<Conflict>,
+    judge: &Judge<'_, '_, '_>,
+    unit: Package<'_>,
+    index: &Index<'_>,
+    at: Position,
+    old: &Declaration,
+) -> Result<(), AllocError>
+    requires knows { KnowsChange judge.now }
+    requires index { IsIndexOf (package_of unit) index.now }
+    ensures { OnOk result (Takes (IsAtToken (package_of unit.entry) at) first.old first.new) }
+{
+    match token_beginning(unit, index, at)? {
+        None => Ok(()),
+        Some(place) => note_by_name(first, judge, place, old),
+    }
+}
+
+/// Judges the name of the field of a rank.
+fn judge_field(
+    first: &mut Option<Conflict>,
+    judge: &Judge<'_, '_, '_>,
+    unit: Package<'_>,
+    index: &Index<'_>,
+    at: Position,
+    rank: usize,
+) -> Result<(), AllocError>
+    requires knows { KnowsChange judge.now }
+    requires index { IsIndexOf (package_of unit) index.now }
+    ensures { OnOk result (Takes (IsAtToken (package_of unit.entry) at) first.old first.new) }
+{
+    let symbol = symbol(unit.path, rank)?;
+    let old = Declaration::Field(symbol);
+    judge_by_name(first, judge, unit, index, at, &old)
+}
+
+/// The same, if it counts.
+fn judge_counting_field(
+    first: &mut Option<Conflict>,
+    judge: &Judge<'_, '_, '_>,
+    unit: Package<'_>,
+    index: &Index<'_>,
+    at: Option<Position>,
+    rank: usize,
+) -> Result<(), AllocError>
+    requires knows { KnowsChange judge.now }
+    requires index { IsIndexOf (package_of unit) index.now }
+    ensures { OnOk result (Takes (IsAtFound (package_of unit.entry) at) first.old first.new) }
+{
+    match at {
+        None => Ok(()),
+        Some(at) => judge_field(first, judge, unit, index, at, rank),
+    }
+}
+
+/// Judges the names by which the fields of a package are declared.
+fn judge_fields(
+    alloc: Global,
+    first: &mut Option<Conflict>,
+    judge: &Judge<'_, '_, '_>,
+    unit: Package<'_>,
+    index: &Index<'_>,
+) -> Result<(), AllocError>
+    requires knows { KnowsChange judge.now }
+    requires index { IsIndexOf (package_of unit) index.now }
+    ensures { OnOk result (Takes (IsConflictIn (known_packages judge.now) (package_of unit.entry)) first.old first.new) }
+{
+    let fields = field_places(alloc, unit, index)?;
+    for rank in 0..fields.len() {
+        judge_counting_field(first, judge, unit, index, fields[rank], rank)?;
+    }
+    Ok(())
+}
+
+/// Judges the name of the method of a rank.
+fn judge_method(
+    first: &mut Option<Conflict>,
+    judge: &Judge<'_, '_, '_>,
+    unit: Package<'_>,
+    index: &Index<'_>,
+    at: Position,
+    rank: usize,
+) -> Result<(), AllocError>
+    requires knows { KnowsChange judge.now }
+    requires index { IsIndexOf (package_of unit) index.now }
+    ensures { OnOk result (Takes (IsAtToken (package_of unit.entry) at) first.old first.new) }
+{
+    let symbol = symbol(unit.path, rank)?;
+    let old = Declaration::Method(symbol);
+    judge_by_name(first, judge, unit, index, at, &old)
+}
+
+/// The same, if it counts.
+fn judge_counting_method(
+    first: &mut Option<Conflict>,
+    judge: &Judge<'_, '_, '_>,
+    unit: Package<'_>,
+    index: &Index<'_>,
+    at: Option<Position>,
+    rank: usize,
+) -> Result<(), AllocError>
+    requires knows { KnowsChange judge.now }
+    requires index { IsIndexOf (package_of unit) index.now }
+    ensures { OnOk result (Takes (IsAtFound (package_of unit.entry) at) first.old first.new) }
+{
+    match at {
+        None => Ok(()),
+        Some(at) => judge_method(first, judge, unit, index, at, rank),
+    }
+}
+
+/// Judges the names by which the methods of a package are declared.
+fn judge_methods(
+    alloc: Global,
+    first: &mut Option<Conflict>,
+    judge: &Judge<'_, '_, '_>,
+    unit: Package<'_>,
+    index: &Index<'_>,
+) -> Result<(), AllocError>
+    requires knows { KnowsChange judge.now }
+    requires index { IsIndexOf (package_of unit) index.now }
+    ensures { OnOk result (Takes (IsConflictIn (known_packages judge.now) (package_of unit.entry)) first.old first.new) }
+{
+    let methods = method_places(alloc, unit, index)?;
+    for rank in 0..methods.len() {
+        judge_counting_method(first, judge, unit, index, methods[rank], rank)?;
+    }
+    Ok(())
+}
+
+/// Judges the names by which the fields and methods of a package are declared.
+fn judge_names(
+    alloc: Global,
+    first: &mut Option<Conflict>,
+    judge: &Judge<'_, '_, '_>,
+    unit: Package<'_>,
+    index: &Index<'_>,
+) -> Result<(), AllocError>
+    requires knows { KnowsChange judge.now }
+    requires index { IsIndexOf (package_of unit) index.now }
+    ensures { OnOk result (Takes (IsConflictIn (known_packages judge.now) (package_of unit.entry)) first.old first.new) }
+{
+    judge_fields(alloc, first, judge, unit, index)?;
+    judge_methods(alloc, first, judge, unit, index)
+}
+
+/// Judges all identifiers of the package of a number.
+pub fn judge_unit(
+    alloc: Global,
+    first: &mut Option<Conflict>,
+    judge: &Judge<'_, '_, '_>,
+    unit: Package<'_>,
+    number: usize,
+) -> Result<(), AllocError>
+    requires in_range { number < length (package_paths judge.now.graph.now) }
+    requires knows { KnowsChange judge.now }
+    requires is_package { IsPackageAt judge.now.graph.now (known_in judge.now.found.now) number (package_of unit) }
+    ensures { OnOk result (Takes (IsConflictIn (known_packages judge.now) (package_of unit.entry)) first.old first.new) }
+{
+    let index = Index::of(alloc, unit)?;
+    judge_numbers(first, judge, unit, &index)?;
+    judge_members(first, judge, unit, &index, number)?;
+    judge_names(alloc, first, judge, unit, &index)
+}

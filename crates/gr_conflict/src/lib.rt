@@ -1,0 +1,16 @@
+//! The identifiers that a change would lose or capture.
+#![tactic(auto)]
+
+mod beginning;
+mod conflict;
+mod declared_places;
+mod first;
+mod first_identifier;
+mod judge;
+mod judging;
+mod noting;
+mod now;
+mod old_places;
+
+pub use conflict::{Capturer, Conflict, told};
+pub use first::first_conflict;

@@ -1,0 +1,142 @@
+//! The first identifier that is lost or captured of those that were judged.
+ghost use Rattle.std.specs.Prelude.{◌≡◌, ◌↔◌, IsTrue, OnOk};
+ghost use Rattle.gr_bound.specs.declared.declaration.Declaration.TheVariants.{Predeclared, Declared, Field, Method};
+ghost use Rattle.gr_bound.specs.Places.{place_cmp};
+ghost use Rattle.gr_conflict.specs.Conflicts.{IsOf, Takes};
+
+use crate::conflict::{Capturer, Conflict};
+use crate::declared_places::declared_at;
+use crate::judge::Judge;
+use gr_bound::Declaration;
+use gr_expr::symbol::{SharedPath, Symbol};
+use gr_text::Place;
+use std::alloc::AllocError;
+use std::cmp::Ordering;
+
+/// Whether a declaration is the predeclared name of a number.
+fn is_predeclared(declaration: &Declaration, number: usize) -> bool
+    ensures { IsTrue result ↔ (Predeclared number ≡ declaration.now) }
+{
+    match declaration {
+        Declaration::Predeclared(d) => *d == number,
+        Declaration::Declared(_, _) | Declaration::Field(_) | Declaration::Method(_) => false,
+    }
+}
+
+/// Whether a declaration is that of a number in the package of a path.
+fn is_declared(declaration: &Declaration, path: &SharedPath, number: usize) -> bool
+    ensures { IsTrue result ↔ (Declared path.now number ≡ declaration.now) }
+{
+    match declaration {
+        Declaration::Declared(other, d) => *d == number && path.path() == other.path(),
+        Declaration::Predeclared(_) | Declaration::Field(_) | Declaration::Method(_) => false,
+    }
+}
+
+/// Whether a declaration is the field of a symbol.
+fn is_field(declaration: &Declaration, symbol: &Symbol) -> bool
+    ensures { IsTrue result ↔ (Field symbol.now ≡ declaration.now) }
+{
+    match declaration {
+        Declaration::Field(other) => symbol.same(other),
+        Declaration::Predeclared(_) | Declaration::Declared(_, _) | Declaration::Method(_) => false,
+    }
+}
+
+/// Whether a declaration is the method of a symbol.
+fn is_method(declaration: &Declaration, symbol: &Symbol) -> bool
+    ensures { IsTrue result ↔ (Method symbol.now ≡ declaration.now) }
+{
+    match declaration {
+        Declaration::Method(other) => symbol.same(other),
+        Declaration::Predeclared(_) | Declaration::Declared(_, _) | Declaration::Field(_) => false,
+    }
+}
+
+/// Whether two declarations of one workspace are the same.
+fn is_same(one: &Declaration, other: &Declaration) -> bool
+    ensures { IsTrue result ↔ (one.now ≡ other.now) }
+{
+    match one {
+        Declaration::Predeclared(d) => is_predeclared(other, *d),
+        Declaration::Declared(path, d) => is_declared(other, path, *d),
+        Declaration::Field(symbol) => is_field(other, symbol),
+        Declaration::Method(symbol) => is_method(other, symbol),
+    }
+}
+
+/// How two places compare: by their paths' bytes, then by their offsets.
+pub fn compare(a: &Place, b: &Place) -> Ordering
+    ensures { result ≡ place_cmp a.now b.now }
+{
+    let by_path = a.path.cmp(&b.path);
+    by_path.then(a.offset.cmp(&b.offset))
+}
+
+/// Whether a place stands before that of the conflict that was found first, if there is one.
+fn is_before(place: &Place, first: &Option<Conflict>) -> bool {
+    match first {
+        None => true,
+        Some(conflict) => compare(place, &conflict.used).is_lt(),
+    }
+}
+
+/// Keeps a conflict, if it stands before the one that was found first.
+fn keep(first: &mut Option<Conflict>, used: Place, by: Option<Capturer>)
+    ensures { Takes (IsOf used) first.old first.new }
+{
+    if !is_before(&used, first) {
+        return;
+    }
+    *first = Some(Conflict { used, by });
+}
+
+/// What is told of a declaration that captures.
+fn capturer(judge: &Judge<'_, '_, '_>, declaration: &Declaration) -> Result<Capturer, AllocError> {
+    match declared_at(judge.graph, judge.places, declaration) {
+        None => Ok(Capturer::Universe),
+        Some(place) => Ok(Capturer::At(Place {
+            path: place.path.clone()?,
+            offset: place.offset,
+        })),
+    }
+}
+
+/// Notes the identifier at a place where it is bound to another declaration than before, and stands before the conflict that was
+/// found.
+fn note_bound(
+    judge: &Judge<'_, '_, '_>,
+    first: &mut Option<Conflict>,
+    used: Place,
+    old: &Declaration,
+    now: &Declaration,
+) -> Result<(), AllocError>
+    ensures { OnOk result (Takes (IsOf used) first.old first.new) }
+{
+    if is_same(old, now) {
+        return Ok(());
+    }
+    let by = capturer(judge, now)?;
+    keep(first, used, Some(by));
+    Ok(())
+}
+
+/// Notes the identifier at a place where it is bound to another declaration than before, or to none, and stands before the
+/// conflict that was found.
+pub fn note(
+    judge: &Judge<'_, '_, '_>,
+    first: &mut Option<Conflict>,
+    used: Place,
+    old: &Declaration,
+    now: Option<Declaration>,
+) -> Result<(), AllocError>
+    ensures { OnOk result (Takes (IsOf used) first.old first.new) }
+{
+    match now {
+        None => {
+            keep(first, used, None);
+            Ok(())
+        }
+        Some(declaration) => note_bound(judge, first, used, old, &declaration),
+    }
+}

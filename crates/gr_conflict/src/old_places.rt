@@ -1,0 +1,185 @@
+//! The declarations of a workspace by the places to which a change moves them.
+ghost use Rattle.std.specs.Prelude.{◌≡◌, ◌<◌, length, IfOk};
+ghost use Rattle.std.specs.List.Sorted.{IsSortedBy};
+ghost use Rattle.std.specs.Ordering.{is_lt};
+ghost use Rattle.gr_text.specs.Packages.{package_paths};
+ghost use Rattle.gr_bound.specs.Bindings.{place_at};
+ghost use Rattle.gr_bound.specs.Places.{place_cmp};
+ghost use Rattle.gr_bound.specs.Workspaces.{IsSound};
+
+use crate::declared_places::DeclaredPlaces;
+use gr_bound::bindings::{find, sort};
+use gr_bound::{BoundSpot, Declaration, Spot, path_of};
+use gr_expr::symbol::{SharedPath, Symbol};
+use gr_graph::Graph;
+use gr_revision::Moves;
+use gr_text::Place;
+use gr_verdict::Findings;
+use std::alloc::{AllocError, Global};
+
+/// Adds a declaration by the place to which it goes.
+fn add_moved(
+    found: &mut Vec<BoundSpot>,
+    moves: &Moves<'_>,
+    place: &Place,
+    declaration: Declaration,
+) -> Result<(), AllocError> {
+    let Place { path, offset } = moves.place(&place.path, place.offset)?;
+    let spot = Spot { path, offset };
+    found.push(BoundSpot { spot, declaration })?;
+    Ok(())
+}
+
+/// The field or method of a rank in a package.
+pub fn symbol(path: &SharedPath, rank: usize) -> Result<Symbol, AllocError> {
+    let package = path.clone()?;
+    Ok(Symbol { package, rank })
+}
+
+/// Adds a declaration of a package's scopes, if it stands somewhere.
+fn add_name(
+    found: &mut Vec<BoundSpot>,
+    moves: &Moves<'_>,
+    path: &SharedPath,
+    d: usize,
+    place: &Option<Place>,
+) -> Result<(), AllocError> {
+    match place {
+        None => Ok(()),
+        Some(place) => {
+            let package = path.clone()?;
+            add_moved(found, moves, place, Declaration::Declared(package, d))
+        }
+    }
+}
+
+/// Adds the declarations of a package's scopes.
+fn add_names(
+    found: &mut Vec<BoundSpot>,
+    moves: &Moves<'_>,
+    path: &SharedPath,
+    names: &[Option<Place>],
+) -> Result<(), AllocError> {
+    for d in 0..names.len() {
+        add_name(found, moves, path, d, &names[d])?;
+    }
+    Ok(())
+}
+
+/// Adds a field of a package, if it stands somewhere.
+fn add_field(
+    found: &mut Vec<BoundSpot>,
+    moves: &Moves<'_>,
+    path: &SharedPath,
+    rank: usize,
+    place: &Option<Place>,
+) -> Result<(), AllocError> {
+    match place {
+        None => Ok(()),
+        Some(place) => {
+            let field = symbol(path, rank)?;
+            add_moved(found, moves, place, Declaration::Field(field))
+        }
+    }
+}
+
+/// Adds the fields of a package.
+fn add_fields(
+    found: &mut Vec<BoundSpot>,
+    moves: &Moves<'_>,
+    path: &SharedPath,
+    fields: &[Option<Place>],
+) -> Result<(), AllocError> {
+    for rank in 0..fields.len() {
+        add_field(found, moves, path, rank, &fields[rank])?;
+    }
+    Ok(())
+}
+
+/// Adds a method of a package, if it stands somewhere.
+fn add_method(
+    found: &mut Vec<BoundSpot>,
+    moves: &Moves<'_>,
+    path: &SharedPath,
+    rank: usize,
+    place: &Option<Place>,
+) -> Result<(), AllocError> {
+    match place {
+        None => Ok(()),
+        Some(place) => {
+            let method = symbol(path, rank)?;
+            add_moved(found, moves, place, Declaration::Method(method))
+        }
+    }
+}
+
+/// Adds the methods of a package.
+fn add_methods(
+    found: &mut Vec<BoundSpot>,
+    moves: &Moves<'_>,
+    path: &SharedPath,
+    methods: &[Option<Place>],
+) -> Result<(), AllocError> {
+    for rank in 0..methods.len() {
+        add_method(found, moves, path, rank, &methods[rank])?;
+    }
+    Ok(())
+}
+
+/// Adds the declarations of a package.
+fn add_package(
+    found: &mut Vec<BoundSpot>,
+    moves: &Moves<'_>,
+    path: &SharedPath,
+    places: &DeclaredPlaces,
+) -> Result<(), AllocError> {
+    add_names(found, moves, path, &places.names)?;
+    add_fields(found, moves, path, &places.fields)?;
+    add_methods(found, moves, path, &places.methods)
+}
+
+/// Adds the declarations of all packages.
+fn add_all(
+    old: &mut Vec<BoundSpot>,
+    graph: &Graph,
+    found: &Findings,
+    places: &[DeclaredPlaces],
+    moves: &Moves<'_>,
+) -> Result<(), AllocError>
+    requires sound { IsSound graph.now found.now }
+    requires places { length places.now ≡ length (package_paths graph.now) }
+{
+    for number in 0..graph.len() {
+        let path = path_of(graph, found, number);
+        add_package(old, moves, path, &places[number])?;
+    }
+    Ok(())
+}
+
+/// The declarations of a workspace, sorted by the places to which they go.
+pub fn old_places(
+    alloc: Global,
+    graph: &Graph,
+    found: &Findings,
+    places: &[DeclaredPlaces],
+    moves: &Moves<'_>,
+) -> Result<Vec<BoundSpot>, AllocError>
+    requires sound { IsSound graph.now found.now }
+    requires places { length places.now ≡ length (package_paths graph.now) }
+    ensures { IfOk result (λ old. IsSortedBy (λ a b. is_lt (place_cmp (place_at a) (place_at b))) old.items) }
+{
+    let mut old = Vec::new(alloc);
+    add_all(&mut old, graph, found, places, moves)?;
+    sort(&mut old);
+    Ok(old)
+}
+
+/// The declaration that has gone to a place.
+pub fn before_of<'a>(old: &'a [BoundSpot], place: &Place) -> Option<&'a Declaration>
+    requires { IsSortedBy (λ a b. is_lt (place_cmp (place_at a) (place_at b))) old.now }
+{
+    match find(old, place) {
+        None => None,
+        Some(found) => Some(&found.declaration),
+    }
+}

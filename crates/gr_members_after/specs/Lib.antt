@@ -1,0 +1,4 @@
+-- The definitions of this crate.
+pub mod MembersAfter
+pub mod NewNames
+pub mod NewMembers

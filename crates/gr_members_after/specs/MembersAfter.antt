@@ -1,0 +1,101 @@
+-- The members that types have under the new names of a change: types, their structs and their methods are those of the workspace
+-- before, and only the names are new. IsPackage: the packages of that workspace.
+use Rattle.std.specs.Prelude.{ℕ, ◌≡◌, ◌⊎◌, ◌<◌, true, List, Option, Some, slice_get}
+use Rattle.gr_text.specs.declared.place.Place.{Place}
+use Rattle.gr_scope.specs.declared.model.Position.{Position}
+use Rattle.gr_imports.specs.Laid.{is_exported}
+use Rattle.gr_expr.specs.declared.symbol.Symbol.{Symbol}
+use Rattle.gr_expr.specs.Types.{PlainType, Defined, Underlying}
+use Rattle.gr_expr.specs.Types.{Struct as StructOf}
+use Rattle.gr_expr.specs.World.{struct_behind, owner}
+use Rattle.gr_declared.specs.Package.{Package, PlacedFunction, package_functions, function_place, symbol_in, spelled}
+use Rattle.gr_declared.specs.Definitions.{PlacedField, package_fields, HasUnderlying}
+use Rattle.gr_members.specs.MethodsView.{IsOwner}
+use Rattle.gr_bound.specs.declared.declaration.Declaration.{Declaration}
+use Rattle.gr_bound.specs.declared.declaration.Declaration.TheVariants.{Predeclared, Declared, Field, Method}
+use Rattle.gr_bound.specs.Binding.{field_place}
+use Rattle.gr_revision.specs.Revisions.{Revision}
+use Rattle.gr_standing.specs.Standing.{InPackage, TokenAt}
+
+-- what the name at a position of a package is called afterwards
+pub record IsCalledAfter (r : Revision) (p : Package) (at : Position) (name : List ℕ) : Type 0 where
+  pub place : Place
+  pub stands : TokenAt p at place
+  pub called : r.called place (spelled p at.file at.index) ≡ name
+
+-- a name that is declared in one package is seen in another
+abbrev pub IsSeenFrom : (own path name : List ℕ) → Type 0
+IsSeenFrom own path name = (own ≡ path) ⊎ (is_exported name ≡ true)
+
+-- the field of that rank has that name, in the struct that the definition writes
+pub record IsFieldAfter (r : Revision) (p : Package) (definition : ℕ) (name : List ℕ) (rank : ℕ) : Type 0 where
+  pub field : PlacedField
+  pub has_rank : slice_get (package_fields p) rank ≡ Some field
+  pub of_struct : field.definition ≡ definition
+  pub called : IsCalledAfter r p (field_place field) name
+
+-- of two fields of one name the first counts
+pub record IsFirstField (r : Revision) (p : Package) (definition : ℕ) (name : List ℕ) (rank : ℕ) : Type 0 where
+  pub is_field : IsFieldAfter r p definition name rank
+  pub first : (other : ℕ) → other < rank → IsFieldAfter r p definition name other → ⊥
+
+-- the function of that rank is a method of that name of that definition
+pub record IsMethodAfter (r : Revision) (p : Package) (definition : ℕ) (name : List ℕ) (rank : ℕ) : Type 0 where
+  pub method : PlacedFunction
+  pub has_rank : slice_get (package_functions p) rank ≡ Some method
+  pub of_type : IsOwner p method definition
+  pub called : IsCalledAfter r p (function_place method) name
+
+-- the struct that has the fields of the definition's values has a field of that name, which is the same name there
+pub record HasFieldAfter (IsPackage : Package → Type 0) (r : Revision) (p : Package) (definition : ℕ) (name : List ℕ) : Type 0 where
+  pub struct : Symbol
+  pub underlying : HasUnderlying p (Defined (symbol_in p definition)) (StructOf struct)
+  pub rank : ℕ
+  pub has : InPackage IsPackage struct.package (λ q. IsSeenFrom p.path q.path name × IsFieldAfter r q struct.rank name rank)
+
+-- a method counts where no field has its name and no earlier method of the type
+pub record IsFirstMethod (IsPackage : Package → Type 0) (r : Revision) (p : Package) (definition : ℕ) (name : List ℕ) (rank : ℕ) : Type 0 where
+  pub is_method : IsMethodAfter r p definition name rank
+  pub no_field : HasFieldAfter IsPackage r p definition name → ⊥
+  pub first : (other : ℕ) → other < rank → IsMethodAfter r p definition name other → ⊥
+
+-- the field of a struct that a name is which is written in the package `own`
+pub record IsFieldOfStruct (IsPackage : Package → Type 0) (r : Revision) (own name : List ℕ) (struct : Option Symbol) (field : Symbol) : Type 0 where
+  pub of_struct : Symbol
+  pub is_struct : struct ≡ Some of_struct
+  pub of_package : field.package ≡ of_struct.package
+  pub has : InPackage IsPackage of_struct.package (λ p. IsSeenFrom own p.path name × IsFirstField r p of_struct.rank name field.rank)
+
+-- the method of a definition that a name is which is written in the package `own`
+pub record IsMethodOfOwner (IsPackage : Package → Type 0) (r : Revision) (own name : List ℕ) (of : Option Symbol) (method : Symbol) : Type 0 where
+  pub of_type : Symbol
+  pub is_owner : of ≡ Some of_type
+  pub of_package : method.package ≡ of_type.package
+  pub has : InPackage IsPackage of_type.package (λ p. IsSeenFrom own p.path name × IsFirstMethod IsPackage r p of_type.rank name method.rank)
+
+-- The member that a name is which is written in the package `own`, for the type before it: a field of the struct, else a method of
+-- the definition. definition: the underlying types of definitions.
+abbrev pub IsMemberAfter : (Package → Type 0) → Revision → (own name : List ℕ) → (definition : Symbol → Underlying) → PlainType → Declaration → Type 0
+IsMemberAfter IsPackage r own name definition t (Predeclared n) = ⊥
+IsMemberAfter IsPackage r own name definition t (Declared path d) = ⊥
+IsMemberAfter IsPackage r own name definition t (Field s) = IsFieldOfStruct IsPackage r own name (struct_behind definition t) s
+IsMemberAfter IsPackage r own name definition t (Method s) =
+    ((f : Symbol) → IsFieldOfStruct IsPackage r own name (struct_behind definition t) f → ⊥) × IsMethodOfOwner IsPackage r own name (owner t) s
+
+-- the field, or the method, of a rank counts under some name
+pub record FieldCounts (r : Revision) (p : Package) (rank : ℕ) : Type 0 where
+  pub definition : ℕ
+  pub name : List ℕ
+  pub first : IsFirstField r p definition name rank
+
+pub record MethodCounts (IsPackage : Package → Type 0) (r : Revision) (p : Package) (rank : ℕ) : Type 0 where
+  pub definition : ℕ
+  pub name : List ℕ
+  pub first : IsFirstMethod IsPackage r p definition name rank
+
+-- a field or method counts
+abbrev pub CountsAfter : (Package → Type 0) → Revision → Declaration → Type 0
+CountsAfter IsPackage r (Predeclared n) = ⊥
+CountsAfter IsPackage r (Declared path d) = ⊥
+CountsAfter IsPackage r (Field s) = InPackage IsPackage s.package (λ p. FieldCounts r p s.rank)
+CountsAfter IsPackage r (Method s) = InPackage IsPackage s.package (λ p. MethodCounts IsPackage r p s.rank)
