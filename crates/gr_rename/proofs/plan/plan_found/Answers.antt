@@ -1,0 +1,12 @@
+-- The answers to the goals of `plan::plan_found`.
+use Rattle.gr_bound.specs.Workspaces.{known_in}
+use Rattle.gr_bound.proofs.Units.{list_of_sound}
+use Rattle.gr_rename.proofs.Planned.{finds_refused}
+use Rattle.gr_rename.proofs.plan.plan_found.Goals as goal
+
+pub returns-in-Err : goal.returns-in-Err
+returns-in-Err c =
+    let snapshot = c.args.snapshot.now in
+    let asked = c.args.asked.now in
+    let found = c.args.found.now in
+    finds_refused snapshot asked.path.now asked.offset asked.name.now (list_of_sound snapshot.files found c.requires) (known_in found) c.requires.findings.right c.in-Err.refusal c.in-Err.ensures

@@ -1,0 +1,21 @@
+-- The answers to the goals of `plan::plan_named`.
+use Rattle.gr_bound.specs.Workspaces.{known_in}
+use Rattle.gr_bound.proofs.Units.{list_of_sound}
+use Rattle.gr_rename.proofs.Planned.{name_refused, declaration_planned}
+use Rattle.gr_rename.proofs.plan.plan_named.Goals as goal
+
+pub returns-in-Err : goal.returns-in-Err
+returns-in-Err c =
+    let snapshot = c.args.snapshot.now in
+    let asked = c.args.asked.now in
+    let found = c.args.found.now in
+    name_refused snapshot asked.path.now asked.offset asked.name.now (list_of_sound snapshot.files found c.requires.sound) (known_in found) c.requires.sound.findings.right c.args.declaration.now c.requires.has
+    c.in-Err.refusal c.in-Err.ensures
+
+pub returns-in-Ok : goal.returns-in-Ok
+returns-in-Ok c =
+    let snapshot = c.args.snapshot.now in
+    let asked = c.args.asked.now in
+    let found = c.args.found.now in
+    declaration_planned snapshot asked.path.now asked.offset asked.name.now (list_of_sound snapshot.files found c.requires.sound) (known_in found) c.requires.sound.findings.right c.args.declaration.now c.requires.has
+    c.in-Ok.ensures c.plan_declaration.result c.plan_declaration.ensures

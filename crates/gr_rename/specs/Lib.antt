@@ -1,0 +1,4 @@
+-- The definitions of this crate.
+pub mod Plan
+pub mod Steps
+pub mod Laws

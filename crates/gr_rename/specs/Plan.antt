@@ -1,0 +1,106 @@
+-- What planning a rename answers.
+use Rattle.std.specs.Prelude.{ℕ, ◌≡◌, ◌⊎◌, List, [], ⊤, None, Result, Ok, Err}
+use Rattle.std.specs.FinMap as files
+use Rattle.gr_text.specs.Path.{IsPath}
+use Rattle.gr_text.specs.Workspace.{Workspace}
+use Rattle.gr_text.specs.declared.refusal.Refusal.{Refusal}
+use Rattle.gr_text.specs.declared.refusal.Refusal.TheVariants.{Memory, BadPath, NoFile, TooLarge, Faulty, NoIdentifier, NotRenamable, BadName, Same, Captured, Lost}
+use Rattle.gr_verdict.specs.Verdicts.{Verdicts, AreVerdicts}
+use Rattle.gr_verdict.specs.FaultLists.{ListsFaults}
+use Rattle.gr_bound.specs.declared.declaration.Declaration.{Declaration}
+use Rattle.gr_bound.specs.Uses.{IsPackage, IsFile, HasDeclaration, HasNoIdentifier, HasNoDeclaration, HasFirstFault}
+use Rattle.gr_standing.specs.Called.{IsCalled}
+use Rattle.gr_check.specs.RevisionsOfEdits.{revision_of}
+use Rattle.gr_check.specs.Preserved.{Preserves}
+use Rattle.gr_edit.specs.EditSet.{FileChanges, edited}
+use Rattle.gr_edit.specs.Fits.{Fits}
+use Rattle.gr_space.specs.Fits.{FitsLimits}
+use Rattle.gr_space.specs.declared.snapshot.Snapshot.{Snapshot}
+use Rattle.gr_space.specs.declared.change.Change.{Change}
+use Rattle.gr_space.specs.declared.change.ChangeKind.TheVariants.{Rename}
+use Rattle.gr_naming.specs.NewName.{IsNewName}
+use Rattle.gr_naming.specs.Naming.{IsFixed, IsReservedFor}
+use Rattle.gr_renaming.specs.RenameEdits.{AreRenameEdits}
+
+-- the arguments have their forms, the file is there, and the workspace has no fault
+pub record IsWellAsked (w : Workspace) (path name : List ℕ) : Type 0 where
+  pub file : IsFile w path
+  pub form : IsNewName name
+  pub sound : ListsFaults w []
+
+-- what holds the byte is bound to a declaration
+pub record IsAsked (w : Workspace) (path : List ℕ) (offset : ℕ) : Type 0 where
+  pub known : Verdicts
+  pub right : AreVerdicts w known
+  pub declaration : Declaration
+  pub has : HasDeclaration w known path offset declaration
+
+-- to one that cannot be renamed
+pub record IsAskedFixed (w : Workspace) (path : List ℕ) (offset : ℕ) : Type 0 where
+  pub asked : IsAsked w path offset
+  pub fixed : IsFixed (IsPackage w asked.known) asked.declaration
+
+-- to one that can
+pub record IsRenamable (w : Workspace) (path : List ℕ) (offset : ℕ) : Type 0 where
+  pub asked : IsAsked w path offset
+  pub not_fixed : ¬ (IsFixed (IsPackage w asked.known) asked.declaration)
+
+-- but may not have that name
+pub record IsAskedReserved (w : Workspace) (path : List ℕ) (offset : ℕ) (name : List ℕ) : Type 0 where
+  pub renamable : IsRenamable w path offset
+  pub reserved : IsReservedFor (IsPackage w renamable.asked.known) renamable.asked.declaration name
+
+-- to one that may have that name
+pub record MayBeCalled (w : Workspace) (path : List ℕ) (offset : ℕ) (name : List ℕ) : Type 0 where
+  pub renamable : IsRenamable w path offset
+  pub allowed : ¬ (IsReservedFor (IsPackage w renamable.asked.known) renamable.asked.declaration name)
+
+-- but has it already
+pub record IsAskedSame (w : Workspace) (path : List ℕ) (offset : ℕ) (name : List ℕ) : Type 0 where
+  pub may : MayBeCalled w path offset name
+  pub called : IsCalled (IsPackage w may.renamable.asked.known) may.renamable.asked.declaration name
+
+-- these changes give it that name
+pub record IsRenaming (w : Workspace) (path : List ℕ) (offset : ℕ) (name : List ℕ) (s : FileChanges) : Type 0 where
+  pub may : MayBeCalled w path offset name
+  pub other : ¬ (IsCalled (IsPackage w may.renamable.asked.known) may.renamable.asked.declaration name)
+  pub edits : AreRenameEdits w may.renamable.asked.known may.renamable.asked.declaration name s
+
+-- these changes do not preserve bindings
+pub record HasConflict (w : Workspace) (path : List ℕ) (offset : ℕ) (name : List ℕ) : Type 0 where
+  pub changes : FileChanges
+  pub renaming : IsRenaming w path offset name changes
+  pub not_preserved : ¬ (Preserves w (revision_of w changes))
+
+-- bindings are preserved, but the files pass a limit
+pub record IsTooLarge (snapshot : Snapshot) (path : List ℕ) (offset : ℕ) (name : List ℕ) : Type 0 where
+  pub changes : FileChanges
+  pub renaming : IsRenaming snapshot.files path offset name changes
+  pub preserves : Preserves snapshot.files (revision_of snapshot.files changes)
+  pub too_large : ¬ (FitsLimits snapshot.limits (edited changes snapshot.files))
+
+-- the change of the snapshot's files by edits that give the name and preserve bindings
+pub record IsRenamed (snapshot : Snapshot) (path : List ℕ) (offset : ℕ) (name : List ℕ) (change : Change) : Type 0 where
+  pub renaming : IsRenaming snapshot.files path offset name change.edits
+  pub preserves : Preserves snapshot.files (revision_of snapshot.files change.edits)
+  pub fits : FitsLimits snapshot.limits (edited change.edits snapshot.files)
+  pub fit_files : Fits change.edits snapshot.files
+  pub is_change : change ≡ record { base = snapshot.files; kind = Rename; edits = change.edits; files = edited change.edits snapshot.files }
+
+-- Renaming what holds a byte, or why it is not renamed: the first reason that applies.
+abbrev pub PlansRename : Snapshot → List ℕ → ℕ → List ℕ → Result Change Refusal → Type 0
+PlansRename snapshot path offset name (Ok change) = IsWellAsked snapshot.files path name × IsRenamed snapshot path offset name change
+PlansRename snapshot path offset name (Err BadPath) = ¬ (IsPath 2 path)
+PlansRename snapshot path offset name (Err BadName) =
+    (IsPath 2 path × ¬ (IsNewName name)) ⊎ (IsWellAsked snapshot.files path name × IsAskedReserved snapshot.files path offset name)
+PlansRename snapshot path offset name (Err NoFile) = IsPath 2 path × IsNewName name × (files.get snapshot.files path ≡ None)
+PlansRename snapshot path offset name (Err (Faulty place kind)) = IsFile snapshot.files path × IsNewName name × HasFirstFault snapshot.files place kind
+PlansRename snapshot path offset name (Err NoIdentifier) = IsWellAsked snapshot.files path name × HasNoIdentifier snapshot.files path offset
+PlansRename snapshot path offset name (Err NotRenamable) =
+    IsWellAsked snapshot.files path name × (HasNoDeclaration snapshot.files path offset ⊎ IsAskedFixed snapshot.files path offset)
+PlansRename snapshot path offset name (Err Same) = IsWellAsked snapshot.files path name × IsAskedSame snapshot.files path offset name
+PlansRename snapshot path offset name (Err (Captured used by)) = IsWellAsked snapshot.files path name × HasConflict snapshot.files path offset name
+PlansRename snapshot path offset name (Err (Lost used)) = IsWellAsked snapshot.files path name × HasConflict snapshot.files path offset name
+PlansRename snapshot path offset name (Err TooLarge) = IsWellAsked snapshot.files path name × IsTooLarge snapshot path offset name
+PlansRename snapshot path offset name (Err Memory) = ⊤
+PlansRename snapshot path offset name (Err refusal) = ⊥

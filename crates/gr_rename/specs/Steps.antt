@@ -1,0 +1,51 @@
+-- What the steps of planning a rename answer.
+use Rattle.std.specs.Prelude.{ℕ, ◌≡◌, ◌⊎◌, List, [], ⊤, Result, Ok, Err}
+use Rattle.gr_text.specs.declared.refusal.Refusal.{Refusal}
+use Rattle.gr_text.specs.declared.refusal.Refusal.TheVariants.{Memory, TooLarge, Faulty, NoIdentifier, NotRenamable, BadName, Same, Captured, Lost}
+use Rattle.gr_verdict.specs.Verdicts.{Verdicts}
+use Rattle.gr_verdict.specs.FaultLists.{ListsFaults}
+use Rattle.gr_bound.specs.declared.declaration.Declaration.{Declaration}
+use Rattle.gr_bound.specs.Uses.{HasNoIdentifier, HasNoDeclaration, HasFirstFault}
+use Rattle.gr_check.specs.RevisionsOfEdits.{revision_of}
+use Rattle.gr_check.specs.Preserved.{Preserves}
+use Rattle.gr_edit.specs.EditSet.{FileChanges, edited}
+use Rattle.gr_edit.specs.Fits.{Fits}
+use Rattle.gr_space.specs.Fits.{FitsLimits}
+use Rattle.gr_space.specs.declared.snapshot.Snapshot.{Snapshot}
+use Rattle.gr_space.specs.declared.change.Change.{Change}
+use Rattle.gr_space.specs.declared.change.ChangeKind.TheVariants.{Rename}
+use Rattle.gr_renaming.specs.RenameEdits.{AreRenameEdits}
+use Rattle.gr_rename.specs.Plan.{IsAskedFixed, IsAskedReserved, IsAskedSame, HasConflict, IsTooLarge, IsRenamed}
+
+-- the change that these edits make of a snapshot's files
+abbrev pub renaming_by : Snapshot → FileChanges → Change
+renaming_by snapshot s = record { base = snapshot.files; kind = Rename; edits = s; files = edited s snapshot.files }
+
+-- that change, unless it does not preserve bindings or passes a limit
+abbrev pub PlansEdits : Snapshot → FileChanges → Result Change Refusal → Type 0
+PlansEdits snapshot s (Ok change) =
+    Preserves snapshot.files (revision_of snapshot.files s) × FitsLimits snapshot.limits (edited s snapshot.files) × (change ≡ renaming_by snapshot s)
+PlansEdits snapshot s (Err (Captured used by)) = ¬ (Preserves snapshot.files (revision_of snapshot.files s))
+PlansEdits snapshot s (Err (Lost used)) = ¬ (Preserves snapshot.files (revision_of snapshot.files s))
+PlansEdits snapshot s (Err TooLarge) = Preserves snapshot.files (revision_of snapshot.files s) × ¬ (FitsLimits snapshot.limits (edited s snapshot.files))
+PlansEdits snapshot s (Err Memory) = ⊤
+PlansEdits snapshot s (Err refusal) = ⊥
+
+-- the same of the edits that give a declaration a name, unless there was no memory for them
+abbrev pub PlansDeclaration : Snapshot → Verdicts → Declaration → List ℕ → Result Change Refusal → Type 0
+PlansDeclaration snapshot known d name result =
+    (result ≡ Err Memory) ⊎ ((s : FileChanges) × (AreRenameEdits snapshot.files known d name s × (Fits s snapshot.files × PlansEdits snapshot s result)))
+
+-- what planning answers where the arguments have their forms and the file is there
+abbrev pub PlansIn : Snapshot → List ℕ → ℕ → List ℕ → Result Change Refusal → Type 0
+PlansIn snapshot path offset name (Ok change) = ListsFaults snapshot.files [] × IsRenamed snapshot path offset name change
+PlansIn snapshot path offset name (Err (Faulty place kind)) = HasFirstFault snapshot.files place kind
+PlansIn snapshot path offset name (Err NoIdentifier) = ListsFaults snapshot.files [] × HasNoIdentifier snapshot.files path offset
+PlansIn snapshot path offset name (Err NotRenamable) = ListsFaults snapshot.files [] × (HasNoDeclaration snapshot.files path offset ⊎ IsAskedFixed snapshot.files path offset)
+PlansIn snapshot path offset name (Err BadName) = ListsFaults snapshot.files [] × IsAskedReserved snapshot.files path offset name
+PlansIn snapshot path offset name (Err Same) = ListsFaults snapshot.files [] × IsAskedSame snapshot.files path offset name
+PlansIn snapshot path offset name (Err (Captured used by)) = ListsFaults snapshot.files [] × HasConflict snapshot.files path offset name
+PlansIn snapshot path offset name (Err (Lost used)) = ListsFaults snapshot.files [] × HasConflict snapshot.files path offset name
+PlansIn snapshot path offset name (Err TooLarge) = ListsFaults snapshot.files [] × IsTooLarge snapshot path offset name
+PlansIn snapshot path offset name (Err Memory) = ⊤
+PlansIn snapshot path offset name (Err refusal) = ⊥

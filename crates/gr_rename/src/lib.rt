@@ -1,0 +1,7 @@
+//! Plans of renames.
+#![tactic(auto)]
+
+pub mod laws;
+mod plan;
+
+pub use plan::plan_rename;

@@ -1,0 +1,162 @@
+//! The change that renames what holds a byte.
+ghost use Rattle.std.specs.Prelude.{◌≡◌};
+ghost use Rattle.gr_edit.specs.EditSet.{edited};
+ghost use Rattle.gr_bound.specs.Uses.{HasDeclaration};
+ghost use Rattle.gr_bound.specs.Workspaces.{IsSound, known_in};
+ghost use Rattle.gr_rename.specs.Plan.{PlansRename};
+ghost use Rattle.gr_rename.specs.Steps.{renaming_by, PlansEdits, PlansDeclaration, PlansIn};
+
+use gr_bound::{Declaration, declaration_at, refuse_faults};
+use gr_check::preserves;
+use gr_conflict::{Conflict, first_conflict, told};
+use gr_naming::{is_new_name, refuse_name};
+use gr_renaming::rename_edits;
+use gr_space::{Change, ChangeKind, Snapshot, fits_limits};
+use gr_text::{Path, Place, Refusal};
+use gr_verdict::{Findings, verdicts};
+use std::alloc::{AllocError, Global};
+
+/// A byte of a file, and the name for what holds it.
+#[derive(Clone, Copy)]
+struct Asked<'a> {
+    path: &'a Path,
+    offset: usize,
+    name: &'a [u8],
+}
+
+/// What holds the byte is lost.
+fn asked_lost(asked: &Asked<'_>) -> Result<Conflict, AllocError> {
+    Ok(Conflict {
+        used: Place {
+            path: asked.path.clone()?,
+            offset: asked.offset,
+        },
+        by: None,
+    })
+}
+
+/// The first conflict of a change that does not preserve bindings.
+fn conflict_of(
+    alloc: Global,
+    snapshot: &Snapshot,
+    found: &Findings,
+    asked: &Asked<'_>,
+    change: &Change,
+) -> Result<Conflict, AllocError>
+    requires sound { IsSound snapshot.now.files found.now }
+    requires after { change.now.files ≡ edited change.now.edits snapshot.now.files }
+{
+    match first_conflict(alloc, &snapshot.files, found, &change.edits, &change.files)? {
+        Some(conflict) => Ok(conflict),
+        None => asked_lost(asked),
+    }
+}
+
+/// The change, unless it does not preserve bindings or passes a limit.
+fn judged(
+    alloc: Global,
+    snapshot: &Snapshot,
+    found: &Findings,
+    asked: &Asked<'_>,
+    change: Change,
+) -> Result<Change, Refusal>
+    requires sound { IsSound snapshot.now.files found.now }
+    requires is_change { change ≡ renaming_by snapshot.now change.edits }
+    ensures { PlansEdits snapshot.now change.edits result }
+{
+    if !preserves(alloc, &snapshot.files, found, &change.edits, &change.files)? {
+        return Err(told(conflict_of(alloc, snapshot, found, asked, &change)?));
+    }
+    if fits_limits(&snapshot.limits, &change.files) {
+        Ok(change)
+    } else {
+        Err(Refusal::TooLarge)
+    }
+}
+
+/// The change that gives a declaration another name.
+fn plan_declaration(
+    alloc: Global,
+    snapshot: &Snapshot,
+    found: &Findings,
+    declaration: &Declaration,
+    asked: &Asked<'_>,
+) -> Result<Change, Refusal>
+    requires { IsSound snapshot.now.files found.now }
+    ensures { PlansDeclaration snapshot.now (known_in found.now) declaration.now asked.now.name.now result }
+{
+    let edits = rename_edits(alloc, &snapshot.files, found, declaration, asked.name)?;
+    let change = Change::of(alloc, snapshot, ChangeKind::Rename, edits)?;
+    judged(alloc, snapshot, found, asked, change)
+}
+
+/// The change that gives a declaration another name, unless it may not have that.
+fn plan_named(
+    alloc: Global,
+    snapshot: &Snapshot,
+    found: &Findings,
+    declaration: &Declaration,
+    asked: &Asked<'_>,
+) -> Result<Change, Refusal>
+    requires sound { IsSound snapshot.now.files found.now }
+    requires has { HasDeclaration snapshot.now.files (known_in found.now) asked.now.path.now asked.now.offset declaration.now }
+    ensures { PlansIn snapshot.now asked.now.path.now asked.now.offset asked.now.name.now result }
+{
+    match refuse_name(alloc, &snapshot.files, found, declaration, asked.name) {
+        Err(refusal) => Err(refusal),
+        Ok(()) => plan_declaration(alloc, snapshot, found, declaration, asked),
+    }
+}
+
+/// The change that renames what holds a byte. The workspace has no fault.
+fn plan_found(
+    alloc: Global,
+    snapshot: &Snapshot,
+    found: &Findings,
+    asked: &Asked<'_>,
+) -> Result<Change, Refusal>
+    requires { IsSound snapshot.now.files found.now }
+    ensures { PlansIn snapshot.now asked.now.path.now asked.now.offset asked.now.name.now result }
+{
+    match declaration_at(alloc, &snapshot.files, found, asked.path, asked.offset) {
+        Err(refusal) => Err(refusal),
+        Ok(declaration) => plan_named(alloc, snapshot, found, &declaration, asked),
+    }
+}
+
+/// The change that renames what holds a byte, unless the workspace has a fault.
+fn plan_in(alloc: Global, snapshot: &Snapshot, asked: &Asked<'_>) -> Result<Change, Refusal>
+    ensures { PlansIn snapshot.now asked.now.path.now asked.now.offset asked.now.name.now result }
+{
+    let found = verdicts(alloc, &snapshot.files)?;
+    match refuse_faults(alloc, &snapshot.files, &found) {
+        Err(refusal) => Err(refusal),
+        Ok(()) => plan_found(alloc, snapshot, &found, asked),
+    }
+}
+
+/// The change of a snapshot's files that gives what holds a byte of a file, with all that is bound to it, another name. The offset
+/// is that of any byte of an identifier, or of the path literal of an import, which stands for that import.
+pub fn plan_rename(
+    alloc: Global,
+    snapshot: &Snapshot,
+    path: &str,
+    offset: usize,
+    name: &str,
+) -> Result<Change, Refusal>
+    ensures { PlansRename snapshot.now path.now offset name.now result }
+{
+    let path = Path::read(alloc, path, 2)?;
+    if !is_new_name(name) {
+        return Err(Refusal::BadName);
+    }
+    if snapshot.files.files().get(&path).is_none() {
+        return Err(Refusal::NoFile);
+    }
+    let asked = Asked {
+        path: &path,
+        offset,
+        name: name.as_bytes(),
+    };
+    plan_in(alloc, snapshot, &asked)
+}
