@@ -1,0 +1,14 @@
+//! What a rename promises that was planned and admitted, and what undo then brings back.
+ghost use Rattle.gr_exact.specs.Renames.{RenamesKeepBindings, UndoTakesRenamesBack};
+
+/// Where a rename was planned and its change is admitted, the state behind it has the files of the plan's edits, and no fault; each
+/// identifier is bound there to what its declaration has become, and none to anything else.
+pub fn renames_keep_bindings()
+    ensures { RenamesKeepBindings }
+{}
+
+/// Undo behind it brings back the state before, with each byte, and so each binding and fault, and each finished package; for want
+/// of memory or of room in the journal it changes nothing.
+pub fn undo_takes_renames_back()
+    ensures { UndoTakesRenamesBack }
+{}
