@@ -3,8 +3,10 @@ pub mod Entries
 pub mod Waits
 pub mod Fresh
 pub mod Settled
+pub mod Replies
 pub mod Stepped
 pub mod Legal
+pub mod Kept
 pub mod Journaled
 pub mod NoPackages
 pub mod NumberLaws

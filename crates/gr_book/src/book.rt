@@ -1,12 +1,14 @@
 //! The book: the states of a workspace with the Jobs that are out, and the journal of the events that move among them.
 ghost use Rattle.std.specs.Prelude.{◌≡◌, ℕ, ◌+◌, ◌≤◌, ◌↔◌, IfOk, IsTrue, OnErr, OnOk, length, vec_capacity};
 ghost use Rattle.gr_book.specs.Machine.{HasNumbers, Machine, content, opening};
+ghost use Rattle.gr_book.specs.Kept.{IsEntryIf, StepKept};
 ghost use Rattle.gr_book.specs.Run.{IsReplay};
 ghost use Rattle.gr_book.specs.Step.{BringsOut, HasPlace, HasRoom, Keeps, Step, entries_due};
 
 use crate::content::Content;
 use crate::entry::{Entry, Line};
 use crate::event::{Event, Reply, refuse};
+use crate::made::entry_twice;
 use gr_text::{Limits, Refusal};
 use std::alloc::{AllocError, Global};
 use std::marker::Model;
@@ -57,29 +59,27 @@ fn make_room(journal: &mut Vec<Entry>, content: &Content, event: &Event) -> Resu
     journal.reserve(content.jobs() + 2)
 }
 
-/// Answers an event, and adds its entry to the journal.
-fn answer(content: &mut Content, journal: &mut Vec<Entry>, event: Event) -> Reply
+/// Answers an event, and adds its entry to the journal. With the reply comes a copy of the entry.
+fn answer(content: &mut Content, journal: &mut Vec<Entry>, event: Event) -> (Reply, Option<Entry>)
     requires numbers { HasNumbers content.old }
     requires due { length journal.old.items + length content.old.out.jobs ≤ vec_capacity journal.old }
     requires place { HasPlace (vec_capacity journal.old) (length journal.old.items + length content.old.out.jobs) content.old.out event }
-    ensures keeps { Keeps content.old journal.old.items event result content.new journal.new.items }
+    ensures keeps { Keeps content.old journal.old.items event result.0 content.new journal.new.items }
+    ensures copy { IsEntryIf content.old.current.number event result.0 result.1 }
     ensures capacity { vec_capacity journal.new ≡ vec_capacity journal.old }
 {
     let kind = event.kind();
     let basis = event.basis(content.number());
     let asked = event.subject();
-    let (reply, edits) = content.answer(journal.as_slice(), event);
-    if let Some(out) = reply.told() {
-        let line = Line { kind, basis, out };
-        let subject = reply.subject(asked);
-        let entry = Entry {
-            line,
-            subject,
-            edits,
-        };
-        journal.push_reserved(entry);
-    }
-    reply
+    let (reply, made) = content.answer(journal.as_slice(), event);
+    let Some(out) = reply.told() else {
+        return (reply, None);
+    };
+    let line = Line { kind, basis, out };
+    let subject = reply.subject(asked);
+    let (entry, copy) = entry_twice(line, subject, made);
+    journal.push_reserved(entry);
+    (reply, Some(copy))
 }
 
 impl Book {
@@ -132,18 +132,29 @@ impl Book {
         }
     }
 
+    /// One step of the machine, with a copy of the entry that it added. Room is made before anything changes, so a refusal for want of
+    /// memory, or of room in the journal, leaves the book as it was, and keeps no entry. The copy of the entry of a Job that is given
+    /// back takes no memory.
+    pub fn step_kept(&mut self, event: Event) -> (Reply, Option<Entry>)
+        ensures { StepKept self.old event result.0 result.1 self.new }
+    {
+        if !self.has_room(&event) {
+            return (refuse(event, Refusal::JournalFull), None);
+        }
+        match make_room(&mut self.journal, &self.content, &event) {
+            Ok(()) => answer(&mut self.content, &mut self.journal, event),
+            Err(_) => (refuse(event, Refusal::Memory), None),
+        }
+    }
+
     /// One step of the machine. Room is made before anything changes, so a refusal for want of memory, or of room in the
     /// journal, leaves the book as it was, and keeps no entry.
     pub fn step(&mut self, event: Event) -> Reply
         ensures { Step self.old event result self.new }
     {
-        if !self.has_room(&event) {
-            return refuse(event, Refusal::JournalFull);
-        }
-        match make_room(&mut self.journal, &self.content, &event) {
-            Ok(()) => answer(&mut self.content, &mut self.journal, event),
-            Err(_) => refuse(event, Refusal::Memory),
-        }
+        let (reply, kept) = self.step_kept(event);
+        drop(kept);
+        reply
     }
 
     /// Ends the history, and tells how many entries its journal had.

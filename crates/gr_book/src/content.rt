@@ -6,8 +6,9 @@ ghost use Rattle.gr_book.specs.Journal.{ShowsLine, edits_of, line_at};
 ghost use Rattle.gr_book.specs.Step.{AnswersOrLacks, BringsOut, committed, done, looked, taken};
 
 use crate::deliveries::{outcome_of, settle};
-use crate::entry::{Entry, Line, SharedEdits};
+use crate::entry::{Entry, Line};
 use crate::event::{Event, Reply};
+use crate::made::MadeEdits;
 use crate::state::State;
 use crate::view::View;
 use crate::waiting::first_waiting;
@@ -164,7 +165,7 @@ impl Content {
     }
 
     /// Besides the number of the new state it gives the edits, for the entry.
-    fn commit(&mut self, basis: u64, change: Change) -> Result<(u64, SharedEdits), Refusal>
+    fn commit(&mut self, basis: u64, change: Change) -> Result<(u64, MadeEdits), Refusal>
         requires { HasNumbers self.old }
         ensures answer { AnswersOrLacks self.old (Event.Commit basis change) (committed result) self.new }
         ensures edits { IfOk result (λ made. made.1 ≡ change.edits) }
@@ -175,7 +176,7 @@ impl Content {
             return Err(Refusal::Moved { current: number });
         }
         let files = change.files;
-        let edits = SharedEdits::new(self.alloc, change.edits)?;
+        let edits = MadeEdits::new(self.alloc, change.edits)?;
         let marks = changed_marks(self.alloc, &current.files, &files)?;
         let finished = carried_units(
             self.alloc,
@@ -300,7 +301,7 @@ impl Content {
     }
 
     /// Answers a change, and gives its edits if it is admitted.
-    fn change(&mut self, basis: u64, change: Change) -> (Reply, Option<SharedEdits>)
+    fn change(&mut self, basis: u64, change: Change) -> (Reply, Option<MadeEdits>)
         requires { HasNumbers self.old }
         ensures answer { AnswersOrLacks self.old (Event.Commit basis change) result.0 self.new }
         ensures edits { result.1 ≡ edits_of (Event.Commit basis change) result.0 }
@@ -313,7 +314,7 @@ impl Content {
 
     /// Answers an event, and gives the edits of an admitted change. A log is shown an entry of the journal. Room is made before
     /// anything changes, so want of memory leaves all as it was.
-    pub(crate) fn answer(&mut self, journal: &[Entry], event: Event) -> (Reply, Option<SharedEdits>)
+    pub(crate) fn answer(&mut self, journal: &[Entry], event: Event) -> (Reply, Option<MadeEdits>)
         requires { HasNumbers self.old }
         ensures answer { AnswersOrLacks self.old event result.0 self.new }
         ensures shows { ShowsLine journal.now event result.0 }

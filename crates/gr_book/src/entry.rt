@@ -1,7 +1,8 @@
 //! What the journal keeps of each event and its reply.
-ghost use Rattle.std.specs.Prelude.{◌≡◌, IfOk};
+ghost use Rattle.std.specs.Prelude.{◌≡◌, ◌↔◌, IfOk, IsTrue};
 ghost use Rattle.gr_book.specs.Kinds.{kind_name, refusal_of};
 
+use crate::same::{Same, same_sets};
 use gr_edit::EditSet;
 use gr_text::Refusal;
 use std::alloc::{AllocError, Global};
@@ -119,6 +120,16 @@ impl SharedEdits {
     }
 }
 
+impl Same for Option<SharedEdits> {
+    fn same(&self, other: &Option<SharedEdits>) -> bool {
+        match (self, other) {
+            (None, None) => true,
+            (Some(edits), Some(others)) => same_sets(edits.edits(), others.edits()),
+            _ => false,
+        }
+    }
+}
+
 impl Clone for SharedEdits {
     ghost is_clone = { λ shared copy. copy ≡ shared };
 
@@ -163,5 +174,14 @@ impl Clone for Entry {
             subject: self.subject,
             edits,
         })
+    }
+}
+
+impl Entry {
+    /// Whether both are equal in all their parts. Edits are compared by their texts.
+    pub fn same(&self, other: &Entry) -> bool
+        ensures { IsTrue result ↔ (self.now ≡ other.now) }
+    {
+        self.line == other.line && self.subject == other.subject && self.edits.same(&other.edits)
     }
 }

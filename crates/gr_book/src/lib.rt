@@ -7,6 +7,8 @@ mod deliveries;
 mod entry;
 mod event;
 mod laws;
+mod made;
+mod same;
 mod state;
 mod view;
 mod waiting;
