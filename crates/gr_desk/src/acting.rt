@@ -1,6 +1,7 @@
 //! One command. Each but a log begins with a look, and what it does is planned on the view that the look gave.
 ghost use Rattle.std.specs.Prelude.{◌≡◌, ◌↔◌, ℕ, IsTrue, List, None, Result};
 ghost use Rattle.gr_text.specs.declared.refusal.Refusal.{Refusal as WhyRefused};
+ghost use Rattle.gr_rename.specs.Plan.{PlansRename};
 ghost use Rattle.gr_space.specs.Plan.{PlansDel};
 ghost use Rattle.gr_space.specs.declared.change.Change.{Change as PlannedChange};
 ghost use Rattle.gr_line.specs.Commands.{entry_asked};
@@ -26,6 +27,7 @@ use crate::queries::{cat, faults, list, object, uses};
 use crate::working::work;
 use gr_book::{Event, Reply, View};
 use gr_line::{Bytes, Command, Response, Word};
+use gr_rename::plan_rename;
 use gr_space::{Change, plan_del, plan_put};
 use gr_text::{FileText, Path, Refusal};
 use std::alloc::Global;
@@ -132,6 +134,22 @@ fn del<D: Desk>(alloc: Global, desk: &mut D, view: &View, basis: u64, path: Word
     commit(desk, basis, planned)
 }
 
+/// The change that a rename asks for, committed.
+fn rename<D: Desk>(
+    alloc: Global,
+    desk: &mut D,
+    view: &View,
+    basis: u64,
+    path: Word,
+    offset: usize,
+    name: Word,
+) -> Response
+    ensures { (planned : Result PlannedChange WhyRefused) × PlansRename view.now.snapshot path offset name planned × Commits D.steps desk.old basis planned result desk.new }
+{
+    let planned = plan_rename(alloc, &view.snapshot, path.as_str(), offset, name.as_str());
+    commit(desk, basis, planned)
+}
+
 fn file_response(number: u64, found: Result<FileText, Refusal>) -> Response
     ensures { result ≡ file_response number found }
 {
@@ -212,6 +230,12 @@ fn act_on<D: Desk>(alloc: Global, desk: &mut D, view: &View, command: Command) -
         },
         Command::Put { basis, path, body } => put(alloc, desk, view, basis, path, body),
         Command::Del { basis, path } => del(alloc, desk, view, basis, path),
+        Command::Rename {
+            basis,
+            path,
+            offset,
+            name,
+        } => rename(alloc, desk, view, basis, path, offset, name),
         Command::Undo { basis } => undo(desk, basis),
         Command::Redo { basis } => redo(desk, basis),
         Command::Cat { path } => tell_file(alloc, view, path),

@@ -2,7 +2,7 @@
 ghost use Rattle.std.specs.Prelude.{◌≡◌};
 ghost use Rattle.gr_book.specs.declared.event.Event.{Event};
 ghost use Rattle.gr_book.specs.declared.event.Reply.{Reply};
-ghost use Rattle.gr_desk.specs.MayReply.{MayReply};
+ghost use Rattle.gr_book.specs.MayReply.{MayReply};
 
 use gr_book::{Book, Event, Reply};
 use std::marker::Model;

@@ -3,7 +3,7 @@ use Rattle.std.specs.Prelude.{◌≡◌, ℕ, ◌^◌, ◌<◌, List, [], ◌∷
 use Rattle.gr_text.specs.PlaceText.{place_text}
 use Rattle.gr_line.specs.Words.{HasNoSpace, IsWord, spaced}
 use Rattle.gr_line.specs.declared.parse.CommandLine.{CommandLine}
-use Rattle.gr_line.specs.declared.parse.CommandLine.TheVariants.{Look, Put, Del, Undo, Redo, Cat, Uses, End}
+use Rattle.gr_line.specs.declared.parse.CommandLine.TheVariants.{Look, Put, Del, Rename, Undo, Redo, Cat, Uses, End}
 use Rattle.gr_line.specs.declared.parse.CommandLine.TheVariants as line
 
 -- the first word
@@ -11,6 +11,7 @@ abbrev pub verb_of : CommandLine → List ℕ
 verb_of Look = codes "look"
 verb_of (Put basis path size) = codes "put"
 verb_of (Del basis path) = codes "del"
+verb_of (Rename basis path offset name) = codes "rename"
 verb_of (Undo basis) = codes "undo"
 verb_of (Redo basis) = codes "redo"
 verb_of (Cat path) = codes "cat"
@@ -31,6 +32,7 @@ abbrev pub args_of : CommandLine → List (List ℕ)
 args_of Look = []
 args_of (Put basis path size) = decimal basis ∷ path ∷ decimal size ∷ []
 args_of (Del basis path) = decimal basis ∷ path ∷ []
+args_of (Rename basis path offset name) = decimal basis ∷ place_word path offset ∷ name ∷ []
 args_of (Undo basis) = decimal basis ∷ []
 args_of (Redo basis) = decimal basis ∷ []
 args_of (Cat path) = path ∷ []
@@ -42,15 +44,20 @@ args_of line.Work = []
 args_of (line.Log number) = decimal number ∷ []
 args_of End = []
 
--- its numbers are within their ranges, and its other arguments are words; what stands before an offset may be empty
+-- what stands before an offset is a part of a word, which may be empty
+abbrev pub FitsPlace : List ℕ → ℕ → Type 0
+FitsPlace path offset = HasNoSpace path × (offset < 2 ^ 32)
+
+-- its numbers are within their ranges, and its other arguments are words
 abbrev pub FitsLine : CommandLine → Type 0
 FitsLine Look = ⊤
 FitsLine (Put basis path size) = (basis < 2 ^ 64) × IsWord path × (size < 2 ^ 32)
 FitsLine (Del basis path) = (basis < 2 ^ 64) × IsWord path
+FitsLine (Rename basis path offset name) = (basis < 2 ^ 64) × FitsPlace path offset × IsWord name
 FitsLine (Undo basis) = basis < 2 ^ 64
 FitsLine (Redo basis) = basis < 2 ^ 64
 FitsLine (Cat path) = IsWord path
-FitsLine (Uses path offset) = HasNoSpace path × (offset < 2 ^ 32)
+FitsLine (Uses path offset) = FitsPlace path offset
 FitsLine line.List = ⊤
 FitsLine line.Faults = ⊤
 FitsLine (line.Object path) = IsWord path
@@ -63,6 +70,7 @@ abbrev pub size_after : CommandLine → ℕ
 size_after Look = 0
 size_after (Put basis path size) = size
 size_after (Del basis path) = 0
+size_after (Rename basis path offset name) = 0
 size_after (Undo basis) = 0
 size_after (Redo basis) = 0
 size_after (Cat path) = 0

@@ -3,7 +3,7 @@ use Rattle.std.specs.Prelude.{◌≡◌, ◌≢◌, ℕ, ◌<◌, List, [], ◌�
 use Rattle.std.specs.Str.{IsUtf8}
 use Rattle.std.specs.Borrow.{Bor}
 use Rattle.gr_line.specs.Words.{HasNoSpace, HasNoMark, IsWord, spaced}
-use Rattle.gr_line.specs.Lines.{IsCommandLine, verb_of, args_of, FitsLine}
+use Rattle.gr_line.specs.Lines.{IsCommandLine, verb_of, args_of, place_word, FitsPlace, FitsLine}
 use Rattle.gr_line.specs.declared.parse.CommandLine.{CommandLine}
 
 -- the text is the number, as it is printed, or it is none that fits
@@ -25,6 +25,11 @@ SplitsPlace text (Some parts) = (text ≡ parts.0.now ++ 58 ∷ 35 ∷ parts.1.n
 abbrev pub ReadsPart : List ℕ → Option (List ℕ) → Type 0
 ReadsPart text None = ¬ (HasNoSpace text)
 ReadsPart text (Some part) = (part ≡ text) × HasNoSpace text
+
+-- the text is a path and an offset, or it is none
+abbrev pub ReadsPlace : List ℕ → Option (List ℕ × ℕ) → Type 0
+ReadsPlace text None = (path : List ℕ) (offset : ℕ) → FitsPlace path offset → text ≢ place_word path offset
+ReadsPlace text (Some place) = (text ≡ place_word place.0 place.1) × FitsPlace place.0 place.1
 
 -- the text is a word, or it is none
 abbrev pub ReadsArgument : List ℕ → Option (List ℕ) → Type 0

@@ -20,6 +20,13 @@ pub enum Command {
         basis: u64,
         path: Word,
     },
+    /// The offset is that of any byte of an identifier, or of the path literal of an import.
+    Rename {
+        basis: u64,
+        path: Word,
+        offset: usize,
+        name: Word,
+    },
     Undo {
         basis: u64,
     },
@@ -58,6 +65,7 @@ impl Command {
         match self {
             Command::Put { basis, .. }
             | Command::Del { basis, .. }
+            | Command::Rename { basis, .. }
             | Command::Undo { basis }
             | Command::Redo { basis } => Some(*basis),
             Command::Look

@@ -122,6 +122,14 @@ fn ask(command: Command) -> Next
     Next::Message(Message::Ask(command))
 }
 
+/// The words of a path and a name.
+fn path_and_name(alloc: Global, path: &str, name: &str) -> Result<(Word, Word), AllocError>
+    ensures { IfOk result (λ words. (words.0 ≡ path.now) × (words.1 ≡ name.now)) }
+{
+    let path = Word::new(alloc, path)?;
+    Ok((path, Word::new(alloc, name)?))
+}
+
 /// What a command line says, once the bytes that it announces are read.
 fn command_after<S: Source>(
     alloc: Global,
@@ -159,6 +167,20 @@ fn command_after<S: Source>(
         CommandLine::Redo { basis } => Ok(ask(Command::Redo { basis })),
         CommandLine::Del { basis, path } => match Word::new(alloc, path.as_str()) {
             Ok(path) => Ok(ask(Command::Del { basis, path })),
+            Err(_) => Ok(Next::NoRoom),
+        },
+        CommandLine::Rename {
+            basis,
+            path,
+            offset,
+            name,
+        } => match path_and_name(alloc, path.as_str(), name.as_str()) {
+            Ok((path, name)) => Ok(ask(Command::Rename {
+                basis,
+                path,
+                offset: offset as usize,
+                name,
+            })),
             Err(_) => Ok(Next::NoRoom),
         },
         CommandLine::Cat { path } => match Word::new(alloc, path.as_str()) {

@@ -2,7 +2,7 @@
 //! in specs/Lines.antt, and an arm here.
 ghost use Rattle.std.specs.Prelude.{◌≡◌, ◌^◌, codes, MatchBool};
 ghost use Rattle.gr_line.specs.Words.{HasNoSpace};
-ghost use Rattle.gr_line.specs.Parsing.{SplitsWord, SplitsPlace, ReadsNumber, ReadsPart, ReadsArgument, ParsesBare, ParsesArgs, ParsesLine};
+ghost use Rattle.gr_line.specs.Parsing.{SplitsWord, SplitsPlace, ReadsNumber, ReadsPart, ReadsArgument, ReadsPlace, ParsesBare, ParsesArgs, ParsesLine};
 
 use itoa::Buffer;
 use std::marker::Model;
@@ -41,6 +41,12 @@ pub enum CommandLine<'a> {
     Del {
         basis: u64,
         path: Argument<'a>,
+    },
+    Rename {
+        basis: u64,
+        path: Argument<'a>,
+        offset: u32,
+        name: Argument<'a>,
     },
     Undo {
         basis: u64,
@@ -129,6 +135,14 @@ fn parse_argument(text: &str) -> Option<Argument<'_>>
     }
 }
 
+/// A path and an offset, with the signs :# between.
+fn parse_place(text: &str) -> Option<(Argument<'_>, u32)>
+    ensures { ReadsPlace text.now result }
+{
+    let (path, offset) = split_place(text)?;
+    Some((parse_part(path)?, parse_u32(offset)?))
+}
+
 fn parse_put(words: &str) -> Option<CommandLine<'_>>
     ensures { ParsesArgs (codes "put") words.now result }
 {
@@ -148,6 +162,20 @@ fn parse_del(words: &str) -> Option<CommandLine<'_>>
     Some(CommandLine::Del {
         basis: parse_u64(basis)?,
         path: parse_argument(path)?,
+    })
+}
+
+fn parse_rename(words: &str) -> Option<CommandLine<'_>>
+    ensures { ParsesArgs (codes "rename") words.now result }
+{
+    let (basis, rest) = split_word(words)?;
+    let (place, name) = split_word(rest)?;
+    let (path, offset) = parse_place(place)?;
+    Some(CommandLine::Rename {
+        basis: parse_u64(basis)?,
+        path,
+        offset,
+        name: parse_argument(name)?,
     })
 }
 
@@ -182,11 +210,8 @@ fn parse_object(words: &str) -> Option<CommandLine<'_>>
 fn parse_uses(words: &str) -> Option<CommandLine<'_>>
     ensures { ParsesArgs (codes "uses") words.now result }
 {
-    let (path, offset) = split_place(words)?;
-    Some(CommandLine::Uses {
-        path: parse_part(path)?,
-        offset: parse_u32(offset)?,
-    })
+    let (path, offset) = parse_place(words)?;
+    Some(CommandLine::Uses { path, offset })
 }
 
 fn parse_log(words: &str) -> Option<CommandLine<'_>>
@@ -217,6 +242,7 @@ fn parse_verb<'a>(verb: &str, words: &'a str) -> Option<CommandLine<'a>>
     match verb {
         "put" => parse_put(words),
         "del" => parse_del(words),
+        "rename" => parse_rename(words),
         "undo" => parse_undo(words),
         "redo" => parse_redo(words),
         "cat" => parse_cat(words),
