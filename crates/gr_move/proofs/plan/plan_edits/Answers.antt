@@ -1,0 +1,14 @@
+-- The answers to the goals of `plan::plan_edits`.
+use Rattle.std.proofs.Common.{ap, sym, subst, ◌∙◌}
+use Rattle.gr_edit.specs.EditSet.{FileChanges}
+use Rattle.gr_space.specs.declared.change.Change.{Change}
+use Rattle.gr_move.specs.Steps.{moving_by, PlansEdits}
+use Rattle.gr_move.proofs.plan.plan_edits.Goals as goal
+
+pub judged-requires-clause-is_change : goal.judged-requires-clause-is_change
+judged-requires-clause-is_change c =
+    let e = c.in_ok-change.ensures in
+    e ∙ ap (moving_by c.args.snapshot.now) (sym (ap (λ (x : Change). x.edits) e))
+
+pub returns : goal.returns
+returns c = subst (λ (s : FileChanges). PlansEdits c.args.snapshot.now s c.judged.result) (ap (λ (x : Change). x.edits) c.in_ok-change.ensures) c.judged.ensures

@@ -1,0 +1,84 @@
+-- What the steps of planning a move answer.
+use Rattle.std.specs.Prelude.{ℕ, ◌≡◌, ◌⊎◌, List, [], ⊤, Contains, Result, Ok, Err}
+use Rattle.gr_text.specs.Packages.{package_paths}
+use Rattle.gr_text.specs.Path.{IsPath}
+use Rattle.gr_text.specs.Workspace.{Workspace}
+use Rattle.gr_text.specs.declared.limits.Limits.{Limits}
+use Rattle.gr_text.specs.declared.refusal.Refusal.{Refusal}
+use Rattle.gr_text.specs.declared.refusal.Refusal.TheVariants.{Memory, NoPackage, Same, InsideItself, TargetTaken, TooLarge, Faulty, Captured, Lost}
+use Rattle.gr_verdict.specs.Verdicts.{Verdicts}
+use Rattle.gr_verdict.specs.FaultLists.{ListsFaults}
+use Rattle.gr_bound.specs.Uses.{HasFirstFault}
+use Rattle.gr_check.specs.RevisionsOfEdits.{revision_of}
+use Rattle.gr_check.specs.Preserved.{Preserves}
+use Rattle.gr_edit.specs.EditSet.{FileChanges, edited}
+use Rattle.gr_edit.specs.Fits.{Fits}
+use Rattle.gr_space.specs.Fits.{FitsLimits}
+use Rattle.gr_space.specs.declared.snapshot.Snapshot.{Snapshot}
+use Rattle.gr_space.specs.declared.change.Change.{Change}
+use Rattle.gr_space.specs.declared.change.ChangeKind.TheVariants.{Move}
+use Rattle.gr_moving.specs.Paths.{IsUnder}
+use Rattle.gr_moving.specs.MoveEdits.{IsFree}
+use Rattle.gr_move.specs.Plan.{IsTaken, HasConflict, HasNameConflict, IsTooLong, IsTooLarge, IsMoved}
+
+-- both are paths
+pub record ArePaths (from to : List ℕ) : Type 0 where
+  pub source : IsPath 1 from
+  pub target : IsPath 1 to
+
+-- whether a package can be moved there, or why not
+abbrev pub RefusesTarget : Workspace → (from to : List ℕ) → Result (Unit {0}) Refusal → Type 0
+RefusesTarget w from to (Ok done) = Contains (package_paths w) from × ¬ (to ≡ from) × ¬ (IsUnder from to) × IsFree w to
+RefusesTarget w from to (Err NoPackage) = ¬ (Contains (package_paths w) from)
+RefusesTarget w from to (Err Same) = Contains (package_paths w) from × (to ≡ from)
+RefusesTarget w from to (Err InsideItself) = Contains (package_paths w) from × ¬ (to ≡ from) × IsUnder from to
+RefusesTarget w from to (Err TargetTaken) = Contains (package_paths w) from × ¬ (to ≡ from) × ¬ (IsUnder from to) × IsTaken w to
+RefusesTarget w from to (Err Memory) = ⊤
+RefusesTarget w from to (Err refusal) = ⊥
+
+-- the change that these edits make of a snapshot's files
+abbrev pub moving_by : Snapshot → FileChanges → Change
+moving_by snapshot s = record { base = snapshot.files; kind = Move; edits = s; files = edited s snapshot.files }
+
+-- a change, unless its files pass a limit
+abbrev pub KeepsLimits : Limits → Change → Result Change Refusal → Type 0
+KeepsLimits limits change (Ok same) = (same ≡ change) × FitsLimits limits change.files
+KeepsLimits limits change (Err TooLarge) = ¬ (FitsLimits limits change.files)
+KeepsLimits limits change (Err refusal) = ⊥
+
+-- whether bindings are preserved, or that they are not
+abbrev pub RefusesConflict : Workspace → FileChanges → Result (Unit {0}) Refusal → Type 0
+RefusesConflict w s (Ok done) = Preserves w (revision_of w s)
+RefusesConflict w s (Err (Captured used by)) = ¬ (Preserves w (revision_of w s))
+RefusesConflict w s (Err (Lost used)) = ¬ (Preserves w (revision_of w s))
+RefusesConflict w s (Err Memory) = ⊤
+RefusesConflict w s (Err refusal) = ⊥
+
+-- the same where the change is of no use, since a file would get too long a path
+abbrev pub RefusesLength : Workspace → FileChanges → Result Change Refusal → Type 0
+RefusesLength w s (Ok change) = ⊥
+RefusesLength w s (Err TooLarge) = Preserves w (revision_of w s)
+RefusesLength w s (Err (Captured used by)) = ¬ (Preserves w (revision_of w s))
+RefusesLength w s (Err (Lost used)) = ¬ (Preserves w (revision_of w s))
+RefusesLength w s (Err Memory) = ⊤
+RefusesLength w s (Err refusal) = ⊥
+
+-- that change, unless it does not preserve bindings or passes a limit
+abbrev pub PlansEdits : Snapshot → FileChanges → Result Change Refusal → Type 0
+PlansEdits snapshot s (Ok change) =
+    Preserves snapshot.files (revision_of snapshot.files s) × FitsLimits snapshot.limits (edited s snapshot.files) × (change ≡ moving_by snapshot s)
+PlansEdits snapshot s (Err (Captured used by)) = ¬ (Preserves snapshot.files (revision_of snapshot.files s))
+PlansEdits snapshot s (Err (Lost used)) = ¬ (Preserves snapshot.files (revision_of snapshot.files s))
+PlansEdits snapshot s (Err TooLarge) = Preserves snapshot.files (revision_of snapshot.files s) × ¬ (FitsLimits snapshot.limits (edited s snapshot.files))
+PlansEdits snapshot s (Err Memory) = ⊤
+PlansEdits snapshot s (Err refusal) = ⊥
+
+-- what planning answers where the package can be moved there
+abbrev pub PlansIn : Snapshot → (from to : List ℕ) → Result Change Refusal → Type 0
+PlansIn snapshot from to (Ok change) = ListsFaults snapshot.files [] × IsMoved snapshot from to change
+PlansIn snapshot from to (Err (Faulty place kind)) = HasFirstFault snapshot.files place kind
+PlansIn snapshot from to (Err (Captured used by)) = ListsFaults snapshot.files [] × (HasConflict snapshot.files from to ⊎ HasNameConflict snapshot.files from to)
+PlansIn snapshot from to (Err (Lost used)) = ListsFaults snapshot.files [] × (HasConflict snapshot.files from to ⊎ HasNameConflict snapshot.files from to)
+PlansIn snapshot from to (Err TooLarge) = ListsFaults snapshot.files [] × (IsTooLong snapshot.files from to ⊎ IsTooLarge snapshot from to)
+PlansIn snapshot from to (Err Memory) = ⊤
+PlansIn snapshot from to (Err refusal) = ⊥

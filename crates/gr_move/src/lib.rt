@@ -1,0 +1,7 @@
+//! Plans of moves.
+#![tactic(auto)]
+
+mod plan;
+mod targets;
+
+pub use plan::plan_move;

@@ -1,0 +1,214 @@
+//! The change that moves a package.
+ghost use Rattle.std.specs.Prelude.{◌≡◌};
+ghost use Rattle.gr_text.specs.Path.{IsPath};
+ghost use Rattle.gr_edit.specs.EditSet.{edited};
+ghost use Rattle.gr_edit.specs.Fits.{Fits};
+ghost use Rattle.gr_bound.specs.Workspaces.{IsSound};
+ghost use Rattle.gr_moving.specs.MoveEdits.{HasNoNewPath, IsFree};
+ghost use Rattle.gr_move.specs.Plan.{PlansMove};
+ghost use Rattle.gr_move.specs.Steps.{moving_by, ArePaths, KeepsLimits, RefusesConflict, RefusesLength, PlansEdits, PlansIn};
+
+use crate::targets::refuse_target;
+use gr_bound::refuse_faults;
+use gr_check::preserves;
+use gr_conflict::{Conflict, first_conflict, told};
+use gr_edit::EditSet;
+use gr_moving::move_edits;
+use gr_space::{Change, ChangeKind, Snapshot, fits_limits};
+use gr_text::{Limits, Path, Place, Refusal};
+use gr_verdict::{Findings, verdicts};
+use std::alloc::{AllocError, Global};
+
+/// The first conflict of a change that does not preserve bindings. Where no identifier is there to be named, the package is.
+fn conflict_of(
+    alloc: Global,
+    snapshot: &Snapshot,
+    found: &Findings,
+    from: &Path,
+    change: &Change,
+) -> Result<Conflict, AllocError>
+    requires sound { IsSound snapshot.now.files found.now }
+    requires after { change.now.files ≡ edited change.now.edits snapshot.now.files }
+{
+    match first_conflict(alloc, &snapshot.files, found, &change.edits, &change.files)? {
+        Some(conflict) => Ok(conflict),
+        None => Ok(Conflict {
+            used: Place {
+                path: from.clone()?,
+                offset: 0,
+            },
+            by: None,
+        }),
+    }
+}
+
+/// The first conflict of a change, unless it preserves bindings.
+fn refuse_conflict(
+    alloc: Global,
+    snapshot: &Snapshot,
+    found: &Findings,
+    from: &Path,
+    change: &Change,
+) -> Result<(), Refusal>
+    requires sound { IsSound snapshot.now.files found.now }
+    requires after { change.now.files ≡ edited change.now.edits snapshot.now.files }
+    ensures { RefusesConflict snapshot.now.files change.now.edits result }
+{
+    let kept = preserves(alloc, &snapshot.files, found, &change.edits, &change.files)?;
+    if kept {
+        return Ok(());
+    }
+    let conflict = conflict_of(alloc, snapshot, found, from, change)?;
+    Err(told(conflict))
+}
+
+/// The change, unless its files pass a limit.
+fn within_limits(limits: &Limits, change: Change) -> Result<Change, Refusal>
+    ensures { KeepsLimits limits.now change result }
+{
+    if fits_limits(limits, &change.files) {
+        Ok(change)
+    } else {
+        Err(Refusal::TooLarge)
+    }
+}
+
+/// The change, unless it does not preserve bindings or passes a limit.
+fn judged(
+    alloc: Global,
+    snapshot: &Snapshot,
+    found: &Findings,
+    from: &Path,
+    change: Change,
+) -> Result<Change, Refusal>
+    requires sound { IsSound snapshot.now.files found.now }
+    requires is_change { change ≡ moving_by snapshot.now change.edits }
+    ensures { PlansEdits snapshot.now change.edits result }
+{
+    match refuse_conflict(alloc, snapshot, found, from, &change) {
+        Err(refusal) => Err(refusal),
+        Ok(()) => within_limits(&snapshot.limits, change),
+    }
+}
+
+/// The change by some edits, unless it does not preserve bindings or passes a limit.
+fn plan_edits(
+    alloc: Global,
+    snapshot: &Snapshot,
+    found: &Findings,
+    from: &Path,
+    edits: EditSet,
+) -> Result<Change, Refusal>
+    requires sound { IsSound snapshot.now.files found.now }
+    requires fits { Fits edits snapshot.now.files }
+    ensures { PlansEdits snapshot.now edits result }
+{
+    let change = Change::of(alloc, snapshot, ChangeKind::Move, edits)?;
+    judged(alloc, snapshot, found, from, change)
+}
+
+/// Why edits are refused that give the name alone, where a file would get too long a path.
+fn refuse_length(
+    alloc: Global,
+    snapshot: &Snapshot,
+    found: &Findings,
+    from: &Path,
+    edits: EditSet,
+) -> Result<Change, Refusal>
+    requires sound { IsSound snapshot.now.files found.now }
+    requires fits { Fits edits snapshot.now.files }
+    ensures { RefusesLength snapshot.now.files edits result }
+{
+    let change = Change::of(alloc, snapshot, ChangeKind::Move, edits)?;
+    match refuse_conflict(alloc, snapshot, found, from, &change) {
+        Err(refusal) => Err(refusal),
+        Ok(()) => Err(Refusal::TooLarge),
+    }
+}
+
+/// Why a package is not moved of which a file would get too long a path. A conflict of its name comes first.
+fn refuse_long(
+    alloc: Global,
+    snapshot: &Snapshot,
+    found: &Findings,
+    from: &Path,
+    to: &Path,
+) -> Result<Change, Refusal>
+    requires sound { IsSound snapshot.now.files found.now }
+    requires no_path { HasNoNewPath snapshot.now.files from.now to.now }
+    ensures { PlansIn snapshot.now from.now to.now result }
+{
+    match move_edits(alloc, &snapshot.files, found, from, from, to) {
+        Err(refusal) => Err(refusal),
+        Ok(edits) => refuse_length(alloc, snapshot, found, from, edits),
+    }
+}
+
+/// The change that moves a package to a folder in which no file lies. The workspace has no fault.
+fn plan_found(
+    alloc: Global,
+    snapshot: &Snapshot,
+    found: &Findings,
+    from: &Path,
+    to: &Path,
+) -> Result<Change, Refusal>
+    requires sound { IsSound snapshot.now.files found.now }
+    requires free { IsFree snapshot.now.files to.now }
+    ensures { PlansIn snapshot.now from.now to.now result }
+{
+    match move_edits(alloc, &snapshot.files, found, from, to, to) {
+        Err(Refusal::Memory) => Err(Refusal::Memory),
+        Err(_) => refuse_long(alloc, snapshot, found, from, to),
+        Ok(edits) => plan_edits(alloc, snapshot, found, from, edits),
+    }
+}
+
+/// The change that moves a package to a folder in which no file lies, unless the workspace has a fault.
+fn plan_in(alloc: Global, snapshot: &Snapshot, from: &Path, to: &Path) -> Result<Change, Refusal>
+    requires { IsFree snapshot.now.files to.now }
+    ensures { PlansIn snapshot.now from.now to.now result }
+{
+    let found = verdicts(alloc, &snapshot.files)?;
+    match refuse_faults(alloc, &snapshot.files, &found) {
+        Err(refusal) => Err(refusal),
+        Ok(()) => plan_found(alloc, snapshot, &found, from, to),
+    }
+}
+
+/// The change that moves a package, by paths.
+fn plan_paths(alloc: Global, snapshot: &Snapshot, from: &Path, to: &Path) -> Result<Change, Refusal>
+    requires { ArePaths from.now to.now }
+    ensures { PlansMove snapshot.now from.now to.now result }
+{
+    match refuse_target(&snapshot.files, from, to) {
+        Err(refusal) => Err(refusal),
+        Ok(()) => plan_in(alloc, snapshot, from, to),
+    }
+}
+
+/// The change that moves the package of a path to that of a text.
+fn plan_target(alloc: Global, snapshot: &Snapshot, from: &Path, to: &str) -> Result<Change, Refusal>
+    requires { IsPath 1 from.now }
+    ensures { PlansMove snapshot.now from.now to.now result }
+{
+    match Path::read(alloc, to, 1) {
+        Err(refusal) => Err(refusal),
+        Ok(target) => plan_paths(alloc, snapshot, from, &target),
+    }
+}
+
+/// The change of a snapshot's files that moves a package, with all that its folder holds, to another folder. Its imports, and
+/// where its name follows the names for it, are changed everywhere.
+pub fn plan_move(
+    alloc: Global,
+    snapshot: &Snapshot,
+    from: &str,
+    to: &str,
+) -> Result<Change, Refusal>
+    ensures { PlansMove snapshot.now from.now to.now result }
+{
+    match Path::read(alloc, from, 1) {
+        Err(refusal) => Err(refusal),
+        Ok(source) => plan_target(alloc, snapshot, &source, to),
+    }
+}

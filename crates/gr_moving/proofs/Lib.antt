@@ -1,0 +1,11 @@
+-- The lemmas of this crate.
+pub mod PathParts
+pub mod Marking
+pub mod TokenEdits
+pub mod EditMaps
+pub mod Naming
+pub mod GoFiles
+pub mod Changing
+pub mod Targets
+pub mod Fitting
+pub mod Planning

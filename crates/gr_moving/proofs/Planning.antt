@@ -1,0 +1,54 @@
+-- What the edit set of a move answers.
+use Rattle.std.proofs.Common.{ℕ, ◌≡◌, Global, List, [], length, sym, subst, ◌∙◌}
+use Rattle.std.specs.Prelude.{Contains, Ok, Err}
+use Rattle.std.specs.FinMap.{entries, get}
+use Rattle.gr_text.specs.Packages.{package_paths}
+use Rattle.gr_text.specs.Workspace.{Workspace}
+use Rattle.gr_text.specs.declared.refusal.Refusal.{Refusal}
+use Rattle.gr_text.specs.declared.refusal.Refusal.TheVariants.{Memory, TooLarge}
+use Rattle.gr_verdict.specs.declared.findings.Findings.{Findings}
+use Rattle.gr_verdict.specs.Verdicts.{Verdicts}
+use Rattle.gr_edit.specs.EditSet.{FileChanges}
+use Rattle.gr_edit.specs.Fits.{IsEditSet}
+use Rattle.gr_edit.specs.declared.change.FileChange.{FileChange}
+use Rattle.gr_edit.proofs.Entries.{get_entry, some_is}
+use Rattle.gr_bound.specs.Workspaces.{IsSound, known_in}
+use Rattle.gr_moving.specs.declared.moved.Moved.{Moved}
+use Rattle.gr_moving.specs.Paths.{HasMoved}
+use Rattle.gr_moving.specs.MoveEdits.{IsMoveOf, HoldsNoOther, PlansMoveEdits}
+use Rattle.gr_moving.specs.Steps.{EditMap, KnowsEdits, AreChangesOf, TellsChanges}
+use Rattle.gr_moving.proofs.Fitting.{is_edit_set, are_move_edits, fits}
+
+abbrev set_with : List FileChange → FileChanges
+set_with cs = record { changed = cs; added = [] }
+
+pub refused_set : (w : Workspace) (known : Verdicts) (m : Moved) (edits : EditMap) (from to called : List ℕ) → IsMoveOf w known from to called m → (r : Refusal) →
+    TellsChanges {Z = Global} m edits (entries w) (Err r) → PlansMoveEdits w known from to called (Err r)
+refused_set w known m edits from to called is TooLarge h =
+    let old = h.0.0 in
+    let new = h.1.1.0 in
+    record {
+      old = old;
+      is_file = some_is (get w old) h.0.1 (get_entry w h.0 h.1.0);
+      is_path = h.1.1.1.2;
+      new = new;
+      moves = subst (λ f. HasMoved f to old new) is.source (subst (λ t. HasMoved m.from t old new) is.target h.1.1.1.0);
+      no_path = h.1.1.1.1;
+    }
+refused_set w known m edits from to called is Memory h = h
+refused_set w known m edits from to called is _ h = h
+
+pub set_is_one : (w : Workspace) (found : Findings) → IsSound w found → (m : Moved) (edits : EditMap) →
+    KnowsEdits w (known_in found) m (length (package_paths w)) edits → (cs : List FileChange) → AreChangesOf m edits (entries w) cs →
+    (added : List (List ℕ × List ℕ)) → added ≡ [] → IsEditSet (record { changed = cs; added = added })
+set_is_one w found sound m edits knows cs are added e = subst (λ l. IsEditSet (record { changed = cs; added = l })) (sym e)
+    (is_edit_set w found sound m edits knows cs are)
+
+pub planned_set : (w : Workspace) (found : Findings) → IsSound w found → (m : Moved) (edits : EditMap) →
+    KnowsEdits w (known_in found) m (length (package_paths w)) edits → (cs : List FileChange) → AreChangesOf m edits (entries w) cs →
+    (from to called : List ℕ) → IsMoveOf w (known_in found) from to called m → HoldsNoOther w from to → (s : FileChanges) → s ≡ set_with cs →
+    PlansMoveEdits w (known_in found) from to called (Ok s)
+planned_set w found sound m edits knows cs are from to called is free s e =
+    let spared : HoldsNoOther w m.from m.to = subst (λ f. HoldsNoOther w f m.to) (sym is.source) (subst (HoldsNoOther w from) (sym is.target) free) in
+    subst (λ x. PlansMoveEdits w (known_in found) from to called (Ok x)) (sym e)
+    (are_move_edits w found sound m edits knows cs are from to called is, fits w found sound m edits knows cs are spared)

@@ -1,0 +1,7 @@
+-- The definitions of this crate.
+pub mod Paths
+pub mod Following
+pub mod FileEdits
+pub mod Changes
+pub mod MoveEdits
+pub mod Steps

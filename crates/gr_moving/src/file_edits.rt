@@ -1,0 +1,147 @@
+//! The edits of one file.
+ghost use Rattle.std.specs.Prelude.{◌≡◌, ◌≤◌, ◌↔◌, ◌++◌, IfOk, OnOk, IsTrue, Some, Contains, slice_get};
+ghost use Rattle.gr_scan.specs.declared.piece.Class.TheVariants.{Name};
+ghost use Rattle.gr_scan.specs.CutText.{tokens_in};
+ghost use Rattle.gr_tree.specs.SourceFile.{source_of};
+ghost use Rattle.gr_graph.specs.FileImports.{import_literals};
+ghost use Rattle.gr_declared.specs.PackageView.{package_of, IsIndexOf};
+ghost use Rattle.gr_bound.specs.Bindings.{AddsAll};
+ghost use Rattle.gr_renaming.specs.FileEdits.{EndBy};
+ghost use Rattle.gr_moving.specs.FileEdits.{ReplacesPath, ReplacesName, IsEditAt, AreFileEdits};
+ghost use Rattle.gr_moving.specs.Steps.{AreImportMarks, edits_with};
+
+use crate::literals::new_literal;
+use crate::marks::import_marks;
+use crate::moved::Moved;
+use crate::names::is_package_name;
+use gr_declared::{Index, Package};
+use gr_edit::Edit;
+use gr_scan::{Class, Piece};
+use gr_text::{FileText, Span};
+use gr_tree::FileTree;
+use std::alloc::{AllocError, Global};
+
+/// Adds an edit, if there is a text for it.
+fn push_some(edits: &mut Vec<Edit>, span: Span, text: Option<FileText>) -> Result<(), AllocError>
+    ensures { OnOk result (edits.new.items ≡ edits.old.items ++ edits_with span text) }
+{
+    match text {
+        None => Ok(()),
+        Some(text) => {
+            edits.push(Edit { span, text })?;
+            Ok(())
+        }
+    }
+}
+
+/// Adds the new path in place of the literal of an import, if the package moves.
+fn add_path(
+    alloc: Global,
+    edits: &mut Vec<Edit>,
+    file: &FileTree,
+    number: usize,
+    token: Piece,
+    moved: &Moved,
+) -> Result<(), AllocError>
+    requires at { slice_get (tokens_in (source_of file.now).cut) number ≡ Some token }
+    requires is_import { Contains (import_literals (source_of file.now).tree) number }
+    requires span { token.span.start ≤ token.span.end }
+    requires order { EndBy edits.old.items token.span.start }
+    ensures order { OnOk result (EndBy edits.new.items token.span.end) }
+    ensures adds { OnOk result (AddsAll edits.old.items edits.new.items (ReplacesPath (source_of file.now) moved.now number)) }
+{
+    let text = new_literal(alloc, file, number, moved)?;
+    push_some(edits, token.span, text)
+}
+
+/// Adds the name that follows in place of a name, if that is one of the package that is moved.
+fn add_name(
+    edits: &mut Vec<Edit>,
+    unit: Package<'_>,
+    index: &Index<'_>,
+    file: &FileTree,
+    rank: usize,
+    number: usize,
+    token: Piece,
+    moved: &Moved,
+) -> Result<(), AllocError>
+    requires index { IsIndexOf (package_of unit) index.now }
+    requires at { slice_get (tokens_in (source_of file.now).cut) number ≡ Some token }
+    requires is_name { token.class ≡ Name }
+    requires span { token.span.start ≤ token.span.end }
+    requires order { EndBy edits.old.items token.span.start }
+    ensures order { OnOk result (EndBy edits.new.items token.span.end) }
+    ensures adds { OnOk result (AddsAll edits.old.items edits.new.items (ReplacesName (package_of unit.entry) rank (source_of file.now) moved.now number)) }
+{
+    if let Some(name) = &moved.name {
+        if is_package_name(unit, index, file, rank, moved, number) {
+            edits.push(Edit {
+                span: token.span,
+                text: name.clone()?,
+            })?;
+        }
+    }
+    Ok(())
+}
+
+/// Adds the edit of a token, if it has one.
+fn add_edit(
+    alloc: Global,
+    edits: &mut Vec<Edit>,
+    unit: Package<'_>,
+    index: &Index<'_>,
+    file: &FileTree,
+    rank: usize,
+    number: usize,
+    token: Piece,
+    is_import: bool,
+    moved: &Moved,
+) -> Result<(), AllocError>
+    requires index { IsIndexOf (package_of unit) index.now }
+    requires at { slice_get (tokens_in (source_of file.now).cut) number ≡ Some token }
+    requires is_import { IsTrue is_import ↔ Contains (import_literals (source_of file.now).tree) number }
+    requires span { token.span.start ≤ token.span.end }
+    requires order { EndBy edits.old.items token.span.start }
+    ensures order { OnOk result (EndBy edits.new.items token.span.end) }
+    ensures adds { OnOk result (AddsAll edits.old.items edits.new.items (IsEditAt (package_of unit.entry) rank (source_of file.now) moved.now number)) }
+{
+    if token.class == Class::Name {
+        add_name(edits, unit, index, file, rank, number, token, moved)
+    } else if is_import {
+        add_path(alloc, edits, file, number, token, moved)
+    } else {
+        Ok(())
+    }
+}
+
+/// The edits of a file, in the order of its tokens.
+pub(crate) fn edits_of(
+    alloc: Global,
+    unit: Package<'_>,
+    index: &Index<'_>,
+    file: &FileTree,
+    rank: usize,
+    moved: &Moved,
+) -> Result<Vec<Edit>, AllocError>
+    requires { IsIndexOf (package_of unit) index.now }
+    ensures { IfOk result (λ edits. AreFileEdits (package_of unit.entry) rank (source_of file.now) moved.now edits.items) }
+{
+    let marks = import_marks(alloc, file)?;
+    let tokens = file.pieces().tokens();
+    let mut edits = Vec::new(alloc);
+    for number in 0..tokens.len() {
+        add_edit(
+            alloc,
+            &mut edits,
+            unit,
+            index,
+            file,
+            rank,
+            number,
+            tokens[number],
+            marks[number],
+            moved,
+        )?;
+    }
+    Ok(edits)
+}

@@ -1,0 +1,17 @@
+//! The edits that move a package, with all that its folder holds, to another folder.
+#![tactic(auto)]
+
+mod changes;
+mod file_edits;
+mod following;
+mod literals;
+mod marks;
+mod moved;
+mod moving;
+mod names;
+mod package_edits;
+mod paths;
+
+pub use moved::Moved;
+pub use moving::move_edits;
+pub use paths::is_under;
