@@ -3,6 +3,7 @@ use Rattle.std.specs.Prelude.{◌≡◌, ◌⊎◌, ℕ, List, ⊤, Option, Matc
 use Rattle.gr_text.specs.Path.{IsPath}
 use Rattle.gr_text.specs.declared.refusal.Refusal.{Refusal}
 use Rattle.gr_text.specs.declared.refusal.Refusal.TheVariants.{Memory, BadPath, TooLarge, Moved}
+use Rattle.gr_move.specs.Plan.{PlansMove}
 use Rattle.gr_rename.specs.Plan.{PlansRename}
 use Rattle.gr_space.specs.Plan.{PlansPut, PlansDel}
 use Rattle.gr_book.specs.declared.view.View.{View}
@@ -82,6 +83,8 @@ module _ {D : Type 0} (steps : D → Event → Reply → D → Type 0) where
       (planned : Result Change Refusal) × PlansDel view.snapshot path planned × Commits old basis planned answer new
   ActsOn old view (command.Rename basis path offset name) answer new =
       (planned : Result Change Refusal) × PlansRename view.snapshot path offset name planned × Commits old basis planned answer new
+  ActsOn old view (command.Move basis from to) answer new =
+      (planned : Result Change Refusal) × PlansMove view.snapshot from to planned × Commits old basis planned answer new
   ActsOn old view (command.Undo basis) answer new = Sends old (Undo basis) answer new
   ActsOn old view (command.Redo basis) answer new = Sends old (Redo basis) answer new
   ActsOn old view (command.Cat path) answer new =

@@ -1,6 +1,7 @@
 //! One command. Each but a log begins with a look, and what it does is planned on the view that the look gave.
 ghost use Rattle.std.specs.Prelude.{◌≡◌, ◌↔◌, ℕ, IsTrue, List, None, Result};
 ghost use Rattle.gr_text.specs.declared.refusal.Refusal.{Refusal as WhyRefused};
+ghost use Rattle.gr_move.specs.Plan.{PlansMove};
 ghost use Rattle.gr_rename.specs.Plan.{PlansRename};
 ghost use Rattle.gr_space.specs.Plan.{PlansDel};
 ghost use Rattle.gr_space.specs.declared.change.Change.{Change as PlannedChange};
@@ -27,6 +28,7 @@ use crate::queries::{cat, faults, list, object, uses};
 use crate::working::work;
 use gr_book::{Event, Reply, View};
 use gr_line::{Bytes, Command, Response, Word};
+use gr_move::plan_move;
 use gr_rename::plan_rename;
 use gr_space::{Change, plan_del, plan_put};
 use gr_text::{FileText, Path, Refusal};
@@ -150,6 +152,21 @@ fn rename<D: Desk>(
     commit(desk, basis, planned)
 }
 
+/// The change that a move asks for, committed.
+fn move_to<D: Desk>(
+    alloc: Global,
+    desk: &mut D,
+    view: &View,
+    basis: u64,
+    from: Word,
+    to: Word,
+) -> Response
+    ensures { (planned : Result PlannedChange WhyRefused) × PlansMove view.now.snapshot from to planned × Commits D.steps desk.old basis planned result desk.new }
+{
+    let planned = plan_move(alloc, &view.snapshot, from.as_str(), to.as_str());
+    commit(desk, basis, planned)
+}
+
 fn file_response(number: u64, found: Result<FileText, Refusal>) -> Response
     ensures { result ≡ file_response number found }
 {
@@ -236,6 +253,7 @@ fn act_on<D: Desk>(alloc: Global, desk: &mut D, view: &View, command: Command) -
             offset,
             name,
         } => rename(alloc, desk, view, basis, path, offset, name),
+        Command::Move { basis, from, to } => move_to(alloc, desk, view, basis, from, to),
         Command::Undo { basis } => undo(desk, basis),
         Command::Redo { basis } => redo(desk, basis),
         Command::Cat { path } => tell_file(alloc, view, path),

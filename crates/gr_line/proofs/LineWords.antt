@@ -2,7 +2,7 @@
 use Rattle.std.proofs.Common.{◌≡◌, ◌≢◌, ℕ, ◌^◌, ◌+◌, ◌*◌, ◌<◌, List, [], ◌∷◌, ◌++◌, Option, None, Some, refl, sym, ap, ◌∙◌, arith, decimal, codes}
 use Rattle.std.specs.List.{AllByRecursion}
 use Rattle.gr_line.specs.declared.parse.CommandLine.{CommandLine}
-use Rattle.gr_line.specs.declared.parse.CommandLine.TheVariants.{Look, Put, Del, Rename, Undo, Redo, Cat, Uses, End}
+use Rattle.gr_line.specs.declared.parse.CommandLine.TheVariants.{Look, Put, Del, Rename, Move, Undo, Redo, Cat, Uses, End}
 use Rattle.gr_line.specs.declared.parse.CommandLine.TheVariants as line
 use Rattle.gr_line.specs.Words.{HasNoSpace, IsWord, spaced}
 use Rattle.gr_line.specs.Lines.{verb_of, args_of, place_word, FitsLine, IsCommandLine}
@@ -30,6 +30,7 @@ verb_no_space Look = four 108 111 111 107 (omega arith) (omega arith) (omega ari
 verb_no_space (Put basis path size) = three 112 117 116 (omega arith) (omega arith) (omega arith)
 verb_no_space (Del basis path) = three 100 101 108 (omega arith) (omega arith) (omega arith)
 verb_no_space (Rename basis path offset name) = six 114 101 110 97 109 101 (omega arith) (omega arith) (omega arith) (omega arith) (omega arith) (omega arith)
+verb_no_space (Move basis from to) = four 109 111 118 101 (omega arith) (omega arith) (omega arith) (omega arith)
 verb_no_space (Undo basis) = four 117 110 100 111 (omega arith) (omega arith) (omega arith) (omega arith)
 verb_no_space (Redo basis) = four 114 101 100 111 (omega arith) (omega arith) (omega arith) (omega arith)
 verb_no_space (Cat path) = three 99 97 116 (omega arith) (omega arith) (omega arith)
@@ -46,6 +47,7 @@ args_no_space Look h = tt
 args_no_space (Put basis path size) h = (decimal_word basis h.0, (h.1.1, (decimal_word size (omega (arith, h.2)), tt)))
 args_no_space (Del basis path) h = (decimal_word basis h.0, (h.1.1, tt))
 args_no_space (Rename basis path offset name) h = (decimal_word basis h.0, (place_word_no_space path offset h.1.0 h.1.1, (h.2.1, tt)))
+args_no_space (Move basis from to) h = (decimal_word basis h.0, (h.1.1, (h.2.1, tt)))
 args_no_space (Undo basis) h = (decimal_word basis h, tt)
 args_no_space (Redo basis) h = (decimal_word basis h, tt)
 args_no_space (Cat path) h = (h.1, tt)
@@ -90,6 +92,10 @@ only_del command P e h = absurd (omega (arith, ap weight e))
 pub only_rename : (command : CommandLine) (P : CommandLine → Type 0) → verb_of command ≡ codes "rename" → ((basis : ℕ) (path : List ℕ) (offset : ℕ) (name : List ℕ) → P (Rename basis path offset name)) → P command
 only_rename (Rename basis path offset name) P e h = h basis path offset name
 only_rename command P e h = absurd (omega (arith, ap weight e))
+
+pub only_move : (command : CommandLine) (P : CommandLine → Type 0) → verb_of command ≡ codes "move" → ((basis : ℕ) (from to : List ℕ) → P (Move basis from to)) → P command
+only_move (Move basis from to) P e h = h basis from to
+only_move command P e h = absurd (omega (arith, ap weight e))
 
 pub only_undo : (command : CommandLine) (P : CommandLine → Type 0) → verb_of command ≡ codes "undo" → ((basis : ℕ) → P (Undo basis)) → P command
 only_undo (Undo basis) P e h = h basis
@@ -149,6 +155,10 @@ pub rename_words : (words : List ℕ)
     → (command : CommandLine) → HasWords (codes "rename") words command → ⊥
 rename_words words never command h = only_rename command (λ c. FitsLine c → IsSpaced (args_of c) words → ⊥) h.first never h.fits h.others
 
+pub move_words : (words : List ℕ) → ((basis : ℕ) (from to : List ℕ) → FitsLine (Move basis from to) → words ≡ decimal basis ++ 32 ∷ (from ++ 32 ∷ to) → ⊥)
+    → (command : CommandLine) → HasWords (codes "move") words command → ⊥
+move_words words never command h = only_move command (λ c. FitsLine c → IsSpaced (args_of c) words → ⊥) h.first never h.fits h.others
+
 pub undo_words : (words : List ℕ) → ((basis : ℕ) → basis < 2 ^ 64 → words ≡ decimal basis → ⊥)
     → (command : CommandLine) → HasWords (codes "undo") words command → ⊥
 undo_words words never command h = only_undo command (λ c. FitsLine c → IsSpaced (args_of c) words → ⊥) h.first never h.fits h.others
@@ -174,22 +184,23 @@ pub log_words : (words : List ℕ) → ((number : ℕ) → number < 2 ^ 64 → w
 log_words words never command h = only_log command (λ c. FitsLine c → IsSpaced (args_of c) words → ⊥) h.first never h.fits h.others
 
 -- lines of several words begin with one of these
-pub no_verb : (verb words : List ℕ) → verb ≢ codes "put" → verb ≢ codes "del" → verb ≢ codes "rename" → verb ≢ codes "undo" → verb ≢ codes "redo" → verb ≢ codes "cat" → verb ≢ codes "uses" → verb ≢ codes "object" → verb ≢ codes "log"
+pub no_verb : (verb words : List ℕ) → verb ≢ codes "put" → verb ≢ codes "del" → verb ≢ codes "rename" → verb ≢ codes "move" → verb ≢ codes "undo" → verb ≢ codes "redo" → verb ≢ codes "cat" → verb ≢ codes "uses" → verb ≢ codes "object" → verb ≢ codes "log"
     → (command : CommandLine) → HasWords verb words command → ⊥
-no_verb verb words put del rename undo redo cat uses object log (Put basis path size) h = put (sym h.first)
-no_verb verb words put del rename undo redo cat uses object log (Del basis path) h = del (sym h.first)
-no_verb verb words put del rename undo redo cat uses object log (Rename basis path offset name) h = rename (sym h.first)
-no_verb verb words put del rename undo redo cat uses object log (Undo basis) h = undo (sym h.first)
-no_verb verb words put del rename undo redo cat uses object log (Redo basis) h = redo (sym h.first)
-no_verb verb words put del rename undo redo cat uses object log (Cat path) h = cat (sym h.first)
-no_verb verb words put del rename undo redo cat uses object log (Uses path offset) h = uses (sym h.first)
-no_verb verb words put del rename undo redo cat uses object log Look h = h.others
-no_verb verb words put del rename undo redo cat uses object log line.List h = h.others
-no_verb verb words put del rename undo redo cat uses object log line.Faults h = h.others
-no_verb verb words put del rename undo redo cat uses object log (line.Object path) h = object (sym h.first)
-no_verb verb words put del rename undo redo cat uses object log line.Work h = h.others
-no_verb verb words put del rename undo redo cat uses object log (line.Log number) h = log (sym h.first)
-no_verb verb words put del rename undo redo cat uses object log End h = h.others
+no_verb verb words put del rename move undo redo cat uses object log (Put basis path size) h = put (sym h.first)
+no_verb verb words put del rename move undo redo cat uses object log (Del basis path) h = del (sym h.first)
+no_verb verb words put del rename move undo redo cat uses object log (Rename basis path offset name) h = rename (sym h.first)
+no_verb verb words put del rename move undo redo cat uses object log (Move basis from to) h = move (sym h.first)
+no_verb verb words put del rename move undo redo cat uses object log (Undo basis) h = undo (sym h.first)
+no_verb verb words put del rename move undo redo cat uses object log (Redo basis) h = redo (sym h.first)
+no_verb verb words put del rename move undo redo cat uses object log (Cat path) h = cat (sym h.first)
+no_verb verb words put del rename move undo redo cat uses object log (Uses path offset) h = uses (sym h.first)
+no_verb verb words put del rename move undo redo cat uses object log Look h = h.others
+no_verb verb words put del rename move undo redo cat uses object log line.List h = h.others
+no_verb verb words put del rename move undo redo cat uses object log line.Faults h = h.others
+no_verb verb words put del rename move undo redo cat uses object log (line.Object path) h = object (sym h.first)
+no_verb verb words put del rename move undo redo cat uses object log line.Work h = h.others
+no_verb verb words put del rename move undo redo cat uses object log (line.Log number) h = log (sym h.first)
+no_verb verb words put del rename move undo redo cat uses object log End h = h.others
 
 pub no_bare : (verb : List ℕ) → verb ≢ codes "look" → verb ≢ codes "list" → verb ≢ codes "faults" → verb ≢ codes "work" → verb ≢ codes "end"
     → (command : CommandLine) → args_of command ≡ [] → verb_of command ≢ verb
@@ -202,6 +213,7 @@ no_bare verb look list faults work end End a = λ e. end (sym e)
 no_bare verb look list faults work end (Put basis path size) a = absurd cc
 no_bare verb look list faults work end (Del basis path) a = absurd cc
 no_bare verb look list faults work end (Rename basis path offset name) a = absurd cc
+no_bare verb look list faults work end (Move basis from to) a = absurd cc
 no_bare verb look list faults work end (Undo basis) a = absurd cc
 no_bare verb look list faults work end (line.Log number) a = absurd cc
 no_bare verb look list faults work end (Redo basis) a = absurd cc

@@ -16,7 +16,7 @@ use Rattle.gr_line.specs.declared.message.Message.TheVariants.{Ask, Unknown, Cut
 use Rattle.gr_line.specs.declared.next.Next.{Next}
 use Rattle.gr_line.specs.declared.next.Next.TheVariants as next
 use Rattle.gr_line.specs.declared.parse.CommandLine.{CommandLine}
-use Rattle.gr_line.specs.declared.parse.CommandLine.TheVariants.{Look, Put, Del, Rename, Undo, Redo, Cat, Uses, End}
+use Rattle.gr_line.specs.declared.parse.CommandLine.TheVariants.{Look, Put, Del, Rename, Move, Undo, Redo, Cat, Uses, End}
 use Rattle.gr_line.specs.declared.parse.CommandLine.TheVariants as line
 use Rattle.gr_line.specs.Limit.{is_newline, line_of, after_line}
 use Rattle.gr_line.specs.Lines.{IsCommandLine, size_after}
@@ -167,6 +167,9 @@ next_line limits (Some input) mid after text (line.Object path) r h t k =
 next_line limits (Some input) mid after text (Rename basis path offset name) r h t k =
     next_bare limits input (command.Rename basis path offset name) after r
     (h.0, (Rename basis path offset name, readable_line limits text input h.1 h.2 t.0, rw (← h.2) t.1, zero_below (length (after_line input)), refl, refl)) k.0
+    (kept_is (after_line input) after (rw h.3 at k.1))
+next_line limits (Some input) mid after text (Move basis from to) r h t k =
+    next_bare limits input (command.Move basis from to) after r (h.0, (Move basis from to, readable_line limits text input h.1 h.2 t.0, rw (← h.2) t.1, zero_below (length (after_line input)), refl, refl)) k.0
     (kept_is (after_line input) after (rw h.3 at k.1))
 next_line limits (Some input) mid after text (line.Log number) r h t k =
     next_bare limits input (command.Log number) after r (h.0, (line.Log number, readable_line limits text input h.1 h.2 t.0, rw (← h.2) t.1, zero_below (length (after_line input)), refl, refl)) k.0

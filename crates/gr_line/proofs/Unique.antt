@@ -7,14 +7,14 @@ use Rattle.gr_line.specs.declared.command.Command.TheVariants as command
 use Rattle.gr_line.specs.declared.message.Message.{Message}
 use Rattle.gr_line.specs.declared.message.Message.TheVariants.{Ask, Unknown, CutShort}
 use Rattle.gr_line.specs.declared.parse.CommandLine.{CommandLine}
-use Rattle.gr_line.specs.declared.parse.CommandLine.TheVariants.{Look, Put, Del, Rename, Undo, Redo, Cat, Uses, End}
+use Rattle.gr_line.specs.declared.parse.CommandLine.TheVariants.{Look, Put, Del, Rename, Move, Undo, Redo, Cat, Uses, End}
 use Rattle.gr_line.specs.declared.parse.CommandLine.TheVariants as line
 use Rattle.gr_line.specs.Lines.{verb_of, args_of, place_word, FitsLine, IsCommandLine, size_after}
 use Rattle.gr_line.specs.Wire.{IsReadable, KeepsBody, SaysCommand, SaysLine, Says, Ends}
 use Rattle.gr_line.specs.Laws.{BeginsOneWay, ReadsOneWay}
 use Rattle.gr_line.specs.Limit.{line_of, after_line}
 use Rattle.gr_line.proofs.Places.{place_word_unique}
-use Rattle.gr_line.proofs.LineWords.{same_words, only_put, only_del, only_rename, only_undo, only_redo, only_cat, only_uses, only_look, only_list, only_faults, only_object, only_work, only_log, only_end}
+use Rattle.gr_line.proofs.LineWords.{same_words, only_put, only_del, only_rename, only_move, only_undo, only_redo, only_cat, only_uses, only_look, only_list, only_faults, only_object, only_work, only_log, only_end}
 
 -- two lists of words that are equal have equal parts
 head_of_two : (x y : List ℕ) (xs ys : List (List ℕ)) → x ∷ xs ≡ y ∷ ys → x ≡ y
@@ -55,6 +55,12 @@ same_line (Rename basis path offset name) b e = only_rename b (Same (Rename basi
     let same_name = head_of_two name label [] [] (tail_of_two (place_word path offset) (place_word way count) (name ∷ []) (label ∷ []) rest) in
     ap (λ x. Rename x path offset name) same ∙ ap (λ x. Rename other x offset name) same_place.0
     ∙ ap (λ x. Rename other way x name) same_place.1 ∙ ap (λ x. Rename other way count x) same_name)
+same_line (Move basis from to) b e = only_move b (Same (Move basis from to)) e (λ other way place h k f.
+    let same = same_basis basis other (from ∷ to ∷ []) (way ∷ place ∷ []) h.0 k.0 f in
+    let rest = tail_of_two (decimal basis) (decimal other) (from ∷ to ∷ []) (way ∷ place ∷ []) f in
+    let same_from = head_of_two from way (to ∷ []) (place ∷ []) rest in
+    let same_to = head_of_two to place [] [] (tail_of_two from way (to ∷ []) (place ∷ []) rest) in
+    cc)
 same_line (Put basis path size) b e = only_put b (Same (Put basis path size)) e (λ other way count h k f.
     let same = same_basis basis other (path ∷ decimal size ∷ []) (way ∷ decimal count ∷ []) h.0 k.0 f in
     let rest = tail_of_two (decimal basis) (decimal other) (path ∷ decimal size ∷ []) (way ∷ decimal count ∷ []) f in
@@ -82,6 +88,7 @@ SaysCommand-unique limits (Put basis path size) bytes a b h k =
 SaysCommand-unique limits Look bytes a b h k = h ∙ sym k
 SaysCommand-unique limits (Del basis path) bytes a b h k = h ∙ sym k
 SaysCommand-unique limits (Rename basis path offset name) bytes a b h k = h ∙ sym k
+SaysCommand-unique limits (Move basis from to) bytes a b h k = h ∙ sym k
 SaysCommand-unique limits (Undo basis) bytes a b h k = h ∙ sym k
 SaysCommand-unique limits (Redo basis) bytes a b h k = h ∙ sym k
 SaysCommand-unique limits (Cat path) bytes a b h k = h ∙ sym k

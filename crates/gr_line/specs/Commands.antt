@@ -9,6 +9,7 @@ basis_of command.Look = None
 basis_of (command.Put basis path body) = Some basis
 basis_of (command.Del basis path) = Some basis
 basis_of (command.Rename basis path offset name) = Some basis
+basis_of (command.Move basis from to) = Some basis
 basis_of (command.Undo basis) = Some basis
 basis_of (command.Redo basis) = Some basis
 basis_of (command.Cat path) = None

@@ -3,7 +3,7 @@ use Rattle.std.specs.Prelude.{◌≡◌, ℕ, ◌^◌, ◌<◌, List, [], ◌∷
 use Rattle.gr_text.specs.PlaceText.{place_text}
 use Rattle.gr_line.specs.Words.{HasNoSpace, IsWord, spaced}
 use Rattle.gr_line.specs.declared.parse.CommandLine.{CommandLine}
-use Rattle.gr_line.specs.declared.parse.CommandLine.TheVariants.{Look, Put, Del, Rename, Undo, Redo, Cat, Uses, End}
+use Rattle.gr_line.specs.declared.parse.CommandLine.TheVariants.{Look, Put, Del, Rename, Move, Undo, Redo, Cat, Uses, End}
 use Rattle.gr_line.specs.declared.parse.CommandLine.TheVariants as line
 
 -- the first word
@@ -12,6 +12,7 @@ verb_of Look = codes "look"
 verb_of (Put basis path size) = codes "put"
 verb_of (Del basis path) = codes "del"
 verb_of (Rename basis path offset name) = codes "rename"
+verb_of (Move basis from to) = codes "move"
 verb_of (Undo basis) = codes "undo"
 verb_of (Redo basis) = codes "redo"
 verb_of (Cat path) = codes "cat"
@@ -33,6 +34,7 @@ args_of Look = []
 args_of (Put basis path size) = decimal basis ∷ path ∷ decimal size ∷ []
 args_of (Del basis path) = decimal basis ∷ path ∷ []
 args_of (Rename basis path offset name) = decimal basis ∷ place_word path offset ∷ name ∷ []
+args_of (Move basis from to) = decimal basis ∷ from ∷ to ∷ []
 args_of (Undo basis) = decimal basis ∷ []
 args_of (Redo basis) = decimal basis ∷ []
 args_of (Cat path) = path ∷ []
@@ -54,6 +56,7 @@ FitsLine Look = ⊤
 FitsLine (Put basis path size) = (basis < 2 ^ 64) × IsWord path × (size < 2 ^ 32)
 FitsLine (Del basis path) = (basis < 2 ^ 64) × IsWord path
 FitsLine (Rename basis path offset name) = (basis < 2 ^ 64) × FitsPlace path offset × IsWord name
+FitsLine (Move basis from to) = (basis < 2 ^ 64) × IsWord from × IsWord to
 FitsLine (Undo basis) = basis < 2 ^ 64
 FitsLine (Redo basis) = basis < 2 ^ 64
 FitsLine (Cat path) = IsWord path
@@ -71,6 +74,7 @@ size_after Look = 0
 size_after (Put basis path size) = size
 size_after (Del basis path) = 0
 size_after (Rename basis path offset name) = 0
+size_after (Move basis from to) = 0
 size_after (Undo basis) = 0
 size_after (Redo basis) = 0
 size_after (Cat path) = 0

@@ -54,6 +54,7 @@ ReadsAfter limits line.End before after r = (r ≡ Ok next.End) × Keeps before 
 ReadsAfter limits line.Look before after r = AsksOf command.Look r × Keeps before after
 ReadsAfter limits (line.Del basis path) before after r = AsksOf (command.Del basis path) r × Keeps before after
 ReadsAfter limits (line.Rename basis path offset name) before after r = AsksOf (command.Rename basis path offset name) r × Keeps before after
+ReadsAfter limits (line.Move basis from to) before after r = AsksOf (command.Move basis from to) r × Keeps before after
 ReadsAfter limits (line.Undo basis) before after r = AsksOf (command.Undo basis) r × Keeps before after
 ReadsAfter limits (line.Redo basis) before after r = AsksOf (command.Redo basis) r × Keeps before after
 ReadsAfter limits (line.Cat path) before after r = AsksOf (command.Cat path) r × Keeps before after

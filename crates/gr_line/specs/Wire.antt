@@ -33,6 +33,7 @@ SaysCommand limits (line.Put basis path size) bytes asked =
     (body : Option (List ℕ)) × KeepsBody limits path bytes body × (asked ≡ command.Put basis path body)
 SaysCommand limits (line.Del basis path) bytes asked = asked ≡ command.Del basis path
 SaysCommand limits (line.Rename basis path offset name) bytes asked = asked ≡ command.Rename basis path offset name
+SaysCommand limits (line.Move basis from to) bytes asked = asked ≡ command.Move basis from to
 SaysCommand limits (line.Undo basis) bytes asked = asked ≡ command.Undo basis
 SaysCommand limits (line.Redo basis) bytes asked = asked ≡ command.Redo basis
 SaysCommand limits (line.Cat path) bytes asked = asked ≡ command.Cat path

@@ -27,6 +27,12 @@ pub enum Command {
         offset: usize,
         name: Word,
     },
+    /// A package's folder, with all that lies below it, and the folder that it is to have.
+    Move {
+        basis: u64,
+        from: Word,
+        to: Word,
+    },
     Undo {
         basis: u64,
     },
@@ -66,6 +72,7 @@ impl Command {
             Command::Put { basis, .. }
             | Command::Del { basis, .. }
             | Command::Rename { basis, .. }
+            | Command::Move { basis, .. }
             | Command::Undo { basis }
             | Command::Redo { basis } => Some(*basis),
             Command::Look

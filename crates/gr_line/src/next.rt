@@ -122,12 +122,12 @@ fn ask(command: Command) -> Next
     Next::Message(Message::Ask(command))
 }
 
-/// The words of a path and a name.
-fn path_and_name(alloc: Global, path: &str, name: &str) -> Result<(Word, Word), AllocError>
-    ensures { IfOk result (λ words. (words.0 ≡ path.now) × (words.1 ≡ name.now)) }
+/// The words of two arguments.
+fn two_words(alloc: Global, one: &str, other: &str) -> Result<(Word, Word), AllocError>
+    ensures { IfOk result (λ words. (words.0 ≡ one.now) × (words.1 ≡ other.now)) }
 {
-    let path = Word::new(alloc, path)?;
-    Ok((path, Word::new(alloc, name)?))
+    let one = Word::new(alloc, one)?;
+    Ok((one, Word::new(alloc, other)?))
 }
 
 /// What a command line says, once the bytes that it announces are read.
@@ -174,7 +174,7 @@ fn command_after<S: Source>(
             path,
             offset,
             name,
-        } => match path_and_name(alloc, path.as_str(), name.as_str()) {
+        } => match two_words(alloc, path.as_str(), name.as_str()) {
             Ok((path, name)) => Ok(ask(Command::Rename {
                 basis,
                 path,
@@ -183,6 +183,12 @@ fn command_after<S: Source>(
             })),
             Err(_) => Ok(Next::NoRoom),
         },
+        CommandLine::Move { basis, from, to } => {
+            match two_words(alloc, from.as_str(), to.as_str()) {
+                Ok((from, to)) => Ok(ask(Command::Move { basis, from, to })),
+                Err(_) => Ok(Next::NoRoom),
+            }
+        }
         CommandLine::Cat { path } => match Word::new(alloc, path.as_str()) {
             Ok(path) => Ok(ask(Command::Cat { path })),
             Err(_) => Ok(Next::NoRoom),

@@ -48,6 +48,11 @@ pub enum CommandLine<'a> {
         offset: u32,
         name: Argument<'a>,
     },
+    Move {
+        basis: u64,
+        from: Argument<'a>,
+        to: Argument<'a>,
+    },
     Undo {
         basis: u64,
     },
@@ -179,6 +184,18 @@ fn parse_rename(words: &str) -> Option<CommandLine<'_>>
     })
 }
 
+fn parse_move(words: &str) -> Option<CommandLine<'_>>
+    ensures { ParsesArgs (codes "move") words.now result }
+{
+    let (basis, rest) = split_word(words)?;
+    let (from, to) = split_word(rest)?;
+    Some(CommandLine::Move {
+        basis: parse_u64(basis)?,
+        from: parse_argument(from)?,
+        to: parse_argument(to)?,
+    })
+}
+
 fn parse_undo(words: &str) -> Option<CommandLine<'_>>
     ensures { ParsesArgs (codes "undo") words.now result }
 {
@@ -243,6 +260,7 @@ fn parse_verb<'a>(verb: &str, words: &'a str) -> Option<CommandLine<'a>>
         "put" => parse_put(words),
         "del" => parse_del(words),
         "rename" => parse_rename(words),
+        "move" => parse_move(words),
         "undo" => parse_undo(words),
         "redo" => parse_redo(words),
         "cat" => parse_cat(words),

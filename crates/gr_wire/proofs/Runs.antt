@@ -14,7 +14,7 @@ use Rattle.gr_book.specs.Step.{Step}
 use Rattle.gr_book.specs.Run.{Run}
 use Rattle.gr_book.proofs.Legal.{Run-append}
 use Rattle.gr_line.specs.declared.command.Command.{Command}
-use Rattle.gr_line.specs.declared.command.Command.TheVariants.{Look, Put, Del, Rename, Undo, Redo, Cat, Uses}
+use Rattle.gr_line.specs.declared.command.Command.TheVariants.{Look, Put, Del, Rename, Move, Undo, Redo, Cat, Uses}
 use Rattle.gr_line.specs.declared.command.Command.TheVariants as command
 use Rattle.gr_line.specs.declared.command.Response.{Response}
 use Rattle.gr_desk.specs.Act.{Acts, ActsOn, Commits, Continues, Sends}
@@ -72,6 +72,7 @@ acted_on old new view Look answer h = still old new h.1
 acted_on old new view (Put basis path body) answer h = committed old new basis h.0 answer h.2
 acted_on old new view (Del basis path) answer h = committed old new basis h.0 answer h.2
 acted_on old new view (Rename basis path offset name) answer h = committed old new basis h.0 answer h.2
+acted_on old new view (Move basis from to) answer h = committed old new basis h.0 answer h.2
 acted_on old new view (Undo basis) answer h = sent old new (event.Undo basis) answer h
 acted_on old new view (Redo basis) answer h = sent old new (event.Redo basis) answer h
 acted_on old new view (Cat path) answer h = still old new h.1
