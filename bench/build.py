@@ -65,10 +65,7 @@ def measure(program, lines):
     files, count, packages = workspace(lines)
     print(f"{count} lines, {len(files)} files, {packages} packages:")
     session = check.Session(program)
-    basis, loading = 0, 0.0
-    for path, text in files.items():
-        basis, seconds = session.put(basis, path, text)
-        loading += seconds
+    basis, loading = session.put_all(files)
     print(f"  all files put           {loading:8.3f} s")
     print(f"  all packages built      {build(session, packages):8.3f} s")
     top = f"{check.package_path(packages - 2)}/base.go"
@@ -76,20 +73,12 @@ def measure(program, lines):
     print(f"  a top package again     {build(session, 1):8.3f} s")
     basis, _ = session.put(basis, BASE, STEP.replace("1", "2").encode())
     print(f"  all packages once more  {build(session, packages):8.3f} s")
-    session.child.stdin.close()
-    session.child.wait()
+    session.end()
     seconds = go(files)
     if seconds is not None:
         print(f"  go build -p 1           {seconds[0]:8.3f} s")
         print(f"  go vet                  {seconds[1]:8.3f} s")
 
 
-def main():
-    if len(sys.argv) != 2:
-        sys.exit("usage: bench/build.sh PROGRAM")
-    for lines in (20_000, 200_000):
-        measure(sys.argv[1], lines)
-
-
 if __name__ == "__main__":
-    main()
+    check.main("build", measure)

@@ -112,6 +112,26 @@ class Session:
             sys.exit(f"{path}: {word} {number} {body}")
         return number, seconds
 
+    def put_all(self, files):
+        """The number of the state with all these files, and the seconds that putting them took."""
+        basis, loading = 0, 0.0
+        for path, text in files.items():
+            basis, seconds = self.put(basis, path, text)
+            loading += seconds
+        return basis, loading
+
+    def timed(self, label, line, wanted):
+        """Asks for what has to be answered so, by its first word and, of a refusal, its number; prints the seconds."""
+        word, number, body, seconds = self.ask(line.encode())
+        if (word.decode(), number if word == b"no" else 0) != wanted:
+            sys.exit(f"{line}: {word} {number} {body[:200]}")
+        print(f"  {label:25} {seconds:8.3f} s")
+        return number, body
+
+    def end(self):
+        self.child.stdin.close()
+        self.child.wait()
+
     def faults(self):
         word, number, body, seconds = self.ask(b"faults")
         if word != b"ok" or body:
@@ -139,18 +159,14 @@ def measure(program, lines):
     files, count, packages = workspace(lines)
     print(f"{count} lines, {len(files)} files, {packages} packages:")
     session = Session(program)
-    basis, loading = 0, 0.0
-    for path, text in files.items():
-        basis, seconds = session.put(basis, path, text)
-        loading += seconds
+    basis, loading = session.put_all(files)
     print(f"  put, all files: {loading:.2f} s")
     fresh = session.faults()
     print(f"  faults: {fresh:.2f} s, once more {session.faults():.2f} s")
     for label, path in (("top", list(files)[-1]), ("bottom", list(files)[0])):
         basis, seconds = session.put(basis, path, files[path] + b"\nvar more int\n")
         print(f"  one put in a {label} package: {seconds:.3f} s, then faults: {session.faults():.2f} s")
-    session.child.stdin.close()
-    session.child.wait()
+    session.end()
     beside = vet(files)
     if beside is None:
         print("  go vet: skipped, since go is not there")
@@ -158,12 +174,13 @@ def measure(program, lines):
         print(f"  go vet: {beside:.2f} s; faults takes {fresh / beside:.2f} of it")
 
 
-def main():
+def main(name, of):
+    """Measures the program of the command line, with a smaller and a larger workspace."""
     if len(sys.argv) != 2:
-        sys.exit("usage: bench/check.sh PROGRAM")
+        sys.exit(f"usage: bench/{name}.sh PROGRAM")
     for lines in (20_000, 200_000):
-        measure(sys.argv[1], lines)
+        of(sys.argv[1], lines)
 
 
 if __name__ == "__main__":
-    main()
+    main("check", measure)

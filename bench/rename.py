@@ -26,47 +26,25 @@ def workspace(lines):
     return found, count, 3 * len(files)
 
 
-def timed(session, line, wanted):
-    word, number, body, seconds = session.ask(line.encode())
-    if (word.decode(), number if word == b"no" else 0) != wanted:
-        sys.exit(f"{line}: {word} {number} {body[:200]}")
-    return number, body, seconds
-
-
 def measure(program, lines):
     files, count, uses = workspace(lines)
     print(f"{count} lines, {len(files)} files, {uses} uses:")
     session = check.Session(program)
-    basis = 0
-    for path, text in files.items():
-        basis, _ = session.put(basis, path, text)
+    basis, _ = session.put_all(files)
     session.faults()
     place = f"{BASE}:#{STEP.index(b'Step')}"
     path = list(files)[-1]
     local = f"{path}:#{files[path].index(b'local')}"
-    _, body, seconds = timed(session, f"uses {place}", ("ok", 0))
+    _, body = session.timed("uses of what all use", f"uses {place}", ("ok", 0))
     listed = body.count(b"\n")
     if listed != uses + 1:
         sys.exit(f"uses lists {listed} lines")
-    print(f"  uses of what all use      {seconds:8.3f} s")
-    basis, _, seconds = timed(session, f"rename {basis} {place} Stride", ("ok", 0))
-    print(f"  what all use, renamed     {seconds:8.3f} s")
-    basis, _, seconds = timed(session, f"rename {basis} {local} here", ("ok", 0))
-    print(f"  a local variable, renamed {seconds:8.3f} s")
-    _, _, seconds = timed(session, f"rename {basis} {local} n", ("no", 14))
-    print(f"  refused as captured       {seconds:8.3f} s")
-    _, _, seconds = timed(session, f"rename {basis} {place} stride", ("no", 15))
-    print(f"  refused as lost           {seconds:8.3f} s")
-    session.child.stdin.close()
-    session.child.wait()
-
-
-def main():
-    if len(sys.argv) != 2:
-        sys.exit("usage: bench/rename.sh PROGRAM")
-    for lines in (20_000, 200_000):
-        measure(sys.argv[1], lines)
+    basis, _ = session.timed("what all use, renamed", f"rename {basis} {place} Stride", ("ok", 0))
+    basis, _ = session.timed("a local variable, renamed", f"rename {basis} {local} here", ("ok", 0))
+    session.timed("refused as captured", f"rename {basis} {local} n", ("no", 14))
+    session.timed("refused as lost", f"rename {basis} {place} stride", ("no", 15))
+    session.end()
 
 
 if __name__ == "__main__":
-    main()
+    check.main("rename", measure)
