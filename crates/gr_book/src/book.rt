@@ -1,11 +1,14 @@
 //! The book: the states of a workspace with the Jobs that are out, and the journal of the events that move among them.
 ghost use Rattle.std.specs.Prelude.{◌≡◌, ℕ, ◌+◌, ◌≤◌, ◌↔◌, IfOk, IsTrue};
+ghost use Rattle.gr_verdict.specs.Found.{KnowsVerdicts};
 ghost use Rattle.gr_book.specs.Machine.{Machine, opening};
 ghost use Rattle.gr_book.specs.Step.{HasRoom, IsKept, Step, entries_due};
 
 use crate::content::Content;
 use crate::event::{Event, Reply, refuse};
+use gr_graph::Graph;
 use gr_text::{Limits, Refusal};
+use gr_verdict::Known;
 use std::alloc::{AllocError, Global};
 use std::marker::Model;
 
@@ -94,6 +97,15 @@ impl Book {
             self.entries += 1;
         }
         reply
+    }
+
+    /// Takes in what was found in packages of the state of a number that has these files, if it is the current one. It is no
+    /// event: it decides how long something takes, and the machine stays as it is.
+    pub fn learn(&mut self, number: u64, files: &Graph, known: Known)
+        requires { KnowsVerdicts files.now known }
+        ensures { self.new ≡ self.old }
+    {
+        self.content.learn(number, files, known);
     }
 
     /// Ends the history, and tells how many entries its journal had.

@@ -15,4 +15,4 @@ pub use event::{Event, Reply, refuse};
 pub use laws::{
     finished_units_are_current, numbers_are_used_once, refusals_keep_all, undo_and_redo_restore,
 };
-pub use view::View;
+pub use view::{KnownSnapshot, View};
