@@ -99,13 +99,13 @@ impl Book {
         reply
     }
 
-    /// Takes in what was found in packages of the state of a number that has these files, if it is the current one. It is no
-    /// event: it decides how long something takes, and the machine stays as it is.
-    pub fn learn(&mut self, number: u64, files: &Graph, known: Known)
+    /// Takes in what was found in packages of these files, if they are those of the current state. It is no event: it decides how
+    /// long something takes, and the machine stays as it is.
+    pub fn learn(&mut self, files: &Graph, known: Known)
         requires { KnowsVerdicts files.now known }
         ensures { self.new ≡ self.old }
     {
-        self.content.learn(number, files, known);
+        self.content.learn(files, known);
     }
 
     /// Ends the history, and tells how many entries its journal had.

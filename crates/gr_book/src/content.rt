@@ -273,12 +273,12 @@ impl Content {
     }
 
     /// Takes in what was found in packages of some files, if they are those of the current state.
-    pub(crate) fn learn(&mut self, number: u64, files: &Graph, known: Known)
+    pub(crate) fn learn(&mut self, files: &Graph, known: Known)
         requires { KnowsVerdicts files.now known }
         ensures { self.new ≡ self.old }
     {
         if let Ok(known) = SharedKnown::new(self.alloc, known) {
-            self.current.learn(number, files, known);
+            self.current.learn(files, known);
         }
     }
 

@@ -166,7 +166,7 @@ fn find<D: Desk>(alloc: Global, desk: &mut D, view: &View) -> Result<Findings, A
     ensures same { desk.new ≡ desk.old }
 {
     let Found { findings, known } = found(alloc, view)?;
-    desk.learn(view.snapshot.number(), view.snapshot.files(), known);
+    desk.learn(view.snapshot.files(), known);
     Ok(findings)
 }
 

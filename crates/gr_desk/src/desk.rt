@@ -19,9 +19,9 @@ pub trait Desk {
         ensures step { steps self.old event result self.new }
         ensures kind { MayReply event result };
 
-    /// Takes in what was found in packages of the state of a number that has these files. It is no event: it decides how long
-    /// something takes, and the desk stays as it is.
-    fn learn(&mut self, number: u64, files: &Graph, known: Known)
+    /// Takes in what was found in packages of these files. It is no event: it decides how long something takes, and the desk stays
+    /// as it is.
+    fn learn(&mut self, files: &Graph, known: Known)
         requires { KnowsVerdicts files.now known }
         ensures { self.new ≡ self.old };
 }
@@ -68,7 +68,7 @@ impl Desk for Solo {
         self.book.step(event)
     }
 
-    fn learn(&mut self, number: u64, files: &Graph, known: Known) {
-        self.book.learn(number, files, known);
+    fn learn(&mut self, files: &Graph, known: Known) {
+        self.book.learn(files, known);
     }
 }
