@@ -1,6 +1,6 @@
--- The answers to the goals of `marked::known_now`.
+-- The answers to the goals of `gathered::known_now`.
 use Rattle.gr_verdict.proofs.Telling.{nothing_told, told_next}
-use Rattle.gr_verdict.proofs.marked.known_now.Goals as goal
+use Rattle.gr_verdict.proofs.gathered.known_now.Goals as goal
 
 pub loop-number-init : goal.loop-number-init
 loop-number-init c = nothing_told c.new-all.result c.new-all.ensures.nothing c.args.graph.now
