@@ -1,5 +1,6 @@
 //! The book: the states of a workspace with the Jobs that are out, and the journal of the events that move among them.
 ghost use Rattle.std.specs.Prelude.{◌≡◌, ℕ, ◌+◌, ◌≤◌, ◌↔◌, IfOk, IsTrue, OnErr, OnOk, length, vec_capacity};
+ghost use Rattle.gr_verdict.specs.Found.{KnowsVerdicts};
 ghost use Rattle.gr_book.specs.Machine.{HasNumbers, Machine, content, opening};
 ghost use Rattle.gr_book.specs.Kept.{IsEntryIf, StepKept};
 ghost use Rattle.gr_book.specs.Run.{IsReplay};
@@ -9,7 +10,9 @@ use crate::content::Content;
 use crate::entry::{Entry, Line};
 use crate::event::{Event, Reply, refuse};
 use crate::made::entry_twice;
+use gr_graph::Graph;
 use gr_text::{Limits, Refusal};
+use gr_verdict::Known;
 use std::alloc::{AllocError, Global};
 use std::marker::Model;
 
@@ -155,6 +158,15 @@ impl Book {
         let (reply, kept) = self.step_kept(event);
         drop(kept);
         reply
+    }
+
+    /// Takes in what was found in packages of these files, if they are those of the current state. It is no event: it decides how
+    /// long something takes, and the machine stays as it is.
+    pub fn learn(&mut self, files: &Graph, known: Known)
+        requires { KnowsVerdicts files.now known }
+        ensures { self.new ≡ self.old }
+    {
+        self.content.learn(files, known);
     }
 
     /// Ends the history, and tells how many entries its journal had.

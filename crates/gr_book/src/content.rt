@@ -1,5 +1,6 @@
 //! The states of a workspace with the Jobs that are out, and what events make of them.
 ghost use Rattle.std.specs.Prelude.{◌≡◌, ℕ, ◌+◌, ◌≤◌, ◌↔◌, IfOk, IsTrue, length, vec_len};
+ghost use Rattle.gr_verdict.specs.Found.{KnowsVerdicts};
 ghost use Rattle.gr_compile.specs.Jobs.{IsOut};
 ghost use Rattle.gr_book.specs.Machine.{HasNumbers, content, newest, opening};
 ghost use Rattle.gr_book.specs.Journal.{ShowsLine, edits_of, line_at};
@@ -14,8 +15,8 @@ use crate::view::View;
 use crate::waiting::first_waiting;
 use gr_compile::{Built, Job, Out, SharedPath};
 use gr_graph::Graph;
-use gr_keep::{Finished, carried_units, changed_marks, inputs_of, kept, known_within};
-use gr_space::{Change, Snapshot};
+use gr_keep::{Finished, SharedKnown, carried_units, changed_marks, inputs_of, kept, known_within};
+use gr_space::Change;
 use gr_text::{Files, Limits, Refusal};
 use gr_verdict::Known;
 use std::alloc::{AllocError, Global};
@@ -103,7 +104,8 @@ impl Content {
     {
         let files = Graph::of(alloc, Files::new(alloc))?;
         let finished = Finished::new(alloc, Vec::new(alloc))?;
-        let known = Known::new(alloc);
+        let nothing = Known::new(alloc);
+        let known = SharedKnown::new(alloc, nothing)?;
         Ok(Content {
             alloc,
             limits,
@@ -149,13 +151,8 @@ impl Content {
     fn look(&self) -> Result<View, Refusal>
         ensures { AnswersOrLacks self.now Event.Look (looked result) self.now }
     {
-        let current = &self.current;
-        let snapshot = Snapshot {
-            number: current.number,
-            limits: self.limits,
-            files: current.files.clone()?,
-        };
-        let finished = current.finished.clone()?;
+        let snapshot = self.current.snapshot(self.limits)?;
+        let finished = self.current.finished.clone()?;
         Ok(View {
             snapshot,
             finished,
@@ -331,6 +328,16 @@ impl Content {
             Event::GiveBack(job) => self.give_back(job),
         };
         (reply, None)
+    }
+
+    /// Takes in what was found in packages of some files, if they are those of the current state.
+    pub(crate) fn learn(&mut self, files: &Graph, known: Known)
+        requires { KnowsVerdicts files.now known }
+        ensures { self.new ≡ self.old }
+    {
+        if let Ok(known) = SharedKnown::new(self.alloc, known) {
+            self.current.learn(files, known);
+        }
     }
 
     pub(crate) fn close(self) {

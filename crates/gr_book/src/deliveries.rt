@@ -5,9 +5,8 @@ ghost use Rattle.gr_book.specs.Outcomes.{ComesTo, FindsFresh, HasTable, Settles}
 use crate::event::Reply;
 use crate::state::State;
 use gr_compile::{Built, Job};
-use gr_keep::{Finished, closure_files, learned};
+use gr_keep::{Finished, SharedKnown, closure_files, learned};
 use gr_text::Refusal;
-use gr_verdict::Known;
 use std::alloc::{AllocError, Global};
 
 /// What a delivery comes to.
@@ -18,7 +17,7 @@ pub(crate) enum Outcome {
     /// The package is finished.
     Known,
     /// The package is finished now: this is the table, and what is known then.
-    Entered(Finished, Known),
+    Entered(Finished, SharedKnown),
 }
 
 fn is_same_package(job: &Job, built: &Built) -> bool

@@ -127,7 +127,7 @@ impl Reply {
         ensures { result ≡ told_of self.now }
     {
         match self {
-            Reply::Looked(view) => Some(Told::Done(view.snapshot.number)),
+            Reply::Looked(view) => Some(Told::Done(view.snapshot.number())),
             Reply::Logged(number, _) => Some(Told::Done(*number)),
             Reply::Done(number) => Some(Told::Done(*number)),
             Reply::Taken(job) => Some(Told::Done(job.number())),

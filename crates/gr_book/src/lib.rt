@@ -20,4 +20,4 @@ pub use laws::{
     finished_units_are_current, journals_are_legal, numbers_are_used_once, refusals_keep_all,
     undo_and_redo_restore,
 };
-pub use view::View;
+pub use view::{KnownSnapshot, View};

@@ -123,7 +123,7 @@ fn told(jobs: &mut Vec<Job>, reply: Reply) -> Outcome {
 fn planned(rt: &(impl Abort + AllocGlobal), view: &View, path: &str, bytes: &str) -> Change {
     let bytes = bytes.as_bytes().to_vec(rt.alloc()).expect(rt, "bytes");
     let text = FileText::new(rt.alloc(), bytes).expect(rt, "a text");
-    plan_put(rt.alloc(), &view.snapshot, path, text)
+    plan_put(rt.alloc(), view.snapshot.get(), path, text)
         .ok()
         .expect(rt, "a plan")
 }
@@ -132,7 +132,7 @@ fn put(rt: &(impl Abort + AllocGlobal), book: &mut Book, path: &str, bytes: &str
     match book.step(Event::Look) {
         Reply::Looked(view) => {
             let change = planned(rt, &view, path, bytes);
-            book.step(Event::Commit(view.snapshot.number, change))
+            book.step(Event::Commit(view.snapshot.number(), change))
         }
         other => other,
     }

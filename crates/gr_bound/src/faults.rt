@@ -6,14 +6,15 @@ ghost use Rattle.gr_bound.specs.Workspaces.{RefusesFaults, RefusesFirst};
 
 use gr_graph::Graph;
 use gr_text::Refusal;
-use gr_verdict::{Finding, Findings, faults};
+use gr_verdict::{Findings, SharedFinding, faults};
 use std::alloc::Global;
 
-/// Refuses a workspace for its first fault.
-fn refuse_first(alloc: Global, graph: &Graph) -> Result<(), Refusal>
+/// Refuses a workspace for the first fault that was found in it.
+fn refuse_first(alloc: Global, graph: &Graph, found: &Findings) -> Result<(), Refusal>
+    requires { AreFindings graph.now found.now }
     ensures { RefusesFirst graph.now result }
 {
-    match faults(alloc, graph)?.into_iter().next() {
+    match faults(alloc, found)?.into_iter().next() {
         None => Ok(()),
         Some(fault) => Err(Refusal::Faulty {
             place: fault.place,
@@ -23,11 +24,11 @@ fn refuse_first(alloc: Global, graph: &Graph) -> Result<(), Refusal>
 }
 
 /// Whether nothing that was found is a fault.
-fn are_sound(packages: &[Finding]) -> bool
+fn are_sound(packages: &[SharedFinding]) -> bool
     ensures { IsTrue result → (n : ℕ) (f : Found) → slice_get packages.now n ≡ Some f → f.faults.items ≡ [] }
 {
     for finding in packages {
-        if !finding.faults.is_empty() {
+        if !finding.get().faults.is_empty() {
             return false;
         }
     }
@@ -42,6 +43,6 @@ pub fn refuse_faults(alloc: Global, graph: &Graph, found: &Findings) -> Result<(
     if are_sound(&found.packages) {
         Ok(())
     } else {
-        refuse_first(alloc, graph)
+        refuse_first(alloc, graph, found)
     }
 }

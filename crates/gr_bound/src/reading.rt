@@ -40,7 +40,7 @@ pub fn path_of<'a>(graph: &Graph, found: &'a Findings, number: usize) -> &'a Sha
     requires sound { IsSound graph.now found.now }
     ensures { OfPackage graph.now number (λ p. result.now ≡ p) }
 {
-    &found.packages[number].path
+    &found.packages[number].get().path
 }
 
 /// The table of a package in which imports without a name declare the names of the packages that it sees.
@@ -81,5 +81,5 @@ pub fn members_of<'a>(graph: &Graph, found: &'a Findings, number: usize) -> &'a 
     requires sound { IsSound graph.now found.now }
     ensures { (p : Checked) → IsPackageAt graph.now (known_in found.now) number p → AreMemberUses p (map uses_in result.now) }
 {
-    &found.packages[number].members
+    &found.packages[number].get().members
 }

@@ -6,6 +6,7 @@ ghost use Rattle.gr_scope.specs.Named.{name_value};
 ghost use Rattle.gr_meanings.specs.PackageOf.{package_in};
 ghost use Rattle.gr_declared.specs.InterfacesView.{interface_in};
 ghost use Rattle.gr_meanings.specs.MemberUses.{AreMemberUses, uses_in};
+ghost use Rattle.gr_verdict.specs.Found.{AreFindings};
 ghost use Rattle.gr_bound.specs.Members.{KnowsOwn};
 ghost use Rattle.gr_bound.specs.Steps.{Adds, UsesIn, BindsIn};
 ghost use Rattle.gr_bound.specs.Uses.{IsUseOf, TellsUses, TellsUsesAt};
@@ -26,7 +27,7 @@ use gr_graph::Graph;
 use gr_scope::table::ScopeTable;
 use gr_text::{Path, Refusal};
 use gr_tree::FileTree;
-use gr_verdict::{Findings, seen, verdicts};
+use gr_verdict::{Findings, seen};
 use std::alloc::{AllocError, Global};
 
 /// Adds the places of the identifiers of the package of a path that are bound to a declaration.
@@ -153,24 +154,37 @@ fn uses_at(
 }
 
 /// The uses of what holds a byte of a file, or the first fault of the workspace.
-fn uses_in(alloc: Global, graph: &Graph, path: &Path, offset: usize) -> Result<Places, Refusal>
+fn uses_in(
+    alloc: Global,
+    graph: &Graph,
+    found: &Findings,
+    path: &Path,
+    offset: usize,
+) -> Result<Places, Refusal>
+    requires { AreFindings graph.now found.now }
     ensures { TellsUsesIn graph.now path.now offset result }
 {
-    let found = verdicts(alloc, graph)?;
-    match refuse_faults(alloc, graph, &found) {
+    match refuse_faults(alloc, graph, found) {
         Err(refusal) => Err(refusal),
-        Ok(()) => uses_at(alloc, graph, &found, path, offset),
+        Ok(()) => uses_at(alloc, graph, found, path, offset),
     }
 }
 
 /// The places of the identifiers of a workspace that are bound to the same declaration as the one at a byte of a file, by
-/// path and offset.
-pub fn uses(alloc: Global, graph: &Graph, path: &str, offset: usize) -> Result<Places, Refusal>
+/// path and offset, by what was found in its packages.
+pub fn uses(
+    alloc: Global,
+    graph: &Graph,
+    found: &Findings,
+    path: &str,
+    offset: usize,
+) -> Result<Places, Refusal>
+    requires { AreFindings graph.now found.now }
     ensures { TellsUses graph.now path.now offset result }
 {
     let path = Path::read(alloc, path, 2)?;
     if graph.files().get(&path).is_none() {
         return Err(Refusal::NoFile);
     }
-    uses_in(alloc, graph, &path, offset)
+    uses_in(alloc, graph, found, &path, offset)
 }

@@ -17,7 +17,7 @@ use gr_expr::world::Definition;
 use gr_graph::Graph;
 use gr_object::objects::object;
 use gr_text::FileText;
-use gr_verdict::{FileFault, Finding, Known, OneFinding, finding_of, seen};
+use gr_verdict::{FileFault, Finding, Found, Known, seen, verdicts};
 use std::alloc::{AllocError, Global};
 
 /// The type definitions of a package, by their ranks.
@@ -100,6 +100,17 @@ fn faulty_unit(alloc: Global, faults: Vec<FileFault>) -> Result<Unit, AllocError
     Unit::new(alloc, Compiled::Faults { first, others })
 }
 
+/// A copy of faults.
+fn copied(alloc: Global, faults: &[FileFault]) -> Result<Vec<FileFault>, AllocError>
+    ensures { IfOk result (λ copies. copies.items ≡ faults.now) }
+{
+    let mut copies = Vec::new(alloc);
+    for fault in faults {
+        copies.push(fault.clone()?)?;
+    }
+    Ok(copies)
+}
+
 /// A unit, and what is known of packages then.
 #[derive(Drop)]
 pub(crate) struct Made {
@@ -113,27 +124,22 @@ fn unit_by(
     graph: &Graph,
     number: usize,
     path: &SharedPath,
-    finding: Finding,
+    finding: &Finding,
     all: &Interfaces,
 ) -> Result<Unit, AllocError>
     requires at { slice_get (package_paths graph.now) number ≡ Some path.now }
-    requires found { IsFoundBy graph.now path.now all.now finding }
+    requires found { IsFoundBy graph.now path.now all.now finding.now }
     ensures { IfOk result (IsUnitOf graph.now path.now) }
 {
-    let Finding {
-        path: own,
-        faults,
-        members,
-    } = finding;
-    drop(own);
-    if faults.is_empty() {
-        faultless_unit(alloc, graph, number, path, all, &members)
+    if finding.faults.is_empty() {
+        faultless_unit(alloc, graph, number, path, all, &finding.members)
     } else {
+        let faults = copied(alloc, &finding.faults)?;
         faulty_unit(alloc, faults)
     }
 }
 
-/// The unit of a package of a graph. What is known of other packages is not found again.
+/// The unit of a package of a graph. What is known of packages is not found again.
 fn unit_of(
     alloc: Global,
     graph: &Graph,
@@ -145,12 +151,9 @@ fn unit_of(
     requires known { KnowsVerdicts graph.now known.now }
     ensures { IfOk result (IsMade graph.now path.now) }
 {
-    let OneFinding {
-        finding,
-        interfaces,
-        known,
-    } = finding_of(alloc, graph, number, known)?;
-    let unit = unit_by(alloc, graph, number, path, finding, &interfaces)?;
+    let Found { findings, known } = verdicts(alloc, graph, known)?;
+    let finding = findings.packages[number].get();
+    let unit = unit_by(alloc, graph, number, path, finding, &findings.interfaces)?;
     Ok(Made { unit, known })
 }
 

@@ -3,6 +3,7 @@ ghost use Rattle.std.specs.Prelude.{◌≡◌, ◌↔◌, ℕ, IsTrue, List, Non
 ghost use Rattle.gr_text.specs.declared.refusal.Refusal.{Refusal as WhyRefused};
 ghost use Rattle.gr_move.specs.Plan.{PlansMove};
 ghost use Rattle.gr_rename.specs.Plan.{PlansRename};
+ghost use Rattle.gr_verdict.specs.Found.{AreFindings};
 ghost use Rattle.gr_space.specs.Plan.{PlansDel};
 ghost use Rattle.gr_space.specs.declared.change.Change.{Change as PlannedChange};
 ghost use Rattle.gr_line.specs.Commands.{entry_asked};
@@ -20,11 +21,11 @@ ghost use Rattle.gr_desk.specs.Act.{
   file_response,
   lines_response,
 };
-ghost use Rattle.gr_desk.specs.Queries.{Cats, TellsObject, WritesUses, listing};
+ghost use Rattle.gr_desk.specs.Queries.{Cats, TellsFaults, TellsObject, WritesUses, listing};
 
 use crate::desk::Desk;
 use crate::logging::log;
-use crate::queries::{cat, faults, list, object, uses};
+use crate::queries::{cat, faults, found, list, object, uses};
 use crate::working::work;
 use gr_book::{Event, Reply, View};
 use gr_line::{Bytes, Command, Response, Word};
@@ -32,14 +33,15 @@ use gr_move::plan_move;
 use gr_rename::plan_rename;
 use gr_space::{Change, plan_del, plan_put};
 use gr_text::{FileText, Path, Refusal};
-use std::alloc::Global;
+use gr_verdict::{Findings, Found};
+use std::alloc::{AllocError, Global};
 
 /// Whether the command is meant for the state that the view shows.
 fn fits_view(view: &View, command: &Command) -> bool
     ensures { IsTrue result ↔ FitsView view.now command.now }
 {
     match command.basis() {
-        Some(basis) => basis == view.snapshot.number,
+        Some(basis) => basis == view.snapshot.number(),
         None => true,
     }
 }
@@ -54,7 +56,7 @@ fn plan_body(
     ensures { PlansBody view.now path.now body result }
 {
     match body {
-        Some(text) => plan_put(alloc, &view.snapshot, path, text),
+        Some(text) => plan_put(alloc, view.snapshot.get(), path, text),
         None => {
             let path = Path::read(alloc, path, 2)?;
             drop(path);
@@ -132,7 +134,7 @@ fn put<D: Desk>(
 fn del<D: Desk>(alloc: Global, desk: &mut D, view: &View, basis: u64, path: Word) -> Response
     ensures { (planned : Result PlannedChange WhyRefused) × PlansDel view.now.snapshot path planned × Commits D.steps desk.old basis planned result desk.new }
 {
-    let planned = plan_del(alloc, &view.snapshot, path.as_str());
+    let planned = plan_del(alloc, view.snapshot.get(), path.as_str());
     commit(desk, basis, planned)
 }
 
@@ -189,21 +191,53 @@ fn tell_file(alloc: Global, view: &View, path: Word) -> Response
     ensures { (found : Result (List ℕ) WhyRefused) × Cats view.now path found × (result ≡ file_response view.now.snapshot.number found) }
 {
     let found = cat(alloc, view, path.as_str());
-    file_response(view.snapshot.number, found)
+    file_response(view.snapshot.number(), found)
 }
 
 fn tell_object(alloc: Global, view: &View, path: Word) -> Response
     ensures { (found : Result (List ℕ) WhyRefused) × TellsObject view.now path found × (result ≡ file_response view.now.snapshot.number found) }
 {
     let found = object(alloc, view, path.as_str());
-    file_response(view.snapshot.number, found)
+    file_response(view.snapshot.number(), found)
 }
 
-fn tell_uses(alloc: Global, view: &View, path: Word, offset: usize) -> Response
-    ensures { (found : Result (List ℕ) WhyRefused) × WritesUses view.now path offset found × (result ≡ lines_response view.now.snapshot.number found) }
+/// What is found in the packages of a view's files. The desk learns of it.
+fn find<D: Desk>(alloc: Global, desk: &mut D, view: &View) -> Result<Findings, AllocError>
+    ensures findings { IfOk result (AreFindings view.now.snapshot.files) }
+    ensures same { desk.new ≡ desk.old }
 {
-    let found = uses(alloc, view, path.as_str(), offset);
-    lines_response(view.snapshot.number, found)
+    let Found { findings, known } = found(alloc, view)?;
+    desk.learn(view.snapshot.files(), known);
+    Ok(findings)
+}
+
+/// The lines of the uses of what holds a byte of a file.
+fn find_uses<D: Desk>(
+    alloc: Global,
+    desk: &mut D,
+    view: &View,
+    path: &str,
+    offset: usize,
+) -> Result<Bytes, Refusal>
+    ensures uses { WritesUses view.now path.now offset result }
+    ensures same { desk.new ≡ desk.old }
+{
+    let found = find(alloc, desk, view)?;
+    uses(alloc, view, &found, path, offset)
+}
+
+fn tell_uses<D: Desk>(
+    alloc: Global,
+    desk: &mut D,
+    view: &View,
+    path: Word,
+    offset: usize,
+) -> Response
+    ensures told { (found : Result (List ℕ) WhyRefused) × WritesUses view.now path offset found × (result ≡ lines_response view.now.snapshot.number found) }
+    ensures same { desk.new ≡ desk.old }
+{
+    let found = find_uses(alloc, desk, view, path.as_str(), offset);
+    lines_response(view.snapshot.number(), found)
 }
 
 fn tell_list(alloc: Global, view: &View) -> Response
@@ -211,7 +245,7 @@ fn tell_list(alloc: Global, view: &View) -> Response
 {
     match list(alloc, view) {
         Ok(text) => Response::Lines {
-            number: view.snapshot.number,
+            number: view.snapshot.number(),
             text,
         },
         Err(_) => Response::Refused {
@@ -220,12 +254,22 @@ fn tell_list(alloc: Global, view: &View) -> Response
     }
 }
 
-fn tell_faults(alloc: Global, view: &View) -> Response
-    ensures { AnswersFaults view.now result }
+/// The lines of the faults of a view's files.
+fn find_faults<D: Desk>(alloc: Global, desk: &mut D, view: &View) -> Result<Bytes, AllocError>
+    ensures faults { IfOk result (λ lines. TellsFaults view.now.snapshot.files lines) }
+    ensures same { desk.new ≡ desk.old }
 {
-    match faults(alloc, view) {
+    let found = find(alloc, desk, view)?;
+    faults(alloc, view, &found)
+}
+
+fn tell_faults<D: Desk>(alloc: Global, desk: &mut D, view: &View) -> Response
+    ensures told { AnswersFaults view.now result }
+    ensures same { desk.new ≡ desk.old }
+{
+    match find_faults(alloc, desk, view) {
         Ok(text) => Response::Lines {
-            number: view.snapshot.number,
+            number: view.snapshot.number(),
             text,
         },
         Err(_) => Response::Refused {
@@ -241,7 +285,7 @@ fn act_on<D: Desk>(alloc: Global, desk: &mut D, view: &View, command: Command) -
 {
     match command {
         Command::Look => Response::Steps {
-            number: view.snapshot.number,
+            number: view.snapshot.number(),
             undo: view.undo,
             redo: view.redo,
         },
@@ -257,11 +301,11 @@ fn act_on<D: Desk>(alloc: Global, desk: &mut D, view: &View, command: Command) -
         Command::Undo { basis } => undo(desk, basis),
         Command::Redo { basis } => redo(desk, basis),
         Command::Cat { path } => tell_file(alloc, view, path),
-        Command::Uses { path, offset } => tell_uses(alloc, view, path, offset),
+        Command::Uses { path, offset } => tell_uses(alloc, desk, view, path, offset),
         Command::Object { path } => tell_object(alloc, view, path),
         Command::Work => work(alloc, desk),
         Command::List => tell_list(alloc, view),
-        Command::Faults => tell_faults(alloc, view),
+        Command::Faults => tell_faults(alloc, desk, view),
         Command::Log { number: _ } => unreachable!(),
     }
 }
@@ -277,7 +321,7 @@ fn act_after<D: Desk>(alloc: Global, desk: &mut D, view: &View, command: Command
         drop(command);
         Response::Refused {
             refusal: Refusal::Moved {
-                current: view.snapshot.number,
+                current: view.snapshot.number(),
             },
         }
     }

@@ -3,8 +3,11 @@ ghost use Rattle.std.specs.Prelude.{◌≡◌};
 ghost use Rattle.gr_book.specs.declared.event.Event.{Event};
 ghost use Rattle.gr_book.specs.declared.event.Reply.{Reply};
 ghost use Rattle.gr_book.specs.MayReply.{MayReply};
+ghost use Rattle.gr_verdict.specs.Found.{KnowsVerdicts};
 
 use gr_book::{Book, Event, Reply};
+use gr_graph::Graph;
+use gr_verdict::Known;
 use std::marker::Model;
 
 /// Takes events, and gives their replies.
@@ -15,6 +18,12 @@ pub trait Desk {
     fn step(&mut self, event: Event) -> Reply
         ensures step { steps self.old event result self.new }
         ensures kind { MayReply event result };
+
+    /// Takes in what was found in packages of these files. It is no event: it decides how long something takes, and the desk stays
+    /// as it is.
+    fn learn(&mut self, files: &Graph, known: Known)
+        requires { KnowsVerdicts files.now known }
+        ensures { self.new ≡ self.old };
 }
 
 /// A desk with a book of its own. It is ended by `into_book`.
@@ -58,5 +67,9 @@ impl Desk for Solo {
 
     fn step(&mut self, event: Event) -> Reply {
         self.book.step(event)
+    }
+
+    fn learn(&mut self, files: &Graph, known: Known) {
+        self.book.learn(files, known);
     }
 }

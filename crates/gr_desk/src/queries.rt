@@ -1,12 +1,13 @@
 //! Questions that a view answers.
 ghost use Rattle.std.specs.Prelude.{◌≡◌, ◌++◌, IfOk, OnOk};
 ghost use Rattle.gr_text.specs.PlaceText.{place_text, fault_line};
+ghost use Rattle.gr_verdict.specs.Found.{AreFindings, IsFound};
 ghost use Rattle.gr_desk.specs.Queries.{Cats, WritesUses, TellsFaults, TellsObject, file_line, place_lines, fault_lines, listing};
 
 use gr_book::View;
 use gr_line::Bytes;
 use gr_text::{FileText, Path, Place, Refusal};
-use gr_verdict::FileFault;
+use gr_verdict::{FileFault, Findings, Found, verdicts};
 use itoa::Buffer;
 use std::alloc::{AllocError, Global};
 
@@ -15,7 +16,7 @@ pub fn cat(alloc: Global, view: &View, path: &str) -> Result<FileText, Refusal>
     ensures { Cats view.now path.now result }
 {
     let path = Path::read(alloc, path, 2)?;
-    match view.snapshot.files.files().get(&path) {
+    match view.snapshot.files().files().get(&path) {
         Some(text) => Ok(text.clone()?),
         None => Err(Refusal::NoFile),
     }
@@ -26,7 +27,7 @@ pub fn object(alloc: Global, view: &View, path: &str) -> Result<FileText, Refusa
     ensures { TellsObject view.now path.now result }
 {
     let path = Path::read(alloc, path, 1)?;
-    let Some(number) = view.snapshot.files.number_of(path.as_str().as_bytes()) else {
+    let Some(number) = view.snapshot.files().number_of(path.as_str().as_bytes()) else {
         return Err(Refusal::NoPackage);
     };
     let Some(unit) = view.finished.get(number) else {
@@ -62,7 +63,7 @@ pub fn list(alloc: Global, view: &View) -> Result<Bytes, AllocError>
     ensures { IfOk result (λ lines. lines ≡ listing view.now.snapshot.files) }
 {
     let mut lines = Vec::new(alloc);
-    for (path, text) in view.snapshot.files.files().iter() {
+    for (path, text) in view.snapshot.files().files().iter() {
         push_file(&mut lines, path, text)?;
     }
     Ok(Bytes::new(lines))
@@ -91,11 +92,25 @@ fn place_lines(alloc: Global, places: &[Place]) -> Result<Vec<u8>, AllocError>
     Ok(lines)
 }
 
+/// What is found in the packages of a view's files, and what is known of them then. What is known already is not found again.
+pub(crate) fn found(alloc: Global, view: &View) -> Result<Found, AllocError>
+    ensures { IfOk result (IsFound view.now.snapshot.files) }
+{
+    verdicts(alloc, view.snapshot.files(), view.snapshot.known())
+}
+
 /// A line for each identifier that is bound to the same declaration as the one at this place.
-pub fn uses(alloc: Global, view: &View, path: &str, offset: usize) -> Result<Bytes, Refusal>
+pub fn uses(
+    alloc: Global,
+    view: &View,
+    found: &Findings,
+    path: &str,
+    offset: usize,
+) -> Result<Bytes, Refusal>
+    requires { AreFindings view.now.snapshot.files found.now }
     ensures { WritesUses view.now path.now offset result }
 {
-    let places = gr_bound::uses(alloc, &view.snapshot.files, path, offset)?;
+    let places = gr_bound::uses(alloc, view.snapshot.files(), found, path, offset)?;
     let lines = place_lines(alloc, places.as_slice())?;
     Ok(Bytes::new(lines))
 }
@@ -123,10 +138,11 @@ fn lines_of(alloc: Global, faults: &[FileFault]) -> Result<Vec<u8>, AllocError>
 }
 
 /// A line for each fault of the files, in the order of packages, paths, offsets and kinds.
-pub fn faults(alloc: Global, view: &View) -> Result<Bytes, AllocError>
+pub fn faults(alloc: Global, view: &View, found: &Findings) -> Result<Bytes, AllocError>
+    requires { AreFindings view.now.snapshot.files found.now }
     ensures { IfOk result (λ lines. TellsFaults view.now.snapshot.files lines) }
 {
-    let faults = gr_verdict::faults(alloc, &view.snapshot.files)?;
+    let faults = gr_verdict::faults(alloc, found)?;
     let lines = lines_of(alloc, &faults)?;
     Ok(Bytes::new(lines))
 }

@@ -7,20 +7,17 @@ use Rattle.gr_text.specs.Packages.{is_of_package, package_paths}
 use Rattle.gr_text.specs.Workspace.{Workspace}
 use Rattle.gr_graph.specs.Packages.{IsInClosure}
 use Rattle.gr_verdict.specs.Closures.{HasSameClosure}
-use Rattle.gr_verdict.specs.Found.{known_by, TellsVerdict, MayTell}
+use Rattle.gr_verdict.specs.Found.{MayTell}
 use Rattle.gr_verdict.specs.declared.known.KnownVerdict.{KnownVerdict}
-use Rattle.gr_verdict.proofs.Local.{local_verdict, same_within}
+use Rattle.gr_verdict.proofs.Local.{same_within, told_there}
 use Rattle.gr_verdict.proofs.Members.{passes}
 use Rattle.gr_verdict.proofs.PackageFiles.{package_file}
 use Rattle.gr_compile.specs.Inputs.{AreInputs}
 use Rattle.gr_keep.specs.Knowing.{TellsThere, HasClosuresOf}
 use Rattle.gr_keep.proofs.ClosureTexts.{inputs_same, of_folder}
 
-pub verdict_stays : (v w : Workspace) (p : List ℕ) (one : KnownVerdict) → Contains (package_paths v) p → HasSameClosure v w p → TellsVerdict v p one → TellsVerdict w p one
-verdict_stays v w p one has same told = record { right = local_verdict v w p (known_by one p) has same told.right; whole = told.whole }
-
 pub tells_here : (v w : Workspace) (p : List ℕ) (found : Option KnownVerdict) → (Contains (package_paths v) p → HasSameClosure v w p) → TellsThere v p found → MayTell w p found
-tells_here v w p found same there one is = let told = there one is in verdict_stays v w p one told.0 (same told.0) told.1
+tells_here v w p found same there one is = let told = there one is in told_there v w p one told.0 (same told.0) told.1
 
 -- each package of the inputs is in the closure
 inputs_closed : (w : Workspace) (p : List ℕ) (inputs : Workspace) → AreInputs w p inputs → (q : List ℕ) → Contains (package_paths inputs) q → IsInClosure w p q

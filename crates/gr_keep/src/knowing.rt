@@ -8,6 +8,7 @@ ghost use Rattle.gr_keep.specs.Knowing.{HasClosuresOf, TellsThere};
 
 use crate::carried::keeps_texts;
 use crate::changes::Marks;
+use crate::shared_known::SharedKnown;
 use gr_graph::Graph;
 use gr_verdict::{Known, KnownVerdict};
 use std::alloc::{AllocError, Global};
@@ -35,7 +36,7 @@ fn verdict_there(
 pub fn known_within(
     alloc: Global,
     files: &Graph,
-    known: &Known,
+    known: &SharedKnown,
     inputs: &Graph,
 ) -> Result<Known, AllocError>
     requires known { KnowsVerdicts files.now known.now }
@@ -44,7 +45,7 @@ pub fn known_within(
 {
     let mut within = Known::new(alloc);
     for number in 0..inputs.len() {
-        let verdict = verdict_there(files, known, &inputs.package(number).path)?;
+        let verdict = verdict_there(files, known.get(), &inputs.package(number).path)?;
         within.push(verdict)?;
     }
     Ok(within)
@@ -75,10 +76,10 @@ fn learned_verdict(
 pub fn learned(
     alloc: Global,
     files: &Graph,
-    own: &Known,
+    own: &SharedKnown,
     inputs: &Graph,
     others: &Known,
-) -> Result<Known, AllocError>
+) -> Result<SharedKnown, AllocError>
     requires own { KnowsVerdicts files.now own.now }
     requires others { KnowsVerdicts inputs.now others.now }
     requires closures { HasClosuresOf files.now inputs.now }
@@ -86,10 +87,10 @@ pub fn learned(
 {
     let mut known = Known::new(alloc);
     for number in 0..files.len() {
-        let verdict = learned_verdict(files, number, own, inputs, others)?;
+        let verdict = learned_verdict(files, number, own.get(), inputs, others)?;
         known.push(verdict)?;
     }
-    Ok(known)
+    SharedKnown::new(alloc, known)
 }
 
 /// The verdict on a package after a change, if it is known before and the closure stays.
@@ -124,10 +125,10 @@ fn kept_verdict(
 pub fn kept(
     alloc: Global,
     before: &Graph,
-    known: &Known,
+    known: &SharedKnown,
     after: &Graph,
     marks: &Marks,
-) -> Result<Known, AllocError>
+) -> Result<SharedKnown, AllocError>
     requires known { KnowsVerdicts before.now known.now }
     requires before_marks { AreMarks before.now after.now marks.now.before.items }
     requires after_marks { AreMarks after.now before.now marks.now.after.items }
@@ -135,8 +136,8 @@ pub fn kept(
 {
     let mut carried = Known::new(alloc);
     for number in 0..after.len() {
-        let verdict = kept_verdict(before, known, after, number, marks)?;
+        let verdict = kept_verdict(before, known.get(), after, number, marks)?;
         carried.push(verdict)?;
     }
-    Ok(carried)
+    SharedKnown::new(alloc, carried)
 }

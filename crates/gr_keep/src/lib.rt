@@ -6,9 +6,11 @@ mod changes;
 mod finished;
 mod inputs;
 mod knowing;
+mod shared_known;
 
 pub use carried::carried_units;
 pub use changes::{Marks, changed_marks};
 pub use finished::Finished;
 pub use inputs::{closure_files, inputs_of};
 pub use knowing::{kept, known_within, learned};
+pub use shared_known::SharedKnown;

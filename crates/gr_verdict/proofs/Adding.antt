@@ -22,7 +22,7 @@ use Rattle.gr_verdict.specs.declared.findings.Findings.{Findings}
 use Rattle.gr_verdict.specs.Verdicts.{BuildsOn, Verdicts, IsFaultBy, HasInterface, IsVerdictBy}
 use Rattle.gr_verdict.specs.FaultLists.{AreListed}
 use Rattle.gr_verdict.specs.Found.{is_unknown, known_by, AreWhole, AreUsesOf, IsFinding, AreFindings}
-use Rattle.gr_verdict.specs.Steps.{IsBuildOrder, IsJudged, MayAdd, Learns, Judges, AreJudged}
+use Rattle.gr_verdict.specs.Steps.{IsBuildOrder, IsJudged, MayAdd, Learns}
 use Rattle.gr_verdict.proofs.Alike.{KnowsAlike, alike_back, package_as, fault_as}
 use Rattle.gr_verdict.proofs.Closed.{to_package, not_on_itself}
 use Rattle.gr_verdict.proofs.Knowing.{same_known, verdict_alike, another, learnt_next}
@@ -75,25 +75,22 @@ learns_by w p all more j f fresh whole h may path faults members = record {
 
 -- lists with one item set
 
-get_set_other : {X : Type 0} (xs : List X) (i j : ℕ) (a : X) → (j ≡ i → ⊥) → slice_get (set xs i a) j ≡ slice_get xs j
+pub get_set_other : {X : Type 0} (xs : List X) (i j : ℕ) (a : X) → (j ≡ i → ⊥) → slice_get (set xs i a) j ≡ slice_get xs j
 get_set_other [] i j a ne = refl
 get_set_other (x ∷ xs) zero zero a ne = absurd (ne refl)
 get_set_other (x ∷ xs) zero (suc j) a ne = refl
 get_set_other (x ∷ xs) (suc i) zero a ne = refl
 get_set_other (x ∷ xs) (suc i) (suc j) a ne = get_set_other xs i j a (λ e. ne (ap suc e))
 
-get_set_same : {X : Type 0} (xs : List X) (i : ℕ) (a x : X) → slice_get (set xs i a) i ≡ Some x → a ≡ x
+pub get_set_same : {X : Type 0} (xs : List X) (i : ℕ) (a x : X) → slice_get (set xs i a) i ≡ Some x → a ≡ x
 get_set_same [] i a x e = absurd (none-some x e)
 get_set_same (y ∷ ys) zero a x e = same_Some a x e
 get_set_same (y ∷ ys) (suc i) a x e = get_set_same ys i a x e
 
-stays_mapped : {X Y : Type 0} (f : X → Y) (xs : List X) (i : ℕ) (a : X) → slice_get (map f xs) i ≡ Some (f a) → map f (set xs i a) ≡ map f xs
-stays_mapped f [] i a at = refl
-stays_mapped f (x ∷ xs) zero a at = ap (λ y. y ∷ map f xs) (sym (same_Some (f x) (f a) at))
-stays_mapped f (x ∷ xs) (suc i) a at = ap (λ zs. f x ∷ zs) (stays_mapped f xs i a at)
-
-same_mapped : {X Y : Type 0} (f : X → Y) (xs : List X) (i : ℕ) (a : X) (ys : List Y) → map f xs ≡ ys → slice_get ys i ≡ Some (f a) → map f (set xs i a) ≡ ys
-same_mapped f xs i a ys e at = stays_mapped f xs i a (subst (λ l. slice_get l i ≡ Some (f a)) (sym e) at) ∙ e
+pub set_there : {X : Type 0} (xs : List X) (i : ℕ) (a : X) → i < length xs → slice_get (set xs i a) i ≡ Some a
+set_there [] i a lt = absurd (let none : i < 0 = lt in omega arith)
+set_there (x ∷ xs) zero a lt = refl
+set_there (x ∷ xs) (suc i) a lt = set_there xs i a (let within : suc i < length (x ∷ xs) = lt in omega arith)
 
 -- one package further
 
@@ -107,58 +104,6 @@ finding_as w p a b same f h = record {
   members = λ e. (let u = h.members e in record { checked = u.checked; is_package = package_as w p a b same u.checked u.is_package; are_uses = u.are_uses });
 }
 
--- what the packages of some numbers build on are among them
-abbrev pub IsClosedList : Workspace → List ℕ → Type 0
-IsClosedList w xs = (m : ℕ) (r q : List ℕ) → Contains xs m → slice_get (package_paths w) m ≡ Some r → BuildsOn w r q → (k : ℕ) × (Contains xs k × (slice_get (package_paths w) k ≡ Some q))
-
-module _ (w : Workspace) (xs ys : List ℕ) (n : ℕ) (p : List ℕ) (at : slice_get (package_paths w) n ≡ Some p) (more_in : (m : ℕ) → Contains ys m → Contains xs m ⊎ (n ≡ m)) (keeps : (m : ℕ) → Contains xs m → Contains ys m)
-    (here : Contains ys n) (new_one : Contains xs n → ⊥) (closed : IsClosedList w xs) (below : (q : List ℕ) → BuildsOn w p q → (k : ℕ) × (Contains xs k × (slice_get (package_paths w) k ≡ Some q)))
-    (old new : List Finding) (all more : Interfaces) (h : AreJudged w xs old all) (j : Judges w p n old new all more) where
-  alike_own : KnowsAlike w p (known_by all) (known_by more)
-  alike_own q on = verdict_alike all more q (j.learns.elsewhere q (not_on_itself w p q on))
-
-  alike_before : (m : ℕ) (r : List ℕ) → Contains xs m → slice_get (package_paths w) m ≡ Some r → KnowsAlike w r (known_by all) (known_by more)
-  alike_before m r c at_m q on =
-      let k = closed m r q c at_m on in
-      verdict_alike all more q (j.learns.elsewhere q (another w (Contains xs) n p at new_one k.0 q k.1.0 k.1.1))
-
-  found_next : (m : ℕ) (r : List ℕ) (f : Finding) → Contains ys m → slice_get (package_paths w) m ≡ Some r → slice_get new m ≡ Some f → IsFinding w (known_by more) r f
-  found_next m r f c at_m is = elim (more_in m c) [
-    | inl before ↦ (
-        let other : m ≡ n → ⊥ = λ e. new_one (subst (Contains xs) e before) in
-        let was : slice_get old m ≡ Some f = sym (get_set_other old n m j.finding other) ∙ sym (ap (λ l. slice_get l m) j.is_set) ∙ is in
-        finding_as w r (known_by all) (known_by more) (alike_before m r before at_m) f (h.found m r f before at_m was))
-    | inr e ↦ (
-        let path : p ≡ r = same_Some p r (sym at ∙ subst (λ k. slice_get (package_paths w) k ≡ Some r) (sym e) at_m) in
-        let one : j.finding ≡ f = get_set_same old n j.finding f (sym (ap (λ l. slice_get l n) j.is_set) ∙ subst (λ k. slice_get new k ≡ Some f) (sym e) is) in
-        subst (λ q. IsFinding w (known_by more) q f) path (subst (IsFinding w (known_by more) p) one (finding_as w p (known_by all) (known_by more) alike_own j.finding j.learns.is_finding)))
-  ]
-
-  pub judged_next : AreJudged w ys new more
-  judged_next = record {
-    paths = ap (map (λ (f : Finding). f.path)) j.is_set ∙ same_mapped (λ (f : Finding). f.path) old n j.finding (package_paths w) h.paths (at ∙ ap Some (sym j.learns.is_finding.has_path));
-    found = found_next;
-    known = learnt_next w (Contains xs) (Contains ys) n p at more_in keeps here new_one all more h.known j.finding below j.learns;
-  }
-
--- all packages
-
-pub none_judged : (w : Workspace) (numbers : List ℕ) (packages : List Finding) (all : Interfaces) → numbers ≡ [] → map (λ (f : Finding). f.path) packages ≡ package_paths w → ((q : List ℕ) → name_in all q ≡ None) → AreWhole all →
-    AreJudged w numbers packages all
-none_judged w numbers packages all e paths fresh whole = record {
-  paths = paths;
-  found = λ n p f c at is. absurd (nothing_in n (subst (λ l. Contains l n) e c));
-  known = record { right = λ n p c at. absurd (nothing_in n (subst (λ l. Contains l n) e c)); fresh = λ n p none at. fresh p; whole = whole };
-}
-
-pub all_judged : (w : Workspace) (order : List ℕ) (found : Findings) → IsBuildOrder w order → AreJudged w order found.packages.items found.interfaces → AreFindings w found
-all_judged w order found built h = record {
-  size = sym (length-map found.packages.items (λ (f : Finding). f.path)) ∙ ap length h.paths;
-  right = λ p has. (let n = number w p has in h.known.right n.0 p ((built.each n.0).1 (slice_get_within (package_paths w) n.0 p n.1)) n.1);
-  each = λ n p f at is. h.found n p f ((built.each n).1 (slice_get_within (package_paths w) n p at)) at is;
-  whole = h.known.whole;
-}
-
 -- the order
 
 in_taken : (xs : List ℕ) (k i m : ℕ) → i < k → slice_get xs i ≡ Some m → Contains (take k xs) m
@@ -170,50 +115,9 @@ in_taken xs k i m lt at =
       get_or-take k xs i m lt ∙ get_or_from_slice_get xs i m m at,
     )
 
-taken_at : (xs : List ℕ) (k m : ℕ) → Contains (take k xs) m → (i : ℕ) × ((i < k) × (slice_get xs i ≡ Some m))
-taken_at xs k m c =
-    let lt : c.0 < length (take k xs) = c.1 in
-    let long = length-take k xs in
-    let before : c.0 < k = omega arith in
-    let within : c.0 < length xs = omega arith in
-    (c.0, (before, slice_get-get_or xs c.0 m within ∙ ap Some (sym (get_or-take k xs c.0 m before) ∙ c.2)))
-
 module _ (w : Workspace) (order : List ℕ) (built : IsBuildOrder w order) (k : ℕ) where
-  pub before_closed : IsClosedList w (take k order)
-  before_closed m r q c at on =
-      let i = taken_at order k m c in
-      let n = number w q (to_package w r q on.imported) in
-      let j = built.behind i.0 m n.0 r q i.1.1 at n.1 on in
-      (n.0, (in_taken order k j.0 n.0 (let a : i.0 < k = i.1.0 in let b : j.0 < i.0 = j.1 in omega arith) j.2, n.1))
-
   pub below_before : (n : ℕ) (p q : List ℕ) → slice_get order k ≡ Some n → slice_get (package_paths w) n ≡ Some p → BuildsOn w p q → (m : ℕ) × (Contains (take k order) m × (slice_get (package_paths w) m ≡ Some q))
   below_before n p q at at_n on =
       let m = number w q (to_package w p q on.imported) in
       let j = built.behind k n m.0 p q at at_n m.1 on in
       (m.0, (in_taken order k j.0 m.0 j.1 j.2, m.1))
-
-  pub not_before : (n : ℕ) → slice_get order k ≡ Some n → Contains (take k order) n → ⊥
-  not_before n at c =
-      let i = taken_at order k n c in
-      let e = built.once i.0 k n i.1.1 at in
-      let lt : i.0 < k = i.1.0 in
-      omega arith
-
--- the paths of packages of which nothing is found yet
-
-pub next_path : (old new : List Finding) (f : Finding) (paths : List (List ℕ)) (k : ℕ) → new ≡ old ++ f ∷ [] → map (λ (x : Finding). x.path) old ≡ take k paths → slice_get paths k ≡ Some f.path → map (λ (x : Finding). x.path) new ≡ take (k + 1) paths
-next_path old new f paths k is before at =
-    ap (map (λ (x : Finding). x.path)) is ∙ map-append (λ (x : Finding). x.path) old (f ∷ [])
-    ∙ ap₂ (λ xs x. xs ++ x ∷ []) before (sym (get_or_from_slice_get paths k f.path [] at))
-    ∙ sym (take_more paths k [] (slice_get_within paths k f.path at))
-
--- the path of the package of a number
-pub path_at : (packages : List Finding) (paths : List (List ℕ)) (n : ℕ) (p : List ℕ) (d : Finding) → map (λ (x : Finding). x.path) packages ≡ paths → slice_get paths n ≡ Some p → n < length packages → (get_or packages n d).path ≡ p
-path_at packages paths n p d is at lt =
-    let here : slice_get (map (λ (x : Finding). x.path) packages) n ≡ Some (get_or packages n d).path =
-    slice_get-map (λ (x : Finding). x.path) packages n ∙ ap (option_map (λ (x : Finding). x.path)) (slice_get-get_or packages n d lt) in
-    same_Some (get_or packages n d).path p (sym here ∙ ap (λ l. slice_get l n) is ∙ at)
-
--- there are as many as packages
-pub as_many : (packages : List Finding) (paths : List (List ℕ)) (n : ℕ) → map (λ (x : Finding). x.path) packages ≡ paths → n < length paths → n < length packages
-as_many packages paths n is lt = subst (λ k. n < k) (sym (ap length is) ∙ length-map packages (λ (x : Finding). x.path)) lt

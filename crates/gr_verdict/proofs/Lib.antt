@@ -25,6 +25,6 @@ pub mod Knowing
 pub mod Adding
 pub mod Taking
 pub mod Telling
-pub mod Asking
+pub mod Gathering
 pub mod Listing
 pub mod Examples

@@ -24,7 +24,10 @@ use Rattle.gr_stages.specs.Stages.{IsOuterFault}
 use Rattle.gr_declared.specs.Package.{Package, Interface}
 use Rattle.gr_verdict.specs.declared.fault.FileFault.{FileFault}
 use Rattle.gr_verdict.specs.Verdicts.{BuildsOn, Verdict, Verdicts, IsStateOf, is_missing, is_on_cycle, is_faulty, is_good, AreStates, IsSeenAs, seen, unseen, IsPackageIn, IsUnreadFault, IsInnerFault, IsReadFault, IsFaultBy, HasInterface, IsVerdictBy, IsVerdict, follows, AreVerdictsBelow}
-use Rattle.gr_verdict.specs.FaultLists.{ListsPackageFaults}
+use Rattle.gr_verdict.specs.declared.finding.Finding.{Finding}
+use Rattle.gr_verdict.specs.declared.known.KnownVerdict.{KnownVerdict}
+use Rattle.gr_verdict.specs.FaultLists.{AreListed, ListsPackageFaults}
+use Rattle.gr_verdict.specs.Found.{known_by, IsFindingOf, TellsVerdict}
 use Rattle.gr_verdict.specs.Closures.{HasSameClosure}
 use Rattle.gr_verdict.proofs.Alike.{first_as}
 use Rattle.gr_verdict.proofs.Closed.{from_package, to_package, in_closure_then}
@@ -226,19 +229,36 @@ local_below w x p known same right = λ q on.
     let here = builds_there x w p (same_back w x p same) q on in
     local_verdict w x q (known q) (to_package w p q here.imported) (same_within w x p same q here.imported) (right q here)
 
-pub local_list : (w x : Workspace) (p : List ℕ) (list : List FileFault) → Contains (package_paths w) p → HasSameClosure w x p → ListsPackageFaults w p list → ListsPackageFaults x p list
-local_list w x p list own same h = record {
-  known = h.known;
-  right = local_below w x p h.known same h.right;
-  listed = record {
-    in_order = h.listed.in_order;
-    each = λ f. (
-      λ has. fault_there w x p same own h.known f ((h.listed.each f).0 has),
-      λ is. (h.listed.each f).1 (fault_there x w p (same_back w x p same) (own_there w x p same own) h.known f is),
-    );
-  };
+listed_there : (w x : Workspace) (p : List ℕ) (known : Verdicts) (list : List FileFault) → Contains (package_paths w) p → HasSameClosure w x p → AreListed (IsFaultBy w known p) list → AreListed (IsFaultBy x known p) list
+listed_there w x p known list own same h = record {
+  in_order = h.in_order;
+  each = λ f. (
+    λ has. fault_there w x p same own known f ((h.each f).0 has),
+    λ is. (h.each f).1 (fault_there x w p (same_back w x p same) (own_there w x p same own) known f is),
+  );
 }
+
+pub local_list : (w x : Workspace) (p : List ℕ) (list : List FileFault) → Contains (package_paths w) p → HasSameClosure w x p → ListsPackageFaults w p list → ListsPackageFaults x p list
+local_list w x p list own same h = record { known = h.known; right = local_below w x p h.known same h.right; listed = listed_there w x p h.known list own same h.listed }
 
 pub locally_checked : (w x : Workspace) (p : List ℕ) (known : Verdicts) (c : Package) → Contains (package_paths w) p → HasSameClosure w x p → AreVerdictsBelow w p known → IsPackageIn w known p c →
     AreVerdictsBelow x p known × IsPackageIn x known p c
 locally_checked w x p known c own same right h = (local_below w x p known same right, package_there w x p same own known c h)
+
+pub local_finding : (w x : Workspace) (p : List ℕ) (f : Finding) → Contains (package_paths w) p → HasSameClosure w x p → IsFindingOf w p f → IsFindingOf x p f
+local_finding w x p f own same h = record {
+  known = h.known;
+  right = local_below w x p h.known same h.right;
+  finding = record {
+    has_path = h.finding.has_path;
+    listed = listed_there w x p h.known f.faults.items own same h.finding.listed;
+    members = λ e. (let u = h.finding.members e in record { checked = u.checked; is_package = package_there w x p same own h.known u.checked u.is_package; are_uses = u.are_uses });
+  };
+}
+
+pub told_there : (w x : Workspace) (p : List ℕ) (one : KnownVerdict) → Contains (package_paths w) p → HasSameClosure w x p → TellsVerdict w p one → TellsVerdict x p one
+told_there w x p one own same told = record {
+  right = local_verdict w x p (known_by one.interfaces p) own same told.right;
+  whole = told.whole;
+  finding = local_finding w x p one.finding own same told.finding;
+}

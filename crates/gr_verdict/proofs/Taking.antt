@@ -1,102 +1,116 @@
--- What others know of packages is taken, one package further.
-use Rattle.std.proofs.Common.{ℕ, zero, suc, ◌≡◌, ◌+◌, ◌⊎◌, inl, inr, Bool, true, false, List, [], ◌∷◌, ◌++◌, length, refl, sym, ap, subst, ◌∙◌, arith, length-append}
-use Rattle.std.specs.Prelude.{Some, None, slice_get}
-use Rattle.std.proofs.lemmas.Bool.{false≢true}
+-- What is known of packages is taken, one package further.
+use Rattle.std.proofs.Common.{ℕ, zero, suc, ◌≡◌, ◌+◌, ◌⊎◌, inl, inr, List, [], ◌∷◌, ◌++◌, length, refl, sym, ap, subst, ◌∙◌, arith, length-append}
+use Rattle.std.specs.Prelude.{Option, Some, None, slice_get}
+use Rattle.std.proofs.lemmas.Option.{none-some, same_Some, slice_get_within}
 use Rattle.gr_text.specs.Workspace.{Workspace}
 use Rattle.gr_text.specs.Packages.{package_paths}
-use Rattle.gr_graph.specs.Search.{IsMarked}
 use Rattle.gr_declared.specs.InterfacesView.{name_in, interface_in, no_interface, Shares}
 use Rattle.gr_declared.specs.declared.interfaces.Interfaces.{Interfaces}
 use Rattle.gr_declared.proofs.ByteKeys.{cases_bytes}
-use Rattle.gr_verdict.specs.declared.marked.MarkedVerdicts.{MarkedVerdicts}
-use Rattle.gr_verdict.specs.Found.{known_by, AreWhole, TellsVerdict}
-use Rattle.gr_verdict.specs.Steps.{AreKnown, AreMarkedNext}
+use Rattle.gr_declared.proofs.Paths.{get_before, get_last}
+use Rattle.gr_verdict.specs.declared.finding.Finding.{Finding}
+use Rattle.gr_verdict.specs.declared.gathered.Gathered.{Gathered}
+use Rattle.gr_verdict.specs.declared.known.KnownVerdict.{KnownVerdict}
+use Rattle.gr_verdict.specs.Found.{known_by, AreWhole, IsFindingOf, TellsVerdict}
+use Rattle.gr_verdict.specs.Steps.{AreKnown, AreGathered, IsGathered}
 use Rattle.gr_verdict.specs.Verdicts.{IsVerdict}
 use Rattle.gr_verdict.proofs.Knowing.{known_as, known_next, verdict_as}
 
--- marks, one mark further
+-- lists, one item further
 
-marked_or_next : (marks : List Bool) (b : Bool) (m : ℕ) → IsMarked (marks ++ b ∷ []) m → IsMarked marks m ⊎ ((m ≡ length marks) × (b ≡ true))
-marked_or_next [] b zero h = inr (refl, h)
-marked_or_next [] b (suc m) h = absurd (false≢true h)
-marked_or_next (x ∷ xs) b zero h = inl h
-marked_or_next (x ∷ xs) b (suc m) h = elim (marked_or_next xs b m h) [
+pub before_or_last : {X : Type 0} (xs : List X) (y : X) (m : ℕ) (x : X) → slice_get (xs ++ y ∷ []) m ≡ Some x → (slice_get xs m ≡ Some x) ⊎ ((m ≡ length xs) × (y ≡ x))
+before_or_last [] y zero x e = inr (refl, same_Some y x e)
+before_or_last [] y (suc m) x e = absurd (none-some x e)
+before_or_last (z ∷ zs) y zero x e = inl e
+before_or_last (z ∷ zs) y (suc m) x e = elim (before_or_last zs y m x e) [
   | inl c ↦ inl c
-  | inr e ↦ (let same : m ≡ length xs = e.0 in inr (omega arith, e.1))
+  | inr h ↦ (let same : m ≡ length zs = h.0 in inr (omega arith, h.1))
 ]
 
-still_marked : (marks : List Bool) (b : Bool) (m : ℕ) → IsMarked marks m → IsMarked (marks ++ b ∷ []) m
-still_marked [] b m h = absurd (false≢true h)
-still_marked (x ∷ xs) b zero h = h
-still_marked (x ∷ xs) b (suc m) h = still_marked xs b m h
-
-next_marked : (marks : List Bool) → IsMarked (marks ++ true ∷ []) (length marks)
-next_marked [] = refl
-next_marked (x ∷ xs) = next_marked xs
-
-not_past : (marks : List Bool) → IsMarked marks (length marks) → ⊥
-not_past [] h = false≢true h
-not_past (x ∷ xs) h = not_past xs h
+still_there : {X : Type 0} (xs : List X) (y : X) (m : ℕ) (x : X) → slice_get xs m ≡ Some x → slice_get (xs ++ y ∷ []) m ≡ Some x
+still_there xs y m x e = get_before xs y m (slice_get_within xs m x e) ∙ e
 
 -- nothing yet
 
-pub none_taken : (w : Workspace) (known : MarkedVerdicts) → known.marks.items ≡ [] → ((q : List ℕ) → name_in known.interfaces q ≡ None) → ((q : List ℕ) → interface_in known.interfaces q ≡ no_interface q) → AreMarkedNext w 0 known
-none_taken w known e names interfaces = record {
-  size = ap length e;
-  verdicts = record {
-    right = λ n p m at. absurd (false≢true (subst (λ l. IsMarked l n) e m));
-    fresh = λ n p none at. names p;
-    whole = λ q gone. interfaces q;
-  };
-}
-
-pub unmarked_none : (known : MarkedVerdicts) (n : ℕ) → known.marks.items ≡ [] → IsMarked known.marks.items n → ⊥
-unmarked_none known n e h = false≢true (subst (λ l. IsMarked l n) e h)
+pub none_gathered : (w : Workspace) (all : Gathered) → all.findings.items ≡ [] → ((q : List ℕ) → name_in all.interfaces q ≡ None) → ((q : List ℕ) → interface_in all.interfaces q ≡ no_interface q) → AreGathered w 0 all
+none_gathered w all e names interfaces =
+    let none : (n : ℕ) (f : Finding) → slice_get all.findings.items n ≡ Some (Some f) → ⊥ = λ n f is. none-some (Some f) (subst (λ l. slice_get l n ≡ Some (Some f)) e is) in
+    record {
+      size = ap length e;
+      verdicts = record {
+        right = λ n p m at. absurd (none n m.0 m.1);
+        fresh = λ n p gone at. names p;
+        whole = λ q gone. interfaces q;
+      };
+      each = λ n p f at is. absurd (none n f is);
+    }
 
 -- one package further
 
-module _ (w : Workspace) (n : ℕ) (p : List ℕ) (at : slice_get (package_paths w) n ≡ Some p) (old new : MarkedVerdicts) (h : AreMarkedNext w n old) where
-  fresh : IsMarked old.marks.items n → ⊥
-  fresh = subst (λ k. IsMarked old.marks.items k → ⊥) h.size (not_past old.marks.items)
+module _ (w : Workspace) (n : ℕ) (p : List ℕ) (at : slice_get (package_paths w) n ≡ Some p) (old new : Gathered) (h : AreGathered w n old) where
+  abbrev fs : List (Option Finding)
+  fs = old.findings.items
 
-  sized : (b : Bool) → new.marks.items ≡ old.marks.items ++ b ∷ [] → length new.marks.items ≡ n + 1
-  sized b e = ap length e ∙ length-append old.marks.items (b ∷ []) ∙ ap (λ k. k + 1) h.size
+  fresh : IsGathered fs n → ⊥
+  fresh g =
+      let within = slice_get_within fs n (Some g.0) g.1 in
+      let size : length fs ≡ n = h.size in
+      omega arith
 
-  pub unknown_next : new.marks.items ≡ old.marks.items ++ false ∷ [] → new.interfaces ≡ old.interfaces → AreMarkedNext w (n + 1) new
-  unknown_next e same =
-      let marks = old.marks.items in
-      record {
-        size = sized false e;
-        verdicts = subst (λ ms. AreKnown w (IsMarked ms) new.interfaces) (sym e) (subst (AreKnown w (IsMarked (marks ++ false ∷ []))) (sym same)
-            (known_as w (IsMarked marks) (IsMarked (marks ++ false ∷ [])) old.interfaces (λ m c. elim (marked_or_next marks false m c) [ inl before ↦ before | inr e ↦ absurd (false≢true e.1) ]) (still_marked marks false) h.verdicts));
-      }
+  sized : (o : Option Finding) → new.findings.items ≡ fs ++ o ∷ [] → length new.findings.items ≡ n + 1
+  sized o e = ap length e ∙ length-append fs (o ∷ []) ∙ ap (λ k. k + 1) h.size
 
-  -- what others know without a name they know nothing more of
-  whole_taken : (others : Interfaces) → TellsVerdict w p others → Shares others old.interfaces new.interfaces p → AreWhole new.interfaces
-  whole_taken others tells s q gone = elim (cases_bytes q p) [
-    | inl e ↦ (
-        let none : name_in others p ≡ None = sym s.has_name ∙ ap (name_in new.interfaces) (sym e) ∙ gone in
-        ap (interface_in new.interfaces) e ∙ s.has_interface ∙ tells.whole none ∙ ap no_interface (sym e))
-    | inr ne ↦ (let same = s.elsewhere q ne in same.interface ∙ h.verdicts.whole q (sym same.name ∙ gone))
+  -- which findings are there
+  there_or_here : (o : Option Finding) (m : ℕ) → IsGathered (fs ++ o ∷ []) m → IsGathered fs m ⊎ ((n ≡ m) × ((f : Finding) × (o ≡ Some f)))
+  there_or_here o m g = elim (before_or_last fs o m (Some g.0) g.1) [
+    | inl before ↦ inl (g.0, before)
+    | inr last ↦ inr (sym (last.0 ∙ h.size), (g.0, last.1))
   ]
 
-  pub taken_next : (others : Interfaces) → TellsVerdict w p others → new.marks.items ≡ old.marks.items ++ true ∷ [] → Shares others old.interfaces new.interfaces p → AreMarkedNext w (n + 1) new
-  taken_next others tells e s =
-      let marks = old.marks.items in
-      let here : IsMarked (marks ++ true ∷ []) n = subst (IsMarked (marks ++ true ∷ [])) h.size (next_marked marks) in
-      let own : IsVerdict w p (known_by new.interfaces p) = verdict_as w p others new.interfaces s.has_name s.has_interface tells.right in
+  still : (o : Option Finding) (m : ℕ) → IsGathered fs m → IsGathered (fs ++ o ∷ []) m
+  still o m g = (g.0, still_there fs o m (Some g.0) g.1)
+
+  -- and that they are right
+  each_next : (o : Option Finding) → new.findings.items ≡ fs ++ o ∷ [] → ((f : Finding) → o ≡ Some f → IsFindingOf w p f) → (m : ℕ) (q : List ℕ) (f : Finding) → slice_get (package_paths w) m ≡ Some q → slice_get new.findings.items m ≡ Some (Some f) →
+      IsFindingOf w q f
+  each_next o e own m q f at_m is = elim (before_or_last fs o m (Some f) (subst (λ l. slice_get l m ≡ Some (Some f)) e is)) [
+    | inl before ↦ h.each m q f at_m before
+    | inr last ↦ (
+        let path : p ≡ q = same_Some p q (sym at ∙ subst (λ k. slice_get (package_paths w) k ≡ Some q) (last.0 ∙ h.size) at_m) in
+        subst (λ r. IsFindingOf w r f) path (own f last.1))
+  ]
+
+  pub unknown_next : new.findings.items ≡ fs ++ None ∷ [] → new.interfaces ≡ old.interfaces → AreGathered w (n + 1) new
+  unknown_next e same =
+      let gs : List (Option Finding) = fs ++ None ∷ [] in
       record {
-        size = sized true e;
-        verdicts = subst (λ ms. AreKnown w (IsMarked ms) new.interfaces) (sym e)
-            (known_next w (IsMarked marks) (IsMarked (marks ++ true ∷ [])) n p at
-            (λ m c. elim (marked_or_next marks true m c) [ inl before ↦ inl before | inr e ↦ inr (sym (e.0 ∙ h.size)) ])
-            (still_marked marks true) here fresh old.interfaces new.interfaces h.verdicts s.elsewhere (whole_taken others tells s) own);
+        size = sized None e;
+        verdicts = subst (λ l. AreKnown w (IsGathered l) new.interfaces) (sym e) (subst (AreKnown w (IsGathered gs)) (sym same)
+            (known_as w (IsGathered fs) (IsGathered gs) old.interfaces (λ m c. elim (there_or_here None m c) [ inl before ↦ before | inr last ↦ absurd (none-some last.1.0 last.1.1) ]) (still None) h.verdicts));
+        each = each_next None e (λ f is. absurd (none-some f is));
       }
 
--- one of which nothing is taken stays unmarked
+  module _ (told : KnownVerdict) (tells : TellsVerdict w p told) (s : Shares told.interfaces old.interfaces new.interfaces p) where
+    -- what is known without a name is known as nothing
+    whole_taken : AreWhole new.interfaces
+    whole_taken q gone = elim (cases_bytes q p) [
+      | inl e ↦ (
+          let none : name_in told.interfaces p ≡ None = sym s.has_name ∙ ap (name_in new.interfaces) (sym e) ∙ gone in
+          ap (interface_in new.interfaces) e ∙ s.has_interface ∙ tells.whole none ∙ ap no_interface (sym e))
+      | inr ne ↦ (let same = s.elsewhere q ne in same.interface ∙ h.verdicts.whole q (sym same.name ∙ gone))
+    ]
 
-pub but_next : (old new : MarkedVerdicts) (b : Bool) (n other : ℕ) → length old.marks.items ≡ n → new.marks.items ≡ old.marks.items ++ b ∷ [] → (b ≡ true → n ≡ other → ⊥) → (IsMarked old.marks.items other → ⊥) → IsMarked new.marks.items other → ⊥
-but_next old new b n other size e not before c = elim (marked_or_next old.marks.items b other (subst (λ ms. IsMarked ms other) e c)) [
-  | inl earlier ↦ before earlier
-  | inr here ↦ not here.1 (sym (here.0 ∙ size))
-]
+    pub taken_next : new.findings.items ≡ fs ++ Some told.finding ∷ [] → AreGathered w (n + 1) new
+    taken_next e =
+        let o : Option Finding = Some told.finding in
+        let gs : List (Option Finding) = fs ++ o ∷ [] in
+        let here : IsGathered gs n = (told.finding, subst (λ k. slice_get gs k ≡ Some o) h.size (get_last fs o)) in
+        let own : IsVerdict w p (known_by new.interfaces p) = verdict_as w p told.interfaces new.interfaces s.has_name s.has_interface tells.right in
+        record {
+          size = sized o e;
+          verdicts = subst (λ l. AreKnown w (IsGathered l) new.interfaces) (sym e)
+              (known_next w (IsGathered fs) (IsGathered gs) n p at
+              (λ m c. elim (there_or_here o m c) [ inl before ↦ inl before | inr last ↦ inr last.0 ])
+              (still o) here fresh old.interfaces new.interfaces h.verdicts s.elsewhere whole_taken own);
+          each = each_next o e (λ f is. subst (IsFindingOf w p) (same_Some told.finding f is) tells.finding);
+        }

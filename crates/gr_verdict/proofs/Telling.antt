@@ -10,7 +10,8 @@ use Rattle.gr_declared.specs.InterfacesView.{name_in, interface_in}
 use Rattle.gr_declared.specs.declared.interfaces.Interfaces.{Interfaces}
 use Rattle.gr_declared.proofs.Paths.{get_before, get_last}
 use Rattle.gr_verdict.specs.declared.known.Known.{Known}
-use Rattle.gr_verdict.specs.Found.{known_by, AreWhole, TellsVerdict, MayTell, KnowsVerdicts, AreKnownNext}
+use Rattle.gr_verdict.specs.declared.known.KnownVerdict.{KnownVerdict}
+use Rattle.gr_verdict.specs.Found.{known_by, AreWhole, IsFindingOf, TellsVerdict, MayTell, KnowsVerdicts, AreKnownNext}
 use Rattle.gr_verdict.specs.Verdicts.{IsVerdict}
 use Rattle.gr_verdict.proofs.Knowing.{verdict_as}
 
@@ -24,7 +25,7 @@ nothing_told known e w = record { size = ap length e; verdicts = nothing_known k
 
 -- one package further
 
-module _ (w : Workspace) (n : ℕ) (old new : Known) (found : Option Interfaces) (e : new.verdicts.items ≡ old.verdicts.items ++ found ∷ []) (h : AreKnownNext w n old) where
+module _ (w : Workspace) (n : ℕ) (old new : Known) (found : Option KnownVerdict) (e : new.verdicts.items ≡ old.verdicts.items ++ found ∷ []) (h : AreKnownNext w n old) where
   told_then : OfPackage w n (λ p. MayTell w p found) → KnowsVerdicts w new
   told_then tells m p one at is =
       let items = old.verdicts.items in
@@ -43,5 +44,10 @@ module _ (w : Workspace) (n : ℕ) (old new : Known) (found : Option Interfaces)
 
 -- a verdict that all tell, told alone
 
-pub told_alone : (w : Workspace) (p : List ℕ) (all one : Interfaces) → name_in one p ≡ name_in all p → interface_in one p ≡ interface_in all p → AreWhole all → IsVerdict w p (known_by all p) → TellsVerdict w p one
-told_alone w p all one name interface whole right = record { right = verdict_as w p all one name interface right; whole = λ gone. interface ∙ whole p (sym name ∙ gone) }
+pub told_alone : (w : Workspace) (p : List ℕ) (all : Interfaces) (one : KnownVerdict) → name_in one.interfaces p ≡ name_in all p → interface_in one.interfaces p ≡ interface_in all p → AreWhole all → IsVerdict w p (known_by all p) →
+    IsFindingOf w p one.finding → TellsVerdict w p one
+told_alone w p all one name interface whole right finding = record {
+  right = verdict_as w p all one.interfaces name interface right;
+  whole = λ gone. interface ∙ whole p (sym name ∙ gone);
+  finding = finding;
+}

@@ -11,9 +11,10 @@ use Rattle.gr_declared.specs.declared.interfaces.Interfaces.{Interfaces}
 use Rattle.gr_verdict.specs.Verdicts.{Verdicts, IsPackageIn, IsFaultBy, IsVerdict, AreVerdictsBelow, AreVerdicts}
 use Rattle.gr_verdict.specs.FaultLists.{AreListed}
 use Rattle.gr_verdict.specs.declared.finding.Finding.{Finding}
-use Rattle.gr_verdict.specs.declared.asked.OneFinding.{OneFinding}
 use Rattle.gr_verdict.specs.declared.findings.Findings.{Findings}
+use Rattle.gr_verdict.specs.declared.findings.Found.{Found}
 use Rattle.gr_verdict.specs.declared.known.Known.{Known}
+use Rattle.gr_verdict.specs.declared.known.KnownVerdict.{KnownVerdict}
 
 abbrev pub is_unknown : Option (List ℕ) → Bool
 is_unknown None = true
@@ -27,24 +28,6 @@ known_by all q = record { faulty = is_unknown (name_in all q); interface = inter
 abbrev pub AreWhole : Interfaces → Type 0
 AreWhole all = (q : List ℕ) → name_in all q ≡ None → interface_in all q ≡ no_interface q
 
--- the verdict on p, as interfaces that tell of p alone
-pub record TellsVerdict (w : Workspace) (p : List ℕ) (one : Interfaces) : Type 0 where
-  pub right : IsVerdict w p (known_by one p)
-  pub whole : name_in one p ≡ None → interface_in one p ≡ no_interface p
-
--- the verdict on p, if there is one
-abbrev pub MayTell : Workspace → List ℕ → Option Interfaces → Type 0
-MayTell w p found = (one : Interfaces) → found ≡ Some one → TellsVerdict w p one
-
--- what is known is right: each verdict is that on the package of its number
-abbrev pub KnowsVerdicts : Workspace → Known → Type 0
-KnowsVerdicts w known = (n : ℕ) (p : List ℕ) (one : Interfaces) → slice_get (package_paths w) n ≡ Some p → slice_get known.verdicts.items n ≡ Some (Some one) → TellsVerdict w p one
-
--- and it is of the first packages, as many as are told
-pub record AreKnownNext (w : Workspace) (count : ℕ) (known : Known) : Type 0 where
-  pub size : length known.verdicts.items ≡ count
-  pub verdicts : KnowsVerdicts w known
-
 -- the uses of members in the files of p
 pub record AreUsesOf (w : Workspace) (known : Verdicts) (p : List ℕ) (members : List (Vec MemberUse)) : Type 0 where
   pub checked : Package
@@ -56,6 +39,31 @@ pub record IsFinding (w : Workspace) (known : Verdicts) (p : List ℕ) (f : Find
   pub has_path : f.path ≡ p
   pub listed : AreListed (IsFaultBy w known p) f.faults.items
   pub members : f.faults.items ≡ [] → AreUsesOf w known p f.members.items
+
+-- what is found in p, by the verdicts on the packages that it builds on
+pub record IsFindingOf (w : Workspace) (p : List ℕ) (f : Finding) : Type 0 where
+  pub known : Verdicts
+  pub right : AreVerdictsBelow w p known
+  pub finding : IsFinding w known p f
+
+-- what is known of p: what is found in it, and the verdict on it, as interfaces that tell of p alone
+pub record TellsVerdict (w : Workspace) (p : List ℕ) (one : KnownVerdict) : Type 0 where
+  pub right : IsVerdict w p (known_by one.interfaces p)
+  pub whole : name_in one.interfaces p ≡ None → interface_in one.interfaces p ≡ no_interface p
+  pub finding : IsFindingOf w p one.finding
+
+-- what is known of p, if anything is
+abbrev pub MayTell : Workspace → List ℕ → Option KnownVerdict → Type 0
+MayTell w p found = (one : KnownVerdict) → found ≡ Some one → TellsVerdict w p one
+
+-- what is known is right: it is of the package of its number
+abbrev pub KnowsVerdicts : Workspace → Known → Type 0
+KnowsVerdicts w known = (n : ℕ) (p : List ℕ) (one : KnownVerdict) → slice_get (package_paths w) n ≡ Some p → slice_get known.verdicts.items n ≡ Some (Some one) → TellsVerdict w p one
+
+-- and it is of the first packages, as many as are told
+pub record AreKnownNext (w : Workspace) (count : ℕ) (known : Known) : Type 0 where
+  pub size : length known.verdicts.items ≡ count
+  pub verdicts : KnowsVerdicts w known
 
 -- what is found in each package of a workspace, by its number
 pub record AreFindings (w : Workspace) (found : Findings) : Type 0 where
@@ -71,7 +79,7 @@ pub record IsFoundBy (w : Workspace) (p : List ℕ) (all : Interfaces) (f : Find
   pub whole : AreWhole all
   pub finding : IsFinding w (known_by all) p f
 
--- what is found in p, and what is known then
-pub record IsOneFinding (w : Workspace) (p : List ℕ) (found : OneFinding) : Type 0 where
-  pub found_by : IsFoundBy w p found.interfaces found.finding
+-- what is found in each package of a workspace, and what is known then
+pub record IsFound (w : Workspace) (found : Found) : Type 0 where
+  pub findings : AreFindings w found.findings
   pub verdicts : KnowsVerdicts w found.known

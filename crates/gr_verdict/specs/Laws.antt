@@ -7,6 +7,8 @@ use Rattle.gr_verdict.specs.declared.fault.FileFault.{FileFault}
 use Rattle.gr_verdict.specs.Verdicts.{Verdict, Verdicts, IsPackageIn, IsVerdict, AreVerdictsBelow}
 use Rattle.gr_verdict.specs.FaultLists.{ListsPackageFaults, ListsFaults}
 use Rattle.gr_verdict.specs.Closures.{HasSameClosure}
+use Rattle.gr_verdict.specs.Found.{TellsVerdict}
+use Rattle.gr_verdict.specs.declared.known.KnownVerdict.{KnownVerdict}
 
 -- both say the same: whether there are faults, and where there are none, what others see
 pub record IsSameVerdict (v u : Verdict) : Type 0 where
@@ -41,3 +43,7 @@ AreLocalLists = (w x : Workspace) (p : List ℕ) (list : List FileFault) → Con
 abbrev pub AreLocallyChecked : Type 0
 AreLocallyChecked = (w x : Workspace) (p : List ℕ) (known : Verdicts) (c : Package) → Contains (package_paths w) p → HasSameClosure w x p → AreVerdictsBelow w p known → IsPackageIn w known p c →
     AreVerdictsBelow x p known × IsPackageIn x known p c
+
+-- and what is found in it is the same, so that what is known of it there is known of it here
+abbrev pub AreLocallyKnown : Type 0
+AreLocallyKnown = (w x : Workspace) (p : List ℕ) (one : KnownVerdict) → Contains (package_paths w) p → HasSameClosure w x p → TellsVerdict w p one → TellsVerdict x p one

@@ -1,6 +1,6 @@
 -- What is found on the way: an order of the packages, what one of them sees, its faults with their places, and what is found
 -- with one package more.
-use Rattle.std.specs.Prelude.{ℕ, ◌≡◌, ◌<◌, ◌↔◌, ◌⊎◌, true, List, [], length, map, Option, Some, None, slice_get, slice_index_or, MatchOption, Contains}
+use Rattle.std.specs.Prelude.{ℕ, ◌≡◌, ◌<◌, ◌↔◌, ◌⊎◌, List, [], length, map, Option, Some, None, slice_get, slice_index_or, MatchOption, Contains}
 use Rattle.std.specs.List.Sorted.{IsStrictlyIncreasing}
 use Rattle.std.proofs.Math.ListN.{set}
 use Rattle.gr_text.specs.Workspace.{Workspace}
@@ -10,18 +10,17 @@ use Rattle.gr_tree.specs.SourceFile.{SourceFile, FileParts, source_of}
 use Rattle.gr_graph.specs.FaultyFiles.{FaultyParts}
 use Rattle.gr_graph.specs.Graphs.{HoldsPackages}
 use Rattle.gr_graph.specs.Packages.{IsInClosure}
-use Rattle.gr_graph.specs.Search.{IsMarked}
 use Rattle.gr_declared.specs.InterfacesView.{name_in, interface_in, interface_of, KnowsSame, Shares, AddsInterface}
 use Rattle.gr_declared.specs.declared.interfaces.Interface.{Interface}
 use Rattle.gr_declared.specs.declared.interfaces.Interfaces.{Interfaces}
 use Rattle.gr_verdict.specs.Faults.{placed, placed_in}
 use Rattle.gr_verdict.specs.Verdicts.{Verdicts, BuildsOn, IsFaultBy, HasInterface, IsVerdictBy, IsVerdict}
 use Rattle.gr_verdict.specs.FaultLists.{AreListed}
-use Rattle.gr_verdict.specs.Found.{known_by, AreWhole, AreUsesOf, IsFinding}
+use Rattle.gr_verdict.specs.Found.{known_by, AreWhole, AreUsesOf, IsFinding, IsFindingOf}
 use Rattle.gr_verdict.specs.declared.fault.FileFault.{FileFault}
 use Rattle.gr_verdict.specs.declared.finding.Finding.{Finding}
 use Rattle.gr_verdict.specs.declared.judging.Judged.{Judged}
-use Rattle.gr_verdict.specs.declared.marked.MarkedVerdicts.{MarkedVerdicts}
+use Rattle.gr_verdict.specs.declared.gathered.Gathered.{Gathered}
 
 -- An order
 
@@ -110,48 +109,33 @@ pub record Learns (w : Workspace) (p : List ℕ) (finding : Finding) (all more :
   pub elsewhere : (q : List ℕ) → (q ≡ p → ⊥) → KnowsSame all more q
   pub whole : AreWhole more
 
--- the package p of that number was judged, and its finding is set
-pub record Judges (w : Workspace) (p : List ℕ) (number : ℕ) (old new : List Finding) (all more : Interfaces) : Type 0 where
-  pub finding : Finding
-  pub is_set : new ≡ set old number finding
-  pub learns : Learns w p finding all more
-
--- the packages of some numbers were judged
-pub record AreJudged (w : Workspace) (numbers : List ℕ) (packages : List Finding) (all : Interfaces) : Type 0 where
-  pub paths : map (λ f. f.path) packages ≡ package_paths w
-  pub found : (n : ℕ) (p : List ℕ) (f : Finding) → Contains numbers n → slice_get (package_paths w) n ≡ Some p → slice_get packages n ≡ Some f → IsFinding w (known_by all) p f
-  pub known : AreKnown w (Contains numbers) all
-
 -- Where some are known
 
--- the verdicts on the packages that are marked are known
-abbrev pub AreMarkedVerdicts : Workspace → MarkedVerdicts → Type 0
-AreMarkedVerdicts w known = AreKnown w (IsMarked known.marks.items) known.interfaces
+-- it is known what is found in the package of that number
+abbrev pub IsGathered : List (Option Finding) → ℕ → Type 0
+IsGathered findings n = (f : Finding) × (slice_get findings n ≡ Some (Some f))
 
--- and the marks are those of the first packages, as many as are told
-pub record AreMarkedNext (w : Workspace) (count : ℕ) (known : MarkedVerdicts) : Type 0 where
-  pub size : length known.marks.items ≡ count
-  pub verdicts : AreMarkedVerdicts w known
-
--- the package of that number is one that p builds on
-pub record IsBelow (w : Workspace) (p : List ℕ) (number : ℕ) : Type 0 where
-  pub path : List ℕ
-  pub has_path : slice_get (package_paths w) number ≡ Some path
-  pub builds_on : BuildsOn w p path
+-- What is known of the first packages, as many as are told, is right: what is found in some of them and the verdicts on these.
+pub record AreGathered (w : Workspace) (count : ℕ) (all : Gathered) : Type 0 where
+  pub size : length all.findings.items ≡ count
+  pub verdicts : AreKnown w (IsGathered all.findings.items) all.interfaces
+  pub each : (n : ℕ) (p : List ℕ) (f : Finding) → slice_get (package_paths w) n ≡ Some p → slice_get all.findings.items n ≡ Some (Some f) → IsFindingOf w p f
 
 -- the package p of that number was judged, and is known now
-pub record LearnsOf (w : Workspace) (p : List ℕ) (number : ℕ) (finding : Finding) (old new : MarkedVerdicts) : Type 0 where
-  pub marks : new.marks.items ≡ set old.marks.items number true
+pub record LearnsOf (w : Workspace) (p : List ℕ) (number : ℕ) (old new : Gathered) : Type 0 where
+  pub finding : Finding
+  pub is_set : new.findings.items ≡ set old.findings.items number (Some finding)
   pub learns : Learns w p finding old.interfaces new.interfaces
 
--- q, which was not known, was judged, since p builds on it; or it was known, or p does not build on it, and nothing was judged
-abbrev pub MayLearn : Workspace → (p q : List ℕ) → ℕ → (old new : MarkedVerdicts) → Type 0
-MayLearn w p q n old new =
-    ((IsMarked old.marks.items n → ⊥) × BuildsOn w p q × ((f : Finding) × LearnsOf w q n f old new))
-    ⊎ ((IsMarked old.marks.items n ⊎ (BuildsOn w p q → ⊥)) × (new ≡ old))
+-- p, which was not known, was judged; or it was known, and nothing was judged
+abbrev pub MayLearn : Workspace → List ℕ → ℕ → (old new : Gathered) → Type 0
+MayLearn w p n old new = ((IsGathered old.findings.items n → ⊥) × LearnsOf w p n old new) ⊎ (IsGathered old.findings.items n × (new ≡ old))
 
--- of some packages those are known that p builds on; p, which has that number, is not
-pub record AreBelowKnown (w : Workspace) (p : List ℕ) (number : ℕ) (numbers : List ℕ) (known : MarkedVerdicts) : Type 0 where
-  pub are_known : AreMarkedNext w (length (package_paths w)) known
-  pub below : (m : ℕ) → Contains numbers m → IsBelow w p m → IsMarked known.marks.items m
-  pub not_own : IsMarked known.marks.items number → ⊥
+-- it is known of each of these packages, by their numbers, what is found in it
+pub record AreAllGathered (w : Workspace) (numbers : List ℕ) (all : Gathered) : Type 0 where
+  pub right : AreGathered w (length (package_paths w)) all
+  pub each : (m : ℕ) → Contains numbers m → IsGathered all.findings.items m
+
+-- each finding, as one that is there
+abbrev pub somes : List Finding → List (Option Finding)
+somes findings = map (λ (f : Finding). Some f) findings

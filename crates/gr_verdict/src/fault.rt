@@ -6,6 +6,7 @@ ghost use Rattle.std.specs.Ordering.{eq_by_cmp, as_partial_cmp};
 ghost use Rattle.gr_verdict.specs.Faults.{fault_cmp, fault_cmp_total};
 
 use gr_text::{FaultKind, Place};
+use std::alloc::AllocError;
 use std::cmp::Ordering;
 
 /// A fault at a place of a file. Faults are ordered by the bytes of the package's path and of the file's, by offset, and by
@@ -29,6 +30,19 @@ impl FileFault {
             .as_bytes()
             .cmp(other.kind.name().as_bytes());
         by_package.then(by_path.then(by_offset.then(by_kind)))
+    }
+}
+
+impl Clone for FileFault {
+    ghost is_clone = { λ fault copy. copy ≡ fault };
+
+    fn clone(&self) -> Result<FileFault, AllocError> {
+        let path = self.place.path.clone()?;
+        let offset = self.place.offset;
+        Ok(FileFault {
+            place: Place { path, offset },
+            kind: self.kind,
+        })
     }
 }
 

@@ -1,13 +1,15 @@
-//! What is found in each package of a workspace.
-ghost use Rattle.std.specs.Prelude.{◌≡◌, ◌<◌, length, map, None, IfOk, OnOk};
+//! What is found in each package of a workspace, where it is known of some.
+ghost use Rattle.std.specs.Prelude.{ℕ, ◌≡◌, ◌<◌, length, map, None, IfOk, OnOk};
 ghost use Rattle.gr_text.specs.Packages.{package_paths};
 ghost use Rattle.gr_graph.specs.Graphs.{OfPackage};
 ghost use Rattle.gr_declared.specs.InterfacesView.{name_in};
-ghost use Rattle.gr_verdict.specs.Found.{AreWhole, AreFindings};
-ghost use Rattle.gr_verdict.specs.Steps.{MayAdd, Learns, Judges};
+ghost use Rattle.gr_verdict.specs.Found.{AreWhole, IsFound, KnowsVerdicts};
+ghost use Rattle.gr_verdict.specs.Steps.{AreAllGathered, AreGathered, IsBuildOrder, IsGathered, MayAdd, Learns, LearnsOf, MayLearn, somes};
 
-use crate::finding::Finding;
+use crate::finding::{Finding, SharedFinding};
+use crate::gathered::{Gathered, gather, known_now};
 use crate::judging::{Judged, judge};
+use crate::known::Known;
 use crate::order::order;
 use gr_declared::{Interface, Interfaces};
 use gr_expr::symbol::SharedPath;
@@ -17,23 +19,15 @@ use std::alloc::{AllocError, Global};
 /// What is found in each package of a workspace, by the packages' numbers, and the interfaces of those without faults.
 #[derive(Drop)]
 pub struct Findings {
-    pub packages: Vec<Finding>,
+    pub packages: Vec<SharedFinding>,
     pub interfaces: Interfaces,
 }
 
-/// The packages of a graph, of which nothing is found yet.
-fn nothing(alloc: Global, graph: &Graph) -> Result<Vec<Finding>, AllocError>
-    ensures { IfOk result (λ packages. map (λ f. f.path) packages.items ≡ package_paths graph.now) }
-{
-    let mut packages = Vec::new(alloc);
-    for number in 0..graph.len() {
-        packages.push(Finding {
-            path: SharedPath::new(alloc, &graph.package(number).path)?,
-            faults: Vec::new(alloc),
-            members: Vec::new(alloc),
-        })?;
-    }
-    Ok(packages)
+/// What is found in each package of a workspace, and what is known of packages then.
+#[derive(Drop)]
+pub struct Found {
+    pub findings: Findings,
+    pub known: Known,
 }
 
 /// Adds the interface of a package, if it has one.
@@ -52,7 +46,7 @@ fn add(
 }
 
 /// Judges a package by what is known of all that it builds on, and adds its interface.
-pub(crate) fn judge_one(
+fn judge_one(
     alloc: Global,
     graph: &Graph,
     number: usize,
@@ -78,38 +72,92 @@ pub(crate) fn judge_one(
     })
 }
 
-/// Judges a package, where all that it builds on were judged.
+/// Judges a package of which nothing is known yet, where all that it builds on are known.
+fn judge_unknown(
+    alloc: Global,
+    graph: &Graph,
+    number: usize,
+    all: &mut Gathered,
+) -> Result<(), AllocError>
+    requires in_range { number < length (package_paths graph.now) }
+    requires all { AreGathered graph.now (length (package_paths graph.now)) all.old }
+    requires unknown { IsGathered all.old.findings.items number → ⊥ }
+    ensures { OnOk result (OfPackage graph.now number (λ p. LearnsOf graph.now p number all.old all.new)) }
+{
+    let path = SharedPath::new(alloc, &graph.package(number).path)?;
+    let finding = judge_one(alloc, graph, number, path, &mut all.interfaces)?;
+    let finding = SharedFinding::new(alloc, finding)?;
+    all.findings[number] = Some(finding);
+    Ok(())
+}
+
+/// Judges a package, if nothing is known of it.
 fn judge_next(
     alloc: Global,
     graph: &Graph,
     number: usize,
-    packages: &mut Vec<Finding>,
-    all: &mut Interfaces,
+    all: &mut Gathered,
 ) -> Result<(), AllocError>
     requires in_range { number < length (package_paths graph.now) }
-    requires paths { map (λ f. f.path) packages.old.items ≡ package_paths graph.now }
-    requires whole { AreWhole all.old }
-    requires fresh { OfPackage graph.now number (λ p. name_in all.old p ≡ None) }
-    ensures { OnOk result (OfPackage graph.now number (λ p. Judges graph.now p number packages.old.items packages.new.items all.old all.new)) }
+    requires all { AreGathered graph.now (length (package_paths graph.now)) all.old }
+    ensures { OnOk result (OfPackage graph.now number (λ p. MayLearn graph.now p number all.old all.new)) }
 {
-    let path = packages[number].path.clone()?;
-    let finding = judge_one(alloc, graph, number, path, all)?;
-    packages[number] = finding;
+    if all.knows(number) {
+        return Ok(());
+    }
+    judge_unknown(alloc, graph, number, all)?;
     Ok(())
 }
 
-/// What is found in each package. A package is checked once, behind all that it builds on.
-pub fn verdicts(alloc: Global, graph: &Graph) -> Result<Findings, AllocError>
-    ensures { IfOk result (AreFindings graph.now) }
+/// Judges each package of which nothing is known, behind all that it builds on.
+fn judge_all(
+    alloc: Global,
+    graph: &Graph,
+    order: &[usize],
+    all: &mut Gathered,
+) -> Result<(), AllocError>
+    requires order { IsBuildOrder graph.now order.now }
+    requires all { AreGathered graph.now (length (package_paths graph.now)) all.old }
+    ensures { OnOk result (AreAllGathered graph.now order.now all.new) }
 {
-    let order = order(alloc, graph)?;
-    let mut packages = nothing(alloc, graph)?;
-    let mut interfaces = Interfaces::new(alloc);
-    for number in &order {
-        judge_next(alloc, graph, *number, &mut packages, &mut interfaces)?;
+    for number in order {
+        judge_next(alloc, graph, *number, all)?;
     }
-    Ok(Findings {
+    Ok(())
+}
+
+/// Findings, each of which is there.
+fn all_there(
+    alloc: Global,
+    findings: &[Option<SharedFinding>],
+) -> Result<Vec<SharedFinding>, AllocError>
+    requires { (n : ℕ) → n < length findings.now → IsGathered findings.now n }
+    ensures { IfOk result (λ packages. somes packages.items ≡ findings.now) }
+{
+    let mut packages = Vec::new(alloc);
+    for there in findings {
+        if let Some(finding) = there {
+            packages.push(finding.clone()?)?;
+        }
+    }
+    Ok(packages)
+}
+
+/// What is found in each package. One of which nothing is known is checked once, behind all that it builds on; what is known of
+/// the others is shared.
+pub fn verdicts(alloc: Global, graph: &Graph, known: &Known) -> Result<Found, AllocError>
+    requires { KnowsVerdicts graph.now known.now }
+    ensures { IfOk result (IsFound graph.now) }
+{
+    let mut all = gather(alloc, graph, known)?;
+    let order = order(alloc, graph)?;
+    judge_all(alloc, graph, &order, &mut all)?;
+    let known = known_now(alloc, graph, known, &all)?;
+    let packages = all_there(alloc, &all.findings)?;
+    let interfaces = all.interfaces;
+    let findings = Findings {
         packages,
         interfaces,
-    })
+    };
+    Ok(Found { findings, known })
 }

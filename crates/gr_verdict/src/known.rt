@@ -1,23 +1,23 @@
-//! What is known of packages: the verdicts on some of them.
+//! What is known of packages: what is found in some of them, with the verdicts on these.
 ghost use Rattle.std.specs.Prelude.{◌≡◌, ◌++◌, [], ◌∷◌, IfOk, MatchOption, OnOk, Some, slice_get};
 ghost use Rattle.gr_text.specs.Workspace.{Workspace};
 ghost use Rattle.gr_declared.specs.InterfacesView.{interface_in, name_in};
-ghost use Rattle.gr_declared.specs.declared.interfaces.Interfaces.{Interfaces as PackageInterfaces};
 ghost use Rattle.gr_verdict.specs.Found.{KnowsVerdicts};
+ghost use Rattle.gr_verdict.specs.declared.known.KnownVerdict.{KnownVerdict as Verdict};
 
+use crate::finding::SharedFinding;
 use gr_declared::Interfaces;
 use std::alloc::{AllocError, Global};
 use std::marker::Model;
 use std::sync::Arc;
 
-/// The verdict on a package, as interfaces that tell of it alone: with its interface if it has no fault, and with nothing if
-/// it has some. A clone shares them.
+/// Interfaces. A clone shares them.
 #[derive(Drop)]
-pub struct KnownVerdict {
+pub struct SharedInterfaces {
     interfaces: Arc<Interfaces, Global>,
 }
 
-impl Model for KnownVerdict {
+impl Model for SharedInterfaces {
     ghost use Rattle.std.specs.Arc.{arc_value};
     ghost use Rattle.gr_declared.specs.declared.interfaces.Interfaces.{Interfaces};
     ghost use Rattle.gr_declared.specs.contracts.interfaces.Interfaces.{the_row};
@@ -29,27 +29,66 @@ impl Model for KnownVerdict {
     ghost view = { λ a. arc_value a.interfaces };
 }
 
-impl KnownVerdict {
-    /// The verdict on the package of a path, as all tell it.
-    pub(crate) fn of(
-        alloc: Global,
-        path: &[u8],
-        all: &Interfaces,
-    ) -> Result<KnownVerdict, AllocError>
+impl SharedInterfaces {
+    /// The interface of the package of a path, as all tell it.
+    fn of(alloc: Global, path: &[u8], all: &Interfaces) -> Result<SharedInterfaces, AllocError>
         ensures name { IfOk result (λ one. name_in one path.now ≡ name_in all.now path.now) }
         ensures interface { IfOk result (λ one. interface_in one path.now ≡ interface_in all.now path.now) }
     {
         let mut interfaces = Interfaces::new(alloc);
         interfaces.share(alloc, all, path)?;
         let interfaces = Arc::new(alloc, interfaces)?;
-        Ok(KnownVerdict { interfaces })
+        Ok(SharedInterfaces { interfaces })
+    }
+
+    fn get(&self) -> &Interfaces
+        ensures { result.now ≡ self.now }
+    {
+        &self.interfaces
+    }
+}
+
+impl Clone for SharedInterfaces {
+    ghost is_clone = { λ interfaces copy. copy ≡ interfaces };
+
+    fn clone(&self) -> Result<SharedInterfaces, AllocError> {
+        let interfaces = Arc::try_clone(&self.interfaces)?;
+        Ok(SharedInterfaces { interfaces })
+    }
+}
+
+/// What is found in a package, and the verdict on it, as interfaces that tell of it alone: with its interface if it has no
+/// fault, and with nothing if it has some. A clone shares both.
+#[derive(Drop)]
+pub struct KnownVerdict {
+    pub(crate) finding: SharedFinding,
+    pub(crate) interfaces: SharedInterfaces,
+}
+
+impl KnownVerdict {
+    /// What is found in the package of a path, and the verdict on it, as all tell it.
+    pub(crate) fn of(
+        alloc: Global,
+        path: &[u8],
+        finding: SharedFinding,
+        all: &Interfaces,
+    ) -> Result<KnownVerdict, AllocError>
+        ensures finding { IfOk result (λ one. one.finding ≡ finding) }
+        ensures name { IfOk result (λ one. name_in one.interfaces path.now ≡ name_in all.now path.now) }
+        ensures interface { IfOk result (λ one. interface_in one.interfaces path.now ≡ interface_in all.now path.now) }
+    {
+        let interfaces = SharedInterfaces::of(alloc, path, all)?;
+        Ok(KnownVerdict {
+            finding,
+            interfaces,
+        })
     }
 
     /// The interfaces that tell of the package.
     pub(crate) fn interfaces(&self) -> &Interfaces
-        ensures { result.now ≡ self.now }
+        ensures { result.now ≡ self.now.interfaces }
     {
-        &self.interfaces
+        self.interfaces.get()
     }
 }
 
@@ -57,12 +96,16 @@ impl Clone for KnownVerdict {
     ghost is_clone = { λ verdict copy. copy ≡ verdict };
 
     fn clone(&self) -> Result<KnownVerdict, AllocError> {
-        let interfaces = Arc::try_clone(&self.interfaces)?;
-        Ok(KnownVerdict { interfaces })
+        let finding = self.finding.clone()?;
+        let interfaces = self.interfaces.clone()?;
+        Ok(KnownVerdict {
+            finding,
+            interfaces,
+        })
     }
 }
 
-/// The verdicts on some packages of a workspace, by the packages' numbers.
+/// What is known of some packages of a workspace, by the packages' numbers.
 pub struct Known {
     verdicts: Vec<Option<KnownVerdict>>,
 }
@@ -86,9 +129,9 @@ impl Known {
         }
     }
 
-    /// The verdict on the package of a number, if it is known.
+    /// What is known of the package of a number, if anything is.
     pub fn get(&self, number: usize) -> Option<&KnownVerdict>
-        ensures { MatchOption result ((one : PackageInterfaces) → slice_get self.now.verdicts.items number ≡ Some (Some one) → ⊥) (λ one. slice_get self.now.verdicts.items number ≡ Some (Some one.now)) }
+        ensures { MatchOption result ((one : Verdict) → slice_get self.now.verdicts.items number ≡ Some (Some one) → ⊥) (λ one. slice_get self.now.verdicts.items number ≡ Some (Some one.now)) }
     {
         match self.verdicts.get(number) {
             Some(verdict) => verdict.as_ref(),
@@ -96,7 +139,7 @@ impl Known {
         }
     }
 
-    /// Adds the next package, with the verdict on it if it is known.
+    /// Adds the next package, with what is known of it, if anything is.
     pub fn push(&mut self, verdict: Option<KnownVerdict>) -> Result<(), AllocError>
         ensures { OnOk result (self.new.verdicts.items ≡ self.old.verdicts.items ++ verdict ∷ []) }
     {

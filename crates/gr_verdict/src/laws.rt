@@ -7,6 +7,7 @@ ghost use Rattle.gr_verdict.specs.Laws.{
   AreLocalVerdicts,
   AreLocalLists,
   AreLocallyChecked,
+  AreLocallyKnown,
 };
 
 /// A package has one verdict at most.
@@ -26,9 +27,10 @@ pub fn fault_lists_are_unique()
 {}
 
 /// Where the closure of a package has the same texts in two workspaces, the package has the same verdict and the same fault
-/// list in both, and is checked as the same.
+/// list in both, is checked as the same, and what is known of it in one is right of it in the other.
 pub fn verdicts_are_local()
     ensures verdicts { AreLocalVerdicts }
     ensures lists { AreLocalLists }
     ensures checked { AreLocallyChecked }
+    ensures known { AreLocallyKnown }
 {}

@@ -2,24 +2,22 @@
 //! of members.
 #![tactic(auto)]
 
-mod asked;
 mod fault;
 mod fault_list;
 mod finding;
 mod findings;
+mod gathered;
 mod judging;
 mod known;
 pub mod laws;
-mod marked;
 mod order;
 mod placing;
 mod reaching;
 mod seeing;
 
-pub use asked::{OneFinding, finding_of};
 pub use fault::FileFault;
 pub use fault_list::faults;
-pub use finding::Finding;
-pub use findings::{Findings, verdicts};
+pub use finding::{Finding, SharedFinding};
+pub use findings::{Findings, Found, verdicts};
 pub use known::{Known, KnownVerdict};
 pub use seeing::seen;

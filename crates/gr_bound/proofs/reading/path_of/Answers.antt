@@ -1,5 +1,6 @@
 -- The answers to the goals of `reading::path_of`.
-use Rattle.std.proofs.Common.{◌<◌, sym, subst}
+use Rattle.std.proofs.Common.{◌<◌, sym, ap, subst, ◌∙◌}
+use Rattle.gr_verdict.specs.declared.finding.Finding.{Finding}
 use Rattle.gr_bound.proofs.Units.{finding_at}
 use Rattle.gr_bound.proofs.reading.path_of.Goals as goal
 
@@ -7,4 +8,4 @@ pub returns : goal.returns
 returns c = λ p at.
     let found = c.args.found.now in
     let findings = c.requires.sound.findings in
-    (finding_at c.args.graph.now found findings c.args.number p c.index.result.now at (subst (λ m. c.args.number < m) (sym findings.size) c.requires.in_range) c.index.ensures).has_path
+    ap (λ (f : Finding). f.path) c.get.ensures ∙ (finding_at c.args.graph.now found findings c.args.number p c.index.result.now at (subst (λ m. c.args.number < m) (sym findings.size) c.requires.in_range) c.index.ensures).has_path

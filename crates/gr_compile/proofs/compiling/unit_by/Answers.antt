@@ -1,5 +1,5 @@
 -- The answers to the goals of `compiling::unit_by`.
-use Rattle.std.proofs.Common.{◌≡◌, [], sym, subst}
+use Rattle.std.proofs.Common.{◌≡◌, [], sym, subst, ◌∙◌}
 use Rattle.std.proofs.lemmas.Result.{IfOk-weaker}
 use Rattle.gr_verdict.specs.FaultLists.{AreListed}
 use Rattle.gr_verdict.specs.Found.{known_by, AreUsesOf}
@@ -14,7 +14,7 @@ faultless_unit-requires c =
     let w = c.args.graph.now in
     let p = c.args.path.now in
     let all = c.args.all.now in
-    let faults = c.args.finding.faults in
+    let faults = c.args.finding.now.faults in
     let is = c.requires.found in
     let empty : faults.items ≡ [] = vec_empty faults c.is_empty.result c.is_empty.ensures c.if-is_empty.true in
     record {
@@ -29,14 +29,19 @@ faultless_unit-requires c =
     }
 
 pub faulty_unit-requires : goal.faulty_unit-requires
-faulty_unit-requires c = vec_holds c.args.finding.faults c.is_empty.result c.is_empty.ensures c.if-is_empty.false
+faulty_unit-requires c =
+    let faults = c.args.finding.now.faults in
+    let same : c.in_ok-faults.faults.items ≡ faults.items = c.in_ok-faults.ensures ∙ c.deref-else-is_empty.ensures.value in
+    λ e. vec_holds faults c.is_empty.result c.is_empty.ensures c.if-is_empty.false (sym same ∙ e)
 
-pub returns-else-is_empty : goal.returns-else-is_empty
-returns-else-is_empty c =
+pub returns-in_ok-faults : goal.returns-in_ok-faults
+returns-in_ok-faults c =
     let w = c.args.graph.now in
     let p = c.args.path.now in
-    let faults = c.args.finding.faults in
+    let faults = c.args.finding.now.faults in
+    let same : c.in_ok-faults.faults.items ≡ faults.items = c.in_ok-faults.ensures ∙ c.deref-else-is_empty.ensures.value in
     let is = c.requires.found in
-    let some = vec_holds faults c.is_empty.result c.is_empty.ensures c.if-is_empty.false in
-    IfOk-weaker c.faulty_unit.result (HoldsFaults faults.items) (IsUnitOf w p)
-    (λ unit holds. subst (IsUnitValue w p) (sym (holds p)) (record { known = known_by c.args.all.now; right = is.below; listed = is.finding.listed }, some)) c.faulty_unit.ensures
+    let some = λ (e : c.in_ok-faults.faults.items ≡ []). vec_holds faults c.is_empty.result c.is_empty.ensures c.if-is_empty.false (sym same ∙ e) in
+    let listed = subst (λ l. AreListed (IsFaultBy w (known_by c.args.all.now) p) l) (sym same) is.finding.listed in
+    IfOk-weaker c.faulty_unit.result (HoldsFaults c.in_ok-faults.faults.items) (IsUnitOf w p)
+    (λ unit holds. subst (IsUnitValue w p) (sym (holds p)) (record { known = known_by c.args.all.now; right = is.below; listed = listed }, some)) c.faulty_unit.ensures

@@ -4,7 +4,7 @@ use Rattle.std.proofs.lemmas.Option.{none-some, same_Some, slice_get_within}
 use Rattle.gr_text.specs.Packages.{package_paths}
 use Rattle.gr_graph.proofs.Asked.{at_contains}
 use Rattle.gr_verdict.specs.Found.{TellsVerdict}
-use Rattle.gr_keep.proofs.Learning.{verdict_stays}
+use Rattle.gr_verdict.proofs.Local.{told_there}
 use Rattle.gr_keep.proofs.knowing.kept_verdict.Goals as goal
 
 pub returns-in_default : goal.returns-in_default
@@ -27,4 +27,4 @@ returns c = λ p at one is.
     let before : slice_get (package_paths v) old ≡ Some p = c.in-Some.ensures ∙ ap Some path in
     let told = c.requires.known old p c.in-Some-get.verdict.now before c.in-Some-get.ensures in
     let tells = subst (TellsVerdict v p) (sym c.in_ok-verdict.ensures.cases ∙ same_Some c.in_ok-verdict.verdict one is) told in
-    verdict_stays v c.args.after.now p one (at_contains v old p before) (c.keeps_texts.ensures.0 c.if-not-keeps_texts.false p before) tells
+    told_there v c.args.after.now p one (at_contains v old p before) (c.keeps_texts.ensures.0 c.if-not-keeps_texts.false p before) tells

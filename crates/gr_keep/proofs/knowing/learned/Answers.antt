@@ -1,4 +1,7 @@
 -- One package further.
+use Rattle.std.proofs.Common.{◌≡◌, sym, subst}
+use Rattle.std.proofs.lemmas.Result.{IfOk-weaker}
+use Rattle.gr_verdict.specs.Found.{KnowsVerdicts}
 use Rattle.gr_verdict.proofs.Telling.{nothing_told, told_next}
 use Rattle.gr_keep.proofs.knowing.learned.Goals as goal
 
@@ -10,4 +13,7 @@ loop-number-preserved c =
     told_next c.args.files.now c.loop-number.number c.loop-number.known c.push.new.self c.in_ok-verdict.verdict c.in_ok-push.ensures c.loop-number.invariant c.in_ok-verdict.ensures
 
 pub returns : goal.returns
-returns c = c.loop-number.invariant.verdicts
+returns c =
+    let known = c.loop-number.known in
+    let right = KnowsVerdicts c.args.files.now in
+    IfOk-weaker c.new.result (λ shared. shared ≡ known) right (λ shared is. subst right (sym is) c.loop-number.invariant.verdicts) c.new.ensures

@@ -1,5 +1,5 @@
 -- The answers to the goals of `laws::verdicts_are_local`.
-use Rattle.gr_verdict.proofs.Local.{local_verdict, local_list, locally_checked}
+use Rattle.gr_verdict.proofs.Local.{local_verdict, local_list, locally_checked, told_there}
 use Rattle.gr_verdict.proofs.laws.verdicts_are_local.Goals as goal
 
 pub returns-clause-verdicts : goal.returns-clause-verdicts
@@ -10,3 +10,6 @@ returns-clause-lists c = λ w x p list own same h. local_list w x p list own sam
 
 pub returns-clause-checked : goal.returns-clause-checked
 returns-clause-checked c = λ w x p known k own same right h. locally_checked w x p known k own same right h
+
+pub returns-clause-known : goal.returns-clause-known
+returns-clause-known c = λ w x p one own same told. told_there w x p one own same told

@@ -1,0 +1,71 @@
+"""Measures on chains of packages, each of which imports the one below, how much is checked a second time.
+
+Measured for each length of a chain: `faults` after all files were put, and once more; `faults` after a put inside a function of
+the top package, and of the lowest; `uses` of a function, and once more; and in another session the build of all packages by
+repeated `work`, with nothing asked before. Ratios to the first `faults` are printed beside.
+usage: bench/chain.py PROGRAM [LENGTH..]
+"""
+import sys
+
+import check
+import build
+
+check.FILES = 2
+check.FUNCTIONS = 6
+check.package_path = lambda number: f"gen/p{number}"
+check.imports_of = lambda number: [number - 1] if number else []
+
+
+def chain(length):
+    return {f"gen/p{n}/f{f}.go": check.file_text(n, f).encode() for n in range(length) for f in range(check.FILES)}
+
+
+def put_all(session, files):
+    number = 0
+    for path, text in files.items():
+        number, _ = session.put(number, path, text)
+    return number
+
+
+def edited(text):
+    """The same file with another number inside a function."""
+    return text.replace(b"total := 0", b"total := 10", 1)
+
+
+def uses(session, files):
+    """The seconds of the uses of a function of the lowest package."""
+    path = "gen/p0/f1.go"
+    offset = files[path].index(b"Sum1x0")
+    word, number, body, seconds = session.ask(b"uses %s:#%d" % (path.encode(), offset))
+    if word != b"ok":
+        sys.exit(f"uses: {word} {number} {body[:200]}")
+    return seconds
+
+
+def measure(program, length):
+    files = chain(length)
+    session = check.Session(program)
+    number = put_all(session, files)
+    first = session.faults()
+    rows = [("faults", first), ("faults again", session.faults())]
+    for what, path in (("top", f"gen/p{length - 1}/f1.go"), ("lowest", "gen/p0/f1.go")):
+        number, seconds = session.put(number, path, edited(files[path]))
+        rows += [(f"put in the {what} package", seconds), ("faults then", session.faults())]
+    session.put(number, "gen/p0/f1.go", files["gen/p0/f1.go"])
+    rows += [("uses", uses(session, files)), ("uses again", uses(session, files))]
+    session.child.stdin.close()
+    session.child.wait()
+    session = check.Session(program)
+    put_all(session, files)
+    rows += [("work over all", build.build(session, length)), ("faults behind it", session.faults())]
+    session.child.stdin.close()
+    session.child.wait()
+    lines = sum(text.count(b"\n") for text in files.values())
+    print(f"{length} packages, {lines} lines:")
+    for what, seconds in rows:
+        print(f"  {what:28} {seconds:9.4f} s  {seconds / first:7.3f}")
+
+
+if __name__ == "__main__":
+    for length in [int(word) for word in sys.argv[2:]] or [25, 50, 100]:
+        measure(sys.argv[1], length)

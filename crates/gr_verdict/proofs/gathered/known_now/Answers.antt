@@ -1,0 +1,13 @@
+-- The answers to the goals of `gathered::known_now`.
+use Rattle.gr_verdict.proofs.Telling.{nothing_told, told_next}
+use Rattle.gr_verdict.proofs.gathered.known_now.Goals as goal
+
+pub loop-number-init : goal.loop-number-init
+loop-number-init c = nothing_told c.new-all.result c.new-all.ensures.nothing c.args.graph.now
+
+pub loop-number-preserved : goal.loop-number-preserved
+loop-number-preserved c =
+    told_next c.args.graph.now c.loop-number.number c.loop-number.all c.push.new.self c.in_ok-verdict.verdict c.in_ok-push.ensures c.loop-number.invariant c.in_ok-verdict.ensures
+
+pub returns : goal.returns
+returns c = c.loop-number.invariant.verdicts
