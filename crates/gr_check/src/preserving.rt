@@ -3,7 +3,7 @@ ghost use Rattle.std.specs.Prelude.{◌≡◌, ◌↔◌, [], IsTrue, IfOk, Matc
 ghost use Rattle.gr_edit.specs.EditSet.{edited};
 ghost use Rattle.gr_edit.specs.Moved.{moved};
 ghost use Rattle.gr_verdict.specs.FaultLists.{ListsFaults};
-ghost use Rattle.gr_verdict.specs.Found.{AreFindings};
+ghost use Rattle.gr_verdict.specs.Found.{AreFindings, KnowsVerdicts};
 ghost use Rattle.gr_bound.specs.Workspaces.{IsSound, known_in};
 ghost use Rattle.gr_check.specs.Held.{IsHeld};
 ghost use Rattle.gr_check.specs.Preserved.{KeepsBindings, Preserves};
@@ -16,9 +16,10 @@ use crate::keeping::{adds_nowhere, are_kept};
 use gr_bound::refuse_faults;
 use gr_edit::EditSet;
 use gr_graph::Graph;
+use gr_keep::known_after;
 use gr_revision::Moves;
 use gr_text::Refusal;
-use gr_verdict::{Findings, verdicts};
+use gr_verdict::{Findings, Found, Known, verdicts};
 use std::alloc::{AllocError, Global};
 
 /// Whether each identifier of a workspace stays bound to what its declaration becomes in another.
@@ -72,22 +73,39 @@ fn is_sound(alloc: Global, graph: &Graph, found: &Findings) -> Result<bool, Allo
     }
 }
 
+/// What is found in a changed workspace. A package whose closure keeps its texts is not checked again.
+fn found_after(
+    alloc: Global,
+    graph: &Graph,
+    known: &Known,
+    after: &Graph,
+) -> Result<Findings, AllocError>
+    requires { KnowsVerdicts graph.now known.now }
+    ensures { IfOk result (AreFindings after.now) }
+{
+    let kept = known_after(alloc, graph, known, after)?;
+    let Found { findings, known } = verdicts(alloc, after, &kept)?;
+    drop(known);
+    Ok(findings)
+}
+
 /// Whether an edit set leaves a workspace without faults in which each identifier is bound to what its declaration has become.
-/// `after` is the edited workspace.
+/// `after` is the edited workspace. What was found before says which packages need not be checked again.
 pub fn preserves(
     alloc: Global,
     graph: &Graph,
-    found: &Findings,
+    found: &Found,
     edits: &EditSet,
     after: &Graph,
 ) -> Result<bool, AllocError>
-    requires sound { IsSound graph.now found.now }
+    requires sound { IsSound graph.now found.now.findings }
+    requires known { KnowsVerdicts graph.now found.now.known }
     requires after { after.now ≡ edited edits.now graph.now }
     ensures { IfOk result (λ kept. IsTrue kept ↔ Preserves graph.now (revision_of graph.now edits.now)) }
 {
-    let found_after = verdicts(alloc, after)?;
-    if is_sound(alloc, after, &found_after)? {
-        keeps_bindings(alloc, graph, found, edits, after, &found_after)
+    let findings = found_after(alloc, graph, &found.known, after)?;
+    if is_sound(alloc, after, &findings)? {
+        keeps_bindings(alloc, graph, &found.findings, edits, after, &findings)
     } else {
         Ok(false)
     }

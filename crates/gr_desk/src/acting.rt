@@ -3,7 +3,7 @@ ghost use Rattle.std.specs.Prelude.{◌≡◌, ◌↔◌, ℕ, IsTrue, List, Non
 ghost use Rattle.gr_text.specs.declared.refusal.Refusal.{Refusal as WhyRefused};
 ghost use Rattle.gr_move.specs.Plan.{PlansMove};
 ghost use Rattle.gr_rename.specs.Plan.{PlansRename};
-ghost use Rattle.gr_verdict.specs.Found.{AreFindings};
+ghost use Rattle.gr_verdict.specs.Found.{AreFindings, IsFound};
 ghost use Rattle.gr_space.specs.Plan.{PlansDel};
 ghost use Rattle.gr_space.specs.declared.change.Change.{Change as PlannedChange};
 ghost use Rattle.gr_line.specs.Commands.{entry_asked};
@@ -138,6 +138,44 @@ fn del<D: Desk>(alloc: Global, desk: &mut D, view: &View, basis: u64, path: Word
     commit(desk, basis, planned)
 }
 
+/// What is found in the packages of a view's files. The desk learns of it.
+fn find<D: Desk>(alloc: Global, desk: &mut D, view: &View) -> Result<Findings, AllocError>
+    ensures findings { IfOk result (AreFindings view.now.snapshot.files) }
+    ensures same { desk.new ≡ desk.old }
+{
+    let Found { findings, known } = found(alloc, view)?;
+    desk.learn(view.snapshot.files(), known);
+    Ok(findings)
+}
+
+/// Has a desk learn what was found in the packages of a view's files.
+fn learn<D: Desk>(desk: &mut D, view: &View, found: Found)
+    requires { IsFound view.now.snapshot.files found }
+    ensures { desk.new ≡ desk.old }
+{
+    let Found { findings, known } = found;
+    drop(findings);
+    desk.learn(view.snapshot.files(), known);
+}
+
+/// The change that a rename asks for. The desk learns what was found for it.
+fn plan_name<D: Desk>(
+    alloc: Global,
+    desk: &mut D,
+    view: &View,
+    path: &str,
+    offset: usize,
+    name: &str,
+) -> Result<Change, Refusal>
+    ensures planned { PlansRename view.now.snapshot path.now offset name.now result }
+    ensures same { desk.new ≡ desk.old }
+{
+    let found = found(alloc, view)?;
+    let planned = plan_rename(alloc, view.snapshot.get(), &found, path, offset, name);
+    learn(desk, view, found);
+    planned
+}
+
 /// The change that a rename asks for, committed.
 fn rename<D: Desk>(
     alloc: Global,
@@ -150,8 +188,25 @@ fn rename<D: Desk>(
 ) -> Response
     ensures { (planned : Result PlannedChange WhyRefused) × PlansRename view.now.snapshot path offset name planned × Commits D.steps desk.old basis planned result desk.new }
 {
-    let planned = plan_rename(alloc, &view.snapshot, path.as_str(), offset, name.as_str());
+    let planned = plan_name(alloc, desk, view, path.as_str(), offset, name.as_str());
     commit(desk, basis, planned)
+}
+
+/// The change that a move asks for. The desk learns what was found for it.
+fn plan_target<D: Desk>(
+    alloc: Global,
+    desk: &mut D,
+    view: &View,
+    from: &str,
+    to: &str,
+) -> Result<Change, Refusal>
+    ensures planned { PlansMove view.now.snapshot from.now to.now result }
+    ensures same { desk.new ≡ desk.old }
+{
+    let found = found(alloc, view)?;
+    let planned = plan_move(alloc, view.snapshot.get(), &found, from, to);
+    learn(desk, view, found);
+    planned
 }
 
 /// The change that a move asks for, committed.
@@ -165,7 +220,7 @@ fn move_to<D: Desk>(
 ) -> Response
     ensures { (planned : Result PlannedChange WhyRefused) × PlansMove view.now.snapshot from to planned × Commits D.steps desk.old basis planned result desk.new }
 {
-    let planned = plan_move(alloc, &view.snapshot, from.as_str(), to.as_str());
+    let planned = plan_target(alloc, desk, view, from.as_str(), to.as_str());
     commit(desk, basis, planned)
 }
 
@@ -199,16 +254,6 @@ fn tell_object(alloc: Global, view: &View, path: Word) -> Response
 {
     let found = object(alloc, view, path.as_str());
     file_response(view.snapshot.number(), found)
-}
-
-/// What is found in the packages of a view's files. The desk learns of it.
-fn find<D: Desk>(alloc: Global, desk: &mut D, view: &View) -> Result<Findings, AllocError>
-    ensures findings { IfOk result (AreFindings view.now.snapshot.files) }
-    ensures same { desk.new ≡ desk.old }
-{
-    let Found { findings, known } = found(alloc, view)?;
-    desk.learn(view.snapshot.files(), known);
-    Ok(findings)
 }
 
 /// The lines of the uses of what holds a byte of a file.

@@ -6,7 +6,7 @@ use Rattle.gr_space.specs.declared.snapshot.Snapshot.{Snapshot}
 use Rattle.gr_space.specs.declared.change.Change.{Change}
 use Rattle.gr_book.specs.Machine.{Content, Machine}
 use Rattle.gr_book.proofs.RunLaws.{undo_restores}
-use Rattle.gr_check.specs.RevisionsOfEdits.{revision_of}
+use Rattle.gr_revision.specs.RevisionsOfEdits.{revision_of}
 use Rattle.gr_check.specs.Preserved.{Preserves}
 use Rattle.gr_move.specs.Plan.{IsMoving, IsMoved}
 use Rattle.gr_exact.specs.Moves.{HasMovedExactly, MovesKeepBindings, UndoTakesMovesBack}

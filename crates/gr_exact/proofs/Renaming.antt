@@ -13,7 +13,7 @@ use Rattle.gr_book.specs.Machine.{Content, Machine}
 use Rattle.gr_book.specs.Step.{Step}
 use Rattle.gr_book.specs.Run.{Run, IsQuiet, Restores}
 use Rattle.gr_book.proofs.RunLaws.{undo_restores}
-use Rattle.gr_check.specs.RevisionsOfEdits.{revision_of}
+use Rattle.gr_revision.specs.RevisionsOfEdits.{revision_of}
 use Rattle.gr_check.specs.Preserved.{Preserves}
 use Rattle.gr_rename.specs.Plan.{PlansRename, IsRenaming, IsRenamed}
 use Rattle.gr_exact.specs.Renames.{IsExactly, RenamesKeepBindings, UndoTakesRenamesBack}

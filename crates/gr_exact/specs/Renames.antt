@@ -4,7 +4,7 @@ use Rattle.gr_text.specs.declared.refusal.Refusal.{Refusal}
 use Rattle.gr_edit.specs.EditSet.{edited}
 use Rattle.gr_space.specs.declared.snapshot.Snapshot.{Snapshot}
 use Rattle.gr_space.specs.declared.change.Change.{Change}
-use Rattle.gr_check.specs.RevisionsOfEdits.{revision_of}
+use Rattle.gr_revision.specs.RevisionsOfEdits.{revision_of}
 use Rattle.gr_check.specs.Preserved.{Preserves}
 use Rattle.gr_rename.specs.Plan.{PlansRename, IsRenaming}
 use Rattle.gr_book.specs.declared.event.Event.{Event}

@@ -7,7 +7,7 @@ ghost use Rattle.gr_keep.specs.Changes.{AreMarks};
 ghost use Rattle.gr_keep.specs.Knowing.{HasClosuresOf, TellsThere};
 
 use crate::carried::keeps_texts;
-use crate::changes::Marks;
+use crate::changes::{Marks, changed_marks};
 use crate::shared_known::SharedKnown;
 use gr_graph::Graph;
 use gr_verdict::{Known, KnownVerdict};
@@ -121,6 +121,27 @@ fn kept_verdict(
     Ok(Some(verdict))
 }
 
+/// What is known of packages, as far as their closures keep their texts.
+fn kept_verdicts(
+    alloc: Global,
+    before: &Graph,
+    known: &Known,
+    after: &Graph,
+    marks: &Marks,
+) -> Result<Known, AllocError>
+    requires known { KnowsVerdicts before.now known.now }
+    requires before_marks { AreMarks before.now after.now marks.now.before.items }
+    requires after_marks { AreMarks after.now before.now marks.now.after.items }
+    ensures { IfOk result (KnowsVerdicts after.now) }
+{
+    let mut carried = Known::new(alloc);
+    for number in 0..after.len() {
+        let verdict = kept_verdict(before, known, after, number, marks)?;
+        carried.push(verdict)?;
+    }
+    Ok(carried)
+}
+
 /// What is known of packages, as far as a change carries it over.
 pub fn kept(
     alloc: Global,
@@ -134,10 +155,20 @@ pub fn kept(
     requires after_marks { AreMarks after.now before.now marks.now.after.items }
     ensures { IfOk result (KnowsVerdicts after.now) }
 {
-    let mut carried = Known::new(alloc);
-    for number in 0..after.len() {
-        let verdict = kept_verdict(before, known.get(), after, number, marks)?;
-        carried.push(verdict)?;
-    }
+    let carried = kept_verdicts(alloc, before, known.get(), after, marks)?;
     SharedKnown::new(alloc, carried)
+}
+
+/// What is known of the packages of a workspace in which some files of another are changed, by what is known of those.
+pub fn known_after(
+    alloc: Global,
+    before: &Graph,
+    known: &Known,
+    after: &Graph,
+) -> Result<Known, AllocError>
+    requires { KnowsVerdicts before.now known.now }
+    ensures { IfOk result (KnowsVerdicts after.now) }
+{
+    let marks = changed_marks(alloc, before, after)?;
+    kept_verdicts(alloc, before, known, after, &marks)
 }

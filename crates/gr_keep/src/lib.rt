@@ -12,5 +12,5 @@ pub use carried::carried_units;
 pub use changes::{Marks, changed_marks};
 pub use finished::Finished;
 pub use inputs::{closure_files, inputs_of};
-pub use knowing::{kept, known_within, learned};
+pub use knowing::{kept, known_after, known_within, learned};
 pub use shared_known::SharedKnown;

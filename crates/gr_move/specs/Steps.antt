@@ -9,7 +9,7 @@ use Rattle.gr_text.specs.declared.refusal.Refusal.TheVariants.{Memory, NoPackage
 use Rattle.gr_verdict.specs.Verdicts.{Verdicts}
 use Rattle.gr_verdict.specs.FaultLists.{ListsFaults}
 use Rattle.gr_bound.specs.Uses.{HasFirstFault}
-use Rattle.gr_check.specs.RevisionsOfEdits.{revision_of}
+use Rattle.gr_revision.specs.RevisionsOfEdits.{revision_of}
 use Rattle.gr_check.specs.Preserved.{Preserves}
 use Rattle.gr_edit.specs.EditSet.{FileChanges, edited}
 use Rattle.gr_edit.specs.Fits.{Fits}

@@ -3,6 +3,7 @@ ghost use Rattle.std.specs.Prelude.{◌≡◌};
 ghost use Rattle.gr_text.specs.Path.{IsPath};
 ghost use Rattle.gr_edit.specs.EditSet.{edited};
 ghost use Rattle.gr_edit.specs.Fits.{Fits};
+ghost use Rattle.gr_verdict.specs.Found.{IsFound, KnowsVerdicts};
 ghost use Rattle.gr_bound.specs.Workspaces.{IsSound};
 ghost use Rattle.gr_moving.specs.MoveEdits.{HasNoNewPath, IsFree};
 ghost use Rattle.gr_move.specs.Plan.{PlansMove};
@@ -16,21 +17,27 @@ use gr_edit::EditSet;
 use gr_moving::move_edits;
 use gr_space::{Change, ChangeKind, Snapshot, fits_limits};
 use gr_text::{Limits, Path, Place, Refusal};
-use gr_verdict::{Findings, verdicts};
+use gr_verdict::Found;
 use std::alloc::{AllocError, Global};
 
 /// The first conflict of a change that does not preserve bindings. Where no identifier is there to be named, the package is.
 fn conflict_of(
     alloc: Global,
     snapshot: &Snapshot,
-    found: &Findings,
+    found: &Found,
     from: &Path,
     change: &Change,
 ) -> Result<Conflict, AllocError>
-    requires sound { IsSound snapshot.now.files found.now }
+    requires sound { IsSound snapshot.now.files found.now.findings }
     requires after { change.now.files ≡ edited change.now.edits snapshot.now.files }
 {
-    match first_conflict(alloc, &snapshot.files, found, &change.edits, &change.files)? {
+    match first_conflict(
+        alloc,
+        &snapshot.files,
+        &found.findings,
+        &change.edits,
+        &change.files,
+    )? {
         Some(conflict) => Ok(conflict),
         None => Ok(Conflict {
             used: Place {
@@ -46,11 +53,12 @@ fn conflict_of(
 fn refuse_conflict(
     alloc: Global,
     snapshot: &Snapshot,
-    found: &Findings,
+    found: &Found,
     from: &Path,
     change: &Change,
 ) -> Result<(), Refusal>
-    requires sound { IsSound snapshot.now.files found.now }
+    requires sound { IsSound snapshot.now.files found.now.findings }
+    requires known { KnowsVerdicts snapshot.now.files found.now.known }
     requires after { change.now.files ≡ edited change.now.edits snapshot.now.files }
     ensures { RefusesConflict snapshot.now.files change.now.edits result }
 {
@@ -77,11 +85,12 @@ fn within_limits(limits: &Limits, change: Change) -> Result<Change, Refusal>
 fn judged(
     alloc: Global,
     snapshot: &Snapshot,
-    found: &Findings,
+    found: &Found,
     from: &Path,
     change: Change,
 ) -> Result<Change, Refusal>
-    requires sound { IsSound snapshot.now.files found.now }
+    requires sound { IsSound snapshot.now.files found.now.findings }
+    requires known { KnowsVerdicts snapshot.now.files found.now.known }
     requires is_change { change ≡ moving_by snapshot.now change.edits }
     ensures { PlansEdits snapshot.now change.edits result }
 {
@@ -95,11 +104,12 @@ fn judged(
 fn plan_edits(
     alloc: Global,
     snapshot: &Snapshot,
-    found: &Findings,
+    found: &Found,
     from: &Path,
     edits: EditSet,
 ) -> Result<Change, Refusal>
-    requires sound { IsSound snapshot.now.files found.now }
+    requires sound { IsSound snapshot.now.files found.now.findings }
+    requires known { KnowsVerdicts snapshot.now.files found.now.known }
     requires fits { Fits edits snapshot.now.files }
     ensures { PlansEdits snapshot.now edits result }
 {
@@ -111,11 +121,12 @@ fn plan_edits(
 fn refuse_length(
     alloc: Global,
     snapshot: &Snapshot,
-    found: &Findings,
+    found: &Found,
     from: &Path,
     edits: EditSet,
 ) -> Result<Change, Refusal>
-    requires sound { IsSound snapshot.now.files found.now }
+    requires sound { IsSound snapshot.now.files found.now.findings }
+    requires known { KnowsVerdicts snapshot.now.files found.now.known }
     requires fits { Fits edits snapshot.now.files }
     ensures { RefusesLength snapshot.now.files edits result }
 {
@@ -130,15 +141,16 @@ fn refuse_length(
 fn refuse_long(
     alloc: Global,
     snapshot: &Snapshot,
-    found: &Findings,
+    found: &Found,
     from: &Path,
     to: &Path,
 ) -> Result<Change, Refusal>
-    requires sound { IsSound snapshot.now.files found.now }
+    requires sound { IsSound snapshot.now.files found.now.findings }
+    requires known { KnowsVerdicts snapshot.now.files found.now.known }
     requires no_path { HasNoNewPath snapshot.now.files from.now to.now }
     ensures { PlansIn snapshot.now from.now to.now result }
 {
-    match move_edits(alloc, &snapshot.files, found, from, from, to) {
+    match move_edits(alloc, &snapshot.files, &found.findings, from, from, to) {
         Err(refusal) => Err(refusal),
         Ok(edits) => refuse_length(alloc, snapshot, found, from, edits),
     }
@@ -148,15 +160,16 @@ fn refuse_long(
 fn plan_found(
     alloc: Global,
     snapshot: &Snapshot,
-    found: &Findings,
+    found: &Found,
     from: &Path,
     to: &Path,
 ) -> Result<Change, Refusal>
-    requires sound { IsSound snapshot.now.files found.now }
+    requires sound { IsSound snapshot.now.files found.now.findings }
+    requires known { KnowsVerdicts snapshot.now.files found.now.known }
     requires free { IsFree snapshot.now.files to.now }
     ensures { PlansIn snapshot.now from.now to.now result }
 {
-    match move_edits(alloc, &snapshot.files, found, from, to, to) {
+    match move_edits(alloc, &snapshot.files, &found.findings, from, to, to) {
         Err(Refusal::Memory) => Err(Refusal::Memory),
         Err(_) => refuse_long(alloc, snapshot, found, from, to),
         Ok(edits) => plan_edits(alloc, snapshot, found, from, edits),
@@ -164,51 +177,73 @@ fn plan_found(
 }
 
 /// The change that moves a package to a folder in which no file lies, unless the workspace has a fault.
-fn plan_in(alloc: Global, snapshot: &Snapshot, from: &Path, to: &Path) -> Result<Change, Refusal>
-    requires { IsFree snapshot.now.files to.now }
+fn plan_in(
+    alloc: Global,
+    snapshot: &Snapshot,
+    found: &Found,
+    from: &Path,
+    to: &Path,
+) -> Result<Change, Refusal>
+    requires found { IsFound snapshot.now.files found.now }
+    requires free { IsFree snapshot.now.files to.now }
     ensures { PlansIn snapshot.now from.now to.now result }
 {
-    let found = verdicts(alloc, &snapshot.files)?;
-    match refuse_faults(alloc, &snapshot.files, &found) {
+    match refuse_faults(alloc, &snapshot.files, &found.findings) {
         Err(refusal) => Err(refusal),
-        Ok(()) => plan_found(alloc, snapshot, &found, from, to),
+        Ok(()) => plan_found(alloc, snapshot, found, from, to),
     }
 }
 
 /// The change that moves a package, by paths.
-fn plan_paths(alloc: Global, snapshot: &Snapshot, from: &Path, to: &Path) -> Result<Change, Refusal>
-    requires { ArePaths from.now to.now }
+fn plan_paths(
+    alloc: Global,
+    snapshot: &Snapshot,
+    found: &Found,
+    from: &Path,
+    to: &Path,
+) -> Result<Change, Refusal>
+    requires found { IsFound snapshot.now.files found.now }
+    requires paths { ArePaths from.now to.now }
     ensures { PlansMove snapshot.now from.now to.now result }
 {
     match refuse_target(&snapshot.files, from, to) {
         Err(refusal) => Err(refusal),
-        Ok(()) => plan_in(alloc, snapshot, from, to),
+        Ok(()) => plan_in(alloc, snapshot, found, from, to),
     }
 }
 
 /// The change that moves the package of a path to that of a text.
-fn plan_target(alloc: Global, snapshot: &Snapshot, from: &Path, to: &str) -> Result<Change, Refusal>
-    requires { IsPath 1 from.now }
+fn plan_target(
+    alloc: Global,
+    snapshot: &Snapshot,
+    found: &Found,
+    from: &Path,
+    to: &str,
+) -> Result<Change, Refusal>
+    requires found { IsFound snapshot.now.files found.now }
+    requires source { IsPath 1 from.now }
     ensures { PlansMove snapshot.now from.now to.now result }
 {
     match Path::read(alloc, to, 1) {
         Err(refusal) => Err(refusal),
-        Ok(target) => plan_paths(alloc, snapshot, from, &target),
+        Ok(target) => plan_paths(alloc, snapshot, found, from, &target),
     }
 }
 
-/// The change of a snapshot's files that moves a package, with all that its folder holds, to another folder. Its imports, and
-/// where its name follows the names for it, are changed everywhere.
+/// The change of a snapshot's files that moves a package, with all that its folder holds, to another folder, by what was found in
+/// the packages of these files. Its imports, and where its name follows the names for it, are changed everywhere.
 pub fn plan_move(
     alloc: Global,
     snapshot: &Snapshot,
+    found: &Found,
     from: &str,
     to: &str,
 ) -> Result<Change, Refusal>
+    requires { IsFound snapshot.now.files found.now }
     ensures { PlansMove snapshot.now from.now to.now result }
 {
     match Path::read(alloc, from, 1) {
         Err(refusal) => Err(refusal),
-        Ok(source) => plan_target(alloc, snapshot, &source, to),
+        Ok(source) => plan_target(alloc, snapshot, found, &source, to),
     }
 }

@@ -6,7 +6,7 @@ use Rattle.gr_verdict.specs.Verdicts.{Verdicts}
 use Rattle.gr_verdict.specs.FaultLists.{ListsFaults}
 use Rattle.gr_bound.specs.declared.declaration.Declaration.{Declaration}
 use Rattle.gr_bound.specs.Uses.{HasNoIdentifier, HasNoDeclaration, HasFirstFault}
-use Rattle.gr_check.specs.RevisionsOfEdits.{revision_of}
+use Rattle.gr_revision.specs.RevisionsOfEdits.{revision_of}
 use Rattle.gr_check.specs.Preserved.{Preserves}
 use Rattle.gr_edit.specs.EditSet.{FileChanges, edited}
 use Rattle.gr_edit.specs.Fits.{Fits}

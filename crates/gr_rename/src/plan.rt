@@ -1,6 +1,7 @@
 //! The change that renames what holds a byte.
 ghost use Rattle.std.specs.Prelude.{◌≡◌};
 ghost use Rattle.gr_edit.specs.EditSet.{edited};
+ghost use Rattle.gr_verdict.specs.Found.{IsFound, KnowsVerdicts};
 ghost use Rattle.gr_bound.specs.Uses.{HasDeclaration};
 ghost use Rattle.gr_bound.specs.Workspaces.{IsSound, known_in};
 ghost use Rattle.gr_rename.specs.Plan.{PlansRename};
@@ -13,7 +14,7 @@ use gr_naming::{is_new_name, refuse_name};
 use gr_renaming::rename_edits;
 use gr_space::{Change, ChangeKind, Snapshot, fits_limits};
 use gr_text::{Path, Place, Refusal};
-use gr_verdict::{Findings, verdicts};
+use gr_verdict::Found;
 use std::alloc::{AllocError, Global};
 
 /// A byte of a file, and the name for what holds it.
@@ -39,14 +40,20 @@ fn asked_lost(asked: &Asked<'_>) -> Result<Conflict, AllocError> {
 fn conflict_of(
     alloc: Global,
     snapshot: &Snapshot,
-    found: &Findings,
+    found: &Found,
     asked: &Asked<'_>,
     change: &Change,
 ) -> Result<Conflict, AllocError>
-    requires sound { IsSound snapshot.now.files found.now }
+    requires sound { IsSound snapshot.now.files found.now.findings }
     requires after { change.now.files ≡ edited change.now.edits snapshot.now.files }
 {
-    match first_conflict(alloc, &snapshot.files, found, &change.edits, &change.files)? {
+    match first_conflict(
+        alloc,
+        &snapshot.files,
+        &found.findings,
+        &change.edits,
+        &change.files,
+    )? {
         Some(conflict) => Ok(conflict),
         None => asked_lost(asked),
     }
@@ -56,11 +63,12 @@ fn conflict_of(
 fn judged(
     alloc: Global,
     snapshot: &Snapshot,
-    found: &Findings,
+    found: &Found,
     asked: &Asked<'_>,
     change: Change,
 ) -> Result<Change, Refusal>
-    requires sound { IsSound snapshot.now.files found.now }
+    requires sound { IsSound snapshot.now.files found.now.findings }
+    requires known { KnowsVerdicts snapshot.now.files found.now.known }
     requires is_change { change ≡ renaming_by snapshot.now change.edits }
     ensures { PlansEdits snapshot.now change.edits result }
 {
@@ -78,14 +86,21 @@ fn judged(
 fn plan_declaration(
     alloc: Global,
     snapshot: &Snapshot,
-    found: &Findings,
+    found: &Found,
     declaration: &Declaration,
     asked: &Asked<'_>,
 ) -> Result<Change, Refusal>
-    requires { IsSound snapshot.now.files found.now }
-    ensures { PlansDeclaration snapshot.now (known_in found.now) declaration.now asked.now.name.now result }
+    requires sound { IsSound snapshot.now.files found.now.findings }
+    requires known { KnowsVerdicts snapshot.now.files found.now.known }
+    ensures { PlansDeclaration snapshot.now (known_in found.now.findings) declaration.now asked.now.name.now result }
 {
-    let edits = rename_edits(alloc, &snapshot.files, found, declaration, asked.name)?;
+    let edits = rename_edits(
+        alloc,
+        &snapshot.files,
+        &found.findings,
+        declaration,
+        asked.name,
+    )?;
     let change = Change::of(alloc, snapshot, ChangeKind::Rename, edits)?;
     judged(alloc, snapshot, found, asked, change)
 }
@@ -94,15 +109,22 @@ fn plan_declaration(
 fn plan_named(
     alloc: Global,
     snapshot: &Snapshot,
-    found: &Findings,
+    found: &Found,
     declaration: &Declaration,
     asked: &Asked<'_>,
 ) -> Result<Change, Refusal>
-    requires sound { IsSound snapshot.now.files found.now }
-    requires has { HasDeclaration snapshot.now.files (known_in found.now) asked.now.path.now asked.now.offset declaration.now }
+    requires sound { IsSound snapshot.now.files found.now.findings }
+    requires known { KnowsVerdicts snapshot.now.files found.now.known }
+    requires has { HasDeclaration snapshot.now.files (known_in found.now.findings) asked.now.path.now asked.now.offset declaration.now }
     ensures { PlansIn snapshot.now asked.now.path.now asked.now.offset asked.now.name.now result }
 {
-    match refuse_name(alloc, &snapshot.files, found, declaration, asked.name) {
+    match refuse_name(
+        alloc,
+        &snapshot.files,
+        &found.findings,
+        declaration,
+        asked.name,
+    ) {
         Err(refusal) => Err(refusal),
         Ok(()) => plan_declaration(alloc, snapshot, found, declaration, asked),
     }
@@ -112,38 +134,53 @@ fn plan_named(
 fn plan_found(
     alloc: Global,
     snapshot: &Snapshot,
-    found: &Findings,
+    found: &Found,
     asked: &Asked<'_>,
 ) -> Result<Change, Refusal>
-    requires { IsSound snapshot.now.files found.now }
+    requires sound { IsSound snapshot.now.files found.now.findings }
+    requires known { KnowsVerdicts snapshot.now.files found.now.known }
     ensures { PlansIn snapshot.now asked.now.path.now asked.now.offset asked.now.name.now result }
 {
-    match declaration_at(alloc, &snapshot.files, found, asked.path, asked.offset) {
+    match declaration_at(
+        alloc,
+        &snapshot.files,
+        &found.findings,
+        asked.path,
+        asked.offset,
+    ) {
         Err(refusal) => Err(refusal),
         Ok(declaration) => plan_named(alloc, snapshot, found, &declaration, asked),
     }
 }
 
 /// The change that renames what holds a byte, unless the workspace has a fault.
-fn plan_in(alloc: Global, snapshot: &Snapshot, asked: &Asked<'_>) -> Result<Change, Refusal>
+fn plan_in(
+    alloc: Global,
+    snapshot: &Snapshot,
+    found: &Found,
+    asked: &Asked<'_>,
+) -> Result<Change, Refusal>
+    requires { IsFound snapshot.now.files found.now }
     ensures { PlansIn snapshot.now asked.now.path.now asked.now.offset asked.now.name.now result }
 {
-    let found = verdicts(alloc, &snapshot.files)?;
-    match refuse_faults(alloc, &snapshot.files, &found) {
+    match refuse_faults(alloc, &snapshot.files, &found.findings) {
         Err(refusal) => Err(refusal),
-        Ok(()) => plan_found(alloc, snapshot, &found, asked),
+        Ok(()) => plan_found(alloc, snapshot, found, asked),
     }
 }
 
-/// The change of a snapshot's files that gives what holds a byte of a file, with all that is bound to it, another name. The offset
-/// is that of any byte of an identifier, or of the path literal of an import, which stands for that import.
+/// The change of a snapshot's files that gives what holds a byte of a file, with all that is bound to it, another name, by what was
+/// found in the packages of these files. The offset is that of any byte of an identifier, or of the path literal of an import,
+/// which stands for that import.
 pub fn plan_rename(
     alloc: Global,
     snapshot: &Snapshot,
+    found: &Found,
     path: &str,
     offset: usize,
     name: &str,
 ) -> Result<Change, Refusal>
+    requires { IsFound snapshot.now.files found.now }
     ensures { PlansRename snapshot.now path.now offset name.now result }
 {
     let path = Path::read(alloc, path, 2)?;
@@ -158,5 +195,5 @@ pub fn plan_rename(
         offset,
         name: name.as_bytes(),
     };
-    plan_in(alloc, snapshot, &asked)
+    plan_in(alloc, snapshot, found, &asked)
 }

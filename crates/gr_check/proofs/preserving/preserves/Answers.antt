@@ -11,8 +11,8 @@ pub returns-then-branch : goal.returns-then-branch
 returns-then-branch c =
     let w = c.args.graph.now in
     let s = c.args.edits.now in
-    let found = c.args.found.now in
-    let found_after = c.in_ok-found_after.found_after in
+    let found = c.args.found.now.findings in
+    let found_after = c.in_ok-findings.findings in
     let r = revision_of w s in
     IfOk-weaker c.keeps_bindings.result (λ kept. IsTrue kept ↔ KeepsBindings w (known_in found) r (known_in found_after))
     (λ kept. IsTrue kept ↔ Preserves w r)

@@ -1,19 +1,11 @@
--- One package further.
+-- What is shared is what is carried over.
 use Rattle.std.proofs.Common.{◌≡◌, sym, subst}
 use Rattle.std.proofs.lemmas.Result.{IfOk-weaker}
 use Rattle.gr_verdict.specs.Found.{KnowsVerdicts}
-use Rattle.gr_verdict.proofs.Telling.{nothing_told, told_next}
 use Rattle.gr_keep.proofs.knowing.kept.Goals as goal
-
-pub loop-number-init : goal.loop-number-init
-loop-number-init c = nothing_told c.new-carried.result c.new-carried.ensures.nothing c.args.after.now
-
-pub loop-number-preserved : goal.loop-number-preserved
-loop-number-preserved c =
-    told_next c.args.after.now c.loop-number.number c.loop-number.carried c.push.new.self c.in_ok-verdict.verdict c.in_ok-push.ensures c.loop-number.invariant c.in_ok-verdict.ensures
 
 pub returns : goal.returns
 returns c =
-    let known = c.loop-number.carried in
+    let known = c.in_ok-carried.carried in
     let right = KnowsVerdicts c.args.after.now in
-    IfOk-weaker c.new.result (λ shared. shared ≡ known) right (λ shared is. subst right (sym is) c.loop-number.invariant.verdicts) c.new.ensures
+    IfOk-weaker c.new.result (λ shared. shared ≡ known) right (λ shared is. subst right (sym is) c.in_ok-carried.ensures) c.new.ensures

@@ -9,6 +9,6 @@ move_edits-requires-clause-free c = spared_by_free c.args.snapshot.now.files c.a
 
 pub returns : goal.returns
 returns c =
-    edits_planned c.args.snapshot.now c.args.from.now c.args.to.now (list_of_sound c.args.snapshot.now.files c.args.found.now c.requires.sound)
-    (known_in c.args.found.now) c.requires.sound.findings.right
+    edits_planned c.args.snapshot.now c.args.from.now c.args.to.now (list_of_sound c.args.snapshot.now.files c.args.found.now.findings c.requires.sound)
+    (known_in c.args.found.now.findings) c.requires.sound.findings.right
     c.in-Ok.edits c.in-Ok.ensures.0 c.in-Ok.ensures.1 c.plan_edits.result c.plan_edits.ensures

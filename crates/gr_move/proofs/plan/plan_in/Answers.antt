@@ -3,4 +3,4 @@ use Rattle.gr_move.proofs.Planned.{faults_refused}
 use Rattle.gr_move.proofs.plan.plan_in.Goals as goal
 
 pub returns-in-Err : goal.returns-in-Err
-returns-in-Err c = faults_refused c.args.snapshot.now c.args.from.now c.args.to.now c.in_ok-found.found c.in-Err.refusal c.in-Err.ensures
+returns-in-Err c = faults_refused c.args.snapshot.now c.args.from.now c.args.to.now c.args.found.now.findings c.in-Err.refusal c.in-Err.ensures

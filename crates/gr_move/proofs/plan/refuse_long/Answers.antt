@@ -9,10 +9,10 @@ move_edits-requires-clause-free c = λ path is under. under
 
 pub returns-in-Err : goal.returns-in-Err
 returns-in-Err c =
-    name_refused c.args.snapshot.now (known_in c.args.found.now) c.args.from.now c.args.to.now c.in-Err.refusal c.in-Err.ensures
+    name_refused c.args.snapshot.now (known_in c.args.found.now.findings) c.args.from.now c.args.to.now c.in-Err.refusal c.in-Err.ensures
 
 pub returns-in-Ok : goal.returns-in-Ok
 returns-in-Ok c =
-    name_planned c.args.snapshot.now c.args.from.now c.args.to.now (list_of_sound c.args.snapshot.now.files c.args.found.now c.requires.sound)
-    (known_in c.args.found.now) c.requires.sound.findings.right c.requires.no_path c.in-Ok.edits c.in-Ok.ensures.0 c.refuse_length.result
+    name_planned c.args.snapshot.now c.args.from.now c.args.to.now (list_of_sound c.args.snapshot.now.files c.args.found.now.findings c.requires.sound)
+    (known_in c.args.found.now.findings) c.requires.sound.findings.right c.requires.no_path c.in-Ok.edits c.in-Ok.ensures.0 c.refuse_length.result
     c.refuse_length.ensures

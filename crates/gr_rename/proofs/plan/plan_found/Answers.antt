@@ -8,5 +8,5 @@ pub returns-in-Err : goal.returns-in-Err
 returns-in-Err c =
     let snapshot = c.args.snapshot.now in
     let asked = c.args.asked.now in
-    let found = c.args.found.now in
-    finds_refused snapshot asked.path.now asked.offset asked.name.now (list_of_sound snapshot.files found c.requires) (known_in found) c.requires.findings.right c.in-Err.refusal c.in-Err.ensures
+    let found = c.args.found.now.findings in
+    finds_refused snapshot asked.path.now asked.offset asked.name.now (list_of_sound snapshot.files found c.requires.sound) (known_in found) c.requires.sound.findings.right c.in-Err.refusal c.in-Err.ensures

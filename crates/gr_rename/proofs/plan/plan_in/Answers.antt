@@ -5,7 +5,7 @@ use Rattle.gr_rename.proofs.plan.plan_in.Goals as goal
 pub returns-in-Err : goal.returns-in-Err
 returns-in-Err c =
     let asked = c.args.asked.now in
-    faults_refused c.args.snapshot.now asked.path.now asked.offset asked.name.now c.in_ok-found.found c.in-Err.refusal c.in-Err.ensures
+    faults_refused c.args.snapshot.now asked.path.now asked.offset asked.name.now c.args.found.now.findings c.in-Err.refusal c.in-Err.ensures
 
-pub plan_found-requires : goal.plan_found-requires
-plan_found-requires c = c.in-Ok.ensures
+pub plan_found-requires-clause-sound : goal.plan_found-requires-clause-sound
+plan_found-requires-clause-sound c = c.in-Ok.ensures

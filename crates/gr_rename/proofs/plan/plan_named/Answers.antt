@@ -8,7 +8,7 @@ pub returns-in-Err : goal.returns-in-Err
 returns-in-Err c =
     let snapshot = c.args.snapshot.now in
     let asked = c.args.asked.now in
-    let found = c.args.found.now in
+    let found = c.args.found.now.findings in
     name_refused snapshot asked.path.now asked.offset asked.name.now (list_of_sound snapshot.files found c.requires.sound) (known_in found) c.requires.sound.findings.right c.args.declaration.now c.requires.has
     c.in-Err.refusal c.in-Err.ensures
 
@@ -16,6 +16,6 @@ pub returns-in-Ok : goal.returns-in-Ok
 returns-in-Ok c =
     let snapshot = c.args.snapshot.now in
     let asked = c.args.asked.now in
-    let found = c.args.found.now in
+    let found = c.args.found.now.findings in
     declaration_planned snapshot asked.path.now asked.offset asked.name.now (list_of_sound snapshot.files found c.requires.sound) (known_in found) c.requires.sound.findings.right c.args.declaration.now c.requires.has
     c.in-Ok.ensures c.plan_declaration.result c.plan_declaration.ensures
