@@ -122,55 +122,31 @@ fn unit_places(alloc: Global, unit: Package<'_>) -> Result<DeclaredPlaces, Alloc
     })
 }
 
-/// The same of the package of a path.
-fn places_by(
-    alloc: Global,
-    path: &SharedPath,
-    files: &[FileTree],
-    table: &ScopeTable<'_>,
-    interfaces: &Interfaces,
-) -> Result<DeclaredPlaces, AllocError>
-    ensures { IfOk result (AreDeclaredIn (package_in path.now (map source_of files.now) table.now (interface_in interfaces.now))) }
-{
-    let unit = Package {
-        path,
-        files,
-        table,
-        interfaces,
-    };
-    unit_places(alloc, unit)
-}
-
 /// The same of the package of a number.
 fn places_at(
     alloc: Global,
-    graph: &Graph,
-    found: &Findings,
+    packages: &Packages<'_>,
     number: usize,
 ) -> Result<DeclaredPlaces, AllocError>
-    requires in_range { number < length (package_paths graph.now) }
-    requires sound { IsSound graph.now found.now }
-    ensures { IfOk result (AreDeclaredAt graph.now (known_in found.now) number) }
+    requires in_range { number < length (package_paths packages.now.graph.now) }
+    requires read { ArePackages packages.now }
+    ensures { IfOk result (AreDeclaredAt packages.now.graph.now (known_in packages.now.found.now) number) }
 {
-    let files = trees(graph, found, number);
-    let seen = seen(alloc, graph, number, &found.interfaces)?;
-    let table = laid_table(alloc, files, &seen)?;
-    let path = path_of(graph, found, number);
-    places_by(alloc, path, files, &table, &seen)
+    let unit = packages.unit(number);
+    unit_places(alloc, unit)
 }
 
 /// Where the declarations of all packages stand, by the packages' numbers.
 pub fn declared_places(
     alloc: Global,
-    graph: &Graph,
-    found: &Findings,
+    packages: &Packages<'_>,
 ) -> Result<Vec<DeclaredPlaces>, AllocError>
-    requires { IsSound graph.now found.now }
-    ensures { IfOk result (λ all. AreDeclared graph.now (known_in found.now) all.items) }
+    requires { ArePackages packages.now }
+    ensures { IfOk result (λ all. AreDeclared packages.now.graph.now (known_in packages.now.found.now) all.items) }
 {
     let mut all = Vec::new(alloc);
-    for number in 0..graph.len() {
-        all.push(places_at(alloc, graph, found, number)?)?;
+    for number in 0..packages.graph.len() {
+        all.push(places_at(alloc, packages, number)?)?;
     }
     Ok(all)
 }
