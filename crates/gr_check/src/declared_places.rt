@@ -5,29 +5,26 @@ ghost use Rattle.gr_text.specs.Packages.{package_paths};
 ghost use Rattle.gr_tree.specs.SourceFile.{source_of};
 ghost use Rattle.gr_scope.specs.Bindings.{Counts};
 ghost use Rattle.gr_scope.specs.Scoped.{layout_in, names_in};
-ghost use Rattle.gr_meanings.specs.PackageOf.{package_in};
-ghost use Rattle.gr_declared.specs.InterfacesView.{interface_in};
 ghost use Rattle.gr_declared.specs.Package.{Package as Checked};
 ghost use Rattle.gr_declared.specs.PackageView.{package_of};
 ghost use Rattle.gr_text.specs.declared.place.Place.{Place as At};
 ghost use Rattle.gr_verdict.specs.Verdicts.{Verdicts};
 ghost use Rattle.gr_bound.specs.Steps.{ArePlaces};
 ghost use Rattle.gr_bound.specs.Uses.{IsPackage};
-ghost use Rattle.gr_bound.specs.Workspaces.{IsSound, known_in};
+ghost use Rattle.gr_bound.specs.Packages.{ArePackages};
+ghost use Rattle.gr_bound.specs.Workspaces.{known_in};
 ghost use Rattle.gr_standing.specs.Standing.{InPackage, IsScopeAt, StandsIn, IsDeclaredAt};
 ghost use Rattle.gr_check.specs.DeclaredPlaces.{IsFound, IsFoundIn, BeginsIn, ArePlacesOf, AreDeclaredIn, AreDeclaredAt, AreDeclared, IsPlaceIn};
 
 use crate::places::place_of;
-use gr_bound::{Declaration, field_places, laid_table, method_places, path_of, trees};
-use gr_declared::{Index, Interfaces, Package};
+use gr_bound::{Declaration, Packages, field_places, method_places};
+use gr_declared::{Index, Package};
 use gr_expr::symbol::SharedPath;
 use gr_graph::Graph;
 use gr_imports::literal_of;
 use gr_scope::model::Position;
-use gr_scope::table::ScopeTable;
 use gr_text::Place;
 use gr_tree::FileTree;
-use gr_verdict::{Findings, seen};
 use std::alloc::{AllocError, Global};
 
 /// How many names are predeclared: they have the first numbers in the table of each package.

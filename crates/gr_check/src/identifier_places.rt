@@ -66,10 +66,7 @@ fn add_all(places: &mut Vec<Place>, packages: &Packages<'_>) -> Result<(), Alloc
 }
 
 /// The places at which identifiers begin that are no literals.
-pub fn identifier_places(
-    alloc: Global,
-    packages: &Packages<'_>,
-) -> Result<Vec<Place>, AllocError>
+pub fn identifier_places(alloc: Global, packages: &Packages<'_>) -> Result<Vec<Place>, AllocError>
     requires { ArePackages packages.now }
     ensures { IfOk result (λ places. (place : At) → Contains places.items place ↔ IsIdentifierAt packages.now.graph.now (known_in packages.now.found.now) place) }
 {
