@@ -22,7 +22,7 @@ use Rattle.gr_desk.specs.Work.{Works, AfterTake, AfterDelivery, Builds, Delivers
 use Rattle.gr_line.specs.declared.message.Message.{Message}
 use Rattle.gr_line.specs.declared.message.Message.TheVariants.{Ask, Unknown, CutShort}
 use Rattle.gr_wire.specs.Answers.{Answered, AnswersAll}
-use Rattle.gr_wire.specs.Laws.{RunsTheMachine}
+use Rattle.gr_wire.specs.Laws.{RunsTheMachine, RunsUntilItBreaks}
 
 abbrev IsRun : Machine → Machine → Type 0
 IsRun old new = (events : List (Event × Reply)) × Run old events new
@@ -110,3 +110,7 @@ all_answered old new (m ∷ ms) (r ∷ rs) h = join old h.0 new (answered old h.
 
 pub exchange_runs : RunsTheMachine
 exchange_runs limits input rest old new text h = all_answered old new h.messages h.replies h.run
+
+pub broken_runs : RunsUntilItBreaks
+broken_runs limits input rest old new text h =
+    join old h.now new (exchange_runs limits input h.mid old h.now h.earlier h.whole) (answered h.now new h.message h.reply h.run)

@@ -20,7 +20,7 @@ use Rattle.gr_line.specs.Incoming.{ReadsNext}
 use Rattle.gr_wire.specs.Faults.{fault_of}
 use Rattle.gr_line.specs.Last.{is_last}
 use Rattle.gr_wire.specs.Transcript.{StepEnds}
-use Rattle.gr_wire.proofs.Exchanges.{Exchange-none, Exchange-one}
+use Rattle.gr_wire.proofs.Exchanges.{Exchange-none, Exchange-one, BreaksOff-one}
 
 module _ {D : Type 0} (steps : D → Event → Reply → D → Type 0) (limits : Limits) where
   pub step_faulted : (a b x : Option (List ℕ)) (d : D) (fault : InputFault) → ReadsNext limits a b (Err fault)
@@ -28,9 +28,9 @@ module _ {D : Type 0} (steps : D → Event → Reply → D → Type 0) (limits :
   step_faulted None b x d fault.Read h = tt
   step_faulted None b x d fault.Turns h = tt
   step_faulted (Some input) b x d fault.Read h =
-      (h.0, h.1, [], rw (← h.2) (Exchange-none steps limits input d), h.3, Appends-nil x, rw (← h.2) h.4)
+      (h.0, h.1, [], rw (← h.2) (Exchange-none steps limits input d), h.3, Appends-nil x, h.4)
   step_faulted (Some input) b x d fault.Turns h =
-      (h.0, h.1, [], rw (← h.2) (Exchange-none steps limits input d), h.3, Appends-nil x, rw (← h.2) h.4)
+      (h.0, h.1, [], rw (← h.2) (Exchange-none steps limits input d), h.3, Appends-nil x, h.4)
 
   pub step_ended : (a b x : Option (List ℕ)) (d : D) → ReadsNext limits a b (Ok next.End)
       → StepEnds steps limits a b x x d d (Ok false)
@@ -56,7 +56,7 @@ module _ {D : Type 0} (steps : D → Event → Reply → D → Type 0) (limits :
       → StepEnds steps limits a b x y old new (Err Write)
   step_cut None b x y old new message reply written unwritten h k e w = tt
   step_cut (Some input) b x y old new message reply written unwritten h k e w =
-      (h.0, written, unwritten, rw (← e) (Exchange-one steps limits input h.0 old new message reply h.1 k), h.2, w)
+      (h.0, written, BreaksOff-one steps limits input h.0 old new message reply written unwritten h.1 k e, h.2, w)
 
   pub step_refused : (a b x y : Option (List ℕ)) (d : D) → ReadsNext limits a b (Ok next.NoRoom)
       → Appends x y (reply_text (Refused refusal.Memory)) → StepEnds steps limits a b x y d d (Ok true)
@@ -75,8 +75,7 @@ module _ {D : Type 0} (steps : D → Event → Reply → D → Type 0) (limits :
   step_refused_cut (Some input) b x y d written unwritten h e w = (
     h.1,
     written,
-    unwritten,
-    rw (← e) (Exchange-one steps limits input h.1 d d (Ask h.0) (Refused refusal.Memory) h.2 (inr (refl, refl))),
+    BreaksOff-one steps limits input h.1 d d (Ask h.0) (Refused refusal.Memory) written unwritten h.2 (inr (refl, refl)) e,
     h.3,
     w,
   )
