@@ -1,5 +1,5 @@
 -- Exchanges, one after another.
-use Rattle.std.proofs.Common.{◌≡◌, ℕ, List, [], ◌∷◌, ◌++◌, refl, sym, ap, ◌∙◌, append-nil, append_assoc}
+use Rattle.std.proofs.Common.{◌≡◌, ℕ, List, [], ◌∷◌, ◌++◌, refl, sym, ap, ◌∙◌, inl, inr, append-nil, append_assoc}
 use Rattle.std.proofs.lemmas.Grind.{flat_map-append}
 use Rattle.gr_text.specs.declared.limits.Limits.{Limits}
 use Rattle.gr_book.specs.declared.event.Event.{Event}
@@ -9,7 +9,7 @@ use Rattle.gr_line.specs.declared.message.Message.{Message}
 use Rattle.gr_line.specs.Wire.{Says, Reads}
 use Rattle.gr_wire.specs.Answers.{Answered, AnswersAll}
 use Rattle.gr_line.specs.Replies.{reply_text}
-use Rattle.gr_wire.specs.Transcript.{Exchange, BreaksOff}
+use Rattle.gr_wire.specs.Transcript.{Exchange, BreaksOff, CutsOff}
 
 pub Reads-append : (limits : Limits) (input mid rest : List ℕ) (ms ns : List Message)
     → Reads limits input ms mid → Reads limits mid ns rest → Reads limits input (ms ++ ns) rest
@@ -87,3 +87,12 @@ BreaksOff-after steps limits input mid rest old now new text more a b = record {
   cut = b.cut;
   joined = ap (λ l. text ++ l) b.joined ∙ sym (append_assoc text b.earlier b.written);
 }
+
+-- an exchange, and then one after which the writer failed
+pub CutsOff-after : {D : Type 0} (steps : D → Event → Reply → D → Type 0) (limits : Limits) (input mid rest : List ℕ) (old now new : D) (text more : List ℕ)
+    → Exchange steps limits input mid old now text → CutsOff steps limits mid rest now new more
+    → CutsOff steps limits input rest old new (text ++ more)
+CutsOff-after steps limits input mid rest old now new text more a b = elim b [
+  | inl whole ↦ inl (Exchange-append steps limits input mid rest old now new text more a whole)
+  | inr broken ↦ inr (BreaksOff-after steps limits input mid rest old now new text more a broken)
+]

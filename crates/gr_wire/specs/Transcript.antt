@@ -1,5 +1,5 @@
 -- What a session has done: the messages read, the replies given, and their text.
-use Rattle.std.specs.Prelude.{◌≡◌, ◌≢◌, ℕ, List, ◌++◌, Option, Some, IfSome, Result, Ok, Err, Bool, true, false}
+use Rattle.std.specs.Prelude.{◌≡◌, ◌≢◌, ◌⊎◌, ℕ, List, [], ◌++◌, Option, Some, IfSome, Result, Ok, Err, Bool, true, false}
 use Rattle.std.specs.List.{flat_map}
 use Rattle.std.specs.Io.KnownBytes.{Appends, Keeps}
 use Rattle.gr_text.specs.declared.limits.Limits.{Limits}
@@ -38,6 +38,11 @@ pub record BreaksOff {D : Type 0} (steps : D → Event → Reply → D → Type 
   pub cut : reply_text reply ≡ written ++ unwritten
   pub joined : text ≡ earlier ++ written
 
+-- The messages of the input up to `rest` are answered, and nothing is done after the writer failed: all replies are written, and
+-- could not be sent; or all but the last are written whole.
+abbrev pub CutsOff : {D : Type 0} → (D → Event → Reply → D → Type 0) → Limits → (input rest : List ℕ) → D → D → List ℕ → Type 0
+CutsOff steps limits input rest old new text = Exchange steps limits input rest old new text ⊎ BreaksOff steps limits input rest old new text
+
 -- How a session ends, over an input that the reader tells. `before` and `after` are what the reader has left,
 -- `held` and `holds` what the writer holds.
 abbrev pub SessionEnds : {D : Type 0} → (D → Event → Reply → D → Type 0) → Limits → (before after held holds : Option (List ℕ)) → D → D → Result (Unit {0}) SessionFault → Type 0
@@ -54,9 +59,9 @@ SessionEnds steps limits before after held holds old new (Err Read) = IfSome bef
 SessionEnds steps limits before after held holds old new (Err Turns) = IfSome before (λ input.
     (part : List ℕ) × (rest : List ℕ) × (text : List ℕ) × Exchange steps limits input (part ++ rest) old new text
     × (after ≡ Some rest) × Appends held holds text × StaysWithin limits part rest)
--- nothing is read or done after the message whose reply is not written whole
+-- nothing is read or done after the message whose reply is not written whole, or not sent
 SessionEnds steps limits before after held holds old new (Err Write) = IfSome before (λ input.
-    (rest : List ℕ) × (text : List ℕ) × BreaksOff steps limits input rest old new text × (after ≡ Some rest) × Appends held holds text)
+    (rest : List ℕ) × (text : List ℕ) × CutsOff steps limits input rest old new text × (after ≡ Some rest) × Appends held holds text)
 
 -- A fault of the reader or the writer is answered just where it failed in this call.
 abbrev pub CountsFaults : {T : Type 0} → (read_before read_after write_before write_after : ℕ) → Result T SessionFault → Type 0
@@ -80,3 +85,8 @@ StepEnds steps limits before after held holds old new (Err Write) = SessionEnds 
 abbrev pub IsTranscript : {D : Type 0} → (D → Event → Reply → D → Type 0) → Limits → List ℕ → D → D → List ℕ → Type 0
 IsTranscript steps limits input old new text =
     (mid : List ℕ) × (rest : List ℕ) × Exchange steps limits input mid old new text × Ends limits mid rest
+
+-- A session over memory that ends early: what of the input is left, and what was written, is that of the fault.
+abbrev pub EndsEarly : {D : Type 0} → (D → Event → Reply → D → Type 0) → Limits → List ℕ → D → D → SessionFault → Type 0
+EndsEarly steps limits input old new fault =
+    (rest : List ℕ) × (text : List ℕ) × SessionEnds steps limits (Some input) (Some rest) (Some []) (Some text) old new (Err fault)

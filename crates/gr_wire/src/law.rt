@@ -1,8 +1,9 @@
 //! The law of a session.
-ghost use Rattle.gr_wire.specs.Laws.{RunsTheMachine, RunsUntilItBreaks};
+ghost use Rattle.gr_wire.specs.Laws.{RunsTheMachine, RunsUntilCutOff};
 
-/// What a session does to a book is a run of the book's machine, also where a write fails.
+/// What a session does to a book is a run of the book's machine, by the events that its messages send, also where the writer
+/// fails.
 pub fn runs_the_machine()
     ensures whole { RunsTheMachine }
-    ensures broken { RunsUntilItBreaks }
+    ensures cut { RunsUntilCutOff }
 {}
