@@ -52,7 +52,7 @@ led_on old mid new asked reply P s rest = (
   (asked, reply) ∷ rest.0,
   (mid, s, rest.1),
   λ before after e.
-  (before ++ (asked, reply) ∷ [], refl, rest.2 (before ++ (asked, reply) ∷ []) after (e ∙ sym (append_assoc before ((asked, reply) ∷ []) rest.0))),
+      (before ++ (asked, reply) ∷ [], refl, rest.2 (before ++ (asked, reply) ∷ []) after (e ∙ sym (append_assoc before ((asked, reply) ∷ []) rest.0))),
 )
 
 given_back : (old new : Machine) (job : JobRecord) → GivesBack Step old job new → IsRun old new (λ a b. GivesBack Notes a job b)
