@@ -17,7 +17,7 @@ pub fn converse<R: Read + Drop, W: Write, D: Desk>(
     desk: &mut D,
     limits: Limits,
 ) -> (Result<(), SessionFault>, W)
-    ensures { Converses D.steps limits (R.remaining reader) (W.contents writer) (W.contents result.1) desk.old desk.new result.0 }
+    ensures { Converses D.steps D.waits limits (R.remaining reader) (W.contents writer) (W.contents result.1) desk.old desk.new result.0 }
 {
     let mut source = Reading::new(reader);
     let mut sink = Writing::new(writer);
