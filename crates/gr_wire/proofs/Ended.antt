@@ -1,5 +1,5 @@
--- How a session over memory ends.
-use Rattle.std.proofs.Common.{◌≡◌, ℕ, List, [], Option, None, Some, Ok, Err}
+-- How a session over memory ends early.
+use Rattle.std.proofs.Common.{◌≡◌, ℕ, List, [], Option, None, Some, Result, Err, subst}
 use Rattle.gr_text.specs.declared.limits.Limits.{Limits}
 use Rattle.gr_book.specs.declared.event.Event.{Event}
 use Rattle.gr_book.specs.declared.event.Reply.{Reply}
@@ -7,7 +7,7 @@ use Rattle.gr_desk.specs.Wait.{WaitLaw}
 use Rattle.gr_wire.specs.declared.exchange.SessionFault.{SessionFault}
 use Rattle.gr_wire.specs.declared.exchange.SessionFault.TheVariants.{Memory, Read, Write, Turns}
 use Rattle.gr_wire.specs.Alone.{Converses}
-use Rattle.gr_wire.specs.Transcript.{SessionEnds, IsTranscript, EndsEarly}
+use Rattle.gr_wire.specs.Transcript.{SessionEnds, EndsEarly}
 
 none_is_no_list : (P : Type 0) (xs : List ℕ) → None ≡ Some xs → P
 none_is_no_list P xs e = cc
@@ -26,12 +26,9 @@ module _ {D : Type 0} (steps : D → Event → Reply → D → Type 0) (waits : 
   early (Some rest) None Turns h = absurd h.5
   early (Some rest) None Write h = absurd h.4
 
-  pub ended_early : (held text : List ℕ) (fault : SessionFault) → held ≡ [] → Converses steps waits limits (Some input) (Some held) (Some text) old new (Err fault)
-      → EndsEarly steps waits limits input old new fault
-  ended_early held text fault e h = early h.0 (Some text) fault (rw e at h.1)
-
-  pub ended_whole : (held text : List ℕ) → held ≡ [] → Converses steps waits limits (Some input) (Some held) (Some text) old new (Ok tt)
-      → IsTranscript steps waits limits input old new text
-  ended_whole held text e h =
-      let all : text ≡ h.1.2 = rw e at h.1.6 in
-      (h.1.0, h.1.1, rw all h.1.3, h.1.4)
+  pub ended_early : (held text : List ℕ) (result : Result (Unit {0}) SessionFault) (fault : SessionFault) → held ≡ [] → result ≡ Err fault
+      → Converses steps waits limits (Some input) (Some held) (Some text) old new result → EndsEarly steps waits limits input old new fault
+  ended_early held text result fault e f h =
+      let ends : SessionEnds steps waits limits (Some input) h.0 (Some held) (Some text) old new (Err fault) =
+      subst (λ (r : Result (Unit {0}) SessionFault). SessionEnds steps waits limits (Some input) h.0 (Some held) (Some text) old new r) f h.1 in
+      early h.0 (Some text) fault (subst (λ (x : List ℕ). SessionEnds steps waits limits (Some input) h.0 (Some x) (Some text) old new (Err fault)) e ends)

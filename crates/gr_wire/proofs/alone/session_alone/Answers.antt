@@ -7,6 +7,5 @@ use Rattle.gr_wire.proofs.alone.session_alone.Goals as goal
 pub returns-in-Err : goal.returns-in-Err
 returns-in-Err g c = (
   opening c.args.limits,
-  g.R.Read.remaining c.args.reader,
-  (kept_same (g.R.Read.remaining c.args.reader), refl, kept_same (g.W.Write.contents c.args.writer)),
+  (g.R.Read.remaining c.args.reader, (kept_same (g.R.Read.remaining c.args.reader), refl, kept_same (g.W.Write.contents c.args.writer))),
 )
