@@ -1,6 +1,7 @@
 -- Why there is no object: the package is there and is not finished.
-use Rattle.std.proofs.Common.{◌≡◌, Some, slice_get, ap, ◌∙◌}
+use Rattle.std.proofs.Common.{◌≡◌, Some, slice_get, ap, subst, ◌∙◌}
 use Rattle.gr_text.specs.Packages.{package_paths}
+use Rattle.gr_text.specs.Workspace.{Workspace}
 use Rattle.gr_graph.proofs.Asked.{at_contains}
 use Rattle.gr_keep.proofs.FinishedUnits.{unit_at}
 use Rattle.gr_desk.proofs.queries.object.Goals as goal
@@ -11,5 +12,7 @@ returns-in_default-get c =
     let n = c.in-Some.number in
     let p = c.args.path.now in
     let read = c.in_ok-path.ensures in
-    let at : slice_get (package_paths w) n ≡ Some p = c.in-Some.ensures ∙ ap Some (c.as_bytes.ensures.value ∙ c.as_str.ensures.text ∙ read.0) in
+    let there : slice_get (package_paths c.files.result.now) n ≡ Some p =
+    c.in-Some.ensures ∙ ap Some (c.as_bytes.ensures.value ∙ c.as_str.ensures.text ∙ read.0) in
+    let at : slice_get (package_paths w) n ≡ Some p = subst (λ (v : Workspace). slice_get (package_paths v) n ≡ Some p) c.files.ensures there in
     (read.0, (read.1, at_contains w n p at), λ unit finished. c.in_default-get.ensures unit (unit_at w c.args.view.now.finished p unit n at finished))
