@@ -1,5 +1,6 @@
 -- Exchanges, one after another.
-use Rattle.std.proofs.Common.{◌≡◌, ℕ, List, [], ◌∷◌, ◌++◌, refl, sym, ap, ◌∙◌, inl, inr, append-nil, append_assoc}
+use Rattle.std.proofs.Common.{◌≡◌, ℕ, List, [], ◌∷◌, ◌++◌, refl, sym, inl, inr, append-nil, append_assoc}
+use Rattle.std.specs.List.{flat_map}
 use Rattle.std.proofs.lemmas.Grind.{flat_map-append}
 use Rattle.gr_text.specs.declared.limits.Limits.{Limits}
 use Rattle.gr_book.specs.declared.event.Event.{Event}
@@ -61,14 +62,11 @@ pub BreaksOff-one : {D : Type 0} (steps : D → Event → Reply → D → Type 0
     (written unwritten : List ℕ) → Says limits input message rest → Answered steps waits old message reply new → reply_text reply ≡ written ++ unwritten
     → BreaksOff steps waits limits input rest old new written
 BreaksOff-one steps waits limits input rest old new message reply written unwritten said answered cut = record {
-  mid = input;
-  now = old;
+  messages = message ∷ [];
   earlier = [];
-  whole = Exchange-none steps waits limits input old;
-  message = message;
-  reply = reply;
-  read = said;
-  run = answered;
+  last = reply;
+  read = (rest, said, refl);
+  run = (new, answered, refl);
   written = written;
   unwritten = unwritten;
   cut = cut;
@@ -80,18 +78,17 @@ pub BreaksOff-after : {D : Type 0} (steps : D → Event → Reply → D → Type
     → Exchange steps waits limits input mid old now text → BreaksOff steps waits limits mid rest now new more
     → BreaksOff steps waits limits input rest old new (text ++ more)
 BreaksOff-after steps waits limits input mid rest old now new text more a b = record {
-  mid = b.mid;
-  now = b.now;
-  earlier = text ++ b.earlier;
-  whole = Exchange-append steps waits limits input mid b.mid old now b.now text b.earlier a b.whole;
-  message = b.message;
-  reply = b.reply;
-  read = b.read;
-  run = b.run;
+  messages = a.messages ++ b.messages;
+  earlier = a.replies ++ b.earlier;
+  last = b.last;
+  read = Reads-append limits input mid rest a.messages b.messages a.read b.read;
+  run = rw (append_assoc a.replies b.earlier (b.last ∷ []))
+      (AnswersAll-append steps waits old now new a.messages b.messages a.replies (b.earlier ++ b.last ∷ []) a.run b.run);
   written = b.written;
   unwritten = b.unwritten;
   cut = b.cut;
-  joined = ap (λ l. text ++ l) b.joined ∙ sym (append_assoc text b.earlier b.written);
+  joined = rw (a.written, b.joined, flat_map-append reply_text a.replies b.earlier)
+      (sym (append_assoc (flat_map reply_text a.replies) (flat_map reply_text b.earlier) b.written));
 }
 
 -- an exchange, and then one after which the writer failed

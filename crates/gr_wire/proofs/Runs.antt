@@ -172,19 +172,15 @@ exchange_runs limits input rest old new text h =
 broken_runs : (limits : Limits) (input rest : List ℕ) (old new : Machine) (text : List ℕ) → BreaksOff Step RefusesWait limits input rest old new text
     → (events : Events) × Run old events new × BreaksOff Notes RefusesWait limits input rest [] events text
 broken_runs limits input rest old new text h =
-    let before = exchange_runs limits input h.mid old h.now h.earlier h.whole in
-    let last = answered h.now new h.message h.reply h.run in (
-      before.0 ++ last.0,
-      Run-append old h.now new before.0 last.0 before.1 last.1,
+    let g = all_answered old new h.messages (h.earlier ++ h.last ∷ []) h.run in (
+      g.0,
+      g.1,
       record {
-        mid = h.mid;
-        now = before.0;
+        messages = h.messages;
         earlier = h.earlier;
-        whole = before.2;
-        message = h.message;
-        reply = h.reply;
+        last = h.last;
         read = h.read;
-        run = last.2 before.0 (before.0 ++ last.0) refl;
+        run = g.2 [] g.0 refl;
         written = h.written;
         unwritten = h.unwritten;
         cut = h.cut;

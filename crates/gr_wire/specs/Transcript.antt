@@ -1,5 +1,5 @@
 -- What a session has done: the messages read, the replies given, and their text.
-use Rattle.std.specs.Prelude.{◌≡◌, ◌≢◌, ◌⊎◌, ℕ, List, [], ◌++◌, Option, Some, IfSome, Result, Ok, Err, Bool, true, false}
+use Rattle.std.specs.Prelude.{◌≡◌, ◌≢◌, ◌⊎◌, ℕ, List, [], ◌∷◌, ◌++◌, Option, Some, IfSome, Result, Ok, Err, Bool, true, false}
 use Rattle.std.specs.List.{flat_map}
 use Rattle.std.specs.Io.KnownBytes.{Appends, Keeps}
 use Rattle.gr_text.specs.declared.limits.Limits.{Limits}
@@ -10,9 +10,9 @@ use Rattle.gr_line.specs.declared.command.Response.{Response}
 use Rattle.gr_line.specs.declared.message.Message.{Message}
 use Rattle.gr_wire.specs.declared.exchange.SessionFault.{SessionFault}
 use Rattle.gr_wire.specs.declared.exchange.SessionFault.TheVariants.{Memory, Read, Write, Turns}
-use Rattle.gr_line.specs.Wire.{Says, Reads, Ends, StaysWithin}
+use Rattle.gr_line.specs.Wire.{Reads, Ends, StaysWithin}
 use Rattle.gr_line.specs.Replies.{reply_text}
-use Rattle.gr_wire.specs.Answers.{Answered, AnswersAll}
+use Rattle.gr_wire.specs.Answers.{AnswersAll}
 
 -- The input up to `rest` was read as messages, answered in one run of the desk from old to new,
 -- and `text` is the text of the replies.
@@ -23,21 +23,18 @@ pub record Exchange {D : Type 0} (steps : D → Event → Reply → D → Type 0
   pub run : AnswersAll steps waits old messages replies new
   pub written : text ≡ flat_map reply_text replies
 
--- The messages of the input up to `rest` are answered, in one run of the desk from old to new. The replies to all but the last
+-- The input up to `rest` was read as messages, answered in one run of the desk from old to new. The replies to all but the last
 -- are written whole, and a first part of the last one.
 pub record BreaksOff {D : Type 0} (steps : D → Event → Reply → D → Type 0) (waits : WaitLaw D) (limits : Limits) (input rest : List ℕ) (old new : D) (text : List ℕ) : Type 0 where
-  pub mid : List ℕ
-  pub now : D
-  pub earlier : List ℕ
-  pub whole : Exchange steps waits limits input mid old now earlier
-  pub message : Message
-  pub reply : Response
-  pub read : Says limits mid message rest
-  pub run : Answered steps waits now message reply new
+  pub messages : List Message
+  pub earlier : List Response
+  pub last : Response
+  pub read : Reads limits input messages rest
+  pub run : AnswersAll steps waits old messages (earlier ++ last ∷ []) new
   pub written : List ℕ
   pub unwritten : List ℕ
-  pub cut : reply_text reply ≡ written ++ unwritten
-  pub joined : text ≡ earlier ++ written
+  pub cut : reply_text last ≡ written ++ unwritten
+  pub joined : text ≡ flat_map reply_text earlier ++ written
 
 -- The messages of the input up to `rest` are answered, and nothing is done after the writer failed: all replies are written, and
 -- could not be sent; or all but the last are written whole.
