@@ -37,9 +37,9 @@ const PREDECLARED: usize = 11;
 /// their ranks.
 #[derive(Drop)]
 pub struct DeclaredPlaces {
-    names: Vec<Option<Place>>,
-    fields: Vec<Option<Place>>,
-    methods: Vec<Option<Place>>,
+    pub names: Vec<Option<Place>>,
+    pub fields: Vec<Option<Place>>,
+    pub methods: Vec<Option<Place>>,
 }
 
 /// Whether an identifier declares, and this counts.
