@@ -1,4 +1,6 @@
 -- The lemmas of this crate.
 pub mod Beginnings
+pub mod Gone
+pub mod Nowadays
 pub mod Taking
 pub mod Telling

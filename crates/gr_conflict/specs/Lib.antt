@@ -1,4 +1,7 @@
 -- The definitions of this crate.
 pub mod Told
+pub mod Afterwards
 pub mod Conflicts
+pub mod OldPlaces
+pub mod Now
 pub mod Judging

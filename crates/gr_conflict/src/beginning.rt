@@ -1,13 +1,14 @@
 //! The identifiers of a package by the places at which they begin.
-ghost use Rattle.std.specs.Prelude.{◌≡◌, ◌<◌, Some, length, map, slice_get, IfOk};
-ghost use Rattle.gr_text.specs.declared.place.Place.{Place as At};
-ghost use Rattle.gr_tree.specs.SourceFile.{source_of, offset_of};
+ghost use Rattle.std.specs.Prelude.{◌≡◌, ◌↔◌, Some, map, slice_get, IsTrue, IfOk, MatchOption};
+ghost use Rattle.gr_tree.specs.SourceFile.{source_of};
+ghost use Rattle.gr_declared.specs.ByToken.{number_at};
 ghost use Rattle.gr_declared.specs.PackageView.{package_of, IsIndexOf};
-ghost use Rattle.gr_bound.specs.Identifiers.{NameBegins, BeginsAt};
+ghost use Rattle.gr_bound.specs.Identifiers.{NameBegins};
 ghost use Rattle.gr_bound.specs.Steps.{AtToken};
-ghost use Rattle.gr_conflict.specs.Conflicts.{IsAnyFound};
+ghost use Rattle.gr_check.specs.DeclaredPlaces.{IsFound};
 
 use gr_bound::is_name;
+use gr_check::name_beginning;
 use gr_declared::{ByToken, Index, Package};
 use gr_scope::model::Position;
 use gr_text::{Path, Place};
@@ -50,77 +51,39 @@ fn position_at(files: &[FileTree], place: &Place) -> Option<Position> {
     }
 }
 
-/// Whether the token at a position is a name.
-fn is_name_at(files: &[FileTree], at: Position) -> bool {
-    match files.get(at.file) {
-        None => false,
-        Some(file) => is_name(file, at.index),
+/// Whether a name of a file begins at a place.
+fn name_begins(file: &FileTree, token: usize, place: &Place) -> bool
+    ensures { IsTrue result ↔ NameBegins (Some (source_of file.now)) token place.now.path place.now.offset }
+{
+    is_name(file, token)
+        && file.path().as_str().as_bytes() == place.path.as_str().as_bytes()
+        && file.offset(token) == place.offset
+}
+
+/// Whether the token at a position is a name that begins at a place.
+fn begins_at(files: &[FileTree], at: Position, place: &Place) -> bool
+    ensures { IsTrue result ↔ NameBegins (slice_get (map source_of files.now) at.file) at.index place.now.path place.now.offset }
+{
+    if at.file < files.len() {
+        name_begins(&files[at.file], at.index, place)
+    } else {
+        false
     }
 }
 
 /// The identifier that begins at a place, by the identifiers at tokens; none for the literal of an import.
-pub fn user_at(files: &[FileTree], users: &ByToken, place: &Place) -> Option<usize> {
+pub fn user_at(files: &[FileTree], users: &ByToken, place: &Place) -> Option<usize>
+    ensures { MatchOption result (Unit {0}) (λ u. (at : Position) × ((number_at users.now at.file at.index ≡ Some u) × NameBegins (slice_get (map source_of files.now) at.file) at.index place.now.path place.now.offset)) }
+{
     match position_at(files, place) {
         None => None,
         Some(at) => {
-            if is_name_at(files, at) {
+            if begins_at(files, at, place) {
                 users.get(at)
             } else {
                 None
             }
         }
-    }
-}
-
-/// Where a token of a file begins.
-fn begin(file: &FileTree, token: usize) -> Result<Place, AllocError>
-    ensures { let f = source_of file.now in
-        IfOk result (λ place. (f.path ≡ place.path) × (offset_of f token ≡ place.offset)) }
-{
-    Ok(Place {
-        path: file.path().clone()?,
-        offset: file.offset(token),
-    })
-}
-
-/// The place at which the token at a position begins.
-pub fn place_of(files: &[FileTree], at: Position) -> Result<Option<Place>, AllocError> {
-    match files.get(at.file) {
-        None => Ok(None),
-        Some(file) => Ok(Some(begin(file, at.index)?)),
-    }
-}
-
-/// The place at which a name of a file begins; none where the token is no name.
-fn name_in(file: &FileTree, token: usize) -> Result<Option<Place>, AllocError>
-    ensures { IfOk result (IsAnyFound (λ (place : At). NameBegins (Some (source_of file.now)) token place.path place.offset)) }
-{
-    if is_name(file, token) {
-        Ok(Some(begin(file, token)?))
-    } else {
-        Ok(None)
-    }
-}
-
-/// The place at which the name at a position begins; none where the token is no name.
-fn name_beginning(files: &[FileTree], at: Position) -> Result<Option<Place>, AllocError>
-    ensures { IfOk result (IsAnyFound (λ (place : At). NameBegins (slice_get (map source_of files.now) at.file) at.index place.path place.offset)) }
-{
-    match files.get(at.file) {
-        None => Ok(None),
-        Some(file) => name_in(file, at.index),
-    }
-}
-
-/// The place at which an identifier begins; none where it stands in no file, and for the literal of an import.
-pub fn beginning(unit: Package<'_>, u: usize) -> Result<Option<Place>, AllocError>
-    requires { u < length unit.table.now.sites }
-    ensures { IfOk result (IsAnyFound (λ (place : At). BeginsAt (package_of unit.entry) place.path place.offset u)) }
-{
-    if unit.table.role(u).is_implied() {
-        Ok(None)
-    } else {
-        name_beginning(unit.files, unit.table.place(u))
     }
 }
 
@@ -132,7 +95,7 @@ pub fn token_beginning(
     at: Position,
 ) -> Result<Option<Place>, AllocError>
     requires { IsIndexOf (package_of unit) index.now }
-    ensures { IfOk result (IsAnyFound (AtToken (package_of unit.entry) at)) }
+    ensures { IfOk result (IsFound (AtToken (package_of unit.entry) at)) }
 {
     match index.identifiers.get(at) {
         None => Ok(None),

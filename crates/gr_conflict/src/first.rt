@@ -1,23 +1,25 @@
 //! The first identifier of a workspace that a change would lose or capture.
-ghost use Rattle.std.specs.Prelude.{◌≡◌, ◌<◌, None, length, map, IfOk, OnOk};
+ghost use Rattle.std.specs.Prelude.{◌≡◌, ◌<◌, None, length, map, IfOk, OnOk, MatchOption};
 ghost use Rattle.gr_text.specs.Packages.{package_paths};
 ghost use Rattle.gr_edit.specs.EditSet.{edited};
 ghost use Rattle.gr_tree.specs.SourceFile.{source_of};
 ghost use Rattle.gr_declared.specs.InterfacesView.{interface_in};
 ghost use Rattle.gr_meanings.specs.PackageOf.{package_in};
+ghost use Rattle.gr_revision.specs.RevisionsOfEdits.{revision_of};
 ghost use Rattle.gr_bound.specs.Workspaces.{IsSound, known_in, IsPackageAt};
+ghost use Rattle.gr_check.specs.Preserved.{IsIdentifierAt};
 ghost use Rattle.gr_scoped.specs.Scopes.{AreAllScopes};
-ghost use Rattle.gr_conflict.specs.Conflicts.{IsConflictIn, IsConflict, IsTold, IsAnyFound, Takes};
-ghost use Rattle.gr_conflict.specs.Judging.{KnowsBefore, KnowsChange, known_packages};
+ghost use Rattle.gr_conflict.specs.Conflicts.{IsConflictIn, IsConflict, IsTold, Takes};
+ghost use Rattle.gr_conflict.specs.Judging.{KnowsBefore, KnowsChange, known_verdicts, change_in};
 
 use crate::conflict::Conflict;
-use crate::declared_places::{DeclaredPlaces, declared_places};
 use crate::first_identifier::first_identifier;
 use crate::judge::Judge;
 use crate::judging::judge_unit;
 use crate::old_places::old_places;
 use gr_bound::exports::exports;
 use gr_bound::{BoundSpot, laid_table, path_of, trees};
+use gr_check::declared_places::{DeclaredPlaces, declared_places};
 use gr_declared::{Interfaces, Package};
 use gr_edit::EditSet;
 use gr_expr::symbol::SharedPath;
@@ -45,7 +47,7 @@ fn judge_by(
     requires in_range { number < length (package_paths judge.now.graph.now) }
     requires knows { KnowsChange judge.now }
     requires is_package { IsPackageAt judge.now.graph.now (known_in judge.now.found.now) number (package_in path.now (map source_of files.now) table.now (interface_in interfaces.now)) }
-    ensures { OnOk result (Takes (IsConflictIn (known_packages judge.now) (package_in path.now (map source_of files.now) table.now (interface_in interfaces.now))) first.old first.new) }
+    ensures { OnOk result (Takes (IsConflictIn judge.now.graph.now (known_verdicts judge.now) (change_in judge.now) (package_in path.now (map source_of files.now) table.now (interface_in interfaces.now))) first.old first.new) }
 {
     let unit = Package {
         path,
@@ -65,7 +67,7 @@ fn judge_package(
 ) -> Result<(), AllocError>
     requires in_range { number < length (package_paths judge.now.graph.now) }
     requires knows { KnowsChange judge.now }
-    ensures { OnOk result (Takes (IsConflict judge.now.graph.now (known_in judge.now.found.now)) first.old first.new) }
+    ensures { OnOk result (Takes (IsConflict judge.now.graph.now (known_verdicts judge.now) (change_in judge.now)) first.old first.new) }
 {
     let files = trees(judge.graph, judge.found, number);
     let seen = seen(alloc, judge.graph, number, &judge.found.interfaces)?;
@@ -77,7 +79,7 @@ fn judge_package(
 /// The first identifier that is lost or captured.
 fn first_judged(alloc: Global, judge: &Judge<'_, '_, '_>) -> Result<Option<Conflict>, AllocError>
     requires { KnowsChange judge.now }
-    ensures { IfOk result (λ first. Takes (IsConflict judge.now.graph.now (known_in judge.now.found.now)) None first) }
+    ensures { IfOk result (λ first. Takes (IsConflict judge.now.graph.now (known_verdicts judge.now) (change_in judge.now)) None first) }
 {
     let mut first = None;
     for number in 0..judge.graph.len() {
@@ -103,7 +105,7 @@ impl Before {
         moves: &Moves<'_>,
     ) -> Result<Before, AllocError>
         requires { IsSound graph.now found.now }
-        ensures { IfOk result (KnowsBefore graph.now found.now) }
+        ensures { IfOk result (KnowsBefore graph.now found.now moves.now) }
     {
         let exports = exports(alloc, graph, found)?;
         let places = declared_places(alloc, graph, found)?;
@@ -129,9 +131,10 @@ fn first_found(
     scoped: &[Option<PackageScopes<'_>>],
 ) -> Result<Option<Conflict>, AllocError>
     requires sound { IsSound graph.now found.now }
-    requires before { KnowsBefore graph.now found.now before.now }
+    requires before { KnowsBefore graph.now found.now moves.now before.now }
+    requires after { after.now ≡ edited moves.now graph.now }
     requires scoped { AreAllScopes after.now scoped.now }
-    ensures { IfOk result (λ first. Takes (IsConflict graph.now (known_in found.now)) None first) }
+    ensures { IfOk result (λ first. Takes (IsConflict graph.now (known_in found.now) (revision_of graph.now moves.now)) None first) }
 {
     let judge = Judge {
         graph,
@@ -157,8 +160,9 @@ fn first_afterwards(
     after: &Graph,
 ) -> Result<Option<Conflict>, AllocError>
     requires sound { IsSound graph.now found.now }
-    requires before { KnowsBefore graph.now found.now before.now }
-    ensures { IfOk result (λ first. Takes (IsConflict graph.now (known_in found.now)) None first) }
+    requires before { KnowsBefore graph.now found.now moves.now before.now }
+    requires after { after.now ≡ edited moves.now graph.now }
+    ensures { IfOk result (λ first. Takes (IsConflict graph.now (known_in found.now) (revision_of graph.now moves.now)) None first) }
 {
     let names = clause_names(alloc, after)?;
     let scoped = scoped_packages(alloc, after, &names)?;
@@ -173,8 +177,9 @@ fn judged_first(
     edits: &EditSet,
     after: &Graph,
 ) -> Result<Option<Conflict>, AllocError>
-    requires { IsSound graph.now found.now }
-    ensures { IfOk result (λ first. Takes (IsConflict graph.now (known_in found.now)) None first) }
+    requires sound { IsSound graph.now found.now }
+    requires after { after.now ≡ edited edits.now graph.now }
+    ensures { IfOk result (λ first. Takes (IsConflict graph.now (known_in found.now) (revision_of graph.now edits.now)) None first) }
 {
     let moves = Moves::of(alloc, edits)?;
     let before = Before::of(alloc, graph, found, &moves)?;
@@ -188,7 +193,7 @@ fn first_lost(
     found: &Findings,
 ) -> Result<Option<Conflict>, AllocError>
     requires { IsSound graph.now found.now }
-    ensures { IfOk result (IsAnyFound (IsTold graph.now (known_in found.now))) }
+    ensures { IfOk result (λ told. MatchOption told (Unit {0}) (λ c. (c.by ≡ None) × IsIdentifierAt graph.now (known_in found.now) c.used)) }
 {
     match first_identifier(alloc, graph, found)? {
         None => Ok(None),
@@ -207,7 +212,7 @@ pub fn first_conflict(
 ) -> Result<Option<Conflict>, AllocError>
     requires sound { IsSound graph.now found.now }
     requires after { after.now ≡ edited edits.now graph.now }
-    ensures { IfOk result (IsAnyFound (IsTold graph.now (known_in found.now))) }
+    ensures { IfOk result (λ told. MatchOption told (Unit {0}) (IsTold graph.now (known_in found.now) (revision_of graph.now edits.now))) }
 {
     match judged_first(alloc, graph, found, edits, after)? {
         Some(conflict) => Ok(Some(conflict)),

@@ -6,11 +6,12 @@ ghost use Rattle.gr_declared.specs.InterfacesView.{interface_in};
 ghost use Rattle.gr_declared.specs.PackageView.{package_of};
 ghost use Rattle.gr_meanings.specs.PackageOf.{package_in};
 ghost use Rattle.gr_bound.specs.Workspaces.{IsSound, known_in};
-ghost use Rattle.gr_conflict.specs.Conflicts.{IsIdentifierIn, IsIdentifierKnown, Takes};
+ghost use Rattle.gr_check.specs.Preserved.{IsIdentifierAt};
+ghost use Rattle.gr_conflict.specs.Conflicts.{BeginsIn, Takes};
 
-use crate::beginning::beginning;
 use crate::noting::compare;
 use gr_bound::{laid_table, path_of, trees};
+use gr_check::beginning;
 use gr_declared::{Interfaces, Package};
 use gr_expr::symbol::SharedPath;
 use gr_graph::Graph;
@@ -41,7 +42,7 @@ fn keep(first: &mut Option<Place>, place: Place)
 /// Keeps the place at which an identifier begins, if it stands before the one that is kept.
 fn keep_beginning(first: &mut Option<Place>, unit: Package<'_>, u: usize) -> Result<(), AllocError>
     requires { u < length unit.table.now.sites }
-    ensures { OnOk result (Takes (IsIdentifierIn (package_of unit.entry)) first.old first.new) }
+    ensures { OnOk result (Takes (BeginsIn (package_of unit.entry)) first.old first.new) }
 {
     match beginning(unit, u)? {
         None => Ok(()),
@@ -54,7 +55,7 @@ fn keep_beginning(first: &mut Option<Place>, unit: Package<'_>, u: usize) -> Res
 
 /// Keeps the first identifier of a package.
 fn keep_first_of(first: &mut Option<Place>, unit: Package<'_>) -> Result<(), AllocError>
-    ensures { OnOk result (Takes (IsIdentifierIn (package_of unit.entry)) first.old first.new) }
+    ensures { OnOk result (Takes (BeginsIn (package_of unit.entry)) first.old first.new) }
 {
     for u in 0..unit.table.len() {
         keep_beginning(first, unit, u)?;
@@ -70,7 +71,7 @@ fn keep_first_by(
     table: &ScopeTable<'_>,
     interfaces: &Interfaces,
 ) -> Result<(), AllocError>
-    ensures { OnOk result (Takes (IsIdentifierIn (package_in path.now (map source_of files.now) table.now (interface_in interfaces.now))) first.old first.new) }
+    ensures { OnOk result (Takes (BeginsIn (package_in path.now (map source_of files.now) table.now (interface_in interfaces.now))) first.old first.new) }
 {
     let unit = Package {
         path,
@@ -91,7 +92,7 @@ fn keep_first_in(
 ) -> Result<(), AllocError>
     requires in_range { number < length (package_paths graph.now) }
     requires sound { IsSound graph.now found.now }
-    ensures { OnOk result (Takes (IsIdentifierKnown graph.now (known_in found.now)) first.old first.new) }
+    ensures { OnOk result (Takes (IsIdentifierAt graph.now (known_in found.now)) first.old first.new) }
 {
     let files = trees(graph, found, number);
     let seen = seen(alloc, graph, number, &found.interfaces)?;
@@ -107,7 +108,7 @@ pub fn first_identifier(
     found: &Findings,
 ) -> Result<Option<Place>, AllocError>
     requires { IsSound graph.now found.now }
-    ensures { IfOk result (λ first. Takes (IsIdentifierKnown graph.now (known_in found.now)) None first) }
+    ensures { IfOk result (λ first. Takes (IsIdentifierAt graph.now (known_in found.now)) None first) }
 {
     let mut first = None;
     for number in 0..graph.len() {

@@ -1,8 +1,8 @@
 //! What is known of a change while identifiers are judged.
 ghost use Rattle.gr_bound.specs.Workspaces.{IsSound};
 
-use crate::declared_places::DeclaredPlaces;
 use gr_bound::BoundSpot;
+use gr_check::declared_places::DeclaredPlaces;
 use gr_graph::Graph;
 use gr_members_after::{NewMembers, TypesAfter};
 use gr_revision::Moves;

@@ -1,15 +1,18 @@
 //! The identifiers of one package, each judged alone by the way in which it was bound.
-ghost use Rattle.std.specs.Prelude.{◌<◌, length, map, OnOk};
+ghost use Rattle.std.specs.Prelude.{◌≡◌, ◌<◌, ⊤, None, length, map, OnOk};
 ghost use Rattle.gr_text.specs.Packages.{package_paths};
 ghost use Rattle.gr_expr.specs.Found.{use_of};
 ghost use Rattle.gr_declared.specs.PackageView.{package_of, IsIndexOf};
+ghost use Rattle.gr_revision.specs.RevisionsOfEdits.{called_by};
 ghost use Rattle.gr_bound.specs.Binding.{BindsByScope, BindsByPackage, IsBehindPackage};
 ghost use Rattle.gr_bound.specs.Members.{definitions_seen};
 ghost use Rattle.gr_bound.specs.Workspaces.{known_in, IsPackageAt};
-ghost use Rattle.gr_conflict.specs.Conflicts.{IsConflictIn, IsOf, IsAtToken, IsAtFound, IsMemberConflict, IsMemberConflictAmong, Takes};
-ghost use Rattle.gr_conflict.specs.Judging.{KnowsChange, known_packages};
+ghost use Rattle.gr_conflict.specs.Afterwards.{IsBoundByScopes};
+ghost use Rattle.gr_conflict.specs.Conflicts.{IsKept, IsConflictIn, IsNoted, IsNotedAt, IsLostAt, IsLostAtFound, IsMemberConflict, IsMemberConflictAmong, Takes};
+ghost use Rattle.gr_conflict.specs.Judging.{KnowsChange, known_verdicts, known_packages, change_in};
+ghost use Rattle.gr_conflict.specs.Now.{ExportsWhereGone};
 
-use crate::beginning::{beginning, token_beginning};
+use crate::beginning::token_beginning;
 use crate::conflict::Conflict;
 use crate::judge::Judge;
 use crate::noting::note;
@@ -20,6 +23,7 @@ use gr_bound::{
     Declaration, declaration_in_scope, field_places, member_declaration, members_of, method_places,
     own_of, package_before,
 };
+use gr_check::beginning;
 use gr_declared::{Index, Package};
 use gr_expr::found::MemberUse;
 use gr_expr::world::Definition;
@@ -36,7 +40,7 @@ fn note_by_scope(
     old: &Declaration,
 ) -> Result<(), AllocError>
     requires { KnowsChange judge.now }
-    ensures { OnOk result (Takes (IsOf place) first.old first.new) }
+    ensures { OnOk result (Takes (IsNoted (known_packages judge.now) (IsBoundByScopes judge.now.graph.now (known_verdicts judge.now) (change_in judge.now) place) place old.now) first.old first.new) }
 {
     let now = now_by_scope(judge, &place)?;
     note(judge, first, place, old, now)
@@ -53,7 +57,7 @@ fn judge_bound(
     requires knows { KnowsChange judge.now }
     requires in_range { u < length unit.table.now.sites }
     requires was { BindsByScope (package_of unit) u old.now }
-    ensures { OnOk result (Takes (IsConflictIn (known_packages judge.now) (package_of unit.entry)) first.old first.new) }
+    ensures { OnOk result (Takes (IsConflictIn judge.now.graph.now (known_verdicts judge.now) (change_in judge.now) (package_of unit.entry)) first.old first.new) }
 {
     match beginning(unit, u)? {
         None => Ok(()),
@@ -70,7 +74,7 @@ fn judge_by_scope(
 ) -> Result<(), AllocError>
     requires knows { KnowsChange judge.now }
     requires in_range { u < length unit.table.now.sites }
-    ensures { OnOk result (Takes (IsConflictIn (known_packages judge.now) (package_of unit.entry)) first.old first.new) }
+    ensures { OnOk result (Takes (IsConflictIn judge.now.graph.now (known_verdicts judge.now) (change_in judge.now) (package_of unit.entry)) first.old first.new) }
 {
     match declaration_in_scope(unit, u)? {
         None => Ok(()),
@@ -88,7 +92,7 @@ fn note_by_package(
     old: &Declaration,
 ) -> Result<(), AllocError>
     requires { KnowsChange judge.now }
-    ensures { OnOk result (Takes (IsOf place) first.old first.new) }
+    ensures { OnOk result (Takes (IsNoted (known_packages judge.now) (ExportsWhereGone judge.now.graph.now (known_verdicts judge.now) (change_in judge.now) behind.now (called_by judge.now.moves.now place name.now)) place old.now) first.old first.new) }
 {
     let now = now_by_package(judge, behind, &place, name)?;
     note(judge, first, place, old, now)
@@ -105,8 +109,9 @@ fn judge_exported(
 ) -> Result<(), AllocError>
     requires knows { KnowsChange judge.now }
     requires in_range { u < length unit.table.now.sites }
+    requires behind { IsBehindPackage (package_of unit) u behind.now }
     requires was { BindsByPackage (known_packages judge.now) (package_of unit) u old.now }
-    ensures { OnOk result (Takes (IsConflictIn (known_packages judge.now) (package_of unit.entry)) first.old first.new) }
+    ensures { OnOk result (Takes (IsConflictIn judge.now.graph.now (known_verdicts judge.now) (change_in judge.now) (package_of unit.entry)) first.old first.new) }
 {
     match beginning(unit, u)? {
         None => Ok(()),
@@ -125,7 +130,7 @@ fn judge_behind(
     requires knows { KnowsChange judge.now }
     requires in_range { u < length unit.table.now.sites }
     requires behind { IsBehindPackage (package_of unit) u behind.now }
-    ensures { OnOk result (Takes (IsConflictIn (known_packages judge.now) (package_of unit.entry)) first.old first.new) }
+    ensures { OnOk result (Takes (IsConflictIn judge.now.graph.now (known_verdicts judge.now) (change_in judge.now) (package_of unit.entry)) first.old first.new) }
 {
     let name = unit.table.name(u);
     match exported(judge.graph, judge.found, judge.exports, behind, name)? {
@@ -145,7 +150,7 @@ fn judge_by_package(
     requires knows { KnowsChange judge.now }
     requires index { IsIndexOf (package_of unit) index.now }
     requires in_range { u < length unit.table.now.sites }
-    ensures { OnOk result (Takes (IsConflictIn (known_packages judge.now) (package_of unit.entry)) first.old first.new) }
+    ensures { OnOk result (Takes (IsConflictIn judge.now.graph.now (known_verdicts judge.now) (change_in judge.now) (package_of unit.entry)) first.old first.new) }
 {
     match package_before(unit, index, u) {
         None => Ok(()),
@@ -162,7 +167,7 @@ fn judge_numbers(
 ) -> Result<(), AllocError>
     requires knows { KnowsChange judge.now }
     requires index { IsIndexOf (package_of unit) index.now }
-    ensures { OnOk result (Takes (IsConflictIn (known_packages judge.now) (package_of unit.entry)) first.old first.new) }
+    ensures { OnOk result (Takes (IsConflictIn judge.now.graph.now (known_verdicts judge.now) (change_in judge.now) (package_of unit.entry)) first.old first.new) }
 {
     for u in 0..unit.table.len() {
         judge_by_scope(first, judge, unit, u)?;
@@ -183,7 +188,7 @@ fn note_by_member(
     old: &Declaration,
 ) -> Result<(), AllocError>
     requires { KnowsChange judge.now }
-    ensures { OnOk result (Takes (IsOf place) first.old first.new) }
+    ensures { OnOk result (Takes (IsNoted (known_packages judge.now) (λ d. ⊤) place old.now) first.old first.new) }
 {
     let name = unit.spelling(at.file, at.index);
     let now = now_by_member(judge, unit, own, found, &place, name)?;
@@ -203,7 +208,7 @@ fn judge_token(
 ) -> Result<(), AllocError>
     requires knows { KnowsChange judge.now }
     requires index { IsIndexOf (package_of unit) index.now }
-    ensures { OnOk result (Takes (IsAtToken (package_of unit.entry) at) first.old first.new) }
+    ensures { OnOk result (Takes (IsNotedAt (known_packages judge.now) (λ d. ⊤) (package_of unit.entry) at old.now) first.old first.new) }
 {
     match token_beginning(unit, index, at)? {
         None => Ok(()),
@@ -223,7 +228,7 @@ fn judge_by_member(
 ) -> Result<(), AllocError>
     requires knows { KnowsChange judge.now }
     requires index { IsIndexOf (package_of unit) index.now }
-    ensures { OnOk result (Takes (IsMemberConflict (definitions_seen unit.entry own.now) (package_of unit.entry) file (use_of found.now)) first.old first.new) }
+    ensures { OnOk result (Takes (IsMemberConflict (known_packages judge.now) (definitions_seen unit.entry own.now) (package_of unit.entry) file (use_of found.now)) first.old first.new) }
 {
     match member_declaration(unit, own, file, found)? {
         None => Ok(()),
@@ -249,7 +254,7 @@ fn judge_file(
 ) -> Result<(), AllocError>
     requires knows { KnowsChange judge.now }
     requires index { IsIndexOf (package_of unit) index.now }
-    ensures { OnOk result (Takes (IsMemberConflictAmong (definitions_seen unit.entry own.now) (package_of unit.entry) file (map use_of uses.now)) first.old first.new) }
+    ensures { OnOk result (Takes (IsMemberConflictAmong (known_packages judge.now) (definitions_seen unit.entry own.now) (package_of unit.entry) file (map use_of uses.now)) first.old first.new) }
 {
     for k in 0..uses.len() {
         judge_by_member(first, judge, unit, index, own, file, &uses[k])?;
@@ -269,7 +274,7 @@ fn judge_members(
     requires knows { KnowsChange judge.now }
     requires index { IsIndexOf (package_of unit) index.now }
     requires is_package { IsPackageAt judge.now.graph.now (known_in judge.now.found.now) number (package_of unit) }
-    ensures { OnOk result (Takes (IsConflictIn (known_packages judge.now) (package_of unit.entry)) first.old first.new) }
+    ensures { OnOk result (Takes (IsConflictIn judge.now.graph.now (known_verdicts judge.now) (change_in judge.now) (package_of unit.entry)) first.old first.new) }
 {
     unit.table.is_well_formed();
     one_world(unit);
@@ -289,7 +294,7 @@ fn note_by_name(
     old: &Declaration,
 ) -> Result<(), AllocError>
     requires { KnowsChange judge.now }
-    ensures { OnOk result (Takes (IsOf place) first.old first.new) }
+    ensures { OnOk result (Takes (IsKept place None) first.old first.new) }
 {
     let now = now_by_name(judge, old)?;
     note(judge, first, place, old, now)
@@ -306,7 +311,7 @@ fn judge_by_name(
 ) -> Result<(), AllocError>
     requires knows { KnowsChange judge.now }
     requires index { IsIndexOf (package_of unit) index.now }
-    ensures { OnOk result (Takes (IsAtToken (package_of unit.entry) at) first.old first.new) }
+    ensures { OnOk result (Takes (IsLostAt (package_of unit.entry) at) first.old first.new) }
 {
     match token_beginning(unit, index, at)? {
         None => Ok(()),
@@ -325,7 +330,7 @@ fn judge_field(
 ) -> Result<(), AllocError>
     requires knows { KnowsChange judge.now }
     requires index { IsIndexOf (package_of unit) index.now }
-    ensures { OnOk result (Takes (IsAtToken (package_of unit.entry) at) first.old first.new) }
+    ensures { OnOk result (Takes (IsLostAt (package_of unit.entry) at) first.old first.new) }
 {
     let symbol = symbol(unit.path, rank)?;
     let old = Declaration::Field(symbol);
@@ -343,7 +348,7 @@ fn judge_counting_field(
 ) -> Result<(), AllocError>
     requires knows { KnowsChange judge.now }
     requires index { IsIndexOf (package_of unit) index.now }
-    ensures { OnOk result (Takes (IsAtFound (package_of unit.entry) at) first.old first.new) }
+    ensures { OnOk result (Takes (IsLostAtFound (package_of unit.entry) at) first.old first.new) }
 {
     match at {
         None => Ok(()),
@@ -361,7 +366,7 @@ fn judge_fields(
 ) -> Result<(), AllocError>
     requires knows { KnowsChange judge.now }
     requires index { IsIndexOf (package_of unit) index.now }
-    ensures { OnOk result (Takes (IsConflictIn (known_packages judge.now) (package_of unit.entry)) first.old first.new) }
+    ensures { OnOk result (Takes (IsConflictIn judge.now.graph.now (known_verdicts judge.now) (change_in judge.now) (package_of unit.entry)) first.old first.new) }
 {
     let fields = field_places(alloc, unit, index)?;
     for rank in 0..fields.len() {
@@ -381,7 +386,7 @@ fn judge_method(
 ) -> Result<(), AllocError>
     requires knows { KnowsChange judge.now }
     requires index { IsIndexOf (package_of unit) index.now }
-    ensures { OnOk result (Takes (IsAtToken (package_of unit.entry) at) first.old first.new) }
+    ensures { OnOk result (Takes (IsLostAt (package_of unit.entry) at) first.old first.new) }
 {
     let symbol = symbol(unit.path, rank)?;
     let old = Declaration::Method(symbol);
@@ -399,7 +404,7 @@ fn judge_counting_method(
 ) -> Result<(), AllocError>
     requires knows { KnowsChange judge.now }
     requires index { IsIndexOf (package_of unit) index.now }
-    ensures { OnOk result (Takes (IsAtFound (package_of unit.entry) at) first.old first.new) }
+    ensures { OnOk result (Takes (IsLostAtFound (package_of unit.entry) at) first.old first.new) }
 {
     match at {
         None => Ok(()),
@@ -417,7 +422,7 @@ fn judge_methods(
 ) -> Result<(), AllocError>
     requires knows { KnowsChange judge.now }
     requires index { IsIndexOf (package_of unit) index.now }
-    ensures { OnOk result (Takes (IsConflictIn (known_packages judge.now) (package_of unit.entry)) first.old first.new) }
+    ensures { OnOk result (Takes (IsConflictIn judge.now.graph.now (known_verdicts judge.now) (change_in judge.now) (package_of unit.entry)) first.old first.new) }
 {
     let methods = method_places(alloc, unit, index)?;
     for rank in 0..methods.len() {
@@ -436,7 +441,7 @@ fn judge_names(
 ) -> Result<(), AllocError>
     requires knows { KnowsChange judge.now }
     requires index { IsIndexOf (package_of unit) index.now }
-    ensures { OnOk result (Takes (IsConflictIn (known_packages judge.now) (package_of unit.entry)) first.old first.new) }
+    ensures { OnOk result (Takes (IsConflictIn judge.now.graph.now (known_verdicts judge.now) (change_in judge.now) (package_of unit.entry)) first.old first.new) }
 {
     judge_fields(alloc, first, judge, unit, index)?;
     judge_methods(alloc, first, judge, unit, index)
@@ -453,7 +458,7 @@ pub fn judge_unit(
     requires in_range { number < length (package_paths judge.now.graph.now) }
     requires knows { KnowsChange judge.now }
     requires is_package { IsPackageAt judge.now.graph.now (known_in judge.now.found.now) number (package_of unit) }
-    ensures { OnOk result (Takes (IsConflictIn (known_packages judge.now) (package_of unit.entry)) first.old first.new) }
+    ensures { OnOk result (Takes (IsConflictIn judge.now.graph.now (known_verdicts judge.now) (change_in judge.now) (package_of unit.entry)) first.old first.new) }
 {
     let index = Index::of(alloc, unit)?;
     judge_numbers(first, judge, unit, &index)?;

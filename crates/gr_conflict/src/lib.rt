@@ -3,7 +3,6 @@
 
 mod beginning;
 mod conflict;
-mod declared_places;
 mod first;
 mod first_identifier;
 mod judge;

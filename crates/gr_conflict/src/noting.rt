@@ -1,13 +1,14 @@
 //! The first identifier that is lost or captured of those that were judged.
-ghost use Rattle.std.specs.Prelude.{◌≡◌, ◌↔◌, IsTrue, OnOk};
+ghost use Rattle.std.specs.Prelude.{◌≡◌, ◌↔◌, Some, IsTrue, IfOk, OnOk};
 ghost use Rattle.gr_bound.specs.declared.declaration.Declaration.TheVariants.{Predeclared, Declared, Field, Method};
 ghost use Rattle.gr_bound.specs.Places.{place_cmp};
-ghost use Rattle.gr_conflict.specs.Conflicts.{IsOf, Takes};
+ghost use Rattle.gr_conflict.specs.Conflicts.{IsKept, IsCapturer, IsNoted, Takes};
+ghost use Rattle.gr_conflict.specs.Judging.{KnowsChange, known_packages};
 
 use crate::conflict::{Capturer, Conflict};
-use crate::declared_places::declared_at;
 use crate::judge::Judge;
 use gr_bound::Declaration;
+use gr_check::declared_places::declared_at;
 use gr_expr::symbol::{SharedPath, Symbol};
 use gr_text::Place;
 use std::alloc::AllocError;
@@ -83,7 +84,7 @@ fn is_before(place: &Place, first: &Option<Conflict>) -> bool {
 
 /// Keeps a conflict, if it stands before the one that was found first.
 fn keep(first: &mut Option<Conflict>, used: Place, by: Option<Capturer>)
-    ensures { Takes (IsOf used) first.old first.new }
+    ensures { Takes (IsKept used by) first.old first.new }
 {
     if !is_before(&used, first) {
         return;
@@ -92,7 +93,10 @@ fn keep(first: &mut Option<Conflict>, used: Place, by: Option<Capturer>)
 }
 
 /// What is told of a declaration that captures.
-fn capturer(judge: &Judge<'_, '_, '_>, declaration: &Declaration) -> Result<Capturer, AllocError> {
+fn capturer(judge: &Judge<'_, '_, '_>, declaration: &Declaration) -> Result<Capturer, AllocError>
+    requires { KnowsChange judge.now }
+    ensures { IfOk result (IsCapturer (known_packages judge.now) declaration.now) }
+{
     match declared_at(judge.graph, judge.places, declaration) {
         None => Ok(Capturer::Universe),
         Some(place) => Ok(Capturer::At(Place {
@@ -111,7 +115,8 @@ fn note_bound(
     old: &Declaration,
     now: &Declaration,
 ) -> Result<(), AllocError>
-    ensures { OnOk result (Takes (IsOf used) first.old first.new) }
+    requires { KnowsChange judge.now }
+    ensures { OnOk result (Takes (IsNoted (known_packages judge.now) (λ d. d ≡ now.now) used old.now) first.old first.new) }
 {
     if is_same(old, now) {
         return Ok(());
@@ -130,7 +135,8 @@ pub fn note(
     old: &Declaration,
     now: Option<Declaration>,
 ) -> Result<(), AllocError>
-    ensures { OnOk result (Takes (IsOf used) first.old first.new) }
+    requires { KnowsChange judge.now }
+    ensures { OnOk result (Takes (IsNoted (known_packages judge.now) (λ d. now ≡ Some d) used old.now) first.old first.new) }
 {
     match now {
         None => {

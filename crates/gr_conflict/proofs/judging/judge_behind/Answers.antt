@@ -13,4 +13,5 @@ judge_exported-requires-clause-was c =
     let p = package_of c.args.unit in
     let path = c.args.behind.now in
     let found = subst (λ n. IsDeclarationFound (ExportsAs w known path n) c.in_ok-exported.field-0) c.name-name.ensures c.in_ok-exported.ensures in
-    exported_binds w known p c.args.u path c.requires.behind c.in-Some.old (subst (IsDeclarationFound (ExportsAs w known path (p.names c.args.u))) c.in-Some.is found)
+    exported_binds w known p c.args.u path c.requires.behind c.in-Some.old
+    (subst (IsDeclarationFound (ExportsAs w known path (p.names c.args.u))) c.in-Some.is found)
