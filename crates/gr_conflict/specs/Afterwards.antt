@@ -1,6 +1,5 @@
--- What each identifier is bound to after a change, judged alone. It is told by the declaration of the workspace before that this
--- corresponds to.
-use Rattle.std.specs.Prelude.{ℕ, ◌≡◌, ◌<◌, List}
+-- What each identifier is bound to after a change, judged alone, as the scopes of the workspace afterwards see it.
+use Rattle.std.specs.Prelude.{ℕ, ◌≡◌, List}
 use Rattle.gr_text.specs.Workspace.{Workspace}
 use Rattle.gr_text.specs.declared.place.Place.{Place}
 use Rattle.gr_declared.specs.Package.{Package}
@@ -19,24 +18,30 @@ use Rattle.gr_check.specs.Corresponding.{Corresponds}
 abbrev pub HasBecome : Workspace → Verdicts → Revision → Declaration → Declaration → Type 0
 HasBecome w before r c e = Corresponds (IsPackage w before) (IsScopedIn r.after) r.moved c e
 
--- an identifier that scopes bind: the scopes afterwards bind what stands where it has gone
-pub record IsBoundByScopes (w : Workspace) (before : Verdicts) (r : Revision) (place : Place) (c : Declaration) : Type 0 where
+-- the scopes of a workspace bind to e what begins at the place
+pub record IsScopeUse (w : Workspace) (e : Declaration) (place : Place) : Type 0 where
   pub used_in : Package
-  pub is_package : IsScopedIn r.after used_in
+  pub is_package : IsScopedIn w used_in
   pub user : ℕ
-  pub begins : BeginsAt used_in (r.moved place).path (r.moved place).offset user
-  pub declaration : Declaration
-  pub bound : BindsByScope used_in user declaration
-  pub become : HasBecome w before r c declaration
+  pub begins : BeginsAt used_in place.path place.offset user
+  pub bound : BindsByScope used_in user e
 
--- a name behind a package's: the package of the import that it has stood behind, where that has gone, exports its new name
-pub record IsBoundByPackage (w : Workspace) (before : Verdicts) (r : Revision) (place : Place) (p : Package) (u : ℕ) (c : Declaration) : Type 0 where
-  pub path : List ℕ
-  pub behind : IsBehindPackage p u path
+-- an identifier that scopes bind: what stands where it has gone is bound to e
+abbrev pub IsBoundByScopes : Revision → Place → Declaration → Type 0
+IsBoundByScopes r place e = IsScopeUse r.after e (r.moved place)
+
+-- where the package of a path has gone, a package exports e under a name
+pub record IsExportAfter (w : Workspace) (r : Revision) (path name : List ℕ) (e : Declaration) : Type 0 where
   pub other : Package
   pub is_package : IsScopedIn r.after other
   pub goes : GoesTo w r path other.path
   pub declaration : ℕ
   pub seen : IsSeen other declaration
-  pub named : other.names declaration ≡ r.called place (p.names u)
-  pub become : HasBecome w before r c (Declared other.path declaration)
+  pub named : other.names declaration ≡ name
+  pub exported : e ≡ Declared other.path declaration
+
+-- a name behind a package's: the package of the import that it has stood behind, where that has gone, exports e under its new name
+pub record IsBoundByPackage (w : Workspace) (r : Revision) (place : Place) (p : Package) (u : ℕ) (e : Declaration) : Type 0 where
+  pub path : List ℕ
+  pub behind : IsBehindPackage p u path
+  pub exports : IsExportAfter w r path (r.called place (p.names u)) e

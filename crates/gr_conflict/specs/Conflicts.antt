@@ -1,5 +1,5 @@
 -- Identifiers that a change loses or captures, and what is told of them. Known: the packages of the workspace before.
-use Rattle.std.specs.Prelude.{ℕ, ◌≡◌, ◌⊎◌, ⊤, List, Option, Some, None}
+use Rattle.std.specs.Prelude.{ℕ, ◌≡◌, ◌⊎◌, ⊤, List, Option, Some, None, MatchOption}
 use Rattle.gr_text.specs.Workspace.{Workspace}
 use Rattle.gr_text.specs.declared.place.Place.{Place}
 use Rattle.gr_scope.specs.declared.model.Position.{Position}
@@ -17,7 +17,8 @@ use Rattle.gr_bound.specs.Uses.{IsPackage}
 use Rattle.gr_revision.specs.Revisions.{Revision}
 use Rattle.gr_standing.specs.Standing.{IsDeclaredAt}
 use Rattle.gr_check.specs.Preserved.{IsIdentifierAt}
-use Rattle.gr_conflict.specs.Afterwards.{IsBoundByScopes, IsBoundByPackage}
+use Rattle.gr_conflict.specs.Afterwards.{HasBecome, IsBoundByScopes, IsBoundByPackage}
+use Rattle.gr_conflict.specs.Firsts.{IsNotBefore}
 use Rattle.gr_conflict.specs.declared.conflict.Capturer.{Capturer}
 use Rattle.gr_conflict.specs.declared.conflict.Capturer.TheVariants.{Universe, At}
 use Rattle.gr_conflict.specs.declared.conflict.Conflict.{Conflict}
@@ -27,24 +28,30 @@ abbrev pub IsCapturer : (Package → Type 0) → Declaration → Capturer → Ty
 IsCapturer Known d Universe = (place : Place) → IsDeclaredAt Known d place → ⊥
 IsCapturer Known d (At place) = IsDeclaredAt Known d place
 
--- another declaration than the old one captures, of which K tells
-pub record IsCapturedFrom (Known : Package → Type 0) (K : Declaration → Type 0) (old : Declaration) (by : Capturer) : Type 0 where
+-- What is told of an identifier that was bound to old, and is bound afterwards to that of which E tells. It is lost where that is
+-- none, or none that a declaration from before has become by all that is known; what captures it has become what it is bound to,
+-- and old has not.
+pub data TellsOf (Becomes : Declaration → Declaration → Type 0) (Known : Package → Type 0) (E : Declaration → Type 0) (old : Declaration) : Option Capturer → Type 0 where
+  unbound : ((e : Declaration) → E e → ⊥) → TellsOf Becomes Known E old None
+  elsewhere : (e : Declaration) → E e → (Becomes old e → ⊥) → TellsOf Becomes Known E old None
+  captured : {by : Capturer} (e c : Declaration) → E e → (Becomes old e → ⊥) → Becomes c e → IsCapturer Known c by → TellsOf Becomes Known E old (Some by)
+
+-- the same of what is bound to a field or method: another declaration captures
+pub record IsOther (Known : Package → Type 0) (old : Declaration) (by : Capturer) : Type 0 where
   pub declaration : Declaration
-  pub now : K declaration
   pub other : old ≡ declaration → ⊥
   pub told : IsCapturer Known declaration by
 
--- of what is lost no capturer is told
-abbrev pub TellsOf : (Package → Type 0) → (Declaration → Type 0) → Declaration → Option Capturer → Type 0
-TellsOf Known K old None = ⊤
-TellsOf Known K old (Some by) = IsCapturedFrom Known K old by
+abbrev pub TellsOther : (Package → Type 0) → Declaration → Option Capturer → Type 0
+TellsOther Known old None = ⊤
+TellsOther Known old (Some by) = IsOther Known old by
 
--- An identifier of the package was bound to a declaration in some way, and in this way it is now bound to what captures it. Of
--- what is used as a member only that it was bound is told. The name by which a member is declared is never captured.
+-- An identifier of the package was bound to a declaration in some way, and in this way it is afterwards bound to none, or to
+-- another. Of what is used as a member only that it was bound is told. The name by which a member is declared is never captured.
 pub data IsTurned (w : Workspace) (known : Verdicts) (r : Revision) (p : Package) (u : ℕ) (c : Conflict) : Type 0 where
-  by_scope : (old : Declaration) → BindsByScope p u old → TellsOf (IsPackage w known) (IsBoundByScopes w known r c.used) old c.by → IsTurned w known r p u c
-  by_package : (old : Declaration) → BindsByPackage (IsPackage w known) p u old → TellsOf (IsPackage w known) (IsBoundByPackage w known r c.used p u) old c.by → IsTurned w known r p u c
-  by_member : (old : Declaration) → BindsByMember p u old → TellsOf (IsPackage w known) (λ d. ⊤) old c.by → IsTurned w known r p u c
+  by_scope : (old : Declaration) → BindsByScope p u old → TellsOf (HasBecome w known r) (IsPackage w known) (IsBoundByScopes r c.used) old c.by → IsTurned w known r p u c
+  by_package : (old : Declaration) → BindsByPackage (IsPackage w known) p u old → TellsOf (HasBecome w known r) (IsPackage w known) (IsBoundByPackage w r c.used p u) old c.by → IsTurned w known r p u c
+  by_member : (old : Declaration) → BindsByMember p u old → TellsOther (IsPackage w known) old c.by → IsTurned w known r p u c
   by_name : (old : Declaration) → BindsByName p u old → c.by ≡ None → IsTurned w known r p u c
 
 pub record IsConflictIn (w : Workspace) (known : Verdicts) (r : Revision) (p : Package) (c : Conflict) : Type 0 where
@@ -58,11 +65,29 @@ pub record IsConflict (w : Workspace) (known : Verdicts) (r : Revision) (c : Con
   pub is_package : IsPackage w known used_in
   pub conflict : IsConflictIn w known r used_in c
 
--- What is told of a change: an identifier that was bound, and another declaration that captures it, or none; or else the place of
--- some identifier, and nothing that captures it.
+-- no conflict was found, and the identifier is the first of the workspace
+pub record IsFirstOfAll (w : Workspace) (known : Verdicts) (c : Conflict) : Type 0 where
+  pub lost : c.by ≡ None
+  pub is_identifier : IsIdentifierAt w known c.used
+  pub first : (place : Place) → IsIdentifierAt w known place → IsNotBefore place c.used
+
+-- What is told of a change: an identifier that is afterwards bound to none, or to another declaration, which captures it; or else the
+-- first identifier of all, and nothing that captures it.
 pub data IsTold (w : Workspace) (known : Verdicts) (r : Revision) (c : Conflict) : Type 0 where
   a_conflict : IsConflict w known r c → IsTold w known r c
-  an_identifier : c.by ≡ None → IsIdentifierAt w known c.used → IsTold w known r c
+  an_identifier : IsFirstOfAll w known c → IsTold w known r c
+
+-- no identifier is there
+abbrev pub HasNone : Workspace → Verdicts → Type 0
+HasNone w known = (place : Place) → IsIdentifierAt w known place → ⊥
+
+-- the first identifier of all; none where there is none
+abbrev pub IsToldFirst : Workspace → Verdicts → Option Conflict → Type 0
+IsToldFirst w known told = MatchOption told (HasNone w known) (IsFirstOfAll w known)
+
+-- what is told of a change; nothing where no identifier is there
+abbrev pub TellsFirst : Workspace → Verdicts → Revision → Option Conflict → Type 0
+TellsFirst w known r told = MatchOption told (HasNone w known) (IsTold w known r)
 
 -- what is kept is what was, or a conflict of which P holds
 abbrev pub Takes : {X : Type 0} → (X → Type 0) → Option X → Option X → Type 0
@@ -72,29 +97,29 @@ Takes {X} P old new = (new ≡ old) ⊎ ((x : X) × ((new ≡ Some x) × P x))
 abbrev pub IsKept : Place → Option Capturer → Conflict → Type 0
 IsKept used by c = (c.used ≡ used) × (c.by ≡ by)
 
--- an identifier of the package begins there
-abbrev pub BeginsIn : Package → Place → Type 0
-BeginsIn p place = (u : ℕ) × BeginsAt p place.path place.offset u
+-- a conflict of what begins at a place, was bound to a declaration and is afterwards bound to that of which E tells
+abbrev pub IsNoted : (Becomes : Declaration → Declaration → Type 0) → (Package → Type 0) → (Declaration → Type 0) → Place → Declaration → Conflict → Type 0
+IsNoted Becomes Known E used old c = (c.used ≡ used) × TellsOf Becomes Known E old c.by
 
--- a conflict of what begins at a place, was bound to a declaration and is now bound to one of which K tells
-abbrev pub IsNoted : (Package → Type 0) → (Declaration → Type 0) → Place → Declaration → Conflict → Type 0
-IsNoted Known K used old c = (c.used ≡ used) × TellsOf Known K old c.by
+-- a conflict of what begins at a place, and was bound to a field or method
+abbrev pub IsOtherNoted : (Package → Type 0) → Place → Declaration → Conflict → Type 0
+IsOtherNoted Known used old c = (c.used ≡ used) × TellsOther Known old c.by
 
 -- the same of what stands at a token
-abbrev pub IsNotedAt : (Package → Type 0) → (Declaration → Type 0) → Package → Position → Declaration → Conflict → Type 0
-IsNotedAt Known K p at old c = AtToken p at c.used × TellsOf Known K old c.by
+abbrev pub IsOtherAt : (Package → Type 0) → Package → Position → Declaration → Conflict → Type 0
+IsOtherAt Known p at old c = AtToken p at c.used × TellsOther Known old c.by
 
 -- a conflict of what is used as a member, by the definitions that the package sees
 pub record IsMemberConflict (Known : Package → Type 0) (definitions : Symbol → Definition) (p : Package) (file : ℕ) (found : MemberUse) (c : Conflict) : Type 0 where
   pub old : Declaration
   pub is_use : IsMemberUseOf definitions p file old found c.used
-  pub tells : TellsOf Known (λ d. ⊤) old c.by
+  pub tells : TellsOther Known old c.by
 
 -- the same of some member use of a file
 pub record IsMemberConflictAmong (Known : Package → Type 0) (definitions : Symbol → Definition) (p : Package) (file : ℕ) (uses : List MemberUse) (c : Conflict) : Type 0 where
   pub old : Declaration
   pub is_use : IsMemberUseAmong definitions p file old uses c.used
-  pub tells : TellsOf Known (λ d. ⊤) old c.by
+  pub tells : TellsOther Known old c.by
 
 -- the name of a member is lost that stands at a token, or at one that was found
 abbrev pub IsLostAt : Package → Position → Conflict → Type 0

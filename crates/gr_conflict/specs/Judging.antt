@@ -5,41 +5,60 @@ use Rattle.gr_edit.specs.EditSet.{FileChanges, edited}
 use Rattle.gr_edit.specs.Moved.{moved}
 use Rattle.gr_declared.specs.Package.{Package}
 use Rattle.gr_verdict.specs.Verdicts.{Verdicts}
-use Rattle.gr_verdict.specs.declared.findings.Findings.{Findings}
 use Rattle.gr_revision.specs.Revisions.{Revision}
 use Rattle.gr_revision.specs.RevisionsOfEdits.{revision_of}
+use Rattle.gr_bound.specs.declared.declaration.Declaration.{Declaration}
+use Rattle.gr_bound.specs.declared.packages.Packages.{Packages}
 use Rattle.gr_bound.specs.Exports.{AreExports}
+use Rattle.gr_bound.specs.Packages.{ArePackages}
 use Rattle.gr_bound.specs.Uses.{IsPackage}
-use Rattle.gr_bound.specs.Workspaces.{IsSound, known_in}
+use Rattle.gr_bound.specs.Workspaces.{known_in}
 use Rattle.gr_check.specs.DeclaredPlaces.{AreDeclared}
 use Rattle.gr_scoped.specs.Scopes.{AreAllScopes}
+use Rattle.gr_conflict.specs.Afterwards.{HasBecome}
+use Rattle.gr_conflict.specs.Now.{AreScopeBindings}
 use Rattle.gr_conflict.specs.OldPlaces.{AreOldPlaces}
 use Rattle.gr_conflict.specs.declared.first.Before.{Before}
 use Rattle.gr_conflict.specs.declared.judge.Judge.{Judge}
 
+-- the workspace of packages, and what is known of them
+abbrev pub workspace_of : Packages → Workspace
+workspace_of p = p.graph.now
+
+abbrev pub verdicts_of : Packages → Verdicts
+verdicts_of p = known_in p.found.now
+
 -- what is found before a change
-pub record KnowsBefore (w : Workspace) (found : Findings) (s : FileChanges) (b : Before) : Type 0 where
-  pub exports : AreExports w (known_in found) b.exports.items
-  pub places : AreDeclared w (known_in found) b.places.items
-  pub old : AreOldPlaces (IsPackage w (known_in found)) (moved s) b.old.items
+pub record KnowsBefore (p : Packages) (s : FileChanges) (b : Before) : Type 0 where
+  pub exports : AreExports (workspace_of p) (verdicts_of p) b.exports.items
+  pub places : AreDeclared (workspace_of p) (verdicts_of p) b.places.items
+  pub old : AreOldPlaces (IsPackage (workspace_of p) (verdicts_of p)) (moved s) b.old.items
 
 -- the same, and what is found afterwards
 pub record KnowsChange (j : Judge) : Type 0 where
-  pub sound : IsSound j.graph.now j.found.now
-  pub exports : AreExports j.graph.now (known_in j.found.now) j.exports.now
-  pub places : AreDeclared j.graph.now (known_in j.found.now) j.places.now
-  pub old : AreOldPlaces (IsPackage j.graph.now (known_in j.found.now)) (moved j.moves.now) j.old.now
-  pub after : j.after.now ≡ edited j.moves.now j.graph.now
+  pub read : ArePackages j.packages.now
+  pub exports : AreExports (workspace_of j.packages.now) (verdicts_of j.packages.now) j.exports.now
+  pub places : AreDeclared (workspace_of j.packages.now) (verdicts_of j.packages.now) j.places.now
+  pub old : AreOldPlaces (IsPackage (workspace_of j.packages.now) (verdicts_of j.packages.now)) (moved j.moves.now) j.old.now
+  pub after : j.after.now ≡ edited j.moves.now (workspace_of j.packages.now)
   pub scoped : AreAllScopes j.after.now j.scoped.now
+  pub bound : AreScopeBindings j.after.now j.bound.now
 
--- what is known of the packages of the workspace before
+-- the workspace before, and what is known of its packages
+abbrev pub workspace_in : Judge → Workspace
+workspace_in j = workspace_of j.packages.now
+
 abbrev pub known_verdicts : Judge → Verdicts
-known_verdicts j = known_in j.found.now
+known_verdicts j = verdicts_of j.packages.now
 
 -- these packages
 abbrev pub known_packages : Judge → Package → Type 0
-known_packages j = IsPackage j.graph.now (known_verdicts j)
+known_packages j = IsPackage (workspace_in j) (known_verdicts j)
 
 -- the change
 abbrev pub change_in : Judge → Revision
-change_in j = revision_of j.graph.now j.moves.now
+change_in j = revision_of (workspace_in j) j.moves.now
+
+-- which declaration has become which
+abbrev pub becomes_in : Judge → Declaration → Declaration → Type 0
+becomes_in j = HasBecome (workspace_in j) (known_verdicts j) (change_in j)

@@ -1,6 +1,7 @@
 -- The definitions of this crate.
 pub mod Told
 pub mod Afterwards
+pub mod Firsts
 pub mod Conflicts
 pub mod OldPlaces
 pub mod Now

@@ -1,72 +1,68 @@
--- What is found of an identifier in the workspace afterwards. Known: the packages of the workspace before.
-use Rattle.std.specs.Prelude.{ℕ, ◌≡◌, [], List, map, slice_get}
+-- What is found of the workspace afterwards, as its scopes are.
+use Rattle.std.specs.Prelude.{ℕ, ◌≡◌, ◌↔◌, ⊤, List, Some, Contains, slice_get, map}
+use Rattle.std.specs.List.Sorted.{IsSortedBy}
+use Rattle.std.specs.Ordering.{is_lt}
+use Rattle.gr_text.specs.Packages.{package_paths}
 use Rattle.gr_text.specs.Workspace.{Workspace}
 use Rattle.gr_text.specs.declared.place.Place.{Place}
-use Rattle.gr_tree.specs.SourceFile.{SourceFile, source_of}
-use Rattle.gr_scope.specs.declared.model.Position.{Position}
-use Rattle.gr_scope.specs.Bindings.{IsBoundTo}
-use Rattle.gr_scope.specs.Scoped.{layout_in, names_in}
+use Rattle.gr_tree.specs.SourceFile.{source_of}
+use Rattle.gr_scope.specs.Bindings.{Counts}
+use Rattle.gr_scope.specs.Scoped.{layout_in}
 use Rattle.gr_imports.specs.Laid.{literal_of}
 use Rattle.gr_declared.specs.Package.{Package}
 use Rattle.gr_types.specs.Interfaces.{IsSeen}
-use Rattle.gr_verdict.specs.Verdicts.{Verdicts}
+use Rattle.gr_bound.specs.declared.bound_spot.BoundSpot.{BoundSpot}
 use Rattle.gr_bound.specs.declared.declaration.Declaration.{Declaration}
-use Rattle.gr_bound.specs.declared.declaration.Declaration.TheVariants.{Predeclared, Declared}
-use Rattle.gr_bound.specs.Binding.{IsPredeclared}
-use Rattle.gr_bound.specs.Identifiers.{BeginsAt}
-use Rattle.gr_revision.specs.Revisions.{Revision, GoesTo}
+use Rattle.gr_bound.specs.declared.declaration.Declaration.TheVariants.{Predeclared, Declared, Field, Method}
+use Rattle.gr_bound.specs.Binding.{BindsByScope}
+use Rattle.gr_bound.specs.Bindings.{BoundIn, place_at}
+use Rattle.gr_bound.specs.Places.{place_cmp}
 use Rattle.gr_scoped.specs.ScopedPackages.{IsScopedIn}
-use Rattle.gr_scoped.specs.Scopes.{package_scoped}
 use Rattle.gr_scoped.specs.declared.scopes.PackageScopes.{PackageScopes}
 use Rattle.gr_standing.specs.Standing.{TokenBegins}
-use Rattle.gr_conflict.specs.Afterwards.{HasBecome}
-use Rattle.gr_conflict.specs.OldPlaces.{HasGoneTo}
+use Rattle.gr_conflict.specs.Afterwards.{IsScopeUse}
 
--- an identifier of the package begins there
-abbrev pub IsUserIn : PackageScopes → Place → ℕ → Type 0
-IsUserIn s place u = BeginsAt (package_scoped [] s) place.path place.offset u
+-- an identifier of a package begins there, and the scopes bind it to the declaration
+abbrev pub IsBoundIn : Package → BoundSpot → Type 0
+IsBoundIn p b = BoundIn p (BindsByScope p) b
 
--- its scopes bind what begins there to the declaration of that number
-abbrev pub IsNumberAt : PackageScopes → Place → ℕ → Type 0
-IsNumberAt s place d = (u : ℕ) × (IsUserIn s place u × IsBoundTo (layout_in s.table) (names_in s.table) u d)
+-- the same in the package of a number
+pub record IsBoundInNumber (w : Workspace) (number : ℕ) (b : BoundSpot) : Type 0 where
+  pub used_in : Package
+  pub is_package : IsScopedIn w used_in
+  pub has_number : slice_get (package_paths w) number ≡ Some used_in.path
+  pub bound : IsBoundIn used_in b
 
--- it exports the declaration of that number under a name
-abbrev pub IsExportIn : (path : List ℕ) → PackageScopes → List ℕ → ℕ → Type 0
-IsExportIn path s name d = IsSeen (package_scoped path s) d × (names_in s.table d ≡ name)
+-- what the scopes of a workspace bind
+abbrev pub IsScopeBound : Workspace → BoundSpot → Type 0
+IsScopeBound w b = IsScopeUse w b.declaration (place_at b)
 
--- a declaration of the workspace before goes to where a token begins
-abbrev pub GoesToToken : (Package → Type 0) → (Place → Place) → List SourceFile → Position → Declaration → Type 0
-GoesToToken Known moved files at d = (to : Place) × (TokenBegins (slice_get files at.file) at.index to × HasGoneTo Known moved d to)
+-- all that they bind, in the order of the places
+pub record AreScopeBindings (w : Workspace) (list : List BoundSpot) : Type 0 where
+  pub in_order : IsSortedBy (λ a b. is_lt (place_cmp (place_at a) (place_at b))) list
+  pub each : (b : BoundSpot) → Contains list b ↔ IsScopeBound w b
 
--- the same of where the declaration of a number stands
-abbrev pub HasBecomeOwn : (Package → Type 0) → (Place → Place) → PackageScopes → ℕ → Declaration → Type 0
-HasBecomeOwn Known moved s d c = GoesToToken Known moved (map source_of s.files.now) ((layout_in s.table).place (literal_of (layout_in s.table) d)) c
+-- a declaration that counts, as scopes see it: one that is predeclared or a package's own
+abbrev pub IsCounted : Workspace → Declaration → Type 0
+IsCounted w (Predeclared d) = ⊤
+IsCounted w (Declared path d) = (p : Package) × (IsScopedIn w p × ((p.path ≡ path) × Counts p.layout p.names d))
+IsCounted w (Field s) = ⊥
+IsCounted w (Method s) = ⊥
 
--- the declaration of the workspace before that has become the one of a number
-pub data HasBecomeNumber (Known : Package → Type 0) (moved : Place → Place) (s : PackageScopes) (d : ℕ) (c : Declaration) : Type 0 where
-  universe : IsPredeclared d → c ≡ Predeclared d → HasBecomeNumber Known moved s d c
-  own : (IsPredeclared d → ⊥) → HasBecomeOwn Known moved s d c → HasBecomeNumber Known moved s d c
+-- the token at which the declaration of a number stands, an import at its path literal, begins at the place
+abbrev pub IsOwnToken : PackageScopes → ℕ → Place → Type 0
+IsOwnToken s d place = let at = (layout_in s.table).place (literal_of (layout_in s.table) d) in TokenBegins (slice_get (map source_of s.files.now) at.file) at.index place
 
--- what the scopes bind to that begins at a place
-abbrev pub IsBoundIn : (Package → Type 0) → (Place → Place) → PackageScopes → Place → Declaration → Type 0
-IsBoundIn Known moved s place c = (d : ℕ) × (IsNumberAt s place d × HasBecomeNumber Known moved s d c)
-
--- what the package exports under a name
-abbrev pub IsExportedIn : (Package → Type 0) → (Place → Place) → (path : List ℕ) → PackageScopes → List ℕ → Declaration → Type 0
-IsExportedIn Known moved path s name c = (d : ℕ) × (IsExportIn path s name d × ((IsPredeclared d → ⊥) × HasBecomeOwn Known moved s d c))
-
--- a package afterwards exports what c has become under a name
-pub record ExportsAfter (w : Workspace) (before : Verdicts) (r : Revision) (path name : List ℕ) (c : Declaration) : Type 0 where
+-- the package of a path exports e under a name
+pub record IsExportIn (w : Workspace) (path name : List ℕ) (e : Declaration) : Type 0 where
   pub other : Package
-  pub is_package : IsScopedIn r.after other
+  pub is_package : IsScopedIn w other
   pub of_path : other.path ≡ path
   pub declaration : ℕ
   pub seen : IsSeen other declaration
   pub named : other.names declaration ≡ name
-  pub become : HasBecome w before r c (Declared other.path declaration)
+  pub exported : e ≡ Declared path declaration
 
--- the same of the package to which one goes
-pub record ExportsWhereGone (w : Workspace) (before : Verdicts) (r : Revision) (path name : List ℕ) (c : Declaration) : Type 0 where
-  pub to : List ℕ
-  pub goes : GoesTo w r path to
-  pub exports : ExportsAfter w before r to name c
+-- one package exports e under a name
+abbrev pub IsExportOf : Package → List ℕ → Declaration → Type 0
+IsExportOf p name e = (d : ℕ) × ((IsSeen p d × (p.names d ≡ name)) × (e ≡ Declared p.path d))

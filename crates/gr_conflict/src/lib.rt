@@ -1,6 +1,7 @@
 //! The identifiers that a change would lose or capture.
 #![tactic(auto)]
 
+mod afterwards;
 mod beginning;
 mod conflict;
 mod first;
@@ -10,6 +11,7 @@ mod judging;
 mod noting;
 mod now;
 mod old_places;
+mod standing;
 
 pub use conflict::{Capturer, Conflict, told};
 pub use first::first_conflict;
