@@ -50,11 +50,7 @@ fn add_begun(
 }
 
 /// Adds an identifier, if the scopes of its package bind it.
-fn add_identifier(
-    bound: &mut Vec<BoundSpot>,
-    unit: Package<'_>,
-    u: usize,
-) -> Result<(), AllocError>
+fn add_identifier(bound: &mut Vec<BoundSpot>, unit: Package<'_>, u: usize) -> Result<(), AllocError>
     requires { u < length unit.table.now.sites }
     ensures { let p = package_of unit.entry in
         OnOk result (AddsAll bound.old.items bound.new.items (λ b. BeginsAt p (place_at b).path (place_at b).offset u × BindsByScope p u b.declaration)) }

@@ -64,11 +64,7 @@ struct Before {
 }
 
 impl Before {
-    fn of(
-        alloc: Global,
-        packages: &Packages<'_>,
-        moves: &Moves<'_>,
-    ) -> Result<Before, AllocError>
+    fn of(alloc: Global, packages: &Packages<'_>, moves: &Moves<'_>) -> Result<Before, AllocError>
         requires { ArePackages packages.now }
         ensures { IfOk result (KnowsBefore packages.now moves.now) }
     {

@@ -41,10 +41,7 @@ fn first_of(places: &[Place]) -> Option<&Place>
 }
 
 /// The first identifier of a workspace without faults.
-pub fn first_identifier(
-    alloc: Global,
-    packages: &Packages<'_>,
-) -> Result<Option<Place>, AllocError>
+pub fn first_identifier(alloc: Global, packages: &Packages<'_>) -> Result<Option<Place>, AllocError>
     requires { ArePackages packages.now }
     ensures { IfOk result (IsFirstPlace (IsIdentifierAt (workspace_of packages.now) (verdicts_of packages.now))) }
 {

@@ -1,22 +1,21 @@
 //! The identifiers of one package, each judged alone by the way in which it was bound.
-ghost use Rattle.std.specs.Prelude.{◌≡◌, ◌<◌, ⊤, None, length, map, OnOk};
+ghost use Rattle.std.specs.Prelude.{◌≡◌, ◌<◌, None, Contains, length, map, OnOk};
 ghost use Rattle.gr_text.specs.Packages.{package_paths};
 ghost use Rattle.gr_expr.specs.Found.{use_of};
 ghost use Rattle.gr_declared.specs.PackageView.{package_of, IsIndexOf};
 ghost use Rattle.gr_revision.specs.RevisionsOfEdits.{called_by};
 ghost use Rattle.gr_bound.specs.Binding.{BindsByScope, BindsByPackage, IsBehindPackage};
 ghost use Rattle.gr_bound.specs.Members.{definitions_seen};
-ghost use Rattle.gr_bound.specs.Workspaces.{known_in, IsPackageAt};
-ghost use Rattle.gr_conflict.specs.Afterwards.{IsBoundByScopes};
-ghost use Rattle.gr_conflict.specs.Conflicts.{IsKept, IsConflictIn, IsNoted, IsNotedAt, IsLostAt, IsLostAtFound, IsMemberConflict, IsMemberConflictAmong, Takes};
-ghost use Rattle.gr_conflict.specs.Judging.{KnowsChange, known_verdicts, known_packages, change_in};
-ghost use Rattle.gr_conflict.specs.Now.{ExportsWhereGone};
+ghost use Rattle.gr_bound.specs.Workspaces.{IsPackageAt};
+ghost use Rattle.gr_conflict.specs.Afterwards.{IsBoundByScopes, IsExportAfter};
+ghost use Rattle.gr_conflict.specs.Conflicts.{IsKept, IsConflictIn, IsNoted, IsOtherNoted, IsOtherAt, IsLostAt, IsLostAtFound, IsMemberConflict, IsMemberConflictAmong, Takes};
+ghost use Rattle.gr_conflict.specs.Judging.{KnowsChange, workspace_in, known_verdicts, known_packages, change_in, becomes_in};
 
 use crate::beginning::token_beginning;
 use crate::conflict::Conflict;
 use crate::judge::Judge;
-use crate::noting::note;
-use crate::now::{now_by_member, now_by_name, now_by_package, now_by_scope};
+use crate::noting::{note, note_lost, note_member};
+use crate::now::{now_by_member, now_by_package, now_by_scope};
 use crate::old_places::symbol;
 use gr_bound::exports::exported;
 use gr_bound::{
@@ -40,7 +39,7 @@ fn note_by_scope(
     old: &Declaration,
 ) -> Result<(), AllocError>
     requires { KnowsChange judge.now }
-    ensures { OnOk result (Takes (IsNoted (known_packages judge.now) (IsBoundByScopes judge.now.graph.now (known_verdicts judge.now) (change_in judge.now) place) place old.now) first.old first.new) }
+    ensures { OnOk result (Takes (IsNoted (becomes_in judge.now) (known_packages judge.now) (IsBoundByScopes (change_in judge.now) place) place old.now) first.old first.new) }
 {
     let now = now_by_scope(judge, &place)?;
     note(judge, first, place, old, now)
@@ -57,7 +56,7 @@ fn judge_bound(
     requires knows { KnowsChange judge.now }
     requires in_range { u < length unit.table.now.sites }
     requires was { BindsByScope (package_of unit) u old.now }
-    ensures { OnOk result (Takes (IsConflictIn judge.now.graph.now (known_verdicts judge.now) (change_in judge.now) (package_of unit.entry)) first.old first.new) }
+    ensures { OnOk result (Takes (IsConflictIn (workspace_in judge.now) (known_verdicts judge.now) (change_in judge.now) (package_of unit.entry)) first.old first.new) }
 {
     match beginning(unit, u)? {
         None => Ok(()),
@@ -74,7 +73,7 @@ fn judge_by_scope(
 ) -> Result<(), AllocError>
     requires knows { KnowsChange judge.now }
     requires in_range { u < length unit.table.now.sites }
-    ensures { OnOk result (Takes (IsConflictIn judge.now.graph.now (known_verdicts judge.now) (change_in judge.now) (package_of unit.entry)) first.old first.new) }
+    ensures { OnOk result (Takes (IsConflictIn (workspace_in judge.now) (known_verdicts judge.now) (change_in judge.now) (package_of unit.entry)) first.old first.new) }
 {
     match declaration_in_scope(unit, u)? {
         None => Ok(()),
@@ -84,6 +83,7 @@ fn judge_by_scope(
 
 /// Judges the identifier at a place that is a name which the package of a path exports.
 fn note_by_package(
+    alloc: Global,
     first: &mut Option<Conflict>,
     judge: &Judge<'_, '_, '_>,
     behind: &[u8],
@@ -91,15 +91,17 @@ fn note_by_package(
     place: Place,
     old: &Declaration,
 ) -> Result<(), AllocError>
-    requires { KnowsChange judge.now }
-    ensures { OnOk result (Takes (IsNoted (known_packages judge.now) (ExportsWhereGone judge.now.graph.now (known_verdicts judge.now) (change_in judge.now) behind.now (called_by judge.now.moves.now place name.now)) place old.now) first.old first.new) }
+    requires knows { KnowsChange judge.now }
+    requires there { Contains (package_paths (workspace_in judge.now)) behind.now }
+    ensures { OnOk result (Takes (IsNoted (becomes_in judge.now) (known_packages judge.now) (IsExportAfter (workspace_in judge.now) (change_in judge.now) behind.now (called_by judge.now.moves.now place name.now)) place old.now) first.old first.new) }
 {
-    let now = now_by_package(judge, behind, &place, name)?;
+    let now = now_by_package(alloc, judge, behind, &place, name)?;
     note(judge, first, place, old, now)
 }
 
 /// Judges an identifier that stands behind the name of the package of a path, which exports a declaration under its name.
 fn judge_exported(
+    alloc: Global,
     first: &mut Option<Conflict>,
     judge: &Judge<'_, '_, '_>,
     unit: Package<'_>,
@@ -111,16 +113,17 @@ fn judge_exported(
     requires in_range { u < length unit.table.now.sites }
     requires behind { IsBehindPackage (package_of unit) u behind.now }
     requires was { BindsByPackage (known_packages judge.now) (package_of unit) u old.now }
-    ensures { OnOk result (Takes (IsConflictIn judge.now.graph.now (known_verdicts judge.now) (change_in judge.now) (package_of unit.entry)) first.old first.new) }
+    ensures { OnOk result (Takes (IsConflictIn (workspace_in judge.now) (known_verdicts judge.now) (change_in judge.now) (package_of unit.entry)) first.old first.new) }
 {
     match beginning(unit, u)? {
         None => Ok(()),
-        Some(place) => note_by_package(first, judge, behind, unit.table.name(u), place, old),
+        Some(place) => note_by_package(alloc, first, judge, behind, unit.table.name(u), place, old),
     }
 }
 
 /// Judges an identifier that stands behind the name of the package of a path, if that exports its name.
 fn judge_behind(
+    alloc: Global,
     first: &mut Option<Conflict>,
     judge: &Judge<'_, '_, '_>,
     unit: Package<'_>,
@@ -130,17 +133,24 @@ fn judge_behind(
     requires knows { KnowsChange judge.now }
     requires in_range { u < length unit.table.now.sites }
     requires behind { IsBehindPackage (package_of unit) u behind.now }
-    ensures { OnOk result (Takes (IsConflictIn judge.now.graph.now (known_verdicts judge.now) (change_in judge.now) (package_of unit.entry)) first.old first.new) }
+    ensures { OnOk result (Takes (IsConflictIn (workspace_in judge.now) (known_verdicts judge.now) (change_in judge.now) (package_of unit.entry)) first.old first.new) }
 {
     let name = unit.table.name(u);
-    match exported(judge.graph, judge.found, judge.exports, behind, name)? {
+    match exported(
+        judge.packages.graph,
+        judge.packages.found,
+        judge.exports,
+        behind,
+        name,
+    )? {
         None => Ok(()),
-        Some(old) => judge_exported(first, judge, unit, behind, u, &old),
+        Some(old) => judge_exported(alloc, first, judge, unit, behind, u, &old),
     }
 }
 
 /// Judges an identifier, if it stands behind the name of a package.
 fn judge_by_package(
+    alloc: Global,
     first: &mut Option<Conflict>,
     judge: &Judge<'_, '_, '_>,
     unit: Package<'_>,
@@ -150,16 +160,17 @@ fn judge_by_package(
     requires knows { KnowsChange judge.now }
     requires index { IsIndexOf (package_of unit) index.now }
     requires in_range { u < length unit.table.now.sites }
-    ensures { OnOk result (Takes (IsConflictIn judge.now.graph.now (known_verdicts judge.now) (change_in judge.now) (package_of unit.entry)) first.old first.new) }
+    ensures { OnOk result (Takes (IsConflictIn (workspace_in judge.now) (known_verdicts judge.now) (change_in judge.now) (package_of unit.entry)) first.old first.new) }
 {
     match package_before(unit, index, u) {
         None => Ok(()),
-        Some(behind) => judge_behind(first, judge, unit, behind, u),
+        Some(behind) => judge_behind(alloc, first, judge, unit, behind, u),
     }
 }
 
 /// Judges the identifiers of a package that are bound to a declaration of a scope.
 fn judge_numbers(
+    alloc: Global,
     first: &mut Option<Conflict>,
     judge: &Judge<'_, '_, '_>,
     unit: Package<'_>,
@@ -167,11 +178,11 @@ fn judge_numbers(
 ) -> Result<(), AllocError>
     requires knows { KnowsChange judge.now }
     requires index { IsIndexOf (package_of unit) index.now }
-    ensures { OnOk result (Takes (IsConflictIn judge.now.graph.now (known_verdicts judge.now) (change_in judge.now) (package_of unit.entry)) first.old first.new) }
+    ensures { OnOk result (Takes (IsConflictIn (workspace_in judge.now) (known_verdicts judge.now) (change_in judge.now) (package_of unit.entry)) first.old first.new) }
 {
     for u in 0..unit.table.len() {
         judge_by_scope(first, judge, unit, u)?;
-        judge_by_package(first, judge, unit, index, u)?;
+        judge_by_package(alloc, first, judge, unit, index, u)?;
     }
     Ok(())
 }
@@ -188,11 +199,11 @@ fn note_by_member(
     old: &Declaration,
 ) -> Result<(), AllocError>
     requires { KnowsChange judge.now }
-    ensures { OnOk result (Takes (IsNoted (known_packages judge.now) (λ d. ⊤) place old.now) first.old first.new) }
+    ensures { OnOk result (Takes (IsOtherNoted (known_packages judge.now) place old.now) first.old first.new) }
 {
     let name = unit.spelling(at.file, at.index);
     let now = now_by_member(judge, unit, own, found, &place, name)?;
-    note(judge, first, place, old, now)
+    note_member(judge, first, place, old, now)
 }
 
 /// Judges the identifier at a token that is used as a member, if one stands there.
@@ -208,7 +219,7 @@ fn judge_token(
 ) -> Result<(), AllocError>
     requires knows { KnowsChange judge.now }
     requires index { IsIndexOf (package_of unit) index.now }
-    ensures { OnOk result (Takes (IsNotedAt (known_packages judge.now) (λ d. ⊤) (package_of unit.entry) at old.now) first.old first.new) }
+    ensures { OnOk result (Takes (IsOtherAt (known_packages judge.now) (package_of unit.entry) at old.now) first.old first.new) }
 {
     match token_beginning(unit, index, at)? {
         None => Ok(()),
@@ -270,16 +281,16 @@ fn judge_members(
     index: &Index<'_>,
     number: usize,
 ) -> Result<(), AllocError>
-    requires in_range { number < length (package_paths judge.now.graph.now) }
+    requires in_range { number < length (package_paths (workspace_in judge.now)) }
     requires knows { KnowsChange judge.now }
     requires index { IsIndexOf (package_of unit) index.now }
-    requires is_package { IsPackageAt judge.now.graph.now (known_in judge.now.found.now) number (package_of unit) }
-    ensures { OnOk result (Takes (IsConflictIn judge.now.graph.now (known_verdicts judge.now) (change_in judge.now) (package_of unit.entry)) first.old first.new) }
+    requires is_package { IsPackageAt (workspace_in judge.now) (known_verdicts judge.now) number (package_of unit) }
+    ensures { OnOk result (Takes (IsConflictIn (workspace_in judge.now) (known_verdicts judge.now) (change_in judge.now) (package_of unit.entry)) first.old first.new) }
 {
     unit.table.is_well_formed();
     one_world(unit);
-    let own = own_of(judge.graph, judge.found, number);
-    let members = members_of(judge.graph, judge.found, number);
+    let own = own_of(judge.packages.graph, judge.packages.found, number);
+    let members = members_of(judge.packages.graph, judge.packages.found, number);
     for file in 0..members.len() {
         judge_file(first, judge, unit, index, own, file, &members[file])?;
     }
@@ -296,8 +307,10 @@ fn note_by_name(
     requires { KnowsChange judge.now }
     ensures { OnOk result (Takes (IsKept place None) first.old first.new) }
 {
-    let now = now_by_name(judge, old)?;
-    note(judge, first, place, old, now)
+    if !judge.types().counts(old)? {
+        note_lost(first, place);
+    }
+    Ok(())
 }
 
 /// Judges the name by which a field or method is declared, if an identifier stands there.
@@ -366,7 +379,7 @@ fn judge_fields(
 ) -> Result<(), AllocError>
     requires knows { KnowsChange judge.now }
     requires index { IsIndexOf (package_of unit) index.now }
-    ensures { OnOk result (Takes (IsConflictIn judge.now.graph.now (known_verdicts judge.now) (change_in judge.now) (package_of unit.entry)) first.old first.new) }
+    ensures { OnOk result (Takes (IsConflictIn (workspace_in judge.now) (known_verdicts judge.now) (change_in judge.now) (package_of unit.entry)) first.old first.new) }
 {
     let fields = field_places(alloc, unit, index)?;
     for rank in 0..fields.len() {
@@ -422,7 +435,7 @@ fn judge_methods(
 ) -> Result<(), AllocError>
     requires knows { KnowsChange judge.now }
     requires index { IsIndexOf (package_of unit) index.now }
-    ensures { OnOk result (Takes (IsConflictIn judge.now.graph.now (known_verdicts judge.now) (change_in judge.now) (package_of unit.entry)) first.old first.new) }
+    ensures { OnOk result (Takes (IsConflictIn (workspace_in judge.now) (known_verdicts judge.now) (change_in judge.now) (package_of unit.entry)) first.old first.new) }
 {
     let methods = method_places(alloc, unit, index)?;
     for rank in 0..methods.len() {
@@ -441,7 +454,7 @@ fn judge_names(
 ) -> Result<(), AllocError>
     requires knows { KnowsChange judge.now }
     requires index { IsIndexOf (package_of unit) index.now }
-    ensures { OnOk result (Takes (IsConflictIn judge.now.graph.now (known_verdicts judge.now) (change_in judge.now) (package_of unit.entry)) first.old first.new) }
+    ensures { OnOk result (Takes (IsConflictIn (workspace_in judge.now) (known_verdicts judge.now) (change_in judge.now) (package_of unit.entry)) first.old first.new) }
 {
     judge_fields(alloc, first, judge, unit, index)?;
     judge_methods(alloc, first, judge, unit, index)
@@ -455,13 +468,13 @@ pub fn judge_unit(
     unit: Package<'_>,
     number: usize,
 ) -> Result<(), AllocError>
-    requires in_range { number < length (package_paths judge.now.graph.now) }
+    requires in_range { number < length (package_paths (workspace_in judge.now)) }
     requires knows { KnowsChange judge.now }
-    requires is_package { IsPackageAt judge.now.graph.now (known_in judge.now.found.now) number (package_of unit) }
-    ensures { OnOk result (Takes (IsConflictIn judge.now.graph.now (known_verdicts judge.now) (change_in judge.now) (package_of unit.entry)) first.old first.new) }
+    requires is_package { IsPackageAt (workspace_in judge.now) (known_verdicts judge.now) number (package_of unit) }
+    ensures { OnOk result (Takes (IsConflictIn (workspace_in judge.now) (known_verdicts judge.now) (change_in judge.now) (package_of unit.entry)) first.old first.new) }
 {
     let index = Index::of(alloc, unit)?;
-    judge_numbers(first, judge, unit, &index)?;
+    judge_numbers(alloc, first, judge, unit, &index)?;
     judge_members(first, judge, unit, &index, number)?;
     judge_names(alloc, first, judge, unit, &index)
 }

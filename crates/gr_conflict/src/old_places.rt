@@ -8,18 +8,17 @@ ghost use Rattle.gr_bound.specs.declared.declaration.Declaration.TheVariants.{De
 ghost use Rattle.gr_bound.specs.Bindings.{place_at};
 ghost use Rattle.gr_bound.specs.Places.{place_cmp};
 ghost use Rattle.gr_bound.specs.Uses.{IsPackage};
-ghost use Rattle.gr_bound.specs.Workspaces.{IsSound, known_in};
+ghost use Rattle.gr_bound.specs.Packages.{ArePackages};
 ghost use Rattle.gr_check.specs.DeclaredPlaces.{AreDeclared};
+ghost use Rattle.gr_conflict.specs.Judging.{workspace_of, verdicts_of};
 ghost use Rattle.gr_conflict.specs.OldPlaces.{AddsOnly, GoesFrom, GoFrom, GoFromPackage, HasGone, AreOldPlaces, field_at, method_at};
 
 use gr_bound::bindings::{find, sort};
-use gr_bound::{BoundSpot, Declaration, Spot, path_of};
+use gr_bound::{BoundSpot, Declaration, Packages, Spot, path_of};
 use gr_check::declared_places::DeclaredPlaces;
 use gr_expr::symbol::{SharedPath, Symbol};
-use gr_graph::Graph;
 use gr_revision::Moves;
 use gr_text::Place;
-use gr_verdict::Findings;
 use std::alloc::{AllocError, Global};
 
 /// Adds a declaration by the place to which it goes.
@@ -164,17 +163,16 @@ fn add_package(
 /// Adds the declarations of all packages.
 fn add_all(
     old: &mut Vec<BoundSpot>,
-    graph: &Graph,
-    found: &Findings,
+    packages: &Packages<'_>,
     places: &[DeclaredPlaces],
     moves: &Moves<'_>,
 ) -> Result<(), AllocError>
-    requires sound { IsSound graph.now found.now }
-    requires places { AreDeclared graph.now (known_in found.now) places.now }
-    ensures { OnOk result (AddsOnly old.old.items old.new.items (HasGone (IsPackage graph.now (known_in found.now)) (moved moves.now))) }
+    requires read { ArePackages packages.now }
+    requires places { AreDeclared (workspace_of packages.now) (verdicts_of packages.now) places.now }
+    ensures { OnOk result (AddsOnly old.old.items old.new.items (HasGone (IsPackage (workspace_of packages.now) (verdicts_of packages.now)) (moved moves.now))) }
 {
-    for number in 0..graph.len() {
-        let path = path_of(graph, found, number);
+    for number in 0..packages.graph.len() {
+        let path = path_of(packages.graph, packages.found, number);
         add_package(old, moves, path, &places[number])?;
     }
     Ok(())
@@ -183,17 +181,16 @@ fn add_all(
 /// The declarations of a workspace, sorted by the places to which they go.
 pub fn old_places(
     alloc: Global,
-    graph: &Graph,
-    found: &Findings,
+    packages: &Packages<'_>,
     places: &[DeclaredPlaces],
     moves: &Moves<'_>,
 ) -> Result<Vec<BoundSpot>, AllocError>
-    requires sound { IsSound graph.now found.now }
-    requires places { AreDeclared graph.now (known_in found.now) places.now }
-    ensures { IfOk result (λ old. AreOldPlaces (IsPackage graph.now (known_in found.now)) (moved moves.now) old.items) }
+    requires read { ArePackages packages.now }
+    requires places { AreDeclared (workspace_of packages.now) (verdicts_of packages.now) places.now }
+    ensures { IfOk result (λ old. AreOldPlaces (IsPackage (workspace_of packages.now) (verdicts_of packages.now)) (moved moves.now) old.items) }
 {
     let mut old = Vec::new(alloc);
-    add_all(&mut old, graph, found, places, moves)?;
+    add_all(&mut old, packages, places, moves)?;
     sort(&mut old);
     Ok(old)
 }

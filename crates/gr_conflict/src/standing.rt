@@ -124,10 +124,7 @@ fn before_standing(
 }
 
 /// The declaration of the workspace before that has become one of the workspace afterwards.
-pub fn before(
-    judge: &Judge<'_, '_, '_>,
-    e: &Declaration,
-) -> Result<Option<Declaration>, AllocError>
+pub fn before(judge: &Judge<'_, '_, '_>, e: &Declaration) -> Result<Option<Declaration>, AllocError>
     requires knows { KnowsChange judge.now }
     requires counts { IsCounted judge.now.after.now e.now }
     ensures { IfOk result (λ found. MatchOption found (Unit {0}) (λ c. becomes_in judge.now c e.now)) }
