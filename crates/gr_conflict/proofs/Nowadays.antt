@@ -1,114 +1,146 @@
 -- What identifiers are bound to afterwards.
-use Rattle.std.proofs.Common.{ℕ, ◌≡◌, ◌<◌, ◌∙◌, List, [], length, map, sym, subst, refl}
-use Rattle.std.specs.Prelude.{Option, Some, None, MatchOption, slice_get}
+use Rattle.std.proofs.Common.{ℕ, ◌≡◌, ◌<◌, ◌∙◌, List, [], ◌∷◌, length, inl, inr, sym, ap, subst, refl, arith}
+use Rattle.std.specs.Prelude.{Option, Some, None, Contains, ◌↔◌, MatchOption, slice_get}
+use Rattle.std.proofs.lemmas.Option.{same_Some, none-some, slice_get_within}
+use Rattle.gr_text.specs.Packages.{package_paths, package_files}
+use Rattle.gr_text.specs.Path.{folder}
 use Rattle.gr_text.specs.Workspace.{Workspace}
 use Rattle.gr_text.specs.declared.place.Place.{Place}
-use Rattle.gr_tree.specs.SourceFile.{source_of}
-use Rattle.gr_scope.specs.declared.model.Position.{Position}
+use Rattle.gr_graph.proofs.Asked.{number}
 use Rattle.gr_scope.specs.Bindings.{Layout, Names, IsBoundTo, Counts, use_bound, own}
-use Rattle.gr_scope.specs.Scoped.{layout_in, names_in}
-use Rattle.gr_scope.specs.Table.{IsFoundAt}
-use Rattle.gr_imports.specs.Laid.{literal_of}
-use Rattle.gr_declared.specs.ByToken.{number_at, AreIdentifiers}
 use Rattle.gr_declared.specs.Package.{Package}
-use Rattle.gr_declared.proofs.Binding.{found_at, within}
-use Rattle.gr_verdict.specs.Verdicts.{Verdicts}
+use Rattle.gr_types.specs.Interfaces.{IsSeen}
 use Rattle.gr_bound.specs.declared.bound_spot.BoundSpot.{BoundSpot}
 use Rattle.gr_bound.specs.declared.declaration.Declaration.{Declaration}
-use Rattle.gr_bound.specs.declared.declaration.Declaration.TheVariants.{Predeclared, Declared}
-use Rattle.gr_bound.specs.Binding.{BindsByScope, IsPredeclared}
+use Rattle.gr_bound.specs.declared.declaration.Declaration.TheVariants.{Predeclared, Declared, Field, Method}
 use Rattle.gr_bound.specs.Bindings.{place_at}
-use Rattle.gr_bound.specs.Identifiers.{NameBegins}
-use Rattle.gr_bound.specs.Uses.{IsPackage}
-use Rattle.gr_bound.proofs.NamedPlaces.{stands_once}
-use Rattle.gr_revision.specs.Revisions.{Revision}
+use Rattle.gr_bound.specs.Exports.{number_named, AreNumbers}
+use Rattle.gr_bound.specs.Steps.{IsDeclarationFound}
+use Rattle.gr_revision.specs.Revisions.{Revision, GoesTo}
 use Rattle.gr_scoped.specs.ScopedPackages.{IsScopedIn}
 use Rattle.gr_scoped.specs.Scopes.{package_scoped}
 use Rattle.gr_scoped.specs.declared.scopes.PackageScopes.{PackageScopes}
-use Rattle.gr_standing.specs.Standing.{IsDeclaredAt}
-use Rattle.gr_check.specs.Corresponding.{predeclared, stands}
-use Rattle.gr_conflict.specs.Afterwards.{HasBecome, IsBoundByScopes}
-use Rattle.gr_conflict.specs.Now.{IsUserIn, IsNumberAt, HasBecomeOwn, HasBecomeNumber, IsBoundIn, IsExportedIn, ExportsAfter, universe}
-use Rattle.gr_conflict.specs.Now as now
-use Rattle.gr_conflict.specs.OldPlaces.{HasGone, HasGoneTo}
+use Rattle.gr_check.proofs.Found.{found_as}
+use Rattle.gr_conflict.specs.Afterwards.{IsScopeUse, IsExportAfter}
+use Rattle.gr_conflict.specs.Now.{IsBoundIn, IsBoundInNumber, IsScopeBound, AreScopeBindings, IsCounted, IsExportIn, IsExportOf}
+use Rattle.gr_conflict.proofs.OneScoped.{one_scoped}
 
-pub counts_of : (l : Layout) (names : Names) (u d : ℕ) → IsBoundTo l names u d → Counts l names d
+-- what is bound counts
+counts_of : (l : Layout) (names : Names) (u d : ℕ) → IsBoundTo l names u d → Counts l names d
 counts_of l names u d (use_bound used b) = b.counts
 counts_of l names u d (own e c) = c
 
--- the identifier that was found at a token
-pub user_found : (s : PackageScopes) (place : Place) (at : Position) (u : ℕ) → IsFoundAt (layout_in s.table) (package_scoped [] s).size at u →
-    NameBegins (slice_get (map source_of s.files.now) at.file) at.index place.path place.offset → IsUserIn s place u
-user_found s place at u found named =
-    let p = package_scoped [] s in (
-      (found.within, found.holds.0),
-      subst (λ (x : Position). NameBegins (slice_get p.files x.file) x.index place.path place.offset)
-          (stands_once p u at found.holds) named,
-    )
+pub counted_use : (w : Workspace) (place : Place) (e : Declaration) → IsScopeUse w e place → IsCounted w e
+counted_use w place (Predeclared n) h = tt
+counted_use w place (Declared path n) h =
+    let p = h.used_in in (p, (h.is_package, (sym h.bound.0, counts_of p.layout p.names h.user n h.bound.2)))
+counted_use w place (Field s) h = absurd h.bound
+counted_use w place (Method s) h = absurd h.bound
 
-module _ (w : Workspace) (known : Verdicts) (r : Revision) (path : List ℕ) (s : PackageScopes) (is : IsScopedIn r.after (package_scoped path s)) where
-  become_own : (d : ℕ) (c : Declaration) → (IsPredeclared d → ⊥) → Counts (layout_in s.table) (names_in s.table) d →
-      HasBecomeOwn (IsPackage w known) r.moved s d c → HasBecome w known r c (Declared path d)
-  become_own d c not counts h =
-      let gone = h.1.1 in
-      let l = layout_in s.table in
-      let there : IsDeclaredAt (IsScopedIn r.after) (Declared path d) h.0 = record {
-        inside = package_scoped path s;
-        is_package = is;
-        of_path = refl;
-        holds = record { at = l.place (literal_of l d); is_at = record { own = not; counts = counts; stands = refl }; begins = h.1.0 };
-      } in
-      stands gone.place gone.declared (subst (IsDeclaredAt (IsScopedIn r.after) (Declared path d)) gone.goes there)
+pub counted_export : (w : Workspace) (r : Revision) (path name : List ℕ) (e : Declaration) → IsExportAfter w r path name e → IsCounted r.after e
+counted_export w r path name e h =
+    let counted : IsCounted r.after (Declared h.other.path h.declaration) = (h.other, (h.is_package, (refl, h.seen.counts))) in
+    subst (IsCounted r.after) (sym h.exported) counted
 
-  become_number : (u d : ℕ) (c : Declaration) → IsBoundTo (layout_in s.table) (names_in s.table) u d → HasBecomeNumber (IsPackage w known) r.moved s d c →
-      (e : Declaration) × (BindsByScope (package_scoped path s) u e × HasBecome w known r c e)
-  become_number u d c bound (universe i e) = (Predeclared d, ((i, bound), subst (λ x. HasBecome w known r x (Predeclared d)) (sym e) predeclared))
-  become_number u d c bound (now.own not h) =
-      (Declared path d, ((refl, not, bound), become_own d c not (counts_of (layout_in s.table) (names_in s.table) u d bound) h))
+pub all_counted : (w : Workspace) (E : Declaration → Type 0) (o : Option Declaration) → ((e : Declaration) → E e → IsCounted w e) →
+    IsDeclarationFound E o → MatchOption o (Unit {0}) (IsCounted w)
+all_counted w E None to h = tt
+all_counted w E (Some e) to h = to e h
 
-  pub bound_by_scopes : (place : Place) (c : Declaration) → IsBoundIn (IsPackage w known) r.moved s (r.moved place) c → IsBoundByScopes w known r place c
-  bound_by_scopes place c h =
-      let n = h.1.0 in
-      let e = become_number n.0 h.0 c n.1.1 h.1.1 in
-      record { used_in = package_scoped path s; is_package = is; user = n.0; begins = n.1.0; declaration = e.0; bound = e.1.0; become = e.1.1 }
+-- what scopes bind, in the package of a number and in all
+pub scoped_here : (w : Workspace) (n : ℕ) (p : Package) → IsScopedIn w p → slice_get (package_paths w) n ≡ Some p.path → (b : BoundSpot) →
+    IsBoundIn p b → IsBoundInNumber w n b
+scoped_here w n p is at b h = record { used_in = p; is_package = is; has_number = at; bound = h }
 
-  pub exported_so : (name : List ℕ) (c : Declaration) → IsExportedIn (IsPackage w known) r.moved path s name c → ExportsAfter w known r path name c
-  exported_so name c h = record {
-    other = package_scoped path s;
-    is_package = is;
-    of_path = refl;
-    declaration = h.0;
-    seen = h.1.0.0;
-    named = h.1.0.1;
-    become = become_own h.0 c h.1.1.0 h.1.0.0.counts h.1.1.1;
-  }
+pub scoped_there : (w : Workspace) (n : ℕ) (p : Package) → IsScopedIn w p → slice_get (package_paths w) n ≡ Some p.path → (b : BoundSpot) →
+    IsBoundInNumber w n b → IsBoundIn p b
+scoped_there w n p is at b h =
+    let same : h.used_in ≡ p = one_scoped w h.used_in p h.is_package is (same_Some h.used_in.path p.path (sym h.has_number ∙ at)) in
+    subst (λ (q : Package). IsBoundIn q b) same h.bound
 
--- what was found, told otherwise
-pub found_as : (K L : Declaration → Type 0) (o : Option Declaration) → ((d : Declaration) → K d → L d) → MatchOption o (Unit {0}) K → MatchOption o (Unit {0}) L
-found_as K L None to h = h
-found_as K L (Some d) to h = to d h
+pub bound_somewhere : (w : Workspace) (n : ℕ) (b : BoundSpot) → IsBoundInNumber w n b → IsScopeBound w b
+bound_somewhere w n b h = record { used_in = h.used_in; is_package = h.is_package; user = h.bound.0; begins = h.bound.1.0; bound = h.bound.1.1 }
 
-pub user_so : (s : PackageScopes) (place : Place) → AreIdentifiers (layout_in s.table) (package_scoped [] s).size (number_at s.users) → (o : Option ℕ) →
-    MatchOption o (Unit {0}) (λ u. (at : Position) × ((number_at s.users at.file at.index ≡ Some u) × NameBegins
-    (slice_get (map source_of s.files.now) at.file) at.index place.path place.offset)) →
-    MatchOption o (Unit {0}) (IsUserIn s place)
-user_so s place are None h = h
-user_so s place are (Some u) h =
-    let p = package_scoped [] s in
-    user_found s place h.0 u (found_at p h.0.file h.0.index u _ h.1.0 (are h.0.file h.0.index)) h.1.1
+pub bound_numbered : (w : Workspace) (b : BoundSpot) → IsScopeBound w b → (n : ℕ) × (n < length (package_paths w)) × IsBoundInNumber w n b
+bound_numbered w b h =
+    let p = h.used_in in
+    let n = number w p.path h.is_package.of_workspace in
+    (n.0, slice_get_within (package_paths w) n.0 p.path n.1, scoped_here w n.0 p h.is_package n.1 b (h.user, (h.begins, h.bound)))
 
--- the declaration to which it is bound
-pub number_so : (s : PackageScopes) (place : Place) (u : ℕ) → IsUserIn s place u → (o : Option ℕ) →
-    MatchOption o ((d : ℕ) → IsBoundTo (layout_in s.table) (names_in s.table) u d → ⊥) (λ d. IsBoundTo (layout_in s.table) (names_in s.table) u d) →
-    MatchOption o (Unit {0}) (IsNumberAt s place)
-number_so s place u is None h = tt
-number_so s place u is (Some d) h = (u, (is, h))
+-- what begins at a place
+pub unbound_here : (w : Workspace) (bs : List BoundSpot) (place : Place) → AreScopeBindings w bs →
+    ((b : BoundSpot) → Contains bs b → place_at b ≡ place → ⊥) → (e : Declaration) →
+    IsScopeUse w e place → ⊥
+unbound_here w bs place are none e use_of =
+    let b : BoundSpot = record { spot = record { path = place.path; offset = place.offset }; declaration = e } in
+    none b ((are.each b).1 use_of) refl
 
-pub number_within : (s : PackageScopes) (place : Place) (d : ℕ) → IsNumberAt s place d → d < length s.table.sites
-number_within s place d h = within s.table.sites (names_in s.table) h.0 (Some d) h.1.1
+pub bound_here : (w : Workspace) (bs : List BoundSpot) (place : Place) (b : BoundSpot) (e : Declaration) → AreScopeBindings w bs →
+    Contains bs b × (place_at b ≡ place) → e ≡ b.declaration → IsScopeUse w e place
+bound_here w bs place b e are is same =
+    subst (λ d. IsScopeUse w d place) (sym same) (subst (IsScopeUse w b.declaration) is.1 ((are.each b).0 is.0))
 
--- what goes to a place
-pub gone_to : (Known : Package → Type 0) (moved : Place → Place) (b : BoundSpot) (d e : Declaration) (place : Place) → HasGone Known moved b →
-    place_at b ≡ place → b.declaration ≡ d → e ≡ d → HasGoneTo Known moved e place
-gone_to Known moved b d e place h at same copy =
-    subst (λ x. HasGoneTo Known moved x place) (same ∙ sym copy) (subst (HasGoneTo Known moved b.declaration) at h)
+-- where packages go
+pub goes_nowhere : (w : Workspace) (r : Revision) (path : List ℕ) → package_files w path ≡ [] → (to : List ℕ) → GoesTo w r path to → ⊥
+goes_nowhere w r path none to h = none-some h.first (ap (λ l. slice_get l 0) (sym none ∙ h.files))
+
+one_goal : (w : Workspace) (r : Revision) (path a b : List ℕ) → GoesTo w r path a → GoesTo w r path b → a ≡ b
+one_goal w r path a b h k =
+    let first : h.first ≡ k.first = same_Some h.first k.first (ap (λ l. slice_get l 0) (sym h.files ∙ k.files)) in
+    h.goes ∙ ap (λ (f : List ℕ × List ℕ). folder (r.moved (record { path = f.0; offset = 0 })).path) first ∙ sym k.goes
+
+-- exports
+pub export_none : (p : Package) (numbers : List ℕ → Option ℕ) (name : List ℕ) → AreNumbers p numbers → numbers name ≡ None → (e : Declaration) →
+    IsExportOf p name e → ⊥
+export_none p numbers name are none e h =
+    let nothing = subst (λ o. MatchOption o ((d : ℕ) → IsSeen p d → p.names d ≡ name → ⊥) (λ d. IsSeen p d × (p.names d ≡ name))) none (are name) in
+    nothing h.0 h.1.0.0 h.1.0.1
+
+pub export_some : (p : Package) (numbers : List ℕ → Option ℕ) (name : List ℕ) (d : ℕ) (path : List ℕ) → AreNumbers p numbers → numbers name ≡ Some d →
+    path ≡ p.path →
+    IsExportOf p name (Declared path d)
+export_some p numbers name d path are some same = (
+  d,
+  (
+    subst (λ o. MatchOption o ((d : ℕ) → IsSeen p d → p.names d ≡ name → ⊥) (λ d. IsSeen p d × (p.names d ≡ name))) some (are name),
+    ap (λ q. Declared q d) same,
+  ),
+)
+
+pub no_export : (w : Workspace) (path name : List ℕ) → ((p : Package) → IsScopedIn w p → p.path ≡ path → ⊥) → (e : Declaration) → IsExportIn w path name e → ⊥
+no_export w path name none e h = none h.other h.is_package h.of_path
+
+pub exports_here : (w : Workspace) (path name : List ℕ) (s : PackageScopes) → IsScopedIn w (package_scoped path s) → (o : Option Declaration) →
+    IsDeclarationFound (IsExportOf (package_scoped path s) name) o → IsDeclarationFound (IsExportIn w path name) o
+exports_here w path name s is o h =
+    let p = package_scoped path s in
+    found_as (IsExportOf p name) (IsExportIn w path name) o
+    (λ e x. record { other = p; is_package = is; of_path = refl; declaration = x.0; seen = x.1.0.0; named = x.1.0.1; exported = x.1.1 })
+    (λ e x.
+    let same : x.other ≡ p = one_scoped w x.other p x.is_package is x.of_path in
+    (x.declaration, (subst (λ (q : Package). IsSeen q x.declaration × (q.names x.declaration ≡ name)) same (x.seen, x.named), x.exported))) h
+
+pub exports_gone : (w : Workspace) (r : Revision) (path to name : List ℕ) → GoesTo w r path to → (o : Option Declaration) →
+    IsDeclarationFound (IsExportIn r.after to name) o → IsDeclarationFound (IsExportAfter w r path name) o
+exports_gone w r path to name goes o h =
+    found_as (IsExportIn r.after to name) (IsExportAfter w r path name) o
+    (λ e x. record {
+      other = x.other;
+      is_package = x.is_package;
+      goes = subst (GoesTo w r path) (sym x.of_path) goes;
+      declaration = x.declaration;
+      seen = x.seen;
+      named = x.named;
+      exported = x.exported ∙ ap (λ q. Declared q x.declaration) (sym x.of_path);
+    })
+    (λ e x.
+    let same : x.other.path ≡ to = one_goal w r path x.other.path to x.goes goes in
+    record {
+      other = x.other;
+      is_package = x.is_package;
+      of_path = same;
+      declaration = x.declaration;
+      seen = x.seen;
+      named = x.named;
+      exported = x.exported ∙ ap (λ q. Declared q x.declaration) same;
+    }) h

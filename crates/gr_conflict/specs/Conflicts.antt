@@ -9,7 +9,7 @@ use Rattle.gr_expr.specs.World.{Definition}
 use Rattle.gr_declared.specs.Package.{Package}
 use Rattle.gr_verdict.specs.Verdicts.{Verdicts}
 use Rattle.gr_bound.specs.declared.declaration.Declaration.{Declaration}
-use Rattle.gr_bound.specs.Binding.{BindsByScope, BindsByPackage, BindsByMember, BindsByName}
+use Rattle.gr_bound.specs.Binding.{BindsByScope, BindsByPackage, BindsByMember, BindsByName, IsBehindPackage}
 use Rattle.gr_bound.specs.Identifiers.{BeginsAt}
 use Rattle.gr_bound.specs.Members.{IsMemberUseOf, IsMemberUseAmong}
 use Rattle.gr_bound.specs.Steps.{AtToken, AtFound}
@@ -29,8 +29,7 @@ IsCapturer Known d Universe = (place : Place) → IsDeclaredAt Known d place →
 IsCapturer Known d (At place) = IsDeclaredAt Known d place
 
 -- What is told of an identifier that was bound to old, and is bound afterwards to that of which E tells. It is lost where that is
--- none, or none that a declaration from before has become by all that is known; what captures it has become what it is bound to,
--- and old has not.
+-- none, or one that old has not become, and no other that is found; what captures it has become what it is bound to, and old has not.
 pub data TellsOf (Becomes : Declaration → Declaration → Type 0) (Known : Package → Type 0) (E : Declaration → Type 0) (old : Declaration) : Option Capturer → Type 0 where
   unbound : ((e : Declaration) → E e → ⊥) → TellsOf Becomes Known E old None
   elsewhere : (e : Declaration) → E e → (Becomes old e → ⊥) → TellsOf Becomes Known E old None
@@ -104,6 +103,10 @@ IsNoted Becomes Known E used old c = (c.used ≡ used) × TellsOf Becomes Known 
 -- a conflict of what begins at a place, and was bound to a field or method
 abbrev pub IsOtherNoted : (Package → Type 0) → Place → Declaration → Conflict → Type 0
 IsOtherNoted Known used old c = (c.used ≡ used) × TellsOther Known old c.by
+
+-- an identifier stands behind the name of the package of that path, and of no other
+abbrev pub IsOnlyBehind : Package → ℕ → List ℕ → Type 0
+IsOnlyBehind p u path = IsBehindPackage p u path × ((other : List ℕ) → IsBehindPackage p u other → other ≡ path)
 
 -- the same of what stands at a token
 abbrev pub IsOtherAt : (Package → Type 0) → Package → Position → Declaration → Conflict → Type 0

@@ -6,7 +6,7 @@ use Rattle.gr_edit.specs.Moved.{moved}
 use Rattle.gr_declared.specs.Package.{Package}
 use Rattle.gr_verdict.specs.Verdicts.{Verdicts}
 use Rattle.gr_revision.specs.Revisions.{Revision}
-use Rattle.gr_revision.specs.RevisionsOfEdits.{revision_of}
+use Rattle.gr_revision.specs.RevisionsOfEdits.{called_by}
 use Rattle.gr_bound.specs.declared.declaration.Declaration.{Declaration}
 use Rattle.gr_bound.specs.declared.packages.Packages.{Packages}
 use Rattle.gr_bound.specs.Exports.{AreExports}
@@ -56,8 +56,11 @@ abbrev pub known_packages : Judge → Package → Type 0
 known_packages j = IsPackage (workspace_in j) (known_verdicts j)
 
 -- the change
+abbrev pub change_by : Workspace → FileChanges → Revision
+change_by after s = record { after = after; moved = moved s; called = called_by s }
+
 abbrev pub change_in : Judge → Revision
-change_in j = revision_of (workspace_in j) j.moves.now
+change_in j = change_by j.after.now j.moves.now
 
 -- which declaration has become which
 abbrev pub becomes_in : Judge → Declaration → Declaration → Type 0

@@ -4,11 +4,11 @@ ghost use Rattle.gr_text.specs.Packages.{package_paths};
 ghost use Rattle.gr_expr.specs.Found.{use_of};
 ghost use Rattle.gr_declared.specs.PackageView.{package_of, IsIndexOf};
 ghost use Rattle.gr_revision.specs.RevisionsOfEdits.{called_by};
-ghost use Rattle.gr_bound.specs.Binding.{BindsByScope, BindsByPackage, IsBehindPackage};
+ghost use Rattle.gr_bound.specs.Binding.{BindsByScope, BindsByPackage};
 ghost use Rattle.gr_bound.specs.Members.{definitions_seen};
 ghost use Rattle.gr_bound.specs.Workspaces.{IsPackageAt};
 ghost use Rattle.gr_conflict.specs.Afterwards.{IsBoundByScopes, IsExportAfter};
-ghost use Rattle.gr_conflict.specs.Conflicts.{IsKept, IsConflictIn, IsNoted, IsOtherNoted, IsOtherAt, IsLostAt, IsLostAtFound, IsMemberConflict, IsMemberConflictAmong, Takes};
+ghost use Rattle.gr_conflict.specs.Conflicts.{IsKept, IsConflictIn, IsNoted, IsOtherNoted, IsOtherAt, IsLostAt, IsLostAtFound, IsMemberConflict, IsMemberConflictAmong, IsOnlyBehind, Takes};
 ghost use Rattle.gr_conflict.specs.Judging.{KnowsChange, workspace_in, known_verdicts, known_packages, change_in, becomes_in};
 
 use crate::beginning::token_beginning;
@@ -111,7 +111,8 @@ fn judge_exported(
 ) -> Result<(), AllocError>
     requires knows { KnowsChange judge.now }
     requires in_range { u < length unit.table.now.sites }
-    requires behind { IsBehindPackage (package_of unit) u behind.now }
+    requires behind { IsOnlyBehind (package_of unit) u behind.now }
+    requires there { Contains (package_paths (workspace_in judge.now)) behind.now }
     requires was { BindsByPackage (known_packages judge.now) (package_of unit) u old.now }
     ensures { OnOk result (Takes (IsConflictIn (workspace_in judge.now) (known_verdicts judge.now) (change_in judge.now) (package_of unit.entry)) first.old first.new) }
 {
@@ -132,7 +133,7 @@ fn judge_behind(
 ) -> Result<(), AllocError>
     requires knows { KnowsChange judge.now }
     requires in_range { u < length unit.table.now.sites }
-    requires behind { IsBehindPackage (package_of unit) u behind.now }
+    requires behind { IsOnlyBehind (package_of unit) u behind.now }
     ensures { OnOk result (Takes (IsConflictIn (workspace_in judge.now) (known_verdicts judge.now) (change_in judge.now) (package_of unit.entry)) first.old first.new) }
 {
     let name = unit.table.name(u);

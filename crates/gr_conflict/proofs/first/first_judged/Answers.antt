@@ -11,5 +11,5 @@ loop-number-init c = takes_none _ None
 pub loop-number-preserved : goal.loop-number-preserved
 loop-number-preserved c =
     let j = c.args.judge.now in
-    takes_then (IsConflict j.graph.now (known_verdicts j) (change_in j)) None c.loop-number.first c.judge_package.new.first c.loop-number.invariant
+    takes_then (IsConflict j.packages.now.graph.now (known_verdicts j) (change_in j)) None c.loop-number.first c.judge_package.new.first c.loop-number.invariant
     c.in_ok-judge_package.ensures

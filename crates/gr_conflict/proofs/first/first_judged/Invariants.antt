@@ -5,4 +5,4 @@ use Rattle.gr_conflict.specs.Judging.{known_verdicts, change_in}
 use Rattle.gr_conflict.proofs.first.first_judged.Given as goal
 
 abbrev pub invariant-loop-number : goal.invariant-loop-number
-invariant-loop-number l = Takes (IsConflict l.judge.graph.now (known_verdicts l.judge) (change_in l.judge)) None l.first
+invariant-loop-number l = Takes (IsConflict l.judge.packages.now.graph.now (known_verdicts l.judge) (change_in l.judge)) None l.first

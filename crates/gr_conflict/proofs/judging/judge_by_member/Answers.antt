@@ -1,10 +1,9 @@
 -- The answers to the goals of `judging::judge_by_member`.
 use Rattle.std.proofs.Common.{◌∙◌, sym}
-use Rattle.std.specs.Prelude.{⊤}
 use Rattle.gr_expr.specs.Found.{use_of}
 use Rattle.gr_declared.specs.PackageView.{package_of}
 use Rattle.gr_bound.specs.Members.{definitions_seen}
-use Rattle.gr_conflict.specs.Conflicts.{IsNotedAt, IsMemberConflict}
+use Rattle.gr_conflict.specs.Conflicts.{IsOtherAt, IsMemberConflict}
 use Rattle.gr_conflict.specs.Judging.{known_packages}
 use Rattle.gr_conflict.proofs.Taking.{call_takes}
 use Rattle.gr_conflict.proofs.Telling.{member_conflict}
@@ -17,6 +16,6 @@ returns-in-Some c =
     let ds = definitions_seen c.args.unit c.args.own.now in
     let x = use_of c.args.found.now in
     let old = c.in-Some.old in
-    call_takes (IsNotedAt Known (λ d. ⊤) p (record { file = c.args.file; index = x.place }) old) (IsMemberConflict Known ds p c.args.file x)
+    call_takes (IsOtherAt Known p (record { file = c.args.file; index = x.place }) old) (IsMemberConflict Known ds p c.args.file x)
     c.args.first.now c.judge_token.new.first c.judge_token.result
     (member_conflict Known ds p c.args.file x old (sym c.in_ok-member_declaration.ensures ∙ c.in-Some.is)) c.judge_token.ensures

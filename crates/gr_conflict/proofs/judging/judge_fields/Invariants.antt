@@ -5,4 +5,4 @@ use Rattle.gr_conflict.specs.Judging.{known_verdicts, change_in}
 use Rattle.gr_conflict.proofs.judging.judge_fields.Given as goal
 
 abbrev pub invariant-loop-rank : goal.invariant-loop-rank
-invariant-loop-rank l = Takes (IsConflictIn l.judge.graph.now (known_verdicts l.judge) (change_in l.judge) (package_of l.unit)) l.initial.first l.first
+invariant-loop-rank l = Takes (IsConflictIn l.judge.packages.now.graph.now (known_verdicts l.judge) (change_in l.judge) (package_of l.unit)) l.initial.first l.first

@@ -18,7 +18,7 @@ loop-file-init c = takes_none _ c.args.first.now
 pub loop-file-preserved : goal.loop-file-preserved
 loop-file-preserved c =
     let j = c.args.judge.now in
-    let w = j.graph.now in
+    let w = j.packages.now.graph.now in
     let known = known_verdicts j in
     let r = change_in j in
     let p = package_of c.args.unit in

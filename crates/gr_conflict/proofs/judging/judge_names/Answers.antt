@@ -8,7 +8,7 @@ use Rattle.gr_conflict.proofs.judging.judge_names.Goals as goal
 pub returns : goal.returns
 returns c =
     let j = c.args.judge.now in
-    let w = j.graph.now in
+    let w = j.packages.now.graph.now in
     let known = known_verdicts j in
     let r = change_in j in
     let p = package_of c.args.unit in
