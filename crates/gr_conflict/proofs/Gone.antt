@@ -1,6 +1,6 @@
 -- The declarations of a workspace by the places to which they go.
 use Rattle.std.proofs.Common.{ℕ, ◌≡◌, ◌+◌, ◌<◌, ◌⊎◌, inl, inr, List, [], ◌∷◌, ◌++◌, length, get_or, sym, subst, refl, ◌∙◌, arith}
-use Rattle.std.specs.Prelude.{Option, Some, None, Contains, Result, OnOk, slice_index_or}
+use Rattle.std.specs.Prelude.{Option, Some, None, Contains, Result, OnOk, MatchOption, slice_index_or}
 use Rattle.std.proofs.lemmas.List.{get_or_read}
 use Rattle.std.proofs.lemmas.List.Elements.{Contains-push_cases}
 use Rattle.std.proofs.lemmas.Result.{on_ok_weaker}
@@ -19,7 +19,7 @@ use Rattle.gr_bound.specs.Uses.{IsPackage}
 use Rattle.gr_standing.specs.Standing.{IsDeclaredAt, IsScopeAt}
 use Rattle.gr_check.specs.DeclaredPlaces.{AreDeclaredIn, AreDeclaredAt, StandsBy, IsFound}
 use Rattle.gr_check.specs.declared.declared_places.DeclaredPlaces.{DeclaredPlaces}
-use Rattle.gr_conflict.specs.OldPlaces.{AddsOnly, GoesFrom, GoFrom, GoFromPackage, HasGone, field_at, method_at}
+use Rattle.gr_conflict.specs.OldPlaces.{AddsOnly, GoesFrom, GoFrom, GoFromPackage, HasGone, HasGoneTo, field_at, method_at}
 
 pub only_none : {X : Type 0} (a : List X) (P : X → Type 0) → AddsOnly a a P
 only_none a P = λ x h. inl h
@@ -113,3 +113,14 @@ gone_at w known moved n path places are own b h =
     let p = are.inside in
     let same : path ≡ p.path = own p.path are.is_package.has_number in
     gone_in w known moved p are.is_package.is_package places are.declared b (subst (λ q. GoFromPackage moved q places b) same h)
+
+-- what was found, told otherwise
+pub told_as : (K L : Declaration → Type 0) (o : Option Declaration) → ((d : Declaration) → K d → L d) → MatchOption o (Unit {0}) K → MatchOption o (Unit {0}) L
+told_as K L None to h = h
+told_as K L (Some d) to h = to d h
+
+-- what goes to a place
+pub gone_to : (Known : Package → Type 0) (moved : Place → Place) (b : BoundSpot) (d e : Declaration) (place : Place) → HasGone Known moved b →
+    place_at b ≡ place → b.declaration ≡ d → e ≡ d → HasGoneTo Known moved e place
+gone_to Known moved b d e place h at same copy =
+    subst (λ x. HasGoneTo Known moved x place) (same ∙ sym copy) (subst (HasGoneTo Known moved b.declaration) at h)

@@ -47,6 +47,13 @@ pub all_counted : (w : Workspace) (E : Declaration → Type 0) (o : Option Decla
 all_counted w E None to h = tt
 all_counted w E (Some e) to h = to e h
 
+-- a place with a declaration
+pub bound_is : (b : BoundSpot) (place : Place) (d : Declaration) → place_at b ≡ place → b.declaration ≡ d →
+    record { spot = record { path = place.path; offset = place.offset }; declaration = d } ≡ b
+bound_is b place d e f =
+    ap (λ (x : Place). record { spot = record { path = x.path; offset = x.offset }; declaration = d }) (sym e)
+    ∙ ap (λ (x : Declaration). record { spot = b.spot; declaration = x }) (sym f)
+
 -- what scopes bind, in the package of a number and in all
 pub scoped_here : (w : Workspace) (n : ℕ) (p : Package) → IsScopedIn w p → slice_get (package_paths w) n ≡ Some p.path → (b : BoundSpot) →
     IsBoundIn p b → IsBoundInNumber w n b

@@ -13,8 +13,8 @@ loop-number-init c = only_none c.args.old.now.items _
 
 pub loop-number-preserved : goal.loop-number-preserved
 loop-number-preserved c =
-    let w = c.args.graph.now in
-    let known = known_in c.args.found.now in
+    let w = c.args.packages.now.graph.now in
+    let known = known_in c.args.packages.now.found.now in
     let m = moved c.args.moves.now in
     let n = c.loop-number.number in
     let all = c.args.places.now in
@@ -26,3 +26,6 @@ loop-number-preserved c =
     let here = only_as a b (GoFromPackage m c.path_of-path.result.now x) (HasGone (IsPackage w known) m)
     (gone_at w known m n c.path_of-path.result.now x are c.path_of-path.ensures) c.in_ok-add_package.ensures in
     only_then c.args.old.now.items a b (HasGone (IsPackage w known) m) c.loop-number.invariant here
+
+pub path_of-path-requires-clause-sound : goal.path_of-path-requires-clause-sound
+path_of-path-requires-clause-sound c = c.requires.read.sound

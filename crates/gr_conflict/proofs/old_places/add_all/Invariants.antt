@@ -6,4 +6,4 @@ use Rattle.gr_conflict.specs.OldPlaces.{AddsOnly, HasGone}
 use Rattle.gr_conflict.proofs.old_places.add_all.Given as goal
 
 abbrev pub invariant-loop-number : goal.invariant-loop-number
-invariant-loop-number l = AddsOnly l.initial.old.items l.old.items (HasGone (IsPackage l.graph (known_in l.found)) (moved l.moves))
+invariant-loop-number l = AddsOnly l.initial.old.items l.old.items (HasGone (IsPackage l.packages.graph.now (known_in l.packages.found.now)) (moved l.moves))

@@ -8,7 +8,7 @@ use Rattle.gr_conflict.proofs.old_places.old_places.Goals as goal
 
 pub returns : goal.returns
 returns c =
-    let P = HasGone (IsPackage c.args.graph.now (known_in c.args.found.now)) (moved c.args.moves.now) in
+    let P = HasGone (IsPackage c.args.packages.now.graph.now (known_in c.args.packages.now.found.now)) (moved c.args.moves.now) in
     record {
       in_order = c.sort.ensures.order;
       each = λ b h. only_added c.new-old.result.items c.add_all.new.old.items P c.new-old.ensures.items c.in_ok-add_all.ensures b ((c.sort.ensures.same b).0 h);

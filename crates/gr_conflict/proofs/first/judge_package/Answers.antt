@@ -1,0 +1,17 @@
+-- The answers to the goals of `first::judge_package`.
+use Rattle.gr_declared.specs.PackageView.{package_of}
+use Rattle.gr_conflict.specs.Conflicts.{IsConflictIn, IsConflict}
+use Rattle.gr_conflict.specs.Judging.{workspace_in, known_verdicts, change_in}
+use Rattle.gr_conflict.proofs.Taking.{call_takes}
+use Rattle.gr_conflict.proofs.Telling.{in_package}
+use Rattle.gr_conflict.proofs.first.judge_package.Goals as goal
+
+pub returns : goal.returns
+returns c =
+    let j = c.args.judge.now in
+    let w = workspace_in j in
+    let known = known_verdicts j in
+    let r = change_in j in
+    let p = package_of c.unit.result in
+    call_takes (IsConflictIn w known r p) (IsConflict w known r) c.args.first.now c.judge_unit.new.first c.judge_unit.result
+    (in_package w known r c.args.number p c.unit.ensures) c.judge_unit.ensures
