@@ -4,5 +4,6 @@ pub mod Afterwards
 pub mod Firsts
 pub mod Conflicts
 pub mod OldPlaces
+pub mod Refusals
 pub mod Now
 pub mod Judging
