@@ -9,9 +9,6 @@ use Rattle.gr_conflict.specs.Now.{IsBoundIn, IsBoundInNumber}
 use Rattle.gr_conflict.proofs.Nowadays.{scoped_here, scoped_there}
 use Rattle.gr_conflict.proofs.afterwards.add_number.Goals as goal
 
-pub index-scoped-number-requires : goal.index-scoped-number-requires
-index-scoped-number-requires c = subst (λ n. c.args.number < n) (sym c.requires.scoped.size) c.requires.in_range
-
 pub returns-in-None : goal.returns-in-None
 returns-in-None c =
     let w = c.args.graph.now in
