@@ -1,22 +1,26 @@
--- Where identifiers begin.
-use Rattle.std.proofs.Common.{ℕ, ◌≡◌, ◌<◌, false, subst}
-use Rattle.std.specs.Prelude.{Option, Some, None}
+-- The identifiers that stand at tokens.
+use Rattle.std.proofs.Common.{ℕ, ◌≡◌, ◌<◌, sym, subst}
+use Rattle.std.specs.Prelude.{Option, None}
 use Rattle.gr_text.specs.declared.place.Place.{Place}
 use Rattle.gr_scope.specs.declared.model.Position.{Position}
-use Rattle.gr_scope.specs.Bindings.{is_implied}
-use Rattle.gr_scope.specs.Table.{IsFoundAt}
+use Rattle.gr_scope.specs.Table.{StandsAt, IsFoundAt}
+use Rattle.gr_declared.specs.ByToken.{IsFirstBelow}
 use Rattle.gr_declared.specs.Package.{Package}
-use Rattle.gr_bound.specs.Identifiers.{BeginsAt}
 use Rattle.gr_bound.specs.Steps.{AtToken}
 use Rattle.gr_bound.proofs.NamedPlaces.{stands_once}
 use Rattle.gr_bound.proofs.Tokens.{Begins}
-use Rattle.gr_conflict.specs.Conflicts.{IsAnyFound}
+use Rattle.gr_check.specs.DeclaredPlaces.{IsFound}
+use Rattle.gr_check.proofs.Found.{found_as}
 
-pub begins_as : (p : Package) (u : ℕ) (at : Position) (o : Option Place) → u < p.size → is_implied (p.layout.role u) ≡ false → at ≡ p.layout.place u → IsAnyFound (Begins p at) o →
-    IsAnyFound (λ (place : Place). BeginsAt p place.path place.offset u) o
-begins_as p u at None lt stands e h = tt
-begins_as p u at (Some place) lt stands e h = ((lt, stands), subst (λ (x : Position). Begins p x place) e h)
+pub no_identifier : (p : Package) (at : Position) (o : Option ℕ) → o ≡ None → IsFirstBelow (StandsAt p.layout at) p.size o → (place : Place) →
+    AtToken p at place → ⊥
+no_identifier p at o e h place q =
+    let none : (u : ℕ) → u < p.size → StandsAt p.layout at u → ⊥ = subst (IsFirstBelow (StandsAt p.layout at) p.size) e h in
+    none q.0 q.1.0.0.0 q.1.1
 
-pub an_identifier : (p : Package) (u : ℕ) (at : Position) (o : Option Place) → IsFoundAt p.layout p.size at u → IsAnyFound (Begins p at) o → IsAnyFound (AtToken p at) o
-an_identifier p u at None found h = tt
-an_identifier p u at (Some place) found h = (u, (((found.within, found.holds.0), subst (λ (x : Position). Begins p x place) (stands_once p u at found.holds) h), found.holds))
+pub an_identifier : (p : Package) (u : ℕ) (at : Position) (o : Option Place) → IsFoundAt p.layout p.size at u → IsFound (Begins p at) o →
+    IsFound (AtToken p at) o
+an_identifier p u at o found h =
+    found_as (Begins p at) (AtToken p at) o
+    (λ place t. (u, (((found.within, found.holds.0), subst (λ (x : Position). Begins p x place) (stands_once p u at found.holds) t), found.holds)))
+    (λ place q. subst (λ (x : Position). Begins p x place) (sym (stands_once p q.0 at q.1.1)) q.1.0.1) h

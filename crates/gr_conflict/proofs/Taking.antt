@@ -13,7 +13,8 @@ pub takes_as : {X : Type 0} (P Q : X → Type 0) (a b : Option X) → ((x : X) �
 takes_as P Q a b to (inl e) = inl e
 takes_as P Q a b to (inr x) = inr (x.0, (x.1.0, to x.0 x.1.1))
 
-pub call_takes : {X E : Type 0} (P Q : X → Type 0) (a b : Option X) (r : Result (Unit {0}) E) → ((x : X) → P x → Q x) → OnOk r (Takes P a b) → OnOk r (Takes Q a b)
+pub call_takes : {X E : Type 0} (P Q : X → Type 0) (a b : Option X) (r : Result (Unit {0}) E) → ((x : X) → P x → Q x) → OnOk r (Takes P a b) →
+    OnOk r (Takes Q a b)
 call_takes P Q a b r to h = on_ok_weaker r (λ t. takes_as P Q a b to t) h
 
 -- one step after another

@@ -1,7 +1,9 @@
 -- Conflicts of identifiers that were bound.
 use Rattle.std.proofs.Common.{ℕ, ◌≡◌, ◌∙◌, List, map, sym, subst, refl}
-use Rattle.std.specs.Prelude.{Option, Some, None, MatchOption, slice_get, slice_index_or}
+use Rattle.std.specs.Prelude.{⊤, Option, Some, None, MatchOption, Contains, slice_get}
 use Rattle.std.specs.Global.{Vec}
+use Rattle.std.proofs.lemmas.Option.{none-some}
+use Rattle.gr_text.specs.Packages.{package_paths}
 use Rattle.gr_text.specs.Workspace.{Workspace}
 use Rattle.gr_text.specs.declared.place.Place.{Place}
 use Rattle.gr_scope.specs.declared.model.Position.{Position}
@@ -15,34 +17,105 @@ use Rattle.gr_declared.specs.Definitions.{AreDefinitions}
 use Rattle.gr_meanings.specs.MemberUses.{AreMemberUses, uses_in}
 use Rattle.gr_meanings.specs.Uniqueness.{IsOneWorld}
 use Rattle.gr_verdict.specs.Verdicts.{Verdicts}
+use Rattle.gr_revision.specs.Revisions.{Revision}
 use Rattle.gr_bound.specs.declared.declaration.Declaration.{Declaration}
 use Rattle.gr_bound.specs.declared.declaration.Declaration.TheVariants.{Predeclared, Declared, Field, Method}
-use Rattle.gr_bound.specs.Binding.{Binds, by_member, by_name, BindsByPackage, IsBehindPackage, IsFieldAt, IsMethodAt}
+use Rattle.gr_bound.specs.Binding.{BindsByScope, BindsByPackage, IsBehindPackage, IsFieldAt, IsMethodAt}
 use Rattle.gr_bound.specs.Identifiers.{BeginsAt}
-use Rattle.gr_bound.specs.Members.{member_at, IsMemberUseOf}
-use Rattle.gr_bound.specs.Steps.{AtToken, AtFound}
+use Rattle.gr_bound.specs.Members.{member_at}
+use Rattle.gr_bound.specs.Steps.{AtToken, IsDeclarationFound}
 use Rattle.gr_bound.specs.Uses.{IsPackage}
 use Rattle.gr_bound.specs.Workspaces.{ExportsAs, IsPackageAt}
 use Rattle.gr_bound.proofs.MemberPlaces.{IsFileUse, to_bound}
 use Rattle.gr_bound.proofs.NamedPlaces.{found_to_name}
+use Rattle.gr_conflict.specs.declared.conflict.Capturer.{Capturer}
 use Rattle.gr_conflict.specs.declared.conflict.Conflict.{Conflict}
-use Rattle.gr_conflict.specs.Conflicts.{IsIdentifierIn, IsIdentifierKnown, IsConflictIn, IsConflict, IsOf, IsAtToken, IsAtFound, IsMemberConflict, IsMemberConflictAmong}
+use Rattle.gr_conflict.specs.Afterwards.{HasBecome, IsBoundByScopes, IsExportAfter, IsBoundByPackage}
+use Rattle.gr_conflict.specs.Conflicts.{IsCapturer, TellsOf, unbound, elsewhere, captured, TellsOther, IsConflictIn, IsConflict, IsNoted, IsOtherNoted, IsOtherAt}
+use Rattle.gr_conflict.specs.Conflicts.{IsLostAt, IsLostAtFound, IsMemberConflict, IsMemberConflictAmong, IsToldFirst, TellsFirst}
+use Rattle.gr_conflict.specs.Conflicts.{an_identifier, by_scope, by_package, by_member, by_name}
 
--- what begins at a place and was bound
-pub noted_in : (Known : Package → Type 0) (p : Package) (u : ℕ) (old : Declaration) → Binds Known p u old → (place : Place) → BeginsAt p place.path place.offset u → (c : Conflict) → IsOf place c → IsConflictIn Known p c
-noted_in Known p u old was place begins c e = record { user = u; begins = subst (λ (x : Place). BeginsAt p x.path x.offset u) (sym e) begins; old = old; was = was }
+-- of what was found K tells
+pub found_so : (K : Declaration → Type 0) (o : Option Declaration) → IsDeclarationFound K o → (x : Declaration) → o ≡ Some x → K x
+found_so K o h x e = subst (IsDeclarationFound K) e h
 
-pub noted_at : (p : Package) (at : Position) (place : Place) → AtToken p at place → (c : Conflict) → IsOf place c → IsAtToken p at c
-noted_at p at place is c e = subst (AtToken p at) (sym e) is
+nothing_found : (K : Declaration → Type 0) (o : Option Declaration) → IsDeclarationFound K o → ((e : Declaration) → o ≡ Some e → ⊥) → (e : Declaration) → K e → ⊥
+nothing_found K None found none = found
+nothing_found K (Some x) found none = λ e k. none x refl
 
-pub in_package : (w : Workspace) (known : Verdicts) (number : ℕ) (p : Package) → IsPackageAt w known number p → (c : Conflict) → IsConflictIn (IsPackage w known) p c → IsConflict w known c
-in_package w known number p is c h = record { used_in = p; is_package = is.is_package; conflict = h }
+-- what is told by what was found is told by what that is
+pub tells_found : (Becomes : Declaration → Declaration → Type 0) (Known : Package → Type 0) (K : Declaration → Type 0) (old : Declaration)
+    (now : Option Declaration) → IsDeclarationFound K now → (by : Option Capturer) →
+    TellsOf Becomes Known (λ e. now ≡ Some e) old by → TellsOf Becomes Known K old by
+tells_found Becomes Known K old now found by (unbound none) = unbound (nothing_found K now found none)
+tells_found Becomes Known K old now found by (elsewhere e is not) = elsewhere e (found_so K now found e is) not
+tells_found Becomes Known K old now found by (captured e c is not become told) = captured e c (found_so K now found e is) not become told
 
-pub identifier_known : (w : Workspace) (known : Verdicts) (number : ℕ) (p : Package) → IsPackageAt w known number p → (place : Place) → IsIdentifierIn p place → IsIdentifierKnown w known place
-identifier_known w known number p is place h = record { used_in = p; is_package = is.is_package; identifier = h }
+pub noted_found : (Becomes : Declaration → Declaration → Type 0) (Known : Package → Type 0) (K : Declaration → Type 0) (used : Place) (old : Declaration)
+    (now : Option Declaration) → IsDeclarationFound K now → (c : Conflict) →
+    IsNoted Becomes Known (λ e. now ≡ Some e) used old c → IsNoted Becomes Known K used old c
+noted_found Becomes Known K used old now found c h = (h.0, tells_found Becomes Known K old now found c.by h.1)
+
+-- the same with other words for what it is bound to
+tells_as : (Becomes : Declaration → Declaration → Type 0) (Known : Package → Type 0) (K L : Declaration → Type 0) (old : Declaration) →
+    ((d : Declaration) → K d → L d) → ((d : Declaration) → L d → K d) → (by : Option Capturer) →
+    TellsOf Becomes Known K old by → TellsOf Becomes Known L old by
+tells_as Becomes Known K L old to from by (unbound none) = unbound (λ e l. none e (from e l))
+tells_as Becomes Known K L old to from by (elsewhere e is not) = elsewhere e (to e is) not
+tells_as Becomes Known K L old to from by (captured e c is not become told) = captured e c (to e is) not become told
+
+pub noted_as : (Becomes : Declaration → Declaration → Type 0) (Known : Package → Type 0) (K L : Declaration → Type 0) (used : Place) (old : Declaration) →
+    ((d : Declaration) → K d → L d) → ((d : Declaration) → L d → K d) → (c : Conflict) →
+    IsNoted Becomes Known K used old c → IsNoted Becomes Known L used old c
+noted_as Becomes Known K L used old to from c h = (h.0, tells_as Becomes Known K L old to from c.by h.1)
+
+-- what is told of an identifier that is bound to none
+pub lost : (Becomes : Declaration → Declaration → Type 0) (Known : Package → Type 0) (used : Place) (old : Declaration) (now : Option Declaration) →
+    now ≡ None → (c : Conflict) → (c.used ≡ used) × (c.by ≡ None) →
+    IsNoted Becomes Known (λ e. now ≡ Some e) used old c
+lost Becomes Known used old now none c h =
+    let is : TellsOf Becomes Known (λ e. now ≡ Some e) old None = unbound (λ e some. none-some e (sym none ∙ some)) in
+    (h.0, subst (TellsOf Becomes Known (λ e. now ≡ Some e) old) (sym h.1) is)
+
+-- and of one that is bound to a declaration which the old one has not become
+told_by_capturer : (Becomes : Declaration → Declaration → Type 0) (Known : Package → Type 0) (old e : Declaration) → (Becomes old e → ⊥) →
+    (by : Option Capturer) → MatchOption by (Unit {0}) (λ x. (c : Declaration) × (Becomes c e × IsCapturer Known c x)) →
+    TellsOf Becomes Known (λ d. d ≡ e) old by
+told_by_capturer Becomes Known old e not None h = elsewhere e refl not
+told_by_capturer Becomes Known old e not (Some by) h = captured e h.0 refl not h.1.0 h.1.1
+
+pub told_of : (Becomes : Declaration → Declaration → Type 0) (Known : Package → Type 0) (used : Place) (old e : Declaration) → (Becomes old e → ⊥) →
+    (by : Option Capturer) → MatchOption by (Unit {0}) (λ x. (c : Declaration) × (Becomes c e × IsCapturer Known c x)) →
+    (c : Conflict) → (c.used ≡ used) × (c.by ≡ by) → IsNoted Becomes Known (λ d. d ≡ e) used old c
+told_of Becomes Known used old e not by h c is =
+    (is.0, subst (TellsOf Becomes Known (λ d. d ≡ e) old) (sym is.1) (told_by_capturer Becomes Known old e not by h))
+
+-- what is told of one that was bound to a field or method
+pub other_lost : (Known : Package → Type 0) (used : Place) (old : Declaration) (c : Conflict) → (c.used ≡ used) × (c.by ≡ None) → IsOtherNoted Known used old c
+other_lost Known used old c h = (h.0, subst (TellsOther Known old) (sym h.1) tt)
+
+pub other_told : (Known : Package → Type 0) (used : Place) (old now : Declaration) (by : Capturer) → (old ≡ now → ⊥) → IsCapturer Known now by →
+    (c : Conflict) → (c.used ≡ used) × (c.by ≡ Some by) → IsOtherNoted Known used old c
+other_told Known used old now by other is c h =
+    (h.0, subst (TellsOther Known old) (sym h.1) (record { declaration = now; other = other; told = is }))
+
+pub in_package : (w : Workspace) (known : Verdicts) (r : Revision) (number : ℕ) (p : Package) → IsPackageAt w known number p → (c : Conflict) →
+    IsConflictIn w known r p c → IsConflict w known r c
+in_package w known r number p is c h = record { used_in = p; is_package = is.is_package; conflict = h }
+
+-- by scopes
+pub scope_turned : (w : Workspace) (known : Verdicts) (r : Revision) (p : Package) (u : ℕ) (old : Declaration) → BindsByScope p u old → (place : Place) →
+    BeginsAt p place.path place.offset u →
+    (c : Conflict) → IsNoted (HasBecome w known r) (IsPackage w known) (IsBoundByScopes r place) place old c → IsConflictIn w known r p c
+scope_turned w known r p u old was place begins c n = record {
+  user = u;
+  begins = subst (λ (x : Place). BeginsAt p x.path x.offset u) (sym n.0) begins;
+  turned = by_scope old was (subst (λ (x : Place). TellsOf (HasBecome w known r) (IsPackage w known) (IsBoundByScopes r x) old c.by) (sym n.0) n.1);
+}
 
 -- behind the name of a package
-pub exported_binds : (w : Workspace) (known : Verdicts) (p : Package) (u : ℕ) (path : List ℕ) → IsBehindPackage p u path → (d : Declaration) → ExportsAs w known path (p.names u) d →
+pub exported_binds : (w : Workspace) (known : Verdicts) (p : Package) (u : ℕ) (path : List ℕ) → IsBehindPackage p u path → (d : Declaration) →
+    ExportsAs w known path (p.names u) d →
     BindsByPackage (IsPackage w known) p u d
 exported_binds w known p u path behind (Predeclared n) h = h
 exported_binds w known p u path behind (Declared other n) h = record {
@@ -56,30 +129,81 @@ exported_binds w known p u path behind (Declared other n) h = record {
 exported_binds w known p u path behind (Field s) h = h
 exported_binds w known p u path behind (Method s) h = h
 
+-- a package that exports something is there
+pub exported_there : (w : Workspace) (known : Verdicts) (path name : List ℕ) (d : Declaration) → ExportsAs w known path name d → Contains (package_paths w) path
+exported_there w known path name (Predeclared n) h = absurd h
+exported_there w known path name (Declared other n) h = subst (Contains (package_paths w)) h.1.1.1.0 h.1.1.0.of_workspace
+exported_there w known path name (Field s) h = absurd h
+exported_there w known path name (Method s) h = absurd h
+
+-- it stands behind one package's name
+bound_behind : (w : Workspace) (r : Revision) (p : Package) (u : ℕ) (path : List ℕ) → IsBehindPackage p u path → (place : Place) → (e : Declaration) →
+    IsExportAfter w r path (r.called place (p.names u)) e → IsBoundByPackage w r place p u e
+bound_behind w r p u path behind place e h = record { path = path; behind = behind; exports = h }
+
+behind_bound : (w : Workspace) (r : Revision) (p : Package) (u : ℕ) (path : List ℕ) → ((other : List ℕ) → IsBehindPackage p u other → other ≡ path) →
+    (place : Place) → (e : Declaration) → IsBoundByPackage w r place p u e → IsExportAfter w r path (r.called place (p.names u)) e
+behind_bound w r p u path only place e h =
+    subst (λ q. IsExportAfter w r q (r.called place (p.names u)) e) (only h.path h.behind) h.exports
+
+pub package_turned : (w : Workspace) (known : Verdicts) (r : Revision) (p : Package) (u : ℕ) (path : List ℕ) → IsBehindPackage p u path →
+    ((other : List ℕ) → IsBehindPackage p u other → other ≡ path) → (old : Declaration) → BindsByPackage (IsPackage w known) p u old →
+    (place : Place) → BeginsAt p place.path place.offset u → (c : Conflict) →
+    IsNoted (HasBecome w known r) (IsPackage w known) (IsExportAfter w r path (r.called place (p.names u))) place old c → IsConflictIn w known r p c
+package_turned w known r p u path behind only old was place begins c n =
+    let B = HasBecome w known r in
+    let I = IsPackage w known in
+    let tells = (noted_as B I (IsExportAfter w r path (r.called place (p.names u))) (IsBoundByPackage w r place p u) place old
+    (bound_behind w r p u path behind place) (behind_bound w r p u path only place) c n).1 in
+    record {
+      user = u;
+      begins = subst (λ (x : Place). BeginsAt p x.path x.offset u) (sym n.0) begins;
+      turned = by_package old was (subst (λ (x : Place). TellsOf B I (IsBoundByPackage w r x p u) old c.by) (sym n.0) tells);
+    }
+
 -- as a member
-pub member_conflict : (ds : Symbol → Definition) (p : Package) (file : ℕ) (x : MemberUse) (old : Declaration) → member_at ds p file x.place x.before ≡ Some old →
-    (c : Conflict) → IsAtToken p (record { file = file; index = x.place }) c → IsMemberConflict ds p file x c
-member_conflict ds p file x old is c at = record { old = old; is_use = record { at = at; is_member = is } }
+pub noted_at : (Known : Package → Type 0) (p : Package) (at : Position) (old : Declaration) (place : Place) → AtToken p at place → (c : Conflict) →
+    IsOtherNoted Known place old c → IsOtherAt Known p at old c
+noted_at Known p at old place is c n = (subst (AtToken p at) (sym n.0) is, n.1)
 
-pub among : (ds : Symbol → Definition) (p : Package) (file : ℕ) (uses : List MemberUse) (k : ℕ) (x : MemberUse) → slice_get uses k ≡ Some x → (c : Conflict) → IsMemberConflict ds p file x c → IsMemberConflictAmong ds p file uses c
-among ds p file uses k x at c h = record { old = h.old; is_use = (k, record { found = x; has_rank = at; is_use = h.is_use }) }
+pub member_conflict : (Known : Package → Type 0) (ds : Symbol → Definition) (p : Package) (file : ℕ) (x : MemberUse) (old : Declaration) →
+    member_at ds p file x.place x.before ≡ Some old →
+    (c : Conflict) → IsOtherAt Known p (record { file = file; index = x.place }) old c → IsMemberConflict Known ds p file x c
+member_conflict Known ds p file x old is c n = record { old = old; is_use = record { at = n.0; is_member = is }; tells = n.1 }
 
-pub member_in : (Known : Package → Type 0) (p : Package) (formed : WellFormed p.layout) (one : IsOneWorld p) (ds : Symbol → Definition) (are : AreDefinitions p ds) (members : List (Vec FoundUse)) →
-    AreMemberUses p (map uses_in members) → (file : ℕ) (v : Vec FoundUse) → slice_get members file ≡ Some v → (c : Conflict) → IsMemberConflictAmong ds p file (uses_in v) c → IsConflictIn Known p c
-member_in Known p formed one ds are members all file v at c h =
+pub among : (Known : Package → Type 0) (ds : Symbol → Definition) (p : Package) (file : ℕ) (uses : List MemberUse) (k : ℕ) (x : MemberUse) →
+    slice_get uses k ≡ Some x →
+    (c : Conflict) → IsMemberConflict Known ds p file x c → IsMemberConflictAmong Known ds p file uses c
+among Known ds p file uses k x at c h = record { old = h.old; is_use = (k, record { found = x; has_rank = at; is_use = h.is_use }); tells = h.tells }
+
+pub member_in : (w : Workspace) (known : Verdicts) (r : Revision) (p : Package) (formed : WellFormed p.layout) (one : IsOneWorld p)
+    (ds : Symbol → Definition) (are : AreDefinitions p ds) (members : List (Vec FoundUse)) →
+    AreMemberUses p (map uses_in members) → (file : ℕ) (v : Vec FoundUse) → slice_get members file ≡ Some v → (c : Conflict) →
+    IsMemberConflictAmong (IsPackage w known) ds p file (uses_in v) c → IsConflictIn w known r p c
+member_in w known r p formed one ds are members all file v at c h =
     let here : IsFileUse ds p h.old members file c.used = record { uses = v; has_rank = at; is_use = h.is_use } in
     let b = to_bound p formed one ds are members all h.old c.used file here in
-    record { user = b.0; begins = b.1.0; old = h.old; was = by_member b.1.1 }
+    record { user = b.0; begins = b.1.0; turned = by_member h.old b.1.1 h.tells }
 
 -- as the name of a field, of a method
-pub field_in : (Known : Package → Type 0) (p : Package) (rank : ℕ) (o : Option Position) → MatchOption o ((at : Position) → IsFieldAt p rank at → ⊥) (λ at. IsFieldAt p rank at) →
-    (c : Conflict) → IsAtFound p o c → IsConflictIn Known p c
-field_in Known p rank o is c h =
-    let n = found_to_name (IsFieldAt p) p rank o is c.used h in
-    record { user = n.0; begins = n.1.0; old = Field (symbol_in p rank); was = by_name (refl, n.1.1) }
+pub lost_at : (p : Package) (at : Position) (place : Place) → AtToken p at place → (c : Conflict) → (c.used ≡ place) × (c.by ≡ None) → IsLostAt p at c
+lost_at p at place is c n = (subst (AtToken p at) (sym n.0) is, n.1)
 
-pub method_in : (Known : Package → Type 0) (p : Package) (rank : ℕ) (o : Option Position) → MatchOption o ((at : Position) → IsMethodAt p rank at → ⊥) (λ at. IsMethodAt p rank at) →
-    (c : Conflict) → IsAtFound p o c → IsConflictIn Known p c
-method_in Known p rank o is c h =
-    let n = found_to_name (IsMethodAt p) p rank o is c.used h in
-    record { user = n.0; begins = n.1.0; old = Method (symbol_in p rank); was = by_name (refl, n.1.1) }
+pub field_in : (w : Workspace) (known : Verdicts) (r : Revision) (p : Package) (rank : ℕ) (o : Option Position) →
+    MatchOption o ((at : Position) → IsFieldAt p rank at → ⊥) (λ at. IsFieldAt p rank at) →
+    (c : Conflict) → IsLostAtFound p o c → IsConflictIn w known r p c
+field_in w known r p rank o is c h =
+    let n = found_to_name (IsFieldAt p) p rank o is c.used h.0 in
+    record { user = n.0; begins = n.1.0; turned = by_name (Field (symbol_in p rank)) (refl, n.1.1) h.1 }
+
+pub method_in : (w : Workspace) (known : Verdicts) (r : Revision) (p : Package) (rank : ℕ) (o : Option Position) →
+    MatchOption o ((at : Position) → IsMethodAt p rank at → ⊥) (λ at. IsMethodAt p rank at) →
+    (c : Conflict) → IsLostAtFound p o c → IsConflictIn w known r p c
+method_in w known r p rank o is c h =
+    let n = found_to_name (IsMethodAt p) p rank o is c.used h.0 in
+    record { user = n.0; begins = n.1.0; turned = by_name (Method (symbol_in p rank)) (refl, n.1.1) h.1 }
+
+-- the first identifier, where no conflict was found
+pub told_so : (w : Workspace) (known : Verdicts) (r : Revision) (o : Option Conflict) → IsToldFirst w known o → TellsFirst w known r o
+told_so w known r None h = h
+told_so w known r (Some c) h = an_identifier h

@@ -1,5 +1,5 @@
--- Identifiers that a change loses or captures, as far as they are told. Known: the packages of the workspace before.
-use Rattle.std.specs.Prelude.{ℕ, ◌≡◌, ◌⊎◌, List, Option, Some, None, MatchOption}
+-- Identifiers that a change loses or captures, and what is told of them. Known: the packages of the workspace before.
+use Rattle.std.specs.Prelude.{ℕ, ◌≡◌, ◌⊎◌, ⊤, List, Option, Some, None, MatchOption}
 use Rattle.gr_text.specs.Workspace.{Workspace}
 use Rattle.gr_text.specs.declared.place.Place.{Place}
 use Rattle.gr_scope.specs.declared.model.Position.{Position}
@@ -9,71 +9,124 @@ use Rattle.gr_expr.specs.World.{Definition}
 use Rattle.gr_declared.specs.Package.{Package}
 use Rattle.gr_verdict.specs.Verdicts.{Verdicts}
 use Rattle.gr_bound.specs.declared.declaration.Declaration.{Declaration}
-use Rattle.gr_bound.specs.Binding.{Binds}
+use Rattle.gr_bound.specs.Binding.{BindsByScope, BindsByPackage, BindsByMember, BindsByName, IsBehindPackage}
 use Rattle.gr_bound.specs.Identifiers.{BeginsAt}
 use Rattle.gr_bound.specs.Members.{IsMemberUseOf, IsMemberUseAmong}
 use Rattle.gr_bound.specs.Steps.{AtToken, AtFound}
 use Rattle.gr_bound.specs.Uses.{IsPackage}
+use Rattle.gr_revision.specs.Revisions.{Revision}
+use Rattle.gr_standing.specs.Standing.{IsDeclaredAt}
+use Rattle.gr_check.specs.Preserved.{IsIdentifierAt}
+use Rattle.gr_conflict.specs.Afterwards.{HasBecome, IsBoundByScopes, IsBoundByPackage}
+use Rattle.gr_conflict.specs.Firsts.{IsNotBefore}
+use Rattle.gr_conflict.specs.declared.conflict.Capturer.{Capturer}
+use Rattle.gr_conflict.specs.declared.conflict.Capturer.TheVariants.{Universe, At}
 use Rattle.gr_conflict.specs.declared.conflict.Conflict.{Conflict}
 
--- an identifier of the package, and no literal of an import, begins at the place
-pub record IsIdentifierIn (p : Package) (place : Place) : Type 0 where
+-- what is told of a declaration that captures: the place where it stands, or that it stands nowhere, as one that is predeclared
+abbrev pub IsCapturer : (Package → Type 0) → Declaration → Capturer → Type 0
+IsCapturer Known d Universe = (place : Place) → IsDeclaredAt Known d place → ⊥
+IsCapturer Known d (At place) = IsDeclaredAt Known d place
+
+-- What is told of an identifier that was bound to old, and is bound afterwards to that of which E tells. It is lost where that is
+-- none, or one that old has not become, and no other that is found; what captures it has become what it is bound to, and old has not.
+pub data TellsOf (Becomes : Declaration → Declaration → Type 0) (Known : Package → Type 0) (E : Declaration → Type 0) (old : Declaration) : Option Capturer → Type 0 where
+  unbound : ((e : Declaration) → E e → ⊥) → TellsOf Becomes Known E old None
+  elsewhere : (e : Declaration) → E e → (Becomes old e → ⊥) → TellsOf Becomes Known E old None
+  captured : {by : Capturer} (e c : Declaration) → E e → (Becomes old e → ⊥) → Becomes c e → IsCapturer Known c by → TellsOf Becomes Known E old (Some by)
+
+-- the same of what is bound to a field or method: another declaration captures
+pub record IsOther (Known : Package → Type 0) (old : Declaration) (by : Capturer) : Type 0 where
+  pub declaration : Declaration
+  pub other : old ≡ declaration → ⊥
+  pub told : IsCapturer Known declaration by
+
+abbrev pub TellsOther : (Package → Type 0) → Declaration → Option Capturer → Type 0
+TellsOther Known old None = ⊤
+TellsOther Known old (Some by) = IsOther Known old by
+
+-- An identifier of the package was bound to a declaration in some way, and in this way it is afterwards bound to none, or to
+-- another. Of what is used as a member only that it was bound is told. The name by which a member is declared is never captured.
+pub data IsTurned (w : Workspace) (known : Verdicts) (r : Revision) (p : Package) (u : ℕ) (c : Conflict) : Type 0 where
+  by_scope : (old : Declaration) → BindsByScope p u old → TellsOf (HasBecome w known r) (IsPackage w known) (IsBoundByScopes r c.used) old c.by → IsTurned w known r p u c
+  by_package : (old : Declaration) → BindsByPackage (IsPackage w known) p u old → TellsOf (HasBecome w known r) (IsPackage w known) (IsBoundByPackage w r c.used p u) old c.by → IsTurned w known r p u c
+  by_member : (old : Declaration) → BindsByMember p u old → TellsOther (IsPackage w known) old c.by → IsTurned w known r p u c
+  by_name : (old : Declaration) → BindsByName p u old → c.by ≡ None → IsTurned w known r p u c
+
+pub record IsConflictIn (w : Workspace) (known : Verdicts) (r : Revision) (p : Package) (c : Conflict) : Type 0 where
   pub user : ℕ
-  pub begins : BeginsAt p place.path place.offset user
+  pub begins : BeginsAt p c.used.path c.used.offset user
+  pub turned : IsTurned w known r p user c
 
 -- the same in some package of a workspace
-pub record IsIdentifierKnown (w : Workspace) (known : Verdicts) (place : Place) : Type 0 where
+pub record IsConflict (w : Workspace) (known : Verdicts) (r : Revision) (c : Conflict) : Type 0 where
   pub used_in : Package
   pub is_package : IsPackage w known used_in
-  pub identifier : IsIdentifierIn used_in place
+  pub conflict : IsConflictIn w known r used_in c
 
--- an identifier of the package begins there, and was bound to a declaration
-pub record WasBoundIn (Known : Package → Type 0) (p : Package) (place : Place) : Type 0 where
-  pub user : ℕ
-  pub begins : BeginsAt p place.path place.offset user
-  pub old : Declaration
-  pub was : Binds Known p user old
+-- no conflict was found, and the identifier is the first of the workspace
+pub record IsFirstOfAll (w : Workspace) (known : Verdicts) (c : Conflict) : Type 0 where
+  pub lost : c.by ≡ None
+  pub is_identifier : IsIdentifierAt w known c.used
+  pub first : (place : Place) → IsIdentifierAt w known place → IsNotBefore place c.used
 
--- of a conflict
-abbrev pub IsConflictIn : (Package → Type 0) → Package → Conflict → Type 0
-IsConflictIn Known p c = WasBoundIn Known p c.used
+-- What is told of a change: an identifier that is afterwards bound to none, or to another declaration, which captures it; or else the
+-- first identifier of all, and nothing that captures it.
+pub data IsTold (w : Workspace) (known : Verdicts) (r : Revision) (c : Conflict) : Type 0 where
+  a_conflict : IsConflict w known r c → IsTold w known r c
+  an_identifier : IsFirstOfAll w known c → IsTold w known r c
 
--- the same in some package of a workspace
-pub record IsConflict (w : Workspace) (known : Verdicts) (c : Conflict) : Type 0 where
-  pub used_in : Package
-  pub is_package : IsPackage w known used_in
-  pub conflict : IsConflictIn (IsPackage w known) used_in c
+-- no identifier is there
+abbrev pub HasNone : Workspace → Verdicts → Type 0
+HasNone w known = (place : Place) → IsIdentifierAt w known place → ⊥
 
--- What is told of a change: an identifier that was bound, whether or not a declaration captures it; or else some identifier, and
--- nothing that captures it.
-pub data IsTold (w : Workspace) (known : Verdicts) (c : Conflict) : Type 0 where
-  a_conflict : IsConflict w known c → IsTold w known c
-  an_identifier : c.by ≡ None → IsIdentifierKnown w known c.used → IsTold w known c
+-- the first identifier of all; none where there is none
+abbrev pub IsToldFirst : Workspace → Verdicts → Option Conflict → Type 0
+IsToldFirst w known told = MatchOption told (HasNone w known) (IsFirstOfAll w known)
 
--- what is kept is what was, or something of which P holds
+-- what is told of a change; nothing where no identifier is there
+abbrev pub TellsFirst : Workspace → Verdicts → Revision → Option Conflict → Type 0
+TellsFirst w known r told = MatchOption told (HasNone w known) (IsTold w known r)
+
+-- what is kept is what was, or a conflict of which P holds
 abbrev pub Takes : {X : Type 0} → (X → Type 0) → Option X → Option X → Type 0
 Takes {X} P old new = (new ≡ old) ⊎ ((x : X) × ((new ≡ Some x) × P x))
 
--- what was found is of this kind
-abbrev pub IsAnyFound : {X : Type 0} → (X → Type 0) → Option X → Type 0
-IsAnyFound P found = MatchOption found (Unit {0}) P
+-- the conflict of that place, by that capturer
+abbrev pub IsKept : Place → Option Capturer → Conflict → Type 0
+IsKept used by c = (c.used ≡ used) × (c.by ≡ by)
 
--- a conflict of what begins at a place, stands at a token, or at one that was found
-abbrev pub IsOf : Place → Conflict → Type 0
-IsOf place c = c.used ≡ place
+-- a conflict of what begins at a place, was bound to a declaration and is afterwards bound to that of which E tells
+abbrev pub IsNoted : (Becomes : Declaration → Declaration → Type 0) → (Package → Type 0) → (Declaration → Type 0) → Place → Declaration → Conflict → Type 0
+IsNoted Becomes Known E used old c = (c.used ≡ used) × TellsOf Becomes Known E old c.by
 
-abbrev pub IsAtToken : Package → Position → Conflict → Type 0
-IsAtToken p at c = AtToken p at c.used
+-- a conflict of what begins at a place, and was bound to a field or method
+abbrev pub IsOtherNoted : (Package → Type 0) → Place → Declaration → Conflict → Type 0
+IsOtherNoted Known used old c = (c.used ≡ used) × TellsOther Known old c.by
 
-abbrev pub IsAtFound : Package → Option Position → Conflict → Type 0
-IsAtFound p at c = AtFound p at c.used
+-- an identifier stands behind the name of the package of that path, and of no other
+abbrev pub IsOnlyBehind : Package → ℕ → List ℕ → Type 0
+IsOnlyBehind p u path = IsBehindPackage p u path × ((other : List ℕ) → IsBehindPackage p u other → other ≡ path)
+
+-- the same of what stands at a token
+abbrev pub IsOtherAt : (Package → Type 0) → Package → Position → Declaration → Conflict → Type 0
+IsOtherAt Known p at old c = AtToken p at c.used × TellsOther Known old c.by
 
 -- a conflict of what is used as a member, by the definitions that the package sees
-pub record IsMemberConflict (definitions : Symbol → Definition) (p : Package) (file : ℕ) (found : MemberUse) (c : Conflict) : Type 0 where
+pub record IsMemberConflict (Known : Package → Type 0) (definitions : Symbol → Definition) (p : Package) (file : ℕ) (found : MemberUse) (c : Conflict) : Type 0 where
   pub old : Declaration
   pub is_use : IsMemberUseOf definitions p file old found c.used
+  pub tells : TellsOther Known old c.by
 
 -- the same of some member use of a file
-pub record IsMemberConflictAmong (definitions : Symbol → Definition) (p : Package) (file : ℕ) (uses : List MemberUse) (c : Conflict) : Type 0 where
+pub record IsMemberConflictAmong (Known : Package → Type 0) (definitions : Symbol → Definition) (p : Package) (file : ℕ) (uses : List MemberUse) (c : Conflict) : Type 0 where
   pub old : Declaration
   pub is_use : IsMemberUseAmong definitions p file old uses c.used
+  pub tells : TellsOther Known old c.by
+
+-- the name of a member is lost that stands at a token, or at one that was found
+abbrev pub IsLostAt : Package → Position → Conflict → Type 0
+IsLostAt p at c = AtToken p at c.used × (c.by ≡ None)
+
+abbrev pub IsLostAtFound : Package → Option Position → Conflict → Type 0
+IsLostAtFound p at c = AtFound p at c.used × (c.by ≡ None)

@@ -1,34 +1,67 @@
 -- What is known while identifiers are judged.
-use Rattle.std.specs.Prelude.{◌≡◌, length}
-use Rattle.std.specs.List.Sorted.{IsSortedBy}
-use Rattle.std.specs.Ordering.{is_lt}
-use Rattle.gr_text.specs.Packages.{package_paths}
-use Rattle.gr_bound.specs.Bindings.{place_at}
-use Rattle.gr_bound.specs.Exports.{AreExports}
-use Rattle.gr_bound.specs.Places.{place_cmp}
-use Rattle.gr_bound.specs.Uses.{IsPackage}
-use Rattle.gr_bound.specs.Workspaces.{IsSound, known_in}
-use Rattle.gr_scoped.specs.Scopes.{AreAllScopes}
+use Rattle.std.specs.Prelude.{◌≡◌}
 use Rattle.gr_text.specs.Workspace.{Workspace}
+use Rattle.gr_edit.specs.EditSet.{FileChanges, edited}
+use Rattle.gr_edit.specs.Moved.{moved}
 use Rattle.gr_declared.specs.Package.{Package}
-use Rattle.gr_verdict.specs.declared.findings.Findings.{Findings}
+use Rattle.gr_verdict.specs.Verdicts.{Verdicts}
+use Rattle.gr_revision.specs.Revisions.{Revision}
+use Rattle.gr_revision.specs.RevisionsOfEdits.{called_by}
+use Rattle.gr_bound.specs.declared.declaration.Declaration.{Declaration}
+use Rattle.gr_bound.specs.declared.packages.Packages.{Packages}
+use Rattle.gr_bound.specs.Exports.{AreExports}
+use Rattle.gr_bound.specs.Packages.{ArePackages}
+use Rattle.gr_bound.specs.Uses.{IsPackage}
+use Rattle.gr_bound.specs.Workspaces.{known_in}
+use Rattle.gr_check.specs.DeclaredPlaces.{AreDeclared}
+use Rattle.gr_scoped.specs.Scopes.{AreAllScopes}
+use Rattle.gr_conflict.specs.Afterwards.{HasBecome}
+use Rattle.gr_conflict.specs.Now.{AreScopeBindings}
+use Rattle.gr_conflict.specs.OldPlaces.{AreOldPlaces}
 use Rattle.gr_conflict.specs.declared.first.Before.{Before}
 use Rattle.gr_conflict.specs.declared.judge.Judge.{Judge}
 
+-- the workspace of packages, and what is known of them
+abbrev pub workspace_of : Packages → Workspace
+workspace_of p = p.graph.now
+
+abbrev pub verdicts_of : Packages → Verdicts
+verdicts_of p = known_in p.found.now
+
 -- what is found before a change
-pub record KnowsBefore (w : Workspace) (found : Findings) (b : Before) : Type 0 where
-  pub exports : AreExports w (known_in found) b.exports.items
-  pub places : length b.places.items ≡ length (package_paths w)
-  pub old : IsSortedBy (λ a b. is_lt (place_cmp (place_at a) (place_at b))) b.old.items
+pub record KnowsBefore (p : Packages) (s : FileChanges) (b : Before) : Type 0 where
+  pub exports : AreExports (workspace_of p) (verdicts_of p) b.exports.items
+  pub places : AreDeclared (workspace_of p) (verdicts_of p) b.places.items
+  pub old : AreOldPlaces (IsPackage (workspace_of p) (verdicts_of p)) (moved s) b.old.items
 
 -- the same, and what is found afterwards
 pub record KnowsChange (j : Judge) : Type 0 where
-  pub sound : IsSound j.graph.now j.found.now
-  pub exports : AreExports j.graph.now (known_in j.found.now) j.exports.now
-  pub places : length j.places.now ≡ length (package_paths j.graph.now)
-  pub old : IsSortedBy (λ a b. is_lt (place_cmp (place_at a) (place_at b))) j.old.now
+  pub read : ArePackages j.packages.now
+  pub exports : AreExports (workspace_of j.packages.now) (verdicts_of j.packages.now) j.exports.now
+  pub places : AreDeclared (workspace_of j.packages.now) (verdicts_of j.packages.now) j.places.now
+  pub old : AreOldPlaces (IsPackage (workspace_of j.packages.now) (verdicts_of j.packages.now)) (moved j.moves.now) j.old.now
+  pub after : j.after.now ≡ edited j.moves.now (workspace_of j.packages.now)
   pub scoped : AreAllScopes j.after.now j.scoped.now
+  pub bound : AreScopeBindings j.after.now j.bound.now
 
--- the packages of the workspace before
+-- the workspace before, and what is known of its packages
+abbrev pub workspace_in : Judge → Workspace
+workspace_in j = workspace_of j.packages.now
+
+abbrev pub known_verdicts : Judge → Verdicts
+known_verdicts j = verdicts_of j.packages.now
+
+-- these packages
 abbrev pub known_packages : Judge → Package → Type 0
-known_packages j = IsPackage j.graph.now (known_in j.found.now)
+known_packages j = IsPackage (workspace_in j) (known_verdicts j)
+
+-- the change
+abbrev pub change_by : Workspace → FileChanges → Revision
+change_by after s = record { after = after; moved = moved s; called = called_by s }
+
+abbrev pub change_in : Judge → Revision
+change_in j = change_by j.after.now j.moves.now
+
+-- which declaration has become which
+abbrev pub becomes_in : Judge → Declaration → Declaration → Type 0
+becomes_in j = HasBecome (workspace_in j) (known_verdicts j) (change_in j)

@@ -1,4 +1,9 @@
 -- The definitions of this crate.
 pub mod Told
+pub mod Afterwards
+pub mod Firsts
 pub mod Conflicts
+pub mod OldPlaces
+pub mod Refusals
+pub mod Now
 pub mod Judging

@@ -1,117 +1,57 @@
 //! The first identifier of a workspace.
-ghost use Rattle.std.specs.Prelude.{◌≡◌, ◌<◌, None, length, map, IfOk, OnOk};
-ghost use Rattle.gr_text.specs.Packages.{package_paths};
-ghost use Rattle.gr_tree.specs.SourceFile.{source_of};
-ghost use Rattle.gr_declared.specs.InterfacesView.{interface_in};
-ghost use Rattle.gr_declared.specs.PackageView.{package_of};
-ghost use Rattle.gr_meanings.specs.PackageOf.{package_in};
-ghost use Rattle.gr_bound.specs.Workspaces.{IsSound, known_in};
-ghost use Rattle.gr_conflict.specs.Conflicts.{IsIdentifierIn, IsIdentifierKnown, Takes};
+ghost use Rattle.std.specs.Prelude.{◌≡◌, Contains, IfOk};
+ghost use Rattle.std.specs.Option.{option_copied};
+ghost use Rattle.gr_text.specs.declared.place.Place.{Place as At};
+ghost use Rattle.gr_bound.specs.Packages.{ArePackages};
+ghost use Rattle.gr_check.specs.Preserved.{IsIdentifierAt};
+ghost use Rattle.gr_conflict.specs.Firsts.{IsEarlier, IsFirstPlace};
+ghost use Rattle.gr_conflict.specs.Judging.{workspace_of, verdicts_of};
 
-use crate::beginning::beginning;
 use crate::noting::compare;
-use gr_bound::{laid_table, path_of, trees};
-use gr_declared::{Interfaces, Package};
-use gr_expr::symbol::SharedPath;
-use gr_graph::Graph;
-use gr_scope::table::ScopeTable;
+use gr_bound::Packages;
+use gr_check::SoundWorkspace;
 use gr_text::Place;
-use gr_tree::FileTree;
-use gr_verdict::{Findings, seen};
 use std::alloc::{AllocError, Global};
 
-/// Whether a place stands before the one that is kept, if there is one.
-fn is_before(place: &Place, first: &Option<Place>) -> bool {
+/// The first of a place and the one that was found before, if there is one.
+fn earlier<'a>(first: Option<&'a Place>, place: &'a Place) -> &'a Place
+    ensures { IsEarlier (option_copied first.entry) place.now result.now }
+{
     match first {
-        None => true,
-        Some(other) => compare(place, other).is_lt(),
-    }
-}
-
-/// Keeps a place, if it stands before the one that is kept.
-fn keep(first: &mut Option<Place>, place: Place)
-    ensures { Takes (λ p. p ≡ place) first.old first.new }
-{
-    if !is_before(&place, first) {
-        return;
-    }
-    *first = Some(place);
-}
-
-/// Keeps the place at which an identifier begins, if it stands before the one that is kept.
-fn keep_beginning(first: &mut Option<Place>, unit: Package<'_>, u: usize) -> Result<(), AllocError>
-    requires { u < length unit.table.now.sites }
-    ensures { OnOk result (Takes (IsIdentifierIn (package_of unit.entry)) first.old first.new) }
-{
-    match beginning(unit, u)? {
-        None => Ok(()),
-        Some(place) => {
-            keep(first, place);
-            Ok(())
+        None => place,
+        Some(other) => {
+            if compare(place, other).is_lt() {
+                place
+            } else {
+                other
+            }
         }
     }
 }
 
-/// Keeps the first identifier of a package.
-fn keep_first_of(first: &mut Option<Place>, unit: Package<'_>) -> Result<(), AllocError>
-    ensures { OnOk result (Takes (IsIdentifierIn (package_of unit.entry)) first.old first.new) }
+/// The first of some places.
+fn first_of(places: &[Place]) -> Option<&Place>
+    ensures { IsFirstPlace (λ (place : At). Contains places.now place) (option_copied result) }
 {
-    for u in 0..unit.table.len() {
-        keep_beginning(first, unit, u)?;
+    let mut first = None;
+    for place in places {
+        first = Some(earlier(first, place));
     }
-    Ok(())
-}
-
-/// The same of the package of a path.
-fn keep_first_by(
-    first: &mut Option<Place>,
-    path: &SharedPath,
-    files: &[FileTree],
-    table: &ScopeTable<'_>,
-    interfaces: &Interfaces,
-) -> Result<(), AllocError>
-    ensures { OnOk result (Takes (IsIdentifierIn (package_in path.now (map source_of files.now) table.now (interface_in interfaces.now))) first.old first.new) }
-{
-    let unit = Package {
-        path,
-        files,
-        table,
-        interfaces,
-    };
-    keep_first_of(first, unit)
-}
-
-/// Keeps the first identifier of the package of a number.
-fn keep_first_in(
-    alloc: Global,
-    first: &mut Option<Place>,
-    graph: &Graph,
-    found: &Findings,
-    number: usize,
-) -> Result<(), AllocError>
-    requires in_range { number < length (package_paths graph.now) }
-    requires sound { IsSound graph.now found.now }
-    ensures { OnOk result (Takes (IsIdentifierKnown graph.now (known_in found.now)) first.old first.new) }
-{
-    let files = trees(graph, found, number);
-    let seen = seen(alloc, graph, number, &found.interfaces)?;
-    let table = laid_table(alloc, files, &seen)?;
-    let path = path_of(graph, found, number);
-    keep_first_by(first, path, files, &table, &seen)
+    first
 }
 
 /// The first identifier of a workspace without faults.
-pub fn first_identifier(
-    alloc: Global,
-    graph: &Graph,
-    found: &Findings,
-) -> Result<Option<Place>, AllocError>
-    requires { IsSound graph.now found.now }
-    ensures { IfOk result (λ first. Takes (IsIdentifierKnown graph.now (known_in found.now)) None first) }
+pub fn first_identifier(alloc: Global, packages: &Packages<'_>) -> Result<Option<Place>, AllocError>
+    requires { ArePackages packages.now }
+    ensures { IfOk result (IsFirstPlace (IsIdentifierAt (workspace_of packages.now) (verdicts_of packages.now))) }
 {
-    let mut first = None;
-    for number in 0..graph.len() {
-        keep_first_in(alloc, &mut first, graph, found, number)?;
+    let sound = SoundWorkspace::of(alloc, packages)?;
+    let places = sound.identifier_places(alloc)?;
+    match first_of(&places) {
+        None => Ok(None),
+        Some(place) => Ok(Some(Place {
+            path: place.path.clone()?,
+            offset: place.offset,
+        })),
     }
-    Ok(first)
 }

@@ -1,21 +1,20 @@
 //! What is known of a change while identifiers are judged.
-ghost use Rattle.gr_bound.specs.Workspaces.{IsSound};
+ghost use Rattle.std.specs.Prelude.{◌≡◌};
 
-use crate::declared_places::DeclaredPlaces;
-use gr_bound::BoundSpot;
+use gr_bound::{BoundSpot, Packages};
+use gr_check::declared_places::DeclaredPlaces;
 use gr_graph::Graph;
 use gr_members_after::{NewMembers, TypesAfter};
 use gr_revision::Moves;
 use gr_scoped::PackageScopes;
-use gr_verdict::Findings;
 use std::collections::BTreeMap;
 
-/// What is known of a change: the workspace before, the members of its types under new names, what its packages export, and its
-/// declarations, by where they stand and by where they go; and the packages of the workspace afterwards, as their scopes are.
+/// What is known of a change: the packages before, the members of their types under new names, what they export, and their
+/// declarations, by where they stand and by where they go; and the packages of the workspace afterwards, as their scopes are, with
+/// all that these bind.
 #[derive(Clone, Copy)]
 pub struct Judge<'a, 'm, 's> {
-    pub graph: &'a Graph,
-    pub found: &'a Findings,
+    pub packages: &'a Packages<'a>,
     pub members: &'a [NewMembers],
     pub exports: &'a [BTreeMap<Vec<u8>, usize>],
     pub places: &'a [DeclaredPlaces],
@@ -23,16 +22,18 @@ pub struct Judge<'a, 'm, 's> {
     pub moves: &'a Moves<'m>,
     pub after: &'a Graph,
     pub scoped: &'a [Option<PackageScopes<'s>>],
+    pub bound: &'a [BoundSpot],
 }
 
 impl<'a> Judge<'a, '_, '_> {
     /// The types of the workspace before, with their members under the new names.
     pub fn types(&self) -> TypesAfter<'a>
-        ensures { IsSound self.now.graph.now self.now.found.now → IsSound result.graph.now result.found.now }
+        ensures graph { result.graph.now ≡ self.now.packages.now.graph.now }
+        ensures found { result.found.now ≡ self.now.packages.now.found.now }
     {
         TypesAfter {
-            graph: self.graph,
-            found: self.found,
+            graph: self.packages.graph,
+            found: self.packages.found,
             members: self.members,
         }
     }

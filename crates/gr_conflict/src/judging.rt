@@ -1,25 +1,28 @@
 //! The identifiers of one package, each judged alone by the way in which it was bound.
-ghost use Rattle.std.specs.Prelude.{◌<◌, length, map, OnOk};
+ghost use Rattle.std.specs.Prelude.{◌≡◌, ◌<◌, None, Contains, length, map, OnOk};
 ghost use Rattle.gr_text.specs.Packages.{package_paths};
 ghost use Rattle.gr_expr.specs.Found.{use_of};
 ghost use Rattle.gr_declared.specs.PackageView.{package_of, IsIndexOf};
-ghost use Rattle.gr_bound.specs.Binding.{BindsByScope, BindsByPackage, IsBehindPackage};
+ghost use Rattle.gr_revision.specs.RevisionsOfEdits.{called_by};
+ghost use Rattle.gr_bound.specs.Binding.{BindsByScope, BindsByPackage};
 ghost use Rattle.gr_bound.specs.Members.{definitions_seen};
-ghost use Rattle.gr_bound.specs.Workspaces.{known_in, IsPackageAt};
-ghost use Rattle.gr_conflict.specs.Conflicts.{IsConflictIn, IsOf, IsAtToken, IsAtFound, IsMemberConflict, IsMemberConflictAmong, Takes};
-ghost use Rattle.gr_conflict.specs.Judging.{KnowsChange, known_packages};
+ghost use Rattle.gr_bound.specs.Workspaces.{IsPackageAt};
+ghost use Rattle.gr_conflict.specs.Afterwards.{IsBoundByScopes, IsExportAfter};
+ghost use Rattle.gr_conflict.specs.Conflicts.{IsKept, IsConflictIn, IsNoted, IsOtherNoted, IsOtherAt, IsLostAt, IsLostAtFound, IsMemberConflict, IsMemberConflictAmong, IsOnlyBehind, Takes};
+ghost use Rattle.gr_conflict.specs.Judging.{KnowsChange, workspace_in, known_verdicts, known_packages, change_in, becomes_in};
 
-use crate::beginning::{beginning, token_beginning};
+use crate::beginning::token_beginning;
 use crate::conflict::Conflict;
 use crate::judge::Judge;
-use crate::noting::note;
-use crate::now::{now_by_member, now_by_name, now_by_package, now_by_scope};
+use crate::noting::{note, note_lost, note_member};
+use crate::now::{now_by_member, now_by_package, now_by_scope};
 use crate::old_places::symbol;
 use gr_bound::exports::exported;
 use gr_bound::{
     Declaration, declaration_in_scope, field_places, member_declaration, members_of, method_places,
     own_of, package_before,
 };
+use gr_check::beginning;
 use gr_declared::{Index, Package};
 use gr_expr::found::MemberUse;
 use gr_expr::world::Definition;
@@ -36,7 +39,7 @@ fn note_by_scope(
     old: &Declaration,
 ) -> Result<(), AllocError>
     requires { KnowsChange judge.now }
-    ensures { OnOk result (Takes (IsOf place) first.old first.new) }
+    ensures { OnOk result (Takes (IsNoted (becomes_in judge.now) (known_packages judge.now) (IsBoundByScopes (change_in judge.now) place) place old.now) first.old first.new) }
 {
     let now = now_by_scope(judge, &place)?;
     note(judge, first, place, old, now)
@@ -53,7 +56,7 @@ fn judge_bound(
     requires knows { KnowsChange judge.now }
     requires in_range { u < length unit.table.now.sites }
     requires was { BindsByScope (package_of unit) u old.now }
-    ensures { OnOk result (Takes (IsConflictIn (known_packages judge.now) (package_of unit.entry)) first.old first.new) }
+    ensures { OnOk result (Takes (IsConflictIn (workspace_in judge.now) (known_verdicts judge.now) (change_in judge.now) (package_of unit.entry)) first.old first.new) }
 {
     match beginning(unit, u)? {
         None => Ok(()),
@@ -70,7 +73,7 @@ fn judge_by_scope(
 ) -> Result<(), AllocError>
     requires knows { KnowsChange judge.now }
     requires in_range { u < length unit.table.now.sites }
-    ensures { OnOk result (Takes (IsConflictIn (known_packages judge.now) (package_of unit.entry)) first.old first.new) }
+    ensures { OnOk result (Takes (IsConflictIn (workspace_in judge.now) (known_verdicts judge.now) (change_in judge.now) (package_of unit.entry)) first.old first.new) }
 {
     match declaration_in_scope(unit, u)? {
         None => Ok(()),
@@ -80,6 +83,7 @@ fn judge_by_scope(
 
 /// Judges the identifier at a place that is a name which the package of a path exports.
 fn note_by_package(
+    alloc: Global,
     first: &mut Option<Conflict>,
     judge: &Judge<'_, '_, '_>,
     behind: &[u8],
@@ -87,15 +91,17 @@ fn note_by_package(
     place: Place,
     old: &Declaration,
 ) -> Result<(), AllocError>
-    requires { KnowsChange judge.now }
-    ensures { OnOk result (Takes (IsOf place) first.old first.new) }
+    requires knows { KnowsChange judge.now }
+    requires there { Contains (package_paths (workspace_in judge.now)) behind.now }
+    ensures { OnOk result (Takes (IsNoted (becomes_in judge.now) (known_packages judge.now) (IsExportAfter (workspace_in judge.now) (change_in judge.now) behind.now (called_by judge.now.moves.now place name.now)) place old.now) first.old first.new) }
 {
-    let now = now_by_package(judge, behind, &place, name)?;
+    let now = now_by_package(alloc, judge, behind, &place, name)?;
     note(judge, first, place, old, now)
 }
 
 /// Judges an identifier that stands behind the name of the package of a path, which exports a declaration under its name.
 fn judge_exported(
+    alloc: Global,
     first: &mut Option<Conflict>,
     judge: &Judge<'_, '_, '_>,
     unit: Package<'_>,
@@ -105,17 +111,20 @@ fn judge_exported(
 ) -> Result<(), AllocError>
     requires knows { KnowsChange judge.now }
     requires in_range { u < length unit.table.now.sites }
+    requires behind { IsOnlyBehind (package_of unit) u behind.now }
+    requires there { Contains (package_paths (workspace_in judge.now)) behind.now }
     requires was { BindsByPackage (known_packages judge.now) (package_of unit) u old.now }
-    ensures { OnOk result (Takes (IsConflictIn (known_packages judge.now) (package_of unit.entry)) first.old first.new) }
+    ensures { OnOk result (Takes (IsConflictIn (workspace_in judge.now) (known_verdicts judge.now) (change_in judge.now) (package_of unit.entry)) first.old first.new) }
 {
     match beginning(unit, u)? {
         None => Ok(()),
-        Some(place) => note_by_package(first, judge, behind, unit.table.name(u), place, old),
+        Some(place) => note_by_package(alloc, first, judge, behind, unit.table.name(u), place, old),
     }
 }
 
 /// Judges an identifier that stands behind the name of the package of a path, if that exports its name.
 fn judge_behind(
+    alloc: Global,
     first: &mut Option<Conflict>,
     judge: &Judge<'_, '_, '_>,
     unit: Package<'_>,
@@ -124,18 +133,25 @@ fn judge_behind(
 ) -> Result<(), AllocError>
     requires knows { KnowsChange judge.now }
     requires in_range { u < length unit.table.now.sites }
-    requires behind { IsBehindPackage (package_of unit) u behind.now }
-    ensures { OnOk result (Takes (IsConflictIn (known_packages judge.now) (package_of unit.entry)) first.old first.new) }
+    requires behind { IsOnlyBehind (package_of unit) u behind.now }
+    ensures { OnOk result (Takes (IsConflictIn (workspace_in judge.now) (known_verdicts judge.now) (change_in judge.now) (package_of unit.entry)) first.old first.new) }
 {
     let name = unit.table.name(u);
-    match exported(judge.graph, judge.found, judge.exports, behind, name)? {
+    match exported(
+        judge.packages.graph,
+        judge.packages.found,
+        judge.exports,
+        behind,
+        name,
+    )? {
         None => Ok(()),
-        Some(old) => judge_exported(first, judge, unit, behind, u, &old),
+        Some(old) => judge_exported(alloc, first, judge, unit, behind, u, &old),
     }
 }
 
 /// Judges an identifier, if it stands behind the name of a package.
 fn judge_by_package(
+    alloc: Global,
     first: &mut Option<Conflict>,
     judge: &Judge<'_, '_, '_>,
     unit: Package<'_>,
@@ -145,16 +161,17 @@ fn judge_by_package(
     requires knows { KnowsChange judge.now }
     requires index { IsIndexOf (package_of unit) index.now }
     requires in_range { u < length unit.table.now.sites }
-    ensures { OnOk result (Takes (IsConflictIn (known_packages judge.now) (package_of unit.entry)) first.old first.new) }
+    ensures { OnOk result (Takes (IsConflictIn (workspace_in judge.now) (known_verdicts judge.now) (change_in judge.now) (package_of unit.entry)) first.old first.new) }
 {
     match package_before(unit, index, u) {
         None => Ok(()),
-        Some(behind) => judge_behind(first, judge, unit, behind, u),
+        Some(behind) => judge_behind(alloc, first, judge, unit, behind, u),
     }
 }
 
 /// Judges the identifiers of a package that are bound to a declaration of a scope.
 fn judge_numbers(
+    alloc: Global,
     first: &mut Option<Conflict>,
     judge: &Judge<'_, '_, '_>,
     unit: Package<'_>,
@@ -162,11 +179,11 @@ fn judge_numbers(
 ) -> Result<(), AllocError>
     requires knows { KnowsChange judge.now }
     requires index { IsIndexOf (package_of unit) index.now }
-    ensures { OnOk result (Takes (IsConflictIn (known_packages judge.now) (package_of unit.entry)) first.old first.new) }
+    ensures { OnOk result (Takes (IsConflictIn (workspace_in judge.now) (known_verdicts judge.now) (change_in judge.now) (package_of unit.entry)) first.old first.new) }
 {
     for u in 0..unit.table.len() {
         judge_by_scope(first, judge, unit, u)?;
-        judge_by_package(first, judge, unit, index, u)?;
+        judge_by_package(alloc, first, judge, unit, index, u)?;
     }
     Ok(())
 }
@@ -183,11 +200,11 @@ fn note_by_member(
     old: &Declaration,
 ) -> Result<(), AllocError>
     requires { KnowsChange judge.now }
-    ensures { OnOk result (Takes (IsOf place) first.old first.new) }
+    ensures { OnOk result (Takes (IsOtherNoted (known_packages judge.now) place old.now) first.old first.new) }
 {
     let name = unit.spelling(at.file, at.index);
     let now = now_by_member(judge, unit, own, found, &place, name)?;
-    note(judge, first, place, old, now)
+    note_member(judge, first, place, old, now)
 }
 
 /// Judges the identifier at a token that is used as a member, if one stands there.
@@ -203,7 +220,7 @@ fn judge_token(
 ) -> Result<(), AllocError>
     requires knows { KnowsChange judge.now }
     requires index { IsIndexOf (package_of unit) index.now }
-    ensures { OnOk result (Takes (IsAtToken (package_of unit.entry) at) first.old first.new) }
+    ensures { OnOk result (Takes (IsOtherAt (known_packages judge.now) (package_of unit.entry) at old.now) first.old first.new) }
 {
     match token_beginning(unit, index, at)? {
         None => Ok(()),
@@ -223,7 +240,7 @@ fn judge_by_member(
 ) -> Result<(), AllocError>
     requires knows { KnowsChange judge.now }
     requires index { IsIndexOf (package_of unit) index.now }
-    ensures { OnOk result (Takes (IsMemberConflict (definitions_seen unit.entry own.now) (package_of unit.entry) file (use_of found.now)) first.old first.new) }
+    ensures { OnOk result (Takes (IsMemberConflict (known_packages judge.now) (definitions_seen unit.entry own.now) (package_of unit.entry) file (use_of found.now)) first.old first.new) }
 {
     match member_declaration(unit, own, file, found)? {
         None => Ok(()),
@@ -249,7 +266,7 @@ fn judge_file(
 ) -> Result<(), AllocError>
     requires knows { KnowsChange judge.now }
     requires index { IsIndexOf (package_of unit) index.now }
-    ensures { OnOk result (Takes (IsMemberConflictAmong (definitions_seen unit.entry own.now) (package_of unit.entry) file (map use_of uses.now)) first.old first.new) }
+    ensures { OnOk result (Takes (IsMemberConflictAmong (known_packages judge.now) (definitions_seen unit.entry own.now) (package_of unit.entry) file (map use_of uses.now)) first.old first.new) }
 {
     for k in 0..uses.len() {
         judge_by_member(first, judge, unit, index, own, file, &uses[k])?;
@@ -265,16 +282,16 @@ fn judge_members(
     index: &Index<'_>,
     number: usize,
 ) -> Result<(), AllocError>
-    requires in_range { number < length (package_paths judge.now.graph.now) }
+    requires in_range { number < length (package_paths (workspace_in judge.now)) }
     requires knows { KnowsChange judge.now }
     requires index { IsIndexOf (package_of unit) index.now }
-    requires is_package { IsPackageAt judge.now.graph.now (known_in judge.now.found.now) number (package_of unit) }
-    ensures { OnOk result (Takes (IsConflictIn (known_packages judge.now) (package_of unit.entry)) first.old first.new) }
+    requires is_package { IsPackageAt (workspace_in judge.now) (known_verdicts judge.now) number (package_of unit) }
+    ensures { OnOk result (Takes (IsConflictIn (workspace_in judge.now) (known_verdicts judge.now) (change_in judge.now) (package_of unit.entry)) first.old first.new) }
 {
     unit.table.is_well_formed();
     one_world(unit);
-    let own = own_of(judge.graph, judge.found, number);
-    let members = members_of(judge.graph, judge.found, number);
+    let own = own_of(judge.packages.graph, judge.packages.found, number);
+    let members = members_of(judge.packages.graph, judge.packages.found, number);
     for file in 0..members.len() {
         judge_file(first, judge, unit, index, own, file, &members[file])?;
     }
@@ -289,10 +306,12 @@ fn note_by_name(
     old: &Declaration,
 ) -> Result<(), AllocError>
     requires { KnowsChange judge.now }
-    ensures { OnOk result (Takes (IsOf place) first.old first.new) }
+    ensures { OnOk result (Takes (IsKept place None) first.old first.new) }
 {
-    let now = now_by_name(judge, old)?;
-    note(judge, first, place, old, now)
+    if !judge.types().counts(old)? {
+        note_lost(first, place);
+    }
+    Ok(())
 }
 
 /// Judges the name by which a field or method is declared, if an identifier stands there.
@@ -306,7 +325,7 @@ fn judge_by_name(
 ) -> Result<(), AllocError>
     requires knows { KnowsChange judge.now }
     requires index { IsIndexOf (package_of unit) index.now }
-    ensures { OnOk result (Takes (IsAtToken (package_of unit.entry) at) first.old first.new) }
+    ensures { OnOk result (Takes (IsLostAt (package_of unit.entry) at) first.old first.new) }
 {
     match token_beginning(unit, index, at)? {
         None => Ok(()),
@@ -325,7 +344,7 @@ fn judge_field(
 ) -> Result<(), AllocError>
     requires knows { KnowsChange judge.now }
     requires index { IsIndexOf (package_of unit) index.now }
-    ensures { OnOk result (Takes (IsAtToken (package_of unit.entry) at) first.old first.new) }
+    ensures { OnOk result (Takes (IsLostAt (package_of unit.entry) at) first.old first.new) }
 {
     let symbol = symbol(unit.path, rank)?;
     let old = Declaration::Field(symbol);
@@ -343,7 +362,7 @@ fn judge_counting_field(
 ) -> Result<(), AllocError>
     requires knows { KnowsChange judge.now }
     requires index { IsIndexOf (package_of unit) index.now }
-    ensures { OnOk result (Takes (IsAtFound (package_of unit.entry) at) first.old first.new) }
+    ensures { OnOk result (Takes (IsLostAtFound (package_of unit.entry) at) first.old first.new) }
 {
     match at {
         None => Ok(()),
@@ -361,7 +380,7 @@ fn judge_fields(
 ) -> Result<(), AllocError>
     requires knows { KnowsChange judge.now }
     requires index { IsIndexOf (package_of unit) index.now }
-    ensures { OnOk result (Takes (IsConflictIn (known_packages judge.now) (package_of unit.entry)) first.old first.new) }
+    ensures { OnOk result (Takes (IsConflictIn (workspace_in judge.now) (known_verdicts judge.now) (change_in judge.now) (package_of unit.entry)) first.old first.new) }
 {
     let fields = field_places(alloc, unit, index)?;
     for rank in 0..fields.len() {
@@ -381,7 +400,7 @@ fn judge_method(
 ) -> Result<(), AllocError>
     requires knows { KnowsChange judge.now }
     requires index { IsIndexOf (package_of unit) index.now }
-    ensures { OnOk result (Takes (IsAtToken (package_of unit.entry) at) first.old first.new) }
+    ensures { OnOk result (Takes (IsLostAt (package_of unit.entry) at) first.old first.new) }
 {
     let symbol = symbol(unit.path, rank)?;
     let old = Declaration::Method(symbol);
@@ -399,7 +418,7 @@ fn judge_counting_method(
 ) -> Result<(), AllocError>
     requires knows { KnowsChange judge.now }
     requires index { IsIndexOf (package_of unit) index.now }
-    ensures { OnOk result (Takes (IsAtFound (package_of unit.entry) at) first.old first.new) }
+    ensures { OnOk result (Takes (IsLostAtFound (package_of unit.entry) at) first.old first.new) }
 {
     match at {
         None => Ok(()),
@@ -417,7 +436,7 @@ fn judge_methods(
 ) -> Result<(), AllocError>
     requires knows { KnowsChange judge.now }
     requires index { IsIndexOf (package_of unit) index.now }
-    ensures { OnOk result (Takes (IsConflictIn (known_packages judge.now) (package_of unit.entry)) first.old first.new) }
+    ensures { OnOk result (Takes (IsConflictIn (workspace_in judge.now) (known_verdicts judge.now) (change_in judge.now) (package_of unit.entry)) first.old first.new) }
 {
     let methods = method_places(alloc, unit, index)?;
     for rank in 0..methods.len() {
@@ -436,7 +455,7 @@ fn judge_names(
 ) -> Result<(), AllocError>
     requires knows { KnowsChange judge.now }
     requires index { IsIndexOf (package_of unit) index.now }
-    ensures { OnOk result (Takes (IsConflictIn (known_packages judge.now) (package_of unit.entry)) first.old first.new) }
+    ensures { OnOk result (Takes (IsConflictIn (workspace_in judge.now) (known_verdicts judge.now) (change_in judge.now) (package_of unit.entry)) first.old first.new) }
 {
     judge_fields(alloc, first, judge, unit, index)?;
     judge_methods(alloc, first, judge, unit, index)
@@ -450,13 +469,13 @@ pub fn judge_unit(
     unit: Package<'_>,
     number: usize,
 ) -> Result<(), AllocError>
-    requires in_range { number < length (package_paths judge.now.graph.now) }
+    requires in_range { number < length (package_paths (workspace_in judge.now)) }
     requires knows { KnowsChange judge.now }
-    requires is_package { IsPackageAt judge.now.graph.now (known_in judge.now.found.now) number (package_of unit) }
-    ensures { OnOk result (Takes (IsConflictIn (known_packages judge.now) (package_of unit.entry)) first.old first.new) }
+    requires is_package { IsPackageAt (workspace_in judge.now) (known_verdicts judge.now) number (package_of unit) }
+    ensures { OnOk result (Takes (IsConflictIn (workspace_in judge.now) (known_verdicts judge.now) (change_in judge.now) (package_of unit.entry)) first.old first.new) }
 {
     let index = Index::of(alloc, unit)?;
-    judge_numbers(first, judge, unit, &index)?;
+    judge_numbers(alloc, first, judge, unit, &index)?;
     judge_members(first, judge, unit, &index, number)?;
     judge_names(alloc, first, judge, unit, &index)
 }

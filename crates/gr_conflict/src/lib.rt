@@ -1,9 +1,9 @@
 //! The identifiers that a change would lose or capture.
 #![tactic(auto)]
 
+mod afterwards;
 mod beginning;
 mod conflict;
-mod declared_places;
 mod first;
 mod first_identifier;
 mod judge;
@@ -11,6 +11,7 @@ mod judging;
 mod noting;
 mod now;
 mod old_places;
+mod standing;
 
 pub use conflict::{Capturer, Conflict, told};
 pub use first::first_conflict;

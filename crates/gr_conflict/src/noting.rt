@@ -1,13 +1,17 @@
 //! The first identifier that is lost or captured of those that were judged.
-ghost use Rattle.std.specs.Prelude.{◌≡◌, ◌↔◌, IsTrue, OnOk};
+ghost use Rattle.std.specs.Prelude.{◌≡◌, ◌↔◌, Some, IsTrue, IfOk, OnOk, MatchOption};
+ghost use Rattle.gr_bound.specs.declared.declaration.Declaration.{Declaration as Bound};
 ghost use Rattle.gr_bound.specs.declared.declaration.Declaration.TheVariants.{Predeclared, Declared, Field, Method};
 ghost use Rattle.gr_bound.specs.Places.{place_cmp};
-ghost use Rattle.gr_conflict.specs.Conflicts.{IsOf, Takes};
+ghost use Rattle.gr_conflict.specs.Conflicts.{IsKept, IsCapturer, IsNoted, IsOtherNoted, Takes};
+ghost use Rattle.gr_conflict.specs.Judging.{KnowsChange, known_packages, becomes_in};
+ghost use Rattle.gr_conflict.specs.Now.{IsCounted};
 
 use crate::conflict::{Capturer, Conflict};
-use crate::declared_places::declared_at;
 use crate::judge::Judge;
+use crate::standing::{before, has_become};
 use gr_bound::Declaration;
+use gr_check::declared_places::declared_at;
 use gr_expr::symbol::{SharedPath, Symbol};
 use gr_text::Place;
 use std::alloc::AllocError;
@@ -83,7 +87,7 @@ fn is_before(place: &Place, first: &Option<Conflict>) -> bool {
 
 /// Keeps a conflict, if it stands before the one that was found first.
 fn keep(first: &mut Option<Conflict>, used: Place, by: Option<Capturer>)
-    ensures { Takes (IsOf used) first.old first.new }
+    ensures { Takes (IsKept used by) first.old first.new }
 {
     if !is_before(&used, first) {
         return;
@@ -92,8 +96,11 @@ fn keep(first: &mut Option<Conflict>, used: Place, by: Option<Capturer>)
 }
 
 /// What is told of a declaration that captures.
-fn capturer(judge: &Judge<'_, '_, '_>, declaration: &Declaration) -> Result<Capturer, AllocError> {
-    match declared_at(judge.graph, judge.places, declaration) {
+fn capturer(judge: &Judge<'_, '_, '_>, declaration: &Declaration) -> Result<Capturer, AllocError>
+    requires { KnowsChange judge.now }
+    ensures { IfOk result (IsCapturer (known_packages judge.now) declaration.now) }
+{
+    match declared_at(judge.packages.graph, judge.places, declaration) {
         None => Ok(Capturer::Universe),
         Some(place) => Ok(Capturer::At(Place {
             path: place.path.clone()?,
@@ -102,16 +109,93 @@ fn capturer(judge: &Judge<'_, '_, '_>, declaration: &Declaration) -> Result<Capt
     }
 }
 
-/// Notes the identifier at a place where it is bound to another declaration than before, and stands before the conflict that was
-/// found.
+/// What is told of a declaration of the workspace afterwards that captures, if it was there before.
+fn capturer_after(
+    judge: &Judge<'_, '_, '_>,
+    e: &Declaration,
+) -> Result<Option<Capturer>, AllocError>
+    requires knows { KnowsChange judge.now }
+    requires counts { IsCounted judge.now.after.now e.now }
+    ensures { IfOk result (λ by. MatchOption by (Unit {0}) (λ x. (c : Bound) × (becomes_in judge.now c e.now × IsCapturer (known_packages judge.now) c x))) }
+{
+    match before(judge, e)? {
+        None => Ok(None),
+        Some(declaration) => Ok(Some(capturer(judge, &declaration)?)),
+    }
+}
+
+/// Notes the identifier at a place that is afterwards bound to a declaration which the old one has not become, and stands before
+/// the conflict that was found.
+fn note_other(
+    judge: &Judge<'_, '_, '_>,
+    first: &mut Option<Conflict>,
+    used: Place,
+    old: &Declaration,
+    e: &Declaration,
+) -> Result<(), AllocError>
+    requires knows { KnowsChange judge.now }
+    requires counts { IsCounted judge.now.after.now e.now }
+    requires other { becomes_in judge.now old.now e.now → ⊥ }
+    ensures { OnOk result (Takes (IsNoted (becomes_in judge.now) (known_packages judge.now) (λ d. d ≡ e.now) used old.now) first.old first.new) }
+{
+    let by = capturer_after(judge, e)?;
+    keep(first, used, by);
+    Ok(())
+}
+
+/// Notes the identifier at a place that is afterwards bound to a declaration, if the old one has not become that, and it stands
+/// before the conflict that was found.
 fn note_bound(
+    judge: &Judge<'_, '_, '_>,
+    first: &mut Option<Conflict>,
+    used: Place,
+    old: &Declaration,
+    e: &Declaration,
+) -> Result<(), AllocError>
+    requires knows { KnowsChange judge.now }
+    requires counts { IsCounted judge.now.after.now e.now }
+    ensures { OnOk result (Takes (IsNoted (becomes_in judge.now) (known_packages judge.now) (λ d. d ≡ e.now) used old.now) first.old first.new) }
+{
+    if has_become(judge, old, e)? {
+        Ok(())
+    } else {
+        note_other(judge, first, used, old, e)
+    }
+}
+
+/// Notes the identifier at a place where it is afterwards bound to a declaration that the old one has not become, or to none, and
+/// stands before the conflict that was found.
+pub fn note(
+    judge: &Judge<'_, '_, '_>,
+    first: &mut Option<Conflict>,
+    used: Place,
+    old: &Declaration,
+    now: Option<Declaration>,
+) -> Result<(), AllocError>
+    requires knows { KnowsChange judge.now }
+    requires counts { MatchOption now (Unit {0}) (IsCounted judge.now.after.now) }
+    ensures { OnOk result (Takes (IsNoted (becomes_in judge.now) (known_packages judge.now) (λ e. now ≡ Some e) used old.now) first.old first.new) }
+{
+    match now {
+        None => {
+            keep(first, used, None);
+            Ok(())
+        }
+        Some(e) => note_bound(judge, first, used, old, &e),
+    }
+}
+
+/// Notes the identifier at a place that was bound to a field or method and is afterwards bound to another, and stands before the
+/// conflict that was found.
+fn note_other_member(
     judge: &Judge<'_, '_, '_>,
     first: &mut Option<Conflict>,
     used: Place,
     old: &Declaration,
     now: &Declaration,
 ) -> Result<(), AllocError>
-    ensures { OnOk result (Takes (IsOf used) first.old first.new) }
+    requires { KnowsChange judge.now }
+    ensures { OnOk result (Takes (IsOtherNoted (known_packages judge.now) used old.now) first.old first.new) }
 {
     if is_same(old, now) {
         return Ok(());
@@ -121,22 +205,31 @@ fn note_bound(
     Ok(())
 }
 
-/// Notes the identifier at a place where it is bound to another declaration than before, or to none, and stands before the
-/// conflict that was found.
-pub fn note(
+/// Notes the identifier at a place that was bound to a field or method and is afterwards bound to another, or to none, and stands
+/// before the conflict that was found.
+pub fn note_member(
     judge: &Judge<'_, '_, '_>,
     first: &mut Option<Conflict>,
     used: Place,
     old: &Declaration,
     now: Option<Declaration>,
 ) -> Result<(), AllocError>
-    ensures { OnOk result (Takes (IsOf used) first.old first.new) }
+    requires { KnowsChange judge.now }
+    ensures { OnOk result (Takes (IsOtherNoted (known_packages judge.now) used old.now) first.old first.new) }
 {
     match now {
         None => {
             keep(first, used, None);
             Ok(())
         }
-        Some(declaration) => note_bound(judge, first, used, old, &declaration),
+        Some(declaration) => note_other_member(judge, first, used, old, &declaration),
     }
+}
+
+/// Notes the name at a place by which a field or method is declared that does not count afterwards, if it stands before the conflict
+/// that was found.
+pub fn note_lost(first: &mut Option<Conflict>, used: Place)
+    ensures { Takes (IsKept used None) first.old first.new }
+{
+    keep(first, used, None);
 }

@@ -1,119 +1,37 @@
-//! What an identifier is bound to after a change, judged alone: told by the declaration of the workspace before that has gone
-//! there.
-ghost use Rattle.std.specs.Prelude.{◌<◌, length, MatchOption};
-ghost use Rattle.gr_conflict.specs.Judging.{KnowsChange};
+//! What an identifier is bound to after a change, judged alone.
+ghost use Rattle.std.specs.Prelude.{ℕ, ◌≡◌, ◌∷◌, [], List, Contains, IfOk, MatchOption};
+ghost use Rattle.gr_text.specs.Packages.{package_paths, package_files};
+ghost use Rattle.gr_text.specs.Path.{folder};
+ghost use Rattle.gr_revision.specs.Revisions.{GoesTo};
+ghost use Rattle.gr_revision.specs.RevisionsOfEdits.{called_by};
+ghost use Rattle.gr_bound.specs.Exports.{number_named, AreNumbers};
+ghost use Rattle.gr_bound.specs.Steps.{IsDeclarationFound};
+ghost use Rattle.gr_scoped.specs.Scopes.{package_scoped};
+ghost use Rattle.gr_conflict.specs.Afterwards.{IsScopeUse, IsBoundByScopes, IsExportAfter};
+ghost use Rattle.gr_conflict.specs.Judging.{KnowsChange, workspace_in, change_in};
+ghost use Rattle.gr_conflict.specs.Now.{IsExportIn, IsExportOf};
 
-use crate::beginning::{place_of, user_at};
-use crate::declared_places::PREDECLARED;
 use crate::judge::Judge;
-use crate::old_places::before_of;
-use gr_bound::Declaration;
+use gr_bound::bindings::find;
+use gr_bound::{Declaration, trees};
 use gr_declared::Package;
 use gr_expr::found::MemberUse;
+use gr_expr::symbol::SharedPath;
 use gr_expr::world::{Definition, World};
-use gr_imports::literal_of;
 use gr_members_after::Written;
-use gr_scope::model::Position;
 use gr_scoped::{PackageScopes, scopes_at};
 use gr_text::{Path, Place};
 use gr_tree::FileTree;
-use std::alloc::AllocError;
+use std::alloc::{AllocError, Global};
 
-/// The declaration of the workspace before that goes to a place.
-fn before_at(judge: &Judge<'_, '_, '_>, place: &Place) -> Result<Option<Declaration>, AllocError>
+/// What the scopes of the workspace afterwards bind to, of what begins at a place there.
+fn bound_at(judge: &Judge<'_, '_, '_>, place: &Place) -> Result<Option<Declaration>, AllocError>
     requires { KnowsChange judge.now }
+    ensures { IfOk result (IsDeclarationFound (λ e. IsScopeUse judge.now.after.now e place.now)) }
 {
-    match before_of(judge.old, place) {
+    match find(judge.bound, place) {
         None => Ok(None),
-        Some(declaration) => Ok(Some(declaration.copy()?)),
-    }
-}
-
-/// The declaration of the workspace before that goes to a position of a package afterwards.
-fn before_in(
-    judge: &Judge<'_, '_, '_>,
-    files: &[FileTree],
-    at: Position,
-) -> Result<Option<Declaration>, AllocError>
-    requires { KnowsChange judge.now }
-{
-    match place_of(files, at)? {
-        None => Ok(None),
-        Some(place) => before_at(judge, &place),
-    }
-}
-
-/// The declaration of the workspace before that one of a package afterwards corresponds to.
-fn before(
-    judge: &Judge<'_, '_, '_>,
-    scopes: &PackageScopes<'_>,
-    d: usize,
-) -> Result<Option<Declaration>, AllocError>
-    requires knows { KnowsChange judge.now }
-    requires in_range { d < length scopes.now.table.sites }
-{
-    if d < PREDECLARED {
-        return Ok(Some(Declaration::Predeclared(d)));
-    }
-    let at = scopes.table.place(literal_of(&scopes.table, d));
-    before_in(judge, scopes.files, at)
-}
-
-/// A number, where it is below another.
-fn below(number: Option<usize>, count: usize) -> Option<usize>
-    ensures { MatchOption result (Unit {0}) (λ n. n < count) }
-{
-    match number {
-        None => None,
-        Some(n) => { if n < count { Some(n) } else { None } }
-    }
-}
-
-/// The identifier that begins at a place in a package.
-fn user_in(scopes: &PackageScopes<'_>, place: &Place) -> Option<usize>
-    ensures { MatchOption result (Unit {0}) (λ u. u < length scopes.now.table.sites) }
-{
-    let user = user_at(scopes.files, &scopes.users, place);
-    below(user, scopes.table.len())
-}
-
-/// The declaration to which the scopes of a package bind an identifier.
-fn binding_in(scopes: &PackageScopes<'_>, u: usize) -> Option<usize>
-    requires { u < length scopes.now.table.sites }
-    ensures { MatchOption result (Unit {0}) (λ d. d < length scopes.now.table.sites) }
-{
-    below(scopes.table.binding(u), scopes.table.len())
-}
-
-/// The declaration that a package exports under a name.
-fn export_in(scopes: &PackageScopes<'_>, name: &[u8]) -> Option<usize>
-    ensures { MatchOption result (Unit {0}) (λ d. d < length scopes.now.table.sites) }
-{
-    below(scopes.exports.get(name).copied(), scopes.table.len())
-}
-
-/// The declaration to which the scopes of a package bind what begins at a place there.
-fn number_at(scopes: &PackageScopes<'_>, place: &Place) -> Option<usize>
-    ensures { MatchOption result (Unit {0}) (λ d. d < length scopes.now.table.sites) }
-{
-    match user_in(scopes, place) {
-        None => None,
-        Some(u) => binding_in(scopes, u),
-    }
-}
-
-/// The declaration of the workspace before that one of a package afterwards corresponds to, if there is one.
-fn before_found(
-    judge: &Judge<'_, '_, '_>,
-    scopes: &PackageScopes<'_>,
-    number: Option<usize>,
-) -> Result<Option<Declaration>, AllocError>
-    requires knows { KnowsChange judge.now }
-    requires in_range { MatchOption number (Unit {0}) (λ d. d < length scopes.now.table.sites) }
-{
-    match number {
-        None => Ok(None),
-        Some(d) => before(judge, scopes, d),
+        Some(bound) => Ok(Some(bound.declaration.copy()?)),
     }
 }
 
@@ -123,57 +41,94 @@ pub fn now_by_scope(
     place: &Place,
 ) -> Result<Option<Declaration>, AllocError>
     requires { KnowsChange judge.now }
+    ensures { IfOk result (IsDeclarationFound (IsBoundByScopes (change_in judge.now) place.now)) }
 {
     let moved = judge.moves.place(&place.path, place.offset)?;
-    match scopes_at(judge.after, judge.scoped, moved.path.folder()) {
-        None => Ok(None),
-        Some(scopes) => before_found(judge, scopes, number_at(scopes, &moved)),
-    }
+    bound_at(judge, &moved)
 }
 
 /// The first file of the package of a path.
-fn first_file<'a>(judge: &Judge<'a, '_, '_>, path: &[u8]) -> Option<&'a FileTree> {
-    match judge.graph.number_of(path) {
+fn first_file<'a>(judge: &Judge<'a, '_, '_>, path: &[u8]) -> Option<&'a FileTree>
+    requires knows { KnowsChange judge.now }
+    requires there { Contains (package_paths (workspace_in judge.now)) path.now }
+    ensures { MatchOption result (package_files (workspace_in judge.now) path.now ≡ []) (λ f. (first : List ℕ × List ℕ) × ((others : List (List ℕ × List ℕ)) × ((package_files (workspace_in judge.now) path.now ≡ first ∷ others) × (first.0 ≡ f.now.path)))) }
+{
+    match judge.packages.graph.number_of(path) {
         None => None,
-        Some(number) => judge.graph.package(number).trees.first(),
+        Some(number) => trees(judge.packages.graph, judge.packages.found, number).first(),
     }
 }
 
 /// Where the package of a path goes: to the folder to which its first file goes.
-fn goes_to<'a>(judge: &Judge<'a, '_, '_>, path: &[u8]) -> Option<&'a Path> {
+fn goes_to<'a>(judge: &Judge<'a, '_, '_>, path: &[u8]) -> Option<&'a Path>
+    requires knows { KnowsChange judge.now }
+    requires there { Contains (package_paths (workspace_in judge.now)) path.now }
+    ensures { MatchOption result ((to : List ℕ) → GoesTo (workspace_in judge.now) (change_in judge.now) path.now to → ⊥) (λ file. GoesTo (workspace_in judge.now) (change_in judge.now) path.now (folder file.now)) }
+{
     match first_file(judge, path) {
         None => None,
         Some(file) => Some(judge.moves.path(file.path())),
     }
 }
 
+/// The declaration that a package exports under a name.
+fn export_in(scopes: &PackageScopes<'_>, name: &[u8]) -> Option<usize>
+    ensures { result ≡ number_named scopes.now.exports name.now }
+{
+    scopes.exports.get(name).copied()
+}
+
+/// What the package of a path exports under a name, by its scopes.
+fn exported_in(
+    alloc: Global,
+    scopes: &PackageScopes<'_>,
+    path: &[u8],
+    name: &[u8],
+) -> Result<Option<Declaration>, AllocError>
+    requires { AreNumbers (package_scoped path.now scopes.now) (number_named scopes.now.exports) }
+    ensures { IfOk result (IsDeclarationFound (IsExportOf (package_scoped path.now scopes.now) name.now)) }
+{
+    match export_in(scopes, name) {
+        None => Ok(None),
+        Some(d) => {
+            let package = SharedPath::new(alloc, path)?;
+            Ok(Some(Declaration::Declared(package, d)))
+        }
+    }
+}
+
 /// What the package that a path has afterwards exports under a name.
 fn exported_after(
+    alloc: Global,
     judge: &Judge<'_, '_, '_>,
     path: &[u8],
     name: &[u8],
 ) -> Result<Option<Declaration>, AllocError>
     requires { KnowsChange judge.now }
+    ensures { IfOk result (IsDeclarationFound (IsExportIn judge.now.after.now path.now name.now)) }
 {
     match scopes_at(judge.after, judge.scoped, path) {
         None => Ok(None),
-        Some(scopes) => before_found(judge, scopes, export_in(scopes, name)),
+        Some(scopes) => exported_in(alloc, scopes, path, name),
     }
 }
 
-/// What a name behind a package's is bound to: what that package exports where it has gone.
+/// What a name behind that of the package of a path is bound to: what that exports where it has gone.
 pub fn now_by_package(
+    alloc: Global,
     judge: &Judge<'_, '_, '_>,
     behind: &[u8],
     place: &Place,
     name: &[u8],
 ) -> Result<Option<Declaration>, AllocError>
-    requires { KnowsChange judge.now }
+    requires knows { KnowsChange judge.now }
+    requires there { Contains (package_paths (workspace_in judge.now)) behind.now }
+    ensures { IfOk result (IsDeclarationFound (IsExportAfter (workspace_in judge.now) (change_in judge.now) behind.now (called_by judge.now.moves.now place.now name.now))) }
 {
     let name = judge.moves.called(&place.path, place.offset, name);
     match goes_to(judge, behind) {
         None => Ok(None),
-        Some(file) => exported_after(judge, file.folder(), name),
+        Some(file) => exported_after(alloc, judge, file.folder(), name),
     }
 }
 
@@ -200,18 +155,4 @@ pub fn now_by_member(
         name: judge.moves.called(&place.path, place.offset, name),
     };
     judge.types().member(name, &world, &found.before)
-}
-
-/// What the name by which a member is declared is bound to: that member, where it counts.
-pub fn now_by_name(
-    judge: &Judge<'_, '_, '_>,
-    old: &Declaration,
-) -> Result<Option<Declaration>, AllocError>
-    requires { KnowsChange judge.now }
-{
-    if judge.types().counts(old)? {
-        Ok(Some(old.copy()?))
-    } else {
-        Ok(None)
-    }
 }

@@ -1,20 +1,24 @@
 //! The declarations of a workspace by the places to which a change moves them.
-ghost use Rattle.std.specs.Prelude.{◌≡◌, ◌<◌, length, IfOk};
+ghost use Rattle.std.specs.Prelude.{◌≡◌, Contains, IfOk, OnOk, MatchOption};
 ghost use Rattle.std.specs.List.Sorted.{IsSortedBy};
 ghost use Rattle.std.specs.Ordering.{is_lt};
-ghost use Rattle.gr_text.specs.Packages.{package_paths};
+ghost use Rattle.gr_edit.specs.Moved.{moved};
+ghost use Rattle.gr_bound.specs.declared.bound_spot.BoundSpot.{BoundSpot as Bound};
+ghost use Rattle.gr_bound.specs.declared.declaration.Declaration.TheVariants.{Declared};
 ghost use Rattle.gr_bound.specs.Bindings.{place_at};
 ghost use Rattle.gr_bound.specs.Places.{place_cmp};
-ghost use Rattle.gr_bound.specs.Workspaces.{IsSound};
+ghost use Rattle.gr_bound.specs.Uses.{IsPackage};
+ghost use Rattle.gr_bound.specs.Packages.{ArePackages};
+ghost use Rattle.gr_check.specs.DeclaredPlaces.{AreDeclared};
+ghost use Rattle.gr_conflict.specs.Judging.{workspace_of, verdicts_of};
+ghost use Rattle.gr_conflict.specs.OldPlaces.{AddsOnly, GoesFrom, GoFrom, GoFromPackage, HasGone, AreOldPlaces, field_at, method_at};
 
-use crate::declared_places::DeclaredPlaces;
 use gr_bound::bindings::{find, sort};
-use gr_bound::{BoundSpot, Declaration, Spot, path_of};
+use gr_bound::{BoundSpot, Declaration, Packages, Spot, path_of};
+use gr_check::declared_places::DeclaredPlaces;
 use gr_expr::symbol::{SharedPath, Symbol};
-use gr_graph::Graph;
 use gr_revision::Moves;
 use gr_text::Place;
-use gr_verdict::Findings;
 use std::alloc::{AllocError, Global};
 
 /// Adds a declaration by the place to which it goes.
@@ -23,7 +27,9 @@ fn add_moved(
     moves: &Moves<'_>,
     place: &Place,
     declaration: Declaration,
-) -> Result<(), AllocError> {
+) -> Result<(), AllocError>
+    ensures { OnOk result (AddsOnly found.old.items found.new.items (λ b. (b.declaration ≡ declaration) × (place_at b ≡ moved moves.now place.now))) }
+{
     let Place { path, offset } = moves.place(&place.path, place.offset)?;
     let spot = Spot { path, offset };
     found.push(BoundSpot { spot, declaration })?;
@@ -31,7 +37,9 @@ fn add_moved(
 }
 
 /// The field or method of a rank in a package.
-pub fn symbol(path: &SharedPath, rank: usize) -> Result<Symbol, AllocError> {
+pub fn symbol(path: &SharedPath, rank: usize) -> Result<Symbol, AllocError>
+    ensures { IfOk result (λ s. (s.package ≡ path.now) × (s.rank ≡ rank)) }
+{
     let package = path.clone()?;
     Ok(Symbol { package, rank })
 }
@@ -43,7 +51,9 @@ fn add_name(
     path: &SharedPath,
     d: usize,
     place: &Option<Place>,
-) -> Result<(), AllocError> {
+) -> Result<(), AllocError>
+    ensures { OnOk result (AddsOnly found.old.items found.new.items (GoesFrom (moved moves.now) (Declared path.now d) place.now)) }
+{
     match place {
         None => Ok(()),
         Some(place) => {
@@ -59,7 +69,9 @@ fn add_names(
     moves: &Moves<'_>,
     path: &SharedPath,
     names: &[Option<Place>],
-) -> Result<(), AllocError> {
+) -> Result<(), AllocError>
+    ensures { OnOk result (AddsOnly found.old.items found.new.items (GoFrom (moved moves.now) (Declared path.now) names.now)) }
+{
     for d in 0..names.len() {
         add_name(found, moves, path, d, &names[d])?;
     }
@@ -73,7 +85,9 @@ fn add_field(
     path: &SharedPath,
     rank: usize,
     place: &Option<Place>,
-) -> Result<(), AllocError> {
+) -> Result<(), AllocError>
+    ensures { OnOk result (AddsOnly found.old.items found.new.items (GoesFrom (moved moves.now) (field_at path.now rank) place.now)) }
+{
     match place {
         None => Ok(()),
         Some(place) => {
@@ -89,7 +103,9 @@ fn add_fields(
     moves: &Moves<'_>,
     path: &SharedPath,
     fields: &[Option<Place>],
-) -> Result<(), AllocError> {
+) -> Result<(), AllocError>
+    ensures { OnOk result (AddsOnly found.old.items found.new.items (GoFrom (moved moves.now) (field_at path.now) fields.now)) }
+{
     for rank in 0..fields.len() {
         add_field(found, moves, path, rank, &fields[rank])?;
     }
@@ -103,7 +119,9 @@ fn add_method(
     path: &SharedPath,
     rank: usize,
     place: &Option<Place>,
-) -> Result<(), AllocError> {
+) -> Result<(), AllocError>
+    ensures { OnOk result (AddsOnly found.old.items found.new.items (GoesFrom (moved moves.now) (method_at path.now rank) place.now)) }
+{
     match place {
         None => Ok(()),
         Some(place) => {
@@ -119,7 +137,9 @@ fn add_methods(
     moves: &Moves<'_>,
     path: &SharedPath,
     methods: &[Option<Place>],
-) -> Result<(), AllocError> {
+) -> Result<(), AllocError>
+    ensures { OnOk result (AddsOnly found.old.items found.new.items (GoFrom (moved moves.now) (method_at path.now) methods.now)) }
+{
     for rank in 0..methods.len() {
         add_method(found, moves, path, rank, &methods[rank])?;
     }
@@ -132,7 +152,9 @@ fn add_package(
     moves: &Moves<'_>,
     path: &SharedPath,
     places: &DeclaredPlaces,
-) -> Result<(), AllocError> {
+) -> Result<(), AllocError>
+    ensures { OnOk result (AddsOnly found.old.items found.new.items (GoFromPackage (moved moves.now) path.now places.now)) }
+{
     add_names(found, moves, path, &places.names)?;
     add_fields(found, moves, path, &places.fields)?;
     add_methods(found, moves, path, &places.methods)
@@ -141,16 +163,16 @@ fn add_package(
 /// Adds the declarations of all packages.
 fn add_all(
     old: &mut Vec<BoundSpot>,
-    graph: &Graph,
-    found: &Findings,
+    packages: &Packages<'_>,
     places: &[DeclaredPlaces],
     moves: &Moves<'_>,
 ) -> Result<(), AllocError>
-    requires sound { IsSound graph.now found.now }
-    requires places { length places.now ≡ length (package_paths graph.now) }
+    requires read { ArePackages packages.now }
+    requires places { AreDeclared (workspace_of packages.now) (verdicts_of packages.now) places.now }
+    ensures { OnOk result (AddsOnly old.old.items old.new.items (HasGone (IsPackage (workspace_of packages.now) (verdicts_of packages.now)) (moved moves.now))) }
 {
-    for number in 0..graph.len() {
-        let path = path_of(graph, found, number);
+    for number in 0..packages.graph.len() {
+        let path = path_of(packages.graph, packages.found, number);
         add_package(old, moves, path, &places[number])?;
     }
     Ok(())
@@ -159,17 +181,16 @@ fn add_all(
 /// The declarations of a workspace, sorted by the places to which they go.
 pub fn old_places(
     alloc: Global,
-    graph: &Graph,
-    found: &Findings,
+    packages: &Packages<'_>,
     places: &[DeclaredPlaces],
     moves: &Moves<'_>,
 ) -> Result<Vec<BoundSpot>, AllocError>
-    requires sound { IsSound graph.now found.now }
-    requires places { length places.now ≡ length (package_paths graph.now) }
-    ensures { IfOk result (λ old. IsSortedBy (λ a b. is_lt (place_cmp (place_at a) (place_at b))) old.items) }
+    requires read { ArePackages packages.now }
+    requires places { AreDeclared (workspace_of packages.now) (verdicts_of packages.now) places.now }
+    ensures { IfOk result (λ old. AreOldPlaces (IsPackage (workspace_of packages.now) (verdicts_of packages.now)) (moved moves.now) old.items) }
 {
     let mut old = Vec::new(alloc);
-    add_all(&mut old, graph, found, places, moves)?;
+    add_all(&mut old, packages, places, moves)?;
     sort(&mut old);
     Ok(old)
 }
@@ -177,6 +198,7 @@ pub fn old_places(
 /// The declaration that has gone to a place.
 pub fn before_of<'a>(old: &'a [BoundSpot], place: &Place) -> Option<&'a Declaration>
     requires { IsSortedBy (λ a b. is_lt (place_cmp (place_at a) (place_at b))) old.now }
+    ensures { MatchOption result (Unit {0}) (λ d. (b : Bound) × (Contains old.now b × ((place_at b ≡ place.now) × (b.declaration ≡ d.now)))) }
 {
     match find(old, place) {
         None => None,

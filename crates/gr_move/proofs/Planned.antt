@@ -13,6 +13,7 @@ use Rattle.gr_verdict.specs.FaultLists.{ListsFaults}
 use Rattle.gr_bound.specs.Workspaces.{RefusesFaults}
 use Rattle.gr_revision.specs.RevisionsOfEdits.{revision_of}
 use Rattle.gr_check.specs.Preserved.{Preserves}
+use Rattle.gr_conflict.specs.Refusals.{IsToldOr}
 use Rattle.gr_conflict.specs.Told.{told_by}
 use Rattle.gr_conflict.specs.declared.conflict.Capturer.{Capturer}
 use Rattle.gr_conflict.specs.declared.conflict.Capturer.TheVariants.{Universe, At}
@@ -29,35 +30,40 @@ use Rattle.gr_move.specs.Steps.{moving_by, ArePaths, KeepsLimits, RefusesTarget,
 
 -- a conflict that is told
 
-pub told_conflict : (w : Workspace) (s : FileChanges) → (Preserves w (revision_of w s) → ⊥) → (by : Option Capturer) (used : Place) →
-    RefusesConflict w s (Err (told_by by used))
-told_conflict w s not None used = not
-told_conflict w s not (Some Universe) used = not
-told_conflict w s not (Some (At place)) used = not
+pub told_conflict : (w : Workspace) (from : List ℕ) (known : Verdicts) → AreVerdicts w known → (s : FileChanges) → (Preserves w (revision_of w s) → ⊥) →
+    (by : Option Capturer) (used : Place) → IsToldOr w known (revision_of w s) (record { path = from; offset = 0 }) (record { used = used; by = by }) →
+    RefusesConflict w from s (Err (told_by by used))
+told_conflict w from known right s not None used is =
+    (not, record { known = known; right = right; tells = record { conflict = record { used = used; by = None }; is_told = is; tells = refl } })
+told_conflict w from known right s not (Some Universe) used is =
+    (not, record { known = known; right = right; tells = record { conflict = record { used = used; by = Some Universe }; is_told = is; tells = refl } })
+told_conflict w from known right s not (Some (At place)) used is =
+    (not, record { known = known; right = right; tells = record { conflict = record { used = used; by = Some (At place) }; is_told = is; tells = refl } })
 
-pub conflict_planned : (snapshot : Snapshot) (s : FileChanges) (r : Refusal) → RefusesConflict snapshot.files s (Err r) → PlansEdits snapshot s (Err r)
-conflict_planned snapshot s (Captured a b) h = h
-conflict_planned snapshot s (Lost a) h = h
-conflict_planned snapshot s Memory h = h
-conflict_planned snapshot s _ h = absurd h
+pub conflict_planned : (snapshot : Snapshot) (from : List ℕ) (s : FileChanges) (r : Refusal) → RefusesConflict snapshot.files from s (Err r) →
+    PlansEdits snapshot from s (Err r)
+conflict_planned snapshot from s (Captured a b) h = h
+conflict_planned snapshot from s (Lost a) h = h
+conflict_planned snapshot from s Memory h = h
+conflict_planned snapshot from s _ h = absurd h
 
-pub conflict_of_length : (w : Workspace) (s : FileChanges) (r : Refusal) → RefusesConflict w s (Err r) → RefusesLength w s (Err r)
-conflict_of_length w s (Captured a b) h = h
-conflict_of_length w s (Lost a) h = h
-conflict_of_length w s Memory h = h
-conflict_of_length w s _ h = absurd h
+pub conflict_of_length : (w : Workspace) (from : List ℕ) (s : FileChanges) (r : Refusal) → RefusesConflict w from s (Err r) → RefusesLength w from s (Err r)
+conflict_of_length w from s (Captured a b) h = h
+conflict_of_length w from s (Lost a) h = h
+conflict_of_length w from s Memory h = h
+conflict_of_length w from s _ h = absurd h
 
 -- a change that keeps the limits, or does not
 
-kept_refused : (snapshot : Snapshot) (s : FileChanges) (change : Change) → change ≡ moving_by snapshot s →
-    Preserves snapshot.files (revision_of snapshot.files s) → (r : Refusal) → KeepsLimits snapshot.limits change (Err r) → PlansEdits snapshot s (Err r)
-kept_refused snapshot s change is kept TooLarge h = (kept, λ fits. h (subst (λ (c : Change). FitsLimits snapshot.limits c.files) (sym is) fits))
-kept_refused snapshot s change is kept _ h = absurd h
+kept_refused : (snapshot : Snapshot) (from : List ℕ) (s : FileChanges) (change : Change) → change ≡ moving_by snapshot s →
+    Preserves snapshot.files (revision_of snapshot.files s) → (r : Refusal) → KeepsLimits snapshot.limits change (Err r) → PlansEdits snapshot from s (Err r)
+kept_refused snapshot from s change is kept TooLarge h = (kept, λ fits. h (subst (λ (c : Change). FitsLimits snapshot.limits c.files) (sym is) fits))
+kept_refused snapshot from s change is kept _ h = absurd h
 
-pub kept_planned : (snapshot : Snapshot) (s : FileChanges) (change : Change) → change ≡ moving_by snapshot s →
-    Preserves snapshot.files (revision_of snapshot.files s) → (r : Result Change Refusal) → KeepsLimits snapshot.limits change r → PlansEdits snapshot s r
-kept_planned snapshot s change is kept (Ok same) h = (kept, subst (λ (c : Change). FitsLimits snapshot.limits c.files) is h.1, h.0 ∙ is)
-kept_planned snapshot s change is kept (Err r) h = kept_refused snapshot s change is kept r h
+pub kept_planned : (snapshot : Snapshot) (from : List ℕ) (s : FileChanges) (change : Change) → change ≡ moving_by snapshot s →
+    Preserves snapshot.files (revision_of snapshot.files s) → (r : Result Change Refusal) → KeepsLimits snapshot.limits change r → PlansEdits snapshot from s r
+kept_planned snapshot from s change is kept (Ok same) h = (kept, subst (λ (c : Change). FitsLimits snapshot.limits c.files) is h.1, h.0 ∙ is)
+kept_planned snapshot from s change is kept (Err r) h = kept_refused snapshot from s change is kept r h
 
 -- the edits, and what they make
 
@@ -80,14 +86,14 @@ module _ (snapshot : Snapshot) (from to : List ℕ) (sound : ListsFaults snapsho
   naming : IsNaming snapshot.files from to s
   naming = record { known = known; right = right; edits = are }
 
-  length_refused : (r : Refusal) → RefusesLength snapshot.files s (Err r) → PlansIn snapshot from to (Err r)
+  length_refused : (r : Refusal) → RefusesLength snapshot.files from s (Err r) → PlansIn snapshot from to (Err r)
   length_refused TooLarge h = (sound, inl (record { no_path = no_path; changes = s; naming = naming; preserves = h }))
-  length_refused (Captured a b) h = (sound, inr (record { no_path = no_path; changes = s; naming = naming; not_preserved = h }))
-  length_refused (Lost a) h = (sound, inr (record { no_path = no_path; changes = s; naming = naming; not_preserved = h }))
+  length_refused (Captured a b) h = (sound, inr (record { no_path = no_path; changes = s; naming = naming; not_preserved = h.0; told = h.1 }))
+  length_refused (Lost a) h = (sound, inr (record { no_path = no_path; changes = s; naming = naming; not_preserved = h.0; told = h.1 }))
   length_refused Memory h = h
   length_refused _ h = absurd h
 
-  pub name_planned : (r : Result Change Refusal) → RefusesLength snapshot.files s r → PlansIn snapshot from to r
+  pub name_planned : (r : Result Change Refusal) → RefusesLength snapshot.files from s r → PlansIn snapshot from to r
   name_planned (Err r) h = length_refused r h
   name_planned (Ok change) h = absurd h
 
@@ -96,14 +102,14 @@ module _ (snapshot : Snapshot) (from to : List ℕ) (sound : ListsFaults snapsho
   moving : IsMoving snapshot.files from to s
   moving = record { known = known; right = right; edits = are }
 
-  edits_refused : (r : Refusal) → PlansEdits snapshot s (Err r) → PlansIn snapshot from to (Err r)
+  edits_refused : (r : Refusal) → PlansEdits snapshot from s (Err r) → PlansIn snapshot from to (Err r)
   edits_refused TooLarge h = (sound, inr (record { changes = s; moving = moving; preserves = h.0; too_large = h.1 }))
-  edits_refused (Captured a b) h = (sound, inl (record { changes = s; moving = moving; not_preserved = h }))
-  edits_refused (Lost a) h = (sound, inl (record { changes = s; moving = moving; not_preserved = h }))
+  edits_refused (Captured a b) h = (sound, inl (record { changes = s; moving = moving; not_preserved = h.0; told = h.1 }))
+  edits_refused (Lost a) h = (sound, inl (record { changes = s; moving = moving; not_preserved = h.0; told = h.1 }))
   edits_refused Memory h = h
   edits_refused _ h = absurd h
 
-  pub edits_planned : (r : Result Change Refusal) → PlansEdits snapshot s r → PlansIn snapshot from to r
+  pub edits_planned : (r : Result Change Refusal) → PlansEdits snapshot from s r → PlansIn snapshot from to r
   edits_planned (Err r) h = edits_refused r h
   edits_planned (Ok change) h =
       subst (λ (c : Change). PlansIn snapshot from to (Ok c)) (sym h.2)

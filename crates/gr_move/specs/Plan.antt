@@ -11,6 +11,7 @@ use Rattle.gr_verdict.specs.FaultLists.{ListsFaults}
 use Rattle.gr_bound.specs.Uses.{HasFirstFault}
 use Rattle.gr_revision.specs.RevisionsOfEdits.{revision_of}
 use Rattle.gr_check.specs.Preserved.{Preserves}
+use Rattle.gr_conflict.specs.Refusals.{TellsConflict}
 use Rattle.gr_edit.specs.EditSet.{FileChanges, edited}
 use Rattle.gr_edit.specs.Fits.{Fits}
 use Rattle.gr_space.specs.Fits.{FitsLimits}
@@ -64,18 +65,26 @@ pub record IsNaming (w : Workspace) (from to : List ℕ) (s : FileChanges) : Typ
   pub right : AreVerdicts w known
   pub edits : AreMoveEdits w known from from to s
 
+-- the refusal names the first identifier that is told of these changes; the package where no identifier is there
+pub record IsToldOf (w : Workspace) (from : List ℕ) (s : FileChanges) (refusal : Refusal) : Type 0 where
+  pub known : Verdicts
+  pub right : AreVerdicts w known
+  pub tells : TellsConflict w known (revision_of w s) (record { path = from; offset = 0 }) refusal
+
 -- these changes do not preserve bindings
-pub record HasConflict (w : Workspace) (from to : List ℕ) : Type 0 where
+pub record HasConflict (w : Workspace) (from to : List ℕ) (refusal : Refusal) : Type 0 where
   pub changes : FileChanges
   pub moving : IsMoving w from to changes
   pub not_preserved : ¬ (Preserves w (revision_of w changes))
+  pub told : IsToldOf w from changes refusal
 
 -- a file would get too long a path, and the name alone already does not preserve bindings
-pub record HasNameConflict (w : Workspace) (from to : List ℕ) : Type 0 where
+pub record HasNameConflict (w : Workspace) (from to : List ℕ) (refusal : Refusal) : Type 0 where
   pub no_path : HasNoNewPath w from to
   pub changes : FileChanges
   pub naming : IsNaming w from to changes
   pub not_preserved : ¬ (Preserves w (revision_of w changes))
+  pub told : IsToldOf w from changes refusal
 
 -- the name does, but a file would get too long a path
 pub record IsTooLong (w : Workspace) (from to : List ℕ) : Type 0 where
@@ -109,8 +118,10 @@ PlansMove snapshot from to (Err Same) = IsAsked snapshot.files from to × (to �
 PlansMove snapshot from to (Err InsideItself) = IsElsewhere snapshot.files from to × IsUnder from to
 PlansMove snapshot from to (Err TargetTaken) = IsBeside snapshot.files from to × IsTaken snapshot.files to
 PlansMove snapshot from to (Err (Faulty place kind)) = IsMovable snapshot.files from to × HasFirstFault snapshot.files place kind
-PlansMove snapshot from to (Err (Captured used by)) = IsWellAsked snapshot.files from to × (HasConflict snapshot.files from to ⊎ HasNameConflict snapshot.files from to)
-PlansMove snapshot from to (Err (Lost used)) = IsWellAsked snapshot.files from to × (HasConflict snapshot.files from to ⊎ HasNameConflict snapshot.files from to)
+PlansMove snapshot from to (Err (Captured used by)) =
+    IsWellAsked snapshot.files from to × (HasConflict snapshot.files from to (Captured used by) ⊎ HasNameConflict snapshot.files from to (Captured used by))
+PlansMove snapshot from to (Err (Lost used)) =
+    IsWellAsked snapshot.files from to × (HasConflict snapshot.files from to (Lost used) ⊎ HasNameConflict snapshot.files from to (Lost used))
 PlansMove snapshot from to (Err TooLarge) = IsWellAsked snapshot.files from to × (IsTooLong snapshot.files from to ⊎ IsTooLarge snapshot from to)
 PlansMove snapshot from to (Err Memory) = ⊤
 PlansMove snapshot from to (Err refusal) = ⊥

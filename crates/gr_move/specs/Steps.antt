@@ -19,7 +19,7 @@ use Rattle.gr_space.specs.declared.change.Change.{Change}
 use Rattle.gr_space.specs.declared.change.ChangeKind.TheVariants.{Move}
 use Rattle.gr_moving.specs.Paths.{IsUnder}
 use Rattle.gr_moving.specs.MoveEdits.{IsFree}
-use Rattle.gr_move.specs.Plan.{IsTaken, HasConflict, HasNameConflict, IsTooLong, IsTooLarge, IsMoved}
+use Rattle.gr_move.specs.Plan.{IsToldOf, IsTaken, HasConflict, HasNameConflict, IsTooLong, IsTooLarge, IsMoved}
 
 -- both are paths
 pub record ArePaths (from to : List ℕ) : Type 0 where
@@ -46,39 +46,45 @@ KeepsLimits limits change (Ok same) = (same ≡ change) × FitsLimits limits cha
 KeepsLimits limits change (Err TooLarge) = ¬ (FitsLimits limits change.files)
 KeepsLimits limits change (Err refusal) = ⊥
 
+-- bindings are not preserved, and this refusal tells of them
+abbrev pub IsConflict : Workspace → List ℕ → FileChanges → Refusal → Type 0
+IsConflict w from s refusal = (¬ (Preserves w (revision_of w s))) × IsToldOf w from s refusal
+
 -- whether bindings are preserved, or that they are not
-abbrev pub RefusesConflict : Workspace → FileChanges → Result (Unit {0}) Refusal → Type 0
-RefusesConflict w s (Ok done) = Preserves w (revision_of w s)
-RefusesConflict w s (Err (Captured used by)) = ¬ (Preserves w (revision_of w s))
-RefusesConflict w s (Err (Lost used)) = ¬ (Preserves w (revision_of w s))
-RefusesConflict w s (Err Memory) = ⊤
-RefusesConflict w s (Err refusal) = ⊥
+abbrev pub RefusesConflict : Workspace → List ℕ → FileChanges → Result (Unit {0}) Refusal → Type 0
+RefusesConflict w from s (Ok done) = Preserves w (revision_of w s)
+RefusesConflict w from s (Err (Captured used by)) = IsConflict w from s (Captured used by)
+RefusesConflict w from s (Err (Lost used)) = IsConflict w from s (Lost used)
+RefusesConflict w from s (Err Memory) = ⊤
+RefusesConflict w from s (Err refusal) = ⊥
 
 -- the same where the change is of no use, since a file would get too long a path
-abbrev pub RefusesLength : Workspace → FileChanges → Result Change Refusal → Type 0
-RefusesLength w s (Ok change) = ⊥
-RefusesLength w s (Err TooLarge) = Preserves w (revision_of w s)
-RefusesLength w s (Err (Captured used by)) = ¬ (Preserves w (revision_of w s))
-RefusesLength w s (Err (Lost used)) = ¬ (Preserves w (revision_of w s))
-RefusesLength w s (Err Memory) = ⊤
-RefusesLength w s (Err refusal) = ⊥
+abbrev pub RefusesLength : Workspace → List ℕ → FileChanges → Result Change Refusal → Type 0
+RefusesLength w from s (Ok change) = ⊥
+RefusesLength w from s (Err TooLarge) = Preserves w (revision_of w s)
+RefusesLength w from s (Err (Captured used by)) = IsConflict w from s (Captured used by)
+RefusesLength w from s (Err (Lost used)) = IsConflict w from s (Lost used)
+RefusesLength w from s (Err Memory) = ⊤
+RefusesLength w from s (Err refusal) = ⊥
 
 -- that change, unless it does not preserve bindings or passes a limit
-abbrev pub PlansEdits : Snapshot → FileChanges → Result Change Refusal → Type 0
-PlansEdits snapshot s (Ok change) =
+abbrev pub PlansEdits : Snapshot → List ℕ → FileChanges → Result Change Refusal → Type 0
+PlansEdits snapshot from s (Ok change) =
     Preserves snapshot.files (revision_of snapshot.files s) × FitsLimits snapshot.limits (edited s snapshot.files) × (change ≡ moving_by snapshot s)
-PlansEdits snapshot s (Err (Captured used by)) = ¬ (Preserves snapshot.files (revision_of snapshot.files s))
-PlansEdits snapshot s (Err (Lost used)) = ¬ (Preserves snapshot.files (revision_of snapshot.files s))
-PlansEdits snapshot s (Err TooLarge) = Preserves snapshot.files (revision_of snapshot.files s) × ¬ (FitsLimits snapshot.limits (edited s snapshot.files))
-PlansEdits snapshot s (Err Memory) = ⊤
-PlansEdits snapshot s (Err refusal) = ⊥
+PlansEdits snapshot from s (Err (Captured used by)) = IsConflict snapshot.files from s (Captured used by)
+PlansEdits snapshot from s (Err (Lost used)) = IsConflict snapshot.files from s (Lost used)
+PlansEdits snapshot from s (Err TooLarge) = Preserves snapshot.files (revision_of snapshot.files s) × ¬ (FitsLimits snapshot.limits (edited s snapshot.files))
+PlansEdits snapshot from s (Err Memory) = ⊤
+PlansEdits snapshot from s (Err refusal) = ⊥
 
 -- what planning answers where the package can be moved there
 abbrev pub PlansIn : Snapshot → (from to : List ℕ) → Result Change Refusal → Type 0
 PlansIn snapshot from to (Ok change) = ListsFaults snapshot.files [] × IsMoved snapshot from to change
 PlansIn snapshot from to (Err (Faulty place kind)) = HasFirstFault snapshot.files place kind
-PlansIn snapshot from to (Err (Captured used by)) = ListsFaults snapshot.files [] × (HasConflict snapshot.files from to ⊎ HasNameConflict snapshot.files from to)
-PlansIn snapshot from to (Err (Lost used)) = ListsFaults snapshot.files [] × (HasConflict snapshot.files from to ⊎ HasNameConflict snapshot.files from to)
+PlansIn snapshot from to (Err (Captured used by)) =
+    ListsFaults snapshot.files [] × (HasConflict snapshot.files from to (Captured used by) ⊎ HasNameConflict snapshot.files from to (Captured used by))
+PlansIn snapshot from to (Err (Lost used)) =
+    ListsFaults snapshot.files [] × (HasConflict snapshot.files from to (Lost used) ⊎ HasNameConflict snapshot.files from to (Lost used))
 PlansIn snapshot from to (Err TooLarge) = ListsFaults snapshot.files [] × (IsTooLong snapshot.files from to ⊎ IsTooLarge snapshot from to)
 PlansIn snapshot from to (Err Memory) = ⊤
 PlansIn snapshot from to (Err refusal) = ⊥

@@ -1,10 +1,12 @@
 //! The change that moves a package.
-ghost use Rattle.std.specs.Prelude.{◌≡◌};
+ghost use Rattle.std.specs.Prelude.{◌≡◌, IfOk};
 ghost use Rattle.gr_text.specs.Path.{IsPath};
 ghost use Rattle.gr_edit.specs.EditSet.{edited};
 ghost use Rattle.gr_edit.specs.Fits.{Fits};
 ghost use Rattle.gr_verdict.specs.Found.{IsFound, KnowsVerdicts};
-ghost use Rattle.gr_bound.specs.Workspaces.{IsSound};
+ghost use Rattle.gr_bound.specs.Workspaces.{IsSound, known_in};
+ghost use Rattle.gr_revision.specs.RevisionsOfEdits.{revision_of};
+ghost use Rattle.gr_conflict.specs.Refusals.{IsToldOr};
 ghost use Rattle.gr_moving.specs.MoveEdits.{HasNoNewPath, IsFree};
 ghost use Rattle.gr_move.specs.Plan.{PlansMove};
 ghost use Rattle.gr_move.specs.Steps.{moving_by, ArePaths, KeepsLimits, RefusesConflict, RefusesLength, PlansEdits, PlansIn};
@@ -30,6 +32,7 @@ fn conflict_of(
 ) -> Result<Conflict, AllocError>
     requires sound { IsSound snapshot.now.files found.now.findings }
     requires after { change.now.files ≡ edited change.now.edits snapshot.now.files }
+    ensures { IfOk result (IsToldOr snapshot.now.files (known_in found.now.findings) (revision_of snapshot.now.files change.now.edits) (record { path = from.now; offset = 0 })) }
 {
     match first_conflict(
         alloc,
@@ -60,7 +63,7 @@ fn refuse_conflict(
     requires sound { IsSound snapshot.now.files found.now.findings }
     requires known { KnowsVerdicts snapshot.now.files found.now.known }
     requires after { change.now.files ≡ edited change.now.edits snapshot.now.files }
-    ensures { RefusesConflict snapshot.now.files change.now.edits result }
+    ensures { RefusesConflict snapshot.now.files from.now change.now.edits result }
 {
     let kept = preserves(alloc, &snapshot.files, found, &change.edits, &change.files)?;
     if kept {
@@ -92,7 +95,7 @@ fn judged(
     requires sound { IsSound snapshot.now.files found.now.findings }
     requires known { KnowsVerdicts snapshot.now.files found.now.known }
     requires is_change { change ≡ moving_by snapshot.now change.edits }
-    ensures { PlansEdits snapshot.now change.edits result }
+    ensures { PlansEdits snapshot.now from.now change.edits result }
 {
     match refuse_conflict(alloc, snapshot, found, from, &change) {
         Err(refusal) => Err(refusal),
@@ -111,7 +114,7 @@ fn plan_edits(
     requires sound { IsSound snapshot.now.files found.now.findings }
     requires known { KnowsVerdicts snapshot.now.files found.now.known }
     requires fits { Fits edits snapshot.now.files }
-    ensures { PlansEdits snapshot.now edits result }
+    ensures { PlansEdits snapshot.now from.now edits result }
 {
     let change = Change::of(alloc, snapshot, ChangeKind::Move, edits)?;
     judged(alloc, snapshot, found, from, change)
@@ -128,7 +131,7 @@ fn refuse_length(
     requires sound { IsSound snapshot.now.files found.now.findings }
     requires known { KnowsVerdicts snapshot.now.files found.now.known }
     requires fits { Fits edits snapshot.now.files }
-    ensures { RefusesLength snapshot.now.files edits result }
+    ensures { RefusesLength snapshot.now.files from.now edits result }
 {
     let change = Change::of(alloc, snapshot, ChangeKind::Move, edits)?;
     match refuse_conflict(alloc, snapshot, found, from, &change) {

@@ -22,15 +22,19 @@ use Rattle.gr_naming.specs.NewName.{IsNewName}
 use Rattle.gr_naming.specs.Naming.{IsFixed, IsReservedFor, RefusesName}
 use Rattle.gr_renaming.specs.RenameEdits.{AreRenameEdits}
 use Rattle.gr_rename.specs.Plan.{IsWellAsked, IsAsked, IsRenamable, MayBeCalled, IsRenaming, PlansRename}
+use Rattle.gr_conflict.specs.Refusals.{IsToldOr}
 use Rattle.gr_conflict.specs.Told.{told_by}
 use Rattle.gr_rename.specs.Steps.{PlansEdits, PlansDeclaration, PlansIn}
 
 -- a conflict that is told
 
-pub told_conflict : (snapshot : Snapshot) (s : FileChanges) → (Preserves snapshot.files (revision_of snapshot.files s) → ⊥) → (by : Option Capturer) (used : Place) → PlansEdits snapshot s (Err (told_by by used))
-told_conflict snapshot s not None used = not
-told_conflict snapshot s not (Some Universe) used = not
-told_conflict snapshot s not (Some (At place)) used = not
+pub told_conflict : (snapshot : Snapshot) (known : Verdicts) (asked : Place) (s : FileChanges) → (Preserves snapshot.files (revision_of snapshot.files s) → ⊥) →
+    (by : Option Capturer) (used : Place) → IsToldOr snapshot.files known (revision_of snapshot.files s) asked (record { used = used; by = by }) →
+    PlansEdits snapshot known asked s (Err (told_by by used))
+told_conflict snapshot known asked s not None used is = (not, record { conflict = record { used = used; by = None }; is_told = is; tells = refl })
+told_conflict snapshot known asked s not (Some Universe) used is = (not, record { conflict = record { used = used; by = Some Universe }; is_told = is; tells = refl })
+told_conflict snapshot known asked s not (Some (At place)) used is =
+    (not, record { conflict = record { used = used; by = Some (At place) }; is_told = is; tells = refl })
 
 -- the declaration of what holds the byte
 
@@ -101,7 +105,7 @@ module _ (snapshot : Snapshot) (path : List ℕ) (offset : ℕ) (name : List ℕ
       renaming : (s : FileChanges) → AreRenameEdits snapshot.files known d name s → IsRenaming snapshot.files path offset name s
       renaming s are = record { may = may_be ok.0 ok.1; other = ok.2; edits = are }
 
-      edits_refused : (s : FileChanges) → IsRenaming snapshot.files path offset name s → (r : Refusal) → PlansEdits snapshot s (Err r) → PlansIn snapshot path offset name (Err r)
+      edits_refused : (s : FileChanges) → IsRenaming snapshot.files path offset name s → (r : Refusal) → PlansEdits snapshot known (record { path = path; offset = offset }) s (Err r) → PlansIn snapshot path offset name (Err r)
       edits_refused s is refusal.Memory h = h
       edits_refused s is refusal.BadCommand h = absurd h
       edits_refused s is refusal.BadPath h = absurd h
@@ -115,8 +119,8 @@ module _ (snapshot : Snapshot) (path : List ℕ) (offset : ℕ) (name : List ℕ
       edits_refused s is refusal.NotRenamable h = absurd h
       edits_refused s is refusal.BadName h = absurd h
       edits_refused s is refusal.Same h = absurd h
-      edits_refused s is (refusal.Captured a b) h = (sound, record { changes = s; renaming = is; not_preserved = h })
-      edits_refused s is (refusal.Lost a) h = (sound, record { changes = s; renaming = is; not_preserved = h })
+      edits_refused s is (refusal.Captured a b) h = (sound, record { changes = s; renaming = is; not_preserved = h.0; known = known; right = right; told = h.1 })
+      edits_refused s is (refusal.Lost a) h = (sound, record { changes = s; renaming = is; not_preserved = h.0; known = known; right = right; told = h.1 })
       edits_refused s is refusal.NoPackage h = absurd h
       edits_refused s is refusal.TargetTaken h = absurd h
       edits_refused s is refusal.InsideItself h = absurd h
@@ -127,13 +131,13 @@ module _ (snapshot : Snapshot) (path : List ℕ) (offset : ℕ) (name : List ℕ
       edits_refused s is refusal.NoJob h = absurd h
       edits_refused s is refusal.BodyShort h = absurd h
 
-      edits_planned : (s : FileChanges) → AreRenameEdits snapshot.files known d name s → Fits s snapshot.files → (r : Result Change Refusal) → PlansEdits snapshot s r → PlansIn snapshot path offset name r
+      edits_planned : (s : FileChanges) → AreRenameEdits snapshot.files known d name s → Fits s snapshot.files → (r : Result Change Refusal) → PlansEdits snapshot known (record { path = path; offset = offset }) s r → PlansIn snapshot path offset name r
       edits_planned s are fit (Err r) h = edits_refused s (renaming s are) r h
       edits_planned s are fit (Ok change) h =
           subst (λ (c : Change). PlansIn snapshot path offset name (Ok c)) (sym h.2)
           (sound, record { renaming = renaming s are; preserves = h.0; fits = h.1; fit_files = fit; is_change = refl })
 
-      pub declaration_planned : (r : Result Change Refusal) → PlansDeclaration snapshot known d name r → PlansIn snapshot path offset name r
+      pub declaration_planned : (r : Result Change Refusal) → PlansDeclaration snapshot known (record { path = path; offset = offset }) d name r → PlansIn snapshot path offset name r
       declaration_planned r (inl none) = subst (PlansIn snapshot path offset name) (sym none) tt
       declaration_planned r (inr h) = edits_planned h.0 h.1.0 h.1.1.0 r h.1.1.1
 

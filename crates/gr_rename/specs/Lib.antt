@@ -2,3 +2,4 @@
 pub mod Plan
 pub mod Steps
 pub mod Laws
+pub mod Asked

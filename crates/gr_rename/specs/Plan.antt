@@ -12,6 +12,7 @@ use Rattle.gr_bound.specs.Uses.{IsPackage, IsFile, HasDeclaration, HasNoIdentifi
 use Rattle.gr_standing.specs.Called.{IsCalled}
 use Rattle.gr_revision.specs.RevisionsOfEdits.{revision_of}
 use Rattle.gr_check.specs.Preserved.{Preserves}
+use Rattle.gr_conflict.specs.Refusals.{TellsConflict}
 use Rattle.gr_edit.specs.EditSet.{FileChanges, edited}
 use Rattle.gr_edit.specs.Fits.{Fits}
 use Rattle.gr_space.specs.Fits.{FitsLimits}
@@ -66,11 +67,15 @@ pub record IsRenaming (w : Workspace) (path : List ℕ) (offset : ℕ) (name : L
   pub other : ¬ (IsCalled (IsPackage w may.renamable.asked.known) may.renamable.asked.declaration name)
   pub edits : AreRenameEdits w may.renamable.asked.known may.renamable.asked.declaration name s
 
--- these changes do not preserve bindings
-pub record HasConflict (w : Workspace) (path : List ℕ) (offset : ℕ) (name : List ℕ) : Type 0 where
+-- these changes do not preserve bindings, and the refusal names the first identifier that is told of them; the byte where no
+-- identifier is there
+pub record HasConflict (w : Workspace) (path : List ℕ) (offset : ℕ) (name : List ℕ) (refusal : Refusal) : Type 0 where
   pub changes : FileChanges
   pub renaming : IsRenaming w path offset name changes
   pub not_preserved : ¬ (Preserves w (revision_of w changes))
+  pub known : Verdicts
+  pub right : AreVerdicts w known
+  pub told : TellsConflict w known (revision_of w changes) (record { path = path; offset = offset }) refusal
 
 -- bindings are preserved, but the files pass a limit
 pub record IsTooLarge (snapshot : Snapshot) (path : List ℕ) (offset : ℕ) (name : List ℕ) : Type 0 where
@@ -99,8 +104,8 @@ PlansRename snapshot path offset name (Err NoIdentifier) = IsWellAsked snapshot.
 PlansRename snapshot path offset name (Err NotRenamable) =
     IsWellAsked snapshot.files path name × (HasNoDeclaration snapshot.files path offset ⊎ IsAskedFixed snapshot.files path offset)
 PlansRename snapshot path offset name (Err Same) = IsWellAsked snapshot.files path name × IsAskedSame snapshot.files path offset name
-PlansRename snapshot path offset name (Err (Captured used by)) = IsWellAsked snapshot.files path name × HasConflict snapshot.files path offset name
-PlansRename snapshot path offset name (Err (Lost used)) = IsWellAsked snapshot.files path name × HasConflict snapshot.files path offset name
+PlansRename snapshot path offset name (Err (Captured used by)) = IsWellAsked snapshot.files path name × HasConflict snapshot.files path offset name (Captured used by)
+PlansRename snapshot path offset name (Err (Lost used)) = IsWellAsked snapshot.files path name × HasConflict snapshot.files path offset name (Lost used)
 PlansRename snapshot path offset name (Err TooLarge) = IsWellAsked snapshot.files path name × IsTooLarge snapshot path offset name
 PlansRename snapshot path offset name (Err Memory) = ⊤
 PlansRename snapshot path offset name (Err refusal) = ⊥

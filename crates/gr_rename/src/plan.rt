@@ -1,10 +1,13 @@
 //! The change that renames what holds a byte.
-ghost use Rattle.std.specs.Prelude.{◌≡◌};
+ghost use Rattle.std.specs.Prelude.{◌≡◌, None, IfOk};
 ghost use Rattle.gr_edit.specs.EditSet.{edited};
 ghost use Rattle.gr_verdict.specs.Found.{IsFound, KnowsVerdicts};
 ghost use Rattle.gr_bound.specs.Uses.{HasDeclaration};
 ghost use Rattle.gr_bound.specs.Workspaces.{IsSound, known_in};
+ghost use Rattle.gr_revision.specs.RevisionsOfEdits.{revision_of};
+ghost use Rattle.gr_conflict.specs.Refusals.{IsToldOr};
 ghost use Rattle.gr_rename.specs.Plan.{PlansRename};
+ghost use Rattle.gr_rename.specs.Asked.{asked_place};
 ghost use Rattle.gr_rename.specs.Steps.{renaming_by, PlansEdits, PlansDeclaration, PlansIn};
 
 use gr_bound::{Declaration, declaration_at, refuse_faults};
@@ -26,7 +29,9 @@ struct Asked<'a> {
 }
 
 /// What holds the byte is lost.
-fn asked_lost(asked: &Asked<'_>) -> Result<Conflict, AllocError> {
+fn asked_lost(asked: &Asked<'_>) -> Result<Conflict, AllocError>
+    ensures { IfOk result (λ c. c ≡ record { used = asked_place asked.now; by = None }) }
+{
     Ok(Conflict {
         used: Place {
             path: asked.path.clone()?,
@@ -46,6 +51,7 @@ fn conflict_of(
 ) -> Result<Conflict, AllocError>
     requires sound { IsSound snapshot.now.files found.now.findings }
     requires after { change.now.files ≡ edited change.now.edits snapshot.now.files }
+    ensures { IfOk result (IsToldOr snapshot.now.files (known_in found.now.findings) (revision_of snapshot.now.files change.now.edits) (asked_place asked.now)) }
 {
     match first_conflict(
         alloc,
@@ -70,7 +76,7 @@ fn judged(
     requires sound { IsSound snapshot.now.files found.now.findings }
     requires known { KnowsVerdicts snapshot.now.files found.now.known }
     requires is_change { change ≡ renaming_by snapshot.now change.edits }
-    ensures { PlansEdits snapshot.now change.edits result }
+    ensures { PlansEdits snapshot.now (known_in found.now.findings) (asked_place asked.now) change.edits result }
 {
     if !preserves(alloc, &snapshot.files, found, &change.edits, &change.files)? {
         return Err(told(conflict_of(alloc, snapshot, found, asked, &change)?));
@@ -92,7 +98,7 @@ fn plan_declaration(
 ) -> Result<Change, Refusal>
     requires sound { IsSound snapshot.now.files found.now.findings }
     requires known { KnowsVerdicts snapshot.now.files found.now.known }
-    ensures { PlansDeclaration snapshot.now (known_in found.now.findings) declaration.now asked.now.name.now result }
+    ensures { PlansDeclaration snapshot.now (known_in found.now.findings) (asked_place asked.now) declaration.now asked.now.name.now result }
 {
     let edits = rename_edits(
         alloc,

@@ -5,12 +5,18 @@ use Rattle.gr_declared.specs.PackageView.{package_of}
 use Rattle.gr_declared.proofs.Binding.{found_at}
 use Rattle.gr_bound.specs.Steps.{AtToken}
 use Rattle.gr_bound.proofs.Tokens.{Begins}
-use Rattle.gr_conflict.specs.Conflicts.{IsAnyFound}
-use Rattle.gr_conflict.proofs.Beginnings.{an_identifier}
+use Rattle.gr_check.specs.DeclaredPlaces.{IsFound}
+use Rattle.gr_conflict.proofs.Beginnings.{no_identifier, an_identifier}
 use Rattle.gr_conflict.proofs.beginning.token_beginning.Goals as goal
+
+pub returns-in-None : goal.returns-in-None
+returns-in-None c = no_identifier (package_of c.args.unit) c.args.at _ (sym c.get.ensures ∙ c.in-None.is)
+    (c.requires.identifiers c.args.at.file c.args.at.index)
 
 pub returns-in-Some : goal.returns-in-Some
 returns-in-Some c =
     let p = package_of c.args.unit in
-    let found = found_at p c.args.at.file c.args.at.index c.in-Some.field-0 _ (sym c.get.ensures ∙ c.in-Some.is) (c.requires.identifiers c.args.at.file c.args.at.index) in
-    IfOk-weaker c.name_beginning.result (IsAnyFound (Begins p c.args.at)) (IsAnyFound (AtToken p c.args.at)) (λ o h. an_identifier p c.in-Some.field-0 c.args.at o found h) c.name_beginning.ensures
+    let found = found_at p c.args.at.file c.args.at.index c.in-Some.field-0 _ (sym c.get.ensures ∙ c.in-Some.is)
+    (c.requires.identifiers c.args.at.file c.args.at.index) in
+    IfOk-weaker c.name_beginning.result (IsFound (Begins p c.args.at)) (IsFound (AtToken p c.args.at))
+    (λ o h. an_identifier p c.in-Some.field-0 c.args.at o found h) c.name_beginning.ensures

@@ -1,13 +1,20 @@
 -- The answers to the goals of `first::first_conflict`.
-use Rattle.std.proofs.Common.{subst}
-use Rattle.std.specs.Prelude.{Option, None}
+use Rattle.std.proofs.Common.{sym, subst, ◌∙◌, ap}
+use Rattle.std.specs.Prelude.{IfOk}
+use Rattle.gr_text.specs.Workspace.{Workspace}
+use Rattle.gr_edit.specs.EditSet.{edited}
+use Rattle.gr_revision.specs.RevisionsOfEdits.{revision_of}
+use Rattle.gr_verdict.specs.declared.findings.Findings.{Findings}
 use Rattle.gr_bound.specs.Workspaces.{known_in}
-use Rattle.gr_conflict.specs.declared.conflict.Conflict.{Conflict}
-use Rattle.gr_conflict.specs.Conflicts.{IsConflict, a_conflict, Takes}
-use Rattle.gr_conflict.proofs.Taking.{taken}
+use Rattle.gr_conflict.specs.Conflicts.{TellsFirst}
 use Rattle.gr_conflict.proofs.first.first_conflict.Goals as goal
 
-pub returns-in-Some : goal.returns-in-Some
-returns-in-Some c =
-    let P = IsConflict c.args.graph.now (known_in c.args.found.now) in
-    a_conflict (taken P c.in-Some.conflict (subst (λ (o : Option Conflict). Takes P None o) c.in-Some.is c.in_ok-conflict.ensures))
+pub first_read-requires-clause-after : goal.first_read-requires-clause-after
+first_read-requires-clause-after c = c.requires.after ∙ ap (edited c.args.edits.now) (sym c.in_ok-packages.ensures.workspace)
+
+pub returns : goal.returns
+returns c =
+    let packages = c.in_ok-packages.packages in
+    let tells = λ (w : Workspace) (f : Findings). IfOk c.first_read.result (TellsFirst w (known_in f) (revision_of w c.args.edits.now)) in
+    subst (λ (w : Workspace). tells w c.args.found.now) c.in_ok-packages.ensures.workspace
+    (subst (λ (f : Findings). tells packages.graph.now f) c.in_ok-packages.ensures.found c.first_read.ensures)

@@ -1,18 +1,34 @@
 -- The answers to the goals of `first::first_found`.
-use Rattle.std.proofs.Common.{length, ap, sym, subst, ◌∙◌}
-use Rattle.std.specs.List.Sorted.{IsSortedBy}
-use Rattle.std.specs.Ordering.{is_lt}
-use Rattle.gr_bound.specs.Bindings.{place_at}
+use Rattle.std.proofs.Common.{sym, subst}
+use Rattle.std.specs.Prelude.{None, IfOk}
+use Rattle.gr_text.specs.Workspace.{Workspace}
+use Rattle.gr_edit.specs.Moved.{moved}
 use Rattle.gr_bound.specs.Exports.{AreExports}
-use Rattle.gr_bound.specs.Places.{place_cmp}
-use Rattle.gr_bound.specs.Workspaces.{known_in}
+use Rattle.gr_bound.specs.Uses.{IsPackage}
+use Rattle.gr_check.specs.DeclaredPlaces.{AreDeclared}
+use Rattle.gr_conflict.specs.Conflicts.{IsConflict, Takes}
+use Rattle.gr_conflict.specs.Judging.{workspace_of, verdicts_of, change_by}
+use Rattle.gr_conflict.specs.Now.{AreScopeBindings}
+use Rattle.gr_conflict.specs.OldPlaces.{AreOldPlaces}
 use Rattle.gr_conflict.proofs.first.first_found.Goals as goal
 
 pub first_judged-requires : goal.first_judged-requires
-first_judged-requires c = record {
-  sound = c.requires.sound;
-  exports = subst (AreExports c.args.graph.now (known_in c.args.found.now)) (sym c.deref-2.ensures.value) c.requires.before.exports;
-  places = ap length c.deref-3.ensures.value ∙ c.requires.before.places;
-  old = subst (IsSortedBy (λ a b. is_lt (place_cmp (place_at a) (place_at b)))) (sym c.deref-4.ensures.value) c.requires.before.old;
-  scoped = c.requires.scoped;
-}
+first_judged-requires c =
+    let w = workspace_of c.args.packages.now in
+    let known = verdicts_of c.args.packages.now in
+    record {
+      read = c.requires.read;
+      exports = subst (AreExports w known) (sym c.deref-2.ensures.value) c.requires.before.exports;
+      places = subst (AreDeclared w known) (sym c.deref-3.ensures.value) c.requires.before.places;
+      old = subst (AreOldPlaces (IsPackage w known) (moved c.args.moves.now)) (sym c.deref-4.ensures.value) c.requires.before.old;
+      after = c.requires.after;
+      scoped = c.requires.scoped;
+      bound = subst (AreScopeBindings c.args.after.now) (sym c.deref-5.ensures.value) c.in_ok-bound.ensures;
+    }
+
+pub returns : goal.returns
+returns c =
+    let w = workspace_of c.args.packages.now in
+    let known = verdicts_of c.args.packages.now in
+    subst (λ (v : Workspace). IfOk c.first_judged.result (λ first. Takes (IsConflict w known (change_by v c.args.moves.now)) None first)) c.requires.after
+    c.first_judged.ensures

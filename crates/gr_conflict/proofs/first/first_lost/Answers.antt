@@ -1,13 +1,19 @@
 -- The answers to the goals of `first::first_lost`.
 use Rattle.std.proofs.Common.{subst, refl}
-use Rattle.std.specs.Prelude.{Option, None}
+use Rattle.std.specs.Prelude.{Option}
 use Rattle.gr_text.specs.declared.place.Place.{Place}
-use Rattle.gr_bound.specs.Workspaces.{known_in}
-use Rattle.gr_conflict.specs.Conflicts.{IsIdentifierKnown, an_identifier, Takes}
-use Rattle.gr_conflict.proofs.Taking.{taken}
+use Rattle.gr_check.specs.Preserved.{IsIdentifierAt}
+use Rattle.gr_conflict.specs.Firsts.{IsFirstPlace}
+use Rattle.gr_conflict.specs.Judging.{workspace_of, verdicts_of}
 use Rattle.gr_conflict.proofs.first.first_lost.Goals as goal
+
+pub returns-in-None : goal.returns-in-None
+returns-in-None c =
+    let P = IsIdentifierAt (workspace_of c.args.packages.now) (verdicts_of c.args.packages.now) in
+    subst (λ (o : Option Place). IsFirstPlace P o) c.in-None.is c.in_ok-first_identifier.ensures
 
 pub returns-in-Some : goal.returns-in-Some
 returns-in-Some c =
-    let P = IsIdentifierKnown c.args.graph.now (known_in c.args.found.now) in
-    an_identifier refl (taken P c.in-Some.used (subst (λ (o : Option Place). Takes P None o) c.in-Some.is c.in_ok-first_identifier.ensures))
+    let P = IsIdentifierAt (workspace_of c.args.packages.now) (verdicts_of c.args.packages.now) in
+    let h = subst (λ (o : Option Place). IsFirstPlace P o) c.in-Some.is c.in_ok-first_identifier.ensures in
+    record { lost = refl; is_identifier = h.0; first = h.1 }

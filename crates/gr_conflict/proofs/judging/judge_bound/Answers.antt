@@ -2,18 +2,26 @@
 use Rattle.std.proofs.Common.{subst}
 use Rattle.gr_text.specs.declared.place.Place.{Place}
 use Rattle.gr_declared.specs.PackageView.{package_of}
-use Rattle.gr_bound.specs.Binding.{by_scope}
 use Rattle.gr_bound.specs.Identifiers.{BeginsAt}
-use Rattle.gr_conflict.specs.Conflicts.{IsConflictIn, IsOf, IsAnyFound}
-use Rattle.gr_conflict.specs.Judging.{known_packages}
+use Rattle.gr_check.specs.DeclaredPlaces.{IsFound}
+use Rattle.gr_conflict.specs.Afterwards.{IsBoundByScopes}
+use Rattle.gr_conflict.specs.Conflicts.{IsConflictIn, IsNoted}
+use Rattle.gr_conflict.specs.Judging.{workspace_in, known_verdicts, known_packages, becomes_in, change_in}
 use Rattle.gr_conflict.proofs.Taking.{call_takes}
-use Rattle.gr_conflict.proofs.Telling.{noted_in}
+use Rattle.gr_conflict.proofs.Telling.{scope_turned}
 use Rattle.gr_conflict.proofs.judging.judge_bound.Goals as goal
 
 pub returns-in-Some : goal.returns-in-Some
 returns-in-Some c =
+    let j = c.args.judge.now in
+    let w = workspace_in j in
+    let known = known_verdicts j in
+    let r = change_in j in
     let p = package_of c.args.unit in
-    let Known = known_packages c.args.judge.now in
     let place = c.in-Some.place in
-    let begins : BeginsAt p place.path place.offset c.args.u = subst (IsAnyFound (λ (x : Place). BeginsAt p x.path x.offset c.args.u)) c.in-Some.is c.in_ok-beginning.ensures in
-    call_takes (IsOf place) (IsConflictIn Known p) c.args.first.now c.note_by_scope.new.first c.note_by_scope.result (noted_in Known p c.args.u c.args.old.now (by_scope c.requires.was) place begins) c.note_by_scope.ensures
+    let old = c.args.old.now in
+    let begins : BeginsAt p place.path place.offset c.args.u = subst (IsFound (λ (x : Place). BeginsAt p x.path x.offset c.args.u)) c.in-Some.is
+    c.in_ok-beginning.ensures in
+    call_takes (IsNoted (becomes_in j) (known_packages j) (IsBoundByScopes r place) place old) (IsConflictIn w known r p) c.args.first.now
+    c.note_by_scope.new.first c.note_by_scope.result
+    (scope_turned w known r p c.args.u old c.requires.was place begins) c.note_by_scope.ensures

@@ -3,7 +3,8 @@ use Rattle.std.proofs.Common.{◌∙◌, sym}
 use Rattle.gr_expr.specs.Found.{use_of}
 use Rattle.gr_declared.specs.PackageView.{package_of}
 use Rattle.gr_bound.specs.Members.{definitions_seen}
-use Rattle.gr_conflict.specs.Conflicts.{IsAtToken, IsMemberConflict}
+use Rattle.gr_conflict.specs.Conflicts.{IsOtherAt, IsMemberConflict}
+use Rattle.gr_conflict.specs.Judging.{known_packages}
 use Rattle.gr_conflict.proofs.Taking.{call_takes}
 use Rattle.gr_conflict.proofs.Telling.{member_conflict}
 use Rattle.gr_conflict.proofs.judging.judge_by_member.Goals as goal
@@ -11,8 +12,10 @@ use Rattle.gr_conflict.proofs.judging.judge_by_member.Goals as goal
 pub returns-in-Some : goal.returns-in-Some
 returns-in-Some c =
     let p = package_of c.args.unit in
+    let Known = known_packages c.args.judge.now in
     let ds = definitions_seen c.args.unit c.args.own.now in
     let x = use_of c.args.found.now in
     let old = c.in-Some.old in
-    call_takes (IsAtToken p (record { file = c.args.file; index = x.place })) (IsMemberConflict ds p c.args.file x) c.args.first.now c.judge_token.new.first c.judge_token.result
-    (member_conflict ds p c.args.file x old (sym c.in_ok-member_declaration.ensures ∙ c.in-Some.is)) c.judge_token.ensures
+    call_takes (IsOtherAt Known p (record { file = c.args.file; index = x.place }) old) (IsMemberConflict Known ds p c.args.file x)
+    c.args.first.now c.judge_token.new.first c.judge_token.result
+    (member_conflict Known ds p c.args.file x old (sym c.in_ok-member_declaration.ensures ∙ c.in-Some.is)) c.judge_token.ensures

@@ -5,8 +5,8 @@ use Rattle.std.proofs.lemmas.List.{get_or_read}
 use Rattle.gr_scope.specs.declared.model.Position.{Position}
 use Rattle.gr_declared.specs.PackageView.{package_of}
 use Rattle.gr_bound.specs.Binding.{IsFieldAt}
-use Rattle.gr_conflict.specs.Conflicts.{IsConflictIn, IsAtFound}
-use Rattle.gr_conflict.specs.Judging.{known_packages}
+use Rattle.gr_conflict.specs.Conflicts.{IsConflictIn, IsLostAtFound}
+use Rattle.gr_conflict.specs.Judging.{known_verdicts, change_in}
 use Rattle.gr_conflict.proofs.Taking.{takes_none, takes_as, takes_then}
 use Rattle.gr_conflict.proofs.Telling.{field_in}
 use Rattle.gr_conflict.proofs.judging.judge_fields.Goals as goal
@@ -16,14 +16,18 @@ loop-rank-init c = takes_none _ c.args.first.now
 
 pub loop-rank-preserved : goal.loop-rank-preserved
 loop-rank-preserved c =
+    let j = c.args.judge.now in
+    let w = j.packages.now.graph.now in
+    let known = known_verdicts j in
+    let r = change_in j in
     let p = package_of c.args.unit in
-    let Known = known_packages c.args.judge.now in
     let rank = c.loop-rank.rank in
     let places = c.in_ok-fields.fields.items in
     let at = c.index.result.now in
     let a = c.loop-rank.first in
     let b = c.judge_counting_field.new.first in
     let lt : rank < length places = omega (arith, c.loop-rank-test.true, c.len-rank-end.ensures) in
-    let is = subst (λ (o : Option Position). MatchOption o ((x : Position) → IsFieldAt p rank x → ⊥) (λ x. IsFieldAt p rank x)) (sym (get_or_read places rank at lt c.index.ensures None)) (c.in_ok-fields.ensures rank) in
-    let here = takes_as (IsAtFound p at) (IsConflictIn Known p) a b (field_in Known p rank at is) c.in_ok-judge_counting_field.ensures in
-    takes_then (IsConflictIn Known p) c.args.first.now a b c.loop-rank.invariant here
+    let is = subst (λ (o : Option Position). MatchOption o ((x : Position) → IsFieldAt p rank x → ⊥) (λ x. IsFieldAt p rank x))
+    (sym (get_or_read places rank at lt c.index.ensures None)) (c.in_ok-fields.ensures rank) in
+    let here = takes_as (IsLostAtFound p at) (IsConflictIn w known r p) a b (field_in w known r p rank at is) c.in_ok-judge_counting_field.ensures in
+    takes_then (IsConflictIn w known r p) c.args.first.now a b c.loop-rank.invariant here

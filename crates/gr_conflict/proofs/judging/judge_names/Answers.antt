@@ -1,11 +1,16 @@
 -- The answers to the goals of `judging::judge_names`.
 use Rattle.gr_declared.specs.PackageView.{package_of}
 use Rattle.gr_conflict.specs.Conflicts.{IsConflictIn}
-use Rattle.gr_conflict.specs.Judging.{known_packages}
+use Rattle.gr_conflict.specs.Judging.{known_verdicts, change_in}
 use Rattle.gr_conflict.proofs.Taking.{call_then}
 use Rattle.gr_conflict.proofs.judging.judge_names.Goals as goal
 
 pub returns : goal.returns
 returns c =
-    let P = IsConflictIn (known_packages c.args.judge.now) (package_of c.args.unit) in
+    let j = c.args.judge.now in
+    let w = j.packages.now.graph.now in
+    let known = known_verdicts j in
+    let r = change_in j in
+    let p = package_of c.args.unit in
+    let P = IsConflictIn w known r p in
     call_then P c.args.first.now c.judge_fields.new.first c.judge_methods.new.first c.judge_methods.result c.in_ok-judge_fields.ensures c.judge_methods.ensures

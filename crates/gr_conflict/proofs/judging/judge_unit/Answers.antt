@@ -1,12 +1,18 @@
 -- The answers to the goals of `judging::judge_unit`.
 use Rattle.gr_declared.specs.PackageView.{package_of}
 use Rattle.gr_conflict.specs.Conflicts.{IsConflictIn}
-use Rattle.gr_conflict.specs.Judging.{known_packages}
+use Rattle.gr_conflict.specs.Judging.{known_verdicts, change_in}
 use Rattle.gr_conflict.proofs.Taking.{takes_then, call_then}
 use Rattle.gr_conflict.proofs.judging.judge_unit.Goals as goal
 
 pub returns : goal.returns
 returns c =
-    let P = IsConflictIn (known_packages c.args.judge.now) (package_of c.args.unit) in
-    let members = takes_then P c.args.first.now c.judge_numbers.new.first c.judge_members.new.first c.in_ok-judge_numbers.ensures c.in_ok-judge_members.ensures in
+    let j = c.args.judge.now in
+    let w = j.packages.now.graph.now in
+    let known = known_verdicts j in
+    let r = change_in j in
+    let p = package_of c.args.unit in
+    let P = IsConflictIn w known r p in
+    let members = takes_then P c.args.first.now c.judge_numbers.new.first c.judge_members.new.first c.in_ok-judge_numbers.ensures
+    c.in_ok-judge_members.ensures in
     call_then P c.args.first.now c.judge_members.new.first c.judge_names.new.first c.judge_names.result members c.judge_names.ensures

@@ -6,4 +6,4 @@ pub returns-then-not-is_before : goal.returns-then-not-is_before
 returns-then-not-is_before c = inl refl
 
 pub returns : goal.returns
-returns c = inr (record { used = c.args.used; by = c.args.by }, (refl, refl))
+returns c = inr (record { used = c.args.used; by = c.args.by }, (refl, (refl, refl)))

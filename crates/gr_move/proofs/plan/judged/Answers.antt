@@ -8,8 +8,8 @@ pub refuse_conflict-requires-clause-after : goal.refuse_conflict-requires-clause
 refuse_conflict-requires-clause-after c = ap (λ (x : Change). x.files) c.requires.is_change
 
 pub returns-in-Err : goal.returns-in-Err
-returns-in-Err c = conflict_planned c.args.snapshot.now c.args.change.edits c.in-Err.refusal c.in-Err.ensures
+returns-in-Err c = conflict_planned c.args.snapshot.now c.args.from.now c.args.change.edits c.in-Err.refusal c.in-Err.ensures
 
 pub returns-in-Ok : goal.returns-in-Ok
 returns-in-Ok c =
-    kept_planned c.args.snapshot.now c.args.change.edits c.args.change c.requires.is_change c.in-Ok.ensures c.within_limits.result c.within_limits.ensures
+    kept_planned c.args.snapshot.now c.args.from.now c.args.change.edits c.args.change c.requires.is_change c.in-Ok.ensures c.within_limits.result c.within_limits.ensures

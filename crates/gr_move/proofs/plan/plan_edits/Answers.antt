@@ -11,4 +11,4 @@ judged-requires-clause-is_change c =
     e ∙ ap (moving_by c.args.snapshot.now) (sym (ap (λ (x : Change). x.edits) e))
 
 pub returns : goal.returns
-returns c = subst (λ (s : FileChanges). PlansEdits c.args.snapshot.now s c.judged.result) (ap (λ (x : Change). x.edits) c.in_ok-change.ensures) c.judged.ensures
+returns c = subst (λ (s : FileChanges). PlansEdits c.args.snapshot.now c.args.from.now s c.judged.result) (ap (λ (x : Change). x.edits) c.in_ok-change.ensures) c.judged.ensures

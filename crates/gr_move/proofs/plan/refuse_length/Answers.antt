@@ -16,10 +16,10 @@ pub returns-in-Err : goal.returns-in-Err
 returns-in-Err c =
     let w = c.args.snapshot.now.files in
     let same = ap (λ (x : Change). x.edits) c.in_ok-change.ensures in
-    conflict_of_length w c.args.edits c.in-Err.refusal (subst (λ (s : FileChanges). RefusesConflict w s (Err c.in-Err.refusal)) same c.in-Err.ensures)
+    conflict_of_length w c.args.from.now c.args.edits c.in-Err.refusal (subst (λ (s : FileChanges). RefusesConflict w c.args.from.now s (Err c.in-Err.refusal)) same c.in-Err.ensures)
 
 pub returns : goal.returns
 returns c =
     let w = c.args.snapshot.now.files in
     let same = ap (λ (x : Change). x.edits) c.in_ok-change.ensures in
-    subst (λ (s : FileChanges). RefusesConflict w s (Ok tt)) same c.in-Ok.ensures
+    subst (λ (s : FileChanges). RefusesConflict w c.args.from.now s (Ok tt)) same c.in-Ok.ensures

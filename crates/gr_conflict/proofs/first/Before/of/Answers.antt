@@ -1,6 +1,12 @@
 -- The answers to the goals of `first::Before::of`.
-use Rattle.std.proofs.Common.{length, ap, ◌∙◌}
+use Rattle.std.proofs.Common.{sym, subst}
+use Rattle.gr_check.specs.DeclaredPlaces.{AreDeclared}
+use Rattle.gr_conflict.specs.Judging.{workspace_of, verdicts_of}
 use Rattle.gr_conflict.proofs.first.Before.of.Goals as goal
 
 pub old_places-requires-clause-places : goal.old_places-requires-clause-places
-old_places-requires-clause-places c = ap length c.deref.ensures.value ∙ c.in_ok-places.ensures
+old_places-requires-clause-places c = subst (AreDeclared (workspace_of c.args.packages.now) (verdicts_of c.args.packages.now)) (sym c.deref.ensures.value)
+    c.in_ok-places.ensures
+
+pub new_members-requires : goal.new_members-requires
+new_members-requires c = c.requires.sound

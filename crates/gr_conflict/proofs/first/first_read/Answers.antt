@@ -1,0 +1,22 @@
+-- The answers to the goals of `first::first_read`.
+use Rattle.std.proofs.Common.{subst}
+use Rattle.std.specs.Prelude.{Option, None}
+use Rattle.std.proofs.lemmas.Result.{IfOk-weaker}
+use Rattle.gr_revision.specs.RevisionsOfEdits.{revision_of}
+use Rattle.gr_conflict.specs.declared.conflict.Conflict.{Conflict}
+use Rattle.gr_conflict.specs.Conflicts.{IsConflict, a_conflict, Takes}
+use Rattle.gr_conflict.specs.Judging.{workspace_of, verdicts_of}
+use Rattle.gr_conflict.proofs.Telling.{told_so}
+use Rattle.gr_conflict.proofs.Taking.{taken}
+use Rattle.gr_conflict.proofs.first.first_read.Goals as goal
+
+pub returns-in-Some : goal.returns-in-Some
+returns-in-Some c =
+    let w = workspace_of c.args.packages.now in
+    let P = IsConflict w (verdicts_of c.args.packages.now) (revision_of w c.args.edits.now) in
+    a_conflict (taken P c.in-Some.conflict (subst (λ (o : Option Conflict). Takes P None o) c.in-Some.is c.in_ok-judged_first.ensures))
+
+pub returns-in-None : goal.returns-in-None
+returns-in-None c =
+    let w = workspace_of c.args.packages.now in
+    IfOk-weaker c.first_lost.result _ _ (λ o h. told_so w (verdicts_of c.args.packages.now) (revision_of w c.args.edits.now) o h) c.first_lost.ensures

@@ -1,0 +1,12 @@
+-- The answers to the goals of `noting::capturer_after`.
+use Rattle.std.proofs.Common.{subst}
+use Rattle.std.specs.Prelude.{Option, MatchOption}
+use Rattle.gr_bound.specs.declared.declaration.Declaration.{Declaration}
+use Rattle.gr_conflict.specs.Judging.{becomes_in}
+use Rattle.gr_conflict.proofs.noting.capturer_after.Goals as goal
+
+pub returns-in_ok-capturer-in-Some : goal.returns-in_ok-capturer-in-Some
+returns-in_ok-capturer-in-Some c =
+    let B = becomes_in c.args.judge.now in
+    let d = c.in-Some.declaration in
+    (d, (subst (λ (o : Option Declaration). MatchOption o (Unit {0}) (λ x. B x c.args.e.now)) c.in-Some.is c.in_ok-before.ensures, c.in_ok-capturer-in-Some.ensures))

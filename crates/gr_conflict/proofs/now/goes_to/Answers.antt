@@ -1,0 +1,24 @@
+-- The answers to the goals of `now::goes_to`.
+use Rattle.std.proofs.Common.{◌≡◌, ◌∙◌, List, ℕ, ap, sym}
+use Rattle.std.specs.Prelude.{unwrap_or}
+use Rattle.gr_text.specs.Path.{folder}
+use Rattle.gr_edit.specs.Moved.{moved}
+use Rattle.gr_conflict.specs.Judging.{workspace_in, change_in}
+use Rattle.gr_conflict.proofs.Nowadays.{goes_nowhere}
+use Rattle.gr_conflict.proofs.now.goes_to.Goals as goal
+
+pub returns-in-None : goal.returns-in-None
+returns-in-None c = goes_nowhere (workspace_in c.args.judge.now) (change_in c.args.judge.now) c.args.path.now c.in-None.ensures
+
+pub returns-in-Some : goal.returns-in-Some
+returns-in-Some c =
+    let first = c.in-Some.ensures.0 in
+    let others = c.in-Some.ensures.1.0 in
+    let h = c.in-Some.ensures.1.1 in
+    let m = moved c.args.judge.now.moves.now in
+    record {
+      first = first;
+      others = others;
+      files = h.0;
+      goes = ap folder (c.path.ensures ∙ ap (λ (q : List ℕ). (m (record { path = q; offset = 0 })).path) (c.path-self.ensures ∙ sym h.1));
+    }

@@ -1,0 +1,15 @@
+-- The answers to the goals of `standing::before_at`.
+use Rattle.gr_edit.specs.Moved.{moved}
+use Rattle.gr_conflict.specs.Judging.{known_packages}
+use Rattle.gr_conflict.proofs.Gone.{gone_to}
+use Rattle.gr_conflict.proofs.standing.before_at.Goals as goal
+
+pub before_of-requires : goal.before_of-requires
+before_of-requires c = c.requires.old.in_order
+
+pub returns-in_ok-copy-in-Some : goal.returns-in_ok-copy-in-Some
+returns-in_ok-copy-in-Some c =
+    let b = c.in-Some.ensures.0 in
+    let h = c.in-Some.ensures.1 in
+    gone_to (known_packages c.args.judge.now) (moved c.args.judge.now.moves.now) b c.in-Some.declaration.now _ c.args.place.now (c.requires.old.each b h.0)
+    h.1.0 h.1.1 c.in_ok-copy-in-Some.ensures

@@ -1,0 +1,47 @@
+-- What each identifier is bound to after a change, judged alone, as the scopes of the workspace afterwards see it.
+use Rattle.std.specs.Prelude.{ℕ, ◌≡◌, List}
+use Rattle.gr_text.specs.Workspace.{Workspace}
+use Rattle.gr_text.specs.declared.place.Place.{Place}
+use Rattle.gr_declared.specs.Package.{Package}
+use Rattle.gr_types.specs.Interfaces.{IsSeen}
+use Rattle.gr_verdict.specs.Verdicts.{Verdicts}
+use Rattle.gr_bound.specs.declared.declaration.Declaration.{Declaration}
+use Rattle.gr_bound.specs.declared.declaration.Declaration.TheVariants.{Declared}
+use Rattle.gr_bound.specs.Identifiers.{BeginsAt}
+use Rattle.gr_bound.specs.Binding.{BindsByScope, IsBehindPackage}
+use Rattle.gr_bound.specs.Uses.{IsPackage}
+use Rattle.gr_revision.specs.Revisions.{Revision, GoesTo}
+use Rattle.gr_scoped.specs.ScopedPackages.{IsScopedIn}
+use Rattle.gr_check.specs.Corresponding.{Corresponds}
+
+-- c of the workspace before has become e, as scopes see it
+abbrev pub HasBecome : Workspace → Verdicts → Revision → Declaration → Declaration → Type 0
+HasBecome w before r c e = Corresponds (IsPackage w before) (IsScopedIn r.after) r.moved c e
+
+-- the scopes of a workspace bind to e what begins at the place
+pub record IsScopeUse (w : Workspace) (e : Declaration) (place : Place) : Type 0 where
+  pub used_in : Package
+  pub is_package : IsScopedIn w used_in
+  pub user : ℕ
+  pub begins : BeginsAt used_in place.path place.offset user
+  pub bound : BindsByScope used_in user e
+
+-- an identifier that scopes bind: what stands where it has gone is bound to e
+abbrev pub IsBoundByScopes : Revision → Place → Declaration → Type 0
+IsBoundByScopes r place e = IsScopeUse r.after e (r.moved place)
+
+-- where the package of a path has gone, a package exports e under a name
+pub record IsExportAfter (w : Workspace) (r : Revision) (path name : List ℕ) (e : Declaration) : Type 0 where
+  pub other : Package
+  pub is_package : IsScopedIn r.after other
+  pub goes : GoesTo w r path other.path
+  pub declaration : ℕ
+  pub seen : IsSeen other declaration
+  pub named : other.names declaration ≡ name
+  pub exported : e ≡ Declared other.path declaration
+
+-- a name behind a package's: the package of the import that it has stood behind, where that has gone, exports e under its new name
+pub record IsBoundByPackage (w : Workspace) (r : Revision) (place : Place) (p : Package) (u : ℕ) (e : Declaration) : Type 0 where
+  pub path : List ℕ
+  pub behind : IsBehindPackage p u path
+  pub exports : IsExportAfter w r path (r.called place (p.names u)) e

@@ -1,0 +1,6 @@
+-- The byte that is asked for.
+use Rattle.gr_text.specs.declared.place.Place.{Place}
+use Rattle.gr_rename.specs.declared.plan.Asked.{Asked}
+
+abbrev pub asked_place : Asked → Place
+asked_place asked = record { path = asked.path.now; offset = asked.offset }
