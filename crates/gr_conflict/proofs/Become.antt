@@ -75,10 +75,10 @@ pub stands_not : (w : Workspace) (e : Declaration) (to : Place) → ((place : Pl
     IsTrue false ↔ IsDeclaredAt (IsScopedIn w) e to
 stands_not w e to none = ((λ t. absurd (false≢true t)), (λ h. absurd (none to h)))
 
-pub stands_if : (w : Workspace) (e : Declaration) → IsCounted w e → (to new : Place) → IsDeclaredAt (IsScopedIn w) e new → (yes : Bool) →
-    IsTrue yes ↔ (to ≡ new) →
-    IsTrue yes ↔ IsDeclaredAt (IsScopedIn w) e to
-stands_if w e counts to new at yes is = (
+pub stands_if : (w : Workspace) (e : Declaration) → IsCounted w e → (to new : Place) → IsDeclaredAt (IsScopedIn w) e new → (told : Bool) →
+    IsTrue told ↔ (to ≡ new) →
+    IsTrue told ↔ IsDeclaredAt (IsScopedIn w) e to
+stands_if w e counts to new at told is = (
   (λ t. subst (IsDeclaredAt (IsScopedIn w) e) (sym (is.0 t)) at),
   (λ h. is.1 (one_standing w e counts to new h at)),
 )

@@ -1,6 +1,6 @@
 -- The first of some places.
-use Rattle.std.proofs.Common.{ℕ, ◌≡◌, ◌<◌, ◌+◌, ◌⊎◌, Bool, true, false, inl, inr, List, length, get_or, sym, ap, subst, refl, ◌∙◌, arith}
-use Rattle.std.specs.Prelude.{Option, Some, None, Contains, MatchOption, slice_get}
+use Rattle.std.proofs.Common.{ℕ, ◌≡◌, ◌≤◌, ◌<◌, ◌+◌, ◌⊎◌, Bool, true, false, inl, inr, List, length, get_or, sym, ap, subst, refl, ◌∙◌, arith}
+use Rattle.std.specs.Prelude.{◌↔◌, Option, Some, None, Contains, MatchOption, slice_get}
 use Rattle.std.specs.declared.cmp.Ordering.{Ordering}
 use Rattle.std.specs.declared.cmp.Ordering.TheVariants.{Less, Equal, Greater}
 use Rattle.std.specs.Ordering.{is_lt, ordering_reverse}
@@ -109,3 +109,8 @@ all_first places count le (Some z) h = (contains z h.0, λ y c. h.1 y (among y c
 
     contains : (x : Place) → IsAmong places count x → Contains places x
     contains x m = (m.0, slice_get_within places m.0 x m.1.1, get_or_from_slice_get places m.0 x x m.1.1)
+
+-- the first of what two say alike
+pub first_as : (P Q : Place → Type 0) (o : Option Place) → ((x : Place) → P x ↔ Q x) → IsFirstPlace P o → IsFirstPlace Q o
+first_as P Q None same h = λ x q. h x ((same x).1 q)
+first_as P Q (Some z) same h = ((same z).0 h.0, λ y q. h.1 y ((same y).1 q))

@@ -14,7 +14,7 @@ pub returns-in-Some : goal.returns-in-Some
 returns-in-Some c =
     let w = workspace_of c.args.packages.now in
     let P = IsConflict w (verdicts_of c.args.packages.now) (revision_of w c.args.edits.now) in
-    a_conflict (taken P c.in-Some.conflict (subst (λ (o : Option Conflict). Takes P None o) c.in-Some.is c.in_ok-judged_first.ensures))
+    a_conflict (taken P c.in-Some.conflict (subst (λ (o : Option Conflict). Takes P None o) c.in-Some.is c.in_ok-conflict.ensures))
 
 pub returns-in-None : goal.returns-in-None
 returns-in-None c =

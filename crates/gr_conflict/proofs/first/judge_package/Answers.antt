@@ -12,6 +12,6 @@ returns c =
     let w = workspace_in j in
     let known = known_verdicts j in
     let r = change_in j in
-    let p = package_of c.unit.result in
+    let p = package_of c.unit-unit.result in
     call_takes (IsConflictIn w known r p) (IsConflict w known r) c.args.first.now c.judge_unit.new.first c.judge_unit.result
-    (in_package w known r c.args.number p c.unit.ensures) c.judge_unit.ensures
+    (in_package w known r c.args.number p c.unit-unit.ensures) c.judge_unit.ensures

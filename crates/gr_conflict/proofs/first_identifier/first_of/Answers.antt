@@ -9,7 +9,7 @@ loop-place-init c = none_among c.args.places.now
 
 pub loop-place-preserved : goal.loop-place-preserved
 loop-place-preserved c =
-    next_first c.args.places.now c.loop-place.place-index c.loop-place.place.now (omega arith) c.loop-place.is (option_copied c.loop-place.first)
+    next_first c.args.places.now c.loop-place.place-index c.place-item.result (omega arith) c.place-item.is (option_copied c.loop-place.first)
     c.loop-place.invariant c.earlier.result.now c.earlier.ensures
 
 pub returns : goal.returns

@@ -10,8 +10,8 @@ returns-in-None c =
     let s = c.args.scopes.now in
     export_none (package_scoped c.args.path.now s) (number_named s.exports) c.args.name.now c.requires (sym c.export_in.ensures ∙ c.in-None.is)
 
-pub returns-in_ok-package : goal.returns-in_ok-package
-returns-in_ok-package c =
+pub returns-in_ok-package-in-Some : goal.returns-in_ok-package-in-Some
+returns-in_ok-package-in-Some c =
     let s = c.args.scopes.now in
-    export_some (package_scoped c.args.path.now s) (number_named s.exports) c.args.name.now c.in-Some.d c.in_ok-package.package c.requires
-    (sym c.export_in.ensures ∙ c.in-Some.is) c.in_ok-package.ensures
+    export_some (package_scoped c.args.path.now s) (number_named s.exports) c.args.name.now c.in-Some.d c.in_ok-package-in-Some.package c.requires
+    (sym c.export_in.ensures ∙ c.in-Some.is) c.in_ok-package-in-Some.ensures

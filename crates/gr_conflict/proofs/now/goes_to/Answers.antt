@@ -20,5 +20,5 @@ returns-in-Some c =
       first = first;
       others = others;
       files = h.0;
-      goes = ap folder (c.path.ensures ∙ ap (λ (q : List ℕ). (m (record { path = q; offset = 0 })).path) (c.path-self.ensures ∙ sym h.1));
+      goes = ap folder (c.path-in-Some.ensures ∙ ap (λ (q : List ℕ). (m (record { path = q; offset = 0 })).path) (c.path.ensures ∙ sym h.1));
     }

@@ -4,4 +4,4 @@ use Rattle.gr_conflict.proofs.Gone.{only_one}
 use Rattle.gr_conflict.proofs.old_places.add_moved.Goals as goal
 
 pub returns : goal.returns
-returns c = only_one c.args.found.now.items c.push.new.self.items _ _ c.in_ok-push.ensures.items (refl, c.in_ok-place.ensures)
+returns c = only_one c.args.found.now.items c.push.new.self.items _ _ c.in_ok-push.ensures.items (refl, c.in_ok-path.ensures)

@@ -6,4 +6,4 @@ use Rattle.gr_conflict.specs.Judging.{becomes_in}
 use Rattle.gr_conflict.proofs.standing.before.Goals as goal
 
 pub returns-in-Predeclared : goal.returns-in-Predeclared
-returns-in-Predeclared c = subst (becomes_in c.args.judge.now (Predeclared c.in-Predeclared.d.now)) (sym c.in-Predeclared.is) predeclared
+returns-in-Predeclared c = subst (becomes_in c.args.judge.now (Predeclared c.in-Predeclared.d)) (sym c.in-Predeclared.is) predeclared
