@@ -12,12 +12,12 @@ pub returns-in-Some : goal.returns-in-Some
 returns-in-Some c =
     let w = c.args.snapshot.now.files in
     let r = revision_of w c.args.change.now.edits in
-    inl (subst (λ (o : Option Conflict). TellsFirst w (known_in c.args.found.now.findings) r o) c.in-Some.is c.in_ok-first_conflict.ensures)
+    inl (subst (λ (o : Option Conflict). TellsFirst w (known_in c.args.found.now.findings) r o) c.in-Some.is c.in_ok-conflict.ensures)
 
 pub returns-in_ok-clone-in-None : goal.returns-in_ok-clone-in-None
 returns-in_ok-clone-in-None c =
     let w = c.args.snapshot.now.files in
     let r = revision_of w c.args.change.now.edits in
-    let none = subst (λ (o : Option Conflict). TellsFirst w (known_in c.args.found.now.findings) r o) c.in-None.is c.in_ok-first_conflict.ensures in
+    let none = subst (λ (o : Option Conflict). TellsFirst w (known_in c.args.found.now.findings) r o) c.in-None.is c.in_ok-conflict.ensures in
     let lost = λ (path : List ℕ). record { used = record { path = path; offset = 0 }; by = None } in
     inr (none, ap lost c.in_ok-clone-in-None.ensures.cases)
