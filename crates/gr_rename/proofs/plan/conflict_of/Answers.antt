@@ -12,11 +12,11 @@ pub returns-in-Some : goal.returns-in-Some
 returns-in-Some c =
     let w = c.args.snapshot.now.files in
     let r = revision_of w c.args.change.now.edits in
-    inl (subst (λ (o : Option Conflict). TellsFirst w (known_in c.args.found.now.findings) r o) c.in-Some.is c.in_ok-first_conflict.ensures)
+    inl (subst (λ (o : Option Conflict). TellsFirst w (known_in c.args.found.now.findings) r o) c.in-Some.is c.in_ok-conflict.ensures)
 
 pub returns-in-None : goal.returns-in-None
 returns-in-None c =
     let w = c.args.snapshot.now.files in
     let r = revision_of w c.args.change.now.edits in
-    let none = subst (λ (o : Option Conflict). TellsFirst w (known_in c.args.found.now.findings) r o) c.in-None.is c.in_ok-first_conflict.ensures in
+    let none = subst (λ (o : Option Conflict). TellsFirst w (known_in c.args.found.now.findings) r o) c.in-None.is c.in_ok-conflict.ensures in
     IfOk-weaker c.asked_lost.result _ _ (λ x e. inr (none, e)) c.asked_lost.ensures
