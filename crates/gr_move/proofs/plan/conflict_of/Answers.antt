@@ -19,5 +19,5 @@ returns-in_ok-clone-in-None c =
     let w = c.args.snapshot.now.files in
     let r = revision_of w c.args.change.now.edits in
     let none = subst (λ (o : Option Conflict). TellsFirst w (known_in c.args.found.now.findings) r o) c.in-None.is c.in_ok-conflict.ensures in
-    let lost = λ (path : List ℕ). record { used = record { path = path; offset = 0 }; by = None } in
+    let lost : List ℕ → Conflict = λ path. record { used = record { path = path; offset = 0 }; by = None } in
     inr (none, ap lost c.in_ok-clone-in-None.ensures.cases)

@@ -16,13 +16,13 @@ preserves-requires-clause-after c = ap (λ (x : Change). x.files) c.requires.is_
 pub conflict_of-requires-clause-after : goal.conflict_of-requires-clause-after
 conflict_of-requires-clause-after c = ap (λ (x : Change). x.files) c.requires.is_change
 
-pub returns-in_ok-conflict_of : goal.returns-in_ok-conflict_of
-returns-in_ok-conflict_of c =
+pub returns-then-not-branch : goal.returns-in_ok-conflict_of
+returns-then-not-branch c =
     let snapshot = c.args.snapshot.now in
     let known = known_in c.args.found.now.findings in
     let asked = asked_place c.args.asked.now in
     let s = c.args.change.edits in
     let conflict = c.in_ok-conflict_of.field-0 in
     subst (λ (r : Refusal). PlansEdits snapshot known asked s (Err r)) (sym c.told.ensures)
-    (told_conflict snapshot known asked s (λ kept. false≢true (sym c.if-not-preserves.false ∙ c.in_ok-preserves.ensures.1 kept)) conflict.by conflict.used
+    (told_conflict snapshot known asked s (λ kept. false≢true (sym c.if-not-branch.false ∙ c.in_ok-preserves.ensures.1 kept)) conflict.by conflict.used
     c.in_ok-conflict_of.ensures)
