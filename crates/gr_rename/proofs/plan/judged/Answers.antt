@@ -16,7 +16,7 @@ preserves-requires-clause-after c = ap (λ (x : Change). x.files) c.requires.is_
 pub conflict_of-requires-clause-after : goal.conflict_of-requires-clause-after
 conflict_of-requires-clause-after c = ap (λ (x : Change). x.files) c.requires.is_change
 
-pub returns-then-not-branch : goal.returns-in_ok-conflict_of
+pub returns-then-not-branch : goal.returns-then-not-branch
 returns-then-not-branch c =
     let snapshot = c.args.snapshot.now in
     let known = known_in c.args.found.now.findings in
