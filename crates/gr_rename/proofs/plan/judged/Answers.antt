@@ -24,5 +24,5 @@ returns-then-not-branch c =
     let s = c.args.change.edits in
     let conflict = c.in_ok-conflict_of.field-0 in
     subst (λ (r : Refusal). PlansEdits snapshot known asked s (Err r)) (sym c.told.ensures)
-    (told_conflict snapshot known asked s (λ kept. false≢true (sym c.if-not-branch.false ∙ c.in_ok-preserves.ensures.1 kept)) conflict.by conflict.used
+    (told_conflict snapshot known asked s (λ kept. false≢true (sym c.if-not-branch.true ∙ c.in_ok-preserves.ensures.1 kept)) conflict.by conflict.used
     c.in_ok-conflict_of.ensures)
