@@ -1,1 +1,4 @@
 -- The lemmas of this crate.
+pub mod Values
+pub mod Giving
+pub mod Lefts
