@@ -75,19 +75,19 @@ record IsAssignedFound (w : World) (locals : Locals) (i : Item ExprTree) (target
   before : {is : List (Item ExprTree)} {ts : List Taker} → AreAssigned w locals is ts → AreAssigned w locals (i ∷ is) (taker ∷ ts)
 
 abbrev IsLeftExcused : World → Locals → Item ExprTree → Type 0
-IsLeftExcused w locals i = {is : List (Item ExprTree)} → LeftIsExcused w locals (i ∷ is)
+IsLeftExcused w locals i = (is : List (Item ExprTree)) → LeftIsExcused w locals (i ∷ is)
 
 operand_found : (w : World) (locals : Locals) (i : Item ExprTree) → IsOperandFound w locals i.value (judge_operand w locals i.value).meaning →
     IsAssignedFound w locals i (Wants (own_type (judge_operand w locals i.value).meaning) ∷ []) ⊎ IsLeftExcused w locals i
 unfolding own_type
 operand_found w locals i o = elim (typed_or_not o.kind) [
   | inl t ↦ inl (record { taker = OfType t.0; found = ap (λ m. Wants (own_type m) ∷ []) (o.found ∙ ap (λ k. Value k true) t.1); before = λ more. an_operand (subst (λ k. HasMeaning w locals i.value (Value k true)) t.1 o.means) more })
-  | inr u ↦ inr (left_no_variable o.means (without_type u))
+  | inr u ↦ inr (λ is. left_no_variable o.means (without_type u))
 ]
 
 operand_or_excused : (w : World) (locals : Locals) (i : Item ExprTree) → (judge_operand w locals i.value).faults ≡ [] →
     IsAssignedFound w locals i (Wants (own_type (judge_operand w locals i.value).meaning) ∷ []) ⊎ IsLeftExcused w locals i
-operand_or_excused w locals i h = elim (operand_settled w locals i.value h) [ inl o ↦ operand_found w locals i o | inr u ↦ inr (left_uses u) ]
+operand_or_excused w locals i h = elim (operand_settled w locals i.value h) [ inl o ↦ operand_found w locals i o | inr u ↦ inr (λ is. left_uses u) ]
 
 -- a left side is `_`, or it is found as an operand
 assigned_cases : (w : World) (locals : Locals) (e : ExprTree) → ((p : ℕ) × (e ≡ tree.Blank p)) ⊎ (assigned_one w locals e ≡ left_side (Wants (own_type (judge_operand w locals e).meaning)) (judge_operand w locals e))
@@ -119,7 +119,7 @@ unfolding assigned
 assigned_settled w locals [] h = inl (record { takers = []; found = refl; assigned = no_left })
 assigned_settled w locals (i ∷ is) h = elim (assigned_one_settled w locals i (empty_first (assigned_one w locals i.value).faults (assigned w locals is).faults h)) [
   | inl f ↦ elim (assigned_settled w locals is (empty_second (assigned_one w locals i.value).faults (assigned w locals is).faults h)) [ inl more ↦ inl (assigned_then w locals i is f more) | inr u ↦ inr (later_left u) ]
-  | inr u ↦ inr u
+  | inr u ↦ inr (u is)
 ]
 
 -- left sides of `:=`
@@ -201,9 +201,9 @@ old_found : (w : World) (locals : Locals) (i : Item ExprTree) (p : ℕ) → i.va
     HasMeaning w locals (tree.Name p) (Value k a) → IsOneSettled w locals i (renewed w locals p) None
 unfolding own_type
 old_found w locals i p e n (Typed t) true f h = inl (record { taker = OfType t; found = ap (λ m. Wants (own_type m) ∷ []) f; before = λ more. an_old_name e n h more })
-old_found w locals i p e n k false f h = inr (left_no_variable (subst (λ z. HasMeaning w locals z (Value k false)) (sym e) h) constant)
-old_found w locals i p e n (Untyped b) true f h = inr (left_no_variable (subst (λ z. HasMeaning w locals z (Value (Untyped b) true)) (sym e) h) (without_type a_constant))
-old_found w locals i p e n Nil true f h = inr (left_no_variable (subst (λ z. HasMeaning w locals z (Value Nil true)) (sym e) h) (without_type a_nil))
+old_found w locals i p e n k false f h = inr (λ is. left_no_variable (subst (λ z. HasMeaning w locals z (Value k false)) (sym e) h) constant)
+old_found w locals i p e n (Untyped b) true f h = inr (λ is. left_no_variable (subst (λ z. HasMeaning w locals z (Value (Untyped b) true)) (sym e) h) (without_type a_constant))
+old_found w locals i p e n Nil true f h = inr (λ is. left_no_variable (subst (λ z. HasMeaning w locals z (Value Nil true)) (sym e) h) (without_type a_nil))
 
 name_settled : (w : World) (locals : Locals) (i : Item ExprTree) (p : ℕ) → i.value ≡ tree.Name p → (b : Bool) → declares w p ≡ b →
     (if b then left_side sides.Takes (record { meaning = Broken; faults = []; uses = [] }) else renewed w locals p).faults ≡ [] →
@@ -211,7 +211,7 @@ name_settled : (w : World) (locals : Locals) (i : Item ExprTree) (p : ℕ) → i
 name_settled w locals i p e true d h = inl (record { taker = Fresh; found = refl; before = λ more. a_new_name e (test_own (w.bound p) p d) more })
 name_settled w locals i p e false d h = elim (value_settled w locals (tree.Name p) h) [
   | inl v ↦ old_found w locals i p e (λ q. true≢false (sym (own_test (w.bound p) p q) ∙ d)) v.kind v.addressable v.found v.means
-  | inr u ↦ inr (left_uses (subst (λ z. UsesBroken w locals z) (sym e) u))
+  | inr u ↦ inr (λ is. left_uses (subst (λ z. UsesBroken w locals z) (sym e) u))
 ]
 
 no_name_fault : {A : Type 0} (place : ℕ) {m : Meaning} {k : Kind} {a : Bool} → m ≡ Value k a → (no_name place m).faults ≡ [] → A
@@ -221,7 +221,7 @@ no_name_fault place e h = no_fault (ap (λ m. (no_name place m).faults) (sym e) 
 others_excused : (w : World) (locals : Locals) (i : Item ExprTree) (place : ℕ) (l : Lefts) (n : Option ℕ) → (judge_value w locals i.value).faults ++ (no_name place (judge_value w locals i.value).meaning).faults ≡ [] → IsOneSettled w locals i l n
 others_excused w locals i place l n h = elim (value_settled w locals i.value (empty_first (judge_value w locals i.value).faults (no_name place (judge_value w locals i.value).meaning).faults h)) [
   | inl v ↦ no_name_fault place v.found (empty_second (judge_value w locals i.value).faults (no_name place (judge_value w locals i.value).meaning).faults h)
-  | inr u ↦ inr (left_uses u)
+  | inr u ↦ inr (λ is. left_uses u)
 ]
 
 -- a left side is `_`, a name, or neither
@@ -268,5 +268,5 @@ unfolding defined
 defined_settled w locals [] h = inl (record { takers = []; found = refl; defined_are = no_definition })
 defined_settled w locals (i ∷ is) h = elim (defined_one_settled w locals i (empty_first (defined_one w locals i.value).faults (defined w locals is).faults h)) [
   | inl f ↦ elim (defined_settled w locals is (empty_second (defined_one w locals i.value).faults (defined w locals is).faults h)) [ inl more ↦ inl (defined_then w locals i is f more) | inr u ↦ inr (later_left u) ]
-  | inr u ↦ inr u
+  | inr u ↦ inr (u is)
 ]

@@ -2,3 +2,8 @@
 pub mod Values
 pub mod Giving
 pub mod Lefts
+pub mod Reaching
+pub mod Calling
+pub mod Simple
+pub mod Locals
+pub mod Statements
