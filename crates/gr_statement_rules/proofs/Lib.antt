@@ -7,3 +7,5 @@ pub mod Calling
 pub mod Simple
 pub mod Locals
 pub mod Statements
+pub mod Headers
+pub mod Declarations

@@ -15,7 +15,7 @@ use Rattle.gr_stmt.specs.Checked.{Checked}
 use Rattle.gr_stmt.specs.Sides.{rights, Target, Lefts, judge_operand, assigned, defined, given_to, defined_names, first_of_exprs, with_taken}
 use Rattle.gr_stmt.specs.Simple.{check_simple, check_alone, check_step, check_update, check_assign, check_define, check_condition, condition_faults, step_faults, update_faults, fault_if_none, stands_faults, is_statement, binary_of, giving}
 use Rattle.gr_rules.specs.Names.{IsWhole}
-use Rattle.gr_rules.specs.Operators.{IsOf, IsUntyped, Operates}
+use Rattle.gr_rules.specs.Operators.{IsOf, a_constant, a_nil, Operates}
 use Rattle.gr_rules.specs.Meanings.{HasMeaning}
 use Rattle.gr_rules.specs.Agrees.{Agrees}
 use Rattle.gr_rules.specs.Uses.{UsesBroken}
@@ -32,7 +32,7 @@ use Rattle.gr_statement_rules.specs.Simple.{ConditionIsTyped, a_condition, Updat
 use Rattle.gr_statement_rules.specs.Excused.{AnyUsesBroken, LeftIsExcused, SimpleIsExcused, in_call, in_step, in_updated, in_update, updated_without_type, in_assigned, in_assignment, in_defined, in_definition}
 use Rattle.gr_statement_rules.proofs.Values.{IsValueFound, value_true, value_settled, IsOperandFound, operand_true, operand_settled, AreGiven, rights_given, AreGivenBy, rights_settled}
 use Rattle.gr_statement_rules.proofs.Giving.{aim, given_silent, silent_given, declare_true, declare_found}
-use Rattle.gr_statement_rules.proofs.Lefts.{AreLefts, typed_or_not, assigned_true, AreAssignedFound, assigned_settled, defined_true, defined_new, AreDefinedFound, defined_settled}
+use Rattle.gr_statement_rules.proofs.Lefts.{AreLefts, assigned_true, AreAssignedFound, assigned_settled, defined_true, defined_new, AreDefinedFound, defined_settled}
 use Rattle.gr_statement_rules.proofs.Reaching.{IsAt, here, reached, IsSettled}
 use Rattle.gr_statement_rules.proofs.Calling.{statement_true, IsCallFound, true_statement, stands_silent, silent_stands, update_is, is_update, update_fits}
 
@@ -150,8 +150,8 @@ IsSimpleSettled w ls s after = SimpleIsTyped w ls s after ⊎ SimpleIsExcused w 
 typed_update : (w : World) (ls : Locals) (x y : ExprTree) (o : UpdateOp) (p : ℕ) (j k l : Kind) (a : Bool) → HasMeaning w ls x (Value j true) → HasMeaning w ls y (Value k a) → Operates w (binary_of o) j k l →
     IsSimpleSettled w ls (tree.Update x o p y) ls
 typed_update w ls x y o p (Typed t) k l a v u q = inl (an_update (is_update o) v u q (update_fits (is_update o) q))
-typed_update w ls x y o p (Untyped b) k l a v u q = elim (typed_or_not (Untyped b)) [ inl t ↦ cc | inr n ↦ inr (updated_without_type v n) ]
-typed_update w ls x y o p Nil k l a v u q = elim (typed_or_not Nil) [ inl t ↦ cc | inr n ↦ inr (updated_without_type v n) ]
+typed_update w ls x y o p (Untyped b) k l a v u q = inr (updated_without_type v a_constant)
+typed_update w ls x y o p Nil k l a v u q = inr (updated_without_type v a_nil)
 
 update_parts : (w : World) (ls : Locals) (x y : ExprTree) (o : UpdateOp) (p : ℕ) → ((judge_operand w ls x).faults ++ ((judge_value w ls y).faults
     ++ update_faults w (first_token x) (binary_of o) (value_kind (judge_operand w ls x).meaning) (value_kind (judge_value w ls y).meaning))) ≡ [] → IsSimpleSettled w ls (tree.Update x o p y) ls
