@@ -22,13 +22,13 @@ use Rattle.gr_statement_rules.proofs.Lefts.{AreLefts}
 use Rattle.gr_statement_rules.proofs.Reaching.{IsAt, reached, IsSettled}
 use Rattle.gr_statement_rules.proofs.Simple.{giving_at, giving_parts, taken_found}
 
-fresh_new : {ts : List Taker} {ns : List (Option ℕ)} (n : Option ℕ) → AreNew ts ns → AreNew (Fresh ∷ ts) (n ∷ ns)
-fresh_new None u = u
-fresh_new (Some p) u = u
+fresh_new : (ts : List Taker) (ns : List (Option ℕ)) (n : Option ℕ) → AreNew ts ns → AreNew (Fresh ∷ ts) (n ∷ ns)
+fresh_new ts ns None u = u
+fresh_new ts ns (Some p) u = u
 
 all_new : (names : List (Item IdentTree)) → AreNew (map (λ i. Fresh) names) (all_named names)
 all_new [] = tt
-all_new (i ∷ is) = fresh_new (sides.named i.value) (all_new is)
+all_new (i ∷ is) = fresh_new (map (λ i. Fresh) is) (all_named is) (sides.named i.value) (all_new is)
 
 pub same_aims : {X : Type 0} (xs : List X) (t : Taker) → map (λ i. aim t) xs ≡ map aim (map (λ i. t) xs)
 same_aims [] t = refl

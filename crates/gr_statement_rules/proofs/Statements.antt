@@ -75,10 +75,10 @@ header_settled w s (tree.clauses init p condition q post) h = let c = optional_s
 
 -- returns
 
-return_true : (w : World) (s : Checked) (p : ℕ) {targets : List Target} {results : List PlainType} (es : List (Item ExprTree)) {ks : List Kind} → AreTargets targets results → s.faults ≡ [] → Give w s.locals es ks →
+return_true : (w : World) (s : Checked) (p : ℕ) (targets : List Target) (results : List PlainType) (es : List (Item ExprTree)) {ks : List Kind} → AreTargets targets results → s.faults ≡ [] → Give w s.locals es ks →
     TakenInTurn w ks (map OfType results) → IsAt (check_return w s p targets es) s.locals
 unfolding check_return
-return_true w s p {targets} es e h g t = let r = rights_given w s.locals g in
+return_true w s p targets results es e h g t = let r = rights_given w s.locals g in
     reached s ((rights w s.locals es).faults ++ returned w p (rights w s.locals es).values targets) (rights w s.locals es).uses h
     (empty_both (rights w s.locals es).faults (returned w p (rights w s.locals es).values targets) r.faultless
     (ap (λ z. returned w p (rights w s.locals es).values z) e ∙ return_silent w p (rights w s.locals es).values r.kinds t)) refl
@@ -110,7 +110,7 @@ mutual
   statement_true w results targets e a_break s a = a
   statement_true w results targets e a_continue s a = a
   statement_true w results targets e (a_return {locals} {p} {es} {ks} g t) s a =
-      subst (λ z. IsAt (check_return w s p targets es) z) a.locals_are (return_true w s p es e a.faultless (subst (λ z. Give w z es ks) (sym a.locals_are) g) t)
+      subst (λ z. IsAt (check_return w s p targets es) z) a.locals_are (return_true w s p targets results es e a.faultless (subst (λ z. Give w z es ks) (sym a.locals_are) g) t)
 
   pub block_true : (w : World) (results : List PlainType) (targets : List Target) → AreTargets targets results → {before after : Locals} {x : BlockTree} → BlockIsTyped w results before x after → (s : Checked) → IsAt s before →
       IsAt (check_block w targets s x) after
@@ -182,3 +182,41 @@ mutual
   else_settled w results targets e tree.no_else s h = (h, inl without_else)
   else_settled w results targets e (tree.else_if p i) s h = let q = if_settled w results targets e i s h in (q.0, elim q.1 [ inl r ↦ inl (an_else_if r) | inr u ↦ inr (in_else_if u) ])
   else_settled w results targets e (tree.else_block p b) s h = let q = block_settled w results targets e b s h in (q.0, elim q.1 [ inl r ↦ inl (an_else r) | inr u ↦ inr (in_else u) ])
+
+-- faults that were found before a statement stay, whatever the results are
+
+return_first : (w : World) (s : Checked) (p : ℕ) (targets : List Target) (es : List (Item ExprTree)) → (check_return w s p targets es).faults ≡ [] → s.faults ≡ []
+unfolding check_return
+return_first w s p targets es h = empty_first s.faults ((rights w s.locals es).faults ++ returned w p (rights w s.locals es).values targets) h
+
+mutual
+  unfolding check_statement
+
+  statement_first : (w : World) (targets : List Target) (x : StatementTree) (s : Checked) → (check_statement w targets s x).faults ≡ [] → s.faults ≡ []
+  statement_first w targets tree.Empty s h = h
+  statement_first w targets (tree.Var p g) s h = let q = group_settled (LocalIsTyped w) (LocalIsExcused w) (check_local w) (local_settled w) g s h in q.0
+  statement_first w targets (tree.Simple x) s h = let q = simple_settled w s x h in q.0
+  statement_first w targets (tree.Inner b) s h = block_first w targets b s h
+  statement_first w targets (tree.If i) s h = if_first w targets i s h
+  statement_first w targets (tree.For p f b) s h = let q = header_settled w s f (block_first w targets b (check_header w s f) h) in q.0
+  statement_first w targets (tree.Break p) s h = h
+  statement_first w targets (tree.Continue p) s h = h
+  statement_first w targets (tree.Return p es) s h = return_first w s p targets es h
+
+  pub block_first : (w : World) (targets : List Target) (x : BlockTree) (s : Checked) → (check_block w targets s x).faults ≡ [] → s.faults ≡ []
+  block_first w targets (tree.block o ss c) s h = statements_first w targets ss s h
+
+  statements_first : (w : World) (targets : List Target) (x : StatementTrees) (s : Checked) → (check_statements w targets s x).faults ≡ [] → s.faults ≡ []
+  statements_first w targets tree.no_statement s h = h
+  statements_first w targets (tree.statement x p rest) s h = statement_first w targets x s (statements_first w targets rest (check_statement w targets s x) h)
+
+  if_first : (w : World) (targets : List Target) (x : IfTree) (s : Checked) → (check_if w targets s x).faults ≡ [] → s.faults ≡ []
+  if_first w targets (tree.if_tree p init c b otherwise) s h =
+      let r = condition_settled w (check_init w s init) c (block_first w targets b (check_condition w (check_init w s init) c) (else_first w targets otherwise (check_block w targets (check_condition w (check_init w s init) c) b) h)) in
+      let i = init_settled w s init r.0 in
+      i.0
+
+  else_first : (w : World) (targets : List Target) (x : ElseTree) (s : Checked) → (check_else w targets s x).faults ≡ [] → s.faults ≡ []
+  else_first w targets tree.no_else s h = h
+  else_first w targets (tree.else_if p i) s h = if_first w targets i s h
+  else_first w targets (tree.else_block p b) s h = block_first w targets b s h
