@@ -138,13 +138,13 @@ type_spec_settled w s t h = (empty_first s.faults (body_faults w t.body) h, elim
 
 -- declarations
 
-decl_true : (w : World) (is_init : ℕ → Bool) (s : Checked) {d : DeclTree} {before after : Locals} → IsAt s before → DeclIsTyped w is_init before d after → IsAt (check_decl w is_init s d) after
+pub decl_true : (w : World) (is_init : ℕ → Bool) (s : Checked) {d : DeclTree} {before after : Locals} → IsAt s before → DeclIsTyped w is_init before d after → IsAt (check_decl w is_init s d) after
 unfolding check_decl
 decl_true w is_init s a (variables g) = group_true (GlobalIsTyped w) (check_global w) (global_true w) g s a
 decl_true w is_init s a (types g) = group_true (TypeIsTyped w) (check_type w) (type_spec_true w) g s a
 decl_true w is_init s a (one_function {after = after} {f = f} r) = function_true w (is_init f.name) s f after a.faultless (held (FunctionIsTyped w (is_init f.name)) a r)
 
-decl_settled : (w : World) (is_init : ℕ → Bool) (s : Checked) (d : DeclTree) → (check_decl w is_init s d).faults ≡ [] →
+pub decl_settled : (w : World) (is_init : ℕ → Bool) (s : Checked) (d : DeclTree) → (check_decl w is_init s d).faults ≡ [] →
     (s.faults ≡ []) × (DeclIsTyped w is_init s.locals d (check_decl w is_init s d).locals ⊎ DeclIsExcused w s.locals d)
 unfolding check_decl
 decl_settled w is_init s (tree.VarDecl p g c) h = let q = group_settled (GlobalIsTyped w) (GlobalIsExcused w) (check_global w) (global_settled w) g s h in (q.0, elim q.1 [ inl r ↦ inl (variables r) | inr e ↦ inr (in_variables e) ])

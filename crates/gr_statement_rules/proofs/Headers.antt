@@ -171,15 +171,15 @@ record AreResultsFound (R : List PlainType → Type 0) (wanted : List Target) : 
   typed : R types
   found : AreTargets wanted types
 
-wanted_then : {o : Option PlainType} {t : PlainType} {targets : List Target} {ts : List PlainType} → o ≡ Some t → AreTargets targets ts → AreTargets (Wants o ∷ targets) (t ∷ ts)
-wanted_then {t = t} {targets} e f = ap (λ z. Wants z ∷ targets) e ∙ ap (λ z. Wants (Some t) ∷ z) f
+wanted_then : {o : Option PlainType} {t : PlainType} {targets : List Target} (ts : List PlainType) → o ≡ Some t → AreTargets targets ts → AreTargets (Wants o ∷ targets) (t ∷ ts)
+wanted_then {t = t} {targets} ts e f = ap (λ z. Wants z ∷ targets) e ∙ ap (λ z. Wants (Some t) ∷ z) f
 
 types_settled : (w : World) (is : List (Item TypeTree)) → (judge_types w is).faults ≡ [] → AreResultsFound (AreTypes w is) (judge_types w is).wanted ⊎ AnyIsBrokenType w is
 unfolding judge_types
 types_settled w [] h = inl (record { types = []; typed = no_type_left; found = refl })
 types_settled w (i ∷ is) h = elim (type_or_broken w i.value (empty_first (judge_type w i.value).faults (judge_types w is).faults h)) [
   | inl t ↦ elim (types_settled w is (empty_second (judge_type w i.value).faults (judge_types w is).faults h)) [
-    | inl more ↦ inl (record { types = t.0 ∷ more.types; typed = also_type (true_type w i.value t.0 t.1) more.typed; found = wanted_then t.1 more.found })
+    | inl more ↦ inl (record { types = t.0 ∷ more.types; typed = also_type (true_type w i.value t.0 t.1) more.typed; found = wanted_then more.types t.1 more.found })
     | inr b ↦ inr (later_type b)
   ]
   | inr b ↦ inr (this_type b)
@@ -189,7 +189,7 @@ results_settled : (w : World) (r : ResultTree) → (judge_results w r).faults �
 unfolding judge_results
 results_settled w tree.no_result h = inl (record { types = []; typed = none_written; found = refl })
 results_settled w (tree.one_result x) h = elim (type_or_broken w x (empty_first (judge_type w x).faults [] h)) [
-  | inl t ↦ inl (record { types = t.0 ∷ []; typed = one_written (true_type w x t.0 t.1); found = wanted_then t.1 refl })
+  | inl t ↦ inl (record { types = t.0 ∷ []; typed = one_written (true_type w x t.0 t.1); found = wanted_then [] t.1 refl })
   | inr b ↦ inr (one_broken b)
 ]
 results_settled w (tree.results o is c) h = elim (types_settled w is h) [

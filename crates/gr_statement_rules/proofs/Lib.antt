@@ -9,3 +9,4 @@ pub mod Locals
 pub mod Statements
 pub mod Headers
 pub mod Declarations
+pub mod Laws

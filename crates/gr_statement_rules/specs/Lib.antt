@@ -5,3 +5,4 @@ pub mod Simple
 pub mod Statements
 pub mod Declarations
 pub mod Excused
+pub mod Reaches
