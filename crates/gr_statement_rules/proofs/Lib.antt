@@ -10,3 +10,4 @@ pub mod Statements
 pub mod Headers
 pub mod Declarations
 pub mod Laws
+pub mod Examples
