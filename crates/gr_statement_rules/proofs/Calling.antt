@@ -1,11 +1,10 @@
 -- Which expressions stand as statements, and which operators update.
-use Rattle.std.proofs.Common.{ℕ, ◌≡◌, Bool, true, false, ◌||◌, if◌then◌else◌, List, [], ◌∷◌, Option, Some, None, refl, sym, ap, ◌∙◌, subst, true≢false}
+use Rattle.std.proofs.Common.{ℕ, ◌≡◌, Bool, true, false, ◌||◌, if◌then◌else◌, [], refl, sym, ap, ◌∙◌, subst, true≢false}
 use Rattle.gr_tree.specs.declared.syntax.BinaryOp.{BinaryOp}
 use Rattle.gr_tree.specs.declared.syntax.UpdateOp.{UpdateOp}
 use Rattle.gr_tree.specs.declared.syntax.UpdateOp.TheVariants as update
 use Rattle.gr_tree.specs.Tree.{ExprTree, LinkTrees}
 use Rattle.gr_tree.specs.Tree as tree
-use Rattle.gr_expr.specs.declared.types.Builtin.{Builtin}
 use Rattle.gr_expr.specs.declared.types.Builtin.TheVariants as builtin
 use Rattle.gr_expr.specs.Types.{PlainType, Kind, Typed, Meaning, Value, TypeName, Function, BuiltinName, Package, Results, Broken}
 use Rattle.gr_expr.specs.World.{World, Locals}
@@ -17,8 +16,8 @@ use Rattle.gr_rules.specs.Operators.{IsUntyped, GoTogether, of_one_type, right_f
 use Rattle.gr_rules.specs.Meanings.{HasMeaning}
 use Rattle.gr_rules.proofs.Refusing.{no_fault}
 use Rattle.gr_rules.proofs.Soundness.{sound}
-use Rattle.gr_rules.proofs.Completeness.{complete, whole_as}
-use Rattle.gr_rules.proofs.Steps.{value_whole, function_whole}
+use Rattle.gr_rules.proofs.Completeness.{complete}
+use Rattle.gr_rules.proofs.Steps.{function_whole}
 use Rattle.gr_statement_rules.specs.Simple.{EndsInCall, the_call, behind_selector, behind_index, behind_call, MayStand, a_function, a_panic, a_print, a_println, Updates, by_sum, by_difference, by_product, by_quotient, by_remainder}
 
 -- links that end in a call
@@ -110,8 +109,14 @@ pub record IsCallFound (w : World) (locals : Locals) (e : ExprTree) : Type 0 whe
 chain_found : (w : World) (locals : Locals) (e : ExprTree) (links : LinkTrees) (b : Bool) → ends_in_call links ≡ b → stands_by w locals e b (without_last links) ≡ true → IsCallFound w locals (tree.Chain e links)
 chain_found w locals e links false d h = absurd (true≢false (sym h))
 chain_found w locals e links true d h = let m = true_stand (judge w locals (tree.Chain e (without_last links))).meaning h in record {
-  operand = e; links = links; front = without_last links; callee = (judge w locals (tree.Chain e (without_last links))).meaning;
-  is_chain = refl; ends = true_end links d; means = complete w locals (tree.Chain e (without_last links)) m.1; stands = m.0;
+  operand = e;
+  links = links;
+  front = without_last links;
+  callee = (judge w locals (tree.Chain e (without_last links))).meaning;
+  is_chain = refl;
+  ends = true_end links d;
+  means = complete w locals (tree.Chain e (without_last links)) m.1;
+  stands = m.0;
 }
 
 pub true_statement : (w : World) (locals : Locals) (e : ExprTree) → is_statement w locals e ≡ true → IsCallFound w locals e

@@ -1,12 +1,12 @@
 -- Declarations of a package, and files: no fault is found in what is typed, and what has no fault is typed or excused.
-use Rattle.std.proofs.Common.{ℕ, ◌≡◌, ◌==◌, Bool, true, false, if◌then◌else◌, ◌⊎◌, inl, inr, List, [], ◌∷◌, ◌++◌, map, length, Option, Some, None, refl, sym, ap, ◌∙◌, subst, suc, eqb-true}
+use Rattle.std.proofs.Common.{ℕ, ◌≡◌, ◌==◌, Bool, ◌⊎◌, inl, inr, List, [], ◌∷◌, ◌++◌, map, length, Option, Some, None, refl, sym, ap, ◌∙◌, suc, eqb-true}
 use Rattle.gr_tree.specs.Tree.{Item, Group, BasicTree, Integer, String, GlobalTree, FieldTree, BodyTree, TypeSpecTree, DeclTree, FileTree}
 use Rattle.gr_tree.specs.Tree as tree
 use Rattle.gr_expr.specs.declared.types.Basic.TheVariants as basic
 use Rattle.gr_expr.specs.Types.{PlainType, Kind, Untyped}
 use Rattle.gr_expr.specs.World.{World, Locals, no_locals}
 use Rattle.gr_expr.specs.Judge.{Argued, judge_type}
-use Rattle.gr_stmt.specs.Checked.{Checked, noting, check_group}
+use Rattle.gr_stmt.specs.Checked.{Checked}
 use Rattle.gr_stmt.specs.Sides.{Target, Wants, all_refused}
 use Rattle.gr_stmt.specs.Declarations.{literal_value, first_name, literal_faults, value_faults, global_faults, field_faults, body_faults, check_global, check_type, check_decl, check_decls, check_file}
 use Rattle.gr_rules.specs.Names.{IsType}
@@ -14,12 +14,11 @@ use Rattle.gr_rules.proofs.Steps.{empty_first, empty_second, empty_both}
 use Rattle.gr_rules.proofs.Naming.{type_true, true_type}
 use Rattle.gr_rules.proofs.Refusing.{no_fault, type_or_broken}
 use Rattle.gr_rules.proofs.Arguments.{AreOf}
-use Rattle.gr_statement_rules.specs.Turns.{InGroup, ExcusedInGroup}
 use Rattle.gr_statement_rules.specs.Giving.{OfType, TakenInTurn}
 use Rattle.gr_statement_rules.specs.Declarations.{FunctionIsTyped, AreLiterals, no_literal, an_integer, a_string, GlobalIsTyped, without_values, with_literals, FieldsAreTyped, no_field_left, also_field, BodyIsTyped, another_type, a_struct, TypeIsTyped, a_definition_of, DeclIsTyped, variables, types, one_function, DeclsAreTyped, no_decl, also_decl, FileIsTyped, a_file}
 use Rattle.gr_statement_rules.specs.Excused.{GlobalIsExcused, global_of_broken, FieldIsBroken, this_field, later_field, BodyIsBroken, other_broken, in_struct, TypeIsExcused, in_type_body, DeclIsExcused, in_variables, in_types, in_function, DeclsAreExcused, this_decl, later_decl, FileIsExcused, in_file}
 use Rattle.gr_statement_rules.proofs.Giving.{aim, as_many, none_refused, all_taken, counted, right_count}
-use Rattle.gr_statement_rules.proofs.Reaching.{IsAt, here, reached, held, IsSettled, group_true, group_settled}
+use Rattle.gr_statement_rules.proofs.Reaching.{IsAt, reached, held, IsSettled, group_true, group_settled}
 use Rattle.gr_statement_rules.proofs.Locals.{same_aims}
 use Rattle.gr_statement_rules.proofs.Headers.{function_true, function_settled}
 
@@ -98,7 +97,7 @@ unfolding global_faults
 global_parts w locals g h = let v = value_faults w g.names (judge_type w g.type_use).type_of g.values in
     elim (type_or_broken w g.type_use (empty_first (judge_type w g.type_use).faults v h)) [
       | inl t ↦ inl (values_cases w locals g t.0 g.values refl (true_type w g.type_use t.0 t.1)
-            (ap (λ z. value_faults w g.names z g.values) (sym t.1) ∙ empty_second (judge_type w g.type_use).faults v h))
+          (ap (λ z. value_faults w g.names z g.values) (sym t.1) ∙ empty_second (judge_type w g.type_use).faults v h))
       | inr b ↦ inr (global_of_broken b)
     ]
 

@@ -1,5 +1,5 @@
 -- Small statements that keep the typing rules, and some that do not.
-use Rattle.std.proofs.Common.{ℕ, ◌≡◌, ◌==◌, if◌then◌else◌, List, [], ◌∷◌, Option, Some, None, refl, true, false}
+use Rattle.std.proofs.Common.{◌==◌, if◌then◌else◌, [], ◌∷◌, Some, None, refl}
 use Rattle.gr_tree.specs.declared.syntax.StepOp.TheVariants as step
 use Rattle.gr_tree.specs.Tree.{Item, ExprTree, SimpleTree, StatementTree, BlockTree}
 use Rattle.gr_tree.specs.Tree as tree
@@ -10,7 +10,7 @@ use Rattle.gr_rules.specs.Fits.{identical}
 use Rattle.gr_rules.specs.Operators.{by_type}
 use Rattle.gr_rules.specs.Names.{a_local}
 use Rattle.gr_rules.specs.Meanings.{number, name}
-use Rattle.gr_statement_rules.specs.Giving.{GivesType, by_default, fresh, fitting, TakenInTurn, none_given, also_given, no_expression, also_value, Give, values, no_name, new_local}
+use Rattle.gr_statement_rules.specs.Giving.{GivesType, by_default, fresh, fitting, none_given, also_given, no_expression, also_value, values, no_name, new_local}
 use Rattle.gr_statement_rules.specs.Simple.{SimpleIsTyped, no_definition, a_new_name, a_definition, a_step}
 use Rattle.gr_statement_rules.specs.Statements.{StatementIsTyped, a_simple, a_return, BlockIsTyped, a_block, no_more, one_more}
 

@@ -3,7 +3,7 @@ use Rattle.std.proofs.Common.{ℕ, ◌≡◌, ◌==◌, Bool, true, false, ◌&&
 use Rattle.gr_tree.specs.Tree.{Item, IdentTree}
 use Rattle.gr_expr.specs.Types.{PlainType, BasicType, Kind, Typed, Untyped, Nil}
 use Rattle.gr_expr.specs.World.{World, Locals, declared}
-use Rattle.gr_expr.specs.Judge.{Argued, all_whole, misfit}
+use Rattle.gr_expr.specs.Judge.{Argued, all_whole}
 use Rattle.gr_stmt.specs.Checked.{fault_if}
 use Rattle.gr_stmt.specs.Sides.{Target, Wants, is_sound, all_sound, nil_refused, refused, all_refused, given_to, default_type, taken_type, taken_types, taken, with_locals, with_taken, declared_if, head_or_none, tail_of}
 use Rattle.gr_stmt.specs.Sides.{all_named, named as named_of}

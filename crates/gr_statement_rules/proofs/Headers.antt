@@ -3,17 +3,17 @@ use Rattle.std.proofs.Common.{ℕ, ◌≡◌, Bool, true, false, ◌&&◌, if◌
 use Rattle.gr_tree.specs.Tree.{Item, TypeTree, ReceiverTree, ParamTree, ResultTree, FuncTree}
 use Rattle.gr_tree.specs.Tree as tree
 use Rattle.gr_expr.specs.declared.symbol.Symbol.{Symbol}
-use Rattle.gr_expr.specs.Types.{PlainType, BasicType, Defined, Pointer, Slice, Underlying, Plain, PointerTo, SliceOf, Struct, Meaning, Value, TypeName, Function, BuiltinName, Package, Results, Broken, points}
+use Rattle.gr_expr.specs.Types.{PlainType, BasicType, Defined, Pointer, Slice, Underlying, Plain, PointerTo, SliceOf, Struct, Value, TypeName, Function, BuiltinName, Package, Results, Broken, points}
 use Rattle.gr_expr.specs.World.{World, Locals, Bound, Local, Means, BrokenVariable, BrokenFunction, BrokenType}
 use Rattle.gr_expr.specs.Judge.{TypeJudged, judge_type, good_type, no_type_at, named_type}
-use Rattle.gr_stmt.specs.Checked.{Checked, noting, reaching, fault_if, check_items}
-use Rattle.gr_stmt.specs.Sides.{Target, Wants, named as named_of, all_named, with_locals}
+use Rattle.gr_stmt.specs.Checked.{Checked, fault_if, check_items}
+use Rattle.gr_stmt.specs.Sides.{Target, Wants, named as named_of, with_locals}
 use Rattle.gr_stmt.specs.Headers.{may_receive, receiving, received, receiver_base, starred, judge_receiver, check_receiver, check_optional_receiver, check_param, ResultsJudged, result_then, judge_types, judge_results, is_empty_list, is_bad_init, check_signature, check_function}
 use Rattle.gr_stmt.specs.Statements.{check_block}
 use Rattle.gr_rules.proofs.Steps.{empty_first, empty_second, empty_both}
 use Rattle.gr_rules.proofs.Naming.{type_true, true_type}
 use Rattle.gr_rules.proofs.Refusing.{no_fault, type_or_broken}
-use Rattle.gr_statement_rules.specs.Turns.{InTurn, IfPresent, absent, present, ExcusedInTurn, ExcusedIfPresent, excused_present}
+use Rattle.gr_statement_rules.specs.Turns.{InTurn, IfPresent, absent, present, ExcusedIfPresent, excused_present}
 use Rattle.gr_statement_rules.specs.Giving.{OfType, DeclareAs}
 use Rattle.gr_statement_rules.specs.Statements.{BlockIsTyped}
 use Rattle.gr_statement_rules.specs.Declarations.{IsBehindStar, no_star, a_star, ReceiverIsTyped, a_receiver, ParamIsTyped, a_param, AreTypes, no_type_left, also_type, AreResults, none_written, one_written, several_written, KeepsInit, another_name, a_method, a_plain_one, FunctionIsTyped, a_function}
@@ -113,10 +113,13 @@ receiver_parts w r h = base_settled w r.type_name (w.bound r.type_name) refl (sy
 
 receiver_settled : (w : World) (s : Checked) (r : ReceiverTree) → (check_receiver w s r).faults ≡ [] → IsSettled (ReceiverIsTyped w) (ReceiverIsExcused w) s r (check_receiver w s r)
 unfolding check_receiver
-receiver_settled w s r h = (empty_first s.faults (judge_receiver w r).faults h, elim (receiver_parts w r (empty_second s.faults (judge_receiver w r).faults h)) [
-  | inl f ↦ inl (receiver_found w s r f)
-  | inr e ↦ inr (of_broken e)
-])
+receiver_settled w s r h = (
+  empty_first s.faults (judge_receiver w r).faults h,
+  elim (receiver_parts w r (empty_second s.faults (judge_receiver w r).faults h)) [
+    | inl f ↦ inl (receiver_found w s r f)
+    | inr e ↦ inr (of_broken e)
+  ],
+)
 
 optional_receiver_true : (w : World) (s : Checked) {o : Option ReceiverTree} {before after : Locals} → IsAt s before → IfPresent ReceiverTree (ReceiverIsTyped w) before o after → IsAt (check_optional_receiver w s o) after
 optional_receiver_true w s a absent = a
@@ -135,10 +138,13 @@ param_true w s p after h (a_param i d) = typed_names w s p.names h i d
 
 param_settled : (w : World) (s : Checked) (p : ParamTree) → (check_param w s p).faults ≡ [] → IsSettled (ParamIsTyped w) (ParamIsExcused w) s p (check_param w s p)
 unfolding check_param
-param_settled w s p h = (empty_first s.faults (judge_type w p.type_use).faults h, elim (type_or_broken w p.type_use (empty_second s.faults (judge_type w p.type_use).faults h)) [
-  | inl t ↦ inl (a_param (true_type w p.type_use t.0 t.1) (found_as p.names t.0 s.locals t.1))
-  | inr b ↦ inr (param_of_broken b)
-])
+param_settled w s p h = (
+  empty_first s.faults (judge_type w p.type_use).faults h,
+  elim (type_or_broken w p.type_use (empty_second s.faults (judge_type w p.type_use).faults h)) [
+    | inl t ↦ inl (a_param (true_type w p.type_use t.0 t.1) (found_as p.names t.0 s.locals t.1))
+    | inr b ↦ inr (param_of_broken b)
+  ],
+)
 
 -- results
 
@@ -274,7 +280,7 @@ with_results w b s f h g r p rs = let q = block_settled w rs.types (judge_result
     let l = signature_locals w b s f in
     elim q.1 [
       | inl body ↦ inl (a_function r p rs.typed (init_settled b f (judge_results w f.result).wanted rs.types rs.found g.plain)
-            (subst (λ z. BlockIsTyped w rs.types z f.body (check_block w (judge_results w f.result).wanted (check_signature w b s f) f.body).locals) l body))
+          (subst (λ z. BlockIsTyped w rs.types z f.body (check_block w (judge_results w f.result).wanted (check_signature w b s f) f.body).locals) l body))
       | inr u ↦ inr (in_body r p rs.typed (subst (λ z. BlockIsExcused w rs.types z f.body) l u))
     ]
 
@@ -282,11 +288,13 @@ pub function_settled : (w : World) (b : Bool) (s : Checked) (f : FuncTree) → (
 unfolding check_function
 function_settled w b s f h = let g = signature_parts w b s f (block_first w (judge_results w f.result).wanted f.body (check_signature w b s f) h) in
     let p = items_settled (ParamIsTyped w) (ParamIsExcused w) (check_param w) (param_settled w) f.params (check_optional_receiver w s f.receiver) g.before in
-    let r = optional_receiver_settled w s f.receiver p.0 in
-    (r.0, elim r.1 [
-      | inl x ↦ elim p.1 [
-        | inl y ↦ elim (results_settled w f.result g.results) [ inl z ↦ with_results w b s f h g x y z | inr e ↦ inr (in_result e) ]
-        | inr e ↦ inr (in_params x e)
-      ]
-      | inr e ↦ inr (in_receiver e)
-    ])
+    let r = optional_receiver_settled w s f.receiver p.0 in (
+      r.0,
+      elim r.1 [
+        | inl x ↦ elim p.1 [
+          | inl y ↦ elim (results_settled w f.result g.results) [ inl z ↦ with_results w b s f h g x y z | inr e ↦ inr (in_result e) ]
+          | inr e ↦ inr (in_params x e)
+        ]
+        | inr e ↦ inr (in_receiver e)
+      ],
+    )

@@ -1,5 +1,5 @@
 -- The laws of typed statements and declarations.
-use Rattle.std.proofs.Common.{ℕ, ◌≡◌, ◌↔◌, ◌⊎◌, inl, inr, Bool, List, [], ◌∷◌, map, Some, refl, ap}
+use Rattle.std.proofs.Common.{ℕ, ◌≡◌, ◌↔◌, ◌⊎◌, inl, inr, Bool, List, [], ◌∷◌, Some, refl, ap}
 use Rattle.gr_tree.specs.Tree.{SimpleTree, StatementTree, BlockTree, FuncTree, DeclTree, FileTree}
 use Rattle.gr_expr.specs.Types.{PlainType}
 use Rattle.gr_expr.specs.World.{World, Locals}

@@ -1,7 +1,7 @@
 -- Declarations of locals: no fault is found in what is typed, and what has no fault is typed or excused.
-use Rattle.std.proofs.Common.{ℕ, ◌≡◌, ◌⊎◌, inl, inr, List, [], ◌∷◌, ◌++◌, map, Option, Some, None, refl, sym, ap, ◌∙◌, subst}
+use Rattle.std.proofs.Common.{ℕ, ◌≡◌, inl, inr, List, [], ◌∷◌, map, Option, Some, None, refl, sym, ap, ◌∙◌, subst}
 use Rattle.gr_tree.specs.Tree.{Item, IdentTree, TypeTree, ExprTree, LocalTree}
-use Rattle.gr_expr.specs.Types.{PlainType, Kind}
+use Rattle.gr_expr.specs.Types.{PlainType}
 use Rattle.gr_expr.specs.World.{World, Locals}
 use Rattle.gr_expr.specs.Judge.{TypeJudged, judge_type, good_type}
 use Rattle.gr_stmt.specs.Checked.{Checked, reaching}
@@ -9,14 +9,13 @@ use Rattle.gr_stmt.specs.Sides.{Target, Wants, rights, all_named, first_of_ident
 use Rattle.gr_stmt.specs.Sides as sides
 use Rattle.gr_stmt.specs.Simple.{check_local, check_local_of, check_written, check_unwritten, written_locals, written_targets, name_targets}
 use Rattle.gr_rules.specs.Names.{IsType}
-use Rattle.gr_rules.specs.Uses.{IsBrokenType}
 use Rattle.gr_rules.proofs.Steps.{empty_first, empty_second}
 use Rattle.gr_rules.proofs.Naming.{type_true, true_type}
 use Rattle.gr_rules.proofs.Refusing.{type_or_broken}
 use Rattle.gr_statement_rules.specs.Giving.{Taker, Fresh, OfType, DeclareAs}
 use Rattle.gr_statement_rules.specs.Simple.{LocalIsTyped, of_type, of_type_with_values, of_values}
 use Rattle.gr_statement_rules.specs.Excused.{LocalIsExcused, of_broken_type, of_broken_value, of_nothing}
-use Rattle.gr_statement_rules.proofs.Values.{AreGivenBy, rights_given, rights_settled}
+use Rattle.gr_statement_rules.proofs.Values.{rights_given, rights_settled}
 use Rattle.gr_statement_rules.proofs.Giving.{aim, AreNew, declare_true, declare_found, declare_as_true, declare_as_found}
 use Rattle.gr_statement_rules.proofs.Lefts.{AreLefts}
 use Rattle.gr_statement_rules.proofs.Reaching.{IsAt, reached, IsSettled}
@@ -74,35 +73,42 @@ IsLocalSettled w s l after = IsSettled (LocalIsTyped w) (LocalIsExcused w) s l a
 
 written_settled : (w : World) (s : Checked) (l : LocalTree) (x : TypeTree) → l.type_use ≡ Some x → l.values ≡ None → (check_written w s l.names (judge_type w x) None).faults ≡ [] → IsLocalSettled w s l (check_written w s l.names (judge_type w x) None)
 unfolding check_written
-written_settled w s l x e f h = (empty_first s.faults (judge_type w x).faults h, elim (type_or_broken w x (empty_second s.faults (judge_type w x).faults h)) [
-  | inl t ↦ inl (of_type e f (true_type w x t.0 t.1) (found_as l.names t.0 s.locals t.1))
-  | inr b ↦ inr (of_broken_type e b)
-])
+written_settled w s l x e f h = (
+  empty_first s.faults (judge_type w x).faults h,
+  elim (type_or_broken w x (empty_second s.faults (judge_type w x).faults h)) [
+    | inl t ↦ inl (of_type e f (true_type w x t.0 t.1) (found_as l.names t.0 s.locals t.1))
+    | inr b ↦ inr (of_broken_type e b)
+  ],
+)
 
 values_settled : (w : World) (s : Checked) (l : LocalTree) (x : TypeTree) (v : ℕ × List (Item ExprTree)) → l.type_use ≡ Some x → l.values ≡ Some v → (check_written w s l.names (judge_type w x) (Some v)).faults ≡ [] →
     IsLocalSettled w s l (check_written w s l.names (judge_type w x) (Some v))
 unfolding check_written
 values_settled w s l x v e f h =
-    let g = giving_parts w s (first_of_idents l.names) (written_locals s.locals l.names (judge_type w x).type_of) (written_targets l.names (judge_type w x)) (rights w s.locals v.1) h in
-    (g.before, elim (type_or_broken w x g.lefts) [
-      | inl t ↦ elim (rights_settled w s.locals v.1 g.rights) [
-        | inl r ↦ inl (of_type_with_values e f (true_type w x t.0 t.1) r.given (taken_found w (first_of_idents l.names) (rights w s.locals v.1).values r.kinds (map (λ i. OfType t.0) l.names) r.found
+    let g = giving_parts w s (first_of_idents l.names) (written_locals s.locals l.names (judge_type w x).type_of) (written_targets l.names (judge_type w x)) (rights w s.locals v.1) h in (
+      g.before,
+      elim (type_or_broken w x g.lefts) [
+        | inl t ↦ elim (rights_settled w s.locals v.1 g.rights) [
+          | inl r ↦ inl (of_type_with_values e f (true_type w x t.0 t.1) r.given (taken_found w (first_of_idents l.names) (rights w s.locals v.1).values r.kinds (map (λ i. OfType t.0) l.names) r.found
               (ap (λ (z : Option PlainType). map (λ i. Wants z) l.names) t.1 ∙ same_aims l.names (OfType t.0)) g.given) (found_as l.names t.0 s.locals t.1))
-        | inr u ↦ inr (of_broken_value f u)
-      ]
-      | inr b ↦ inr (of_broken_type e b)
-    ])
+          | inr u ↦ inr (of_broken_value f u)
+        ]
+        | inr b ↦ inr (of_broken_type e b)
+      ],
+    )
 
 unwritten_settled : (w : World) (s : Checked) (l : LocalTree) (v : ℕ × List (Item ExprTree)) → l.type_use ≡ None → l.values ≡ Some v → (check_unwritten w s l.names (Some v)).faults ≡ [] →
     IsLocalSettled w s l (check_unwritten w s l.names (Some v))
 unfolding check_unwritten
 unwritten_settled w s l v e f h =
-    let g = giving_parts w s (first_of_idents l.names) (with_taken s.locals (all_named l.names) (rights w s.locals v.1).values) (name_targets l.names sides.Takes) (rights w s.locals v.1) h in
-    (g.before, elim (rights_settled w s.locals v.1 g.rights) [
-      | inl r ↦ let t = taken_found w (first_of_idents l.names) (rights w s.locals v.1).values r.kinds (map (λ i. Fresh) l.names) r.found (same_aims l.names Fresh) g.given in
-          inl (of_values e f r.given t (declare_found w (rights w s.locals v.1).values s.locals (all_named l.names) (all_new l.names) r.found t))
-      | inr u ↦ inr (of_broken_value f u)
-    ])
+    let g = giving_parts w s (first_of_idents l.names) (with_taken s.locals (all_named l.names) (rights w s.locals v.1).values) (name_targets l.names sides.Takes) (rights w s.locals v.1) h in (
+      g.before,
+      elim (rights_settled w s.locals v.1 g.rights) [
+        | inl r ↦ let t = taken_found w (first_of_idents l.names) (rights w s.locals v.1).values r.kinds (map (λ i. Fresh) l.names) r.found (same_aims l.names Fresh) g.given in
+            inl (of_values e f r.given t (declare_found w (rights w s.locals v.1).values s.locals (all_named l.names) (all_new l.names) r.found t))
+        | inr u ↦ inr (of_broken_value f u)
+      ],
+    )
 
 nothing_settled : (w : World) (s : Checked) (l : LocalTree) → l.type_use ≡ None → l.values ≡ None → (check_unwritten w s l.names None).faults ≡ [] → IsLocalSettled w s l (check_unwritten w s l.names None)
 unfolding check_unwritten

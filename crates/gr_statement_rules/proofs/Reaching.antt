@@ -1,11 +1,11 @@
 -- What is found behind parts that stand one behind another.
-use Rattle.std.proofs.Common.{ℕ, ◌≡◌, ◌⊎◌, inl, inr, List, [], ◌∷◌, ◌++◌, Option, Some, None, refl, sym, ap, ◌∙◌, subst}
+use Rattle.std.proofs.Common.{ℕ, ◌≡◌, ◌⊎◌, inl, inr, List, [], ◌∷◌, refl, sym, subst}
 use Rattle.gr_tree.specs.Tree.{Item, Group, single, several}
 use Rattle.gr_expr.specs.World.{Locals}
 use Rattle.gr_expr.specs.Judge.{MemberUse}
 use Rattle.gr_stmt.specs.Checked.{Checked, reaching, check_items, check_group}
-use Rattle.gr_rules.proofs.Steps.{empty_first, empty_second, empty_both}
-use Rattle.gr_statement_rules.specs.Turns.{Rule, InTurn, no_item, then_item, InGroup, alone, together, IfPresent, absent, present, Excuse, ExcusedInTurn, this_item, later_item, ExcusedInGroup, excused_alone, excused_together, ExcusedIfPresent, excused_present}
+use Rattle.gr_rules.proofs.Steps.{empty_both}
+use Rattle.gr_statement_rules.specs.Turns.{Rule, InTurn, no_item, then_item, InGroup, alone, together, Excuse, ExcusedInTurn, this_item, later_item, ExcusedInGroup, excused_alone, excused_together}
 
 -- no fault so far, and those locals
 pub record IsAt (s : Checked) (locals : Locals) : Type 0 where

@@ -7,17 +7,15 @@ use Rattle.gr_tree.specs.Tree.{Item, ExprTree, SimpleTree}
 use Rattle.gr_tree.specs.Tree as tree
 use Rattle.gr_expr.specs.declared.types.Basic.TheVariants as basic
 use Rattle.gr_expr.specs.Places.{place_of, first_token}
-use Rattle.gr_expr.specs.Types.{PlainType, Kind, Typed, Untyped, Nil, Meaning, Value}
+use Rattle.gr_expr.specs.Types.{Kind, Typed, Untyped, Nil, Meaning, Value}
 use Rattle.gr_expr.specs.World.{World, Locals}
 use Rattle.gr_expr.specs.Operations.{operate, class_of, is_int, is_bool}
-use Rattle.gr_expr.specs.Judge.{Judged, JudgedList, Argued, judge, judge_value, value_kind}
+use Rattle.gr_expr.specs.Judge.{JudgedList, Argued, judge, judge_value, value_kind}
 use Rattle.gr_stmt.specs.Checked.{Checked}
 use Rattle.gr_stmt.specs.Sides.{rights, Target, Lefts, judge_operand, assigned, defined, given_to, defined_names, first_of_exprs, with_taken}
 use Rattle.gr_stmt.specs.Simple.{check_simple, check_alone, check_step, check_update, check_assign, check_define, check_condition, condition_faults, step_faults, update_faults, fault_if_none, stands_faults, is_statement, binary_of, giving}
-use Rattle.gr_rules.specs.Names.{IsWhole}
 use Rattle.gr_rules.specs.Operators.{IsOf, a_constant, a_nil, Operates}
 use Rattle.gr_rules.specs.Meanings.{HasMeaning}
-use Rattle.gr_rules.specs.Agrees.{Agrees}
 use Rattle.gr_rules.specs.Uses.{UsesBroken}
 use Rattle.gr_rules.proofs.Steps.{empty_first, empty_second, empty_both, kind_known}
 use Rattle.gr_rules.proofs.Classes.{class_true, is_of_int, is_of_bool}
@@ -27,13 +25,13 @@ use Rattle.gr_rules.proofs.Soundness.{sound}
 use Rattle.gr_rules.proofs.Completeness.{complete}
 use Rattle.gr_rules.proofs.Settling.{settle}
 use Rattle.gr_rules.proofs.Arguments.{AreOf}
-use Rattle.gr_statement_rules.specs.Giving.{Taker, TakenInTurn, Give, Declare}
-use Rattle.gr_statement_rules.specs.Simple.{ConditionIsTyped, a_condition, Updates, AreAssigned, AreDefined, SimpleIsTyped, a_call, a_step, an_update, an_assignment, a_definition}
-use Rattle.gr_statement_rules.specs.Excused.{AnyUsesBroken, LeftIsExcused, SimpleIsExcused, in_call, in_step, in_updated, in_update, updated_without_type, in_assigned, in_assignment, in_defined, in_definition}
-use Rattle.gr_statement_rules.proofs.Values.{IsValueFound, value_true, value_settled, IsOperandFound, operand_true, operand_settled, AreGiven, rights_given, AreGivenBy, rights_settled}
+use Rattle.gr_statement_rules.specs.Giving.{Taker, TakenInTurn}
+use Rattle.gr_statement_rules.specs.Simple.{ConditionIsTyped, a_condition, SimpleIsTyped, a_call, a_step, an_update, an_assignment, a_definition}
+use Rattle.gr_statement_rules.specs.Excused.{SimpleIsExcused, in_call, in_step, in_updated, in_update, updated_without_type, in_assigned, in_assignment, in_defined, in_definition}
+use Rattle.gr_statement_rules.proofs.Values.{value_true, value_settled, operand_true, operand_settled, AreGiven, rights_given, rights_settled}
 use Rattle.gr_statement_rules.proofs.Giving.{aim, given_silent, silent_given, declare_true, declare_found}
-use Rattle.gr_statement_rules.proofs.Lefts.{AreLefts, assigned_true, AreAssignedFound, assigned_settled, defined_true, defined_new, AreDefinedFound, defined_settled}
-use Rattle.gr_statement_rules.proofs.Reaching.{IsAt, here, reached, IsSettled}
+use Rattle.gr_statement_rules.proofs.Lefts.{AreLefts, assigned_true, assigned_settled, defined_true, defined_new, defined_settled}
+use Rattle.gr_statement_rules.proofs.Reaching.{IsAt, reached, IsSettled}
 use Rattle.gr_statement_rules.proofs.Calling.{statement_true, IsCallFound, true_statement, stands_silent, silent_stands, update_is, is_update, update_fits}
 
 test_silent : (b : Bool) (place : ℕ) → (if b then [] else (place ∷ [])) ≡ [] → b ≡ true
@@ -83,7 +81,7 @@ alone_parts : (w : World) (ls : Locals) (e : ExprTree) → ((judge w ls e).fault
     SimpleIsTyped w ls (tree.Alone e) ls ⊎ SimpleIsExcused w ls (tree.Alone e)
 alone_parts w ls e h = elim (settle w ls e (empty_first (judge w ls e).faults (stands_faults (place_of e) (is_statement w ls e) (judge w ls e).meaning) h)) [
   | inl n ↦ inl (call_found w ls e (judge w ls e).meaning (complete w ls e n) (true_statement w ls e (silent_stands (place_of e) (is_statement w ls e) (judge w ls e).meaning n
-        (empty_second (judge w ls e).faults (stands_faults (place_of e) (is_statement w ls e) (judge w ls e).meaning) h))))
+      (empty_second (judge w ls e).faults (stands_faults (place_of e) (is_statement w ls e) (judge w ls e).meaning) h))))
   | inr u ↦ inr (in_call u)
 ]
 
@@ -160,7 +158,7 @@ update_parts w ls x y o p h = let f = update_faults w (first_token x) (binary_of
     elim (operand_settled w ls x (empty_first (judge_operand w ls x).faults ((judge_value w ls y).faults ++ f) h)) [
       | inl v ↦ elim (value_settled w ls y (empty_first (judge_value w ls y).faults f r)) [
         | inl u ↦ let q = silent_update w (first_token x) (binary_of o) (value_kind (judge_operand w ls x).meaning) (value_kind (judge_value w ls y).meaning) (kind_known v.found) (kind_known u.found)
-              (empty_second (judge_value w ls y).faults f r) in
+            (empty_second (judge_value w ls y).faults f r) in
             typed_update w ls x y o p v.kind u.kind q.0 u.addressable v.means u.means q.1
         | inr e ↦ inr (in_update e)
       ]
@@ -171,7 +169,7 @@ update_settled : (w : World) (s : Checked) (x y : ExprTree) (o : UpdateOp) (p : 
     IsSettled (SimpleIsTyped w) (SimpleIsExcused w) s (tree.Update x o p y) (check_update w s (binary_of o) x y)
 unfolding check_update
 update_settled w s x y o p h = let f = (judge_operand w s.locals x).faults ++ ((judge_value w s.locals y).faults
-        ++ update_faults w (first_token x) (binary_of o) (value_kind (judge_operand w s.locals x).meaning) (value_kind (judge_value w s.locals y).meaning)) in
+    ++ update_faults w (first_token x) (binary_of o) (value_kind (judge_operand w s.locals x).meaning) (value_kind (judge_value w s.locals y).meaning)) in
     (empty_first s.faults f h, update_parts w s.locals x y o p (empty_second s.faults f h))
 
 -- values that are given
@@ -200,27 +198,31 @@ taken_found w place vs ks ts a e h = silent_given w place vs ks ts a (ap (given_
 
 assign_settled : (w : World) (s : Checked) (xs : List (Item ExprTree)) (p : ℕ) (ys : List (Item ExprTree)) → (check_assign w s xs ys).faults ≡ [] → IsSettled (SimpleIsTyped w) (SimpleIsExcused w) s (tree.Assign xs p ys) (check_assign w s xs ys)
 unfolding check_assign
-assign_settled w s xs p ys h = let g = giving_parts w s (first_of_exprs xs) s.locals (assigned w s.locals xs) (rights w s.locals ys) h in
-    (g.before, elim (assigned_settled w s.locals xs g.lefts) [
-      | inl l ↦ elim (rights_settled w s.locals ys g.rights) [
-        | inl r ↦ inl (an_assignment l.assigned r.given (taken_found w (first_of_exprs xs) (rights w s.locals ys).values r.kinds l.takers r.found l.found g.given))
-        | inr u ↦ inr (in_assignment u)
-      ]
-      | inr u ↦ inr (in_assigned u)
-    ])
+assign_settled w s xs p ys h = let g = giving_parts w s (first_of_exprs xs) s.locals (assigned w s.locals xs) (rights w s.locals ys) h in (
+  g.before,
+  elim (assigned_settled w s.locals xs g.lefts) [
+    | inl l ↦ elim (rights_settled w s.locals ys g.rights) [
+      | inl r ↦ inl (an_assignment l.assigned r.given (taken_found w (first_of_exprs xs) (rights w s.locals ys).values r.kinds l.takers r.found l.found g.given))
+      | inr u ↦ inr (in_assignment u)
+    ]
+    | inr u ↦ inr (in_assigned u)
+  ],
+)
 
 define_settled : (w : World) (s : Checked) (xs : List (Item ExprTree)) (p : ℕ) (ys : List (Item ExprTree)) → (check_define w s xs ys).faults ≡ [] → IsSettled (SimpleIsTyped w) (SimpleIsExcused w) s (tree.Define xs p ys) (check_define w s xs ys)
 unfolding check_define
 define_settled w s xs p ys h = let locals = with_taken s.locals (defined_names w xs) (rights w s.locals ys).values in
-    let g = giving_parts w s (first_of_exprs xs) locals (defined w s.locals xs) (rights w s.locals ys) h in
-    (g.before, elim (defined_settled w s.locals xs g.lefts) [
-      | inl l ↦ elim (rights_settled w s.locals ys g.rights) [
-        | inl r ↦ let t = taken_found w (first_of_exprs xs) (rights w s.locals ys).values r.kinds l.takers r.found l.found g.given in
-            inl (a_definition l.defined_are r.given t (declare_found w (rights w s.locals ys).values s.locals (defined_names w xs) (defined_new l.defined_are) r.found t))
-        | inr u ↦ inr (in_definition u)
-      ]
-      | inr u ↦ inr (in_defined u)
-    ])
+    let g = giving_parts w s (first_of_exprs xs) locals (defined w s.locals xs) (rights w s.locals ys) h in (
+      g.before,
+      elim (defined_settled w s.locals xs g.lefts) [
+        | inl l ↦ elim (rights_settled w s.locals ys g.rights) [
+          | inl r ↦ let t = taken_found w (first_of_exprs xs) (rights w s.locals ys).values r.kinds l.takers r.found l.found g.given in
+              inl (a_definition l.defined_are r.given t (declare_found w (rights w s.locals ys).values s.locals (defined_names w xs) (defined_new l.defined_are) r.found t))
+          | inr u ↦ inr (in_definition u)
+        ]
+        | inr u ↦ inr (in_defined u)
+      ],
+    )
 
 -- simple statements
 

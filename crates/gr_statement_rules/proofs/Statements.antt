@@ -1,23 +1,23 @@
 -- Statements and blocks: no fault is found in what is typed, and what has no fault is typed or excused.
-use Rattle.std.proofs.Common.{ℕ, ◌≡◌, ◌⊎◌, inl, inr, List, [], ◌∷◌, ◌++◌, map, Option, Some, None, refl, sym, ap, ◌∙◌, subst}
+use Rattle.std.proofs.Common.{ℕ, ◌≡◌, ◌⊎◌, inl, inr, List, [], ◌++◌, map, Option, Some, None, refl, sym, ap, ◌∙◌, subst}
 use Rattle.gr_tree.specs.Tree.{Item, ExprTree, SimpleTree, InitTree, ForTree, StatementTree, BlockTree, StatementTrees, IfTree, ElseTree}
 use Rattle.gr_tree.specs.Tree as tree
 use Rattle.gr_expr.specs.Types.{PlainType, Kind}
 use Rattle.gr_expr.specs.World.{World, Locals}
-use Rattle.gr_stmt.specs.Checked.{Checked, check_group}
+use Rattle.gr_stmt.specs.Checked.{Checked}
 use Rattle.gr_stmt.specs.Sides.{Target, rights}
-use Rattle.gr_stmt.specs.Simple.{check_simple, check_optional, check_condition, check_optional_condition, check_local}
+use Rattle.gr_stmt.specs.Simple.{check_optional, check_condition, check_optional_condition, check_local}
 use Rattle.gr_stmt.specs.Statements.{returned, check_return, check_init, check_header, check_statement, check_block, check_statements, check_if, check_else}
 use Rattle.gr_rules.specs.Uses.{UsesBroken}
 use Rattle.gr_rules.proofs.Steps.{empty_first, empty_second, empty_both}
-use Rattle.gr_statement_rules.specs.Turns.{InGroup, IfPresent, absent, present, ExcusedInGroup, ExcusedIfPresent, excused_present}
+use Rattle.gr_statement_rules.specs.Turns.{IfPresent, absent, present, ExcusedIfPresent, excused_present}
 use Rattle.gr_statement_rules.specs.Giving.{OfType, TakenInTurn, Give}
 use Rattle.gr_statement_rules.specs.Simple.{ConditionIsTyped, SimpleIsTyped, LocalIsTyped}
 use Rattle.gr_statement_rules.specs.Statements.{InitIsTyped, an_init, HeaderIsTyped, endless, a_while, with_clauses, StatementIsTyped, nothing, a_declaration, a_simple, an_inner_block, a_choice, a_loop, a_break, a_continue, a_return, BlockIsTyped, a_block, StatementsAreTyped, no_more, one_more, IfIsTyped, an_if, ElseIsTyped, without_else, an_else_if, an_else}
 use Rattle.gr_statement_rules.specs.Excused.{SimpleIsExcused, LocalIsExcused, InitIsExcused, in_init, HeaderIsExcused, in_while, in_first, in_test, in_post, StatementIsExcused, in_declaration, in_simple, in_inner, in_choice, in_header, in_loop, in_return, BlockIsExcused, in_block, StatementsAreExcused, this_statement, later_statement, IfIsExcused, before_condition, in_condition, in_then, in_otherwise, ElseIsExcused, in_else_if, in_else}
-use Rattle.gr_statement_rules.proofs.Values.{AreGivenBy, rights_given, rights_settled}
+use Rattle.gr_statement_rules.proofs.Values.{rights_given, rights_settled}
 use Rattle.gr_statement_rules.proofs.Giving.{aim, return_silent, silent_return}
-use Rattle.gr_statement_rules.proofs.Reaching.{IsAt, here, reached, held, IsSettled, group_true, group_settled}
+use Rattle.gr_statement_rules.proofs.Reaching.{IsAt, reached, held, group_true, group_settled}
 use Rattle.gr_statement_rules.proofs.Simple.{condition_true, condition_settled, simple_true, simple_settled}
 use Rattle.gr_statement_rules.proofs.Locals.{local_true, local_settled}
 
@@ -67,11 +67,13 @@ header_settled w s tree.forever h = (h, inl endless)
 header_settled w s (tree.while e) h = let q = condition_settled w s e h in (q.0, elim q.1 [ inl r ↦ inl (a_while r) | inr u ↦ inr (in_while u) ])
 header_settled w s (tree.clauses init p condition q post) h = let c = optional_settled w (check_optional_condition w (check_optional w s init) condition) post h in
     let b = optional_condition_settled w (check_optional w s init) condition c.0 in
-    let a = optional_settled w s init b.0 in
-    (a.0, elim a.1 [
-      | inl x ↦ elim b.1 [ inl y ↦ elim c.1 [ inl z ↦ inl (with_clauses x y z) | inr e ↦ inr (in_post x y e) ] | inr e ↦ inr (in_test x e) ]
-      | inr e ↦ inr (in_first e)
-    ])
+    let a = optional_settled w s init b.0 in (
+      a.0,
+      elim a.1 [
+        | inl x ↦ elim b.1 [ inl y ↦ elim c.1 [ inl z ↦ inl (with_clauses x y z) | inr e ↦ inr (in_post x y e) ] | inr e ↦ inr (in_test x e) ]
+        | inr e ↦ inr (in_first e)
+      ],
+    )
 
 -- returns
 
@@ -88,11 +90,13 @@ return_settled : (w : World) (s : Checked) (p : ℕ) (targets : List Target) (re
 unfolding check_return
 return_settled w s p targets results es e h = let r = rights w s.locals es in
     let f = r.faults ++ returned w p r.values targets in
-    let q = empty_second s.faults f h in
-    (empty_first s.faults f h, elim (rights_settled w s.locals es (empty_first r.faults (returned w p r.values targets) q)) [
-      | inl g ↦ inl (a_return g.given (silent_return w p r.values g.kinds (map OfType results) g.found (ap (λ z. returned w p r.values z) (sym e) ∙ empty_second r.faults (returned w p r.values targets) q)))
-      | inr u ↦ inr (in_return u)
-    ])
+    let q = empty_second s.faults f h in (
+      empty_first s.faults f h,
+      elim (rights_settled w s.locals es (empty_first r.faults (returned w p r.values targets) q)) [
+        | inl g ↦ inl (a_return g.given (silent_return w p r.values g.kinds (map OfType results) g.found (ap (λ z. returned w p r.values z) (sym e) ∙ empty_second r.faults (returned w p r.values targets) q)))
+        | inr u ↦ inr (in_return u)
+      ],
+    )
 
 -- statements
 
@@ -168,14 +172,16 @@ mutual
       let o = else_settled w results targets e otherwise (check_block w targets (check_condition w (check_init w s init) c) b) h in
       let t = block_settled w results targets e b (check_condition w (check_init w s init) c) o.0 in
       let r = condition_settled w (check_init w s init) c t.0 in
-      let i = init_settled w s init r.0 in
-      (i.0, elim i.1 [
-        | inl x ↦ elim r.1 [
-          | inl y ↦ elim t.1 [ inl z ↦ elim o.1 [ inl v ↦ inl (an_if x y z v) | inr u ↦ inr (in_otherwise x y z u) ] | inr u ↦ inr (in_then x y u) ]
-          | inr u ↦ inr (in_condition x u)
-        ]
-        | inr u ↦ inr (before_condition u)
-      ])
+      let i = init_settled w s init r.0 in (
+        i.0,
+        elim i.1 [
+          | inl x ↦ elim r.1 [
+            | inl y ↦ elim t.1 [ inl z ↦ elim o.1 [ inl v ↦ inl (an_if x y z v) | inr u ↦ inr (in_otherwise x y z u) ] | inr u ↦ inr (in_then x y u) ]
+            | inr u ↦ inr (in_condition x u)
+          ]
+          | inr u ↦ inr (before_condition u)
+        ],
+      )
 
   else_settled : (w : World) (results : List PlainType) (targets : List Target) → AreTargets targets results → (x : ElseTree) (s : Checked) → (check_else w targets s x).faults ≡ [] →
       (s.faults ≡ []) × (ElseIsTyped w results s.locals x (check_else w targets s x).locals ⊎ ElseIsExcused w results s.locals x)

@@ -1,5 +1,5 @@
 -- Values where one is wanted, and right sides, as they are found.
-use Rattle.std.proofs.Common.{ℕ, ◌≡◌, Bool, true, false, ◌⊎◌, inl, inr, List, [], ◌∷◌, map, Option, Some, None, refl, sym, ap, ◌∙◌, subst}
+use Rattle.std.proofs.Common.{ℕ, ◌≡◌, Bool, true, false, ◌⊎◌, inl, inr, List, [], ◌∷◌, map, refl, sym, ap, subst}
 use Rattle.gr_tree.specs.Tree.{Item, ExprTree}
 use Rattle.gr_expr.specs.Places.{place_of}
 use Rattle.gr_expr.specs.Types.{PlainType, Kind, Typed, Meaning, Value, TypeName, Function, BuiltinName, Package, Results, Broken}
@@ -146,7 +146,7 @@ unfolding rights
 rights_settled w locals [] h = as_values (each_settled w locals [] h)
 rights_settled w locals (i ∷ []) h = elim (settle w locals i.value (empty_first (judge w locals i.value).faults (values_of (place_of i.value) (judge w locals i.value).meaning).faults h)) [
   | inl n ↦ inl (one_settled w locals i (place_of i.value) (judge w locals i.value).meaning n (empty_second (judge w locals i.value).faults (values_of (place_of i.value) (judge w locals i.value).meaning).faults h)
-        (complete w locals i.value n))
+      (complete w locals i.value n))
   | inr u ↦ inr (this_one u)
 ]
 rights_settled w locals (i ∷ j ∷ is) h = as_values (each_settled w locals (i ∷ j ∷ is) h)

@@ -1,7 +1,7 @@
 -- What is excused: a part that keeps no rule, yet need not have a fault of its own, where all parts before it are typed. It uses
 -- what is broken; or it is what no file that was parsed and bound has: a declaration of locals without type and values, a variable
 -- without a type, a left name of `:=` that neither declares nor is a variable.
-use Rattle.std.specs.Prelude.{◌≡◌, ℕ, Bool, false, true, List, [], ◌∷◌, Option, Some, None}
+use Rattle.std.specs.Prelude.{◌≡◌, ℕ, Bool, false, true, List, ◌∷◌, Option, Some, None}
 use Rattle.gr_tree.specs.declared.syntax.StepOp.{StepOp}
 use Rattle.gr_tree.specs.declared.syntax.UpdateOp.{UpdateOp}
 use Rattle.gr_tree.specs.Tree.{Item, Group, TypeTree, ExprTree, SimpleTree, LocalTree, InitTree, ForTree, StatementTree, BlockTree, StatementTrees, IfTree, ElseTree, ReceiverTree, ParamTree, ResultTree, FuncTree, GlobalTree, FieldTree, BodyTree, TypeSpecTree, DeclTree, FileTree}
@@ -13,7 +13,7 @@ use Rattle.gr_rules.specs.Meanings.{HasMeaning}
 use Rattle.gr_rules.specs.Uses.{UsesBroken, IsBrokenType}
 use Rattle.gr_statement_rules.specs.Turns.{InTurn, IfPresent, ExcusedInTurn, ExcusedInGroup, ExcusedIfPresent}
 use Rattle.gr_statement_rules.specs.Simple.{ConditionIsTyped, SimpleIsTyped, LocalIsTyped}
-use Rattle.gr_statement_rules.specs.Statements.{InitIsTyped, HeaderIsTyped, StatementIsTyped, BlockIsTyped, IfIsTyped}
+use Rattle.gr_statement_rules.specs.Statements.{InitIsTyped, HeaderIsTyped, StatementIsTyped, BlockIsTyped}
 use Rattle.gr_statement_rules.specs.Declarations.{ReceiverIsTyped, ParamIsTyped, AreResults, GlobalIsTyped, TypeIsTyped, DeclIsTyped}
 
 -- a value that is no variable, or has no type of its own

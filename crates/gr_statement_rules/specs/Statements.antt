@@ -1,5 +1,5 @@
 -- The typing rules of statements and blocks. The locals of an inner block stay, since a name is bound to one by its place.
-use Rattle.std.specs.Prelude.{ℕ, List, Option, Some, None, map}
+use Rattle.std.specs.Prelude.{ℕ, List, Option, map}
 use Rattle.gr_tree.specs.Tree.{Item, Group, ExprTree, SimpleTree, LocalTree, InitTree, ForTree, StatementTree, BlockTree, StatementTrees, IfTree, ElseTree}
 use Rattle.gr_tree.specs.Tree as tree
 use Rattle.gr_expr.specs.Types.{PlainType, Kind}
