@@ -1,5 +1,5 @@
 -- The laws of typed statements and declarations.
-use Rattle.std.proofs.Common.{ℕ, ◌≡◌, ◌↔◌, ◌⊎◌, inl, inr, Bool, List, [], ◌∷◌, Some, refl, ap}
+use Rattle.std.proofs.Common.{ℕ, ◌≡◌, ◌↔◌, ◌⊎◌, inl, inr, Bool, List, [], ◌∷◌, Some, refl, ap, sym, ◌∙◌}
 use Rattle.gr_tree.specs.Tree.{SimpleTree, StatementTree, BlockTree, FuncTree, DeclTree, FileTree}
 use Rattle.gr_expr.specs.Types.{PlainType}
 use Rattle.gr_expr.specs.World.{World, Locals}
@@ -38,6 +38,16 @@ statement_law w results s x after h r = at (statement_true w results (wanted res
 
 pub settled_statement : (w : World) → (results : List PlainType) → (s : Checked) → (x : StatementTree) → (check_statement w (wanted results) s x).faults ≡ [] → StatementIsTyped w results s.locals x (check_statement w (wanted results) s x).locals ⊎ StatementIsExcused w results s.locals x
 settled_statement w results s x h = let q = statement_settled w results (wanted results) (targets_are results) x s h in q.1
+
+start : Locals → Checked
+start before = record { locals = before; faults = []; uses = [] }
+
+outcome : (w : World) (results : List PlainType) (before after : Locals) (x : StatementTree) → StatementIsTyped w results before x after → (check_statement w (wanted results) (start before) x).locals ≡ after
+unfolding start
+outcome w results before after x r = let a = statement_true w results (wanted results) (targets_are results) r (start before) (record { locals_are = refl; faultless = refl }) in a.locals_are
+
+pub one_outcome : (w : World) → (results : List PlainType) → (before after other : Locals) → (x : StatementTree) → StatementIsTyped w results before x after → StatementIsTyped w results before x other → after ≡ other
+one_outcome w results before after other x h k = sym (outcome w results before after x h) ∙ outcome w results before other x k
 
 pub block_law : (w : World) → (results : List PlainType) → (s : Checked) → (x : BlockTree) → (after : Locals) → s.faults ≡ [] → BlockIsTyped w results s.locals x after → Reaches (check_block w (wanted results) s x) after
 block_law w results s x after h r = at (block_true w results (wanted results) (targets_are results) r s (here s h))

@@ -35,6 +35,11 @@ pub fn statements_without_fault_are_typed()
     ensures { (w : World) → (results : List PlainType) → (s : Checked) → (x : StatementTree) → (check_statement w (wanted results) s x).faults ≡ [] → StatementIsTyped w results s.locals x (check_statement w (wanted results) s x).locals ⊎ StatementIsExcused w results s.locals x }
 {}
 
+/// Behind a statement that keeps the typing rules there are the same locals, however they are applied.
+pub fn typed_statements_have_one_outcome()
+    ensures { (w : World) → (results : List PlainType) → (before after other : Locals) → (x : StatementTree) → StatementIsTyped w results before x after → StatementIsTyped w results before x other → after ≡ other }
+{}
+
 /// The same of blocks.
 pub fn typed_blocks_have_no_fault()
     ensures { (w : World) → (results : List PlainType) → (s : Checked) → (x : BlockTree) → (after : Locals) → s.faults ≡ [] → BlockIsTyped w results s.locals x after → Reaches (check_block w (wanted results) s x) after }
