@@ -43,7 +43,8 @@ pub front_is : {links front : LinkTrees} → EndsInCall links front → without_
 unfolding without_last
 front_is the_call = refl
 front_is (behind_selector {d} {n} {rest} e) = kept rest (tree.selector d n (without_last rest)) (end_true e) ∙ ap (λ z. tree.selector d n z) (front_is e)
-front_is (behind_index {o} {c} {e = x} {rest = rest} e) = kept rest (tree.index o x c (without_last rest)) (end_true e) ∙ ap (λ z. tree.index o x c z) (front_is e)
+front_is (behind_index {o} {c} {e = x} {rest = rest} e) = kept rest (tree.index o x c (without_last rest)) (end_true e)
+    ∙ ap (λ z. tree.index o x c z) (front_is e)
 front_is (behind_call {o} {c} {xs} {rest} e) = kept rest (tree.call o xs c (without_last rest)) (end_true e) ∙ ap (λ z. tree.call o xs c z) (front_is e)
 
 before_last : (links whole rest : LinkTrees) → unless_end rest whole ≡ whole → EndsInCall links whole → EndsInCall links (unless_end rest whole)
@@ -58,8 +59,10 @@ behind_end (tree.call o xs c more) h e = h
 pub true_end : (links : LinkTrees) → ends_in_call links ≡ true → EndsInCall links (without_last links)
 unfolding ends_in_call without_last
 true_end tree.no_link h = absurd (true≢false (sym h))
-true_end (tree.selector d n rest) h = before_last (tree.selector d n rest) (tree.selector d n (without_last rest)) rest (kept rest (tree.selector d n (without_last rest)) h) (behind_selector (true_end rest h))
-true_end (tree.index o e c rest) h = before_last (tree.index o e c rest) (tree.index o e c (without_last rest)) rest (kept rest (tree.index o e c (without_last rest)) h) (behind_index (true_end rest h))
+true_end (tree.selector d n rest) h = before_last (tree.selector d n rest) (tree.selector d n (without_last rest)) rest (kept rest (tree.selector d n
+    (without_last rest)) h) (behind_selector (true_end rest h))
+true_end (tree.index o e c rest) h = before_last (tree.index o e c rest) (tree.index o e c (without_last rest)) rest (kept rest (tree.index o e c
+    (without_last rest)) h) (behind_index (true_end rest h))
 true_end (tree.call o xs c tree.no_link) h = the_call
 true_end (tree.call o xs c (tree.selector d n rest)) h = behind_call (true_end (tree.selector d n rest) h)
 true_end (tree.call o xs c (tree.index p e q rest)) h = behind_call (true_end (tree.index p e q rest) h)
@@ -91,9 +94,11 @@ true_stand Broken h = absurd (true≢false (sym h))
 abbrev stands_by : World → Locals → ExprTree → Bool → LinkTrees → Bool
 stands_by w locals e ends front = if ends then may_stand (judge w locals (tree.Chain e front)).meaning else false
 
-pub statement_true : (w : World) (locals : Locals) {e : ExprTree} {links front : LinkTrees} {f : Meaning} → EndsInCall links front → HasMeaning w locals (tree.Chain e front) f → MayStand f → is_statement w locals (tree.Chain e links) ≡ true
+pub statement_true : (w : World) (locals : Locals) {e : ExprTree} {links front : LinkTrees} {f : Meaning} → EndsInCall links front →
+    HasMeaning w locals (tree.Chain e front) f → MayStand f → is_statement w locals (tree.Chain e links) ≡ true
 unfolding is_statement
-statement_true w locals {e} {links} {front} {f} c h s = ap (λ z. stands_by w locals e z (without_last links)) (end_true c) ∙ (ap (λ z. stands_by w locals e true z) (front_is c) ∙ (ap may_stand (sound w locals h).meaning ∙ stand_true s))
+statement_true w locals {e} {links} {front} {f} c h s = ap (λ z. stands_by w locals e z (without_last links)) (end_true c)
+    ∙ (ap (λ z. stands_by w locals e true z) (front_is c) ∙ (ap may_stand (sound w locals h).meaning ∙ stand_true s))
 
 -- a call that stands as a statement
 pub record IsCallFound (w : World) (locals : Locals) (e : ExprTree) : Type 0 where
@@ -106,7 +111,8 @@ pub record IsCallFound (w : World) (locals : Locals) (e : ExprTree) : Type 0 whe
   pub means : HasMeaning w locals (tree.Chain operand front) callee
   pub stands : MayStand callee
 
-chain_found : (w : World) (locals : Locals) (e : ExprTree) (links : LinkTrees) (b : Bool) → ends_in_call links ≡ b → stands_by w locals e b (without_last links) ≡ true → IsCallFound w locals (tree.Chain e links)
+chain_found : (w : World) (locals : Locals) (e : ExprTree) (links : LinkTrees) (b : Bool) → ends_in_call links ≡ b →
+    stands_by w locals e b (without_last links) ≡ true → IsCallFound w locals (tree.Chain e links)
 chain_found w locals e links false d h = absurd (true≢false (sym h))
 chain_found w locals e links true d h = let m = true_stand (judge w locals (tree.Chain e (without_last links))).meaning h in record {
   operand = e;

@@ -32,15 +32,18 @@ abbrev definition_tree : SimpleTree
 definition_tree = tree.Define (item (tree.Name 0) ∷ []) 1 (item (tree.Number 2) ∷ [])
 
 definition : SimpleIsTyped world no_locals definition_tree with_int
-definition = a_definition (a_new_name refl refl no_definition) (values (also_value number no_expression)) (also_given (fresh by_default) none_given) (new_local by_default no_name)
+definition = a_definition (a_new_name refl refl no_definition) (values (also_value number no_expression)) (also_given (fresh by_default) none_given)
+    (new_local by_default no_name)
 
 -- behind it `x++` is typed
 increment : SimpleIsTyped world with_int (tree.Step (tree.Name 6) step.Increment 7) with_int
 increment = a_step (name (a_local refl refl)) (by_type refl)
 
 -- and so is `{ x := 1; return x }` in a function with the result int
-block : BlockIsTyped world (int ∷ []) no_locals (tree.block 10 (tree.statement (tree.Simple definition_tree) (Some 3) (tree.statement (tree.Return 5 (item (tree.Name 6) ∷ [])) None tree.no_statement)) 11) with_int
-block = a_block (one_more (a_simple definition) (one_more (a_return (values (also_value (name (a_local refl refl)) no_expression)) (also_given (fitting identical) none_given)) no_more))
+block : BlockIsTyped world (int ∷ []) no_locals (tree.block 10 (tree.statement (tree.Simple definition_tree) (Some 3) (tree.statement (tree.Return 5 (item
+    (tree.Name 6) ∷ [])) None tree.no_statement)) 11) with_int
+block = a_block (one_more (a_simple definition) (one_more (a_return (values (also_value (name (a_local refl refl)) no_expression)) (also_given
+    (fitting identical) none_given)) no_more))
 
 -- nil declares nothing
 no_nil : (t : PlainType) → GivesType Nil t → ⊥

@@ -57,9 +57,11 @@ unfolding all_refused
 none_refused w [] a none_given = refl
 none_refused w [] a (also_given f more) = absurd a
 none_refused w (v ∷ vs) a none_given = absurd a
-none_refused w (v ∷ vs) a (also_given {t = t} {ts = ts} f more) = empty_both (refused w v.place v.kind (aim t)) (all_refused w vs (map aim ts)) (taken_silent w v.place a.0 f) (none_refused w vs a.1 more)
+none_refused w (v ∷ vs) a (also_given {t = t} {ts = ts} f more) = empty_both (refused w v.place v.kind (aim t)) (all_refused w vs (map aim ts))
+    (taken_silent w v.place a.0 f) (none_refused w vs a.1 more)
 
-pub all_taken : (w : World) (vs : List Argued) (ks : List Kind) (ts : List Taker) → AreOf vs ks → length vs ≡ length (map aim ts) → all_refused w vs (map aim ts) ≡ [] → TakenInTurn w ks ts
+pub all_taken : (w : World) (vs : List Argued) (ks : List Kind) (ts : List Taker) → AreOf vs ks → length vs ≡ length (map aim ts) →
+    all_refused w vs (map aim ts) ≡ [] → TakenInTurn w ks ts
 unfolding all_refused
 all_taken w [] [] [] a n h = none_given
 all_taken w [] [] (t ∷ ts) a n h = absurd (omega arith)
@@ -86,21 +88,27 @@ right_count xs ys {n} {m} e h = ap (λ c. if c then xs else ys) (eq-eqb n m e) �
 one_fault : {A : Type 0} (c : Bool) (place : ℕ) → c ≡ true → fault_if c place ≡ [] → A
 one_fault c place e h = no_fault (ap (λ z. fault_if z place) (sym e) ∙ h)
 
-pub given_silent : (w : World) (place : ℕ) (vs : List Argued) {ks : List Kind} {ts : List Taker} → AreOf vs ks → TakenInTurn w ks ts → given_to w place vs (map aim ts) ≡ []
+pub given_silent : (w : World) (place : ℕ) (vs : List Argued) {ks : List Kind} {ts : List Taker} → AreOf vs ks → TakenInTurn w ks ts →
+    given_to w place vs (map aim ts) ≡ []
 unfolding given_to
-given_silent w place vs {ks} {ts} a t = right_count (all_refused w vs (map aim ts)) (fault_if (all_whole vs && all_sound (map aim ts)) place) (as_many w vs a t) (none_refused w vs a t)
+given_silent w place vs {ks} {ts} a t = right_count (all_refused w vs (map aim ts)) (fault_if (all_whole vs && all_sound (map aim ts)) place)
+    (as_many w vs a t) (none_refused w vs a t)
 
-pub silent_given : (w : World) (place : ℕ) (vs : List Argued) (ks : List Kind) (ts : List Taker) → AreOf vs ks → given_to w place vs (map aim ts) ≡ [] → TakenInTurn w ks ts
+pub silent_given : (w : World) (place : ℕ) (vs : List Argued) (ks : List Kind) (ts : List Taker) → AreOf vs ks → given_to w place vs (map aim ts) ≡ [] →
+    TakenInTurn w ks ts
 unfolding given_to
-silent_given w place vs ks ts a h = counted (length vs == length (map aim ts)) (all_refused w vs (map aim ts)) (fault_if (all_whole vs && all_sound (map aim ts)) place) h
+silent_given w place vs ks ts a h = counted (length vs == length (map aim ts)) (all_refused w vs (map aim ts)) (fault_if (all_whole vs && all_sound
+    (map aim ts)) place) h
     (λ q. one_fault (all_whole vs && all_sound (map aim ts)) place (and_both (all_whole vs) (all_sound (map aim ts)) (whole_all vs ks a) (sound_aims ts)) q)
     (λ c q. all_taken w vs ks ts a (eqb-true (length vs) (length (map aim ts)) c) q)
 
-pub return_silent : (w : World) (place : ℕ) (vs : List Argued) {ks : List Kind} {ts : List Taker} → AreOf vs ks → TakenInTurn w ks ts → returned w place vs (map aim ts) ≡ []
+pub return_silent : (w : World) (place : ℕ) (vs : List Argued) {ks : List Kind} {ts : List Taker} → AreOf vs ks → TakenInTurn w ks ts →
+    returned w place vs (map aim ts) ≡ []
 unfolding returned
 return_silent w place vs {ks} {ts} a t = right_count (all_refused w vs (map aim ts)) (fault_if (all_whole vs) place) (as_many w vs a t) (none_refused w vs a t)
 
-pub silent_return : (w : World) (place : ℕ) (vs : List Argued) (ks : List Kind) (ts : List Taker) → AreOf vs ks → returned w place vs (map aim ts) ≡ [] → TakenInTurn w ks ts
+pub silent_return : (w : World) (place : ℕ) (vs : List Argued) (ks : List Kind) (ts : List Taker) → AreOf vs ks → returned w place vs (map aim ts) ≡ [] →
+    TakenInTurn w ks ts
 unfolding returned
 silent_return w place vs ks ts a h = counted (length vs == length (map aim ts)) (all_refused w vs (map aim ts)) (fault_if (all_whole vs) place) h
     (λ q. one_fault (all_whole vs) place (whole_all vs ks a) q)
@@ -112,7 +120,8 @@ type_taken : {o : Option Kind} {k : Kind} {t : PlainType} → o ≡ Some k → G
 unfolding taken_type
 type_taken e g = ap taken_type e ∙ gives_kind g
 
-pub declare_many : (vs : List Argued) {before after : Locals} {ns : List (Option ℕ)} {ks : List Kind} → AreOf vs ks → Declare before ns ks after → length vs ≡ length ns
+pub declare_many : (vs : List Argued) {before after : Locals} {ns : List (Option ℕ)} {ks : List Kind} → AreOf vs ks → Declare before ns ks after →
+    length vs ≡ length ns
 declare_many [] a no_name = refl
 declare_many [] a (no_local more) = absurd a
 declare_many [] a (new_local g more) = absurd a
@@ -120,18 +129,22 @@ declare_many (v ∷ vs) a no_name = absurd a
 declare_many (v ∷ vs) a (no_local more) = ap suc (declare_many vs a.1 more)
 declare_many (v ∷ vs) a (new_local g more) = ap suc (declare_many vs a.1 more)
 
-declare_types : (vs : List Argued) {before after : Locals} {ns : List (Option ℕ)} {ks : List Kind} → AreOf vs ks → Declare before ns ks after → with_locals before ns (taken_types vs) ≡ after
+declare_types : (vs : List Argued) {before after : Locals} {ns : List (Option ℕ)} {ks : List Kind} → AreOf vs ks → Declare before ns ks after →
+    with_locals before ns (taken_types vs) ≡ after
 unfolding with_locals
 declare_types [] a no_name = refl
 declare_types [] a (no_local more) = absurd a
 declare_types [] a (new_local g more) = absurd a
 declare_types (v ∷ vs) a no_name = absurd a
 declare_types (v ∷ vs) a (no_local more) = declare_types vs a.1 more
-declare_types (v ∷ vs) a (new_local {before} {p = p} {ns = ns} g more) = ap (λ t. with_locals (declared before p t) ns (taken_types vs)) (type_taken a.0 g) ∙ declare_types vs a.1 more
+declare_types (v ∷ vs) a (new_local {before} {p = p} {ns = ns} g more) = ap (λ t. with_locals (declared before p t) ns (taken_types vs))
+    (type_taken a.0 g) ∙ declare_types vs a.1 more
 
-pub declare_true : (vs : List Argued) {before after : Locals} {ns : List (Option ℕ)} {ks : List Kind} → AreOf vs ks → Declare before ns ks after → with_taken before ns vs ≡ after
+pub declare_true : (vs : List Argued) {before after : Locals} {ns : List (Option ℕ)} {ks : List Kind} → AreOf vs ks → Declare before ns ks after →
+    with_taken before ns vs ≡ after
 unfolding taken
-declare_true vs {before} {ns = ns} a d = ap (λ c. with_locals before ns (if c then taken_types vs else [])) (eq-eqb (length vs) (length ns) (declare_many vs a d)) ∙ declare_types vs a d
+declare_true vs {before} {ns = ns} a d = ap (λ c. with_locals before ns (if c then taken_types vs else [])) (eq-eqb (length vs) (length ns)
+    (declare_many vs a d)) ∙ declare_types vs a d
 
 -- names of which each that declares a local is a new one
 abbrev pub AreNew : List Taker → List (Option ℕ) → Type 0
@@ -140,7 +153,8 @@ AreNew (t ∷ ts) (None ∷ ns) = AreNew ts ns
 AreNew (Fresh ∷ ts) (Some p ∷ ns) = AreNew ts ns
 AreNew ts ns = ⊥
 
-new_types : (w : World) (vs : List Argued) (before : Locals) {ts : List Taker} (ns : List (Option ℕ)) {ks : List Kind} → AreNew ts ns → AreOf vs ks → TakenInTurn w ks ts →
+new_types : (w : World) (vs : List Argued) (before : Locals) {ts : List Taker} (ns : List (Option ℕ)) {ks : List Kind} → AreNew ts ns → AreOf vs ks →
+    TakenInTurn w ks ts →
     (length vs ≡ length ns) × Declare before ns ks (with_locals before ns (taken_types vs))
 unfolding with_locals
 new_types w [] before [] u a none_given = (refl, no_name)
@@ -150,10 +164,15 @@ new_types w [] before ns u a (also_given f more) = absurd a
 new_types w (v ∷ vs) before [] u a (also_given f more) = absurd u
 new_types w (v ∷ vs) before (None ∷ ns) u a (also_given f more) = let q = new_types w vs before ns u a.1 more in (ap suc q.0, no_local q.1)
 new_types w (v ∷ vs) before (Some p ∷ ns) u a (also_given (fitting f) more) = absurd u
-new_types w (v ∷ vs) before (Some p ∷ ns) u a (also_given {ks = ks} (fresh {k} {t} g) more) = let q = new_types w vs (declared before p (Some t)) ns u a.1 more in
-    (ap suc q.0, new_local g (subst (λ z. Declare (declared before p (Some t)) ns ks (with_locals (declared before p z) ns (taken_types vs))) (sym (type_taken a.0 g)) q.1))
+new_types w (v ∷ vs) before (Some p ∷ ns) u a (also_given {ks = ks} (fresh {k} {t} g) more) = let q = new_types w vs (declared before p
+    (Some t)) ns u a.1 more in (
+      ap suc q.0,
+      new_local g (subst (λ z. Declare (declared before p (Some t)) ns ks (with_locals (declared before p z) ns (taken_types vs))) (sym
+          (type_taken a.0 g)) q.1),
+    )
 
-pub declare_found : (w : World) (vs : List Argued) (before : Locals) {ts : List Taker} (ns : List (Option ℕ)) {ks : List Kind} → AreNew ts ns → AreOf vs ks → TakenInTurn w ks ts → Declare before ns ks (with_taken before ns vs)
+pub declare_found : (w : World) (vs : List Argued) (before : Locals) {ts : List Taker} (ns : List (Option ℕ)) {ks : List Kind} → AreNew ts ns →
+    AreOf vs ks → TakenInTurn w ks ts → Declare before ns ks (with_taken before ns vs)
 unfolding taken
 declare_found w vs before ns {ks} u a t = let q = new_types w vs before ns u a t in
     subst (λ c. Declare before ns ks (with_locals before ns (if c then taken_types vs else []))) (sym (eq-eqb (length vs) (length ns) q.0)) q.1
@@ -164,13 +183,15 @@ none_as_true : {t : PlainType} {before after : Locals} (ts : List (Option PlainT
 unfolding with_locals
 none_as_true ts no_name_left = refl
 
-one_as_true : {t : PlainType} {before after : Locals} (n : Option ℕ) (ns : List (Option ℕ)) (ts : List (Option PlainType)) → ((ls : Locals) → DeclareAs t ls ns after → with_locals ls ns ts ≡ after) →
+one_as_true : {t : PlainType} {before after : Locals} (n : Option ℕ) (ns : List (Option ℕ)) (ts : List (Option PlainType)) → ((ls : Locals) →
+    DeclareAs t ls ns after → with_locals ls ns ts ≡ after) →
     DeclareAs t before (n ∷ ns) after → with_locals before (n ∷ ns) (Some t ∷ ts) ≡ after
 unfolding with_locals
 one_as_true {before = before} n ns ts f (not_named more) = f before more
 one_as_true {t} {before} n ns ts f (named {p = p} more) = f (declared before p (Some t)) more
 
-one_as_found : (t : PlainType) (before : Locals) (n : Option ℕ) (ns : List (Option ℕ)) (ts : List (Option PlainType)) → ((ls : Locals) → DeclareAs t ls ns (with_locals ls ns ts)) →
+one_as_found : (t : PlainType) (before : Locals) (n : Option ℕ) (ns : List (Option ℕ)) (ts : List (Option PlainType)) → ((ls : Locals) →
+    DeclareAs t ls ns (with_locals ls ns ts)) →
     DeclareAs t before (n ∷ ns) (with_locals before (n ∷ ns) (Some t ∷ ts))
 unfolding with_locals
 one_as_found t before None ns ts f = not_named (f before)
@@ -180,7 +201,8 @@ none_as_found : (t : PlainType) (before : Locals) → DeclareAs t before [] (wit
 unfolding with_locals
 none_as_found t before = no_name_left
 
-pub declare_as_true : (xs : List (Item IdentTree)) {t : PlainType} {before after : Locals} → DeclareAs t before (all_named xs) after → written_locals before xs (Some t) ≡ after
+pub declare_as_true : (xs : List (Item IdentTree)) {t : PlainType} {before after : Locals} → DeclareAs t before (all_named xs) after →
+    written_locals before xs (Some t) ≡ after
 declare_as_true [] d = none_as_true [] d
 declare_as_true (x ∷ xs) {t} d = one_as_true (named_of x.value) (all_named xs) (map (λ i. Some t) xs) (λ ls e. declare_as_true xs e) d
 
@@ -188,8 +210,10 @@ pub declare_as_found : (xs : List (Item IdentTree)) (t : PlainType) (before : Lo
 declare_as_found [] t before = none_as_found t before
 declare_as_found (x ∷ xs) t before = one_as_found t before (named_of x.value) (all_named xs) (map (λ i. Some t) xs) (λ ls. declare_as_found xs t ls)
 
-pub single_as_true : (n : IdentTree) {t : PlainType} {before after : Locals} → DeclareAs t before (named_of n ∷ []) after → with_locals before (named_of n ∷ []) (Some t ∷ []) ≡ after
+pub single_as_true : (n : IdentTree) {t : PlainType} {before after : Locals} → DeclareAs t before (named_of n ∷ []) after →
+    with_locals before (named_of n ∷ []) (Some t ∷ []) ≡ after
 single_as_true n d = one_as_true (named_of n) [] [] (λ ls e. none_as_true [] e) d
 
-pub single_as_found : (n : IdentTree) (t : PlainType) (before : Locals) → DeclareAs t before (named_of n ∷ []) (with_locals before (named_of n ∷ []) (Some t ∷ []))
+pub single_as_found : (n : IdentTree) (t : PlainType) (before : Locals) → DeclareAs t before (named_of n ∷ []) (with_locals before (named_of n ∷ [])
+    (Some t ∷ []))
 single_as_found n t before = one_as_found t before (named_of n) [] [] (λ ls. none_as_found t ls)

@@ -35,9 +35,14 @@ points_no : (u : Underlying) → points u ≡ false → (t : PlainType) → u �
 points_no u h t e = true≢false (sym (ap points e) ∙ h)
 
 abbrev defined_when : ℕ → Symbol → Bool → TypeJudged
-defined_when place s c = record { type_of = (if c then good_type (Defined s) else no_type_at place).type_of; faults = [] ++ (if c then good_type (Defined s) else no_type_at place).faults }
+defined_when place s c = record {
+  type_of = (if c then good_type (Defined s) else no_type_at place).type_of;
+  faults = [] ++ (if c then good_type
+      (Defined s) else no_type_at place).faults;
+}
 
-base_true : (w : World) (place : ℕ) (s : Symbol) → ((u : PlainType) → w.definition s ≡ PointerTo u → ⊥) → received w place (good_type (Defined s)) ≡ good_type (Defined s)
+base_true : (w : World) (place : ℕ) (s : Symbol) → ((u : PlainType) → w.definition s ≡ PointerTo u → ⊥) →
+    received w place (good_type (Defined s)) ≡ good_type (Defined s)
 unfolding receiving may_receive
 base_true w place s n = ap (λ c. defined_when place s (if c then false else true)) (no_points (w.definition s) n)
 
@@ -45,12 +50,15 @@ star_true : {o : Option ℕ} {t u : PlainType} → IsBehindStar o t u → starre
 star_true no_star = refl
 star_true a_star = refl
 
-receiver_type : (w : World) (r : ReceiverTree) {s : Symbol} {t : PlainType} → w.bound r.type_name ≡ Means (TypeName (Defined s)) → ((u : PlainType) → w.definition s ≡ PointerTo u → ⊥) → IsBehindStar r.star (Defined s) t →
+receiver_type : (w : World) (r : ReceiverTree) {s : Symbol} {t : PlainType} → w.bound r.type_name ≡ Means (TypeName (Defined s)) → ((u : PlainType) →
+    w.definition s ≡ PointerTo u → ⊥) → IsBehindStar r.star (Defined s) t →
     judge_receiver w r ≡ good_type t
 unfolding judge_receiver receiver_base named_type
-receiver_type w r {s} e n b = ap (λ z. starred r.star (received w r.type_name (named_type z r.type_name))) e ∙ (ap (starred r.star) (base_true w r.type_name s n) ∙ star_true b)
+receiver_type w r {s} e n b = ap (λ z. starred r.star (received w r.type_name (named_type z r.type_name))) e
+    ∙ (ap (starred r.star) (base_true w r.type_name s n) ∙ star_true b)
 
-receiver_true : (w : World) (s : Checked) (r : ReceiverTree) (after : Locals) → s.faults ≡ [] → ReceiverIsTyped w s.locals r after → IsAt (check_receiver w s r) after
+receiver_true : (w : World) (s : Checked) (r : ReceiverTree) (after : Locals) → s.faults ≡ [] → ReceiverIsTyped w s.locals r after →
+    IsAt (check_receiver w s r) after
 unfolding check_receiver
 receiver_true w s r after h (a_receiver e n b d) = let q = receiver_type w r e n b in
     reached s (judge_receiver w r).faults [] h (ap (λ (z : TypeJudged). z.faults) q)
@@ -62,12 +70,14 @@ record IsBaseFound (w : World) (place : ℕ) (j : TypeJudged) : Type 0 where
   no_pointer : (u : PlainType) → w.definition symbol ≡ PointerTo u → ⊥
   type_is : j.type_of ≡ Some (Defined symbol)
 
-defined_base : (w : World) (place : ℕ) (s : Symbol) (c : Bool) → points (w.definition s) ≡ c → w.bound place ≡ Means (TypeName (Defined s)) → (if (if c then false else true) then good_type (Defined s) else no_type_at place).faults ≡ [] →
+defined_base : (w : World) (place : ℕ) (s : Symbol) (c : Bool) → points (w.definition s) ≡ c → w.bound place ≡ Means (TypeName (Defined s)) →
+    (if (if c then false else true) then good_type (Defined s) else no_type_at place).faults ≡ [] →
     IsBaseFound w place (if (if c then false else true) then good_type (Defined s) else no_type_at place)
 defined_base w place s true d e h = no_fault h
 defined_base w place s false d e h = record { symbol = s; bound_is = e; no_pointer = points_no (w.definition s) d; type_is = refl }
 
-type_base : (w : World) (place : ℕ) (t : PlainType) → w.bound place ≡ Means (TypeName t) → (receiving w place (Some t)).faults ≡ [] → IsBaseFound w place (receiving w place (Some t))
+type_base : (w : World) (place : ℕ) (t : PlainType) → w.bound place ≡ Means (TypeName t) → (receiving w place (Some t)).faults ≡ [] →
+    IsBaseFound w place (receiving w place (Some t))
 unfolding receiving may_receive
 type_base w place (Defined s) e h = defined_base w place s (points (w.definition s)) refl e h
 type_base w place (BasicType b) e h = no_fault h
@@ -77,10 +87,12 @@ type_base w place (Slice t) e h = no_fault h
 abbrev IsBaseSettled : World → ℕ → TypeJudged → Type 0
 IsBaseSettled w place j = IsBaseFound w place j ⊎ (w.bound place ≡ BrokenType)
 
-same_base : (w : World) (place : ℕ) {j : TypeJudged} → IsBaseFound w place j → (faults : List ℕ) → IsBaseFound w place (record { type_of = j.type_of; faults = faults })
+same_base : (w : World) (place : ℕ) {j : TypeJudged} → IsBaseFound w place j → (faults : List ℕ) →
+    IsBaseFound w place (record { type_of = j.type_of; faults = faults })
 same_base w place f faults = record { symbol = f.symbol; bound_is = f.bound_is; no_pointer = f.no_pointer; type_is = f.type_is }
 
-base_settled : (w : World) (place : ℕ) (b : Bound) → w.bound place ≡ b → (received w place (named_type b place)).faults ≡ [] → IsBaseSettled w place (received w place (named_type b place))
+base_settled : (w : World) (place : ℕ) (b : Bound) → w.bound place ≡ b → (received w place (named_type b place)).faults ≡ [] →
+    IsBaseSettled w place (received w place (named_type b place))
 unfolding named_type
 base_settled w place (Means (TypeName t)) e h = inl (same_base w place (type_base w place t e h) (receiving w place (Some t)).faults)
 base_settled w place BrokenType e h = inr e
@@ -98,20 +110,24 @@ star_faults : (o : Option ℕ) (j : TypeJudged) → (starred o j).faults ≡ j.f
 star_faults None j = refl
 star_faults (Some p) j = refl
 
-star_found : (o : Option ℕ) (j : TypeJudged) (s : Symbol) → j.type_of ≡ Some (Defined s) → (t : PlainType) × IsBehindStar o (Defined s) t × ((starred o j).type_of ≡ Some t)
+star_found : (o : Option ℕ) (j : TypeJudged) (s : Symbol) → j.type_of ≡ Some (Defined s) → (t : PlainType) × IsBehindStar o (Defined s) t ×
+    ((starred o j).type_of ≡ Some t)
 star_found None j s e = (Defined s, no_star, e)
 star_found (Some p) j s e = (Pointer (Defined s), a_star, ap (option_map Pointer) e)
 
-receiver_found : (w : World) (s : Checked) (r : ReceiverTree) → IsBaseFound w r.type_name (receiver_base w r.type_name) → ReceiverIsTyped w s.locals r (with_locals s.locals (named_of r.name ∷ []) ((judge_receiver w r).type_of ∷ []))
+receiver_found : (w : World) (s : Checked) (r : ReceiverTree) → IsBaseFound w r.type_name (receiver_base w r.type_name) →
+    ReceiverIsTyped w s.locals r (with_locals s.locals (named_of r.name ∷ []) ((judge_receiver w r).type_of ∷ []))
 unfolding judge_receiver
 receiver_found w s r f = let q = star_found r.star (receiver_base w r.type_name) f.symbol f.type_is in
-    a_receiver f.bound_is f.no_pointer q.1 (subst (λ z. DeclareAs q.0 s.locals (named_of r.name ∷ []) (with_locals s.locals (named_of r.name ∷ []) (z ∷ []))) (sym q.2) (single_as_found r.name q.0 s.locals))
+    a_receiver f.bound_is f.no_pointer q.1 (subst (λ z. DeclareAs q.0 s.locals (named_of r.name ∷ []) (with_locals s.locals (named_of r.name ∷ [])
+    (z ∷ []))) (sym q.2) (single_as_found r.name q.0 s.locals))
 
 receiver_parts : (w : World) (r : ReceiverTree) → (judge_receiver w r).faults ≡ [] → IsBaseSettled w r.type_name (receiver_base w r.type_name)
 unfolding judge_receiver receiver_base
 receiver_parts w r h = base_settled w r.type_name (w.bound r.type_name) refl (sym (star_faults r.star (receiver_base w r.type_name)) ∙ h)
 
-receiver_settled : (w : World) (s : Checked) (r : ReceiverTree) → (check_receiver w s r).faults ≡ [] → IsSettled (ReceiverIsTyped w) (ReceiverIsExcused w) s r (check_receiver w s r)
+receiver_settled : (w : World) (s : Checked) (r : ReceiverTree) → (check_receiver w s r).faults ≡ [] →
+    IsSettled (ReceiverIsTyped w) (ReceiverIsExcused w) s r (check_receiver w s r)
 unfolding check_receiver
 receiver_settled w s r h = (
   empty_first s.faults (judge_receiver w r).faults h,
@@ -121,12 +137,14 @@ receiver_settled w s r h = (
   ],
 )
 
-optional_receiver_true : (w : World) (s : Checked) {o : Option ReceiverTree} {before after : Locals} → IsAt s before → IfPresent ReceiverTree (ReceiverIsTyped w) before o after → IsAt (check_optional_receiver w s o) after
+optional_receiver_true : (w : World) (s : Checked) {o : Option ReceiverTree} {before after : Locals} → IsAt s before →
+    IfPresent ReceiverTree (ReceiverIsTyped w) before o after → IsAt (check_optional_receiver w s o) after
 optional_receiver_true w s a absent = a
 optional_receiver_true w s a (present {after = after} {x = x} r) = receiver_true w s x after a.faultless (held (ReceiverIsTyped w) a r)
 
 optional_receiver_settled : (w : World) (s : Checked) (o : Option ReceiverTree) → (check_optional_receiver w s o).faults ≡ [] →
-    (s.faults ≡ []) × (IfPresent ReceiverTree (ReceiverIsTyped w) s.locals o (check_optional_receiver w s o).locals ⊎ ExcusedIfPresent ReceiverTree (ReceiverIsExcused w) s.locals o)
+    (s.faults ≡ []) × (IfPresent ReceiverTree (ReceiverIsTyped w) s.locals o (check_optional_receiver w s o).locals ⊎ ExcusedIfPresent ReceiverTree
+    (ReceiverIsExcused w) s.locals o)
 optional_receiver_settled w s None h = (h, inl absent)
 optional_receiver_settled w s (Some r) h = let q = receiver_settled w s r h in (q.0, elim q.1 [ inl x ↦ inl (present x) | inr e ↦ inr (excused_present e) ])
 
@@ -136,7 +154,8 @@ param_true : (w : World) (s : Checked) (p : ParamTree) (after : Locals) → s.fa
 unfolding check_param
 param_true w s p after h (a_param i d) = typed_names w s p.names h i d
 
-param_settled : (w : World) (s : Checked) (p : ParamTree) → (check_param w s p).faults ≡ [] → IsSettled (ParamIsTyped w) (ParamIsExcused w) s p (check_param w s p)
+param_settled : (w : World) (s : Checked) (p : ParamTree) → (check_param w s p).faults ≡ [] →
+    IsSettled (ParamIsTyped w) (ParamIsExcused w) s p (check_param w s p)
 unfolding check_param
 param_settled w s p h = (
   empty_first s.faults (judge_type w p.type_use).faults h,
@@ -152,7 +171,8 @@ record AreWanted (j : ResultsJudged) (ts : List PlainType) : Type 0 where
   wanted : AreTargets j.wanted ts
   faultless : j.faults ≡ []
 
-result_before : {j : TypeJudged} {rest : ResultsJudged} {t : PlainType} {ts : List PlainType} → j ≡ good_type t → AreWanted rest ts → AreWanted (result_then j rest) (t ∷ ts)
+result_before : {j : TypeJudged} {rest : ResultsJudged} {t : PlainType} {ts : List PlainType} → j ≡ good_type t → AreWanted rest ts →
+    AreWanted (result_then j rest) (t ∷ ts)
 result_before {j} {rest} {t} e more = record {
   wanted = ap (λ (z : TypeJudged). Wants z.type_of ∷ rest.wanted) e ∙ ap (λ z. Wants (Some t) ∷ z) more.wanted;
   faultless = empty_both j.faults rest.faults (ap (λ (z : TypeJudged). z.faults) e) more.faultless;
@@ -177,21 +197,28 @@ record AreResultsFound (R : List PlainType → Type 0) (wanted : List Target) : 
   typed : R types
   found : AreTargets wanted types
 
-wanted_then : {o : Option PlainType} {t : PlainType} {targets : List Target} (ts : List PlainType) → o ≡ Some t → AreTargets targets ts → AreTargets (Wants o ∷ targets) (t ∷ ts)
+wanted_then : {o : Option PlainType} {t : PlainType} {targets : List Target} (ts : List PlainType) → o ≡ Some t → AreTargets targets ts →
+    AreTargets (Wants o ∷ targets) (t ∷ ts)
 wanted_then {t = t} {targets} ts e f = ap (λ z. Wants z ∷ targets) e ∙ ap (λ z. Wants (Some t) ∷ z) f
 
-types_settled : (w : World) (is : List (Item TypeTree)) → (judge_types w is).faults ≡ [] → AreResultsFound (AreTypes w is) (judge_types w is).wanted ⊎ AnyIsBrokenType w is
+types_settled : (w : World) (is : List (Item TypeTree)) → (judge_types w is).faults ≡ [] → AreResultsFound (AreTypes w is)
+    (judge_types w is).wanted ⊎ AnyIsBrokenType w is
 unfolding judge_types
 types_settled w [] h = inl (record { types = []; typed = no_type_left; found = refl })
 types_settled w (i ∷ is) h = elim (type_or_broken w i.value (empty_first (judge_type w i.value).faults (judge_types w is).faults h)) [
   | inl t ↦ elim (types_settled w is (empty_second (judge_type w i.value).faults (judge_types w is).faults h)) [
-    | inl more ↦ inl (record { types = t.0 ∷ more.types; typed = also_type (true_type w i.value t.0 t.1) more.typed; found = wanted_then more.types t.1 more.found })
+    | inl more ↦ inl (record {
+      types = t.0 ∷ more.types;
+      typed = also_type (true_type w i.value t.0 t.1) more.typed;
+      found = wanted_then more.types t.1 more.found;
+    })
     | inr b ↦ inr (later_type b)
   ]
   | inr b ↦ inr (this_type b)
 ]
 
-results_settled : (w : World) (r : ResultTree) → (judge_results w r).faults ≡ [] → AreResultsFound (AreResults w r) (judge_results w r).wanted ⊎ ResultIsExcused w r
+results_settled : (w : World) (r : ResultTree) → (judge_results w r).faults ≡ [] → AreResultsFound (AreResults w r)
+    (judge_results w r).wanted ⊎ ResultIsExcused w r
 unfolding judge_results
 results_settled w tree.no_result h = inl (record { types = []; typed = none_written; found = refl })
 results_settled w (tree.one_result x) h = elim (type_or_broken w x (empty_first (judge_type w x).faults [] h)) [
@@ -223,7 +250,8 @@ init_true b f e another_name = refl
 init_true b f {targets} e (a_method q) = ap (λ z. init_test b z f.params targets) q ∙ and_false b
 init_true b f {targets} e (a_plain_one q) = ap (λ z. init_test b f.receiver z targets) q ∙ (ap (λ z. init_test b f.receiver [] z) e ∙ plain_init b f.receiver)
 
-init_cases : (b : Bool) (f : FuncTree) (o : Option ReceiverTree) (ps : List (Item ParamTree)) (ts : List PlainType) → f.receiver ≡ o → f.params ≡ ps → init_test b o ps (map aim (map OfType ts)) ≡ false → KeepsInit b f ts
+init_cases : (b : Bool) (f : FuncTree) (o : Option ReceiverTree) (ps : List (Item ParamTree)) (ts : List PlainType) → f.receiver ≡ o → f.params ≡ ps →
+    init_test b o ps (map aim (map OfType ts)) ≡ false → KeepsInit b f ts
 init_cases false f o ps ts e q h = another_name
 init_cases true f (Some r) ps ts e q h = a_method e
 init_cases true f None [] [] e q h = a_plain_one q
@@ -234,22 +262,27 @@ fault_none : (b : Bool) (place : ℕ) → fault_if b place ≡ [] → b ≡ fals
 fault_none true place h = no_fault h
 fault_none false place h = refl
 
-init_settled : (b : Bool) (f : FuncTree) (targets : List Target) (ts : List PlainType) → AreTargets targets ts → fault_if (is_bad_init b f targets) f.name ≡ [] → KeepsInit b f ts
+init_settled : (b : Bool) (f : FuncTree) (targets : List Target) (ts : List PlainType) → AreTargets targets ts →
+    fault_if (is_bad_init b f targets) f.name ≡ [] → KeepsInit b f ts
 unfolding is_bad_init
-init_settled b f targets ts e h = init_cases b f f.receiver f.params ts refl refl (ap (λ z. init_test b f.receiver f.params z) (sym e) ∙ fault_none (init_test b f.receiver f.params targets) f.name h)
+init_settled b f targets ts e h = init_cases b f f.receiver f.params ts refl refl (ap (λ z. init_test b f.receiver f.params z) (sym e)
+    ∙ fault_none (init_test b f.receiver f.params targets) f.name h)
 
 -- functions
 
 abbrev entered_at : World → Checked → FuncTree → Checked
 entered_at w s f = check_items (check_param w) (check_optional_receiver w s f.receiver) f.params
 
-signature_true : (w : World) (b : Bool) (s : Checked) (f : FuncTree) {entered : Locals} {ts : List PlainType} → IsAt (entered_at w s f) entered → AreResults w f.result ts → KeepsInit b f ts → IsAt (check_signature w b s f) entered
+signature_true : (w : World) (b : Bool) (s : Checked) (f : FuncTree) {entered : Locals} {ts : List PlainType} → IsAt (entered_at w s f) entered →
+    AreResults w f.result ts → KeepsInit b f ts → IsAt (check_signature w b s f) entered
 unfolding check_signature
 signature_true w b s f a r k = let q = results_true w r in
     reached (entered_at w s f) ((judge_results w f.result).faults ++ fault_if (is_bad_init b f (judge_results w f.result).wanted) f.name) [] a.faultless
-    (empty_both (judge_results w f.result).faults (fault_if (is_bad_init b f (judge_results w f.result).wanted) f.name) q.faultless (ap (λ z. fault_if z f.name) (init_true b f q.wanted k))) a.locals_are
+    (empty_both (judge_results w f.result).faults (fault_if (is_bad_init b f (judge_results w f.result).wanted) f.name) q.faultless (ap
+    (λ z. fault_if z f.name) (init_true b f q.wanted k))) a.locals_are
 
-pub function_true : (w : World) (b : Bool) (s : Checked) (f : FuncTree) (after : Locals) → s.faults ≡ [] → FunctionIsTyped w b s.locals f after → IsAt (check_function w b s f) after
+pub function_true : (w : World) (b : Bool) (s : Checked) (f : FuncTree) (after : Locals) → s.faults ≡ [] → FunctionIsTyped w b s.locals f after →
+    IsAt (check_function w b s f) after
 unfolding check_function
 function_true w b s f after h (a_function {ts = ts} r p rs k body) =
     let a = items_true (ParamIsTyped w) (check_param w) (param_true w) p (check_optional_receiver w s f.receiver) (optional_receiver_true w s (here s h) r) in
@@ -264,7 +297,11 @@ signature_parts : (w : World) (b : Bool) (s : Checked) (f : FuncTree) → (check
 unfolding check_signature
 signature_parts w b s f h = let i = fault_if (is_bad_init b f (judge_results w f.result).wanted) f.name in
     let q = empty_second (entered_at w s f).faults ((judge_results w f.result).faults ++ i) h in
-    record { before = empty_first (entered_at w s f).faults ((judge_results w f.result).faults ++ i) h; results = empty_first (judge_results w f.result).faults i q; plain = empty_second (judge_results w f.result).faults i q }
+    record {
+      before = empty_first (entered_at w s f).faults ((judge_results w f.result).faults ++ i) h;
+      results = empty_first (judge_results w f.result).faults i q;
+      plain = empty_second (judge_results w f.result).faults i q;
+    }
 
 signature_locals : (w : World) (b : Bool) (s : Checked) (f : FuncTree) → (check_signature w b s f).locals ≡ (entered_at w s f).locals
 unfolding check_signature
@@ -273,9 +310,12 @@ signature_locals w b s f = refl
 abbrev IsFunctionSettled : World → Bool → Checked → FuncTree → Checked → Type 0
 IsFunctionSettled w b s f after = FunctionIsTyped w b s.locals f after.locals ⊎ FunctionIsExcused w s.locals f
 
-with_results : (w : World) (b : Bool) (s : Checked) (f : FuncTree) → (check_block w (judge_results w f.result).wanted (check_signature w b s f) f.body).faults ≡ [] → IsSignatureFound w b s f →
-    {received : Locals} → IfPresent ReceiverTree (ReceiverIsTyped w) s.locals f.receiver received → InTurn ParamTree (ParamIsTyped w) received f.params (entered_at w s f).locals →
-    AreResultsFound (AreResults w f.result) (judge_results w f.result).wanted → IsFunctionSettled w b s f (check_block w (judge_results w f.result).wanted (check_signature w b s f) f.body)
+with_results : (w : World) (b : Bool) (s : Checked) (f : FuncTree) → (check_block w (judge_results w f.result).wanted
+    (check_signature w b s f) f.body).faults ≡ [] → IsSignatureFound w b s f →
+    {received : Locals} → IfPresent ReceiverTree (ReceiverIsTyped w) s.locals f.receiver received →
+    InTurn ParamTree (ParamIsTyped w) received f.params (entered_at w s f).locals →
+    AreResultsFound (AreResults w f.result) (judge_results w f.result).wanted → IsFunctionSettled w b s f (check_block w (judge_results w f.result).wanted
+    (check_signature w b s f) f.body)
 with_results w b s f h g r p rs = let q = block_settled w rs.types (judge_results w f.result).wanted rs.found f.body (check_signature w b s f) h in
     let l = signature_locals w b s f in
     elim q.1 [
@@ -284,7 +324,8 @@ with_results w b s f h g r p rs = let q = block_settled w rs.types (judge_result
       | inr u ↦ inr (in_body r p rs.typed (subst (λ z. BlockIsExcused w rs.types z f.body) l u))
     ]
 
-pub function_settled : (w : World) (b : Bool) (s : Checked) (f : FuncTree) → (check_function w b s f).faults ≡ [] → IsSettled (FunctionIsTyped w b) (FunctionIsExcused w) s f (check_function w b s f)
+pub function_settled : (w : World) (b : Bool) (s : Checked) (f : FuncTree) → (check_function w b s f).faults ≡ [] →
+    IsSettled (FunctionIsTyped w b) (FunctionIsExcused w) s f (check_function w b s f)
 unfolding check_function
 function_settled w b s f h = let g = signature_parts w b s f (block_first w (judge_results w f.result).wanted f.body (check_signature w b s f) h) in
     let p = items_settled (ParamIsTyped w) (ParamIsExcused w) (check_param w) (param_settled w) f.params (check_optional_receiver w s f.receiver) g.before in

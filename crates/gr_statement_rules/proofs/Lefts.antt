@@ -32,14 +32,18 @@ record IsLeft (l : Lefts) (t : Taker) : Type 0 where
   faultless : l.faults ≡ []
 
 left_then : {a b : Lefts} {t : Taker} {ts : List Taker} → IsLeft a t → AreLefts b ts → AreLefts (lefts_then a b) (t ∷ ts)
-left_then {a} {b} {t} {ts} h more = record { targets = ap (λ z. z ++ b.targets) h.target ∙ ap (λ z. aim t ∷ z) more.targets; faultless = empty_both a.faults b.faults h.faultless more.faultless }
+left_then {a} {b} {t} {ts} h more = record {
+  targets = ap (λ z. z ++ b.targets) h.target ∙ ap (λ z. aim t ∷ z) more.targets;
+  faultless = empty_both a.faults b.faults h.faultless more.faultless;
+}
 
 typed_or_not : (k : Kind) → ((t : PlainType) × (k ≡ Typed t)) ⊎ IsUntyped k
 typed_or_not (Typed t) = inl (t, refl)
 typed_or_not (Untyped b) = inr a_constant
 typed_or_not Nil = inr a_nil
 
-typed_target : {j : Judged} {t : PlainType} {a : Bool} → j.meaning ≡ Value (Typed t) a → j.faults ≡ [] → IsLeft (left_side (Wants (own_type j.meaning)) j) (OfType t)
+typed_target : {j : Judged} {t : PlainType} {a : Bool} → j.meaning ≡ Value (Typed t) a → j.faults ≡ [] →
+    IsLeft (left_side (Wants (own_type j.meaning)) j) (OfType t)
 unfolding own_type
 typed_target e f = record { target = ap (λ m. Wants (own_type m) ∷ []) e; faultless = f }
 
@@ -52,19 +56,23 @@ blank_left : (w : World) (locals : Locals) (p : ℕ) → IsLeft (assigned_one w 
 unfolding assigned_one
 blank_left w locals p = fresh_left
 
-other_left : (w : World) (locals : Locals) (e : ExprTree) → IsWhole (judge w locals e).meaning → assigned_one w locals e ≡ left_side (Wants (own_type (judge_operand w locals e).meaning)) (judge_operand w locals e)
+other_left : (w : World) (locals : Locals) (e : ExprTree) → IsWhole (judge w locals e).meaning →
+    assigned_one w locals e ≡ left_side (Wants (own_type (judge_operand w locals e).meaning)) (judge_operand w locals e)
 unfolding assigned_one judge
 other_left w locals (tree.Blank p) n = absurd (n refl)
 other_left w locals e n = refl
 
-operand_left : (w : World) (locals : Locals) (e : ExprTree) {t : PlainType} → HasMeaning w locals e (Value (Typed t) true) → IsLeft (assigned_one w locals e) (OfType t)
+operand_left : (w : World) (locals : Locals) (e : ExprTree) {t : PlainType} → HasMeaning w locals e (Value (Typed t) true) →
+    IsLeft (assigned_one w locals e) (OfType t)
 operand_left w locals e {t} h = let s = sound w locals h in let a = operand_true w locals e h in
     subst (λ z. IsLeft z (OfType t)) (sym (other_left w locals e (λ b. s.whole (sym s.meaning ∙ b)))) (typed_target a.meaning a.faultless)
 
-pub assigned_true : (w : World) (locals : Locals) {xs : List (Item ExprTree)} {ts : List Taker} → AreAssigned w locals xs ts → AreLefts (assigned w locals xs) ts
+pub assigned_true : (w : World) (locals : Locals) {xs : List (Item ExprTree)} {ts : List Taker} → AreAssigned w locals xs ts →
+    AreLefts (assigned w locals xs) ts
 unfolding assigned
 assigned_true w locals no_left = record { targets = refl; faultless = refl }
-assigned_true w locals (a_blank {i} {p = p} e more) = left_then (subst (λ z. IsLeft (assigned_one w locals z) Fresh) (sym e) (blank_left w locals p)) (assigned_true w locals more)
+assigned_true w locals (a_blank {i} {p = p} e more) = left_then (subst (λ z. IsLeft (assigned_one w locals z) Fresh) (sym e) (blank_left w locals p))
+    (assigned_true w locals more)
 assigned_true w locals (an_operand {i} h more) = left_then (operand_left w locals i.value h) (assigned_true w locals more)
 
 -- one left side of `=` without a fault, or excused
@@ -80,7 +88,12 @@ operand_found : (w : World) (locals : Locals) (i : Item ExprTree) → IsOperandF
     IsAssignedFound w locals i (Wants (own_type (judge_operand w locals i.value).meaning) ∷ []) ⊎ IsLeftExcused w locals i
 unfolding own_type
 operand_found w locals i o = elim (typed_or_not o.kind) [
-  | inl t ↦ inl (record { taker = OfType t.0; found = ap (λ m. Wants (own_type m) ∷ []) (o.found ∙ ap (λ k. Value k true) t.1); before = λ more. an_operand (subst (λ k. HasMeaning w locals i.value (Value k true)) t.1 o.means) more })
+  | inl t ↦ inl (record {
+    taker = OfType t.0;
+    found = ap (λ m. Wants (own_type m) ∷ []) (o.found
+        ∙ ap (λ k. Value k true) t.1);
+    before = λ more. an_operand (subst (λ k. HasMeaning w locals i.value (Value k true)) t.1 o.means) more;
+  })
   | inr u ↦ inr (λ is. left_no_variable o.means (without_type u))
 ]
 
@@ -89,7 +102,8 @@ operand_or_excused : (w : World) (locals : Locals) (i : Item ExprTree) → (judg
 operand_or_excused w locals i h = elim (operand_settled w locals i.value h) [ inl o ↦ operand_found w locals i o | inr u ↦ inr (λ is. left_uses u) ]
 
 -- a left side is `_`, or it is found as an operand
-assigned_cases : (w : World) (locals : Locals) (e : ExprTree) → ((p : ℕ) × (e ≡ tree.Blank p)) ⊎ (assigned_one w locals e ≡ left_side (Wants (own_type (judge_operand w locals e).meaning)) (judge_operand w locals e))
+assigned_cases : (w : World) (locals : Locals) (e : ExprTree) → ((p : ℕ) × (e ≡ tree.Blank p)) ⊎ (assigned_one w locals e ≡ left_side (Wants (own_type
+    (judge_operand w locals e).meaning)) (judge_operand w locals e))
 unfolding assigned_one
 assigned_cases w locals (tree.Blank p) = inl (p, refl)
 assigned_cases w locals e = inr refl
@@ -98,10 +112,12 @@ blank_target : (w : World) (locals : Locals) {e : ExprTree} {p : ℕ} → e ≡ 
 unfolding assigned_one
 blank_target w locals e = ap (λ z. (assigned_one w locals z).targets) e
 
-assigned_one_settled : (w : World) (locals : Locals) (i : Item ExprTree) → (assigned_one w locals i.value).faults ≡ [] → IsAssignedFound w locals i (assigned_one w locals i.value).targets ⊎ IsLeftExcused w locals i
+assigned_one_settled : (w : World) (locals : Locals) (i : Item ExprTree) → (assigned_one w locals i.value).faults ≡ [] →
+    IsAssignedFound w locals i (assigned_one w locals i.value).targets ⊎ IsLeftExcused w locals i
 assigned_one_settled w locals i h = elim (assigned_cases w locals i.value) [
   | inl b ↦ inl (record { taker = Fresh; found = blank_target w locals b.1; before = λ more. a_blank b.1 more })
-  | inr e ↦ subst (λ (z : Lefts). IsAssignedFound w locals i z.targets ⊎ IsLeftExcused w locals i) (sym e) (operand_or_excused w locals i (ap (λ (z : Lefts). z.faults) (sym e) ∙ h))
+  | inr e ↦ subst (λ (z : Lefts). IsAssignedFound w locals i z.targets ⊎ IsLeftExcused w locals i) (sym e) (operand_or_excused w locals i (ap (λ
+      (z : Lefts). z.faults) (sym e) ∙ h))
 ]
 
 -- left sides of `=` without a fault
@@ -110,16 +126,28 @@ pub record AreAssignedFound (w : World) (locals : Locals) (xs : List (Item ExprT
   pub found : targets ≡ map aim takers
   pub assigned : AreAssigned w locals xs takers
 
-assigned_then : (w : World) (locals : Locals) (i : Item ExprTree) (is : List (Item ExprTree)) {a b : List Target} → IsAssignedFound w locals i a → AreAssignedFound w locals is b → AreAssignedFound w locals (i ∷ is) (a ++ b)
-assigned_then w locals i is {a} {b} f more = record { takers = f.taker ∷ more.takers; found = ap (λ z. z ++ b) f.found ∙ ap (λ z. aim f.taker ∷ z) more.found; assigned = f.before more.assigned }
+assigned_then : (w : World) (locals : Locals) (i : Item ExprTree) (is : List (Item ExprTree)) {a b : List Target} → IsAssignedFound w locals i a →
+    AreAssignedFound w locals is b → AreAssignedFound w locals (i ∷ is) (a ++ b)
+assigned_then w locals i is {a} {b} f more = record {
+  takers = f.taker ∷ more.takers;
+  found = ap (λ z. z ++ b) f.found
+      ∙ ap (λ z. aim f.taker ∷ z) more.found;
+  assigned = f.before more.assigned;
+}
 
-pub assigned_settled : (w : World) (locals : Locals) (xs : List (Item ExprTree)) → (assigned w locals xs).faults ≡ [] → AreAssignedFound w locals xs (assigned w locals xs).targets ⊎ LeftIsExcused w locals xs
+pub assigned_settled : (w : World) (locals : Locals) (xs : List (Item ExprTree)) → (assigned w locals xs).faults ≡ [] →
+    AreAssignedFound w locals xs (assigned w locals xs).targets ⊎ LeftIsExcused w locals xs
 unfolding assigned
 assigned_settled w locals [] h = inl (record { takers = []; found = refl; assigned = no_left })
-assigned_settled w locals (i ∷ is) h = elim (assigned_one_settled w locals i (empty_first (assigned_one w locals i.value).faults (assigned w locals is).faults h)) [
-  | inl f ↦ elim (assigned_settled w locals is (empty_second (assigned_one w locals i.value).faults (assigned w locals is).faults h)) [ inl more ↦ inl (assigned_then w locals i is f more) | inr u ↦ inr (later_left u) ]
-  | inr u ↦ inr (u is)
-]
+assigned_settled w locals (i ∷ is) h = elim (assigned_one_settled w locals i (empty_first (assigned_one w locals i.value).faults
+    (assigned w locals is).faults h)) [
+      | inl f ↦ elim (assigned_settled w locals is (empty_second (assigned_one w locals i.value).faults (assigned w locals is).faults h)) [
+        | inl more ↦ inl
+            (assigned_then w locals i is f more)
+        | inr u ↦ inr (later_left u)
+      ]
+      | inr u ↦ inr (u is)
+    ]
 
 -- left sides of `:=`
 
@@ -145,17 +173,21 @@ underscore_name : (w : World) (locals : Locals) (p : ℕ) → IsName (defined_on
 unfolding defined_one defined_name
 underscore_name w locals p = record { left = fresh_left; name_is = refl }
 
-new_name : (w : World) (locals : Locals) (p : ℕ) → w.bound p ≡ Local p → IsName (defined_one w locals (tree.Name p)) (defined_name w (tree.Name p)) Fresh (Some p)
+new_name : (w : World) (locals : Locals) (p : ℕ) → w.bound p ≡ Local p → IsName (defined_one w locals (tree.Name p)) (defined_name w (tree.Name p)) Fresh
+    (Some p)
 unfolding defined_one defined_name
 new_name w locals p e = let d = own_test (w.bound p) p e in record {
-  left = subst (λ c. IsLeft (if c then left_side sides.Takes (record { meaning = Broken; faults = []; uses = [] }) else renewed w locals p) Fresh) (sym d) fresh_left;
+  left = subst (λ c. IsLeft (if c then left_side sides.Takes (record { meaning = Broken; faults = []; uses = [] }) else renewed w locals p) Fresh)
+      (sym d) fresh_left;
   name_is = ap (λ c. if c then Some p else None) d;
 }
 
-old_name : (w : World) (locals : Locals) (p : ℕ) {t : PlainType} → (w.bound p ≡ Local p → ⊥) → HasMeaning w locals (tree.Name p) (Value (Typed t) true) → IsName (defined_one w locals (tree.Name p)) (defined_name w (tree.Name p)) (OfType t) None
+old_name : (w : World) (locals : Locals) (p : ℕ) {t : PlainType} → (w.bound p ≡ Local p → ⊥) → HasMeaning w locals (tree.Name p) (Value (Typed t) true) →
+    IsName (defined_one w locals (tree.Name p)) (defined_name w (tree.Name p)) (OfType t) None
 unfolding defined_one defined_name
 old_name w locals p {t} n h = let d = not_own w p n (declares w p) refl in let a = value_true w locals (tree.Name p) h in record {
-  left = subst (λ c. IsLeft (if c then left_side sides.Takes (record { meaning = Broken; faults = []; uses = [] }) else renewed w locals p) (OfType t)) (sym d) (typed_target a.meaning a.faultless);
+  left = subst (λ c. IsLeft (if c then left_side sides.Takes (record { meaning = Broken; faults = []; uses = [] }) else renewed w locals p) (OfType t))
+      (sym d) (typed_target a.meaning a.faultless);
   name_is = ap (λ c. if c then Some p else None) d;
 }
 
@@ -163,25 +195,35 @@ pub record AreNames (w : World) (locals : Locals) (xs : List (Item ExprTree)) (t
   pub lefts : AreLefts (defined w locals xs) ts
   pub names : defined_names w xs ≡ ns
 
-name_then : (w : World) (locals : Locals) (i : Item ExprTree) (is : List (Item ExprTree)) {t : Taker} {n : Option ℕ} {ts : List Taker} {ns : List (Option ℕ)} → IsName (defined_one w locals i.value) (defined_name w i.value) t n →
+name_then : (w : World) (locals : Locals) (i : Item ExprTree) (is : List (Item ExprTree)) {t : Taker} {n : Option ℕ} {ts : List Taker} {ns : List
+    (Option ℕ)} → IsName (defined_one w locals i.value) (defined_name w i.value) t n →
     AreNames w locals is ts ns → AreNames w locals (i ∷ is) (t ∷ ts) (n ∷ ns)
 unfolding defined
-name_then w locals i is {n = n} f more = record { lefts = left_then f.left more.lefts; names = ap (λ z. z ∷ defined_names w is) f.name_is ∙ ap (λ z. n ∷ z) more.names }
+name_then w locals i is {n = n} f more = record {
+  lefts = left_then f.left more.lefts;
+  names = ap (λ z. z ∷ defined_names w is) f.name_is
+      ∙ ap (λ z. n ∷ z) more.names;
+}
 
 no_names : (w : World) (locals : Locals) → AreNames w locals [] [] []
 unfolding defined
 no_names w locals = record { lefts = record { targets = refl; faultless = refl }; names = refl }
 
-named_as : (w : World) (locals : Locals) {e f : ExprTree} {t : Taker} {n : Option ℕ} → e ≡ f → IsName (defined_one w locals f) (defined_name w f) t n → IsName (defined_one w locals e) (defined_name w e) t n
+named_as : (w : World) (locals : Locals) {e f : ExprTree} {t : Taker} {n : Option ℕ} → e ≡ f → IsName (defined_one w locals f) (defined_name w f) t n →
+    IsName (defined_one w locals e) (defined_name w e) t n
 named_as w locals {t = t} {n = n} e h = subst (λ z. IsName (defined_one w locals z) (defined_name w z) t n) (sym e) h
 
-pub defined_true : (w : World) (locals : Locals) {xs : List (Item ExprTree)} {ts : List Taker} {ns : List (Option ℕ)} → AreDefined w locals xs ts ns → AreNames w locals xs ts ns
+pub defined_true : (w : World) (locals : Locals) {xs : List (Item ExprTree)} {ts : List Taker} {ns : List (Option ℕ)} → AreDefined w locals xs ts ns →
+    AreNames w locals xs ts ns
 defined_true w locals no_definition = no_names w locals
-defined_true w locals (an_underscore {i} {is} {p} e more) = name_then w locals i is (named_as w locals e (underscore_name w locals p)) (defined_true w locals more)
+defined_true w locals (an_underscore {i} {is} {p} e more) = name_then w locals i is (named_as w locals e (underscore_name w locals p))
+    (defined_true w locals more)
 defined_true w locals (a_new_name {i} {is} {p} e b more) = name_then w locals i is (named_as w locals e (new_name w locals p b)) (defined_true w locals more)
-defined_true w locals (an_old_name {i} {is} {p} e b h more) = name_then w locals i is (named_as w locals e (old_name w locals p b h)) (defined_true w locals more)
+defined_true w locals (an_old_name {i} {is} {p} e b h more) = name_then w locals i is (named_as w locals e (old_name w locals p b h))
+    (defined_true w locals more)
 
-pub defined_new : {w : World} {locals : Locals} {xs : List (Item ExprTree)} {ts : List Taker} {ns : List (Option ℕ)} → AreDefined w locals xs ts ns → AreNew ts ns
+pub defined_new : {w : World} {locals : Locals} {xs : List (Item ExprTree)} {ts : List Taker} {ns : List (Option ℕ)} → AreDefined w locals xs ts ns →
+    AreNew ts ns
 defined_new no_definition = tt
 defined_new (an_underscore e more) = defined_new more
 defined_new (a_new_name e b more) = defined_new more
@@ -191,22 +233,30 @@ defined_new (an_old_name e b h more) = defined_new more
 record IsDefinedFound (w : World) (locals : Locals) (i : Item ExprTree) (targets : List Target) (name : Option ℕ) : Type 0 where
   taker : Taker
   found : targets ≡ aim taker ∷ []
-  before : {is : List (Item ExprTree)} {ts : List Taker} {ns : List (Option ℕ)} → AreDefined w locals is ts ns → AreDefined w locals (i ∷ is) (taker ∷ ts) (name ∷ ns)
+  before : {is : List (Item ExprTree)} {ts : List Taker} {ns : List (Option ℕ)} → AreDefined w locals is ts ns →
+      AreDefined w locals (i ∷ is) (taker ∷ ts) (name ∷ ns)
 
 abbrev IsOneSettled : World → Locals → Item ExprTree → Lefts → Option ℕ → Type 0
 IsOneSettled w locals i l n = IsDefinedFound w locals i l.targets n ⊎ IsLeftExcused w locals i
 
-old_found : (w : World) (locals : Locals) (i : Item ExprTree) (p : ℕ) → i.value ≡ tree.Name p → (w.bound p ≡ Local p → ⊥) → (k : Kind) (a : Bool) → (judge_value w locals (tree.Name p)).meaning ≡ Value k a →
+old_found : (w : World) (locals : Locals) (i : Item ExprTree) (p : ℕ) → i.value ≡ tree.Name p → (w.bound p ≡ Local p → ⊥) → (k : Kind) (a : Bool) →
+    (judge_value w locals (tree.Name p)).meaning ≡ Value k a →
     HasMeaning w locals (tree.Name p) (Value k a) → IsOneSettled w locals i (renewed w locals p) None
 unfolding own_type
-old_found w locals i p e n (Typed t) true f h = inl (record { taker = OfType t; found = ap (λ m. Wants (own_type m) ∷ []) f; before = λ more. an_old_name e n h more })
+old_found w locals i p e n (Typed t) true f h = inl (record {
+  taker = OfType t;
+  found = ap (λ m. Wants (own_type m) ∷ []) f;
+  before = λ more. an_old_name e n h more;
+})
 old_found w locals i p e n k false f h = inr (λ is. left_no_variable (subst (λ z. HasMeaning w locals z (Value k false)) (sym e) h) constant)
-old_found w locals i p e n (Untyped b) true f h = inr (λ is. left_no_variable (subst (λ z. HasMeaning w locals z (Value (Untyped b) true)) (sym e) h) (without_type a_constant))
+old_found w locals i p e n (Untyped b) true f h = inr (λ is. left_no_variable (subst (λ z. HasMeaning w locals z (Value (Untyped b) true)) (sym e) h)
+    (without_type a_constant))
 old_found w locals i p e n Nil true f h = inr (λ is. left_no_variable (subst (λ z. HasMeaning w locals z (Value Nil true)) (sym e) h) (without_type a_nil))
 
 name_settled : (w : World) (locals : Locals) (i : Item ExprTree) (p : ℕ) → i.value ≡ tree.Name p → (b : Bool) → declares w p ≡ b →
     (if b then left_side sides.Takes (record { meaning = Broken; faults = []; uses = [] }) else renewed w locals p).faults ≡ [] →
-    IsOneSettled w locals i (if b then left_side sides.Takes (record { meaning = Broken; faults = []; uses = [] }) else renewed w locals p) (if b then Some p else None)
+    IsOneSettled w locals i (if b then left_side sides.Takes (record { meaning = Broken; faults = []; uses = [] }) else renewed w locals p)
+    (if b then Some p else None)
 name_settled w locals i p e true d h = inl (record { taker = Fresh; found = refl; before = λ more. a_new_name e (test_own (w.bound p) p d) more })
 name_settled w locals i p e false d h = elim (value_settled w locals (tree.Name p) h) [
   | inl v ↦ old_found w locals i p e (λ q. true≢false (sym (own_test (w.bound p) p q) ∙ d)) v.kind v.addressable v.found v.means
@@ -217,17 +267,20 @@ no_name_fault : {A : Type 0} (place : ℕ) {m : Meaning} {k : Kind} {a : Bool} �
 unfolding no_name
 no_name_fault place e h = no_fault (ap (λ m. (no_name place m).faults) (sym e) ∙ h)
 
-others_excused : (w : World) (locals : Locals) (i : Item ExprTree) (place : ℕ) (l : Lefts) (n : Option ℕ) → (judge_value w locals i.value).faults ++ (no_name place (judge_value w locals i.value).meaning).faults ≡ [] → IsOneSettled w locals i l n
-others_excused w locals i place l n h = elim (value_settled w locals i.value (empty_first (judge_value w locals i.value).faults (no_name place (judge_value w locals i.value).meaning).faults h)) [
-  | inl v ↦ no_name_fault place v.found (empty_second (judge_value w locals i.value).faults (no_name place (judge_value w locals i.value).meaning).faults h)
-  | inr u ↦ inr (λ is. left_uses u)
-]
+others_excused : (w : World) (locals : Locals) (i : Item ExprTree) (place : ℕ) (l : Lefts) (n : Option ℕ) →
+    (judge_value w locals i.value).faults ++ (no_name place (judge_value w locals i.value).meaning).faults ≡ [] → IsOneSettled w locals i l n
+others_excused w locals i place l n h = elim (value_settled w locals i.value (empty_first (judge_value w locals i.value).faults (no_name place
+    (judge_value w locals i.value).meaning).faults h)) [
+      | inl v ↦ no_name_fault place v.found (empty_second (judge_value w locals i.value).faults (no_name place (judge_value w locals i.value).meaning).faults h)
+      | inr u ↦ inr (λ is. left_uses u)
+    ]
 
 -- a left side is `_`, a name, or neither
 data Sort (w : World) (locals : Locals) (e : ExprTree) : Type 0 where
   blank_sort : {p : ℕ} → e ≡ tree.Blank p → Sort w locals e
   name_sort : {p : ℕ} → e ≡ tree.Name p → Sort w locals e
-  other_sort : ((defined_one w locals e).faults ≡ (judge_value w locals e).faults ++ (no_name (place_of e) (judge_value w locals e).meaning).faults) → Sort w locals e
+  other_sort : ((defined_one w locals e).faults ≡ (judge_value w locals e).faults ++ (no_name (place_of e) (judge_value w locals e).meaning).faults) →
+      Sort w locals e
 
 sort_of : (w : World) (locals : Locals) (e : ExprTree) → Sort w locals e
 unfolding defined_one
@@ -235,18 +288,22 @@ sort_of w locals (tree.Blank p) = blank_sort refl
 sort_of w locals (tree.Name p) = name_sort refl
 sort_of w locals e = other_sort refl
 
-settled_as : (w : World) (locals : Locals) (i : Item ExprTree) {e f : ExprTree} → e ≡ f → IsOneSettled w locals i (defined_one w locals f) (defined_name w f) → IsOneSettled w locals i (defined_one w locals e) (defined_name w e)
+settled_as : (w : World) (locals : Locals) (i : Item ExprTree) {e f : ExprTree} → e ≡ f → IsOneSettled w locals i (defined_one w locals f)
+    (defined_name w f) → IsOneSettled w locals i (defined_one w locals e) (defined_name w e)
 settled_as w locals i e h = subst (λ z. IsOneSettled w locals i (defined_one w locals z) (defined_name w z)) (sym e) h
 
-blank_settled : (w : World) (locals : Locals) (i : Item ExprTree) (p : ℕ) → i.value ≡ tree.Blank p → IsOneSettled w locals i (defined_one w locals (tree.Blank p)) (defined_name w (tree.Blank p))
+blank_settled : (w : World) (locals : Locals) (i : Item ExprTree) (p : ℕ) → i.value ≡ tree.Blank p →
+    IsOneSettled w locals i (defined_one w locals (tree.Blank p)) (defined_name w (tree.Blank p))
 unfolding defined_one defined_name
 blank_settled w locals i p e = inl (record { taker = Fresh; found = refl; before = λ more. an_underscore e more })
 
-a_name_settled : (w : World) (locals : Locals) (i : Item ExprTree) (p : ℕ) → i.value ≡ tree.Name p → (defined_one w locals (tree.Name p)).faults ≡ [] → IsOneSettled w locals i (defined_one w locals (tree.Name p)) (defined_name w (tree.Name p))
+a_name_settled : (w : World) (locals : Locals) (i : Item ExprTree) (p : ℕ) → i.value ≡ tree.Name p → (defined_one w locals (tree.Name p)).faults ≡ [] →
+    IsOneSettled w locals i (defined_one w locals (tree.Name p)) (defined_name w (tree.Name p))
 unfolding defined_one defined_name
 a_name_settled w locals i p e h = name_settled w locals i p e (declares w p) refl h
 
-defined_one_settled : (w : World) (locals : Locals) (i : Item ExprTree) → (defined_one w locals i.value).faults ≡ [] → IsOneSettled w locals i (defined_one w locals i.value) (defined_name w i.value)
+defined_one_settled : (w : World) (locals : Locals) (i : Item ExprTree) → (defined_one w locals i.value).faults ≡ [] →
+    IsOneSettled w locals i (defined_one w locals i.value) (defined_name w i.value)
 defined_one_settled w locals i h = elim (sort_of w locals i.value) [
   | blank_sort {p} e ↦ settled_as w locals i e (blank_settled w locals i p e)
   | name_sort {p} e ↦ settled_as w locals i e (a_name_settled w locals i p e (ap (λ z. (defined_one w locals z).faults) (sym e) ∙ h))
@@ -258,14 +315,25 @@ pub record AreDefinedFound (w : World) (locals : Locals) (xs : List (Item ExprTr
   pub found : targets ≡ map aim takers
   pub defined_are : AreDefined w locals xs takers (defined_names w xs)
 
-defined_then : (w : World) (locals : Locals) (i : Item ExprTree) (is : List (Item ExprTree)) {a b : List Target} → IsDefinedFound w locals i a (defined_name w i.value) → AreDefinedFound w locals is b →
+defined_then : (w : World) (locals : Locals) (i : Item ExprTree) (is : List (Item ExprTree)) {a b : List Target} →
+    IsDefinedFound w locals i a (defined_name w i.value) → AreDefinedFound w locals is b →
     AreDefinedFound w locals (i ∷ is) (a ++ b)
-defined_then w locals i is {a} {b} f more = record { takers = f.taker ∷ more.takers; found = ap (λ z. z ++ b) f.found ∙ ap (λ z. aim f.taker ∷ z) more.found; defined_are = f.before more.defined_are }
+defined_then w locals i is {a} {b} f more = record {
+  takers = f.taker ∷ more.takers;
+  found = ap (λ z. z ++ b) f.found
+      ∙ ap (λ z. aim f.taker ∷ z) more.found;
+  defined_are = f.before more.defined_are;
+}
 
-pub defined_settled : (w : World) (locals : Locals) (xs : List (Item ExprTree)) → (defined w locals xs).faults ≡ [] → AreDefinedFound w locals xs (defined w locals xs).targets ⊎ LeftIsExcused w locals xs
+pub defined_settled : (w : World) (locals : Locals) (xs : List (Item ExprTree)) → (defined w locals xs).faults ≡ [] →
+    AreDefinedFound w locals xs (defined w locals xs).targets ⊎ LeftIsExcused w locals xs
 unfolding defined
 defined_settled w locals [] h = inl (record { takers = []; found = refl; defined_are = no_definition })
 defined_settled w locals (i ∷ is) h = elim (defined_one_settled w locals i (empty_first (defined_one w locals i.value).faults (defined w locals is).faults h)) [
-  | inl f ↦ elim (defined_settled w locals is (empty_second (defined_one w locals i.value).faults (defined w locals is).faults h)) [ inl more ↦ inl (defined_then w locals i is f more) | inr u ↦ inr (later_left u) ]
+  | inl f ↦ elim (defined_settled w locals is (empty_second (defined_one w locals i.value).faults (defined w locals is).faults h)) [
+    | inl more ↦ inl
+        (defined_then w locals i is f more)
+    | inr u ↦ inr (later_left u)
+  ]
   | inr u ↦ inr (u is)
 ]

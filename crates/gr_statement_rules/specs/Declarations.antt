@@ -19,15 +19,18 @@ pub data IsBehindStar : Option ℕ → PlainType → PlainType → Type 0 where
 
 -- a receiver: of T or `*T`, where T is a definition whose underlying type is no pointer
 pub data ReceiverIsTyped (w : World) : Locals → ReceiverTree → Locals → Type 0 where
-  a_receiver : {before after : Locals} {r : ReceiverTree} {s : Symbol} {t : PlainType} → w.bound r.type_name ≡ Means (TypeName (Defined s)) → ((u : PlainType) → w.definition s ≡ PointerTo u → ⊥) →
+  a_receiver : {before after : Locals} {r : ReceiverTree} {s : Symbol} {t : PlainType} → w.bound r.type_name ≡ Means (TypeName (Defined s)) →
+      ((u : PlainType) → w.definition s ≡ PointerTo u → ⊥) →
       IsBehindStar r.star (Defined s) t → DeclareAs t before (named r.name ∷ []) after → ReceiverIsTyped w before r after
 
 pub data ParamIsTyped (w : World) : Locals → ParamTree → Locals → Type 0 where
-  a_param : {before after : Locals} {p : ParamTree} {t : PlainType} → IsType w p.type_use t → DeclareAs t before (all_named p.names) after → ParamIsTyped w before p after
+  a_param : {before after : Locals} {p : ParamTree} {t : PlainType} → IsType w p.type_use t → DeclareAs t before (all_named p.names) after →
+      ParamIsTyped w before p after
 
 pub data AreTypes (w : World) : List (Item TypeTree) → List PlainType → Type 0 where
   no_type_left : AreTypes w [] []
-  also_type : {i : Item TypeTree} {is : List (Item TypeTree)} {t : PlainType} {ts : List PlainType} → IsType w i.value t → AreTypes w is ts → AreTypes w (i ∷ is) (t ∷ ts)
+  also_type : {i : Item TypeTree} {is : List (Item TypeTree)} {t : PlainType} {ts : List PlainType} → IsType w i.value t → AreTypes w is ts →
+      AreTypes w (i ∷ is) (t ∷ ts)
 
 pub data AreResults (w : World) : ResultTree → List PlainType → Type 0 where
   none_written : AreResults w tree.no_result []
@@ -42,19 +45,24 @@ pub data KeepsInit : Bool → FuncTree → List PlainType → Type 0 where
 
 -- is_init: whether the function's name is `init`
 pub data FunctionIsTyped (w : World) (is_init : Bool) : Locals → FuncTree → Locals → Type 0 where
-  a_function : {before received entered after : Locals} {f : FuncTree} {ts : List PlainType} → IfPresent ReceiverTree (ReceiverIsTyped w) before f.receiver received →
-      InTurn ParamTree (ParamIsTyped w) received f.params entered → AreResults w f.result ts → KeepsInit is_init f ts → BlockIsTyped w ts entered f.body after → FunctionIsTyped w is_init before f after
+  a_function : {before received entered after : Locals} {f : FuncTree} {ts : List PlainType} →
+      IfPresent ReceiverTree (ReceiverIsTyped w) before f.receiver received →
+      InTurn ParamTree (ParamIsTyped w) received f.params entered → AreResults w f.result ts → KeepsInit is_init f ts →
+      BlockIsTyped w ts entered f.body after → FunctionIsTyped w is_init before f after
 
 -- literals, with their kinds
 pub data AreLiterals : List (Item BasicTree) → List Kind → Type 0 where
   no_literal : AreLiterals [] []
-  an_integer : {i : Item BasicTree} {is : List (Item BasicTree)} {p : ℕ} {ks : List Kind} → i.value ≡ Integer p → AreLiterals is ks → AreLiterals (i ∷ is) (Untyped basic.Int ∷ ks)
-  a_string : {i : Item BasicTree} {is : List (Item BasicTree)} {p : ℕ} {ks : List Kind} → i.value ≡ String p → AreLiterals is ks → AreLiterals (i ∷ is) (Untyped basic.String ∷ ks)
+  an_integer : {i : Item BasicTree} {is : List (Item BasicTree)} {p : ℕ} {ks : List Kind} → i.value ≡ Integer p → AreLiterals is ks →
+      AreLiterals (i ∷ is) (Untyped basic.Int ∷ ks)
+  a_string : {i : Item BasicTree} {is : List (Item BasicTree)} {p : ℕ} {ks : List Kind} → i.value ≡ String p → AreLiterals is ks →
+      AreLiterals (i ∷ is) (Untyped basic.String ∷ ks)
 
 -- variables of a package, which declare no local: of a type, without values, or with literals that fit it
 pub data GlobalIsTyped (w : World) : Locals → GlobalTree → Locals → Type 0 where
   without_values : {locals : Locals} {g : GlobalTree} {t : PlainType} → IsType w g.type_use t → g.values ≡ None → GlobalIsTyped w locals g locals
-  with_literals : {locals : Locals} {g : GlobalTree} {t : PlainType} {v : ℕ × List (Item BasicTree)} {ks : List Kind} → IsType w g.type_use t → g.values ≡ Some v → AreLiterals v.1 ks →
+  with_literals : {locals : Locals} {g : GlobalTree} {t : PlainType} {v : ℕ × List (Item BasicTree)} {ks : List Kind} → IsType w g.type_use t →
+      g.values ≡ Some v → AreLiterals v.1 ks →
       TakenInTurn w ks (map (λ i. OfType t) g.names) → GlobalIsTyped w locals g locals
 
 pub data FieldsAreTyped (w : World) : List (Item FieldTree) → Type 0 where
@@ -70,13 +78,17 @@ pub data TypeIsTyped (w : World) : Locals → TypeSpecTree → Locals → Type 0
 
 -- is_init: whether the name at a place is `init`
 pub data DeclIsTyped (w : World) (is_init : ℕ → Bool) : Locals → DeclTree → Locals → Type 0 where
-  variables : {before after : Locals} {p c : ℕ} {g : Group GlobalTree} → InGroup GlobalTree (GlobalIsTyped w) before g after → DeclIsTyped w is_init before (tree.VarDecl p g c) after
-  types : {before after : Locals} {p c : ℕ} {g : Group TypeSpecTree} → InGroup TypeSpecTree (TypeIsTyped w) before g after → DeclIsTyped w is_init before (tree.TypeDecl p g c) after
-  one_function : {before after : Locals} {p c : ℕ} {f : FuncTree} → FunctionIsTyped w (is_init f.name) before f after → DeclIsTyped w is_init before (tree.FuncDecl p f c) after
+  variables : {before after : Locals} {p c : ℕ} {g : Group GlobalTree} → InGroup GlobalTree (GlobalIsTyped w) before g after →
+      DeclIsTyped w is_init before (tree.VarDecl p g c) after
+  types : {before after : Locals} {p c : ℕ} {g : Group TypeSpecTree} → InGroup TypeSpecTree (TypeIsTyped w) before g after →
+      DeclIsTyped w is_init before (tree.TypeDecl p g c) after
+  one_function : {before after : Locals} {p c : ℕ} {f : FuncTree} → FunctionIsTyped w (is_init f.name) before f after →
+      DeclIsTyped w is_init before (tree.FuncDecl p f c) after
 
 pub data DeclsAreTyped (w : World) (is_init : ℕ → Bool) : Locals → List DeclTree → Locals → Type 0 where
   no_decl : {locals : Locals} → DeclsAreTyped w is_init locals [] locals
-  also_decl : {before inside after : Locals} {d : DeclTree} {ds : List DeclTree} → DeclIsTyped w is_init before d inside → DeclsAreTyped w is_init inside ds after →
+  also_decl : {before inside after : Locals} {d : DeclTree} {ds : List DeclTree} → DeclIsTyped w is_init before d inside →
+      DeclsAreTyped w is_init inside ds after →
       DeclsAreTyped w is_init before (d ∷ ds) after
 
 -- a file that keeps the typing rules: its declarations do, from the first on

@@ -29,7 +29,8 @@ pub data AnyUsesBroken (w : World) (locals : Locals) : List (Item ExprTree) → 
 -- one of several left sides
 pub data LeftIsExcused (w : World) (locals : Locals) : List (Item ExprTree) → Type 0 where
   left_uses : {i : Item ExprTree} {is : List (Item ExprTree)} → UsesBroken w locals i.value → LeftIsExcused w locals (i ∷ is)
-  left_no_variable : {i : Item ExprTree} {is : List (Item ExprTree)} {k : Kind} {a : Bool} → HasMeaning w locals i.value (Value k a) → IsNoVariable k a → LeftIsExcused w locals (i ∷ is)
+  left_no_variable : {i : Item ExprTree} {is : List (Item ExprTree)} {k : Kind} {a : Bool} → HasMeaning w locals i.value (Value k a) → IsNoVariable k a →
+      LeftIsExcused w locals (i ∷ is)
   later_left : {i : Item ExprTree} {is : List (Item ExprTree)} → LeftIsExcused w locals is → LeftIsExcused w locals (i ∷ is)
 
 pub data SimpleIsExcused (w : World) : Locals → SimpleTree → Type 0 where
@@ -37,7 +38,8 @@ pub data SimpleIsExcused (w : World) : Locals → SimpleTree → Type 0 where
   in_step : {locals : Locals} {e : ExprTree} {o : StepOp} {p : ℕ} → UsesBroken w locals e → SimpleIsExcused w locals (tree.Step e o p)
   in_updated : {locals : Locals} {x y : ExprTree} {o : UpdateOp} {p : ℕ} → UsesBroken w locals x → SimpleIsExcused w locals (tree.Update x o p y)
   in_update : {locals : Locals} {x y : ExprTree} {o : UpdateOp} {p : ℕ} → UsesBroken w locals y → SimpleIsExcused w locals (tree.Update x o p y)
-  updated_without_type : {locals : Locals} {x y : ExprTree} {o : UpdateOp} {p : ℕ} {k : Kind} → HasMeaning w locals x (Value k true) → IsUntyped k → SimpleIsExcused w locals (tree.Update x o p y)
+  updated_without_type : {locals : Locals} {x y : ExprTree} {o : UpdateOp} {p : ℕ} {k : Kind} → HasMeaning w locals x (Value k true) → IsUntyped k →
+      SimpleIsExcused w locals (tree.Update x o p y)
   in_assigned : {locals : Locals} {xs ys : List (Item ExprTree)} {p : ℕ} → LeftIsExcused w locals xs → SimpleIsExcused w locals (tree.Assign xs p ys)
   in_assignment : {locals : Locals} {xs ys : List (Item ExprTree)} {p : ℕ} → AnyUsesBroken w locals ys → SimpleIsExcused w locals (tree.Assign xs p ys)
   in_defined : {locals : Locals} {xs ys : List (Item ExprTree)} {p : ℕ} → LeftIsExcused w locals xs → SimpleIsExcused w locals (tree.Define xs p ys)
@@ -45,7 +47,8 @@ pub data SimpleIsExcused (w : World) : Locals → SimpleTree → Type 0 where
 
 pub data LocalIsExcused (w : World) : Locals → LocalTree → Type 0 where
   of_broken_type : {locals : Locals} {l : LocalTree} {x : TypeTree} → l.type_use ≡ Some x → IsBrokenType w x → LocalIsExcused w locals l
-  of_broken_value : {locals : Locals} {l : LocalTree} {v : ℕ × List (Item ExprTree)} → l.values ≡ Some v → AnyUsesBroken w locals v.1 → LocalIsExcused w locals l
+  of_broken_value : {locals : Locals} {l : LocalTree} {v : ℕ × List (Item ExprTree)} → l.values ≡ Some v → AnyUsesBroken w locals v.1 →
+      LocalIsExcused w locals l
   of_nothing : {locals : Locals} {l : LocalTree} → l.type_use ≡ None → l.values ≡ None → LocalIsExcused w locals l
 
 pub data InitIsExcused (w : World) : Locals → InitTree → Type 0 where
@@ -53,40 +56,54 @@ pub data InitIsExcused (w : World) : Locals → InitTree → Type 0 where
 
 pub data HeaderIsExcused (w : World) : Locals → ForTree → Type 0 where
   in_while : {locals : Locals} {e : ExprTree} → UsesBroken w locals e → HeaderIsExcused w locals (tree.while e)
-  in_first : {before : Locals} {init post : Option SimpleTree} {condition : Option ExprTree} {p q : ℕ} → ExcusedIfPresent SimpleTree (SimpleIsExcused w) before init →
+  in_first : {before : Locals} {init post : Option SimpleTree} {condition : Option ExprTree} {p q : ℕ} →
+      ExcusedIfPresent SimpleTree (SimpleIsExcused w) before init →
       HeaderIsExcused w before (tree.clauses init p condition q post)
-  in_test : {before entered : Locals} {init post : Option SimpleTree} {condition : Option ExprTree} {p q : ℕ} → IfPresent SimpleTree (SimpleIsTyped w) before init entered →
+  in_test : {before entered : Locals} {init post : Option SimpleTree} {condition : Option ExprTree} {p q : ℕ} →
+      IfPresent SimpleTree (SimpleIsTyped w) before init entered →
       ExcusedIfPresent ExprTree (UsesBroken w) entered condition → HeaderIsExcused w before (tree.clauses init p condition q post)
-  in_post : {before entered tested : Locals} {init post : Option SimpleTree} {condition : Option ExprTree} {p q : ℕ} → IfPresent SimpleTree (SimpleIsTyped w) before init entered →
-      IfPresent ExprTree (ConditionIsTyped w) entered condition tested → ExcusedIfPresent SimpleTree (SimpleIsExcused w) tested post → HeaderIsExcused w before (tree.clauses init p condition q post)
+  in_post : {before entered tested : Locals} {init post : Option SimpleTree} {condition : Option ExprTree} {p q : ℕ} →
+      IfPresent SimpleTree (SimpleIsTyped w) before init entered →
+      IfPresent ExprTree (ConditionIsTyped w) entered condition tested → ExcusedIfPresent SimpleTree (SimpleIsExcused w) tested post →
+      HeaderIsExcused w before (tree.clauses init p condition q post)
 
 mutual
   pub data StatementIsExcused (w : World) (results : List PlainType) : Locals → StatementTree → Type 0 where
-    in_declaration : {before : Locals} {p : ℕ} {g : Group LocalTree} → ExcusedInGroup LocalTree (LocalIsTyped w) (LocalIsExcused w) before g → StatementIsExcused w results before (tree.Var p g)
+    in_declaration : {before : Locals} {p : ℕ} {g : Group LocalTree} → ExcusedInGroup LocalTree (LocalIsTyped w) (LocalIsExcused w) before g →
+        StatementIsExcused w results before (tree.Var p g)
     in_simple : {before : Locals} {s : SimpleTree} → SimpleIsExcused w before s → StatementIsExcused w results before (tree.Simple s)
     in_inner : {before : Locals} {b : BlockTree} → BlockIsExcused w results before b → StatementIsExcused w results before (tree.Inner b)
     in_choice : {before : Locals} {i : IfTree} → IfIsExcused w results before i → StatementIsExcused w results before (tree.If i)
     in_header : {before : Locals} {p : ℕ} {h : ForTree} {b : BlockTree} → HeaderIsExcused w before h → StatementIsExcused w results before (tree.For p h b)
-    in_loop : {before entered : Locals} {p : ℕ} {h : ForTree} {b : BlockTree} → HeaderIsTyped w before h entered → BlockIsExcused w results entered b → StatementIsExcused w results before (tree.For p h b)
+    in_loop : {before entered : Locals} {p : ℕ} {h : ForTree} {b : BlockTree} → HeaderIsTyped w before h entered → BlockIsExcused w results entered b →
+        StatementIsExcused w results before (tree.For p h b)
     in_return : {before : Locals} {p : ℕ} {es : List (Item ExprTree)} → AnyUsesBroken w before es → StatementIsExcused w results before (tree.Return p es)
 
   pub data BlockIsExcused (w : World) (results : List PlainType) : Locals → BlockTree → Type 0 where
-    in_block : {before : Locals} {o c : ℕ} {ss : StatementTrees} → StatementsAreExcused w results before ss → BlockIsExcused w results before (tree.block o ss c)
+    in_block : {before : Locals} {o c : ℕ} {ss : StatementTrees} → StatementsAreExcused w results before ss →
+        BlockIsExcused w results before (tree.block o ss c)
 
   pub data StatementsAreExcused (w : World) (results : List PlainType) : Locals → StatementTrees → Type 0 where
-    this_statement : {before : Locals} {s : StatementTree} {p : Option ℕ} {rest : StatementTrees} → StatementIsExcused w results before s → StatementsAreExcused w results before (tree.statement s p rest)
-    later_statement : {before inside : Locals} {s : StatementTree} {p : Option ℕ} {rest : StatementTrees} → StatementIsTyped w results before s inside → StatementsAreExcused w results inside rest →
+    this_statement : {before : Locals} {s : StatementTree} {p : Option ℕ} {rest : StatementTrees} → StatementIsExcused w results before s →
+        StatementsAreExcused w results before (tree.statement s p rest)
+    later_statement : {before inside : Locals} {s : StatementTree} {p : Option ℕ} {rest : StatementTrees} → StatementIsTyped w results before s inside →
+        StatementsAreExcused w results inside rest →
         StatementsAreExcused w results before (tree.statement s p rest)
 
   pub data IfIsExcused (w : World) (results : List PlainType) : Locals → IfTree → Type 0 where
-    before_condition : {before : Locals} {p : ℕ} {init : Option InitTree} {e : ExprTree} {b : BlockTree} {otherwise : ElseTree} → ExcusedIfPresent InitTree (InitIsExcused w) before init →
+    before_condition : {before : Locals} {p : ℕ} {init : Option InitTree} {e : ExprTree} {b : BlockTree} {otherwise : ElseTree} →
+        ExcusedIfPresent InitTree (InitIsExcused w) before init →
         IfIsExcused w results before (tree.if_tree p init e b otherwise)
-    in_condition : {before entered : Locals} {p : ℕ} {init : Option InitTree} {e : ExprTree} {b : BlockTree} {otherwise : ElseTree} → IfPresent InitTree (InitIsTyped w) before init entered →
+    in_condition : {before entered : Locals} {p : ℕ} {init : Option InitTree} {e : ExprTree} {b : BlockTree} {otherwise : ElseTree} →
+        IfPresent InitTree (InitIsTyped w) before init entered →
         UsesBroken w entered e → IfIsExcused w results before (tree.if_tree p init e b otherwise)
-    in_then : {before entered tested : Locals} {p : ℕ} {init : Option InitTree} {e : ExprTree} {b : BlockTree} {otherwise : ElseTree} → IfPresent InitTree (InitIsTyped w) before init entered →
+    in_then : {before entered tested : Locals} {p : ℕ} {init : Option InitTree} {e : ExprTree} {b : BlockTree} {otherwise : ElseTree} →
+        IfPresent InitTree (InitIsTyped w) before init entered →
         ConditionIsTyped w entered e tested → BlockIsExcused w results tested b → IfIsExcused w results before (tree.if_tree p init e b otherwise)
-    in_otherwise : {before entered tested inside : Locals} {p : ℕ} {init : Option InitTree} {e : ExprTree} {b : BlockTree} {otherwise : ElseTree} → IfPresent InitTree (InitIsTyped w) before init entered →
-        ConditionIsTyped w entered e tested → BlockIsTyped w results tested b inside → ElseIsExcused w results inside otherwise → IfIsExcused w results before (tree.if_tree p init e b otherwise)
+    in_otherwise : {before entered tested inside : Locals} {p : ℕ} {init : Option InitTree} {e : ExprTree} {b : BlockTree} {otherwise : ElseTree} →
+        IfPresent InitTree (InitIsTyped w) before init entered →
+        ConditionIsTyped w entered e tested → BlockIsTyped w results tested b inside → ElseIsExcused w results inside otherwise →
+        IfIsExcused w results before (tree.if_tree p init e b otherwise)
 
   pub data ElseIsExcused (w : World) (results : List PlainType) : Locals → ElseTree → Type 0 where
     in_else_if : {before : Locals} {p : ℕ} {i : IfTree} → IfIsExcused w results before i → ElseIsExcused w results before (tree.else_if p i)
@@ -129,13 +146,16 @@ pub data TypeIsExcused (w : World) : Locals → TypeSpecTree → Type 0 where
   in_type_body : {locals : Locals} {t : TypeSpecTree} → BodyIsBroken w t.body → TypeIsExcused w locals t
 
 pub data DeclIsExcused (w : World) : Locals → DeclTree → Type 0 where
-  in_variables : {before : Locals} {p c : ℕ} {g : Group GlobalTree} → ExcusedInGroup GlobalTree (GlobalIsTyped w) (GlobalIsExcused w) before g → DeclIsExcused w before (tree.VarDecl p g c)
-  in_types : {before : Locals} {p c : ℕ} {g : Group TypeSpecTree} → ExcusedInGroup TypeSpecTree (TypeIsTyped w) (TypeIsExcused w) before g → DeclIsExcused w before (tree.TypeDecl p g c)
+  in_variables : {before : Locals} {p c : ℕ} {g : Group GlobalTree} → ExcusedInGroup GlobalTree (GlobalIsTyped w) (GlobalIsExcused w) before g →
+      DeclIsExcused w before (tree.VarDecl p g c)
+  in_types : {before : Locals} {p c : ℕ} {g : Group TypeSpecTree} → ExcusedInGroup TypeSpecTree (TypeIsTyped w) (TypeIsExcused w) before g →
+      DeclIsExcused w before (tree.TypeDecl p g c)
   in_function : {before : Locals} {p c : ℕ} {f : FuncTree} → FunctionIsExcused w before f → DeclIsExcused w before (tree.FuncDecl p f c)
 
 pub data DeclsAreExcused (w : World) (is_init : ℕ → Bool) : Locals → List DeclTree → Type 0 where
   this_decl : {before : Locals} {d : DeclTree} {ds : List DeclTree} → DeclIsExcused w before d → DeclsAreExcused w is_init before (d ∷ ds)
-  later_decl : {before inside : Locals} {d : DeclTree} {ds : List DeclTree} → DeclIsTyped w is_init before d inside → DeclsAreExcused w is_init inside ds → DeclsAreExcused w is_init before (d ∷ ds)
+  later_decl : {before inside : Locals} {d : DeclTree} {ds : List DeclTree} → DeclIsTyped w is_init before d inside →
+      DeclsAreExcused w is_init inside ds → DeclsAreExcused w is_init before (d ∷ ds)
 
 pub data FileIsExcused (w : World) (is_init : ℕ → Bool) (f : FileTree) : Type 0 where
   in_file : DeclsAreExcused w is_init no_locals f.decls → FileIsExcused w is_init f

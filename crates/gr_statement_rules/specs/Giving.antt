@@ -30,7 +30,8 @@ pub data TakenInTurn (w : World) : List Kind → List Taker → Type 0 where
 -- expressions each of which is a value
 pub data AreEach (w : World) (locals : Locals) : List (Item ExprTree) → List Kind → Type 0 where
   no_expression : AreEach w locals [] []
-  also_value : {i : Item ExprTree} {is : List (Item ExprTree)} {k : Kind} {a : Bool} {ks : List Kind} → HasMeaning w locals i.value (Value k a) → AreEach w locals is ks → AreEach w locals (i ∷ is) (k ∷ ks)
+  also_value : {i : Item ExprTree} {is : List (Item ExprTree)} {k : Kind} {a : Bool} {ks : List Kind} → HasMeaning w locals i.value (Value k a) →
+      AreEach w locals is ks → AreEach w locals (i ∷ is) (k ∷ ks)
 
 -- right sides, or what is returned: values; or one call without exactly one result, for so many
 pub data Give (w : World) (locals : Locals) : List (Item ExprTree) → List Kind → Type 0 where
@@ -42,7 +43,8 @@ pub data Give (w : World) (locals : Locals) : List (Item ExprTree) → List Kind
 pub data Declare : Locals → List (Option ℕ) → List Kind → Locals → Type 0 where
   no_name : {before : Locals} → Declare before [] [] before
   no_local : {before after : Locals} {k : Kind} {ns : List (Option ℕ)} {ks : List Kind} → Declare before ns ks after → Declare before (None ∷ ns) (k ∷ ks) after
-  new_local : {before after : Locals} {p : ℕ} {k : Kind} {t : PlainType} {ns : List (Option ℕ)} {ks : List Kind} → GivesType k t → Declare (declared before p (Some t)) ns ks after →
+  new_local : {before after : Locals} {p : ℕ} {k : Kind} {t : PlainType} {ns : List (Option ℕ)} {ks : List Kind} → GivesType k t →
+      Declare (declared before p (Some t)) ns ks after →
       Declare before (Some p ∷ ns) (k ∷ ks) after
 
 -- the same for names of one written type

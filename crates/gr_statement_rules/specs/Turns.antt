@@ -10,7 +10,8 @@ Rule X = Locals → X → Locals → Type 0
 -- the items of a list in turn; those of a group; a part that may be left out
 pub data InTurn (X : Type 0) (R : Rule X) : Locals → List (Item X) → Locals → Type 0 where
   no_item : {before : Locals} → InTurn X R before [] before
-  then_item : {before inside after : Locals} {i : Item X} {is : List (Item X)} → R before i.value inside → InTurn X R inside is after → InTurn X R before (i ∷ is) after
+  then_item : {before inside after : Locals} {i : Item X} {is : List (Item X)} → R before i.value inside → InTurn X R inside is after →
+      InTurn X R before (i ∷ is) after
 
 pub data InGroup (X : Type 0) (R : Rule X) : Locals → Group X → Locals → Type 0 where
   alone : {before after : Locals} {x : X} → R before x after → InGroup X R before (single x) after
@@ -26,7 +27,8 @@ Excuse X = Locals → X → Type 0
 
 pub data ExcusedInTurn (X : Type 0) (R : Rule X) (E : Excuse X) : Locals → List (Item X) → Type 0 where
   this_item : {before : Locals} {i : Item X} {is : List (Item X)} → E before i.value → ExcusedInTurn X R E before (i ∷ is)
-  later_item : {before inside : Locals} {i : Item X} {is : List (Item X)} → R before i.value inside → ExcusedInTurn X R E inside is → ExcusedInTurn X R E before (i ∷ is)
+  later_item : {before inside : Locals} {i : Item X} {is : List (Item X)} → R before i.value inside → ExcusedInTurn X R E inside is →
+      ExcusedInTurn X R E before (i ∷ is)
 
 pub data ExcusedInGroup (X : Type 0) (R : Rule X) (E : Excuse X) : Locals → Group X → Type 0 where
   excused_alone : {before : Locals} {x : X} → E before x → ExcusedInGroup X R E before (single x)
