@@ -11,3 +11,4 @@ pub mod Headers
 pub mod Declarations
 pub mod Laws
 pub mod Examples
+pub mod Unbroken

@@ -1,9 +1,11 @@
 //! The laws of typed statements and declarations.
 
 ghost use Rattle.std.specs.Prelude.{ℕ, ◌≡◌, ◌↔◌, ◌⊎◌, Bool, List, []};
-ghost use Rattle.gr_tree.specs.Tree.{SimpleTree, StatementTree, BlockTree, FuncTree, DeclTree, FileTree};
-ghost use Rattle.gr_expr.specs.Types.{PlainType};
+ghost use Rattle.gr_tree.specs.Tree.{ExprTree, SimpleTree, StatementTree, BlockTree, FuncTree, DeclTree, FileTree};
+ghost use Rattle.gr_expr.specs.Types.{PlainType, Meaning};
 ghost use Rattle.gr_expr.specs.World.{World, Locals};
+ghost use Rattle.gr_rules.specs.Meanings.{HasMeaning};
+ghost use Rattle.gr_rules.specs.Uses.{UsesBroken};
 ghost use Rattle.gr_stmt.specs.Checked.{Checked};
 ghost use Rattle.gr_stmt.specs.Simple.{check_simple};
 ghost use Rattle.gr_stmt.specs.Statements.{check_statement, check_block};
@@ -14,6 +16,11 @@ ghost use Rattle.gr_statement_rules.specs.Statements.{StatementIsTyped, BlockIsT
 ghost use Rattle.gr_statement_rules.specs.Declarations.{FunctionIsTyped, DeclIsTyped, FileIsTyped};
 ghost use Rattle.gr_statement_rules.specs.Excused.{SimpleIsExcused, StatementIsExcused, BlockIsExcused, FunctionIsExcused, DeclIsExcused, FileIsExcused};
 ghost use Rattle.gr_statement_rules.specs.Reaches.{Reaches, wanted};
+
+/// An expression that has a meaning by the rules uses nothing that is broken.
+pub fn what_has_a_meaning_uses_nothing_broken()
+    ensures { (w : World) → (locals : Locals) → (e : ExprTree) → (m : Meaning) → HasMeaning w locals e m → UsesBroken w locals e → ⊥ }
+{}
 
 /// In a simple statement that keeps the typing rules no fault is found, and behind it just the locals are found that the rules tell.
 pub fn typed_simple_statements_have_no_fault()
