@@ -17,7 +17,7 @@ use Rattle.gr_rules.proofs.Refusing.{no_fault}
 use Rattle.gr_rules.proofs.Soundness.{sound}
 use Rattle.gr_statement_rules.specs.Giving.{Taker, Fresh, OfType}
 use Rattle.gr_statement_rules.specs.Simple.{AreAssigned, no_left, a_blank, an_operand, AreDefined, no_definition, an_underscore, a_new_name, an_old_name}
-use Rattle.gr_statement_rules.specs.Excused.{without_type, constant, LeftIsExcused, left_uses, left_no_variable, later_left}
+use Rattle.gr_statement_rules.specs.Excused.{without_type, constant, IsBlank, IsNewName, bound_to_itself, AssignedIsExcused, assigned_uses, assigned_without_type, later_assigned, DefinedIsExcused, defined_uses, defined_no_variable, later_defined}
 use Rattle.gr_statement_rules.proofs.Values.{value_true, value_settled, IsOperandFound, operand_true, operand_settled}
 use Rattle.gr_statement_rules.proofs.Giving.{aim, AreNew}
 
@@ -81,11 +81,14 @@ record IsAssignedFound (w : World) (locals : Locals) (i : Item ExprTree) (target
   found : targets ≡ aim taker ∷ []
   before : {is : List (Item ExprTree)} {ts : List Taker} → AreAssigned w locals is ts → AreAssigned w locals (i ∷ is) (taker ∷ ts)
 
-abbrev IsLeftExcused : World → Locals → Item ExprTree → Type 0
-IsLeftExcused w locals i = (is : List (Item ExprTree)) → LeftIsExcused w locals (i ∷ is)
+abbrev IsAssignedExcused : World → Locals → Item ExprTree → Type 0
+IsAssignedExcused w locals i = (is : List (Item ExprTree)) → AssignedIsExcused w locals (i ∷ is)
+
+abbrev IsDefinedExcused : World → Locals → Item ExprTree → Type 0
+IsDefinedExcused w locals i = (is : List (Item ExprTree)) → DefinedIsExcused w locals (i ∷ is)
 
 operand_found : (w : World) (locals : Locals) (i : Item ExprTree) → IsOperandFound w locals i.value (judge_operand w locals i.value).meaning →
-    IsAssignedFound w locals i (Wants (own_type (judge_operand w locals i.value).meaning) ∷ []) ⊎ IsLeftExcused w locals i
+    IsAssignedFound w locals i (Wants (own_type (judge_operand w locals i.value).meaning) ∷ []) ⊎ IsAssignedExcused w locals i
 unfolding own_type
 operand_found w locals i o = elim (typed_or_not o.kind) [
   | inl t ↦ inl (record {
@@ -94,30 +97,30 @@ operand_found w locals i o = elim (typed_or_not o.kind) [
         ∙ ap (λ k. Value k true) t.1);
     before = λ more. an_operand (subst (λ k. HasMeaning w locals i.value (Value k true)) t.1 o.means) more;
   })
-  | inr u ↦ inr (λ is. left_no_variable o.means (without_type u))
+  | inr u ↦ inr (λ is. assigned_without_type o.means u)
 ]
 
-operand_or_excused : (w : World) (locals : Locals) (i : Item ExprTree) → (judge_operand w locals i.value).faults ≡ [] →
-    IsAssignedFound w locals i (Wants (own_type (judge_operand w locals i.value).meaning) ∷ []) ⊎ IsLeftExcused w locals i
-operand_or_excused w locals i h = elim (operand_settled w locals i.value h) [ inl o ↦ operand_found w locals i o | inr u ↦ inr (λ is. left_uses u) ]
+operand_or_excused : (w : World) (locals : Locals) (i : Item ExprTree) → (IsBlank i.value → ⊥) → (judge_operand w locals i.value).faults ≡ [] →
+    IsAssignedFound w locals i (Wants (own_type (judge_operand w locals i.value).meaning) ∷ []) ⊎ IsAssignedExcused w locals i
+operand_or_excused w locals i n h = elim (operand_settled w locals i.value h) [ inl o ↦ operand_found w locals i o | inr u ↦ inr (λ is. assigned_uses n u) ]
 
 -- a left side is `_`, or it is found as an operand
-assigned_cases : (w : World) (locals : Locals) (e : ExprTree) → ((p : ℕ) × (e ≡ tree.Blank p)) ⊎ (assigned_one w locals e ≡ left_side (Wants (own_type
-    (judge_operand w locals e).meaning)) (judge_operand w locals e))
+assigned_cases : (w : World) (locals : Locals) (e : ExprTree) → ((p : ℕ) × (e ≡ tree.Blank p)) ⊎ ((IsBlank e → ⊥) × (assigned_one w locals e ≡
+    left_side (Wants (own_type (judge_operand w locals e).meaning)) (judge_operand w locals e)))
 unfolding assigned_one
 assigned_cases w locals (tree.Blank p) = inl (p, refl)
-assigned_cases w locals e = inr refl
+assigned_cases w locals e = inr (λ b. elim b [ ], refl)
 
 blank_target : (w : World) (locals : Locals) {e : ExprTree} {p : ℕ} → e ≡ tree.Blank p → (assigned_one w locals e).targets ≡ sides.Takes ∷ []
 unfolding assigned_one
 blank_target w locals e = ap (λ z. (assigned_one w locals z).targets) e
 
 assigned_one_settled : (w : World) (locals : Locals) (i : Item ExprTree) → (assigned_one w locals i.value).faults ≡ [] →
-    IsAssignedFound w locals i (assigned_one w locals i.value).targets ⊎ IsLeftExcused w locals i
+    IsAssignedFound w locals i (assigned_one w locals i.value).targets ⊎ IsAssignedExcused w locals i
 assigned_one_settled w locals i h = elim (assigned_cases w locals i.value) [
   | inl b ↦ inl (record { taker = Fresh; found = blank_target w locals b.1; before = λ more. a_blank b.1 more })
-  | inr e ↦ subst (λ (z : Lefts). IsAssignedFound w locals i z.targets ⊎ IsLeftExcused w locals i) (sym e) (operand_or_excused w locals i (ap (λ
-      (z : Lefts). z.faults) (sym e) ∙ h))
+  | inr e ↦ subst (λ (z : Lefts). IsAssignedFound w locals i z.targets ⊎ IsAssignedExcused w locals i) (sym e.1) (operand_or_excused w locals i e.0 (ap (λ
+      (z : Lefts). z.faults) (sym e.1) ∙ h))
 ]
 
 -- left sides of `=` without a fault
@@ -136,7 +139,7 @@ assigned_then w locals i is {a} {b} f more = record {
 }
 
 pub assigned_settled : (w : World) (locals : Locals) (xs : List (Item ExprTree)) → (assigned w locals xs).faults ≡ [] →
-    AreAssignedFound w locals xs (assigned w locals xs).targets ⊎ LeftIsExcused w locals xs
+    AreAssignedFound w locals xs (assigned w locals xs).targets ⊎ AssignedIsExcused w locals xs
 unfolding assigned
 assigned_settled w locals [] h = inl (record { takers = []; found = refl; assigned = no_left })
 assigned_settled w locals (i ∷ is) h = elim (assigned_one_settled w locals i (empty_first (assigned_one w locals i.value).faults
@@ -144,7 +147,7 @@ assigned_settled w locals (i ∷ is) h = elim (assigned_one_settled w locals i (
       | inl f ↦ elim (assigned_settled w locals is (empty_second (assigned_one w locals i.value).faults (assigned w locals is).faults h)) [
         | inl more ↦ inl
             (assigned_then w locals i is f more)
-        | inr u ↦ inr (later_left u)
+        | inr u ↦ inr (later_assigned u)
       ]
       | inr u ↦ inr (u is)
     ]
@@ -237,7 +240,17 @@ record IsDefinedFound (w : World) (locals : Locals) (i : Item ExprTree) (targets
       AreDefined w locals (i ∷ is) (taker ∷ ts) (name ∷ ns)
 
 abbrev IsOneSettled : World → Locals → Item ExprTree → Lefts → Option ℕ → Type 0
-IsOneSettled w locals i l n = IsDefinedFound w locals i l.targets n ⊎ IsLeftExcused w locals i
+IsOneSettled w locals i l n = IsDefinedFound w locals i l.targets n ⊎ IsDefinedExcused w locals i
+
+-- a name that is not bound to itself is no new one
+new_bound : {w : World} {p : ℕ} → IsNewName w (tree.Name p) → w.bound p ≡ Local p
+new_bound (bound_to_itself b) = b
+
+not_new : (w : World) (i : Item ExprTree) (p : ℕ) → i.value ≡ tree.Name p → (w.bound p ≡ Local p → ⊥) → IsNewName w i.value → ⊥
+not_new w i p e n h = n (new_bound (subst (λ z. IsNewName w z) e h))
+
+own_not : (w : World) (p : ℕ) → declares w p ≡ false → w.bound p ≡ Local p → ⊥
+own_not w p d q = true≢false (sym (own_test (w.bound p) p q) ∙ d)
 
 old_found : (w : World) (locals : Locals) (i : Item ExprTree) (p : ℕ) → i.value ≡ tree.Name p → (w.bound p ≡ Local p → ⊥) → (k : Kind) (a : Bool) →
     (judge_value w locals (tree.Name p)).meaning ≡ Value k a →
@@ -248,10 +261,10 @@ old_found w locals i p e n (Typed t) true f h = inl (record {
   found = ap (λ m. Wants (own_type m) ∷ []) f;
   before = λ more. an_old_name e n h more;
 })
-old_found w locals i p e n k false f h = inr (λ is. left_no_variable (subst (λ z. HasMeaning w locals z (Value k false)) (sym e) h) constant)
-old_found w locals i p e n (Untyped b) true f h = inr (λ is. left_no_variable (subst (λ z. HasMeaning w locals z (Value (Untyped b) true)) (sym e) h)
+old_found w locals i p e n k false f h = inr (λ is. defined_no_variable (not_new w i p e n) (subst (λ z. HasMeaning w locals z (Value k false)) (sym e) h) constant)
+old_found w locals i p e n (Untyped b) true f h = inr (λ is. defined_no_variable (not_new w i p e n) (subst (λ z. HasMeaning w locals z (Value (Untyped b) true)) (sym e) h)
     (without_type a_constant))
-old_found w locals i p e n Nil true f h = inr (λ is. left_no_variable (subst (λ z. HasMeaning w locals z (Value Nil true)) (sym e) h) (without_type a_nil))
+old_found w locals i p e n Nil true f h = inr (λ is. defined_no_variable (not_new w i p e n) (subst (λ z. HasMeaning w locals z (Value Nil true)) (sym e) h) (without_type a_nil))
 
 name_settled : (w : World) (locals : Locals) (i : Item ExprTree) (p : ℕ) → i.value ≡ tree.Name p → (b : Bool) → declares w p ≡ b →
     (if b then left_side sides.Takes (record { meaning = Broken; faults = []; uses = [] }) else renewed w locals p).faults ≡ [] →
@@ -260,33 +273,33 @@ name_settled : (w : World) (locals : Locals) (i : Item ExprTree) (p : ℕ) → i
 name_settled w locals i p e true d h = inl (record { taker = Fresh; found = refl; before = λ more. a_new_name e (test_own (w.bound p) p d) more })
 name_settled w locals i p e false d h = elim (value_settled w locals (tree.Name p) h) [
   | inl v ↦ old_found w locals i p e (λ q. true≢false (sym (own_test (w.bound p) p q) ∙ d)) v.kind v.addressable v.found v.means
-  | inr u ↦ inr (λ is. left_uses (subst (λ z. UsesBroken w locals z) (sym e) u))
+  | inr u ↦ inr (λ is. defined_uses (λ b. elim (subst (λ z. IsBlank z) e b) [ ]) (not_new w i p e (own_not w p d)) (subst (λ z. UsesBroken w locals z) (sym e) u))
 ]
 
 no_name_fault : {A : Type 0} (place : ℕ) {m : Meaning} {k : Kind} {a : Bool} → m ≡ Value k a → (no_name place m).faults ≡ [] → A
 unfolding no_name
 no_name_fault place e h = no_fault (ap (λ m. (no_name place m).faults) (sym e) ∙ h)
 
-others_excused : (w : World) (locals : Locals) (i : Item ExprTree) (place : ℕ) (l : Lefts) (n : Option ℕ) →
+others_excused : (w : World) (locals : Locals) (i : Item ExprTree) → (IsBlank i.value → ⊥) → (IsNewName w i.value → ⊥) → (place : ℕ) (l : Lefts) (n : Option ℕ) →
     (judge_value w locals i.value).faults ++ (no_name place (judge_value w locals i.value).meaning).faults ≡ [] → IsOneSettled w locals i l n
-others_excused w locals i place l n h = elim (value_settled w locals i.value (empty_first (judge_value w locals i.value).faults (no_name place
+others_excused w locals i n m place l name h = elim (value_settled w locals i.value (empty_first (judge_value w locals i.value).faults (no_name place
     (judge_value w locals i.value).meaning).faults h)) [
       | inl v ↦ no_name_fault place v.found (empty_second (judge_value w locals i.value).faults (no_name place (judge_value w locals i.value).meaning).faults h)
-      | inr u ↦ inr (λ is. left_uses u)
+      | inr u ↦ inr (λ is. defined_uses n m u)
     ]
 
 -- a left side is `_`, a name, or neither
 data Sort (w : World) (locals : Locals) (e : ExprTree) : Type 0 where
   blank_sort : {p : ℕ} → e ≡ tree.Blank p → Sort w locals e
   name_sort : {p : ℕ} → e ≡ tree.Name p → Sort w locals e
-  other_sort : ((defined_one w locals e).faults ≡ (judge_value w locals e).faults ++ (no_name (place_of e) (judge_value w locals e).meaning).faults) →
+  other_sort : (IsBlank e → ⊥) → (IsNewName w e → ⊥) → ((defined_one w locals e).faults ≡ (judge_value w locals e).faults ++ (no_name (place_of e) (judge_value w locals e).meaning).faults) →
       Sort w locals e
 
 sort_of : (w : World) (locals : Locals) (e : ExprTree) → Sort w locals e
 unfolding defined_one
 sort_of w locals (tree.Blank p) = blank_sort refl
 sort_of w locals (tree.Name p) = name_sort refl
-sort_of w locals e = other_sort refl
+sort_of w locals e = other_sort (λ b. elim b [ ]) (λ b. elim b [ ]) refl
 
 settled_as : (w : World) (locals : Locals) (i : Item ExprTree) {e f : ExprTree} → e ≡ f → IsOneSettled w locals i (defined_one w locals f)
     (defined_name w f) → IsOneSettled w locals i (defined_one w locals e) (defined_name w e)
@@ -307,7 +320,7 @@ defined_one_settled : (w : World) (locals : Locals) (i : Item ExprTree) → (def
 defined_one_settled w locals i h = elim (sort_of w locals i.value) [
   | blank_sort {p} e ↦ settled_as w locals i e (blank_settled w locals i p e)
   | name_sort {p} e ↦ settled_as w locals i e (a_name_settled w locals i p e (ap (λ z. (defined_one w locals z).faults) (sym e) ∙ h))
-  | other_sort e ↦ others_excused w locals i (place_of i.value) (defined_one w locals i.value) (defined_name w i.value) (sym e ∙ h)
+  | other_sort n m e ↦ others_excused w locals i n m (place_of i.value) (defined_one w locals i.value) (defined_name w i.value) (sym e ∙ h)
 ]
 
 pub record AreDefinedFound (w : World) (locals : Locals) (xs : List (Item ExprTree)) (targets : List Target) : Type 0 where
@@ -326,14 +339,14 @@ defined_then w locals i is {a} {b} f more = record {
 }
 
 pub defined_settled : (w : World) (locals : Locals) (xs : List (Item ExprTree)) → (defined w locals xs).faults ≡ [] →
-    AreDefinedFound w locals xs (defined w locals xs).targets ⊎ LeftIsExcused w locals xs
+    AreDefinedFound w locals xs (defined w locals xs).targets ⊎ DefinedIsExcused w locals xs
 unfolding defined
 defined_settled w locals [] h = inl (record { takers = []; found = refl; defined_are = no_definition })
 defined_settled w locals (i ∷ is) h = elim (defined_one_settled w locals i (empty_first (defined_one w locals i.value).faults (defined w locals is).faults h)) [
   | inl f ↦ elim (defined_settled w locals is (empty_second (defined_one w locals i.value).faults (defined w locals is).faults h)) [
     | inl more ↦ inl
         (defined_then w locals i is f more)
-    | inr u ↦ inr (later_left u)
+    | inr u ↦ inr (later_defined u)
   ]
   | inr u ↦ inr (u is)
 ]

@@ -110,5 +110,6 @@ mutual
   no_fields_use w locals (uses.other_element u) (means.field m n v f more) = no_fields_use w locals u more
 
   no_elements_use : (w : World) (locals : Locals) {t u : PlainType} {es : ElementTrees} → ElementsUseBroken w locals t es → AreElements w locals u es → ⊥
+  no_elements_use w locals (uses.a_key e) h = elim h [ ]
   no_elements_use w locals (uses.this_value b) (means.element v f more) = no_use w locals b v
   no_elements_use w locals (uses.other_element b) (means.element v f more) = no_elements_use w locals b more

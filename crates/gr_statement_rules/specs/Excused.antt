@@ -7,7 +7,7 @@ use Rattle.gr_tree.specs.declared.syntax.UpdateOp.{UpdateOp}
 use Rattle.gr_tree.specs.Tree.{Item, Group, TypeTree, ExprTree, SimpleTree, LocalTree, InitTree, ForTree, StatementTree, BlockTree, StatementTrees, IfTree, ElseTree, ReceiverTree, ParamTree, ResultTree, FuncTree, GlobalTree, FieldTree, BodyTree, TypeSpecTree, DeclTree, FileTree}
 use Rattle.gr_tree.specs.Tree as tree
 use Rattle.gr_expr.specs.Types.{PlainType, Kind, Value}
-use Rattle.gr_expr.specs.World.{World, Locals, BrokenType, no_locals}
+use Rattle.gr_expr.specs.World.{World, Locals, Local, BrokenType, no_locals}
 use Rattle.gr_rules.specs.Operators.{IsUntyped}
 use Rattle.gr_rules.specs.Meanings.{HasMeaning}
 use Rattle.gr_rules.specs.Uses.{UsesBroken, IsBrokenType}
@@ -26,12 +26,27 @@ pub data AnyUsesBroken (w : World) (locals : Locals) : List (Item ExprTree) → 
   this_one : {i : Item ExprTree} {is : List (Item ExprTree)} → UsesBroken w locals i.value → AnyUsesBroken w locals (i ∷ is)
   a_later_one : {i : Item ExprTree} {is : List (Item ExprTree)} → AnyUsesBroken w locals is → AnyUsesBroken w locals (i ∷ is)
 
--- one of several left sides
-pub data LeftIsExcused (w : World) (locals : Locals) : List (Item ExprTree) → Type 0 where
-  left_uses : {i : Item ExprTree} {is : List (Item ExprTree)} → UsesBroken w locals i.value → LeftIsExcused w locals (i ∷ is)
-  left_no_variable : {i : Item ExprTree} {is : List (Item ExprTree)} {k : Kind} {a : Bool} → HasMeaning w locals i.value (Value k a) → IsNoVariable k a →
-      LeftIsExcused w locals (i ∷ is)
-  later_left : {i : Item ExprTree} {is : List (Item ExprTree)} → LeftIsExcused w locals is → LeftIsExcused w locals (i ∷ is)
+-- `_`; a name that declares a local, since it is bound to itself
+pub data IsBlank : ExprTree → Type 0 where
+  underscored : {p : ℕ} → IsBlank (tree.Blank p)
+
+pub data IsNewName (w : World) : ExprTree → Type 0 where
+  bound_to_itself : {p : ℕ} → w.bound p ≡ Local p → IsNewName w (tree.Name p)
+
+-- one of several left sides of `=`: no `_`
+pub data AssignedIsExcused (w : World) (locals : Locals) : List (Item ExprTree) → Type 0 where
+  assigned_uses : {i : Item ExprTree} {is : List (Item ExprTree)} → (IsBlank i.value → ⊥) → UsesBroken w locals i.value → AssignedIsExcused w locals (i ∷ is)
+  assigned_without_type : {i : Item ExprTree} {is : List (Item ExprTree)} {k : Kind} → HasMeaning w locals i.value (Value k true) → IsUntyped k →
+      AssignedIsExcused w locals (i ∷ is)
+  later_assigned : {i : Item ExprTree} {is : List (Item ExprTree)} → AssignedIsExcused w locals is → AssignedIsExcused w locals (i ∷ is)
+
+-- one of several left sides of `:=`: neither `_` nor a name that declares a local
+pub data DefinedIsExcused (w : World) (locals : Locals) : List (Item ExprTree) → Type 0 where
+  defined_uses : {i : Item ExprTree} {is : List (Item ExprTree)} → (IsBlank i.value → ⊥) → (IsNewName w i.value → ⊥) → UsesBroken w locals i.value →
+      DefinedIsExcused w locals (i ∷ is)
+  defined_no_variable : {i : Item ExprTree} {is : List (Item ExprTree)} {k : Kind} {a : Bool} → (IsNewName w i.value → ⊥) →
+      HasMeaning w locals i.value (Value k a) → IsNoVariable k a → DefinedIsExcused w locals (i ∷ is)
+  later_defined : {i : Item ExprTree} {is : List (Item ExprTree)} → DefinedIsExcused w locals is → DefinedIsExcused w locals (i ∷ is)
 
 pub data SimpleIsExcused (w : World) : Locals → SimpleTree → Type 0 where
   in_call : {locals : Locals} {e : ExprTree} → UsesBroken w locals e → SimpleIsExcused w locals (tree.Alone e)
@@ -40,9 +55,9 @@ pub data SimpleIsExcused (w : World) : Locals → SimpleTree → Type 0 where
   in_update : {locals : Locals} {x y : ExprTree} {o : UpdateOp} {p : ℕ} → UsesBroken w locals y → SimpleIsExcused w locals (tree.Update x o p y)
   updated_without_type : {locals : Locals} {x y : ExprTree} {o : UpdateOp} {p : ℕ} {k : Kind} → HasMeaning w locals x (Value k true) → IsUntyped k →
       SimpleIsExcused w locals (tree.Update x o p y)
-  in_assigned : {locals : Locals} {xs ys : List (Item ExprTree)} {p : ℕ} → LeftIsExcused w locals xs → SimpleIsExcused w locals (tree.Assign xs p ys)
+  in_assigned : {locals : Locals} {xs ys : List (Item ExprTree)} {p : ℕ} → AssignedIsExcused w locals xs → SimpleIsExcused w locals (tree.Assign xs p ys)
   in_assignment : {locals : Locals} {xs ys : List (Item ExprTree)} {p : ℕ} → AnyUsesBroken w locals ys → SimpleIsExcused w locals (tree.Assign xs p ys)
-  in_defined : {locals : Locals} {xs ys : List (Item ExprTree)} {p : ℕ} → LeftIsExcused w locals xs → SimpleIsExcused w locals (tree.Define xs p ys)
+  in_defined : {locals : Locals} {xs ys : List (Item ExprTree)} {p : ℕ} → DefinedIsExcused w locals xs → SimpleIsExcused w locals (tree.Define xs p ys)
   in_definition : {locals : Locals} {xs ys : List (Item ExprTree)} {p : ℕ} → AnyUsesBroken w locals ys → SimpleIsExcused w locals (tree.Define xs p ys)
 
 pub data LocalIsExcused (w : World) : Locals → LocalTree → Type 0 where
