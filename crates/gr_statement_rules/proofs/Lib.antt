@@ -12,3 +12,4 @@ pub mod Declarations
 pub mod Laws
 pub mod Examples
 pub mod Unbroken
+pub mod Exclusive

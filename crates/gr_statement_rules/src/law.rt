@@ -32,6 +32,11 @@ pub fn simple_statements_without_fault_are_typed()
     ensures { (w : World) → (s : Checked) → (a : SimpleTree) → (check_simple w s a).faults ≡ [] → SimpleIsTyped w s.locals a (check_simple w s a).locals ⊎ SimpleIsExcused w s.locals a }
 {}
 
+/// A simple statement that keeps the typing rules is not excused.
+pub fn typed_simple_statements_are_not_excused()
+    ensures { (w : World) → (before after : Locals) → (a : SimpleTree) → SimpleIsTyped w before a after → SimpleIsExcused w before a → ⊥ }
+{}
+
 /// In a statement that keeps the typing rules no fault is found, and behind it just the locals are found that the rules tell.
 pub fn typed_statements_have_no_fault()
     ensures { (w : World) → (results : List PlainType) → (s : Checked) → (x : StatementTree) → (after : Locals) → s.faults ≡ [] → StatementIsTyped w results s.locals x after → Reaches (check_statement w (wanted results) s x) after }
