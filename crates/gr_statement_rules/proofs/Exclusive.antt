@@ -1,5 +1,5 @@
 -- A simple statement that is typed is not excused.
-use Rattle.std.proofs.Common.{ℕ, ◌≡◌, Bool, true, false, List, [], ◌∷◌, Option, sym, ap, ◌∙◌, subst, true≢false}
+use Rattle.std.proofs.Common.{ℕ, ◌≡◌, Bool, true, false, List, Option, sym, subst, true≢false}
 use Rattle.gr_tree.specs.Tree.{Item, ExprTree, SimpleTree}
 use Rattle.gr_tree.specs.Tree as tree
 use Rattle.gr_expr.specs.Types.{PlainType, Kind, Typed, Meaning, Value}
@@ -35,7 +35,8 @@ assigned_not : (w : World) (locals : Locals) {is : List (Item ExprTree)} {ts : L
 assigned_not w locals (assigned_uses n u) (a_blank e more) = n (subst (λ z. IsBlank z) (sym e) underscored)
 assigned_not w locals (assigned_uses n u) (an_operand h more) = no_use w locals u h
 assigned_not w locals (assigned_without_type v i) (a_blank e more) = no_blank w locals e v
-assigned_not w locals (assigned_without_type {i = x} {k = k} v i) (an_operand {t = t} h more) = typed_kind i (one_meaning w locals x.value (Value k true) (Value (Typed t) true) v h)
+assigned_not w locals (assigned_without_type {i = x} {k = k} v i) (an_operand {t = t} h more) = typed_kind i (one_meaning w locals x.value (Value k true)
+    (Value (Typed t) true) v h)
 assigned_not w locals (later_assigned x) (a_blank e more) = assigned_not w locals x more
 assigned_not w locals (later_assigned x) (an_operand h more) = assigned_not w locals x more
 
@@ -43,7 +44,8 @@ defined_not : (w : World) (locals : Locals) {is : List (Item ExprTree)} {ts : Li
     AreDefined w locals is ts ns → ⊥
 defined_not w locals (defined_uses n m u) (an_underscore e more) = n (subst (λ z. IsBlank z) (sym e) underscored)
 defined_not w locals (defined_uses n m u) (a_new_name e b more) = m (subst (λ z. IsNewName w z) (sym e) (bound_to_itself b))
-defined_not w locals (defined_uses n m u) (an_old_name {t = t} e b h more) = no_use w locals u (subst (λ z. HasMeaning w locals z (Value (Typed t) true)) (sym e) h)
+defined_not w locals (defined_uses n m u) (an_old_name {t = t} e b h more) = no_use w locals u (subst (λ z. HasMeaning w locals z (Value (Typed t) true))
+    (sym e) h)
 defined_not w locals (defined_no_variable m v x) (an_underscore e more) = no_blank w locals e v
 defined_not w locals (defined_no_variable m v x) (a_new_name e b more) = m (subst (λ z. IsNewName w z) (sym e) (bound_to_itself b))
 defined_not w locals (defined_no_variable {i = i} {k = k} {a = a} m v x) (an_old_name {t = t} e b h more) =
@@ -57,7 +59,8 @@ simple_not w {before} (a_call h c f m) (in_call u) = no_use w before u h
 simple_not w {before} (a_step h i) (in_step u) = no_use w before u h
 simple_not w {before} (an_update o h g q f) (in_updated u) = no_use w before u h
 simple_not w {before} (an_update o h g q f) (in_update u) = no_use w before u g
-simple_not w {before} (an_update {x = x} {t = t} o h g q f) (updated_without_type {k = k} v i) = typed_kind i (one_meaning w before x (Value k true) (Value (Typed t) true) v h)
+simple_not w {before} (an_update {x = x} {t = t} o h g q f) (updated_without_type {k = k} v i) = typed_kind i (one_meaning w before x (Value k true)
+    (Value (Typed t) true) v h)
 simple_not w {before} (an_assignment l g t) (in_assigned x) = assigned_not w before x l
 simple_not w {before} (an_assignment l g t) (in_assignment u) = gives_unbroken w before u g
 simple_not w {before} (a_definition l g t d) (in_defined x) = defined_not w before x l

@@ -261,10 +261,13 @@ old_found w locals i p e n (Typed t) true f h = inl (record {
   found = ap (λ m. Wants (own_type m) ∷ []) f;
   before = λ more. an_old_name e n h more;
 })
-old_found w locals i p e n k false f h = inr (λ is. defined_no_variable (not_new w i p e n) (subst (λ z. HasMeaning w locals z (Value k false)) (sym e) h) constant)
-old_found w locals i p e n (Untyped b) true f h = inr (λ is. defined_no_variable (not_new w i p e n) (subst (λ z. HasMeaning w locals z (Value (Untyped b) true)) (sym e) h)
+old_found w locals i p e n k false f h = inr (λ is. defined_no_variable (not_new w i p e n) (subst (λ z. HasMeaning w locals z (Value k false))
+    (sym e) h) constant)
+old_found w locals i p e n (Untyped b) true f h = inr (λ is. defined_no_variable (not_new w i p e n) (subst (λ z. HasMeaning w locals z (Value
+    (Untyped b) true)) (sym e) h)
     (without_type a_constant))
-old_found w locals i p e n Nil true f h = inr (λ is. defined_no_variable (not_new w i p e n) (subst (λ z. HasMeaning w locals z (Value Nil true)) (sym e) h) (without_type a_nil))
+old_found w locals i p e n Nil true f h = inr (λ is. defined_no_variable (not_new w i p e n) (subst (λ z. HasMeaning w locals z (Value Nil true))
+    (sym e) h) (without_type a_nil))
 
 name_settled : (w : World) (locals : Locals) (i : Item ExprTree) (p : ℕ) → i.value ≡ tree.Name p → (b : Bool) → declares w p ≡ b →
     (if b then left_side sides.Takes (record { meaning = Broken; faults = []; uses = [] }) else renewed w locals p).faults ≡ [] →
@@ -273,14 +276,16 @@ name_settled : (w : World) (locals : Locals) (i : Item ExprTree) (p : ℕ) → i
 name_settled w locals i p e true d h = inl (record { taker = Fresh; found = refl; before = λ more. a_new_name e (test_own (w.bound p) p d) more })
 name_settled w locals i p e false d h = elim (value_settled w locals (tree.Name p) h) [
   | inl v ↦ old_found w locals i p e (λ q. true≢false (sym (own_test (w.bound p) p q) ∙ d)) v.kind v.addressable v.found v.means
-  | inr u ↦ inr (λ is. defined_uses (λ b. elim (subst (λ z. IsBlank z) e b) [ ]) (not_new w i p e (own_not w p d)) (subst (λ z. UsesBroken w locals z) (sym e) u))
+  | inr u ↦ inr (λ is. defined_uses (λ b. elim (subst (λ z. IsBlank z) e b) [ ]) (not_new w i p e (own_not w p d)) (subst (λ z. UsesBroken w locals z)
+      (sym e) u))
 ]
 
 no_name_fault : {A : Type 0} (place : ℕ) {m : Meaning} {k : Kind} {a : Bool} → m ≡ Value k a → (no_name place m).faults ≡ [] → A
 unfolding no_name
 no_name_fault place e h = no_fault (ap (λ m. (no_name place m).faults) (sym e) ∙ h)
 
-others_excused : (w : World) (locals : Locals) (i : Item ExprTree) → (IsBlank i.value → ⊥) → (IsNewName w i.value → ⊥) → (place : ℕ) (l : Lefts) (n : Option ℕ) →
+others_excused : (w : World) (locals : Locals) (i : Item ExprTree) → (IsBlank i.value → ⊥) → (IsNewName w i.value → ⊥) →
+    (place : ℕ) (l : Lefts) (n : Option ℕ) →
     (judge_value w locals i.value).faults ++ (no_name place (judge_value w locals i.value).meaning).faults ≡ [] → IsOneSettled w locals i l n
 others_excused w locals i n m place l name h = elim (value_settled w locals i.value (empty_first (judge_value w locals i.value).faults (no_name place
     (judge_value w locals i.value).meaning).faults h)) [
@@ -292,7 +297,8 @@ others_excused w locals i n m place l name h = elim (value_settled w locals i.va
 data Sort (w : World) (locals : Locals) (e : ExprTree) : Type 0 where
   blank_sort : {p : ℕ} → e ≡ tree.Blank p → Sort w locals e
   name_sort : {p : ℕ} → e ≡ tree.Name p → Sort w locals e
-  other_sort : (IsBlank e → ⊥) → (IsNewName w e → ⊥) → ((defined_one w locals e).faults ≡ (judge_value w locals e).faults ++ (no_name (place_of e) (judge_value w locals e).meaning).faults) →
+  other_sort : (IsBlank e → ⊥) → (IsNewName w e → ⊥) → ((defined_one w locals e).faults ≡ (judge_value w locals e).faults ++ (no_name (place_of e)
+      (judge_value w locals e).meaning).faults) →
       Sort w locals e
 
 sort_of : (w : World) (locals : Locals) (e : ExprTree) → Sort w locals e

@@ -1,9 +1,9 @@
 -- What has a meaning uses nothing that is broken.
 use Rattle.std.proofs.Common.{ℕ, ◌≡◌, Bool, true, List, [], ◌∷◌, Some, refl, sym, ap, ◌∙◌, subst}
 use Rattle.gr_tree.specs.Tree.{TypeTree, ExprTree, LinkTrees, OperandTrees, ArgumentTrees, LiteralTree, ElementTrees}
-use Rattle.gr_expr.specs.Types.{PlainType, SliceOf, Kind, Typed, Meaning, Value}
-use Rattle.gr_expr.specs.World.{World, Locals, underlying}
-use Rattle.gr_expr.specs.Judge.{Argued, TypeJudged, judge_type, good_type}
+use Rattle.gr_expr.specs.Types.{PlainType, Kind, Typed, Meaning, Value}
+use Rattle.gr_expr.specs.World.{World, Locals}
+use Rattle.gr_expr.specs.Judge.{Argued, TypeJudged, good_type}
 use Rattle.gr_rules.specs.Names.{IsType}
 use Rattle.gr_rules.specs.Names as names
 use Rattle.gr_rules.specs.Links.{Selects, Indexes, Calls}
@@ -36,7 +36,8 @@ values_are [] = tt
 values_are (k ∷ ks) = (refl, values_are ks)
 
 one_call : (w : World) {m s r : Meaning} {ks : List Kind} → Calls w m ks s → Calls w m ks r → s ≡ r
-one_call w {ks = ks} a b = let x = calls_true w 0 0 (values_at ks) (values_are ks) a in let y = calls_true w 0 0 (values_at ks) (values_are ks) b in sym x.meaning ∙ y.meaning
+one_call w {ks = ks} a b = let x = calls_true w 0 0 (values_at ks) (values_are ks) a in let y = calls_true w 0 0 (values_at ks) (values_are ks) b in
+    sym x.meaning ∙ y.meaning
 
 one_kind : {j k : Kind} {a b : Bool} → Value j a ≡ Value k b → j ≡ k
 one_kind e = cc
@@ -86,7 +87,8 @@ mutual
   no_links_use w locals (uses.in_call u) (means.call vs c more) = no_arguments_use w locals u vs
   no_links_use w locals (uses.behind_selector g u) (means.selector {rest = rest} {r = r} s more) =
       no_links_use w locals u (subst (λ z. LeadsTo w locals z rest r) (one_selection w locals s g) more)
-  no_links_use w locals (uses.behind_index g j u) (means.index {rest = rest} {r = r} v i more) = no_links_use w locals u (subst (λ z. LeadsTo w locals z rest r) (one_element w i j) more)
+  no_links_use w locals (uses.behind_index g j u) (means.index {rest = rest} {r = r} v i more) = no_links_use w locals u (subst
+      (λ z. LeadsTo w locals z rest r) (one_element w i j) more)
   no_links_use w locals (uses.behind_call {m = m} {s = t} gs d u) (means.call {rest = rest} {r = r} vs c more) =
       no_links_use w locals u (subst (λ z. LeadsTo w locals z rest r) (one_call w c (subst (λ z. Calls w m z t) (one_list w locals gs vs) d)) more)
 
@@ -101,10 +103,12 @@ mutual
   no_literal_use : (w : World) (locals : Locals) {l : LiteralTree} {t : PlainType} → LiteralUsesBroken w locals l → IsLiteralOf w locals l t → ⊥
   no_literal_use w locals (uses.of_broken_type b) (means.struct_literal i e fs) = no_type w b i
   no_literal_use w locals (uses.of_broken_type b) (means.slice_literal i e vs) = no_type w b i
-  no_literal_use w locals (uses.in_elements {t = t} j us) (means.struct_literal {es = es} i e fs) = no_fields_use w locals us (subst (λ z. AreFields w locals z [] es) (one_type w i j) fs)
+  no_literal_use w locals (uses.in_elements {t = t} j us) (means.struct_literal {es = es} i e fs) = no_fields_use w locals us (subst
+      (λ z. AreFields w locals z [] es) (one_type w i j) fs)
   no_literal_use w locals (uses.in_elements j us) (means.slice_literal i e vs) = no_elements_use w locals us vs
 
-  no_fields_use : (w : World) (locals : Locals) {t : PlainType} {named : List ℕ} {es : ElementTrees} → ElementsUseBroken w locals t es → AreFields w locals t named es → ⊥
+  no_fields_use : (w : World) (locals : Locals) {t : PlainType} {named : List ℕ} {es : ElementTrees} → ElementsUseBroken w locals t es →
+      AreFields w locals t named es → ⊥
   no_fields_use w locals (uses.a_key e) (means.field m n v f more) = cc
   no_fields_use w locals (uses.this_value u) (means.field m n v f more) = no_use w locals u v
   no_fields_use w locals (uses.other_element u) (means.field m n v f more) = no_fields_use w locals u more
