@@ -4,10 +4,10 @@
 set -u
 cd "$(dirname "$0")/.."
 python3 checks/memory.py || exit
-# A proof for each processor, as far as free memory holds 4 GB for each, which is the most that one was seen to take.
+# A proof for each processor, as far as free memory holds 5.5 GB for each, which is the most that one was seen to take.
 # Left to itself rt plans for more memory than that, and lets processors wait.
 processors=$(nproc)
-held_at_once=$(awk '/^MemAvailable:/ { print int($2 / 4000000) }' /proc/meminfo)
+held_at_once=$(awk '/^MemAvailable:/ { print int($2 / 5500000) }' /proc/meminfo)
 jobs=$((held_at_once < processors ? held_at_once : processors))
 export RT_JOBS=$((jobs < 1 ? 1 : jobs))
 export PYTHONUNBUFFERED=1
