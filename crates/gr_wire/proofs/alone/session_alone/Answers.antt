@@ -8,7 +8,7 @@ use Rattle.gr_wire.proofs.alone.session_alone.Goals as goal
 pub returns-in-Ok : goal.returns-in-Ok
 returns-in-Ok g c = subst
     (λ (book : Machine). EndsOver book c.args.limits (g.R.Read.remaining c.args.reader) (g.W.Write.contents c.args.writer)
-        (g.W.Write.contents c.session_over.result.1) c.session_over.result.0)
+    (g.W.Write.contents c.session_over.result.1) c.session_over.result.0)
     c.in-Ok.ensures c.session_over.ensures
 
 pub returns-in-Err : goal.returns-in-Err

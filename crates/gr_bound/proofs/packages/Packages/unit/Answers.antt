@@ -26,7 +26,7 @@ returns c =
     let has_table : n < length self.tables.items = subst (λ m. n < m) (sym read.tables.size) c.requires.in_range in
     let has_seen : n < length self.seen.now = subst (λ m. n < m) (sym read.seen.size) c.requires.in_range in
     let at_table : slice_get self.tables.items n ≡ Some table =
-        slice_get_read self.tables.items (length self.tables.items) n table refl has_table c.index-table.ensures in
+    slice_get_read self.tables.items (length self.tables.items) n table refl has_table c.index-table.ensures in
     let at_seen : slice_get self.seen.now n ≡ Some seen = slice_get-get_or self.seen.now n c.index-self-number.result has_seen in
     let x = slice_get_some (package_paths w) n c.requires.in_range in
     let here = read.tables.each n table at_table seen at_seen path (x.1 ∙ ap Some (sym (c.path_of-path.ensures x.0 x.1))) in
