@@ -603,7 +603,8 @@ class Checker(Scopes):
         field = self.member(("typed", typ), token.text) if under[0] == "struct" else None
         if field is not None and field.kind != "field":
             self.bind(token, field)
-            self.fault(token, "type")
+            if not field.broken:
+                self.fault(token, "type")
             return None, False
         self.bind(token, field)
         if field is None or field in seen:
