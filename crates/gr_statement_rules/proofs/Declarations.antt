@@ -24,7 +24,7 @@ use Rattle.gr_statement_rules.proofs.Headers.{function_true, function_settled}
 
 -- variables
 
-abbrev literals : List (Item BasicTree) → List Argued
+abbrev pub literals : List (Item BasicTree) → List Argued
 literals is = map (λ i. literal_value i.value) is
 
 literal_kinds : {is : List (Item BasicTree)} {ks : List Kind} → AreLiterals is ks → AreOf (literals is) ks
@@ -51,7 +51,7 @@ same_length : {X : Type 0} (f : X → Target) (names : List X) → length (map f
 same_length f [] = refl
 same_length f (x ∷ xs) = ap suc (same_length f xs)
 
-length_of : (is : List (Item BasicTree)) → length (literals is) ≡ length is
+pub length_of : (is : List (Item BasicTree)) → length (literals is) ≡ length is
 length_of [] = refl
 length_of (x ∷ xs) = ap suc (length_of xs)
 
@@ -88,7 +88,7 @@ global_silent : (w : World) (g : GlobalTree) (t : PlainType) → IsType w g.type
 unfolding global_faults
 global_silent w g t i h = ap (λ z. z.faults ++ value_faults w g.names z.type_of g.values) (type_true w i) ∙ h
 
-global_true : (w : World) (s : Checked) (g : GlobalTree) (after : Locals) → s.faults ≡ [] → GlobalIsTyped w s.locals g after → IsAt (check_global w s g) after
+pub global_true : (w : World) (s : Checked) (g : GlobalTree) (after : Locals) → s.faults ≡ [] → GlobalIsTyped w s.locals g after → IsAt (check_global w s g) after
 global_true w s g after h (without_values {t = t} i e) = reached s (global_faults w g) [] h (global_silent w g t i (without_silent w g t e)) refl
 global_true w s g after h (with_literals {t = t} i e l u) = reached s (global_faults w g) [] h (global_silent w g t i (with_silent w g t e l u)) refl
 
@@ -141,7 +141,7 @@ unfolding body_faults
 body_settled w (tree.Other x) h = elim (type_or_broken w x h) [ inl t ↦ inl (another_type (true_type w x t.0 t.1)) | inr b ↦ inr (other_broken b) ]
 body_settled w (tree.Struct p o is c) h = elim (fields_settled w is h) [ inl f ↦ inl (a_struct f) | inr b ↦ inr (in_struct b) ]
 
-type_spec_true : (w : World) (s : Checked) (t : TypeSpecTree) (after : Locals) → s.faults ≡ [] → TypeIsTyped w s.locals t after → IsAt (check_type w s t) after
+pub type_spec_true : (w : World) (s : Checked) (t : TypeSpecTree) (after : Locals) → s.faults ≡ [] → TypeIsTyped w s.locals t after → IsAt (check_type w s t) after
 type_spec_true w s t after h (a_definition_of b) = reached s (body_faults w t.body) [] h (body_silent w b) refl
 
 type_spec_settled : (w : World) (s : Checked) (t : TypeSpecTree) → (check_type w s t).faults ≡ [] →

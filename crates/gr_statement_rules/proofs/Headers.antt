@@ -25,13 +25,13 @@ use Rattle.gr_statement_rules.proofs.Statements.{AreTargets, block_true, block_s
 
 -- receivers
 
-no_points : (u : Underlying) → ((t : PlainType) → u ≡ PointerTo t → ⊥) → points u ≡ false
+pub no_points : (u : Underlying) → ((t : PlainType) → u ≡ PointerTo t → ⊥) → points u ≡ false
 no_points (Plain b) n = refl
 no_points (PointerTo t) n = absurd (n t refl)
 no_points (SliceOf t) n = refl
 no_points (Struct s) n = refl
 
-points_no : (u : Underlying) → points u ≡ false → (t : PlainType) → u ≡ PointerTo t → ⊥
+pub points_no : (u : Underlying) → points u ≡ false → (t : PlainType) → u ≡ PointerTo t → ⊥
 points_no u h t e = true≢false (sym (ap points e) ∙ h)
 
 abbrev defined_when : ℕ → Symbol → Bool → TypeJudged
@@ -41,12 +41,12 @@ defined_when place s c = record {
       (Defined s) else no_type_at place).faults;
 }
 
-base_true : (w : World) (place : ℕ) (s : Symbol) → ((u : PlainType) → w.definition s ≡ PointerTo u → ⊥) →
+pub base_true : (w : World) (place : ℕ) (s : Symbol) → ((u : PlainType) → w.definition s ≡ PointerTo u → ⊥) →
     received w place (good_type (Defined s)) ≡ good_type (Defined s)
 unfolding receiving may_receive
 base_true w place s n = ap (λ c. defined_when place s (if c then false else true)) (no_points (w.definition s) n)
 
-star_true : {o : Option ℕ} {t u : PlainType} → IsBehindStar o t u → starred o (good_type t) ≡ good_type u
+pub star_true : {o : Option ℕ} {t u : PlainType} → IsBehindStar o t u → starred o (good_type t) ≡ good_type u
 star_true no_star = refl
 star_true a_star = refl
 
@@ -57,7 +57,7 @@ unfolding judge_receiver receiver_base named_type
 receiver_type w r {s} e n b = ap (λ z. starred r.star (received w r.type_name (named_type z r.type_name))) e
     ∙ (ap (starred r.star) (base_true w r.type_name s n) ∙ star_true b)
 
-receiver_true : (w : World) (s : Checked) (r : ReceiverTree) (after : Locals) → s.faults ≡ [] → ReceiverIsTyped w s.locals r after →
+pub receiver_true : (w : World) (s : Checked) (r : ReceiverTree) (after : Locals) → s.faults ≡ [] → ReceiverIsTyped w s.locals r after →
     IsAt (check_receiver w s r) after
 unfolding check_receiver
 receiver_true w s r after h (a_receiver e n b d) = let q = receiver_type w r e n b in
@@ -106,11 +106,11 @@ base_settled w place (Local d) e h = no_fault h
 base_settled w place BrokenVariable e h = no_fault h
 base_settled w place BrokenFunction e h = no_fault h
 
-star_faults : (o : Option ℕ) (j : TypeJudged) → (starred o j).faults ≡ j.faults
+pub star_faults : (o : Option ℕ) (j : TypeJudged) → (starred o j).faults ≡ j.faults
 star_faults None j = refl
 star_faults (Some p) j = refl
 
-star_found : (o : Option ℕ) (j : TypeJudged) (s : Symbol) → j.type_of ≡ Some (Defined s) → (t : PlainType) × IsBehindStar o (Defined s) t ×
+pub star_found : (o : Option ℕ) (j : TypeJudged) (s : Symbol) → j.type_of ≡ Some (Defined s) → (t : PlainType) × IsBehindStar o (Defined s) t ×
     ((starred o j).type_of ≡ Some t)
 star_found None j s e = (Defined s, no_star, e)
 star_found (Some p) j s e = (Pointer (Defined s), a_star, ap (option_map Pointer) e)
@@ -150,7 +150,7 @@ optional_receiver_settled w s (Some r) h = let q = receiver_settled w s r h in (
 
 -- parameters
 
-param_true : (w : World) (s : Checked) (p : ParamTree) (after : Locals) → s.faults ≡ [] → ParamIsTyped w s.locals p after → IsAt (check_param w s p) after
+pub param_true : (w : World) (s : Checked) (p : ParamTree) (after : Locals) → s.faults ≡ [] → ParamIsTyped w s.locals p after → IsAt (check_param w s p) after
 unfolding check_param
 param_true w s p after h (a_param i d) = typed_names w s p.names h i d
 

@@ -1,10 +1,9 @@
 -- The laws of typed statements and declarations.
-use Rattle.std.proofs.Common.{ℕ, ◌≡◌, ◌↔◌, ◌⊎◌, inl, inr, Bool, List, [], ◌∷◌, Some, refl, ap, sym, ◌∙◌}
+use Rattle.std.proofs.Common.{ℕ, ◌≡◌, ◌↔◌, ◌⊎◌, inl, inr, Bool, List, []}
 use Rattle.gr_tree.specs.Tree.{SimpleTree, StatementTree, BlockTree, FuncTree, DeclTree, FileTree}
 use Rattle.gr_expr.specs.Types.{PlainType}
 use Rattle.gr_expr.specs.World.{World, Locals}
 use Rattle.gr_stmt.specs.Checked.{Checked}
-use Rattle.gr_stmt.specs.Sides.{Wants}
 use Rattle.gr_stmt.specs.Simple.{check_simple}
 use Rattle.gr_stmt.specs.Statements.{check_statement, check_block}
 use Rattle.gr_stmt.specs.Headers.{check_function}
@@ -16,16 +15,13 @@ use Rattle.gr_statement_rules.specs.Declarations.{FunctionIsTyped, DeclIsTyped, 
 use Rattle.gr_statement_rules.specs.Excused.{SimpleIsExcused, StatementIsExcused, BlockIsExcused, FunctionIsExcused, DeclIsExcused, FileIsExcused}
 use Rattle.gr_statement_rules.proofs.Reaching.{IsAt, here}
 use Rattle.gr_statement_rules.proofs.Simple.{simple_true, simple_settled}
-use Rattle.gr_statement_rules.proofs.Statements.{AreTargets, statement_true, statement_settled, block_true, block_settled}
+use Rattle.gr_statement_rules.proofs.Statements.{statement_true, statement_settled, block_true, block_settled}
 use Rattle.gr_statement_rules.proofs.Headers.{function_true, function_settled}
 use Rattle.gr_statement_rules.proofs.Declarations.{decl_true, decl_settled, file_true, file_settled}
+use Rattle.gr_statement_rules.proofs.Excluding.{targets_are, statement_one, file_not}
 
 at : {s : Checked} {after : Locals} → IsAt s after → Reaches s after
 at a = record { locals = a.locals_are; faultless = a.faultless }
-
-targets_are : (results : List PlainType) → AreTargets (wanted results) results
-targets_are [] = refl
-targets_are (t ∷ ts) = ap (λ z. Wants (Some t) ∷ z) (targets_are ts)
 
 pub simple_law : (w : World) → (s : Checked) → (a : SimpleTree) → (after : Locals) → s.faults ≡ [] → SimpleIsTyped w s.locals a after →
     Reaches (check_simple w s a) after
@@ -44,20 +40,9 @@ pub settled_statement : (w : World) → (results : List PlainType) → (s : Chec
     (wanted results) s x).locals ⊎ StatementIsExcused w results s.locals x
 settled_statement w results s x h = let q = statement_settled w results (wanted results) (targets_are results) x s h in q.1
 
-start : Locals → Checked
-start before = record { locals = before; faults = []; uses = [] }
-
-outcome : (w : World) (results : List PlainType) (before after : Locals) (x : StatementTree) → StatementIsTyped w results before x after →
-    (check_statement w (wanted results) (start before) x).locals ≡ after
-unfolding start
-outcome w results before after x r = let a = statement_true w results (wanted results) (targets_are results) r (start before) (record {
-  locals_are = refl;
-  faultless = refl;
-}) in a.locals_are
-
 pub one_outcome : (w : World) → (results : List PlainType) → (before after other : Locals) → (x : StatementTree) →
     StatementIsTyped w results before x after → StatementIsTyped w results before x other → after ≡ other
-one_outcome w results before after other x h k = sym (outcome w results before after x h) ∙ outcome w results before other x k
+one_outcome w results before after other x h k = statement_one w results before after other x h k
 
 pub block_law : (w : World) → (results : List PlainType) → (s : Checked) → (x : BlockTree) → (after : Locals) → s.faults ≡ [] →
     BlockIsTyped w results s.locals x after → Reaches (check_block w (wanted results) s x) after
@@ -86,3 +71,10 @@ settled_decl w b s d h = let q = decl_settled w b s d h in q.1
 pub file_law : (w : World) → (is_init : ℕ → Bool) → (f : FileTree) → (FileIsExcused w is_init f → ⊥) →
     ((check_file w is_init f).faults ≡ []) ↔ FileIsTyped w is_init f
 file_law w b f n = (λ h. elim (file_settled w b f h) [ inl t ↦ t | inr e ↦ absurd (n e) ], λ t. file_true w b f t)
+
+pub typed_files : (w : World) → (is_init : ℕ → Bool) → (f : FileTree) → FileIsTyped w is_init f ↔ (((check_file w is_init f).faults ≡ []) ×
+    (FileIsExcused w is_init f → ⊥))
+typed_files w b f = (
+  λ t. (file_true w b f t, λ e. file_not w b f t e),
+  λ h. elim (file_settled w b f h.0) [ inl t ↦ t | inr e ↦ absurd (h.1 e) ],
+)

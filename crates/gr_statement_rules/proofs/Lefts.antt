@@ -105,7 +105,7 @@ operand_or_excused : (w : World) (locals : Locals) (i : Item ExprTree) → (IsBl
 operand_or_excused w locals i n h = elim (operand_settled w locals i.value h) [ inl o ↦ operand_found w locals i o | inr u ↦ inr (λ is. assigned_uses n u) ]
 
 -- a left side is `_`, or it is found as an operand
-assigned_cases : (w : World) (locals : Locals) (e : ExprTree) → ((p : ℕ) × (e ≡ tree.Blank p)) ⊎ ((IsBlank e → ⊥) × (assigned_one w locals e ≡
+pub assigned_cases : (w : World) (locals : Locals) (e : ExprTree) → ((p : ℕ) × (e ≡ tree.Blank p)) ⊎ ((IsBlank e → ⊥) × (assigned_one w locals e ≡
     left_side (Wants (own_type (judge_operand w locals e).meaning)) (judge_operand w locals e)))
 unfolding assigned_one
 assigned_cases w locals (tree.Blank p) = inl (p, refl)
@@ -154,10 +154,10 @@ assigned_settled w locals (i ∷ is) h = elim (assigned_one_settled w locals i (
 
 -- left sides of `:=`
 
-own_test : (b : Bound) (p : ℕ) → b ≡ Local p → is_own p b ≡ true
+pub own_test : (b : Bound) (p : ℕ) → b ≡ Local p → is_own p b ≡ true
 own_test b p e = ap (is_own p) e ∙ eq-eqb p p refl
 
-test_own : (b : Bound) (p : ℕ) → is_own p b ≡ true → b ≡ Local p
+pub test_own : (b : Bound) (p : ℕ) → is_own p b ≡ true → b ≡ Local p
 test_own (Local d) p h = ap Local (eqb-true d p h)
 test_own (Means m) p h = absurd (true≢false (sym h))
 test_own BrokenVariable p h = absurd (true≢false (sym h))
@@ -249,7 +249,7 @@ new_bound (bound_to_itself b) = b
 not_new : (w : World) (i : Item ExprTree) (p : ℕ) → i.value ≡ tree.Name p → (w.bound p ≡ Local p → ⊥) → IsNewName w i.value → ⊥
 not_new w i p e n h = n (new_bound (subst (λ z. IsNewName w z) e h))
 
-own_not : (w : World) (p : ℕ) → declares w p ≡ false → w.bound p ≡ Local p → ⊥
+pub own_not : (w : World) (p : ℕ) → declares w p ≡ false → w.bound p ≡ Local p → ⊥
 own_not w p d q = true≢false (sym (own_test (w.bound p) p q) ∙ d)
 
 old_found : (w : World) (locals : Locals) (i : Item ExprTree) (p : ℕ) → i.value ≡ tree.Name p → (w.bound p ≡ Local p → ⊥) → (k : Kind) (a : Bool) →

@@ -13,3 +13,4 @@ pub mod Laws
 pub mod Examples
 pub mod Unbroken
 pub mod Exclusive
+pub mod Excluding

@@ -82,7 +82,7 @@ alone_true w s {e} h v t = let a = sound w s.locals v in
     (empty_both (judge w s.locals e).faults (stands_faults (place_of e) (is_statement w s.locals e) (judge w s.locals e).meaning) a.faultless
     (stands_silent (place_of e) (judge w s.locals e).meaning t)) refl
 
-call_found : (w : World) (ls : Locals) (e : ExprTree) (m : Meaning) → HasMeaning w ls e m → IsCallFound w ls e → SimpleIsTyped w ls (tree.Alone e) ls
+pub call_found : (w : World) (ls : Locals) (e : ExprTree) (m : Meaning) → HasMeaning w ls e m → IsCallFound w ls e → SimpleIsTyped w ls (tree.Alone e) ls
 call_found w ls e m v c = subst (λ z. SimpleIsTyped w ls (tree.Alone z) ls) (sym c.is_chain) (a_call (subst
     (λ z. HasMeaning w ls z m) c.is_chain v) c.ends c.means c.stands)
 

@@ -47,13 +47,13 @@ one_list w locals means.no_argument means.no_argument = refl
 one_list w locals (means.argument {e} {k = j} {a = a} {ks = js} v more) (means.argument {k = k} {a = b} u others) =
     ap (λ z. z ∷ js) (one_kind (one_meaning w locals e (Value j a) (Value k b) v u)) ∙ ap (λ z. k ∷ z) (one_list w locals more others)
 
-one_type : (w : World) {x : TypeTree} {t u : PlainType} → IsType w x t → IsType w x u → t ≡ u
+pub one_type : (w : World) {x : TypeTree} {t u : PlainType} → IsType w x t → IsType w x u → t ≡ u
 one_type w {t = t} {u} a b = let e : good_type t ≡ good_type u = sym (type_true w a) ∙ type_true w b in
     let f : Some t ≡ Some u = ap (λ (z : TypeJudged). z.type_of) e in cc
 
 -- types and members that are broken
 
-no_type : (w : World) {x : TypeTree} {t : PlainType} → IsBrokenType w x → IsType w x t → ⊥
+pub no_type : (w : World) {x : TypeTree} {t : PlainType} → IsBrokenType w x → IsType w x t → ⊥
 no_type w (uses.named e) (names.named f) = cc
 no_type w (uses.imported e f) (names.imported g h) = cc
 no_type w (uses.pointer b) (names.pointer i) = no_type w b i

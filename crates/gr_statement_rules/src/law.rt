@@ -52,6 +52,11 @@ pub fn typed_statements_have_one_outcome()
     ensures { (w : World) → (results : List PlainType) → (before after other : Locals) → (x : StatementTree) → StatementIsTyped w results before x after → StatementIsTyped w results before x other → after ≡ other }
 {}
 
+/// A statement that keeps the typing rules is not excused.
+pub fn typed_statements_are_not_excused()
+    ensures { (w : World) → (results : List PlainType) → (before after : Locals) → (x : StatementTree) → StatementIsTyped w results before x after → StatementIsExcused w results before x → ⊥ }
+{}
+
 /// The same of blocks.
 pub fn typed_blocks_have_no_fault()
     ensures { (w : World) → (results : List PlainType) → (s : Checked) → (x : BlockTree) → (after : Locals) → s.faults ≡ [] → BlockIsTyped w results s.locals x after → Reaches (check_block w (wanted results) s x) after }
@@ -60,6 +65,11 @@ pub fn typed_blocks_have_no_fault()
 /// The same of blocks.
 pub fn blocks_without_fault_are_typed()
     ensures { (w : World) → (results : List PlainType) → (s : Checked) → (x : BlockTree) → (check_block w (wanted results) s x).faults ≡ [] → BlockIsTyped w results s.locals x (check_block w (wanted results) s x).locals ⊎ BlockIsExcused w results s.locals x }
+{}
+
+/// The same of blocks.
+pub fn typed_blocks_are_not_excused()
+    ensures { (w : World) → (results : List PlainType) → (before after : Locals) → (x : BlockTree) → BlockIsTyped w results before x after → BlockIsExcused w results before x → ⊥ }
 {}
 
 /// In a function that keeps the typing rules no fault is found.
@@ -72,6 +82,11 @@ pub fn functions_without_fault_are_typed()
     ensures { (w : World) → (is_init : Bool) → (s : Checked) → (f : FuncTree) → (check_function w is_init s f).faults ≡ [] → FunctionIsTyped w is_init s.locals f (check_function w is_init s f).locals ⊎ FunctionIsExcused w s.locals f }
 {}
 
+/// A function that keeps the typing rules is not excused.
+pub fn typed_functions_are_not_excused()
+    ensures { (w : World) → (is_init : Bool) → (before after : Locals) → (f : FuncTree) → FunctionIsTyped w is_init before f after → FunctionIsExcused w before f → ⊥ }
+{}
+
 /// In a declaration of a package that keeps the typing rules no fault is found.
 pub fn typed_declarations_have_no_fault()
     ensures { (w : World) → (is_init : ℕ → Bool) → (s : Checked) → (d : DeclTree) → (after : Locals) → s.faults ≡ [] → DeclIsTyped w is_init s.locals d after → Reaches (check_decl w is_init s d) after }
@@ -80,6 +95,11 @@ pub fn typed_declarations_have_no_fault()
 /// A declaration of a package in which no fault is found keeps the typing rules, or is excused.
 pub fn declarations_without_fault_are_typed()
     ensures { (w : World) → (is_init : ℕ → Bool) → (s : Checked) → (d : DeclTree) → (check_decl w is_init s d).faults ≡ [] → DeclIsTyped w is_init s.locals d (check_decl w is_init s d).locals ⊎ DeclIsExcused w s.locals d }
+{}
+
+/// A declaration of a package that keeps the typing rules is not excused.
+pub fn typed_declarations_are_not_excused()
+    ensures { (w : World) → (is_init : ℕ → Bool) → (before after : Locals) → (d : DeclTree) → DeclIsTyped w is_init before d after → DeclIsExcused w before d → ⊥ }
 {}
 
 /// In a file that keeps the typing rules no fault of types is found.
@@ -92,7 +112,17 @@ pub fn files_without_fault_are_typed()
     ensures { (w : World) → (is_init : ℕ → Bool) → (f : FileTree) → (check_file w is_init f).faults ≡ [] → FileIsTyped w is_init f ⊎ FileIsExcused w is_init f }
 {}
 
+/// A file that keeps the typing rules is not excused.
+pub fn typed_files_are_not_excused()
+    ensures { (w : World) → (is_init : ℕ → Bool) → (f : FileTree) → FileIsTyped w is_init f → FileIsExcused w is_init f → ⊥ }
+{}
+
 /// In a file that is not excused no fault of types is found exactly where it keeps the typing rules.
 pub fn files_are_checked_by_the_rules()
     ensures { (w : World) → (is_init : ℕ → Bool) → (f : FileTree) → (FileIsExcused w is_init f → ⊥) → ((check_file w is_init f).faults ≡ []) ↔ FileIsTyped w is_init f }
+{}
+
+/// The files that keep the typing rules are just those in which no fault of types is found and that are not excused.
+pub fn typed_files_are_those_without_fault_or_excuse()
+    ensures { (w : World) → (is_init : ℕ → Bool) → (f : FileTree) → FileIsTyped w is_init f ↔ (((check_file w is_init f).faults ≡ []) × (FileIsExcused w is_init f → ⊥)) }
 {}

@@ -1,0 +1,82 @@
+-- What a list of faults holds, and that it tells just where a rule is broken.
+use Rattle.std.proofs.Common.{ℕ, ◌≡◌, Bool, true, false, if◌then◌else◌, ◌⊎◌, inl, inr, List, [], ◌∷◌, ◌++◌, Option, Some, None, refl, subst, arith}
+use Rattle.std.specs.List.{Contains}
+use Rattle.std.proofs.lemmas.List.Elements.{Contains-append_left, Contains-append_right, Contains-append_cases, Contains-push, Contains-push_cases}
+
+abbrev pub Holds : List ℕ → ℕ → Type 0
+Holds [] p = ⊥
+Holds (x ∷ xs) p = (x ≡ p) ⊎ Holds xs p
+
+none_contained : (p : ℕ) → Contains [] p → ⊥
+none_contained p h = let lt = h.1 in absurd (omega arith)
+
+pub contains_holds : (xs : List ℕ) (p : ℕ) → Contains xs p → Holds xs p
+contains_holds [] p h = none_contained p h
+contains_holds (x ∷ xs) p h = elim (Contains-append_cases (x ∷ []) xs p h) [
+  | inl a ↦ elim (Contains-push_cases [] x p a) [ inl n ↦ absurd (none_contained p n) | inr e ↦ inl e ]
+  | inr b ↦ inr (contains_holds xs p b)
+]
+
+pub holds_contains : (xs : List ℕ) (p : ℕ) → Holds xs p → Contains xs p
+holds_contains [] p h = absurd h
+holds_contains (x ∷ xs) p (inl e) = subst (λ z. Contains (x ∷ xs) z) e (Contains-append_left (x ∷ []) xs x (Contains-push [] x))
+holds_contains (x ∷ xs) p (inr h) = Contains-append_right (x ∷ []) xs p (holds_contains xs p h)
+
+pub holds_left : (xs ys : List ℕ) (p : ℕ) → Holds xs p → Holds (xs ++ ys) p
+holds_left [] ys p h = absurd h
+holds_left (x ∷ xs) ys p (inl e) = inl e
+holds_left (x ∷ xs) ys p (inr h) = inr (holds_left xs ys p h)
+
+pub holds_right : (xs ys : List ℕ) (p : ℕ) → Holds ys p → Holds (xs ++ ys) p
+holds_right [] ys p h = h
+holds_right (x ∷ xs) ys p h = inr (holds_right xs ys p h)
+
+pub holds_cases : (xs ys : List ℕ) (p : ℕ) → Holds (xs ++ ys) p → Holds xs p ⊎ Holds ys p
+holds_cases [] ys p h = inr h
+holds_cases (x ∷ xs) ys p (inl e) = inl (inl e)
+holds_cases (x ∷ xs) ys p (inr h) = elim (holds_cases xs ys p h) [ inl a ↦ inl (inr a) | inr b ↦ inr b ]
+
+-- just the places of which B holds
+pub record Tells (faults : List ℕ) (B : ℕ → Type 0) : Type 0 where
+  pub found : (p : ℕ) → Holds faults p → B p
+  pub stands : (p : ℕ) → B p → Holds faults p
+
+pub none_told : {B : ℕ → Type 0} → ((p : ℕ) → B p → ⊥) → Tells [] B
+none_told n = record { found = λ p h. absurd h; stands = λ p b. n p b }
+
+pub both_told : (xs ys : List ℕ) {A C B : ℕ → Type 0} → Tells xs A → Tells ys C → ((p : ℕ) → A p → B p) → ((p : ℕ) → C p → B p) → ((p : ℕ) → B p → A p ⊎ C p) →
+    Tells (xs ++ ys) B
+both_told xs ys a c f g h = record {
+  found = λ p q. elim (holds_cases xs ys p q) [ inl x ↦ f p (a.found p x) | inr y ↦ g p (c.found p y) ];
+  stands = λ p b. elim (h p b) [ inl x ↦ holds_left xs ys p (a.stands p x) | inr y ↦ holds_right xs ys p (c.stands p y) ];
+}
+
+pub told_as : {xs : List ℕ} {A B : ℕ → Type 0} → Tells xs A → ((p : ℕ) → A p → B p) → ((p : ℕ) → B p → A p) → Tells xs B
+told_as a f g = record { found = λ p h. f p (a.found p h); stands = λ p b. a.stands p (g p b) }
+
+-- at most one place, where C holds
+abbrev pub At : ℕ → Type 0 → ℕ → Type 0
+At place C p = (place ≡ p) × C
+
+pub at_place : {place : ℕ} {C : Type 0} (B : ℕ → Type 0) → (C → B place) → (p : ℕ) → At place C p → B p
+at_place B f p a = subst B a.0 (f a.1)
+
+pub nothing_at : (place : ℕ) {C : Type 0} → (C → ⊥) → Tells [] (At place C)
+nothing_at place n = none_told (λ p a. n a.1)
+
+pub fault_at : (place : ℕ) {C : Type 0} → C → Tells (place ∷ []) (At place C)
+fault_at place c = record { found = λ p h. elim h [ inl e ↦ (e, c) | inr n ↦ absurd n ]; stands = λ p a. inl a.0 }
+
+pub test_told : (b : Bool) (place : ℕ) {C : Type 0} → (b ≡ true → C → ⊥) → (b ≡ false → C) → Tells (if b then [] else (place ∷ [])) (At place C)
+test_told true place n f = nothing_at place (n refl)
+test_told false place n f = fault_at place (f refl)
+
+pub fault_told : (b : Bool) (place : ℕ) {C : Type 0} → (b ≡ true → C) → (b ≡ false → C → ⊥) → Tells (if b then (place ∷ []) else []) (At place C)
+fault_told true place f n = fault_at place (f refl)
+fault_told false place f n = nothing_at place (n refl)
+
+pub some_same : {A : Type 0} {x y : A} → Some x ≡ Some y → x ≡ y
+some_same e = cc
+
+pub none_some : {A : Type 0} {o : Option A} {x : A} → o ≡ None → o ≡ Some x → ⊥
+none_some e f = cc

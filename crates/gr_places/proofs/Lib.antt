@@ -1,0 +1,19 @@
+-- The lemmas of this crate.
+pub mod Holding
+pub mod Values
+pub mod Stepping
+pub mod Calling
+pub mod Elements
+pub mod Expressions
+pub mod Giving
+pub mod Lefts
+pub mod Leading
+pub mod Types
+pub mod Turns
+pub mod Simple
+pub mod Locals
+pub mod Statements
+pub mod Headers
+pub mod Declarations
+pub mod Laws
+pub mod Examples
