@@ -8,5 +8,5 @@ pub returns-in-None : goal.returns-in-None
 returns-in-None c = ahead_of_none c.args.first.now c.args.place.now c.in-None.is
 
 pub returns-in-Some : goal.returns-in-Some
-returns-in-Some c = ahead_of_some c.args.first.now c.in-Some.conflict.now c.args.place.now c.in-Some.is c.is_lt.result
+returns-in-Some c = ahead_of_some c.args.first.now c.in-Some.conflict c.args.place.now c.in-Some.is c.is_lt.result
     (c.is_lt.ensures ∙ ap is_lt c.compare.ensures)
