@@ -16,9 +16,9 @@ use Rattle.gr_conflict.proofs.Firsts.{less_of}
 pub ahead_of_none : (first : Option Conflict) (place : Place) → first ≡ None → IsTrue true ↔ IsAhead first place
 ahead_of_none first place none = ((λ t. subst (λ o. IsAhead o place) (sym none) tt), (λ h. refl))
 
-pub ahead_of_some : (first : Option Conflict) (c : Conflict) (place : Place) → first ≡ Some c → (yes : Bool) → yes ≡ is_lt (place_cmp place c.used) →
-    IsTrue yes ↔ IsAhead first place
-ahead_of_some first c place some yes is = (
+pub ahead_of_some : (first : Option Conflict) (c : Conflict) (place : Place) → first ≡ Some c → (told : Bool) → told ≡ is_lt (place_cmp place c.used) →
+    IsTrue told ↔ IsAhead first place
+ahead_of_some first c place some told is = (
   (λ t. subst (λ o. IsAhead o place) (sym some) (less_of (place_cmp place c.used) (sym is ∙ t))),
   (λ h. let less : place_cmp place c.used ≡ Less = subst (λ o. IsAhead o place) some h in is ∙ ap is_lt less),
 )
