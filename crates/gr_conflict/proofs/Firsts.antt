@@ -34,6 +34,11 @@ not_before z y x h k less = by_answer (place_cmp x y) refl
     by_answer Equal e = h (subst (λ p. place_cmp z p ≡ Less) (place_cmp_exact x y e) less)
     by_answer Greater e = k (place_cmp_total.antisymm y x ∙ ap ordering_reverse e)
 
+pub less_of : (o : Ordering) → is_lt o ≡ true → o ≡ Less
+less_of Less e = refl
+less_of Equal e = absurd (false≢true e)
+less_of Greater e = absurd (false≢true e)
+
 -- the first of a place and the one found before
 pub only_this : (old : Option Place) (place : Place) → old ≡ None → IsEarlier old place place
 only_this old place none = record { one = inl refl; this = itself place; other = λ y some. absurd (none-some y (sym none ∙ some)) }
@@ -44,11 +49,6 @@ this_first old place other is less = record {
   this = itself place;
   other = λ y some. subst (λ x. IsNotBefore x place) (same_Some other y (sym is ∙ some)) (behind place other (less_of (place_cmp place other) less));
 }
-  where
-    less_of : (o : Ordering) → is_lt o ≡ true → o ≡ Less
-    less_of Less e = refl
-    less_of Equal e = absurd (false≢true e)
-    less_of Greater e = absurd (false≢true e)
 
 pub other_first : (old : Option Place) (place other : Place) → old ≡ Some other → is_lt (place_cmp place other) ≡ false → IsEarlier old place other
 other_first old place other is not = record {

@@ -6,4 +6,5 @@ pub mod Become
 pub mod Nowadays
 pub mod Taking
 pub mod Telling
+pub mod Stayed
 pub mod Firsts

@@ -33,6 +33,7 @@ use Rattle.gr_conflict.specs.declared.conflict.Conflict.{Conflict}
 use Rattle.gr_conflict.specs.Afterwards.{HasBecome, IsBoundByScopes, IsExportAfter, IsBoundByPackage}
 use Rattle.gr_conflict.specs.Conflicts.{IsCapturer, TellsOf, unbound, elsewhere, captured, TellsOther, IsConflictIn, IsConflict, IsNoted, IsOtherNoted, IsOtherAt}
 use Rattle.gr_conflict.specs.Conflicts.{IsLostAt, IsLostAtFound, IsMemberConflict, IsMemberConflictAmong, IsToldFirst, TellsFirst}
+use Rattle.gr_conflict.specs.Staying.{NoneIsLost}
 use Rattle.gr_conflict.specs.Conflicts.{an_identifier, by_scope, by_package, by_member, by_name}
 
 -- of what was found K tells
@@ -137,7 +138,7 @@ exported_there w known path name (Field s) h = absurd h
 exported_there w known path name (Method s) h = absurd h
 
 -- it stands behind one package's name
-bound_behind : (w : Workspace) (r : Revision) (p : Package) (u : ℕ) (path : List ℕ) → IsBehindPackage p u path → (place : Place) → (e : Declaration) →
+pub bound_behind : (w : Workspace) (r : Revision) (p : Package) (u : ℕ) (path : List ℕ) → IsBehindPackage p u path → (place : Place) → (e : Declaration) →
     IsExportAfter w r path (r.called place (p.names u)) e → IsBoundByPackage w r place p u e
 bound_behind w r p u path behind place e h = record { path = path; behind = behind; exports = h }
 
@@ -203,7 +204,7 @@ method_in w known r p rank o is c h =
     let n = found_to_name (IsMethodAt p) p rank o is c.used h.0 in
     record { user = n.0; begins = n.1.0; turned = by_name (Method (symbol_in p rank)) (refl, n.1.1) h.1 }
 
--- the first identifier, where no conflict was found
-pub told_so : (w : Workspace) (known : Verdicts) (r : Revision) (o : Option Conflict) → IsToldFirst w known o → TellsFirst w known r o
-told_so w known r None h = h
-told_so w known r (Some c) h = an_identifier h
+-- the first identifier, where no conflict was found, and none is lost
+pub told_so : (w : Workspace) (known : Verdicts) (r : Revision) (o : Option Conflict) → NoneIsLost w known r → IsToldFirst w known o → TellsFirst w known r o
+told_so w known r None none h = h
+told_so w known r (Some c) none h = an_identifier h none

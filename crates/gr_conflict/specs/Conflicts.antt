@@ -1,5 +1,6 @@
 -- Identifiers that a change loses or captures, and what is told of them. Known: the packages of the workspace before.
 use Rattle.std.specs.Prelude.{ℕ, ◌≡◌, ◌⊎◌, ⊤, List, Option, Some, None, MatchOption}
+use Rattle.std.specs.declared.cmp.Ordering.TheVariants.{Less}
 use Rattle.gr_text.specs.Workspace.{Workspace}
 use Rattle.gr_text.specs.declared.place.Place.{Place}
 use Rattle.gr_scope.specs.declared.model.Position.{Position}
@@ -11,6 +12,7 @@ use Rattle.gr_verdict.specs.Verdicts.{Verdicts}
 use Rattle.gr_bound.specs.declared.declaration.Declaration.{Declaration}
 use Rattle.gr_bound.specs.Binding.{BindsByScope, BindsByPackage, BindsByMember, BindsByName, IsBehindPackage}
 use Rattle.gr_bound.specs.Identifiers.{BeginsAt}
+use Rattle.gr_bound.specs.Places.{place_cmp}
 use Rattle.gr_bound.specs.Members.{IsMemberUseOf, IsMemberUseAmong}
 use Rattle.gr_bound.specs.Steps.{AtToken, AtFound}
 use Rattle.gr_bound.specs.Uses.{IsPackage}
@@ -19,6 +21,7 @@ use Rattle.gr_standing.specs.Standing.{IsDeclaredAt}
 use Rattle.gr_check.specs.Preserved.{IsIdentifierAt}
 use Rattle.gr_conflict.specs.Afterwards.{HasBecome, IsBoundByScopes, IsBoundByPackage}
 use Rattle.gr_conflict.specs.Firsts.{IsNotBefore}
+use Rattle.gr_conflict.specs.Staying.{NoneIsLost, NoneIsLostBefore}
 use Rattle.gr_conflict.specs.declared.conflict.Capturer.{Capturer}
 use Rattle.gr_conflict.specs.declared.conflict.Capturer.TheVariants.{Universe, At}
 use Rattle.gr_conflict.specs.declared.conflict.Conflict.{Conflict}
@@ -64,17 +67,18 @@ pub record IsConflict (w : Workspace) (known : Verdicts) (r : Revision) (c : Con
   pub is_package : IsPackage w known used_in
   pub conflict : IsConflictIn w known r used_in c
 
--- no conflict was found, and the identifier is the first of the workspace
+-- the identifier is the first of the workspace, and is told as lost
 pub record IsFirstOfAll (w : Workspace) (known : Verdicts) (c : Conflict) : Type 0 where
   pub lost : c.by ≡ None
   pub is_identifier : IsIdentifierAt w known c.used
   pub first : (place : Place) → IsIdentifierAt w known place → IsNotBefore place c.used
 
--- What is told of a change: an identifier that is afterwards bound to none, or to another declaration, which captures it; or else the
--- first identifier of all, and nothing that captures it.
+-- What is told of a change: an identifier that is afterwards bound to none, or to another declaration, which captures it, where none
+-- before it is lost or captured that scopes bind or that stands behind the name of a package; or, only where none at all is, the first
+-- identifier of the workspace, and nothing that captures it.
 pub data IsTold (w : Workspace) (known : Verdicts) (r : Revision) (c : Conflict) : Type 0 where
-  a_conflict : IsConflict w known r c → IsTold w known r c
-  an_identifier : IsFirstOfAll w known c → IsTold w known r c
+  a_conflict : IsConflict w known r c → NoneIsLostBefore w known r c.used → IsTold w known r c
+  an_identifier : IsFirstOfAll w known c → NoneIsLost w known r → IsTold w known r c
 
 -- no identifier is there
 abbrev pub HasNone : Workspace → Verdicts → Type 0
@@ -88,9 +92,18 @@ IsToldFirst w known told = MatchOption told (HasNone w known) (IsFirstOfAll w kn
 abbrev pub TellsFirst : Workspace → Verdicts → Revision → Option Conflict → Type 0
 TellsFirst w known r told = MatchOption told (HasNone w known) (IsTold w known r)
 
--- what is kept is what was, or a conflict of which P holds
-abbrev pub Takes : {X : Type 0} → (X → Type 0) → Option X → Option X → Type 0
-Takes {X} P old new = (new ≡ old) ⊎ ((x : X) × ((new ≡ Some x) × P x))
+-- a place stands before the conflict that was found first, if there is one
+abbrev pub IsAhead : Option Conflict → Place → Type 0
+IsAhead None place = ⊤
+IsAhead (Some c) place = place_cmp place c.used ≡ Less
+
+-- what is kept is what was, or a conflict that stands before it, of which P holds
+abbrev pub Takes : (Conflict → Type 0) → Option Conflict → Option Conflict → Type 0
+Takes P old new = (new ≡ old) ⊎ ((c : Conflict) × ((new ≡ Some c) × (P c × IsAhead old c.used)))
+
+-- K holds of each place that stands before the conflict that was found first, and of all where there is none
+abbrev pub HoldsAhead : (Place → Type 0) → Option Conflict → Type 0
+HoldsAhead K first = (place : Place) → IsAhead first place → K place
 
 -- the conflict of that place, by that capturer
 abbrev pub IsKept : Place → Option Capturer → Conflict → Type 0

@@ -2,6 +2,7 @@
 pub mod Told
 pub mod Afterwards
 pub mod Firsts
+pub mod Staying
 pub mod Conflicts
 pub mod OldPlaces
 pub mod Refusals

@@ -6,8 +6,9 @@ ghost use Rattle.gr_revision.specs.RevisionsOfEdits.{revision_of};
 ghost use Rattle.gr_bound.specs.Packages.{ArePackages};
 ghost use Rattle.gr_bound.specs.Workspaces.{IsSound, known_in};
 ghost use Rattle.gr_scoped.specs.Scopes.{AreAllScopes};
-ghost use Rattle.gr_conflict.specs.Conflicts.{IsConflict, IsToldFirst, TellsFirst, Takes};
+ghost use Rattle.gr_conflict.specs.Conflicts.{IsConflict, IsToldFirst, TellsFirst, Takes, HoldsAhead};
 ghost use Rattle.gr_conflict.specs.Judging.{KnowsBefore, KnowsChange, workspace_of, verdicts_of, workspace_in, known_verdicts, change_in};
+ghost use Rattle.gr_conflict.specs.Staying.{StaysAt, StaysInNumber};
 
 use crate::afterwards::scope_bindings;
 use crate::conflict::Conflict;
@@ -36,7 +37,8 @@ fn judge_package(
 ) -> Result<(), AllocError>
     requires in_range { number < length (package_paths (workspace_in judge.now)) }
     requires knows { KnowsChange judge.now }
-    ensures { OnOk result (Takes (IsConflict (workspace_in judge.now) (known_verdicts judge.now) (change_in judge.now)) first.old first.new) }
+    ensures takes { OnOk result (Takes (IsConflict (workspace_in judge.now) (known_verdicts judge.now) (change_in judge.now)) first.old first.new) }
+    ensures stays { OnOk result (HoldsAhead (StaysInNumber (workspace_in judge.now) (known_verdicts judge.now) (change_in judge.now) number) first.new) }
 {
     let unit = judge.packages.unit(number);
     judge_unit(alloc, first, judge, unit, number)
@@ -45,7 +47,8 @@ fn judge_package(
 /// The first identifier that is lost or captured.
 fn first_judged(alloc: Global, judge: &Judge<'_, '_, '_>) -> Result<Option<Conflict>, AllocError>
     requires { KnowsChange judge.now }
-    ensures { IfOk result (λ first. Takes (IsConflict (workspace_in judge.now) (known_verdicts judge.now) (change_in judge.now)) None first) }
+    ensures takes { IfOk result (λ first. Takes (IsConflict (workspace_in judge.now) (known_verdicts judge.now) (change_in judge.now)) None first) }
+    ensures stays { IfOk result (HoldsAhead (StaysAt (workspace_in judge.now) (known_verdicts judge.now) (change_in judge.now))) }
 {
     let mut first = None;
     for number in 0..judge.packages.graph.len() {
@@ -94,7 +97,8 @@ fn first_found(
     requires before { KnowsBefore packages.now moves.now before.now }
     requires after { after.now ≡ edited moves.now (workspace_of packages.now) }
     requires scoped { AreAllScopes after.now scoped.now }
-    ensures { IfOk result (λ first. Takes (IsConflict (workspace_of packages.now) (verdicts_of packages.now) (revision_of (workspace_of packages.now) moves.now)) None first) }
+    ensures takes { IfOk result (λ first. Takes (IsConflict (workspace_of packages.now) (verdicts_of packages.now) (revision_of (workspace_of packages.now) moves.now)) None first) }
+    ensures stays { IfOk result (HoldsAhead (StaysAt (workspace_of packages.now) (verdicts_of packages.now) (revision_of (workspace_of packages.now) moves.now))) }
 {
     let bound = scope_bindings(alloc, after, scoped)?;
     let judge = Judge {
@@ -122,7 +126,8 @@ fn first_afterwards(
     requires read { ArePackages packages.now }
     requires before { KnowsBefore packages.now moves.now before.now }
     requires after { after.now ≡ edited moves.now (workspace_of packages.now) }
-    ensures { IfOk result (λ first. Takes (IsConflict (workspace_of packages.now) (verdicts_of packages.now) (revision_of (workspace_of packages.now) moves.now)) None first) }
+    ensures takes { IfOk result (λ first. Takes (IsConflict (workspace_of packages.now) (verdicts_of packages.now) (revision_of (workspace_of packages.now) moves.now)) None first) }
+    ensures stays { IfOk result (HoldsAhead (StaysAt (workspace_of packages.now) (verdicts_of packages.now) (revision_of (workspace_of packages.now) moves.now))) }
 {
     let names = clause_names(alloc, after)?;
     let scoped = scoped_packages(alloc, after, &names)?;
@@ -138,7 +143,8 @@ fn judged_first(
 ) -> Result<Option<Conflict>, AllocError>
     requires read { ArePackages packages.now }
     requires after { after.now ≡ edited edits.now (workspace_of packages.now) }
-    ensures { IfOk result (λ first. Takes (IsConflict (workspace_of packages.now) (verdicts_of packages.now) (revision_of (workspace_of packages.now) edits.now)) None first) }
+    ensures takes { IfOk result (λ first. Takes (IsConflict (workspace_of packages.now) (verdicts_of packages.now) (revision_of (workspace_of packages.now) edits.now)) None first) }
+    ensures stays { IfOk result (HoldsAhead (StaysAt (workspace_of packages.now) (verdicts_of packages.now) (revision_of (workspace_of packages.now) edits.now))) }
 {
     let moves = Moves::of(alloc, edits)?;
     let before = Before::of(alloc, packages, &moves)?;

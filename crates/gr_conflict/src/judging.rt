@@ -7,9 +7,10 @@ ghost use Rattle.gr_revision.specs.RevisionsOfEdits.{called_by};
 ghost use Rattle.gr_bound.specs.Binding.{BindsByScope, BindsByPackage};
 ghost use Rattle.gr_bound.specs.Members.{definitions_seen};
 ghost use Rattle.gr_bound.specs.Workspaces.{IsPackageAt};
-ghost use Rattle.gr_conflict.specs.Afterwards.{IsBoundByScopes, IsExportAfter};
-ghost use Rattle.gr_conflict.specs.Conflicts.{IsKept, IsConflictIn, IsNoted, IsOtherNoted, IsOtherAt, IsLostAt, IsLostAtFound, IsMemberConflict, IsMemberConflictAmong, IsOnlyBehind, Takes};
+ghost use Rattle.gr_conflict.specs.Afterwards.{IsBoundByScopes, IsBoundByPackage, IsExportAfter};
+ghost use Rattle.gr_conflict.specs.Conflicts.{IsKept, IsConflictIn, IsNoted, IsOtherNoted, IsOtherAt, IsLostAt, IsLostAtFound, IsMemberConflict, IsMemberConflictAmong, IsOnlyBehind, IsAhead, HoldsAhead, Takes};
 ghost use Rattle.gr_conflict.specs.Judging.{KnowsChange, workspace_in, known_verdicts, known_packages, change_in, becomes_in};
+ghost use Rattle.gr_conflict.specs.Staying.{StaysBound, StaysByScope, StaysByPackage, StaysIn, IfBegins};
 
 use crate::beginning::token_beginning;
 use crate::conflict::Conflict;
@@ -39,7 +40,8 @@ fn note_by_scope(
     old: &Declaration,
 ) -> Result<(), AllocError>
     requires { KnowsChange judge.now }
-    ensures { OnOk result (Takes (IsNoted (becomes_in judge.now) (known_packages judge.now) (IsBoundByScopes (change_in judge.now) place) place old.now) first.old first.new) }
+    ensures takes { OnOk result (Takes (IsNoted (becomes_in judge.now) (known_packages judge.now) (IsBoundByScopes (change_in judge.now) place) place old.now) first.old first.new) }
+    ensures stays { OnOk result (IsAhead first.new place → StaysBound (becomes_in judge.now) (IsBoundByScopes (change_in judge.now) place) old.now) }
 {
     let now = now_by_scope(judge, &place)?;
     note(judge, first, place, old, now)
@@ -56,7 +58,9 @@ fn judge_bound(
     requires knows { KnowsChange judge.now }
     requires in_range { u < length unit.table.now.sites }
     requires was { BindsByScope (package_of unit) u old.now }
-    ensures { OnOk result (Takes (IsConflictIn (workspace_in judge.now) (known_verdicts judge.now) (change_in judge.now) (package_of unit.entry)) first.old first.new) }
+    ensures takes { OnOk result (Takes (IsConflictIn (workspace_in judge.now) (known_verdicts judge.now) (change_in judge.now) (package_of unit.entry)) first.old first.new) }
+    ensures stays { let p = package_of unit.entry in
+        OnOk result (HoldsAhead (IfBegins p u (λ at. StaysBound (becomes_in judge.now) (IsBoundByScopes (change_in judge.now) at) old.now)) first.new) }
 {
     match beginning(unit, u)? {
         None => Ok(()),
@@ -73,8 +77,12 @@ fn judge_by_scope(
 ) -> Result<(), AllocError>
     requires knows { KnowsChange judge.now }
     requires in_range { u < length unit.table.now.sites }
-    ensures { OnOk result (Takes (IsConflictIn (workspace_in judge.now) (known_verdicts judge.now) (change_in judge.now) (package_of unit.entry)) first.old first.new) }
+    ensures takes { OnOk result (Takes (IsConflictIn (workspace_in judge.now) (known_verdicts judge.now) (change_in judge.now) (package_of unit.entry)) first.old first.new) }
+    ensures stays { let p = package_of unit.entry in
+        OnOk result (HoldsAhead (IfBegins p u (StaysByScope (workspace_in judge.now) (known_verdicts judge.now) (change_in judge.now) p u)) first.new) }
 {
+    gr_scope::law::bindings_are_unique();
+    unit.table.is_well_formed();
     match declaration_in_scope(unit, u)? {
         None => Ok(()),
         Some(old) => judge_bound(first, judge, unit, u, &old),
@@ -93,7 +101,9 @@ fn note_by_package(
 ) -> Result<(), AllocError>
     requires knows { KnowsChange judge.now }
     requires there { Contains (package_paths (workspace_in judge.now)) behind.now }
-    ensures { OnOk result (Takes (IsNoted (becomes_in judge.now) (known_packages judge.now) (IsExportAfter (workspace_in judge.now) (change_in judge.now) behind.now (called_by judge.now.moves.now place name.now)) place old.now) first.old first.new) }
+    ensures takes { OnOk result (Takes (IsNoted (becomes_in judge.now) (known_packages judge.now) (IsExportAfter (workspace_in judge.now) (change_in judge.now) behind.now (called_by judge.now.moves.now place name.now)) place old.now) first.old first.new) }
+    ensures stays { let now = IsExportAfter (workspace_in judge.now) (change_in judge.now) behind.now (called_by judge.now.moves.now place name.now) in
+        OnOk result (IsAhead first.new place → StaysBound (becomes_in judge.now) now old.now) }
 {
     let now = now_by_package(alloc, judge, behind, &place, name)?;
     note(judge, first, place, old, now)
@@ -114,7 +124,9 @@ fn judge_exported(
     requires behind { IsOnlyBehind (package_of unit) u behind.now }
     requires there { Contains (package_paths (workspace_in judge.now)) behind.now }
     requires was { BindsByPackage (known_packages judge.now) (package_of unit) u old.now }
-    ensures { OnOk result (Takes (IsConflictIn (workspace_in judge.now) (known_verdicts judge.now) (change_in judge.now) (package_of unit.entry)) first.old first.new) }
+    ensures takes { OnOk result (Takes (IsConflictIn (workspace_in judge.now) (known_verdicts judge.now) (change_in judge.now) (package_of unit.entry)) first.old first.new) }
+    ensures stays { let p = package_of unit.entry in
+        OnOk result (HoldsAhead (IfBegins p u (λ at. StaysBound (becomes_in judge.now) (IsBoundByPackage (workspace_in judge.now) (change_in judge.now) at p u) old.now)) first.new) }
 {
     match beginning(unit, u)? {
         None => Ok(()),
@@ -134,7 +146,9 @@ fn judge_behind(
     requires knows { KnowsChange judge.now }
     requires in_range { u < length unit.table.now.sites }
     requires behind { IsOnlyBehind (package_of unit) u behind.now }
-    ensures { OnOk result (Takes (IsConflictIn (workspace_in judge.now) (known_verdicts judge.now) (change_in judge.now) (package_of unit.entry)) first.old first.new) }
+    ensures takes { OnOk result (Takes (IsConflictIn (workspace_in judge.now) (known_verdicts judge.now) (change_in judge.now) (package_of unit.entry)) first.old first.new) }
+    ensures stays { let p = package_of unit.entry in
+        OnOk result (HoldsAhead (IfBegins p u (StaysByPackage (workspace_in judge.now) (known_verdicts judge.now) (change_in judge.now) p u)) first.new) }
 {
     let name = unit.table.name(u);
     match exported(
@@ -161,7 +175,9 @@ fn judge_by_package(
     requires knows { KnowsChange judge.now }
     requires index { IsIndexOf (package_of unit) index.now }
     requires in_range { u < length unit.table.now.sites }
-    ensures { OnOk result (Takes (IsConflictIn (workspace_in judge.now) (known_verdicts judge.now) (change_in judge.now) (package_of unit.entry)) first.old first.new) }
+    ensures takes { OnOk result (Takes (IsConflictIn (workspace_in judge.now) (known_verdicts judge.now) (change_in judge.now) (package_of unit.entry)) first.old first.new) }
+    ensures stays { let p = package_of unit.entry in
+        OnOk result (HoldsAhead (IfBegins p u (StaysByPackage (workspace_in judge.now) (known_verdicts judge.now) (change_in judge.now) p u)) first.new) }
 {
     match package_before(unit, index, u) {
         None => Ok(()),
@@ -179,7 +195,8 @@ fn judge_numbers(
 ) -> Result<(), AllocError>
     requires knows { KnowsChange judge.now }
     requires index { IsIndexOf (package_of unit) index.now }
-    ensures { OnOk result (Takes (IsConflictIn (workspace_in judge.now) (known_verdicts judge.now) (change_in judge.now) (package_of unit.entry)) first.old first.new) }
+    ensures takes { OnOk result (Takes (IsConflictIn (workspace_in judge.now) (known_verdicts judge.now) (change_in judge.now) (package_of unit.entry)) first.old first.new) }
+    ensures stays { OnOk result (HoldsAhead (StaysIn (workspace_in judge.now) (known_verdicts judge.now) (change_in judge.now) (package_of unit.entry)) first.new) }
 {
     for u in 0..unit.table.len() {
         judge_by_scope(first, judge, unit, u)?;
@@ -472,7 +489,8 @@ pub fn judge_unit(
     requires in_range { number < length (package_paths (workspace_in judge.now)) }
     requires knows { KnowsChange judge.now }
     requires is_package { IsPackageAt (workspace_in judge.now) (known_verdicts judge.now) number (package_of unit) }
-    ensures { OnOk result (Takes (IsConflictIn (workspace_in judge.now) (known_verdicts judge.now) (change_in judge.now) (package_of unit.entry)) first.old first.new) }
+    ensures takes { OnOk result (Takes (IsConflictIn (workspace_in judge.now) (known_verdicts judge.now) (change_in judge.now) (package_of unit.entry)) first.old first.new) }
+    ensures stays { OnOk result (HoldsAhead (StaysIn (workspace_in judge.now) (known_verdicts judge.now) (change_in judge.now) (package_of unit.entry)) first.new) }
 {
     let index = Index::of(alloc, unit)?;
     judge_numbers(alloc, first, judge, unit, &index)?;

@@ -3,9 +3,10 @@ ghost use Rattle.std.specs.Prelude.{◌≡◌, ◌↔◌, Some, IsTrue, IfOk, On
 ghost use Rattle.gr_bound.specs.declared.declaration.Declaration.{Declaration as Bound};
 ghost use Rattle.gr_bound.specs.declared.declaration.Declaration.TheVariants.{Predeclared, Declared, Field, Method};
 ghost use Rattle.gr_bound.specs.Places.{place_cmp};
-ghost use Rattle.gr_conflict.specs.Conflicts.{IsKept, IsCapturer, IsNoted, IsOtherNoted, Takes};
+ghost use Rattle.gr_conflict.specs.Conflicts.{IsAhead, IsKept, IsCapturer, IsNoted, IsOtherNoted, Takes};
 ghost use Rattle.gr_conflict.specs.Judging.{KnowsChange, known_packages, becomes_in};
 ghost use Rattle.gr_conflict.specs.Now.{IsCounted};
+ghost use Rattle.gr_conflict.specs.Staying.{StaysBound};
 
 use crate::conflict::{Capturer, Conflict};
 use crate::judge::Judge;
@@ -78,7 +79,9 @@ pub fn compare(a: &Place, b: &Place) -> Ordering
 }
 
 /// Whether a place stands before that of the conflict that was found first, if there is one.
-fn is_before(place: &Place, first: &Option<Conflict>) -> bool {
+fn is_before(place: &Place, first: &Option<Conflict>) -> bool
+    ensures { IsTrue result ↔ IsAhead first.now place.now }
+{
     match first {
         None => true,
         Some(conflict) => compare(place, &conflict.used).is_lt(),
@@ -87,7 +90,8 @@ fn is_before(place: &Place, first: &Option<Conflict>) -> bool {
 
 /// Keeps a conflict, if it stands before the one that was found first.
 fn keep(first: &mut Option<Conflict>, used: Place, by: Option<Capturer>)
-    ensures { Takes (IsKept used by) first.old first.new }
+    ensures takes { Takes (IsKept used by) first.old first.new }
+    ensures behind { IsAhead first.new used → ⊥ }
 {
     if !is_before(&used, first) {
         return;
@@ -136,7 +140,8 @@ fn note_other(
     requires knows { KnowsChange judge.now }
     requires counts { IsCounted judge.now.after.now e.now }
     requires other { becomes_in judge.now old.now e.now → ⊥ }
-    ensures { OnOk result (Takes (IsNoted (becomes_in judge.now) (known_packages judge.now) (λ d. d ≡ e.now) used old.now) first.old first.new) }
+    ensures takes { OnOk result (Takes (IsNoted (becomes_in judge.now) (known_packages judge.now) (λ d. d ≡ e.now) used old.now) first.old first.new) }
+    ensures behind { OnOk result (IsAhead first.new used → ⊥) }
 {
     let by = capturer_after(judge, e)?;
     keep(first, used, by);
@@ -154,7 +159,8 @@ fn note_bound(
 ) -> Result<(), AllocError>
     requires knows { KnowsChange judge.now }
     requires counts { IsCounted judge.now.after.now e.now }
-    ensures { OnOk result (Takes (IsNoted (becomes_in judge.now) (known_packages judge.now) (λ d. d ≡ e.now) used old.now) first.old first.new) }
+    ensures takes { OnOk result (Takes (IsNoted (becomes_in judge.now) (known_packages judge.now) (λ d. d ≡ e.now) used old.now) first.old first.new) }
+    ensures stays { OnOk result (IsAhead first.new used → becomes_in judge.now old.now e.now) }
 {
     if has_become(judge, old, e)? {
         Ok(())
@@ -174,7 +180,8 @@ pub fn note(
 ) -> Result<(), AllocError>
     requires knows { KnowsChange judge.now }
     requires counts { MatchOption now (Unit {0}) (IsCounted judge.now.after.now) }
-    ensures { OnOk result (Takes (IsNoted (becomes_in judge.now) (known_packages judge.now) (λ e. now ≡ Some e) used old.now) first.old first.new) }
+    ensures takes { OnOk result (Takes (IsNoted (becomes_in judge.now) (known_packages judge.now) (λ e. now ≡ Some e) used old.now) first.old first.new) }
+    ensures stays { OnOk result (IsAhead first.new used → StaysBound (becomes_in judge.now) (λ e. now ≡ Some e) old.now) }
 {
     match now {
         None => {

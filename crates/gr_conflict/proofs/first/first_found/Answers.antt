@@ -6,10 +6,11 @@ use Rattle.gr_edit.specs.Moved.{moved}
 use Rattle.gr_bound.specs.Exports.{AreExports}
 use Rattle.gr_bound.specs.Uses.{IsPackage}
 use Rattle.gr_check.specs.DeclaredPlaces.{AreDeclared}
-use Rattle.gr_conflict.specs.Conflicts.{IsConflict, Takes}
+use Rattle.gr_conflict.specs.Conflicts.{IsConflict, Takes, HoldsAhead}
 use Rattle.gr_conflict.specs.Judging.{workspace_of, verdicts_of, change_by}
 use Rattle.gr_conflict.specs.Now.{AreScopeBindings}
 use Rattle.gr_conflict.specs.OldPlaces.{AreOldPlaces}
+use Rattle.gr_conflict.specs.Staying.{StaysAt}
 use Rattle.gr_conflict.proofs.first.first_found.Goals as goal
 
 pub first_judged-requires : goal.first_judged-requires
@@ -26,9 +27,16 @@ first_judged-requires c =
       bound = subst (AreScopeBindings c.args.after.now) (sym c.deref-5.ensures.value) c.in_ok-bound.ensures;
     }
 
-pub returns : goal.returns
-returns c =
+pub returns-clause-takes : goal.returns-clause-takes
+returns-clause-takes c =
     let w = workspace_of c.args.packages.now in
     let known = verdicts_of c.args.packages.now in
     subst (λ (v : Workspace). IfOk c.first_judged.result (λ first. Takes (IsConflict w known (change_by v c.args.moves.now)) None first)) c.requires.after
-    c.first_judged.ensures
+    c.first_judged.ensures.takes
+
+pub returns-clause-stays : goal.returns-clause-stays
+returns-clause-stays c =
+    let w = workspace_of c.args.packages.now in
+    let known = verdicts_of c.args.packages.now in
+    subst (λ (v : Workspace). IfOk c.first_judged.result (HoldsAhead (StaysAt w known (change_by v c.args.moves.now)))) c.requires.after
+    c.first_judged.ensures.stays

@@ -7,12 +7,14 @@ use Rattle.gr_check.specs.DeclaredPlaces.{IsFound}
 use Rattle.gr_conflict.specs.Afterwards.{IsBoundByScopes}
 use Rattle.gr_conflict.specs.Conflicts.{IsConflictIn, IsNoted}
 use Rattle.gr_conflict.specs.Judging.{workspace_in, known_verdicts, known_packages, becomes_in, change_in}
+use Rattle.gr_conflict.specs.Staying.{StaysBound}
 use Rattle.gr_conflict.proofs.Taking.{call_takes}
 use Rattle.gr_conflict.proofs.Telling.{scope_turned}
+use Rattle.gr_conflict.proofs.Stayed.{begins_nowhere, begins_here}
 use Rattle.gr_conflict.proofs.judging.judge_bound.Goals as goal
 
-pub returns-in-Some : goal.returns-in-Some
-returns-in-Some c =
+pub returns-in-Some-clause-takes : goal.returns-in-Some-clause-takes
+returns-in-Some-clause-takes c =
     let j = c.args.judge.now in
     let w = workspace_in j in
     let known = known_verdicts j in
@@ -24,4 +26,21 @@ returns-in-Some c =
     c.in_ok-beginning.ensures in
     call_takes (IsNoted (becomes_in j) (known_packages j) (IsBoundByScopes r place) place old) (IsConflictIn w known r p) c.args.first.now
     c.note_by_scope.new.first c.note_by_scope.result
-    (scope_turned w known r p c.args.u old c.requires.was place begins) c.note_by_scope.ensures
+    (scope_turned w known r p c.args.u old c.requires.was place begins) c.note_by_scope.ensures.takes
+
+pub returns-in-None-clause-stays : goal.returns-in-None-clause-stays
+returns-in-None-clause-stays c =
+    let j = c.args.judge.now in
+    let p = package_of c.args.unit in
+    begins_nowhere p c.args.u (λ (at : Place). StaysBound (becomes_in j) (IsBoundByScopes (change_in j) at) c.args.old.now) c.args.first.now
+    (subst (IsFound (λ (x : Place). BeginsAt p x.path x.offset c.args.u)) c.in-None.is c.in_ok-beginning.ensures)
+
+pub returns-in-Some-clause-stays : goal.returns-in-Some-clause-stays
+returns-in-Some-clause-stays c =
+    let j = c.args.judge.now in
+    let p = package_of c.args.unit in
+    let place = c.in-Some.place in
+    let begins : BeginsAt p place.path place.offset c.args.u = subst (IsFound (λ (x : Place). BeginsAt p x.path x.offset c.args.u)) c.in-Some.is
+    c.in_ok-beginning.ensures in
+    begins_here p c.args.u (λ (at : Place). StaysBound (becomes_in j) (IsBoundByScopes (change_in j) at) c.args.old.now) c.note_by_scope.new.first place
+    c.note_by_scope.result begins c.note_by_scope.ensures.stays

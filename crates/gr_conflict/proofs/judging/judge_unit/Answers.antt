@@ -2,17 +2,30 @@
 use Rattle.gr_declared.specs.PackageView.{package_of}
 use Rattle.gr_conflict.specs.Conflicts.{IsConflictIn}
 use Rattle.gr_conflict.specs.Judging.{known_verdicts, change_in}
-use Rattle.gr_conflict.proofs.Taking.{takes_then, call_then}
+use Rattle.gr_conflict.specs.Staying.{StaysIn}
+use Rattle.gr_conflict.proofs.Taking.{takes_then, call_then, still_holds, call_still}
 use Rattle.gr_conflict.proofs.judging.judge_unit.Goals as goal
 
-pub returns : goal.returns
-returns c =
+pub returns-clause-takes : goal.returns-clause-takes
+returns-clause-takes c =
     let j = c.args.judge.now in
     let w = j.packages.now.graph.now in
     let known = known_verdicts j in
     let r = change_in j in
     let p = package_of c.args.unit in
     let P = IsConflictIn w known r p in
-    let members = takes_then P c.args.first.now c.judge_numbers.new.first c.judge_members.new.first c.in_ok-judge_numbers.ensures
+    let members = takes_then P c.args.first.now c.judge_numbers.new.first c.judge_members.new.first c.in_ok-judge_numbers.ensures.takes
     c.in_ok-judge_members.ensures in
     call_then P c.args.first.now c.judge_members.new.first c.judge_names.new.first c.judge_names.result members c.judge_names.ensures
+
+pub returns-clause-stays : goal.returns-clause-stays
+returns-clause-stays c =
+    let j = c.args.judge.now in
+    let w = j.packages.now.graph.now in
+    let known = known_verdicts j in
+    let r = change_in j in
+    let p = package_of c.args.unit in
+    let P = IsConflictIn w known r p in
+    let members = still_holds P (StaysIn w known r p) c.judge_numbers.new.first c.judge_members.new.first c.in_ok-judge_members.ensures
+    c.in_ok-judge_numbers.ensures.stays in
+    call_still P (StaysIn w known r p) c.judge_members.new.first c.judge_names.new.first c.judge_names.result members c.judge_names.ensures

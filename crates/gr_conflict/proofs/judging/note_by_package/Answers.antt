@@ -7,6 +7,7 @@ use Rattle.gr_conflict.specs.Judging.{workspace_in, known_packages, becomes_in, 
 use Rattle.gr_conflict.proofs.Nowadays.{counted_export, all_counted}
 use Rattle.gr_conflict.proofs.Taking.{call_takes}
 use Rattle.gr_conflict.proofs.Telling.{noted_found}
+use Rattle.gr_conflict.proofs.Stayed.{call_stays}
 use Rattle.gr_conflict.proofs.judging.note_by_package.Goals as goal
 
 pub note-requires-clause-counts : goal.note-requires-clause-counts
@@ -17,8 +18,8 @@ note-requires-clause-counts c =
     all_counted r.after (IsExportAfter (workspace_in j) r c.args.behind.now name) c.in_ok-now.now
     (counted_export (workspace_in j) r c.args.behind.now name) c.in_ok-now.ensures
 
-pub returns : goal.returns
-returns c =
+pub returns-clause-takes : goal.returns-clause-takes
+returns-clause-takes c =
     let j = c.args.judge.now in
     let r = change_in j in
     let now = c.in_ok-now.now in
@@ -26,4 +27,11 @@ returns c =
     call_takes (IsNoted (becomes_in j) (known_packages j) (λ d. now ≡ Some d) c.args.place c.args.old.now)
     (IsNoted (becomes_in j) (known_packages j) K c.args.place c.args.old.now)
     c.args.first.now c.note.new.first c.note.result
-    (noted_found (becomes_in j) (known_packages j) K c.args.place c.args.old.now now c.in_ok-now.ensures) c.note.ensures
+    (noted_found (becomes_in j) (known_packages j) K c.args.place c.args.old.now now c.in_ok-now.ensures) c.note.ensures.takes
+
+pub returns-clause-stays : goal.returns-clause-stays
+returns-clause-stays c =
+    let j = c.args.judge.now in
+    let r = change_in j in
+    let K = IsExportAfter (workspace_in j) r c.args.behind.now (r.called c.args.place c.args.name.now) in
+    call_stays (becomes_in j) K c.args.old.now c.in_ok-now.now c.note.new.first c.args.place c.note.result c.in_ok-now.ensures c.note.ensures.stays

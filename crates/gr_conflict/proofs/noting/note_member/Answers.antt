@@ -10,4 +10,4 @@ pub returns-in-None : goal.returns-in-None
 returns-in-None c =
     let Known = known_packages c.args.judge.now in
     takes_as (IsKept c.args.used None) (IsOtherNoted Known c.args.used c.args.old.now) c.args.first.now c.keep.new.first
-    (other_lost Known c.args.used c.args.old.now) c.keep.ensures
+    (other_lost Known c.args.used c.args.old.now) c.keep.ensures.takes

@@ -14,4 +14,4 @@ returns c =
     takes_as (IsKept c.args.used (Some c.in_ok-by.by)) (IsOtherNoted Known c.args.used c.args.old.now)
     c.args.first.now c.keep.new.first
     (other_told Known c.args.used c.args.old.now c.args.now.now c.in_ok-by.by (λ e. false≢true (sym c.if-is_same.false ∙ c.is_same.ensures.1 e))
-    c.in_ok-by.ensures) c.keep.ensures
+    c.in_ok-by.ensures) c.keep.ensures.takes

@@ -1,0 +1,5 @@
+-- The answers to the goals of `noting::note_lost`.
+use Rattle.gr_conflict.proofs.noting.note_lost.Goals as goal
+
+pub returns : goal.returns
+returns c = c.keep.ensures.takes

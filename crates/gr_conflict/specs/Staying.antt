@@ -1,0 +1,59 @@
+-- Identifiers that stay bound: each is bound afterwards to what its declaration has become. Known: the packages of the workspace
+-- before.
+use Rattle.std.specs.Prelude.{ℕ, ◌≡◌}
+use Rattle.std.specs.declared.cmp.Ordering.TheVariants.{Less}
+use Rattle.gr_text.specs.Workspace.{Workspace}
+use Rattle.gr_text.specs.declared.place.Place.{Place}
+use Rattle.gr_declared.specs.Package.{Package}
+use Rattle.gr_verdict.specs.Verdicts.{Verdicts}
+use Rattle.gr_bound.specs.declared.declaration.Declaration.{Declaration}
+use Rattle.gr_bound.specs.Binding.{BindsByScope, BindsByPackage}
+use Rattle.gr_bound.specs.Identifiers.{BeginsAt}
+use Rattle.gr_bound.specs.Places.{place_cmp}
+use Rattle.gr_bound.specs.Uses.{IsPackage}
+use Rattle.gr_bound.specs.Workspaces.{IsPackageAt}
+use Rattle.gr_revision.specs.Revisions.{Revision}
+use Rattle.gr_conflict.specs.Afterwards.{HasBecome, IsBoundByScopes, IsBoundByPackage}
+
+-- what was bound to old is bound afterwards to what that has become; E tells of what it is bound to
+pub record StaysBound (Becomes : Declaration → Declaration → Type 0) (E : Declaration → Type 0) (old : Declaration) : Type 0 where
+  pub declaration : Declaration
+  pub bound : E declaration
+  pub become : Becomes old declaration
+
+-- an identifier of the package that begins at the place stays bound by scopes, if the scopes of the package bind it
+abbrev pub StaysByScope : Workspace → Verdicts → Revision → Package → ℕ → Place → Type 0
+StaysByScope w known r p u place = (old : Declaration) → BindsByScope p u old → StaysBound (HasBecome w known r) (IsBoundByScopes r place) old
+
+-- the same of what stands behind the name of a package
+abbrev pub StaysByPackage : Workspace → Verdicts → Revision → Package → ℕ → Place → Type 0
+StaysByPackage w known r p u place =
+    (old : Declaration) → BindsByPackage (IsPackage w known) p u old → StaysBound (HasBecome w known r) (IsBoundByPackage w r place p u) old
+
+-- the same in both ways
+pub record Stays (w : Workspace) (known : Verdicts) (r : Revision) (p : Package) (u : ℕ) (place : Place) : Type 0 where
+  pub by_scope : StaysByScope w known r p u place
+  pub by_package : StaysByPackage w known r p u place
+
+-- what begins there in the package stays bound
+abbrev pub StaysIn : Workspace → Verdicts → Revision → Package → Place → Type 0
+StaysIn w known r p place = (u : ℕ) → BeginsAt p place.path place.offset u → Stays w known r p u place
+
+-- the same in the package of a number, and in each
+abbrev pub StaysInNumber : Workspace → Verdicts → Revision → ℕ → Place → Type 0
+StaysInNumber w known r number place = (p : Package) → IsPackageAt w known number p → StaysIn w known r p place
+
+abbrev pub StaysAt : Workspace → Verdicts → Revision → Place → Type 0
+StaysAt w known r place = (p : Package) → IsPackage w known p → StaysIn w known r p place
+
+-- no identifier of the workspace is lost or captured that scopes bind, or that stands behind the name of a package
+abbrev pub NoneIsLost : Workspace → Verdicts → Revision → Type 0
+NoneIsLost w known r = (place : Place) → StaysAt w known r place
+
+-- none is that stands before a place
+abbrev pub NoneIsLostBefore : Workspace → Verdicts → Revision → Place → Type 0
+NoneIsLostBefore w known r end = (place : Place) → place_cmp place end ≡ Less → StaysAt w known r place
+
+-- K holds of the place where the identifier of the package begins
+abbrev pub IfBegins : Package → ℕ → (Place → Type 0) → Place → Type 0
+IfBegins p u K place = BeginsAt p place.path place.offset u → K place
