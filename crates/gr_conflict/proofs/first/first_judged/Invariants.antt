@@ -1,5 +1,4 @@
 -- The invariants of the loops of `first::first_judged`.
-use Rattle.std.proofs.Common.{◌×◌}
 use Rattle.std.specs.Prelude.{None}
 use Rattle.gr_conflict.specs.Conflicts.{IsConflict, Takes, HoldsAhead}
 use Rattle.gr_conflict.specs.Judging.{workspace_in, known_verdicts, change_in}

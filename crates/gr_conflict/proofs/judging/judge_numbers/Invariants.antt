@@ -1,5 +1,4 @@
 -- The invariants of the loops of `judging::judge_numbers`.
-use Rattle.std.proofs.Common.{◌×◌}
 use Rattle.gr_declared.specs.PackageView.{package_of}
 use Rattle.gr_conflict.specs.Conflicts.{IsConflictIn, Takes, HoldsAhead}
 use Rattle.gr_conflict.specs.Judging.{known_verdicts, change_in}
