@@ -29,8 +29,9 @@ use Rattle.gr_check.proofs.Declared.{one_place}
 use Rattle.gr_check.proofs.Found.{found_as}
 use Rattle.gr_conflict.specs.Afterwards.{HasBecome}
 use Rattle.gr_conflict.specs.Now.{IsCounted, IsOwnToken}
-use Rattle.gr_conflict.specs.OldPlaces.{HasGoneTo}
-use Rattle.gr_conflict.proofs.OneScoped.{one_scoped, one_standing}
+use Rattle.gr_change_places.specs.OldPlaces.{HasGoneTo}
+use Rattle.gr_change_places.proofs.OneScoped.{one_scoped}
+use Rattle.gr_conflict.proofs.OneStanding.{one_standing}
 
 -- where a declaration of a package's own stands
 module _ (w : Workspace) (path : List ℕ) (d : ℕ) where

@@ -1,7 +1,6 @@
 -- The lemmas of this crate.
 pub mod Beginnings
-pub mod Gone
-pub mod OneScoped
+pub mod OneStanding
 pub mod Become
 pub mod Nowadays
 pub mod Taking

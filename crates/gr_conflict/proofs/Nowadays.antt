@@ -1,12 +1,11 @@
 -- What identifiers are bound to afterwards.
-use Rattle.std.proofs.Common.{ℕ, ◌≡◌, ◌<◌, ◌∙◌, List, [], ◌∷◌, length, inl, inr, sym, ap, subst, refl, arith}
-use Rattle.std.specs.Prelude.{Option, Some, None, Contains, ◌↔◌, MatchOption, slice_get}
-use Rattle.std.proofs.lemmas.Option.{same_Some, none-some, slice_get_within}
-use Rattle.gr_text.specs.Packages.{package_paths, package_files}
+use Rattle.std.proofs.Common.{ℕ, ◌≡◌, ◌∙◌, List, [], sym, ap, subst, refl}
+use Rattle.std.specs.Prelude.{Option, Some, None, Contains, MatchOption, slice_get}
+use Rattle.std.proofs.lemmas.Option.{same_Some, none-some}
+use Rattle.gr_text.specs.Packages.{package_files}
 use Rattle.gr_text.specs.Path.{folder}
 use Rattle.gr_text.specs.Workspace.{Workspace}
 use Rattle.gr_text.specs.declared.place.Place.{Place}
-use Rattle.gr_graph.proofs.Asked.{number}
 use Rattle.gr_scope.specs.Bindings.{Layout, Names, IsBoundTo, Counts, use_bound, own}
 use Rattle.gr_declared.specs.Package.{Package}
 use Rattle.gr_types.specs.Interfaces.{IsSeen}
@@ -21,9 +20,10 @@ use Rattle.gr_scoped.specs.ScopedPackages.{IsScopedIn}
 use Rattle.gr_scoped.specs.Scopes.{package_scoped}
 use Rattle.gr_scoped.specs.declared.scopes.PackageScopes.{PackageScopes}
 use Rattle.gr_check.proofs.Found.{found_as}
-use Rattle.gr_conflict.specs.Afterwards.{IsScopeUse, IsExportAfter}
-use Rattle.gr_conflict.specs.Now.{IsBoundIn, IsBoundInNumber, IsScopeBound, AreScopeBindings, IsCounted, IsExportIn, IsExportOf}
-use Rattle.gr_conflict.proofs.OneScoped.{one_scoped}
+use Rattle.gr_change_places.specs.ScopeBindings.{IsScopeUse, AreScopeBindings}
+use Rattle.gr_change_places.proofs.OneScoped.{one_scoped}
+use Rattle.gr_conflict.specs.Afterwards.{IsExportAfter}
+use Rattle.gr_conflict.specs.Now.{IsCounted, IsExportIn, IsExportOf}
 
 -- what is bound counts
 counts_of : (l : Layout) (names : Names) (u d : ℕ) → IsBoundTo l names u d → Counts l names d
@@ -46,33 +46,6 @@ pub all_counted : (w : Workspace) (E : Declaration → Type 0) (o : Option Decla
     IsDeclarationFound E o → MatchOption o (Unit {0}) (IsCounted w)
 all_counted w E None to h = tt
 all_counted w E (Some e) to h = to e h
-
--- a place with a declaration
-pub bound_is : (b : BoundSpot) (place : Place) (d : Declaration) → place_at b ≡ place → b.declaration ≡ d →
-    record { spot = record { path = place.path; offset = place.offset }; declaration = d } ≡ b
-bound_is b place d e f =
-    ap (λ (x : Place). record { spot = record { path = x.path; offset = x.offset }; declaration = d }) (sym e)
-    ∙ ap (λ (x : Declaration). record { spot = b.spot; declaration = x }) (sym f)
-
--- what scopes bind, in the package of a number and in all
-pub scoped_here : (w : Workspace) (n : ℕ) (p : Package) → IsScopedIn w p → slice_get (package_paths w) n ≡ Some p.path → (b : BoundSpot) →
-    IsBoundIn p b → IsBoundInNumber w n b
-scoped_here w n p is at b h = record { used_in = p; is_package = is; has_number = at; bound = h }
-
-pub scoped_there : (w : Workspace) (n : ℕ) (p : Package) → IsScopedIn w p → slice_get (package_paths w) n ≡ Some p.path → (b : BoundSpot) →
-    IsBoundInNumber w n b → IsBoundIn p b
-scoped_there w n p is at b h =
-    let same : h.used_in ≡ p = one_scoped w h.used_in p h.is_package is (same_Some h.used_in.path p.path (sym h.has_number ∙ at)) in
-    subst (λ (q : Package). IsBoundIn q b) same h.bound
-
-pub bound_somewhere : (w : Workspace) (n : ℕ) (b : BoundSpot) → IsBoundInNumber w n b → IsScopeBound w b
-bound_somewhere w n b h = record { used_in = h.used_in; is_package = h.is_package; user = h.bound.0; begins = h.bound.1.0; bound = h.bound.1.1 }
-
-pub bound_numbered : (w : Workspace) (b : BoundSpot) → IsScopeBound w b → (n : ℕ) × (n < length (package_paths w)) × IsBoundInNumber w n b
-bound_numbered w b h =
-    let p = h.used_in in
-    let n = number w p.path h.is_package.of_workspace in
-    (n.0, slice_get_within (package_paths w) n.0 p.path n.1, scoped_here w n.0 p h.is_package n.1 b (h.user, (h.begins, h.bound)))
 
 -- what begins at a place
 pub unbound_here : (w : Workspace) (bs : List BoundSpot) (place : Place) → AreScopeBindings w bs →

@@ -7,24 +7,16 @@ use Rattle.gr_types.specs.Interfaces.{IsSeen}
 use Rattle.gr_verdict.specs.Verdicts.{Verdicts}
 use Rattle.gr_bound.specs.declared.declaration.Declaration.{Declaration}
 use Rattle.gr_bound.specs.declared.declaration.Declaration.TheVariants.{Declared}
-use Rattle.gr_bound.specs.Identifiers.{BeginsAt}
-use Rattle.gr_bound.specs.Binding.{BindsByScope, IsBehindPackage}
+use Rattle.gr_bound.specs.Binding.{IsBehindPackage}
 use Rattle.gr_bound.specs.Uses.{IsPackage}
 use Rattle.gr_revision.specs.Revisions.{Revision, GoesTo}
 use Rattle.gr_scoped.specs.ScopedPackages.{IsScopedIn}
 use Rattle.gr_check.specs.Corresponding.{Corresponds}
+use Rattle.gr_change_places.specs.ScopeBindings.{IsScopeUse}
 
 -- c of the workspace before has become e, as scopes see it
 abbrev pub HasBecome : Workspace → Verdicts → Revision → Declaration → Declaration → Type 0
 HasBecome w before r c e = Corresponds (IsPackage w before) (IsScopedIn r.after) r.moved c e
-
--- the scopes of a workspace bind to e what begins at the place
-pub record IsScopeUse (w : Workspace) (e : Declaration) (place : Place) : Type 0 where
-  pub used_in : Package
-  pub is_package : IsScopedIn w used_in
-  pub user : ℕ
-  pub begins : BeginsAt used_in place.path place.offset user
-  pub bound : BindsByScope used_in user e
 
 -- an identifier that scopes bind: what stands where it has gone is bound to e
 abbrev pub IsBoundByScopes : Revision → Place → Declaration → Type 0

@@ -12,21 +12,14 @@ use Rattle.gr_bound.specs.declared.packages.Packages.{Packages}
 use Rattle.gr_bound.specs.Exports.{AreExports}
 use Rattle.gr_bound.specs.Packages.{ArePackages}
 use Rattle.gr_bound.specs.Uses.{IsPackage}
-use Rattle.gr_bound.specs.Workspaces.{known_in}
 use Rattle.gr_check.specs.DeclaredPlaces.{AreDeclared}
 use Rattle.gr_scoped.specs.Scopes.{AreAllScopes}
+use Rattle.gr_change_places.specs.Read.{workspace_of, verdicts_of}
+use Rattle.gr_change_places.specs.OldPlaces.{AreOldPlaces}
+use Rattle.gr_change_places.specs.ScopeBindings.{AreScopeBindings}
 use Rattle.gr_conflict.specs.Afterwards.{HasBecome}
-use Rattle.gr_conflict.specs.Now.{AreScopeBindings}
-use Rattle.gr_conflict.specs.OldPlaces.{AreOldPlaces}
 use Rattle.gr_conflict.specs.declared.first.Before.{Before}
 use Rattle.gr_conflict.specs.declared.judge.Judge.{Judge}
-
--- the workspace of packages, and what is known of them
-abbrev pub workspace_of : Packages → Workspace
-workspace_of p = p.graph.now
-
-abbrev pub verdicts_of : Packages → Verdicts
-verdicts_of p = known_in p.found.now
 
 -- what is found before a change
 pub record KnowsBefore (p : Packages) (s : FileChanges) (b : Before) : Type 0 where

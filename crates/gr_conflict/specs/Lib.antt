@@ -4,7 +4,6 @@ pub mod Afterwards
 pub mod Firsts
 pub mod Staying
 pub mod Conflicts
-pub mod OldPlaces
 pub mod Refusals
 pub mod Now
 pub mod Judging

@@ -1,8 +1,5 @@
 -- What is found of the workspace afterwards, as its scopes are.
-use Rattle.std.specs.Prelude.{ℕ, ◌≡◌, ◌↔◌, ⊤, List, Some, Contains, slice_get, map}
-use Rattle.std.specs.List.Sorted.{IsSortedBy}
-use Rattle.std.specs.Ordering.{is_lt}
-use Rattle.gr_text.specs.Packages.{package_paths}
+use Rattle.std.specs.Prelude.{ℕ, ◌≡◌, ⊤, List, slice_get, map}
 use Rattle.gr_text.specs.Workspace.{Workspace}
 use Rattle.gr_text.specs.declared.place.Place.{Place}
 use Rattle.gr_tree.specs.SourceFile.{source_of}
@@ -11,36 +8,11 @@ use Rattle.gr_scope.specs.Scoped.{layout_in}
 use Rattle.gr_imports.specs.Laid.{literal_of}
 use Rattle.gr_declared.specs.Package.{Package}
 use Rattle.gr_types.specs.Interfaces.{IsSeen}
-use Rattle.gr_bound.specs.declared.bound_spot.BoundSpot.{BoundSpot}
 use Rattle.gr_bound.specs.declared.declaration.Declaration.{Declaration}
 use Rattle.gr_bound.specs.declared.declaration.Declaration.TheVariants.{Predeclared, Declared, Field, Method}
-use Rattle.gr_bound.specs.Binding.{BindsByScope}
-use Rattle.gr_bound.specs.Bindings.{BoundIn, place_at}
-use Rattle.gr_bound.specs.Places.{place_cmp}
 use Rattle.gr_scoped.specs.ScopedPackages.{IsScopedIn}
 use Rattle.gr_scoped.specs.declared.scopes.PackageScopes.{PackageScopes}
 use Rattle.gr_standing.specs.Standing.{TokenBegins}
-use Rattle.gr_conflict.specs.Afterwards.{IsScopeUse}
-
--- an identifier of a package begins there, and the scopes bind it to the declaration
-abbrev pub IsBoundIn : Package → BoundSpot → Type 0
-IsBoundIn p b = BoundIn p (BindsByScope p) b
-
--- the same in the package of a number
-pub record IsBoundInNumber (w : Workspace) (number : ℕ) (b : BoundSpot) : Type 0 where
-  pub used_in : Package
-  pub is_package : IsScopedIn w used_in
-  pub has_number : slice_get (package_paths w) number ≡ Some used_in.path
-  pub bound : IsBoundIn used_in b
-
--- what the scopes of a workspace bind
-abbrev pub IsScopeBound : Workspace → BoundSpot → Type 0
-IsScopeBound w b = IsScopeUse w b.declaration (place_at b)
-
--- all that they bind, in the order of the places
-pub record AreScopeBindings (w : Workspace) (list : List BoundSpot) : Type 0 where
-  pub in_order : IsSortedBy (λ a b. is_lt (place_cmp (place_at a) (place_at b))) list
-  pub each : (b : BoundSpot) → Contains list b ↔ IsScopeBound w b
 
 -- a declaration that counts, as scopes see it: one that is predeclared or a package's own
 abbrev pub IsCounted : Workspace → Declaration → Type 0

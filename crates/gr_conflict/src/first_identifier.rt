@@ -5,7 +5,7 @@ ghost use Rattle.gr_text.specs.declared.place.Place.{Place as At};
 ghost use Rattle.gr_bound.specs.Packages.{ArePackages};
 ghost use Rattle.gr_check.specs.Preserved.{IsIdentifierAt};
 ghost use Rattle.gr_conflict.specs.Firsts.{IsEarlier, IsFirstPlace};
-ghost use Rattle.gr_conflict.specs.Judging.{workspace_of, verdicts_of};
+ghost use Rattle.gr_change_places.specs.Read.{workspace_of, verdicts_of};
 
 use crate::noting::compare;
 use gr_bound::Packages;

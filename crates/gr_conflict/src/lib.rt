@@ -1,7 +1,6 @@
 //! The identifiers that a change would lose or capture.
 #![tactic(auto)]
 
-mod afterwards;
 mod beginning;
 mod conflict;
 mod first;
@@ -10,7 +9,6 @@ mod judge;
 mod judging;
 mod noting;
 mod now;
-mod old_places;
 mod standing;
 
 pub use conflict::{Capturer, Conflict, told};

@@ -7,7 +7,8 @@ ghost use Rattle.gr_revision.specs.RevisionsOfEdits.{called_by};
 ghost use Rattle.gr_bound.specs.Exports.{number_named, AreNumbers};
 ghost use Rattle.gr_bound.specs.Steps.{IsDeclarationFound};
 ghost use Rattle.gr_scoped.specs.Scopes.{package_scoped};
-ghost use Rattle.gr_conflict.specs.Afterwards.{IsScopeUse, IsBoundByScopes, IsExportAfter};
+ghost use Rattle.gr_change_places.specs.ScopeBindings.{IsScopeUse};
+ghost use Rattle.gr_conflict.specs.Afterwards.{IsBoundByScopes, IsExportAfter};
 ghost use Rattle.gr_conflict.specs.Judging.{KnowsChange, workspace_in, change_in};
 ghost use Rattle.gr_conflict.specs.Now.{IsExportIn, IsExportOf};
 

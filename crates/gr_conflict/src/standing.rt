@@ -7,11 +7,11 @@ ghost use Rattle.gr_standing.specs.Standing.{IsDeclaredAt};
 ghost use Rattle.gr_check.specs.DeclaredPlaces.{IsFound};
 ghost use Rattle.gr_conflict.specs.Judging.{KnowsChange, known_packages, becomes_in};
 ghost use Rattle.gr_conflict.specs.Now.{IsCounted, IsOwnToken};
-ghost use Rattle.gr_conflict.specs.OldPlaces.{HasGoneTo};
+ghost use Rattle.gr_change_places.specs.OldPlaces.{HasGoneTo};
 
 use crate::judge::Judge;
-use crate::old_places::before_of;
 use gr_bound::Declaration;
+use gr_change_places::before_of;
 use gr_check::declared_places::declared_at;
 use gr_check::{are_predeclared, goes_to, place_of};
 use gr_imports::literal_of;

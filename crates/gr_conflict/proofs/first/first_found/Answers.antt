@@ -7,9 +7,10 @@ use Rattle.gr_bound.specs.Exports.{AreExports}
 use Rattle.gr_bound.specs.Uses.{IsPackage}
 use Rattle.gr_check.specs.DeclaredPlaces.{AreDeclared}
 use Rattle.gr_conflict.specs.Conflicts.{IsConflict, Takes, HoldsAhead}
-use Rattle.gr_conflict.specs.Judging.{workspace_of, verdicts_of, change_by}
-use Rattle.gr_conflict.specs.Now.{AreScopeBindings}
-use Rattle.gr_conflict.specs.OldPlaces.{AreOldPlaces}
+use Rattle.gr_change_places.specs.Read.{workspace_of, verdicts_of}
+use Rattle.gr_conflict.specs.Judging.{change_by}
+use Rattle.gr_change_places.specs.ScopeBindings.{AreScopeBindings}
+use Rattle.gr_change_places.specs.OldPlaces.{AreOldPlaces}
 use Rattle.gr_conflict.specs.Staying.{StaysAt}
 use Rattle.gr_conflict.proofs.first.first_found.Goals as goal
 

@@ -4,7 +4,7 @@ use Rattle.std.specs.Prelude.{Option}
 use Rattle.gr_text.specs.declared.place.Place.{Place}
 use Rattle.gr_check.specs.Preserved.{IsIdentifierAt}
 use Rattle.gr_conflict.specs.Firsts.{IsFirstPlace}
-use Rattle.gr_conflict.specs.Judging.{workspace_of, verdicts_of}
+use Rattle.gr_change_places.specs.Read.{workspace_of, verdicts_of}
 use Rattle.gr_conflict.proofs.first.first_lost.Goals as goal
 
 pub returns-in-None : goal.returns-in-None

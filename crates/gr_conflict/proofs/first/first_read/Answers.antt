@@ -5,7 +5,7 @@ use Rattle.std.proofs.lemmas.Result.{IfOk-weaker}
 use Rattle.gr_revision.specs.RevisionsOfEdits.{revision_of}
 use Rattle.gr_conflict.specs.declared.conflict.Conflict.{Conflict}
 use Rattle.gr_conflict.specs.Conflicts.{IsConflict, a_conflict, Takes, HoldsAhead}
-use Rattle.gr_conflict.specs.Judging.{workspace_of, verdicts_of}
+use Rattle.gr_change_places.specs.Read.{workspace_of, verdicts_of}
 use Rattle.gr_conflict.specs.Staying.{StaysAt}
 use Rattle.gr_conflict.proofs.Telling.{told_so}
 use Rattle.gr_conflict.proofs.Taking.{taken}

@@ -6,7 +6,7 @@ use Rattle.gr_text.specs.declared.place.Place.{Place}
 use Rattle.gr_check.specs.Preserved.{IsIdentifierAt}
 use Rattle.gr_check.specs.Sound.{SoundView, view_of}
 use Rattle.gr_conflict.specs.Firsts.{IsFirstPlace}
-use Rattle.gr_conflict.specs.Judging.{workspace_of, verdicts_of}
+use Rattle.gr_change_places.specs.Read.{workspace_of, verdicts_of}
 use Rattle.gr_conflict.proofs.Firsts.{first_as}
 use Rattle.gr_conflict.proofs.first_identifier.first_identifier.Goals as goal
 

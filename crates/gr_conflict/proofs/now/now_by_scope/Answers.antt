@@ -3,7 +3,7 @@ use Rattle.std.proofs.Common.{subst}
 use Rattle.std.specs.Prelude.{IfOk}
 use Rattle.gr_text.specs.declared.place.Place.{Place}
 use Rattle.gr_bound.specs.Steps.{IsDeclarationFound}
-use Rattle.gr_conflict.specs.Afterwards.{IsScopeUse}
+use Rattle.gr_change_places.specs.ScopeBindings.{IsScopeUse}
 use Rattle.gr_conflict.proofs.now.now_by_scope.Goals as goal
 
 pub returns : goal.returns

@@ -1,7 +1,7 @@
 -- The answers to the goals of `standing::before_at`.
 use Rattle.gr_edit.specs.Moved.{moved}
 use Rattle.gr_conflict.specs.Judging.{known_packages}
-use Rattle.gr_conflict.proofs.Gone.{gone_to}
+use Rattle.gr_change_places.proofs.Gone.{gone_to}
 use Rattle.gr_conflict.proofs.standing.before_at.Goals as goal
 
 pub before_of-requires : goal.before_of-requires

@@ -6,8 +6,8 @@ use Rattle.gr_scoped.specs.ScopedPackages.{IsScopedIn}
 use Rattle.gr_standing.specs.Standing.{IsDeclaredAt}
 use Rattle.gr_check.specs.DeclaredPlaces.{IsFound}
 use Rattle.gr_conflict.specs.Judging.{workspace_in, known_verdicts, known_packages, change_in, becomes_in}
-use Rattle.gr_conflict.specs.OldPlaces.{HasGoneTo}
-use Rattle.gr_conflict.proofs.Gone.{told_as}
+use Rattle.gr_change_places.specs.OldPlaces.{HasGoneTo}
+use Rattle.gr_change_places.proofs.Gone.{told_as}
 use Rattle.gr_conflict.proofs.Become.{become_there}
 use Rattle.gr_conflict.proofs.standing.before_standing.Goals as goal
 

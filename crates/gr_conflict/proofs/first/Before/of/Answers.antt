@@ -1,7 +1,7 @@
 -- The answers to the goals of `first::Before::of`.
 use Rattle.std.proofs.Common.{sym, subst}
 use Rattle.gr_check.specs.DeclaredPlaces.{AreDeclared}
-use Rattle.gr_conflict.specs.Judging.{workspace_of, verdicts_of}
+use Rattle.gr_change_places.specs.Read.{workspace_of, verdicts_of}
 use Rattle.gr_conflict.proofs.first.Before.of.Goals as goal
 
 pub old_places-requires-clause-places : goal.old_places-requires-clause-places

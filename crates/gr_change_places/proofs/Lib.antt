@@ -1,0 +1,4 @@
+-- The lemmas of this crate.
+pub mod Gone
+pub mod OneScoped
+pub mod ScopeBound

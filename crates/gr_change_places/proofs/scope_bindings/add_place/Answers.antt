@@ -1,0 +1,10 @@
+-- The answers to the goals of `scope_bindings::add_place`.
+use Rattle.std.proofs.Common.{refl}
+use Rattle.gr_check.proofs.Identifiers.{all_one}
+use Rattle.gr_change_places.proofs.ScopeBound.{bound_is}
+use Rattle.gr_change_places.proofs.scope_bindings.add_place.Goals as goal
+
+pub returns : goal.returns
+returns c =
+    all_one c.args.bound.now.items c.push.new.self.items _ _ c.in_ok-push.ensures.items (refl, refl)
+    (λ b h. bound_is b c.args.place c.args.declaration h.0 h.1)

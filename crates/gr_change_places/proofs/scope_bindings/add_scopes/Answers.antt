@@ -1,0 +1,20 @@
+-- The answers to the goals of `scope_bindings::add_scopes`.
+use Rattle.std.proofs.Common.{◌≡◌, List, ℕ, subst}
+use Rattle.std.proofs.Math.Path.{fun_ext}
+use Rattle.std.specs.Prelude.{map, OnOk}
+use Rattle.gr_tree.specs.SourceFile.{source_of}
+use Rattle.gr_declared.specs.Package.{Interface}
+use Rattle.gr_declared.specs.InterfacesView.{interface_in, no_interface}
+use Rattle.gr_meanings.specs.PackageOf.{package_in}
+use Rattle.gr_bound.specs.Bindings.{AddsAll}
+use Rattle.gr_change_places.specs.ScopeBindings.{IsBoundIn}
+use Rattle.gr_change_places.proofs.scope_bindings.add_scopes.Goals as goal
+
+pub returns : goal.returns
+returns c =
+    let s = c.args.scopes.now in
+    let files = map source_of s.files.now in
+    let added = λ (q : List ℕ) (i : List ℕ → Interface). OnOk c.add_unit.result (AddsAll c.args.bound.now.items c.add_unit.new.bound.items (IsBoundIn (package_in q files s.table i))) in
+    let none : interface_in c.new-nothing.result ≡ no_interface = fun_ext c.new-nothing.ensures.interfaces in
+    subst (λ (i : List ℕ → Interface). added c.args.path.now i) none
+    (subst (λ (q : List ℕ). added q (interface_in c.new-nothing.result)) c.in_ok-path.ensures c.add_unit.ensures)

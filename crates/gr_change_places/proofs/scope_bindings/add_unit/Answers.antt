@@ -1,0 +1,25 @@
+-- The answers to the goals of `scope_bindings::add_unit`.
+use Rattle.std.proofs.Common.{◌≡◌, ◌<◌, sym, subst, arith}
+use Rattle.gr_declared.specs.PackageView.{package_of}
+use Rattle.gr_bound.specs.Binding.{BindsByScope}
+use Rattle.gr_bound.specs.Bindings.{place_at}
+use Rattle.gr_bound.specs.Identifiers.{BeginsAt}
+use Rattle.gr_bound.proofs.AddingAll.{none_below, next_below, all_numbers}
+use Rattle.gr_change_places.specs.ScopeBindings.{IsBoundIn}
+use Rattle.gr_change_places.proofs.scope_bindings.add_unit.Goals as goal
+
+pub loop-u-init : goal.loop-u-init
+loop-u-init c = none_below _ c.args.bound.now.items
+
+pub loop-u-preserved : goal.loop-u-preserved
+loop-u-preserved c = next_below _ c.args.bound.now.items c.loop-u.bound.items c.add_identifier.new.bound.items c.loop-u.u c.loop-u.invariant
+    c.in_ok-add_identifier.ensures
+
+pub returns : goal.returns
+returns c =
+    let p = package_of c.args.unit in
+    let end : c.loop-u.u ≡ p.size = omega arith in
+    all_numbers (λ u b. BeginsAt p (place_at b).path (place_at b).offset u × BindsByScope p u b.declaration) (IsBoundIn p) c.loop-u.u
+    c.args.bound.now.items c.loop-u.bound.items
+    (λ u b h. (u, h))
+    (λ b h. (h.0, subst (λ n. h.0 < n) (sym end) h.1.0.0.0, h.1)) c.loop-u.invariant

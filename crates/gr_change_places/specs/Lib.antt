@@ -1,0 +1,4 @@
+-- The definitions of this crate.
+pub mod Read
+pub mod OldPlaces
+pub mod ScopeBindings

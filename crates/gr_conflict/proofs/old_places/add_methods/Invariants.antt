@@ -1,8 +1,0 @@
--- The invariants of the loops of `old_places::add_methods`.
-use Rattle.gr_edit.specs.Moved.{moved}
-use Rattle.gr_conflict.specs.OldPlaces.{method_at}
-use Rattle.gr_conflict.specs.OldPlaces.{AddsOnly, GoFrom}
-use Rattle.gr_conflict.proofs.old_places.add_methods.Given as goal
-
-abbrev pub invariant-loop-rank : goal.invariant-loop-rank
-invariant-loop-rank l = AddsOnly l.initial.found.items l.found.items (GoFrom (moved l.moves) (method_at l.path) l.methods)
