@@ -4,6 +4,8 @@ pub mod OneStanding
 pub mod Become
 pub mod Nowadays
 pub mod Taking
+pub mod Used
+pub mod Types
 pub mod Telling
 pub mod Stayed
 pub mod Firsts

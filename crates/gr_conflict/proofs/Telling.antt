@@ -1,8 +1,8 @@
 -- Conflicts of identifiers that were bound.
 use Rattle.std.proofs.Common.{ℕ, ◌≡◌, ◌∙◌, List, map, sym, subst, refl}
-use Rattle.std.specs.Prelude.{⊤, Option, Some, None, MatchOption, Contains, slice_get}
+use Rattle.std.specs.Prelude.{Option, Some, None, MatchOption, Contains, slice_get}
 use Rattle.std.specs.Global.{Vec}
-use Rattle.std.proofs.lemmas.Option.{none-some}
+use Rattle.std.proofs.lemmas.Option.{none-some, slice_get_within, get_or_from_slice_get}
 use Rattle.gr_text.specs.Packages.{package_paths}
 use Rattle.gr_text.specs.Workspace.{Workspace}
 use Rattle.gr_text.specs.declared.place.Place.{Place}
@@ -12,10 +12,9 @@ use Rattle.gr_expr.specs.declared.found.MemberUse.{MemberUse as FoundUse}
 use Rattle.gr_expr.specs.declared.symbol.Symbol.{Symbol}
 use Rattle.gr_expr.specs.Judge.{MemberUse}
 use Rattle.gr_expr.specs.World.{Definition}
-use Rattle.gr_declared.specs.Package.{Package, symbol_in}
+use Rattle.gr_declared.specs.Package.{Package, spelled}
 use Rattle.gr_declared.specs.Definitions.{AreDefinitions}
 use Rattle.gr_meanings.specs.MemberUses.{AreMemberUses, uses_in}
-use Rattle.gr_meanings.specs.Uniqueness.{IsOneWorld}
 use Rattle.gr_verdict.specs.Verdicts.{Verdicts}
 use Rattle.gr_revision.specs.Revisions.{Revision}
 use Rattle.gr_bound.specs.declared.declaration.Declaration.{Declaration}
@@ -26,15 +25,18 @@ use Rattle.gr_bound.specs.Members.{member_at}
 use Rattle.gr_bound.specs.Steps.{AtToken, IsDeclarationFound}
 use Rattle.gr_bound.specs.Uses.{IsPackage}
 use Rattle.gr_bound.specs.Workspaces.{ExportsAs, IsPackageAt}
-use Rattle.gr_bound.proofs.MemberPlaces.{IsFileUse, to_bound}
+use Rattle.gr_bound.proofs.MemberParts.{file_uses}
 use Rattle.gr_bound.proofs.NamedPlaces.{found_to_name}
 use Rattle.gr_conflict.specs.declared.conflict.Capturer.{Capturer}
 use Rattle.gr_conflict.specs.declared.conflict.Conflict.{Conflict}
-use Rattle.gr_conflict.specs.Afterwards.{HasBecome, IsBoundByScopes, IsExportAfter, IsBoundByPackage}
-use Rattle.gr_conflict.specs.Conflicts.{IsCapturer, TellsOf, unbound, elsewhere, captured, TellsOther, IsConflictIn, IsConflict, IsNoted, IsOtherNoted, IsOtherAt}
-use Rattle.gr_conflict.specs.Conflicts.{IsLostAt, IsLostAtFound, IsMemberConflict, IsMemberConflictAmong, IsToldFirst, TellsFirst}
+use Rattle.gr_members_after.specs.MembersAfter.{CountsAfter, IsMemberAfter}
+use Rattle.gr_conflict.specs.Afterwards.{HasBecome, IsBoundByScopes, IsExportAfter, IsBoundByPackage, IsMemberNow}
+use Rattle.gr_conflict.specs.Conflicts.{IsCapturer, TellsOf, unbound, elsewhere, captured, TellsMember, IsConflictIn, IsConflict, IsNoted, IsOtherNoted, IsOtherAt}
+use Rattle.gr_conflict.specs.Conflicts.{IsLostAt, IsLostAtFound, IsLostThere, IsUsedNow, IsMemberConflict, IsMemberConflictAmong, IsToldFirst, TellsFirst}
 use Rattle.gr_conflict.specs.Staying.{NoneIsLost}
 use Rattle.gr_conflict.specs.Conflicts.{an_identifier, by_scope, by_package, by_member, by_name}
+use Rattle.gr_change_places.specs.OldPlaces.{field_at, method_at}
+use Rattle.gr_conflict.proofs.Used.{IsUsedAs, used_at}
 
 -- of what was found K tells
 pub found_so : (K : Declaration → Type 0) (o : Option Declaration) → IsDeclarationFound K o → (x : Declaration) → o ≡ Some x → K x
@@ -92,13 +94,37 @@ told_of Becomes Known used old e not by h c is =
     (is.0, subst (TellsOf Becomes Known (λ d. d ≡ e) old) (sym is.1) (told_by_capturer Becomes Known old e not by h))
 
 -- what is told of one that was bound to a field or method
-pub other_lost : (Known : Package → Type 0) (used : Place) (old : Declaration) (c : Conflict) → (c.used ≡ used) × (c.by ≡ None) → IsOtherNoted Known used old c
-other_lost Known used old c h = (h.0, subst (TellsOther Known old) (sym h.1) tt)
+pub other_lost : (Known : Package → Type 0) (used : Place) (old : Declaration) (now : Option Declaration) → now ≡ None → (c : Conflict) →
+    (c.used ≡ used) × (c.by ≡ None) → IsOtherNoted Known (λ e. now ≡ Some e) used old c
+other_lost Known used old now none c h =
+    let is : TellsMember Known (λ e. now ≡ Some e) old None = λ e some. none-some e (sym none ∙ some) in
+    (h.0, subst (TellsMember Known (λ e. now ≡ Some e) old) (sym h.1) is)
 
 pub other_told : (Known : Package → Type 0) (used : Place) (old now : Declaration) (by : Capturer) → (old ≡ now → ⊥) → IsCapturer Known now by →
-    (c : Conflict) → (c.used ≡ used) × (c.by ≡ Some by) → IsOtherNoted Known used old c
+    (c : Conflict) → (c.used ≡ used) × (c.by ≡ Some by) → IsOtherNoted Known (λ e. e ≡ now) used old c
 other_told Known used old now by other is c h =
-    (h.0, subst (TellsOther Known old) (sym h.1) (record { declaration = now; other = other; told = is }))
+    let told : TellsMember Known (λ e. e ≡ now) old (Some by) = record { declaration = now; bound = refl; other = other; told = is } in
+    (h.0, subst (TellsMember Known (λ e. e ≡ now) old) (sym h.1) told)
+
+-- the same with other words for what it is
+member_as : (Known : Package → Type 0) (K L : Declaration → Type 0) (old : Declaration) → ((d : Declaration) → K d → L d) → ((d : Declaration) → L d → K d) →
+    (by : Option Capturer) → TellsMember Known K old by → TellsMember Known L old by
+member_as Known K L old to from None h = λ e l. h e (from e l)
+member_as Known K L old to from (Some by) h = record { declaration = h.declaration; bound = to h.declaration h.bound; other = h.other; told = h.told }
+
+pub other_as : (Known : Package → Type 0) (K L : Declaration → Type 0) (used : Place) (old : Declaration) → ((d : Declaration) → K d → L d) →
+    ((d : Declaration) → L d → K d) → (c : Conflict) → IsOtherNoted Known K used old c → IsOtherNoted Known L used old c
+other_as Known K L used old to from c h = (h.0, member_as Known K L old to from c.by h.1)
+
+member_found : (Known : Package → Type 0) (K : Declaration → Type 0) (old : Declaration) (now : Option Declaration) → IsDeclarationFound K now →
+    (by : Option Capturer) → TellsMember Known (λ e. now ≡ Some e) old by → TellsMember Known K old by
+member_found Known K old now found None h = nothing_found K now found h
+member_found Known K old now found (Some by) h =
+    record { declaration = h.declaration; bound = found_so K now found h.declaration h.bound; other = h.other; told = h.told }
+
+pub other_found : (Known : Package → Type 0) (K : Declaration → Type 0) (used : Place) (old : Declaration) (now : Option Declaration) →
+    IsDeclarationFound K now → (c : Conflict) → IsOtherNoted Known (λ e. now ≡ Some e) used old c → IsOtherNoted Known K used old c
+other_found Known K used old now found c h = (h.0, member_found Known K old now found c.by h.1)
 
 pub in_package : (w : Workspace) (known : Verdicts) (r : Revision) (number : ℕ) (p : Package) → IsPackageAt w known number p → (c : Conflict) →
     IsConflictIn w known r p c → IsConflict w known r c
@@ -163,46 +189,73 @@ package_turned w known r p u path behind only old was place begins c n =
     }
 
 -- as a member
-pub noted_at : (Known : Package → Type 0) (p : Package) (at : Position) (old : Declaration) (place : Place) → AtToken p at place → (c : Conflict) →
-    IsOtherNoted Known place old c → IsOtherAt Known p at old c
-noted_at Known p at old place is c n = (subst (AtToken p at) (sym n.0) is, n.1)
+pub noted_at : (Known : Package → Type 0) (E : Place → Declaration → Type 0) (p : Package) (at : Position) (old : Declaration) (place : Place) →
+    AtToken p at place → (c : Conflict) → IsOtherNoted Known (E place) place old c → IsOtherAt Known E p at old c
+noted_at Known E p at old place is c n =
+    (subst (AtToken p at) (sym n.0) is, subst (λ (x : Place). TellsMember Known (E x) old c.by) (sym n.0) n.1)
 
-pub member_conflict : (Known : Package → Type 0) (ds : Symbol → Definition) (p : Package) (file : ℕ) (x : MemberUse) (old : Declaration) →
+pub member_conflict : (Known : Package → Type 0) (r : Revision) (ds : Symbol → Definition) (p : Package) (file : ℕ) (x : MemberUse) (old : Declaration) →
     member_at ds p file x.place x.before ≡ Some old →
-    (c : Conflict) → IsOtherAt Known p (record { file = file; index = x.place }) old c → IsMemberConflict Known ds p file x c
-member_conflict Known ds p file x old is c n = record { old = old; is_use = record { at = n.0; is_member = is }; tells = n.1 }
+    (c : Conflict) → IsOtherAt Known (IsUsedNow Known r ds p file x) p (record { file = file; index = x.place }) old c → IsMemberConflict Known r ds p file x c
+member_conflict Known r ds p file x old is c n = record { old = old; is_use = record { at = n.0; is_member = is }; tells = n.1 }
 
-pub among : (Known : Package → Type 0) (ds : Symbol → Definition) (p : Package) (file : ℕ) (uses : List MemberUse) (k : ℕ) (x : MemberUse) →
+pub among : (Known : Package → Type 0) (r : Revision) (ds : Symbol → Definition) (p : Package) (file : ℕ) (uses : List MemberUse) (k : ℕ) (x : MemberUse) →
     slice_get uses k ≡ Some x →
-    (c : Conflict) → IsMemberConflict Known ds p file x c → IsMemberConflictAmong Known ds p file uses c
-among Known ds p file uses k x at c h = record { old = h.old; is_use = (k, record { found = x; has_rank = at; is_use = h.is_use }); tells = h.tells }
+    (c : Conflict) → IsMemberConflict Known r ds p file x c → IsMemberConflictAmong Known r ds p file uses c
+among Known r ds p file uses k x at c h =
+    record { old = h.old; is_use = (k, record { found = x; has_rank = at; is_use = h.is_use }); tells = h.tells }
 
-pub member_in : (w : Workspace) (known : Verdicts) (r : Revision) (p : Package) (formed : WellFormed p.layout) (one : IsOneWorld p)
+pub member_in : (w : Workspace) (known : Verdicts) (r : Revision) (p : Package) (formed : WellFormed p.layout)
     (ds : Symbol → Definition) (are : AreDefinitions p ds) (members : List (Vec FoundUse)) →
     AreMemberUses p (map uses_in members) → (file : ℕ) (v : Vec FoundUse) → slice_get members file ≡ Some v → (c : Conflict) →
-    IsMemberConflictAmong (IsPackage w known) ds p file (uses_in v) c → IsConflictIn w known r p c
-member_in w known r p formed one ds are members all file v at c h =
-    let here : IsFileUse ds p h.old members file c.used = record { uses = v; has_rank = at; is_use = h.is_use } in
-    let b = to_bound p formed one ds are members all h.old c.used file here in
-    record { user = b.0; begins = b.1.0; turned = by_member h.old b.1.1 h.tells }
+    IsMemberConflictAmong (IsPackage w known) r ds p file (uses_in v) c → IsConflictIn w known r p c
+member_in w known r p formed ds are members all file v at c h =
+    let Known = IsPackage w known in
+    let x = h.is_use.1 in
+    let token = x.is_use.at in
+    let stands = token.1.1 in
+    let place = p.layout.place token.0 in
+    let judged = file_uses p members all file v at in
+    let has : Contains (uses_in v) x.found =
+    (h.is_use.0, slice_get_within (uses_in v) h.is_use.0 x.found x.has_rank, get_or_from_slice_get (uses_in v) h.is_use.0 x.found x.found x.has_rank) in
+    let here = used_at p formed ds are file (uses_in v) judged x.found has h.old x.is_use.is_member in
+    let used = subst (λ f. IsUsedAs ds p f place.index h.old x.found.before) (sym stands.1)
+    (subst (λ t. IsUsedAs ds p file t h.old x.found.before) (sym stands.2) here) in
+    let now : TellsMember Known (IsMemberNow Known r ds p place x.found.before c.used) h.old c.by =
+    subst (λ f. TellsMember Known (IsMemberNow Known r ds p (record { file = f; index = place.index }) x.found.before c.used) h.old c.by) (sym stands.1)
+    (subst (λ t. TellsMember Known (IsMemberNow Known r ds p (record { file = file; index = t }) x.found.before c.used) h.old c.by) (sym stands.2) h.tells) in
+    record {
+      user = token.0;
+      begins = token.1.0;
+      turned = by_member h.old used.0
+          (subst (λ t. TellsMember Known (λ e. IsMemberAfter Known r p.path (r.called c.used (spelled p place.file place.index)) used.0.judged.world.definition t e) h.old c.by)
+          (sym used.1.0)
+          (subst (λ u. TellsMember Known (λ e. IsMemberAfter Known r p.path (r.called c.used (spelled p place.file place.index)) u x.found.before e) h.old c.by)
+          (sym used.1.1) now));
+    }
 
 -- as the name of a field, of a method
-pub lost_at : (p : Package) (at : Position) (place : Place) → AtToken p at place → (c : Conflict) → (c.used ≡ place) × (c.by ≡ None) → IsLostAt p at c
-lost_at p at place is c n = (subst (AtToken p at) (sym n.0) is, n.1)
+pub lost_there : (Known : Package → Type 0) (r : Revision) (old : Declaration) → (CountsAfter Known r old → ⊥) → (place : Place) → (c : Conflict) →
+    (c.used ≡ place) × (c.by ≡ None) → IsLostThere Known r place old c
+lost_there Known r old not place c n = (n.0, (not, n.1))
+
+pub lost_at : (Known : Package → Type 0) (r : Revision) (p : Package) (at : Position) (old : Declaration) (place : Place) → AtToken p at place →
+    (c : Conflict) → IsLostThere Known r place old c → IsLostAt Known r p at old c
+lost_at Known r p at old place is c n = (subst (AtToken p at) (sym n.0) is, n.1)
 
 pub field_in : (w : Workspace) (known : Verdicts) (r : Revision) (p : Package) (rank : ℕ) (o : Option Position) →
     MatchOption o ((at : Position) → IsFieldAt p rank at → ⊥) (λ at. IsFieldAt p rank at) →
-    (c : Conflict) → IsLostAtFound p o c → IsConflictIn w known r p c
+    (c : Conflict) → IsLostAtFound (IsPackage w known) r p o (field_at p.path rank) c → IsConflictIn w known r p c
 field_in w known r p rank o is c h =
     let n = found_to_name (IsFieldAt p) p rank o is c.used h.0 in
-    record { user = n.0; begins = n.1.0; turned = by_name (Field (symbol_in p rank)) (refl, n.1.1) h.1 }
+    record { user = n.0; begins = n.1.0; turned = by_name (field_at p.path rank) (refl, n.1.1) h.1.0 h.1.1 }
 
 pub method_in : (w : Workspace) (known : Verdicts) (r : Revision) (p : Package) (rank : ℕ) (o : Option Position) →
     MatchOption o ((at : Position) → IsMethodAt p rank at → ⊥) (λ at. IsMethodAt p rank at) →
-    (c : Conflict) → IsLostAtFound p o c → IsConflictIn w known r p c
+    (c : Conflict) → IsLostAtFound (IsPackage w known) r p o (method_at p.path rank) c → IsConflictIn w known r p c
 method_in w known r p rank o is c h =
     let n = found_to_name (IsMethodAt p) p rank o is c.used h.0 in
-    record { user = n.0; begins = n.1.0; turned = by_name (Method (symbol_in p rank)) (refl, n.1.1) h.1 }
+    record { user = n.0; begins = n.1.0; turned = by_name (method_at p.path rank) (refl, n.1.1) h.1.0 h.1.1 }
 
 -- the first identifier, where no conflict was found, and none is lost
 pub told_so : (w : Workspace) (known : Verdicts) (r : Revision) (o : Option Conflict) → NoneIsLost w known r → IsToldFirst w known o → TellsFirst w known r o

@@ -2,14 +2,19 @@
 use Rattle.std.specs.Prelude.{ℕ, ◌≡◌, List}
 use Rattle.gr_text.specs.Workspace.{Workspace}
 use Rattle.gr_text.specs.declared.place.Place.{Place}
-use Rattle.gr_declared.specs.Package.{Package}
+use Rattle.gr_scope.specs.declared.model.Position.{Position}
+use Rattle.gr_expr.specs.declared.symbol.Symbol.{Symbol}
+use Rattle.gr_expr.specs.Types.{PlainType}
+use Rattle.gr_expr.specs.World.{Definition}
+use Rattle.gr_declared.specs.Package.{Package, spelled}
 use Rattle.gr_types.specs.Interfaces.{IsSeen}
 use Rattle.gr_verdict.specs.Verdicts.{Verdicts}
 use Rattle.gr_bound.specs.declared.declaration.Declaration.{Declaration}
 use Rattle.gr_bound.specs.declared.declaration.Declaration.TheVariants.{Declared}
-use Rattle.gr_bound.specs.Binding.{IsBehindPackage}
+use Rattle.gr_bound.specs.Binding.{BindsByMember, IsBehindPackage}
 use Rattle.gr_bound.specs.Uses.{IsPackage}
 use Rattle.gr_revision.specs.Revisions.{Revision, GoesTo}
+use Rattle.gr_members_after.specs.MembersAfter.{IsMemberAfter}
 use Rattle.gr_scoped.specs.ScopedPackages.{IsScopedIn}
 use Rattle.gr_check.specs.Corresponding.{Corresponds}
 use Rattle.gr_change_places.specs.ScopeBindings.{IsScopeUse}
@@ -37,3 +42,14 @@ pub record IsBoundByPackage (w : Workspace) (r : Revision) (place : Place) (p : 
   pub path : List ℕ
   pub behind : IsBehindPackage p u path
   pub exports : IsExportAfter w r path (r.called place (p.names u)) e
+
+-- The member that the name at a position is for a type before it, by definitions: one of the fields and methods that this type has
+-- in the workspace before, under their new names.
+abbrev pub IsMemberNow : (Known : Package → Type 0) → Revision → (Symbol → Definition) → Package → Position → PlainType → Place → Declaration → Type 0
+IsMemberNow Known r definitions p at before place e =
+    IsMemberAfter Known r p.path (r.called place (spelled p at.file at.index)) (λ s. (definitions s).underlying) before e
+
+-- a member use: e is what its new name is for the type that was found before it
+abbrev pub IsBoundByMember : (Known : Package → Type 0) → Revision → Place → (p : Package) (u : ℕ) (old : Declaration) → BindsByMember p u old → Declaration → Type 0
+IsBoundByMember Known r place p u old was e =
+    IsMemberAfter Known r p.path (r.called place (spelled p (p.layout.place u).file (p.layout.place u).index)) was.judged.world.definition was.found.before e

@@ -19,7 +19,8 @@ use Rattle.gr_bound.specs.Uses.{IsPackage}
 use Rattle.gr_revision.specs.Revisions.{Revision}
 use Rattle.gr_standing.specs.Standing.{IsDeclaredAt}
 use Rattle.gr_check.specs.Preserved.{IsIdentifierAt}
-use Rattle.gr_conflict.specs.Afterwards.{HasBecome, IsBoundByScopes, IsBoundByPackage}
+use Rattle.gr_members_after.specs.MembersAfter.{CountsAfter}
+use Rattle.gr_conflict.specs.Afterwards.{HasBecome, IsBoundByScopes, IsBoundByPackage, IsBoundByMember, IsMemberNow}
 use Rattle.gr_conflict.specs.Firsts.{IsNotBefore}
 use Rattle.gr_conflict.specs.Staying.{NoneIsLost, NoneIsLostBefore}
 use Rattle.gr_conflict.specs.declared.conflict.Capturer.{Capturer}
@@ -38,23 +39,25 @@ pub data TellsOf (Becomes : Declaration → Declaration → Type 0) (Known : Pac
   elsewhere : (e : Declaration) → E e → (Becomes old e → ⊥) → TellsOf Becomes Known E old None
   captured : {by : Capturer} (e c : Declaration) → E e → (Becomes old e → ⊥) → Becomes c e → IsCapturer Known c by → TellsOf Becomes Known E old (Some by)
 
--- the same of what is bound to a field or method: another declaration captures
-pub record IsOther (Known : Package → Type 0) (old : Declaration) (by : Capturer) : Type 0 where
+-- The same of what is bound to a field or method: it is lost only where the type has no member of its new name, and what captures it
+-- is the member that has this.
+pub record IsOther (Known : Package → Type 0) (E : Declaration → Type 0) (old : Declaration) (by : Capturer) : Type 0 where
   pub declaration : Declaration
+  pub bound : E declaration
   pub other : old ≡ declaration → ⊥
   pub told : IsCapturer Known declaration by
 
-abbrev pub TellsOther : (Package → Type 0) → Declaration → Option Capturer → Type 0
-TellsOther Known old None = ⊤
-TellsOther Known old (Some by) = IsOther Known old by
+abbrev pub TellsMember : (Known : Package → Type 0) → (Declaration → Type 0) → Declaration → Option Capturer → Type 0
+TellsMember Known E old None = (e : Declaration) → E e → ⊥
+TellsMember Known E old (Some by) = IsOther Known E old by
 
 -- An identifier of the package was bound to a declaration in some way, and in this way it is afterwards bound to none, or to
--- another. Of what is used as a member only that it was bound is told. The name by which a member is declared is never captured.
+-- another. The name by which a member is declared is lost where this does not count under its new name, and never captured.
 pub data IsTurned (w : Workspace) (known : Verdicts) (r : Revision) (p : Package) (u : ℕ) (c : Conflict) : Type 0 where
   by_scope : (old : Declaration) → BindsByScope p u old → TellsOf (HasBecome w known r) (IsPackage w known) (IsBoundByScopes r c.used) old c.by → IsTurned w known r p u c
   by_package : (old : Declaration) → BindsByPackage (IsPackage w known) p u old → TellsOf (HasBecome w known r) (IsPackage w known) (IsBoundByPackage w r c.used p u) old c.by → IsTurned w known r p u c
-  by_member : (old : Declaration) → BindsByMember p u old → TellsOther (IsPackage w known) old c.by → IsTurned w known r p u c
-  by_name : (old : Declaration) → BindsByName p u old → c.by ≡ None → IsTurned w known r p u c
+  by_member : (old : Declaration) (was : BindsByMember p u old) → TellsMember (IsPackage w known) (IsBoundByMember (IsPackage w known) r c.used p u old was) old c.by → IsTurned w known r p u c
+  by_name : (old : Declaration) → BindsByName p u old → (CountsAfter (IsPackage w known) r old → ⊥) → c.by ≡ None → IsTurned w known r p u c
 
 pub record IsConflictIn (w : Workspace) (known : Verdicts) (r : Revision) (p : Package) (c : Conflict) : Type 0 where
   pub user : ℕ
@@ -113,33 +116,45 @@ IsKept used by c = (c.used ≡ used) × (c.by ≡ by)
 abbrev pub IsNoted : (Becomes : Declaration → Declaration → Type 0) → (Package → Type 0) → (Declaration → Type 0) → Place → Declaration → Conflict → Type 0
 IsNoted Becomes Known E used old c = (c.used ≡ used) × TellsOf Becomes Known E old c.by
 
--- a conflict of what begins at a place, and was bound to a field or method
-abbrev pub IsOtherNoted : (Package → Type 0) → Place → Declaration → Conflict → Type 0
-IsOtherNoted Known used old c = (c.used ≡ used) × TellsOther Known old c.by
+-- a conflict of what begins at a place, was bound to a field or method and is afterwards that of which E tells
+abbrev pub IsOtherNoted : (Known : Package → Type 0) → (Declaration → Type 0) → Place → Declaration → Conflict → Type 0
+IsOtherNoted Known E used old c = (c.used ≡ used) × TellsMember Known E old c.by
 
 -- an identifier stands behind the name of the package of that path, and of no other
 abbrev pub IsOnlyBehind : Package → ℕ → List ℕ → Type 0
 IsOnlyBehind p u path = IsBehindPackage p u path × ((other : List ℕ) → IsBehindPackage p u other → other ≡ path)
 
--- the same of what stands at a token
-abbrev pub IsOtherAt : (Package → Type 0) → Package → Position → Declaration → Conflict → Type 0
-IsOtherAt Known p at old c = AtToken p at c.used × TellsOther Known old c.by
+-- a conflict of the member use at a token, by what it is at the place where that begins
+abbrev pub IsOtherAt : (Known : Package → Type 0) → (Place → Declaration → Type 0) → Package → Position → Declaration → Conflict → Type 0
+IsOtherAt Known E p at old c = AtToken p at c.used × TellsMember Known (E c.used) old c.by
 
--- a conflict of what is used as a member, by the definitions that the package sees
-pub record IsMemberConflict (Known : Package → Type 0) (definitions : Symbol → Definition) (p : Package) (file : ℕ) (found : MemberUse) (c : Conflict) : Type 0 where
+-- what a member use of a file is, by the definitions that the package sees
+abbrev pub IsUsedNow : (Known : Package → Type 0) → Revision → (Symbol → Definition) → Package → (file : ℕ) → MemberUse → Place → Declaration → Type 0
+IsUsedNow Known r definitions p file found = IsMemberNow Known r definitions p (record { file = file; index = found.place }) found.before
+
+-- a conflict of what is used as a member
+pub record IsMemberConflict (Known : Package → Type 0) (r : Revision) (definitions : Symbol → Definition) (p : Package) (file : ℕ) (found : MemberUse) (c : Conflict) : Type 0 where
   pub old : Declaration
   pub is_use : IsMemberUseOf definitions p file old found c.used
-  pub tells : TellsOther Known old c.by
+  pub tells : TellsMember Known (IsUsedNow Known r definitions p file found c.used) old c.by
 
 -- the same of some member use of a file
-pub record IsMemberConflictAmong (Known : Package → Type 0) (definitions : Symbol → Definition) (p : Package) (file : ℕ) (uses : List MemberUse) (c : Conflict) : Type 0 where
+pub record IsMemberConflictAmong (Known : Package → Type 0) (r : Revision) (definitions : Symbol → Definition) (p : Package) (file : ℕ) (uses : List MemberUse) (c : Conflict) : Type 0 where
   pub old : Declaration
   pub is_use : IsMemberUseAmong definitions p file old uses c.used
-  pub tells : TellsOther Known old c.by
+  pub tells : TellsMember Known (IsUsedNow Known r definitions p file is_use.1.found c.used) old c.by
 
--- the name of a member is lost that stands at a token, or at one that was found
-abbrev pub IsLostAt : Package → Position → Conflict → Type 0
-IsLostAt p at c = AtToken p at c.used × (c.by ≡ None)
+-- the name of a member is lost, which does not count
+abbrev pub IsNameLost : (Known : Package → Type 0) → Revision → Declaration → Conflict → Type 0
+IsNameLost Known r old c = (CountsAfter Known r old → ⊥) × (c.by ≡ None)
 
-abbrev pub IsLostAtFound : Package → Option Position → Conflict → Type 0
-IsLostAtFound p at c = AtFound p at c.used × (c.by ≡ None)
+-- the same of the name that stands at a token, or at one that was found
+abbrev pub IsLostAt : (Known : Package → Type 0) → Revision → Package → Position → Declaration → Conflict → Type 0
+IsLostAt Known r p at old c = AtToken p at c.used × IsNameLost Known r old c
+
+abbrev pub IsLostAtFound : (Known : Package → Type 0) → Revision → Package → Option Position → Declaration → Conflict → Type 0
+IsLostAtFound Known r p at old c = AtFound p at c.used × IsNameLost Known r old c
+
+-- the same of the name at a place
+abbrev pub IsLostThere : (Known : Package → Type 0) → Revision → Place → Declaration → Conflict → Type 0
+IsLostThere Known r used old c = (c.used ≡ used) × IsNameLost Known r old c

@@ -6,13 +6,14 @@ use Rattle.gr_edit.specs.Moved.{moved}
 use Rattle.gr_declared.specs.Package.{Package}
 use Rattle.gr_verdict.specs.Verdicts.{Verdicts}
 use Rattle.gr_revision.specs.Revisions.{Revision}
-use Rattle.gr_revision.specs.RevisionsOfEdits.{called_by}
+use Rattle.gr_revision.specs.RevisionsOfEdits.{called_by, revision_of}
 use Rattle.gr_bound.specs.declared.declaration.Declaration.{Declaration}
 use Rattle.gr_bound.specs.declared.packages.Packages.{Packages}
 use Rattle.gr_bound.specs.Exports.{AreExports}
 use Rattle.gr_bound.specs.Packages.{ArePackages}
 use Rattle.gr_bound.specs.Uses.{IsPackage}
 use Rattle.gr_check.specs.DeclaredPlaces.{AreDeclared}
+use Rattle.gr_members_after.specs.NewMembers.{AreAllNewMembers}
 use Rattle.gr_scoped.specs.Scopes.{AreAllScopes}
 use Rattle.gr_change_places.specs.Read.{workspace_of, verdicts_of}
 use Rattle.gr_change_places.specs.OldPlaces.{AreOldPlaces}
@@ -21,11 +22,16 @@ use Rattle.gr_conflict.specs.Afterwards.{HasBecome}
 use Rattle.gr_conflict.specs.declared.first.Before.{Before}
 use Rattle.gr_conflict.specs.declared.judge.Judge.{Judge}
 
+-- the change by an edit set that leads to a workspace
+abbrev pub change_by : Workspace → FileChanges → Revision
+change_by after s = record { after = after; moved = moved s; called = called_by s }
+
 -- what is found before a change
 pub record KnowsBefore (p : Packages) (s : FileChanges) (b : Before) : Type 0 where
   pub exports : AreExports (workspace_of p) (verdicts_of p) b.exports.items
   pub places : AreDeclared (workspace_of p) (verdicts_of p) b.places.items
   pub old : AreOldPlaces (IsPackage (workspace_of p) (verdicts_of p)) (moved s) b.old.items
+  pub members : AreAllNewMembers (workspace_of p) (verdicts_of p) (revision_of (workspace_of p) s) b.members.items
 
 -- the same, and what is found afterwards
 pub record KnowsChange (j : Judge) : Type 0 where
@@ -36,6 +42,7 @@ pub record KnowsChange (j : Judge) : Type 0 where
   pub after : j.after.now ≡ edited j.moves.now (workspace_of j.packages.now)
   pub scoped : AreAllScopes j.after.now j.scoped.now
   pub bound : AreScopeBindings j.after.now j.bound.now
+  pub members : AreAllNewMembers (workspace_of j.packages.now) (verdicts_of j.packages.now) (change_by j.after.now j.moves.now) j.members.now
 
 -- the workspace before, and what is known of its packages
 abbrev pub workspace_in : Judge → Workspace
@@ -49,9 +56,6 @@ abbrev pub known_packages : Judge → Package → Type 0
 known_packages j = IsPackage (workspace_in j) (known_verdicts j)
 
 -- the change
-abbrev pub change_by : Workspace → FileChanges → Revision
-change_by after s = record { after = after; moved = moved s; called = called_by s }
-
 abbrev pub change_in : Judge → Revision
 change_in j = change_by j.after.now j.moves.now
 

@@ -30,6 +30,7 @@ impl<'a> Judge<'a, '_, '_> {
     pub fn types(&self) -> TypesAfter<'a>
         ensures graph { result.graph.now ≡ self.now.packages.now.graph.now }
         ensures found { result.found.now ≡ self.now.packages.now.found.now }
+        ensures members { result.members.now ≡ self.now.members.now }
     {
         TypesAfter {
             graph: self.packages.graph,

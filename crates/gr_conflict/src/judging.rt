@@ -1,15 +1,17 @@
 //! The identifiers of one package, each judged alone by the way in which it was bound.
-ghost use Rattle.std.specs.Prelude.{◌≡◌, ◌<◌, None, Contains, length, map, OnOk};
+ghost use Rattle.std.specs.Prelude.{◌≡◌, ◌<◌, Contains, length, map, OnOk};
 ghost use Rattle.gr_text.specs.Packages.{package_paths};
 ghost use Rattle.gr_expr.specs.Found.{use_of};
+ghost use Rattle.gr_expr.specs.View.{type_of};
 ghost use Rattle.gr_declared.specs.PackageView.{package_of, IsIndexOf};
 ghost use Rattle.gr_revision.specs.RevisionsOfEdits.{called_by};
 ghost use Rattle.gr_bound.specs.Binding.{BindsByScope, BindsByPackage};
 ghost use Rattle.gr_bound.specs.Members.{definitions_seen};
 ghost use Rattle.gr_bound.specs.Workspaces.{IsPackageAt};
-ghost use Rattle.gr_conflict.specs.Afterwards.{IsBoundByScopes, IsBoundByPackage, IsExportAfter};
-ghost use Rattle.gr_conflict.specs.Conflicts.{IsKept, IsConflictIn, IsNoted, IsOtherNoted, IsOtherAt, IsLostAt, IsLostAtFound, IsMemberConflict, IsMemberConflictAmong, IsOnlyBehind, IsAhead, HoldsAhead, Takes};
+ghost use Rattle.gr_conflict.specs.Afterwards.{IsBoundByScopes, IsBoundByPackage, IsExportAfter, IsMemberNow};
+ghost use Rattle.gr_conflict.specs.Conflicts.{IsConflictIn, IsNoted, IsOtherNoted, IsOtherAt, IsLostAt, IsLostAtFound, IsLostThere, IsMemberConflict, IsMemberConflictAmong, IsOnlyBehind, IsAhead, HoldsAhead, Takes};
 ghost use Rattle.gr_conflict.specs.Judging.{KnowsChange, workspace_in, known_verdicts, known_packages, change_in, becomes_in};
+ghost use Rattle.gr_change_places.specs.OldPlaces.{field_at, method_at};
 ghost use Rattle.gr_conflict.specs.Staying.{StaysBound, StaysByScope, StaysByPackage, StaysIn, IfBegins};
 
 use crate::beginning::token_beginning;
@@ -27,7 +29,6 @@ use gr_check::beginning;
 use gr_declared::{Index, Package};
 use gr_expr::found::MemberUse;
 use gr_expr::world::Definition;
-use gr_meanings::one_world;
 use gr_scope::model::Position;
 use gr_text::Place;
 use std::alloc::{AllocError, Global};
@@ -217,7 +218,8 @@ fn note_by_member(
     old: &Declaration,
 ) -> Result<(), AllocError>
     requires { KnowsChange judge.now }
-    ensures { OnOk result (Takes (IsOtherNoted (known_packages judge.now) place old.now) first.old first.new) }
+    ensures { let now = IsMemberNow (known_packages judge.now) (change_in judge.now) (definitions_seen unit.entry own.now) (package_of unit.entry) at (type_of found.now.before) place in
+        OnOk result (Takes (IsOtherNoted (known_packages judge.now) now place old.now) first.old first.new) }
 {
     let name = unit.spelling(at.file, at.index);
     let now = now_by_member(judge, unit, own, found, &place, name)?;
@@ -237,7 +239,8 @@ fn judge_token(
 ) -> Result<(), AllocError>
     requires knows { KnowsChange judge.now }
     requires index { IsIndexOf (package_of unit) index.now }
-    ensures { OnOk result (Takes (IsOtherAt (known_packages judge.now) (package_of unit.entry) at old.now) first.old first.new) }
+    ensures { let now = IsMemberNow (known_packages judge.now) (change_in judge.now) (definitions_seen unit.entry own.now) (package_of unit.entry) at (type_of found.now.before) in
+        OnOk result (Takes (IsOtherAt (known_packages judge.now) now (package_of unit.entry) at old.now) first.old first.new) }
 {
     match token_beginning(unit, index, at)? {
         None => Ok(()),
@@ -257,7 +260,7 @@ fn judge_by_member(
 ) -> Result<(), AllocError>
     requires knows { KnowsChange judge.now }
     requires index { IsIndexOf (package_of unit) index.now }
-    ensures { OnOk result (Takes (IsMemberConflict (known_packages judge.now) (definitions_seen unit.entry own.now) (package_of unit.entry) file (use_of found.now)) first.old first.new) }
+    ensures { OnOk result (Takes (IsMemberConflict (known_packages judge.now) (change_in judge.now) (definitions_seen unit.entry own.now) (package_of unit.entry) file (use_of found.now)) first.old first.new) }
 {
     match member_declaration(unit, own, file, found)? {
         None => Ok(()),
@@ -283,7 +286,7 @@ fn judge_file(
 ) -> Result<(), AllocError>
     requires knows { KnowsChange judge.now }
     requires index { IsIndexOf (package_of unit) index.now }
-    ensures { OnOk result (Takes (IsMemberConflictAmong (known_packages judge.now) (definitions_seen unit.entry own.now) (package_of unit.entry) file (map use_of uses.now)) first.old first.new) }
+    ensures { OnOk result (Takes (IsMemberConflictAmong (known_packages judge.now) (change_in judge.now) (definitions_seen unit.entry own.now) (package_of unit.entry) file (map use_of uses.now)) first.old first.new) }
 {
     for k in 0..uses.len() {
         judge_by_member(first, judge, unit, index, own, file, &uses[k])?;
@@ -306,7 +309,6 @@ fn judge_members(
     ensures { OnOk result (Takes (IsConflictIn (workspace_in judge.now) (known_verdicts judge.now) (change_in judge.now) (package_of unit.entry)) first.old first.new) }
 {
     unit.table.is_well_formed();
-    one_world(unit);
     let own = own_of(judge.packages.graph, judge.packages.found, number);
     let members = members_of(judge.packages.graph, judge.packages.found, number);
     for file in 0..members.len() {
@@ -323,11 +325,12 @@ fn note_by_name(
     old: &Declaration,
 ) -> Result<(), AllocError>
     requires { KnowsChange judge.now }
-    ensures { OnOk result (Takes (IsKept place None) first.old first.new) }
+    ensures { OnOk result (Takes (IsLostThere (known_packages judge.now) (change_in judge.now) place old.now) first.old first.new) }
 {
-    if !judge.types().counts(old)? {
-        note_lost(first, place);
+    if judge.types().counts(old)? {
+        return Ok(());
     }
+    note_lost(first, place);
     Ok(())
 }
 
@@ -342,7 +345,7 @@ fn judge_by_name(
 ) -> Result<(), AllocError>
     requires knows { KnowsChange judge.now }
     requires index { IsIndexOf (package_of unit) index.now }
-    ensures { OnOk result (Takes (IsLostAt (package_of unit.entry) at) first.old first.new) }
+    ensures { OnOk result (Takes (IsLostAt (known_packages judge.now) (change_in judge.now) (package_of unit.entry) at old.now) first.old first.new) }
 {
     match token_beginning(unit, index, at)? {
         None => Ok(()),
@@ -361,7 +364,7 @@ fn judge_field(
 ) -> Result<(), AllocError>
     requires knows { KnowsChange judge.now }
     requires index { IsIndexOf (package_of unit) index.now }
-    ensures { OnOk result (Takes (IsLostAt (package_of unit.entry) at) first.old first.new) }
+    ensures { OnOk result (Takes (IsLostAt (known_packages judge.now) (change_in judge.now) (package_of unit.entry) at (field_at unit.entry.path.now rank)) first.old first.new) }
 {
     let symbol = symbol(unit.path, rank)?;
     let old = Declaration::Field(symbol);
@@ -379,7 +382,7 @@ fn judge_counting_field(
 ) -> Result<(), AllocError>
     requires knows { KnowsChange judge.now }
     requires index { IsIndexOf (package_of unit) index.now }
-    ensures { OnOk result (Takes (IsLostAtFound (package_of unit.entry) at) first.old first.new) }
+    ensures { OnOk result (Takes (IsLostAtFound (known_packages judge.now) (change_in judge.now) (package_of unit.entry) at (field_at unit.entry.path.now rank)) first.old first.new) }
 {
     match at {
         None => Ok(()),
@@ -417,7 +420,7 @@ fn judge_method(
 ) -> Result<(), AllocError>
     requires knows { KnowsChange judge.now }
     requires index { IsIndexOf (package_of unit) index.now }
-    ensures { OnOk result (Takes (IsLostAt (package_of unit.entry) at) first.old first.new) }
+    ensures { OnOk result (Takes (IsLostAt (known_packages judge.now) (change_in judge.now) (package_of unit.entry) at (method_at unit.entry.path.now rank)) first.old first.new) }
 {
     let symbol = symbol(unit.path, rank)?;
     let old = Declaration::Method(symbol);
@@ -435,7 +438,7 @@ fn judge_counting_method(
 ) -> Result<(), AllocError>
     requires knows { KnowsChange judge.now }
     requires index { IsIndexOf (package_of unit) index.now }
-    ensures { OnOk result (Takes (IsLostAtFound (package_of unit.entry) at) first.old first.new) }
+    ensures { OnOk result (Takes (IsLostAtFound (known_packages judge.now) (change_in judge.now) (package_of unit.entry) at (method_at unit.entry.path.now rank)) first.old first.new) }
 {
     match at {
         None => Ok(()),

@@ -202,7 +202,7 @@ fn note_other_member(
     now: &Declaration,
 ) -> Result<(), AllocError>
     requires { KnowsChange judge.now }
-    ensures { OnOk result (Takes (IsOtherNoted (known_packages judge.now) used old.now) first.old first.new) }
+    ensures { OnOk result (Takes (IsOtherNoted (known_packages judge.now) (λ e. e ≡ now.now) used old.now) first.old first.new) }
 {
     if is_same(old, now) {
         return Ok(());
@@ -222,7 +222,7 @@ pub fn note_member(
     now: Option<Declaration>,
 ) -> Result<(), AllocError>
     requires { KnowsChange judge.now }
-    ensures { OnOk result (Takes (IsOtherNoted (known_packages judge.now) used old.now) first.old first.new) }
+    ensures { OnOk result (Takes (IsOtherNoted (known_packages judge.now) (λ e. now ≡ Some e) used old.now) first.old first.new) }
 {
     match now {
         None => {

@@ -5,11 +5,15 @@ ghost use Rattle.gr_text.specs.Path.{folder};
 ghost use Rattle.gr_revision.specs.Revisions.{GoesTo};
 ghost use Rattle.gr_revision.specs.RevisionsOfEdits.{called_by};
 ghost use Rattle.gr_bound.specs.Exports.{number_named, AreNumbers};
+ghost use Rattle.gr_expr.specs.View.{type_of};
+ghost use Rattle.gr_expr.specs.WorldView.{underlying_in};
+ghost use Rattle.gr_bound.specs.Members.{definitions_seen};
 ghost use Rattle.gr_bound.specs.Steps.{IsDeclarationFound};
+ghost use Rattle.gr_members_after.specs.MembersAfter.{IsMemberAfter};
 ghost use Rattle.gr_scoped.specs.Scopes.{package_scoped};
 ghost use Rattle.gr_change_places.specs.ScopeBindings.{IsScopeUse};
 ghost use Rattle.gr_conflict.specs.Afterwards.{IsBoundByScopes, IsExportAfter};
-ghost use Rattle.gr_conflict.specs.Judging.{KnowsChange, workspace_in, change_in};
+ghost use Rattle.gr_conflict.specs.Judging.{KnowsChange, workspace_in, known_packages, change_in};
 ghost use Rattle.gr_conflict.specs.Now.{IsExportIn, IsExportOf};
 
 use crate::judge::Judge;
@@ -133,6 +137,39 @@ pub fn now_by_package(
     }
 }
 
+/// The world of the definitions that a package sees, without names.
+#[tactic(auto, unfolding(gr_expr::specs::WorldView::definition_in, gr_expr::specs::WorldView::definition_at))]
+fn seen_world<'w>(unit: Package<'w>, own: &'w [Definition]) -> World<'w>
+    ensures { underlying_in result ≡ (λ s. (definitions_seen unit.entry own.now s).underlying) }
+{
+    World {
+        package: unit.path,
+        names: &[],
+        bounds: &[],
+        own,
+        imported: unit.interfaces.definitions(),
+    }
+}
+
+/// The member that a name is for the type before a member use, by the definitions that the package sees and under the new names.
+fn member_called(
+    judge: &Judge<'_, '_, '_>,
+    unit: Package<'_>,
+    own: &[Definition],
+    found: &MemberUse,
+    called: &[u8],
+) -> Result<Option<Declaration>, AllocError>
+    requires { KnowsChange judge.now }
+    ensures { IfOk result (IsDeclarationFound (IsMemberAfter (known_packages judge.now) (change_in judge.now) unit.entry.path.now called.now (λ s. (definitions_seen unit.entry own.now s).underlying) (type_of found.now.before))) }
+{
+    let world = seen_world(unit, own);
+    let name = Written {
+        own: unit.path.path(),
+        name: called,
+    };
+    judge.types().member(name, &world, &found.before)
+}
+
 /// What a name behind another dot, or a key, is bound to: the member that the type before it has under the new names.
 pub fn now_by_member(
     judge: &Judge<'_, '_, '_>,
@@ -143,17 +180,9 @@ pub fn now_by_member(
     name: &[u8],
 ) -> Result<Option<Declaration>, AllocError>
     requires { KnowsChange judge.now }
+    ensures { let called = called_by judge.now.moves.now place.now name.now in
+        IfOk result (IsDeclarationFound (IsMemberAfter (known_packages judge.now) (change_in judge.now) unit.entry.path.now called (λ s. (definitions_seen unit.entry own.now s).underlying) (type_of found.now.before))) }
 {
-    let world = World {
-        package: unit.path,
-        names: &[],
-        bounds: &[],
-        own,
-        imported: unit.interfaces.definitions(),
-    };
-    let name = Written {
-        own: unit.path.path(),
-        name: judge.moves.called(&place.path, place.offset, name),
-    };
-    judge.types().member(name, &world, &found.before)
+    let called = judge.moves.called(&place.path, place.offset, name);
+    member_called(judge, unit, own, found, called)
 }

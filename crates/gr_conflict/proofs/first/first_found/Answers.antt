@@ -6,6 +6,7 @@ use Rattle.gr_edit.specs.Moved.{moved}
 use Rattle.gr_bound.specs.Exports.{AreExports}
 use Rattle.gr_bound.specs.Uses.{IsPackage}
 use Rattle.gr_check.specs.DeclaredPlaces.{AreDeclared}
+use Rattle.gr_members_after.specs.NewMembers.{AreAllNewMembers}
 use Rattle.gr_conflict.specs.Conflicts.{IsConflict, Takes, HoldsAhead}
 use Rattle.gr_change_places.specs.Read.{workspace_of, verdicts_of}
 use Rattle.gr_conflict.specs.Judging.{change_by}
@@ -26,6 +27,9 @@ first_judged-requires c =
       after = c.requires.after;
       scoped = c.requires.scoped;
       bound = subst (AreScopeBindings c.args.after.now) (sym c.deref-5.ensures.value) c.in_ok-bound.ensures;
+      members =
+          subst (AreAllNewMembers w known (change_by c.args.after.now c.args.moves.now)) (sym c.deref.ensures.value)
+          (subst (λ (v : Workspace). AreAllNewMembers w known (change_by v c.args.moves.now) c.args.before.now.members.items) (sym c.requires.after) c.requires.before.members);
     }
 
 pub returns-clause-takes : goal.returns-clause-takes

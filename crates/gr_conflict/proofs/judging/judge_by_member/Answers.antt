@@ -3,8 +3,8 @@ use Rattle.std.proofs.Common.{◌∙◌, sym}
 use Rattle.gr_expr.specs.Found.{use_of}
 use Rattle.gr_declared.specs.PackageView.{package_of}
 use Rattle.gr_bound.specs.Members.{definitions_seen}
-use Rattle.gr_conflict.specs.Conflicts.{IsOtherAt, IsMemberConflict}
-use Rattle.gr_conflict.specs.Judging.{known_packages}
+use Rattle.gr_conflict.specs.Conflicts.{IsOtherAt, IsUsedNow, IsMemberConflict}
+use Rattle.gr_conflict.specs.Judging.{known_packages, change_in}
 use Rattle.gr_conflict.proofs.Taking.{call_takes}
 use Rattle.gr_conflict.proofs.Telling.{member_conflict}
 use Rattle.gr_conflict.proofs.judging.judge_by_member.Goals as goal
@@ -16,6 +16,7 @@ returns-in-Some c =
     let ds = definitions_seen c.args.unit c.args.own.now in
     let x = use_of c.args.found.now in
     let old = c.in-Some.old in
-    call_takes (IsOtherAt Known p (record { file = c.args.file; index = x.place }) old) (IsMemberConflict Known ds p c.args.file x)
+    let r = change_in c.args.judge.now in
+    call_takes (IsOtherAt Known (IsUsedNow Known r ds p c.args.file x) p (record { file = c.args.file; index = x.place }) old) (IsMemberConflict Known r ds p c.args.file x)
     c.args.first.now c.judge_token.new.first c.judge_token.result
-    (member_conflict Known ds p c.args.file x old (sym c.in_ok-member_declaration.ensures ∙ c.in-Some.is)) c.judge_token.ensures
+    (member_conflict Known r ds p c.args.file x old (sym c.in_ok-member_declaration.ensures ∙ c.in-Some.is)) c.judge_token.ensures

@@ -30,9 +30,9 @@ loop-file-preserved c =
     let v = c.index-members-file.result in
     let a = c.loop-file.first in
     let b = c.judge_file.new.first in
-    let found = subst (λ l. Takes (IsMemberConflictAmong Known ds p file (map use_of l)) a b) c.deref.ensures.value c.in_ok-judge_file.ensures in
-    let here = takes_as (IsMemberConflictAmong Known ds p file (map use_of v.items)) (IsConflictIn w known r p) a b
-    (member_in w known r p c.is_well_formed.ensures c.one_world.ensures ds (seen_definitions c.args.unit own (c.own_of-own.ensures p c.requires.is_package))
+    let found = subst (λ l. Takes (IsMemberConflictAmong Known r ds p file (map use_of l)) a b) c.deref.ensures.value c.in_ok-judge_file.ensures in
+    let here = takes_as (IsMemberConflictAmong Known r ds p file (map use_of v.items)) (IsConflictIn w known r p) a b
+    (member_in w known r p c.is_well_formed.ensures ds (seen_definitions c.args.unit own (c.own_of-own.ensures p c.requires.is_package))
     members (c.members_of-members.ensures p c.requires.is_package) file v
     (slice_get_read members (length members) file v refl (omega arith) c.index-members-file.is)) found in
     takes_then (IsConflictIn w known r p) c.args.first.now a b c.loop-file.invariant here

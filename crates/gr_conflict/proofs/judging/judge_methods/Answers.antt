@@ -5,8 +5,10 @@ use Rattle.std.proofs.lemmas.List.{get_or_read}
 use Rattle.gr_scope.specs.declared.model.Position.{Position}
 use Rattle.gr_declared.specs.PackageView.{package_of}
 use Rattle.gr_bound.specs.Binding.{IsMethodAt}
+use Rattle.gr_bound.specs.Uses.{IsPackage}
 use Rattle.gr_conflict.specs.Conflicts.{IsConflictIn, IsLostAtFound}
 use Rattle.gr_conflict.specs.Judging.{known_verdicts, change_in}
+use Rattle.gr_change_places.specs.OldPlaces.{method_at}
 use Rattle.gr_conflict.proofs.Taking.{takes_none, takes_as, takes_then}
 use Rattle.gr_conflict.proofs.Telling.{method_in}
 use Rattle.gr_conflict.proofs.judging.judge_methods.Goals as goal
@@ -29,5 +31,5 @@ loop-rank-preserved c =
     let lt : rank < length places = omega (arith, c.loop-rank-test.true, c.len-rank-end.ensures) in
     let is = subst (λ (o : Option Position). MatchOption o ((x : Position) → IsMethodAt p rank x → ⊥) (λ x. IsMethodAt p rank x))
     (sym (get_or_read places rank at lt c.index.ensures None)) (c.in_ok-methods.ensures rank) in
-    let here = takes_as (IsLostAtFound p at) (IsConflictIn w known r p) a b (method_in w known r p rank at is) c.in_ok-judge_counting_method.ensures in
+    let here = takes_as (IsLostAtFound (IsPackage w known) r p at (method_at p.path rank)) (IsConflictIn w known r p) a b (method_in w known r p rank at is) c.in_ok-judge_counting_method.ensures in
     takes_then (IsConflictIn w known r p) c.args.first.now a b c.loop-rank.invariant here

@@ -1,10 +1,13 @@
 -- The answers to the goals of `judging::judge_token`.
 use Rattle.std.proofs.Common.{subst}
+use Rattle.gr_expr.specs.View.{type_of}
 use Rattle.gr_declared.specs.PackageView.{package_of}
+use Rattle.gr_bound.specs.Members.{definitions_seen}
 use Rattle.gr_bound.specs.Steps.{AtToken}
 use Rattle.gr_check.specs.DeclaredPlaces.{IsFound}
+use Rattle.gr_conflict.specs.Afterwards.{IsMemberNow}
 use Rattle.gr_conflict.specs.Conflicts.{IsOtherNoted, IsOtherAt}
-use Rattle.gr_conflict.specs.Judging.{known_packages}
+use Rattle.gr_conflict.specs.Judging.{known_packages, change_in}
 use Rattle.gr_conflict.proofs.Taking.{call_takes}
 use Rattle.gr_conflict.proofs.Telling.{noted_at}
 use Rattle.gr_conflict.proofs.judging.judge_token.Goals as goal
@@ -14,7 +17,8 @@ returns-in-Some c =
     let p = package_of c.args.unit in
     let Known = known_packages c.args.judge.now in
     let place = c.in-Some.place in
+    let E = IsMemberNow Known (change_in c.args.judge.now) (definitions_seen c.args.unit c.args.own.now) p c.args.at (type_of c.args.found.now.before) in
     let begins : AtToken p c.args.at place = subst (IsFound (AtToken p c.args.at)) c.in-Some.is c.in_ok-token_beginning.ensures in
-    call_takes (IsOtherNoted Known place c.args.old.now) (IsOtherAt Known p c.args.at c.args.old.now) c.args.first.now
+    call_takes (IsOtherNoted Known (E place) place c.args.old.now) (IsOtherAt Known E p c.args.at c.args.old.now) c.args.first.now
     c.note_by_member.new.first c.note_by_member.result
-    (noted_at Known p c.args.at c.args.old.now place begins) c.note_by_member.ensures
+    (noted_at Known E p c.args.at c.args.old.now place begins) c.note_by_member.ensures

@@ -11,7 +11,7 @@ use Rattle.gr_conflict.proofs.noting.note_other_member.Goals as goal
 pub returns : goal.returns
 returns c =
     let Known = known_packages c.args.judge.now in
-    takes_as (IsKept c.args.used (Some c.in_ok-by.by)) (IsOtherNoted Known c.args.used c.args.old.now)
+    takes_as (IsKept c.args.used (Some c.in_ok-by.by)) (IsOtherNoted Known (λ e. e ≡ c.args.now.now) c.args.used c.args.old.now)
     c.args.first.now c.keep.new.first
     (other_told Known c.args.used c.args.old.now c.args.now.now c.in_ok-by.by (λ e. false≢true (sym c.if-is_same.false ∙ c.is_same.ensures.1 e))
     c.in_ok-by.ensures) c.keep.ensures.takes

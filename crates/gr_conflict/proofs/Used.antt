@@ -1,0 +1,51 @@
+-- Member uses, with the type before them.
+use Rattle.std.proofs.Common.{ℕ, ◌≡◌, ◌<◌, ◌∙◌, List, length, ap, sym, refl}
+use Rattle.std.specs.Prelude.{Option, Some, None, Contains, slice_get, option_map}
+use Rattle.std.proofs.Math.Path.{fun_ext}
+use Rattle.std.proofs.lemmas.Option.{none-some, same_Some, slice_get_within}
+use Rattle.gr_scope.specs.WellFormed.{WellFormed}
+use Rattle.gr_tree.specs.SourceFile.{spelling_of}
+use Rattle.gr_expr.specs.declared.symbol.Symbol.{Symbol}
+use Rattle.gr_expr.specs.Judge.{MemberUse}
+use Rattle.gr_expr.specs.Types.{PlainType}
+use Rattle.gr_expr.specs.World.{Definition, Member, member_by}
+use Rattle.gr_declared.specs.Package.{Package, spelled, spelled_at}
+use Rattle.gr_declared.specs.Definitions.{AreDefinitions}
+use Rattle.gr_meanings.specs.MemberUses.{AreUsesIn}
+use Rattle.gr_meanings.proofs.OneWorld.{one_definitions}
+use Rattle.gr_bound.specs.declared.declaration.Declaration.{Declaration}
+use Rattle.gr_bound.specs.Binding.{IsMemberAt, declaration_of}
+use Rattle.gr_bound.specs.Members.{member_at}
+
+-- the name at a token is used as a member of a type, by the definitions that the package sees
+abbrev pub IsUsedAs : (Symbol → Definition) → Package → (file token : ℕ) → Declaration → PlainType → Type 0
+IsUsedAs ds p file token d before = (m : IsMemberAt p file token d) × ((m.found.before ≡ before) × (m.judged.world.definition ≡ (λ s. (ds s).underlying)))
+
+module _ (p : Package) (formed : WellFormed p.layout) (ds : Symbol → Definition) (are : AreDefinitions p ds) (file : ℕ) (us : List MemberUse) (a : AreUsesIn p file us) where
+  same : a.judged_by.definitions ≡ ds
+  same = one_definitions p formed a.judged_by.definitions ds a.judged_by.are_definitions are
+
+  in_world : (token : ℕ) (t : PlainType) → a.world.member token t ≡ member_by ds p.path (spelled p file token) t
+  in_world token t =
+      a.judged_by.member token t
+      ∙ ap (λ d. member_by d p.path (spelling_of a.source token) t) same
+      ∙ ap (λ o. member_by ds p.path (spelled_at o token) t) (sym a.in_file)
+
+  pub used_at : (x : MemberUse) → Contains us x → (d : Declaration) → member_at ds p file x.place x.before ≡ Some d → IsUsedAs ds p file x.place d x.before
+  used_at x is d e = by_member (member_by ds p.path (spelled p file x.place) x.before) refl e
+    where
+      by_member : (o : Option Member) → member_by ds p.path (spelled p file x.place) x.before ≡ o → option_map declaration_of o ≡ Some d → IsUsedAs ds p file x.place d x.before
+      by_member None has e = absurd (none-some d e)
+      by_member (Some m) has e = (
+        record {
+          uses = us;
+          judged = a;
+          found = x;
+          is_use = is;
+          at = refl;
+          member = m;
+          is_member = in_world x.place x.before ∙ has;
+          declares = same_Some (declaration_of m) d e;
+        },
+        (refl, fun_ext (λ s. a.judged_by.definition s ∙ ap (λ (f : Symbol → Definition). (f s).underlying) same)),
+      )
