@@ -14,6 +14,7 @@ ghost use Rattle.gr_desk.specs.Act.{
   AnswersFaults,
   Commits,
   FitsView,
+  IsChanging,
   Looks,
   PlansBody,
   Sends,
@@ -66,11 +67,12 @@ fn plan_body(
     }
 }
 
-/// Sends a change. No view and no Job answers it.
-fn change_to<D: Desk>(desk: &mut D, basis: u64, change: Change) -> Response
-    ensures { Sends D.steps desk.old (Event.Commit basis change) result desk.new }
+/// Sends an event that changes the workspace. No view, no line of the journal and no Job answers it.
+fn send<D: Desk>(desk: &mut D, event: Event) -> Response
+    requires { IsChanging event }
+    ensures { Sends D.steps desk.old event result desk.new }
 {
-    match desk.step(Event::Commit(basis, change)) {
+    match desk.step(event) {
         Reply::Done(number) => Response::Done { number },
         Reply::Refused(refusal) => Response::Refused { refusal },
         Reply::Looked(_view) => unreachable!(),
@@ -83,27 +85,13 @@ fn change_to<D: Desk>(desk: &mut D, basis: u64, change: Change) -> Response
 fn undo<D: Desk>(desk: &mut D, basis: u64) -> Response
     ensures { Sends D.steps desk.old (Event.Undo basis) result desk.new }
 {
-    match desk.step(Event::Undo(basis)) {
-        Reply::Done(number) => Response::Done { number },
-        Reply::Refused(refusal) => Response::Refused { refusal },
-        Reply::Looked(_view) => unreachable!(),
-        Reply::Logged(_, _) => unreachable!(),
-        Reply::Taken(_job) => unreachable!(),
-        Reply::Back(_refusal, _job, _built) => unreachable!(),
-    }
+    send(desk, Event::Undo(basis))
 }
 
 fn redo<D: Desk>(desk: &mut D, basis: u64) -> Response
     ensures { Sends D.steps desk.old (Event.Redo basis) result desk.new }
 {
-    match desk.step(Event::Redo(basis)) {
-        Reply::Done(number) => Response::Done { number },
-        Reply::Refused(refusal) => Response::Refused { refusal },
-        Reply::Looked(_view) => unreachable!(),
-        Reply::Logged(_, _) => unreachable!(),
-        Reply::Taken(_job) => unreachable!(),
-        Reply::Back(_refusal, _job, _built) => unreachable!(),
-    }
+    send(desk, Event::Redo(basis))
 }
 
 /// Commits a change that was planned.
@@ -111,7 +99,7 @@ fn commit<D: Desk>(desk: &mut D, basis: u64, planned: Result<Change, Refusal>) -
     ensures { Commits D.steps desk.old basis planned result desk.new }
 {
     match planned {
-        Ok(change) => change_to(desk, basis, change),
+        Ok(change) => send(desk, Event::Commit(basis, change)),
         Err(refusal) => Response::Refused { refusal },
     }
 }

@@ -54,8 +54,7 @@ fn push_file(lines: &mut Vec<u8>, path: &Path, text: &FileText) -> Result<(), Al
     lines.extend_from_slice(path.as_str().as_bytes())?;
     lines.extend_from_slice(b" ")?;
     lines.extend_from_slice(digits.format(text.len()).as_bytes())?;
-    lines.extend_from_slice(b"\n")?;
-    Ok(())
+    lines.extend_from_slice(b"\n")
 }
 
 /// A line for each file, in the order of the paths' bytes.
@@ -76,8 +75,7 @@ fn push_place(lines: &mut Vec<u8>, place: &Place) -> Result<(), AllocError>
     let mut digits = Buffer::new();
     lines.extend_from_slice(place.path.as_str().as_bytes())?;
     lines.extend_from_slice(b":#")?;
-    lines.extend_from_slice(digits.format(place.offset).as_bytes())?;
-    Ok(())
+    lines.extend_from_slice(digits.format(place.offset).as_bytes())
 }
 
 /// A line for each place.
@@ -122,8 +120,7 @@ fn push_fault(lines: &mut Vec<u8>, fault: &FileFault) -> Result<(), AllocError>
     push_place(lines, &fault.place)?;
     lines.extend_from_slice(b" ")?;
     lines.extend_from_slice(fault.kind.name().as_bytes())?;
-    lines.extend_from_slice(b"\n")?;
-    Ok(())
+    lines.extend_from_slice(b"\n")
 }
 
 /// A line for each fault.
