@@ -2,8 +2,8 @@
 //! the workspace afterwards bind.
 #![tactic(auto)]
 
-mod old_places;
-mod scope_bindings;
+mod bindings_after;
+mod places_before;
 
-pub use old_places::{before_of, old_places, symbol};
-pub use scope_bindings::scope_bindings;
+pub use bindings_after::scope_bindings;
+pub use places_before::{before_of, old_places, symbol};
