@@ -1,10 +1,10 @@
--- The answers to the goals of `scope_bindings::add_all`.
+-- The answers to the goals of `bindings_after::add_all`.
 use Rattle.std.proofs.Common.{◌≡◌, ◌<◌, length, sym, subst, arith}
 use Rattle.gr_text.specs.Packages.{package_paths}
 use Rattle.gr_bound.proofs.AddingAll.{none_below, next_below, all_numbers}
 use Rattle.gr_change_places.specs.ScopeBindings.{IsBoundInNumber, IsScopeBound}
 use Rattle.gr_change_places.proofs.ScopeBound.{bound_somewhere, bound_numbered}
-use Rattle.gr_change_places.proofs.scope_bindings.add_all.Goals as goal
+use Rattle.gr_change_places.proofs.bindings_after.add_all.Goals as goal
 
 pub loop-number-init : goal.loop-number-init
 loop-number-init c = none_below _ c.args.bound.now.items

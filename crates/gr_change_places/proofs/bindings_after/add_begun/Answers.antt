@@ -1,4 +1,4 @@
--- The answers to the goals of `scope_bindings::add_begun`.
+-- The answers to the goals of `bindings_after::add_begun`.
 use Rattle.std.proofs.Common.{◌≡◌, sym, subst}
 use Rattle.gr_text.specs.declared.place.Place.{Place}
 use Rattle.gr_declared.specs.PackageView.{package_of}
@@ -7,7 +7,7 @@ use Rattle.gr_bound.specs.Identifiers.{BeginsAt}
 use Rattle.gr_bound.proofs.AddingAll.{all_none, call_all}
 use Rattle.gr_check.specs.DeclaredPlaces.{IsFound}
 use Rattle.gr_check.proofs.Starts.{begins_once}
-use Rattle.gr_change_places.proofs.scope_bindings.add_begun.Goals as goal
+use Rattle.gr_change_places.proofs.bindings_after.add_begun.Goals as goal
 
 pub returns-in-None : goal.returns-in-None
 returns-in-None c =

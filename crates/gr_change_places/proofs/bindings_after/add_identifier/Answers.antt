@@ -1,4 +1,4 @@
--- The answers to the goals of `scope_bindings::add_identifier`.
+-- The answers to the goals of `bindings_after::add_identifier`.
 use Rattle.std.proofs.Common.{subst}
 use Rattle.gr_declared.specs.PackageView.{package_of}
 use Rattle.gr_bound.specs.Binding.{BindsByScope}
@@ -6,7 +6,7 @@ use Rattle.gr_bound.specs.Bindings.{place_at}
 use Rattle.gr_bound.specs.Identifiers.{BeginsAt}
 use Rattle.gr_bound.specs.Steps.{IsDeclarationFound}
 use Rattle.gr_bound.proofs.BindingParts.{bound_to_nothing, bound_to_one, one_by_scope}
-use Rattle.gr_change_places.proofs.scope_bindings.add_identifier.Goals as goal
+use Rattle.gr_change_places.proofs.bindings_after.add_identifier.Goals as goal
 
 pub returns-in-None : goal.returns-in-None
 returns-in-None c =

@@ -1,4 +1,4 @@
--- The answers to the goals of `scope_bindings::add_number`.
+-- The answers to the goals of `bindings_after::add_number`.
 use Rattle.std.proofs.Common.{◌≡◌, ◌<◌, length, refl, sym, subst, ◌∙◌}
 use Rattle.std.specs.Prelude.{Some, slice_get}
 use Rattle.std.proofs.lemmas.Option.{slice_get_read}
@@ -7,7 +7,7 @@ use Rattle.gr_bound.proofs.AddingAll.{all_none, call_all}
 use Rattle.gr_scoped.specs.Scopes.{package_scoped, MayBeScopes}
 use Rattle.gr_change_places.specs.ScopeBindings.{IsBoundIn, IsBoundInNumber}
 use Rattle.gr_change_places.proofs.ScopeBound.{scoped_here, scoped_there}
-use Rattle.gr_change_places.proofs.scope_bindings.add_number.Goals as goal
+use Rattle.gr_change_places.proofs.bindings_after.add_number.Goals as goal
 
 pub returns-in-None : goal.returns-in-None
 returns-in-None c =

@@ -1,8 +1,8 @@
--- The answers to the goals of `scope_bindings::add_place`.
+-- The answers to the goals of `bindings_after::add_place`.
 use Rattle.std.proofs.Common.{refl}
 use Rattle.gr_check.proofs.Identifiers.{all_one}
 use Rattle.gr_change_places.proofs.ScopeBound.{bound_is}
-use Rattle.gr_change_places.proofs.scope_bindings.add_place.Goals as goal
+use Rattle.gr_change_places.proofs.bindings_after.add_place.Goals as goal
 
 pub returns : goal.returns
 returns c =

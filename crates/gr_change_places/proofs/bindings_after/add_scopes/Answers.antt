@@ -1,4 +1,4 @@
--- The answers to the goals of `scope_bindings::add_scopes`.
+-- The answers to the goals of `bindings_after::add_scopes`.
 use Rattle.std.proofs.Common.{◌≡◌, List, ℕ, subst}
 use Rattle.std.proofs.Math.Path.{fun_ext}
 use Rattle.std.specs.Prelude.{map, OnOk}
@@ -8,7 +8,7 @@ use Rattle.gr_declared.specs.InterfacesView.{interface_in, no_interface}
 use Rattle.gr_meanings.specs.PackageOf.{package_in}
 use Rattle.gr_bound.specs.Bindings.{AddsAll}
 use Rattle.gr_change_places.specs.ScopeBindings.{IsBoundIn}
-use Rattle.gr_change_places.proofs.scope_bindings.add_scopes.Goals as goal
+use Rattle.gr_change_places.proofs.bindings_after.add_scopes.Goals as goal
 
 pub returns : goal.returns
 returns c =

@@ -1,4 +1,4 @@
--- The answers to the goals of `scope_bindings::add_unit`.
+-- The answers to the goals of `bindings_after::add_unit`.
 use Rattle.std.proofs.Common.{◌≡◌, ◌<◌, sym, subst, arith}
 use Rattle.gr_declared.specs.PackageView.{package_of}
 use Rattle.gr_bound.specs.Binding.{BindsByScope}
@@ -6,7 +6,7 @@ use Rattle.gr_bound.specs.Bindings.{place_at}
 use Rattle.gr_bound.specs.Identifiers.{BeginsAt}
 use Rattle.gr_bound.proofs.AddingAll.{none_below, next_below, all_numbers}
 use Rattle.gr_change_places.specs.ScopeBindings.{IsBoundIn}
-use Rattle.gr_change_places.proofs.scope_bindings.add_unit.Goals as goal
+use Rattle.gr_change_places.proofs.bindings_after.add_unit.Goals as goal
 
 pub loop-u-init : goal.loop-u-init
 loop-u-init c = none_below _ c.args.bound.now.items

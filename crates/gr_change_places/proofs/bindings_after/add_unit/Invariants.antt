@@ -4,7 +4,7 @@ use Rattle.gr_bound.specs.Binding.{BindsByScope}
 use Rattle.gr_bound.specs.Bindings.{AddsAll, place_at}
 use Rattle.gr_bound.specs.Identifiers.{BeginsAt}
 use Rattle.gr_bound.proofs.AddingAll.{BelowAll}
-use Rattle.gr_change_places.proofs.scope_bindings.add_unit.Given as goal
+use Rattle.gr_change_places.proofs.bindings_after.add_unit.Given as goal
 
 abbrev pub invariant-loop-u : goal.invariant-loop-u
 invariant-loop-u l =

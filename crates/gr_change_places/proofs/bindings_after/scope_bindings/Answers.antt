@@ -1,7 +1,7 @@
--- The answers to the goals of `scope_bindings::scope_bindings`.
+-- The answers to the goals of `bindings_after::scope_bindings`.
 use Rattle.gr_check.proofs.Identifiers.{all_added}
 use Rattle.gr_change_places.specs.ScopeBindings.{IsScopeBound}
-use Rattle.gr_change_places.proofs.scope_bindings.scope_bindings.Goals as goal
+use Rattle.gr_change_places.proofs.bindings_after.scope_bindings.Goals as goal
 
 pub returns : goal.returns
 returns c =

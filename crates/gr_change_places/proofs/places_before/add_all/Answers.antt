@@ -1,4 +1,4 @@
--- The answers to the goals of `old_places::add_all`.
+-- The answers to the goals of `places_before::add_all`.
 use Rattle.std.proofs.Common.{◌<◌, length, refl, arith}
 use Rattle.std.proofs.lemmas.Option.{slice_get_read}
 use Rattle.gr_edit.specs.Moved.{moved}
@@ -6,7 +6,7 @@ use Rattle.gr_bound.specs.Uses.{IsPackage}
 use Rattle.gr_bound.specs.Workspaces.{known_in}
 use Rattle.gr_change_places.specs.OldPlaces.{GoFromPackage, HasGone}
 use Rattle.gr_change_places.proofs.Gone.{only_none, only_as, only_then, gone_at}
-use Rattle.gr_change_places.proofs.old_places.add_all.Goals as goal
+use Rattle.gr_change_places.proofs.places_before.add_all.Goals as goal
 
 pub loop-number-init : goal.loop-number-init
 loop-number-init c = only_none c.args.old.now.items _

@@ -1,10 +1,10 @@
--- The answers to the goals of `old_places::add_fields`.
+-- The answers to the goals of `places_before::add_fields`.
 use Rattle.std.proofs.Common.{arith}
 use Rattle.gr_edit.specs.Moved.{moved}
 use Rattle.gr_change_places.specs.OldPlaces.{field_at}
 use Rattle.gr_change_places.specs.OldPlaces.{GoesFrom, GoFrom}
 use Rattle.gr_change_places.proofs.Gone.{only_none, only_then, only_as, goes_at}
-use Rattle.gr_change_places.proofs.old_places.add_fields.Goals as goal
+use Rattle.gr_change_places.proofs.places_before.add_fields.Goals as goal
 
 pub loop-rank-init : goal.loop-rank-init
 loop-rank-init c = only_none c.args.found.now.items _

@@ -1,8 +1,8 @@
--- The invariants of the loops of `old_places::add_fields`.
+-- The invariants of the loops of `places_before::add_fields`.
 use Rattle.gr_edit.specs.Moved.{moved}
 use Rattle.gr_change_places.specs.OldPlaces.{field_at}
 use Rattle.gr_change_places.specs.OldPlaces.{AddsOnly, GoFrom}
-use Rattle.gr_change_places.proofs.old_places.add_fields.Given as goal
+use Rattle.gr_change_places.proofs.places_before.add_fields.Given as goal
 
 abbrev pub invariant-loop-rank : goal.invariant-loop-rank
 invariant-loop-rank l = AddsOnly l.initial.found.items l.found.items (GoFrom (moved l.moves) (field_at l.path) l.fields)

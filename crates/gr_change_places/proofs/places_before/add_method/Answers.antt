@@ -1,4 +1,4 @@
--- The answers to the goals of `old_places::add_method`.
+-- The answers to the goals of `places_before::add_method`.
 use Rattle.std.proofs.Common.{◌≡◌, refl, sym, subst, ◌∙◌}
 use Rattle.std.specs.Prelude.{Option}
 use Rattle.gr_text.specs.declared.place.Place.{Place}
@@ -6,7 +6,7 @@ use Rattle.gr_edit.specs.Moved.{moved}
 use Rattle.gr_bound.specs.declared.declaration.Declaration.TheVariants.{Method}
 use Rattle.gr_change_places.specs.OldPlaces.{GoesFrom, method_at}
 use Rattle.gr_change_places.proofs.Gone.{call_only}
-use Rattle.gr_change_places.proofs.old_places.add_method.Goals as goal
+use Rattle.gr_change_places.proofs.places_before.add_method.Goals as goal
 
 pub returns-in_ok-method-in-Some : goal.returns-in_ok-method-in-Some
 returns-in_ok-method-in-Some c =

@@ -1,10 +1,10 @@
--- The answers to the goals of `old_places::add_package`.
+-- The answers to the goals of `places_before::add_package`.
 use Rattle.std.proofs.Common.{◌⊎◌, inl, inr, subst}
 use Rattle.gr_edit.specs.Moved.{moved}
 use Rattle.gr_bound.specs.declared.declaration.Declaration.TheVariants.{Declared}
 use Rattle.gr_change_places.specs.OldPlaces.{AddsOnly, GoFrom, GoFromPackage, field_at, method_at}
 use Rattle.gr_change_places.proofs.Gone.{only_as, only_then, call_only_then}
-use Rattle.gr_change_places.proofs.old_places.add_package.Goals as goal
+use Rattle.gr_change_places.proofs.places_before.add_package.Goals as goal
 
 pub returns : goal.returns
 returns c =

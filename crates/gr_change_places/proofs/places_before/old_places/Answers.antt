@@ -1,10 +1,10 @@
--- The answers to the goals of `old_places::old_places`.
+-- The answers to the goals of `places_before::old_places`.
 use Rattle.gr_edit.specs.Moved.{moved}
 use Rattle.gr_bound.specs.Uses.{IsPackage}
 use Rattle.gr_bound.specs.Workspaces.{known_in}
 use Rattle.gr_change_places.specs.OldPlaces.{HasGone}
 use Rattle.gr_change_places.proofs.Gone.{only_added}
-use Rattle.gr_change_places.proofs.old_places.old_places.Goals as goal
+use Rattle.gr_change_places.proofs.places_before.old_places.Goals as goal
 
 pub returns : goal.returns
 returns c =
