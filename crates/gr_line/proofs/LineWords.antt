@@ -39,6 +39,7 @@ verb_no_space line.List = four 108 105 115 116 (omega arith) (omega arith) (omeg
 verb_no_space line.Faults = six 102 97 117 108 116 115 (omega arith) (omega arith) (omega arith) (omega arith) (omega arith) (omega arith)
 verb_no_space (line.Object path) = six 111 98 106 101 99 116 (omega arith) (omega arith) (omega arith) (omega arith) (omega arith) (omega arith)
 verb_no_space line.Work = four 119 111 114 107 (omega arith) (omega arith) (omega arith) (omega arith)
+verb_no_space line.Wait = four 119 97 105 116 (omega arith) (omega arith) (omega arith) (omega arith)
 verb_no_space (line.Log number) = three 108 111 103 (omega arith) (omega arith) (omega arith)
 verb_no_space End = three 101 110 100 (omega arith) (omega arith) (omega arith)
 
@@ -56,6 +57,7 @@ args_no_space line.List h = tt
 args_no_space line.Faults h = tt
 args_no_space (line.Object path) h = (h.1, tt)
 args_no_space line.Work h = tt
+args_no_space line.Wait h = tt
 args_no_space (line.Log number) h = (decimal_word number h, tt)
 args_no_space End h = tt
 
@@ -133,6 +135,10 @@ pub only_work : (command : CommandLine) (P : CommandLine → Type 0) → verb_of
 only_work line.Work P e h = h
 only_work command P e h = absurd (omega (arith, ap weight e))
 
+pub only_wait : (command : CommandLine) (P : CommandLine → Type 0) → verb_of command ≡ codes "wait" → P line.Wait → P command
+only_wait line.Wait P e h = h
+only_wait command P e h = absurd (omega (arith, ap weight e))
+
 pub only_log : (command : CommandLine) (P : CommandLine → Type 0) → verb_of command ≡ codes "log" → ((number : ℕ) → P (line.Log number)) → P command
 only_log (line.Log number) P e h = h number
 only_log command P e h = absurd (omega (arith, ap weight e))
@@ -199,26 +205,28 @@ no_verb verb words put del rename move undo redo cat uses object log line.List h
 no_verb verb words put del rename move undo redo cat uses object log line.Faults h = h.others
 no_verb verb words put del rename move undo redo cat uses object log (line.Object path) h = object (sym h.first)
 no_verb verb words put del rename move undo redo cat uses object log line.Work h = h.others
+no_verb verb words put del rename move undo redo cat uses object log line.Wait h = h.others
 no_verb verb words put del rename move undo redo cat uses object log (line.Log number) h = log (sym h.first)
 no_verb verb words put del rename move undo redo cat uses object log End h = h.others
 
-pub no_bare : (verb : List ℕ) → verb ≢ codes "look" → verb ≢ codes "list" → verb ≢ codes "faults" → verb ≢ codes "work" → verb ≢ codes "end"
+pub no_bare : (verb : List ℕ) → verb ≢ codes "look" → verb ≢ codes "list" → verb ≢ codes "faults" → verb ≢ codes "work" → verb ≢ codes "wait" → verb ≢ codes "end"
     → (command : CommandLine) → args_of command ≡ [] → verb_of command ≢ verb
-no_bare verb look list faults work end Look a = λ e. look (sym e)
-no_bare verb look list faults work end line.List a = λ e. list (sym e)
-no_bare verb look list faults work end line.Faults a = λ e. faults (sym e)
-no_bare verb look list faults work end (line.Object path) a = absurd cc
-no_bare verb look list faults work end line.Work a = λ e. work (sym e)
-no_bare verb look list faults work end End a = λ e. end (sym e)
-no_bare verb look list faults work end (Put basis path size) a = absurd cc
-no_bare verb look list faults work end (Del basis path) a = absurd cc
-no_bare verb look list faults work end (Rename basis path offset name) a = absurd cc
-no_bare verb look list faults work end (Move basis from to) a = absurd cc
-no_bare verb look list faults work end (Undo basis) a = absurd cc
-no_bare verb look list faults work end (line.Log number) a = absurd cc
-no_bare verb look list faults work end (Redo basis) a = absurd cc
-no_bare verb look list faults work end (Cat path) a = absurd cc
-no_bare verb look list faults work end (Uses path offset) a = absurd cc
+no_bare verb look list faults work wait end Look a = λ e. look (sym e)
+no_bare verb look list faults work wait end line.List a = λ e. list (sym e)
+no_bare verb look list faults work wait end line.Faults a = λ e. faults (sym e)
+no_bare verb look list faults work wait end (line.Object path) a = absurd cc
+no_bare verb look list faults work wait end line.Work a = λ e. work (sym e)
+no_bare verb look list faults work wait end line.Wait a = λ e. wait (sym e)
+no_bare verb look list faults work wait end End a = λ e. end (sym e)
+no_bare verb look list faults work wait end (Put basis path size) a = absurd cc
+no_bare verb look list faults work wait end (Del basis path) a = absurd cc
+no_bare verb look list faults work wait end (Rename basis path offset name) a = absurd cc
+no_bare verb look list faults work wait end (Move basis from to) a = absurd cc
+no_bare verb look list faults work wait end (Undo basis) a = absurd cc
+no_bare verb look list faults work wait end (line.Log number) a = absurd cc
+no_bare verb look list faults work wait end (Redo basis) a = absurd cc
+no_bare verb look list faults work wait end (Cat path) a = absurd cc
+no_bare verb look list faults work wait end (Uses path offset) a = absurd cc
 
 -- a line without a space has no other words
 bare_words : (text verb : List ℕ) (words : List (List ℕ)) → HasNoSpace text → text ≡ spaced verb words → (words ≡ []) × (text ≡ verb)

@@ -161,6 +161,9 @@ next_line limits (Some input) mid after text line.Faults r h t k =
 next_line limits (Some input) mid after text line.Work r h t k =
     next_bare limits input command.Work after r (h.0, (line.Work, readable_line limits text input h.1 h.2 t.0, rw (← h.2) t.1, zero_below (length (after_line input)), refl, refl)) k.0
     (kept_is (after_line input) after (rw h.3 at k.1))
+next_line limits (Some input) mid after text line.Wait r h t k =
+    next_bare limits input command.Wait after r (h.0, (line.Wait, readable_line limits text input h.1 h.2 t.0, rw (← h.2) t.1, zero_below (length (after_line input)), refl, refl)) k.0
+    (kept_is (after_line input) after (rw h.3 at k.1))
 next_line limits (Some input) mid after text (line.Object path) r h t k =
     next_bare limits input (command.Object path) after r (h.0, (line.Object path, readable_line limits text input h.1 h.2 t.0, rw (← h.2) t.1, zero_below (length (after_line input)), refl, refl)) k.0
     (kept_is (after_line input) after (rw h.3 at k.1))

@@ -14,7 +14,7 @@ use Rattle.gr_line.specs.Wire.{IsReadable, KeepsBody, SaysCommand, SaysLine, Say
 use Rattle.gr_line.specs.Laws.{BeginsOneWay, ReadsOneWay}
 use Rattle.gr_line.specs.Limit.{line_of, after_line}
 use Rattle.gr_line.proofs.Places.{place_word_unique}
-use Rattle.gr_line.proofs.LineWords.{same_words, only_put, only_del, only_rename, only_move, only_undo, only_redo, only_cat, only_uses, only_look, only_list, only_faults, only_object, only_work, only_log, only_end}
+use Rattle.gr_line.proofs.LineWords.{same_words, only_put, only_del, only_rename, only_move, only_undo, only_redo, only_cat, only_uses, only_look, only_list, only_faults, only_object, only_work, only_wait, only_log, only_end}
 
 -- two lists of words that are equal have equal parts
 head_of_two : (x y : List ℕ) (xs ys : List (List ℕ)) → x ∷ xs ≡ y ∷ ys → x ≡ y
@@ -35,6 +35,7 @@ same_line Look b e = only_look b (Same Look) e (λ h k f. refl)
 same_line line.List b e = only_list b (Same line.List) e (λ h k f. refl)
 same_line line.Faults b e = only_faults b (Same line.Faults) e (λ h k f. refl)
 same_line line.Work b e = only_work b (Same line.Work) e (λ h k f. refl)
+same_line line.Wait b e = only_wait b (Same line.Wait) e (λ h k f. refl)
 same_line (line.Object path) b e = only_object b (Same (line.Object path)) e (λ other h k f. ap (λ x. line.Object x) (head_of_two path other [] [] f))
 same_line (line.Log number) b e = only_log b (Same (line.Log number)) e (λ other h k f. ap (λ x. line.Log x) (same_basis number other [] [] h k f))
 same_line End b e = only_end b (Same End) e (λ h k f. refl)
@@ -97,6 +98,7 @@ SaysCommand-unique limits line.List bytes a b h k = h ∙ sym k
 SaysCommand-unique limits line.Faults bytes a b h k = h ∙ sym k
 SaysCommand-unique limits (line.Object path) bytes a b h k = h ∙ sym k
 SaysCommand-unique limits line.Work bytes a b h k = h ∙ sym k
+SaysCommand-unique limits line.Wait bytes a b h k = h ∙ sym k
 SaysCommand-unique limits (line.Log number) bytes a b h k = h ∙ sym k
 SaysCommand-unique limits End bytes a b h k = absurd h
 

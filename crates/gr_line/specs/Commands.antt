@@ -1,5 +1,5 @@
 -- What a command gives besides what it asks.
-use Rattle.std.specs.Prelude.{ℕ, Option, Some, None}
+use Rattle.std.specs.Prelude.{ℕ, Bool, true, false, Option, Some, None}
 use Rattle.gr_line.specs.declared.command.Command.{Command}
 use Rattle.gr_line.specs.declared.command.Command.TheVariants as command
 
@@ -18,9 +18,14 @@ basis_of command.List = None
 basis_of command.Faults = None
 basis_of (command.Object path) = None
 basis_of command.Work = None
+basis_of command.Wait = None
 basis_of (command.Log number) = None
 
 -- the number of the entry that a log asks for
 abbrev pub entry_asked : Command → Option ℕ
 entry_asked (command.Log number) = Some number
 entry_asked asked = None
+
+abbrev pub is_wait : Command → Bool
+is_wait command.Wait = true
+is_wait asked = false

@@ -21,6 +21,7 @@ verb_of line.List = codes "list"
 verb_of line.Faults = codes "faults"
 verb_of (line.Object path) = codes "object"
 verb_of line.Work = codes "work"
+verb_of line.Wait = codes "wait"
 verb_of (line.Log number) = codes "log"
 verb_of End = codes "end"
 
@@ -43,6 +44,7 @@ args_of line.List = []
 args_of line.Faults = []
 args_of (line.Object path) = path ∷ []
 args_of line.Work = []
+args_of line.Wait = []
 args_of (line.Log number) = decimal number ∷ []
 args_of End = []
 
@@ -65,6 +67,7 @@ FitsLine line.List = ⊤
 FitsLine line.Faults = ⊤
 FitsLine (line.Object path) = IsWord path
 FitsLine line.Work = ⊤
+FitsLine line.Wait = ⊤
 FitsLine (line.Log number) = number < 2 ^ 64
 FitsLine End = ⊤
 
@@ -83,6 +86,7 @@ size_after line.List = 0
 size_after line.Faults = 0
 size_after (line.Object path) = 0
 size_after line.Work = 0
+size_after line.Wait = 0
 size_after (line.Log number) = 0
 size_after End = 0
 

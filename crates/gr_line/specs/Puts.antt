@@ -63,4 +63,5 @@ ReadsAfter limits line.List before after r = AsksOf command.List r × Keeps befo
 ReadsAfter limits line.Faults before after r = AsksOf command.Faults r × Keeps before after
 ReadsAfter limits (line.Object path) before after r = AsksOf (command.Object path) r × Keeps before after
 ReadsAfter limits line.Work before after r = AsksOf command.Work r × Keeps before after
+ReadsAfter limits line.Wait before after r = AsksOf command.Wait r × Keeps before after
 ReadsAfter limits (line.Log number) before after r = AsksOf (command.Log number) r × Keeps before after

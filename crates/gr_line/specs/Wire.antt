@@ -42,6 +42,7 @@ SaysCommand limits line.List bytes asked = asked ≡ command.List
 SaysCommand limits line.Faults bytes asked = asked ≡ command.Faults
 SaysCommand limits (line.Object path) bytes asked = asked ≡ command.Object path
 SaysCommand limits line.Work bytes asked = asked ≡ command.Work
+SaysCommand limits line.Wait bytes asked = asked ≡ command.Wait
 SaysCommand limits (line.Log number) bytes asked = asked ≡ command.Log number
 SaysCommand limits line.End bytes asked = ⊥
 

@@ -55,6 +55,8 @@ pub enum Command {
     },
     /// Builds one package in this session.
     Work,
+    /// Waits until every package of the current state is finished.
+    Wait,
     /// An entry of the journal, by its number.
     Log {
         number: u64,
@@ -62,7 +64,7 @@ pub enum Command {
 }
 
 impl Command {
-    ghost use Rattle.gr_line.specs.Commands.{basis_of, entry_asked};
+    ghost use Rattle.gr_line.specs.Commands.{basis_of, entry_asked, is_wait};
 
     /// The basis, where the command gives one.
     pub fn basis(&self) -> Option<u64>
@@ -82,6 +84,7 @@ impl Command {
             | Command::Faults
             | Command::Object { .. }
             | Command::Work
+            | Command::Wait
             | Command::Log { .. } => None,
         }
     }
@@ -94,6 +97,12 @@ impl Command {
             Command::Log { number } => Some(*number),
             _ => None,
         }
+    }
+
+    pub fn is_wait(&self) -> bool
+        ensures { result ≡ is_wait self.now }
+    {
+        matches!(self, Command::Wait)
     }
 }
 

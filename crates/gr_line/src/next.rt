@@ -162,6 +162,7 @@ fn command_after<S: Source>(
         CommandLine::List => Ok(ask(Command::List)),
         CommandLine::Faults => Ok(ask(Command::Faults)),
         CommandLine::Work => Ok(ask(Command::Work)),
+        CommandLine::Wait => Ok(ask(Command::Wait)),
         CommandLine::Log { number } => Ok(ask(Command::Log { number })),
         CommandLine::Undo { basis } => Ok(ask(Command::Undo { basis })),
         CommandLine::Redo { basis } => Ok(ask(Command::Redo { basis })),

@@ -72,6 +72,7 @@ pub enum CommandLine<'a> {
         path: Argument<'a>,
     },
     Work,
+    Wait,
     Log {
         number: u64,
     },
@@ -247,6 +248,7 @@ fn parse_bare(verb: &str) -> Option<CommandLine<'_>>
         "list" => Some(CommandLine::List),
         "faults" => Some(CommandLine::Faults),
         "work" => Some(CommandLine::Work),
+        "wait" => Some(CommandLine::Wait),
         "end" => Some(CommandLine::End),
         _ => None,
     }
