@@ -1,5 +1,5 @@
 -- What a command does.
-use Rattle.std.specs.Prelude.{◌≡◌, ◌⊎◌, ℕ, List, ⊤, Option, MatchOption, Some, None, IfSome, Result, Ok, Err}
+use Rattle.std.specs.Prelude.{◌≡◌, ◌⊎◌, ℕ, List, ⊤, Option, MatchBool, MatchOption, Some, None, IfSome, Result, Ok, Err}
 use Rattle.gr_text.specs.Path.{IsPath}
 use Rattle.gr_text.specs.declared.refusal.Refusal.{Refusal}
 use Rattle.gr_text.specs.declared.refusal.Refusal.TheVariants.{Memory, BadPath, TooLarge, Moved}
@@ -14,8 +14,9 @@ use Rattle.gr_book.specs.declared.event.Reply.{Reply}
 use Rattle.gr_book.specs.declared.event.Reply.TheVariants.{Looked, Logged, Done, Taken, Refused, Back}
 use Rattle.gr_desk.specs.Queries.{Cats, WritesUses, TellsFaults, TellsObject, listing}
 use Rattle.gr_desk.specs.Logging.{entry_text}
+use Rattle.gr_desk.specs.Wait.{Waits}
 use Rattle.gr_desk.specs.Work.{Works}
-use Rattle.gr_line.specs.Commands.{basis_of, entry_asked}
+use Rattle.gr_line.specs.Commands.{basis_of, entry_asked, is_wait}
 use Rattle.gr_line.specs.declared.command.Command.{Command}
 use Rattle.gr_line.specs.declared.command.Command.TheVariants as command
 use Rattle.gr_line.specs.declared.command.Response.{Response}
@@ -96,8 +97,9 @@ module _ {D : Type 0} (steps : D → Event → Reply → D → Type 0) where
   ActsOn old view (command.Object path) answer new =
       ((found : Result (List ℕ) Refusal) × TellsObject view path found × (answer ≡ file_response view.snapshot.number found)) × (new ≡ old)
   ActsOn old view command.Work answer new = Works steps old answer new
-  -- a log is answered without a view
+  -- a log and a wait are answered without a view
   ActsOn old view (command.Log number) answer new = ⊥
+  ActsOn old view command.Wait answer new = ⊥
 
   -- the command after its look has shown this view: it is refused where it is meant for another state
   abbrev pub ActsAfter : D → View → Command → Response → D → Type 0
@@ -114,6 +116,8 @@ module _ {D : Type 0} (steps : D → Event → Reply → D → Type 0) where
   abbrev pub Looks : D → Command → Response → D → Type 0
   Looks old asked answer new = (reply : Reply) × (mid : D) × steps old Look reply mid × Continues mid reply asked answer new
 
-  -- one command: a log is one event alone, any other begins with a look
-  abbrev pub Acts : D → Command → Response → D → Type 0
-  Acts old asked answer new = MatchOption (entry_asked asked) (Looks old asked answer new) (λ number. Sends old (Log number) answer new)
+  -- one command: a log is one event alone, a wait is what the desk says of it, and any other begins with a look
+  abbrev pub Acts : (D → Result ℕ Refusal → D → Type 0) → D → Command → Response → D → Type 0
+  Acts waits old asked answer new = MatchOption (entry_asked asked)
+      (MatchBool (is_wait asked) (Waits waits old answer new) (Looks old asked answer new))
+      (λ number. Sends old (Log number) answer new)

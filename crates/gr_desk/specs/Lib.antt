@@ -2,4 +2,5 @@
 pub mod Queries
 pub mod Work
 pub mod Logging
+pub mod Wait
 pub mod Act

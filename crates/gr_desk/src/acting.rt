@@ -1,12 +1,12 @@
-//! One command. Each but a log begins with a look, and what it does is planned on the view that the look gave.
-ghost use Rattle.std.specs.Prelude.{◌≡◌, ◌↔◌, ℕ, IsTrue, List, None, Result};
+//! One command. Each but a log and a wait begins with a look, and what it does is planned on the view that the look gave.
+ghost use Rattle.std.specs.Prelude.{◌≡◌, ◌↔◌, ℕ, IsTrue, List, MatchBool, None, Result, false};
 ghost use Rattle.gr_text.specs.declared.refusal.Refusal.{Refusal as WhyRefused};
 ghost use Rattle.gr_move.specs.Plan.{PlansMove};
 ghost use Rattle.gr_rename.specs.Plan.{PlansRename};
 ghost use Rattle.gr_verdict.specs.Found.{AreFindings, IsFound};
 ghost use Rattle.gr_space.specs.Plan.{PlansDel};
 ghost use Rattle.gr_space.specs.declared.change.Change.{Change as PlannedChange};
-ghost use Rattle.gr_line.specs.Commands.{entry_asked};
+ghost use Rattle.gr_line.specs.Commands.{entry_asked, is_wait};
 ghost use Rattle.gr_desk.specs.Act.{
   Acts,
   ActsAfter,
@@ -21,6 +21,7 @@ ghost use Rattle.gr_desk.specs.Act.{
   file_response,
   lines_response,
 };
+ghost use Rattle.gr_desk.specs.Wait.{Waits};
 ghost use Rattle.gr_desk.specs.Queries.{Cats, TellsFaults, TellsObject, WritesUses, listing};
 
 use crate::desk::Desk;
@@ -325,7 +326,8 @@ fn tell_faults<D: Desk>(alloc: Global, desk: &mut D, view: &View) -> Response
 
 /// Acts on a command that is meant for the state of the view.
 fn act_on<D: Desk>(alloc: Global, desk: &mut D, view: &View, command: Command) -> Response
-    requires { entry_asked command ≡ None }
+    requires entry { entry_asked command ≡ None }
+    requires wait { is_wait command ≡ false }
     ensures { ActsOn D.steps desk.old view.now command result desk.new }
 {
     match command {
@@ -352,12 +354,14 @@ fn act_on<D: Desk>(alloc: Global, desk: &mut D, view: &View, command: Command) -
         Command::List => tell_list(alloc, view),
         Command::Faults => tell_faults(alloc, desk, view),
         Command::Log { number: _ } => unreachable!(),
+        Command::Wait => unreachable!(),
     }
 }
 
 /// Acts on a command after its look has shown the view.
 fn act_after<D: Desk>(alloc: Global, desk: &mut D, view: &View, command: Command) -> Response
-    requires { entry_asked command ≡ None }
+    requires entry { entry_asked command ≡ None }
+    requires wait { is_wait command ≡ false }
     ensures { ActsAfter D.steps desk.old view.now command result desk.new }
 {
     if fits_view(view, &command) {
@@ -374,7 +378,8 @@ fn act_after<D: Desk>(alloc: Global, desk: &mut D, view: &View, command: Command
 
 /// Acts on a command that begins with a look.
 fn act_looking<D: Desk>(alloc: Global, desk: &mut D, command: Command) -> Response
-    requires { entry_asked command ≡ None }
+    requires entry { entry_asked command ≡ None }
+    requires wait { is_wait command ≡ false }
     ensures { Looks D.steps desk.old command result desk.new }
 {
     match desk.step(Event::Look) {
@@ -387,15 +392,38 @@ fn act_looking<D: Desk>(alloc: Global, desk: &mut D, command: Command) -> Respon
     }
 }
 
+/// Waits until every package is finished.
+fn wait<D: Desk>(desk: &mut D) -> Response
+    ensures { Waits D.waits desk.old result desk.new }
+{
+    match desk.wait() {
+        Ok(number) => Response::Done { number },
+        Err(refusal) => Response::Refused { refusal },
+    }
+}
+
+/// Acts on a command that is no log.
+fn act_or_wait<D: Desk>(alloc: Global, desk: &mut D, command: Command) -> Response
+    requires { entry_asked command ≡ None }
+    ensures { MatchBool (is_wait command) (Waits D.waits desk.old result desk.new) (Looks D.steps desk.old command result desk.new) }
+{
+    if command.is_wait() {
+        drop(command);
+        wait(desk)
+    } else {
+        act_looking(alloc, desk, command)
+    }
+}
+
 /// Acts on one command.
 pub fn act<D: Desk>(alloc: Global, desk: &mut D, command: Command) -> Response
-    ensures { Acts D.steps desk.old command result desk.new }
+    ensures { Acts D.steps D.waits desk.old command result desk.new }
 {
     match command.entry() {
         Some(number) => {
             drop(command);
             log(alloc, desk, number)
         }
-        None => act_looking(alloc, desk, command),
+        None => act_or_wait(alloc, desk, command),
     }
 }

@@ -1,5 +1,6 @@
 //! Where commands take their events.
-ghost use Rattle.std.specs.Prelude.{◌≡◌};
+ghost use Rattle.std.specs.Prelude.{◌≡◌, ℕ, Result};
+ghost use Rattle.gr_text.specs.declared.refusal.Refusal.{Refusal as WhyRefused};
 ghost use Rattle.gr_book.specs.declared.event.Event.{Event};
 ghost use Rattle.gr_book.specs.declared.event.Reply.{Reply};
 ghost use Rattle.gr_book.specs.MayReply.{MayReply};
@@ -7,6 +8,7 @@ ghost use Rattle.gr_verdict.specs.Found.{KnowsVerdicts};
 
 use gr_book::{Book, Event, Reply};
 use gr_graph::Graph;
+use gr_text::Refusal;
 use gr_verdict::Known;
 use std::marker::Model;
 
@@ -15,9 +17,17 @@ pub trait Desk {
     /// What one event may do: the desk before, the event, its reply, and the desk after.
     ghost steps: { Self → Event → Reply → Self → Type 0 };
 
+    /// What a wait may do: the desk before, the number of the state whose packages are all finished, or why it was refused, and the desk
+    /// after.
+    ghost waits: { Self → Result ℕ WhyRefused → Self → Type 0 };
+
     fn step(&mut self, event: Event) -> Reply
         ensures step { steps self.old event result self.new }
         ensures kind { MayReply event result };
+
+    /// Waits until every package of the current state is finished.
+    fn wait(&mut self) -> Result<u64, Refusal>
+        ensures { waits self.old result self.new };
 
     /// Takes in what was found in packages of these files. It is no event: it decides how long something takes, and the desk stays
     /// as it is.
@@ -62,11 +72,19 @@ impl Solo {
 
 impl Desk for Solo {
     ghost use Rattle.gr_book.specs.Step.{Step};
+    ghost use Rattle.gr_desk.specs.Wait.{RefusesWait};
 
     ghost steps = { Step };
 
+    ghost waits = { RefusesWait };
+
     fn step(&mut self, event: Event) -> Reply {
         self.book.step(event)
+    }
+
+    /// No one else builds.
+    fn wait(&mut self) -> Result<u64, Refusal> {
+        Err(Refusal::BadCommand)
     }
 
     fn learn(&mut self, files: &Graph, known: Known) {

@@ -1,0 +1,19 @@
+-- What the command `wait` does.
+use Rattle.std.specs.Prelude.{◌≡◌, ℕ, Result, Ok, Err}
+use Rattle.gr_text.specs.declared.refusal.Refusal.{Refusal}
+use Rattle.gr_text.specs.declared.refusal.Refusal.TheVariants.{BadCommand}
+use Rattle.gr_line.specs.declared.command.Response.{Response}
+use Rattle.gr_line.specs.declared.command.Response.TheVariants as response
+
+-- where no one else builds, to wait is no command, and no event
+abbrev pub RefusesWait : {D : Type 0} → D → Result ℕ Refusal → D → Type 0
+RefusesWait old outcome new = (outcome ≡ Err BadCommand) × (new ≡ old)
+
+-- the number of the state whose packages are all finished, or why it was refused
+abbrev pub wait_response : Result ℕ Refusal → Response
+wait_response (Ok number) = response.Done number
+wait_response (Err refusal) = response.Refused refusal
+
+-- one wait
+abbrev pub Waits : {D : Type 0} → (D → Result ℕ Refusal → D → Type 0) → D → Response → D → Type 0
+Waits waits old answer new = (outcome : Result ℕ Refusal) × waits old outcome new × (answer ≡ wait_response outcome)
