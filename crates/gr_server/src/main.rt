@@ -10,8 +10,10 @@ use gr_desk::Solo;
 use gr_line::{Reading, Writing};
 use gr_text::Limits;
 use gr_wire::session;
+use gr_words::{Words, WordsFault, read_words};
 use std::alloc::Global;
-use std::io::{BufReader, BufWriter, Read, Write};
+use std::env::Env;
+use std::io::{BufReader, BufWriter, ErrorKind, Read, Write};
 use std::process::ExitCode;
 use tied::{Tie, TiedReader, TiedWriter};
 
@@ -43,30 +45,53 @@ fn run(rt: &(impl Input + Print + AllocGlobal)) -> Result<(), Fault> {
     ended
 }
 
-/// Whether the words, the program's name first, ask for one session over standard input and output.
-fn asks_to_run(words: &[String]) -> bool {
-    words.len() == 2 && words[1].as_str() == "run"
-}
-
-fn main(rt: HostRuntime) -> ExitCode {
-    let words: Vec<String> = match std::env::args(&rt) {
-        Ok(args) => match args.collect(rt.alloc()) {
-            Ok(words) => words,
-            Err(_) => return ended(&rt, Fault::Memory),
-        },
-        Err(_) => return ExitCode::from(2),
-    };
-    if !asks_to_run(&words) {
-        return ExitCode::from(2);
-    }
-    match run(&rt) {
-        Ok(()) => ExitCode::SUCCESS,
-        Err(fault) => ended(&rt, fault),
-    }
-}
-
-/// Says on standard error how the program ended.
+/// Says on standard error why the program ended, and gives its exit status.
 fn ended(rt: &impl Eprint, fault: Fault) -> ExitCode {
     let _ = eprintln!(rt; "gorefd: {fault}");
     ExitCode::from(1)
+}
+
+/// Tells what is told of words that ask nothing, and gives the exit status.
+fn told<R: Print + Eprint>(rt: &R, fault: &WordsFault) -> ExitCode {
+    match fault {
+        WordsFault::Memory => ended(rt, Fault::Memory),
+        WordsFault::Help(text) => match print!(rt; "{text}") {
+            Ok(()) => ExitCode::SUCCESS,
+            Err(_) => ended(rt, Fault::Write),
+        },
+        WordsFault::Usage(text) => {
+            let _ = eprint!(rt; "{text}");
+            ExitCode::from(2)
+        }
+    }
+}
+
+/// The words of the command line, the first of which is the program's name.
+fn words<R: Env + AllocGlobal>(rt: &R) -> Result<Vec<String>, WordsFault> {
+    match std::env::args(rt) {
+        Ok(words) => Ok(words.collect(rt.alloc())?),
+        Err(error) if error.kind() == ErrorKind::OutOfMemory => Err(WordsFault::Memory),
+        Err(_) => {
+            let text = String::from_str(rt.alloc(), "error: a word is not UTF-8\n")?;
+            Err(WordsFault::Usage(text))
+        }
+    }
+}
+
+fn main(rt: HostRuntime) -> ExitCode {
+    let words = match words(&rt) {
+        Ok(words) => words,
+        Err(fault) => return told(&rt, &fault),
+    };
+    match read_words(rt.alloc(), words.as_slice()) {
+        Ok(Words::Run) => match run(&rt) {
+            Ok(()) => ExitCode::SUCCESS,
+            Err(fault) => ended(&rt, fault),
+        },
+        Ok(Words::Serve(_)) => {
+            let _ = eprintln!(rt; "gorefd: this build does not serve");
+            ExitCode::from(2)
+        }
+        Err(fault) => told(&rt, &fault),
+    }
 }

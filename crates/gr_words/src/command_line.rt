@@ -1,6 +1,7 @@
 //! The command line of the program, with its help.
 ghost use Rattle.std.specs.Prelude.{◌≡◌, IfOk, codes, false};
-ghost use Rattle.clap.specs.Words.{app_of, fields_of, rule_of};
+ghost use Rattle.clap.specs.Words.{app_of, rule_of};
+ghost use Rattle.clap.specs.declared.builder.command.Command.TheViews.{out-Command as fields_of};
 ghost use Rattle.gr_words.specs.CommandLine.{bare_app, gorefd, number_rule, required_rule, run_app, serve_app, socket_rule};
 
 use clap::{Arg, Command, value_parser};
@@ -56,8 +57,7 @@ fn run_command<'a>(alloc: Global) -> Command<'a>
     ensures app { app_of result ≡ run_app }
     ensures local { (fields_of result).has_globals ≡ false }
 {
-    Command::new(alloc, "run")
-        .about("Serves one session from standard input to standard output")
+    Command::new(alloc, "run").about("Serves one session from standard input to standard output")
 }
 
 fn serve_command<'a>(alloc: Global) -> Result<Command<'a>, AllocError>
@@ -65,7 +65,9 @@ fn serve_command<'a>(alloc: Global) -> Result<Command<'a>, AllocError>
     ensures local { IfOk result (λ command. (fields_of command).has_globals ≡ false) }
 {
     Command::new(alloc, "serve")
-        .about("Serves sessions to those who connect to a Unix socket, and builds packages beside them")
+        .about(
+            "Serves sessions to those who connect to a Unix socket, and builds packages beside them",
+        )
         .arg(socket(alloc))?
         .arg(workers(alloc))?
         .arg(sessions(alloc))?
