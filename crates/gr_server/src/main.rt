@@ -2,47 +2,25 @@
 #![tactic(auto)]
 
 mod fault;
-mod tied;
 
 use fault::Fault;
 use gr_book::Book;
 use gr_desk::Solo;
-use gr_line::{Reading, Writing};
+use gr_streams::converse;
 use gr_text::Limits;
-use gr_wire::session;
 use gr_words::{Words, WordsFault, read_words};
-use std::alloc::Global;
 use std::env::Env;
-use std::io::{BufReader, BufWriter, ErrorKind, Read, Write};
+use std::io::ErrorKind;
 use std::process::ExitCode;
-use tied::{Tie, TiedReader, TiedWriter};
 
-/// Serves one session from a reader to a tied writer.
-fn serve<R: Read + Drop, W: Write + Drop>(
-    alloc: Global,
-    reader: R,
-    tie: &Tie<W>,
-) -> Result<(), Fault> {
-    let input = BufReader::new(alloc, TiedReader::new(reader, tie)).map_err(|_| Fault::Memory)?;
-    let mut source = Reading::new(input);
-    let mut sink = Writing::new(TiedWriter::new(tie));
+/// Serves one session over standard input and output.
+fn run(rt: &(impl Input + Print + AllocGlobal)) -> Result<(), Fault> {
+    let alloc = rt.alloc();
     let mut solo = Solo::new(Book::new(alloc, Limits::FULL)?);
-    let ended = session(alloc, &mut source, &mut sink, &mut solo, Limits::FULL);
+    let ended = converse(alloc, rt.reader(), std::io::writer(rt), &mut solo);
     let _entries = solo.into_book().close();
     ended?;
     Ok(())
-}
-
-/// Serves one session over standard input and output. Replies are sent before more input is waited for.
-fn run(rt: &(impl Input + Print + AllocGlobal)) -> Result<(), Fault> {
-    let alloc = rt.alloc();
-    let output = BufWriter::new(alloc, std::io::writer(rt)).map_err(|_| Fault::Memory)?;
-    let tie = Tie::new(output);
-    let ended = serve(alloc, rt.reader(), &tie);
-    if tie.flush().is_err() || tie.has_failed() {
-        return Err(Fault::Write);
-    }
-    ended
 }
 
 /// Says on standard error why the program ended, and gives its exit status.
