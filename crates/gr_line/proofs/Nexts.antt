@@ -1,5 +1,5 @@
 -- The next message, from its line and its body.
-use Rattle.std.proofs.Common.{◌≡◌, ◌≢◌, ℕ, ◌+◌, ◌≤◌, List, [], ◌++◌, length, take, drop, Option, None, Some, Result, Ok, Err, refl, sym, ap, ◌∙◌, inl, inr, append_assoc, arith, le_trans, length-append, length-drop}
+use Rattle.std.proofs.Common.{◌≡◌, ◌≢◌, ℕ, ◌+◌, ◌≤◌, ◌<◌, List, [], ◌∷◌, ◌++◌, length, take, drop, Option, None, Some, Result, Ok, Err, refl, sym, ap, ◌∙◌, inl, inr, append_assoc, arith, le_trans, length-append, length-drop}
 use Rattle.std.proofs.lemmas.Grind.{common_steps}
 use Rattle.std.proofs.lemmas.List.Folds.{prefix_len-append}
 use Rattle.std.proofs.lemmas.List.{take-append-drop}
@@ -20,11 +20,12 @@ use Rattle.gr_line.specs.declared.parse.CommandLine.TheVariants.{Look, Put, Del,
 use Rattle.gr_line.specs.declared.parse.CommandLine.TheVariants as line
 use Rattle.gr_line.specs.Limit.{is_newline, line_of, after_line}
 use Rattle.gr_line.specs.Lines.{IsCommandLine, size_after}
-use Rattle.gr_line.specs.Stops.{StopsInLine, StopsBy}
-use Rattle.gr_line.specs.Wire.{IsReadable, Says, Ends, StaysWithin}
+use Rattle.gr_line.specs.Stops.{StopsInLine, StopsBefore}
+use Rattle.gr_line.specs.Wire.{IsReadable, Says, Ends, IsWhole, IsWholeEnd, StaysWithin}
 use Rattle.gr_line.specs.Parsing.{ReadsLineText}
 use Rattle.gr_line.specs.Puts.{ReadsPut, ReadsAfter, AsksOf}
 use Rattle.gr_line.specs.Incoming.{ReadsLine, ReadsNext}
+use Rattle.gr_line.proofs.LineSoFar.{after_line-append}
 use Rattle.gr_line.proofs.Unique.{line_unique, end_or_put}
 
 pub next_unknown : (limits : Limits) (before after : Option (List ℕ)) (text : List ℕ)
@@ -63,12 +64,32 @@ line_within : (part rest : List ℕ) → position_or_len is_newline part ≡ len
 line_within part rest p =
     omega (arith, beyond_part part rest p, length-drop (position_or_len is_newline (part ++ rest) + 1) (part ++ rest), length-append part rest)
 
-stays_in_line : (limits : Limits) (input part rest : List ℕ) → input ≡ part ++ rest → position_or_len is_newline part ≡ length part → StaysWithin limits input rest
-stays_in_line limits input part rest e p =
-    let within : length (after_line input) ≤ length rest = rw e (line_within part rest p) in
+-- a part of a line, and a newline
+ended_line : (part front back : List ℕ) → part ≡ front ++ back → part ++ 10 ∷ [] ≡ front ++ (back ++ 10 ∷ [])
+ended_line part front back e = ap (λ l. l ++ 10 ∷ []) e ∙ append_assoc front back (10 ∷ [])
+
+-- no message is whole before its line is ended
+no_message_in_line : (limits : Limits) (part front back : List ℕ) (m : Message) → position_or_len is_newline part ≡ length part
+    → part ≡ front ++ back → IsWhole limits front m → ⊥
+no_message_in_line limits part front back m p e whole =
+    let said : Says limits (part ++ 10 ∷ []) m (back ++ 10 ∷ []) = rw (ended_line part front back e) (whole (back ++ 10 ∷ [])) in
+    let within = says_after limits (part ++ 10 ∷ []) m (back ++ 10 ∷ []) said in
+    absurd (omega (arith, within, ap length (after_line-append part [] p), length-append back (10 ∷ [])))
+
+no_end_in_line : (limits : Limits) (part front back : List ℕ) → position_or_len is_newline part ≡ length part → part ≡ front ++ back → IsWholeEnd limits front → ⊥
+no_end_in_line limits part front back p e whole =
+    let ends : Ends limits (part ++ 10 ∷ []) (back ++ 10 ∷ []) = rw (ended_line part front back e) (whole (back ++ 10 ∷ [])) in
+    let within = ends_after limits (part ++ 10 ∷ []) (back ++ 10 ∷ []) ends in
+    absurd (omega (arith, within, ap length (after_line-append part [] p), length-append back (10 ∷ [])))
+
+stays_in_line : (limits : Limits) (part rest : List ℕ) → position_or_len is_newline part ≡ length part → StaysWithin limits part rest
+stays_in_line limits part rest p =
+    let within : length (after_line (part ++ rest)) ≤ length rest = line_within part rest p in
     record {
-      message = λ m after h. le_trans (says_after limits input m after h) within;
-      end = λ after h. le_trans (ends_after limits input after h) within;
+      message = λ m after h. le_trans (says_after limits (part ++ rest) m after h) within;
+      end = λ after h. le_trans (ends_after limits (part ++ rest) after h) within;
+      no_message = λ front back m e whole. no_message_in_line limits part front back m p e whole;
+      no_end = λ front back e whole. no_end_in_line limits part front back p e whole;
     }
 
 -- a part of a body has nothing of what follows the body
@@ -80,33 +101,56 @@ after_body limits input part rest said (Ask asked) after readable is_line e shor
 after_body limits input part rest said Unknown after readable is_line e short h = absurd (h.1.0 readable said is_line)
 after_body limits input part rest said CutShort after readable is_line e short h = omega (arith, ap length h.1.4)
 
-end_of_put : (limits : Limits) (input path : List ℕ) (basis size : ℕ) (after rest : List ℕ) → input ≢ [] → IsCommandLine (line_of input) (Put basis path size)
-    → Ends limits input after → length after ≤ length rest
-end_of_put limits input path basis size after rest some put e = elim e [
+-- no message is whole before its body is
+no_message_in_body : (limits : Limits) (input bytes rest front back : List ℕ) (said : CommandLine) (m : Message)
+    → IsReadable limits (line_of input) → IsCommandLine (line_of input) said
+    → after_line input ≡ bytes ++ rest → length bytes < size_after said → input ≡ front ++ (back ++ rest) → IsWhole limits front m → ⊥
+no_message_in_body limits input bytes rest front back said (Ask asked) readable is_line e short all whole =
+    let h : Says limits input (Ask asked) (back ++ rest) = rw all (whole (back ++ rest)) in
+    let same = ap size_after (line_unique (line_of input) h.1.0 said h.1.2 is_line) in
+    let left = ap length h.1.5 ∙ length-drop (size_after h.1.0) (after_line input) in
+    absurd (omega (arith, left, h.1.3, ap length e, length-append bytes rest, length-append back rest, same, short))
+no_message_in_body limits input bytes rest front back said Unknown readable is_line e short all whole =
+    let h : Says limits input Unknown (back ++ rest) = rw all (whole (back ++ rest)) in
+    absurd (h.1.0 readable said is_line)
+no_message_in_body limits input bytes rest front back said CutShort readable is_line e short all whole =
+    let h : Says limits (front ++ 10 ∷ []) CutShort (10 ∷ []) = whole (10 ∷ []) in
+    absurd (omega (arith, ap length h.1.4))
+
+no_end_at_put : (limits : Limits) (input path : List ℕ) (basis size : ℕ) (after : List ℕ) → input ≢ [] → IsCommandLine (line_of input) (Put basis path size)
+    → Ends limits input after → ⊥
+no_end_at_put limits input path basis size after some put e = elim e [
   | inl over ↦ absurd (some over.0)
   | inr line ↦ absurd (end_or_put (line_of input) basis path size line.1 put)
 ]
 
+cut_again : (input part rest front back : List ℕ) → input ≡ part ++ rest → part ≡ front ++ back → input ≡ front ++ (back ++ rest)
+cut_again input part rest front back e f = e ∙ ap (λ l. l ++ rest) f ∙ append_assoc front back rest
+
+stays_in_body : (limits : Limits) (input part bytes rest path : List ℕ) (basis size : ℕ) → input ≢ [] → IsReadable limits (line_of input) → IsCommandLine (line_of input) (Put basis path size)
+    → input ≡ part ++ rest → after_line input ≡ bytes ++ rest → length bytes < size → StaysWithin limits part rest
+stays_in_body limits input part bytes rest path basis size some readable put all e short = record {
+  message = λ m after says. after_body limits input bytes rest (Put basis path size) m after readable put e (omega (arith, short)) (rw all says);
+  end = λ after ends. absurd (no_end_at_put limits input path basis size after some put (rw all ends));
+  no_message = λ front back m is whole.
+      no_message_in_body limits input bytes rest front back (Put basis path size) m readable put e short (cut_again input part rest front back all is) whole;
+  no_end = λ front back is whole.
+      no_end_at_put limits input path basis size (back ++ rest) some put (rw (cut_again input part rest front back all is) (whole (back ++ rest)));
+}
+
 stops_after : (limits : Limits) (input path : List ℕ) (basis size : ℕ) (after : Option (List ℕ)) (fault : InputFault)
     → input ≢ [] → IsReadable limits (line_of input) → IsCommandLine (line_of input) (Put basis path size)
-    → StopsBy (Some (after_line input)) after size → ReadsNext limits (Some input) after (Err fault)
+    → StopsBefore (Some (after_line input)) after size → ReadsNext limits (Some input) after (Err fault)
 stops_after limits input path basis size None fault some readable put h = absurd h.2
 stops_after limits input path basis size (Some rest) fault some readable put h =
-    let front = take (position_or_len is_newline input + 1) input in (
-      front ++ h.0,
-      rest,
-      line_then_rest input ∙ ap (λ l. front ++ l) h.2 ∙ sym (append_assoc front h.0 rest),
-      refl,
-      record {
-        message = λ m after says. after_body limits input h.0 rest (Put basis path size) m after readable put h.2 h.1 says;
-        end = λ after ends. end_of_put limits input path basis size after rest some put ends;
-      },
-    )
+    let front = take (position_or_len is_newline input + 1) input in
+    let all : input ≡ (front ++ h.0) ++ rest = line_then_rest input ∙ ap (λ l. front ++ l) h.2 ∙ sym (append_assoc front h.0 rest) in
+    (front ++ h.0, rest, all, refl, stays_in_body limits input (front ++ h.0) h.0 rest path basis size some readable put all h.2 h.1)
 
 pub next_stops : (limits : Limits) (before after : Option (List ℕ)) (fault : InputFault) → StopsInLine before after → ReadsNext limits before after (Err fault)
 next_stops limits None after fault h = tt
 next_stops limits (Some input) None fault h = absurd h.1
-next_stops limits (Some input) (Some rest) fault h = (h.0, rest, h.1, refl, stays_in_line limits input h.0 rest h.1 h.2)
+next_stops limits (Some input) (Some rest) fault h = (h.0, rest, h.1, refl, stays_in_line limits h.0 rest h.2)
 
 -- what reading after a line does, where the reader tells nothing
 next_unknown_reader : (limits : Limits) (after : Option (List ℕ)) (r : Result Next InputFault) → ReadsNext limits None after r

@@ -13,7 +13,7 @@ use Rattle.gr_line.specs.declared.next.Next.{Next}
 use Rattle.gr_line.specs.declared.next.Next.TheVariants as next
 use Rattle.gr_line.specs.declared.parse.CommandLine.{CommandLine}
 use Rattle.gr_line.specs.declared.parse.CommandLine.TheVariants as line
-use Rattle.gr_line.specs.Stops.{StopsBy}
+use Rattle.gr_line.specs.Stops.{StopsBefore}
 use Rattle.gr_line.specs.Wire.{IsKept, SaysCommand}
 
 abbrev pub TellsKept : Limits → List ℕ → ℕ → Bool → Type 0
@@ -38,7 +38,7 @@ ReadsPut limits basis path size before after (Ok next.NoRoom) =
 ReadsPut limits basis path size before after (Ok (next.Message CutShort)) = IfSome before (λ input. (length input < size) × (after ≡ Some []))
 ReadsPut limits basis path size before after (Ok (next.Message Unknown)) = ⊥
 ReadsPut limits basis path size before after (Ok next.End) = ⊥
-ReadsPut limits basis path size before after (Err fault) = StopsBy before after size
+ReadsPut limits basis path size before after (Err fault) = StopsBefore before after size
 
 -- the command of a line that announces no bytes, or want of memory to keep it
 abbrev pub AsksOf : Command → Result Next InputFault → Type 0

@@ -1,5 +1,5 @@
 -- Reading that stops within an input.
-use Rattle.std.specs.Prelude.{◌≡◌, ℕ, ◌≤◌, List, length, Option}
+use Rattle.std.specs.Prelude.{◌≡◌, ℕ, ◌<◌, List, length, Option}
 use Rattle.std.specs.List.{position_or_len}
 use Rattle.std.specs.Io.KnownBytes.{Consumes}
 use Rattle.gr_line.specs.Limit.{is_newline}
@@ -8,6 +8,6 @@ use Rattle.gr_line.specs.Limit.{is_newline}
 abbrev pub StopsInLine : (before after : Option (List ℕ)) → Type 0
 StopsInLine before after = (part : List ℕ) × Consumes before after part × (position_or_len is_newline part ≡ length part)
 
--- at most `size` bytes are read
-abbrev pub StopsBy : (before after : Option (List ℕ)) → ℕ → Type 0
-StopsBy before after size = (part : List ℕ) × (length part ≤ size) × Consumes before after part
+-- fewer than `size` bytes are read
+abbrev pub StopsBefore : (before after : Option (List ℕ)) → ℕ → Type 0
+StopsBefore before after size = (part : List ℕ) × (length part < size) × Consumes before after part

@@ -1,6 +1,6 @@
 -- The messages of an input: what its lines, and the bytes that some lines announce, say.
 -- A later command is a case of `SaysCommand`.
-use Rattle.std.specs.Prelude.{◌≡◌, ◌≢◌, ℕ, ◌<◌, ◌≤◌, ◌⊎◌, List, [], ◌∷◌, length, take, drop, Option, Some, None, codes}
+use Rattle.std.specs.Prelude.{◌≡◌, ◌≢◌, ℕ, ◌<◌, ◌≤◌, ◌⊎◌, List, [], ◌∷◌, ◌++◌, length, take, drop, Option, Some, None, codes}
 use Rattle.std.specs.Str.{IsUtf8}
 use Rattle.gr_text.specs.Path.{IsPath}
 use Rattle.gr_text.specs.declared.limits.Limits.{Limits}
@@ -70,7 +70,18 @@ abbrev pub Ends : Limits → List ℕ → List ℕ → Type 0
 Ends limits input rest = ((input ≡ []) × (rest ≡ []))
     ⊎ (IsReadable limits (line_of input) × (line_of input ≡ codes "end") × (rest ≡ after_line input))
 
--- what is read of the input, up to `rest`, goes beyond no message and no end with which it begins
-pub record StaysWithin (limits : Limits) (input rest : List ℕ) : Type 0 where
-  pub message : (m : Message) (after : List ℕ) → Says limits input m after → length after ≤ length rest
-  pub end : (after : List ℕ) → Ends limits input after → length after ≤ length rest
+-- these bytes are the whole message: whatever follows them, an input begins with it and goes on behind them
+abbrev pub IsWhole : Limits → List ℕ → Message → Type 0
+IsWhole limits bytes message = (rest : List ℕ) → Says limits (bytes ++ rest) message rest
+
+-- these bytes are a whole end: whatever follows them, a session ends behind them
+abbrev pub IsWholeEnd : Limits → List ℕ → Type 0
+IsWholeEnd limits bytes = (rest : List ℕ) → Ends limits (bytes ++ rest) rest
+
+-- `part` is read of an input, and then comes `rest`: no whole message and no whole end is read,
+-- and nothing beyond the message or the end with which the input begins
+pub record StaysWithin (limits : Limits) (part rest : List ℕ) : Type 0 where
+  pub message : (m : Message) (after : List ℕ) → Says limits (part ++ rest) m after → length after ≤ length rest
+  pub end : (after : List ℕ) → Ends limits (part ++ rest) after → length after ≤ length rest
+  pub no_message : (front back : List ℕ) (m : Message) → part ≡ front ++ back → IsWhole limits front m → ⊥
+  pub no_end : (front back : List ℕ) → part ≡ front ++ back → IsWholeEnd limits front → ⊥

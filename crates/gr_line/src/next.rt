@@ -11,7 +11,7 @@ use crate::command::Command;
 use crate::input::{InputFault, Line, read_line};
 use crate::message::Message;
 use crate::parse::{CommandLine, parse_command_line};
-use crate::stream::Source;
+use crate::stream::{Sink, Source};
 use crate::word::Word;
 use gr_text::{Limits, Path, Refusal};
 use std::alloc::{AllocError, Global};
@@ -219,14 +219,17 @@ fn command_line_of(line: &[u8]) -> Option<CommandLine<'_>>
 }
 
 /// Reads the next message whole, and nothing beyond it. A read is taken from `reads_left` for each read of the source.
-pub fn read_command<S: Source>(
+/// Each read may wait for the other side, so all that was written to the sink has to be sent before.
+pub fn read_command<S: Source, T: Sink>(
     alloc: Global,
     source: &mut S,
+    _sink: &T,
     reads_left: &mut u64,
     line: &mut LineBuffer,
     limits: &Limits,
 ) -> Result<Next, InputFault>
     requires reads { S.reads source.old + reads_left.old < 2 ^ 64 }
+    requires sent { T.sent _sink.now }
     ensures next { ReadsNext limits.now (S.remaining source.old) (S.remaining source.new) result }
     ensures counted { CountsReadFault (S.failures source.old) (S.failures source.new) result }
     ensures turns { IfOk result (λ _. reads_left.new < reads_left.old) }

@@ -1,8 +1,8 @@
 //! What a session reads from and writes to. Both count their failures, so that a contract can say
 //! that a fault is answered only where the reader or the writer failed in that call.
-ghost use Rattle.std.specs.Prelude.{◌≡◌, ◌≢◌, ◌<◌, ◌+◌, ◌-◌, ◌^◌, ℕ, List, Option, IfOk};
+ghost use Rattle.std.specs.Prelude.{◌≡◌, ◌≢◌, ◌<◌, ◌+◌, ◌-◌, ◌^◌, ℕ, List, Option, IfOk, OnOk, IsTrue};
 ghost use Rattle.std.specs.Io.{ReadsAtMost, WritesAtMost};
-ghost use Rattle.std.specs.Io.KnownBytes.{ReadConsumes, WriteAppends};
+ghost use Rattle.std.specs.Io.KnownBytes.{Keeps, ReadConsumes, WriteAppends};
 ghost use Rattle.gr_line.specs.Failures.{CountsFailure};
 
 use std::io::{Read, Write};
@@ -35,14 +35,23 @@ pub trait Sink {
     /// The bytes written so far, where they are known.
     ghost contents: { Self → Option (List ℕ) };
 
-    /// The count of failed writes, which changes at each failure and at nothing else.
+    /// The count of failed writes and of failed sends, which changes at each failure and at nothing else.
     ghost failures: { Self → ℕ };
+
+    /// All that was written is sent to the other side.
+    ghost sent: { Self → Type 0 };
 
     /// Writes at least one byte, or fails.
     fn write(&mut self, buf: &[u8]) -> Result<usize, WriteFailed>
         ensures bound { WritesAtMost result buf.now }
         ensures some { IfOk result (λ n. 0 < n) }
         ensures bytes { WriteAppends (contents self.old) (contents self.new) result buf.now }
+        ensures counted { CountsFailure (failures self.old) (failures self.new) result };
+
+    /// Sends all that was written, or fails.
+    fn flush(&mut self) -> Result<(), WriteFailed>
+        ensures sent { OnOk result (sent self.new) }
+        ensures bytes { Keeps (contents self.old) (contents self.new) }
         ensures counted { CountsFailure (failures self.old) (failures self.new) result };
 }
 
@@ -87,10 +96,11 @@ impl<R: Read> Source for Reading<R> {
     }
 }
 
-/// Any writer, with the count of its failures.
+/// Any writer, with the count of its failures, and whether it was flushed after the last write.
 #[derive(Drop)]
 pub struct Writing<W> {
     writer: W,
+    is_flushed: bool,
     failures: u64,
 }
 
@@ -101,6 +111,7 @@ impl<W: Write> Writing<W> {
     {
         Writing {
             writer,
+            is_flushed: false,
             failures: 0,
         }
     }
@@ -119,10 +130,26 @@ impl<W: Write> Sink for Writing<W> {
 
     ghost failures = { λ w. w.failures };
 
+    ghost sent = { λ w. IsTrue w.is_flushed };
+
     fn write(&mut self, buf: &[u8]) -> Result<usize, WriteFailed> {
+        self.is_flushed = false;
         match self.writer.write(buf) {
             Ok(count) if count > 0 => Ok(count),
             _ => {
+                self.failures = self.failures.wrapping_add(1);
+                Err(WriteFailed)
+            }
+        }
+    }
+
+    fn flush(&mut self) -> Result<(), WriteFailed> {
+        match self.writer.flush() {
+            Ok(()) => {
+                self.is_flushed = true;
+                Ok(())
+            }
+            Err(_) => {
                 self.failures = self.failures.wrapping_add(1);
                 Err(WriteFailed)
             }

@@ -1,41 +1,29 @@
-//! The program `gorefd`: one session over a book of its own, from standard input to standard output; or a server on a socket.
+//! The program `gorefd`: one session over a book of its own, from standard input to standard output.
 #![tactic(auto)]
 
 mod fault;
 
 use fault::Fault;
-use gr_book::Book;
-use gr_desk::Solo;
-use gr_pool::OpenGate;
-use gr_serve::serve;
-use gr_streams::converse;
 use gr_text::Limits;
+use gr_wire::session_alone;
 use gr_words::{Words, WordsFault, read_words};
 use std::env::Env;
-use std::fmt::Display;
-use std::io::ErrorKind;
+use std::io::{BufReader, BufWriter, ErrorKind};
 use std::process::ExitCode;
 
 /// Serves one session over standard input and output.
 fn run(rt: &(impl Input + Print + AllocGlobal)) -> Result<(), Fault> {
     let alloc = rt.alloc();
-    let mut solo = Solo::new(Book::new(alloc, Limits::FULL)?);
-    let ended = converse(alloc, rt.reader(), std::io::writer(rt), &mut solo);
-    let _entries = solo.into_book().close();
+    let input = BufReader::new(alloc, rt.reader()).map_err(|_| Fault::Memory)?;
+    let output = BufWriter::new(alloc, std::io::writer(rt)).map_err(|_| Fault::Memory)?;
+    let (ended, output) = session_alone(alloc, input, output, Limits::FULL);
+    drop(output);
     ended?;
     Ok(())
 }
 
-/// Tells how many entries the journal has.
-fn settled<R: Print + Eprint>(rt: &R, entries: u64) -> ExitCode {
-    match println!(rt; "settled {entries}") {
-        Ok(()) => ExitCode::SUCCESS,
-        Err(_) => ended(rt, Fault::Write),
-    }
-}
-
 /// Says on standard error why the program ended, and gives its exit status.
-fn ended(rt: &impl Eprint, fault: impl Display + Drop) -> ExitCode {
+fn ended(rt: &impl Eprint, fault: Fault) -> ExitCode {
     let _ = eprintln!(rt; "gorefd: {fault}");
     ExitCode::from(1)
 }
@@ -77,10 +65,10 @@ fn main(rt: HostRuntime) -> ExitCode {
             Ok(()) => ExitCode::SUCCESS,
             Err(fault) => ended(&rt, fault),
         },
-        Ok(Words::Serve(words)) => match serve(&rt, &words, &OpenGate) {
-            Ok(entries) => settled(&rt, entries),
-            Err(fault) => ended(&rt, fault),
-        },
+        Ok(Words::Serve(_)) => {
+            let _ = eprintln!(rt; "gorefd: this build does not serve");
+            ExitCode::from(2)
+        }
         Err(fault) => told(&rt, &fault),
     }
 }

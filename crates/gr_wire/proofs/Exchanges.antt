@@ -1,5 +1,5 @@
 -- Exchanges, one after another.
-use Rattle.std.proofs.Common.{ℕ, List, [], ◌∷◌, ◌++◌, refl, sym, append-nil}
+use Rattle.std.proofs.Common.{◌≡◌, ℕ, List, [], ◌∷◌, ◌++◌, refl, sym, ap, ◌∙◌, inl, inr, append-nil, append_assoc}
 use Rattle.std.proofs.lemmas.Grind.{flat_map-append}
 use Rattle.gr_text.specs.declared.limits.Limits.{Limits}
 use Rattle.gr_book.specs.declared.event.Event.{Event}
@@ -9,7 +9,7 @@ use Rattle.gr_line.specs.declared.message.Message.{Message}
 use Rattle.gr_line.specs.Wire.{Says, Reads}
 use Rattle.gr_wire.specs.Answers.{Answered, AnswersAll}
 use Rattle.gr_line.specs.Replies.{reply_text}
-use Rattle.gr_wire.specs.Transcript.{Exchange}
+use Rattle.gr_wire.specs.Transcript.{Exchange, BreaksOff, CutsOff}
 
 pub Reads-append : (limits : Limits) (input mid rest : List ℕ) (ms ns : List Message)
     → Reads limits input ms mid → Reads limits mid ns rest → Reads limits input (ms ++ ns) rest
@@ -50,3 +50,49 @@ Exchange-append steps limits input mid rest old now new text more a b = record {
   run = AnswersAll-append steps old now new a.messages b.messages a.replies b.replies a.run b.run;
   written = rw (a.written, b.written) (sym (flat_map-append reply_text a.replies b.replies));
 }
+
+-- one message, whose reply is not written whole
+pub BreaksOff-one : {D : Type 0} (steps : D → Event → Reply → D → Type 0) (limits : Limits) (input rest : List ℕ) (old new : D) (message : Message) (reply : Response)
+    (written unwritten : List ℕ) → Says limits input message rest → Answered steps old message reply new → reply_text reply ≡ written ++ unwritten
+    → BreaksOff steps limits input rest old new written
+BreaksOff-one steps limits input rest old new message reply written unwritten said answered cut = record {
+  mid = input;
+  now = old;
+  earlier = [];
+  whole = Exchange-none steps limits input old;
+  message = message;
+  reply = reply;
+  read = said;
+  run = answered;
+  written = written;
+  unwritten = unwritten;
+  cut = cut;
+  joined = refl;
+}
+
+pub BreaksOff-after : {D : Type 0} (steps : D → Event → Reply → D → Type 0) (limits : Limits) (input mid rest : List ℕ) (old now new : D) (text more : List ℕ)
+    → Exchange steps limits input mid old now text → BreaksOff steps limits mid rest now new more
+    → BreaksOff steps limits input rest old new (text ++ more)
+BreaksOff-after steps limits input mid rest old now new text more a b = record {
+  mid = b.mid;
+  now = b.now;
+  earlier = text ++ b.earlier;
+  whole = Exchange-append steps limits input mid b.mid old now b.now text b.earlier a b.whole;
+  message = b.message;
+  reply = b.reply;
+  read = b.read;
+  run = b.run;
+  written = b.written;
+  unwritten = b.unwritten;
+  cut = b.cut;
+  joined = ap (λ l. text ++ l) b.joined ∙ sym (append_assoc text b.earlier b.written);
+}
+
+-- an exchange, and then one after which the writer failed
+pub CutsOff-after : {D : Type 0} (steps : D → Event → Reply → D → Type 0) (limits : Limits) (input mid rest : List ℕ) (old now new : D) (text more : List ℕ)
+    → Exchange steps limits input mid old now text → CutsOff steps limits mid rest now new more
+    → CutsOff steps limits input rest old new (text ++ more)
+CutsOff-after steps limits input mid rest old now new text more a b = elim b [
+  | inl whole ↦ inl (Exchange-append steps limits input mid rest old now new text more a whole)
+  | inr broken ↦ inr (BreaksOff-after steps limits input mid rest old now new text more a broken)
+]

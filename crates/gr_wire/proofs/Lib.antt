@@ -1,5 +1,6 @@
 -- The lemmas of this crate.
 pub mod Exchanges
 pub mod Steps
+pub mod Sent
 pub mod Served
 pub mod Runs

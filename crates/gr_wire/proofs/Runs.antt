@@ -1,6 +1,7 @@
--- What a session does to a book, as a run of the machine.
-use Rattle.std.proofs.Common.{◌≡◌, ℕ, List, [], ◌∷◌, ◌++◌, Result, Ok, Err, inl, inr, refl}
+-- What a session does to a book, as a run of the machine by the events that its messages send.
+use Rattle.std.proofs.Common.{◌≡◌, ℕ, List, [], ◌∷◌, ◌++◌, Result, Ok, Err, inl, inr, refl, sym, ◌∙◌, append-nil, append_assoc}
 use Rattle.gr_text.specs.declared.refusal.Refusal.{Refusal}
+use Rattle.gr_text.specs.declared.limits.Limits.{Limits}
 use Rattle.gr_compile.specs.declared.built.Built.{Built}
 use Rattle.gr_compile.specs.declared.job.JobRecord.{JobRecord}
 use Rattle.gr_book.specs.declared.view.View.{View}
@@ -22,91 +23,172 @@ use Rattle.gr_desk.specs.Work.{Works, AfterTake, AfterDelivery, Builds, Delivers
 use Rattle.gr_line.specs.declared.message.Message.{Message}
 use Rattle.gr_line.specs.declared.message.Message.TheVariants.{Ask, Unknown, CutShort}
 use Rattle.gr_wire.specs.Answers.{Answered, AnswersAll}
-use Rattle.gr_wire.specs.Laws.{RunsTheMachine}
+use Rattle.gr_wire.specs.Transcript.{Exchange, BreaksOff}
+use Rattle.gr_wire.specs.Laws.{Notes, RunsTheMachine, RunsUntilCutOff}
 
-abbrev IsRun : Machine → Machine → Type 0
-IsRun old new = (events : List (Event × Reply)) × Run old events new
+abbrev Events : Type 0
+Events = List (Event × Reply)
 
-join : (old mid new : Machine) → IsRun old mid → IsRun mid new → IsRun old new
-join old mid new h k = (h.0 ++ k.0, Run-append old mid new h.0 k.0 h.1 k.1)
+-- a run by events, and what holds of the list that these events are added to
+abbrev IsRun : Machine → Machine → (Events → Events → Type 0) → Type 0
+IsRun old new P = (events : Events) × Run old events new × ((before after : Events) → after ≡ before ++ events → P before after)
 
-still : (old new : Machine) → new ≡ old → IsRun old new
-still old new e = ([], e)
+-- no event is added
+nothing : (before after : Events) → after ≡ before ++ [] → after ≡ before
+nothing before after e = e ∙ append-nil before
 
-sent : (old new : Machine) (asked : Event) (answer : Response) → Sends Step old asked answer new → IsRun old new
-sent old new asked answer h = ((asked, h.0) ∷ [], (new, h.1, refl))
+sent : (old new : Machine) (asked : Event) (answer : Response) → Sends Step old asked answer new → IsRun old new (λ a b. Sends Notes a asked answer b)
+sent old new asked answer h = ((asked, h.0) ∷ [], (new, h.1, refl), λ before after e. (h.0, e, h.2))
 
-committed : (old new : Machine) (basis : ℕ) (planned : Result Change Refusal) (answer : Response) → Commits Step old basis planned answer new → IsRun old new
+committed : (old new : Machine) (basis : ℕ) (planned : Result Change Refusal) (answer : Response) → Commits Step old basis planned answer new
+    → IsRun old new (λ a b. Commits Notes a basis planned answer b)
 committed old new basis (Ok change) answer h = sent old new (event.Commit basis change) answer h
-committed old new basis (Err refusal) answer h = still old new h.1
+committed old new basis (Err refusal) answer h = ([], h.1, λ before after n. (h.0, nothing before after n))
 
 -- what a step leads to, with what comes behind it
-led_on : (old mid new : Machine) (asked : Event) (reply : Reply) → Step old asked reply mid → IsRun mid new → IsRun old new
-led_on old mid new asked reply s rest = ((asked, reply) ∷ rest.0, (mid, s, rest.1))
+led_on : (old mid new : Machine) (asked : Event) (reply : Reply) (P : Events → Events → Type 0) → Step old asked reply mid → IsRun mid new P
+    → IsRun old new (λ a b. (c : Events) × Notes a asked reply c × P c b)
+led_on old mid new asked reply P s rest = (
+  (asked, reply) ∷ rest.0,
+  (mid, s, rest.1),
+  λ before after e.
+  (before ++ (asked, reply) ∷ [], refl, rest.2 (before ++ (asked, reply) ∷ []) after (e ∙ sym (append_assoc before ((asked, reply) ∷ []) rest.0))),
+)
 
-given_back : (old new : Machine) (job : JobRecord) → GivesBack Step old job new → IsRun old new
-given_back old new job h = led_on old new new (event.GiveBack job) h.0 h.1 (still new new refl)
+given_back : (old new : Machine) (job : JobRecord) → GivesBack Step old job new → IsRun old new (λ a b. GivesBack Notes a job b)
+given_back old new job h = ((event.GiveBack job, h.0) ∷ [], (new, h.1, refl), λ before after e. (h.0, e))
 
-after_delivery : (old new : Machine) (path : List ℕ) (reply : Reply) (answer : Response) → AfterDelivery Step old path reply answer new → IsRun old new
-after_delivery old new path (Done number) answer h = still old new h.1
-after_delivery old new path (Refused refusal) answer h = still old new h.1
-after_delivery old new path (Back refusal job unit) answer h = given_back old new job h.1
+after_delivery : (old new : Machine) (path : List ℕ) (reply : Reply) (answer : Response) → AfterDelivery Step old path reply answer new
+    → IsRun old new (λ a b. AfterDelivery Notes a path reply answer b)
+after_delivery old new path (Done number) answer h = ([], h.1, λ before after n. (h.0, nothing before after n))
+after_delivery old new path (Refused refusal) answer h = ([], h.1, λ before after n. (h.0, nothing before after n))
+after_delivery old new path (Back refusal job unit) answer h =
+    let g = given_back old new job h.1 in
+    (g.0, g.1, λ before after e. (h.0, g.2 before after e))
 after_delivery old new path reply answer h = absurd h
 
-delivered : (old new : Machine) (job : JobRecord) (built : Built) (answer : Response) → Delivers Step old job built answer new → IsRun old new
-delivered old new job built answer h = led_on old h.1 new (event.Deliver job built) h.0 h.2 (after_delivery h.1 new job.package h.0 answer h.3)
+delivered : (old new : Machine) (job : JobRecord) (built : Built) (answer : Response) → Delivers Step old job built answer new
+    → IsRun old new (λ a b. Delivers Notes a job built answer b)
+delivered old new job built answer h =
+    let g = led_on old h.1 new (event.Deliver job built) h.0 (λ (a b : Events). AfterDelivery Notes a job.package h.0 answer b) h.2
+    (after_delivery h.1 new job.package h.0 answer h.3) in
+    (g.0, g.1, λ before after e. let n = g.2 before after e in (h.0, n.0, n.1, n.2))
 
-built_in : (old new : Machine) (job : JobRecord) (answer : Response) → Builds Step old job answer new → IsRun old new
-built_in old new job answer h = elim h [ inl k ↦ delivered old new job k.0 answer k.2 | inr k ↦ given_back old new job k.1 ]
+built_in : (old new : Machine) (job : JobRecord) (answer : Response) → Builds Step old job answer new → IsRun old new (λ a b. Builds Notes a job answer b)
+built_in old new job answer h = elim h [
+  | inl k ↦ let g = delivered old new job k.0 answer k.2 in (g.0, g.1, λ before after e. inl (k.0, k.1, g.2 before after e))
+  | inr k ↦ let g = given_back old new job k.1 in (g.0, g.1, λ before after e. inr (k.0, g.2 before after e))
+]
 
-after_take : (old new : Machine) (reply : Reply) (answer : Response) → AfterTake Step old reply answer new → IsRun old new
+after_take : (old new : Machine) (reply : Reply) (answer : Response) → AfterTake Step old reply answer new → IsRun old new (λ a b. AfterTake Notes a reply answer b)
 after_take old new (Taken job) answer h = built_in old new job answer h
-after_take old new (Refused refusal) answer h = still old new h.1
+after_take old new (Refused refusal) answer h = ([], h.1, λ before after n. (h.0, nothing before after n))
 after_take old new reply answer h = absurd h
 
-worked : (old new : Machine) (answer : Response) → Works Step old answer new → IsRun old new
-worked old new answer h = led_on old h.1 new event.Take h.0 h.2 (after_take h.1 new h.0 answer h.3)
+worked : (old new : Machine) (answer : Response) → Works Step old answer new → IsRun old new (λ a b. Works Notes a answer b)
+worked old new answer h =
+    let g = led_on old h.1 new event.Take h.0 (λ (a b : Events). AfterTake Notes a h.0 answer b) h.2 (after_take h.1 new h.0 answer h.3) in
+    (g.0, g.1, λ before after e. let n = g.2 before after e in (h.0, n.0, n.1, n.2))
 
-acted_on : (old new : Machine) (view : View) (asked : Command) (answer : Response) → ActsOn Step old view asked answer new → IsRun old new
-acted_on old new view Look answer h = still old new h.1
-acted_on old new view (Put basis path body) answer h = committed old new basis h.0 answer h.2
-acted_on old new view (Del basis path) answer h = committed old new basis h.0 answer h.2
-acted_on old new view (Rename basis path offset name) answer h = committed old new basis h.0 answer h.2
-acted_on old new view (Move basis from to) answer h = committed old new basis h.0 answer h.2
+acted_on : (old new : Machine) (view : View) (asked : Command) (answer : Response) → ActsOn Step old view asked answer new
+    → IsRun old new (λ a b. ActsOn Notes a view asked answer b)
+acted_on old new view Look answer h = ([], h.1, λ before after n. (h.0, nothing before after n))
+acted_on old new view (Put basis path body) answer h =
+    let g = committed old new basis h.0 answer h.2 in
+    (g.0, g.1, λ before after e. (h.0, h.1, g.2 before after e))
+acted_on old new view (Del basis path) answer h =
+    let g = committed old new basis h.0 answer h.2 in
+    (g.0, g.1, λ before after e. (h.0, h.1, g.2 before after e))
+acted_on old new view (Rename basis path offset name) answer h =
+    let g = committed old new basis h.0 answer h.2 in
+    (g.0, g.1, λ before after e. (h.0, h.1, g.2 before after e))
+acted_on old new view (Move basis from to) answer h =
+    let g = committed old new basis h.0 answer h.2 in
+    (g.0, g.1, λ before after e. (h.0, h.1, g.2 before after e))
 acted_on old new view (Undo basis) answer h = sent old new (event.Undo basis) answer h
 acted_on old new view (Redo basis) answer h = sent old new (event.Redo basis) answer h
-acted_on old new view (Cat path) answer h = still old new h.1
-acted_on old new view (Uses path offset) answer h = still old new h.1
-acted_on old new view command.List answer h = still old new h.1
-acted_on old new view command.Faults answer h = still old new h.1
-acted_on old new view (command.Object path) answer h = still old new h.1
+acted_on old new view (Cat path) answer h = ([], h.1, λ before after n. (h.0, nothing before after n))
+acted_on old new view (Uses path offset) answer h = ([], h.1, λ before after n. (h.0, nothing before after n))
+acted_on old new view command.List answer h = ([], h.1, λ before after n. (h.0, nothing before after n))
+acted_on old new view command.Faults answer h = ([], h.1, λ before after n. (h.0, nothing before after n))
+acted_on old new view (command.Object path) answer h = ([], h.1, λ before after n. (h.0, nothing before after n))
 acted_on old new view command.Work answer h = worked old new answer h
 acted_on old new view (command.Log number) answer h = absurd h
 
-continued : (old new : Machine) (reply : Reply) (asked : Command) (answer : Response) → Continues Step old reply asked answer new → IsRun old new
-continued old new (Looked view) asked answer h = elim h [ inl k ↦ still old new k.2 | inr k ↦ acted_on old new view asked answer k.1 ]
-continued old new (Logged current line) asked answer h = still old new h.1
-continued old new (Done number) asked answer h = still old new h.1
+continued : (old new : Machine) (reply : Reply) (asked : Command) (answer : Response) → Continues Step old reply asked answer new
+    → IsRun old new (λ a b. Continues Notes a reply asked answer b)
+continued old new (Looked view) asked answer h = elim h [
+  | inl k ↦ ([], k.2, λ before after n. inl (k.0, k.1, nothing before after n))
+  | inr k ↦ let g = acted_on old new view asked answer k.1 in (g.0, g.1, λ before after e. inr (k.0, g.2 before after e))
+]
+continued old new (Logged current line) asked answer h = ([], h.1, λ before after n. (h.0, nothing before after n))
+continued old new (Done number) asked answer h = ([], h.1, λ before after n. (h.0, nothing before after n))
 continued old new (Taken job) asked answer h = absurd h.0
-continued old new (Refused refusal) asked answer h = still old new h.1
+continued old new (Refused refusal) asked answer h = ([], h.1, λ before after n. (h.0, nothing before after n))
 continued old new (Back refusal job unit) asked answer h = absurd h.0
 
-acted : (old new : Machine) (asked : Command) (answer : Response) → Acts Step old asked answer new → IsRun old new
+acted : (old new : Machine) (asked : Command) (answer : Response) → Acts Step old asked answer new → IsRun old new (λ a b. Acts Notes a asked answer b)
 acted old new (command.Log number) answer h = sent old new (event.Log number) answer h
 acted old new asked answer h =
-    let after = continued h.1 new h.0 asked answer h.3 in
-    ((event.Look, h.0) ∷ after.0, (h.1, h.2, after.1))
+    let g = led_on old h.1 new event.Look h.0 (λ (a b : Events). Continues Notes a h.0 asked answer b) h.2 (continued h.1 new h.0 asked answer h.3) in
+    (g.0, g.1, λ before after e. let n = g.2 before after e in (h.0, n.0, n.1, n.2))
 
-answered : (old new : Machine) (message : Message) (reply : Response) → Answered Step old message reply new → IsRun old new
-answered old new (Ask asked) reply h = elim h [ inl k ↦ acted old new asked reply k | inr k ↦ still old new k.1 ]
-answered old new Unknown reply h = still old new h.1
-answered old new CutShort reply h = still old new h.1
+answered : (old new : Machine) (message : Message) (reply : Response) → Answered Step old message reply new
+    → IsRun old new (λ a b. Answered Notes a message reply b)
+answered old new (Ask asked) reply h = elim h [
+  | inl k ↦ let g = acted old new asked reply k in (g.0, g.1, λ before after e. inl (g.2 before after e))
+  | inr k ↦ ([], k.1, λ before after n. inr (k.0, nothing before after n))
+]
+answered old new Unknown reply h = ([], h.1, λ before after n. (h.0, nothing before after n))
+answered old new CutShort reply h = ([], h.1, λ before after n. (h.0, nothing before after n))
 
-all_answered : (old new : Machine) (ms : List Message) (rs : List Response) → AnswersAll Step old ms rs new → IsRun old new
-all_answered old new [] [] h = still old new h
+all_answered : (old new : Machine) (ms : List Message) (rs : List Response) → AnswersAll Step old ms rs new
+    → IsRun old new (λ a b. AnswersAll Notes a ms rs b)
+all_answered old new [] [] h = ([], h, nothing)
 all_answered old new [] (r ∷ rs) h = absurd h
 all_answered old new (m ∷ ms) [] h = absurd h
-all_answered old new (m ∷ ms) (r ∷ rs) h = join old h.0 new (answered old h.0 m r h.1) (all_answered h.0 new ms rs h.2)
+all_answered old new (m ∷ ms) (r ∷ rs) h =
+    let first = answered old h.0 m r h.1 in
+    let others = all_answered h.0 new ms rs h.2 in (
+      first.0 ++ others.0,
+      Run-append old h.0 new first.0 others.0 first.1 others.1,
+      λ before after e. (
+        before ++ first.0,
+        first.2 before (before ++ first.0) refl,
+        others.2 (before ++ first.0) after (e ∙ sym (append_assoc before first.0 others.0)),
+      ),
+    )
 
 pub exchange_runs : RunsTheMachine
-exchange_runs limits input rest old new text h = all_answered old new h.messages h.replies h.run
+exchange_runs limits input rest old new text h =
+    let g = all_answered old new h.messages h.replies h.run in
+    (g.0, g.1, record { messages = h.messages; replies = h.replies; read = h.read; run = g.2 [] g.0 refl; written = h.written })
+
+broken_runs : (limits : Limits) (input rest : List ℕ) (old new : Machine) (text : List ℕ) → BreaksOff Step limits input rest old new text
+    → (events : Events) × Run old events new × BreaksOff Notes limits input rest [] events text
+broken_runs limits input rest old new text h =
+    let before = exchange_runs limits input h.mid old h.now h.earlier h.whole in
+    let last = answered h.now new h.message h.reply h.run in (
+      before.0 ++ last.0,
+      Run-append old h.now new before.0 last.0 before.1 last.1,
+      record {
+        mid = h.mid;
+        now = before.0;
+        earlier = h.earlier;
+        whole = before.2;
+        message = h.message;
+        reply = h.reply;
+        read = h.read;
+        run = last.2 before.0 (before.0 ++ last.0) refl;
+        written = h.written;
+        unwritten = h.unwritten;
+        cut = h.cut;
+        joined = h.joined;
+      },
+    )
+
+pub cut_runs : RunsUntilCutOff
+cut_runs limits input rest old new text h = elim h [
+  | inl whole ↦ let g = exchange_runs limits input rest old new text whole in (g.0, g.1, inl g.2)
+  | inr broken ↦ let g = broken_runs limits input rest old new text broken in (g.0, g.1, inr g.2)
+]

@@ -1,5 +1,5 @@
 -- Steps of a session, one after another.
-use Rattle.std.proofs.Common.{◌≡◌, ℕ, List, [], ◌++◌, Option, None, Some, Result, Ok, Err, Bool, true, false, refl, append_assoc}
+use Rattle.std.proofs.Common.{◌≡◌, ℕ, List, [], ◌++◌, Option, None, Some, Result, Ok, Err, Bool, true, false, refl}
 use Rattle.std.proofs.KnownBytes.{Appends-trans, Appends-nil}
 use Rattle.gr_text.specs.declared.limits.Limits.{Limits}
 use Rattle.gr_book.specs.declared.event.Event.{Event}
@@ -7,7 +7,7 @@ use Rattle.gr_book.specs.declared.event.Reply.{Reply}
 use Rattle.gr_wire.specs.declared.exchange.SessionFault.{SessionFault}
 use Rattle.gr_wire.specs.declared.exchange.SessionFault.TheVariants.{Memory, Read, Write, Turns}
 use Rattle.gr_wire.specs.Transcript.{SessionEnds, StepEnds}
-use Rattle.gr_wire.proofs.Exchanges.{Exchange-none, Exchange-append}
+use Rattle.gr_wire.proofs.Exchanges.{Exchange-none, Exchange-append, CutsOff-after}
 
 module _ {D : Type 0} (steps : D → Event → Reply → D → Type 0) (limits : Limits) where
   -- before any step
@@ -38,14 +38,8 @@ module _ {D : Type 0} (steps : D → Event → Reply → D → Type 0) (limits :
       let q' = rw p.3 at q in
       (q'.0, q'.1, p.1 ++ q'.2, Exchange-append steps limits input p.0 (q'.0 ++ q'.1) old now new p.1 q'.2 p.2 q'.3, q'.4, Appends-trans x y z p.1 q'.2 p.4 q'.5, q'.6)
   StepEnds-append (Some input) b c x y z old now new (Err Write) p q =
-      let q' = rw p.3 at q in (
-        q'.0,
-        p.1 ++ q'.1,
-        q'.2,
-        rw append_assoc (Exchange-append steps limits input p.0 q'.0 old now new p.1 (q'.1 ++ q'.2) p.2 q'.3),
-        q'.4,
-        Appends-trans x y z p.1 q'.1 p.4 q'.5,
-      )
+      let q' = rw p.3 at q in
+      (q'.0, p.1 ++ q'.1, CutsOff-after steps limits input p.0 q'.0 old now new p.1 q'.1 p.2 q'.2, q'.3, Appends-trans x y z p.1 q'.1 p.4 q'.4)
 
   -- a fault of a step is a fault of the session
   pub SessionEnds-from_step : (a c x z : Option (List ℕ)) (old new : D) (fault : SessionFault) (r : Result (Unit {0}) SessionFault)

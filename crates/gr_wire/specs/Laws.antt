@@ -1,14 +1,27 @@
 -- The law of a session.
-use Rattle.std.specs.Prelude.{ℕ, List}
+use Rattle.std.specs.Prelude.{◌≡◌, ℕ, List, [], ◌∷◌, ◌++◌}
 use Rattle.gr_text.specs.declared.limits.Limits.{Limits}
 use Rattle.gr_book.specs.declared.event.Event.{Event}
 use Rattle.gr_book.specs.declared.event.Reply.{Reply}
 use Rattle.gr_book.specs.Machine.{Machine}
 use Rattle.gr_book.specs.Step.{Step}
 use Rattle.gr_book.specs.Run.{Run}
-use Rattle.gr_wire.specs.Transcript.{Exchange}
+use Rattle.gr_wire.specs.Transcript.{Exchange, CutsOff}
 
--- what is exchanged over a book is a run of its machine
+-- A list of events that grows by each event, with its reply, and knows nothing else. As what a desk does it says which events the
+-- commands send, and which answers they make of the replies.
+abbrev pub Notes : List (Event × Reply) → Event → Reply → List (Event × Reply) → Type 0
+Notes old event reply new = new ≡ old ++ (event, reply) ∷ []
+
+-- What is exchanged over a book is a run of its machine, whose events are those that the messages send, in their order; and the
+-- text is that of the answers that the messages make of these events' replies.
 abbrev pub RunsTheMachine : Type 0
 RunsTheMachine = (limits : Limits) (input rest : List ℕ) (old new : Machine) (text : List ℕ)
-    → Exchange Step limits input rest old new text → (events : List (Event × Reply)) × Run old events new
+    → Exchange Step limits input rest old new text
+    → (events : List (Event × Reply)) × Run old events new × Exchange Notes limits input rest [] events text
+
+-- the same where the writer fails
+abbrev pub RunsUntilCutOff : Type 0
+RunsUntilCutOff = (limits : Limits) (input rest : List ℕ) (old new : Machine) (text : List ℕ)
+    → CutsOff Step limits input rest old new text
+    → (events : List (Event × Reply)) × Run old events new × CutsOff Notes limits input rest [] events text

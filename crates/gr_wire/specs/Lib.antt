@@ -1,5 +1,6 @@
 -- The definitions of this crate.
-pub mod Faults
+pub mod Awaits
 pub mod Answers
 pub mod Transcript
+pub mod Alone
 pub mod Laws

@@ -1,5 +1,5 @@
 -- What a session has done: the messages read, the replies given, and their text.
-use Rattle.std.specs.Prelude.{◌≡◌, ◌≢◌, ℕ, List, ◌++◌, Option, Some, IfSome, Result, Ok, Err, Bool, true, false}
+use Rattle.std.specs.Prelude.{◌≡◌, ◌≢◌, ◌⊎◌, ℕ, List, [], ◌++◌, Option, Some, IfSome, Result, Ok, Err, Bool, true, false}
 use Rattle.std.specs.List.{flat_map}
 use Rattle.std.specs.Io.KnownBytes.{Appends, Keeps}
 use Rattle.gr_text.specs.declared.limits.Limits.{Limits}
@@ -9,9 +9,9 @@ use Rattle.gr_line.specs.declared.command.Response.{Response}
 use Rattle.gr_line.specs.declared.message.Message.{Message}
 use Rattle.gr_wire.specs.declared.exchange.SessionFault.{SessionFault}
 use Rattle.gr_wire.specs.declared.exchange.SessionFault.TheVariants.{Memory, Read, Write, Turns}
-use Rattle.gr_line.specs.Wire.{Reads, Ends, StaysWithin}
+use Rattle.gr_line.specs.Wire.{Says, Reads, Ends, StaysWithin}
 use Rattle.gr_line.specs.Replies.{reply_text}
-use Rattle.gr_wire.specs.Answers.{AnswersAll}
+use Rattle.gr_wire.specs.Answers.{Answered, AnswersAll}
 
 -- The input up to `rest` was read as messages, answered in one run of the desk from old to new,
 -- and `text` is the text of the replies.
@@ -22,6 +22,27 @@ pub record Exchange {D : Type 0} (steps : D → Event → Reply → D → Type 0
   pub run : AnswersAll steps old messages replies new
   pub written : text ≡ flat_map reply_text replies
 
+-- The messages of the input up to `rest` are answered, in one run of the desk from old to new. The replies to all but the last
+-- are written whole, and a first part of the last one.
+pub record BreaksOff {D : Type 0} (steps : D → Event → Reply → D → Type 0) (limits : Limits) (input rest : List ℕ) (old new : D) (text : List ℕ) : Type 0 where
+  pub mid : List ℕ
+  pub now : D
+  pub earlier : List ℕ
+  pub whole : Exchange steps limits input mid old now earlier
+  pub message : Message
+  pub reply : Response
+  pub read : Says limits mid message rest
+  pub run : Answered steps now message reply new
+  pub written : List ℕ
+  pub unwritten : List ℕ
+  pub cut : reply_text reply ≡ written ++ unwritten
+  pub joined : text ≡ earlier ++ written
+
+-- The messages of the input up to `rest` are answered, and nothing is done after the writer failed: all replies are written, and
+-- could not be sent; or all but the last are written whole.
+abbrev pub CutsOff : {D : Type 0} → (D → Event → Reply → D → Type 0) → Limits → (input rest : List ℕ) → D → D → List ℕ → Type 0
+CutsOff steps limits input rest old new text = Exchange steps limits input rest old new text ⊎ BreaksOff steps limits input rest old new text
+
 -- How a session ends, over an input that the reader tells. `before` and `after` are what the reader has left,
 -- `held` and `holds` what the writer holds.
 abbrev pub SessionEnds : {D : Type 0} → (D → Event → Reply → D → Type 0) → Limits → (before after held holds : Option (List ℕ)) → D → D → Result (Unit {0}) SessionFault → Type 0
@@ -31,17 +52,16 @@ SessionEnds steps limits before after held holds old new (Ok done) = IfSome befo
     × Ends limits mid rest × (after ≡ Some rest) × Appends held holds text)
 -- nothing was read, done or written
 SessionEnds steps limits before after held holds old new (Err Memory) = Keeps before after × (new ≡ old) × Keeps held holds
--- the messages read whole are answered, and a part of the next, if there is one, is read
+-- all messages that are read whole are answered, and `part` is read behind them, which begins with no whole one
 SessionEnds steps limits before after held holds old new (Err Read) = IfSome before (λ input.
     (part : List ℕ) × (rest : List ℕ) × (text : List ℕ) × Exchange steps limits input (part ++ rest) old new text
-    × (after ≡ Some rest) × Appends held holds text × StaysWithin limits (part ++ rest) rest)
+    × (after ≡ Some rest) × Appends held holds text × StaysWithin limits part rest)
 SessionEnds steps limits before after held holds old new (Err Turns) = IfSome before (λ input.
     (part : List ℕ) × (rest : List ℕ) × (text : List ℕ) × Exchange steps limits input (part ++ rest) old new text
-    × (after ≡ Some rest) × Appends held holds text × StaysWithin limits (part ++ rest) rest)
--- a first part of the replies is written
+    × (after ≡ Some rest) × Appends held holds text × StaysWithin limits part rest)
+-- nothing is read or done after the message whose reply is not written whole, or not sent
 SessionEnds steps limits before after held holds old new (Err Write) = IfSome before (λ input.
-    (rest : List ℕ) × (written : List ℕ) × (unwritten : List ℕ) × Exchange steps limits input rest old new (written ++ unwritten)
-    × (after ≡ Some rest) × Appends held holds written)
+    (rest : List ℕ) × (text : List ℕ) × CutsOff steps limits input rest old new text × (after ≡ Some rest) × Appends held holds text)
 
 -- A fault of the reader or the writer is answered just where it failed in this call.
 abbrev pub CountsFaults : {T : Type 0} → (read_before read_after write_before write_after : ℕ) → Result T SessionFault → Type 0
@@ -65,3 +85,8 @@ StepEnds steps limits before after held holds old new (Err Write) = SessionEnds 
 abbrev pub IsTranscript : {D : Type 0} → (D → Event → Reply → D → Type 0) → Limits → List ℕ → D → D → List ℕ → Type 0
 IsTranscript steps limits input old new text =
     (mid : List ℕ) × (rest : List ℕ) × Exchange steps limits input mid old new text × Ends limits mid rest
+
+-- A session over memory that ends early: what of the input is left, and what was written, is that of the fault.
+abbrev pub EndsEarly : {D : Type 0} → (D → Event → Reply → D → Type 0) → Limits → List ℕ → D → D → SessionFault → Type 0
+EndsEarly steps limits input old new fault =
+    (rest : List ℕ) × (text : List ℕ) × SessionEnds steps limits (Some input) (Some rest) (Some []) (Some text) old new (Err fault)

@@ -1,6 +1,9 @@
 //! A session: it reads messages, has them answered, and writes the replies.
-ghost use Rattle.std.specs.Prelude.{◌≡◌, ◌+◌, ◌^◌, ◌≤◌, ◌<◌, ℕ, List, Option, IfOk};
+ghost use Rattle.std.specs.Prelude.{◌≡◌, ◌+◌, ◌^◌, ◌≤◌, ◌<◌, ℕ, List, Option, IfOk, OnOk, IsTrue};
+ghost use Rattle.gr_line.specs.Failures.{CountsFailure, WritesText};
+ghost use Rattle.gr_line.specs.Replies.{reply_text};
 ghost use Rattle.gr_wire.specs.Answers.{Answered};
+ghost use Rattle.gr_wire.specs.Awaits.{AwaitsNext, LeavesSent, StepLeavesSent};
 ghost use Rattle.gr_wire.specs.Transcript.{SessionEnds, CountsFaults, StepEnds};
 
 use gr_desk::{Desk, act};
@@ -22,20 +25,6 @@ pub enum SessionFault {
     Write,
     /// All reads that a session may make are used up.
     Turns,
-}
-
-impl From<InputFault> for SessionFault {
-    ghost use Rattle.gr_line.specs.declared.input.InputFault.{InputFault};
-    ghost use Rattle.gr_wire.specs.Faults.{fault_of};
-
-    ghost from_gives = { λ fault result. result ≡ fault_of fault };
-
-    fn from(fault: InputFault) -> SessionFault {
-        match fault {
-            InputFault::Read => SessionFault::Read,
-            InputFault::Turns => SessionFault::Turns,
-        }
-    }
 }
 
 impl From<WriteFailed> for SessionFault {
@@ -64,6 +53,43 @@ fn answer<D: Desk>(alloc: Global, desk: &mut D, message: Message) -> Response
     }
 }
 
+/// Has all sent that was written, since a read may wait for the other side, and reads the next message.
+fn await_message<S: Source, T: Sink>(
+    alloc: Global,
+    source: &mut S,
+    sink: &mut T,
+    reads_left: &mut u64,
+    line: &mut LineBuffer,
+    limits: &Limits,
+) -> Result<Next, SessionFault>
+    requires reads { S.reads source.old + reads_left.old < 2 ^ 64 }
+    ensures awaits { AwaitsNext limits.now (S.remaining source.old) (S.remaining source.new)
+        (T.contents sink.old) (T.contents sink.new) result }
+    ensures sent { LeavesSent (T.sent sink.new) result }
+    ensures counted { CountsFaults (S.failures source.old) (S.failures source.new)
+        (T.failures sink.old) (T.failures sink.new) result }
+    ensures turns { IfOk result (λ _. reads_left.new < reads_left.old) }
+    ensures turns_over { result ≡ Err SessionFault.Turns → reads_left.new ≡ 0 }
+    ensures reads { S.reads source.new + reads_left.new ≡ S.reads source.old + reads_left.old }
+{
+    sink.flush()?;
+    match read_command(alloc, source, sink, reads_left, line, limits) {
+        Ok(next) => Ok(next),
+        Err(InputFault::Read) => Err(SessionFault::Read),
+        Err(InputFault::Turns) => Err(SessionFault::Turns),
+    }
+}
+
+/// Writes a reply, and has it sent where it is the last one.
+fn send_reply<T: Sink>(sink: &mut T, reply: &Response, is_last: bool) -> Result<(), WriteFailed>
+    ensures written { WritesText (T.contents sink.old) (T.contents sink.new) (reply_text reply.now) result }
+    ensures sent { OnOk result (IsTrue is_last → T.sent sink.new) }
+    ensures counted { CountsFailure (T.failures sink.old) (T.failures sink.new) result }
+{
+    print_reply(sink, reply)?;
+    if is_last { sink.flush() } else { Ok(()) }
+}
+
 /// Reads the next message, has it answered, and writes the reply. It is false where the session ends.
 fn serve_next<S: Source, T: Sink, D: Desk>(
     alloc: Global,
@@ -77,13 +103,14 @@ fn serve_next<S: Source, T: Sink, D: Desk>(
     requires reads { S.reads source.old + reads_left.old < 2 ^ 64 }
     ensures step { StepEnds D.steps limits.now (S.remaining source.old) (S.remaining source.new)
         (T.contents sink.old) (T.contents sink.new) desk.old desk.new result }
+    ensures sent { StepLeavesSent (T.sent sink.new) result }
     ensures counted { CountsFaults (S.failures source.old) (S.failures source.new)
         (T.failures sink.old) (T.failures sink.new) result }
     ensures turns { IfOk result (λ _. reads_left.new < reads_left.old) }
     ensures turns_over { result ≡ Err SessionFault.Turns → reads_left.new ≡ 0 }
     ensures reads { S.reads source.new + reads_left.new ≡ S.reads source.old + reads_left.old }
 {
-    match read_command(alloc, source, reads_left, line, limits)? {
+    match await_message(alloc, source, sink, reads_left, line, limits)? {
         Next::End => Ok(false),
         Next::NoRoom => {
             print_reply(sink, &refuse(Refusal::Memory))?;
@@ -92,14 +119,14 @@ fn serve_next<S: Source, T: Sink, D: Desk>(
         Next::Message(message) => {
             let is_last = message.is_last();
             let reply = answer(alloc, desk, message);
-            print_reply(sink, &reply)?;
+            send_reply(sink, &reply, is_last)?;
             Ok(!is_last)
         }
     }
 }
 
 /// Serves one session: reads commands to the end, has each answered, and writes the replies.
-/// What was done before a fault stands.
+/// What was done before a fault stands. Each reply is sent before the next message is waited for, and the last at the end.
 pub fn session<S: Source, T: Sink, D: Desk>(
     alloc: Global,
     source: &mut S,
@@ -110,6 +137,7 @@ pub fn session<S: Source, T: Sink, D: Desk>(
     requires { S.reads source.old + limits.reads < 2 ^ 64 }
     ensures session { SessionEnds D.steps limits (S.remaining source.old) (S.remaining source.new)
         (T.contents sink.old) (T.contents sink.new) desk.old desk.new result }
+    ensures sent { LeavesSent (T.sent sink.new) result }
     ensures counted { CountsFaults (S.failures source.old) (S.failures source.new)
         (T.failures sink.old) (T.failures sink.new) result }
     ensures memory_first { result ≡ Err SessionFault.Memory → S.reads source.new ≡ S.reads source.old }

@@ -1,10 +1,12 @@
 //! A session: its messages are answered by a desk, and the replies are written.
 #![tactic(auto)]
 
+mod alone;
 mod exchange;
 mod law;
 mod memory;
 
+pub use alone::session_alone;
 pub use exchange::{SessionFault, session};
 pub use law::runs_the_machine;
 pub use memory::transcript;

@@ -1,7 +1,7 @@
 //! A session over memory.
-ghost use Rattle.std.specs.Prelude.{IfOk};
+ghost use Rattle.std.specs.Prelude.{MatchResult};
 ghost use Rattle.gr_book.specs.Step.{Step};
-ghost use Rattle.gr_wire.specs.Transcript.{IsTranscript};
+ghost use Rattle.gr_wire.specs.Transcript.{IsTranscript, EndsEarly};
 
 use crate::exchange::{SessionFault, session};
 use gr_desk::Solo;
@@ -17,7 +17,8 @@ pub fn transcript(
     solo: &mut Solo,
     limits: Limits,
 ) -> Result<Vec<u8>, SessionFault>
-    ensures { IfOk result (λ text. IsTranscript Step limits input.now solo.old solo.new text.items) }
+    ensures { MatchResult result (λ text. IsTranscript Step limits input.now solo.old solo.new text.items)
+        (λ fault. EndsEarly Step limits input.now solo.old solo.new fault) }
 {
     let mut source = Reading::new(input);
     let mut sink = Writing::new(Vec::new(alloc));

@@ -1,50 +1,50 @@
 -- The answers to the goals of `exchange::serve_next`.
 use Rattle.std.proofs.lemmas.Result.{err_from_is_err_and}
-use Rattle.gr_wire.proofs.Served.{step_faulted, step_ended, step_answered, step_cut, step_refused, step_refused_cut}
+use Rattle.gr_wire.proofs.Served.{step_stopped, step_ended, step_answered, step_cut, step_refused, step_refused_cut}
 use Rattle.gr_wire.proofs.exchange.serve_next.Goals as goal
 
-pub returns-in_err-read_command-clause-step : goal.returns-in_err-read_command-clause-step
-returns-in_err-read_command-clause-step g c =
+pub returns-in_err-await_message-clause-step : goal.returns-in_err-await_message-clause-step
+returns-in_err-await_message-clause-step g c =
     let p = err_from_is_err_and c.from_residual.result c.from_residual.ensures.1 in
     rw (p.1, p.2)
-    (step_faulted g.D.Desk.steps c.args.limits.now (g.S.Source.remaining c.args.source.now) (g.S.Source.remaining c.read_command.new.source)
-    (g.T.Sink.contents c.args.sink.now) c.args.desk.now c.in_err-read_command.field-0.0 c.in_err-read_command.ensures.next)
+    (step_stopped g.D.Desk.steps c.args.limits.now (g.S.Source.remaining c.args.source.now) (g.S.Source.remaining c.await_message.new.source)
+    (g.T.Sink.contents c.args.sink.now) (g.T.Sink.contents c.await_message.new.sink) c.args.desk.now c.in_err-await_message.field-0.0 c.in_err-await_message.ensures.awaits)
 
-pub returns-in_err-print_reply-in-NoRoom-clause-step : goal.returns-in_err-print_reply-in-NoRoom-clause-step
-returns-in_err-print_reply-in-NoRoom-clause-step g c =
-    let p = err_from_is_err_and c.from_residual-in_err-print_reply-in-NoRoom.result c.from_residual-in_err-print_reply-in-NoRoom.ensures.1 in
-    let cut = rw c.refuse.ensures at c.in_err-print_reply-in-NoRoom.ensures.written in
+pub returns-in_err-print_reply-clause-step : goal.returns-in_err-print_reply-clause-step
+returns-in_err-print_reply-clause-step g c =
+    let p = err_from_is_err_and c.from_residual-in_err-print_reply.result c.from_residual-in_err-print_reply.ensures.1 in
+    let cut = rw c.refuse.ensures at c.in_err-print_reply.ensures.written in
     rw (p.1, p.2)
-    (step_refused_cut g.D.Desk.steps c.args.limits.now (g.S.Source.remaining c.args.source.now) (g.S.Source.remaining c.read_command.new.source)
-    (g.T.Sink.contents c.args.sink.now) (g.T.Sink.contents c.print_reply.new.sink) c.args.desk.now cut.written cut.unwritten
-    (rw c.in-NoRoom.is at c.in_ok-read_command.ensures.next) cut.whole cut.appended)
+    (step_refused_cut g.D.Desk.steps c.args.limits.now (g.S.Source.remaining c.args.source.now) (g.S.Source.remaining c.await_message.new.source)
+    (g.T.Sink.contents c.args.sink.now) (g.T.Sink.contents c.await_message.new.sink) (g.T.Sink.contents c.print_reply.new.sink) c.args.desk.now cut.written cut.unwritten
+    (rw c.in-NoRoom.is at c.in_ok-await_message.ensures.awaits) cut.whole cut.appended)
 
-pub returns-in_err-print_reply-in-Message-clause-step : goal.returns-in_err-print_reply-in-Message-clause-step
-returns-in_err-print_reply-in-Message-clause-step g c =
-    let p = err_from_is_err_and c.from_residual-in_err-print_reply-in-Message.result c.from_residual-in_err-print_reply-in-Message.ensures.1 in
-    let cut = c.in_err-print_reply-in-Message.ensures.written in
+pub returns-in_err-send_reply-clause-step : goal.returns-in_err-send_reply-clause-step
+returns-in_err-send_reply-clause-step g c =
+    let p = err_from_is_err_and c.from_residual-in_err-send_reply.result c.from_residual-in_err-send_reply.ensures.1 in
+    let cut = c.in_err-send_reply.ensures.written in
     rw (p.1, p.2)
-    (step_cut g.D.Desk.steps c.args.limits.now (g.S.Source.remaining c.args.source.now) (g.S.Source.remaining c.read_command.new.source)
-    (g.T.Sink.contents c.args.sink.now) (g.T.Sink.contents c.print_reply-in-Message.new.sink) c.args.desk.now c.answer-reply.new.desk
+    (step_cut g.D.Desk.steps c.args.limits.now (g.S.Source.remaining c.args.source.now) (g.S.Source.remaining c.await_message.new.source)
+    (g.T.Sink.contents c.args.sink.now) (g.T.Sink.contents c.await_message.new.sink) (g.T.Sink.contents c.send_reply.new.sink) c.args.desk.now c.answer-reply.new.desk
     c.in-Message.message c.answer-reply.result cut.written cut.unwritten
-    (rw c.in-Message.is at c.in_ok-read_command.ensures.next) c.answer-reply.ensures cut.whole cut.appended)
+    (rw c.in-Message.is at c.in_ok-await_message.ensures.awaits) c.answer-reply.ensures cut.whole cut.appended)
 
 pub returns-in-End-clause-step : goal.returns-in-End-clause-step
 returns-in-End-clause-step g c =
-    step_ended g.D.Desk.steps c.args.limits.now (g.S.Source.remaining c.args.source.now) (g.S.Source.remaining c.read_command.new.source)
-    (g.T.Sink.contents c.args.sink.now) c.args.desk.now (rw c.in-End.is at c.in_ok-read_command.ensures.next)
+    step_ended g.D.Desk.steps c.args.limits.now (g.S.Source.remaining c.args.source.now) (g.S.Source.remaining c.await_message.new.source)
+    (g.T.Sink.contents c.args.sink.now) (g.T.Sink.contents c.await_message.new.sink) c.args.desk.now (rw c.in-End.is at c.in_ok-await_message.ensures.awaits)
 
-pub returns-in_ok-print_reply-in-NoRoom-clause-step : goal.returns-in_ok-print_reply-in-NoRoom-clause-step
-returns-in_ok-print_reply-in-NoRoom-clause-step g c =
-    step_refused g.D.Desk.steps c.args.limits.now (g.S.Source.remaining c.args.source.now) (g.S.Source.remaining c.read_command.new.source)
-    (g.T.Sink.contents c.args.sink.now) (g.T.Sink.contents c.print_reply.new.sink) c.args.desk.now
-    (rw c.in-NoRoom.is at c.in_ok-read_command.ensures.next)
-    (rw c.refuse.ensures at c.in_ok-print_reply-in-NoRoom.ensures.written)
+pub returns-in_ok-print_reply-clause-step : goal.returns-in_ok-print_reply-clause-step
+returns-in_ok-print_reply-clause-step g c =
+    step_refused g.D.Desk.steps c.args.limits.now (g.S.Source.remaining c.args.source.now) (g.S.Source.remaining c.await_message.new.source)
+    (g.T.Sink.contents c.args.sink.now) (g.T.Sink.contents c.await_message.new.sink) (g.T.Sink.contents c.print_reply.new.sink) c.args.desk.now
+    (rw c.in-NoRoom.is at c.in_ok-await_message.ensures.awaits)
+    (rw c.refuse.ensures at c.in_ok-print_reply.ensures.written)
 
-pub returns-in_ok-print_reply-in-Message-clause-step : goal.returns-in_ok-print_reply-in-Message-clause-step
-returns-in_ok-print_reply-in-Message-clause-step g c =
+pub returns-in_ok-send_reply-clause-step : goal.returns-in_ok-send_reply-clause-step
+returns-in_ok-send_reply-clause-step g c =
     rw c.is_last-is_last.ensures
-    (step_answered g.D.Desk.steps c.args.limits.now (g.S.Source.remaining c.args.source.now) (g.S.Source.remaining c.read_command.new.source)
-    (g.T.Sink.contents c.args.sink.now) (g.T.Sink.contents c.print_reply-in-Message.new.sink) c.args.desk.now c.answer-reply.new.desk
+    (step_answered g.D.Desk.steps c.args.limits.now (g.S.Source.remaining c.args.source.now) (g.S.Source.remaining c.await_message.new.source)
+    (g.T.Sink.contents c.args.sink.now) (g.T.Sink.contents c.await_message.new.sink) (g.T.Sink.contents c.send_reply.new.sink) c.args.desk.now c.answer-reply.new.desk
     c.in-Message.message c.answer-reply.result
-    (rw c.in-Message.is at c.in_ok-read_command.ensures.next) c.answer-reply.ensures c.in_ok-print_reply-in-Message.ensures.written)
+    (rw c.in-Message.is at c.in_ok-await_message.ensures.awaits) c.answer-reply.ensures c.in_ok-send_reply.ensures.written)
