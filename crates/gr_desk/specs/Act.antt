@@ -14,7 +14,7 @@ use Rattle.gr_book.specs.declared.event.Reply.{Reply}
 use Rattle.gr_book.specs.declared.event.Reply.TheVariants.{Looked, Logged, Done, Taken, Refused, Back}
 use Rattle.gr_desk.specs.Queries.{Cats, WritesUses, TellsFaults, TellsObject, listing}
 use Rattle.gr_desk.specs.Logging.{entry_text}
-use Rattle.gr_desk.specs.Wait.{Waits}
+use Rattle.gr_desk.specs.Wait.{WaitLaw, Waits}
 use Rattle.gr_desk.specs.Work.{Works}
 use Rattle.gr_line.specs.Commands.{basis_of, entry_asked, is_wait}
 use Rattle.gr_line.specs.declared.command.Command.{Command}
@@ -117,7 +117,7 @@ module _ {D : Type 0} (steps : D → Event → Reply → D → Type 0) where
   Looks old asked answer new = (reply : Reply) × (mid : D) × steps old Look reply mid × Continues mid reply asked answer new
 
   -- one command: a log is one event alone, a wait is what the desk says of it, and any other begins with a look
-  abbrev pub Acts : (D → Result ℕ Refusal → D → Type 0) → D → Command → Response → D → Type 0
+  abbrev pub Acts : WaitLaw D → D → Command → Response → D → Type 0
   Acts waits old asked answer new = MatchOption (entry_asked asked)
       (MatchBool (is_wait asked) (Waits waits old answer new) (Looks old asked answer new))
       (λ number. Sends old (Log number) answer new)

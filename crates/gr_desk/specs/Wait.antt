@@ -5,8 +5,12 @@ use Rattle.gr_text.specs.declared.refusal.Refusal.TheVariants.{BadCommand}
 use Rattle.gr_line.specs.declared.command.Response.{Response}
 use Rattle.gr_line.specs.declared.command.Response.TheVariants as response
 
+-- what a wait may do: the desk before, the number of the state whose packages are all finished, or why it was refused, and the desk after
+abbrev pub WaitLaw : Type 0 → Type 1
+WaitLaw D = D → Result ℕ Refusal → D → Type 0
+
 -- where no one else builds, to wait is no command, and no event
-abbrev pub RefusesWait : {D : Type 0} → D → Result ℕ Refusal → D → Type 0
+abbrev pub RefusesWait : {D : Type 0} → WaitLaw D
 RefusesWait old outcome new = (outcome ≡ Err BadCommand) × (new ≡ old)
 
 -- the number of the state whose packages are all finished, or why it was refused
@@ -15,5 +19,5 @@ wait_response (Ok number) = response.Done number
 wait_response (Err refusal) = response.Refused refusal
 
 -- one wait
-abbrev pub Waits : {D : Type 0} → (D → Result ℕ Refusal → D → Type 0) → D → Response → D → Type 0
+abbrev pub Waits : {D : Type 0} → WaitLaw D → D → Response → D → Type 0
 Waits waits old answer new = (outcome : Result ℕ Refusal) × waits old outcome new × (answer ≡ wait_response outcome)
