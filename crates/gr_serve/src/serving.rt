@@ -1,5 +1,7 @@
 //! The server, from its socket to its end.
-ghost use Rattle.std.specs.Prelude.{◌≡◌, ◌+◌, length};
+ghost use Rattle.std.specs.Prelude.{◌≡◌, ◌+◌, IfOk, IsOk, length};
+ghost use Rattle.gr_pool.specs.Outcome.{book_in};
+ghost use Rattle.gr_serve.specs.Served.{IsSettledLength};
 
 use crate::fault::ServeFault;
 use crate::socket::listen;
@@ -32,8 +34,10 @@ fn seats_of<L: Opening>(
     Ok(seats)
 }
 
-/// The length of the journal of a book that was settled.
-fn length_of(settled: Result<Book, Unsettled>) -> Result<u64, ServeFault> {
+/// The length of the journal of a book that was settled. The book is closed.
+fn length_of(settled: Result<Book, Unsettled>) -> Result<u64, ServeFault>
+    ensures { IfOk result (λ entries. IsOk settled × (entries ≡ length (book_in settled).journal)) }
+{
     match settled {
         Ok(book) => {
             let length = book.journal().len() as u64;
@@ -45,6 +49,14 @@ fn length_of(settled: Result<Book, Unsettled>) -> Result<u64, ServeFault> {
             Err(ServeFault::Unsettled)
         }
     }
+}
+
+/// Settles, and tells the length of the journal.
+fn settle<L: Opening>(shared: Shared<L>, seats: Vec<Seat<L>>) -> Result<u64, ServeFault>
+    requires { shared.from ≡ 0 }
+    ensures { IfOk result IsSettledLength }
+{
+    length_of(shared.settle(seats))
 }
 
 /// Runs the threads of a server to their end.
@@ -81,6 +93,7 @@ fn serve_in<L: Opening + Send + Sync, R: Threads + Wait + Sync, G: Gate + Sync>(
     requires parts { blank.parts ≡ L.parts }
     requires seats { blank.parts ≡ words.now.workers + words.now.sessions }
     requires from { L.from ≡ 0 }
+    ensures { IfOk result IsSettledLength }
 {
     let count = u64::from(words.workers) + u64::from(words.sessions);
     let book = Book::new(alloc, Limits::FULL)?;
@@ -88,12 +101,12 @@ fn serve_in<L: Opening + Send + Sync, R: Threads + Wait + Sync, G: Gate + Sync>(
     let mut seats = match seats_of(alloc, &mut shared, count) {
         Ok(seats) => seats,
         Err(_) => {
-            let _ended = length_of(shared.settle(Vec::new(alloc)));
+            let _ended = settle(shared, Vec::new(alloc));
             return Err(ServeFault::Memory);
         }
     };
     let served = serve_by(rt, alloc, &shared, seats.as_mut_slice(), words, gate, turns);
-    let length = length_of(shared.settle(seats));
+    let length = settle(shared, seats);
     served?;
     length
 }
@@ -104,7 +117,9 @@ pub fn serve<R: Threads + Wait + Net + Files + AllocGlobal + Sync, G: Gate + Syn
     rt: &R,
     words: &ServeWords<'_>,
     gate: &G,
-) -> Result<u64, ServeFault> {
+) -> Result<u64, ServeFault>
+    ensures { IfOk result IsSettledLength }
+{
     let alloc = rt.alloc();
     let listener = listen(rt, alloc, words.socket)?;
     let turns = Turns::new(listener, words.stop_after);
