@@ -42,8 +42,11 @@ fn listen_in<R: Files + Net>(
     }
 }
 
+/// Makes a folder that only its owner can enter.
 fn make_folder<R: Files>(rt: &R, folder: &str) -> io::Result<()> {
-    DirBuilder::new().mode(OWNER_ENTERS).create(rt, folder)
+    let mut builder = DirBuilder::new();
+    builder.mode(OWNER_ENTERS);
+    builder.create(rt, folder)
 }
 
 /// Makes the socket.

@@ -63,7 +63,6 @@ impl Turns {
     /// Whether a connection could not be accepted.
     pub(crate) fn has_failed(self) -> bool {
         let Turns { turn } = self;
-        let Turn { has_failed, .. } = turn.into_inner();
-        has_failed
+        turn.into_inner().has_failed
     }
 }
