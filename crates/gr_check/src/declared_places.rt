@@ -23,6 +23,7 @@ use gr_expr::symbol::SharedPath;
 use gr_graph::Graph;
 use gr_imports::literal_of;
 use gr_scope::model::Position;
+use gr_scope::table::ScopeTable;
 use gr_text::Place;
 use gr_tree::FileTree;
 use std::alloc::{AllocError, Global};

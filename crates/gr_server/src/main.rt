@@ -16,8 +16,7 @@ fn run(rt: &(impl Input + Print + AllocGlobal)) -> Result<(), Fault> {
     let alloc = rt.alloc();
     let input = BufReader::new(alloc, rt.reader()).map_err(|_| Fault::Memory)?;
     let output = BufWriter::new(alloc, std::io::writer(rt)).map_err(|_| Fault::Memory)?;
-    let (ended, output) = session_alone(alloc, input, output, Limits::FULL);
-    drop(output);
+    let (ended, _output) = session_alone(alloc, input, output, Limits::FULL);
     ended?;
     Ok(())
 }

@@ -4,6 +4,7 @@ use Rattle.std.proofs.lemmas.Grind.{flat_map-append}
 use Rattle.gr_text.specs.declared.limits.Limits.{Limits}
 use Rattle.gr_book.specs.declared.event.Event.{Event}
 use Rattle.gr_book.specs.declared.event.Reply.{Reply}
+use Rattle.gr_desk.specs.Wait.{WaitLaw}
 use Rattle.gr_line.specs.declared.command.Response.{Response}
 use Rattle.gr_line.specs.declared.message.Message.{Message}
 use Rattle.gr_line.specs.Wire.{Says, Reads}
@@ -16,23 +17,23 @@ pub Reads-append : (limits : Limits) (input mid rest : List ℕ) (ms ns : List M
 Reads-append limits input mid rest [] ns h k = rw h k
 Reads-append limits input mid rest (m ∷ ms) ns h k = (h.0, h.1, Reads-append limits h.0 mid rest ms ns h.2 k)
 
-pub AnswersAll-append : {D : Type 0} (steps : D → Event → Reply → D → Type 0) (old mid new : D) (ms ns : List Message) (rs ss : List Response)
-    → AnswersAll steps old ms rs mid → AnswersAll steps mid ns ss new → AnswersAll steps old (ms ++ ns) (rs ++ ss) new
-AnswersAll-append steps old mid new [] ns [] ss h k = rw (← h) k
-AnswersAll-append steps old mid new [] ns (r ∷ rs) ss h k = absurd h
-AnswersAll-append steps old mid new (m ∷ ms) ns [] ss h k = absurd h
-AnswersAll-append steps old mid new (m ∷ ms) ns (r ∷ rs) ss h k = (h.0, h.1, AnswersAll-append steps h.0 mid new ms ns rs ss h.2 k)
+pub AnswersAll-append : {D : Type 0} (steps : D → Event → Reply → D → Type 0) (waits : WaitLaw D) (old mid new : D) (ms ns : List Message) (rs ss : List Response)
+    → AnswersAll steps waits old ms rs mid → AnswersAll steps waits mid ns ss new → AnswersAll steps waits old (ms ++ ns) (rs ++ ss) new
+AnswersAll-append steps waits old mid new [] ns [] ss h k = rw (← h) k
+AnswersAll-append steps waits old mid new [] ns (r ∷ rs) ss h k = absurd h
+AnswersAll-append steps waits old mid new (m ∷ ms) ns [] ss h k = absurd h
+AnswersAll-append steps waits old mid new (m ∷ ms) ns (r ∷ rs) ss h k = (h.0, h.1, AnswersAll-append steps waits h.0 mid new ms ns rs ss h.2 k)
 
 -- nothing read, and nothing written
-pub Exchange-none : {D : Type 0} (steps : D → Event → Reply → D → Type 0) (limits : Limits) (input : List ℕ) (old : D)
-    → Exchange steps limits input input old old []
-Exchange-none steps limits input old = record { messages = []; replies = []; read = refl; run = refl; written = refl }
+pub Exchange-none : {D : Type 0} (steps : D → Event → Reply → D → Type 0) (waits : WaitLaw D) (limits : Limits) (input : List ℕ) (old : D)
+    → Exchange steps waits limits input input old old []
+Exchange-none steps waits limits input old = record { messages = []; replies = []; read = refl; run = refl; written = refl }
 
 -- one message, and its reply
-pub Exchange-one : {D : Type 0} (steps : D → Event → Reply → D → Type 0) (limits : Limits) (input rest : List ℕ) (old new : D) (message : Message) (reply : Response)
-    → Says limits input message rest → Answered steps old message reply new
-    → Exchange steps limits input rest old new (reply_text reply)
-Exchange-one steps limits input rest old new message reply said answered = record {
+pub Exchange-one : {D : Type 0} (steps : D → Event → Reply → D → Type 0) (waits : WaitLaw D) (limits : Limits) (input rest : List ℕ) (old new : D) (message : Message) (reply : Response)
+    → Says limits input message rest → Answered steps waits old message reply new
+    → Exchange steps waits limits input rest old new (reply_text reply)
+Exchange-one steps waits limits input rest old new message reply said answered = record {
   messages = message ∷ [];
   replies = reply ∷ [];
   read = (rest, said, refl);
@@ -40,26 +41,26 @@ Exchange-one steps limits input rest old new message reply said answered = recor
   written = sym (append-nil (reply_text reply));
 }
 
-pub Exchange-append : {D : Type 0} (steps : D → Event → Reply → D → Type 0) (limits : Limits) (input mid rest : List ℕ) (old now new : D) (text more : List ℕ)
-    → Exchange steps limits input mid old now text → Exchange steps limits mid rest now new more
-    → Exchange steps limits input rest old new (text ++ more)
-Exchange-append steps limits input mid rest old now new text more a b = record {
+pub Exchange-append : {D : Type 0} (steps : D → Event → Reply → D → Type 0) (waits : WaitLaw D) (limits : Limits) (input mid rest : List ℕ) (old now new : D) (text more : List ℕ)
+    → Exchange steps waits limits input mid old now text → Exchange steps waits limits mid rest now new more
+    → Exchange steps waits limits input rest old new (text ++ more)
+Exchange-append steps waits limits input mid rest old now new text more a b = record {
   messages = a.messages ++ b.messages;
   replies = a.replies ++ b.replies;
   read = Reads-append limits input mid rest a.messages b.messages a.read b.read;
-  run = AnswersAll-append steps old now new a.messages b.messages a.replies b.replies a.run b.run;
+  run = AnswersAll-append steps waits old now new a.messages b.messages a.replies b.replies a.run b.run;
   written = rw (a.written, b.written) (sym (flat_map-append reply_text a.replies b.replies));
 }
 
 -- one message, whose reply is not written whole
-pub BreaksOff-one : {D : Type 0} (steps : D → Event → Reply → D → Type 0) (limits : Limits) (input rest : List ℕ) (old new : D) (message : Message) (reply : Response)
-    (written unwritten : List ℕ) → Says limits input message rest → Answered steps old message reply new → reply_text reply ≡ written ++ unwritten
-    → BreaksOff steps limits input rest old new written
-BreaksOff-one steps limits input rest old new message reply written unwritten said answered cut = record {
+pub BreaksOff-one : {D : Type 0} (steps : D → Event → Reply → D → Type 0) (waits : WaitLaw D) (limits : Limits) (input rest : List ℕ) (old new : D) (message : Message) (reply : Response)
+    (written unwritten : List ℕ) → Says limits input message rest → Answered steps waits old message reply new → reply_text reply ≡ written ++ unwritten
+    → BreaksOff steps waits limits input rest old new written
+BreaksOff-one steps waits limits input rest old new message reply written unwritten said answered cut = record {
   mid = input;
   now = old;
   earlier = [];
-  whole = Exchange-none steps limits input old;
+  whole = Exchange-none steps waits limits input old;
   message = message;
   reply = reply;
   read = said;
@@ -70,14 +71,14 @@ BreaksOff-one steps limits input rest old new message reply written unwritten sa
   joined = refl;
 }
 
-pub BreaksOff-after : {D : Type 0} (steps : D → Event → Reply → D → Type 0) (limits : Limits) (input mid rest : List ℕ) (old now new : D) (text more : List ℕ)
-    → Exchange steps limits input mid old now text → BreaksOff steps limits mid rest now new more
-    → BreaksOff steps limits input rest old new (text ++ more)
-BreaksOff-after steps limits input mid rest old now new text more a b = record {
+pub BreaksOff-after : {D : Type 0} (steps : D → Event → Reply → D → Type 0) (waits : WaitLaw D) (limits : Limits) (input mid rest : List ℕ) (old now new : D) (text more : List ℕ)
+    → Exchange steps waits limits input mid old now text → BreaksOff steps waits limits mid rest now new more
+    → BreaksOff steps waits limits input rest old new (text ++ more)
+BreaksOff-after steps waits limits input mid rest old now new text more a b = record {
   mid = b.mid;
   now = b.now;
   earlier = text ++ b.earlier;
-  whole = Exchange-append steps limits input mid b.mid old now b.now text b.earlier a b.whole;
+  whole = Exchange-append steps waits limits input mid b.mid old now b.now text b.earlier a b.whole;
   message = b.message;
   reply = b.reply;
   read = b.read;
@@ -89,10 +90,10 @@ BreaksOff-after steps limits input mid rest old now new text more a b = record {
 }
 
 -- an exchange, and then one after which the writer failed
-pub CutsOff-after : {D : Type 0} (steps : D → Event → Reply → D → Type 0) (limits : Limits) (input mid rest : List ℕ) (old now new : D) (text more : List ℕ)
-    → Exchange steps limits input mid old now text → CutsOff steps limits mid rest now new more
-    → CutsOff steps limits input rest old new (text ++ more)
-CutsOff-after steps limits input mid rest old now new text more a b = elim b [
-  | inl whole ↦ inl (Exchange-append steps limits input mid rest old now new text more a whole)
-  | inr broken ↦ inr (BreaksOff-after steps limits input mid rest old now new text more a broken)
+pub CutsOff-after : {D : Type 0} (steps : D → Event → Reply → D → Type 0) (waits : WaitLaw D) (limits : Limits) (input mid rest : List ℕ) (old now new : D) (text more : List ℕ)
+    → Exchange steps waits limits input mid old now text → CutsOff steps waits limits mid rest now new more
+    → CutsOff steps waits limits input rest old new (text ++ more)
+CutsOff-after steps waits limits input mid rest old now new text more a b = elim b [
+  | inl whole ↦ inl (Exchange-append steps waits limits input mid rest old now new text more a whole)
+  | inr broken ↦ inr (BreaksOff-after steps waits limits input mid rest old now new text more a broken)
 ]

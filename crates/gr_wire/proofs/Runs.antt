@@ -14,6 +14,7 @@ use Rattle.gr_book.specs.Machine.{Machine}
 use Rattle.gr_book.specs.Step.{Step}
 use Rattle.gr_book.specs.Run.{Run}
 use Rattle.gr_book.proofs.Legal.{Run-append}
+use Rattle.gr_desk.specs.Wait.{RefusesWait}
 use Rattle.gr_line.specs.declared.command.Command.{Command}
 use Rattle.gr_line.specs.declared.command.Command.TheVariants.{Look, Put, Del, Rename, Move, Undo, Redo, Cat, Uses}
 use Rattle.gr_line.specs.declared.command.Command.TheVariants as command
@@ -52,7 +53,7 @@ led_on old mid new asked reply P s rest = (
   (asked, reply) ∷ rest.0,
   (mid, s, rest.1),
   λ before after e.
-  (before ++ (asked, reply) ∷ [], refl, rest.2 (before ++ (asked, reply) ∷ []) after (e ∙ sym (append_assoc before ((asked, reply) ∷ []) rest.0))),
+      (before ++ (asked, reply) ∷ [], refl, rest.2 (before ++ (asked, reply) ∷ []) after (e ∙ sym (append_assoc before ((asked, reply) ∷ []) rest.0))),
 )
 
 given_back : (old new : Machine) (job : JobRecord) → GivesBack Step old job new → IsRun old new (λ a b. GivesBack Notes a job b)
@@ -114,6 +115,7 @@ acted_on old new view command.Faults answer h = ([], h.1, λ before after n. (h.
 acted_on old new view (command.Object path) answer h = ([], h.1, λ before after n. (h.0, nothing before after n))
 acted_on old new view command.Work answer h = worked old new answer h
 acted_on old new view (command.Log number) answer h = absurd h
+acted_on old new view command.Wait answer h = absurd h
 
 continued : (old new : Machine) (reply : Reply) (asked : Command) (answer : Response) → Continues Step old reply asked answer new
     → IsRun old new (λ a b. Continues Notes a reply asked answer b)
@@ -127,14 +129,15 @@ continued old new (Taken job) asked answer h = absurd h.0
 continued old new (Refused refusal) asked answer h = ([], h.1, λ before after n. (h.0, nothing before after n))
 continued old new (Back refusal job unit) asked answer h = absurd h.0
 
-acted : (old new : Machine) (asked : Command) (answer : Response) → Acts Step old asked answer new → IsRun old new (λ a b. Acts Notes a asked answer b)
+acted : (old new : Machine) (asked : Command) (answer : Response) → Acts Step RefusesWait old asked answer new → IsRun old new (λ a b. Acts Notes RefusesWait a asked answer b)
 acted old new (command.Log number) answer h = sent old new (event.Log number) answer h
+acted old new command.Wait answer h = ([], h.1.1, λ before after n. (h.0, (h.1.0, nothing before after n), h.2))
 acted old new asked answer h =
     let g = led_on old h.1 new event.Look h.0 (λ (a b : Events). Continues Notes a h.0 asked answer b) h.2 (continued h.1 new h.0 asked answer h.3) in
     (g.0, g.1, λ before after e. let n = g.2 before after e in (h.0, n.0, n.1, n.2))
 
-answered : (old new : Machine) (message : Message) (reply : Response) → Answered Step old message reply new
-    → IsRun old new (λ a b. Answered Notes a message reply b)
+answered : (old new : Machine) (message : Message) (reply : Response) → Answered Step RefusesWait old message reply new
+    → IsRun old new (λ a b. Answered Notes RefusesWait a message reply b)
 answered old new (Ask asked) reply h = elim h [
   | inl k ↦ let g = acted old new asked reply k in (g.0, g.1, λ before after e. inl (g.2 before after e))
   | inr k ↦ ([], k.1, λ before after n. inr (k.0, nothing before after n))
@@ -142,8 +145,8 @@ answered old new (Ask asked) reply h = elim h [
 answered old new Unknown reply h = ([], h.1, λ before after n. (h.0, nothing before after n))
 answered old new CutShort reply h = ([], h.1, λ before after n. (h.0, nothing before after n))
 
-all_answered : (old new : Machine) (ms : List Message) (rs : List Response) → AnswersAll Step old ms rs new
-    → IsRun old new (λ a b. AnswersAll Notes a ms rs b)
+all_answered : (old new : Machine) (ms : List Message) (rs : List Response) → AnswersAll Step RefusesWait old ms rs new
+    → IsRun old new (λ a b. AnswersAll Notes RefusesWait a ms rs b)
 all_answered old new [] [] h = ([], h, nothing)
 all_answered old new [] (r ∷ rs) h = absurd h
 all_answered old new (m ∷ ms) [] h = absurd h
@@ -164,8 +167,8 @@ exchange_runs limits input rest old new text h =
     let g = all_answered old new h.messages h.replies h.run in
     (g.0, g.1, record { messages = h.messages; replies = h.replies; read = h.read; run = g.2 [] g.0 refl; written = h.written })
 
-broken_runs : (limits : Limits) (input rest : List ℕ) (old new : Machine) (text : List ℕ) → BreaksOff Step limits input rest old new text
-    → (events : Events) × Run old events new × BreaksOff Notes limits input rest [] events text
+broken_runs : (limits : Limits) (input rest : List ℕ) (old new : Machine) (text : List ℕ) → BreaksOff Step RefusesWait limits input rest old new text
+    → (events : Events) × Run old events new × BreaksOff Notes RefusesWait limits input rest [] events text
 broken_runs limits input rest old new text h =
     let before = exchange_runs limits input h.mid old h.now h.earlier h.whole in
     let last = answered h.now new h.message h.reply h.run in (

@@ -3,16 +3,17 @@ use Rattle.std.specs.Prelude.{◌≡◌, List, [], ◌∷◌, ◌⊎◌}
 use Rattle.gr_text.specs.declared.refusal.Refusal.TheVariants.{Memory, BadCommand, BodyShort}
 use Rattle.gr_book.specs.declared.event.Event.{Event}
 use Rattle.gr_book.specs.declared.event.Reply.{Reply}
+use Rattle.gr_desk.specs.Wait.{WaitLaw}
 use Rattle.gr_line.specs.declared.command.Response.{Response}
 use Rattle.gr_line.specs.declared.command.Response.TheVariants.{Refused}
 use Rattle.gr_desk.specs.Act.{Acts}
 use Rattle.gr_line.specs.declared.message.Message.{Message}
 use Rattle.gr_line.specs.declared.message.Message.TheVariants.{Ask, Unknown, CutShort}
 
-module _ {D : Type 0} (steps : D → Event → Reply → D → Type 0) where
+module _ {D : Type 0} (steps : D → Event → Reply → D → Type 0) (waits : WaitLaw D) where
   -- from old, a session may answer this message so; want of memory to keep a command changes nothing
   abbrev pub Answered : D → Message → Response → D → Type 0
-  Answered old (Ask command) reply new = Acts steps old command reply new ⊎ ((reply ≡ Refused Memory) × (new ≡ old))
+  Answered old (Ask command) reply new = Acts steps waits old command reply new ⊎ ((reply ≡ Refused Memory) × (new ≡ old))
   Answered old Unknown reply new = (reply ≡ Refused BadCommand) × (new ≡ old)
   Answered old CutShort reply new = (reply ≡ Refused BodyShort) × (new ≡ old)
 

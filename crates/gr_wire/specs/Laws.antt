@@ -6,6 +6,7 @@ use Rattle.gr_book.specs.declared.event.Reply.{Reply}
 use Rattle.gr_book.specs.Machine.{Machine}
 use Rattle.gr_book.specs.Step.{Step}
 use Rattle.gr_book.specs.Run.{Run}
+use Rattle.gr_desk.specs.Wait.{RefusesWait}
 use Rattle.gr_wire.specs.Transcript.{Exchange, CutsOff}
 
 -- A list of events that grows by each event, with its reply, and knows nothing else. As what a desk does it says which events the
@@ -17,11 +18,11 @@ Notes old event reply new = new ≡ old ++ (event, reply) ∷ []
 -- text is that of the answers that the messages make of these events' replies.
 abbrev pub RunsTheMachine : Type 0
 RunsTheMachine = (limits : Limits) (input rest : List ℕ) (old new : Machine) (text : List ℕ)
-    → Exchange Step limits input rest old new text
-    → (events : List (Event × Reply)) × Run old events new × Exchange Notes limits input rest [] events text
+    → Exchange Step RefusesWait limits input rest old new text
+    → (events : List (Event × Reply)) × Run old events new × Exchange Notes RefusesWait limits input rest [] events text
 
 -- the same where the writer fails
 abbrev pub RunsUntilCutOff : Type 0
 RunsUntilCutOff = (limits : Limits) (input rest : List ℕ) (old new : Machine) (text : List ℕ)
-    → CutsOff Step limits input rest old new text
-    → (events : List (Event × Reply)) × Run old events new × CutsOff Notes limits input rest [] events text
+    → CutsOff Step RefusesWait limits input rest old new text
+    → (events : List (Event × Reply)) × Run old events new × CutsOff Notes RefusesWait limits input rest [] events text

@@ -44,7 +44,7 @@ fn refuse(refusal: Refusal) -> Response
 }
 
 fn answer<D: Desk>(alloc: Global, desk: &mut D, message: Message) -> Response
-    ensures { Answered D.steps desk.old message result desk.new }
+    ensures { Answered D.steps D.waits desk.old message result desk.new }
 {
     match message {
         Message::Ask(command) => act(alloc, desk, command),
@@ -101,7 +101,7 @@ fn serve_next<S: Source, T: Sink, D: Desk>(
     limits: &Limits,
 ) -> Result<bool, SessionFault>
     requires reads { S.reads source.old + reads_left.old < 2 ^ 64 }
-    ensures step { StepEnds D.steps limits.now (S.remaining source.old) (S.remaining source.new)
+    ensures step { StepEnds D.steps D.waits limits.now (S.remaining source.old) (S.remaining source.new)
         (T.contents sink.old) (T.contents sink.new) desk.old desk.new result }
     ensures sent { StepLeavesSent (T.sent sink.new) result }
     ensures counted { CountsFaults (S.failures source.old) (S.failures source.new)
@@ -135,7 +135,7 @@ pub fn session<S: Source, T: Sink, D: Desk>(
     limits: Limits,
 ) -> Result<(), SessionFault>
     requires { S.reads source.old + limits.reads < 2 ^ 64 }
-    ensures session { SessionEnds D.steps limits (S.remaining source.old) (S.remaining source.new)
+    ensures session { SessionEnds D.steps D.waits limits (S.remaining source.old) (S.remaining source.new)
         (T.contents sink.old) (T.contents sink.new) desk.old desk.new result }
     ensures sent { LeavesSent (T.sent sink.new) result }
     ensures counted { CountsFaults (S.failures source.old) (S.failures source.new)

@@ -1,6 +1,7 @@
 //! A session over memory.
 ghost use Rattle.std.specs.Prelude.{MatchResult};
 ghost use Rattle.gr_book.specs.Step.{Step};
+ghost use Rattle.gr_desk.specs.Wait.{RefusesWait};
 ghost use Rattle.gr_wire.specs.Transcript.{IsTranscript, EndsEarly};
 
 use crate::exchange::{SessionFault, session};
@@ -17,8 +18,8 @@ pub fn transcript(
     solo: &mut Solo,
     limits: Limits,
 ) -> Result<Vec<u8>, SessionFault>
-    ensures { MatchResult result (λ text. IsTranscript Step limits input.now solo.old solo.new text.items)
-        (λ fault. EndsEarly Step limits input.now solo.old solo.new fault) }
+    ensures { MatchResult result (λ text. IsTranscript Step RefusesWait limits input.now solo.old solo.new text.items)
+        (λ fault. EndsEarly Step RefusesWait limits input.now solo.old solo.new fault) }
 {
     let mut source = Reading::new(input);
     let mut sink = Writing::new(Vec::new(alloc));

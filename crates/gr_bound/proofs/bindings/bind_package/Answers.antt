@@ -19,17 +19,17 @@ pub bind_unit-requires-clause-sound : goal.bind_unit-requires-clause-sound
 bind_unit-requires-clause-sound c = c.requires.read.sound
 
 pub bind_unit-requires-clause-own : goal.bind_unit-requires-clause-own
-bind_unit-requires-clause-own c = c.own_of-own.ensures (package_of c.unit.result) c.unit.ensures
+bind_unit-requires-clause-own c = c.own_of-own.ensures (package_of c.unit-unit.result) c.unit-unit.ensures
 
 pub bind_unit-requires-clause-members : goal.bind_unit-requires-clause-members
-bind_unit-requires-clause-members c = c.members_of-members.ensures (package_of c.unit.result) c.unit.ensures
+bind_unit-requires-clause-members c = c.members_of-members.ensures (package_of c.unit-unit.result) c.unit-unit.ensures
 
 pub returns : goal.returns
 returns c =
     let w = c.args.packages.now.graph.now in
     let known = known_in c.args.packages.now.found.now in
-    let p = package_of c.unit.result in
+    let p = package_of c.unit-unit.result in
     call_all c.args.bound.now.items c.bind_unit.new.bound.items (BoundIn p (IsBoundTo w known p)) (IsBoundAt w known c.args.number) c.bind_unit.result
-    (λ b h. record { used_in = p; is_package = c.unit.ensures; bound = h })
-    (λ b h. subst (λ (x : Package). BoundIn x (IsBoundTo w known x) b) (one_at w known c.args.number h.used_in p h.is_package c.unit.ensures) h.bound)
+    (λ b h. record { used_in = p; is_package = c.unit-unit.ensures; bound = h })
+    (λ b h. subst (λ (x : Package). BoundIn x (IsBoundTo w known x) b) (one_at w known c.args.number h.used_in p h.is_package c.unit-unit.ensures) h.bound)
     c.bind_unit.ensures

@@ -9,6 +9,6 @@ pub returns : goal.returns
 returns c =
     let w = c.args.packages.now.graph.now in
     let known = known_in c.args.packages.now.found.now in
-    let p = package_of c.unit.result in
+    let p = package_of c.unit-unit.result in
     IfOk-weaker c.unit_places.result (AreDeclaredIn p) (AreDeclaredAt w known c.args.number)
-    (λ places h. record { inside = p; is_package = c.unit.ensures; declared = h }) c.unit_places.ensures
+    (λ places h. record { inside = p; is_package = c.unit-unit.ensures; declared = h }) c.unit_places.ensures

@@ -11,7 +11,7 @@ returns c =
     let w = c.args.packages.now.graph.now in
     let known = known_in c.args.packages.now.found.now in
     let n = c.args.number in
-    let p = package_of c.unit.result in
+    let p = package_of c.unit-unit.result in
     call_all c.args.places.now.items c.add_unit.new.found.items (BeginsIn p) (BeginsInNumber w known n) c.add_unit.result
-    (λ place h. of_number w known n p place c.unit.ensures h)
-    (λ place h. in_number w known n p place c.unit.ensures h) c.add_unit.ensures
+    (λ place h. of_number w known n p place c.unit-unit.ensures h)
+    (λ place h. in_number w known n p place c.unit-unit.ensures h) c.add_unit.ensures

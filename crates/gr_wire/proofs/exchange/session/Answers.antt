@@ -7,7 +7,7 @@ use Rattle.gr_wire.proofs.exchange.session.Goals as goal
 pub loop-line-init : goal.loop-line-init
 loop-line-init g c = record {
   reads = search rules;
-  step = StepEnds-none g.D.Desk.steps c.args.limits (g.S.Source.remaining c.args.source.now) (g.T.Sink.contents c.args.sink.now) c.args.desk.now;
+  step = StepEnds-none g.D.Desk.steps g.D.Desk.waits c.args.limits (g.S.Source.remaining c.args.source.now) (g.T.Sink.contents c.args.sink.now) c.args.desk.now;
   reader = search rules;
   writer = search rules;
 }
@@ -16,11 +16,11 @@ pub returns-in_err-serve_next-clause-session : goal.returns-in_err-serve_next-cl
 returns-in_err-serve_next-clause-session g c =
     let p = err_from_is_err_and c.from_residual.result c.from_residual.ensures.1 in
     let fault = c.in_err-serve_next.field-0.0 in
-    SessionEnds-from_step g.D.Desk.steps c.args.limits
+    SessionEnds-from_step g.D.Desk.steps g.D.Desk.waits c.args.limits
     (g.S.Source.remaining c.args.source.now) (g.S.Source.remaining c.serve_next.new.source)
     (g.T.Sink.contents c.args.sink.now) (g.T.Sink.contents c.serve_next.new.sink)
     c.args.desk.now c.serve_next.new.desk fault c.from_residual.result
-    (StepEnds-append g.D.Desk.steps c.args.limits
+    (StepEnds-append g.D.Desk.steps g.D.Desk.waits c.args.limits
     (g.S.Source.remaining c.args.source.now) (g.S.Source.remaining c.loop-line.source) (g.S.Source.remaining c.serve_next.new.source)
     (g.T.Sink.contents c.args.sink.now) (g.T.Sink.contents c.loop-line.sink) (g.T.Sink.contents c.serve_next.new.sink)
     c.args.desk.now c.loop-line.desk c.serve_next.new.desk (Err fault)
@@ -30,7 +30,7 @@ returns-in_err-serve_next-clause-session g c =
 pub loop-line-preserved : goal.loop-line-preserved
 loop-line-preserved g c = record {
   reads = c.in_ok-serve_next.ensures.reads ∙ c.loop-line.invariant.reads;
-  step = StepEnds-append g.D.Desk.steps c.args.limits
+  step = StepEnds-append g.D.Desk.steps g.D.Desk.waits c.args.limits
       (g.S.Source.remaining c.args.source.now) (g.S.Source.remaining c.loop-line.source) (g.S.Source.remaining c.serve_next.new.source)
       (g.T.Sink.contents c.args.sink.now) (g.T.Sink.contents c.loop-line.sink) (g.T.Sink.contents c.serve_next.new.sink)
       c.args.desk.now c.loop-line.desk c.serve_next.new.desk (Ok true)
@@ -41,7 +41,7 @@ loop-line-preserved g c = record {
 
 pub returns-clause-session : goal.returns-clause-session
 returns-clause-session g c =
-    StepEnds-append g.D.Desk.steps c.args.limits
+    StepEnds-append g.D.Desk.steps g.D.Desk.waits c.args.limits
     (g.S.Source.remaining c.args.source.now) (g.S.Source.remaining c.loop-line.source) (g.S.Source.remaining c.serve_next.new.source)
     (g.T.Sink.contents c.args.sink.now) (g.T.Sink.contents c.loop-line.sink) (g.T.Sink.contents c.serve_next.new.sink)
     c.args.desk.now c.loop-line.desk c.serve_next.new.desk (Ok false)
