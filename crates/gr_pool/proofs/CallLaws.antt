@@ -19,6 +19,7 @@ use Rattle.gr_book.specs.Machine.{Machine}
 use Rattle.gr_book.specs.Step.{Step}
 use Rattle.gr_pool.specs.declared.receipt.Receipt.{Receipt}
 use Rattle.gr_pool.specs.Call.{Calls, Gains, IsBuilt, IsLack, IsLook, IsReceiptOf, IsStepOf, IsWork, Looks, LooksUntilBuilt, StepsAt, is_work}
+use Rattle.gr_pool.specs.Working.{Replies}
 use Rattle.gr_pool.proofs.GainsLaws.{gains_more}
 
 -- what one step of a book is to its caller
@@ -48,23 +49,29 @@ refusal_in : Reply → Refusal
 refusal_in (Refused refusal) = refusal
 refusal_in reply = Memory
 
-pub looked_view : (old : List Receipt) (view : View) (index : Option ℕ) (new : List Receipt) → Calls old Look (Looked view) index new → Looks old (Ok view) new
-looked_view old view (Some index) new calls = (index, calls)
-looked_view old view None new calls =
+shows_view : (old : List Receipt) (view : View) (index : Option ℕ) (new : List Receipt) → Calls old Look (Looked view) index new → Looks old (Ok view) new
+shows_view old view (Some index) new calls = (index, calls)
+shows_view old view None new calls =
     absurd (⊎_elim (λ (e : Looked view ≡ Refused Memory). none-some _ (sym (ap told_of e))) (λ (e : Looked view ≡ Refused JournalFull). none-some _ (sym (ap told_of e))) calls.0)
+
+pub looked_view : (old : List Receipt) (view : View) (new : List Receipt) → Replies old Look (Looked view) new → Looks old (Ok view) new
+looked_view old view new replied = shows_view old view replied.0 new replied.1
 
 look_refused : (old : Machine) (refusal : Refusal) (new : Machine) (told : Told) → Step old Look (Refused refusal) new → told_of (Refused refusal) ≡ Some told → ⊥
 look_refused old Memory new told s is = none-some told is
 look_refused old JournalFull new told s is = none-some told is
 look_refused old refusal new told s is = s.1
 
-pub looked_refusal : (old : List Receipt) (refusal : Refusal) (index : Option ℕ) (new : List Receipt) → Calls old Look (Refused refusal) index new → Looks old (Err refusal) new
+turns_away : (old : List Receipt) (refusal : Refusal) (index : Option ℕ) (new : List Receipt) → Calls old Look (Refused refusal) index new → Looks old (Err refusal) new
 unfolding refusal_in
-looked_refusal old refusal (Some index) new calls =
+turns_away old refusal (Some index) new calls =
     let step = calls.2.2.2 in
     absurd (look_refused calls.2.0 refusal calls.2.1 step.1.0.0 step.0 step.1.0.1)
-looked_refusal old refusal None new calls =
+turns_away old refusal None new calls =
     (⊎_elim (λ (e : Refused refusal ≡ Refused Memory). inl (ap refusal_in e)) (λ (e : Refused refusal ≡ Refused JournalFull). inr (ap refusal_in e)) calls.0, calls.1)
+
+pub looked_refusal : (old : List Receipt) (refusal : Refusal) (new : List Receipt) → Replies old Look (Refused refusal) new → Looks old (Err refusal) new
+looked_refusal old refusal new replied = turns_away old refusal replied.0 new replied.1
 
 -- one look more
 pub looks_on : (old mid : List Receipt) (view : View) (new : List Receipt) → Gains IsLook old mid → Looks mid (Ok view) new → Gains IsLook old new

@@ -3,4 +3,5 @@ pub mod GainsLaws
 pub mod PairLaws
 pub mod ReceiptLaws
 pub mod CallLaws
+pub mod WorkLaws
 pub mod UnitLaws
