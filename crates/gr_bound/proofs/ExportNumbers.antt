@@ -6,19 +6,16 @@ use Rattle.std.specs.BTreeMap.{BTreeMap, Updates}
 use Rattle.std.specs.Cmp.Lexicographic.{slice_cmp}
 use Rattle.std.specs.Ordering.{nat_cmp}
 use Rattle.std.proofs.lemmas.Bool.{cases_lt}
-use Rattle.std.proofs.lemmas.List.{length_push}
 use Rattle.std.proofs.lemmas.Option.{same_Some, slice_get_within}
 use Rattle.gr_text.specs.Packages.{package_paths}
 use Rattle.gr_text.specs.Workspace.{Workspace}
 use Rattle.gr_declared.specs.Package.{Package}
 use Rattle.gr_types.specs.Interfaces.{IsSeen}
-use Rattle.gr_meanings.proofs.BoundLists.{pushed_at}
 use Rattle.gr_declared.proofs.ByteKeys.{cases_bytes, others_stay}
-use Rattle.gr_declared.proofs.Paths.{get_before}
 use Rattle.gr_verdict.specs.Verdicts.{Verdicts}
 use Rattle.gr_bound.specs.declared.declaration.Declaration.{Declaration}
 use Rattle.gr_bound.specs.declared.declaration.Declaration.TheVariants.{Declared}
-use Rattle.gr_bound.specs.Exports.{number_named, IsExportedBelow, AreNumbersBelow, AreNumbers, AreNumbersAt, AreExportsBelow}
+use Rattle.gr_bound.specs.Exports.{number_named, IsExportedBelow, AreNumbersBelow, AreNumbers, AreNumbersAt}
 use Rattle.gr_bound.specs.Workspaces.{ExportsAs}
 use Rattle.gr_bound.proofs.Exporting.{none_exported, number_exported}
 
@@ -59,29 +56,6 @@ found_of_all p n name (Some d) within h = (h.seen, h.named)
 
 pub all_numbers_of : (p : Package) (n : ℕ) (numbers : List ℕ → Option ℕ) → ((d : ℕ) → IsSeen p d → d < n) → AreNumbersBelow p n numbers → AreNumbers p numbers
 all_numbers_of p n numbers within h = λ name. found_of_all p n name (numbers name) within (h name)
-
--- one more package
-
-pub no_exports : (w : Workspace) (known : Verdicts) (list : List (BTreeMap (Vec ℕ) ℕ)) → list ≡ [] → AreExportsBelow w known 0 list
-no_exports w known list e = record {
-  size = ap length e;
-  each = λ n numbers at. let lt : n < length list = slice_get_within list n numbers at in let z : length list ≡ 0 = ap length e in absurd (omega arith);
-}
-
-pub more_exports : (w : Workspace) (known : Verdicts) (count : ℕ) (old new : List (BTreeMap (Vec ℕ) ℕ)) (x : BTreeMap (Vec ℕ) ℕ) → new ≡ old ++ (x ∷ []) → AreNumbersAt w known count x →
-    AreExportsBelow w known count old → AreExportsBelow w known (count + 1) new
-more_exports w known count old new x e is h = record {
-  size = ap length e ∙ length_push old x ∙ ap (λ n. n + 1) h.size;
-  each = λ n numbers has. elim (cases_lt n count) [
-    | inl below ↦ h.each n numbers (sym (get_before old x n (subst (λ m. n < m) (sym h.size) below)) ∙ ap (λ l. slice_get l n) (sym e) ∙ has)
-    | inr ge ↦ (
-        let lt : n < length new = slice_get_within new n numbers has in
-        let size : length new ≡ count + 1 = ap length e ∙ length_push old x ∙ ap (λ m. m + 1) h.size in
-        let here : n ≡ count = omega arith in
-        let same : x ≡ numbers = same_Some x numbers (sym (pushed_at old new x e) ∙ ap (slice_get new) (h.size ∙ sym here) ∙ has) in
-        subst (AreNumbersAt w known n) same (subst (λ m. AreNumbersAt w known m x) (sym here) is))
-  ];
-}
 
 -- what the package of a path exports under a name
 

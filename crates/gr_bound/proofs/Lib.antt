@@ -1,5 +1,6 @@
 -- The lemmas of this crate.
 pub mod Adding
+pub mod Each
 pub mod Files
 pub mod Spots
 pub mod Tokens

@@ -36,6 +36,7 @@ use Rattle.gr_verdict.proofs.OnePackage.{one_checked}
 use Rattle.gr_verdict.proofs.OneVerdict.{right_alike, right_below, verdict_by}
 use Rattle.gr_bound.specs.Members.{KnowsOwn, definitions_or_none}
 use Rattle.gr_bound.specs.Uses.{IsPackage}
+use Rattle.gr_bound.specs.Packages.{IsSeenBy, IsTableAs}
 use Rattle.gr_bound.specs.Workspaces.{IsSound, IsPackageAt}
 
 empty_in_order : IsStrictlySortedBy fault_cmp []
@@ -128,6 +129,15 @@ unit_at w known n path ts seen laid lt of_path parsed are is =
     let e = sym (of_path x.0 x.1) in
     package_at w known n path ts seen (name_in seen) laid (x.1 ∙ ap Some e) (subst (λ q. AreParsed (package_files w q) ts []) e (parsed x.0 x.1))
     (subst (λ q. AreSeen w known q (name_in seen) (interface_in seen)) e (are x.0 x.1)) is
+
+-- its table has its files
+pub table_at : (w : Workspace) (known : Verdicts) (n : ℕ) (ts : List FileParts) (seen : Interfaces) (laid : ScopedPackage) →
+    OfPackage w n (λ p. AreParsed (package_files w p) ts []) → IsSeenBy w known n seen → IsLaidOver (map source_of ts) (name_in seen) (scoped ts) laid →
+    IsTableAs w known n laid seen
+table_at w known n ts seen laid parsed are is = λ path at.
+    let files : ts ≡ laid.files = ap (λ (p : ScopedPackage). p.files) (sym is.is_named) in
+    subst (λ fs. IsPackageAt w known n (package_in path (map source_of fs) laid (interface_in seen))) files
+    (package_at w known n path ts seen (name_in seen) laid at (parsed path at) (are path at) is)
 
 -- a package is checked as one thing
 

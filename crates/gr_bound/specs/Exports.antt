@@ -1,5 +1,5 @@
 -- What the packages of a workspace export, by their numbers and by names.
-use Rattle.std.specs.Prelude.{ℕ, ◌≡◌, ◌<◌, List, Option, Some, None, length, slice_get, MatchOption}
+use Rattle.std.specs.Prelude.{ℕ, ◌≡◌, ◌<◌, List, Option, length, MatchOption}
 use Rattle.std.specs.Global.{Vec}
 use Rattle.std.specs.BTreeMap.{BTreeMap, get_by}
 use Rattle.std.specs.Cmp.Lexicographic.{slice_cmp}
@@ -10,6 +10,7 @@ use Rattle.gr_declared.specs.Package.{Package}
 use Rattle.gr_types.specs.Interfaces.{IsSeen}
 use Rattle.gr_verdict.specs.Verdicts.{Verdicts}
 use Rattle.gr_bound.specs.Workspaces.{IsPackageAt}
+use Rattle.gr_bound.specs.Packages.{HoldsOfEach}
 
 -- the number that a map has for a name
 abbrev pub number_named : BTreeMap (Vec ℕ) ℕ → List ℕ → Option ℕ
@@ -33,11 +34,6 @@ AreNumbers p numbers = (name : List ℕ) → MatchOption (numbers name) ((d : �
 abbrev pub AreNumbersAt : Workspace → Verdicts → ℕ → BTreeMap (Vec ℕ) ℕ → Type 0
 AreNumbersAt w known n numbers = (p : Package) × (IsPackageAt w known n p × AreNumbers p (number_named numbers))
 
--- the same of each of the first packages
-pub record AreExportsBelow (w : Workspace) (known : Verdicts) (count : ℕ) (list : List (BTreeMap (Vec ℕ) ℕ)) : Type 0 where
-  pub size : length list ≡ count
-  pub each : (n : ℕ) (numbers : BTreeMap (Vec ℕ) ℕ) → slice_get list n ≡ Some numbers → AreNumbersAt w known n numbers
-
 -- the same of all packages
 abbrev pub AreExports : Workspace → Verdicts → List (BTreeMap (Vec ℕ) ℕ) → Type 0
-AreExports w known list = AreExportsBelow w known (length (package_paths w)) list
+AreExports w known list = HoldsOfEach (AreNumbersAt w known) (length (package_paths w)) list

@@ -6,5 +6,6 @@ pub mod Uses
 pub mod Steps
 pub mod Members
 pub mod Workspaces
+pub mod Packages
 pub mod Exports
 pub mod Bindings

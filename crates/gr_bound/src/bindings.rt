@@ -1,37 +1,26 @@
 //! All bound identifiers of a workspace, by their places.
-ghost use Rattle.std.specs.Prelude.{ℕ, ◌≡◌, ◌<◌, ◌↔◌, length, map, Contains, IfOk, OnOk, MatchOption};
+ghost use Rattle.std.specs.Prelude.{ℕ, ◌≡◌, ◌<◌, ◌↔◌, length, Contains, IfOk, OnOk, MatchOption};
 ghost use Rattle.std.specs.List.Sorted.{IsSortedBy};
 ghost use Rattle.std.specs.Ordering.{is_lt};
 ghost use Rattle.gr_text.specs.Packages.{package_paths};
 ghost use Rattle.gr_text.specs.Workspace.{Workspace};
-ghost use Rattle.gr_tree.specs.SourceFile.{source_of};
-ghost use Rattle.gr_meanings.specs.PackageOf.{package_in};
-ghost use Rattle.gr_declared.specs.InterfacesView.{interface_in};
-ghost use Rattle.gr_meanings.specs.MemberUses.{AreMemberUses, uses_in};
 ghost use Rattle.gr_verdict.specs.Verdicts.{Verdicts};
 ghost use Rattle.gr_bound.specs.declared.bound_spot.BoundSpot.{BoundSpot as Bound};
 ghost use Rattle.gr_bound.specs.declared.declaration.Declaration.{Declaration as Declared};
-ghost use Rattle.gr_bound.specs.Bindings.{AddsAll, BoundIn, IsBoundAt, IsBound, AreBindings, place_at};
+ghost use Rattle.gr_bound.specs.Bindings.{AddsAll, IsBoundAt, IsBound, AreBindings, place_at};
 ghost use Rattle.gr_bound.specs.Exports.{AreExports};
-ghost use Rattle.gr_bound.specs.Members.{KnowsOwn};
+ghost use Rattle.gr_bound.specs.Packages.{ArePackages};
 ghost use Rattle.gr_bound.specs.Places.{place_cmp};
-ghost use Rattle.gr_bound.specs.Uses.{IsBoundTo, IsUseOf};
-ghost use Rattle.gr_bound.specs.Workspaces.{IsSound, known_in};
+ghost use Rattle.gr_bound.specs.Uses.{IsUseOf};
+ghost use Rattle.gr_bound.specs.Workspaces.{known_in};
 
 use crate::bound_spot::BoundSpot;
 use crate::bound_unit::bind_unit;
 use crate::declaration::Declaration;
 use crate::exports::exports;
-use crate::reading::{laid_table, members_of, own_of, path_of, trees};
-use gr_declared::{Interfaces, Package};
-use gr_expr::found::MemberUse;
-use gr_expr::symbol::SharedPath;
-use gr_expr::world::Definition;
-use gr_graph::Graph;
-use gr_scope::table::ScopeTable;
+use crate::packages::Packages;
+use crate::reading::{members_of, own_of};
 use gr_text::Place;
-use gr_tree::FileTree;
-use gr_verdict::{Findings, seen};
 use std::alloc::{AllocError, Global};
 use std::cmp::Ordering;
 use std::collections::BTreeMap;
@@ -58,75 +47,40 @@ impl Model for Bindings {
     ghost invariant = { λ a. IsSortedBy (λ b c. is_lt (place_cmp (place_at b) (place_at c))) a.bound.items };
 }
 
-/// Adds the bound identifiers of the package of a path.
-fn bind_by(
-    alloc: Global,
-    bound: &mut Vec<BoundSpot>,
-    graph: &Graph,
-    found: &Findings,
-    exports: &[BTreeMap<Vec<u8>, usize>],
-    path: &SharedPath,
-    files: &[FileTree],
-    table: &ScopeTable<'_>,
-    interfaces: &Interfaces,
-    own: &[Definition],
-    members: &[Vec<MemberUse>],
-) -> Result<(), AllocError>
-    requires sound { IsSound graph.now found.now }
-    requires exports { AreExports graph.now (known_in found.now) exports.now }
-    requires own { KnowsOwn (package_in path.now (map source_of files.now) table.now (interface_in interfaces.now)) own.now }
-    requires members { AreMemberUses (package_in path.now (map source_of files.now) table.now (interface_in interfaces.now)) (map uses_in members.now) }
-    ensures { let p = package_in path.now (map source_of files.now) table.now (interface_in interfaces.now) in
-        OnOk result (AddsAll bound.old.items bound.new.items (BoundIn p (IsBoundTo graph.now (known_in found.now) p))) }
-{
-    let unit = Package {
-        path,
-        files,
-        table,
-        interfaces,
-    };
-    bind_unit(alloc, bound, graph, found, exports, unit, own, members)
-}
-
 /// Adds the bound identifiers of the package of a number.
 fn bind_package(
     alloc: Global,
     bound: &mut Vec<BoundSpot>,
-    graph: &Graph,
-    found: &Findings,
+    packages: &Packages<'_>,
     exports: &[BTreeMap<Vec<u8>, usize>],
     number: usize,
 ) -> Result<(), AllocError>
-    requires in_range { number < length (package_paths graph.now) }
-    requires sound { IsSound graph.now found.now }
-    requires exports { AreExports graph.now (known_in found.now) exports.now }
-    ensures { OnOk result (AddsAll bound.old.items bound.new.items (IsBoundAt graph.now (known_in found.now) number)) }
+    requires in_range { number < length (package_paths packages.now.graph.now) }
+    requires read { ArePackages packages.now }
+    requires exports { AreExports packages.now.graph.now (known_in packages.now.found.now) exports.now }
+    ensures { OnOk result (AddsAll bound.old.items bound.new.items (IsBoundAt packages.now.graph.now (known_in packages.now.found.now) number)) }
 {
-    let files = trees(graph, found, number);
-    let seen = seen(alloc, graph, number, &found.interfaces)?;
-    let table = laid_table(alloc, files, &seen)?;
-    let path = path_of(graph, found, number);
+    let graph = packages.graph;
+    let found = packages.found;
+    let unit = packages.unit(number);
     let own = own_of(graph, found, number);
     let members = members_of(graph, found, number);
-    bind_by(
-        alloc, bound, graph, found, exports, path, files, &table, &seen, own, members,
-    )
+    bind_unit(alloc, bound, graph, found, exports, unit, own, members)
 }
 
 /// Adds the bound identifiers of all packages.
 fn bind_all(
     alloc: Global,
     bound: &mut Vec<BoundSpot>,
-    graph: &Graph,
-    found: &Findings,
+    packages: &Packages<'_>,
     exports: &[BTreeMap<Vec<u8>, usize>],
 ) -> Result<(), AllocError>
-    requires sound { IsSound graph.now found.now }
-    requires exports { AreExports graph.now (known_in found.now) exports.now }
-    ensures { OnOk result (AddsAll bound.old.items bound.new.items (IsBound graph.now (known_in found.now))) }
+    requires read { ArePackages packages.now }
+    requires exports { AreExports packages.now.graph.now (known_in packages.now.found.now) exports.now }
+    ensures { OnOk result (AddsAll bound.old.items bound.new.items (IsBound packages.now.graph.now (known_in packages.now.found.now))) }
 {
-    for number in 0..graph.len() {
-        bind_package(alloc, bound, graph, found, exports, number)?;
+    for number in 0..packages.graph.len() {
+        bind_package(alloc, bound, packages, exports, number)?;
     }
     Ok(())
 }
@@ -140,13 +94,13 @@ pub fn sort(bound: &mut Vec<BoundSpot>)
 }
 
 /// The bound identifiers of a workspace in which nothing is a fault.
-pub fn bindings_of(alloc: Global, graph: &Graph, found: &Findings) -> Result<Bindings, AllocError>
-    requires { IsSound graph.now found.now }
-    ensures { IfOk result (AreBindings graph.now (known_in found.now)) }
+pub fn bindings_of(alloc: Global, packages: &Packages<'_>) -> Result<Bindings, AllocError>
+    requires { ArePackages packages.now }
+    ensures { IfOk result (AreBindings packages.now.graph.now (known_in packages.now.found.now)) }
 {
-    let exports = exports(alloc, graph, found)?;
+    let exports = exports(alloc, packages)?;
     let mut bound = Vec::new(alloc);
-    bind_all(alloc, &mut bound, graph, found, &exports)?;
+    bind_all(alloc, &mut bound, packages, &exports)?;
     sort(&mut bound);
     Ok(Bindings { bound })
 }

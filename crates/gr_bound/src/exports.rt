@@ -6,18 +6,20 @@ ghost use Rattle.gr_meanings.specs.PackageOf.{package_in};
 ghost use Rattle.gr_declared.specs.InterfacesView.{interface_in};
 ghost use Rattle.gr_declared.specs.PackageView.{package_of};
 ghost use Rattle.gr_bound.specs.Exports.{number_named, AreNumbersBelow, AreNumbers, AreNumbersAt, AreExports};
+ghost use Rattle.gr_bound.specs.Packages.{ArePackages};
 ghost use Rattle.gr_bound.specs.Steps.{IsDeclarationFound};
 ghost use Rattle.gr_bound.specs.Workspaces.{IsSound, known_in, ExportsAs};
 
 use crate::declaration::Declaration;
-use crate::reading::{laid_table, path_of, trees};
+use crate::packages::Packages;
+use crate::reading::path_of;
 use gr_declared::{Interfaces, Package};
 use gr_expr::symbol::SharedPath;
 use gr_graph::Graph;
 use gr_scope::table::ScopeTable;
 use gr_tree::FileTree;
 use gr_types::is_seen;
-use gr_verdict::{Findings, seen};
+use gr_verdict::Findings;
 use std::alloc::{AllocError, Global};
 use std::collections::BTreeMap;
 
@@ -72,33 +74,28 @@ pub fn numbers_by(
 /// The same of the package of a number.
 fn numbers_of(
     alloc: Global,
-    graph: &Graph,
-    found: &Findings,
+    packages: &Packages<'_>,
     number: usize,
 ) -> Result<BTreeMap<Vec<u8>, usize>, AllocError>
-    requires in_range { number < length (package_paths graph.now) }
-    requires sound { IsSound graph.now found.now }
-    ensures { IfOk result (AreNumbersAt graph.now (known_in found.now) number) }
+    requires in_range { number < length (package_paths packages.now.graph.now) }
+    requires read { ArePackages packages.now }
+    ensures { IfOk result (AreNumbersAt packages.now.graph.now (known_in packages.now.found.now) number) }
 {
-    let files = trees(graph, found, number);
-    let seen = seen(alloc, graph, number, &found.interfaces)?;
-    let table = laid_table(alloc, files, &seen)?;
-    let path = path_of(graph, found, number);
-    numbers_by(alloc, path, files, &table, &seen)
+    let unit = packages.unit(number);
+    numbers(alloc, unit)
 }
 
 /// What all packages export, by their numbers.
 pub fn exports(
     alloc: Global,
-    graph: &Graph,
-    found: &Findings,
+    packages: &Packages<'_>,
 ) -> Result<Vec<BTreeMap<Vec<u8>, usize>>, AllocError>
-    requires { IsSound graph.now found.now }
-    ensures { IfOk result (λ exports. AreExports graph.now (known_in found.now) exports.items) }
+    requires { ArePackages packages.now }
+    ensures { IfOk result (λ exports. AreExports packages.now.graph.now (known_in packages.now.found.now) exports.items) }
 {
     let mut exports = Vec::new(alloc);
-    for number in 0..graph.len() {
-        exports.push(numbers_of(alloc, graph, found, number)?)?;
+    for number in 0..packages.graph.len() {
+        exports.push(numbers_of(alloc, packages, number)?)?;
     }
     Ok(exports)
 }

@@ -5,6 +5,7 @@ use Rattle.gr_text.specs.declared.place.Place.{Place}
 use Rattle.gr_declared.specs.Package.{Package}
 use Rattle.gr_verdict.specs.Verdicts.{Verdicts}
 use Rattle.gr_bound.specs.declared.bound_spot.BoundSpot.{BoundSpot}
+use Rattle.gr_bound.specs.declared.packages.Packages.{Packages}
 use Rattle.gr_bound.specs.Bindings.{IsBound, place_at}
 use Rattle.gr_bound.specs.Identifiers.{BeginsAt}
 use Rattle.gr_bound.specs.Uses.{IsPackage}
@@ -15,9 +16,13 @@ pub record SoundView : Type 0 where
   pub workspace : Workspace
   pub known : Verdicts
 
+-- what packages that are read are seen as
+abbrev pub view_of : Packages → SoundView
+view_of p = record { workspace = p.graph.now; known = known_in p.found.now }
+
 -- what a workspace without faults is seen as
 abbrev pub view_in : SoundWorkspace → SoundView
-view_in s = record { workspace = s.graph.now; known = known_in s.found.now }
+view_in s = view_of s.packages.now
 
 -- its packages
 abbrev pub packages_of : SoundView → Package → Type 0

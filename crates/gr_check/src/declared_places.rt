@@ -5,29 +5,26 @@ ghost use Rattle.gr_text.specs.Packages.{package_paths};
 ghost use Rattle.gr_tree.specs.SourceFile.{source_of};
 ghost use Rattle.gr_scope.specs.Bindings.{Counts};
 ghost use Rattle.gr_scope.specs.Scoped.{layout_in, names_in};
-ghost use Rattle.gr_meanings.specs.PackageOf.{package_in};
-ghost use Rattle.gr_declared.specs.InterfacesView.{interface_in};
 ghost use Rattle.gr_declared.specs.Package.{Package as Checked};
 ghost use Rattle.gr_declared.specs.PackageView.{package_of};
 ghost use Rattle.gr_text.specs.declared.place.Place.{Place as At};
 ghost use Rattle.gr_verdict.specs.Verdicts.{Verdicts};
 ghost use Rattle.gr_bound.specs.Steps.{ArePlaces};
 ghost use Rattle.gr_bound.specs.Uses.{IsPackage};
-ghost use Rattle.gr_bound.specs.Workspaces.{IsSound, known_in};
+ghost use Rattle.gr_bound.specs.Packages.{ArePackages};
+ghost use Rattle.gr_bound.specs.Workspaces.{known_in};
 ghost use Rattle.gr_standing.specs.Standing.{InPackage, IsScopeAt, StandsIn, IsDeclaredAt};
 ghost use Rattle.gr_check.specs.DeclaredPlaces.{IsFound, IsFoundIn, BeginsIn, ArePlacesOf, AreDeclaredIn, AreDeclaredAt, AreDeclared, IsPlaceIn};
 
 use crate::places::place_of;
-use gr_bound::{Declaration, field_places, laid_table, method_places, path_of, trees};
-use gr_declared::{Index, Interfaces, Package};
+use gr_bound::{Declaration, Packages, field_places, method_places};
+use gr_declared::{Index, Package};
 use gr_expr::symbol::SharedPath;
 use gr_graph::Graph;
 use gr_imports::literal_of;
 use gr_scope::model::Position;
-use gr_scope::table::ScopeTable;
 use gr_text::Place;
 use gr_tree::FileTree;
-use gr_verdict::{Findings, seen};
 use std::alloc::{AllocError, Global};
 
 /// How many names are predeclared: they have the first numbers in the table of each package.
@@ -37,9 +34,9 @@ const PREDECLARED: usize = 11;
 /// their ranks.
 #[derive(Drop)]
 pub struct DeclaredPlaces {
-    names: Vec<Option<Place>>,
-    fields: Vec<Option<Place>>,
-    methods: Vec<Option<Place>>,
+    pub names: Vec<Option<Place>>,
+    pub fields: Vec<Option<Place>>,
+    pub methods: Vec<Option<Place>>,
 }
 
 /// Whether an identifier declares, and this counts.
@@ -122,55 +119,31 @@ fn unit_places(alloc: Global, unit: Package<'_>) -> Result<DeclaredPlaces, Alloc
     })
 }
 
-/// The same of the package of a path.
-fn places_by(
-    alloc: Global,
-    path: &SharedPath,
-    files: &[FileTree],
-    table: &ScopeTable<'_>,
-    interfaces: &Interfaces,
-) -> Result<DeclaredPlaces, AllocError>
-    ensures { IfOk result (AreDeclaredIn (package_in path.now (map source_of files.now) table.now (interface_in interfaces.now))) }
-{
-    let unit = Package {
-        path,
-        files,
-        table,
-        interfaces,
-    };
-    unit_places(alloc, unit)
-}
-
 /// The same of the package of a number.
 fn places_at(
     alloc: Global,
-    graph: &Graph,
-    found: &Findings,
+    packages: &Packages<'_>,
     number: usize,
 ) -> Result<DeclaredPlaces, AllocError>
-    requires in_range { number < length (package_paths graph.now) }
-    requires sound { IsSound graph.now found.now }
-    ensures { IfOk result (AreDeclaredAt graph.now (known_in found.now) number) }
+    requires in_range { number < length (package_paths packages.now.graph.now) }
+    requires read { ArePackages packages.now }
+    ensures { IfOk result (AreDeclaredAt packages.now.graph.now (known_in packages.now.found.now) number) }
 {
-    let files = trees(graph, found, number);
-    let seen = seen(alloc, graph, number, &found.interfaces)?;
-    let table = laid_table(alloc, files, &seen)?;
-    let path = path_of(graph, found, number);
-    places_by(alloc, path, files, &table, &seen)
+    let unit = packages.unit(number);
+    unit_places(alloc, unit)
 }
 
 /// Where the declarations of all packages stand, by the packages' numbers.
 pub fn declared_places(
     alloc: Global,
-    graph: &Graph,
-    found: &Findings,
+    packages: &Packages<'_>,
 ) -> Result<Vec<DeclaredPlaces>, AllocError>
-    requires { IsSound graph.now found.now }
-    ensures { IfOk result (λ all. AreDeclared graph.now (known_in found.now) all.items) }
+    requires { ArePackages packages.now }
+    ensures { IfOk result (λ all. AreDeclared packages.now.graph.now (known_in packages.now.found.now) all.items) }
 {
     let mut all = Vec::new(alloc);
-    for number in 0..graph.len() {
-        all.push(places_at(alloc, graph, found, number)?)?;
+    for number in 0..packages.graph.len() {
+        all.push(places_at(alloc, packages, number)?)?;
     }
     Ok(all)
 }

@@ -3,7 +3,7 @@
 
 mod bound_here;
 mod corresponding;
-mod declared_places;
+pub mod declared_places;
 mod held;
 mod identifier_places;
 mod keeping;

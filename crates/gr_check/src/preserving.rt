@@ -4,6 +4,7 @@ ghost use Rattle.gr_edit.specs.EditSet.{edited};
 ghost use Rattle.gr_edit.specs.Moved.{moved};
 ghost use Rattle.gr_verdict.specs.FaultLists.{ListsFaults};
 ghost use Rattle.gr_verdict.specs.Found.{AreFindings, KnowsVerdicts};
+ghost use Rattle.gr_bound.specs.Packages.{ArePackages};
 ghost use Rattle.gr_bound.specs.Workspaces.{IsSound, known_in};
 ghost use Rattle.gr_check.specs.Held.{IsHeld};
 ghost use Rattle.gr_check.specs.Preserved.{KeepsBindings, Preserves};
@@ -13,7 +14,7 @@ ghost use Rattle.gr_revision.specs.RevisionsOfEdits.{revision_of};
 
 use crate::held::SoundWorkspace;
 use crate::keeping::{adds_nowhere, are_kept};
-use gr_bound::refuse_faults;
+use gr_bound::{Packages, all_seen, refuse_faults};
 use gr_edit::EditSet;
 use gr_graph::Graph;
 use gr_keep::known_after;
@@ -41,7 +42,25 @@ fn keeps(
     }
 }
 
-/// Whether each identifier of a workspace without faults is bound, in another without faults, to what its declaration has become.
+/// Whether each identifier of packages without faults is bound, in others without faults, to what its declaration has become.
+fn keeps_read(
+    alloc: Global,
+    before: &Packages<'_>,
+    edits: &EditSet,
+    after: &Packages<'_>,
+) -> Result<bool, AllocError>
+    requires before { ArePackages before.now }
+    requires after { ArePackages after.now }
+    requires edited { after.now.graph.now ≡ edited edits.now before.now.graph.now }
+    ensures { IfOk result (λ kept. IsTrue kept ↔ KeepsBindings before.now.graph.now (known_in before.now.found.now) (revision_of before.now.graph.now edits.now) (known_in after.now.found.now)) }
+{
+    let moves = Moves::of(alloc, edits)?;
+    let before = SoundWorkspace::of(alloc, before)?;
+    let then = SoundWorkspace::of(alloc, after)?;
+    keeps(alloc, &moves, &before, &then)
+}
+
+/// The same of workspaces.
 fn keeps_bindings(
     alloc: Global,
     graph: &Graph,
@@ -55,10 +74,11 @@ fn keeps_bindings(
     requires sound_after { IsSound after.now found_after.now }
     ensures { IfOk result (λ kept. IsTrue kept ↔ KeepsBindings graph.now (known_in found.now) (revision_of graph.now edits.now) (known_in found_after.now)) }
 {
-    let moves = Moves::of(alloc, edits)?;
-    let before = SoundWorkspace::of(alloc, graph, found)?;
-    let then = SoundWorkspace::of(alloc, after, found_after)?;
-    keeps(alloc, &moves, &before, &then)
+    let seen = all_seen(alloc, graph, found)?;
+    let before = Packages::of(alloc, graph, found, &seen)?;
+    let seen_after = all_seen(alloc, after, found_after)?;
+    let then = Packages::of(alloc, after, found_after, &seen_after)?;
+    keeps_read(alloc, &before, edits, &then)
 }
 
 /// Whether nothing that was found in a workspace is a fault.

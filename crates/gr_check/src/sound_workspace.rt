@@ -2,38 +2,31 @@
 ghost use Rattle.std.specs.Prelude.{◌≡◌, ◌↔◌, Contains, IfOk};
 ghost use Rattle.gr_text.specs.declared.place.Place.{Place as At};
 ghost use Rattle.gr_bound.specs.declared.bound_spot.BoundSpot.{BoundSpot as Bound};
-ghost use Rattle.gr_bound.specs.Workspaces.{IsSound, known_in};
+ghost use Rattle.gr_bound.specs.Packages.{ArePackages};
 ghost use Rattle.gr_standing.specs.Standing.{IsDeclaredAt};
 ghost use Rattle.gr_check.specs.DeclaredPlaces.{IsFoundIn};
 ghost use Rattle.gr_check.specs.Held.{IsHeld};
 ghost use Rattle.gr_check.specs.Preserved.{IsIdentifierAt};
-ghost use Rattle.gr_check.specs.Sound.{view_in, packages_of, IsBoundIn, IsBoundHere};
+ghost use Rattle.gr_check.specs.Sound.{view_in, view_of, packages_of, IsBoundIn, IsBoundHere};
 
 use crate::bound_here::bound_here;
 use crate::declared_places::{declared_at, declared_places};
 use crate::held::SoundWorkspace;
 use crate::identifier_places::identifier_places;
-use gr_bound::{BoundSpot, Declaration, bindings_of};
-use gr_graph::Graph;
+use gr_bound::{BoundSpot, Declaration, Packages, bindings_of};
 use gr_text::Place;
-use gr_verdict::Findings;
 use std::alloc::{AllocError, Global};
 
 impl<'a> SoundWorkspace<'a> {
-    pub fn of(
-        alloc: Global,
-        graph: &'a Graph,
-        found: &'a Findings,
-    ) -> Result<SoundWorkspace<'a>, AllocError>
-        requires { IsSound graph.now found.now }
-        ensures view { IfOk result (λ sound. view_in sound ≡ record { workspace = graph.now; known = known_in found.now }) }
+    pub fn of(alloc: Global, packages: &'a Packages<'a>) -> Result<SoundWorkspace<'a>, AllocError>
+        requires { ArePackages packages.now }
+        ensures view { IfOk result (λ sound. view_in sound ≡ view_of packages.now) }
         ensures held { IfOk result (λ sound. IsHeld sound) }
     {
-        let places = declared_places(alloc, graph, found)?;
-        let bindings = bindings_of(alloc, graph, found)?;
+        let places = declared_places(alloc, packages)?;
+        let bindings = bindings_of(alloc, packages)?;
         Ok(SoundWorkspace {
-            graph,
-            found,
+            packages,
             places,
             bindings,
         })
@@ -44,7 +37,7 @@ impl<'a> SoundWorkspace<'a> {
         requires { IsHeld self.now }
         ensures { IsFoundIn (IsDeclaredAt (packages_of (view_in self.now)) declaration.now) result }
     {
-        declared_at(self.graph, &self.places, declaration)
+        declared_at(self.packages.graph, &self.places, declaration)
     }
 
     /// The bound identifiers, each with its declaration.
@@ -68,6 +61,6 @@ impl<'a> SoundWorkspace<'a> {
         requires { IsHeld self.now }
         ensures { IfOk result (λ places. (place : At) → Contains places.items place ↔ IsIdentifierAt (view_in self.now).workspace (view_in self.now).known place) }
     {
-        identifier_places(alloc, self.graph, self.found)
+        identifier_places(alloc, self.packages)
     }
 }

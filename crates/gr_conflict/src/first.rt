@@ -5,6 +5,7 @@ ghost use Rattle.gr_edit.specs.EditSet.{edited};
 ghost use Rattle.gr_tree.specs.SourceFile.{source_of};
 ghost use Rattle.gr_declared.specs.InterfacesView.{interface_in};
 ghost use Rattle.gr_meanings.specs.PackageOf.{package_in};
+ghost use Rattle.gr_bound.specs.Exports.{AreExports};
 ghost use Rattle.gr_bound.specs.Workspaces.{IsSound, known_in, IsPackageAt};
 ghost use Rattle.gr_scoped.specs.Scopes.{AreAllScopes};
 ghost use Rattle.gr_conflict.specs.Conflicts.{IsConflictIn, IsConflict, IsTold, IsAnyFound, Takes};
@@ -17,7 +18,7 @@ use crate::judge::Judge;
 use crate::judging::judge_unit;
 use crate::old_places::old_places;
 use gr_bound::exports::exports;
-use gr_bound::{BoundSpot, laid_table, path_of, trees};
+use gr_bound::{BoundSpot, Packages, all_seen, laid_table, path_of, trees};
 use gr_declared::{Interfaces, Package};
 use gr_edit::EditSet;
 use gr_expr::symbol::SharedPath;
@@ -86,6 +87,20 @@ fn first_judged(alloc: Global, judge: &Judge<'_, '_, '_>) -> Result<Option<Confl
     Ok(first)
 }
 
+/// What all packages export, by name.
+fn exports_in(
+    alloc: Global,
+    graph: &Graph,
+    found: &Findings,
+) -> Result<Vec<BTreeMap<Vec<u8>, usize>>, AllocError>
+    requires { IsSound graph.now found.now }
+    ensures { IfOk result (λ exports. AreExports graph.now (known_in found.now) exports.items) }
+{
+    let seen = all_seen(alloc, graph, found)?;
+    let packages = Packages::of(alloc, graph, found, &seen)?;
+    exports(alloc, &packages)
+}
+
 /// What is found of a workspace before a change.
 #[derive(Drop)]
 struct Before {
@@ -105,7 +120,7 @@ impl Before {
         requires { IsSound graph.now found.now }
         ensures { IfOk result (KnowsBefore graph.now found.now) }
     {
-        let exports = exports(alloc, graph, found)?;
+        let exports = exports_in(alloc, graph, found)?;
         let places = declared_places(alloc, graph, found)?;
         let old = old_places(alloc, graph, found, &places, moves)?;
         let members = new_members(alloc, graph, found, moves)?;

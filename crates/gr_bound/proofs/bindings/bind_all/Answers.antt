@@ -15,8 +15,8 @@ loop-number-preserved c = next_below _ c.args.bound.now.items c.loop-number.boun
 
 pub returns : goal.returns
 returns c =
-    let w = c.args.graph.now in
-    let known = known_in c.args.found.now in
+    let w = c.args.packages.now.graph.now in
+    let known = known_in c.args.packages.now.found.now in
     let e : c.loop-number.number ≡ length (package_paths w) = omega arith in
     all_numbers (IsBoundAt w known) (IsBound w known) c.loop-number.number c.args.bound.now.items c.loop-number.bound.items (bound_here w known)
     (λ b h. let x = bound_somewhere w known b h in (x.0, subst (λ n. x.0 < n) (sym e) x.1, x.2)) c.loop-number.invariant

@@ -6,4 +6,4 @@ use Rattle.gr_bound.proofs.bindings.bind_all.Given as goal
 
 -- what is bound in the packages that were passed was added
 abbrev pub invariant-loop-number : goal.invariant-loop-number
-invariant-loop-number l = AddsAll l.initial.bound.items l.bound.items (BelowAll (IsBoundAt l.graph (known_in l.found)) l.number)
+invariant-loop-number l = AddsAll l.initial.bound.items l.bound.items (BelowAll (IsBoundAt l.packages.graph.now (known_in l.packages.found.now)) l.number)

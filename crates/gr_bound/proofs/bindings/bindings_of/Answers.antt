@@ -7,6 +7,6 @@ use Rattle.gr_bound.proofs.bindings.bindings_of.Goals as goal
 
 pub returns : goal.returns
 returns c =
-    let w = c.args.graph.now in
-    let known = known_in c.args.found.now in
+    let w = c.args.packages.now.graph.now in
+    let known = known_in c.args.packages.now.found.now in
     all_bound w known c.bind_all.new.bound.items c.sort.new.bound.items (subst (λ l. AddsAll l c.bind_all.new.bound.items (IsBound w known)) c.new-bound.ensures.items c.in_ok-bind_all.ensures) c.sort.ensures.order c.sort.ensures.same

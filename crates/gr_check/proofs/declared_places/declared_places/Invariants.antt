@@ -4,4 +4,4 @@ use Rattle.gr_check.specs.DeclaredPlaces.{AreDeclaredBelow}
 use Rattle.gr_check.proofs.declared_places.declared_places.Given as goal
 
 abbrev pub invariant-loop-number : goal.invariant-loop-number
-invariant-loop-number l = AreDeclaredBelow l.graph (known_in l.found) l.number l.all.items
+invariant-loop-number l = AreDeclaredBelow l.packages.graph.now (known_in l.packages.found.now) l.number l.all.items

@@ -6,4 +6,4 @@ use Rattle.gr_check.specs.Sound.{BeginsInNumber}
 use Rattle.gr_check.proofs.identifier_places.add_all.Given as goal
 
 abbrev pub invariant-loop-number : goal.invariant-loop-number
-invariant-loop-number l = AddsAll l.initial.places.items l.places.items (BelowAll (BeginsInNumber l.graph (known_in l.found)) l.number)
+invariant-loop-number l = AddsAll l.initial.places.items l.places.items (BelowAll (BeginsInNumber l.packages.graph.now (known_in l.packages.found.now)) l.number)

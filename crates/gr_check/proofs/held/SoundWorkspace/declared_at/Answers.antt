@@ -7,5 +7,5 @@ use Rattle.gr_check.proofs.held.SoundWorkspace.declared_at.Goals as goal
 pub returns : goal.returns
 returns c =
     let s = c.args.self.now in
-    let known = known_in s.found.now in
-    c.declared_at.ensures known (subst (AreDeclared s.graph.now known) (sym c.deref.ensures.value) c.requires.declared)
+    let known = known_in s.packages.now.found.now in
+    c.declared_at.ensures known (subst (AreDeclared s.packages.now.graph.now known) (sym c.deref.ensures.value) c.requires.declared)
