@@ -9,13 +9,7 @@ fn word<R: Abort>(rt: &R, alloc: Global, text: &str) -> Word {
     Word::new(alloc, text).expect(rt, "a word")
 }
 
-fn put_command<R: Abort>(
-    rt: &R,
-    alloc: Global,
-    basis: u64,
-    path: &str,
-    bytes: &str,
-) -> Command {
+fn put_command<R: Abort>(rt: &R, alloc: Global, basis: u64, path: &str, bytes: &str) -> Command {
     let bytes = bytes.as_bytes().to_vec(alloc).expect(rt, "bytes");
     let text = FileText::new(alloc, bytes).expect(rt, "a text");
     Command::Put {

@@ -41,7 +41,11 @@ fn looked<L: Opening, R: Wait + Abort>(
 
 /// The journal is two looks.
 fn looked_twice(book: &Book) -> bool {
-    book.journal().len() == 2 && book.journal().iter().all(|entry| entry.line.kind == Kind::Look)
+    book.journal().len() == 2
+        && book
+            .journal()
+            .iter()
+            .all(|entry| entry.line.kind == Kind::Look)
 }
 
 fn left_out<L: Opening, R: Wait + Abort>(rt: &R, alloc: Global, blank: Blank)

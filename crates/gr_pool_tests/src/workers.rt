@@ -52,15 +52,8 @@ fn shows_both(view: &View) -> bool {
         && view.finished.get(1).is_some()
 }
 
-fn waited<L: Opening, R: Wait + Abort>(
-    rt: &R,
-    shared: &Shared<L>,
-    mut seat: Seat<L>,
-) -> Seat<L> {
-    let view = shared
-        .wait_built(rt, &mut seat)
-        .ok()
-        .expect(rt, "a view");
+fn waited<L: Opening, R: Wait + Abort>(rt: &R, shared: &Shared<L>, mut seat: Seat<L>) -> Seat<L> {
+    let view = shared.wait_built(rt, &mut seat).ok().expect(rt, "a view");
     shared.stop(rt);
     assert!(rt; shows_both(&view));
     seat
