@@ -62,6 +62,30 @@ impl<L: Opening> Seat<L> {
     }
 }
 
+/// A sum of counts, which may be too large to be addressed.
+fn sum(one: u64, other: u64) -> Result<u64, AllocError>
+    ensures { IfOk result (λ all. all ≡ one + other) }
+{
+    one.checked_add(other).ok_or(AllocError)
+}
+
+/// For how many receipts there must be room before an event. Where one of the Jobs is given back, there is such room already.
+fn receipts_needed(jobs: u64, event: &Event) -> Result<u64, AllocError>
+    ensures needed { IfOk result (λ needed. (needed ≡ receipts_needed event.now jobs) × (0 < needed)) }
+    ensures given_back { GivesBack event.now → IsOk result }
+{
+    match event {
+        Event::Take => sum(jobs, 2),
+        Event::GiveBack(_) => Ok(jobs.max(1)),
+        Event::Look
+        | Event::Log(_)
+        | Event::Commit(..)
+        | Event::Undo(_)
+        | Event::Redo(_)
+        | Event::Deliver(..) => sum(jobs, 1),
+    }
+}
+
 /// Makes room for the receipt of an event, beside the room kept for the Jobs in hand, and tells for how many receipts there is room
 /// then. Where one of these Jobs is given back, there is room already.
 pub(crate) fn reserve(
@@ -76,16 +100,7 @@ pub(crate) fn reserve(
     ensures room { IfOk result (λ needed. vec_len receipts.old + needed ≤ vec_capacity receipts.new) }
     ensures given_back { GivesBack event.now → 0 < jobs → IsOk result }
 {
-    let needed = match event {
-        Event::Take => jobs.checked_add(2).ok_or(AllocError)?,
-        Event::GiveBack(_) => jobs.max(1),
-        Event::Look
-        | Event::Log(_)
-        | Event::Commit(..)
-        | Event::Undo(_)
-        | Event::Redo(_)
-        | Event::Deliver(..) => jobs.checked_add(1).ok_or(AllocError)?,
-    };
+    let needed = receipts_needed(jobs, event)?;
     receipts.reserve(needed as usize)?;
     Ok(needed)
 }
