@@ -2,6 +2,7 @@
 use Rattle.std.proofs.Common.{◌≡◌, ℕ, List, sym, subst, ◌∙◌}
 use Rattle.std.proofs.lemmas.Option.{same_Some}
 use Rattle.gr_graph.proofs.Asked.{at_contains}
+use Rattle.gr_verdict.specs.Found.{KnowsVerdicts}
 use Rattle.gr_verdict.proofs.Telling.{nothing_told, told_next}
 use Rattle.gr_keep.specs.Knowing.{TellsThere}
 use Rattle.gr_keep.proofs.Learning.{tells_here}
@@ -22,3 +23,6 @@ loop-number-preserved c =
 
 pub returns : goal.returns
 returns c = c.loop-number.invariant.verdicts
+
+pub verdict_there-requires : goal.verdict_there-requires
+verdict_there-requires c = subst (KnowsVerdicts c.args.files.now) (sym c.get.ensures) c.requires.known

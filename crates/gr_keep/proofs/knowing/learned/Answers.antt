@@ -17,3 +17,6 @@ returns c =
     let known = c.loop-number.known in
     let right = KnowsVerdicts c.args.files.now in
     IfOk-weaker c.new.result (λ shared. shared ≡ known) right (λ shared is. subst right (sym is) c.loop-number.invariant.verdicts) c.new.ensures
+
+pub learned_verdict-requires-clause-own : goal.learned_verdict-requires-clause-own
+learned_verdict-requires-clause-own c = subst (KnowsVerdicts c.args.files.now) (sym c.get.ensures) c.requires.own
