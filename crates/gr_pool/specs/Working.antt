@@ -1,5 +1,5 @@
 -- What a worker does, as it is called at its seat.
-use Rattle.std.specs.Prelude.{◌≡◌, ◌⊎◌, ℕ, zero, suc, List, Option, Result, Ok, Err}
+use Rattle.std.specs.Prelude.{◌≡◌, ◌⊎◌, ℕ, zero, suc, List, Option, ⊤}
 use Rattle.gr_text.specs.declared.refusal.Refusal.{Refusal}
 use Rattle.gr_compile.specs.Builds.{IsBuiltOf}
 use Rattle.gr_compile.specs.declared.built.Built.{Built}
@@ -7,7 +7,7 @@ use Rattle.gr_compile.specs.declared.job.JobRecord.{JobRecord}
 use Rattle.gr_book.specs.declared.event.Event.{Event}
 use Rattle.gr_book.specs.declared.event.Event.TheVariants.{Take, Deliver, GiveBack}
 use Rattle.gr_book.specs.declared.event.Reply.{Reply}
-use Rattle.gr_book.specs.declared.event.Reply.TheVariants.{Taken, Refused}
+use Rattle.gr_book.specs.declared.event.Reply.TheVariants.{Taken, Refused, Back}
 use Rattle.gr_pool.specs.declared.receipt.Receipt.{Receipt}
 use Rattle.gr_pool.specs.Call.{Calls}
 
@@ -19,12 +19,23 @@ Replies old event reply new = (index : Option ℕ) × Calls old event reply inde
 abbrev pub Sends : List Receipt → Event → List Receipt → Type 0
 Sends old event new = (reply : Reply) × Replies old event reply new
 
+-- the Job came back
+abbrev pub ComesBack : Reply → Type 0
+ComesBack (Back refusal job unit) = ⊤
+ComesBack reply = ⊥
+
+-- after this reply to a delivery the Job is given back, if it came back
+abbrev pub AfterDelivery : List Receipt → JobRecord → Reply → List Receipt → Type 0
+AfterDelivery old job (Back refusal back unit) new = Sends old (GiveBack job) new
+AfterDelivery old job reply new = new ≡ old
+
 -- what was built of the Job is delivered. Where the Job comes back, it is given back
 abbrev pub Delivers : List Receipt → JobRecord → List Receipt → Type 0
 Delivers old job new =
-    (built : Built) × IsBuiltOf job built × ((mid : List Receipt) × Sends old (Deliver job built) mid × ((new ≡ mid) ⊎ Sends mid (GiveBack job) new))
+    (built : Built) × IsBuiltOf job built
+    × ((reply : Reply) × (mid : List Receipt) × Replies old (Deliver job built) reply mid × AfterDelivery mid job reply new)
 
--- The Job is delivered, or else given back.
+-- The Job is delivered; or nothing was built for want of memory, and it is given back.
 abbrev pub HandsIn : List Receipt → JobRecord → List Receipt → Type 0
 HandsIn old job new = Delivers old job new ⊎ Sends old (GiveBack job) new
 

@@ -1,8 +1,9 @@
 //! A Job between its taking and its handing in. Only here is a Job retired, and only where giving it back failed.
-ghost use Rattle.std.specs.Prelude.{◌≡◌, IfErr, IfOk, MatchOption};
+ghost use Rattle.std.specs.Prelude.{◌≡◌, IfOk, MatchOption, MatchResult};
 ghost use Rattle.gr_text.specs.declared.refusal.Refusal.{Refusal as WhyRefused};
 ghost use Rattle.gr_compile.specs.Builds.{IsBuiltOf};
-ghost use Rattle.gr_pool.specs.Working.{Replies, Sends};
+ghost use Rattle.gr_book.specs.declared.event.Reply.{Reply as Answer};
+ghost use Rattle.gr_pool.specs.Working.{ComesBack, Replies, Sends};
 
 use crate::opening::Opening;
 use crate::seat::Seat;
@@ -60,8 +61,7 @@ impl InHand {
         seat: &mut Seat<L>,
         built: Built,
     ) -> Result<(), InHand>
-        ensures sends { Sends seat.old (Event.Deliver self.job built) seat.new }
-        ensures back { IfErr result (λ hand. hand.job ≡ self.job) }
+        ensures { (reply : Answer) × Replies seat.old (Event.Deliver self.job built) reply seat.new × MatchResult result (λ _. ¬ (ComesBack reply)) (λ hand. ComesBack reply × (hand.job ≡ self.job)) }
     {
         let InHand { job } = self;
         match shared.send(rt, seat, Event::Deliver(job, built)) {
