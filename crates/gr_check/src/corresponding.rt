@@ -12,7 +12,7 @@ use gr_text::{Path, Place};
 use std::alloc::AllocError;
 
 /// Whether two declarations are the same predeclared name.
-fn are_predeclared(d: &Declaration, e: &Declaration) -> bool
+pub fn are_predeclared(d: &Declaration, e: &Declaration) -> bool
     ensures { IsTrue result ↔ IsSamePredeclared d.now e.now }
 {
     match d {
@@ -38,7 +38,7 @@ fn is_place(one: &Place, other: &Place) -> bool
 }
 
 /// Whether a place goes to another.
-fn goes_to(moves: &Moves<'_>, old: &Place, new: &Place) -> Result<bool, AllocError>
+pub fn goes_to(moves: &Moves<'_>, old: &Place, new: &Place) -> Result<bool, AllocError>
     ensures { IfOk result (λ yes. IsTrue yes ↔ (moved moves.now old.now ≡ new.now)) }
 {
     let place = moves.place(&old.path, old.offset)?;

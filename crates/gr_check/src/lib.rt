@@ -11,7 +11,7 @@ mod places;
 mod preserving;
 mod sound_workspace;
 
-pub use corresponding::corresponds;
+pub use corresponding::{are_predeclared, corresponds, goes_to};
 pub use held::SoundWorkspace;
 pub use places::{beginning, name_beginning, place_of};
 pub use preserving::preserves;

@@ -13,8 +13,8 @@ use Rattle.gr_bound.specs.Workspaces.{known_in}
 use Rattle.gr_bound.proofs.Units.{table_at}
 use Rattle.gr_bound.proofs.packages.table_of.Goals as goal
 
-pub index-all-number-in_range : goal.index-all-number-in_range
-index-all-number-in_range c = subst (λ m. c.args.number < m) (sym c.requires.seen.size) c.requires.in_range
+pub bounds-all-number : goal.bounds-all-number
+bounds-all-number c = subst (λ m. c.args.number < m) (sym c.requires.seen.size) c.requires.in_range
 
 pub returns : goal.returns
 returns c =
@@ -22,7 +22,7 @@ returns c =
     let known = known_in c.args.found.now in
     let n = c.args.number in
     let all = c.args.all.now in
-    let here = c.index-all-number.result.now in
+    let here = c.index-all-number.result in
     let lt : n < length all = subst (λ m. n < m) (sym c.requires.seen.size) c.requires.in_range in
     let at : slice_get all n ≡ Some here = slice_get_read all (length all) n here refl lt c.index-all-number.is in
     IfOk-weaker c.laid_table.result (λ laid. IsLaidOver (map source_of c.trees-files.result.now) (name_in here) (scoped c.trees-files.result.now) laid)

@@ -17,7 +17,7 @@ pub returns : goal.returns
 returns c =
     let before = c.in_ok-before.before in
     let kept = λ (w : Workspace) (f g : Findings). IfOk c.keeps_read.result (λ kept. IsTrue kept
-        ↔ KeepsBindings w (known_in f) (revision_of w c.args.edits.now) (known_in g)) in
+    ↔ KeepsBindings w (known_in f) (revision_of w c.args.edits.now) (known_in g)) in
     subst (λ (w : Workspace). kept w c.args.found.now c.args.found_after.now) c.in_ok-before.ensures.workspace
     (subst (λ (f : Findings). kept before.graph.now f c.args.found_after.now) c.in_ok-before.ensures.found
     (subst (λ (g : Findings). kept before.graph.now before.found.now g) c.in_ok-then.ensures.found c.keeps_read.ensures))
