@@ -1,13 +1,16 @@
-//! The program `gorefd`: one session over a book of its own, from standard input to standard output.
+//! The program `gorefd`: one session over a book of its own, from standard input to standard output; or a server on a socket.
 #![tactic(auto)]
 
 mod fault;
 
 use fault::Fault;
+use gr_pool::OpenGate;
+use gr_serve::serve;
 use gr_text::Limits;
 use gr_wire::session_alone;
 use gr_words::{Words, WordsFault, read_words};
 use std::env::Env;
+use std::fmt::Display;
 use std::io::{BufReader, BufWriter, ErrorKind};
 use std::process::ExitCode;
 
@@ -21,8 +24,16 @@ fn run(rt: &(impl Input + Print + AllocGlobal)) -> Result<(), Fault> {
     Ok(())
 }
 
+/// Tells how many entries the journal has.
+fn settled<R: Print + Eprint>(rt: &R, entries: u64) -> ExitCode {
+    match println!(rt; "settled {entries}") {
+        Ok(()) => ExitCode::SUCCESS,
+        Err(_) => ended(rt, Fault::Write),
+    }
+}
+
 /// Says on standard error why the program ended, and gives its exit status.
-fn ended(rt: &impl Eprint, fault: Fault) -> ExitCode {
+fn ended(rt: &impl Eprint, fault: impl Display + Drop) -> ExitCode {
     let _ = eprintln!(rt; "gorefd: {fault}");
     ExitCode::from(1)
 }
@@ -64,10 +75,10 @@ fn main(rt: HostRuntime) -> ExitCode {
             Ok(()) => ExitCode::SUCCESS,
             Err(fault) => ended(&rt, fault),
         },
-        Ok(Words::Serve(_)) => {
-            let _ = eprintln!(rt; "gorefd: this build does not serve");
-            ExitCode::from(2)
-        }
+        Ok(Words::Serve(words)) => match serve(&rt, &words, &OpenGate) {
+            Ok(entries) => settled(&rt, entries),
+            Err(fault) => ended(&rt, fault),
+        },
         Err(fault) => told(&rt, &fault),
     }
 }

@@ -1,0 +1,43 @@
+//! A desk at a seat.
+use gr_book::{Event, Reply};
+use gr_desk::Desk;
+use gr_graph::Graph;
+use gr_pool::{Opening, Seat, Shared};
+use gr_text::Refusal;
+use gr_verdict::Known;
+use std::sync::Wait;
+
+/// A seat at a shared book. It lends the seat, which has the receipts of the events.
+#[derive(Drop)]
+pub struct Held<'a, L: Opening, R: Wait> {
+    pub rt: &'a R,
+    pub shared: &'a Shared<L>,
+    pub seat: &'a mut Seat<L>,
+}
+
+impl<'a, L: Opening, R: Wait> Desk for Held<'a, L, R> {
+    ghost use Rattle.std.specs.Prelude.{◌≡◌, ℕ, Option};
+    ghost use Rattle.gr_held.specs.Wait.{WaitsUntilBuilt};
+    ghost use Rattle.gr_pool.specs.Call.{Calls};
+
+    // It goes on lending the same seat.
+    ghost steps = { λ old event reply new. (new.seat.ghost_name ≡ old.seat.ghost_name) × ((index : Option ℕ) × Calls old.seat.now event reply index new.seat.now) };
+
+    ghost waits = { λ old outcome new. (new.seat.ghost_name ≡ old.seat.ghost_name) × WaitsUntilBuilt old.seat.now outcome new.seat.now };
+
+    fn step(&mut self, event: Event) -> Reply {
+        self.shared.call(self.rt, self.seat, event).0
+    }
+
+    fn wait(&mut self) -> Result<u64, Refusal> {
+        match self.shared.wait_built(self.rt, self.seat) {
+            Ok(view) => Ok(view.snapshot.number()),
+            Err(refusal) => Err(refusal),
+        }
+    }
+
+    /// The seat gains no receipt.
+    fn learn(&mut self, files: &Graph, known: Known) {
+        self.shared.learn(self.rt, files, known);
+    }
+}

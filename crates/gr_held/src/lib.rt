@@ -1,0 +1,6 @@
+//! A seat at a shared book, as a desk.
+#![tactic(auto)]
+
+mod held;
+
+pub use held::Held;

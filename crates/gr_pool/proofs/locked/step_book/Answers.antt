@@ -1,0 +1,6 @@
+-- A step gives a reply that its event may get.
+use Rattle.gr_book.proofs.Replies.{may_reply}
+use Rattle.gr_pool.proofs.locked.step_book.Goals as goal
+
+pub returns-clause-kind : goal.returns-clause-kind
+returns-clause-kind c = may_reply c.args.book.now c.args.event c.step_kept.result.0 c.step_kept.new.self c.step_kept.ensures.0

@@ -1,0 +1,84 @@
+-- What a call does under the lock, and what it leaves at its seat.
+use Rattle.std.specs.Prelude.{◌≡◌, ◌<◌, ℕ, List, [], ◌∷◌, ◌++◌, ◌⊎◌, All, length, slice_get, true, false, Bool, Option, Some, None, Result, Ok, Err}
+use Rattle.gr_text.specs.declared.refusal.Refusal.{Refusal}
+use Rattle.gr_text.specs.declared.refusal.Refusal.TheVariants.{Memory, JournalFull}
+use Rattle.gr_text.specs.Packages.{package_paths}
+use Rattle.gr_compile.specs.declared.unit.Unit.{Unit as PackageUnit}
+use Rattle.gr_keep.specs.Finished.{Table}
+use Rattle.gr_book.specs.declared.entry.Entry.{Entry}
+use Rattle.gr_book.specs.declared.entry.Kind.{Kind}
+use Rattle.gr_book.specs.declared.entry.Kind.TheVariants as kind
+use Rattle.gr_book.specs.declared.event.Event.{Event}
+use Rattle.gr_book.specs.declared.event.Event.TheVariants.{Look}
+use Rattle.gr_book.specs.declared.event.Reply.{Reply}
+use Rattle.gr_book.specs.declared.event.Reply.TheVariants.{Looked}
+use Rattle.gr_book.specs.declared.view.View.{View}
+use Rattle.gr_book.specs.Kept.{IsTurnedAway, StepKept}
+use Rattle.gr_book.specs.Machine.{Machine, content}
+use Rattle.gr_book.specs.Run.{IsReplay}
+use Rattle.gr_pool.specs.declared.receipt.Receipt.{Receipt}
+
+-- the content is the replay of the journal
+abbrev pub IsReplayed : Machine → Type 0
+IsReplayed m = ∥ IsReplay m.limits m.journal (content m) ∥₁
+
+-- One step of a book, with a receipt of the entry that it added.
+abbrev pub StepsAt : Machine → Event → Reply → Option Receipt → Machine → Type 0
+StepsAt old event reply (Some receipt) new = IsReplayed old × (receipt.index ≡ length old.journal) × StepKept old event reply (Some receipt.entry) new
+StepsAt old event reply None new = StepKept old event reply None new
+
+-- The receipt is that of one step of some book, whose content is the replay of its journal.
+abbrev pub IsReceiptOf : Event → Reply → Receipt → Type 0
+IsReceiptOf event reply receipt = (old : Machine) × (new : Machine) × StepsAt old event reply (Some receipt) new
+
+-- the receipt is that of the step, or there is none, and the event was turned away
+abbrev pub IsStepOf : Event → Reply → Option Receipt → Type 0
+IsStepOf event reply (Some receipt) = IsReceiptOf event reply receipt
+IsStepOf event reply None = IsTurnedAway event reply
+
+-- The event was one step of a book, at the index that was answered, and the seat has gained its receipt; or the event was turned away, and
+-- the seat has gained none.
+abbrev pub Calls : List Receipt → Event → Reply → Option ℕ → List Receipt → Type 0
+Calls old event reply (Some index) new =
+    (receipt : Receipt) × (receipt.index ≡ index) × IsReceiptOf event reply receipt × (new ≡ old ++ receipt ∷ [])
+Calls old event reply None new = IsTurnedAway event reply × (new ≡ old)
+
+-- want of memory, or of room in the journal
+abbrev pub IsLack : Refusal → Type 0
+IsLack refusal = (refusal ≡ Memory) ⊎ (refusal ≡ JournalFull)
+
+-- The seat has gained a receipt of a look, or none, and the look was turned away.
+abbrev pub Looks : List Receipt → Result View Refusal → List Receipt → Type 0
+Looks old (Ok view) new = (index : ℕ) × Calls old Look (Looked view) (Some index) new
+Looks old (Err refusal) new = IsLack refusal × (new ≡ old)
+
+abbrev pub IsLook : Receipt → Type 0
+IsLook receipt = receipt.entry.line.kind ≡ kind.Look
+
+-- the package of this number is finished
+unfoldable pub HasUnit : Table → ℕ → Type 0
+HasUnit table number = (unit : PackageUnit) × (slice_get table number ≡ Some (Some unit))
+
+-- each package of the view's files, by its number, is finished
+abbrev pub IsBuilt : View → Type 0
+IsBuilt view = (number : ℕ) → number < length (package_paths view.snapshot.files) → HasUnit view.finished number
+
+-- The seat has gained receipts of looks. The last shows that every package is built; or a look was turned away.
+abbrev pub LooksUntilBuilt : List Receipt → Result View Refusal → List Receipt → Type 0
+LooksUntilBuilt old (Ok view) new =
+    (looks : List Receipt) × All IsLook looks × ((index : ℕ) × Calls (old ++ looks) Look (Looked view) (Some index) new) × IsBuilt view
+LooksUntilBuilt old (Err refusal) new = (looks : List Receipt) × All IsLook looks × (new ≡ old ++ looks) × IsLack refusal
+
+-- The seat has gained receipts, each with P.
+abbrev pub Gains : (Receipt → Type 0) → List Receipt → List Receipt → Type 0
+Gains P old new = (gained : List Receipt) × (new ≡ old ++ gained) × All P gained
+
+-- a worker's events
+abbrev pub is_work : Kind → Bool
+is_work kind.Take = true
+is_work kind.Deliver = true
+is_work kind.GiveBack = true
+is_work other = false
+
+abbrev pub IsWork : Receipt → Type 0
+IsWork receipt = is_work receipt.entry.line.kind ≡ true

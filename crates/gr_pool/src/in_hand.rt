@@ -1,0 +1,97 @@
+//! A Job between its taking and its handing in. Only here is a Job retired, and only where giving it back failed.
+ghost use Rattle.std.specs.Prelude.{◌≡◌, IfOk, MatchOption, MatchResult};
+ghost use Rattle.gr_text.specs.declared.refusal.Refusal.{Refusal as WhyRefused};
+ghost use Rattle.gr_compile.specs.Builds.{IsBuiltOf};
+ghost use Rattle.gr_book.specs.declared.event.Reply.{Reply as Answer};
+ghost use Rattle.gr_pool.specs.Working.{ComesBack, Replies, Sends};
+
+use crate::opening::Opening;
+use crate::seat::Seat;
+use crate::shared::Shared;
+use gr_book::{Event, Reply};
+use gr_compile::{Built, Job, build};
+use std::alloc::{AllocError, Global};
+use std::sync::Wait;
+
+/// A Job that its worker has to hand in, by `deliver` or `give_back`.
+#[must_use]
+pub(crate) struct InHand {
+    job: Job,
+}
+
+/// Takes a Job, if there is one.
+pub(crate) fn take<L: Opening, R: Wait>(
+    rt: &R,
+    shared: &Shared<L>,
+    seat: &mut Seat<L>,
+) -> Option<InHand>
+    ensures { MatchOption result ((refusal : WhyRefused) × Replies seat.old Event.Take (Reply.Refused refusal) seat.new) (λ hand. Replies seat.old Event.Take (Reply.Taken hand.job) seat.new) }
+{
+    match shared.send(rt, seat, Event::Take) {
+        Reply::Taken(job) => Some(InHand { job }),
+        Reply::Refused(refusal) => {
+            drop(refusal);
+            None
+        }
+        Reply::Back(_refusal, _job, _built) => unreachable!(),
+        Reply::Looked(_view) => unreachable!(),
+        Reply::Logged(_, _) => unreachable!(),
+        Reply::Done(_) => unreachable!(),
+    }
+}
+
+impl InHand {
+    pub fn ticket(&self) -> u64
+        ensures { result ≡ self.now.job.ticket }
+    {
+        self.job.ticket()
+    }
+
+    pub fn build(&self, alloc: Global) -> Result<Built, AllocError>
+        ensures { IfOk result (IsBuiltOf self.now.job) }
+    {
+        build(alloc, &self.job)
+    }
+
+    /// Delivers the Job. It comes back where the book does not take it.
+    pub fn deliver<L: Opening, R: Wait>(
+        self,
+        rt: &R,
+        shared: &Shared<L>,
+        seat: &mut Seat<L>,
+        built: Built,
+    ) -> Result<(), InHand>
+        ensures { (reply : Answer) × Replies seat.old (Event.Deliver self.job built) reply seat.new × MatchResult result (λ _. ¬ (ComesBack reply)) (λ hand. ComesBack reply × (hand.job ≡ self.job)) }
+    {
+        let InHand { job } = self;
+        match shared.send(rt, seat, Event::Deliver(job, built)) {
+            Reply::Done(_) => Ok(()),
+            Reply::Refused(_refusal) => Ok(()),
+            Reply::Back(_refusal, job, built) => {
+                drop(built);
+                Err(InHand { job })
+            }
+            Reply::Taken(_job) => unreachable!(),
+            Reply::Looked(_view) => unreachable!(),
+            Reply::Logged(_, _) => unreachable!(),
+        }
+    }
+
+    /// Gives the Job back. Where the book does not take it, it is retired.
+    pub fn give_back<L: Opening, R: Wait>(self, rt: &R, shared: &Shared<L>, seat: &mut Seat<L>)
+        ensures { Sends seat.old (Event.GiveBack self.job) seat.new }
+    {
+        let InHand { job } = self;
+        match shared.send(rt, seat, Event::GiveBack(job)) {
+            Reply::Done(_) => {}
+            Reply::Back(_refusal, job, built) => {
+                drop(built);
+                drop(job.retire());
+            }
+            Reply::Taken(_job) => unreachable!(),
+            Reply::Looked(_view) => unreachable!(),
+            Reply::Logged(_, _) => unreachable!(),
+            Reply::Refused(_refusal) => unreachable!(),
+        }
+    }
+}
