@@ -321,6 +321,32 @@ def never_reads():
         settles(server)
 
 
+def documented_client():
+    """The client of docs/PROTOCOL.md puts a file, and again where another session was first."""
+    text = (pathlib.Path(__file__).resolve().parent.parent / "docs" / "PROTOCOL.md").read_text()
+    client = {}
+    exec(re.search(r"```python\n(.*?)```", text, re.S)[1], client)
+    with Server(1, 2, 2) as server:
+        other = server.connect()
+        there, replies = client["connect"](server.path)
+        asked = client["ask"]
+
+        def between(there, replies, line, body=b""):
+            told = asked(there, replies, line, body)
+            if line == "look":
+                same(other.ask(put(0, "b/b.go", b"package b\n")), (b"ok 1", b""))
+            return told
+
+        client["ask"] = between
+        same(client["put"](there, replies, "a/a.go", A), ("ok", 2))
+        same(asked(there, replies, "wait"), ("ok", 2, b""))
+        same(asked(there, replies, "object a"), ("ok", 2, OBJECT))
+        replies.close()
+        there.close()
+        other.close()
+        settles(server)
+
+
 def taken_paths():
     """Where something stands at the path, or at the one beside it that is used to make the socket, there is no server, and it stays."""
     with tempfile.TemporaryDirectory() as folder:
@@ -365,6 +391,7 @@ CHECKS = (
     cut_anywhere,
     garbage,
     never_reads,
+    documented_client,
 )
 
 
