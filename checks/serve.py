@@ -114,7 +114,7 @@ def same(told, wanted):
 def settles(server):
     status, out, err = server.ended()
     same((status, err), (0, b""))
-    if not re.fullmatch(rb"settled [1-9][0-9]*\n", out):
+    if not re.fullmatch(rb"settled (0|[1-9][0-9]*)\n", out):
         raise AssertionError(f"told {out!r}")
     return int(out.split()[1])
 
