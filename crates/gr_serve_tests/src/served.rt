@@ -21,23 +21,26 @@ const SENT: &str =
 const TOLD: &str =
     "ok 1 0\nok 2 0\nok 2 0\nok 2 82\nobject a a\nvar a#x int\nfunc a#F (int) (int) 1 5\nglobal a#x\nlocal 0\nop +\nret 1\nend\n";
 
-/// Sees whether two tickets were taken before either was built.
+/// Holds the tickets 0 and 1 until both are taken.
 #[derive(Drop)]
 struct Together {
     taken: AtomicU64,
-    met: AtomicU64,
+    missed: AtomicU64,
 }
 
 impl Gate for Together {
-    fn taken(&self, _ticket: u64) {
+    fn taken(&self, ticket: u64) {
+        if ticket > 1 {
+            return;
+        }
         self.taken.fetch_add(1, Ordering::SeqCst);
         for _ in 0..TURNS {
             if self.taken.load(Ordering::SeqCst) > 1 {
-                self.met.fetch_add(1, Ordering::SeqCst);
                 return;
             }
             thread::yield_now();
         }
+        self.missed.fetch_add(1, Ordering::SeqCst);
     }
 
     fn built(&self, _ticket: u64) {}
@@ -73,7 +76,7 @@ fn words(path: &str, stop_after: Option<u32>) -> ServeWords<'_> {
 fn serve_one<R: Threads + Wait + Net + Files + AllocGlobal + Abort + Sync>(rt: &R, path: &str) {
     let gate = Together {
         taken: AtomicU64::new(0),
-        met: AtomicU64::new(0),
+        missed: AtomicU64::new(0),
     };
     let alloc = rt.alloc();
     let words = words(path, Some(1));
@@ -81,7 +84,8 @@ fn serve_one<R: Threads + Wait + Net + Files + AllocGlobal + Abort + Sync>(rt: &
     let told = told.expect(rt, "a connection");
     assert!(rt; told.as_slice() == TOLD.as_bytes());
     assert!(rt; served.is_ok());
-    assert_eq!(rt; gate.met.load(Ordering::SeqCst), 2);
+    assert_eq!(rt; gate.taken.load(Ordering::SeqCst), 2);
+    assert_eq!(rt; gate.missed.load(Ordering::SeqCst), 0);
 }
 
 #[test]
