@@ -11,4 +11,6 @@ mod limits;
 #[cfg(test)]
 mod refused;
 #[cfg(test)]
+mod sends;
+#[cfg(test)]
 mod several;

@@ -17,7 +17,8 @@ pub Reads-append : (limits : Limits) (input mid rest : List ℕ) (ms ns : List M
 Reads-append limits input mid rest [] ns h k = rw h k
 Reads-append limits input mid rest (m ∷ ms) ns h k = (h.0, h.1, Reads-append limits h.0 mid rest ms ns h.2 k)
 
-pub AnswersAll-append : {D : Type 0} (steps : D → Event → Reply → D → Type 0) (waits : WaitLaw D) (old mid new : D) (ms ns : List Message) (rs ss : List Response)
+pub AnswersAll-append : {D : Type 0} (steps : D → Event → Reply → D → Type 0) (waits : WaitLaw D)
+    (old mid new : D) (ms ns : List Message) (rs ss : List Response)
     → AnswersAll steps waits old ms rs mid → AnswersAll steps waits mid ns ss new → AnswersAll steps waits old (ms ++ ns) (rs ++ ss) new
 AnswersAll-append steps waits old mid new [] ns [] ss h k = rw (← h) k
 AnswersAll-append steps waits old mid new [] ns (r ∷ rs) ss h k = absurd h
@@ -30,7 +31,8 @@ pub Exchange-none : {D : Type 0} (steps : D → Event → Reply → D → Type 0
 Exchange-none steps waits limits input old = record { messages = []; replies = []; read = refl; run = refl; written = refl }
 
 -- one message, and its reply
-pub Exchange-one : {D : Type 0} (steps : D → Event → Reply → D → Type 0) (waits : WaitLaw D) (limits : Limits) (input rest : List ℕ) (old new : D) (message : Message) (reply : Response)
+pub Exchange-one : {D : Type 0} (steps : D → Event → Reply → D → Type 0) (waits : WaitLaw D)
+    (limits : Limits) (input rest : List ℕ) (old new : D) (message : Message) (reply : Response)
     → Says limits input message rest → Answered steps waits old message reply new
     → Exchange steps waits limits input rest old new (reply_text reply)
 Exchange-one steps waits limits input rest old new message reply said answered = record {
@@ -41,7 +43,8 @@ Exchange-one steps waits limits input rest old new message reply said answered =
   written = sym (append-nil (reply_text reply));
 }
 
-pub Exchange-append : {D : Type 0} (steps : D → Event → Reply → D → Type 0) (waits : WaitLaw D) (limits : Limits) (input mid rest : List ℕ) (old now new : D) (text more : List ℕ)
+pub Exchange-append : {D : Type 0} (steps : D → Event → Reply → D → Type 0) (waits : WaitLaw D)
+    (limits : Limits) (input mid rest : List ℕ) (old now new : D) (text more : List ℕ)
     → Exchange steps waits limits input mid old now text → Exchange steps waits limits mid rest now new more
     → Exchange steps waits limits input rest old new (text ++ more)
 Exchange-append steps waits limits input mid rest old now new text more a b = record {
@@ -53,7 +56,8 @@ Exchange-append steps waits limits input mid rest old now new text more a b = re
 }
 
 -- one message, whose reply is not written whole
-pub BreaksOff-one : {D : Type 0} (steps : D → Event → Reply → D → Type 0) (waits : WaitLaw D) (limits : Limits) (input rest : List ℕ) (old new : D) (message : Message) (reply : Response)
+pub BreaksOff-one : {D : Type 0} (steps : D → Event → Reply → D → Type 0) (waits : WaitLaw D)
+    (limits : Limits) (input rest : List ℕ) (old new : D) (message : Message) (reply : Response)
     (written unwritten : List ℕ) → Says limits input message rest → Answered steps waits old message reply new → reply_text reply ≡ written ++ unwritten
     → BreaksOff steps waits limits input rest old new written
 BreaksOff-one steps waits limits input rest old new message reply written unwritten said answered cut = record {
@@ -71,7 +75,8 @@ BreaksOff-one steps waits limits input rest old new message reply written unwrit
   joined = refl;
 }
 
-pub BreaksOff-after : {D : Type 0} (steps : D → Event → Reply → D → Type 0) (waits : WaitLaw D) (limits : Limits) (input mid rest : List ℕ) (old now new : D) (text more : List ℕ)
+pub BreaksOff-after : {D : Type 0} (steps : D → Event → Reply → D → Type 0) (waits : WaitLaw D)
+    (limits : Limits) (input mid rest : List ℕ) (old now new : D) (text more : List ℕ)
     → Exchange steps waits limits input mid old now text → BreaksOff steps waits limits mid rest now new more
     → BreaksOff steps waits limits input rest old new (text ++ more)
 BreaksOff-after steps waits limits input mid rest old now new text more a b = record {
@@ -90,7 +95,8 @@ BreaksOff-after steps waits limits input mid rest old now new text more a b = re
 }
 
 -- an exchange, and then one after which the writer failed
-pub CutsOff-after : {D : Type 0} (steps : D → Event → Reply → D → Type 0) (waits : WaitLaw D) (limits : Limits) (input mid rest : List ℕ) (old now new : D) (text more : List ℕ)
+pub CutsOff-after : {D : Type 0} (steps : D → Event → Reply → D → Type 0) (waits : WaitLaw D)
+    (limits : Limits) (input mid rest : List ℕ) (old now new : D) (text more : List ℕ)
     → Exchange steps waits limits input mid old now text → CutsOff steps waits limits mid rest now new more
     → CutsOff steps waits limits input rest old new (text ++ more)
 CutsOff-after steps waits limits input mid rest old now new text more a b = elim b [

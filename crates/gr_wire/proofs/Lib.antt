@@ -3,4 +3,5 @@ pub mod Exchanges
 pub mod Steps
 pub mod Sent
 pub mod Served
+pub mod Ended
 pub mod Runs

@@ -81,7 +81,8 @@ built_in old new job answer h = elim h [
   | inr k ↦ let g = given_back old new job k.1 in (g.0, g.1, λ before after e. inr (k.0, g.2 before after e))
 ]
 
-after_take : (old new : Machine) (reply : Reply) (answer : Response) → AfterTake Step old reply answer new → IsRun old new (λ a b. AfterTake Notes a reply answer b)
+after_take : (old new : Machine) (reply : Reply) (answer : Response) → AfterTake Step old reply answer new
+    → IsRun old new (λ a b. AfterTake Notes a reply answer b)
 after_take old new (Taken job) answer h = built_in old new job answer h
 after_take old new (Refused refusal) answer h = ([], h.1, λ before after n. (h.0, nothing before after n))
 after_take old new reply answer h = absurd h
@@ -129,7 +130,8 @@ continued old new (Taken job) asked answer h = absurd h.0
 continued old new (Refused refusal) asked answer h = ([], h.1, λ before after n. (h.0, nothing before after n))
 continued old new (Back refusal job unit) asked answer h = absurd h.0
 
-acted : (old new : Machine) (asked : Command) (answer : Response) → Acts Step RefusesWait old asked answer new → IsRun old new (λ a b. Acts Notes RefusesWait a asked answer b)
+acted : (old new : Machine) (asked : Command) (answer : Response) → Acts Step RefusesWait old asked answer new
+    → IsRun old new (λ a b. Acts Notes RefusesWait a asked answer b)
 acted old new (command.Log number) answer h = sent old new (event.Log number) answer h
 acted old new command.Wait answer h = ([], h.1.1, λ before after n. (h.0, (h.1.0, nothing before after n), h.2))
 acted old new asked answer h =

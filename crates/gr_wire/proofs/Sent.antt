@@ -1,7 +1,11 @@
 -- Bytes that are held while what was written is sent.
-use Rattle.std.proofs.Common.{◌≡◌, ℕ, List, [], ◌++◌, Option, None, Some, Result, Ok, Err, sym, ap, ◌∙◌, append-nil}
+use Rattle.std.proofs.Common.{◌≡◌, ℕ, List, [], ◌++◌, Option, None, Some, Result, Ok, Err, refl, sym, ap, ◌∙◌, append-nil}
 use Rattle.std.specs.Io.KnownBytes.{Appends, Keeps}
 use Rattle.gr_line.specs.Failures.{WritesText}
+
+pub kept_same : (held : Option (List ℕ)) → Keeps held held
+kept_same None = tt
+kept_same (Some xs) = refl
 
 -- nothing is added
 pub kept_nil : (held holds : Option (List ℕ)) → Keeps held holds → Appends held holds []

@@ -6,7 +6,7 @@ mod exchange;
 mod law;
 mod memory;
 
-pub use alone::session_alone;
+pub use alone::{converse, session_alone};
 pub use exchange::{SessionFault, session};
 pub use law::runs_the_machine;
 pub use memory::transcript;

@@ -4,9 +4,9 @@ ghost use Rattle.gr_book.specs.Step.{Step};
 ghost use Rattle.gr_desk.specs.Wait.{RefusesWait};
 ghost use Rattle.gr_wire.specs.Transcript.{IsTranscript, EndsEarly};
 
-use crate::exchange::{SessionFault, session};
+use crate::alone::converse;
+use crate::exchange::SessionFault;
 use gr_desk::Solo;
-use gr_line::{Reading, Writing};
 use gr_text::Limits;
 use std::alloc::Global;
 
@@ -21,10 +21,9 @@ pub fn transcript(
     ensures { MatchResult result (λ text. IsTranscript Step RefusesWait limits input.now solo.old solo.new text.items)
         (λ fault. EndsEarly Step RefusesWait limits input.now solo.old solo.new fault) }
 {
-    let mut source = Reading::new(input);
-    let mut sink = Writing::new(Vec::new(alloc));
-    match session(alloc, &mut source, &mut sink, solo, limits) {
-        Ok(()) => Ok(sink.into_inner()),
+    let (ended, text) = converse(alloc, input, Vec::new(alloc), solo, limits);
+    match ended {
+        Ok(()) => Ok(text),
         Err(fault) => Err(fault),
     }
 }
