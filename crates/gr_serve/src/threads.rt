@@ -1,10 +1,9 @@
 //! The threads of a server.
 use crate::turns::Turns;
 use gr_held::Held;
-use gr_line::{Reading, Writing};
 use gr_pool::{Gate, Opening, Seat, Shared, worker};
 use gr_text::Limits;
-use gr_wire::{SessionFault, session};
+use gr_wire::{SessionFault, converse};
 use std::alloc::Global;
 use std::io::{BufReader, BufWriter};
 use std::os::unix::net::UnixStream;
@@ -20,10 +19,11 @@ fn talk<L: Opening, R: Wait>(
     seat: &mut Seat<L>,
     stream: &UnixStream,
 ) -> io::Result<Result<(), SessionFault>> {
-    let mut source = Reading::new(BufReader::new(alloc, stream)?);
-    let mut sink = Writing::new(BufWriter::new(alloc, stream)?);
+    let input = BufReader::new(alloc, stream)?;
+    let output = BufWriter::new(alloc, stream)?;
     let mut held = Held { rt, shared, seat };
-    Ok(session(alloc, &mut source, &mut sink, &mut held, Limits::FULL))
+    let (ended, _output) = converse(alloc, input, output, &mut held, Limits::FULL);
+    Ok(ended)
 }
 
 /// Serves one connection after another, until none is accepted any more.
