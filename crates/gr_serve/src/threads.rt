@@ -47,12 +47,12 @@ fn take_turns<L: Opening, R: Wait>(
 
 /// Serves sessions in a thread for each seat, until none is accepted any more. None is accepted before all threads are made. It is false
 /// where a thread could not be made.
-fn serve_sessions<L: Opening + Send + Sync, R: Threads + Wait + Sync>(
-    rt: &R,
+fn serve_sessions<'a, L: Opening + Send + Sync, R: Threads + Wait + Sync>(
+    rt: &'a R,
     alloc: Global,
-    shared: &Shared<L>,
-    seats: &mut [Seat<L>],
-    turns: &Turns,
+    shared: &'a Shared<L>,
+    seats: &'a mut [Seat<L>],
+    turns: &'a Turns,
     mut are_made: bool,
 ) -> bool {
     thread::scope(thread::scope_env(), rt, |scope| {
@@ -75,14 +75,14 @@ fn serve_sessions<L: Opening + Send + Sync, R: Threads + Wait + Sync>(
 
 /// Builds packages in as many threads as there are workers, and serves sessions in the others, until none is accepted any more. It is
 /// false where a thread could not be made.
-pub(crate) fn run<L: Opening + Send + Sync, R: Threads + Wait + Sync, G: Gate + Sync>(
-    rt: &R,
+pub(crate) fn run<'a, L: Opening + Send + Sync, R: Threads + Wait + Sync, G: Gate + Sync>(
+    rt: &'a R,
     alloc: Global,
-    shared: &Shared<L>,
-    workers: &mut [Seat<L>],
-    sessions: &mut [Seat<L>],
-    gate: &G,
-    turns: &Turns,
+    shared: &'a Shared<L>,
+    workers: &'a mut [Seat<L>],
+    sessions: &'a mut [Seat<L>],
+    gate: &'a G,
+    turns: &'a Turns,
 ) -> bool {
     thread::scope(thread::scope_env(), rt, |scope| {
         let mut are_made = true;
