@@ -69,8 +69,15 @@ fn serve_by<L: Opening + Send + Sync, R: Threads + Wait + Sync, G: Gate + Sync>(
     gate: &G,
     turns: Turns,
 ) -> Result<(), ServeFault> {
-    let (workers, sessions) = seats.split_at_mut((words.workers as usize).min(seats.len()));
-    let are_made = run(rt, alloc, shared, workers, sessions, gate, &turns);
+    let are_made = run(
+        rt,
+        alloc,
+        shared,
+        seats,
+        words.workers as usize,
+        gate,
+        &turns,
+    );
     if !are_made {
         return Err(ServeFault::Memory);
     }

@@ -53,9 +53,10 @@ fn serve_sessions<'a, L: Opening + Send + Sync, R: Threads + Wait + Sync>(
     shared: &'a Shared<L>,
     seats: &'a mut [Seat<L>],
     turns: &'a Turns,
-    mut are_made: bool,
+    were_made: bool,
 ) -> bool {
     thread::scope(thread::scope_env(), rt, |scope| {
+        let mut are_made = were_made;
         let mut turn = turns.turn.lock(rt);
         for seat in seats.iter_mut() {
             if scope
@@ -79,14 +80,15 @@ pub(crate) fn run<'a, L: Opening + Send + Sync, R: Threads + Wait + Sync, G: Gat
     rt: &'a R,
     alloc: Global,
     shared: &'a Shared<L>,
-    workers: &'a mut [Seat<L>],
-    sessions: &'a mut [Seat<L>],
+    seats: &'a mut [Seat<L>],
+    workers: usize,
     gate: &'a G,
     turns: &'a Turns,
 ) -> bool {
     thread::scope(thread::scope_env(), rt, |scope| {
         let mut are_made = true;
-        for seat in workers.iter_mut() {
+        let (at_work, in_sessions) = seats.split_at_mut(workers.min(seats.len()));
+        for seat in at_work.iter_mut() {
             if scope
                 .spawn(move || worker(rt, alloc, shared, seat, gate))
                 .is_err()
@@ -94,7 +96,7 @@ pub(crate) fn run<'a, L: Opening + Send + Sync, R: Threads + Wait + Sync, G: Gat
                 are_made = false;
             }
         }
-        let are_made = serve_sessions(rt, alloc, shared, sessions, turns, are_made);
+        let are_made = serve_sessions(rt, alloc, shared, in_sessions, turns, are_made);
         shared.stop(rt);
         are_made
     })
