@@ -87,7 +87,8 @@ pub(crate) fn run<'a, L: Opening + Send + Sync, R: Threads + Wait + Sync, G: Gat
 ) -> bool {
     thread::scope(thread::scope_env(), rt, |scope| {
         let mut are_made = true;
-        let (at_work, in_sessions) = seats.split_at_mut(workers.min(seats.len()));
+        let count = workers.min(seats.len());
+        let (at_work, in_sessions) = seats.split_at_mut(count);
         for seat in at_work.iter_mut() {
             if scope
                 .spawn(move || worker(rt, alloc, shared, seat, gate))
