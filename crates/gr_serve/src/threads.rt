@@ -47,18 +47,18 @@ fn take_turns<L: Opening, R: Wait>(
 
 /// Serves sessions in a thread for each seat, until none is accepted any more. None is accepted before all threads are made. It is false
 /// where a thread could not be made.
-fn serve_sessions<'a, L: Opening + Send + Sync, R: Threads + Wait + Sync>(
-    rt: &'a R,
+fn serve_sessions<L: Opening + Send + Sync, R: Threads + Wait + Sync>(
+    rt: &R,
     alloc: Global,
-    shared: &'a Shared<L>,
-    seats: &'a mut [Seat<L>],
-    turns: &'a Turns,
+    shared: &Shared<L>,
+    seats: &mut [Seat<L>],
+    turns: &Turns,
     were_made: bool,
 ) -> bool {
-    thread::scope(thread::scope_env(), rt, |scope| {
+    thread::scope(thread::scope_env(), rt, move |scope| {
         let mut are_made = were_made;
         let mut turn = turns.turn.lock(rt);
-        for seat in seats.iter_mut() {
+        for seat in seats {
             if scope
                 .spawn(move || take_turns(rt, alloc, shared, seat, turns))
                 .is_err()
@@ -76,20 +76,20 @@ fn serve_sessions<'a, L: Opening + Send + Sync, R: Threads + Wait + Sync>(
 
 /// Builds packages in as many threads as there are workers, and serves sessions in the others, until none is accepted any more. It is
 /// false where a thread could not be made.
-pub(crate) fn run<'a, L: Opening + Send + Sync, R: Threads + Wait + Sync, G: Gate + Sync>(
-    rt: &'a R,
+pub(crate) fn run<L: Opening + Send + Sync, R: Threads + Wait + Sync, G: Gate + Sync>(
+    rt: &R,
     alloc: Global,
-    shared: &'a Shared<L>,
-    seats: &'a mut [Seat<L>],
+    shared: &Shared<L>,
+    seats: &mut [Seat<L>],
     workers: usize,
-    gate: &'a G,
-    turns: &'a Turns,
+    gate: &G,
+    turns: &Turns,
 ) -> bool {
-    thread::scope(thread::scope_env(), rt, |scope| {
+    thread::scope(thread::scope_env(), rt, move |scope| {
         let mut are_made = true;
         let count = workers.min(seats.len());
         let (at_work, in_sessions) = seats.split_at_mut(count);
-        for seat in at_work.iter_mut() {
+        for seat in at_work {
             if scope
                 .spawn(move || worker(rt, alloc, shared, seat, gate))
                 .is_err()
