@@ -1,0 +1,11 @@
+//! The server on a Unix socket: threads that serve sessions, and threads that build packages, over one shared book.
+#![tactic(auto)]
+
+mod fault;
+mod serving;
+mod socket;
+mod threads;
+mod turns;
+
+pub use fault::ServeFault;
+pub use serving::serve;
