@@ -5,3 +5,6 @@ pub mod ReceiptLaws
 pub mod CallLaws
 pub mod WorkLaws
 pub mod UnitLaws
+pub mod SendsFound
+pub mod SendsTrees
+pub mod Sends

@@ -1,9 +1,8 @@
 -- The threads may take what they lend.
 use denote.Param.Send.{sendable}
-use Rattle.std.proofs.Crossing.{crosses, send as Global-send, sync as Global-sync}
-use Rattle.gr_serve.proofs.Sends.{seat_sent, shared_shared}
-use Rattle.gr_serve.proofs.turns.Turns.TheSendSync.{the_sync as turns-sync}
+use Rattle.std.proofs.Crossing.{crosses, send as Global-send}
+use Rattle.gr_pool.proofs.Sends.{seat_sent, shared_shared}
 use Rattle.gr_serve.proofs.threads.fn.run.scope.Goals as goal
 
 pub spawn-requires-send-F : goal.spawn-requires-send-F
-spawn-requires-send-F g c = λ κs outlived. search (sendable, crosses, Global-send, Global-sync, seat_sent, shared_shared, turns-sync) depth 30 fits 50000
+spawn-requires-send-F g c = λ κs outlived. search (sendable, crosses, Global-send, seat_sent, shared_shared) depth 30 fits 50000

@@ -1,0 +1,85 @@
+-- A shared book may be shared by threads, and a seat may go to another thread.
+use denote.RattleType.{RattleType}
+use denote.Param.Send.{IsSend, IsSync, sendable}
+use Rattle.std.specs.declared.sync.ledger.Ledger.{Ghosts as Ledger}
+use Rattle.std.proofs.Crossing.{crosses, send as Global-send, sync as Global-sync}
+use Rattle.std.proofs.MapsCrossing.{crosses as maps}
+use Rattle.std.proofs.sync.ledger.Book.TheSendSync.{the_send as Count-send}
+use Rattle.std.proofs.sync.ledger.Share.TheSendSync.{the_send as Share-send}
+use Rattle.std.proofs.sync.Condvar.TheSendSync.{the_sync as Condvar-sync}
+use Rattle.gr_graph.specs.contracts.package.Package.{the_row as folder}
+use Rattle.gr_graph.specs.contracts.graph.Parts.{the_row as graph_parts}
+use Rattle.gr_graph.specs.contracts.graph.Graph.{the_row as graph}
+use Rattle.gr_compile.specs.contracts.unit.Compiled.{the_row as compiled}
+use Rattle.gr_compile.specs.contracts.unit.Unit.{the_row as unit}
+use Rattle.gr_keep.specs.contracts.finished.Finished.{the_row as finished}
+use Rattle.gr_book.specs.contracts.state.State.{the_row as state}
+use Rattle.gr_book.specs.contracts.content.Content.{the_row as content}
+use Rattle.gr_book.specs.contracts.book.Book.{the_row as book}
+use Rattle.gr_pool.specs.contracts.seat.Seat.{the_row as seat}
+use Rattle.gr_pool.specs.contracts.shared.Shared.{the_row as shared}
+use Rattle.gr_pool.specs.contracts.locked.Locked.{the_row as locked}
+use Rattle.gr_pool.specs.declared.opening.Opening.{Ghosts as Opening}
+use Rattle.gr_text.proofs.file_text.FileText.TheSendSync.{the_send as FileText-send, the_sync as FileText-sync}
+use Rattle.gr_text.proofs.files.Files.TheSendSync.{the_send as Files-send, the_sync as Files-sync}
+use Rattle.gr_text.proofs.limits.Limits.TheSendSync.{the_send as Limits-send, the_sync as Limits-sync}
+use Rattle.gr_graph.proofs.faulty_file.FaultyFile.TheSendSync.{the_send as FaultyFile-send, the_sync as FaultyFile-sync}
+use Rattle.gr_graph.proofs.shared_links.SharedLinks.TheSendSync.{the_send as SharedLinks-send, the_sync as SharedLinks-sync}
+use Rattle.gr_compile.proofs.out.Out.TheSendSync.{the_send as Out-send}
+use Rattle.gr_book.proofs.entry.Entry.TheSendSync.{the_send as Entry-send}
+use Rattle.gr_pool.proofs.seat.Seat.TheSendSync.{the_send as Seat-send}
+use Rattle.gr_pool.proofs.SendsFound.{file_fault_sent, file_fault_shared, scope_sent, scope_shared, definition_sent, definition_shared, interfaces_sent, interfaces_shared, known_sent, known_shared, shared_known_sent}
+use Rattle.gr_expr.proofs.types.GoType.TheLaws.TheKnot.{crosses as type_crosses}
+use Rattle.gr_pool.proofs.SendsTrees.{file_tree_sent, file_tree_shared}
+
+-- owned values, and what each of the crates below shows of its own types
+ruleset owned = (sendable, crosses, maps, Global-send, Global-sync, FileText-send, FileText-sync, Files-send, Files-sync, Limits-send, Limits-sync,
+    FaultyFile-send, FaultyFile-sync, SharedLinks-send, SharedLinks-sync)
+
+pub folder_sent : IsSend folder
+folder_sent = search (owned, file_tree_sent) depth 30 fits 50000
+
+pub folder_shared : IsSync folder
+folder_shared = search (owned, file_tree_shared) depth 30 fits 50000
+
+pub graph_parts_sent : IsSend graph_parts
+graph_parts_sent = search (owned, folder_sent) depth 30 fits 50000
+
+pub graph_parts_shared : IsSync graph_parts
+graph_parts_shared = search (owned, folder_shared) depth 30 fits 50000
+
+pub graph_sent : IsSend graph
+graph_sent = search (owned, graph_parts_sent, graph_parts_shared) depth 30 fits 50000
+
+pub compiled_sent : IsSend compiled
+compiled_sent = search (owned, type_crosses, file_fault_sent, file_fault_shared, scope_sent, scope_shared, definition_sent, definition_shared, interfaces_sent, interfaces_shared) depth 30 fits 50000
+
+pub compiled_shared : IsSync compiled
+compiled_shared = search (owned, type_crosses, file_fault_sent, file_fault_shared, scope_sent, scope_shared, definition_sent, definition_shared, interfaces_sent, interfaces_shared) depth 30 fits 50000
+
+pub unit_sent : IsSend unit
+unit_sent = search (owned, compiled_sent, compiled_shared) depth 30 fits 50000
+
+pub unit_shared : IsSync unit
+unit_shared = search (owned, compiled_sent, compiled_shared) depth 30 fits 50000
+
+pub finished_sent : IsSend finished
+finished_sent = search (owned, compiled_sent, compiled_shared, unit_sent, unit_shared) depth 30 fits 50000
+
+pub state_sent : IsSend state
+state_sent = search (owned, graph_sent, finished_sent, shared_known_sent, graph_parts_sent, graph_parts_shared, unit_sent, unit_shared, known_sent, known_shared) depth 30 fits 50000
+
+pub content_sent : IsSend content
+content_sent = search (owned, state_sent, Out-send, graph_sent, finished_sent, shared_known_sent, graph_parts_sent, graph_parts_shared, unit_sent, unit_shared, known_sent, known_shared) depth 30 fits 50000
+
+pub book_sent : IsSend book
+book_sent = search (owned, content_sent, Entry-send, state_sent, Out-send, graph_sent, finished_sent, shared_known_sent, graph_parts_sent, graph_parts_shared, unit_sent, unit_shared, known_sent, known_shared) depth 30 fits 50000
+
+pub locked_sent : (L : RattleType) (o : Opening L.Denot) (l : Ledger L.Denot) → IsSend (locked L o l)
+locked_sent L o l = search (owned, book_sent, content_sent, state_sent, Out-send, Entry-send, graph_sent, finished_sent, Count-send, Share-send) depth 30 fits 50000
+
+pub shared_shared : (L : RattleType) (o : Opening L.Denot) (l : Ledger L.Denot) → IsSync (shared L o l)
+shared_shared L o l = search (owned, Condvar-sync, locked_sent) depth 30 fits 50000
+
+pub seat_sent : (L : RattleType) (o : Opening L.Denot) (l : Ledger L.Denot) → IsSend (seat L o l)
+seat_sent L o l = search (owned, Seat-send) depth 30 fits 50000

@@ -1,0 +1,160 @@
+-- What was found in packages may go to other threads, and may be shared by them.
+use denote.Param.Send.{IsSend, IsSync, sendable}
+use Rattle.std.proofs.Crossing.{crosses}
+use Rattle.std.proofs.MapsCrossing.{crosses as maps}
+use Rattle.gr_expr.specs.contracts.types.GoType.{the_row as go_type}
+use Rattle.gr_expr.specs.contracts.symbol.Symbol.{the_row as symbol}
+use Rattle.gr_expr.specs.contracts.types.Signature.{the_row as signature}
+use Rattle.gr_expr.specs.contracts.world.Underlying.{the_row as underlying}
+use Rattle.gr_expr.specs.contracts.world.Field.{the_row as field}
+use Rattle.gr_expr.specs.contracts.world.Method.{the_row as method}
+use Rattle.gr_expr.specs.contracts.world.Definition.{the_row as definition}
+use Rattle.gr_expr.specs.contracts.world.Definitions.{the_row as definitions}
+use Rattle.gr_expr.specs.contracts.found.MemberUse.{the_row as member_use}
+use Rattle.gr_imports.specs.contracts.states.ImportStates.{the_row as states}
+use Rattle.gr_declared.specs.contracts.interfaces.ExportMeaning.{the_row as meaning}
+use Rattle.gr_declared.specs.contracts.interfaces.Export.{the_row as exported}
+use Rattle.gr_declared.specs.contracts.interfaces.PackageScope.{the_row as scope}
+use Rattle.gr_declared.specs.contracts.interfaces.Interfaces.{the_row as interfaces}
+use Rattle.gr_verdict.specs.contracts.fault.FileFault.{the_row as file_fault}
+use Rattle.gr_verdict.specs.contracts.finding.Finding.{the_row as finding}
+use Rattle.gr_verdict.specs.contracts.finding.SharedFinding.{the_row as shared_finding}
+use Rattle.gr_verdict.specs.contracts.known.SharedInterfaces.{the_row as shared_interfaces}
+use Rattle.gr_verdict.specs.contracts.known.KnownVerdict.{the_row as verdict}
+use Rattle.gr_verdict.specs.contracts.known.Known.{the_row as known}
+use Rattle.gr_keep.specs.contracts.shared_known.SharedKnown.{the_row as shared_known}
+use Rattle.gr_text.proofs.path.Path.TheSendSync.{the_send as Path-send, the_sync as Path-sync}
+use Rattle.gr_expr.proofs.symbol.SharedPath.TheSendSync.{the_send as SharedPath-send, the_sync as SharedPath-sync}
+use Rattle.gr_expr.proofs.types.Basic.TheSendSync.{the_send as Basic-send, the_sync as Basic-sync}
+use Rattle.gr_expr.proofs.symbol.Symbol.TheSendSync.{the_send as Symbol-send, the_sync as Symbol-sync}
+use Rattle.gr_verdict.proofs.fault.FileFault.TheSendSync.{the_send as FileFault-send, the_sync as FileFault-sync}
+use Rattle.gr_expr.proofs.types.GoType.TheLaws.TheKnot.{crosses as type_crosses}
+
+-- owned values, and what each of the crates below shows of its own types
+pub ruleset owned = (sendable, crosses, maps, Path-send, Path-sync, SharedPath-send, SharedPath-sync, Basic-send, Basic-sync)
+
+pub go_type_sent : IsSend go_type
+go_type_sent = search (owned, type_crosses) depth 30 fits 50000
+
+pub go_type_shared : IsSync go_type
+go_type_shared = search (owned, type_crosses) depth 30 fits 50000
+
+pub symbol_sent : IsSend symbol
+symbol_sent = Symbol-send
+
+pub symbol_shared : IsSync symbol
+symbol_shared = Symbol-sync
+
+pub signature_sent : IsSend signature
+signature_sent = search (owned, go_type_sent) depth 30 fits 50000
+
+pub signature_shared : IsSync signature
+signature_shared = search (owned, go_type_shared) depth 30 fits 50000
+
+pub underlying_sent : IsSend underlying
+underlying_sent = search (owned, type_crosses) depth 30 fits 50000
+
+pub underlying_shared : IsSync underlying
+underlying_shared = search (owned, type_crosses) depth 30 fits 50000
+
+pub field_sent : IsSend field
+field_sent = search (owned, type_crosses) depth 30 fits 50000
+
+pub field_shared : IsSync field
+field_shared = search (owned, type_crosses) depth 30 fits 50000
+
+pub method_sent : IsSend method
+method_sent = search (owned, signature_sent) depth 30 fits 50000
+
+pub method_shared : IsSync method
+method_shared = search (owned, signature_shared) depth 30 fits 50000
+
+pub definition_sent : IsSend definition
+definition_sent = search (owned, type_crosses, field_sent, method_sent) depth 30 fits 50000
+
+pub definition_shared : IsSync definition
+definition_shared = search (owned, type_crosses, field_shared, method_shared) depth 30 fits 50000
+
+pub definitions_sent : IsSend definitions
+definitions_sent = search (owned, definition_sent, definition_shared) depth 30 fits 50000
+
+pub definitions_shared : IsSync definitions
+definitions_shared = search (owned, definition_sent, definition_shared) depth 30 fits 50000
+
+pub member_use_sent : IsSend member_use
+member_use_sent = search (owned, type_crosses, symbol_sent) depth 30 fits 50000
+
+pub member_use_shared : IsSync member_use
+member_use_shared = search (owned, type_crosses, symbol_shared) depth 30 fits 50000
+
+pub states_sent : IsSend states
+states_sent = search (owned) depth 30 fits 50000
+
+pub states_shared : IsSync states
+states_shared = search (owned) depth 30 fits 50000
+
+pub meaning_sent : IsSend meaning
+meaning_sent = search (owned, type_crosses, go_type_sent) depth 30 fits 50000
+
+pub meaning_shared : IsSync meaning
+meaning_shared = search (owned, type_crosses, go_type_shared) depth 30 fits 50000
+
+pub exported_sent : IsSend exported
+exported_sent = search (owned, type_crosses, go_type_sent) depth 30 fits 50000
+
+pub exported_shared : IsSync exported
+exported_shared = search (owned, type_crosses, go_type_shared) depth 30 fits 50000
+
+pub scope_sent : IsSend scope
+scope_sent = search (owned, exported_sent) depth 30 fits 50000
+
+pub scope_shared : IsSync scope
+scope_shared = search (owned, exported_shared) depth 30 fits 50000
+
+pub interfaces_sent : IsSend interfaces
+interfaces_sent = search (owned, type_crosses, scope_sent, scope_shared, definition_sent, definition_shared) depth 30 fits 50000
+
+pub interfaces_shared : IsSync interfaces
+interfaces_shared = search (owned, type_crosses, scope_sent, scope_shared, definition_sent, definition_shared) depth 30 fits 50000
+
+pub file_fault_sent : IsSend file_fault
+file_fault_sent = FileFault-send
+
+pub file_fault_shared : IsSync file_fault
+file_fault_shared = FileFault-sync
+
+pub finding_sent : IsSend finding
+finding_sent = search (owned, file_fault_sent, member_use_sent) depth 30 fits 50000
+
+pub finding_shared : IsSync finding
+finding_shared = search (owned, file_fault_shared, member_use_shared) depth 30 fits 50000
+
+pub shared_finding_sent : IsSend shared_finding
+shared_finding_sent = search (owned, finding_sent, finding_shared) depth 30 fits 50000
+
+pub shared_finding_shared : IsSync shared_finding
+shared_finding_shared = search (owned, finding_sent, finding_shared) depth 30 fits 50000
+
+pub shared_interfaces_sent : IsSend shared_interfaces
+shared_interfaces_sent = search (owned, interfaces_sent, interfaces_shared) depth 30 fits 50000
+
+pub shared_interfaces_shared : IsSync shared_interfaces
+shared_interfaces_shared = search (owned, interfaces_sent, interfaces_shared) depth 30 fits 50000
+
+pub verdict_sent : IsSend verdict
+verdict_sent = search (owned, shared_finding_sent, shared_interfaces_sent) depth 30 fits 50000
+
+pub verdict_shared : IsSync verdict
+verdict_shared = search (owned, shared_finding_shared, shared_interfaces_shared) depth 30 fits 50000
+
+pub known_sent : IsSend known
+known_sent = search (owned, verdict_sent) depth 30 fits 50000
+
+pub known_shared : IsSync known
+known_shared = search (owned, verdict_shared) depth 30 fits 50000
+
+pub shared_known_sent : IsSend shared_known
+shared_known_sent = search (owned, known_sent, known_shared) depth 30 fits 50000
+
+pub shared_known_shared : IsSync shared_known
+shared_known_shared = search (owned, known_sent, known_shared) depth 30 fits 50000
