@@ -28,7 +28,7 @@ use Rattle.gr_graph.proofs.shared_links.SharedLinks.TheSendSync.{the_send as Sha
 use Rattle.gr_compile.proofs.out.Out.TheSendSync.{the_send as Out-send}
 use Rattle.gr_book.proofs.entry.Entry.TheSendSync.{the_send as Entry-send}
 use Rattle.gr_pool.proofs.seat.Seat.TheSendSync.{the_send as Seat-send}
-use Rattle.gr_pool.proofs.SendsFound.{file_fault_sent, file_fault_shared, scope_sent, scope_shared, definition_sent, definition_shared, interfaces_sent, interfaces_shared, known_sent, known_shared, shared_known_sent}
+use Rattle.gr_pool.proofs.SendsFound.{file_fault_sent, file_fault_shared, scope_sent, scope_shared, definition_sent, definition_shared, known_sent, known_shared, shared_known_sent}
 use Rattle.gr_expr.proofs.types.GoType.TheLaws.TheKnot.{crosses as type_crosses}
 use Rattle.gr_pool.proofs.SendsTrees.{file_tree_sent, file_tree_shared}
 
@@ -52,10 +52,10 @@ pub graph_sent : IsSend graph
 graph_sent = search (owned, graph_parts_sent, graph_parts_shared) depth 30 fits 50000
 
 pub compiled_sent : IsSend compiled
-compiled_sent = search (owned, type_crosses, file_fault_sent, file_fault_shared, scope_sent, scope_shared, definition_sent, definition_shared, interfaces_sent, interfaces_shared) depth 30 fits 50000
+compiled_sent = search (owned, type_crosses, file_fault_sent, scope_sent, scope_shared, definition_sent, definition_shared) depth 30 fits 50000
 
 pub compiled_shared : IsSync compiled
-compiled_shared = search (owned, type_crosses, file_fault_sent, file_fault_shared, scope_sent, scope_shared, definition_sent, definition_shared, interfaces_sent, interfaces_shared) depth 30 fits 50000
+compiled_shared = search (owned, type_crosses, file_fault_shared, scope_sent, scope_shared, definition_sent, definition_shared) depth 30 fits 50000
 
 pub unit_sent : IsSend unit
 unit_sent = search (owned, compiled_sent, compiled_shared) depth 30 fits 50000
@@ -64,7 +64,7 @@ pub unit_shared : IsSync unit
 unit_shared = search (owned, compiled_sent, compiled_shared) depth 30 fits 50000
 
 pub finished_sent : IsSend finished
-finished_sent = search (owned, compiled_sent, compiled_shared, unit_sent, unit_shared) depth 30 fits 50000
+finished_sent = search (owned, unit_sent, unit_shared) depth 30 fits 50000
 
 pub state_sent : IsSend state
 state_sent = search (owned, graph_sent, finished_sent, shared_known_sent, graph_parts_sent, graph_parts_shared, unit_sent, unit_shared, known_sent, known_shared) depth 30 fits 50000

@@ -5,14 +5,10 @@ use Rattle.std.proofs.MapsCrossing.{crosses as maps}
 use Rattle.gr_expr.specs.contracts.types.GoType.{the_row as go_type}
 use Rattle.gr_expr.specs.contracts.symbol.Symbol.{the_row as symbol}
 use Rattle.gr_expr.specs.contracts.types.Signature.{the_row as signature}
-use Rattle.gr_expr.specs.contracts.world.Underlying.{the_row as underlying}
 use Rattle.gr_expr.specs.contracts.world.Field.{the_row as field}
 use Rattle.gr_expr.specs.contracts.world.Method.{the_row as method}
 use Rattle.gr_expr.specs.contracts.world.Definition.{the_row as definition}
-use Rattle.gr_expr.specs.contracts.world.Definitions.{the_row as definitions}
 use Rattle.gr_expr.specs.contracts.found.MemberUse.{the_row as member_use}
-use Rattle.gr_imports.specs.contracts.states.ImportStates.{the_row as states}
-use Rattle.gr_declared.specs.contracts.interfaces.ExportMeaning.{the_row as meaning}
 use Rattle.gr_declared.specs.contracts.interfaces.Export.{the_row as exported}
 use Rattle.gr_declared.specs.contracts.interfaces.PackageScope.{the_row as scope}
 use Rattle.gr_declared.specs.contracts.interfaces.Interfaces.{the_row as interfaces}
@@ -51,12 +47,6 @@ signature_sent = search (owned, go_type_sent) depth 30 fits 50000
 pub signature_shared : IsSync signature
 signature_shared = search (owned, go_type_shared) depth 30 fits 50000
 
-pub underlying_sent : IsSend underlying
-underlying_sent = search (owned, type_crosses) depth 30 fits 50000
-
-pub underlying_shared : IsSync underlying
-underlying_shared = search (owned, type_crosses) depth 30 fits 50000
-
 pub field_sent : IsSend field
 field_sent = search (owned, type_crosses) depth 30 fits 50000
 
@@ -75,29 +65,11 @@ definition_sent = search (owned, type_crosses, field_sent, method_sent) depth 30
 pub definition_shared : IsSync definition
 definition_shared = search (owned, type_crosses, field_shared, method_shared) depth 30 fits 50000
 
-pub definitions_sent : IsSend definitions
-definitions_sent = search (owned, definition_sent, definition_shared) depth 30 fits 50000
-
-pub definitions_shared : IsSync definitions
-definitions_shared = search (owned, definition_sent, definition_shared) depth 30 fits 50000
-
 pub member_use_sent : IsSend member_use
 member_use_sent = search (owned, type_crosses, symbol_sent) depth 30 fits 50000
 
 pub member_use_shared : IsSync member_use
 member_use_shared = search (owned, type_crosses, symbol_shared) depth 30 fits 50000
-
-pub states_sent : IsSend states
-states_sent = search (owned) depth 30 fits 50000
-
-pub states_shared : IsSync states
-states_shared = search (owned) depth 30 fits 50000
-
-pub meaning_sent : IsSend meaning
-meaning_sent = search (owned, type_crosses, go_type_sent) depth 30 fits 50000
-
-pub meaning_shared : IsSync meaning
-meaning_shared = search (owned, type_crosses, go_type_shared) depth 30 fits 50000
 
 pub exported_sent : IsSend exported
 exported_sent = search (owned, type_crosses, go_type_sent) depth 30 fits 50000
@@ -155,6 +127,3 @@ known_shared = search (owned, verdict_shared) depth 30 fits 50000
 
 pub shared_known_sent : IsSend shared_known
 shared_known_sent = search (owned, known_sent, known_shared) depth 30 fits 50000
-
-pub shared_known_shared : IsSync shared_known
-shared_known_shared = search (owned, known_sent, known_shared) depth 30 fits 50000

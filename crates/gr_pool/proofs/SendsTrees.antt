@@ -11,21 +11,17 @@ use Rattle.gr_tree.specs.contracts.tree.Values.{the_row as values}
 use Rattle.gr_tree.specs.contracts.tree.LocalSpec.{the_row as local_spec}
 use Rattle.gr_tree.specs.contracts.tree.SimpleStmt.{the_row as simple}
 use Rattle.gr_tree.specs.contracts.tree.IfInit.{the_row as if_init}
-use Rattle.gr_tree.specs.contracts.tree.ForHeader.{the_row as for_header}
 use Rattle.gr_tree.specs.contracts.tree.VarSpec.{the_row as var_spec}
-use Rattle.gr_tree.specs.contracts.tree.Field.{the_row as field}
-use Rattle.gr_tree.specs.contracts.tree.TypeBody.{the_row as type_body}
 use Rattle.gr_tree.specs.contracts.tree.TypeSpec.{the_row as type_spec}
 use Rattle.gr_tree.specs.contracts.tree.Param.{the_row as param}
 use Rattle.gr_tree.specs.contracts.tree.Results.{the_row as results}
 use Rattle.gr_tree.specs.contracts.tree.FuncDecl.{the_row as func_decl}
 use Rattle.gr_tree.specs.contracts.tree.Decl.{the_row as decl}
-use Rattle.gr_tree.specs.contracts.tree.File.{the_row as file}
 use Rattle.gr_tree.specs.contracts.file_tree.Parts.{the_row as file_parts}
 use Rattle.gr_tree.specs.contracts.file_tree.FileTree.{the_row as file_tree}
 use Rattle.gr_scan.specs.contracts.trail.Trail.{the_type as trail_type}
 use Rattle.gr_tree.specs.contracts.tree.SimpleStmt.{enum as simple_enum, the_type as simple_type, the_field as simple_field}
-use Rattle.gr_tree.specs.contracts.tree.ForHeader.{enum as header_enum, the_type as header_type, the_field as header_field}
+use Rattle.gr_tree.specs.contracts.tree.ForHeader.{the_type as header_type, the_field as header_field}
 use Rattle.gr_tree.specs.contracts.tree.Block.{the_field as block_field}
 use Rattle.gr_tree.specs.contracts.tree.FuncDecl.{the_type as func_type}
 use Rattle.gr_tree.specs.contracts.tree.Decl.{enum as decl_enum}
@@ -88,37 +84,11 @@ if_init_sent = search (owned, simple_sent) depth 30 fits 50000
 pub if_init_shared : IsSync if_init
 if_init_shared = search (owned, simple_shared) depth 30 fits 50000
 
-pub for_header_sent : IsSend for_header
-for_header_sent = variants_send header_enum
-        (search owned depth 30 fits 50000,
-        (search owned depth 30 fits 50000,
-        (search (owned, simple_sent) depth 30 fits 50000,
-        tt)))
-
-pub for_header_shared : IsSync for_header
-for_header_shared = variants_sync header_enum
-        (search owned depth 30 fits 50000,
-        (search owned depth 30 fits 50000,
-        (search (owned, simple_shared) depth 30 fits 50000,
-        tt)))
-
 pub var_spec_sent : IsSend var_spec
 var_spec_sent = search (owned) depth 30 fits 50000
 
 pub var_spec_shared : IsSync var_spec
 var_spec_shared = search (owned) depth 30 fits 50000
-
-pub field_sent : IsSend field
-field_sent = search (owned) depth 30 fits 50000
-
-pub field_shared : IsSync field
-field_shared = search (owned) depth 30 fits 50000
-
-pub type_body_sent : IsSend type_body
-type_body_sent = search (owned, field_sent) depth 30 fits 50000
-
-pub type_body_shared : IsSync type_body
-type_body_shared = search (owned, field_shared) depth 30 fits 50000
 
 pub type_spec_sent : IsSend type_spec
 type_spec_sent = search owned depth 30 fits 50000
@@ -229,12 +199,6 @@ decl_shared = variants_sync decl_enum
         (search (owned, type_spec_shared) depth 30 fits 50000,
         (search (owned, func_decl_shared) depth 30 fits 50000,
         tt)))
-
-pub file_sent : IsSend file
-file_sent = search (owned, decl_sent) depth 30 fits 50000
-
-pub file_shared : IsSync file
-file_shared = search (owned, decl_shared) depth 30 fits 50000
 
 pub pieces_sent : IsSend pieces
 pieces_sent = search (owned, Piece-send, trail_sent) depth 30 fits 50000
