@@ -16,12 +16,12 @@ pub struct Held<'a, L: Opening, R: Wait> {
 }
 
 impl<'a, L: Opening, R: Wait> Desk for Held<'a, L, R> {
-    ghost use Rattle.std.specs.Prelude.{◌≡◌, ℕ, Option};
+    ghost use Rattle.std.specs.Prelude.{◌≡◌};
+    ghost use Rattle.gr_held.specs.Step.{CallsAtSeat};
     ghost use Rattle.gr_held.specs.Wait.{WaitsUntilBuilt};
-    ghost use Rattle.gr_pool.specs.Call.{Calls};
 
     // It goes on lending the same seat.
-    ghost steps = { λ old event reply new. (new.seat.ghost_name ≡ old.seat.ghost_name) × ((index : Option ℕ) × Calls old.seat.now event reply index new.seat.now) };
+    ghost steps = { λ old event reply new. (new.seat.ghost_name ≡ old.seat.ghost_name) × CallsAtSeat old.seat.now event reply new.seat.now };
 
     ghost waits = { λ old outcome new. (new.seat.ghost_name ≡ old.seat.ghost_name) × WaitsUntilBuilt old.seat.now outcome new.seat.now };
 

@@ -1,2 +1,2 @@
 -- The lemmas of this crate.
-mod Sends
+mod Lifts

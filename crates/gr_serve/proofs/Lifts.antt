@@ -68,7 +68,8 @@ module _ {D E : Type 0} (steps : D → Event → Reply → D → Type 0) (waits 
     | inr k ↦ let l = given_back old new job k.1 in (l.0, inr (k.0, l.1))
   ]
 
-  after_take : (old new : D) (reply : Reply) (answer : Response) → AfterTake steps old reply answer new → Lifts old new (λ a b. AfterTake shown a reply answer b)
+  after_take : (old new : D) (reply : Reply) (answer : Response) → AfterTake steps old reply answer new
+      → Lifts old new (λ a b. AfterTake shown a reply answer b)
   after_take old new (Taken job) answer h = built_in old new job answer h
   after_take old new (Refused refusal) answer h = let k = same old new h.1 in (k.0, (h.0, k.1))
   after_take old new reply answer h = absurd h
@@ -109,7 +110,8 @@ module _ {D E : Type 0} (steps : D → Event → Reply → D → Type 0) (waits 
   continued old new (Refused refusal) asked answer h = let k = same old new h.1 in (k.0, (h.0, k.1))
   continued old new (Back refusal job unit) asked answer h = absurd h.0
 
-  acted : (old new : D) (asked : Command) (answer : Response) → Acts steps waits old asked answer new → Lifts old new (λ a b. Acts shown awaited a asked answer b)
+  acted : (old new : D) (asked : Command) (answer : Response) → Acts steps waits old asked answer new
+      → Lifts old new (λ a b. Acts shown awaited a asked answer b)
   acted old new (command.Log number) answer h = sent old new (event.Log number) answer h
   acted old new command.Wait answer h = let k = wait old h.0 new h.1 in (k.0, (h.0, k.1, h.2))
   acted old new asked answer h =
@@ -190,7 +192,10 @@ module _ {D E : Type 0} (steps : D → Event → Reply → D → Type 0) (waits 
         let k = cut input h.0 old new h.1 h.2 in
         (h.0, h.1, subst (λ (b : E). CutsOff shown awaited limits input h.0 (show old) b h.1) (sym (is k.0)) k.1, h.3, h.4)
 
-    pub conversed : (before held holds : Option (List ℕ)) (old new : D) (last : E) (result : Result (Unit {0}) SessionFault)
-        → (name new ≡ name old → last ≡ show new) → Converses steps waits limits before held holds old new result
-        → Converses shown awaited limits before held holds (show old) last result
-    conversed before held holds old new last result is h = (h.0, ended before h.0 held holds old new last result is h.1)
+    -- the session is one of what is shown, from what is shown at first to what is shown at last
+    pub conversed : (before held holds : Option (List ℕ)) (old new : D) (result : Result (Unit {0}) SessionFault)
+        → Converses steps waits limits before held holds old new result
+        → (first last : E) → first ≡ show old → (name new ≡ name old → last ≡ show new)
+        → Converses shown awaited limits before held holds first last result
+    conversed before held holds old new result h first last from is = subst (λ (a : E). Converses shown awaited limits before held holds a last result)
+        (sym from) (h.0, ended before h.0 held holds old new last result is h.1)

@@ -3,9 +3,11 @@
 
 mod fault;
 mod serving;
+mod session;
 mod socket;
 mod threads;
 mod turns;
 
 pub use fault::ServeFault;
 pub use serving::serve;
+pub use session::session_at_seat;

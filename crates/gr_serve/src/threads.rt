@@ -1,9 +1,9 @@
 //! The threads of a server.
+use crate::session::session_at_seat;
 use crate::turns::Turns;
-use gr_held::Held;
 use gr_pool::{Gate, Opening, Seat, Shared, worker};
 use gr_text::Limits;
-use gr_wire::{SessionFault, converse};
+use gr_wire::SessionFault;
 use std::alloc::Global;
 use std::io::{BufReader, BufWriter};
 use std::os::unix::net::UnixStream;
@@ -21,8 +21,7 @@ fn talk<L: Opening, R: Wait>(
 ) -> io::Result<Result<(), SessionFault>> {
     let input = BufReader::new(alloc, stream)?;
     let output = BufWriter::new(alloc, stream)?;
-    let mut held = Held { rt, shared, seat };
-    let (ended, _output) = converse(alloc, input, output, &mut held, Limits::FULL);
+    let (ended, _output) = session_at_seat(rt, alloc, shared, seat, input, output, Limits::FULL);
     Ok(ended)
 }
 
