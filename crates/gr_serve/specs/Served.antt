@@ -5,8 +5,11 @@ use Rattle.gr_pool.specs.declared.receipt.Receipt.{Receipt}
 use Rattle.gr_pool.specs.Call.{IsReplayed}
 use Rattle.gr_pool.specs.Settled.{IsSettled}
 
--- The length of the journal of a book whose content is the replay of it, and whose entries are exactly those of the receipts of some
+-- The length of the journal of a book whose content is the replay of it, and whose entries are exactly those of the receipts of these
 -- seats.
-abbrev pub IsSettledLength : ℕ → Type 0
-IsSettledLength entries = (book : Machine) × (seats : List (List Receipt)) × IsReplayed book × IsSettled 0 book.journal seats
-    × (entries ≡ length book.journal)
+abbrev pub IsSettledLength : List (List Receipt) → ℕ → Type 0
+IsSettledLength seats entries = (book : Machine) × IsReplayed book × IsSettled 0 book.journal seats × (entries ≡ length book.journal)
+
+-- The same of some seats.
+abbrev pub IsServedLength : ℕ → Type 0
+IsServedLength entries = (seats : List (List Receipt)) × IsSettledLength seats entries

@@ -1,7 +1,7 @@
 //! The server, from its socket to its end.
 ghost use Rattle.std.specs.Prelude.{◌≡◌, ◌+◌, IfOk, IsOk, length};
 ghost use Rattle.gr_pool.specs.Outcome.{book_in};
-ghost use Rattle.gr_serve.specs.Served.{IsSettledLength};
+ghost use Rattle.gr_serve.specs.Served.{IsServedLength, IsSettledLength};
 
 use crate::fault::ServeFault;
 use crate::socket::listen;
@@ -54,7 +54,7 @@ fn length_of(settled: Result<Book, Unsettled>) -> Result<u64, ServeFault>
 /// Settles, and tells the length of the journal.
 fn settle<L: Opening>(shared: Shared<L>, seats: Vec<Seat<L>>) -> Result<u64, ServeFault>
     requires { shared.from ≡ 0 }
-    ensures { IfOk result IsSettledLength }
+    ensures { IfOk result (IsSettledLength seats.items) }
 {
     length_of(shared.settle(seats))
 }
@@ -100,7 +100,7 @@ fn serve_in<L: Opening + Send + Sync, R: Threads + Wait + Sync, G: Gate + Sync>(
     requires parts { blank.parts ≡ L.parts }
     requires seats { blank.parts ≡ words.now.workers + words.now.sessions }
     requires from { L.from ≡ 0 }
-    ensures { IfOk result IsSettledLength }
+    ensures { IfOk result IsServedLength }
 {
     let count = u64::from(words.workers) + u64::from(words.sessions);
     let book = Book::new(alloc, Limits::FULL)?;
@@ -125,7 +125,7 @@ pub fn serve<R: Threads + Wait + Net + Files + AllocGlobal + Sync, G: Gate + Syn
     words: &ServeWords<'_>,
     gate: &G,
 ) -> Result<u64, ServeFault>
-    ensures { IfOk result IsSettledLength }
+    ensures { IfOk result IsServedLength }
 {
     let alloc = rt.alloc();
     let listener = listen(rt, alloc, words.socket)?;

@@ -10,6 +10,6 @@ pub returns : goal.returns
 returns g c =
     let book = book_in c.settle.result in
     let seats = c.args.seats.items in
-    IfOk-weaker c.length_of.result _ IsSettledLength (λ entries told.
+    IfOk-weaker c.length_of.result _ (IsSettledLength seats) (λ entries told.
       let settled = c.settle.ensures.exact.0 told.0 in
-      (book, seats, c.settle.ensures.legal, subst (λ from. IsSettled from book.journal seats) c.requires settled, told.1)) c.length_of.ensures
+      (book, c.settle.ensures.legal, subst (λ from. IsSettled from book.journal seats) c.requires settled, told.1)) c.length_of.ensures
