@@ -3,3 +3,5 @@ pub mod Firsts
 pub mod Noting
 pub mod Naming
 pub mod AllMembers
+pub mod Structs
+pub mod Looking

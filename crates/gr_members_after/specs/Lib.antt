@@ -2,3 +2,4 @@
 pub mod MembersAfter
 pub mod NewNames
 pub mod NewMembers
+pub mod MembersFound

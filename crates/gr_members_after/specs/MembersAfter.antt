@@ -1,13 +1,13 @@
 -- The members that types have under the new names of a change: types, their structs and their methods are those of the workspace
 -- before, and only the names are new. IsPackage: the packages of that workspace.
-use Rattle.std.specs.Prelude.{ℕ, ◌≡◌, ◌⊎◌, ◌<◌, true, List, Option, Some, slice_get}
+use Rattle.std.specs.Prelude.{ℕ, ◌≡◌, ◌<◌, true, List, Option, Some, slice_get}
 use Rattle.gr_text.specs.declared.place.Place.{Place}
 use Rattle.gr_scope.specs.declared.model.Position.{Position}
 use Rattle.gr_imports.specs.Laid.{is_exported}
 use Rattle.gr_expr.specs.declared.symbol.Symbol.{Symbol}
 use Rattle.gr_expr.specs.Types.{PlainType, Defined, Underlying}
 use Rattle.gr_expr.specs.Types.{Struct as StructOf}
-use Rattle.gr_expr.specs.World.{struct_behind, owner}
+use Rattle.gr_expr.specs.World.{struct_behind, owner, is_seen}
 use Rattle.gr_declared.specs.Package.{Package, PlacedFunction, package_functions, function_place, symbol_in, spelled}
 use Rattle.gr_declared.specs.Definitions.{PlacedField, package_fields, HasUnderlying}
 use Rattle.gr_members.specs.MethodsView.{IsOwner}
@@ -23,9 +23,10 @@ pub record IsCalledAfter (r : Revision) (p : Package) (at : Position) (name : Li
   pub stands : TokenAt p at place
   pub called : r.called place (spelled p at.file at.index) ≡ name
 
--- a name that is declared in one package is seen in another
-abbrev pub IsSeenFrom : (own path name : List ℕ) → Type 0
-IsSeenFrom own path name = (own ≡ path) ⊎ (is_exported name ≡ true)
+-- the first rank of which K holds
+pub record IsFirst (K : ℕ → Type 0) (rank : ℕ) : Type 0 where
+  pub has : K rank
+  pub first : (other : ℕ) → other < rank → K other → ⊥
 
 -- the field of that rank has that name, in the struct that the definition writes
 pub record IsFieldAfter (r : Revision) (p : Package) (definition : ℕ) (name : List ℕ) (rank : ℕ) : Type 0 where
@@ -35,9 +36,8 @@ pub record IsFieldAfter (r : Revision) (p : Package) (definition : ℕ) (name : 
   pub called : IsCalledAfter r p (field_place field) name
 
 -- of two fields of one name the first counts
-pub record IsFirstField (r : Revision) (p : Package) (definition : ℕ) (name : List ℕ) (rank : ℕ) : Type 0 where
-  pub is_field : IsFieldAfter r p definition name rank
-  pub first : (other : ℕ) → other < rank → IsFieldAfter r p definition name other → ⊥
+abbrev pub IsFirstField : Revision → Package → (definition : ℕ) → (name : List ℕ) → (rank : ℕ) → Type 0
+IsFirstField r p definition name rank = IsFirst (IsFieldAfter r p definition name) rank
 
 -- the function of that rank is a method of that name of that definition
 pub record IsMethodAfter (r : Revision) (p : Package) (definition : ℕ) (name : List ℕ) (rank : ℕ) : Type 0 where
@@ -46,32 +46,41 @@ pub record IsMethodAfter (r : Revision) (p : Package) (definition : ℕ) (name :
   pub of_type : IsOwner p method definition
   pub called : IsCalledAfter r p (function_place method) name
 
--- the struct that has the fields of the definition's values has a field of that name, which is the same name there
+-- The field of that rank is what a name is in a struct, where it is written in the package `own`: names of two packages are the same
+-- only where they are exported.
+pub record IsFieldIn (IsPackage : Package → Type 0) (r : Revision) (own name : List ℕ) (struct : Symbol) (rank : ℕ) : Type 0 where
+  pub seen : is_seen own struct (is_exported name) ≡ true
+  pub has : InPackage IsPackage struct.package (λ p. IsFirstField r p struct.rank name rank)
+
+-- a field of the struct that has the fields of the definition's values is what the name is there
 pub record HasFieldAfter (IsPackage : Package → Type 0) (r : Revision) (p : Package) (definition : ℕ) (name : List ℕ) : Type 0 where
   pub struct : Symbol
   pub underlying : HasUnderlying p (Defined (symbol_in p definition)) (StructOf struct)
   pub rank : ℕ
-  pub has : InPackage IsPackage struct.package (λ q. IsSeenFrom p.path q.path name × IsFieldAfter r q struct.rank name rank)
+  pub has : IsFieldIn IsPackage r p.path name struct rank
 
 -- a method counts where no field has its name and no earlier method of the type
 pub record IsFirstMethod (IsPackage : Package → Type 0) (r : Revision) (p : Package) (definition : ℕ) (name : List ℕ) (rank : ℕ) : Type 0 where
-  pub is_method : IsMethodAfter r p definition name rank
   pub no_field : HasFieldAfter IsPackage r p definition name → ⊥
-  pub first : (other : ℕ) → other < rank → IsMethodAfter r p definition name other → ⊥
+  pub has : IsFirst (IsMethodAfter r p definition name) rank
 
--- the field of a struct that a name is which is written in the package `own`
+-- the method of that rank is what a name is for the values of a definition, where it is written in the package `own`
+pub record IsMethodIn (IsPackage : Package → Type 0) (r : Revision) (own name : List ℕ) (of : Symbol) (rank : ℕ) : Type 0 where
+  pub seen : is_seen own of (is_exported name) ≡ true
+  pub has : InPackage IsPackage of.package (λ p. IsFirstMethod IsPackage r p of.rank name rank)
+
+-- the field of a struct that a name is which is written in the package `own`; the method of a definition
 pub record IsFieldOfStruct (IsPackage : Package → Type 0) (r : Revision) (own name : List ℕ) (struct : Option Symbol) (field : Symbol) : Type 0 where
   pub of_struct : Symbol
   pub is_struct : struct ≡ Some of_struct
   pub of_package : field.package ≡ of_struct.package
-  pub has : InPackage IsPackage of_struct.package (λ p. IsSeenFrom own p.path name × IsFirstField r p of_struct.rank name field.rank)
+  pub has : IsFieldIn IsPackage r own name of_struct field.rank
 
--- the method of a definition that a name is which is written in the package `own`
 pub record IsMethodOfOwner (IsPackage : Package → Type 0) (r : Revision) (own name : List ℕ) (of : Option Symbol) (method : Symbol) : Type 0 where
   pub of_type : Symbol
   pub is_owner : of ≡ Some of_type
   pub of_package : method.package ≡ of_type.package
-  pub has : InPackage IsPackage of_type.package (λ p. IsSeenFrom own p.path name × IsFirstMethod IsPackage r p of_type.rank name method.rank)
+  pub has : IsMethodIn IsPackage r own name of_type method.rank
 
 -- The member that a name is which is written in the package `own`, for the type before it: a field of the struct, else a method of
 -- the definition. definition: the underlying types of definitions.

@@ -1,8 +1,8 @@
 //! The new names of the fields or the methods of a package, by rank and by definition.
-ghost use Rattle.std.specs.Prelude.{ℕ, ◌≡◌, ◌<◌, ◌++◌, ◌∷◌, [], List, Some, None, length, slice_get, IfOk, OnOk};
+ghost use Rattle.std.specs.Prelude.{ℕ, ◌≡◌, ◌↔◌, ◌<◌, ◌++◌, ◌∷◌, [], List, Some, None, IsTrue, length, slice_get, IfOk, OnOk};
 ghost use Rattle.std.specs.Option.{option_copied, option_flatten};
 ghost use Rattle.gr_bound.specs.Exports.{number_named};
-ghost use Rattle.gr_members_after.specs.NewNames.{bytes_in, rank_of, NotesRank, NotesFirst, IsFirstOrNone, AreNewNames, AddsName, IsNewNameOf};
+ghost use Rattle.gr_members_after.specs.NewNames.{bytes_in, rank_of, NotesRank, NotesFirst, IsFirstOrNone, AreNewNames, AddsName, IsFirstNew, IsNewNameOf};
 
 use std::alloc::{AllocError, Global};
 use std::collections::BTreeMap;
@@ -76,6 +76,16 @@ fn new_name(definition: Option<usize>, name: Option<Vec<u8>>) -> Option<NewName>
             None => None,
             Some(name) => Some(NewName { definition, name }),
         },
+    }
+}
+
+/// Whether a rank was found.
+pub fn is_rank(found: Option<usize>, rank: usize) -> bool
+    ensures { IsTrue result ↔ (found ≡ Some rank) }
+{
+    match found {
+        None => false,
+        Some(other) => other == rank,
     }
 }
 
@@ -153,6 +163,16 @@ impl NewNames {
         ensures { AreNewNames self.now → IsFirstOrNone self.now.names.items definition name.now result }
     {
         self.rank(definition, name)
+    }
+
+    /// Whether the member of a rank is the first of its name and its definition.
+    pub fn is_first(&self, rank: usize) -> bool
+        ensures { AreNewNames self.now → IsTrue result ↔ ((definition : ℕ) × ((name : List ℕ) × IsFirstNew self.now.names.items definition name rank)) }
+    {
+        match self.called(rank) {
+            None => false,
+            Some(new) => is_rank(self.first(new.definition, &new.name), rank),
+        }
     }
 
     /// What the member of a rank is called.
