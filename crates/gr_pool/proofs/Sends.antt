@@ -6,7 +6,6 @@ use Rattle.std.proofs.Crossing.{crosses, send as Global-send, sync as Global-syn
 use Rattle.std.proofs.MapsCrossing.{crosses as maps}
 use Rattle.std.proofs.sync.ledger.Book.TheSendSync.{the_send as Count-send}
 use Rattle.std.proofs.sync.ledger.Share.TheSendSync.{the_send as Share-send}
-use Rattle.std.proofs.sync.Condvar.TheSendSync.{the_sync as Condvar-sync}
 use Rattle.gr_graph.specs.contracts.package.Package.{the_row as folder}
 use Rattle.gr_graph.specs.contracts.graph.Parts.{the_row as graph_parts}
 use Rattle.gr_graph.specs.contracts.graph.Graph.{the_row as graph}
@@ -28,13 +27,28 @@ use Rattle.gr_graph.proofs.shared_links.SharedLinks.TheSendSync.{the_send as Sha
 use Rattle.gr_compile.proofs.out.Out.TheSendSync.{the_send as Out-send}
 use Rattle.gr_book.proofs.entry.Entry.TheSendSync.{the_send as Entry-send}
 use Rattle.gr_pool.proofs.seat.Seat.TheSendSync.{the_send as Seat-send}
-use Rattle.gr_pool.proofs.SendsFound.{file_fault_sent, file_fault_shared, scope_sent, scope_shared, definition_sent, definition_shared, known_sent, known_shared, shared_known_sent}
+use Rattle.gr_pool.proofs.SendsFound.{file_fault_sent, file_fault_shared, scope_sent, scope_shared, definition_sent, definition_shared, shared_known_sent}
 use Rattle.gr_expr.proofs.types.GoType.TheLaws.TheKnot.{crosses as type_crosses}
 use Rattle.gr_pool.proofs.SendsTrees.{file_tree_sent, file_tree_shared}
 
 -- owned values, and what each of the crates below shows of its own types
-ruleset owned = (sendable, crosses, maps, Global-send, Global-sync, FileText-send, FileText-sync, Files-send, Files-sync, Limits-send, Limits-sync,
-    FaultyFile-send, FaultyFile-sync, SharedLinks-send, SharedLinks-sync)
+ruleset owned = (
+  sendable,
+  crosses,
+  maps,
+  Global-send,
+  Global-sync,
+  FileText-send,
+  FileText-sync,
+  Files-send,
+  Files-sync,
+  Limits-send,
+  Limits-sync,
+  FaultyFile-send,
+  FaultyFile-sync,
+  SharedLinks-send,
+  SharedLinks-sync,
+)
 
 pub folder_sent : IsSend folder
 folder_sent = search (owned, file_tree_sent) depth 30 fits 50000
@@ -67,19 +81,19 @@ pub finished_sent : IsSend finished
 finished_sent = search (owned, unit_sent, unit_shared) depth 30 fits 50000
 
 pub state_sent : IsSend state
-state_sent = search (owned, graph_sent, finished_sent, shared_known_sent, graph_parts_sent, graph_parts_shared, unit_sent, unit_shared, known_sent, known_shared) depth 30 fits 50000
+state_sent = search (owned, graph_sent, finished_sent, shared_known_sent) depth 30 fits 50000
 
 pub content_sent : IsSend content
-content_sent = search (owned, state_sent, Out-send, graph_sent, finished_sent, shared_known_sent, graph_parts_sent, graph_parts_shared, unit_sent, unit_shared, known_sent, known_shared) depth 30 fits 50000
+content_sent = search (owned, state_sent, Out-send) depth 30 fits 50000
 
 pub book_sent : IsSend book
-book_sent = search (owned, content_sent, Entry-send, state_sent, Out-send, graph_sent, finished_sent, shared_known_sent, graph_parts_sent, graph_parts_shared, unit_sent, unit_shared, known_sent, known_shared) depth 30 fits 50000
+book_sent = search (owned, content_sent, Entry-send) depth 30 fits 50000
 
 pub locked_sent : (L : RattleType) (o : Opening L.Denot) (l : Ledger L.Denot) → IsSend (locked L o l)
-locked_sent L o l = search (owned, book_sent, content_sent, state_sent, Out-send, Entry-send, graph_sent, finished_sent, Count-send, Share-send) depth 30 fits 50000
+locked_sent L o l = search (owned, book_sent, Count-send, Share-send) depth 30 fits 50000
 
 pub shared_shared : (L : RattleType) (o : Opening L.Denot) (l : Ledger L.Denot) → IsSync (shared L o l)
-shared_shared L o l = search (owned, Condvar-sync, locked_sent) depth 30 fits 50000
+shared_shared L o l = search (owned, locked_sent) depth 30 fits 50000
 
 pub seat_sent : (L : RattleType) (o : Opening L.Denot) (l : Ledger L.Denot) → IsSend (seat L o l)
 seat_sent L o l = search (owned, Seat-send) depth 30 fits 50000

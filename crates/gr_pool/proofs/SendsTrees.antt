@@ -39,8 +39,30 @@ use Rattle.gr_tree.proofs.tree.Expr.TheLaws.TheKnot.{crosses as expr_crosses}
 use Rattle.gr_tree.proofs.tree.TypeExpr.TheLaws.TheKnot.{crosses as type_crosses}
 
 -- owned values, and what each of the crates below shows of its own types
-ruleset owned = (sendable, crosses, maps, Path-send, Path-sync, FileText-send, FileText-sync, Receiver-send, Receiver-sync, ImportDecl-send, ImportDecl-sync,
-    Ident-send, Ident-sync, Key-send, Key-sync, VarValues-send, VarValues-sync, BasicLit-send, BasicLit-sync, else_crosses, expr_crosses, type_crosses)
+ruleset owned = (
+  sendable,
+  crosses,
+  maps,
+  Path-send,
+  Path-sync,
+  FileText-send,
+  FileText-sync,
+  Receiver-send,
+  Receiver-sync,
+  ImportDecl-send,
+  ImportDecl-sync,
+  Ident-send,
+  Ident-sync,
+  Key-send,
+  Key-sync,
+  VarValues-send,
+  VarValues-sync,
+  BasicLit-send,
+  BasicLit-sync,
+  else_crosses,
+  expr_crosses,
+  type_crosses,
+)
 
 pub trail_sent : (A : RattleType) → IsSend A → IsSend (trail A)
 trail_sent A a = owning_send (trail_type A) (search sendable, tt) (λ d. tt) (λ k x w. tt)
@@ -61,22 +83,40 @@ pub local_spec_shared : IsSync local_spec
 local_spec_shared = search (owned, values_shared) depth 30 fits 50000
 
 pub simple_sent : IsSend simple
-simple_sent = variants_send simple_enum
-        (search (owned) depth 30 fits 50000,
-        (search (owned) depth 30 fits 50000,
-        (search (owned) depth 30 fits 50000,
-        (search (owned) depth 30 fits 50000,
-        (search (owned) depth 30 fits 50000,
-        tt)))))
+simple_sent = variants_send simple_enum (
+  search (owned) depth 30 fits 50000,
+  (
+    search (owned) depth 30 fits 50000,
+    (
+      search (owned) depth 30 fits 50000,
+      (
+        search (owned) depth 30 fits 50000,
+        (
+          search (owned) depth 30 fits 50000,
+          tt,
+        ),
+      ),
+    ),
+  ),
+)
 
 pub simple_shared : IsSync simple
-simple_shared = variants_sync simple_enum
-        (search (owned) depth 30 fits 50000,
-        (search (owned) depth 30 fits 50000,
-        (search (owned) depth 30 fits 50000,
-        (search (owned) depth 30 fits 50000,
-        (search (owned) depth 30 fits 50000,
-        tt)))))
+simple_shared = variants_sync simple_enum (
+  search (owned) depth 30 fits 50000,
+  (
+    search (owned) depth 30 fits 50000,
+    (
+      search (owned) depth 30 fits 50000,
+      (
+        search (owned) depth 30 fits 50000,
+        (
+          search (owned) depth 30 fits 50000,
+          tt,
+        ),
+      ),
+    ),
+  ),
+)
 
 pub if_init_sent : IsSend if_init
 if_init_sent = search (owned, simple_sent) depth 30 fits 50000
@@ -109,96 +149,156 @@ pub results_shared : IsSync results
 results_shared = search (owned) depth 30 fits 50000
 
 pub simple_field_sent : IsSend (simple_field).row
-simple_field_sent = enum_send (shape simple_type)
-        (search (owned) depth 30 fits 50000,
-        (search (owned) depth 30 fits 50000,
-        (search (owned) depth 30 fits 50000,
-        (search (owned) depth 30 fits 50000,
-        (search (owned) depth 30 fits 50000,
-        tt)))))
+simple_field_sent = enum_send (shape simple_type) (
+  search (owned) depth 30 fits 50000,
+  (
+    search (owned) depth 30 fits 50000,
+    (
+      search (owned) depth 30 fits 50000,
+      (
+        search (owned) depth 30 fits 50000,
+        (
+          search (owned) depth 30 fits 50000,
+          tt,
+        ),
+      ),
+    ),
+  ),
+)
 
 pub simple_field_shared : IsSync (simple_field).row
-simple_field_shared = enum_sync (shape simple_type)
-        (search (owned) depth 30 fits 50000,
-        (search (owned) depth 30 fits 50000,
-        (search (owned) depth 30 fits 50000,
-        (search (owned) depth 30 fits 50000,
-        (search (owned) depth 30 fits 50000,
-        tt)))))
+simple_field_shared = enum_sync (shape simple_type) (
+  search (owned) depth 30 fits 50000,
+  (
+    search (owned) depth 30 fits 50000,
+    (
+      search (owned) depth 30 fits 50000,
+      (
+        search (owned) depth 30 fits 50000,
+        (
+          search (owned) depth 30 fits 50000,
+          tt,
+        ),
+      ),
+    ),
+  ),
+)
 
 pub header_field_sent : IsSend (header_field).row
-header_field_sent = enum_send (shape header_type)
-        (search owned depth 30 fits 50000,
-        (search owned depth 30 fits 50000,
-        (search (owned, simple_sent) depth 30 fits 50000,
-        tt)))
+header_field_sent = enum_send (shape header_type) (
+  search owned depth 30 fits 50000,
+  (
+    search owned depth 30 fits 50000,
+    (
+      search (owned, simple_sent) depth 30 fits 50000,
+      tt,
+    ),
+  ),
+)
 
 pub header_field_shared : IsSync (header_field).row
-header_field_shared = enum_sync (shape header_type)
-        (search owned depth 30 fits 50000,
-        (search owned depth 30 fits 50000,
-        (search (owned, simple_shared) depth 30 fits 50000,
-        tt)))
+header_field_shared = enum_sync (shape header_type) (
+  search owned depth 30 fits 50000,
+  (
+    search owned depth 30 fits 50000,
+    (
+      search (owned, simple_shared) depth 30 fits 50000,
+      tt,
+    ),
+  ),
+)
 
 pub block_sent : IsSend (block_field).row
 block_sent = send-Block
-        (search owned depth 30 fits 50000)
-        (search owned depth 30 fits 50000)
-        (search (owned, local_spec_sent) depth 30 fits 50000)
-        simple_field_sent
-        header_field_sent
-        (search owned depth 30 fits 50000)
-        (search owned depth 30 fits 50000)
-        (search owned depth 30 fits 50000)
-        (search (owned, if_init_sent) depth 30 fits 50000)
-        (search owned depth 30 fits 50000)
+    (search owned depth 30 fits 50000)
+    (search owned depth 30 fits 50000)
+    (search (owned, local_spec_sent) depth 30 fits 50000)
+    simple_field_sent
+    header_field_sent
+    (search owned depth 30 fits 50000)
+    (search owned depth 30 fits 50000)
+    (search owned depth 30 fits 50000)
+    (search (owned, if_init_sent) depth 30 fits 50000)
+    (search owned depth 30 fits 50000)
 
 pub block_shared : IsSync (block_field).row
 block_shared = sync-Block
-        (search owned depth 30 fits 50000)
-        (search owned depth 30 fits 50000)
-        (search (owned, local_spec_shared) depth 30 fits 50000)
-        simple_field_shared
-        header_field_shared
-        (search owned depth 30 fits 50000)
-        (search owned depth 30 fits 50000)
-        (search owned depth 30 fits 50000)
-        (search (owned, if_init_shared) depth 30 fits 50000)
-        (search owned depth 30 fits 50000)
+    (search owned depth 30 fits 50000)
+    (search owned depth 30 fits 50000)
+    (search (owned, local_spec_shared) depth 30 fits 50000)
+    simple_field_shared
+    header_field_shared
+    (search owned depth 30 fits 50000)
+    (search owned depth 30 fits 50000)
+    (search owned depth 30 fits 50000)
+    (search (owned, if_init_shared) depth 30 fits 50000)
+    (search owned depth 30 fits 50000)
 
 pub func_decl_sent : IsSend func_decl
-func_decl_sent = declared_send func_type
-        (search owned depth 30 fits 50000,
-        (search owned depth 30 fits 50000,
-        (search owned depth 30 fits 50000,
-        (search (owned, param_sent) depth 30 fits 50000,
-        (search owned depth 30 fits 50000,
-        (search (owned, results_sent) depth 30 fits 50000,
-        (as_row_send block_field block_sent, tt)))))))
+func_decl_sent = declared_send func_type (
+  search owned depth 30 fits 50000,
+  (
+    search owned depth 30 fits 50000,
+    (
+      search owned depth 30 fits 50000,
+      (
+        search (owned, param_sent) depth 30 fits 50000,
+        (
+          search owned depth 30 fits 50000,
+          (
+            search (owned, results_sent) depth 30 fits 50000,
+            (as_row_send block_field block_sent, tt),
+          ),
+        ),
+      ),
+    ),
+  ),
+)
 
 pub func_decl_shared : IsSync func_decl
-func_decl_shared = declared_sync func_type
-        (search owned depth 30 fits 50000,
-        (search owned depth 30 fits 50000,
-        (search owned depth 30 fits 50000,
-        (search (owned, param_shared) depth 30 fits 50000,
-        (search owned depth 30 fits 50000,
-        (search (owned, results_shared) depth 30 fits 50000,
-        (as_row_sync block_field block_shared, tt)))))))
+func_decl_shared = declared_sync func_type (
+  search owned depth 30 fits 50000,
+  (
+    search owned depth 30 fits 50000,
+    (
+      search owned depth 30 fits 50000,
+      (
+        search (owned, param_shared) depth 30 fits 50000,
+        (
+          search owned depth 30 fits 50000,
+          (
+            search (owned, results_shared) depth 30 fits 50000,
+            (as_row_sync block_field block_shared, tt),
+          ),
+        ),
+      ),
+    ),
+  ),
+)
 
 pub decl_sent : IsSend decl
-decl_sent = variants_send decl_enum
-        (search (owned, var_spec_sent) depth 30 fits 50000,
-        (search (owned, type_spec_sent) depth 30 fits 50000,
-        (search (owned, func_decl_sent) depth 30 fits 50000,
-        tt)))
+decl_sent = variants_send decl_enum (
+  search (owned, var_spec_sent) depth 30 fits 50000,
+  (
+    search (owned, type_spec_sent) depth 30 fits 50000,
+    (
+      search (owned, func_decl_sent) depth 30 fits 50000,
+      tt,
+    ),
+  ),
+)
 
 pub decl_shared : IsSync decl
-decl_shared = variants_sync decl_enum
-        (search (owned, var_spec_shared) depth 30 fits 50000,
-        (search (owned, type_spec_shared) depth 30 fits 50000,
-        (search (owned, func_decl_shared) depth 30 fits 50000,
-        tt)))
+decl_shared = variants_sync decl_enum (
+  search (owned, var_spec_shared) depth 30 fits 50000,
+  (
+    search (owned, type_spec_shared) depth 30 fits 50000,
+    (
+      search (owned, func_decl_shared) depth 30 fits 50000,
+      tt,
+    ),
+  ),
+)
 
 pub pieces_sent : IsSend pieces
 pieces_sent = search (owned, Piece-send, trail_sent) depth 30 fits 50000
