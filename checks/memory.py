@@ -7,6 +7,7 @@ Want of memory is `AllocError`, a variant `Memory` or `NoRoom`. A place may make
 - in a conversion from an allocation that was refused (`impl From<AllocError> for ..`),
 - in the arm of a match whose pattern is want of memory itself (`ErrorKind::OutOfMemory` as `clap` calls it),
 - in the arm `Err(_)` of a match on a call that fails for want of memory alone, or by `map_err` behind such a call,
+- where a thread could not be made (`if !are_made`), for which a server has no other fault,
 - for a sum of lengths that passes what can be addressed (`checked_add(..).ok_or(AllocError)`), as the library does where it grows.
 
 It ends with status 1 where it lists a place.
@@ -77,7 +78,7 @@ def is_sound(lines, number, crate, answers):
     is_failed = False
     for line in around(lines, number):
         pattern = line.partition("=>")[0].strip() if "=>" in line else ""
-        if WANT.search(pattern) or "ErrorKind::OutOfMemory" in pattern:
+        if WANT.search(pattern) or "ErrorKind::OutOfMemory" in pattern or line == "if !are_made {":
             return True
         is_failed = is_failed or pattern in ("Err(_)", "Err(_e)")
         if is_failed and "match " in line:

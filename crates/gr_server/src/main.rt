@@ -1,12 +1,17 @@
-//! The program `gorefd`: one session over a book of its own, from standard input to standard output.
+//! The program `gorefd`: one session over a book of its own, from standard input to standard output; or a server on a socket.
 #![tactic(auto)]
 
 mod fault;
 
 use fault::Fault;
+use gr_pool::OpenGate;
+use gr_serve::serve;
 use gr_text::Limits;
 use gr_wire::session_alone;
-use std::io::{BufReader, BufWriter};
+use gr_words::{Words, WordsFault, read_words};
+use std::env::Env;
+use std::fmt::Display;
+use std::io::{BufReader, BufWriter, ErrorKind};
 use std::process::ExitCode;
 
 /// Serves one session over standard input and output.
@@ -19,30 +24,61 @@ fn run(rt: &(impl Input + Print + AllocGlobal)) -> Result<(), Fault> {
     Ok(())
 }
 
-/// Whether the words, the program's name first, ask for one session over standard input and output.
-fn asks_to_run(words: &[String]) -> bool {
-    words.len() == 2 && words[1].as_str() == "run"
+/// Tells how many entries the journal has.
+fn settled<R: Print + Eprint>(rt: &R, entries: u64) -> ExitCode {
+    match println!(rt; "settled {entries}") {
+        Ok(()) => ExitCode::SUCCESS,
+        Err(_) => ended(rt, Fault::Write),
+    }
+}
+
+/// Says on standard error why the program ended, and gives its exit status.
+fn ended(rt: &impl Eprint, fault: impl Display + Drop) -> ExitCode {
+    let _ = eprintln!(rt; "gorefd: {fault}");
+    ExitCode::from(1)
+}
+
+/// Tells what is told of words that ask nothing, and gives the exit status.
+fn told<R: Print + Eprint>(rt: &R, fault: &WordsFault) -> ExitCode {
+    match fault {
+        WordsFault::Memory => ended(rt, Fault::Memory),
+        WordsFault::Help(text) => match print!(rt; "{text}") {
+            Ok(()) => ExitCode::SUCCESS,
+            Err(_) => ended(rt, Fault::Write),
+        },
+        WordsFault::Usage(text) => {
+            let _ = eprint!(rt; "{text}");
+            ExitCode::from(2)
+        }
+    }
+}
+
+/// The words of the command line, the first of which is the program's name.
+fn words<R: Env + AllocGlobal>(rt: &R) -> Result<Vec<String>, WordsFault> {
+    match std::env::args(rt) {
+        Ok(words) => Ok(words.collect(rt.alloc())?),
+        Err(error) if error.kind() == ErrorKind::OutOfMemory => Err(WordsFault::Memory),
+        Err(_) => {
+            let text = String::from_str(rt.alloc(), "error: a word is not UTF-8\n")?;
+            Err(WordsFault::Usage(text))
+        }
+    }
 }
 
 fn main(rt: HostRuntime) -> ExitCode {
-    let words: Vec<String> = match std::env::args(&rt) {
-        Ok(args) => match args.collect(rt.alloc()) {
-            Ok(words) => words,
-            Err(_) => return ended(&rt, Fault::Memory),
-        },
-        Err(_) => return ExitCode::from(2),
+    let words = match words(&rt) {
+        Ok(words) => words,
+        Err(fault) => return told(&rt, &fault),
     };
-    if !asks_to_run(&words) {
-        return ExitCode::from(2);
+    match read_words(rt.alloc(), words.as_slice()) {
+        Ok(Words::Run) => match run(&rt) {
+            Ok(()) => ExitCode::SUCCESS,
+            Err(fault) => ended(&rt, fault),
+        },
+        Ok(Words::Serve(words)) => match serve(&rt, &words, &OpenGate) {
+            Ok(entries) => settled(&rt, entries),
+            Err(fault) => ended(&rt, fault),
+        },
+        Err(fault) => told(&rt, &fault),
     }
-    match run(&rt) {
-        Ok(()) => ExitCode::SUCCESS,
-        Err(fault) => ended(&rt, fault),
-    }
-}
-
-/// Says on standard error how the program ended.
-fn ended(rt: &impl Eprint, fault: Fault) -> ExitCode {
-    let _ = eprintln!(rt; "gorefd: {fault}");
-    ExitCode::from(1)
 }

@@ -1,0 +1,3 @@
+-- The lemmas of this crate.
+mod Lifts
+pub mod Captures

@@ -1,0 +1,13 @@
+//! The server on a Unix socket: threads that serve sessions, and threads that build packages, over one shared book.
+#![tactic(auto)]
+
+mod fault;
+mod serving;
+mod session;
+mod socket;
+mod threads;
+mod turns;
+
+pub use fault::ServeFault;
+pub use serving::serve;
+pub use session::session_at_seat;

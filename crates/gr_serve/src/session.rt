@@ -1,0 +1,26 @@
+//! A session at a seat.
+ghost use Rattle.gr_serve.specs.Session.{ConversesAtSeat};
+
+use gr_held::Held;
+use gr_pool::{Opening, Seat, Shared};
+use gr_text::Limits;
+use gr_wire::{SessionFault, converse};
+use std::alloc::Global;
+use std::io::{Read, Write};
+use std::sync::Wait;
+
+/// Serves one session at a seat, from any reader to any writer. It answers how the session ended, and the writer.
+pub fn session_at_seat<L: Opening, W: Wait, I: Read + Drop, O: Write>(
+    rt: &W,
+    alloc: Global,
+    shared: &Shared<L>,
+    seat: &mut Seat<L>,
+    input: I,
+    output: O,
+    limits: Limits,
+) -> (Result<(), SessionFault>, O)
+    ensures { ConversesAtSeat limits (I.remaining input) (O.contents output) (O.contents result.1) seat.old seat.new result.0 }
+{
+    let mut held = Held { rt, shared, seat };
+    converse(alloc, input, output, &mut held, limits)
+}

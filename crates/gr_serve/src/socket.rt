@@ -1,0 +1,67 @@
+//! The socket. Only its owner can connect, from its first moment on, and nothing that stands at its path is replaced: it is made in a
+//! folder that only its owner can enter, and linked to its path from there.
+use crate::fault::ServeFault;
+use std::alloc::Global;
+use std::fs::{DirBuilder, Permissions};
+use std::net::Net;
+use std::os::unix::fs::{DirBuilderExt, PermissionsExt};
+use std::os::unix::net::UnixListener;
+use std::rt::Files;
+use std::{fs, io};
+
+const OWNER_ENTERS: u32 = 0o700;
+
+const OWNER_CONNECTS: u32 = 0o600;
+
+/// Lets only its owner connect to the socket at `made`, and links it to its path, where nothing may stand.
+fn link<R: Files>(rt: &R, made: &str, path: &str) -> io::Result<()> {
+    fs::set_permissions(rt, made, Permissions::from_mode(OWNER_CONNECTS))?;
+    fs::hard_link(rt, made, path)
+}
+
+/// Makes a socket at `made`, which is not to stay, and links it to its path.
+fn listen_at<R: Files + Net>(rt: &R, made: &str, path: &str) -> io::Result<UnixListener> {
+    let listener = UnixListener::bind(rt, made)?;
+    let linked = link(rt, made, path);
+    fs::remove_file(rt, made)?;
+    linked?;
+    Ok(listener)
+}
+
+/// Makes a socket in a folder of its own, and links it to its path.
+fn listen_in<R: Files + Net>(
+    rt: &R,
+    alloc: Global,
+    folder: &str,
+    path: &str,
+) -> Result<UnixListener, ServeFault> {
+    let made = format!(in alloc; "{folder}/s")?;
+    match listen_at(rt, made.as_str(), path) {
+        Ok(listener) => Ok(listener),
+        Err(_) => Err(ServeFault::Socket),
+    }
+}
+
+/// Makes a folder that only its owner can enter.
+fn make_folder<R: Files>(rt: &R, folder: &str) -> io::Result<()> {
+    let mut builder = DirBuilder::new();
+    builder.mode(OWNER_ENTERS);
+    builder.create(rt, folder)
+}
+
+/// Makes the socket.
+pub(crate) fn listen<R: Files + Net>(
+    rt: &R,
+    alloc: Global,
+    path: &str,
+) -> Result<UnixListener, ServeFault> {
+    let folder = format!(in alloc; "{path}.new")?;
+    if make_folder(rt, folder.as_str()).is_err() {
+        return Err(ServeFault::Socket);
+    }
+    let listener = listen_in(rt, alloc, folder.as_str(), path);
+    match fs::remove_dir(rt, folder.as_str()) {
+        Ok(()) => listener,
+        Err(_) => Err(ServeFault::Socket),
+    }
+}

@@ -1,0 +1,103 @@
+//! The threads of a server.
+use crate::session::session_at_seat;
+use crate::turns::Turns;
+use gr_pool::{Gate, Opening, Seat, Shared, worker};
+use gr_text::Limits;
+use gr_wire::SessionFault;
+use std::alloc::Global;
+use std::io::{BufReader, BufWriter};
+use std::os::unix::net::UnixStream;
+use std::sync::Wait;
+use std::thread::Threads;
+use std::{io, thread};
+
+/// Serves the session of one connection.
+fn talk<L: Opening, R: Wait>(
+    rt: &R,
+    alloc: Global,
+    shared: &Shared<L>,
+    seat: &mut Seat<L>,
+    stream: &UnixStream,
+) -> io::Result<Result<(), SessionFault>> {
+    let input = BufReader::new(alloc, stream)?;
+    let output = BufWriter::new(alloc, stream)?;
+    let (ended, _output) = session_at_seat(rt, alloc, shared, seat, input, output, Limits::FULL);
+    Ok(ended)
+}
+
+/// Serves one connection after another, until none is accepted any more.
+fn take_turns<L: Opening, R: Wait>(
+    rt: &R,
+    alloc: Global,
+    shared: &Shared<L>,
+    seat: &mut Seat<L>,
+    turns: &Turns,
+) {
+    for _ in rt.forever() {
+        match turns.next(rt) {
+            Some(stream) => {
+                // How a session ends concerns no other.
+                let _ended = talk(rt, alloc, shared, seat, &stream);
+            }
+            None => return,
+        }
+    }
+}
+
+/// Serves sessions in a thread for each seat, until none is accepted any more. None is accepted before all threads are made. It is false
+/// where a thread could not be made.
+fn serve_sessions<L: Opening + Send + Sync, R: Threads + Wait + Sync>(
+    rt: &R,
+    alloc: Global,
+    shared: &Shared<L>,
+    seats: &mut [Seat<L>],
+    turns: &Turns,
+    were_made: bool,
+) -> bool {
+    thread::scope(thread::scope_env(), rt, move |scope| {
+        let mut are_made = were_made;
+        let mut turn = turns.turn.lock(rt);
+        for seat in seats {
+            if scope
+                .spawn(move || take_turns(rt, alloc, shared, seat, turns))
+                .is_err()
+            {
+                are_made = false;
+            }
+        }
+        if !are_made {
+            turn.end();
+        }
+        drop(turn);
+        are_made
+    })
+}
+
+/// Builds packages in as many threads as there are workers, and serves sessions in the others, until none is accepted any more. It is
+/// false where a thread could not be made.
+pub(crate) fn run<L: Opening + Send + Sync, R: Threads + Wait + Sync, G: Gate + Sync>(
+    rt: &R,
+    alloc: Global,
+    shared: &Shared<L>,
+    seats: &mut [Seat<L>],
+    workers: usize,
+    gate: &G,
+    turns: &Turns,
+) -> bool {
+    thread::scope(thread::scope_env(), rt, move |scope| {
+        let mut are_made = true;
+        let count = workers.min(seats.len());
+        let (at_work, in_sessions) = seats.split_at_mut(count);
+        for seat in at_work {
+            if scope
+                .spawn(move || worker(rt, alloc, shared, seat, gate))
+                .is_err()
+            {
+                are_made = false;
+            }
+        }
+        let are_made = serve_sessions(rt, alloc, shared, in_sessions, turns, are_made);
+        shared.stop(rt);
+        are_made
+    })
+}
