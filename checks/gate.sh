@@ -13,7 +13,12 @@ export RT_JOBS=$((jobs < 1 ? 1 : jobs))
 export PYTHONUNBUFFERED=1
 SECONDS=0
 passed() { printf '%d:%02d' $((SECONDS / 60)) $((SECONDS % 60)); }
-rt ci | {
+# Kit 13b sums up sources once for each path of crates.txt, which takes hours: it is run so that each sum is kept.
+case $(rt version) in
+    'rattle-kit-13b '*) run_rt() { python3 checks/rt_once.py "$@"; } ;;
+    *) run_rt() { rt "$@"; } ;;
+esac
+run_rt ci | {
     while IFS= read -r line; do
         [ -z "${last+set}" ] || printf '%s\n' "$last"
         last=$line
