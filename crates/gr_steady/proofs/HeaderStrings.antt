@@ -30,7 +30,7 @@ pub one_of : {X : Type 0} (P : X → Type 0) (xs : List X) → AllByRecursion P 
 one_of P [] h x c = absurd (nothing_in x c)
 one_of P (y ∷ ys) h x c = elim (first_or_later y ys x c) [ inl e ↦ subst P e h.0 | inr r ↦ one_of P ys h.1 x r ]
 
-both : {X : Type 0} (P : X → Type 0) (xs ys : List X) → AllByRecursion P xs → AllByRecursion P ys → AllByRecursion P (xs ++ ys)
+pub both : {X : Type 0} (P : X → Type 0) (xs ys : List X) → AllByRecursion P xs → AllByRecursion P ys → AllByRecursion P (xs ++ ys)
 both P [] ys a b = b
 both P (x ∷ xs) ys a b = (a.0, both P xs ys a.1 b)
 
