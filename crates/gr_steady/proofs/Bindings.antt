@@ -1,5 +1,5 @@
 -- What the identifiers of a package are bound to, where its closure has the same texts in two workspaces.
-use Rattle.std.proofs.Common.{ℕ, ◌≡◌, ◌==◌, List, [], ◌∷◌, Option, Some, None, map, refl, sym, ap, subst, ◌∙◌}
+use Rattle.std.proofs.Common.{ℕ, ◌≡◌, ◌==◌, List, Option, Some, None, map, refl, sym, ap, subst, ◌∙◌}
 use Rattle.std.specs.Prelude.{Contains, slice_get}
 use Rattle.std.specs.Cmp.Lexicographic.{pointwise, bytes_decides}
 use Rattle.std.specs.FinMap.{entries}
@@ -12,7 +12,7 @@ use Rattle.gr_tree.specs.SourceFile.{SourceFile, source_of}
 use Rattle.gr_graph.specs.Packages.{IsInClosure}
 use Rattle.gr_declared.specs.Package.{Package}
 use Rattle.gr_verdict.specs.Closures.{HasSameClosure}
-use Rattle.gr_verdict.specs.Verdicts.{Verdicts, AreVerdicts, IsPackageIn}
+use Rattle.gr_verdict.specs.Verdicts.{Verdicts, AreVerdicts}
 use Rattle.gr_verdict.proofs.Closed.{imports_closed}
 use Rattle.gr_verdict.proofs.Local.{same_within}
 use Rattle.gr_verdict.proofs.Members.{passes}
@@ -20,7 +20,7 @@ use Rattle.gr_bound.specs.declared.declaration.Declaration.{Declaration}
 use Rattle.gr_bound.specs.declared.declaration.Declaration.TheVariants.{Predeclared, Declared, Field, Method}
 use Rattle.gr_bound.specs.Binding.{by_scope, by_package, by_member, by_name, BindsByPackage, IsBehindPackage, IsExportedUse}
 use Rattle.gr_bound.specs.Identifiers.{BeginsAt, NameBegins, file_of, named_by}
-use Rattle.gr_bound.specs.Uses.{IsPackage, IsBoundTo, IsUseOf, IsAskedIn, HasDeclaration}
+use Rattle.gr_bound.specs.Uses.{IsPackage, IsBoundTo, IsUseOf, HasDeclaration}
 use Rattle.gr_bound.proofs.NamedMembers.{part_at}
 use Rattle.gr_bound.proofs.OnePlace.{same_files}
 use Rattle.gr_steady.proofs.Imports.{entry_at, named_is_imported}
@@ -33,11 +33,13 @@ in_folder w p e h =
     let test = (passes (λ d. is_of_package p d.0) (entries w) e h).0 in
     (bytes_decides (folder e.0) p).0 (and_parts (is_go e.0) (pointwise ◌==◌ (folder e.0) p) test).1
 
-some_file : (o : Option SourceFile) (token : ℕ) (path : List ℕ) (offset : ℕ) → NameBegins o token path offset → (f : SourceFile) × ((o ≡ Some f) × (f.path ≡ path))
+some_file : (o : Option SourceFile) (token : ℕ) (path : List ℕ) (offset : ℕ) → NameBegins o token path offset →
+    (f : SourceFile) × ((o ≡ Some f) × (f.path ≡ path))
 some_file None token path offset h = absurd h
 some_file (Some f) token path offset h = (f, (refl, h.1))
 
-pub begins_in_folder : (w : Workspace) (known : Verdicts) (p : Package) → IsPackage w known p → (path : List ℕ) (offset u : ℕ) → BeginsAt p path offset u →
+pub begins_in_folder : (w : Workspace) (known : Verdicts) (p : Package) → IsPackage w known p → (path : List ℕ) (offset u : ℕ) →
+    BeginsAt p path offset u →
     p.path ≡ folder path
 begins_in_folder w known p is path offset u b =
     let h = is.is_checked in

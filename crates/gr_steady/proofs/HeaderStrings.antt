@@ -1,5 +1,5 @@
 -- The strings among the identifiers of a file are the literals of its imports.
-use Rattle.std.proofs.Common.{ℕ, zero, suc, ◌≡◌, ◌+◌, inl, inr, List, [], ◌∷◌, ◌++◌, Option, Some, None, Bool, true, false, map, get_or, ap, sym, subst, refl, ◌∙◌, arith}
+use Rattle.std.proofs.Common.{ℕ, suc, ◌≡◌, ◌+◌, inl, inr, List, [], ◌∷◌, ◌++◌, Option, Some, None, Bool, true, false, map, get_or, ap, sym, subst, refl, ◌∙◌, arith}
 use Rattle.std.specs.Prelude.{Contains, cond, slice_get}
 use Rattle.std.specs.List.{AllByRecursion, flat_map}
 use Rattle.std.proofs.lemmas.Bool.{true≢false}
@@ -13,7 +13,7 @@ use Rattle.gr_scan.specs.TokenValues.{IsStringClass}
 use Rattle.gr_tree.specs.declared.syntax.Kind.{Kind}
 use Rattle.gr_tree.specs.declared.syntax.Kind.TheVariants as kind
 use Rattle.gr_tree.specs.declared.syntax.Token.{Token}
-use Rattle.gr_tree.specs.Flatten.{sign, sign_if, all_tokens, item_tokens, list_tokens, group_tokens, import_tokens, imports_tokens, decl_tokens, flatten}
+use Rattle.gr_tree.specs.Flatten.{sign, sign_if, all_tokens, list_tokens, group_tokens, import_tokens, imports_tokens, decl_tokens, flatten}
 use Rattle.gr_tree.specs.Kinds.{kind_of, kinds_from, kinds_of}
 use Rattle.gr_tree.specs.Tree.{Item, Group, single, several, ImportTree, ImportsTree, DeclTree, VarDecl, TypeDecl, FuncDecl, FileTree}
 use Rattle.gr_graph.specs.FileImports.{paths_in, import_literals}
@@ -132,7 +132,8 @@ module _ (R : ℕ → Type 0) where
       let others = flat_map (λ (d : ImportsTree). paths_in d.imports) is in
       both Tells (imports_tokens i) (all_tokens imports_tokens is) (
         (λ e. absurd (let z : ⊥ = cc in z)),
-        both Tells (group_tokens import_tokens i.imports) (sign kind.Semicolon i.semicolon ∷ []) (group_tells i.imports (first_part R (paths_in i.imports) others r))
+        both Tells (group_tokens import_tokens i.imports) (sign kind.Semicolon i.semicolon ∷ [])
+            (group_tells i.imports (first_part R (paths_in i.imports) others r))
             (other_tells kind.Semicolon i.semicolon (λ e. cc)),
       )
       (imports_tell is (last_part R (paths_in i.imports) others r))

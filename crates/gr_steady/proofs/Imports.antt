@@ -1,10 +1,9 @@
 -- A package imports each path that one of its imports names.
-use Rattle.std.proofs.Common.{ℕ, zero, suc, ◌≡◌, ◌+◌, ◌<◌, inl, inr, List, [], ◌∷◌, length, Bool, true, false, map, ap, sym, subst, refl, ◌∙◌, arith, if◌then◌else◌}
+use Rattle.std.proofs.Common.{ℕ, zero, suc, ◌≡◌, ◌+◌, ◌<◌, inl, inr, List, [], length, Bool, true, false, map, ap, sym, subst, refl, ◌∙◌, arith, if◌then◌else◌}
 use Rattle.std.specs.Prelude.{Contains, Some, slice_get}
 use Rattle.std.proofs.lemmas.Bool.{cases_lt, true≢false}
 use Rattle.std.proofs.lemmas.List.{get_or_past}
 use Rattle.std.proofs.lemmas.Option.{slice_get-get_or, same_Some, none-some}
-use Rattle.gr_text.specs.Packages.{package_files}
 use Rattle.gr_text.specs.Workspace.{Workspace}
 use Rattle.gr_scan.specs.declared.piece.Piece.{Piece}
 use Rattle.gr_scan.specs.CutText.{tokens_in, token_at}
@@ -15,13 +14,12 @@ use Rattle.gr_tree.specs.SourceFile.{SourceFile, FileParts, source_of}
 use Rattle.gr_graph.specs.FileImports.{import_literals}
 use Rattle.gr_graph.specs.Packages.{IsParsed, ImportsPath, PackageImports}
 use Rattle.gr_graph.specs.Parsed.{AreParsed, none, tree}
-use Rattle.gr_scope.specs.declared.model.Block.TheVariants.{File}
 use Rattle.gr_scope.specs.declared.model.Position.{Position}
 use Rattle.gr_scope.specs.declared.model.Purpose.TheVariants as purpose
 use Rattle.gr_scope.specs.declared.model.Role.{Role}
 use Rattle.gr_scope.specs.declared.model.Role.TheVariants.{NotLexical}
 use Rattle.gr_scope.specs.Bindings.{Layout, IsIdentifier, IsImport, MayDeclare, Counts, IsBoundTo, use_bound, own, block_of, is_implied}
-use Rattle.gr_scope.specs.FileSites.{files_sites, universe, package_sites}
+use Rattle.gr_scope.specs.FileSites.{universe, package_sites}
 use Rattle.gr_scope.specs.Named.{named_sites}
 use Rattle.gr_scope.specs.Parsed.{spelled_file}
 use Rattle.gr_scope.specs.Scoped.{scoped, layout_in}
@@ -43,7 +41,7 @@ use Rattle.gr_bound.specs.Binding.{NamesPackage}
 use Rattle.gr_bound.proofs.NamedMembers.{part_at}
 use Rattle.gr_bound.proofs.OnePlace.{names_of, laid_of, same_layout, same_size, same_files}
 use Rattle.gr_steady.proofs.HeaderStrings.{is_import_literal}
-use Rattle.gr_steady.proofs.ImportSites.{role_in, file_in, literal_within, literal_file, import_identifies}
+use Rattle.gr_steady.proofs.ImportSites.{role_in, literal_within, literal_file, import_identifies}
 
 -- a parsed file of a package, by its rank
 pub entry_at : {es : List (List ℕ × List ℕ)} {ts : List FileParts} → AreParsed es ts [] → (i : ℕ) (t : FileParts) → slice_get ts i ≡ Some t →
