@@ -1,0 +1,114 @@
+-- What the identifiers of a package are bound to, where its closure has the same texts in two workspaces.
+use Rattle.std.proofs.Common.{ℕ, ◌≡◌, ◌==◌, List, Option, Some, None, map, refl, sym, ap, subst, ◌∙◌}
+use Rattle.std.specs.Prelude.{Contains, slice_get}
+use Rattle.std.specs.Cmp.Lexicographic.{pointwise, bytes_decides}
+use Rattle.std.specs.FinMap.{entries}
+use Rattle.std.proofs.lemmas.Bool.{and_parts}
+use Rattle.gr_text.specs.Path.{folder}
+use Rattle.gr_text.specs.Packages.{is_go, is_of_package, package_paths, package_files}
+use Rattle.gr_text.specs.Workspace.{Workspace}
+use Rattle.gr_text.specs.declared.place.Place.{Place}
+use Rattle.gr_tree.specs.SourceFile.{SourceFile, source_of}
+use Rattle.gr_graph.specs.Packages.{IsInClosure}
+use Rattle.gr_declared.specs.Package.{Package}
+use Rattle.gr_verdict.specs.Closures.{HasSameClosure}
+use Rattle.gr_verdict.specs.Verdicts.{Verdicts, AreVerdicts}
+use Rattle.gr_verdict.proofs.Closed.{imports_closed}
+use Rattle.gr_verdict.proofs.Local.{same_within}
+use Rattle.gr_verdict.proofs.Members.{passes}
+use Rattle.gr_bound.specs.declared.declaration.Declaration.{Declaration}
+use Rattle.gr_bound.specs.declared.declaration.Declaration.TheVariants.{Predeclared, Declared, Field, Method}
+use Rattle.gr_bound.specs.Binding.{by_scope, by_package, by_member, by_name, BindsByPackage, IsBehindPackage, IsExportedUse}
+use Rattle.gr_bound.specs.Identifiers.{BeginsAt, NameBegins, file_of, named_by}
+use Rattle.gr_bound.specs.Uses.{IsPackage, IsBoundTo, IsUseOf, HasDeclaration}
+use Rattle.gr_bound.proofs.NamedMembers.{part_at}
+use Rattle.gr_bound.proofs.OnePlace.{same_files}
+use Rattle.gr_steady.proofs.Imports.{entry_at, named_is_imported}
+use Rattle.gr_steady.proofs.Packages.{package_stays}
+
+-- an identifier begins in a file of the folder of its package
+
+in_folder : (w : Workspace) (p : List ℕ) (e : List ℕ × List ℕ) → Contains (package_files w p) e → folder e.0 ≡ p
+in_folder w p e h =
+    let test = (passes (λ d. is_of_package p d.0) (entries w) e h).0 in
+    (bytes_decides (folder e.0) p).0 (and_parts (is_go e.0) (pointwise ◌==◌ (folder e.0) p) test).1
+
+some_file : (o : Option SourceFile) (token : ℕ) (path : List ℕ) (offset : ℕ) → NameBegins o token path offset →
+    (f : SourceFile) × ((o ≡ Some f) × (f.path ≡ path))
+some_file None token path offset h = absurd h
+some_file (Some f) token path offset h = (f, (refl, h.1))
+
+pub begins_in_folder : (w : Workspace) (known : Verdicts) (p : Package) → IsPackage w known p → (path : List ℕ) (offset u : ℕ) →
+    BeginsAt p path offset u →
+    p.path ≡ folder path
+begins_in_folder w known p is path offset u b =
+    let h = is.is_checked in
+    let rank = (p.layout.place u).file in
+    let f = some_file (file_of p u) (p.layout.place u).index path offset b.1 in
+    let in_files : slice_get (map source_of h.files) rank ≡ Some f.0 = subst (λ fs. slice_get fs rank ≡ Some f.0) (same_files w known p.path p h) f.1.0 in
+    let part = part_at h.files rank f.0 in_files in
+    let entry = entry_at h.parsed rank part.0 part.1.0 in
+    let same : entry.0.0 ≡ path = sym entry.1.1.of_path ∙ ap (λ (s : SourceFile). s.path) part.1.1 ∙ f.1.1 in
+    sym (in_folder w p.path entry.0 entry.1.0) ∙ ap folder same
+
+-- the package of a name before a dot lies in the closure
+pub behind_closed : (w : Workspace) (known : Verdicts) (p : Package) → IsPackage w known p → (u : ℕ) (q : List ℕ) → IsBehindPackage p u q →
+    Contains (package_paths w) q → IsInClosure w p.path q
+behind_closed w known p is u q b has =
+    imports_closed w p.path q (named_is_imported w known p.path p is.is_checked (p.layout.place u).file b.before q b.named) has
+
+module _ (w x : Workspace) (before after : Verdicts) (right : AreVerdicts w before) (also : AreVerdicts x after) where
+  export_stays : (p : Package) → HasSameClosure w x p.path → IsPackage w before p → (u : ℕ) (path : List ℕ) (n : ℕ) →
+      IsExportedUse (IsPackage w before) p u path n → IsExportedUse (IsPackage x after) p u path n
+  export_stays p same is u path n h =
+      let has : Contains (package_paths w) path = subst (Contains (package_paths w)) h.of_path h.is_package.of_workspace in
+      let within : HasSameClosure w x path = same_within w x p.path same path (behind_closed w before p is u path h.behind has) in
+      record {
+        behind = h.behind;
+        other = h.other;
+        is_package = package_stays w x before after right also h.other (subst (HasSameClosure w x) (sym h.of_path) within) h.is_package;
+        of_path = h.of_path;
+        seen = h.seen;
+        named = h.named;
+      }
+
+  behind_stays : (p : Package) → HasSameClosure w x p.path → IsPackage w before p → (u : ℕ) (d : Declaration) →
+      BindsByPackage (IsPackage w before) p u d → BindsByPackage (IsPackage x after) p u d
+  behind_stays p same is u (Predeclared n) h = h
+  behind_stays p same is u (Declared path n) h = export_stays p same is u path n h
+  behind_stays p same is u (Field s) h = h
+  behind_stays p same is u (Method s) h = h
+
+  pub bound_stays : (p : Package) → HasSameClosure w x p.path → IsPackage w before p → (u : ℕ) (d : Declaration) → IsBoundTo w before p u d →
+      IsBoundTo x after p u d
+  bound_stays p same is u d (by_scope h) = by_scope h
+  bound_stays p same is u d (by_package h) = by_package (behind_stays p same is u d h)
+  bound_stays p same is u d (by_member h) = by_member h
+  bound_stays p same is u d (by_name h) = by_name h
+
+  pub use_stays : (place : Place) → HasSameClosure w x (folder place.path) → (d : Declaration) → IsUseOf w before d place → IsUseOf x after d place
+  use_stays place same d h =
+      let p = h.used_in in
+      let own : HasSameClosure w x p.path =
+      subst (HasSameClosure w x) (sym (begins_in_folder w before p h.is_package place.path place.offset h.user h.begins)) same in
+      record {
+        used_in = p;
+        is_package = package_stays w x before after right also p own h.is_package;
+        user = h.user;
+        begins = h.begins;
+        bound = bound_stays p own h.is_package h.user d h.bound;
+      }
+
+  pub held_stays : (path : List ℕ) → HasSameClosure w x (folder path) → (offset : ℕ) (d : Declaration) → HasDeclaration w before path offset d →
+      HasDeclaration x after path offset d
+  held_stays path same offset d h =
+      let p = h.asked_in in
+      let own : HasSameClosure w x p.path = subst (HasSameClosure w x) (sym h.is_asked.of_folder) same in
+      let is = h.is_asked.is_package in
+      record {
+        asked_in = p;
+        is_asked = record { is_package = package_stays w x before after right also p own is; of_folder = h.is_asked.of_folder };
+        number = h.number;
+        at = h.at;
+        bound = bound_stays p own is (named_by p.layout h.number) d h.bound;
+      }

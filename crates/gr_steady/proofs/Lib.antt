@@ -1,0 +1,6 @@
+-- The lemmas of this crate.
+pub mod HeaderStrings
+pub mod ImportSites
+pub mod Imports
+pub mod Packages
+pub mod Bindings

@@ -1,0 +1,37 @@
+//! The laws of packages whose closures have the same texts in two workspaces.
+ghost use Rattle.std.specs.Prelude.{ℕ, ◌↔◌, List, Contains};
+ghost use Rattle.gr_text.specs.Packages.{package_paths};
+ghost use Rattle.gr_text.specs.Path.{folder};
+ghost use Rattle.gr_text.specs.Workspace.{Workspace};
+ghost use Rattle.gr_text.specs.declared.place.Place.{Place};
+ghost use Rattle.gr_declared.specs.Package.{Package};
+ghost use Rattle.gr_verdict.specs.Closures.{HasSameClosure};
+ghost use Rattle.gr_verdict.specs.Laws.{IsSameVerdict};
+ghost use Rattle.gr_verdict.specs.Verdicts.{Verdicts, AreVerdicts};
+ghost use Rattle.gr_bound.specs.declared.declaration.Declaration.{Declaration};
+ghost use Rattle.gr_bound.specs.Uses.{IsPackage, IsBoundTo, IsUseOf, HasDeclaration};
+
+/// Where the closure of a package has the same texts in two workspaces, the package is checked as the same one in both, with
+/// the same identifiers, declarations and types, and the same is known of it: whether it has faults, and what others see of it.
+pub fn packages_stay()
+    ensures checked { (w : Workspace) → (x : Workspace) → (before : Verdicts) → (after : Verdicts) → AreVerdicts w before → AreVerdicts x after →
+        (p : Package) → HasSameClosure w x p.path → IsPackage w before p ↔ IsPackage x after p }
+    ensures known { (w : Workspace) → (x : Workspace) → (before : Verdicts) → (after : Verdicts) → AreVerdicts w before → AreVerdicts x after →
+        (path : List ℕ) → Contains (package_paths w) path → HasSameClosure w x path → IsSameVerdict (before path) (after path) }
+{}
+
+/// In such a package the same identifiers are bound to the same declarations.
+pub fn bindings_stay()
+    ensures { (w : Workspace) → (x : Workspace) → (before : Verdicts) → (after : Verdicts) → AreVerdicts w before → AreVerdicts x after →
+        (p : Package) → HasSameClosure w x p.path → IsPackage w before p → (u : ℕ) → (d : Declaration) → IsBoundTo w before p u d ↔ IsBoundTo x after p u d }
+{}
+
+/// So the uses of a declaration in the files of such a package are the same in both workspaces, and what holds a byte of such
+/// a file is bound to the same declaration.
+pub fn uses_stay()
+    ensures begins { (w : Workspace) → (x : Workspace) → (before : Verdicts) → (after : Verdicts) → AreVerdicts w before → AreVerdicts x after →
+        (place : Place) → HasSameClosure w x (folder place.path) → (d : Declaration) → IsUseOf w before d place ↔ IsUseOf x after d place }
+    ensures holds { (w : Workspace) → (x : Workspace) → (before : Verdicts) → (after : Verdicts) → AreVerdicts w before → AreVerdicts x after →
+        (path : List ℕ) → HasSameClosure w x (folder path) → (offset : ℕ) → (d : Declaration) →
+        HasDeclaration w before path offset d ↔ HasDeclaration x after path offset d }
+{}
