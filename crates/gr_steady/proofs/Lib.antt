@@ -4,3 +4,5 @@ pub mod ImportSites
 pub mod Imports
 pub mod Packages
 pub mod Bindings
+pub mod MemberFiles
+pub mod Members
