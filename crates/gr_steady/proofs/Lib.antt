@@ -6,3 +6,4 @@ pub mod Packages
 pub mod Bindings
 pub mod MemberFiles
 pub mod Members
+pub mod Standing

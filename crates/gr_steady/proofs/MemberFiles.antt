@@ -3,7 +3,6 @@ use Rattle.std.proofs.Common.{ℕ, zero, suc, ◌≡◌, ◌+◌, ◌<◌, ◌�
 use Rattle.std.specs.Prelude.{Some, slice_get}
 use Rattle.std.specs.List.{AllByRecursion, flat_map, enumerate_from}
 use Rattle.std.proofs.lemmas.Option.{same_Some, none-some}
-use Rattle.gr_tree.specs.SourceFile.{SourceFile}
 use Rattle.gr_tree.specs.Tree.{Item, FieldTree, BodyTree, Other, Struct, DeclTree, VarDecl, TypeDecl, FuncDecl}
 use Rattle.gr_imports.specs.Files.{Ranked, ranked, group_items}
 use Rattle.gr_declared.specs.Package.{Package, PlacedType, PlacedFunction, placed_type, decl_types, decl_functions, types_in, functions_in, package_types, package_functions}

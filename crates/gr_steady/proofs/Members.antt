@@ -19,7 +19,7 @@ use Rattle.gr_verdict.proofs.Closed.{to_package}
 use Rattle.gr_verdict.proofs.OneVerdict.{right_below, verdict_by}
 use Rattle.gr_bound.specs.declared.declaration.Declaration.{Declaration}
 use Rattle.gr_bound.specs.declared.declaration.Declaration.TheVariants as declares
-use Rattle.gr_bound.specs.Binding.{IsMemberAt, declaration_of}
+use Rattle.gr_bound.specs.Binding.{declaration_of}
 use Rattle.gr_bound.specs.Uses.{IsPackage}
 use Rattle.gr_bound.proofs.MemberParts.{method_declared}
 
@@ -166,7 +166,8 @@ module _ (w : Workspace) (known : Verdicts) (right : AreVerdicts w known) (p : P
   field_found name None f e = absurd (none-some f e)
   field_found name (Some s) f e = seen_field_there s name ((definitions s).field name) refl f e
 
-  method_found : (name : List ℕ) (o : Option Symbol) (m : Method) → method_of definitions p.path name o ≡ Some m → HasOwner w known p.path CountsAsMethod m.symbol
+  method_found : (name : List ℕ) (o : Option Symbol) (m : Method) → method_of definitions p.path name o ≡ Some m →
+      HasOwner w known p.path CountsAsMethod m.symbol
   method_found name None m e = absurd (none-some m e)
   method_found name (Some s) m e = seen_method_there s name ((definitions s).method name) refl m e
 
