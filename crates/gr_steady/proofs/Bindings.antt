@@ -1,5 +1,5 @@
 -- What the identifiers of a package are bound to, where its closure has the same texts in two workspaces.
-use Rattle.std.proofs.Common.{ℕ, ◌≡◌, ◌==◌, List, Option, Some, None, map, refl, sym, ap, subst, ◌∙◌}
+use Rattle.std.proofs.Common.{ℕ, ◌≡◌, ◌==◌, List, Option, Some, None, refl, sym, ap, subst, ◌∙◌}
 use Rattle.std.specs.Prelude.{Contains, slice_get}
 use Rattle.std.specs.Cmp.Lexicographic.{pointwise, bytes_decides}
 use Rattle.std.specs.FinMap.{entries}
@@ -8,7 +8,7 @@ use Rattle.gr_text.specs.Path.{folder}
 use Rattle.gr_text.specs.Packages.{is_go, is_of_package, package_paths, package_files}
 use Rattle.gr_text.specs.Workspace.{Workspace}
 use Rattle.gr_text.specs.declared.place.Place.{Place}
-use Rattle.gr_tree.specs.SourceFile.{SourceFile, source_of}
+use Rattle.gr_tree.specs.SourceFile.{SourceFile}
 use Rattle.gr_graph.specs.Packages.{IsInClosure}
 use Rattle.gr_declared.specs.Package.{Package}
 use Rattle.gr_verdict.specs.Closures.{HasSameClosure}
@@ -38,18 +38,20 @@ some_file : (o : Option SourceFile) (token : ℕ) (path : List ℕ) (offset : �
 some_file None token path offset h = absurd h
 some_file (Some f) token path offset h = (f, (refl, h.1))
 
+pub file_in_folder : (w : Workspace) (known : Verdicts) (p : Package) → IsPackage w known p → (rank : ℕ) (f : SourceFile) → slice_get p.files rank ≡ Some f →
+    folder f.path ≡ p.path
+file_in_folder w known p is rank f at =
+    let h = is.is_checked in
+    let part = part_at h.files rank f (subst (λ fs. slice_get fs rank ≡ Some f) (same_files w known p.path p h) at) in
+    let entry = entry_at h.parsed rank part.0 part.1.0 in
+    ap folder (sym (ap (λ (s : SourceFile). s.path) part.1.1) ∙ entry.1.1.of_path) ∙ in_folder w p.path entry.0 entry.1.0
+
 pub begins_in_folder : (w : Workspace) (known : Verdicts) (p : Package) → IsPackage w known p → (path : List ℕ) (offset u : ℕ) →
     BeginsAt p path offset u →
     p.path ≡ folder path
 begins_in_folder w known p is path offset u b =
-    let h = is.is_checked in
-    let rank = (p.layout.place u).file in
     let f = some_file (file_of p u) (p.layout.place u).index path offset b.1 in
-    let in_files : slice_get (map source_of h.files) rank ≡ Some f.0 = subst (λ fs. slice_get fs rank ≡ Some f.0) (same_files w known p.path p h) f.1.0 in
-    let part = part_at h.files rank f.0 in_files in
-    let entry = entry_at h.parsed rank part.0 part.1.0 in
-    let same : entry.0.0 ≡ path = sym entry.1.1.of_path ∙ ap (λ (s : SourceFile). s.path) part.1.1 ∙ f.1.1 in
-    sym (in_folder w p.path entry.0 entry.1.0) ∙ ap folder same
+    sym (file_in_folder w known p is (p.layout.place u).file f.0 f.1.0) ∙ ap folder f.1.1
 
 -- the package of a name before a dot lies in the closure
 pub behind_closed : (w : Workspace) (known : Verdicts) (p : Package) → IsPackage w known p → (u : ℕ) (q : List ℕ) → IsBehindPackage p u q →

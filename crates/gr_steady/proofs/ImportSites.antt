@@ -4,7 +4,7 @@ use Rattle.std.specs.Prelude.{slice_get}
 use Rattle.std.specs.List.{AllByRecursion}
 use Rattle.gr_tree.specs.declared.syntax.Token.{Token}
 use Rattle.gr_tree.specs.Flatten.{flatten}
-use Rattle.gr_scope.specs.declared.model.Block.TheVariants.{File}
+use Rattle.gr_scope.specs.declared.model.Block.TheVariants.{Universe, File}
 use Rattle.gr_scope.specs.declared.model.Purpose.TheVariants as purpose
 use Rattle.gr_scope.specs.declared.model.Role.{Role}
 use Rattle.gr_scope.specs.declared.model.Role.TheVariants.{NotLexical}
@@ -131,3 +131,11 @@ pub import_identifies : (given : ℕ → Option (List ℕ)) (names : List (List 
     block_of (role_in (named_sites given (map universe_site names ++ files_sites 0 fs)) u) ≡ File f →
     is_implied (role_in (named_sites given (map universe_site names ++ files_sites 0 fs)) u) ≡ false
 import_identifies given names fs u f e = declared_in_file given names (files_sites 0 fs) (files_identify 0 fs) u f e
+
+-- the predeclared names stand in their own block
+pub predeclared_block : (given : ℕ → Option (List ℕ)) (names : List (List ℕ)) (xs : List Site) (d : ℕ) → d < length names →
+    block_of (role_in (named_sites given (map universe_site names ++ xs)) d) ≡ Universe
+unfolding named_sites
+predeclared_block given [] xs d lt = absurd (omega arith)
+predeclared_block given (n ∷ names) xs zero lt = refl
+predeclared_block given (n ∷ names) xs (suc d) lt = predeclared_block (λ k. given (suc k)) names xs d (omega arith)

@@ -79,7 +79,7 @@ module _ (w : Workspace) (known : Verdicts) (path : List ℕ) (p : Package) (h :
     is_identifier : IsIdentifier p.layout n
     in_file : (p.layout.place n).file ≡ file
 
-  role_at : (u : ℕ) → p.layout.role u ≡ role_in (named_sites (names_of w known path p h) (scoped h.files).sites) u
+  pub role_at : (u : ℕ) → p.layout.role u ≡ role_in (named_sites (names_of w known path p h) (scoped h.files).sites) u
   role_at u = ap (λ (l : Layout). l.role u) (same_layout w known path p h)
 
   place_at : (u : ℕ) → p.layout.place u ≡ (found_site (slice_get (scoped h.files).sites u)).place
@@ -160,7 +160,7 @@ module _ (w : Workspace) (known : Verdicts) (path : List ℕ) (p : Package) (h :
       subst (Contains (import_literals f.tree)) one.stands (is_import_literal f.tree f.cut entry.1.1.is_file.is_tree.written one.token among string) in
       record { entry = entry.0; of_package = entry.1.0; file = f; parsed = entry.1.1; imports = literal_path f place.index q found stated }
 
-  counted : (u d : ℕ) → IsBoundTo p.layout p.names u d → Counts p.layout p.names d
+  pub counted : (u d : ℕ) → IsBoundTo p.layout p.names u d → Counts p.layout p.names d
   counted u d (use_bound is b) = b.counts
   counted u d (own e c) = c
 

@@ -4,3 +4,6 @@ pub mod ImportSites
 pub mod Imports
 pub mod Packages
 pub mod Bindings
+pub mod MemberFiles
+pub mod Members
+pub mod Standing

@@ -10,6 +10,7 @@ ghost use Rattle.gr_verdict.specs.Laws.{IsSameVerdict};
 ghost use Rattle.gr_verdict.specs.Verdicts.{Verdicts, AreVerdicts};
 ghost use Rattle.gr_bound.specs.declared.declaration.Declaration.{Declaration};
 ghost use Rattle.gr_bound.specs.Uses.{IsPackage, IsBoundTo, IsUseOf, HasDeclaration};
+ghost use Rattle.gr_steady.specs.Within.{StandsWithin, IsDeclaredWithin};
 
 /// Where the closure of a package has the same texts in two workspaces, the package is checked as the same one in both, with
 /// the same identifiers, declarations and types, and the same is known of it: whether it has faults, and what others see of it.
@@ -34,4 +35,14 @@ pub fn uses_stay()
     ensures holds { (w : Workspace) → (x : Workspace) → (before : Verdicts) → (after : Verdicts) → AreVerdicts w before → AreVerdicts x after →
         (path : List ℕ) → HasSameClosure w x (folder path) → (offset : ℕ) → (d : Declaration) →
         HasDeclaration w before path offset d ↔ HasDeclaration x after path offset d }
+{}
+
+/// What an identifier of a package is bound to is a predeclared name, or stands in a package in the closure; where the closure
+/// has the same texts in two workspaces, it stands at the same place in both.
+pub fn declarations_stand()
+    ensures within { (w : Workspace) → (known : Verdicts) → AreVerdicts w known → (p : Package) → IsPackage w known p → (u : ℕ) → (d : Declaration) →
+        IsBoundTo w known p u d → IsDeclaredWithin w known p.path d }
+    ensures stay { (w : Workspace) → (x : Workspace) → (before : Verdicts) → (after : Verdicts) → AreVerdicts w before → AreVerdicts x after →
+        (path : List ℕ) → HasSameClosure w x path → (d : Declaration) → (place : Place) →
+        StandsWithin w before path d place ↔ StandsWithin x after path d place }
 {}
