@@ -4,7 +4,7 @@ The workspace is that of build.py, of about 222,572 lines or of so many as are g
 path below FOLDER, lies in a package that all others import. Its package is put last, so that little is built before. Measured with 1 worker and
 with 4: from the put that makes all packages be built to the reply of `wait`, and the same behind other texts of FILE; the server's
 seconds of processor time beside each; the longest of `look`, asked again and again meanwhile by another session; and how many entries the
-journal gained. Then, with 4 workers, 8 sessions put, rename and undo for some seconds, with FILE put every second, so that there is always much to build, while
+journal gained. Then, with 4 workers, 8 sessions put and undo for some seconds, and then put, rename and undo, with FILE put every second, so that there is always much to build, while
 another one looks: the replies a second, how they were answered, and how long the looks took. `go build -p 4` of the same files stands beside, where
 go is there.
 usage: bench/workers.py PROGRAM [LINES [SECONDS [ROUNDS [FOLDER FILE]]]]
@@ -116,13 +116,13 @@ def looking(path, until, told):
     told.put(("look", waits))
 
 
-def editing(path, number, files, until, told):
-    """Puts, renames and undoes in files of its own until the end."""
+def editing(path, number, files, verbs, until, told):
+    """Puts, renames and undoes in files of its own, or only some of these, until the end. It undoes only where it was admitted to put."""
     session, counts = Session(path), collections.Counter()
     mine = sorted(files)[number :: EDITORS]
     basis, turn = session.number(), 0
     while not until.is_set():
-        turn += 1
+        turn, has_put = turn + 1, False
         file = mine[turn % len(mine)]
         text = another(files[file], turn * EDITORS + number)
         offset = text.rindex(b"again")
@@ -131,11 +131,13 @@ def editing(path, number, files, until, told):
             ("rename", b"rename %%d %s:#%d other%d" % (file.encode(), offset, turn), b""),
             ("undo", b"undo %d", b""),
         ):
+            if verb not in verbs or until.is_set() or verb == "undo" and not has_put:
+                continue
             word, told_number, rest, seconds = session.ask(line % basis, body)
             counts[f"{verb} {'ok' if word == b'ok' else 'no %d' % told_number}"] += 1
             counts[f"seconds of {verb}"] += seconds
             if word == b"ok":
-                basis = told_number
+                basis, has_put = told_number, True
             elif told_number == 6:
                 basis = int(rest)
     told.put(("edit", counts))
@@ -192,30 +194,29 @@ def build_all(program, workers, files, lowest, rounds, seconds):
         word, _, faults, _ = session.ask(b"faults")
         if word != b"ok" or faults:
             sys.exit(f"faults: {word} {faults[:200]}")
-        if seconds > 0:
-            edit_all(server, session, files, lowest, seconds)
+        for verbs in (("put", "undo"), ("put", "rename", "undo")) if seconds > 0 else ():
+            edit_all(server, session, files, lowest, seconds, verbs)
         print(f"    most memory      {server.peak():8.0f} MiB", flush=True)
         return statistics.median(found)
 
 
-def edit_all(server, session, files, lowest, seconds):
+def edit_all(server, session, files, lowest, seconds, verbs):
     """Sessions that edit while the workers build."""
     others = {path: text for path, text in files.items() if path != lowest}
     entries, processor, begin, number = session.entries(), server.processor(), time.perf_counter(), 1000
-    works = [(editing, server.path, editor, others) for editor in range(EDITORS)]
+    works = [(editing, server.path, editor, others, verbs) for editor in range(EDITORS)]
     beside = Beside((looking, server.path), *works)
     while time.perf_counter() - begin < seconds:
         number += 1
         session.put_now(lowest, another(files[lowest], number))
         time.sleep(1)
-    ended = time.perf_counter() - begin
-    processor = server.processor() - processor
     seen = beside.end()
+    ended, processor = time.perf_counter() - begin, server.processor() - processor
     counts = sum((counts for what, counts in seen if what == "edit"), collections.Counter())
     waits = next(waits for what, waits in seen if what == "look")
     replies = sum(count for what, count in counts.items() if not what.startswith("seconds"))
-    print(f"    {EDITORS} sessions for {ended:.1f} s: {replies / ended:.1f} replies a second, processor {processor:.1f} s; {waits_told(waits)}")
-    for verb in ("put", "rename", "undo"):
+    print(f"    {EDITORS} sessions with {', '.join(verbs)} for {ended:.1f} s: {replies / ended:.1f} replies a second, processor {processor:.1f} s; {waits_told(waits)}")
+    for verb in verbs:
         found = {what[len(verb) + 1 :]: count for what, count in sorted(counts.items()) if what.startswith(verb + " ")}
         mean = counts[f"seconds of {verb}"] / max(1, sum(found.values()))
         print(f"      {verb:7} mean {mean * 1000:8.1f} ms; " + ", ".join(f"{what}: {count}" for what, count in found.items()))
