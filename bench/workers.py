@@ -117,7 +117,8 @@ def looking(path, until, told):
 
 
 def editing(path, number, files, verbs, until, told):
-    """Puts, renames and undoes in files of its own, or only some of these, until the end. It undoes only where it was admitted to put."""
+    """Puts, renames and undoes in files of its own, or only some of these, until the end. A put that
+    came too late is asked again; only where it was admitted a rename or an undo follows."""
     session, counts = Session(path), collections.Counter()
     mine = sorted(files)[number :: EDITORS]
     basis, turn = session.number(), 0
@@ -131,15 +132,18 @@ def editing(path, number, files, verbs, until, told):
             ("rename", b"rename %%d %s:#%d other%d" % (file.encode(), offset, turn), b""),
             ("undo", b"undo %d", b""),
         ):
-            if verb not in verbs or until.is_set() or verb == "undo" and not has_put:
+            if verb not in verbs or until.is_set() or verb != "put" and not has_put:
                 continue
-            word, told_number, rest, seconds = session.ask(line % basis, body)
-            counts[f"{verb} {'ok' if word == b'ok' else 'no %d' % told_number}"] += 1
-            counts[f"seconds of {verb}"] += seconds
-            if word == b"ok":
-                basis, has_put = told_number, True
-            elif told_number == 6:
-                basis = int(rest)
+            while True:
+                word, told_number, rest, seconds = session.ask(line % basis, body)
+                counts[f"{verb} {'ok' if word == b'ok' else 'no %d' % told_number}"] += 1
+                counts[f"seconds of {verb}"] += seconds
+                if word == b"ok":
+                    basis, has_put = told_number, True
+                elif told_number == 6:
+                    basis = int(rest)
+                if (word, told_number) != (b"no", 6) or verb != "put" or until.is_set():
+                    break
     told.put(("edit", counts))
 
 
