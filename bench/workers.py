@@ -1,12 +1,12 @@
 """Measures a server on a socket: how long 4 workers take to build everything, beside 1, and how sessions fare while they build.
 
-The workspace is that of build.py, of about 222,572 lines or of so many as are given; or the Go files below FOLDER, of which FILE, by its
-path below FOLDER, lies in a package that all others import. Its package is put last, so that little is built before. Measured with 1 worker and
-with 4: from the put that makes all packages be built to the reply of `wait`, and the same behind other texts of FILE; the server's
-seconds of processor time beside each; the longest of `look`, asked again and again meanwhile by another session; and how many entries the
-journal gained. Then, with 4 workers, 8 sessions put and undo for some seconds, and then put, rename and undo, with FILE put every second, so that there is always much to build, while
-another one looks: the replies a second, how they were answered, and how long the looks took. `go build -p 4` of the same files stands beside, where
-go is there.
+The workspace is that of build.py, of about 222,572 lines or of so many as are given; or the Go files below FOLDER, of which FILE, by
+its path below FOLDER, lies in a package that all others import. That package is put last, so that little is built before. Measured
+with 1 worker and with 4: from the put that makes all packages be built to the reply of `wait`, and ROUNDS times (3) the same behind
+other texts of FILE; beside each the server's processor time, how long the looks of another session took meanwhile, and how many
+entries the journal gained. Then, with 4 workers, 8 sessions put and undo for SECONDS (20), and then put, rename and undo, with FILE
+put every second, so that there is always much to build, while another one looks: the replies a second, how they were answered, and
+how long the looks took. `go build -p 4` of the same files stands beside, where go is there.
 usage: bench/workers.py PROGRAM [LINES [SECONDS [ROUNDS [FOLDER FILE]]]]
 """
 import collections
@@ -166,8 +166,8 @@ class Beside:
 
 def waits_told(waits):
     waits = sorted(waits)
-    middle, most = statistics.median(waits), waits[-1]
-    return f"{len(waits)} looks, median {middle * 1000:.2f} ms, of a hundred the second longest {waits[int(len(waits) * 0.98)] * 1000:.2f} ms, longest {most * 1000:.1f} ms"
+    middle, most, last = (1000 * wait for wait in (statistics.median(waits), waits[int(len(waits) * 0.98)], waits[-1]))
+    return f"{len(waits)} looks, median {middle:.2f} ms, 98 of 100 within {most:.2f} ms, longest {last:.1f} ms"
 
 
 def built(server, session, name, act):
@@ -219,7 +219,8 @@ def edit_all(server, session, files, lowest, seconds, verbs):
     counts = sum((counts for what, counts in seen if what == "edit"), collections.Counter())
     waits = next(waits for what, waits in seen if what == "look")
     replies = sum(count for what, count in counts.items() if not what.startswith("seconds"))
-    print(f"    {EDITORS} sessions with {', '.join(verbs)} for {ended:.1f} s: {replies / ended:.1f} replies a second, processor {processor:.1f} s; {waits_told(waits)}")
+    print(f"    {EDITORS} sessions with {', '.join(verbs)} for {ended:.1f} s: {replies / ended:.1f} replies a second, processor {processor:.1f} s;")
+    print(f"      {waits_told(waits)}")
     for verb in verbs:
         found = {what[len(verb) + 1 :]: count for what, count in sorted(counts.items()) if what.startswith(verb + " ")}
         mean = counts[f"seconds of {verb}"] / max(1, sum(found.values()))

@@ -433,6 +433,8 @@ def counted(entries, asked):
     looks = sum(count for verb, count in of.items() if verb not in ("log", "frob"))
     ok = lambda verbs: sum(a.is_ok() for a in asked if a.verb in verbs)
     entered = collections.Counter(entry.split(" ")[0] for entry in entries if entry.split(" ")[2] == "ok")
+    none = lambda verb, code: sum(a.verb == verb and a.head == code for a in asked)
+    refused = lambda kind, code: sum(entry.startswith(kind) and entry.endswith(code) for entry in entries)
     found = []
     for what, here, wanted in (
         ("log", told["log"], of["log"]),
@@ -440,6 +442,8 @@ def counted(entries, asked):
         ("commit ok", entered["commit"], ok(CHANGES)),
         ("undo ok", entered["undo"], ok((b"undo",))),
         ("redo ok", entered["redo"], ok((b"redo",))),
+        ("undo no 7", refused("undo ", " no 7"), none(b"undo", b"no 7")),
+        ("redo no 8", refused("redo ", " no 8"), none(b"redo", b"no 8")),
     ):
         if here != wanted:
             found.append(f"{here} entries `{what}`, and {wanted} of them were told")
