@@ -1,0 +1,259 @@
+"""Measures a server on a socket: how long 4 workers take to build everything, beside 1, and how sessions fare while they build.
+
+The workspace is that of build.py, of about 222,572 lines or of so many as are given; or the Go files below FOLDER, of which FILE, by
+its path below FOLDER, lies in a package that all others import. That package is put last, so that little is built before. Measured
+with 1 worker and with 4: from the put that makes all packages be built to the reply of `wait`, and ROUNDS times (3) the same behind
+other texts of FILE; beside each the server's processor time, how long the looks of another session took meanwhile, and how many
+entries the journal gained. Then, with 4 workers, 8 sessions put and undo for SECONDS (20), and then put, rename and undo, with FILE
+put every second, so that there is always much to build, while another one looks: the replies a second, how they were answered, and
+how long the looks took. `go build -p 4` of the same files stands beside, where go is there.
+usage: bench/workers.py PROGRAM [LINES [SECONDS [ROUNDS [FOLDER FILE]]]]
+"""
+import collections
+import multiprocessing
+import os
+import pathlib
+import shutil
+import socket
+import statistics
+import subprocess
+import sys
+import tempfile
+import time
+import types
+
+import build
+import check
+
+EDITORS = 8
+TICK = os.sysconf("SC_CLK_TCK")
+
+
+class Server:
+    """A server on a socket of its own, which is killed at the end."""
+
+    def __init__(self, program, workers):
+        self.folder = tempfile.TemporaryDirectory()
+        self.path = os.path.join(self.folder.name, "s")
+        words = ["serve", "--socket", self.path, "--workers", str(workers), "--sessions", str(EDITORS + 4)]
+        self.child = subprocess.Popen([program, *words])
+        while not os.path.exists(self.path):
+            if self.child.poll() is not None:
+                sys.exit("the server has ended")
+            time.sleep(0.01)
+
+    def __enter__(self):
+        return self
+
+    def __exit__(self, *_):
+        self.child.kill()
+        self.child.wait()
+        self.folder.cleanup()
+
+    def processor(self):
+        words = pathlib.Path(f"/proc/{self.child.pid}/stat").read_text().rsplit(")", 1)[1].split()
+        return (int(words[11]) + int(words[12])) / TICK
+
+    def peak(self):
+        """The most memory that it has held, in MiB."""
+        status = pathlib.Path(f"/proc/{self.child.pid}/status").read_text()
+        return next(int(line.split()[1]) for line in status.splitlines() if line.startswith("VmHWM")) / 1024
+
+
+class Session(check.Session):
+    def __init__(self, path):
+        there = socket.socket(socket.AF_UNIX)
+        there.connect(path)
+        self.child = types.SimpleNamespace(stdin=there.makefile("wb"), stdout=there.makefile("rb"))
+
+    def number(self):
+        return self.ask(b"look")[1]
+
+    def put_now(self, path, text):
+        """Puts, and again where another session was first."""
+        number = self.number()
+        while True:
+            word, told, body, _ = self.ask(b"put %d %s %d" % (number, path.encode(), len(text)), text)
+            if word == b"ok":
+                return
+            if told != 6:
+                sys.exit(f"{path}: {told} {body}")
+            number = int(body)
+
+    def entries(self):
+        """How many entries the journal has now, less those of the search for it."""
+        least, most, own = 0, 1_000_000, 0
+        while least < most:
+            middle = (least + most) // 2
+            _, _, body, _ = self.ask(b"log %d" % (middle + own))
+            own += 1
+            least, most = (middle + 1, most) if body else (least, middle)
+        return least
+
+
+def workspace(lines, folder, lowest):
+    """Files by path, those of the lowest package last, and how many lines and packages there are."""
+    if folder is None:
+        files, _, _ = build.workspace(lines)
+    else:
+        top = pathlib.Path(folder)
+        files = {str(path.relative_to(top)): path.read_bytes() for path in sorted(top.rglob("*.go"))}
+    last = os.path.dirname(lowest)
+    files = dict(sorted(files.items(), key=lambda item: os.path.dirname(item[0]) == last))
+    return files, sum(text.count(b"\n") for text in files.values()), len({os.path.dirname(path) for path in files})
+
+
+def another(text, number):
+    return text + b"\nvar again%d int\n" % number
+
+
+def looking(path, until, told):
+    """Looks until the end, with a short pause between; tells how long each took."""
+    session, waits = Session(path), []
+    while not until.is_set():
+        waits.append(session.ask(b"look")[3])
+        time.sleep(0.002)
+    told.put(("look", waits))
+
+
+def editing(path, number, files, verbs, until, told):
+    """Puts, renames and undoes in files of its own, or only some of these, until the end. A put that
+    came too late is asked again; only where it was admitted a rename or an undo follows."""
+    session, counts = Session(path), collections.Counter()
+    mine = sorted(files)[number :: EDITORS]
+    basis, turn = session.number(), 0
+    while not until.is_set():
+        turn, has_put = turn + 1, False
+        file = mine[turn % len(mine)]
+        text = another(files[file], turn * EDITORS + number)
+        offset = text.rindex(b"again")
+        for verb, line, body in (
+            ("put", b"put %%d %s %d" % (file.encode(), len(text)), text),
+            ("rename", b"rename %%d %s:#%d other%d" % (file.encode(), offset, turn), b""),
+            ("undo", b"undo %d", b""),
+        ):
+            if verb not in verbs or until.is_set() or verb != "put" and not has_put:
+                continue
+            while True:
+                word, told_number, rest, seconds = session.ask(line % basis, body)
+                counts[f"{verb} {'ok' if word == b'ok' else 'no %d' % told_number}"] += 1
+                counts[f"seconds of {verb}"] += seconds
+                if word == b"ok":
+                    basis, has_put = told_number, True
+                elif told_number == 6:
+                    basis = int(rest)
+                if (word, told_number) != (b"no", 6) or verb != "put" or until.is_set():
+                    break
+    told.put(("edit", counts))
+
+
+class Beside:
+    """Processes beside, that end when they are told and tell what they saw."""
+
+    def __init__(self, *works):
+        self.until, self.told = multiprocessing.Event(), multiprocessing.Queue()
+        self.all = [multiprocessing.Process(target=work, args=(*args, self.until, self.told)) for work, *args in works]
+        for process in self.all:
+            process.start()
+
+    def end(self):
+        self.until.set()
+        seen = [self.told.get(timeout=120) for _ in self.all]
+        for process in self.all:
+            process.join()
+        return seen
+
+
+def waits_told(waits):
+    waits = sorted(waits)
+    middle, most, last = (1000 * wait for wait in (statistics.median(waits), waits[int(len(waits) * 0.98)], waits[-1]))
+    return f"{len(waits)} looks, median {middle:.2f} ms, 98 of 100 within {most:.2f} ms, longest {last:.1f} ms"
+
+
+def built(server, session, name, act):
+    """Prints how long all packages take behind a put, and tells the seconds."""
+    beside = Beside((looking, server.path))
+    entries, processor = session.entries(), server.processor()
+    act()
+    begin = time.perf_counter()
+    word, number, body, _ = session.ask(b"wait")
+    seconds, processor = time.perf_counter() - begin, server.processor() - processor
+    waits = beside.end()[0][1]
+    if word != b"ok":
+        sys.exit(f"wait: {word} {number} {body}")
+    entries = session.entries() - entries - len(waits)
+    print(f"    {name:16} {seconds:8.3f} s, processor {processor:8.2f} s, about {entries} entries; {waits_told(waits)}", flush=True)
+    return seconds
+
+
+def build_all(program, workers, files, lowest, rounds, seconds):
+    with Server(program, workers) as server:
+        session = Session(server.path)
+        print(f"  {workers} worker{'s' if workers > 1 else ''}:", flush=True)
+        _, loading = session.put_all({path: text for path, text in files.items() if path != lowest})
+        session.ask(b"wait")
+        print(f"    all but one put  {loading:8.3f} s", flush=True)
+        built(server, session, "first build", lambda: session.put_now(lowest, files[lowest]))
+        found = [built(server, session, "build of all", lambda: session.put_now(lowest, another(files[lowest], n))) for n in range(rounds)]
+        word, _, faults, _ = session.ask(b"faults")
+        if word != b"ok" or faults:
+            sys.exit(f"faults: {word} {faults[:200]}")
+        for verbs in (("put", "undo"), ("put", "rename", "undo")) if seconds > 0 else ():
+            edit_all(server, session, files, lowest, seconds, verbs)
+        print(f"    most memory      {server.peak():8.0f} MiB", flush=True)
+        return statistics.median(found)
+
+
+def edit_all(server, session, files, lowest, seconds, verbs):
+    """Sessions that edit while the workers build."""
+    others = {path: text for path, text in files.items() if path != lowest}
+    entries, processor, begin, number = session.entries(), server.processor(), time.perf_counter(), 1000
+    works = [(editing, server.path, editor, others, verbs) for editor in range(EDITORS)]
+    beside = Beside((looking, server.path), *works)
+    while time.perf_counter() - begin < seconds:
+        number += 1
+        session.put_now(lowest, another(files[lowest], number))
+        time.sleep(1)
+    seen = beside.end()
+    ended, processor = time.perf_counter() - begin, server.processor() - processor
+    counts = sum((counts for what, counts in seen if what == "edit"), collections.Counter())
+    waits = next(waits for what, waits in seen if what == "look")
+    replies = sum(count for what, count in counts.items() if not what.startswith("seconds"))
+    print(f"    {EDITORS} sessions with {', '.join(verbs)} for {ended:.1f} s: {replies / ended:.1f} replies a second, processor {processor:.1f} s;")
+    print(f"      {waits_told(waits)}")
+    for verb in verbs:
+        found = {what[len(verb) + 1 :]: count for what, count in sorted(counts.items()) if what.startswith(verb + " ")}
+        mean = counts[f"seconds of {verb}"] / max(1, sum(found.values()))
+        print(f"      {verb:7} mean {mean * 1000:8.1f} ms; " + ", ".join(f"{what}: {count}" for what, count in found.items()))
+    print(f"      {session.entries() - entries} entries of the journal, {len(waits)} of them of these looks")
+
+
+def go_build(files):
+    """The seconds of `go build -p 4` on the same files, or None without go."""
+    if shutil.which("go") is None:
+        return None
+    with tempfile.TemporaryDirectory() as top:
+        for path, text in files.items():
+            name = os.path.join(top, "src", path)
+            os.makedirs(os.path.dirname(name), exist_ok=True)
+            pathlib.Path(name).write_bytes(text)
+        environment = dict(os.environ, GO111MODULE="off", GOPATH=top, GOCACHE=os.path.join(top, "cache"), GOFLAGS="")
+        begin = time.perf_counter()
+        subprocess.run(["go", "build", "-p", "4", "./..."], cwd=os.path.join(top, "src"), env=environment, check=True)
+        return time.perf_counter() - begin
+
+
+def main(program, lines=222_572, seconds=20, rounds=3, folder=None, lowest=build.BASE):
+    files, count, packages = workspace(int(lines), folder, lowest)
+    load = " ".join(f"{part:.2f}" for part in os.getloadavg())
+    print(f"{count} lines, {len(files)} files, {packages} packages; {os.cpu_count()} processors, load {load}:", flush=True)
+    one, four = (build_all(program, workers, files, lowest, int(rounds), float(seconds) * (workers == 4)) for workers in (1, 4))
+    print(f"  1 worker takes {one / four:.2f} times what 4 workers take; load {os.getloadavg()[0]:.2f}")
+    beside = go_build(files)
+    print("  go build -p 4: skipped, since go is not there" if beside is None else f"  go build -p 4: {beside:.3f} s")
+
+
+if __name__ == "__main__":
+    if len(sys.argv) not in (2, 3, 4, 5, 7):
+        sys.exit(__doc__)
+    main(*sys.argv[1:])
