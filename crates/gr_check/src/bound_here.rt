@@ -1,5 +1,6 @@
 //! The bound identifiers that begin at a place.
 ghost use Rattle.std.specs.Prelude.{◌≡◌, ◌↔◌, ◌≤◌, IsTrue, Contains, not, true, false, length};
+ghost use Rattle.std.specs.List.{AllWithin};
 ghost use Rattle.std.specs.List.Sorted.{IsSortedBy, IsPartitionedBy, IsPartitionPoint};
 ghost use Rattle.std.specs.Ordering.{is_lt, is_gt};
 ghost use Rattle.gr_bound.specs.declared.bound_spot.BoundSpot.{BoundSpot as Bound};
@@ -24,25 +25,47 @@ fn is_behind(bound: &BoundSpot, place: &Place) -> bool
     compare(bound, place).is_gt()
 }
 
-/// Whether those before a place are as many as a number, by the two beside it.
-fn is_first(bound: &[BoundSpot], number: usize, place: &Place) -> bool
-    requires { IsPartitionedBy (λ b. is_lt (place_cmp (place_at b) place.now)) bound.now }
-    ensures within { IsTrue result → number ≤ length bound.now }
-    ensures point { IsTrue result → IsPartitionPoint (λ b. is_lt (place_cmp (place_at b) place.now) ≡ true) (λ b. is_lt (place_cmp (place_at b) place.now) ≡ false) bound.now number }
+/// Whether all in front of a number begin before a place.
+fn are_before(bound: &[BoundSpot], number: usize, place: &Place) -> bool
+    requires parted { IsPartitionedBy (λ b. is_lt (place_cmp (place_at b) place.now)) bound.now }
+    requires within { number ≤ length bound.now }
+    ensures { IsTrue result → AllWithin (λ b. is_lt (place_cmp (place_at b) place.now) ≡ true) bound.now 0 number }
 {
-    number <= bound.len()
-        && (number == 0 || is_before(&bound[number - 1], place))
-        && (number == bound.len() || !is_before(&bound[number], place))
+    number == 0 || is_before(&bound[number - 1], place)
 }
 
-/// Whether those that don't begin behind a place are as many as a number, by the two beside it.
+/// Whether none from a number on begins before a place.
+fn is_none_before(bound: &[BoundSpot], number: usize, place: &Place) -> bool
+    requires { IsPartitionedBy (λ b. is_lt (place_cmp (place_at b) place.now)) bound.now }
+    ensures { IsTrue result → AllWithin (λ b. is_lt (place_cmp (place_at b) place.now) ≡ false) bound.now number (length bound.now) }
+{
+    number >= bound.len() || !is_before(&bound[number], place)
+}
+
+/// Whether none in front of a number begins behind a place.
+fn is_none_behind(bound: &[BoundSpot], number: usize, place: &Place) -> bool
+    requires parted { IsPartitionedBy (λ b. not (is_gt (place_cmp (place_at b) place.now))) bound.now }
+    requires within { number ≤ length bound.now }
+    ensures { IsTrue result → AllWithin (λ b. not (is_gt (place_cmp (place_at b) place.now)) ≡ true) bound.now 0 number }
+{
+    number == 0 || !is_behind(&bound[number - 1], place)
+}
+
+/// Whether all from a number on begin behind a place.
+fn are_behind(bound: &[BoundSpot], number: usize, place: &Place) -> bool
+    requires { IsPartitionedBy (λ b. not (is_gt (place_cmp (place_at b) place.now))) bound.now }
+    ensures { IsTrue result → AllWithin (λ b. not (is_gt (place_cmp (place_at b) place.now)) ≡ false) bound.now number (length bound.now) }
+{
+    number >= bound.len() || is_behind(&bound[number], place)
+}
+
+/// Whether those that don't begin behind a place are as many as a number.
 fn is_end(bound: &[BoundSpot], number: usize, place: &Place) -> bool
     requires parted { IsPartitionedBy (λ b. not (is_gt (place_cmp (place_at b) place.now))) bound.now }
     requires within { number ≤ length bound.now }
     ensures { IsTrue result → IsPartitionPoint (λ b. not (is_gt (place_cmp (place_at b) place.now)) ≡ true) (λ b. not (is_gt (place_cmp (place_at b) place.now)) ≡ false) bound.now number }
 {
-    (number == 0 || !is_behind(&bound[number - 1], place))
-        && (number == bound.len() || is_behind(&bound[number], place))
+    is_none_behind(bound, number, place) && are_behind(bound, number, place)
 }
 
 /// How many begin before a place. Where it is asked near the last answer, this takes no search.
@@ -51,7 +74,7 @@ fn first_near(bound: &[BoundSpot], near: usize, place: &Place) -> usize
     ensures within { result ≤ length bound.now }
     ensures point { IsPartitionPoint (λ b. is_lt (place_cmp (place_at b) place.now) ≡ true) (λ b. is_lt (place_cmp (place_at b) place.now) ≡ false) bound.now result }
 {
-    if is_first(bound, near, place) {
+    if near <= bound.len() && are_before(bound, near, place) && is_none_before(bound, near, place) {
         return near;
     }
     bound.partition_point(|b| is_before(b, place))

@@ -7,4 +7,4 @@ use Rattle.gr_check.proofs.bound_here.end_near.Goals as goal
 pub returns-clause-point : goal.returns-clause-point
 returns-clause-point c =
     IsPartitionPoint-from_clause (not_behind c.args.place.now) c.args.bound.now c.partition_point.result c.partition_point.ensures.partitioned
-        c.requires.parted (λ a r q k. search rules)
+    c.requires.parted (λ a r q k. search rules)
