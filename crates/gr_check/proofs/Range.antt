@@ -2,14 +2,14 @@
 use Rattle.std.proofs.Common.{ℕ, ◌≡◌, ◌+◌, ◌-◌, ◌<◌, ◌≤◌, inl, inr, Bool, true, false, not}
 use Rattle.std.proofs.Common.{List, length, get_or, drop, refl, sym, ap, subst, ◌∙◌, arith, length-drop, length-take}
 use Rattle.std.specs.Prelude.{Contains, ◌↔◌}
-use Rattle.std.specs.List.{slice_range}
+use Rattle.std.specs.List.{slice_range, AllWithin}
 use Rattle.std.specs.List.Sorted.{IsSortedBy, IsPartitionedBy, IsPartitionPoint}
 use Rattle.std.specs.declared.cmp.Ordering.{Ordering}
 use Rattle.std.specs.declared.cmp.Ordering.TheVariants.{Less, Equal, Greater}
 use Rattle.std.specs.Ordering.{is_lt, is_gt, ordering_index}
 use Rattle.std.specs.Cmp.{tied_itself}
-use Rattle.std.proofs.lemmas.Bool.{cases_lt, true≢false, false≢true}
-use Rattle.std.proofs.lemmas.List.{get_or-take, get_or-drop}
+use Rattle.std.proofs.lemmas.Bool.{cases_lt, cases_Bool, true≢false, false≢true}
+use Rattle.std.proofs.lemmas.List.{get_or-take, get_or-drop, get_or_default}
 use Rattle.gr_text.specs.declared.place.Place.{Place}
 use Rattle.gr_bound.specs.declared.bound_spot.BoundSpot.{BoundSpot}
 use Rattle.gr_bound.specs.Bindings.{place_at}
@@ -58,6 +58,24 @@ parted_behind bs place sorted i j d le lt e =
     let up = rises bs place sorted i j d le lt in
     let one_at = low (compared place (get_or bs j d)) e in
     is_low (compared place (get_or bs i d)) (omega arith)
+
+-- what one tells of those in front of it
+pub tells_before : (p : BoundSpot → Bool) (bs : List BoundSpot) (n : ℕ) (b : BoundSpot) → IsPartitionedBy p bs → n ≤ length bs → (n ≡ 0 → ⊥) →
+    b ≡ get_or bs (n - 1) b → p b ≡ true → AllWithin (λ x. p x ≡ true) bs 0 n
+tells_before p bs n b parted le some is holds k d from lt =
+    let last : n - 1 < length bs = omega arith in
+    let at : get_or bs (n - 1) d ≡ b = get_or_default bs (n - 1) d b last ∙ sym is in
+    parted k (n - 1) d (omega arith) last (subst (λ x. p x ≡ true) (sym at) holds)
+
+-- what one tells of those behind it
+pub tells_behind : (p : BoundSpot → Bool) (bs : List BoundSpot) (n : ℕ) (b : BoundSpot) → IsPartitionedBy p bs → n < length bs →
+    b ≡ get_or bs n b → p b ≡ false → AllWithin (λ x. p x ≡ false) bs n (length bs)
+tells_behind p bs n b parted inside is fails k d from lt =
+    let at : get_or bs n d ≡ b = get_or_default bs n d b inside ∙ sym is in
+    elim (cases_Bool (p (get_or bs k d))) [
+      | inl passes ↦ absurd (true≢false (sym (subst (λ x. p x ≡ true) at (parted n k d from lt passes)) ∙ fails))
+      | inr fails_here ↦ fails_here
+    ]
 
 -- where those at the place begin and end
 pub record IsRange (bs : List BoundSpot) (place : Place) (first end : ℕ) : Type 0 where

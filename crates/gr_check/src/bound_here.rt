@@ -1,6 +1,7 @@
 //! The bound identifiers that begin at a place.
-ghost use Rattle.std.specs.Prelude.{◌≡◌, ◌↔◌, Contains};
-ghost use Rattle.std.specs.List.Sorted.{IsSortedBy};
+ghost use Rattle.std.specs.Prelude.{◌≡◌, ◌↔◌, ◌≤◌, IsTrue, Contains, not, true, false, length};
+ghost use Rattle.std.specs.List.{AllWithin};
+ghost use Rattle.std.specs.List.Sorted.{IsSortedBy, IsPartitionedBy, IsPartitionPoint};
 ghost use Rattle.std.specs.Ordering.{is_lt, is_gt};
 ghost use Rattle.gr_bound.specs.declared.bound_spot.BoundSpot.{BoundSpot as Bound};
 ghost use Rattle.gr_bound.specs.Bindings.{place_at};
@@ -24,12 +25,85 @@ fn is_behind(bound: &BoundSpot, place: &Place) -> bool
     compare(bound, place).is_gt()
 }
 
-/// The bound identifiers that begin at a place, among those in the order of their places.
-pub fn bound_here<'a>(bound: &'a [BoundSpot], place: &Place) -> &'a [BoundSpot]
+/// Whether all in front of a number begin before a place.
+fn are_before(bound: &[BoundSpot], number: usize, place: &Place) -> bool
+    requires parted { IsPartitionedBy (λ b. is_lt (place_cmp (place_at b) place.now)) bound.now }
+    requires within { number ≤ length bound.now }
+    ensures { IsTrue result → AllWithin (λ b. is_lt (place_cmp (place_at b) place.now) ≡ true) bound.now 0 number }
+{
+    number == 0 || is_before(&bound[number - 1], place)
+}
+
+/// Whether none from a number on begins before a place.
+fn is_none_before(bound: &[BoundSpot], number: usize, place: &Place) -> bool
+    requires { IsPartitionedBy (λ b. is_lt (place_cmp (place_at b) place.now)) bound.now }
+    ensures { IsTrue result → AllWithin (λ b. is_lt (place_cmp (place_at b) place.now) ≡ false) bound.now number (length bound.now) }
+{
+    number >= bound.len() || !is_before(&bound[number], place)
+}
+
+/// Whether none in front of a number begins behind a place.
+fn is_none_behind(bound: &[BoundSpot], number: usize, place: &Place) -> bool
+    requires parted { IsPartitionedBy (λ b. not (is_gt (place_cmp (place_at b) place.now))) bound.now }
+    requires within { number ≤ length bound.now }
+    ensures { IsTrue result → AllWithin (λ b. not (is_gt (place_cmp (place_at b) place.now)) ≡ true) bound.now 0 number }
+{
+    number == 0 || !is_behind(&bound[number - 1], place)
+}
+
+/// Whether all from a number on begin behind a place.
+fn are_behind(bound: &[BoundSpot], number: usize, place: &Place) -> bool
+    requires { IsPartitionedBy (λ b. not (is_gt (place_cmp (place_at b) place.now))) bound.now }
+    ensures { IsTrue result → AllWithin (λ b. not (is_gt (place_cmp (place_at b) place.now)) ≡ false) bound.now number (length bound.now) }
+{
+    number >= bound.len() || is_behind(&bound[number], place)
+}
+
+/// Whether those that don't begin behind a place are as many as a number.
+fn is_end(bound: &[BoundSpot], number: usize, place: &Place) -> bool
+    requires parted { IsPartitionedBy (λ b. not (is_gt (place_cmp (place_at b) place.now))) bound.now }
+    requires within { number ≤ length bound.now }
+    ensures { IsTrue result → IsPartitionPoint (λ b. not (is_gt (place_cmp (place_at b) place.now)) ≡ true) (λ b. not (is_gt (place_cmp (place_at b) place.now)) ≡ false) bound.now number }
+{
+    is_none_behind(bound, number, place) && are_behind(bound, number, place)
+}
+
+/// How many begin before a place. Where it is asked near the last answer, this takes no search.
+fn first_near(bound: &[BoundSpot], near: usize, place: &Place) -> usize
+    requires { IsPartitionedBy (λ b. is_lt (place_cmp (place_at b) place.now)) bound.now }
+    ensures within { result ≤ length bound.now }
+    ensures point { IsPartitionPoint (λ b. is_lt (place_cmp (place_at b) place.now) ≡ true) (λ b. is_lt (place_cmp (place_at b) place.now) ≡ false) bound.now result }
+{
+    if near <= bound.len() && are_before(bound, near, place) && is_none_before(bound, near, place) {
+        return near;
+    }
+    bound.partition_point(|b| is_before(b, place))
+}
+
+/// How many don't begin behind a place. Where none or one begins there, this takes no search.
+fn end_near(bound: &[BoundSpot], first: usize, place: &Place) -> usize
+    requires parted { IsPartitionedBy (λ b. not (is_gt (place_cmp (place_at b) place.now))) bound.now }
+    requires within { first ≤ length bound.now }
+    ensures within { result ≤ length bound.now }
+    ensures point { IsPartitionPoint (λ b. not (is_gt (place_cmp (place_at b) place.now)) ≡ true) (λ b. not (is_gt (place_cmp (place_at b) place.now)) ≡ false) bound.now result }
+{
+    if first < bound.len() && is_end(bound, first + 1, place) {
+        return first + 1;
+    }
+    if is_end(bound, first, place) {
+        return first;
+    }
+    bound.partition_point(|b| !is_behind(b, place))
+}
+
+/// The bound identifiers that begin at a place, among those in the order of their places. They are looked for first where those
+/// found last end: places in order are found without a search.
+pub fn bound_here<'a>(bound: &'a [BoundSpot], near: &mut usize, place: &Place) -> &'a [BoundSpot]
     requires { IsSortedBy (λ a b. is_lt (place_cmp (place_at a) (place_at b))) bound.now }
     ensures { (b : Bound) → Contains result.now b ↔ (Contains bound.now b × (place_at b ≡ place.now)) }
 {
-    let first = bound.partition_point(|b| is_before(b, place));
-    let end = bound.partition_point(|b| !is_behind(b, place));
+    let first = first_near(bound, *near, place);
+    let end = end_near(bound, first, place);
+    *near = end;
     &bound[first..end]
 }

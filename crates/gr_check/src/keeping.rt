@@ -58,6 +58,7 @@ fn is_kept(
     moves: &Moves<'_>,
     before: &SoundWorkspace<'_>,
     then: &SoundWorkspace<'_>,
+    near: &mut usize,
     bound: &BoundSpot,
 ) -> Result<bool, AllocError>
     requires before { IsHeld before.now }
@@ -70,7 +71,7 @@ fn is_kept(
         before,
         then,
         &bound.declaration,
-        then.bound_at(&place),
+        then.bound_at(near, &place),
     )
 }
 
@@ -85,8 +86,9 @@ pub fn are_kept(
     ensures { IfOk result (λ yes. IsTrue yes ↔ KeepsAll (view_in before.now) (view_in then.now) (moved moves.now)) }
 {
     let all = before.bound();
+    let mut near = 0;
     for bound in all {
-        if !is_kept(moves, before, then, bound)? {
+        if !is_kept(moves, before, then, &mut near, bound)? {
             return Ok(false);
         }
     }
@@ -113,11 +115,19 @@ fn all_were(
     Ok(true)
 }
 
+/// Where the identifiers found last end, among those bound before and those bound then.
+#[derive(Drop)]
+struct Near {
+    before: usize,
+    then: usize,
+}
+
 /// Whether what begins at a place is afterwards bound to nothing but what its declarations have become.
 fn adds_none(
     moves: &Moves<'_>,
     before: &SoundWorkspace<'_>,
     then: &SoundWorkspace<'_>,
+    near: &mut Near,
     place: &Place,
 ) -> Result<bool, AllocError>
     requires before { IsHeld before.now }
@@ -129,8 +139,8 @@ fn adds_none(
         moves,
         before,
         then,
-        before.bound_at(place),
-        then.bound_at(&to),
+        before.bound_at(&mut near.before, place),
+        then.bound_at(&mut near.then, &to),
     )
 }
 
@@ -145,8 +155,9 @@ fn add_none(
     requires then { IsHeld then.now }
     ensures { IfOk result (λ yes. IsTrue yes ↔ ((place : At) → Contains places.now place → AddsNone (view_in before.now) (view_in then.now) (moved moves.now) place)) }
 {
+    let mut near = Near { before: 0, then: 0 };
     for place in places {
-        if !adds_none(moves, before, then, place)? {
+        if !adds_none(moves, before, then, &mut near, place)? {
             return Ok(false);
         }
     }

@@ -48,12 +48,12 @@ impl<'a> SoundWorkspace<'a> {
         self.bindings.as_slice()
     }
 
-    /// Those that begin at a place.
-    pub fn bound_at(&self, place: &Place) -> &[BoundSpot]
+    /// Those that begin at a place. They are looked for first at the number where those found last end.
+    pub fn bound_at(&self, near: &mut usize, place: &Place) -> &[BoundSpot]
         requires { IsHeld self.now }
         ensures { (b : Bound) → Contains result.now b ↔ IsBoundHere (view_in self.now) place.now b }
     {
-        bound_here(self.bindings.as_slice(), place)
+        bound_here(self.bindings.as_slice(), near, place)
     }
 
     /// The places at which identifiers begin that are no literals.
