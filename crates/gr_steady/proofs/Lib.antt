@@ -2,6 +2,7 @@
 pub mod HeaderStrings
 pub mod ImportSites
 pub mod Imports
+pub mod Literals
 pub mod Packages
 pub mod Bindings
 pub mod MemberFiles

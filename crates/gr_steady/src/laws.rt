@@ -1,9 +1,12 @@
-//! The laws of packages whose closures have the same texts in two workspaces.
-ghost use Rattle.std.specs.Prelude.{ℕ, ◌↔◌, List, Contains};
+//! The laws of packages whose closures have the same texts in two workspaces, and of the imports that make a closure.
+ghost use Rattle.std.specs.Prelude.{ℕ, ◌≡◌, ◌↔◌, List, Contains, map};
 ghost use Rattle.gr_text.specs.Packages.{package_paths};
 ghost use Rattle.gr_text.specs.Path.{folder};
 ghost use Rattle.gr_text.specs.Workspace.{Workspace};
 ghost use Rattle.gr_text.specs.declared.place.Place.{Place};
+ghost use Rattle.gr_tree.specs.Tree.{FileTree, ImportTree};
+ghost use Rattle.gr_graph.specs.FileImports.{import_literals};
+ghost use Rattle.gr_imports.specs.Files.{imports_in};
 ghost use Rattle.gr_declared.specs.Package.{Package};
 ghost use Rattle.gr_verdict.specs.Closures.{HasSameClosure};
 ghost use Rattle.gr_verdict.specs.Laws.{IsSameVerdict};
@@ -45,4 +48,9 @@ pub fn declarations_stand()
     ensures stay { (w : Workspace) → (x : Workspace) → (before : Verdicts) → (after : Verdicts) → AreVerdicts w before → AreVerdicts x after →
         (path : List ℕ) → HasSameClosure w x path → (d : Declaration) → (place : Place) →
         StandsWithin w before path d place ↔ StandsWithin x after path d place }
+{}
+
+/// The literals by which a package is linked to others are those of the imports whose names its files see.
+pub fn imports_agree()
+    ensures { (t : FileTree) → import_literals t ≡ map (λ (i : ImportTree). i.path) (imports_in t) }
 {}
