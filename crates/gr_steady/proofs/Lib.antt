@@ -7,3 +7,4 @@ pub mod Bindings
 pub mod MemberFiles
 pub mod Members
 pub mod Standing
+pub mod Reached
