@@ -8,3 +8,4 @@ pub mod Bindings
 pub mod MemberFiles
 pub mod Members
 pub mod Standing
+pub mod Reached

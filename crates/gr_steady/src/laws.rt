@@ -13,7 +13,14 @@ ghost use Rattle.gr_verdict.specs.Laws.{IsSameVerdict};
 ghost use Rattle.gr_verdict.specs.Verdicts.{Verdicts, AreVerdicts};
 ghost use Rattle.gr_bound.specs.declared.declaration.Declaration.{Declaration};
 ghost use Rattle.gr_bound.specs.Uses.{IsPackage, IsBoundTo, IsUseOf, HasDeclaration};
+ghost use Rattle.gr_steady.specs.Reached.{KeepsReached};
 ghost use Rattle.gr_steady.specs.Within.{StandsWithin, IsDeclaredWithin};
+
+/// Where a package, and each path that its closure imports, has the same files in two workspaces, its closure has the same
+/// texts in both: so only what is reached in the one of them is to be looked at.
+pub fn closures_stay()
+    ensures { (w : Workspace) → (x : Workspace) → (p : List ℕ) → KeepsReached w x p → HasSameClosure w x p }
+{}
 
 /// Where the closure of a package has the same texts in two workspaces, the package is checked as the same one in both, with
 /// the same identifiers, declarations and types, and the same is known of it: whether it has faults, and what others see of it.
