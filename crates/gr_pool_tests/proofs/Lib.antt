@@ -1,0 +1,2 @@
+-- The lemmas of these tests.
+pub mod Captures
