@@ -1,5 +1,6 @@
 -- The threads may take what they own and lend.
 use denote.Exit.{no}
+use mir.Syntax.{named}
 use denote.Param.{param}
 use denote.Param.Send.{sendable, param_send, arg_send, shr_send}
 use Rattle.std.proofs.Crossing.{send as Global-send}
@@ -14,8 +15,8 @@ join-requires-send-F g c = λ κs within. param_send 1
     (arg-0-1 g.row.L g.row.R g.L.laws g.R.laws g.L.Opening g.L.Opening-dict g.L.Ledger g.L.Ledger-dict
     g.R.Threads g.R.Threads-dict g.R.Wait g.R.Wait-dict κs)
     (arg_send for_worker no _ (five_sent _ _ _ _ _ _
-    (shr_send _ _ (param 1 g.row.R) (search sendable))
+    (shr_send (named 6) κs.1.1.1.1.1.1.0 (param 1 g.row.R) (search sendable))
     Global-send
-    (shr_send _ _ _ (shared_shared (param 0 g.row.L) g.L.Opening g.L.Ledger))
+    (shr_send (named 7) κs.1.1.1.1.1.1.1.0 _ (shared_shared (param 0 g.row.L) g.L.Opening g.L.Ledger))
     (seat_sent (param 0 g.row.L) g.L.Opening g.L.Ledger)
-    (shr_send _ _ _ meeting-sync)))
+    (shr_send (named 8) κs.1.1.1.1.1.1.1.1.0 _ meeting-sync)))
