@@ -85,11 +85,11 @@ fn all_at_work<L: Opening + Send + Sync, R: Threads + Wait + Abort + Sync>(
     second: Seat<L>,
     mine: Seat<L>,
     meeting: &Meeting,
-) -> ((Seat<L>, Seat<L>), Seat<L>) {
+) -> (Seat<L>, (Seat<L>, Seat<L>)) {
     thread::join(
         rt,
-        move || at_work(rt, alloc, lent, first, second, meeting),
         move || waited(rt, lent, mine),
+        move || at_work(rt, alloc, lent, first, second, meeting),
     )
 }
 
@@ -110,7 +110,7 @@ fn work_together<L: Opening + Send + Sync, R: Threads + Wait + Abort + Sync>(
     let mut mine = shared.seat().expect(rt, "a third seat");
     let gate = Meeting::new();
     puts(rt, alloc, &shared, &mut mine);
-    let ((first, second), mine) = all_at_work(rt, alloc, &shared, first, second, mine, &gate);
+    let (mine, (first, second)) = all_at_work(rt, alloc, &shared, first, second, mine, &gate);
     let mut seats = Vec::new(alloc);
     seats.push(first).expect(rt, "memory");
     seats.push(second).expect(rt, "memory");

@@ -1,2 +1,0 @@
--- The lemmas of these tests.
-pub mod Captures
