@@ -4,7 +4,7 @@ ghost use Rattle.std.specs.Prelude.{◌≡◌};
 use crate::calls::{has, look, put, view_of};
 use crate::meeting::Meeting;
 use crate::settling::settled;
-use gr_book::{Book, Entry, Event, Kind, Told};
+use gr_book::{Book, Event};
 use gr_pool::{Gate, Opening, Seat, Shared};
 use gr_text::Limits;
 use std::alloc::Global;
@@ -106,24 +106,11 @@ fn change_both<L: Opening + Send + Sync, R: Threads + Wait + Abort + Sync>(
     has_both(rt, book);
 }
 
-/// The book has both files, and its journal both changes.
+/// The book has both files, after two changes.
 fn has_both<R: Abort>(rt: &R, mut book: Book) {
     let view = view_of(book.step(Event::Look)).expect(rt, "a view");
     assert!(rt; has(&view, "a/a.go", A));
     assert!(rt; has(&view, "b/b.go", B));
-    assert_eq!(rt; changes_done(&book), 2);
+    assert_eq!(rt; view.snapshot.number(), 2);
     book.close();
-}
-
-fn changes_done(book: &Book) -> usize {
-    book.journal()
-        .iter()
-        .filter(|entry| is_change(entry))
-        .count()
-}
-
-/// A change that was admitted: it made the state 1 or 2.
-fn is_change(entry: &Entry) -> bool {
-    entry.line.kind == Kind::Commit
-        && (entry.line.out == Told::Done(1) || entry.line.out == Told::Done(2))
 }
