@@ -139,8 +139,8 @@ class Session:
         return seconds
 
 
-def vet(files):
-    """The seconds of `go vet` on the same files, afresh."""
+def go(files, *words):
+    """The seconds of a command of go on the same files, afresh, or None without go."""
     if shutil.which("go") is None:
         return None
     with tempfile.TemporaryDirectory() as top:
@@ -151,8 +151,13 @@ def vet(files):
                 file.write(text)
         environment = dict(os.environ, GO111MODULE="off", GOPATH=top, GOCACHE=os.path.join(top, "cache"), GOFLAGS="")
         begin = time.perf_counter()
-        subprocess.run(["go", "vet", "gen/..."], cwd=os.path.join(top, "src"), env=environment, check=True)
+        subprocess.run(["go", *words], cwd=os.path.join(top, "src"), env=environment, check=True)
         return time.perf_counter() - begin
+
+
+def vet(files):
+    """The seconds of `go vet` on the same files, afresh."""
+    return go(files, "vet", "gen/...")
 
 
 def measure(program, lines):

@@ -13,7 +13,6 @@ import collections
 import multiprocessing
 import os
 import pathlib
-import shutil
 import socket
 import statistics
 import subprocess
@@ -228,28 +227,13 @@ def edit_all(server, session, files, lowest, seconds, verbs):
     print(f"      {session.entries() - entries} entries of the journal, {len(waits)} of them of these looks")
 
 
-def go_build(files):
-    """The seconds of `go build -p 4` on the same files, or None without go."""
-    if shutil.which("go") is None:
-        return None
-    with tempfile.TemporaryDirectory() as top:
-        for path, text in files.items():
-            name = os.path.join(top, "src", path)
-            os.makedirs(os.path.dirname(name), exist_ok=True)
-            pathlib.Path(name).write_bytes(text)
-        environment = dict(os.environ, GO111MODULE="off", GOPATH=top, GOCACHE=os.path.join(top, "cache"), GOFLAGS="")
-        begin = time.perf_counter()
-        subprocess.run(["go", "build", "-p", "4", "./..."], cwd=os.path.join(top, "src"), env=environment, check=True)
-        return time.perf_counter() - begin
-
-
 def main(program, lines=222_572, seconds=20, rounds=3, folder=None, lowest=build.BASE):
     files, count, packages = workspace(int(lines), folder, lowest)
     load = " ".join(f"{part:.2f}" for part in os.getloadavg())
     print(f"{count} lines, {len(files)} files, {packages} packages; {os.cpu_count()} processors, load {load}:", flush=True)
     one, four = (build_all(program, workers, files, lowest, int(rounds), float(seconds) * (workers == 4)) for workers in (1, 4))
     print(f"  1 worker takes {one / four:.2f} times what 4 workers take; load {os.getloadavg()[0]:.2f}")
-    beside = go_build(files)
+    beside = check.go(files, "build", "-p", "4", "./...")
     print("  go build -p 4: skipped, since go is not there" if beside is None else f"  go build -p 4: {beside:.3f} s")
 
 
