@@ -1,4 +1,5 @@
 -- The lemmas of this crate.
 pub mod Gone
 pub mod OneScoped
+pub mod OneUse
 pub mod ScopeBound

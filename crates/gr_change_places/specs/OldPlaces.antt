@@ -1,5 +1,5 @@
 -- The declarations of a workspace by the places to which a change moves them. Known: the packages of that workspace.
-use Rattle.std.specs.Prelude.{ℕ, ◌≡◌, ◌⊎◌, List, Option, Some, None, Contains, slice_index_or}
+use Rattle.std.specs.Prelude.{ℕ, ◌≡◌, ◌⊎◌, ◌↔◌, List, Option, Some, None, Contains, slice_index_or}
 use Rattle.std.specs.List.Sorted.{IsSortedBy}
 use Rattle.std.specs.Ordering.{is_lt}
 use Rattle.gr_text.specs.declared.place.Place.{Place}
@@ -11,10 +11,6 @@ use Rattle.gr_bound.specs.Bindings.{place_at}
 use Rattle.gr_bound.specs.Places.{place_cmp}
 use Rattle.gr_standing.specs.Standing.{IsDeclaredAt}
 use Rattle.gr_check.specs.declared.declared_places.DeclaredPlaces.{DeclaredPlaces}
-
--- the new list holds nothing but what the old one does, and what P tells
-abbrev pub AddsOnly : {X : Type 0} → List X → List X → (X → Type 0) → Type 0
-AddsOnly {X} old new P = (x : X) → Contains new x → Contains old x ⊎ P x
 
 -- a declaration by the place to which that goes where it stands
 abbrev pub GoesFrom : (Place → Place) → Declaration → Option Place → BoundSpot → Type 0
@@ -45,7 +41,7 @@ pub record HasGoneTo (Known : Package → Type 0) (moved : Place → Place) (d :
 abbrev pub HasGone : (Package → Type 0) → (Place → Place) → BoundSpot → Type 0
 HasGone Known moved b = HasGoneTo Known moved b.declaration (place_at b)
 
--- only such, in the order of the places
+-- all such, in the order of the places
 pub record AreOldPlaces (Known : Package → Type 0) (moved : Place → Place) (old : List BoundSpot) : Type 0 where
   pub in_order : IsSortedBy (λ a b. is_lt (place_cmp (place_at a) (place_at b))) old
-  pub each : (b : BoundSpot) → Contains old b → HasGone Known moved b
+  pub each : (b : BoundSpot) → Contains old b ↔ HasGone Known moved b

@@ -5,13 +5,13 @@ ghost use Rattle.std.specs.Ordering.{is_lt};
 ghost use Rattle.gr_edit.specs.Moved.{moved};
 ghost use Rattle.gr_bound.specs.declared.bound_spot.BoundSpot.{BoundSpot as Bound};
 ghost use Rattle.gr_bound.specs.declared.declaration.Declaration.TheVariants.{Declared};
-ghost use Rattle.gr_bound.specs.Bindings.{place_at};
+ghost use Rattle.gr_bound.specs.Bindings.{AddsAll, place_at};
 ghost use Rattle.gr_bound.specs.Places.{place_cmp};
 ghost use Rattle.gr_bound.specs.Uses.{IsPackage};
 ghost use Rattle.gr_bound.specs.Packages.{ArePackages};
 ghost use Rattle.gr_check.specs.DeclaredPlaces.{AreDeclared};
 ghost use Rattle.gr_change_places.specs.Read.{workspace_of, verdicts_of};
-ghost use Rattle.gr_change_places.specs.OldPlaces.{AddsOnly, GoesFrom, GoFrom, GoFromPackage, HasGone, AreOldPlaces, field_at, method_at};
+ghost use Rattle.gr_change_places.specs.OldPlaces.{GoesFrom, GoFrom, GoFromPackage, HasGone, AreOldPlaces, field_at, method_at};
 
 use gr_bound::bindings::{find, sort};
 use gr_bound::{BoundSpot, Declaration, Packages, Spot, path_of};
@@ -28,7 +28,7 @@ fn add_moved(
     place: &Place,
     declaration: Declaration,
 ) -> Result<(), AllocError>
-    ensures { OnOk result (AddsOnly found.old.items found.new.items (λ b. (b.declaration ≡ declaration) × (place_at b ≡ moved moves.now place.now))) }
+    ensures { OnOk result (AddsAll found.old.items found.new.items (λ b. (b.declaration ≡ declaration) × (place_at b ≡ moved moves.now place.now))) }
 {
     let Place { path, offset } = moves.place(&place.path, place.offset)?;
     let spot = Spot { path, offset };
@@ -52,7 +52,7 @@ fn add_name(
     d: usize,
     place: &Option<Place>,
 ) -> Result<(), AllocError>
-    ensures { OnOk result (AddsOnly found.old.items found.new.items (GoesFrom (moved moves.now) (Declared path.now d) place.now)) }
+    ensures { OnOk result (AddsAll found.old.items found.new.items (GoesFrom (moved moves.now) (Declared path.now d) place.now)) }
 {
     match place {
         None => Ok(()),
@@ -70,7 +70,7 @@ fn add_names(
     path: &SharedPath,
     names: &[Option<Place>],
 ) -> Result<(), AllocError>
-    ensures { OnOk result (AddsOnly found.old.items found.new.items (GoFrom (moved moves.now) (Declared path.now) names.now)) }
+    ensures { OnOk result (AddsAll found.old.items found.new.items (GoFrom (moved moves.now) (Declared path.now) names.now)) }
 {
     for d in 0..names.len() {
         add_name(found, moves, path, d, &names[d])?;
@@ -86,7 +86,7 @@ fn add_field(
     rank: usize,
     place: &Option<Place>,
 ) -> Result<(), AllocError>
-    ensures { OnOk result (AddsOnly found.old.items found.new.items (GoesFrom (moved moves.now) (field_at path.now rank) place.now)) }
+    ensures { OnOk result (AddsAll found.old.items found.new.items (GoesFrom (moved moves.now) (field_at path.now rank) place.now)) }
 {
     match place {
         None => Ok(()),
@@ -104,7 +104,7 @@ fn add_fields(
     path: &SharedPath,
     fields: &[Option<Place>],
 ) -> Result<(), AllocError>
-    ensures { OnOk result (AddsOnly found.old.items found.new.items (GoFrom (moved moves.now) (field_at path.now) fields.now)) }
+    ensures { OnOk result (AddsAll found.old.items found.new.items (GoFrom (moved moves.now) (field_at path.now) fields.now)) }
 {
     for rank in 0..fields.len() {
         add_field(found, moves, path, rank, &fields[rank])?;
@@ -120,7 +120,7 @@ fn add_method(
     rank: usize,
     place: &Option<Place>,
 ) -> Result<(), AllocError>
-    ensures { OnOk result (AddsOnly found.old.items found.new.items (GoesFrom (moved moves.now) (method_at path.now rank) place.now)) }
+    ensures { OnOk result (AddsAll found.old.items found.new.items (GoesFrom (moved moves.now) (method_at path.now rank) place.now)) }
 {
     match place {
         None => Ok(()),
@@ -138,7 +138,7 @@ fn add_methods(
     path: &SharedPath,
     methods: &[Option<Place>],
 ) -> Result<(), AllocError>
-    ensures { OnOk result (AddsOnly found.old.items found.new.items (GoFrom (moved moves.now) (method_at path.now) methods.now)) }
+    ensures { OnOk result (AddsAll found.old.items found.new.items (GoFrom (moved moves.now) (method_at path.now) methods.now)) }
 {
     for rank in 0..methods.len() {
         add_method(found, moves, path, rank, &methods[rank])?;
@@ -153,7 +153,7 @@ fn add_package(
     path: &SharedPath,
     places: &DeclaredPlaces,
 ) -> Result<(), AllocError>
-    ensures { OnOk result (AddsOnly found.old.items found.new.items (GoFromPackage (moved moves.now) path.now places.now)) }
+    ensures { OnOk result (AddsAll found.old.items found.new.items (GoFromPackage (moved moves.now) path.now places.now)) }
 {
     add_names(found, moves, path, &places.names)?;
     add_fields(found, moves, path, &places.fields)?;
@@ -169,7 +169,7 @@ fn add_all(
 ) -> Result<(), AllocError>
     requires read { ArePackages packages.now }
     requires places { AreDeclared (workspace_of packages.now) (verdicts_of packages.now) places.now }
-    ensures { OnOk result (AddsOnly old.old.items old.new.items (HasGone (IsPackage (workspace_of packages.now) (verdicts_of packages.now)) (moved moves.now))) }
+    ensures { OnOk result (AddsAll old.old.items old.new.items (HasGone (IsPackage (workspace_of packages.now) (verdicts_of packages.now)) (moved moves.now))) }
 {
     for number in 0..packages.graph.len() {
         let path = path_of(packages.graph, packages.found, number);
@@ -198,7 +198,7 @@ pub fn old_places(
 /// The declaration that has gone to a place.
 pub fn before_of<'a>(old: &'a [BoundSpot], place: &Place) -> Option<&'a Declaration>
     requires { IsSortedBy (λ a b. is_lt (place_cmp (place_at a) (place_at b))) old.now }
-    ensures { MatchOption result (Unit {0}) (λ d. (b : Bound) × (Contains old.now b × ((place_at b ≡ place.now) × (b.declaration ≡ d.now)))) }
+    ensures { MatchOption result ((b : Bound) → Contains old.now b → place_at b ≡ place.now → ⊥) (λ d. (b : Bound) × (Contains old.now b × ((place_at b ≡ place.now) × (b.declaration ≡ d.now)))) }
 {
     match find(old, place) {
         None => None,

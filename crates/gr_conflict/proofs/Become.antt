@@ -13,8 +13,9 @@ use Rattle.gr_declared.specs.Package.{Package}
 use Rattle.gr_declared.proofs.Binding.{within}
 use Rattle.gr_verdict.specs.Verdicts.{Verdicts}
 use Rattle.gr_bound.specs.declared.declaration.Declaration.{Declaration}
-use Rattle.gr_bound.specs.declared.declaration.Declaration.TheVariants.{Predeclared, Declared}
+use Rattle.gr_bound.specs.declared.declaration.Declaration.TheVariants.{Predeclared, Declared, Field, Method}
 use Rattle.gr_bound.specs.Binding.{IsPredeclared}
+use Rattle.gr_bound.specs.Steps.{IsDeclarationFound}
 use Rattle.gr_bound.specs.Uses.{IsPackage}
 use Rattle.gr_revision.specs.Revisions.{Revision}
 use Rattle.gr_scoped.specs.ScopedPackages.{IsScopedIn}
@@ -28,6 +29,7 @@ use Rattle.gr_check.proofs.Becoming.{StandBoth, by_cases, same_names}
 use Rattle.gr_check.proofs.Declared.{one_place}
 use Rattle.gr_check.proofs.Found.{found_as}
 use Rattle.gr_conflict.specs.Afterwards.{HasBecome}
+use Rattle.gr_conflict.specs.Judging.{GoesWhere}
 use Rattle.gr_conflict.specs.Now.{IsCounted, IsOwnToken}
 use Rattle.gr_change_places.specs.OldPlaces.{HasGoneTo}
 use Rattle.gr_change_places.proofs.OneScoped.{one_scoped}
@@ -107,7 +109,34 @@ module _ (w : Workspace) (known : Verdicts) (r : Revision) (old e : Declaration)
         is.1 (subst (λ x. IsDeclaredAt (IsScopedIn r.after) e (r.moved x)) (one_place w known old s.place place s.old at) s.new)),
   )
 
--- what goes to where a declaration stands has become that
-pub become_there : (w : Workspace) (known : Verdicts) (r : Revision) (c e : Declaration) (place : Place) → IsDeclaredAt (IsScopedIn r.after) e place →
-    HasGoneTo (IsPackage w known) r.moved c place → HasBecome w known r c e
-become_there w known r c e place at gone = stands gone.place gone.declared (subst (IsDeclaredAt (IsScopedIn r.after) e) gone.goes at)
+-- what is declared is not predeclared
+abbrev pub IsNotPredeclared : Declaration → Type 0
+IsNotPredeclared (Predeclared n) = ⊥
+IsNotPredeclared (Declared path n) = Unit {0}
+IsNotPredeclared (Field s) = Unit {0}
+IsNotPredeclared (Method s) = Unit {0}
+
+pub not_predeclared : (e d : Declaration) → e ≡ d → IsNotPredeclared d → (n : ℕ) → e ≡ Predeclared n → ⊥
+not_predeclared e d is other n so = subst IsNotPredeclared (sym is ∙ so) other
+
+-- what goes to where a declaration stands has become that, and nothing else has that is not predeclared
+module _ (w : Workspace) (known : Verdicts) (r : Revision) (e : Declaration) where
+  abbrev pub Goes : Declaration → Type 0
+  Goes c = GoesWhere (IsPackage w known) (IsScopedIn r.after) r.moved c e
+
+  pub goes_there : IsCounted r.after e → (place : Place) → IsDeclaredAt (IsScopedIn r.after) e place → (o : Option Declaration) →
+      IsDeclarationFound (λ c. HasGoneTo (IsPackage w known) r.moved c place) o → IsDeclarationFound Goes o
+  goes_there counts place at o h =
+      found_as (λ c. HasGoneTo (IsPackage w known) r.moved c place) Goes o
+      (λ c g. record { to = place; goes = g; stands = at })
+      (λ c g. subst (HasGoneTo (IsPackage w known) r.moved c) (one_standing r.after e counts g.to place g.stands at) g.goes) h
+
+  pub become_where : ((n : ℕ) → e ≡ Predeclared n → ⊥) → (o : Option Declaration) → IsDeclarationFound Goes o →
+      IsDeclarationFound (λ c. HasBecome w known r c e) o
+  become_where stood o h =
+      found_as Goes (λ c. HasBecome w known r c e) o
+      (λ c g. stands g.goes.place g.goes.declared (subst (IsDeclaredAt (IsScopedIn r.after) e) g.goes.goes g.stands))
+      (λ c b. elim (by_cases (IsPackage w known) (IsScopedIn r.after) r.moved c e b) [
+        | inl names ↦ absurd (stood names.number names.other)
+        | inr places ↦ record { to = r.moved places.place; goes = record { place = places.place; declared = places.old; goes = refl }; stands = places.new }
+      ]) h

@@ -7,6 +7,8 @@ use Rattle.gr_text.specs.Path.{folder}
 use Rattle.gr_text.specs.Workspace.{Workspace}
 use Rattle.gr_text.specs.declared.place.Place.{Place}
 use Rattle.gr_scope.specs.Bindings.{Layout, Names, IsBoundTo, Counts, use_bound, own}
+use Rattle.gr_scope.proofs.Innermost.{one_in_block}
+use Rattle.gr_scope.proofs.Nests.{nests}
 use Rattle.gr_declared.specs.Package.{Package}
 use Rattle.gr_types.specs.Interfaces.{IsSeen}
 use Rattle.gr_bound.specs.declared.bound_spot.BoundSpot.{BoundSpot}
@@ -22,6 +24,7 @@ use Rattle.gr_scoped.specs.declared.scopes.PackageScopes.{PackageScopes}
 use Rattle.gr_check.proofs.Found.{found_as}
 use Rattle.gr_change_places.specs.ScopeBindings.{IsScopeUse, AreScopeBindings}
 use Rattle.gr_change_places.proofs.OneScoped.{one_scoped}
+use Rattle.gr_change_places.proofs.OneUse.{scoped_formed}
 use Rattle.gr_conflict.specs.Afterwards.{IsExportAfter}
 use Rattle.gr_conflict.specs.Now.{IsCounted, IsExportIn, IsExportOf}
 
@@ -68,6 +71,20 @@ one_goal : (w : Workspace) (r : Revision) (path a b : List ℕ) → GoesTo w r p
 one_goal w r path a b h k =
     let first : h.first ≡ k.first = same_Some h.first k.first (ap (λ l. slice_get l 0) (sym h.files ∙ k.files)) in
     h.goes ∙ ap (λ (f : List ℕ × List ℕ). folder (r.moved (record { path = f.0; offset = 0 })).path) first ∙ sym k.goes
+
+-- a package exports one declaration under a name
+pub one_export : (w : Workspace) (r : Revision) (path name : List ℕ) (d e : Declaration) → IsExportAfter w r path name d →
+    IsExportAfter w r path name e → d ≡ e
+one_export w r path name d e a b =
+    let p = a.other in
+    let paths : b.other.path ≡ p.path = one_goal w r path b.other.path p.path b.goes a.goes in
+    let same : b.other ≡ p = one_scoped r.after b.other p b.is_package a.is_package paths in
+    let seen : IsSeen p b.declaration = subst (λ (q : Package). IsSeen q b.declaration) same b.seen in
+    let named : p.names b.declaration ≡ name = subst (λ (q : Package). q.names b.declaration ≡ name) same b.named in
+    let number : a.declaration ≡ b.declaration =
+    one_in_block p.layout (nests p.layout (scoped_formed r.after p a.is_package)) p.names a.declaration b.declaration a.seen.counts seen.counts
+    (a.named ∙ sym named) (a.seen.package_level ∙ sym seen.package_level) in
+    a.exported ∙ ap (Declared p.path) number ∙ ap (λ q. Declared q b.declaration) (sym paths) ∙ sym b.exported
 
 -- exports
 pub export_none : (p : Package) (numbers : List ℕ → Option ℕ) (name : List ℕ) → AreNumbers p numbers → numbers name ≡ None → (e : Declaration) →

@@ -16,7 +16,8 @@ use Rattle.gr_bound.specs.Workspaces.{IsPackageAt}
 use Rattle.gr_bound.proofs.Units.{numbered, number_within, one_at}
 use Rattle.gr_check.proofs.Starts.{begins_once}
 use Rattle.gr_conflict.specs.Conflicts.{IsAhead, HoldsAhead}
-use Rattle.gr_conflict.specs.Staying.{StaysBound, StaysByScope, StaysByPackage, Stays, StaysIn, StaysInNumber, StaysAt, IfBegins}
+use Rattle.gr_conflict.specs.Staying.{StaysBound, StaysByScope, StaysByPackage, NameStays, StaysIn, StaysInNumber, StaysAt, IfBegins}
+use Rattle.gr_conflict.specs.Staying.{NamesStayIn, MembersStayIn, DeclaringNamesStayIn}
 use Rattle.gr_conflict.specs.declared.conflict.Conflict.{Conflict}
 use Rattle.gr_conflict.proofs.Telling.{found_so}
 
@@ -58,7 +59,7 @@ all_of_one p u K Was old first r one h =
 
 -- the identifiers of a package, by their numbers
 abbrev pub StaysBelow : Workspace → Verdicts → Revision → Package → ℕ → Place → Type 0
-StaysBelow w known r p count place = (u : ℕ) → u < count → BeginsAt p place.path place.offset u → Stays w known r p u place
+StaysBelow w known r p count place = (u : ℕ) → u < count → BeginsAt p place.path place.offset u → NameStays w known r p u place
 
 pub none_stays : (w : Workspace) (known : Verdicts) (r : Revision) (p : Package) (first : Option Conflict) → HoldsAhead (StaysBelow w known r p 0) first
 none_stays w known r p first = λ place ahead u lt begins. let less : u < 0 = lt in absurd (omega arith)
@@ -72,13 +73,23 @@ next_stays w known r p u first h scope behind = λ place ahead v lt begins. elim
       let less : v < u + 1 = lt in
       let here : v ≡ u = omega arith in
       let at : BeginsAt p place.path place.offset u = subst (λ (x : ℕ). BeginsAt p place.path place.offset x) here begins in
-      let stays : Stays w known r p u place = record { by_scope = scope place ahead at; by_package = behind place ahead at } in
-      subst (λ (x : ℕ). Stays w known r p x place) (sym here) stays)
+      let stays : NameStays w known r p u place = record { by_scope = scope place ahead at; by_package = behind place ahead at } in
+      subst (λ (x : ℕ). NameStays w known r p x place) (sym here) stays)
 ]
 
 pub all_stay : (w : Workspace) (known : Verdicts) (r : Revision) (p : Package) (count : ℕ) (first : Option Conflict) → count ≡ p.size →
-    HoldsAhead (StaysBelow w known r p count) first → HoldsAhead (StaysIn w known r p) first
+    HoldsAhead (StaysBelow w known r p count) first → HoldsAhead (NamesStayIn w known r p) first
 all_stay w known r p count first end h = λ place ahead u begins. h place ahead u (subst (λ n. u < n) (sym end) begins.0.0) begins
+
+-- the identifiers of a package in every way
+pub stays_all : (w : Workspace) (known : Verdicts) (r : Revision) (p : Package) (first : Option Conflict) → HoldsAhead (NamesStayIn w known r p) first →
+    HoldsAhead (MembersStayIn w known r p) first → HoldsAhead (DeclaringNamesStayIn w known r p) first → HoldsAhead (StaysIn w known r p) first
+stays_all w known r p first names members declaring = λ place ahead u begins. record {
+  by_scope = (names place ahead u begins).by_scope;
+  by_package = (names place ahead u begins).by_package;
+  by_member = members place ahead u begins;
+  by_name = declaring place ahead u begins;
+}
 
 -- the packages of a workspace, by their numbers
 abbrev pub StaysInBelow : Workspace → Verdicts → Revision → ℕ → Place → Type 0

@@ -1,6 +1,6 @@
 -- What is kept, one step after another.
 use Rattle.std.proofs.Common.{◌≡◌, Bool, true, inl, inr, sym, ap, subst, refl, ◌∙◌}
-use Rattle.std.specs.Prelude.{◌↔◌, IsTrue, Option, Some, None, Result, OnOk}
+use Rattle.std.specs.Prelude.{◌↔◌, IsTrue, Option, Some, None, Result, Ok, Err, OnOk}
 use Rattle.std.specs.declared.cmp.Ordering.TheVariants.{Less}
 use Rattle.std.specs.Ordering.{is_lt}
 use Rattle.std.proofs.lemmas.Option.{none-some, same_Some}
@@ -73,3 +73,8 @@ holds_as K L a to h = λ place ahead. to place (h place ahead)
 pub call_holds : {E : Type 0} (K L : Place → Type 0) (a : Option Conflict) (r : Result (Unit {0}) E) → ((place : Place) → K place → L place) →
     OnOk r (HoldsAhead K a) → OnOk r (HoldsAhead L a)
 call_holds K L a r to h = on_ok_weaker r (λ x. holds_as K L a to x) h
+
+-- what two clauses tell of a call
+pub call_both : {E P Q R : Type 0} (r : Result (Unit {0}) E) → (P → Q → R) → OnOk r P → OnOk r Q → OnOk r R
+call_both (Ok u) to p q = to p q
+call_both (Err e) to p q = tt

@@ -1,5 +1,5 @@
 -- Conflicts of identifiers that were bound.
-use Rattle.std.proofs.Common.{ℕ, ◌≡◌, ◌∙◌, List, map, sym, subst, refl}
+use Rattle.std.proofs.Common.{ℕ, ◌≡◌, ◌∙◌, List, map, ap, sym, subst, refl}
 use Rattle.std.specs.Prelude.{Option, Some, None, MatchOption, Contains, slice_get}
 use Rattle.std.specs.Global.{Vec}
 use Rattle.std.proofs.lemmas.Option.{none-some, slice_get_within, get_or_from_slice_get}
@@ -31,7 +31,7 @@ use Rattle.gr_conflict.specs.declared.conflict.Capturer.{Capturer}
 use Rattle.gr_conflict.specs.declared.conflict.Conflict.{Conflict}
 use Rattle.gr_members_after.specs.MembersAfter.{CountsAfter, IsMemberAfter}
 use Rattle.gr_conflict.specs.Afterwards.{HasBecome, IsBoundByScopes, IsExportAfter, IsBoundByPackage, IsMemberNow}
-use Rattle.gr_conflict.specs.Conflicts.{IsCapturer, TellsOf, unbound, elsewhere, captured, TellsMember, IsConflictIn, IsConflict, IsNoted, IsOtherNoted, IsOtherAt}
+use Rattle.gr_conflict.specs.Conflicts.{IsCapturer, TellsOf, is_lost, is_captured, TellsMember, IsConflictIn, IsConflict, IsNoted, IsOtherNoted, IsOtherAt}
 use Rattle.gr_conflict.specs.Conflicts.{IsLostAt, IsLostAtFound, IsLostThere, IsUsedNow, IsMemberConflict, IsMemberConflictAmong, IsToldFirst, TellsFirst}
 use Rattle.gr_conflict.specs.Staying.{NoneIsLost}
 use Rattle.gr_conflict.specs.Conflicts.{an_identifier, by_scope, by_package, by_member, by_name}
@@ -42,53 +42,48 @@ use Rattle.gr_conflict.proofs.Used.{IsUsedAs, used_at}
 pub found_so : (K : Declaration → Type 0) (o : Option Declaration) → IsDeclarationFound K o → (x : Declaration) → o ≡ Some x → K x
 found_so K o h x e = subst (IsDeclarationFound K) e h
 
-nothing_found : (K : Declaration → Type 0) (o : Option Declaration) → IsDeclarationFound K o → ((e : Declaration) → o ≡ Some e → ⊥) → (e : Declaration) → K e → ⊥
-nothing_found K None found none = found
-nothing_found K (Some x) found none = λ e k. none x refl
-
--- what is told by what was found is told by what that is
-pub tells_found : (Becomes : Declaration → Declaration → Type 0) (Known : Package → Type 0) (K : Declaration → Type 0) (old : Declaration)
-    (now : Option Declaration) → IsDeclarationFound K now → (by : Option Capturer) →
-    TellsOf Becomes Known (λ e. now ≡ Some e) old by → TellsOf Becomes Known K old by
-tells_found Becomes Known K old now found by (unbound none) = unbound (nothing_found K now found none)
-tells_found Becomes Known K old now found by (elsewhere e is not) = elsewhere e (found_so K now found e is) not
-tells_found Becomes Known K old now found by (captured e c is not become told) = captured e c (found_so K now found e is) not become told
-
-pub noted_found : (Becomes : Declaration → Declaration → Type 0) (Known : Package → Type 0) (K : Declaration → Type 0) (used : Place) (old : Declaration)
-    (now : Option Declaration) → IsDeclarationFound K now → (c : Conflict) →
-    IsNoted Becomes Known (λ e. now ≡ Some e) used old c → IsNoted Becomes Known K used old c
-noted_found Becomes Known K used old now found c h = (h.0, tells_found Becomes Known K old now found c.by h.1)
+found_only : (K : Declaration → Type 0) → ((d e : Declaration) → K d → K e → d ≡ e) → (o : Option Declaration) → IsDeclarationFound K o →
+    (x : Declaration) → K x → o ≡ Some x
+found_only K one None found x k = absurd (found x k)
+found_only K one (Some y) found x k = ap Some (one y x found k)
 
 -- the same with other words for what it is bound to
 tells_as : (Becomes : Declaration → Declaration → Type 0) (Known : Package → Type 0) (K L : Declaration → Type 0) (old : Declaration) →
     ((d : Declaration) → K d → L d) → ((d : Declaration) → L d → K d) → (by : Option Capturer) →
     TellsOf Becomes Known K old by → TellsOf Becomes Known L old by
-tells_as Becomes Known K L old to from by (unbound none) = unbound (λ e l. none e (from e l))
-tells_as Becomes Known K L old to from by (elsewhere e is not) = elsewhere e (to e is) not
-tells_as Becomes Known K L old to from by (captured e c is not become told) = captured e c (to e is) not become told
+tells_as Becomes Known K L old to from by (is_lost none) = is_lost (λ e c l become. none e c (from e l) become)
+tells_as Becomes Known K L old to from by (is_captured e c is become told not) = is_captured e c (to e is) become told (λ d l. not d (from d l))
 
 pub noted_as : (Becomes : Declaration → Declaration → Type 0) (Known : Package → Type 0) (K L : Declaration → Type 0) (used : Place) (old : Declaration) →
     ((d : Declaration) → K d → L d) → ((d : Declaration) → L d → K d) → (c : Conflict) →
     IsNoted Becomes Known K used old c → IsNoted Becomes Known L used old c
 noted_as Becomes Known K L used old to from c h = (h.0, tells_as Becomes Known K L old to from c.by h.1)
 
+-- what is told by what was found is told by what that is
+pub noted_found : (Becomes : Declaration → Declaration → Type 0) (Known : Package → Type 0) (K : Declaration → Type 0) (used : Place) (old : Declaration)
+    (now : Option Declaration) → IsDeclarationFound K now → ((d e : Declaration) → K d → K e → d ≡ e) → (c : Conflict) →
+    IsNoted Becomes Known (λ e. now ≡ Some e) used old c → IsNoted Becomes Known K used old c
+noted_found Becomes Known K used old now found one c h =
+    noted_as Becomes Known (λ e. now ≡ Some e) K used old (found_so K now found) (found_only K one now found) c h
+
 -- what is told of an identifier that is bound to none
 pub lost : (Becomes : Declaration → Declaration → Type 0) (Known : Package → Type 0) (used : Place) (old : Declaration) (now : Option Declaration) →
     now ≡ None → (c : Conflict) → (c.used ≡ used) × (c.by ≡ None) →
     IsNoted Becomes Known (λ e. now ≡ Some e) used old c
 lost Becomes Known used old now none c h =
-    let is : TellsOf Becomes Known (λ e. now ≡ Some e) old None = unbound (λ e some. none-some e (sym none ∙ some)) in
+    let is : TellsOf Becomes Known (λ e. now ≡ Some e) old None = is_lost (λ e d some become. none-some e (sym none ∙ some)) in
     (h.0, subst (TellsOf Becomes Known (λ e. now ≡ Some e) old) (sym h.1) is)
 
 -- and of one that is bound to a declaration which the old one has not become
 told_by_capturer : (Becomes : Declaration → Declaration → Type 0) (Known : Package → Type 0) (old e : Declaration) → (Becomes old e → ⊥) →
-    (by : Option Capturer) → MatchOption by (Unit {0}) (λ x. (c : Declaration) × (Becomes c e × IsCapturer Known c x)) →
+    (by : Option Capturer) → MatchOption by ((c : Declaration) → Becomes c e → ⊥) (λ x. (c : Declaration) × (Becomes c e × IsCapturer Known c x)) →
     TellsOf Becomes Known (λ d. d ≡ e) old by
-told_by_capturer Becomes Known old e not None h = elsewhere e refl not
-told_by_capturer Becomes Known old e not (Some by) h = captured e h.0 refl not h.1.0 h.1.1
+told_by_capturer Becomes Known old e not None h = is_lost (λ d c same become. h c (subst (Becomes c) same become))
+told_by_capturer Becomes Known old e not (Some by) h =
+    is_captured e h.0 refl h.1.0 h.1.1 (λ d same become. not (subst (Becomes old) same become))
 
 pub told_of : (Becomes : Declaration → Declaration → Type 0) (Known : Package → Type 0) (used : Place) (old e : Declaration) → (Becomes old e → ⊥) →
-    (by : Option Capturer) → MatchOption by (Unit {0}) (λ x. (c : Declaration) × (Becomes c e × IsCapturer Known c x)) →
+    (by : Option Capturer) → MatchOption by ((c : Declaration) → Becomes c e → ⊥) (λ x. (c : Declaration) × (Becomes c e × IsCapturer Known c x)) →
     (c : Conflict) → (c.used ≡ used) × (c.by ≡ by) → IsNoted Becomes Known (λ d. d ≡ e) used old c
 told_of Becomes Known used old e not by h c is =
     (is.0, subst (TellsOf Becomes Known (λ d. d ≡ e) old) (sym is.1) (told_by_capturer Becomes Known old e not by h))
@@ -110,21 +105,18 @@ other_told Known used old now by other is c h =
 member_as : (Known : Package → Type 0) (K L : Declaration → Type 0) (old : Declaration) → ((d : Declaration) → K d → L d) → ((d : Declaration) → L d → K d) →
     (by : Option Capturer) → TellsMember Known K old by → TellsMember Known L old by
 member_as Known K L old to from None h = λ e l. h e (from e l)
-member_as Known K L old to from (Some by) h = record { declaration = h.declaration; bound = to h.declaration h.bound; other = h.other; told = h.told }
+member_as Known K L old to from (Some by) h =
+    record { declaration = h.declaration; bound = to h.declaration h.bound; other = λ l. h.other (from old l); told = h.told }
 
 pub other_as : (Known : Package → Type 0) (K L : Declaration → Type 0) (used : Place) (old : Declaration) → ((d : Declaration) → K d → L d) →
     ((d : Declaration) → L d → K d) → (c : Conflict) → IsOtherNoted Known K used old c → IsOtherNoted Known L used old c
 other_as Known K L used old to from c h = (h.0, member_as Known K L old to from c.by h.1)
 
-member_found : (Known : Package → Type 0) (K : Declaration → Type 0) (old : Declaration) (now : Option Declaration) → IsDeclarationFound K now →
-    (by : Option Capturer) → TellsMember Known (λ e. now ≡ Some e) old by → TellsMember Known K old by
-member_found Known K old now found None h = nothing_found K now found h
-member_found Known K old now found (Some by) h =
-    record { declaration = h.declaration; bound = found_so K now found h.declaration h.bound; other = h.other; told = h.told }
-
 pub other_found : (Known : Package → Type 0) (K : Declaration → Type 0) (used : Place) (old : Declaration) (now : Option Declaration) →
-    IsDeclarationFound K now → (c : Conflict) → IsOtherNoted Known (λ e. now ≡ Some e) used old c → IsOtherNoted Known K used old c
-other_found Known K used old now found c h = (h.0, member_found Known K old now found c.by h.1)
+    IsDeclarationFound K now → ((d e : Declaration) → K d → K e → d ≡ e) → (c : Conflict) →
+    IsOtherNoted Known (λ e. now ≡ Some e) used old c → IsOtherNoted Known K used old c
+other_found Known K used old now found one c h =
+    other_as Known (λ e. now ≡ Some e) K used old (found_so K now found) (found_only K one now found) c h
 
 pub in_package : (w : Workspace) (known : Verdicts) (r : Revision) (number : ℕ) (p : Package) → IsPackageAt w known number p → (c : Conflict) →
     IsConflictIn w known r p c → IsConflict w known r c

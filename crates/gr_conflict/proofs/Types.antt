@@ -1,5 +1,5 @@
 -- The types of the workspace before, with their members under new names, as identifiers are judged by them.
-use Rattle.std.proofs.Common.{ℕ, ◌≡◌, ◌∙◌, Bool, false, List, ap, sym, subst, if◌then◌else◌}
+use Rattle.std.proofs.Common.{ℕ, ◌≡◌, ◌∙◌, Bool, true, false, List, ap, sym, subst, if◌then◌else◌}
 use Rattle.std.specs.Prelude.{Option, IsTrue, ◌↔◌, slice_get}
 use Rattle.std.proofs.lemmas.Bool.{false≢true}
 use Rattle.gr_text.specs.Workspace.{Workspace}
@@ -55,6 +55,15 @@ not_counted j t graph found members knows old {yes} e h k =
     let counts : IsTrue yes ↔ CountsAfter (known_packages j) (change_in j) old =
     by_types j t graph found members knows (λ w known. IsTrue yes ↔ CountsAfter (IsPackage w known) (change_in j) old) (h (change_in j)) in
     false≢true (sym e ∙ counts.1 k)
+
+-- and what counts counts
+pub counted : (j : Judge) (t : TypesAfter) → t.graph.now ≡ j.packages.now.graph.now → t.found.now ≡ j.packages.now.found.now →
+    t.members.now ≡ j.members.now → KnowsChange j → (old : Declaration) {yes : Bool} → yes ≡ true →
+    ((r : Revision) → KnowsMembers r t → IsTrue yes ↔ CountsAfter (known_types t) r old) → CountsAfter (known_packages j) (change_in j) old
+counted j t graph found members knows old {yes} e h =
+    let counts : IsTrue yes ↔ CountsAfter (known_packages j) (change_in j) old =
+    by_types j t graph found members knows (λ w known. IsTrue yes ↔ CountsAfter (IsPackage w known) (change_in j) old) (h (change_in j)) in
+    counts.0 e
 
 -- the member that a name is by these types, by the definitions that a package sees
 pub member_known : (j : Judge) (t : TypesAfter) → t.graph.now ≡ j.packages.now.graph.now → t.found.now ≡ j.packages.now.found.now →

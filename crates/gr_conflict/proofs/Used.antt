@@ -25,11 +25,15 @@ module _ (p : Package) (formed : WellFormed p.layout) (ds : Symbol → Definitio
   same : a.judged_by.definitions ≡ ds
   same = one_definitions p formed a.judged_by.definitions ds a.judged_by.are_definitions are
 
-  in_world : (token : ℕ) (t : PlainType) → a.world.member token t ≡ member_by ds p.path (spelled p file token) t
+  pub in_world : (token : ℕ) (t : PlainType) → a.world.member token t ≡ member_by ds p.path (spelled p file token) t
   in_world token t =
       a.judged_by.member token t
       ∙ ap (λ d. member_by d p.path (spelling_of a.source token) t) same
       ∙ ap (λ o. member_by ds p.path (spelled_at o token) t) (sym a.in_file)
+
+  -- the definitions of its world
+  pub definitions_in : a.world.definition ≡ (λ s. (ds s).underlying)
+  definitions_in = fun_ext (λ s. a.judged_by.definition s ∙ ap (λ (f : Symbol → Definition). (f s).underlying) same)
 
   pub used_at : (x : MemberUse) → Contains us x → (d : Declaration) → member_at ds p file x.place x.before ≡ Some d → IsUsedAs ds p file x.place d x.before
   used_at x is d e = by_member (member_by ds p.path (spelled p file x.place) x.before) refl e
@@ -47,5 +51,5 @@ module _ (p : Package) (formed : WellFormed p.layout) (ds : Symbol → Definitio
           is_member = in_world x.place x.before ∙ has;
           declares = same_Some (declaration_of m) d e;
         },
-        (refl, fun_ext (λ s. a.judged_by.definition s ∙ ap (λ (f : Symbol → Definition). (f s).underlying) same)),
+        (refl, definitions_in),
       )

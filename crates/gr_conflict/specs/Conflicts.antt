@@ -1,5 +1,5 @@
 -- Identifiers that a change loses or captures, and what is told of them. Known: the packages of the workspace before.
-use Rattle.std.specs.Prelude.{ℕ, ◌≡◌, ◌⊎◌, ⊤, List, Option, Some, None, MatchOption}
+use Rattle.std.specs.Prelude.{ℕ, ◌≡◌, ◌⊎◌, ⊤, List, Option, Some, None, MatchOption, slice_get}
 use Rattle.std.specs.declared.cmp.Ordering.TheVariants.{Less}
 use Rattle.gr_text.specs.Workspace.{Workspace}
 use Rattle.gr_text.specs.declared.place.Place.{Place}
@@ -32,19 +32,18 @@ abbrev pub IsCapturer : (Package → Type 0) → Declaration → Capturer → Ty
 IsCapturer Known d Universe = (place : Place) → IsDeclaredAt Known d place → ⊥
 IsCapturer Known d (At place) = IsDeclaredAt Known d place
 
--- What is told of an identifier that was bound to old, and is bound afterwards to that of which E tells. It is lost where that is
--- none, or one that old has not become, and no other that is found; what captures it has become what it is bound to, and old has not.
+-- What is told of an identifier that was bound to old, and is bound afterwards to that of which E tells. It is lost where no
+-- declaration has become that, and where that is none; what captures it has become what it is bound to, and old has not.
 pub data TellsOf (Becomes : Declaration → Declaration → Type 0) (Known : Package → Type 0) (E : Declaration → Type 0) (old : Declaration) : Option Capturer → Type 0 where
-  unbound : ((e : Declaration) → E e → ⊥) → TellsOf Becomes Known E old None
-  elsewhere : (e : Declaration) → E e → (Becomes old e → ⊥) → TellsOf Becomes Known E old None
-  captured : {by : Capturer} (e c : Declaration) → E e → (Becomes old e → ⊥) → Becomes c e → IsCapturer Known c by → TellsOf Becomes Known E old (Some by)
+  is_lost : ((e c : Declaration) → E e → Becomes c e → ⊥) → TellsOf Becomes Known E old None
+  is_captured : {by : Capturer} (e c : Declaration) → E e → Becomes c e → IsCapturer Known c by → ((d : Declaration) → E d → Becomes old d → ⊥) → TellsOf Becomes Known E old (Some by)
 
--- The same of what is bound to a field or method: it is lost only where the type has no member of its new name, and what captures it
--- is the member that has this.
+-- The same of what was bound to a field or method: it is lost only where the type has no member of its new name, and what captures it
+-- is the member that has this, and is not the old one.
 pub record IsOther (Known : Package → Type 0) (E : Declaration → Type 0) (old : Declaration) (by : Capturer) : Type 0 where
   pub declaration : Declaration
   pub bound : E declaration
-  pub other : old ≡ declaration → ⊥
+  pub other : E old → ⊥
   pub told : IsCapturer Known declaration by
 
 abbrev pub TellsMember : (Known : Package → Type 0) → (Declaration → Type 0) → Declaration → Option Capturer → Type 0
@@ -77,8 +76,7 @@ pub record IsFirstOfAll (w : Workspace) (known : Verdicts) (c : Conflict) : Type
   pub first : (place : Place) → IsIdentifierAt w known place → IsNotBefore place c.used
 
 -- What is told of a change: an identifier that is afterwards bound to none, or to another declaration, which captures it, where none
--- before it is lost or captured that scopes bind or that stands behind the name of a package; or, only where none at all is, the first
--- identifier of the workspace, and nothing that captures it.
+-- before it is lost or captured; or, only where none at all is, the first identifier of the workspace, and nothing that captures it.
 pub data IsTold (w : Workspace) (known : Verdicts) (r : Revision) (c : Conflict) : Type 0 where
   a_conflict : IsConflict w known r c → NoneIsLostBefore w known r c.used → IsTold w known r c
   an_identifier : IsFirstOfAll w known c → NoneIsLost w known r → IsTold w known r c
@@ -124,6 +122,13 @@ IsOtherNoted Known E used old c = (c.used ≡ used) × TellsMember Known E old c
 abbrev pub IsOnlyBehind : Package → ℕ → List ℕ → Type 0
 IsOnlyBehind p u path = IsBehindPackage p u path × ((other : List ℕ) → IsBehindPackage p u other → other ≡ path)
 
+-- K holds of the place at which the identifier at a token begins, or at one that was found, where that stands before the conflict
+abbrev pub HoldsAtToken : Package → Position → (Place → Type 0) → Option Conflict → Type 0
+HoldsAtToken p at K first = HoldsAhead (λ place. AtToken p at place → K place) first
+
+abbrev pub HoldsAtFound : Package → Option Position → (Place → Type 0) → Option Conflict → Type 0
+HoldsAtFound p at K first = HoldsAhead (λ place. AtFound p at place → K place) first
+
 -- a conflict of the member use at a token, by what it is at the place where that begins
 abbrev pub IsOtherAt : (Known : Package → Type 0) → (Place → Declaration → Type 0) → Package → Position → Declaration → Conflict → Type 0
 IsOtherAt Known E p at old c = AtToken p at c.used × TellsMember Known (E c.used) old c.by
@@ -131,6 +136,14 @@ IsOtherAt Known E p at old c = AtToken p at c.used × TellsMember Known (E c.use
 -- what a member use of a file is, by the definitions that the package sees
 abbrev pub IsUsedNow : (Known : Package → Type 0) → Revision → (Symbol → Definition) → Package → (file : ℕ) → MemberUse → Place → Declaration → Type 0
 IsUsedNow Known r definitions p file found = IsMemberNow Known r definitions p (record { file = file; index = found.place }) found.before
+
+-- what is used as a member stays the member that it was
+abbrev pub UseStays : (Known : Package → Type 0) → Revision → (Symbol → Definition) → Package → (file : ℕ) → MemberUse → Place → Type 0
+UseStays Known r definitions p file found place = (old : Declaration) → IsMemberUseOf definitions p file old found place → IsUsedNow Known r definitions p file found place old
+
+-- the same of each member use of a file
+abbrev pub UsesStay : (Known : Package → Type 0) → Revision → (Symbol → Definition) → Package → (file : ℕ) → List MemberUse → Place → Type 0
+UsesStay Known r definitions p file uses place = (k : ℕ) (found : MemberUse) → slice_get uses k ≡ Some found → UseStays Known r definitions p file found place
 
 -- a conflict of what is used as a member
 pub record IsMemberConflict (Known : Package → Type 0) (r : Revision) (definitions : Symbol → Definition) (p : Package) (file : ℕ) (found : MemberUse) (c : Conflict) : Type 0 where

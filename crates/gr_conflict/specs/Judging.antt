@@ -1,6 +1,7 @@
 -- What is known while identifiers are judged.
 use Rattle.std.specs.Prelude.{◌≡◌}
 use Rattle.gr_text.specs.Workspace.{Workspace}
+use Rattle.gr_text.specs.declared.place.Place.{Place}
 use Rattle.gr_edit.specs.EditSet.{FileChanges, edited}
 use Rattle.gr_edit.specs.Moved.{moved}
 use Rattle.gr_declared.specs.Package.{Package}
@@ -12,11 +13,12 @@ use Rattle.gr_bound.specs.declared.packages.Packages.{Packages}
 use Rattle.gr_bound.specs.Exports.{AreExports}
 use Rattle.gr_bound.specs.Packages.{ArePackages}
 use Rattle.gr_bound.specs.Uses.{IsPackage}
+use Rattle.gr_standing.specs.Standing.{IsDeclaredAt}
 use Rattle.gr_check.specs.DeclaredPlaces.{AreDeclared}
 use Rattle.gr_members_after.specs.NewMembers.{AreAllNewMembers}
 use Rattle.gr_scoped.specs.Scopes.{AreAllScopes}
 use Rattle.gr_change_places.specs.Read.{workspace_of, verdicts_of}
-use Rattle.gr_change_places.specs.OldPlaces.{AreOldPlaces}
+use Rattle.gr_change_places.specs.OldPlaces.{AreOldPlaces, HasGoneTo}
 use Rattle.gr_change_places.specs.ScopeBindings.{AreScopeBindings}
 use Rattle.gr_conflict.specs.Afterwards.{HasBecome}
 use Rattle.gr_conflict.specs.declared.first.Before.{Before}
@@ -62,3 +64,9 @@ change_in j = change_by j.after.now j.moves.now
 -- which declaration has become which
 abbrev pub becomes_in : Judge → Declaration → Declaration → Type 0
 becomes_in j = HasBecome (workspace_in j) (known_verdicts j) (change_in j)
+
+-- a declaration of the workspace before goes to where one of the workspace afterwards stands
+pub record GoesWhere (Known After : Package → Type 0) (moved : Place → Place) (c e : Declaration) : Type 0 where
+  pub to : Place
+  pub goes : HasGoneTo Known moved c to
+  pub stands : IsDeclaredAt After e to

@@ -8,11 +8,12 @@ ghost use Rattle.gr_revision.specs.RevisionsOfEdits.{called_by};
 ghost use Rattle.gr_bound.specs.Binding.{BindsByScope, BindsByPackage};
 ghost use Rattle.gr_bound.specs.Members.{definitions_seen};
 ghost use Rattle.gr_bound.specs.Workspaces.{IsPackageAt};
+ghost use Rattle.gr_members_after.specs.MembersAfter.{CountsAfter};
 ghost use Rattle.gr_conflict.specs.Afterwards.{IsBoundByScopes, IsBoundByPackage, IsExportAfter, IsMemberNow};
-ghost use Rattle.gr_conflict.specs.Conflicts.{IsConflictIn, IsNoted, IsOtherNoted, IsOtherAt, IsLostAt, IsLostAtFound, IsLostThere, IsMemberConflict, IsMemberConflictAmong, IsOnlyBehind, IsAhead, HoldsAhead, Takes};
+ghost use Rattle.gr_conflict.specs.Conflicts.{IsConflictIn, IsNoted, IsOtherNoted, IsOtherAt, IsLostAt, IsLostAtFound, IsLostThere, IsMemberConflict, IsMemberConflictAmong, IsOnlyBehind, IsAhead, HoldsAhead, HoldsAtToken, HoldsAtFound, UseStays, UsesStay, Takes};
 ghost use Rattle.gr_conflict.specs.Judging.{KnowsChange, workspace_in, known_verdicts, known_packages, change_in, becomes_in};
 ghost use Rattle.gr_change_places.specs.OldPlaces.{field_at, method_at};
-ghost use Rattle.gr_conflict.specs.Staying.{StaysBound, StaysByScope, StaysByPackage, StaysIn, IfBegins};
+ghost use Rattle.gr_conflict.specs.Staying.{StaysBound, StaysByScope, StaysByPackage, StaysIn, NamesStayIn, MembersStayIn, FieldsStayIn, MethodsStayIn, DeclaringNamesStayIn, IfBegins};
 
 use crate::beginning::token_beginning;
 use crate::conflict::Conflict;
@@ -197,7 +198,7 @@ fn judge_numbers(
     requires knows { KnowsChange judge.now }
     requires index { IsIndexOf (package_of unit) index.now }
     ensures takes { OnOk result (Takes (IsConflictIn (workspace_in judge.now) (known_verdicts judge.now) (change_in judge.now) (package_of unit.entry)) first.old first.new) }
-    ensures stays { OnOk result (HoldsAhead (StaysIn (workspace_in judge.now) (known_verdicts judge.now) (change_in judge.now) (package_of unit.entry)) first.new) }
+    ensures stays { OnOk result (HoldsAhead (NamesStayIn (workspace_in judge.now) (known_verdicts judge.now) (change_in judge.now) (package_of unit.entry)) first.new) }
 {
     for u in 0..unit.table.len() {
         judge_by_scope(first, judge, unit, u)?;
@@ -218,8 +219,9 @@ fn note_by_member(
     old: &Declaration,
 ) -> Result<(), AllocError>
     requires { KnowsChange judge.now }
-    ensures { let now = IsMemberNow (known_packages judge.now) (change_in judge.now) (definitions_seen unit.entry own.now) (package_of unit.entry) at (type_of found.now.before) place in
+    ensures takes { let now = IsMemberNow (known_packages judge.now) (change_in judge.now) (definitions_seen unit.entry own.now) (package_of unit.entry) at (type_of found.now.before) place in
         OnOk result (Takes (IsOtherNoted (known_packages judge.now) now place old.now) first.old first.new) }
+    ensures stays { OnOk result (IsAhead first.new place → IsMemberNow (known_packages judge.now) (change_in judge.now) (definitions_seen unit.entry own.now) (package_of unit.entry) at (type_of found.now.before) place old.now) }
 {
     let name = unit.spelling(at.file, at.index);
     let now = now_by_member(judge, unit, own, found, &place, name)?;
@@ -239,8 +241,10 @@ fn judge_token(
 ) -> Result<(), AllocError>
     requires knows { KnowsChange judge.now }
     requires index { IsIndexOf (package_of unit) index.now }
-    ensures { let now = IsMemberNow (known_packages judge.now) (change_in judge.now) (definitions_seen unit.entry own.now) (package_of unit.entry) at (type_of found.now.before) in
+    ensures takes { let now = IsMemberNow (known_packages judge.now) (change_in judge.now) (definitions_seen unit.entry own.now) (package_of unit.entry) at (type_of found.now.before) in
         OnOk result (Takes (IsOtherAt (known_packages judge.now) now (package_of unit.entry) at old.now) first.old first.new) }
+    ensures stays { let now = IsMemberNow (known_packages judge.now) (change_in judge.now) (definitions_seen unit.entry own.now) (package_of unit.entry) at (type_of found.now.before) in
+        OnOk result (HoldsAtToken (package_of unit.entry) at (λ place. now place old.now) first.new) }
 {
     match token_beginning(unit, index, at)? {
         None => Ok(()),
@@ -260,7 +264,8 @@ fn judge_by_member(
 ) -> Result<(), AllocError>
     requires knows { KnowsChange judge.now }
     requires index { IsIndexOf (package_of unit) index.now }
-    ensures { OnOk result (Takes (IsMemberConflict (known_packages judge.now) (change_in judge.now) (definitions_seen unit.entry own.now) (package_of unit.entry) file (use_of found.now)) first.old first.new) }
+    ensures takes { OnOk result (Takes (IsMemberConflict (known_packages judge.now) (change_in judge.now) (definitions_seen unit.entry own.now) (package_of unit.entry) file (use_of found.now)) first.old first.new) }
+    ensures stays { OnOk result (HoldsAhead (UseStays (known_packages judge.now) (change_in judge.now) (definitions_seen unit.entry own.now) (package_of unit.entry) file (use_of found.now)) first.new) }
 {
     match member_declaration(unit, own, file, found)? {
         None => Ok(()),
@@ -286,7 +291,8 @@ fn judge_file(
 ) -> Result<(), AllocError>
     requires knows { KnowsChange judge.now }
     requires index { IsIndexOf (package_of unit) index.now }
-    ensures { OnOk result (Takes (IsMemberConflictAmong (known_packages judge.now) (change_in judge.now) (definitions_seen unit.entry own.now) (package_of unit.entry) file (map use_of uses.now)) first.old first.new) }
+    ensures takes { OnOk result (Takes (IsMemberConflictAmong (known_packages judge.now) (change_in judge.now) (definitions_seen unit.entry own.now) (package_of unit.entry) file (map use_of uses.now)) first.old first.new) }
+    ensures stays { OnOk result (HoldsAhead (UsesStay (known_packages judge.now) (change_in judge.now) (definitions_seen unit.entry own.now) (package_of unit.entry) file (map use_of uses.now)) first.new) }
 {
     for k in 0..uses.len() {
         judge_by_member(first, judge, unit, index, own, file, &uses[k])?;
@@ -306,7 +312,8 @@ fn judge_members(
     requires knows { KnowsChange judge.now }
     requires index { IsIndexOf (package_of unit) index.now }
     requires is_package { IsPackageAt (workspace_in judge.now) (known_verdicts judge.now) number (package_of unit) }
-    ensures { OnOk result (Takes (IsConflictIn (workspace_in judge.now) (known_verdicts judge.now) (change_in judge.now) (package_of unit.entry)) first.old first.new) }
+    ensures takes { OnOk result (Takes (IsConflictIn (workspace_in judge.now) (known_verdicts judge.now) (change_in judge.now) (package_of unit.entry)) first.old first.new) }
+    ensures stays { OnOk result (HoldsAhead (MembersStayIn (workspace_in judge.now) (known_verdicts judge.now) (change_in judge.now) (package_of unit.entry)) first.new) }
 {
     unit.table.is_well_formed();
     let own = own_of(judge.packages.graph, judge.packages.found, number);
@@ -325,7 +332,8 @@ fn note_by_name(
     old: &Declaration,
 ) -> Result<(), AllocError>
     requires { KnowsChange judge.now }
-    ensures { OnOk result (Takes (IsLostThere (known_packages judge.now) (change_in judge.now) place old.now) first.old first.new) }
+    ensures takes { OnOk result (Takes (IsLostThere (known_packages judge.now) (change_in judge.now) place old.now) first.old first.new) }
+    ensures stays { OnOk result (IsAhead first.new place → CountsAfter (known_packages judge.now) (change_in judge.now) old.now) }
 {
     if judge.types().counts(old)? {
         return Ok(());
@@ -345,7 +353,8 @@ fn judge_by_name(
 ) -> Result<(), AllocError>
     requires knows { KnowsChange judge.now }
     requires index { IsIndexOf (package_of unit) index.now }
-    ensures { OnOk result (Takes (IsLostAt (known_packages judge.now) (change_in judge.now) (package_of unit.entry) at old.now) first.old first.new) }
+    ensures takes { OnOk result (Takes (IsLostAt (known_packages judge.now) (change_in judge.now) (package_of unit.entry) at old.now) first.old first.new) }
+    ensures stays { OnOk result (HoldsAtToken (package_of unit.entry) at (λ place. CountsAfter (known_packages judge.now) (change_in judge.now) old.now) first.new) }
 {
     match token_beginning(unit, index, at)? {
         None => Ok(()),
@@ -364,7 +373,8 @@ fn judge_field(
 ) -> Result<(), AllocError>
     requires knows { KnowsChange judge.now }
     requires index { IsIndexOf (package_of unit) index.now }
-    ensures { OnOk result (Takes (IsLostAt (known_packages judge.now) (change_in judge.now) (package_of unit.entry) at (field_at unit.entry.path.now rank)) first.old first.new) }
+    ensures takes { OnOk result (Takes (IsLostAt (known_packages judge.now) (change_in judge.now) (package_of unit.entry) at (field_at unit.entry.path.now rank)) first.old first.new) }
+    ensures stays { OnOk result (HoldsAtToken (package_of unit.entry) at (λ place. CountsAfter (known_packages judge.now) (change_in judge.now) (field_at unit.entry.path.now rank)) first.new) }
 {
     let symbol = symbol(unit.path, rank)?;
     let old = Declaration::Field(symbol);
@@ -382,7 +392,8 @@ fn judge_counting_field(
 ) -> Result<(), AllocError>
     requires knows { KnowsChange judge.now }
     requires index { IsIndexOf (package_of unit) index.now }
-    ensures { OnOk result (Takes (IsLostAtFound (known_packages judge.now) (change_in judge.now) (package_of unit.entry) at (field_at unit.entry.path.now rank)) first.old first.new) }
+    ensures takes { OnOk result (Takes (IsLostAtFound (known_packages judge.now) (change_in judge.now) (package_of unit.entry) at (field_at unit.entry.path.now rank)) first.old first.new) }
+    ensures stays { OnOk result (HoldsAtFound (package_of unit.entry) at (λ place. CountsAfter (known_packages judge.now) (change_in judge.now) (field_at unit.entry.path.now rank)) first.new) }
 {
     match at {
         None => Ok(()),
@@ -400,7 +411,8 @@ fn judge_fields(
 ) -> Result<(), AllocError>
     requires knows { KnowsChange judge.now }
     requires index { IsIndexOf (package_of unit) index.now }
-    ensures { OnOk result (Takes (IsConflictIn (workspace_in judge.now) (known_verdicts judge.now) (change_in judge.now) (package_of unit.entry)) first.old first.new) }
+    ensures takes { OnOk result (Takes (IsConflictIn (workspace_in judge.now) (known_verdicts judge.now) (change_in judge.now) (package_of unit.entry)) first.old first.new) }
+    ensures stays { OnOk result (HoldsAhead (FieldsStayIn (known_packages judge.now) (change_in judge.now) (package_of unit.entry)) first.new) }
 {
     let fields = field_places(alloc, unit, index)?;
     for rank in 0..fields.len() {
@@ -420,7 +432,8 @@ fn judge_method(
 ) -> Result<(), AllocError>
     requires knows { KnowsChange judge.now }
     requires index { IsIndexOf (package_of unit) index.now }
-    ensures { OnOk result (Takes (IsLostAt (known_packages judge.now) (change_in judge.now) (package_of unit.entry) at (method_at unit.entry.path.now rank)) first.old first.new) }
+    ensures takes { OnOk result (Takes (IsLostAt (known_packages judge.now) (change_in judge.now) (package_of unit.entry) at (method_at unit.entry.path.now rank)) first.old first.new) }
+    ensures stays { OnOk result (HoldsAtToken (package_of unit.entry) at (λ place. CountsAfter (known_packages judge.now) (change_in judge.now) (method_at unit.entry.path.now rank)) first.new) }
 {
     let symbol = symbol(unit.path, rank)?;
     let old = Declaration::Method(symbol);
@@ -438,7 +451,8 @@ fn judge_counting_method(
 ) -> Result<(), AllocError>
     requires knows { KnowsChange judge.now }
     requires index { IsIndexOf (package_of unit) index.now }
-    ensures { OnOk result (Takes (IsLostAtFound (known_packages judge.now) (change_in judge.now) (package_of unit.entry) at (method_at unit.entry.path.now rank)) first.old first.new) }
+    ensures takes { OnOk result (Takes (IsLostAtFound (known_packages judge.now) (change_in judge.now) (package_of unit.entry) at (method_at unit.entry.path.now rank)) first.old first.new) }
+    ensures stays { OnOk result (HoldsAtFound (package_of unit.entry) at (λ place. CountsAfter (known_packages judge.now) (change_in judge.now) (method_at unit.entry.path.now rank)) first.new) }
 {
     match at {
         None => Ok(()),
@@ -456,7 +470,8 @@ fn judge_methods(
 ) -> Result<(), AllocError>
     requires knows { KnowsChange judge.now }
     requires index { IsIndexOf (package_of unit) index.now }
-    ensures { OnOk result (Takes (IsConflictIn (workspace_in judge.now) (known_verdicts judge.now) (change_in judge.now) (package_of unit.entry)) first.old first.new) }
+    ensures takes { OnOk result (Takes (IsConflictIn (workspace_in judge.now) (known_verdicts judge.now) (change_in judge.now) (package_of unit.entry)) first.old first.new) }
+    ensures stays { OnOk result (HoldsAhead (MethodsStayIn (known_packages judge.now) (change_in judge.now) (package_of unit.entry)) first.new) }
 {
     let methods = method_places(alloc, unit, index)?;
     for rank in 0..methods.len() {
@@ -475,7 +490,8 @@ fn judge_names(
 ) -> Result<(), AllocError>
     requires knows { KnowsChange judge.now }
     requires index { IsIndexOf (package_of unit) index.now }
-    ensures { OnOk result (Takes (IsConflictIn (workspace_in judge.now) (known_verdicts judge.now) (change_in judge.now) (package_of unit.entry)) first.old first.new) }
+    ensures takes { OnOk result (Takes (IsConflictIn (workspace_in judge.now) (known_verdicts judge.now) (change_in judge.now) (package_of unit.entry)) first.old first.new) }
+    ensures stays { OnOk result (HoldsAhead (DeclaringNamesStayIn (workspace_in judge.now) (known_verdicts judge.now) (change_in judge.now) (package_of unit.entry)) first.new) }
 {
     judge_fields(alloc, first, judge, unit, index)?;
     judge_methods(alloc, first, judge, unit, index)

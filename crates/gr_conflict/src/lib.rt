@@ -7,6 +7,7 @@ mod first;
 mod first_identifier;
 mod judge;
 mod judging;
+pub mod laws;
 mod noting;
 mod now;
 mod standing;

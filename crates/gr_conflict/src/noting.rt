@@ -120,7 +120,7 @@ fn capturer_after(
 ) -> Result<Option<Capturer>, AllocError>
     requires knows { KnowsChange judge.now }
     requires counts { IsCounted judge.now.after.now e.now }
-    ensures { IfOk result (λ by. MatchOption by (Unit {0}) (λ x. (c : Bound) × (becomes_in judge.now c e.now × IsCapturer (known_packages judge.now) c x))) }
+    ensures { IfOk result (λ by. MatchOption by ((c : Bound) → becomes_in judge.now c e.now → ⊥) (λ x. (c : Bound) × (becomes_in judge.now c e.now × IsCapturer (known_packages judge.now) c x))) }
 {
     match before(judge, e)? {
         None => Ok(None),
@@ -202,7 +202,8 @@ fn note_other_member(
     now: &Declaration,
 ) -> Result<(), AllocError>
     requires { KnowsChange judge.now }
-    ensures { OnOk result (Takes (IsOtherNoted (known_packages judge.now) (λ e. e ≡ now.now) used old.now) first.old first.new) }
+    ensures takes { OnOk result (Takes (IsOtherNoted (known_packages judge.now) (λ e. e ≡ now.now) used old.now) first.old first.new) }
+    ensures stays { OnOk result (IsAhead first.new used → old.now ≡ now.now) }
 {
     if is_same(old, now) {
         return Ok(());
@@ -222,7 +223,8 @@ pub fn note_member(
     now: Option<Declaration>,
 ) -> Result<(), AllocError>
     requires { KnowsChange judge.now }
-    ensures { OnOk result (Takes (IsOtherNoted (known_packages judge.now) (λ e. now ≡ Some e) used old.now) first.old first.new) }
+    ensures takes { OnOk result (Takes (IsOtherNoted (known_packages judge.now) (λ e. now ≡ Some e) used old.now) first.old first.new) }
+    ensures stays { OnOk result (IsAhead first.new used → now ≡ Some old.now) }
 {
     match now {
         None => {
@@ -236,7 +238,8 @@ pub fn note_member(
 /// Notes the name at a place by which a field or method is declared that does not count afterwards, if it stands before the conflict
 /// that was found.
 pub fn note_lost(first: &mut Option<Conflict>, used: Place)
-    ensures { Takes (IsKept used None) first.old first.new }
+    ensures takes { Takes (IsKept used None) first.old first.new }
+    ensures behind { IsAhead first.new used → ⊥ }
 {
     keep(first, used, None);
 }

@@ -1,11 +1,12 @@
 //! Where the declarations of the workspace afterwards stand, as its scopes see them, and which those before have become.
-ghost use Rattle.std.specs.Prelude.{◌≡◌, ◌<◌, ◌↔◌, length, IsTrue, IfOk, MatchOption};
+ghost use Rattle.std.specs.Prelude.{◌≡◌, ◌<◌, ◌↔◌, length, IsTrue, IfOk};
 ghost use Rattle.gr_edit.specs.Moved.{moved};
 ghost use Rattle.gr_bound.specs.declared.declaration.Declaration.TheVariants.{Declared};
+ghost use Rattle.gr_bound.specs.Steps.{IsDeclarationFound};
 ghost use Rattle.gr_scoped.specs.ScopedPackages.{IsScopedIn};
 ghost use Rattle.gr_standing.specs.Standing.{IsDeclaredAt};
 ghost use Rattle.gr_check.specs.DeclaredPlaces.{IsFound};
-ghost use Rattle.gr_conflict.specs.Judging.{KnowsChange, known_packages, becomes_in};
+ghost use Rattle.gr_conflict.specs.Judging.{KnowsChange, GoesWhere, known_packages, becomes_in};
 ghost use Rattle.gr_conflict.specs.Now.{IsCounted, IsOwnToken};
 ghost use Rattle.gr_change_places.specs.OldPlaces.{HasGoneTo};
 
@@ -100,7 +101,7 @@ pub fn has_become(
 /// The declaration of the workspace before that goes to a place.
 fn before_at(judge: &Judge<'_, '_, '_>, place: &Place) -> Result<Option<Declaration>, AllocError>
     requires { KnowsChange judge.now }
-    ensures { IfOk result (λ found. MatchOption found (Unit {0}) (λ c. HasGoneTo (known_packages judge.now) (moved judge.now.moves.now) c place.now)) }
+    ensures { IfOk result (IsDeclarationFound (λ c. HasGoneTo (known_packages judge.now) (moved judge.now.moves.now) c place.now)) }
 {
     match before_of(judge.old, place) {
         None => Ok(None),
@@ -108,14 +109,14 @@ fn before_at(judge: &Judge<'_, '_, '_>, place: &Place) -> Result<Option<Declarat
     }
 }
 
-/// The declaration of the workspace before that has become one that stands somewhere.
+/// The declaration of the workspace before that goes to where one of the workspace afterwards stands.
 fn before_standing(
     judge: &Judge<'_, '_, '_>,
     e: &Declaration,
 ) -> Result<Option<Declaration>, AllocError>
     requires knows { KnowsChange judge.now }
     requires counts { IsCounted judge.now.after.now e.now }
-    ensures { IfOk result (λ found. MatchOption found (Unit {0}) (λ c. becomes_in judge.now c e.now)) }
+    ensures { IfOk result (IsDeclarationFound (λ c. GoesWhere (known_packages judge.now) (IsScopedIn judge.now.after.now) (moved judge.now.moves.now) c e.now)) }
 {
     match standing(judge, e)? {
         None => Ok(None),
@@ -127,7 +128,7 @@ fn before_standing(
 pub fn before(judge: &Judge<'_, '_, '_>, e: &Declaration) -> Result<Option<Declaration>, AllocError>
     requires knows { KnowsChange judge.now }
     requires counts { IsCounted judge.now.after.now e.now }
-    ensures { IfOk result (λ found. MatchOption found (Unit {0}) (λ c. becomes_in judge.now c e.now)) }
+    ensures { IfOk result (IsDeclarationFound (λ c. becomes_in judge.now c e.now)) }
 {
     match e {
         Declaration::Predeclared(d) => Ok(Some(Declaration::Predeclared(*d))),

@@ -1,15 +1,16 @@
 -- The answers to the goals of `places_before::add_all`.
-use Rattle.std.proofs.Common.{◌<◌, length, refl, arith}
+use Rattle.std.proofs.Common.{◌<◌, ◌≤◌, length, refl, arith}
 use Rattle.std.proofs.lemmas.Option.{slice_get_read}
+use Rattle.gr_text.specs.Packages.{package_paths}
 use Rattle.gr_edit.specs.Moved.{moved}
-use Rattle.gr_bound.specs.Uses.{IsPackage}
-use Rattle.gr_bound.specs.Workspaces.{known_in}
-use Rattle.gr_change_places.specs.OldPlaces.{GoFromPackage, HasGone}
-use Rattle.gr_change_places.proofs.Gone.{only_none, only_as, only_then, gone_at}
+use Rattle.gr_bound.specs.Workspaces.{known_in, IsPackageAt}
+use Rattle.gr_bound.proofs.AddingAll.{none_below, next_below}
+use Rattle.gr_change_places.specs.OldPlaces.{HasGone}
+use Rattle.gr_change_places.proofs.Gone.{gone_at, all_gone}
 use Rattle.gr_change_places.proofs.places_before.add_all.Goals as goal
 
 pub loop-number-init : goal.loop-number-init
-loop-number-init c = only_none c.args.old.now.items _
+loop-number-init c = none_below _ c.args.old.now.items
 
 pub loop-number-preserved : goal.loop-number-preserved
 loop-number-preserved c =
@@ -23,9 +24,15 @@ loop-number-preserved c =
     let b = c.add_package.new.found.items in
     let lt : n < length all = omega (arith, c.requires.places.size) in
     let are = c.requires.places.each n x (slice_get_read all (length all) n x refl lt c.index-places-number.is) in
-    let here = only_as a b (GoFromPackage m c.path_of-path.result.now x) (HasGone (IsPackage w known) m)
-    (gone_at w known m n c.path_of-path.result.now x are c.path_of-path.ensures) c.in_ok-add_package.ensures in
-    only_then c.args.old.now.items a b (HasGone (IsPackage w known) m) c.loop-number.invariant here
+    next_below (λ k. HasGone (IsPackageAt w known k) m) c.args.old.now.items a b n c.loop-number.invariant
+    (gone_at w known m n c.path_of-path.result.now x are c.path_of-path.ensures a b c.in_ok-add_package.ensures)
+
+pub returns : goal.returns
+returns c =
+    let w = c.args.packages.now.graph.now in
+    let end : length (package_paths w) ≤ c.loop-number.number = omega arith in
+    all_gone w (known_in c.args.packages.now.found.now) (moved c.args.moves.now) c.loop-number.number c.args.old.now.items c.loop-number.old.items end
+    c.loop-number.invariant
 
 pub path_of-path-requires-clause-sound : goal.path_of-path-requires-clause-sound
 path_of-path-requires-clause-sound c = c.requires.read.sound

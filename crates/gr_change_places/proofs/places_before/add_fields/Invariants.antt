@@ -1,8 +1,10 @@
 -- The invariants of the loops of `places_before::add_fields`.
 use Rattle.gr_edit.specs.Moved.{moved}
 use Rattle.gr_change_places.specs.OldPlaces.{field_at}
-use Rattle.gr_change_places.specs.OldPlaces.{AddsOnly, GoFrom}
+use Rattle.gr_bound.specs.Bindings.{AddsAll}
+use Rattle.gr_bound.proofs.AddingAll.{BelowAll}
+use Rattle.gr_change_places.proofs.Gone.{GoesBy}
 use Rattle.gr_change_places.proofs.places_before.add_fields.Given as goal
 
 abbrev pub invariant-loop-rank : goal.invariant-loop-rank
-invariant-loop-rank l = AddsOnly l.initial.found.items l.found.items (GoFrom (moved l.moves) (field_at l.path) l.fields)
+invariant-loop-rank l = AddsAll l.initial.found.items l.found.items (BelowAll (GoesBy (moved l.moves) (field_at l.path) l.fields) l.rank)

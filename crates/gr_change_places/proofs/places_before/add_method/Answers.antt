@@ -1,11 +1,9 @@
 -- The answers to the goals of `places_before::add_method`.
-use Rattle.std.proofs.Common.{◌≡◌, refl, sym, subst, ◌∙◌}
-use Rattle.std.specs.Prelude.{Option}
-use Rattle.gr_text.specs.declared.place.Place.{Place}
+use Rattle.std.proofs.Common.{◌≡◌, refl}
 use Rattle.gr_edit.specs.Moved.{moved}
 use Rattle.gr_bound.specs.declared.declaration.Declaration.TheVariants.{Method}
-use Rattle.gr_change_places.specs.OldPlaces.{GoesFrom, method_at}
-use Rattle.gr_change_places.proofs.Gone.{call_only}
+use Rattle.gr_change_places.specs.OldPlaces.{method_at}
+use Rattle.gr_change_places.proofs.Gone.{nothing_goes, something_goes}
 use Rattle.gr_change_places.proofs.places_before.add_method.Goals as goal
 
 pub returns-in_ok-method-in-Some : goal.returns-in_ok-method-in-Some
@@ -14,5 +12,9 @@ returns-in_ok-method-in-Some c =
     let d = method_at c.args.path.now c.args.rank in
     let e = c.in_ok-method-in-Some.ensures in
     let same : Method c.in_ok-method-in-Some.method ≡ d = rw (← e.0, ← e.1) refl in
-    call_only c.args.found.now.items c.add_moved.new.found.items _ (GoesFrom m d c.args.place.now) c.add_moved.result
-    (λ x h. subst (λ (o : Option Place). GoesFrom m d o x) (sym c.in-Some.is) (h.0 ∙ same, h.1)) c.add_moved.ensures
+    something_goes m d (Method c.in_ok-method-in-Some.method) c.args.place.now c.in-Some.place c.args.found.now.items
+    c.add_moved.new.found.items c.add_moved.result c.in-Some.is same
+    c.add_moved.ensures
+
+pub returns-in-None : goal.returns-in-None
+returns-in-None c = nothing_goes (moved c.args.moves.now) (method_at c.args.path.now c.args.rank) c.args.place.now c.args.found.now.items c.in-None.is

@@ -1,13 +1,17 @@
 -- The answers to the goals of `places_before::add_methods`.
-use Rattle.std.proofs.Common.{arith}
+use Rattle.std.proofs.Common.{◌<◌, ◌≤◌, length, arith, subst}
+use Rattle.std.specs.Prelude.{None}
+use Rattle.std.proofs.lemmas.List.{get_or_read}
 use Rattle.gr_edit.specs.Moved.{moved}
 use Rattle.gr_change_places.specs.OldPlaces.{method_at}
-use Rattle.gr_change_places.specs.OldPlaces.{GoesFrom, GoFrom}
-use Rattle.gr_change_places.proofs.Gone.{only_none, only_then, only_as, goes_at}
+use Rattle.gr_bound.specs.Bindings.{AddsAll}
+use Rattle.gr_bound.proofs.AddingAll.{none_below, next_below}
+use Rattle.gr_change_places.specs.OldPlaces.{GoesFrom}
+use Rattle.gr_change_places.proofs.Gone.{GoesBy, all_go}
 use Rattle.gr_change_places.proofs.places_before.add_methods.Goals as goal
 
 pub loop-rank-init : goal.loop-rank-init
-loop-rank-init c = only_none c.args.found.now.items _
+loop-rank-init c = none_below _ c.args.found.now.items
 
 pub loop-rank-preserved : goal.loop-rank-preserved
 loop-rank-preserved c =
@@ -18,6 +22,12 @@ loop-rank-preserved c =
     let x = c.index-methods-rank.result in
     let a = c.loop-rank.found.items in
     let b = c.add_method.new.found.items in
-    let here = only_as a b (GoesFrom m (member n) x) (GoFrom m member places) (goes_at m member places n x (omega arith) c.index-methods-rank.is)
-    c.in_ok-add_method.ensures in
-    only_then c.args.found.now.items a b (GoFrom m member places) c.loop-rank.invariant here
+    let lt : n < length places = omega arith in
+    let here = subst (λ o. AddsAll a b (GoesFrom m (member n) o)) (get_or_read places n x lt c.index-methods-rank.is None) c.in_ok-add_method.ensures in
+    next_below (GoesBy m member places) c.args.found.now.items a b n c.loop-rank.invariant here
+
+pub returns : goal.returns
+returns c =
+    let places = c.args.methods.now in
+    let end : length places ≤ c.loop-rank.rank = omega arith in
+    all_go (moved c.args.moves.now) (method_at c.args.path.now) places c.loop-rank.rank c.args.found.now.items c.loop-rank.found.items end c.loop-rank.invariant

@@ -1,13 +1,17 @@
 -- The answers to the goals of `places_before::add_names`.
-use Rattle.std.proofs.Common.{arith}
+use Rattle.std.proofs.Common.{◌<◌, ◌≤◌, length, arith, subst}
+use Rattle.std.specs.Prelude.{None}
+use Rattle.std.proofs.lemmas.List.{get_or_read}
 use Rattle.gr_edit.specs.Moved.{moved}
 use Rattle.gr_bound.specs.declared.declaration.Declaration.TheVariants.{Declared}
-use Rattle.gr_change_places.specs.OldPlaces.{GoesFrom, GoFrom}
-use Rattle.gr_change_places.proofs.Gone.{only_none, only_then, only_as, goes_at}
+use Rattle.gr_bound.specs.Bindings.{AddsAll}
+use Rattle.gr_bound.proofs.AddingAll.{none_below, next_below}
+use Rattle.gr_change_places.specs.OldPlaces.{GoesFrom}
+use Rattle.gr_change_places.proofs.Gone.{GoesBy, all_go}
 use Rattle.gr_change_places.proofs.places_before.add_names.Goals as goal
 
 pub loop-d-init : goal.loop-d-init
-loop-d-init c = only_none c.args.found.now.items _
+loop-d-init c = none_below _ c.args.found.now.items
 
 pub loop-d-preserved : goal.loop-d-preserved
 loop-d-preserved c =
@@ -18,6 +22,12 @@ loop-d-preserved c =
     let x = c.index-names-d.result in
     let a = c.loop-d.found.items in
     let b = c.add_name.new.found.items in
-    let here = only_as a b (GoesFrom m (member n) x) (GoFrom m member places) (goes_at m member places n x (omega arith) c.index-names-d.is)
-    c.in_ok-add_name.ensures in
-    only_then c.args.found.now.items a b (GoFrom m member places) c.loop-d.invariant here
+    let lt : n < length places = omega arith in
+    let here = subst (λ o. AddsAll a b (GoesFrom m (member n) o)) (get_or_read places n x lt c.index-names-d.is None) c.in_ok-add_name.ensures in
+    next_below (GoesBy m member places) c.args.found.now.items a b n c.loop-d.invariant here
+
+pub returns : goal.returns
+returns c =
+    let places = c.args.names.now in
+    let end : length places ≤ c.loop-d.d = omega arith in
+    all_go (moved c.args.moves.now) (Declared c.args.path.now) places c.loop-d.d c.args.found.now.items c.loop-d.found.items end c.loop-d.invariant

@@ -2,14 +2,15 @@
 use Rattle.gr_edit.specs.Moved.{moved}
 use Rattle.gr_bound.specs.Uses.{IsPackage}
 use Rattle.gr_bound.specs.Workspaces.{known_in}
+use Rattle.gr_check.proofs.Identifiers.{all_added}
 use Rattle.gr_change_places.specs.OldPlaces.{HasGone}
-use Rattle.gr_change_places.proofs.Gone.{only_added}
 use Rattle.gr_change_places.proofs.places_before.old_places.Goals as goal
 
 pub returns : goal.returns
 returns c =
     let P = HasGone (IsPackage c.args.packages.now.graph.now (known_in c.args.packages.now.found.now)) (moved c.args.moves.now) in
+    let added = all_added c.new-old.result.items c.add_all.new.old.items P c.new-old.ensures.items c.in_ok-add_all.ensures in
     record {
       in_order = c.sort.ensures.order;
-      each = λ b h. only_added c.new-old.result.items c.add_all.new.old.items P c.new-old.ensures.items c.in_ok-add_all.ensures b ((c.sort.ensures.same b).0 h);
+      each = λ b. ((λ h. (added b).0 ((c.sort.ensures.same b).0 h)), (λ h. (c.sort.ensures.same b).1 ((added b).1 h)));
     }

@@ -4,13 +4,14 @@ use Rattle.std.specs.Prelude.{OnOk}
 use Rattle.gr_declared.specs.PackageView.{package_of}
 use Rattle.gr_bound.specs.declared.declaration.Declaration.{Declaration}
 use Rattle.gr_bound.specs.declared.declaration.Declaration.TheVariants.{Field}
-use Rattle.gr_conflict.specs.Conflicts.{IsLostAt, Takes}
+use Rattle.gr_members_after.specs.MembersAfter.{CountsAfter}
+use Rattle.gr_conflict.specs.Conflicts.{IsLostAt, HoldsAtToken, Takes}
 use Rattle.gr_conflict.specs.Judging.{known_packages, change_in}
 use Rattle.gr_change_places.specs.OldPlaces.{field_at}
 use Rattle.gr_conflict.proofs.judging.judge_field.Goals as goal
 
-pub returns : goal.returns
-returns c =
+pub returns-clause-takes : goal.returns-clause-takes
+returns-clause-takes c =
     let j = c.args.judge.now in
     let path = c.args.unit.path.now in
     let s = c.in_ok-symbol.symbol in
@@ -18,4 +19,15 @@ returns c =
     ap (λ q. Field (record { «package» = q; rank = s.rank })) c.in_ok-symbol.ensures.0 ∙ ap (field_at path) c.in_ok-symbol.ensures.1 in
     subst (λ (d : Declaration). OnOk c.judge_by_name.result
     (Takes (IsLostAt (known_packages j) (change_in j) (package_of c.args.unit) c.args.at d) c.args.first.now c.judge_by_name.new.first)) same
-    c.judge_by_name.ensures
+    c.judge_by_name.ensures.takes
+
+pub returns-clause-stays : goal.returns-clause-stays
+returns-clause-stays c =
+    let j = c.args.judge.now in
+    let path = c.args.unit.path.now in
+    let s = c.in_ok-symbol.symbol in
+    let same : Field s ≡ field_at path c.args.rank =
+    ap (λ q. Field (record { «package» = q; rank = s.rank })) c.in_ok-symbol.ensures.0 ∙ ap (field_at path) c.in_ok-symbol.ensures.1 in
+    subst (λ (d : Declaration). OnOk c.judge_by_name.result
+    (HoldsAtToken (package_of c.args.unit) c.args.at (λ place. CountsAfter (known_packages j) (change_in j) d) c.judge_by_name.new.first)) same
+    c.judge_by_name.ensures.stays

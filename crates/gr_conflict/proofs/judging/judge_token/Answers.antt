@@ -10,10 +10,11 @@ use Rattle.gr_conflict.specs.Conflicts.{IsOtherNoted, IsOtherAt}
 use Rattle.gr_conflict.specs.Judging.{known_packages, change_in}
 use Rattle.gr_conflict.proofs.Taking.{call_takes}
 use Rattle.gr_conflict.proofs.Telling.{noted_at}
+use Rattle.gr_conflict.proofs.MembersStay.{holds_there}
 use Rattle.gr_conflict.proofs.judging.judge_token.Goals as goal
 
-pub returns-in-Some : goal.returns-in-Some
-returns-in-Some c =
+pub returns-in-Some-clause-takes : goal.returns-in-Some-clause-takes
+returns-in-Some-clause-takes c =
     let p = package_of c.args.unit in
     let Known = known_packages c.args.judge.now in
     let place = c.in-Some.place in
@@ -21,4 +22,19 @@ returns-in-Some c =
     let begins : AtToken p c.args.at place = subst (IsFound (AtToken p c.args.at)) c.in-Some.is c.in_ok-token_beginning.ensures in
     call_takes (IsOtherNoted Known (E place) place c.args.old.now) (IsOtherAt Known E p c.args.at c.args.old.now) c.args.first.now
     c.note_by_member.new.first c.note_by_member.result
-    (noted_at Known E p c.args.at c.args.old.now place begins) c.note_by_member.ensures
+    (noted_at Known E p c.args.at c.args.old.now place begins) c.note_by_member.ensures.takes
+
+pub returns-in-None-clause-stays : goal.returns-in-None-clause-stays
+returns-in-None-clause-stays c =
+    let p = package_of c.args.unit in
+    let none = subst (IsFound (AtToken p c.args.at)) c.in-None.is c.in_ok-token_beginning.ensures in
+    λ place ahead token. absurd (none place token)
+
+pub returns-in-Some-clause-stays : goal.returns-in-Some-clause-stays
+returns-in-Some-clause-stays c =
+    let p = package_of c.args.unit in
+    let j = c.args.judge.now in
+    let place = c.in-Some.place in
+    let E = IsMemberNow (known_packages j) (change_in j) (definitions_seen c.args.unit c.args.own.now) p c.args.at (type_of c.args.found.now.before) in
+    let begins : AtToken p c.args.at place = subst (IsFound (AtToken p c.args.at)) c.in-Some.is c.in_ok-token_beginning.ensures in
+    holds_there p c.args.at (λ x. E x c.args.old.now) c.note_by_member.new.first place c.note_by_member.result begins c.note_by_member.ensures.stays

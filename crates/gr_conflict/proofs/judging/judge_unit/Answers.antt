@@ -2,8 +2,9 @@
 use Rattle.gr_declared.specs.PackageView.{package_of}
 use Rattle.gr_conflict.specs.Conflicts.{IsConflictIn}
 use Rattle.gr_conflict.specs.Judging.{known_verdicts, change_in}
-use Rattle.gr_conflict.specs.Staying.{StaysIn}
-use Rattle.gr_conflict.proofs.Taking.{takes_then, call_then, still_holds, call_still}
+use Rattle.gr_conflict.specs.Staying.{NamesStayIn, MembersStayIn}
+use Rattle.gr_conflict.proofs.Taking.{takes_then, call_then, call_both, still_holds}
+use Rattle.gr_conflict.proofs.Stayed.{stays_all}
 use Rattle.gr_conflict.proofs.judging.judge_unit.Goals as goal
 
 pub returns-clause-takes : goal.returns-clause-takes
@@ -15,8 +16,8 @@ returns-clause-takes c =
     let p = package_of c.args.unit in
     let P = IsConflictIn w known r p in
     let members = takes_then P c.args.first.now c.judge_numbers.new.first c.judge_members.new.first c.in_ok-judge_numbers.ensures.takes
-    c.in_ok-judge_members.ensures in
-    call_then P c.args.first.now c.judge_members.new.first c.judge_names.new.first c.judge_names.result members c.judge_names.ensures
+    c.in_ok-judge_members.ensures.takes in
+    call_then P c.args.first.now c.judge_members.new.first c.judge_names.new.first c.judge_names.result members c.judge_names.ensures.takes
 
 pub returns-clause-stays : goal.returns-clause-stays
 returns-clause-stays c =
@@ -26,6 +27,10 @@ returns-clause-stays c =
     let r = change_in j in
     let p = package_of c.args.unit in
     let P = IsConflictIn w known r p in
-    let members = still_holds P (StaysIn w known r p) c.judge_numbers.new.first c.judge_members.new.first c.in_ok-judge_members.ensures
-    c.in_ok-judge_numbers.ensures.stays in
-    call_still P (StaysIn w known r p) c.judge_members.new.first c.judge_names.new.first c.judge_names.result members c.judge_names.ensures
+    let b = c.judge_members.new.first in
+    let e = c.judge_names.new.first in
+    let names = still_holds P (NamesStayIn w known r p) c.judge_numbers.new.first b c.in_ok-judge_members.ensures.takes c.in_ok-judge_numbers.ensures.stays in
+    call_both c.judge_names.result
+    (λ t h. stays_all w known r p e (still_holds P (NamesStayIn w known r p) b e t names)
+    (still_holds P (MembersStayIn w known r p) b e t c.in_ok-judge_members.ensures.stays) h)
+    c.judge_names.ensures.takes c.judge_names.ensures.stays

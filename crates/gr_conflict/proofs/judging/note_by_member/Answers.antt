@@ -1,7 +1,9 @@
 -- The answers to the goals of `judging::note_by_member`.
 use Rattle.std.proofs.Common.{◌≡◌, List, ℕ, subst}
 use Rattle.std.specs.Prelude.{Some}
+use Rattle.std.proofs.lemmas.Result.{on_ok_weaker}
 use Rattle.gr_expr.specs.View.{type_of}
+use Rattle.gr_declared.specs.Package.{spelled}
 use Rattle.gr_declared.specs.PackageView.{package_of}
 use Rattle.gr_revision.specs.RevisionsOfEdits.{called_by}
 use Rattle.gr_bound.specs.Members.{definitions_seen}
@@ -9,13 +11,14 @@ use Rattle.gr_bound.specs.Steps.{IsDeclarationFound}
 use Rattle.gr_members_after.specs.MembersAfter.{IsMemberAfter}
 use Rattle.gr_conflict.specs.Afterwards.{IsMemberNow}
 use Rattle.gr_conflict.specs.Conflicts.{IsOtherNoted}
-use Rattle.gr_conflict.specs.Judging.{known_packages, change_in}
+use Rattle.gr_conflict.specs.Judging.{workspace_in, known_verdicts, known_packages, change_in}
 use Rattle.gr_conflict.proofs.Taking.{call_takes}
-use Rattle.gr_conflict.proofs.Telling.{other_found}
+use Rattle.gr_conflict.proofs.Telling.{found_so, other_found}
+use Rattle.gr_conflict.proofs.OneMember.{one_member_after}
 use Rattle.gr_conflict.proofs.judging.note_by_member.Goals as goal
 
-pub returns : goal.returns
-returns c =
+pub returns-clause-takes : goal.returns-clause-takes
+returns-clause-takes c =
     let j = c.args.judge.now in
     let Known = known_packages j in
     let r = change_in j in
@@ -30,4 +33,21 @@ returns c =
     subst (λ n. IsDeclarationFound (IsMemberAfter Known r p.path (called_by j.moves.now place n) (λ s. (ds s).underlying) before) now) c.spelling-name.ensures
     c.in_ok-now.ensures in
     call_takes (IsOtherNoted Known (λ e. now ≡ Some e) place old) (IsOtherNoted Known K place old) c.args.first.now c.note_member.new.first
-    c.note_member.result (other_found Known K place old now is) c.note_member.ensures
+    c.note_member.result (other_found Known K place old now is (one_member_after (workspace_in j) (known_verdicts j) r p.path
+    (r.called place (spelled p c.args.at.file c.args.at.index)) (λ s. (ds s).underlying) before)) c.note_member.ensures.takes
+
+pub returns-clause-stays : goal.returns-clause-stays
+returns-clause-stays c =
+    let j = c.args.judge.now in
+    let Known = known_packages j in
+    let r = change_in j in
+    let p = package_of c.args.unit in
+    let ds = definitions_seen c.args.unit c.args.own.now in
+    let before = type_of c.args.found.now.before in
+    let place = c.args.place in
+    let now = c.in_ok-now.now in
+    let K = IsMemberNow Known r ds p c.args.at before place in
+    let is : IsDeclarationFound K now =
+    subst (λ n. IsDeclarationFound (IsMemberAfter Known r p.path (called_by j.moves.now place n) (λ s. (ds s).underlying) before) now) c.spelling-name.ensures
+    c.in_ok-now.ensures in
+    on_ok_weaker c.note_member.result (λ k ahead. found_so K now is c.args.old.now (k ahead)) c.note_member.ensures.stays

@@ -4,7 +4,7 @@ use Rattle.std.specs.Prelude.{Some}
 use Rattle.gr_conflict.specs.Afterwards.{IsExportAfter}
 use Rattle.gr_conflict.specs.Conflicts.{IsNoted}
 use Rattle.gr_conflict.specs.Judging.{workspace_in, known_packages, becomes_in, change_in}
-use Rattle.gr_conflict.proofs.Nowadays.{counted_export, all_counted}
+use Rattle.gr_conflict.proofs.Nowadays.{counted_export, one_export, all_counted}
 use Rattle.gr_conflict.proofs.Taking.{call_takes}
 use Rattle.gr_conflict.proofs.Telling.{noted_found}
 use Rattle.gr_conflict.proofs.Stayed.{call_stays}
@@ -23,11 +23,13 @@ returns-clause-takes c =
     let j = c.args.judge.now in
     let r = change_in j in
     let now = c.in_ok-now.now in
-    let K = IsExportAfter (workspace_in j) r c.args.behind.now (r.called c.args.place c.args.name.now) in
+    let name = r.called c.args.place c.args.name.now in
+    let K = IsExportAfter (workspace_in j) r c.args.behind.now name in
     call_takes (IsNoted (becomes_in j) (known_packages j) (λ d. now ≡ Some d) c.args.place c.args.old.now)
     (IsNoted (becomes_in j) (known_packages j) K c.args.place c.args.old.now)
     c.args.first.now c.note.new.first c.note.result
-    (noted_found (becomes_in j) (known_packages j) K c.args.place c.args.old.now now c.in_ok-now.ensures) c.note.ensures.takes
+    (noted_found (becomes_in j) (known_packages j) K c.args.place c.args.old.now now c.in_ok-now.ensures
+    (one_export (workspace_in j) r c.args.behind.now name)) c.note.ensures.takes
 
 pub returns-clause-stays : goal.returns-clause-stays
 returns-clause-stays c =

@@ -1,6 +1,7 @@
 -- The answers to the goals of `judging::note_by_scope`.
 use Rattle.std.proofs.Common.{◌≡◌}
 use Rattle.std.specs.Prelude.{Some}
+use Rattle.gr_change_places.proofs.OneUse.{one_scope_use}
 use Rattle.gr_conflict.specs.Afterwards.{IsBoundByScopes}
 use Rattle.gr_conflict.specs.Conflicts.{IsNoted}
 use Rattle.gr_conflict.specs.Judging.{known_packages, becomes_in, change_in}
@@ -19,11 +20,13 @@ pub returns-clause-takes : goal.returns-clause-takes
 returns-clause-takes c =
     let j = c.args.judge.now in
     let now = c.in_ok-now.now in
-    let K = IsBoundByScopes (change_in j) c.args.place in
+    let r = change_in j in
+    let K = IsBoundByScopes r c.args.place in
     call_takes (IsNoted (becomes_in j) (known_packages j) (λ d. now ≡ Some d) c.args.place c.args.old.now)
     (IsNoted (becomes_in j) (known_packages j) K c.args.place c.args.old.now)
     c.args.first.now c.note.new.first c.note.result
-    (noted_found (becomes_in j) (known_packages j) K c.args.place c.args.old.now now c.in_ok-now.ensures) c.note.ensures.takes
+    (noted_found (becomes_in j) (known_packages j) K c.args.place c.args.old.now now c.in_ok-now.ensures (one_scope_use r.after (r.moved c.args.place)))
+    c.note.ensures.takes
 
 pub returns-clause-stays : goal.returns-clause-stays
 returns-clause-stays c =

@@ -2,4 +2,4 @@
 use Rattle.gr_conflict.proofs.noting.note_lost.Goals as goal
 
 pub returns : goal.returns
-returns c = c.keep.ensures.takes
+returns c = record { takes = c.keep.ensures.takes; behind = c.keep.ensures.behind }
