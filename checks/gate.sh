@@ -4,19 +4,25 @@
 set -u
 cd "$(dirname "$0")/.."
 python3 checks/memory.py || exit
-# A proof for each processor, as far as free memory holds 5.5 GB for each, which is the most that one was seen to take.
-# Left to itself rt plans for more memory than that, and lets processors wait.
-processors=$(nproc)
-held_at_once=$(awk '/^MemAvailable:/ { print int($2 / 5500000) }' /proc/meminfo)
-jobs=$((held_at_once < processors ? held_at_once : processors))
-export RT_JOBS=$((jobs < 1 ? 1 : jobs))
 export PYTHONUNBUFFERED=1
 SECONDS=0
 passed() { printf '%d:%02d' $((SECONDS / 60)) $((SECONDS % 60)); }
-# Kit 13b sums up sources once for each path of crates.txt, which takes hours: it is run so that each sum is kept.
 case $(rt version) in
-    'rattle-kit-13b '*) run_rt() { python3 checks/rt_once.py "$@"; } ;;
-    *) run_rt() { rt "$@"; } ;;
+    'rattle-kit-13b '*)
+        # A proof for each processor, as far as free memory holds 5.5 GB for each, which is the most that one was seen to take.
+        # Left to itself this kit plans for more memory than that, and lets processors wait.
+        processors=$(nproc)
+        held_at_once=$(awk '/^MemAvailable:/ { print int($2 / 5500000) }' /proc/meminfo)
+        jobs=$((held_at_once < processors ? held_at_once : processors))
+        export RT_JOBS=$((jobs < 1 ? 1 : jobs))
+        # It sums up sources once for each path of crates.txt, which takes hours: it is run so that each sum is kept.
+        run_rt() { python3 checks/rt_once.py "$@"; }
+        ;;
+    *)
+        # Later kits give a proof the processors that no other waits for, unless RT_JOBS is set: then each has one, and the
+        # longest chain of crates takes that much longer.
+        run_rt() { rt "$@"; }
+        ;;
 esac
 run_rt ci | {
     while IFS= read -r line; do
@@ -31,7 +37,7 @@ run_rt ci | {
         ends="${ends-}${ends+, }${what/: its tests are/: its tests} $(passed)"
     done
     echo "ended at: ${ends-}"
-    echo "whole time: $(passed), $RT_JOBS proofs at a time"
+    echo "whole time: $(passed), on $(nproc) processors"
     printf '%s\n' "${last-}"
 }
 exit "${PIPESTATUS[0]}"
