@@ -1,26 +1,24 @@
 -- Numbers that are collected, and the imports that they stand for.
-use Rattle.std.proofs.Common.{◌≡◌, ℕ, zero, suc, ◌<◌, ◌+◌, ◌↔◌, ◌⊎◌, List, [], ◌∷◌, ◌++◌, length, take, Option, Some, None, slice_get, get_or, refl, sym, ap, subst, ◌∙◌, ⊎_elim, inl, inr, arith, Global, eqb, Result, Ok, Err, OnOk}
+use Rattle.std.proofs.Common.{◌≡◌, ℕ, zero, suc, ◌<◌, ◌+◌, ◌↔◌, ◌⊎◌, List, [], ◌∷◌, ◌++◌, length, take, Option, Some, None, slice_get, get_or, refl, sym, ap, subst, ◌∙◌, ⊎_elim, inl, inr, arith, Global, eqb}
 use Rattle.std.specs.Prelude.{Vec}
 use Rattle.std.specs.List.{Contains, AllZip}
 use Rattle.std.specs.List.Sorted.{IsPermutation, IsSorted}
 use Rattle.std.specs.List.{dedup}
 use Rattle.std.specs.Ordering.{nat_cmp}
-use Rattle.std.proofs.lemmas.List.Elements.{Contains-push, Contains-push_cases, Contains-append_left, Contains-get_or}
+use Rattle.std.proofs.lemmas.List.Elements.{Contains-push, Contains-push_cases, Contains-append_left, Contains-append_right, Contains-append_cases, Contains-get_or}
 use Rattle.std.proofs.lemmas.List.{take_more}
 use Rattle.std.proofs.lemmas.List.Sorted.{Contains-permutation, IsPermutation-sym}
 use Rattle.std.proofs.lemmas.List.Kept.{Contains-dedup_nat, Contains-from_dedup}
 use Rattle.std.proofs.lemmas.Map.Keys.{IsStrictlyIncreasing-dedup}
-use Rattle.std.proofs.lemmas.Option.{none-some, slice_get_within, get_or_from_slice_get}
+use Rattle.std.proofs.lemmas.Option.{none-some}
 use Rattle.gr_scan.specs.declared.piece.Piece.{Piece}
 use Rattle.gr_scan.specs.Cuts.{bytes_of}
 use Rattle.gr_scan.specs.CutText.{tokens_in}
 use Rattle.gr_scan.proofs.StringValueLemmas.{one_string_value}
-use Rattle.std.specs.List.Sorted.{IsStrictlySortedBy}
-use Rattle.gr_text.specs.Workspace.{path_cmp}
-use Rattle.gr_graph.proofs.PackagePaths.{one_number}
 use Rattle.gr_tree.specs.SourceFile.{SourceFile, FileParts, source_of}
 use Rattle.gr_graph.specs.FileImports.{import_literals, HasValue, HasPieceValue, ListsImports}
 use Rattle.gr_graph.specs.Imports.{Holds}
+use Rattle.gr_graph.specs.ImportPaths.{bytes_of_paths, HoldsPaths, IsOneOf, SomeImport}
 use Rattle.gr_graph.specs.Packages.{ImportsPath}
 use Rattle.gr_graph.specs.Rows.{AddsNumbers, HasNumber, AreImported, FileImports, SomeImports, IsRow}
 use Rattle.gr_graph.specs.declared.file_imports.FileImport.{FileImport}
@@ -37,24 +35,6 @@ adds_one P old n here only j = (
 
 pub adds_none : (P : ℕ → Type 0) (old : List ℕ) → ((j : ℕ) → P j → ⊥) → AddsNumbers P old old
 adds_none P old not j = (λ has. inl has, λ either. ⊎_elim (λ (o : Contains old j). o) (λ (p : P j). absurd (not j p)) either)
-
-pub adds_more : (P Q S : ℕ → Type 0) (a b c : List ℕ) → ((j : ℕ) → S j ↔ (P j ⊎ Q j)) → AddsNumbers P a b → AddsNumbers Q b c → AddsNumbers S a c
-adds_more P Q S a b c are first second j = (
-  λ has. ⊎_elim
-      (λ (h : Contains b j). ⊎_elim (λ (o : Contains a j). inl o) (λ (p : P j). inr ((are j).1 (inl p))) ((first j).0 h))
-      (λ (q : Q j). inr ((are j).1 (inr q)))
-      ((second j).0 has),
-  λ either. (second j).1 (⊎_elim
-      (λ (o : Contains a j). inl ((first j).1 (inl o)))
-      (λ (s : S j). ⊎_elim (λ (p : P j). inl ((first j).1 (inr p))) (λ (q : Q j). inr q) ((are j).0 s))
-      either),
-)
-
-pub adds_same : (P Q : ℕ → Type 0) (a b : List ℕ) → ((j : ℕ) → Q j ↔ P j) → AddsNumbers P a b → AddsNumbers Q a b
-adds_same P Q a b are adds j = (
-  λ has. ⊎_elim (λ (o : Contains a j). inl o) (λ (p : P j). inr ((are j).1 p)) ((adds j).0 has),
-  λ either. (adds j).1 (⊎_elim (λ (o : Contains a j). inl o) (λ (q : Q j). inr ((are j).0 q)) either),
-)
 
 pub none_held : {X : Type 0} (x : X) → Contains [] x → ⊥
 none_held x has = absurd (omega (arith, has.1))
@@ -140,27 +120,53 @@ row_is paths files found sorted row holds same order is = rw is (record {
   rising = IsStrictlyIncreasing-dedup sorted order;
 })
 
--- ---- the package of one import
-pub number_here : (paths : List (List ℕ)) (v : Vec ℕ Global) (o : Option (Vec ℕ Global)) (n : ℕ) → o ≡ Some v → slice_get paths n ≡ Some v.items → HasNumber paths n o
-number_here paths v o n is at = subst (HasNumber paths n) (sym is) at
+-- ---- the packages of some paths
+-- those of the paths that are not left were added
+abbrev pub AreLeft : List (List ℕ) → List (List ℕ) → List (List ℕ) → List ℕ → Type 0
+AreLeft paths some left row = (j : ℕ) → IsOneOf paths some j ↔ (Contains row j ⊎ IsOneOf paths left j)
 
-pub number_only : (paths : List (List ℕ)) → IsStrictlySortedBy path_cmp paths → (v : Vec ℕ Global) (o : Option (Vec ℕ Global)) (n : ℕ) → o ≡ Some v → slice_get paths n ≡ Some v.items → (j : ℕ) → HasNumber paths j o → j ≡ n
-number_only paths sorted v o n is at j other = one_number paths sorted j n v.items (subst (HasNumber paths j) is other) at
+pub left_all : (paths some : List (List ℕ)) (numbers : List ℕ) → numbers ≡ [] → AreLeft paths some some numbers
+left_all paths some numbers empty j = (λ one. inr one, λ either. ⊎_elim (λ (has : Contains numbers j). absurd (none_held j (subst (λ (l : List ℕ). Contains l j) empty has))) (λ (one : IsOneOf paths some j). one) either)
 
-pub number_none : (paths : List (List ℕ)) (v : Vec ℕ Global) (o : Option (Vec ℕ Global)) → o ≡ Some v → (Contains paths v.items → ⊥) → (j : ℕ) → HasNumber paths j o → ⊥
-number_none paths v o is none j here =
-    let at : slice_get paths j ≡ Some v.items = subst (HasNumber paths j) is here in
-    none (j, slice_get_within paths j v.items at, get_or_from_slice_get paths j v.items v.items at)
+one_later : (paths : List (List ℕ)) (path : List ℕ) (left : List (List ℕ)) (j : ℕ) → IsOneOf paths left j → IsOneOf paths (path ∷ left) j
+one_later paths path left j one = (one.0, (Contains-append_right (path ∷ []) left one.0 one.1.0, one.1.1))
 
--- ---- one more file
-pub holds_more : (R : FileParts → ℕ → Type 0) (files : List FileParts) (k : ℕ) (item : FileParts) → k < length files → item ≡ get_or files k item → (old new : List ℕ)
-    → Holds old (λ j. (f : FileParts) × Contains (take k files) f × R f j) → AddsNumbers (R item) old new
-    → Holds new (λ j. (f : FileParts) × Contains (take (k + 1) files) f × R f j)
-holds_more R files k item within is old new holds adds j = (
-  λ has. (one_more R files k item within is j).1 (⊎_elim (λ (o : Contains old j). inl ((holds j).0 o)) (λ (r : R item j). inr r) ((adds j).0 has)),
-  λ some. (adds j).1 (⊎_elim (λ w. inl ((holds j).1 w)) (λ r. inr r) ((one_more R files k item within is j).0 some)),
+one_here : (paths : List (List ℕ)) (path : List ℕ) (left : List (List ℕ)) (j : ℕ) → slice_get paths j ≡ Some path → IsOneOf paths (path ∷ left) j
+one_here paths path left j at = (path, (Contains-append_left (path ∷ []) left path (Contains-push [] path), at))
+
+one_cases : (paths : List (List ℕ)) (path : List ℕ) (left : List (List ℕ)) (j : ℕ) → IsOneOf paths (path ∷ left) j → (slice_get paths j ≡ Some path) ⊎ IsOneOf paths left j
+one_cases paths path left j one = ⊎_elim
+    (λ (first : Contains (path ∷ []) one.0). ⊎_elim
+    (λ (none : Contains [] one.0). absurd (none_held one.0 none))
+    (λ (same : path ≡ one.0). inl (one.1.1 ∙ ap Some (sym same)))
+    (Contains-push_cases [] path one.0 first))
+    (λ (later : Contains left one.0). inr (one.0, (later, one.1.1)))
+    (Contains-append_cases (path ∷ []) left one.0 one.1.0)
+
+pub left_more : (paths some : List (List ℕ)) (path : List ℕ) (left : List (List ℕ)) (old new : List ℕ) → AreLeft paths some (path ∷ left) old → AddsNumbers (λ j. slice_get paths j ≡ Some path) old new → AreLeft paths some left new
+left_more paths some path left old new are adds j = (
+  λ one. ⊎_elim
+      (λ (has : Contains old j). inl ((adds j).1 (inl has)))
+      (λ (rest : IsOneOf paths (path ∷ left) j). ⊎_elim (λ (at : slice_get paths j ≡ Some path). inl ((adds j).1 (inr at))) (λ (later : IsOneOf paths left j). inr later) (one_cases paths path left j rest))
+      ((are j).0 one),
+  λ either. (are j).1 (⊎_elim
+      (λ (has : Contains new j). ⊎_elim (λ (o : Contains old j). inl o) (λ (at : slice_get paths j ≡ Some path). inr (one_here paths path left j at)) ((adds j).0 has))
+      (λ (later : IsOneOf paths left j). inr (one_later paths path left j later))
+      either),
 )
 
-pub ok_adds : {X E : Type 0} {P Q : Type 0} (r : Result X E) → (P → Q) → OnOk r P → OnOk r Q
-ok_adds (Ok x) gives p = gives p
-ok_adds (Err e) gives p = tt
+pub left_none : (paths some : List (List ℕ)) (row : List ℕ) → AreLeft paths some [] row → Holds row (IsOneOf paths some)
+left_none paths some row are j = (
+  λ has. (are j).1 (inl has),
+  λ one. ⊎_elim (λ (has : Contains row j). has) (λ (none : IsOneOf paths [] j). absurd (none_held none.0 none.1.0)) ((are j).0 one),
+)
+
+-- the packages of the paths that files import are those that the files import
+pub numbers_held : (paths : List (List ℕ)) (files : List FileParts) (keys : List (Vec ℕ Global)) (row : List ℕ) → HoldsPaths (SomeImport files) keys → Holds row (IsOneOf paths (bytes_of_paths keys)) → Holds row (SomeImports paths files)
+numbers_held paths files keys row imports holds j = (
+  λ has.
+      let one = (holds j).0 has in
+      let some = (imports.each one.0).0 one.1.0 in
+      (some.0, some.1.0, (one.0, one.1.1, some.1.1)),
+  λ some. (holds j).1 (some.2.0, ((imports.each some.2.0).1 (some.0, (some.1, some.2.2)), some.2.1)),
+)

@@ -12,5 +12,8 @@ pub mod Filled
 pub mod Numbers
 pub mod Collected
 pub mod OneFile
+pub mod ImportedPaths
 pub mod Linked
+pub mod SameFiles
+pub mod StayingPackages
 pub mod Asked

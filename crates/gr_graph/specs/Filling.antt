@@ -1,11 +1,13 @@
 -- How packages are filled with their files.
 use Rattle.std.specs.Prelude.{◌≡◌, ℕ, List, [], ◌∷◌, ◌++◌, Some, slice_get, map}
 use Rattle.std.specs.Borrow.{Bor}
+use Rattle.std.specs.List.{Contains}
 use Rattle.std.proofs.Math.ListN.{set}
 use Rattle.gr_tree.specs.SourceFile.{FileParts}
 use Rattle.gr_graph.specs.FaultyFiles.{FaultyParts}
 use Rattle.gr_text.specs.Packages.{files_in}
 use Rattle.gr_graph.specs.Parsed.{AreParsed}
+use Rattle.gr_graph.specs.Graphs.{paths_of}
 use Rattle.gr_graph.specs.declared.package.Package.{Package}
 use Rattle.gr_graph.specs.declared.parsed.Parsed.{Parsed}
 use Rattle.gr_graph.specs.declared.parsed.Parsed.TheVariants.{Sound, Faulty}
@@ -27,8 +29,8 @@ pub record AddsFile (number : ℕ) (file : Parsed) (old new : List Package) : Ty
   pub with_file : IsWithFile file before after
   pub new_is : new ≡ set old number after
 
--- with the files that are left, parsed, each package has all its files
-abbrev pub AreFilled : List (List ℕ × List ℕ) → List (List ℕ × List ℕ) → List Package → Type 0
-AreFilled all left packages = (i : ℕ) (p : Package) → slice_get packages i ≡ Some p
+-- A package whose path is not among those of the packages that stay has, with the files that are left, all its files.
+abbrev pub AreFilled : List Package → List (List ℕ × List ℕ) → List (List ℕ × List ℕ) → List Package → Type 0
+AreFilled staying all left packages = (i : ℕ) (p : Package) → slice_get packages i ≡ Some p → (Contains (paths_of staying) p.path.items → ⊥)
     → (ts : List FileParts) (fs : List FaultyParts) → AreParsed (files_in p.path.items left) ts fs
     → AreParsed (files_in p.path.items all) (p.trees.items ++ ts) (p.faulty.items ++ fs)

@@ -4,9 +4,11 @@ pub mod Search
 pub mod Closures
 pub mod Examples
 pub mod FileImports
+pub mod ImportPaths
 pub mod Packages
 pub mod FaultyFiles
 pub mod Parsed
 pub mod Graphs
 pub mod Rows
 pub mod Filling
+pub mod Staying

@@ -1,11 +1,13 @@
 //! The graph of a workspace: its packages with their parsed files, and which imports which.
 ghost use Rattle.std.specs.Prelude.{◌≡◌, ◌<◌, ℕ, length, IfOk, MatchOption, Some, slice_get};
 ghost use Rattle.std.specs.List.{Contains};
-ghost use Rattle.std.specs.List.Sorted.{IsStrictlyIncreasing, IsStrictlySortedBy};
-ghost use Rattle.gr_text.specs.Workspace.{path_cmp};
+ghost use Rattle.std.specs.List.Sorted.{IsStrictlyIncreasing};
 ghost use Rattle.gr_graph.specs.Imports.{imports_of};
 ghost use Rattle.gr_text.specs.Packages.{package_paths};
 ghost use Rattle.gr_graph.specs.Packages.{PackageImports, IsInClosure, AreLinksOf};
+ghost use Rattle.gr_graph.specs.Filling.{names};
+ghost use Rattle.gr_graph.specs.Staying.{DiffersOnlyIn, HasFiles};
+ghost use Rattle.gr_graph.specs.declared.package.Package.{Package};
 ghost use Rattle.gr_graph.specs.Graphs.{
   paths_of,
   IsPackage,
@@ -17,12 +19,15 @@ ghost use Rattle.gr_graph.specs.Graphs.{
 };
 
 use crate::import_links::ImportLinks;
-use crate::package::{Package, number_of};
+use crate::package::Package;
 use crate::packages::packages;
 use crate::rows::rows;
 use crate::shared_links::SharedLinks;
+use crate::shared_package::{SharedPackage, number_of};
+use crate::staying::packages_outside;
 use gr_text::Files;
 use std::alloc::{AllocError, Global};
+use std::collections::BTreeSet;
 use std::marker::Model;
 use std::sync::Arc;
 
@@ -30,7 +35,7 @@ use std::sync::Arc;
 #[derive(Drop)]
 struct Parts {
     files: Files,
-    packages: Vec<Package>,
+    packages: Vec<SharedPackage>,
     links: SharedLinks,
 }
 
@@ -71,7 +76,8 @@ impl Graph {
         ensures { IfOk result (λ graph. graph ≡ files) }
     {
         let none = Vec::new(alloc);
-        Graph::behind(alloc, &none, None, files)
+        let packages = packages(alloc, &none, &none, &files)?;
+        Graph::made(alloc, None, files, packages)
     }
 
     /// The graph of other files. It parses only those that the graph before does not have with the same text.
@@ -79,21 +85,40 @@ impl Graph {
         ensures { IfOk result (λ graph. graph ≡ files) }
     {
         let before = &before.parts;
-        Graph::behind(alloc, &before.packages, Some(&before.links), files)
+        let none = Vec::new(alloc);
+        let packages = packages(alloc, &before.packages, &none, &files)?;
+        Graph::made(alloc, Some(&before.links), files, packages)
     }
 
-    /// The graph of some files. What is among the packages before is not parsed again, and what is asked of the links
-    /// before is not found again where no link changed.
-    fn behind(
+    /// The graph of other files, whose Go files differ from those of the graph before only in some folders. Packages at
+    /// other paths are shared, and only files in these folders are looked at, and parsed where their text is new.
+    pub fn changed(
         alloc: Global,
-        before: &[Package],
-        links_before: Option<&SharedLinks>,
+        before: &Graph,
         files: Files,
+        folders: &BTreeSet<&[u8]>,
     ) -> Result<Graph, AllocError>
-        requires { IsStrictlySortedBy path_cmp (paths_of before.now) }
+        requires { DiffersOnlyIn (names folders.now.keys) before.now files }
         ensures { IfOk result (λ graph. graph ≡ files) }
     {
-        let packages = packages(alloc, before, &files)?;
+        let before = &before.parts;
+        let staying = packages_outside(alloc, &before.packages, folders)?;
+        let packages = packages(alloc, &before.packages, &staying, &files)?;
+        Graph::made(alloc, Some(&before.links), files, packages)
+    }
+
+    /// The graph of some files from their packages. What is asked of the links before is not found again where no link
+    /// changed.
+    fn made(
+        alloc: Global,
+        links_before: Option<&SharedLinks>,
+        files: Files,
+        packages: Vec<SharedPackage>,
+    ) -> Result<Graph, AllocError>
+        requires paths { paths_of packages.items ≡ package_paths files }
+        requires files { (i : ℕ) (p : Package) → slice_get packages.items i ≡ Some p → HasFiles files p }
+        ensures { IfOk result (λ graph. graph ≡ files) }
+    {
         let links = SharedLinks::of(alloc, links_before, rows(alloc, &packages)?)?;
         let parts = Parts {
             files,
@@ -131,7 +156,7 @@ impl Graph {
         requires { number < length (package_paths self.now) }
         ensures { IsPackage self.now number result.now }
     {
-        &self.parts.packages[number]
+        self.parts.packages[number].package()
     }
 
     /// Which packages import which, by number.

@@ -8,8 +8,8 @@ ghost use Rattle.gr_graph.specs.Parsed.{IsFaulty, IsParsedAs};
 ghost use Rattle.gr_graph.specs.Graphs.{paths_of};
 
 use crate::faulty_file::FaultyFile;
-use crate::package::{Package, number_of};
 use crate::parsed::{Parsed, parse};
+use crate::shared_package::{SharedPackage, number_of};
 use gr_text::{FileText, Path};
 use gr_tree::FileTree;
 use std::alloc::{AllocError, Global};
@@ -51,7 +51,11 @@ fn kept_fault<'a>(faulty: &'a [FaultyFile], path: &Path, text: &FileText) -> Opt
 }
 
 /// What a file with this path and text was parsed as, if it is among the packages.
-fn kept(before: &[Package], path: &Path, text: &FileText) -> Result<Option<Parsed>, AllocError>
+fn kept(
+    before: &[SharedPackage],
+    path: &Path,
+    text: &FileText,
+) -> Result<Option<Parsed>, AllocError>
     requires { IsStrictlySortedBy path_cmp (paths_of before.now) }
     ensures { IfOk result (λ kept. IfSome kept (IsParsedAs path.now text.now)) }
 {
@@ -59,11 +63,12 @@ fn kept(before: &[Package], path: &Path, text: &FileText) -> Result<Option<Parse
         Some(number) => number,
         None => return Ok(None),
     };
-    if let Some(tree) = kept_tree(&before[number].trees, path, text) {
+    let package = before[number].package();
+    if let Some(tree) = kept_tree(&package.trees, path, text) {
         let tree = tree.clone()?;
         return Ok(Some(Parsed::Sound(tree)));
     }
-    if let Some(file) = kept_fault(&before[number].faulty, path, text) {
+    if let Some(file) = kept_fault(&package.faulty, path, text) {
         let file = file.clone()?;
         return Ok(Some(Parsed::Faulty(file)));
     }
@@ -73,7 +78,7 @@ fn kept(before: &[Package], path: &Path, text: &FileText) -> Result<Option<Parse
 /// Parses a file, unless the same text was parsed before at the same path.
 pub(crate) fn parse_unless_kept(
     alloc: Global,
-    before: &[Package],
+    before: &[SharedPackage],
     path: &Path,
     text: &FileText,
 ) -> Result<Parsed, AllocError>

@@ -6,6 +6,7 @@ mod faulty_file;
 mod file_imports;
 mod graph;
 mod import_links;
+mod import_paths;
 mod importers;
 mod kept;
 mod order;
@@ -16,6 +17,8 @@ mod parsed;
 mod rows;
 mod search;
 mod shared_links;
+mod shared_package;
+mod staying;
 
 pub use faulty_file::FaultyFile;
 pub use file_imports::{FileImport, read_imports};

@@ -1,4 +1,4 @@
-//! A package with its parsed files, and the number of a package.
+//! A package with its parsed files, and the number of one that is being made.
 ghost use Rattle.std.specs.Prelude.{◌≡◌, Some, slice_get, MatchOption};
 ghost use Rattle.std.specs.List.{Contains};
 ghost use Rattle.std.specs.List.Sorted.{IsStrictlySortedBy};
@@ -16,8 +16,8 @@ pub struct Package {
     pub faulty: Vec<FaultyFile>,
 }
 
-/// The number of the package that has a path.
-pub(crate) fn number_of(packages: &[Package], path: &[u8]) -> Option<usize>
+/// The number of the package that has a path, among packages that are being made.
+pub(crate) fn draft_number(packages: &[Package], path: &[u8]) -> Option<usize>
     requires { IsStrictlySortedBy path_cmp (paths_of packages.now) }
     ensures { MatchOption result (Contains (paths_of packages.now) path.now → ⊥) (λ number. slice_get (paths_of packages.now) number ≡ Some path.now) }
 {

@@ -1,18 +1,19 @@
 //! The packages of a workspace with their files, parsed.
-ghost use Rattle.std.specs.Prelude.{◌≡◌, ◌<◌, ℕ, length, vec_len, IfOk, OnOk, Some, slice_get};
+ghost use Rattle.std.specs.Prelude.{◌≡◌, ◌<◌, ℕ, length, vec_len, IfOk, OnOk, Some, slice_get, MatchBool};
 ghost use Rattle.std.specs.List.Sorted.{IsStrictlySortedBy};
-ghost use Rattle.gr_text.specs.Workspace.{path_cmp};
-ghost use Rattle.gr_text.specs.Packages.{package_paths, package_files};
-ghost use Rattle.gr_graph.specs.Parsed.{AreParsed};
+ghost use Rattle.gr_text.specs.Workspace.{path_cmp, Workspace};
+ghost use Rattle.gr_text.specs.Packages.{package_paths};
+ghost use Rattle.gr_graph.specs.Staying.{HasFiles, IsOfNone, IsOfOne};
 ghost use Rattle.gr_graph.specs.Filling.{AddsFile, names};
 ghost use Rattle.gr_graph.specs.Graphs.{paths_of, IsEmpty};
 ghost use Rattle.gr_graph.specs.declared.package.Package.{Package};
-ghost use Rattle.std.specs.List.{All};
+ghost use Rattle.std.specs.List.{All, Contains};
 
 use crate::kept::parse_unless_kept;
-use crate::package::{Package, number_of};
+use crate::package::{Package, draft_number};
 use crate::parsed::Parsed;
-use gr_text::Files;
+use crate::shared_package::{SharedPackage, number_of};
+use gr_text::{Files, Path};
 use std::alloc::{AllocError, Global};
 use std::collections::BTreeSet;
 
@@ -64,24 +65,71 @@ fn add_file(packages: &mut Vec<Package>, number: usize, file: Parsed) -> Result<
     }
 }
 
-/// The packages of some files. What is among the packages before is not parsed again.
-pub(crate) fn packages(
+/// Whether a file is a Go file of none of some packages.
+fn is_of_none(packages: &[SharedPackage], path: &Path) -> bool
+    requires { IsStrictlySortedBy path_cmp (paths_of packages.now) }
+    ensures { MatchBool result (IsOfNone packages.now path.now) (IsOfOne packages.now path.now) }
+{
+    path.is_go() && number_of(packages, path.folder()).is_none()
+}
+
+/// The packages of some files, but only those that do not stay have their files. What is among the packages before is not
+/// parsed again.
+fn drafts(
     alloc: Global,
-    before: &[Package],
+    before: &[SharedPackage],
+    staying: &[SharedPackage],
     files: &Files,
 ) -> Result<Vec<Package>, AllocError>
-    requires { IsStrictlySortedBy path_cmp (paths_of before.now) }
-    ensures paths { IfOk result (λ packages. paths_of packages.items ≡ package_paths files.now) }
-    ensures files { IfOk result (λ packages. (i : ℕ) (p : Package) → slice_get packages.items i ≡ Some p → AreParsed (package_files files.now p.path.items) p.trees.items p.faulty.items) }
+    requires before { IsStrictlySortedBy path_cmp (paths_of before.now) }
+    requires staying { IsStrictlySortedBy path_cmp (paths_of staying.now) }
+    ensures paths { IfOk result (λ drafts. paths_of drafts.items ≡ package_paths files.now) }
+    ensures files { IfOk result (λ drafts. (i : ℕ) (p : Package) → slice_get drafts.items i ≡ Some p → (Contains (paths_of staying.now) p.path.items → ⊥) → HasFiles files.now p) }
 {
-    let mut packages = empty_packages(alloc, files)?;
+    let mut drafts = empty_packages(alloc, files)?;
     for (path, text) in files.iter() {
-        if path.is_go() {
-            if let Some(number) = number_of(&packages, path.folder()) {
+        if is_of_none(staying, path) {
+            if let Some(number) = draft_number(&drafts, path.folder()) {
                 let file = parse_unless_kept(alloc, before, path, text)?;
-                add_file(&mut packages, number, file)?;
+                add_file(&mut drafts, number, file)?;
             }
         }
+    }
+    Ok(drafts)
+}
+
+/// The package that stays, if one has the path of the draft, and otherwise the draft.
+fn staying_or(
+    alloc: Global,
+    staying: &[SharedPackage],
+    draft: Package,
+) -> Result<SharedPackage, AllocError>
+    requires { IsStrictlySortedBy path_cmp (paths_of staying.now) }
+    ensures path { IfOk result (λ shared. shared.path.items ≡ draft.path.items) }
+    ensures files { IfOk result (λ shared. (w : Workspace) → All (HasFiles w) staying.now → ((Contains (paths_of staying.now) draft.path.items → ⊥) → HasFiles w draft) → HasFiles w shared) }
+{
+    match number_of(staying, &draft.path) {
+        Some(number) => staying[number].clone(),
+        None => SharedPackage::new(alloc, draft),
+    }
+}
+
+/// The packages of some files. Those that stay are shared, and what is among the packages before is not parsed again.
+pub(crate) fn packages(
+    alloc: Global,
+    before: &[SharedPackage],
+    staying: &[SharedPackage],
+    files: &Files,
+) -> Result<Vec<SharedPackage>, AllocError>
+    requires before { IsStrictlySortedBy path_cmp (paths_of before.now) }
+    requires staying { IsStrictlySortedBy path_cmp (paths_of staying.now) }
+    requires files { All (HasFiles files.now) staying.now }
+    ensures paths { IfOk result (λ packages. paths_of packages.items ≡ package_paths files.now) }
+    ensures files { IfOk result (λ packages. (i : ℕ) (p : Package) → slice_get packages.items i ≡ Some p → HasFiles files.now p) }
+{
+    let mut packages = Vec::new(alloc);
+    for draft in drafts(alloc, before, staying, files)? {
+        packages.push(staying_or(alloc, staying, draft)?)?;
     }
     Ok(packages)
 }

@@ -3,6 +3,7 @@
 
 mod change;
 mod fits;
+mod folders;
 mod plan;
 mod snapshot;
 

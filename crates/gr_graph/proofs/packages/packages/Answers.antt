@@ -1,61 +1,44 @@
--- One more file, and all of them at the end.
-use Rattle.std.proofs.Common.{◌≡◌, ◌<◌, ℕ, List, length, slice_get, Some, ap, sym, ◌∙◌, subst, arith}
-use Rattle.std.specs.FinMap as map
-use Rattle.std.specs.Map.Iter.{deref_pair}
-use Rattle.std.specs.List.Sorted.{IsStrictlySortedBy}
-use Rattle.std.proofs.lemmas.Map.Iter.{rest_all, rest_more}
-use Rattle.std.proofs.lemmas.Option.{slice_get_within}
-use Rattle.std.proofs.lemmas.List.{length-map}
-use Rattle.gr_text.specs.Path.{folder}
-use Rattle.gr_text.specs.Workspace.{path_cmp}
+-- One more package, and all of them at the end.
+use Rattle.std.proofs.Common.{◌≡◌, ℕ, List, [], ◌∷◌, ◌++◌, length, Some, slice_get, ap, sym, subst, ◌∙◌}
+use Rattle.std.proofs.lemmas.Iterator.Adapters.{YieldsList-from_vec}
+use Rattle.std.proofs.lemmas.Iterator.Consumers.{YieldsList-turn, YieldsList-end}
+use Rattle.std.proofs.lemmas.List.{map_push, map-id}
+use Rattle.std.proofs.lemmas.List.Elements.{All-push}
+use Rattle.std.proofs.lemmas.Option.{slice_get-get_or, slice_get_within, get_or_from_slice_get}
 use Rattle.gr_graph.specs.Graphs.{paths_of}
-use Rattle.gr_graph.specs.Filling.{AreFilled}
+use Rattle.gr_graph.specs.Staying.{HasFiles}
 use Rattle.gr_graph.specs.declared.package.Package.{Package}
-use Rattle.gr_graph.proofs.PackagePaths.{AreThere, all_there, paths_sorted}
-use Rattle.gr_graph.proofs.Filled.{filled_start, filled_add, filled_end, paths_added}
-use Rattle.gr_text.specs.Packages.{package_paths}
 use Rattle.gr_graph.proofs.packages.packages.Goals as goal
 
-pub loop-path-init : goal.loop-path-init
-loop-path-init c =
-    let begun : map.entries c.args.files.now ≡ c.into_iter-path-iterator.result = sym (c.into_iter-path-iterator.ensures.into_iter_gives ∙ c.iter-path-items.ensures.files) in
+pub loop-draft-preserved : goal.loop-draft-preserved
+loop-draft-preserved c =
+    let drafts = c.in_ok-draft-items.draft-items.items in
+    let passed = c.loop-draft.yielded in
+    let draft = c.in-Some.draft in
+    let begun = c.into_iter-draft-iterator.ensures.into_iter_gives in
+    let gives = YieldsList-from_vec {s = c.into_iter-draft-iterator.result} drafts begun.0 (begun.1 ∙ c.in_ok-draft-items.draft-items.ok.0) in
+    let turn = YieldsList-turn gives passed c.loop-draft.draft-iterator c.loop-draft.yielded_by c.next.result c.next.new.self draft c.in-Some.is c.next.ensures.steps in
+    let at : slice_get drafts (length passed) ≡ Some draft = slice_get-get_or drafts (length passed) draft turn.0 ∙ ap Some (sym turn.1) in
+    let new : Package = c.in_ok-staying_or.field-0 in
+    let old = c.loop-draft.packages.items in
+    let path : Package → List ℕ = λ p. p.path.items in
+    rw c.in_ok-push.ensures.items (record {
+      paths = map_push path old new ∙ ap (λ (l : List (List ℕ)). l ++ path new ∷ []) c.loop-draft.invariant.paths
+          ∙ ap (λ (q : List ℕ). paths_of passed ++ q ∷ []) c.in_ok-staying_or.ensures.path ∙ sym (map_push path passed draft);
+      files = All-push (HasFiles c.args.files.now) old new c.loop-draft.invariant.files
+          (c.in_ok-staying_or.ensures.files c.args.files.now c.requires.files (λ apart. c.in_ok-draft-items.ensures.files (length passed) draft at apart));
+    })
+
+pub returns : goal.returns
+returns c =
+    let drafts = c.in_ok-draft-items.draft-items.items in
+    let passed = c.loop-draft.yielded in
+    let begun = c.into_iter-draft-iterator.ensures.into_iter_gives in
+    let gives = YieldsList-from_vec {s = c.into_iter-draft-iterator.result} drafts begun.0 (begun.1 ∙ c.in_ok-draft-items.draft-items.ok.0) in
+    let end = YieldsList-end gives passed c.loop-draft.draft-iterator c.loop-draft.yielded_by c.next.result c.next.new.self c.in-None.is c.next.ensures.steps in
+    let all : passed ≡ drafts = sym (map-id passed) ∙ end.0 in
+    let new = c.loop-draft.packages.items in
     record {
-      paths = c.in_ok-packages.ensures.paths;
-      filled = subst (λ es. AreFilled (map.entries c.args.files.now) es c.in_ok-packages.packages.items) begun (filled_start (map.entries c.args.files.now) c.in_ok-packages.packages.items c.in_ok-packages.ensures.empty);
-      there = subst (AreThere (package_paths c.args.files.now)) begun (all_there c.args.files.now);
+      paths = c.loop-draft.invariant.paths ∙ ap paths_of all ∙ c.in_ok-draft-items.ensures.paths;
+      files = λ i p at. subst (HasFiles c.args.files.now) (get_or_from_slice_get new i p p at) (c.loop-draft.invariant.files i p (slice_get_within new i p at));
     }
-
-pub number_of-requires : goal.number_of-requires
-number_of-requires c =
-    let paths = ap paths_of c.deref.ensures.value ∙ c.loop-path.invariant.paths in
-    rw paths (paths_sorted c.args.files.now)
-
-pub add_file-requires : goal.add_file-requires
-add_file-requires c =
-    let within : c.in-Some-number_of.number < length (paths_of c.deref.result.now) = slice_get_within (paths_of c.deref.result.now) _ _ c.in-Some-number_of.ensures in
-    let len = length-map c.deref.result.now (λ (p : Package). p.path.items) in
-    let value = ap length c.deref.ensures.value in
-    omega (arith, c.loop-path.packages.ok.0)
-
-pub loop-path-preserved-in-Continue-branch-3 : goal.loop-path-preserved-in-Continue-branch-3
-loop-path-preserved-in-Continue-branch-3 c =
-    let left = rest_more deref_pair _ _ _ (c.in-Some.path, c.in-Some.text) c.in-Some.is c.next.ensures.steps in
-    let all = map.entries c.args.files.now in
-    let old = c.loop-path.packages.items in
-    let e : List ℕ × List ℕ = (c.in-Some.path.now, c.in-Some.text.now) in
-    let there = subst (AreThere (package_paths c.args.files.now)) left c.loop-path.invariant.there in
-    let sorted : IsStrictlySortedBy path_cmp (paths_of old) = rw c.loop-path.invariant.paths (paths_sorted c.args.files.now) in
-    let adds = c.in_ok-add_file.ensures in
-    let at : slice_get (paths_of old) c.in-Some-number_of.number ≡ Some (folder e.0) = ap (λ ps. slice_get (paths_of ps) c.in-Some-number_of.number) (sym c.deref.ensures.value) ∙ c.in-Some-number_of.ensures ∙ ap Some c.folder.ensures in
-    record {
-      paths = paths_added _ _ _ _ adds ∙ c.loop-path.invariant.paths;
-      filled = filled_add all e c.next.new.self old c.add_file.new.packages.items c.in-Some-number_of.number c.in_ok-file.file sorted (sym c.is_go.ensures ∙ c.if-is_go.true) at adds c.in_ok-file.ensures
-          (subst (λ es. AreFilled all es old) left c.loop-path.invariant.filled);
-      there = there.1;
-    }
-
-pub returns-clause-files : goal.returns-clause-files
-returns-clause-files c =
-    let none = rest_all deref_pair _ _ _ c.in-None.is c.next.ensures.steps in
-    let all = map.entries c.args.files.now in
-    filled_end all c.loop-path.packages.items (subst (λ es. AreFilled all es c.loop-path.packages.items) none c.loop-path.invariant.filled)

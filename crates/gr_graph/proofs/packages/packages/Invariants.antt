@@ -1,15 +1,12 @@
--- With the files that are left each package has all its files, and each folder that is left is a package.
+-- The packages of the drafts that were passed.
 use Rattle.std.proofs.Common.{◌≡◌}
-use Rattle.std.specs.FinMap as map
-use Rattle.gr_text.specs.Packages.{package_paths}
-use Rattle.gr_graph.specs.Filling.{AreFilled}
+use Rattle.std.specs.List.{All}
 use Rattle.gr_graph.specs.Graphs.{paths_of}
-use Rattle.gr_graph.proofs.PackagePaths.{AreThere}
+use Rattle.gr_graph.specs.Staying.{HasFiles}
 use Rattle.gr_graph.proofs.packages.packages.Given as goal
 
-abbrev pub invariant-loop-path : goal.invariant-loop-path
-invariant-loop-path l = record {
-  paths : paths_of l.packages.items ≡ package_paths l.files;
-  filled : AreFilled (map.entries l.files) l.path-iterator l.packages.items;
-  there : AreThere (package_paths l.files) l.path-iterator;
+abbrev pub invariant-loop-draft : goal.invariant-loop-draft
+invariant-loop-draft l = record {
+  paths : paths_of l.packages.items ≡ paths_of l.yielded;
+  files : All (HasFiles l.files) l.packages.items;
 }

@@ -15,6 +15,6 @@ loop-package-preserved c =
     let item = c.package-item.result in
     let row : List ℕ = c.in_ok-row_of.field-0 in
     let R : Package → List ℕ → Type 0 = λ p row. IsRow (paths_of all) p.trees.items row in
-    let here : R item row = subst (λ ts. IsRow (paths_of all) ts row) c.deref.ensures.value c.in_ok-row_of.ensures in
+    let here : R item row = c.in_ok-row_of.ensures in
     rw c.in_ok-push.ensures.items (subst (λ ps. AllZip R ps (c.loop-package.rows.items ++ row ∷ [])) (sym (take_more all k item c.loop-package-test.true))
     (zip_push R (take k all) c.loop-package.rows.items (get_or all k item) row c.loop-package.invariant (subst (λ p. R p row) c.package-item.is here)))

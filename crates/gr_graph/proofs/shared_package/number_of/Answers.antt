@@ -2,7 +2,7 @@
 use Rattle.std.proofs.Common.{rules}
 use Rattle.gr_graph.proofs.Numbers.{found_is, none_is, search_cmp}
 use Rattle.std.proofs.lemmas.Fn.{always_returns_same}
-use Rattle.gr_graph.proofs.package.number_of.Goals as goal
+use Rattle.gr_graph.proofs.shared_package.number_of.Goals as goal
 
 pub returns-in-Ok : goal.returns-in-Ok
 returns-in-Ok c = found_is c.args.packages.now c.args.path.now c.in-Ok.number c.in-Ok.ensures.bound

@@ -6,21 +6,21 @@ use Rattle.gr_graph.specs.Rows.{IsRow}
 use Rattle.gr_graph.specs.declared.package.Package.{Package}
 use Rattle.gr_graph.proofs.PackagePaths.{paths_sorted}
 use Rattle.gr_graph.proofs.Linked.{are_linked, graph_is}
-use Rattle.gr_graph.proofs.graph.Graph.behind.Goals as goal
+use Rattle.gr_graph.proofs.graph.Graph.made.Goals as goal
 
 pub rows-requires : goal.rows-requires
 rows-requires c =
-    let paths = ap paths_of c.deref.ensures.value ∙ c.in_ok-packages.ensures.paths in
+    let paths = ap paths_of c.deref.ensures.value ∙ c.requires.paths in
     rw paths (paths_sorted c.args.files)
 
 pub of-requires : goal.of-requires
 of-requires c =
-    let ps = c.in_ok-packages.packages.items in
+    let ps = c.args.packages.items in
     let rows = subst (λ (qs : List Package). AllZip (λ p row. IsRow (paths_of qs) p.trees.items row) qs c.in_ok-rows.field-0.items) c.deref.ensures.value c.in_ok-rows.ensures in
-    are_linked c.args.files ps c.in_ok-rows.field-0.items c.in_ok-packages.ensures.paths c.in_ok-packages.ensures.files rows
+    are_linked c.args.files ps c.in_ok-rows.field-0.items c.requires.paths c.requires.files rows
 
 pub invariant_of-result : goal.invariant_of-result
 invariant_of-result c =
-    let ps = c.in_ok-packages.packages.items in
+    let ps = c.args.packages.items in
     let rows = subst (λ (qs : List Package). AllZip (λ p row. IsRow (paths_of qs) p.trees.items row) qs c.in_ok-rows.field-0.items) c.deref.ensures.value c.in_ok-rows.ensures in
-    rw (c.in_ok-new.ensures.ok, c.in_ok-links.ensures) (graph_is c.args.files ps c.in_ok-rows.field-0.items c.in_ok-packages.ensures.paths c.in_ok-packages.ensures.files rows)
+    rw (c.in_ok-new.ensures.ok, c.in_ok-links.ensures) (graph_is c.args.files ps c.in_ok-rows.field-0.items c.requires.paths c.requires.files rows)

@@ -1,0 +1,96 @@
+//! Packages that several graphs share.
+ghost use Rattle.std.specs.Prelude.{◌≡◌, ◌↔◌, IfOk, Some, slice_get, MatchOption};
+ghost use Rattle.std.specs.List.{Contains};
+ghost use Rattle.std.specs.List.Sorted.{IsStrictlySortedBy};
+ghost use Rattle.gr_text.specs.Workspace.{path_cmp};
+ghost use Rattle.gr_graph.specs.Graphs.{paths_of};
+ghost use Rattle.gr_graph.specs.ImportPaths.{HoldsPaths, SomeImport};
+
+use crate::import_paths::import_paths;
+use crate::package::Package;
+use std::alloc::{AllocError, Global};
+use std::collections::BTreeSet;
+use std::marker::Model;
+use std::sync::Arc;
+
+/// A package with the paths that its files import.
+#[derive(Drop)]
+struct PackageParts {
+    package: Package,
+    imports: BTreeSet<Vec<u8>>,
+}
+
+/// A package that no longer changes. A clone shares it.
+#[derive(Drop)]
+pub(crate) struct SharedPackage {
+    parts: Arc<PackageParts, Global>,
+}
+
+impl Model for SharedPackage {
+    ghost use Rattle.std.specs.Arc.{arc_value};
+    ghost use Rattle.gr_graph.specs.ImportPaths.{HoldsPaths, SomeImport};
+    ghost use Rattle.gr_graph.specs.declared.package.Package.{Package};
+    ghost use Rattle.gr_graph.specs.contracts.package.Package.{the_row};
+
+    ghost Value = { Package };
+
+    ghost coded = { the_row.coded };
+
+    ghost view = { λ a. (arc_value a.parts).package };
+
+    ghost invariant = { λ a. HoldsPaths (SomeImport (arc_value a.parts).package.trees.items) (arc_value a.parts).imports.keys };
+}
+
+impl SharedPackage {
+    /// Reads what the files import.
+    pub(crate) fn new(alloc: Global, whole: Package) -> Result<SharedPackage, AllocError>
+        ensures { IfOk result (λ shared. shared ≡ whole) }
+    {
+        let imports = import_paths(alloc, &whole.trees)?;
+        let parts = PackageParts {
+            package: whole,
+            imports,
+        };
+        let parts = Arc::new(alloc, parts)?;
+        Ok(SharedPackage { parts })
+    }
+
+    pub(crate) fn package(&self) -> &Package
+        ensures { result.now ≡ self.now }
+    {
+        &self.parts.package
+    }
+
+    pub(crate) fn path(&self) -> &[u8]
+        ensures { result.now ≡ self.now.path.items }
+    {
+        &self.parts.package.path
+    }
+
+    /// The paths that the files import.
+    pub(crate) fn imports(&self) -> &BTreeSet<Vec<u8>>
+        ensures { HoldsPaths (SomeImport self.now.trees.items) result.now.keys }
+    {
+        &self.parts.imports
+    }
+}
+
+impl Clone for SharedPackage {
+    ghost is_clone = { λ shared copy. copy ≡ shared };
+
+    fn clone(&self) -> Result<SharedPackage, AllocError> {
+        let parts = Arc::try_clone(&self.parts)?;
+        Ok(SharedPackage { parts })
+    }
+}
+
+/// The number of the package that has a path.
+pub(crate) fn number_of(packages: &[SharedPackage], path: &[u8]) -> Option<usize>
+    requires { IsStrictlySortedBy path_cmp (paths_of packages.now) }
+    ensures { MatchOption result (Contains (paths_of packages.now) path.now → ⊥) (λ number. slice_get (paths_of packages.now) number ≡ Some path.now) }
+{
+    match packages.binary_search_by(|package| package.path().cmp(path)) {
+        Ok(number) => Some(number),
+        Err(_) => None,
+    }
+}
