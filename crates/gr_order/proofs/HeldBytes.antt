@@ -198,11 +198,14 @@ source_at [] i f at = absurd (none-some f at)
 source_at (g ∷ gs) zero f at = ap (λ (x : FileParts). Some (source_of x)) (same_Some g f at)
 source_at (g ∷ gs) (suc i) f at = source_at gs i f at
 
+pub source_file_at : (files : List FileParts) → AreSourceFiles files → (i : ℕ) (t : FileParts) → slice_get files i ≡ Some t → IsSourceFile (source_of t)
+source_file_at [] w i t is = absurd (none-some t is)
+source_file_at (x ∷ xs) w zero t is =
+    subst (λ (y : FileParts). IsSourceFile (source_of y)) (same_Some x t is) (All-head (λ (g : FileParts). IsSourceFile (source_of g)) x xs w)
+source_file_at (x ∷ xs) w (suc i) t is = source_file_at xs (All-tail (λ (g : FileParts). IsSourceFile (source_of g)) x xs w) i t is
+
 pub cut_at : (files : List FileParts) → AreSourceFiles files → (i : ℕ) (f : FileParts) → slice_get files i ≡ Some f → IsCut f.cut.text f.cut.pieces
-cut_at [] w i f at = absurd (none-some f at)
-cut_at (g ∷ gs) w zero f at = subst (λ (x : FileParts). IsCut x.cut.text x.cut.pieces) (same_Some g f at)
-    (All-head (λ (x : FileParts). IsSourceFile (source_of x)) g gs w).is_cut
-cut_at (g ∷ gs) w (suc i) f at = cut_at gs (All-tail (λ (x : FileParts). IsSourceFile (source_of x)) g gs w) i f at
+cut_at files w i f at = (source_file_at files w i f at).is_cut
 
 pub one_begins : (files : List FileParts) → AreSourceFiles files → HaveOwnPaths (map source_of files) → (path : List ℕ) (offset u v : ℕ) →
     u < length (scoped files).sites → v < length (scoped files).sites →

@@ -4,6 +4,8 @@ pub mod CoveredExpressions
 pub mod CoveredStatements
 pub mod CoveredFiles
 pub mod Covering
+pub mod Elements
+pub mod FileIdentifiers
 pub mod Links
 pub mod Ordered
 pub mod Roles

@@ -28,7 +28,9 @@ use Rattle.gr_order.specs.Bytes.{HoldsByte, AreCut, HaveOwnPaths}
 use Rattle.gr_order.proofs.HeldBytes.{less_differs, one_index, cut_at, numbered_files, one_holds}
 use Rattle.gr_order.proofs.Ordered.{package_ordered, named_ordered}
 
-abbrev entry_cmp : List ℕ × List ℕ → List ℕ × List ℕ → Ordering
+-- the files of a package are in order
+
+abbrev pub entry_cmp : List ℕ × List ℕ → List ℕ × List ℕ → Ordering
 entry_cmp d e = path_cmp d.0 e.0
 
 is_true : (b : Bool) → T b → b ≡ true
@@ -49,7 +51,7 @@ unfolding IsStrictlySortedBy
 sorted_entries [] h = tt
 sorted_entries (e ∷ es) h = let b = and_parts _ _ h in (below_entries e es b.0, sorted_entries es b.1)
 
-files_sorted : (w : Workspace) (p : List ℕ) → IsStrictlySortedBy entry_cmp (package_files w p)
+pub files_sorted : (w : Workspace) (p : List ℕ) → IsStrictlySortedBy entry_cmp (package_files w p)
 files_sorted w p = IsStrictlySortedBy-filter entry_cmp (λ e. is_of_package p e.0) (entries w) (sorted_entries (entries w) (is_true _ (entries_sorted w)))
 
 abbrev paths_of : List FileParts → List (List ℕ)
@@ -80,7 +82,7 @@ pub package_sources : (w : Workspace) (path : List ℕ) (ts : List FileParts) �
 package_sources w path ts parsed = source_files parsed
 
 -- a file of a list, behind what it stands for
-part_at : (ts : List FileParts) (i : ℕ) (s : SourceFile) → slice_get (map source_of ts) i ≡ Some s → (t : FileParts) ×
+pub part_at : (ts : List FileParts) (i : ℕ) (s : SourceFile) → slice_get (map source_of ts) i ≡ Some s → (t : FileParts) ×
     ((slice_get ts i ≡ Some t) × (source_of t ≡ s))
 part_at [] i s at = absurd (none-some s at)
 part_at (t ∷ ts) zero s at = (t, (refl, same_Some (source_of t) s at))

@@ -30,7 +30,9 @@ use Rattle.gr_scope.proofs.NamedSites.{place_stays}
 use Rattle.gr_order.specs.Covered.{AreSourceFiles}
 use Rattle.gr_order.specs.Roles.{IsOfKind, IsToldByTokens}
 use Rattle.gr_order.specs.Tokens.{identifiers_among}
-use Rattle.gr_order.proofs.Covering.{Pairs, file_pairs}
+use Rattle.gr_order.proofs.Covering.{file_pairs}
+use Rattle.gr_order.proofs.Elements.{all_append}
+use Rattle.gr_order.proofs.FileIdentifiers.{paired_files}
 use Rattle.gr_order.proofs.Links.{AreConsecutive, HasKind, Told, ToldIn, file_told}
 use Rattle.gr_order.proofs.Ordered.{identifier_stays, same_length}
 
@@ -84,15 +86,6 @@ told_by_tokens c index role h = record {
 abbrev ToldByFile : ℕ → List FileParts → Site → Type 0
 ToldByFile rank fs x = (k : ℕ) × ((f : FileParts) × ((rank + k ≡ x.place.file) × ((slice_get fs k ≡ Some f) × ToldIn (kinds_of f.cut) x)))
 
-both : (P : Site → Type 0) (xs ys : List Site) → AllByRecursion P xs → AllByRecursion P ys → AllByRecursion P (xs ++ ys)
-both P [] ys a b = b
-both P (x ∷ xs) ys a b = (a.0, both P xs ys a.1 b)
-
-in_file : (s : Source) (xs : List Site) (ts : List Token) → Pairs s xs ts → AllByRecursion (λ (x : Site). x.place.file ≡ s.rank) xs
-in_file s [] ts p = tt
-in_file s (x ∷ xs) [] p = absurd p
-in_file s (x ∷ xs) (t ∷ ts) p = (ap (λ (y : Site). y.place.file) p.1, in_file s xs ts p.2)
-
 own_file : (rank : ℕ) (f : FileParts) (fs : List FileParts) (xs : List Site) → AllByRecursion (λ (x : Site). x.place.file ≡ rank) xs →
     AllByRecursion (ToldIn (kinds_of f.cut)) xs →
     AllByRecursion (ToldByFile rank (f ∷ fs)) xs
@@ -117,8 +110,8 @@ files_told rank (f ∷ fs) w =
     let numbered : AreConsecutive 0 (flatten tree) = subst (λ ts. AreConsecutive 0 ts) (sym is.is_tree.written) (consecutive 0 f.cut.text (tokens_in f.cut)) in
     let told : AllByRecursion (ToldIn (kinds_of f.cut)) (file_sites s tree) =
     subst (λ ts. AllByRecursion (ToldIn ts) (file_sites s tree)) is.is_tree.written (file_told s tree numbered) in
-    both (ToldByFile rank (f ∷ fs)) (file_sites s tree) (files_sites (suc rank) (map spelled_file fs))
-    (own_file rank f fs (file_sites s tree) (in_file s (file_sites s tree) (identifiers_among (flatten tree)) (file_pairs s tree)) told)
+    all_append (ToldByFile rank (f ∷ fs)) (file_sites s tree) (files_sites (suc rank) (map spelled_file fs))
+    (own_file rank f fs (file_sites s tree) (paired_files s (file_sites s tree) (identifiers_among (flatten tree)) (file_pairs s tree)) told)
     (later_file rank f fs (files_sites (suc rank) (map spelled_file fs))
     (files_told (suc rank) fs (All-tail (λ (g : FileParts). IsSourceFile (source_of g)) f fs w)))
 
@@ -155,7 +148,7 @@ unfolding package_sites
 role_told files w u lt i f is =
     let own = files_sites 0 (map spelled_file files) in
     let all : AllByRecursion (ToldIfFound files) (map universe_site universe ++ own) =
-    both (ToldIfFound files) (map universe_site universe) own (universe_told files universe) (found_told files own (files_told 0 files w)) in
+    all_append (ToldIfFound files) (map universe_site universe) own (universe_told files universe) (found_told files own (files_told 0 files w)) in
     by_file files (found_site (slice_get (map universe_site universe ++ own) u))
     (at_number (ToldIfFound files) (map universe_site universe ++ own) all u lt i) f is
 

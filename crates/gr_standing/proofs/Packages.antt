@@ -1,5 +1,5 @@
 -- The packages of a workspace without faults.
-use Rattle.std.proofs.Common.{ℕ, ◌≡◌, ◌<◌, Bool, true, false, List, length, ap, sym, subst, refl, ◌∙◌}
+use Rattle.std.proofs.Common.{ℕ, ◌≡◌, ◌<◌, List, length, ap, sym, subst, refl, ◌∙◌}
 use Rattle.std.specs.Prelude.{Some, Contains, slice_get}
 use Rattle.std.proofs.lemmas.Option.{same_Some}
 use Rattle.gr_text.specs.Packages.{package_paths}
@@ -7,19 +7,14 @@ use Rattle.gr_text.specs.Workspace.{Workspace}
 use Rattle.gr_meanings.proofs.BoundLists.{slice_get_some}
 use Rattle.gr_graph.proofs.Asked.{at_contains}
 use Rattle.gr_declared.specs.Package.{Package}
-use Rattle.gr_verdict.specs.declared.fault.FileFault.{FileFault}
 use Rattle.gr_verdict.specs.declared.findings.Findings.{Findings}
-use Rattle.gr_verdict.specs.Verdicts.{Verdict, Verdicts, IsPackageIn, IsFaultBy, IsVerdictBy}
+use Rattle.gr_verdict.specs.Verdicts.{Verdicts, IsPackageIn}
 use Rattle.gr_verdict.specs.Found.{known_by}
-use Rattle.gr_verdict.proofs.OneVerdict.{right_below, verdict_by}
+use Rattle.gr_verdict.proofs.OneVerdict.{right_below, verdict_by, without_faults}
 use Rattle.gr_bound.specs.Uses.{IsPackage}
 use Rattle.gr_bound.specs.Workspaces.{IsSound, IsPackageAt, known_in}
 use Rattle.gr_bound.proofs.Units.{no_fault_in, one_package}
 use Rattle.gr_standing.specs.Standing.{InPackage}
-
-without_faults : (w : Workspace) (known : Verdicts) (p : List ℕ) (v : Verdict) → IsVerdictBy w known p v → ((f : FileFault) → IsFaultBy w known p f → ⊥) → (b : Bool) → v.faulty ≡ b → v.faulty ≡ false
-without_faults w known p v by sound true e = let f = by.has_faults.0 e in absurd (sound f.0 f.1)
-without_faults w known p v by sound false e = e
 
 -- each number is that of a checked package
 pub package_there : (w : Workspace) (found : Findings) → IsSound w found → (n : ℕ) → n < length (package_paths w) → (p : Package) × (IsPackageAt w (known_in found) n p)

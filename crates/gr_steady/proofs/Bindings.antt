@@ -1,57 +1,24 @@
 -- What the identifiers of a package are bound to, where its closure has the same texts in two workspaces.
-use Rattle.std.proofs.Common.{ℕ, ◌≡◌, ◌==◌, List, Option, Some, None, refl, sym, ap, subst, ◌∙◌}
-use Rattle.std.specs.Prelude.{Contains, slice_get}
-use Rattle.std.specs.Cmp.Lexicographic.{pointwise, bytes_decides}
-use Rattle.std.specs.FinMap.{entries}
-use Rattle.std.proofs.lemmas.Bool.{and_parts}
+use Rattle.std.proofs.Common.{ℕ, List, sym, subst}
+use Rattle.std.specs.Prelude.{Contains}
 use Rattle.gr_text.specs.Path.{folder}
-use Rattle.gr_text.specs.Packages.{is_go, is_of_package, package_paths, package_files}
+use Rattle.gr_text.specs.Packages.{package_paths}
 use Rattle.gr_text.specs.Workspace.{Workspace}
 use Rattle.gr_text.specs.declared.place.Place.{Place}
-use Rattle.gr_tree.specs.SourceFile.{SourceFile}
 use Rattle.gr_graph.specs.Packages.{IsInClosure}
 use Rattle.gr_declared.specs.Package.{Package}
 use Rattle.gr_verdict.specs.Closures.{HasSameClosure}
 use Rattle.gr_verdict.specs.Verdicts.{Verdicts, AreVerdicts}
 use Rattle.gr_verdict.proofs.Closed.{imports_closed}
 use Rattle.gr_verdict.proofs.Local.{same_within}
-use Rattle.gr_verdict.proofs.Members.{passes}
 use Rattle.gr_bound.specs.declared.declaration.Declaration.{Declaration}
 use Rattle.gr_bound.specs.declared.declaration.Declaration.TheVariants.{Predeclared, Declared, Field, Method}
 use Rattle.gr_bound.specs.Binding.{by_scope, by_package, by_member, by_name, BindsByPackage, IsBehindPackage, IsExportedUse}
-use Rattle.gr_bound.specs.Identifiers.{BeginsAt, NameBegins, file_of, named_by}
+use Rattle.gr_bound.specs.Identifiers.{named_by}
 use Rattle.gr_bound.specs.Uses.{IsPackage, IsBoundTo, IsUseOf, HasDeclaration}
-use Rattle.gr_bound.proofs.NamedMembers.{part_at}
-use Rattle.gr_bound.proofs.OnePlace.{same_files}
-use Rattle.gr_steady.proofs.Imports.{entry_at, named_is_imported}
+use Rattle.gr_standing.proofs.Folders.{begins_in_folder}
+use Rattle.gr_bound.proofs.NamedImports.{named_is_imported}
 use Rattle.gr_steady.proofs.Packages.{package_stays}
-
--- an identifier begins in a file of the folder of its package
-
-in_folder : (w : Workspace) (p : List ℕ) (e : List ℕ × List ℕ) → Contains (package_files w p) e → folder e.0 ≡ p
-in_folder w p e h =
-    let test = (passes (λ d. is_of_package p d.0) (entries w) e h).0 in
-    (bytes_decides (folder e.0) p).0 (and_parts (is_go e.0) (pointwise ◌==◌ (folder e.0) p) test).1
-
-some_file : (o : Option SourceFile) (token : ℕ) (path : List ℕ) (offset : ℕ) → NameBegins o token path offset →
-    (f : SourceFile) × ((o ≡ Some f) × (f.path ≡ path))
-some_file None token path offset h = absurd h
-some_file (Some f) token path offset h = (f, (refl, h.1))
-
-pub file_in_folder : (w : Workspace) (known : Verdicts) (p : Package) → IsPackage w known p → (rank : ℕ) (f : SourceFile) → slice_get p.files rank ≡ Some f →
-    folder f.path ≡ p.path
-file_in_folder w known p is rank f at =
-    let h = is.is_checked in
-    let part = part_at h.files rank f (subst (λ fs. slice_get fs rank ≡ Some f) (same_files w known p.path p h) at) in
-    let entry = entry_at h.parsed rank part.0 part.1.0 in
-    ap folder (sym (ap (λ (s : SourceFile). s.path) part.1.1) ∙ entry.1.1.of_path) ∙ in_folder w p.path entry.0 entry.1.0
-
-pub begins_in_folder : (w : Workspace) (known : Verdicts) (p : Package) → IsPackage w known p → (path : List ℕ) (offset u : ℕ) →
-    BeginsAt p path offset u →
-    p.path ≡ folder path
-begins_in_folder w known p is path offset u b =
-    let f = some_file (file_of p u) (p.layout.place u).index path offset b.1 in
-    sym (file_in_folder w known p is (p.layout.place u).file f.0 f.1.0) ∙ ap folder f.1.1
 
 -- the package of a name before a dot lies in the closure
 pub behind_closed : (w : Workspace) (known : Verdicts) (p : Package) → IsPackage w known p → (u : ℕ) (q : List ℕ) → IsBehindPackage p u q →

@@ -3,30 +3,25 @@ use Rattle.std.proofs.Common.{ℕ, List}
 use Rattle.std.specs.Prelude.{Contains}
 use Rattle.gr_text.specs.Packages.{package_paths}
 use Rattle.gr_text.specs.Workspace.{Workspace}
-use Rattle.gr_graph.specs.Packages.{itself}
 use Rattle.gr_declared.specs.Package.{Package}
 use Rattle.gr_verdict.specs.Closures.{HasSameClosure}
 use Rattle.gr_verdict.specs.Laws.{IsSameVerdict}
 use Rattle.gr_verdict.specs.Verdicts.{Verdicts, AreVerdicts}
 use Rattle.gr_verdict.proofs.Alike.{package_as}
-use Rattle.gr_verdict.proofs.Closed.{to_package}
-use Rattle.gr_verdict.proofs.Local.{closed_there, local_verdict, locally_checked}
+use Rattle.gr_verdict.proofs.Local.{own_there, local_verdict, locally_checked}
 use Rattle.gr_verdict.proofs.OneVerdict.{one_verdict, right_alike, right_below}
 use Rattle.gr_bound.specs.Uses.{IsPackage}
-
-path_stays : (w x : Workspace) (path : List ℕ) → HasSameClosure w x path → Contains (package_paths w) path → Contains (package_paths x) path
-path_stays w x path same has = to_package x path path (closed_there w x path same path (itself has))
 
 module _ (w x : Workspace) (before after : Verdicts) (right : AreVerdicts w before) (also : AreVerdicts x after) where
   pub package_stays : (p : Package) → HasSameClosure w x p.path → IsPackage w before p → IsPackage x after p
   package_stays p same is =
       let there = locally_checked w x p.path before p is.of_workspace same (right_below w before right p.path) is.is_checked in
       record {
-        of_workspace = path_stays w x p.path same is.of_workspace;
+        of_workspace = own_there w x p.path same is.of_workspace;
         is_checked = package_as x p.path before after (right_alike x p.path before after there.0 (right_below x after also p.path)) p there.1;
       }
 
   pub known_stays : (path : List ℕ) → Contains (package_paths w) path → HasSameClosure w x path → IsSameVerdict (before path) (after path)
   known_stays path has same =
       one_verdict x path (before path) (after path) (local_verdict w x path (before path) has same (right path has))
-      (also path (path_stays w x path same has))
+      (also path (own_there w x path same has))

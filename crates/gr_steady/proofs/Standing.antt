@@ -1,13 +1,12 @@
 -- What a package is bound to stands in its closure.
-use Rattle.std.proofs.Common.{ℕ, ◌≡◌, ◌<◌, List, [], length, map, ap, sym, subst, refl, ◌∙◌, arith}
+use Rattle.std.proofs.Common.{ℕ, ◌≡◌, ◌<◌, List, length, map, ap, sym, subst, refl, ◌∙◌}
 use Rattle.std.specs.Prelude.{Contains, Option, Some, None, slice_get}
 use Rattle.gr_text.specs.Path.{folder}
 use Rattle.gr_text.specs.Packages.{package_paths}
 use Rattle.gr_text.specs.Workspace.{Workspace}
 use Rattle.gr_text.specs.declared.place.Place.{Place}
-use Rattle.gr_tree.specs.SourceFile.{SourceFile, FileParts, offset_of, spelling_of}
+use Rattle.gr_tree.specs.SourceFile.{SourceFile, offset_of, spelling_of}
 use Rattle.gr_graph.specs.Packages.{IsInClosure, itself}
-use Rattle.gr_graph.specs.Parsed.{AreParsed, none, tree}
 use Rattle.gr_meanings.proofs.BoundLists.{slice_get_some}
 use Rattle.gr_scope.specs.declared.model.Position.{Position}
 use Rattle.gr_scope.specs.Bindings.{Counts, IsPackageLevel, block_of}
@@ -19,25 +18,21 @@ use Rattle.gr_verdict.specs.Closures.{HasSameClosure}
 use Rattle.gr_verdict.specs.Verdicts.{Verdicts, AreVerdicts}
 use Rattle.gr_verdict.proofs.FaultFiles.{identifiers_stand}
 use Rattle.gr_verdict.proofs.Local.{closed_there, same_within}
-use Rattle.gr_verdict.proofs.Members.{nothing_in}
-use Rattle.gr_verdict.proofs.PackageFiles.{package_file}
+use Rattle.gr_verdict.proofs.MemberFiles.{field_file, function_file}
+use Rattle.gr_verdict.proofs.PackageFiles.{package_file, some_tree}
 use Rattle.gr_bound.specs.declared.declaration.Declaration.{Declaration}
 use Rattle.gr_bound.specs.declared.declaration.Declaration.TheVariants.{Predeclared, Declared, Field, Method}
 use Rattle.gr_bound.specs.Binding.{IsPredeclared, BindsByScope, BindsByPackage, BindsByMember, BindsByName, by_scope, by_package, by_member, by_name, IsExportedUse, field_place}
 use Rattle.gr_bound.specs.Uses.{IsPackage, IsBoundTo}
 use Rattle.gr_bound.proofs.OnePlace.{names_of}
+use Rattle.gr_standing.proofs.Folders.{file_in_folder}
 use Rattle.gr_standing.specs.Standing.{InPackage, TokenBegins, TokenAt, IsPositionOf, StandsIn, IsDeclaredAt}
 use Rattle.gr_steady.specs.Within.{StandsWithin, IsDeclaredWithin, predeclared, stands}
-use Rattle.gr_steady.proofs.Bindings.{file_in_folder, behind_closed}
-use Rattle.gr_steady.proofs.ImportSites.{predeclared_block}
-use Rattle.gr_steady.proofs.Imports.{role_at, counted}
-use Rattle.gr_steady.proofs.MemberFiles.{field_file, function_file}
-use Rattle.gr_steady.proofs.Members.{IsOwned, member_owned}
+use Rattle.gr_steady.proofs.Bindings.{behind_closed}
+use Rattle.gr_bound.proofs.ImportSites.{predeclared_block}
+use Rattle.gr_bound.proofs.NamedImports.{role_at, counted}
+use Rattle.gr_bound.proofs.OwnedMembers.{IsOwned, member_owned}
 use Rattle.gr_steady.proofs.Packages.{package_stays}
-
-some_tree : {es : List (List ℕ × List ℕ)} {ts : List FileParts} → AreParsed es ts [] → (e : List ℕ × List ℕ) → Contains es e → 0 < length ts
-some_tree none e h = absurd (nothing_in e h)
-some_tree (tree is rest) e h = omega arith
 
 -- a token of a package's files begins somewhere in its folder
 

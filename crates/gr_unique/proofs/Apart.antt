@@ -1,15 +1,12 @@
 -- Lists of things that stand at places of their own.
-use Rattle.std.proofs.Common.{ℕ, zero, suc, ◌≡◌, ◌<◌, ◌≤◌, List, [], ◌∷◌, ◌++◌, ◌+◌, ap, sym, ◌∙◌, refl, subst, arith}
+use Rattle.std.proofs.Common.{ℕ, zero, suc, ◌≡◌, ◌<◌, ◌≤◌, List, [], ◌∷◌, ◌++◌, ◌+◌, ap, sym, ◌∙◌, refl, arith}
 use Rattle.std.specs.Prelude.{Some, slice_get}
 use Rattle.std.specs.List.{AllByRecursion}
 use Rattle.std.proofs.lemmas.Option.{none-some, same_Some}
 use Rattle.gr_scope.specs.declared.model.Position.{Position}
+use Rattle.gr_order.proofs.Elements.{all_append, all_got}
 
 -- of all elements
-
-pub all_append : {X : Type 0} (P : X → Type 0) (xs ys : List X) → AllByRecursion P xs → AllByRecursion P ys → AllByRecursion P (xs ++ ys)
-all_append P [] ys a b = b
-all_append P (x ∷ xs) ys a b = (a.0, all_append P xs ys a.1 b)
 
 pub all_as : {X : Type 0} (P Q : X → Type 0) → ((x : X) → P x → Q x) → (xs : List X) → AllByRecursion P xs → AllByRecursion Q xs
 all_as P Q f [] a = tt
@@ -18,11 +15,6 @@ all_as P Q f (x ∷ xs) a = (f x a.0, all_as P Q f xs a.1)
 all_of : {X : Type 0} (P : X → Type 0) → ((x : X) → P x) → (xs : List X) → AllByRecursion P xs
 all_of P f [] = tt
 all_of P f (x ∷ xs) = (f x, all_of P f xs)
-
-pub all_got : {X : Type 0} (P : X → Type 0) (xs : List X) (k : ℕ) (x : X) → AllByRecursion P xs → slice_get xs k ≡ Some x → P x
-all_got P [] k x a e = absurd (none-some x e)
-all_got P (y ∷ ys) zero x a e = subst P (same_Some y x e) a.0
-all_got P (y ∷ ys) (suc k) x a e = all_got P ys k x a.1 e
 
 -- none of the one list stands where one of the other does
 

@@ -1,14 +1,13 @@
 -- A package of a workspace without faults has none.
-use Rattle.std.proofs.Common.{ℕ, ◌<◌, ◌⊎◌, inl, inr, List, [], ◌∷◌, length, map, refl, subst, arith}
+use Rattle.std.proofs.Common.{ℕ, ◌<◌, ◌⊎◌, inl, inr, List, [], ◌∷◌, length, map, refl, subst}
 use Rattle.std.specs.Prelude.{Contains}
 use Rattle.std.proofs.lemmas.Bool.{cases_Bool}
 use Rattle.gr_text.specs.Packages.{package_paths}
 use Rattle.gr_text.specs.Workspace.{Workspace}
 use Rattle.gr_fault.specs.declared.fault.Fault.{Fault}
 use Rattle.gr_fault.specs.Stage.{HasNone, FirstOf}
-use Rattle.gr_tree.specs.SourceFile.{SourceFile, FileParts, source_of}
+use Rattle.gr_tree.specs.SourceFile.{SourceFile, source_of}
 use Rattle.gr_graph.specs.Packages.{PackageImports, IsInClosure}
-use Rattle.gr_graph.specs.Parsed.{AreParsed, none, tree}
 use Rattle.gr_imports.specs.declared.states.ImportState.{ImportState}
 use Rattle.gr_imports.specs.declared.states.ImportState.TheVariants as import_state
 use Rattle.gr_stages.specs.Stages.{IsOuterFault}
@@ -22,10 +21,10 @@ use Rattle.gr_verdict.proofs.Closed.{imports_closed}
 use Rattle.gr_verdict.proofs.FaultFiles.{in_outer, in_later, identifiers_stand}
 use Rattle.gr_verdict.proofs.Members.{nothing_in, first_or_later, cases_contains}
 use Rattle.gr_verdict.proofs.OneList.{no_fault}
-use Rattle.gr_verdict.proofs.PackageFiles.{package_file}
+use Rattle.gr_verdict.proofs.PackageFiles.{package_file, some_tree}
 use Rattle.gr_bound.specs.Uses.{IsPackage}
 use Rattle.gr_bound.proofs.OnePlace.{same_files}
-use Rattle.gr_unique.proofs.OneList.{package_for}
+use Rattle.gr_standing.proofs.Alike.{package_for}
 
 -- what follows whether or not a claim is true of each path follows
 
@@ -63,11 +62,7 @@ module _ (w : Workspace) (known : Verdicts) (p : List ℕ)
   unfolding state_in
   are_states q i = (state_for q).1 i
 
--- a package has a file
-
-some_tree : {es : List (List ℕ × List ℕ)} {ts : List FileParts} → AreParsed es ts [] → (e : List ℕ × List ℕ) → Contains es e → 0 < length ts
-some_tree none e h = absurd (nothing_in e h)
-some_tree (tree is rest) e h = omega arith
+-- in such a package
 
 module _ (w : Workspace) (sound : ListsFaults w []) (p : Package) (has : Contains (package_paths w) p.path) (is : IsPackageIn w sound.known p.path p) where
   abbrev sources : List SourceFile

@@ -1,11 +1,7 @@
 -- The name that the literal of an import stands for is an identifier.
 use Rattle.std.proofs.Common.{ℕ, zero, suc, ◌≡◌, ◌-◌, ◌<◌, List, [], ◌∷◌, ◌++◌, Bool, true, false, map, ap, sym, subst, refl, ◌∙◌, arith, if◌then◌else◌}
-use Rattle.std.specs.Prelude.{slice_get}
-use Rattle.std.specs.List.{AllByRecursion}
 use Rattle.std.proofs.lemmas.Bool.{true≢false}
 use Rattle.gr_text.specs.Workspace.{Workspace}
-use Rattle.gr_tree.specs.declared.syntax.Token.{Token}
-use Rattle.gr_tree.specs.Flatten.{flatten}
 use Rattle.gr_scope.specs.declared.model.Purpose.TheVariants as purpose
 use Rattle.gr_scope.specs.declared.model.Role.{Role}
 use Rattle.gr_scope.specs.declared.model.Role.TheVariants.{NotLexical}
@@ -13,44 +9,14 @@ use Rattle.gr_scope.specs.Bindings.{Layout, IsIdentifier, is_implied}
 use Rattle.gr_scope.specs.FileSites.{SpelledFile, file_sites, files_sites, universe, universe_site, package_sites}
 use Rattle.gr_scope.specs.Parsed.{spelled_file}
 use Rattle.gr_scope.specs.Scoped.{scoped, layout_in}
-use Rattle.gr_scope.specs.Site.{Site, Source, found_site}
-use Rattle.gr_order.specs.Tokens.{identifiers_among}
-use Rattle.gr_order.proofs.Covering.{Pairs, file_pairs}
+use Rattle.gr_scope.specs.Site.{Site}
+use Rattle.gr_order.proofs.FileIdentifiers.{AreIdentifiers, files_identify, role_in, identifier_in}
 use Rattle.gr_order.proofs.Ordered.{identifier_stays}
 use Rattle.gr_order.proofs.Roles.{role_keeps}
 use Rattle.gr_declared.specs.Package.{Package}
 use Rattle.gr_verdict.specs.Verdicts.{Verdicts, IsPackageIn}
 use Rattle.gr_bound.specs.Identifiers.{Stands, is_named_literal, named_by}
 use Rattle.gr_bound.proofs.OnePlace.{names_of, laid_of, same_layout}
-use Rattle.gr_unique.proofs.Apart.{all_append}
-
--- what stands in files is no predeclared name
-
-abbrev AreIdentifiers : List Site → Type 0
-AreIdentifiers xs = AllByRecursion (λ x. is_implied x.role ≡ false) xs
-
-paired : (s : Source) (xs : List Site) (ts : List Token) → Pairs s xs ts → AreIdentifiers xs
-paired s [] ts p = tt
-paired s (x ∷ xs) [] p = absurd p
-paired s (x ∷ xs) (t ∷ ts) p = (p.0, paired s xs ts p.2)
-
-files_identify : (rank : ℕ) (fs : List SpelledFile) → AreIdentifiers (files_sites rank fs)
-unfolding files_sites
-files_identify rank [] = tt
-files_identify rank (f ∷ fs) =
-    let s : Source = record { rank = rank; spell = f.spell } in
-    all_append (λ (x : Site). is_implied x.role ≡ false) (file_sites s f.tree) (files_sites (suc rank) fs)
-    (paired s (file_sites s f.tree) (identifiers_among (flatten f.tree)) (file_pairs s f.tree)) (files_identify (suc rank) fs)
-
--- the role of an identifier, by its number
-
-abbrev role_in : List Site → ℕ → Role
-role_in xs u = (found_site (slice_get xs u)).role
-
-identifier_in : (xs : List Site) → AreIdentifiers xs → (u : ℕ) → is_implied (role_in xs u) ≡ false
-identifier_in [] h u = refl
-identifier_in (x ∷ xs) h zero = h.0
-identifier_in (x ∷ xs) h (suc u) = identifier_in xs h.1 u
 
 -- the literal of an import that has a name is not the first identifier of a file
 

@@ -1,29 +1,20 @@
 -- An identifier that stands in a file is bound to one declaration at most, and so is what stands at a place.
-use Rattle.std.proofs.Common.{ℕ, zero, suc, ◌≡◌, ◌&&◌, ◌==◌, true, List, [], map, ap, sym, subst, refl, ◌∙◌}
-use Rattle.std.specs.Prelude.{Contains, Option, Some, None, slice_get}
-use Rattle.std.specs.Cmp.Lexicographic.{pointwise, bytes_decides}
-use Rattle.std.specs.FinMap.{entries}
-use Rattle.std.proofs.lemmas.Bool.{and_parts}
-use Rattle.std.proofs.lemmas.Option.{none-some, same_Some}
-use Rattle.gr_text.specs.Packages.{is_go, is_of_package, package_files}
-use Rattle.gr_text.specs.Path.{folder}
+use Rattle.std.proofs.Common.{ℕ, ◌≡◌, List, sym, subst, ◌∙◌}
 use Rattle.gr_text.specs.Workspace.{Workspace}
 use Rattle.gr_text.specs.declared.place.Place.{Place}
-use Rattle.gr_tree.specs.SourceFile.{SourceFile, FileParts, source_of}
-use Rattle.gr_graph.specs.Parsed.{AreParsed, none, tree}
 use Rattle.gr_declared.specs.Package.{Package}
-use Rattle.gr_verdict.specs.Verdicts.{Verdicts, IsPackageIn}
-use Rattle.gr_verdict.proofs.Members.{first_in, later_in, passes}
+use Rattle.gr_verdict.specs.Verdicts.{Verdicts}
 use Rattle.gr_verdict.proofs.OnePackage.{layout_formed, files_in_order}
 use Rattle.gr_bound.specs.declared.declaration.Declaration.{Declaration}
 use Rattle.gr_bound.specs.Binding.{by_scope, by_package, by_member, by_name}
-use Rattle.gr_bound.specs.Identifiers.{Stands, NameBegins, BeginsAt, file_of, named_by}
+use Rattle.gr_bound.specs.Identifiers.{Stands, BeginsAt, named_by}
 use Rattle.gr_bound.specs.Uses.{IsPackage, IsBoundTo, IsNamedTo, IsUseOf, HasDeclaration}
 use Rattle.gr_bound.proofs.Excluding.{one_by_scope, one_by_package, not_both}
 use Rattle.gr_bound.proofs.NamedMembers.{name_not_scope, name_not_package}
-use Rattle.gr_bound.proofs.OnePlace.{same_files, one_begins, one_asked}
+use Rattle.gr_bound.proofs.OnePlace.{one_begins, one_asked}
 use Rattle.gr_bound.proofs.Units.{one_package}
 use Rattle.gr_bound.proofs.UsedMembers.{one_member, member_not_scope, member_not_name}
+use Rattle.gr_standing.proofs.Folders.{begins_in_folder}
 use Rattle.gr_unique.proofs.LiteralNames.{name_stands}
 use Rattle.gr_unique.proofs.NamedMembers.{one_by_name}
 use Rattle.gr_unique.proofs.UsedMembers.{member_not_package}
@@ -48,39 +39,14 @@ module _ (w : Workspace) (known : Verdicts) (p : Package) (is : IsPackage w know
   one_declaration d e (by_name a) (by_member b) = absurd (member_not_name w known p.path p is.is_checked u e d stands b a)
   one_declaration d e (by_name a) (by_name b) = one_by_name p (files_in_order w known p.path p is.is_checked) u d e a b
 
--- a file lies in the folder of its package
-
-entry_of : {es : List (List ℕ × List ℕ)} {ts : List FileParts} → AreParsed es ts [] → (i : ℕ) (s : SourceFile) → slice_get (map source_of ts) i ≡ Some s →
-    (e : List ℕ × List ℕ) × (Contains es e × (s.path ≡ e.0))
-entry_of none i s at = absurd (none-some s at)
-entry_of (tree {e = e} {es = es} {t = t} is rest) zero s at =
-    (e, (first_in e es, ap (λ (z : SourceFile). z.path) (sym (same_Some (source_of t) s at)) ∙ is.of_path))
-entry_of (tree {e = e} {es = es} is rest) (suc i) s at = let r = entry_of rest i s at in (r.0, (later_in e es r.0 r.1.0, r.1.1))
-
-in_folder : (w : Workspace) (p : List ℕ) (e : List ℕ × List ℕ) → Contains (package_files w p) e → folder e.0 ≡ p
-in_folder w p e h =
-    let test : (is_go e.0 && pointwise ◌==◌ (folder e.0) p) ≡ true = (passes (λ d. is_of_package p d.0) (entries w) e h).0 in
-    (bytes_decides (folder e.0) p).0 (and_parts (is_go e.0) (pointwise ◌==◌ (folder e.0) p) test).1
-
-module _ (w : Workspace) (known : Verdicts) (path : List ℕ) (p : Package) (h : IsPackageIn w known path p) where
-  by_file : (k token : ℕ) (o : Option SourceFile) (file : List ℕ) (offset : ℕ) → slice_get p.files k ≡ o → NameBegins o token file offset → folder file ≡ path
-  by_file k token None file offset e n = absurd n
-  by_file k token (Some f) file offset e n =
-      let r = entry_of h.parsed k f (subst (λ fs. slice_get fs k ≡ Some f) (same_files w known path p h) e) in
-      ap folder (sym n.1 ∙ r.1.1) ∙ in_folder w path r.0 r.1.0
-
-  pub begins_in_folder : (file : List ℕ) (offset u : ℕ) → BeginsAt p file offset u → folder file ≡ path
-  begins_in_folder file offset u b = by_file (p.layout.place u).file (p.layout.place u).index (file_of p u) file offset refl b.1
-
--- so one identifier of one package begins at a place
+-- one identifier of one package begins at a place
 
 module _ (w : Workspace) (known : Verdicts) (place : Place) where
   same_package : (p q : Package) → IsPackage w known p → IsPackage w known q → (u v : ℕ) → BeginsAt p place.path place.offset u →
       BeginsAt q place.path place.offset v → p ≡ q
   same_package p q a b u v x y =
       one_package w known p q a b
-      (sym (begins_in_folder w known p.path p a.is_checked place.path place.offset u x) ∙
-      begins_in_folder w known q.path q b.is_checked place.path place.offset v y)
+      (begins_in_folder w known p a place.path place.offset u x ∙ sym (begins_in_folder w known q b place.path place.offset v y))
 
   pub one_used : (d e : Declaration) → IsUseOf w known d place → IsUseOf w known e place → d ≡ e
   one_used d e a b =

@@ -1,8 +1,7 @@
 -- No use of a member stands behind the name of a package.
-use Rattle.std.proofs.Common.{ℕ, zero, suc, ◌≡◌, ◌<◌, List, [], ◌∷◌, length, ap, sym, subst, refl, ◌∙◌, arith}
+use Rattle.std.proofs.Common.{ℕ, suc, ◌≡◌, ◌<◌, List, length, ap, sym, subst, refl, ◌∙◌, arith}
 use Rattle.std.specs.Prelude.{Contains, Some, slice_get}
-use Rattle.std.proofs.lemmas.List.Elements.{All-head, All-tail}
-use Rattle.std.proofs.lemmas.Option.{none-some, same_Some}
+use Rattle.std.proofs.lemmas.Option.{same_Some}
 use Rattle.gr_text.specs.Workspace.{Workspace}
 use Rattle.gr_tree.specs.declared.syntax.Kind.TheVariants as kind
 use Rattle.gr_tree.specs.Kinds.{kinds_of}
@@ -13,9 +12,10 @@ use Rattle.gr_scope.specs.declared.model.Role.TheVariants.{NotLexical}
 use Rattle.gr_scope.specs.Bindings.{Layout}
 use Rattle.gr_scope.specs.Scoped.{scoped, layout_in}
 use Rattle.gr_scope.specs.Table.{StandsAt}
-use Rattle.gr_order.specs.Covered.{AreSourceFiles, IsPlaceOfOne, HasOneAt}
+use Rattle.gr_order.specs.Covered.{IsPlaceOfOne, HasOneAt}
 use Rattle.gr_order.specs.Roles.{IsOfKind, IsToldByTokens}
 use Rattle.gr_order.specs.Tokens.{identifiers_among}
+use Rattle.gr_order.proofs.HeldBytes.{source_file_at}
 use Rattle.gr_order.proofs.Lexical.{never_bound}
 use Rattle.gr_order.proofs.OwnPaths.{package_sources}
 use Rattle.gr_order.proofs.Places.{Marks, marked, one_has_place, named_has_one}
@@ -39,15 +39,9 @@ use Rattle.gr_bound.proofs.NamedMembers.{part_at}
 use Rattle.gr_bound.proofs.OnePlace.{names_of, laid_of, same_layout, same_size, same_files}
 use Rattle.gr_unique.proofs.Headers.{name_before_dot}
 
-source_at : (ts : List FileParts) → AreSourceFiles ts → (i : ℕ) (t : FileParts) → slice_get ts i ≡ Some t → IsSourceFile (source_of t)
-source_at [] w i t is = absurd (none-some t is)
-source_at (x ∷ xs) w zero t is =
-    subst (λ (y : FileParts). IsSourceFile (source_of y)) (same_Some x t is) (All-head (λ (g : FileParts). IsSourceFile (source_of g)) x xs w)
-source_at (x ∷ xs) w (suc i) t is = source_at xs (All-tail (λ (g : FileParts). IsSourceFile (source_of g)) x xs w) i t is
-
 module _ (w : Workspace) (known : Verdicts) (path : List ℕ) (p : Package) (h : IsPackageIn w known path p) where
   is_source : (file : ℕ) (t : FileParts) → slice_get h.files file ≡ Some t → IsSourceFile (source_of t)
-  is_source file t is = source_at h.files (package_sources w path h.files h.parsed) file t is
+  is_source file t is = source_file_at h.files (package_sources w path h.files h.parsed) file t is
 
   -- where an identifier stands, a file has one among its tokens
   place_at : (at : Position) (u : ℕ) → u < p.size → StandsAt p.layout at u → IsPlaceOfOne h.files at

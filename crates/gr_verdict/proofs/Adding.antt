@@ -1,12 +1,10 @@
 -- What is found in packages, one package further.
-use Rattle.std.proofs.Common.{ℕ, zero, suc, ◌≡◌, ◌+◌, ◌<◌, ◌⊎◌, inl, inr, true, false, List, [], ◌∷◌, ◌++◌, length, take, map, get_or, refl, sym, ap, subst, ◌∙◌, arith, MatchOption}
-use Rattle.std.specs.Prelude.{Contains, Option, Some, None, slice_get, option_map}
+use Rattle.std.proofs.Common.{ℕ, ◌≡◌, ◌<◌, inl, inr, true, false, List, [], take, sym, ap, subst, ◌∙◌, arith, MatchOption}
+use Rattle.std.specs.Prelude.{Contains, Option, Some, None, slice_get}
 use Rattle.std.specs.Global.{Vec}
-use Rattle.std.proofs.Math.ListN.{set}
-use Rattle.std.proofs.Math.Path.{ap₂}
 use Rattle.std.proofs.lemmas.Bool.{true≢false, false≢true}
-use Rattle.std.proofs.lemmas.List.{length-map, length-take, get_or-take, take_more, map-append}
-use Rattle.std.proofs.lemmas.Option.{same_Some, none-some, slice_get_within, get_or_from_slice_get, slice_get-get_or, slice_get-map}
+use Rattle.std.proofs.lemmas.List.{length-take, get_or-take}
+use Rattle.std.proofs.lemmas.Option.{none-some, slice_get_within, get_or_from_slice_get}
 use Rattle.gr_text.specs.Workspace.{Workspace}
 use Rattle.gr_text.specs.Packages.{package_paths}
 use Rattle.gr_expr.specs.declared.found.MemberUse.{MemberUse}
@@ -18,14 +16,13 @@ use Rattle.gr_declared.proofs.ByteKeys.{cases_bytes}
 use Rattle.gr_verdict.specs.declared.fault.FileFault.{FileFault}
 use Rattle.gr_verdict.specs.declared.finding.Finding.{Finding}
 use Rattle.gr_verdict.specs.declared.judging.Judged.{Judged}
-use Rattle.gr_verdict.specs.declared.findings.Findings.{Findings}
 use Rattle.gr_verdict.specs.Verdicts.{BuildsOn, Verdicts, IsFaultBy, HasInterface, IsVerdictBy}
 use Rattle.gr_verdict.specs.FaultLists.{AreListed}
-use Rattle.gr_verdict.specs.Found.{is_unknown, known_by, AreWhole, AreUsesOf, IsFinding, AreFindings}
+use Rattle.gr_verdict.specs.Found.{is_unknown, known_by, AreWhole, AreUsesOf, IsFinding}
 use Rattle.gr_verdict.specs.Steps.{IsBuildOrder, IsJudged, MayAdd, Learns}
 use Rattle.gr_verdict.proofs.Alike.{KnowsAlike, alike_back, package_as, fault_as}
-use Rattle.gr_verdict.proofs.Closed.{to_package, not_on_itself}
-use Rattle.gr_verdict.proofs.Knowing.{same_known, verdict_alike, another, learnt_next}
+use Rattle.gr_verdict.proofs.Closed.{to_package}
+use Rattle.gr_verdict.proofs.Knowing.{same_known}
 use Rattle.gr_verdict.proofs.Members.{nothing_in, some_in}
 
 -- one package
@@ -72,25 +69,6 @@ learns_by w p all more j f fresh whole h may path faults members = record {
   elsewhere = elsewhere_by all more p j.interface may;
   whole = whole_by all more p j.interface whole may;
 }
-
--- lists with one item set
-
-pub get_set_other : {X : Type 0} (xs : List X) (i j : ℕ) (a : X) → (j ≡ i → ⊥) → slice_get (set xs i a) j ≡ slice_get xs j
-get_set_other [] i j a ne = refl
-get_set_other (x ∷ xs) zero zero a ne = absurd (ne refl)
-get_set_other (x ∷ xs) zero (suc j) a ne = refl
-get_set_other (x ∷ xs) (suc i) zero a ne = refl
-get_set_other (x ∷ xs) (suc i) (suc j) a ne = get_set_other xs i j a (λ e. ne (ap suc e))
-
-pub get_set_same : {X : Type 0} (xs : List X) (i : ℕ) (a x : X) → slice_get (set xs i a) i ≡ Some x → a ≡ x
-get_set_same [] i a x e = absurd (none-some x e)
-get_set_same (y ∷ ys) zero a x e = same_Some a x e
-get_set_same (y ∷ ys) (suc i) a x e = get_set_same ys i a x e
-
-pub set_there : {X : Type 0} (xs : List X) (i : ℕ) (a : X) → i < length xs → slice_get (set xs i a) i ≡ Some a
-set_there [] i a lt = absurd (let none : i < 0 = lt in omega arith)
-set_there (x ∷ xs) zero a lt = refl
-set_there (x ∷ xs) (suc i) a lt = set_there xs i a (let within : suc i < length (x ∷ xs) = lt in omega arith)
 
 -- one package further
 

@@ -1,13 +1,12 @@
 -- Each fault of a package stands in one of its files.
-use Rattle.std.proofs.Common.{ℕ, zero, suc, ◌≡◌, ◌+◌, ◌<◌, ◌≤◌, inl, inr, List, [], ◌∷◌, ◌++◌, length, map, sym, ap, subst, ◌∙◌, arith}
+use Rattle.std.proofs.Common.{ℕ, ◌≡◌, ◌<◌, inl, inr, List, [], ◌∷◌, length, map, sym, ap, subst, ◌∙◌}
 use Rattle.std.specs.Prelude.{Some, slice_get}
-use Rattle.std.specs.List.{AllByRecursion, flat_map, enumerate_from}
+use Rattle.std.specs.List.{AllByRecursion, flat_map}
 use Rattle.std.proofs.lemmas.List.{length-map}
-use Rattle.std.proofs.lemmas.Option.{same_Some, none-some, slice_get_within}
+use Rattle.std.proofs.lemmas.Option.{slice_get_within}
 use Rattle.gr_text.specs.Workspace.{Workspace}
 use Rattle.gr_fault.specs.declared.fault.Fault.{Fault}
 use Rattle.gr_fault.specs.Listing.{SomeOf}
-use Rattle.gr_tree.specs.Tree.{Item, FieldTree, BodyTree, Other, Struct, DeclTree, VarDecl, TypeDecl, FuncDecl}
 use Rattle.gr_tree.specs.SourceFile.{SourceFile, source_of}
 use Rattle.gr_scope.specs.FileSites.{package_sites}
 use Rattle.gr_scope.specs.Named.{named_sites}
@@ -18,47 +17,21 @@ use Rattle.gr_scope.specs.Bindings.{Layout}
 use Rattle.gr_scope.proofs.NamedSites.{place_stays}
 use Rattle.gr_scope.proofs.PackageRegions.{each_at}
 use Rattle.gr_imports.specs.declared.states.ImportState.{ImportState}
-use Rattle.gr_imports.specs.Files.{Ranked, ranked, group_items, imports_in, package_name}
+use Rattle.gr_imports.specs.Files.{Ranked, ranked, imports_in, package_name}
+use Rattle.gr_order.proofs.Elements.{all_flat, all_map}
 use Rattle.gr_stages.specs.Clauses.{IsFaultOfClause, IsClauseFault}
 use Rattle.gr_stages.specs.Imports.{PlacedImport, IsFaultOfImport, placed_imports, IsImportFault}
 use Rattle.gr_stages.specs.Marks.{Mark, Defines, Stray, file_marks, IsFaultOfMark, IsFaultOfMarks, IsMarkFault}
 use Rattle.gr_stages.specs.Scoping.{IsFaultOfIdentifier}
 use Rattle.gr_imports.specs.Laid.{literal_of}
 use Rattle.gr_stages.specs.Stages.{IsOuterFault, IsInnerFault}
-use Rattle.gr_declared.specs.Package.{Package, laid_of, PlacedType, PlacedFunction, placed_type, decl_types, decl_functions, types_in, functions_in, package_types, package_functions}
-use Rattle.gr_declared.specs.Definitions.{PlacedField, body_fields, fields_from, package_fields}
+use Rattle.gr_declared.specs.Package.{Package, laid_of}
 use Rattle.gr_members.specs.Members.{IsMemberFault}
 use Rattle.gr_types.specs.Check.{exports_in, IsLaterFault}
 use Rattle.gr_meanings.proofs.BoundLists.{slice_get_some}
 use Rattle.gr_verdict.specs.Verdicts.{Verdicts, IsPackageIn}
+use Rattle.gr_verdict.proofs.MemberFiles.{all_ranked, type_file, field_file, function_file}
 use Rattle.gr_verdict.proofs.PlacedSites.{stands_in_file}
-
--- what holds of each item of a list
-
-every_append : {X : Type 0} (P : X → Type 0) (xs ys : List X) → AllByRecursion P xs → AllByRecursion P ys → AllByRecursion P (xs ++ ys)
-every_append P [] ys a b = b
-every_append P (x ∷ xs) ys a b = (a.0, every_append P xs ys a.1 b)
-
-every_flat : {X Y : Type 0} (P : X → Type 0) (Q : Y → Type 0) (g : X → List Y) → ((x : X) → P x → AllByRecursion Q (g x)) → (xs : List X) → AllByRecursion P xs → AllByRecursion Q (flat_map g xs)
-every_flat P Q g h [] a = tt
-every_flat P Q g h (x ∷ xs) a = every_append Q (g x) (flat_map g xs) (h x a.0) (every_flat P Q g h xs a.1)
-
-every_made : {X Y : Type 0} (Q : Y → Type 0) (g : X → List Y) → ((x : X) → AllByRecursion Q (g x)) → (xs : List X) → AllByRecursion Q (flat_map g xs)
-every_made Q g h [] = tt
-every_made Q g h (x ∷ xs) = every_append Q (g x) (flat_map g xs) (h x) (every_made Q g h xs)
-
-every_map : {X Y : Type 0} (Q : Y → Type 0) (g : X → Y) → ((x : X) → Q (g x)) → (xs : List X) → AllByRecursion Q (map g xs)
-every_map Q g h [] = tt
-every_map Q g h (x ∷ xs) = (h x, every_map Q g h xs)
-
-every_got : {X : Type 0} (P : X → Type 0) (xs : List X) (i : ℕ) (x : X) → AllByRecursion P xs → slice_get xs i ≡ Some x → P x
-every_got P [] i x a at = absurd (none-some x at)
-every_got P (y ∷ ys) zero x a at = subst P (same_Some y x at) a.0
-every_got P (y ∷ ys) (suc i) x a at = every_got P ys i x a.1 at
-
-every_ranked : {X : Type 0} (n k : ℕ) (xs : List X) → k + length xs ≤ n → AllByRecursion (λ (r : ℕ × X). r.0 < n) (enumerate_from k xs)
-every_ranked n k [] le = tt
-every_ranked n k (x ∷ xs) le = ((let lt : k < n = omega arith in lt), every_ranked n (k + 1) xs (omega arith))
 
 -- a fault of some item
 
@@ -68,12 +41,6 @@ some_item P Q (x ∷ xs) f a h = elim h [ inl q ↦ (x, (a.0, q)) | inr r ↦ so
 
 -- the faults of clauses and imports
 
-abbrev AllRanked : List SourceFile → Type 0
-AllRanked files = AllByRecursion (λ (r : Ranked). r.0 < length files) (ranked files)
-
-all_ranked : (files : List SourceFile) → AllRanked files
-all_ranked files = every_ranked (length files) 0 files (omega arith)
-
 in_clause : (files : List SourceFile) (f : Fault) → IsClauseFault files f → f.file < length files
 in_clause files f h =
     let r = some_item (λ (r : Ranked). r.0 < length files) (IsFaultOfClause (package_name files)) (ranked files) f (all_ranked files) h in
@@ -82,20 +49,13 @@ in_clause files f h =
 in_import : (state : List ℕ → ImportState) (files : List SourceFile) (f : Fault) → IsImportFault state files f → f.file < length files
 in_import state files f h =
     let Below : PlacedImport → Type 0 = λ i. i.0.0 < length files in
-    let all = every_flat (λ (r : Ranked). r.0 < length files) Below placed_imports (λ r lt. every_map Below (λ i. (r, i)) (λ i. lt) (imports_in r.1.tree)) (ranked files) (all_ranked files) in
+    let all = all_flat (λ (r : Ranked). r.0 < length files) Below placed_imports (λ r lt. all_map Below (λ i. (r, i)) (λ i. lt) (imports_in r.1.tree))
+    (ranked files) (all_ranked files) in
     let i = some_item Below (IsFaultOfImport state) (flat_map placed_imports (ranked files)) f all h in
     subst (λ k. k < length files) (sym i.1.1.of_state.in_file) i.1.0
 
 pub in_outer : (state : List ℕ → ImportState) (files : List SourceFile) (f : Fault) → IsOuterFault state files f → f.file < length files
 in_outer state files f h = elim h [ inl c ↦ in_clause files f c | inr i ↦ in_import state files f i.1 ]
-
--- the fields of a name of a struct
-
-abbrev named_field : (rank file : ℕ) → Item FieldTree → Item ℕ → PlacedField
-named_field rank file i name = record { definition = rank; file = file; name = name.value; type_use = i.value.type_use }
-
-abbrev named_fields : (rank file : ℕ) → Item FieldTree → List PlacedField
-named_fields rank file i = map (named_field rank file i) i.value.names
 
 -- the faults of scopes
 
@@ -132,48 +92,18 @@ module _ (p : Package) (stands : (u : ℕ) → (p.layout.place u).file < length 
 
   -- those of members
 
-  types_of : (n file : ℕ) → file < n → (d : DeclTree) → AllByRecursion (λ (t : PlacedType). t.file < n) (decl_types file d)
-  types_of n file lt (VarDecl k g s) = tt
-  types_of n file lt (TypeDecl k g s) = every_map (λ (t : PlacedType). t.file < n) (placed_type file) (λ t. lt) (group_items g)
-  types_of n file lt (FuncDecl k f s) = tt
-
-  functions_of : (n file : ℕ) → file < n → (d : DeclTree) → AllByRecursion (λ (t : PlacedFunction). t.file < n) (decl_functions file d)
-  functions_of n file lt (VarDecl k g s) = tt
-  functions_of n file lt (TypeDecl k g s) = tt
-  functions_of n file lt (FuncDecl k f s) = (lt, tt)
-
-  all_types : AllByRecursion (λ (t : PlacedType). t.file < length p.files) (package_types p)
-  all_types =
-      let Q : PlacedType → Type 0 = λ t. t.file < length p.files in
-      every_flat (λ (r : Ranked). r.0 < length p.files) Q types_in (λ r lt. every_made Q (decl_types r.0) (types_of (length p.files) r.0 lt) r.1.tree.decls) (ranked p.files) (all_ranked p.files)
-
-  all_functions : AllByRecursion (λ (t : PlacedFunction). t.file < length p.files) (package_functions p)
-  all_functions =
-      let Q : PlacedFunction → Type 0 = λ t. t.file < length p.files in
-      every_flat (λ (r : Ranked). r.0 < length p.files) Q functions_in (λ r lt. every_made Q (decl_functions r.0) (functions_of (length p.files) r.0 lt) r.1.tree.decls) (ranked p.files) (all_ranked p.files)
-
-  fields_of : (n rank file : ℕ) → file < n → (b : BodyTree) → AllByRecursion (λ (x : PlacedField). x.file < n) (body_fields rank file b)
-  fields_of n rank file lt (Other t) = tt
-  fields_of n rank file lt (Struct k o fs c) =
-      every_made (λ (x : PlacedField). x.file < n) (named_fields rank file) (λ i. every_map (λ (x : PlacedField). x.file < n) (named_field rank file i) (λ name. lt) i.value.names) fs
-
-  fields_in : (n rank : ℕ) (ds : List PlacedType) → AllByRecursion (λ (t : PlacedType). t.file < n) ds → AllByRecursion (λ (x : PlacedField). x.file < n) (fields_from rank ds)
-  fields_in n rank [] a = tt
-  fields_in n rank (d ∷ ds) a =
-      every_append (λ (x : PlacedField). x.file < n) (body_fields rank d.file d.spec.body) (fields_from (suc rank) ds) (fields_of n rank d.file a.0 d.spec.body) (fields_in n (suc rank) ds a.1)
-
   in_member : (f : Fault) → IsMemberFault p f → f.file < length p.files
   in_member f h = elim h [
     | inl field ↦
         subst (λ (g : Fault). g.file < length p.files) (sym field.at)
-        (every_got (λ (x : PlacedField). x.file < length p.files) (package_fields p) field.rank field.field (fields_in (length p.files) 0 (package_types p) all_types) field.is_field.has_rank)
+        (field_file p field.rank field.field field.is_field.has_rank)
     | inr later ↦ elim later [
       | inl method ↦
           subst (λ (g : Fault). g.file < length p.files) (sym method.at)
-          (every_got (λ (x : PlacedFunction). x.file < length p.files) (package_functions p) method.rank method.method all_functions method.is_method.has_rank)
+          (function_file p method.rank method.method method.is_method.has_rank)
       | inr recursive ↦
           subst (λ (g : Fault). g.file < length p.files) (sym recursive.at)
-          (every_got (λ (x : PlacedType). x.file < length p.files) (package_types p) recursive.rank recursive.definition all_types recursive.has_rank)
+          (type_file p recursive.rank recursive.definition recursive.has_rank)
     ]
   ]
 

@@ -2,7 +2,8 @@
 use Rattle.std.proofs.Common.{ℕ, ◌≡◌, true, if◌then◌else◌, List, refl, sym, ap, ◌∙◌}
 use Rattle.std.specs.Prelude.{codes, bytes_eq}
 use Rattle.std.specs.FinMap.{IsAntisymmetric, nat_cmp-IsAntisymmetric, slice_cmp-IsAntisymmetric}
-use Rattle.std.specs.Ordering.{nat_cmp, is_lt, is_eq, is_gt, eq_by_cmp, ordering_then}
+use Rattle.std.specs.Ordering.{nat_cmp, is_lt, is_gt, eq_by_cmp, ordering_then}
+use Rattle.std.specs.Cmp.{Equal-is}
 use Rattle.std.specs.Cmp.Lexicographic.{slice_cmp}
 use Rattle.std.specs.declared.cmp.Ordering.{Ordering}
 use Rattle.std.specs.declared.cmp.Ordering.TheVariants.{Less, Equal, Greater}
@@ -89,10 +90,5 @@ fault_cmp_exact f g e =
     same_parts f g (bytes_exact f.place.path g.place.path b.0) (nat_cmp-IsAntisymmetric f.place.offset g.place.offset c.0)
     (one_kind f.kind g.kind (bytes_exact (name_of f.kind) (name_of g.kind) c.1))
 
-equal_by : (o : Ordering) → is_eq o ≡ true → o ≡ Equal
-equal_by Less e = absurd (true≢false (sym e))
-equal_by Equal e = refl
-equal_by Greater e = absurd (true≢false (sym e))
-
 pub same_fault : (f g : FileFault) → eq_by_cmp fault_cmp f g ≡ true → f ≡ g
-same_fault f g e = fault_cmp_exact f g (equal_by (fault_cmp f g) e)
+same_fault f g e = fault_cmp_exact f g ((Equal-is (fault_cmp f g)).0 e)

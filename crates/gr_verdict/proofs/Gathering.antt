@@ -1,5 +1,5 @@
 -- What is known of packages, with one more judged; and what is found in all of them.
-use Rattle.std.proofs.Common.{ℕ, ◌≡◌, ◌+◌, ◌<◌, ◌⊎◌, inl, inr, List, [], ◌∷◌, ◌++◌, length, take, map, get_or, sym, ap, subst, ◌∙◌}
+use Rattle.std.proofs.Common.{ℕ, ◌≡◌, ◌+◌, ◌<◌, ◌⊎◌, inl, inr, List, [], ◌∷◌, ◌++◌, length, take, get_or, sym, ap, subst, ◌∙◌}
 use Rattle.std.specs.Prelude.{Contains, Option, Some, slice_get, option_map}
 use Rattle.std.proofs.Math.ListN.{set}
 use Rattle.std.proofs.lemmas.Bool.{cases_eq}
@@ -9,13 +9,14 @@ use Rattle.std.proofs.lemmas.Option.{same_Some, slice_get_within, slice_get-map}
 use Rattle.gr_text.specs.Workspace.{Workspace}
 use Rattle.gr_text.specs.Packages.{package_paths}
 use Rattle.gr_graph.proofs.Asked.{number, at_contains}
+use Rattle.gr_declared.proofs.Mentioning.{get_set_same, get_set_other}
 use Rattle.gr_verdict.specs.declared.finding.Finding.{Finding}
 use Rattle.gr_verdict.specs.declared.findings.Findings.{Findings}
 use Rattle.gr_verdict.specs.declared.gathered.Gathered.{Gathered}
 use Rattle.gr_verdict.specs.Verdicts.{BuildsOn, AreVerdictsBelow, AreVerdicts}
 use Rattle.gr_verdict.specs.Found.{known_by, AreWhole, IsFindingOf, IsFoundBy, AreFindings}
 use Rattle.gr_verdict.specs.Steps.{AreKnown, AreGathered, AreAllGathered, IsGathered, IsBuildOrder, LearnsOf, MayLearn, somes}
-use Rattle.gr_verdict.proofs.Adding.{finding_as, get_set_other, get_set_same, set_there}
+use Rattle.gr_verdict.proofs.Adding.{finding_as}
 use Rattle.gr_verdict.proofs.Knowing.{learnt_next}
 use Rattle.gr_verdict.proofs.Members.{nothing_in}
 use Rattle.gr_verdict.proofs.OneVerdict.{right_alike, right_below}
@@ -30,7 +31,7 @@ gathered_or_here fs n m f g = elim (cases_eq m n) [
 
 gathered_stays : (fs : List (Option Finding)) (n m : ℕ) (f : Finding) → n < length fs → IsGathered fs m → IsGathered (set fs n (Some f)) m
 gathered_stays fs n m f within g = elim (cases_eq m n) [
-  | inl e ↦ subst (IsGathered (set fs n (Some f))) (sym e) (f, set_there fs n (Some f) within)
+  | inl e ↦ subst (IsGathered (set fs n (Some f))) (sym e) (f, get_set_same fs n (Some f) within)
   | inr ne ↦ (g.0, get_set_other fs n m (Some f) ne ∙ g.1)
 ]
 
@@ -52,7 +53,10 @@ module _ (w : Workspace) (q : List ℕ) (n : ℕ) (old new : Gathered) (at : sli
       let is_set : slice_get (set fs n (Some l.finding)) m ≡ Some (Some f) = subst (λ gs. slice_get gs m ≡ Some (Some f)) l.is_set is in
       elim (cases_eq m n) [
         | inl e ↦ (
-            let same : l.finding ≡ f = same_Some l.finding f (get_set_same fs n (Some l.finding) (Some f) (subst (λ k. slice_get (set fs n (Some l.finding)) k ≡ Some (Some f)) e is_set)) in
+            let here : slice_get (set fs n (Some l.finding)) n ≡ Some (Some f) =
+            subst (λ k. slice_get (set fs n (Some l.finding)) k ≡ Some (Some f)) e is_set in
+            let same : l.finding ≡ f =
+            same_Some l.finding f (same_Some (Some l.finding) (Some f) (sym (get_set_same fs n (Some l.finding) within) ∙ here)) in
             let path : q ≡ r = same_Some q r (sym at ∙ subst (λ k. slice_get (package_paths w) k ≡ Some r) e at_m) in
             subst (λ p. IsFindingOf w p f) path (subst (IsFindingOf w q) same (record { known = known_by old.interfaces; right = right; finding = l.learns.is_finding })))
         | inr ne ↦ h.each m r f at_m (sym (get_set_other fs n m (Some l.finding) ne) ∙ is_set)
@@ -64,7 +68,8 @@ module _ (w : Workspace) (q : List ℕ) (n : ℕ) (old new : Gathered) (at : sli
       record {
         size = ap length l.is_set ∙ length-set fs n (Some l.finding) ∙ h.size;
         verdicts = subst (λ xs. AreKnown w (IsGathered xs) new.interfaces) (sym l.is_set)
-            (learnt_next w (IsGathered fs) (IsGathered gs) n q at (λ m c. gathered_or_here fs n m l.finding c) (λ m c. gathered_stays fs n m l.finding within c) (l.finding, set_there fs n (Some l.finding) within) unknown
+            (learnt_next w (IsGathered fs) (IsGathered gs) n q at (λ m c. gathered_or_here fs n m l.finding c)
+            (λ m c. gathered_stays fs n m l.finding within c) (l.finding, get_set_same fs n (Some l.finding) within) unknown
             old.interfaces new.interfaces h.verdicts l.finding below l.learns);
         each = each_learnt;
       }
@@ -72,7 +77,7 @@ module _ (w : Workspace) (q : List ℕ) (n : ℕ) (old new : Gathered) (at : sli
   known_still : (m : ℕ) → IsGathered fs m ⊎ (n ≡ m) → IsGathered new.findings.items m
   known_still m g = subst (λ xs. IsGathered xs m) (sym l.is_set) (elim g [
     | inl before ↦ gathered_stays fs n m l.finding within before
-    | inr e ↦ subst (IsGathered (set fs n (Some l.finding))) e (l.finding, set_there fs n (Some l.finding) within)
+    | inr e ↦ subst (IsGathered (set fs n (Some l.finding))) e (l.finding, get_set_same fs n (Some l.finding) within)
   ])
 
 -- before the first package

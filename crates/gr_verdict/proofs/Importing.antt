@@ -4,7 +4,7 @@ use Rattle.std.specs.Prelude.{Contains}
 use Rattle.std.specs.List.{flat_map, enumerate_from}
 use Rattle.std.proofs.Math.Path.{ap₂}
 use Rattle.std.proofs.lemmas.Bool.{cases_lt}
-use Rattle.std.proofs.lemmas.List.{get_or_past}
+use Rattle.std.proofs.lemmas.List.{get_or_past, map-append}
 use Rattle.std.proofs.lemmas.Option.{slice_get-get_or}
 use Rattle.gr_text.specs.Workspace.{Workspace}
 use Rattle.gr_text.specs.Packages.{package_files}
@@ -17,8 +17,8 @@ use Rattle.gr_fault.specs.Listing.{SomeOf}
 use Rattle.gr_tree.specs.Tree.{Item, Group, single, several, ImportTree, ImportsTree, FileTree}
 use Rattle.gr_tree.specs.SourceFile.{SourceFile, FileParts, source_of}
 use Rattle.gr_graph.specs.FileImports.{paths_in, import_literals}
-use Rattle.gr_graph.specs.Packages.{IsParsed, ImportsPath, PackageImports}
-use Rattle.gr_graph.specs.Parsed.{AreParsed, none, tree}
+use Rattle.gr_graph.specs.Packages.{ImportsPath, PackageImports}
+use Rattle.gr_graph.specs.Parsed.{AreParsed}
 use Rattle.gr_imports.specs.declared.states.ImportState.{ImportState}
 use Rattle.gr_imports.specs.Files.{Ranked, group_items, imports_in, HasLiteral}
 use Rattle.gr_stages.specs.Clauses.{IsClauseFault}
@@ -29,6 +29,7 @@ use Rattle.gr_verdict.specs.Verdicts.{Verdicts, AreStates}
 use Rattle.gr_verdict.proofs.Alike.{first_as}
 use Rattle.gr_verdict.proofs.Members.{nothing_in, first_in, later_in, first_or_later}
 use Rattle.gr_verdict.proofs.OneSeen.{one_state}
+use Rattle.gr_verdict.proofs.PackageFiles.{file_among}
 
 -- the literals of imports
 
@@ -40,14 +41,12 @@ group_literals (several o xs c) = items xs
     items [] = refl
     items (x ∷ xs) = ap (λ rest. x.value.path ∷ rest) (items xs)
 
-map_joined : (xs ys : List ImportTree) → map (λ (i : ImportTree). i.path) (xs ++ ys) ≡ map (λ (i : ImportTree). i.path) xs ++ map (λ (i : ImportTree). i.path) ys
-map_joined [] ys = refl
-map_joined (x ∷ xs) ys = ap (λ rest. x.path ∷ rest) (map_joined xs ys)
-
-literals_by : (ds : List ImportsTree) → map (λ (i : ImportTree). i.path) (flat_map (λ (d : ImportsTree). group_items d.imports) ds) ≡ flat_map (λ (d : ImportsTree). paths_in d.imports) ds
-literals_by [] = refl
-literals_by (d ∷ ds) =
-    map_joined (group_items d.imports) (flat_map (λ (e : ImportsTree). group_items e.imports) ds) ∙ ap₂ (λ xs ys. xs ++ ys) (group_literals d.imports) (literals_by ds)
+pub literals_agree : (ds : List ImportsTree) →
+    map (λ (i : ImportTree). i.path) (flat_map (λ (d : ImportsTree). group_items d.imports) ds) ≡ flat_map (λ (d : ImportsTree). paths_in d.imports) ds
+literals_agree [] = refl
+literals_agree (d ∷ ds) =
+    map-append (λ (i : ImportTree). i.path) (group_items d.imports) (flat_map (λ (e : ImportsTree). group_items e.imports) ds)
+    ∙ ap₂ (λ xs ys. xs ++ ys) (group_literals d.imports) (literals_agree ds)
 
 map_contains : {X Y : Type 0} (f : X → Y) (xs : List X) (x : X) → Contains xs x → Contains (map f xs) (f x)
 map_contains f [] x h = absurd (nothing_in x h)
@@ -57,38 +56,30 @@ map_contains f (y ∷ ys) x h = elim (first_or_later y ys x h) [
 ]
 
 literal_there : (t : FileTree) (i : ImportTree) → Contains (imports_in t) i → Contains (import_literals t) i.path
-literal_there t i h = subst (λ l. Contains l i.path) (literals_by t.imports) (map_contains (λ (j : ImportTree). j.path) (imports_in t) i h)
+literal_there t i h = subst (λ l. Contains l i.path) (literals_agree t.imports) (map_contains (λ (j : ImportTree). j.path) (imports_in t) i h)
 
 -- an empty piece is no literal
 not_string : IsStringClass (semicolon 0).class → ⊥
 not_string h = elim h [ inl e ↦ (let z : ⊥ = cc in z) | inr e ↦ (let z : ⊥ = cc in z) ]
 
-imports_path : (s : SourceFile) (i : ImportTree) (path : List ℕ) → Contains (imports_in s.tree) i → HasLiteral s i.path path → ImportsPath s path
-imports_path s i path h l = elim (cases_lt i.path (length (tokens_in s.cut))) [
+pub literal_path : (s : SourceFile) (i : ℕ) (path : List ℕ) → Contains (import_literals s.tree) i → HasLiteral s i path → ImportsPath s path
+literal_path s i path h l = elim (cases_lt i (length (tokens_in s.cut))) [
   | inl lt ↦ record {
-    token = i.path;
-    literal = literal_there s.tree i h;
-    piece = token_at s.cut i.path;
-    at = slice_get-get_or (tokens_in s.cut) i.path (semicolon 0) lt;
+    token = i;
+    literal = h;
+    piece = token_at s.cut i;
+    at = slice_get-get_or (tokens_in s.cut) i (semicolon 0) lt;
     is_string = l.is_string;
     value = l.stands_for;
   }
-  | inr ge ↦ absurd (not_string (subst (λ (x : Piece). IsStringClass x.class) (get_or_past (tokens_in s.cut) i.path (semicolon 0) ge) l.is_string))
-]
-
--- a parsed file of a package
-file_among : {es : List (List ℕ × List ℕ)} {ts : List FileParts} → AreParsed es ts [] → (s : SourceFile) → Contains (map source_of ts) s → (e : List ℕ × List ℕ) × (Contains es e × IsParsed e.0 e.1 s)
-file_among none s h = absurd (nothing_in s h)
-file_among (tree {e = e} {es = es} {t = t} {ts = ts} is rest) s h = elim (first_or_later (source_of t) (map source_of ts) s h) [
-  | inl same ↦ (e, (first_in e es, subst (IsParsed e.0 e.1) same is))
-  | inr c ↦ let r = file_among rest s c in (r.0, (later_in e es r.0 r.1.0, r.1.1))
+  | inr ge ↦ absurd (not_string (subst (λ (x : Piece). IsStringClass x.class) (get_or_past (tokens_in s.cut) i (semicolon 0) ge) l.is_string))
 ]
 
 package_imports : (w : Workspace) (p : List ℕ) (ts : List FileParts) → AreParsed (package_files w p) ts [] → (s : SourceFile) (i : ImportTree) (path : List ℕ) → Contains (map source_of ts) s →
     Contains (imports_in s.tree) i → HasLiteral s i.path path → PackageImports w p path
 package_imports w p ts parsed s i path among h l =
     let at = file_among parsed s among in
-    record { entry = at.0; of_package = at.1.0; file = s; parsed = at.1.1; imports = imports_path s i path h l }
+    record { entry = at.0; of_package = at.1.0; file = s; parsed = at.1.1; imports = literal_path s i.path path (literal_there s.tree i h) l }
 
 -- two tables of states that say the same of what is imported
 

@@ -1,5 +1,5 @@
 -- What is found of a package each of whose files has a tree.
-use Rattle.std.proofs.Common.{ℕ, ◌≡◌, ◌<◌, ◌↔◌, inl, inr, List, [], length, map, refl, sym, ap, subst, ◌∙◌, MatchOption, arith}
+use Rattle.std.proofs.Common.{ℕ, ◌≡◌, ◌<◌, ◌↔◌, inl, inr, List, [], length, map, refl, sym, ap, subst, ◌∙◌, MatchOption}
 use Rattle.std.specs.Prelude.{Contains, Option, Some, None, slice_get}
 use Rattle.std.specs.Global.{Vec}
 use Rattle.std.specs.List.Sorted.{IsStrictlySortedBy}
@@ -9,7 +9,7 @@ use Rattle.gr_fault.specs.declared.fault.Fault.{Fault}
 use Rattle.gr_fault.specs.Listing.{Lists}
 use Rattle.gr_fault.specs.Stage.{HasNone, FirstOf}
 use Rattle.gr_tree.specs.SourceFile.{FileParts, source_of}
-use Rattle.gr_graph.specs.Parsed.{AreParsed, none, tree}
+use Rattle.gr_graph.specs.Parsed.{AreParsed}
 use Rattle.gr_imports.specs.declared.states.ImportState.{ImportState}
 use Rattle.gr_stages.specs.Stages.{IsOuterFault}
 use Rattle.gr_types.specs.declared.checking.Checked.{Checked}
@@ -30,12 +30,8 @@ use Rattle.gr_verdict.proofs.FaultFiles.{in_outer, in_later, identifiers_stand, 
 use Rattle.gr_verdict.proofs.Importing.{outer_as}
 use Rattle.gr_verdict.proofs.Members.{nothing_in, some_in, empty_by, not_empty_by}
 use Rattle.gr_verdict.proofs.OnePackage.{one_sources, one_checked}
-use Rattle.gr_verdict.proofs.PackageFiles.{package_file}
+use Rattle.gr_verdict.proofs.PackageFiles.{package_file, some_tree}
 use Rattle.gr_verdict.proofs.Unread.{none_unread}
-
-some_file : {es : List (List ℕ × List ℕ)} {ts : List FileParts} → AreParsed es ts [] → (e : List ℕ × List ℕ) → Contains es e → 0 < length ts
-some_file none e h = absurd (nothing_in e h)
-some_file (tree is rest) e h = omega arith
 
 module _ (w : Workspace) (known : Verdicts) (p : List ℕ) (own : Contains (package_paths w) p) (files : List FileParts) (parsed : AreParsed (package_files w p) files [])
     (name_of : List ℕ → Option (List ℕ)) (interface_at : List ℕ → Interface) (are_seen : AreSeen w known p name_of interface_at) (state : List ℕ → ImportState) (are_states : AreStates w known p state) where
@@ -46,7 +42,7 @@ module _ (w : Workspace) (known : Verdicts) (p : List ℕ) (own : Contains (pack
   is_checked c h = record { files = files; parsed = parsed; name_of = name_of; interface_of = interface_at; are_seen = are_seen; is_package = h }
 
   has_file : 0 < length files
-  has_file = let e = package_file w p own in some_file parsed e.0 e.1
+  has_file = let e = package_file w p own in some_tree parsed e.0 e.1
 
   -- a fault of the package, with its place, is among those that are placed
 

@@ -12,6 +12,7 @@ pub mod PlacedExpressions
 pub mod PlacedStatements
 pub mod PlacedDeclarations
 pub mod PlacedSites
+pub mod MemberFiles
 pub mod FaultFiles
 pub mod PackageFiles
 pub mod Importing

@@ -1,25 +1,16 @@
 -- Where the closure of a package has the same texts in two workspaces, the package has the same verdict and fault list in both.
-use Rattle.std.proofs.Common.{ℕ, ◌≡◌, inl, inr, Bool, true, false, ◌&&◌, List, [], ◌∷◌, refl, sym, subst, ◌∙◌, T}
-use Rattle.std.specs.Prelude.{Option, Contains, ◌==◌, map}
+use Rattle.std.proofs.Common.{ℕ, ◌≡◌, inl, inr, List, [], sym, subst, ◌∙◌}
+use Rattle.std.specs.Prelude.{Option, Contains, map}
 use Rattle.std.specs.Cmp.{IsTotalOrder, on_total}
-use Rattle.std.specs.Cmp.Lexicographic.{pointwise, bytes_decides, nat_list_cmp_total}
-use Rattle.std.specs.FinMap.{entries, entries_sorted, is_sorted}
-use Rattle.std.specs.FinMap.Entries.{below_all}
-use Rattle.std.specs.List.{AllByRecursion}
-use Rattle.std.specs.List.Sorted.{IsStrictlySortedBy}
-use Rattle.std.specs.Ordering.{is_lt}
-use Rattle.std.specs.declared.cmp.Ordering.{Ordering}
-use Rattle.std.specs.declared.cmp.Ordering.TheVariants.{Less, Equal, Greater}
-use Rattle.std.proofs.lemmas.Bool.{and_parts, true≢false}
-use Rattle.std.proofs.lemmas.List.Kept.{IsStrictlySortedBy-filter}
-use Rattle.gr_text.specs.Path.{folder}
-use Rattle.gr_text.specs.Packages.{is_go, is_of_package, package_paths, package_files}
-use Rattle.gr_text.specs.Workspace.{Workspace, path_cmp}
+use Rattle.std.specs.Cmp.Lexicographic.{nat_list_cmp_total}
+use Rattle.gr_text.specs.Packages.{package_paths, package_files}
+use Rattle.gr_text.specs.Workspace.{Workspace}
 use Rattle.gr_fault.specs.declared.fault.Fault.{Fault}
 use Rattle.gr_tree.specs.SourceFile.{source_of}
 use Rattle.gr_graph.specs.Packages.{PackageImports, IsInClosure, itself, through}
 use Rattle.gr_graph.specs.Parsed.{AreParsed}
 use Rattle.gr_imports.specs.declared.states.ImportState.{ImportState}
+use Rattle.gr_order.proofs.OwnPaths.{entry_cmp, files_sorted}
 use Rattle.gr_stages.specs.Stages.{IsOuterFault}
 use Rattle.gr_declared.specs.Package.{Package, Interface}
 use Rattle.gr_verdict.specs.declared.fault.FileFault.{FileFault}
@@ -31,45 +22,13 @@ use Rattle.gr_verdict.specs.Found.{known_by, IsFindingOf, TellsVerdict}
 use Rattle.gr_verdict.specs.Closures.{HasSameClosure}
 use Rattle.gr_verdict.proofs.Alike.{first_as}
 use Rattle.gr_verdict.proofs.Closed.{from_package, to_package, in_closure_then}
-use Rattle.gr_verdict.proofs.Members.{passes, one_sorted}
-use Rattle.gr_verdict.proofs.PackageFiles.{package_file}
+use Rattle.gr_verdict.proofs.Members.{one_sorted}
+use Rattle.gr_verdict.proofs.PackageFiles.{package_file, in_folder}
 
--- the files of a package are in order
-
-abbrev entry_cmp : List ℕ × List ℕ → List ℕ × List ℕ → Ordering
-entry_cmp d e = path_cmp d.0 e.0
+-- one workspace for another
 
 entry_total : IsTotalOrder entry_cmp
 entry_total = on_total (λ (e : List ℕ × List ℕ). e.0) nat_list_cmp_total
-
-is_true : (b : Bool) → T b → b ≡ true
-is_true true h = refl
-is_true false h = absurd h
-
-is_less : (o : Ordering) → is_lt o ≡ true → o ≡ Less
-is_less Less h = refl
-is_less Equal h = absurd (true≢false (sym h))
-is_less Greater h = absurd (true≢false (sym h))
-
-below_entries : (d : List ℕ × List ℕ) (es : List (List ℕ × List ℕ)) → below_all path_cmp d.0 es ≡ true → AllByRecursion (λ e. entry_cmp d e ≡ Less) es
-below_entries d [] h = tt
-below_entries d (e ∷ es) h = let b = and_parts _ _ h in (is_less _ b.0, below_entries d es b.1)
-
-sorted_entries : (es : List (List ℕ × List ℕ)) → is_sorted path_cmp es ≡ true → IsStrictlySortedBy entry_cmp es
-unfolding IsStrictlySortedBy
-sorted_entries [] h = tt
-sorted_entries (e ∷ es) h = let b = and_parts _ _ h in (below_entries e es b.0, sorted_entries es b.1)
-
-files_sorted : (w : Workspace) (p : List ℕ) → IsStrictlySortedBy entry_cmp (package_files w p)
-files_sorted w p = IsStrictlySortedBy-filter entry_cmp (λ e. is_of_package p e.0) (entries w) (sorted_entries (entries w) (is_true _ (entries_sorted w)))
-
--- a file lies in the folder of its package
-in_folder : (w : Workspace) (p : List ℕ) (e : List ℕ × List ℕ) → Contains (package_files w p) e → folder e.0 ≡ p
-in_folder w p e h =
-    let test : (is_go e.0 && pointwise ◌==◌ (folder e.0) p) ≡ true = (passes (λ d. is_of_package p d.0) (entries w) e h).0 in
-    (bytes_decides (folder e.0) p).0 (and_parts (is_go e.0) (pointwise ◌==◌ (folder e.0) p) test).1
-
--- one workspace for another
 
 pub same_back : (w x : Workspace) (p : List ℕ) → HasSameClosure w x p → HasSameClosure x w p
 same_back w x p same e = ((same e).1, (same e).0)
@@ -204,7 +163,7 @@ module _ (w x : Workspace) (p : List ℕ) (same : HasSameClosure w x p) (own : C
   interface_there : (i : Interface) → HasInterface w known p i → HasInterface x known p i
   interface_there i h = record { checked = h.checked; is_package = package_there h.checked h.is_package; is_interface = h.is_interface }
 
-own_there : (w x : Workspace) (p : List ℕ) → HasSameClosure w x p → Contains (package_paths w) p → Contains (package_paths x) p
+pub own_there : (w x : Workspace) (p : List ℕ) → HasSameClosure w x p → Contains (package_paths w) p → Contains (package_paths x) p
 own_there w x p same own = to_package x p p (closed_there w x p same p (itself own))
 
 by_there : (w x : Workspace) (p : List ℕ) → HasSameClosure w x p → Contains (package_paths w) p → (known : Verdicts) (v : Verdict) → IsVerdictBy w known p v → IsVerdictBy x known p v

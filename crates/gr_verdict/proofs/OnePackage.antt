@@ -49,21 +49,21 @@ in_order (tree is rest) (suc k) s at = in_order rest k s at
 
 -- which of the files' trees a package is made of does not matter, but only what they stand for
 
-abbrev spelled : SourceFile → SpelledFile
+abbrev pub spelled : SourceFile → SpelledFile
 spelled s = record { tree = s.tree; spell = spelling_of s }
 
-spelled_as : (ts : List FileParts) → map spelled_file ts ≡ map spelled (map source_of ts)
+pub spelled_as : (ts : List FileParts) → map spelled_file ts ≡ map spelled (map source_of ts)
 spelled_as [] = refl
 spelled_as (t ∷ ts) = ap (λ ss. spelled_file t ∷ ss) (spelled_as ts)
 
-same_sites : (ts us : List FileParts) → map source_of ts ≡ map source_of us → package_sites (map spelled_file ts) ≡ package_sites (map spelled_file us)
+pub same_sites : (ts us : List FileParts) → map source_of ts ≡ map source_of us → package_sites (map spelled_file ts) ≡ package_sites (map spelled_file us)
 same_sites ts us e = ap package_sites (spelled_as ts ∙ ap (map spelled) e ∙ sym (spelled_as us))
 
-abbrev laid_by : List Site → Laid
+abbrev pub laid_by : List Site → Laid
 laid_by sites = record { layout = sites_layout sites; names = sites_names sites; size = length sites }
 
-package_from : (p : List ℕ) (ts us : List FileParts) (name_of : List ℕ → Option (List ℕ)) (interface_of : List ℕ → Interface) (c : Package) → map source_of ts ≡ map source_of us →
-    IsPackageOf p ts name_of interface_of c → IsPackageOf p us name_of interface_of c
+pub package_from : (p : List ℕ) (ts us : List FileParts) (name_of : List ℕ → Option (List ℕ)) (interface_of : List ℕ → Interface) (c : Package) →
+    map source_of ts ≡ map source_of us → IsPackageOf p ts name_of interface_of c → IsPackageOf p us name_of interface_of c
 package_from p ts us name_of interface_of c e h =
     let sites = same_sites ts us e in
     let names = h.is_laid.names in

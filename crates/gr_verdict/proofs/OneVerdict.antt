@@ -3,7 +3,8 @@ use Rattle.std.proofs.Common.{ℕ, ◌≡◌, Bool, true, false, List, refl, sym
 use Rattle.gr_text.specs.Workspace.{Workspace}
 use Rattle.gr_declared.specs.Package.{Package, Interface}
 use Rattle.gr_types.specs.Interfaces.{IsInterface}
-use Rattle.gr_verdict.specs.Verdicts.{Verdict, Verdicts, IsPackageIn, HasInterface, IsVerdictBy, IsVerdict, follows, AreVerdictsBelow, AreVerdicts}
+use Rattle.gr_verdict.specs.declared.fault.FileFault.{FileFault}
+use Rattle.gr_verdict.specs.Verdicts.{Verdict, Verdicts, IsPackageIn, IsFaultBy, HasInterface, IsVerdictBy, IsVerdict, follows, AreVerdictsBelow, AreVerdicts}
 use Rattle.gr_verdict.specs.Laws.{IsSameVerdict}
 use Rattle.gr_verdict.proofs.Alike.{KnowsAlike, package_as, verdict_as}
 use Rattle.gr_verdict.proofs.Closed.{to_package}
@@ -42,3 +43,9 @@ verdict_by w p known v right (follows a below by) = verdict_as w p a known (righ
 
 pub checked_as_one : (w : Workspace) (p : List ℕ) (a b : Verdicts) → AreVerdictsBelow w p a → AreVerdictsBelow w p b → (x y : Package) → IsPackageIn w a p x → IsPackageIn w b p y → x ≡ y
 checked_as_one w p a b right also x y h k = one_checked w b p x y (package_as w p a b (right_alike w p a b right also) x h) k
+
+-- one of which no fault is one is not faulty
+pub without_faults : (w : Workspace) (known : Verdicts) (p : List ℕ) (v : Verdict) → IsVerdictBy w known p v → ((f : FileFault) → IsFaultBy w known p f → ⊥) →
+    (b : Bool) → v.faulty ≡ b → v.faulty ≡ false
+without_faults w known p v by sound true e = let f = by.has_faults.0 e in absurd (sound f.0 f.1)
+without_faults w known p v by sound false e = e

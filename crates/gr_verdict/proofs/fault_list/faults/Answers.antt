@@ -1,5 +1,5 @@
 -- The answers to the goals of `fault_list::faults`.
-use Rattle.std.proofs.Common.{◌≡◌, ◌↔◌, subst, ◌∙◌, ap}
+use Rattle.std.proofs.Common.{◌↔◌, subst, ◌∙◌, ap}
 use Rattle.std.specs.Prelude.{Contains}
 use Rattle.std.specs.List.{flat_map}
 use Rattle.gr_verdict.proofs.Listing.{list_found, faults_in}

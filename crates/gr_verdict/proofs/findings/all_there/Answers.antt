@@ -1,5 +1,5 @@
 -- The answers to the goals of `findings::all_there`.
-use Rattle.std.proofs.Common.{◌≡◌, List, get_or, sym, ap, ◌∙◌}
+use Rattle.std.proofs.Common.{List, get_or, sym, ap, ◌∙◌}
 use Rattle.std.specs.Prelude.{Option, Some}
 use Rattle.std.specs.Global.{Vec}
 use Rattle.std.proofs.lemmas.Option.{same_Some, slice_get-get_or}
