@@ -1,6 +1,6 @@
 -- Lists of anything, and what is added to them.
-use Rattle.std.proofs.Common.{arith, ◌<◌, ◌+◌, ℕ, ◌≡◌, ◌⊎◌, inl, inr, List, subst, sym}
-use Rattle.std.specs.Prelude.{Contains, Result, OnOk}
+use Rattle.std.proofs.Common.{arith, ◌<◌, ◌+◌, ℕ, ◌≡◌, ◌⊎◌, inl, inr, List, subst}
+use Rattle.std.specs.Prelude.{Result, OnOk}
 use Rattle.std.proofs.lemmas.Bool.{cases_lt}
 use Rattle.std.proofs.lemmas.Result.{on_ok_weaker}
 use Rattle.gr_bound.specs.Bindings.{AddsAll}

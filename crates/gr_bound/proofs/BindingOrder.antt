@@ -1,5 +1,5 @@
 -- Bound identifiers of all packages, and their order.
-use Rattle.std.proofs.Common.{ℕ, ◌≡◌, ◌+◌, ◌<◌, ◌≤◌, ◌⊎◌, inl, inr, List, [], ◌∷◌, length, get_or, map, ap, sym, subst, refl, ◌∙◌, arith}
+use Rattle.std.proofs.Common.{ℕ, ◌≡◌, ◌<◌, inl, inr, List, [], length, get_or, ap, sym, subst, refl, ◌∙◌, arith}
 use Rattle.std.specs.Prelude.{Contains, ◌↔◌}
 use Rattle.std.specs.declared.cmp.Ordering.{Ordering}
 use Rattle.std.specs.declared.cmp.Ordering.TheVariants.{Less, Equal, Greater}
@@ -15,7 +15,7 @@ use Rattle.gr_text.specs.declared.place.Place.{Place}
 use Rattle.gr_verdict.specs.Verdicts.{Verdicts}
 use Rattle.gr_bound.specs.declared.bound_spot.BoundSpot.{BoundSpot}
 use Rattle.gr_bound.specs.declared.declaration.Declaration.{Declaration}
-use Rattle.gr_bound.specs.Bindings.{AddsAll, AreBindings, IsBoundAt, IsBound, place_at}
+use Rattle.gr_bound.specs.Bindings.{AddsAll, AreBindings, AreBindingsAmong, IsBoundAt, IsBoundAmong, IsBound, place_at}
 use Rattle.gr_bound.specs.Places.{place_cmp}
 use Rattle.gr_bound.specs.Uses.{IsUseOf}
 use Rattle.gr_bound.proofs.PlaceOrder.{place_cmp_total, place_cmp_exact}
@@ -30,6 +30,15 @@ pub bound_somewhere : (w : Workspace) (known : Verdicts) (b : BoundSpot) → IsB
 bound_somewhere w known b h =
     let k = numbered w known h.used_in h.is_package in
     (k.0, number_within w known k.0 h.used_in k.1, record { used_in = h.used_in; is_package = k.1; bound = (h.user, (h.begins, h.bound)) })
+
+-- what is bound in the package of a number, in one of some numbers
+
+pub bound_among : (w : Workspace) (known : Verdicts) (IsOf : ℕ → Type 0) (n : ℕ) (b : BoundSpot) → IsOf n × IsBoundAt w known n b → IsBoundAmong w known IsOf b
+bound_among w known IsOf n b h = record { number = n; is_of = h.0; bound = h.1 }
+
+pub bound_in_range : (w : Workspace) (known : Verdicts) (IsOf : ℕ → Type 0) (b : BoundSpot) → IsBoundAmong w known IsOf b →
+    (n : ℕ) × (n < length (package_paths w)) × (IsOf n × IsBoundAt w known n b)
+bound_in_range w known IsOf b h = (h.number, number_within w known h.number h.bound.used_in h.bound.is_package, (h.is_of, h.bound))
 
 -- what a search answers
 
@@ -61,20 +70,28 @@ pub none_is : (bs : List BoundSpot) (place : Place) (i : ℕ) → IsSortedBy (λ
     (IsNonDecreasingBy (λ y. ordering_index (compared place y)) bs → IsPartitionPoint (λ x. compared place x ≡ Less) (λ x. compared place x ≡ Greater) bs i) → (b : BoundSpot) → Contains bs b → place_at b ≡ place → ⊥
 none_is bs place i sorted found = none_in bs place i (found (rises bs place sorted))
 
--- the bindings of a workspace
+-- all that was added to nothing, in order
 
+all_added : (P : BoundSpot → Type 0) (found sorted : List BoundSpot) → AddsAll [] found P → ((b : BoundSpot) → Contains sorted b ↔ Contains found b) →
+    (b : BoundSpot) → Contains sorted b ↔ P b
+all_added P found sorted added same b = (
+  (λ h. elim (added.only b ((same b).0 h)) [
+    | inl none ↦ let lt : none.0 < 0 = none.1 in let z : ⊥ = omega arith in absurd z
+    | inr p ↦ p
+  ]),
+  (λ p. (same b).1 (added.holds b p)),
+)
+
+-- the bindings of a workspace
 pub all_bound : (w : Workspace) (known : Verdicts) (found sorted : List BoundSpot) → AddsAll [] found (IsBound w known) → IsSortedBy (λ a b. is_lt (place_cmp (place_at a) (place_at b))) sorted →
     ((b : BoundSpot) → Contains sorted b ↔ Contains found b) → AreBindings w known sorted
-all_bound w known found sorted added order same = record {
-  in_order = order;
-  each = λ b. (
-    (λ h. elim (added.only b ((same b).0 h)) [
-      | inl none ↦ let lt : none.0 < 0 = none.1 in let z : ⊥ = omega arith in absurd z
-      | inr p ↦ p
-    ]),
-    (λ p. (same b).1 (added.holds b p)),
-  );
-}
+all_bound w known found sorted added order same = record { in_order = order; each = all_added (IsBound w known) found sorted added same }
+
+-- those of the packages of some numbers
+pub all_among : (w : Workspace) (known : Verdicts) (IsOf : ℕ → Type 0) (found sorted : List BoundSpot) → AddsAll [] found (IsBoundAmong w known IsOf) →
+    IsSortedBy (λ a b. is_lt (place_cmp (place_at a) (place_at b))) sorted → ((b : BoundSpot) → Contains sorted b ↔ Contains found b) →
+    AreBindingsAmong w known IsOf sorted
+all_among w known IsOf found sorted added order same = record { in_order = order; each = all_added (IsBoundAmong w known IsOf) found sorted added same }
 
 -- one of the bound identifiers that begin at a place
 pub bound_at : (w : Workspace) (known : Verdicts) (bs : List BoundSpot) (place : Place) (b : BoundSpot) → AreBindings w known bs → Contains bs b × (place_at b ≡ place) → IsUseOf w known b.declaration place

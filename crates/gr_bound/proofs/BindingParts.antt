@@ -1,8 +1,8 @@
 -- Bound identifiers, by the ways in which they are bound.
-use Rattle.std.proofs.Common.{ℕ, ◌≡◌, ◌⊎◌, ◌<◌, inl, inr, List, [], ◌∷◌, ◌++◌, length, ap, sym, subst, refl, ◌∙◌, arith}
-use Rattle.std.specs.Prelude.{Option, Some, None, Contains, Result, OnOk, MatchOption, slice_get, slice_index_or, map}
+use Rattle.std.proofs.Common.{ℕ, ◌≡◌, ◌⊎◌, ◌<◌, inl, inr, List, [], ◌++◌, length, ap, sym, subst, refl, ◌∙◌, arith}
+use Rattle.std.specs.Prelude.{Option, Some, None, Contains, Result, OnOk, slice_get, slice_index_or, map}
 use Rattle.std.specs.Global.{Vec}
-use Rattle.std.proofs.lemmas.Bool.{cases_lt, cases_order}
+use Rattle.std.proofs.lemmas.Bool.{cases_lt}
 use Rattle.std.proofs.lemmas.List.Elements.{Contains-append_left, Contains-append_right, Contains-append_cases}
 use Rattle.std.proofs.Math.ListN.{get_or-map, length-map}
 use Rattle.std.proofs.lemmas.List.{get_or_past}
@@ -28,11 +28,11 @@ use Rattle.gr_bound.specs.declared.bound_spot.BoundSpot.{BoundSpot}
 use Rattle.gr_bound.specs.declared.declaration.Declaration.{Declaration}
 use Rattle.gr_bound.specs.declared.declaration.Declaration.TheVariants.{Predeclared, Declared, Field, Method}
 use Rattle.gr_bound.specs.declared.spot.Spot.{Spot}
-use Rattle.gr_bound.specs.Binding.{BindsByScope, BindsByPackage, BindsByMember, BindsByName, IsBehindPackage, IsFieldAt, IsMethodAt, IsNameOf, Binds, by_scope, by_package, by_member, by_name}
+use Rattle.gr_bound.specs.Binding.{BindsByScope, BindsByPackage, BindsByMember, BindsByName, IsBehindPackage, IsFieldAt, IsMethodAt, Binds, by_scope, by_package, by_member, by_name}
 use Rattle.gr_bound.specs.Bindings.{AddsAll, BoundIn, bound_to, place_at}
 use Rattle.gr_bound.specs.Identifiers.{BeginsAt}
 use Rattle.gr_bound.specs.Members.{member_at, IsMemberUseOf, IsMemberUseAt, IsMemberUseAmong}
-use Rattle.gr_bound.specs.Steps.{Adds, UsesIn, AtToken, AtFound, ArePlaces, place_of}
+use Rattle.gr_bound.specs.Steps.{Adds, AtToken, AtFound, ArePlaces}
 use Rattle.gr_bound.specs.Uses.{IsPackage}
 use Rattle.gr_bound.proofs.AddingAll.{all_as, all_none, all_then, call_all, BelowAll, all_numbers}
 use Rattle.gr_bound.proofs.MemberPlaces.{IsFileUse, to_bound, from_bound}

@@ -1,11 +1,10 @@
 -- Of the ways to be bound, by scopes and behind the name of a package: each gives one declaration at most, and they exclude
 -- one another.
-use Rattle.std.proofs.Common.{ℕ, suc, ◌≡◌, ◌<◌, List, ap, sym, subst, refl, ◌∙◌, arith}
+use Rattle.std.proofs.Common.{ℕ, suc, ◌≡◌, List, ap, sym, subst, refl, ◌∙◌, arith}
 use Rattle.std.proofs.Math.Path.{ap₂}
 use Rattle.gr_text.specs.Workspace.{Workspace}
 use Rattle.gr_scope.specs.declared.model.Purpose.TheVariants as purpose
-use Rattle.gr_scope.specs.declared.model.Role.TheVariants.{NotLexical}
-use Rattle.gr_scope.specs.Bindings.{IsBoundTo, SameBlock}
+use Rattle.gr_scope.specs.Bindings.{IsBoundTo}
 use Rattle.gr_scope.specs.WellFormed.{WellFormed}
 use Rattle.gr_scope.proofs.Innermost.{one_in_block}
 use Rattle.gr_scope.proofs.Nests.{nests}

@@ -1,12 +1,12 @@
 -- What packages export, by name.
-use Rattle.std.proofs.Common.{ℕ, ◌≡◌, ◌+◌, ◌<◌, ◌≤◌, inl, inr, List, [], ◌∷◌, ◌++◌, length, ap, sym, subst, refl, ◌∙◌, arith}
+use Rattle.std.proofs.Common.{ℕ, ◌≡◌, ◌+◌, ◌<◌, inl, inr, List, sym, subst, ◌∙◌, arith}
 use Rattle.std.specs.Prelude.{Option, Some, None, MatchOption, slice_get}
 use Rattle.std.specs.Global.{Vec}
 use Rattle.std.specs.BTreeMap.{BTreeMap, Updates}
 use Rattle.std.specs.Cmp.Lexicographic.{slice_cmp}
 use Rattle.std.specs.Ordering.{nat_cmp}
 use Rattle.std.proofs.lemmas.Bool.{cases_lt}
-use Rattle.std.proofs.lemmas.Option.{same_Some, slice_get_within}
+use Rattle.std.proofs.lemmas.Option.{same_Some}
 use Rattle.gr_text.specs.Packages.{package_paths}
 use Rattle.gr_text.specs.Workspace.{Workspace}
 use Rattle.gr_declared.specs.Package.{Package}
@@ -16,7 +16,7 @@ use Rattle.gr_verdict.specs.Verdicts.{Verdicts}
 use Rattle.gr_bound.specs.declared.declaration.Declaration.{Declaration}
 use Rattle.gr_bound.specs.declared.declaration.Declaration.TheVariants.{Declared}
 use Rattle.gr_bound.specs.Exports.{number_named, IsExportedBelow, AreNumbersBelow, AreNumbers, AreNumbersAt}
-use Rattle.gr_bound.specs.Workspaces.{ExportsAs}
+use Rattle.gr_bound.specs.Workspaces.{ExportsAs, IsExportedNumber}
 use Rattle.gr_bound.proofs.Exporting.{none_exported, number_exported}
 
 abbrev FoundBelow : Package → ℕ → List ℕ → Option ℕ → Type 0
@@ -69,3 +69,8 @@ pub is_exported : (w : Workspace) (known : Verdicts) (path name : List ℕ) (n :
 is_exported w known path name n numbers d at are is =
     let found = subst (λ o. MatchOption o ((d : ℕ) → IsSeen are.0 d → are.0.names d ≡ name → ⊥) (λ d. IsSeen are.0 d × (are.0.names d ≡ name))) is (are.1.1 name) in
     number_exported w known path name are.0 are.1.0.is_package (same_Some _ _ (sym are.1.0.has_number ∙ at)) d found.0 found.1
+
+-- what the package of a number exports under a name
+pub number_found : (w : Workspace) (known : Verdicts) (n : ℕ) (name : List ℕ) (numbers : BTreeMap (Vec ℕ) ℕ) (o : Option ℕ) →
+    AreNumbersAt w known n numbers → o ≡ number_named numbers name → IsExportedNumber w known n name o
+number_found w known n name numbers o are is = subst (IsExportedNumber w known n name) (sym is) (are.0, (are.1.0, are.1.1 name))

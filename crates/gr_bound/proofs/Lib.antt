@@ -17,9 +17,15 @@ pub mod Examples
 pub mod AddingAll
 pub mod BindingParts
 pub mod ExportNumbers
+pub mod Importing
 pub mod PlaceOrder
 pub mod BindingOrder
 pub mod OnePlace
 pub mod Excluding
 pub mod NamedMembers
 pub mod UsedMembers
+pub mod HeaderStrings
+pub mod ImportSites
+pub mod NamedImports
+pub mod OwnedMembers
+pub mod MayUse

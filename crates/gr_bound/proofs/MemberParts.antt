@@ -27,7 +27,7 @@ use Rattle.gr_meanings.specs.Uniqueness.{IsOneWorld}
 use Rattle.gr_meanings.proofs.BoundLists.{slice_get_some}
 use Rattle.gr_meanings.proofs.OneWorld.{one_definitions}
 use Rattle.gr_bound.specs.declared.declaration.Declaration.{Declaration}
-use Rattle.gr_bound.specs.declared.declaration.Declaration.TheVariants.{Method}
+use Rattle.gr_bound.specs.declared.declaration.Declaration.TheVariants.{Declared, Method}
 use Rattle.gr_bound.specs.Binding.{declaration_of, IsMemberAt}
 use Rattle.gr_bound.specs.Members.{KnowsOwn, definitions_seen, member_at, uses_or_none, IsMemberIn}
 use Rattle.gr_bound.specs.Steps.{IsDeclarationFound}
@@ -36,6 +36,13 @@ use Rattle.gr_bound.specs.Steps.{IsDeclarationFound}
 pub method_declared : (s : Symbol) (on_pointer : Bool) (signature : Option Signature) → declaration_of (a_method s on_pointer signature) ≡ Method s
 method_declared s on_pointer None = refl
 method_declared s on_pointer (Some x) = refl
+
+-- a declaration of a scope is no member
+
+pub not_declared : (m : Member) (path : List ℕ) (d : ℕ) → declaration_of m ≡ Declared path d → ⊥
+not_declared (plain.AField s t) path d e = cc
+not_declared (plain.AMethod s on_pointer signature) path d e = cc
+not_declared (plain.ABrokenMethod s) path d e = cc
 
 -- definitions
 

@@ -1,6 +1,6 @@
 -- The names by which fields and methods are declared: no scope binds them, and they stand behind no package's name.
-use Rattle.std.proofs.Common.{ℕ, zero, suc, ◌≡◌, ◌+◌, ◌<◌, ◌⊎◌, inl, inr, List, [], ◌∷◌, ◌++◌, length, map, ap, sym, subst, refl, ◌∙◌, arith}
-use Rattle.std.specs.Prelude.{Contains, Option, Some, None, slice_get}
+use Rattle.std.proofs.Common.{ℕ, zero, suc, ◌≡◌, ◌+◌, ◌<◌, ◌⊎◌, inl, inr, List, [], ◌∷◌, ◌++◌, map, ap, sym, subst, refl, ◌∙◌, arith}
+use Rattle.std.specs.Prelude.{Contains, Some, slice_get}
 use Rattle.std.specs.List.{flat_map, enumerate_from}
 use Rattle.std.proofs.lemmas.List.Elements.{Contains-append_right}
 use Rattle.std.proofs.lemmas.Option.{none-some, same_Some}
@@ -24,7 +24,7 @@ use Rattle.gr_bound.specs.declared.declaration.Declaration.{Declaration}
 use Rattle.gr_bound.specs.declared.declaration.Declaration.TheVariants.{Predeclared, Declared, Field, Method}
 use Rattle.gr_bound.specs.Binding.{BindsByScope, BindsByPackage, BindsByName, IsNameOf, IsFieldAt, IsMethodAt, field_place}
 use Rattle.gr_bound.proofs.Excluding.{number_bound, exported_as}
-use Rattle.gr_bound.proofs.OnePlace.{names_of, laid_of, same_layout, same_size, same_files}
+use Rattle.gr_bound.proofs.OnePlace.{names_of, same_layout, same_size, same_files}
 
 holds_left : {X : Type 0} (xs ys : List X) (x : X) → Holds xs x → Holds (xs ++ ys) x
 holds_left [] ys x h = absurd h

@@ -1,6 +1,6 @@
 -- A place of a package, and a byte of its files, is that of one identifier.
 use Rattle.std.proofs.Common.{ℕ, zero, suc, ◌≡◌, ◌<◌, List, [], ◌∷◌, length, ap, sym, subst, ◌∙◌}
-use Rattle.std.specs.Prelude.{Option, Some, None, map, slice_get}
+use Rattle.std.specs.Prelude.{Option, map, slice_get}
 use Rattle.gr_text.specs.Workspace.{Workspace}
 use Rattle.gr_tree.specs.SourceFile.{SourceFile, FileParts, source_of}
 use Rattle.gr_scope.specs.Bindings.{Layout, IsIdentifier}

@@ -1,11 +1,10 @@
 -- The members that are used at a token: one declaration at most, and no other way binds the name but one behind a package's name.
-use Rattle.std.proofs.Common.{ℕ, zero, suc, ◌≡◌, ◌<◌, ◌⊎◌, inl, inr, List, [], ◌∷◌, length, map, ap, sym, subst, refl, ◌∙◌}
-use Rattle.std.specs.Prelude.{Contains, Option, Some, None, slice_get}
+use Rattle.std.proofs.Common.{ℕ, zero, suc, ◌≡◌, ◌<◌, ◌⊎◌, inl, inr, List, [], ◌∷◌, ap, sym, subst, ◌∙◌}
+use Rattle.std.specs.Prelude.{Contains, Some, slice_get}
 use Rattle.std.proofs.lemmas.List.Elements.{All-head, All-tail}
 use Rattle.std.proofs.lemmas.Option.{none-some, same_Some}
 use Rattle.gr_text.specs.Workspace.{Workspace}
 use Rattle.gr_tree.specs.SourceFile.{SourceFile, FileParts, IsSourceFile, source_of}
-use Rattle.gr_scope.specs.declared.model.Purpose.{Purpose}
 use Rattle.gr_scope.specs.declared.model.Purpose.TheVariants as purpose
 use Rattle.gr_scope.specs.declared.model.Role.TheVariants.{NotLexical}
 use Rattle.gr_scope.specs.Bindings.{IsIdentifier}
@@ -15,12 +14,11 @@ use Rattle.gr_order.proofs.Lexical.{never_bound}
 use Rattle.gr_order.proofs.OwnPaths.{package_sources}
 use Rattle.gr_order.proofs.Roles.{named_role_told}
 use Rattle.gr_expr.specs.Judge.{MemberUse}
-use Rattle.gr_expr.specs.World.{World, Member}
+use Rattle.gr_expr.specs.World.{World}
 use Rattle.gr_stmt.specs.Declarations.{check_file}
 use Rattle.gr_walk.specs.Places.{StandsAtLink, as_key, as_selected}
 use Rattle.gr_walk.proofs.Standing.{one_at_token, stands_at_link}
 use Rattle.gr_declared.specs.Package.{Package}
-use Rattle.gr_meanings.specs.MemberUses.{AreUsesIn}
 use Rattle.gr_meanings.specs.Uniqueness.{IsOneWorld}
 use Rattle.gr_meanings.specs.Worlds.{IsWorldOf, is_init}
 use Rattle.gr_meanings.proofs.OneWorld.{one_world}

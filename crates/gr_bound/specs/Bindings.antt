@@ -1,5 +1,5 @@
 -- The identifiers of a workspace that are bound, each with its declaration.
-use Rattle.std.specs.Prelude.{ℕ, ◌≡◌, ◌↔◌, ◌⊎◌, List, Contains, map}
+use Rattle.std.specs.Prelude.{ℕ, ◌↔◌, ◌⊎◌, List, Contains}
 use Rattle.std.specs.List.Sorted.{IsSortedBy}
 use Rattle.std.specs.Ordering.{is_lt}
 use Rattle.gr_text.specs.Workspace.{Workspace}
@@ -41,7 +41,18 @@ pub record IsBoundAt (w : Workspace) (known : Verdicts) (number : ℕ) (b : Boun
 abbrev pub IsBound : Workspace → Verdicts → BoundSpot → Type 0
 IsBound w known b = IsUseOf w known b.declaration (place_at b)
 
+-- the same in the package of one of some numbers
+pub record IsBoundAmong (w : Workspace) (known : Verdicts) (IsOf : ℕ → Type 0) (b : BoundSpot) : Type 0 where
+  pub number : ℕ
+  pub is_of : IsOf number
+  pub bound : IsBoundAt w known number b
+
 -- all bound identifiers of a workspace, in the order of their places
 pub record AreBindings (w : Workspace) (known : Verdicts) (list : List BoundSpot) : Type 0 where
   pub in_order : IsSortedBy (λ a b. is_lt (place_cmp (place_at a) (place_at b))) list
   pub each : (b : BoundSpot) → Contains list b ↔ IsBound w known b
+
+-- the bound identifiers of the packages of some numbers, in the order of their places
+pub record AreBindingsAmong (w : Workspace) (known : Verdicts) (IsOf : ℕ → Type 0) (list : List BoundSpot) : Type 0 where
+  pub in_order : IsSortedBy (λ a b. is_lt (place_cmp (place_at a) (place_at b))) list
+  pub each : (b : BoundSpot) → Contains list b ↔ IsBoundAmong w known IsOf b

@@ -35,6 +35,17 @@ pub record IsPackageAt (w : Workspace) (known : Verdicts) (number : ℕ) (p : Pa
   pub has_number : slice_get (package_paths w) number ≡ Some p.path
   pub is_package : IsPackage w known p
 
+-- the path of the package of a declaration; none where it is predeclared
+abbrev pub home_path : Declaration → Option (List ℕ)
+home_path (Predeclared n) = None
+home_path (Declared path d) = Some path
+home_path (Field s) = Some s.package
+home_path (Method s) = Some s.package
+
+-- the number of that package; none where the workspace has no such package
+abbrev pub IsHome : Workspace → Declaration → Option ℕ → Type 0
+IsHome w d home = MatchOption home ((path : List ℕ) → home_path d ≡ Some path → Contains (package_paths w) path → ⊥) (λ number. slice_get (package_paths w) number ≡ home_path d)
+
 -- d is what a package of a path exports under a name
 abbrev pub ExportsAs : Workspace → Verdicts → (path name : List ℕ) → Declaration → Type 0
 ExportsAs w known path name (Predeclared n) = ⊥

@@ -4,23 +4,29 @@ ghost use Rattle.std.specs.List.Sorted.{IsSortedBy};
 ghost use Rattle.std.specs.Ordering.{is_lt};
 ghost use Rattle.gr_text.specs.Packages.{package_paths};
 ghost use Rattle.gr_text.specs.Workspace.{Workspace};
+ghost use Rattle.gr_graph.specs.Search.{IsMarked};
+ghost use Rattle.gr_declared.specs.PackageView.{package_of};
 ghost use Rattle.gr_verdict.specs.Verdicts.{Verdicts};
 ghost use Rattle.gr_bound.specs.declared.bound_spot.BoundSpot.{BoundSpot as Bound};
 ghost use Rattle.gr_bound.specs.declared.declaration.Declaration.{Declaration as Declared};
-ghost use Rattle.gr_bound.specs.Bindings.{AddsAll, IsBoundAt, IsBound, AreBindings, place_at};
-ghost use Rattle.gr_bound.specs.Exports.{AreExports};
-ghost use Rattle.gr_bound.specs.Packages.{ArePackages};
+ghost use Rattle.gr_bound.specs.Bindings.{AddsAll, IsBoundAt, IsBoundAmong, IsBound, AreBindings, AreBindingsAmong, place_at};
+ghost use Rattle.gr_bound.specs.Exports.{AreSomeExports, KnowsExports};
+ghost use Rattle.gr_bound.specs.Packages.{ArePackages, IsTableAs};
 ghost use Rattle.gr_bound.specs.Places.{place_cmp};
 ghost use Rattle.gr_bound.specs.Uses.{IsUseOf};
-ghost use Rattle.gr_bound.specs.Workspaces.{known_in};
+ghost use Rattle.gr_bound.specs.Workspaces.{IsSound, known_in, IsPackageAt};
 
 use crate::bound_spot::BoundSpot;
 use crate::bound_unit::bind_unit;
 use crate::declaration::Declaration;
-use crate::exports::exports;
-use crate::packages::Packages;
-use crate::reading::{members_of, own_of};
+use crate::known_exports::{KnownExports, all_exports, imported_exports, is_marked};
+use crate::packages::{Packages, read_table};
+use crate::reading::{members_of, own_of, path_of};
+use gr_declared::{Interfaces, Package};
+use gr_graph::Graph;
+use gr_scope::table::ScopeTable;
 use gr_text::Place;
+use gr_verdict::{Findings, seen};
 use std::alloc::{AllocError, Global};
 use std::cmp::Ordering;
 use std::collections::BTreeMap;
@@ -47,25 +53,42 @@ impl Model for Bindings {
     ghost invariant = { λ a. IsSortedBy (λ b c. is_lt (place_cmp (place_at b) (place_at c))) a.bound.items };
 }
 
+/// Adds the bound identifiers of a package that has a number.
+fn bind_numbered(
+    alloc: Global,
+    bound: &mut Vec<BoundSpot>,
+    exports: &KnownExports<'_>,
+    unit: Package<'_>,
+    number: usize,
+) -> Result<(), AllocError>
+    requires exports { KnowsExports exports.now }
+    requires numbered { IsPackageAt exports.now.graph.now (known_in exports.now.found.now) number (package_of unit) }
+    ensures { OnOk result (AddsAll bound.old.items bound.new.items (IsBoundAt exports.now.graph.now (known_in exports.now.found.now) number)) }
+{
+    let own = own_of(exports.graph, exports.found, number);
+    let members = members_of(exports.graph, exports.found, number);
+    bind_unit(alloc, bound, exports, unit, own, members)
+}
+
 /// Adds the bound identifiers of the package of a number.
 fn bind_package(
     alloc: Global,
     bound: &mut Vec<BoundSpot>,
     packages: &Packages<'_>,
-    exports: &[BTreeMap<Vec<u8>, usize>],
+    numbers: &[Option<BTreeMap<Vec<u8>, usize>>],
     number: usize,
 ) -> Result<(), AllocError>
     requires in_range { number < length (package_paths packages.now.graph.now) }
     requires read { ArePackages packages.now }
-    requires exports { AreExports packages.now.graph.now (known_in packages.now.found.now) exports.now }
+    requires exports { AreSomeExports packages.now.graph.now (known_in packages.now.found.now) numbers.now }
     ensures { OnOk result (AddsAll bound.old.items bound.new.items (IsBoundAt packages.now.graph.now (known_in packages.now.found.now) number)) }
 {
-    let graph = packages.graph;
-    let found = packages.found;
-    let unit = packages.unit(number);
-    let own = own_of(graph, found, number);
-    let members = members_of(graph, found, number);
-    bind_unit(alloc, bound, graph, found, exports, unit, own, members)
+    let exports = KnownExports {
+        graph: packages.graph,
+        found: packages.found,
+        numbers,
+    };
+    bind_numbered(alloc, bound, &exports, packages.unit(number), number)
 }
 
 /// Adds the bound identifiers of all packages.
@@ -73,14 +96,92 @@ fn bind_all(
     alloc: Global,
     bound: &mut Vec<BoundSpot>,
     packages: &Packages<'_>,
-    exports: &[BTreeMap<Vec<u8>, usize>],
+    numbers: &[Option<BTreeMap<Vec<u8>, usize>>],
 ) -> Result<(), AllocError>
     requires read { ArePackages packages.now }
-    requires exports { AreExports packages.now.graph.now (known_in packages.now.found.now) exports.now }
+    requires exports { AreSomeExports packages.now.graph.now (known_in packages.now.found.now) numbers.now }
     ensures { OnOk result (AddsAll bound.old.items bound.new.items (IsBound packages.now.graph.now (known_in packages.now.found.now))) }
 {
     for number in 0..packages.graph.len() {
-        bind_package(alloc, bound, packages, exports, number)?;
+        bind_package(alloc, bound, packages, numbers, number)?;
+    }
+    Ok(())
+}
+
+/// Adds the bound identifiers of the package of a number, by what this sees and its table.
+fn bind_laid(
+    alloc: Global,
+    bound: &mut Vec<BoundSpot>,
+    exports: &KnownExports<'_>,
+    seen: &Interfaces,
+    table: &ScopeTable<'_>,
+    number: usize,
+) -> Result<(), AllocError>
+    requires in_range { number < length (package_paths exports.now.graph.now) }
+    requires exports { KnowsExports exports.now }
+    requires table { IsTableAs exports.now.graph.now (known_in exports.now.found.now) number table.now seen.now }
+    ensures { OnOk result (AddsAll bound.old.items bound.new.items (IsBoundAt exports.now.graph.now (known_in exports.now.found.now) number)) }
+{
+    let path = path_of(exports.graph, exports.found, number);
+    let files = table.files();
+    let unit = Package {
+        path,
+        files,
+        table,
+        interfaces: seen,
+    };
+    bind_numbered(alloc, bound, exports, unit, number)
+}
+
+/// Adds the bound identifiers of the package of a number, which is read for it.
+fn bind_read(
+    alloc: Global,
+    bound: &mut Vec<BoundSpot>,
+    exports: &KnownExports<'_>,
+    number: usize,
+) -> Result<(), AllocError>
+    requires in_range { number < length (package_paths exports.now.graph.now) }
+    requires exports { KnowsExports exports.now }
+    ensures { OnOk result (AddsAll bound.old.items bound.new.items (IsBoundAt exports.now.graph.now (known_in exports.now.found.now) number)) }
+{
+    let graph = exports.graph;
+    let found = exports.found;
+    let seen = seen(alloc, graph, number, &found.interfaces)?;
+    let table = read_table(alloc, graph, found, &seen, number)?;
+    bind_laid(alloc, bound, exports, &seen, &table, number)
+}
+
+/// Adds the bound identifiers of the package of a number, if it is marked.
+fn bind_if_marked(
+    alloc: Global,
+    bound: &mut Vec<BoundSpot>,
+    exports: &KnownExports<'_>,
+    marks: &[bool],
+    number: usize,
+) -> Result<(), AllocError>
+    requires in_range { number < length (package_paths exports.now.graph.now) }
+    requires exports { KnowsExports exports.now }
+    ensures { OnOk result (AddsAll bound.old.items bound.new.items (λ b. IsMarked marks.now number × IsBoundAt exports.now.graph.now (known_in exports.now.found.now) number b)) }
+{
+    if is_marked(marks, number) {
+        bind_read(alloc, bound, exports, number)
+    } else {
+        Ok(())
+    }
+}
+
+/// Adds the bound identifiers of the packages that are marked.
+fn bind_marked(
+    alloc: Global,
+    bound: &mut Vec<BoundSpot>,
+    exports: &KnownExports<'_>,
+    marks: &[bool],
+) -> Result<(), AllocError>
+    requires { KnowsExports exports.now }
+    ensures { OnOk result (AddsAll bound.old.items bound.new.items (IsBoundAmong exports.now.graph.now (known_in exports.now.found.now) (IsMarked marks.now))) }
+{
+    for number in 0..exports.graph.len() {
+        bind_if_marked(alloc, bound, exports, marks, number)?;
     }
     Ok(())
 }
@@ -98,9 +199,32 @@ pub fn bindings_of(alloc: Global, packages: &Packages<'_>) -> Result<Bindings, A
     requires { ArePackages packages.now }
     ensures { IfOk result (AreBindings packages.now.graph.now (known_in packages.now.found.now)) }
 {
-    let exports = exports(alloc, packages)?;
+    let numbers = all_exports(alloc, packages)?;
     let mut bound = Vec::new(alloc);
-    bind_all(alloc, &mut bound, packages, &exports)?;
+    bind_all(alloc, &mut bound, packages, &numbers)?;
+    sort(&mut bound);
+    Ok(Bindings { bound })
+}
+
+/// The bound identifiers of the packages that are marked, by the packages' numbers, in a workspace in which nothing is a fault.
+/// Only these packages are read, and of those that they import what these export.
+pub fn bindings_among(
+    alloc: Global,
+    graph: &Graph,
+    found: &Findings,
+    marks: &[bool],
+) -> Result<Bindings, AllocError>
+    requires { IsSound graph.now found.now }
+    ensures { IfOk result (AreBindingsAmong graph.now (known_in found.now) (IsMarked marks.now)) }
+{
+    let numbers = imported_exports(alloc, graph, found, marks)?;
+    let exports = KnownExports {
+        graph,
+        found,
+        numbers: &numbers,
+    };
+    let mut bound = Vec::new(alloc);
+    bind_marked(alloc, &mut bound, &exports, marks)?;
     sort(&mut bound);
     Ok(Bindings { bound })
 }

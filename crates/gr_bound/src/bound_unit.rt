@@ -8,16 +8,16 @@ ghost use Rattle.gr_bound.specs.declared.declaration.Declaration.{Declaration as
 ghost use Rattle.gr_bound.specs.declared.declaration.Declaration.TheVariants.{Field, Method};
 ghost use Rattle.gr_bound.specs.Binding.{BindsByScope, BindsByPackage, BindsByMember, BindsByName, IsFieldAt, IsMethodAt};
 ghost use Rattle.gr_bound.specs.Bindings.{AddsAll, BoundIn, place_at};
-ghost use Rattle.gr_bound.specs.Exports.{AreExports};
+ghost use Rattle.gr_bound.specs.Exports.{KnowsExports};
 ghost use Rattle.gr_bound.specs.Identifiers.{BeginsAt};
 ghost use Rattle.gr_bound.specs.Members.{definitions_seen, IsMemberUseOf, IsMemberUseAmong, KnowsOwn};
 ghost use Rattle.gr_bound.specs.Steps.{AtFound, ArePlaces};
 ghost use Rattle.gr_bound.specs.Uses.{IsPackage, IsBoundTo};
-ghost use Rattle.gr_bound.specs.Workspaces.{IsSound, known_in};
+ghost use Rattle.gr_bound.specs.Workspaces.{known_in};
 
 use crate::bound_spot::{BoundSpot, bind_identifier, bind_token};
 use crate::declaration::Declaration;
-use crate::exports::exported;
+use crate::known_exports::KnownExports;
 use crate::member_uses::member_declaration;
 use crate::own_names::{field_places, method_places, place_of, symbol};
 use crate::package_uses::package_before;
@@ -25,12 +25,9 @@ use crate::scope_uses::declaration_in_scope;
 use gr_declared::{Index, Package};
 use gr_expr::found::MemberUse;
 use gr_expr::world::Definition;
-use gr_graph::Graph;
 use gr_meanings::one_world;
 use gr_scope::model::Position;
-use gr_verdict::Findings;
 use std::alloc::{AllocError, Global};
-use std::collections::BTreeMap;
 
 /// Adds an identifier, if the scopes of its package bind it.
 fn bind_by_scope(
@@ -55,23 +52,20 @@ fn bind_by_scope(
 fn bind_by_package(
     alloc: Global,
     bound: &mut Vec<BoundSpot>,
-    graph: &Graph,
-    found: &Findings,
-    exports: &[BTreeMap<Vec<u8>, usize>],
+    exports: &KnownExports<'_>,
     unit: Package<'_>,
     index: &Index<'_>,
     u: usize,
 ) -> Result<(), AllocError>
-    requires sound { IsSound graph.now found.now }
-    requires exports { AreExports graph.now (known_in found.now) exports.now }
+    requires exports { KnowsExports exports.now }
     requires index { IsIndexOf (package_of unit) index.now }
     requires in_range { u < length unit.table.now.sites }
     ensures { let p = package_of unit.entry in
-        OnOk result (AddsAll bound.old.items bound.new.items (λ b. BeginsAt p (place_at b).path (place_at b).offset u × BindsByPackage (IsPackage graph.now (known_in found.now)) p u b.declaration)) }
+        OnOk result (AddsAll bound.old.items bound.new.items (λ b. BeginsAt p (place_at b).path (place_at b).offset u × BindsByPackage (IsPackage exports.now.graph.now (known_in exports.now.found.now)) p u b.declaration)) }
 {
     match package_before(unit, index, u) {
         None => Ok(()),
-        Some(path) => match exported(graph, found, exports, path, unit.table.name(u))? {
+        Some(path) => match exports.exported(alloc, path, unit.table.name(u))? {
             None => Ok(()),
             Some(declaration) => bind_identifier(alloc, bound, unit, u, &declaration),
         },
@@ -82,43 +76,37 @@ fn bind_by_package(
 fn bind_number(
     alloc: Global,
     bound: &mut Vec<BoundSpot>,
-    graph: &Graph,
-    found: &Findings,
-    exports: &[BTreeMap<Vec<u8>, usize>],
+    exports: &KnownExports<'_>,
     unit: Package<'_>,
     index: &Index<'_>,
     u: usize,
 ) -> Result<(), AllocError>
-    requires sound { IsSound graph.now found.now }
-    requires exports { AreExports graph.now (known_in found.now) exports.now }
+    requires exports { KnowsExports exports.now }
     requires index { IsIndexOf (package_of unit) index.now }
     requires in_range { u < length unit.table.now.sites }
     ensures { let p = package_of unit.entry in
         OnOk result (AddsAll bound.old.items bound.new.items
-        (λ b. BeginsAt p (place_at b).path (place_at b).offset u × (BindsByScope p u b.declaration ⊎ BindsByPackage (IsPackage graph.now (known_in found.now)) p u b.declaration))) }
+        (λ b. BeginsAt p (place_at b).path (place_at b).offset u × (BindsByScope p u b.declaration ⊎ BindsByPackage (IsPackage exports.now.graph.now (known_in exports.now.found.now)) p u b.declaration))) }
 {
     bind_by_scope(alloc, bound, unit, u)?;
-    bind_by_package(alloc, bound, graph, found, exports, unit, index, u)
+    bind_by_package(alloc, bound, exports, unit, index, u)
 }
 
 /// Adds the identifiers that are bound to a declaration of a scope.
 fn bind_numbers(
     alloc: Global,
     bound: &mut Vec<BoundSpot>,
-    graph: &Graph,
-    found: &Findings,
-    exports: &[BTreeMap<Vec<u8>, usize>],
+    exports: &KnownExports<'_>,
     unit: Package<'_>,
     index: &Index<'_>,
 ) -> Result<(), AllocError>
-    requires sound { IsSound graph.now found.now }
-    requires exports { AreExports graph.now (known_in found.now) exports.now }
+    requires exports { KnowsExports exports.now }
     requires index { IsIndexOf (package_of unit) index.now }
     ensures { let p = package_of unit.entry in
-        OnOk result (AddsAll bound.old.items bound.new.items (BoundIn p (λ u d. BindsByScope p u d ⊎ BindsByPackage (IsPackage graph.now (known_in found.now)) p u d))) }
+        OnOk result (AddsAll bound.old.items bound.new.items (BoundIn p (λ u d. BindsByScope p u d ⊎ BindsByPackage (IsPackage exports.now.graph.now (known_in exports.now.found.now)) p u d))) }
 {
     for u in 0..unit.table.len() {
-        bind_number(alloc, bound, graph, found, exports, unit, index, u)?;
+        bind_number(alloc, bound, exports, unit, index, u)?;
     }
     Ok(())
 }
@@ -275,22 +263,19 @@ fn bind_own_names(
 pub fn bind_unit(
     alloc: Global,
     bound: &mut Vec<BoundSpot>,
-    graph: &Graph,
-    found: &Findings,
-    exports: &[BTreeMap<Vec<u8>, usize>],
+    exports: &KnownExports<'_>,
     unit: Package<'_>,
     own: &[Definition],
     members: &[Vec<MemberUse>],
 ) -> Result<(), AllocError>
-    requires sound { IsSound graph.now found.now }
-    requires exports { AreExports graph.now (known_in found.now) exports.now }
+    requires exports { KnowsExports exports.now }
     requires own { KnowsOwn (package_of unit) own.now }
     requires members { AreMemberUses (package_of unit) (map uses_in members.now) }
     ensures { let p = package_of unit.entry in
-        OnOk result (AddsAll bound.old.items bound.new.items (BoundIn p (IsBoundTo graph.now (known_in found.now) p))) }
+        OnOk result (AddsAll bound.old.items bound.new.items (BoundIn p (IsBoundTo exports.now.graph.now (known_in exports.now.found.now) p))) }
 {
     let index = Index::of(alloc, unit)?;
-    bind_numbers(alloc, bound, graph, found, exports, unit, &index)?;
+    bind_numbers(alloc, bound, exports, unit, &index)?;
     bind_members(alloc, bound, unit, &index, own, members)?;
     bind_own_names(alloc, bound, unit, &index)
 }

@@ -12,14 +12,14 @@ ghost use Rattle.gr_bound.specs.Workspaces.{IsSound, known_in, ExportsAs};
 
 use crate::declaration::Declaration;
 use crate::packages::Packages;
-use crate::reading::path_of;
+use crate::reading::{laid_table, path_of, trees};
 use gr_declared::{Interfaces, Package};
 use gr_expr::symbol::SharedPath;
 use gr_graph::Graph;
 use gr_scope::table::ScopeTable;
 use gr_tree::FileTree;
 use gr_types::is_seen;
-use gr_verdict::Findings;
+use gr_verdict::{Findings, seen};
 use std::alloc::{AllocError, Global};
 use std::collections::BTreeMap;
 
@@ -72,7 +72,7 @@ pub fn numbers_by(
 }
 
 /// The same of the package of a number.
-fn numbers_of(
+pub(crate) fn numbers_of(
     alloc: Global,
     packages: &Packages<'_>,
     number: usize,
@@ -83,6 +83,24 @@ fn numbers_of(
 {
     let unit = packages.unit(number);
     numbers(alloc, unit)
+}
+
+/// The same of the package of a number, which is read for it.
+pub(crate) fn numbers_at(
+    alloc: Global,
+    graph: &Graph,
+    found: &Findings,
+    number: usize,
+) -> Result<BTreeMap<Vec<u8>, usize>, AllocError>
+    requires in_range { number < length (package_paths graph.now) }
+    requires sound { IsSound graph.now found.now }
+    ensures { IfOk result (AreNumbersAt graph.now (known_in found.now) number) }
+{
+    let files = trees(graph, found, number);
+    let seen = seen(alloc, graph, number, &found.interfaces)?;
+    let table = laid_table(alloc, files, &seen)?;
+    let path = path_of(graph, found, number);
+    numbers_by(alloc, path, files, &table, &seen)
 }
 
 /// What all packages export, by their numbers.
@@ -101,7 +119,7 @@ pub fn exports(
 }
 
 /// The number that a map has for a name.
-fn named(numbers: &BTreeMap<Vec<u8>, usize>, name: &[u8]) -> Option<usize>
+pub(crate) fn named(numbers: &BTreeMap<Vec<u8>, usize>, name: &[u8]) -> Option<usize>
     ensures { result ≡ number_named numbers.now name.now }
 {
     numbers.get(name).copied()

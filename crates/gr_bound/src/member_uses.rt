@@ -189,8 +189,8 @@ fn add_file_members(
     Ok(())
 }
 
-/// Adds the places of the identifiers of a package that are a field or method, behind a dot or as a key.
-pub fn add_member_uses(
+/// Adds the places of the identifiers of a package that are a member, behind a dot or as a key.
+fn add_all_members(
     found: &mut Vec<Spot>,
     unit: Package<'_>,
     index: &Index<'_>,
@@ -210,4 +210,28 @@ pub fn add_member_uses(
         add_file_members(found, unit, index, own, file, &members[file], declaration)?;
     }
     Ok(())
+}
+
+/// Adds the places of the identifiers of a package that are a field or method, behind a dot or as a key. Where the
+/// declaration is none, there are no such places.
+pub fn add_member_uses(
+    found: &mut Vec<Spot>,
+    unit: Package<'_>,
+    index: &Index<'_>,
+    own: &[Definition],
+    members: &[Vec<MemberUse>],
+    declaration: &Declaration,
+) -> Result<(), AllocError>
+    requires index { IsIndexOf (package_of unit) index.now }
+    requires own { KnowsOwn (package_of unit) own.now }
+    requires members { AreMemberUses (package_of unit) (map uses_in members.now) }
+    ensures { let p = package_of unit.entry in
+        OnOk result (Adds found.old.items found.new.items (UsesIn p (λ u. BindsByMember p u declaration.now))) }
+{
+    match declaration {
+        Declaration::Predeclared(_) | Declaration::Declared(_, _) => Ok(()),
+        Declaration::Field(_) | Declaration::Method(_) => {
+            add_all_members(found, unit, index, own, members, declaration)
+        }
+    }
 }

@@ -2,7 +2,7 @@
 ghost use Rattle.std.specs.Prelude.{◌≡◌, ◌<◌, length, IfOk};
 ghost use Rattle.gr_text.specs.Packages.{package_paths};
 ghost use Rattle.gr_declared.specs.PackageView.{package_of};
-ghost use Rattle.gr_bound.specs.Packages.{AreAllSeen, ArePackages, HoldsOfEach, IsTableOf};
+ghost use Rattle.gr_bound.specs.Packages.{AreAllSeen, ArePackages, HoldsOfEach, IsSeenBy, IsTableAs, IsTableOf};
 ghost use Rattle.gr_bound.specs.Workspaces.{IsSound, known_in, IsPackageAt};
 
 use crate::reading::{laid_table, path_of, trees};
@@ -28,7 +28,24 @@ pub fn all_seen(
     Ok(all)
 }
 
-/// The table of the package of a number, by what it sees.
+/// The table of the package of a number, by what this sees.
+pub fn read_table<'a>(
+    alloc: Global,
+    graph: &'a Graph,
+    found: &Findings,
+    seen: &'a Interfaces,
+    number: usize,
+) -> Result<ScopeTable<'a>, AllocError>
+    requires in_range { number < length (package_paths graph.now) }
+    requires sound { IsSound graph.now found.now }
+    requires seen { IsSeenBy graph.now (known_in found.now) number seen.now }
+    ensures { IfOk result (λ table. IsTableAs graph.now (known_in found.now) number table seen.now) }
+{
+    let files = trees(graph, found, number);
+    laid_table(alloc, files, seen)
+}
+
+/// The table of the package of a number, by what all see.
 fn table_of<'a>(
     alloc: Global,
     graph: &'a Graph,
@@ -41,9 +58,7 @@ fn table_of<'a>(
     requires seen { AreAllSeen graph.now (known_in found.now) all.now }
     ensures { IfOk result (IsTableOf graph.now (known_in found.now) all.now number) }
 {
-    let files = trees(graph, found, number);
-    let seen = &all[number];
-    laid_table(alloc, files, seen)
+    read_table(alloc, graph, found, &all[number], number)
 }
 
 /// The tables of all packages, by the packages' numbers.

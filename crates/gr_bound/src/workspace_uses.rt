@@ -15,6 +15,7 @@ ghost use Rattle.gr_bound.specs.Workspaces.{IsSound, known_in, bytes_of, IsExpor
 use crate::asked::{declaration_at, exported_under};
 use crate::declaration::Declaration;
 use crate::faults::refuse_faults;
+use crate::may_use::{home_of, may_use};
 use crate::places::Places;
 use crate::reading::{laid_table, members_of, own_of, path_of, trees};
 use crate::spot::{Spot, places};
@@ -91,7 +92,8 @@ fn add_package_uses(
     )
 }
 
-/// Adds the places of the identifiers of all packages that are bound to a declaration.
+/// Adds the places of the identifiers of all packages that are bound to a declaration. Packages that cannot use it are not
+/// read.
 fn add_all_uses(
     alloc: Global,
     spots: &mut Vec<Spot>,
@@ -104,8 +106,11 @@ fn add_all_uses(
     requires name { IsExportedUnder graph.now (known_in found.now) declaration.now (name_value name) }
     ensures { OnOk result (Adds spots.old.items spots.new.items (IsUseOf graph.now (known_in found.now) declaration.now)) }
 {
+    let home = home_of(graph, declaration);
     for number in 0..graph.len() {
-        add_package_uses(alloc, spots, graph, found, number, declaration, name)?;
+        if may_use(graph, found, number, home, declaration, name) {
+            add_package_uses(alloc, spots, graph, found, number, declaration, name)?;
+        }
     }
     Ok(())
 }

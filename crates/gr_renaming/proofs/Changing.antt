@@ -1,16 +1,17 @@
 -- The changes of files, path by path, and the edit set that they make.
-use Rattle.std.proofs.Common.{◌≡◌, ◌==◌, ℕ, ◌⊎◌, inl, inr, List, [], ◌∷◌, ◌++◌, map, Option, Some, None, append_assoc, append-nil, refl, sym, ap, subst, ◌∙◌}
+use Rattle.std.proofs.Common.{◌≡◌, ◌==◌, ℕ, ◌≤◌, length, ◌⊎◌, inl, inr, List, [], ◌∷◌, ◌++◌, map, Option, Some, None, append_assoc, append-nil, refl, sym, ap, subst, ◌∙◌}
 use Rattle.std.specs.Prelude.{Contains}
 use Rattle.std.specs.Cmp.Lexicographic.{pointwise}
 use Rattle.std.specs.FinMap.{entries, get}
 use Rattle.std.specs.List.{All, AllByRecursion, IsDistinct, filter_map, cons_option}
 use Rattle.std.specs.List.Sorted.{IsStrictlySortedBy}
 use Rattle.std.specs.declared.cmp.Ordering.TheVariants.{Less}
-use Rattle.std.proofs.lemmas.List.Elements.{All-weaker, All-contains_itself, Contains-append_left, Contains-push, Contains-push_cases}
+use Rattle.std.proofs.lemmas.List.Elements.{All-nil, All-weaker, All-contains_itself, Contains-append_left, Contains-push, Contains-push_cases}
 use Rattle.std.proofs.lemmas.Option.{same_Some}
 use Rattle.gr_text.specs.Workspace.{Workspace, path_cmp}
 use Rattle.gr_tree.specs.SourceFile.{SourceFile}
 use Rattle.gr_verdict.specs.Verdicts.{Verdicts}
+use Rattle.gr_verdict.proofs.Members.{cases_contains}
 use Rattle.gr_edit.specs.Edits.{AreInOrder}
 use Rattle.gr_edit.specs.EditSet.{FileChanges, path_by, paths_of, change_in}
 use Rattle.gr_edit.specs.Fits.{IsEditSet, IsThere, Fits, Gets, new_path, path_by_change}
@@ -21,11 +22,12 @@ use Rattle.gr_edit.specs.declared.change.Fate.TheVariants.{Stays}
 use Rattle.gr_edit.proofs.Changes.{change_found, none_changed}
 use Rattle.gr_edit.proofs.Held.{nothing_in, first_in, later_in, first_or_later}
 use Rattle.gr_edit.proofs.Turned.{is_there}
+use Rattle.gr_renaming.specs.declared.renamed.Literal.{Literal}
 use Rattle.gr_renaming.specs.declared.renamed.Renamed.{Renamed}
-use Rattle.gr_renaming.specs.FileEdits.{AreFileEdits}
+use Rattle.gr_renaming.specs.FileEdits.{IsLiteralAt, AreFileEdits}
 use Rattle.gr_renaming.specs.RenameEdits.{IsSourceIn, AreEditsOf}
-use Rattle.gr_renaming.specs.Changes.{change_to, AddsChange, none, one, ChangesSource, IsChanged, AreSourceChanges}
-use Rattle.gr_renaming.proofs.Sources.{entry_path, entries_in_order, source_entry, source_text, one_source}
+use Rattle.gr_renaming.specs.Changes.{IsPathOfLiteral, IsPathOf, change_to, AddsChange, none, one, ChangesSource, IsChanged, AreSourceChanges}
+use Rattle.gr_renaming.proofs.Sources.{source_text, one_source}
 
 -- paths in order
 
@@ -52,47 +54,58 @@ one_added f r old new c is at stays are =
 pub none_added : (f : SourceFile) (r : Renamed) (old : List FileChange) (edits : List Edit) → edits ≡ [] → AreFileEdits f r edits → AddsChange f r old old
 none_added f r old edits e are = none (subst (AreFileEdits f r) e are)
 
--- The changes of the files that were passed, with the files that are left.
-pub record Changing (w : Workspace) (known : Verdicts) (r : Renamed) (left : List (List ℕ × List ℕ)) (cs : List FileChange) : Type 0 where
-  pub in_order : IsStrictlySortedBy path_cmp (paths_of cs ++ map entry_path left)
+-- where nothing gets the name there is no edit
+
+literal_path : (o : Option Literal) (path : List ℕ) (i : ℕ) → IsLiteralAt o path i → IsPathOfLiteral o path
+literal_path None path i h = h
+literal_path (Some l) path i h = h.0
+
+not_edited : (f : SourceFile) (r : Renamed) → (IsPathOf r f.path → ⊥) → AreFileEdits f r []
+not_edited f r other = record {
+  end_by = record { in_order = tt; ends = All-nil (λ (e : Edit). e.span.end ≤ length f.cut.text) };
+  each = λ e. (
+    (λ h. absurd (nothing_in e h)),
+    (λ h. absurd (elim h.1 [
+      | inl inserts ↦ other (inr (literal_path r.literal f.path h.0 inserts.is_literal))
+      | inr replaces ↦ other (inl (record { path = f.path; offset = replaces.token.span.start }, (replaces.among, refl)))
+    ])),
+  );
+}
+
+-- The changes of the files that were passed, with the paths that are left.
+pub record Changing (w : Workspace) (known : Verdicts) (r : Renamed) (left : List (List ℕ)) (cs : List FileChange) : Type 0 where
+  pub in_order : IsStrictlySortedBy path_cmp (paths_of cs ++ left)
   pub each : (c : FileChange) → Contains cs c → ChangesSource w known r c
-  pub all : (f : SourceFile) → IsSourceIn w known f → Contains left (f.path, f.cut.text) ⊎ IsChanged cs r f
+  pub all : (f : SourceFile) → IsSourceIn w known f → Contains left f.path ⊎ IsChanged cs r f
 
 module _ (w : Workspace) (known : Verdicts) (r : Renamed) where
-  pub changing_first : (cs : List FileChange) → cs ≡ [] → Changing w known r (entries w) cs
-  changing_first cs e = subst (Changing w known r (entries w)) (sym e) (record {
-    in_order = entries_in_order w;
+  pub changing_first : (paths : List (List ℕ)) (cs : List FileChange) → cs ≡ [] → IsStrictlySortedBy path_cmp paths → ((path : List ℕ) → IsPathOf r path → Contains paths path) → Changing w known r paths cs
+  changing_first paths cs e sorted all = subst (Changing w known r paths) (sym e) (record {
+    in_order = sorted;
     each = λ c has. absurd (nothing_in c has);
-    all = λ f s. inl (source_entry w known f s);
+    all = λ f s. elim (cases_contains paths f.path) [ inl there ↦ inl there | inr other ↦ inr (inr (not_edited f r (λ h. other (all f.path h)))) ];
   })
 
-  -- a file is left, or it is the next one
-  left_or_here : (e : List ℕ × List ℕ) (left : List (List ℕ × List ℕ)) (f : SourceFile) → Contains (e ∷ left) (f.path, f.cut.text) → Contains left (f.path, f.cut.text) ⊎ (e.0 ≡ f.path)
-  left_or_here e left f has = elim (first_or_later e left (f.path, f.cut.text) has) [
-    | inl same ↦ inr (ap entry_path same)
-    | inr later ↦ inl later
-  ]
-
   -- no Go file has that path
-  pub changing_past : (e : List ℕ × List ℕ) (left : List (List ℕ × List ℕ)) (cs : List FileChange) → ((f : SourceFile) → IsSourceIn w known f → f.path ≡ e.0 → ⊥) → Changing w known r (e ∷ left) cs → Changing w known r left cs
-  changing_past e left cs other h = record {
-    in_order = without_one (paths_of cs) (map entry_path left) e.0 h.in_order;
+  pub changing_past : (path : List ℕ) (left : List (List ℕ)) (cs : List FileChange) → ((f : SourceFile) → IsSourceIn w known f → f.path ≡ path → ⊥) → Changing w known r (path ∷ left) cs → Changing w known r left cs
+  changing_past path left cs other h = record {
+    in_order = without_one (paths_of cs) left path h.in_order;
     each = h.each;
     all = λ f s. elim (h.all f s) [
-      | inl there ↦ elim (left_or_here e left f there) [ inl later ↦ inl later | inr here ↦ absurd (other f s (sym here)) ]
+      | inl there ↦ elim (first_or_later path left f.path there) [ inl here ↦ absurd (other f s (sym here)) | inr later ↦ inl later ]
       | inr done ↦ inr done
     ];
   }
 
   -- the file of that path is not changed
-  changing_none : (e : List ℕ × List ℕ) (left : List (List ℕ × List ℕ)) (f : SourceFile) (cs : List FileChange) → IsSourceIn w known f → f.path ≡ e.0 → AreFileEdits f r [] → Changing w known r (e ∷ left) cs → Changing w known r left cs
-  changing_none e left f cs is at empty h = record {
-    in_order = without_one (paths_of cs) (map entry_path left) e.0 h.in_order;
+  changing_none : (path : List ℕ) (left : List (List ℕ)) (f : SourceFile) (cs : List FileChange) → IsSourceIn w known f → f.path ≡ path → AreFileEdits f r [] → Changing w known r (path ∷ left) cs → Changing w known r left cs
+  changing_none path left f cs is at empty h = record {
+    in_order = without_one (paths_of cs) left path h.in_order;
     each = h.each;
     all = λ g s. elim (h.all g s) [
-      | inl there ↦ elim (left_or_here e left g there) [
-        | inl later ↦ inl later
-        | inr here ↦ inr (inr (subst (λ (x : SourceFile). AreFileEdits x r []) (one_source w known f g is s (at ∙ here)) empty))
+      | inl there ↦ elim (first_or_later path left g.path there) [
+        | inr later ↦ inl later
+        | inl here ↦ inr (inr (subst (λ (x : SourceFile). AreFileEdits x r []) (one_source w known f g is s (at ∙ here)) empty))
       ]
       | inr done ↦ inr done
     ];
@@ -103,12 +116,11 @@ module _ (w : Workspace) (known : Verdicts) (r : Renamed) where
   changed_then cs c f (inr h) = inr h
 
   -- or it is
-  changing_one : (e : List ℕ × List ℕ) (left : List (List ℕ × List ℕ)) (f : SourceFile) (cs : List FileChange) (edits : List Edit) → IsSourceIn w known f → f.path ≡ e.0 → AreFileEdits f r edits → Changing w known r (e ∷ left) cs →
+  changing_one : (path : List ℕ) (left : List (List ℕ)) (f : SourceFile) (cs : List FileChange) (edits : List Edit) → IsSourceIn w known f → f.path ≡ path → AreFileEdits f r edits → Changing w known r (path ∷ left) cs →
       Changing w known r left (cs ++ change_to f edits ∷ [])
-  changing_one e left f cs edits is at are h =
+  changing_one path left f cs edits is at are h =
       let c : FileChange = change_to f edits in
-      let rest = map entry_path left in
-      let paths : paths_of (cs ++ c ∷ []) ++ rest ≡ paths_of cs ++ e.0 ∷ rest = ap (λ ps. ps ++ rest) (paths_push cs c) ∙ append_assoc (paths_of cs) (f.path ∷ []) rest ∙ ap (λ p. paths_of cs ++ p ∷ rest) at in
+      let paths : paths_of (cs ++ c ∷ []) ++ left ≡ paths_of cs ++ path ∷ left = ap (λ ps. ps ++ left) (paths_push cs c) ∙ append_assoc (paths_of cs) (f.path ∷ []) left ∙ ap (λ p. paths_of cs ++ p ∷ left) at in
       record {
         in_order = subst (IsStrictlySortedBy path_cmp) (sym paths) h.in_order;
         each = λ d has. elim (Contains-push_cases cs c d has) [
@@ -116,26 +128,26 @@ module _ (w : Workspace) (known : Verdicts) (r : Renamed) where
           | inr same ↦ subst (ChangesSource w known r) same (record { source = f; is_source = is; edits = are; is_change = refl })
         ];
         all = λ g s. elim (h.all g s) [
-          | inl there ↦ elim (left_or_here e left g there) [
-            | inl later ↦ inl later
-            | inr here ↦ inr (inl (c, (Contains-push cs c, at ∙ here)))
+          | inl there ↦ elim (first_or_later path left g.path there) [
+            | inr later ↦ inl later
+            | inl here ↦ inr (inl (c, (Contains-push cs c, at ∙ here)))
           ]
           | inr done ↦ inr (changed_then cs c g done)
         ];
       }
 
-  pub changing_next : (e : List ℕ × List ℕ) (left : List (List ℕ × List ℕ)) (f : SourceFile) (old new : List FileChange) → IsSourceIn w known f → f.path ≡ e.0 → AddsChange f r old new → Changing w known r (e ∷ left) old →
+  pub changing_next : (path : List ℕ) (left : List (List ℕ)) (f : SourceFile) (old new : List FileChange) → IsSourceIn w known f → f.path ≡ path → AddsChange f r old new → Changing w known r (path ∷ left) old →
       Changing w known r left new
-  changing_next e left f old _ is at (none empty) h = changing_none e left f old is at empty h
-  changing_next e left f old _ is at (one edits are) h = changing_one e left f old edits is at are h
+  changing_next path left f old _ is at (none empty) h = changing_none path left f old is at empty h
+  changing_next path left f old _ is at (one edits are) h = changing_one path left f old edits is at are h
 
-  pub changing_last : (left : List (List ℕ × List ℕ)) (cs : List FileChange) → left ≡ [] → Changing w known r left cs → AreSourceChanges w known r cs
+  pub changing_last : (left : List (List ℕ)) (cs : List FileChange) → left ≡ [] → Changing w known r left cs → AreSourceChanges w known r cs
   changing_last left cs e h =
       let last : Changing w known r [] cs = subst (λ l. Changing w known r l cs) e h in
       record {
         by_path = subst (IsStrictlySortedBy path_cmp) (append-nil (paths_of cs)) last.in_order;
         each = last.each;
-        all = λ f s. elim (last.all f s) [ inl there ↦ absurd (nothing_in (f.path, f.cut.text) there) | inr done ↦ done ];
+        all = λ f s. elim (last.all f s) [ inl there ↦ absurd (nothing_in f.path there) | inr done ↦ done ];
       }
 
 -- the edit set

@@ -4,4 +4,5 @@ pub mod Editing
 pub mod Literals
 pub mod TreeSearch
 pub mod Sources
+pub mod RenamedPaths
 pub mod Changing

@@ -1,16 +1,31 @@
 -- The changes of the files of a workspace in which something gets another name.
-use Rattle.std.specs.Prelude.{◌≡◌, ◌⊎◌, List, [], ◌∷◌, ◌++◌, Contains}
+use Rattle.std.specs.Prelude.{ℕ, ◌≡◌, ◌⊎◌, List, [], ◌∷◌, ◌++◌, Option, Some, None, Contains}
 use Rattle.std.specs.List.Sorted.{IsStrictlySortedBy}
 use Rattle.gr_text.specs.Workspace.{Workspace, path_cmp}
+use Rattle.gr_text.specs.declared.place.Place.{Place}
 use Rattle.gr_tree.specs.SourceFile.{SourceFile}
 use Rattle.gr_verdict.specs.Verdicts.{Verdicts}
 use Rattle.gr_edit.specs.EditSet.{paths_of}
 use Rattle.gr_edit.specs.declared.edit.Edit.{Edit}
 use Rattle.gr_edit.specs.declared.change.FileChange.{FileChange}
 use Rattle.gr_edit.specs.declared.change.Fate.TheVariants.{Stays}
+use Rattle.gr_renaming.specs.declared.renamed.Literal.{Literal}
 use Rattle.gr_renaming.specs.declared.renamed.Renamed.{Renamed}
 use Rattle.gr_renaming.specs.FileEdits.{AreFileEdits}
 use Rattle.gr_renaming.specs.RenameEdits.{IsSourceIn}
+
+-- the path of one of the places
+abbrev pub IsPathOfPlace : List Place → List ℕ → Type 0
+IsPathOfPlace places path = (p : Place) × (Contains places p × (p.path ≡ path))
+
+-- the path of the literal
+abbrev pub IsPathOfLiteral : Option Literal → List ℕ → Type 0
+IsPathOfLiteral None path = ⊥
+IsPathOfLiteral (Some l) path = l.path ≡ path
+
+-- the path of something that gets the name
+abbrev pub IsPathOf : Renamed → List ℕ → Type 0
+IsPathOf r path = IsPathOfPlace r.places path ⊎ IsPathOfLiteral r.literal path
 
 -- a file is edited, and stays where it is
 abbrev pub change_to : SourceFile → List Edit → FileChange

@@ -1,14 +1,15 @@
 //! The changes of the files of a workspace.
-ghost use Rattle.std.specs.Prelude.{◌≡◌, [], Contains, map, IfOk, OnOk, MatchOption};
+ghost use Rattle.std.specs.Prelude.{ℕ, ◌≡◌, ◌↔◌, List, [], Contains, map, IfOk, OnOk, MatchOption};
 ghost use Rattle.std.specs.List.Sorted.{IsStrictlySortedBy};
 ghost use Rattle.gr_text.specs.Workspace.{path_cmp};
 ghost use Rattle.gr_tree.specs.SourceFile.{SourceFile, FileParts, source_of};
 ghost use Rattle.gr_bound.specs.Places.{place_cmp};
 ghost use Rattle.gr_bound.specs.Workspaces.{IsSound, known_in};
 ghost use Rattle.gr_renaming.specs.RenameEdits.{IsSourceIn};
-ghost use Rattle.gr_renaming.specs.Changes.{AddsChange, AreSourceChanges};
+ghost use Rattle.gr_renaming.specs.Changes.{IsPathOf, AddsChange, AreSourceChanges};
 
 use crate::file_edits::edits_of;
+use crate::paths::paths_of;
 use crate::renamed::Renamed;
 use gr_bound::trees;
 use gr_edit::{Edits, Fate, FileChange};
@@ -62,6 +63,30 @@ fn add_change(
     Ok(())
 }
 
+/// The changes of the files of some paths, which are in order, and among which are those of all files in which something is
+/// renamed.
+fn changes_in(
+    alloc: Global,
+    graph: &Graph,
+    found: &Findings,
+    paths: &[Path],
+    renamed: &Renamed,
+) -> Result<Vec<FileChange>, AllocError>
+    requires sound { IsSound graph.now found.now }
+    requires sorted { IsStrictlySortedBy place_cmp renamed.now.places }
+    requires order { IsStrictlySortedBy path_cmp paths.now }
+    requires each { (q : List ℕ) → Contains paths.now q ↔ IsPathOf renamed.now q }
+    ensures { IfOk result (λ changed. AreSourceChanges graph.now (known_in found.now) renamed.now changed.items) }
+{
+    let mut changed = Vec::new(alloc);
+    for path in paths {
+        if let Some(file) = tree_of(graph, found, path) {
+            add_change(alloc, &mut changed, file, renamed)?;
+        }
+    }
+    Ok(changed)
+}
+
 /// The changes of all files in which something is renamed, in the order of their paths.
 pub(crate) fn changes_of(
     alloc: Global,
@@ -73,11 +98,6 @@ pub(crate) fn changes_of(
     requires sorted { IsStrictlySortedBy place_cmp renamed.now.places }
     ensures { IfOk result (λ changed. AreSourceChanges graph.now (known_in found.now) renamed.now changed.items) }
 {
-    let mut changed = Vec::new(alloc);
-    for (path, _) in graph.files().iter() {
-        if let Some(file) = tree_of(graph, found, path) {
-            add_change(alloc, &mut changed, file, renamed)?;
-        }
-    }
-    Ok(changed)
+    let paths = paths_of(alloc, renamed)?;
+    changes_in(alloc, graph, found, paths.as_slice(), renamed)
 }

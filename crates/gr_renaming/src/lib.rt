@@ -4,6 +4,7 @@
 mod changes;
 mod file_edits;
 mod literal;
+mod paths;
 mod renamed;
 mod renaming;
 

@@ -1,35 +1,5 @@
 -- The answers to the goals of `bindings::bind_package`.
-use Rattle.std.proofs.Common.{subst}
-use Rattle.gr_declared.specs.PackageView.{package_of}
-use Rattle.gr_declared.specs.Package.{Package}
-use Rattle.gr_bound.specs.Bindings.{BoundIn, IsBoundAt}
-use Rattle.gr_bound.specs.Uses.{IsBoundTo}
-use Rattle.gr_bound.specs.Workspaces.{known_in}
-use Rattle.gr_bound.proofs.AddingAll.{call_all}
-use Rattle.gr_bound.proofs.Units.{one_at}
 use Rattle.gr_bound.proofs.bindings.bind_package.Goals as goal
 
-pub own_of-own-requires-clause-sound : goal.own_of-own-requires-clause-sound
-own_of-own-requires-clause-sound c = c.requires.read.sound
-
-pub members_of-members-requires-clause-sound : goal.members_of-members-requires-clause-sound
-members_of-members-requires-clause-sound c = c.requires.read.sound
-
-pub bind_unit-requires-clause-sound : goal.bind_unit-requires-clause-sound
-bind_unit-requires-clause-sound c = c.requires.read.sound
-
-pub bind_unit-requires-clause-own : goal.bind_unit-requires-clause-own
-bind_unit-requires-clause-own c = c.own_of-own.ensures (package_of c.unit-unit.result) c.unit-unit.ensures
-
-pub bind_unit-requires-clause-members : goal.bind_unit-requires-clause-members
-bind_unit-requires-clause-members c = c.members_of-members.ensures (package_of c.unit-unit.result) c.unit-unit.ensures
-
-pub returns : goal.returns
-returns c =
-    let w = c.args.packages.now.graph.now in
-    let known = known_in c.args.packages.now.found.now in
-    let p = package_of c.unit-unit.result in
-    call_all c.args.bound.now.items c.bind_unit.new.bound.items (BoundIn p (IsBoundTo w known p)) (IsBoundAt w known c.args.number) c.bind_unit.result
-    (λ b h. record { used_in = p; is_package = c.unit-unit.ensures; bound = h })
-    (λ b h. subst (λ (x : Package). BoundIn x (IsBoundTo w known x) b) (one_at w known c.args.number h.used_in p h.is_package c.unit-unit.ensures) h.bound)
-    c.bind_unit.ensures
+pub bind_numbered-requires-clause-exports : goal.bind_numbered-requires-clause-exports
+bind_numbered-requires-clause-exports c = record { sound = c.requires.read.sound; numbers = c.requires.exports }

@@ -1,6 +1,5 @@
 -- The answers to the goals of `bound_spot::bind_identifier`.
 use Rattle.std.proofs.Common.{subst}
-use Rattle.std.specs.Prelude.{[]}
 use Rattle.gr_declared.specs.PackageView.{package_of}
 use Rattle.gr_bound.specs.Identifiers.{BeginsAt}
 use Rattle.gr_bound.specs.Steps.{Adds}

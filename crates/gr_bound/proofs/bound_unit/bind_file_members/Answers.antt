@@ -1,5 +1,5 @@
 -- The answers to the goals of `bound_unit::bind_file_members`.
-use Rattle.std.proofs.Common.{◌≡◌, ◌<◌, ◌∙◌, length, sym, subst, arith}
+use Rattle.std.proofs.Common.{◌≡◌, ◌∙◌, length, sym, arith}
 use Rattle.std.specs.Prelude.{map}
 use Rattle.std.proofs.Math.ListN.{length-map}
 use Rattle.gr_expr.specs.Found.{use_of}

@@ -1,5 +1,5 @@
 -- The answers to the goals of `bound_unit::bind_methods`.
-use Rattle.std.proofs.Common.{◌≡◌, ◌<◌, length, ap, sym, subst, arith, ◌∙◌}
+use Rattle.std.proofs.Common.{◌≡◌, ◌<◌, length, ap, sym, subst, arith}
 use Rattle.gr_declared.specs.Package.{symbol_in}
 use Rattle.gr_declared.specs.PackageView.{package_of}
 use Rattle.gr_bound.specs.declared.declaration.Declaration.TheVariants.{Method}

@@ -12,5 +12,7 @@ use Rattle.gr_bound.proofs.bound_unit.bind_numbers.Given as goal
 -- the identifiers that were passed were added
 abbrev pub invariant-loop-u : goal.invariant-loop-u
 invariant-loop-u l =
+    let p = package_of l.unit in
+    let P = IsPackage l.exports.graph.now (known_in l.exports.found.now) in
     AddsAll l.initial.bound.items l.bound.items
-    (BelowAll (λ u b. BeginsAt (package_of l.unit) (place_at b).path (place_at b).offset u × (BindsByScope (package_of l.unit) u b.declaration ⊎ BindsByPackage (IsPackage l.graph (known_in l.found)) (package_of l.unit) u b.declaration)) l.u)
+    (BelowAll (λ u b. BeginsAt p (place_at b).path (place_at b).offset u × (BindsByScope p u b.declaration ⊎ BindsByPackage P p u b.declaration)) l.u)

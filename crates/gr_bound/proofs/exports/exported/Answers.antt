@@ -1,7 +1,5 @@
 -- The answers to the goals of `exports::exported`.
-use Rattle.std.proofs.Common.{◌≡◌, ◌<◌, ◌∙◌, length, sym, subst, refl}
-use Rattle.std.specs.BTreeMap.{BTreeMap}
-use Rattle.std.specs.Global.{Vec}
+use Rattle.std.proofs.Common.{◌<◌, ◌∙◌, length, sym, subst, refl}
 use Rattle.std.proofs.lemmas.Option.{slice_get_within, slice_get_read}
 use Rattle.gr_text.specs.Packages.{package_paths}
 use Rattle.gr_bound.specs.Exports.{AreNumbersAt}

@@ -1,4 +1,4 @@
--- The answers to the goals of `member_uses::add_member_uses`.
+-- The answers to the goals of `member_uses::add_all_members`.
 use Rattle.std.proofs.Common.{◌≡◌, length, refl, subst, arith}
 use Rattle.std.specs.Prelude.{map}
 use Rattle.std.proofs.lemmas.Option.{slice_get_read}
@@ -9,7 +9,7 @@ use Rattle.gr_bound.specs.Steps.{Adds}
 use Rattle.gr_bound.proofs.Adding.{below_none, below_next}
 use Rattle.gr_bound.proofs.MemberParts.{seen_definitions}
 use Rattle.gr_bound.proofs.MemberPlaces.{IsFileUse, one_file, all_members}
-use Rattle.gr_bound.proofs.member_uses.add_member_uses.Goals as goal
+use Rattle.gr_bound.proofs.member_uses.add_all_members.Goals as goal
 
 pub loop-file-init : goal.loop-file-init
 loop-file-init c = below_none (IsFileUse (definitions_seen c.args.unit c.args.own.now) (package_of c.args.unit) c.args.declaration.now c.args.members.now) c.args.found.now.items
