@@ -10,7 +10,7 @@ use Rattle.gr_standing.specs.Standing.{IsDeclaredAt}
 use Rattle.gr_check.specs.Corresponding.{Corresponds, predeclared, stands}
 use Rattle.gr_check.specs.Sound.{SoundView, packages_of}
 use Rattle.gr_check.specs.Steps.{IsSamePredeclared, Becomes}
-use Rattle.gr_check.proofs.Declared.{one_place}
+use Rattle.gr_placed.proofs.Declared.{one_place}
 
 module _ (B A : Package → Type 0) (moved : Place → Place) where
   -- where both stand

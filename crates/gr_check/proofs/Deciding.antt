@@ -24,7 +24,8 @@ use Rattle.gr_standing.specs.Standing.{InPackage, StandsIn, IsDeclaredAt}
 use Rattle.gr_revision.specs.Revisions.{Revision}
 use Rattle.gr_revision.specs.RevisionsOfEdits.{revision_of}
 use Rattle.gr_check.specs.Corresponding.{Corresponds, predeclared, stands}
-use Rattle.gr_check.specs.Preserved.{IsIdentifierAt, IsBoundToOne, KeepsBindings, Preserves}
+use Rattle.gr_check.specs.Preserved.{IsBoundToOne, KeepsBindings, Preserves}
+use Rattle.gr_placed.specs.Identified.{IsIdentifierAt}
 use Rattle.gr_check.specs.Sound.{SoundView}
 use Rattle.gr_check.specs.Steps.{KeepsAll, AddsNowhere}
 use Rattle.gr_check.proofs.Resolving.{same_package, same_use}

@@ -8,7 +8,7 @@ use Rattle.gr_bound.specs.declared.bound_spot.BoundSpot.{BoundSpot}
 use Rattle.gr_bound.specs.declared.declaration.Declaration.{Declaration}
 use Rattle.gr_bound.specs.Bindings.{place_at}
 use Rattle.gr_bound.specs.Uses.{IsUseOf}
-use Rattle.gr_check.specs.Preserved.{IsIdentifierAt}
+use Rattle.gr_placed.specs.Identified.{IsIdentifierAt}
 use Rattle.gr_check.specs.Sound.{SoundView, IsBoundIn, IsBoundHere}
 use Rattle.gr_check.specs.Steps.{Becomes, HasBound, IsBoundBy, IsKept, AllWere, AddsNone, KeepsAll, AddsNowhere}
 
@@ -63,7 +63,7 @@ bound_by s place P here each h =
     let is = (each h.one).0 h.listed in
     record { declaration = h.one.declaration; is_use = subst (IsUseOf s.workspace s.known h.one.declaration) is.1 is.0; holds = h.holds }
 
-abbrev spot_at : Declaration → Place → BoundSpot
+abbrev pub spot_at : Declaration → Place → BoundSpot
 spot_at d place = record { spot = record { path = place.path; offset = place.offset }; declaration = d }
 
 pub bound_to : (s : SoundView) (place : Place) (P : Declaration → Type 0) (here : List BoundSpot) →

@@ -6,8 +6,8 @@ use Rattle.gr_bound.specs.Bindings.{AreBindings}
 use Rattle.gr_bound.specs.Packages.{ArePackages}
 use Rattle.gr_bound.specs.Workspaces.{known_in}
 use Rattle.gr_check.specs.declared.held.SoundWorkspace.{SoundWorkspace}
-use Rattle.gr_check.specs.declared.declared_places.DeclaredPlaces.{DeclaredPlaces}
-use Rattle.gr_check.specs.DeclaredPlaces.{AreDeclared}
+use Rattle.gr_placed.specs.declared.declared_places.DeclaredPlaces.{DeclaredPlaces}
+use Rattle.gr_placed.specs.DeclaredPlaces.{AreDeclared}
 
 -- where its declarations stand, and what its identifiers are bound to
 pub record Holds (p : Packages) (places : List DeclaredPlaces) (bound : List BoundSpot) : Type 0 where

@@ -1,7 +1,7 @@
 -- The definitions of this crate.
 pub mod Corresponding
 pub mod Preserved
-pub mod DeclaredPlaces
 pub mod Sound
 pub mod Held
 pub mod Steps
+pub mod Among

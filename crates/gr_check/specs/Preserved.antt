@@ -6,17 +6,10 @@ use Rattle.gr_declared.specs.Package.{Package}
 use Rattle.gr_verdict.specs.Verdicts.{Verdicts, AreVerdicts}
 use Rattle.gr_verdict.specs.FaultLists.{ListsFaults}
 use Rattle.gr_bound.specs.declared.declaration.Declaration.{Declaration}
-use Rattle.gr_bound.specs.Identifiers.{BeginsAt}
 use Rattle.gr_bound.specs.Uses.{IsPackage, IsUseOf}
+use Rattle.gr_placed.specs.Identified.{IsIdentifierAt}
 use Rattle.gr_revision.specs.Revisions.{Revision}
 use Rattle.gr_check.specs.Corresponding.{Corresponds}
-
--- an identifier of some package, and no literal of an import, begins at the place
-pub record IsIdentifierAt (w : Workspace) (known : Verdicts) (place : Place) : Type 0 where
-  pub used_in : Package
-  pub is_package : IsPackage w known used_in
-  pub user : ℕ
-  pub begins : BeginsAt used_in place.path place.offset user
 
 -- a declaration that some use at a place is bound to, of two workspaces
 pub record IsBoundToOne (w : Workspace) (known : Verdicts) (place : Place) (P : Declaration → Type 0) : Type 0 where

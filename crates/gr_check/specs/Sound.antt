@@ -34,10 +34,3 @@ IsBoundIn s b = IsBound s.workspace s.known b
 
 abbrev pub IsBoundHere : SoundView → Place → BoundSpot → Type 0
 IsBoundHere s place b = IsBoundIn s b × (place_at b ≡ place)
-
--- an identifier of the package of a number begins at the place
-pub record BeginsInNumber (w : Workspace) (known : Verdicts) (number : ℕ) (place : Place) : Type 0 where
-  pub used_in : Package
-  pub is_package : IsPackageAt w known number used_in
-  pub user : ℕ
-  pub begins : BeginsAt used_in place.path place.offset user

@@ -7,7 +7,8 @@ use Rattle.gr_bound.specs.declared.declaration.Declaration.TheVariants.{Predecla
 use Rattle.gr_bound.specs.Bindings.{place_at}
 use Rattle.gr_bound.specs.Uses.{IsUseOf}
 use Rattle.gr_check.specs.Corresponding.{Corresponds}
-use Rattle.gr_check.specs.Preserved.{IsIdentifierAt, IsBoundToOne}
+use Rattle.gr_check.specs.Preserved.{IsBoundToOne}
+use Rattle.gr_placed.specs.Identified.{IsIdentifierAt}
 use Rattle.gr_check.specs.Sound.{SoundView, packages_of}
 
 -- the same predeclared name

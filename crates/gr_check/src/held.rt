@@ -1,7 +1,7 @@
 //! A workspace without faults, held with what is asked of it.
 
-use crate::declared_places::DeclaredPlaces;
 use gr_bound::{Bindings, Packages};
+use gr_placed::declared_places::DeclaredPlaces;
 
 /// A workspace without faults: its packages, where their declarations stand, and what its identifiers are bound to.
 #[derive(Drop)]

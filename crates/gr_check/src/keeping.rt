@@ -117,9 +117,9 @@ fn all_were(
 
 /// Where the identifiers found last end, among those bound before and those bound then.
 #[derive(Drop)]
-struct Near {
-    before: usize,
-    then: usize,
+pub(crate) struct Near {
+    pub(crate) before: usize,
+    pub(crate) then: usize,
 }
 
 /// Whether what begins at a place is afterwards bound to nothing but what its declarations have become.

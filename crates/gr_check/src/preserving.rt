@@ -14,6 +14,7 @@ ghost use Rattle.gr_revision.specs.RevisionsOfEdits.{revision_of};
 
 use crate::held::SoundWorkspace;
 use crate::keeping::{adds_nowhere, are_kept};
+use crate::keeps_among::keeps_among;
 use gr_bound::{Packages, all_seen, refuse_faults};
 use gr_edit::EditSet;
 use gr_graph::Graph;
@@ -60,8 +61,8 @@ fn keeps_read(
     keeps(alloc, &moves, &before, &then)
 }
 
-/// The same of workspaces.
-fn keeps_bindings(
+/// The same of workspaces, by all their packages.
+fn keeps_all_bindings(
     alloc: Global,
     graph: &Graph,
     found: &Findings,
@@ -79,6 +80,26 @@ fn keeps_bindings(
     let seen_after = all_seen(alloc, after, found_after)?;
     let then = Packages::of(alloc, after, found_after, &seen_after)?;
     keeps_read(alloc, &before, edits, &then)
+}
+
+/// The same, by the affected packages alone where these tell it.
+fn keeps_bindings(
+    alloc: Global,
+    graph: &Graph,
+    found: &Findings,
+    edits: &EditSet,
+    after: &Graph,
+    found_after: &Findings,
+) -> Result<bool, AllocError>
+    requires sound { IsSound graph.now found.now }
+    requires after { after.now ≡ edited edits.now graph.now }
+    requires sound_after { IsSound after.now found_after.now }
+    ensures { IfOk result (λ kept. IsTrue kept ↔ KeepsBindings graph.now (known_in found.now) (revision_of graph.now edits.now) (known_in found_after.now)) }
+{
+    if keeps_among(alloc, graph, found, edits, after, found_after)? {
+        return Ok(true);
+    }
+    keeps_all_bindings(alloc, graph, found, edits, after, found_after)
 }
 
 /// Whether nothing that was found in a workspace is a fault.

@@ -4,16 +4,16 @@ ghost use Rattle.gr_text.specs.declared.place.Place.{Place as At};
 ghost use Rattle.gr_bound.specs.declared.bound_spot.BoundSpot.{BoundSpot as Bound};
 ghost use Rattle.gr_bound.specs.Packages.{ArePackages};
 ghost use Rattle.gr_standing.specs.Standing.{IsDeclaredAt};
-ghost use Rattle.gr_check.specs.DeclaredPlaces.{IsFoundIn};
+ghost use Rattle.gr_placed.specs.DeclaredPlaces.{IsFoundIn};
 ghost use Rattle.gr_check.specs.Held.{IsHeld};
-ghost use Rattle.gr_check.specs.Preserved.{IsIdentifierAt};
+ghost use Rattle.gr_placed.specs.Identified.{IsIdentifierAt};
 ghost use Rattle.gr_check.specs.Sound.{view_in, view_of, packages_of, IsBoundIn, IsBoundHere};
 
-use crate::bound_here::bound_here;
-use crate::declared_places::{declared_at, declared_places};
 use crate::held::SoundWorkspace;
-use crate::identifier_places::identifier_places;
 use gr_bound::{BoundSpot, Declaration, Packages, bindings_of};
+use gr_placed::bound_here::bound_here;
+use gr_placed::declared_places::{declared_at, declared_places};
+use gr_placed::identifier_places::identifier_places;
 use gr_text::Place;
 use std::alloc::{AllocError, Global};
 

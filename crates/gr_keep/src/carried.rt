@@ -14,7 +14,7 @@ use gr_compile::Unit;
 use gr_graph::Graph;
 use std::alloc::{AllocError, Global};
 
-fn is_marked(marks: &[bool], number: usize) -> bool
+pub fn is_marked(marks: &[bool], number: usize) -> bool
     ensures { IsTrue result ↔ IsMarked marks.now number }
 {
     match marks.get(number) {
@@ -24,7 +24,7 @@ fn is_marked(marks: &[bool], number: usize) -> bool
 }
 
 /// Whether none of some packages is marked.
-fn are_unmarked(marks: &[bool], numbers: &[usize]) -> bool
+pub fn are_unmarked(marks: &[bool], numbers: &[usize]) -> bool
     ensures { IsTrue result ↔ ((i : ℕ) → Contains numbers.now i → IsMarked marks.now i → ⊥) }
 {
     for number in numbers {
@@ -37,13 +37,7 @@ fn are_unmarked(marks: &[bool], numbers: &[usize]) -> bool
 
 /// Whether the closure of a package has the same texts before and after a change. The numbers are those that the package has
 /// before and after.
-pub(crate) fn keeps_texts(
-    before: &Graph,
-    old: usize,
-    after: &Graph,
-    new: usize,
-    marks: &Marks,
-) -> bool
+pub fn keeps_texts(before: &Graph, old: usize, after: &Graph, new: usize, marks: &Marks) -> bool
     requires old { old < length (package_paths before.now) }
     requires same { slice_get (package_paths before.now) old ≡ slice_get (package_paths after.now) new }
     requires new { new < length (package_paths after.now) }

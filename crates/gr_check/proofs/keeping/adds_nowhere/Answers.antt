@@ -4,7 +4,7 @@ use Rattle.std.specs.Prelude.{IsTrue, ◌↔◌, Contains}
 use Rattle.std.proofs.lemmas.Result.{IfOk-weaker}
 use Rattle.gr_text.specs.declared.place.Place.{Place}
 use Rattle.gr_edit.specs.Moved.{moved}
-use Rattle.gr_check.specs.Preserved.{IsIdentifierAt}
+use Rattle.gr_placed.specs.Identified.{IsIdentifierAt}
 use Rattle.gr_check.specs.Sound.{view_in}
 use Rattle.gr_check.specs.Steps.{AddsNone, AddsNowhere}
 use Rattle.gr_check.proofs.Every.{nowhere_as}

@@ -1,7 +1,7 @@
 -- The answers to the goals of `held::SoundWorkspace::declared_at`.
 use Rattle.std.proofs.Common.{sym, subst}
 use Rattle.gr_bound.specs.Workspaces.{known_in}
-use Rattle.gr_check.specs.DeclaredPlaces.{AreDeclared}
+use Rattle.gr_placed.specs.DeclaredPlaces.{AreDeclared}
 use Rattle.gr_check.proofs.held.SoundWorkspace.declared_at.Goals as goal
 
 pub returns : goal.returns

@@ -1,0 +1,10 @@
+-- Those that were passed were bound so.
+use Rattle.gr_edit.specs.Moved.{moved}
+use Rattle.gr_bound.specs.declared.bound_spot.BoundSpot.{BoundSpot}
+use Rattle.gr_check.specs.Among.{BecomesAmong}
+use Rattle.gr_check.specs.Steps.{HasBound}
+use Rattle.gr_check.proofs.Every.{HoldsBelow}
+use Rattle.gr_check.proofs.keeps_among.all_were.Given as goal
+
+abbrev pub invariant-loop-b : goal.invariant-loop-b
+invariant-loop-b l = HoldsBelow (λ (b : BoundSpot). HasBound (λ d. BecomesAmong l.before l.then (moved l.moves) d b.declaration) l.old) l.new l.b-index

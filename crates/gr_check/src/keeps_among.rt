@@ -1,0 +1,265 @@
+//! Whether the affected packages alone tell that an edit set keeps all bindings.
+ghost use Rattle.std.specs.Prelude.{◌≡◌, Contains, IfOk, IsTrue, Some};
+ghost use Rattle.std.specs.Option.{option_copied};
+ghost use Rattle.gr_text.specs.declared.place.Place.{Place as At};
+ghost use Rattle.gr_edit.specs.EditSet.{edited};
+ghost use Rattle.gr_edit.specs.Moved.{moved};
+ghost use Rattle.gr_bound.specs.Workspaces.{IsSound, known_in};
+ghost use Rattle.gr_revision.specs.RevisionsOfEdits.{revision_of};
+ghost use Rattle.gr_affected.specs.Affected.{AreAffected};
+ghost use Rattle.gr_check.specs.Among.{AreHeld, BecomesAmong, IsKeptAmong, AllWereAmong, AddsNoneAmong, KeepsMarked, AddsMarked, BothGo};
+ghost use Rattle.gr_check.specs.Preserved.{KeepsBindings};
+ghost use Rattle.gr_check.specs.Steps.{HasBound};
+
+use crate::among::MarkedPackages;
+use crate::corresponding::{are_predeclared, goes_to};
+use crate::keeping::Near;
+use gr_affected::affected_by;
+use gr_bound::{BoundSpot, Declaration};
+use gr_edit::EditSet;
+use gr_graph::Graph;
+use gr_revision::Moves;
+use gr_text::Place;
+use gr_verdict::Findings;
+use std::alloc::{AllocError, Global};
+
+/// Whether two places are known, and the one goes to the other.
+fn both_go(moves: &Moves<'_>, old: Option<&Place>, new: Option<&Place>) -> Result<bool, AllocError>
+    ensures { IfOk result (λ yes. IsTrue yes → BothGo (moved moves.now) (option_copied old.entry) (option_copied new.entry)) }
+{
+    match old {
+        None => Ok(false),
+        Some(old) => match new {
+            None => Ok(false),
+            Some(new) => goes_to(moves, old, new),
+        },
+    }
+}
+
+/// Whether a declaration has become another, or is the same one of a package that is not affected.
+fn became(
+    moves: &Moves<'_>,
+    before: &MarkedPackages<'_>,
+    then: &MarkedPackages<'_>,
+    d: &Declaration,
+    e: &Declaration,
+) -> Result<bool, AllocError>
+    requires before { AreHeld before.now }
+    requires then { AreHeld then.now }
+    ensures { IfOk result (λ yes. IsTrue yes → BecomesAmong before.now then.now (moved moves.now) d.now e.now) }
+{
+    if are_predeclared(d, e) {
+        return Ok(true);
+    }
+    if before.leaves(d, e) {
+        return Ok(true);
+    }
+    both_go(moves, before.declared_at(d), then.declared_at(e))
+}
+
+/// Whether one of some bound identifiers is bound to what a declaration has become.
+fn some_became(
+    moves: &Moves<'_>,
+    before: &MarkedPackages<'_>,
+    then: &MarkedPackages<'_>,
+    d: &Declaration,
+    bound: &[BoundSpot],
+) -> Result<bool, AllocError>
+    requires before { AreHeld before.now }
+    requires then { AreHeld then.now }
+    ensures { IfOk result (λ yes. IsTrue yes → HasBound (λ e. BecomesAmong before.now then.now (moved moves.now) d.now e) bound.now) }
+{
+    for b in bound {
+        if became(moves, before, then, d, &b.declaration)? {
+            return Ok(true);
+        }
+    }
+    Ok(false)
+}
+
+/// Whether one of some bound identifiers is bound to what has become a declaration.
+fn some_was(
+    moves: &Moves<'_>,
+    before: &MarkedPackages<'_>,
+    then: &MarkedPackages<'_>,
+    bound: &[BoundSpot],
+    e: &Declaration,
+) -> Result<bool, AllocError>
+    requires before { AreHeld before.now }
+    requires then { AreHeld then.now }
+    ensures { IfOk result (λ yes. IsTrue yes → HasBound (λ d. BecomesAmong before.now then.now (moved moves.now) d e.now) bound.now) }
+{
+    for b in bound {
+        if became(moves, before, then, &b.declaration, e)? {
+            return Ok(true);
+        }
+    }
+    Ok(false)
+}
+
+/// Whether a bound identifier is afterwards bound to what its declaration has become.
+fn is_kept(
+    moves: &Moves<'_>,
+    before: &MarkedPackages<'_>,
+    then: &MarkedPackages<'_>,
+    near: &mut usize,
+    bound: &BoundSpot,
+) -> Result<bool, AllocError>
+    requires before { AreHeld before.now }
+    requires then { AreHeld then.now }
+    ensures { IfOk result (λ yes. IsTrue yes → IsKeptAmong before.now then.now (moved moves.now) bound.now) }
+{
+    let place = moves.place(&bound.spot.path, bound.spot.offset)?;
+    some_became(
+        moves,
+        before,
+        then,
+        &bound.declaration,
+        then.bound_at(near, &place),
+    )
+}
+
+/// Whether each bound identifier of the marked packages is.
+fn are_kept(
+    moves: &Moves<'_>,
+    before: &MarkedPackages<'_>,
+    then: &MarkedPackages<'_>,
+) -> Result<bool, AllocError>
+    requires before { AreHeld before.now }
+    requires then { AreHeld then.now }
+    ensures { IfOk result (λ yes. IsTrue yes → KeepsMarked before.now then.now (moved moves.now)) }
+{
+    let all = before.bound();
+    let mut near = 0;
+    for bound in all {
+        if !is_kept(moves, before, then, &mut near, bound)? {
+            return Ok(false);
+        }
+    }
+    Ok(true)
+}
+
+/// Whether each of some identifiers that are bound afterwards is bound to what has become one of those before.
+fn all_were(
+    moves: &Moves<'_>,
+    before: &MarkedPackages<'_>,
+    then: &MarkedPackages<'_>,
+    old: &[BoundSpot],
+    new: &[BoundSpot],
+) -> Result<bool, AllocError>
+    requires before { AreHeld before.now }
+    requires then { AreHeld then.now }
+    ensures { IfOk result (λ yes. IsTrue yes → AllWereAmong before.now then.now (moved moves.now) old.now new.now) }
+{
+    for b in new {
+        if !some_was(moves, before, then, old, &b.declaration)? {
+            return Ok(false);
+        }
+    }
+    Ok(true)
+}
+
+/// Whether what begins at a place goes to a marked package, and is bound there to nothing but what its declarations have become.
+fn adds_none(
+    moves: &Moves<'_>,
+    before: &MarkedPackages<'_>,
+    then: &MarkedPackages<'_>,
+    near: &mut Near,
+    place: &Place,
+) -> Result<bool, AllocError>
+    requires before { AreHeld before.now }
+    requires then { AreHeld then.now }
+    ensures { IfOk result (λ yes. IsTrue yes → AddsNoneAmong before.now then.now (moved moves.now) place.now) }
+{
+    let to = moves.place(&place.path, place.offset)?;
+    if !then.holds(&to.path) {
+        return Ok(false);
+    }
+    all_were(
+        moves,
+        before,
+        then,
+        before.bound_at(&mut near.before, place),
+        then.bound_at(&mut near.then, &to),
+    )
+}
+
+/// Whether this is so at each of some places.
+fn add_none(
+    moves: &Moves<'_>,
+    before: &MarkedPackages<'_>,
+    then: &MarkedPackages<'_>,
+    places: &[Place],
+) -> Result<bool, AllocError>
+    requires before { AreHeld before.now }
+    requires then { AreHeld then.now }
+    ensures { IfOk result (λ yes. IsTrue yes → (place : At) → Contains places.now place → AddsNoneAmong before.now then.now (moved moves.now) place) }
+{
+    let mut near = Near { before: 0, then: 0 };
+    for place in places {
+        if !adds_none(moves, before, then, &mut near, place)? {
+            return Ok(false);
+        }
+    }
+    Ok(true)
+}
+
+/// Whether this is so of all identifiers of the marked packages.
+fn adds_nowhere(
+    alloc: Global,
+    moves: &Moves<'_>,
+    before: &MarkedPackages<'_>,
+    then: &MarkedPackages<'_>,
+) -> Result<bool, AllocError>
+    requires before { AreHeld before.now }
+    requires then { AreHeld then.now }
+    ensures { IfOk result (λ yes. IsTrue yes → AddsMarked before.now then.now (moved moves.now)) }
+{
+    let places = before.identifier_places(alloc)?;
+    add_none(moves, before, then, &places)
+}
+
+/// Whether each identifier of the marked packages stays bound to what its declaration becomes.
+fn keeps_marked(
+    alloc: Global,
+    before: &MarkedPackages<'_>,
+    edits: &EditSet,
+    then: &MarkedPackages<'_>,
+) -> Result<bool, AllocError>
+    requires before { AreHeld before.now }
+    requires then { AreHeld then.now }
+    requires edited { then.now.graph.now ≡ edited edits.now before.now.graph.now }
+    requires affected { AreAffected before.now.graph.now before.now.graph.now then.now.graph.now edits.now before.now.marks.now }
+    ensures { IfOk result (λ yes. IsTrue yes → KeepsBindings before.now.graph.now (known_in before.now.found.now) (revision_of before.now.graph.now edits.now) (known_in then.now.found.now)) }
+{
+    let moves = Moves::of(alloc, edits)?;
+    if are_kept(&moves, before, then)? {
+        adds_nowhere(alloc, &moves, before, then)
+    } else {
+        Ok(false)
+    }
+}
+
+/// Whether the packages that an edit set affects tell that it keeps all bindings. Where they don't tell it, or are all packages,
+/// the answer is no.
+pub fn keeps_among(
+    alloc: Global,
+    graph: &Graph,
+    found: &Findings,
+    edits: &EditSet,
+    after: &Graph,
+    found_after: &Findings,
+) -> Result<bool, AllocError>
+    requires sound { IsSound graph.now found.now }
+    requires after { after.now ≡ edited edits.now graph.now }
+    requires sound_after { IsSound after.now found_after.now }
+    ensures { IfOk result (λ yes. IsTrue yes → KeepsBindings graph.now (known_in found.now) (revision_of graph.now edits.now) (known_in found_after.now)) }
+{
+    let marks = affected_by(alloc, graph, edits, after)?;
+    if marks.before.iter().all(|mark| *mark) {
+        return Ok(false);
+    }
+    let before = MarkedPackages::of(alloc, graph, found, &marks.before)?;
+    let then = MarkedPackages::of(alloc, after, found_after, &marks.then)?;
+    keeps_marked(alloc, &before, edits, &then)
+}

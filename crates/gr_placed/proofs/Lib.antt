@@ -1,0 +1,6 @@
+-- The lemmas of this crate.
+pub mod Declared
+pub mod Found
+pub mod Starts
+pub mod Identifiers
+pub mod Range

@@ -1,0 +1,4 @@
+-- The definitions of this crate.
+pub mod DeclaredPlaces
+pub mod Identified
+pub mod Outside

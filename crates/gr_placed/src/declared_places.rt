@@ -1,0 +1,221 @@
+//! Where the declarations of a workspace without faults stand.
+ghost use Rattle.std.specs.Prelude.{ℕ, ◌≡◌, ◌<◌, ◌↔◌, None, length, map, slice_index_or, IsTrue, IfOk};
+ghost use Rattle.std.specs.Option.{option_copied};
+ghost use Rattle.gr_text.specs.Packages.{package_paths};
+ghost use Rattle.gr_tree.specs.SourceFile.{source_of};
+ghost use Rattle.gr_scope.specs.Bindings.{Counts};
+ghost use Rattle.gr_scope.specs.Scoped.{layout_in, names_in};
+ghost use Rattle.gr_declared.specs.Package.{Package as Checked};
+ghost use Rattle.gr_declared.specs.PackageView.{package_of};
+ghost use Rattle.gr_text.specs.declared.place.Place.{Place as At};
+ghost use Rattle.gr_verdict.specs.Verdicts.{Verdicts};
+ghost use Rattle.gr_bound.specs.Steps.{ArePlaces};
+ghost use Rattle.gr_bound.specs.Uses.{IsPackage};
+ghost use Rattle.gr_bound.specs.Packages.{ArePackages};
+ghost use Rattle.gr_bound.specs.Workspaces.{known_in};
+ghost use Rattle.gr_standing.specs.Standing.{InPackage, IsScopeAt, StandsIn, IsDeclaredAt};
+ghost use Rattle.gr_placed.specs.Outside.{path_by};
+ghost use Rattle.gr_placed.specs.DeclaredPlaces.{IsFound, IsFoundIn, BeginsIn, ArePlacesOf, AreDeclaredIn, AreDeclaredAt, AreDeclared, IsPlaceIn};
+
+use crate::places::place_of;
+use gr_bound::{Declaration, Packages, field_places, method_places};
+use gr_declared::{Index, Package};
+use gr_expr::symbol::SharedPath;
+use gr_graph::Graph;
+use gr_imports::literal_of;
+use gr_scope::model::Position;
+use gr_scope::table::ScopeTable;
+use gr_text::Place;
+use gr_tree::FileTree;
+use std::alloc::{AllocError, Global};
+
+/// How many names are predeclared: they have the first numbers in the table of each package.
+const PREDECLARED: usize = 11;
+
+/// Where the declarations of a package stand that count: those of its scopes by their numbers, the fields and the methods by
+/// their ranks.
+#[derive(Drop)]
+pub struct DeclaredPlaces {
+    pub names: Vec<Option<Place>>,
+    pub fields: Vec<Option<Place>>,
+    pub methods: Vec<Option<Place>>,
+}
+
+/// Whether an identifier declares, and this counts.
+fn counts(table: &ScopeTable<'_>, d: usize) -> bool
+    requires { d < length table.now.sites }
+    ensures { IsTrue result ↔ Counts (layout_in table.now) (names_in table.now) d }
+{
+    if !table.declares(d) {
+        return false;
+    }
+    match table.binding(d) {
+        None => false,
+        Some(_) => true,
+    }
+}
+
+/// Where a declaration of a package's own scopes stands: an import at its path literal.
+fn position_in(unit: Package<'_>, d: usize) -> Option<Position>
+    requires { d < length unit.table.now.sites }
+    ensures { IsFound (IsScopeAt (package_of unit.entry) d) result }
+{
+    if d < PREDECLARED {
+        return None;
+    }
+    if counts(unit.table, d) {
+        Some(unit.table.place(literal_of(unit.table, d)))
+    } else {
+        None
+    }
+}
+
+/// The same of each number.
+fn name_places(alloc: Global, unit: Package<'_>) -> Result<Vec<Option<Position>>, AllocError>
+    ensures { IfOk result (λ places. ArePlaces (IsScopeAt (package_of unit.entry)) places.items) }
+{
+    let mut places = Vec::new(alloc);
+    for d in 0..unit.table.len() {
+        places.push(position_in(unit, d))?;
+    }
+    Ok(places)
+}
+
+/// Where the token begins at a position that was found.
+fn found_place(files: &[FileTree], at: Option<Position>) -> Result<Option<Place>, AllocError>
+    ensures { IfOk result (IsFound (BeginsIn (map source_of files.now) at)) }
+{
+    match at {
+        None => Ok(None),
+        Some(at) => place_of(files, at),
+    }
+}
+
+/// Where the tokens begin at some positions.
+fn places_of(
+    alloc: Global,
+    files: &[FileTree],
+    positions: &[Option<Position>],
+) -> Result<Vec<Option<Place>>, AllocError>
+    ensures { IfOk result (λ places. ArePlacesOf (map source_of files.now) positions.now places.items) }
+{
+    let mut places = Vec::new(alloc);
+    for at in positions {
+        places.push(found_place(files, *at)?)?;
+    }
+    Ok(places)
+}
+
+/// Where the declarations of a package stand.
+pub fn unit_places(alloc: Global, unit: Package<'_>) -> Result<DeclaredPlaces, AllocError>
+    ensures { IfOk result (AreDeclaredIn (package_of unit.entry)) }
+{
+    let index = Index::of(alloc, unit)?;
+    let names = name_places(alloc, unit)?;
+    let fields = field_places(alloc, unit, &index)?;
+    let methods = method_places(alloc, unit, &index)?;
+    Ok(DeclaredPlaces {
+        names: places_of(alloc, unit.files, &names)?,
+        fields: places_of(alloc, unit.files, &fields)?,
+        methods: places_of(alloc, unit.files, &methods)?,
+    })
+}
+
+/// The same of the package of a number.
+fn places_at(
+    alloc: Global,
+    packages: &Packages<'_>,
+    number: usize,
+) -> Result<DeclaredPlaces, AllocError>
+    requires in_range { number < length (package_paths packages.now.graph.now) }
+    requires read { ArePackages packages.now }
+    ensures { IfOk result (AreDeclaredAt packages.now.graph.now (known_in packages.now.found.now) number) }
+{
+    let unit = packages.unit(number);
+    unit_places(alloc, unit)
+}
+
+/// Where the declarations of all packages stand, by the packages' numbers.
+pub fn declared_places(
+    alloc: Global,
+    packages: &Packages<'_>,
+) -> Result<Vec<DeclaredPlaces>, AllocError>
+    requires { ArePackages packages.now }
+    ensures { IfOk result (λ all. AreDeclared packages.now.graph.now (known_in packages.now.found.now) all.items) }
+{
+    let mut all = Vec::new(alloc);
+    for number in 0..packages.graph.len() {
+        all.push(places_at(alloc, packages, number)?)?;
+    }
+    Ok(all)
+}
+
+/// The place that a list has for a number.
+fn listed(places: &[Option<Place>], number: usize) -> Option<&Place>
+    ensures { option_copied result ≡ slice_index_or places.now number None }
+{
+    match places.get(number) {
+        None => None,
+        Some(place) => place.as_ref(),
+    }
+}
+
+impl DeclaredPlaces {
+    /// Where a declaration of the package stands. A predeclared one stands nowhere.
+    pub fn at(&self, declaration: &Declaration) -> Option<&Place>
+        ensures { (p : Checked) → AreDeclaredIn p self.now → IsPlaceIn p declaration.now result }
+    {
+        match declaration {
+            Declaration::Predeclared(_) => None,
+            Declaration::Declared(_, d) => listed(&self.names, *d),
+            Declaration::Field(symbol) => listed(&self.fields, symbol.rank),
+            Declaration::Method(symbol) => listed(&self.methods, symbol.rank),
+        }
+    }
+}
+
+/// The path of the package of a declaration; none where it is predeclared.
+pub fn package_path(declaration: &Declaration) -> Option<&SharedPath>
+    ensures { option_copied result ≡ path_by declaration.now }
+{
+    match declaration {
+        Declaration::Predeclared(_) => None,
+        Declaration::Declared(path, _) => Some(path),
+        Declaration::Field(symbol) => Some(&symbol.package),
+        Declaration::Method(symbol) => Some(&symbol.package),
+    }
+}
+
+/// Where a declaration of the package of a path stands.
+fn declared_under<'a>(
+    graph: &Graph,
+    all: &'a [DeclaredPlaces],
+    path: &SharedPath,
+    declaration: &Declaration,
+) -> Option<&'a Place>
+    ensures { (known : Verdicts) → AreDeclared graph.now known all.now → IsFoundIn (λ (place : At). InPackage (IsPackage graph.now known) path.now (λ p. StandsIn p declaration.now place)) result }
+{
+    match graph.number_of(path.path()) {
+        None => None,
+        Some(number) => match all.get(number) {
+            None => None,
+            Some(places) => places.at(declaration),
+        },
+    }
+}
+
+/// Where a declaration of a workspace stands. A predeclared one stands nowhere.
+pub fn declared_at<'a>(
+    graph: &Graph,
+    all: &'a [DeclaredPlaces],
+    declaration: &Declaration,
+) -> Option<&'a Place>
+    ensures { (known : Verdicts) → AreDeclared graph.now known all.now → IsFoundIn (IsDeclaredAt (IsPackage graph.now known) declaration.now) result }
+{
+    match declaration {
+        Declaration::Predeclared(_) => None,
+        Declaration::Declared(path, _) => declared_under(graph, all, path, declaration),
+        Declaration::Field(symbol) => declared_under(graph, all, &symbol.package, declaration),
+        Declaration::Method(symbol) => declared_under(graph, all, &symbol.package, declaration),
+    }
+}

@@ -1,0 +1,9 @@
+//! Where the declarations and the identifiers of a workspace without faults begin.
+#![tactic(auto)]
+
+pub mod bound_here;
+pub mod declared_places;
+pub mod identifier_places;
+mod places;
+
+pub use places::{beginning, name_beginning, place_of};

@@ -1,0 +1,68 @@
+//! The places at which the tokens and the identifiers of packages begin.
+ghost use Rattle.std.specs.Prelude.{◌<◌, Some, length, map, slice_get, IfOk};
+ghost use Rattle.gr_text.specs.declared.place.Place.{Place as At};
+ghost use Rattle.gr_tree.specs.SourceFile.{source_of};
+ghost use Rattle.gr_declared.specs.PackageView.{package_of};
+ghost use Rattle.gr_bound.specs.Identifiers.{BeginsAt, NameBegins};
+ghost use Rattle.gr_standing.specs.Standing.{TokenBegins};
+ghost use Rattle.gr_placed.specs.DeclaredPlaces.{IsFound};
+
+use gr_bound::is_name;
+use gr_declared::Package;
+use gr_scope::model::Position;
+use gr_text::Place;
+use gr_tree::FileTree;
+use std::alloc::AllocError;
+
+/// Where a token of a file begins.
+fn begin(file: &FileTree, token: usize) -> Result<Place, AllocError>
+    ensures { IfOk result (λ place. TokenBegins (Some (source_of file.now)) token place) }
+{
+    Ok(Place {
+        path: file.path().clone()?,
+        offset: file.offset(token),
+    })
+}
+
+/// The place at which the token at a position begins.
+pub fn place_of(files: &[FileTree], at: Position) -> Result<Option<Place>, AllocError>
+    ensures { IfOk result (IsFound (TokenBegins (slice_get (map source_of files.now) at.file) at.index)) }
+{
+    match files.get(at.file) {
+        None => Ok(None),
+        Some(file) => Ok(Some(begin(file, at.index)?)),
+    }
+}
+
+/// The place at which a name of a file begins; none where the token is no name.
+fn name_in(file: &FileTree, token: usize) -> Result<Option<Place>, AllocError>
+    ensures { IfOk result (IsFound (λ (place : At). NameBegins (Some (source_of file.now)) token place.path place.offset)) }
+{
+    if is_name(file, token) {
+        Ok(Some(begin(file, token)?))
+    } else {
+        Ok(None)
+    }
+}
+
+/// The place at which the name at a position begins; none where the token is no name.
+pub fn name_beginning(files: &[FileTree], at: Position) -> Result<Option<Place>, AllocError>
+    ensures { IfOk result (IsFound (λ (place : At). NameBegins (slice_get (map source_of files.now) at.file) at.index place.path place.offset)) }
+{
+    match files.get(at.file) {
+        None => Ok(None),
+        Some(file) => name_in(file, at.index),
+    }
+}
+
+/// The place at which an identifier begins; none where it stands in no file, and for the literal of an import.
+pub fn beginning(unit: Package<'_>, u: usize) -> Result<Option<Place>, AllocError>
+    requires { u < length unit.table.now.sites }
+    ensures { IfOk result (IsFound (λ (place : At). BeginsAt (package_of unit.entry) place.path place.offset u)) }
+{
+    if unit.table.role(u).is_implied() {
+        Ok(None)
+    } else {
+        name_beginning(unit.files, unit.table.place(u))
+    }
+}
