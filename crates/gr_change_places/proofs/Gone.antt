@@ -21,10 +21,10 @@ use Rattle.gr_bound.proofs.AddingAll.{all_as, all_none, call_all, all_numbers, B
 use Rattle.gr_bound.proofs.NamedPlaces.{one_field_place, one_method_place}
 use Rattle.gr_bound.proofs.Units.{numbered, number_within, one_at}
 use Rattle.gr_standing.specs.Standing.{InOwn, TokenAt, IsScopeAt, StandsIn, IsDeclaredAt}
-use Rattle.gr_check.specs.DeclaredPlaces.{AreDeclaredIn, AreDeclaredAt, StandsBy, IsFound}
-use Rattle.gr_check.specs.declared.declared_places.DeclaredPlaces.{DeclaredPlaces}
-use Rattle.gr_check.proofs.Declared.{one_scope_place}
-use Rattle.gr_check.proofs.Starts.{token_once}
+use Rattle.gr_placed.specs.DeclaredPlaces.{AreDeclaredIn, AreDeclaredAt, StandsBy, IsFound}
+use Rattle.gr_placed.specs.declared.declared_places.DeclaredPlaces.{DeclaredPlaces}
+use Rattle.gr_placed.proofs.Declared.{one_scope_place}
+use Rattle.gr_placed.proofs.Starts.{token_once}
 use Rattle.gr_change_places.specs.OldPlaces.{GoesFrom, GoFrom, GoFromPackage, HasGone, HasGoneTo, field_at, method_at}
 
 -- one declaration by its place

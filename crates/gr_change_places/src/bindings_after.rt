@@ -10,10 +10,10 @@ ghost use Rattle.gr_change_places.specs.ScopeBindings.{IsBoundIn, IsBoundInNumbe
 
 use gr_bound::bindings::sort;
 use gr_bound::{BoundSpot, Declaration, Spot, declaration_in_scope};
-use gr_check::beginning;
 use gr_declared::{Interfaces, Package};
 use gr_expr::symbol::SharedPath;
 use gr_graph::Graph;
+use gr_placed::beginning;
 use gr_scoped::PackageScopes;
 use gr_text::Place;
 use std::alloc::{AllocError, Global};

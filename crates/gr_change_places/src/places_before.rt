@@ -9,14 +9,14 @@ ghost use Rattle.gr_bound.specs.Bindings.{AddsAll, place_at};
 ghost use Rattle.gr_bound.specs.Places.{place_cmp};
 ghost use Rattle.gr_bound.specs.Uses.{IsPackage};
 ghost use Rattle.gr_bound.specs.Packages.{ArePackages};
-ghost use Rattle.gr_check.specs.DeclaredPlaces.{AreDeclared};
+ghost use Rattle.gr_placed.specs.DeclaredPlaces.{AreDeclared};
 ghost use Rattle.gr_change_places.specs.Read.{workspace_of, verdicts_of};
 ghost use Rattle.gr_change_places.specs.OldPlaces.{GoesFrom, GoFrom, GoFromPackage, HasGone, AreOldPlaces, field_at, method_at};
 
 use gr_bound::bindings::{find, sort};
 use gr_bound::{BoundSpot, Declaration, Packages, Spot, path_of};
-use gr_check::declared_places::DeclaredPlaces;
 use gr_expr::symbol::{SharedPath, Symbol};
+use gr_placed::declared_places::DeclaredPlaces;
 use gr_revision::Moves;
 use gr_text::Place;
 use std::alloc::{AllocError, Global};

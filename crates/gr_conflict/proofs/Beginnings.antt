@@ -9,8 +9,8 @@ use Rattle.gr_declared.specs.Package.{Package}
 use Rattle.gr_bound.specs.Steps.{AtToken}
 use Rattle.gr_bound.proofs.NamedPlaces.{stands_once}
 use Rattle.gr_bound.proofs.Tokens.{Begins}
-use Rattle.gr_check.specs.DeclaredPlaces.{IsFound}
-use Rattle.gr_check.proofs.Found.{found_as}
+use Rattle.gr_placed.specs.DeclaredPlaces.{IsFound}
+use Rattle.gr_placed.proofs.Found.{found_as}
 
 pub no_identifier : (p : Package) (at : Position) (o : Option ℕ) → o ≡ None → IsFirstBelow (StandsAt p.layout at) p.size o → (place : Place) →
     AtToken p at place → ⊥

@@ -21,7 +21,7 @@ use Rattle.gr_revision.specs.Revisions.{Revision, GoesTo}
 use Rattle.gr_scoped.specs.ScopedPackages.{IsScopedIn}
 use Rattle.gr_scoped.specs.Scopes.{package_scoped}
 use Rattle.gr_scoped.specs.declared.scopes.PackageScopes.{PackageScopes}
-use Rattle.gr_check.proofs.Found.{found_as}
+use Rattle.gr_placed.proofs.Found.{found_as}
 use Rattle.gr_change_places.specs.ScopeBindings.{IsScopeUse, AreScopeBindings}
 use Rattle.gr_change_places.proofs.OneScoped.{one_scoped}
 use Rattle.gr_change_places.proofs.OneUse.{scoped_formed}

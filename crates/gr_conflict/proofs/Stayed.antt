@@ -14,7 +14,7 @@ use Rattle.gr_bound.specs.Identifiers.{BeginsAt}
 use Rattle.gr_bound.specs.Steps.{IsDeclarationFound}
 use Rattle.gr_bound.specs.Workspaces.{IsPackageAt}
 use Rattle.gr_bound.proofs.Units.{numbered, number_within, one_at}
-use Rattle.gr_check.proofs.Starts.{begins_once}
+use Rattle.gr_placed.proofs.Starts.{begins_once}
 use Rattle.gr_conflict.specs.Conflicts.{IsAhead, HoldsAhead}
 use Rattle.gr_conflict.specs.Staying.{StaysBound, StaysByScope, StaysByPackage, NameStays, StaysIn, StaysInNumber, StaysAt, IfBegins}
 use Rattle.gr_conflict.specs.Staying.{NamesStayIn, MembersStayIn, DeclaringNamesStayIn}

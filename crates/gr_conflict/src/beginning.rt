@@ -2,10 +2,10 @@
 ghost use Rattle.std.specs.Prelude.{IfOk};
 ghost use Rattle.gr_declared.specs.PackageView.{package_of, IsIndexOf};
 ghost use Rattle.gr_bound.specs.Steps.{AtToken};
-ghost use Rattle.gr_check.specs.DeclaredPlaces.{IsFound};
+ghost use Rattle.gr_placed.specs.DeclaredPlaces.{IsFound};
 
-use gr_check::name_beginning;
 use gr_declared::{Index, Package};
+use gr_placed::name_beginning;
 use gr_scope::model::Position;
 use gr_text::Place;
 use std::alloc::AllocError;

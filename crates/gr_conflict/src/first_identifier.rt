@@ -3,7 +3,7 @@ ghost use Rattle.std.specs.Prelude.{◌≡◌, Contains, IfOk};
 ghost use Rattle.std.specs.Option.{option_copied};
 ghost use Rattle.gr_text.specs.declared.place.Place.{Place as At};
 ghost use Rattle.gr_bound.specs.Packages.{ArePackages};
-ghost use Rattle.gr_check.specs.Preserved.{IsIdentifierAt};
+ghost use Rattle.gr_placed.specs.Identified.{IsIdentifierAt};
 ghost use Rattle.gr_conflict.specs.Firsts.{IsEarlier, IsFirstPlace};
 ghost use Rattle.gr_change_places.specs.Read.{workspace_of, verdicts_of};
 

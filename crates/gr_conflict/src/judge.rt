@@ -2,9 +2,9 @@
 ghost use Rattle.std.specs.Prelude.{◌≡◌};
 
 use gr_bound::{BoundSpot, Packages};
-use gr_check::declared_places::DeclaredPlaces;
 use gr_graph::Graph;
 use gr_members_after::{NewMembers, TypesAfter};
+use gr_placed::declared_places::DeclaredPlaces;
 use gr_revision::Moves;
 use gr_scoped::PackageScopes;
 use std::collections::BTreeMap;

@@ -26,10 +26,10 @@ use gr_bound::{
     own_of, package_before,
 };
 use gr_change_places::symbol;
-use gr_check::beginning;
 use gr_declared::{Index, Package};
 use gr_expr::found::MemberUse;
 use gr_expr::world::Definition;
+use gr_placed::beginning;
 use gr_scope::model::Position;
 use gr_text::Place;
 use std::alloc::{AllocError, Global};

@@ -5,8 +5,8 @@ use Rattle.gr_declared.specs.PackageView.{package_of}
 use Rattle.gr_bound.specs.Bindings.{place_at}
 use Rattle.gr_bound.specs.Identifiers.{BeginsAt}
 use Rattle.gr_bound.proofs.AddingAll.{all_none, call_all}
-use Rattle.gr_check.specs.DeclaredPlaces.{IsFound}
-use Rattle.gr_check.proofs.Starts.{begins_once}
+use Rattle.gr_placed.specs.DeclaredPlaces.{IsFound}
+use Rattle.gr_placed.proofs.Starts.{begins_once}
 use Rattle.gr_change_places.proofs.bindings_after.add_begun.Goals as goal
 
 pub returns-in-None : goal.returns-in-None

@@ -1,6 +1,6 @@
 -- The answers to the goals of `bindings_after::add_place`.
 use Rattle.std.proofs.Common.{refl}
-use Rattle.gr_check.proofs.Identifiers.{all_one}
+use Rattle.gr_placed.proofs.Identifiers.{all_one}
 use Rattle.gr_change_places.proofs.ScopeBound.{bound_is}
 use Rattle.gr_change_places.proofs.bindings_after.add_place.Goals as goal
 

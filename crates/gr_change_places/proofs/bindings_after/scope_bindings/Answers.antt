@@ -1,5 +1,5 @@
 -- The answers to the goals of `bindings_after::scope_bindings`.
-use Rattle.gr_check.proofs.Identifiers.{all_added}
+use Rattle.gr_placed.proofs.Identifiers.{all_added}
 use Rattle.gr_change_places.specs.ScopeBindings.{IsScopeBound}
 use Rattle.gr_change_places.proofs.bindings_after.scope_bindings.Goals as goal
 

@@ -1,6 +1,6 @@
 -- The answers to the goals of `places_before::add_moved`.
 use Rattle.std.proofs.Common.{refl, sym, ◌∙◌}
-use Rattle.gr_check.proofs.Identifiers.{all_one}
+use Rattle.gr_placed.proofs.Identifiers.{all_one}
 use Rattle.gr_change_places.proofs.ScopeBound.{bound_is}
 use Rattle.gr_change_places.proofs.places_before.add_moved.Goals as goal
 

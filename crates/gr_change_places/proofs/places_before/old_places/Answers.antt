@@ -2,7 +2,7 @@
 use Rattle.gr_edit.specs.Moved.{moved}
 use Rattle.gr_bound.specs.Uses.{IsPackage}
 use Rattle.gr_bound.specs.Workspaces.{known_in}
-use Rattle.gr_check.proofs.Identifiers.{all_added}
+use Rattle.gr_placed.proofs.Identifiers.{all_added}
 use Rattle.gr_change_places.specs.OldPlaces.{HasGone}
 use Rattle.gr_change_places.proofs.places_before.old_places.Goals as goal
 

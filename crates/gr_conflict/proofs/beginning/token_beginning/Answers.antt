@@ -5,7 +5,7 @@ use Rattle.gr_declared.specs.PackageView.{package_of}
 use Rattle.gr_declared.proofs.Binding.{found_at}
 use Rattle.gr_bound.specs.Steps.{AtToken}
 use Rattle.gr_bound.proofs.Tokens.{Begins}
-use Rattle.gr_check.specs.DeclaredPlaces.{IsFound}
+use Rattle.gr_placed.specs.DeclaredPlaces.{IsFound}
 use Rattle.gr_conflict.proofs.Beginnings.{no_identifier, an_identifier}
 use Rattle.gr_conflict.proofs.beginning.token_beginning.Goals as goal
 

@@ -2,7 +2,7 @@
 use Rattle.std.proofs.Common.{subst, refl}
 use Rattle.std.specs.Prelude.{Option}
 use Rattle.gr_text.specs.declared.place.Place.{Place}
-use Rattle.gr_check.specs.Preserved.{IsIdentifierAt}
+use Rattle.gr_placed.specs.Identified.{IsIdentifierAt}
 use Rattle.gr_conflict.specs.Firsts.{IsFirstPlace}
 use Rattle.gr_change_places.specs.Read.{workspace_of, verdicts_of}
 use Rattle.gr_conflict.proofs.first.first_lost.Goals as goal

@@ -3,7 +3,7 @@ use Rattle.std.proofs.Common.{ap, sym, subst, List, ℕ}
 use Rattle.std.specs.Prelude.{◌↔◌, Contains, Option, Some, None}
 use Rattle.std.specs.Option.{option_copied}
 use Rattle.gr_text.specs.declared.place.Place.{Place}
-use Rattle.gr_check.specs.Preserved.{IsIdentifierAt}
+use Rattle.gr_placed.specs.Identified.{IsIdentifierAt}
 use Rattle.gr_check.specs.Sound.{SoundView, view_of}
 use Rattle.gr_conflict.specs.Firsts.{IsFirstPlace}
 use Rattle.gr_change_places.specs.Read.{workspace_of, verdicts_of}

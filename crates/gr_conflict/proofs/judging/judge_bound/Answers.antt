@@ -3,7 +3,7 @@ use Rattle.std.proofs.Common.{subst}
 use Rattle.gr_text.specs.declared.place.Place.{Place}
 use Rattle.gr_declared.specs.PackageView.{package_of}
 use Rattle.gr_bound.specs.Identifiers.{BeginsAt}
-use Rattle.gr_check.specs.DeclaredPlaces.{IsFound}
+use Rattle.gr_placed.specs.DeclaredPlaces.{IsFound}
 use Rattle.gr_conflict.specs.Afterwards.{IsBoundByScopes}
 use Rattle.gr_conflict.specs.Conflicts.{IsConflictIn, IsNoted}
 use Rattle.gr_conflict.specs.Judging.{workspace_in, known_verdicts, known_packages, becomes_in, change_in}

@@ -5,7 +5,7 @@ use Rattle.std.proofs.lemmas.Result.{on_ok_weaker}
 use Rattle.gr_text.specs.declared.place.Place.{Place}
 use Rattle.gr_declared.specs.PackageView.{package_of}
 use Rattle.gr_bound.specs.Identifiers.{BeginsAt}
-use Rattle.gr_check.specs.DeclaredPlaces.{IsFound}
+use Rattle.gr_placed.specs.DeclaredPlaces.{IsFound}
 use Rattle.gr_conflict.specs.Afterwards.{IsExportAfter, IsBoundByPackage}
 use Rattle.gr_conflict.specs.Conflicts.{IsConflictIn, IsNoted, Takes, IsAhead}
 use Rattle.gr_conflict.specs.Judging.{workspace_in, known_verdicts, known_packages, becomes_in, change_in}

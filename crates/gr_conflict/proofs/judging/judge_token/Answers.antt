@@ -4,7 +4,7 @@ use Rattle.gr_expr.specs.View.{type_of}
 use Rattle.gr_declared.specs.PackageView.{package_of}
 use Rattle.gr_bound.specs.Members.{definitions_seen}
 use Rattle.gr_bound.specs.Steps.{AtToken}
-use Rattle.gr_check.specs.DeclaredPlaces.{IsFound}
+use Rattle.gr_placed.specs.DeclaredPlaces.{IsFound}
 use Rattle.gr_conflict.specs.Afterwards.{IsMemberNow}
 use Rattle.gr_conflict.specs.Conflicts.{IsOtherNoted, IsOtherAt}
 use Rattle.gr_conflict.specs.Judging.{known_packages, change_in}

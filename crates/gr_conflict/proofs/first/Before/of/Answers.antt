@@ -1,6 +1,6 @@
 -- The answers to the goals of `first::Before::of`.
 use Rattle.std.proofs.Common.{sym, subst}
-use Rattle.gr_check.specs.DeclaredPlaces.{AreDeclared}
+use Rattle.gr_placed.specs.DeclaredPlaces.{AreDeclared}
 use Rattle.gr_change_places.specs.Read.{workspace_of, verdicts_of}
 use Rattle.gr_conflict.proofs.first.Before.of.Goals as goal
 
