@@ -1,0 +1,21 @@
+-- The lemmas of this crate.
+pub mod Lists
+pub mod Sites
+pub mod Links
+pub mod NoFaults
+pub mod Sound
+pub mod Tight
+pub mod Uses
+pub mod Types
+pub mod Whole
+pub mod Strung
+pub mod Named
+pub mod Known
+pub mod Leaves
+pub mod Simples
+pub mod Bodies
+pub mod Typed
+pub mod Fine
+pub mod Rules
+pub mod Begun
+pub mod Scoped
