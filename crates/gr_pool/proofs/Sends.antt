@@ -2,11 +2,20 @@
 use denote.RattleType.{RattleType}
 use denote.Param.Send.{IsSend, IsSync, sendable}
 use Rattle.std.specs.declared.sync.ledger.Ledger.{Ghosts as Ledger}
-use Rattle.std.proofs.Crossing.{crosses, send as Global-send, sync as Global-sync}
+use Rattle.std.specs.declared.cmp.Ord as ord
+use Rattle.std.specs.declared.cmp.PartialEq as eq
+use Rattle.std.specs.declared.cmp.PartialOrd as partial
+use Rattle.std.proofs.Crossing.{crosses, frees, send as Global-send, sync as Global-sync}
 use Rattle.std.proofs.MapsCrossing.{crosses as maps}
+use Rattle.std.proofs.MapsCrossingOver.{BTreeSet-send, BTreeSet-sync}
+use Rattle.std.specs.contracts.collections.BTreeSet as BTreeSet
+use Rattle.std.specs.contracts.alloc.Global as Heap
+use Rattle.std.specs.contracts.prelude.GlobalAllocator.TheImpl.{ghosts}
 use Rattle.std.proofs.sync.ledger.Book.TheSendSync.{the_send as Count-send}
 use Rattle.std.proofs.sync.ledger.Share.TheSendSync.{the_send as Share-send}
-use Rattle.gr_graph.specs.contracts.package.Package.{the_row as folder}
+use Rattle.gr_graph.specs.contracts.package.Package.{the_row as folder, the_field as folder_field}
+use Rattle.gr_graph.specs.contracts.shared_package.PackageParts.{the_row as package_parts}
+use Rattle.gr_graph.specs.contracts.shared_package.SharedPackage.{the_row as shared_package}
 use Rattle.gr_graph.specs.contracts.graph.Parts.{the_row as graph_parts}
 use Rattle.gr_graph.specs.contracts.graph.Graph.{the_row as graph}
 use Rattle.gr_compile.specs.contracts.unit.Compiled.{the_row as compiled}
@@ -31,11 +40,21 @@ use Rattle.gr_pool.proofs.SendsFound.{file_fault_sent, file_fault_shared, scope_
 use Rattle.gr_expr.proofs.types.GoType.TheLaws.TheKnot.{crosses as type_crosses}
 use Rattle.gr_pool.proofs.SendsTrees.{file_tree_sent, file_tree_shared}
 
+-- a set of owned keys at the heap
+module _ (K : RattleType) (o : ord.Ghosts K.Denot) (e : eq.Ghosts K.Denot) (p : partial.Ghosts K.Denot) where
+  set_sent : IsSend K → IsSend (BTreeSet.the_field K Heap.the_row o e p ghosts).row
+  set_sent sent = BTreeSet-send K Heap.the_row o e p ghosts sent Global-send frees
+
+  set_shared : IsSync K → IsSync (BTreeSet.the_field K Heap.the_row o e p ghosts).row
+  set_shared shared = BTreeSet-sync K Heap.the_row o e p ghosts shared Global-sync
+
 -- owned values, and what each of the crates below shows of its own types
 ruleset owned = (
   sendable,
   crosses,
   maps,
+  set_sent,
+  set_shared,
   Global-send,
   Global-sync,
   FileText-send,
@@ -56,11 +75,30 @@ folder_sent = search (owned, file_tree_sent) depth 30 fits 50000
 pub folder_shared : IsSync folder
 folder_shared = search (owned, file_tree_shared) depth 30 fits 50000
 
+-- the same of a package as a field, whose row is not compared with the other by `search`: that takes too many steps
+folder_field_sent : IsSend folder_field.row
+folder_field_sent = search (owned, file_tree_sent) depth 30 fits 50000
+
+folder_field_shared : IsSync folder_field.row
+folder_field_shared = search (owned, file_tree_shared) depth 30 fits 50000
+
+pub package_parts_sent : IsSend package_parts
+package_parts_sent = search (sendable, crosses, maps, set_sent, folder_field_sent) depth 30 fits 50000
+
+pub package_parts_shared : IsSync package_parts
+package_parts_shared = search (sendable, crosses, maps, set_shared, folder_field_shared) depth 30 fits 50000
+
+pub shared_package_sent : IsSend shared_package
+shared_package_sent = search (owned, package_parts_sent, package_parts_shared) depth 30 fits 50000
+
+pub shared_package_shared : IsSync shared_package
+shared_package_shared = search (owned, package_parts_sent, package_parts_shared) depth 30 fits 50000
+
 pub graph_parts_sent : IsSend graph_parts
-graph_parts_sent = search (owned, folder_sent) depth 30 fits 50000
+graph_parts_sent = search (owned, shared_package_sent) depth 30 fits 50000
 
 pub graph_parts_shared : IsSync graph_parts
-graph_parts_shared = search (owned, folder_shared) depth 30 fits 50000
+graph_parts_shared = search (owned, shared_package_shared) depth 30 fits 50000
 
 pub graph_sent : IsSend graph
 graph_sent = search (owned, graph_parts_sent, graph_parts_shared) depth 30 fits 50000
