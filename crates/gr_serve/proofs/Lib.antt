@@ -1,3 +1,4 @@
 -- The lemmas of this crate.
 mod Lifts
 pub mod Captures
+mod ServedLaws

@@ -1,4 +1,6 @@
 //! Why serving ended otherwise than it was asked to.
+ghost use Rattle.std.specs.Prelude.{◌≡◌};
+
 use std::alloc::AllocError;
 use thiserror::Error;
 
@@ -16,6 +18,10 @@ pub enum ServeFault {
 }
 
 impl From<AllocError> for ServeFault {
+    ghost use Rattle.gr_serve.specs.declared.fault.ServeFault.TheVariants.{Memory};
+
+    ghost from_gives = { λ _ fault. fault ≡ Memory };
+
     fn from(_: AllocError) -> ServeFault {
         ServeFault::Memory
     }

@@ -1,7 +1,7 @@
 //! The server, from its socket to its end.
-ghost use Rattle.std.specs.Prelude.{◌≡◌, ◌+◌, IfOk, IsOk, length};
+ghost use Rattle.std.specs.Prelude.{◌≡◌, ◌≢◌, ◌+◌, IfErr, IfOk, IsErr, IsOk, OnOk, length};
 ghost use Rattle.gr_pool.specs.Outcome.{book_in};
-ghost use Rattle.gr_serve.specs.Served.{IsServedLength, IsSettledLength};
+ghost use Rattle.gr_serve.specs.Served.{Serves, Settles};
 
 use crate::fault::ServeFault;
 use crate::socket::listen;
@@ -19,7 +19,14 @@ use std::sync::Wait;
 use std::sync::ledger::Blank;
 use std::thread::Threads;
 
-/// So many seats.
+/// How many threads serve sessions or build packages, each at a seat of its own.
+fn threads_of(words: &ServeWords<'_>) -> u64
+    ensures { result ≡ words.now.workers + words.now.sessions }
+{
+    u64::from(words.workers) + u64::from(words.sessions)
+}
+
+/// So many seats, as far as they are to be had.
 fn seats_of<L: Opening>(
     alloc: Global,
     shared: &mut Shared<L>,
@@ -36,7 +43,8 @@ fn seats_of<L: Opening>(
 
 /// The length of the journal of a book that was settled. The book is closed.
 fn length_of(settled: Result<Book, Unsettled>) -> Result<u64, ServeFault>
-    ensures { IfOk result (λ entries. IsOk settled × (entries ≡ length (book_in settled).journal)) }
+    ensures ok { IfOk result (λ entries. IsOk settled × (entries ≡ length (book_in settled).journal)) }
+    ensures err { IfErr result (λ fault. IsErr settled × (fault ≡ ServeFault.Unsettled)) }
 {
     match settled {
         Ok(book) => {
@@ -54,12 +62,12 @@ fn length_of(settled: Result<Book, Unsettled>) -> Result<u64, ServeFault>
 /// Settles, and tells the length of the journal.
 fn settle<L: Opening>(shared: Shared<L>, seats: Vec<Seat<L>>) -> Result<u64, ServeFault>
     requires { shared.from ≡ 0 }
-    ensures { IfOk result (IsSettledLength seats.items) }
+    ensures { Settles L.parts seats.items result }
 {
     length_of(shared.settle(seats))
 }
 
-/// Runs the threads of a server to their end.
+/// Runs the threads of a server to their end, if there is a seat for each.
 fn serve_by<L: Opening + Send + Sync, R: Threads + Wait + Sync, G: Gate + Sync>(
     rt: &R,
     alloc: Global,
@@ -68,16 +76,13 @@ fn serve_by<L: Opening + Send + Sync, R: Threads + Wait + Sync, G: Gate + Sync>(
     words: &ServeWords<'_>,
     gate: &G,
     turns: Turns,
-) -> Result<(), ServeFault> {
-    let are_made = run(
-        rt,
-        alloc,
-        shared,
-        seats,
-        words.workers as usize,
-        gate,
-        &turns,
-    );
+) -> Result<(), ServeFault>
+    ensures all { OnOk result (length seats.new ≡ words.now.workers + words.now.sessions) }
+    ensures err { IfErr result (λ fault. fault ≢ ServeFault.Unsettled) }
+{
+    let workers = words.workers as usize;
+    let are_made = seats.len() as u64 == threads_of(words)
+        && run(rt, alloc, shared, seats, workers, gate, &turns);
     if !are_made {
         return Err(ServeFault::Memory);
     }
@@ -100,9 +105,9 @@ fn serve_in<L: Opening + Send + Sync, R: Threads + Wait + Sync, G: Gate + Sync>(
     requires parts { blank.parts ≡ L.parts }
     requires seats { blank.parts ≡ words.now.workers + words.now.sessions }
     requires from { L.from ≡ 0 }
-    ensures { IfOk result IsServedLength }
+    ensures { Serves (words.now.workers + words.now.sessions) result }
 {
-    let count = u64::from(words.workers) + u64::from(words.sessions);
+    let count = threads_of(words);
     let book = Book::new(alloc, Limits::FULL)?;
     let mut shared = Shared::<L>::new(alloc, blank, book, count);
     let mut seats = match seats_of(alloc, &mut shared, count) {
@@ -125,11 +130,11 @@ pub fn serve<R: Threads + Wait + Net + Files + AllocGlobal + Sync, G: Gate + Syn
     words: &ServeWords<'_>,
     gate: &G,
 ) -> Result<u64, ServeFault>
-    ensures { IfOk result IsServedLength }
+    ensures { Serves (words.now.workers + words.now.sessions) result }
 {
     let alloc = rt.alloc();
     let listener = listen(rt, alloc, words.socket)?;
     let turns = Turns::new(listener, words.stop_after);
-    let blank = Blank::new(u64::from(words.workers) + u64::from(words.sessions));
+    let blank = Blank::new(threads_of(words));
     serve_in::<Brand, R, G>(rt, alloc, words, gate, turns, blank)
 }

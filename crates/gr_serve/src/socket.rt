@@ -1,5 +1,7 @@
 //! The socket. Only its owner can connect, from its first moment on, and nothing that stands at its path is replaced: it is made in a
 //! folder that only its owner can enter, and linked to its path from there.
+ghost use Rattle.std.specs.Prelude.{◌≢◌, IfErr};
+
 use crate::fault::ServeFault;
 use std::alloc::Global;
 use std::fs::{DirBuilder, Permissions};
@@ -34,7 +36,9 @@ fn listen_in<R: Files + Net>(
     alloc: Global,
     folder: &str,
     path: &str,
-) -> Result<UnixListener, ServeFault> {
+) -> Result<UnixListener, ServeFault>
+    ensures { IfErr result (λ fault. fault ≢ ServeFault.Unsettled) }
+{
     let made = format!(in alloc; "{folder}/s")?;
     match listen_at(rt, made.as_str(), path) {
         Ok(listener) => Ok(listener),
@@ -54,7 +58,9 @@ pub(crate) fn listen<R: Files + Net>(
     rt: &R,
     alloc: Global,
     path: &str,
-) -> Result<UnixListener, ServeFault> {
+) -> Result<UnixListener, ServeFault>
+    ensures { IfErr result (λ fault. fault ≢ ServeFault.Unsettled) }
+{
     let folder = format!(in alloc; "{path}.new")?;
     if make_folder(rt, folder.as_str()).is_err() {
         return Err(ServeFault::Socket);

@@ -1,15 +1,11 @@
 -- The book that was settled, with its seats.
-use Rattle.std.proofs.Common.{subst}
-use Rattle.std.proofs.lemmas.Result.{IfOk-weaker}
-use Rattle.gr_pool.specs.Outcome.{book_in}
-use Rattle.gr_pool.specs.Settled.{IsSettled}
-use Rattle.gr_serve.specs.Served.{IsSettledLength}
+use Rattle.std.proofs.Common.{◌∙◌}
+use Rattle.gr_serve.proofs.ServedLaws.{settles}
 use Rattle.gr_serve.proofs.serving.settle.Goals as goal
 
 pub returns : goal.returns
 returns g c =
-    let book = book_in c.settle.result in
-    let seats = c.args.seats.items in
-    IfOk-weaker c.length_of.result _ (IsSettledLength seats) (λ entries told.
-    let settled = c.settle.ensures.exact.0 told.0 in
-    (book, c.settle.ensures.legal, subst (λ from. IsSettled from book.journal seats) c.requires settled, told.1)) c.length_of.ensures
+    let s = c.settle.ensures in
+    let told = c.length_of.ensures in
+    settles _ c.args.shared.from c.args.seats.items c.settle.result c.length_of.result c.requires told.ok told.err s.exact s.legal s.bound
+    (λ all. s.whole (c.args.seats.ok.0 ∙ all))
