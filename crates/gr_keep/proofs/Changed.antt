@@ -1,17 +1,16 @@
 -- Which packages have other files after a change: folders that are noted, and marks of packages.
-use Rattle.std.proofs.Common.{◌≡◌, ℕ, ◌+◌, ◌<◌, ◌↔◌, ◌⊎◌, Bool, true, false, ◌&&◌, List, [], ◌∷◌, ◌++◌, length, map, take, get_or, replicate, Option, Some, None, slice_get, MatchBool, MatchOption, Bor, refl, sym, ap, subst, ◌∙◌, inl, inr, ⊎_elim, arith, ◌==◌}
+use Rattle.std.proofs.Common.{◌≡◌, ℕ, ◌+◌, ◌<◌, ◌⊎◌, Bool, true, false, ◌&&◌, List, [], ◌∷◌, ◌++◌, length, take, get_or, replicate, Some, slice_get, Bor, sym, ap, subst, ◌∙◌, inl, inr, ⊎_elim, ◌==◌}
 use Rattle.std.proofs.Math.ListN.{set}
 use Rattle.std.specs.FinMap as map_of
 use Rattle.std.specs.List.{Contains}
-use Rattle.std.specs.List.Sorted.{IsStrictlySortedBy}
 use Rattle.std.specs.Cmp.Lexicographic.{pointwise, bytes_decides}
-use Rattle.std.proofs.lemmas.Bool.{true≢false, false≢true, and_parts, cases_eq}
+use Rattle.std.proofs.lemmas.Bool.{true≢false, and_parts, cases_eq}
 use Rattle.std.proofs.lemmas.List.{take_more, length-set, get_or-set_same, get_or-set_other, map_push, length-replicate, get_or-replicate}
 use Rattle.std.proofs.lemmas.List.Elements.{Contains-append_left, Contains-push, Contains-push_cases}
 use Rattle.std.proofs.lemmas.Option.{slice_get_within, same_Some}
 use Rattle.gr_text.specs.Path.{folder}
 use Rattle.gr_text.specs.Packages.{is_go, is_of_package, package_paths, package_files}
-use Rattle.gr_text.specs.Workspace.{Workspace, path_cmp}
+use Rattle.gr_text.specs.Workspace.{Workspace}
 use Rattle.gr_graph.specs.Filling.{names}
 use Rattle.gr_graph.specs.Search.{IsMarked}
 use Rattle.gr_graph.proofs.PackagePaths.{one_number, paths_sorted}

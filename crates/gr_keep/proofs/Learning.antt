@@ -1,6 +1,6 @@
 -- What is known of the packages of one workspace is right of another where closures stay; and the inputs of a package have the
 -- closures of the workspace that they are of.
-use Rattle.std.proofs.Common.{◌≡◌, ℕ, List, sym, subst, ◌∙◌}
+use Rattle.std.proofs.Common.{ℕ, List, sym, subst, ◌∙◌}
 use Rattle.std.specs.FinMap.{entries}
 use Rattle.std.specs.Prelude.{Option, Contains}
 use Rattle.gr_text.specs.Packages.{is_of_package, package_paths}

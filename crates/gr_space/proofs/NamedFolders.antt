@@ -28,7 +28,7 @@ use Rattle.gr_graph.proofs.PackagePaths.{folder_cmp}
 use Rattle.gr_space.specs.Folders.{AddsFolders, HoldsFolders, IsNamed, IsOfAdded, IsOfChange, IsOfChanges}
 
 -- ---- one folder more
-inserted : (ks : List (Bor (List ℕ))) (k : Bor (List ℕ)) (q : List ℕ) → (Contains (names ks) q ⊎ (k.now ≡ q)) → Contains (names (insert_key folder_cmp ks k)) q
+pub inserted : (ks : List (Bor (List ℕ))) (k : Bor (List ℕ)) (q : List ℕ) → (Contains (names ks) q ⊎ (k.now ≡ q)) → Contains (names (insert_key folder_cmp ks k)) q
 inserted [] k q either = ⊎_elim (λ (none : Contains [] q). absurd (nothing_in q none)) (λ (same : k.now ≡ q). subst (Contains (k.now ∷ [])) same (first_in k.now [])) either
 inserted (x ∷ xs) k q either =
     elim (folder_cmp k x) as (λ order. folder_cmp k x ≡ order → Contains (names (match_ordering order (k ∷ x ∷ xs) (x ∷ xs) (x ∷ insert_key folder_cmp xs k))) q) [
@@ -131,7 +131,7 @@ module _ (s : FileChanges) (w : Workspace) (path : List ℕ) (apart : IsNamed s 
   there_after : Fits s w → (text : List ℕ) → get w path ≡ Some text → get (edited s w) path ≡ Some text
   there_after fits text is = has_file s w fits path text (inr (path, text, is, unchanged (change_of s path) refl text))
 
-one_option : (x y : Option (List ℕ)) → ((t : List ℕ) → x ≡ Some t → y ≡ Some t) → ((t : List ℕ) → y ≡ Some t → x ≡ Some t) → x ≡ y
+pub one_option : (x y : Option (List ℕ)) → ((t : List ℕ) → x ≡ Some t → y ≡ Some t) → ((t : List ℕ) → y ≡ Some t → x ≡ Some t) → x ≡ y
 one_option None None f g = refl
 one_option None (Some t) f g = absurd (none-some t (g t refl))
 one_option (Some t) y f g = sym (f t refl)

@@ -1,7 +1,6 @@
 -- One more unit, and the table at the end.
-use Rattle.std.proofs.Common.{◌≡◌, ℕ, List, length, arith, sym, subst}
+use Rattle.std.proofs.Common.{◌≡◌, ℕ, length, arith, sym, subst}
 use Rattle.gr_text.specs.Packages.{package_paths}
-use Rattle.gr_keep.specs.Finished.{Table}
 use Rattle.gr_graph.proofs.Filled.{ok_both}
 use Rattle.gr_keep.specs.Carried.{IsCarried}
 use Rattle.gr_keep.proofs.Carrying.{AreKept, kept_more, kept_all}

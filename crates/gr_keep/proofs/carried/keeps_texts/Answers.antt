@@ -1,5 +1,5 @@
 -- The closures have the same texts just where none of their packages is marked.
-use Rattle.std.proofs.Common.{◌≡◌, ℕ, List, [], Bool, Some, slice_get, get_or, sym, subst, ◌∙◌}
+use Rattle.std.proofs.Common.{List, [], Bool, get_or, sym, subst, ◌∙◌}
 use Rattle.std.proofs.lemmas.Bool.{true≢false}
 use Rattle.std.proofs.lemmas.Option.{slice_get-get_or}
 use Rattle.gr_text.specs.Packages.{package_paths}

@@ -1,5 +1,5 @@
 -- The unit of the package before, where it is kept.
-use Rattle.std.proofs.Common.{◌≡◌, ℕ, List, Some, slice_get, sym, ap, ◌∙◌}
+use Rattle.std.proofs.Common.{◌≡◌, Some, slice_get, sym, ap, ◌∙◌}
 use Rattle.std.proofs.lemmas.Option.{same_Some, slice_get_within}
 use Rattle.gr_text.specs.Packages.{package_paths}
 use Rattle.gr_compile.specs.declared.unit.Unit.{Unit as PackageUnit}

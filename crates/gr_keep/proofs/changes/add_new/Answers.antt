@@ -1,5 +1,5 @@
 -- The folder of one more new file, and of all of them at the end.
-use Rattle.std.proofs.Common.{◌≡◌, List, ℕ, Bor, [], ◌∷◌, ◌++◌, sym, ap, subst, ◌∙◌}
+use Rattle.std.proofs.Common.{◌≡◌, List, ℕ, [], ◌∷◌, ◌++◌, sym, ap, subst, ◌∙◌}
 use Rattle.std.specs.FinMap as map
 use Rattle.std.specs.Map.Iter.{deref_pair}
 use Rattle.std.proofs.lemmas.Map.Iter.{rest_all, rest_more}

@@ -1,5 +1,5 @@
 -- The marks of both workspaces.
-use Rattle.std.proofs.Common.{◌≡◌, Bor, List, ℕ, ap, sym, subst}
+use Rattle.std.proofs.Common.{Bor, List, ℕ, subst}
 use Rattle.gr_text.specs.Workspace.{Workspace}
 use Rattle.gr_graph.specs.Filling.{names}
 use Rattle.gr_keep.specs.Changes.{AreChanged, MarkFolders}

@@ -1,5 +1,5 @@
 -- One more folder: the package that it is, if it is one, is marked.
-use Rattle.std.proofs.Common.{◌+◌, Bool, Global, List, ℕ, Vec, take, sym, subst}
+use Rattle.std.proofs.Common.{◌+◌, Bool, Global, Vec, take, sym, subst}
 use Rattle.gr_graph.specs.Filling.{names}
 use Rattle.gr_keep.specs.Changes.{MarkFolders}
 use Rattle.gr_keep.proofs.Changed.{mark_one, mark_none}

@@ -1,5 +1,5 @@
 -- One file more, and all of them at the end.
-use Rattle.std.proofs.Common.{◌≡◌, ◌+◌, ◌<◌, length, take, map, refl, sym, ap, subst, ◌∙◌, arith}
+use Rattle.std.proofs.Common.{◌≡◌, ◌+◌, take, map, refl, subst, ◌∙◌, arith}
 use Rattle.std.proofs.lemmas.List.{take_all}
 use Rattle.gr_keep.specs.Inputs.{faulty_file, Adds}
 use Rattle.gr_keep.proofs.ClosureFiles.{adds_none, adds_more, mapped_more}

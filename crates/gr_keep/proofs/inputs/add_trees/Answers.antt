@@ -1,5 +1,5 @@
 -- One file more, and all of them at the end.
-use Rattle.std.proofs.Common.{◌≡◌, ◌+◌, ◌<◌, length, take, map, refl, sym, ap, subst, ◌∙◌, arith}
+use Rattle.std.proofs.Common.{◌≡◌, ◌+◌, take, map, refl, ap, subst, ◌∙◌, arith}
 use Rattle.std.proofs.lemmas.List.{take_all}
 use Rattle.gr_scan.specs.CutText.{CutText}
 use Rattle.gr_keep.specs.Inputs.{tree_file, Adds}
