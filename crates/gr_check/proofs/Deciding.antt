@@ -1,6 +1,6 @@
 -- The decision for all that may be known of the packages of two workspaces.
 use Rattle.std.proofs.Common.{ℕ, ◌≡◌, Bool, true, false, List, [], ◌∷◌, refl, sym, ap, subst, ◌∙◌}
-use Rattle.std.specs.Prelude.{IsTrue, ◌↔◌, Err}
+use Rattle.std.specs.Prelude.{IsTrue, ◌↔◌, Err, Option, Some, None, MatchBool}
 use Rattle.std.proofs.lemmas.Bool.{false≢true}
 use Rattle.gr_text.specs.Workspace.{Workspace}
 use Rattle.gr_text.specs.declared.place.Place.{Place}
@@ -10,7 +10,9 @@ use Rattle.gr_text.specs.declared.refusal.Refusal.TheVariants.{Memory, Faulty}
 use Rattle.gr_declared.specs.Package.{Package}
 use Rattle.gr_verdict.specs.declared.fault.FileFault.{FileFault}
 use Rattle.gr_verdict.specs.declared.findings.Findings.{Findings}
+use Rattle.gr_verdict.specs.declared.known.Known.{Known}
 use Rattle.gr_verdict.specs.FaultLists.{ListsFaults}
+use Rattle.gr_verdict.specs.Found.{KnowsVerdicts}
 use Rattle.gr_verdict.specs.Verdicts.{Verdicts, AreVerdicts}
 use Rattle.gr_verdict.proofs.OneList.{one_whole_list}
 use Rattle.gr_bound.specs.declared.declaration.Declaration.{Declaration}
@@ -24,7 +26,7 @@ use Rattle.gr_standing.specs.Standing.{InPackage, StandsIn, IsDeclaredAt}
 use Rattle.gr_revision.specs.Revisions.{Revision}
 use Rattle.gr_revision.specs.RevisionsOfEdits.{revision_of}
 use Rattle.gr_check.specs.Corresponding.{Corresponds, predeclared, stands}
-use Rattle.gr_check.specs.Preserved.{IsBoundToOne, KeepsBindings, Preserves}
+use Rattle.gr_check.specs.Preserved.{IsBoundToOne, KeepsBindings, Preserves, TellsPreserved}
 use Rattle.gr_placed.specs.Identified.{IsIdentifierAt}
 use Rattle.gr_check.specs.Sound.{SoundView}
 use Rattle.gr_check.specs.Steps.{KeepsAll, AddsNowhere}
@@ -140,3 +142,12 @@ not_preserved w after s same faulty = (
   (λ t. absurd (false≢true t)),
   (λ p. absurd (faulty (subst (λ v. ListsFaults v []) (sym same) p.sound))),
 )
+
+-- what is known is told where bindings are preserved
+pub told_preserved : (w after : Workspace) (s : FileChanges) (known : Known) (answer : Bool) (told : Option Known) → after ≡ edited s w →
+    KnowsVerdicts after known → IsTrue answer ↔ Preserves w (revision_of w s) → MatchBool answer (told ≡ Some known) (told ≡ None) →
+    TellsPreserved w (revision_of w s) told
+told_preserved w after s known true told same right is answers =
+    subst (TellsPreserved w (revision_of w s)) (sym answers) (is.0 refl, subst (λ v. KnowsVerdicts v known) same right)
+told_preserved w after s known false told same right is answers =
+    subst (TellsPreserved w (revision_of w s)) (sym answers) (λ kept. false≢true (is.1 kept))

@@ -5,3 +5,4 @@ pub mod Sound
 pub mod Held
 pub mod Steps
 pub mod Among
+pub mod Planned

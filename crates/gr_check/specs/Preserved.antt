@@ -1,10 +1,12 @@
 -- When a change preserves all bindings.
-use Rattle.std.specs.Prelude.{ℕ, []}
+use Rattle.std.specs.Prelude.{ℕ, [], Option, None, Some}
 use Rattle.gr_text.specs.Workspace.{Workspace}
 use Rattle.gr_text.specs.declared.place.Place.{Place}
 use Rattle.gr_declared.specs.Package.{Package}
 use Rattle.gr_verdict.specs.Verdicts.{Verdicts, AreVerdicts}
+use Rattle.gr_verdict.specs.declared.known.Known.{Known}
 use Rattle.gr_verdict.specs.FaultLists.{ListsFaults}
+use Rattle.gr_verdict.specs.Found.{KnowsVerdicts}
 use Rattle.gr_bound.specs.declared.declaration.Declaration.{Declaration}
 use Rattle.gr_bound.specs.Uses.{IsPackage, IsUseOf}
 use Rattle.gr_placed.specs.Identified.{IsIdentifierAt}
@@ -32,3 +34,8 @@ pub record Preserves (w : Workspace) (r : Revision) : Type 0 where
   pub right_after : AreVerdicts r.after after
   pub sound : ListsFaults r.after []
   pub kept : KeepsBindings w before r after
+
+-- whether a change preserves all bindings, and then what is known of the changed workspace
+abbrev pub TellsPreserved : Workspace → Revision → Option Known → Type 0
+TellsPreserved w r None = ¬ (Preserves w r)
+TellsPreserved w r (Some known) = Preserves w r × KnowsVerdicts r.after known

@@ -3,11 +3,11 @@ ghost use Rattle.std.specs.Prelude.{◌≡◌, ◌↔◌, [], IsTrue, IfOk, Matc
 ghost use Rattle.gr_edit.specs.EditSet.{edited};
 ghost use Rattle.gr_edit.specs.Moved.{moved};
 ghost use Rattle.gr_verdict.specs.FaultLists.{ListsFaults};
-ghost use Rattle.gr_verdict.specs.Found.{AreFindings, KnowsVerdicts};
+ghost use Rattle.gr_verdict.specs.Found.{AreFindings, IsFound, KnowsVerdicts};
 ghost use Rattle.gr_bound.specs.Packages.{ArePackages};
 ghost use Rattle.gr_bound.specs.Workspaces.{IsSound, known_in};
 ghost use Rattle.gr_check.specs.Held.{IsHeld};
-ghost use Rattle.gr_check.specs.Preserved.{KeepsBindings, Preserves};
+ghost use Rattle.gr_check.specs.Preserved.{KeepsBindings, Preserves, TellsPreserved};
 ghost use Rattle.gr_check.specs.Sound.{view_in};
 ghost use Rattle.gr_check.specs.Steps.{KeepsAll, AddsNowhere};
 ghost use Rattle.gr_revision.specs.RevisionsOfEdits.{revision_of};
@@ -120,34 +120,61 @@ fn found_after(
     graph: &Graph,
     known: &Known,
     after: &Graph,
-) -> Result<Findings, AllocError>
+) -> Result<Found, AllocError>
     requires { KnowsVerdicts graph.now known.now }
-    ensures { IfOk result (AreFindings after.now) }
+    ensures { IfOk result (IsFound after.now) }
 {
     let kept = known_after(alloc, graph, known, after)?;
-    let Found { findings, known } = verdicts(alloc, after, &kept)?;
-    drop(known);
-    Ok(findings)
+    verdicts(alloc, after, &kept)
 }
 
-/// Whether an edit set leaves a workspace without faults in which each identifier is bound to what its declaration has become.
-/// `after` is the edited workspace. What was found before says which packages need not be checked again.
+/// Whether an edit set leaves a workspace without faults in which each identifier is bound to what its declaration has become, by
+/// what was found in it before and after.
+fn are_preserved(
+    alloc: Global,
+    graph: &Graph,
+    found: &Findings,
+    edits: &EditSet,
+    after: &Graph,
+    found_after: &Findings,
+) -> Result<bool, AllocError>
+    requires sound { IsSound graph.now found.now }
+    requires after { after.now ≡ edited edits.now graph.now }
+    requires found_after { AreFindings after.now found_after.now }
+    ensures { IfOk result (λ kept. IsTrue kept ↔ Preserves graph.now (revision_of graph.now edits.now)) }
+{
+    if is_sound(alloc, after, found_after)? {
+        keeps_bindings(alloc, graph, found, edits, after, found_after)
+    } else {
+        Ok(false)
+    }
+}
+
+/// What is known of a workspace by what was found in it, where this is wanted.
+fn known_if(wanted: bool, found: Found) -> Option<Known>
+    ensures { MatchBool wanted (result ≡ Some found.known) (result ≡ None) }
+{
+    let Found { findings, known } = found;
+    drop(findings);
+    if wanted { Some(known) } else { None }
+}
+
+/// Whether an edit set leaves a workspace without faults in which each identifier is bound to what its declaration has become; where
+/// it does, with what is known of the edited workspace then. `after` is that workspace. What was found before says which packages
+/// need not be checked again.
 pub fn preserves(
     alloc: Global,
     graph: &Graph,
     found: &Found,
     edits: &EditSet,
     after: &Graph,
-) -> Result<bool, AllocError>
+) -> Result<Option<Known>, AllocError>
     requires sound { IsSound graph.now found.now.findings }
     requires known { KnowsVerdicts graph.now found.now.known }
     requires after { after.now ≡ edited edits.now graph.now }
-    ensures { IfOk result (λ kept. IsTrue kept ↔ Preserves graph.now (revision_of graph.now edits.now)) }
+    ensures { IfOk result (TellsPreserved graph.now (revision_of graph.now edits.now)) }
 {
-    let findings = found_after(alloc, graph, &found.known, after)?;
-    if is_sound(alloc, after, &findings)? {
-        keeps_bindings(alloc, graph, &found.findings, edits, after, &findings)
-    } else {
-        Ok(false)
-    }
+    let then = found_after(alloc, graph, &found.known, after)?;
+    let kept = are_preserved(alloc, graph, &found.findings, edits, after, &then.findings)?;
+    Ok(known_if(kept, then))
 }

@@ -3,7 +3,8 @@ ghost use Rattle.std.specs.Prelude.{◌≡◌, ◌↔◌, ℕ, IfOk, IsTrue, Lis
 ghost use Rattle.gr_text.specs.declared.refusal.Refusal.{Refusal as WhyRefused};
 ghost use Rattle.gr_move.specs.Plan.{PlansMove};
 ghost use Rattle.gr_rename.specs.Plan.{PlansRename};
-ghost use Rattle.gr_verdict.specs.Found.{AreFindings, IsFound};
+ghost use Rattle.gr_check.specs.Planned.{change_in};
+ghost use Rattle.gr_verdict.specs.Found.{AreFindings, IsFound, KnowsVerdicts};
 ghost use Rattle.gr_space.specs.Plan.{PlansDel};
 ghost use Rattle.gr_space.specs.declared.change.Change.{Change as PlannedChange};
 ghost use Rattle.gr_line.specs.Commands.{entry_asked, is_wait};
@@ -30,12 +31,14 @@ use crate::logging::log;
 use crate::queries::{cat, faults, found, list, object, uses};
 use crate::working::work;
 use gr_book::{Event, Reply, View};
+use gr_check::Planned;
+use gr_graph::Graph;
 use gr_line::{Bytes, Command, Response, Word};
 use gr_move::plan_move;
 use gr_rename::plan_rename;
 use gr_space::{Change, plan_del, plan_put};
 use gr_text::{FileText, Path, Refusal};
-use gr_verdict::{Findings, Found};
+use gr_verdict::{Findings, Found, Known};
 use std::alloc::{AllocError, Global};
 
 /// Whether the command is meant for the state that the view shows.
@@ -104,6 +107,45 @@ fn commit<D: Desk>(desk: &mut D, basis: u64, planned: Result<Change, Refusal>) -
     }
 }
 
+/// Commits a change, and has the desk learn what is known of these files, which are the change's.
+fn commit_learning<D: Desk>(
+    desk: &mut D,
+    basis: u64,
+    change: Change,
+    files: &Graph,
+    known: Known,
+) -> Response
+    requires { KnowsVerdicts files.now known }
+    ensures { Sends D.steps desk.old (Event.Commit basis change) result desk.new }
+{
+    let response = send(desk, Event::Commit(basis, change));
+    desk.learn(files, known);
+    response
+}
+
+/// Commits a planned change. The desk learns what is known of its files, unless a clone of these finds no memory.
+fn commit_planned<D: Desk>(desk: &mut D, basis: u64, planned: Planned) -> Response
+    requires { KnowsVerdicts planned.change.files planned.known }
+    ensures { Sends D.steps desk.old (Event.Commit basis planned.change) result desk.new }
+{
+    let Planned { change, known } = planned;
+    match change.files.clone() {
+        Ok(files) => commit_learning(desk, basis, change, &files, known),
+        Err(_) => send(desk, Event::Commit(basis, change)),
+    }
+}
+
+/// Commits a change that was planned with what is known of its files.
+fn commit_known<D: Desk>(desk: &mut D, basis: u64, planned: Result<Planned, Refusal>) -> Response
+    requires { IfOk planned (λ p. KnowsVerdicts p.change.files p.known) }
+    ensures { Commits D.steps desk.old basis (change_in planned) result desk.new }
+{
+    match planned {
+        Ok(planned) => commit_planned(desk, basis, planned),
+        Err(refusal) => Response::Refused { refusal },
+    }
+}
+
 /// The change that a put asks for, committed.
 fn put<D: Desk>(
     alloc: Global,
@@ -155,8 +197,9 @@ fn plan_name<D: Desk>(
     path: &str,
     offset: usize,
     name: &str,
-) -> Result<Change, Refusal>
-    ensures planned { PlansRename view.now.snapshot path.now offset name.now result }
+) -> Result<Planned, Refusal>
+    ensures planned { PlansRename view.now.snapshot path.now offset name.now (change_in result) }
+    ensures known { IfOk result (λ p. KnowsVerdicts p.change.files p.known) }
     ensures same { desk.new ≡ desk.old }
 {
     let found = found(alloc, view)?;
@@ -178,7 +221,7 @@ fn rename<D: Desk>(
     ensures { (planned : Result PlannedChange WhyRefused) × PlansRename view.now.snapshot path offset name planned × Commits D.steps desk.old basis planned result desk.new }
 {
     let planned = plan_name(alloc, desk, view, path.as_str(), offset, name.as_str());
-    commit(desk, basis, planned)
+    commit_known(desk, basis, planned)
 }
 
 /// The change that a move asks for. The desk learns what was found for it.
@@ -188,8 +231,9 @@ fn plan_target<D: Desk>(
     view: &View,
     from: &str,
     to: &str,
-) -> Result<Change, Refusal>
-    ensures planned { PlansMove view.now.snapshot from.now to.now result }
+) -> Result<Planned, Refusal>
+    ensures planned { PlansMove view.now.snapshot from.now to.now (change_in result) }
+    ensures known { IfOk result (λ p. KnowsVerdicts p.change.files p.known) }
     ensures same { desk.new ≡ desk.old }
 {
     let found = found(alloc, view)?;
@@ -210,7 +254,7 @@ fn move_to<D: Desk>(
     ensures { (planned : Result PlannedChange WhyRefused) × PlansMove view.now.snapshot from to planned × Commits D.steps desk.old basis planned result desk.new }
 {
     let planned = plan_target(alloc, desk, view, from.as_str(), to.as_str());
-    commit(desk, basis, planned)
+    commit_known(desk, basis, planned)
 }
 
 fn file_response(number: u64, found: Result<FileText, Refusal>) -> Response

@@ -12,6 +12,7 @@ use Rattle.gr_verdict.specs.Verdicts.{Verdicts, AreVerdicts}
 use Rattle.gr_verdict.specs.FaultLists.{ListsFaults}
 use Rattle.gr_bound.specs.Workspaces.{RefusesFaults}
 use Rattle.gr_revision.specs.RevisionsOfEdits.{revision_of}
+use Rattle.gr_check.specs.Planned.{KeepsLimits}
 use Rattle.gr_check.specs.Preserved.{Preserves}
 use Rattle.gr_conflict.specs.Refusals.{IsToldOr}
 use Rattle.gr_conflict.specs.Told.{told_by}
@@ -26,7 +27,7 @@ use Rattle.gr_text.specs.Workspace.{Workspace}
 use Rattle.gr_moving.specs.Paths.{IsUnder}
 use Rattle.gr_moving.specs.MoveEdits.{AreMoveEdits, HasNoNewPath, IsFree, HoldsNoOther, PlansMoveEdits}
 use Rattle.gr_move.specs.Plan.{IsAsked, IsElsewhere, IsBeside, IsMovable, IsWellAsked, IsMoving, IsNaming, PlansMove}
-use Rattle.gr_move.specs.Steps.{moving_by, ArePaths, KeepsLimits, RefusesTarget, RefusesConflict, RefusesLength, PlansEdits, PlansIn}
+use Rattle.gr_move.specs.Steps.{moving_by, ArePaths, RefusesTarget, RefusesConflict, RefusesLength, PlansEdits, PlansIn}
 
 -- a conflict that is told
 

@@ -3,11 +3,12 @@ use Rattle.std.specs.Prelude.{ℕ, ◌≡◌, ◌⊎◌, List, [], ⊤, Contains
 use Rattle.gr_text.specs.Packages.{package_paths}
 use Rattle.gr_text.specs.Path.{IsPath}
 use Rattle.gr_text.specs.Workspace.{Workspace}
-use Rattle.gr_text.specs.declared.limits.Limits.{Limits}
 use Rattle.gr_text.specs.declared.refusal.Refusal.{Refusal}
 use Rattle.gr_text.specs.declared.refusal.Refusal.TheVariants.{Memory, NoPackage, Same, InsideItself, TargetTaken, TooLarge, Faulty, Captured, Lost}
+use Rattle.gr_verdict.specs.declared.known.Known.{Known}
 use Rattle.gr_verdict.specs.Verdicts.{Verdicts}
 use Rattle.gr_verdict.specs.FaultLists.{ListsFaults}
+use Rattle.gr_verdict.specs.Found.{KnowsVerdicts}
 use Rattle.gr_bound.specs.Uses.{HasFirstFault}
 use Rattle.gr_revision.specs.RevisionsOfEdits.{revision_of}
 use Rattle.gr_check.specs.Preserved.{Preserves}
@@ -40,19 +41,13 @@ RefusesTarget w from to (Err refusal) = ⊥
 abbrev pub moving_by : Snapshot → FileChanges → Change
 moving_by snapshot s = record { base = snapshot.files; kind = Move; edits = s; files = edited s snapshot.files }
 
--- a change, unless its files pass a limit
-abbrev pub KeepsLimits : Limits → Change → Result Change Refusal → Type 0
-KeepsLimits limits change (Ok same) = (same ≡ change) × FitsLimits limits change.files
-KeepsLimits limits change (Err TooLarge) = ¬ (FitsLimits limits change.files)
-KeepsLimits limits change (Err refusal) = ⊥
-
 -- bindings are not preserved, and this refusal tells of them
 abbrev pub IsConflict : Workspace → List ℕ → FileChanges → Refusal → Type 0
 IsConflict w from s refusal = (¬ (Preserves w (revision_of w s))) × IsToldOf w from s refusal
 
--- whether bindings are preserved, or that they are not
-abbrev pub RefusesConflict : Workspace → List ℕ → FileChanges → Result (Unit {0}) Refusal → Type 0
-RefusesConflict w from s (Ok done) = Preserves w (revision_of w s)
+-- whether bindings are preserved, with what is known of the edited workspace then, or that they are not
+abbrev pub RefusesConflict : Workspace → List ℕ → FileChanges → Result Known Refusal → Type 0
+RefusesConflict w from s (Ok known) = Preserves w (revision_of w s) × KnowsVerdicts (edited s w) known
 RefusesConflict w from s (Err (Captured used by)) = IsConflict w from s (Captured used by)
 RefusesConflict w from s (Err (Lost used)) = IsConflict w from s (Lost used)
 RefusesConflict w from s (Err Memory) = ⊤

@@ -6,20 +6,22 @@ ghost use Rattle.gr_edit.specs.Fits.{Fits};
 ghost use Rattle.gr_verdict.specs.Found.{IsFound, KnowsVerdicts};
 ghost use Rattle.gr_bound.specs.Workspaces.{IsSound, known_in};
 ghost use Rattle.gr_revision.specs.RevisionsOfEdits.{revision_of};
+ghost use Rattle.gr_check.specs.Planned.{change_in};
+ghost use Rattle.gr_check.specs.Preserved.{Preserves};
 ghost use Rattle.gr_conflict.specs.Refusals.{IsToldOr};
 ghost use Rattle.gr_moving.specs.MoveEdits.{HasNoNewPath, IsFree};
 ghost use Rattle.gr_move.specs.Plan.{PlansMove};
-ghost use Rattle.gr_move.specs.Steps.{moving_by, ArePaths, KeepsLimits, RefusesConflict, RefusesLength, PlansEdits, PlansIn};
+ghost use Rattle.gr_move.specs.Steps.{moving_by, ArePaths, RefusesConflict, RefusesLength, PlansEdits, PlansIn};
 
 use crate::targets::refuse_target;
 use gr_bound::refuse_faults;
-use gr_check::preserves;
+use gr_check::{Planned, preserves, within_limits};
 use gr_conflict::{Conflict, first_conflict, told};
 use gr_edit::EditSet;
 use gr_moving::move_edits;
-use gr_space::{Change, ChangeKind, Snapshot, fits_limits};
-use gr_text::{Limits, Path, Place, Refusal};
-use gr_verdict::Found;
+use gr_space::{Change, ChangeKind, Snapshot};
+use gr_text::{Path, Place, Refusal};
+use gr_verdict::{Found, Known};
 use std::alloc::{AllocError, Global};
 
 /// The first conflict of a change that does not preserve bindings. Where no identifier is there to be named, the package is.
@@ -52,35 +54,41 @@ fn conflict_of(
     }
 }
 
-/// The first conflict of a change, unless it preserves bindings.
+/// The refusal that tells of a change that does not preserve bindings.
+fn refusal_of(
+    alloc: Global,
+    snapshot: &Snapshot,
+    found: &Found,
+    from: &Path,
+    change: &Change,
+) -> Refusal
+    requires sound { IsSound snapshot.now.files found.now.findings }
+    requires after { change.now.files ≡ edited change.now.edits snapshot.now.files }
+    requires not_preserved { ¬ (Preserves snapshot.now.files (revision_of snapshot.now.files change.now.edits)) }
+    ensures { RefusesConflict snapshot.now.files from.now change.now.edits (Err result) }
+{
+    match conflict_of(alloc, snapshot, found, from, change) {
+        Ok(conflict) => told(conflict),
+        Err(_) => Refusal::Memory,
+    }
+}
+
+/// The refusal that tells of a change, unless it preserves bindings; then what is known of its files.
 fn refuse_conflict(
     alloc: Global,
     snapshot: &Snapshot,
     found: &Found,
     from: &Path,
     change: &Change,
-) -> Result<(), Refusal>
+) -> Result<Known, Refusal>
     requires sound { IsSound snapshot.now.files found.now.findings }
     requires known { KnowsVerdicts snapshot.now.files found.now.known }
     requires after { change.now.files ≡ edited change.now.edits snapshot.now.files }
     ensures { RefusesConflict snapshot.now.files from.now change.now.edits result }
 {
-    let kept = preserves(alloc, &snapshot.files, found, &change.edits, &change.files)?;
-    if kept {
-        return Ok(());
-    }
-    let conflict = conflict_of(alloc, snapshot, found, from, change)?;
-    Err(told(conflict))
-}
-
-/// The change, unless its files pass a limit.
-fn within_limits(limits: &Limits, change: Change) -> Result<Change, Refusal>
-    ensures { KeepsLimits limits.now change result }
-{
-    if fits_limits(limits, &change.files) {
-        Ok(change)
-    } else {
-        Err(Refusal::TooLarge)
+    match preserves(alloc, &snapshot.files, found, &change.edits, &change.files)? {
+        Some(known) => Ok(known),
+        None => Err(refusal_of(alloc, snapshot, found, from, change)),
     }
 }
 
@@ -91,15 +99,16 @@ fn judged(
     found: &Found,
     from: &Path,
     change: Change,
-) -> Result<Change, Refusal>
+) -> Result<Planned, Refusal>
     requires sound { IsSound snapshot.now.files found.now.findings }
     requires known { KnowsVerdicts snapshot.now.files found.now.known }
     requires is_change { change ≡ moving_by snapshot.now change.edits }
-    ensures { PlansEdits snapshot.now from.now change.edits result }
+    ensures planned { PlansEdits snapshot.now from.now change.edits (change_in result) }
+    ensures known { IfOk result (λ p. KnowsVerdicts p.change.files p.known) }
 {
     match refuse_conflict(alloc, snapshot, found, from, &change) {
         Err(refusal) => Err(refusal),
-        Ok(()) => within_limits(&snapshot.limits, change),
+        Ok(known) => within_limits(&snapshot.limits, change, known),
     }
 }
 
@@ -110,11 +119,12 @@ fn plan_edits(
     found: &Found,
     from: &Path,
     edits: EditSet,
-) -> Result<Change, Refusal>
+) -> Result<Planned, Refusal>
     requires sound { IsSound snapshot.now.files found.now.findings }
     requires known { KnowsVerdicts snapshot.now.files found.now.known }
     requires fits { Fits edits snapshot.now.files }
-    ensures { PlansEdits snapshot.now from.now edits result }
+    ensures planned { PlansEdits snapshot.now from.now edits (change_in result) }
+    ensures known { IfOk result (λ p. KnowsVerdicts p.change.files p.known) }
 {
     let change = Change::of(alloc, snapshot, ChangeKind::Move, edits)?;
     judged(alloc, snapshot, found, from, change)
@@ -127,16 +137,17 @@ fn refuse_length(
     found: &Found,
     from: &Path,
     edits: EditSet,
-) -> Result<Change, Refusal>
+) -> Result<Planned, Refusal>
     requires sound { IsSound snapshot.now.files found.now.findings }
     requires known { KnowsVerdicts snapshot.now.files found.now.known }
     requires fits { Fits edits snapshot.now.files }
-    ensures { RefusesLength snapshot.now.files from.now edits result }
+    ensures planned { RefusesLength snapshot.now.files from.now edits (change_in result) }
+    ensures known { IfOk result (λ p. KnowsVerdicts p.change.files p.known) }
 {
     let change = Change::of(alloc, snapshot, ChangeKind::Move, edits)?;
     match refuse_conflict(alloc, snapshot, found, from, &change) {
         Err(refusal) => Err(refusal),
-        Ok(()) => Err(Refusal::TooLarge),
+        Ok(_known) => Err(Refusal::TooLarge),
     }
 }
 
@@ -147,11 +158,12 @@ fn refuse_long(
     found: &Found,
     from: &Path,
     to: &Path,
-) -> Result<Change, Refusal>
+) -> Result<Planned, Refusal>
     requires sound { IsSound snapshot.now.files found.now.findings }
     requires known { KnowsVerdicts snapshot.now.files found.now.known }
     requires no_path { HasNoNewPath snapshot.now.files from.now to.now }
-    ensures { PlansIn snapshot.now from.now to.now result }
+    ensures planned { PlansIn snapshot.now from.now to.now (change_in result) }
+    ensures known { IfOk result (λ p. KnowsVerdicts p.change.files p.known) }
 {
     match move_edits(alloc, &snapshot.files, &found.findings, from, from, to) {
         Err(refusal) => Err(refusal),
@@ -166,11 +178,12 @@ fn plan_found(
     found: &Found,
     from: &Path,
     to: &Path,
-) -> Result<Change, Refusal>
+) -> Result<Planned, Refusal>
     requires sound { IsSound snapshot.now.files found.now.findings }
     requires known { KnowsVerdicts snapshot.now.files found.now.known }
     requires free { IsFree snapshot.now.files to.now }
-    ensures { PlansIn snapshot.now from.now to.now result }
+    ensures planned { PlansIn snapshot.now from.now to.now (change_in result) }
+    ensures known { IfOk result (λ p. KnowsVerdicts p.change.files p.known) }
 {
     match move_edits(alloc, &snapshot.files, &found.findings, from, to, to) {
         Err(Refusal::Memory) => Err(Refusal::Memory),
@@ -186,10 +199,11 @@ fn plan_in(
     found: &Found,
     from: &Path,
     to: &Path,
-) -> Result<Change, Refusal>
+) -> Result<Planned, Refusal>
     requires found { IsFound snapshot.now.files found.now }
     requires free { IsFree snapshot.now.files to.now }
-    ensures { PlansIn snapshot.now from.now to.now result }
+    ensures planned { PlansIn snapshot.now from.now to.now (change_in result) }
+    ensures known { IfOk result (λ p. KnowsVerdicts p.change.files p.known) }
 {
     match refuse_faults(alloc, &snapshot.files, &found.findings) {
         Err(refusal) => Err(refusal),
@@ -204,10 +218,11 @@ fn plan_paths(
     found: &Found,
     from: &Path,
     to: &Path,
-) -> Result<Change, Refusal>
+) -> Result<Planned, Refusal>
     requires found { IsFound snapshot.now.files found.now }
     requires paths { ArePaths from.now to.now }
-    ensures { PlansMove snapshot.now from.now to.now result }
+    ensures planned { PlansMove snapshot.now from.now to.now (change_in result) }
+    ensures known { IfOk result (λ p. KnowsVerdicts p.change.files p.known) }
 {
     match refuse_target(&snapshot.files, from, to) {
         Err(refusal) => Err(refusal),
@@ -222,10 +237,11 @@ fn plan_target(
     found: &Found,
     from: &Path,
     to: &str,
-) -> Result<Change, Refusal>
+) -> Result<Planned, Refusal>
     requires found { IsFound snapshot.now.files found.now }
     requires source { IsPath 1 from.now }
-    ensures { PlansMove snapshot.now from.now to.now result }
+    ensures planned { PlansMove snapshot.now from.now to.now (change_in result) }
+    ensures known { IfOk result (λ p. KnowsVerdicts p.change.files p.known) }
 {
     match Path::read(alloc, to, 1) {
         Err(refusal) => Err(refusal),
@@ -241,9 +257,10 @@ pub fn plan_move(
     found: &Found,
     from: &str,
     to: &str,
-) -> Result<Change, Refusal>
+) -> Result<Planned, Refusal>
     requires { IsFound snapshot.now.files found.now }
-    ensures { PlansMove snapshot.now from.now to.now result }
+    ensures planned { PlansMove snapshot.now from.now to.now (change_in result) }
+    ensures known { IfOk result (λ p. KnowsVerdicts p.change.files p.known) }
 {
     match Path::read(alloc, from, 1) {
         Err(refusal) => Err(refusal),

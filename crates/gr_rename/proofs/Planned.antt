@@ -1,5 +1,5 @@
 -- Refusals of the steps of planning a rename, in the words of the plan.
-use Rattle.std.proofs.Common.{ℕ, inl, inr, List, [], None, sym, subst, refl}
+use Rattle.std.proofs.Common.{ℕ, ◌≡◌, inl, inr, List, [], None, sym, subst, refl, ◌∙◌}
 use Rattle.std.specs.Prelude.{Option, Some, Result, Ok, Err}
 use Rattle.gr_text.specs.declared.place.Place.{Place}
 use Rattle.gr_text.specs.declared.refusal.Refusal.{Refusal}
@@ -11,11 +11,13 @@ use Rattle.gr_bound.specs.declared.declaration.Declaration.{Declaration}
 use Rattle.gr_bound.specs.Uses.{IsPackage, IsFile, HasDeclaration}
 use Rattle.gr_bound.specs.Workspaces.{FindsDeclaration, RefusesFaults}
 use Rattle.gr_revision.specs.RevisionsOfEdits.{revision_of}
+use Rattle.gr_check.specs.Planned.{KeepsLimits}
 use Rattle.gr_check.specs.Preserved.{Preserves}
 use Rattle.gr_conflict.specs.declared.conflict.Capturer.{Capturer}
 use Rattle.gr_conflict.specs.declared.conflict.Capturer.TheVariants.{Universe, At}
 use Rattle.gr_edit.specs.EditSet.{FileChanges}
 use Rattle.gr_edit.specs.Fits.{Fits}
+use Rattle.gr_space.specs.Fits.{FitsLimits}
 use Rattle.gr_space.specs.declared.snapshot.Snapshot.{Snapshot}
 use Rattle.gr_space.specs.declared.change.Change.{Change}
 use Rattle.gr_naming.specs.NewName.{IsNewName}
@@ -24,7 +26,7 @@ use Rattle.gr_renaming.specs.RenameEdits.{AreRenameEdits}
 use Rattle.gr_rename.specs.Plan.{IsWellAsked, IsAsked, IsRenamable, MayBeCalled, IsRenaming, PlansRename}
 use Rattle.gr_conflict.specs.Refusals.{IsToldOr}
 use Rattle.gr_conflict.specs.Told.{told_by}
-use Rattle.gr_rename.specs.Steps.{PlansEdits, PlansDeclaration, PlansIn}
+use Rattle.gr_rename.specs.Steps.{renaming_by, PlansEdits, PlansDeclaration, PlansIn}
 
 -- a conflict that is told
 
@@ -35,6 +37,18 @@ told_conflict snapshot known asked s not None used is = (not, record { conflict 
 told_conflict snapshot known asked s not (Some Universe) used is = (not, record { conflict = record { used = used; by = Some Universe }; is_told = is; tells = refl })
 told_conflict snapshot known asked s not (Some (At place)) used is =
     (not, record { conflict = record { used = used; by = Some (At place) }; is_told = is; tells = refl })
+
+-- a change that keeps the limits, or does not
+
+module _ (snapshot : Snapshot) (known : Verdicts) (asked : Place) (s : FileChanges) (change : Change) (is : change ≡ renaming_by snapshot s)
+    (kept : Preserves snapshot.files (revision_of snapshot.files s)) where
+  kept_refused : (r : Refusal) → KeepsLimits snapshot.limits change (Err r) → PlansEdits snapshot known asked s (Err r)
+  kept_refused refusal.TooLarge h = (kept, λ fits. h (subst (λ (c : Change). FitsLimits snapshot.limits c.files) (sym is) fits))
+  kept_refused _ h = absurd h
+
+  pub kept_planned : (r : Result Change Refusal) → KeepsLimits snapshot.limits change r → PlansEdits snapshot known asked s r
+  kept_planned (Ok same) h = (kept, subst (λ (c : Change). FitsLimits snapshot.limits c.files) is h.1, h.0 ∙ is)
+  kept_planned (Err r) h = kept_refused r h
 
 -- the declaration of what holds the byte
 

@@ -5,17 +5,19 @@ ghost use Rattle.gr_verdict.specs.Found.{IsFound, KnowsVerdicts};
 ghost use Rattle.gr_bound.specs.Uses.{HasDeclaration};
 ghost use Rattle.gr_bound.specs.Workspaces.{IsSound, known_in};
 ghost use Rattle.gr_revision.specs.RevisionsOfEdits.{revision_of};
+ghost use Rattle.gr_check.specs.Planned.{change_in};
+ghost use Rattle.gr_check.specs.Preserved.{Preserves};
 ghost use Rattle.gr_conflict.specs.Refusals.{IsToldOr};
 ghost use Rattle.gr_rename.specs.Plan.{PlansRename};
 ghost use Rattle.gr_rename.specs.Asked.{asked_place};
 ghost use Rattle.gr_rename.specs.Steps.{renaming_by, PlansEdits, PlansDeclaration, PlansIn};
 
 use gr_bound::{Declaration, declaration_at, refuse_faults};
-use gr_check::preserves;
+use gr_check::{Planned, preserves, within_limits};
 use gr_conflict::{Conflict, first_conflict, told};
 use gr_naming::{is_new_name, refuse_name};
 use gr_renaming::rename_edits;
-use gr_space::{Change, ChangeKind, Snapshot, fits_limits};
+use gr_space::{Change, ChangeKind, Snapshot};
 use gr_text::{Path, Place, Refusal};
 use gr_verdict::Found;
 use std::alloc::{AllocError, Global};
@@ -65,6 +67,25 @@ fn conflict_of(
     }
 }
 
+/// The refusal that tells of a change that does not preserve bindings.
+fn refusal_of(
+    alloc: Global,
+    snapshot: &Snapshot,
+    found: &Found,
+    asked: &Asked<'_>,
+    change: &Change,
+) -> Refusal
+    requires sound { IsSound snapshot.now.files found.now.findings }
+    requires after { change.now.files ≡ edited change.now.edits snapshot.now.files }
+    requires not_preserved { ¬ (Preserves snapshot.now.files (revision_of snapshot.now.files change.now.edits)) }
+    ensures { PlansEdits snapshot.now (known_in found.now.findings) (asked_place asked.now) change.now.edits (Err result) }
+{
+    match conflict_of(alloc, snapshot, found, asked, change) {
+        Ok(conflict) => told(conflict),
+        Err(_) => Refusal::Memory,
+    }
+}
+
 /// The change, unless it does not preserve bindings or passes a limit.
 fn judged(
     alloc: Global,
@@ -72,19 +93,16 @@ fn judged(
     found: &Found,
     asked: &Asked<'_>,
     change: Change,
-) -> Result<Change, Refusal>
+) -> Result<Planned, Refusal>
     requires sound { IsSound snapshot.now.files found.now.findings }
     requires known { KnowsVerdicts snapshot.now.files found.now.known }
     requires is_change { change ≡ renaming_by snapshot.now change.edits }
-    ensures { PlansEdits snapshot.now (known_in found.now.findings) (asked_place asked.now) change.edits result }
+    ensures planned { PlansEdits snapshot.now (known_in found.now.findings) (asked_place asked.now) change.edits (change_in result) }
+    ensures known { IfOk result (λ p. KnowsVerdicts p.change.files p.known) }
 {
-    if !preserves(alloc, &snapshot.files, found, &change.edits, &change.files)? {
-        return Err(told(conflict_of(alloc, snapshot, found, asked, &change)?));
-    }
-    if fits_limits(&snapshot.limits, &change.files) {
-        Ok(change)
-    } else {
-        Err(Refusal::TooLarge)
+    match preserves(alloc, &snapshot.files, found, &change.edits, &change.files)? {
+        Some(known) => within_limits(&snapshot.limits, change, known),
+        None => Err(refusal_of(alloc, snapshot, found, asked, &change)),
     }
 }
 
@@ -95,10 +113,11 @@ fn plan_declaration(
     found: &Found,
     declaration: &Declaration,
     asked: &Asked<'_>,
-) -> Result<Change, Refusal>
+) -> Result<Planned, Refusal>
     requires sound { IsSound snapshot.now.files found.now.findings }
     requires known { KnowsVerdicts snapshot.now.files found.now.known }
-    ensures { PlansDeclaration snapshot.now (known_in found.now.findings) (asked_place asked.now) declaration.now asked.now.name.now result }
+    ensures planned { PlansDeclaration snapshot.now (known_in found.now.findings) (asked_place asked.now) declaration.now asked.now.name.now (change_in result) }
+    ensures known { IfOk result (λ p. KnowsVerdicts p.change.files p.known) }
 {
     let edits = rename_edits(
         alloc,
@@ -118,11 +137,12 @@ fn plan_named(
     found: &Found,
     declaration: &Declaration,
     asked: &Asked<'_>,
-) -> Result<Change, Refusal>
+) -> Result<Planned, Refusal>
     requires sound { IsSound snapshot.now.files found.now.findings }
     requires known { KnowsVerdicts snapshot.now.files found.now.known }
     requires has { HasDeclaration snapshot.now.files (known_in found.now.findings) asked.now.path.now asked.now.offset declaration.now }
-    ensures { PlansIn snapshot.now asked.now.path.now asked.now.offset asked.now.name.now result }
+    ensures planned { PlansIn snapshot.now asked.now.path.now asked.now.offset asked.now.name.now (change_in result) }
+    ensures known { IfOk result (λ p. KnowsVerdicts p.change.files p.known) }
 {
     match refuse_name(
         alloc,
@@ -142,10 +162,11 @@ fn plan_found(
     snapshot: &Snapshot,
     found: &Found,
     asked: &Asked<'_>,
-) -> Result<Change, Refusal>
+) -> Result<Planned, Refusal>
     requires sound { IsSound snapshot.now.files found.now.findings }
     requires known { KnowsVerdicts snapshot.now.files found.now.known }
-    ensures { PlansIn snapshot.now asked.now.path.now asked.now.offset asked.now.name.now result }
+    ensures planned { PlansIn snapshot.now asked.now.path.now asked.now.offset asked.now.name.now (change_in result) }
+    ensures known { IfOk result (λ p. KnowsVerdicts p.change.files p.known) }
 {
     match declaration_at(
         alloc,
@@ -165,9 +186,10 @@ fn plan_in(
     snapshot: &Snapshot,
     found: &Found,
     asked: &Asked<'_>,
-) -> Result<Change, Refusal>
+) -> Result<Planned, Refusal>
     requires { IsFound snapshot.now.files found.now }
-    ensures { PlansIn snapshot.now asked.now.path.now asked.now.offset asked.now.name.now result }
+    ensures planned { PlansIn snapshot.now asked.now.path.now asked.now.offset asked.now.name.now (change_in result) }
+    ensures known { IfOk result (λ p. KnowsVerdicts p.change.files p.known) }
 {
     match refuse_faults(alloc, &snapshot.files, &found.findings) {
         Err(refusal) => Err(refusal),
@@ -185,9 +207,10 @@ pub fn plan_rename(
     path: &str,
     offset: usize,
     name: &str,
-) -> Result<Change, Refusal>
+) -> Result<Planned, Refusal>
     requires { IsFound snapshot.now.files found.now }
-    ensures { PlansRename snapshot.now path.now offset name.now result }
+    ensures planned { PlansRename snapshot.now path.now offset name.now (change_in result) }
+    ensures known { IfOk result (λ p. KnowsVerdicts p.change.files p.known) }
 {
     let path = Path::read(alloc, path, 2)?;
     if !is_new_name(name) {

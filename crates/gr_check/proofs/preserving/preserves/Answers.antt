@@ -1,24 +1,20 @@
 -- The answers to the goals of `preserving::preserves`.
-use Rattle.std.specs.Prelude.{IsTrue, ◌↔◌}
-use Rattle.std.proofs.lemmas.Result.{IfOk-weaker}
-use Rattle.gr_bound.specs.Workspaces.{known_in}
-use Rattle.gr_revision.specs.RevisionsOfEdits.{revision_of}
-use Rattle.gr_check.specs.Preserved.{KeepsBindings, Preserves}
-use Rattle.gr_check.proofs.Deciding.{decided, not_preserved}
+use Rattle.gr_check.proofs.Deciding.{told_preserved}
 use Rattle.gr_check.proofs.preserving.preserves.Goals as goal
 
-pub returns-then-branch : goal.returns-then-branch
-returns-then-branch c =
-    let w = c.args.graph.now in
-    let s = c.args.edits.now in
-    let found = c.args.found.now.findings in
-    let found_after = c.in_ok-findings.findings in
-    let r = revision_of w s in
-    IfOk-weaker c.keeps_bindings.result (λ kept. IsTrue kept ↔ KeepsBindings w (known_in found) r (known_in found_after))
-    (λ kept. IsTrue kept ↔ Preserves w r)
-    (λ kept h. decided w c.args.after.now s found found_after kept c.requires.sound c.requires.after (rw c.if-branch.true at c.in_ok-is_sound.ensures) h)
-    c.keeps_bindings.ensures
+pub found_after-requires : goal.found_after-requires
+found_after-requires c = c.requires.known
+
+pub are_preserved-requires-clause-sound : goal.are_preserved-requires-clause-sound
+are_preserved-requires-clause-sound c = c.requires.sound
+
+pub are_preserved-requires-clause-after : goal.are_preserved-requires-clause-after
+are_preserved-requires-clause-after c = c.requires.after
+
+pub are_preserved-requires-clause-found_after : goal.are_preserved-requires-clause-found_after
+are_preserved-requires-clause-found_after c = c.in_ok-then.ensures.findings
 
 pub returns : goal.returns
 returns c =
-    not_preserved c.args.graph.now c.args.after.now c.args.edits.now c.requires.after (rw c.if-branch.false at c.in_ok-is_sound.ensures)
+    told_preserved c.args.graph.now c.args.after.now c.args.edits.now c.in_ok-then.then.known c.in_ok-kept.kept c.known_if.result c.requires.after
+    c.in_ok-then.ensures.verdicts c.in_ok-kept.ensures c.known_if.ensures

@@ -2,5 +2,5 @@
 use Rattle.gr_move.proofs.Planned.{faults_refused}
 use Rattle.gr_move.proofs.plan.plan_in.Goals as goal
 
-pub returns-in-Err : goal.returns-in-Err
-returns-in-Err c = faults_refused c.args.snapshot.now c.args.from.now c.args.to.now c.args.found.now.findings c.in-Err.refusal c.in-Err.ensures
+pub returns-in-Err-clause-planned : goal.returns-in-Err-clause-planned
+returns-in-Err-clause-planned c = faults_refused c.args.snapshot.now c.args.from.now c.args.to.now c.args.found.now.findings c.in-Err.refusal c.in-Err.ensures

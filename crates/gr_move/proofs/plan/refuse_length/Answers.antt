@@ -1,9 +1,11 @@
 -- The answers to the goals of `plan::refuse_length`.
 use Rattle.std.proofs.Common.{ap, sym, subst, ◌∙◌}
-use Rattle.std.specs.Prelude.{Err, Ok}
+use Rattle.std.specs.Prelude.{Err}
 use Rattle.gr_edit.specs.EditSet.{FileChanges, edited}
+use Rattle.gr_revision.specs.RevisionsOfEdits.{revision_of}
+use Rattle.gr_check.specs.Preserved.{Preserves}
 use Rattle.gr_space.specs.declared.change.Change.{Change}
-use Rattle.gr_move.specs.Steps.{RefusesConflict, RefusesLength}
+use Rattle.gr_move.specs.Steps.{RefusesConflict}
 use Rattle.gr_move.proofs.Planned.{conflict_of_length}
 use Rattle.gr_move.proofs.plan.refuse_length.Goals as goal
 
@@ -12,14 +14,14 @@ refuse_conflict-requires-clause-after c =
     let e = c.in_ok-change.ensures in
     ap (λ (x : Change). x.files) e ∙ ap (λ (s : FileChanges). edited s c.args.snapshot.now.files) (sym (ap (λ (x : Change). x.edits) e))
 
-pub returns-in-Err : goal.returns-in-Err
-returns-in-Err c =
+pub returns-in-Err-clause-planned : goal.returns-in-Err-clause-planned
+returns-in-Err-clause-planned c =
     let w = c.args.snapshot.now.files in
     let same = ap (λ (x : Change). x.edits) c.in_ok-change.ensures in
     conflict_of_length w c.args.from.now c.args.edits c.in-Err.refusal (subst (λ (s : FileChanges). RefusesConflict w c.args.from.now s (Err c.in-Err.refusal)) same c.in-Err.ensures)
 
-pub returns : goal.returns
-returns c =
+pub returns-clause-planned : goal.returns-clause-planned
+returns-clause-planned c =
     let w = c.args.snapshot.now.files in
     let same = ap (λ (x : Change). x.edits) c.in_ok-change.ensures in
-    subst (λ (s : FileChanges). RefusesConflict w c.args.from.now s (Ok tt)) same c.in-Ok.ensures
+    subst (λ (s : FileChanges). Preserves w (revision_of w s)) same c.in-Ok.ensures.0

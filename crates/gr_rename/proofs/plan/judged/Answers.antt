@@ -1,28 +1,44 @@
 -- The answers to the goals of `plan::judged`.
-use Rattle.std.proofs.Common.{ap, sym, subst, ◌∙◌}
-use Rattle.std.specs.Prelude.{Err}
-use Rattle.std.proofs.lemmas.Bool.{false≢true}
-use Rattle.gr_text.specs.declared.refusal.Refusal.{Refusal}
+use Rattle.std.proofs.Common.{ap, sym, subst}
+use Rattle.std.specs.Prelude.{Option}
+use Rattle.gr_text.specs.Workspace.{Workspace}
+use Rattle.gr_verdict.specs.declared.known.Known.{Known}
+use Rattle.gr_verdict.specs.Found.{KnowsVerdicts}
 use Rattle.gr_bound.specs.Workspaces.{known_in}
+use Rattle.gr_revision.specs.RevisionsOfEdits.{revision_of}
 use Rattle.gr_space.specs.declared.change.Change.{Change}
+use Rattle.gr_check.specs.Planned.{change_in}
+use Rattle.gr_check.specs.Preserved.{TellsPreserved}
 use Rattle.gr_rename.specs.Asked.{asked_place}
-use Rattle.gr_rename.specs.Steps.{PlansEdits}
-use Rattle.gr_rename.proofs.Planned.{told_conflict}
+use Rattle.gr_rename.proofs.Planned.{kept_planned}
 use Rattle.gr_rename.proofs.plan.judged.Goals as goal
 
 pub preserves-requires-clause-after : goal.preserves-requires-clause-after
 preserves-requires-clause-after c = ap (λ (x : Change). x.files) c.requires.is_change
 
-pub conflict_of-requires-clause-after : goal.conflict_of-requires-clause-after
-conflict_of-requires-clause-after c = ap (λ (x : Change). x.files) c.requires.is_change
+pub refusal_of-requires-clause-after : goal.refusal_of-requires-clause-after
+refusal_of-requires-clause-after c = ap (λ (x : Change). x.files) c.requires.is_change
 
-pub returns-then-not-branch : goal.returns-then-not-branch
-returns-then-not-branch c =
-    let snapshot = c.args.snapshot.now in
-    let known = known_in c.args.found.now.findings in
-    let asked = asked_place c.args.asked.now in
-    let s = c.args.change.edits in
-    let conflict = c.in_ok-conflict_of.field-0 in
-    subst (λ (r : Refusal). PlansEdits snapshot known asked s (Err r)) (sym c.told.ensures)
-    (told_conflict snapshot known asked s (λ kept. false≢true (sym c.if-not-branch.true ∙ c.in_ok-preserves.ensures.1 kept)) conflict.by conflict.used
-    c.in_ok-conflict_of.ensures)
+pub refusal_of-requires-clause-not_preserved : goal.refusal_of-requires-clause-not_preserved
+refusal_of-requires-clause-not_preserved c =
+    let w = c.args.snapshot.now.files in
+    subst (λ (o : Option Known). TellsPreserved w (revision_of w c.args.change.edits) o) c.in-None.is c.in_ok-known.ensures
+
+pub returns-in-None-clause-planned : goal.returns-in-None-clause-planned
+returns-in-None-clause-planned c = c.refusal_of.ensures
+
+pub within_limits-requires : goal.within_limits-requires
+within_limits-requires c =
+    let w = c.args.snapshot.now.files in
+    let told = subst (λ (o : Option Known). TellsPreserved w (revision_of w c.args.change.edits) o) c.in-Some.is c.in_ok-known.ensures in
+    subst (λ (v : Workspace). KnowsVerdicts v c.in-Some.known) (sym (ap (λ (x : Change). x.files) c.requires.is_change)) told.1
+
+pub returns-in-Some-clause-planned : goal.returns-in-Some-clause-planned
+returns-in-Some-clause-planned c =
+    let w = c.args.snapshot.now.files in
+    let told = subst (λ (o : Option Known). TellsPreserved w (revision_of w c.args.change.edits) o) c.in-Some.is c.in_ok-known.ensures in
+    kept_planned c.args.snapshot.now (known_in c.args.found.now.findings) (asked_place c.args.asked.now) c.args.change.edits c.args.change c.requires.is_change
+    told.0 (change_in c.within_limits.result) c.within_limits.ensures.planned
+
+pub returns-in-Some-clause-known : goal.returns-in-Some-clause-known
+returns-in-Some-clause-known c = c.within_limits.ensures.known

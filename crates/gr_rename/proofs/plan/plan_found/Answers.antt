@@ -4,8 +4,8 @@ use Rattle.gr_bound.proofs.Units.{list_of_sound}
 use Rattle.gr_rename.proofs.Planned.{finds_refused}
 use Rattle.gr_rename.proofs.plan.plan_found.Goals as goal
 
-pub returns-in-Err : goal.returns-in-Err
-returns-in-Err c =
+pub returns-in-Err-clause-planned : goal.returns-in-Err-clause-planned
+returns-in-Err-clause-planned c =
     let snapshot = c.args.snapshot.now in
     let asked = c.args.asked.now in
     let found = c.args.found.now.findings in

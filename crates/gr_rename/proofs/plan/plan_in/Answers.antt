@@ -2,8 +2,8 @@
 use Rattle.gr_rename.proofs.Planned.{faults_refused}
 use Rattle.gr_rename.proofs.plan.plan_in.Goals as goal
 
-pub returns-in-Err : goal.returns-in-Err
-returns-in-Err c =
+pub returns-in-Err-clause-planned : goal.returns-in-Err-clause-planned
+returns-in-Err-clause-planned c =
     let asked = c.args.asked.now in
     faults_refused c.args.snapshot.now asked.path.now asked.offset asked.name.now c.args.found.now.findings c.in-Err.refusal c.in-Err.ensures
 
