@@ -106,7 +106,7 @@ module _ (w : Workspace) (sound : ListsFaults w []) (known : Verdicts) (right : 
   interface_fine r q _ _ (unseen none) rank = nothing_fine _ (λ name. refl)
 
   module _ (p : Package) (is : IsPackage w known p) where
-    seen_interface : (q : List ℕ) → (n : Option (List ℕ)) × IsSeenAs w sound.known p.path q n (p.interface_of q)
+    pub seen_interface : (q : List ℕ) → (n : Option (List ℕ)) × IsSeenAs w sound.known p.path q n (p.interface_of q)
     seen_interface q =
         let own = package_for w known sound.known right sound.right p is in
         let h = own.is_checked in

@@ -190,7 +190,7 @@ past_end (x ∷ xs) zero f a c e = omega arith
 past_end (x ∷ xs) (suc u) f a c e = let lt : u < length xs = past_end xs u f a c e in omega arith
 
 module _ (w : Workspace) (known : Verdicts) (path : List ℕ) (p : Package) (h : IsPackageIn w known path p) where
-  in_order : StandInOrder p.layout p.size
+  pub in_order : StandInOrder p.layout p.size
   in_order =
       let table = laid_of w known path p h in
       let plain : StandInOrder (layout_in (scoped h.files)) (length (scoped h.files).sites) =
@@ -199,7 +199,7 @@ module _ (w : Workspace) (known : Verdicts) (path : List ℕ) (p : Package) (h :
       subst (λ (l : Layout). StandInOrder l p.size) (sym (same_layout w known path p h))
       (subst (λ n. StandInOrder (layout_in table) n) (sym (same_size w known path p h)) laid)
 
-  found_first : (at : Position) (u : ℕ) → u < p.size → StandsAt p.layout at u → IsFoundAt p.layout p.size at u
+  pub found_first : (at : Position) (u : ℕ) → u < p.size → StandsAt p.layout at u → IsFoundAt p.layout p.size at u
   found_first at u lt stands = record {
     within = lt;
     holds = stands;

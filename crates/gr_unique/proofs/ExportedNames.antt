@@ -194,7 +194,7 @@ module _ (w : Workspace) (sound : ListsFaults w []) (known : Verdicts) (right : 
         },
       )))
 
-  is_found : exports_in p q (p.names u) ≡ true
+  pub is_found : exports_in p q (p.names u) ≡ true
   is_found = elim (cases_Bool (exports_in p q (p.names u))) [
     | inl e ↦ e
     | inr e ↦ (let k = no_such (is_exported (p.names u)) (exports_in p q (p.names u)) e in absurd (no_fault_at k.0 k.1))
