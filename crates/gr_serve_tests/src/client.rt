@@ -17,9 +17,9 @@ const TOLD: &str =
     "ok 1 0\nok 2 0\nok 2 0\nok 2 82\nobject a a\nvar a#x int\nfunc a#F (int) (int) 1 5\nglobal a#x\nlocal 0\nop +\nret 1\nend\n";
 
 /// Connects once there is a socket.
-fn connected<R: Net>(rt: &R) -> Option<UnixStream> {
+pub(crate) fn connected<R: Net>(rt: &R, socket: &str) -> Option<UnixStream> {
     for _ in 0..TURNS {
-        if let Ok(stream) = UnixStream::connect(rt, SOCKET) {
+        if let Ok(stream) = UnixStream::connect(rt, socket) {
             return Some(stream);
         }
         thread::yield_now();
@@ -42,7 +42,7 @@ fn is_as_wanted(told: io::Result<String>) -> bool {
 
 /// Whether a client is told what the protocol says.
 pub(crate) fn is_answered<R: Net>(rt: &R, alloc: Global) -> bool {
-    match connected(rt) {
+    match connected(rt, SOCKET) {
         Some(stream) => is_as_wanted(told(alloc, stream)),
         None => false,
     }

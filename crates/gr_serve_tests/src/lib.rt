@@ -5,6 +5,10 @@
 #[cfg(test)]
 mod client;
 #[cfg(test)]
+mod cut;
+#[cfg(test)]
 mod served;
+#[cfg(test)]
+mod story;
 #[cfg(test)]
 mod together;

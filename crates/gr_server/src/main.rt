@@ -14,6 +14,10 @@ use std::fmt::Display;
 use std::io::{BufReader, BufWriter, ErrorKind};
 use std::process::ExitCode;
 
+/// What is told of words that cannot be read.
+const NOT_UTF8: &str =
+    "error: a word is not UTF-8\n\nUsage: gorefd <COMMAND>\n\nFor more information, try '--help'.\n";
+
 /// Serves one session over standard input and output.
 fn run(rt: &(impl Input + Print + AllocGlobal)) -> Result<(), Fault> {
     let alloc = rt.alloc();
@@ -59,7 +63,7 @@ fn words<R: Env + AllocGlobal>(rt: &R) -> Result<Vec<String>, WordsFault> {
         Ok(words) => Ok(words.collect(rt.alloc())?),
         Err(error) if error.kind() == ErrorKind::OutOfMemory => Err(WordsFault::Memory),
         Err(_) => {
-            let text = String::from_str(rt.alloc(), "error: a word is not UTF-8\n")?;
+            let text = String::from_str(rt.alloc(), NOT_UTF8)?;
             Err(WordsFault::Usage(text))
         }
     }
