@@ -1,0 +1,7 @@
+-- The lemmas of this crate.
+pub mod PathBytes
+pub mod Quoting
+pub mod Cutting
+pub mod Folders
+pub mod Replacing
+pub mod Whole
