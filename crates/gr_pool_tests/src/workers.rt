@@ -4,7 +4,7 @@ ghost use Rattle.std.specs.Prelude.{◌≡◌};
 use crate::calls::put;
 use crate::meeting::Meeting;
 use crate::settling::settled;
-use gr_book::Book;
+use gr_book::{Book, Entry, Kind, Reason, Told};
 use gr_pool::{Opening, Seat, Shared, worker};
 use gr_text::Limits;
 use std::alloc::Global;
@@ -87,6 +87,16 @@ fn all_at_work<L: Opening + Send + Sync, R: Threads + Wait + Abort + Sync>(
     )
 }
 
+/// Whether an entry tells of a Job that was delivered or given back and was not out.
+fn is_of_no_job(entry: &Entry) -> bool {
+    entry.line.kind != Kind::Take && entry.line.out == Told::Refused(Reason::NoJob)
+}
+
+/// Each Job that came in was out, by the journal.
+fn each_was_out(book: &Book) -> bool {
+    !book.journal().iter().any(|entry| is_of_no_job(entry))
+}
+
 fn work_together<L: Opening + Send + Sync, R: Threads + Wait + Abort + Sync>(
     rt: &R,
     alloc: Global,
@@ -109,6 +119,8 @@ fn work_together<L: Opening + Send + Sync, R: Threads + Wait + Abort + Sync>(
     seats.push(first).expect(rt, "memory");
     seats.push(second).expect(rt, "memory");
     seats.push(mine).expect(rt, "memory");
-    settled(rt, shared.settle(seats)).close();
+    let book = settled(rt, shared.settle(seats));
+    assert!(rt; each_was_out(&book));
+    book.close();
     gate.was_held(rt);
 }
