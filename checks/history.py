@@ -252,9 +252,8 @@ def size_of(line):
         return 0
 
 
-def replies(sent, journal=None):
-    """What a session on a new book writes to an input."""
-    history = History(journal)
+def answered(history, sent, answer=reply):
+    """What a session writes to an input, each of whose commands is answered so on this history."""
     written = b""
     while sent:
         line, _, sent = sent.partition(b"\n")
@@ -264,5 +263,10 @@ def replies(sent, journal=None):
         body, sent = sent[:size], sent[size:]
         if len(body) < size:
             return written + b"no 24 0\n"
-        written += reply(history, line, body)
+        written += answer(history, line, body)
     return written
+
+
+def replies(sent, journal=None):
+    """What a session on a new book writes to an input."""
+    return answered(History(journal), sent)

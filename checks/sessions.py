@@ -4,9 +4,10 @@
 
 runs sessions FIRST to LAST (0 to 99), each a few dozen puts and questions, of the kind `faults` (as without a word),
 `uses`, `checked` (packages that import one another: faults of all stages, and uses of all identifiers), `objects`
-(packages that are built, with changes, undo and redo between), `changed` (small changes of the workspaces of the stored
-sessions: faults, uses and objects), `renames` or `moves` (mostly of workspaces without faults, with questions, undo, redo and
-objects between). A difference is printed with its session, and ends the run with status 1.
+(packages that are built, with changes, undo and redo between, and entries of the journal), `changed` (small changes of the
+workspaces of the stored sessions: faults, uses and objects), `renames` or `moves` (mostly of workspaces without faults, with
+questions, undo, redo, objects and entries of the journal between). A difference is printed with its session, and ends the run
+with status 1.
 """
 
 import random
@@ -216,6 +217,11 @@ def changed_workspaces(generator, count):
     return talk.session
 
 
+def ask_the_journal(generator, talk):
+    """What the journal shows of some entry, or of none past its end."""
+    talk.send(f"log {generator.randrange(len(talk.history.entries) + 3)}")
+
+
 def objects_of_packages(generator, count):
     """Packages that are put, deleted, built, undone and redone, and their objects."""
     packages = Packages(generator, generator.choice([0.0, 0.005]))
@@ -237,6 +243,8 @@ def objects_of_packages(generator, count):
             talk.send("work")
         for name in generator.sample(packages.NAMES + ["q"], 3):
             talk.send(f"object {name}")
+        for _ in range(generator.randrange(3)):
+            ask_the_journal(generator, talk)
     return talk.session
 
 
@@ -274,7 +282,7 @@ def a_target(generator, texts):
 def question(generator, talk):
     """A command that changes no text."""
     texts = talk.history.current.texts
-    way = generator.randrange(7)
+    way = generator.randrange(8)
     if way == 0:
         talk.send("faults")
     elif way == 1 and texts:
@@ -285,6 +293,8 @@ def question(generator, talk):
         talk.send(generator.choice(["list", "look"]))
     elif way == 4:
         talk.send("object " + a_folder(generator, texts))
+    elif way == 5:
+        ask_the_journal(generator, talk)
     else:
         talk.send("work")
 

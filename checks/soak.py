@@ -21,7 +21,7 @@ import threading
 import time
 
 import changes
-import serve
+import server as serving
 from history import History, State, reply
 from refusals import Refusal
 from sessions import a_folder, a_new_name, a_place, a_target
@@ -165,7 +165,7 @@ class Session:
                 while len(self.asked) < self.length * part // CONNECTIONS:
                     self.act()
                 self.client.send(b"end\n")
-                serve.same(self.client.rest(), b"")
+                serving.same(self.client.rest(), b"")
                 self.client.close()
         except Exception as fault:
             last = self.asked[-1].line[:200] if self.asked else None
@@ -459,7 +459,7 @@ def jobs_out(entries):
 
 def drive(seed, length, count, workers):
     """What was asked, the journal, and the differences that were seen on the way."""
-    with serve.Server(workers, count, CONNECTIONS * count + 2) as server:
+    with serving.Server(workers, count, CONNECTIONS * count + 2) as server:
         first = Session(server, "first", seed, 0)
         first.client = server.connect()
         for path, text in shadowed(first.generator).items():
@@ -477,13 +477,13 @@ def drive(seed, length, count, workers):
         if faults:
             return asked, [], faults
         last = server.connect()
-        serve.same(last.ask(b"wait\n")[0].split(b" ")[0], b"ok")
+        serving.same(last.ask(b"wait\n")[0].split(b" ")[0], b"ok")
         time.sleep(1)
         journal = Journal(last)
         entries = journal.read()
         last.send(b"end\n")
         last.close()
-        settled = serve.settles(server)
+        settled = serving.settles(server)
         if settled != len(entries) + journal.logs:
             faults.append(f"settled {settled}, and {len(entries)} entries and {journal.logs} logs were counted")
         if jobs_out(entries):
@@ -495,7 +495,7 @@ def main():
     words = sys.argv[1:]
     if not words:
         sys.exit(__doc__)
-    serve.PROGRAM.append(words[0])
+    serving.PROGRAM.append(words[0])
     seed, length, count, workers = [int(word) for word in words[1:]] + [0, 100, 32, 16][len(words) - 1 :]
     begin = time.perf_counter()
     asked, entries, differences = drive(seed, length, count, workers)
