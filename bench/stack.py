@@ -2,7 +2,8 @@
 
     python3 bench/stack.py crates/gr_server/out/gr_server
 
-Each form is put, checked, built and asked for, under `ulimit -s`. The answers have to be those under 64 MiB.
+Each form is put, checked, built and asked for, and the function `y`, which some forms call, is renamed, under `ulimit -s`; the
+threads of `gorefd serve` have a stack of that size too. The answers have to be those under 64 MiB.
 """
 import subprocess
 import sys
@@ -29,6 +30,26 @@ def calls_in_blocks(depth):
     return text_of("{" * half + f"\n\tvar z int = {'y(' * half}0{')' * half}\n\tz = z\n" + "}" * half)
 
 
+def pointers(depth):
+    half = depth // 2
+    literal = "&t{n: " * half + "nil" + "}" * half
+    return text_of(f"\tvar z *t = {literal}\n\tz = z") + "\ntype t struct {\n\tn *t\n}\n"
+
+
+def selectors(depth):
+    """No level of nesting, but a long chain."""
+    return text_of(f"\tvar z *t = nil\n\tz = z{'.n' * depth}") + "\ntype t struct {\n\tn *t\n}\n"
+
+
+def all_together(depth):
+    """Loops in loops, and in the innermost calls of calls, in these parentheses, and in these an element of literals in literals."""
+    part = depth // 4
+    opened = "".join("[]" * (part - level) + "int{" for level in range(part))
+    value = f"{'y(' * part}{'(' * part}{opened}1{'}' * part}{'[0]' * part}{')' * part}{')' * part}"
+    loops = depth - 3 * part
+    return text_of("for {" * loops + f"\n\tvar z int = {value}\n\tz = z\n" + "}" * loops)
+
+
 FORMS = {
     "calls": value("y(", ")"),
     "parentheses": value("(", ")"),
@@ -41,12 +62,16 @@ FORMS = {
     "else if": lambda depth: text_of("if 1 < 2 {}" + " else if 1 < 2 {}" * depth),
     "for in for": lambda depth: text_of("for {" * depth + "}" * depth),
     "calls in blocks": calls_in_blocks,
+    "prefix operators": lambda depth: text_of(f"\tvar z int = {'- ' * depth}1\n\tz = z"),
+    "pointers to literals": pointers,
+    "a chain of selectors": selectors,
+    "all together": all_together,
 }
 
 
 def answers(program, text, kibibytes):
     file = text.encode()
-    session = b"put 0 a/a.go %d\n%sfaults\nwork\nobject a\nuses a/a.go:#13\n" % (len(file), file)
+    session = b"put 0 a/a.go %d\n%sfaults\nwork\nobject a\nuses a/a.go:#16\nrename 1 a/a.go:#16 yy\nwork\nobject a\n" % (len(file), file)
     command = f'ulimit -s {kibibytes}; exec "$0" run'
     ran = subprocess.run(["bash", "-c", command, program], input=session, capture_output=True)
     return ran.returncode, ran.stdout
@@ -54,7 +79,7 @@ def answers(program, text, kibibytes):
 
 def deepest(program, form):
     """The most levels at which there is no fault of nesting."""
-    return max(depth for depth in range(190, 201) if b"nesting" not in answers(program, form(depth), 65536)[1])
+    return max(depth for depth in range(180, 201) if b"nesting" not in answers(program, form(depth), 65536)[1])
 
 
 def main():
