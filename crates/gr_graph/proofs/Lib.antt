@@ -16,4 +16,5 @@ pub mod ImportedPaths
 pub mod Linked
 pub mod SameFiles
 pub mod StayingPackages
+pub mod PartPackages
 pub mod Asked

@@ -86,11 +86,11 @@ keys_are m ks sorted same =
     (same q ∙ ap (λ ns. list_any (eq_by_cmp path_cmp q) ns) (sym (made_keys ks sorted)) ∙ sym (contains_key-keys (from_sorted (units ks)) q))))
     ∙ made_keys ks sorted
 
-abbrev go_folders : List (List ℕ × List ℕ) → List (List ℕ)
+abbrev pub go_folders : List (List ℕ × List ℕ) → List (List ℕ)
 go_folders es = map folder (filter is_go (map (λ e. e.0) es))
 
 -- what the folders of a workspace are
-has_folder : (w : Workspace) (q : List ℕ) → contains_key (folders w) q ≡ list_any (eq_by_cmp path_cmp q) (go_folders (entries w))
+pub has_folder : (w : Workspace) (q : List ℕ) → contains_key (folders w) q ≡ list_any (eq_by_cmp path_cmp q) (go_folders (entries w))
 has_folder w q =
     let paths = filter is_go (map (λ e. e.0) (entries w)) in
     ap is_some (get-from_entries path_cmp_total (map (λ path. (folder path, tt)) paths) q)
@@ -193,7 +193,7 @@ one_number ks sorted i j p a b =
     (cases_lt i j)
 
 -- ---- the folder of a Go file
-exact_names : (x y : List ℕ) → eq_by_cmp path_cmp x y ≡ true → x ≡ y
+pub exact_names : (x y : List ℕ) → eq_by_cmp path_cmp x y ≡ true → x ≡ y
 exact_names x y e = path_cmp_exact x y ((Equal-is (path_cmp x y)).0 e)
 
 -- each Go file's folder is among some paths

@@ -28,7 +28,7 @@ or_true : (a : Bool) → (a || true) ≡ true
 or_true true = refl
 or_true false = refl
 
-any_of : (q : List ℕ) (ks : List (List ℕ)) → Contains ks q → list_any (eq_by_cmp path_cmp q) ks ≡ true
+pub any_of : (q : List ℕ) (ks : List (List ℕ)) → Contains ks q → list_any (eq_by_cmp path_cmp q) ks ≡ true
 any_of q [] has = absurd (omega (arith, has.1))
 any_of q (k ∷ ks) (zero, within, is) = ap (λ b. b || list_any (eq_by_cmp path_cmp q) ks) (ap (eq_by_cmp path_cmp q) is ∙ ap is_eq (tied_itself path_cmp_total q))
 any_of q (k ∷ ks) (suc i, within, is) = ap (λ b. eq_by_cmp path_cmp q k || b) (any_of q ks (i, omega (arith, within), is)) ∙ or_true _

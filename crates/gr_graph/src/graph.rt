@@ -1,11 +1,12 @@
 //! The graph of a workspace: its packages with their parsed files, and which imports which.
 ghost use Rattle.std.specs.Prelude.{◌≡◌, ◌<◌, ℕ, length, IfOk, MatchOption, Some, slice_get};
-ghost use Rattle.std.specs.List.{Contains};
+ghost use Rattle.std.specs.List.{All, Contains};
 ghost use Rattle.std.specs.List.Sorted.{IsStrictlyIncreasing};
 ghost use Rattle.gr_graph.specs.Imports.{imports_of};
 ghost use Rattle.gr_text.specs.Packages.{package_paths};
 ghost use Rattle.gr_graph.specs.Packages.{PackageImports, IsInClosure, AreLinksOf};
 ghost use Rattle.gr_graph.specs.Filling.{names};
+ghost use Rattle.gr_graph.specs.Parts.{HasFilesOf};
 ghost use Rattle.gr_graph.specs.Staying.{DiffersOnlyIn, HasFiles};
 ghost use Rattle.gr_graph.specs.declared.package.Package.{Package};
 ghost use Rattle.gr_graph.specs.Graphs.{
@@ -21,6 +22,7 @@ ghost use Rattle.gr_graph.specs.Graphs.{
 use crate::import_links::ImportLinks;
 use crate::package::Package;
 use crate::packages::packages;
+use crate::part::numbered;
 use crate::rows::rows;
 use crate::shared_links::SharedLinks;
 use crate::shared_package::{SharedPackage, number_of};
@@ -105,6 +107,24 @@ impl Graph {
         let staying = packages_outside(alloc, &before.packages, folders)?;
         let packages = packages(alloc, &before.packages, &staying, &files)?;
         Graph::made(alloc, Some(&before.links), files, packages)
+    }
+
+    /// The graph of a part of a workspace: its Go files are exactly those of the packages with some numbers. All packages are
+    /// shared, so no text is looked at and nothing is parsed.
+    pub fn part(
+        alloc: Global,
+        whole: &Graph,
+        numbers: &[usize],
+        files: Files,
+    ) -> Result<Graph, AllocError>
+        requires numbers { All (λ number. number < length (package_paths whole.now)) numbers.now }
+        requires rising { IsStrictlyIncreasing numbers.now }
+        requires files { HasFilesOf whole.now numbers.now files }
+        ensures { IfOk result (λ graph. graph ≡ files) }
+    {
+        let whole = &whole.parts;
+        let packages = numbered(alloc, &whole.packages, numbers)?;
+        Graph::made(alloc, Some(&whole.links), files, packages)
     }
 
     /// The graph of some files from their packages. What is asked of the links before is not found again where no link

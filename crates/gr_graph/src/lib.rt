@@ -14,6 +14,7 @@ mod package;
 mod package_list;
 mod packages;
 mod parsed;
+mod part;
 mod rows;
 mod search;
 mod shared_links;

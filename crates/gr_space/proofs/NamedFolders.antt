@@ -1,6 +1,5 @@
 -- The files outside the folders of all that an edit set names are the same after it.
 use Rattle.std.proofs.Common.{◌≡◌, ℕ, ◌+◌, ◌<◌, ◌⊎◌, inl, inr, List, [], ◌∷◌, length, take, get_or, Option, Some, None, Bor, refl, sym, ap, subst, ◌∙◌, ⊎_elim}
-use Rattle.std.specs.declared.cmp.Ordering.{Ordering}
 use Rattle.std.specs.declared.cmp.Ordering.TheVariants.{Less, Equal, Greater}
 use Rattle.std.specs.Ordering.{match_ordering}
 use Rattle.std.specs.BTreeSet.{insert_key}
@@ -10,12 +9,10 @@ use Rattle.std.proofs.lemmas.List.{take_more}
 use Rattle.std.proofs.lemmas.List.Elements.{Contains-push_cases}
 use Rattle.std.proofs.lemmas.Option.{none-some, same_Some}
 use Rattle.gr_text.specs.Path.{folder}
-use Rattle.gr_text.specs.Packages.{is_go}
 use Rattle.gr_text.specs.Workspace.{Workspace}
 use Rattle.gr_text.proofs.WorkspaceLaws.{path_cmp_exact}
-use Rattle.gr_edit.specs.Edits.{edited_text}
-use Rattle.gr_edit.specs.EditSet.{FileChanges, path_by, change_of, file_by, file_after, edited}
-use Rattle.gr_edit.specs.Fits.{Fits, new_path, path_by_change}
+use Rattle.gr_edit.specs.EditSet.{FileChanges, path_by, change_of, file_by, edited}
+use Rattle.gr_edit.specs.Fits.{Fits, new_path}
 use Rattle.gr_edit.specs.declared.change.FileChange.{FileChange}
 use Rattle.gr_edit.specs.declared.change.Fate.{Fate}
 use Rattle.gr_edit.specs.declared.change.Fate.TheVariants.{Stays, Moves, Dropped}
@@ -25,7 +22,7 @@ use Rattle.gr_edit.proofs.FilesAfter.{IsOldFile, comes_from, has_file}
 use Rattle.gr_graph.specs.Filling.{names}
 use Rattle.gr_graph.specs.Staying.{DiffersOnlyIn}
 use Rattle.gr_graph.proofs.PackagePaths.{folder_cmp}
-use Rattle.gr_space.specs.Folders.{AddsFolders, HoldsFolders, IsNamed, IsOfAdded, IsOfChange, IsOfChanges}
+use Rattle.gr_space.specs.Folders.{AddsFolders, HoldsFolders, IsNamed, IsOfChange}
 
 -- ---- one folder more
 pub inserted : (ks : List (Bor (List ℕ))) (k : Bor (List ℕ)) (q : List ℕ) → (Contains (names ks) q ⊎ (k.now ≡ q)) → Contains (names (insert_key folder_cmp ks k)) q
