@@ -23,7 +23,8 @@ use Rattle.gr_scoped.specs.ScopedPackages.{IsScopedIn, IsClauseName, named, unna
 
 -- the name of a package is one
 one_clause : (w : Workspace) (path : List ℕ) (a b : Option (List ℕ)) → IsClauseName w path a → IsClauseName w path b → a ≡ b
-one_clause w path a b (named {files = fs} has parsed) (named {files = gs} also read) = ap (λ (ss : List SourceFile). Some (package_name ss)) (one_sources parsed read)
+one_clause w path a b (named {files = fs} has parsed) (named {files = gs} also read) =
+    ap (λ (ss : List SourceFile). Some (package_name ss)) (one_sources parsed read)
 one_clause w path a b (named {files = fs} has parsed) (unnamed none) = absurd (none fs has parsed)
 one_clause w path a b (unnamed none) (named {files = fs} has parsed) = absurd (none fs has parsed)
 one_clause w path a b (unnamed none) (unnamed other) = refl

@@ -31,7 +31,8 @@ use Rattle.gr_check.specs.declared.among.MarkedPackages.{MarkedPackages}
 use Rattle.gr_placed.specs.declared.declared_places.DeclaredPlaces.{DeclaredPlaces}
 use Rattle.gr_check.specs.Corresponding.{stands}
 use Rattle.gr_check.specs.Sound.{packages_of}
-use Rattle.gr_check.specs.Among.{AreHeldOf, BothGo, view_among, IsBoundMarked, IsBoundThere, IsIdentifierAmong, BecomesAmong, IsKeptAmong, AllWereAmong, AddsNoneAmong, KeepsMarked, AddsMarked}
+use Rattle.gr_check.specs.Among.{AreHeldOf, BothGo, view_among, IsBoundMarked, IsBoundThere, IsIdentifierAmong, BecomesAmong, IsKeptAmong, AllWereAmong}
+use Rattle.gr_check.specs.Among.{AddsNoneAmong, KeepsMarked, AddsMarked}
 use Rattle.gr_placed.specs.DeclaredPlaces.{IsFoundIn, AreDeclaredIn, AreDeclaredAt, IsPlaceIn}
 use Rattle.gr_placed.specs.Outside.{path_by}
 use Rattle.gr_check.specs.Preserved.{IsBoundToOne, KeepsBindings}

@@ -58,7 +58,12 @@ module _ (w : Workspace) (path : List ℕ) (d : ℕ) where
       inside = package_scoped path s;
       is_package = is;
       of_path = refl;
-      holds = record { at = (layout_in s.table).place (literal_of (layout_in s.table) d); is_at = record { own = not; counts = counts_here counts; stands = refl }; begins = t };
+      holds = record {
+        at = (layout_in s.table).place (literal_of (layout_in s.table) d);
+        is_at =
+            record { own = not; counts = counts_here counts; stands = refl };
+        begins = t;
+      };
     }
 
     from_standing : (place : Place) → IsDeclaredAt (IsScopedIn w) (Declared path d) place → IsOwnToken s d place

@@ -7,7 +7,8 @@ use Rattle.gr_graph.specs.Imports.{Links, Imports, imports_of, AreImporters, Hol
 use Rattle.gr_graph.specs.Closures.{AreClosures, IsClosed, nothing}
 use Rattle.gr_graph.specs.declared.closure.Closure.{Closure}
 
-pub closure_read : (g : Links) (closures : List Closure) (number : ℕ) (x : Closure) → AreClosures g closures → number < length g → x ≡ get_or closures number x → IsClosed g number x
+pub closure_read : (g : Links) (closures : List Closure) (number : ℕ) (x : Closure) → AreClosures g closures → number < length g →
+    x ≡ get_or closures number x → IsClosed g number x
 closure_read g closures number x closed within e =
     subst (IsClosed g number) (sym (get_or_read closures number x (omega (arith, closed.size)) e nothing)) (closed.each number within)
 

@@ -27,7 +27,8 @@ last_step g linked {p} {q} h i (through j k) =
     (w.0, through i w.1, w.2)
 
 -- where nothing that was found imports the first, it is on no cycle
-pub no_cycle : (g : Links) (found : List Found) (marks : List Bool) → AreLinked g → IsSearch g found marks → IsFollowed g found marks (length found) → ((i : ℕ) → i < length found → Imports g (package_at found i) (package_at found 0) → ⊥) → IsOnCycle g (package_at found 0) → ⊥
+pub no_cycle : (g : Links) (found : List Found) (marks : List Bool) → AreLinked g → IsSearch g found marks → IsFollowed g found marks (length found) →
+    ((i : ℕ) → i < length found → Imports g (package_at found i) (package_at found 0) → ⊥) → IsOnCycle g (package_at found 0) → ⊥
 no_cycle g found marks linked s f none on =
     let start = package_at found 0 in
     let within : start < length g = subst (λ (n : ℕ). start < n) s.size (marked_within marks start (s.marked 0 s.begun)) in
@@ -36,7 +37,9 @@ no_cycle g found marks linked s f none on =
     none place.0 place.1 (subst (λ (x : ℕ). Imports g x start) (sym place.2) w.2)
 
 -- the marked ones are the closure
-pub closed_is : (g : Links) (number : ℕ) (found : List Found) (marks : List Bool) (numbers : List ℕ) (cycle : Option (List ℕ)) → IsSearch g found marks → IsFollowed g found marks (length found) → package_at found 0 ≡ number → HoldsMarked marks (length marks) numbers → FindsCycle g (package_at found 0) cycle → IsClosed g number (record { numbers = numbers; cycle = cycle })
+pub closed_is : (g : Links) (number : ℕ) (found : List Found) (marks : List Bool) (numbers : List ℕ) (cycle : Option (List ℕ)) → IsSearch g found marks →
+    IsFollowed g found marks (length found) → package_at found 0 ≡ number → HoldsMarked marks (length marks) numbers →
+    FindsCycle g (package_at found 0) cycle → IsClosed g number (record { numbers = numbers; cycle = cycle })
 closed_is g number found marks numbers cycle s f first held finds =
     record {
       reached = λ q. (
@@ -48,13 +51,16 @@ closed_is g number found marks numbers cycle s f first held finds =
     }
 
 -- the packages that were passed, turned round, are the way
-pub way_is : (g : Links) (found : List Found) (place last : ℕ) (way : List ℕ) → place ≤ 0 → Leads g (package_at found place) (reverse way) last → IsWay g (package_at found 0) (reverse (way ++ package_at found 0 ∷ [])) last
+pub way_is : (g : Links) (found : List Found) (place last : ℕ) (way : List ℕ) → place ≤ 0 → Leads g (package_at found place) (reverse way) last →
+    IsWay g (package_at found 0) (reverse (way ++ package_at found 0 ∷ [])) last
 way_is g found place last way h leads =
     let at : place ≡ 0 = omega arith in
-    subst (λ (xs : List ℕ). IsWay g (package_at found 0) xs last) (sym (reverse-append way (package_at found 0 ∷ []))) (refl, subst (λ (k : ℕ). Leads g (package_at found k) (reverse way) last) at leads)
+    subst (λ (xs : List ℕ). IsWay g (package_at found 0) xs last) (sym (reverse-append way (package_at found 0 ∷ [])))
+    (refl, subst (λ (k : ℕ). Leads g (package_at found k) (reverse way) last) at leads)
 
 -- one more closure
-pub closures_more : (g : Links) (closures : List Closure) (x : Closure) (n : ℕ) → length closures ≡ n → ((p : ℕ) → p < n → IsClosed g p (get_or closures p nothing)) → IsClosed g n x → (p : ℕ) → p < n + 1 → IsClosed g p (get_or (closures ++ x ∷ []) p nothing)
+pub closures_more : (g : Links) (closures : List Closure) (x : Closure) (n : ℕ) → length closures ≡ n →
+    ((p : ℕ) → p < n → IsClosed g p (get_or closures p nothing)) → IsClosed g n x → (p : ℕ) → p < n + 1 → IsClosed g p (get_or (closures ++ x ∷ []) p nothing)
 closures_more g closures x n l each here p h =
     ⊎_elim
     (λ (b : p < n). subst (IsClosed g p) (sym (get_or_append_left closures (x ∷ []) nothing p (omega arith))) (each p b))

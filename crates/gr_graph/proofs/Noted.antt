@@ -8,7 +8,9 @@ use Rattle.std.proofs.lemmas.List.Elements.{Contains-push, Contains-push_cases, 
 use Rattle.gr_graph.specs.Imports.{Links, Imports, imports_of, NotesRow, HoldImporters}
 
 -- one more package of the row
-pub NotesRow-more : (old mid : Links) (row : List ℕ) (i importer : ℕ) → i < length row → get_or row i 0 < length mid → NotesRow old (take i row) importer mid → NotesRow old (take (i + 1) row) importer (set mid (get_or row i 0) (imports_of mid (get_or row i 0) ++ importer ∷ []))
+pub NotesRow-more : (old mid : Links) (row : List ℕ) (i importer : ℕ) → i < length row → get_or row i 0 < length mid →
+    NotesRow old (take i row) importer mid →
+    NotesRow old (take (i + 1) row) importer (set mid (get_or row i 0) (imports_of mid (get_or row i 0) ++ importer ∷ []))
 NotesRow-more old mid row i importer h within s =
     let n = get_or row i 0 in
     let more : take (i + 1) row ≡ take i row ++ n ∷ [] = take_more row i 0 h in
@@ -22,17 +24,21 @@ NotesRow-more old mid row i importer h within s =
             λ c. ⊎_elim
                 (λ (o : Contains (imports_of mid n) p).
                 let w = (s.each q p).0 (subst (λ (k : ℕ). Contains (imports_of mid k) p) (sym e) o) in
-                ⊎_elim (λ (a : Contains (imports_of old q) p). inl a) (λ (a : (p ≡ importer) × Contains (take i row) q). inr (a.0, Contains-append_left (take i row) (n ∷ []) q a.1)) w)
+                ⊎_elim (λ (a : Contains (imports_of old q) p). inl a)
+                (λ (a : (p ≡ importer) × Contains (take i row) q). inr (a.0, Contains-append_left (take i row) (n ∷ []) q a.1)) w)
                 (λ (same : importer ≡ p). inr (sym same, subst (Contains (take i row ++ n ∷ [])) (sym e) (Contains-push (take i row) n)))
                 (Contains-push_cases (imports_of mid n) importer p (subst (λ (xs : List ℕ). Contains xs p) at c)),
             λ w. subst (λ (xs : List ℕ). Contains xs p) (sym at) (⊎_elim
-                (λ (a : Contains (imports_of old q) p). Contains-append_left (imports_of mid n) (importer ∷ []) p (subst (λ (k : ℕ). Contains (imports_of mid k) p) e ((s.each q p).1 (inl a))))
-                (λ (a : (p ≡ importer) × Contains (take i row ++ n ∷ []) q). subst (Contains (imports_of mid n ++ importer ∷ [])) (sym a.0) (Contains-push (imports_of mid n) importer))
+                (λ (a : Contains (imports_of old q) p). Contains-append_left (imports_of mid n) (importer ∷ []) p
+                (subst (λ (k : ℕ). Contains (imports_of mid k) p) e ((s.each q p).1 (inl a))))
+                (λ (a : (p ≡ importer) × Contains (take i row ++ n ∷ []) q).
+                subst (Contains (imports_of mid n ++ importer ∷ [])) (sym a.0) (Contains-push (imports_of mid n) importer))
                 w),
           ))
           (λ (ne : q ≡ n → ⊥).
           let at : imports_of new q ≡ imports_of mid q = get_or-set_other mid n q (imports_of mid n ++ importer ∷ []) [] ne in (
-            λ c. ⊎_elim (λ (a : Contains (imports_of old q) p). inl a) (λ (a : (p ≡ importer) × Contains (take i row) q). inr (a.0, Contains-append_left (take i row) (n ∷ []) q a.1))
+            λ c. ⊎_elim (λ (a : Contains (imports_of old q) p). inl a)
+                (λ (a : (p ≡ importer) × Contains (take i row) q). inr (a.0, Contains-append_left (take i row) (n ∷ []) q a.1))
                 ((s.each q p).0 (subst (λ (xs : List ℕ). Contains xs p) at c)),
             λ w. subst (λ (xs : List ℕ). Contains xs p) (sym at) (⊎_elim
                 (λ (a : Contains (imports_of old q) p). (s.each q p).1 (inl a))

@@ -1,5 +1,6 @@
 -- Packages that reach no cycle, those first that reach the fewest: each comes behind what it imports.
-use Rattle.std.proofs.Common.{◌≡◌, ℕ, zero, suc, ◌<◌, ◌≤◌, ◌⊎◌, false, List, ◌∷◌, length, get_or, refl, sym, ap, subst, ◌∙◌, inl, inr, ⊎_elim, arith, Option, Some, None}
+use Rattle.std.proofs.Common.{◌≡◌, ℕ, zero, suc, ◌<◌, ◌≤◌, ◌⊎◌, false, List, ◌∷◌, length, get_or, refl, sym, ap, subst, ◌∙◌, inl, inr, ⊎_elim, arith}
+use Rattle.std.proofs.Common.{Option, Some, None}
 use Rattle.std.specs.Prelude.{nat_eq, slice_get}
 use Rattle.std.specs.Cmp.{nat_eq_equiv}
 use Rattle.std.specs.List.{Contains, IsDistinct}
@@ -10,7 +11,8 @@ use Rattle.std.proofs.lemmas.Option.{get_or_from_slice_get, slice_get-get_or, sl
 use Rattle.std.proofs.lemmas.List.{get_or_default}
 use Rattle.std.proofs.lemmas.List.Elements.{Contains-get_or, recursion_from_All}
 use Rattle.std.proofs.lemmas.List.Sorted.{Contains-permutation, IsPermutation-sym}
-use Rattle.std.proofs.lemmas.Map.Keys.{IsDistinct-from_apart, IsDistinct-IsPermutation, IsDistinct-cons, apart_from_distinct, below_from_sorted, sorted_from_strictly_increasing}
+use Rattle.std.proofs.lemmas.Map.Keys.{IsDistinct-from_apart, IsDistinct-IsPermutation, IsDistinct-cons, apart_from_distinct, below_from_sorted}
+use Rattle.std.proofs.lemmas.Map.Keys.{sorted_from_strictly_increasing}
 use Rattle.std.proofs.lemmas.Map.Made.{length-le_from_is_member, is_member-Decides}
 use Rattle.gr_graph.specs.Imports.{Links, AreLinked, Imports, Reaches, itself, through, IsOnCycle, FindsCycle, ReachesNoCycle, IsOrder}
 use Rattle.gr_graph.specs.Closures.{AreClosures, IsFree, HoldsFree, numbers_at, cycle_at}
@@ -38,27 +40,32 @@ no_cycle_free g closures linked closed p h acyclic q c =
 -- numbers in order differ
 pub distinct_rising : (xs : List ℕ) → IsStrictlyIncreasing xs → IsDistinct nat_eq xs
 distinct_rising xs up =
-    IsDistinct-from_apart nat_eq xs (λ i j d h l. ne_eqb (get_or xs i d) (get_or xs j d) (λ e. absurd (omega (arith, below_from_sorted xs i j d (sorted_from_strictly_increasing xs up) h l))))
+    IsDistinct-from_apart nat_eq xs (λ i j d h l. ne_eqb (get_or xs i d) (get_or xs j d)
+    (λ e. absurd (omega (arith, below_from_sorted xs i j d (sorted_from_strictly_increasing xs up) h l))))
 
 cons_cases : (x : ℕ) (xs : List ℕ) (q : ℕ) → Contains (x ∷ xs) q → (x ≡ q) ⊎ Contains xs q
 cons_cases x xs q (zero, h, e) = inl e
 cons_cases x xs q (suc k, h, e) = inr (k, omega arith, e)
 
 -- what a package imports reaches fewer than it
-fewer : (g : Links) (closures : List Closure) → AreLinked g → AreClosures g closures → (p q : ℕ) → p < length g → ReachesNoCycle g p → Imports g p q → length (numbers_at closures q) < length (numbers_at closures p)
+fewer : (g : Links) (closures : List Closure) → AreLinked g → AreClosures g closures → (p q : ℕ) → p < length g → ReachesNoCycle g p → Imports g p q →
+    length (numbers_at closures q) < length (numbers_at closures p)
 fewer g closures linked closed p q h acyclic i =
     let below = linked_below g p q linked i in
     let cp = numbers_at closures p in
     let cq = numbers_at closures q in
     let closed_p = closed.each p h in
     let closed_q = closed.each q below in
-    let apart : (y : ℕ) → Contains cq y → nat_eq p y ≡ false = λ y c. ne_eqb p y (λ e. acyclic p (itself h) (q, i, subst (Reaches g q) (sym e) ((closed_q.reached y).0 c))) in
-    let distinct = IsDistinct-cons nat_eq p cq (recursion_from_All (λ y. nat_eq p y ≡ false) cq (λ k d l. apart (get_or cq k d) (Contains-get_or cq k d l))) (distinct_rising cq closed_q.rising) in
+    let apart : (y : ℕ) → Contains cq y → nat_eq p y ≡ false = λ y c.
+    ne_eqb p y (λ e. acyclic p (itself h) (q, i, subst (Reaches g q) (sym e) ((closed_q.reached y).0 c))) in
+    let distinct = IsDistinct-cons nat_eq p cq (recursion_from_All (λ y. nat_eq p y ≡ false) cq (λ k d l. apart (get_or cq k d) (Contains-get_or cq k d l)))
+    (distinct_rising cq closed_q.rising) in
     let among : (x : ℕ) → Contains (p ∷ cq) x → Contains cp x = λ x c. ⊎_elim
     (λ (e : p ≡ x). subst (Contains cp) e ((closed_p.reached p).1 (itself h)))
     (λ (o : Contains cq x). (closed_p.reached x).1 (through i ((closed_q.reached x).0 o)))
     (cons_cases p cq x c) in
-    length-le_from_is_member nat_eq_equiv (p ∷ cq) cp distinct (λ x m. (is_member-Decides Decides-eqb cp x).1 (among x ((is_member-Decides Decides-eqb (p ∷ cq) x).0 m)))
+    length-le_from_is_member nat_eq_equiv (p ∷ cq) cp distinct
+    (λ x m. (is_member-Decides Decides-eqb cp x).1 (among x ((is_member-Decides Decides-eqb (p ∷ cq) x).0 m)))
 
 one_place : (xs : List ℕ) (i j p : ℕ) → IsDistinct nat_eq xs → slice_get xs i ≡ Some p → slice_get xs j ≡ Some p → i < j → ⊥
 one_place xs i j p d a b h =
@@ -72,7 +79,8 @@ same_place xs d i j p a b =
     (λ (h : j ≤ i). ⊎_elim (λ (k : j < i). absurd (one_place xs j i p d b a k)) (λ (k : i ≤ j). omega arith) (cases_lt j i))
     (cases_lt i j)
 
-pub order_is : (g : Links) (closures : List Closure) (list order : List ℕ) → HoldsFree closures (length closures) list → IsPermutation list order → IsNonDecreasingBy (λ n. length (numbers_at closures n)) order → AreLinked g → AreClosures g closures → IsOrder g order
+pub order_is : (g : Links) (closures : List Closure) (list order : List ℕ) → HoldsFree closures (length closures) list → IsPermutation list order →
+    IsNonDecreasingBy (λ n. length (numbers_at closures n)) order → AreLinked g → AreClosures g closures → IsOrder g order
 order_is g closures list order held moved sorted linked closed =
     let back = IsPermutation-sym list order moved in
     let is_free : (p : ℕ) → Contains order p → (p < length g) × ReachesNoCycle g p = λ p c.
@@ -96,8 +104,10 @@ order_is g closures list order held moved sorted linked closed =
                 (λ (b : c.0 < i). b)
                 (λ (b : i ≤ c.0).
                 let up : length (numbers_at closures (get_or order i 0)) ≤ length (numbers_at closures (get_or order c.0 0)) = sorted i c.0 0 b c.1 in
-                let up_p : length (numbers_at closures p) ≤ length (numbers_at closures (get_or order c.0 0)) = subst (λ (x : ℕ). length (numbers_at closures x) ≤ length (numbers_at closures (get_or order c.0 0))) p_is up in
-                let up_q : length (numbers_at closures p) ≤ length (numbers_at closures q) = subst (λ (x : ℕ). length (numbers_at closures p) ≤ length (numbers_at closures x)) q_is up_p in
+                let up_p : length (numbers_at closures p) ≤ length (numbers_at closures (get_or order c.0 0)) =
+                subst (λ (x : ℕ). length (numbers_at closures x) ≤ length (numbers_at closures (get_or order c.0 0))) p_is up in
+                let up_q : length (numbers_at closures p) ≤ length (numbers_at closures q) =
+                subst (λ (x : ℕ). length (numbers_at closures p) ≤ length (numbers_at closures x)) q_is up_p in
                 absurd (omega (arith, up_q, less)))
                 (cases_lt c.0 i),
             slice_get-get_or order c.0 q c.1 ∙ ap Some c.2,

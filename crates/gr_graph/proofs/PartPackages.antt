@@ -1,5 +1,6 @@
 -- The packages with some numbers are those of a workspace that has just their files.
-use Rattle.std.proofs.Common.{◌≡◌, ℕ, zero, suc, ◌+◌, ◌<◌, Bool, true, false, ◌&&◌, ◌||◌, List, [], ◌∷◌, length, map, filter, get_or, cond, Some, slice_get, refl, sym, ap, subst, ◌∙◌, arith, ◌==◌}
+use Rattle.std.proofs.Common.{◌≡◌, ℕ, zero, suc, ◌+◌, ◌<◌, Bool, true, false, ◌&&◌, ◌||◌, List, [], ◌∷◌, length, map, filter, get_or, cond, Some, slice_get}
+use Rattle.std.proofs.Common.{refl, sym, ap, subst, ◌∙◌, arith, ◌==◌}
 use Rattle.std.specs.Cmp.{tied_itself}
 use Rattle.std.specs.Cmp.Lexicographic.{pointwise, bytes_decides}
 use Rattle.std.specs.FinMap.{entries, contains_key-keys}
@@ -31,7 +32,8 @@ use Rattle.gr_graph.proofs.StayingPackages.{any_of}
 -- ---- the packages
 module _ (old : List Package) where
   -- each has a number
-  has_number : (ns : List ℕ) (ps : List Package) → AreNumbered old ns ps → (i : ℕ) (p : Package) → slice_get ps i ≡ Some p → (n : ℕ) × Contains ns n × (slice_get old n ≡ Some p)
+  has_number : (ns : List ℕ) (ps : List Package) → AreNumbered old ns ps → (i : ℕ) (p : Package) → slice_get ps i ≡ Some p → (n : ℕ) × Contains ns n ×
+      (slice_get old n ≡ Some p)
   has_number [] [] are i p at = absurd (none-some p at)
   has_number [] (q ∷ ps) are i p at = absurd are
   has_number (n ∷ ns) [] are i p at = absurd are
@@ -42,7 +44,8 @@ module _ (old : List Package) where
       (r.0, (suc r.1.0, omega arith, r.1.2), r.2)
 
   -- each number has its path
-  has_path : (ns : List ℕ) (ps : List Package) → AreNumbered old ns ps → (n : ℕ) (q : List ℕ) → Contains ns n → slice_get (paths_of old) n ≡ Some q → Contains (paths_of ps) q
+  has_path : (ns : List ℕ) (ps : List Package) → AreNumbered old ns ps → (n : ℕ) (q : List ℕ) → Contains ns n → slice_get (paths_of old) n ≡ Some q →
+      Contains (paths_of ps) q
   has_path [] ps are n q has at = absurd (omega (arith, has.1))
   has_path (m ∷ ns) [] are n q has at = absurd are
   has_path (m ∷ ns) (p ∷ ps) are n q (zero, within, is) at =
@@ -53,21 +56,26 @@ module _ (old : List Package) where
       (suc r.0, omega arith, r.2)
 
   -- place by place
-  at_place : (ns : List ℕ) (ps : List Package) → AreNumbered old ns ps → (k : ℕ) → k < length ns → slice_get (paths_of old) (get_or ns k 0) ≡ Some (get_or (paths_of ps) k [])
+  at_place : (ns : List ℕ) (ps : List Package) → AreNumbered old ns ps → (k : ℕ) → k < length ns →
+      slice_get (paths_of old) (get_or ns k 0) ≡ Some (get_or (paths_of ps) k [])
   at_place [] ps are k below = absurd (omega arith)
   at_place (n ∷ ns) [] are k below = absurd are
   at_place (n ∷ ns) (p ∷ ps) are zero below = path_at old n p are.0
   at_place (n ∷ ns) (p ∷ ps) are (suc k) below = at_place ns ps are.1 k (omega arith)
 
-  numbered_sorted : (ns : List ℕ) (ps : List Package) → IsStrictlySortedBy path_cmp (paths_of old) → IsStrictlyIncreasing ns → AreNumbered old ns ps → IsStrictlySortedBy path_cmp (paths_of ps)
+  numbered_sorted : (ns : List ℕ) (ps : List Package) → IsStrictlySortedBy path_cmp (paths_of old) → IsStrictlyIncreasing ns → AreNumbered old ns ps →
+      IsStrictlySortedBy path_cmp (paths_of ps)
   numbered_sorted ns ps sorted rising are = sorted_from_all_adjacent path_cmp_total (paths_of ps) [] (λ k below.
-      let size : length (paths_of ps) ≡ length ns = length-map ps (λ (p : Package). p.path.items) ∙ AllZip-long (λ number p. slice_get old number ≡ Some p) ns ps are in
+      let size : length (paths_of ps) ≡ length ns = length-map ps (λ (p : Package). p.path.items) ∙
+      AllZip-long (λ number p. slice_get old number ≡ Some p) ns ps are in
       let next : k + 1 < length ns = omega arith in
       let here = at_place ns ps are k (omega arith) in
       let there = at_place ns ps are (k + 1) next in
-      let less = Less-from_sorted path_cmp (paths_of old) (get_or ns k 0) (get_or ns (k + 1) 0) [] sorted (rising k next) (slice_get_within (paths_of old) (get_or ns (k + 1) 0) (get_or (paths_of ps) (k + 1) []) there) in
+      let less = Less-from_sorted path_cmp (paths_of old) (get_or ns k 0) (get_or ns (k + 1) 0) [] sorted (rising k next)
+      (slice_get_within (paths_of old) (get_or ns (k + 1) 0) (get_or (paths_of ps) (k + 1) []) there) in
       ap (λ x. path_cmp x (get_or (paths_of ps) (k + 1) [])) (sym (get_or_from_slice_get (paths_of old) (get_or ns k 0) (get_or (paths_of ps) k []) [] here))
-      ∙ ap (path_cmp (get_or (paths_of old) (get_or ns k 0) [])) (sym (get_or_from_slice_get (paths_of old) (get_or ns (k + 1) 0) (get_or (paths_of ps) (k + 1) []) [] there))
+      ∙ ap (path_cmp (get_or (paths_of old) (get_or ns k 0) []))
+      (sym (get_or_from_slice_get (paths_of old) (get_or ns (k + 1) 0) (get_or (paths_of ps) (k + 1) []) [] there))
       ∙ less)
 
 -- ---- whether a folder has a Go file
@@ -88,11 +96,14 @@ folder_found q [] = refl
 folder_found q (e ∷ es) =
     let names = filter is_go (map (λ (d : List ℕ × List ℕ). d.0) es) in
     let same = pointwise ◌==◌ (folder e.0) q in
-    elim (is_go e.0) as (λ b. list_any (eq_by_cmp path_cmp q) (map folder (cond b (e.0 ∷ names) names)) ≡ has_some (cond (b && same) (e ∷ files_in q es) (files_in q es))) [
-      | true ↦ elim same as (λ t. same ≡ t → (eq_by_cmp path_cmp q (folder e.0) || list_any (eq_by_cmp path_cmp q) (go_folders es)) ≡ has_some (cond t (e ∷ files_in q es) (files_in q es))) [
-        | true ↦ λ is. ap (λ b. b || list_any (eq_by_cmp path_cmp q) (go_folders es)) (tied ((bytes_decides (folder e.0) q).0 is))
-        | false ↦ λ is. ap (λ b. b || list_any (eq_by_cmp path_cmp q) (go_folders es)) (not_true _ (λ t. true≢false (sym ((bytes_decides (folder e.0) q).1 (sym (exact_names q (folder e.0) t))) ∙ is))) ∙ folder_found q es
-      ] refl
+    elim (is_go e.0) as (λ b. list_any (eq_by_cmp path_cmp q) (map folder (cond b (e.0 ∷ names) names)) ≡ has_some
+    (cond (b && same) (e ∷ files_in q es) (files_in q es))) [
+      | true ↦ elim same as (λ t. same ≡ t → (eq_by_cmp path_cmp q (folder e.0) || list_any (eq_by_cmp path_cmp q) (go_folders es)) ≡ has_some
+          (cond t (e ∷ files_in q es) (files_in q es))) [
+            | true ↦ λ is. ap (λ b. b || list_any (eq_by_cmp path_cmp q) (go_folders es)) (tied ((bytes_decides (folder e.0) q).0 is))
+            | false ↦ λ is. ap (λ b. b || list_any (eq_by_cmp path_cmp q) (go_folders es))
+                (not_true _ (λ t. true≢false (sym ((bytes_decides (folder e.0) q).1 (sym (exact_names q (folder e.0) t))) ∙ is))) ∙ folder_found q es
+          ] refl
       | false ↦ folder_found q es
     ]
   where
@@ -107,7 +118,8 @@ module _ (w part : Workspace) (numbers : List ℕ) (has : HasFilesOf w numbers p
       has.same path parts.0 (subst (IsNumbered w numbers) (sym ((bytes_decides (folder path) q).0 parts.1)) numbered))
 
   -- paths in order that are those of the packages with the numbers
-  module _ (paths : List (List ℕ)) (sorted : IsStrictlySortedBy path_cmp paths) (each : (q : List ℕ) → Contains paths q → IsNumbered w numbers q) (all : (q : List ℕ) → IsNumbered w numbers q → Contains paths q) where
+  module _ (paths : List (List ℕ)) (sorted : IsStrictlySortedBy path_cmp paths) (each : (q : List ℕ) → Contains paths q → IsNumbered w numbers q)
+      (all : (q : List ℕ) → IsNumbered w numbers q → Contains paths q) where
     abbrev among : List ℕ → List (List ℕ) → Bool
     among q ks = list_any (eq_by_cmp path_cmp q) ks
 
@@ -128,20 +140,28 @@ module _ (w part : Workspace) (numbers : List ℕ) (has : HasFilesOf w numbers p
     ] refl))
 
 -- ---- the graph of the part
-module _ (w part : Workspace) (numbers : List ℕ) (old packages : List Package) (has : HasFilesOf w numbers part) (are : AreNumbered old numbers packages) (paths : paths_of old ≡ package_paths w) where
+module _ (w part : Workspace) (numbers : List ℕ) (old packages : List Package) (has : HasFilesOf w numbers part) (are : AreNumbered old numbers packages)
+    (paths : paths_of old ≡ package_paths w) where
   numbered : (n : ℕ) (p : Package) → Contains numbers n → slice_get old n ≡ Some p → IsNumbered w numbers p.path.items
-  numbered n p among at = record { number = n; among = among; has_path = subst (λ (ks : List (List ℕ)). slice_get ks n ≡ Some p.path.items) paths (path_at old n p at) }
+  numbered n p among at = record {
+    number = n;
+    among = among;
+    has_path =
+        subst (λ (ks : List (List ℕ)). slice_get ks n ≡ Some p.path.items) paths (path_at old n p at);
+  }
 
   path_numbered : (q : List ℕ) → Contains (paths_of packages) q → IsNumbered w numbers q
   path_numbered q (i, within, is) =
-      let size : length (paths_of packages) ≡ length numbers = length-map packages (λ (p : Package). p.path.items) ∙ AllZip-long (λ number p. slice_get old number ≡ Some p) numbers packages are in
+      let size : length (paths_of packages) ≡ length numbers = length-map packages (λ (p : Package). p.path.items) ∙
+      AllZip-long (λ number p. slice_get old number ≡ Some p) numbers packages are in
       let below : i < length numbers = omega (arith, within) in
       let at = at_place old numbers packages are i below in
       let here : slice_get (paths_of packages) i ≡ Some q = slice_get_read (paths_of packages) (length (paths_of packages)) i q refl within (sym is) in
       record {
         number = get_or numbers i 0;
         among = Contains-get_or numbers i 0 below;
-        has_path = subst (λ (ks : List (List ℕ)). slice_get ks (get_or numbers i 0) ≡ Some q) paths (at ∙ ap Some (get_or_from_slice_get (paths_of packages) i q [] here));
+        has_path = subst (λ (ks : List (List ℕ)). slice_get ks (get_or numbers i 0) ≡ Some q) paths
+            (at ∙ ap Some (get_or_from_slice_get (paths_of packages) i q [] here));
       }
 
   pub numbered_paths : IsStrictlyIncreasing numbers → paths_of packages ≡ package_paths part
@@ -150,7 +170,8 @@ module _ (w part : Workspace) (numbers : List ℕ) (old packages : List Package)
       path_numbered
       (λ q is. has_path old numbers packages are is.number q is.among (subst (λ (ks : List (List ℕ)). slice_get ks is.number ≡ Some q) (sym paths) is.has_path))
 
-  pub numbered_files : ((i : ℕ) (p : Package) → slice_get old i ≡ Some p → HasFiles w p) → (i : ℕ) (p : Package) → slice_get packages i ≡ Some p → HasFiles part p
+  pub numbered_files : ((i : ℕ) (p : Package) → slice_get old i ≡ Some p → HasFiles w p) → (i : ℕ) (p : Package) → slice_get packages i ≡ Some p →
+      HasFiles part p
   numbered_files each i p at =
       let n = has_number old numbers packages are i p at in
       subst (λ es. AreParsed es p.trees.items p.faulty.items) (sym (same_package w part numbers has p.path.items (numbered n.0 p n.1 n.2))) (each n.0 p n.2)

@@ -27,7 +27,8 @@ first_and_second_are_a_cycle : IsCycleOf two_and_one 0 (0 ∷ 1 ∷ [])
 first_and_second_are_a_cycle = (refl, (first_imports_second, second_imports_first))
 
 -- of a/a.go, a/b.go, a/c.txt and b/a.go the Go files of a
-go_files_of_a : files_in (97 ∷ []) ((97 ∷ 47 ∷ 97 ∷ 46 ∷ 103 ∷ 111 ∷ [], []) ∷ (97 ∷ 47 ∷ 98 ∷ 46 ∷ 103 ∷ 111 ∷ [], []) ∷ (97 ∷ 47 ∷ 99 ∷ 46 ∷ 116 ∷ 120 ∷ 116 ∷ [], []) ∷ (98 ∷ 47 ∷ 97 ∷ 46 ∷ 103 ∷ 111 ∷ [], []) ∷ [])
+go_files_of_a : files_in (97 ∷ []) ((97 ∷ 47 ∷ 97 ∷ 46 ∷ 103 ∷ 111 ∷ [], []) ∷ (97 ∷ 47 ∷ 98 ∷ 46 ∷ 103 ∷ 111 ∷ [], []) ∷
+    (97 ∷ 47 ∷ 99 ∷ 46 ∷ 116 ∷ 120 ∷ 116 ∷ [], []) ∷ (98 ∷ 47 ∷ 97 ∷ 46 ∷ 103 ∷ 111 ∷ [], []) ∷ [])
     ≡ (97 ∷ 47 ∷ 97 ∷ 46 ∷ 103 ∷ 111 ∷ [], []) ∷ (97 ∷ 47 ∷ 98 ∷ 46 ∷ 103 ∷ 111 ∷ [], []) ∷ []
 go_files_of_a = refl
 

@@ -58,4 +58,5 @@ ReachesNoImportCycle w p = (q : List ℕ) → IsInClosure w p q → IsOnImportCy
 pub record IsPackageOrder (w : Workspace) (order : List ℕ) : Type 0 where
   pub each : HoldsPackages w (ReachesNoImportCycle w) order
   pub once : (i j : ℕ) (n : ℕ) → slice_get order i ≡ Some n → slice_get order j ≡ Some n → i ≡ j
-  pub behind : (i m n : ℕ) (p q : List ℕ) → slice_get order i ≡ Some m → slice_get (package_paths w) m ≡ Some p → slice_get (package_paths w) n ≡ Some q → PackageImports w p q → (j : ℕ) × (j < i) × (slice_get order j ≡ Some n)
+  pub behind : (i m n : ℕ) (p q : List ℕ) → slice_get order i ≡ Some m → slice_get (package_paths w) m ≡ Some p → slice_get (package_paths w) n ≡ Some q →
+      PackageImports w p q → (j : ℕ) × (j < i) × (slice_get order j ≡ Some n)

@@ -42,4 +42,5 @@ HoldsMarked marks count list = HoldsBelow (IsMarked marks) count list
 
 -- a way to what was found at a place, from the first
 abbrev pub IsWayTo : List Found → ℕ → List ℕ → Type 0
-IsWayTo found place way = (g : Links) (marks : List Bool) (last : ℕ) → IsSearch g found marks → Imports g (package_at found place) last → IsWay g (package_at found 0) way last
+IsWayTo found place way = (g : Links) (marks : List Bool) (last : ℕ) → IsSearch g found marks → Imports g (package_at found place) last →
+    IsWay g (package_at found 0) way last

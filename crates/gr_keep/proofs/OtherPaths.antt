@@ -28,7 +28,8 @@ module _ (w : Workspace) (numbers : List ℕ) (n : ℕ) where
     | inr ge ↦ (let last : n ≡ i = omega arith in inl (subst (Contains numbers) last has))
   ]
 
-  pub next_other : (p : List ℕ) → slice_get (package_paths w) n ≡ Some p → (old new : List (List ℕ)) → ((q : List ℕ) → (Contains old q ⊎ (p ≡ q)) → Contains new q)
+  pub next_other : (p : List ℕ) → slice_get (package_paths w) n ≡ Some p → (old new : List (List ℕ)) →
+      ((q : List ℕ) → (Contains old q ⊎ (p ≡ q)) → Contains new q)
       → HoldsOthers w numbers n old → HoldsOthers w numbers (n + 1) new
   next_other p at_n old new more holds i q lt at = elim (cases_lt i n) [
     | inl below ↦ elim (holds i q below at) [ inl c ↦ inl c | inr c ↦ inr (more q (inl c)) ]
@@ -45,7 +46,8 @@ module _ (w : Workspace) (p : List ℕ) (numbers : List ℕ) (files : Workspace)
   module _ (holds : HoldsPackages w (IsInClosure w p) numbers) (paths : List (List ℕ)) (others : HoldsOthers w numbers (length (package_paths w)) paths) where
     has_text : (path text : List ℕ) → is_go path ≡ true → (Contains paths (folder path) → ⊥) → get w path ≡ Some text → get files path ≡ Some text
     has_text path text go apart got =
-        let of : is_of_package (folder path) path ≡ true = ap (λ b. b && pointwise ◌==◌ (folder path) (folder path)) go ∙ (bytes_decides (folder path) (folder path)).1 refl in
+        let of : is_of_package (folder path) path ≡ true = ap (λ b. b && pointwise ◌==◌ (folder path) (folder path)) go ∙
+        (bytes_decides (folder path) (folder path)).1 refl in
         let own = passed (λ d. is_of_package (folder path) d.0) (entries w) (path, text) of (entry_of w path text got) in
         let n = number w (folder path) (has_file w (folder path) (path, text) own) in
         elim (others n.0 (folder path) (slice_get_within (package_paths w) n.0 (folder path) n.1) n.1) [

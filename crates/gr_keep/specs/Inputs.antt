@@ -20,7 +20,8 @@ IsPartOf v w = (e : List ℕ × List ℕ) → HasText v e → HasText w e
 
 -- files were added; they and those before are files of one workspace
 abbrev pub Adds : List (List ℕ × List ℕ) → (old new : Workspace) → Type 0
-Adds files old new = (w : Workspace) → IsPartOf old w → ((e : List ℕ × List ℕ) → Contains files e → HasText w e) → (e : List ℕ × List ℕ) → HasText new e ↔ (HasText old e ⊎ Contains files e)
+Adds files old new = (w : Workspace) → IsPartOf old w → ((e : List ℕ × List ℕ) → Contains files e → HasText w e) → (e : List ℕ × List ℕ) →
+    HasText new e ↔ (HasText old e ⊎ Contains files e)
 
 -- a file of one of some packages, by their numbers
 pub record IsFileOf (w : Workspace) (numbers : List ℕ) (file : List ℕ × List ℕ) : Type 0 where

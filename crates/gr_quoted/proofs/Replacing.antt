@@ -1,5 +1,7 @@
 -- Where one string literal stands in the place of another, the pieces before it stay.
-use Rattle.std.proofs.Common.{ℕ, zero, suc, ◌≡◌, ◌⊎◌, ◌+◌, ◌-◌, ◌<◌, ◌≤◌, Bool, true, false, cond, eqb, ltb, Option, Some, None, List, [], ◌∷◌, ◌++◌, length, get_or, take, drop, refl, sym, ap, ◌∙◌, subst, arith, inl, inr, ⊎_elim, append_assoc, append-nil, length-append, length-drop, length-take-le, get_or-take, take-append-drop, ltb-true}
+use Rattle.std.proofs.Common.{ℕ, zero, suc, ◌≡◌, ◌⊎◌, ◌+◌, ◌-◌, ◌<◌, ◌≤◌, Bool, true, false, cond, eqb, ltb, Option, Some, None, List, [], ◌∷◌, ◌++◌}
+use Rattle.std.proofs.Common.{length, get_or, take, drop, refl, sym, ap, ◌∙◌, subst, arith, inl, inr, ⊎_elim, append_assoc, append-nil, length-append}
+use Rattle.std.proofs.Common.{length-drop, length-take-le, get_or-take, take-append-drop, ltb-true}
 use Rattle.std.specs.Prelude.{slice_index, nat_eq, IfSome}
 use Rattle.std.specs.List.{list_all, starts_with}
 use Rattle.std.specs.Char.{encode_utf8, is_digit}

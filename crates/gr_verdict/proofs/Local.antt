@@ -14,7 +14,9 @@ use Rattle.gr_order.proofs.OwnPaths.{entry_cmp, files_sorted}
 use Rattle.gr_stages.specs.Stages.{IsOuterFault}
 use Rattle.gr_declared.specs.Package.{Package, Interface}
 use Rattle.gr_verdict.specs.declared.fault.FileFault.{FileFault}
-use Rattle.gr_verdict.specs.Verdicts.{BuildsOn, Verdict, Verdicts, IsStateOf, is_missing, is_on_cycle, is_faulty, is_good, AreStates, IsSeenAs, seen, unseen, IsPackageIn, IsUnreadFault, IsInnerFault, IsReadFault, IsFaultBy, HasInterface, IsVerdictBy, IsVerdict, follows, AreVerdictsBelow}
+use Rattle.gr_verdict.specs.Verdicts.{BuildsOn, Verdict, Verdicts, IsStateOf, is_missing, is_on_cycle, is_faulty, is_good, AreStates, IsSeenAs, seen}
+use Rattle.gr_verdict.specs.Verdicts.{unseen, IsPackageIn, IsUnreadFault, IsInnerFault, IsReadFault, IsFaultBy, HasInterface, IsVerdictBy, IsVerdict}
+use Rattle.gr_verdict.specs.Verdicts.{follows, AreVerdictsBelow}
 use Rattle.gr_verdict.specs.declared.finding.Finding.{Finding}
 use Rattle.gr_verdict.specs.declared.known.KnownVerdict.{KnownVerdict}
 use Rattle.gr_verdict.specs.FaultLists.{AreListed, ListsPackageFaults}
@@ -34,7 +36,8 @@ pub same_back : (w x : Workspace) (p : List ℕ) → HasSameClosure w x p → Ha
 same_back w x p same e = ((same e).1, (same e).0)
 
 -- a package of the closure, with a file of it, is one of the other's, with that file
-carried : (w x : Workspace) (p : List ℕ) → HasSameClosure w x p → (q : List ℕ) (e : List ℕ × List ℕ) → IsInClosure w p q → Contains (package_files w q) e → IsInClosure x p q × Contains (package_files x q) e
+carried : (w x : Workspace) (p : List ℕ) → HasSameClosure w x p → (q : List ℕ) (e : List ℕ × List ℕ) → IsInClosure w p q → Contains (package_files w q) e →
+    IsInClosure x p q × Contains (package_files x q) e
 carried w x p same q e closed has =
     let there = (same e).0 (record { path = q; in_closure = closed; of_package = has }) in
     let is : there.path ≡ q = sym (in_folder x there.path e there.of_package) ∙ in_folder w q e has in
@@ -64,7 +67,8 @@ imports_there w x p same q r closed i = record {
 on_there : (w x : Workspace) (p : List ℕ) → HasSameClosure w x p → (q r : List ℕ) → IsInClosure w p q → IsInClosure w q r → IsInClosure x q r
 on_there w x p same q _ closed (itself has) = itself (to_package x p q (closed_there w x p same q closed))
 on_there w x p same q r closed (through {q = m} i rest) =
-    through (imports_there w x p same q m closed i) (on_there w x p same m r (in_closure_then w p q m closed (through i (itself (from_package w m r rest)))) rest)
+    through (imports_there w x p same q m closed i) (on_there w x p same m r (in_closure_then w p q m closed (through i (itself (from_package w m r rest))))
+    rest)
 
 pub same_within : (w x : Workspace) (p : List ℕ) → HasSameClosure w x p → (q : List ℕ) → IsInClosure w p q → HasSameClosure w x q
 same_within w x p same q closed e = (
@@ -166,7 +170,8 @@ module _ (w x : Workspace) (p : List ℕ) (same : HasSameClosure w x p) (own : C
 pub own_there : (w x : Workspace) (p : List ℕ) → HasSameClosure w x p → Contains (package_paths w) p → Contains (package_paths x) p
 own_there w x p same own = to_package x p p (closed_there w x p same p (itself own))
 
-by_there : (w x : Workspace) (p : List ℕ) → HasSameClosure w x p → Contains (package_paths w) p → (known : Verdicts) (v : Verdict) → IsVerdictBy w known p v → IsVerdictBy x known p v
+by_there : (w x : Workspace) (p : List ℕ) → HasSameClosure w x p → Contains (package_paths w) p → (known : Verdicts) (v : Verdict) →
+    IsVerdictBy w known p v → IsVerdictBy x known p v
 by_there w x p same own known v h = record {
   has_faults = (
     λ e. let f = h.has_faults.0 e in (f.0, fault_there w x p same own known f.0 f.1),
@@ -188,7 +193,8 @@ local_below w x p known same right = λ q on.
     let here = builds_there x w p (same_back w x p same) q on in
     local_verdict w x q (known q) (to_package w p q here.imported) (same_within w x p same q here.imported) (right q here)
 
-listed_there : (w x : Workspace) (p : List ℕ) (known : Verdicts) (list : List FileFault) → Contains (package_paths w) p → HasSameClosure w x p → AreListed (IsFaultBy w known p) list → AreListed (IsFaultBy x known p) list
+listed_there : (w x : Workspace) (p : List ℕ) (known : Verdicts) (list : List FileFault) → Contains (package_paths w) p → HasSameClosure w x p →
+    AreListed (IsFaultBy w known p) list → AreListed (IsFaultBy x known p) list
 listed_there w x p known list own same h = record {
   in_order = h.in_order;
   each = λ f. (
@@ -197,10 +203,17 @@ listed_there w x p known list own same h = record {
   );
 }
 
-pub local_list : (w x : Workspace) (p : List ℕ) (list : List FileFault) → Contains (package_paths w) p → HasSameClosure w x p → ListsPackageFaults w p list → ListsPackageFaults x p list
-local_list w x p list own same h = record { known = h.known; right = local_below w x p h.known same h.right; listed = listed_there w x p h.known list own same h.listed }
+pub local_list : (w x : Workspace) (p : List ℕ) (list : List FileFault) → Contains (package_paths w) p → HasSameClosure w x p →
+    ListsPackageFaults w p list → ListsPackageFaults x p list
+local_list w x p list own same h = record {
+  known = h.known;
+  right = local_below w x p h.known same h.right;
+  listed =
+      listed_there w x p h.known list own same h.listed;
+}
 
-pub locally_checked : (w x : Workspace) (p : List ℕ) (known : Verdicts) (c : Package) → Contains (package_paths w) p → HasSameClosure w x p → AreVerdictsBelow w p known → IsPackageIn w known p c →
+pub locally_checked : (w x : Workspace) (p : List ℕ) (known : Verdicts) (c : Package) → Contains (package_paths w) p → HasSameClosure w x p →
+    AreVerdictsBelow w p known → IsPackageIn w known p c →
     AreVerdictsBelow x p known × IsPackageIn x known p c
 locally_checked w x p known c own same right h = (local_below w x p known same right, package_there w x p same own known c h)
 
@@ -211,11 +224,13 @@ local_finding w x p f own same h = record {
   finding = record {
     has_path = h.finding.has_path;
     listed = listed_there w x p h.known f.faults.items own same h.finding.listed;
-    members = λ e. (let u = h.finding.members e in record { checked = u.checked; is_package = package_there w x p same own h.known u.checked u.is_package; are_uses = u.are_uses });
+    members = λ e. (let u = h.finding.members e in record
+        { checked = u.checked; is_package = package_there w x p same own h.known u.checked u.is_package; are_uses = u.are_uses });
   };
 }
 
-pub told_there : (w x : Workspace) (p : List ℕ) (one : KnownVerdict) → Contains (package_paths w) p → HasSameClosure w x p → TellsVerdict w p one → TellsVerdict x p one
+pub told_there : (w x : Workspace) (p : List ℕ) (one : KnownVerdict) → Contains (package_paths w) p → HasSameClosure w x p → TellsVerdict w p one →
+    TellsVerdict x p one
 told_there w x p one own same told = record {
   right = local_verdict w x p (known_by one.interfaces p) own same told.right;
   whole = told.whole;

@@ -17,7 +17,8 @@ use Rattle.gr_verdict.proofs.Knowing.{known_as, known_next, verdict_as}
 
 -- lists, one item further
 
-pub before_or_last : {X : Type 0} (xs : List X) (y : X) (m : ℕ) (x : X) → slice_get (xs ++ y ∷ []) m ≡ Some x → (slice_get xs m ≡ Some x) ⊎ ((m ≡ length xs) × (y ≡ x))
+pub before_or_last : {X : Type 0} (xs : List X) (y : X) (m : ℕ) (x : X) → slice_get (xs ++ y ∷ []) m ≡ Some x → (slice_get xs m ≡ Some x) ⊎
+    ((m ≡ length xs) × (y ≡ x))
 before_or_last [] y zero x e = inr (refl, same_Some y x e)
 before_or_last [] y (suc m) x e = absurd (none-some x e)
 before_or_last (z ∷ zs) y zero x e = inl e
@@ -31,9 +32,11 @@ still_there xs y m x e = get_before xs y m (slice_get_within xs m x e) ∙ e
 
 -- nothing yet
 
-pub none_gathered : (w : Workspace) (all : Gathered) → all.findings.items ≡ [] → ((q : List ℕ) → name_in all.interfaces q ≡ None) → ((q : List ℕ) → interface_in all.interfaces q ≡ no_interface q) → AreGathered w 0 all
+pub none_gathered : (w : Workspace) (all : Gathered) → all.findings.items ≡ [] → ((q : List ℕ) → name_in all.interfaces q ≡ None) →
+    ((q : List ℕ) → interface_in all.interfaces q ≡ no_interface q) → AreGathered w 0 all
 none_gathered w all e names interfaces =
-    let none : (n : ℕ) (f : Finding) → slice_get all.findings.items n ≡ Some (Some f) → ⊥ = λ n f is. none-some (Some f) (subst (λ l. slice_get l n ≡ Some (Some f)) e is) in
+    let none : (n : ℕ) (f : Finding) → slice_get all.findings.items n ≡ Some (Some f) → ⊥ = λ n f is.
+    none-some (Some f) (subst (λ l. slice_get l n ≡ Some (Some f)) e is) in
     record {
       size = ap length e;
       verdicts = record {
@@ -70,7 +73,8 @@ module _ (w : Workspace) (n : ℕ) (p : List ℕ) (at : slice_get (package_paths
   still o m g = (g.0, still_there fs o m (Some g.0) g.1)
 
   -- and that they are right
-  each_next : (o : Option Finding) → new.findings.items ≡ fs ++ o ∷ [] → ((f : Finding) → o ≡ Some f → IsFindingOf w p f) → (m : ℕ) (q : List ℕ) (f : Finding) → slice_get (package_paths w) m ≡ Some q → slice_get new.findings.items m ≡ Some (Some f) →
+  each_next : (o : Option Finding) → new.findings.items ≡ fs ++ o ∷ [] → ((f : Finding) → o ≡ Some f → IsFindingOf w p f) →
+      (m : ℕ) (q : List ℕ) (f : Finding) → slice_get (package_paths w) m ≡ Some q → slice_get new.findings.items m ≡ Some (Some f) →
       IsFindingOf w q f
   each_next o e own m q f at_m is = elim (before_or_last fs o m (Some f) (subst (λ l. slice_get l m ≡ Some (Some f)) e is)) [
     | inl before ↦ h.each m q f at_m before
@@ -85,7 +89,8 @@ module _ (w : Workspace) (n : ℕ) (p : List ℕ) (at : slice_get (package_paths
       record {
         size = sized None e;
         verdicts = subst (λ l. AreKnown w (IsGathered l) new.interfaces) (sym e) (subst (AreKnown w (IsGathered gs)) (sym same)
-            (known_as w (IsGathered fs) (IsGathered gs) old.interfaces (λ m c. elim (there_or_here None m c) [ inl before ↦ before | inr last ↦ absurd (none-some last.1.0 last.1.1) ]) (still None) h.verdicts));
+            (known_as w (IsGathered fs) (IsGathered gs) old.interfaces
+            (λ m c. elim (there_or_here None m c) [ inl before ↦ before | inr last ↦ absurd (none-some last.1.0 last.1.1) ]) (still None) h.verdicts));
         each = each_next None e (λ f is. absurd (none-some f is));
       }
 

@@ -25,7 +25,8 @@ nothing_told known e w = record { size = ap length e; verdicts = nothing_known k
 
 -- one package further
 
-module _ (w : Workspace) (n : ℕ) (old new : Known) (found : Option KnownVerdict) (e : new.verdicts.items ≡ old.verdicts.items ++ found ∷ []) (h : AreKnownNext w n old) where
+module _ (w : Workspace) (n : ℕ) (old new : Known) (found : Option KnownVerdict) (e : new.verdicts.items ≡ old.verdicts.items ++ found ∷ [])
+    (h : AreKnownNext w n old) where
   told_then : OfPackage w n (λ p. MayTell w p found) → KnowsVerdicts w new
   told_then tells m p one at is =
       let items = old.verdicts.items in
@@ -35,7 +36,8 @@ module _ (w : Workspace) (n : ℕ) (old new : Known) (found : Option KnownVerdic
         | inr past ↦ (
             let within : m < length (items ++ found ∷ []) = slice_get_within (items ++ found ∷ []) m (Some one) told in
             let here : m ≡ length items = omega (arith, length-append items (found ∷ [])) in
-            let last : found ≡ Some one = same_Some found (Some one) (sym (get_last items found) ∙ subst (λ k. slice_get (items ++ found ∷ []) k ≡ Some (Some one)) here told) in
+            let last : found ≡ Some one = same_Some found (Some one)
+            (sym (get_last items found) ∙ subst (λ k. slice_get (items ++ found ∷ []) k ≡ Some (Some one)) here told) in
             tells p (subst (λ k. slice_get (package_paths w) k ≡ Some p) (here ∙ h.size) at) one last)
       ]
 
@@ -44,7 +46,8 @@ module _ (w : Workspace) (n : ℕ) (old new : Known) (found : Option KnownVerdic
 
 -- a verdict that all tell, told alone
 
-pub told_alone : (w : Workspace) (p : List ℕ) (all : Interfaces) (one : KnownVerdict) → name_in one.interfaces p ≡ name_in all p → interface_in one.interfaces p ≡ interface_in all p → AreWhole all → IsVerdict w p (known_by all p) →
+pub told_alone : (w : Workspace) (p : List ℕ) (all : Interfaces) (one : KnownVerdict) → name_in one.interfaces p ≡ name_in all p →
+    interface_in one.interfaces p ≡ interface_in all p → AreWhole all → IsVerdict w p (known_by all p) →
     IsFindingOf w p one.finding → TellsVerdict w p one
 told_alone w p all one name interface whole right finding = record {
   right = verdict_as w p all one.interfaces name interface right;

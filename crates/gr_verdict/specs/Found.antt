@@ -58,7 +58,8 @@ MayTell w p found = (one : KnownVerdict) → found ≡ Some one → TellsVerdict
 
 -- what is known is right: it is of the package of its number
 abbrev pub KnowsVerdicts : Workspace → Known → Type 0
-KnowsVerdicts w known = (n : ℕ) (p : List ℕ) (one : KnownVerdict) → slice_get (package_paths w) n ≡ Some p → slice_get known.verdicts.items n ≡ Some (Some one) → TellsVerdict w p one
+KnowsVerdicts w known = (n : ℕ) (p : List ℕ) (one : KnownVerdict) → slice_get (package_paths w) n ≡ Some p →
+    slice_get known.verdicts.items n ≡ Some (Some one) → TellsVerdict w p one
 
 -- and it is of the first packages, as many as are told
 pub record AreKnownNext (w : Workspace) (count : ℕ) (known : Known) : Type 0 where
@@ -69,7 +70,8 @@ pub record AreKnownNext (w : Workspace) (count : ℕ) (known : Known) : Type 0 w
 pub record AreFindings (w : Workspace) (found : Findings) : Type 0 where
   pub size : length found.packages.items ≡ length (package_paths w)
   pub right : AreVerdicts w (known_by found.interfaces)
-  pub each : (n : ℕ) (p : List ℕ) (f : Finding) → slice_get (package_paths w) n ≡ Some p → slice_get found.packages.items n ≡ Some f → IsFinding w (known_by found.interfaces) p f
+  pub each : (n : ℕ) (p : List ℕ) (f : Finding) → slice_get (package_paths w) n ≡ Some p → slice_get found.packages.items n ≡ Some f →
+      IsFinding w (known_by found.interfaces) p f
   pub whole : AreWhole found.interfaces
 
 -- what is found in p, by the verdicts on the packages that it builds on; they and that on p are known where these interfaces are

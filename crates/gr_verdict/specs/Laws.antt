@@ -37,13 +37,16 @@ AreLocalVerdicts = (w x : Workspace) (p : List ℕ) (v : Verdict) → Contains (
 
 -- and the same fault list
 abbrev pub AreLocalLists : Type 0
-AreLocalLists = (w x : Workspace) (p : List ℕ) (list : List FileFault) → Contains (package_paths w) p → HasSameClosure w x p → ListsPackageFaults w p list → ListsPackageFaults x p list
+AreLocalLists = (w x : Workspace) (p : List ℕ) (list : List FileFault) → Contains (package_paths w) p → HasSameClosure w x p → ListsPackageFaults w p list →
+    ListsPackageFaults x p list
 
 -- and is checked as the same
 abbrev pub AreLocallyChecked : Type 0
-AreLocallyChecked = (w x : Workspace) (p : List ℕ) (known : Verdicts) (c : Package) → Contains (package_paths w) p → HasSameClosure w x p → AreVerdictsBelow w p known → IsPackageIn w known p c →
+AreLocallyChecked = (w x : Workspace) (p : List ℕ) (known : Verdicts) (c : Package) → Contains (package_paths w) p → HasSameClosure w x p →
+    AreVerdictsBelow w p known → IsPackageIn w known p c →
     AreVerdictsBelow x p known × IsPackageIn x known p c
 
 -- and what is found in it is the same, so that what is known of it there is known of it here
 abbrev pub AreLocallyKnown : Type 0
-AreLocallyKnown = (w x : Workspace) (p : List ℕ) (one : KnownVerdict) → Contains (package_paths w) p → HasSameClosure w x p → TellsVerdict w p one → TellsVerdict x p one
+AreLocallyKnown = (w x : Workspace) (p : List ℕ) (one : KnownVerdict) → Contains (package_paths w) p → HasSameClosure w x p → TellsVerdict w p one →
+    TellsVerdict x p one

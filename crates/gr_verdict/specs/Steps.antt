@@ -40,7 +40,8 @@ pub record AreSizes (w : Workspace) (count : ℕ) (sizes : List ℕ) : Type 0 wh
 pub record IsBuildOrder (w : Workspace) (order : List ℕ) : Type 0 where
   pub each : (n : ℕ) → Contains order n ↔ (n < length (package_paths w))
   pub once : (i j n : ℕ) → slice_get order i ≡ Some n → slice_get order j ≡ Some n → i ≡ j
-  pub behind : (i n m : ℕ) (p q : List ℕ) → slice_get order i ≡ Some n → slice_get (package_paths w) n ≡ Some p → slice_get (package_paths w) m ≡ Some q → BuildsOn w p q →
+  pub behind : (i n m : ℕ) (p q : List ℕ) → slice_get order i ≡ Some n → slice_get (package_paths w) n ≡ Some p → slice_get (package_paths w) m ≡ Some q →
+      BuildsOn w p q →
       (j : ℕ) × (j < i) × (slice_get order j ≡ Some m)
 
 -- What a package sees

@@ -10,7 +10,8 @@ returns-then-is_marked c = λ path at.
     let w = c.args.graph.now in
     let importers = c.importers-importer-items.result.now in
     let k = c.loop-importer.importer-index in (
-      (λ _. imported_by w (IsMarked c.args.marks.now) path importers (c.importers-importer-items.ensures path at) k c.loop-importer-test.true (c.is_marked.ensures.0 c.if-is_marked.true)),
+      (λ _. imported_by w (IsMarked c.args.marks.now) path importers (c.importers-importer-items.ensures path at) k c.loop-importer-test.true
+          (c.is_marked.ensures.0 c.if-is_marked.true)),
       (λ _. refl),
     )
 

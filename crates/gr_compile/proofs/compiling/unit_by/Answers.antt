@@ -44,4 +44,5 @@ returns-in_ok-faults c =
     let some = λ (e : c.in_ok-faults.faults.items ≡ []). vec_holds faults c.is_empty.result c.is_empty.ensures c.if-is_empty.false (sym same ∙ e) in
     let listed = subst (λ l. AreListed (IsFaultBy w (known_by c.args.all.now) p) l) (sym same) is.finding.listed in
     IfOk-weaker c.faulty_unit.result (HoldsFaults c.in_ok-faults.faults.items) (IsUnitOf w p)
-    (λ unit holds. subst (IsUnitValue w p) (sym (holds p)) (record { known = known_by c.args.all.now; right = is.below; listed = listed }, some)) c.faulty_unit.ensures
+    (λ unit holds. subst (IsUnitValue w p) (sym (holds p)) (record { known = known_by c.args.all.now; right = is.below; listed = listed }, some))
+    c.faulty_unit.ensures

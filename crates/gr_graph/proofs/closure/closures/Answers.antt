@@ -11,4 +11,8 @@ loop-number-preserved c =
     let x = c.in_ok-closure_of.field-0 in
     let l = length_push closures x in
     let e = c.in_ok-push.ensures.items in
-    rw e (record { size = omega (arith, inv.size); each = closures_more c.args.imports.now closures x c.loop-number.number inv.size inv.each c.in_ok-closure_of.ensures })
+    rw e (record {
+      size = omega (arith, inv.size);
+      each =
+          closures_more c.args.imports.now closures x c.loop-number.number inv.size inv.each c.in_ok-closure_of.ensures;
+    })

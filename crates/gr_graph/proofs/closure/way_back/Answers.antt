@@ -12,6 +12,7 @@ returns-in-None c =
     let g = c.args.imports.now in
     let found = c.args.search.now.found.items in
     let first = number_at found 0 c.index.result.now c.requires.search.begun c.index.ensures in
-    let none = subst (λ (xs : List Found). (i : ℕ) → i < length xs → Imports g (package_at xs i) c.index.result.now.number → ⊥) c.deref.ensures.value c.in-None.ensures in
+    let none = subst (λ (xs : List Found). (i : ℕ) → i < length xs → Imports g (package_at xs i) c.index.result.now.number → ⊥) c.deref.ensures.value
+    c.in-None.ensures in
     no_cycle g found c.args.search.now.marks.items c.requires.linked c.requires.search c.requires.followed
     (subst (λ (n : ℕ). (i : ℕ) → i < length found → Imports g (package_at found i) n → ⊥) first none)

@@ -8,7 +8,8 @@ use Rattle.gr_graph.proofs.closure.way_to.Given as goal
 abbrev pub invariant-loop-place : goal.invariant-loop-place
 invariant-loop-place l = record {
   within : l.place < length l.found;
-  leads : (g : Links) (marks : List Bool) (last : ℕ) → IsSearch g l.found marks → Imports g (package_at l.found l.fn.place) last → Leads g (package_at l.found l.place) (reverse l.way.items) last;
+  leads : (g : Links) (marks : List Bool) (last : ℕ) → IsSearch g l.found marks → Imports g (package_at l.found l.fn.place) last →
+      Leads g (package_at l.found l.place) (reverse l.way.items) last;
 }
 
 abbrev pub decreases-loop-place : goal.decreases-loop-place

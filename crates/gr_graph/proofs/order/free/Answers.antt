@@ -12,6 +12,7 @@ loop-number-preserved c =
     let list = c.loop-number.list.items in
     let n = c.loop-number.number in
     elim c.if-is_free.branch [
-      | then-is_free+in_ok-push w ↦ rw (w.list-is, w.in_ok-push.ensures.items) (HoldsBelow-yes P list n c.loop-number.invariant (c.is_free.ensures.0 w.if-is_free.true))
+      | then-is_free+in_ok-push w ↦ rw (w.list-is, w.in_ok-push.ensures.items)
+          (HoldsBelow-yes P list n c.loop-number.invariant (c.is_free.ensures.0 w.if-is_free.true))
       | else-is_free w ↦ rw w.list-is (HoldsBelow-no P list n c.loop-number.invariant (λ free. false≢true (sym w.if-is_free.false ∙ c.is_free.ensures.1 free)))
     ]

@@ -7,5 +7,7 @@ use Rattle.gr_graph.proofs.order.order.Goals as goal
 
 pub returns : goal.returns
 returns c = λ g linked closed.
-    let sorted = IsNonDecreasingBy-from_sort_by_key (λ n. length (numbers_at c.args.closures.now n)) _ c.in_ok-sort_by_key.ensures.sorted (λ a r q k. search rules) in
-    rw c.from_numbers.ensures (order_is g c.args.closures.now c.in_ok-order.order.items _ c.in_ok-order.ensures c.in_ok-sort_by_key.ensures.permutation sorted linked closed)
+    let sorted = IsNonDecreasingBy-from_sort_by_key (λ n. length (numbers_at c.args.closures.now n)) _ c.in_ok-sort_by_key.ensures.sorted
+    (λ a r q k. search rules) in
+    rw c.from_numbers.ensures (order_is g c.args.closures.now c.in_ok-order.order.items _ c.in_ok-order.ensures c.in_ok-sort_by_key.ensures.permutation
+    sorted linked closed)

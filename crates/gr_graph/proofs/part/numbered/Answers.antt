@@ -20,10 +20,12 @@ loop-number-preserved c =
     let n = get_or numbers k 0 in
     let copy : Package = c.in_ok-clone.field-0 in
     let R : ℕ → Package → Type 0 = λ number p. slice_get all number ≡ Some p in
-    let here : R n copy = slice_get-get_or all n c.index-packages-number.result (c.requires k 0 c.loop-number-test.true) ∙ ap Some (sym c.index-packages-number.is) ∙ ap Some (sym c.in_ok-clone.ensures.cases) in
+    let here : R n copy = slice_get-get_or all n c.index-packages-number.result (c.requires k 0 c.loop-number-test.true) ∙
+    ap Some (sym c.index-packages-number.is) ∙ ap Some (sym c.in_ok-clone.ensures.cases) in
     rw c.in_ok-push.ensures.items (subst (λ ns. AllZip R ns (part ++ copy ∷ [])) (sym (take_more numbers k 0 c.loop-number-test.true))
     (zip_push R (take k numbers) part n copy c.loop-number.invariant here))
 
 pub returns : goal.returns
 returns c =
-    subst (λ ns. AreNumbered c.args.packages.now ns c.loop-number.part.items) (take_all c.loop-number.number-index c.args.numbers.now (omega (arith, c.loop-number-test.false))) c.loop-number.invariant
+    subst (λ ns. AreNumbered c.args.packages.now ns c.loop-number.part.items)
+    (take_all c.loop-number.number-index c.args.numbers.now (omega (arith, c.loop-number-test.false))) c.loop-number.invariant

@@ -16,4 +16,5 @@ returns c = λ p at.
     let faulty = subst (λ fs. Adds (map faulty_file fs) mid c.add_faulty.new.files) c.deref-2.ensures.value c.in_ok-add_faulty.ensures in
     let files = parsed_files c.package-package.ensures.files in
     subst (λ (q : List ℕ). Adds (package_files w q) c.args.files.now c.add_faulty.new.files) path
-    (adds_both (map tree_file own.trees.items) (map faulty_file own.faulty.items) (package_files w own.path.items) c.args.files.now mid c.add_faulty.new.files files trees faulty)
+    (adds_both (map tree_file own.trees.items) (map faulty_file own.faulty.items) (package_files w own.path.items) c.args.files.now mid
+    c.add_faulty.new.files files trees faulty)

@@ -16,7 +16,8 @@ changed-requires c =
     let w = c.args.graph.now in
     let p = get_or (package_paths w) c.args.number [] in
     let at = slice_get-get_or (package_paths w) c.args.number [] c.requires in
-    closure_differs w p c.closure.result.now c.in_ok-files.files (c.in_ok-files.ensures p at) (c.closure.ensures.closure p at) (names c.in_ok-others.others.keys) c.in_ok-others.ensures
+    closure_differs w p c.closure.result.now c.in_ok-files.files (c.in_ok-files.ensures p at) (c.closure.ensures.closure p at)
+    (names c.in_ok-others.others.keys) c.in_ok-others.ensures
 
 pub returns : goal.returns
 returns c =

@@ -24,13 +24,15 @@ loop-number-preserved c =
           let own = b.package.result.now in
           let new = b.insert.new.self.keys in
           let key = λ (q : List ℕ) (same : own.path.items ≡ q). b.as_slice.ensures.value ∙ same in
-          let more = λ (q : List ℕ) (h : Contains (names old) q ⊎ (own.path.items ≡ q)). subst (λ (ks : List (Bor (List ℕ))). Contains (names ks) q) (sym b.in_ok-insert.ensures.keys)
+          let more = λ (q : List ℕ) (h : Contains (names old) q ⊎ (own.path.items ≡ q)).
+          subst (λ (ks : List (Bor (List ℕ))). Contains (names ks) q) (sym b.in_ok-insert.ensures.keys)
           (inserted old b.as_slice.result q (elim h [ inl c ↦ inl c | inr same ↦ inr (key q same) ])) in
           subst (λ (s : BTreeSet (Bor (List ℕ))). HoldsOthers w ns (n + 1) (names s.keys)) (sym b.paths-is)
           (next_other w ns n own.path.items b.package.ensures.path (names old) (names new) more c.loop-number.invariant))
       | else-is_err b ↦ (
           let has = (among ns n c.binary_search.result true c.requires c.binary_search.ensures.position (sym b.if-is_err.ensures.negation)).0 refl in
-          subst (λ (s : BTreeSet (Bor (List ℕ))). HoldsOthers w ns (n + 1) (names s.keys)) (sym b.paths-is) (next_among w ns n (names old) has c.loop-number.invariant))
+          subst (λ (s : BTreeSet (Bor (List ℕ))). HoldsOthers w ns (n + 1) (names s.keys)) (sym b.paths-is)
+          (next_among w ns n (names old) has c.loop-number.invariant))
     ]
 
 pub returns : goal.returns

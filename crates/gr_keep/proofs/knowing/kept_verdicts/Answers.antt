@@ -7,7 +7,8 @@ loop-number-init c = nothing_told c.new-carried.result c.new-carried.ensures.not
 
 pub loop-number-preserved : goal.loop-number-preserved
 loop-number-preserved c =
-    told_next c.args.after.now c.loop-number.number c.loop-number.carried c.push.new.self c.in_ok-verdict.verdict c.in_ok-push.ensures c.loop-number.invariant c.in_ok-verdict.ensures
+    told_next c.args.after.now c.loop-number.number c.loop-number.carried c.push.new.self c.in_ok-verdict.verdict c.in_ok-push.ensures
+    c.loop-number.invariant c.in_ok-verdict.ensures
 
 pub returns : goal.returns
 returns c = c.loop-number.invariant.verdicts

@@ -10,7 +10,8 @@ loop-number-init c = nothing_told c.new-known.result c.new-known.ensures.nothing
 
 pub loop-number-preserved : goal.loop-number-preserved
 loop-number-preserved c =
-    told_next c.args.files.now c.loop-number.number c.loop-number.known c.push.new.self c.in_ok-verdict.verdict c.in_ok-push.ensures c.loop-number.invariant c.in_ok-verdict.ensures
+    told_next c.args.files.now c.loop-number.number c.loop-number.known c.push.new.self c.in_ok-verdict.verdict c.in_ok-push.ensures c.loop-number.invariant
+    c.in_ok-verdict.ensures
 
 pub returns : goal.returns
 returns c =

@@ -21,7 +21,8 @@ returns-in_ok-clone-in-Some-2 c =
     (subst (λ o. IsGlobalFound (bound_of c.args.bound.now) (option_map meaning_of o)) c.in-Some-2.is c.in_ok-global_meaning.ensures)
     (record {
       source = source_of c.in-Some.source.now;
-      in_file = file_at c.args.unit.files.now c.place-place.result.file ((package_of c.args.unit).layout.place c.args.d).file c.in-Some.source.now (ap (λ q. q.file) c.place-place.ensures)
+      in_file = file_at c.args.unit.files.now c.place-place.result.file ((package_of c.args.unit).layout.place c.args.d).file c.in-Some.source.now
+          (ap (λ q. q.file) c.place-place.ensures)
           c.in-Some.ensures.lookup.3.0 c.in-Some.ensures.lookup.1;
       has_path = c.in_ok-clone-in-Some-2.ensures.cases ∙ c.path.ensures;
       has_offset = c.offset.ensures ∙ ap (λ q. offset_of (source_of c.in-Some.source.now) q.index) c.place-place.ensures;

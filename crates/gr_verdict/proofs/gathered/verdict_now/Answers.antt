@@ -10,7 +10,8 @@ use Rattle.gr_verdict.proofs.gathered.verdict_now.Goals as goal
 
 pub returns-in-Some : goal.returns-in-Some
 returns-in-Some c = λ p at one is.
-    c.requires.before c.args.number p one at (c.in-Some.ensures ∙ ap (λ (v : KnownVerdict). Some (Some v)) (sym c.in_ok-verdict.ensures.cases ∙ same_Some c.in_ok-verdict.verdict one is))
+    c.requires.before c.args.number p one at (c.in-Some.ensures ∙
+    ap (λ (v : KnownVerdict). Some (Some v)) (sym c.in_ok-verdict.ensures.cases ∙ same_Some c.in_ok-verdict.verdict one is))
 
 pub returns-in_default-finding : goal.returns-in_default-finding
 returns-in_default-finding c = λ p at one is. absurd (none-some one is)

@@ -8,6 +8,10 @@ returns-then-reaches c = λ p at q there. (λ t. absurd (false≢true t), λ on.
 
 pub returns : goal.returns
 returns c = λ p at q there. (
-  λ t. record { imported = (c.reaches-2.ensures p at q there).0 t; not_back = λ back. false≢true (sym c.if-reaches.false ∙ (c.reaches.ensures q there p at).1 back) },
+  λ t. record {
+    imported = (c.reaches-2.ensures p at q there).0 t;
+    not_back = λ back.
+        false≢true (sym c.if-reaches.false ∙ (c.reaches.ensures q there p at).1 back);
+  },
   λ on. (c.reaches-2.ensures p at q there).1 on.imported,
 )

@@ -13,7 +13,8 @@ pub numbered-requires : goal.numbered-requires
 numbered-requires c = λ k d below.
     let old = c.deref-2.result.now in
     let w = c.args.whole.now in
-    let paths : paths_of old ≡ package_paths w = ap paths_of c.deref-2.ensures.value ∙ ap (λ parts. paths_of parts.packages.items) c.deref.ensures ∙ c.whole.invariant.paths ∙ ap package_paths c.whole.view_is in
+    let paths : paths_of old ≡ package_paths w = ap paths_of c.deref-2.ensures.value ∙ ap (λ parts. paths_of parts.packages.items) c.deref.ensures ∙
+    c.whole.invariant.paths ∙ ap package_paths c.whole.view_is in
     let size : length (paths_of old) ≡ length old = length-map old (λ (p : Package). p.path.items) in
     let same : length (paths_of old) ≡ length (package_paths w) = ap length paths in
     let within : get_or c.args.numbers.now k d < length (package_paths w) = c.requires.numbers k d below in
@@ -26,9 +27,11 @@ made-requires c =
     let part = c.args.files in
     let numbers = c.args.numbers.now in
     let packages = c.in_ok-packages.packages.items in
-    let paths : paths_of old ≡ package_paths w = ap paths_of c.deref-2.ensures.value ∙ ap (λ parts. paths_of parts.packages.items) c.deref.ensures ∙ c.whole.invariant.paths ∙ ap package_paths c.whole.view_is in
+    let paths : paths_of old ≡ package_paths w = ap paths_of c.deref-2.ensures.value ∙ ap (λ parts. paths_of parts.packages.items) c.deref.ensures ∙
+    c.whole.invariant.paths ∙ ap package_paths c.whole.view_is in
     let each : (i : ℕ) (p : Package) → slice_get old i ≡ Some p → HasFiles w p = λ i p at. subst (λ (x : Workspace). HasFiles x p) c.whole.view_is
-    (c.whole.invariant.each i p (subst (λ (ps : List Package). slice_get ps i ≡ Some p) (c.deref-2.ensures.value ∙ ap (λ parts. parts.packages.items) c.deref.ensures) at)) in
+    (c.whole.invariant.each i p (subst (λ (ps : List Package). slice_get ps i ≡ Some p)
+    (c.deref-2.ensures.value ∙ ap (λ parts. parts.packages.items) c.deref.ensures) at)) in
     record {
       paths = numbered_paths w part numbers old packages c.requires.files c.in_ok-packages.ensures paths c.requires.rising;
       files = numbered_files w part numbers old packages c.requires.files c.in_ok-packages.ensures paths each;

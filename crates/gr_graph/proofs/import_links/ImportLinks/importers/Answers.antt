@@ -10,4 +10,5 @@ returns c =
     let noted = c.self.inside.importers.items in
     let number = c.args.number in
     let row = c.imports_of.ensures ∙ ap (λ (r : Links). imports_of r number) c.deref.ensures.value in
-    subst (λ (h : Links). AreImporters h number c.imports_of.result.now) c.self.view_is (subst (AreImporters g number) (sym row) (importers_of_all g noted c.self.invariant.importers number))
+    subst (λ (h : Links). AreImporters h number c.imports_of.result.now) c.self.view_is
+    (subst (AreImporters g number) (sym row) (importers_of_all g noted c.self.invariant.importers number))
