@@ -1,16 +1,14 @@
 -- What a package exports, from its parts.
-use Rattle.std.proofs.Common.{ℕ, ◌≡◌, ◌+◌, ◌<◌, ◌≤◌, inl, inr, List, length, get_or, ap, sym, subst, refl, ◌∙◌, arith, MatchOption}
-use Rattle.std.specs.Prelude.{Option, Some, None, option_map, slice_get, map}
+use Rattle.std.proofs.Common.{ℕ, ◌≡◌, ◌+◌, ◌<◌, ◌≤◌, inl, inr, List, length, ap, sym, subst, refl, ◌∙◌, arith, MatchOption}
+use Rattle.std.specs.Prelude.{Option, Some, None, option_map, slice_get}
 use Rattle.std.specs.Global.{Vec}
 use Rattle.std.specs.BTreeMap.{BTreeMap, Updates}
 use Rattle.std.specs.Cmp.Lexicographic.{slice_cmp}
 use Rattle.std.specs.Ordering.{nat_cmp}
 use Rattle.std.proofs.lemmas.Bool.{cases_lt, cases_order}
-use Rattle.std.proofs.lemmas.Option.{slice_get_past, slice_get_within, same_Some, none-some}
-use Rattle.gr_imports.proofs.PathParts.{source_at}
+use Rattle.std.proofs.lemmas.Option.{slice_get_past, slice_get_within}
 use Rattle.gr_scope.specs.declared.model.Block.{Block}
 use Rattle.gr_scope.specs.declared.model.Block.TheVariants as block
-use Rattle.gr_tree.specs.SourceFile.{FileParts, source_of, offset_of}
 use Rattle.gr_scope.specs.Bindings.{Layout, Names, Counts, IsPackageLevel, Declares, IsBoundTo, block_of}
 use Rattle.gr_scope.specs.Site.{Site, found_site, sites_layout}
 use Rattle.gr_expr.specs.Types.{Meaning}
@@ -26,7 +24,7 @@ use Rattle.gr_meanings.specs.DefinitionsView.{HaveDefinitions}
 use Rattle.gr_declared.specs.Bound.{IsMeantBy}
 use Rattle.gr_declared.specs.Bound as bound
 use Rattle.gr_declared.specs.InterfacesView.{export_of, exports_at}
-use Rattle.gr_types.specs.Interfaces.{IsSeen, IsPlacedAt, IsExportBy, IsExport, IsExported, IsGlobalMeaning, variable, type_name, function, IsGlobalFound}
+use Rattle.gr_types.specs.Interfaces.{IsSeen, IsExportBy, IsExport, IsExported, IsGlobalMeaning, variable, type_name, function, IsGlobalFound}
 use Rattle.gr_types.specs.Interfaces.{IsExportFound, IsExportBelow, AreExportsBelow}
 use Rattle.gr_meanings.proofs.BoundLists.{slice_get_some, none_past}
 use Rattle.gr_declared.proofs.ByteKeys.{cases_bytes, others_stay}
@@ -66,16 +64,13 @@ not_seen p d not = λ e by. not by.seen
 pub means_nothing : (p : Package) (d : ℕ) → ((b : Bound) → IsMeantBy p d b → ⊥) → IsExportFound p d None
 means_nothing p d none = λ e by. none (Stands e.meaning) by.means
 
-pub without_place : (p : Package) (d : ℕ) → slice_get p.files (p.layout.place d).file ≡ None → IsExportFound p d None
-without_place p d none = λ e by. none-some by.placed.source (sym none ∙ by.placed.in_file)
-
 pub no_export : (p : Package) (d : ℕ) (b : Bound) → ((b c : Bound) → IsMeantBy p d b → IsMeantBy p d c → b ≡ c) → IsMeantBy p d b → IsGlobalFound b None →
     IsExportFound p d None
 no_export p d b one means none = λ e by. none e.meaning (global_by p d by.seen.package_level e.meaning by.means) (one b (Stands e.meaning) means by.means)
 
 pub is_export : (p : Package) (d : ℕ) (b : Bound) (e : plain.Export) → IsSeen p d → IsMeantBy p d b → b ≡ Stands e.meaning →
-    IsPlacedAt p d e.path e.offset → IsExportBy p d e
-is_export p d b e seen means is placed = record { seen = seen; means = subst (IsMeantBy p d) is means; placed = placed }
+    IsExportBy p d e
+is_export p d b e seen means is = record { seen = seen; means = subst (IsMeantBy p d) is means }
 
 -- one more declaration
 
@@ -133,11 +128,6 @@ pub all_exports : (p : Package) (sites : List Site) (found : List ℕ → Option
     AreExportsBelow p (length sites) found → (name : List ℕ) → IsExported p name (found name)
 all_exports p sites found is h name = exported_by p sites name (found name) is (h name)
 
--- the file in which a declaration stands
-pub file_at : (files : List FileParts) (i j : ℕ) (x : FileParts) → i ≡ j → i < length files → x ≡ get_or files i x →
-    slice_get (map source_of files) j ≡ Some (source_of x)
-file_at files i j x e lt is = ap (slice_get (map source_of files)) (sym e) ∙ source_at files i x lt is
-
 -- all type definitions
 
 pub all_definitions : (p : Package) (found : List Definition) → HaveDefinitions p found → (rank : ℕ) (d : PlacedType) →
@@ -165,24 +155,12 @@ one_declaration l names d e at_d at_e h k same = elim (cases_order d e) [
   ]
 ]
 
-same_export : (e f : plain.Export) → e.meaning ≡ f.meaning → e.path ≡ f.path → e.offset ≡ f.offset → e ≡ f
-same_export e f meaning path offset =
-    ap (λ m. record { meaning = m; path = e.path; offset = e.offset }) meaning ∙ ap (λ v. record { meaning = f.meaning; path = v; offset = e.offset }) path
-    ∙ ap (λ n. record { meaning = f.meaning; path = f.path; offset = n }) offset
-
-one_place : (p : Package) (d : ℕ) (e f : plain.Export) → IsPlacedAt p d e.path e.offset → IsPlacedAt p d f.path f.offset → (e.path ≡ f.path) ×
-    (e.offset ≡ f.offset)
-one_place p d e f h k =
-    let same : h.source ≡ k.source = same_Some h.source k.source (sym h.in_file ∙ k.in_file) in
-    (h.has_path ∙ ap (λ s. s.path) same ∙ sym k.has_path, h.has_offset ∙ ap (λ s. offset_of s (p.layout.place d).index) same ∙ sym k.has_offset)
-
 one_export_by : (p : Package) → ((d : ℕ) (b c : Bound) → IsMeantBy p d b → IsMeantBy p d c → b ≡ c) → (d : ℕ) (e f : plain.Export) → IsExportBy p d e →
     IsExportBy p d f → e ≡ f
 one_export_by p one d e f h k =
     let stands : Stands e.meaning ≡ Stands f.meaning = one d (Stands e.meaning) (Stands f.meaning) h.means k.means in
     let meaning : e.meaning ≡ f.meaning = cc in
-    let place = one_place p d e f h.placed k.placed in
-    same_export e f meaning place.0 place.1
+    ap (λ m. record { meaning = m }) meaning
 
 pub one_export : (p : Package) → ((d : ℕ) (b c : Bound) → IsMeantBy p d b → IsMeantBy p d c → b ≡ c) → (name : List ℕ) (e f : plain.Export) →
     IsExport p name e → IsExport p name f → e ≡ f
