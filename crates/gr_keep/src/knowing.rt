@@ -90,6 +90,7 @@ pub fn learned(
         let verdict = learned_verdict(files, number, own.get(), inputs, others)?;
         known.push(verdict)?;
     }
+    known.share_earlier(own.get())?;
     SharedKnown::new(alloc, known)
 }
 
@@ -121,7 +122,7 @@ fn kept_verdict(
     Ok(Some(verdict))
 }
 
-/// What is known of packages, as far as their closures keep their texts.
+/// What is known of packages, as far as their closures keep their texts. What was known before is kept with it.
 fn kept_verdicts(
     alloc: Global,
     before: &Graph,
@@ -139,6 +140,7 @@ fn kept_verdicts(
         let verdict = kept_verdict(before, known, after, number, marks)?;
         carried.push(verdict)?;
     }
+    carried.keep_earlier(alloc, before, known)?;
     Ok(carried)
 }
 

@@ -6,3 +6,4 @@ pub mod Closures
 pub mod Laws
 pub mod Found
 pub mod Steps
+pub mod Earlier

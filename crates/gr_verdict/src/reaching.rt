@@ -10,7 +10,7 @@ ghost use Rattle.gr_verdict.specs.Verdicts.{BuildsOn};
 use gr_graph::Graph;
 
 /// Whether a number is among numbers that rise.
-fn is_among(numbers: &[usize], number: usize) -> bool
+pub fn is_among(numbers: &[usize], number: usize) -> bool
     requires { IsStrictlyIncreasing numbers.now }
     ensures { IsTrue result ↔ Contains numbers.now number }
 {
@@ -18,7 +18,7 @@ fn is_among(numbers: &[usize], number: usize) -> bool
 }
 
 /// Whether a package imports another, directly or indirectly, or is it.
-pub(crate) fn reaches(graph: &Graph, from: usize, to: usize) -> bool
+pub fn reaches(graph: &Graph, from: usize, to: usize) -> bool
     requires { from < length (package_paths graph.now) }
     ensures { OfPackage graph.now from (λ p. OfPackage graph.now to (λ q. IsTrue result ↔ IsInClosure graph.now p q)) }
 {
