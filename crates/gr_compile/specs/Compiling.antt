@@ -7,7 +7,8 @@ use Rattle.gr_expr.specs.declared.found.MemberUse.{MemberUse}
 use Rattle.gr_declared.specs.declared.interfaces.Interfaces.{Interfaces}
 use Rattle.gr_verdict.specs.declared.fault.FileFault.{FileFault}
 use Rattle.gr_verdict.specs.FaultLists.{AreListed}
-use Rattle.gr_verdict.specs.Found.{known_by, AreWhole, AreUsesOf, KnowsVerdicts}
+use Rattle.gr_verdict.specs.Found.{KnowsVerdicts}
+use Rattle.gr_verdict.specs.Told.{known_by, AreWhole, AreUsesOf}
 use Rattle.gr_verdict.specs.Verdicts.{IsFaultBy, IsVerdict, AreVerdictsBelow}
 use Rattle.gr_object.specs.declared.packages.Packages.{Packages}
 use Rattle.gr_object.specs.ObjectView.{HaveNames}

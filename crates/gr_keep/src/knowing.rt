@@ -2,7 +2,8 @@
 ghost use Rattle.std.specs.Prelude.{◌<◌, IfOk, length};
 ghost use Rattle.gr_text.specs.Packages.{package_paths};
 ghost use Rattle.gr_graph.specs.Graphs.{OfPackage};
-ghost use Rattle.gr_verdict.specs.Found.{KnowsVerdicts, MayTell};
+ghost use Rattle.gr_verdict.specs.Found.{KnowsVerdicts};
+ghost use Rattle.gr_verdict.specs.Told.{MayTell};
 ghost use Rattle.gr_keep.specs.Changes.{AreMarks};
 ghost use Rattle.gr_keep.specs.Knowing.{HasClosuresOf, TellsThere};
 

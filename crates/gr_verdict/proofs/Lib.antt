@@ -29,6 +29,6 @@ pub mod Taking
 pub mod Telling
 pub mod Gathering
 pub mod SameImports
-pub mod Steady
+pub mod Keeping
 pub mod Listing
 pub mod Examples

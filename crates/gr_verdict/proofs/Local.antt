@@ -15,7 +15,7 @@ use Rattle.gr_verdict.specs.Verdicts.{follows, AreVerdictsBelow}
 use Rattle.gr_verdict.specs.declared.finding.Finding.{Finding}
 use Rattle.gr_verdict.specs.declared.known.KnownVerdict.{KnownVerdict}
 use Rattle.gr_verdict.specs.FaultLists.{ListsPackageFaults}
-use Rattle.gr_verdict.specs.Found.{known_by, IsFindingOf, TellsVerdict}
+use Rattle.gr_verdict.specs.Told.{known_by, IsFindingOf, TellsVerdict}
 use Rattle.gr_verdict.specs.Closures.{HasSameClosure}
 use Rattle.gr_verdict.proofs.Closed.{from_package, to_package, in_closure_then}
 use Rattle.gr_verdict.proofs.Members.{one_sorted}

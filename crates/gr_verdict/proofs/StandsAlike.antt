@@ -15,7 +15,7 @@ use Rattle.gr_verdict.specs.Verdicts.{BuildsOn, Verdict, Verdicts, IsStateOf, is
 use Rattle.gr_verdict.specs.Verdicts.{unseen, IsPackageIn, IsUnreadFault, IsInnerFault, IsReadFault, IsFaultBy, HasInterface, IsVerdictBy}
 use Rattle.gr_verdict.specs.declared.finding.Finding.{Finding}
 use Rattle.gr_verdict.specs.FaultLists.{AreListed}
-use Rattle.gr_verdict.specs.Found.{IsFinding}
+use Rattle.gr_verdict.specs.Told.{IsFinding}
 use Rattle.gr_verdict.proofs.Alike.{first_as}
 
 -- p has the same files in both workspaces, and what it imports is in x to it what it is in w

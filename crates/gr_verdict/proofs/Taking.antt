@@ -11,7 +11,7 @@ use Rattle.gr_declared.proofs.Paths.{get_before, get_last}
 use Rattle.gr_verdict.specs.declared.finding.Finding.{Finding}
 use Rattle.gr_verdict.specs.declared.gathered.Gathered.{Gathered}
 use Rattle.gr_verdict.specs.declared.known.KnownVerdict.{KnownVerdict}
-use Rattle.gr_verdict.specs.Found.{known_by, AreWhole, IsFindingOf, TellsVerdict}
+use Rattle.gr_verdict.specs.Told.{known_by, AreWhole, IsFindingOf, TellsVerdict}
 use Rattle.gr_verdict.specs.Steps.{AreKnown, AreGathered, IsGathered}
 use Rattle.gr_verdict.specs.Verdicts.{IsVerdict}
 use Rattle.gr_verdict.proofs.Knowing.{known_as, known_next, verdict_as}

@@ -12,7 +12,8 @@ use Rattle.gr_declared.specs.declared.interfaces.Interfaces.{Interfaces}
 use Rattle.gr_declared.proofs.Paths.{get_before, get_last}
 use Rattle.gr_verdict.specs.declared.known.Known.{Known}
 use Rattle.gr_verdict.specs.declared.known.KnownVerdict.{KnownVerdict}
-use Rattle.gr_verdict.specs.Found.{known_by, AreWhole, IsFindingOf, TellsVerdict, MayTell, KnowsVerdicts, AreKnownNext}
+use Rattle.gr_verdict.specs.Found.{KnowsVerdicts, AreKnownNext}
+use Rattle.gr_verdict.specs.Told.{known_by, AreWhole, IsFindingOf, TellsVerdict, MayTell}
 use Rattle.gr_verdict.specs.Verdicts.{IsVerdict}
 use Rattle.gr_verdict.proofs.Knowing.{verdict_as}
 

@@ -8,24 +8,18 @@ use Rattle.gr_tree.specs.SourceFile.{FileParts}
 use Rattle.gr_graph.specs.Packages.{PackageImports}
 use Rattle.gr_graph.specs.Search.{IsMarked}
 use Rattle.gr_declared.specs.declared.interfaces.Interfaces.{Interfaces}
-use Rattle.gr_alike.specs.Alike.{IsKnownAlike}
+use Rattle.gr_alike.specs.Known.{IsKnownAlike}
 use Rattle.gr_verdict.specs.declared.earlier.EarlierParts.{EarlierParts}
 use Rattle.gr_verdict.specs.declared.gathered.Gathered.{Gathered}
 use Rattle.gr_verdict.specs.declared.known.KnownVerdict.{KnownVerdict}
 use Rattle.gr_verdict.specs.Verdicts.{BuildsOn}
-use Rattle.gr_verdict.specs.Found.{TellsVerdict}
+use Rattle.gr_verdict.specs.Told.{TellsVerdict}
 use Rattle.gr_verdict.specs.Steps.{IsGathered}
 
 -- what is known of packages, by their numbers, is right
 abbrev pub AreTold : Workspace → List (Option KnownVerdict) → Type 0
 AreTold w verdicts = (n : ℕ) (p : List ℕ) (one : KnownVerdict) → slice_get (package_paths w) n ≡ Some p → slice_get verdicts n ≡ Some (Some one) →
     TellsVerdict w p one
-
--- what was known of the package of that number, if anything was, and that it was right
-abbrev pub TellsThen : EarlierParts → ℕ → Option (Bor KnownVerdict) → Type 0
-TellsThen earlier n found = MatchOption found ((one : KnownVerdict) → slice_get earlier.verdicts.items n ≡ Some (Some one) → ⊥)
-    (λ one. (slice_get earlier.verdicts.items n ≡ Some (Some one.now)) ×
-    ((p : List ℕ) → slice_get (package_paths earlier.graph) n ≡ Some p → TellsVerdict earlier.graph p one.now))
 
 -- both workspaces have the same packages, and these import the same
 pub record HaveSameImports (v w : Workspace) : Type 0 where

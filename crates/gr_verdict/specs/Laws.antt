@@ -8,7 +8,7 @@ use Rattle.gr_verdict.specs.Verdicts.{BuildsOn, Verdict, Verdicts, IsPackageIn, 
 use Rattle.gr_verdict.specs.FaultLists.{ListsPackageFaults, ListsFaults}
 use Rattle.gr_verdict.specs.Closures.{HasSameClosure}
 use Rattle.gr_verdict.specs.Earlier.{HaveSameImports}
-use Rattle.gr_verdict.specs.Found.{TellsVerdict}
+use Rattle.gr_verdict.specs.Told.{TellsVerdict}
 use Rattle.gr_verdict.specs.declared.known.KnownVerdict.{KnownVerdict}
 
 -- both say the same: whether there are faults, and where there are none, what others see

@@ -1,9 +1,9 @@
 //! What was known of the packages of a workspace before it changed.
-ghost use Rattle.std.specs.Prelude.{◌≡◌, IfOk};
-ghost use Rattle.gr_graph.specs.Graphs.{OfPackage};
-ghost use Rattle.gr_verdict.specs.Earlier.{AreTold, TellsThen};
+ghost use Rattle.std.specs.Prelude.{◌≡◌, IfOk, MatchOption, Some, slice_get};
+ghost use Rattle.gr_verdict.specs.declared.known.KnownVerdict.{KnownVerdict as Verdict};
+ghost use Rattle.gr_verdict.specs.Earlier.{AreTold};
 
-use crate::known::KnownVerdict;
+use crate::known::{KnownVerdict, verdict_at};
 use gr_graph::Graph;
 use std::alloc::{AllocError, Global};
 use std::marker::Model;
@@ -66,12 +66,10 @@ impl Earlier {
 
     /// What was known of the package of a number, if anything was.
     pub(crate) fn verdict(&self, number: usize) -> Option<&KnownVerdict>
-        ensures { TellsThen self.now number result }
+        ensures verdict { MatchOption result ((one : Verdict) → slice_get self.now.verdicts.items number ≡ Some (Some one) → ⊥) (λ one. slice_get self.now.verdicts.items number ≡ Some (Some one.now)) }
+        ensures told { AreTold self.now.graph self.now.verdicts.items }
     {
-        match self.parts.verdicts.get(number) {
-            Some(verdict) => verdict.as_ref(),
-            None => None,
-        }
+        verdict_at(&self.parts.verdicts, number)
     }
 }
 

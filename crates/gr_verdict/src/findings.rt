@@ -4,7 +4,8 @@ ghost use Rattle.gr_text.specs.Packages.{package_paths};
 ghost use Rattle.gr_graph.specs.Graphs.{OfPackage};
 ghost use Rattle.gr_declared.specs.InterfacesView.{name_in};
 ghost use Rattle.gr_verdict.specs.Earlier.{AreSteady, HaveSameImports};
-ghost use Rattle.gr_verdict.specs.Found.{AreWhole, IsFound, KnowsVerdicts};
+ghost use Rattle.gr_verdict.specs.Found.{IsFound, KnowsVerdicts};
+ghost use Rattle.gr_verdict.specs.Told.{AreWhole};
 ghost use Rattle.gr_verdict.specs.Steps.{AreAllGathered, AreGathered, IsBuildOrder, IsGathered, MayAdd, Learns, LearnsOf, MayLearn, somes};
 
 use crate::earlier::Earlier;
@@ -147,10 +148,12 @@ fn keep_or_judge(
     if all.knows(number) {
         return Ok(());
     }
-    match standing(earlier, graph, number, steady) {
-        Some(verdict) => all.keep(alloc, number, &graph.package(number).path, verdict),
-        None => judge_unknown(alloc, graph, number, all),
+    if let Some(verdict) = standing(earlier, graph, number, steady) {
+        all.keep(alloc, number, &graph.package(number).path, verdict)?;
+        return Ok(());
     }
+    judge_unknown(alloc, graph, number, all)?;
+    Ok(())
 }
 
 /// Judges each package of which nothing is known, behind all that it builds on, where what was known of it before does not stand.

@@ -5,7 +5,8 @@ ghost use Rattle.gr_text.specs.Packages.{package_paths};
 ghost use Rattle.gr_graph.specs.Graphs.{OfPackage};
 ghost use Rattle.gr_declared.specs.InterfacesView.{Shares, interface_in, name_in, no_interface};
 ghost use Rattle.gr_verdict.specs.declared.finding.Finding.{Finding as Found};
-ghost use Rattle.gr_verdict.specs.Found.{KnowsVerdicts, MayTell};
+ghost use Rattle.gr_verdict.specs.Found.{KnowsVerdicts};
+ghost use Rattle.gr_verdict.specs.Told.{MayTell};
 ghost use Rattle.gr_verdict.specs.Steps.{AreGathered, IsGathered};
 
 use crate::finding::SharedFinding;

@@ -126,6 +126,16 @@ impl Drop for Known {
     }
 }
 
+/// What is known of the package of a number, if anything is.
+pub(crate) fn verdict_at(verdicts: &[Option<KnownVerdict>], number: usize) -> Option<&KnownVerdict>
+    ensures { MatchOption result ((one : Verdict) → slice_get verdicts.now number ≡ Some (Some one) → ⊥) (λ one. slice_get verdicts.now number ≡ Some (Some one.now)) }
+{
+    match verdicts.get(number) {
+        Some(verdict) => verdict.as_ref(),
+        None => None,
+    }
+}
+
 /// What is known of packages, once more.
 fn copies(
     alloc: Global,
@@ -160,10 +170,7 @@ impl Known {
     pub fn get(&self, number: usize) -> Option<&KnownVerdict>
         ensures { MatchOption result ((one : Verdict) → slice_get self.now.verdicts.items number ≡ Some (Some one) → ⊥) (λ one. slice_get self.now.verdicts.items number ≡ Some (Some one.now)) }
     {
-        match self.verdicts.get(number) {
-            Some(verdict) => verdict.as_ref(),
-            None => None,
-        }
+        verdict_at(&self.verdicts, number)
     }
 
     /// Adds the next package, with what is known of it, if anything is.

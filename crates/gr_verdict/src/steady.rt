@@ -1,10 +1,12 @@
 //! What of an earlier workspace stays: whether packages import the same, have the same files, and see the same. Each question here may
 //! be answered with no where it could be yes: only speed rests on that.
-ghost use Rattle.std.specs.Prelude.{ℕ, ◌≡◌, ◌<◌, IsTrue, IfSome, length, map};
+ghost use Rattle.std.specs.Prelude.{ℕ, ◌≡◌, ◌<◌, ◌⊎◌, IsTrue, IfSome, length, map};
 ghost use Rattle.gr_text.specs.Packages.{package_files, package_paths};
 ghost use Rattle.gr_text.specs.Workspace.{Workspace};
 ghost use Rattle.gr_graph.specs.Graphs.{IsPackage, OfPackage};
-ghost use Rattle.gr_verdict.specs.Earlier.{AreMarkedBelow, HaveSameImports, StandsWith, WasKnown, tree_file};
+ghost use Rattle.gr_graph.specs.Packages.{IsInClosure};
+ghost use Rattle.gr_graph.specs.Search.{IsMarked};
+ghost use Rattle.gr_verdict.specs.Earlier.{AreMarkedBelow, AreTold, HaveSameImports, StandsWith, WasKnown, tree_file};
 
 use crate::earlier::Earlier;
 use crate::known::KnownVerdict;
@@ -79,9 +81,24 @@ fn has_same_files(before: &Package, after: &Package) -> bool
     ensures { IsTrue result → (v w : Workspace) → (n : ℕ) → IsPackage v n before.now → IsPackage w n after.now →
         package_files v before.now.path.items ≡ package_files w after.now.path.items }
 {
-    before.faulty.is_empty()
-        && after.faulty.is_empty()
-        && are_same_trees(&before.trees, &after.trees)
+    if !before.faulty.is_empty() {
+        return false;
+    }
+    if !after.faulty.is_empty() {
+        return false;
+    }
+    are_same_trees(&before.trees, &after.trees)
+}
+
+/// Whether a package is marked, or reaches another.
+fn is_marked_or_reaches(graph: &Graph, number: usize, other: usize, steady: &[bool]) -> bool
+    requires { other < length (package_paths graph.now) }
+    ensures { IsTrue result → IsMarked steady.now other ⊎ OfPackage graph.now other (λ q. OfPackage graph.now number (IsInClosure graph.now q)) }
+{
+    if is_marked(steady, other) {
+        return true;
+    }
+    reaches(graph, other, number)
 }
 
 /// Whether all that a package builds on is marked.
@@ -90,7 +107,7 @@ fn is_marked_below(graph: &Graph, number: usize, steady: &[bool]) -> bool
     ensures { IsTrue result → OfPackage graph.now number (λ p. AreMarkedBelow graph.now p steady.now) }
 {
     for other in graph.closure(number) {
-        if !is_marked(steady, *other) && !reaches(graph, *other, number) {
+        if !is_marked_or_reaches(graph, number, *other, steady) {
             return false;
         }
     }
@@ -106,7 +123,8 @@ pub(crate) fn standing<'a>(
 ) -> Option<&'a KnownVerdict>
     requires number { number < length (package_paths graph.now) }
     requires same { HaveSameImports earlier.now.graph graph.now }
-    ensures { IfSome result (λ one. OfPackage graph.now number (λ p. StandsWith earlier.now.graph graph.now steady.now p one.now)) }
+    ensures stands { IfSome result (λ one. OfPackage graph.now number (λ p. StandsWith earlier.now.graph graph.now steady.now p one.now)) }
+    ensures told { AreTold earlier.now.graph earlier.now.verdicts.items }
 {
     let verdict = earlier.verdict(number)?;
     let before = earlier.graph().package(number);

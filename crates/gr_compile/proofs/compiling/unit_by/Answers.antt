@@ -2,7 +2,7 @@
 use Rattle.std.proofs.Common.{◌≡◌, [], sym, subst, ◌∙◌}
 use Rattle.std.proofs.lemmas.Result.{IfOk-weaker}
 use Rattle.gr_verdict.specs.FaultLists.{AreListed}
-use Rattle.gr_verdict.specs.Found.{known_by, AreUsesOf}
+use Rattle.gr_verdict.specs.Told.{known_by, AreUsesOf}
 use Rattle.gr_verdict.specs.Verdicts.{IsFaultBy}
 use Rattle.gr_verdict.proofs.Members.{vec_empty, vec_holds}
 use Rattle.gr_compile.specs.Compiling.{HoldsFaults}

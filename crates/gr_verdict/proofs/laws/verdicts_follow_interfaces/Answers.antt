@@ -1,5 +1,5 @@
 -- The answers to the goals of `laws::verdicts_follow_interfaces`.
-use Rattle.gr_verdict.proofs.Steady.{verdicts_follow}
+use Rattle.gr_verdict.proofs.Keeping.{verdicts_follow}
 use Rattle.gr_verdict.proofs.laws.verdicts_follow_interfaces.Goals as goal
 
 pub returns : goal.returns

@@ -14,13 +14,13 @@ use Rattle.gr_graph.proofs.PackagePaths.{paths_sorted, one_number}
 use Rattle.gr_declared.proofs.Mentioning.{get_set_other}
 use Rattle.gr_declared.specs.InterfacesView.{Shares}
 use Rattle.gr_declared.specs.declared.interfaces.Interfaces.{Interfaces}
-use Rattle.gr_alike.specs.Alike.{IsKnownAlike}
+use Rattle.gr_alike.specs.Known.{IsKnownAlike}
 use Rattle.gr_verdict.specs.declared.finding.Finding.{Finding}
 use Rattle.gr_verdict.specs.declared.gathered.Gathered.{Gathered}
 use Rattle.gr_verdict.specs.declared.known.KnownVerdict.{KnownVerdict}
 use Rattle.gr_verdict.specs.Verdicts.{Verdict, Verdicts, IsVerdictBy, IsVerdict, AreVerdictsBelow, follows}
 use Rattle.gr_verdict.specs.Laws.{IsSameVerdict}
-use Rattle.gr_verdict.specs.Found.{is_unknown, known_by, AreWhole, IsFinding}
+use Rattle.gr_verdict.specs.Told.{is_unknown, known_by, AreWhole, IsFinding}
 use Rattle.gr_verdict.specs.Steps.{IsGathered, Learns, MayLearn}
 use Rattle.gr_verdict.specs.Earlier.{AreTold, HaveSameImports, AreMarkedBelow, StandsWith, WasKnown, AreSteady}
 use Rattle.gr_verdict.proofs.Adding.{finding_as}
