@@ -8,7 +8,7 @@ use Rattle.std.specs.Map.{lookup}
 use Rattle.std.specs.Ordering.{nat_cmp, is_eq}
 use Rattle.std.proofs.lemmas.Option.{slice_get-map}
 use Rattle.gr_expr.specs.World as plain
-use Rattle.gr_expr.specs.WorldView.{no_definition, definition_of, definition_or_none, ranked, definitions_at}
+use Rattle.gr_expr.specs.WorldView.{no_definition, field_of, method_of, definition_of, definition_or_none, ranked, definitions_at}
 use Rattle.gr_expr.specs.declared.symbol.Symbol.{Symbol}
 use Rattle.gr_expr.specs.declared.world.Definition.{Definition}
 use Rattle.gr_declared.specs.Package as seen
@@ -44,8 +44,8 @@ plain_of d = record {
 plain_known : (d : Definition) → definition_of d ≡ plain_of (known_definition d)
 plain_known d = λ i. record {
   underlying = (known_definition d).underlying;
-  field = λ name. value_found _ name d.fields.entries i;
-  method = λ name. value_found _ name d.methods.entries i;
+  field = λ name. value_found field_of name d.fields.entries i;
+  method = λ name. value_found method_of name d.methods.entries i;
 }
 
 abbrev plain_or_none : Symbol → Option KnownDefinition → plain.Definition

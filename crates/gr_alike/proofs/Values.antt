@@ -1,8 +1,10 @@
 -- Lists and maps are alike in pairs where their values are the same.
-use Rattle.std.proofs.Common.{ℕ, ◌≡◌, List, [], ◌∷◌, map, refl, true, ap}
+use Rattle.std.proofs.Common.{ℕ, ◌≡◌, List, [], ◌∷◌, map, refl, sym, ap, ◌∙◌}
 use Rattle.std.specs.Prelude.{Bool, IsTrue, ◌↔◌}
 use Rattle.std.specs.List.{AllZip}
 use Rattle.std.specs.Global.{Vec}
+use Rattle.gr_expr.specs.Types.{PlainType, Underlying, same_type, same_underlying}
+use Rattle.gr_rules.proofs.Same.{types_same, same_types, underlying_same, same_underlyings}
 use Rattle.gr_alike.specs.Alike.{AreNamedAlike}
 use Rattle.gr_alike.specs.Known.{entry_value}
 
@@ -47,3 +49,11 @@ pub by_entries : {X Y : Type 0} (value : X → Y) (es fs : List (Vec ℕ × X)) 
     (IsTrue test ↔ AllZip (AreNamedAlike (SameValue value)) es fs) →
     (IsTrue test ↔ (map (entry_value value) es ≡ map (entry_value value) fs))
 by_entries value es fs test h = (λ t. entries_same value es fs (h.0 t), λ q. h.1 (same_entries value es fs q))
+
+-- the test of types, and that of underlying types
+
+pub type_by_test : (a b : PlainType) (test : Bool) → test ≡ same_type a b → (IsTrue test ↔ (a ≡ b))
+type_by_test a b test h = (λ t. types_same a b (sym h ∙ t), λ e. h ∙ (sym (ap (same_type a) e) ∙ same_types a))
+
+pub underlying_by_test : (a b : Underlying) (test : Bool) → test ≡ same_underlying a b → (IsTrue test ↔ (a ≡ b))
+underlying_by_test a b test h = (λ t. underlying_same a b (sym h ∙ t), λ e. h ∙ (sym (ap (same_underlying a) e) ∙ same_underlyings a))

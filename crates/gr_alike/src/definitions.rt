@@ -1,14 +1,20 @@
 //! When type definitions are alike: their underlying types, fields and methods.
 ghost use Rattle.std.specs.Prelude.{◌≡◌, ◌↔◌, IsTrue, map, option_map, option_copied};
+ghost use Rattle.gr_expr.specs.Types.{same_underlying};
 ghost use Rattle.gr_expr.specs.View.{type_of, signature_of};
 ghost use Rattle.gr_expr.specs.WorldView.{underlying_of, field_of, method_of, definitions_at};
-ghost use Rattle.gr_alike.specs.Known.{known_definition};
+ghost use Rattle.gr_alike.specs.Known.{entry_value, known_definition};
 
 use crate::parts::{Alike, are_lists_alike, are_maps_alike};
 use gr_declared::Interfaces;
 use gr_expr::symbol::Symbol;
 use gr_expr::types::{GoType, Signature};
 use gr_expr::world::{Definition, Field, Method, Underlying};
+use std::collections::BTreeMap;
+
+type Fields = BTreeMap<Vec<u8>, Field>;
+
+type Methods = BTreeMap<Vec<u8>, Method>;
 
 fn is_same_symbol(one: &Symbol, other: &Symbol) -> bool
     ensures { IsTrue result ↔ (one.now ≡ other.now) }
@@ -43,16 +49,23 @@ pub(crate) fn is_same_signature(one: &Signature, other: &Signature) -> bool
         && are_same_types(&one.results, &other.results)
 }
 
-fn is_same_underlying(one: &Underlying, other: &Underlying) -> bool
-    ensures { IsTrue result ↔ (underlying_of one.now ≡ underlying_of other.now) }
+#[tactic(auto, unfolding(gr_expr::specs::WorldView::underlying_of, gr_expr::specs::Types::same_underlying))]
+fn has_same_shape(one: &Underlying, other: &Underlying) -> bool
+    ensures { result ≡ same_underlying (underlying_of one.now) (underlying_of other.now) }
 {
     match (one, other) {
         (Underlying::Plain(one), Underlying::Plain(other)) => one.same(*other),
-        (Underlying::PointerTo(one), Underlying::PointerTo(other)) => is_same_type(one, other),
-        (Underlying::SliceOf(one), Underlying::SliceOf(other)) => is_same_type(one, other),
-        (Underlying::Struct(one), Underlying::Struct(other)) => is_same_symbol(one, other),
+        (Underlying::PointerTo(one), Underlying::PointerTo(other)) => one.same(other),
+        (Underlying::SliceOf(one), Underlying::SliceOf(other)) => one.same(other),
+        (Underlying::Struct(one), Underlying::Struct(other)) => one.same(other),
         _ => false,
     }
+}
+
+fn is_same_underlying(one: &Underlying, other: &Underlying) -> bool
+    ensures { IsTrue result ↔ (underlying_of one.now ≡ underlying_of other.now) }
+{
+    has_same_shape(one, other)
 }
 
 fn is_same_result(one: &Option<Signature>, other: &Option<Signature>) -> bool
@@ -86,13 +99,25 @@ impl Alike for Method {
     }
 }
 
+fn are_same_fields(one: &Fields, other: &Fields) -> bool
+    ensures { IsTrue result ↔ (map (entry_value field_of) one.now.entries ≡ map (entry_value field_of) other.now.entries) }
+{
+    are_maps_alike(one, other)
+}
+
+fn are_same_methods(one: &Methods, other: &Methods) -> bool
+    ensures { IsTrue result ↔ (map (entry_value method_of) one.now.entries ≡ map (entry_value method_of) other.now.entries) }
+{
+    are_maps_alike(one, other)
+}
+
 impl Alike for Definition {
     ghost alike = { λ one other. known_definition one ≡ known_definition other };
 
     fn is_like(&self, other: &Definition) -> bool {
         is_same_underlying(&self.underlying, &other.underlying)
-            && are_maps_alike(&self.fields, &other.fields)
-            && are_maps_alike(&self.methods, &other.methods)
+            && are_same_fields(&self.fields, &other.fields)
+            && are_same_methods(&self.methods, &other.methods)
     }
 }
 

@@ -1,12 +1,14 @@
 //! When the scopes of packages are alike: their names, and what they export.
-ghost use Rattle.std.specs.Prelude.{◌≡◌, ◌↔◌, IsTrue, option_map};
+ghost use Rattle.std.specs.Prelude.{◌≡◌, ◌↔◌, IsTrue, map, option_map};
 ghost use Rattle.gr_declared.specs.InterfacesView.{meaning_of, export_of, scope_in};
-ghost use Rattle.gr_alike.specs.Known.{known_scope};
+ghost use Rattle.gr_alike.specs.Known.{entry_value, known_scope};
 
 use crate::definitions::{is_same_signature, is_same_type};
 use crate::parts::{Alike, are_maps_alike, is_same_name};
 use gr_declared::{Export, ExportMeaning, Interfaces, PackageScope};
+use std::collections::BTreeMap;
 
+#[tactic(auto, unfolding(gr_declared::specs::InterfacesView::meaning_of))]
 fn is_same_meaning(one: &ExportMeaning, other: &ExportMeaning) -> bool
     ensures { IsTrue result ↔ (meaning_of one.now ≡ meaning_of other.now) }
 {
@@ -28,10 +30,16 @@ impl Alike for Export {
     }
 }
 
+fn are_same_exports(one: &BTreeMap<Vec<u8>, Export>, other: &BTreeMap<Vec<u8>, Export>) -> bool
+    ensures { IsTrue result ↔ (map (entry_value export_of) one.now.entries ≡ map (entry_value export_of) other.now.entries) }
+{
+    are_maps_alike(one, other)
+}
+
 fn is_scope_alike(one: &PackageScope, other: &PackageScope) -> bool
     ensures { IsTrue result ↔ (known_scope one.now ≡ known_scope other.now) }
 {
-    is_same_name(&one.name, &other.name) && are_maps_alike(&one.exported, &other.exported)
+    is_same_name(&one.name, &other.name) && are_same_exports(&one.exported, &other.exported)
 }
 
 /// Whether the same name and the same exported names are known of the package of a path.
