@@ -14,7 +14,7 @@ use Rattle.gr_expr.specs.declared.world.Definition.{Definition}
 use Rattle.gr_declared.specs.Package as seen
 use Rattle.gr_declared.specs.declared.interfaces.PackageScope.{PackageScope}
 use Rattle.gr_declared.specs.declared.interfaces.Interfaces.{Interfaces}
-use Rattle.gr_declared.specs.InterfacesView.{export_of, scope_name, name_or_none, name_in, scope_export, interface_by, interface_in, scope_in}
+use Rattle.gr_declared.specs.InterfacesView.{export_of, scope_name, name_or_none, scope_export, interface_in, scope_in}
 use Rattle.gr_alike.specs.Known.{entry_value, KnownScope, known_scope, KnownDefinition, known_definition, Known, known_in, IsKnownAlike}
 
 -- the value of a name
