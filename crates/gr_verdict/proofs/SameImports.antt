@@ -1,12 +1,12 @@
 -- Two workspaces with the same packages, which import the same.
-use Rattle.std.proofs.Common.{ℕ, ◌≡◌, List, [], ◌∷◌, length, map, sym, ap, subst, ◌∙◌}
+use Rattle.std.proofs.Common.{ℕ, ◌≡◌, List, [], ◌∷◌, map, refl, sym, subst, ◌∙◌}
 use Rattle.std.specs.Prelude.{Contains, slice_get, Some}
 use Rattle.std.proofs.Math.Path.{ap₂}
 use Rattle.gr_text.specs.Workspace.{Workspace}
 use Rattle.gr_text.specs.Packages.{package_paths, package_files}
 use Rattle.gr_tree.specs.SourceFile.{FileParts, source_of}
 use Rattle.gr_graph.specs.Imports.{Links}
-use Rattle.gr_graph.specs.Packages.{IsParsed, PackageImports, AreLinksOf, IsInClosure, itself, through}
+use Rattle.gr_graph.specs.Packages.{IsParsed, AreLinksOf, IsInClosure, itself, through}
 use Rattle.gr_graph.specs.Parsed.{AreParsed, none, tree}
 use Rattle.gr_graph.proofs.Asked.{has_file, number}
 use Rattle.gr_verdict.specs.Verdicts.{BuildsOn}

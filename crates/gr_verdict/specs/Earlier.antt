@@ -1,7 +1,6 @@
 -- What was known of the packages of a workspace before it changed, and what of it stays: the verdict on a package whose own files
 -- are the same, and of whose imports the same is seen.
-use Rattle.std.specs.Prelude.{ℕ, ◌≡◌, ◌↔◌, Bool, List, Option, Some, slice_get, Contains, MatchOption}
-use Rattle.std.specs.Borrow.{Bor}
+use Rattle.std.specs.Prelude.{ℕ, ◌≡◌, ◌↔◌, Bool, List, Option, Some, slice_get, Contains}
 use Rattle.gr_text.specs.Workspace.{Workspace}
 use Rattle.gr_text.specs.Packages.{package_paths, package_files}
 use Rattle.gr_tree.specs.SourceFile.{FileParts}
@@ -9,7 +8,6 @@ use Rattle.gr_graph.specs.Packages.{PackageImports}
 use Rattle.gr_graph.specs.Search.{IsMarked}
 use Rattle.gr_declared.specs.declared.interfaces.Interfaces.{Interfaces}
 use Rattle.gr_alike.specs.Known.{IsKnownAlike}
-use Rattle.gr_verdict.specs.declared.earlier.EarlierParts.{EarlierParts}
 use Rattle.gr_verdict.specs.declared.gathered.Gathered.{Gathered}
 use Rattle.gr_verdict.specs.declared.known.KnownVerdict.{KnownVerdict}
 use Rattle.gr_verdict.specs.Verdicts.{BuildsOn}

@@ -136,6 +136,16 @@ pub(crate) fn verdict_at(verdicts: &[Option<KnownVerdict>], number: usize) -> Op
     }
 }
 
+/// What is known of a package, once more.
+fn copy_of(verdict: &Option<KnownVerdict>) -> Result<Option<KnownVerdict>, AllocError>
+    ensures { IfOk result (λ copy. copy ≡ verdict.now) }
+{
+    match verdict {
+        Some(verdict) => Ok(Some(verdict.clone()?)),
+        None => Ok(None),
+    }
+}
+
 /// What is known of packages, once more.
 fn copies(
     alloc: Global,
@@ -145,11 +155,7 @@ fn copies(
 {
     let mut copies = Vec::new(alloc);
     for verdict in verdicts {
-        let copy = match verdict {
-            Some(verdict) => Some(verdict.clone()?),
-            None => None,
-        };
-        copies.push(copy)?;
+        copies.push(copy_of(verdict)?)?;
     }
     Ok(copies)
 }
@@ -181,10 +187,8 @@ impl Known {
         Ok(())
     }
 
-    /// Whether something is known of each package.
-    fn knows_all(&self) -> bool
-        ensures { IsTrue result ↔ ((n : ℕ) → slice_get self.now.verdicts.items n ≡ Some None → ⊥) }
-    {
+    /// Whether something is known of each package. Only what is judged again rests on it.
+    fn knows_all(&self) -> bool {
         for verdict in &self.verdicts {
             if verdict.is_none() {
                 return false;

@@ -1,6 +1,6 @@
 //! What of an earlier workspace stays: whether packages import the same, have the same files, and see the same. Each question here may
 //! be answered with no where it could be yes: only speed rests on that.
-ghost use Rattle.std.specs.Prelude.{ℕ, ◌≡◌, ◌<◌, ◌⊎◌, IsTrue, IfSome, length, map};
+ghost use Rattle.std.specs.Prelude.{ℕ, ◌≡◌, ◌<◌, ◌⊎◌, IsTrue, IfSome, length, map, slice_get};
 ghost use Rattle.gr_text.specs.Packages.{package_files, package_paths};
 ghost use Rattle.gr_text.specs.Workspace.{Workspace};
 ghost use Rattle.gr_graph.specs.Graphs.{IsPackage, OfPackage};
@@ -17,6 +17,15 @@ use gr_declared::Interfaces;
 use gr_graph::{Graph, ImportLinks, Package};
 use gr_tree::FileTree;
 
+/// Whether the packages of a number have the same path.
+fn is_same_path(before: &Graph, after: &Graph, number: usize) -> bool
+    requires before { number < length (package_paths before.now) }
+    requires after { number < length (package_paths after.now) }
+    ensures { IsTrue result → slice_get (package_paths before.now) number ≡ slice_get (package_paths after.now) number }
+{
+    before.package(number).path.as_slice() == after.package(number).path.as_slice()
+}
+
 /// Whether packages are the same by their paths.
 fn have_same_paths(before: &Graph, after: &Graph) -> bool
     ensures { IsTrue result → package_paths before.now ≡ package_paths after.now }
@@ -25,7 +34,7 @@ fn have_same_paths(before: &Graph, after: &Graph) -> bool
         return false;
     }
     for number in 0..before.len() {
-        if before.package(number).path.as_slice() != after.package(number).path.as_slice() {
+        if !is_same_path(before, after, number) {
             return false;
         }
     }
@@ -136,12 +145,7 @@ pub(crate) fn standing<'a>(
 }
 
 /// Whether the same was known of a package as is known now.
-pub(crate) fn is_steady(
-    earlier: &Earlier,
-    graph: &Graph,
-    number: usize,
-    all: &Interfaces,
-) -> bool
+pub(crate) fn is_steady(earlier: &Earlier, graph: &Graph, number: usize, all: &Interfaces) -> bool
     requires { number < length (package_paths graph.now) }
     ensures { IsTrue result → OfPackage graph.now number (WasKnown earlier.now.verdicts.items all.now number) }
 {

@@ -1,5 +1,5 @@
 -- The invariants of the loops of `steady::are_same_trees`.
-use Rattle.std.proofs.Common.{◌≡◌, ◌<◌, map, take}
+use Rattle.std.proofs.Common.{◌≡◌, map, take}
 use Rattle.gr_verdict.specs.Earlier.{tree_file}
 use Rattle.gr_verdict.proofs.steady.are_same_trees.Given as goal
 
