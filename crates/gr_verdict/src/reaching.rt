@@ -5,7 +5,6 @@ ghost use Rattle.std.specs.List.Sorted.{IsStrictlyIncreasing};
 ghost use Rattle.gr_text.specs.Packages.{package_paths};
 ghost use Rattle.gr_graph.specs.Graphs.{OfPackage};
 ghost use Rattle.gr_graph.specs.Packages.{IsInClosure};
-ghost use Rattle.gr_verdict.specs.Verdicts.{BuildsOn};
 
 use gr_graph::Graph;
 
@@ -23,16 +22,4 @@ pub fn reaches(graph: &Graph, from: usize, to: usize) -> bool
     ensures { OfPackage graph.now from (λ p. OfPackage graph.now to (λ q. IsTrue result ↔ IsInClosure graph.now p q)) }
 {
     is_among(graph.closure(from), to)
-}
-
-/// Whether a package builds on another: it reaches that one, and is not reached by it.
-pub(crate) fn builds_on(graph: &Graph, from: usize, to: usize) -> bool
-    requires from { from < length (package_paths graph.now) }
-    requires to { to < length (package_paths graph.now) }
-    ensures { OfPackage graph.now from (λ p. OfPackage graph.now to (λ q. IsTrue result ↔ BuildsOn graph.now p q)) }
-{
-    if reaches(graph, to, from) {
-        return false;
-    }
-    reaches(graph, from, to)
 }
