@@ -1,0 +1,4 @@
+-- The lemmas of this crate.
+pub mod Names
+pub mod Leading
+pub mod Single

@@ -1,0 +1,24 @@
+//! The laws of replaced names.
+ghost use Rattle.std.specs.Prelude.{ℕ, ◌+◌, List, ◌∷◌, ◌++◌, length, map};
+ghost use Rattle.gr_scan.specs.declared.piece.Class.{Class};
+ghost use Rattle.gr_scan.specs.declared.piece.Class.TheVariants.{Name};
+ghost use Rattle.gr_scan.specs.declared.piece.Piece.{Piece};
+ghost use Rattle.gr_scan.specs.Contexts.{MayFollow};
+ghost use Rattle.gr_scan.specs.Cuts.{IsCut};
+ghost use Rattle.gr_scan.specs.Pieces.{IsPiece};
+ghost use Rattle.gr_quoted.specs.Literals.{piece_at, shifted};
+
+/// What a name may stand behind, any other name may, with the same bytes between them and the same behind it.
+pub fn names_follow_alike()
+    ensures { (class : Class) (bytes between old new rest : List ℕ) → IsPiece Name old → IsPiece Name new →
+        MayFollow class bytes (between ++ (old ++ rest)) → MayFollow class bytes (between ++ (new ++ rest)) }
+{}
+
+/// Where a name takes the place of a name piece of a text, the new text is cut where the old one was: into the same pieces before, the new
+/// name, and the same pieces behind it, moved by as much as the name has become longer or shorter.
+pub fn replaced_name_is_cut()
+    ensures { (front old new rest : List ℕ) (before after : List Piece) → IsPiece Name new →
+        IsCut (front ++ (old ++ rest)) (before ++ piece_at Name (length front) old ∷ after) →
+        let behind = map (shifted (length front + length old) (length front + length new)) after in
+        IsCut (front ++ (new ++ rest)) (before ++ piece_at Name (length front) new ∷ behind) }
+{}
