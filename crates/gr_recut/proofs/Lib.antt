@@ -2,3 +2,6 @@
 pub mod Names
 pub mod Leading
 pub mod Single
+pub mod Offsets
+pub mod Places
+pub mod Many

@@ -1,12 +1,15 @@
 //! The laws of replaced names.
-ghost use Rattle.std.specs.Prelude.{ℕ, ◌+◌, List, ◌∷◌, ◌++◌, length, map};
+ghost use Rattle.std.specs.Prelude.{◌≡◌, ◌↔◌, ℕ, ◌+◌, List, ◌∷◌, ◌++◌, length, map};
 ghost use Rattle.gr_scan.specs.declared.piece.Class.{Class};
 ghost use Rattle.gr_scan.specs.declared.piece.Class.TheVariants.{Name};
 ghost use Rattle.gr_scan.specs.declared.piece.Piece.{Piece};
 ghost use Rattle.gr_scan.specs.Contexts.{MayFollow};
+ghost use Rattle.gr_scan.specs.CutText.{CutText};
 ghost use Rattle.gr_scan.specs.Cuts.{IsCut};
 ghost use Rattle.gr_scan.specs.Pieces.{IsPiece};
+ghost use Rattle.gr_edit.specs.declared.edit.Edit.{Edit};
 ghost use Rattle.gr_quoted.specs.Literals.{piece_at, shifted};
+ghost use Rattle.gr_recut.specs.Renamings.{AreNameEdits, recut};
 
 /// What a name may stand behind, any other name may, with the same bytes between them and the same behind it.
 pub fn names_follow_alike()
@@ -21,4 +24,11 @@ pub fn replaced_name_is_cut()
         IsCut (front ++ (old ++ rest)) (before ++ piece_at Name (length front) old ∷ after) →
         let behind = map (shifted (length front + length old) (length front + length new)) after in
         IsCut (front ++ (new ++ rest)) (before ++ piece_at Name (length front) new ∷ behind) }
+{}
+
+/// Where names take the place of name pieces of a text, the new text is cut where the old one was: into the same pieces, each with its ends
+/// where the edits move them, and into nothing else.
+pub fn renamed_text_is_cut()
+    ensures { (c : CutText) (edits : List Edit) → IsCut c.text c.pieces → AreNameEdits c.pieces edits →
+        let new = recut edits c in (pieces : List Piece) → IsCut new.text pieces ↔ (pieces ≡ new.pieces) }
 {}
