@@ -5,3 +5,4 @@ pub mod Single
 pub mod Offsets
 pub mod Places
 pub mod Many
+pub mod Kept

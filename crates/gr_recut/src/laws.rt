@@ -1,15 +1,16 @@
 //! The laws of replaced names.
 ghost use Rattle.std.specs.Prelude.{◌≡◌, ◌↔◌, ℕ, ◌+◌, List, ◌∷◌, ◌++◌, length, map};
+ghost use Rattle.std.specs.List.{Contains};
 ghost use Rattle.gr_scan.specs.declared.piece.Class.{Class};
 ghost use Rattle.gr_scan.specs.declared.piece.Class.TheVariants.{Name};
 ghost use Rattle.gr_scan.specs.declared.piece.Piece.{Piece};
 ghost use Rattle.gr_scan.specs.Contexts.{MayFollow};
 ghost use Rattle.gr_scan.specs.CutText.{CutText};
-ghost use Rattle.gr_scan.specs.Cuts.{IsCut};
+ghost use Rattle.gr_scan.specs.Cuts.{IsCut, bytes_of};
 ghost use Rattle.gr_scan.specs.Pieces.{IsPiece};
 ghost use Rattle.gr_edit.specs.declared.edit.Edit.{Edit};
 ghost use Rattle.gr_quoted.specs.Literals.{piece_at, shifted};
-ghost use Rattle.gr_recut.specs.Renamings.{AreNameEdits, recut};
+ghost use Rattle.gr_recut.specs.Renamings.{AreNameEdits, moved_piece, recut, replaced_piece};
 
 /// What a name may stand behind, any other name may, with the same bytes between them and the same behind it.
 pub fn names_follow_alike()
@@ -31,4 +32,12 @@ pub fn replaced_name_is_cut()
 pub fn renamed_text_is_cut()
     ensures { (c : CutText) (edits : List Edit) → IsCut c.text c.pieces → AreNameEdits c.pieces edits →
         let new = recut edits c in (pieces : List Piece) → IsCut new.text pieces ↔ (pieces ≡ new.pieces) }
+{}
+
+/// In the new text the pieces that edits replace are spelled as the edits say, and all others as they were.
+pub fn renamed_pieces_are_spelled()
+    ensures put { (c : CutText) (edits : List Edit) (e : Edit) → IsCut c.text c.pieces → AreNameEdits c.pieces edits → Contains edits e →
+        bytes_of (recut edits c).text (moved_piece edits (replaced_piece e)) ≡ e.text }
+    ensures kept { (c : CutText) (edits : List Edit) (p : Piece) → IsCut c.text c.pieces → AreNameEdits c.pieces edits → Contains c.pieces p →
+        ((e : Edit) → Contains edits e → p ≡ replaced_piece e → ⊥) → bytes_of (recut edits c).text (moved_piece edits p) ≡ bytes_of c.text p }
 {}
