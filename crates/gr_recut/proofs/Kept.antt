@@ -118,7 +118,7 @@ module _ (c : CutText) (edits : List Edit) (cut : IsCut c.text c.pieces) (are : 
   some_bytes : HaveBytes edits
   some_bytes = have_bytes c.text c.pieces edits cut each_edit
 
-  within : LieWithin (length c.text) edits
+  pub within : LieWithin (length c.text) edits
   within = All-from_recursion (λ e. e.span.end ≤ length c.text) edits (each_within edits each_edit)
     where
       each_within : (es : List Edit) → AllByRecursion (IsNameEdit c.pieces) es → AllByRecursion (λ e. e.span.end ≤ length c.text) es
@@ -126,7 +126,7 @@ module _ (c : CutText) (edits : List Edit) (cut : IsCut c.text c.pieces) (are : 
       each_within (e ∷ es) each =
           ((begins_behind 0 (length c.text) c.pieces (replaced_piece e) (cut_covers c.text c.pieces cut) each.0.is_piece).2, each_within es each.1)
 
-  kept_bytes : (p : Piece) → Contains c.pieces p → Spared edits p.span.start p.span.end →
+  pub kept_bytes : (p : Piece) → Contains c.pieces p → Spared edits p.span.start p.span.end →
       bytes_of (edited_text edits c.text) (moved_piece edits p) ≡ bytes_of c.text p
   kept_bytes p has spared =
       let new : List ℕ = edited_text edits c.text in
@@ -140,7 +140,7 @@ module _ (c : CutText) (edits : List Edit) (cut : IsCut c.text c.pieces) (are : 
       ap (λ (n : ℕ). take (n - moved_offset edits start) (drop (moved_offset edits start) new)) far
       ∙ keeps_bytes edits c.text start end are.in_order within place.1 place.2 untouched
 
-  put_bytes : (e : Edit) → Contains edits e → bytes_of (edited_text edits c.text) (moved_piece edits (replaced_piece e)) ≡ e.text
+  pub put_bytes : (e : Edit) → Contains edits e → bytes_of (edited_text edits c.text) (moved_piece edits (replaced_piece e)) ≡ e.text
   put_bytes e has =
       let new : List ℕ = edited_text edits c.text in
       let start : ℕ = e.span.start in

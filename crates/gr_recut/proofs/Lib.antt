@@ -6,3 +6,5 @@ pub mod Offsets
 pub mod Places
 pub mod Many
 pub mod Kept
+pub mod Tokens
+pub mod Trees

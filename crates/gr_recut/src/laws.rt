@@ -5,12 +5,16 @@ ghost use Rattle.gr_scan.specs.declared.piece.Class.{Class};
 ghost use Rattle.gr_scan.specs.declared.piece.Class.TheVariants.{Name};
 ghost use Rattle.gr_scan.specs.declared.piece.Piece.{Piece};
 ghost use Rattle.gr_scan.specs.Contexts.{MayFollow};
-ghost use Rattle.gr_scan.specs.CutText.{CutText};
+ghost use Rattle.gr_scan.specs.CutText.{CutText, tokens_in};
 ghost use Rattle.gr_scan.specs.Cuts.{IsCut, bytes_of};
 ghost use Rattle.gr_scan.specs.Pieces.{IsPiece};
+ghost use Rattle.gr_edit.specs.Moved.{moved_offset};
 ghost use Rattle.gr_edit.specs.declared.edit.Edit.{Edit};
 ghost use Rattle.gr_quoted.specs.Literals.{piece_at, shifted};
+ghost use Rattle.gr_tree.specs.Kinds.{kinds_of};
+ghost use Rattle.gr_tree.specs.SourceFile.{IsSourceFile, SourceFile, offset_of};
 ghost use Rattle.gr_recut.specs.Renamings.{AreNameEdits, moved_piece, recut, replaced_piece};
+ghost use Rattle.gr_recut.specs.Trees.{KeepKinds, renamed_file};
 
 /// What a name may stand behind, any other name may, with the same bytes between them and the same behind it.
 pub fn names_follow_alike()
@@ -40,4 +44,24 @@ pub fn renamed_pieces_are_spelled()
         bytes_of (recut edits c).text (moved_piece edits (replaced_piece e)) ≡ e.text }
     ensures kept { (c : CutText) (edits : List Edit) (p : Piece) → IsCut c.text c.pieces → AreNameEdits c.pieces edits → Contains c.pieces p →
         ((e : Edit) → Contains edits e → p ≡ replaced_piece e → ⊥) → bytes_of (recut edits c).text (moved_piece edits p) ≡ bytes_of c.text p }
+{}
+
+/// The tokens of the new text are those of the old one, each with its ends where the edits move them, inserted semicolons among them.
+pub fn renamed_tokens_are_moved()
+    ensures { (c : CutText) (edits : List Edit) → IsCut c.text c.pieces → AreNameEdits c.pieces edits →
+        tokens_in (recut edits c) ≡ map (moved_piece edits) (tokens_in c) }
+{}
+
+/// Their kinds are the old ones, where `_` stands for `_` and another name for another one.
+pub fn renamed_kinds_stay()
+    ensures { (c : CutText) (edits : List Edit) → IsCut c.text c.pieces → AreNameEdits c.pieces edits → KeepKinds c.text edits →
+        kinds_of (recut edits c) ≡ kinds_of c }
+{}
+
+/// So the new text is a file with the old tree, by the numbers of tokens, and each token begins where the edits move its old place.
+pub fn renamed_file_keeps_its_tree()
+    ensures tree { (f : SourceFile) (edits : List Edit) → IsSourceFile f → AreNameEdits f.cut.pieces edits → KeepKinds f.cut.text edits →
+        IsSourceFile (renamed_file edits f) }
+    ensures offsets { (f : SourceFile) (edits : List Edit) (token : ℕ) → IsCut f.cut.text f.cut.pieces → AreNameEdits f.cut.pieces edits →
+        offset_of (renamed_file edits f) token ≡ moved_offset edits (offset_of f token) }
 {}
