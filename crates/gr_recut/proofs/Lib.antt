@@ -8,3 +8,6 @@ pub mod Many
 pub mod Kept
 pub mod Tokens
 pub mod Trees
+pub mod Spelled
+pub mod Following
+pub mod Faults

@@ -1,6 +1,8 @@
 -- A file in which names are replaced.
 use Rattle.std.specs.Prelude.{◌≡◌, ℕ, List}
 use Rattle.std.specs.List.{All, slice_range}
+use Rattle.gr_scan.specs.declared.refusal.Fault.{Fault}
+use Rattle.gr_edit.specs.Moved.{moved_offset}
 use Rattle.gr_edit.specs.declared.edit.Edit.{Edit}
 use Rattle.gr_tree.specs.Kinds.{kind_of_name}
 use Rattle.gr_tree.specs.SourceFile.{SourceFile}
@@ -13,3 +15,7 @@ KeepKinds text edits = All (λ e. kind_of_name e.text ≡ kind_of_name (slice_ra
 -- the file with its text and its pieces after edits, and its tree as it was
 abbrev pub renamed_file : List Edit → SourceFile → SourceFile
 renamed_file edits f = record { path = f.path; cut = recut edits f.cut; tree = f.tree }
+
+-- a fault where edits move it
+abbrev pub moved_fault : List Edit → Fault → Fault
+moved_fault edits fault = record { kind = fault.kind; offset = moved_offset edits fault.offset }

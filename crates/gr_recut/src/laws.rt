@@ -1,9 +1,10 @@
 //! The laws of replaced names.
-ghost use Rattle.std.specs.Prelude.{◌≡◌, ◌↔◌, ℕ, ◌+◌, List, ◌∷◌, ◌++◌, length, map};
+ghost use Rattle.std.specs.Prelude.{◌≡◌, ◌↔◌, ℕ, ◌+◌, List, ◌∷◌, ◌++◌, drop, length, map, slice_get, Some};
 ghost use Rattle.std.specs.List.{Contains};
 ghost use Rattle.gr_scan.specs.declared.piece.Class.{Class};
-ghost use Rattle.gr_scan.specs.declared.piece.Class.TheVariants.{Name};
+ghost use Rattle.gr_scan.specs.declared.piece.Class.TheVariants.{ByteOrderMark, Name};
 ghost use Rattle.gr_scan.specs.declared.piece.Piece.{Piece};
+ghost use Rattle.gr_scan.specs.declared.refusal.Fault.{Fault};
 ghost use Rattle.gr_scan.specs.Contexts.{MayFollow};
 ghost use Rattle.gr_scan.specs.CutText.{CutText, tokens_in};
 ghost use Rattle.gr_scan.specs.Cuts.{IsCut, bytes_of};
@@ -11,10 +12,11 @@ ghost use Rattle.gr_scan.specs.Pieces.{IsPiece};
 ghost use Rattle.gr_edit.specs.Moved.{moved_offset};
 ghost use Rattle.gr_edit.specs.declared.edit.Edit.{Edit};
 ghost use Rattle.gr_quoted.specs.Literals.{piece_at, shifted};
+ghost use Rattle.gr_tree.specs.Faults.{IsParseFault};
 ghost use Rattle.gr_tree.specs.Kinds.{kinds_of};
-ghost use Rattle.gr_tree.specs.SourceFile.{IsSourceFile, SourceFile, offset_of};
+ghost use Rattle.gr_tree.specs.SourceFile.{IsSourceFile, SourceFile, offset_of, spelling_of};
 ghost use Rattle.gr_recut.specs.Renamings.{AreNameEdits, moved_piece, recut, replaced_piece};
-ghost use Rattle.gr_recut.specs.Trees.{KeepKinds, renamed_file};
+ghost use Rattle.gr_recut.specs.Trees.{KeepKinds, moved_fault, renamed_file};
 
 /// What a name may stand behind, any other name may, with the same bytes between them and the same behind it.
 pub fn names_follow_alike()
@@ -46,6 +48,13 @@ pub fn renamed_pieces_are_spelled()
         ((e : Edit) → Contains edits e → p ≡ replaced_piece e → ⊥) → bytes_of (recut edits c).text (moved_piece edits p) ≡ bytes_of c.text p }
 {}
 
+/// What is behind a piece of the new text may follow it.
+pub fn renamed_pieces_are_followed()
+    ensures { (c : CutText) (edits : List Edit) (p : Piece) → IsCut c.text c.pieces → AreNameEdits c.pieces edits →
+        let new = recut edits c in Contains new.pieces p → (p.class ≡ ByteOrderMark → ⊥) →
+        MayFollow p.class (bytes_of new.text p) (drop p.span.end new.text) }
+{}
+
 /// The tokens of the new text are those of the old one, each with its ends where the edits move them, inserted semicolons among them.
 pub fn renamed_tokens_are_moved()
     ensures { (c : CutText) (edits : List Edit) → IsCut c.text c.pieces → AreNameEdits c.pieces edits →
@@ -64,4 +73,19 @@ pub fn renamed_file_keeps_its_tree()
         IsSourceFile (renamed_file edits f) }
     ensures offsets { (f : SourceFile) (edits : List Edit) (token : ℕ) → IsCut f.cut.text f.cut.pieces → AreNameEdits f.cut.pieces edits →
         offset_of (renamed_file edits f) token ≡ moved_offset edits (offset_of f token) }
+{}
+
+/// A token that an edit replaces is spelled as the edit says, and each other one as it was.
+pub fn renamed_tokens_are_spelled()
+    ensures put { (f : SourceFile) (edits : List Edit) (e : Edit) (token : ℕ) → IsCut f.cut.text f.cut.pieces → AreNameEdits f.cut.pieces edits →
+        Contains edits e → slice_get (tokens_in f.cut) token ≡ Some (replaced_piece e) → spelling_of (renamed_file edits f) token ≡ e.text }
+    ensures kept { (f : SourceFile) (edits : List Edit) (token : ℕ) → IsCut f.cut.text f.cut.pieces → AreNameEdits f.cut.pieces edits →
+        ((e : Edit) → Contains edits e → slice_get (tokens_in f.cut) token ≡ Some (replaced_piece e) → ⊥) →
+        spelling_of (renamed_file edits f) token ≡ spelling_of f token }
+{}
+
+/// Where the tokens of the old text are no file, those of the new one break the same rule, at the place to which the edits move it.
+pub fn renamed_fault_is_moved()
+    ensures { (c : CutText) (edits : List Edit) (fault : Fault) → IsCut c.text c.pieces → AreNameEdits c.pieces edits → KeepKinds c.text edits →
+        IsParseFault c fault → IsParseFault (recut edits c) (moved_fault edits fault) }
 {}
