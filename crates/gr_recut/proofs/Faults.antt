@@ -1,5 +1,6 @@
 -- The fault of a text in which names are replaced.
-use Rattle.std.proofs.Common.{ℕ, zero, suc, ◌≡◌, ◌-◌, List, [], ◌∷◌, length, drop, map, arith, refl, sym, ap, ◌∙◌, subst}
+use Rattle.std.proofs.Common.{ℕ, ◌≡◌, ◌-◌, List, [], ◌∷◌, length, drop, map, refl, sym, ap, ◌∙◌, subst}
+use Rattle.std.proofs.lemmas.List.{drop-map, length-map}
 use Rattle.gr_scan.specs.declared.piece.Piece.{Piece}
 use Rattle.gr_scan.specs.declared.refusal.Fault.{Fault}
 use Rattle.gr_scan.specs.Cuts.{IsCut}
@@ -9,22 +10,13 @@ use Rattle.gr_edit.specs.Moved.{moved_offset}
 use Rattle.gr_edit.specs.declared.edit.Edit.{Edit}
 use Rattle.gr_edit.proofs.MovedPlaces.{moves_end}
 use Rattle.gr_tree.specs.Faults.{IsParseFault}
-use Rattle.gr_tree.specs.Kinds.{begins_at, kinds_of, place_of}
+use Rattle.gr_tree.specs.Kinds.{begins_at, place_of}
 use Rattle.gr_tree.specs.Verdict.{Faulty, IsVerdict}
 use Rattle.gr_recut.specs.Renamings.{AreNameEdits, moved_piece, recut}
 use Rattle.gr_recut.specs.Trees.{KeepKinds, moved_fault}
 use Rattle.gr_recut.proofs.Kept.{within}
 use Rattle.gr_recut.proofs.Tokens.{tokens_moved}
 use Rattle.gr_recut.proofs.Trees.{kinds_stay}
-
-length_mapped : (f : Piece → Piece) (ts : List Piece) → length (map f ts) ≡ length ts
-length_mapped f [] = refl
-length_mapped f (t ∷ ts) = omega (arith, length_mapped f ts)
-
-drop_mapped : (f : Piece → Piece) (n : ℕ) (ts : List Piece) → drop n (map f ts) ≡ map f (drop n ts)
-drop_mapped f zero ts = refl
-drop_mapped f (suc n) [] = refl
-drop_mapped f (suc n) (t ∷ ts) = drop_mapped f n ts
 
 module _ (c : CutText) (edits : List Edit) (cut : IsCut c.text c.pieces) (are : AreNameEdits c.pieces edits) where
   begins_moved : (ts : List Piece) → begins_at (edited_text edits c.text) (map (moved_piece edits) ts) ≡ moved_offset edits (begins_at c.text ts)
@@ -37,8 +29,8 @@ module _ (c : CutText) (edits : List Edit) (cut : IsCut c.text c.pieces) (are : 
       let move : Piece → Piece = moved_piece edits in
       let old : List Piece = tokens_in c in
       ap (λ ts. begins_at new (drop (length ts - left) ts)) (tokens_moved c edits cut are)
-      ∙ ap (λ n. begins_at new (drop (n - left) (map move old))) (length_mapped move old)
-      ∙ ap (begins_at new) (drop_mapped move (length old - left) old)
+      ∙ ap (λ n. begins_at new (drop (n - left) (map move old))) (length-map old move)
+      ∙ ap (begins_at new) (drop-map move (length old - left) old)
       ∙ begins_moved (drop (length old - left) old)
 
 pub fault_moves : (c : CutText) (edits : List Edit) (fault : Fault) → IsCut c.text c.pieces → AreNameEdits c.pieces edits → KeepKinds c.text edits →

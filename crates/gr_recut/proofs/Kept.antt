@@ -1,9 +1,7 @@
 -- The bytes of pieces after edits of names.
-use Rattle.std.proofs.Common.{ℕ, ◌≡◌, ◌⊎◌, ◌+◌, ◌-◌, ◌<◌, ◌≤◌, List, [], ◌∷◌, length, take, drop, refl, sym, ap, ◌∙◌, subst, arith, inl, inr, ⊎_elim}
+use Rattle.std.proofs.Common.{ℕ, ◌≡◌, ◌⊎◌, ◌+◌, ◌-◌, ◌<◌, ◌≤◌, List, [], ◌∷◌, length, take, drop, sym, ap, ◌∙◌, subst, arith, inl, inr, ⊎_elim}
 use Rattle.std.specs.List.{AllByRecursion, Contains}
-use Rattle.std.proofs.lemmas.Bool.{cases_lt}
 use Rattle.std.proofs.lemmas.List.Elements.{All-from_recursion, recursion_from_All}
-use Rattle.gr_scan.specs.declared.piece.Class.TheVariants.{Name}
 use Rattle.gr_scan.specs.declared.piece.Piece.{Piece}
 use Rattle.gr_scan.specs.Cuts.{IsCut, bytes_of}
 use Rattle.gr_scan.specs.CutText.{CutText}

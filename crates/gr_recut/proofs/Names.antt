@@ -1,5 +1,5 @@
 -- The bytes of names.
-use Rattle.std.proofs.Common.{ℕ, zero, suc, ◌≡◌, ◌≢◌, ◌-◌, ◌<◌, ◌≤◌, Bool, true, false, ◌||◌, ◌&&◌, eqb, Option, Some, List, [], ◌∷◌, ◌++◌, length, get_or}
+use Rattle.std.proofs.Common.{ℕ, zero, suc, ◌≡◌, ◌-◌, ◌<◌, ◌≤◌, true, false, ◌||◌, eqb, Option, Some, List, [], ◌∷◌, ◌++◌, length, get_or}
 use Rattle.std.proofs.Common.{take, drop, refl, sym, ap, ◌∙◌, subst, arith, ⊎_elim, append_assoc, append-nil, length-append, take-append-drop}
 use Rattle.std.specs.Prelude.{slice_index, nat_eq, IfSome}
 use Rattle.std.specs.List.{list_all, starts_with}
@@ -13,12 +13,11 @@ use lib.Utf8.{scalar}
 use Rattle.bstr.specs.Utf8.{decoded}
 use Rattle.bstr.proofs.lemmas.EncodeLemmas.{decoded-encode}
 use Rattle.ucd_category.proofs.Computing.{ucd_category}
-use Rattle.gr_scan.specs.declared.piece.Class.TheVariants.{Name}
 use Rattle.gr_scan.specs.Characters.{is_letter, is_decimal_number, continues_name}
 use Rattle.gr_scan.specs.Contexts.{EndsName}
 use Rattle.gr_scan.specs.Cuts.{IsWellEncoded, byte_order_mark}
 use Rattle.gr_scan.specs.Families.{starts_word}
-use Rattle.gr_scan.specs.Pieces.{IsPiece, spoils_number}
+use Rattle.gr_scan.specs.Pieces.{spoils_number}
 use Rattle.gr_scan.specs.Words.{IsWord}
 use Rattle.gr_scan.proofs.FamilyLemmas.{word_first}
 use Rattle.gr_scan.proofs.FrontLemmas.{Letter, name_parts, word_letter}

@@ -1,12 +1,12 @@
 -- The tokens of a text in which names are replaced.
-use Rattle.std.proofs.Common.{ℕ, ◌≡◌, List, [], ◌∷◌, ◌||◌, ◌&&◌, Bool, false, cond, refl, sym, ap, ◌∙◌}
+use Rattle.std.proofs.Common.{ℕ, ◌≡◌, List, [], ◌∷◌, ◌||◌, ◌&&◌, Bool, false, cond, refl, ap, ◌∙◌}
 use Rattle.std.specs.Prelude.{map}
 use Rattle.std.specs.List.{AllByRecursion, Contains, list_any}
 use Rattle.std.proofs.Common.{eqb}
 use Rattle.gr_scan.specs.declared.piece.Class.{Class}
 use Rattle.gr_scan.specs.declared.piece.Class.TheVariants as class
 use Rattle.gr_scan.specs.declared.piece.Piece.{Piece}
-use Rattle.gr_scan.specs.Cuts.{IsCut, bytes_of}
+use Rattle.gr_scan.specs.Cuts.{IsCut}
 use Rattle.gr_scan.specs.CutText.{CutText, tokens_in}
 use Rattle.gr_scan.specs.Tokens.{ends_line, ends_line_by, ends_statement, has_line_end, is_trivia, line_ends, semicolon, tokens_of}
 use Rattle.gr_scan.proofs.IntegerLemmas.{by_test}

@@ -1,9 +1,9 @@
 -- The kinds of tokens, and the tree, of a text in which names are replaced.
-use Rattle.std.proofs.Common.{ℕ, ◌≡◌, ◌+◌, ◌-◌, List, [], ◌∷◌, Bool, ◌&&◌, Option, Some, None, length, take, drop, map, refl, sym, ap, ◌∙◌, subst, arith, ⊎_elim}
+use Rattle.std.proofs.Common.{ℕ, ◌≡◌, ◌+◌, List, [], ◌∷◌, ◌&&◌, Option, Some, None, map, refl, sym, ap, ◌∙◌, subst}
 use Rattle.std.specs.Prelude.{slice_get, option_map}
-use Rattle.std.specs.List.{AllByRecursion, Contains, slice_range, All}
+use Rattle.std.specs.List.{AllByRecursion, Contains, slice_range}
 use Rattle.std.proofs.lemmas.List.Elements.{All-contains}
-use Rattle.std.proofs.lemmas.Option.{none-some, same_Some, slice_get-map}
+use Rattle.std.proofs.lemmas.Option.{slice_get-map}
 use Rattle.gr_scan.specs.declared.piece.Class.{Class}
 use Rattle.gr_scan.specs.declared.piece.Class.TheVariants as class
 use Rattle.gr_scan.specs.declared.piece.Piece.{Piece}
@@ -15,12 +15,11 @@ use Rattle.gr_edit.specs.Edits.{edited_text}
 use Rattle.gr_edit.specs.Moved.{moved_offset}
 use Rattle.gr_edit.specs.declared.edit.Edit.{Edit}
 use Rattle.gr_edit.proofs.MovedPlaces.{moves_end}
-use Rattle.gr_tree.specs.declared.syntax.Token.{Token}
 use Rattle.gr_tree.specs.Kinds.{kind_of, kind_of_name, kinds_from, kinds_of}
-use Rattle.gr_tree.specs.SourceFile.{SourceFile, IsSourceFile, offset_at, offset_of, spelling_at, spelling_of}
+use Rattle.gr_tree.specs.SourceFile.{SourceFile, IsSourceFile, offset_at, offset_of}
 use Rattle.gr_tree.specs.Verdict.{IsWhole}
 use Rattle.gr_tree.specs.WellFormed.{IsTreeOf}
-use Rattle.gr_recut.specs.Renamings.{AreNameEdits, IsNameEdit, moved_piece, recut, replaced_piece}
+use Rattle.gr_recut.specs.Renamings.{AreNameEdits, moved_piece, recut}
 use Rattle.gr_recut.specs.Trees.{KeepKinds, renamed_file}
 use Rattle.gr_recut.proofs.Kept.{IsEdited, each_edit, edited_or_kept, kept, kept_bytes, put, put_bytes, within}
 use Rattle.gr_recut.proofs.Many.{recut_cut}
