@@ -68,7 +68,8 @@ before_stays front old new rest before is_old is_new cut =
     let b = opens new is_new in
     let was = subst (λ t. CutsUpTo (front ++ (t ++ rest)) before (length front)) a.spelled cut in
     subst (λ t. CutsUpTo (front ++ (t ++ rest)) before (length front)) (sym b.spelled)
-    (cut_kept front (a.more ++ rest) (b.more ++ rest) a.quote b.quote before (quotes a.quote b.quote (a.more ++ rest) (b.more ++ rest) a.is_quote b.is_quote) was)
+    (cut_kept front (a.more ++ rest) (b.more ++ rest) a.quote b.quote before
+    (quotes a.quote b.quote (a.more ++ rest) (b.more ++ rest) a.is_quote b.is_quote) was)
 
 pub replaced_in_cut : (least : ℕ) (front old path rest : List ℕ) (before pieces : List Piece) → IsPath least path → IsStringPiece old →
     (let bytes = 34 ∷ (path ++ 34 ∷ []) in let text = front ++ (bytes ++ rest) in

@@ -67,7 +67,8 @@ put_end (d ∷ edits) old new e order some has =
     ⊎_elim
     (λ (is : d ≡ e).
     let less : d.span.start < d.span.end = some.0 in
-    let one : moved_from old new (d ∷ edits) d.span.end ≡ next = step_past old new d edits d.span.end (omega arith) ∙ at_old edits d.span.end next order.2 some.1 in
+    let one : moved_from old new (d ∷ edits) d.span.end ≡ next = step_past old new d edits d.span.end (omega arith) ∙
+    at_old edits d.span.end next order.2 some.1 in
     let two : moved_from old new (d ∷ edits) d.span.start ≡ new + (d.span.start - old) = stop_before old new d edits d.span.start less in
     let sum : next ≡ new + (d.span.start - old) + length d.text = omega arith in
     subst (λ (x : Edit). moved_from old new (d ∷ edits) x.span.end ≡ moved_from old new (d ∷ edits) x.span.start + length x.text) is

@@ -11,3 +11,4 @@ pub mod Trees
 pub mod Spelled
 pub mod Following
 pub mod Faults
+pub mod ByTokens

@@ -16,7 +16,7 @@ use Rattle.gr_recut.proofs.Kept.{other_bytes, put_bytes}
 use Rattle.gr_recut.proofs.Tokens.{each_in, tokens_moved}
 use Rattle.gr_recut.proofs.Trees.{each_token}
 
-held_at : {X : Type 0} (P : X → Type 0) (xs : List X) (n : ℕ) (x : X) → AllByRecursion P xs → slice_get xs n ≡ Some x → P x
+pub held_at : {X : Type 0} (P : X → Type 0) (xs : List X) (n : ℕ) (x : X) → AllByRecursion P xs → slice_get xs n ≡ Some x → P x
 held_at P [] n x all at = absurd (none-some x at)
 held_at P (y ∷ xs) zero x all at = subst P (same_Some y x at) all.0
 held_at P (y ∷ xs) (suc n) x all at = held_at P xs n x all.1 at

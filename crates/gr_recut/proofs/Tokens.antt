@@ -39,7 +39,8 @@ module _ (edits : List Edit) (text new : List ℕ) where
       let rest : line_ends new (map move ps) ≡ line_ends text ps = lines_same ps same.1 in
       λ i. cond (is_trivia p.class) (first i || rest i) false
 
-  pub tokens_same : (ps : List Piece) → AllByRecursion (λ p. ends_line new (move p) ≡ ends_line text p) ps → tokens_of new (map move ps) ≡ map move (tokens_of text ps)
+  pub tokens_same : (ps : List Piece) → AllByRecursion (λ p. ends_line new (move p) ≡ ends_line text p) ps →
+      tokens_of new (map move ps) ≡ map move (tokens_of text ps)
   unfolding tokens_of
   tokens_same [] same = refl
   tokens_same (p ∷ ps) same =

@@ -9,6 +9,7 @@ ghost use Rattle.gr_scan.specs.Contexts.{MayFollow};
 ghost use Rattle.gr_scan.specs.CutText.{CutText, tokens_in};
 ghost use Rattle.gr_scan.specs.Cuts.{IsCut, bytes_of};
 ghost use Rattle.gr_scan.specs.Pieces.{IsPiece};
+ghost use Rattle.gr_edit.specs.Edits.{AreInOrder};
 ghost use Rattle.gr_edit.specs.Moved.{moved_offset};
 ghost use Rattle.gr_edit.specs.declared.edit.Edit.{Edit};
 ghost use Rattle.gr_quoted.specs.Literals.{piece_at, shifted};
@@ -31,6 +32,13 @@ pub fn replaced_name_is_cut()
         IsCut (front ++ (old ++ rest)) (before ++ piece_at Name (length front) old ∷ after) →
         let behind = map (shifted (length front + length old) (length front + length new)) after in
         IsCut (front ++ (new ++ rest)) (before ++ piece_at Name (length front) new ∷ behind) }
+{}
+
+/// Edits in order, each of which puts a name in the place of a token that is a name, are edits of name pieces.
+pub fn edits_of_name_tokens()
+    ensures { (c : CutText) (edits : List Edit) → AreInOrder 0 edits →
+        ((e : Edit) → Contains edits e → IsPiece Name e.text × ((token : ℕ) × (slice_get (tokens_in c) token ≡ Some (replaced_piece e)))) →
+        AreNameEdits c.pieces edits }
 {}
 
 /// Where names take the place of name pieces of a text, the new text is cut where the old one was: into the same pieces, each with its ends
