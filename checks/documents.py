@@ -3,8 +3,8 @@
 - A block of `sh` that writes `session.in` is run, and the model's answer is compared with the block behind it.
 - Each example of a table in docs/GO.md stands in a file `a/a.go` of the package that the text before it names, and the
   kinds of its faults by the model are compared with the column `Here`.
-- Each link leads to a file, and each name of a law, contract or definition in docs/PROOFS.md and README.md, a word with
-  `_` or with an upper case letter, stands in `crates/`.
+- Each link leads to a file, and each name of a law, contract or definition in README.md, docs/PROOFS.md, DEFINITIONS.md,
+  ARCHITECTURE.md and DECISIONS.md, a word with `_` or with an upper case letter, stands in `crates/`.
 """
 
 import pathlib
@@ -17,6 +17,7 @@ from history import replies
 from workspace import Workspace
 
 TOP = pathlib.Path(__file__).resolve().parent.parent
+NAMING = ("PROOFS", "DEFINITIONS", "ARCHITECTURE", "DECISIONS")
 OTHER = b"package b\n\ntype T struct {\n\tX int\n}\n\nfunc F() int {\n\treturn 1\n}\n"
 
 
@@ -94,7 +95,7 @@ def main():
         checks = {"sessions": wrong_sessions(text), "links": wrong_links(path, text)}
         if path.name == "GO.md":
             checks["examples"] = wrong_examples(text)
-        if path.name == "PROOFS.md" or path == TOP / "README.md":
+        if path == TOP / "README.md" or path.stem in NAMING:
             checks["names"] = wrong_names(text)
         told = ", ".join(f"{count} {what}" for what, (_, count) in checks.items() if count)
         print(f"{path.relative_to(TOP)}: {told or 'nothing to check'}")
