@@ -372,7 +372,7 @@ def with_a_small_stack():
         same(client.ask(b"rename 1 a/a.go:#16 g\n"), (b"ok 2", b""))
         same(client.ask(b"wait\n"), (b"ok 2", b""))
         head, told = client.ask(b"object a\n")
-        same((head, told[:27]), (b"ok 2", b"object a a\nfunc a#g () () "))
+        same((head, told.startswith(b"object a a\nfunc a#g () () ")), (b"ok 2", True))
         client.end()
         settles(server)
 
