@@ -174,7 +174,10 @@ fn put_as_elsewhere(
     let number = view.snapshot.number();
     let there = Event::Commit(number, planned(rt, &view, path, bytes));
     let reply = bench.other.step(there);
-    assert_eq!(rt; told(&mut bench.jobs, reply), Outcome::Done(number + 1));
+    assert_eq!(rt;
+        told(&mut bench.jobs, reply),
+        Outcome::Done(number.wrapping_add(1))
+    );
     bench
         .book
         .step(Event::Commit(number, planned(rt, &view, path, bytes)))
