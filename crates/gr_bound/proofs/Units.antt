@@ -28,7 +28,8 @@ use Rattle.gr_verdict.specs.declared.finding.Finding.{Finding}
 use Rattle.gr_verdict.specs.declared.findings.Findings.{Findings}
 use Rattle.gr_verdict.specs.Faults.{placed, fault_cmp}
 use Rattle.gr_verdict.specs.FaultLists.{AreListed, ListsFaults}
-use Rattle.gr_verdict.specs.Found.{AreFindings, IsFinding, known_by}
+use Rattle.gr_verdict.specs.Found.{AreFindings}
+use Rattle.gr_verdict.specs.Told.{IsFinding, known_by}
 use Rattle.gr_verdict.specs.Verdicts.{Verdict, Verdicts, AreSeen, IsPackageIn, IsFaultBy, IsVerdictBy}
 use Rattle.gr_verdict.proofs.Alike.{fault_as}
 use Rattle.gr_verdict.proofs.Members.{empty_by, nothing_in, first_in, later_in}

@@ -11,7 +11,8 @@ use Rattle.gr_types.specs.Interfaces.{IsSeen}
 use Rattle.gr_verdict.specs.declared.finding.Finding.{Finding}
 use Rattle.gr_verdict.specs.declared.findings.Findings.{Findings}
 use Rattle.gr_verdict.specs.Verdicts.{Verdicts}
-use Rattle.gr_verdict.specs.Found.{AreFindings, known_by}
+use Rattle.gr_verdict.specs.Found.{AreFindings}
+use Rattle.gr_verdict.specs.Told.{known_by}
 use Rattle.gr_verdict.specs.FaultLists.{ListsFaults}
 use Rattle.gr_bound.specs.declared.declaration.Declaration.{Declaration}
 use Rattle.gr_bound.specs.declared.declaration.Declaration.TheVariants.{Predeclared, Declared, Field, Method}

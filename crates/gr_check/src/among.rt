@@ -21,13 +21,12 @@ use gr_bound::{Bindings, BoundSpot, Declaration, bindings_among, path_of, read_t
 use gr_declared::{Interfaces, Package};
 use gr_expr::symbol::SharedPath;
 use gr_graph::Graph;
-use gr_keep::is_marked;
 use gr_placed::bound_here::bound_here;
 use gr_placed::declared_places::{DeclaredPlaces, package_path, unit_places};
 use gr_placed::identifier_places::add_unit;
 use gr_scope::table::ScopeTable;
 use gr_text::{Path, Place};
-use gr_verdict::{Findings, seen};
+use gr_verdict::{Findings, is_marked, seen};
 use std::alloc::{AllocError, Global};
 
 /// Where the declarations of the package of a number stand, by what this sees and its table.

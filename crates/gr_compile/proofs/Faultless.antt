@@ -20,7 +20,7 @@ use Rattle.gr_types.specs.Interfaces.{IsInterface}
 use Rattle.gr_declared.specs.InterfacesView.{interface_in}
 use Rattle.gr_meanings.specs.MemberUses.{AreMemberUses, uses_in}
 use Rattle.gr_declared.specs.Package.{Package, Interface, symbol_in}
-use Rattle.gr_verdict.specs.Found.{known_by}
+use Rattle.gr_verdict.specs.Told.{known_by}
 use Rattle.gr_verdict.specs.Verdicts.{Verdicts, AreSeen, HasInterface, IsPackageIn, IsVerdictBy}
 use Rattle.gr_verdict.proofs.Members.{nothing_in}
 use Rattle.gr_verdict.proofs.OnePackage.{one_checked}

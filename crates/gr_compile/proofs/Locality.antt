@@ -42,4 +42,4 @@ value_local w x p (Done i object) has same u =
     }
 
 pub local_unit : AreLocalUnits
-local_unit w x p unit has same u = value_local w x p (unit_value p unit) has same u
+local_unit w x p unit has same u = record { value = value_local w x p (unit_value p unit) has same u.value; alone = u.alone }

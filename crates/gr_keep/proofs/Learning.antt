@@ -7,7 +7,7 @@ use Rattle.gr_text.specs.Packages.{is_of_package, package_paths}
 use Rattle.gr_text.specs.Workspace.{Workspace}
 use Rattle.gr_graph.specs.Packages.{IsInClosure}
 use Rattle.gr_verdict.specs.Closures.{HasSameClosure}
-use Rattle.gr_verdict.specs.Found.{MayTell}
+use Rattle.gr_verdict.specs.Told.{MayTell}
 use Rattle.gr_verdict.specs.declared.known.KnownVerdict.{KnownVerdict}
 use Rattle.gr_verdict.proofs.Local.{same_within, told_there}
 use Rattle.gr_verdict.proofs.Members.{passes}

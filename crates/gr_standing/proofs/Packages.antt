@@ -9,7 +9,7 @@ use Rattle.gr_graph.proofs.Asked.{at_contains}
 use Rattle.gr_declared.specs.Package.{Package}
 use Rattle.gr_verdict.specs.declared.findings.Findings.{Findings}
 use Rattle.gr_verdict.specs.Verdicts.{Verdicts, IsPackageIn}
-use Rattle.gr_verdict.specs.Found.{known_by}
+use Rattle.gr_verdict.specs.Told.{known_by}
 use Rattle.gr_verdict.proofs.OneVerdict.{right_below, verdict_by, without_faults}
 use Rattle.gr_bound.specs.Uses.{IsPackage}
 use Rattle.gr_bound.specs.Workspaces.{IsSound, IsPackageAt, known_in}

@@ -18,7 +18,7 @@ use Rattle.gr_verdict.specs.declared.finding.Finding.{Finding}
 use Rattle.gr_verdict.specs.declared.judging.Judged.{Judged}
 use Rattle.gr_verdict.specs.Verdicts.{BuildsOn, Verdicts, IsFaultBy, HasInterface, IsVerdictBy}
 use Rattle.gr_verdict.specs.FaultLists.{AreListed}
-use Rattle.gr_verdict.specs.Found.{is_unknown, known_by, AreWhole, AreUsesOf, IsFinding}
+use Rattle.gr_verdict.specs.Told.{is_unknown, known_by, AreWhole, AreUsesOf, IsFinding}
 use Rattle.gr_verdict.specs.Steps.{IsBuildOrder, IsJudged, MayAdd, Learns}
 use Rattle.gr_verdict.proofs.Alike.{KnowsAlike, alike_back, package_as, fault_as}
 use Rattle.gr_verdict.proofs.Closed.{to_package}

@@ -14,7 +14,8 @@ use Rattle.gr_verdict.specs.declared.finding.Finding.{Finding}
 use Rattle.gr_verdict.specs.declared.findings.Findings.{Findings}
 use Rattle.gr_verdict.specs.declared.gathered.Gathered.{Gathered}
 use Rattle.gr_verdict.specs.Verdicts.{BuildsOn, AreVerdictsBelow, AreVerdicts}
-use Rattle.gr_verdict.specs.Found.{known_by, AreWhole, IsFindingOf, IsFoundBy, AreFindings}
+use Rattle.gr_verdict.specs.Found.{IsFoundBy, AreFindings}
+use Rattle.gr_verdict.specs.Told.{known_by, AreWhole, IsFindingOf}
 use Rattle.gr_verdict.specs.Steps.{AreKnown, AreGathered, AreAllGathered, IsGathered, IsBuildOrder, LearnsOf, MayLearn, somes}
 use Rattle.gr_verdict.proofs.Adding.{finding_as}
 use Rattle.gr_verdict.proofs.Knowing.{learnt_next}

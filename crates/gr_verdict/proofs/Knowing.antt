@@ -13,7 +13,7 @@ use Rattle.gr_declared.specs.declared.interfaces.Interfaces.{Interfaces}
 use Rattle.gr_verdict.specs.declared.finding.Finding.{Finding}
 use Rattle.gr_verdict.specs.Verdicts.{BuildsOn, Verdict, IsVerdict, follows}
 use Rattle.gr_verdict.specs.Laws.{IsSameVerdict}
-use Rattle.gr_verdict.specs.Found.{is_unknown, known_by, AreWhole}
+use Rattle.gr_verdict.specs.Told.{is_unknown, known_by, AreWhole}
 use Rattle.gr_verdict.specs.Steps.{AreKnown, Learns}
 
 -- where the same is known of a path

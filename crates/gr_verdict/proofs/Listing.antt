@@ -14,7 +14,8 @@ use Rattle.gr_verdict.specs.declared.finding.Finding.{Finding}
 use Rattle.gr_verdict.specs.declared.findings.Findings.{Findings}
 use Rattle.gr_verdict.specs.Faults.{fault_cmp}
 use Rattle.gr_verdict.specs.FaultLists.{IsFaultOfSome, ListsFaults}
-use Rattle.gr_verdict.specs.Found.{known_by, AreFindings}
+use Rattle.gr_verdict.specs.Found.{AreFindings}
+use Rattle.gr_verdict.specs.Told.{known_by}
 use Rattle.gr_verdict.proofs.Members.{nothing_in}
 
 abbrev pub faults_in : Finding → List FileFault

@@ -12,7 +12,7 @@ use Rattle.gr_imports.specs.declared.states.ImportState.TheVariants.{Missing}
 use Rattle.gr_declared.specs.InterfacesView.{Notes, name_in, interface_in}
 use Rattle.gr_declared.specs.declared.interfaces.Interfaces.{Interfaces}
 use Rattle.gr_declared.proofs.ByteKeys.{cases_bytes}
-use Rattle.gr_verdict.specs.Found.{is_unknown, known_by}
+use Rattle.gr_verdict.specs.Told.{is_unknown, known_by}
 use Rattle.gr_verdict.specs.Verdicts.{BuildsOn, Verdicts, IsStateOf, is_missing, AreStates, IsSeenAs, AreSeen}
 use Rattle.gr_verdict.specs.Steps.{KnowsSameOfOthers}
 use Rattle.gr_verdict.proofs.Closed.{imports_closed}

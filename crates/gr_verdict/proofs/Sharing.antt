@@ -13,7 +13,7 @@ use Rattle.gr_declared.specs.InterfacesView.{name_in, interface_in, name_or_none
 use Rattle.gr_declared.specs.declared.interfaces.Interfaces.{Interfaces}
 use Rattle.gr_declared.proofs.ByteKeys.{cases_bytes}
 use Rattle.gr_verdict.specs.Verdicts.{BuildsOn, IsSeenAs, seen, unseen, AreSeen}
-use Rattle.gr_verdict.specs.Found.{is_unknown, known_by, AreWhole}
+use Rattle.gr_verdict.specs.Told.{is_unknown, known_by, AreWhole}
 use Rattle.gr_verdict.specs.Steps.{MayShare, IsSharedOf}
 use Rattle.gr_verdict.proofs.Closed.{to_package}
 use Rattle.gr_verdict.proofs.Members.{nothing_in}

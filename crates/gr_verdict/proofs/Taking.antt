@@ -5,12 +5,13 @@ use Rattle.std.proofs.lemmas.Option.{none-some, same_Some, slice_get_within}
 use Rattle.gr_text.specs.Workspace.{Workspace}
 use Rattle.gr_text.specs.Packages.{package_paths}
 use Rattle.gr_declared.specs.InterfacesView.{name_in, interface_in, no_interface, Shares}
+use Rattle.gr_declared.specs.declared.interfaces.Interfaces.{Interfaces}
 use Rattle.gr_declared.proofs.ByteKeys.{cases_bytes}
 use Rattle.gr_declared.proofs.Paths.{get_before, get_last}
 use Rattle.gr_verdict.specs.declared.finding.Finding.{Finding}
 use Rattle.gr_verdict.specs.declared.gathered.Gathered.{Gathered}
 use Rattle.gr_verdict.specs.declared.known.KnownVerdict.{KnownVerdict}
-use Rattle.gr_verdict.specs.Found.{known_by, AreWhole, IsFindingOf, TellsVerdict}
+use Rattle.gr_verdict.specs.Told.{known_by, AreWhole, IsFindingOf, TellsVerdict}
 use Rattle.gr_verdict.specs.Steps.{AreKnown, AreGathered, IsGathered}
 use Rattle.gr_verdict.specs.Verdicts.{IsVerdict}
 use Rattle.gr_verdict.proofs.Knowing.{known_as, known_next, verdict_as}
@@ -29,6 +30,16 @@ before_or_last (z ∷ zs) y (suc m) x e = elim (before_or_last zs y m x e) [
 
 still_there : {X : Type 0} (xs : List X) (y : X) (m : ℕ) (x : X) → slice_get xs m ≡ Some x → slice_get (xs ++ y ∷ []) m ≡ Some x
 still_there xs y m x e = get_before xs y m (slice_get_within xs m x e) ∙ e
+
+-- what is known without a name is known as nothing, also with what is shared of one package
+pub whole_shared : (p : List ℕ) (others old new : Interfaces) → Shares others old new p → (name_in others p ≡ None → interface_in others p ≡ no_interface p) →
+    AreWhole old → AreWhole new
+whole_shared p others old new s nothing whole q gone = elim (cases_bytes q p) [
+  | inl e ↦ (
+      let none : name_in others p ≡ None = sym s.has_name ∙ ap (name_in new) (sym e) ∙ gone in
+      ap (interface_in new) e ∙ s.has_interface ∙ nothing none ∙ ap no_interface (sym e))
+  | inr ne ↦ (let same = s.elsewhere q ne in same.interface ∙ whole q (sym same.name ∙ gone))
+]
 
 -- nothing yet
 
@@ -95,15 +106,6 @@ module _ (w : Workspace) (n : ℕ) (p : List ℕ) (at : slice_get (package_paths
       }
 
   module _ (told : KnownVerdict) (tells : TellsVerdict w p told) (s : Shares told.interfaces old.interfaces new.interfaces p) where
-    -- what is known without a name is known as nothing
-    whole_taken : AreWhole new.interfaces
-    whole_taken q gone = elim (cases_bytes q p) [
-      | inl e ↦ (
-          let none : name_in told.interfaces p ≡ None = sym s.has_name ∙ ap (name_in new.interfaces) (sym e) ∙ gone in
-          ap (interface_in new.interfaces) e ∙ s.has_interface ∙ tells.whole none ∙ ap no_interface (sym e))
-      | inr ne ↦ (let same = s.elsewhere q ne in same.interface ∙ h.verdicts.whole q (sym same.name ∙ gone))
-    ]
-
     pub taken_next : new.findings.items ≡ fs ++ Some told.finding ∷ [] → AreGathered w (n + 1) new
     taken_next e =
         let o : Option Finding = Some told.finding in
@@ -115,6 +117,7 @@ module _ (w : Workspace) (n : ℕ) (p : List ℕ) (at : slice_get (package_paths
           verdicts = subst (λ l. AreKnown w (IsGathered l) new.interfaces) (sym e)
               (known_next w (IsGathered fs) (IsGathered gs) n p at
               (λ m c. elim (there_or_here o m c) [ inl before ↦ inl before | inr last ↦ inr last.0 ])
-              (still o) here fresh old.interfaces new.interfaces h.verdicts s.elsewhere whole_taken own);
+              (still o) here fresh old.interfaces new.interfaces h.verdicts s.elsewhere
+              (whole_shared p told.interfaces old.interfaces new.interfaces s tells.whole h.verdicts.whole) own);
           each = each_next o e (λ f is. subst (IsFindingOf w p) (same_Some told.finding f is) tells.finding);
         }

@@ -16,7 +16,7 @@ use Rattle.gr_declared.specs.declared.interfaces.Interfaces.{Interfaces}
 use Rattle.gr_verdict.specs.Faults.{placed, placed_in}
 use Rattle.gr_verdict.specs.Verdicts.{Verdicts, BuildsOn, IsFaultBy, HasInterface, IsVerdictBy, IsVerdict}
 use Rattle.gr_verdict.specs.FaultLists.{AreListed}
-use Rattle.gr_verdict.specs.Found.{known_by, AreWhole, AreUsesOf, IsFinding, IsFindingOf}
+use Rattle.gr_verdict.specs.Told.{known_by, AreWhole, AreUsesOf, IsFinding, IsFindingOf}
 use Rattle.gr_verdict.specs.declared.fault.FileFault.{FileFault}
 use Rattle.gr_verdict.specs.declared.finding.Finding.{Finding}
 use Rattle.gr_verdict.specs.declared.judging.Judged.{Judged}

@@ -1,5 +1,5 @@
 -- One package further.
-use Rattle.gr_verdict.proofs.Telling.{nothing_told, told_next}
+use Rattle.gr_verdict.proofs.Telling.{nothing_told, told_next, known_still}
 use Rattle.gr_keep.proofs.knowing.kept_verdicts.Goals as goal
 
 pub loop-number-init : goal.loop-number-init
@@ -11,4 +11,4 @@ loop-number-preserved c =
     c.loop-number.invariant c.in_ok-verdict.ensures
 
 pub returns : goal.returns
-returns c = c.loop-number.invariant.verdicts
+returns c = known_still c.args.after.now c.loop-number.carried c.keep_earlier.new.self c.keep_earlier.ensures c.loop-number.invariant.verdicts

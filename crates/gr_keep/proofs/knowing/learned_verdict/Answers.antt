@@ -4,7 +4,7 @@ use Rattle.std.specs.Prelude.{Some, Option}
 use Rattle.std.proofs.lemmas.Option.{same_Some}
 use Rattle.std.proofs.lemmas.Result.{IfOk-weaker}
 use Rattle.gr_graph.specs.Graphs.{OfPackage}
-use Rattle.gr_verdict.specs.Found.{MayTell}
+use Rattle.gr_verdict.specs.Told.{MayTell}
 use Rattle.gr_verdict.specs.declared.known.KnownVerdict.{KnownVerdict}
 use Rattle.gr_verdict.proofs.Local.{same_back}
 use Rattle.gr_keep.specs.Knowing.{TellsThere}

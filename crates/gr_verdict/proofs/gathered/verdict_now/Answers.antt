@@ -4,7 +4,7 @@ use Rattle.std.specs.Prelude.{Some}
 use Rattle.std.proofs.lemmas.Option.{none-some, same_Some}
 use Rattle.gr_declared.specs.InterfacesView.{name_in, interface_in}
 use Rattle.gr_verdict.specs.declared.known.KnownVerdict.{KnownVerdict}
-use Rattle.gr_verdict.specs.Found.{IsFindingOf, TellsVerdict}
+use Rattle.gr_verdict.specs.Told.{IsFindingOf, TellsVerdict}
 use Rattle.gr_verdict.proofs.Telling.{told_alone}
 use Rattle.gr_verdict.proofs.gathered.verdict_now.Goals as goal
 

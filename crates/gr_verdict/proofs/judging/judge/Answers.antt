@@ -4,7 +4,7 @@ use Rattle.std.proofs.lemmas.Result.{IfOk-weaker}
 use Rattle.gr_text.specs.Workspace.{Workspace}
 use Rattle.gr_graph.specs.Graphs.{IsPackage, OfPackage}
 use Rattle.gr_verdict.specs.Verdicts.{Verdicts}
-use Rattle.gr_verdict.specs.Found.{known_by}
+use Rattle.gr_verdict.specs.Told.{known_by}
 use Rattle.gr_verdict.specs.Steps.{IsJudged}
 use Rattle.gr_verdict.proofs.Members.{vec_empty, vec_holds}
 use Rattle.gr_verdict.proofs.judging.judge.Goals as goal

@@ -9,7 +9,7 @@ use Rattle.gr_imports.specs.States.{state_in}
 use Rattle.gr_declared.specs.InterfacesView.{name_in, interface_in}
 use Rattle.gr_types.specs.Check.{IsFoundIn}
 use Rattle.gr_verdict.specs.declared.fault.FileFault.{FileFault}
-use Rattle.gr_verdict.specs.Found.{known_by}
+use Rattle.gr_verdict.specs.Told.{known_by}
 use Rattle.gr_verdict.specs.Steps.{IsPlacedOf}
 use Rattle.gr_verdict.proofs.Judged.{judged_by}
 use Rattle.gr_verdict.proofs.Noting.{seen_still}

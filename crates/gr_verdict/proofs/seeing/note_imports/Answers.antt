@@ -8,7 +8,7 @@ use Rattle.gr_graph.specs.Packages.{PackageImports}
 use Rattle.gr_imports.specs.States.{state_in}
 use Rattle.gr_declared.specs.InterfacesView.{Notes}
 use Rattle.gr_meanings.proofs.BoundLists.{slice_get_some}
-use Rattle.gr_verdict.specs.Found.{known_by}
+use Rattle.gr_verdict.specs.Told.{known_by}
 use Rattle.gr_verdict.proofs.Members.{taken_or_next}
 use Rattle.gr_verdict.proofs.Noting.{AreNoted, none_noted, noted_next, all_noted}
 use Rattle.gr_verdict.proofs.seeing.note_imports.Goals as goal

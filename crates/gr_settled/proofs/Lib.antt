@@ -1,0 +1,8 @@
+-- The lemmas of this crate.
+pub mod Reaching
+pub mod Slots
+pub mod Asked
+pub mod Own
+pub mod Members
+pub mod Functions
+pub mod Settled
