@@ -2,8 +2,7 @@
 pub mod Reached
 pub mod SearchSteps
 pub mod Held
-pub mod Cycles
-pub mod Ordered
+pub mod Closed
 pub mod Noted
 pub mod Answered
 pub mod ImportViews

@@ -5,7 +5,9 @@ use Rattle.std.specs.List.{Contains}
 use Rattle.std.proofs.lemmas.Bool.{cases_lt, cases_eq}
 use Rattle.std.proofs.lemmas.List.{get_or-set_same, get_or-set_other, length-set, take_more, get_or_append_left, get_or_push, get_or_past, length_push}
 use Rattle.std.proofs.lemmas.List.Elements.{Contains-push, Contains-push_cases, Contains-append_left}
+use Rattle.std.specs.List.Sorted.{IsStrictlyIncreasing}
 use Rattle.gr_graph.specs.Imports.{Links, Imports, imports_of, NotesRow, HoldImporters}
+use Rattle.gr_graph.proofs.Held.{rising_push, rising_front, below_last}
 
 -- one more package of the row
 pub NotesRow-more : (old mid : Links) (row : List ℕ) (i importer : ℕ) → i < length row → get_or row i 0 < length mid →
@@ -49,6 +51,17 @@ NotesRow-more old mid row i importer h within s =
                 w),
           ))
           (cases_eq q n);
+      rising = λ up below old_up q. (
+          let rises : IsStrictlyIncreasing (take i row ++ n ∷ []) = up in
+          let mid_up = s.rising (rising_front (take i row) n rises) below old_up in
+          ⊎_elim
+          (λ (e : q ≡ n). subst IsStrictlyIncreasing (sym (ap (imports_of new) e ∙ here))
+          (rising_push (imports_of mid n) importer (mid_up n) (λ p c. ⊎_elim
+          (λ (a : Contains (imports_of old n) p). below n p a)
+          (λ (a : (p ≡ importer) × Contains (take i row) n). let less = below_last (take i row) n n rises a.1 in absurd (omega (arith, less)))
+          ((s.each n p).0 c))))
+          (λ (ne : q ≡ n → ⊥). subst IsStrictlyIncreasing (sym (get_or-set_other mid n q (imports_of mid n ++ importer ∷ []) [] ne)) (mid_up q))
+          (cases_eq q n));
     })
 
 -- one more row
@@ -66,6 +79,7 @@ HoldImporters-more g old new n s r =
             (λ (b : n ≤ p). let same : p ≡ n = omega (arith, w.0) in (r.each q p).1 (inr (same, subst (λ (k : ℕ). Imports g k q) same w.1)))
             (cases_lt p n),
       );
+      rising = λ ups. r.rising (ups n) (λ q p c. ((s.each q p).0 c).0) (s.rising ups);
     }
 
 -- one more empty list

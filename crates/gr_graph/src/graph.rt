@@ -14,9 +14,6 @@ ghost use Rattle.gr_graph.specs.Graphs.{
   IsPackage,
   OfPackage,
   HoldsPackages,
-  IsOnImportCycle,
-  IsImportCycle,
-  IsPackageOrder,
 };
 
 use crate::import_links::ImportLinks;
@@ -196,10 +193,11 @@ impl Graph {
         self.links().imports(number)
     }
 
-    /// The packages that import one directly.
+    /// The packages that import one directly, in their order.
     pub fn importers(&self, number: usize) -> &[usize]
         requires { number < length (package_paths self.now) }
-        ensures { OfPackage self.now number (λ p. HoldsPackages self.now (λ q. PackageImports self.now q p) result.now) }
+        ensures importers { OfPackage self.now number (λ p. HoldsPackages self.now (λ q. PackageImports self.now q p) result.now) }
+        ensures rising { IsStrictlyIncreasing result.now }
     {
         self.links().importers(number)
     }
@@ -211,21 +209,6 @@ impl Graph {
         ensures rising { IsStrictlyIncreasing result.now }
     {
         self.links().closure(number)
-    }
-
-    /// Packages from one back to itself, each importing the next. The last imports the first.
-    pub fn cycle_of(&self, number: usize) -> Option<&[usize]>
-        requires { number < length (package_paths self.now) }
-        ensures { OfPackage self.now number (λ p. MatchOption result (IsOnImportCycle self.now p → ⊥) (λ cycle. IsImportCycle self.now p cycle.now)) }
-    {
-        self.links().cycle_of(number)
-    }
-
-    /// The packages that reach no cycle, each behind all that it imports.
-    pub fn order(&self) -> &[usize]
-        ensures { IsPackageOrder self.now result.now }
-    {
-        self.links().order()
     }
 }
 

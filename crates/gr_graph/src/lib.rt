@@ -9,7 +9,6 @@ mod import_links;
 mod import_paths;
 mod importers;
 mod kept;
-mod order;
 mod package;
 mod package_list;
 mod packages;

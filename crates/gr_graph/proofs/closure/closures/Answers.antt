@@ -1,7 +1,7 @@
 -- One more closure.
 use Rattle.std.proofs.Common.{arith}
 use Rattle.std.proofs.lemmas.List.{length_push}
-use Rattle.gr_graph.proofs.Cycles.{closures_more}
+use Rattle.gr_graph.proofs.Closed.{closures_more}
 use Rattle.gr_graph.proofs.closure.closures.Goals as goal
 
 pub loop-number-preserved : goal.loop-number-preserved

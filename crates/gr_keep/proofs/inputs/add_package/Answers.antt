@@ -2,7 +2,8 @@
 use Rattle.std.proofs.Common.{◌≡◌, ℕ, List, map, sym, subst, ◌∙◌}
 use Rattle.std.proofs.lemmas.Option.{same_Some}
 use Rattle.gr_text.specs.Packages.{package_files}
-use Rattle.gr_keep.specs.Inputs.{tree_file, faulty_file, Adds}
+use Rattle.gr_keep.specs.Inputs.{faulty_file, Adds}
+use Rattle.gr_verdict.specs.Earlier.{tree_file}
 use Rattle.gr_keep.proofs.ClosureFiles.{adds_both, parsed_files}
 use Rattle.gr_keep.proofs.inputs.add_package.Goals as goal
 

@@ -2,7 +2,8 @@
 use Rattle.std.proofs.Common.{◌≡◌, ◌+◌, take, map, refl, ap, subst, ◌∙◌, arith}
 use Rattle.std.proofs.lemmas.List.{take_all}
 use Rattle.gr_scan.specs.CutText.{CutText}
-use Rattle.gr_keep.specs.Inputs.{tree_file, Adds}
+use Rattle.gr_keep.specs.Inputs.{Adds}
+use Rattle.gr_verdict.specs.Earlier.{tree_file}
 use Rattle.gr_keep.proofs.ClosureFiles.{adds_none, adds_more, mapped_more}
 use Rattle.gr_keep.proofs.inputs.add_trees.Goals as goal
 
