@@ -1,5 +1,5 @@
 -- The files of a closure are those of its packages.
-use Rattle.std.proofs.Common.{◌≡◌, ℕ, true, List, length, Some, slice_get, refl, sym, ap, subst, ◌∙◌, ◌&&◌, ◌==◌}
+use Rattle.std.proofs.Common.{◌≡◌, ℕ, true, List, Some, refl, sym, ap, subst, ◌∙◌, ◌&&◌, ◌==◌}
 use Rattle.std.specs.FinMap.{entries, get}
 use Rattle.std.specs.List.{Contains}
 use Rattle.std.specs.Cmp.Lexicographic.{pointwise, bytes_decides}
