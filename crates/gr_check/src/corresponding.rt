@@ -10,7 +10,7 @@ use crate::held::SoundWorkspace;
 use gr_bound::Declaration;
 use gr_expr::symbol::{SharedPath, Symbol};
 use gr_revision::Moves;
-use gr_text::{Path, Place};
+use gr_text::Place;
 use std::alloc::AllocError;
 
 /// Whether two declarations are the same predeclared name.
@@ -68,25 +68,12 @@ pub fn is_same(d: &Declaration, e: &Declaration) -> bool
     }
 }
 
-fn is_path(one: &Path, other: &Path) -> bool
-    ensures { IsTrue result ↔ (one.now ≡ other.now) }
-{
-    one.as_str().as_bytes() == other.as_str().as_bytes()
-}
-
-/// Whether two places are the same.
-fn is_place(one: &Place, other: &Place) -> bool
-    ensures { IsTrue result ↔ (one.now ≡ other.now) }
-{
-    one.offset == other.offset && is_path(&one.path, &other.path)
-}
-
 /// Whether a place goes to another.
 pub fn goes_to(moves: &Moves<'_>, old: &Place, new: &Place) -> Result<bool, AllocError>
     ensures { IfOk result (λ yes. IsTrue yes ↔ (moved moves.now old.now ≡ new.now)) }
 {
-    let place = moves.place(&old.path, old.offset)?;
-    Ok(is_place(&place, new))
+    let file = moves.file(&old.path);
+    moves.goes_to(file, old.offset, &new.path, new.offset)
 }
 
 /// Whether a declaration of the one workspace has become a declaration of the other.

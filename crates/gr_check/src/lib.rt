@@ -1,6 +1,7 @@
 //! Whether an edit set preserves the bindings of a workspace.
 #![tactic(auto)]
 
+mod aligned;
 mod among;
 mod corresponding;
 mod held;

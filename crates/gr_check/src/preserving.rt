@@ -12,6 +12,7 @@ ghost use Rattle.gr_check.specs.Sound.{view_in};
 ghost use Rattle.gr_check.specs.Steps.{KeepsAll, AddsNowhere};
 ghost use Rattle.gr_revision.specs.RevisionsOfEdits.{revision_of};
 
+use crate::aligned::{Compared, keep_order};
 use crate::held::SoundWorkspace;
 use crate::keeping::{adds_nowhere, are_kept};
 use crate::keeps_among::keeps_among;
@@ -36,6 +37,14 @@ fn keeps(
     ensures { IfOk result (λ kept. IsTrue kept
         ↔ (KeepsAll (view_in before.now) (view_in then.now) (moved moves.now) × AddsNowhere (view_in before.now) (view_in then.now) (moved moves.now))) }
 {
+    let both = Compared {
+        moves,
+        before,
+        then,
+    };
+    if keep_order(&both)? {
+        return Ok(true);
+    }
     if are_kept(moves, before, then)? {
         adds_nowhere(alloc, moves, before, then)
     } else {

@@ -12,7 +12,7 @@ ghost use Rattle.gr_check.specs.Sound.{view_in, view_of, packages_of, IsBoundIn,
 use crate::held::SoundWorkspace;
 use gr_bound::{BoundSpot, Declaration, Packages, bindings_of};
 use gr_placed::bound_here::bound_here;
-use gr_placed::declared_places::{declared_at, declared_places};
+use gr_placed::declared_places::{declared_at, declared_near, declared_places};
 use gr_placed::identifier_places::identifier_places;
 use gr_text::Place;
 use std::alloc::{AllocError, Global};
@@ -32,7 +32,15 @@ impl<'a> SoundWorkspace<'a> {
         })
     }
 
-    /// Where a declaration stands. A predeclared one stands nowhere.
+    /// Where a declaration stands. A predeclared one stands nowhere. Its package is looked for first where the one before it was found.
+    pub fn declared_near(&self, near: &mut usize, declaration: &Declaration) -> Option<&Place>
+        requires { IsHeld self.now }
+        ensures { IsFoundIn (IsDeclaredAt (packages_of (view_in self.now)) declaration.now) result }
+    {
+        declared_near(self.packages.graph, &self.places, near, declaration)
+    }
+
+    /// The same of one declaration alone.
     pub fn declared_at(&self, declaration: &Declaration) -> Option<&Place>
         requires { IsHeld self.now }
         ensures { IsFoundIn (IsDeclaredAt (packages_of (view_in self.now)) declaration.now) result }
