@@ -2,7 +2,9 @@
 pub mod Resolving
 pub mod Becoming
 pub mod Every
+pub mod Alignment
 pub mod Deciding
 pub mod Laid
 pub mod Unaffected
 pub mod Marked
+pub mod Losing

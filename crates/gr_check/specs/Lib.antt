@@ -6,3 +6,5 @@ pub mod Held
 pub mod Steps
 pub mod Among
 pub mod Planned
+pub mod Aligned
+pub mod Answers

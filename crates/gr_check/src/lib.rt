@@ -3,10 +3,12 @@
 
 mod aligned;
 mod among;
+mod answer;
 mod corresponding;
 mod held;
 mod keeping;
 mod keeps_among;
+mod lost;
 mod planned;
 mod preserving;
 mod sound_workspace;

@@ -18,7 +18,7 @@ use Rattle.gr_edit.specs.declared.change.FileChange.{FileChange}
 use Rattle.gr_edit.proofs.Searched.{found_is, search_cmp}
 use Rattle.gr_edit.proofs.Steps.{drop_next, past_start, past_later, past_more, past_all, past_stops}
 use Rattle.gr_revision.specs.declared.moves.End.{End}
-use Rattle.gr_revision.specs.FilesMoved.{HasEnds, goes_by}
+use Rattle.gr_revision.specs.FilesMoved.{HasEnds}
 use Rattle.gr_revision.specs.Ends.{past_at, IsEnd, AreEndsBelow, AreEnds, AreEndsOf, IsLastEnd, IsChangeOf}
 
 -- what a list with one more element has at a number
