@@ -8,19 +8,23 @@ use Rattle.std.specs.Ordering.{is_lt, ordering_index}
 use Rattle.std.specs.Cmp.{tied_itself}
 use Rattle.std.proofs.lemmas.Bool.{cases_lt}
 use Rattle.std.proofs.lemmas.Option.{same_Some, slice_get_within, slice_get_read, get_or_from_slice_get}
+use Rattle.gr_text.specs.Packages.{package_paths}
 use Rattle.gr_text.specs.declared.place.Place.{Place}
+use Rattle.gr_declared.specs.Package.{Package}
 use Rattle.gr_bound.specs.declared.bound_spot.BoundSpot.{BoundSpot}
 use Rattle.gr_bound.specs.declared.declaration.Declaration.{Declaration}
 use Rattle.gr_bound.specs.Bindings.{place_at}
 use Rattle.gr_bound.specs.Places.{place_cmp}
 use Rattle.gr_bound.specs.Uses.{IsUseOf}
+use Rattle.gr_bound.specs.Workspaces.{IsPackageAt, known_in}
 use Rattle.gr_bound.proofs.BindingOrder.{compared, rises}
 use Rattle.gr_bound.proofs.PlaceOrder.{place_cmp_total, place_cmp_exact}
+use Rattle.gr_bound.proofs.Units.{numbered, number_within, one_at}
 use Rattle.gr_revision.proofs.Ending.{element}
 use Rattle.gr_placed.specs.Beginnings.{BeginsAmong}
 use Rattle.gr_placed.specs.Identified.{IsIdentifierAt}
 use Rattle.gr_check.specs.declared.aligned.Compared.{Compared}
-use Rattle.gr_check.specs.Aligned.{AreCompared, moved_in, old_of, new_of, ArePaired, AreApart, IsAlignedAt, AreAlignedBelow, GoInOrder, AreSafe}
+use Rattle.gr_check.specs.Aligned.{AreCompared, moved_in, old_of, new_of, ArePaired, AreApart, IsAlignedAt, AreAlignedBelow, GoInOrder, IsSafeAt, IsSafeIn, IsSafeNumber, AreSafe}
 use Rattle.gr_check.specs.Preserved.{IsBoundToOne}
 use Rattle.gr_check.specs.Sound.{view_in}
 use Rattle.gr_check.specs.Steps.{Becomes, IsBoundBy, KeepsAll, AddsNowhere}
@@ -69,6 +73,66 @@ has_at xs n x at = (n, slice_get_within xs n x at, get_or_from_slice_get xs n x 
 
 pub at_of : {X : Type 0} (xs : List X) (x : X) (h : Contains xs x) → slice_get xs h.0 ≡ Some x
 at_of xs x h = slice_get_read xs (length xs) h.0 x refl h.1 (sym h.2)
+
+-- one number more
+pub none_aligned : (c : Compared) (old new : List BoundSpot) → AreAlignedBelow c old new 0
+none_aligned c old new = record { each = λ n lt. absurd (omega arith) }
+
+pub one_aligned : (c : Compared) (old new : List BoundSpot) (k : ℕ) → IsAlignedAt c old new k → AreAlignedBelow c old new k →
+    AreAlignedBelow c old new (k + 1)
+one_aligned c old new k is h = record {
+  each = λ n lt. elim (cases_lt n k) [
+    | inl below ↦ h.each n below
+    | inr ge ↦ (let same : k ≡ n = omega arith in subst (IsAlignedAt c old new) same is)
+  ];
+}
+
+-- the identifiers of the first numbers, and of the first packages
+pub record AreSafeBelow (c : Compared) (p : Package) (count : ℕ) : Type 0 where
+  pub each : (u : ℕ) → u < count → IsSafeAt c p u
+
+pub none_safe : (c : Compared) (p : Package) → AreSafeBelow c p 0
+none_safe c p = record { each = λ u lt. absurd (omega arith) }
+
+pub one_safe : (c : Compared) (p : Package) (k : ℕ) → IsSafeAt c p k → AreSafeBelow c p k → AreSafeBelow c p (k + 1)
+one_safe c p k is h = record {
+  each = λ u lt. elim (cases_lt u k) [
+    | inl below ↦ h.each u below
+    | inr ge ↦ (let same : k ≡ u = omega arith in subst (IsSafeAt c p) same is)
+  ];
+}
+
+pub all_safe : (c : Compared) (p : Package) (count : ℕ) → count ≡ p.size → AreSafeBelow c p count → IsSafeIn c p
+all_safe c p count end h u place b = let lt = b.0.0 in h.each u (omega (arith, lt, end)) place b
+
+pub record AreNumbersSafe (c : Compared) (count : ℕ) : Type 0 where
+  pub each : (n : ℕ) → n < count → IsSafeNumber c n
+
+pub no_number_safe : (c : Compared) → AreNumbersSafe c 0
+no_number_safe c = record { each = λ n lt. absurd (omega arith) }
+
+pub one_number_safe : (c : Compared) (k : ℕ) → IsSafeNumber c k → AreNumbersSafe c k → AreNumbersSafe c (k + 1)
+one_number_safe c k is h = record {
+  each = λ n lt. elim (cases_lt n k) [
+    | inl below ↦ h.each n below
+    | inr ge ↦ (let same : k ≡ n = omega arith in subst (IsSafeNumber c) same is)
+  ];
+}
+
+-- the package of a number is the one that was asked
+pub safe_number : (c : Compared) (n : ℕ) (p : Package) →
+    IsPackageAt c.before.now.packages.now.graph.now (known_in c.before.now.packages.now.found.now) n p → IsSafeIn c p → IsSafeNumber c n
+safe_number c n p is h q also =
+    subst (IsSafeIn c) (one_at c.before.now.packages.now.graph.now (known_in c.before.now.packages.now.found.now) n p q is also) h
+
+pub all_numbers_safe : (c : Compared) (count : ℕ) → length (package_paths c.before.now.packages.now.graph.now) ≡ count → AreNumbersSafe c count →
+    AreSafe c
+all_numbers_safe c count end h p is =
+    let w = c.before.now.packages.now.graph.now in
+    let known = known_in c.before.now.packages.now.found.now in
+    let k = numbered w known p is in
+    let within : k.0 < length (package_paths w) = number_within w known k.0 p k.1 in
+    h.each k.0 (omega arith) p k.1
 
 module _ (c : Compared) (held : AreCompared c) (go : GoInOrder c) where
   -- the one with which an identifier is paired

@@ -2,10 +2,10 @@
 ghost use Rattle.std.specs.Prelude.{◌≡◌, ◌<◌, length, IfOk, IsTrue};
 ghost use Rattle.gr_text.specs.Packages.{package_paths};
 ghost use Rattle.gr_declared.specs.PackageView.{package_of};
-ghost use Rattle.gr_edit.specs.Moved.{moved};
 ghost use Rattle.gr_placed.specs.Beginnings.{place_of};
 ghost use Rattle.gr_revision.specs.FilesMoved.{AreMovesOf};
-ghost use Rattle.gr_check.specs.Aligned.{ArePaired, AreApart, AreAligned, IsSafe, IsSafeIn, IsSafeAt, AreCompared, moved_in};
+ghost use Rattle.gr_bound.specs.Bindings.{place_at};
+ghost use Rattle.gr_check.specs.Aligned.{AreCompared, moved_in, ArePaired, AreApart, IsAlignedAt, AreAlignedBelow, GoInOrder, IsFileAt, IsSafe, IsSafeAt, IsSafeIn, IsSafeNumber, AreSafe};
 ghost use Rattle.gr_check.specs.Sound.{view_in};
 ghost use Rattle.gr_check.specs.Steps.{Becomes, KeepsAll, AddsNowhere};
 
@@ -78,16 +78,22 @@ fn are_paired(
     }
 }
 
+/// Whether two identifiers begin at two places.
+fn differ(one: &BoundSpot, other: &BoundSpot) -> bool
+    ensures { IsTrue result → place_at one.now ≡ place_at other.now → ⊥ }
+{
+    one.spot.offset != other.spot.offset || one.spot.path != other.spot.path
+}
+
 /// Whether an identifier and the one behind it, if there is one, begin at two places.
 fn are_apart(new: &[BoundSpot], number: usize) -> bool
     requires { number < length new.now }
     ensures { IsTrue result → AreApart new.now number }
 {
-    let next = number + 1;
-    if next >= new.len() {
-        return true;
+    match new.get(number + 1) {
+        None => true,
+        Some(next) => differ(&new[number], next),
     }
-    new[number].spot.offset != new[next].spot.offset || new[number].spot.path != new[next].spot.path
 }
 
 /// Whether the identifiers of a number are paired, and the one is not at the place of the next.
@@ -103,7 +109,7 @@ fn is_aligned(
     requires file { AreMovesOf both.now.moves.now file }
     requires old { number < length old.now }
     requires new { number < length new.now }
-    requires path { IsFileOf file.old.now old.now number }
+    requires path { IsFileAt old.now number file.old.now }
     ensures { IfOk result (λ yes. IsTrue yes → IsAlignedAt both.now old.now new.now number) }
 {
     if are_apart(new, number) {
@@ -123,7 +129,7 @@ fn are_all_aligned<'a>(
     requires both { AreCompared both.now }
     requires file { AreMovesOf both.now.moves.now file }
     requires size { length old.now ≡ length new.now }
-    ensures { IfOk result (λ yes. IsTrue yes → AreAligned both.now old.now new.now) }
+    ensures { IfOk result (λ yes. IsTrue yes → AreAlignedBelow both.now old.now new.now (length old.now)) }
 {
     let mut file = file;
     let mut near = Near { before: 0, then: 0 };
@@ -141,8 +147,8 @@ fn go_in_order(both: &Compared<'_, '_, '_, '_>) -> Result<bool, AllocError>
     requires { AreCompared both.now }
     ensures { IfOk result (λ yes. IsTrue yes → GoInOrder both.now) }
 {
-    let old = both.before.bound();
-    let new = both.then.bound();
+    let old = both.before.bindings.as_slice();
+    let new = both.then.bindings.as_slice();
     if old.len() != new.len() {
         return Ok(false);
     }
@@ -161,11 +167,14 @@ fn is_safe(
     requires { AreCompared both.now }
     ensures { IfOk result (λ yes. IsTrue yes → IsSafe both.now (place_of at.entry)) }
 {
-    if is_bound(both.before.bound(), near, at) {
+    if is_bound(both.before.bindings.as_slice(), near, at) {
         return Ok(true);
     }
     let to = both.moves.place(at.path, at.offset)?;
-    Ok(find(both.then.bound(), &to).is_none())
+    match find(both.then.bindings.as_slice(), &to) {
+        None => Ok(true),
+        Some(_) => Ok(false),
+    }
 }
 
 /// The same of the identifier of a number, if it begins somewhere.

@@ -1,5 +1,5 @@
--- The answers to the goals of `declared_places::declared_at`.
-use Rattle.gr_placed.proofs.declared_places.declared_at.Goals as goal
+-- The answers to the goals of `declared_places::declared_near`.
+use Rattle.gr_placed.proofs.declared_places.declared_near.Goals as goal
 
 pub returns-in-Predeclared : goal.returns-in-Predeclared
 returns-in-Predeclared c = λ known are. rw c.in-Predeclared.is (λ place h. h)
