@@ -16,7 +16,7 @@ use gr_bound::bindings::find;
 use gr_bound::{BoundSpot, Declaration};
 use gr_declared::Package;
 use gr_placed::bound_here::is_bound;
-use gr_placed::{Beginning, start};
+use gr_placed::{NameStart, start};
 use gr_revision::{FileMoves, Moves};
 use std::alloc::AllocError;
 
@@ -162,7 +162,7 @@ fn go_in_order(both: &Compared<'_, '_, '_, '_>) -> Result<bool, AllocError>
 fn is_safe(
     both: &Compared<'_, '_, '_, '_>,
     near: &mut usize,
-    at: Beginning<'_>,
+    at: NameStart<'_>,
 ) -> Result<bool, AllocError>
     requires { AreCompared both.now }
     ensures { IfOk result (λ yes. IsTrue yes → IsSafe both.now (place_of at.entry)) }

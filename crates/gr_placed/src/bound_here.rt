@@ -8,7 +8,7 @@ ghost use Rattle.gr_bound.specs.Bindings.{place_at};
 ghost use Rattle.gr_bound.specs.Places.{place_cmp};
 ghost use Rattle.gr_placed.specs.Beginnings.{BeginsAmong, place_of};
 
-use crate::places::Beginning;
+use crate::places::NameStart;
 use gr_bound::BoundSpot;
 use gr_bound::bindings::compare;
 use gr_text::Place;
@@ -112,27 +112,27 @@ pub fn bound_here<'a>(bound: &'a [BoundSpot], near: &mut usize, place: &Place) -
 }
 
 /// Whether a bound identifier begins where a name does.
-fn begins(bound: &BoundSpot, at: Beginning<'_>) -> bool
+fn begins(bound: &BoundSpot, at: NameStart<'_>) -> bool
     ensures { IsTrue result ↔ (place_at bound.now ≡ place_of at.entry) }
 {
     bound.spot.offset == at.offset && bound.spot.path == *at.path
 }
 
 /// Whether the bound identifier of a number begins where a name does.
-fn begins_there(bound: &[BoundSpot], number: usize, at: Beginning<'_>) -> bool
+fn begins_there(bound: &[BoundSpot], number: usize, at: NameStart<'_>) -> bool
     ensures { IsTrue result → BeginsAmong bound.now (place_of at.entry) }
 {
     number < bound.len() && begins(&bound[number], at)
 }
 
 /// How a bound identifier compares with the beginning of a name.
-fn compare_start(bound: &BoundSpot, at: Beginning<'_>) -> Ordering {
+fn compare_start(bound: &BoundSpot, at: NameStart<'_>) -> Ordering {
     let by_path = bound.spot.path.cmp(at.path);
     by_path.then(bound.spot.offset.cmp(&at.offset))
 }
 
 /// Whether one of the bound identifiers begins where a name does, by a search. The number is that at which it was found.
-fn search(bound: &[BoundSpot], near: &mut usize, at: Beginning<'_>) -> bool
+fn search(bound: &[BoundSpot], near: &mut usize, at: NameStart<'_>) -> bool
     ensures { IsTrue result → BeginsAmong bound.now (place_of at.entry) }
 {
     match bound.binary_search_by(|b| compare_start(b, at)) {
@@ -144,7 +144,7 @@ fn search(bound: &[BoundSpot], near: &mut usize, at: Beginning<'_>) -> bool
 
 /// Whether one of the bound identifiers, which are in the order of their places, begins where a name does. It is looked for first
 /// where the one before it was found.
-pub fn is_bound(bound: &[BoundSpot], near: &mut usize, at: Beginning<'_>) -> bool
+pub fn is_bound(bound: &[BoundSpot], near: &mut usize, at: NameStart<'_>) -> bool
     ensures { IsTrue result → BeginsAmong bound.now (place_of at.entry) }
 {
     if begins_there(bound, *near, at) {

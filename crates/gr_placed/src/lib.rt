@@ -6,4 +6,4 @@ pub mod declared_places;
 pub mod identifier_places;
 mod places;
 
-pub use places::{Beginning, beginning, name_beginning, place_of, start};
+pub use places::{NameStart, beginning, name_beginning, place_of, start};

@@ -70,17 +70,17 @@ pub fn beginning(unit: Package<'_>, u: usize) -> Result<Option<Place>, AllocErro
 
 /// Where a name begins: at a byte of a file.
 #[derive(Clone, Copy)]
-pub struct Beginning<'a> {
+pub struct NameStart<'a> {
     pub path: &'a Path,
     pub offset: usize,
 }
 
 /// Where a name of a file begins; nowhere where the token is no name.
-fn start_in<'a>(file: &'a FileTree, token: usize) -> Option<Beginning<'a>>
+fn start_in<'a>(file: &'a FileTree, token: usize) -> Option<NameStart<'a>>
     ensures { IsFound (λ (place : At). NameBegins (Some (source_of file.now)) token place.path place.offset) (option_map place_of result) }
 {
     if is_name(file, token) {
-        Some(Beginning {
+        Some(NameStart {
             path: file.path(),
             offset: file.offset(token),
         })
@@ -90,7 +90,7 @@ fn start_in<'a>(file: &'a FileTree, token: usize) -> Option<Beginning<'a>>
 }
 
 /// Where the name at a position begins; nowhere where the token is no name.
-fn start_at<'a>(files: &'a [FileTree], at: Position) -> Option<Beginning<'a>>
+fn start_at<'a>(files: &'a [FileTree], at: Position) -> Option<NameStart<'a>>
     ensures { IsFound (λ (place : At). NameBegins (slice_get (map source_of files.now) at.file) at.index place.path place.offset) (option_map place_of result) }
 {
     match files.get(at.file) {
@@ -100,7 +100,7 @@ fn start_at<'a>(files: &'a [FileTree], at: Position) -> Option<Beginning<'a>>
 }
 
 /// Where an identifier begins; nowhere where it stands in no file, and for the literal of an import.
-pub fn start<'a>(unit: Package<'a>, u: usize) -> Option<Beginning<'a>>
+pub fn start<'a>(unit: Package<'a>, u: usize) -> Option<NameStart<'a>>
     requires { u < length unit.table.now.sites }
     ensures { IsFound (λ (place : At). BeginsAt (package_of unit.entry) place.path place.offset u) (option_map place_of result) }
 {
