@@ -18,8 +18,8 @@ use Rattle.gr_check.specs.declared.answer.Answer.TheVariants.{Yes, No, Unknown}
 use Rattle.gr_check.specs.Among.{view_among, IsBoundMarked, IsBoundThere, TellsMarked}
 use Rattle.gr_check.specs.Answers.{Tells}
 use Rattle.gr_check.specs.Preserved.{KeepsBindings}
-use Rattle.gr_check.specs.Steps.{Becomes, HasBound, IsKept}
-use Rattle.gr_check.proofs.Every.{spot_at}
+use Rattle.gr_kept.specs.Steps.{Becomes, HasBound, IsKept}
+use Rattle.gr_kept.proofs.Every.{spot_at}
 use Rattle.gr_check.proofs.Marked.{IsMarkedFolder, among_use, use_among, kept_by_marked}
 
 -- where none of those that begin where an identifier goes is bound to what its declaration has become, it is not kept

@@ -2,11 +2,11 @@
 ghost use Rattle.std.specs.Prelude.{IfOk, IsTrue};
 ghost use Rattle.gr_edit.specs.Moved.{moved};
 ghost use Rattle.gr_check.specs.Among.{AreHeld, view_among};
-ghost use Rattle.gr_check.specs.Steps.{Becomes, HasBound, IsKept};
+ghost use Rattle.gr_kept.specs.Steps.{Becomes, HasBound, IsKept};
 
 use crate::among::MarkedPackages;
-use crate::corresponding::{are_predeclared, goes_to};
 use gr_bound::{BoundSpot, Declaration};
+use gr_kept::{are_predeclared, goes_to};
 use gr_revision::Moves;
 use std::alloc::AllocError;
 

@@ -1,8 +1,8 @@
 -- None of those that were passed.
 use Rattle.gr_edit.specs.Moved.{moved}
 use Rattle.gr_check.specs.Among.{view_among}
-use Rattle.gr_check.specs.Steps.{Becomes}
-use Rattle.gr_check.proofs.Every.{HoldsBelow, Not}
+use Rattle.gr_kept.specs.Steps.{Becomes}
+use Rattle.gr_kept.proofs.Every.{HoldsBelow, Not}
 use Rattle.gr_check.proofs.lost.none_became.Given as goal
 
 abbrev pub invariant-loop-b : goal.invariant-loop-b
