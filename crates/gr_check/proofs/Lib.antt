@@ -4,4 +4,3 @@ pub mod Deciding
 pub mod Laid
 pub mod Unaffected
 pub mod Marked
-pub mod Losing

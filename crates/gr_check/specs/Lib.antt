@@ -2,4 +2,3 @@
 pub mod Preserved
 pub mod Among
 pub mod Planned
-pub mod Answers

@@ -2,9 +2,7 @@
 #![tactic(auto)]
 
 mod among;
-mod answer;
 mod keeps_among;
-mod lost;
 mod planned;
 mod preserving;
 

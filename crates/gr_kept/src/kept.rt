@@ -11,7 +11,27 @@ use crate::keeping::{adds_nowhere, are_kept};
 use gr_revision::Moves;
 use std::alloc::{AllocError, Global};
 
-/// Whether each identifier of a workspace stays bound to what its declaration becomes in another.
+/// Whether each identifier of a workspace stays bound to what its declaration becomes in another, by a search for each.
+fn keeps_each(
+    alloc: Global,
+    moves: &Moves<'_>,
+    before: &SoundWorkspace<'_>,
+    then: &SoundWorkspace<'_>,
+) -> Result<bool, AllocError>
+    requires before { IsHeld before.now }
+    requires then { IsHeld then.now }
+    ensures { IfOk result (λ kept. IsTrue kept
+        ↔ (KeepsAll (view_in before.now) (view_in then.now) (moved moves.now) × AddsNowhere (view_in before.now) (view_in then.now) (moved moves.now))) }
+{
+    if are_kept(moves, before, then)? {
+        adds_nowhere(alloc, moves, before, then)
+    } else {
+        Ok(false)
+    }
+}
+
+/// Whether each identifier of a workspace stays bound to what its declaration becomes in another: first by the order of the bound
+/// identifiers alone, and where that does not tell it by a search for each.
 pub fn keeps(
     alloc: Global,
     moves: &Moves<'_>,
@@ -31,9 +51,5 @@ pub fn keeps(
     if keep_order(&both)? {
         return Ok(true);
     }
-    if are_kept(moves, before, then)? {
-        adds_nowhere(alloc, moves, before, then)
-    } else {
-        Ok(false)
-    }
+    keeps_each(alloc, moves, before, then)
 }
