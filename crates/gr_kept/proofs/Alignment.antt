@@ -1,13 +1,13 @@
 -- Bound identifiers that go one to the next: each stays bound, and none is bound to more.
-use Rattle.std.proofs.Common.{ℕ, ◌≡◌, ◌+◌, ◌<◌, ◌≤◌, inl, inr, List, length, get_or, refl, sym, ap, subst, ◌∙◌, arith}
-use Rattle.std.specs.Prelude.{Some, Contains, slice_get}
+use Rattle.std.proofs.Common.{ℕ, ◌≡◌, ◌+◌, ◌<◌, ◌≤◌, inl, inr, List, [], ◌∷◌, length, get_or, refl, sym, ap, subst, ◌∙◌, arith}
+use Rattle.std.specs.Prelude.{None, Some, Contains, slice_get}
 use Rattle.std.specs.List.Sorted.{IsSortedBy}
 use Rattle.std.specs.declared.cmp.Ordering.{Ordering}
 use Rattle.std.specs.declared.cmp.Ordering.TheVariants.{Less, Equal, Greater}
 use Rattle.std.specs.Ordering.{is_lt, ordering_index}
 use Rattle.std.specs.Cmp.{tied_itself}
 use Rattle.std.proofs.lemmas.Bool.{cases_lt}
-use Rattle.std.proofs.lemmas.Option.{same_Some, slice_get_within, slice_get_read, get_or_from_slice_get}
+use Rattle.std.proofs.lemmas.Option.{none-some, same_Some, slice_get_within, slice_get_read, get_or_from_slice_get}
 use Rattle.gr_text.specs.Packages.{package_paths}
 use Rattle.gr_text.specs.declared.place.Place.{Place}
 use Rattle.gr_declared.specs.Package.{Package}
@@ -50,9 +50,9 @@ same_behind bs i j a b sorted apart at also same lt =
     let one : index a ≡ 1 = ap ordering_index (tied_itself place_cmp_total place) in
     let other : index b ≡ 1 = ap (λ p. ordering_index (place_cmp p place)) (sym same) ∙ one in
     let mine = get_or_from_slice_get bs (i + 1) x.0 x.0 x.1 in
-    let up : index a ≤ index x.0 = subst (λ y. index y ≤ index x.0) (get_or_from_slice_get bs i x.0 a at)
+    let up : index a ≤ index x.0 = subst (λ y. index y ≤ index x.0) (get_or_from_slice_get bs i a x.0 at)
     (subst (λ y. index (get_or bs i x.0) ≤ index y) mine (rises bs place sorted i (i + 1) x.0 (omega arith) within)) in
-    let down : index x.0 ≤ index b = subst (λ y. index x.0 ≤ index y) (get_or_from_slice_get bs j x.0 b also)
+    let down : index x.0 ≤ index b = subst (λ y. index x.0 ≤ index y) (get_or_from_slice_get bs j b x.0 also)
     (subst (λ y. index y ≤ index (get_or bs j x.0)) mine (rises bs place sorted (i + 1) j x.0 (omega arith) last)) in
     let between : index x.0 ≡ 1 = omega arith in
     apart a x.0 at x.1 (sym (place_cmp_exact (place_at x.0) place (equal_by (compared place x.0) between)))
@@ -66,6 +66,11 @@ one_there bs i j a b sorted apart at also same = elim (cases_lt i j) [
     | inr le ↦ omega arith
   ]
 ]
+
+-- a list that has nothing at its beginning
+pub no_first : {X : Type 0} (xs : List X) → slice_get xs 0 ≡ None → length xs ≡ 0
+no_first [] e = refl
+no_first (x ∷ xs) e = absurd (none-some x (sym e))
 
 -- what a list holds, and what it has at a number
 pub has_at : {X : Type 0} (xs : List X) (n : ℕ) (x : X) → slice_get xs n ≡ Some x → Contains xs x

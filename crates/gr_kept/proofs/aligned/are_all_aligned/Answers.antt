@@ -15,7 +15,7 @@ is_aligned-requires-clause-path c = λ b at.
     let k = c.loop-number.number in
     let one = c.index-old-number.result in
     let same : one ≡ b = same_Some one b (sym (slice_get_read old (length old) k one refl (omega arith) c.index-old-number.is) ∙ at) in
-    c.file_near-file.ensures.old ∙ ap (λ (x : BoundSpot). x.spot.path) same
+    c.file_near-file.ensures.old ∙ ap (λ (x : BoundSpot). x.spot.path) (sym c.index-old-number.is ∙ same)
 
 pub loop-number-preserved : goal.loop-number-preserved
 loop-number-preserved c = record {

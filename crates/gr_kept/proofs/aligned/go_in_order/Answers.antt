@@ -1,10 +1,11 @@
 -- The answers to the goals of `aligned::go_in_order`.
 use Rattle.std.proofs.Common.{ℕ, ◌≡◌, List, length, ap, sym, subst, ◌∙◌, arith}
 use Rattle.std.specs.Prelude.{IsTrue}
+use Rattle.std.specs.Option.{option_copied}
 use Rattle.std.proofs.lemmas.Result.{IfOk-weaker}
 use Rattle.gr_bound.specs.declared.bound_spot.BoundSpot.{BoundSpot}
 use Rattle.gr_kept.specs.Aligned.{old_of, new_of, AreAlignedBelow, GoInOrder}
-use Rattle.gr_kept.proofs.Alignment.{none_aligned}
+use Rattle.gr_kept.proofs.Alignment.{no_first, none_aligned}
 use Rattle.gr_kept.proofs.aligned.go_in_order.Goals as goal
 
 pub returns-in-None : goal.returns-in-None
@@ -12,9 +13,9 @@ returns-in-None c = λ t.
     let both = c.args.both.now in
     let same : c.as_slice-old.result.now ≡ old_of both = c.as_slice-old.ensures in
     let also : c.as_slice-new.result.now ≡ new_of both = c.as_slice-new.ensures in
-    let none : length c.as_slice-old.result.now ≡ 0 = ? in
+    let none = no_first c.as_slice-old.result.now (sym c.first.ensures.value ∙ ap option_copied c.in-None.is) in
     record {
-      size = ap length (sym same) ∙ omega arith ∙ ap length also;
+      size = ap length (sym same) ∙ c.if-old-new.false ∙ ap length also;
       each = subst (AreAlignedBelow both (old_of both) (new_of both)) (sym (ap length (sym same) ∙ none)) (none_aligned both (old_of both) (new_of both));
     }
 
