@@ -11,13 +11,8 @@ use Rattle.gr_bound.specs.declared.declaration.Declaration.{Declaration}
 use Rattle.gr_bound.specs.Uses.{IsPackage, IsUseOf}
 use Rattle.gr_placed.specs.Identified.{IsIdentifierAt}
 use Rattle.gr_revision.specs.Revisions.{Revision}
-use Rattle.gr_check.specs.Corresponding.{Corresponds}
-
--- a declaration that some use at a place is bound to, of two workspaces
-pub record IsBoundToOne (w : Workspace) (known : Verdicts) (place : Place) (P : Declaration → Type 0) : Type 0 where
-  pub declaration : Declaration
-  pub is_use : IsUseOf w known declaration place
-  pub holds : P declaration
+use Rattle.gr_kept.specs.BoundToOne.{IsBoundToOne}
+use Rattle.gr_kept.specs.Corresponding.{Corresponds}
 
 -- Each identifier is bound to a declaration exactly where it is afterwards bound to the one that this has become.
 pub record KeepsBindings (w : Workspace) (before : Verdicts) (r : Revision) (after : Verdicts) : Type 0 where
