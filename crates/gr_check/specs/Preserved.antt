@@ -1,8 +1,7 @@
 -- When a change preserves all bindings.
-use Rattle.std.specs.Prelude.{ℕ, [], Option, None, Some}
+use Rattle.std.specs.Prelude.{[], Option, None, Some}
 use Rattle.gr_text.specs.Workspace.{Workspace}
 use Rattle.gr_text.specs.declared.place.Place.{Place}
-use Rattle.gr_declared.specs.Package.{Package}
 use Rattle.gr_verdict.specs.Verdicts.{Verdicts, AreVerdicts}
 use Rattle.gr_verdict.specs.declared.known.Known.{Known}
 use Rattle.gr_verdict.specs.FaultLists.{ListsFaults}

@@ -22,10 +22,9 @@ use Rattle.gr_bound.proofs.PlaceOrder.{place_cmp_total, place_cmp_exact}
 use Rattle.gr_bound.proofs.Units.{numbered, number_within, one_at}
 use Rattle.gr_revision.proofs.Ending.{element}
 use Rattle.gr_placed.specs.Beginnings.{BeginsAmong}
-use Rattle.gr_placed.specs.Identified.{IsIdentifierAt}
 use Rattle.gr_kept.specs.declared.aligned.Compared.{Compared}
-use Rattle.gr_kept.specs.Aligned.{AreCompared, moved_in, old_of, new_of, ArePaired, AreApart, IsAlignedAt, AreAlignedBelow, GoInOrder, IsSafeAt, IsSafeIn, IsSafeNumber, AreSafe}
-use Rattle.gr_kept.specs.BoundToOne.{IsBoundToOne}
+use Rattle.gr_kept.specs.Aligned.{AreCompared, moved_in, old_of, new_of, ArePaired, AreApart, IsAlignedAt, AreAlignedBelow, GoInOrder, IsSafeAt, IsSafeIn}
+use Rattle.gr_kept.specs.Aligned.{IsSafeNumber, AreSafe}
 use Rattle.gr_kept.specs.Sound.{view_in}
 use Rattle.gr_kept.specs.Steps.{Becomes, IsBoundBy, KeepsAll, AddsNowhere}
 use Rattle.gr_kept.proofs.Every.{spot_at}

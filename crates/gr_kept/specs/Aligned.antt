@@ -1,6 +1,5 @@
 -- Bound identifiers that go one to the next: what they tell.
 use Rattle.std.specs.Prelude.{ℕ, ◌≡◌, ◌+◌, ◌<◌, ◌⊎◌, List, length, Some, slice_get}
-use Rattle.gr_text.specs.Packages.{package_paths}
 use Rattle.gr_text.specs.declared.place.Place.{Place}
 use Rattle.gr_edit.specs.Moved.{moved}
 use Rattle.gr_declared.specs.Package.{Package}
@@ -11,7 +10,6 @@ use Rattle.gr_bound.specs.Uses.{IsPackage}
 use Rattle.gr_bound.specs.Workspaces.{IsPackageAt, known_in}
 use Rattle.gr_placed.specs.Beginnings.{BeginsAmong}
 use Rattle.gr_kept.specs.declared.aligned.Compared.{Compared}
-use Rattle.gr_kept.specs.declared.held.SoundWorkspace.{SoundWorkspace}
 use Rattle.gr_kept.specs.Held.{IsHeld}
 use Rattle.gr_kept.specs.Sound.{view_in}
 use Rattle.gr_kept.specs.Steps.{Becomes}

@@ -1,5 +1,5 @@
 -- A workspace without faults, and what is known of its packages.
-use Rattle.std.specs.Prelude.{ℕ, ◌≡◌}
+use Rattle.std.specs.Prelude.{◌≡◌}
 use Rattle.gr_text.specs.Workspace.{Workspace}
 use Rattle.gr_text.specs.declared.place.Place.{Place}
 use Rattle.gr_declared.specs.Package.{Package}
@@ -7,9 +7,8 @@ use Rattle.gr_verdict.specs.Verdicts.{Verdicts}
 use Rattle.gr_bound.specs.declared.bound_spot.BoundSpot.{BoundSpot}
 use Rattle.gr_bound.specs.declared.packages.Packages.{Packages}
 use Rattle.gr_bound.specs.Bindings.{IsBound, place_at}
-use Rattle.gr_bound.specs.Identifiers.{BeginsAt}
 use Rattle.gr_bound.specs.Uses.{IsPackage}
-use Rattle.gr_bound.specs.Workspaces.{IsPackageAt, known_in}
+use Rattle.gr_bound.specs.Workspaces.{known_in}
 use Rattle.gr_kept.specs.declared.held.SoundWorkspace.{SoundWorkspace}
 
 pub record SoundView : Type 0 where

@@ -1,5 +1,5 @@
 -- The answers to the goals of `aligned::became`.
-use Rattle.std.proofs.Common.{ℕ, ◌≡◌, List, refl, subst}
+use Rattle.std.proofs.Common.{ℕ, ◌≡◌, List, subst}
 use Rattle.std.specs.Prelude.{IsTrue, ◌↔◌}
 use Rattle.std.proofs.lemmas.Result.{IfOk-weaker}
 use Rattle.gr_text.specs.declared.place.Place.{Place}

@@ -1,5 +1,5 @@
 -- The answers to the goals of `aligned::is_safe`.
-use Rattle.std.proofs.Common.{◌≡◌, inl, inr, List, sym, subst, ◌∙◌}
+use Rattle.std.proofs.Common.{inl, inr, List, sym, subst, ◌∙◌}
 use Rattle.std.specs.Prelude.{Contains}
 use Rattle.std.specs.List.Sorted.{IsSortedBy}
 use Rattle.std.specs.Ordering.{is_lt}
