@@ -109,7 +109,7 @@ meant_no_package p d _ (bound.broken_definition is r broken) level e = cc
 
 -- what functions are called
 
-behind_at : (path : List ℕ) (files : List SourceFile) (k : ℕ) (fs : List PlacedFunction) (rank : ℕ) (f : PlacedFunction) → slice_get fs rank ≡ Some f →
+pub behind_at : (path : List ℕ) (files : List SourceFile) (k : ℕ) (fs : List PlacedFunction) (rank : ℕ) (f : PlacedFunction) → slice_get fs rank ≡ Some f →
     (j : ℕ) × (slice_get (functions_behind path files k fs) rank ≡ Some (function_behind path files j f))
 behind_at path files k [] rank f e = absurd (none-some f e)
 behind_at path files k (g ∷ gs) zero f e = (k, ap (λ (y : PlacedFunction). Some (function_behind path files k y)) (same_Some g f e))
@@ -135,12 +135,12 @@ no_import : (b : Bool) → is_unnamed_import (if b then NotLexical purpose.InitF
 no_import true = refl
 no_import false = refl
 
-no_import_role : (r : Option ReceiverTree) (name : List ℕ) → is_unnamed_import (func_role r name) ≡ false
+pub no_import_role : (r : Option ReceiverTree) (name : List ℕ) → is_unnamed_import (func_role r name) ≡ false
 no_import_role None name = no_import (bytes_eq name (codes "init"))
 no_import_role (Some r) name = refl
 
 -- the name of a function is one of the identifiers of its file
-function_name_kept : (K : Site → Type 0) (s : Source) (f : FuncTree) → AllByRecursion K (func_sites s f) → K (site s f.name (func_role f.receiver (s.spell f.name)))
+pub function_name_kept : (K : Site → Type 0) (s : Source) (f : FuncTree) → AllByRecursion K (func_sites s f) → K (site s f.name (func_role f.receiver (s.spell f.name)))
 unfolding func_sites
 function_name_kept K s f h =
     let b = func_block s f in
@@ -167,14 +167,14 @@ function_in_decl file (FuncDecl k x c) f h = elim h [
 ]
 
 -- where a function is declared
-record IsInFile (p : Package) (f : PlacedFunction) : Type 0 where
-  source : SourceFile
-  in_file : slice_get p.files f.file ≡ Some source
-  keyword : ℕ
-  semicolon : ℕ
-  in_tree : Holds source.tree.decls (FuncDecl keyword f.function semicolon)
+pub record IsInFile (p : Package) (f : PlacedFunction) : Type 0 where
+  pub source : SourceFile
+  pub in_file : slice_get p.files f.file ≡ Some source
+  pub keyword : ℕ
+  pub semicolon : ℕ
+  pub in_tree : Holds source.tree.decls (FuncDecl keyword f.function semicolon)
 
-in_file_of : (p : Package) (rank : ℕ) (f : PlacedFunction) → slice_get (package_functions p) rank ≡ Some f → IsInFile p f
+pub in_file_of : (p : Package) (rank : ℕ) (f : PlacedFunction) → slice_get (package_functions p) rank ≡ Some f → IsInFile p f
 in_file_of p rank f e =
     let r = holds_flat functions_in (ranked p.files) f (holds_got (package_functions p) rank f e) in
     let d = holds_flat (decl_functions r.0.0) r.0.1.tree.decls f r.1.1 in
@@ -190,10 +190,10 @@ in_file_of p rank f e =
     }
 
 -- a function by its receiver and its name
-abbrev called_as : (path : List ℕ) → List SourceFile → (file : ℕ) → Option ReceiverTree → (name : List ℕ) → ℕ → FunctionName
+abbrev pub called_as : (path : List ℕ) → List SourceFile → (file : ℕ) → Option ReceiverTree → (name : List ℕ) → ℕ → FunctionName
 called_as path files file r name j = if is_named_init r name then Initializer path j else function_named path files file r name
 
-plain_called : (path : List ℕ) (files : List SourceFile) (file : ℕ) (r : Option ReceiverTree) (given : List ℕ) (j : ℕ) → r ≡ None → (name : List ℕ) →
+pub plain_called : (path : List ℕ) (files : List SourceFile) (file : ℕ) (r : Option ReceiverTree) (given : List ℕ) (j : ℕ) → r ≡ None → (name : List ℕ) →
     given ≡ name → bytes_eq name (codes "init") ≡ false → called_as path files file r given j ≡ Plain (record { path = path; name = name })
 plain_called path files file r given j none name same other =
     ap (λ z. called_as path files file z given j) none ∙ ap (λ z. called_as path files file None z j) same ∙
@@ -201,7 +201,7 @@ plain_called path files file r given j none name same other =
 
 module _ (w : Workspace) (known : Verdicts) (path : List ℕ) (p : Package) (h : IsPackageIn w known path p) where
   -- an identifier that is no import is spelled as its token is
-  spelled_told : (d : ℕ) → d < p.size → is_implied (p.layout.role d) ≡ false → ((f : ℕ) → block_of (p.layout.role d) ≡ File f → ⊥) → (s : SourceFile) →
+  pub spelled_told : (d : ℕ) → d < p.size → is_implied (p.layout.role d) ≡ false → ((f : ℕ) → block_of (p.layout.role d) ≡ File f → ⊥) → (s : SourceFile) →
       slice_get p.files (p.layout.place d).file ≡ Some s → p.names d ≡ spelling_of s (p.layout.place d).index
   spelled_told d lt i outer s at = by_kind (kept w known path p h d lt)
     where
