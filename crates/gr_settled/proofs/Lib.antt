@@ -7,5 +7,6 @@ pub mod Members
 pub mod Functions
 pub mod Settled
 pub mod Objects
+pub mod Compiled
 pub mod Names
 pub mod Arity

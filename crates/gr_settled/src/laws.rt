@@ -1,11 +1,12 @@
 //! The laws of what the code of packages asks for, where a workspace has no faults.
 ghost use Rattle.std.specs.Prelude.{ℕ, ◌≡◌, List, [], Some, length, slice_get, Contains};
+ghost use Rattle.gr_text.specs.Packages.{package_paths};
 ghost use Rattle.gr_text.specs.Workspace.{Workspace};
 ghost use Rattle.gr_tree.specs.SourceFile.{SourceFile};
 ghost use Rattle.gr_tree.specs.Tree.{FuncTree};
 ghost use Rattle.gr_expr.specs.World.{Locals, no_locals};
 ghost use Rattle.gr_declared.specs.Bound.{result_types};
-ghost use Rattle.gr_declared.specs.Package.{Package};
+ghost use Rattle.gr_declared.specs.Package.{Package, Interface};
 ghost use Rattle.gr_meanings.specs.Worlds.{is_init};
 ghost use Rattle.gr_verdict.specs.FaultLists.{ListsFaults};
 ghost use Rattle.gr_verdict.specs.Verdicts.{Verdicts, AreVerdicts};
@@ -22,7 +23,7 @@ ghost use Rattle.gr_balance.specs.StatementsAsked.{FunctionAsks};
 ghost use Rattle.gr_known.specs.Files.{IsFunctionIn};
 ghost use Rattle.gr_known.specs.Open.{IsSettled};
 ghost use Rattle.gr_bound.specs.Uses.{IsPackage};
-ghost use Rattle.gr_compile.specs.Units.{AreFilesBelow};
+ghost use Rattle.gr_compile.specs.Units.{AreFilesBelow, IsCompiled};
 ghost use Rattle.gr_settled.specs.Arities.{AreArities};
 ghost use Rattle.gr_settled.specs.Known.{IsFunctionOf};
 
@@ -70,4 +71,12 @@ pub fn objects_are_balanced()
         (arity : FunctionName → Arity) → AreArities w known arity → (p : Package) → IsPackage w known p →
         (files_of : List ℕ → List SourceFile) → AreFilesBelow w p.path files_of → (o : Object) → IsObjectOf p files_of o →
         (f : Function) → Contains o.declarations (FunctionOf f) → IsBalanced arity 0 f.code 0 }
+{}
+
+/// So is the code of each function of the object that a package compiles to, whose text its unit holds.
+pub fn units_are_balanced()
+    ensures { (w : Workspace) → ListsFaults w [] → (known : Verdicts) → AreVerdicts w known →
+        (arity : FunctionName → Arity) → AreArities w known arity → (p : List ℕ) → Contains (package_paths w) p →
+        (i : Interface) → (text : List ℕ) → (u : IsCompiled w p i text) → (f : Function) →
+        Contains u.is_object.object.declarations (FunctionOf f) → IsBalanced arity 0 f.code 0 }
 {}
