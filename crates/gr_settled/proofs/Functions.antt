@@ -1,21 +1,22 @@
 -- In a workspace without faults a function is called with as many values as it takes, and no name means a call's results.
-use Rattle.std.proofs.Common.{ℕ, zero, suc, ◌≡◌, ◌+◌, ◌<◌, ◌⊎◌, inl, inr, Bool, true, false, if◌then◌else◌, List, [], ◌∷◌, ◌++◌, length, ap, sym, subst, refl, ◌∙◌, arith}
-use Rattle.std.specs.Prelude.{Option, Some, None, slice_get, option_map, bytes_eq, codes}
+use Rattle.std.proofs.Common.{ℕ, zero, suc, ◌≡◌, ◌+◌, ◌<◌, inl, inr, Bool, true, false, if◌then◌else◌, List, [], ◌∷◌, ◌++◌, length, ap, sym, subst}
+use Rattle.std.proofs.Common.{refl, ◌∙◌, arith}
+use Rattle.std.specs.Prelude.{Option, Some, None, slice_get, bytes_eq, codes}
 use Rattle.std.specs.List.{AllByRecursion, flat_map}
 use Rattle.std.proofs.lemmas.Bool.{true≢false}
 use Rattle.std.proofs.lemmas.Option.{none-some, same_Some}
 use Rattle.gr_text.specs.Workspace.{Workspace}
 use Rattle.gr_tree.specs.SourceFile.{SourceFile, source_of, spelling_of}
 use Rattle.gr_tree.specs.Tree.{ReceiverTree, FuncTree, DeclTree, VarDecl, TypeDecl, FuncDecl}
-use Rattle.gr_scope.specs.declared.model.Block.{Block}
-use Rattle.gr_scope.specs.declared.model.Block.TheVariants.{Universe, File, Inner}
+use Rattle.gr_scope.specs.declared.model.Block.TheVariants.{File, Inner}
 use Rattle.gr_scope.specs.declared.model.Block.TheVariants.{Package as PackageBlock}
 use Rattle.gr_scope.specs.declared.model.Position.{Position}
 use Rattle.gr_scope.specs.declared.model.Role.{Role}
 use Rattle.gr_scope.specs.declared.model.Role.TheVariants.{Use, Declaring, LeftName, Implied, NotLexical}
 use Rattle.gr_scope.specs.declared.model.Purpose.TheVariants as purpose
-use Rattle.gr_scope.specs.Bindings.{MayDeclare, IsBoundTo, IsUse, use_bound, own, IsPackageLevel, block_of, may_declare, is_use, is_implied}
-use Rattle.gr_scope.specs.FileSites.{universe, imports_sites, decl_sites, file_sites, func_block, func_role, func_sites, receiver_sites, param_sites, result_sites}
+use Rattle.gr_scope.specs.Bindings.{IsBoundTo, IsUse, use_bound, own, IsPackageLevel, block_of, may_declare, is_use, is_implied}
+use Rattle.gr_scope.specs.FileSites.{universe, imports_sites, decl_sites, file_sites, func_block, func_role, func_sites, receiver_sites, param_sites}
+use Rattle.gr_scope.specs.FileSites.{result_sites}
 use Rattle.gr_scope.specs.ExpressionSites.{sites_if, list_sites}
 use Rattle.gr_scope.specs.StatementSites.{open_of, block_sites}
 use Rattle.gr_scope.specs.Named.{is_unnamed_import}
@@ -24,7 +25,7 @@ use Rattle.gr_scope.specs.Table.{StandsAt}
 use Rattle.gr_scope.specs.WellFormed.{WellFormed}
 use Rattle.gr_imports.specs.Files.{ranked}
 use Rattle.gr_order.proofs.Ordered.{one_stands}
-use Rattle.gr_expr.specs.Types.{Typed, Signature, Meaning, Value, TypeName, Function, BuiltinName, Results, Broken}
+use Rattle.gr_expr.specs.Types.{Signature, Meaning, Value, TypeName, Function, BuiltinName, Results, Broken}
 use Rattle.gr_expr.specs.Types.{Package as PackageName}
 use Rattle.gr_expr.specs.World.{Bound, Means}
 use Rattle.gr_declared.specs.Bound.{IsMeantBy, PredeclaredMeans, a_type, a_truth, an_untruth, a_nil, a_function, HasSignature}
@@ -51,13 +52,13 @@ use Rattle.gr_bound.specs.Uses.{IsPackage}
 use Rattle.gr_known.specs.Open.{HasArity}
 use Rattle.gr_decided.proofs.Numbers.{IsTold, IsKept, universal, plain, laid}
 use Rattle.gr_all_bound.proofs.Fine.{seen_interface}
-use Rattle.gr_all_bound.proofs.Lists.{all_left, all_right, all_flat, all_held, holds_flat, holds_ranked}
+use Rattle.gr_all_bound.proofs.Lists.{all_right, all_flat, holds_flat, holds_ranked}
 use Rattle.gr_all_bound.proofs.Scoped.{in_order}
 use Rattle.gr_all_bound.proofs.Types.{Stands, Kept, all_kept, none_by_scope}
 use Rattle.gr_worlds.proofs.Declared.{given, old_site, new_site, role_is, place_is, name_is, kept, may_within, file_of_told}
 use Rattle.gr_worlds.proofs.Worlds.{have_all_worlds}
 use Rattle.gr_settled.specs.Arities.{with_receiver, AreArities}
-use Rattle.gr_settled.proofs.Members.{named_function, signature_arity, other_package}
+use Rattle.gr_settled.proofs.Members.{signature_arity, other_package}
 
 -- what declarations mean
 
@@ -140,7 +141,8 @@ no_import_role None name = no_import (bytes_eq name (codes "init"))
 no_import_role (Some r) name = refl
 
 -- the name of a function is one of the identifiers of its file
-pub function_name_kept : (K : Site → Type 0) (s : Source) (f : FuncTree) → AllByRecursion K (func_sites s f) → K (site s f.name (func_role f.receiver (s.spell f.name)))
+pub function_name_kept : (K : Site → Type 0) (s : Source) (f : FuncTree) → AllByRecursion K (func_sites s f) →
+    K (site s f.name (func_role f.receiver (s.spell f.name)))
 unfolding func_sites
 function_name_kept K s f h =
     let b = func_block s f in

@@ -1,9 +1,10 @@
 -- In a workspace without faults no two functions of a package are called alike.
-use Rattle.std.proofs.Common.{ℕ, zero, suc, ◌≡◌, ◌+◌, ◌<◌, ◌≤◌, ◌⊎◌, inl, inr, Bool, true, false, if◌then◌else◌, List, [], ◌∷◌, ◌++◌, map, ap, sym, subst, refl, ◌∙◌, arith}
+use Rattle.std.proofs.Common.{ℕ, ◌≡◌, ◌+◌, ◌<◌, inl, inr, false, if◌then◌else◌, List, [], ◌∷◌, ◌++◌, map, ap, sym, subst}
+use Rattle.std.proofs.Common.{refl, ◌∙◌, arith}
 use Rattle.std.specs.Prelude.{Option, Some, None, slice_get, bytes_eq, codes}
 use Rattle.std.specs.List.{AllByRecursion, flat_map}
 use Rattle.std.proofs.lemmas.Bool.{true≢false, cases_lt, cases_eq}
-use Rattle.std.proofs.lemmas.Option.{none-some, same_Some}
+use Rattle.std.proofs.lemmas.Option.{same_Some}
 use Rattle.gr_text.specs.Workspace.{Workspace}
 use Rattle.gr_text.specs.declared.fault_kind.FaultKind.TheVariants as fault_kind
 use Rattle.gr_fault.specs.declared.fault.Fault.{Fault}
@@ -12,11 +13,10 @@ use Rattle.gr_tree.specs.Tree.{Item, Group, single, several, TypeSpecTree, Recei
 use Rattle.gr_scope.specs.declared.model.Block.TheVariants.{Universe, File}
 use Rattle.gr_scope.specs.declared.model.Block.TheVariants.{Package as PackageBlock}
 use Rattle.gr_scope.specs.declared.model.Position.{Position}
-use Rattle.gr_scope.specs.declared.model.Role.{Role}
 use Rattle.gr_scope.specs.declared.model.Role.TheVariants.{Use, Declaring, NotLexical}
 use Rattle.gr_scope.specs.declared.model.Purpose.TheVariants as purpose
 use Rattle.gr_scope.specs.Bindings.{Declares, Counts, IsBoundTo, use_bound, own, IsPackageLevel, block_of, may_declare, is_implied, is_left_name}
-use Rattle.gr_scope.specs.FileSites.{imports_sites, decl_sites, file_sites, spec_sites, type_spec_sites, body_sites, func_block, func_role, func_sites}
+use Rattle.gr_scope.specs.FileSites.{imports_sites, decl_sites, file_sites, spec_sites, type_spec_sites, func_block, func_role, func_sites}
 use Rattle.gr_scope.specs.FileSites.{receiver_sites, param_sites, result_sites}
 use Rattle.gr_scope.specs.ExpressionSites.{sites_if, list_sites}
 use Rattle.gr_scope.specs.StatementSites.{ident_sites, separated_sites, group_sites, open_of, block_sites}
@@ -31,14 +31,14 @@ use Rattle.gr_declared.specs.Written.{BindsToken, DeclaresType}
 use Rattle.gr_declared.proofs.Ranking.{one_rank}
 use Rattle.gr_meanings.proofs.DeclKinds.{Holds, holds_got}
 use Rattle.gr_verdict.specs.FaultLists.{ListsFaults}
-use Rattle.gr_verdict.specs.Verdicts.{Verdicts, AreVerdicts, IsPackageIn}
+use Rattle.gr_verdict.specs.Verdicts.{Verdicts, AreVerdicts}
 use Rattle.gr_verdict.proofs.OnePackage.{files_in_order}
 use Rattle.gr_bound.specs.Uses.{IsPackage}
 use Rattle.gr_unique.proofs.Faultless.{no_fault_later}
 use Rattle.gr_unique.proofs.MembersApart.{one_function}
 use Rattle.gr_all_bound.proofs.Lists.{all_left, all_right, all_flat, holds_flat, holds_map, holds_ranked}
 use Rattle.gr_all_bound.proofs.Scoped.{in_order}
-use Rattle.gr_all_bound.proofs.Types.{Stands, Kept, all_kept}
+use Rattle.gr_all_bound.proofs.Types.{Kept, all_kept}
 use Rattle.gr_all_bound.proofs.Whole.{method_of}
 use Rattle.gr_worlds.proofs.Declared.{may_within}
 use Rattle.gr_worlds.proofs.NamesMean.{declared_counts}
@@ -77,7 +77,8 @@ type_kept : (K : Site → Type 0) (s : Source) (tree : FileTree) (k : ℕ) (g : 
 unfolding file_sites decl_sites
 type_kept K s tree k g c h held x i =
     group_kept K s g x
-    (all_flat K (decl_sites s) tree.decls (TypeDecl k g c) (all_right K (flat_map (imports_sites s) tree.imports) (flat_map (decl_sites s) tree.decls) h.1) held)
+    (all_flat K (decl_sites s) tree.decls (TypeDecl k g c) (all_right K (flat_map (imports_sites s) tree.imports) (flat_map (decl_sites s) tree.decls) h.1)
+    held)
     i
 
 -- so is the name of a receiver's type

@@ -1,12 +1,11 @@
 -- The code of each function of an object is that of a function of one of the package's files.
-use Rattle.std.proofs.Common.{ℕ, zero, suc, ◌≡◌, inl, inr, List, [], ◌∷◌, ◌++◌, length, map, Option, Some, None, ap, refl, sym, subst}
+use Rattle.std.proofs.Common.{ℕ, suc, ◌≡◌, inl, inr, List, [], ◌∷◌, map, Option, Some, None, refl, sym, subst}
 use Rattle.std.specs.Prelude.{Contains, slice_get}
-use Rattle.std.specs.List.{AllByRecursion, flat_map}
+use Rattle.std.specs.List.{AllByRecursion}
 use Rattle.gr_tree.specs.SourceFile.{SourceFile}
-use Rattle.gr_tree.specs.Tree.{Item, GlobalTree, TypeSpecTree, FuncTree, DeclTree, VarDecl, TypeDecl, FuncDecl}
-use Rattle.gr_imports.specs.Files.{group_items, package_name}
+use Rattle.gr_tree.specs.Tree.{Item, TypeSpecTree, FuncTree, DeclTree, VarDecl, TypeDecl, FuncDecl}
+use Rattle.gr_imports.specs.Files.{group_items}
 use Rattle.gr_expr.specs.Types.{PlainType}
-use Rattle.gr_stmt.specs.Sides.{named}
 use Rattle.gr_declared.specs.Package.{Package}
 use Rattle.gr_meanings.proofs.DeclKinds.{Holds}
 use Rattle.gr_order.proofs.Elements.{all_append, all_made}
@@ -14,7 +13,7 @@ use Rattle.gr_object.specs.Lines.{GlobalName, FunctionName, Line}
 use Rattle.gr_object.specs.Names.{function_names}
 use Rattle.gr_object.specs.Objects.{Definition, Initial, Declaration, TypeOf, Variable, FunctionOf, Object, defined, declared_type, variable, first_initial}
 use Rattle.gr_object.specs.Objects.{other_initials, variables_of, declared_variables, function_of, declared_function, names_behind, declared_by, declared_in}
-use Rattle.gr_object.specs.Objects.{names_behind_all, declared_from, definition_of, literals_of, initials_of}
+use Rattle.gr_object.specs.Objects.{names_behind_all, declared_from, definition_of}
 use Rattle.gr_object.specs.Source.{Source}
 use Rattle.gr_object.specs.Sources.{IsSourceOf, IsObjectOf}
 use Rattle.gr_all_bound.proofs.Lists.{all_held, contained}

@@ -1,6 +1,6 @@
 -- In a workspace without faults nothing that the code of a function asks for is left open.
-use Rattle.std.proofs.Common.{ℕ, ◌≡◌, ◌<◌, ◌≤◌, inl, inr, true, false, Bool, List, [], ◌∷◌, length, ap, sym, subst, refl, ◌∙◌}
-use Rattle.std.specs.Prelude.{Contains, Some, slice_get}
+use Rattle.std.proofs.Common.{ℕ, ◌≡◌, inl, inr, true, false, Bool, List, [], ◌∷◌, length, ap, sym, subst, refl, ◌∙◌}
+use Rattle.std.specs.Prelude.{Some, slice_get}
 use Rattle.std.specs.List.{AllByRecursion}
 use Rattle.std.proofs.lemmas.Bool.{true≢false}
 use Rattle.gr_text.specs.Workspace.{Workspace}
@@ -53,7 +53,6 @@ use Rattle.gr_settled.proofs.Asked.{StandsIn, IsNamed, IsSelected, IsLeftName, s
 use Rattle.gr_settled.proofs.Functions.{function_kept, no_package, meaning_settled}
 use Rattle.gr_settled.proofs.Members.{members_known}
 use Rattle.gr_settled.proofs.Own.{own_local}
-use Rattle.gr_settled.proofs.Reaching.{Lies}
 use Rattle.gr_settled.proofs.Slots.{has_slot}
 
 -- functions among declarations
