@@ -1,21 +1,22 @@
 -- In a workspace without faults a function is called with as many values as it takes, and no name means a call's results.
-use Rattle.std.proofs.Common.{ℕ, zero, suc, ◌≡◌, ◌+◌, ◌<◌, ◌⊎◌, inl, inr, Bool, true, false, if◌then◌else◌, List, [], ◌∷◌, ◌++◌, length, ap, sym, subst, refl, ◌∙◌, arith}
-use Rattle.std.specs.Prelude.{Option, Some, None, slice_get, option_map, bytes_eq, codes}
+use Rattle.std.proofs.Common.{ℕ, zero, suc, ◌≡◌, ◌+◌, ◌<◌, inl, inr, Bool, true, false, if◌then◌else◌, List, [], ◌∷◌, ◌++◌, length, ap, sym, subst}
+use Rattle.std.proofs.Common.{refl, ◌∙◌, arith}
+use Rattle.std.specs.Prelude.{Option, Some, None, slice_get, bytes_eq, codes}
 use Rattle.std.specs.List.{AllByRecursion, flat_map}
 use Rattle.std.proofs.lemmas.Bool.{true≢false}
 use Rattle.std.proofs.lemmas.Option.{none-some, same_Some}
 use Rattle.gr_text.specs.Workspace.{Workspace}
 use Rattle.gr_tree.specs.SourceFile.{SourceFile, source_of, spelling_of}
 use Rattle.gr_tree.specs.Tree.{ReceiverTree, FuncTree, DeclTree, VarDecl, TypeDecl, FuncDecl}
-use Rattle.gr_scope.specs.declared.model.Block.{Block}
-use Rattle.gr_scope.specs.declared.model.Block.TheVariants.{Universe, File, Inner}
+use Rattle.gr_scope.specs.declared.model.Block.TheVariants.{File, Inner}
 use Rattle.gr_scope.specs.declared.model.Block.TheVariants.{Package as PackageBlock}
 use Rattle.gr_scope.specs.declared.model.Position.{Position}
 use Rattle.gr_scope.specs.declared.model.Role.{Role}
 use Rattle.gr_scope.specs.declared.model.Role.TheVariants.{Use, Declaring, LeftName, Implied, NotLexical}
 use Rattle.gr_scope.specs.declared.model.Purpose.TheVariants as purpose
-use Rattle.gr_scope.specs.Bindings.{MayDeclare, IsBoundTo, IsUse, use_bound, own, IsPackageLevel, block_of, may_declare, is_use, is_implied}
-use Rattle.gr_scope.specs.FileSites.{universe, imports_sites, decl_sites, file_sites, func_block, func_role, func_sites, receiver_sites, param_sites, result_sites}
+use Rattle.gr_scope.specs.Bindings.{IsBoundTo, IsUse, use_bound, own, IsPackageLevel, block_of, may_declare, is_use, is_implied}
+use Rattle.gr_scope.specs.FileSites.{universe, imports_sites, decl_sites, file_sites, func_block, func_role, func_sites, receiver_sites, param_sites}
+use Rattle.gr_scope.specs.FileSites.{result_sites}
 use Rattle.gr_scope.specs.ExpressionSites.{sites_if, list_sites}
 use Rattle.gr_scope.specs.StatementSites.{open_of, block_sites}
 use Rattle.gr_scope.specs.Named.{is_unnamed_import}
@@ -24,7 +25,7 @@ use Rattle.gr_scope.specs.Table.{StandsAt}
 use Rattle.gr_scope.specs.WellFormed.{WellFormed}
 use Rattle.gr_imports.specs.Files.{ranked}
 use Rattle.gr_order.proofs.Ordered.{one_stands}
-use Rattle.gr_expr.specs.Types.{Typed, Signature, Meaning, Value, TypeName, Function, BuiltinName, Results, Broken}
+use Rattle.gr_expr.specs.Types.{Signature, Meaning, Value, TypeName, Function, BuiltinName, Results, Broken}
 use Rattle.gr_expr.specs.Types.{Package as PackageName}
 use Rattle.gr_expr.specs.World.{Bound, Means}
 use Rattle.gr_declared.specs.Bound.{IsMeantBy, PredeclaredMeans, a_type, a_truth, an_untruth, a_nil, a_function, HasSignature}
@@ -51,13 +52,13 @@ use Rattle.gr_bound.specs.Uses.{IsPackage}
 use Rattle.gr_known.specs.Open.{HasArity}
 use Rattle.gr_decided.proofs.Numbers.{IsTold, IsKept, universal, plain, laid}
 use Rattle.gr_all_bound.proofs.Fine.{seen_interface}
-use Rattle.gr_all_bound.proofs.Lists.{all_left, all_right, all_flat, all_held, holds_flat, holds_ranked}
+use Rattle.gr_all_bound.proofs.Lists.{all_right, all_flat, holds_flat, holds_ranked}
 use Rattle.gr_all_bound.proofs.Scoped.{in_order}
 use Rattle.gr_all_bound.proofs.Types.{Stands, Kept, all_kept, none_by_scope}
 use Rattle.gr_worlds.proofs.Declared.{given, old_site, new_site, role_is, place_is, name_is, kept, may_within, file_of_told}
 use Rattle.gr_worlds.proofs.Worlds.{have_all_worlds}
 use Rattle.gr_settled.specs.Arities.{with_receiver, AreArities}
-use Rattle.gr_settled.proofs.Members.{named_function, signature_arity, other_package}
+use Rattle.gr_settled.proofs.Members.{signature_arity, other_package}
 
 -- what declarations mean
 
@@ -109,7 +110,7 @@ meant_no_package p d _ (bound.broken_definition is r broken) level e = cc
 
 -- what functions are called
 
-behind_at : (path : List ℕ) (files : List SourceFile) (k : ℕ) (fs : List PlacedFunction) (rank : ℕ) (f : PlacedFunction) → slice_get fs rank ≡ Some f →
+pub behind_at : (path : List ℕ) (files : List SourceFile) (k : ℕ) (fs : List PlacedFunction) (rank : ℕ) (f : PlacedFunction) → slice_get fs rank ≡ Some f →
     (j : ℕ) × (slice_get (functions_behind path files k fs) rank ≡ Some (function_behind path files j f))
 behind_at path files k [] rank f e = absurd (none-some f e)
 behind_at path files k (g ∷ gs) zero f e = (k, ap (λ (y : PlacedFunction). Some (function_behind path files k y)) (same_Some g f e))
@@ -135,12 +136,13 @@ no_import : (b : Bool) → is_unnamed_import (if b then NotLexical purpose.InitF
 no_import true = refl
 no_import false = refl
 
-no_import_role : (r : Option ReceiverTree) (name : List ℕ) → is_unnamed_import (func_role r name) ≡ false
+pub no_import_role : (r : Option ReceiverTree) (name : List ℕ) → is_unnamed_import (func_role r name) ≡ false
 no_import_role None name = no_import (bytes_eq name (codes "init"))
 no_import_role (Some r) name = refl
 
 -- the name of a function is one of the identifiers of its file
-function_name_kept : (K : Site → Type 0) (s : Source) (f : FuncTree) → AllByRecursion K (func_sites s f) → K (site s f.name (func_role f.receiver (s.spell f.name)))
+pub function_name_kept : (K : Site → Type 0) (s : Source) (f : FuncTree) → AllByRecursion K (func_sites s f) →
+    K (site s f.name (func_role f.receiver (s.spell f.name)))
 unfolding func_sites
 function_name_kept K s f h =
     let b = func_block s f in
@@ -167,14 +169,14 @@ function_in_decl file (FuncDecl k x c) f h = elim h [
 ]
 
 -- where a function is declared
-record IsInFile (p : Package) (f : PlacedFunction) : Type 0 where
-  source : SourceFile
-  in_file : slice_get p.files f.file ≡ Some source
-  keyword : ℕ
-  semicolon : ℕ
-  in_tree : Holds source.tree.decls (FuncDecl keyword f.function semicolon)
+pub record IsInFile (p : Package) (f : PlacedFunction) : Type 0 where
+  pub source : SourceFile
+  pub in_file : slice_get p.files f.file ≡ Some source
+  pub keyword : ℕ
+  pub semicolon : ℕ
+  pub in_tree : Holds source.tree.decls (FuncDecl keyword f.function semicolon)
 
-in_file_of : (p : Package) (rank : ℕ) (f : PlacedFunction) → slice_get (package_functions p) rank ≡ Some f → IsInFile p f
+pub in_file_of : (p : Package) (rank : ℕ) (f : PlacedFunction) → slice_get (package_functions p) rank ≡ Some f → IsInFile p f
 in_file_of p rank f e =
     let r = holds_flat functions_in (ranked p.files) f (holds_got (package_functions p) rank f e) in
     let d = holds_flat (decl_functions r.0.0) r.0.1.tree.decls f r.1.1 in
@@ -190,10 +192,10 @@ in_file_of p rank f e =
     }
 
 -- a function by its receiver and its name
-abbrev called_as : (path : List ℕ) → List SourceFile → (file : ℕ) → Option ReceiverTree → (name : List ℕ) → ℕ → FunctionName
+abbrev pub called_as : (path : List ℕ) → List SourceFile → (file : ℕ) → Option ReceiverTree → (name : List ℕ) → ℕ → FunctionName
 called_as path files file r name j = if is_named_init r name then Initializer path j else function_named path files file r name
 
-plain_called : (path : List ℕ) (files : List SourceFile) (file : ℕ) (r : Option ReceiverTree) (given : List ℕ) (j : ℕ) → r ≡ None → (name : List ℕ) →
+pub plain_called : (path : List ℕ) (files : List SourceFile) (file : ℕ) (r : Option ReceiverTree) (given : List ℕ) (j : ℕ) → r ≡ None → (name : List ℕ) →
     given ≡ name → bytes_eq name (codes "init") ≡ false → called_as path files file r given j ≡ Plain (record { path = path; name = name })
 plain_called path files file r given j none name same other =
     ap (λ z. called_as path files file z given j) none ∙ ap (λ z. called_as path files file None z j) same ∙
@@ -201,7 +203,7 @@ plain_called path files file r given j none name same other =
 
 module _ (w : Workspace) (known : Verdicts) (path : List ℕ) (p : Package) (h : IsPackageIn w known path p) where
   -- an identifier that is no import is spelled as its token is
-  spelled_told : (d : ℕ) → d < p.size → is_implied (p.layout.role d) ≡ false → ((f : ℕ) → block_of (p.layout.role d) ≡ File f → ⊥) → (s : SourceFile) →
+  pub spelled_told : (d : ℕ) → d < p.size → is_implied (p.layout.role d) ≡ false → ((f : ℕ) → block_of (p.layout.role d) ≡ File f → ⊥) → (s : SourceFile) →
       slice_get p.files (p.layout.place d).file ≡ Some s → p.names d ≡ spelling_of s (p.layout.place d).index
   spelled_told d lt i outer s at = by_kind (kept w known path p h d lt)
     where

@@ -6,3 +6,7 @@ pub mod Own
 pub mod Members
 pub mod Functions
 pub mod Settled
+pub mod Objects
+pub mod Compiled
+pub mod Names
+pub mod Arity

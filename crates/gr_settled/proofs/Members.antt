@@ -1,21 +1,23 @@
 -- Of each member that a package of a workspace without faults uses it is known where the field stands, or what the method is called.
-use Rattle.std.proofs.Common.{ℕ, zero, suc, ◌≡◌, ◌+◌, ◌<◌, inl, inr, Bool, true, false, if◌then◌else◌, List, [], ◌∷◌, ◌++◌, length, map, ap, sym, subst, refl, ◌∙◌, arith}
+use Rattle.std.proofs.Common.{ℕ, suc, ◌≡◌, ◌+◌, ◌<◌, inl, inr, Bool, true, false, if◌then◌else◌, List, [], ◌∷◌, ◌++◌, length, map, ap, sym, subst}
+use Rattle.std.proofs.Common.{refl, ◌∙◌, arith}
 use Rattle.std.specs.Prelude.{Contains, Option, Some, None, slice_get}
 use Rattle.std.specs.List.{flat_map}
 use Rattle.std.proofs.Common.{length-append}
 use Rattle.std.proofs.lemmas.List.{length-map}
-use Rattle.std.proofs.lemmas.Option.{none-some, same_Some, slice_get_within}
+use Rattle.std.proofs.lemmas.Option.{none-some, slice_get_within}
 use Rattle.gr_text.specs.Workspace.{Workspace}
 use Rattle.gr_text.specs.Packages.{package_paths, package_files}
 use Rattle.gr_tree.specs.SourceFile.{SourceFile, FileParts, source_of, spelling_of}
-use Rattle.gr_tree.specs.Tree.{Item, TypeTree, FieldTree, BodyTree, Other, Struct, ReceiverTree, FuncTree}
+use Rattle.gr_tree.specs.Tree.{Item, TypeTree, FieldTree, BodyTree, Other, Struct, ReceiverTree}
 use Rattle.gr_graph.specs.FaultyFiles.{FaultyParts}
 use Rattle.gr_graph.specs.Packages.{IsInClosure, itself}
 use Rattle.gr_graph.specs.Parsed.{AreParsed, none, tree, fault}
 use Rattle.gr_graph.proofs.OneFile.{file_or_fault}
 use Rattle.gr_expr.specs.declared.symbol.Symbol.{Symbol}
 use Rattle.gr_expr.specs.Types.{PlainType, Signature}
-use Rattle.gr_expr.specs.World.{World, Member, AField, AMethod, ABrokenMethod, Definition, Field, Method, is_seen, seen_field, seen_method, struct_behind, owner}
+use Rattle.gr_expr.specs.World.{Definition, Field, Method, is_seen, seen_field, seen_method, struct_behind}
+use Rattle.gr_expr.specs.World.{owner}
 use Rattle.gr_expr.specs.World.{field_of, method_of, a_method, first_member, member_by}
 use Rattle.gr_expr.specs.WorldView.{no_definition}
 use Rattle.gr_declared.specs.Bound.{AreTypesOf, HasSignature, parameter_types, result_types}
@@ -31,7 +33,7 @@ use Rattle.gr_verdict.proofs.Closed.{to_package}
 use Rattle.gr_verdict.proofs.OneList.{checked_package}
 use Rattle.gr_verdict.proofs.OnePackage.{one_sources}
 use Rattle.gr_object.specs.Lines.{FunctionName}
-use Rattle.gr_object.specs.Names.{positions_from, names_of_fields, body_positions, type_positions, field_positions, function_behind, initializers_with}
+use Rattle.gr_object.specs.Names.{positions_from, names_of_fields, body_positions, type_positions, field_positions, initializers_with}
 use Rattle.gr_object.specs.Names.{functions_behind, function_names, function_name, field_position}
 use Rattle.gr_object.specs.Source.{Source}
 use Rattle.gr_object.specs.Sources.{IsSourceOf}
@@ -41,7 +43,7 @@ use Rattle.gr_bound.specs.Uses.{IsPackage}
 use Rattle.gr_bound.proofs.OnePlace.{same_files}
 use Rattle.gr_standing.proofs.Alike.{package_for}
 use Rattle.gr_all_bound.proofs.Fine.{seen_interface}
-use Rattle.gr_compile.specs.Units.{AreFilesOf, IsReadBy, within, beyond, AreFilesBelow}
+use Rattle.gr_compile.specs.Units.{IsReadBy, within, beyond, AreFilesBelow}
 use Rattle.gr_worlds.proofs.Worlds.{have_all_worlds}
 use Rattle.gr_settled.specs.Arities.{with_receiver, written_arity, AreArities}
 
@@ -149,7 +151,8 @@ module _ (files_of : List ℕ → List SourceFile) (arity : FunctionName → Ari
   nothing_called : (d : Definition) → ((name : List ℕ) → d.field name ≡ None) → ((name : List ℕ) → d.method name ≡ None) → AreCalled d
   nothing_called d f m = ((λ name x e. absurd (none-some x (sym (f name) ∙ e))), λ name x e. absurd (none-some x (sym (m name) ∙ e)))
 
-  module _ (w : Workspace) (known : Verdicts) (arities : AreArities w known arity) (c : Package) (is : IsPackage w known c) (same : files_of c.path ≡ c.files) where
+  module _ (w : Workspace) (known : Verdicts) (arities : AreArities w known arity) (c : Package) (is : IsPackage w known c)
+      (same : files_of c.path ≡ c.files) where
     field_called : (definition : ℕ) (name : List ℕ) (f : Field) → IsField c definition name (Some f) → IsKnown (field_position files_of f.symbol)
     field_called definition name f x =
         let rank = f.symbol.rank in
@@ -265,7 +268,8 @@ module _ (w : Workspace) (sound : ListsFaults w []) (known : Verdicts) (right : 
           (own_called files_of arity w known arities p is same defs are y.rank (slice_get (package_types p) y.rank) refl)
       | inr other ↦
           let i = seen_interface w sound known right (have_all_worlds w sound known right) p is y.package in
-          subst (AreCalled files_of arity) (sym (are.imported y.package y.rank (λ e. other (sym e)))) (seen_called y.package i.0 (p.interface_of y.package) i.1 y.rank)
+          subst (AreCalled files_of arity) (sym (are.imported y.package y.rank (λ e. other (sym e))))
+          (seen_called y.package i.0 (p.interface_of y.package) i.1 y.rank)
     ]
 
     pub members_known : (file : ℕ) (f : SourceFile) (s : Source) → IsSourceOf p files_of file f s → (n : ℕ) (t : PlainType) →

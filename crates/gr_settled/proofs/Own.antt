@@ -1,13 +1,13 @@
 -- A local that is named in a function has one of the function's slots.
-use Rattle.std.proofs.Common.{ℕ, ◌≡◌, ◌<◌, ◌≤◌, ◌⊎◌, inl, inr, true, false, List, [], ◌∷◌, length, map, ap, sym, subst, refl, ◌∙◌, arith}
-use Rattle.std.specs.Prelude.{Option, Some, slice_get, option_map}
+use Rattle.std.proofs.Common.{ℕ, ◌≡◌, ◌<◌, ◌≤◌, inl, inr, true, false, List, [], ◌∷◌, map, ap, sym, subst, refl, ◌∙◌, arith}
+use Rattle.std.specs.Prelude.{Some, slice_get, option_map}
 use Rattle.std.specs.List.{AllByRecursion}
 use Rattle.std.proofs.lemmas.Bool.{true≢false}
 use Rattle.std.proofs.lemmas.Option.{same_Some, slice_get-map}
 use Rattle.gr_text.specs.Workspace.{Workspace}
 use Rattle.gr_tree.specs.SourceFile.{SourceFile, source_of, spelling_of}
 use Rattle.gr_tree.specs.Flatten.{flatten}
-use Rattle.gr_tree.specs.Tree.{FuncTree, DeclTree, FuncDecl}
+use Rattle.gr_tree.specs.Tree.{FuncTree, FuncDecl}
 use Rattle.gr_scope.specs.declared.model.Block.TheVariants.{Universe, File, Inner}
 use Rattle.gr_scope.specs.declared.model.Block.TheVariants.{Package as PackageBlock}
 use Rattle.gr_scope.specs.declared.model.Position.{Position}
@@ -23,7 +23,7 @@ use Rattle.gr_scope.proofs.FileRegions.{file_fits}
 use Rattle.gr_scope.proofs.Regions.{Each, Fits, inner_file}
 use Rattle.gr_scope.proofs.Rising.{rises_of}
 use Rattle.gr_order.proofs.Ordered.{same_length}
-use Rattle.gr_expr.specs.World.{World, Bound, Local, Means}
+use Rattle.gr_expr.specs.World.{World, Bound, Local}
 use Rattle.gr_declared.specs.Bound.{IsMeantBy}
 use Rattle.gr_declared.specs.Bound as bound
 use Rattle.gr_declared.specs.Package.{Package}
@@ -107,7 +107,8 @@ module _ (w : Workspace) (known : Verdicts) (path : List ℕ) (p : Package) (h :
           subst (λ r. P (p.layout.place d).index r) (sym (role_is w known path p h d))
           (subst (λ (z : Position). P z.index new.role) (sym place) (q (sym (ap (λ (z : Position). z.file) place) ∙ there)))
       by_kind (laid u g r) =
-          let z : File (old_site w known path p h d).place.file ≡ Inner f a c = sym (ap block_of (role_is w known path p h d ∙ r)) ∙ block in let never : ⊥ = cc in absurd never
+          let z : File (old_site w known path p h d).place.file ≡ Inner f a c = sym (ap block_of (role_is w known path p h d ∙ r)) ∙ block in
+          let never : ⊥ = cc in absurd never
 
       inner_at : P (p.layout.place d).index (p.layout.role d)
       unfolding package_sites
@@ -143,7 +144,8 @@ module _ (w : Workspace) (known : Verdicts) (path : List ℕ) (p : Package) (h :
       ap (λ (z : Position). slice_get p.files z.file) (place_is w known path p h d) ∙ file_of_told w known path p h (new_site w known path p h d) t,
     )
     source_by (laid u g r) =
-        let z : File (old_site w known path p h d).place.file ≡ Inner f a c = sym (ap block_of (role_is w known path p h d ∙ r)) ∙ block in let never : ⊥ = cc in absurd never
+        let z : File (old_site w known path p h d).place.file ≡ Inner f a c = sym (ap block_of (role_is w known path p h d ∙ r)) ∙ block in
+        let never : ⊥ = cc in absurd never
 
     identifies : is_implied (p.layout.role d) ≡ false
     identifies = identifies_by (kept w known path p h d (may_within w known path p h d may))

@@ -1,21 +1,20 @@
 -- What a name in a function may be bound to, of all that is declared inside of a file, is declared in that function.
-use Rattle.std.proofs.Common.{ℕ, suc, ◌≡◌, ◌<◌, ◌≤◌, ◌⊎◌, inl, inr, true, false, List, [], ◌∷◌, ◌++◌, Option, Some, None, refl, sym, ap, subst, ◌∙◌, arith}
+use Rattle.std.proofs.Common.{ℕ, suc, ◌≡◌, ◌<◌, ◌≤◌, ◌⊎◌, inl, inr, true, false, List, [], ◌∷◌, ◌++◌, Option, Some, None, sym, ap, subst, ◌∙◌, arith}
 use Rattle.std.specs.List.{All, AllByRecursion, flat_map}
 use Rattle.std.proofs.lemmas.Bool.{true≢false}
 use Rattle.std.proofs.lemmas.List.Elements.{All-head, All-tail}
 use Rattle.gr_tree.specs.declared.syntax.Kind.{Kind}
 use Rattle.gr_tree.specs.declared.syntax.Kind.TheVariants as kind
 use Rattle.gr_tree.specs.declared.syntax.Token.{Token}
-use Rattle.gr_tree.specs.Flatten.{sign, tokens_if, all_tokens, list_tokens, group_tokens, param_tokens, receiver_tokens, result_tokens, block_tokens}
-use Rattle.gr_tree.specs.Flatten.{statements_tokens, global_tokens, type_spec_tokens, func_tokens, imports_tokens, decl_tokens, flatten}
+use Rattle.gr_tree.specs.Flatten.{sign, tokens_if, all_tokens, list_tokens, param_tokens, receiver_tokens, result_tokens, block_tokens}
+use Rattle.gr_tree.specs.Flatten.{statements_tokens, func_tokens, imports_tokens, decl_tokens, flatten}
 use Rattle.gr_tree.specs.WellFormed.{IsFunc, IsDecl, IsFile, IsBlock}
 use Rattle.gr_tree.specs.Tree.{Item, IdentTree, Named, Underscore, ReceiverTree, ParamTree, FuncTree, DeclTree, VarDecl, TypeDecl, FuncDecl, FileTree}
 use Rattle.gr_tree.specs.Tree.{BlockTree, block}
 use Rattle.gr_scope.specs.declared.model.Block.TheVariants.{Inner}
 use Rattle.gr_scope.specs.declared.model.Role.{Role}
-use Rattle.gr_scope.specs.declared.model.Role.TheVariants.{Use, Declaring, NotLexical}
-use Rattle.gr_scope.specs.declared.model.Purpose.TheVariants as purpose
-use Rattle.gr_scope.specs.Bindings.{may_declare, block_of, start_of}
+use Rattle.gr_scope.specs.declared.model.Role.TheVariants.{Use, Declaring}
+use Rattle.gr_scope.specs.Bindings.{block_of, start_of}
 use Rattle.gr_scope.specs.Site.{Site, Source, site}
 use Rattle.gr_scope.specs.ExpressionSites.{sites_if, list_sites, type_sites}
 use Rattle.gr_scope.specs.StatementSites.{ident_sites, open_of, close_of, block_sites, statements_sites}
@@ -24,7 +23,6 @@ use Rattle.gr_scope.specs.FileSites.{imports_sites, decl_sites, file_sites}
 use Rattle.gr_scope.proofs.Regions.{Each, Fits, Framed, inner_to}
 use Rattle.gr_scope.proofs.StatementRegions.{statements_fits}
 use Rattle.gr_scope.proofs.Rising.{Rises, rises_le, rises_up, rises_split}
-use Rattle.gr_order.specs.Tokens.{is_name}
 use Rattle.gr_order.proofs.Covers.{Covers, ends, skips, takes, selects, keys}
 use Rattle.gr_order.proofs.CoveredFiles.{decls_named}
 use Rattle.gr_order.proofs.Elements.{all_append}

@@ -1,10 +1,10 @@
 -- In a workspace without faults nothing that the code of a function asks for is left open.
-use Rattle.std.proofs.Common.{ℕ, ◌≡◌, ◌<◌, ◌≤◌, inl, inr, true, false, Bool, List, [], ◌∷◌, length, ap, sym, subst, refl, ◌∙◌}
-use Rattle.std.specs.Prelude.{Contains, Some, slice_get}
+use Rattle.std.proofs.Common.{ℕ, ◌≡◌, inl, inr, true, false, Bool, List, [], ◌∷◌, length, ap, sym, subst, refl, ◌∙◌}
+use Rattle.std.specs.Prelude.{Some, slice_get}
 use Rattle.std.specs.List.{AllByRecursion}
 use Rattle.std.proofs.lemmas.Bool.{true≢false}
 use Rattle.gr_text.specs.Workspace.{Workspace}
-use Rattle.gr_tree.specs.SourceFile.{SourceFile, spelling_of}
+use Rattle.gr_tree.specs.SourceFile.{SourceFile, IsSourceFile, spelling_of}
 use Rattle.gr_tree.specs.Tree.{FuncTree, DeclTree, FileTree}
 use Rattle.gr_tree.specs.Tree as tree
 use Rattle.gr_scope.specs.declared.model.Role.{Role}
@@ -15,6 +15,7 @@ use Rattle.gr_scope.specs.FileSites.{func_sites}
 use Rattle.gr_scope.specs.Named.{is_unnamed_import}
 use Rattle.gr_scope.specs.Site.{Site, Source}
 use Rattle.gr_expr.specs.World.{World, Locals, Bound, Local, Means, BrokenVariable, BrokenFunction, BrokenType, no_locals}
+use Rattle.gr_expr.specs.Types.{Typed, Untyped, Nil, Meaning, Value, TypeName, Function, BuiltinName, Results, Broken}
 use Rattle.gr_expr.specs.Types.{Package as PackageName}
 use Rattle.gr_statement_rules.specs.Declarations.{DeclIsTyped, variables, types, one_function, DeclsAreTyped, no_decl, also_decl, FileIsTyped, a_file}
 use Rattle.gr_declared.specs.Bound.{result_types}
@@ -23,10 +24,12 @@ use Rattle.gr_meanings.specs.Worlds.{is_init}
 use Rattle.gr_meanings.proofs.DeclKinds.{Holds}
 use Rattle.gr_verdict.specs.FaultLists.{ListsFaults}
 use Rattle.gr_verdict.specs.Verdicts.{Verdicts, AreVerdicts}
-use Rattle.gr_object.specs.Lines.{FunctionName}
+use Rattle.gr_object.specs.Lines.{FunctionName, Plain}
+use Rattle.gr_object.specs.Operands.{plain_function}
 use Rattle.gr_object.specs.Slots.{slots_of}
 use Rattle.gr_object.specs.Source.{Source as CodeSource}
 use Rattle.gr_object.specs.Sources.{IsSourceOf}
+use Rattle.gr_balance.specs.Answered.{IsKnown, MeaningIsKnown, NameIsKnown, IsAnswered}
 use Rattle.gr_balance.specs.Asked.{Question, OfInteger, OfText, OfName, OfExport, OfMember, OfDeclared, OfLeft}
 use Rattle.gr_object.specs.Statements.{body_lines}
 use Rattle.gr_balance.specs.Stack.{Arity, IsBalanced}
@@ -34,6 +37,10 @@ use Rattle.gr_balance.specs.StatementsAsked.{FunctionAsks}
 use Rattle.gr_bound.specs.Uses.{IsPackage}
 use Rattle.gr_known.specs.Files.{IsFunctionIn, this_function, later_function}
 use Rattle.gr_known.specs.Open.{IsOwnName, IsSettled}
+use Rattle.gr_known.proofs.Functions.{member_found}
+use Rattle.gr_known.proofs.Globals.{global_known}
+use Rattle.gr_known.proofs.Literals.{integer_asked, text_asked}
+use Rattle.gr_known.proofs.Slots.{declared_known}
 use Rattle.gr_known.proofs.Whole.{whole_balanced}
 use Rattle.gr_all_bound.specs.Names.{StandsForSomething}
 use Rattle.gr_all_bound.proofs.Links.{source_is}
@@ -46,12 +53,11 @@ use Rattle.gr_settled.proofs.Asked.{StandsIn, IsNamed, IsSelected, IsLeftName, s
 use Rattle.gr_settled.proofs.Functions.{function_kept, no_package, meaning_settled}
 use Rattle.gr_settled.proofs.Members.{members_known}
 use Rattle.gr_settled.proofs.Own.{own_local}
-use Rattle.gr_settled.proofs.Reaching.{Lies}
 use Rattle.gr_settled.proofs.Slots.{has_slot}
 
 -- functions among declarations
 
-function_held : {w : World} {is_init : ℕ → Bool} {before at : Locals} {ds : List DeclTree} {g : FuncTree} → IsFunctionIn w is_init before ds g at →
+pub function_held : {w : World} {is_init : ℕ → Bool} {before at : Locals} {ds : List DeclTree} {g : FuncTree} → IsFunctionIn w is_init before ds g at →
     (k : ℕ) × ((c : ℕ) × Holds ds (tree.FuncDecl k g c))
 function_held (this_function {p = p} {c} t) = (p, (c, inl refl))
 function_held (later_function r more) = let h = function_held more in (h.0, (h.1.0, inr h.1.1))
@@ -158,3 +164,49 @@ module _ (w : Workspace) (sound : ListsFaults w []) (known : Verdicts) (right : 
       let there = function_of typed k g c held in
       whole_balanced arity p files_of file f s source (source_is w known p.path p is.is_checked file f at) g there.0 there.1
       (λ q a. question_settled there.0 q a)
+
+  -- and nothing that it asks for is unknown
+
+  meaning_known : (n : ℕ) (m : Meaning) → s.world.bound n ≡ Means m → MeaningIsKnown arity s n m
+  meaning_known n (Value (Typed t) a) e = global_known p files_of file f s source n (Value (Typed t) a) e tt
+  meaning_known n (Value (Untyped b) a) e = tt
+  meaning_known n (Value Nil a) e = tt
+  meaning_known n (TypeName t) e = tt
+  meaning_known n (Function signature) e =
+      let called = global_known p files_of file f s source n (Function signature) e tt in (
+        Plain called.0,
+        (
+          ap plain_function called.1,
+          meaning_settled w sound known right arity arities p is file f at n files_of s source (Function signature) e called.0 called.1,
+        ),
+      )
+  meaning_known n (BuiltinName b) e = tt
+  meaning_known n PackageName e = tt
+  meaning_known n (Results ts) e =
+      absurd (meaning_settled w sound known right arity arities p is file f at n files_of s source (Results ts) e)
+  meaning_known n Broken e = tt
+
+  name_known : (n : ℕ) → StandsIn (IsNamed n) sites → (b : Bound) → s.world.bound n ≡ b → NameIsKnown arity s slots n b
+  name_known n there (Local place) e = has_slot place slots (local_settled n there place e)
+  name_known n there (Means m) e = meaning_known n m e
+  name_known n there BrokenVariable e = tt
+  name_known n there BrokenFunction e = tt
+  name_known n there BrokenType e = tt
+
+  abbrev is_source : IsSourceFile f
+  is_source = source_is w known p.path p is.is_checked file f at
+
+  pub question_known : (before : Locals) → IsFunctionIn s.world (is_init f) no_locals f.tree.decls g before → (q : Question) →
+      FunctionAsks s.world before g q → IsAnswered arity s slots q
+  question_known before here (OfInteger n) a =
+      subst (λ z. IsKnown z) (sym (source.number n)) (integer_asked s.world (is_init f) f g no_locals before n is_source here a)
+  question_known before here (OfText n) a = text_asked s.world (is_init f) f g no_locals before n (s.text n) is_source here a (source.text n)
+  question_known before here (OfName n) a = name_known n (function_sited s.world code a) (s.world.bound n) refl
+  question_known before here (OfExport n) a = (
+    name_known n (stands_as (IsSelected n) (IsNamed n) (λ x e. e.0) sites (function_sited s.world code a)) (s.world.bound n) refl,
+    (question_settled before (OfExport n) a).1,
+  )
+  question_known before here (OfMember n t) a =
+      (source.before n ∙ member_found s.world (is_init f) f g before n t is_source here a, question_settled before (OfMember n t) a)
+  question_known before here (OfDeclared n) a = declared_known s.world before g n a
+  question_known before here (OfLeft n) a = question_settled before (OfLeft n) a

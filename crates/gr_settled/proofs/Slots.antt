@@ -1,5 +1,6 @@
 -- What a function declares has one of its slots.
-use Rattle.std.proofs.Common.{ℕ, suc, ◌≡◌, ◌⊎◌, inl, inr, ◌==◌, Bool, true, false, if◌then◌else◌, List, [], ◌∷◌, ◌++◌, Option, Some, None, ap, refl, sym, ◌∙◌, subst}
+use Rattle.std.proofs.Common.{ℕ, suc, ◌≡◌, inl, inr, ◌==◌, Bool, true, false, if◌then◌else◌, List, [], ◌∷◌, ◌++◌, Option, Some, None, ap, refl, sym}
+use Rattle.std.proofs.Common.{◌∙◌, subst}
 use Rattle.std.specs.Prelude.{option_to_list}
 use Rattle.std.specs.List.{AllByRecursion, flat_map}
 use Rattle.std.specs.Option.{unwrap_or}
@@ -9,8 +10,7 @@ use Rattle.gr_tree.specs.Tree.{StatementTree, BlockTree, StatementTrees, IfTree,
 use Rattle.gr_tree.specs.Tree as tree
 use Rattle.gr_scope.specs.declared.model.Block.{Block}
 use Rattle.gr_scope.specs.declared.model.Block.TheVariants as blocks
-use Rattle.gr_scope.specs.declared.model.Role.TheVariants.{Use, Declaring, LeftName}
-use Rattle.gr_scope.specs.Bindings.{may_declare}
+use Rattle.gr_scope.specs.declared.model.Role.TheVariants.{Use, Declaring}
 use Rattle.gr_scope.specs.Site.{Site, Source, site}
 use Rattle.gr_scope.specs.ExpressionSites.{sites_if, list_sites, type_sites, expr_sites, exprs_sites}
 use Rattle.gr_scope.specs.StatementSites.{ident_sites, left_sites, assigned_sites, simple_sites, value_sites, local_sites, separated_sites, group_sites}
@@ -142,7 +142,8 @@ module _ (w : World) where
         (plain_append typing values (plain_if (type_sites s) (plain_type s) x.type_use) (plain_if (value_sites s) plain_values x.values))
 
     locals_slotted : (b : Block) (close : ℕ) (xs : List (Item LocalTree)) →
-        All (flat_map local_places (group_items (several 0 xs close))) (flat_map (λ (x : Item LocalTree). local_sites s b (unwrap_or x.separator close) x.value) xs)
+        All (flat_map local_places (group_items (several 0 xs close)))
+        (flat_map (λ (x : Item LocalTree). local_sites s b (unwrap_or x.separator close) x.value) xs)
     locals_slotted b close [] = tt
     locals_slotted b close (x ∷ xs) =
         join (local_places x.value) (flat_map local_places (group_items (several 0 xs close))) (local_sites s b (unwrap_or x.separator close) x.value)

@@ -1,5 +1,5 @@
 -- How many values the functions of a workspace take and give.
-use Rattle.std.specs.Prelude.{ℕ, suc, ◌≡◌, List, length, Option, Some, None, slice_get}
+use Rattle.std.specs.Prelude.{ℕ, suc, ◌≡◌, length, Option, Some, None, slice_get}
 use Rattle.gr_text.specs.Workspace.{Workspace}
 use Rattle.gr_tree.specs.Tree.{ReceiverTree, FuncTree}
 use Rattle.gr_declared.specs.Bound.{parameter_types, result_types}

@@ -1,5 +1,5 @@
 -- The functions of files, and that all that their code asks for is known.
-use Rattle.std.specs.Prelude.{ℕ, List, Contains}
+use Rattle.std.specs.Prelude.{ℕ, Contains}
 use Rattle.gr_tree.specs.SourceFile.{SourceFile}
 use Rattle.gr_tree.specs.Tree.{FuncTree, FuncDecl}
 
