@@ -130,7 +130,7 @@ put_in front put rest before news after encoded leads leads_still whole =
     let pieces : whole.cut.0 ≡ leads.0 ++ after = append_cancel_left (mark_of was) whole.cut.0 (leads.0 ++ after)
     (sym whole.cut.1 ∙ ap (λ l. l ++ after) leads.1 ∙ append_assoc (mark_of was) leads.0 after) in
     let old_rest = cut_behind was (mark_len was) a (length was) leads.0 after leads.2
-        (subst (λ l. CutsTo was (mark_len was) l (length was)) pieces whole.cut.2) in
+    (subst (λ l. CutsTo was (mark_len was) l (length was)) pieces whole.cut.2) in
     let old_end : drop a was ≡ rest = drop_at front rest a refl in
     let new_end : drop b now ≡ rest = ap (drop b) (sym (append_assoc front put rest)) ∙ drop_at (front ++ put) rest b (length-append front put) in
     let moved = shifted_cut was now a b a (length was) after (omega arith) (old_end ∙ sym new_end) old_rest in
