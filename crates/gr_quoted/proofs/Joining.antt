@@ -116,3 +116,34 @@ recut front old new rest before after p c h whole =
         cut_joins now (mark_len now) b (length now) new_cut.0 (map (shifted a b) after) new_cut.2 behind,
       );
     }
+
+-- other pieces stand at a place, and what was there behind them
+pub put_in : (front put rest : List ℕ) (before news after : List Piece) → IsWellEncoded (front ++ (put ++ rest)) →
+    CutsUpTo (front ++ rest) before (length front) → CutsUpTo (front ++ (put ++ rest)) (before ++ news) (length front + length put) →
+    IsCut (front ++ rest) (before ++ after) →
+    IsCut (front ++ (put ++ rest)) ((before ++ news) ++ map (shifted (length front) (length front + length put)) after)
+put_in front put rest before news after encoded leads leads_still whole =
+    let was : List ℕ = front ++ rest in
+    let now : List ℕ = front ++ (put ++ rest) in
+    let a : ℕ = length front in
+    let b : ℕ = length front + length put in
+    let pieces : whole.cut.0 ≡ leads.0 ++ after = append_cancel_left (mark_of was) whole.cut.0 (leads.0 ++ after)
+    (sym whole.cut.1 ∙ ap (λ l. l ++ after) leads.1 ∙ append_assoc (mark_of was) leads.0 after) in
+    let old_rest = cut_behind was (mark_len was) a (length was) leads.0 after leads.2
+    (subst (λ l. CutsTo was (mark_len was) l (length was)) pieces whole.cut.2) in
+    let old_end : drop a was ≡ rest = drop_at front rest a refl in
+    let new_end : drop b now ≡ rest = ap (drop b) (sym (append_assoc front put rest)) ∙ drop_at (front ++ put) rest b (length-append front put) in
+    let moved = shifted_cut was now a b a (length was) after (omega arith) (old_end ∙ sym new_end) old_rest in
+    let start : a - a + b ≡ b = omega arith in
+    let stop : length was - a + b ≡ length now = omega (arith, length-append front rest, length-append front (put ++ rest), length-append put rest) in
+    let behind : CutsTo now b (map (shifted a b) after) (length now) =
+    subst (λ (k : ℕ). CutsTo now b (map (shifted a b) after) k) stop (subst (λ (k : ℕ). CutsTo now k (map (shifted a b) after)
+    (length was - a + b)) start moved) in
+    record {
+      encoded = encoded;
+      cut = (
+        leads_still.0 ++ map (shifted a b) after,
+        ap (λ l. l ++ map (shifted a b) after) leads_still.1 ∙ append_assoc (mark_of now) leads_still.0 (map (shifted a b) after),
+        cut_joins now (mark_len now) b (length now) leads_still.0 (map (shifted a b) after) leads_still.2 behind,
+      );
+    }

@@ -14,7 +14,7 @@ use Rattle.gr_scan.proofs.AsciiLemmas.{ascii_read}
 use Rattle.gr_quoted.specs.Literals.{HasLiteralAt}
 use Rattle.gr_quoted.proofs.Quoting.{quoted_literal}
 use Rattle.gr_quoted.proofs.Cutting.{quoted_in_cut}
-use Rattle.gr_quoted.proofs.Seams.{is_free, MayReplace, cut_kept}
+use Rattle.gr_quoted.proofs.Seams.{EndsAlike, MayReplace, all_end_alike, cut_kept, is_free}
 
 abbrev pub IsQuote : ℕ → Type 0
 IsQuote b = (b ≡ 34) ⊎ (b ≡ 96)
@@ -33,7 +33,7 @@ back_ends : continues_name 96 ≡ false
 unfolding is_letter is_decimal_number ucd_category
 back_ends = refl
 
-no_mark : (y : ℕ) (s : List ℕ) → IsQuote y → starts_with nat_eq (y ∷ s) byte_order_mark ≡ false
+pub no_mark : (y : ℕ) (s : List ℕ) → IsQuote y → starts_with nat_eq (y ∷ s) byte_order_mark ≡ false
 no_mark y s q = by_quote (λ (b : ℕ). starts_with nat_eq (b ∷ s) byte_order_mark ≡ false) refl refl y q
 
 -- the first character is the quote
@@ -46,9 +46,13 @@ quotes x y r s qx qy = record {
   starts = λ large. omega (arith, large, quote_small y qy);
   free = by_quote (λ (b : ℕ). is_free b ≡ true) refl refl y qy;
   no_line = by_quote (λ (b : ℕ). b ≡ 10 → ⊥) (λ e. omega (arith, e)) (λ e. omega (arith, e)) x qx;
+  mark = no_mark x r qx ∙ sym (no_mark y s qy);
+}
+
+quotes_end : (x y : ℕ) (r s : List ℕ) → IsQuote y → EndsAlike x y r s
+quotes_end x y r s qy = record {
   name = λ was. quote_read (λ o. IfSome o (λ c. continues_name c ≡ false)) double_ends back_ends y s qy;
   number = λ was. quote_read (λ o. spoils_number o ≡ false) double_ends back_ends y s qy;
-  mark = no_mark x r qx ∙ sym (no_mark y s qy);
 }
 
 pub record Opens (bytes : List ℕ) : Type 0 where
@@ -69,7 +73,9 @@ before_stays front old new rest before is_old is_new cut =
     let was = subst (λ t. CutsUpTo (front ++ (t ++ rest)) before (length front)) a.spelled cut in
     subst (λ t. CutsUpTo (front ++ (t ++ rest)) before (length front)) (sym b.spelled)
     (cut_kept front (a.more ++ rest) (b.more ++ rest) a.quote b.quote before
-    (quotes a.quote b.quote (a.more ++ rest) (b.more ++ rest) a.is_quote b.is_quote) was)
+    (quotes a.quote b.quote (a.more ++ rest) (b.more ++ rest) a.is_quote b.is_quote)
+    (all_end_alike (length front) a.quote b.quote (a.more ++ rest) (b.more ++ rest) before
+    (quotes_end a.quote b.quote (a.more ++ rest) (b.more ++ rest) b.is_quote)) was)
 
 pub replaced_in_cut : (least : ℕ) (front old path rest : List ℕ) (before pieces : List Piece) → IsPath least path → IsStringPiece old →
     (let bytes = 34 ∷ (path ++ 34 ∷ []) in let text = front ++ (bytes ++ rest) in

@@ -3,7 +3,7 @@ use Rattle.std.proofs.Common.{ℕ, zero, suc, ◌≡◌, ◌⊎◌, ◌+◌, ◌
 use Rattle.std.proofs.Common.{length, get_or, take, drop, refl, sym, ap, ◌∙◌, subst, arith, inl, inr, ⊎_elim, append_assoc, append-nil, length-append}
 use Rattle.std.proofs.Common.{length-drop, length-take-le, get_or-take, take-append-drop, ltb-true}
 use Rattle.std.specs.Prelude.{slice_index, nat_eq, IfSome}
-use Rattle.std.specs.List.{list_all, starts_with}
+use Rattle.std.specs.List.{AllByRecursion, list_all, starts_with}
 use Rattle.std.specs.Char.{encode_utf8, is_digit}
 use Rattle.std.specs.Str.{encode_utf8_all, IsUtf8}
 use Rattle.std.specs.Cmp.Lexicographic.{same_text, bytes_decides}
@@ -36,19 +36,29 @@ use Rattle.gr_scan.proofs.TableLemmas.{each_operator}
 abbrev pub StartsChar : ℕ → Type 0
 StartsChar b = 128 ≤ b → 192 ≤ b
 
--- a byte that no operator, no opening of a comment and no number has
+-- a byte that no operator, no opening of a comment and no number has: of a name, a quote or a blank
 abbrev pub is_free : ℕ → Bool
-is_free b = starts_word b || (eqb b 34 || eqb b 96)
+is_free b = starts_word b || (eqb b 34 || (eqb b 96 || eqb b 32))
 
--- what begins with y and then s may stand where what begins with x and then r does
+-- a piece behind which the next character counts, that it does not go on: a word or a number
+abbrev pub is_open : Class → Bool
+is_open class.Name = true
+is_open (class.Keyword k) = true
+is_open class.Integer = true
+is_open _ = false
+
+-- what begins with y and then s may stand where what begins with x and then r does, behind no word and no number
 pub record MayReplace (x y : ℕ) (r s : List ℕ) : Type 0 where
   pub old_starts : StartsChar x
   pub starts : StartsChar y
   pub free : is_free y ≡ true
   pub no_line : x ≡ 10 → ⊥
+  pub mark : starts_with nat_eq (x ∷ r) byte_order_mark ≡ starts_with nat_eq (y ∷ s) byte_order_mark
+
+-- and behind a word or a number too
+pub record EndsAlike (x y : ℕ) (r s : List ℕ) : Type 0 where
   pub name : EndsName (x ∷ r) → EndsName (y ∷ s)
   pub number : spoils_number (decoded (x ∷ r)).char ≡ false → spoils_number (decoded (y ∷ s)).char ≡ false
-  pub mark : starts_with nat_eq (x ∷ r) byte_order_mark ≡ starts_with nat_eq (y ∷ s) byte_order_mark
 
 -- a character does not end inside another one
 
@@ -92,9 +102,9 @@ by_char : (P : Option ℕ → Type 0) → P None → (mid r s : List ℕ) (x y :
 by_char P none mid r s x y some starts was None e = none
 by_char P none mid r s x y some starts was (Some c) e = subst P (one_char mid r s x y c some starts e) was
 
-char_kept : (P : Option ℕ → Type 0) → P None → (mid r s : List ℕ) (x y : ℕ) → StartsChar y → (P (decoded (x ∷ r)).char → P (decoded (y ∷ s)).char) →
-    P (decoded (mid ++ x ∷ r)).char → P (decoded (mid ++ y ∷ s)).char
-char_kept P none [] r s x y starts here was = here was
+char_kept : (P : Option ℕ → Type 0) → P None → (mid r s : List ℕ) (x y : ℕ) → StartsChar y →
+    (mid ≡ [] → P (decoded (x ∷ r)).char → P (decoded (y ∷ s)).char) → P (decoded (mid ++ x ∷ r)).char → P (decoded (mid ++ y ∷ s)).char
+char_kept P none [] r s x y starts here was = here refl was
 char_kept P none (b ∷ mid) r s x y starts here was = by_char P none (b ∷ mid) r s x y (omega arith) starts was (decoded ((b ∷ mid) ++ y ∷ s)).char refl
 
 -- bytes that no free one is among
@@ -145,9 +155,12 @@ no_digit y free digit =
     (λ word. let four : 4 ≡ 5 = sym (word_family y word) ∙ digit_family y digit in omega (arith, four))
     (λ quote. ⊎_elim
     (λ double. let e : y ≡ 34 = eqb-true y 34 double in false≢true (subst (λ (b : ℕ). is_digit b 10 ≡ true) e digit))
+    (λ other. ⊎_elim
     (λ back. let e : y ≡ 96 = eqb-true y 96 back in false≢true (subst (λ (b : ℕ). is_digit b 10 ≡ true) e digit))
-    (or_cases (eqb y 34) (eqb y 96) quote))
-    (or_cases (starts_word y) (eqb y 34 || eqb y 96) free)
+    (λ blank. let e : y ≡ 32 = eqb-true y 32 blank in false≢true (subst (λ (b : ℕ). is_digit b 10 ≡ true) e digit))
+    (or_cases (eqb y 96) (eqb y 32) other))
+    (or_cases (eqb y 34) (eqb y 96 || eqb y 32) quote))
+    (or_cases (starts_word y) (eqb y 34 || (eqb y 96 || eqb y 32)) free)
 
 fraction_kept : (front r s : List ℕ) (x y : ℕ) → 1 ≤ length front → is_free y ≡ true → IsFraction (front ++ y ∷ s) → IsFraction (front ++ x ∷ r)
 fraction_kept [] r s x y some free is = absurd (omega (arith, some))
@@ -216,23 +229,28 @@ line_kept [] r s x y other (inr e) = absurd (other e)
 line_kept (b ∷ mid) r s x y other (inl e) = absurd (omega (arith, ap length e))
 line_kept (b ∷ mid) r s x y other (inr e) = inr e
 
-pub follow_kept : (c : Class) (p mid r s : List ℕ) (x y : ℕ) → MayReplace x y r s → MayFollow c p (mid ++ x ∷ r) → MayFollow c p (mid ++ y ∷ s)
-follow_kept class.ByteOrderMark p mid r s x y may was = was
-follow_kept class.Blank p mid r s x y may was = tt
-follow_kept class.Newline p mid r s x y may was = tt
-follow_kept class.LineComment p mid r s x y may was = line_kept mid r s x y may.no_line was
-follow_kept class.GeneralComment p mid r s x y may was = tt
-follow_kept class.Name p mid r s x y may was = char_kept (λ o. IfSome o (λ c. continues_name c ≡ false)) tt mid r s x y may.starts may.name was
-follow_kept (class.Keyword k) p mid r s x y may was = char_kept (λ o. IfSome o (λ c. continues_name c ≡ false)) tt mid r s x y may.starts may.name was
-follow_kept class.Integer p mid r s x y may was = (char_kept (λ o. spoils_number o ≡ false) refl mid r s x y may.starts may.number was.0, was.1)
-follow_kept class.InterpretedString p mid r s x y may was = tt
-follow_kept class.RawString p mid r s x y may was = tt
-follow_kept (class.Operator o) p mid r s x y may was = operator_kept o mid r s x y may.free was
+pub follow_kept : (c : Class) (p mid r s : List ℕ) (x y : ℕ) → MayReplace x y r s → (mid ≡ [] → is_open c ≡ true → EndsAlike x y r s) →
+    MayFollow c p (mid ++ x ∷ r) → MayFollow c p (mid ++ y ∷ s)
+follow_kept class.ByteOrderMark p mid r s x y may ends was = was
+follow_kept class.Blank p mid r s x y may ends was = tt
+follow_kept class.Newline p mid r s x y may ends was = tt
+follow_kept class.LineComment p mid r s x y may ends was = line_kept mid r s x y may.no_line was
+follow_kept class.GeneralComment p mid r s x y may ends was = tt
+follow_kept class.Name p mid r s x y may ends was =
+    char_kept (λ o. IfSome o (λ c. continues_name c ≡ false)) tt mid r s x y may.starts (λ here. (ends here refl).name) was
+follow_kept (class.Keyword k) p mid r s x y may ends was =
+    char_kept (λ o. IfSome o (λ c. continues_name c ≡ false)) tt mid r s x y may.starts (λ here. (ends here refl).name) was
+follow_kept class.Integer p mid r s x y may ends was =
+    (char_kept (λ o. spoils_number o ≡ false) refl mid r s x y may.starts (λ here. (ends here refl).number) was.0, was.1)
+follow_kept class.InterpretedString p mid r s x y may ends was = tt
+follow_kept class.RawString p mid r s x y may ends was = tt
+follow_kept (class.Operator o) p mid r s x y may ends was = operator_kept o mid r s x y may.free was
 
 -- pieces
 
-stands_kept : (c : Class) (front r s : List ℕ) (n x y : ℕ) → MayReplace x y r s → n ≤ length front → Stands (front ++ x ∷ r) c n → Stands (front ++ y ∷ s) c n
-stands_kept c front r s n x y may fits stands =
+stands_kept : (c : Class) (front r s : List ℕ) (n x y : ℕ) → MayReplace x y r s → (n ≡ length front → is_open c ≡ true → EndsAlike x y r s) →
+    n ≤ length front → Stands (front ++ x ∷ r) c n → Stands (front ++ y ∷ s) c n
+stands_kept c front r s n x y may ends fits stands =
     let p : List ℕ = take n front in
     let mid : List ℕ = drop n front in
     let taken : take n (front ++ x ∷ r) ≡ p = take-append-le n front (x ∷ r) fits in
@@ -240,7 +258,9 @@ stands_kept c front r s n x y may fits stands =
     let follows : MayFollow c p (mid ++ x ∷ r) = subst (λ t. MayFollow c t (mid ++ x ∷ r)) taken (subst (λ t. MayFollow c (take n
     (front ++ x ∷ r)) t) dropped (may_follow c (front ++ x ∷ r) n stands)) in
     let piece : IsPiece c p = subst (IsPiece c) taken stands.piece in
-    let new : Stands (p ++ (mid ++ y ∷ s)) c (length p) = stands_before c p (mid ++ y ∷ s) piece (follow_kept c p mid r s x y may follows) in
+    let here : mid ≡ [] → n ≡ length front = λ none. omega (arith, ap length none, length-drop n front, fits) in
+    let new : Stands (p ++ (mid ++ y ∷ s)) c (length p) = stands_before c p (mid ++ y ∷ s) piece
+    (follow_kept c p mid r s x y may (λ none. ends (here none)) follows) in
     let whole : p ++ (mid ++ y ∷ s) ≡ front ++ y ∷ s = sym (append_assoc p mid (y ∷ s)) ∙ ap (λ l. l ++ y ∷ s) (take-append-drop n front) in
     subst (λ (k : ℕ). Stands (front ++ y ∷ s) c k) (length-take-le n front fits) (subst (λ t. Stands t c (length p)) whole new)
 
@@ -248,34 +268,50 @@ cut_rises : (text : List ℕ) (from to : ℕ) (ps : List Piece) → CutsTo text 
 cut_rises text from to [] cut = omega (arith, cut)
 cut_rises text from to (p ∷ ps) cut = omega (arith, cut.1, cut_rises text p.span.end to ps cut.3)
 
-cuts_kept : (front r s : List ℕ) (x y from to : ℕ) (ps : List Piece) → MayReplace x y r s → to ≤ length front →
+-- a word or a number that ends at a place
+abbrev pub EndAlikeAt : ℕ → (x y : ℕ) (r s : List ℕ) → List Piece → Type 0
+EndAlikeAt place x y r s ps = AllByRecursion (λ p. p.span.end ≡ place → is_open p.class ≡ true → EndsAlike x y r s) ps
+
+pub all_end_alike : (place x y : ℕ) (r s : List ℕ) (ps : List Piece) → EndsAlike x y r s → EndAlikeAt place x y r s ps
+all_end_alike place x y r s [] alike = tt
+all_end_alike place x y r s (p ∷ ps) alike = ((λ here is. alike), all_end_alike place x y r s ps alike)
+
+cuts_kept : (front r s : List ℕ) (x y from to : ℕ) (ps : List Piece) → MayReplace x y r s → EndAlikeAt (length front) x y r s ps → to ≤ length front →
     CutsTo (front ++ x ∷ r) from ps to → CutsTo (front ++ y ∷ s) from ps to
-cuts_kept front r s x y from to [] may inside cut = cut
-cuts_kept front r s x y from to (p ∷ ps) may inside cut =
+cuts_kept front r s x y from to [] may ends inside cut = cut
+cuts_kept front r s x y from to (p ∷ ps) may ends inside cut =
     let end = cut_rises (front ++ x ∷ r) p.span.end to ps cut.3 in
     let fits : from ≤ length front = omega (arith, cut.1, end, inside) in
+    let long = length-drop from front in
     let old : Stands (drop from front ++ x ∷ r) p.class (p.span.end - from) = subst (λ t. Stands t p.class (p.span.end - from))
     (drop-append-le from front (x ∷ r) fits) cut.2 in
-    let new = stands_kept p.class (drop from front) r s (p.span.end - from) x y may (omega (arith, length-drop from front, end, inside)) old in (
+    let here : p.span.end - from ≡ length (drop from front) → p.span.end ≡ length front = λ same. omega (arith, same, long, fits, cut.1) in
+    let new = stands_kept p.class (drop from front) r s (p.span.end - from) x y may (λ same. ends.0 (here same)) (omega (arith, long, end, inside)) old in (
       cut.0,
       cut.1,
-      subst (λ t. Stands t p.class (p.span.end - from)) (sym (drop-append-le from front
-          (y ∷ s) fits)) new,
-      cuts_kept front r s x y p.span.end to ps may inside cut.3,
+      subst (λ t. Stands t p.class (p.span.end - from)) (sym (drop-append-le from front (y ∷ s) fits)) new,
+      cuts_kept front r s x y p.span.end to ps may ends.1 inside cut.3,
     )
 
-pub cut_kept : (front r s : List ℕ) (x y : ℕ) (ps : List Piece) → MayReplace x y r s → CutsUpTo (front ++ x ∷ r) ps (length front) →
-    CutsUpTo (front ++ y ∷ s) ps (length front)
-cut_kept front r s x y ps may cut =
+behind_mark : (P : Piece → Type 0) (first : Piece) (m : Bool) (ps : List Piece) → AllByRecursion P (cond m (first ∷ []) [] ++ ps) → AllByRecursion P ps
+behind_mark P first true ps all = all.1
+behind_mark P first false ps all = all
+
+pub cut_kept : (front r s : List ℕ) (x y : ℕ) (ps : List Piece) → MayReplace x y r s → EndAlikeAt (length front) x y r s ps →
+    CutsUpTo (front ++ x ∷ r) ps (length front) → CutsUpTo (front ++ y ∷ s) ps (length front)
+cut_kept front r s x y ps may ends cut =
     let mark : starts_with nat_eq (front ++ x ∷ r) byte_order_mark ≡ starts_with nat_eq (front ++ y ∷ s) byte_order_mark =
     same_answer _ _ (mark_begins front s r y x may.old_starts (λ is. sym may.mark ∙ is)) (mark_begins front r s x y may.starts (λ is. may.mark ∙ is)) in
     let first : Piece = record { class = class.ByteOrderMark; span = record { start = 0; end = 3 } } in
     let marks : mark_of (front ++ x ∷ r) ≡ mark_of (front ++ y ∷ s) = ap (λ (b : Bool). cond b (first ∷ []) []) mark in
-    let size : mark_len (front ++ x ∷ r) ≡ mark_len (front ++ y ∷ s) = ap (λ (b : Bool). cond b 3 0) mark in (
+    let size : mark_len (front ++ x ∷ r) ≡ mark_len (front ++ y ∷ s) = ap (λ (b : Bool). cond b 3 0) mark in
+    let rest : EndAlikeAt (length front) x y r s cut.0 =
+    behind_mark (λ p. p.span.end ≡ length front → is_open p.class ≡ true → EndsAlike x y r s) first (starts_with nat_eq (front ++ x ∷ r) byte_order_mark) cut.0
+    (subst (EndAlikeAt (length front) x y r s) cut.1 ends) in (
       cut.0,
       cut.1 ∙ ap (λ l. l ++ cut.0) marks,
       subst (λ (k : ℕ). CutsTo (front ++ y ∷ s) k cut.0 (length front)) size (cuts_kept front r s x y
-          (mark_len (front ++ x ∷ r)) (length front) cut.0 may (omega arith) cut.2),
+          (mark_len (front ++ x ∷ r)) (length front) cut.0 may rest (omega arith) cut.2),
     )
 
 -- the bytes before it

@@ -22,7 +22,7 @@ use Rattle.gr_scan.specs.Words.{IsWord}
 use Rattle.gr_scan.proofs.FamilyLemmas.{word_first}
 use Rattle.gr_scan.proofs.FrontLemmas.{Letter, name_parts, word_letter}
 use Rattle.gr_scan.proofs.IntegerLemmas.{by_test}
-use Rattle.gr_quoted.proofs.Seams.{StartsChar, MayReplace, cut_char}
+use Rattle.gr_quoted.proofs.Seams.{StartsChar, MayReplace, EndsAlike, cut_char}
 
 -- encoding
 
@@ -133,21 +133,31 @@ first_byte (b ∷ more) word = record {
   word = (word_first (b ∷ more) word).1;
 }
 
+letter_first : (bytes rest : List ℕ) → IsWord bytes → (a : FirstByte bytes) → Letter (a.byte ∷ (a.more ++ rest))
+letter_first bytes rest is a = subst (λ l. Letter (l ++ rest)) a.spelled (first_letter bytes rest is)
+
+pub no_name_mark : (bytes rest : List ℕ) → IsWord bytes → (a : FirstByte bytes) → starts_with nat_eq (a.byte ∷ (a.more ++ rest)) byte_order_mark ≡ false
+no_name_mark bytes rest is a = no_mark (a.byte ∷ (a.more ++ rest)) (letter_first bytes rest is a)
+
 no_newline : (b : ℕ) → starts_word b ≡ true → b ≡ 10 → ⊥
 no_newline b word same = false≢true (subst (λ (x : ℕ). starts_word x ≡ true) same word)
 
 -- a name may stand where another one does
+
 pub names : (old new rest : List ℕ) → IsWord old → IsWord new → (a : FirstByte old) (b : FirstByte new) →
     MayReplace a.byte b.byte (a.more ++ rest) (b.more ++ rest)
-names old new rest is_old is_new a b =
-    let first : Letter (a.byte ∷ (a.more ++ rest)) = subst (λ l. Letter (l ++ rest)) a.spelled (first_letter old rest is_old) in
-    let second : Letter (b.byte ∷ (b.more ++ rest)) = subst (λ l. Letter (l ++ rest)) b.spelled (first_letter new rest is_new) in
+names old new rest is_old is_new a b = record {
+  old_starts = a.starts;
+  starts = b.starts;
+  free = or_left (starts_word b.byte) (eqb b.byte 34 || (eqb b.byte 96 || eqb b.byte 32)) b.word;
+  no_line = no_newline a.byte a.word;
+  mark = no_name_mark old rest is_old a ∙ sym (no_name_mark new rest is_new b);
+}
+
+pub names_end : (old new rest : List ℕ) → IsWord old → (a : FirstByte old) (b : FirstByte new) → EndsAlike a.byte b.byte (a.more ++ rest) (b.more ++ rest)
+names_end old new rest is_old a b =
+    let first = letter_first old rest is_old a in
     record {
-      old_starts = a.starts;
-      starts = b.starts;
-      free = or_left (starts_word b.byte) (eqb b.byte 34 || eqb b.byte 96) b.word;
-      no_line = no_newline a.byte a.word;
       name = λ ends. absurd (not_before_letter (a.byte ∷ (a.more ++ rest)) first ends);
       number = λ ends. absurd (letter_spoils (a.byte ∷ (a.more ++ rest)) first ends);
-      mark = no_mark (a.byte ∷ (a.more ++ rest)) first ∙ sym (no_mark (b.byte ∷ (b.more ++ rest)) second);
     }

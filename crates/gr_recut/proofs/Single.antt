@@ -14,9 +14,9 @@ use Rattle.gr_scan.proofs.ContextLemmas.{stands_before, may_follow}
 use Rattle.gr_scan.proofs.OneCutLemmas.{one_piece}
 use Rattle.gr_quoted.specs.Literals.{piece_at, shifted}
 use Rattle.gr_quoted.proofs.Joining.{no_zero, recut}
-use Rattle.gr_quoted.proofs.Seams.{cut_kept, follow_kept, front_utf8}
+use Rattle.gr_quoted.proofs.Seams.{all_end_alike, cut_kept, follow_kept, front_utf8}
 use Rattle.gr_recut.proofs.Leading.{stands_behind}
-use Rattle.gr_recut.proofs.Names.{behind_utf8, first_byte, names, word_encoded, word_utf8}
+use Rattle.gr_recut.proofs.Names.{behind_utf8, first_byte, names, names_end, word_encoded, word_utf8}
 
 pub follow_alike : (class : Class) (bytes between old new rest : List ℕ) → IsPiece Name old → IsPiece Name new →
     MayFollow class bytes (between ++ (old ++ rest)) → MayFollow class bytes (between ++ (new ++ rest))
@@ -25,7 +25,8 @@ follow_alike class bytes between old new rest is_old is_new may =
     let b = first_byte new is_new.0 in
     let was = subst (λ l. MayFollow class bytes (between ++ (l ++ rest))) a.spelled may in
     subst (λ l. MayFollow class bytes (between ++ (l ++ rest))) (sym b.spelled)
-    (follow_kept class bytes between (a.more ++ rest) (b.more ++ rest) a.byte b.byte (names old new rest is_old.0 is_new.0 a b) was)
+    (follow_kept class bytes between (a.more ++ rest) (b.more ++ rest) a.byte b.byte (names old new rest is_old.0 is_new.0 a b)
+    (λ here is. names_end old new rest is_old.0 a b) was)
 
 -- how the name stood
 
@@ -58,7 +59,8 @@ leads_still front old new rest before is_old is_new cut =
     let b = first_byte new is_new.0 in
     let was = subst (λ l. CutsUpTo (front ++ (l ++ rest)) before (length front)) a.spelled cut in
     subst (λ l. CutsUpTo (front ++ (l ++ rest)) before (length front)) (sym b.spelled)
-    (cut_kept front (a.more ++ rest) (b.more ++ rest) a.byte b.byte before (names old new rest is_old.0 is_new.0 a b) was)
+    (cut_kept front (a.more ++ rest) (b.more ++ rest) a.byte b.byte before (names old new rest is_old.0 is_new.0 a b)
+    (all_end_alike (length front) a.byte b.byte (a.more ++ rest) (b.more ++ rest) before (names_end old new rest is_old.0 a b)) was)
 
 before_utf8 : (front old rest : List ℕ) → IsPiece Name old → IsUtf8 (front ++ (old ++ rest)) → IsUtf8 front
 before_utf8 front old rest is utf8 =
