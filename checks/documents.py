@@ -5,6 +5,7 @@
   kinds of its faults by the model are compared with the column `Here`.
 - Each link leads to a file, and each name of a law, contract or definition in README.md, docs/PROOFS.md, DEFINITIONS.md,
   ARCHITECTURE.md and DECISIONS.md, a word with `_` or with an upper case letter, stands in `crates/`.
+- Each crate has a row in a table of docs/ARCHITECTURE.md.
 """
 
 import pathlib
@@ -88,11 +89,20 @@ def wrong_names(text):
     return [f"name {name}" for name in sorted(names - words - folders)], len(names)
 
 
+def wrong_crates(text):
+    """Crates that the tables of docs/ARCHITECTURE.md have not, or that are none, and how many there are."""
+    told = {name for cell in re.findall(r"^\| (`gr_[^|]*)\|", text, re.M) for name in re.findall(r"gr_\w+", cell)}
+    there = {path.parent.name for path in TOP.glob("crates/*/src")}
+    return [f"crate {name}" for name in sorted(told ^ there)], len(there)
+
+
 def main():
     wrong = []
     for path in [TOP / "README.md", *sorted(TOP.glob("docs/*.md")), TOP / "checks/README.md", *TOP.glob("bench/README.md")]:
         text = path.read_text()
         checks = {"sessions": wrong_sessions(text), "links": wrong_links(path, text)}
+        if path.name == "ARCHITECTURE.md":
+            checks["crates"] = wrong_crates(text)
         if path.name == "GO.md":
             checks["examples"] = wrong_examples(text)
         if path == TOP / "README.md" or path.stem in NAMING:
