@@ -12,7 +12,7 @@ use Rattle.std.proofs.lemmas.List.{get_or_default, get_or_append_left, get_or_pu
 use Rattle.std.proofs.lemmas.List.Elements.{Contains-get_or, recursion_from_All}
 use Rattle.std.proofs.lemmas.List.Sorted.{Contains-permutation, IsPermutation-sym, searched}
 use Rattle.std.proofs.lemmas.Map.Keys.{IsDistinct-IsPermutation, IsDistinct-cons, apart_from_distinct, sorted_from_strictly_increasing}
-use Rattle.std.proofs.lemmas.Map.Keys.{non_decreasing_from_sorted}
+use Rattle.std.proofs.lemmas.Map.Keys.{non_decreasing_from_sorted, IsDistinct-from_apart, below_from_sorted}
 use Rattle.std.proofs.lemmas.Map.Made.{length-le_from_is_member, is_member-Decides}
 use Rattle.std.proofs.lemmas.Option.{same_Some, get_or_from_slice_get, slice_get-get_or, slice_get_within}
 use Rattle.gr_text.specs.Workspace.{Workspace}
@@ -20,11 +20,16 @@ use Rattle.gr_text.specs.Packages.{package_paths}
 use Rattle.gr_graph.specs.Imports.{HoldsBelow}
 use Rattle.gr_graph.specs.Packages.{IsInClosure, itself}
 use Rattle.gr_graph.proofs.Asked.{number}
-use Rattle.gr_graph.proofs.Ordered.{distinct_rising}
 use Rattle.gr_verdict.specs.Verdicts.{BuildsOn}
 use Rattle.gr_verdict.specs.Steps.{IsSize, AreSizes, IsBuildOrder}
 use Rattle.gr_verdict.proofs.Closed.{from_package, in_closure_then}
 use Rattle.gr_verdict.proofs.Members.{first_or_later}
+
+-- numbers in order differ
+distinct_rising : (xs : List ℕ) → IsStrictlyIncreasing xs → IsDistinct nat_eq xs
+distinct_rising xs up =
+    IsDistinct-from_apart nat_eq xs (λ i j d h l. ne_eqb (get_or xs i d) (get_or xs j d)
+    (λ e. absurd (omega (arith, below_from_sorted xs i j d (sorted_from_strictly_increasing xs up) h l))))
 
 -- what a search among numbers that rise finds
 
