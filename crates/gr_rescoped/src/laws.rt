@@ -1,0 +1,1 @@
+//! The laws of a rename on a fixed layout.
