@@ -16,20 +16,22 @@ module _ (l : Layout) (nested : Nested l) where
   own_is_no_use names x dx (inl i) = use_not_may (l.role x) i dx.may
   own_is_no_use names x dx (inr i) = i.1 dx
 
-  -- a declaration that is one of several for u can be improved to the first of them
-  abbrev Candidate : Names → List ℕ → ℕ → ℕ → Type 0
+  -- a declaration of the name that holds u
+  abbrev pub Candidate : Names → List ℕ → ℕ → ℕ → Type 0
   Candidate names y u m = Declares l names m × (names m ≡ y) × InScope l m u
 
-  some_first : (names : Names) (y : List ℕ) (u d : ℕ) → MayDeclare l d → InScope l d u → (k : ℕ) →
-      ((m : ℕ) → Candidate names y u m → ((z : ℕ) → z < k → Candidate names y u z → (z ≡ m) ⊎ Precedes l m z) → Precedes l m d → ⊥) →
-      (m : ℕ) → Candidate names y u m → Precedes l m d → ⊥
-  some_first names y u d md hd zero f m p q = f m p (λ z lt pz. absurd (omega arith)) q
-  some_first names y u d md hd (suc k) f m0 p0 q0 =
-      some_first names y u d md hd k (λ m p h q.
+  -- one of several that is such can be improved to the first of them, where what precedes it is such too
+  some_first_below : (names : Names) (y : List ℕ) (u : ℕ) (Q : ℕ → Type 0) →
+      ((k m : ℕ) → Candidate names y u k → Candidate names y u m → Precedes l k m → Q m → Q k) → (k : ℕ) →
+      ((m : ℕ) → Candidate names y u m → ((z : ℕ) → z < k → Candidate names y u z → (z ≡ m) ⊎ Precedes l m z) → Q m → ⊥) →
+      (m : ℕ) → Candidate names y u m → Q m → ⊥
+  some_first_below names y u Q down zero f m p q = f m p (λ z lt pz. absurd (omega arith)) q
+  some_first_below names y u Q down (suc k) f m0 p0 q0 =
+      some_first_below names y u Q down k (λ m p h q.
       let to_k : (n : ℕ) → Candidate names y u n → ((z : ℕ) → z < k → Candidate names y u z → (z ≡ n) ⊎ Precedes l n z) →
       (Candidate names y u k → (k ≡ n) ⊎ Precedes l n k) → (z : ℕ) → z < suc k → Candidate names y u z → (z ≡ n) ⊎ Precedes l n z =
       (λ n pn hn hk z lt pz. elim (same_or_not z k) [
-        | inl e ↦ (let P : ℕ → Type 0 = λ v. (v ≡ n) ⊎ Precedes l n v in let Q : ℕ → Type 0 = λ v. Candidate names y u v in subst P (sym e) (hk (subst Q e pz)))
+        | inl e ↦ (let P : ℕ → Type 0 = λ v. (v ≡ n) ⊎ Precedes l n v in let C : ℕ → Type 0 = λ v. Candidate names y u v in subst P (sym e) (hk (subst C e pz)))
         | inr ne ↦ hn z (omega arith) pz
       ]) in
       let not_k : Candidate names y u k → ⊥ = (λ pk. elim (ordered l nested m k u p.0.may pk.0.may p.2 pk.2) [
@@ -42,37 +44,53 @@ module _ (l : Layout) (nested : Nested l) where
                 | inr a ↦ inr (precedes_trans l nested k m z u pk.0.may p.0.may pz.0.may pk.2 p.2 pz.2 b a)
               ])
               (λ c. inl refl))
-              (precedes_trans l nested k m d u pk.0.may p.0.may md pk.2 p.2 hd b q)
+              (down k m pk p b q)
         ]
       ]) in
       f m p (to_k m p h (λ c. absurd (not_k c))) q) m0 p0 q0
 
+  pub some_first : (names : Names) (y : List ℕ) (u : ℕ) (Q : ℕ → Type 0) →
+      ((k m : ℕ) → Candidate names y u k → Candidate names y u m → Precedes l k m → Q m → Q k) →
+      ((m : ℕ) → IsFirstAt l names y u m → Q m → ⊥) → (m : ℕ) → Candidate names y u m → Q m → ⊥
+  some_first names y u Q down f = some_first_below names y u Q down nested.size (λ m p h q. f m
+      (record { declares = p.0; named = p.1; in_scope = p.2; precedes = λ w dw nw hw. h w (nested.finite w dw.may) (dw, nw, hw) }) q)
+
+  -- the first of those that precede d
+  pub some_first_before : (names : Names) (y : List ℕ) (u d : ℕ) → MayDeclare l d → InScope l d u →
+      ((m : ℕ) → IsFirstAt l names y u m → Precedes l m d → ⊥) → (m : ℕ) → Candidate names y u m → Precedes l m d → ⊥
+  some_first_before names y u d md hd f = some_first names y u (λ m. Precedes l m d)
+      (λ k m pk pm b q. precedes_trans l nested k m d u pk.0.may pm.0.may md pk.2 pm.2 hd b q) f
+
+  -- where a name is bound to none, no declaration of it holds u
+  pub none_holds : (names : Names) (y : List ℕ) (u : ℕ) → ((m : ℕ) → BindsAt l names y u m → ⊥) → (m : ℕ) → Candidate names y u m → ⊥
+  none_holds names y u none m c = some_first names y u (λ k. Unit {0}) (λ k n pk pn b q. tt) (λ k f q. none k (bound_of_first l nested names y u k f)) m c tt
+
 module _ (l : Layout) (nested : Nested l) (before after : Names) (d : ℕ) (y : List ℕ)
     (all : AllCount l before) (dec : Declares l before d) (fresh : before d ≡ y → ⊥) (ren : IsRenaming l before d y after) where
-  other_than_d : (e : ℕ) → before e ≡ y → e ≡ d → ⊥
+  pub other_than_d : (e : ℕ) → before e ≡ y → e ≡ d → ⊥
   other_than_d e ny p = fresh (let P : ℕ → Type 0 = λ k. before k ≡ y in subst P p ny)
 
-  use_after : (u : ℕ) → IsUse l before u → IsUse l after u
+  pub use_after : (u : ℕ) → IsUse l before u → IsUse l after u
   use_after u (inl i) = inl i
   use_after u (inr i) = inr (i.0, λ du. i.1 (declared_before l nested before after d y all dec ren u du))
 
-  is_d_after : after d ≡ y
+  pub is_d_after : after d ≡ y
   is_d_after = after_d l nested before after d y all dec ren
 
-  y_after : (e : ℕ) → Declares l before e → before e ≡ y → after e ≡ y
+  pub y_after : (e : ℕ) → Declares l before e → before e ≡ y → after e ≡ y
   y_after e de ny = after_other l nested before after d y all dec ren e de (other_than_d e ny) ∙ ny
 
   -- of a declaration after the rename: it is d, or had the new name before
-  y_before : (z : ℕ) → Declares l after z → after z ≡ y → (z ≡ d → ⊥) → before z ≡ y
+  pub y_before : (z : ℕ) → Declares l after z → after z ≡ y → (z ≡ d → ⊥) → before z ≡ y
   y_before z dz nz apart = before_name l nested before after d y all dec ren z dz apart ∙ nz
 
-  old_declares : (x : ℕ) → Declares l after x → Declares l before x
+  pub old_declares : (x : ℕ) → Declares l after x → Declares l before x
   old_declares x dx = declared_before l nested before after d y all dec ren x dx
 
-  bound_by : (u c : ℕ) (name : List ℕ) → IsUse l after u → after u ≡ name → IsFirstAt l after name u c → IsBoundTo l after u c
+  pub bound_by : (u c : ℕ) (name : List ℕ) → IsUse l after u → after u ≡ name → IsFirstAt l after name u c → IsBoundTo l after u c
   bound_by u c name i e f = use_bound i (binds_named l nested after name (after u) u c (sym e) (bound_of_first l nested after name u c f))
 
-  assigned_first : (e : ℕ) → Declares l before e → before e ≡ y → IsLeftName l e → SameBlock l d e → InScope l d e → IsFirstAt l after y e d
+  pub assigned_first : (e : ℕ) → Declares l before e → before e ≡ y → IsLeftName l e → SameBlock l d e → InScope l d e → IsFirstAt l after y e d
   assigned_first e de ny left s he = record {
     declares = declares_d l nested before after d y all dec ren (λ z dz nz left_d sz hz.
         let same : z ≡ e = one_in_block l nested before z e (all z dz) (all e de) (nz ∙ sym ny) (sz ∙ s) in
@@ -93,7 +111,7 @@ module _ (l : Layout) (nested : Nested l) (before after : Names) (d : ℕ) (y : 
     ];
   }
 
-  own_assigned_first : (e : ℕ) → Declares l before e → before e ≡ y → IsLeftName l d → SameBlock l e d → InScope l e d → IsFirstAt l after y d e
+  pub own_assigned_first : (e : ℕ) → Declares l before e → before e ≡ y → IsLeftName l d → SameBlock l e d → InScope l e d → IsFirstAt l after y d e
   own_assigned_first e de ny left s he = record {
     declares = declares_other l nested before after d y all dec ren e de (other_than_d e ny) (λ same_y left_e se hd.
         let one : e < d = nested.earlier e d de.may left s he in
@@ -198,15 +216,8 @@ module _ (l : Layout) (nested : Nested l) (before after : Names) (d : ℕ) (y : 
     | inl p ↦
         let bd : BindsAt l before (before u) u d = (let P : ℕ → Type 0 = λ v. BindsAt l before (before u) u v in subst P p b) in
         let none : (z : ℕ) → Declares l before z → before z ≡ y → InScope l z u → Precedes l z d → ⊥ = (λ z dz nz hz q.
-        some_first l nested before y u d dec.may bd.in_scope nested.size
-        (λ m pm hm qm. free m (own_use i bd
-        (bound_of_first l nested before y u m (record {
-          declares = pm.0;
-          named = pm.1;
-          in_scope = pm.2;
-          precedes = λ w dw nw hw. hm w (nested.finite w dw.may) (dw, nw, hw);
-        }))
-        qm))
+        some_first_before l nested before y u d dec.may bd.in_scope
+        (λ m fm qm. free m (own_use i bd (bound_of_first l nested before y u m fm) qm))
         z (dz, nz, hz) q) in
         let now : IsBoundTo l after u d = bound_by u d y (use_after u i) (ren.renamed u (use_bound i bd)) (keeps_own_use l nested before after d y all dec ren u bd.in_scope none) in
         let P : ℕ → Type 0 = λ v. IsBoundTo l after u v in subst P (sym p) now

@@ -21,6 +21,10 @@ pub record Renames (l : Layout) (before : Names) (d : ℕ) (y : List ℕ) (after
 abbrev pub KeepsBindings : Layout → Names → Names → Type 0
 KeepsBindings l before after = (u e : ℕ) → IsBoundTo l before u e → IsBoundTo l after u e
 
+-- each identifier does, but for what declares imports
+abbrev pub KeepsOtherBindings : Layout → Names → Names → Type 0
+KeepsOtherBindings l before after = (u e : ℕ) → (IsImport l u → ⊥) → IsBoundTo l before u e → IsBoundTo l after u e
+
 -- each identifier is bound as it was, and what was bound to none still is
 abbrev pub HasSameBindings : Layout → Names → Names → Type 0
 HasSameBindings l before after = (u e : ℕ) → IsBoundTo l before u e ↔ IsBoundTo l after u e
@@ -84,4 +88,4 @@ HasNoConflict l names d y = (u : ℕ) → HasNoConflictAt l names d y u
 
 -- no import is unused
 abbrev pub AreImportsUsed : Layout → Names → Type 0
-AreImportsUsed l names = (i : ℕ) → IsImport l i → Declares l names i → (u : ℕ) × (IsUse l names u × IsBoundTo l names u i)
+AreImportsUsed l names = (i : ℕ) → IsImport l i → Declares l names i → ((u : ℕ) → IsUse l names u → IsBoundTo l names u i → ⊥) → ⊥
