@@ -100,29 +100,51 @@ module _ (l : Layout) (nested : Nested l) (before after : Names) (d : ℕ) (y : 
   was_use keep u (inl i) = inl i
   was_use keep u (inr i) = inr (i.0, λ du. i.1 (counts_of_own u (keep u u (own_bound u du))).declares)
 
+  was_unbound_use : (u : ℕ) → ((e : ℕ) → IsBoundTo l before u e → ⊥) → IsUse l after u → IsUse l before u
+  was_unbound_use u none (inl i) = inl i
+  was_unbound_use u none (inr i) = inr (i.0, λ du. none u (own_bound u du))
+
+  anew_use : (u c : ℕ) → ((e : ℕ) → IsBoundTo l before u e → ⊥) → IsUse l before u → BindsAt l after (after u) u c → (c ≡ d) × WouldBind l before d y u
+  anew_use u c none i x =
+      let never : (k : ℕ) → BindsAt l before (before u) u k → ⊥ = λ k b. none k (use_bound i b) in
+      let kept : after u ≡ before u = ren.kept u (none d) in
+      let is_d : c ≡ d = elim (same_or_not c d) [
+        | inl p ↦ p
+        | inr apart ↦ absurd (none_holds l nested before (before u) u never c
+            (declares_before c x.counts.declares, before_name l nested before after d y all dec ren c x.counts.declares apart ∙ x.named ∙ kept, x.in_scope))
+      ] in
+      let named : before u ≡ y = sym kept ∙ sym x.named ∙ after_same l nested before after d y all dec ren c is_d in (
+        is_d,
+        record {
+          uses = i;
+          named = named;
+          unbound = λ k b. never k (binds_named l nested before y (before u) u k (sym named) b);
+          in_scope = let P : ℕ → Type 0 = λ v. InScope l v u in subst P is_d x.in_scope;
+        },
+      )
+
+  anew_of : (u c : ℕ) → ((e : ℕ) → IsBoundTo l before u e → ⊥) → IsBoundTo l after u c → (c ≡ d) × WouldBind l before d y u
+  anew_of u c none (use_bound i x) = anew_use u c none (was_unbound_use u none i) x
+  anew_of u c none (own p k) = absurd (none c (own p (all c (declares_before c k.declares))))
+
+  anew_at_d : (u c : ℕ) → (c ≡ d) × WouldBind l before d y u → IsBoundAnew l before after u c
+  anew_at_d u c h = let P : ℕ → Type 0 = λ v. IsBoundAnew l before after u v in subst P (sym h.0) (binds u h.1)
+
+  pub exact_anew : (u c : ℕ) → IsBoundAnew l before after u c ↔ ((c ≡ d) × WouldBind l before d y u)
+  exact_anew u c = ((λ k. anew_of u c k.was_unbound k.now_bound), anew_at_d u c)
+
   -- where what was bound is kept and nothing would be bound, a binding afterwards was one before, so far as that is not impossible
   not_unbound : KeepsBindings l before after → ((u : ℕ) → WouldBind l before d y u → ⊥) → (u e : ℕ) → IsUse l before u →
       BindsAt l after (after u) u e → (BindsAt l before (before u) u e → ⊥) → ⊥
   not_unbound keep none u e i x never_before =
-      let never : (k : ℕ) → BindsAt l before (before u) u k → ⊥ = (λ k b.
-          let same : k ≡ e = bound_once l nested after u k e (keep u k (use_bound i b)) (use_bound (use_after l nested before after d y all dec fresh ren u i) x) in
-          never_before (let P : ℕ → Type 0 = λ v. BindsAt l before (before u) u v in subst P same b)) in
-      let kept : after u ≡ before u = ren.kept u (λ b. elim b [
-        | use_bound j k ↦ never d k
-        | own p c ↦ own_is_no_use l nested before u (let P : ℕ → Type 0 = λ v. Declares l before v in subst P (sym p) dec) i
-      ]) in
-      elim (same_or_not e d) [
-        | inl p ↦
-            let named : before u ≡ y = sym kept ∙ sym x.named ∙ after_same l nested before after d y all dec ren e p in
-            none u (record {
-              uses = i;
-              named = named;
-              unbound = λ k b. never k (binds_named l nested before y (before u) u k (sym named) b);
-              in_scope = let P : ℕ → Type 0 = λ v. InScope l v u in subst P p x.in_scope;
-            })
-        | inr apart ↦ none_holds l nested before (before u) u never e
-            (declares_before e x.counts.declares, before_name l nested before after d y all dec ren e x.counts.declares apart ∙ x.named ∙ kept, x.in_scope)
-      ]
+      let now : IsBoundTo l after u e = use_bound (use_after l nested before after d y all dec fresh ren u i) x in
+      let never : (k : ℕ) → IsBoundTo l before u k → ⊥ = (λ k b. never_before (elim b [
+        | use_bound j bk ↦
+            let same : k ≡ e = bound_once l nested after u k e (keep u k b) now in
+            (let P : ℕ → Type 0 = λ v. BindsAt l before (before u) u v in subst P same bk)
+        | own p c ↦ absurd (own_is_no_use l nested before u (let P : ℕ → Type 0 = λ v. Declares l before v in subst P (sym p) c.declares) i)
+      ])) in
+      none u (anew_of u e never now).1
 
   same_back : KeepsBindings l before after → ((u : ℕ) → WouldBind l before d y u → ⊥) → (u e : ℕ) → IsBoundTo l after u e → IsBoundTo l before u e
   same_back keep none u e (own p c) = own p (all e (declares_before e c.declares))
@@ -168,3 +190,23 @@ module _ (l : Layout) (nested : Nested l) (before after : Names) (d : ℕ) (y : 
 
   pub all_count_after : KeepsBindings l before after → AllCount l after
   all_count_after keep x dx = counts_of_own x (keep x x (own_bound x (declares_before x dx)))
+
+  -- what is lost
+
+  pub lost_only : (u : ℕ) → IsLost l before after u → (WouldLose l before d y u → ⊥) → ⊥
+  lost_only u k safe = k.bound_to_none k.old (kept_at u k.old k.was (record {
+    not_captured = λ c w. k.bound_to_none c (captured u c w).now_bound;
+    not_lost = safe;
+  }))
+
+  -- the rename back
+
+  back_name : (u : ℕ) → IsBoundTo l before u d → before u ≡ before d
+  back_name u (use_bound i b) = sym b.named
+  back_name u (own p c) = let P : ℕ → Type 0 = λ v. before u ≡ before v in subst P p refl
+
+  pub back : HasSameBindings l before after → IsRenaming l after d (before d) before
+  back same = record {
+    renamed = λ u b. back_name u ((same u d).1 b);
+    kept = λ u none. sym (ren.kept u (λ b. none ((same u d).0 b)));
+  }
