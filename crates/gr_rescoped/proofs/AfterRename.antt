@@ -3,13 +3,15 @@ use Rattle.std.proofs.Common.{ℕ, ◌≡◌, ◌<◌, ◌⊎◌, inl, inr, List
 use Rattle.gr_scope.specs.Table.{Precedes}
 use Rattle.gr_scope.specs.Bindings.{Layout, Names, MayDeclare, IsLeftName, SameBlock, InScope, Declares, Displaces, Counts, AllCount, IsBoundTo, use_bound, own}
 use Rattle.gr_scope.proofs.Nesting.{Nested}
-use Rattle.gr_scope.proofs.Innermost.{IsFirstAt, nests_along_left, displaces_precedes, precedes_trans, precedes_not, precedes_asym, ordered, one_in_block, bound_of_first}
+use Rattle.gr_scope.proofs.Innermost.{IsFirstAt, nests_along_left, displaces_precedes, precedes_trans, precedes_not, precedes_asym, ordered, one_in_block}
+use Rattle.gr_scope.proofs.Innermost.{bound_of_first}
 use Rattle.gr_scope.proofs.Uniqueness.{same_or_not, declares_if, bound_once}
 use Rattle.gr_rescoped.specs.Renaming.{IsRenaming}
 
 module _ (l : Layout) (nested : Nested l) where
   -- a left name that does not declare is bound to the declaration that it assigns to
-  pub first_at_left : (names : Names) → AllCount l names → (x e : ℕ) → IsLeftName l x → Declares l names e → SameBlock l e x → InScope l e x → IsFirstAt l names (names e) x e
+  pub first_at_left : (names : Names) → AllCount l names → (x e : ℕ) → IsLeftName l x → Declares l names e → SameBlock l e x → InScope l e x →
+      IsFirstAt l names (names e) x e
   first_at_left names all x e left de s he = record {
     declares = de;
     named = refl;
@@ -38,7 +40,8 @@ module _ (l : Layout) (nested : Nested l) (before after : Names) (d : ℕ) (y : 
   pub declared_before : (x : ℕ) → Declares l after x → Declares l before x
   declared_before x dx = declares_if l nested before x dx.may (λ left e de s ne he.
       let bound : IsBoundTo l before x e = use_bound (inr (left, λ bx. bx.is_new left e de.may s ne he))
-      (bound_of_first l nested before (before x) x e (let P : List ℕ → Type 0 = λ n. IsFirstAt l before n x e in subst P ne (first_at_left l nested before all x e left de s he))) in
+      (bound_of_first l nested before (before x) x e (let P : List ℕ → Type 0 = λ n. IsFirstAt l before n x e in
+      subst P ne (first_at_left l nested before all x e left de s he))) in
       let same : after e ≡ after x = elim (same_or_not e d) [
         | inl p ↦ after_same e p ∙ sym (ren.renamed x (let P : ℕ → Type 0 = λ k. IsBoundTo l before x k in subst P p bound))
         | inr other ↦ after_other e de other ∙ ne ∙ sym (after_bound x e bound other)
@@ -83,7 +86,8 @@ module _ (l : Layout) (nested : Nested l) (before after : Names) (d : ℕ) (y : 
 
   -- uses of other declarations
 
-  pub keeps_use : (u e : ℕ) → IsFirstAt l before (before u) u e → (e ≡ d → ⊥) → (before u ≡ y → InScope l d u → Precedes l d e → ⊥) → IsFirstAt l after (before u) u e
+  pub keeps_use : (u e : ℕ) → IsFirstAt l before (before u) u e → (e ≡ d → ⊥) → (before u ≡ y → InScope l d u → Precedes l d e → ⊥) →
+      IsFirstAt l after (before u) u e
   keeps_use u e f other h = record {
     declares = declares_other e f.declares other (λ ny left s he.
         let less : d < e = nested.earlier d e dec.may left s he in
@@ -112,7 +116,8 @@ module _ (l : Layout) (nested : Nested l) (before after : Names) (d : ℕ) (y : 
         let zd : Precedes l z d = inl (s, less) in
         elim (f.precedes z dz nz zu) [
           | inl p ↦ precedes_asym l nested d e u dec.may f.declares.may hd f.in_scope q (let P : ℕ → Type 0 = λ k. Precedes l k d in subst P p zd)
-          | inr ez ↦ precedes_asym l nested d e u dec.may f.declares.may hd f.in_scope q (precedes_trans l nested e z d u f.declares.may dz.may dec.may f.in_scope zu hd ez zd)
+          | inr ez ↦ precedes_asym l nested d e u dec.may f.declares.may hd f.in_scope q
+              (precedes_trans l nested e z d u f.declares.may dz.may dec.may f.in_scope zu hd ez zd)
         ]);
     named = after_d;
     in_scope = hd;

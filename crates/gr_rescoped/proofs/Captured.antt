@@ -6,7 +6,8 @@ use Rattle.gr_scope.proofs.Nesting.{Nested, NestsAt}
 use Rattle.gr_scope.proofs.Innermost.{IsFirstAt, same_not_nests, precedes_not, precedes_asym, precedes_trans, ordered, first_of_bound, bound_of_first}
 use Rattle.gr_scope.proofs.Uniqueness.{same_or_not, use_not_may, bound_once}
 use Rattle.gr_rescoped.specs.Renaming.{IsRenaming, IsCaptured, WouldAssign, to_renamed, to_other, WouldCapture, new_name, own_use, assigned}
-use Rattle.gr_rescoped.proofs.AfterRename.{after_d, after_same, after_bound, after_other, before_name, declares_other, declares_d, keeps_use, takes_use, loses_use, keeps_own_use}
+use Rattle.gr_rescoped.proofs.AfterRename.{after_d, after_same, after_bound, after_other, before_name, declares_other, declares_d, keeps_use, takes_use}
+use Rattle.gr_rescoped.proofs.AfterRename.{loses_use, keeps_own_use}
 use Rattle.gr_rescoped.proofs.Conflicts.{binds_named, some_first_before, other_than_d, use_after, old_declares, bound_by, assigned_first, own_assigned_first}
 
 module _ (l : Layout) (nested : Nested l) (before after : Names) (d : ℕ) (y : List ℕ)
@@ -24,14 +25,14 @@ module _ (l : Layout) (nested : Nested l) (before after : Names) (d : ℕ) (y : 
       let name : after u ≡ before u = after_bound l nested before after d y all dec ren u e (use_bound i b) apart in
       let first : IsFirstAt l before (before u) u e = first_of_bound l nested before all (before u) u e b in
       let not_kept : (before u ≡ y → InScope l d u → Precedes l d e → ⊥) → ⊥ = (λ h.
-          other (bound_once l nested after u c e now (is_bound u e (before u) i name (keeps_use l nested before after d y all dec ren u e first apart h)))) in
+      other (bound_once l nested after u c e now (is_bound u e (before u) i name (keeps_use l nested before after d y all dec ren u e first apart h)))) in
       elim (same_or_not c d) [
         | inl p ↦
             let ny : before u ≡ y = sym name ∙ sym x.named ∙ after_same l nested before after d y all dec ren c p in
             let hd : InScope l d u = (let P : ℕ → Type 0 = λ v. InScope l v u in subst P p x.in_scope) in
             let found : Precedes l d e → WouldCapture l before d y u c = (λ q.
-                let P : ℕ → Type 0 = λ v. WouldCapture l before d y u v in
-                subst P (sym p) (new_name i ny (binds_named l nested before (before u) y u e ny b) hd q)) in
+            let P : ℕ → Type 0 = λ v. WouldCapture l before d y u v in
+            subst P (sym p) (new_name i ny (binds_named l nested before (before u) y u e ny b) hd q)) in
             elim (ordered l nested e d u b.counts.declares.may dec.may b.in_scope hd) [
               | inl q ↦ absurd (apart q)
               | inr o ↦ elim o [
@@ -41,7 +42,8 @@ module _ (l : Layout) (nested : Nested l) (before after : Names) (d : ℕ) (y : 
             ]
         | inr ne ↦ absurd (not_kept (λ ny hd q.
             let P : List ℕ → Type 0 = λ v. IsFirstAt l before v u e in
-            ne (bound_once l nested after u c d now (is_bound u d y i (name ∙ ny) (takes_use l nested before after d y all dec ren u e (subst P ny first) hd q)))))
+            ne (bound_once l nested after u c d now (is_bound u d y i (name ∙ ny)
+            (takes_use l nested before after d y all dec ren u e (subst P ny first) hd q)))))
       ]
 
   -- a use of d
@@ -52,22 +54,22 @@ module _ (l : Layout) (nested : Nested l) (before after : Names) (d : ℕ) (y : 
       let dc : Declares l before c = declares_before c x.counts.declares in
       let ny : before c ≡ y = before_name l nested before after d y all dec ren c x.counts.declares other ∙ x.named ∙ name in
       let one : (m : ℕ) → IsFirstAt l before y u m → Precedes l m d → m ≡ c = (λ m f q.
-          bound_once l nested after u m c (is_bound u m y i name (loses_use l nested before after d y all dec ren u m f b.in_scope q)) now) in
+      bound_once l nested after u m c (is_bound u m y i name (loses_use l nested before after d y all dec ren u m f b.in_scope q)) now) in
       let not_kept : ((z : ℕ) → Declares l before z → before z ≡ y → InScope l z u → Precedes l z d → ⊥) → ⊥ = (λ h.
-          other (bound_once l nested after u c d now (is_bound u d y i name (keeps_own_use l nested before after d y all dec ren u b.in_scope h)))) in
+      other (bound_once l nested after u c d now (is_bound u d y i name (keeps_own_use l nested before after d y all dec ren u b.in_scope h)))) in
       let not_before_c : Precedes l d c → ⊥ = (λ q. not_kept (λ z dz nz hz r.
-          some_first_before l nested before y u d dec.may b.in_scope (λ m f s.
-          let P : ℕ → Type 0 = λ v. Precedes l v d in
-          precedes_asym l nested d c u dec.may dc.may b.in_scope x.in_scope q (subst P (one m f s) s)) z (dz, nz, hz) r)) in
+      some_first_before l nested before y u d dec.may b.in_scope (λ m f s.
+      let P : ℕ → Type 0 = λ v. Precedes l v d in
+      precedes_asym l nested d c u dec.may dc.may b.in_scope x.in_scope q (subst P (one m f s) s)) z (dz, nz, hz) r)) in
       let comes : Precedes l c d = elim (ordered l nested c d u dc.may dec.may x.in_scope b.in_scope) [
         | inl p ↦ absurd (other p)
         | inr o ↦ elim o [ inl q ↦ q | inr q ↦ absurd (not_before_c q) ]
       ] in
       let not_before : (z : ℕ) → Declares l before z → before z ≡ y → InScope l z u → Precedes l z c → ⊥ = (λ z dz nz hz r.
-          some_first_before l nested before y u c dc.may x.in_scope (λ m f s.
-          let q : Precedes l m d = precedes_trans l nested m c d u f.declares.may dc.may dec.may f.in_scope x.in_scope b.in_scope s comes in
-          let P : ℕ → Type 0 = λ v. Precedes l v c in
-          precedes_not l nested c (subst P (one m f q) s)) z (dz, nz, hz) r) in
+      some_first_before l nested before y u c dc.may x.in_scope (λ m f s.
+      let q : Precedes l m d = precedes_trans l nested m c d u f.declares.may dc.may dec.may f.in_scope x.in_scope b.in_scope s comes in
+      let P : ℕ → Type 0 = λ v. Precedes l v c in
+      precedes_not l nested c (subst P (one m f q) s)) z (dz, nz, hz) r) in
       own_use i b (bound_of_first l nested before y u c (record {
         declares = dc;
         named = ny;
@@ -79,16 +81,18 @@ module _ (l : Layout) (nested : Nested l) (before after : Names) (d : ℕ) (y : 
       })) comes
 
   -- a left name of `:=` that is d
-  assigned_d : (c : ℕ) → IsLeftName l d → (Declares l after d → ⊥) → (c ≡ d → ⊥) → IsBoundTo l after d c → BindsAt l after (after d) d c → WouldAssign l before d y d c
+  assigned_d : (c : ℕ) → IsLeftName l d → (Declares l after d → ⊥) → (c ≡ d → ⊥) → IsBoundTo l after d c → BindsAt l after (after d) d c →
+      WouldAssign l before d y d c
   assigned_d c left ceased other now x =
       let dc : Declares l before c = declares_before c x.counts.declares in
-      let ny : before c ≡ y = before_name l nested before after d y all dec ren c x.counts.declares other ∙ x.named ∙ after_d l nested before after d y all dec ren in
+      let ny : before c ≡ y = before_name l nested before after d y all dec ren c x.counts.declares other ∙ x.named ∙
+      after_d l nested before after d y all dec ren in
       elim (nested.direct d c left dc.may x.in_scope) [
         | inl s ↦ to_other dc ny left s x.in_scope
         | inr n ↦ absurd (ceased (declares_d l nested before after d y all dec ren (λ z dz nz l2 s hz.
             let bound : IsBoundTo l after d z = use_bound (inr (left, ceased)) (binds_named l nested after y (after d) d z
-                (sym (after_d l nested before after d y all dec ren))
-                (bound_of_first l nested after y d z (own_assigned_first l nested before after d y all dec fresh ren z dz nz left s hz))) in
+            (sym (after_d l nested before after d y all dec ren))
+            (bound_of_first l nested after y d z (own_assigned_first l nested before after d y all dec fresh ren z dz nz left s hz))) in
             let same : z ≡ c = bound_once l nested after d z c bound now in
             let P : ℕ → Type 0 = λ v. SameBlock l v d in
             same_not_nests l d c (sym (subst P same s)) n)))
@@ -100,7 +104,7 @@ module _ (l : Layout) (nested : Nested l) (before after : Names) (d : ℕ) (y : 
   assigned_other u c du apart left ceased now x =
       let name : after u ≡ before u = after_other l nested before after d y all dec ren u du apart in
       let not_kept : (before u ≡ y → IsLeftName l u → SameBlock l d u → InScope l d u → ⊥) → ⊥ = (λ h.
-          ceased (declares_other l nested before after d y all dec ren u du apart h)) in
+      ceased (declares_other l nested before after d y all dec ren u du apart h)) in
       elim (same_or_not c d) [
         | inl p ↦
             let hd : InScope l d u = (let P : ℕ → Type 0 = λ v. InScope l v u in subst P p x.in_scope) in
@@ -121,7 +125,7 @@ module _ (l : Layout) (nested : Nested l) (before after : Names) (d : ℕ) (y : 
   by_own u c du other (use_bound (inr i) x) = assigned (elim (same_or_not u d) [
     | inl p ↦
         let P : ℕ → Type 0 = λ v. IsLeftName l v → (Declares l after v → ⊥) → (c ≡ v → ⊥) → IsBoundTo l after v c → BindsAt l after (after v) v c →
-            WouldAssign l before d y v c in
+        WouldAssign l before d y v c in
         subst P (sym p) (assigned_d c) i.0 i.1 other (use_bound (inr i) x) x
     | inr apart ↦ assigned_other u c du apart i.0 i.1 (use_bound (inr i) x) x
   ])

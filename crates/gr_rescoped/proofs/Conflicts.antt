@@ -1,12 +1,15 @@
 -- What the old names say of a rename is what the new names show.
 use Rattle.std.proofs.Common.{ℕ, ◌≡◌, ◌<◌, ◌⊎◌, inl, inr, List, refl, sym, ◌∙◌, subst, arith, zero, suc}
 use Rattle.gr_scope.specs.Table.{Precedes}
-use Rattle.gr_scope.specs.Bindings.{Layout, Names, MayDeclare, IsLeftName, SameBlock, InScope, Declares, Counts, AllCount, BindsAt, IsUse, IsBoundTo, use_bound, own}
+use Rattle.gr_scope.specs.Bindings.{Layout, Names, MayDeclare, IsLeftName, SameBlock, InScope, Declares, Counts, AllCount, BindsAt, IsUse, IsBoundTo}
+use Rattle.gr_scope.specs.Bindings.{use_bound, own}
 use Rattle.gr_scope.proofs.Nesting.{Nested}
 use Rattle.gr_scope.proofs.Innermost.{IsFirstAt, same_not_pair, nests_along_left, precedes_trans, ordered, one_in_block, first_of_bound, bound_of_first}
 use Rattle.gr_scope.proofs.Uniqueness.{same_or_not, use_not_may, bound_once}
-use Rattle.gr_rescoped.specs.Renaming.{IsRenaming, IsLost, IsCaptured, WouldAssign, to_renamed, to_other, WouldCapture, new_name, own_use, assigned, WouldLose, repeats, own_repeats}
-use Rattle.gr_rescoped.proofs.AfterRename.{after_d, after_bound, after_other, declared_before, before_name, declares_other, declares_d, counts_other, counts_d, keeps_use, takes_use, loses_use, keeps_own_use}
+use Rattle.gr_rescoped.specs.Renaming.{IsRenaming, IsLost, IsCaptured, WouldAssign, to_renamed, to_other, WouldCapture, new_name, own_use, assigned}
+use Rattle.gr_rescoped.specs.Renaming.{WouldLose, repeats, own_repeats}
+use Rattle.gr_rescoped.proofs.AfterRename.{after_d, after_bound, after_other, declared_before, before_name, declares_other, declares_d, counts_other}
+use Rattle.gr_rescoped.proofs.AfterRename.{counts_d, keeps_use, takes_use, loses_use, keeps_own_use}
 
 module _ (l : Layout) (nested : Nested l) where
   pub binds_named : (names : Names) (m n : List ℕ) (u d : ℕ) → m ≡ n → BindsAt l names m u d → BindsAt l names n u d
@@ -219,7 +222,8 @@ module _ (l : Layout) (nested : Nested l) (before after : Names) (d : ℕ) (y : 
         some_first_before l nested before y u d dec.may bd.in_scope
         (λ m fm qm. free m (own_use i bd (bound_of_first l nested before y u m fm) qm))
         z (dz, nz, hz) q) in
-        let now : IsBoundTo l after u d = bound_by u d y (use_after u i) (ren.renamed u (use_bound i bd)) (keeps_own_use l nested before after d y all dec ren u bd.in_scope none) in
+        let now : IsBoundTo l after u d = bound_by u d y (use_after u i) (ren.renamed u (use_bound i bd))
+        (keeps_own_use l nested before after d y all dec ren u bd.in_scope none) in
         let P : ℕ → Type 0 = λ v. IsBoundTo l after u v in subst P (sym p) now
     | inr apart ↦
         let first : IsFirstAt l before (before u) u e = first_of_bound l nested before all (before u) u e b in

@@ -8,9 +8,11 @@ use Rattle.gr_scope.specs.Bindings.{Layout, Names, IsLeftName, InScope, Declares
 use Rattle.gr_scope.proofs.Nesting.{Nested}
 use Rattle.gr_scope.proofs.Innermost.{IsFirstAt, bound_of_first}
 use Rattle.gr_scope.proofs.Uniqueness.{same_or_not, bound_once}
-use Rattle.gr_rescoped.specs.Renaming.{IsRenaming, IsLost, IsCaptured, IsBoundAnew, KeepsBindings, HasSameBindings, HasNoConflict, HasNoConflictAt, WouldAssign, to_renamed, to_other, WouldCapture, WouldLose, WouldBind}
+use Rattle.gr_rescoped.specs.Renaming.{IsRenaming, IsLost, IsCaptured, IsBoundAnew, AreUsesBound, KeepsBindings, HasSameBindings, HasNoConflict}
+use Rattle.gr_rescoped.specs.Renaming.{HasNoConflictAt, WouldAssign, to_renamed, to_other, WouldCapture, WouldLose, WouldBind}
 use Rattle.gr_rescoped.proofs.AfterRename.{after_same, before_name, declares_other, declares_d}
-use Rattle.gr_rescoped.proofs.Conflicts.{own_is_no_use, binds_named, none_holds, other_than_d, use_after, is_d_after, y_after, y_before, old_declares, bound_by, captures, loses, keeps}
+use Rattle.gr_rescoped.proofs.Conflicts.{own_is_no_use, binds_named, none_holds, other_than_d, use_after, is_d_after, y_after, y_before, old_declares}
+use Rattle.gr_rescoped.proofs.Conflicts.{bound_by, captures, loses, keeps}
 
 -- what is not unequal is equal
 same_number : (a b : ℕ) → ((a ≡ b → ⊥) → ⊥) → a ≡ b
@@ -140,7 +142,7 @@ module _ (l : Layout) (nested : Nested l) (before after : Names) (d : ℕ) (y : 
       let now : IsBoundTo l after u e = use_bound (use_after l nested before after d y all dec fresh ren u i) x in
       let never : (k : ℕ) → IsBoundTo l before u k → ⊥ = (λ k b. never_before (elim b [
         | use_bound j bk ↦
-            let same : k ≡ e = bound_once l nested after u k e (keep u k b) now in
+            let same : k ≡ e = bound_once l nested after u k e (keep u k (use_bound j bk)) now in
             (let P : ℕ → Type 0 = λ v. BindsAt l before (before u) u v in subst P same bk)
         | own p c ↦ absurd (own_is_no_use l nested before u (let P : ℕ → Type 0 = λ v. Declares l before v in subst P (sym p) c.declares) i)
       ])) in
@@ -210,3 +212,17 @@ module _ (l : Layout) (nested : Nested l) (before after : Names) (d : ℕ) (y : 
     renamed = λ u b. back_name u ((same u d).1 b);
     kept = λ u none. sym (ren.kept u (λ b. none ((same u d).0 b)));
   }
+
+  -- where no use is bound to none
+
+  pub none_bound_anew : AreUsesBound l before → (u : ℕ) → WouldBind l before d y u → ⊥
+  none_bound_anew all_bound u w = all_bound u w.uses (binds u w).was_unbound
+
+  pub exact_where_bound : AreUsesBound l before → HasSameBindings l before after ↔ HasNoConflict l before d y
+  exact_where_bound all_bound = (
+    (λ same. (exact_both.0 same).0),
+    (λ free. exact_both.1 (free, none_bound_anew all_bound)),
+  )
+
+  pub uses_bound : AreUsesBound l before → KeepsBindings l before after → AreUsesBound l after
+  uses_bound all_bound keep u i none = all_bound u (was_use keep u i) (λ e b. none e (keep u e b))

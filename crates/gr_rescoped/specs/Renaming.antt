@@ -89,3 +89,7 @@ HasNoConflict l names d y = (u : ℕ) → HasNoConflictAt l names d y u
 -- no import is unused
 abbrev pub AreImportsUsed : Layout → Names → Type 0
 AreImportsUsed l names = (i : ℕ) → IsImport l i → Declares l names i → ((u : ℕ) → IsUse l names u → IsBoundTo l names u i → ⊥) → ⊥
+
+-- no lexical use is bound to none
+abbrev pub AreUsesBound : Layout → Names → Type 0
+AreUsesBound l names = (u : ℕ) → IsUse l names u → ((e : ℕ) → IsBoundTo l names u e → ⊥) → ⊥

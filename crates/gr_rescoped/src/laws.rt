@@ -3,7 +3,7 @@ ghost use Rattle.std.specs.Prelude.{◌≡◌, ◌↔◌, ℕ, List};
 ghost use Rattle.gr_scope.specs.Bindings.{Layout, Names, Declares, AllCount, IsUse, IsBoundTo, IsPackageLevel};
 ghost use Rattle.gr_imports.specs.Laid.{is_exported};
 ghost use Rattle.gr_rescoped.specs.Renaming.{Renames, KeepsBindings, KeepsOtherBindings, HasSameBindings, IsLost, IsCaptured, IsBoundAnew};
-ghost use Rattle.gr_rescoped.specs.Renaming.{WouldAssign, WouldCapture, WouldLose, WouldBind, HasNoConflict, HasNoConflictAt, AreImportsUsed};
+ghost use Rattle.gr_rescoped.specs.Renaming.{WouldAssign, WouldCapture, WouldLose, WouldBind, HasNoConflict, HasNoConflictAt, AreImportsUsed, AreUsesBound};
 ghost use Rattle.gr_rescoped.specs.Seen.{IsSeenAs};
 
 /// Each identifier stays bound to its declaration exactly if the old names tell no conflict.
@@ -23,6 +23,12 @@ pub fn a_binding_is_kept_without_conflict()
 pub fn bindings_are_the_same_without_conflicts()
     ensures { (l : Layout) → (before : Names) → (d : ℕ) → (y : List ℕ) → (after : Names) → Renames l before d y after →
         HasSameBindings l before after ↔ (HasNoConflict l before d y × ((u : ℕ) → WouldBind l before d y u → ⊥)) }
+{}
+
+/// So it is exactly without conflicts where no use was bound to none.
+pub fn bindings_are_the_same_where_uses_are_bound()
+    ensures { (l : Layout) → (before : Names) → (d : ℕ) → (y : List ℕ) → (after : Names) → Renames l before d y after →
+        AreUsesBound l before → HasSameBindings l before after ↔ HasNoConflict l before d y }
 {}
 
 /// What a rename captures, loses and binds is told by the old names alone.
@@ -45,7 +51,8 @@ pub fn declarations_stay_unless_they_assign()
         (x : ℕ) → Declares l after x → Declares l before x }
 {}
 
-/// Where bindings are kept, the same identifiers declare and the same use; nothing is repeated, and no import becomes unused.
+/// Where bindings are kept, the same identifiers declare and the same use; nothing is repeated, no use comes to be
+/// bound to none, and no import becomes unused.
 pub fn kept_bindings_bring_no_fault()
     ensures declarations { (l : Layout) → (before : Names) → (d : ℕ) → (y : List ℕ) → (after : Names) → Renames l before d y after →
         KeepsBindings l before after → (x : ℕ) → Declares l before x ↔ Declares l after x }
@@ -53,6 +60,8 @@ pub fn kept_bindings_bring_no_fault()
         KeepsBindings l before after → (u : ℕ) → IsUse l before u ↔ IsUse l after u }
     ensures none_repeated { (l : Layout) → (before : Names) → (d : ℕ) → (y : List ℕ) → (after : Names) → Renames l before d y after →
         KeepsBindings l before after → AllCount l after }
+    ensures uses_bound { (l : Layout) → (before : Names) → (d : ℕ) → (y : List ℕ) → (after : Names) → Renames l before d y after →
+        AreUsesBound l before → KeepsBindings l before after → AreUsesBound l after }
     ensures imports_used { (l : Layout) → (before : Names) → (d : ℕ) → (y : List ℕ) → (after : Names) → Renames l before d y after →
         AreImportsUsed l before → KeepsBindings l before after → AreImportsUsed l after }
 {}
