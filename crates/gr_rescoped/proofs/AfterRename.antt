@@ -1,7 +1,7 @@
 -- What declares, and what names are bound to, once a declaration has another name.
-use Rattle.std.proofs.Common.{ℕ, ◌≡◌, ◌<◌, ◌⊎◌, inl, inr, List, refl, sym, ◌∙◌, subst, arith}
+use Rattle.std.proofs.Common.{ℕ, ◌≡◌, ◌<◌, inl, inr, List, refl, sym, ◌∙◌, subst, arith}
 use Rattle.gr_scope.specs.Table.{Precedes}
-use Rattle.gr_scope.specs.Bindings.{Layout, Names, MayDeclare, IsLeftName, SameBlock, InScope, Declares, Displaces, Counts, AllCount, IsBoundTo, use_bound, own}
+use Rattle.gr_scope.specs.Bindings.{Layout, Names, IsLeftName, SameBlock, InScope, Declares, Displaces, Counts, AllCount, IsBoundTo, use_bound, own}
 use Rattle.gr_scope.proofs.Nesting.{Nested}
 use Rattle.gr_scope.proofs.Innermost.{IsFirstAt, nests_along_left, displaces_precedes, precedes_trans, precedes_not, precedes_asym, ordered, one_in_block}
 use Rattle.gr_scope.proofs.Innermost.{bound_of_first}

@@ -1,14 +1,14 @@
 -- What the new names show captured is what the old names tell.
-use Rattle.std.proofs.Common.{ℕ, ◌≡◌, ◌⊎◌, inl, inr, List, refl, sym, ◌∙◌, subst}
+use Rattle.std.proofs.Common.{ℕ, ◌≡◌, inl, inr, List, sym, ◌∙◌, subst}
 use Rattle.gr_scope.specs.Table.{Precedes}
 use Rattle.gr_scope.specs.Bindings.{Layout, Names, IsLeftName, SameBlock, InScope, Declares, AllCount, BindsAt, IsUse, IsBoundTo, use_bound, own}
-use Rattle.gr_scope.proofs.Nesting.{Nested, NestsAt}
+use Rattle.gr_scope.proofs.Nesting.{Nested}
 use Rattle.gr_scope.proofs.Innermost.{IsFirstAt, same_not_nests, precedes_not, precedes_asym, precedes_trans, ordered, first_of_bound, bound_of_first}
 use Rattle.gr_scope.proofs.Uniqueness.{same_or_not, use_not_may, bound_once}
 use Rattle.gr_rescoped.specs.Renaming.{IsRenaming, IsCaptured, WouldAssign, to_renamed, to_other, WouldCapture, new_name, own_use, assigned}
 use Rattle.gr_rescoped.proofs.AfterRename.{after_d, after_same, after_bound, after_other, before_name, declares_other, declares_d, keeps_use, takes_use}
 use Rattle.gr_rescoped.proofs.AfterRename.{loses_use, keeps_own_use}
-use Rattle.gr_rescoped.proofs.Conflicts.{binds_named, some_first_before, other_than_d, use_after, old_declares, bound_by, assigned_first, own_assigned_first}
+use Rattle.gr_rescoped.proofs.Conflicts.{binds_named, some_first_before, use_after, old_declares, bound_by, assigned_first, own_assigned_first}
 
 module _ (l : Layout) (nested : Nested l) (before after : Names) (d : ℕ) (y : List ℕ)
     (all : AllCount l before) (dec : Declares l before d) (fresh : before d ≡ y → ⊥) (ren : IsRenaming l before d y after) where

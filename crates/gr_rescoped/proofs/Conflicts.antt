@@ -5,8 +5,8 @@ use Rattle.gr_scope.specs.Bindings.{Layout, Names, MayDeclare, IsLeftName, SameB
 use Rattle.gr_scope.specs.Bindings.{use_bound, own}
 use Rattle.gr_scope.proofs.Nesting.{Nested}
 use Rattle.gr_scope.proofs.Innermost.{IsFirstAt, same_not_pair, nests_along_left, precedes_trans, ordered, one_in_block, first_of_bound, bound_of_first}
-use Rattle.gr_scope.proofs.Uniqueness.{same_or_not, use_not_may, bound_once}
-use Rattle.gr_rescoped.specs.Renaming.{IsRenaming, IsLost, IsCaptured, WouldAssign, to_renamed, to_other, WouldCapture, new_name, own_use, assigned}
+use Rattle.gr_scope.proofs.Uniqueness.{same_or_not, use_not_may}
+use Rattle.gr_rescoped.specs.Renaming.{IsRenaming, IsLost, IsCaptured, to_renamed, to_other, WouldCapture, new_name, own_use, assigned}
 use Rattle.gr_rescoped.specs.Renaming.{WouldLose, repeats, own_repeats}
 use Rattle.gr_rescoped.proofs.AfterRename.{after_d, after_bound, after_other, declared_before, before_name, declares_other, declares_d, counts_other}
 use Rattle.gr_rescoped.proofs.AfterRename.{counts_d, keeps_use, takes_use, loses_use, keeps_own_use}

@@ -1,17 +1,17 @@
 -- A rename keeps bindings just where the old names tell no conflict.
-use Rattle.std.proofs.Common.{ℕ, ◌≡◌, ◌⊎◌, inl, inr, List, true, refl, sym, ◌∙◌, subst}
+use Rattle.std.proofs.Common.{ℕ, ◌≡◌, inl, inr, List, refl, sym, ◌∙◌, subst}
 use Rattle.std.specs.Prelude.{◌↔◌}
 use Rattle.std.specs.Str.{bytes_eq}
 use Rattle.std.proofs.lemmas.Slice.Eq.{bytes_eq-Decides}
 use Rattle.std.proofs.lemmas.Bool.{cases_Bool, true≢false}
-use Rattle.gr_scope.specs.Bindings.{Layout, Names, IsLeftName, InScope, Declares, Counts, AllCount, BindsAt, IsUse, IsBoundTo, use_bound, own}
+use Rattle.gr_scope.specs.Bindings.{Layout, Names, InScope, Declares, Counts, AllCount, BindsAt, IsUse, IsBoundTo, use_bound, own}
 use Rattle.gr_scope.proofs.Nesting.{Nested}
-use Rattle.gr_scope.proofs.Innermost.{IsFirstAt, bound_of_first}
+use Rattle.gr_scope.proofs.Innermost.{IsFirstAt}
 use Rattle.gr_scope.proofs.Uniqueness.{same_or_not, bound_once}
 use Rattle.gr_rescoped.specs.Renaming.{IsRenaming, IsLost, IsCaptured, IsBoundAnew, AreUsesBound, KeepsBindings, HasSameBindings, HasNoConflict}
 use Rattle.gr_rescoped.specs.Renaming.{HasNoConflictAt, WouldAssign, to_renamed, to_other, WouldCapture, WouldLose, WouldBind}
 use Rattle.gr_rescoped.proofs.AfterRename.{after_same, before_name, declares_other, declares_d}
-use Rattle.gr_rescoped.proofs.Conflicts.{own_is_no_use, binds_named, none_holds, other_than_d, use_after, is_d_after, y_after, y_before, old_declares}
+use Rattle.gr_rescoped.proofs.Conflicts.{own_is_no_use, binds_named, none_holds, use_after, is_d_after, y_after, y_before, old_declares}
 use Rattle.gr_rescoped.proofs.Conflicts.{bound_by, captures, loses, keeps}
 
 -- what is not unequal is equal

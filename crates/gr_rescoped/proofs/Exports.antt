@@ -1,12 +1,10 @@
 -- What other packages see under the names before and after a rename.
-use Rattle.std.proofs.Common.{ℕ, ◌≡◌, ◌⊎◌, inl, inr, List, Bool, true, false, refl, sym, ◌∙◌, subst}
+use Rattle.std.proofs.Common.{ℕ, ◌≡◌, List, Bool, true, false, refl, sym, ◌∙◌, subst}
 use Rattle.std.specs.Prelude.{◌↔◌}
-use Rattle.std.proofs.lemmas.Bool.{true≢false}
 use Rattle.gr_imports.specs.Laid.{is_exported}
-use Rattle.gr_scope.specs.Bindings.{Layout, Names, Declares, Counts, IsPackageLevel, AllCount, IsBoundTo, own}
+use Rattle.gr_scope.specs.Bindings.{Layout, Names, Declares, Counts, IsPackageLevel, AllCount, own}
 use Rattle.gr_scope.proofs.Nesting.{Nested}
 use Rattle.gr_scope.proofs.Innermost.{one_in_block}
-use Rattle.gr_scope.proofs.Uniqueness.{same_or_not}
 use Rattle.gr_rescoped.specs.Renaming.{IsRenaming, KeepsBindings}
 use Rattle.gr_rescoped.specs.Seen.{IsSeenAs}
 use Rattle.gr_rescoped.proofs.AfterRename.{after_d, after_same, after_other, before_name}

@@ -4,12 +4,12 @@ use Rattle.gr_scope.specs.declared.model.Role.{Role}
 use Rattle.gr_scope.specs.declared.model.Role.TheVariants.{Use, Declaring, LeftName, Implied, NotLexical}
 use Rattle.gr_scope.specs.declared.model.Block.{Block}
 use Rattle.gr_scope.specs.declared.model.Block.TheVariants.{Universe, Package, File, Inner}
-use Rattle.gr_scope.specs.Bindings.{Layout, Names, InScope, IsImport, Declares, Displaces, AllCount, BindsAt, IsUse, IsBoundTo, use_bound, own, is_use}
+use Rattle.gr_scope.specs.Bindings.{Layout, Names, IsImport, Declares, AllCount, BindsAt, IsUse, IsBoundTo, use_bound, own, is_use}
 use Rattle.gr_scope.specs.Bindings.{block_of}
 use Rattle.gr_scope.proofs.Nesting.{Nested}
 use Rattle.gr_scope.proofs.Innermost.{displaces_precedes, displaces_holds, bound_of_first}
 use Rattle.gr_scope.proofs.Uniqueness.{bound_once}
-use Rattle.gr_rescoped.specs.Renaming.{IsRenaming, IsLost, IsCaptured, KeepsBindings, KeepsOtherBindings, AreImportsUsed, WouldAssign, to_renamed, to_other}
+use Rattle.gr_rescoped.specs.Renaming.{IsRenaming, IsLost, IsCaptured, KeepsBindings, KeepsOtherBindings, AreImportsUsed, to_renamed, to_other}
 use Rattle.gr_rescoped.specs.Renaming.{WouldCapture, new_name, own_use, assigned, WouldLose, repeats, own_repeats}
 use Rattle.gr_rescoped.proofs.Conflicts.{own_is_no_use, binds_named, some_first_before, use_after, old_declares, captures, loses, keeps}
 
