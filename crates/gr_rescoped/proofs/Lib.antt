@@ -5,3 +5,4 @@ pub mod Exactness
 pub mod Captured
 pub mod Imports
 pub mod Exports
+pub mod Examples
