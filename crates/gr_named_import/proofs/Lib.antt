@@ -1,2 +1,4 @@
 -- The lemmas of this crate.
+pub mod Behind
+pub mod Gaining
 pub mod Putting
