@@ -22,18 +22,22 @@ use Rattle.gr_tree.specs.Kinds.{kind_of, kinds_from, kinds_of}
 use Rattle.gr_recut.proofs.Trees.{each_token}
 use Rattle.gr_named_import.specs.Named.{MayPut, NamePut, after_put, before_put, later, literal_piece, moved_behind, name_piece, name_place, name_token, put_bytes}
 use Rattle.gr_named_import.specs.Named.{put_pieces, with_one_at}
-use Rattle.gr_named_import.specs.Put.{name_and_blank}
+use Rattle.gr_named_import.specs.Put.{NoWordEndsAt, name_and_blank}
 use Rattle.gr_named_import.proofs.Behind.{AllLie, LiesBefore, LiesBehind, all_by, all_lie, behind_bytes, front_bytes, only_number}
 use Rattle.gr_named_import.proofs.Putting.{put_apart, put_joined}
 
 -- the whole is cut
 
 pub put_cut : (p : NamePut) → MayPut p → IsCut (after_put p).text (after_put p).pieces
-put_cut p may = by_form p.blank_first refl
+put_cut p may = by_form p.blank_first may.apart
   where
-    by_form : (b : Bool) → p.blank_first ≡ b → IsCut (after_put p).text (after_put p).pieces
-    by_form true is = rw is (put_joined p.front p.literal p.name p.rest p.before p.after p.class may.is_name may.is_string may.is_cut)
-    by_form false is = rw is (put_apart p.front p.literal p.name p.rest p.before p.after p.class may.is_name may.is_string (may.apart is) may.is_cut)
+    by_form : (b : Bool) → (b ≡ false → NoWordEndsAt (length p.front) p.before) →
+        IsCut (p.front ++ (cond b (32 ∷ (p.name ++ 32 ∷ [])) (p.name ++ 32 ∷ []) ++ (p.literal ++ p.rest)))
+        ((p.before ++ cond b (piece_at class.Blank (length p.front) (32 ∷ []) ∷ name_and_blank (length p.front + 1) p.name)
+        (name_and_blank (length p.front) p.name)) ++ map (shifted (length p.front)
+        (length p.front + length (cond b (32 ∷ (p.name ++ 32 ∷ [])) (p.name ++ 32 ∷ [])))) (piece_at p.class (length p.front) p.literal ∷ p.after))
+    by_form true apart = put_joined p.front p.literal p.name p.rest p.before p.after p.class may.is_name may.is_string may.is_cut
+    by_form false apart = put_apart p.front p.literal p.name p.rest p.before p.after p.class may.is_name may.is_string (apart refl) may.is_cut
 
 -- tokens before the literal
 
@@ -285,16 +289,13 @@ kinds_later n move text other (t ∷ ts) same =
 name_bytes : (p : NamePut) → bytes_of (news p) (name_piece p) ≡ p.name
 name_bytes p = by_form p.blank_first
   where
-    abbrev put : Bool → List ℕ
-    put b = cond b (32 ∷ (p.name ++ 32 ∷ [])) (p.name ++ 32 ∷ [])
-
     take_name : (at : ℕ) (text : List ℕ) → drop at text ≡ p.name ++ 32 ∷ (p.literal ++ p.rest) → bytes_of text (piece_at class.Name at p.name) ≡ p.name
     take_name at text here =
         let size : at + length p.name - at ≡ length p.name = omega arith in
         ap (λ (k : ℕ). take k (drop at text)) size ∙ ap (take (length p.name)) here ∙ take_at p.name (32 ∷ (p.literal ++ p.rest)) (length p.name) refl
 
-    by_form : (b : Bool) → bytes_of (p.front ++ (put b ++ (p.literal ++ p.rest))) (piece_at class.Name (cond b (length p.front + 1) (length p.front)) p.name)
-        ≡ p.name
+    by_form : (b : Bool) → bytes_of (p.front ++ (cond b (32 ∷ (p.name ++ 32 ∷ [])) (p.name ++ 32 ∷ []) ++ (p.literal ++ p.rest)))
+        (piece_at class.Name (cond b (length p.front + 1) (length p.front)) p.name) ≡ p.name
     by_form true =
         let whole : List ℕ = p.front ++ (32 ∷ (p.name ++ 32 ∷ []) ++ (p.literal ++ p.rest)) in
         let first : drop (length p.front) whole ≡ 32 ∷ ((p.name ++ 32 ∷ []) ++ (p.literal ++ p.rest)) =
