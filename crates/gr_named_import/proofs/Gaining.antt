@@ -245,7 +245,7 @@ literal_number p may t number at =
     only_number t.ones (literal_piece p) t.behind number
     (subst (λ ts. IsStrictlySortedBy nat_cmp (starts ts)) t.old rise) (ap (λ ts. slice_get ts number) (sym t.old) ∙ at)
 
-one_put : {X : Type 0} (ones behind : List X) (number : ℕ) (one : X) (change : X → X) → number ≡ length ones →
+pub one_put : {X : Type 0} (ones behind : List X) (number : ℕ) (one : X) (change : X → X) → number ≡ length ones →
     with_one_at number one change (ones ++ behind) ≡ ones ++ one ∷ map change behind
 one_put ones behind number one change is =
     ap (λ l. l ++ one ∷ map change (drop number (ones ++ behind))) (take_at ones behind number (sym is))

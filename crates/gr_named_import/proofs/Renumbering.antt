@@ -24,10 +24,10 @@ use Rattle.gr_named_import.specs.Renumbered.{block_by, statements_by, if_by, els
 use Rattle.gr_named_import.specs.Renumbered.{param_by, result_by, func_by, imports_by, decl_by, renumbered}
 
 module _ (g : ℕ → ℕ) where
-  both : {xs ys : List Token} (as bs : List Token) → xs ≡ map (numbered g) as → ys ≡ map (numbered g) bs → xs ++ ys ≡ map (numbered g) (as ++ bs)
-  both as bs one other = (λ i. one i ++ other i) ∙ sym (map-append (numbered g) as bs)
+  pub both : {xs ys : List Token} (us vs : List Token) → xs ≡ map (numbered g) us → ys ≡ map (numbered g) vs → xs ++ ys ≡ map (numbered g) (us ++ vs)
+  both us vs one other = (λ i. one i ++ other i) ∙ sym (map-append (numbered g) us vs)
 
-  sign_same : (k : Kind) (o : Option ℕ) → sign_if k (option_map g o) ≡ map (numbered g) (sign_if k o)
+  pub sign_same : (k : Kind) (o : Option ℕ) → sign_if k (option_map g o) ≡ map (numbered g) (sign_if k o)
   sign_same k None = refl
   sign_same k (Some p) = refl
 
@@ -42,7 +42,7 @@ module _ (g : ℕ → ℕ) where
   all_same f by each [] = refl
   all_same f by each (x ∷ xs) = both (f x) (all_tokens f xs) (each x) (all_same f by each xs)
 
-  list_same : {X : Type 0} (k : Kind) (f : X → List Token) (by : X → X) → ((x : X) → f (by x) ≡ map (numbered g) (f x)) → (xs : List (Item X)) →
+  pub list_same : {X : Type 0} (k : Kind) (f : X → List Token) (by : X → X) → ((x : X) → f (by x) ≡ map (numbered g) (f x)) → (xs : List (Item X)) →
       list_tokens k f (items_by g by xs) ≡ map (numbered g) (list_tokens k f xs)
   list_same k f by each xs = all_same (item_tokens k f) (item_by g by)
       (λ i. both (f i.value) (sign_if k i.separator) (each i.value) (sign_same k i.separator)) xs
@@ -179,7 +179,7 @@ module _ (g : ℕ → ℕ) where
     else_same (else_if p i) = ap (λ l. sign kind.Else (g p) ∷ l) (if_tree_same i)
     else_same (else_block p b) = ap (λ l. sign kind.Else (g p) ∷ l) (block_same b)
 
-  import_same : (x : ImportTree) → import_tokens (import_by g x) ≡ map (numbered g) (import_tokens x)
+  pub import_same : (x : ImportTree) → import_tokens (import_by g x) ≡ map (numbered g) (import_tokens x)
   unfolding import_tokens
   import_same i = both (sign_if kind.Name i.name) (sign kind.Text i.path ∷ []) (sign_same kind.Name i.name) refl
 

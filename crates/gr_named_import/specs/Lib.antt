@@ -1,3 +1,5 @@
 -- The definitions of this crate.
+pub mod Around
 pub mod Named
 pub mod Put
+pub mod Renumbered
