@@ -1,6 +1,6 @@
 -- A tree with the numbers of its tokens changed is as the grammar has it, where the tree is.
 use Rattle.std.proofs.Common.{ℕ, ◌≡◌, ◌<◌, List, [], ◌∷◌, Option, Some, None, map, refl, sym, ap, ◌∙◌, subst, inl, inr, ⊎_elim}
-use Rattle.std.specs.Prelude.{◌≢◌, Bool, true, IsSome, option_map}
+use Rattle.std.specs.Prelude.{◌≢◌, Bool, false, true, IsSome, option_map}
 use Rattle.std.specs.List.{All, AllByRecursion}
 use Rattle.std.proofs.lemmas.List.Elements.{All-from_recursion, recursion_from_All}
 use Rattle.gr_tree.specs.Tree.{Item, Group, single, several, IdentTree, Named, Underscore, BasicTree, Integer, String, TypeTree, Local, Imported, Pointer}
@@ -79,11 +79,29 @@ module _ (g : ℕ → ℕ) where
 
   operand_kept : (e : ExprTree) → is_operand (expr_by g e) ≡ is_operand e
   unfolding expr_by
-  operand_kept _ = refl
+  operand_kept (Number n) = refl
+  operand_kept (Text n) = refl
+  operand_kept (Name n) = refl
+  operand_kept (Blank n) = refl
+  operand_kept (Composite l) = refl
+  operand_kept (Paren o e c) = refl
+  operand_kept (Prefix op p e) = refl
+  operand_kept (Address p l) = refl
+  operand_kept (Chain e ls) = refl
+  operand_kept (Binary e os) = refl
 
   binary_kept : (e : ExprTree) → is_binary_tree (expr_by g e) ≡ is_binary_tree e
   unfolding expr_by
-  binary_kept _ = refl
+  binary_kept (Number n) = refl
+  binary_kept (Text n) = refl
+  binary_kept (Name n) = refl
+  binary_kept (Blank n) = refl
+  binary_kept (Composite l) = refl
+  binary_kept (Paren o e c) = refl
+  binary_kept (Prefix op p e) = refl
+  binary_kept (Address p l) = refl
+  binary_kept (Chain e ls) = refl
+  binary_kept (Binary e os) = refl
 
   some_links : (ls : LinkTrees) → ls ≢ no_link → links_by g ls ≢ no_link
   unfolding links_by
