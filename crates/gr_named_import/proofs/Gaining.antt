@@ -5,7 +5,7 @@ use Rattle.std.specs.Prelude.{slice_get}
 use Rattle.std.specs.List.{AllByRecursion, list_any}
 use Rattle.std.specs.List.Sorted.{IsStrictlySortedBy}
 use Rattle.std.specs.Ordering.{nat_cmp}
-use Rattle.std.proofs.lemmas.List.{drop_at, map-append, take_at}
+use Rattle.std.proofs.lemmas.List.{drop_at, take_at}
 use Rattle.gr_scan.specs.declared.piece.Class.{Class}
 use Rattle.gr_scan.specs.declared.piece.Class.TheVariants as class
 use Rattle.gr_scan.specs.declared.piece.Piece.{Piece}
@@ -20,10 +20,10 @@ use Rattle.gr_quoted.specs.Literals.{piece_at, shifted}
 use Rattle.gr_tree.specs.declared.syntax.Token.{Token}
 use Rattle.gr_tree.specs.Kinds.{kind_of, kinds_from, kinds_of}
 use Rattle.gr_recut.proofs.Trees.{each_token}
-use Rattle.gr_named_import.specs.Named.{MayPut, NamePut, after_put, before_put, later, literal_piece, moved_behind, name_piece, name_place, name_token, put_bytes}
+use Rattle.gr_named_import.specs.Named.{MayPut, NamePut, after_put, before_put, later, literal_piece, moved_behind, name_piece, name_token, put_bytes}
 use Rattle.gr_named_import.specs.Named.{put_pieces, with_one_at}
 use Rattle.gr_named_import.specs.Put.{NoWordEndsAt, name_and_blank}
-use Rattle.gr_named_import.proofs.Behind.{AllLie, LiesBefore, LiesBehind, all_by, all_lie, behind_bytes, front_bytes, only_number}
+use Rattle.gr_named_import.proofs.Behind.{LiesBefore, LiesBehind, all_by, all_lie, behind_bytes, front_bytes, only_number}
 use Rattle.gr_named_import.proofs.Putting.{put_apart, put_joined}
 
 -- the whole is cut

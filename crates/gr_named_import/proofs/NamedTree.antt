@@ -1,7 +1,7 @@
 -- The tree of a file in which an import gains a name.
-use Rattle.std.proofs.Common.{ℕ, ◌≡◌, ◌+◌, ◌<◌, ◌≤◌, List, [], ◌∷◌, ◌++◌, Option, None, Some, length, map, refl, sym, ap, ◌∙◌, subst, arith, append_assoc, append-nil}
-use Rattle.std.specs.Prelude.{option_map, slice_get}
-use Rattle.std.specs.List.{All, AllByRecursion}
+use Rattle.std.proofs.Common.{ℕ, ◌≡◌, ◌+◌, ◌<◌, ◌≤◌, List, [], ◌∷◌, ◌++◌, Option, Some, length, map, refl, sym, ap, ◌∙◌, subst, arith, append_assoc, append-nil}
+use Rattle.std.specs.Prelude.{slice_get}
+use Rattle.std.specs.List.{AllByRecursion}
 use Rattle.std.proofs.lemmas.Bool.Decides.{nat_tests}
 use Rattle.std.proofs.lemmas.List.{map-append}
 use Rattle.std.proofs.lemmas.List.Elements.{All-from_recursion, recursion_from_All}
@@ -12,14 +12,14 @@ use Rattle.gr_tree.specs.declared.syntax.Token.{Token}
 use Rattle.gr_tree.specs.Flatten.{sign, sign_if, all_tokens, decl_tokens, flatten, group_tokens, import_tokens, imports_tokens, item_tokens, list_tokens}
 use Rattle.gr_tree.specs.Kinds.{kind_of_name, kinds_from, kinds_of}
 use Rattle.gr_tree.specs.Tree.{ImportTree, ImportsTree, Item, several}
-use Rattle.gr_tree.specs.WellFormed.{Any, IsFile, IsGroup, IsImports, IsOpenList, IsSeparated, IsTreeOf}
+use Rattle.gr_tree.specs.WellFormed.{Any, IsFile, IsGroup, IsImports, IsSeparated, IsTreeOf}
 use Rattle.gr_named_import.specs.Around.{AroundImport, AroundItem, alone, among, around_by, bare_import, file_with, from_on, group_with, imports_with}
 use Rattle.gr_named_import.specs.Around.{item_around_by, named_import}
 use Rattle.gr_named_import.specs.Named.{MayPut, NamePut, after_put, before_put, later, literal_piece, name_token, with_one_at}
-use Rattle.gr_named_import.specs.Renumbered.{decl_by, import_by, imports_by, item_by, items_by, numbered, renumbered}
+use Rattle.gr_renumbered.specs.Renumbered.{decl_by, import_by, imports_by, item_by, numbered}
 use Rattle.gr_named_import.proofs.Gaining.{gained_kinds, one_put}
-use Rattle.gr_named_import.proofs.Kept.{file_kept}
-use Rattle.gr_named_import.proofs.Renumbering.{all_same, both, decl_same, import_same, imports_same, list_same, sign_same}
+use Rattle.gr_renumbered.proofs.Kept.{file_kept}
+use Rattle.gr_renumbered.proofs.Renumbering.{all_same, both, decl_same, import_same, imports_same, list_same, sign_same}
 
 -- what a file writes out before an import, and behind it
 

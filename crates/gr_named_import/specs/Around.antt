@@ -1,7 +1,7 @@
 -- A tree around one of its imports, which gains a name.
 use Rattle.std.specs.Prelude.{ℕ, ◌+◌, List, ◌∷◌, ◌++◌, Option, None, Some, cond, map, nat_lt, option_map}
 use Rattle.gr_tree.specs.Tree.{DeclTree, FileTree, Group, ImportTree, ImportsTree, Item, several, single}
-use Rattle.gr_named_import.specs.Renumbered.{decl_by, import_by, imports_by, items_by}
+use Rattle.gr_renumbered.specs.Renumbered.{decl_by, import_by, imports_by, items_by}
 
 -- what stands around an import behind its keyword: nothing, or the parentheses, the imports before it, the separator behind it and those behind
 -- that

@@ -2,4 +2,3 @@
 pub mod Around
 pub mod Named
 pub mod Put
-pub mod Renumbered

@@ -9,15 +9,12 @@ ghost use Rattle.gr_scan.specs.Pieces.{IsPiece};
 ghost use Rattle.gr_scan.specs.TokenValues.{IsStringClass};
 ghost use Rattle.gr_quoted.specs.Literals.{piece_at, shifted};
 ghost use Rattle.gr_tree.specs.declared.syntax.Kind.TheVariants as kind;
-ghost use Rattle.gr_tree.specs.Flatten.{flatten};
 ghost use Rattle.gr_tree.specs.Kinds.{kind_of_name, kinds_of};
-ghost use Rattle.gr_tree.specs.Tree.{FileTree};
-ghost use Rattle.gr_tree.specs.WellFormed.{IsFile, IsTreeOf};
+ghost use Rattle.gr_tree.specs.WellFormed.{IsTreeOf};
 ghost use Rattle.gr_named_import.specs.Around.{AroundImport, around_by, bare_import, file_with, from_on, named_import};
 ghost use Rattle.gr_named_import.specs.Named.{MayPut, NamePut, after_put, before_put, later, literal_piece, moved_behind, name_piece, name_token};
 ghost use Rattle.gr_named_import.specs.Named.{with_one_at};
 ghost use Rattle.gr_named_import.specs.Put.{NoWordEndsAt, name_and_blank};
-ghost use Rattle.gr_named_import.specs.Renumbered.{numbered, renumbered};
 
 /// Where a name and a blank are put before a string literal, the new text is cut where the old one was: into the same pieces before, the
 /// name, the blank, and the literal and all behind it, moved by as much. Before the literal no word and no number may end, or a blank is put
@@ -53,12 +50,6 @@ pub fn named_text_gains_a_token()
 pub fn named_text_gains_a_kind()
     ensures { (p : NamePut) (number : ℕ) → MayPut p → slice_get (tokens_in (before_put p)) number ≡ Some (literal_piece p) →
         kinds_of (after_put p) ≡ with_one_at number (name_token p.name number) later (kinds_of (before_put p)) }
-{}
-
-/// A tree with the numbers of its tokens changed writes out the same tokens, with these numbers, and is as the grammar has it where the tree is.
-pub fn renumbered_tree_is_written()
-    ensures well_formed { (g : ℕ → ℕ) (f : FileTree) → IsFile f → IsFile (renumbered g f) }
-    ensures written { (g : ℕ → ℕ) (f : FileTree) → flatten (renumbered g f) ≡ map (numbered g) (flatten f) }
 {}
 
 /// Where the old text has a tree in which the literal is the path of an import without a name, the new text has the tree in which this import

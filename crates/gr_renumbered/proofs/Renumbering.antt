@@ -1,5 +1,5 @@
 -- A tree with the numbers of its tokens changed writes out the same tokens, with these numbers.
-use Rattle.std.proofs.Common.{ℕ, ◌≡◌, List, [], ◌∷◌, ◌++◌, Option, Some, None, map, refl, sym, ap, ◌∙◌, append_assoc}
+use Rattle.std.proofs.Common.{ℕ, ◌≡◌, List, [], ◌∷◌, ◌++◌, Option, Some, None, map, refl, sym, ap, ◌∙◌}
 use Rattle.std.specs.Prelude.{option_map}
 use Rattle.std.proofs.lemmas.List.{map-append}
 use Rattle.gr_tree.specs.declared.syntax.Kind.{Kind}
@@ -18,10 +18,10 @@ use Rattle.gr_tree.specs.Tree.{StatementTree, Empty, Var, Simple, Inner, If, For
 use Rattle.gr_tree.specs.Tree.{statement, IfTree, if_tree, ElseTree, no_else, else_if, else_block, ImportTree, GlobalTree, FieldTree, BodyTree, Other}
 use Rattle.gr_tree.specs.Tree.{Struct, TypeSpecTree, ReceiverTree, ParamTree, ResultTree, no_result, one_result, results, FuncTree, ImportsTree, DeclTree}
 use Rattle.gr_tree.specs.Tree.{VarDecl, TypeDecl, FuncDecl, FileTree}
-use Rattle.gr_named_import.specs.Renumbered.{numbered, item_by, items_by, group_by, ident_by, basic_by, type_by, key_by, expr_by, operands_by, links_by}
-use Rattle.gr_named_import.specs.Renumbered.{arguments_by, literal_by, elements_by, exprs_by, simple_by, values_by, local_by, init_by, for_by, statement_by}
-use Rattle.gr_named_import.specs.Renumbered.{block_by, statements_by, if_by, else_by, import_by, global_by, field_by, body_by, type_spec_by, receiver_by}
-use Rattle.gr_named_import.specs.Renumbered.{param_by, result_by, func_by, imports_by, decl_by, renumbered}
+use Rattle.gr_renumbered.specs.Renumbered.{numbered, item_by, items_by, group_by, ident_by, basic_by, type_by, key_by, expr_by, operands_by, links_by}
+use Rattle.gr_renumbered.specs.Renumbered.{arguments_by, literal_by, elements_by, simple_by, values_by, local_by, init_by, for_by, statement_by}
+use Rattle.gr_renumbered.specs.Renumbered.{block_by, statements_by, if_by, else_by, import_by, global_by, field_by, body_by, type_spec_by, receiver_by}
+use Rattle.gr_renumbered.specs.Renumbered.{param_by, result_by, func_by, imports_by, decl_by, renumbered}
 
 module _ (g : ℕ → ℕ) where
   pub both : {xs ys : List Token} (us vs : List Token) → xs ≡ map (numbered g) us → ys ≡ map (numbered g) vs → xs ++ ys ≡ map (numbered g) (us ++ vs)

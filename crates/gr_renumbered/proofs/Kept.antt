@@ -3,22 +3,22 @@ use Rattle.std.proofs.Common.{ℕ, ◌≡◌, ◌<◌, List, [], ◌∷◌, Opti
 use Rattle.std.specs.Prelude.{◌≢◌, Bool, false, true, IsSome, option_map}
 use Rattle.std.specs.List.{All, AllByRecursion}
 use Rattle.std.proofs.lemmas.List.Elements.{All-from_recursion, recursion_from_All}
-use Rattle.gr_tree.specs.Tree.{Item, Group, single, several, IdentTree, Named, Underscore, BasicTree, Integer, String, TypeTree, Local, Imported, Pointer}
+use Rattle.gr_tree.specs.Tree.{Item, Group, single, several, TypeTree, Local, Imported, Pointer}
 use Rattle.gr_tree.specs.Tree.{Slice, ExprTree, Number, Text, Name, Blank, Composite, Paren, Prefix, Address, Chain, Binary, OperandTrees, no_operand}
 use Rattle.gr_tree.specs.Tree.{operand, LinkTrees, no_link, selector, index, call, ArgumentTrees, no_argument, argument, LiteralTree, literal, ElementTrees}
 use Rattle.gr_tree.specs.Tree.{no_element, element, SimpleTree, Alone, Step, Update, Assign, Define, LocalTree, InitTree, ForTree, forever, while, clauses}
 use Rattle.gr_tree.specs.Tree.{StatementTree, Empty, Var, Simple, Inner, If, For, Break, Continue, Return, BlockTree, block, StatementTrees, no_statement}
-use Rattle.gr_tree.specs.Tree.{statement, IfTree, if_tree, ElseTree, no_else, else_if, else_block, ImportTree, GlobalTree, FieldTree, BodyTree, Other}
-use Rattle.gr_tree.specs.Tree.{Struct, TypeSpecTree, ReceiverTree, ParamTree, ResultTree, no_result, one_result, results, FuncTree, ImportsTree, DeclTree}
+use Rattle.gr_tree.specs.Tree.{statement, IfTree, if_tree, ElseTree, no_else, else_if, else_block, GlobalTree, BodyTree, Other}
+use Rattle.gr_tree.specs.Tree.{Struct, ResultTree, no_result, one_result, results, FuncTree, DeclTree}
 use Rattle.gr_tree.specs.Tree.{VarDecl, TypeDecl, FuncDecl, FileTree}
 use Rattle.gr_tree.specs.WellFormed.{IsNonEmpty, IsSeparated, IsJoined, IsList, IsOpenList, IsGroup, Perhaps, Any, strength, strength_of, is_operand}
 use Rattle.gr_tree.specs.WellFormed.{is_binary_tree, IsLiteralType, IsExpr, AreOperands, AreLinks, AreArguments, IsLiteral, AreElements, IsUnnamed}
 use Rattle.gr_tree.specs.WellFormed.{HasNoNamedLiteral, HaveNoNamedLiteral, IsExprIn, IsSimple, IsPost, IsInit, IsFor, IsLocal, IsStatement, IsBlock}
 use Rattle.gr_tree.specs.WellFormed.{AreStatements, IsIf, IsElse, IsGlobal, IsField, IsBody, IsTypeSpec, IsParam, IsResult, IsFunc, IsImports, IsDecl, IsFile}
-use Rattle.gr_named_import.specs.Renumbered.{item_by, items_by, group_by, ident_by, basic_by, type_by, expr_by, operands_by, links_by}
-use Rattle.gr_named_import.specs.Renumbered.{arguments_by, literal_by, elements_by, simple_by, values_by, local_by, init_by, for_by, statement_by}
-use Rattle.gr_named_import.specs.Renumbered.{block_by, statements_by, if_by, else_by, import_by, global_by, field_by, body_by, type_spec_by}
-use Rattle.gr_named_import.specs.Renumbered.{param_by, result_by, func_by, imports_by, decl_by, renumbered}
+use Rattle.gr_renumbered.specs.Renumbered.{item_by, items_by, group_by, ident_by, basic_by, type_by, expr_by, operands_by, links_by}
+use Rattle.gr_renumbered.specs.Renumbered.{arguments_by, literal_by, elements_by, simple_by, values_by, local_by, init_by, for_by, statement_by}
+use Rattle.gr_renumbered.specs.Renumbered.{block_by, statements_by, if_by, else_by, import_by, global_by, field_by, body_by, type_spec_by}
+use Rattle.gr_renumbered.specs.Renumbered.{param_by, result_by, func_by, imports_by, decl_by, renumbered}
 
 none_of : {X Y : Type 0} (f : X → Y) (o : Option X) → option_map f o ≡ None → o ≡ None
 none_of f None is = refl
