@@ -1,5 +1,6 @@
 -- The tokens, and their kinds, of a text in which a name is put before a string literal.
-use Rattle.std.proofs.Common.{ℕ, suc, ◌≡◌, ◌+◌, ◌-◌, List, [], ◌∷◌, ◌++◌, ◌||◌, ◌&&◌, Bool, true, false, cond, Some, length, take, drop, map, refl, sym, ap, ◌∙◌}
+use Rattle.std.proofs.Common.{ℕ, suc, ◌≡◌, ◌+◌, ◌-◌, List, [], ◌∷◌, ◌++◌, ◌||◌, ◌&&◌, Bool, true, false, cond, Some, length, take, drop, map, refl, sym, ap}
+use Rattle.std.proofs.Common.{◌∙◌}
 use Rattle.std.proofs.Common.{subst, arith, eqb, ⊎_elim, append_assoc, drop-drop, length-append}
 use Rattle.std.specs.Prelude.{slice_get}
 use Rattle.std.specs.List.{AllByRecursion, list_any}
@@ -168,7 +169,8 @@ put_tokens : (p : NamePut) (text : List ℕ) (q : Piece) (ps : List Piece) → i
 put_tokens p text q ps token = by_form p.blank_first
   where
     by_form : (b : Bool) → tokens_of text (cond b (piece_at class.Blank (length p.front) (32 ∷ []) ∷ name_and_blank (length p.front + 1) p.name)
-        (name_and_blank (length p.front) p.name) ++ q ∷ ps) ≡ piece_at class.Name (cond b (length p.front + 1) (length p.front)) p.name ∷ tokens_of text (q ∷ ps)
+        (name_and_blank (length p.front) p.name) ++ q ∷ ps) ≡ piece_at class.Name (cond b (length p.front + 1) (length p.front)) p.name ∷ tokens_of text
+        (q ∷ ps)
     by_form true = blank_tokens text (length p.front) (name_and_blank (length p.front + 1) p.name ++ q ∷ ps) ∙
         name_tokens text p.name (length p.front + 1) q ps token
     by_form false = name_tokens text p.name (length p.front) q ps token
@@ -300,7 +302,8 @@ name_bytes p = by_form p.blank_first
         let whole : List ℕ = p.front ++ (32 ∷ (p.name ++ 32 ∷ []) ++ (p.literal ++ p.rest)) in
         let first : drop (length p.front) whole ≡ 32 ∷ ((p.name ++ 32 ∷ []) ++ (p.literal ++ p.rest)) =
         drop_at p.front (32 ∷ ((p.name ++ 32 ∷ []) ++ (p.literal ++ p.rest))) (length p.front) refl in
-        take_name (length p.front + 1) whole (sym (drop-drop 1 (length p.front) whole) ∙ ap (drop 1) first ∙ append_assoc p.name (32 ∷ []) (p.literal ++ p.rest))
+        take_name (length p.front + 1) whole (sym (drop-drop 1 (length p.front) whole) ∙ ap (drop 1) first ∙
+        append_assoc p.name (32 ∷ []) (p.literal ++ p.rest))
     by_form false =
         let whole : List ℕ = p.front ++ ((p.name ++ 32 ∷ []) ++ (p.literal ++ p.rest)) in
         take_name (length p.front) whole (drop_at p.front ((p.name ++ 32 ∷ []) ++ (p.literal ++ p.rest)) (length p.front) refl

@@ -179,7 +179,8 @@ group_named g i j (among o before separator after c) w =
 groups_by : (g : ℕ → ℕ) (i : ImportTree) (a : AroundImport) → imports_by g (imports_with i a) ≡ imports_with (import_by g i) (around_by g a)
 groups_by g i a = by_item a.item
   where
-    by_item : (x : AroundItem) → ◌≡◌ {A = ImportsTree} (imports_by g (record { keyword = a.import_keyword; imports = group_with i x; semicolon = a.import_semicolon }))
+    by_item : (x : AroundItem) → ◌≡◌ {A = ImportsTree}
+        (imports_by g (record { keyword = a.import_keyword; imports = group_with i x; semicolon = a.import_semicolon }))
         (record { keyword = g a.import_keyword; imports = group_with (import_by g i) (item_around_by g x); semicolon = g a.import_semicolon })
     by_item alone = refl
     by_item (among o before separator after c) =
@@ -190,7 +191,8 @@ named_well : (g : ℕ → ℕ) (i j : ImportTree) (a : AroundImport) → IsFile 
 named_well g i j a w =
     let kept = file_kept g (file_with i a) w in
     let split = map-append (imports_by g) a.before (imports_with i a ∷ a.after) in
-    let imports = subst (AllByRecursion IsImports) split (recursion_from_All IsImports (map (imports_by g) (a.before ++ imports_with i a ∷ a.after)) kept.imports) in
+    let imports = subst (AllByRecursion IsImports) split
+    (recursion_from_All IsImports (map (imports_by g) (a.before ++ imports_with i a ∷ a.after)) kept.imports) in
     let before : List ImportsTree = map (imports_by g) a.before in
     let after : List ImportsTree = map (imports_by g) a.after in
     let named = replace_one IsImports before after (imports_by g (imports_with i a)) (imports_with j (around_by g a))
