@@ -9,7 +9,7 @@ use Rattle.std.proofs.lemmas.List.Elements.{All-from_recursion, recursion_from_A
 use Rattle.gr_tree.specs.declared.syntax.Kind.{Kind}
 use Rattle.gr_tree.specs.declared.syntax.Kind.TheVariants as kind
 use Rattle.gr_tree.specs.declared.syntax.Token.{Token}
-use Rattle.gr_tree.specs.Flatten.{sign, sign_if, all_tokens, group_tokens, import_tokens, imports_tokens, item_tokens, list_tokens}
+use Rattle.gr_tree.specs.Flatten.{sign, sign_if, all_tokens, group_tokens, import_tokens, imports_tokens, list_tokens}
 use Rattle.gr_tree.specs.Grammar.{A, Begins, Close, File, GroupOf, ImportItem, Imports, Items, MoreItems, One, Opening, Otherwise, Part, Rule, Single, Symbol}
 use Rattle.gr_tree.specs.Grammar.{Tops, is, rules}
 use Rattle.gr_tree.specs.Language.{Among, Derives, below, by_rule, closing, ends, levels, opening, tested, token, untested}
@@ -189,7 +189,8 @@ no_group : {d : ℕ} {ss : List Symbol} {ts us : List Token} (i : ImportTree) �
 unfolding import_tokens
 no_group {d = d} {ss = ss} {ts = ts} {us = us} i a = two_rules refl (by_name i.name) (single_kept i a)
   where
-    by_name : (o : Option ℕ) → Alike d (Opening (is kind.LeftParen) ∷ A (Items ImportItem) ∷ Close ∷ ss) ((sign_if kind.Name o ++ (sign kind.Text i.path ∷ [])) ++ ts)
+    by_name : (o : Option ℕ) → Alike d (Opening (is kind.LeftParen) ∷ A (Items ImportItem) ∷ Close ∷ ss)
+        ((sign_if kind.Name o ++ (sign kind.Text i.path ∷ [])) ++ ts)
         ((sign_if kind.Name o ++ (sign kind.Text i.path ∷ [])) ++ us)
     by_name None = refused_opening refl refl
     by_name (Some n) = refused_opening refl refl
