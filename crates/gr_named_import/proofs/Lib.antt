@@ -3,3 +3,4 @@ pub mod Behind
 pub mod Gaining
 pub mod NamedTree
 pub mod Putting
+pub mod Whole

@@ -23,20 +23,20 @@ use Rattle.gr_renumbered.proofs.Renumbering.{all_same, both, decl_same, import_s
 
 -- what a file writes out before an import, and behind it
 
-abbrev left_item : AroundItem → List Token
+abbrev pub left_item : AroundItem → List Token
 left_item alone = []
 left_item (among o before separator after c) = sign kind.LeftParen o ∷ list_tokens kind.Semicolon import_tokens before
 
-abbrev right_item : AroundItem → List Token
+abbrev pub right_item : AroundItem → List Token
 right_item alone = []
 right_item (among o before separator after c) =
     sign_if kind.Semicolon separator ++ (list_tokens kind.Semicolon import_tokens after ++ (sign kind.RightParen c ∷ []))
 
-abbrev left : AroundImport → List Token
+abbrev pub left : AroundImport → List Token
 left a = sign kind.Package a.keyword ∷ sign kind.Name a.name ∷ sign kind.Semicolon a.semicolon ∷
     (all_tokens imports_tokens a.before ++ (sign kind.Import a.import_keyword ∷ left_item a.item))
 
-abbrev right : AroundImport → List Token
+abbrev pub right : AroundImport → List Token
 right a = right_item a.item ++ (sign kind.Semicolon a.import_semicolon ∷ (all_tokens imports_tokens a.after ++ all_tokens decl_tokens a.decls))
 
 all_of : {X : Type 0} (f : X → List Token) (xs : List X) (y : X) (ys : List X) →
@@ -209,10 +209,16 @@ named_tokens : (number : ℕ) → import_tokens (named_import number) ≡ sign k
 unfolding import_tokens
 named_tokens number = refl
 
-pub gained_tree : (p : NamePut) (number : ℕ) (a : AroundImport) → MayPut p → slice_get (tokens_in (before_put p)) number ≡ Some (literal_piece p) →
-    kind_of_name p.name ≡ kind.Name → IsTreeOf (file_with (bare_import number) a) (kinds_of (before_put p)) →
-    IsTreeOf (file_with (named_import number) (around_by (from_on number) a)) (kinds_of (after_put p))
-gained_tree p number a may at name tree =
+-- the kinds of both texts, by what the tree writes out before the import and behind it
+pub record BothKinds (p : NamePut) (number : ℕ) (a : AroundImport) : Type 0 where
+  pub old : kinds_of (before_put p) ≡ left a ++ sign kind.Text number ∷ right a
+  pub new : kinds_of (after_put p) ≡ left a ++ sign kind.Name number ∷ map later (sign kind.Text number ∷ right a)
+  pub written : flatten (file_with (named_import number) (around_by (from_on number) a)) ≡ left a ++ sign kind.Name number ∷ map later
+      (sign kind.Text number ∷ right a)
+
+pub both_kinds : (p : NamePut) (number : ℕ) (a : AroundImport) → MayPut p → slice_get (tokens_in (before_put p)) number ≡ Some (literal_piece p) →
+    kind_of_name p.name ≡ kind.Name → IsTreeOf (file_with (bare_import number) a) (kinds_of (before_put p)) → BothKinds p number a
+both_kinds p number a may at name tree =
     let g : ℕ → ℕ = from_on number in
     let there : List Token = sign kind.Text number ∷ right a in
     let old : kinds_of (before_put p) ≡ left a ++ there =
@@ -232,7 +238,14 @@ gained_tree p number a may at name tree =
     file_split (named_import number) (around_by g a) ∙ ap (λ l. left (around_by g a) ++ (l ++ right (around_by g a))) (named_tokens number)
     ∙ ap (λ l. l ++ sign kind.Name number ∷ sign kind.Text (number + 1) ∷ right (around_by g a)) (left_by g a ∙ front_same)
     ∙ ap (λ l. left a ++ sign kind.Name number ∷ sign kind.Text (number + 1) ∷ l) (right_by g a ∙ behind_same) in
+    record { old = old; new = new_kinds ∙ ap (λ t. left a ++ t ∷ map later there) name_is; written = written }
+
+pub gained_tree : (p : NamePut) (number : ℕ) (a : AroundImport) → MayPut p → slice_get (tokens_in (before_put p)) number ≡ Some (literal_piece p) →
+    kind_of_name p.name ≡ kind.Name → IsTreeOf (file_with (bare_import number) a) (kinds_of (before_put p)) →
+    IsTreeOf (file_with (named_import number) (around_by (from_on number) a)) (kinds_of (after_put p))
+gained_tree p number a may at name tree =
+    let kinds = both_kinds p number a may at name tree in
     record {
-      written = written ∙ sym (new_kinds ∙ ap (λ t. left a ++ t ∷ map later there) name_is);
-      well_formed = named_well g (bare_import number) (named_import number) a tree.well_formed;
+      written = kinds.written ∙ sym kinds.new;
+      well_formed = named_well (from_on number) (bare_import number) (named_import number) a tree.well_formed;
     }
