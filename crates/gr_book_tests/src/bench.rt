@@ -1,12 +1,16 @@
 //! What the tests of histories do with a book, and what the replies to it tell. A book and a Job are no values that may be
 //! dropped, so no test ends by `?` while it has one.
+ghost use Rattle.std.specs.Prelude.{IfOk};
+ghost use Rattle.gr_verdict.specs.Found.{IsFound};
+
 use gr_book::{Book, Event, Line, Reply, View};
 use gr_check::Planned;
 use gr_compile::{Built, Job, build};
 use gr_rename::plan_rename;
 use gr_space::{Change, plan_put};
 use gr_text::{FileText, Limits, Refusal};
-use gr_verdict::verdicts;
+use gr_verdict::{Found, verdicts};
+use std::alloc::{AllocError, Global};
 use std::process::Abort;
 
 /// What is done with a book. A Job is called by its ticket.
@@ -183,6 +187,13 @@ fn put_as_elsewhere(
         .step(Event::Commit(number, planned(rt, &view, path, bytes)))
 }
 
+/// What is found in the packages of a view's files.
+fn found(alloc: Global, view: &View) -> Result<Found, AllocError>
+    ensures { IfOk result (IsFound view.now.snapshot.files) }
+{
+    verdicts(alloc, view.snapshot.files(), view.snapshot.known())
+}
+
 /// The rename that a view's files allow.
 fn renamed(
     rt: &(impl Abort + AllocGlobal),
@@ -193,7 +204,7 @@ fn renamed(
 ) -> Change {
     let alloc = rt.alloc();
     let snapshot = &view.snapshot;
-    let found = verdicts(alloc, snapshot.files(), snapshot.known()).expect(rt, "findings");
+    let found = found(alloc, view).expect(rt, "findings");
     let planned = plan_rename(alloc, snapshot.get(), &found, path, offset, name);
     let Planned { change, known } = planned.ok().expect(rt, "a plan");
     drop(known);
