@@ -1,11 +1,13 @@
 """Renames in a generated workspace: what all packages use, a local variable, and names that are refused.
 
 The workspace is that of check.py, and one package more, whose variable each file uses three times over. Measured: a rename
-of that variable, of a local variable, one that would be captured, and `uses` of the same; each after one `faults`.
+of that variable, of a local variable, one that would be captured, and `uses` of the same; each after one `faults`. Beside
+it the first two by `gorename`, and these and the uses by a running `gopls`, where they are installed.
 """
 import sys
 
 import check
+import go_tools
 
 BASE = "gen/base/base.go"
 STEP = b"package base\n\nvar Step int = 1\n"
@@ -44,6 +46,18 @@ def measure(program, lines):
     session.timed("refused as captured", f"rename {basis} {local} n", ("no", 14))
     session.timed("refused as lost", f"rename {basis} {place} stride", ("no", 15))
     session.end()
+    go_tools.once(files, "gorename", "-offset", place, "-to", "Stride")
+    go_tools.once(files, "gorename", "-offset", local, "-to", "here")
+    everywhere, within = STEP.index(b"Step"), files[path].index(b"local")
+    go_tools.running(
+        files,
+        "gen",
+        [
+            ("uses of what all use", BASE, everywhere, None),
+            ("what all use, renamed", BASE, everywhere, "Stride"),
+            ("a local variable, renamed", path, within, "here"),
+        ],
+    )
 
 
 if __name__ == "__main__":

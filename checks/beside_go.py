@@ -5,14 +5,21 @@
 needs `go`. Each operator stands between each two operands, each operation on each operand, each value where each type is
 wanted. What the program refuses and Go takes is listed, and the other way, by forms: the first list is to be what
 docs/GO.md calls narrower, the second what it calls wider.
+
+And each example of docs/GO.md is given to both: the program has to find the faults that stand there, and Go has to build it
+where it is to be narrower here, and to refuse it where it is to be wider.
 """
 
 import collections
 import os
+import pathlib
 import re
 import subprocess
 import sys
 import tempfile
+
+from documents import TOP, examples, files_of
+from puts import session
 
 HERE = os.path.dirname(os.path.abspath(__file__))
 OTHER = """package b
@@ -180,6 +187,38 @@ def form(statement):
     return re.sub(r"(?<![\w.])(%s)(?![\w(])" % "|".join(VARIABLES), "v", statement)
 
 
+def kinds_by_program(program, files):
+    """The kinds of faults that the program finds, as docs/GO.md has them."""
+    texts = {path: text for path, text in sorted(files.items())}
+    told = subprocess.run([program, "run"], input=session(texts, ["faults"]), stdout=subprocess.PIPE, check=True).stdout.decode()
+    return ", ".join(dict.fromkeys(re.findall(r"^\S+:#\d+ (\w+)$", told, re.M))) or "none"
+
+
+def is_built_by_go(files, environment):
+    """Whether Go builds the package of `a/a.go`."""
+    with tempfile.TemporaryDirectory() as folder:
+        for path, text in files.items():
+            file = pathlib.Path(folder, "src", path)
+            file.parent.mkdir(parents=True)
+            file.write_bytes(text)
+        command = ["go", "build", "-o", os.devnull, "a"]
+        return subprocess.run(command, cwd=folder, env=dict(environment, GOPATH=folder), capture_output=True).returncode == 0
+
+
+def wrong_examples(program, environment):
+    """The examples of docs/GO.md of which what it tells is not so, and how many there are."""
+    wrong, count = [], 0
+    for section, package, example, here in examples((TOP / "docs" / "GO.md").read_text()):
+        count += 1
+        files = files_of(package, example)
+        told, is_wider = kinds_by_program(program, files), section.startswith("Wider")
+        if told != here or is_wider != (here == "none"):
+            wrong.append(f"{example}: {told} here, and not {here}")
+        if is_built_by_go(files, environment) == is_wider:
+            wrong.append(f"{example}: Go {'builds' if is_wider else 'refuses'} it")
+    return wrong, count
+
+
 def show(title, found):
     print(f"{title}: {sum(len(examples) for examples in found.values())}")
     for examples in sorted(found.values(), key=len, reverse=True):
@@ -204,9 +243,12 @@ def main():
                     narrower[form(statement)].append(statement)
                 if line in go and line not in program:
                     wider[go[line]].append(f"{statement}    ({go[line]})")
+        wrong, told = wrong_examples(sys.argv[1], environment)
     print(f"{count} statements")
     show("refused here and not by Go", narrower)
     show("refused by Go and not here", wider)
+    print(f"{told} examples of docs/GO.md, of which {len(wrong)} are told wrongly", *wrong, sep="\n  ")
+    sys.exit(1 if wrong else 0)
 
 
 if __name__ == "__main__":

@@ -3,8 +3,9 @@
 - A block of `sh` that writes `session.in` is run, and the model's answer is compared with the block behind it.
 - Each example of a table in docs/GO.md stands in a file `a/a.go` of the package that the text before it names, and the
   kinds of its faults by the model are compared with the column `Here`.
-- Each link leads to a file, and each name of a law, contract or definition in docs/PROOFS.md and README.md, a word with
-  `_` or with an upper case letter, stands in `crates/`.
+- Each link leads to a file, and each name of a law, contract or definition in README.md, docs/PROOFS.md, DEFINITIONS.md,
+  ARCHITECTURE.md and DECISIONS.md, a word with `_` or with an upper case letter, stands in `crates/`.
+- Each crate has a row in a table of docs/ARCHITECTURE.md.
 """
 
 import pathlib
@@ -17,6 +18,7 @@ from history import replies
 from workspace import Workspace
 
 TOP = pathlib.Path(__file__).resolve().parent.parent
+NAMING = ("PROOFS", "DEFINITIONS", "ARCHITECTURE", "DECISIONS")
 OTHER = b"package b\n\ntype T struct {\n\tX int\n}\n\nfunc F() int {\n\treturn 1\n}\n"
 
 
@@ -33,17 +35,22 @@ def wrong_sessions(text):
     return wrong, len(found)
 
 
+def files_of(package, example):
+    """The files of a workspace with one file of these declarations, and the package that it may import."""
+    return {"a/a.go": f"package {package}\n{example}\n".encode(), "b/b.go": OTHER}
+
+
 def kinds_of(package, example):
     """The kinds of the faults of one file with these declarations."""
-    source = f"package {package}\n{example}\n".encode()
-    workspace = Workspace({"a/a.go": source, "b/b.go": OTHER})
+    workspace = Workspace(files_of(package, example))
     return ", ".join(dict.fromkeys(kind for _, _, kind in workspace.faults())) or "none"
 
 
-def wrong_examples(text):
-    """Rows whose example has other faults, and how many rows there are."""
-    wrong, count, column, package = [], 0, None, "a"
+def examples(text):
+    """The rows with examples, each with the section that it stands in, the name of its package, and the faults that it has here."""
+    section, column, package = "", None, "a"
     for line in text.splitlines():
+        section = line[3:] if line.startswith("## ") else section
         package = (re.findall(r"`package (\w+)`:$", line) or [package])[-1] if line else package
         cells = [cell.strip() for cell in re.split(r"(?<!\\)\|", line)[1:-1]]
         if "Here" in cells:
@@ -51,11 +58,17 @@ def wrong_examples(text):
         elif not cells:
             column = None
         elif column is not None and not cells[0].startswith("---"):
-            here, example = cells[column], cells[column - 1].strip("`").strip().replace("\\|", "|")
-            count += 1
-            told = kinds_of(package, example)
-            if told != here:
-                wrong.append(f"{example}: {told}, and not {here}")
+            yield section, package, cells[column - 1].strip("`").strip().replace("\\|", "|"), cells[column]
+
+
+def wrong_examples(text):
+    """Rows whose example has other faults, and how many rows there are."""
+    wrong, count = [], 0
+    for _, package, example, here in examples(text):
+        count += 1
+        told = kinds_of(package, example)
+        if told != here:
+            wrong.append(f"{example}: {told}, and not {here}")
     return wrong, count
 
 
@@ -76,14 +89,23 @@ def wrong_names(text):
     return [f"name {name}" for name in sorted(names - words - folders)], len(names)
 
 
+def wrong_crates(text):
+    """Crates that the tables of docs/ARCHITECTURE.md have not, or that are none, and how many there are."""
+    told = {name for cell in re.findall(r"^\| (`gr_[^|]*)\|", text, re.M) for name in re.findall(r"gr_\w+", cell)}
+    there = {path.parent.name for path in TOP.glob("crates/*/src")}
+    return [f"crate {name}" for name in sorted(told ^ there)], len(there)
+
+
 def main():
     wrong = []
     for path in [TOP / "README.md", *sorted(TOP.glob("docs/*.md")), TOP / "checks/README.md", *TOP.glob("bench/README.md")]:
         text = path.read_text()
         checks = {"sessions": wrong_sessions(text), "links": wrong_links(path, text)}
+        if path.name == "ARCHITECTURE.md":
+            checks["crates"] = wrong_crates(text)
         if path.name == "GO.md":
             checks["examples"] = wrong_examples(text)
-        if path.name == "PROOFS.md" or path == TOP / "README.md":
+        if path == TOP / "README.md" or path.stem in NAMING:
             checks["names"] = wrong_names(text)
         told = ", ".join(f"{count} {what}" for what, (_, count) in checks.items() if count)
         print(f"{path.relative_to(TOP)}: {told or 'nothing to check'}")

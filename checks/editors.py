@@ -1,6 +1,7 @@
 """Editors and build services at a built `gorefd serve`: sessions that end well, alone and at once, workers, and the end."""
 
 import re
+import resource
 import socket
 import subprocess
 import threading
@@ -358,6 +359,24 @@ def many_at_once():
         settles(server)
 
 
+def with_a_small_stack():
+    """A server that was started with a stack of 1 MiB answers for a file at the limit of nesting: its threads have stacks of their own."""
+    text = b"package a\n\nfunc f() {\n" + b"for {" * 199 + b"}" * 199 + b"\n}\n"
+    limits = [(resource.RLIMIT_STACK, 1024 * 1024)]
+    with Server(1, 1, 1, limits=limits) as server:
+        client = server.connect()
+        same(client.ask(put(0, "a/a.go", text)), (b"ok 1", b""))
+        same(client.ask(b"faults\n"), (b"ok 1", b""))
+        same(client.ask(b"wait\n"), (b"ok 1", b""))
+        same(client.ask(b"uses a/a.go:#16\n"), (b"ok 1", b"a/a.go:#16\n"))
+        same(client.ask(b"rename 1 a/a.go:#16 g\n"), (b"ok 2", b""))
+        same(client.ask(b"wait\n"), (b"ok 2", b""))
+        head, told = client.ask(b"object a\n")
+        same((head, told.startswith(b"object a a\nfunc a#g () () ")), (b"ok 2", True))
+        client.end()
+        settles(server)
+
+
 CHECKS = (
     in_one_write,
     reply_by_reply,
@@ -375,4 +394,5 @@ CHECKS = (
     one_worker_alone,
     builds_meanwhile,
     many_at_once,
+    with_a_small_stack,
 )

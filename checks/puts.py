@@ -3,8 +3,8 @@
     python3 checks/puts.py FOLDER [LINE..] > session.in
 
 A file's path is the one below FOLDER, so each file has to lie in a folder below it, which is its package. On standard error
-it says which Go files are left out and why, how many files are no Go files, and the number of the state behind the puts,
-which is the basis of a change, an undo or a redo among the lines.
+it says which Go files are left out and why (for each reason the first ten), how many files are no Go files, and the number of
+the state behind the puts, which is the basis of a change, an undo or a redo among the lines.
 """
 
 import os
@@ -65,9 +65,18 @@ def read_text(file):
         return None
 
 
+def tell_left_out(refused):
+    """Says which files are left out, by the reasons: of each the first ten."""
+    for why, paths in refused.items():
+        for path in paths[:10]:
+            print(f"left out: {path}: {why}", file=sys.stderr)
+        if len(paths) > 10:
+            print(f"left out: {len(paths) - 10} more: {why}", file=sys.stderr)
+
+
 def taken_from(folder):
     files, others = go_files(folder)
-    taken, refused = Taken(), 0
+    taken, refused = Taken(), {}
     for file in files:
         path = file.relative_to(folder).as_posix()
         text = read_text(file)
@@ -75,10 +84,10 @@ def taken_from(folder):
         if why is None:
             taken.take(path, text)
         else:
-            refused += 1
-            print(f"left out: {os.fsencode(path).decode(errors='replace')}: {why}", file=sys.stderr)
-    number = len(taken.texts)
-    print(f"{number} files put, {refused} Go files and {others} others left out; state {number}", file=sys.stderr)
+            refused.setdefault(why, []).append(os.fsencode(path).decode(errors="replace"))
+    tell_left_out(refused)
+    number, count = len(taken.texts), sum(len(paths) for paths in refused.values())
+    print(f"put: {number}; left out: {count} Go files, {others} other files; state behind the puts: {number}", file=sys.stderr)
     return taken.texts
 
 

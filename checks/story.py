@@ -99,7 +99,7 @@ class Terminal:
 
 def typed_story(session):
     """Plays the table of README.md in two sessions, row by row."""
-    told = section(README, "Two editors on one server")
+    told = section(README, "From an editor")
     script = blocks(told)[0][1]
     with Folder() as folder:
         path = os.path.join(folder, "gorefd.sock")
@@ -196,13 +196,12 @@ def documented_sessions():
 
 
 def documented_ends():
-    """README.md and docs/PROTOCOL.md tell of the same exit statuses, each with the same texts on standard error."""
+    """docs/PROTOCOL.md tells of each exit status, with each text on standard error."""
     faults = {"memory fault", "read fault", "write fault", "turns fault", "socket fault", "unsettled"}
-    for table in (section(README, "Build, test, run").split("| Exit status |")[1], section(PROTOCOL, "How the program ends")):
-        told = {}
-        for cells in (line.split("|")[1:] for line in table.splitlines() if re.match(r"\| [012] \|", line)):
-            told.setdefault(cells[0].strip(), set()).update(text.removeprefix("gorefd: ") for text in spans(cells[1]))
-        same(told, {"0": set(), "1": faults, "2": set()})
+    told = {}
+    for status, texts, *_ in rows(section(PROTOCOL, "How the program ends")):
+        told.setdefault(status, set()).update(text.removeprefix("gorefd: ") for text in spans(texts))
+    same(told, {"0": set(), "1": faults, "2": set()})
 
 
 CHECKS = (documented_sessions, documented_ends, story_over_sockets, story_by_nc, by_hand, documented_client, documented_retries)

@@ -4,16 +4,22 @@ use Rattle.std.specs.List.{AllByRecursion, flat_map}
 use Rattle.std.specs.Option.{unwrap_or}
 use Rattle.std.proofs.lemmas.Bool.{true≢false}
 use Rattle.gr_tree.specs.declared.syntax.Kind.TheVariants as kind
-use Rattle.gr_tree.specs.Flatten.{sign, sign_if, tokens_if, all_tokens, item_tokens, list_tokens, group_tokens, ident_tokens, type_tokens, expr_tokens, exprs_tokens, simple_tokens, value_tokens, local_tokens, init_tokens, for_tokens, statement_tokens, block_tokens, statements_tokens, if_tokens, else_tokens, receiver_tokens, param_tokens, result_tokens, func_tokens, imports_tokens, decl_tokens, flatten}
-use Rattle.gr_tree.specs.Tree.{Item, Group, single, several, IdentTree, Named, Underscore, ExprTree, SimpleTree, LocalTree, InitTree, ForTree, StatementTree, BlockTree, StatementTrees, IfTree, ElseTree, ReceiverTree, ParamTree, FuncTree, DeclTree, FileTree}
+use Rattle.gr_tree.specs.Flatten.{sign, sign_if, tokens_if, all_tokens, item_tokens, list_tokens, group_tokens, ident_tokens, type_tokens, expr_tokens}
+use Rattle.gr_tree.specs.Flatten.{exprs_tokens, simple_tokens, value_tokens, local_tokens, init_tokens, for_tokens, statement_tokens, block_tokens}
+use Rattle.gr_tree.specs.Flatten.{statements_tokens, if_tokens, else_tokens, receiver_tokens, param_tokens, result_tokens, func_tokens, imports_tokens}
+use Rattle.gr_tree.specs.Flatten.{decl_tokens, flatten}
+use Rattle.gr_tree.specs.Tree.{Item, Group, single, several, IdentTree, Named, Underscore, ExprTree, SimpleTree, LocalTree, InitTree, ForTree}
+use Rattle.gr_tree.specs.Tree.{StatementTree, BlockTree, StatementTrees, IfTree, ElseTree, ReceiverTree, ParamTree, FuncTree, DeclTree, FileTree}
 use Rattle.gr_tree.specs.Tree as tree
 use Rattle.gr_scope.specs.declared.model.Block.TheVariants.{Inner}
 use Rattle.gr_scope.specs.declared.model.Role.TheVariants.{Use, Declaring}
 use Rattle.gr_scope.specs.Bindings.{block_of, start_of, may_declare}
 use Rattle.gr_scope.specs.Site.{Site, Source, site}
 use Rattle.gr_scope.specs.ExpressionSites.{sites_if, list_sites, type_sites, expr_sites, exprs_sites}
-use Rattle.gr_scope.specs.StatementSites.{ident_sites, left_sites, assigned_sites, simple_sites, value_sites, local_sites, separated_sites, group_sites, init_sites, for_sites, open_of, close_of, statement_sites, block_sites, statements_sites, if_sites, else_sites}
-use Rattle.gr_scope.specs.FileSites.{receiver_sites, param_sites, result_sites, func_block, func_role, func_sites, global_sites, type_spec_sites, imports_sites, decl_sites, file_sites}
+use Rattle.gr_scope.specs.StatementSites.{ident_sites, left_sites, assigned_sites, simple_sites, value_sites, local_sites, separated_sites, group_sites}
+use Rattle.gr_scope.specs.StatementSites.{init_sites, for_sites, open_of, close_of, statement_sites, block_sites, statements_sites, if_sites, else_sites}
+use Rattle.gr_scope.specs.FileSites.{receiver_sites, param_sites, result_sites, func_block, func_role, func_sites, global_sites, type_spec_sites}
+use Rattle.gr_scope.specs.FileSites.{imports_sites, decl_sites, file_sites}
 use Rattle.gr_scope.proofs.PlainSites.{plain_append, plain_list, plain_if, plain_type, plain_expr, plain_exprs, plain_assigned}
 use Rattle.gr_scope.proofs.Regions.{Each, inner_file}
 use Rattle.gr_order.proofs.Elements.{all_append}
@@ -187,7 +193,8 @@ module _ (B : ℕ → Type 0) (s : Source) where
   mutual
     unfolding statement_sites statement_tokens
 
-    statement_begins : (a c q n m : ℕ) (x : StatementTree) → Strung B n (statement_tokens x) m → m ≤ q → AllByRecursion P (statement_sites s (Inner s.rank a c) q x)
+    statement_begins : (a c q n m : ℕ) (x : StatementTree) → Strung B n (statement_tokens x) m → m ≤ q →
+        AllByRecursion P (statement_sites s (Inner s.rank a c) q x)
     statement_begins a c q n m tree.Empty t le = tt
     statement_begins a c q n m (tree.Var p g) t le = group_begins a c q (suc n) m g t.1.1 le
     statement_begins a c q n m (tree.Simple x) t le = simple_begins a c q n m x t le

@@ -4,15 +4,18 @@ use Rattle.std.specs.List.{All}
 use Rattle.std.specs.Option.{unwrap_or}
 use Rattle.std.proofs.lemmas.List.Elements.{All-head, All-tail}
 use Rattle.gr_tree.specs.declared.syntax.Kind.TheVariants as kind
-use Rattle.gr_tree.specs.Flatten.{sign, sign_if, tokens_if, all_tokens, item_tokens, list_tokens, group_tokens, expr_tokens, exprs_tokens, simple_tokens, local_tokens, init_tokens, for_tokens, statement_tokens, block_tokens, statements_tokens, if_tokens, else_tokens}
-use Rattle.gr_tree.specs.Tree.{Item, Group, single, several, ExprTree, SimpleTree, LocalTree, InitTree, ForTree, StatementTree, BlockTree, StatementTrees, IfTree, ElseTree}
+use Rattle.gr_tree.specs.Flatten.{sign, sign_if, tokens_if, all_tokens, item_tokens, list_tokens, group_tokens, expr_tokens, exprs_tokens, simple_tokens}
+use Rattle.gr_tree.specs.Flatten.{local_tokens, init_tokens, for_tokens, statement_tokens, block_tokens, statements_tokens, if_tokens, else_tokens}
+use Rattle.gr_tree.specs.Tree.{Item, Group, single, several, ExprTree, SimpleTree, LocalTree, InitTree, ForTree, StatementTree, BlockTree, StatementTrees}
+use Rattle.gr_tree.specs.Tree.{IfTree, ElseTree}
 use Rattle.gr_tree.specs.Tree as tree
 use Rattle.gr_tree.specs.WellFormed.{IsGroup, IsLocal, IsStatement, IsBlock, AreStatements, IsIf, IsElse}
 use Rattle.gr_scope.specs.declared.model.Block.{Block}
 use Rattle.gr_scope.specs.declared.model.Block.TheVariants as blocks
 use Rattle.gr_scope.specs.Site.{Site, Source}
 use Rattle.gr_scope.specs.ExpressionSites.{sites_if, expr_sites, exprs_sites}
-use Rattle.gr_scope.specs.StatementSites.{simple_sites, local_sites, separated_sites, group_sites, init_sites, for_sites, open_of, statement_sites, block_sites, statements_sites, if_sites, else_sites}
+use Rattle.gr_scope.specs.StatementSites.{simple_sites, local_sites, separated_sites, group_sites, init_sites, for_sites, open_of, statement_sites}
+use Rattle.gr_scope.specs.StatementSites.{block_sites, statements_sites, if_sites, else_sites}
 use Rattle.gr_scope.proofs.PlainSites.{plain_expr, plain_exprs}
 use Rattle.gr_expr.specs.Types.{PlainType}
 use Rattle.gr_expr.specs.World.{World, Locals}
@@ -22,7 +25,9 @@ use Rattle.gr_stmt.specs.Simple.{check_optional, check_condition, check_optional
 use Rattle.gr_stmt.specs.Statements.{check_return, check_init, check_header, check_statement, check_block, check_statements, check_if, check_else}
 use Rattle.gr_statement_rules.specs.Turns.{InTurn, no_item, then_item, InGroup, alone, together, IfPresent, absent, present}
 use Rattle.gr_statement_rules.specs.Simple.{ConditionIsTyped, SimpleIsTyped, LocalIsTyped}
-use Rattle.gr_statement_rules.specs.Statements.{InitIsTyped, an_init, HeaderIsTyped, endless, a_while, with_clauses, StatementIsTyped, nothing, a_declaration, a_simple, an_inner_block, a_choice, a_loop, a_break, a_continue, BlockIsTyped, a_block, StatementsAreTyped, no_more, one_more, IfIsTyped, an_if, ElseIsTyped, without_else, an_else_if, an_else}
+use Rattle.gr_statement_rules.specs.Statements.{InitIsTyped, an_init, HeaderIsTyped, endless, a_while, with_clauses, StatementIsTyped, nothing}
+use Rattle.gr_statement_rules.specs.Statements.{a_declaration, a_simple, an_inner_block, a_choice, a_loop, a_break, a_continue, BlockIsTyped, a_block}
+use Rattle.gr_statement_rules.specs.Statements.{StatementsAreTyped, no_more, one_more, IfIsTyped, an_if, ElseIsTyped, without_else, an_else_if, an_else}
 use Rattle.gr_statement_rules.specs.Excused.{StatementIsExcused, in_return}
 use Rattle.gr_statement_rules.proofs.Simple.{condition_settled, simple_settled}
 use Rattle.gr_statement_rules.proofs.Locals.{local_settled}

@@ -9,7 +9,8 @@ use Rattle.gr_text.specs.Workspace.{Workspace}
 use Rattle.gr_tree.specs.SourceFile.{SourceFile, spelling_of}
 use Rattle.gr_expr.specs.declared.symbol.Symbol.{Symbol}
 use Rattle.gr_expr.specs.Types.{Signature, same_path}
-use Rattle.gr_expr.specs.World.{World, Bound, Local, Means, BrokenVariable, BrokenFunction, BrokenType, ABrokenMethod, Field, Method, Definition, is_seen, seen_method, method_of, a_method, first_member, field_of, struct_behind, owner, member_by}
+use Rattle.gr_expr.specs.World.{World, Bound, Local, Means, BrokenVariable, BrokenFunction, BrokenType, ABrokenMethod, Field, Method, Definition, is_seen}
+use Rattle.gr_expr.specs.World.{seen_method, method_of, a_method, first_member, field_of, struct_behind, owner, member_by}
 use Rattle.gr_declared.specs.Bound.{PredeclaredMeans, a_type, a_truth, an_untruth, a_nil, a_function, IsMeantBy, HasSignature}
 use Rattle.gr_declared.specs.Bound as bound
 use Rattle.gr_declared.specs.Definitions.{IsSignature, IsMethod, IsDefinition, AreDefinitions}

@@ -1,5 +1,6 @@
 -- What is known of the locals before a part of a file, by the identifiers that stand before it.
-use Rattle.std.proofs.Common.{ℕ, suc, ◌≡◌, ◌<◌, ◌≤◌, inl, inr, ◌==◌, Bool, true, false, if◌then◌else◌, List, [], ◌∷◌, ◌++◌, Option, Some, ap, sym, refl, ◌∙◌, arith, eq-eqb}
+use Rattle.std.proofs.Common.{ℕ, suc, ◌≡◌, ◌<◌, ◌≤◌, inl, inr, ◌==◌, Bool, true, false, if◌then◌else◌, List, [], ◌∷◌, ◌++◌, Option, Some, ap, sym, refl}
+use Rattle.std.proofs.Common.{◌∙◌, arith, eq-eqb}
 use Rattle.std.specs.List.{AllByRecursion}
 use Rattle.std.proofs.lemmas.Bool.{true≢false}
 use Rattle.gr_scope.specs.declared.model.Block.TheVariants.{Universe, Package, File, Inner}

@@ -26,7 +26,9 @@ use Rattle.gr_rules.proofs.Laws.{one_meaning}
 use Rattle.gr_rules.proofs.Soundness.{sound}
 use Rattle.gr_rules.proofs.Steps.{empty_first, empty_second, value_at_agrees}
 use Rattle.gr_stmt.specs.Sides.{no_name, defined_one, defined}
-use Rattle.gr_statement_rules.specs.Excused.{IsNoVariable, without_type, constant, AnyUsesBroken, this_one, a_later_one, IsBlank, underscored, IsNewName, bound_to_itself, AssignedIsExcused, assigned_uses, assigned_without_type, later_assigned, DefinedIsExcused, defined_uses, defined_no_variable, later_defined}
+use Rattle.gr_statement_rules.specs.Excused.{IsNoVariable, without_type, constant, AnyUsesBroken, this_one, a_later_one, IsBlank, underscored, IsNewName}
+use Rattle.gr_statement_rules.specs.Excused.{bound_to_itself, AssignedIsExcused, assigned_uses, assigned_without_type, later_assigned, DefinedIsExcused}
+use Rattle.gr_statement_rules.specs.Excused.{defined_uses, defined_no_variable, later_defined}
 use Rattle.gr_all_bound.proofs.Lists.{all_left, all_right}
 use Rattle.gr_order.proofs.Elements.{all_append}
 use Rattle.gr_all_bound.proofs.Strung.{Strung, strung_split, strung_le, stand_below}

@@ -3,7 +3,8 @@ use Rattle.std.proofs.Common.{ℕ, suc, ◌≡◌, ◌⊎◌, Bool, true, false,
 use Rattle.std.specs.List.{AllByRecursion}
 use Rattle.std.proofs.lemmas.Bool.{true≢false}
 use Rattle.gr_tree.specs.declared.syntax.Kind.TheVariants as kind
-use Rattle.gr_tree.specs.Flatten.{sign, sign_if, type_tokens, key_tokens, expr_tokens, operand_tokens, link_tokens, argument_tokens, literal_tokens, element_tokens}
+use Rattle.gr_tree.specs.Flatten.{sign, sign_if, type_tokens, key_tokens, expr_tokens, operand_tokens, link_tokens, argument_tokens, literal_tokens}
+use Rattle.gr_tree.specs.Flatten.{element_tokens}
 use Rattle.gr_tree.specs.Tree.{TypeTree, ExprTree, LinkTrees, OperandTrees, ArgumentTrees, LiteralTree, ElementTrees}
 use Rattle.gr_scope.specs.declared.model.Role.{Role}
 use Rattle.gr_scope.specs.declared.model.Role.TheVariants.{Use, LeftName, NotLexical}
@@ -19,7 +20,8 @@ use Rattle.gr_rules.specs.Links.{Selects, Indexes, Calls, Gives}
 use Rattle.gr_rules.specs.Links as links
 use Rattle.gr_rules.specs.Meanings.{HasMeaning, LeadsTo, CombinesTo, AreValues}
 use Rattle.gr_rules.specs.Meanings as means
-use Rattle.gr_rules.specs.Uses.{IsBrokenType, SelectsBroken, UsesBroken, LinksUseBroken, OperandsUseBroken, ArgumentsUseBroken, LiteralUsesBroken, ElementsUseBroken}
+use Rattle.gr_rules.specs.Uses.{IsBrokenType, SelectsBroken, UsesBroken, LinksUseBroken, OperandsUseBroken, ArgumentsUseBroken, LiteralUsesBroken}
+use Rattle.gr_rules.specs.Uses.{ElementsUseBroken}
 use Rattle.gr_rules.specs.Uses as uses
 use Rattle.gr_all_bound.specs.Unbroken.{IsUnbroken}
 use Rattle.gr_all_bound.proofs.Lists.{all_left, all_right}

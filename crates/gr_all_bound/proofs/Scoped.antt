@@ -244,7 +244,8 @@ module _ (w : Workspace) (known : Verdicts) (path : List ℕ) (p : Package) (h :
         let plain : StandsAt (layout_in (scoped h.files)) at d = plainly_stands (names_of w known path p h) (scoped h.files) at d there in
         let inner : block_of (found_site (slice_get sites d)).role ≡ Inner f a c = subst (λ r. block_of r ≡ Inner f a c) plain_role block in
         let t = part_at h.files at.file s (subst (λ xs. slice_get xs at.file ≡ Some s) (same_files w known path p h) is) in
-        let parts = subst (λ (z : SourceFile). AllByRecursion (λ x. P x.place.index x.role) (file_sites (record { rank = at.file; spell = spelling_of z }) z.tree))
+        let parts = subst (λ (z : SourceFile). AllByRecursion (λ x. P x.place.index x.role)
+        (file_sites (record { rank = at.file; spell = spelling_of z }) z.tree))
         (sym t.1.1) all in
         let got : slice_get fs at.file ≡ Some (spelled_file t.0) =
         slice_get-map spelled_file h.files at.file ∙ ap (option_map spelled_file) t.1.0 in
@@ -389,7 +390,8 @@ module _ (w : Workspace) (known : Verdicts) (path : List ℕ) (p : Package) (h :
 
     by_role : (xs : List Site) → ((d f a c : ℕ) → block_of (p.layout.role d) ≡ Inner f a c → (p.layout.place d).file ≡ file →
         HasSite xs (p.layout.place d).index (p.layout.role d)) →
-        (i : ℕ) (r : Role) → (is_unnamed_import r ≡ false → Stands p file i r) → (A : List Site) → ((y : Site) → Holds xs y → y.place.index < i → Contains A y) →
+        (i : ℕ) (r : Role) → (is_unnamed_import r ≡ false → Stands p file i r) → (A : List Site) →
+        ((y : Site) → Holds xs y → y.place.index < i → Contains A y) →
         IsResolved v B A i r
     by_role xs sites i Use k A before =
         let u = k refl in
@@ -417,6 +419,7 @@ module _ (w : Workspace) (known : Verdicts) (path : List ℕ) (p : Package) (h :
         (all_as (Kept p file) (Resolvable v B xs)
         (λ x g A before. by_role xs
         (λ d f a c block at. at_inner d f a c block (HasSite xs) j.source (subst (λ k. slice_get p.files k ≡ Some j.source) (sym at) j.in_file)
-        (subst (λ k. AllByRecursion (λ x. HasSite xs x.place.index x.role) (file_sites (record { rank = k; spell = spelling_of j.source }) j.source.tree)) (sym at)
+        (subst (λ k. AllByRecursion (λ x. HasSite xs x.place.index x.role) (file_sites (record { rank = k; spell = spelling_of j.source }) j.source.tree))
+        (sym at)
         own_sites)) x.place.index x.role g A before) xs
         (all_kept w known path p h file j.source j.in_file))

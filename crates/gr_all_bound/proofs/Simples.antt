@@ -4,7 +4,8 @@ use Rattle.std.specs.List.{AllByRecursion}
 use Rattle.std.proofs.lemmas.Bool.{true≢false}
 use Rattle.std.proofs.lemmas.Option.{none-some, same_Some}
 use Rattle.gr_tree.specs.declared.syntax.Kind.TheVariants as kind
-use Rattle.gr_tree.specs.Flatten.{sign, sign_if, step_kind, update_kind, tokens_if, all_tokens, item_tokens, list_tokens, ident_tokens, type_tokens, expr_tokens, exprs_tokens, simple_tokens, value_tokens, local_tokens}
+use Rattle.gr_tree.specs.Flatten.{sign, sign_if, step_kind, update_kind, tokens_if, all_tokens, item_tokens, list_tokens, ident_tokens, type_tokens}
+use Rattle.gr_tree.specs.Flatten.{expr_tokens, exprs_tokens, simple_tokens, value_tokens, local_tokens}
 use Rattle.gr_tree.specs.Tree.{Item, IdentTree, Named, Underscore, TypeTree, ExprTree, SimpleTree, LocalTree}
 use Rattle.gr_tree.specs.Tree as tree
 use Rattle.gr_tree.specs.WellFormed.{IsLocal}
@@ -23,8 +24,10 @@ use Rattle.gr_stmt.specs.Checked.{Checked}
 use Rattle.gr_stmt.specs.Sides.{rights, given_to, defined, named, all_named as names_of, first_of_exprs}
 use Rattle.gr_stmt.specs.Simple.{check_define, check_simple, check_local}
 use Rattle.gr_statement_rules.specs.Giving.{Taker, Declare, no_name, no_local, new_local, DeclareAs, no_name_left, not_named, named as a_named}
-use Rattle.gr_statement_rules.specs.Simple.{AreDefined, no_definition, an_underscore, a_new_name, an_old_name, SimpleIsTyped, a_call, a_step, an_update, an_assignment, a_definition, LocalIsTyped, of_type, of_type_with_values, of_values}
-use Rattle.gr_statement_rules.specs.Excused.{AnyUsesBroken, SimpleIsExcused, in_call, in_step, in_updated, in_update, updated_without_type, in_assigned, in_assignment, in_defined, in_definition, LocalIsExcused, of_broken_type, of_broken_value, of_nothing}
+use Rattle.gr_statement_rules.specs.Simple.{AreDefined, no_definition, an_underscore, a_new_name, an_old_name, SimpleIsTyped, a_call, a_step, an_update}
+use Rattle.gr_statement_rules.specs.Simple.{an_assignment, a_definition, LocalIsTyped, of_type, of_type_with_values, of_values}
+use Rattle.gr_statement_rules.specs.Excused.{AnyUsesBroken, SimpleIsExcused, in_call, in_step, in_updated, in_update, updated_without_type, in_assigned}
+use Rattle.gr_statement_rules.specs.Excused.{in_assignment, in_defined, in_definition, LocalIsExcused, of_broken_type, of_broken_value, of_nothing}
 use Rattle.gr_statement_rules.proofs.Simple.{simple_settled}
 use Rattle.gr_statement_rules.proofs.Locals.{local_settled}
 use Rattle.gr_meanings.proofs.DeclKinds.{Holds}
@@ -35,7 +38,8 @@ use Rattle.gr_all_bound.proofs.Strung.{Strung, strung_split, strung_le, stand_be
 use Rattle.gr_all_bound.specs.Unbroken.{IsUnbroken}
 use Rattle.gr_all_bound.proofs.Named.{IsNamed, AreNamed, no_broken_type, no_use, assignable_typed}
 use Rattle.gr_all_bound.specs.Scopes.{IsOwn, AreResolved}
-use Rattle.gr_all_bound.proofs.Known.{past, IsKnown, Known, BeginsLater, AllKnown, all_named, Kept, known_past, plain_known, plain_later, declared_kept, declared_known}
+use Rattle.gr_all_bound.proofs.Known.{past, IsKnown, Known, BeginsLater, AllKnown, all_named, Kept, known_past, plain_known, plain_later, declared_kept}
+use Rattle.gr_all_bound.proofs.Known.{declared_known}
 use Rattle.gr_all_bound.proofs.Leaves.{below_more, left_stands, assigned_stands, list_stands, all_lefts_later, each_fine, assigned_fine, defined_fine}
 
 abbrev Before : ℕ → List Site → Type 0

@@ -2,13 +2,15 @@
 use Rattle.std.proofs.Common.{ℕ, ◌≡◌, inl, inr, Bool, List, [], ◌∷◌, ◌++◌, map, Option, Some, None, sym, subst, refl, ◌∙◌}
 use Rattle.std.specs.List.{AllByRecursion, flat_map}
 use Rattle.std.proofs.lemmas.Option.{none-some, same_Some}
-use Rattle.gr_tree.specs.Tree.{Item, Group, single, several, TypeTree, ReceiverTree, ParamTree, ResultTree, FuncTree, GlobalTree, FieldTree, BodyTree, TypeSpecTree, DeclTree, FileTree}
+use Rattle.gr_tree.specs.Tree.{Item, Group, single, several, TypeTree, ReceiverTree, ParamTree, ResultTree, FuncTree, GlobalTree, FieldTree, BodyTree}
+use Rattle.gr_tree.specs.Tree.{TypeSpecTree, DeclTree, FileTree}
 use Rattle.gr_tree.specs.Tree as tree
 use Rattle.gr_imports.specs.Files.{group_items}
 use Rattle.gr_expr.specs.World.{World, no_locals}
 use Rattle.gr_expr.specs.Judge.{judge_type}
 use Rattle.gr_stmt.specs.Checked.{Checked, fault_if, check_items, check_group}
-use Rattle.gr_stmt.specs.Headers.{judge_receiver, check_receiver, check_optional_receiver, check_param, judge_types, judge_results, is_bad_init, check_signature, check_function}
+use Rattle.gr_stmt.specs.Headers.{judge_receiver, check_receiver, check_optional_receiver, check_param, judge_types, judge_results, is_bad_init}
+use Rattle.gr_stmt.specs.Headers.{check_signature, check_function}
 use Rattle.gr_stmt.specs.Declarations.{global_faults, value_faults, field_faults, body_faults, check_global, check_type, check_decl, check_decls, check_file}
 use Rattle.gr_rules.proofs.Steps.{empty_first, empty_second}
 use Rattle.gr_statement_rules.proofs.Statements.{block_first}

@@ -4,9 +4,12 @@ use Rattle.std.specs.List.{AllByRecursion, flat_map}
 use Rattle.gr_tree.specs.declared.syntax.Kind.{Kind}
 use Rattle.gr_tree.specs.declared.syntax.Kind.TheVariants as kind
 use Rattle.gr_tree.specs.declared.syntax.Token.{Token}
-use Rattle.gr_tree.specs.Flatten.{sign, sign_if, tokens_if, all_tokens, item_tokens, list_tokens, group_tokens, name_tokens, basic_tokens, value_tokens, ident_tokens, type_tokens, global_tokens, field_tokens, body_tokens, type_spec_tokens, receiver_tokens, param_tokens, result_tokens, block_tokens, func_tokens, imports_tokens, decl_tokens, flatten}
+use Rattle.gr_tree.specs.Flatten.{sign, sign_if, tokens_if, all_tokens, item_tokens, list_tokens, group_tokens, name_tokens, basic_tokens, value_tokens}
+use Rattle.gr_tree.specs.Flatten.{ident_tokens, type_tokens, global_tokens, field_tokens, body_tokens, type_spec_tokens, receiver_tokens, param_tokens}
+use Rattle.gr_tree.specs.Flatten.{result_tokens, block_tokens, func_tokens, imports_tokens, decl_tokens, flatten}
 use Rattle.gr_tree.specs.SourceFile.{SourceFile, IsSourceFile}
-use Rattle.gr_tree.specs.Tree.{Item, Group, single, several, TypeTree, ParamTree, ResultTree, FuncTree, GlobalTree, FieldTree, BodyTree, TypeSpecTree, DeclTree, FileTree}
+use Rattle.gr_tree.specs.Tree.{Item, Group, single, several, TypeTree, ParamTree, ResultTree, FuncTree, GlobalTree, FieldTree, BodyTree, TypeSpecTree}
+use Rattle.gr_tree.specs.Tree.{DeclTree, FileTree}
 use Rattle.gr_tree.specs.Tree as tree
 use Rattle.gr_scan.specs.CutText.{tokens_in}
 use Rattle.gr_imports.specs.Files.{group_items}

@@ -4,8 +4,10 @@ use Rattle.std.specs.Prelude.{codes, bytes_eq}
 use Rattle.std.specs.List.{All, AllByRecursion, flat_map}
 use Rattle.std.proofs.lemmas.List.Elements.{All-head, All-tail}
 use Rattle.gr_tree.specs.declared.syntax.Kind.TheVariants as kind
-use Rattle.gr_tree.specs.Flatten.{sign, tokens_if, all_tokens, list_tokens, receiver_tokens, param_tokens, result_tokens, block_tokens, func_tokens, imports_tokens, decl_tokens, flatten}
-use Rattle.gr_tree.specs.Tree.{Item, Group, single, several, IdentTree, Named, Underscore, TypeTree, ReceiverTree, ParamTree, ResultTree, FuncTree, GlobalTree, FieldTree, BodyTree, TypeSpecTree, ImportTree, ImportsTree, DeclTree, FileTree}
+use Rattle.gr_tree.specs.Flatten.{sign, tokens_if, all_tokens, list_tokens, receiver_tokens, param_tokens, result_tokens, block_tokens, func_tokens}
+use Rattle.gr_tree.specs.Flatten.{imports_tokens, decl_tokens, flatten}
+use Rattle.gr_tree.specs.Tree.{Item, Group, single, several, IdentTree, Named, Underscore, TypeTree, ReceiverTree, ParamTree, ResultTree, FuncTree}
+use Rattle.gr_tree.specs.Tree.{GlobalTree, FieldTree, BodyTree, TypeSpecTree, ImportTree, ImportsTree, DeclTree, FileTree}
 use Rattle.gr_tree.specs.Tree as tree
 use Rattle.gr_tree.specs.WellFormed.{IsDecl, IsFunc, IsFile}
 use Rattle.gr_scope.specs.declared.model.Block.{Block}
@@ -15,7 +17,9 @@ use Rattle.gr_scope.specs.declared.model.Purpose.TheVariants as purpose
 use Rattle.gr_scope.specs.Site.{Site, Source, site}
 use Rattle.gr_scope.specs.ExpressionSites.{sites_if, list_sites, type_sites}
 use Rattle.gr_scope.specs.StatementSites.{ident_sites, group_sites, separated_sites, open_of, block_sites}
-use Rattle.gr_scope.specs.FileSites.{global_name, member_name, spec_sites, global_sites, field_sites, body_sites, type_spec_sites, receiver_sites, param_sites, result_sites, func_block, func_role, func_sites, import_name, import_purpose, import_sites, imports_sites, decl_sites, file_sites}
+use Rattle.gr_scope.specs.FileSites.{global_name, member_name, spec_sites, global_sites, field_sites, body_sites, type_spec_sites, receiver_sites}
+use Rattle.gr_scope.specs.FileSites.{param_sites, result_sites, func_block, func_role, func_sites, import_name, import_purpose, import_sites, imports_sites}
+use Rattle.gr_scope.specs.FileSites.{decl_sites, file_sites}
 use Rattle.gr_expr.specs.Types.{PlainType}
 use Rattle.gr_expr.specs.World.{World, Locals, no_locals}
 use Rattle.gr_stmt.specs.Checked.{Checked, check_items, check_group}
@@ -23,10 +27,16 @@ use Rattle.gr_stmt.specs.Sides.{Wants}
 use Rattle.gr_stmt.specs.Headers.{check_optional_receiver, check_param, judge_types, judge_results, check_signature, check_function}
 use Rattle.gr_stmt.specs.Declarations.{check_global, check_type, check_decl, check_decls, check_file}
 use Rattle.gr_rules.proofs.Naming.{type_true}
-use Rattle.gr_statement_rules.specs.Turns.{Rule, Excuse, InTurn, no_item, then_item, IfPresent, absent, present, ExcusedInTurn, this_item, later_item, ExcusedInGroup, excused_alone, excused_together, ExcusedIfPresent, excused_present}
+use Rattle.gr_statement_rules.specs.Turns.{Rule, Excuse, InTurn, no_item, then_item, IfPresent, absent, present, ExcusedInTurn, this_item, later_item}
+use Rattle.gr_statement_rules.specs.Turns.{ExcusedInGroup, excused_alone, excused_together, ExcusedIfPresent, excused_present}
 use Rattle.gr_statement_rules.specs.Statements.{BlockIsTyped}
-use Rattle.gr_statement_rules.specs.Declarations.{ReceiverIsTyped, a_receiver, ParamIsTyped, a_param, AreTypes, no_type_left, also_type, AreResults, none_written, one_written, several_written, FunctionIsTyped, a_function, GlobalIsTyped, TypeIsTyped, DeclIsTyped, one_function, DeclsAreTyped, no_decl, also_decl, FileIsTyped, a_file}
-use Rattle.gr_statement_rules.specs.Excused.{ReceiverIsExcused, of_broken, ParamIsExcused, param_of_broken, AnyIsBrokenType, this_type, later_type, ResultIsExcused, one_broken, one_of_several, FunctionIsExcused, in_receiver, in_params, in_result, in_body, GlobalIsExcused, global_of_broken, FieldIsBroken, this_field, later_field, BodyIsBroken, other_broken, in_struct, TypeIsExcused, in_type_body, DeclIsExcused, in_variables, in_types}
+use Rattle.gr_statement_rules.specs.Declarations.{ReceiverIsTyped, a_receiver, ParamIsTyped, a_param, AreTypes, no_type_left, also_type, AreResults}
+use Rattle.gr_statement_rules.specs.Declarations.{none_written, one_written, several_written, FunctionIsTyped, a_function, GlobalIsTyped, TypeIsTyped}
+use Rattle.gr_statement_rules.specs.Declarations.{DeclIsTyped, one_function, DeclsAreTyped, no_decl, also_decl, FileIsTyped, a_file}
+use Rattle.gr_statement_rules.specs.Excused.{ReceiverIsExcused, of_broken, ParamIsExcused, param_of_broken, AnyIsBrokenType, this_type, later_type}
+use Rattle.gr_statement_rules.specs.Excused.{ResultIsExcused, one_broken, one_of_several, FunctionIsExcused, in_receiver, in_params, in_result, in_body}
+use Rattle.gr_statement_rules.specs.Excused.{GlobalIsExcused, global_of_broken, FieldIsBroken, this_field, later_field, BodyIsBroken, other_broken}
+use Rattle.gr_statement_rules.specs.Excused.{in_struct, TypeIsExcused, in_type_body, DeclIsExcused, in_variables, in_types}
 use Rattle.gr_statement_rules.proofs.Reaching.{IsAt, items_true}
 use Rattle.gr_statement_rules.proofs.Statements.{AreTargets}
 use Rattle.gr_statement_rules.proofs.Headers.{receiver_true, param_true, function_settled}

@@ -14,7 +14,9 @@ use Rattle.gr_expr.specs.World.{World}
 use Rattle.gr_stmt.specs.Declarations.{check_file}
 use Rattle.gr_declared.specs.Bound.{AreTypesOf, parameter_types, result_types, HasSignature}
 use Rattle.gr_declared.specs.Definitions.{IsMethodOf}
-use Rattle.gr_declared.specs.Package.{Package, PlacedType, PlacedVariable, PlacedFunction, package_types, package_variables, package_functions, variables_of, placed_type, decl_types, decl_variables, decl_functions, types_in, variables_in, functions_in, declared_types, declared_variables, declared_functions, spelled}
+use Rattle.gr_declared.specs.Package.{Package, PlacedType, PlacedVariable, PlacedFunction, package_types, package_variables, package_functions}
+use Rattle.gr_declared.specs.Package.{variables_of, placed_type, decl_types, decl_variables, decl_functions, types_in, variables_in, functions_in}
+use Rattle.gr_declared.specs.Package.{declared_types, declared_variables, declared_functions, spelled}
 use Rattle.gr_declared.specs.Written.{BindsToken, DeclaresType, Names, predeclared, defined, written_types, IsWrittenIn, IsBroken, by_itself, through, IsTypeOf}
 use Rattle.gr_meanings.proofs.DeclKinds.{Holds, holds_got}
 use Rattle.gr_meanings.specs.Worlds.{IsWorldOf, is_init}

@@ -2,7 +2,8 @@
 use Rattle.std.proofs.Common.{ℕ, ◌≡◌, List, [], ◌∷◌, ◌++◌, Bool, true, false, Option, Some, None, if◌then◌else◌, refl}
 use Rattle.std.specs.Prelude.{codes, bytes_eq}
 use Rattle.std.specs.List.{flat_map}
-use Rattle.gr_tree.specs.Tree.{Item, Group, TypeTree, ReceiverTree, ParamTree, ResultTree, FuncTree, GlobalTree, FieldTree, BodyTree, TypeSpecTree, DeclTree, ImportTree, ImportsTree, single, several}
+use Rattle.gr_tree.specs.Tree.{Item, Group, TypeTree, ReceiverTree, ParamTree, ResultTree, FuncTree, GlobalTree, FieldTree, BodyTree, TypeSpecTree}
+use Rattle.gr_tree.specs.Tree.{DeclTree, ImportTree, ImportsTree, single, several}
 use Rattle.gr_tree.specs.Tree as tree
 use Rattle.gr_scope.specs.declared.model.Block.{Block}
 use Rattle.gr_scope.specs.declared.model.Block.TheVariants.{Package}
@@ -11,11 +12,16 @@ use Rattle.gr_scope.specs.declared.model.Purpose.TheVariants as purpose
 use Rattle.gr_scope.specs.Site.{Site, Source, site}
 use Rattle.gr_scope.specs.ExpressionSites.{sites_if, list_sites, type_sites}
 use Rattle.gr_scope.specs.StatementSites.{ident_sites, group_sites, separated_sites, open_of, block_sites}
-use Rattle.gr_scope.specs.FileSites.{global_name, member_name, spec_sites, global_sites, field_sites, body_sites, type_spec_sites, receiver_sites, param_sites, result_sites, func_block, func_role, func_sites, import_name, import_purpose, import_sites, imports_sites, decl_sites}
+use Rattle.gr_scope.specs.FileSites.{global_name, member_name, spec_sites, global_sites, field_sites, body_sites, type_spec_sites, receiver_sites}
+use Rattle.gr_scope.specs.FileSites.{param_sites, result_sites, func_block, func_role, func_sites, import_name, import_purpose, import_sites, imports_sites}
+use Rattle.gr_scope.specs.FileSites.{decl_sites}
 use Rattle.gr_expr.specs.Types.{PlainType}
 use Rattle.gr_expr.specs.World.{World, Locals}
 use Rattle.gr_statement_rules.specs.Turns.{Rule, InTurn, no_item, then_item, InGroup, alone, together}
-use Rattle.gr_statement_rules.specs.Declarations.{ParamIsTyped, a_param, AreTypes, no_type_left, also_type, AreResults, none_written, one_written, several_written, FunctionIsTyped, a_function, GlobalIsTyped, without_values, with_literals, FieldsAreTyped, no_field_left, also_field, BodyIsTyped, another_type, a_struct, TypeIsTyped, a_definition_of, DeclIsTyped, variables, types, one_function}
+use Rattle.gr_statement_rules.specs.Declarations.{ParamIsTyped, a_param, AreTypes, no_type_left, also_type, AreResults, none_written, one_written}
+use Rattle.gr_statement_rules.specs.Declarations.{several_written, FunctionIsTyped, a_function, GlobalIsTyped, without_values, with_literals}
+use Rattle.gr_statement_rules.specs.Declarations.{FieldsAreTyped, no_field_left, also_field, BodyIsTyped, another_type, a_struct, TypeIsTyped}
+use Rattle.gr_statement_rules.specs.Declarations.{a_definition_of, DeclIsTyped, variables, types, one_function}
 use Rattle.gr_balance.specs.StatementsAsked.{FunctionAsks, in_body}
 use Rattle.gr_all_used.specs.Linked.{IsLinked}
 use Rattle.gr_all_used.proofs.Expressions.{AreLinked, linked_append, Tells, type_links}

@@ -15,7 +15,10 @@ use Rattle.gr_rules.specs.Links.{Selects}
 use Rattle.gr_rules.specs.Links as links
 use Rattle.gr_rules.specs.Meanings.{HasMeaning, LeadsTo, CombinesTo, AreValues, IsLiteralOf, AreFields, AreElements}
 use Rattle.gr_rules.specs.Meanings as means
-use Rattle.gr_balance.specs.Asked.{Question, OfMember, Asks, in_composite, in_paren, in_prefix, in_address, in_chain, in_links, in_binary, in_operands, LinksAsk, for_member, behind_selector, in_index, behind_index, in_arguments, behind_call, OperandsAsk, in_operand, in_later_operand, ArgumentsAsk, in_argument, in_later_argument, LiteralAsks, in_elements, ElementsAsk, for_key, in_element, in_later_element}
+use Rattle.gr_balance.specs.Asked.{Question, OfMember, Asks, in_composite, in_paren, in_prefix, in_address, in_chain, in_links, in_binary, in_operands}
+use Rattle.gr_balance.specs.Asked.{LinksAsk, for_member, behind_selector, in_index, behind_index, in_arguments, behind_call, OperandsAsk, in_operand}
+use Rattle.gr_balance.specs.Asked.{in_later_operand, ArgumentsAsk, in_argument, in_later_argument, LiteralAsks, in_elements, ElementsAsk, for_key}
+use Rattle.gr_balance.specs.Asked.{in_element, in_later_element}
 use Rattle.gr_all_used.specs.Linked.{IsLinked}
 
 -- each of some identifiers is linked

@@ -14,9 +14,13 @@ use Rattle.gr_rules.specs.Meanings.{HasMeaning}
 use Rattle.gr_rules.specs.Meanings as means
 use Rattle.gr_statement_rules.specs.Turns.{InTurn, no_item, then_item, InGroup, alone, together}
 use Rattle.gr_statement_rules.specs.Giving.{Taker, AreEach, no_expression, also_value, Give, values, results}
-use Rattle.gr_statement_rules.specs.Simple.{AreAssigned, no_left, a_blank, an_operand, AreDefined, no_definition, an_underscore, a_new_name, an_old_name, SimpleIsTyped, a_call, a_step, an_update, an_assignment, a_definition, LocalIsTyped, of_type, of_type_with_values, of_values}
+use Rattle.gr_statement_rules.specs.Simple.{AreAssigned, no_left, a_blank, an_operand, AreDefined, no_definition, an_underscore, a_new_name, an_old_name}
+use Rattle.gr_statement_rules.specs.Simple.{SimpleIsTyped, a_call, a_step, an_update, an_assignment, a_definition, LocalIsTyped, of_type}
+use Rattle.gr_statement_rules.specs.Simple.{of_type_with_values, of_values}
 use Rattle.gr_balance.specs.Asked.{Asks}
-use Rattle.gr_balance.specs.StatementsAsked.{AskInTurn, this_item, later_item, AskInGroup, asks_alone, asks_together, AnyAsks, this_one, a_later_one, SimpleAsks, in_call, in_step, in_updated, in_update, in_assigned, in_assignment, in_definition, LocalAsks, in_values}
+use Rattle.gr_balance.specs.StatementsAsked.{AskInTurn, this_item, later_item, AskInGroup, asks_alone, asks_together, AnyAsks, this_one, a_later_one}
+use Rattle.gr_balance.specs.StatementsAsked.{SimpleAsks, in_call, in_step, in_updated, in_update, in_assigned, in_assignment, in_definition, LocalAsks}
+use Rattle.gr_balance.specs.StatementsAsked.{in_values}
 use Rattle.gr_all_used.proofs.Expressions.{AreLinked, linked_append, Tells, type_links, expr_links}
 
 -- lists of expressions

@@ -11,9 +11,15 @@ use Rattle.gr_expr.specs.Types.{PlainType}
 use Rattle.gr_expr.specs.World.{World, Locals}
 use Rattle.gr_statement_rules.specs.Turns.{IfPresent, absent, present}
 use Rattle.gr_statement_rules.specs.Simple.{ConditionIsTyped, a_condition, SimpleIsTyped}
-use Rattle.gr_statement_rules.specs.Statements.{InitIsTyped, an_init, HeaderIsTyped, endless, a_while, with_clauses, StatementIsTyped, nothing, a_declaration, a_simple, an_inner_block, a_choice, a_loop, a_break, a_continue, a_return, BlockIsTyped, a_block, StatementsAreTyped, no_more, one_more, IfIsTyped, an_if, ElseIsTyped, without_else, an_else_if, an_else}
+use Rattle.gr_statement_rules.specs.Statements.{InitIsTyped, an_init, HeaderIsTyped, endless, a_while, with_clauses, StatementIsTyped, nothing}
+use Rattle.gr_statement_rules.specs.Statements.{a_declaration, a_simple, an_inner_block, a_choice, a_loop, a_break, a_continue, a_return, BlockIsTyped}
+use Rattle.gr_statement_rules.specs.Statements.{a_block, StatementsAreTyped, no_more, one_more, IfIsTyped, an_if, ElseIsTyped, without_else, an_else_if}
+use Rattle.gr_statement_rules.specs.Statements.{an_else}
 use Rattle.gr_balance.specs.Asked.{Asks}
-use Rattle.gr_balance.specs.StatementsAsked.{AskIfPresent, asks_present, SimpleAsks, InitAsks, in_init, HeaderAsks, in_while, in_first, in_test, in_post, StatementAsks, in_declaration, in_simple, in_inner, in_choice, in_header, in_loop, in_return, BlockAsks, in_block, StatementsAsk, this_statement, later_statement, IfAsks, before_condition, in_condition, in_then, in_otherwise, ElseAsks, in_else_if, in_else}
+use Rattle.gr_balance.specs.StatementsAsked.{AskIfPresent, asks_present, SimpleAsks, InitAsks, in_init, HeaderAsks, in_while, in_first, in_test, in_post}
+use Rattle.gr_balance.specs.StatementsAsked.{StatementAsks, in_declaration, in_simple, in_inner, in_choice, in_header, in_loop, in_return, BlockAsks}
+use Rattle.gr_balance.specs.StatementsAsked.{in_block, StatementsAsk, this_statement, later_statement, IfAsks, before_condition, in_condition, in_then}
+use Rattle.gr_balance.specs.StatementsAsked.{in_otherwise, ElseAsks, in_else_if, in_else}
 use Rattle.gr_all_used.proofs.Expressions.{AreLinked, linked_append, Tells, expr_links}
 use Rattle.gr_all_used.proofs.Simple.{give_links, simple_links, group_links}
 

@@ -11,15 +11,21 @@ use Rattle.gr_expr.specs.World.{World, Locals, AField, underlying}
 use Rattle.gr_expr.specs.Judge.{judge_type}
 use Rattle.gr_rules.specs.Names.{IsType}
 use Rattle.gr_rules.specs.Operators.{Prefixes, plus, negates, denies, follows}
-use Rattle.gr_rules.specs.Meanings.{HasMeaning, number, text, name, composite, paren, prefix, address, chain, binary, LeadsTo, no_link, selector, index, call, CombinesTo, no_operand, operand, AreValues, no_argument, argument, IsLiteralOf, struct_literal, slice_literal, AreFields, no_field, field, AreElements as AreSliceElements, no_element, element}
+use Rattle.gr_rules.specs.Meanings.{HasMeaning, number, text, name, composite, paren, prefix, address, chain, binary, LeadsTo, no_link, selector, index}
+use Rattle.gr_rules.specs.Meanings.{call, CombinesTo, no_operand, operand, AreValues, no_argument, argument, IsLiteralOf, struct_literal, slice_literal}
+use Rattle.gr_rules.specs.Meanings.{AreFields, no_field, field, AreElements as AreSliceElements, no_element, element}
 use Rattle.gr_rules.proofs.Naming.{type_true}
 use Rattle.gr_object.specs.Lines.{FunctionName, Line, line_if_known}
 use Rattle.gr_object.specs.Lines as line
 use Rattle.gr_object.specs.Source.{Source}
 use Rattle.gr_object.specs.Operands.{Operand, Values, plain, prefixed, operated, selected, indexed, called, settled, grouped, value_count}
-use Rattle.gr_object.specs.Expressions.{argument_count, element_count, field_position, keyed_in, key_position, literal_of, typed_literal, operand_of, operations, linked, argument_lines, literal_lines, keyed_lines, bare_lines, value_lines}
+use Rattle.gr_object.specs.Expressions.{argument_count, element_count, field_position, keyed_in, key_position, literal_of, typed_literal, operand_of}
+use Rattle.gr_object.specs.Expressions.{operations, linked, argument_lines, literal_lines, keyed_lines, bare_lines, value_lines}
 use Rattle.gr_balance.specs.Stack.{Arity}
-use Rattle.gr_balance.specs.Asked.{Question, OfInteger, OfText, OfName, OfExport, OfMember, Asks, for_integer, for_text, for_name, in_composite, in_paren, in_prefix, in_address, in_chain, in_links, in_binary, in_operands, LinksAsk, for_member, for_export, behind_selector, in_index, behind_index, in_arguments, behind_call, OperandsAsk, in_operand, in_later_operand, ArgumentsAsk, in_argument, in_later_argument, LiteralAsks, in_elements, ElementsAsk, for_key, in_element, in_later_element}
+use Rattle.gr_balance.specs.Asked.{Question, OfInteger, OfText, OfName, OfExport, OfMember, Asks, for_integer, for_text, for_name, in_composite, in_paren}
+use Rattle.gr_balance.specs.Asked.{in_prefix, in_address, in_chain, in_links, in_binary, in_operands, LinksAsk, for_member, for_export, behind_selector}
+use Rattle.gr_balance.specs.Asked.{in_index, behind_index, in_arguments, behind_call, OperandsAsk, in_operand, in_later_operand, ArgumentsAsk, in_argument}
+use Rattle.gr_balance.specs.Asked.{in_later_argument, LiteralAsks, in_elements, ElementsAsk, for_key, in_element, in_later_element}
 use Rattle.gr_balance.specs.Answered.{IsKnown, IsAnswered, MemberIsKnown}
 use Rattle.gr_balance.proofs.Turning.{Turns, none_turns, turns_as, turns_joined, turns_over, line_turns, turns_then, known_turns}
 use Rattle.gr_balance.proofs.Standing.{IsOneValue, Stands, Settles, plain_value, name_stands, prefixed_value, operated_turns}

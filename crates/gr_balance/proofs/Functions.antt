@@ -6,7 +6,8 @@ use Rattle.gr_expr.specs.Types.{PlainType, Kind, Value, Results}
 use Rattle.gr_expr.specs.World.{World, Locals}
 use Rattle.gr_rules.specs.Meanings.{HasMeaning}
 use Rattle.gr_statement_rules.specs.Statements.{StatementIsTyped}
-use Rattle.gr_statement_rules.specs.Declarations.{AreTypes, no_type_left, also_type, AreResults, none_written, one_written, several_written, FunctionIsTyped, a_function}
+use Rattle.gr_statement_rules.specs.Declarations.{AreTypes, no_type_left, also_type, AreResults, none_written, one_written, several_written}
+use Rattle.gr_statement_rules.specs.Declarations.{FunctionIsTyped, a_function}
 use Rattle.gr_declared.specs.Bound.{result_types}
 use Rattle.gr_object.specs.Lines.{FunctionName, Line, End}
 use Rattle.gr_object.specs.Source.{Source}

@@ -3,15 +3,19 @@ use Rattle.std.proofs.Common.{ℕ, suc, ◌≡◌, ◌+◌, Bool, true, false, L
 use Rattle.gr_expr.specs.declared.types.Builtin.{Builtin}
 use Rattle.gr_expr.specs.declared.types.Builtin.TheVariants as builtin
 use Rattle.gr_expr.specs.declared.symbol.Symbol.{Symbol}
-use Rattle.gr_expr.specs.Types.{PlainType, Pointer, Kind, Typed, Signature, Meaning, Value, TypeName, Function, BuiltinName, Package, Results, Broken, is_pointer, points}
+use Rattle.gr_expr.specs.Types.{PlainType, Pointer, Kind, Typed, Signature, Meaning, Value, TypeName, Function, BuiltinName, Package, Results, Broken}
+use Rattle.gr_expr.specs.Types.{is_pointer, points}
 use Rattle.gr_expr.specs.World.{World, Locals, Means, Member, AField, AMethod, underlying}
 use Rattle.gr_rules.specs.Fits.{FitInTurn, no_values, then_fits}
 use Rattle.gr_rules.specs.Names.{NameMeans, a_local, a_bound}
-use Rattle.gr_rules.specs.Links.{Selects, field, field_through_pointer, method, method_on_pointer, method_on_variable, of_package, Indexes, element, Gives, nothing, one, several, Calls, function, conversion, len, append, panic, print, println}
+use Rattle.gr_rules.specs.Links.{Selects, field, field_through_pointer, method, method_on_pointer, method_on_variable, of_package, Indexes, element, Gives}
+use Rattle.gr_rules.specs.Links.{nothing, one, several, Calls, function, conversion, len, append, panic, print, println}
 use Rattle.gr_object.specs.Lines.{FunctionName, Line, line_if_known}
 use Rattle.gr_object.specs.Lines as line
 use Rattle.gr_object.specs.Source.{Source}
-use Rattle.gr_object.specs.Operands.{Operand, Standing, Values, Called, Converts, Predeclared, Qualifies, function_standing, name_operand, unqualified, behind, field_operand, receiver_lines, method_operand, member_operand, typed_selector, selected_by, selected, indexed, counted, calling, left_by_call, called, builtin_results}
+use Rattle.gr_object.specs.Operands.{Operand, Standing, Values, Called, Converts, Predeclared, Qualifies, function_standing, name_operand, unqualified}
+use Rattle.gr_object.specs.Operands.{behind, field_operand, receiver_lines, method_operand, member_operand, typed_selector, selected_by, selected, indexed}
+use Rattle.gr_object.specs.Operands.{counted, calling, left_by_call, called, builtin_results}
 use Rattle.gr_balance.specs.Stack.{Arity, Moves}
 use Rattle.gr_balance.specs.Asked.{OfExport, OfMember}
 use Rattle.gr_balance.specs.Answered.{IsKnown, IsCalled, method_arity, MemberIsKnown, IsAnswered}

@@ -15,21 +15,27 @@ use Rattle.gr_rules.specs.Meanings.{HasMeaning, chain, LeadsTo, no_link, selecto
 use Rattle.gr_stmt.specs.Simple.{binary_of}
 use Rattle.gr_statement_rules.specs.Turns.{Rule, InTurn, no_item, then_item, InGroup, alone, together, IfPresent, absent, present}
 use Rattle.gr_statement_rules.specs.Giving.{Fresh, OfType, Give}
-use Rattle.gr_statement_rules.specs.Simple.{ConditionIsTyped, a_condition, EndsInCall, the_call, behind_selector as ends_behind_selector, behind_index as ends_behind_index, behind_call as ends_behind_call, SimpleIsTyped, a_call, a_step, an_update, an_assignment, a_definition, LocalIsTyped, of_type, of_type_with_values, of_values}
+use Rattle.gr_statement_rules.specs.Simple.{ConditionIsTyped, a_condition, EndsInCall, the_call, behind_selector as ends_behind_selector}
+use Rattle.gr_statement_rules.specs.Simple.{behind_index as ends_behind_index, behind_call as ends_behind_call, SimpleIsTyped, a_call, a_step, an_update}
+use Rattle.gr_statement_rules.specs.Simple.{an_assignment, a_definition, LocalIsTyped, of_type, of_type_with_values, of_values}
 use Rattle.gr_object.specs.Lines.{FunctionName, Line, pops}
 use Rattle.gr_object.specs.Lines as line
 use Rattle.gr_object.specs.Source.{Source}
 use Rattle.gr_object.specs.Operands.{Operand, Values, value_count}
 use Rattle.gr_object.specs.Expressions.{operand_of, value_lines, address_lines}
-use Rattle.gr_object.specs.Statements.{values_of, from_last, set_name, set_left, targets_of, update_lines, step_op, simple_lines, optional_lines, zeros, first_values, local_lines}
+use Rattle.gr_object.specs.Statements.{values_of, from_last, set_name, set_left, targets_of, update_lines, step_op, simple_lines, optional_lines, zeros}
+use Rattle.gr_object.specs.Statements.{first_values, local_lines}
 use Rattle.gr_balance.specs.Stack.{Arity}
 use Rattle.gr_balance.specs.Asked.{Question, OfDeclared, OfLeft, Asks}
 use Rattle.gr_balance.specs.Answered.{IsAnswered}
-use Rattle.gr_balance.specs.StatementsAsked.{Asking, AskInTurn, this_item, later_item, AskInGroup, asks_alone, asks_together, AskIfPresent, asks_present, SimpleAsks, in_call, in_step, in_updated, in_update, in_assigned, in_assignment, for_left, in_definition, LocalAsks, for_declared, in_values}
+use Rattle.gr_balance.specs.StatementsAsked.{Asking, AskInTurn, this_item, later_item, AskInGroup, asks_alone, asks_together, AskIfPresent, asks_present}
+use Rattle.gr_balance.specs.StatementsAsked.{SimpleAsks, in_call, in_step, in_updated, in_update, in_assigned, in_assignment, for_left, in_definition}
+use Rattle.gr_balance.specs.StatementsAsked.{LocalAsks, for_declared, in_values}
 use Rattle.gr_balance.proofs.Turning.{Turns, none_turns, turns_as, turns_joined, turns_over, line_turns}
 use Rattle.gr_balance.proofs.Standing.{Settles}
 use Rattle.gr_balance.proofs.Expressions.{over, Answers, expression_settles}
-use Rattle.gr_balance.proofs.Sides.{AreExprs, give_turns, targets_turn, assigned_length, lefts_turn, defined_length, names_turn, zeros_turn, taken_length, pops_turn}
+use Rattle.gr_balance.proofs.Sides.{AreExprs, give_turns, targets_turn, assigned_length, lefts_turn, defined_length, names_turn, zeros_turn, taken_length}
+use Rattle.gr_balance.proofs.Sides.{pops_turn}
 
 pub exprs_in : (h : Bool) (is : List (Item ExprTree)) → All (λ (i : Item ExprTree). IsExprIn h i.value) is → AreExprs is
 exprs_in h [] f = All-nil (λ (i : Item ExprTree). IsExpr i.value)

@@ -12,7 +12,8 @@ use Rattle.gr_object.specs.Lines.{FunctionName, Line, line_if_known}
 use Rattle.gr_object.specs.Lines as line
 use Rattle.gr_object.specs.Source.{Source}
 use Rattle.gr_object.specs.Numbering.{slot_of}
-use Rattle.gr_object.specs.Operands.{Operand, Standing, Values, Called, Converts, Predeclared, Qualifies, plain, standing_as, local_operand, function_standing, plain_function, value_name, named_meaning, bound_name, name_operand, prefixed, operated, counted}
+use Rattle.gr_object.specs.Operands.{Operand, Standing, Values, Called, Converts, Predeclared, Qualifies, plain, standing_as, local_operand}
+use Rattle.gr_object.specs.Operands.{function_standing, plain_function, value_name, named_meaning, bound_name, name_operand, prefixed, operated, counted}
 use Rattle.gr_balance.specs.Stack.{Arity, Moves, RunsAt}
 use Rattle.gr_balance.specs.Answered.{IsKnown, IsCalled, plain_arity, MeaningIsKnown, NameIsKnown}
 use Rattle.gr_balance.proofs.Turning.{is_behind, Scans, Turns, none_turns, turns_as, turns_joined, turns_over, line_turns, turns_then, known_turns}

@@ -12,19 +12,28 @@ use Rattle.gr_expr.specs.World.{World, Locals}
 use Rattle.gr_statement_rules.specs.Turns.{IfPresent, absent, present}
 use Rattle.gr_statement_rules.specs.Giving.{OfType}
 use Rattle.gr_statement_rules.specs.Simple.{ConditionIsTyped}
-use Rattle.gr_statement_rules.specs.Statements.{InitIsTyped, an_init, HeaderIsTyped, endless, a_while, with_clauses, StatementIsTyped, nothing, a_declaration, a_simple, an_inner_block, a_choice, a_loop, a_break, a_continue, a_return, BlockIsTyped, a_block, StatementsAreTyped, no_more, one_more, IfIsTyped, an_if, ElseIsTyped, without_else, an_else_if, an_else}
+use Rattle.gr_statement_rules.specs.Statements.{InitIsTyped, an_init, HeaderIsTyped, endless, a_while, with_clauses, StatementIsTyped, nothing}
+use Rattle.gr_statement_rules.specs.Statements.{a_declaration, a_simple, an_inner_block, a_choice, a_loop, a_break, a_continue, a_return, BlockIsTyped}
+use Rattle.gr_statement_rules.specs.Statements.{a_block, StatementsAreTyped, no_more, one_more, IfIsTyped, an_if, ElseIsTyped, without_else, an_else_if}
+use Rattle.gr_statement_rules.specs.Statements.{an_else}
 use Rattle.gr_object.specs.Lines.{FunctionName, Line}
 use Rattle.gr_object.specs.Source.{Source}
 use Rattle.gr_object.specs.Expressions.{value_lines}
-use Rattle.gr_object.specs.Statements.{values_of, init_lines, local_lines, simple_lines, Exits, further, block_exits, branched, for_init, for_condition, for_post, loop_condition, body_exits, loop_lines, statement_lines, block_lines, statements_lines, if_lines, else_lines}
+use Rattle.gr_object.specs.Statements.{values_of, init_lines, local_lines, simple_lines, Exits, further, block_exits, branched, for_init, for_condition}
+use Rattle.gr_object.specs.Statements.{for_post, loop_condition, body_exits, loop_lines, statement_lines, block_lines, statements_lines, if_lines}
+use Rattle.gr_object.specs.Statements.{else_lines}
 use Rattle.gr_balance.specs.Stack.{Arity}
 use Rattle.gr_balance.specs.Asked.{Asks}
-use Rattle.gr_balance.specs.StatementsAsked.{AskIfPresent, asks_present, InitAsks, in_init, HeaderAsks, in_while, in_first, in_test, in_post, StatementAsks, in_declaration, in_simple, in_inner, in_choice, in_header, in_loop, in_return, BlockAsks, in_block, StatementsAsk, this_statement, later_statement, IfAsks, before_condition, in_condition, in_then, in_otherwise, ElseAsks, in_else_if, in_else}
+use Rattle.gr_balance.specs.StatementsAsked.{AskIfPresent, asks_present, InitAsks, in_init, HeaderAsks, in_while, in_first, in_test, in_post, StatementAsks}
+use Rattle.gr_balance.specs.StatementsAsked.{in_declaration, in_simple, in_inner, in_choice, in_header, in_loop, in_return, BlockAsks, in_block}
+use Rattle.gr_balance.specs.StatementsAsked.{StatementsAsk, this_statement, later_statement, IfAsks, before_condition, in_condition, in_then, in_otherwise}
+use Rattle.gr_balance.specs.StatementsAsked.{ElseAsks, in_else_if, in_else}
 use Rattle.gr_balance.proofs.Turning.{Turns, none_turns, turns_as}
 use Rattle.gr_balance.proofs.Expressions.{over, Answers}
 use Rattle.gr_balance.proofs.Sides.{AreExprs, give_turns, taken_length}
 use Rattle.gr_balance.proofs.Simple.{exprs_in, simple_turns, condition_turns, locals_turn, optional_turns}
-use Rattle.gr_balance.proofs.Keeping.{Keeps, turns_keep, keeps_joined, jump_out, jump_next, return_keeps, if_keeps, else_keeps, Tests, no_test, one_test, loop_keeps}
+use Rattle.gr_balance.proofs.Keeping.{Keeps, turns_keep, keeps_joined, jump_out, jump_next, return_keeps, if_keeps, else_keeps, Tests, no_test, one_test}
+use Rattle.gr_balance.proofs.Keeping.{loop_keeps}
 
 init_turns : (arity : FunctionName → Arity) (w : World) (s : Source) (slots : List ℕ) {before after : Locals} {x : Option InitTree} →
     IfPresent InitTree (InitIsTyped w) before x after → Perhaps IsInit x →

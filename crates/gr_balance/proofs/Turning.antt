@@ -1,7 +1,9 @@
 -- Lines that leave some values where others lay, whatever lies below, and how they are joined.
 use Rattle.std.proofs.Common.{ℕ, suc, ◌≡◌, ◌+◌, ◌-◌, List, [], ◌∷◌, ◌++◌, length, ap, refl, sym, ◌∙◌, subst, arith, Option, Some}
 use Rattle.std.specs.Prelude.{⊤}
-use Rattle.gr_object.specs.Lines.{FunctionName, Line, Integer, Text, Truth, Nil, Local, Global, Field, FieldThrough, Index, Load, Negate, Not, Operate, Duplicate, Pop, JumpUnless, JumpIf, Jump, JumpBack, Call, CallBuiltin, Zero, With, MakeSlice, New, LocalAddress, GlobalAddress, FieldAddress, IndexAddress, BlankAddress, Set, Assign, Return, End, line_if_known}
+use Rattle.gr_object.specs.Lines.{FunctionName, Line, Integer, Text, Truth, Nil, Local, Global, Field, FieldThrough, Index, Load, Negate, Not, Operate}
+use Rattle.gr_object.specs.Lines.{Duplicate, Pop, JumpUnless, JumpIf, Jump, JumpBack, Call, CallBuiltin, Zero, With, MakeSlice, New, LocalAddress}
+use Rattle.gr_object.specs.Lines.{GlobalAddress, FieldAddress, IndexAddress, BlankAddress, Set, Assign, Return, End, line_if_known}
 use Rattle.gr_object.specs.Operands.{builtin_results}
 use Rattle.gr_balance.specs.Stack.{Arity, Moves, RunsAt, Runs}
 

@@ -1,6 +1,8 @@
 -- The discipline of the stack that lines of code work on: how high it is at each line.
 use Rattle.std.specs.Prelude.{ℕ, suc, ◌≡◌, ◌≤◌, ◌+◌, ◌-◌, ⊤, List, [], ◌∷◌, length}
-use Rattle.gr_object.specs.Lines.{FunctionName, Line, Integer, Text, Truth, Nil, Local, Global, Field, FieldThrough, Index, Load, Negate, Not, Operate, Duplicate, Pop, JumpUnless, JumpIf, Jump, JumpBack, Call, CallBuiltin, Zero, With, MakeSlice, New, LocalAddress, GlobalAddress, FieldAddress, IndexAddress, BlankAddress, Set, Assign, Return, End}
+use Rattle.gr_object.specs.Lines.{FunctionName, Line, Integer, Text, Truth, Nil, Local, Global, Field, FieldThrough, Index, Load, Negate, Not, Operate}
+use Rattle.gr_object.specs.Lines.{Duplicate, Pop, JumpUnless, JumpIf, Jump, JumpBack, Call, CallBuiltin, Zero, With, MakeSlice, New, LocalAddress}
+use Rattle.gr_object.specs.Lines.{GlobalAddress, FieldAddress, IndexAddress, BlankAddress, Set, Assign, Return, End}
 use Rattle.gr_object.specs.Operands.{builtin_results}
 
 -- how many values a function takes, its receiver counted, and how many it gives back

@@ -3,7 +3,8 @@
 use Rattle.std.specs.Prelude.{◌≡◌, ℕ, List, ◌∷◌, Option, Some}
 use Rattle.gr_tree.specs.declared.syntax.StepOp.{StepOp}
 use Rattle.gr_tree.specs.declared.syntax.UpdateOp.{UpdateOp}
-use Rattle.gr_tree.specs.Tree.{Item, Group, single, several, IdentTree, ExprTree, SimpleTree, LocalTree, InitTree, ForTree, StatementTree, BlockTree, StatementTrees, IfTree, ElseTree, ReceiverTree, ParamTree, FuncTree}
+use Rattle.gr_tree.specs.Tree.{Item, Group, single, several, IdentTree, ExprTree, SimpleTree, LocalTree, InitTree, ForTree, StatementTree, BlockTree}
+use Rattle.gr_tree.specs.Tree.{StatementTrees, IfTree, ElseTree, ReceiverTree, ParamTree, FuncTree}
 use Rattle.gr_tree.specs.Tree as tree
 use Rattle.gr_expr.specs.Types.{PlainType}
 use Rattle.gr_expr.specs.World.{World, Locals}

@@ -89,13 +89,15 @@ unit_built state job built fresh right =
     local_unit built.inputs state.files job.package built.unit there (same_back state.files built.inputs job.package same)
     (subst (λ p. IsUnitOf built.inputs p built.unit) fresh.same_package (right here))
 
-units_gained : (w : Workspace) (old : Table) (p : List ℕ) (unit : PackageUnit) (new : Table) → Gains w old p unit new → IsUnitOf w p unit → AreUnits w old → AreUnits w new
+units_gained : (w : Workspace) (old : Table) (p : List ℕ) (unit : PackageUnit) (new : Table) → Gains w old p unit new → IsUnitOf w p unit → AreUnits w old →
+    AreUnits w new
 units_gained w old p unit new gains is u q other finished =
     let there = subst (λ (t : Table). slice_get t finished.0 ≡ Some (Some other)) gains.2 finished.2 in
     ⊎_elim
     (λ (here : finished.0 ≡ gains.0).
     let same_package : p ≡ q = same_Some p q (sym gains.1 ∙ ap (slice_get (package_paths w)) (sym here) ∙ finished.1) in
-    let same_unit : unit ≡ other = same_Some unit other (set_here old gains.0 (Some unit) (Some other) (subst (λ (k : ℕ). slice_get (set old gains.0 (Some unit)) k ≡ Some (Some other)) here there)) in
+    let same_unit : unit ≡ other = same_Some unit other
+    (set_here old gains.0 (Some unit) (Some other) (subst (λ (k : ℕ). slice_get (set old gains.0 (Some unit)) k ≡ Some (Some other)) here there)) in
     subst (λ x. IsUnitOf w x other) same_package (subst (IsUnitOf w p) same_unit is))
     (λ (elsewhere : finished.0 ≡ gains.0 → ⊥). u q other (finished.0, finished.1, sym (set_elsewhere old gains.0 finished.0 (Some unit) elsewhere) ∙ there))
     (cases_eq finished.0 gains.0)

@@ -34,7 +34,8 @@ module _ (state : State) (job : JobRecord) (built : Built) (files : Workspace) (
   inputs_as : (inputs : Workspace) → Contains (package_paths state.files) job.package → files ≡ inputs → AreInputs state.files job.package inputs
   inputs_as inputs has same = record { is_package = has; texts = subst (λ (x : Workspace). AreClosureTexts state.files job.package (entries x)) same texts }
 
-  pub is_fresh : (n : ℕ) → slice_get (package_paths state.files) n ≡ Some job.package → built.package ≡ job.package → job.number ≡ state.number → built.number ≡ state.number → files ≡ job.inputs → files ≡ built.inputs → IsFresh state job built
+  pub is_fresh : (n : ℕ) → slice_get (package_paths state.files) n ≡ Some job.package → built.package ≡ job.package → job.number ≡ state.number →
+      built.number ≡ state.number → files ≡ job.inputs → files ≡ built.inputs → IsFresh state job built
   is_fresh n at package_is job_is built_is for_job for_built = record {
     same_package = package_is;
     job_number = job_is;
@@ -47,13 +48,16 @@ module _ (state : State) (job : JobRecord) (built : Built) (files : Workspace) (
 abbrev pub Holds : Table → ℕ → Option (Bor PackageUnit) → Type 0
 Holds table n found = MatchOption found ((unit : PackageUnit) → slice_get table n ≡ Some (Some unit) → ⊥) (λ unit. slice_get table n ≡ Some (Some unit.now))
 
-pub is_there : (table : Table) (n : ℕ) (found : Option (Bor PackageUnit)) → true ≡ is_some found → Holds table n found → (unit : PackageUnit) × (slice_get table n ≡ Some (Some unit))
+pub is_there : (table : Table) (n : ℕ) (found : Option (Bor PackageUnit)) → true ≡ is_some found → Holds table n found → (unit : PackageUnit) ×
+    (slice_get table n ≡ Some (Some unit))
 is_there table n (Some unit) some holds = (unit.now, holds)
 is_there table n None some holds = absurd (true≢false some)
 
-pub not_there : (table : Table) (n : ℕ) (found : Option (Bor PackageUnit)) → false ≡ is_some found → Holds table n found → (unit : PackageUnit) → slice_get table n ≡ Some (Some unit) → ⊥
+pub not_there : (table : Table) (n : ℕ) (found : Option (Bor PackageUnit)) → false ≡ is_some found → Holds table n found → (unit : PackageUnit) →
+    slice_get table n ≡ Some (Some unit) → ⊥
 not_there table n (Some unit) none holds = absurd (false≢true none)
 not_there table n None none holds = holds
 
-pub no_unit : (state : State) (p : List ℕ) (n : ℕ) → slice_get (package_paths state.files) n ≡ Some p → ((unit : PackageUnit) → slice_get state.finished n ≡ Some (Some unit) → ⊥) → HasUnit state p → ⊥
+pub no_unit : (state : State) (p : List ℕ) (n : ℕ) → slice_get (package_paths state.files) n ≡ Some p →
+    ((unit : PackageUnit) → slice_get state.finished n ≡ Some (Some unit) → ⊥) → HasUnit state p → ⊥
 no_unit state p n at none has = none has.0 (unit_at state.files state.finished p has.0 n at has.1)

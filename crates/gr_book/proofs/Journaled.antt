@@ -13,13 +13,16 @@ use Rattle.gr_book.specs.Step.{Step}
 
 -- the journal after one event
 abbrev After : Machine → Event → Reply → Machine → Type 0
-After old event reply new = MatchOption (told_of reply) (new.journal ≡ old.journal) (λ told. new.journal ≡ old.journal ++ entry_of old.current.number event reply told ∷ [])
+After old event reply new = MatchOption (told_of reply) (new.journal ≡ old.journal)
+    (λ told. new.journal ≡ old.journal ++ entry_of old.current.number event reply told ∷ [])
 
 matches : (o : Option Told) (x : Told) (P : Type 0) (Q : Told → Type 0) → o ≡ Some x → Q x → MatchOption o P Q
 matches o x P Q e q = subst (λ (y : Option Told). MatchOption y P Q) (sym e) q
 
-recorded_after : (old : Machine) (event : Event) (reply : Reply) (new : Machine) → Records old.current.number old.journal event reply new.journal → After old event reply new
-recorded_after old event reply new r = matches (told_of reply) r.out (new.journal ≡ old.journal) (λ told. new.journal ≡ old.journal ++ entry_of old.current.number event reply told ∷ []) r.tells r.journal
+recorded_after : (old : Machine) (event : Event) (reply : Reply) (new : Machine) → Records old.current.number old.journal event reply new.journal →
+    After old event reply new
+recorded_after old event reply new r = matches (told_of reply) r.out (new.journal ≡ old.journal)
+    (λ told. new.journal ≡ old.journal ++ entry_of old.current.number event reply told ∷ []) r.tells r.journal
 
 after_step : (old : Machine) (event : Event) (reply : Reply) (new : Machine) → Step old event reply new → After old event reply new
 after_step old event (Refused Memory) new s = ap (λ (m : Machine). m.journal) s.1
@@ -37,4 +40,5 @@ goes_by (Some told) current old mid new event reply es is rest = (current, subst
 pub has_entries : HasEntries
 has_entries old [] new run = ap (λ (m : Machine). m.journal) run
 has_entries old (e ∷ es) new run =
-    goes_by (told_of e.1) old.current.number old.journal run.0.journal new.journal e.0 e.1 es (after_step old e.0 e.1 run.0 run.1) (has_entries run.0 es new run.2)
+    goes_by (told_of e.1) old.current.number old.journal run.0.journal new.journal e.0 e.1 es (after_step old e.0 e.1 run.0 run.1)
+    (has_entries run.0 es new run.2)

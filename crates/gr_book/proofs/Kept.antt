@@ -35,7 +35,8 @@ back_is (GiveBack of) refusal job unit is = ap (λ x. Back refusal x unit) is.0 
 back_is event refusal job unit is = absurd is
 
 -- what tells nothing has turned its event away
-turned_away : (old : Machine) (event : Event) (reply : Reply) (new : Machine) → Step old event reply new → told_of reply ≡ None → IsTurnedAway event reply × (new ≡ old)
+turned_away : (old : Machine) (event : Event) (reply : Reply) (new : Machine) → Step old event reply new → told_of reply ≡ None → IsTurnedAway event reply ×
+    (new ≡ old)
 turned_away old event (Refused Memory) new s none = (inl (refused_is event Memory s.0), s.1)
 turned_away old event (Refused JournalFull) new s none = (inr (refused_is event JournalFull s.0), s.2)
 turned_away old event (Back Memory job unit) new s none = (inl (back_is event Memory job unit s.0), s.2)
@@ -52,7 +53,8 @@ added old event (Back JournalFull job unit) new told s is = absurd (none-some to
 added old event reply new told s is =
     subst (λ (x : Told). new.journal ≡ old.journal ++ entry_of old.current.number event reply x ∷ []) (same_Some s.2.out told (sym s.2.tells ∙ is)) s.2.journal
 
-pub step_kept : (old : Machine) (event : Event) (reply : Reply) (kept : Option Entry) (new : Machine) → Step old event reply new → IsEntryIf old.current.number event reply kept → StepKept old event reply kept new
+pub step_kept : (old : Machine) (event : Event) (reply : Reply) (kept : Option Entry) (new : Machine) → Step old event reply new →
+    IsEntryIf old.current.number event reply kept → StepKept old event reply kept new
 step_kept old event reply None new s is = (s, turned_away old event reply new s is)
 step_kept old event reply (Some entry) new s is =
     (s, (is, added old event reply new is.0 s is.1 ∙ ap (λ (x : Entry). old.journal ++ x ∷ []) (sym is.2)))

@@ -16,10 +16,12 @@ module _ (m : Content) (job : JobRecord) (built : Built) (out : JobsOut) (lost :
   abbrev after : State → Content
   after new = record m { current = new; out = out }
 
-  pub settled : (outcome : Outcome) (reply : Reply) (new : State) → ComesTo m.current job built outcome → Settles m.current outcome reply new → AnswersOrLacks m (Deliver job built) reply (after new)
+  pub settled : (outcome : Outcome) (reply : Reply) (new : State) → ComesTo m.current job built outcome → Settles m.current outcome reply new →
+      AnswersOrLacks m (Deliver job built) reply (after new)
   settled Late reply new comes s =
       subst (λ (r : Reply). AnswersOrLacks m (Deliver job built) r (after new)) (sym s.0) (comes, refl, (out, lost, ap (λ (x : State). after x) s.1))
   settled Known reply new comes s =
       subst (λ (r : Reply). AnswersOrLacks m (Deliver job built) r (after new)) (sym s.0) (comes.0, comes.1, (out, lost, ap (λ (x : State). after x) s.1))
   settled (Entered finished known) reply new comes s =
-      subst (λ (r : Reply). AnswersOrLacks m (Deliver job built) r (after new)) (sym s.0) (comes.0, comes.1, refl, (out, finished, lost, comes.2, ap (λ (x : State). after x) s.1), comes.4)
+      subst (λ (r : Reply). AnswersOrLacks m (Deliver job built) r (after new)) (sym s.0)
+      (comes.0, comes.1, refl, (out, finished, lost, comes.2, ap (λ (x : State). after x) s.1), comes.4)

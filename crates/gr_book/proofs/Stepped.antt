@@ -1,5 +1,6 @@
 -- What the book adds to an answer: its entry, and that numbers, visits, tickets and Jobs fit the journal after it.
-use Rattle.std.proofs.Common.{◌≡◌, ℕ, ◌+◌, ◌≤◌, ◌<◌, ◌⊎◌, inl, inr, List, [], ◌∷◌, ◌++◌, length, Option, MatchOption, Some, None, refl, sym, ap, subst, ◌∙◌, ⊎_elim, arith, length-append}
+use Rattle.std.proofs.Common.{◌≡◌, ℕ, ◌+◌, ◌≤◌, ◌<◌, ◌⊎◌, inl, inr, List, [], ◌∷◌, ◌++◌, length, Option, MatchOption, Some, None, refl, sym, ap, subst, ◌∙◌}
+use Rattle.std.proofs.Common.{⊎_elim, arith, length-append}
 use Rattle.std.proofs.lemmas.List.Edits.{length-remove}
 use Rattle.std.proofs.lemmas.List.Elements.{at_from_Contains}
 use Rattle.std.proofs.lemmas.Option.{none-some, same_Some, slice_get_within}
@@ -45,11 +46,19 @@ matched : {T : Type 0} (o : Option T) (x : T) (P : Type 0) (Q : T → Type 0) �
 matched None x P Q e m = absurd (none-some x e)
 matched (Some y) x P Q e m = subst Q (same_Some y x e) m
 
-records : (old : Content) (journal : List Entry) (event : Event) (reply : Reply) (new : Content) (journals : List Entry) → Answers old event reply new → ShowsLine journal event reply
-    → MatchOption (told_of reply) (journals ≡ journal) (λ told. journals ≡ journal ++ entry_of old.current.number event reply told ∷ []) → Records old.current.number journal event reply journals
+records : (old : Content) (journal : List Entry) (event : Event) (reply : Reply) (new : Content) (journals : List Entry) → Answers old event reply new →
+    ShowsLine journal event reply
+    → MatchOption (told_of reply) (journals ≡ journal) (λ told. journals ≡ journal ++ entry_of old.current.number event reply told ∷ []) →
+    Records old.current.number journal event reply journals
 records old journal event reply new journals a shows has =
     let out = tells old event reply new a in
-    record { out = out.0; tells = out.1; shows = shows; journal = matched (told_of reply) out.0 _ (λ told. journals ≡ journal ++ entry_of old.current.number event reply told ∷ []) out.1 has }
+    record {
+      out = out.0;
+      tells = out.1;
+      shows = shows;
+      journal =
+          matched (told_of reply) out.0 _ (λ told. journals ≡ journal ++ entry_of old.current.number event reply told ∷ []) out.1 has;
+    }
 
 -- ---- the step
 
@@ -77,7 +86,8 @@ no_room_back old (Deliver back built) job unit new a = a
 no_room_back old (GiveBack back) job unit new a = a
 
 -- what is answered, and has its entry, is a step
-pub kept_step : (old : Machine) (event : Event) (reply : Reply) (c : Content) (journal : List Entry) → HasRoom old event → Keeps (content old) old.journal event reply c journal → Step old event reply (with_journal c journal)
+pub kept_step : (old : Machine) (event : Event) (reply : Reply) (c : Content) (journal : List Entry) → HasRoom old event →
+    Keeps (content old) old.journal event reply c journal → Step old event reply (with_journal c journal)
 kept_step old event (Refused Memory) c journal room k = (k.0.0, same_machine old c journal k.0.1 k.2)
 kept_step old event (Refused JournalFull) c journal room k = absurd (no_room (content old) event c k.0)
 kept_step old event (Back Memory job unit) c journal room k = (k.0.0, k.0.1, same_machine old c journal k.0.2 k.2)
@@ -135,15 +145,18 @@ one_of : (most entries jobs : ℕ) → 1 ≤ jobs → entries + jobs ≤ most �
 one_of most entries jobs some due = omega (arith, some, due)
 
 -- then one entry more has room
-pub place_for_one : (most entries : ℕ) (out : JobsOut) (event : Event) → entries + length out.jobs ≤ most → HasPlace most (entries + length out.jobs) out event → entries + 1 ≤ most
+pub place_for_one : (most entries : ℕ) (out : JobsOut) (event : Event) → entries + length out.jobs ≤ most →
+    HasPlace most (entries + length out.jobs) out event → entries + 1 ≤ most
 place_for_one most entries out Look due has = omega (arith, has)
 place_for_one most entries out (Log asked) due has = omega (arith, has)
 place_for_one most entries out (Commit basis change) due has = omega (arith, has)
 place_for_one most entries out (Undo basis) due has = omega (arith, has)
 place_for_one most entries out (Redo basis) due has = omega (arith, has)
 place_for_one most entries out Take due has = omega (arith, has)
-place_for_one most entries out (Deliver job built) due has = ⊎_elim (λ is. one_of most entries (length out.jobs) (some_out out job is) due) (λ more. omega (arith, more)) has
-place_for_one most entries out (GiveBack job) due has = ⊎_elim (λ is. one_of most entries (length out.jobs) (some_out out job is) due) (λ more. omega (arith, more)) has
+place_for_one most entries out (Deliver job built) due has =
+    ⊎_elim (λ is. one_of most entries (length out.jobs) (some_out out job is) due) (λ more. omega (arith, more)) has
+place_for_one most entries out (GiveBack job) due has =
+    ⊎_elim (λ is. one_of most entries (length out.jobs) (some_out out job is) due) (λ more. omega (arith, more)) has
 
 -- ---- what the journal bounds
 record Fits (m : Machine) (most : ℕ) (c : Content) : Type 0 where
@@ -155,7 +168,8 @@ record Fits (m : Machine) (most : ℕ) (c : Content) : Type 0 where
 
 module _ (m : Machine) (most : ℕ) (due : entries_due m ≤ most) where
   stays : (c : Content) → c ≡ content m → entries_due m + 1 ≤ most → Fits m most c
-  stays c is room = subst (Fits m most) (sym is) (record { next = omega arith; visit = omega arith; ticket = omega arith; room = omega (arith, room); limits = refl })
+  stays c is room = subst (Fits m most) (sym is) (record
+      { next = omega arith; visit = omega arith; ticket = omega arith; room = omega (arith, room); limits = refl })
 
   moves : (c : Content) → c.next ≡ m.next → c.visit ≡ m.visit + 1 → c.out ≡ m.out → c.limits ≡ m.limits → entries_due m + 1 ≤ most → Fits m most c
   moves c next visit out limits room =
@@ -163,10 +177,12 @@ module _ (m : Machine) (most : ℕ) (due : entries_due m ≤ most) where
       let ticket : c.out.ticket ≡ m.out.ticket = ap (λ (o : JobsOut). o.ticket) out in
       record { next = omega (arith, next); visit = omega (arith, visit); ticket = omega (arith, ticket); room = omega (arith, room, jobs); limits = limits }
 
-  spent : (job : JobRecord) (out : JobsOut) (c : Content) → Loses m.out (label_of job) out → c.out ≡ out → c.next ≡ m.next → c.visit ≡ m.visit → c.limits ≡ m.limits → Fits m most c
+  spent : (job : JobRecord) (out : JobsOut) (c : Content) → Loses m.out (label_of job) out → c.out ≡ out → c.next ≡ m.next → c.visit ≡ m.visit →
+      c.limits ≡ m.limits → Fits m most c
   spent job out c lost is next visit limits =
       let within : lost.place < length m.out.jobs = slice_get_within m.out.jobs lost.place (label_of job) lost.at in
-      let less : length c.out.jobs + 1 ≡ length m.out.jobs = ap (λ (o : JobsOut). length o.jobs + 1) (is ∙ lost.others) ∙ length-remove m.out.jobs lost.place within in
+      let less : length c.out.jobs + 1 ≡ length m.out.jobs = ap (λ (o : JobsOut). length o.jobs + 1) (is ∙ lost.others) ∙
+      length-remove m.out.jobs lost.place within in
       let ticket : c.out.ticket ≡ m.out.ticket = ap (λ (o : JobsOut). o.ticket) (is ∙ lost.others) in
       record { next = omega (arith, next); visit = omega (arith, visit); ticket = omega (arith, ticket); room = omega (arith, due, less); limits = limits }
 
@@ -176,7 +192,8 @@ module _ (m : Machine) (most : ℕ) (due : entries_due m ≤ most) where
   answer_fits : (event : Event) (reply : Reply) (c : Content) → HasPlace most (entries_due m) m.out event → Answers (content m) event reply c → Fits m most c
   answer_fits Look (Looked view) c room a = stays c a.1 room
   answer_fits (Log asked) (Logged number line) c room a = stays c a.1 room
-  answer_fits (Commit basis change) (Done number) c room a = subst (Fits m most) (sym a.2.2) (record { next = omega arith; visit = omega arith; ticket = omega arith; room = omega (arith, room); limits = refl })
+  answer_fits (Commit basis change) (Done number) c room a =
+      subst (Fits m most) (sym a.2.2) (record { next = omega arith; visit = omega arith; ticket = omega arith; room = omega (arith, room); limits = refl })
   answer_fits (Commit basis change) (Refused (Moved current)) c room a = stays c a.2 room
   answer_fits (Undo basis) (Done number) c room a = moves c a.3.next a.2.visit a.2.out a.3.limits room
   answer_fits (Undo basis) (Refused (Moved current)) c room a = stays c a.2 room
@@ -189,15 +206,24 @@ module _ (m : Machine) (most : ℕ) (due : entries_due m ≤ most) where
       subst (Fits m most) (sym a.1) (record { next = omega arith; visit = omega arith; ticket = omega arith; room = omega (arith, room, one); limits = refl })
   answer_fits Take (Refused NoJob) c room a = stays c a.1 (omega (arith, room))
   answer_fits (Deliver job built) (Back NoJob back unit) c room a = stays c a.2 (unknown a.0 room)
-  answer_fits (Deliver job built) (Refused (Stale current)) c room a = spent job a.2.0 c a.2.1 (ap (λ (x : Content). x.out) a.2.2) (ap (λ (x : Content). x.next) a.2.2) (ap (λ (x : Content). x.visit) a.2.2) (ap (λ (x : Content). x.limits) a.2.2)
-  answer_fits (Deliver job built) (Refused Already) c room a = spent job a.2.0 c a.2.1 (ap (λ (x : Content). x.out) a.2.2) (ap (λ (x : Content). x.next) a.2.2) (ap (λ (x : Content). x.visit) a.2.2) (ap (λ (x : Content). x.limits) a.2.2)
-  answer_fits (Deliver job built) (Done number) c room a = spent job a.3.0 c a.3.2 (ap (λ (x : Content). x.out) a.3.4) (ap (λ (x : Content). x.next) a.3.4) (ap (λ (x : Content). x.visit) a.3.4) (ap (λ (x : Content). x.limits) a.3.4)
+  answer_fits (Deliver job built) (Refused (Stale current)) c room a =
+      spent job a.2.0 c a.2.1 (ap (λ (x : Content). x.out) a.2.2) (ap (λ (x : Content). x.next) a.2.2) (ap (λ (x : Content). x.visit) a.2.2)
+      (ap (λ (x : Content). x.limits) a.2.2)
+  answer_fits (Deliver job built) (Refused Already) c room a =
+      spent job a.2.0 c a.2.1 (ap (λ (x : Content). x.out) a.2.2) (ap (λ (x : Content). x.next) a.2.2) (ap (λ (x : Content). x.visit) a.2.2)
+      (ap (λ (x : Content). x.limits) a.2.2)
+  answer_fits (Deliver job built) (Done number) c room a =
+      spent job a.3.0 c a.3.2 (ap (λ (x : Content). x.out) a.3.4) (ap (λ (x : Content). x.next) a.3.4) (ap (λ (x : Content). x.visit) a.3.4)
+      (ap (λ (x : Content). x.limits) a.3.4)
   answer_fits (GiveBack job) (Back NoJob back unit) c room a = stays c a.2 (unknown a.0 room)
-  answer_fits (GiveBack job) (Done number) c room a = spent job a.1.0 c a.1.1 (ap (λ (x : Content). x.out) a.1.2) (ap (λ (x : Content). x.next) a.1.2) (ap (λ (x : Content). x.visit) a.1.2) (ap (λ (x : Content). x.limits) a.1.2)
+  answer_fits (GiveBack job) (Done number) c room a =
+      spent job a.1.0 c a.1.1 (ap (λ (x : Content). x.out) a.1.2) (ap (λ (x : Content). x.next) a.1.2) (ap (λ (x : Content). x.visit) a.1.2)
+      (ap (λ (x : Content). x.limits) a.1.2)
   answer_fits event reply c room a = absurd a
 
 -- the event is answered and the journal has one entry more, or nothing changes
-answered_or_same : (old : Content) (journal : List Entry) (event : Event) (reply : Reply) (new : Content) (journals : List Entry) → Keeps old journal event reply new journals
+answered_or_same : (old : Content) (journal : List Entry) (event : Event) (reply : Reply) (new : Content) (journals : List Entry) →
+    Keeps old journal event reply new journals
     → (Answers old event reply new × (length journals ≡ length journal + 1)) ⊎ ((new ≡ old) × (journals ≡ journal))
 answered_or_same old journal event (Refused Memory) new journals k = inr (k.0.1, k.2)
 answered_or_same old journal event (Back Memory job unit) new journals k = inr (k.0.2, k.2)
@@ -211,7 +237,8 @@ pub record AreBounded (c : Content) (entries most : ℕ) : Type 0 where
   pub ticket : c.out.ticket ≤ entries
   pub room : entries + length c.out.jobs ≤ most
 
-pub kept_bounds : (old : Machine) (most : ℕ) (event : Event) (reply : Reply) (c : Content) (journal : List Entry) → AreBounded (content old) (length old.journal) most → HasPlace most (entries_due old) old.out event
+pub kept_bounds : (old : Machine) (most : ℕ) (event : Event) (reply : Reply) (c : Content) (journal : List Entry) →
+    AreBounded (content old) (length old.journal) most → HasPlace most (entries_due old) old.out event
     → Keeps (content old) old.journal event reply c journal → AreBounded c (length journal) most × (c.limits ≡ old.limits)
 kept_bounds old most event reply c journal bounds place k = ⊎_elim
     (λ (is : Answers (content old) event reply c × (length journal ≡ length old.journal + 1)).
@@ -225,7 +252,8 @@ kept_bounds old most event reply c journal bounds place k = ⊎_elim
       fits.limits,
     ))
     (λ (is : (c ≡ content old) × (journal ≡ old.journal)). (
-      subst (λ (x : Content). AreBounded x (length journal) most) (sym is.0) (subst (λ (entries : List Entry). AreBounded (content old) (length entries) most) (sym is.1) bounds),
+      subst (λ (x : Content). AreBounded x (length journal) most) (sym is.0)
+          (subst (λ (entries : List Entry). AreBounded (content old) (length entries) most) (sym is.1) bounds),
       ap (λ (x : Content). x.limits) is.0,
     ))
     (answered_or_same (content old) old.journal event reply c journal k)

@@ -1,9 +1,16 @@
 //! What the tests of histories do with a book, and what the replies to it tell. A book and a Job are no values that may be
 //! dropped, so no test ends by `?` while it has one.
+ghost use Rattle.std.specs.Prelude.{IfOk};
+ghost use Rattle.gr_verdict.specs.Found.{IsFound};
+
 use gr_book::{Book, Event, Line, Reply, View};
+use gr_check::Planned;
 use gr_compile::{Built, Job, build};
+use gr_rename::plan_rename;
 use gr_space::{Change, plan_put};
 use gr_text::{FileText, Limits, Refusal};
+use gr_verdict::{Found, verdicts};
+use std::alloc::{AllocError, Global};
 use std::process::Abort;
 
 /// What is done with a book. A Job is called by its ticket.
@@ -11,6 +18,10 @@ use std::process::Abort;
 pub(crate) enum Act {
     /// A look and the put of a file.
     Put(&'static str, &'static str),
+    /// The put of a file that is planned on a look at the other book, and is committed there too.
+    PutAsElsewhere(&'static str, &'static str),
+    /// A rename that is planned on a look at the other book.
+    RenameAsElsewhere(&'static str, usize, &'static str),
     Undo(u64),
     Redo(u64),
     /// Where a Job comes, it has to be of that package.
@@ -138,6 +149,81 @@ fn put(rt: &(impl Abort + AllocGlobal), book: &mut Book, path: &str, bytes: &str
     }
 }
 
+fn looked(rt: &impl Abort, book: &mut Book) -> View {
+    let shown = match book.step(Event::Look) {
+        Reply::Looked(view) => Some(view),
+        Reply::Done(_number) => None,
+        Reply::Logged(_number, _line) => None,
+        Reply::Refused(_refusal) => None,
+        Reply::Taken(job) => {
+            drop(job.retire());
+            None
+        }
+        Reply::Back(_refusal, job, _built) => {
+            drop(job.retire());
+            None
+        }
+    };
+    shown.expect(rt, "a view")
+}
+
+/// Has the other book put a file, and the book commit the same change, planned there.
+fn put_as_elsewhere(
+    rt: &(impl Abort + AllocGlobal),
+    bench: &mut Bench,
+    path: &str,
+    bytes: &str,
+) -> Reply {
+    let view = looked(rt, &mut bench.other);
+    let number = view.snapshot.number();
+    let there = Event::Commit(number, planned(rt, &view, path, bytes));
+    let reply = bench.other.step(there);
+    assert_eq!(rt;
+        told(&mut bench.jobs, reply),
+        Outcome::Done(number.wrapping_add(1))
+    );
+    bench
+        .book
+        .step(Event::Commit(number, planned(rt, &view, path, bytes)))
+}
+
+/// What is found in the packages of a view's files.
+fn found(alloc: Global, view: &View) -> Result<Found, AllocError>
+    ensures { IfOk result (IsFound view.now.snapshot.files) }
+{
+    verdicts(alloc, view.snapshot.files(), view.snapshot.known())
+}
+
+/// The rename that a view's files allow.
+fn renamed(
+    rt: &(impl Abort + AllocGlobal),
+    view: &View,
+    path: &str,
+    offset: usize,
+    name: &str,
+) -> Change {
+    let alloc = rt.alloc();
+    let snapshot = &view.snapshot;
+    let found = found(alloc, view).expect(rt, "findings");
+    let planned = plan_rename(alloc, snapshot.get(), &found, path, offset, name);
+    let Planned { change, known } = planned.ok().expect(rt, "a plan");
+    drop(known);
+    change
+}
+
+fn rename_as_elsewhere(
+    rt: &(impl Abort + AllocGlobal),
+    bench: &mut Bench,
+    path: &str,
+    offset: usize,
+    name: &str,
+) -> Reply {
+    let view = looked(rt, &mut bench.other);
+    let change = renamed(rt, &view, path, offset, name);
+    let event = Event::Commit(view.snapshot.number(), change);
+    bench.book.step(event)
+}
+
 /// Whether a Job is one of some package, where one came.
 fn is_of(reply: &Reply, path: &str) -> bool {
     match reply {
@@ -182,6 +268,10 @@ fn delivery(rt: &(impl Abort + AllocGlobal), jobs: &mut Vec<Job>, ticket: u64) -
 fn replied(rt: &(impl Abort + AllocGlobal), bench: &mut Bench, act: Act) -> Reply {
     match act {
         Act::Put(path, bytes) => put(rt, &mut bench.book, path, bytes),
+        Act::PutAsElsewhere(path, bytes) => put_as_elsewhere(rt, bench, path, bytes),
+        Act::RenameAsElsewhere(path, offset, name) => {
+            rename_as_elsewhere(rt, bench, path, offset, name)
+        }
         Act::Take(path) => take(rt, &mut bench.book, path),
         Act::Log(number) => bench.book.step(Event::Log(number)),
         Act::Undo(basis) => bench.book.step(Event::Undo(basis)),
@@ -209,6 +299,11 @@ fn replied(rt: &(impl Abort + AllocGlobal), bench: &mut Bench, act: Act) -> Repl
 pub(crate) fn does(rt: &(impl Abort + AllocGlobal), bench: &mut Bench, act: Act, outcome: Outcome) {
     let reply = replied(rt, bench, act);
     assert_eq!(rt; told(&mut bench.jobs, reply), outcome);
+}
+
+/// Asserts how many entries the book's journal has.
+pub(crate) fn has_entries(rt: &impl Abort, bench: &Bench, entries: usize) {
+    assert_eq!(rt; bench.book.journal().len(), entries);
 }
 
 /// Retires a Job that is held.

@@ -1,6 +1,6 @@
 //! Jobs of a book: they are handed out, delivered late, given back and handed in elsewhere. A put is two entries of the
-//! journal, each other act one.
-use crate::bench::{Act, Bench, Outcome, does, ends, opened, retires};
+//! journal, or one where it is planned on another book; each other act is one.
+use crate::bench::{Act, Bench, Outcome, does, ends, has_entries, opened, retires};
 use gr_book::{Kind, Line, Reason, Told};
 use gr_compile::{Job, Out, SharedPath};
 use gr_graph::Graph;
@@ -8,17 +8,16 @@ use gr_text::Files;
 use gr_verdict::Known;
 use std::process::Abort;
 
-/// A file, and the same with another name for its variable.
 const A: &str = "package a\n\nvar x int\n\nfunc F(y int) int {\n\treturn x + y\n}\n";
 
-const Z: &str = "package a\n\nvar z int\n\nfunc F(y int) int {\n\treturn z + y\n}\n";
-
-/// Two changes, with an undo and a redo between the Jobs. The second change is a put of other bytes.
+/// A put and a rename that were planned on another book, with an undo and a redo between the Jobs.
 #[test]
 fn deliveries_that_come_late(rt: HostRuntime) {
     let mut bench = opened(&rt);
-    does(&rt, &mut bench, Act::Put("a/a.go", A), Outcome::Done(1));
-    does(&rt, &mut bench, Act::Put("a/a.go", Z), Outcome::Done(2));
+    let put = Act::PutAsElsewhere("a/a.go", A);
+    does(&rt, &mut bench, put, Outcome::Done(1));
+    let rename = Act::RenameAsElsewhere("a/a.go", 15, "z");
+    does(&rt, &mut bench, rename, Outcome::Done(2));
     does(&rt, &mut bench, Act::Take("a"), Outcome::Taken(0, 2, 2));
     does(&rt, &mut bench, Act::Undo(2), Outcome::Done(1));
     does(&rt, &mut bench, Act::Take("a"), Outcome::Taken(1, 1, 3));
@@ -27,8 +26,9 @@ fn deliveries_that_come_late(rt: HostRuntime) {
     does(&rt, &mut bench, Act::Take("a"), Outcome::Taken(2, 2, 4));
     does(&rt, &mut bench, Act::Deliver(2), Outcome::Done(2));
     does(&rt, &mut bench, Act::Deliver(0), Outcome::Already);
+    has_entries(&rt, &bench, 10);
     does(&rt, &mut bench, Act::Take("a"), Outcome::NoJob);
-    ends(&rt, bench, (13, 0))
+    ends(&rt, bench, (11, 3))
 }
 
 /// The texts of the Job's package are the same in the state that it is delivered to, whose number is another.

@@ -32,7 +32,8 @@ adds_then a b c P Q h k = record {
   only = λ s x. elim (k.only s x) [ inl o ↦ elim (h.only s o) [ inl n ↦ inl n | inr p ↦ inr (inl p) ] | inr q ↦ inr (inr q) ];
 }
 
-pub call_adds : {E : Type 0} (a b : List Spot) (P Q : Place → Type 0) (r : Result (Unit {0}) E) → ((place : Place) → P place → Q place) → ((place : Place) → Q place → P place) →
+pub call_adds : {E : Type 0} (a b : List Spot) (P Q : Place → Type 0) (r : Result (Unit {0}) E) → ((place : Place) → P place → Q place) →
+    ((place : Place) → Q place → P place) →
     OnOk r (Adds a b P) → OnOk r (Adds a b Q)
 call_adds a b P Q r to from k = on_ok_weaker r (λ h. adds_as a b P Q to from h) k
 
@@ -67,10 +68,12 @@ below_from Q i place h = elim (cases_lt h.0 i) [
 ]
 
 pub below_next : (Q : ℕ → Place → Type 0) (a b c : List Spot) (i : ℕ) → Adds a b (Below Q i) → Adds b c (Q i) → Adds a c (Below Q (i + 1))
-below_next Q a b c i h k = adds_as a c (λ place. Below Q i place ⊎ Q i place) (Below Q (i + 1)) (below_to Q i) (below_from Q i) (adds_then a b c (Below Q i) (Q i) h k)
+below_next Q a b c i h k = adds_as a c (λ place. Below Q i place ⊎ Q i place) (Below Q (i + 1)) (below_to Q i) (below_from Q i)
+    (adds_then a b c (Below Q i) (Q i) h k)
 
 -- the places of all identifiers of a package of which K holds
-pub all_below : (p : Package) (K : ℕ → Type 0) (n : ℕ) (a b : List Spot) → n ≡ p.size → Adds a b (Below (λ u place. BeginsAt p place.path place.offset u × K u) n) → Adds a b (UsesIn p K)
+pub all_below : (p : Package) (K : ℕ → Type 0) (n : ℕ) (a b : List Spot) → n ≡ p.size →
+    Adds a b (Below (λ u place. BeginsAt p place.path place.offset u × K u) n) → Adds a b (UsesIn p K)
 all_below p K n a b e h =
     adds_as a b (Below (λ u place. BeginsAt p place.path place.offset u × K u) n) (UsesIn p K)
     (λ place q. (q.0, q.2))
@@ -81,12 +84,15 @@ pub uses_none : (p : Package) (K : ℕ → Type 0) (a : List Spot) → ((u : ℕ
 uses_none p K a none = adds_none a (UsesIn p K) (λ place q. none q.0 q.1.1)
 
 -- the same uses, told otherwise
-pub uses_as : {E : Type 0} (p : Package) (K L : ℕ → Type 0) (a b : List Spot) (r : Result (Unit {0}) E) → ((u : ℕ) → K u → L u) → ((u : ℕ) → L u → K u) → OnOk r (Adds a b (UsesIn p K)) → OnOk r (Adds a b (UsesIn p L))
-uses_as p K L a b r to from h = call_adds a b (UsesIn p K) (UsesIn p L) r (λ place q. (q.0, (q.1.0, to q.0 q.1.1))) (λ place q. (q.0, (q.1.0, from q.0 q.1.1))) h
+pub uses_as : {E : Type 0} (p : Package) (K L : ℕ → Type 0) (a b : List Spot) (r : Result (Unit {0}) E) → ((u : ℕ) → K u → L u) → ((u : ℕ) → L u → K u) →
+    OnOk r (Adds a b (UsesIn p K)) → OnOk r (Adds a b (UsesIn p L))
+uses_as p K L a b r to from h = call_adds a b (UsesIn p K) (UsesIn p L) r (λ place q. (q.0, (q.1.0, to q.0 q.1.1)))
+    (λ place q. (q.0, (q.1.0, from q.0 q.1.1))) h
 
 -- the uses of one kind after the other
 pub bound_in : {E : Type 0} (p : Package) (d : Declaration) (name : Option (List ℕ)) (a b c e f : List Spot) (r : Result (Unit {0}) E) →
-    Adds a b (UsesIn p (λ u. BindsByScope p u d)) → Adds b c (UsesIn p (BindsAs p d name)) → Adds c e (UsesIn p (λ u. BindsByMember p u d)) → OnOk r (Adds e f (UsesIn p (λ u. BindsByName p u d))) →
+    Adds a b (UsesIn p (λ u. BindsByScope p u d)) → Adds b c (UsesIn p (BindsAs p d name)) → Adds c e (UsesIn p (λ u. BindsByMember p u d)) →
+    OnOk r (Adds e f (UsesIn p (λ u. BindsByName p u d))) →
     OnOk r (Adds a f (UsesIn p (BindsIn p d name)))
 bound_in p d name a b c e f r scope exported member own =
     on_ok_weaker r (λ named.
@@ -100,10 +106,12 @@ bound_in p d name a b c e f r scope exported member own =
     ])
     (λ place h. split place h.0 h.1.0 h.1.1)
     (adds_then a e f _ (UsesIn p (λ u. BindsByName p u d))
-    (adds_then a c e _ (UsesIn p (λ u. BindsByMember p u d)) (adds_then a b c (UsesIn p (λ u. BindsByScope p u d)) (UsesIn p (BindsAs p d name)) scope exported) member) named)) own
+    (adds_then a c e _ (UsesIn p (λ u. BindsByMember p u d))
+    (adds_then a b c (UsesIn p (λ u. BindsByScope p u d)) (UsesIn p (BindsAs p d name)) scope exported) member) named)) own
   where
     split : (place : Place) (u : ℕ) → BeginsAt p place.path place.offset u → BindsIn p d name u →
-        ((UsesIn p (λ v. BindsByScope p v d) place ⊎ UsesIn p (BindsAs p d name) place) ⊎ UsesIn p (λ v. BindsByMember p v d) place) ⊎ UsesIn p (λ v. BindsByName p v d) place
+        ((UsesIn p (λ v. BindsByScope p v d) place ⊎ UsesIn p (BindsAs p d name) place) ⊎ UsesIn p (λ v. BindsByMember p v d) place) ⊎
+        UsesIn p (λ v. BindsByName p v d) place
     split place u begins (by_scope h) = inl (inl (inl (u, (begins, h))))
     split place u begins (by_package h) = inl (inl (inr (u, (begins, h))))
     split place u begins (by_member h) = inl (inr (u, (begins, h)))

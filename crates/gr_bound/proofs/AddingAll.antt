@@ -25,7 +25,8 @@ all_then a b c P Q h k = record {
   only = λ x m. elim (k.only x m) [ inl o ↦ elim (h.only x o) [ inl n ↦ inl n | inr p ↦ inr (inl p) ] | inr q ↦ inr (inr q) ];
 }
 
-pub call_all : {X E : Type 0} (a b : List X) (P Q : X → Type 0) (r : Result (Unit {0}) E) → ((x : X) → P x → Q x) → ((x : X) → Q x → P x) → OnOk r (AddsAll a b P) → OnOk r (AddsAll a b Q)
+pub call_all : {X E : Type 0} (a b : List X) (P Q : X → Type 0) (r : Result (Unit {0}) E) → ((x : X) → P x → Q x) → ((x : X) → Q x → P x) →
+    OnOk r (AddsAll a b P) → OnOk r (AddsAll a b Q)
 call_all a b P Q r to from k = on_ok_weaker r (λ h. all_as a b P Q to from h) k
 
 -- one of the numbers below n tells it
@@ -49,5 +50,6 @@ next_below Q a b c i h k =
     (all_then a b c (BelowAll Q i) (Q i) h k)
 
 -- all numbers below n are all there are
-pub all_numbers : {X : Type 0} (Q : ℕ → X → Type 0) (P : X → Type 0) (n : ℕ) (a b : List X) → ((u : ℕ) (x : X) → Q u x → P x) → ((x : X) → P x → (u : ℕ) × (u < n) × Q u x) → AddsAll a b (BelowAll Q n) → AddsAll a b P
+pub all_numbers : {X : Type 0} (Q : ℕ → X → Type 0) (P : X → Type 0) (n : ℕ) (a b : List X) → ((u : ℕ) (x : X) → Q u x → P x) →
+    ((x : X) → P x → (u : ℕ) × (u < n) × Q u x) → AddsAll a b (BelowAll Q n) → AddsAll a b P
 all_numbers Q P n a b to from h = all_as a b (BelowAll Q n) P (λ x m. to m.0 x m.2) from h

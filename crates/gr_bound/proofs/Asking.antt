@@ -21,11 +21,13 @@ use Rattle.gr_bound.specs.Workspaces.{IsPackageAt, FindsDeclaration, FindsDeclar
 use Rattle.gr_bound.proofs.Units.{one_package}
 
 -- the package of a folder is asked
-pub asked : (w : Workspace) (known : Verdicts) (n : ℕ) (p : Package) (path : List ℕ) → IsPackageAt w known n p → slice_get (package_paths w) n ≡ Some (folder path) → IsAskedIn w known path p
+pub asked : (w : Workspace) (known : Verdicts) (n : ℕ) (p : Package) (path : List ℕ) → IsPackageAt w known n p →
+    slice_get (package_paths w) n ≡ Some (folder path) → IsAskedIn w known path p
 asked w known n p path is at = record { is_package = is.is_package; of_folder = same_Some p.path (folder path) (sym is.has_number ∙ at) }
 
 -- a folder that is that of no package
-pub no_folder : (w : Workspace) (known : Verdicts) (path : List ℕ) → (Contains (package_paths w) (folder path) → ⊥) → (p : Package) → IsAskedIn w known path p → ⊥
+pub no_folder : (w : Workspace) (known : Verdicts) (path : List ℕ) → (Contains (package_paths w) (folder path) → ⊥) → (p : Package) →
+    IsAskedIn w known path p → ⊥
 no_folder w known path none p is = none (subst (Contains (package_paths w)) is.of_folder is.is_package.of_workspace)
 
 module _ (w : Workspace) (known : Verdicts) (path : List ℕ) (offset : ℕ) (p : Package) (is : IsAskedIn w known path p) where
@@ -128,7 +130,8 @@ module _ (w : Workspace) (known : Verdicts) (n : ℕ) (path : List ℕ) (offset 
 
 -- why there are no uses
 
-pub tells_refusal : (w : Workspace) (known : Verdicts) → AreVerdicts w known → (path : List ℕ) (offset : ℕ) (r : Refusal) → FindsDeclaration w known path offset (Err r) → TellsUsesAt w path offset (Err r)
+pub tells_refusal : (w : Workspace) (known : Verdicts) → AreVerdicts w known → (path : List ℕ) (offset : ℕ) (r : Refusal) →
+    FindsDeclaration w known path offset (Err r) → TellsUsesAt w path offset (Err r)
 tells_refusal w known right path offset refusal.Memory h = h
 tells_refusal w known right path offset refusal.BadCommand h = absurd h
 tells_refusal w known right path offset refusal.BadPath h = absurd h
@@ -157,15 +160,18 @@ tells_refusal w known right path offset refusal.BodyShort h = absurd h
 
 -- the list of uses
 
-pub lists_uses : (w : Workspace) (known : Verdicts) → AreVerdicts w known → (path : List ℕ) (offset : ℕ) (d : Declaration) (places : List Place) → HasDeclaration w known path offset d → ListsFound w known d places →
+pub lists_uses : (w : Workspace) (known : Verdicts) → AreVerdicts w known → (path : List ℕ) (offset : ℕ) (d : Declaration) (places : List Place) →
+    HasDeclaration w known path offset d → ListsFound w known d places →
     ListsUses w path offset places
-lists_uses w known right path offset d places is h = record { known = known; right = right; declaration = d; is_asked = is; in_order = h.in_order; each = h.each }
+lists_uses w known right path offset d places is h =
+    record { known = known; right = right; declaration = d; is_asked = is; in_order = h.in_order; each = h.each }
 
 abbrev spot_at : Place → Spot
 spot_at place = record { path = place.path; offset = place.offset }
 
 -- the list of the places that were found
-pub lists_found : (w : Workspace) (known : Verdicts) (d : Declaration) (places : List Place) (old found : List Spot) → old ≡ [] → IsStrictlySortedBy place_cmp places →
+pub lists_found : (w : Workspace) (known : Verdicts) (d : Declaration) (places : List Place) (old found : List Spot) → old ≡ [] →
+    IsStrictlySortedBy place_cmp places →
     ((s : Spot) → Contains places (place_of s) ↔ Contains found s) → Adds old found (IsUseOf w known d) → ListsFound w known d places
 lists_found w known d places old found e up held added = record {
   in_order = up;

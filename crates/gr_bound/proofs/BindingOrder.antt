@@ -45,10 +45,12 @@ bound_in_range w known IsOf b h = (h.number, number_within w known h.number h.bo
 abbrev pub compared : Place → BoundSpot → Ordering
 compared place b = place_cmp (place_at b) place
 
-pub found_is : (bs : List BoundSpot) (place : Place) (n : ℕ) (b : BoundSpot) → n < length bs → b ≡ get_or bs n b → HoldsAt (λ x. compared place x ≡ Equal) bs n → Contains bs b × (place_at b ≡ place)
+pub found_is : (bs : List BoundSpot) (place : Place) (n : ℕ) (b : BoundSpot) → n < length bs → b ≡ get_or bs n b →
+    HoldsAt (λ x. compared place x ≡ Equal) bs n → Contains bs b × (place_at b ≡ place)
 found_is bs place n b lt is at = ((n, lt, sym is), place_cmp_exact (place_at b) place (subst (λ x. compared place x ≡ Equal) (sym is) (at b)))
 
-pub rises : (bs : List BoundSpot) (place : Place) → IsSortedBy (λ a b. is_lt (place_cmp (place_at a) (place_at b))) bs → IsNonDecreasingBy (λ y. ordering_index (compared place y)) bs
+pub rises : (bs : List BoundSpot) (place : Place) → IsSortedBy (λ a b. is_lt (place_cmp (place_at a) (place_at b))) bs →
+    IsNonDecreasingBy (λ y. ordering_index (compared place y)) bs
 rises bs place sorted = searchable_from_sorted place_cmp_total place_at bs place sorted
 
 not_tied : (o : Ordering) (x y : Place) → place_cmp x y ≡ o → (o ≡ Equal → ⊥) → x ≡ y → ⊥
@@ -60,14 +62,16 @@ less_differs e = true≢false (ap is_lt e)
 greater_differs : Greater ≡ Equal → ⊥
 greater_differs e = let z : ⊥ = cc in z
 
-none_in : (bs : List BoundSpot) (place : Place) (i : ℕ) → IsPartitionPoint (λ x. compared place x ≡ Less) (λ x. compared place x ≡ Greater) bs i → (b : BoundSpot) → Contains bs b → place_at b ≡ place → ⊥
+none_in : (bs : List BoundSpot) (place : Place) (i : ℕ) → IsPartitionPoint (λ x. compared place x ≡ Less) (λ x. compared place x ≡ Greater) bs i →
+    (b : BoundSpot) → Contains bs b → place_at b ≡ place → ⊥
 none_in bs place i split b has same = elim (cases_lt has.0 i) [
   | inl h ↦ not_tied Less (place_at b) place (subst (λ x. compared place x ≡ Less) has.2 (split.0 has.0 b (omega arith) h)) less_differs same
   | inr h ↦ not_tied Greater (place_at b) place (subst (λ x. compared place x ≡ Greater) has.2 (split.1 has.0 b h has.1)) greater_differs same
 ]
 
 pub none_is : (bs : List BoundSpot) (place : Place) (i : ℕ) → IsSortedBy (λ a b. is_lt (place_cmp (place_at a) (place_at b))) bs →
-    (IsNonDecreasingBy (λ y. ordering_index (compared place y)) bs → IsPartitionPoint (λ x. compared place x ≡ Less) (λ x. compared place x ≡ Greater) bs i) → (b : BoundSpot) → Contains bs b → place_at b ≡ place → ⊥
+    (IsNonDecreasingBy (λ y. ordering_index (compared place y)) bs →
+    IsPartitionPoint (λ x. compared place x ≡ Less) (λ x. compared place x ≡ Greater) bs i) → (b : BoundSpot) → Contains bs b → place_at b ≡ place → ⊥
 none_is bs place i sorted found = none_in bs place i (found (rises bs place sorted))
 
 -- all that was added to nothing, in order
@@ -83,7 +87,8 @@ all_added P found sorted added same b = (
 )
 
 -- the bindings of a workspace
-pub all_bound : (w : Workspace) (known : Verdicts) (found sorted : List BoundSpot) → AddsAll [] found (IsBound w known) → IsSortedBy (λ a b. is_lt (place_cmp (place_at a) (place_at b))) sorted →
+pub all_bound : (w : Workspace) (known : Verdicts) (found sorted : List BoundSpot) → AddsAll [] found (IsBound w known) →
+    IsSortedBy (λ a b. is_lt (place_cmp (place_at a) (place_at b))) sorted →
     ((b : BoundSpot) → Contains sorted b ↔ Contains found b) → AreBindings w known sorted
 all_bound w known found sorted added order same = record { in_order = order; each = all_added (IsBound w known) found sorted added same }
 
@@ -94,11 +99,13 @@ pub all_among : (w : Workspace) (known : Verdicts) (IsOf : ℕ → Type 0) (foun
 all_among w known IsOf found sorted added order same = record { in_order = order; each = all_added (IsBoundAmong w known IsOf) found sorted added same }
 
 -- one of the bound identifiers that begin at a place
-pub bound_at : (w : Workspace) (known : Verdicts) (bs : List BoundSpot) (place : Place) (b : BoundSpot) → AreBindings w known bs → Contains bs b × (place_at b ≡ place) → IsUseOf w known b.declaration place
+pub bound_at : (w : Workspace) (known : Verdicts) (bs : List BoundSpot) (place : Place) (b : BoundSpot) → AreBindings w known bs → Contains bs b ×
+    (place_at b ≡ place) → IsUseOf w known b.declaration place
 bound_at w known bs place b are is = subst (IsUseOf w known b.declaration) is.1 ((are.each b).0 is.0)
 
 -- and where there is none nothing is bound there
-pub unbound_at : (w : Workspace) (known : Verdicts) (bs : List BoundSpot) (place : Place) → AreBindings w known bs → ((b : BoundSpot) → Contains bs b → place_at b ≡ place → ⊥) → (d : Declaration) → IsUseOf w known d place → ⊥
+pub unbound_at : (w : Workspace) (known : Verdicts) (bs : List BoundSpot) (place : Place) → AreBindings w known bs →
+    ((b : BoundSpot) → Contains bs b → place_at b ≡ place → ⊥) → (d : Declaration) → IsUseOf w known d place → ⊥
 unbound_at w known bs place are none d use_of =
     let b : BoundSpot = record { spot = record { path = place.path; offset = place.offset }; declaration = d } in
     none b ((are.each b).1 use_of) refl

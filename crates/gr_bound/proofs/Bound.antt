@@ -38,7 +38,8 @@ number_of_predeclared p d lt u = ((λ h. h.1), (λ b. (lt, b)))
 pub number_beyond : (p : Package) (d : ℕ) → 11 ≤ d → (u : ℕ) → BindsByScope p u (Predeclared d) → ⊥
 number_beyond p d ge u h = let lt : d < 11 = h.0 in absurd (omega arith)
 
-pub number_of_declared : (p : Package) (path : List ℕ) (d : ℕ) → 11 ≤ d → path ≡ p.path → (u : ℕ) → BindsByScope p u (Declared path d) ↔ IsBoundTo p.layout p.names u d
+pub number_of_declared : (p : Package) (path : List ℕ) (d : ℕ) → 11 ≤ d → path ≡ p.path → (u : ℕ) →
+    BindsByScope p u (Declared path d) ↔ IsBoundTo p.layout p.names u d
 number_of_declared p path d ge e u =
     let unknown : IsPredeclared d → ⊥ = λ h. let lt : d < 11 = h in absurd (omega arith) in
     ((λ h. h.2), (λ b. (e, unknown, b)))

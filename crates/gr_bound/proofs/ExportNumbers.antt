@@ -34,7 +34,8 @@ still p n name (Some d) not h = record { below = let lt = h.below in omega arith
 pub same_numbers : (p : Package) (n : ℕ) (numbers : List ℕ → Option ℕ) → (IsSeen p n → ⊥) → AreNumbersBelow p n numbers → AreNumbersBelow p (n + 1) numbers
 same_numbers p n numbers not h = λ name. still p n name (numbers name) (λ seen named. not seen) (h name)
 
-pub one_more_number : (p : Package) (n : ℕ) (old new : BTreeMap (Vec ℕ) ℕ) (key : Vec ℕ) → key.items ≡ p.names n → Updates (λ a b. slice_cmp nat_cmp a.items b.items) old new key (Some n) → IsSeen p n →
+pub one_more_number : (p : Package) (n : ℕ) (old new : BTreeMap (Vec ℕ) ℕ) (key : Vec ℕ) → key.items ≡ p.names n →
+    Updates (λ a b. slice_cmp nat_cmp a.items b.items) old new key (Some n) → IsSeen p n →
     AreNumbersBelow p n (number_named old) → AreNumbersBelow p (n + 1) (number_named new)
 one_more_number p n old new key is u seen h = λ name. elim (cases_bytes key.items name) [
   | inl at ↦
@@ -50,7 +51,8 @@ no_numbers p numbers none = λ name. subst (FoundBelow p 0 name) (sym (none name
 
 -- all declarations
 
-found_of_all : (p : Package) (n : ℕ) (name : List ℕ) (o : Option ℕ) → ((d : ℕ) → IsSeen p d → d < n) → FoundBelow p n name o → MatchOption o ((d : ℕ) → IsSeen p d → p.names d ≡ name → ⊥) (λ d. IsSeen p d × (p.names d ≡ name))
+found_of_all : (p : Package) (n : ℕ) (name : List ℕ) (o : Option ℕ) → ((d : ℕ) → IsSeen p d → d < n) → FoundBelow p n name o →
+    MatchOption o ((d : ℕ) → IsSeen p d → p.names d ≡ name → ⊥) (λ d. IsSeen p d × (p.names d ≡ name))
 found_of_all p n name None within h = λ d seen named. h d (record { below = within d seen; seen = seen; named = named })
 found_of_all p n name (Some d) within h = (h.seen, h.named)
 
@@ -59,15 +61,19 @@ all_numbers_of p n numbers within h = λ name. found_of_all p n name (numbers na
 
 -- what the package of a path exports under a name
 
-pub not_exported : (w : Workspace) (known : Verdicts) (path name : List ℕ) (n : ℕ) (numbers : BTreeMap (Vec ℕ) ℕ) → slice_get (package_paths w) n ≡ Some path → AreNumbersAt w known n numbers → number_named numbers name ≡ None →
+pub not_exported : (w : Workspace) (known : Verdicts) (path name : List ℕ) (n : ℕ) (numbers : BTreeMap (Vec ℕ) ℕ) →
+    slice_get (package_paths w) n ≡ Some path → AreNumbersAt w known n numbers → number_named numbers name ≡ None →
     (d : Declaration) → ExportsAs w known path name d → ⊥
 not_exported w known path name n numbers at are is =
-    none_exported w known path name are.0 are.1.0.is_package (same_Some _ _ (sym are.1.0.has_number ∙ at)) (subst (λ o. MatchOption o ((d : ℕ) → IsSeen are.0 d → are.0.names d ≡ name → ⊥) (λ d. IsSeen are.0 d × (are.0.names d ≡ name))) is (are.1.1 name))
+    none_exported w known path name are.0 are.1.0.is_package (same_Some _ _ (sym are.1.0.has_number ∙ at))
+    (subst (λ o. MatchOption o ((d : ℕ) → IsSeen are.0 d → are.0.names d ≡ name → ⊥) (λ d. IsSeen are.0 d × (are.0.names d ≡ name))) is (are.1.1 name))
 
-pub is_exported : (w : Workspace) (known : Verdicts) (path name : List ℕ) (n : ℕ) (numbers : BTreeMap (Vec ℕ) ℕ) (d : ℕ) → slice_get (package_paths w) n ≡ Some path → AreNumbersAt w known n numbers → number_named numbers name ≡ Some d →
+pub is_exported : (w : Workspace) (known : Verdicts) (path name : List ℕ) (n : ℕ) (numbers : BTreeMap (Vec ℕ) ℕ) (d : ℕ) →
+    slice_get (package_paths w) n ≡ Some path → AreNumbersAt w known n numbers → number_named numbers name ≡ Some d →
     (other : List ℕ) → other ≡ path → ExportsAs w known path name (Declared other d)
 is_exported w known path name n numbers d at are is =
-    let found = subst (λ o. MatchOption o ((d : ℕ) → IsSeen are.0 d → are.0.names d ≡ name → ⊥) (λ d. IsSeen are.0 d × (are.0.names d ≡ name))) is (are.1.1 name) in
+    let found = subst (λ o. MatchOption o ((d : ℕ) → IsSeen are.0 d → are.0.names d ≡ name → ⊥) (λ d. IsSeen are.0 d × (are.0.names d ≡ name))) is
+    (are.1.1 name) in
     number_exported w known path name are.0 are.1.0.is_package (same_Some _ _ (sym are.1.0.has_number ∙ at)) d found.0 found.1
 
 -- what the package of a number exports under a name

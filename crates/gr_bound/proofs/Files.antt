@@ -13,7 +13,8 @@ use Rattle.gr_bound.specs.Identifiers.{IsName, NameBegins}
 use Rattle.gr_bound.specs.Steps.{Adds}
 use Rattle.gr_bound.proofs.Adding.{adds_none, adds_one}
 
-pub file_at : (files : List FileParts) (k : ℕ) (f : FileParts) → k < length files → f ≡ get_or files k f → slice_get (map source_of files) k ≡ Some (source_of f)
+pub file_at : (files : List FileParts) (k : ℕ) (f : FileParts) → k < length files → f ≡ get_or files k f →
+    slice_get (map source_of files) k ≡ Some (source_of f)
 file_at files k f lt e = slice_get-map source_of files k ∙ ap (option_map source_of) (slice_get_read files (length files) k f refl lt e)
 
 pub no_file : (files : List FileParts) (k : ℕ) → length files ≤ k → slice_get (map source_of files) k ≡ None
@@ -34,20 +35,27 @@ same_spot : (f : SourceFile) (token : ℕ) (s t : Spot) → NameBegins (Some f) 
 same_spot f token s t h k = ap (λ p. spot_from p s.offset) (sym h.1 ∙ k.1) ∙ ap (λ o. spot_from t.path o) (sym h.2 ∙ k.2)
 
 -- the place of a name of a file is pushed
-pub name_pushed : (a b : List Spot) (f : SourceFile) (token : ℕ) (s : Spot) → IsName (slice_get (tokens_in f.cut) token) → b ≡ a ++ s ∷ [] → f.path ≡ s.path → offset_of f token ≡ s.offset →
+pub name_pushed : (a b : List Spot) (f : SourceFile) (token : ℕ) (s : Spot) → IsName (slice_get (tokens_in f.cut) token) → b ≡ a ++ s ∷ [] →
+    f.path ≡ s.path → offset_of f token ≡ s.offset →
     Adds a b (λ place. NameBegins (Some f) token place.path place.offset)
 name_pushed a b f token s named pushed path_is offset_is =
-    adds_one a b s (λ place. NameBegins (Some f) token place.path place.offset) pushed (named, path_is, offset_is) (λ t h. same_spot f token s t (named, path_is, offset_is) h)
+    adds_one a b s (λ place. NameBegins (Some f) token place.path place.offset) pushed (named, path_is, offset_is)
+    (λ t h. same_spot f token s t (named, path_is, offset_is) h)
 
 -- a token that is no name
-pub not_a_name : (a : List Spot) (f : SourceFile) (token : ℕ) → (IsName (slice_get (tokens_in f.cut) token) → ⊥) → Adds a a (λ place. NameBegins (Some f) token place.path place.offset)
+pub not_a_name : (a : List Spot) (f : SourceFile) (token : ℕ) → (IsName (slice_get (tokens_in f.cut) token) → ⊥) →
+    Adds a a (λ place. NameBegins (Some f) token place.path place.offset)
 not_a_name a f token none = adds_none a (λ place. NameBegins (Some f) token place.path place.offset) (λ place h. none h.0)
 
 -- the same by the number of the file
-pub name_in_file : {E : Type 0} (a b : List Spot) (r : Result (Unit {0}) E) (files : List FileParts) (k token : ℕ) (f : FileParts) → k < length files → f ≡ get_or files k f →
-    OnOk r (Adds a b (λ place. NameBegins (Some (source_of f)) token place.path place.offset)) → OnOk r (Adds a b (λ place. NameBegins (slice_get (map source_of files) k) token place.path place.offset))
-name_in_file a b r files k token f lt e h = subst (λ o. OnOk r (Adds a b (λ place. NameBegins o token place.path place.offset))) (sym (file_at files k f lt e)) h
+pub name_in_file : {E : Type 0} (a b : List Spot) (r : Result (Unit {0}) E) (files : List FileParts) (k token : ℕ) (f : FileParts) → k < length files →
+    f ≡ get_or files k f →
+    OnOk r (Adds a b (λ place. NameBegins (Some (source_of f)) token place.path place.offset)) →
+    OnOk r (Adds a b (λ place. NameBegins (slice_get (map source_of files) k) token place.path place.offset))
+name_in_file a b r files k token f lt e h = subst (λ o. OnOk r (Adds a b (λ place. NameBegins o token place.path place.offset)))
+    (sym (file_at files k f lt e)) h
 
 -- beyond the last file there is none
-pub no_place : (a : List Spot) (files : List FileParts) (k token : ℕ) → length files ≤ k → Adds a a (λ place. NameBegins (slice_get (map source_of files) k) token place.path place.offset)
+pub no_place : (a : List Spot) (files : List FileParts) (k token : ℕ) → length files ≤ k →
+    Adds a a (λ place. NameBegins (slice_get (map source_of files) k) token place.path place.offset)
 no_place a files k token le = adds_none a _ (λ place h. subst (λ o. NameBegins o token place.path place.offset) (no_file files k le) h)

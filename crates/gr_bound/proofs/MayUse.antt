@@ -51,7 +51,8 @@ module _ (w : Workspace) (known : Verdicts) (home n : ℕ) (other : home ≡ n �
   not_own path at same = other (one_number (package_paths w) (paths_sorted w) home n path at (is.has_number ∙ ap Some (sym same)))
 
   -- a declaration of a scope is used behind the name of its package
-  pub used_behind : (path : List ℕ) (d : ℕ) (name : Option (List ℕ)) (u : ℕ) → slice_get (package_paths w) home ≡ Some path → BindsIn p (Declared path d) name u →
+  pub used_behind : (path : List ℕ) (d : ℕ) (name : Option (List ℕ)) (u : ℕ) → slice_get (package_paths w) home ≡ Some path →
+      BindsIn p (Declared path d) name u →
       (name ≡ None → ⊥) × PackageImports w p.path path
   used_behind path d name u at (by_scope h) = absurd (not_own path at h.0)
   used_behind path d None u at (by_package h) = absurd h
@@ -81,7 +82,8 @@ module _ (w : Workspace) (known : Verdicts) (home n : ℕ) (other : home ≡ n �
 
 -- where a member is used
 module _ (w : Workspace) (known : Verdicts) (right : AreVerdicts w known) (n : ℕ) (p : Package) (is : IsPackageAt w known n p) where
-  owned_within : (definitions : Symbol → Definition) (are : AreDefinitions p definitions) (d : Declaration) → IsOwned w known right p is.is_package definitions are d → (path : List ℕ) → home_path d ≡ Some path →
+  owned_within : (definitions : Symbol → Definition) (are : AreDefinitions p definitions) (d : Declaration) →
+      IsOwned w known right p is.is_package definitions are d → (path : List ℕ) → home_path d ≡ Some path →
       IsInClosure w p.path path
   owned_within definitions are (Predeclared k) o path e = absurd o
   owned_within definitions are (Declared q k) o path e = absurd o
@@ -92,10 +94,13 @@ module _ (w : Workspace) (known : Verdicts) (right : AreVerdicts w known) (n : �
   pub member_within : (file token : ℕ) (d : Declaration) → IsMemberAt p file token d → (path : List ℕ) → home_path d ≡ Some path → IsInClosure w p.path path
   member_within file token d m path e =
       let world = m.judged.judged_by in
-      let owned = member_owned w known right p is.is_package world.definitions world.are_definitions (spelling_of m.judged.source token) m.found.before m.member (sym (world.member token m.found.before) ∙ m.is_member) in
-      owned_within world.definitions world.are_definitions d (subst (λ x. IsOwned w known right p is.is_package world.definitions world.are_definitions x) m.declares owned) path e
+      let owned = member_owned w known right p is.is_package world.definitions world.are_definitions (spelling_of m.judged.source token) m.found.before
+      m.member (sym (world.member token m.found.before) ∙ m.is_member) in
+      owned_within world.definitions world.are_definitions d
+      (subst (λ x. IsOwned w known right p is.is_package world.definitions world.are_definitions x) m.declares owned) path e
 
-  pub member_reached : (home file token : ℕ) (d : Declaration) → IsMemberAt p file token d → slice_get (package_paths w) home ≡ home_path d → (path : List ℕ) × ((slice_get (package_paths w) home ≡ Some path) × IsInClosure w p.path path)
+  pub member_reached : (home file token : ℕ) (d : Declaration) → IsMemberAt p file token d → slice_get (package_paths w) home ≡ home_path d →
+      (path : List ℕ) × ((slice_get (package_paths w) home ≡ Some path) × IsInClosure w p.path path)
   member_reached home file token d m at =
       let path = (member_symbol m.member).package in
       let of_path : home_path d ≡ Some path = ap home_path (sym m.declares) ∙ member_home m.member in

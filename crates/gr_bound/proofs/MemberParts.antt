@@ -46,18 +46,23 @@ not_declared (plain.ABrokenMethod s) path d e = cc
 
 -- definitions
 
-seen_own : (unit : PackageUnit) (own : List Definition) (s : Symbol) → unit.path.now ≡ s.package → definitions_seen unit own s ≡ definition_or_none s (slice_get own s.rank)
-seen_own unit own s e = ap (λ t. definition_or_none s (if t then slice_get own s.rank else imported_at unit.interfaces.now.definitions s)) ((bytes_decides unit.path.now s.package).1 e)
+seen_own : (unit : PackageUnit) (own : List Definition) (s : Symbol) → unit.path.now ≡ s.package →
+    definitions_seen unit own s ≡ definition_or_none s (slice_get own s.rank)
+seen_own unit own s e = ap (λ t. definition_or_none s (if t then slice_get own s.rank else imported_at unit.interfaces.now.definitions s))
+    ((bytes_decides unit.path.now s.package).1 e)
 
 differs : (a b : List ℕ) → (a ≡ b → ⊥) → (t : Bool) → same_path a b ≡ t → t ≡ false
 differs a b n true e = absurd (n ((bytes_decides a b).0 e))
 differs a b n false e = refl
 
-seen_other : (unit : PackageUnit) (own : List Definition) (s : Symbol) → (unit.path.now ≡ s.package → ⊥) → definitions_seen unit own s ≡ definition_or_none s (imported_at unit.interfaces.now.definitions s)
+seen_other : (unit : PackageUnit) (own : List Definition) (s : Symbol) → (unit.path.now ≡ s.package → ⊥) →
+    definitions_seen unit own s ≡ definition_or_none s (imported_at unit.interfaces.now.definitions s)
 seen_other unit own s n =
-    ap (λ t. definition_or_none s (if t then slice_get own s.rank else imported_at unit.interfaces.now.definitions s)) (differs unit.path.now s.package n (same_path unit.path.now s.package) refl)
+    ap (λ t. definition_or_none s (if t then slice_get own s.rank else imported_at unit.interfaces.now.definitions s))
+    (differs unit.path.now s.package n (same_path unit.path.now s.package) refl)
 
-pub seen_definitions : (unit : PackageUnit) (own : List Definition) → KnowsOwn (package_of unit) own → AreDefinitions (package_of unit) (definitions_seen unit own)
+pub seen_definitions : (unit : PackageUnit) (own : List Definition) → KnowsOwn (package_of unit) own →
+    AreDefinitions (package_of unit) (definitions_seen unit own)
 seen_definitions unit own h =
     let p = package_of unit in
     record {
@@ -72,10 +77,12 @@ pub one_list : (p : Package) → IsOneWorld p → (file : ℕ) (us vs : List Mem
 one_list p one file us vs a b =
     let sources = same_Some a.source b.source (sym a.in_file ∙ b.in_file) in
     let worlds : a.world ≡ b.world = one file b.source a.world b.world (subst (λ s. IsWorldOf p file s a.world) sources a.judged_by) b.judged_by in
-    a.found ∙ (ap (λ s. (check_file a.world (is_init s) s.tree).uses) sources ∙ ap (λ w. (check_file w (is_init b.source) b.source.tree).uses) worlds) ∙ sym b.found
+    a.found ∙ (ap (λ s. (check_file a.world (is_init s) s.tree).uses) sources ∙ ap (λ w. (check_file w (is_init b.source) b.source.tree).uses) worlds) ∙
+    sym b.found
 
 -- what the world of a file says of a member
-world_member : (p : Package) → WellFormed p.layout → (ds : Symbol → plain.Definition) → AreDefinitions p ds → (file : ℕ) (us : List MemberUse) (a : AreUsesIn p file us) (token : ℕ) (t : PlainType) →
+world_member : (p : Package) → WellFormed p.layout → (ds : Symbol → plain.Definition) → AreDefinitions p ds →
+    (file : ℕ) (us : List MemberUse) (a : AreUsesIn p file us) (token : ℕ) (t : PlainType) →
     a.world.member token t ≡ member_by ds p.path (spelled p file token) t
 world_member p formed ds are file us a token t =
     a.judged_by.member token t
@@ -88,7 +95,8 @@ some_member (Some m) d e = (m, (refl, same_Some (declaration_of m) d e))
 
 -- the member at a token, by the member uses of its file
 module _ (p : Package) (formed : WellFormed p.layout) (one : IsOneWorld p) (ds : Symbol → plain.Definition) (are : AreDefinitions p ds) where
-  pub member_in : (file : ℕ) (us : List MemberUse) → AreUsesIn p file us → (token : ℕ) (d : Declaration) → IsMemberAt p file token d → IsMemberIn ds p file us token d
+  pub member_in : (file : ℕ) (us : List MemberUse) → AreUsesIn p file us → (token : ℕ) (d : Declaration) → IsMemberAt p file token d →
+      IsMemberIn ds p file us token d
   member_in file us judged token d m = record {
     found = m.found;
     is_use = subst (λ l. Contains l m.found) (one_list p one file m.uses us m.judged judged) m.is_use;
@@ -99,7 +107,8 @@ module _ (p : Package) (formed : WellFormed p.layout) (one : IsOneWorld p) (ds :
         ∙ ap Some m.declares;
   }
 
-  pub member_from : (file : ℕ) (us : List MemberUse) → AreUsesIn p file us → (token : ℕ) (d : Declaration) → IsMemberIn ds p file us token d → IsMemberAt p file token d
+  pub member_from : (file : ℕ) (us : List MemberUse) → AreUsesIn p file us → (token : ℕ) (d : Declaration) → IsMemberIn ds p file us token d →
+      IsMemberAt p file token d
   member_from file us judged token d m =
       let found = some_member (member_by ds p.path (spelled p file m.found.place) m.found.before) d m.is_member in
       record {
@@ -118,10 +127,12 @@ module _ (p : Package) (formed : WellFormed p.layout) (one : IsOneWorld p) (ds :
 
 -- the lists of a package's files
 
-pub file_uses : (p : Package) (members : List (Vec FoundUse)) → AreMemberUses p (map uses_in members) → (file : ℕ) (v : Vec FoundUse) → slice_get members file ≡ Some v → AreUsesIn p file (uses_in v)
+pub file_uses : (p : Package) (members : List (Vec FoundUse)) → AreMemberUses p (map uses_in members) → (file : ℕ) (v : Vec FoundUse) →
+    slice_get members file ≡ Some v → AreUsesIn p file (uses_in v)
 file_uses p members h file v e = h.each file (uses_in v) (slice_get-map uses_in members file ∙ ap (option_map uses_in) e)
 
-pub has_uses : (p : Package) (members : List (Vec FoundUse)) → AreMemberUses p (map uses_in members) → (file : ℕ) (us : List MemberUse) → AreUsesIn p file us → file < length members
+pub has_uses : (p : Package) (members : List (Vec FoundUse)) → AreMemberUses p (map uses_in members) → (file : ℕ) (us : List MemberUse) →
+    AreUsesIn p file us → file < length members
 has_uses p members h file us a =
     let within : file < length p.files = slice_get_within p.files file a.source a.in_file in
     let size : length (map uses_in members) ≡ length p.files = h.all in
@@ -129,16 +140,19 @@ has_uses p members h file us a =
     omega (arith, within, size, same)
 
 -- the member that was found at a token is the one
-pub found_member : (p : Package) (formed : WellFormed p.layout) (one : IsOneWorld p) (ds : Symbol → plain.Definition) (are : AreDefinitions p ds) (members : List (Vec FoundUse)) →
+pub found_member : (p : Package) (formed : WellFormed p.layout) (one : IsOneWorld p) (ds : Symbol → plain.Definition) (are : AreDefinitions p ds)
+    (members : List (Vec FoundUse)) →
     AreMemberUses p (map uses_in members) → (file token : ℕ) (us : List FoundUse) → us ≡ uses_or_none (slice_get members file) → (o : Option Declaration) →
     IsDeclarationFound (IsMemberIn ds p file (map use_of us) token) o → IsDeclarationFound (IsMemberAt p file token) o
 found_member p formed one ds are members all file token us e o h = by_list (slice_get members file) refl
   where
-    none : (o : Option Declaration) → slice_get members file ≡ None → IsDeclarationFound (IsMemberIn ds p file [] token) o → IsDeclarationFound (IsMemberAt p file token) o
+    none : (o : Option Declaration) → slice_get members file ≡ None → IsDeclarationFound (IsMemberIn ds p file [] token) o →
+        IsDeclarationFound (IsMemberAt p file token) o
     none None past k = λ d m. let v = slice_get_some members file (has_uses p members all file m.uses m.judged) in absurd (none-some v.0 (sym past ∙ v.1))
     none (Some d) past k = let lt : k.is_use.0 < 0 = k.is_use.1 in absurd (omega arith)
 
-    some : (o : Option Declaration) (v : Vec FoundUse) → slice_get members file ≡ Some v → IsDeclarationFound (IsMemberIn ds p file (uses_in v) token) o → IsDeclarationFound (IsMemberAt p file token) o
+    some : (o : Option Declaration) (v : Vec FoundUse) → slice_get members file ≡ Some v → IsDeclarationFound (IsMemberIn ds p file (uses_in v) token) o →
+        IsDeclarationFound (IsMemberAt p file token) o
     some None v at k = λ d m. k d (member_in p formed one ds are file (uses_in v) (file_uses p members all file v at) token d m)
     some (Some d) v at k = member_from p formed one ds are file (uses_in v) (file_uses p members all file v at) token d k
 

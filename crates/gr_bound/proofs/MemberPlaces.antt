@@ -29,7 +29,8 @@ rank_of xs x h = (h.0, slice_get-get_or xs h.0 x h.1 ∙ ap Some h.2)
 
 -- the member use at a token
 
-pub at_token : (ds : Symbol → plain.Definition) (p : Package) (file token : ℕ) (x : MemberUse) → x.place ≡ token → (o : Option Declaration) → o ≡ member_at ds p file x.place x.before →
+pub at_token : (ds : Symbol → plain.Definition) (p : Package) (file token : ℕ) (x : MemberUse) → x.place ≡ token → (o : Option Declaration) →
+    o ≡ member_at ds p file x.place x.before →
     IsDeclarationFound (IsMemberIf ds p file token x) o
 at_token ds p file token x at None e = λ d h. none-some d (e ∙ h.1)
 at_token ds p file token x at (Some d) e = (at, sym e)
@@ -38,7 +39,8 @@ at_token ds p file token x at (Some d) e = (at, sym e)
 abbrev pub NoneBelow : (Symbol → plain.Definition) → Package → (file token : ℕ) → List MemberUse → ℕ → Type 0
 NoneBelow ds p file token uses k = (i : ℕ) (x : MemberUse) (d : Declaration) → i < k → slice_get uses i ≡ Some x → IsMemberIf ds p file token x d → ⊥
 
-pub none_next : (ds : Symbol → plain.Definition) (p : Package) (file token : ℕ) (uses : List MemberUse) (k : ℕ) (x : MemberUse) → slice_get uses k ≡ Some x → ((d : Declaration) → IsMemberIf ds p file token x d → ⊥) →
+pub none_next : (ds : Symbol → plain.Definition) (p : Package) (file token : ℕ) (uses : List MemberUse) (k : ℕ) (x : MemberUse) →
+    slice_get uses k ≡ Some x → ((d : Declaration) → IsMemberIf ds p file token x d → ⊥) →
     NoneBelow ds p file token uses k → NoneBelow ds p file token uses (k + 1)
 none_next ds p file token uses k x at none h = λ i y d lt has is. elim (cases_lt i k) [
   | inl below ↦ h i y d below has is
@@ -48,12 +50,14 @@ none_next ds p file token uses k x at none h = λ i y d lt has is. elim (cases_l
       none d (subst (λ z. IsMemberIf ds p file token z d) here is))
 ]
 
-pub none_among : (ds : Symbol → plain.Definition) (p : Package) (file token : ℕ) (uses : List MemberUse) (k : ℕ) → k ≡ length uses → NoneBelow ds p file token uses k → (d : Declaration) → IsMemberIn ds p file uses token d → ⊥
+pub none_among : (ds : Symbol → plain.Definition) (p : Package) (file token : ℕ) (uses : List MemberUse) (k : ℕ) → k ≡ length uses →
+    NoneBelow ds p file token uses k → (d : Declaration) → IsMemberIn ds p file uses token d → ⊥
 none_among ds p file token uses k e h d m =
     let r = rank_of uses m.found m.is_use in
     h r.0 m.found d (subst (λ n. r.0 < n) (sym e) (slice_get_within uses r.0 m.found r.1)) r.1 (m.at, m.is_member)
 
-pub one_among : (ds : Symbol → plain.Definition) (p : Package) (file token : ℕ) (uses : List MemberUse) (k : ℕ) (x : MemberUse) (d : Declaration) → slice_get uses k ≡ Some x → IsMemberIf ds p file token x d →
+pub one_among : (ds : Symbol → plain.Definition) (p : Package) (file token : ℕ) (uses : List MemberUse) (k : ℕ) (x : MemberUse) (d : Declaration) →
+    slice_get uses k ≡ Some x → IsMemberIf ds p file token x d →
     IsMemberIn ds p file uses token d
 one_among ds p file token uses k x d at is = record {
   found = x;
@@ -64,12 +68,16 @@ one_among ds p file token uses k x d at is = record {
 
 -- one member use
 
-pub use_added : {E : Type 0} (ds : Symbol → plain.Definition) (p : Package) (file : ℕ) (d : Declaration) (x : MemberUse) (a b : List Spot) (r : Result (Unit {0}) E) →
-    member_at ds p file x.place x.before ≡ Some d → OnOk r (Adds a b (AtToken p (record { file = file; index = x.place }))) → OnOk r (Adds a b (IsMemberUseOf ds p file d x))
+pub use_added : {E : Type 0} (ds : Symbol → plain.Definition) (p : Package) (file : ℕ) (d : Declaration) (x : MemberUse) (a b : List Spot)
+    (r : Result (Unit {0}) E) →
+    member_at ds p file x.place x.before ≡ Some d → OnOk r (Adds a b (AtToken p (record { file = file; index = x.place }))) →
+    OnOk r (Adds a b (IsMemberUseOf ds p file d x))
 use_added ds p file d x a b r is h =
-    call_adds a b (AtToken p (record { file = file; index = x.place })) (IsMemberUseOf ds p file d x) r (λ place t. record { at = t; is_member = is }) (λ place m. m.at) h
+    call_adds a b (AtToken p (record { file = file; index = x.place })) (IsMemberUseOf ds p file d x) r (λ place t. record { at = t; is_member = is })
+    (λ place m. m.at) h
 
-pub use_skipped : (ds : Symbol → plain.Definition) (p : Package) (file : ℕ) (d : Declaration) (x : MemberUse) (a : List Spot) → (member_at ds p file x.place x.before ≡ Some d → ⊥) →
+pub use_skipped : (ds : Symbol → plain.Definition) (p : Package) (file : ℕ) (d : Declaration) (x : MemberUse) (a : List Spot) →
+    (member_at ds p file x.place x.before ≡ Some d → ⊥) →
     Adds a a (IsMemberUseOf ds p file d x)
 use_skipped ds p file d x a none = adds_none a (IsMemberUseOf ds p file d x) (λ place m. none m.is_member)
 
@@ -85,7 +93,8 @@ one_ranked ds p file d uses k x a b at h =
     (λ place m. record { found = x; has_rank = at; is_use = m })
     (λ place m. subst (λ y. IsMemberUseOf ds p file d y place) (same_Some m.found x (sym m.has_rank ∙ at)) m.is_use) h
 
-pub all_ranked : (ds : Symbol → plain.Definition) (p : Package) (file : ℕ) (d : Declaration) (uses : List MemberUse) (n : ℕ) (a b : List Spot) → n ≡ length uses →
+pub all_ranked : (ds : Symbol → plain.Definition) (p : Package) (file : ℕ) (d : Declaration) (uses : List MemberUse) (n : ℕ) (a b : List Spot) →
+    n ≡ length uses →
     Adds a b (Below (IsMemberUseAt ds p file d uses) n) → Adds a b (IsMemberUseAmong ds p file d uses)
 all_ranked ds p file d uses n a b e h =
     adds_as a b (Below (IsMemberUseAt ds p file d uses) n) (IsMemberUseAmong ds p file d uses)
@@ -99,7 +108,8 @@ pub record IsFileUse (ds : Symbol → plain.Definition) (p : Package) (d : Decla
   pub has_rank : slice_get members file ≡ Some uses
   pub is_use : IsMemberUseAmong ds p file d (uses_in uses) place
 
-pub one_file : (ds : Symbol → plain.Definition) (p : Package) (d : Declaration) (members : List (Vec FoundUse)) (file : ℕ) (v : Vec FoundUse) (a b : List Spot) →
+pub one_file : (ds : Symbol → plain.Definition) (p : Package) (d : Declaration) (members : List (Vec FoundUse)) (file : ℕ) (v : Vec FoundUse)
+    (a b : List Spot) →
     slice_get members file ≡ Some v → Adds a b (IsMemberUseAmong ds p file d (uses_in v)) → Adds a b (IsFileUse ds p d members file)
 one_file ds p d members file v a b at h =
     adds_as a b (IsMemberUseAmong ds p file d (uses_in v)) (IsFileUse ds p d members file)
@@ -108,7 +118,8 @@ one_file ds p d members file v a b at h =
 
 -- what is found in all files is what is bound
 
-module _ (p : Package) (formed : WellFormed p.layout) (one : IsOneWorld p) (ds : Symbol → plain.Definition) (are : AreDefinitions p ds) (members : List (Vec FoundUse)) (all : AreMemberUses p (map uses_in members))
+module _ (p : Package) (formed : WellFormed p.layout) (one : IsOneWorld p) (ds : Symbol → plain.Definition) (are : AreDefinitions p ds)
+    (members : List (Vec FoundUse)) (all : AreMemberUses p (map uses_in members))
     (d : Declaration) (place : Place) where
   pub to_bound : (file : ℕ) → IsFileUse ds p d members file place → UsesIn p (λ u. BindsByMember p u d) place
   to_bound file h =
@@ -116,7 +127,11 @@ module _ (p : Package) (formed : WellFormed p.layout) (one : IsOneWorld p) (ds :
       let at = x.is_use.at in
       let in_list : IsMemberIn ds p file (uses_in h.uses) x.found.place d = record {
         found = x.found;
-        is_use = (h.is_use.0, slice_get_within (uses_in h.uses) h.is_use.0 x.found x.has_rank, get_or_from_slice_get (uses_in h.uses) h.is_use.0 x.found x.found x.has_rank);
+        is_use = (
+          h.is_use.0,
+          slice_get_within (uses_in h.uses) h.is_use.0 x.found x.has_rank,
+          get_or_from_slice_get (uses_in h.uses) h.is_use.0 x.found x.found x.has_rank,
+        );
         at = refl;
         is_member = x.is_use.is_member;
       } in
@@ -150,7 +165,8 @@ module _ (p : Package) (formed : WellFormed p.layout) (one : IsOneWorld p) (ds :
         ),
       )
 
-pub all_members : (p : Package) (formed : WellFormed p.layout) (one : IsOneWorld p) (ds : Symbol → plain.Definition) (are : AreDefinitions p ds) (members : List (Vec FoundUse)) →
+pub all_members : (p : Package) (formed : WellFormed p.layout) (one : IsOneWorld p) (ds : Symbol → plain.Definition) (are : AreDefinitions p ds)
+    (members : List (Vec FoundUse)) →
     AreMemberUses p (map uses_in members) → (d : Declaration) (n : ℕ) (a b : List Spot) → n ≡ length members → Adds a b (Below (IsFileUse ds p d members) n) →
     Adds a b (UsesIn p (λ u. BindsByMember p u d))
 all_members p formed one ds are members all d n a b e h =

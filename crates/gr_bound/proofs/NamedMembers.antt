@@ -6,7 +6,8 @@ use Rattle.std.proofs.lemmas.List.Elements.{Contains-append_right}
 use Rattle.std.proofs.lemmas.Option.{none-some, same_Some}
 use Rattle.gr_text.specs.Workspace.{Workspace}
 use Rattle.gr_tree.specs.SourceFile.{SourceFile, FileParts, source_of}
-use Rattle.gr_tree.specs.Tree.{Item, Group, single, several, FieldTree, BodyTree, Other, Struct, TypeSpecTree, ReceiverTree, DeclTree, VarDecl, TypeDecl, FuncDecl}
+use Rattle.gr_tree.specs.Tree.{Item, Group, single, several, FieldTree, BodyTree, Other, Struct, TypeSpecTree, ReceiverTree, DeclTree, VarDecl, TypeDecl}
+use Rattle.gr_tree.specs.Tree.{FuncDecl}
 use Rattle.gr_scope.specs.declared.model.Position.{Position}
 use Rattle.gr_scope.specs.declared.model.Purpose.TheVariants as purpose
 use Rattle.gr_scope.specs.declared.model.Role.TheVariants.{NotLexical}
@@ -17,7 +18,8 @@ use Rattle.gr_order.proofs.Members.{named_member_stands}
 use Rattle.gr_order.proofs.OwnPaths.{package_sources}
 use Rattle.gr_imports.specs.Files.{Ranked, ranked, group_items}
 use Rattle.gr_declared.specs.Definitions.{PlacedField, body_fields, fields_from, package_fields}
-use Rattle.gr_declared.specs.Package.{Package, PlacedType, PlacedFunction, placed_type, decl_types, decl_functions, types_in, functions_in, package_types, package_functions, function_place}
+use Rattle.gr_declared.specs.Package.{Package, PlacedType, PlacedFunction, placed_type, decl_types, decl_functions, types_in, functions_in, package_types}
+use Rattle.gr_declared.specs.Package.{package_functions, function_place}
 use Rattle.gr_meanings.proofs.DeclKinds.{Holds, holds_got}
 use Rattle.gr_verdict.specs.Verdicts.{Verdicts, IsPackageIn}
 use Rattle.gr_bound.specs.declared.declaration.Declaration.{Declaration}
@@ -98,7 +100,8 @@ body_field definition file (Struct k o fs c) f h =
     }) x.0.value.names f x.1.1 in (
       ap (λ (z : PlacedField). z.file) n.1.1,
       flat_holds (λ (i : Item FieldTree). field_names i.value) fs x.0 f.name x.1.0
-          (subst (λ q. Holds (field_names x.0.value) q) (ap (λ (z : PlacedField). z.name) n.1.1) (map_holds (λ (i : Item ℕ). i.value) x.0.value.names n.0 n.1.0)),
+          (subst (λ q. Holds (field_names x.0.value) q) (ap (λ (z : PlacedField). z.name) n.1.1)
+          (map_holds (λ (i : Item ℕ). i.value) x.0.value.names n.0 n.1.0)),
     )
 
 type_of_field : (rank : ℕ) (ds : List PlacedType) (f : PlacedField) → Holds (fields_from rank ds) f → (d : PlacedType) ×

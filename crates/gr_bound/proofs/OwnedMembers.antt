@@ -9,7 +9,8 @@ use Rattle.gr_text.specs.Workspace.{Workspace}
 use Rattle.gr_graph.specs.Packages.{IsInClosure, itself}
 use Rattle.gr_expr.specs.declared.symbol.Symbol.{Symbol}
 use Rattle.gr_expr.specs.Types.{PlainType}
-use Rattle.gr_expr.specs.World.{Member, AField, Field, Method, Definition, is_seen, seen_field, seen_method, field_of, method_of, a_method, first_member, struct_behind, owner, member_by}
+use Rattle.gr_expr.specs.World.{Member, AField, Field, Method, Definition, is_seen, seen_field, seen_method, field_of, method_of, a_method, first_member}
+use Rattle.gr_expr.specs.World.{struct_behind, owner, member_by}
 use Rattle.gr_expr.specs.WorldView.{no_definition}
 use Rattle.gr_declared.specs.Definitions.{IsDefinition, IsField, IsMethod, AreDefinitions}
 use Rattle.gr_declared.specs.Package.{Package, Interface, PlacedType, package_types, symbol_in}

@@ -45,7 +45,8 @@ first_refused w found are (Ok done) h = sound_by_list w found are h
 first_refused w found are (Err r) h = refusal_first w found r h
 
 -- the first fault is why there are no uses
-pub faults_refused : (w : Workspace) (found : Findings) (path : List ℕ) (offset : ℕ) (r : Refusal) → RefusesFaults w found (Err r) → TellsUsesIn w path offset (Err r)
+pub faults_refused : (w : Workspace) (found : Findings) (path : List ℕ) (offset : ℕ) (r : Refusal) → RefusesFaults w found (Err r) →
+    TellsUsesIn w path offset (Err r)
 faults_refused w found path offset refusal.Memory h = h
 faults_refused w found path offset refusal.BadCommand h = absurd h
 faults_refused w found path offset refusal.BadPath h = absurd h
@@ -73,7 +74,8 @@ faults_refused w found path offset refusal.BodyShort h = absurd h
 
 -- a workspace without faults
 
-refusal_told : (w : Workspace) (path : List ℕ) (offset : ℕ) → ListsFaults w [] → (r : Refusal) → TellsUsesAt w path offset (Err r) → TellsUsesIn w path offset (Err r)
+refusal_told : (w : Workspace) (path : List ℕ) (offset : ℕ) → ListsFaults w [] → (r : Refusal) → TellsUsesAt w path offset (Err r) →
+    TellsUsesIn w path offset (Err r)
 refusal_told w path offset list refusal.Memory h = h
 refusal_told w path offset list refusal.BadCommand h = absurd h
 refusal_told w path offset list refusal.BadPath h = absurd h
@@ -99,13 +101,15 @@ refusal_told w path offset list refusal.Already h = absurd h
 refusal_told w path offset list refusal.NoJob h = absurd h
 refusal_told w path offset list refusal.BodyShort h = absurd h
 
-pub uses_told : (w : Workspace) (path : List ℕ) (offset : ℕ) → ListsFaults w [] → (r : Result (List Place) Refusal) → TellsUsesAt w path offset r → TellsUsesIn w path offset r
+pub uses_told : (w : Workspace) (path : List ℕ) (offset : ℕ) → ListsFaults w [] → (r : Result (List Place) Refusal) → TellsUsesAt w path offset r →
+    TellsUsesIn w path offset r
 uses_told w path offset list (Ok places) h = (list, h)
 uses_told w path offset list (Err r) h = refusal_told w path offset list r h
 
 -- a file of the workspace
 
-refusal_of_file : (w : Workspace) (path : List ℕ) (offset : ℕ) → IsFile w path → (r : Refusal) → TellsUsesIn w path offset (Err r) → TellsUses w path offset (Err r)
+refusal_of_file : (w : Workspace) (path : List ℕ) (offset : ℕ) → IsFile w path → (r : Refusal) → TellsUsesIn w path offset (Err r) →
+    TellsUses w path offset (Err r)
 refusal_of_file w path offset is refusal.Memory h = h
 refusal_of_file w path offset is refusal.BadCommand h = absurd h
 refusal_of_file w path offset is refusal.BadPath h = absurd h
@@ -131,6 +135,7 @@ refusal_of_file w path offset is refusal.Already h = absurd h
 refusal_of_file w path offset is refusal.NoJob h = absurd h
 refusal_of_file w path offset is refusal.BodyShort h = absurd h
 
-pub uses_of_file : (w : Workspace) (path : List ℕ) (offset : ℕ) → IsFile w path → (r : Result (List Place) Refusal) → TellsUsesIn w path offset r → TellsUses w path offset r
+pub uses_of_file : (w : Workspace) (path : List ℕ) (offset : ℕ) → IsFile w path → (r : Result (List Place) Refusal) → TellsUsesIn w path offset r →
+    TellsUses w path offset r
 uses_of_file w path offset is (Ok places) h = (is, h.0, h.1)
 uses_of_file w path offset is (Err r) h = refusal_of_file w path offset is r h

@@ -34,7 +34,8 @@ same_spot x y e =
 pub contained : (xs : List Spot) (x y : Spot) (k : ℕ) → k < length xs → get_or xs k y ≡ y → equal.ghosts.eq x y ≡ true → Contains xs x
 contained xs x y k lt at e = subst (Contains xs) (same_spot x y e) (k, lt, at)
 
-all_after : (s : Spot) (xs : List Spot) → AllByRecursion (λ t. order.ghosts.cmp s t ≡ Less) xs → AllByRecursion (λ q. place_cmp (place_of s) q ≡ Less) (map place_of xs)
+all_after : (s : Spot) (xs : List Spot) → AllByRecursion (λ t. order.ghosts.cmp s t ≡ Less) xs →
+    AllByRecursion (λ q. place_cmp (place_of s) q ≡ Less) (map place_of xs)
 all_after s [] h = tt
 all_after s (x ∷ xs) h = (h.0, all_after s xs h.1)
 
@@ -53,7 +54,8 @@ held xs s = (
 )
 
 -- the same where another list of spots holds the same
-pub held_as : (places : List Place) (xs ys : List Spot) (s : Spot) → places ≡ map place_of xs → (Contains ys s → Contains xs s) → (Contains xs s → Contains ys s) → Contains places (place_of s) ↔ Contains ys s
+pub held_as : (places : List Place) (xs ys : List Spot) (s : Spot) → places ≡ map place_of xs → (Contains ys s → Contains xs s) →
+    (Contains xs s → Contains ys s) → Contains places (place_of s) ↔ Contains ys s
 held_as places xs ys s e to from = (
   (λ h. from ((held xs s).0 (subst (λ l. Contains l (place_of s)) e h))),
   (λ h. subst (λ l. Contains l (place_of s)) (sym e) ((held xs s).1 (to h))),

@@ -22,7 +22,8 @@ pub no_identifier : (p : Package) (u : ℕ) (a : List Spot) → is_implied (p.la
 no_identifier p u a implied = adds_none a _ (λ place h. true≢false (sym implied ∙ h.0.1))
 
 -- the identifier whose place was added
-pub an_identifier : {E : Type 0} (p : Package) (u : ℕ) (at : Position) (a b : List Spot) (r : Result (Unit {0}) E) → u < p.size → is_implied (p.layout.role u) ≡ false → at ≡ p.layout.place u →
+pub an_identifier : {E : Type 0} (p : Package) (u : ℕ) (at : Position) (a b : List Spot) (r : Result (Unit {0}) E) → u < p.size →
+    is_implied (p.layout.role u) ≡ false → at ≡ p.layout.place u →
     OnOk r (Adds a b (Begins p at)) → OnOk r (Adds a b (λ place. BeginsAt p place.path place.offset u))
 an_identifier p u at a b r lt stands e h =
     call_adds a b (Begins p at) (λ place. BeginsAt p place.path place.offset u) r

@@ -28,7 +28,8 @@ use Rattle.gr_verdict.specs.declared.finding.Finding.{Finding}
 use Rattle.gr_verdict.specs.declared.findings.Findings.{Findings}
 use Rattle.gr_verdict.specs.Faults.{placed, fault_cmp}
 use Rattle.gr_verdict.specs.FaultLists.{AreListed, ListsFaults}
-use Rattle.gr_verdict.specs.Found.{AreFindings, IsFinding, known_by}
+use Rattle.gr_verdict.specs.Found.{AreFindings}
+use Rattle.gr_verdict.specs.Told.{IsFinding, known_by}
 use Rattle.gr_verdict.specs.Verdicts.{Verdict, Verdicts, AreSeen, IsPackageIn, IsFaultBy, IsVerdictBy}
 use Rattle.gr_verdict.proofs.Alike.{fault_as}
 use Rattle.gr_verdict.proofs.Members.{empty_by, nothing_in, first_in, later_in}
@@ -45,12 +46,21 @@ empty_in_order = tt
 
 -- each file of a package without faults has a tree
 
-first_unread : {es : List (List ℕ × List ℕ)} {ts : List FileParts} {fs : List FaultyParts} → AreParsed es ts fs → (w : Workspace) (p : List ℕ) → ((e : List ℕ × List ℕ) → Contains es e → Contains (package_files w p) e) →
+first_unread : {es : List (List ℕ × List ℕ)} {ts : List FileParts} {fs : List FaultyParts} → AreParsed es ts fs → (w : Workspace) (p : List ℕ) →
+    ((e : List ℕ × List ℕ) → Contains es e → Contains (package_files w p) e) →
     (known : Verdicts) → ((f : FileFault) → IsFaultBy w known p f → ⊥) → fs ≡ []
 first_unread none w p within known sound = refl
 first_unread (tree {e = e} {es = es} is rest) w p within known sound = first_unread rest w p (λ x h. within x (later_in e es x h)) known sound
 first_unread (fault {e = e} {es = es} {f = f} is rest) w p within known sound =
-    absurd (sound (placed e.0 f.fault) (inl (record { path = e.0; text = e.1; fault = f.fault; of_package = within e (first_in e es); is_fault = is.is_fault; at = refl })))
+    absurd (sound (placed e.0 f.fault) (inl (record {
+      path = e.0;
+      text = e.1;
+      fault = f.fault;
+      of_package = within e (first_in e es);
+      is_fault =
+          is.is_fault;
+      at = refl;
+    })))
 
 -- a package whose list of faults is empty
 pub none_listed : (P : FileFault → Type 0) (list : List FileFault) → AreListed P list → list ≡ [] → (f : FileFault) → P f → ⊥
@@ -62,11 +72,13 @@ all_read w known p ts fs sound parsed = subst (AreParsed (package_files w p) ts)
 
 -- what is found of the package of a number
 
-pub finding_at : (w : Workspace) (found : Findings) → AreFindings w found → (n : ℕ) (p : List ℕ) (f : Finding) → slice_get (package_paths w) n ≡ Some p → n < length found.packages.items → f ≡ get_or found.packages.items n f →
+pub finding_at : (w : Workspace) (found : Findings) → AreFindings w found → (n : ℕ) (p : List ℕ) (f : Finding) → slice_get (package_paths w) n ≡ Some p →
+    n < length found.packages.items → f ≡ get_or found.packages.items n f →
     IsFinding w (known_by found.interfaces) p f
 finding_at w found h n p f at lt is = h.each n p f at (slice_get_read found.packages.items (length found.packages.items) n f refl lt is)
 
-pub no_fault_in : (w : Workspace) (found : Findings) → IsSound w found → (n : ℕ) (p : List ℕ) → slice_get (package_paths w) n ≡ Some p → (f : FileFault) → IsFaultBy w (known_by found.interfaces) p f → ⊥
+pub no_fault_in : (w : Workspace) (found : Findings) → IsSound w found → (n : ℕ) (p : List ℕ) → slice_get (package_paths w) n ≡ Some p → (f : FileFault) →
+    IsFaultBy w (known_by found.interfaces) p f → ⊥
 no_fault_in w found h n p at f is =
     let lt : n < length found.packages.items = subst (λ m. n < m) (sym h.findings.size) (slice_get_within (package_paths w) n p at) in
     let x = slice_get_some found.packages.items n lt in
@@ -82,7 +94,8 @@ sound_by_list w found h list = record {
       let finding = h.each n p.0 f p.1 at in
       empty_by f.faults.items (λ x is.
       let here : IsFaultBy w known p.0 x = (finding.listed.each x).0 is in
-      let there : IsFaultBy w list.known p.0 x = fault_as w p.0 known list.known (right_alike w p.0 known list.known (right_below w known h.right p.0) (right_below w list.known list.right p.0)) x here in
+      let there : IsFaultBy w list.known p.0 x = fault_as w p.0 known list.known
+      (right_alike w p.0 known list.known (right_below w known h.right p.0) (right_below w list.known list.right p.0)) x here in
       nothing_in x ((list.listed.each x).1 (record { path = p.0; is_package = at_contains w n p.0 p.1; is_fault = there })));
 }
 
@@ -93,12 +106,17 @@ list_of_sound w found h = record {
   right = h.findings.right;
   listed = record {
     in_order = empty_in_order;
-    each = λ f. ((λ no. absurd (nothing_in f no)), (λ is. let n = number w is.path is.is_package in absurd (no_fault_in w found h n.0 is.path n.1 f is.is_fault)));
+    each = λ f. (
+      (λ no. absurd (nothing_in f no)),
+      (λ is. let n = number w is.path is.is_package in
+          absurd (no_fault_in w found h n.0 is.path n.1 f is.is_fault)),
+    );
   };
 }
 
 -- one more finding without faults
-pub sound_next : (xs : List Finding) (k n : ℕ) (x f : Finding) → k < length xs → x ≡ get_or xs k x → x.faults.items ≡ [] → ((m : ℕ) (g : Finding) → m < k → slice_get xs m ≡ Some g → g.faults.items ≡ []) →
+pub sound_next : (xs : List Finding) (k n : ℕ) (x f : Finding) → k < length xs → x ≡ get_or xs k x → x.faults.items ≡ [] →
+    ((m : ℕ) (g : Finding) → m < k → slice_get xs m ≡ Some g → g.faults.items ≡ []) →
     n < k + 1 → slice_get xs n ≡ Some f → f.faults.items ≡ []
 sound_next xs k n x f lt is empty h below at = elim (cases_lt n k) [
   | inl less ↦ h n f less at
@@ -110,19 +128,30 @@ sound_next xs k n x f lt is empty h below at = elim (cases_lt n k) [
 
 -- the package of a number
 
-pub package_at : (w : Workspace) (known : Verdicts) (n : ℕ) (path : List ℕ) (ts : List FileParts) (seen : Interfaces) (name_of : List ℕ → Option (List ℕ)) (laid : ScopedPackage) → slice_get (package_paths w) n ≡ Some path →
+pub package_at : (w : Workspace) (known : Verdicts) (n : ℕ) (path : List ℕ) (ts : List FileParts) (seen : Interfaces) (name_of : List ℕ → Option (List ℕ))
+    (laid : ScopedPackage) → slice_get (package_paths w) n ≡ Some path →
     AreParsed (package_files w path) ts [] → AreSeen w known path name_of (interface_in seen) → IsLaidOver (map source_of ts) name_of (scoped ts) laid →
     IsPackageAt w known n (package_in path (map source_of ts) laid (interface_in seen))
 package_at w known n path ts seen name_of laid at parsed are is = record {
   has_number = at;
   is_package = record {
     of_workspace = at_contains w n path at;
-    is_checked = record { files = ts; parsed = parsed; name_of = name_of; interface_of = interface_in seen; are_seen = are; is_package = record { laid = laid; is_laid = is; is_package = refl } };
+    is_checked = record {
+      files = ts;
+      parsed = parsed;
+      name_of = name_of;
+      interface_of = interface_in seen;
+      are_seen = are;
+      is_package =
+          record { laid = laid; is_laid = is; is_package = refl };
+    };
   };
 }
 
-pub unit_at : (w : Workspace) (known : Verdicts) (n : ℕ) (path : List ℕ) (ts : List FileParts) (seen : Interfaces) (laid : ScopedPackage) → n < length (package_paths w) → OfPackage w n (λ p. path ≡ p) →
-    OfPackage w n (λ p. AreParsed (package_files w p) ts []) → OfPackage w n (λ p. AreSeen w known p (name_in seen) (interface_in seen)) → IsLaidOver (map source_of ts) (name_in seen) (scoped ts) laid →
+pub unit_at : (w : Workspace) (known : Verdicts) (n : ℕ) (path : List ℕ) (ts : List FileParts) (seen : Interfaces) (laid : ScopedPackage) →
+    n < length (package_paths w) → OfPackage w n (λ p. path ≡ p) →
+    OfPackage w n (λ p. AreParsed (package_files w p) ts []) → OfPackage w n (λ p. AreSeen w known p (name_in seen) (interface_in seen)) →
+    IsLaidOver (map source_of ts) (name_in seen) (scoped ts) laid →
     IsPackageAt w known n (package_in path (map source_of ts) laid (interface_in seen))
 unit_at w known n path ts seen laid lt of_path parsed are is =
     let x = slice_get_some (package_paths w) n lt in
@@ -160,7 +189,8 @@ own_rank : (o : Option (List Definition)) (rank : ℕ) → slice_get (definition
 own_rank None rank = refl
 own_rank (Some ds) rank = refl
 
-pub own_known : (all : Interfaces) (p : Package) (own : List Definition) → IsInterface p (interface_in all p.path) → own ≡ definitions_or_none (definitions_at all.definitions p.path) → KnowsOwn p own
+pub own_known : (all : Interfaces) (p : Package) (own : List Definition) → IsInterface p (interface_in all p.path) →
+    own ≡ definitions_or_none (definitions_at all.definitions p.path) → KnowsOwn p own
 own_known all p own is e =
     let at : (rank : ℕ) → (interface_in all p.path).definition rank ≡ definition_or_none (symbol_in p rank) (slice_get own rank) = λ rank.
     ap (definition_or_none (symbol_in p rank)) (sym (own_rank (definitions_at all.definitions p.path) rank) ∙ ap (λ l. slice_get l rank) (sym e))
@@ -172,21 +202,26 @@ own_known all p own is e =
 
 -- what others see of a package without faults
 
-without_faults : (w : Workspace) (known : Verdicts) (p : List ℕ) (v : Verdict) → IsVerdictBy w known p v → ((f : FileFault) → IsFaultBy w known p f → ⊥) → (b : Bool) → v.faulty ≡ b → v.faulty ≡ false
+without_faults : (w : Workspace) (known : Verdicts) (p : List ℕ) (v : Verdict) → IsVerdictBy w known p v → ((f : FileFault) → IsFaultBy w known p f → ⊥) →
+    (b : Bool) → v.faulty ≡ b → v.faulty ≡ false
 without_faults w known p v by sound true e = let f = by.has_faults.0 e in absurd (sound f.0 f.1)
 without_faults w known p v by sound false e = e
 
-pub interface_at : (w : Workspace) (found : Findings) → IsSound w found → (n : ℕ) (p : Package) → IsPackageAt w (known_by found.interfaces) n p → IsInterface p (interface_in found.interfaces p.path)
+pub interface_at : (w : Workspace) (found : Findings) → IsSound w found → (n : ℕ) (p : Package) → IsPackageAt w (known_by found.interfaces) n p →
+    IsInterface p (interface_in found.interfaces p.path)
 interface_at w found h n p is =
     let known = known_by found.interfaces in
     let by = verdict_by w p.path known (known p.path) (right_below w known h.findings.right p.path) (h.findings.right p.path is.is_package.of_workspace) in
     let has = by.has_interface (without_faults w known p.path (known p.path) by (no_fault_in w found h n p.path is.has_number) (known p.path).faulty refl) in
-    subst (λ c. IsInterface c (interface_in found.interfaces p.path)) (one_checked w known p.path has.checked p has.is_package is.is_package.is_checked) has.is_interface
+    subst (λ c. IsInterface c (interface_in found.interfaces p.path)) (one_checked w known p.path has.checked p has.is_package is.is_package.is_checked)
+    has.is_interface
 
 -- its uses of members
-pub members_at : (w : Workspace) (found : Findings) → IsSound w found → (n : ℕ) (f : Finding) → slice_get found.packages.items n ≡ Some f → (p : Package) → IsPackageAt w (known_by found.interfaces) n p →
+pub members_at : (w : Workspace) (found : Findings) → IsSound w found → (n : ℕ) (f : Finding) → slice_get found.packages.items n ≡ Some f → (p : Package) →
+    IsPackageAt w (known_by found.interfaces) n p →
     AreMemberUses p (map uses_in f.members.items)
 members_at w found h n f at p is =
     let known = known_by found.interfaces in
     let uses = (h.findings.each n p.path f is.has_number at).members (h.sound n f at) in
-    subst (λ c. AreMemberUses c (map uses_in f.members.items)) (one_checked w known p.path uses.checked p uses.is_package is.is_package.is_checked) uses.are_uses
+    subst (λ c. AreMemberUses c (map uses_in f.members.items)) (one_checked w known p.path uses.checked p uses.is_package is.is_package.is_checked)
+    uses.are_uses

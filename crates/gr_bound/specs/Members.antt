@@ -19,8 +19,10 @@ use Rattle.gr_bound.specs.Steps.{AtToken}
 
 -- a package's own type definitions, by their ranks
 pub record KnowsOwn (p : Package) (own : List Definition) : Type 0 where
-  pub each : (rank : ℕ) (d : PlacedType) → slice_get (package_types p) rank ≡ Some d → IsDefinition p rank (definition_or_none (symbol_in p rank) (slice_get own rank))
-  pub beyond : (rank : ℕ) → slice_get (package_types p) rank ≡ None → definition_or_none (symbol_in p rank) (slice_get own rank) ≡ no_definition (symbol_in p rank)
+  pub each : (rank : ℕ) (d : PlacedType) → slice_get (package_types p) rank ≡ Some d →
+      IsDefinition p rank (definition_or_none (symbol_in p rank) (slice_get own rank))
+  pub beyond : (rank : ℕ) → slice_get (package_types p) rank ≡ None →
+      definition_or_none (symbol_in p rank) (slice_get own rank) ≡ no_definition (symbol_in p rank)
 
 -- the type definitions that are known of a package; none where nothing is known of it
 abbrev pub definitions_or_none : Option (List Definition) → List Definition
@@ -29,7 +31,8 @@ definitions_or_none (Some own) = own
 
 -- the type definitions that a package sees: its own, and those of other packages
 abbrev pub definitions_seen : PackageUnit → List Definition → Symbol → plain.Definition
-definitions_seen unit own s = definition_or_none s (if same_path unit.path.now s.package then slice_get own s.rank else imported_at unit.interfaces.now.definitions s)
+definitions_seen unit own s = definition_or_none s
+    (if same_path unit.path.now s.package then slice_get own s.rank else imported_at unit.interfaces.now.definitions s)
 
 -- the declaration that the name at a token is as a member of a type; none where the type has no such member
 abbrev pub member_at : (Symbol → plain.Definition) → Package → (file token : ℕ) → PlainType → Option Declaration
@@ -52,7 +55,8 @@ pub record IsMemberUseOf (definitions : Symbol → plain.Definition) (p : Packag
   pub is_member : member_at definitions p file found.place found.before ≡ Some d
 
 -- the same of the member use of that rank in a list
-pub record IsMemberUseAt (definitions : Symbol → plain.Definition) (p : Package) (file : ℕ) (d : Declaration) (uses : List MemberUse) (k : ℕ) (place : Place) : Type 0 where
+pub record IsMemberUseAt (definitions : Symbol → plain.Definition) (p : Package) (file : ℕ) (d : Declaration) (uses : List MemberUse) (k : ℕ)
+    (place : Place) : Type 0 where
   pub found : MemberUse
   pub has_rank : slice_get uses k ≡ Some found
   pub is_use : IsMemberUseOf definitions p file d found place

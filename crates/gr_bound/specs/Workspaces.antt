@@ -11,7 +11,8 @@ use Rattle.gr_types.specs.Interfaces.{IsSeen}
 use Rattle.gr_verdict.specs.declared.finding.Finding.{Finding}
 use Rattle.gr_verdict.specs.declared.findings.Findings.{Findings}
 use Rattle.gr_verdict.specs.Verdicts.{Verdicts}
-use Rattle.gr_verdict.specs.Found.{AreFindings, known_by}
+use Rattle.gr_verdict.specs.Found.{AreFindings}
+use Rattle.gr_verdict.specs.Told.{known_by}
 use Rattle.gr_verdict.specs.FaultLists.{ListsFaults}
 use Rattle.gr_bound.specs.declared.declaration.Declaration.{Declaration}
 use Rattle.gr_bound.specs.declared.declaration.Declaration.TheVariants.{Predeclared, Declared, Field, Method}
@@ -44,12 +45,14 @@ home_path (Method s) = Some s.package
 
 -- the number of that package; none where the workspace has no such package
 abbrev pub IsHome : Workspace → Declaration → Option ℕ → Type 0
-IsHome w d home = MatchOption home ((path : List ℕ) → home_path d ≡ Some path → Contains (package_paths w) path → ⊥) (λ number. slice_get (package_paths w) number ≡ home_path d)
+IsHome w d home = MatchOption home ((path : List ℕ) → home_path d ≡ Some path → Contains (package_paths w) path → ⊥)
+    (λ number. slice_get (package_paths w) number ≡ home_path d)
 
 -- d is what a package of a path exports under a name
 abbrev pub ExportsAs : Workspace → Verdicts → (path name : List ℕ) → Declaration → Type 0
 ExportsAs w known path name (Predeclared n) = ⊥
-ExportsAs w known path name (Declared other d) = (other ≡ path) × ((p : Package) × (IsPackage w known p × ((p.path ≡ path) × (IsSeen p d × (p.names d ≡ name)))))
+ExportsAs w known path name (Declared other d) = (other ≡ path) ×
+    ((p : Package) × (IsPackage w known p × ((p.path ≡ path) × (IsSeen p d × (p.names d ≡ name)))))
 ExportsAs w known path name (Field s) = ⊥
 ExportsAs w known path name (Method s) = ⊥
 
@@ -57,7 +60,8 @@ ExportsAs w known path name (Method s) = ⊥
 abbrev pub IsExportedUnder : Workspace → Verdicts → Declaration → Option (List ℕ) → Type 0
 IsExportedUnder w known (Predeclared n) name = name ≡ None
 IsExportedUnder w known (Declared path d) name =
-    MatchOption name ((p : Package) → IsPackage w known p → p.path ≡ path → IsSeen p d → ⊥) (λ n. (p : Package) × (IsPackage w known p × ((p.path ≡ path) × (IsSeen p d × (p.names d ≡ n)))))
+    MatchOption name ((p : Package) → IsPackage w known p → p.path ≡ path → IsSeen p d → ⊥)
+    (λ n. (p : Package) × (IsPackage w known p × ((p.path ≡ path) × (IsSeen p d × (p.names d ≡ n)))))
 IsExportedUnder w known (Field s) name = name ≡ None
 IsExportedUnder w known (Method s) name = name ≡ None
 

@@ -13,16 +13,9 @@ use crate::exports::{named, numbers_at, numbers_of};
 use crate::packages::Packages;
 use crate::reading::path_of;
 use gr_graph::Graph;
-use gr_verdict::Findings;
+use gr_verdict::{Findings, is_marked};
 use std::alloc::{AllocError, Global};
 use std::collections::BTreeMap;
-
-/// Whether the package of a number is marked.
-pub fn is_marked(marks: &[bool], number: usize) -> bool
-    ensures { IsTrue result ↔ IsMarked marks.now number }
-{
-    number < marks.len() && marks[number]
-}
 
 /// Whether a marked package imports the package of a number.
 fn is_imported(graph: &Graph, marks: &[bool], number: usize) -> bool

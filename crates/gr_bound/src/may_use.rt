@@ -1,12 +1,10 @@
 //! Which packages may use a declaration, by what they import and by the members that are used in them.
 ghost use Rattle.std.specs.Prelude.{ℕ, ◌≡◌, ◌≢◌, ◌<◌, ◌↔◌, [], false, length, slice_get, IsTrue};
-ghost use Rattle.std.specs.List.{Contains};
-ghost use Rattle.std.specs.List.Sorted.{IsStrictlyIncreasing};
 ghost use Rattle.gr_text.specs.declared.place.Place.{Place};
 ghost use Rattle.gr_text.specs.Packages.{package_paths};
 ghost use Rattle.gr_scope.specs.Named.{name_value};
 ghost use Rattle.gr_graph.specs.Graphs.{OfPackage};
-ghost use Rattle.gr_graph.specs.Packages.{PackageImports, IsInClosure};
+ghost use Rattle.gr_graph.specs.Packages.{PackageImports};
 ghost use Rattle.gr_declared.specs.Package.{Package as Checked};
 ghost use Rattle.gr_bound.specs.declared.declaration.Declaration.{Declaration as Bound};
 ghost use Rattle.gr_bound.specs.Binding.{IsMemberAt};
@@ -17,15 +15,7 @@ use crate::declaration::Declaration;
 use crate::reading::members_of;
 use gr_expr::found::MemberUse;
 use gr_graph::Graph;
-use gr_verdict::Findings;
-
-/// Whether a number is among numbers that rise.
-fn is_among(numbers: &[usize], number: usize) -> bool
-    requires { IsStrictlyIncreasing numbers.now }
-    ensures { IsTrue result ↔ Contains numbers.now number }
-{
-    numbers.binary_search(&number).is_ok()
-}
+use gr_verdict::{Findings, is_among, reaches};
 
 /// Whether a package imports another directly.
 fn imports(graph: &Graph, number: usize, other: usize) -> bool
@@ -33,14 +23,6 @@ fn imports(graph: &Graph, number: usize, other: usize) -> bool
     ensures { OfPackage graph.now number (λ p. OfPackage graph.now other (λ q. IsTrue result ↔ PackageImports graph.now p q)) }
 {
     is_among(graph.imports(number), other)
-}
-
-/// Whether a package imports another, directly or indirectly, or is it.
-fn reaches(graph: &Graph, number: usize, other: usize) -> bool
-    requires { number < length (package_paths graph.now) }
-    ensures { OfPackage graph.now number (λ p. OfPackage graph.now other (λ q. IsTrue result ↔ IsInClosure graph.now p q)) }
-{
-    is_among(graph.closure(number), other)
 }
 
 /// Whether a member is used in one of some files.

@@ -30,7 +30,8 @@ method_at path rank = Method (record { «package» = path; rank = rank })
 -- one of all declarations of the package of a path
 abbrev pub GoFromPackage : (Place → Place) → List ℕ → DeclaredPlaces → BoundSpot → Type 0
 GoFromPackage moved path places b =
-    (GoFrom moved (Declared path) places.names.items b ⊎ GoFrom moved (field_at path) places.fields.items b) ⊎ GoFrom moved (method_at path) places.methods.items b
+    (GoFrom moved (Declared path) places.names.items b ⊎ GoFrom moved (field_at path) places.fields.items b) ⊎
+    GoFrom moved (method_at path) places.methods.items b
 
 -- a declaration of the workspace goes to a place
 pub record HasGoneTo (Known : Package → Type 0) (moved : Place → Place) (d : Declaration) (to : Place) : Type 0 where

@@ -25,11 +25,12 @@ use Rattle.gr_edit.specs.Moved.{moved}
 use Rattle.gr_standing.specs.Standing.{InPackage, StandsIn, IsDeclaredAt}
 use Rattle.gr_revision.specs.Revisions.{Revision}
 use Rattle.gr_revision.specs.RevisionsOfEdits.{revision_of}
-use Rattle.gr_check.specs.Corresponding.{Corresponds, predeclared, stands}
-use Rattle.gr_check.specs.Preserved.{IsBoundToOne, KeepsBindings, Preserves, TellsPreserved}
+use Rattle.gr_kept.specs.Corresponding.{Corresponds, predeclared, stands}
+use Rattle.gr_kept.specs.BoundToOne.{IsBoundToOne}
+use Rattle.gr_check.specs.Preserved.{KeepsBindings, Preserves, TellsPreserved}
 use Rattle.gr_placed.specs.Identified.{IsIdentifierAt}
-use Rattle.gr_check.specs.Sound.{SoundView}
-use Rattle.gr_check.specs.Steps.{KeepsAll, AddsNowhere}
+use Rattle.gr_kept.specs.Sound.{SoundView}
+use Rattle.gr_kept.specs.Steps.{KeepsAll, AddsNowhere}
 use Rattle.gr_check.proofs.Resolving.{same_package, same_use}
 
 -- what stands where does not depend on what is thought of paths that are no packages
@@ -99,12 +100,6 @@ module _ (w after : Workspace) (s : FileChanges) (known known_after : Verdicts) 
         (λ t. let h = b.0 t in record { keeps = h.0; adds_none = λ place e here at. h.1 place here e at }),
         (λ h. b.1 (h.keeps, (λ place here e at. h.adds_none place e here at))),
       )
-
-pub both_hold : (A B : Type 0) (one other : Bool) → one ≡ true → IsTrue one ↔ A → IsTrue other ↔ B → IsTrue other ↔ (A × B)
-both_hold A B one other is a b = ((λ t. (a.0 is, b.0 t)), (λ h. b.1 h.1))
-
-pub first_fails : (A B : Type 0) (one : Bool) → one ≡ false → IsTrue one ↔ A → IsTrue false ↔ (A × B)
-first_fails A B one denied a = ((λ t. absurd (false≢true t)), (λ h. absurd (false≢true (sym denied ∙ a.1 h.0))))
 
 -- the answers
 pub decided : (w after : Workspace) (s : FileChanges) (found found_after : Findings) (answer : Bool) → IsSound w found → after ≡ edited s w →

@@ -1,7 +1,5 @@
 -- The lemmas of this crate.
 pub mod Resolving
-pub mod Becoming
-pub mod Every
 pub mod Deciding
 pub mod Laid
 pub mod Unaffected

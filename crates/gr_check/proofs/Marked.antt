@@ -1,6 +1,6 @@
 -- The marked packages of two workspaces tell that all bindings are kept.
 use Rattle.std.proofs.Common.{ℕ, ◌≡◌, inl, inr, Bool, true, false, List, get_or, refl, sym, ap, subst, ◌∙◌}
-use Rattle.std.specs.Prelude.{Option, Some, None, IsTrue, ◌↔◌, Contains, slice_get, IfSome}
+use Rattle.std.specs.Prelude.{Option, Some, None, ◌↔◌, Contains, slice_get, IfSome}
 use Rattle.std.specs.Borrow.{Bor}
 use Rattle.std.specs.Option.{option_copied}
 use Rattle.std.proofs.lemmas.Bool.{true≢false}
@@ -26,18 +26,20 @@ use Rattle.gr_standing.proofs.Packages.{in_package}
 use Rattle.gr_standing.proofs.Folders.{begins_in_folder}
 use Rattle.gr_revision.specs.Revisions.{Revision}
 use Rattle.gr_revision.specs.RevisionsOfEdits.{called_by, revision_of}
-use Rattle.gr_affected.specs.Affected.{IsUnaffected, AreAffected}
+use Rattle.gr_affected.specs.Affected.{AreAffected}
 use Rattle.gr_check.specs.declared.among.MarkedPackages.{MarkedPackages}
 use Rattle.gr_placed.specs.declared.declared_places.DeclaredPlaces.{DeclaredPlaces}
-use Rattle.gr_check.specs.Corresponding.{stands}
-use Rattle.gr_check.specs.Sound.{packages_of}
-use Rattle.gr_check.specs.Among.{AreHeldOf, BothGo, view_among, IsBoundMarked, IsBoundThere, IsIdentifierAmong, BecomesAmong, IsKeptAmong, AllWereAmong, AddsNoneAmong, KeepsMarked, AddsMarked}
+use Rattle.gr_kept.specs.Corresponding.{stands}
+use Rattle.gr_kept.specs.Sound.{packages_of}
+use Rattle.gr_check.specs.Among.{AreHeldOf, BothGo, view_among, IsBoundMarked, IsBoundThere, IsIdentifierAmong, BecomesAmong, AllWereAmong}
+use Rattle.gr_check.specs.Among.{AddsNoneAmong, KeepsMarked, AddsMarked}
 use Rattle.gr_placed.specs.DeclaredPlaces.{IsFoundIn, AreDeclaredIn, AreDeclaredAt, IsPlaceIn}
 use Rattle.gr_placed.specs.Outside.{path_by}
-use Rattle.gr_check.specs.Preserved.{IsBoundToOne, KeepsBindings}
+use Rattle.gr_kept.specs.BoundToOne.{IsBoundToOne}
+use Rattle.gr_check.specs.Preserved.{KeepsBindings}
 use Rattle.gr_placed.specs.Identified.{IsIdentifierAt}
-use Rattle.gr_check.specs.Steps.{Becomes as Becoming_to, HasBound, IsBoundBy}
-use Rattle.gr_check.proofs.Every.{spot_at}
+use Rattle.gr_kept.specs.Steps.{Becomes as Becoming_to, HasBound, IsBoundBy}
+use Rattle.gr_kept.proofs.Every.{spot_at}
 use Rattle.gr_check.proofs.Unaffected.{Becoming, unaffected_becomes, unaffected_keeps, unaffected_adds}
 
 -- a bound identifier of a marked package is one of the workspace, and begins in the folder of the package

@@ -1,7 +1,7 @@
 -- The bindings of packages that a change does not affect.
-use Rattle.std.proofs.Common.{ℕ, ◌≡◌, Bool, true, false, List, refl, sym, ap, subst, ◌∙◌}
+use Rattle.std.proofs.Common.{ℕ, ◌≡◌, List, refl, sym, ap, subst, ◌∙◌}
 use Rattle.std.specs.Prelude.{Option, Some, None, Contains, slice_get}
-use Rattle.std.proofs.lemmas.Option.{none-some, same_Some}
+use Rattle.std.proofs.lemmas.Option.{same_Some}
 use Rattle.gr_text.specs.Packages.{package_paths}
 use Rattle.gr_text.specs.Path.{folder}
 use Rattle.gr_text.specs.Workspace.{Workspace}
@@ -10,7 +10,6 @@ use Rattle.gr_edit.specs.EditSet.{FileChanges}
 use Rattle.gr_edit.specs.Moved.{moved}
 use Rattle.gr_tree.specs.SourceFile.{SourceFile}
 use Rattle.gr_graph.specs.Packages.{IsInClosure, itself}
-use Rattle.gr_declared.specs.Package.{Package}
 use Rattle.gr_verdict.specs.Verdicts.{Verdicts, AreVerdicts}
 use Rattle.gr_verdict.proofs.Local.{same_back}
 use Rattle.gr_bound.specs.declared.declaration.Declaration.{Declaration}
@@ -23,9 +22,9 @@ use Rattle.gr_steady.proofs.Bindings.{use_stays}
 use Rattle.gr_steady.proofs.Standing.{bound_within}
 use Rattle.gr_affected.specs.Affected.{IsUnaffected}
 use Rattle.gr_affected.proofs.Unaffected.{stays_put, declared_then}
-use Rattle.gr_check.specs.Corresponding.{Corresponds, predeclared, stands}
+use Rattle.gr_kept.specs.Corresponding.{Corresponds, predeclared, stands}
 use Rattle.gr_placed.specs.Outside.{path_by}
-use Rattle.gr_check.specs.Preserved.{IsBoundToOne}
+use Rattle.gr_kept.specs.BoundToOne.{IsBoundToOne}
 use Rattle.gr_placed.specs.Identified.{IsIdentifierAt}
 
 -- the file of a token that begins at a place

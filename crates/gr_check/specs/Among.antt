@@ -1,5 +1,5 @@
 -- What is held of the marked packages of a workspace without faults, and what they tell.
-use Rattle.std.specs.Prelude.{ℕ, ◌≡◌, ◌⊎◌, Bool, List, Option, Some, None, length, slice_get, MatchOption, Contains}
+use Rattle.std.specs.Prelude.{ℕ, ◌≡◌, ◌⊎◌, Bool, List, Option, Some, length, MatchOption, Contains}
 use Rattle.gr_text.specs.Packages.{package_paths}
 use Rattle.gr_text.specs.Workspace.{Workspace}
 use Rattle.gr_text.specs.declared.place.Place.{Place}
@@ -8,7 +8,6 @@ use Rattle.gr_verdict.specs.declared.findings.Findings.{Findings}
 use Rattle.gr_verdict.specs.Verdicts.{Verdicts}
 use Rattle.gr_bound.specs.declared.bound_spot.BoundSpot.{BoundSpot}
 use Rattle.gr_bound.specs.declared.declaration.Declaration.{Declaration}
-use Rattle.gr_bound.specs.declared.declaration.Declaration.TheVariants.{Predeclared, Declared, Field, Method}
 use Rattle.gr_bound.specs.Bindings.{IsBoundAmong, AreBindingsAmong, place_at}
 use Rattle.gr_bound.specs.Packages.{HoldsOfEach}
 use Rattle.gr_bound.specs.Uses.{IsUseOf}
@@ -17,9 +16,9 @@ use Rattle.gr_check.specs.declared.among.MarkedPackages.{MarkedPackages}
 use Rattle.gr_placed.specs.declared.declared_places.DeclaredPlaces.{DeclaredPlaces}
 use Rattle.gr_placed.specs.DeclaredPlaces.{AreDeclaredAt}
 use Rattle.gr_placed.specs.Outside.{IsOutside}
-use Rattle.gr_check.specs.Sound.{SoundView}
+use Rattle.gr_kept.specs.Sound.{SoundView}
 use Rattle.gr_placed.specs.Identified.{BeginsInNumber}
-use Rattle.gr_check.specs.Steps.{Becomes, IsBoundBy, HasBound}
+use Rattle.gr_kept.specs.Steps.{Becomes, IsBoundBy, HasBound}
 
 -- where the declarations of the package of a number stand, if it is marked
 abbrev pub IsHeldOf : Workspace → Verdicts → List Bool → ℕ → Option DeclaredPlaces → Type 0

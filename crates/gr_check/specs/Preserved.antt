@@ -1,8 +1,7 @@
 -- When a change preserves all bindings.
-use Rattle.std.specs.Prelude.{ℕ, [], Option, None, Some}
+use Rattle.std.specs.Prelude.{[], Option, None, Some}
 use Rattle.gr_text.specs.Workspace.{Workspace}
 use Rattle.gr_text.specs.declared.place.Place.{Place}
-use Rattle.gr_declared.specs.Package.{Package}
 use Rattle.gr_verdict.specs.Verdicts.{Verdicts, AreVerdicts}
 use Rattle.gr_verdict.specs.declared.known.Known.{Known}
 use Rattle.gr_verdict.specs.FaultLists.{ListsFaults}
@@ -11,13 +10,8 @@ use Rattle.gr_bound.specs.declared.declaration.Declaration.{Declaration}
 use Rattle.gr_bound.specs.Uses.{IsPackage, IsUseOf}
 use Rattle.gr_placed.specs.Identified.{IsIdentifierAt}
 use Rattle.gr_revision.specs.Revisions.{Revision}
-use Rattle.gr_check.specs.Corresponding.{Corresponds}
-
--- a declaration that some use at a place is bound to, of two workspaces
-pub record IsBoundToOne (w : Workspace) (known : Verdicts) (place : Place) (P : Declaration → Type 0) : Type 0 where
-  pub declaration : Declaration
-  pub is_use : IsUseOf w known declaration place
-  pub holds : P declaration
+use Rattle.gr_kept.specs.BoundToOne.{IsBoundToOne}
+use Rattle.gr_kept.specs.Corresponding.{Corresponds}
 
 -- Each identifier is bound to a declaration exactly where it is afterwards bound to the one that this has become.
 pub record KeepsBindings (w : Workspace) (before : Verdicts) (r : Revision) (after : Verdicts) : Type 0 where

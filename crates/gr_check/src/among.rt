@@ -13,21 +13,20 @@ ghost use Rattle.gr_standing.specs.Standing.{IsDeclaredAt};
 ghost use Rattle.gr_check.specs.Among.{AreHeld, AreHeldOf, IsHeldOf, IsBoundMarked, IsBoundThere, IsIdentifierAmong, view_among};
 ghost use Rattle.gr_placed.specs.DeclaredPlaces.{AreDeclaredAt};
 ghost use Rattle.gr_placed.specs.Outside.{IsOutside, path_by};
-ghost use Rattle.gr_check.specs.Sound.{packages_of};
+ghost use Rattle.gr_kept.specs.Sound.{packages_of};
 ghost use Rattle.gr_placed.specs.Identified.{BeginsInNumber};
 
-use crate::corresponding::is_same;
 use gr_bound::{Bindings, BoundSpot, Declaration, bindings_among, path_of, read_table};
 use gr_declared::{Interfaces, Package};
 use gr_expr::symbol::SharedPath;
 use gr_graph::Graph;
-use gr_keep::is_marked;
+use gr_kept::is_same;
 use gr_placed::bound_here::bound_here;
 use gr_placed::declared_places::{DeclaredPlaces, package_path, unit_places};
 use gr_placed::identifier_places::add_unit;
 use gr_scope::table::ScopeTable;
 use gr_text::{Path, Place};
-use gr_verdict::{Findings, seen};
+use gr_verdict::{Findings, is_marked, seen};
 use std::alloc::{AllocError, Global};
 
 /// Where the declarations of the package of a number stand, by what this sees and its table.

@@ -9,15 +9,14 @@ ghost use Rattle.gr_revision.specs.RevisionsOfEdits.{revision_of};
 ghost use Rattle.gr_affected.specs.Affected.{AreAffected};
 ghost use Rattle.gr_check.specs.Among.{AreHeld, BecomesAmong, IsKeptAmong, AllWereAmong, AddsNoneAmong, KeepsMarked, AddsMarked, BothGo};
 ghost use Rattle.gr_check.specs.Preserved.{KeepsBindings};
-ghost use Rattle.gr_check.specs.Steps.{HasBound};
+ghost use Rattle.gr_kept.specs.Steps.{HasBound};
 
 use crate::among::MarkedPackages;
-use crate::corresponding::{are_predeclared, goes_to};
-use crate::keeping::Near;
 use gr_affected::affected_by;
 use gr_bound::{BoundSpot, Declaration};
 use gr_edit::EditSet;
 use gr_graph::Graph;
+use gr_kept::{Near, are_predeclared, goes_to};
 use gr_revision::Moves;
 use gr_text::Place;
 use gr_verdict::Findings;

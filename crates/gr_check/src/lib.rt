@@ -2,15 +2,9 @@
 #![tactic(auto)]
 
 mod among;
-mod corresponding;
-mod held;
-mod keeping;
 mod keeps_among;
 mod planned;
 mod preserving;
-mod sound_workspace;
 
-pub use corresponding::{are_predeclared, corresponds, goes_to};
-pub use held::SoundWorkspace;
 pub use planned::{Planned, within_limits};
 pub use preserving::preserves;

@@ -1,47 +1,23 @@
 //! Whether a change preserves the bindings of a workspace.
 ghost use Rattle.std.specs.Prelude.{◌≡◌, ◌↔◌, [], IsTrue, IfOk, MatchBool};
 ghost use Rattle.gr_edit.specs.EditSet.{edited};
-ghost use Rattle.gr_edit.specs.Moved.{moved};
 ghost use Rattle.gr_verdict.specs.FaultLists.{ListsFaults};
 ghost use Rattle.gr_verdict.specs.Found.{AreFindings, IsFound, KnowsVerdicts};
 ghost use Rattle.gr_bound.specs.Packages.{ArePackages};
 ghost use Rattle.gr_bound.specs.Workspaces.{IsSound, known_in};
-ghost use Rattle.gr_check.specs.Held.{IsHeld};
 ghost use Rattle.gr_check.specs.Preserved.{KeepsBindings, Preserves, TellsPreserved};
-ghost use Rattle.gr_check.specs.Sound.{view_in};
-ghost use Rattle.gr_check.specs.Steps.{KeepsAll, AddsNowhere};
 ghost use Rattle.gr_revision.specs.RevisionsOfEdits.{revision_of};
 
-use crate::held::SoundWorkspace;
-use crate::keeping::{adds_nowhere, are_kept};
 use crate::keeps_among::keeps_among;
 use gr_bound::{Packages, all_seen, refuse_faults};
 use gr_edit::EditSet;
 use gr_graph::Graph;
 use gr_keep::known_after;
+use gr_kept::{SoundWorkspace, keeps};
 use gr_revision::Moves;
 use gr_text::Refusal;
 use gr_verdict::{Findings, Found, Known, verdicts};
 use std::alloc::{AllocError, Global};
-
-/// Whether each identifier of a workspace stays bound to what its declaration becomes in another.
-fn keeps(
-    alloc: Global,
-    moves: &Moves<'_>,
-    before: &SoundWorkspace<'_>,
-    then: &SoundWorkspace<'_>,
-) -> Result<bool, AllocError>
-    requires before { IsHeld before.now }
-    requires then { IsHeld then.now }
-    ensures { IfOk result (λ kept. IsTrue kept
-        ↔ (KeepsAll (view_in before.now) (view_in then.now) (moved moves.now) × AddsNowhere (view_in before.now) (view_in then.now) (moved moves.now))) }
-{
-    if are_kept(moves, before, then)? {
-        adds_nowhere(alloc, moves, before, then)
-    } else {
-        Ok(false)
-    }
-}
 
 /// Whether each identifier of packages without faults is bound, in others without faults, to what its declaration has become.
 fn keeps_read(

@@ -53,7 +53,8 @@ in_folder w p e h =
     let test : (is_go e.0 && pointwise ◌==◌ (folder e.0) p) ≡ true = (passes (λ d. is_of_package p d.0) (entries w) e h).0 in
     (bytes_decides (folder e.0) p).0 (and_parts (is_go e.0) (pointwise ◌==◌ (folder e.0) p) test).1
 
-file_there : (w x : Workspace) (p : List ℕ) → HasSameClosure w x p → (q : List ℕ) (e : List ℕ × List ℕ) → IsInClosure w p q → Contains (package_files w q) e → Contains (package_files x q) e
+file_there : (w x : Workspace) (p : List ℕ) → HasSameClosure w x p → (q : List ℕ) (e : List ℕ × List ℕ) → IsInClosure w p q →
+    Contains (package_files w q) e → Contains (package_files x q) e
 file_there w x p same q e closed has =
     let there = (same e).0 (record { path = q; in_closure = closed; of_package = has }) in
     let is : there.path ≡ q = sym (in_folder x there.path e there.of_package) ∙ in_folder w q e has in

@@ -20,7 +20,7 @@ use Rattle.gr_types.specs.Interfaces.{IsInterface}
 use Rattle.gr_declared.specs.InterfacesView.{interface_in}
 use Rattle.gr_meanings.specs.MemberUses.{AreMemberUses, uses_in}
 use Rattle.gr_declared.specs.Package.{Package, Interface, symbol_in}
-use Rattle.gr_verdict.specs.Found.{known_by}
+use Rattle.gr_verdict.specs.Told.{known_by}
 use Rattle.gr_verdict.specs.Verdicts.{Verdicts, AreSeen, HasInterface, IsPackageIn, IsVerdictBy}
 use Rattle.gr_verdict.proofs.Members.{nothing_in}
 use Rattle.gr_verdict.proofs.OnePackage.{one_checked}
@@ -37,9 +37,11 @@ all_read (tree is rest) (tree so others) = all_read rest others
 all_read (fault {e = e} {f = f} is rest) (tree {t = u} so others) = absurd (file_or_fault e.0 e.1 (source_of u) f.fault so is.is_fault)
 
 -- the definitions of an interface are those of the package, by their ranks
-own_definitions : (p : Package) (all : Interfaces) (list : List Definition) → IsInterface p (interface_in all p.path) → ((rank : ℕ) → slice_get list rank ≡ ranked (definitions_at all.definitions p.path) rank) → AreOwnDefinitions p list
+own_definitions : (p : Package) (all : Interfaces) (list : List Definition) → IsInterface p (interface_in all p.path) →
+    ((rank : ℕ) → slice_get list rank ≡ ranked (definitions_at all.definitions p.path) rank) → AreOwnDefinitions p list
 own_definitions p all list i same = record {
-  own = λ rank d at. subst (λ (o : Option Definition). IsDefinition p rank (definition_or_none (symbol_in p rank) o)) (sym (same rank)) (i.definitions rank d at);
+  own = λ rank d at. subst (λ (o : Option Definition). IsDefinition p rank (definition_or_none (symbol_in p rank) o)) (sym (same rank))
+      (i.definitions rank d at);
   beyond = λ rank past. ap (λ (o : Option Definition). definition_or_none (symbol_in p rank) o) (same rank) ∙ i.beyond rank past;
 }
 
@@ -56,7 +58,8 @@ module _ (w : Workspace) (p : List ℕ) (all : Interfaces) (members : List (Vec 
         | inr e ↦ e
       ])
 
-  module _ (trees : List FileParts) (faulty : List FaultyParts) (parsed : AreParsed (package_files w p) trees faulty) (name_of : List ℕ → Option (List ℕ)) (interface_of : List ℕ → Interface) (are_seen : AreSeen w known p name_of interface_of) where
+  module _ (trees : List FileParts) (faulty : List FaultyParts) (parsed : AreParsed (package_files w p) trees faulty) (name_of : List ℕ → Option (List ℕ))
+      (interface_of : List ℕ → Interface) (are_seen : AreSeen w known p name_of interface_of) where
     package_by : (c : Package) → IsPackageOf p trees name_of interface_of c → IsPackageIn w known p c
     package_by c is = record {
       files = trees;
@@ -70,13 +73,15 @@ module _ (w : Workspace) (p : List ℕ) (all : Interfaces) (members : List (Vec 
     seen_as : (c : Package) → IsPackageOf p trees name_of interface_of c → IsInterface c (interface_in all p)
     seen_as c is = subst (λ d. IsInterface d (interface_in all p)) (one_checked w known p own.checked c own.is_package (package_by c is)) own.is_interface
 
-    pub definitions_by : (list : List Definition) → ((rank : ℕ) → slice_get list rank ≡ ranked (definitions_at all.definitions p) rank) → OwnDefinitionsOf p trees name_of interface_of list
+    pub definitions_by : (list : List Definition) → ((rank : ℕ) → slice_get list rank ≡ ranked (definitions_at all.definitions p) rank) →
+        OwnDefinitionsOf p trees name_of interface_of list
     definitions_by list same c is =
         let path : c.path ≡ p = ap (λ (d : Package). d.path) is.is_package in
         own_definitions c all list (subst (λ (q : List ℕ). IsInterface c (interface_in all q)) (sym path) (seen_as c is))
         (subst (λ (q : List ℕ). (rank : ℕ) → slice_get list rank ≡ ranked (definitions_at all.definitions q) rank) (sym path) same)
 
-    pub compiled_by : (packages : Packages) (text : List ℕ) → HaveNamesBelow w p packages → IsObjectTextOf p trees name_of interface_of (map uses_in members) packages text → IsCompiled w p (interface_in all p) text
+    pub compiled_by : (packages : Packages) (text : List ℕ) → HaveNamesBelow w p packages →
+        IsObjectTextOf p trees name_of interface_of (map uses_in members) packages text → IsCompiled w p (interface_in all p) text
     compiled_by packages text names made =
         let c = made.0 in
         let is : IsPackageIn w known p c = package_by c made.1 in

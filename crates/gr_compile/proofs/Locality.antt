@@ -12,7 +12,8 @@ use Rattle.gr_compile.specs.Laws.{AreLocalUnits}
 use Rattle.gr_compile.specs.Units.{AreFilesOf, IsReadBy, within, beyond, UnitValue, Faults, Done, IsUnitValue, unit_value}
 use Rattle.gr_compile.proofs.ClosureFiles.{files_there}
 
-files_local : (w x : Workspace) (p : List ℕ) → HasSameClosure w x p → (q : List ℕ) (files : List SourceFile) → IsInClosure w p q → AreFilesOf w q files → AreFilesOf x q files
+files_local : (w x : Workspace) (p : List ℕ) → HasSameClosure w x p → (q : List ℕ) (files : List SourceFile) → IsInClosure w p q → AreFilesOf w q files →
+    AreFilesOf x q files
 files_local w x p same q files closed f = record {
   parts = f.parts;
   faulty = f.faulty;
@@ -41,4 +42,4 @@ value_local w x p (Done i object) has same u =
     }
 
 pub local_unit : AreLocalUnits
-local_unit w x p unit has same u = value_local w x p (unit_value p unit) has same u
+local_unit w x p unit has same u = record { value = value_local w x p (unit_value p unit) has same u.value; alone = u.alone }

@@ -42,7 +42,8 @@ pub record AreNamed (w : Workspace) (numbers : List ℕ) (packages : Packages) :
 
 -- no package yet
 
-pub none_named : (w : Workspace) (numbers : List ℕ) (packages : Packages) → numbers ≡ [] → ((q : List ℕ) → package_in packages q ≡ None) → AreNamed w numbers packages
+pub none_named : (w : Workspace) (numbers : List ℕ) (packages : Packages) → numbers ≡ [] → ((q : List ℕ) → package_in packages q ≡ None) →
+    AreNamed w numbers packages
 none_named w numbers packages e none = record {
   files_of = λ q. [];
   each = λ q. inr (λ s. nothing_in s.place (subst (λ l. Contains l s.place) e s.among), refl, none q);
@@ -55,8 +56,10 @@ one_more : {q r : List ℕ} → (r ≡ q) ⊎ (r ≡ q → ⊥) → (here there 
 one_more (inl same) here there = here
 one_more (inr other) here there = there
 
-module _ (w : Workspace) (xs ys : List ℕ) (n : ℕ) (q : List ℕ) (at : slice_get (package_paths w) n ≡ Some q) (more : (m : ℕ) → Contains ys m → Contains xs m ⊎ (n ≡ m)) (keeps : (m : ℕ) → Contains xs m → Contains ys m) (here : Contains ys n)
-    (old new : Packages) (files : List SourceFile) (are : AreFilesOf w q files) (called : IsCalled new q files) (elsewhere : (r : List ℕ) → (r ≡ q → ⊥) → package_in new r ≡ package_in old r) where
+module _ (w : Workspace) (xs ys : List ℕ) (n : ℕ) (q : List ℕ) (at : slice_get (package_paths w) n ≡ Some q)
+    (more : (m : ℕ) → Contains ys m → Contains xs m ⊎ (n ≡ m)) (keeps : (m : ℕ) → Contains xs m → Contains ys m) (here : Contains ys n)
+    (old new : Packages) (files : List SourceFile) (are : AreFilesOf w q files) (called : IsCalled new q files)
+    (elsewhere : (r : List ℕ) → (r ≡ q → ⊥) → package_in new r ≡ package_in old r) where
   still : (r : List ℕ) → IsAmong w xs r → IsAmong w ys r
   still r s = record { place = s.place; among = keeps s.place s.among; has_path = s.has_path }
 
@@ -98,7 +101,8 @@ module _ (w : Workspace) (p : List ℕ) (numbers : List ℕ) (packages : Package
         s.0 (record { place = n.0; among = (holds n.0).1 (q, n.1, closed); has_path = n.1 })))
   ]
 
-  named_by : (q : List ℕ) (files : List SourceFile) → IsNamed w numbers packages q files → MatchOption (package_in packages q) (files ≡ []) (λ names. AreNamesOf q files names)
+  named_by : (q : List ℕ) (files : List SourceFile) → IsNamed w numbers packages q files →
+      MatchOption (package_in packages q) (files ≡ []) (λ names. AreNamesOf q files names)
   named_by q files h = elim h [
     | inl s ↦ subst (λ (o : Option PackageNames). MatchOption o (files ≡ []) (λ names. AreNamesOf q files names)) (sym s.2.known) s.2.are_names
     | inr s ↦ subst (λ (o : Option PackageNames). MatchOption o (files ≡ []) (λ names. AreNamesOf q files names)) (sym s.2) s.1

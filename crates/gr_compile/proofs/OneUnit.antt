@@ -17,9 +17,11 @@ use Rattle.gr_compile.specs.Laws.{HaveOneUnit}
 use Rattle.gr_compile.specs.Units.{IsReadBy, within, beyond, IsCompiled, Faults, Done}
 
 -- the files that have trees are found once
-one_sources : {es : List (List ℕ × List ℕ)} {ts us : List FileParts} {fs gs : List FaultyParts} → AreParsed es ts fs → AreParsed es us gs → map source_of ts ≡ map source_of us
+one_sources : {es : List (List ℕ × List ℕ)} {ts us : List FileParts} {fs gs : List FaultyParts} → AreParsed es ts fs → AreParsed es us gs →
+    map source_of ts ≡ map source_of us
 one_sources none none = refl
-one_sources (tree {e = e} {t = t} is rest) (tree {t = u} so others) = ap₂ (λ s ss. s ∷ ss) (one_file e.0 e.1 (source_of t) (source_of u) is so) (one_sources rest others)
+one_sources (tree {e = e} {t = t} is rest) (tree {t = u} so others) =
+    ap₂ (λ s ss. s ∷ ss) (one_file e.0 e.1 (source_of t) (source_of u) is so) (one_sources rest others)
 one_sources (tree {e = e} {t = t} is rest) (fault {f = f} so others) = absurd (file_or_fault e.0 e.1 (source_of t) f.fault is so.is_fault)
 one_sources (fault {e = e} {f = f} is rest) (tree {t = t} so others) = absurd (file_or_fault e.0 e.1 (source_of t) f.fault so is.is_fault)
 one_sources (fault is rest) (fault so others) = one_sources rest others
@@ -37,7 +39,8 @@ one_compiled w p i j a b u v =
     let formed = layout_formed w u.known p u.checked u.is_package in
     let in_order = files_in_order w u.known p u.checked u.is_package in
     let interfaces : i ≡ j = one_interface u.checked formed in_order i j u.interface (subst (λ c. IsInterface c j) same v.interface) in
-    let objects : a ≡ b = one_text u.checked formed in_order u.files_of a b u.is_object (subst (λ f. IsObjectText u.checked f b) files (subst (λ c. IsObjectText c v.files_of b) same v.is_object)) in
+    let objects : a ≡ b = one_text u.checked formed in_order u.files_of a b u.is_object
+    (subst (λ f. IsObjectText u.checked f b) files (subst (λ c. IsObjectText c v.files_of b) same v.is_object)) in
     ap₂ (λ x y. Done x y) interfaces objects
 
 pub one_unit : HaveOneUnit

@@ -5,15 +5,17 @@ use Rattle.gr_text.specs.Workspace.{Workspace}
 use Rattle.gr_tree.specs.SourceFile.{SourceFile}
 use Rattle.gr_expr.specs.declared.found.MemberUse.{MemberUse}
 use Rattle.gr_declared.specs.declared.interfaces.Interfaces.{Interfaces}
+use Rattle.gr_declared.specs.InterfacesView.{interface_in}
 use Rattle.gr_verdict.specs.declared.fault.FileFault.{FileFault}
 use Rattle.gr_verdict.specs.FaultLists.{AreListed}
-use Rattle.gr_verdict.specs.Found.{known_by, AreWhole, AreUsesOf, KnowsVerdicts}
+use Rattle.gr_verdict.specs.Found.{KnowsVerdicts}
+use Rattle.gr_verdict.specs.Told.{known_by, AreWhole, AreUsesOf}
 use Rattle.gr_verdict.specs.Verdicts.{IsFaultBy, IsVerdict, AreVerdictsBelow}
 use Rattle.gr_object.specs.declared.packages.Packages.{Packages}
 use Rattle.gr_object.specs.ObjectView.{HaveNames}
 use Rattle.gr_compile.specs.declared.compiling.Made.{Made}
 use Rattle.gr_compile.specs.declared.unit.Unit.{Unit as PackageUnit}
-use Rattle.gr_compile.specs.Units.{AreFilesBelow, IsUnitIn, IsUnitOf, unit_value, Faults}
+use Rattle.gr_compile.specs.Units.{AreFilesBelow, IsUnitIn, IsUnitOf, KnowsOnly, unit_value, Faults}
 
 -- what the declarations of the packages in the closure of p are called
 pub record HaveNamesBelow (w : Workspace) (p : List ℕ) (packages : Packages) : Type 0 where
@@ -29,6 +31,11 @@ pub record IsFaultless (w : Workspace) (all : Interfaces) (p : List ℕ) (member
   pub whole : AreWhole all
   pub listed : AreListed (IsFaultBy w (known_by all) p) []
   pub uses : AreUsesOf w (known_by all) p members
+
+-- interfaces that have of the path what others have of it, and nothing of any other path
+pub record HasJust (all : Interfaces) (path : List ℕ) (one : Interfaces) : Type 0 where
+  pub same : interface_in one path ≡ interface_in all path
+  pub alone : KnowsOnly path one
 
 -- the unit holds just these faults
 abbrev pub HoldsFaults : List FileFault → PackageUnit → Type 0

@@ -8,7 +8,8 @@ use Rattle.gr_compile.specs.Units.{UnitValue, IsUnitValue, IsUnitOf}
 
 -- where the closure of a package has the same texts in two workspaces, it has the same unit in both
 abbrev pub AreLocalUnits : Type 0
-AreLocalUnits = (w x : Workspace) (p : List ℕ) (unit : PackageUnit) → Contains (package_paths w) p → HasSameClosure w x p → IsUnitOf w p unit → IsUnitOf x p unit
+AreLocalUnits = (w x : Workspace) (p : List ℕ) (unit : PackageUnit) → Contains (package_paths w) p → HasSameClosure w x p → IsUnitOf w p unit →
+    IsUnitOf x p unit
 
 -- a package has one unit at most
 abbrev pub HaveOneUnit : Type 0

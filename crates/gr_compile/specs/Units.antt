@@ -1,12 +1,15 @@
 -- The unit of a package in a workspace: its faults if it has some, else what other packages see of it and its object.
-use Rattle.std.specs.Prelude.{ℕ, ◌≡◌, List, [], ◌∷◌, map, Contains}
+use Rattle.std.specs.Prelude.{ℕ, ◌≡◌, List, [], ◌∷◌, None, map, Contains}
 use Rattle.gr_text.specs.Workspace.{Workspace}
 use Rattle.gr_text.specs.Packages.{package_paths, package_files}
 use Rattle.gr_tree.specs.SourceFile.{SourceFile, FileParts, source_of}
 use Rattle.gr_graph.specs.FaultyFiles.{FaultyParts}
 use Rattle.gr_graph.specs.Packages.{IsInClosure}
 use Rattle.gr_graph.specs.Parsed.{AreParsed}
-use Rattle.gr_declared.specs.InterfacesView.{interface_in}
+use Rattle.gr_imports.specs.States.{state_in}
+use Rattle.gr_imports.specs.declared.states.ImportState.TheVariants.{Missing}
+use Rattle.gr_declared.specs.declared.interfaces.Interfaces.{Interfaces}
+use Rattle.gr_declared.specs.InterfacesView.{name_in, interface_in, no_interface}
 use Rattle.gr_types.specs.Interfaces.{IsInterface}
 use Rattle.gr_declared.specs.Package.{Package, Interface}
 use Rattle.gr_verdict.specs.declared.fault.FileFault.{FileFault}
@@ -49,7 +52,7 @@ pub data UnitValue : Type 0 where
   Faults : List FileFault → UnitValue
   Done : Interface → (object : List ℕ) → UnitValue
 
--- the unit of p in w
+-- what the unit of p in w stands for
 abbrev pub IsUnitValue : Workspace → List ℕ → UnitValue → Type 0
 IsUnitValue w p (Faults list) = ListsPackageFaults w p list × (list ≡ [] → ⊥)
 IsUnitValue w p (Done i object) = IsCompiled w p i object
@@ -59,8 +62,25 @@ abbrev pub unit_value : List ℕ → PackageUnit → UnitValue
 unit_value p (compiled.Faults first others) = Faults (first ∷ others.items)
 unit_value p (compiled.Done interface object) = Done (interface_in interface p) object
 
-abbrev pub IsUnitOf : Workspace → List ℕ → PackageUnit → Type 0
-IsUnitOf w p unit = IsUnitValue w p (unit_value p unit)
+-- of a path nothing is known: it has no name, exports nothing and has no type definition
+pub record IsUnknown (i : Interfaces) (q : List ℕ) : Type 0 where
+  pub name : name_in i q ≡ None
+  pub interface : interface_in i q ≡ no_interface q
+
+-- of no package but p is anything known, and of no path what an import of it is
+pub record KnowsOnly (p : List ℕ) (i : Interfaces) : Type 0 where
+  pub elsewhere : (q : List ℕ) → (q ≡ p → ⊥) → IsUnknown i q
+  pub states : (q : List ℕ) → state_in i.states q ≡ Missing
+
+-- a unit tells what others see of p, if it does, and of no other package
+abbrev pub TellsOnly : List ℕ → PackageUnit → Type 0
+TellsOnly p (compiled.Faults first others) = Unit {0}
+TellsOnly p (compiled.Done interface object) = KnowsOnly p interface
+
+-- the unit of p in w: it stands for that of p, and tells of no other package
+pub record IsUnitOf (w : Workspace) (p : List ℕ) (unit : PackageUnit) : Type 0 where
+  pub value : IsUnitValue w p (unit_value p unit)
+  pub alone : TellsOnly p unit
 
 -- if p is a package of these inputs, this is its unit in them; of a path that is no package nothing is said
 abbrev pub IsUnitIn : Workspace → List ℕ → PackageUnit → Type 0

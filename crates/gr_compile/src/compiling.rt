@@ -5,7 +5,7 @@ ghost use Rattle.gr_text.specs.Workspace.{Workspace};
 ghost use Rattle.gr_expr.specs.WorldView.{definitions_at, ranked};
 ghost use Rattle.gr_declared.specs.InterfacesView.{interface_in};
 ghost use Rattle.gr_verdict.specs.Found.{IsFoundBy, KnowsVerdicts};
-ghost use Rattle.gr_compile.specs.Compiling.{HoldsFaults, IsFaultless, IsMade, IsMadeIn};
+ghost use Rattle.gr_compile.specs.Compiling.{HasJust, HoldsFaults, IsFaultless, IsMade, IsMadeIn};
 ghost use Rattle.gr_compile.specs.Units.{IsCompiled, IsUnitOf};
 
 use crate::naming::names_below;
@@ -30,13 +30,13 @@ fn definitions_of<'a>(all: &'a Interfaces, path: &[u8]) -> &'a [Definition]
     }
 }
 
-/// The interface of one package alone.
+/// The interface of one package alone: of all others nothing is told.
 fn interface_of(
     alloc: Global,
     all: &Interfaces,
     path: &SharedPath,
 ) -> Result<Interfaces, AllocError>
-    ensures { IfOk result (λ one. interface_in one path.now ≡ interface_in all.now path.now) }
+    ensures { IfOk result (HasJust all.now path.now) }
 {
     let mut one = Interfaces::new(alloc);
     one.share(alloc, all, path.path())?;

@@ -22,10 +22,10 @@ use Rattle.gr_scoped.specs.ScopedPackages.{IsScopedIn}
 use Rattle.gr_scoped.specs.Scopes.{package_scoped, IsNotScoped}
 use Rattle.gr_scoped.specs.declared.scopes.PackageScopes.{PackageScopes}
 use Rattle.gr_standing.specs.Standing.{TokenAt, StandsIn, IsDeclaredAt}
-use Rattle.gr_check.specs.Corresponding.{Corresponds, stands}
+use Rattle.gr_kept.specs.Corresponding.{Corresponds, stands}
 use Rattle.gr_placed.specs.DeclaredPlaces.{IsFound}
-use Rattle.gr_check.specs.Steps.{IsSamePredeclared}
-use Rattle.gr_check.proofs.Becoming.{StandBoth, by_cases, same_names}
+use Rattle.gr_kept.specs.Steps.{IsSamePredeclared}
+use Rattle.gr_kept.proofs.Becoming.{StandBoth, by_cases, same_names}
 use Rattle.gr_placed.proofs.Declared.{one_place}
 use Rattle.gr_placed.proofs.Found.{found_as}
 use Rattle.gr_conflict.specs.Afterwards.{HasBecome}
@@ -58,7 +58,12 @@ module _ (w : Workspace) (path : List ℕ) (d : ℕ) where
       inside = package_scoped path s;
       is_package = is;
       of_path = refl;
-      holds = record { at = (layout_in s.table).place (literal_of (layout_in s.table) d); is_at = record { own = not; counts = counts_here counts; stands = refl }; begins = t };
+      holds = record {
+        at = (layout_in s.table).place (literal_of (layout_in s.table) d);
+        is_at =
+            record { own = not; counts = counts_here counts; stands = refl };
+        begins = t;
+      };
     }
 
     from_standing : (place : Place) → IsDeclaredAt (IsScopedIn w) (Declared path d) place → IsOwnToken s d place

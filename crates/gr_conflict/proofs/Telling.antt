@@ -220,7 +220,8 @@ member_in w known r p formed ds are members all file v at c h =
       user = token.0;
       begins = token.1.0;
       turned = by_member h.old used.0
-          (subst (λ t. TellsMember Known (λ e. IsMemberAfter Known r p.path (r.called c.used (spelled p place.file place.index)) used.0.judged.world.definition t e) h.old c.by)
+          (subst (λ t. TellsMember Known (λ e. IsMemberAfter Known r p.path (r.called c.used (spelled p place.file place.index))
+          used.0.judged.world.definition t e) h.old c.by)
           (sym used.1.0)
           (subst (λ u. TellsMember Known (λ e. IsMemberAfter Known r p.path (r.called c.used (spelled p place.file place.index)) u x.found.before e) h.old c.by)
           (sym used.1.1) now));

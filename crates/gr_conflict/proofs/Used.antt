@@ -21,7 +21,8 @@ use Rattle.gr_bound.specs.Members.{member_at}
 abbrev pub IsUsedAs : (Symbol → Definition) → Package → (file token : ℕ) → Declaration → PlainType → Type 0
 IsUsedAs ds p file token d before = (m : IsMemberAt p file token d) × ((m.found.before ≡ before) × (m.judged.world.definition ≡ (λ s. (ds s).underlying)))
 
-module _ (p : Package) (formed : WellFormed p.layout) (ds : Symbol → Definition) (are : AreDefinitions p ds) (file : ℕ) (us : List MemberUse) (a : AreUsesIn p file us) where
+module _ (p : Package) (formed : WellFormed p.layout) (ds : Symbol → Definition) (are : AreDefinitions p ds) (file : ℕ) (us : List MemberUse)
+    (a : AreUsesIn p file us) where
   same : a.judged_by.definitions ≡ ds
   same = one_definitions p formed a.judged_by.definitions ds a.judged_by.are_definitions are
 
@@ -38,7 +39,8 @@ module _ (p : Package) (formed : WellFormed p.layout) (ds : Symbol → Definitio
   pub used_at : (x : MemberUse) → Contains us x → (d : Declaration) → member_at ds p file x.place x.before ≡ Some d → IsUsedAs ds p file x.place d x.before
   used_at x is d e = by_member (member_by ds p.path (spelled p file x.place) x.before) refl e
     where
-      by_member : (o : Option Member) → member_by ds p.path (spelled p file x.place) x.before ≡ o → option_map declaration_of o ≡ Some d → IsUsedAs ds p file x.place d x.before
+      by_member : (o : Option Member) → member_by ds p.path (spelled p file x.place) x.before ≡ o → option_map declaration_of o ≡ Some d →
+          IsUsedAs ds p file x.place d x.before
       by_member None has e = absurd (none-some d e)
       by_member (Some m) has e = (
         record {

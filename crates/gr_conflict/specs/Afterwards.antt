@@ -16,7 +16,7 @@ use Rattle.gr_bound.specs.Uses.{IsPackage}
 use Rattle.gr_revision.specs.Revisions.{Revision, GoesTo}
 use Rattle.gr_members_after.specs.MembersAfter.{IsMemberAfter}
 use Rattle.gr_scoped.specs.ScopedPackages.{IsScopedIn}
-use Rattle.gr_check.specs.Corresponding.{Corresponds}
+use Rattle.gr_kept.specs.Corresponding.{Corresponds}
 use Rattle.gr_change_places.specs.ScopeBindings.{IsScopeUse}
 
 -- c of the workspace before has become e, as scopes see it
@@ -50,6 +50,7 @@ IsMemberNow Known r definitions p at before place e =
     IsMemberAfter Known r p.path (r.called place (spelled p at.file at.index)) (λ s. (definitions s).underlying) before e
 
 -- a member use: e is what its new name is for the type that was found before it
-abbrev pub IsBoundByMember : (Known : Package → Type 0) → Revision → Place → (p : Package) (u : ℕ) (old : Declaration) → BindsByMember p u old → Declaration → Type 0
+abbrev pub IsBoundByMember : (Known : Package → Type 0) → Revision → Place → (p : Package) (u : ℕ) (old : Declaration) → BindsByMember p u old →
+    Declaration → Type 0
 IsBoundByMember Known r place p u old was e =
     IsMemberAfter Known r p.path (r.called place (spelled p (p.layout.place u).file (p.layout.place u).index)) was.judged.world.definition was.found.before e

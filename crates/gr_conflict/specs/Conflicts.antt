@@ -34,9 +34,11 @@ IsCapturer Known d (At place) = IsDeclaredAt Known d place
 
 -- What is told of an identifier that was bound to old, and is bound afterwards to that of which E tells. It is lost where no
 -- declaration has become that, and where that is none; what captures it has become what it is bound to, and old has not.
-pub data TellsOf (Becomes : Declaration → Declaration → Type 0) (Known : Package → Type 0) (E : Declaration → Type 0) (old : Declaration) : Option Capturer → Type 0 where
+pub data TellsOf (Becomes : Declaration → Declaration → Type 0) (Known : Package → Type 0) (E : Declaration → Type 0) (old : Declaration) : Option
+    Capturer → Type 0 where
   is_lost : ((e c : Declaration) → E e → Becomes c e → ⊥) → TellsOf Becomes Known E old None
-  is_captured : {by : Capturer} (e c : Declaration) → E e → Becomes c e → IsCapturer Known c by → ((d : Declaration) → E d → Becomes old d → ⊥) → TellsOf Becomes Known E old (Some by)
+  is_captured : {by : Capturer} (e c : Declaration) → E e → Becomes c e → IsCapturer Known c by → ((d : Declaration) → E d → Becomes old d → ⊥) →
+      TellsOf Becomes Known E old (Some by)
 
 -- The same of what was bound to a field or method: it is lost only where the type has no member of its new name, and what captures it
 -- is the member that has this, and is not the old one.
@@ -53,9 +55,12 @@ TellsMember Known E old (Some by) = IsOther Known E old by
 -- An identifier of the package was bound to a declaration in some way, and in this way it is afterwards bound to none, or to
 -- another. The name by which a member is declared is lost where this does not count under its new name, and never captured.
 pub data IsTurned (w : Workspace) (known : Verdicts) (r : Revision) (p : Package) (u : ℕ) (c : Conflict) : Type 0 where
-  by_scope : (old : Declaration) → BindsByScope p u old → TellsOf (HasBecome w known r) (IsPackage w known) (IsBoundByScopes r c.used) old c.by → IsTurned w known r p u c
-  by_package : (old : Declaration) → BindsByPackage (IsPackage w known) p u old → TellsOf (HasBecome w known r) (IsPackage w known) (IsBoundByPackage w r c.used p u) old c.by → IsTurned w known r p u c
-  by_member : (old : Declaration) (was : BindsByMember p u old) → TellsMember (IsPackage w known) (IsBoundByMember (IsPackage w known) r c.used p u old was) old c.by → IsTurned w known r p u c
+  by_scope : (old : Declaration) → BindsByScope p u old → TellsOf (HasBecome w known r) (IsPackage w known) (IsBoundByScopes r c.used) old c.by →
+      IsTurned w known r p u c
+  by_package : (old : Declaration) → BindsByPackage (IsPackage w known) p u old →
+      TellsOf (HasBecome w known r) (IsPackage w known) (IsBoundByPackage w r c.used p u) old c.by → IsTurned w known r p u c
+  by_member : (old : Declaration) (was : BindsByMember p u old) →
+      TellsMember (IsPackage w known) (IsBoundByMember (IsPackage w known) r c.used p u old was) old c.by → IsTurned w known r p u c
   by_name : (old : Declaration) → BindsByName p u old → (CountsAfter (IsPackage w known) r old → ⊥) → c.by ≡ None → IsTurned w known r p u c
 
 pub record IsConflictIn (w : Workspace) (known : Verdicts) (r : Revision) (p : Package) (c : Conflict) : Type 0 where
@@ -139,20 +144,23 @@ IsUsedNow Known r definitions p file found = IsMemberNow Known r definitions p (
 
 -- what is used as a member stays the member that it was
 abbrev pub UseStays : (Known : Package → Type 0) → Revision → (Symbol → Definition) → Package → (file : ℕ) → MemberUse → Place → Type 0
-UseStays Known r definitions p file found place = (old : Declaration) → IsMemberUseOf definitions p file old found place → IsUsedNow Known r definitions p file found place old
+UseStays Known r definitions p file found place = (old : Declaration) → IsMemberUseOf definitions p file old found place →
+    IsUsedNow Known r definitions p file found place old
 
 -- the same of each member use of a file
 abbrev pub UsesStay : (Known : Package → Type 0) → Revision → (Symbol → Definition) → Package → (file : ℕ) → List MemberUse → Place → Type 0
 UsesStay Known r definitions p file uses place = (k : ℕ) (found : MemberUse) → slice_get uses k ≡ Some found → UseStays Known r definitions p file found place
 
 -- a conflict of what is used as a member
-pub record IsMemberConflict (Known : Package → Type 0) (r : Revision) (definitions : Symbol → Definition) (p : Package) (file : ℕ) (found : MemberUse) (c : Conflict) : Type 0 where
+pub record IsMemberConflict (Known : Package → Type 0) (r : Revision) (definitions : Symbol → Definition) (p : Package) (file : ℕ) (found : MemberUse)
+    (c : Conflict) : Type 0 where
   pub old : Declaration
   pub is_use : IsMemberUseOf definitions p file old found c.used
   pub tells : TellsMember Known (IsUsedNow Known r definitions p file found c.used) old c.by
 
 -- the same of some member use of a file
-pub record IsMemberConflictAmong (Known : Package → Type 0) (r : Revision) (definitions : Symbol → Definition) (p : Package) (file : ℕ) (uses : List MemberUse) (c : Conflict) : Type 0 where
+pub record IsMemberConflictAmong (Known : Package → Type 0) (r : Revision) (definitions : Symbol → Definition) (p : Package) (file : ℕ)
+    (uses : List MemberUse) (c : Conflict) : Type 0 where
   pub old : Declaration
   pub is_use : IsMemberUseAmong definitions p file old uses c.used
   pub tells : TellsMember Known (IsUsedNow Known r definitions p file is_use.1.found c.used) old c.by

@@ -23,7 +23,8 @@ IsCounted w (Method s) = ⊥
 
 -- the token at which the declaration of a number stands, an import at its path literal, begins at the place
 abbrev pub IsOwnToken : PackageScopes → ℕ → Place → Type 0
-IsOwnToken s d place = let at = (layout_in s.table).place (literal_of (layout_in s.table) d) in TokenBegins (slice_get (map source_of s.files.now) at.file) at.index place
+IsOwnToken s d place = let at = (layout_in s.table).place (literal_of (layout_in s.table) d) in
+    TokenBegins (slice_get (map source_of s.files.now) at.file) at.index place
 
 -- the package of a path exports e under a name
 pub record IsExportIn (w : Workspace) (path name : List ℕ) (e : Declaration) : Type 0 where

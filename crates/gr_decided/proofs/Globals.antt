@@ -7,7 +7,9 @@ use Rattle.gr_tree.specs.SourceFile.{SourceFile}
 use Rattle.gr_tree.specs.Tree.{Item, DeclTree, VarDecl, TypeDecl, FuncDecl}
 use Rattle.gr_scope.specs.declared.model.Position.{Position}
 use Rattle.gr_imports.specs.Files.{Ranked, ranked, group_items}
-use Rattle.gr_declared.specs.Package.{Package, PlacedVariable, PlacedType, PlacedFunction, variables_of, placed_type, decl_variables, decl_types, decl_functions, variables_in, types_in, functions_in, package_variables, package_types, package_functions, variable_place, function_place, type_place}
+use Rattle.gr_declared.specs.Package.{Package, PlacedVariable, PlacedType, PlacedFunction, variables_of, placed_type, decl_variables, decl_types}
+use Rattle.gr_declared.specs.Package.{decl_functions, variables_in, types_in, functions_in, package_variables, package_types, package_functions}
+use Rattle.gr_declared.specs.Package.{variable_place, function_place, type_place}
 use Rattle.gr_meanings.proofs.DeclKinds.{Holds}
 use Rattle.gr_decided.proofs.Told.{IsNameIn}
 use Rattle.gr_decided.proofs.Files.{IsGlobal}

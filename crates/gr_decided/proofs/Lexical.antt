@@ -5,7 +5,8 @@ use Rattle.gr_scope.specs.declared.model.Block.TheVariants.{Universe, Package, F
 use Rattle.gr_scope.specs.declared.model.Position.{Position}
 use Rattle.gr_scope.specs.declared.model.Scope.{Scope}
 use Rattle.gr_scope.specs.declared.model.Scope.TheVariants.{Everywhere, WholePackage, WholeFile, Interval}
-use Rattle.gr_scope.specs.Bindings.{Layout, Names, MayDeclare, IsLeftName, SameBlock, InScope, IsPackageLevel, IsImport, Displaces, Declares, Counts, BindsAt, IsUse, IsBoundTo, use_bound, own, may_declare, is_left_name, is_use, block_of, scope_of}
+use Rattle.gr_scope.specs.Bindings.{Layout, Names, MayDeclare, IsLeftName, SameBlock, InScope, IsPackageLevel, IsImport, Displaces, Declares, Counts}
+use Rattle.gr_scope.specs.Bindings.{BindsAt, IsUse, IsBoundTo, use_bound, own, may_declare, is_left_name, is_use, block_of, scope_of}
 use Rattle.gr_scope.specs.Scopes.{Holds, IsInside}
 use Rattle.gr_scope.specs.WellFormed.{WellFormed}
 use Rattle.gr_scope.proofs.Uniqueness.{same_or_not}

@@ -7,8 +7,14 @@ use Rattle.std.proofs.lemmas.Bool.{true≢false}
 use Rattle.gr_tree.specs.declared.syntax.Kind.{Kind}
 use Rattle.gr_tree.specs.declared.syntax.Kind.TheVariants as kind
 use Rattle.gr_tree.specs.declared.syntax.Token.{Token}
-use Rattle.gr_tree.specs.Flatten.{sign, sign_if, tokens_if, all_tokens, item_tokens, list_tokens, group_tokens, name_tokens, ident_tokens, type_tokens, expr_tokens, exprs_tokens, simple_tokens, value_tokens, local_tokens, init_tokens, for_tokens, statement_tokens, block_tokens, statements_tokens, if_tokens, else_tokens, global_tokens, type_spec_tokens, receiver_tokens, param_tokens, result_tokens, func_tokens, decl_tokens}
-use Rattle.gr_tree.specs.Tree.{Item, Group, single, several, IdentTree, Named, Underscore, ExprTree, SimpleTree, LocalTree, InitTree, ForTree, StatementTree, BlockTree, StatementTrees, IfTree, ElseTree, GlobalTree, FieldTree, BodyTree, Other, Struct, TypeSpecTree, ReceiverTree, ParamTree, ResultTree, no_result, one_result, results, FuncTree, ImportTree, ImportsTree, DeclTree, VarDecl, TypeDecl, FuncDecl, FileTree}
+use Rattle.gr_tree.specs.Flatten.{sign, sign_if, tokens_if, all_tokens, item_tokens, list_tokens, group_tokens, name_tokens, ident_tokens, type_tokens}
+use Rattle.gr_tree.specs.Flatten.{expr_tokens, exprs_tokens, simple_tokens, value_tokens, local_tokens, init_tokens, for_tokens, statement_tokens}
+use Rattle.gr_tree.specs.Flatten.{block_tokens, statements_tokens, if_tokens, else_tokens, global_tokens, type_spec_tokens, receiver_tokens, param_tokens}
+use Rattle.gr_tree.specs.Flatten.{result_tokens, func_tokens, decl_tokens}
+use Rattle.gr_tree.specs.Tree.{Item, Group, single, several, IdentTree, Named, Underscore, ExprTree, SimpleTree, LocalTree, InitTree, ForTree}
+use Rattle.gr_tree.specs.Tree.{StatementTree, BlockTree, StatementTrees, IfTree, ElseTree, GlobalTree, FieldTree, BodyTree, Other, Struct, TypeSpecTree}
+use Rattle.gr_tree.specs.Tree.{ReceiverTree, ParamTree, ResultTree, no_result, one_result, results, FuncTree, ImportTree, ImportsTree, DeclTree, VarDecl}
+use Rattle.gr_tree.specs.Tree.{TypeDecl, FuncDecl, FileTree}
 use Rattle.gr_tree.specs.Tree as tree
 use Rattle.gr_scope.specs.declared.model.Block.TheVariants.{Universe, File, Inner}
 use Rattle.gr_scope.specs.declared.model.Block.TheVariants.{Package as PackageBlock}
@@ -18,8 +24,10 @@ use Rattle.gr_scope.specs.declared.model.Role.TheVariants.{Use, Declaring, LeftN
 use Rattle.gr_scope.specs.Bindings.{may_declare}
 use Rattle.gr_scope.specs.Site.{Site, Source, site}
 use Rattle.gr_scope.specs.ExpressionSites.{sites_if, list_sites, type_sites, expr_sites, exprs_sites}
-use Rattle.gr_scope.specs.StatementSites.{ident_sites, left_sites, assigned_sites, simple_sites, value_sites, local_sites, separated_sites, group_sites, init_sites, for_sites, open_of, close_of, statement_sites, block_sites, statements_sites, if_sites, else_sites}
-use Rattle.gr_scope.specs.FileSites.{global_name, member_name, spec_sites, global_sites, field_sites, body_sites, type_spec_sites, receiver_sites, param_sites, result_sites, func_block, func_role, func_sites, decl_sites}
+use Rattle.gr_scope.specs.StatementSites.{ident_sites, left_sites, assigned_sites, simple_sites, value_sites, local_sites, separated_sites, group_sites}
+use Rattle.gr_scope.specs.StatementSites.{init_sites, for_sites, open_of, close_of, statement_sites, block_sites, statements_sites, if_sites, else_sites}
+use Rattle.gr_scope.specs.FileSites.{global_name, member_name, spec_sites, global_sites, field_sites, body_sites, type_spec_sites, receiver_sites}
+use Rattle.gr_scope.specs.FileSites.{param_sites, result_sites, func_block, func_role, func_sites, decl_sites}
 use Rattle.gr_scope.proofs.PlainSites.{plain_append, plain_list, plain_if, plain_type, plain_expr, plain_exprs, plain_assigned}
 use Rattle.gr_scope.proofs.Regions.{Each}
 use Rattle.gr_imports.specs.Files.{group_items}

@@ -29,21 +29,24 @@ nothing_known i scopes definitions path = ap₂ (interface_by path) (ap (scope_f
 
 -- where no scope and no definitions change, the same is known
 
-same_known : (old new : Interfaces) (path : List ℕ) → scope_in new path ≡ scope_in old path → definitions_at new.definitions path ≡ definitions_at old.definitions path → new.states ≡ old.states → KnowsSame old new path
+same_known : (old new : Interfaces) (path : List ℕ) → scope_in new path ≡ scope_in old path →
+    definitions_at new.definitions path ≡ definitions_at old.definitions path → new.states ≡ old.states → KnowsSame old new path
 same_known old new path scope definitions states = record {
   interface = ap₂ (interface_by path) scope definitions;
   name = ap scope_name scope;
   state = ap (λ s. state_in s path) states;
 }
 
-pub nothing_more : (old new : Interfaces) → ((p : List ℕ) → held_at new.scopes p ≡ held_at old.scopes p) → ((p : List ℕ) → definitions_at new.definitions p ≡ definitions_at old.definitions p) → new.states ≡ old.states →
+pub nothing_more : (old new : Interfaces) → ((p : List ℕ) → held_at new.scopes p ≡ held_at old.scopes p) →
+    ((p : List ℕ) → definitions_at new.definitions p ≡ definitions_at old.definitions p) → new.states ≡ old.states →
     (path : List ℕ) → KnowsSame old new path
 nothing_more old new scopes definitions states path = same_known old new path (ap shared_scope (scopes path)) (definitions path) states
 
 -- a scope and definitions are set
 
 pub is_set : (old new : Interfaces) (path : List ℕ) (scope : Option (Arc PackageScope Global)) (definitions : Option (List Definition)) →
-    held_at new.scopes path ≡ scope → ((p : List ℕ) → (p ≡ path → ⊥) → held_at new.scopes p ≡ held_at old.scopes p) → definitions_at new.definitions path ≡ definitions →
+    held_at new.scopes path ≡ scope → ((p : List ℕ) → (p ≡ path → ⊥) → held_at new.scopes p ≡ held_at old.scopes p) →
+    definitions_at new.definitions path ≡ definitions →
     ((p : List ℕ) → (p ≡ path → ⊥) → definitions_at new.definitions p ≡ definitions_at old.definitions p) → new.states ≡ old.states →
     Sets old new path (interface_by path (shared_scope scope) definitions) (scope_name (shared_scope scope))
 is_set old new path scope definitions here others defined stay noted = record {
@@ -53,8 +56,10 @@ is_set old new path scope definitions here others defined stay noted = record {
   elsewhere = λ p ne. same_known old new p (ap shared_scope (others p ne)) (stay p ne) noted;
 }
 
-pub set_as : (old new : Interfaces) (path : List ℕ) (scope given : Option PackageScope) (definitions listed : Option (List Definition)) → scope ≡ given → definitions ≡ listed →
+pub set_as : (old new : Interfaces) (path : List ℕ) (scope given : Option PackageScope) (definitions listed : Option (List Definition)) → scope ≡ given →
+    definitions ≡ listed →
     Sets old new path (interface_by path scope definitions) (scope_name scope) → Sets old new path (interface_by path given listed) (scope_name given)
 set_as old new path scope given definitions listed same_scope same_definitions set =
-    let by_scope : Sets old new path (interface_by path given definitions) (scope_name given) = subst (λ v. Sets old new path (interface_by path v definitions) (scope_name v)) same_scope set in
+    let by_scope : Sets old new path (interface_by path given definitions) (scope_name given) =
+    subst (λ v. Sets old new path (interface_by path v definitions) (scope_name v)) same_scope set in
     subst (λ v. Sets old new path (interface_by path given v) (scope_name given)) same_definitions by_scope

@@ -25,7 +25,8 @@ appends_one f a b x e = record { added = ap (map f) e ∙ map-append f a (x ∷ 
 
 -- what is added for the items of a list, as far as a loop has come
 
-parts_take : {X Y : Type 0} (g : X → List Y) (xs : List X) (i : ℕ) (x : X) → i < length xs → flat_map g (take i xs) ++ g (get_or xs i x) ≡ flat_map g (take (i + 1) xs)
+parts_take : {X Y : Type 0} (g : X → List Y) (xs : List X) (i : ℕ) (x : X) → i < length xs →
+    flat_map g (take i xs) ++ g (get_or xs i x) ≡ flat_map g (take (i + 1) xs)
 parts_take g xs i x lt =
     ap (λ z. flat_map g (take i xs) ++ z) (sym (append-nil (g (get_or xs i x)))) ∙
     sym (flat_map-append g (take i xs) (get_or xs i x ∷ [])) ∙ sym (ap (flat_map g) (take-suc xs i x lt)) ∙
@@ -37,7 +38,8 @@ parts_all g xs i e = ap (λ k. flat_map g (take k xs)) e ∙ ap (flat_map g) (ta
 pub appends_step : {X Y Z : Type 0} (f : X → Y) (a b c : List X) (g : Z → List Y) (zs : List Z) (i : ℕ) (d : Z) → i < length zs →
     Appends f a b (flat_map g (take i zs)) → Appends f b c (g (get_or zs i d)) → Appends f a c (flat_map g (take (i + 1) zs))
 appends_step f a b c g zs i d lt h k =
-    appends_as f a c (flat_map g (take i zs) ++ g (get_or zs i d)) (flat_map g (take (i + 1) zs)) (appends_then f a b c (flat_map g (take i zs)) (g (get_or zs i d)) h k)
+    appends_as f a c (flat_map g (take i zs) ++ g (get_or zs i d)) (flat_map g (take (i + 1) zs))
+    (appends_then f a b c (flat_map g (take i zs)) (g (get_or zs i d)) h k)
     (parts_take g zs i d lt)
 
 -- the item that was read
@@ -45,16 +47,19 @@ pub appends_next : {X Y Z : Type 0} (f : X → Y) (a b c : List X) (g : Z → Li
     Appends f a b (flat_map g (take i zs)) → Appends f b c (g z) → Appends f a c (flat_map g (take (i + 1) zs))
 appends_next f a b c g zs i z lt e h k = appends_step f a b c g zs i z lt h (subst (λ y. Appends f b c (g y)) e k)
 
-pub appends_all : {X Y Z : Type 0} (f : X → Y) (a b : List X) (g : Z → List Y) (zs : List Z) (i : ℕ) → i ≡ length zs → Appends f a b (flat_map g (take i zs)) → Appends f a b (flat_map g zs)
+pub appends_all : {X Y Z : Type 0} (f : X → Y) (a b : List X) (g : Z → List Y) (zs : List Z) (i : ℕ) → i ≡ length zs →
+    Appends f a b (flat_map g (take i zs)) → Appends f a b (flat_map g zs)
 appends_all f a b g zs i e h = appends_as f a b (flat_map g (take i zs)) (flat_map g zs) h (parts_all g zs i e)
 
 -- a call that adds the same under another name
-pub call_appends : {E X Y : Type 0} (f : X → Y) (a b : List X) (xs ys : List Y) (r : Result (Unit {0}) E) → OnOk r (Appends f a b xs) → xs ≡ ys → OnOk r (Appends f a b ys)
+pub call_appends : {E X Y : Type 0} (f : X → Y) (a b : List X) (xs ys : List Y) (r : Result (Unit {0}) E) → OnOk r (Appends f a b xs) → xs ≡ ys →
+    OnOk r (Appends f a b ys)
 call_appends f a b xs ys r k e = on_ok_weaker r (λ q. appends_as f a b xs ys q e) k
 
 -- files by their ranks, as a loop has come to them
 
-pub next_ranked : {V Y : Type 0} (v : V → Y) (vs : List V) (i : ℕ) (x : V) → i < length vs → x ≡ get_or vs i x → (i, v x) ≡ get_or (enumerate_from 0 (map v vs)) i (i, v x)
+pub next_ranked : {V Y : Type 0} (v : V → Y) (vs : List V) (i : ℕ) (x : V) → i < length vs → x ≡ get_or vs i x →
+    (i, v x) ≡ get_or (enumerate_from 0 (map v vs)) i (i, v x)
 next_ranked v vs i x lt e =
     let short : i < length (map v vs) = rw (length-map vs v) lt in
     sym (get_or-enumerate_from 0 (map v vs) i (i, v x) short ∙ ap (λ k. (k, get_or (map v vs) i (v x))) (let z : 0 + i ≡ i = omega arith in z) ∙

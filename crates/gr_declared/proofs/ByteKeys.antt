@@ -36,12 +36,14 @@ apart path other ne k e = elim (cases_Bool (is_at (finds path) k)) [
 ]
 
 -- where what bytes find is set, other bytes find what they found
-pub others_found : {X : Type 0} (old new : BTreeMap (Vec ℕ) X) (path : List ℕ) (w : Option X) → UpdatesBy key_cmp (finds path) old new w → (other : List ℕ) → (other ≡ path → ⊥) →
+pub others_found : {X : Type 0} (old new : BTreeMap (Vec ℕ) X) (path : List ℕ) (w : Option X) → UpdatesBy key_cmp (finds path) old new w →
+    (other : List ℕ) → (other ≡ path → ⊥) →
     get_by (finds other) new ≡ get_by (finds other) old
 unfolding KeepsOthers
 others_found old new path w u other ne = u.3 (is_at (finds other)) (finds_one other) (apart other path ne)
 
 -- the same, at a key
-pub others_stay : {X : Type 0} (old new : BTreeMap (Vec ℕ) X) (key : Vec ℕ) (w : Option X) → Updates key_cmp old new key w → (path : List ℕ) → (path ≡ key.items → ⊥) →
+pub others_stay : {X : Type 0} (old new : BTreeMap (Vec ℕ) X) (key : Vec ℕ) (w : Option X) → Updates key_cmp old new key w → (path : List ℕ) →
+    (path ≡ key.items → ⊥) →
     get_by (finds path) new ≡ get_by (finds path) old
 others_stay old new key w u path ne = others_found old new key.items w u path ne

@@ -32,24 +32,29 @@ names_of_items : (file : ℕ) (spec : VarSpec) (xs : List (Item ℕ)) →
 names_of_items file spec [] = refl
 names_of_items file spec (x ∷ xs) = ap (λ z. record { file = file; name = x.value; type_use = type_view spec.var_type } ∷ z) (names_of_items file spec xs)
 
-pub names_from : (file : ℕ) (spec : VarSpec) (xs : List (Item ℕ)) → xs ≡ spec.names.items → flat_map (name_part file spec) xs ≡ variables_of file (global_view spec)
+pub names_from : (file : ℕ) (spec : VarSpec) (xs : List (Item ℕ)) → xs ≡ spec.names.items →
+    flat_map (name_part file spec) xs ≡ variables_of file (global_view spec)
 unfolding global_view
 names_from file spec xs e = ap (flat_map (name_part file spec)) e ∙ names_of_items file spec spec.names.items
 
-items_from : {X Y Z : Type 0} (f : Y → List Z) (v : X → Y) (xs : List (Item X)) → flat_map (λ x. f (v x.value)) xs ≡ flat_map f (map (λ x. x.value) (map (item_view v) xs))
+items_from : {X Y Z : Type 0} (f : Y → List Z) (v : X → Y) (xs : List (Item X)) →
+    flat_map (λ x. f (v x.value)) xs ≡ flat_map f (map (λ x. x.value) (map (item_view v) xs))
 items_from f v [] = refl
 items_from f v (x ∷ xs) = ap (λ z. f (v x.value) ++ z) (items_from f v xs)
 
 -- what is in the parentheses of a group
-pub several_from : {X Y Z : Type 0} (f : Y → List Z) (v : X → Y) (g : Group X) (o : ℕ) (items : _) (c : ℕ) (xs : List (Item X)) → g ≡ group.Several o items c → xs ≡ items.items →
+pub several_from : {X Y Z : Type 0} (f : Y → List Z) (v : X → Y) (g : Group X) (o : ℕ) (items : _) (c : ℕ) (xs : List (Item X)) →
+    g ≡ group.Several o items c → xs ≡ items.items →
     flat_map (λ x. f (v x.value)) xs ≡ flat_map f (group_items (group_view v g))
 unfolding group_view
-several_from f v g o items c xs eg ex = ap (flat_map (λ x. f (v x.value))) ex ∙ items_from f v items.items ∙ ap (λ z. flat_map f (group_items (group_view v z))) (sym eg)
+several_from f v g o items c xs eg ex = ap (flat_map (λ x. f (v x.value))) ex ∙ items_from f v items.items ∙
+    ap (λ z. flat_map f (group_items (group_view v z))) (sym eg)
 
 pub types_from : (file : ℕ) (g : Group TypeSpec) (o : ℕ) (items : _) (c : ℕ) (xs : List (Item TypeSpec)) → g ≡ group.Several o items c → xs ≡ items.items →
     flat_map (type_part file) xs ≡ map (placed_type file) (group_items (group_view type_spec_view g))
 types_from file g o items c xs eg ex =
-    several_from (λ t. placed_type file t ∷ []) type_spec_view g o items c xs eg ex ∙ flat_map_single (placed_type file) (group_items (group_view type_spec_view g))
+    several_from (λ t. placed_type file t ∷ []) type_spec_view g o items c xs eg ex ∙
+    flat_map_single (placed_type file) (group_items (group_view type_spec_view g))
 
 -- what the declarations of a file declare
 pub decls_from : {Z : Type 0} (f : DeclTree → List Z) (tree : File) (ds : List Decl) (file : FileParts) → tree ≡ file.file → ds ≡ tree.decls.items →

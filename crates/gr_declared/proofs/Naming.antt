@@ -13,7 +13,8 @@ use Rattle.gr_expr.specs.declared.types.Basic.TheVariants as basic
 use Rattle.gr_expr.specs.Types.{PlainType, BasicType, Defined, Meaning, TypeName}
 use Rattle.gr_expr.specs.Types.{Pointer as PointerType, Slice as SliceType}
 use Rattle.gr_declared.specs.Package.{Package, Export, type_place, package_types, laid_of, symbol_in, spelled}
-use Rattle.gr_declared.specs.Written.{BindsToken, ImportsPath, IsExportOf, IsExportAt, NamesExport, basic_name, Names, predeclared, defined, imported, pointer, slice}
+use Rattle.gr_declared.specs.Written.{BindsToken, ImportsPath, IsExportOf, IsExportAt, NamesExport, basic_name, Names, predeclared, defined, imported}
+use Rattle.gr_declared.specs.Written.{pointer, slice}
 use Rattle.gr_declared.specs.WrittenView.{DeclaresPlain}
 use Rattle.gr_declared.specs.WrittenView as found
 use Rattle.gr_declared.proofs.Ranking.{one_rank}
@@ -30,11 +31,14 @@ one_import_path p d v w a b = one_path one_string_value p.files (laid_of p) d v 
 -- a name behind that of a package is one export
 one_export_of : (p : Package) (d file name : ℕ) (e f : Export) → IsExportOf p d file name e → IsExportOf p d file name f → e ≡ f
 one_export_of p d file name e f a b =
-    same_Some e f (sym a.exported ∙ ap (λ v. (p.interface_of v).exported (spelled p file name)) (one_import_path p d a.path b.path a.imports b.imports) ∙ b.exported)
+    same_Some e f (sym a.exported ∙ ap (λ v. (p.interface_of v).exported (spelled p file name)) (one_import_path p d a.path b.path a.imports b.imports) ∙
+    b.exported)
 
-pub one_export : (p : Package) → WellFormed p.layout → (file qualifier name : ℕ) (e f : Export) → IsExportAt p file qualifier name e → IsExportAt p file qualifier name f → e ≡ f
+pub one_export : (p : Package) → WellFormed p.layout → (file qualifier name : ℕ) (e f : Export) → IsExportAt p file qualifier name e →
+    IsExportAt p file qualifier name f → e ≡ f
 one_export p w file q name e f a b =
-    one_export_of p a.import file name e f a.of_import (subst (λ d. IsExportOf p d file name f) (one_binding p w file q b.import a.import b.binds a.binds) b.of_import)
+    one_export_of p a.import file name e f a.of_import
+    (subst (λ d. IsExportOf p d file name f) (one_binding p w file q b.import a.import b.binds a.binds) b.of_import)
 
 -- a predeclared name is that of one type
 one_basic : (b c : Basic) → basic_name b ≡ basic_name c → b ≡ c
@@ -65,10 +69,12 @@ by_declaration p file n _ (defined {d = d} {rank = r} binds is) = (d, (binds, fo
 by_export : (p : Package) (file q dot n : ℕ) (t : PlainType) → Names p file (Imported q dot n) t → NamesExport p file q n t
 by_export p file q dot n t (imported e) = e
 
-by_target : (p : Package) (file s : ℕ) (tree : TypeTree) (t : PlainType) → Names p file (Pointer s tree) t → (v : PlainType) × ((t ≡ PointerType v) × Names p file tree v)
+by_target : (p : Package) (file s : ℕ) (tree : TypeTree) (t : PlainType) → Names p file (Pointer s tree) t → (v : PlainType) ×
+    ((t ≡ PointerType v) × Names p file tree v)
 by_target p file s tree _ (pointer {t = v} names) = (v, (refl, names))
 
-by_element : (p : Package) (file o c : ℕ) (tree : TypeTree) (t : PlainType) → Names p file (Slice o c tree) t → (v : PlainType) × ((t ≡ SliceType v) × Names p file tree v)
+by_element : (p : Package) (file o c : ℕ) (tree : TypeTree) (t : PlainType) → Names p file (Slice o c tree) t → (v : PlainType) ×
+    ((t ≡ SliceType v) × Names p file tree v)
 by_element p file o c tree _ (slice {t = v} names) = (v, (refl, names))
 
 abbrev type_or : PlainType → Meaning → PlainType

@@ -45,11 +45,13 @@ by_form p _ _ (imported {path = path} {rank = rank} other) = inr (record { other
 own_has : (p : Package) (s : Symbol) (u : Underlying) → s.package ≡ p.path → TypeHas p (Defined s) u → OwnHas p s.rank u
 own_has p s u e h = elim h [ inl own ↦ own.1 | inr i ↦ absurd (i.other e) ]
 
-imported_has : (p : Package) (s : Symbol) (u : Underlying) → (s.package ≡ p.path → ⊥) → TypeHas p (Defined s) u → u ≡ ((p.interface_of s.package).definition s.rank).underlying
+imported_has : (p : Package) (s : Symbol) (u : Underlying) → (s.package ≡ p.path → ⊥) → TypeHas p (Defined s) u →
+    u ≡ ((p.interface_of s.package).definition s.rank).underlying
 imported_has p s u ne h = elim h [ inl own ↦ absurd (ne own.0) | inr i ↦ i.is ]
 
 -- by what the definition of a rank writes
-pub of_body : (p : Package) (rank : ℕ) (d : PlacedType) (u : Underlying) → slice_get (package_types p) rank ≡ Some d → HasUnderlying p (Defined (symbol_in p rank)) u →
+pub of_body : (p : Package) (rank : ℕ) (d : PlacedType) (u : Underlying) → slice_get (package_types p) rank ≡ Some d →
+    HasUnderlying p (Defined (symbol_in p rank)) u →
     BodyHas p rank d d.spec.body u
 of_body p rank d u is h =
     let own = own_has p (symbol_in p rank) u refl (by_form p (Defined (symbol_in p rank)) u h) in

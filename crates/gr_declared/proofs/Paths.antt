@@ -13,7 +13,8 @@ use Rattle.gr_declared.specs.Package.{Package, laid_of}
 use Rattle.gr_declared.specs.Written.{ImportsPath}
 use Rattle.gr_declared.specs.PackageView.{ArePaths, path_in}
 
-pub path_of_import : (p : Package) (d : ℕ) (o : Option (Vec ℕ)) → IsImport p.layout d → MatchOption o ((v : List ℕ) → IsPathOf p.files (laid_of p) d v → ⊥) (λ v. IsPathOf p.files (laid_of p) d v.items) →
+pub path_of_import : (p : Package) (d : ℕ) (o : Option (Vec ℕ)) → IsImport p.layout d →
+    MatchOption o ((v : List ℕ) → IsPathOf p.files (laid_of p) d v → ⊥) (λ v. IsPathOf p.files (laid_of p) d v.items) →
     MatchOption o ((v : List ℕ) → ImportsPath p d v → ⊥) (λ v. ImportsPath p d v.items)
 path_of_import p d None is h = λ v path. h v path.of_path
 path_of_import p d (Some v) is h = record { is_import = is; of_path = h }
@@ -49,7 +50,8 @@ next_path p d old new o e h last = record {
       ];
 }
 
-pub path_read : ((bytes v w : List ℕ) → HasStringValue bytes v → HasStringValue bytes w → v ≡ w) → (p : Package) (d : ℕ) (o : Option (Bor (List ℕ))) (z : Option (List ℕ)) → name_value o ≡ z →
+pub path_read : ((bytes v w : List ℕ) → HasStringValue bytes v → HasStringValue bytes w → v ≡ w) →
+    (p : Package) (d : ℕ) (o : Option (Bor (List ℕ))) (z : Option (List ℕ)) → name_value o ≡ z →
     MatchOption z ((v : List ℕ) → ImportsPath p d v → ⊥) (λ v. ImportsPath p d v) →
     MatchOption o ((v : List ℕ) → ImportsPath p d v → ⊥) (λ v. ImportsPath p d v.now × ((other : List ℕ) → ImportsPath p d other → other ≡ v.now))
 path_read one p d None z e h = subst (λ y. MatchOption y ((v : List ℕ) → ImportsPath p d v → ⊥) (λ v. ImportsPath p d v)) (sym e) h

@@ -33,7 +33,8 @@ rank_at places l d false e (Some rank) h = record {
   first = λ r p lt is s. h.first r lt (is ∙ ap Some (same_place l d p s));
 }
 
-pub ranks_from : (places : List Position) (l : Layout) (numbers : Numbers) (size : ℕ) (ranks : List (Option ℕ)) → AreRanksOf places (length places) numbers → length ranks ≡ size →
+pub ranks_from : (places : List Position) (l : Layout) (numbers : Numbers) (size : ℕ) (ranks : List (Option ℕ)) →
+    AreRanksOf places (length places) numbers → length ranks ≡ size →
     ((k : ℕ) → k < size → number_in ranks k ≡ number_of l numbers k) → AreRanks (λ p. p) places l size ranks
 ranks_from places l numbers size ranks h all each = record {
   all = all;
@@ -62,14 +63,16 @@ ranked_place f xs l d rank r = record {
   item = f r.item;
   has_rank = slice_get-map f xs rank ∙ ap (option_map f) r.has_rank;
   stands = r.stands;
-  first = λ k p lt e s. let found = item_from f (slice_get xs k) p (sym (slice_get-map f xs k) ∙ e) in r.first k found.0 lt found.1.0 (subst (λ q. StandsAt l q d) (sym found.1.1) s);
+  first = λ k p lt e s. let found = item_from f (slice_get xs k) p (sym (slice_get-map f xs k) ∙ e) in
+      r.first k found.0 lt found.1.0 (subst (λ q. StandsAt l q d) (sym found.1.1) s);
 }
 
 rank_of_item : {X : Type 0} (f : X → Position) (xs : List X) (l : Layout) (d : ℕ) (o : Option ℕ) → IsRankOf (λ p. p) (map f xs) l d o → IsRankOf f xs l d o
 rank_of_item f xs l d None h = λ rank r. h rank (ranked_place f xs l d rank r)
 rank_of_item f xs l d (Some rank) h = ranked_item f xs l d rank h
 
-pub ranks_of_items : {X : Type 0} (f : X → Position) (xs : List X) (l : Layout) (size : ℕ) (places : List Position) (ranks : List (Option ℕ)) → places ≡ map f xs →
+pub ranks_of_items : {X : Type 0} (f : X → Position) (xs : List X) (l : Layout) (size : ℕ) (places : List Position) (ranks : List (Option ℕ)) →
+    places ≡ map f xs →
     AreRanks (λ p. p) places l size ranks → AreRanks f xs l size ranks
 ranks_of_items f xs l size places ranks e h = record {
   all = h.all;
@@ -77,7 +80,8 @@ ranks_of_items f xs l size places ranks e h = record {
 }
 
 -- one more rank
-pub push_each : (f : ℕ → Option ℕ) (xs ys : List (Option ℕ)) (d : ℕ) (x : Option ℕ) → ys ≡ xs ++ (x ∷ []) → length xs ≡ d → x ≡ f d → ((k : ℕ) → k < d → number_in xs k ≡ f k) →
+pub push_each : (f : ℕ → Option ℕ) (xs ys : List (Option ℕ)) (d : ℕ) (x : Option ℕ) → ys ≡ xs ++ (x ∷ []) → length xs ≡ d → x ≡ f d →
+    ((k : ℕ) → k < d → number_in xs k ≡ f k) →
     (k : ℕ) → k < d + 1 → number_in ys k ≡ f k
 push_each f xs ys d x e len is each k lt = elim (cases_lt k d) [
   | inl below ↦ ap (λ z. number_in z k) e ∙ get_or-append xs (x ∷ []) None k (subst (λ n. k < n) (sym len) below) ∙ each k below

@@ -15,7 +15,8 @@ none_there None e = refl
 none_there (Some x) e = absurd (true≢false e)
 
 -- where room is made, no other scope is there
-pub room_made : (old new : Scopes) (key : Vec ℕ) (path : List ℕ) → key.items ≡ path → slot_at old path ≡ None → Updates (λ a b. slice_cmp nat_cmp a.items b.items) old new key (Some None) →
+pub room_made : (old new : Scopes) (key : Vec ℕ) (path : List ℕ) → key.items ≡ path → slot_at old path ≡ None →
+    Updates (λ a b. slice_cmp nat_cmp a.items b.items) old new key (Some None) →
     (p : List ℕ) → held_at new p ≡ held_at old p
 room_made old new key path e none u p = elim (cases_bytes p path) [
   | inl same ↦ ap (held_at new) (same ∙ sym e) ∙ ap option_flatten u.1 ∙ sym (ap option_flatten none) ∙ ap (held_at old) (sym same)

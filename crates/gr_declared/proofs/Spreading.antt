@@ -1,5 +1,6 @@
 -- Marks that spread, one number after the other.
-use Rattle.std.proofs.Common.{ℕ, ◌≡◌, ◌+◌, ◌<◌, ◌≤◌, ◌⊎◌, inl, inr, Bool, true, false, cond, List, [], ◌∷◌, ◌++◌, length, get_or, refl, sym, ap, subst, ◌∙◌, arith}
+use Rattle.std.proofs.Common.{ℕ, ◌≡◌, ◌+◌, ◌<◌, ◌≤◌, ◌⊎◌, inl, inr, Bool, true, false, cond, List, [], ◌∷◌, ◌++◌, length, get_or, refl, sym, ap, subst, ◌∙◌}
+use Rattle.std.proofs.Common.{arith}
 use Rattle.std.proofs.Math.ListN.{set}
 use Rattle.std.proofs.lemmas.Bool.{cases_eq, cases_lt, false≢true}
 use Rattle.std.proofs.lemmas.List.{get_or-set_same, get_or-set_other, get_or_append_left, get_or_push, length_push, get_or_past, get_or_read, get_or_default}
@@ -27,16 +28,19 @@ marked_before marks n q ne m = sym (get_or-set_other marks n q true false ne) �
 counted_set : (marks : List Bool) (n : ℕ) → n < length marks → get_or marks n false ≡ false → count_by (λ m. m) (set marks n true) ≡ count_by (λ m. m) marks + 1
 counted_set marks n within fresh =
     let e : count_by (λ m. m) (set marks n true) + 0 ≡ count_by (λ m. m) marks + 1 =
-    subst (λ (m : Bool). count_by (λ k. k) (set marks n true) + cond m 1 0 ≡ count_by (λ k. k) marks + 1) fresh (sum_by-set (λ (m : Bool). cond m 1 0) marks n true false within) in
+    subst (λ (m : Bool). count_by (λ k. k) (set marks n true) + cond m 1 0 ≡ count_by (λ k. k) marks + 1) fresh
+    (sum_by-set (λ (m : Bool). cond m 1 0) marks n true false within) in
     omega arith
 
-pub listed_more : (found : List ℕ) (marks : List Bool) (n : ℕ) → n < length marks → get_or marks n false ≡ false → IsListed found marks → IsListed (found ++ (n ∷ [])) (set marks n true)
+pub listed_more : (found : List ℕ) (marks : List Bool) (n : ℕ) → n < length marks → get_or marks n false ≡ false → IsListed found marks →
+    IsListed (found ++ (n ∷ [])) (set marks n true)
 listed_more found marks n within fresh h =
     let len : length (found ++ (n ∷ [])) ≡ length found + 1 = length_push found n in
     record {
       counted = let c = counted_set marks n within fresh in omega (arith, len, c, h.counted);
       marked = λ i lt. elim (cases_lt i (length found)) [
-        | inl below ↦ subst (IsMarked (set marks n true)) (sym (get_or_append_left found (n ∷ []) 0 i below)) (marked_stays marks n (get_or found i 0) within (h.marked i below))
+        | inl below ↦ subst (IsMarked (set marks n true)) (sym (get_or_append_left found (n ∷ []) 0 i below))
+            (marked_stays marks n (get_or found i 0) within (h.marked i below))
         | inr ge ↦ subst (IsMarked (set marks n true)) (sym (get_or_push found n 0 i (omega (arith, len)))) (get_or-set_same marks n true false within)
       ];
       places = λ q m. elim (cases_eq q n) [
@@ -47,7 +51,8 @@ listed_more found marks n within fresh h =
       ];
     }
 
-pub marks_then : (f : List ℕ) (m : List Bool) (g : List ℕ) (n : List Bool) (h : List ℕ) (o : List Bool) (P Q R : ℕ → Type 0) → Marks f m g n P → Marks g n h o Q →
+pub marks_then : (f : List ℕ) (m : List Bool) (g : List ℕ) (n : List Bool) (h : List ℕ) (o : List Bool) (P Q R : ℕ → Type 0) → Marks f m g n P →
+    Marks g n h o Q →
     ((q : ℕ) → R q → P q ⊎ Q q) → ((q : ℕ) → P q ⊎ Q q → R q) → Marks f m h o R
 marks_then f m g n h o P Q R a b to from = record {
   size = b.size ∙ a.size;
@@ -58,7 +63,8 @@ marks_then f m g n h o P Q R a b to from = record {
   only = λ q k. elim (b.only q k) [ inl j ↦ elim (a.only q j) [ inl i ↦ inl i | inr p ↦ inr (from q (inl p)) ] | inr p ↦ inr (from q (inr p)) ];
 }
 
-pub marks_as : (f : List ℕ) (m : List Bool) (g : List ℕ) (n : List Bool) (P R : ℕ → Type 0) → ((q : ℕ) → R q → P q) → ((q : ℕ) → P q → R q) → Marks f m g n P → Marks f m g n R
+pub marks_as : (f : List ℕ) (m : List Bool) (g : List ℕ) (n : List Bool) (P R : ℕ → Type 0) → ((q : ℕ) → R q → P q) → ((q : ℕ) → P q → R q) →
+    Marks f m g n P → Marks f m g n R
 marks_as f m g n P R to from h = record {
   size = h.size;
   longer = h.longer;
@@ -104,7 +110,8 @@ IsBegun begins count q = (q < count) × IsMarked begins q
 
 -- a spread that went on
 
-pub followed_more : (links : List (Vec ℕ)) (f : List ℕ) (m : List Bool) (g : List ℕ) (n : List Bool) (place : ℕ) → place < length f → IsFollowed links f m place → Marks f m g n (Leads links (get_or f place 0)) →
+pub followed_more : (links : List (Vec ℕ)) (f : List ℕ) (m : List Bool) (g : List ℕ) (n : List Bool) (place : ℕ) → place < length f →
+    IsFollowed links f m place → Marks f m g n (Leads links (get_or f place 0)) →
     IsFollowed links g n (place + 1)
 followed_more links f m g n place within done more i q lt leads =
     let there : Leads links (get_or f i 0) q = subst (λ a. Leads links a q) (more.same i (omega arith)) leads in
@@ -113,7 +120,8 @@ followed_more links f m g n place within done more i q lt leads =
       | inr ge ↦ let e : i ≡ place = omega arith in more.holds q (subst (λ k. Leads links (get_or f k 0) q) e there)
     ]
 
-pub reached_more : (links : List (Vec ℕ)) (Begins : ℕ → Type 0) (f : List ℕ) (m : List Bool) (g : List ℕ) (n : List Bool) (place : ℕ) → place < length f → IsListed f m →
+pub reached_more : (links : List (Vec ℕ)) (Begins : ℕ → Type 0) (f : List ℕ) (m : List Bool) (g : List ℕ) (n : List Bool) (place : ℕ) → place < length f →
+    IsListed f m →
     ((q : ℕ) → IsMarked m q → IsReached links Begins q) → Marks f m g n (Leads links (get_or f place 0)) → (q : ℕ) → IsMarked n q → IsReached links Begins q
 reached_more links Begins f m g n place within listed sound more q k = elim (more.only q k) [
   | inl j ↦ sound q j
@@ -121,7 +129,8 @@ reached_more links Begins f m g n place within listed sound more q k = elim (mor
 ]
 
 -- what is followed to its end holds all that is reached
-pub holds_reached : (links : List (Vec ℕ)) (Begins : ℕ → Type 0) (f : List ℕ) (m : List Bool) → IsListed f m → ((q : ℕ) → Begins q → IsMarked m q) → IsFollowed links f m (length f) →
+pub holds_reached : (links : List (Vec ℕ)) (Begins : ℕ → Type 0) (f : List ℕ) (m : List Bool) → IsListed f m → ((q : ℕ) → Begins q → IsMarked m q) →
+    IsFollowed links f m (length f) →
     (q : ℕ) → IsReached links Begins q → IsMarked m q
 holds_reached links Begins f m listed begun done q (first b) = begun q b
 holds_reached links Begins f m listed begun done q (behind {a} r leads) =
@@ -133,12 +142,14 @@ holds_reached links Begins f m listed begun done q (behind {a} r leads) =
 abbrev IsLedTo : List (Vec ℕ) → List ℕ → (i q : ℕ) → Type 0
 IsLedTo links found i q = (j : ℕ) × ((j < i) × Leads links (get_or found j 0) q)
 
-led_later : (links : List (Vec ℕ)) (f g : List ℕ) (i k q : ℕ) → k ≤ length f → k ≤ i → ((j : ℕ) → j < length f → get_or g j 0 ≡ get_or f j 0) → IsLedTo links f k q → IsLedTo links g i q
+led_later : (links : List (Vec ℕ)) (f g : List ℕ) (i k q : ℕ) → k ≤ length f → k ≤ i → ((j : ℕ) → j < length f → get_or g j 0 ≡ get_or f j 0) →
+    IsLedTo links f k q → IsLedTo links g i q
 led_later links f g i k q within le same h =
     let lt : h.0 < k = h.1.0 in
     (h.0, (omega arith, subst (λ a. Leads links a q) (sym (same h.0 (omega arith))) h.1.1))
 
-pub ordered_more : (links : List (Vec ℕ)) (Begins : ℕ → Type 0) (f : List ℕ) (m : List Bool) (g : List ℕ) (n : List Bool) (place : ℕ) → place < length f → IsListed f m → IsListed g n →
+pub ordered_more : (links : List (Vec ℕ)) (Begins : ℕ → Type 0) (f : List ℕ) (m : List Bool) (g : List ℕ) (n : List Bool) (place : ℕ) → place < length f →
+    IsListed f m → IsListed g n →
     IsOrdered links Begins f → Marks f m g n (Leads links (get_or f place 0)) → IsOrdered links Begins g
 ordered_more links Begins f m g n place within listed now ordered more i lt =
     let q : ℕ = get_or g i 0 in

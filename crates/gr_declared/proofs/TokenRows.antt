@@ -25,21 +25,26 @@ first_now P n o e p h =
 
 -- a number is noted at a token where P holds of it, and P holds of it nowhere else
 note_more : (P : (file token : ℕ) → ℕ → Type 0) (n : ℕ) (old new : Numbers) (place : Position) → Notes old new place n → P place.file place.index n →
-    ((f t : ℕ) → P f t n → (f ≡ place.file) × (t ≡ place.index)) → ((f t : ℕ) → IsFirstBelow (P f t) n (old f t)) → (f t : ℕ) → IsFirstBelow (P f t) (n + 1) (new f t)
+    ((f t : ℕ) → P f t n → (f ≡ place.file) × (t ≡ place.index)) → ((f t : ℕ) → IsFirstBelow (P f t) n (old f t)) → (f t : ℕ) →
+    IsFirstBelow (P f t) (n + 1) (new f t)
 note_more P n old new place s here only h f t =
-    let same : ((f' t' : ℕ) → (f' ≡ place.file → t' ≡ place.index → ⊥) → new f' t' ≡ old f' t') → (f ≡ place.file → t ≡ place.index → ⊥) → IsFirstBelow (P f t) (n + 1) (new f t) =
+    let same : ((f' t' : ℕ) → (f' ≡ place.file → t' ≡ place.index → ⊥) → new f' t' ≡ old f' t') → (f ≡ place.file → t ≡ place.index → ⊥) →
+    IsFirstBelow (P f t) (n + 1) (new f t) =
     λ kept ne. subst (IsFirstBelow (P f t) (n + 1)) (sym (kept f t ne)) (widen (P f t) n (old f t) (λ p. ne (only f t p).0 (only f t p).1) (h f t)) in
     let at : IsFirstBelow (P place.file place.index) (n + 1) (new place.file place.index) =
     elim s [
-      | first free sets ↦ subst (IsFirstBelow (P place.file place.index) (n + 1)) (sym sets.here) (first_now (P place.file place.index) n (old place.file place.index) free here (h place.file place.index))
+      | first free sets ↦ subst (IsFirstBelow (P place.file place.index) (n + 1)) (sym sets.here)
+          (first_now (P place.file place.index) n (old place.file place.index) free here (h place.file place.index))
       | later {earlier} taken kept ↦
           subst (IsFirstBelow (P place.file place.index) (n + 1)) (sym (kept place.file place.index ∙ taken))
           (widen_found (P place.file place.index) n earlier (subst (IsFirstBelow (P place.file place.index) n) taken (h place.file place.index)))
     ] in
-    let elsewhere : (f' t' : ℕ) → (f' ≡ place.file → t' ≡ place.index → ⊥) → new f' t' ≡ old f' t' = elim s [ first free sets ↦ sets.elsewhere | later taken kept ↦ λ f' t' ne. kept f' t' ] in
+    let elsewhere : (f' t' : ℕ) → (f' ≡ place.file → t' ≡ place.index → ⊥) → new f' t' ≡ old f' t' =
+    elim s [ first free sets ↦ sets.elsewhere | later taken kept ↦ λ f' t' ne. kept f' t' ] in
     elim (cases_eq f place.file) [
       | inl ef ↦ elim (cases_eq t place.index) [
-        | inl et ↦ subst (λ z. IsFirstBelow (P z t) (n + 1) (new z t)) (sym ef) (subst (λ z. IsFirstBelow (P place.file z) (n + 1) (new place.file z)) (sym et) at)
+        | inl et ↦ subst (λ z. IsFirstBelow (P z t) (n + 1) (new z t)) (sym ef)
+            (subst (λ z. IsFirstBelow (P place.file z) (n + 1) (new place.file z)) (sym et) at)
         | inr nt ↦ same elsewhere (λ a b. nt b)
       ]
       | inr nf ↦ same elsewhere (λ a b. nf a)
@@ -50,7 +55,8 @@ place_or d None = d
 place_or d (Some p) = p
 
 -- the next of a list of places
-pub next_rank : (places : List Position) (n : ℕ) (old new : Numbers) (d : Position) → n < length places → Notes old new (get_or places n d) n → AreRanksOf places n old → AreRanksOf places (n + 1) new
+pub next_rank : (places : List Position) (n : ℕ) (old new : Numbers) (d : Position) → n < length places → Notes old new (get_or places n d) n →
+    AreRanksOf places n old → AreRanksOf places (n + 1) new
 next_rank places n old new d lt s h =
     let is : slice_get places n ≡ Some (get_or places n d) = slice_get-get_or places n d lt in
     note_more (λ f t rank. slice_get places rank ≡ Some (record { file = f; index = t })) n old new (get_or places n d) s is
@@ -58,6 +64,8 @@ next_rank places n old new d lt s h =
 
 -- the next identifier
 pub next_identifier : (l : Layout) (n : ℕ) (old new : Numbers) → NotesIdentifier l n old new → AreIdentifiers l n old → AreIdentifiers l (n + 1) new
-next_identifier l n old new (stands is notes) h = note_more (λ f t u. StandsAt l (record { file = f; index = t }) u) n old new (l.place n) notes (is, refl, refl) (λ f t s. (sym s.1, sym s.2)) h
+next_identifier l n old new (stands is notes) h = note_more (λ f t u. StandsAt l (record { file = f; index = t }) u) n old new (l.place n) notes
+    (is, refl, refl) (λ f t s. (sym s.1, sym s.2)) h
 next_identifier l n old new (stands_nowhere none kept) h = λ f t.
-    subst (IsFirstBelow (StandsAt l (record { file = f; index = t })) (n + 1)) (sym (kept f t)) (widen (StandsAt l (record { file = f; index = t })) n (old f t) (λ s. none s.0) (h f t))
+    subst (IsFirstBelow (StandsAt l (record { file = f; index = t })) (n + 1)) (sym (kept f t))
+    (widen (StandsAt l (record { file = f; index = t })) n (old f t) (λ s. none s.0) (h f t))

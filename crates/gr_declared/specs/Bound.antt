@@ -12,7 +12,8 @@ use Rattle.gr_expr.specs.Types.{PlainType, BasicType, Defined, Typed, Untyped, N
 use Rattle.gr_expr.specs.Types.{Package as PackageName}
 use Rattle.gr_expr.specs.World.{Bound, Local, BrokenVariable, BrokenFunction, BrokenType}
 use Rattle.gr_expr.specs.World.{Means as Stands}
-use Rattle.gr_declared.specs.Package.{Package, PlacedVariable, PlacedFunction, IsRanked, package_variables, package_functions, variable_place, function_place, symbol_in}
+use Rattle.gr_declared.specs.Package.{Package, PlacedVariable, PlacedFunction, IsRanked, package_variables, package_functions, variable_place}
+use Rattle.gr_declared.specs.Package.{function_place, symbol_in}
 use Rattle.gr_declared.specs.Written.{IsPredeclared, DeclaresType, ImportsPath, basic_name, IsBroken, IsTypeOf}
 
 -- predeclared values and functions
@@ -74,5 +75,6 @@ pub data IsMeantBy (p : Package) (d : ℕ) : Bound → Type 0 where
   broken_variable : {v : PlacedVariable} → IsVariable p d v → ((t : PlainType) → IsTypeOf p v.file v.type_use t → ⊥) → IsMeantBy p d BrokenVariable
   function : {f : PlacedFunction} {s : Signature} → IsFunction p d f → HasSignature p f s → IsMeantBy p d (Stands (Function s))
   broken_function : {f : PlacedFunction} → IsFunction p d f → ((s : Signature) → HasSignature p f s → ⊥) → IsMeantBy p d BrokenFunction
-  definition : {rank : ℕ} → IsPackageLevel p.layout d → DeclaresType p d rank → (IsBroken p rank → ⊥) → IsMeantBy p d (Stands (TypeName (Defined (symbol_in p rank))))
+  definition : {rank : ℕ} → IsPackageLevel p.layout d → DeclaresType p d rank → (IsBroken p rank → ⊥) →
+      IsMeantBy p d (Stands (TypeName (Defined (symbol_in p rank))))
   broken_definition : {rank : ℕ} → IsPackageLevel p.layout d → DeclaresType p d rank → IsBroken p rank → IsMeantBy p d BrokenType

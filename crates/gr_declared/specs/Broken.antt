@@ -23,7 +23,8 @@ pub data IsTarget (p : Package) (file : ℕ) (tree : TypeTree) : ℕ → Type 0 
 -- what a Type mentions, one thing at most
 abbrev pub IsOneTarget : Package → ℕ → TypeTree → Option ℕ → Type 0
 IsOneTarget p file tree found =
-    MatchOption found ((a : ℕ) → IsTarget p file tree a → ⊥) (λ a. (a ≤ length (package_types p)) × (IsTarget p file tree a × ((b : ℕ) → IsTarget p file tree b → b ≡ a)))
+    MatchOption found ((a : ℕ) → IsTarget p file tree a → ⊥)
+    (λ a. (a ≤ length (package_types p)) × (IsTarget p file tree a × ((b : ℕ) → IsTarget p file tree b → b ≡ a)))
 
 -- what one of some Types mentions
 abbrev pub IsTargetOfSome : Package → ℕ → List TypeTree → ℕ → Type 0

@@ -21,9 +21,11 @@ pub data HasUnderlying (p : Package) : PlainType → Underlying → Type 0 where
   slice : {t : PlainType} → HasUnderlying p (Slice t) (SliceOf t)
   struct : {rank : ℕ} {d : PlacedType} {k o c : ℕ} {fs : _} → slice_get (package_types p) rank ≡ Some d → d.spec.body ≡ Struct k o fs c →
       HasUnderlying p (Defined (symbol_in p rank)) (StructOf (symbol_in p rank))
-  named : {rank : ℕ} {d : PlacedType} {tree : TypeTree} {t : PlainType} {u : Underlying} → slice_get (package_types p) rank ≡ Some d → d.spec.body ≡ Other tree → Names p d.file tree t →
+  named : {rank : ℕ} {d : PlacedType} {tree : TypeTree} {t : PlainType} {u : Underlying} → slice_get (package_types p) rank ≡ Some d →
+      d.spec.body ≡ Other tree → Names p d.file tree t →
       HasUnderlying p t u → HasUnderlying p (Defined (symbol_in p rank)) u
-  imported : {path : List ℕ} {rank : ℕ} → (path ≡ p.path → ⊥) → HasUnderlying p (Defined (record { «package» = path; rank = rank })) (((p.interface_of path).definition rank).underlying)
+  imported : {path : List ℕ} {rank : ℕ} → (path ≡ p.path → ⊥) →
+      HasUnderlying p (Defined (record { «package» = path; rank = rank })) (((p.interface_of path).definition rank).underlying)
 
 -- Fields: each name of each struct, in the order of path and offset; the place of one in this list is its rank
 
@@ -74,8 +76,10 @@ pub record IsMethodOf (p : Package) (definition : ℕ) (name : List ℕ) (rank :
 -- The struct that has the fields of the values of a definition of this package, and another of whose fields has that name:
 -- names of two packages are the same only where they are exported.
 pub data HasFieldNamed (p : Package) (definition : ℕ) (name : List ℕ) : Type 0 where
-  of_own : {rank field : ℕ} {f : PlacedField} → HasUnderlying p (Defined (symbol_in p definition)) (StructOf (symbol_in p rank)) → IsFieldOf p rank name field f → HasFieldNamed p definition name
-  of_imported : {path : List ℕ} {rank : ℕ} {f : Field} → HasUnderlying p (Defined (symbol_in p definition)) (StructOf (record { «package» = path; rank = rank })) → (path ≡ p.path → ⊥) →
+  of_own : {rank field : ℕ} {f : PlacedField} → HasUnderlying p (Defined (symbol_in p definition)) (StructOf (symbol_in p rank)) →
+      IsFieldOf p rank name field f → HasFieldNamed p definition name
+  of_imported : {path : List ℕ} {rank : ℕ} {f : Field} →
+      HasUnderlying p (Defined (symbol_in p definition)) (StructOf (record { «package» = path; rank = rank })) → (path ≡ p.path → ⊥) →
       ((p.interface_of path).definition rank).field name ≡ Some f → f.exported ≡ true → HasFieldNamed p definition name
 
 -- a method counts where no field has its name and no earlier method of the type
@@ -115,4 +119,5 @@ pub record IsDefinition (p : Package) (rank : ℕ) (d : Definition) : Type 0 whe
 pub record AreDefinitions (p : Package) (definition : Symbol → Definition) : Type 0 where
   pub own : (rank : ℕ) (d : PlacedType) → slice_get (package_types p) rank ≡ Some d → IsDefinition p rank (definition (symbol_in p rank))
   pub beyond : (rank : ℕ) → slice_get (package_types p) rank ≡ None → definition (symbol_in p rank) ≡ no_definition (symbol_in p rank)
-  pub imported : (path : List ℕ) (rank : ℕ) → (path ≡ p.path → ⊥) → definition (record { «package» = path; rank = rank }) ≡ (p.interface_of path).definition rank
+  pub imported : (path : List ℕ) (rank : ℕ) → (path ≡ p.path → ⊥) →
+      definition (record { «package» = path; rank = rank }) ≡ (p.interface_of path).definition rank

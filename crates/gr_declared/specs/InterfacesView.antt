@@ -27,7 +27,7 @@ meaning_of (exported.TypeName t) = TypeName (type_of t)
 meaning_of (exported.Function s) = Function (signature_of s)
 
 abbrev pub export_of : Export → seen.Export
-export_of e = record { meaning = meaning_of e.meaning; path = e.path; offset = e.offset }
+export_of e = record { meaning = meaning_of e.meaning }
 
 abbrev pub exports_at : BTreeMap (Vec ℕ) Export → List ℕ → Option seen.Export
 exports_at exports name = option_map export_of (get_by (λ key. slice_cmp nat_cmp name key.items) exports)

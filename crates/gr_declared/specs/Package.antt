@@ -13,11 +13,9 @@ use Rattle.gr_expr.specs.declared.symbol.Symbol.{Symbol}
 use Rattle.gr_expr.specs.Types.{Meaning}
 use Rattle.gr_expr.specs.World.{Definition}
 
--- an exported name of a package: what it means in other packages, and its place
+-- an exported name of a package: what it means in other packages
 pub record Export : Type 0 where
   pub meaning : Meaning
-  pub path : List ℕ
-  pub offset : ℕ
 
 -- What other packages see of one: the name in its clause, its exported package-level names, and its type definitions by
 -- their ranks, each with its underlying type, its fields and its methods.

@@ -25,7 +25,8 @@ IsNamedBy p file tree named = MatchOption named ((t : PlainType) → Names p fil
 
 -- the one definition that a Type mentions; none where it mentions none
 abbrev pub IsMentionedBy : Package → ℕ → TypeTree → Option ℕ → Type 0
-IsMentionedBy p file tree mentioned = MatchOption mentioned ((r : ℕ) → Mentions p file tree r → ⊥) (λ r. Mentions p file tree r × ((other : ℕ) → Mentions p file tree other → other ≡ r))
+IsMentionedBy p file tree mentioned = MatchOption mentioned ((r : ℕ) → Mentions p file tree r → ⊥)
+    (λ r. Mentions p file tree r × ((other : ℕ) → Mentions p file tree other → other ≡ r))
 
 -- the one export of which P holds; none where it holds of none
 abbrev pub IsOneExport : (plain.Export → Type 0) → Option (Bor Export) → Type 0

@@ -5,12 +5,11 @@ ghost use Rattle.gr_imports.specs.States.{state_in};
 ghost use Rattle.gr_imports.specs.declared.states.ImportState.TheVariants.{Missing};
 ghost use Rattle.gr_scope.specs.Named.{name_value};
 ghost use Rattle.gr_expr.specs.WorldView.{shared_definitions, definitions_at};
-ghost use Rattle.gr_declared.specs.InterfacesView.{export_of, exported_in, slot_at, held_at, shared_scope, scope_at, scope_name, interface_by, interface_in, no_interface, name_in, Notes, KnowsSame, Sets, AddsInterface, Shares};
+ghost use Rattle.gr_declared.specs.InterfacesView.{export_of, exported_in, slot_at, held_at, shared_scope, scope_at, scope_name, scope_in, interface_by, interface_in, no_interface, name_in, Notes, KnowsSame, Sets, AddsInterface, Shares};
 
 use gr_expr::types::{GoType, Signature};
 use gr_expr::world::{Definition, Definitions};
 use gr_imports::{Exports, ImportState, ImportStates, PackageNames};
-use gr_text::Path;
 use std::alloc::{AllocError, Global};
 use std::collections::BTreeMap;
 use std::sync::Arc;
@@ -23,12 +22,11 @@ pub enum ExportMeaning {
     Function(Signature),
 }
 
-/// An exported name of a package: what it means in other packages, and its place.
+/// An exported name of a package: what it means in other packages. Where it is declared is not seen there, so that an edit inside
+/// of a function leaves what other packages see as it is.
 #[derive(Drop)]
 pub struct Export {
     pub meaning: ExportMeaning,
-    pub path: Path,
-    pub offset: usize,
 }
 
 /// The name in a package's clause, and its exported package-level names.
@@ -199,6 +197,13 @@ impl Interfaces {
         ensures { result.now ≡ self.now.definitions }
     {
         &self.definitions
+    }
+
+    /// The name and the exported names of the package of a path, where they are known.
+    pub fn scope(&self, path: &[u8]) -> Option<&PackageScope>
+        ensures { option_copied result ≡ scope_in self.now path.now }
+    {
+        scope(&self.scopes, path)
     }
 
     /// What a package exports under a name.

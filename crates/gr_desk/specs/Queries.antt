@@ -38,7 +38,8 @@ TellsObject view path (Ok text) = IsPath 1 path × ((unit : PackageUnit) × HasU
 TellsObject view path (Err BadPath) = ¬ (IsPath 1 path)
 TellsObject view path (Err NoPackage) = IsPath 1 path × ¬ (Contains (package_paths view.snapshot.files) path)
 TellsObject view path (Err (Pending folder)) = (folder ≡ path) × IsPackagePath view path × ((unit : PackageUnit) → HasUnit view path unit → ⊥)
-TellsObject view path (Err (Faulty place kind)) = IsPath 1 path × ((unit : PackageUnit) × HasUnit view path unit × (result_of unit ≡ Err (record { place = place; kind = kind })))
+TellsObject view path (Err (Faulty place kind)) = IsPath 1 path ×
+    ((unit : PackageUnit) × HasUnit view path unit × (result_of unit ≡ Err (record { place = place; kind = kind })))
 TellsObject view path (Err Memory) = ⊤
 TellsObject view path (Err refusal) = ⊥
 

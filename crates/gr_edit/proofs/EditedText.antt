@@ -20,14 +20,17 @@ pub range_then_rest : (xs : List ℕ) (a b : ℕ) → a ≤ b → slice_range xs
 range_then_rest xs a b le = ap (λ rest. slice_range xs a b ++ rest) (sym (drop_on a b xs le)) ∙ take-append-drop (b - a) (drop a xs)
 
 pub length_range : (xs : List ℕ) (a b : ℕ) → a ≤ b → b ≤ length xs → length (slice_range xs a b) ≡ b - a
-length_range xs a b le within = length-take (b - a) (drop a xs) ∙ (let len : length (drop a xs) ≡ length xs - a = length-drop a xs in let e : min (b - a) (length (drop a xs)) ≡ b - a = omega arith in e)
+length_range xs a b le within = length-take (b - a) (drop a xs) ∙
+    (let len : length (drop a xs) ≡ length xs - a = length-drop a xs in let e : min (b - a) (length (drop a xs)) ≡ b - a = omega arith in e)
 
 -- where the part before a span ends in the new text, the new bytes begin
 rest_behind : (new : List ℕ) (start size : ℕ) (kept rest : List ℕ) → length kept ≡ size → drop start new ≡ kept ++ rest → drop (start + size) new ≡ rest
 rest_behind new start size kept rest len is = sym (drop-drop size start new) ∙ ap (drop size) is ∙ drop_at kept rest size len
 
-kept_range : (new : List ℕ) (start size : ℕ) (kept rest : List ℕ) → length kept ≡ size → drop start new ≡ kept ++ rest → slice_range new start (start + size) ≡ kept
-kept_range new start size kept rest len is = ap (λ n. take n (drop start new)) (let e : (start + size) - start ≡ size = omega arith in e) ∙ ap (take size) is ∙ take_at kept rest size len
+kept_range : (new : List ℕ) (start size : ℕ) (kept rest : List ℕ) → length kept ≡ size → drop start new ≡ kept ++ rest →
+    slice_range new start (start + size) ≡ kept
+kept_range new start size kept rest len is = ap (λ n. take n (drop start new)) (let e : (start + size) - start ≡ size = omega arith in e) ∙
+    ap (take size) is ∙ take_at kept rest size len
 
 -- what the new text has from start on is the old one's from at on, edited; the reversed edits make that of it again
 pub reversed_back : (edits : List Edit) (text new : List ℕ) (at start : ℕ) → AreInOrder at edits → EndWithin (length text) edits
@@ -42,10 +45,12 @@ reversed_back (e ∷ edits) text new at start order within is =
     let third : e.span.end ≤ length text = within.0 in
     let len : length kept ≡ size = length_range text at e.span.start first (omega arith) in
     let behind : drop (start + size) new ≡ rest = rest_behind new start size kept rest len is in
-    let further : drop ((start + size) + length e.text) new ≡ edited_from e.span.end edits text = rest_behind new (start + size) (length e.text) e.text (edited_from e.span.end edits text) refl behind in
+    let further : drop ((start + size) + length e.text) new ≡ edited_from e.span.end edits text =
+    rest_behind new (start + size) (length e.text) e.text (edited_from e.span.end edits text) refl behind in
     let back = reversed_back edits text new e.span.end ((start + size) + length e.text) order.2 within.1 further in
     let same : slice_range new start (start + size) ≡ kept = kept_range new start size kept rest len is in
-    ap (λ xs. xs ++ (slice_range text e.span.start e.span.end ++ edited_from ((start + size) + length e.text) (reversed_from e.span.end ((start + size) + length e.text) edits text) new)) same
+    ap (λ xs. xs ++ (slice_range text e.span.start e.span.end ++ edited_from ((start + size) + length e.text)
+    (reversed_from e.span.end ((start + size) + length e.text) edits text) new)) same
     ∙ ap (λ xs. kept ++ (slice_range text e.span.start e.span.end ++ xs)) back
     ∙ ap (λ xs. kept ++ xs) (range_then_rest text e.span.start e.span.end second)
     ∙ range_then_rest text at e.span.start first
@@ -66,7 +71,8 @@ reversed_within (e ∷ edits) text new at start order within begins is =
     let third : e.span.end ≤ length text = within.0 in
     let len : length kept ≡ size = length_range text at e.span.start first (omega arith) in
     let behind : drop (start + size) new ≡ rest = rest_behind new start size kept rest len is in
-    let further : drop ((start + size) + length e.text) new ≡ edited_from e.span.end edits text = rest_behind new (start + size) (length e.text) e.text (edited_from e.span.end edits text) refl behind in
+    let further : drop ((start + size) + length e.text) new ≡ edited_from e.span.end edits text =
+    rest_behind new (start + size) (length e.text) e.text (edited_from e.span.end edits text) refl behind in
     let whole : length (drop start new) ≡ size + (length e.text + length (edited_from e.span.end edits text)) =
     ap length is ∙ length-append kept rest ∙ (let split = length-append e.text (edited_from e.span.end edits text) in omega arith) in
     let left : length (drop start new) ≡ length new - start = length-drop start new in

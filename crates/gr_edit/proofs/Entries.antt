@@ -66,9 +66,11 @@ found_sorted [] e sorted has = absurd (nothing_in e has)
 found_sorted (d ∷ es) e sorted has =
     let parts = and_parts (below_all path_cmp d.0 es) (is_sorted path_cmp es) sorted in
     ⊎_elim
-    (λ (is : d ≡ e). ap (λ b. cond b (Some d.1) (find path_cmp e.0 es)) (same_path e.0 d.0 (ap (λ (x : List ℕ × List ℕ). x.0) (sym is))) ∙ ap (λ (x : List ℕ × List ℕ). Some x.1) is)
+    (λ (is : d ≡ e). ap (λ b. cond b (Some d.1) (find path_cmp e.0 es)) (same_path e.0 d.0 (ap (λ (x : List ℕ × List ℕ). x.0) (sym is))) ∙
+    ap (λ (x : List ℕ × List ℕ). Some x.1) is)
     (λ (rest : Contains es e).
-    let apart : eq_by_cmp path_cmp e.0 d.0 ≡ false = not_true (eq_by_cmp path_cmp e.0 d.0) (λ tied. less_apart d.0 e.0 (below_at d.0 es e parts.0 rest) (sym (exact_path e.0 d.0 tied))) in
+    let apart : eq_by_cmp path_cmp e.0 d.0 ≡ false = not_true (eq_by_cmp path_cmp e.0 d.0)
+    (λ tied. less_apart d.0 e.0 (below_at d.0 es e parts.0 rest) (sym (exact_path e.0 d.0 tied))) in
     ap (λ b. cond b (Some d.1) (find path_cmp e.0 es)) apart ∙ found_sorted es e parts.1 rest)
     (first_or_later d es e has)
 

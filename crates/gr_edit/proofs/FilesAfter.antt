@@ -27,14 +27,16 @@ listed_from : (s : FileChanges) (w : Workspace) (path text : List ℕ) → Conta
 listed_from s w path text has =
     ⊎_elim
     (λ (new : Contains s.added (path, text)). inl new)
-    (λ (old : Contains (filter_map (file_after s) (entries w)) (path, text)). let r = given_from (file_after s) (entries w) (path, text) old in inr (r.0.0, r.0.1, get_entry w r.0 r.1, r.2))
+    (λ (old : Contains (filter_map (file_after s) (entries w)) (path, text)). let r = given_from (file_after s) (entries w) (path, text) old in
+    inr (r.0.0, r.0.1, get_entry w r.0 r.1, r.2))
     (Contains-append_cases s.added (filter_map (file_after s) (entries w)) (path, text) has)
 
 listed : (s : FileChanges) (w : Workspace) (path text : List ℕ) → ComesFrom s w path text → Contains (files_after s w) (path, text)
 listed s w path text from =
     ⊎_elim
     (λ (new : Contains s.added (path, text)). Contains-append_left s.added (filter_map (file_after s) (entries w)) (path, text) new)
-    (λ (o : IsOldFile s w path text). Contains-append_right s.added (filter_map (file_after s) (entries w)) (path, text) (is_given (file_after s) (entries w) (o.0, o.1) (path, text) (entry_of w o.0 o.1 o.2) o.3))
+    (λ (o : IsOldFile s w path text). Contains-append_right s.added (filter_map (file_after s) (entries w)) (path, text)
+    (is_given (file_after s) (entries w) (o.0, o.1) (path, text) (entry_of w o.0 o.1 o.2) o.3))
     from
 
 old_text : (s : FileChanges) (w : Workspace) (path one other : List ℕ) (a : IsOldFile s w path one) (b : IsOldFile s w path other) → a.0 ≡ b.0 → one ≡ other
@@ -52,7 +54,8 @@ one_text s w fits path one other (inr a) (inr b) = old_text s w path one other a
 
 -- what a path has then came to it
 pub comes_from : (s : FileChanges) (w : Workspace) (path text : List ℕ) → get (edited s w) path ≡ Some text → ComesFrom s w path text
-comes_from s w path text is = listed_from s w path text (found_in (files_after s w) path text (sym (get-from_entries path_cmp_total (files_after s w) path) ∙ is))
+comes_from s w path text is = listed_from s w path text
+    (found_in (files_after s w) path text (sym (get-from_entries path_cmp_total (files_after s w) path) ∙ is))
 
 -- and what came to it, it has
 pub has_file : (s : FileChanges) (w : Workspace) → Fits s w → (path text : List ℕ) → ComesFrom s w path text → get (edited s w) path ≡ Some text

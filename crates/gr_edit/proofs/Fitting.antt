@@ -1,5 +1,6 @@
 -- Which edit sets fit, by the paths that files keep.
-use Rattle.std.proofs.Common.{◌≡◌, ◌==◌, ℕ, ◌⊎◌, inl, inr, Bool, true, false, List, [], ◌∷◌, ◌++◌, map, Option, Some, None, IsSome, refl, sym, ap, subst, ◌∙◌, ⊎_elim}
+use Rattle.std.proofs.Common.{◌≡◌, ◌==◌, ℕ, ◌⊎◌, inl, inr, Bool, true, false, List, [], ◌∷◌, ◌++◌, map, Option, Some, None, IsSome, refl, sym, ap, subst}
+use Rattle.std.proofs.Common.{◌∙◌, ⊎_elim}
 use Rattle.std.specs.Prelude.{IfSome}
 use Rattle.std.specs.Cmp.Lexicographic.{pointwise, bytes_decides}
 use Rattle.std.specs.List.{All, Contains, IsDistinct, filter_map, cons_option}
@@ -27,7 +28,8 @@ path_eq = pointwise ◌==◌
 -- ---- lists whose paths differ
 head_differs : (p : List ℕ) (ps : List (List ℕ)) → IsDistinct path_eq (p ∷ ps) → Contains ps p → ⊥
 head_differs p ps distinct has =
-    let apart : path_eq p p ≡ false = All-contains (λ y. path_eq p y ≡ false) ps p (All-from_recursion (λ y. path_eq p y ≡ false) ps (IsDistinct-head path_eq p ps distinct)) has in
+    let apart : path_eq p p ≡ false = All-contains (λ y. path_eq p y ≡ false) ps p
+    (All-from_recursion (λ y. path_eq p y ≡ false) ps (IsDistinct-head path_eq p ps distinct)) has in
     true≢false (sym ((bytes_decides p p).1 refl) ∙ apart)
 
 tail_distinct : (o : Option (List ℕ)) (ps : List (List ℕ)) → IsDistinct path_eq (cons_option o ps) → IsDistinct path_eq ps
@@ -47,7 +49,8 @@ left_apart (x ∷ xs) ys p distinct left right =
     (first_or_later x xs p left)
 
 -- of files whose paths differ one at most has a path
-once_listed : (es : List (List ℕ × List ℕ)) → IsDistinct path_eq (map (λ e. e.0) es) → (one other : List ℕ × List ℕ) → Contains es one → Contains es other → one.0 ≡ other.0 → one ≡ other
+once_listed : (es : List (List ℕ × List ℕ)) → IsDistinct path_eq (map (λ e. e.0) es) → (one other : List ℕ × List ℕ) → Contains es one → Contains es other →
+    one.0 ≡ other.0 → one ≡ other
 once_listed [] distinct one other a b same = absurd (nothing_in one a)
 once_listed (e ∷ es) distinct one other a b same =
     let rest = map (λ (x : List ℕ × List ℕ). x.0) es in
@@ -68,7 +71,8 @@ abbrev target : FileChange → Option (List ℕ)
 target c = new_path c.fate
 
 -- of changes whose targets differ one at most has a target
-one_target : (cs : List FileChange) (ys : List (List ℕ)) → IsDistinct path_eq (filter_map target cs ++ ys) → (one other : FileChange) (p : List ℕ) → Contains cs one → Contains cs other
+one_target : (cs : List FileChange) (ys : List (List ℕ)) → IsDistinct path_eq (filter_map target cs ++ ys) → (one other : FileChange) (p : List ℕ) →
+    Contains cs one → Contains cs other
     → target one ≡ Some p → target other ≡ Some p → one ≡ other
 one_target [] ys distinct one other p a b first second = absurd (nothing_in one a)
 one_target (c ∷ cs) ys distinct one other p a b first second =
@@ -83,13 +87,15 @@ one_target (c ∷ cs) ys distinct one other p a b first second =
     (first_or_later c cs other b))
     (first_or_later c cs one a)
   where
-    twice : (o : Option (List ℕ)) (cs : List FileChange) (ys : List (List ℕ)) → IsDistinct path_eq (cons_option o (filter_map target cs) ++ ys) → (p : List ℕ) (d : FileChange) → o ≡ Some p → Contains cs d → target d ≡ Some p → ⊥
+    twice : (o : Option (List ℕ)) (cs : List FileChange) (ys : List (List ℕ)) → IsDistinct path_eq (cons_option o (filter_map target cs) ++ ys) →
+        (p : List ℕ) (d : FileChange) → o ≡ Some p → Contains cs d → target d ≡ Some p → ⊥
     twice None cs ys distinct p d is has at = none-some p is
     twice (Some q) cs ys distinct p d is has at =
         head_differs q (filter_map target cs ++ ys) distinct (subst (Contains (filter_map target cs ++ ys)) (sym (same_Some q p is))
         (Contains-append_left (filter_map target cs) ys p (is_given target cs d p has at)))
 
-    rest_distinct : (o : Option (List ℕ)) (cs : List FileChange) (ys : List (List ℕ)) → IsDistinct path_eq (cons_option o (filter_map target cs) ++ ys) → IsDistinct path_eq (filter_map target cs ++ ys)
+    rest_distinct : (o : Option (List ℕ)) (cs : List FileChange) (ys : List (List ℕ)) → IsDistinct path_eq (cons_option o (filter_map target cs) ++ ys) →
+        IsDistinct path_eq (filter_map target cs ++ ys)
     rest_distinct None cs ys distinct = distinct
     rest_distinct (Some q) cs ys distinct = IsDistinct-tail path_eq q (filter_map target cs ++ ys) distinct
 
@@ -117,7 +123,8 @@ moves_to Dropped old path h = absurd (none-some path h)
 abbrev IsMoved : FileChanges → List ℕ → List ℕ → Type 0
 IsMoved s old path = (c : FileChange) × Contains s.changed c × (c.path ≡ old) × (target c ≡ Some path)
 
-gets_by : (s : FileChanges) (w : Workspace) (old path : List ℕ) (o : Option FileChange) → change_of s old ≡ o → IsSome (get w old) → path_by_change o old ≡ Some path
+gets_by : (s : FileChanges) (w : Workspace) (old path : List ℕ) (o : Option FileChange) → change_of s old ≡ o → IsSome (get w old) →
+    path_by_change o old ≡ Some path
     → ((old ≡ path) × IsKept s.changed w path) ⊎ IsMoved s old path
 gets_by s w old path None is there goes =
     let same = same_Some old path goes in
@@ -126,7 +133,13 @@ gets_by s w old path (Some c) is there goes =
     let found = change_found s.changed old c is in
     ⊎_elim
     (λ (kept : (old ≡ path) × (is_stays c.fate ≡ true)).
-    inl (kept.0, (subst (λ (p : List ℕ). IsSome (get w p)) kept.0 there, subst (λ (p : List ℕ). stays (change_in s.changed p) ≡ true) kept.0 (ap stays is ∙ kept.1))))
+    inl (
+      kept.0,
+      (
+        subst (λ (p : List ℕ). IsSome (get w p)) kept.0 there,
+        subst (λ (p : List ℕ). stays (change_in s.changed p) ≡ true) kept.0 (ap stays is ∙ kept.1),
+      ),
+    ))
     (λ (moved : new_path c.fate ≡ Some path). inr (c, found.0, found.1, moved))
     (stays_or_moves c.fate old path goes)
 
@@ -156,7 +169,8 @@ module _ (s : FileChanges) (w : Workspace) (set : IsEditSet s) (there : All (IsT
   added_paths = map (λ file. file.0) s.added
 
   not_kept : (path : List ℕ) → AreFree s w → (c : FileChange) → Contains s.changed c → target c ≡ Some path → IsKept s.changed w path → ⊥
-  not_kept path free c has at kept = if_some (target c) (λ p. ¬ (IsKept s.changed w p)) path at (All-contains (λ (x : FileChange). IfSome (target x) (λ p. ¬ (IsKept s.changed w p))) s.changed c free.0 has) kept
+  not_kept path free c has at kept = if_some (target c) (λ p. ¬ (IsKept s.changed w p)) path at
+      (All-contains (λ (x : FileChange). IfSome (target x) (λ p. ¬ (IsKept s.changed w p))) s.changed c free.0 has) kept
 
   apart : AreFree s w → (one other path : List ℕ) → Gets s w one path → Gets s w other path → one ≡ other
   apart free one other path a b =
@@ -175,7 +189,8 @@ module _ (s : FileChanges) (w : Workspace) (set : IsEditSet s) (there : All (IsT
   added_free free old file has a =
       ⊎_elim
       (λ (x : (old ≡ file.0) × IsKept s.changed w file.0). All-contains (λ (f : List ℕ × List ℕ). ¬ (IsKept s.changed w f.0)) s.added file free.1 has x.1)
-      (λ (x : IsMoved s old file.0). left_apart (filter_map target s.changed) added_paths file.0 set.differ (is_given target s.changed x.0 file.0 x.1 x.3) (is_mapped (λ (f : List ℕ × List ℕ). f.0) s.added file has))
+      (λ (x : IsMoved s old file.0). left_apart (filter_map target s.changed) added_paths file.0 set.differ (is_given target s.changed x.0 file.0 x.1 x.3)
+      (is_mapped (λ (f : List ℕ × List ℕ). f.0) s.added file has))
       (gets_by s w old file.0 (change_of s old) refl a.0 a.1)
 
   pub fits_from : AreFree s w → Fits s w
@@ -188,7 +203,8 @@ module _ (s : FileChanges) (w : Workspace) (set : IsEditSet s) (there : All (IsT
 
   pub free_from : Fits s w → AreFree s w
   free_from fits = (
-    all_held (λ (c : FileChange). IfSome (target c) (λ p. ¬ (IsKept s.changed w p))) s.changed (λ c has. for_some (target c) (λ p. ¬ (IsKept s.changed w p)) (λ p at kept.
+    all_held (λ (c : FileChange). IfSome (target c) (λ p. ¬ (IsKept s.changed w p))) s.changed
+        (λ c has. for_some (target c) (λ p. ¬ (IsKept s.changed w p)) (λ p at kept.
         let file = file_there w c (All-contains (IsThere w) s.changed c there has) in
         let own : change_of s c.path ≡ Some c = change_held s.changed (one_way_sorted s.changed set.by_path) c.path c has refl in
         let goes : Gets s w c.path p = (some_is (get w c.path) file.0 file.1, ap (λ o. path_by_change o c.path) own ∙ moves_to c.fate c.path p at) in

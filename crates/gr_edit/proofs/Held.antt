@@ -18,7 +18,8 @@ first_or_later x xs y (suc k, lt, e) = inr (k, omega arith, e)
 
 -- ---- what a partial function gives of a list
 made_from : {X Y : Type 0} (h : X → Option Y) (x : X) (xs : List X) (o : Option Y) (y : Y) → h x ≡ o
-    → (Contains (filter_map h xs) y → (z : X) × Contains xs z × (h z ≡ Some y)) → Contains (cons_option o (filter_map h xs)) y → (z : X) × Contains (x ∷ xs) z × (h z ≡ Some y)
+    → (Contains (filter_map h xs) y → (z : X) × Contains xs z × (h z ≡ Some y)) → Contains (cons_option o (filter_map h xs)) y → (z : X) ×
+    Contains (x ∷ xs) z × (h z ≡ Some y)
 made_from h x xs None y is rest has = let r = rest has in (r.0, later_in x xs r.0 r.1, r.2)
 made_from h x xs (Some v) y is rest has =
     ⊎_elim

@@ -1,5 +1,6 @@
 -- Where offsets are after edits, step by step.
-use Rattle.std.proofs.Common.{◌≡◌, ℕ, ◌+◌, ◌-◌, ◌<◌, ◌≤◌, ◌⊎◌, true, false, cond, nat_le, List, [], ◌∷◌, ◌++◌, length, take, drop, refl, sym, ap, subst, ◌∙◌, inl, inr, ⊎_elim, arith}
+use Rattle.std.proofs.Common.{◌≡◌, ℕ, ◌+◌, ◌-◌, ◌<◌, ◌≤◌, ◌⊎◌, true, false, cond, nat_le, List, [], ◌∷◌, ◌++◌, length, take, drop, refl, sym, ap, subst}
+use Rattle.std.proofs.Common.{◌∙◌, inl, inr, ⊎_elim, arith}
 use Rattle.std.specs.List.{slice_range, AllByRecursion, Contains}
 use Rattle.std.proofs.lemmas.Bool.{cases_lt}
 use Rattle.std.proofs.lemmas.Bool.Decides.{nat_tests}
@@ -42,10 +43,12 @@ none_more e edits offset order h =
 
 pub step_past : (old new : ℕ) (e : Edit) (edits : List Edit) (offset : ℕ) → e.span.end ≤ offset
     → moved_from old new (e ∷ edits) offset ≡ moved_from e.span.end (new + ((e.span.start - old) + length e.text)) edits offset
-step_past old new e edits offset h = ap (λ b. cond b (moved_from e.span.end (new + ((e.span.start - old) + length e.text)) edits offset) (new + (offset - old))) (le_true e.span.end offset h)
+step_past old new e edits offset h = ap (λ b. cond b (moved_from e.span.end (new + ((e.span.start - old) + length e.text)) edits offset)
+    (new + (offset - old))) (le_true e.span.end offset h)
 
 pub stop_before : (old new : ℕ) (e : Edit) (edits : List Edit) (offset : ℕ) → offset < e.span.end → moved_from old new (e ∷ edits) offset ≡ new + (offset - old)
-stop_before old new e edits offset h = ap (λ b. cond b (moved_from e.span.end (new + ((e.span.start - old) + length e.text)) edits offset) (new + (offset - old))) (le_false e.span.end offset h)
+stop_before old new e edits offset h = ap (λ b. cond b (moved_from e.span.end (new + ((e.span.start - old) + length e.text)) edits offset)
+    (new + (offset - old))) (le_false e.span.end offset h)
 
 -- ---- the steps give the sum of the length changes
 sums : (edits : List Edit) (old new offset : ℕ) → AreInOrder old edits → old ≤ offset
@@ -57,22 +60,28 @@ sums (e ∷ edits) old new offset order h =
     ⊎_elim
     (λ (past : e.span.end ≤ offset).
     let next = new + ((e.span.start - old) + length e.text) in
-    let rest : moved_from e.span.end next edits offset + removed_by (edits_before edits offset) ≡ (next + (offset - e.span.end)) + added_by (edits_before edits offset) = sums edits e.span.end next offset order.2 past in
+    let rest : moved_from e.span.end next edits offset + removed_by (edits_before edits offset) ≡ (next + (offset - e.span.end)) + added_by
+    (edits_before edits offset) = sums edits e.span.end next offset order.2 past in
     let more = before_more e edits offset past in
-    let removed : removed_by (edits_before (e ∷ edits) offset) ≡ (e.span.end - e.span.start) + removed_by (edits_before edits offset) = ap removed_by more ∙ sum_by-cons (λ (x : Edit). x.span.end - x.span.start) e (edits_before edits offset) in
-    let added : added_by (edits_before (e ∷ edits) offset) ≡ length e.text + added_by (edits_before edits offset) = ap added_by more ∙ sum_by-cons (λ (x : Edit). length x.text) e (edits_before edits offset) in
+    let removed : removed_by (edits_before (e ∷ edits) offset) ≡ (e.span.end - e.span.start) + removed_by (edits_before edits offset) = ap removed_by more ∙
+    sum_by-cons (λ (x : Edit). x.span.end - x.span.start) e (edits_before edits offset) in
+    let added : added_by (edits_before (e ∷ edits) offset) ≡ length e.text + added_by (edits_before edits offset) = ap added_by more ∙
+    sum_by-cons (λ (x : Edit). length x.text) e (edits_before edits offset) in
     let step = step_past old new e edits offset past in
-    sums_up (moved_from old new (e ∷ edits) offset) (moved_from e.span.end next edits offset) (removed_by (edits_before (e ∷ edits) offset)) (removed_by (edits_before edits offset)) (added_by (edits_before (e ∷ edits) offset)) (added_by (edits_before edits offset))
+    sums_up (moved_from old new (e ∷ edits) offset) (moved_from e.span.end next edits offset) (removed_by (edits_before (e ∷ edits) offset))
+    (removed_by (edits_before edits offset)) (added_by (edits_before (e ∷ edits) offset)) (added_by (edits_before edits offset))
     new old offset e.span.start e.span.end (length e.text) first second past step rest removed added)
     (λ (behind : offset < e.span.end).
     let none = none_more e edits offset order.2 behind in
     let removed : removed_by (edits_before (e ∷ edits) offset) ≡ 0 = ap removed_by none in
     let added : added_by (edits_before (e ∷ edits) offset) ≡ 0 = ap added_by none in
     let step = stop_before old new e edits offset behind in
-    stops (moved_from old new (e ∷ edits) offset) (removed_by (edits_before (e ∷ edits) offset)) (added_by (edits_before (e ∷ edits) offset)) (new + (offset - old)) step removed added)
+    stops (moved_from old new (e ∷ edits) offset) (removed_by (edits_before (e ∷ edits) offset)) (added_by (edits_before (e ∷ edits) offset))
+    (new + (offset - old)) step removed added)
     (by_end e offset)
   where
-    sums_up : (m m' r r' a a' new old offset start end len : ℕ) → old ≤ start → start ≤ end → end ≤ offset → m ≡ m' → m' + r' ≡ ((new + ((start - old) + len)) + (offset - end)) + a' → r ≡ (end - start) + r' → a ≡ len + a'
+    sums_up : (m m' r r' a a' new old offset start end len : ℕ) → old ≤ start → start ≤ end → end ≤ offset → m ≡ m' →
+        m' + r' ≡ ((new + ((start - old) + len)) + (offset - end)) + a' → r ≡ (end - start) + r' → a ≡ len + a'
         → m + r ≡ (new + (offset - old)) + a
     sums_up m m' r r' a a' new old offset start end len h1 h2 h3 e1 e2 e3 e4 = omega arith
 
@@ -96,8 +105,10 @@ at_least (e ∷ edits) old new offset =
     (λ (past : e.span.end ≤ offset).
     let step = step_past old new e edits offset past in
     let rest = at_least edits e.span.end (new + ((e.span.start - old) + length e.text)) offset in
-    more (moved_from old new (e ∷ edits) offset) (moved_from e.span.end (new + ((e.span.start - old) + length e.text)) edits offset) new ((e.span.start - old) + length e.text) step rest)
-    (λ (behind : offset < e.span.end). let step = stop_before old new e edits offset behind in direct (moved_from old new (e ∷ edits) offset) new (offset - old) step)
+    more (moved_from old new (e ∷ edits) offset) (moved_from e.span.end (new + ((e.span.start - old) + length e.text)) edits offset) new
+    ((e.span.start - old) + length e.text) step rest)
+    (λ (behind : offset < e.span.end). let step = stop_before old new e edits offset behind in
+    direct (moved_from old new (e ∷ edits) offset) new (offset - old) step)
     (by_end e offset)
   where
     more : (m m' new k : ℕ) → m ≡ m' → new + k ≤ m' → new ≤ m
@@ -109,7 +120,8 @@ at_least (e ∷ edits) old new offset =
 abbrev Outside : List Edit → ℕ → Type 0
 Outside edits offset = AllByRecursion (λ e. (offset ≤ e.span.start) ⊎ (e.span.end ≤ offset)) edits
 
-rises : (edits : List Edit) (old new one other : ℕ) → AreInOrder old edits → Outside edits one → old ≤ one → one ≤ other → moved_from old new edits one ≤ moved_from old new edits other
+rises : (edits : List Edit) (old new one other : ℕ) → AreInOrder old edits → Outside edits one → old ≤ one → one ≤ other →
+    moved_from old new edits one ≤ moved_from old new edits other
 rises [] old new one other order outside from le = omega arith
 rises (e ∷ edits) old new one other order outside from le =
     let first : old ≤ e.span.start = order.0 in
@@ -119,14 +131,17 @@ rises (e ∷ edits) old new one other order outside from le =
     (λ (past : e.span.end ≤ one).
     let far : e.span.end ≤ other = omega arith in
     subst (λ (n : ℕ). n ≤ moved_from old new (e ∷ edits) other) (sym (step_past old new e edits one past))
-    (subst (λ (n : ℕ). moved_from e.span.end next edits one ≤ n) (sym (step_past old new e edits other far)) (rises edits e.span.end next one other order.2 outside.1 past le)))
+    (subst (λ (n : ℕ). moved_from e.span.end next edits one ≤ n) (sym (step_past old new e edits other far))
+    (rises edits e.span.end next one other order.2 outside.1 past le)))
     (λ (behind : one < e.span.end).
-    let before : one ≤ e.span.start = ⊎_elim (λ (h : one ≤ e.span.start). h) (λ (h : e.span.end ≤ one). let x : one ≤ e.span.start = absurd (omega arith) in x) outside.0 in
+    let before : one ≤ e.span.start = ⊎_elim (λ (h : one ≤ e.span.start). h)
+    (λ (h : e.span.end ≤ one). let x : one ≤ e.span.start = absurd (omega arith) in x) outside.0 in
     subst (λ (n : ℕ). n ≤ moved_from old new (e ∷ edits) other) (sym (stop_before old new e edits one behind))
     (⊎_elim
     (λ (past : e.span.end ≤ other).
     let low : next ≤ moved_from e.span.end next edits other = at_least edits e.span.end next other in
-    subst (λ (n : ℕ). new + (one - old) ≤ n) (sym (step_past old new e edits other past)) (reach new old one e.span.start (length e.text) (moved_from e.span.end next edits other) before low))
+    subst (λ (n : ℕ). new + (one - old) ≤ n) (sym (step_past old new e edits other past))
+    (reach new old one e.span.start (length e.text) (moved_from e.span.end next edits other) before low))
     (λ (far : other < e.span.end).
     subst (λ (n : ℕ). new + (one - old) ≤ n) (sym (stop_before old new e edits other far)) (omega arith))
     (by_end e other)))
@@ -151,12 +166,14 @@ past_first old e edits text k first second third =
     let rest = edited_from e.span.end edits text in
     let len : length kept ≡ size = length_range text old e.span.start first (omega arith) in
     sym (drop-drop k (size + length e.text) (kept ++ (e.text ++ rest)))
-    ∙ ap (drop k) (sym (drop-drop (length e.text) size (kept ++ (e.text ++ rest))) ∙ ap (drop (length e.text)) (drop_at kept (e.text ++ rest) size len) ∙ drop_at e.text rest (length e.text) refl)
+    ∙ ap (drop k) (sym (drop-drop (length e.text) size (kept ++ (e.text ++ rest))) ∙ ap (drop (length e.text)) (drop_at kept (e.text ++ rest) size len) ∙
+    drop_at e.text rest (length e.text) refl)
 
 abbrev Kept : List Edit → ℕ → ℕ → Type 0
 Kept edits start end = AllByRecursion (λ e. (end ≤ e.span.start) ⊎ (e.span.end ≤ start)) edits
 
-bytes_kept : (edits : List Edit) (text : List ℕ) (old new start end : ℕ) → AreInOrder old edits → EndWithin (length text) edits → old ≤ start → start < end → end ≤ length text → Kept edits start end
+bytes_kept : (edits : List Edit) (text : List ℕ) (old new start end : ℕ) → AreInOrder old edits → EndWithin (length text) edits → old ≤ start →
+    start < end → end ≤ length text → Kept edits start end
     → take (end - start) (drop (moved_from old new edits start - new) (edited_from old edits text)) ≡ slice_range text start end
 bytes_kept [] text old new start end order within from some ends kept =
     ap (λ n. take (end - start) (drop n (drop old text))) (let e : (new + (start - old)) - new ≡ start - old = omega arith in e)
@@ -176,7 +193,8 @@ bytes_kept (e ∷ edits) text old new start end order within from some ends kept
     ∙ ap (take (end - start)) (past_first old e edits text (m - next) first second third)
     ∙ bytes_kept edits text e.span.end next start end order.2 within.1 past some ends kept.1)
     (λ (behind : start < e.span.end).
-    let before : end ≤ e.span.start = ⊎_elim (λ (h : end ≤ e.span.start). h) (λ (h : e.span.end ≤ start). let x : end ≤ e.span.start = absurd (omega arith) in x) kept.0 in
+    let before : end ≤ e.span.start = ⊎_elim (λ (h : end ≤ e.span.start). h)
+    (λ (h : e.span.end ≤ start). let x : end ≤ e.span.start = absurd (omega arith) in x) kept.0 in
     let part = slice_range text old e.span.start in
     let rest = e.text ++ edited_from e.span.end edits text in
     let len : length part ≡ size = length_range text old e.span.start first (omega arith) in
@@ -205,7 +223,8 @@ keeps_bytes edits text start end order within some ends kept =
     ap (λ (m : ℕ). slice_range new m (m + (end - start))) (sym (moves_all edits start order))
     ∙ range_at new (moved_from 0 0 edits start) (end - start)
     ∙ ap (λ (m : ℕ). take (end - start) (drop m new)) (let e : moved_from 0 0 edits start ≡ moved_from 0 0 edits start - 0 = omega arith in e)
-    ∙ bytes_kept edits text 0 0 start end order (ends_within (length text) edits within) (omega arith) some ends (recursion_from_All (λ (e : Edit). (end ≤ e.span.start) ⊎ (e.span.end ≤ start)) edits kept)
+    ∙ bytes_kept edits text 0 0 start end order (ends_within (length text) edits within) (omega arith) some ends
+    (recursion_from_All (λ (e : Edit). (end ≤ e.span.start) ⊎ (e.span.end ≤ start)) edits kept)
 
 -- an edit of a list in order begins behind where the list does
 begins : (edits : List Edit) (at : ℕ) (e : Edit) → AreInOrder at edits → Contains edits e → at ≤ e.span.start
@@ -218,7 +237,8 @@ begins (d ∷ edits) at e order has =
     (λ (rest : Contains edits e). let far : d.span.end ≤ e.span.start = begins edits d.span.end e order.2 rest in omega arith)
     (first_or_later d edits e has)
 
-bytes_put : (edits : List Edit) (text : List ℕ) (old new : ℕ) (e : Edit) → AreInOrder old edits → EndWithin (length text) edits → Contains edits e → e.span.start < e.span.end
+bytes_put : (edits : List Edit) (text : List ℕ) (old new : ℕ) (e : Edit) → AreInOrder old edits → EndWithin (length text) edits → Contains edits e →
+    e.span.start < e.span.end
     → take (length e.text) (drop (moved_from old new edits e.span.start - new) (edited_from old edits text)) ≡ e.text
 bytes_put [] text old new e order within has some = absurd (nothing_in e has)
 bytes_put (d ∷ edits) text old new e order within has some =
@@ -229,7 +249,8 @@ bytes_put (d ∷ edits) text old new e order within has some =
     let next = new + (size + length d.text) in
     ⊎_elim
     (λ (is : d ≡ e).
-    let P : Edit → Type 0 = λ x. x.span.start < x.span.end → take (length x.text) (drop (moved_from old new (d ∷ edits) x.span.start - new) (edited_from old (d ∷ edits) text)) ≡ x.text in
+    let P : Edit → Type 0 = λ x. x.span.start < x.span.end →
+    take (length x.text) (drop (moved_from old new (d ∷ edits) x.span.start - new) (edited_from old (d ∷ edits) text)) ≡ x.text in
     subst P is (λ (less : d.span.start < d.span.end).
     let part = slice_range text old d.span.start in
     let rest = edited_from d.span.end edits text in
@@ -271,10 +292,12 @@ end_moves (e ∷ edits) text old new order within from =
     let rest = edited_from e.span.end edits text in
     let len : length part ≡ e.span.start - old = length_range text old e.span.start first (omega arith) in
     let next = new + ((e.span.start - old) + length e.text) in
-    let whole : length (part ++ (e.text ++ rest)) ≡ length part + (length e.text + length rest) = length-append part (e.text ++ rest) ∙ ap (λ n. length part + n) (length-append e.text rest) in
+    let whole : length (part ++ (e.text ++ rest)) ≡ length part + (length e.text + length rest) = length-append part (e.text ++ rest) ∙
+    ap (λ n. length part + n) (length-append e.text rest) in
     let step = step_past old new e edits (length text) third in
     let further : next + length rest ≡ moved_from e.span.end next edits (length text) = end_moves edits text e.span.end next order.2 within.1 third in
-    adds (length (part ++ (e.text ++ rest))) (length part) (length e.text) (length rest) new (e.span.start - old) (moved_from e.span.end next edits (length text)) whole len further ∙ sym step
+    adds (length (part ++ (e.text ++ rest))) (length part) (length e.text) (length rest) new (e.span.start - old)
+    (moved_from e.span.end next edits (length text)) whole len further ∙ sym step
   where
     adds : (all part len rest new size m : ℕ) → all ≡ part + (len + rest) → part ≡ size → (new + (size + len)) + rest ≡ m → new + all ≡ m
     adds all part len rest new size m e1 e2 e3 = omega arith

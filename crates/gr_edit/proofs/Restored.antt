@@ -4,7 +4,8 @@ use Rattle.std.specs.List.{All, Contains, filter_map}
 use Rattle.std.specs.Option.{option_map}
 use Rattle.std.specs.FinMap.{get}
 use Rattle.std.proofs.lemmas.Option.{none-some, same_Some}
-use Rattle.std.proofs.lemmas.List.Elements.{Contains-append_left, Contains-append_right, Contains-append_cases, All-contains, All-contains_itself, All-weaker, All-nil}
+use Rattle.std.proofs.lemmas.List.Elements.{Contains-append_left, Contains-append_right, Contains-append_cases, All-contains, All-contains_itself}
+use Rattle.std.proofs.lemmas.List.Elements.{All-weaker, All-nil}
 use Rattle.gr_text.specs.Workspace.{Workspace}
 use Rattle.gr_edit.specs.Edits.{AreInOrder, LieWithin, edited_text}
 use Rattle.gr_edit.specs.EditSet.{FileChanges, path_by, change_of, file_by, file_after, edited}
@@ -52,10 +53,13 @@ module _ (s : FileChanges) (w : Workspace) (changes : AreChanges s) (fits : Fits
 
   one_way : (one other : FileChange) → IsTurned one → IsTurned other → one.path ≡ other.path → one ≡ other
   one_way one other (inl a) (inl b) same =
-      let path : a.0.path ≡ b.0.path = fits.apart a.0.path b.0.path other.path (subst (Gets s w a.0.path) same (back_gets a.0 one a.1 a.2)) (back_gets b.0 other b.1 b.2) in
+      let path : a.0.path ≡ b.0.path = fits.apart a.0.path b.0.path other.path (subst (Gets s w a.0.path) same (back_gets a.0 one a.1 a.2))
+      (back_gets b.0 other b.1 b.2) in
       same_Some one other (sym a.2 ∙ ap (back_of w) (changes.one_way a.0 b.0 a.1 b.1 path) ∙ b.2)
-  one_way one other (inl a) (inr b) same = absurd (fits.free a.0.path b.0 b.1 (subst (Gets s w a.0.path) (same ∙ ap (λ (x : FileChange). x.path) (sym b.2)) (back_gets a.0 one a.1 a.2)))
-  one_way one other (inr a) (inl b) same = absurd (fits.free b.0.path a.0 a.1 (subst (Gets s w b.0.path) (sym same ∙ ap (λ (x : FileChange). x.path) (sym a.2)) (back_gets b.0 other b.1 b.2)))
+  one_way one other (inl a) (inr b) same = absurd (fits.free a.0.path b.0 b.1
+      (subst (Gets s w a.0.path) (same ∙ ap (λ (x : FileChange). x.path) (sym b.2)) (back_gets a.0 one a.1 a.2)))
+  one_way one other (inr a) (inl b) same = absurd (fits.free b.0.path a.0 a.1
+      (subst (Gets s w b.0.path) (sym same ∙ ap (λ (x : FileChange). x.path) (sym a.2)) (back_gets b.0 other b.1 b.2)))
   one_way one other (inr a) (inr b) same =
       sym a.2 ∙ ap dropped (fits.once a.0 b.0 a.1 b.1 (ap (λ (x : FileChange). x.path) a.2 ∙ same ∙ ap (λ (x : FileChange). x.path) (sym b.2))) ∙ b.2
 
@@ -87,12 +91,14 @@ module _ (s : FileChanges) (w : Workspace) (changes : AreChanges s) (fits : Fits
   no_file : (u p t : List ℕ) (q : List ℕ) → file_by (Some (dropped (q, u))) (q, u) ≡ Some (p, t) → ⊥
   no_file u p t q h = none-some (p, t) h
 
-  restored : (c d : FileChange) (before : List ℕ) → Contains s.changed c → get w c.path ≡ Some before → back_of w c ≡ Some d → edited_text d.edits (edited_text c.edits before) ≡ before
+  restored : (c d : FileChange) (before : List ℕ) → Contains s.changed c → get w c.path ≡ Some before → back_of w c ≡ Some d →
+      edited_text d.edits (edited_text c.edits before) ≡ before
   restored c d before has is back =
       let b = is_back w c d back in
       let same : b.before ≡ before = same_Some b.before before (sym b.is ∙ is) in
       ap (λ (es : List Edit). edited_text es (edited_text c.edits before)) (b.goes.same_edits ∙ ap (reversed c.edits) same)
-      ∙ reversed_restore c.edits before (All-contains (λ (x : FileChange). AreInOrder 0 x.edits) s.changed c changes.in_order has) (within_there w c before is (All-contains (IsThere w) s.changed c fits.there has))
+      ∙ reversed_restore c.edits before (All-contains (λ (x : FileChange). AreInOrder 0 x.edits) s.changed c changes.in_order has)
+      (within_there w c before is (All-contains (IsThere w) s.changed c fits.there has))
 
   old_goes_back : (q u p t old before : List ℕ) (o : Option FileChange) → change_of s old ≡ o → get w old ≡ Some before → file_by o (old, before) ≡ Some (q, u)
       → file_after turned (q, u) ≡ Some (p, t) → IsBackAt p t q
@@ -145,12 +151,15 @@ module _ (s : FileChanges) (w : Workspace) (changes : AreChanges s) (fits : Fits
       let new = edited_text c.edits k.before in
       let order = All-contains (λ (x : FileChange). AreInOrder 0 x.edits) s.changed c changes.in_order b.1 in
       let within = within_there w c k.before k.is (All-contains (IsThere w) s.changed c fits.there b.1) in
-      let gives : file_after s (c.path, k.before) ≡ Some (d.path, new) = ap (λ o. file_by o (c.path, k.before)) (own_change c b.1) ∙ ap (option_map {U = List ℕ × List ℕ} (λ p. (p, new))) k.goes.there in
+      let gives : file_after s (c.path, k.before) ≡ Some (d.path, new) = ap (λ o. file_by o (c.path, k.before)) (own_change c b.1) ∙
+      ap (option_map {U = List ℕ × List ℕ} (λ p. (p, new))) k.goes.there in
       let is : get after d.path ≡ Some new = has_file s w fits d.path new (inr (c.path, k.before, k.is, gives)) in
       is_there after d new is (subst (LieWithin (length new)) (sym k.goes.same_edits)
-      (lie_within (length new) (reversed c.edits k.before) (reversed_within c.edits k.before new 0 0 order (ends_within (length k.before) c.edits within) (omega arith) refl)))
+      (lie_within (length new) (reversed c.edits k.before)
+      (reversed_within c.edits k.before new 0 0 order (ends_within (length k.before) c.edits within) (omega arith) refl)))
   turned_there d (inr b) =
-      subst (IsThere after) b.2 (is_there after (dropped b.0) b.0.1 (has_file s w fits b.0.0 b.0.1 (inl b.1)) (All-nil (λ (e : Edit). e.span.end ≤ length b.0.1)))
+      subst (IsThere after) b.2 (is_there after (dropped b.0) b.0.1 (has_file s w fits b.0.0 b.0.1 (inl b.1))
+      (All-nil (λ (e : Edit). e.span.end ≤ length b.0.1)))
 
   lost_in : (file : List ℕ × List ℕ) → Contains turned.added file → (c : FileChange) × Contains s.changed c × IsLost w c file
   lost_in file has = let r = given_from (lost_of w) s.changed file has in (r.0, r.1, is_lost w r.0 file r.2)
@@ -173,14 +182,17 @@ module _ (s : FileChanges) (w : Workspace) (changes : AreChanges s) (fits : Fits
   lost_file : (c : FileChange) (p t : List ℕ) → Contains s.changed c → c.path ≡ p → get w p ≡ Some t → path_by c.fate p ≡ None → Contains turned.added (p, t)
   lost_file c p t has at is none =
       let here : get w c.path ≡ Some t = ap (get w) at ∙ is in
-      subst (λ (x : List ℕ). Contains turned.added (x, t)) at (is_given (lost_of w) s.changed c (c.path, t) has (lost_there w c t here (ap (path_by c.fate) at ∙ none)))
+      subst (λ (x : List ℕ). Contains turned.added (x, t)) at
+      (is_given (lost_of w) s.changed c (c.path, t) has (lost_there w c t here (ap (path_by c.fate) at ∙ none)))
 
-  moved_file : (c : FileChange) (p t q : List ℕ) → Contains s.changed c → c.path ≡ p → get w p ≡ Some t → path_by c.fate p ≡ Some q → (x : List ℕ) × ComesFrom turned after p x
+  moved_file : (c : FileChange) (p t q : List ℕ) → Contains s.changed c → c.path ≡ p → get w p ≡ Some t → path_by c.fate p ≡ Some q → (x : List ℕ) ×
+      ComesFrom turned after p x
   moved_file c p t q has at is moves =
       let here : get w c.path ≡ Some t = ap (get w) at ∙ is in
       let goes : path_by c.fate c.path ≡ Some q = ap (path_by c.fate) at ∙ moves in
       let new = edited_text c.edits t in
-      let gives : file_after s (c.path, t) ≡ Some (q, new) = ap (λ o. file_by o (c.path, t)) (own_change c has) ∙ ap (option_map {U = List ℕ × List ℕ} (λ x. (x, new))) goes in
+      let gives : file_after s (c.path, t) ≡ Some (q, new) = ap (λ o. file_by o (c.path, t)) (own_change c has) ∙
+      ap (option_map {U = List ℕ × List ℕ} (λ x. (x, new))) goes in
       let there : get after q ≡ Some new = has_file s w fits q new (inr (c.path, t, here, gives)) in
       let d = back_there w c t q here goes in
       let b = is_back w c d.0 d.1 in
@@ -190,7 +202,8 @@ module _ (s : FileChanges) (w : Workspace) (changes : AreChanges s) (fits : Fits
       let file = some_file (change_of turned q) q new p back in
       (file.0, inr (q, new, there, file.1))
 
-  with_change : (p t : List ℕ) (c : FileChange) (o : Option (List ℕ)) → Contains s.changed c → c.path ≡ p → get w p ≡ Some t → path_by c.fate p ≡ o → (x : List ℕ) × ComesFrom turned after p x
+  with_change : (p t : List ℕ) (c : FileChange) (o : Option (List ℕ)) → Contains s.changed c → c.path ≡ p → get w p ≡ Some t → path_by c.fate p ≡ o →
+      (x : List ℕ) × ComesFrom turned after p x
   with_change p t c None has at is goes = (t, inl (lost_file c p t has at is goes))
   with_change p t c (Some q) has at is goes = moved_file c p t q has at is goes
 

@@ -32,7 +32,8 @@ greater_differs e = true≢false (ap is_gt e)
 head_apart : (c : FileChange) (cs : List FileChange) (d : FileChange) → IsStrictlySortedBy path_cmp (paths_of (c ∷ cs)) → Contains cs d → c.path ≡ d.path → ⊥
 head_apart c cs d sorted has same =
     let below : path_cmp c.path d.path ≡ Less = All-contains (λ y. path_cmp c.path y ≡ Less) (paths_of cs) d.path
-    (All-from_recursion (λ y. path_cmp c.path y ≡ Less) (paths_of cs) (sorted_head path_cmp c.path (paths_of cs) sorted)) (is_mapped (λ (x : FileChange). x.path) cs d has) in
+    (All-from_recursion (λ y. path_cmp c.path y ≡ Less) (paths_of cs) (sorted_head path_cmp c.path (paths_of cs) sorted))
+    (is_mapped (λ (x : FileChange). x.path) cs d has) in
     not_tied Less c.path d.path below less_differs same
 
 pub one_way_sorted : (cs : List FileChange) → IsStrictlySortedBy path_cmp (paths_of cs) → IsOneWay cs
@@ -65,11 +66,15 @@ rises : (cs : List FileChange) (path : List ℕ) → IsStrictlySortedBy path_cmp
 rises cs path sorted = searchable_from_sorted path_cmp_total (λ (c : FileChange). c.path) cs path (λ k d low within.
     let first = get_or-map (λ (c : FileChange). c.path) cs k d d.path (omega arith) in
     let second = get_or-map (λ (c : FileChange). c.path) cs (k + 1) d d.path within in
-    let less = Less-from_sorted path_cmp (paths_of cs) k (k + 1) d.path sorted (omega arith) (subst (λ (n : ℕ). k + 1 < n) (sym (length-map cs (λ (c : FileChange). c.path))) within) in
-    let here : path_cmp (get_or cs k d).path (get_or cs (k + 1) d).path ≡ Less = subst (λ (x : List ℕ). path_cmp x (get_or cs (k + 1) d).path ≡ Less) first (subst (λ (y : List ℕ). path_cmp (get_or (paths_of cs) k d.path) y ≡ Less) second less) in
+    let less = Less-from_sorted path_cmp (paths_of cs) k (k + 1) d.path sorted (omega arith)
+    (subst (λ (n : ℕ). k + 1 < n) (sym (length-map cs (λ (c : FileChange). c.path))) within) in
+    let here : path_cmp (get_or cs k d).path (get_or cs (k + 1) d).path ≡ Less =
+    subst (λ (x : List ℕ). path_cmp x (get_or cs (k + 1) d).path ≡ Less) first
+    (subst (λ (y : List ℕ). path_cmp (get_or (paths_of cs) k d.path) y ≡ Less) second less) in
     ap is_lt (path_cmp_total.antisymm (get_or cs (k + 1) d).path (get_or cs k d).path ∙ ap ordering_reverse here))
 
-none_in : (cs : List FileChange) (path : List ℕ) (i : ℕ) (c : FileChange) → IsPartitionPoint (λ x. search_cmp path x ≡ Less) (λ x. search_cmp path x ≡ Greater) cs i → Contains cs c → c.path ≡ path → ⊥
+none_in : (cs : List FileChange) (path : List ℕ) (i : ℕ) (c : FileChange) →
+    IsPartitionPoint (λ x. search_cmp path x ≡ Less) (λ x. search_cmp path x ≡ Greater) cs i → Contains cs c → c.path ≡ path → ⊥
 none_in cs path i c split has same =
     let k = has.0 in
     let within : k < length cs = has.1 in
@@ -80,6 +85,8 @@ none_in cs path i c split has same =
     (cases_lt k i)
 
 pub none_is : (cs : List FileChange) (path : List ℕ) (i : ℕ) → IsStrictlySortedBy path_cmp (paths_of cs)
-    → (IsNonDecreasingBy (λ y. ordering_index (search_cmp path y)) cs → IsPartitionPoint (λ x. search_cmp path x ≡ Less) (λ x. search_cmp path x ≡ Greater) cs i)
+    → (IsNonDecreasingBy (λ y. ordering_index (search_cmp path y)) cs →
+    IsPartitionPoint (λ x. search_cmp path x ≡ Less) (λ x. search_cmp path x ≡ Greater) cs i)
     → None ≡ change_in cs path
-none_is cs path i sorted found = sym (none_from (change_in cs path) (λ c some. let there = change_found cs path c some in none_in cs path i c (found (rises cs path sorted)) there.0 there.1))
+none_is cs path i sorted found = sym (none_from (change_in cs path)
+    (λ c some. let there = change_found cs path c some in none_in cs path i c (found (rises cs path sorted)) there.0 there.1))

@@ -32,7 +32,8 @@ pub record IsNextEdit (edits : List Edit) (i : ℕ) (at size : ℕ) (e : Edit) :
   pub third : e.span.end ≤ size
   pub order : AreInOrder e.span.end (drop (i + 1) edits)
 
-pub next_edit : (edits : List Edit) (i : ℕ) (at size : ℕ) (e : Edit) → i < length edits → e ≡ get_or edits i e → AreInOrder at (drop i edits) → LieWithin size edits → IsNextEdit edits i at size e
+pub next_edit : (edits : List Edit) (i : ℕ) (at size : ℕ) (e : Edit) → i < length edits → e ≡ get_or edits i e → AreInOrder at (drop i edits) →
+    LieWithin size edits → IsNextEdit edits i at size e
 next_edit edits i at size e lt is order within =
     let left = drop_next edits i e lt is in
     let here : AreInOrder at (e ∷ drop (i + 1) edits) = subst (AreInOrder at) left order in
@@ -45,7 +46,8 @@ next_edit edits i at size e lt is order within =
     }
 
 -- the text so far, one edit further
-pub text_more : (edits : List Edit) (i at : ℕ) (old new all : List ℕ) (e : Edit) → IsNextEdit edits i at (length old) e → new ++ edited_from at (drop i edits) old ≡ all
+pub text_more : (edits : List Edit) (i at : ℕ) (old new all : List ℕ) (e : Edit) → IsNextEdit edits i at (length old) e →
+    new ++ edited_from at (drop i edits) old ≡ all
     → ((new ++ slice_range old at e.span.start) ++ e.text) ++ edited_from e.span.end (drop (i + 1) edits) old ≡ all
 text_more edits i at old new all e next so_far =
     let rest = edited_from e.span.end (drop (i + 1) edits) old in
@@ -54,14 +56,20 @@ text_more edits i at old new all e next so_far =
     ∙ ap (λ (es : List Edit). new ++ edited_from at es old) (sym next.left) ∙ so_far
 
 -- the reversed edits so far, one further
-pub reversed_more : (edits back all : List Edit) (i at new len : ℕ) (old : List ℕ) (e r : Edit) → IsNextEdit edits i at (length old) e → back ++ reversed_from at new (drop i edits) old ≡ all
+pub reversed_more : (edits back all : List Edit) (i at new len : ℕ) (old : List ℕ) (e r : Edit) → IsNextEdit edits i at (length old) e →
+    back ++ reversed_from at new (drop i edits) old ≡ all
     → len ≡ length e.text
-    → r ≡ record { span = record { start = new + (e.span.start - at); end = (new + (e.span.start - at)) + len }; text = slice_range old e.span.start e.span.end }
+    → r ≡ record {
+      span = record { start = new + (e.span.start - at); end = (new + (e.span.start - at)) + len };
+      text =
+          slice_range old e.span.start e.span.end;
+    }
     → (back ++ r ∷ []) ++ reversed_from e.span.end ((new + (e.span.start - at)) + len) (drop (i + 1) edits) old ≡ all
 reversed_more edits back all i at new len old e r next so_far len_is is =
     let rest = drop (i + 1) edits in
     let start = new + (e.span.start - at) in
-    let P : ℕ → Type 0 = λ n. r ≡ record { span = record { start = start; end = start + n }; text = slice_range old e.span.start e.span.end } → (back ++ r ∷ []) ++ reversed_from e.span.end (start + n) rest old ≡ all in
+    let P : ℕ → Type 0 = λ n. r ≡ record { span = record { start = start; end = start + n }; text = slice_range old e.span.start e.span.end } →
+    (back ++ r ∷ []) ++ reversed_from e.span.end (start + n) rest old ≡ all in
     subst P (sym len_is) (λ same.
     append_assoc back (r ∷ []) (reversed_from e.span.end (start + length e.text) rest old)
     ∙ ap (λ (x : Edit). back ++ (x ∷ reversed_from e.span.end (start + length e.text) rest old)) same
@@ -81,7 +89,8 @@ size_more edits i at old e next =
     ∙ length-append kept (e.text ++ rest) ∙ ap (λ n. n + length (e.text ++ rest)) len ∙ ap (λ n. (e.span.start - at) + n) (length-append e.text rest)
 
 -- ---- changes
-with_next : (o : Option (List ℕ × List ℕ)) (rest : List (List ℕ × List ℕ)) (w : Workspace) → with_files rest (with_files (cons_option o []) w) ≡ with_files (cons_option o rest) w
+with_next : (o : Option (List ℕ × List ℕ)) (rest : List (List ℕ × List ℕ)) (w : Workspace) →
+    with_files rest (with_files (cons_option o []) w) ≡ with_files (cons_option o rest) w
 with_next None rest w = refl
 with_next (Some file) rest w = refl
 
@@ -89,7 +98,8 @@ pushed_next : {X : Type 0} (before : List X) (o : Option X) (rest : List X) → 
 pushed_next before None rest = ap (λ xs. xs ++ rest) (append-nil before)
 pushed_next before (Some x) rest = append_assoc before (x ∷ []) rest
 
-pub files_more : (w old new all : Workspace) (changes : List FileChange) (i : ℕ) (c : FileChange) (text : List ℕ) → drop i changes ≡ c ∷ drop (i + 1) changes → get w c.path ≡ Some text
+pub files_more : (w old new all : Workspace) (changes : List FileChange) (i : ℕ) (c : FileChange) (text : List ℕ) →
+    drop i changes ≡ c ∷ drop (i + 1) changes → get w c.path ≡ Some text
     → new ≡ with_files (cons_option (file_by (Some c) (c.path, text)) []) old → with_files (filter_map (made_of w) (drop i changes)) old ≡ all
     → with_files (filter_map (made_of w) (drop (i + 1) changes)) new ≡ all
 files_more w old new all changes i c text left is made so_far =
@@ -98,7 +108,8 @@ files_more w old new all changes i c text left is made so_far =
     ∙ ap (λ (o : Option (List ℕ)). with_files (cons_option (option_and_then (λ t. file_by (Some c) (c.path, t)) o) rest) old) (sym is)
     ∙ ap (λ (cs : List FileChange). with_files (filter_map (made_of w) cs) old) (sym left) ∙ so_far
 
-pub back_more : (w : Workspace) (old new all : List FileChange) (changes : List FileChange) (i : ℕ) (c : FileChange) (text : List ℕ) → drop i changes ≡ c ∷ drop (i + 1) changes → get w c.path ≡ Some text
+pub back_more : (w : Workspace) (old new all : List FileChange) (changes : List FileChange) (i : ℕ) (c : FileChange) (text : List ℕ) →
+    drop i changes ≡ c ∷ drop (i + 1) changes → get w c.path ≡ Some text
     → new ≡ old ++ cons_option (back_by c.fate c.path (reversed c.edits text)) [] → old ++ filter_map (back_of w) (drop i changes) ≡ all
     → new ++ filter_map (back_of w) (drop (i + 1) changes) ≡ all
 back_more w old new all changes i c text left is made so_far =
@@ -107,7 +118,8 @@ back_more w old new all changes i c text left is made so_far =
     ∙ ap (λ (o : Option (List ℕ)). old ++ cons_option (option_and_then (λ t. back_by c.fate c.path (reversed c.edits t)) o) rest) (sym is)
     ∙ ap (λ (cs : List FileChange). old ++ filter_map (back_of w) cs) (sym left) ∙ so_far
 
-pub lost_more : (w : Workspace) (old new all : List (List ℕ × List ℕ)) (changes : List FileChange) (i : ℕ) (c : FileChange) (text : List ℕ) → drop i changes ≡ c ∷ drop (i + 1) changes → get w c.path ≡ Some text
+pub lost_more : (w : Workspace) (old new all : List (List ℕ × List ℕ)) (changes : List FileChange) (i : ℕ) (c : FileChange) (text : List ℕ) →
+    drop i changes ≡ c ∷ drop (i + 1) changes → get w c.path ≡ Some text
     → new ≡ old ++ cons_option (lost_by c.fate (c.path, text)) [] → old ++ filter_map (lost_of w) (drop i changes) ≡ all
     → new ++ filter_map (lost_of w) (drop (i + 1) changes) ≡ all
 lost_more w old new all changes i c text left is made so_far =
@@ -117,21 +129,25 @@ lost_more w old new all changes i c text left is made so_far =
     ∙ ap (λ (cs : List FileChange). old ++ filter_map (lost_of w) cs) (sym left) ∙ so_far
 
 -- what the list of changes says of one
-pub order_at : (changes : List FileChange) (i : ℕ) (c : FileChange) → i < length changes → c ≡ get_or changes i c → All (λ x. AreInOrder 0 x.edits) changes → AreInOrder 0 c.edits
+pub order_at : (changes : List FileChange) (i : ℕ) (c : FileChange) → i < length changes → c ≡ get_or changes i c →
+    All (λ x. AreInOrder 0 x.edits) changes → AreInOrder 0 c.edits
 order_at changes i c lt is all = subst (λ (x : FileChange). AreInOrder 0 x.edits) (sym is) (all i c lt)
 
-pub there_at : (w : Workspace) (changes : List FileChange) (i : ℕ) (c : FileChange) → i < length changes → c ≡ get_or changes i c → All (IsThere w) changes → IsThere w c
+pub there_at : (w : Workspace) (changes : List FileChange) (i : ℕ) (c : FileChange) → i < length changes → c ≡ get_or changes i c →
+    All (IsThere w) changes → IsThere w c
 there_at w changes i c lt is all = subst (IsThere w) (sym is) (all i c lt)
 
 -- ---- what is prepared
 pub are_prepared : (s : FileChanges) (w files : Workspace) (back : List FileChange) (lost : List (List ℕ × List ℕ)) → AreChanges s → Fits s w
-    → files ≡ made s w → back ≡ (inverse s w).changed → lost ≡ (inverse s w).added → IsPrepared s w (record { files = files; inverse = record { changed = back; added = lost } })
+    → files ≡ made s w → back ≡ (inverse s w).changed → lost ≡ (inverse s w).added →
+    IsPrepared s w (record { files = files; inverse = record { changed = back; added = lost } })
 are_prepared s w files back lost changes fits e1 e2 e3 =
     let made_so : files ≡ edited s w = e1 ∙ made_is_edited s w changes fits in
     let turned : ◌≡◌ {A = FileChanges} (inverse s w) (record { changed = back; added = lost }) = (λ i. record { changed = sym e2 i; added = sym e3 i }) in
     record {
       made = made_so;
-      back = subst (λ (v : Workspace). LeadsBack (record { changed = back; added = lost }) v w) (sym made_so) (subst (λ (t : FileChanges). LeadsBack t (edited s w) w) turned (leads_back s w changes fits));
+      back = subst (λ (v : Workspace). LeadsBack (record { changed = back; added = lost }) v w) (sym made_so)
+          (subst (λ (t : FileChanges). LeadsBack t (edited s w) w) turned (leads_back s w changes fits));
     }
 
 pub are_changes : (s : FileChanges) (w : Workspace) (back : List FileChange) (lost : List (List ℕ × List ℕ)) → AreChanges s → Fits s w
@@ -155,26 +171,30 @@ pub record IsNextPast (edits : List Edit) (offset : ℕ) (past : Past) (e : Edit
   pub fits : past.new + ((e.span.start - past.old) + length e.text) ≤ moved_offset edits offset
   pub next : IsPast edits offset (record { edits = past.edits + 1; old = e.span.end; new = past.new + ((e.span.start - past.old) + length e.text) })
 
-pub past_more : (edits : List Edit) (offset : ℕ) (past : Past) (e : Edit) → IsPast edits offset past → past.edits < length edits → e ≡ get_or edits past.edits e → e.span.end ≤ offset → IsNextPast edits offset past e
+pub past_more : (edits : List Edit) (offset : ℕ) (past : Past) (e : Edit) → IsPast edits offset past → past.edits < length edits →
+    e ≡ get_or edits past.edits e → e.span.end ≤ offset → IsNextPast edits offset past e
 past_more edits offset past e is lt at ends =
     let left = drop_next edits past.edits e lt at in
     let rest = drop (past.edits + 1) edits in
     let here : AreInOrder past.old (e ∷ rest) = subst (AreInOrder past.old) left is.order in
     let new = past.new + ((e.span.start - past.old) + length e.text) in
     let moves : (other : ℕ) → offset ≤ other → moved_from e.span.end new rest other ≡ moved_offset edits other = λ other h.
-    sym (step_past past.old past.new e rest other (omega arith)) ∙ ap (λ (es : List Edit). moved_from past.old past.new es other) (sym left) ∙ is.moves other h in
+    sym (step_past past.old past.new e rest other (omega arith)) ∙ ap (λ (es : List Edit). moved_from past.old past.new es other) (sym left) ∙
+    is.moves other h in
     record {
       first = here.0;
       fits = subst (λ (n : ℕ). new ≤ n) (moves offset (omega arith)) (at_least rest e.span.end new offset);
       next = record { within = omega arith; behind = ends; order = here.2; moves = moves };
     }
 
-pub past_all : (edits : List Edit) (offset : ℕ) (past : Past) → IsPast edits offset past → length edits ≤ past.edits → moved_offset edits offset ≡ past.new + (offset - past.old)
+pub past_all : (edits : List Edit) (offset : ℕ) (past : Past) → IsPast edits offset past → length edits ≤ past.edits →
+    moved_offset edits offset ≡ past.new + (offset - past.old)
 past_all edits offset past is all =
     let none : drop past.edits edits ≡ [] = drop_all past.edits edits all in
     sym (is.moves offset (omega arith)) ∙ ap (λ (es : List Edit). moved_from past.old past.new es offset) none
 
-pub past_stops : (edits : List Edit) (offset : ℕ) (past : Past) (e : Edit) → IsPast edits offset past → past.edits < length edits → e ≡ get_or edits past.edits e → offset < e.span.end → moved_offset edits offset ≡ past.new + (offset - past.old)
+pub past_stops : (edits : List Edit) (offset : ℕ) (past : Past) (e : Edit) → IsPast edits offset past → past.edits < length edits →
+    e ≡ get_or edits past.edits e → offset < e.span.end → moved_offset edits offset ≡ past.new + (offset - past.old)
 past_stops edits offset past e is lt at behind =
     sym (is.moves offset (omega arith)) ∙ ap (λ (es : List Edit). moved_from past.old past.new es offset) (drop_next edits past.edits e lt at)
     ∙ stop_before past.old past.new e (drop (past.edits + 1) edits) offset behind

@@ -20,8 +20,10 @@ pub record GoesBack (fate : Fate) (path : List ℕ) (edits : List Edit) (d : Fil
   pub same_edits : d.edits ≡ edits
 
 goes_back : (fate : Fate) (path : List ℕ) (edits : List Edit) (d : FileChange) → back_by fate path edits ≡ Some d → GoesBack fate path edits d
-goes_back Stays path edits d h = subst (GoesBack Stays path edits) (same_Some (record { path = path; edits = edits; fate = Stays }) d h) (record { there = refl; back = refl; same_edits = refl })
-goes_back (Moves new) path edits d h = subst (GoesBack (Moves new) path edits) (same_Some (record { path = new; edits = edits; fate = Moves path }) d h) (record { there = refl; back = refl; same_edits = refl })
+goes_back Stays path edits d h = subst (GoesBack Stays path edits) (same_Some (record { path = path; edits = edits; fate = Stays }) d h)
+    (record { there = refl; back = refl; same_edits = refl })
+goes_back (Moves new) path edits d h = subst (GoesBack (Moves new) path edits) (same_Some (record { path = new; edits = edits; fate = Moves path }) d h)
+    (record { there = refl; back = refl; same_edits = refl })
 goes_back Dropped path edits d h = absurd (none-some d h)
 
 some_back : (fate : Fate) (path new : List ℕ) (edits : List Edit) → path_by fate path ≡ Some new → (d : FileChange) × (back_by fate path edits ≡ Some d)
@@ -35,14 +37,16 @@ pub record IsBack (w : Workspace) (c d : FileChange) : Type 0 where
   pub is : get w c.path ≡ Some before
   pub goes : GoesBack c.fate c.path (reversed c.edits before) d
 
-back_with : (w : Workspace) (c d : FileChange) (o : Option (List ℕ)) → get w c.path ≡ o → option_and_then (λ text. back_by c.fate c.path (reversed c.edits text)) o ≡ Some d → IsBack w c d
+back_with : (w : Workspace) (c d : FileChange) (o : Option (List ℕ)) → get w c.path ≡ o →
+    option_and_then (λ text. back_by c.fate c.path (reversed c.edits text)) o ≡ Some d → IsBack w c d
 back_with w c d None is h = absurd (none-some d h)
 back_with w c d (Some before) is h = record { before = before; is = is; goes = goes_back c.fate c.path (reversed c.edits before) d h }
 
 pub is_back : (w : Workspace) (c d : FileChange) → back_of w c ≡ Some d → IsBack w c d
 is_back w c d h = back_with w c d (get w c.path) refl h
 
-pub back_there : (w : Workspace) (c : FileChange) (before new : List ℕ) → get w c.path ≡ Some before → path_by c.fate c.path ≡ Some new → (d : FileChange) × (back_of w c ≡ Some d)
+pub back_there : (w : Workspace) (c : FileChange) (before new : List ℕ) → get w c.path ≡ Some before → path_by c.fate c.path ≡ Some new → (d : FileChange) ×
+    (back_of w c ≡ Some d)
 back_there w c before new is h =
     let r = some_back c.fate c.path new (reversed c.edits before) h in
     (r.0, ap (option_and_then (λ text. back_by c.fate c.path (reversed c.edits text))) is ∙ r.1)
@@ -53,14 +57,16 @@ pub record IsLost (w : Workspace) (c : FileChange) (file : List ℕ × List ℕ)
   pub path : c.path ≡ file.0
   pub none : path_by c.fate c.path ≡ None
 
-lost_from : (w : Workspace) (c : FileChange) (fate : Fate) (before : List ℕ) (file : List ℕ × List ℕ) → get w c.path ≡ Some before → lost_by fate (c.path, before) ≡ Some file → (get w c.path ≡ Some file.1) × (c.path ≡ file.0) × (path_by fate c.path ≡ None)
+lost_from : (w : Workspace) (c : FileChange) (fate : Fate) (before : List ℕ) (file : List ℕ × List ℕ) → get w c.path ≡ Some before →
+    lost_by fate (c.path, before) ≡ Some file → (get w c.path ≡ Some file.1) × (c.path ≡ file.0) × (path_by fate c.path ≡ None)
 lost_from w c Stays before file is h = absurd (none-some file h)
 lost_from w c (Moves new) before file is h = absurd (none-some file h)
 lost_from w c Dropped before file is h =
     let same = same_Some (c.path, before) file h in
     (is ∙ ap (λ (e : List ℕ × List ℕ). Some e.1) same, ap (λ (e : List ℕ × List ℕ). e.0) same, refl)
 
-lost_with : (w : Workspace) (c : FileChange) (file : List ℕ × List ℕ) (o : Option (List ℕ)) → get w c.path ≡ o → option_and_then (λ text. lost_by c.fate (c.path, text)) o ≡ Some file → IsLost w c file
+lost_with : (w : Workspace) (c : FileChange) (file : List ℕ × List ℕ) (o : Option (List ℕ)) → get w c.path ≡ o →
+    option_and_then (λ text. lost_by c.fate (c.path, text)) o ≡ Some file → IsLost w c file
 lost_with w c file None is h = absurd (none-some file h)
 lost_with w c file (Some before) is h = let r = lost_from w c c.fate before file is h in record { is = r.0; path = r.1; none = r.2 }
 
@@ -72,7 +78,8 @@ dropped_lost Stays file h = absurd (none-some file.0 (sym h))
 dropped_lost (Moves new) file h = absurd (none-some new (sym h))
 dropped_lost Dropped file h = refl
 
-pub lost_there : (w : Workspace) (c : FileChange) (before : List ℕ) → get w c.path ≡ Some before → path_by c.fate c.path ≡ None → lost_of w c ≡ Some (c.path, before)
+pub lost_there : (w : Workspace) (c : FileChange) (before : List ℕ) → get w c.path ≡ Some before → path_by c.fate c.path ≡ None →
+    lost_of w c ≡ Some (c.path, before)
 lost_there w c before is none = ap (option_and_then (λ text. lost_by c.fate (c.path, text))) is ∙ dropped_lost c.fate (c.path, before) none
 
 -- ---- the spans of a change that is there

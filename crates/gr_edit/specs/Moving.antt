@@ -13,7 +13,8 @@ pub record AsksFrom : Type 0 where
 -- where an offset behind those edits that end at old is, which is new in the new text, with the edits that are left
 abbrev pub moved_from : ℕ → ℕ → List Edit → ℕ → ℕ
 moved_from old new [] offset = new + (offset - old)
-moved_from old new (e ∷ edits) offset = if nat_le e.span.end offset then moved_from e.span.end (new + ((e.span.start - old) + length e.text)) edits offset else new + (offset - old)
+moved_from old new (e ∷ edits) offset = if nat_le e.span.end offset then moved_from e.span.end (new + ((e.span.start - old) + length e.text)) edits offset
+    else new + (offset - old)
 
 -- the edits that are left lie behind, and move each offset from last on as all edits do
 pub record IsPast (edits : List Edit) (last : ℕ) (past : Past) : Type 0 where

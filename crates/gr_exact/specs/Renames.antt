@@ -29,7 +29,8 @@ RenamesKeepBindings = (snapshot : Snapshot) (path : List ℕ) (offset : ℕ) (na
     → IsExactly path offset name change old.current new.current
 
 abbrev pub UndoTakesRenamesBack : Type 0
-UndoTakesRenamesBack = (snapshot : Snapshot) (path : List ℕ) (offset : ℕ) (name : List ℕ) (change : Change) (start changed settled end : Machine) (basis number : ℕ)
+UndoTakesRenamesBack = (snapshot : Snapshot) (path : List ℕ) (offset : ℕ) (name : List ℕ) (change : Change) (start changed settled end : Machine)
+    (basis number : ℕ)
     (between : List (Event × Reply)) (reply : Reply)
     → PlansRename snapshot path offset name (Ok change)
     → Step start (Commit basis change) (Done number) changed

@@ -1,9 +1,8 @@
 -- What other packages see of a package is its own.
-use Rattle.std.proofs.Common.{ℕ, zero, suc, ◌≡◌, ◌<◌, List, [], length, map, Option, Some, None, ap, refl, sym, ◌∙◌, subst, arith}
-use Rattle.std.specs.Prelude.{Contains, slice_get}
+use Rattle.std.proofs.Common.{ℕ, ◌≡◌, true, List, Option, Some, None, ap, refl, sym, ◌∙◌, subst}
+use Rattle.std.specs.Prelude.{slice_get}
 use Rattle.gr_text.specs.Workspace.{Workspace}
-use Rattle.gr_tree.specs.SourceFile.{SourceFile, FileParts, source_of}
-use Rattle.gr_graph.specs.Parsed.{AreParsed, none, tree}
+use Rattle.gr_imports.specs.Laid.{is_exported}
 use Rattle.gr_expr.specs.declared.symbol.Symbol.{Symbol}
 use Rattle.gr_expr.specs.World.{Definition, Field, Method}
 use Rattle.gr_expr.specs.WorldView.{no_definition}
@@ -11,35 +10,19 @@ use Rattle.gr_declared.specs.Package.{Package, Export, Interface, PlacedType, pa
 use Rattle.gr_declared.specs.Definitions.{IsField, IsMethod}
 use Rattle.gr_types.specs.Interfaces.{IsExport, IsExported, IsInterface}
 use Rattle.gr_verdict.specs.Verdicts.{Verdicts, IsPackageIn}
-use Rattle.gr_exports.specs.Own.{IsFileOf, AreOwn}
-
--- a file that has a tree is one of those that were parsed
-parsed_file : {es : List (List ℕ × List ℕ)} {ts : List FileParts} → AreParsed es ts [] → (k : ℕ) (s : SourceFile) → slice_get (map source_of ts) k ≡ Some s →
-    (text : List ℕ) × Contains es (s.path, text)
-parsed_file none k s e = cc
-parsed_file (tree {e = entry} {t = t} is more) zero s e =
-    let same : source_of t ≡ s = cc in
-    let path : s.path ≡ entry.0 = ap (λ (z : SourceFile). z.path) (sym same) ∙ is.of_path in
-    (entry.1, (0, omega arith, ap (λ z. (z, entry.1)) (sym path)))
-parsed_file (tree {es = es} is more) (suc k) s e =
-    let rest = parsed_file more k s e in
-    let lt : rest.1.0 < length es = rest.1.1 in
-    (rest.0, (suc rest.1.0, omega arith, rest.1.2))
-
-checked_files : {w : Workspace} {known : Verdicts} {p : List ℕ} {checked : Package} (is : IsPackageIn w known p checked) →
-    checked.files ≡ map source_of is.files
-checked_files is = ap (λ (z : Package). z.files) is.is_package.is_package
+use Rattle.gr_exports.specs.Own.{Exports, AreOwn}
 
 checked_path : {w : Workspace} {known : Verdicts} {p : List ℕ} {checked : Package} (is : IsPackageIn w known p checked) → checked.path ≡ p
 checked_path is = ap (λ (z : Package). z.path) is.is_package.is_package
 
-export_own : (w : Workspace) (known : Verdicts) (p : List ℕ) (checked : Package) (is : IsPackageIn w known p checked) (name : List ℕ) (e : Export) →
-    IsExport checked name e → IsFileOf w p e.path
-export_own w known p checked is name e x =
-    let placed = x.by_declaration.placed in
-    let k : ℕ = (checked.layout.place x.declaration).file in
-    let there : slice_get (map source_of is.files) k ≡ Some placed.source = ap (λ z. slice_get z k) (sym (checked_files is)) ∙ placed.in_file in
-    subst (λ z. IsFileOf w p z) (sym placed.has_path) (parsed_file is.parsed k placed.source there)
+export_own : (w : Workspace) (known : Verdicts) (p : List ℕ) (checked : Package) → IsPackageIn w known p checked → (name : List ℕ) (e : Export) →
+    IsExport checked name e → Exports w known p name e
+export_own w known p checked is name e x = record {
+  checked = checked;
+  is_package = is;
+  is_export = x;
+  exported = subst (λ n. is_exported n ≡ true) x.named x.by_declaration.seen.exported;
+}
 
 -- definitions
 
@@ -70,7 +53,7 @@ methods_own checked i is rank (Some d) e name m h =
     method_own checked rank name m (subst (λ z. IsMethod checked rank name z) h ((is.definitions rank d e).methods name))
 
 pub interface_own : (w : Workspace) (known : Verdicts) (p : List ℕ) (i : Interface) (checked : Package) → IsPackageIn w known p checked →
-    IsInterface checked i → AreOwn w p i
+    IsInterface checked i → AreOwn w known p i
 interface_own w known p i checked is x = record {
   exports = λ name e h. export_own w known p checked is name e (subst (λ z. IsExported checked name z) h (x.exported name));
   fields = λ rank name f h. fields_own checked i x rank (slice_get (package_types checked) rank) refl name f h ∙ checked_path is;

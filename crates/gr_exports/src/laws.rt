@@ -6,13 +6,13 @@ ghost use Rattle.gr_verdict.specs.Verdicts.{Verdicts, HasInterface};
 ghost use Rattle.gr_compile.specs.Units.{IsUnitValue, Done};
 ghost use Rattle.gr_exports.specs.Own.{AreOwn};
 
-/// What other packages see of a package is its own: each exported name stands in one of its files, and each field and method has
+/// What other packages see of a package is its own: each exported name is one that it declares, and each field and method has
 /// one of its symbols.
 pub fn interfaces_are_own()
-    ensures { (w : Workspace) → (known : Verdicts) → (p : List ℕ) → (i : Interface) → HasInterface w known p i → AreOwn w p i }
+    ensures { (w : Workspace) → (known : Verdicts) → (p : List ℕ) → (i : Interface) → HasInterface w known p i → AreOwn w known p i }
 {}
 
 /// So is the interface of its unit.
 pub fn interfaces_of_units_are_own()
-    ensures { (w : Workspace) → (p : List ℕ) → (i : Interface) → (object : List ℕ) → IsUnitValue w p (Done i object) → AreOwn w p i }
+    ensures { (w : Workspace) → (p : List ℕ) → (i : Interface) → (object : List ℕ) → IsUnitValue w p (Done i object) → (known : Verdicts) × AreOwn w known p i }
 {}

@@ -1,11 +1,14 @@
 -- What several calls in turn add to what was found.
-use Rattle.std.proofs.Common.{ℕ, ◌≡◌, ◌∷◌, ◌++◌, [], List, ap, sym, ◌∙◌, refl, append_assoc, append-nil, subst, Option, option_map, map, Bool, true, false, ◌&&◌, ◌||◌}
+use Rattle.std.proofs.Common.{ℕ, ◌≡◌, ◌∷◌, ◌++◌, [], List, ap, sym, ◌∙◌, refl, append_assoc, append-nil, subst, Option, option_map, map, Bool, true, false}
+use Rattle.std.proofs.Common.{◌&&◌, ◌||◌}
 use Rattle.gr_expr.specs.declared.found.Found.{Found}
 use Rattle.gr_expr.specs.declared.keys.ElementKey.{ElementKey}
 use Rattle.gr_expr.specs.Types.{Meaning, Kind, PlainType}
 use Rattle.gr_expr.specs.World.{World, Member, member_symbol}
 use Rattle.gr_expr.specs.View.{type_of}
-use Rattle.gr_expr.specs.Judge.{Judged, followed, means, JudgedList, Argued, with_values, value_before, value_kind, JudgedElements, JudgedKey, TypeJudged, MemberUse, with_use, means_or_wrong, member_meaning, select_member, element_then, literal_of, literal_meaning, misfit_if, is_whole, is_empty}
+use Rattle.gr_expr.specs.Judge.{Judged, followed, means, JudgedList, Argued, with_values, value_before, value_kind, JudgedElements, JudgedKey, TypeJudged}
+use Rattle.gr_expr.specs.Judge.{MemberUse, with_use, means_or_wrong, member_meaning, select_member, element_then, literal_of, literal_meaning, misfit_if}
+use Rattle.gr_expr.specs.Judge.{is_whole, is_empty}
 use Rattle.gr_expr.specs.Found.{Adds, AddsList, AddsType, AddsKey, AddsElements, AddsPlaces, Continues, use_of}
 
 -- a meaning alone
@@ -15,7 +18,8 @@ adds_meaning f e = record { meaning = e; faults = sym (append-nil _); uses = sym
 joined : {X : Type 0} (a d e : List X) {b c : List X} → b ≡ a ++ d → c ≡ b ++ e → c ≡ a ++ (d ++ e)
 joined a d e p q = q ∙ (ap (λ x. x ++ e) p ∙ append_assoc a d e)
 
-pub adds_then : {j : Judged} (rule : Meaning → Judged) {old mid new : Found} {m r : Meaning} → Adds j old mid m → Adds (rule m) mid new r → Adds (followed j rule) old new r
+pub adds_then : {j : Judged} (rule : Meaning → Judged) {old mid new : Found} {m r : Meaning} → Adds j old mid m → Adds (rule m) mid new r →
+    Adds (followed j rule) old new r
 adds_then {j} rule {old} {mid} {new} {m} {r} a b =
     let b' : Adds (rule j.meaning) mid new r = subst (λ (x : Meaning). Adds (rule x) mid new r) a.meaning b in
     record { meaning = b'.meaning; faults = joined _ _ _ a.faults b'.faults; uses = joined _ _ _ a.uses b'.uses }
@@ -52,7 +56,8 @@ pub reached_step : {total : Judged} (rest more : Judged → Judged) (rule : Mean
     Reached total rest before now m → Adds (rule m) now new r → ((k : Judged) → rest k ≡ more (followed k rule)) → Reached total more before new r
 reached_step rest more rule c a e = record { so_far = followed c.so_far rule; adds = adds_then rule c.adds a; goes_on = sym (e c.so_far) ∙ c.goes_on }
 
-pub reached_end : {total : Judged} (rest : Judged → Judged) {before now : Found} {m : Meaning} → Reached total rest before now m → ((k : Judged) → rest k ≡ k) → Adds total before now m
+pub reached_end : {total : Judged} (rest : Judged → Judged) {before now : Found} {m : Meaning} → Reached total rest before now m →
+    ((k : Judged) → rest k ≡ k) → Adds total before now m
 reached_end {total} rest {before} {now} {m} c e = subst (λ (j : Judged). Adds j before now m) (sym (e c.so_far) ∙ c.goes_on) c.adds
 
 -- the same for a list of values
@@ -68,7 +73,12 @@ abbrev one_value : ℕ → Judged → JudgedList
 one_value place j = record { values = record { place = place; kind = value_kind j.meaning } ∷ []; faults = j.faults; uses = j.uses }
 
 pub reached_list_start : {f : Found} (total : JudgedList) → ReachedList total total f f []
-reached_list_start total = record { so_far = record { values = []; faults = []; uses = [] }; adds = record { values = refl; faults = sym (append-nil _); uses = sym (append-nil _) }; goes_on = refl }
+reached_list_start total = record {
+  so_far = record { values = []; faults = []; uses = [] };
+  adds =
+      record { values = refl; faults = sym (append-nil _); uses = sym (append-nil _) };
+  goes_on = refl;
+}
 
 pub reached_list_step : {total rest more : JudgedList} (place : ℕ) (j : Judged) {before now new : Found} {vs : List Argued} (v : Argued) {m : Meaning} →
     ReachedList total rest before now vs → Adds j now new m → v ≡ record { place = place; kind = value_kind m } → rest ≡ value_before place j more →
@@ -76,17 +86,30 @@ pub reached_list_step : {total rest more : JudgedList} (place : ℕ) (j : Judged
 reached_list_step {total} {rest} {more} place j v c a e r = record {
   so_far = list_then c.so_far (one_value place j);
   adds = record {
-    values = ap (λ x. x ++ (v ∷ [])) c.adds.values ∙ ap (λ x. c.so_far.values ++ (x ∷ [])) (e ∙ ap (λ x. record { place = place; kind = value_kind x }) a.meaning);
+    values = ap (λ x. x ++ (v ∷ [])) c.adds.values ∙ ap (λ x. c.so_far.values ++ (x ∷ []))
+        (e ∙ ap (λ x. record { place = place; kind = value_kind x }) a.meaning);
     faults = joined _ _ _ c.adds.faults a.faults;
     uses = joined _ _ _ c.adds.uses a.uses;
   };
-  goes_on = (ap (λ x. record { values = x; faults = (c.so_far.faults ++ j.faults) ++ more.faults; uses = (c.so_far.uses ++ j.uses) ++ more.uses }) (append_assoc c.so_far.values (record { place = place; kind = value_kind j.meaning } ∷ []) more.values)
-      ∙ (ap (λ x. record { values = c.so_far.values ++ (record { place = place; kind = value_kind j.meaning } ∷ more.values); faults = x; uses = (c.so_far.uses ++ j.uses) ++ more.uses }) (append_assoc c.so_far.faults j.faults more.faults)
-      ∙ (ap (λ x. record { values = c.so_far.values ++ (record { place = place; kind = value_kind j.meaning } ∷ more.values); faults = c.so_far.faults ++ (j.faults ++ more.faults); uses = x }) (append_assoc c.so_far.uses j.uses more.uses)
+  goes_on = (ap (λ x. record { values = x; faults = (c.so_far.faults ++ j.faults) ++ more.faults; uses = (c.so_far.uses ++ j.uses) ++ more.uses })
+      (append_assoc c.so_far.values (record { place = place; kind = value_kind j.meaning } ∷ []) more.values)
+      ∙ (ap (λ x. record {
+        values = c.so_far.values ++ (record { place = place; kind = value_kind j.meaning } ∷ more.values);
+        faults = x;
+        uses =
+            (c.so_far.uses ++ j.uses) ++ more.uses;
+      }) (append_assoc c.so_far.faults j.faults more.faults)
+      ∙ (ap (λ x. record {
+        values = c.so_far.values ++ (record { place = place; kind = value_kind j.meaning } ∷ more.values);
+        faults =
+            c.so_far.faults ++ (j.faults ++ more.faults);
+        uses = x;
+      }) (append_assoc c.so_far.uses j.uses more.uses)
       ∙ (ap (λ x. list_then c.so_far x) (sym r) ∙ c.goes_on))));
 }
 
-pub adds_values : {vs : JudgedList} (rule : List Argued → Judged) {old mid new : Found} {xs : List Argued} {r : Meaning} → AddsList vs old mid xs → Adds (rule xs) mid new r → Adds (with_values vs rule) old new r
+pub adds_values : {vs : JudgedList} (rule : List Argued → Judged) {old mid new : Found} {xs : List Argued} {r : Meaning} → AddsList vs old mid xs →
+    Adds (rule xs) mid new r → Adds (with_values vs rule) old new r
 adds_values {vs} rule {old} {mid} {new} {xs} {r} a b =
     let b' : Adds (rule vs.values) mid new r = subst (λ (x : List Argued). Adds (rule x) mid new r) a.values b in
     record { meaning = b'.meaning; faults = joined _ _ _ a.faults b'.faults; uses = joined _ _ _ a.uses b'.uses }
@@ -97,7 +120,8 @@ Same a b = a ≡ b
 pub argued_at : {p q : ℕ} {k l : Option Kind} → p ≡ q → k ≡ l → Same (record { place = p; kind = k }) (record { place = q; kind = l })
 argued_at {p} {q} {k} {l} e f = ap (λ x. record { place = x; kind = k }) e ∙ ap (λ x. record { place = q; kind = x }) f
 
-pub reached_list_end : {total rest : JudgedList} {before now : Found} {vs : List Argued} → ReachedList total rest before now vs → rest ≡ record { values = []; faults = []; uses = [] } → AddsList total before now vs
+pub reached_list_end : {total rest : JudgedList} {before now : Found} {vs : List Argued} → ReachedList total rest before now vs →
+    rest ≡ record { values = []; faults = []; uses = [] } → AddsList total before now vs
 reached_list_end {total} {rest} {before} {now} {vs} c e =
     let t : list_then c.so_far (record { values = []; faults = []; uses = [] }) ≡ total = ap (λ r. list_then c.so_far r) (sym e) ∙ c.goes_on in
     record {
@@ -161,15 +185,23 @@ pub record ReachedElements (total rest : JudgedElements) (before now : Found) (a
   pub goes_on : elements_then so_far rest ≡ total
 
 pub reached_elements_start : {f : Found} (total : JudgedElements) → ReachedElements total total f f true false
-reached_elements_start total = record { so_far = no_elements; adds = record { whole = refl; unkeyed = refl; faults = sym (append-nil _); uses = sym (append-nil _) }; goes_on = refl }
+reached_elements_start total = record {
+  so_far = no_elements;
+  adds =
+      record { whole = refl; unkeyed = refl; faults = sym (append-nil _); uses = sym (append-nil _) };
+  goes_on = refl;
+}
 
 -- an element: its key, its value, and whether that fits
-pub reached_element : (w : World) (k : JudgedKey) (place at : ℕ) (j : Judged) (kind : Option Kind) (wanted : Option PlainType) {total rest more : JudgedElements} {before now keyed valued new : Found} {whole unkeyed key_whole key_unkeyed fits : Bool} {m : Meaning} →
-    ReachedElements total rest before now whole unkeyed → (key : ElementKey) → AddsKey k now keyed key → Adds j keyed valued m → AddsPlaces (misfit_if w at kind wanted) valued new fits →
+pub reached_element : (w : World) (k : JudgedKey) (place at : ℕ) (j : Judged) (kind : Option Kind) (wanted : Option PlainType)
+    {total rest more : JudgedElements} {before now keyed valued new : Found} {whole unkeyed key_whole key_unkeyed fits : Bool} {m : Meaning} →
+    ReachedElements total rest before now whole unkeyed → (key : ElementKey) → AddsKey k now keyed key → Adds j keyed valued m →
+    AddsPlaces (misfit_if w at kind wanted) valued new fits →
     at ≡ place → kind ≡ value_kind m → wanted ≡ option_map (λ t. type_of t.now) key.wanted → key_whole ≡ key.whole → key_unkeyed ≡ key.unkeyed →
     rest ≡ element_then w k place j more →
     ReachedElements total more before new (whole && (key_whole && (is_whole kind && fits))) (unkeyed || key_unkeyed)
-reached_element w k place at j kind wanted {total} {rest} {more} {before} {now} {keyed} {valued} {new} {whole} {unkeyed} {key_whole} {key_unkeyed} {fits} {m} c key a b d pe ke we hw hu r =
+reached_element w k place at j kind wanted {total} {rest} {more} {before} {now} {keyed} {valued} {new} {whole} {unkeyed} {key_whole} {key_unkeyed} {fits}
+    {m} c key a b d pe ke we hw hu r =
     let kk : kind ≡ value_kind j.meaning = ke ∙ ap value_kind b.meaning in
     let ww : wanted ≡ k.wanted = we ∙ a.wanted in
     let places : misfit_if w at kind wanted ≡ misfit_if w place (value_kind j.meaning) k.wanted =
@@ -182,13 +214,17 @@ reached_element w k place at j kind wanted {total} {rest} {more} {before} {now} 
             (ap (λ x. is_whole x && fits) kk ∙ ap (λ x. is_whole (value_kind j.meaning) && x) (d.none ∙ ap is_empty places)));
         unkeyed = ap (λ x. x || key_unkeyed) c.adds.unkeyed ∙ ap (λ x. c.so_far.unkeyed || x) (hu ∙ a.unkeyed);
         faults = joined before.faults.items c.so_far.faults (k.faults ++ (j.faults ++ misfit_if w place (value_kind j.meaning) k.wanted)) c.adds.faults
-            (joined now.faults.items k.faults (j.faults ++ misfit_if w place (value_kind j.meaning) k.wanted) a.faults (joined keyed.faults.items j.faults (misfit_if w place (value_kind j.meaning) k.wanted) b.faults (d.faults ∙ ap (λ x. valued.faults.items ++ x) places)));
-        uses = joined (map use_of before.uses.items) c.so_far.uses (k.uses ++ j.uses) c.adds.uses (joined (map use_of now.uses.items) k.uses j.uses a.uses (ap (map use_of) d.uses ∙ b.uses));
+            (joined now.faults.items k.faults (j.faults ++ misfit_if w place (value_kind j.meaning) k.wanted) a.faults
+            (joined keyed.faults.items j.faults (misfit_if w place (value_kind j.meaning) k.wanted) b.faults
+            (d.faults ∙ ap (λ x. valued.faults.items ++ x) places)));
+        uses = joined (map use_of before.uses.items) c.so_far.uses (k.uses ++ j.uses) c.adds.uses
+            (joined (map use_of now.uses.items) k.uses j.uses a.uses (ap (map use_of) d.uses ∙ b.uses));
       };
       goes_on = element_split w c.so_far k place j more ∙ (ap (λ x. elements_then c.so_far x) (sym r) ∙ c.goes_on);
     }
 
-pub reached_elements_as : {total rest : JudgedElements} {before now : Found} {a b c d : Bool} → c ≡ a → d ≡ b → ReachedElements total rest before now a b → ReachedElements total rest before now c d
+pub reached_elements_as : {total rest : JudgedElements} {before now : Found} {a b c d : Bool} → c ≡ a → d ≡ b → ReachedElements total rest before now a b →
+    ReachedElements total rest before now c d
 reached_elements_as {total} {rest} {before} {now} {a} {b} {c} {d} e f r =
     subst (λ (x : Bool). ReachedElements total rest before now c x) (sym f) (subst (λ (x : Bool). ReachedElements total rest before now x b) (sym e) r)
 
@@ -200,7 +236,8 @@ and_end : (a : Bool) → (a && true) ≡ a
 and_end true = refl
 and_end false = refl
 
-pub reached_elements_end : {total rest : JudgedElements} {before now : Found} {whole unkeyed : Bool} → ReachedElements total rest before now whole unkeyed → rest ≡ no_elements → AddsElements total before now whole unkeyed
+pub reached_elements_end : {total rest : JudgedElements} {before now : Found} {whole unkeyed : Bool} → ReachedElements total rest before now whole unkeyed →
+    rest ≡ no_elements → AddsElements total before now whole unkeyed
 reached_elements_end {total} {rest} {before} {now} {whole} {unkeyed} c e =
     let t : elements_then c.so_far no_elements ≡ total = ap (λ r. elements_then c.so_far r) (sym e) ∙ c.goes_on in
     record {
@@ -211,16 +248,22 @@ reached_elements_end {total} {rest} {before} {now} {whole} {unkeyed} c e =
     }
 
 -- a literal: its type, its elements, and what they make
-pub adds_literal : (w : World) (start : ℕ) (t : TypeJudged) (rest : Option PlainType → JudgedElements) {old typed filled new : Found} {own : Option PlainType} {whole unkeyed : Bool} {m : Meaning} →
-    AddsType t old typed own → AddsElements (rest own) typed filled whole unkeyed → Adds (literal_meaning w start own whole unkeyed) filled new m → Adds (literal_of w start t (rest t.type_of)) old new m
+pub adds_literal : (w : World) (start : ℕ) (t : TypeJudged) (rest : Option PlainType → JudgedElements) {old typed filled new : Found}
+    {own : Option PlainType} {whole unkeyed : Bool} {m : Meaning} →
+    AddsType t old typed own → AddsElements (rest own) typed filled whole unkeyed → Adds (literal_meaning w start own whole unkeyed) filled new m →
+    Adds (literal_of w start t (rest t.type_of)) old new m
 adds_literal w start t rest {old} {typed} {filled} {new} {own} {whole} {unkeyed} {m} a b c =
-    let b' : AddsElements (rest t.type_of) typed filled whole unkeyed = subst (λ (x : Option PlainType). AddsElements (rest x) typed filled whole unkeyed) a.found b in
+    let b' : AddsElements (rest t.type_of) typed filled whole unkeyed =
+    subst (λ (x : Option PlainType). AddsElements (rest x) typed filled whole unkeyed) a.found b in
     let same : literal_meaning w start own whole unkeyed ≡ literal_meaning w start t.type_of (rest t.type_of).whole (rest t.type_of).unkeyed =
-    ap (λ x. literal_meaning w start x whole unkeyed) a.found ∙ (ap (λ x. literal_meaning w start t.type_of x unkeyed) b'.whole ∙ ap (λ x. literal_meaning w start t.type_of (rest t.type_of).whole x) b'.unkeyed) in
-    let c' : Adds (literal_meaning w start t.type_of (rest t.type_of).whole (rest t.type_of).unkeyed) filled new m = subst (λ (x : Judged). Adds x filled new m) same c in
+    ap (λ x. literal_meaning w start x whole unkeyed) a.found ∙
+    (ap (λ x. literal_meaning w start t.type_of x unkeyed) b'.whole ∙ ap (λ x. literal_meaning w start t.type_of (rest t.type_of).whole x) b'.unkeyed) in
+    let c' : Adds (literal_meaning w start t.type_of (rest t.type_of).whole (rest t.type_of).unkeyed) filled new m =
+    subst (λ (x : Judged). Adds x filled new m) same c in
     record {
       meaning = c'.meaning;
-      faults = joined old.faults.items (t.faults ++ (rest t.type_of).faults) (literal_meaning w start t.type_of (rest t.type_of).whole (rest t.type_of).unkeyed).faults
+      faults = joined old.faults.items (t.faults ++ (rest t.type_of).faults)
+          (literal_meaning w start t.type_of (rest t.type_of).whole (rest t.type_of).unkeyed).faults
           (joined old.faults.items t.faults (rest t.type_of).faults a.faults b'.faults) c'.faults;
       uses = joined (map use_of old.uses.items) (rest t.type_of).uses (literal_meaning w start t.type_of (rest t.type_of).whole (rest t.type_of).unkeyed).uses
           (b'.uses ∙ ap (λ x. map use_of x ++ (rest t.type_of).uses) a.uses) c'.uses;

@@ -2,16 +2,20 @@
 use Rattle.std.proofs.Common.{ℕ, ◌≡◌, ◌==◌, [], ◌∷◌, List, Option, Some, None, true, false, refl, map, if◌then◌else◌}
 use Rattle.gr_tree.specs.declared.syntax.BinaryOp.TheVariants as op
 use Rattle.gr_tree.specs.declared.syntax.PrefixOp.TheVariants as prefix
-use Rattle.gr_tree.specs.Tree.{ExprTree, Number, Text, Name, Composite, Paren, Prefix, Address, Chain, Binary, no_operand, operand, LinkTrees, no_link, selector, index, call, ArgumentTrees, no_argument, argument, TypeTree, literal, ElementTrees, no_element, element}
+use Rattle.gr_tree.specs.Tree.{ExprTree, Number, Text, Name, Composite, Paren, Prefix, Address, Chain, Binary, no_operand, operand, LinkTrees, no_link}
+use Rattle.gr_tree.specs.Tree.{selector, index, call, ArgumentTrees, no_argument, argument, TypeTree, literal, ElementTrees, no_element, element}
 use Rattle.gr_tree.specs.Tree.{Local as LocalType, Imported as ImportedType, Pointer as PointerType, Slice as SliceType}
 use Rattle.gr_expr.specs.declared.types.Basic.TheVariants as basic
 use Rattle.gr_expr.specs.declared.types.Builtin.TheVariants as builtin
 use Rattle.gr_expr.specs.declared.symbol.Symbol.{Symbol}
 use Rattle.gr_expr.specs.Places.{first_token, place_of, place_of_links}
-use Rattle.gr_expr.specs.Types.{PlainType, BasicType, Defined, Pointer, Slice, Struct, Typed, Untyped, Nil, Meaning, Value, TypeName, Function, BuiltinName, Package, Broken, same_type, same_underlying, is_named, has_nil}
+use Rattle.gr_expr.specs.Types.{PlainType, BasicType, Defined, Pointer, Slice, Struct, Typed, Untyped, Nil, Meaning, Value, TypeName, Function, BuiltinName}
+use Rattle.gr_expr.specs.Types.{Package, Broken, same_type, same_underlying, is_named, has_nil}
 use Rattle.gr_expr.specs.World.{World, Bound, Means, BrokenVariable, BrokenFunction, BrokenType, Member, AField, AMethod, ABrokenMethod, no_locals}
 use Rattle.gr_expr.specs.Operations.{fits, operate, joined, class_of, family_of, result_of, is_nil, prefixed}
-use Rattle.gr_expr.specs.Judge.{judge, judge_type, as_value, value_kind, select, select_member, all_whole, misfit, misfits, all_misfits, unless_faults, call_function, convert, append, all_printed, call_builtin, call_of, bad_index, indexed, index_of, operation, prefix_of, named_type, imported_type, address_of}
+use Rattle.gr_expr.specs.Judge.{judge, judge_type, as_value, value_kind, select, select_member, all_whole, misfit, misfits, all_misfits, unless_faults}
+use Rattle.gr_expr.specs.Judge.{call_function, convert, append, all_printed, call_builtin, call_of, bad_index, indexed, index_of, operation, prefix_of}
+use Rattle.gr_expr.specs.Judge.{named_type, imported_type, address_of}
 
 abbrev int : PlainType
 int = BasicType basic.Int
@@ -31,18 +35,27 @@ member_at n = record { «package» = []; rank = n }
 -- 50: an imported package b; 51: a function f(int) string of it
 abbrev meaning_at : ℕ → Bound
 meaning_at p =
-    if p == 10 then Means (Value (Typed string) true) else (if p == 11 then Means (Value (Typed int) true) else (if p == 12 then Means (Value (Typed (Defined here)) true)
-    else (if p == 13 then Means (Value (Typed (Pointer (Defined here))) true) else (if p == 14 then Means (Value (Typed (Slice int)) true) else (if p == 15 then Means (Value Nil false)
+    if p == 10 then Means (Value (Typed string) true) else
+    (if p == 11 then Means (Value (Typed int) true) else (if p == 12 then Means (Value (Typed (Defined here)) true)
+    else (if p == 13 then Means (Value (Typed (Pointer (Defined here))) true) else
+    (if p == 14 then Means (Value (Typed (Slice int)) true) else (if p == 15 then Means (Value Nil false)
     else (if p == 16 then BrokenVariable else (if p == 20 then Means (Function (record { parameters = int ∷ []; results = string ∷ [] }))
-    else (if p == 21 then Means (Function (record { parameters = []; results = [] })) else (if p == 22 then Means (Function (record { parameters = []; results = int ∷ string ∷ [] }))
-    else (if p == 23 then BrokenFunction else (if p == 30 then Means (TypeName (Defined here)) else (if p == 31 then Means (TypeName int) else (if p == 32 then BrokenType
-    else (if p == 40 then Means (BuiltinName builtin.Len) else (if p == 41 then Means (BuiltinName builtin.Append) else (if p == 42 then Means (BuiltinName builtin.Print) else (if p == 43 then Means (BuiltinName builtin.Panic)
-    else (if p == 50 then Means Package else (if p == 51 then Means (Function (record { parameters = int ∷ []; results = string ∷ [] })) else Means Broken)))))))))))))))))))
+    else (if p == 21 then Means (Function (record { parameters = []; results = [] })) else
+    (if p == 22 then Means (Function (record { parameters = []; results = int ∷ string ∷ [] }))
+    else (if p == 23 then BrokenFunction else (if p == 30 then Means (TypeName (Defined here)) else
+    (if p == 31 then Means (TypeName int) else (if p == 32 then BrokenType
+    else (if p == 40 then Means (BuiltinName builtin.Len) else
+    (if p == 41 then Means (BuiltinName builtin.Append) else
+    (if p == 42 then Means (BuiltinName builtin.Print) else (if p == 43 then Means (BuiltinName builtin.Panic)
+    else (if p == 50 then Means Package else (if p == 51 then Means (Function (record { parameters = int ∷ []; results = string ∷ [] })) else Means
+    Broken)))))))))))))))))))
 
 -- what the names behind dots and the keys are. 60 and 64: the field x of T, an int; 61: the method m(int); 62: the method q() of *T; 63: a broken method
 abbrev member_of : ℕ → Option Member
-member_of p = if p == 60 then Some (AField (member_at 0) int) else (if p == 64 then Some (AField (member_at 0) int) else (if p == 61 then Some (AMethod (member_at 1) false (record { parameters = int ∷ []; results = [] }))
-    else (if p == 62 then Some (AMethod (member_at 2) true (record { parameters = []; results = [] })) else (if p == 63 then Some (ABrokenMethod (member_at 3)) else None))))
+member_of p = if p == 60 then Some (AField (member_at 0) int) else
+    (if p == 64 then Some (AField (member_at 0) int) else (if p == 61 then Some (AMethod (member_at 1) false (record { parameters = int ∷ []; results = [] }))
+    else (if p == 62 then Some (AMethod (member_at 2) true (record { parameters = []; results = [] })) else
+    (if p == 63 then Some (ABrokenMethod (member_at 3)) else None))))
 
 abbrev w : World
 w = record { bound = meaning_at; member = λ p t. member_of p; definition = λ s. Struct s }
@@ -185,7 +198,9 @@ values =
     []
 
 faults_stand : map (λ e. faults_of e.0) expressions ≡ map (λ e. e.1) expressions
-unfolding first_token place_of place_of_links same_type same_underlying is_named has_nil fits operate joined class_of family_of result_of is_nil prefixed judge judge_type as_value value_kind select select_member all_whole misfit misfits all_misfits unless_faults call_function convert append all_printed call_builtin call_of bad_index indexed index_of operation prefix_of named_type imported_type address_of
+unfolding first_token place_of place_of_links same_type same_underlying is_named has_nil fits operate joined class_of family_of result_of is_nil prefixed
+    judge judge_type as_value value_kind select select_member all_whole misfit misfits all_misfits unless_faults call_function convert append all_printed
+    call_builtin call_of bad_index indexed index_of operation prefix_of named_type imported_type address_of
 faults_stand = refl
 
 types_stand : map (λ t. (judge_type w t.0).faults) types ≡ map (λ t. t.1) types
@@ -193,10 +208,16 @@ unfolding judge_type named_type imported_type
 types_stand = refl
 
 values_stand : map (λ e. meaning_of e.0) values ≡ map (λ e. e.1) values
-unfolding first_token place_of place_of_links same_type same_underlying is_named has_nil fits operate joined class_of family_of result_of is_nil prefixed judge judge_type as_value value_kind select select_member all_whole misfit misfits all_misfits unless_faults call_function convert append all_printed call_builtin call_of bad_index indexed index_of operation prefix_of named_type imported_type address_of
+unfolding first_token place_of place_of_links same_type same_underlying is_named has_nil fits operate joined class_of family_of result_of is_nil prefixed
+    judge judge_type as_value value_kind select select_member all_whole misfit misfits all_misfits unless_faults call_function convert append all_printed
+    call_builtin call_of bad_index indexed index_of operation prefix_of named_type imported_type address_of
 values_stand = refl
 
 -- the members that are used, in source order
-uses_found : (judge w no_locals (brace (LocalType 30) (keyed 60 (Chain (Name 13) (dot 64)) no_element))).uses ≡ record { place = 60; before = Defined here; member = Some (member_at 0) } ∷ record { place = 64; before = Pointer (Defined here); member = Some (member_at 0) } ∷ []
-unfolding first_token place_of place_of_links same_type same_underlying is_named has_nil fits operate joined class_of family_of result_of is_nil prefixed judge judge_type as_value value_kind select select_member all_whole misfit misfits all_misfits unless_faults call_function convert append all_printed call_builtin call_of bad_index indexed index_of operation prefix_of named_type imported_type address_of
+uses_found : (judge w no_locals (brace (LocalType 30) (keyed 60 (Chain (Name 13) (dot 64)) no_element))).uses ≡ record
+    { place = 60; before = Defined here; member = Some (member_at 0) } ∷ record { place = 64; before = Pointer (Defined here); member = Some (member_at 0) }
+    ∷ []
+unfolding first_token place_of place_of_links same_type same_underlying is_named has_nil fits operate joined class_of family_of result_of is_nil prefixed
+    judge judge_type as_value value_kind select select_member all_whole misfit misfits all_misfits unless_faults call_function convert append all_printed
+    call_builtin call_of bad_index indexed index_of operation prefix_of named_type imported_type address_of
 uses_found = refl

@@ -22,7 +22,8 @@ pub record Compared (total rest : List ℕ) (old new : Found) (fits : Bool) : Ty
 pub compared_start : (total : List ℕ) {f : Found} → Compared total total f f true
 compared_start total = record { so_far = []; adds = record { faults = sym (append-nil _); uses = refl; none = refl }; goes_on = refl }
 
-pub compared_step : {total rest more : List ℕ} (places : List ℕ) {old now new : Found} {a b : Bool} → Compared total rest old now a → AddsPlaces places now new b → rest ≡ places ++ more → Compared total more old new (a && b)
+pub compared_step : {total rest more : List ℕ} (places : List ℕ) {old now new : Found} {a b : Bool} → Compared total rest old now a →
+    AddsPlaces places now new b → rest ≡ places ++ more → Compared total more old new (a && b)
 compared_step {total} {rest} {more} places {old} {now} {new} {a} {b} c d e = record {
   so_far = c.so_far ++ places;
   adds = record {
@@ -39,7 +40,8 @@ compared_end {total} {rest} {old} {new} {a} c e =
     record { faults = c.adds.faults ∙ ap (λ x. old.faults.items ++ x) t; uses = c.adds.uses; none = c.adds.none ∙ ap is_empty t }
 
 pub misfits_step : (w : World) (v : Argued) (vs : List Argued) (t : GoType) (ts : List GoType) →
-    misfits w (map argued_of (v ∷ vs)) (map type_of (t ∷ ts)) ≡ misfit w v.place (option_map kind_of v.kind) (type_of t) ++ misfits w (map argued_of vs) (map type_of ts)
+    misfits w (map argued_of (v ∷ vs)) (map type_of (t ∷ ts)) ≡ misfit w v.place (option_map kind_of v.kind) (type_of t) ++ misfits w (map argued_of vs)
+    (map type_of ts)
 unfolding misfits
 misfits_step w v vs t ts = refl
 

@@ -20,4 +20,5 @@ by_case false c = refl
 
 pub one_more : (old new : SeenFields) (rank : ℕ) → Updates nat_cmp old.ranks new.ranks rank true → seen_of new ≡ (λ other. other == rank || seen_of old other)
 unfolding seen_of
-one_more old new rank u = fun_ext (λ other. u.0 other ∙ (by_case (is_at (nat_cmp rank) other) (contains nat_cmp old.ranks other) ∙ ap (λ b. b || contains nat_cmp old.ranks other) (same_key rank other)))
+one_more old new rank u = fun_ext (λ other. u.0 other ∙
+    (by_case (is_at (nat_cmp rank) other) (contains nat_cmp old.ranks other) ∙ ap (λ b. b || contains nat_cmp old.ranks other) (same_key rank other)))

@@ -3,15 +3,19 @@
 use Rattle.std.specs.Prelude.{ℕ, ◌==◌, Bool, true, false, ◌&&◌, ◌||◌, if◌then◌else◌, List, [], ◌∷◌, ◌++◌, Option, Some, None, length, option_map}
 use Rattle.gr_tree.specs.declared.syntax.BinaryOp.{BinaryOp}
 use Rattle.gr_tree.specs.declared.syntax.PrefixOp.{PrefixOp}
-use Rattle.gr_tree.specs.Tree.{TypeTree, ExprTree, Number, Text, Name, Blank, Composite, Paren, Prefix, Address, Chain, Binary, OperandTrees, no_operand, operand, LinkTrees, no_link, selector, index, call, ArgumentTrees, no_argument, argument, LiteralTree, literal, ElementTrees, no_element, element}
+use Rattle.gr_tree.specs.Tree.{TypeTree, ExprTree, Number, Text, Name, Blank, Composite, Paren, Prefix, Address, Chain, Binary, OperandTrees, no_operand}
+use Rattle.gr_tree.specs.Tree.{operand, LinkTrees, no_link, selector, index, call, ArgumentTrees, no_argument, argument, LiteralTree, literal, ElementTrees}
+use Rattle.gr_tree.specs.Tree.{no_element, element}
 use Rattle.gr_tree.specs.Tree.{Local as LocalType, Imported as ImportedType, Pointer as PointerType, Slice as SliceType}
 use Rattle.gr_expr.specs.declared.types.Basic.TheVariants as basic
 use Rattle.gr_expr.specs.declared.types.Builtin.{Builtin}
 use Rattle.gr_expr.specs.declared.types.Builtin.TheVariants as builtin
 use Rattle.gr_expr.specs.declared.symbol.Symbol.{Symbol}
 use Rattle.gr_expr.specs.Places.{first_token, first_of_type, place_of}
-use Rattle.gr_expr.specs.Types.{PlainType, BasicType, Pointer, Slice, Underlying, SliceOf, Struct, Kind, Typed, Untyped, Signature, Meaning, Value, TypeName, Function, BuiltinName, Package, Results, Broken, is_pointer, points, element_of}
-use Rattle.gr_expr.specs.World.{World, Locals, Bound, Local, Means, BrokenVariable, BrokenType, Member, AField, AMethod, ABrokenMethod, member_symbol, underlying, name_meaning}
+use Rattle.gr_expr.specs.Types.{PlainType, BasicType, Pointer, Slice, Underlying, SliceOf, Struct, Kind, Typed, Untyped, Signature, Meaning, Value}
+use Rattle.gr_expr.specs.Types.{TypeName, Function, BuiltinName, Package, Results, Broken, is_pointer, points, element_of}
+use Rattle.gr_expr.specs.World.{World, Locals, Bound, Local, Means, BrokenVariable, BrokenType, Member, AField, AMethod, ABrokenMethod, member_symbol}
+use Rattle.gr_expr.specs.World.{underlying, name_meaning}
 use Rattle.gr_expr.specs.Operations.{fits, converts, operate, class_of, is_int, has_length, is_printed, element_of_kind, prefixed}
 
 -- a name behind a dot, or a key: its place, the type before it, and the field or method that it is, if any
@@ -73,7 +77,8 @@ with_use u j = record { meaning = j.meaning; faults = j.faults; uses = u ∷ j.u
 
 unfoldable pub select_member : World → ℕ → PlainType → (addressable : Bool) → Judged
 select_member w name t a =
-    with_use (record { place = name; before = t; member = option_map member_symbol (w.member name t) }) (means_or_wrong (member_meaning w t a (w.member name t)) name)
+    with_use (record { place = name; before = t; member = option_map member_symbol (w.member name t) })
+    (means_or_wrong (member_meaning w t a (w.member name t)) name)
 
 -- the selector of the name at `name`, behind an operand that stands at `place`
 unfoldable pub select : World → Locals → (place name : ℕ) → Meaning → Judged
@@ -395,7 +400,8 @@ literal_meaning w start None whole unkeyed = means Broken
 literal_meaning w start (Some t) whole unkeyed = literal_ends start t (underlying w t) whole unkeyed
 
 abbrev pub literal_of : World → ℕ → TypeJudged → JudgedElements → Judged
-literal_of w start t es = also (record { meaning = Broken; faults = t.faults ++ es.faults; uses = es.uses }) (literal_meaning w start t.type_of es.whole es.unkeyed)
+literal_of w start t es = also (record { meaning = Broken; faults = t.faults ++ es.faults; uses = es.uses })
+    (literal_meaning w start t.type_of es.whole es.unkeyed)
 
 -- Expressions
 
@@ -404,7 +410,12 @@ abbrev pub value_at : ExprTree → Judged → Judged
 value_at e j = followed j (as_value (place_of e))
 
 abbrev pub value_before : ℕ → Judged → JudgedList → JudgedList
-value_before place j rest = record { values = record { place = place; kind = value_kind j.meaning } ∷ rest.values; faults = j.faults ++ rest.faults; uses = j.uses ++ rest.uses }
+value_before place j rest = record {
+  values = record { place = place; kind = value_kind j.meaning } ∷ rest.values;
+  faults = j.faults ++ rest.faults;
+  uses =
+      j.uses ++ rest.uses;
+}
 
 -- an index, which is found to be i, of an operand that means m
 abbrev pub index_rule : World → (start place : ℕ) → ExprTree → Judged → Meaning → Judged

@@ -9,7 +9,8 @@ use Rattle.gr_expr.specs.declared.classes.Class.{Class}
 use Rattle.gr_expr.specs.declared.classes.Class.TheVariants as class
 use Rattle.gr_expr.specs.declared.classes.Family.{Family}
 use Rattle.gr_expr.specs.declared.classes.Family.TheVariants as family
-use Rattle.gr_expr.specs.Types.{PlainType, Underlying, Plain, PointerTo, SliceOf, Struct, Kind, Typed, Untyped, Nil, Meaning, Value, same_basic, same_type, same_underlying, is_named, either_unnamed, has_nil, element_of}
+use Rattle.gr_expr.specs.Types.{PlainType, Underlying, Plain, PointerTo, SliceOf, Struct, Kind, Typed, Untyped, Nil, Meaning, Value, same_basic, same_type}
+use Rattle.gr_expr.specs.Types.{same_underlying, is_named, either_unnamed, has_nil, element_of}
 use Rattle.gr_expr.specs.World.{World, underlying}
 
 -- Whether a value fits a type: its type is identical; or one of the two is unnamed and the underlying types are

@@ -1,6 +1,7 @@
 -- Where expressions and types stand: the number of a token of the file.
 use Rattle.std.specs.Prelude.{ℕ}
-use Rattle.gr_tree.specs.Tree.{TypeTree, ExprTree, Number, Text, Name, Blank, Composite, Paren, Prefix, Address, Chain, Binary, LinkTrees, no_link, selector, index, call, LiteralTree, literal}
+use Rattle.gr_tree.specs.Tree.{TypeTree, ExprTree, Number, Text, Name, Blank, Composite, Paren, Prefix, Address, Chain, Binary, LinkTrees, no_link}
+use Rattle.gr_tree.specs.Tree.{selector, index, call, LiteralTree, literal}
 use Rattle.gr_tree.specs.Tree.{Local as LocalType, Imported as ImportedType, Pointer as PointerType, Slice as SliceType}
 
 abbrev pub first_of_type : TypeTree → ℕ

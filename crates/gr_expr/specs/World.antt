@@ -129,4 +129,5 @@ first_member None (Some m) = Some (a_method m.symbol m.on_pointer m.signature)
 -- the member of a name that is written in the package `own`, for the type before it: a field of the struct, else a
 -- method of the definition
 unfoldable pub member_by : (Symbol → Definition) → (own name : List ℕ) → PlainType → Option Member
-member_by definition own name t = first_member (field_of definition own name (struct_behind (λ s. (definition s).underlying) t)) (method_of definition own name (owner t))
+member_by definition own name t = first_member (field_of definition own name (struct_behind (λ s. (definition s).underlying) t))
+    (method_of definition own name (owner t))

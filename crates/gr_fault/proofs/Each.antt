@@ -1,5 +1,6 @@
 -- The faults of the items of a list, added one item after the other.
-use Rattle.std.proofs.Common.{ℕ, suc, ◌≡◌, ◌+◌, ◌<◌, ◌≤◌, ◌⊎◌, inl, inr, List, [], ◌∷◌, ◌++◌, length, take, get_or, ap, subst, sym, ◌∙◌, append-nil, arith, refl}
+use Rattle.std.proofs.Common.{ℕ, suc, ◌≡◌, ◌+◌, ◌<◌, ◌≤◌, ◌⊎◌, inl, inr, List, [], ◌∷◌, ◌++◌, length, take, get_or, ap, subst, sym, ◌∙◌, append-nil, arith}
+use Rattle.std.proofs.Common.{refl}
 use Rattle.std.specs.Prelude.{map, Result, OnOk}
 use Rattle.std.specs.List.{flat_map}
 use Rattle.std.proofs.Math.Seq.{take-suc, take-length}
@@ -51,7 +52,8 @@ call_each Q a b xs ys r k e = on_ok_weaker r (λ q. each_as Q a b xs ys q e) k
 
 -- a loop over items
 
-flat_map-take : {X Y : Type 0} (g : Y → List X) (ys : List Y) (i : ℕ) (d : Y) → i < length ys → flat_map g (take i ys) ++ g (get_or ys i d) ≡ flat_map g (take (i + 1) ys)
+flat_map-take : {X Y : Type 0} (g : Y → List X) (ys : List Y) (i : ℕ) (d : Y) → i < length ys →
+    flat_map g (take i ys) ++ g (get_or ys i d) ≡ flat_map g (take (i + 1) ys)
 flat_map-take g ys i d lt =
     ap (λ z. flat_map g (take i ys) ++ z) (sym (append-nil (g (get_or ys i d)))) ∙ sym (flat_map-append g (take i ys) (get_or ys i d ∷ [])) ∙
     sym (ap (flat_map g) (take-suc ys i d lt)) ∙ ap (λ k. flat_map g (take k ys)) (let e : suc i ≡ i + 1 = omega arith in e)
@@ -87,7 +89,8 @@ pub below_next : (Q : ℕ → Fault → Type 0) (a b c : List Fault) (i : ℕ) �
 below_next Q a b c i h k = adds_as a c (λ f. Below Q i f ⊎ Q i f) (Below Q (i + 1)) (adds_then a b c (Below Q i) (Q i) h k) (below_to Q i) (below_from Q i)
 
 -- the item at an index, which was read
-pub each_step : {X Y : Type 0} (Q : X → Fault → Type 0) (a b c : List Fault) (g : Y → List X) (ys : List Y) (i : ℕ) (y : Y) → i < length ys → y ≡ get_or ys i y →
+pub each_step : {X Y : Type 0} (Q : X → Fault → Type 0) (a b c : List Fault) (g : Y → List X) (ys : List Y) (i : ℕ) (y : Y) → i < length ys →
+    y ≡ get_or ys i y →
     AddsEach Q a b (flat_map g (take i ys)) → AddsEach Q b c (g y) → AddsEach Q a c (flat_map g (take (i + 1) ys))
 each_step Q a b c g ys i y lt e h k = each_next Q a b c g ys i y lt h (subst (λ z. AddsEach Q b c (g z)) e k)
 

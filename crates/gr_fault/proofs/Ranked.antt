@@ -13,7 +13,8 @@ at_rank : {Y : Type 0} (ys : List Y) (i : ℕ) (y : Y) → i < length ys → y �
 at_rank ys i y lt e =
     get_or-enumerate_from 0 ys i (i, y) lt ∙ ap (λ k. (k, get_or ys i y)) (let z : 0 + i ≡ i = omega arith in z) ∙ ap (λ v. (i, v)) (sym e)
 
-pub next_ranked : {X Y : Type 0} (Q : X → Fault → Type 0) (a b c : List Fault) (g : ℕ × Y → List X) (ys : List Y) (i : ℕ) (y : Y) → i < length ys → y ≡ get_or ys i y →
+pub next_ranked : {X Y : Type 0} (Q : X → Fault → Type 0) (a b c : List Fault) (g : ℕ × Y → List X) (ys : List Y) (i : ℕ) (y : Y) → i < length ys →
+    y ≡ get_or ys i y →
     AddsEach Q a b (flat_map g (take i (enumerate_from 0 ys))) → AddsEach Q b c (g (i, y)) → AddsEach Q a c (flat_map g (take (i + 1) (enumerate_from 0 ys)))
 next_ranked Q a b c g ys i y lt e h k =
     let short : i < length (enumerate_from 0 ys) = rw (length-enumerate_from 0 ys) lt in
@@ -24,8 +25,10 @@ pub all_ranked : {X Y : Type 0} (Q : X → Fault → Type 0) (a b : List Fault) 
 all_ranked Q a b g ys i e h = each_all Q a b g (enumerate_from 0 ys) i (e ∙ sym (length-enumerate_from 0 ys)) h
 
 -- the same for what the program's files stand for
-pub next_file : {V X Y : Type 0} (Q : X → Fault → Type 0) (a b c : List Fault) (g : ℕ × Y → List X) (v : V → Y) (vs : List V) (i : ℕ) (x : V) → i < length vs → x ≡ get_or vs i x →
-    AddsEach Q a b (flat_map g (take i (enumerate_from 0 (map v vs)))) → AddsEach Q b c (g (i, v x)) → AddsEach Q a c (flat_map g (take (i + 1) (enumerate_from 0 (map v vs))))
+pub next_file : {V X Y : Type 0} (Q : X → Fault → Type 0) (a b c : List Fault) (g : ℕ × Y → List X) (v : V → Y) (vs : List V) (i : ℕ) (x : V) →
+    i < length vs → x ≡ get_or vs i x →
+    AddsEach Q a b (flat_map g (take i (enumerate_from 0 (map v vs)))) → AddsEach Q b c (g (i, v x)) →
+    AddsEach Q a c (flat_map g (take (i + 1) (enumerate_from 0 (map v vs))))
 next_file Q a b c g v vs i x lt e h k =
     let short : i < length (map v vs) = rw (length-map vs v) lt in
     next_ranked Q a b c g (map v vs) i (v x) short (ap v e ∙ sym (get_or-map v vs i x)) h k
@@ -44,15 +47,18 @@ map-append f [] ys = refl
 map-append f (x ∷ xs) ys = ap (λ z. f x ∷ z) (map-append f xs ys)
 
 -- what is made of each item that the parts of some views have
-pub map-flat_map-map : {X Y Z V : Type 0} (f : Y → Z) (g : X → List Y) (h : V → X) (vs : List V) → map f (flat_map g (map h vs)) ≡ flat_map (λ v. map f (g (h v))) vs
+pub map-flat_map-map : {X Y Z V : Type 0} (f : Y → Z) (g : X → List Y) (h : V → X) (vs : List V) →
+    map f (flat_map g (map h vs)) ≡ flat_map (λ v. map f (g (h v))) vs
 map-flat_map-map f g h [] = refl
 map-flat_map-map f g h (v ∷ vs) = map-append f (g (h v)) (flat_map g (map h vs)) ∙ ap (λ z. map f (g (h v)) ++ z) (map-flat_map-map f g h vs)
 
 -- the faults of the items of each part
-pub some_flat : {X Y : Type 0} (Q : X → Fault → Type 0) (g : Y → List X) (ys : List Y) (f : Fault) → SomeOf (λ y. SomeOf Q (g y)) ys f → SomeOf Q (flat_map g ys) f
+pub some_flat : {X Y : Type 0} (Q : X → Fault → Type 0) (g : Y → List X) (ys : List Y) (f : Fault) → SomeOf (λ y. SomeOf Q (g y)) ys f →
+    SomeOf Q (flat_map g ys) f
 some_flat Q g [] f h = h
 some_flat Q g (y ∷ ys) f h = elim h [ inl q ↦ some_left Q (g y) (flat_map g ys) f q | inr r ↦ some_right Q (g y) (flat_map g ys) f (some_flat Q g ys f r) ]
 
-pub some_parts : {X Y : Type 0} (Q : X → Fault → Type 0) (g : Y → List X) (ys : List Y) (f : Fault) → SomeOf Q (flat_map g ys) f → SomeOf (λ y. SomeOf Q (g y)) ys f
+pub some_parts : {X Y : Type 0} (Q : X → Fault → Type 0) (g : Y → List X) (ys : List Y) (f : Fault) → SomeOf Q (flat_map g ys) f →
+    SomeOf (λ y. SomeOf Q (g y)) ys f
 some_parts Q g [] f h = h
 some_parts Q g (y ∷ ys) f h = elim (some_cases Q (g y) (flat_map g ys) f h) [ inl q ↦ inl q | inr r ↦ inr (some_parts Q g ys f r) ]

@@ -1,15 +1,16 @@
 -- What was found, as it is read back.
 use Rattle.std.proofs.Common.{◌≡◌, ℕ, ◌<◌, ◌≤◌, List, [], length, get_or, sym, subst, ⊎_elim, arith}
 use Rattle.std.specs.List.{Contains}
+use Rattle.std.specs.List.Sorted.{IsStrictlyIncreasing}
 use Rattle.std.proofs.lemmas.Bool.{cases_lt}
 use Rattle.std.proofs.lemmas.List.{get_or_read, get_or_past}
 use Rattle.gr_graph.specs.Imports.{Links, Imports, imports_of, AreImporters, HoldImporters}
-use Rattle.gr_graph.specs.Closures.{AreClosures, IsClosed, nothing}
-use Rattle.gr_graph.specs.declared.closure.Closure.{Closure}
+use Rattle.gr_graph.specs.Closures.{AreClosures, IsClosed}
 
-pub closure_read : (g : Links) (closures : List Closure) (number : ℕ) (x : Closure) → AreClosures g closures → number < length g → x ≡ get_or closures number x → IsClosed g number x
+pub closure_read : (g closures : Links) (number : ℕ) (x : List ℕ) → AreClosures g closures → number < length g → x ≡ get_or closures number x →
+    IsClosed g number x
 closure_read g closures number x closed within e =
-    subst (IsClosed g number) (sym (get_or_read closures number x (omega (arith, closed.size)) e nothing)) (closed.each number within)
+    subst (IsClosed g number) (sym (get_or_read closures number x (omega (arith, closed.size)) e [])) (closed.each number within)
 
 -- only a package imports
 importer_below : (g : Links) (p q : ℕ) → Imports g p q → p < length g
@@ -21,3 +22,9 @@ importer_below g p q i =
 
 pub importers_of_all : (g noted : Links) → HoldImporters g (length g) noted → (q : ℕ) → AreImporters g q (imports_of noted q)
 importers_of_all g noted s q = λ p. (λ c. ((s.each q p).0 c).1, λ i. (s.each q p).1 (importer_below g p q i, i))
+
+-- beyond the last package there are no imports, which rise
+pub all_rising : (g : Links) → ((p : ℕ) → p < length g → IsStrictlyIncreasing (imports_of g p)) → (p : ℕ) → IsStrictlyIncreasing (imports_of g p)
+all_rising g up p =
+    ⊎_elim (λ (h : p < length g). up p h) (λ (h : length g ≤ p). subst IsStrictlyIncreasing (sym (get_or_past g p [] h)) (λ k less. absurd (omega arith)))
+    (cases_lt p (length g))

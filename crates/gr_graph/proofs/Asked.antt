@@ -1,5 +1,6 @@
 -- What is asked of a workspace's links by number, in the words of the workspace.
-use Rattle.std.proofs.Common.{◌≡◌, ℕ, ◌<◌, Bool, true, false, ◌&&◌, List, [], ◌∷◌, length, filter, cond, Option, Some, None, slice_get, get_or, refl, sym, subst, ◌∙◌, arith, MatchOption, zero, suc, ◌==◌}
+use Rattle.std.proofs.Common.{◌≡◌, ℕ, ◌<◌, Bool, true, false, ◌&&◌, List, [], ◌∷◌, length, filter, cond, Some, slice_get, get_or, refl, sym}
+use Rattle.std.proofs.Common.{subst, ◌∙◌, arith, zero, suc, ◌==◌}
 use Rattle.std.specs.FinMap.{entries}
 use Rattle.std.specs.List.{Contains, AllByRecursion}
 use Rattle.std.specs.Cmp.Lexicographic.{pointwise, bytes_decides}
@@ -8,11 +9,11 @@ use Rattle.std.proofs.lemmas.List.Elements.{All-contains}
 use Rattle.std.proofs.lemmas.Option.{same_Some, slice_get_within, get_or_from_slice_get, slice_get-get_or, slice_get_read}
 use Rattle.gr_text.specs.Path.{folder}
 use Rattle.gr_text.specs.Workspace.{Workspace}
-use Rattle.gr_graph.specs.Imports.{Links, Imports, imports_of, Reaches, itself, through, IsOnCycle, Leads, IsCycleOf, IsClosure, AreImporters, IsOrder}
+use Rattle.gr_graph.specs.Imports.{Links, Imports, imports_of, Reaches, itself, through, IsClosure, AreImporters}
 use Rattle.gr_graph.specs.Packages as packages
 use Rattle.gr_text.specs.Packages.{is_go, package_paths, package_files}
 use Rattle.gr_graph.specs.Packages.{PackageImports, AreLinksOf, IsInClosure}
-use Rattle.gr_graph.specs.Graphs.{HoldsPackages, IsOnImportCycle, LeadsTo, IsImportCycle, IsPackageOrder}
+use Rattle.gr_graph.specs.Graphs.{HoldsPackages}
 use Rattle.gr_graph.proofs.PackagePaths.{all_there, AreThere, paths_sorted, one_number}
 
 -- ---- a package with a file is a package
@@ -29,7 +30,8 @@ by_contains P [] all x k within is = absurd (omega arith)
 by_contains P (y ∷ xs) all x zero within is = subst P is all.0
 by_contains P (y ∷ xs) all x (suc k) within is = by_contains P xs all.1 x k (omega arith) is
 
-in_folder : (paths : List (List ℕ)) (p : List ℕ) (es : List (List ℕ × List ℕ)) → AreThere paths es → AllByRecursion (λ e. (is_go e.0 && pointwise ◌==◌ (folder e.0) p) ≡ true → Contains paths p) es
+in_folder : (paths : List (List ℕ)) (p : List ℕ) (es : List (List ℕ × List ℕ)) → AreThere paths es →
+    AllByRecursion (λ e. (is_go e.0 && pointwise ◌==◌ (folder e.0) p) ≡ true → Contains paths p) es
 in_folder paths p [] there = tt
 in_folder paths p (e ∷ es) there = (
   λ h. let both = and_parts (is_go e.0) (pointwise ◌==◌ (folder e.0) p) h in subst (Contains paths) ((bytes_decides _ _).0 both.1) (there.0 both.0),
@@ -39,7 +41,8 @@ in_folder paths p (e ∷ es) there = (
 pub has_file : (w : Workspace) (p : List ℕ) (e : List ℕ × List ℕ) → Contains (package_files w p) e → Contains (package_paths w) p
 has_file w p e has =
     by_contains (λ (d : List ℕ × List ℕ). Contains (package_paths w) p) (package_files w p)
-    (filter_has (λ d. is_go d.0 && pointwise ◌==◌ (folder d.0) p) (entries w) (λ d. Contains (package_paths w) p) (in_folder (package_paths w) p (entries w) (all_there w)))
+    (filter_has (λ d. is_go d.0 && pointwise ◌==◌ (folder d.0) p) (entries w) (λ d. Contains (package_paths w) p)
+    (in_folder (package_paths w) p (entries w) (all_there w)))
     e has.0 has.1 has.2
 
 is_package : (w : Workspace) (p q : List ℕ) → IsInClosure w p q → Contains (package_paths w) p
@@ -115,42 +118,3 @@ module _ (w : Workspace) (g : Links) (links : AreLinksOf w g) where
     λ h. let reaches = (is i).0 h in let q = name i (reach_within reaches) in (q.0, q.1, in_closure reaches p q.0 at q.1),
     λ s. (is i).1 (reached_at p s.0 n i s.2 at s.1),
   )
-
-  -- ---- cycles
-  on_cycle : (n : ℕ) (p : List ℕ) → At n p → IsOnImportCycle w p → IsOnCycle g n
-  on_cycle n p at c =
-      let k = number w c.0 (is_package w c.0 p c.2) in
-      (k.0, (links.each n k.0 p c.0 at k.1).1 c.1, reached_at c.0 p k.0 n c.2 k.1 at)
-
-  on_import_cycle : (n : ℕ) (p : List ℕ) → At n p → IsOnCycle g n → IsOnImportCycle w p
-  on_import_cycle n p at c =
-      let q = name c.0 (to_within n c.0 c.1) in
-      (q.0, (links.each n c.0 p q.0 at q.1).0 c.1, in_closure c.2 q.0 p q.1 at)
-
-  leads_to : (cycle : List ℕ) (n : ℕ) (p : List ℕ) (last : ℕ) (l : List ℕ) → At n p → At last l → Leads g n cycle last → LeadsTo w p cycle l
-  leads_to [] n p last l a b leads = (links.each n last p l a b).0 leads
-  leads_to (i ∷ is) n p last l a b leads =
-      let q = name i (to_within n i leads.0) in
-      (q.0, q.1, (links.each n i p q.0 a q.1).0 leads.0, leads_to is i q.0 last l q.1 b leads.1)
-
-  pub cycle_is : (n : ℕ) (p : List ℕ) → At n p → (cycle : List ℕ) → IsCycleOf g n cycle → IsImportCycle w p cycle
-  cycle_is n p at [] is = absurd is
-  cycle_is n p at (i ∷ is) way =
-      let here : At i p = subst (λ (k : ℕ). At k p) (sym way.0) at in
-      (here, leads_to is i p n p here at (subst (λ (k : ℕ). Leads g k is n) (sym way.0) way.1))
-
-  pub cycle_found : {X : Type 0} (o : Option X) (of : X → List ℕ) (n : ℕ) (p : List ℕ) → At n p → MatchOption o (IsOnCycle g n → ⊥) (λ x. IsCycleOf g n (of x)) → MatchOption o (IsOnImportCycle w p → ⊥) (λ x. IsImportCycle w p (of x))
-  cycle_found None of n p at is = λ c. is (on_cycle n p at c)
-  cycle_found (Some x) of n p at is = cycle_is n p at (of x) is
-
-  -- ---- the order
-  pub order_is : (order : List ℕ) → IsOrder g order → IsPackageOrder w order
-  order_is order is = record {
-    each = λ i. (
-      λ h. let of = (is.each i).0 h in let p = name i of.0 in
-          (p.0, p.1, λ q c cycle. let k = reached c i p.1 in of.1 k.0 k.2 (on_cycle k.0 q k.1 cycle)),
-      λ s. (is.each i).1 (inside i s.0 s.1, λ j reaches cycle. let q = name j (reach_within reaches) in s.2 q.0 (in_closure reaches s.0 q.0 s.1 q.1) (on_import_cycle j q.0 q.1 cycle)),
-    );
-    once = is.once;
-    behind = λ i m n p q at at_m at_n imports. is.behind i m n at ((links.each m n p q at_m at_n).1 imports);
-  }

@@ -1,5 +1,6 @@
 -- One more file of a package, and what is left to add.
-use Rattle.std.proofs.Common.{◌≡◌, ℕ, zero, suc, Bool, true, false, ◌&&◌, List, [], ◌∷◌, ◌++◌, cond, Option, Some, None, Result, Ok, Err, IfOk, slice_get, refl, sym, ap, subst, ◌∙◌, ⊎_elim, append-nil, ◌==◌}
+use Rattle.std.proofs.Common.{◌≡◌, ℕ, zero, suc, Bool, true, false, ◌&&◌, List, [], ◌∷◌, ◌++◌, cond, Option, Some, None, Result, Ok, Err, IfOk, slice_get}
+use Rattle.std.proofs.Common.{refl, sym, ap, subst, ◌∙◌, ⊎_elim, append-nil, ◌==◌}
 use Rattle.std.proofs.Math.ListN.{set}
 use Rattle.std.specs.List.{All, Contains}
 use Rattle.std.specs.List.Sorted.{IsStrictlySortedBy}
@@ -55,33 +56,40 @@ filled_start staying all ps empty i p at apart_p ts fs parsed =
     rw (here.0, here.1) parsed
 
 -- ---- a Go file
-with_one : (all : List (List ℕ × List ℕ)) (e : List ℕ × List ℕ) (rest : List (List ℕ × List ℕ)) (file : Parsed) (b a : Package) → IsWithFile file b a → IsParsedAs e.0 e.1 file
+with_one : (all : List (List ℕ × List ℕ)) (e : List ℕ × List ℕ) (rest : List (List ℕ × List ℕ)) (file : Parsed) (b a : Package) → IsWithFile file b a →
+    IsParsedAs e.0 e.1 file
     → ((ts : List FileParts) (fs : List FaultyParts) → AreParsed (e ∷ rest) ts fs → AreParsed all (b.trees.items ++ ts) (b.faulty.items ++ fs))
     → (ts : List FileParts) (fs : List FaultyParts) → AreParsed rest ts fs → AreParsed all (a.trees.items ++ ts) (a.faulty.items ++ fs)
 with_one all e rest (Sound file) b a w is gives ts fs parsed = rw (w.1, w.2, append_assoc b.trees.items (file ∷ []) ts) (gives (file ∷ ts) fs (tree is parsed))
-with_one all e rest (Faulty file) b a w is gives ts fs parsed = rw (w.1, w.2, append_assoc b.faulty.items (file ∷ []) fs) (gives ts (file ∷ fs) (fault is parsed))
+with_one all e rest (Faulty file) b a w is gives ts fs parsed =
+    rw (w.1, w.2, append_assoc b.faulty.items (file ∷ []) fs) (gives ts (file ∷ fs) (fault is parsed))
 
 same_path : (file : Parsed) (b a : Package) → IsWithFile file b a → a.path ≡ b.path
 same_path (Sound file) b a w = w.0
 same_path (Faulty file) b a w = w.0
 
-in_folder : (e : List ℕ × List ℕ) (left : List (List ℕ × List ℕ)) (path : List ℕ) → is_go e.0 ≡ true → folder e.0 ≡ path → files_in path (e ∷ left) ≡ e ∷ files_in path left
+in_folder : (e : List ℕ × List ℕ) (left : List (List ℕ × List ℕ)) (path : List ℕ) → is_go e.0 ≡ true → folder e.0 ≡ path →
+    files_in path (e ∷ left) ≡ e ∷ files_in path left
 in_folder e left path go same =
     ap (λ (b : Bool). cond (b && pointwise ◌==◌ (folder e.0) path) (e ∷ files_in path left) (files_in path left)) go
     ∙ ap (λ (b : Bool). cond b (e ∷ files_in path left) (files_in path left)) ((bytes_decides _ _).1 same)
 
 not_in_folder : (e : List ℕ × List ℕ) (left : List (List ℕ × List ℕ)) (path : List ℕ) → (folder e.0 ≡ path → ⊥) → files_in path (e ∷ left) ≡ files_in path left
 not_in_folder e left path apart =
-    elim (pointwise ◌==◌ (folder e.0) path) as (λ b. pointwise ◌==◌ (folder e.0) path ≡ b → cond (is_go e.0 && b) (e ∷ files_in path left) (files_in path left) ≡ files_in path left) [
+    elim (pointwise ◌==◌ (folder e.0) path) as (λ b. pointwise ◌==◌ (folder e.0) path ≡ b →
+    cond (is_go e.0 && b) (e ∷ files_in path left) (files_in path left) ≡ files_in path left) [
       | true ↦ λ h. absurd (apart ((bytes_decides _ _).0 h))
-      | false ↦ λ h. elim (is_go e.0) as (λ g. cond (g && false) (e ∷ files_in path left) (files_in path left) ≡ files_in path left) [ true ↦ refl | false ↦ refl ]
+      | false ↦ λ h. elim (is_go e.0) as (λ g. cond (g && false) (e ∷ files_in path left) (files_in path left) ≡ files_in path left)
+          [ true ↦ refl | false ↦ refl ]
     ] refl
 
 pub paths_added : (n : ℕ) (file : Parsed) (old new : List Package) → AddsFile n file old new → paths_of new ≡ paths_of old
 paths_added n file old new adds = ap paths_of adds.new_is ∙ paths_set old n adds.before adds.after adds.at (same_path file _ _ adds.with_file)
 
-pub filled_add : (staying : List Package) (all : List (List ℕ × List ℕ)) (e : List ℕ × List ℕ) (left : List (List ℕ × List ℕ)) (old new : List Package) (n : ℕ) (file : Parsed)
-    → IsStrictlySortedBy path_cmp (paths_of old) → IsOfNone staying e.0 → slice_get (paths_of old) n ≡ Some (folder e.0) → AddsFile n file old new → IsParsedAs e.0 e.1 file
+pub filled_add : (staying : List Package) (all : List (List ℕ × List ℕ)) (e : List ℕ × List ℕ) (left : List (List ℕ × List ℕ)) (old new : List Package)
+    (n : ℕ) (file : Parsed)
+    → IsStrictlySortedBy path_cmp (paths_of old) → IsOfNone staying e.0 → slice_get (paths_of old) n ≡ Some (folder e.0) → AddsFile n file old new →
+    IsParsedAs e.0 e.1 file
     → AreFilled staying all (e ∷ left) old → AreFilled staying all left new
 filled_add staying all e left old new n file sorted of_none at adds is filled i p there apart_p =
     let b = adds.before in
@@ -93,27 +101,35 @@ filled_add staying all e left old new n file sorted of_none at adds is filled i 
     let is_a : a ≡ p = same_Some _ _ (sym (set_there old n b a adds.at) ∙ subst (λ (k : ℕ). slice_get (set old n a) k ≡ Some p) here now) in
     let folder_is : folder e.0 ≡ b.path.items = same_Some _ _ (sym at ∙ path_at old n b adds.at) in
     let gives = with_one (files_in b.path.items all) e (files_in b.path.items left) file b a adds.with_file is
-    (λ ts fs parsed. filled n b adds.at (λ stays. of_none.1 (subst (Contains (paths_of staying)) (sym folder_is) stays)) ts fs (subst (λ es. AreParsed es ts fs) (sym (in_folder e left b.path.items of_none.0 folder_is)) parsed)) in
-    subst (λ (q : Package). (ts : List FileParts) (fs : List FaultyParts) → AreParsed (files_in q.path.items left) ts fs → AreParsed (files_in q.path.items all) (q.trees.items ++ ts) (q.faulty.items ++ fs)) is_a
-    (subst (λ path. (ts : List FileParts) (fs : List FaultyParts) → AreParsed (files_in path.items left) ts fs → AreParsed (files_in path.items all) (a.trees.items ++ ts) (a.faulty.items ++ fs)) (sym path) gives))
+    (λ ts fs parsed. filled n b adds.at (λ stays. of_none.1 (subst (Contains (paths_of staying)) (sym folder_is) stays)) ts fs
+    (subst (λ es. AreParsed es ts fs) (sym (in_folder e left b.path.items of_none.0 folder_is)) parsed)) in
+    subst (λ (q : Package). (ts : List FileParts) (fs : List FaultyParts) → AreParsed (files_in q.path.items left) ts fs →
+    AreParsed (files_in q.path.items all) (q.trees.items ++ ts) (q.faulty.items ++ fs)) is_a
+    (subst (λ path. (ts : List FileParts) (fs : List FaultyParts) → AreParsed (files_in path.items left) ts fs →
+    AreParsed (files_in path.items all) (a.trees.items ++ ts) (a.faulty.items ++ fs)) (sym path) gives))
     (λ (other : i ≡ n → ⊥).
     let was : slice_get old i ≡ Some p = sym (set_elsewhere old n i a other) ∙ now in
-    let apart : folder e.0 ≡ p.path.items → ⊥ = λ same. other (one_number (paths_of old) sorted i n (folder e.0) (path_at old i p was ∙ ap Some (sym same)) at) in
+    let apart : folder e.0 ≡ p.path.items → ⊥ = λ same.
+    other (one_number (paths_of old) sorted i n (folder e.0) (path_at old i p was ∙ ap Some (sym same)) at) in
     λ ts fs parsed. filled i p was apart_p ts fs (subst (λ es. AreParsed es ts fs) (sym (not_in_folder e left p.path.items apart)) parsed))
     (cases_eq i n)
 
 -- ---- a file that is of no package that is made anew
-pub filled_skip : (staying : List Package) (all : List (List ℕ × List ℕ)) (e : List ℕ × List ℕ) (left : List (List ℕ × List ℕ)) (ps : List Package) → IsOfOne staying e.0 → AreFilled staying all (e ∷ left) ps → AreFilled staying all left ps
+pub filled_skip : (staying : List Package) (all : List (List ℕ × List ℕ)) (e : List ℕ × List ℕ) (left : List (List ℕ × List ℕ)) (ps : List Package) →
+    IsOfOne staying e.0 → AreFilled staying all (e ∷ left) ps → AreFilled staying all left ps
 filled_skip staying all e left ps of_one filled i p at apart_p ts fs parsed =
     ⊎_elim
     (λ (not_go : is_go e.0 ≡ false).
-    filled i p at apart_p ts fs (subst (λ (b : Bool). AreParsed (cond (b && pointwise ◌==◌ (folder e.0) p.path.items) (e ∷ files_in p.path.items left) (files_in p.path.items left)) ts fs) (sym not_go) parsed))
+    filled i p at apart_p ts fs (subst (λ (b : Bool). AreParsed
+    (cond (b && pointwise ◌==◌ (folder e.0) p.path.items) (e ∷ files_in p.path.items left) (files_in p.path.items left)) ts fs) (sym not_go) parsed))
     (λ (stays : Contains (paths_of staying) (folder e.0)).
-    filled i p at apart_p ts fs (subst (λ es. AreParsed es ts fs) (sym (not_in_folder e left p.path.items (λ same. apart_p (subst (Contains (paths_of staying)) same stays)))) parsed))
+    filled i p at apart_p ts fs (subst (λ es. AreParsed es ts fs)
+    (sym (not_in_folder e left p.path.items (λ same. apart_p (subst (Contains (paths_of staying)) same stays)))) parsed))
     of_one
 
 -- ---- nothing is left
-pub filled_end : (staying : List Package) (all : List (List ℕ × List ℕ)) (ps : List Package) → AreFilled staying all [] ps → (i : ℕ) (p : Package) → slice_get ps i ≡ Some p → (Contains (paths_of staying) p.path.items → ⊥)
+pub filled_end : (staying : List Package) (all : List (List ℕ × List ℕ)) (ps : List Package) → AreFilled staying all [] ps → (i : ℕ) (p : Package) →
+    slice_get ps i ≡ Some p → (Contains (paths_of staying) p.path.items → ⊥)
     → AreParsed (files_in p.path.items all) p.trees.items p.faulty.items
 filled_end staying all ps filled i p at apart_p =
     subst (λ ts. AreParsed (files_in p.path.items all) ts p.faulty.items) (append-nil p.trees.items)

@@ -18,7 +18,8 @@ unfolding import_view
 item_paths [] = refl
 item_paths (item ∷ items) = ap (λ rest. item.value.path ∷ rest) (item_paths items)
 
-pub decl_paths : (decls : List ImportDecl) → flat_map (λ decl. paths_in decl.imports) (map imports_view decls) ≡ flat_map (λ decl. paths_in (group_view import_view decl.group)) decls
+pub decl_paths : (decls : List ImportDecl) → flat_map (λ decl. paths_in decl.imports) (map imports_view decls) ≡ flat_map
+    (λ decl. paths_in (group_view import_view decl.group)) decls
 unfolding imports_view
 decl_paths [] = refl
 decl_paths (decl ∷ decls) = ap (λ rest. paths_in (group_view import_view decl.group) ++ rest) (decl_paths decls)
@@ -27,7 +28,8 @@ pub single_paths : (spec : ImportSpec) (decl : Group ImportSpec) → decl ≡ gr
 unfolding group_view import_view
 single_paths spec decl is = ap (λ g. paths_in (group_view import_view g)) (sym is)
 
-pub several_paths : (opening : ℕ) (items : Vec (Item ImportSpec) Global) (closing : ℕ) (decl : Group ImportSpec) → decl ≡ group.Several opening items closing → map (λ item. item.value.path) items.items ≡ paths_in (group_view import_view decl)
+pub several_paths : (opening : ℕ) (items : Vec (Item ImportSpec) Global) (closing : ℕ) (decl : Group ImportSpec) →
+    decl ≡ group.Several opening items closing → map (λ item. item.value.path) items.items ≡ paths_in (group_view import_view decl)
 unfolding group_view
 several_paths opening items closing decl is = sym (item_paths items.items) ∙ ap (λ g. paths_in (group_view import_view g)) (sym is)
 

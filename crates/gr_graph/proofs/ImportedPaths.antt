@@ -37,27 +37,33 @@ cons_there x xs q h = Contains-append_right (x ∷ []) xs q h
 abbrev bytes_cmp : Vec ℕ Global → Vec ℕ Global → Ordering
 bytes_cmp a b = path_cmp a.items b.items
 
-inserted : (ks : List (Vec ℕ Global)) (k : Vec ℕ Global) (q : List ℕ) → Contains (bytes_of_paths (insert_key bytes_cmp ks k)) q ↔ (Contains (bytes_of_paths ks) q ⊎ (k.items ≡ q))
+inserted : (ks : List (Vec ℕ Global)) (k : Vec ℕ Global) (q : List ℕ) →
+    Contains (bytes_of_paths (insert_key bytes_cmp ks k)) q ↔ (Contains (bytes_of_paths ks) q ⊎ (k.items ≡ q))
 inserted [] k q = (
   λ h. Contains-push_cases [] k.items q h,
   λ either. ⊎_elim (λ (n : Contains [] q). absurd (none_held q n)) (λ (e : k.items ≡ q). cons_here k.items [] q e) either,
 )
 inserted (x ∷ xs) k q =
     elim (path_cmp k.items x.items) as (λ order. path_cmp k.items x.items ≡ order
-    → Contains (bytes_of_paths (match_ordering order (k ∷ x ∷ xs) (x ∷ xs) (x ∷ insert_key bytes_cmp xs k))) q ↔ (Contains (x.items ∷ bytes_of_paths xs) q ⊎ (k.items ≡ q))) [
+    → Contains (bytes_of_paths (match_ordering order (k ∷ x ∷ xs) (x ∷ xs) (x ∷ insert_key bytes_cmp xs k))) q ↔
+    (Contains (x.items ∷ bytes_of_paths xs) q ⊎ (k.items ≡ q))) [
       | Less ↦ λ e. (
-        λ h. ⊎_elim (λ (s : k.items ≡ q). inr s) (λ (o : Contains (x.items ∷ bytes_of_paths xs) q). inl o) (cons_cases k.items (x.items ∷ bytes_of_paths xs) q h),
-        λ either. ⊎_elim (λ (o : Contains (x.items ∷ bytes_of_paths xs) q). cons_there k.items (x.items ∷ bytes_of_paths xs) q o) (λ (s : k.items ≡ q). cons_here k.items (x.items ∷ bytes_of_paths xs) q s) either,
+        λ h. ⊎_elim (λ (s : k.items ≡ q). inr s) (λ (o : Contains (x.items ∷ bytes_of_paths xs) q). inl o)
+            (cons_cases k.items (x.items ∷ bytes_of_paths xs) q h),
+        λ either. ⊎_elim (λ (o : Contains (x.items ∷ bytes_of_paths xs) q). cons_there k.items (x.items ∷ bytes_of_paths xs) q o)
+            (λ (s : k.items ≡ q). cons_here k.items (x.items ∷ bytes_of_paths xs) q s) either,
       )
       | Equal ↦ λ e. (
         λ h. inl h,
-        λ either. ⊎_elim (λ (o : Contains (x.items ∷ bytes_of_paths xs) q). o) (λ (s : k.items ≡ q). cons_here x.items (bytes_of_paths xs) q (sym (path_cmp_exact k.items x.items e) ∙ s)) either,
+        λ either. ⊎_elim (λ (o : Contains (x.items ∷ bytes_of_paths xs) q). o)
+            (λ (s : k.items ≡ q). cons_here x.items (bytes_of_paths xs) q (sym (path_cmp_exact k.items x.items e) ∙ s)) either,
       )
       | Greater ↦ λ e. (
         λ h. ⊎_elim
             (λ (s : x.items ≡ q). inl (cons_here x.items (bytes_of_paths xs) q s))
             (λ (t : Contains (bytes_of_paths (insert_key bytes_cmp xs k)) q).
-            ⊎_elim (λ (o : Contains (bytes_of_paths xs) q). inl (cons_there x.items (bytes_of_paths xs) q o)) (λ (s : k.items ≡ q). inr s) ((inserted xs k q).0 t))
+            ⊎_elim (λ (o : Contains (bytes_of_paths xs) q). inl (cons_there x.items (bytes_of_paths xs) q o)) (λ (s : k.items ≡ q). inr s)
+            ((inserted xs k q).0 t))
             (cons_cases x.items (bytes_of_paths (insert_key bytes_cmp xs k)) q h),
         λ either. ⊎_elim
             (λ (o : Contains (x.items ∷ bytes_of_paths xs) q). ⊎_elim
@@ -69,10 +75,12 @@ inserted (x ∷ xs) k q =
       )
     ] refl
 
-pub insert_adds : (ks new : List (Vec ℕ Global)) (k v : Vec ℕ Global) (o : Option (Vec ℕ Global)) → o ≡ Some v → k.items ≡ v.items → new ≡ insert_key bytes_cmp ks k → AddsPaths (StandsFor o) ks new
+pub insert_adds : (ks new : List (Vec ℕ Global)) (k v : Vec ℕ Global) (o : Option (Vec ℕ Global)) → o ≡ Some v → k.items ≡ v.items →
+    new ≡ insert_key bytes_cmp ks k → AddsPaths (StandsFor o) ks new
 insert_adds ks new k v o is same e = subst (λ (z : List (Vec ℕ Global)). AddsPaths (StandsFor o) ks z) (sym e) (record {
   each = λ q. (
-    λ h. ⊎_elim (λ (a : Contains (bytes_of_paths ks) q). inl a) (λ (s : k.items ≡ q). inr (subst (λ (z : Option (Vec ℕ Global)). StandsFor z q) (sym is) (sym same ∙ s))) ((inserted ks k q).0 h),
+    λ h. ⊎_elim (λ (a : Contains (bytes_of_paths ks) q). inl a)
+        (λ (s : k.items ≡ q). inr (subst (λ (z : Option (Vec ℕ Global)). StandsFor z q) (sym is) (sym same ∙ s))) ((inserted ks k q).0 h),
     λ either. (inserted ks k q).1 (⊎_elim
         (λ (a : Contains (bytes_of_paths ks) q). inl a)
         (λ (s : StandsFor o q). let t : v.items ≡ q = subst (λ (z : Option (Vec ℕ Global)). StandsFor z q) is s in inr (same ∙ t))
@@ -85,11 +93,13 @@ insert_adds ks new k v o is same e = subst (λ (z : List (Vec ℕ Global)). Adds
 pub adds_none : (P : List ℕ → Type 0) (ks : List (Vec ℕ Global)) → ((q : List ℕ) → P q → ⊥) → AddsPaths P ks ks
 adds_none P ks none = record { each = λ q. (λ h. inl h, λ either. ⊎_elim (λ (a : Contains (bytes_of_paths ks) q). a) (λ (s : P q). absurd (none q s)) either) }
 
-pub adds_more : (P Q S : List ℕ → Type 0) (a b c : List (Vec ℕ Global)) → ((q : List ℕ) → S q ↔ (P q ⊎ Q q)) → AddsPaths P a b → AddsPaths Q b c → AddsPaths S a c
+pub adds_more : (P Q S : List ℕ → Type 0) (a b c : List (Vec ℕ Global)) → ((q : List ℕ) → S q ↔ (P q ⊎ Q q)) → AddsPaths P a b → AddsPaths Q b c →
+    AddsPaths S a c
 adds_more P Q S a b c are first second = record {
   each = λ q. (
     λ has. ⊎_elim
-        (λ (h : Contains (bytes_of_paths b) q). ⊎_elim (λ (o : Contains (bytes_of_paths a) q). inl o) (λ (x : P q). inr ((are q).1 (inl x))) ((first.each q).0 h))
+        (λ (h : Contains (bytes_of_paths b) q). ⊎_elim (λ (o : Contains (bytes_of_paths a) q). inl o) (λ (x : P q). inr ((are q).1 (inl x)))
+        ((first.each q).0 h))
         (λ (y : Q q). inr ((are q).1 (inr y)))
         ((second.each q).0 has),
     λ either. (second.each q).1 (⊎_elim
@@ -108,7 +118,8 @@ adds_as P Q a b are adds = record {
 }
 
 pub holds_none : (P : List ℕ → Type 0) (ks : List (Vec ℕ Global)) → ks ≡ [] → ((q : List ℕ) → P q → ⊥) → HoldsPaths P ks
-holds_none P ks e none = subst (λ (z : List (Vec ℕ Global)). HoldsPaths P z) (sym e) (record { each = λ q. (λ h. absurd (none_held q h), λ s. absurd (none q s)) })
+holds_none P ks e none = subst (λ (z : List (Vec ℕ Global)). HoldsPaths P z) (sym e)
+    (record { each = λ q. (λ h. absurd (none_held q h), λ s. absurd (none q s)) })
 
 pub holds_more : (P Q S : List ℕ → Type 0) (a b : List (Vec ℕ Global)) → ((q : List ℕ) → S q ↔ (P q ⊎ Q q)) → HoldsPaths P a → AddsPaths Q a b → HoldsPaths S b
 holds_more P Q S a b are holds adds = record {
@@ -140,8 +151,10 @@ stands_number : (q : List ℕ) (o : Option (Vec ℕ Global)) → StandsFor o q �
 stands_number q None h = h
 stands_number q (Some v) h = ap Some (sym h)
 
-pub imports_are : (file : FileParts) (imports : List FileImport) → ListsImports (source_of file) imports → (q : List ℕ) → ImportsPath (source_of file) q ↔ SomeStandFor imports q
+pub imports_are : (file : FileParts) (imports : List FileImport) → ListsImports (source_of file) imports → (q : List ℕ) →
+    ImportsPath (source_of file) q ↔ SomeStandFor imports q
 imports_are file imports lists q = (
   λ i. let w = (are_imports file (q ∷ []) imports lists 0).0 (q, refl, i) in (w.0, (w.1, number_stands q w.0.path w.2)),
-  λ s. let w = (are_imports file (q ∷ []) imports lists 0).1 (s.0, s.1.0, stands_number q s.0.path s.1.1) in subst (ImportsPath (source_of file)) (sym (same_Some q w.0 w.1)) w.2,
+  λ s. let w = (are_imports file (q ∷ []) imports lists 0).1 (s.0, s.1.0, stands_number q s.0.path s.1.1) in
+      subst (ImportsPath (source_of file)) (sym (same_Some q w.0 w.1)) w.2,
 )

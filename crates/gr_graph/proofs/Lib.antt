@@ -2,8 +2,7 @@
 pub mod Reached
 pub mod SearchSteps
 pub mod Held
-pub mod Cycles
-pub mod Ordered
+pub mod Closed
 pub mod Noted
 pub mod Answered
 pub mod ImportViews
@@ -16,4 +15,5 @@ pub mod ImportedPaths
 pub mod Linked
 pub mod SameFiles
 pub mod StayingPackages
+pub mod PartPackages
 pub mod Asked

@@ -30,7 +30,8 @@ first_or_later P x xs first later y (zero, within, is) = subst P is first
 first_or_later P x xs first later y (suc k, within, is) = later y (k, omega (arith, within), is)
 
 -- ---- files and their trees
-pub tree_is_of : {es : List (List ℕ × List ℕ)} {ts : List FileParts} {fs : List FaultyParts} → AreParsed es ts fs → (t : FileParts) → Contains ts t → (e : List ℕ × List ℕ) × Contains es e × IsParsed e.0 e.1 (source_of t)
+pub tree_is_of : {es : List (List ℕ × List ℕ)} {ts : List FileParts} {fs : List FaultyParts} → AreParsed es ts fs → (t : FileParts) → Contains ts t →
+    (e : List ℕ × List ℕ) × Contains es e × IsParsed e.0 e.1 (source_of t)
 tree_is_of none t has = absurd (none_held t has)
 tree_is_of (tree {e = e} {es = es} {t = s} {ts = ts} is parsed) t has =
     first_or_later (λ t. (d : List ℕ × List ℕ) × Contains (e ∷ es) d × IsParsed d.0 d.1 (source_of t)) s ts
@@ -39,7 +40,8 @@ tree_is_of (tree {e = e} {es = es} {t = s} {ts = ts} is parsed) t has =
     t has
 tree_is_of (fault {e = e} {es = es} is parsed) t has = let w = tree_is_of parsed t has in (w.0, has_later e es w.0 w.1, w.2)
 
-pub tree_of : {es : List (List ℕ × List ℕ)} {ts : List FileParts} {fs : List FaultyParts} → AreParsed es ts fs → (e : List ℕ × List ℕ) → Contains es e → (file : SourceFile) → IsParsed e.0 e.1 file → (t : FileParts) × Contains ts t × (file ≡ source_of t)
+pub tree_of : {es : List (List ℕ × List ℕ)} {ts : List FileParts} {fs : List FaultyParts} → AreParsed es ts fs → (e : List ℕ × List ℕ) → Contains es e →
+    (file : SourceFile) → IsParsed e.0 e.1 file → (t : FileParts) × Contains ts t × (file ≡ source_of t)
 tree_of none e has file parsed = absurd (none_held e has)
 tree_of (tree {e = d} {es = es} {t = s} {ts = ts} is rest) e has file parsed =
     first_or_later (λ e. IsParsed e.0 e.1 file → (t : FileParts) × Contains (s ∷ ts) t × (file ≡ source_of t)) d es
@@ -87,7 +89,8 @@ module _ (w : Workspace) (ps : List Package) (g : Links) (paths : paths_of ps �
   is_imports : (i j : ℕ) (p q : List ℕ) → slice_get (paths_of ps) i ≡ Some p → slice_get (paths_of ps) j ≡ Some q → PackageImports w p q → Imports g i j
   is_imports i j p q at_i at_j pi =
       let here = package_at ps i p at_i in
-      let found = tree_of (parsed i here.0 here.1) pi.entry (subst (λ (path : List ℕ). Contains (package_files w path) pi.entry) (sym here.2) pi.of_package) pi.file pi.parsed in
+      let found = tree_of (parsed i here.0 here.1) pi.entry (subst (λ (path : List ℕ). Contains (package_files w path) pi.entry) (sym here.2) pi.of_package)
+      pi.file pi.parsed in
       ((row_at i here.0 here.1).each j).1 (found.0, found.1, (q, at_j, subst (λ (f : SourceFile). ImportsPath f q) found.2 pi.imports))
 
   below : (i : ℕ) → i < length g → (j : ℕ) → Imports g i j → j < length g
@@ -98,7 +101,9 @@ module _ (w : Workspace) (ps : List Package) (g : Links) (paths : paths_of ps �
       omega (arith, size, slice_get_within (paths_of ps) j some.2.0 some.2.1)
 
   pub are_linked : AreLinked g
-  are_linked = All-from_get_or (λ row. All (λ j. j < length g) row) g [] (λ i within. All-from_get_or (λ j. j < length g) (imports_of g i) 0 (λ k h. below i within (get_or (imports_of g i) k 0) (Contains-get_or (imports_of g i) k 0 h)))
+  are_linked = All-from_get_or (λ row. All (λ j. j < length g) row) g []
+      (λ i within. All-from_get_or (λ j. j < length g) (imports_of g i) 0
+      (λ k h. below i within (get_or (imports_of g i) k 0) (Contains-get_or (imports_of g i) k 0 h)))
 
   pub are_links : AreLinksOf w g
   are_links = record {

@@ -21,7 +21,8 @@ use Rattle.gr_graph.proofs.Filled.{path_at}
 abbrev pub search_cmp : List ℕ → Package → Ordering
 search_cmp path p = path_cmp p.path.items path
 
-pub found_is : (ps : List Package) (path : List ℕ) (n : ℕ) → n < length ps → HoldsAt (λ p. search_cmp path p ≡ Equal) ps n → slice_get (paths_of ps) n ≡ Some path
+pub found_is : (ps : List Package) (path : List ℕ) (n : ℕ) → n < length ps → HoldsAt (λ p. search_cmp path p ≡ Equal) ps n →
+    slice_get (paths_of ps) n ≡ Some path
 found_is [] path n within at = absurd (omega arith)
 found_is (p ∷ ps) path n within at =
     path_at (p ∷ ps) n (get_or (p ∷ ps) n p) (slice_get-get_or (p ∷ ps) n p within)
@@ -32,8 +33,11 @@ rises : (ps : List Package) (path : List ℕ) → IsStrictlySortedBy path_cmp (p
 rises ps path sorted = searchable_from_sorted path_cmp_total (λ (p : Package). p.path.items) ps path (λ k d low within.
     let first = get_or-map (λ (p : Package). p.path.items) ps k d d.path.items (omega arith) in
     let second = get_or-map (λ (p : Package). p.path.items) ps (k + 1) d d.path.items within in
-    let less = Less-from_sorted path_cmp (paths_of ps) k (k + 1) d.path.items sorted (omega arith) (subst (λ (n : ℕ). k + 1 < n) (sym (length-map ps (λ (p : Package). p.path.items))) within) in
-    let here : path_cmp (get_or ps k d).path.items (get_or ps (k + 1) d).path.items ≡ Less = subst (λ (x : List ℕ). path_cmp x (get_or ps (k + 1) d).path.items ≡ Less) first (subst (λ (y : List ℕ). path_cmp (get_or (paths_of ps) k d.path.items) y ≡ Less) second less) in
+    let less = Less-from_sorted path_cmp (paths_of ps) k (k + 1) d.path.items sorted (omega arith)
+    (subst (λ (n : ℕ). k + 1 < n) (sym (length-map ps (λ (p : Package). p.path.items))) within) in
+    let here : path_cmp (get_or ps k d).path.items (get_or ps (k + 1) d).path.items ≡ Less =
+    subst (λ (x : List ℕ). path_cmp x (get_or ps (k + 1) d).path.items ≡ Less) first
+    (subst (λ (y : List ℕ). path_cmp (get_or (paths_of ps) k d.path.items) y ≡ Less) second less) in
     ap is_lt (path_cmp_total.antisymm (get_or ps (k + 1) d).path.items (get_or ps k d).path.items ∙ ap ordering_reverse here))
 
 not_tied : (o : Ordering) (x y : List ℕ) → path_cmp x y ≡ o → (o ≡ Equal → ⊥) → x ≡ y → ⊥
@@ -45,7 +49,8 @@ less_differs e = true≢false (ap is_lt e)
 greater_differs : Greater ≡ Equal → ⊥
 greater_differs e = true≢false (ap is_gt e)
 
-none_in : (ps : List Package) (path : List ℕ) (i : ℕ) → IsPartitionPoint (λ p. search_cmp path p ≡ Less) (λ p. search_cmp path p ≡ Greater) ps i → Contains (paths_of ps) path → ⊥
+none_in : (ps : List Package) (path : List ℕ) (i : ℕ) → IsPartitionPoint (λ p. search_cmp path p ≡ Less) (λ p. search_cmp path p ≡ Greater) ps i →
+    Contains (paths_of ps) path → ⊥
 none_in [] path i split has = absurd (omega (arith, has.1))
 none_in (p ∷ ps) path i split has =
     let k = has.0 in
@@ -58,6 +63,7 @@ none_in (p ∷ ps) path i split has =
     (cases_lt k i)
 
 pub none_is : (ps : List Package) (path : List ℕ) (i : ℕ) → IsStrictlySortedBy path_cmp (paths_of ps)
-    → (IsNonDecreasingBy (λ y. ordering_index (search_cmp path y)) ps → IsPartitionPoint (λ p. search_cmp path p ≡ Less) (λ p. search_cmp path p ≡ Greater) ps i)
+    → (IsNonDecreasingBy (λ y. ordering_index (search_cmp path y)) ps →
+    IsPartitionPoint (λ p. search_cmp path p ≡ Less) (λ p. search_cmp path p ≡ Greater) ps i)
     → Contains (paths_of ps) path → ⊥
 none_is ps path i sorted found = none_in ps path i (found (rises ps path sorted))

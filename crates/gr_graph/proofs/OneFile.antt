@@ -34,7 +34,8 @@ is_whole (Faulty kind left) = false
 pub sound_or_fault : (text : List ℕ) (fault : Fault) → IsSound text → IsFaultOf text fault → ⊥
 sound_or_fault text fault sound faulty =
     ⊎_elim
-    (λ (first : IsFirstFault text fault). cut_or_fault text sound.cut.pieces fault (subst (λ (t : List ℕ). IsCut t sound.cut.pieces) sound.of_text sound.is_cut) first)
+    (λ (first : IsFirstFault text fault). cut_or_fault text sound.cut.pieces fault
+    (subst (λ (t : List ℕ). IsCut t sound.cut.pieces) sound.of_text sound.is_cut) first)
     (λ (tokens : IsFaultOfTokens text fault).
     let cuts : sound.cut ≡ tokens.cut = same_cut sound.cut tokens.cut (sound.of_text ∙ sym tokens.of_text) sound.is_cut tokens.is_cut in
     let whole : IsWhole (kinds_of tokens.cut) = subst (λ (c : CutText). IsWhole (kinds_of c)) cuts sound.whole in

@@ -1,5 +1,6 @@
 -- The paths of a workspace's packages are in order, each once, and hold the folder of each Go file.
-use Rattle.std.proofs.Common.{◌≡◌, ℕ, ◌<◌, Bool, true, false, ◌&&◌, ◌||◌, List, [], ◌∷◌, map, filter, Option, Some, None, is_some, ◌≤◌, slice_get, refl, sym, ap, subst, ◌∙◌, ⊎_elim, arith, cond, Bor}
+use Rattle.std.proofs.Common.{◌≡◌, ℕ, ◌<◌, Bool, true, false, ◌&&◌, ◌||◌, List, [], ◌∷◌, map, filter, Option, Some, None, is_some, ◌≤◌, slice_get, refl}
+use Rattle.std.proofs.Common.{sym, ap, subst, ◌∙◌, ⊎_elim, arith, cond, Bor}
 use Rattle.std.proofs.Common.{T}
 use Rattle.std.specs.declared.cmp.Ordering.{Ordering}
 use Rattle.std.specs.declared.cmp.Ordering.TheVariants.{Less, Equal, Greater}
@@ -8,7 +9,8 @@ use Rattle.std.specs.BTreeSet.{insert_key}
 use Rattle.std.specs.Cmp.{tied_itself, Equal-is}
 use Rattle.std.specs.List.{list_any, Contains, AllByRecursion}
 use Rattle.std.specs.List.Sorted.{IsStrictlySortedBy}
-use Rattle.std.specs.FinMap.{FinMap, entries, keys, contains_key, entries_sorted, from_sorted, entries-from_sorted, is_sorted, same_map, contains_key-keys, get-from_entries}
+use Rattle.std.specs.FinMap.{FinMap, entries, keys, contains_key, entries_sorted, from_sorted, entries-from_sorted, is_sorted, same_map, contains_key-keys}
+use Rattle.std.specs.FinMap.{get-from_entries}
 use Rattle.std.specs.FinMap.Entries.{below_all, is_some-find}
 use Rattle.std.proofs.lemmas.Bool.{true≢false, cases_lt}
 use Rattle.std.proofs.lemmas.Option.{slice_get_within, get_or_from_slice_get}
@@ -80,17 +82,18 @@ made_keys : (ks : List (List ℕ)) → IsStrictlySortedBy path_cmp ks → keys (
 made_keys ks sorted = ap (λ es. map (λ e. e.0) es) (entries-from_sorted path_cmp (units ks) (made ks sorted)) ∙ units_names ks
 
 -- names in order are the keys of a map that has just these
-keys_are : (m : FinMap path_cmp (Unit {0})) (ks : List (List ℕ)) → IsStrictlySortedBy path_cmp ks → ((q : List ℕ) → contains_key m q ≡ list_any (eq_by_cmp path_cmp q) ks) → keys m ≡ ks
+keys_are : (m : FinMap path_cmp (Unit {0})) (ks : List (List ℕ)) → IsStrictlySortedBy path_cmp ks →
+    ((q : List ℕ) → contains_key m q ≡ list_any (eq_by_cmp path_cmp q) ks) → keys m ≡ ks
 keys_are m ks sorted same =
     ap keys (same_map path_cmp_total path_cmp_exact m (from_sorted (units ks)) (λ q. some_there _ _
     (same q ∙ ap (λ ns. list_any (eq_by_cmp path_cmp q) ns) (sym (made_keys ks sorted)) ∙ sym (contains_key-keys (from_sorted (units ks)) q))))
     ∙ made_keys ks sorted
 
-abbrev go_folders : List (List ℕ × List ℕ) → List (List ℕ)
+abbrev pub go_folders : List (List ℕ × List ℕ) → List (List ℕ)
 go_folders es = map folder (filter is_go (map (λ e. e.0) es))
 
 -- what the folders of a workspace are
-has_folder : (w : Workspace) (q : List ℕ) → contains_key (folders w) q ≡ list_any (eq_by_cmp path_cmp q) (go_folders (entries w))
+pub has_folder : (w : Workspace) (q : List ℕ) → contains_key (folders w) q ≡ list_any (eq_by_cmp path_cmp q) (go_folders (entries w))
 has_folder w q =
     let paths = filter is_go (map (λ e. e.0) (entries w)) in
     ap is_some (get-from_entries path_cmp_total (map (λ path. (folder path, tt)) paths) q)
@@ -101,7 +104,8 @@ has_folder w q =
     paths_names [] = refl
     paths_names (p ∷ ps) = ap (λ rest. folder p ∷ rest) (paths_names ps)
 
-pub paths_are : (w : Workspace) (ks : List (List ℕ)) → IsStrictlySortedBy path_cmp ks → ((q : List ℕ) → list_any (eq_by_cmp path_cmp q) ks ≡ list_any (eq_by_cmp path_cmp q) (go_folders (entries w))) → package_paths w ≡ ks
+pub paths_are : (w : Workspace) (ks : List (List ℕ)) → IsStrictlySortedBy path_cmp ks →
+    ((q : List ℕ) → list_any (eq_by_cmp path_cmp q) ks ≡ list_any (eq_by_cmp path_cmp q) (go_folders (entries w))) → package_paths w ≡ ks
 paths_are w ks sorted same = keys_are (folders w) ks sorted (λ q. has_folder w q ∙ sym (same q))
 
 -- ---- one more folder
@@ -144,26 +148,32 @@ has_inserted (x ∷ xs) k q =
 
 -- the folders that were found, with those of the files that are left, are those of all
 abbrev pub AreFound : List (List ℕ × List ℕ) → List (List ℕ × List ℕ) → List (Bor (List ℕ)) → Type 0
-AreFound all left ks = (q : List ℕ) → (list_any (eq_by_cmp path_cmp q) (names ks) || list_any (eq_by_cmp path_cmp q) (go_folders left)) ≡ list_any (eq_by_cmp path_cmp q) (go_folders all)
+AreFound all left ks = (q : List ℕ) → (list_any (eq_by_cmp path_cmp q) (names ks) || list_any (eq_by_cmp path_cmp q) (go_folders left)) ≡ list_any
+    (eq_by_cmp path_cmp q) (go_folders all)
 
-pub found_skip : (all : List (List ℕ × List ℕ)) (e : List ℕ × List ℕ) (left : List (List ℕ × List ℕ)) (ks : List (Bor (List ℕ))) → is_go e.0 ≡ false → AreFound all (e ∷ left) ks → AreFound all left ks
+pub found_skip : (all : List (List ℕ × List ℕ)) (e : List ℕ × List ℕ) (left : List (List ℕ × List ℕ)) (ks : List (Bor (List ℕ))) → is_go e.0 ≡ false →
+    AreFound all (e ∷ left) ks → AreFound all left ks
 found_skip all e left ks not_go found q =
-    ap (λ (b : Bool). list_any (eq_by_cmp path_cmp q) (names ks) || list_any (eq_by_cmp path_cmp q) (map folder (cond b (e.0 ∷ filter is_go (map (λ d. d.0) left)) (filter is_go (map (λ d. d.0) left))))) (sym not_go)
+    ap (λ (b : Bool). list_any (eq_by_cmp path_cmp q) (names ks) || list_any (eq_by_cmp path_cmp q)
+    (map folder (cond b (e.0 ∷ filter is_go (map (λ d. d.0) left)) (filter is_go (map (λ d. d.0) left))))) (sym not_go)
     ∙ found q
 
-pub found_add : (all : List (List ℕ × List ℕ)) (e : List ℕ × List ℕ) (left : List (List ℕ × List ℕ)) (ks : List (Bor (List ℕ))) (k : Bor (List ℕ)) → is_go e.0 ≡ true → k.now ≡ folder e.0 → AreFound all (e ∷ left) ks → AreFound all left (insert_key folder_cmp ks k)
+pub found_add : (all : List (List ℕ × List ℕ)) (e : List ℕ × List ℕ) (left : List (List ℕ × List ℕ)) (ks : List (Bor (List ℕ))) (k : Bor (List ℕ)) →
+    is_go e.0 ≡ true → k.now ≡ folder e.0 → AreFound all (e ∷ left) ks → AreFound all left (insert_key folder_cmp ks k)
 found_add all e left ks k go same found q =
     let rest = list_any (eq_by_cmp path_cmp q) (go_folders left) in
     ap (λ (b : Bool). b || rest) (has_inserted ks k q)
     ∙ or_regroup (eq_by_cmp path_cmp q k.now) (list_any (eq_by_cmp path_cmp q) (names ks)) rest
     ∙ ap (λ (f : List ℕ). list_any (eq_by_cmp path_cmp q) (names ks) || (eq_by_cmp path_cmp q f || rest)) same
-    ∙ ap (λ (b : Bool). list_any (eq_by_cmp path_cmp q) (names ks) || list_any (eq_by_cmp path_cmp q) (map folder (cond b (e.0 ∷ filter is_go (map (λ d. d.0) left)) (filter is_go (map (λ d. d.0) left))))) (sym go)
+    ∙ ap (λ (b : Bool). list_any (eq_by_cmp path_cmp q) (names ks) || list_any (eq_by_cmp path_cmp q)
+    (map folder (cond b (e.0 ∷ filter is_go (map (λ d. d.0) left)) (filter is_go (map (λ d. d.0) left))))) (sym go)
     ∙ found q
 
 pub found_all : (w : Workspace) (ks : List (Bor (List ℕ))) → AreFound (entries w) [] ks → IsStrictlySortedBy path_cmp (names ks) → names ks ≡ package_paths w
 found_all w ks found sorted = sym (paths_are w (names ks) sorted (λ q. sym (or_false _) ∙ found q))
 
-below_names : (k : Bor (List ℕ)) (ks : List (Bor (List ℕ))) → AllByRecursion (λ y. folder_cmp k y ≡ Less) ks → AllByRecursion (λ y. path_cmp k.now y ≡ Less) (names ks)
+below_names : (k : Bor (List ℕ)) (ks : List (Bor (List ℕ))) → AllByRecursion (λ y. folder_cmp k y ≡ Less) ks →
+    AllByRecursion (λ y. path_cmp k.now y ≡ Less) (names ks)
 below_names k [] h = tt
 below_names k (x ∷ ks) h = (h.0, below_names k ks h.1)
 
@@ -193,26 +203,29 @@ one_number ks sorted i j p a b =
     (cases_lt i j)
 
 -- ---- the folder of a Go file
-exact_names : (x y : List ℕ) → eq_by_cmp path_cmp x y ≡ true → x ≡ y
+pub exact_names : (x y : List ℕ) → eq_by_cmp path_cmp x y ≡ true → x ≡ y
 exact_names x y e = path_cmp_exact x y ((Equal-is (path_cmp x y)).0 e)
 
 -- each Go file's folder is among some paths
 abbrev pub AreThere : List (List ℕ) → List (List ℕ × List ℕ) → Type 0
 AreThere paths es = AllByRecursion (λ e. is_go e.0 ≡ true → Contains paths (folder e.0)) es
 
-there_by : (paths : List (List ℕ)) (es : List (List ℕ × List ℕ)) → ((q : List ℕ) → list_any (eq_by_cmp path_cmp q) (go_folders es) ≡ true → Contains paths q) → AreThere paths es
+there_by : (paths : List (List ℕ)) (es : List (List ℕ × List ℕ)) →
+    ((q : List ℕ) → list_any (eq_by_cmp path_cmp q) (go_folders es) ≡ true → Contains paths q) → AreThere paths es
 there_by paths [] all = tt
 there_by paths (e ∷ es) all = (
-  λ go. all (folder e.0) (ap (λ b. list_any (eq_by_cmp path_cmp (folder e.0)) (map folder (cond b (e.0 ∷ filter is_go (map (λ d. d.0) es)) (filter is_go (map (λ d. d.0) es))))) go
+  λ go. all (folder e.0) (ap (λ b. list_any (eq_by_cmp path_cmp (folder e.0))
+      (map folder (cond b (e.0 ∷ filter is_go (map (λ d. d.0) es)) (filter is_go (map (λ d. d.0) es))))) go
       ∙ ap (λ o. is_eq o || list_any (eq_by_cmp path_cmp (folder e.0)) (go_folders es)) (tied_itself path_cmp_total (folder e.0))),
   there_by paths es (λ q one. all q (more q one)),
 )
   where
     more : (q : List ℕ) → list_any (eq_by_cmp path_cmp q) (go_folders es) ≡ true → list_any (eq_by_cmp path_cmp q) (go_folders (e ∷ es)) ≡ true
-    more q one = elim (is_go e.0) as (λ b. list_any (eq_by_cmp path_cmp q) (map folder (cond b (e.0 ∷ filter is_go (map (λ d. d.0) es)) (filter is_go (map (λ d. d.0) es)))) ≡ true) [
-      | true ↦ ap (λ b. eq_by_cmp path_cmp q (folder e.0) || b) one ∙ or_true _
-      | false ↦ one
-    ]
+    more q one = elim (is_go e.0) as (λ b. list_any (eq_by_cmp path_cmp q)
+        (map folder (cond b (e.0 ∷ filter is_go (map (λ d. d.0) es)) (filter is_go (map (λ d. d.0) es)))) ≡ true) [
+          | true ↦ ap (λ b. eq_by_cmp path_cmp q (folder e.0) || b) one ∙ or_true _
+          | false ↦ one
+        ]
 
 pub all_there : (w : Workspace) → AreThere (package_paths w) (entries w)
 all_there w = there_by (package_paths w) (entries w) (λ q one.

@@ -50,7 +50,8 @@ module _ (test : List ℕ → Bool) where
   found_passed : (q : List ℕ) (es : Files) → find path_cmp q (passed es) ≡ cond (test q) (find path_cmp q es) None
   found_passed q [] = either_way (test q) None
   found_passed q (e ∷ es) =
-      elim (eq_by_cmp path_cmp q e.0) as (λ t. eq_by_cmp path_cmp q e.0 ≡ t → find path_cmp q (passed (e ∷ es)) ≡ cond (test q) (cond t (Some e.1) (find path_cmp q es)) None) [
+      elim (eq_by_cmp path_cmp q e.0) as (λ t. eq_by_cmp path_cmp q e.0 ≡ t →
+      find path_cmp q (passed (e ∷ es)) ≡ cond (test q) (cond t (Some e.1) (find path_cmp q es)) None) [
         | true ↦ λ tied.
             let same : q ≡ e.0 = path_cmp_exact q e.0 ((Equal-is (path_cmp q e.0)).0 tied) in
             subst (λ b. find path_cmp q (passed (e ∷ es)) ≡ cond b (Some e.1) None) (sym (ap test same))
@@ -91,11 +92,13 @@ module _ (test : List ℕ → Bool) where
     pub one_list : passed (entries w) ≡ passed (entries v)
     one_list =
         sym (entries-from_sorted path_cmp (passed (entries w)) (ordered w))
-        ∙ ap entries (same_map path_cmp_total path_cmp_exact (from_sorted (passed (entries w))) (from_sorted (passed (entries v))) (λ q. at w q ∙ agree q ∙ sym (at v q)))
+        ∙ ap entries (same_map path_cmp_total path_cmp_exact (from_sorted (passed (entries w))) (from_sorted (passed (entries v)))
+        (λ q. at w q ∙ agree q ∙ sym (at v q)))
         ∙ entries-from_sorted path_cmp (passed (entries v)) (ordered v)
 
 -- two workspaces that differ only in some folders have the same files in any other
-pub same_files : (folders : List (List ℕ)) (v w : Workspace) → DiffersOnlyIn folders v w → (p : List ℕ) → (Contains folders p → ⊥) → package_files w p ≡ package_files v p
+pub same_files : (folders : List (List ℕ)) (v w : Workspace) → DiffersOnlyIn folders v w → (p : List ℕ) → (Contains folders p → ⊥) →
+    package_files w p ≡ package_files v p
 same_files folders v w same p apart = one_list (is_of_package p) v w (λ q is.
     let parts = and_parts (is_go q) (pointwise ◌==◌ (folder q) p) is in
     same q parts.0 (λ has. apart (subst (Contains folders) ((bytes_decides (folder q) p).0 parts.1) has)))

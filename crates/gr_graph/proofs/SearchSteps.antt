@@ -1,8 +1,10 @@
 -- How a search begins, and what one more package does to it.
-use Rattle.std.proofs.Common.{◌≡◌, ℕ, zero, suc, ◌+◌, ◌<◌, ◌≤◌, Bool, true, false, cond, List, [], ◌∷◌, ◌++◌, length, get_or, refl, sym, ap, subst, ◌∙◌, ⊎_elim, arith}
+use Rattle.std.proofs.Common.{◌≡◌, ℕ, zero, suc, ◌+◌, ◌<◌, ◌≤◌, Bool, true, false, cond, List, [], ◌∷◌, ◌++◌, length, get_or, refl, sym, ap, subst, ◌∙◌}
+use Rattle.std.proofs.Common.{⊎_elim, arith}
 use Rattle.std.proofs.Math.ListN.{set, replicate}
 use Rattle.std.proofs.lemmas.Bool.{cases_eq, false≢true, cases_lt}
-use Rattle.std.proofs.lemmas.List.{get_or-set_same, get_or-set_other, get_or_append_left, get_or_push, length_push, length-set, length-replicate, get_or-replicate, get_or_past, get_or_default, get_or_read}
+use Rattle.std.proofs.lemmas.List.{get_or-set_same, get_or-set_other, get_or_append_left, get_or_push, length_push, length-set, length-replicate}
+use Rattle.std.proofs.lemmas.List.{get_or-replicate, get_or_past, get_or_default, get_or_read}
 use Rattle.std.proofs.lemmas.List.Sums.{sum_by-set}
 use Rattle.std.specs.List.{count_by}
 use Rattle.std.specs.List.{Contains}
@@ -38,17 +40,21 @@ at_new found place n i h = get_or_push found (record { number = n; importer = pl
 -- one more mark
 counted_set : (marks : List Bool) (n : ℕ) → n < length marks → get_or marks n false ≡ false → count_by (λ m. m) (set marks n true) ≡ count_by (λ m. m) marks + 1
 counted_set marks n within fresh =
-    let e : count_by (λ m. m) (set marks n true) + 0 ≡ count_by (λ m. m) marks + 1 = subst (λ (m : Bool). count_by (λ k. k) (set marks n true) + cond m 1 0 ≡ count_by (λ k. k) marks + 1) fresh (sum_by-set (λ (m : Bool). cond m 1 0) marks n true false within) in
+    let e : count_by (λ m. m) (set marks n true) + 0 ≡ count_by (λ m. m) marks + 1 =
+    subst (λ (m : Bool). count_by (λ k. k) (set marks n true) + cond m 1 0 ≡ count_by (λ k. k) marks + 1) fresh
+    (sum_by-set (λ (m : Bool). cond m 1 0) marks n true false within) in
     omega arith
 
-counted_more : (found : List Found) (marks : List Bool) (place n : ℕ) → n < length marks → get_or marks n false ≡ false → length found ≡ count_by (λ m. m) marks → length (longer found place n) ≡ count_by (λ m. m) (set marks n true)
+counted_more : (found : List Found) (marks : List Bool) (place n : ℕ) → n < length marks → get_or marks n false ≡ false →
+    length found ≡ count_by (λ m. m) marks → length (longer found place n) ≡ count_by (λ m. m) (set marks n true)
 counted_more found marks place n within fresh h =
     let e = counted_set marks n within fresh in
     let l = length_push found (record { number = n; importer = place }) in
     omega arith
 
 -- one more package, which one that was found imports
-pub IsSearch-add : (g : Links) (found : List Found) (marks : List Bool) (place n : ℕ) → IsSearch g found marks → place < length found → n < length g → get_or marks n false ≡ false → Imports g (package_at found place) n → IsSearch g (longer found place n) (set marks n true)
+pub IsSearch-add : (g : Links) (found : List Found) (marks : List Bool) (place n : ℕ) → IsSearch g found marks → place < length found → n < length g →
+    get_or marks n false ≡ false → Imports g (package_at found place) n → IsSearch g (longer found place n) (set marks n true)
 IsSearch-add g found marks place n s p within fresh imports =
     let l : length (longer found place n) ≡ length found + 1 = length_push found (record { number = n; importer = place }) in
     let in_marks : n < length marks = omega (arith, s.size) in
@@ -57,8 +63,10 @@ IsSearch-add g found marks place n s p within fresh imports =
       counted = counted_more found marks place n in_marks fresh s.counted;
       begun = omega (arith, s.begun);
       marked = λ i h. ⊎_elim
-          (λ (b : i < length found). marked_stays marks n (package_at (longer found place n) i) (subst (λ (f : Found). IsMarked marks f.number) (sym (at_old found place n i b)) (s.marked i b)))
-          (λ (b : length found ≤ i). subst (λ (f : Found). IsMarked (set marks n true) f.number) (sym (at_new found place n i (omega arith))) (get_or-set_same marks n true false in_marks))
+          (λ (b : i < length found). marked_stays marks n (package_at (longer found place n) i)
+          (subst (λ (f : Found). IsMarked marks f.number) (sym (at_old found place n i b)) (s.marked i b)))
+          (λ (b : length found ≤ i). subst (λ (f : Found). IsMarked (set marks n true) f.number) (sym (at_new found place n i (omega arith)))
+          (get_or-set_same marks n true false in_marks))
           (cases_lt i (length found));
       places = λ q m. ⊎_elim
           (λ (e : q ≡ n). (length found, omega arith, ap (λ (f : Found). f.number) (at_new found place n (length found) refl) ∙ sym e))
@@ -71,8 +79,10 @@ IsSearch-add g found marks place n s p within fresh imports =
           (cases_lt i (length found));
       linked = λ i b h. ⊎_elim
           (λ (o : i < length found). subst (λ (f : Found). Imports g (package_at (longer found place n) f.importer) f.number) (sym (at_old found place n i o))
-          (subst (λ (f : Found). Imports g f.number (package_at found i)) (sym (at_old found place n (importer_at found i) (omega (arith, s.earlier i b o)))) (s.linked i b o)))
-          (λ (o : length found ≤ i). subst (λ (f : Found). Imports g (package_at (longer found place n) f.importer) f.number) (sym (at_new found place n i (omega arith)))
+          (subst (λ (f : Found). Imports g f.number (package_at found i))
+          (sym (at_old found place n (importer_at found i) (omega (arith, s.earlier i b o)))) (s.linked i b o)))
+          (λ (o : length found ≤ i). subst (λ (f : Found). Imports g (package_at (longer found place n) f.importer) f.number)
+          (sym (at_new found place n i (omega arith)))
           (subst (λ (f : Found). Imports g f.number n) (sym (at_old found place n place p)) imports))
           (cases_lt i (length found));
     }
@@ -97,7 +107,8 @@ GoesOn-trans f g h m n o a b =
     }
 
 -- what was followed stays so, and one more is
-pub IsFollowed-more : (g : Links) (f h : List Found) (m n : List Bool) (count : ℕ) → count < length f → GoesOn f m h n → IsFollowed g f m count → ((k : ℕ) → k < length (imports_of g (package_at f count)) → IsMarked n (get_or (imports_of g (package_at f count)) k 0)) → IsFollowed g h n (count + 1)
+pub IsFollowed-more : (g : Links) (f h : List Found) (m n : List Bool) (count : ℕ) → count < length f → GoesOn f m h n → IsFollowed g f m count →
+    ((k : ℕ) → k < length (imports_of g (package_at f count)) → IsMarked n (get_or (imports_of g (package_at f count)) k 0)) → IsFollowed g h n (count + 1)
 IsFollowed-more g f h m n count within on done here i l q imports =
     let old : i < length f = omega arith in
     let there : Imports g (package_at f i) q = subst (λ (x : Found). Imports g x.number q) (on.same i old) imports in
@@ -128,7 +139,8 @@ only : (i : ℕ) → i < 1 → i ≡ 0
 only i l = omega arith
 
 -- a search of one package
-pub IsSearch-one : (g : Links) (start : ℕ) → start < length g → IsSearch g (record { number = start; importer = 0 } ∷ []) (set (replicate (length g) false) start true)
+pub IsSearch-one : (g : Links) (start : ℕ) → start < length g →
+    IsSearch g (record { number = start; importer = 0 } ∷ []) (set (replicate (length g) false) start true)
 IsSearch-one g start h =
     let n = length g in
     let w : start < length (replicate n false) = subst (λ (k : ℕ). start < k) (sym (length-replicate n false)) h in
@@ -136,8 +148,14 @@ IsSearch-one g start h =
       size = length-set (replicate n false) start true ∙ length-replicate n false;
       counted = counted_one n start h;
       begun = omega arith;
-      marked = λ i l. subst (λ (j : ℕ). IsMarked (set (replicate n false) start true) (package_at (record { number = start; importer = 0 } ∷ []) j)) (sym (only i l)) (get_or-set_same (replicate n false) start true false w);
-      places = λ q m. (0, omega arith, ⊎_elim (λ (e : q ≡ start). sym e) (λ (ne : q ≡ start → ⊥). absurd (false≢true (sym (none_marked n q) ∙ marked_before (replicate n false) start q ne m))) (cases_eq q start));
+      marked = λ i l. subst (λ (j : ℕ). IsMarked (set (replicate n false) start true) (package_at (record { number = start; importer = 0 } ∷ []) j))
+          (sym (only i l)) (get_or-set_same (replicate n false) start true false w);
+      places = λ q m. (
+        0,
+        omega arith,
+        ⊎_elim (λ (e : q ≡ start). sym e)
+            (λ (ne : q ≡ start → ⊥). absurd (false≢true (sym (none_marked n q) ∙ marked_before (replicate n false) start q ne m))) (cases_eq q start),
+      );
       earlier = λ i b l. absurd (omega arith);
       linked = λ i b l. absurd (omega arith);
     }
@@ -159,7 +177,8 @@ linked_below g p q linked i =
 
 -- what a row holds is imported
 pub row_imports : (g : Links) (p r : ℕ) (row : List ℕ) (k : ℕ) → r ≡ p → row ≡ imports_of g r → k < length row → Imports g p (get_or row k 0)
-row_imports g p r row k same is h = subst (λ (n : ℕ). Imports g n (get_or row k 0)) same (subst (λ (xs : List ℕ). Contains xs (get_or row k 0)) is (Contains-get_or row k 0 h))
+row_imports g p r row k same is h = subst (λ (n : ℕ). Imports g n (get_or row k 0)) same
+    (subst (λ (xs : List ℕ). Contains xs (get_or row k 0)) is (Contains-get_or row k 0 h))
 
 -- what a test of a mark read
 pub mark_read : (marks : List Bool) (n : ℕ) (b v : Bool) → n < length marks → b ≡ get_or marks n b → b ≡ v → get_or marks n false ≡ v

@@ -3,7 +3,7 @@ use Rattle.std.specs.Prelude.{◌≡◌, true, false, [], ◌∷◌, refl}
 use Rattle.std.proofs.Common.{lit<}
 use Rattle.gr_text.specs.Packages.{is_go}
 use Rattle.gr_text.specs.Packages.{files_in}
-use Rattle.gr_graph.specs.Imports.{Links, Imports, Reaches, itself, through, IsOnCycle, IsCycleOf}
+use Rattle.gr_graph.specs.Imports.{Links, Imports, Reaches, itself, through}
 
 abbrev two_and_one : Links
 two_and_one = (1 ∷ []) ∷ (0 ∷ []) ∷ (0 ∷ []) ∷ []
@@ -20,14 +20,9 @@ third_imports_first = (0, lit< tt, refl)
 third_reaches_second : Reaches two_and_one 2 1
 third_reaches_second = through third_imports_first (through first_imports_second (itself (lit< tt)))
 
-first_is_on_cycle : IsOnCycle two_and_one 0
-first_is_on_cycle = (1, first_imports_second, through second_imports_first (itself (lit< tt)))
-
-first_and_second_are_a_cycle : IsCycleOf two_and_one 0 (0 ∷ 1 ∷ [])
-first_and_second_are_a_cycle = (refl, (first_imports_second, second_imports_first))
-
 -- of a/a.go, a/b.go, a/c.txt and b/a.go the Go files of a
-go_files_of_a : files_in (97 ∷ []) ((97 ∷ 47 ∷ 97 ∷ 46 ∷ 103 ∷ 111 ∷ [], []) ∷ (97 ∷ 47 ∷ 98 ∷ 46 ∷ 103 ∷ 111 ∷ [], []) ∷ (97 ∷ 47 ∷ 99 ∷ 46 ∷ 116 ∷ 120 ∷ 116 ∷ [], []) ∷ (98 ∷ 47 ∷ 97 ∷ 46 ∷ 103 ∷ 111 ∷ [], []) ∷ [])
+go_files_of_a : files_in (97 ∷ []) ((97 ∷ 47 ∷ 97 ∷ 46 ∷ 103 ∷ 111 ∷ [], []) ∷ (97 ∷ 47 ∷ 98 ∷ 46 ∷ 103 ∷ 111 ∷ [], []) ∷
+    (97 ∷ 47 ∷ 99 ∷ 46 ∷ 116 ∷ 120 ∷ 116 ∷ [], []) ∷ (98 ∷ 47 ∷ 97 ∷ 46 ∷ 103 ∷ 111 ∷ [], []) ∷ [])
     ≡ (97 ∷ 47 ∷ 97 ∷ 46 ∷ 103 ∷ 111 ∷ [], []) ∷ (97 ∷ 47 ∷ 98 ∷ 46 ∷ 103 ∷ 111 ∷ [], []) ∷ []
 go_files_of_a = refl
 

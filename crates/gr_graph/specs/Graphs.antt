@@ -1,11 +1,11 @@
 -- The packages of a workspace by their numbers, with their parsed files, and what of the graph is asked by number.
-use Rattle.std.specs.Prelude.{◌≡◌, ℕ, ◌<◌, ◌↔◌, List, [], ◌∷◌, map, length, Some, slice_get}
+use Rattle.std.specs.Prelude.{◌≡◌, ℕ, ◌<◌, ◌↔◌, List, [], map, length, Some, slice_get}
 use Rattle.std.specs.List.{Contains}
 use Rattle.std.specs.List.Sorted.{IsStrictlyIncreasing}
 use Rattle.gr_text.specs.Workspace.{Workspace}
 use Rattle.gr_graph.specs.Imports.{Links, imports_of}
 use Rattle.gr_text.specs.Packages.{package_paths, package_files}
-use Rattle.gr_graph.specs.Packages.{AreLinksOf, PackageImports, IsInClosure}
+use Rattle.gr_graph.specs.Packages.{AreLinksOf}
 use Rattle.gr_graph.specs.Parsed.{AreParsed}
 use Rattle.gr_graph.specs.declared.package.Package.{Package}
 
@@ -36,26 +36,3 @@ HoldsPackages w P numbers = (i : ℕ) → Contains numbers i ↔ ((q : List ℕ)
 -- what holds of the package of a number
 abbrev pub OfPackage : Workspace → ℕ → (List ℕ → Type 0) → Type 0
 OfPackage w number P = (p : List ℕ) → slice_get (package_paths w) number ≡ Some p → P p
-
-abbrev pub IsOnImportCycle : Workspace → List ℕ → Type 0
-IsOnImportCycle w p = (q : List ℕ) × PackageImports w p q × IsInClosure w q p
-
--- numbers of packages, each imported by the one before, from p on, and the last imports the one behind them
-abbrev pub LeadsTo : Workspace → List ℕ → List ℕ → List ℕ → Type 0
-LeadsTo w p [] last = PackageImports w p last
-LeadsTo w p (i ∷ is) last = (q : List ℕ) × (slice_get (package_paths w) i ≡ Some q) × PackageImports w p q × LeadsTo w q is last
-
--- numbers of packages from p back to p, each importing the next
-abbrev pub IsImportCycle : Workspace → List ℕ → List ℕ → Type 0
-IsImportCycle w p [] = ⊥
-IsImportCycle w p (i ∷ is) = (slice_get (package_paths w) i ≡ Some p) × LeadsTo w p is p
-
--- no package in the closure of p is on a cycle
-abbrev pub ReachesNoImportCycle : Workspace → List ℕ → Type 0
-ReachesNoImportCycle w p = (q : List ℕ) → IsInClosure w p q → IsOnImportCycle w q → ⊥
-
--- each package that reaches no cycle, once, behind all that it imports
-pub record IsPackageOrder (w : Workspace) (order : List ℕ) : Type 0 where
-  pub each : HoldsPackages w (ReachesNoImportCycle w) order
-  pub once : (i j : ℕ) (n : ℕ) → slice_get order i ≡ Some n → slice_get order j ≡ Some n → i ≡ j
-  pub behind : (i m n : ℕ) (p q : List ℕ) → slice_get order i ≡ Some m → slice_get (package_paths w) m ≡ Some p → slice_get (package_paths w) n ≡ Some q → PackageImports w p q → (j : ℕ) × (j < i) × (slice_get order j ≡ Some n)

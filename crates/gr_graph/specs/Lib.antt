@@ -12,3 +12,4 @@ pub mod Graphs
 pub mod Rows
 pub mod Filling
 pub mod Staying
+pub mod Parts

@@ -16,8 +16,10 @@ pub record IsFaulty (path : List ℕ) (text : List ℕ) (file : FaultyParts) : T
 -- Of some files with their texts, in their order: the trees of those that have one, and the others with their first faults.
 pub data AreParsed : List (List ℕ × List ℕ) → List FileParts → List FaultyParts → Type 0 where
   none : AreParsed [] [] []
-  tree : {e : List ℕ × List ℕ} {es : List (List ℕ × List ℕ)} {t : FileParts} {ts : List FileParts} {fs : List FaultyParts} → IsParsed e.0 e.1 (source_of t) → AreParsed es ts fs → AreParsed (e ∷ es) (t ∷ ts) fs
-  fault : {e : List ℕ × List ℕ} {es : List (List ℕ × List ℕ)} {ts : List FileParts} {f : FaultyParts} {fs : List FaultyParts} → IsFaulty e.0 e.1 f → AreParsed es ts fs → AreParsed (e ∷ es) ts (f ∷ fs)
+  tree : {e : List ℕ × List ℕ} {es : List (List ℕ × List ℕ)} {t : FileParts} {ts : List FileParts} {fs : List FaultyParts} →
+      IsParsed e.0 e.1 (source_of t) → AreParsed es ts fs → AreParsed (e ∷ es) (t ∷ ts) fs
+  fault : {e : List ℕ × List ℕ} {es : List (List ℕ × List ℕ)} {ts : List FileParts} {f : FaultyParts} {fs : List FaultyParts} → IsFaulty e.0 e.1 f →
+      AreParsed es ts fs → AreParsed (e ∷ es) ts (f ∷ fs)
 
 -- the tree of a text, or its first fault
 abbrev pub IsParsedAs : List ℕ → List ℕ → Parsed → Type 0

@@ -1,6 +1,6 @@
 -- What a search among the packages has found, and what it has marked.
 use Rattle.std.specs.Prelude.{ℕ, ◌≡◌, ◌<◌, ◌≤◌, Bool, true, false, List, length, count_by, slice_index_or}
-use Rattle.gr_graph.specs.Imports.{Links, Imports, IsWay, HoldsBelow}
+use Rattle.gr_graph.specs.Imports.{Links, Imports, HoldsBelow}
 use Rattle.gr_graph.specs.declared.search.Found.{Found}
 
 abbrev pub nowhere : Found
@@ -39,7 +39,3 @@ pub record GoesOn (found : List Found) (marks : List Bool) (more : List Found) (
 -- the marked packages below a number, in order
 abbrev pub HoldsMarked : List Bool → ℕ → List ℕ → Type 0
 HoldsMarked marks count list = HoldsBelow (IsMarked marks) count list
-
--- a way to what was found at a place, from the first
-abbrev pub IsWayTo : List Found → ℕ → List ℕ → Type 0
-IsWayTo found place way = (g : Links) (marks : List Bool) (last : ℕ) → IsSearch g found marks → Imports g (package_at found place) last → IsWay g (package_at found 0) way last

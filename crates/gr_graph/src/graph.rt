@@ -1,11 +1,12 @@
 //! The graph of a workspace: its packages with their parsed files, and which imports which.
 ghost use Rattle.std.specs.Prelude.{◌≡◌, ◌<◌, ℕ, length, IfOk, MatchOption, Some, slice_get};
-ghost use Rattle.std.specs.List.{Contains};
+ghost use Rattle.std.specs.List.{All, Contains};
 ghost use Rattle.std.specs.List.Sorted.{IsStrictlyIncreasing};
 ghost use Rattle.gr_graph.specs.Imports.{imports_of};
 ghost use Rattle.gr_text.specs.Packages.{package_paths};
 ghost use Rattle.gr_graph.specs.Packages.{PackageImports, IsInClosure, AreLinksOf};
 ghost use Rattle.gr_graph.specs.Filling.{names};
+ghost use Rattle.gr_graph.specs.Parts.{HasFilesOf};
 ghost use Rattle.gr_graph.specs.Staying.{DiffersOnlyIn, HasFiles};
 ghost use Rattle.gr_graph.specs.declared.package.Package.{Package};
 ghost use Rattle.gr_graph.specs.Graphs.{
@@ -13,14 +14,12 @@ ghost use Rattle.gr_graph.specs.Graphs.{
   IsPackage,
   OfPackage,
   HoldsPackages,
-  IsOnImportCycle,
-  IsImportCycle,
-  IsPackageOrder,
 };
 
 use crate::import_links::ImportLinks;
 use crate::package::Package;
 use crate::packages::packages;
+use crate::part::numbered;
 use crate::rows::rows;
 use crate::shared_links::SharedLinks;
 use crate::shared_package::{SharedPackage, number_of};
@@ -107,6 +106,24 @@ impl Graph {
         Graph::made(alloc, Some(&before.links), files, packages)
     }
 
+    /// The graph of a part of a workspace: its Go files are exactly those of the packages with some numbers. All packages are
+    /// shared, so no text is looked at and nothing is parsed.
+    pub fn part(
+        alloc: Global,
+        whole: &Graph,
+        numbers: &[usize],
+        files: Files,
+    ) -> Result<Graph, AllocError>
+        requires numbers { All (λ number. number < length (package_paths whole.now)) numbers.now }
+        requires rising { IsStrictlyIncreasing numbers.now }
+        requires files { HasFilesOf whole.now numbers.now files }
+        ensures { IfOk result (λ graph. graph ≡ files) }
+    {
+        let whole = &whole.parts;
+        let packages = numbered(alloc, &whole.packages, numbers)?;
+        Graph::made(alloc, Some(&whole.links), files, packages)
+    }
+
     /// The graph of some files from their packages. What is asked of the links before is not found again where no link
     /// changed.
     fn made(
@@ -176,10 +193,11 @@ impl Graph {
         self.links().imports(number)
     }
 
-    /// The packages that import one directly.
+    /// The packages that import one directly, in their order.
     pub fn importers(&self, number: usize) -> &[usize]
         requires { number < length (package_paths self.now) }
-        ensures { OfPackage self.now number (λ p. HoldsPackages self.now (λ q. PackageImports self.now q p) result.now) }
+        ensures importers { OfPackage self.now number (λ p. HoldsPackages self.now (λ q. PackageImports self.now q p) result.now) }
+        ensures rising { IsStrictlyIncreasing result.now }
     {
         self.links().importers(number)
     }
@@ -191,21 +209,6 @@ impl Graph {
         ensures rising { IsStrictlyIncreasing result.now }
     {
         self.links().closure(number)
-    }
-
-    /// Packages from one back to itself, each importing the next. The last imports the first.
-    pub fn cycle_of(&self, number: usize) -> Option<&[usize]>
-        requires { number < length (package_paths self.now) }
-        ensures { OfPackage self.now number (λ p. MatchOption result (IsOnImportCycle self.now p → ⊥) (λ cycle. IsImportCycle self.now p cycle.now)) }
-    {
-        self.links().cycle_of(number)
-    }
-
-    /// The packages that reach no cycle, each behind all that it imports.
-    pub fn order(&self) -> &[usize]
-        ensures { IsPackageOrder self.now result.now }
-    {
-        self.links().order()
     }
 }
 

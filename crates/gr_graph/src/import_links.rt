@@ -1,19 +1,15 @@
 //! Which packages import which, with all that is asked of it.
-ghost use Rattle.std.specs.Prelude.{◌≡◌, ◌<◌, length, IfOk, MatchOption};
+ghost use Rattle.std.specs.Prelude.{ℕ, ◌≡◌, ◌<◌, length, IfOk};
 ghost use Rattle.std.specs.List.Sorted.{IsStrictlyIncreasing};
 ghost use Rattle.gr_graph.specs.Imports.{
   AreLinked,
   AreImporters,
   IsClosure,
-  IsCycleOf,
-  IsOnCycle,
-  IsOrder,
   imports_of,
 };
 
-use crate::closure::{Closure, closures};
+use crate::closure::closures;
 use crate::importers::importers;
-use crate::order::order;
 use crate::package_list::PackageList;
 use crate::search::imports_of;
 use std::alloc::{AllocError, Global};
@@ -25,8 +21,7 @@ use std::marker::Model;
 pub struct ImportLinks {
     imports: Vec<PackageList>,
     importers: Vec<PackageList>,
-    closures: Vec<Closure>,
-    order: PackageList,
+    closures: Vec<PackageList>,
 }
 
 impl Model for ImportLinks {
@@ -37,7 +32,7 @@ impl Model for ImportLinks {
 
     ghost view = { λ a. a.imports.items };
 
-    ghost invariant = { λ a. AreAnswers a.imports.items a.importers.items a.closures.items a.order };
+    ghost invariant = { λ a. AreAnswers a.imports.items a.importers.items a.closures.items };
 }
 
 impl ImportLinks {
@@ -48,12 +43,10 @@ impl ImportLinks {
     {
         let importers = importers(alloc, &imports)?;
         let closures = closures(alloc, &imports)?;
-        let order = order(alloc, &closures)?;
         Ok(ImportLinks {
             imports,
             importers,
             closures,
-            order,
         })
     }
 
@@ -75,7 +68,8 @@ impl ImportLinks {
     /// The packages that import one directly.
     pub fn importers(&self, number: usize) -> &[usize]
         requires { number < length self.now }
-        ensures { AreImporters self.now number result.now }
+        ensures importers { AreImporters self.now number result.now }
+        ensures rising { ((p : ℕ) → IsStrictlyIncreasing (imports_of self.now p)) → IsStrictlyIncreasing result.now }
     {
         imports_of(&self.importers, number)
     }
@@ -86,24 +80,6 @@ impl ImportLinks {
         ensures closure { IsClosure self.now number result.now }
         ensures rising { IsStrictlyIncreasing result.now }
     {
-        self.closures[number].numbers.as_slice()
-    }
-
-    /// Packages from one back to itself, each importing the next. The last imports the first.
-    pub fn cycle_of(&self, number: usize) -> Option<&[usize]>
-        requires { number < length self.now }
-        ensures { MatchOption result (IsOnCycle self.now number → ⊥) (λ cycle. IsCycleOf self.now number cycle.now) }
-    {
-        match &self.closures[number].cycle {
-            Some(cycle) => Some(cycle.as_slice()),
-            None => None,
-        }
-    }
-
-    /// The packages that reach no cycle, each behind all that it imports.
-    pub fn order(&self) -> &[usize]
-        ensures { IsOrder self.now result.now }
-    {
-        self.order.as_slice()
+        self.closures[number].as_slice()
     }
 }

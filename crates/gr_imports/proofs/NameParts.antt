@@ -1,5 +1,6 @@
 -- The names of packages, one after the other.
-use Rattle.std.proofs.Common.{ℕ, zero, suc, ◌≡◌, ◌+◌, ◌<◌, inl, inr, true, List, [], ◌∷◌, ◌++◌, length, length-append, Option, None, ap, sym, ◌∙◌, refl, subst, arith}
+use Rattle.std.proofs.Common.{ℕ, zero, suc, ◌≡◌, ◌+◌, ◌<◌, inl, inr, true, List, [], ◌∷◌, ◌++◌, length, length-append, Option, None, ap, sym, ◌∙◌, refl}
+use Rattle.std.proofs.Common.{subst, arith}
 use Rattle.std.specs.Borrow.{Bor}
 use Rattle.std.proofs.lemmas.Bool.{cases_order}
 use Rattle.gr_tree.specs.SourceFile.{SourceFile}
@@ -22,21 +23,24 @@ given_last [] x = refl
 given_last (y ∷ ys) x = given_last ys x
 
 -- the name of the package of the path
-pub path_named : ((bytes v w : List ℕ) → HasStringValue bytes v → HasStringValue bytes w → v ≡ w) → (files : List SourceFile) (name_of : List ℕ → Option (List ℕ)) (p : Laid) (u : ℕ) (path : List ℕ) (name : Option (List ℕ)) →
+pub path_named : ((bytes v w : List ℕ) → HasStringValue bytes v → HasStringValue bytes w → v ≡ w) →
+    (files : List SourceFile) (name_of : List ℕ → Option (List ℕ)) (p : Laid) (u : ℕ) (path : List ℕ) (name : Option (List ℕ)) →
     IsPathOf files p u path → name ≡ name_of path → IsPackageName files name_of p u name
 path_named one files name_of p u path name of_path e = record {
   known = λ v h. e ∙ ap name_of (one_path one files p u path v of_path h);
   unknown = λ none. absurd (none path of_path);
 }
 
-pub path_missing : (files : List SourceFile) (name_of : List ℕ → Option (List ℕ)) (p : Laid) (u : ℕ) → ((path : List ℕ) → IsPathOf files p u path → ⊥) → IsPackageName files name_of p u None
+pub path_missing : (files : List SourceFile) (name_of : List ℕ → Option (List ℕ)) (p : Laid) (u : ℕ) → ((path : List ℕ) → IsPathOf files p u path → ⊥) →
+    IsPackageName files name_of p u None
 path_missing files name_of p u none = record { known = λ v h. absurd (none v h); unknown = λ n. refl }
 
 pub sized_next : (old new : Names) (u : ℕ) (x : Option (Bor (List ℕ))) → length old ≡ u → new ≡ old ++ (x ∷ []) → length new ≡ u + 1
 sized_next old new u x size e = ap length e ∙ length-append old (x ∷ []) ∙ ap (λ n. n + 1) size
 
 -- one more name
-pub names_next : (files : List SourceFile) (name_of : List ℕ → Option (List ℕ)) (p : Laid) (old new : Names) (u k : ℕ) (x : Option (Bor (List ℕ))) → length old ≡ u → new ≡ old ++ (x ∷ []) →
+pub names_next : (files : List SourceFile) (name_of : List ℕ → Option (List ℕ)) (p : Laid) (old new : Names) (u k : ℕ) (x : Option (Bor (List ℕ))) →
+    length old ≡ u → new ≡ old ++ (x ∷ []) →
     ((j : ℕ) → j < u → is_unnamed_import (p.layout.role j) ≡ true → IsPackageName files name_of p j (name_given old j)) →
     (is_unnamed_import (p.layout.role u) ≡ true → IsPackageName files name_of p u (name_value x)) →
     k < u + 1 → is_unnamed_import (p.layout.role k) ≡ true → IsPackageName files name_of p k (name_given new k)

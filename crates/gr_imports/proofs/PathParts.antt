@@ -16,7 +16,8 @@ use Rattle.gr_imports.specs.Laid.{Laid, literal_of, IsPathOf}
 same_file : (s t : SourceFile) → Some s ≡ Some t → s ≡ t
 same_file s t e = cc
 
-pub source_at : (files : List FileParts) (i : ℕ) (x : FileParts) → i < length files → x ≡ get_or files i x → slice_get (map source_of files) i ≡ Some (source_of x)
+pub source_at : (files : List FileParts) (i : ℕ) (x : FileParts) → i < length files → x ≡ get_or files i x →
+    slice_get (map source_of files) i ≡ Some (source_of x)
 source_at files i x lt e = slice_get-map source_of files i ∙ ap (option_map source_of) (slice_get-get_or files i x lt ∙ ap Some (sym e))
 
 pub no_source : (files : List FileParts) (i : ℕ) (s : SourceFile) → slice_get (map source_of files) i ≡ Some s → i < length files

@@ -1,5 +1,6 @@
 -- The units that a change carries over, by the marks of the packages of closures.
-use Rattle.std.proofs.Common.{◌≡◌, ℕ, ◌+◌, ◌<◌, ◌≤◌, Bool, List, [], ◌∷◌, ◌++◌, length, get_or, Option, Some, None, slice_get, sym, ap, subst, ◌∙◌, ⊎_elim, arith, length-append}
+use Rattle.std.proofs.Common.{◌≡◌, ℕ, ◌+◌, ◌<◌, ◌≤◌, Bool, List, [], ◌∷◌, ◌++◌, length, get_or, Option, Some, None, slice_get, sym, ap, subst, ◌∙◌, ⊎_elim}
+use Rattle.std.proofs.Common.{arith, length-append}
 use Rattle.std.specs.List.{Contains}
 use Rattle.std.proofs.lemmas.Bool.{cases_lt}
 use Rattle.std.proofs.lemmas.List.{get_or_append_left, get_or_push}
@@ -23,26 +24,31 @@ use Rattle.gr_keep.proofs.ClosureTexts.{KeepsClosure, same_texts, same_files, pa
 abbrev pub AreUnmarked : List Bool → List ℕ → Type 0
 AreUnmarked marks numbers = (i : ℕ) → Contains numbers i → IsMarked marks i → ⊥
 
-unmarked_keeps : (v w : Workspace) (p : List ℕ) (marks : List Bool) (numbers : List ℕ) → AreMarks v w marks → HoldsPackages v (IsInClosure v p) numbers → AreUnmarked marks numbers → KeepsClosure v w p
+unmarked_keeps : (v w : Workspace) (p : List ℕ) (marks : List Bool) (numbers : List ℕ) → AreMarks v w marks → HoldsPackages v (IsInClosure v p) numbers →
+    AreUnmarked marks numbers → KeepsClosure v w p
 unmarked_keeps v w p marks numbers are holds none q c =
     let n = number v q (to_package v p q c) in
     are.same n.0 q n.1 (none n.0 ((holds n.0).1 (q, n.1, c)))
 
-keeps_unmarked : (v w : Workspace) (p : List ℕ) (marks : List Bool) (numbers : List ℕ) → AreMarks v w marks → HoldsPackages v (IsInClosure v p) numbers → KeepsClosure v w p → AreUnmarked marks numbers
+keeps_unmarked : (v w : Workspace) (p : List ℕ) (marks : List Bool) (numbers : List ℕ) → AreMarks v w marks → HoldsPackages v (IsInClosure v p) numbers →
+    KeepsClosure v w p → AreUnmarked marks numbers
 keeps_unmarked v w p marks numbers are holds keeps i has marked =
     let q = (holds i).0 has in
     are.changed i q.0 q.1 marked (keeps q.0 q.2)
 
 -- the closures have the same texts just where none of their packages is marked
 pub same_by_marks : (v w : Workspace) (p : List ℕ) (before after : List Bool) (there here : List ℕ) → AreMarks v w before → AreMarks w v after
-    → HoldsPackages v (IsInClosure v p) there → HoldsPackages w (IsInClosure w p) here → AreUnmarked before there → AreUnmarked after here → HasSameClosure v w p
+    → HoldsPackages v (IsInClosure v p) there → HoldsPackages w (IsInClosure w p) here → AreUnmarked before there → AreUnmarked after here →
+    HasSameClosure v w p
 same_by_marks v w p before after there here a b there_are here_are there_none here_none =
     same_texts v w p (unmarked_keeps v w p before there a there_are there_none) (unmarked_keeps w v p after here b here_are here_none)
 
-pub before_unmarked : (v w : Workspace) (p : List ℕ) (before : List Bool) (there : List ℕ) → AreMarks v w before → HoldsPackages v (IsInClosure v p) there → HasSameClosure v w p → AreUnmarked before there
+pub before_unmarked : (v w : Workspace) (p : List ℕ) (before : List Bool) (there : List ℕ) → AreMarks v w before → HoldsPackages v (IsInClosure v p) there →
+    HasSameClosure v w p → AreUnmarked before there
 before_unmarked v w p before there a there_are same = keeps_unmarked v w p before there a there_are (same_files v w p same)
 
-pub after_unmarked : (v w : Workspace) (p : List ℕ) (after : List Bool) (here : List ℕ) → AreMarks w v after → HoldsPackages w (IsInClosure w p) here → HasSameClosure v w p → AreUnmarked after here
+pub after_unmarked : (v w : Workspace) (p : List ℕ) (after : List Bool) (here : List ℕ) → AreMarks w v after → HoldsPackages w (IsInClosure w p) here →
+    HasSameClosure v w p → AreUnmarked after here
 after_unmarked v w p after here b here_are same = keeps_unmarked w v p after here b here_are (same_files w v p (same_back v w p same))
 
 -- ---- the unit of one package
@@ -76,14 +82,17 @@ pub record AreKept (v : Workspace) (old : Table) (w : Workspace) (count : ℕ) (
   pub each : (i : ℕ) (p : List ℕ) → i < count → slice_get (package_paths w) i ≡ Some p → KeepsUnit v old w p (get_or units i None)
 
 module _ (v : Workspace) (old : Table) (w : Workspace) where
-  pub kept_more : (count : ℕ) (units : Table) (found : Option PackageUnit) → OfPackage w count (λ p. KeepsUnit v old w p found) → AreKept v old w count units → AreKept v old w (count + 1) (units ++ found ∷ [])
+  pub kept_more : (count : ℕ) (units : Table) (found : Option PackageUnit) → OfPackage w count (λ p. KeepsUnit v old w p found) →
+      AreKept v old w count units → AreKept v old w (count + 1) (units ++ found ∷ [])
   kept_more count units found is so = record {
     size = length_more;
     each = λ i p below at. ⊎_elim
-        (λ (before : i < count). subst (KeepsUnit v old w p) (sym (get_or_append_left units (found ∷ []) None i (omega (arith, so.size)))) (so.each i p before at))
+        (λ (before : i < count). subst (KeepsUnit v old w p) (sym (get_or_append_left units (found ∷ []) None i (omega (arith, so.size))))
+        (so.each i p before at))
         (λ (last : count ≤ i).
         let same : i ≡ count = omega arith in
-        subst (KeepsUnit v old w p) (sym (get_or_push units found None i (omega (arith, so.size)))) (is p (subst (λ (k : ℕ). slice_get (package_paths w) k ≡ Some p) same at)))
+        subst (KeepsUnit v old w p) (sym (get_or_push units found None i (omega (arith, so.size))))
+        (is p (subst (λ (k : ℕ). slice_get (package_paths w) k ≡ Some p) same at)))
         (cases_lt i count);
   }
     where
@@ -94,7 +103,8 @@ module _ (v : Workspace) (old : Table) (w : Workspace) where
   kept_all units so = record {
     size = so.size;
     each = λ p unit. (
-      λ finished. (so.each finished.0 p (slice_get_within (package_paths w) finished.0 p finished.1) finished.1 unit).0 (get_or_from_slice_get units finished.0 (Some unit) None finished.2),
+      λ finished. (so.each finished.0 p (slice_get_within (package_paths w) finished.0 p finished.1) finished.1 unit).0
+          (get_or_from_slice_get units finished.0 (Some unit) None finished.2),
       λ both.
           let n = number w p (package_there v w p (at_contains v both.0.0 p both.0.1) both.1) in
           let below = slice_get_within (package_paths w) n.0 p n.1 in

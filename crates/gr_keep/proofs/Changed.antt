@@ -1,5 +1,6 @@
 -- Which packages have other files after a change: folders that are noted, and marks of packages.
-use Rattle.std.proofs.Common.{◌≡◌, ℕ, ◌+◌, ◌<◌, ◌⊎◌, Bool, true, false, ◌&&◌, List, [], ◌∷◌, ◌++◌, length, take, get_or, replicate, Some, slice_get, Bor, sym, ap, subst, ◌∙◌, inl, inr, ⊎_elim, ◌==◌}
+use Rattle.std.proofs.Common.{◌≡◌, ℕ, ◌+◌, ◌<◌, ◌⊎◌, Bool, true, false, ◌&&◌, List, [], ◌∷◌, ◌++◌, length, take, get_or, replicate, Some, slice_get, Bor}
+use Rattle.std.proofs.Common.{sym, ap, subst, ◌∙◌, inl, inr, ⊎_elim, ◌==◌}
 use Rattle.std.proofs.Math.ListN.{set}
 use Rattle.std.specs.FinMap as map_of
 use Rattle.std.specs.List.{Contains}
@@ -37,7 +38,8 @@ module _ (IsThere : List ℕ × List ℕ → Type 0) (files : Workspace) (old : 
     each = λ q e has. inl (passes (λ d. is_of_package q d.0) (map_of.entries files) e has).1;
   }
 
-  pub noted_skip : (e : List ℕ × List ℕ) (left : List (List ℕ × List ℕ)) (new : List (List ℕ)) → (is_go e.0 ≡ false) ⊎ IsThere e → AreNoted IsThere files (e ∷ left) old new → AreNoted IsThere files left old new
+  pub noted_skip : (e : List ℕ × List ℕ) (left : List (List ℕ × List ℕ)) (new : List (List ℕ)) → (is_go e.0 ≡ false) ⊎ IsThere e →
+      AreNoted IsThere files (e ∷ left) old new → AreNoted IsThere files left old new
   noted_skip e left new why so = record {
     inside = λ d has. so.inside d (later_in e left d has);
     kept = so.kept;
@@ -60,7 +62,8 @@ module _ (IsThere : List ℕ × List ℕ → Type 0) (files : Workspace) (old : 
           (λ (got : IsThere e). subst IsThere is got)
           why
 
-  pub noted_more : (e : List ℕ × List ℕ) (left : List (List ℕ × List ℕ)) (new : List (List ℕ)) → is_go e.0 ≡ true → (IsThere e → ⊥) → AreNoted IsThere files (e ∷ left) old new
+  pub noted_more : (e : List ℕ × List ℕ) (left : List (List ℕ × List ℕ)) (new : List (List ℕ)) → is_go e.0 ≡ true → (IsThere e → ⊥) →
+      AreNoted IsThere files (e ∷ left) old new
       → AreNoted IsThere files left old (new ++ folder e.0 ∷ [])
   noted_more e left new go lacks so = record {
     inside = λ d has. so.inside d (later_in e left d has);
@@ -115,7 +118,8 @@ in_package : (w : Workspace) (q path text : List ℕ) → is_of_package q path �
 in_package w q path text of got = passed (λ d. is_of_package q d.0) (map_of.entries w) (path, text) of (entry_of w path text got)
 
 -- First the files of v that w has not with the same text, then those of w that v has not at all.
-pub changed_by : (v w : Workspace) (none first all : List (List ℕ)) → none ≡ [] → AddsFolders (HasText w) v none first → AddsFolders (HasPath v) w first all → AreChanged v w all
+pub changed_by : (v w : Workspace) (none first all : List (List ℕ)) → none ≡ [] → AddsFolders (HasText w) v none first →
+    AddsFolders (HasPath v) w first all → AreChanged v w all
 changed_by v w none first all empty a b = record {
   changed = λ q has same. ⊎_elim
       (λ (before : Contains first q). ⊎_elim
@@ -151,7 +155,8 @@ pub marks_none : (w : Workspace) (n : ℕ) → n ≡ length (package_paths w) �
 marks_none w n size = record {
   size = length-replicate n false ∙ size;
   each = λ i q at. (
-    λ marked. absurd (true≢false (sym marked ∙ get_or-replicate n i false false (subst (λ (k : ℕ). i < k) (sym size) (slice_get_within (package_paths w) i q at)))),
+    λ marked. absurd (true≢false (sym marked ∙ get_or-replicate n i false false
+        (subst (λ (k : ℕ). i < k) (sym size) (slice_get_within (package_paths w) i q at)))),
     λ has. absurd (nothing_in q has),
   );
 }
@@ -197,7 +202,8 @@ module _ (w : Workspace) (fs : List (Bor (List ℕ))) (i : ℕ) (d : Bor (List �
   one_more : names (take (i + 1) fs) ≡ names (take i fs) ++ (get_or fs i d).now ∷ []
   one_more = ap names (take_more fs i d below) ∙ names_push (take i fs) (get_or fs i d)
 
-  pub mark_one : (n : ℕ) → slice_get (package_paths w) n ≡ Some (get_or fs i d).now → MarkFolders w (names (take i fs)) marks → MarkFolders w (names (take (i + 1) fs)) (set marks n true)
+  pub mark_one : (n : ℕ) → slice_get (package_paths w) n ≡ Some (get_or fs i d).now → MarkFolders w (names (take i fs)) marks →
+      MarkFolders w (names (take (i + 1) fs)) (set marks n true)
   mark_one n there so =
       subst (λ (l : List (List ℕ)). MarkFolders w l (set marks n true)) (sym one_more) (marks_more w (names (take i fs)) marks (get_or fs i d).now n there so)
 

@@ -1,5 +1,6 @@
 -- The files of a closure are gathered, one package after another.
-use Rattle.std.proofs.Common.{◌≡◌, ℕ, ◌+◌, ◌<◌, ◌↔◌, ◌⊎◌, true, false, List, [], ◌∷◌, ◌++◌, length, take, map as mapped, get_or, cond, Some, slice_get, refl, sym, ap, subst, ◌∙◌, inl, inr}
+use Rattle.std.proofs.Common.{◌≡◌, ℕ, ◌+◌, ◌<◌, ◌↔◌, ◌⊎◌, true, false, List, [], ◌∷◌, ◌++◌, length, take, map as mapped, get_or, cond, Some, slice_get}
+use Rattle.std.proofs.Common.{refl, sym, ap, subst, ◌∙◌, inl, inr}
 use Rattle.std.specs.FinMap as map
 use Rattle.std.specs.Ordering.{eq_by_cmp}
 use Rattle.std.specs.List.{Contains}
@@ -18,7 +19,8 @@ use Rattle.gr_graph.proofs.Asked.{number}
 use Rattle.gr_verdict.proofs.Closed.{to_package}
 use Rattle.gr_verdict.proofs.Members.{nothing_in, first_in, later_in, first_or_later, passes}
 use Rattle.gr_keep.specs.Changes.{HasText}
-use Rattle.gr_keep.specs.Inputs.{tree_file, faulty_file, IsPartOf, Adds, AreGathered}
+use Rattle.gr_keep.specs.Inputs.{faulty_file, IsPartOf, Adds, AreGathered}
+use Rattle.gr_verdict.specs.Earlier.{tree_file}
 use Rattle.gr_edit.proofs.Entries.{exact_path, same_path, entry_of, get_entry}
 
 -- ---- one file more
@@ -46,10 +48,12 @@ pub adds_none : (files : List (List ℕ × List ℕ)) (old : Workspace) → file
 adds_none files old nil w part all e = (λ h. inl h, λ h. elim h [ inl there ↦ there | inr c ↦ absurd (nothing_in e (subst (λ l. Contains l e) nil c)) ])
 
 -- what was added first keeps all within the workspace
-still_part : (files : List (List ℕ × List ℕ)) (old mid w : Workspace) → Adds files old mid → IsPartOf old w → ((e : List ℕ × List ℕ) → Contains files e → HasText w e) → IsPartOf mid w
+still_part : (files : List (List ℕ × List ℕ)) (old mid w : Workspace) → Adds files old mid → IsPartOf old w →
+    ((e : List ℕ × List ℕ) → Contains files e → HasText w e) → IsPartOf mid w
 still_part files old mid w adds part all e h = elim ((adds w part all e).0 h) [ inl there ↦ part e there | inr c ↦ all e c ]
 
-pub adds_more : (files more : List (List ℕ × List ℕ)) (old mid : Workspace) (d : List ℕ × List ℕ) → ((e : List ℕ × List ℕ) → Contains more e ↔ (Contains files e ⊎ (d ≡ e))) → Adds files old mid → Adds more old (map.insert mid d.0 d.1)
+pub adds_more : (files more : List (List ℕ × List ℕ)) (old mid : Workspace) (d : List ℕ × List ℕ) →
+    ((e : List ℕ × List ℕ) → Contains more e ↔ (Contains files e ⊎ (d ≡ e))) → Adds files old mid → Adds more old (map.insert mid d.0 d.1)
 adds_more files more old mid d same adds w part all e =
     let first = λ (x : List ℕ × List ℕ) (c : Contains files x). all x ((same x).1 (inl c)) in
     let before : IsPartOf mid w = still_part files old mid w adds part first in
@@ -67,7 +71,8 @@ adds_more files more old mid d same adds w part all e =
       ],
     )
 
-pub adds_both : (files others all : List (List ℕ × List ℕ)) (old mid new : Workspace) → ((e : List ℕ × List ℕ) → Contains all e ↔ (Contains files e ⊎ Contains others e)) → Adds files old mid → Adds others mid new → Adds all old new
+pub adds_both : (files others all : List (List ℕ × List ℕ)) (old mid new : Workspace) →
+    ((e : List ℕ × List ℕ) → Contains all e ↔ (Contains files e ⊎ Contains others e)) → Adds files old mid → Adds others mid new → Adds all old new
 adds_both files others all old mid new same adds then w part both e =
     let first = λ (x : List ℕ × List ℕ) (c : Contains files x). both x ((same x).1 (inl c)) in
     let second = λ (x : List ℕ × List ℕ) (c : Contains others x). both x ((same x).1 (inr c)) in
@@ -86,7 +91,8 @@ adds_both files others all old mid new same adds then w part both e =
     )
 
 -- ---- the files of a package
-pub mapped_more : {X Y : Type 0} (f : X → Y) (xs : List X) (k : ℕ) (x : X) → k < length xs → x ≡ get_or xs k x → (y : Y) → Contains (mapped f (take (k + 1) xs)) y ↔ (Contains (mapped f (take k xs)) y ⊎ (f x ≡ y))
+pub mapped_more : {X Y : Type 0} (f : X → Y) (xs : List X) (k : ℕ) (x : X) → k < length xs → x ≡ get_or xs k x → (y : Y) →
+    Contains (mapped f (take (k + 1) xs)) y ↔ (Contains (mapped f (take k xs)) y ⊎ (f x ≡ y))
 mapped_more f xs k x lt is y =
     let e : mapped f (take (k + 1) xs) ≡ mapped f (take k xs) ++ f x ∷ [] =
     ap (mapped f) (take_more xs k x lt) ∙ map-append f (take k xs) (get_or xs k x ∷ []) ∙ ap (λ z. mapped f (take k xs) ++ f z ∷ []) (sym is) in (
@@ -97,7 +103,8 @@ mapped_more f xs k x lt is y =
       ]),
     )
 
-pub parsed_files : {es : List (List ℕ × List ℕ)} {ts : List FileParts} {fs : List FaultyParts} → AreParsed es ts fs → (e : List ℕ × List ℕ) → Contains es e ↔ (Contains (mapped tree_file ts) e ⊎ Contains (mapped faulty_file fs) e)
+pub parsed_files : {es : List (List ℕ × List ℕ)} {ts : List FileParts} {fs : List FaultyParts} → AreParsed es ts fs → (e : List ℕ × List ℕ) →
+    Contains es e ↔ (Contains (mapped tree_file ts) e ⊎ Contains (mapped faulty_file fs) e)
 parsed_files none e = (λ c. absurd (nothing_in e c), λ h. elim h [ inl c ↦ absurd (nothing_in e c) | inr c ↦ absurd (nothing_in e c) ])
 parsed_files (tree {e = d} {es = es} {t = t} {ts = ts} {fs = fs} is rest) e =
     let own : d ≡ tree_file t = (λ i. (sym is.of_path i, sym is.of_text i)) in
@@ -137,7 +144,8 @@ none_gathered w numbers nil e = (
   λ s. absurd (nothing_in s.number (subst (λ l. Contains l s.number) nil s.among)),
 )
 
-module _ (w : Workspace) (xs ys : List ℕ) (n : ℕ) (q : List ℕ) (at : slice_get (package_paths w) n ≡ Some q) (more : (m : ℕ) → Contains ys m → Contains xs m ⊎ (n ≡ m)) (keeps : (m : ℕ) → Contains xs m → Contains ys m) (own : Contains ys n) where
+module _ (w : Workspace) (xs ys : List ℕ) (n : ℕ) (q : List ℕ) (at : slice_get (package_paths w) n ≡ Some q)
+    (more : (m : ℕ) → Contains ys m → Contains xs m ⊎ (n ≡ m)) (keeps : (m : ℕ) → Contains xs m → Contains ys m) (own : Contains ys n) where
   of_workspace : (r : List ℕ) (e : List ℕ × List ℕ) → Contains (package_files w r) e → HasText w e
   of_workspace r e c = get_entry w e (passes (λ d. is_of_package r d.0) (map.entries w) e c).1
 
@@ -145,7 +153,14 @@ module _ (w : Workspace) (xs ys : List ℕ) (n : ℕ) (q : List ℕ) (at : slice
   gathered_next old new adds g e =
       let a = adds w (λ d h. let s = (g d).0 h in of_workspace s.path d s.of_package) (λ d c. of_workspace q d c) e in (
         λ h. elim (a.0 h) [
-          | inl there ↦ (let s = (g e).0 there in record { number = s.number; path = s.path; among = keeps s.number s.among; has_path = s.has_path; of_package = s.of_package })
+          | inl there ↦ (let s = (g e).0 there in record {
+            number = s.number;
+            path = s.path;
+            among = keeps s.number s.among;
+            has_path =
+                s.has_path;
+            of_package = s.of_package;
+          })
           | inr c ↦ record { number = n; path = q; among = own; has_path = at; of_package = c }
         ],
         λ s. elim (more s.number s.among) [
@@ -157,7 +172,8 @@ module _ (w : Workspace) (xs ys : List ℕ) (n : ℕ) (q : List ℕ) (at : slice
       )
 
 -- those of the whole closure are its texts
-pub closure_texts : (w : Workspace) (p : List ℕ) (numbers : List ℕ) (files : Workspace) → HoldsPackages w (IsInClosure w p) numbers → AreGathered w numbers files → AreClosureTexts w p (map.entries files)
+pub closure_texts : (w : Workspace) (p : List ℕ) (numbers : List ℕ) (files : Workspace) → HoldsPackages w (IsInClosure w p) numbers →
+    AreGathered w numbers files → AreClosureTexts w p (map.entries files)
 closure_texts w p numbers files holds g e = (
   λ has.
       let s = (g e).0 (get_entry files e has) in
@@ -165,5 +181,12 @@ closure_texts w p numbers files holds g e = (
       (q.0, q.2, subst (λ r. Contains (package_files w r) e) (same_Some s.path q.0 (sym s.has_path ∙ q.1)) s.of_package),
   λ text.
       let n = number w text.0 (to_package w p text.0 text.1) in
-      entry_of files e.0 e.1 ((g e).1 (record { number = n.0; path = text.0; among = (holds n.0).1 (text.0, n.1, text.1); has_path = n.1; of_package = text.2 })),
+      entry_of files e.0 e.1 ((g e).1 (record {
+        number = n.0;
+        path = text.0;
+        among = (holds n.0).1 (text.0, n.1, text.1);
+        has_path = n.1;
+        of_package =
+            text.2;
+      })),
 )

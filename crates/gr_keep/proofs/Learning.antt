@@ -7,7 +7,7 @@ use Rattle.gr_text.specs.Packages.{is_of_package, package_paths}
 use Rattle.gr_text.specs.Workspace.{Workspace}
 use Rattle.gr_graph.specs.Packages.{IsInClosure}
 use Rattle.gr_verdict.specs.Closures.{HasSameClosure}
-use Rattle.gr_verdict.specs.Found.{MayTell}
+use Rattle.gr_verdict.specs.Told.{MayTell}
 use Rattle.gr_verdict.specs.declared.known.KnownVerdict.{KnownVerdict}
 use Rattle.gr_verdict.proofs.Local.{same_within, told_there}
 use Rattle.gr_verdict.proofs.Members.{passes}
@@ -16,7 +16,8 @@ use Rattle.gr_compile.specs.Inputs.{AreInputs}
 use Rattle.gr_keep.specs.Knowing.{TellsThere, HasClosuresOf}
 use Rattle.gr_keep.proofs.ClosureTexts.{inputs_same, of_folder}
 
-pub tells_here : (v w : Workspace) (p : List ℕ) (found : Option KnownVerdict) → (Contains (package_paths v) p → HasSameClosure v w p) → TellsThere v p found → MayTell w p found
+pub tells_here : (v w : Workspace) (p : List ℕ) (found : Option KnownVerdict) → (Contains (package_paths v) p → HasSameClosure v w p) →
+    TellsThere v p found → MayTell w p found
 tells_here v w p found same there one is = let told = there one is in told_there v w p one told.0 (same told.0) told.1
 
 -- each package of the inputs is in the closure

@@ -3,6 +3,6 @@ pub mod FinishedUnits
 pub mod ClosureTexts
 pub mod Learning
 pub mod ClosureFiles
-pub mod OtherPaths
+pub mod PartFiles
 pub mod Changed
 pub mod Carrying

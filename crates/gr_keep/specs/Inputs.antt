@@ -1,16 +1,12 @@
 -- The files of a package's closure, gathered package by package.
-use Rattle.std.specs.Prelude.{◌≡◌, ℕ, ◌↔◌, ◌⊎◌, ◌<◌, List, Some, slice_get}
+use Rattle.std.specs.Prelude.{◌≡◌, ℕ, ◌↔◌, ◌⊎◌, List, Some, slice_get}
 use Rattle.std.specs.List.{Contains}
 use Rattle.gr_text.specs.Packages.{package_paths, package_files}
 use Rattle.gr_text.specs.Workspace.{Workspace}
-use Rattle.gr_tree.specs.SourceFile.{FileParts}
 use Rattle.gr_graph.specs.FaultyFiles.{FaultyParts}
 use Rattle.gr_keep.specs.Changes.{HasText}
 
--- a parsed file by its path and its text
-abbrev pub tree_file : FileParts → List ℕ × List ℕ
-tree_file t = (t.path, t.cut.text)
-
+-- a file without a tree by its path and its text
 abbrev pub faulty_file : FaultyParts → List ℕ × List ℕ
 faulty_file f = (f.path, f.text)
 
@@ -20,7 +16,8 @@ IsPartOf v w = (e : List ℕ × List ℕ) → HasText v e → HasText w e
 
 -- files were added; they and those before are files of one workspace
 abbrev pub Adds : List (List ℕ × List ℕ) → (old new : Workspace) → Type 0
-Adds files old new = (w : Workspace) → IsPartOf old w → ((e : List ℕ × List ℕ) → Contains files e → HasText w e) → (e : List ℕ × List ℕ) → HasText new e ↔ (HasText old e ⊎ Contains files e)
+Adds files old new = (w : Workspace) → IsPartOf old w → ((e : List ℕ × List ℕ) → Contains files e → HasText w e) → (e : List ℕ × List ℕ) →
+    HasText new e ↔ (HasText old e ⊎ Contains files e)
 
 -- a file of one of some packages, by their numbers
 pub record IsFileOf (w : Workspace) (numbers : List ℕ) (file : List ℕ × List ℕ) : Type 0 where
@@ -33,7 +30,3 @@ pub record IsFileOf (w : Workspace) (numbers : List ℕ) (file : List ℕ × Lis
 -- exactly the files of some packages
 abbrev pub AreGathered : Workspace → List ℕ → Workspace → Type 0
 AreGathered w numbers files = (e : List ℕ × List ℕ) → HasText files e ↔ IsFileOf w numbers e
-
--- the paths of the first packages, but for some of their numbers
-abbrev pub HoldsOthers : Workspace → List ℕ → ℕ → List (List ℕ) → Type 0
-HoldsOthers w numbers count paths = (i : ℕ) (q : List ℕ) → i < count → slice_get (package_paths w) i ≡ Some q → Contains numbers i ⊎ Contains paths q

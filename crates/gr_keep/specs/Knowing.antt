@@ -3,7 +3,7 @@ use Rattle.std.specs.Prelude.{◌≡◌, ℕ, List, Option, Some, Contains}
 use Rattle.gr_text.specs.Packages.{package_paths}
 use Rattle.gr_text.specs.Workspace.{Workspace}
 use Rattle.gr_verdict.specs.Closures.{HasSameClosure}
-use Rattle.gr_verdict.specs.Found.{TellsVerdict}
+use Rattle.gr_verdict.specs.Told.{TellsVerdict}
 use Rattle.gr_verdict.specs.declared.known.KnownVerdict.{KnownVerdict}
 
 -- if there is a verdict, p is a package of v, and it is that on p there

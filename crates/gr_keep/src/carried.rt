@@ -12,16 +12,8 @@ use crate::changes::Marks;
 use crate::finished::Finished;
 use gr_compile::Unit;
 use gr_graph::Graph;
+use gr_verdict::is_marked;
 use std::alloc::{AllocError, Global};
-
-pub fn is_marked(marks: &[bool], number: usize) -> bool
-    ensures { IsTrue result ↔ IsMarked marks.now number }
-{
-    match marks.get(number) {
-        Some(mark) => *mark,
-        None => false,
-    }
-}
 
 /// Whether none of some packages is marked.
 pub fn are_unmarked(marks: &[bool], numbers: &[usize]) -> bool

@@ -1,19 +1,17 @@
 //! The texts of a package's closure.
 ghost use Rattle.std.specs.Prelude.{◌<◌, IfOk, OnOk, length, map as mapped};
 ghost use Rattle.std.specs.FinMap as map;
-ghost use Rattle.std.specs.List.Sorted.{IsStrictlyIncreasing};
 ghost use Rattle.gr_text.specs.Packages.{package_files, package_paths};
-ghost use Rattle.gr_graph.specs.Filling.{names};
 ghost use Rattle.gr_graph.specs.Graphs.{OfPackage};
 ghost use Rattle.gr_graph.specs.Packages.{AreClosureTexts};
 ghost use Rattle.gr_compile.specs.Inputs.{AreInputs};
-ghost use Rattle.gr_keep.specs.Inputs.{Adds, HoldsOthers, faulty_file, tree_file};
+ghost use Rattle.gr_keep.specs.Inputs.{Adds, faulty_file};
+ghost use Rattle.gr_verdict.specs.Earlier.{tree_file};
 
 use gr_graph::{FaultyFile, Graph};
 use gr_text::Files;
 use gr_tree::FileTree;
 use std::alloc::{AllocError, Global};
-use std::collections::BTreeSet;
 
 /// Adds files that have trees.
 fn add_trees(files: &mut Files, trees: &[FileTree]) -> Result<(), AllocError>
@@ -62,30 +60,11 @@ pub fn closure_files(alloc: Global, graph: &Graph, number: usize) -> Result<File
     Ok(files)
 }
 
-/// The paths of all packages but those with some numbers, which rise.
-fn other_paths<'a>(
-    alloc: Global,
-    graph: &'a Graph,
-    numbers: &[usize],
-) -> Result<BTreeSet<&'a [u8]>, AllocError>
-    requires { IsStrictlyIncreasing numbers.now }
-    ensures { IfOk result (λ paths. HoldsOthers graph.now numbers.now (length (package_paths graph.now)) (names paths.keys)) }
-{
-    let mut paths = BTreeSet::new(alloc);
-    for number in 0..graph.len() {
-        if numbers.binary_search(&number).is_err() {
-            paths.insert(graph.package(number).path.as_slice())?;
-        }
-    }
-    Ok(paths)
-}
-
 /// The inputs of a package's unit. The packages are shared: no text of theirs is looked at, and nothing is parsed.
 pub fn inputs_of(alloc: Global, graph: &Graph, number: usize) -> Result<Graph, AllocError>
     requires { number < length (package_paths graph.now) }
     ensures { IfOk result (λ inputs. OfPackage graph.now number (λ p. AreInputs graph.now p inputs)) }
 {
     let files = closure_files(alloc, graph, number)?;
-    let others = other_paths(alloc, graph, graph.closure(number))?;
-    Graph::changed(alloc, graph, files, &others)
+    Graph::part(alloc, graph, graph.closure(number), files)
 }

@@ -2,7 +2,8 @@
 ghost use Rattle.std.specs.Prelude.{◌<◌, IfOk, length};
 ghost use Rattle.gr_text.specs.Packages.{package_paths};
 ghost use Rattle.gr_graph.specs.Graphs.{OfPackage};
-ghost use Rattle.gr_verdict.specs.Found.{KnowsVerdicts, MayTell};
+ghost use Rattle.gr_verdict.specs.Found.{KnowsVerdicts};
+ghost use Rattle.gr_verdict.specs.Told.{MayTell};
 ghost use Rattle.gr_keep.specs.Changes.{AreMarks};
 ghost use Rattle.gr_keep.specs.Knowing.{HasClosuresOf, TellsThere};
 
@@ -90,6 +91,7 @@ pub fn learned(
         let verdict = learned_verdict(files, number, own.get(), inputs, others)?;
         known.push(verdict)?;
     }
+    known.share_earlier(own.get())?;
     SharedKnown::new(alloc, known)
 }
 
@@ -121,7 +123,7 @@ fn kept_verdict(
     Ok(Some(verdict))
 }
 
-/// What is known of packages, as far as their closures keep their texts.
+/// What is known of packages, as far as their closures keep their texts. What was known before is kept with it.
 fn kept_verdicts(
     alloc: Global,
     before: &Graph,
@@ -139,6 +141,7 @@ fn kept_verdicts(
         let verdict = kept_verdict(before, known, after, number, marks)?;
         carried.push(verdict)?;
     }
+    carried.keep_earlier(alloc, before, known)?;
     Ok(carried)
 }
 

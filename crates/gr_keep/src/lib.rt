@@ -8,7 +8,7 @@ mod inputs;
 mod knowing;
 mod shared_known;
 
-pub use carried::{are_unmarked, carried_units, is_marked, keeps_texts};
+pub use carried::{are_unmarked, carried_units, keeps_texts};
 pub use changes::{Marks, changed_marks};
 pub use finished::Finished;
 pub use inputs::{closure_files, inputs_of};

@@ -1,5 +1,6 @@
 -- The members that the code of a function asks for are among the uses of members of its file.
-use Rattle.std.proofs.Common.{ℕ, suc, ◌≡◌, ◌<◌, inl, inr, ◌==◌, Bool, true, false, if◌then◌else◌, List, [], ◌∷◌, length, Some, ap, refl, sym, ◌∙◌, subst, eq-eqb, arith}
+use Rattle.std.proofs.Common.{ℕ, suc, ◌≡◌, ◌<◌, inl, inr, ◌==◌, Bool, true, false, if◌then◌else◌, List, [], ◌∷◌, length, Some, ap, refl, sym, ◌∙◌, subst}
+use Rattle.std.proofs.Common.{eq-eqb, arith}
 use Rattle.std.proofs.lemmas.Bool.{true≢false, eqb-true}
 use Rattle.std.specs.Prelude.{Contains}
 use Rattle.gr_tree.specs.Tree.{Item, TypeTree, ReceiverTree, ParamTree, ResultTree, FuncTree, DeclTree, FileTree}
@@ -15,7 +16,8 @@ use Rattle.gr_stmt.specs.Headers.{judge_types, judge_results, is_bad_init, check
 use Rattle.gr_stmt.specs.Declarations.{check_decl, check_decls, check_file}
 use Rattle.gr_rules.proofs.Naming.{type_true}
 use Rattle.gr_statement_rules.specs.Statements.{a_block, no_more}
-use Rattle.gr_statement_rules.specs.Declarations.{AreTypes, no_type_left, also_type, AreResults, none_written, one_written, several_written, KeepsInit, another_name, a_method, a_plain_one, FunctionIsTyped, a_function}
+use Rattle.gr_statement_rules.specs.Declarations.{AreTypes, no_type_left, also_type, AreResults, none_written, one_written, several_written, KeepsInit}
+use Rattle.gr_statement_rules.specs.Declarations.{another_name, a_method, a_plain_one, FunctionIsTyped, a_function}
 use Rattle.gr_statement_rules.proofs.Reaching.{IsAt, held}
 use Rattle.gr_statement_rules.proofs.Statements.{AreTargets}
 use Rattle.gr_statement_rules.proofs.Headers.{function_true}

@@ -5,7 +5,8 @@ use Rattle.gr_scope.specs.Bindings.{IsPackageLevel}
 use Rattle.gr_expr.specs.Types.{Meaning, Package as PackageName, Broken}
 use Rattle.gr_expr.specs.World.{Bound, Means}
 use Rattle.gr_declared.specs.Package.{Package, spelled}
-use Rattle.gr_declared.specs.Bound.{PredeclaredMeans, a_type, a_truth, an_untruth, a_nil, a_function, IsMeantBy, predeclared, import_name, local, variable, broken_variable, function, broken_function, definition, broken_definition}
+use Rattle.gr_declared.specs.Bound.{PredeclaredMeans, a_type, a_truth, an_untruth, a_nil, a_function, IsMeantBy, predeclared, import_name, local, variable}
+use Rattle.gr_declared.specs.Bound.{broken_variable, function, broken_function, definition, broken_definition}
 use Rattle.gr_meanings.specs.Worlds.{IsBoundAt, by_scope, by_package, IsName, is_bound, is_unbound}
 use Rattle.gr_object.specs.Lines.{GlobalName}
 use Rattle.gr_object.specs.Source.{Source}

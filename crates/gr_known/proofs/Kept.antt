@@ -1,11 +1,13 @@
 -- Uses of members that were found stay, whatever statements stand behind them.
 use Rattle.std.proofs.Common.{ℕ, Bool, List, [], ◌∷◌, Option, Some, None}
-use Rattle.gr_tree.specs.Tree.{Item, Group, single, several, IdentTree, TypeTree, ExprTree, SimpleTree, LocalTree, InitTree, ForTree, StatementTree, BlockTree, StatementTrees, IfTree, ElseTree, ReceiverTree, ParamTree, FuncTree, DeclTree, GlobalTree, TypeSpecTree}
+use Rattle.gr_tree.specs.Tree.{Item, Group, single, several, IdentTree, TypeTree, ExprTree, SimpleTree, LocalTree, InitTree, ForTree, StatementTree}
+use Rattle.gr_tree.specs.Tree.{BlockTree, StatementTrees, IfTree, ElseTree, ReceiverTree, ParamTree, FuncTree, DeclTree, GlobalTree, TypeSpecTree}
 use Rattle.gr_tree.specs.Tree as tree
 use Rattle.gr_expr.specs.World.{World}
 use Rattle.gr_stmt.specs.Checked.{Checked, check_items, check_group}
 use Rattle.gr_stmt.specs.Sides.{Target, rights}
-use Rattle.gr_stmt.specs.Simple.{check_condition, check_step, check_update, check_alone, check_assign, check_define, check_simple, check_optional, check_optional_condition, check_written, check_unwritten, check_local_of, check_local}
+use Rattle.gr_stmt.specs.Simple.{check_condition, check_step, check_update, check_alone, check_assign, check_define, check_simple, check_optional}
+use Rattle.gr_stmt.specs.Simple.{check_optional_condition, check_written, check_unwritten, check_local_of, check_local}
 use Rattle.gr_stmt.specs.Statements.{check_return, check_init, check_header, check_statement, check_block, check_statements, check_if, check_else}
 use Rattle.gr_stmt.specs.Headers.{judge_results, check_optional_receiver, check_receiver, check_param, check_signature, check_function}
 use Rattle.gr_stmt.specs.Declarations.{check_global, check_type, check_decl, check_decls}

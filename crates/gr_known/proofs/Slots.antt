@@ -3,7 +3,8 @@ use Rattle.std.proofs.Common.{ℕ, suc, ◌≡◌, ◌⊎◌, inl, inr, ◌==◌
 use Rattle.std.specs.Prelude.{option_to_list}
 use Rattle.std.specs.List.{flat_map}
 use Rattle.std.proofs.lemmas.Bool.{eq-eqb, true≢false}
-use Rattle.gr_tree.specs.Tree.{Item, Group, IdentTree, Named, Underscore, ExprTree, SimpleTree, LocalTree, InitTree, ForTree, StatementTree, BlockTree, StatementTrees, IfTree, ElseTree, FuncTree}
+use Rattle.gr_tree.specs.Tree.{Item, Group, IdentTree, Named, Underscore, ExprTree, SimpleTree, LocalTree, InitTree, ForTree, StatementTree, BlockTree}
+use Rattle.gr_tree.specs.Tree.{StatementTrees, IfTree, ElseTree, FuncTree}
 use Rattle.gr_tree.specs.Tree as tree
 use Rattle.gr_imports.specs.Files.{group_items}
 use Rattle.gr_expr.specs.Types.{PlainType}
@@ -11,12 +12,23 @@ use Rattle.gr_expr.specs.World.{World, Locals}
 use Rattle.gr_stmt.specs.Sides.{named}
 use Rattle.gr_statement_rules.specs.Simple.{LocalIsTyped}
 use Rattle.gr_object.specs.Numbering.{slot_from, slot_of}
-use Rattle.gr_object.specs.Slots.{receiver_places, parameter_places, local_places, header_places, init_places, statement_places, block_places, statements_places, if_places, else_places, slots_of}
+use Rattle.gr_object.specs.Slots.{receiver_places, parameter_places, local_places, header_places, init_places, statement_places, block_places}
+use Rattle.gr_object.specs.Slots.{statements_places, if_places, else_places, slots_of}
 use Rattle.gr_tree.specs.Tree.{LinkTrees, OperandTrees, ArgumentTrees, LiteralTree, ElementTrees}
 use Rattle.gr_expr.specs.Types.{Meaning}
-use Rattle.gr_balance.specs.Asked.{Question, OfInteger, OfText, OfName, OfExport, OfMember, OfDeclared, OfLeft, Asks, for_integer, for_text, for_name, in_composite, in_paren, in_prefix, in_address, in_chain, in_links, in_binary, in_operands, LinksAsk, for_member, for_export, behind_selector, in_index, behind_index, in_arguments, behind_call, OperandsAsk, in_operand, in_later_operand, ArgumentsAsk, in_argument, in_later_argument, LiteralAsks, in_elements, ElementsAsk, for_key, in_element, in_later_element}
+use Rattle.gr_balance.specs.Asked.{Question, OfInteger, OfText, OfName, OfExport, OfMember, OfDeclared, OfLeft, Asks, for_integer, for_text, for_name}
+use Rattle.gr_balance.specs.Asked.{in_composite, in_paren, in_prefix, in_address, in_chain, in_links, in_binary, in_operands, LinksAsk, for_member}
+use Rattle.gr_balance.specs.Asked.{for_export, behind_selector, in_index, behind_index, in_arguments, behind_call, OperandsAsk, in_operand}
+use Rattle.gr_balance.specs.Asked.{in_later_operand, ArgumentsAsk, in_argument, in_later_argument, LiteralAsks, in_elements, ElementsAsk, for_key}
+use Rattle.gr_balance.specs.Asked.{in_element, in_later_element}
 use Rattle.gr_balance.specs.Answered.{IsKnown}
-use Rattle.gr_balance.specs.StatementsAsked.{AskIfPresent, asks_present, AnyAsks, this_one, a_later_one, SimpleAsks, in_call, in_step, in_updated, in_update, in_assigned, in_assignment, for_left, in_definition, InitAsks, in_init, HeaderAsks, in_while, in_first, in_test, in_post, AskInTurn, this_item, later_item, AskInGroup, asks_alone, asks_together, IsDeclared, this_declared, a_later_declared, LocalAsks, for_declared, in_values, StatementAsks, in_declaration, in_simple, in_inner, in_choice, in_header, in_loop, in_return, BlockAsks, in_block, StatementsAsk, this_statement, later_statement, IfAsks, before_condition, in_condition, in_then, in_otherwise, ElseAsks, in_else_if, in_else, FunctionAsks, in_body}
+use Rattle.gr_balance.specs.StatementsAsked.{AskIfPresent, asks_present, AnyAsks, this_one, a_later_one, SimpleAsks, in_call, in_step, in_updated}
+use Rattle.gr_balance.specs.StatementsAsked.{in_update, in_assigned, in_assignment, for_left, in_definition, InitAsks, in_init, HeaderAsks, in_while}
+use Rattle.gr_balance.specs.StatementsAsked.{in_first, in_test, in_post, AskInTurn, this_item, later_item, AskInGroup, asks_alone, asks_together}
+use Rattle.gr_balance.specs.StatementsAsked.{IsDeclared, this_declared, a_later_declared, LocalAsks, for_declared, in_values, StatementAsks, in_declaration}
+use Rattle.gr_balance.specs.StatementsAsked.{in_simple, in_inner, in_choice, in_header, in_loop, in_return, BlockAsks, in_block, StatementsAsk}
+use Rattle.gr_balance.specs.StatementsAsked.{this_statement, later_statement, IfAsks, before_condition, in_condition, in_then, in_otherwise, ElseAsks}
+use Rattle.gr_balance.specs.StatementsAsked.{in_else_if, in_else, FunctionAsks, in_body}
 
 abbrev IsAmong : ℕ → List ℕ → Type 0
 IsAmong n [] = ⊥

@@ -1,6 +1,7 @@
 -- The members that the code of statements asks for are among the uses of members that are found in them.
 use Rattle.std.proofs.Common.{ℕ, ◌≡◌, List, [], ◌∷◌, ◌++◌, Option, Some, None, refl, sym, subst}
-use Rattle.gr_tree.specs.Tree.{Item, Group, IdentTree, TypeTree, ExprTree, SimpleTree, LocalTree, InitTree, ForTree, StatementTree, BlockTree, StatementTrees, IfTree, ElseTree}
+use Rattle.gr_tree.specs.Tree.{Item, Group, IdentTree, TypeTree, ExprTree, SimpleTree, LocalTree, InitTree, ForTree, StatementTree, BlockTree}
+use Rattle.gr_tree.specs.Tree.{StatementTrees, IfTree, ElseTree}
 use Rattle.gr_tree.specs.Tree as tree
 use Rattle.gr_expr.specs.Places.{place_of}
 use Rattle.gr_expr.specs.Types.{PlainType}
@@ -8,7 +9,8 @@ use Rattle.gr_expr.specs.World.{World, Locals}
 use Rattle.gr_expr.specs.Judge.{judge, judge_value, as_value}
 use Rattle.gr_stmt.specs.Checked.{Checked, check_items, check_group}
 use Rattle.gr_stmt.specs.Sides.{Target, values_of, judge_each, rights, assignable, judge_operand, assigned_one, assigned, defined}
-use Rattle.gr_stmt.specs.Simple.{check_condition, check_step, check_update, check_alone, check_assign, check_define, check_simple, check_optional, check_optional_condition, check_written, check_unwritten, check_local_of, check_local}
+use Rattle.gr_stmt.specs.Simple.{check_condition, check_step, check_update, check_alone, check_assign, check_define, check_simple, check_optional}
+use Rattle.gr_stmt.specs.Simple.{check_optional_condition, check_written, check_unwritten, check_local_of, check_local}
 use Rattle.gr_stmt.specs.Statements.{check_return, check_init, check_header, check_statement, check_block, check_statements, check_if, check_else}
 use Rattle.gr_statement_rules.specs.Turns.{IfPresent, absent, present}
 use Rattle.gr_statement_rules.specs.Simple.{ConditionIsTyped, SimpleIsTyped, LocalIsTyped}
@@ -16,8 +18,14 @@ use Rattle.gr_statement_rules.specs.Statements.{InitIsTyped, an_init, HeaderIsTy
 use Rattle.gr_statement_rules.proofs.Reaching.{IsAt, held}
 use Rattle.gr_statement_rules.proofs.Locals.{local_true}
 use Rattle.gr_statement_rules.proofs.Statements.{AreTargets, statement_true, block_true}
-use Rattle.gr_balance.specs.Asked.{Question, Asks, for_integer, for_text, for_name, in_composite, in_paren, in_prefix, in_address, in_chain, in_links, in_binary, in_operands}
-use Rattle.gr_balance.specs.StatementsAsked.{Asking, AskInTurn, this_item, later_item, AskInGroup, asks_alone, asks_together, AskIfPresent, asks_present, AnyAsks, this_one, a_later_one, SimpleAsks, in_call, in_step, in_updated, in_update, in_assigned, in_assignment, for_left, in_definition, LocalAsks, for_declared, in_values, InitAsks, in_init, HeaderAsks, in_while, in_first, in_test, in_post, StatementAsks, in_declaration, in_simple, in_inner, in_choice, in_header, in_loop, in_return, BlockAsks, in_block, StatementsAsk, this_statement, later_statement, IfAsks, before_condition, in_condition, in_then, in_otherwise, ElseAsks, in_else_if, in_else}
+use Rattle.gr_balance.specs.Asked.{Question, Asks, for_integer, for_text, for_name, in_composite, in_paren, in_prefix, in_address, in_chain, in_links}
+use Rattle.gr_balance.specs.Asked.{in_binary, in_operands}
+use Rattle.gr_balance.specs.StatementsAsked.{Asking, AskInTurn, this_item, later_item, AskInGroup, asks_alone, asks_together, AskIfPresent, asks_present}
+use Rattle.gr_balance.specs.StatementsAsked.{AnyAsks, this_one, a_later_one, SimpleAsks, in_call, in_step, in_updated, in_update, in_assigned}
+use Rattle.gr_balance.specs.StatementsAsked.{in_assignment, for_left, in_definition, LocalAsks, for_declared, in_values, InitAsks, in_init, HeaderAsks}
+use Rattle.gr_balance.specs.StatementsAsked.{in_while, in_first, in_test, in_post, StatementAsks, in_declaration, in_simple, in_inner, in_choice, in_header}
+use Rattle.gr_balance.specs.StatementsAsked.{in_loop, in_return, BlockAsks, in_block, StatementsAsk, this_statement, later_statement, IfAsks}
+use Rattle.gr_balance.specs.StatementsAsked.{before_condition, in_condition, in_then, in_otherwise, ElseAsks, in_else_if, in_else}
 use Rattle.gr_known.proofs.Used.{Met, met_left, met_right, expression_met}
 use Rattle.gr_known.proofs.Kept.{condition_keeps, optional_keeps, optional_condition_keeps, local_keeps, items_keep, block_keeps, statements_keep, else_keeps}
 

@@ -5,7 +5,9 @@ use Rattle.gr_tree.specs.Tree as tree
 use Rattle.gr_expr.specs.Places.{first_token, first_of_type, place_of}
 use Rattle.gr_expr.specs.Types.{PlainType, Kind, Typed, Meaning, Value}
 use Rattle.gr_expr.specs.World.{World, Locals}
-use Rattle.gr_expr.specs.Judge.{MemberUse, Judged, JudgedList, Seen, none_seen, followed, as_value, value_at, select_member, select, index_of, index_rule, call_of, call_rule, operation, prefix_of, address_of, judge_type, literal_meaning, element_key, seen_after, judge, judge_operands, judge_links, judge_arguments, judge_literal, judge_elements}
+use Rattle.gr_expr.specs.Judge.{MemberUse, Judged, JudgedList, Seen, none_seen, followed, as_value, value_at, select_member, select, index_of, index_rule}
+use Rattle.gr_expr.specs.Judge.{call_of, call_rule, operation, prefix_of, address_of, judge_type, literal_meaning, element_key, seen_after, judge}
+use Rattle.gr_expr.specs.Judge.{judge_operands, judge_links, judge_arguments, judge_literal, judge_elements}
 use Rattle.gr_rules.specs.Links.{Indexes, Calls}
 use Rattle.gr_rules.specs.Links.{element as slice_element}
 use Rattle.gr_rules.specs.Meanings.{AreValues, no_argument, argument}
@@ -16,7 +18,11 @@ use Rattle.gr_rules.proofs.Selecting.{selects_true, indexes_true}
 use Rattle.gr_rules.proofs.Arguments.{AreOf}
 use Rattle.gr_rules.proofs.Calling.{calls_true}
 use Rattle.gr_rules.proofs.Soundness.{sound}
-use Rattle.gr_balance.specs.Asked.{Question, OfInteger, OfText, OfName, OfExport, OfMember, OfDeclared, OfLeft, Asks, for_integer, for_text, for_name, in_composite, in_paren, in_prefix, in_address, in_chain, in_links, in_binary, in_operands, LinksAsk, for_member, for_export, behind_selector, in_index, behind_index, in_arguments, behind_call, OperandsAsk, in_operand, in_later_operand, ArgumentsAsk, in_argument, in_later_argument, LiteralAsks, in_elements, ElementsAsk, for_key, in_element, in_later_element}
+use Rattle.gr_balance.specs.Asked.{Question, OfInteger, OfText, OfName, OfExport, OfMember, OfDeclared, OfLeft, Asks, for_integer, for_text, for_name}
+use Rattle.gr_balance.specs.Asked.{in_composite, in_paren, in_prefix, in_address, in_chain, in_links, in_binary, in_operands, LinksAsk, for_member}
+use Rattle.gr_balance.specs.Asked.{for_export, behind_selector, in_index, behind_index, in_arguments, behind_call, OperandsAsk, in_operand}
+use Rattle.gr_balance.specs.Asked.{in_later_operand, ArgumentsAsk, in_argument, in_later_argument, LiteralAsks, in_elements, ElementsAsk, for_key}
+use Rattle.gr_balance.specs.Asked.{in_element, in_later_element}
 
 -- a use at that token, behind a value of that type
 abbrev pub IsUsed : ℕ → PlainType → List MemberUse → Type 0

@@ -3,14 +3,28 @@ use Rattle.std.proofs.Common.{ℕ, ◌≡◌, ◌⊎◌, inl, inr, Bool, List, [
 use Rattle.gr_tree.specs.declared.syntax.Kind.{Kind}
 use Rattle.gr_tree.specs.declared.syntax.Kind.TheVariants as kind
 use Rattle.gr_tree.specs.declared.syntax.Token.{Token}
-use Rattle.gr_tree.specs.Flatten.{sign, sign_if, binary_kind, prefix_kind, step_kind, update_kind, tokens_if, all_tokens, item_tokens, list_tokens, group_tokens, ident_tokens, type_tokens, key_tokens, expr_tokens, operand_tokens, link_tokens, argument_tokens, literal_tokens, element_tokens, exprs_tokens, simple_tokens, value_tokens, local_tokens, init_tokens, for_tokens, statement_tokens, block_tokens, statements_tokens, if_tokens, else_tokens, receiver_tokens, param_tokens, result_tokens, func_tokens, imports_tokens, decl_tokens, flatten}
-use Rattle.gr_tree.specs.Tree.{Item, Group, TypeTree, ExprTree, LinkTrees, OperandTrees, ArgumentTrees, LiteralTree, ElementTrees, SimpleTree, LocalTree, InitTree, ForTree, StatementTree, BlockTree, StatementTrees, IfTree, ElseTree, FuncTree, DeclTree, FileTree}
+use Rattle.gr_tree.specs.Flatten.{sign, sign_if, binary_kind, prefix_kind, step_kind, update_kind, tokens_if, all_tokens, item_tokens, list_tokens}
+use Rattle.gr_tree.specs.Flatten.{group_tokens, ident_tokens, type_tokens, key_tokens, expr_tokens, operand_tokens, link_tokens, argument_tokens}
+use Rattle.gr_tree.specs.Flatten.{literal_tokens, element_tokens, exprs_tokens, simple_tokens, value_tokens, local_tokens, init_tokens, for_tokens}
+use Rattle.gr_tree.specs.Flatten.{statement_tokens, block_tokens, statements_tokens, if_tokens, else_tokens, receiver_tokens, param_tokens, result_tokens}
+use Rattle.gr_tree.specs.Flatten.{func_tokens, imports_tokens, decl_tokens, flatten}
+use Rattle.gr_tree.specs.Tree.{Item, Group, TypeTree, ExprTree, LinkTrees, OperandTrees, ArgumentTrees, LiteralTree, ElementTrees, SimpleTree, LocalTree}
+use Rattle.gr_tree.specs.Tree.{InitTree, ForTree, StatementTree, BlockTree, StatementTrees, IfTree, ElseTree, FuncTree, DeclTree, FileTree}
 use Rattle.gr_tree.specs.Tree as tree
 use Rattle.gr_expr.specs.Types.{PlainType, Meaning}
 use Rattle.gr_expr.specs.World.{World, Locals}
 use Rattle.gr_statement_rules.specs.Simple.{LocalIsTyped}
-use Rattle.gr_balance.specs.Asked.{Question, OfInteger, OfText, OfName, OfExport, OfMember, OfDeclared, OfLeft, Asks, for_integer, for_text, for_name, in_composite, in_paren, in_prefix, in_address, in_chain, in_links, in_binary, in_operands, LinksAsk, for_member, for_export, behind_selector, in_index, behind_index, in_arguments, behind_call, OperandsAsk, in_operand, in_later_operand, ArgumentsAsk, in_argument, in_later_argument, LiteralAsks, in_elements, ElementsAsk, for_key, in_element, in_later_element}
-use Rattle.gr_balance.specs.StatementsAsked.{AskInTurn, this_item, later_item, AskInGroup, asks_alone, asks_together, AskIfPresent, asks_present, AnyAsks, this_one, a_later_one, SimpleAsks, in_call, in_step, in_updated, in_update, in_assigned, in_assignment, for_left, in_definition, LocalAsks, for_declared, in_values, InitAsks, in_init, HeaderAsks, in_while, in_first, in_test, in_post, StatementAsks, in_declaration, in_simple, in_inner, in_choice, in_header, in_loop, in_return, BlockAsks, in_block, StatementsAsk, this_statement, later_statement, IfAsks, before_condition, in_condition, in_then, in_otherwise, ElseAsks, in_else_if, in_else, FunctionAsks, in_body}
+use Rattle.gr_balance.specs.Asked.{Question, OfInteger, OfText, OfName, OfExport, OfMember, OfDeclared, OfLeft, Asks, for_integer, for_text, for_name}
+use Rattle.gr_balance.specs.Asked.{in_composite, in_paren, in_prefix, in_address, in_chain, in_links, in_binary, in_operands, LinksAsk, for_member}
+use Rattle.gr_balance.specs.Asked.{for_export, behind_selector, in_index, behind_index, in_arguments, behind_call, OperandsAsk, in_operand}
+use Rattle.gr_balance.specs.Asked.{in_later_operand, ArgumentsAsk, in_argument, in_later_argument, LiteralAsks, in_elements, ElementsAsk, for_key}
+use Rattle.gr_balance.specs.Asked.{in_element, in_later_element}
+use Rattle.gr_balance.specs.StatementsAsked.{AskInTurn, this_item, later_item, AskInGroup, asks_alone, asks_together, AskIfPresent, asks_present, AnyAsks}
+use Rattle.gr_balance.specs.StatementsAsked.{this_one, a_later_one, SimpleAsks, in_call, in_step, in_updated, in_update, in_assigned, in_assignment}
+use Rattle.gr_balance.specs.StatementsAsked.{for_left, in_definition, LocalAsks, for_declared, in_values, InitAsks, in_init, HeaderAsks, in_while, in_first}
+use Rattle.gr_balance.specs.StatementsAsked.{in_test, in_post, StatementAsks, in_declaration, in_simple, in_inner, in_choice, in_header, in_loop, in_return}
+use Rattle.gr_balance.specs.StatementsAsked.{BlockAsks, in_block, StatementsAsk, this_statement, later_statement, IfAsks, before_condition, in_condition}
+use Rattle.gr_balance.specs.StatementsAsked.{in_then, in_otherwise, ElseAsks, in_else_if, in_else, FunctionAsks, in_body}
 use Rattle.gr_known.specs.Files.{IsFunctionIn, this_function, later_function}
 
 -- a token of that kind, by its number

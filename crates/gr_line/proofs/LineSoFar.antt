@@ -1,5 +1,6 @@
 -- The part of a line that is read so far.
-use Rattle.std.proofs.Common.{◌≡◌, ◌≢◌, ℕ, ◌+◌, ◌<◌, ◌≤◌, List, [], ◌∷◌, ◌++◌, length, take, Option, None, Some, Ok, Bool, true, false, cond, eqb, nat_lt, refl, sym, ap, ◌∙◌, arith, append-nil, length-append, length-take, min}
+use Rattle.std.proofs.Common.{◌≡◌, ◌≢◌, ℕ, ◌+◌, ◌<◌, ◌≤◌, List, [], ◌∷◌, ◌++◌, length, take, Option, None, Some, Ok, Bool, true, false, cond, eqb, nat_lt}
+use Rattle.std.proofs.Common.{refl, sym, ap, ◌∙◌, arith, append-nil, length-append, length-take, min}
 use Rattle.std.proofs.lemmas.List.{length-take, take_all, drop_all, take-append-le}
 use Rattle.std.proofs.lemmas.Bool.{ltb-true}
 use Rattle.std.proofs.Math.Seq.{drop-append-add}
@@ -40,9 +41,17 @@ short_is : (limit n : ℕ) → false ≡ nat_lt limit n → n ≤ limit
 short_is limit n e = grind (arith, common_steps)
 
 pub LineSoFar-none : (limit : ℕ) (before : Option (List ℕ)) (line : List ℕ) → line ≡ [] → LineSoFar limit before before line false
-LineSoFar-none limit before line e = record { bytes = []; consumed = Consumes-nil before; plain = refl; kept = grind (arith, common_steps); long = grind (arith, common_steps) }
+LineSoFar-none limit before line e = record {
+  bytes = [];
+  consumed = Consumes-nil before;
+  plain = refl;
+  kept = grind (arith, common_steps);
+  long =
+      grind (arith, common_steps);
+}
 
-plain_push : (bytes : List ℕ) (byte : ℕ) → position_or_len is_newline bytes ≡ length bytes → byte ≢ 10 → position_or_len is_newline (bytes ++ byte ∷ []) ≡ length (bytes ++ byte ∷ [])
+plain_push : (bytes : List ℕ) (byte : ℕ) → position_or_len is_newline bytes ≡ length bytes → byte ≢ 10 →
+    position_or_len is_newline (bytes ++ byte ∷ []) ≡ length (bytes ++ byte ∷ [])
 plain_push bytes byte p n = grind (arith, common_steps, position_or_len_push)
 
 -- the kept part is as long as the limit allows
@@ -85,7 +94,8 @@ position_there : (bytes rest : List ℕ) → position_or_len is_newline bytes �
 position_there bytes rest p = grind (arith, common_steps, prefix_len-append)
 
 pub line_of-append : (bytes rest : List ℕ) → position_or_len is_newline bytes ≡ length bytes → line_of (bytes ++ 10 ∷ rest) ≡ bytes
-line_of-append bytes rest p = rw (position_there bytes rest p) (take-append-le (length bytes) bytes (10 ∷ rest) (omega arith) ∙ take_all (length bytes) bytes (omega arith))
+line_of-append bytes rest p = rw (position_there bytes rest p)
+    (take-append-le (length bytes) bytes (10 ∷ rest) (omega arith) ∙ take_all (length bytes) bytes (omega arith))
 
 pub after_line-append : (bytes rest : List ℕ) → position_or_len is_newline bytes ≡ length bytes → after_line (bytes ++ 10 ∷ rest) ≡ rest
 after_line-append bytes rest p = rw (position_there bytes rest p) (drop-append-add bytes (10 ∷ rest) 1)
@@ -107,7 +117,11 @@ line_read limit (Some input) None after line is_too_long h c = absurd h.consumed
 line_read limit (Some input) (Some mid) None line is_too_long h c = absurd c
 line_read limit (Some input) (Some mid) (Some rest) line true h c =
     let e = whole_input input mid rest h.bytes h.consumed c in
-    rw e (not_empty h.bytes rest, rw (line_of-append h.bytes rest h.plain) (long_is limit (length h.bytes) h.long), ap Some (sym (after_line-append h.bytes rest h.plain)))
+    rw e (
+      not_empty h.bytes rest,
+      rw (line_of-append h.bytes rest h.plain) (long_is limit (length h.bytes) h.long),
+      ap Some (sym (after_line-append h.bytes rest h.plain)),
+    )
 line_read limit (Some input) (Some mid) (Some rest) line false h c =
     let e = whole_input input mid rest h.bytes h.consumed c in
     let all : line ≡ h.bytes = h.kept ∙ take_all limit h.bytes (short_is limit (length h.bytes) h.long) in

@@ -83,19 +83,23 @@ weight [] = 0
 weight (x ∷ xs) = x + 256 * weight xs
 
 -- which lines begin with a word
-pub only_put : (command : CommandLine) (P : CommandLine → Type 0) → verb_of command ≡ codes "put" → ((basis : ℕ) (path : List ℕ) (size : ℕ) → P (Put basis path size)) → P command
+pub only_put : (command : CommandLine) (P : CommandLine → Type 0) → verb_of command ≡ codes "put" →
+    ((basis : ℕ) (path : List ℕ) (size : ℕ) → P (Put basis path size)) → P command
 only_put (Put basis path size) P e h = h basis path size
 only_put command P e h = absurd (omega (arith, ap weight e))
 
-pub only_del : (command : CommandLine) (P : CommandLine → Type 0) → verb_of command ≡ codes "del" → ((basis : ℕ) (path : List ℕ) → P (Del basis path)) → P command
+pub only_del : (command : CommandLine) (P : CommandLine → Type 0) → verb_of command ≡ codes "del" → ((basis : ℕ) (path : List ℕ) → P (Del basis path)) →
+    P command
 only_del (Del basis path) P e h = h basis path
 only_del command P e h = absurd (omega (arith, ap weight e))
 
-pub only_rename : (command : CommandLine) (P : CommandLine → Type 0) → verb_of command ≡ codes "rename" → ((basis : ℕ) (path : List ℕ) (offset : ℕ) (name : List ℕ) → P (Rename basis path offset name)) → P command
+pub only_rename : (command : CommandLine) (P : CommandLine → Type 0) → verb_of command ≡ codes "rename" →
+    ((basis : ℕ) (path : List ℕ) (offset : ℕ) (name : List ℕ) → P (Rename basis path offset name)) → P command
 only_rename (Rename basis path offset name) P e h = h basis path offset name
 only_rename command P e h = absurd (omega (arith, ap weight e))
 
-pub only_move : (command : CommandLine) (P : CommandLine → Type 0) → verb_of command ≡ codes "move" → ((basis : ℕ) (from to : List ℕ) → P (Move basis from to)) → P command
+pub only_move : (command : CommandLine) (P : CommandLine → Type 0) → verb_of command ≡ codes "move" →
+    ((basis : ℕ) (from to : List ℕ) → P (Move basis from to)) → P command
 only_move (Move basis from to) P e h = h basis from to
 only_move command P e h = absurd (omega (arith, ap weight e))
 
@@ -111,7 +115,8 @@ pub only_cat : (command : CommandLine) (P : CommandLine → Type 0) → verb_of 
 only_cat (Cat path) P e h = h path
 only_cat command P e h = absurd (omega (arith, ap weight e))
 
-pub only_uses : (command : CommandLine) (P : CommandLine → Type 0) → verb_of command ≡ codes "uses" → ((path : List ℕ) (offset : ℕ) → P (Uses path offset)) → P command
+pub only_uses : (command : CommandLine) (P : CommandLine → Type 0) → verb_of command ≡ codes "uses" →
+    ((path : List ℕ) (offset : ℕ) → P (Uses path offset)) → P command
 only_uses (Uses path offset) P e h = h path offset
 only_uses command P e h = absurd (omega (arith, ap weight e))
 
@@ -148,7 +153,8 @@ only_end End P e h = h
 only_end command P e h = absurd (omega (arith, ap weight e))
 
 -- what stands behind the first word
-pub put_words : (words : List ℕ) → ((basis : ℕ) (path : List ℕ) (size : ℕ) → FitsLine (Put basis path size) → words ≡ decimal basis ++ 32 ∷ (path ++ 32 ∷ decimal size) → ⊥)
+pub put_words : (words : List ℕ) → ((basis : ℕ) (path : List ℕ) (size : ℕ) → FitsLine (Put basis path size) →
+    words ≡ decimal basis ++ 32 ∷ (path ++ 32 ∷ decimal size) → ⊥)
     → (command : CommandLine) → HasWords (codes "put") words command → ⊥
 put_words words never command h = only_put command (λ c. FitsLine c → IsSpaced (args_of c) words → ⊥) h.first never h.fits h.others
 
@@ -157,7 +163,8 @@ pub del_words : (words : List ℕ) → ((basis : ℕ) (path : List ℕ) → Fits
 del_words words never command h = only_del command (λ c. FitsLine c → IsSpaced (args_of c) words → ⊥) h.first never h.fits h.others
 
 pub rename_words : (words : List ℕ)
-    → ((basis : ℕ) (path : List ℕ) (offset : ℕ) (name : List ℕ) → FitsLine (Rename basis path offset name) → words ≡ decimal basis ++ 32 ∷ (place_word path offset ++ 32 ∷ name) → ⊥)
+    → ((basis : ℕ) (path : List ℕ) (offset : ℕ) (name : List ℕ) → FitsLine (Rename basis path offset name) →
+    words ≡ decimal basis ++ 32 ∷ (place_word path offset ++ 32 ∷ name) → ⊥)
     → (command : CommandLine) → HasWords (codes "rename") words command → ⊥
 rename_words words never command h = only_rename command (λ c. FitsLine c → IsSpaced (args_of c) words → ⊥) h.first never h.fits h.others
 
@@ -190,7 +197,8 @@ pub log_words : (words : List ℕ) → ((number : ℕ) → number < 2 ^ 64 → w
 log_words words never command h = only_log command (λ c. FitsLine c → IsSpaced (args_of c) words → ⊥) h.first never h.fits h.others
 
 -- lines of several words begin with one of these
-pub no_verb : (verb words : List ℕ) → verb ≢ codes "put" → verb ≢ codes "del" → verb ≢ codes "rename" → verb ≢ codes "move" → verb ≢ codes "undo" → verb ≢ codes "redo" → verb ≢ codes "cat" → verb ≢ codes "uses" → verb ≢ codes "object" → verb ≢ codes "log"
+pub no_verb : (verb words : List ℕ) → verb ≢ codes "put" → verb ≢ codes "del" → verb ≢ codes "rename" → verb ≢ codes "move" → verb ≢ codes "undo" →
+    verb ≢ codes "redo" → verb ≢ codes "cat" → verb ≢ codes "uses" → verb ≢ codes "object" → verb ≢ codes "log"
     → (command : CommandLine) → HasWords verb words command → ⊥
 no_verb verb words put del rename move undo redo cat uses object log (Put basis path size) h = put (sym h.first)
 no_verb verb words put del rename move undo redo cat uses object log (Del basis path) h = del (sym h.first)
@@ -209,7 +217,8 @@ no_verb verb words put del rename move undo redo cat uses object log line.Wait h
 no_verb verb words put del rename move undo redo cat uses object log (line.Log number) h = log (sym h.first)
 no_verb verb words put del rename move undo redo cat uses object log End h = h.others
 
-pub no_bare : (verb : List ℕ) → verb ≢ codes "look" → verb ≢ codes "list" → verb ≢ codes "faults" → verb ≢ codes "work" → verb ≢ codes "wait" → verb ≢ codes "end"
+pub no_bare : (verb : List ℕ) → verb ≢ codes "look" → verb ≢ codes "list" → verb ≢ codes "faults" → verb ≢ codes "work" → verb ≢ codes "wait" →
+    verb ≢ codes "end"
     → (command : CommandLine) → args_of command ≡ [] → verb_of command ≢ verb
 no_bare verb look list faults work wait end Look a = λ e. look (sym e)
 no_bare verb look list faults work wait end line.List a = λ e. list (sym e)
@@ -238,11 +247,13 @@ bare_line text None h p = λ command k. let b = bare_words text (verb_of command
 bare_line text (Some command) h p = p
 
 -- a line with a space has other words
-spelled_by : (text verb words first : List ℕ) (others : List (List ℕ)) → text ≡ verb ++ 32 ∷ words → first ≡ verb → IsSpaced others words → text ≡ spaced first others
+spelled_by : (text verb words first : List ℕ) (others : List (List ℕ)) → text ≡ verb ++ 32 ∷ words → first ≡ verb → IsSpaced others words →
+    text ≡ spaced first others
 spelled_by text verb words first [] e f h = absurd h
 spelled_by text verb words first (a ∷ others) e f h = e ∙ ap (λ v. v ++ 32 ∷ words) (sym f) ∙ ap (λ l. first ++ 32 ∷ l) h
 
-words_of_split : (text verb words first : List ℕ) (others : List (List ℕ)) → text ≡ verb ++ 32 ∷ words → HasNoSpace verb → HasNoSpace first → text ≡ spaced first others
+words_of_split : (text verb words first : List ℕ) (others : List (List ℕ)) → text ≡ verb ++ 32 ∷ words → HasNoSpace verb → HasNoSpace first →
+    text ≡ spaced first others
     → (first ≡ verb) × IsSpaced others words
 words_of_split text verb words first [] e h k f = absurd (no_space first verb words k (sym f ∙ e))
 words_of_split text verb words first (a ∷ others) e h k f =

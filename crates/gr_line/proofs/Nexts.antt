@@ -1,5 +1,6 @@
 -- The next message, from its line and its body.
-use Rattle.std.proofs.Common.{◌≡◌, ◌≢◌, ℕ, ◌+◌, ◌≤◌, ◌<◌, List, [], ◌∷◌, ◌++◌, length, take, drop, Option, None, Some, Result, Ok, Err, refl, sym, ap, ◌∙◌, inl, inr, append_assoc, arith, le_trans, length-append, length-drop}
+use Rattle.std.proofs.Common.{◌≡◌, ◌≢◌, ℕ, ◌+◌, ◌≤◌, ◌<◌, List, [], ◌∷◌, ◌++◌, length, take, drop, Option, None, Some, Result, Ok, Err, refl, sym, ap, ◌∙◌}
+use Rattle.std.proofs.Common.{inl, inr, append_assoc, arith, le_trans, length-append, length-drop}
 use Rattle.std.proofs.lemmas.Grind.{common_steps}
 use Rattle.std.proofs.lemmas.List.Folds.{prefix_len-append}
 use Rattle.std.proofs.lemmas.List.{take-append-drop}
@@ -35,7 +36,8 @@ next_unknown limits None after text h k = tt
 next_unknown limits (Some input) after text h k =
     (after_line input, (h.0, (λ readable said is_line. k (rw h.2 readable.utf8) said (rw h.2 is_line), refl)), h.3)
 
-readable_line : (limits : Limits) (text input : List ℕ) → length text ≤ limits.command_bytes → text ≡ line_of input → IsUtf8 text → IsReadable limits (line_of input)
+readable_line : (limits : Limits) (text input : List ℕ) → length text ≤ limits.command_bytes → text ≡ line_of input → IsUtf8 text →
+    IsReadable limits (line_of input)
 readable_line limits text input short e utf8 = record { short = rw (← e) short; utf8 = rw (← e) utf8 }
 
 kept_is : (xs : List ℕ) (after : Option (List ℕ)) → Keeps (Some xs) after → after ≡ Some xs
@@ -76,7 +78,8 @@ no_message_in_line limits part front back m p e whole =
     let within = says_after limits (part ++ 10 ∷ []) m (back ++ 10 ∷ []) said in
     absurd (omega (arith, within, ap length (after_line-append part [] p), length-append back (10 ∷ [])))
 
-no_end_in_line : (limits : Limits) (part front back : List ℕ) → position_or_len is_newline part ≡ length part → part ≡ front ++ back → IsWholeEnd limits front → ⊥
+no_end_in_line : (limits : Limits) (part front back : List ℕ) → position_or_len is_newline part ≡ length part → part ≡ front ++ back →
+    IsWholeEnd limits front → ⊥
 no_end_in_line limits part front back p e whole =
     let ends : Ends limits (part ++ 10 ∷ []) (back ++ 10 ∷ []) = rw (ended_line part front back e) (whole (back ++ 10 ∷ [])) in
     let within = ends_after limits (part ++ 10 ∷ []) (back ++ 10 ∷ []) ends in
@@ -93,7 +96,8 @@ stays_in_line limits part rest p =
     }
 
 -- a part of a body has nothing of what follows the body
-after_body : (limits : Limits) (input part rest : List ℕ) (said : CommandLine) (m : Message) (after : List ℕ) → IsReadable limits (line_of input) → IsCommandLine (line_of input) said
+after_body : (limits : Limits) (input part rest : List ℕ) (said : CommandLine) (m : Message) (after : List ℕ) → IsReadable limits (line_of input) →
+    IsCommandLine (line_of input) said
     → after_line input ≡ part ++ rest → length part ≤ size_after said → Says limits input m after → length after ≤ length rest
 after_body limits input part rest said (Ask asked) after readable is_line e short h =
     let same = ap size_after (line_unique (line_of input) h.1.0 said h.1.2 is_line) in
@@ -127,7 +131,8 @@ no_end_at_put limits input path basis size after some put e = elim e [
 cut_again : (input part rest front back : List ℕ) → input ≡ part ++ rest → part ≡ front ++ back → input ≡ front ++ (back ++ rest)
 cut_again input part rest front back e f = e ∙ ap (λ l. l ++ rest) f ∙ append_assoc front back rest
 
-stays_in_body : (limits : Limits) (input part bytes rest path : List ℕ) (basis size : ℕ) → input ≢ [] → IsReadable limits (line_of input) → IsCommandLine (line_of input) (Put basis path size)
+stays_in_body : (limits : Limits) (input part bytes rest path : List ℕ) (basis size : ℕ) → input ≢ [] → IsReadable limits (line_of input) →
+    IsCommandLine (line_of input) (Put basis path size)
     → input ≡ part ++ rest → after_line input ≡ bytes ++ rest → length bytes < size → StaysWithin limits part rest
 stays_in_body limits input part bytes rest path basis size some readable put all e short = record {
   message = λ m after says. after_body limits input bytes rest (Put basis path size) m after readable put e (omega (arith, short)) (rw all says);
@@ -194,45 +199,98 @@ next_line limits (Some input) mid after text End r h t k =
     let is_after = kept_is (after_line input) after (rw h.3 at k.1) in
     rw k.0 (after_line input, inr (readable_line limits text input h.1 h.2 t.0, sym h.2 ∙ t.1.spelled, refl), is_after)
 next_line limits (Some input) mid after text Look r h t k =
-    next_bare limits input command.Look after r (h.0, (Look, readable_line limits text input h.1 h.2 t.0, rw (← h.2) t.1, zero_below (length (after_line input)), refl, refl)) k.0
+    next_bare limits input command.Look after r (
+      h.0,
+      (
+        Look,
+        readable_line limits text input h.1 h.2 t.0,
+        rw (← h.2) t.1,
+        zero_below (length (after_line input)),
+        refl,
+        refl,
+      ),
+    ) k.0
     (kept_is (after_line input) after (rw h.3 at k.1))
 next_line limits (Some input) mid after text line.List r h t k =
-    next_bare limits input command.List after r (h.0, (line.List, readable_line limits text input h.1 h.2 t.0, rw (← h.2) t.1, zero_below (length (after_line input)), refl, refl)) k.0
+    next_bare limits input command.List after r (
+      h.0,
+      (
+        line.List,
+        readable_line limits text input h.1 h.2 t.0,
+        rw (← h.2) t.1,
+        zero_below (length (after_line input)),
+        refl,
+        refl,
+      ),
+    ) k.0
     (kept_is (after_line input) after (rw h.3 at k.1))
 next_line limits (Some input) mid after text line.Faults r h t k =
-    next_bare limits input command.Faults after r (h.0, (line.Faults, readable_line limits text input h.1 h.2 t.0, rw (← h.2) t.1, zero_below (length (after_line input)), refl, refl)) k.0
+    next_bare limits input command.Faults after r (
+      h.0,
+      (line.Faults, readable_line limits text input h.1 h.2 t.0, rw (← h.2) t.1, zero_below (length (after_line input)), refl, refl),
+    ) k.0
     (kept_is (after_line input) after (rw h.3 at k.1))
 next_line limits (Some input) mid after text line.Work r h t k =
-    next_bare limits input command.Work after r (h.0, (line.Work, readable_line limits text input h.1 h.2 t.0, rw (← h.2) t.1, zero_below (length (after_line input)), refl, refl)) k.0
+    next_bare limits input command.Work after r (
+      h.0,
+      (
+        line.Work,
+        readable_line limits text input h.1 h.2 t.0,
+        rw (← h.2) t.1,
+        zero_below (length (after_line input)),
+        refl,
+        refl,
+      ),
+    ) k.0
     (kept_is (after_line input) after (rw h.3 at k.1))
 next_line limits (Some input) mid after text line.Wait r h t k =
-    next_bare limits input command.Wait after r (h.0, (line.Wait, readable_line limits text input h.1 h.2 t.0, rw (← h.2) t.1, zero_below (length (after_line input)), refl, refl)) k.0
+    next_bare limits input command.Wait after r (
+      h.0,
+      (
+        line.Wait,
+        readable_line limits text input h.1 h.2 t.0,
+        rw (← h.2) t.1,
+        zero_below (length (after_line input)),
+        refl,
+        refl,
+      ),
+    ) k.0
     (kept_is (after_line input) after (rw h.3 at k.1))
 next_line limits (Some input) mid after text (line.Object path) r h t k =
-    next_bare limits input (command.Object path) after r (h.0, (line.Object path, readable_line limits text input h.1 h.2 t.0, rw (← h.2) t.1, zero_below (length (after_line input)), refl, refl)) k.0
+    next_bare limits input (command.Object path) after r
+    (h.0, (line.Object path, readable_line limits text input h.1 h.2 t.0, rw (← h.2) t.1, zero_below (length (after_line input)), refl, refl)) k.0
     (kept_is (after_line input) after (rw h.3 at k.1))
 next_line limits (Some input) mid after text (Rename basis path offset name) r h t k =
     next_bare limits input (command.Rename basis path offset name) after r
     (h.0, (Rename basis path offset name, readable_line limits text input h.1 h.2 t.0, rw (← h.2) t.1, zero_below (length (after_line input)), refl, refl)) k.0
     (kept_is (after_line input) after (rw h.3 at k.1))
 next_line limits (Some input) mid after text (Move basis from to) r h t k =
-    next_bare limits input (command.Move basis from to) after r (h.0, (Move basis from to, readable_line limits text input h.1 h.2 t.0, rw (← h.2) t.1, zero_below (length (after_line input)), refl, refl)) k.0
+    next_bare limits input (command.Move basis from to) after r
+    (h.0, (Move basis from to, readable_line limits text input h.1 h.2 t.0, rw (← h.2) t.1, zero_below (length (after_line input)), refl, refl)) k.0
     (kept_is (after_line input) after (rw h.3 at k.1))
 next_line limits (Some input) mid after text (line.Log number) r h t k =
-    next_bare limits input (command.Log number) after r (h.0, (line.Log number, readable_line limits text input h.1 h.2 t.0, rw (← h.2) t.1, zero_below (length (after_line input)), refl, refl)) k.0
+    next_bare limits input (command.Log number) after r
+    (h.0, (line.Log number, readable_line limits text input h.1 h.2 t.0, rw (← h.2) t.1, zero_below (length (after_line input)), refl, refl)) k.0
     (kept_is (after_line input) after (rw h.3 at k.1))
 next_line limits (Some input) mid after text (Undo basis) r h t k =
-    next_bare limits input (command.Undo basis) after r (h.0, (Undo basis, readable_line limits text input h.1 h.2 t.0, rw (← h.2) t.1, zero_below (length (after_line input)), refl, refl)) k.0
+    next_bare limits input (command.Undo basis) after r
+    (h.0, (Undo basis, readable_line limits text input h.1 h.2 t.0, rw (← h.2) t.1, zero_below (length (after_line input)), refl, refl)) k.0
     (kept_is (after_line input) after (rw h.3 at k.1))
 next_line limits (Some input) mid after text (Redo basis) r h t k =
-    next_bare limits input (command.Redo basis) after r (h.0, (Redo basis, readable_line limits text input h.1 h.2 t.0, rw (← h.2) t.1, zero_below (length (after_line input)), refl, refl)) k.0
+    next_bare limits input (command.Redo basis) after r
+    (h.0, (Redo basis, readable_line limits text input h.1 h.2 t.0, rw (← h.2) t.1, zero_below (length (after_line input)), refl, refl)) k.0
     (kept_is (after_line input) after (rw h.3 at k.1))
 next_line limits (Some input) mid after text (Del basis path) r h t k =
-    next_bare limits input (command.Del basis path) after r (h.0, (Del basis path, readable_line limits text input h.1 h.2 t.0, rw (← h.2) t.1, zero_below (length (after_line input)), refl, refl)) k.0
+    next_bare limits input (command.Del basis path) after r
+    (h.0, (Del basis path, readable_line limits text input h.1 h.2 t.0, rw (← h.2) t.1, zero_below (length (after_line input)), refl, refl)) k.0
     (kept_is (after_line input) after (rw h.3 at k.1))
 next_line limits (Some input) mid after text (Cat path) r h t k =
-    next_bare limits input (command.Cat path) after r (h.0, (Cat path, readable_line limits text input h.1 h.2 t.0, rw (← h.2) t.1, zero_below (length (after_line input)), refl, refl)) k.0
+    next_bare limits input (command.Cat path) after r (
+      h.0,
+      (Cat path, readable_line limits text input h.1 h.2 t.0, rw (← h.2) t.1, zero_below (length (after_line input)), refl, refl),
+    ) k.0
     (kept_is (after_line input) after (rw h.3 at k.1))
 next_line limits (Some input) mid after text (Uses path offset) r h t k =
-    next_bare limits input (command.Uses path offset) after r (h.0, (Uses path offset, readable_line limits text input h.1 h.2 t.0, rw (← h.2) t.1, zero_below (length (after_line input)), refl, refl)) k.0
+    next_bare limits input (command.Uses path offset) after r
+    (h.0, (Uses path offset, readable_line limits text input h.1 h.2 t.0, rw (← h.2) t.1, zero_below (length (after_line input)), refl, refl)) k.0
     (kept_is (after_line input) after (rw h.3 at k.1))

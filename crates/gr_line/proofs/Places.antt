@@ -1,5 +1,6 @@
 -- A path and an offset in one word, with the signs :# between.
-use Rattle.std.proofs.Common.{◌≡◌, ◌≢◌, ℕ, ◌+◌, ◌^◌, ◌<◌, List, [], ◌∷◌, ◌++◌, length, take, drop, Option, None, Some, refl, sym, ap, ◌∙◌, arith, append_assoc, decimal, codes, length-append, take-append-drop}
+use Rattle.std.proofs.Common.{◌≡◌, ◌≢◌, ℕ, ◌+◌, ◌^◌, ◌<◌, List, [], ◌∷◌, ◌++◌, length, take, drop, Option, None, Some, refl, sym, ap, ◌∙◌, arith}
+use Rattle.std.proofs.Common.{append_assoc, decimal, codes, length-append, take-append-drop}
 use Rattle.std.specs.Prelude.{MatchOption}
 use Rattle.std.specs.Borrow.{Bor}
 use Rattle.std.specs.Int.{IsInRange}
@@ -67,7 +68,8 @@ place_word_no_space path offset h k =
 pub last_mark : (text : List ℕ) (r : Option (Bor (List ℕ) × Bor (List ℕ)))
     → MatchOption r (RFindsText (codes ":#") text None) (λ x. SplitsAroundMatch (RFindsText (codes ":#")) text x.0.now x.1.now) → SplitsPlace text r
 last_mark text None h = λ front back e.
-    h (length front) (omega (arith, ap length e, length-append front (58 ∷ 35 ∷ back))) back (ap (drop (length front)) e ∙ drop_at front (58 ∷ 35 ∷ back) (length front) refl)
+    h (length front) (omega (arith, ap length e, length-append front (58 ∷ 35 ∷ back))) back
+    (ap (drop (length front)) e ∙ drop_at front (58 ∷ 35 ∷ back) (length front) refl)
 last_mark text (Some x) h = (
   sym (take-append-drop h.0 text) ∙ ap (λ l. take h.0 text ++ l) h.2.1.split ∙ (λ k. sym h.3 k ++ 58 ∷ 35 ∷ sym h.4 k),
   λ front back e.

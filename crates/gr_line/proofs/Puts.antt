@@ -1,5 +1,6 @@
 -- A put and its body.
-use Rattle.std.proofs.Common.{◌≡◌, ℕ, ◌≤◌, List, ◌++◌, length, take, drop, Option, None, Some, Ok, Bool, true, false, cond, nat_lt, IsTrue, ◌⊎◌, inl, inr, refl, sym, ap, ◌∙◌, arith, length-append, drop_at, append-nil}
+use Rattle.std.proofs.Common.{◌≡◌, ℕ, ◌≤◌, List, ◌++◌, length, take, drop, Option, None, Some, Ok, Bool, true, false, cond, nat_lt, IsTrue, ◌⊎◌, inl, inr}
+use Rattle.std.proofs.Common.{refl, sym, ap, ◌∙◌, arith, length-append, drop_at, append-nil}
 use Rattle.std.proofs.lemmas.List.{take_all, take-append-le}
 use Rattle.std.proofs.lemmas.Bool.{ltb-true, false≢true}
 use Rattle.std.proofs.lemmas.Grind.{common_steps}

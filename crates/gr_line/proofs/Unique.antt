@@ -14,7 +14,8 @@ use Rattle.gr_line.specs.Wire.{IsReadable, KeepsBody, SaysCommand, SaysLine, Say
 use Rattle.gr_line.specs.Laws.{BeginsOneWay, ReadsOneWay}
 use Rattle.gr_line.specs.Limit.{line_of, after_line}
 use Rattle.gr_line.proofs.Places.{place_word_unique}
-use Rattle.gr_line.proofs.LineWords.{same_words, only_put, only_del, only_rename, only_move, only_undo, only_redo, only_cat, only_uses, only_look, only_list, only_faults, only_object, only_work, only_wait, only_log, only_end}
+use Rattle.gr_line.proofs.LineWords.{same_words, only_put, only_del, only_rename, only_move, only_undo, only_redo, only_cat, only_uses, only_look}
+use Rattle.gr_line.proofs.LineWords.{only_list, only_faults, only_object, only_work, only_wait, only_log, only_end}
 
 -- two lists of words that are equal have equal parts
 head_of_two : (x y : List ℕ) (xs ys : List (List ℕ)) → x ∷ xs ≡ y ∷ ys → x ≡ y
@@ -52,7 +53,8 @@ same_line (Del basis path) b e = only_del b (Same (Del basis path)) e (λ other 
 same_line (Rename basis path offset name) b e = only_rename b (Same (Rename basis path offset name)) e (λ other way count label h k f.
     let same = same_basis basis other (place_word path offset ∷ name ∷ []) (place_word way count ∷ label ∷ []) h.0 k.0 f in
     let rest = tail_of_two (decimal basis) (decimal other) (place_word path offset ∷ name ∷ []) (place_word way count ∷ label ∷ []) f in
-    let same_place = place_word_unique path way offset count h.1.1 k.1.1 (head_of_two (place_word path offset) (place_word way count) (name ∷ []) (label ∷ []) rest) in
+    let same_place = place_word_unique path way offset count h.1.1 k.1.1
+    (head_of_two (place_word path offset) (place_word way count) (name ∷ []) (label ∷ []) rest) in
     let same_name = head_of_two name label [] [] (tail_of_two (place_word path offset) (place_word way count) (name ∷ []) (label ∷ []) rest) in
     ap (λ x. Rename x path offset name) same ∙ ap (λ x. Rename other x offset name) same_place.0
     ∙ ap (λ x. Rename other way x name) same_place.1 ∙ ap (λ x. Rename other way count x) same_name)
@@ -83,7 +85,8 @@ KeepsBody-unique limits path bytes (Some a) None h k = absurd (k h.0)
 KeepsBody-unique limits path bytes (Some a) (Some b) h k = ap Some (h.1 ∙ sym k.1)
 
 -- a line and its bytes say one command at most
-SaysCommand-unique : (limits : Limits) (said : CommandLine) (bytes : List ℕ) (a b : Command) → SaysCommand limits said bytes a → SaysCommand limits said bytes b → a ≡ b
+SaysCommand-unique : (limits : Limits) (said : CommandLine) (bytes : List ℕ) (a b : Command) → SaysCommand limits said bytes a →
+    SaysCommand limits said bytes b → a ≡ b
 SaysCommand-unique limits (Put basis path size) bytes a b h k =
     h.2 ∙ ap (λ x. command.Put basis path x) (KeepsBody-unique limits path bytes h.0 k.0 h.1 k.1) ∙ sym k.2
 SaysCommand-unique limits Look bytes a b h k = h ∙ sym k
@@ -142,7 +145,8 @@ end_or_put text basis path size e put =
     absurd (omega (arith, ap kind_of same))
 
 -- the line `end` says no message
-end_says_none : (limits : Limits) (text after : List ℕ) (m : Message) (rest : List ℕ) → IsReadable limits text → IsCommandLine text End → SaysLine limits text after m rest → ⊥
+end_says_none : (limits : Limits) (text after : List ℕ) (m : Message) (rest : List ℕ) → IsReadable limits text → IsCommandLine text End →
+    SaysLine limits text after m rest → ⊥
 end_says_none limits text after (Ask a) rest readable is_line h =
     let same : h.0 ≡ End = line_unique text h.0 End h.2 is_line in
     rw same at h.4

@@ -65,12 +65,14 @@ no_digit h = absurd (omega (arith, h.0, h.1))
 pub decimal_word : (n : ℕ) → n < 2 ^ 64 → HasNoSpace (decimal n)
 decimal_word n h = decimal_none 32 n h no_digit
 
-pub no_space_by : (text : List ℕ) (r : Option (Bor (List ℕ) × Bor (List ℕ))) (b : Bool) → is_some r ≡ not b → SplitsWord text r → MatchBool b (HasNoSpace text) (HasNoSpace text → ⊥)
+pub no_space_by : (text : List ℕ) (r : Option (Bor (List ℕ) × Bor (List ℕ))) (b : Bool) → is_some r ≡ not b → SplitsWord text r →
+    MatchBool b (HasNoSpace text) (HasNoSpace text → ⊥)
 no_space_by text None true e h = h
 no_space_by text None false e h = absurd (false≢true e)
 no_space_by text (Some x) true e h = absurd (false≢true (sym e))
 no_space_by text (Some x) false e h = λ k. no_space text x.0.now x.1.now k h.0
 
-pub u32_of : {E : Type 0} (text : List ℕ) (m : ℕ) (r : Result ℕ E) → text ≡ decimal m → m < 2 ^ 64 → OkIff r (m < 2 ^ 32) m → ReadsNumber (2 ^ 32) text (result_ok r)
+pub u32_of : {E : Type 0} (text : List ℕ) (m : ℕ) (r : Result ℕ E) → text ≡ decimal m → m < 2 ^ 64 → OkIff r (m < 2 ^ 32) m →
+    ReadsNumber (2 ^ 32) text (result_ok r)
 u32_of text m (Ok x) e fits h = (e ∙ ap decimal (sym h.1), rw h.1 h.0)
 u32_of text m (Err x) e fits h = λ n small f. let same : m ≡ n = decimal_injective m n fits (omega arith) (sym e ∙ f) in h (omega arith)

@@ -17,8 +17,10 @@ use Rattle.gr_line.specs.Wire.{Says, Ends, StaysWithin}
 abbrev pub ReadsNext : Limits → (before after : Option (List ℕ)) → Result Next InputFault → Type 0
 ReadsNext limits before after (Ok next.End) = IfSome before (λ input. (rest : List ℕ) × Ends limits input rest × (after ≡ Some rest))
 ReadsNext limits before after (Ok (next.Message message)) = IfSome before (λ input. (rest : List ℕ) × Says limits input message rest × (after ≡ Some rest))
-ReadsNext limits before after (Ok next.NoRoom) = IfSome before (λ input. (command : Command) × (rest : List ℕ) × Says limits input (Ask command) rest × (after ≡ Some rest))
-ReadsNext limits before after (Err fault) = IfSome before (λ input. (part : List ℕ) × (rest : List ℕ) × (input ≡ part ++ rest) × (after ≡ Some rest) × StaysWithin limits part rest)
+ReadsNext limits before after (Ok next.NoRoom) = IfSome before
+    (λ input. (command : Command) × (rest : List ℕ) × Says limits input (Ask command) rest × (after ≡ Some rest))
+ReadsNext limits before after (Err fault) = IfSome before
+    (λ input. (part : List ℕ) × (rest : List ℕ) × (input ≡ part ++ rest) × (after ≡ Some rest) × StaysWithin limits part rest)
 
 -- one byte is taken, or at the end of the input none
 abbrev pub TakesByte : (before after : Option (List ℕ)) → Result (Option ℕ) InputFault → Type 0

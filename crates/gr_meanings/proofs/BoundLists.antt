@@ -1,5 +1,6 @@
 -- Lists of what declarations mean, as they grow.
-use Rattle.std.proofs.Common.{ℕ, ◌≡◌, ◌+◌, ◌<◌, ◌≤◌, inl, inr, zero, suc, List, [], ◌∷◌, ◌++◌, length, ap, sym, subst, refl, ◌∙◌, arith, MatchOption, length-append}
+use Rattle.std.proofs.Common.{ℕ, ◌≡◌, ◌+◌, ◌<◌, ◌≤◌, inl, inr, zero, suc, List, [], ◌∷◌, ◌++◌, length, ap, sym, subst, refl, ◌∙◌, arith, MatchOption}
+use Rattle.std.proofs.Common.{length-append}
 use Rattle.std.specs.Prelude.{Option, Some, None, option_map, slice_get, slice_index_or}
 use Rattle.std.proofs.Math.ListN.{get_or-append}
 use Rattle.std.proofs.lemmas.List.{get_or_past}
@@ -53,7 +54,8 @@ meaning_at : (p : Package) (d : ℕ) (o : Option Bound) (found : Option plain.Bo
 meaning_at p d None found e h = subst (IsMeaningFound p d) (sym e) h
 meaning_at p d (Some b) found e h = subst (IsMeaningFound p d) (sym e) h
 
-pub next_meaning : (p : Package) (n : ℕ) (list : List Bound) (of : List (Option ℕ)) (found : Option plain.Bound) (new_list : List Bound) (new_of : List (Option ℕ)) →
+pub next_meaning : (p : Package) (n : ℕ) (list : List Bound) (of : List (Option ℕ)) (found : Option plain.Bound) (new_list : List Bound)
+    (new_of : List (Option ℕ)) →
     AddsMeaning list of found new_list new_of → IsMeaningFound p n found → AreBoundsBelow p n list of → AreBoundsBelow p (n + 1) new_list new_of
 next_meaning p n list of found new_list new_of a f h =
     let before : (d : ℕ) → d < n → slice_index_or new_of d None ≡ slice_index_or of d None =
@@ -72,9 +74,11 @@ next_meaning p n list of found new_list new_of a f h =
       ];
       each = λ d lt. elim (cases_lt d n) [
         | inl below ↦ subst (λ o. MatchOption o ((b : plain.Bound) → IsMeantBy p d b → ⊥) (λ b. IsMeantBy p d (bound_of b)))
-            (sym (ap (bound_at new_list) (before d below) ∙ bound_stays list new_list (slice_index_or of d None) a.extends (λ i e. h.within d i e))) (h.each d below)
+            (sym (ap (bound_at new_list) (before d below) ∙ bound_stays list new_list (slice_index_or of d None) a.extends (λ i e. h.within d i e)))
+            (h.each d below)
         | inr ge ↦ let same : n ≡ d = omega arith in
-            subst (λ m. MatchOption (bound_at new_list (slice_index_or new_of m None)) ((b : plain.Bound) → IsMeantBy p m b → ⊥) (λ b. IsMeantBy p m (bound_of b))) same
+            subst (λ m. MatchOption (bound_at new_list (slice_index_or new_of m None)) ((b : plain.Bound) → IsMeantBy p m b → ⊥)
+            (λ b. IsMeantBy p m (bound_of b))) same
             (meaning_at p n (bound_at new_list (slice_index_or new_of n None)) found (ap (λ o. option_map bound_of (bound_at new_list o)) here ∙ a.means) f)
       ];
     }
@@ -88,7 +92,8 @@ no_meanings p list of e = record {
 }
 
 -- more may stand in the list
-pub bounds_stay : (p : Package) (list : List Bound) (of : List (Option ℕ)) (new_list : List Bound) (new_of : List (Option ℕ)) → Extends list new_list → new_of ≡ of → AreBounds p list of →
+pub bounds_stay : (p : Package) (list : List Bound) (of : List (Option ℕ)) (new_list : List Bound) (new_of : List (Option ℕ)) → Extends list new_list →
+    new_of ≡ of → AreBounds p list of →
     AreBounds p new_list new_of
 bounds_stay p list of new_list new_of x e h =
     subst (AreBounds p new_list) (sym e) (record {

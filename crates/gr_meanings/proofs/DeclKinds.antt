@@ -7,12 +7,14 @@ use Rattle.gr_tree.specs.declared.syntax.Kind.{Kind}
 use Rattle.gr_tree.specs.declared.syntax.Kind.TheVariants as kind
 use Rattle.gr_tree.specs.declared.syntax.Token.{Token}
 use Rattle.gr_tree.specs.Tree.{Item, Group, single, several, DeclTree, VarDecl, TypeDecl, FuncDecl, FileTree}
-use Rattle.gr_tree.specs.Flatten.{sign, sign_if, tokens_if, all_tokens, item_tokens, list_tokens, group_tokens, name_tokens, global_tokens, type_spec_tokens, receiver_tokens, func_tokens, imports_tokens, decl_tokens, flatten}
+use Rattle.gr_tree.specs.Flatten.{sign, sign_if, tokens_if, all_tokens, item_tokens, list_tokens, group_tokens, name_tokens, global_tokens}
+use Rattle.gr_tree.specs.Flatten.{type_spec_tokens, receiver_tokens, func_tokens, imports_tokens, decl_tokens, flatten}
 use Rattle.gr_tree.specs.SourceFile.{SourceFile}
 use Rattle.gr_imports.specs.Files.{Ranked, ranked, group_items}
 use Rattle.gr_scope.specs.Trees.{AreRising}
 use Rattle.gr_scope.proofs.Rising.{Rises, rises_le, rises_split, rises_of}
-use Rattle.gr_declared.specs.Package.{PlacedVariable, PlacedType, PlacedFunction, variables_of, placed_type, decl_variables, decl_types, decl_functions, variables_in, types_in, functions_in, declared_variables, declared_types, declared_functions}
+use Rattle.gr_declared.specs.Package.{PlacedVariable, PlacedType, PlacedFunction, variables_of, placed_type, decl_variables, decl_types, decl_functions}
+use Rattle.gr_declared.specs.Package.{variables_in, types_in, functions_in, declared_variables, declared_types, declared_functions}
 
 -- what lists hold
 
@@ -90,7 +92,8 @@ unfolding group_tokens
 at_group n f (single y) x h a = elim h [ inl e ↦ subst (λ z. IsAt n (f z)) (sym e) a | inr z ↦ absurd z ]
 at_group n f (several o xs c) x h a =
     let i = holds_map (λ z. z.value) xs x h in
-    inr (at_left n (list_tokens kind.Semicolon f xs) (sign kind.RightParen c ∷ []) (at_item n kind.Semicolon f xs i.0 i.1.0 (subst (λ z. IsAt n (f z)) (sym i.1.1) a)))
+    inr (at_left n (list_tokens kind.Semicolon f xs) (sign kind.RightParen c ∷ [])
+    (at_item n kind.Semicolon f xs i.0 i.1.0 (subst (λ z. IsAt n (f z)) (sym i.1.1) a)))
 
 -- the kinds of declarations
 
@@ -100,7 +103,8 @@ kind_number (TypeDecl k g s) = 1
 kind_number (FuncDecl k f s) = 2
 
 -- in a tree whose tokens rise one token is in one declaration
-one_decl : (n : ℕ) (ds : List DeclTree) (a b : ℕ) → Rises a (all_tokens decl_tokens ds) b → (d e : DeclTree) → Holds ds d → Holds ds e → IsAt n (decl_tokens d) → IsAt n (decl_tokens e) → d ≡ e
+one_decl : (n : ℕ) (ds : List DeclTree) (a b : ℕ) → Rises a (all_tokens decl_tokens ds) b → (d e : DeclTree) → Holds ds d → Holds ds e →
+    IsAt n (decl_tokens d) → IsAt n (decl_tokens e) → d ≡ e
 unfolding all_tokens
 one_decl n [] a b r d e hd he ad ae = absurd hd
 one_decl n (x ∷ xs) a b r d e hd he ad ae =
@@ -139,8 +143,15 @@ variable_named file (VarDecl k g s) v h =
     let x = holds_flat (variables_of file) (group_items g) v h in
     let i = holds_map (λ z. record { file = file; name = z.value; type_use = x.0.type_use }) x.0.names v x.1.1 in
     let here : IsAt v.name (name_tokens i.0.value) = inl (ap (λ z. z.name) i.1.1) in
-    let inside : IsAt v.name (global_tokens x.0) = at_left v.name (list_tokens kind.Comma name_tokens x.0.names) _ (at_item v.name kind.Comma name_tokens x.0.names i.0 i.1.0 here) in
-    (sym (ap (λ z. z.file) i.1.1), (refl, inr (at_left v.name (group_tokens global_tokens g) (sign kind.Semicolon s ∷ []) (at_group v.name global_tokens g x.0 x.1.0 inside))))
+    let inside : IsAt v.name (global_tokens x.0) = at_left v.name (list_tokens kind.Comma name_tokens x.0.names) _
+    (at_item v.name kind.Comma name_tokens x.0.names i.0 i.1.0 here) in (
+      sym (ap (λ z. z.file) i.1.1),
+      (
+        refl,
+        inr (at_left v.name (group_tokens global_tokens g) (sign kind.Semicolon s ∷ [])
+            (at_group v.name global_tokens g x.0 x.1.0 inside)),
+      ),
+    )
 variable_named file (TypeDecl k g s) v h = absurd h
 variable_named file (FuncDecl k f s) v h = absurd h
 
@@ -149,8 +160,14 @@ unfolding decl_tokens type_spec_tokens
 type_named file (VarDecl k g s) t h = absurd h
 type_named file (TypeDecl k g s) t h =
     let x = holds_map (placed_type file) (group_items g) t h in
-    let here : IsAt t.spec.name (type_spec_tokens x.0) = inl (ap (λ z. z.spec.name) x.1.1) in
-    (sym (ap (λ z. z.file) x.1.1), (refl, inr (at_left t.spec.name (group_tokens type_spec_tokens g) (sign kind.Semicolon s ∷ []) (at_group t.spec.name type_spec_tokens g x.0 x.1.0 here))))
+    let here : IsAt t.spec.name (type_spec_tokens x.0) = inl (ap (λ z. z.spec.name) x.1.1) in (
+      sym (ap (λ z. z.file) x.1.1),
+      (
+        refl,
+        inr (at_left t.spec.name (group_tokens type_spec_tokens g) (sign kind.Semicolon s ∷ [])
+            (at_group t.spec.name type_spec_tokens g x.0 x.1.0 here)),
+      ),
+    )
 type_named file (FuncDecl k f s) t h = absurd h
 
 function_named : (file : ℕ) (d : DeclTree) (f : PlacedFunction) → Holds (decl_functions file d) f → (f.file ≡ file) × DeclNames 2 f.function.name d
@@ -164,13 +181,15 @@ function_named file (FuncDecl k x s) f h = elim h [
   | inr z ↦ absurd z
 ]
 
-in_ranked : (files : List SourceFile) (sort token file : ℕ) (r : Ranked) (d : DeclTree) → Holds (ranked files) r → Holds r.1.tree.decls d → file ≡ r.0 → DeclNames sort token d → DeclaredAt files sort file token
+in_ranked : (files : List SourceFile) (sort token file : ℕ) (r : Ranked) (d : DeclTree) → Holds (ranked files) r → Holds r.1.tree.decls d → file ≡ r.0 →
+    DeclNames sort token d → DeclaredAt files sort file token
 in_ranked files sort token file r d hr hd e h =
     let i = holds_ranked 0 files r hr in
     let same : i.0 ≡ file = let z : r.0 ≡ 0 + i.0 = i.1.0 in omega (arith, z, e) in
     record { source = r.1; is_file = subst (λ k. slice_get files k ≡ Some r.1) same i.1.1; decl = d; in_tree = hd; of_kind = h.0; named = h.1 }
 
-pub variable_at : (files : List SourceFile) (rank : ℕ) (v : PlacedVariable) → slice_get (declared_variables files) rank ≡ Some v → DeclaredAt files 0 v.file v.name
+pub variable_at : (files : List SourceFile) (rank : ℕ) (v : PlacedVariable) → slice_get (declared_variables files) rank ≡ Some v →
+    DeclaredAt files 0 v.file v.name
 variable_at files rank v e =
     let r = holds_flat variables_in (ranked files) v (holds_got (declared_variables files) rank v e) in
     let d = holds_flat (decl_variables r.0.0) r.0.1.tree.decls v r.1.1 in
@@ -184,7 +203,8 @@ type_at files rank t e =
     let n = type_named r.0.0 d.0 t d.1.1 in
     in_ranked files 1 t.spec.name t.file r.0 d.0 r.1.0 d.1.0 n.0 n.1
 
-pub function_at : (files : List SourceFile) (rank : ℕ) (f : PlacedFunction) → slice_get (declared_functions files) rank ≡ Some f → DeclaredAt files 2 f.file f.function.name
+pub function_at : (files : List SourceFile) (rank : ℕ) (f : PlacedFunction) → slice_get (declared_functions files) rank ≡ Some f →
+    DeclaredAt files 2 f.file f.function.name
 function_at files rank f e =
     let r = holds_flat functions_in (ranked files) f (holds_got (declared_functions files) rank f e) in
     let d = holds_flat (decl_functions r.0.0) r.0.1.tree.decls f r.1.1 in
@@ -204,5 +224,6 @@ pub one_kind : (files : List SourceFile) → ((file : ℕ) (s : SourceFile) → 
 one_kind files rising j k file token x y =
     let same : y.source ≡ x.source = same_Some y.source x.source (sym y.is_file ∙ x.is_file) in
     let r = decls_rise x.source.tree (rising file x.source x.is_file) in
-    let d : x.decl ≡ y.decl = one_decl token x.source.tree.decls r.0 r.1.0 r.1.1 x.decl y.decl x.in_tree (subst (λ s. Holds s.tree.decls y.decl) same y.in_tree) x.named y.named in
+    let d : x.decl ≡ y.decl = one_decl token x.source.tree.decls r.0 r.1.0 r.1.1 x.decl y.decl x.in_tree
+    (subst (λ s. Holds s.tree.decls y.decl) same y.in_tree) x.named y.named in
     sym x.of_kind ∙ ap kind_number d ∙ y.of_kind

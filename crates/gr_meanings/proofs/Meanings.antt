@@ -20,7 +20,9 @@ use Rattle.gr_tree.specs.View.{type_view}
 use Rattle.gr_declared.specs.DeclaredView.{variable_of, function_of}
 use Rattle.gr_declared.specs.Package.{Package, PlacedVariable, PlacedFunction, package_variables, package_functions}
 use Rattle.gr_declared.specs.Written.{DeclaresType, ImportsPath, basic_name}
-use Rattle.gr_declared.specs.Bound.{builtin_name, PredeclaredMeans, a_type, a_truth, an_untruth, a_nil, a_function, DeclaresVariable, DeclaresFunction, IsMeantBy, predeclared, import_name, local, variable, broken_variable, function, broken_function, definition, broken_definition}
+use Rattle.gr_declared.specs.Bound.{builtin_name, PredeclaredMeans, a_type, a_truth, an_untruth, a_nil, a_function, DeclaresVariable, DeclaresFunction}
+use Rattle.gr_declared.specs.Bound.{IsMeantBy, predeclared, import_name, local, variable, broken_variable, function, broken_function, definition}
+use Rattle.gr_declared.specs.Bound.{broken_definition}
 use Rattle.gr_declared.specs.WrittenView.{IsTypeFound}
 use Rattle.gr_declared.specs.Definitions.{IsSignature}
 use Rattle.gr_meanings.specs.BoundsView.{IsTruthName, IsUniversal, IsUniversalFound, IsValueFound, IsMeaningFound}
@@ -28,16 +30,31 @@ use Rattle.gr_meanings.specs.BoundsView.{IsTruthName, IsUniversal, IsUniversalFo
 -- predeclared names
 
 pub type_named : (name : List ℕ) (b : Basic) → name ≡ basic_name b → IsUniversal name (Stands (TypeName (BasicType b)))
-type_named name b e = record { meaning = TypeName (BasicType b); means = subst (λ n. PredeclaredMeans n (TypeName (BasicType b))) (sym e) (a_type b); at = refl }
+type_named name b e = record {
+  meaning = TypeName (BasicType b);
+  means = subst (λ n. PredeclaredMeans n (TypeName (BasicType b))) (sym e) (a_type b);
+  at =
+      refl;
+}
 
 pub function_named : (name : List ℕ) (b : Builtin) → name ≡ builtin_name b → IsUniversal name (Stands (BuiltinName b))
 function_named name b e = record { meaning = BuiltinName b; means = subst (λ n. PredeclaredMeans n (BuiltinName b)) (sym e) (a_function b); at = refl }
 
 pub true_named : (name : List ℕ) → name ≡ codes "true" → IsUniversal name (Stands (Value (Untyped basic.Bool) false))
-true_named name e = record { meaning = Value (Untyped basic.Bool) false; means = subst (λ n. PredeclaredMeans n (Value (Untyped basic.Bool) false)) (sym e) a_truth; at = refl }
+true_named name e = record {
+  meaning = Value (Untyped basic.Bool) false;
+  means =
+      subst (λ n. PredeclaredMeans n (Value (Untyped basic.Bool) false)) (sym e) a_truth;
+  at = refl;
+}
 
 pub false_named : (name : List ℕ) → name ≡ codes "false" → IsUniversal name (Stands (Value (Untyped basic.Bool) false))
-false_named name e = record { meaning = Value (Untyped basic.Bool) false; means = subst (λ n. PredeclaredMeans n (Value (Untyped basic.Bool) false)) (sym e) an_untruth; at = refl }
+false_named name e = record {
+  meaning = Value (Untyped basic.Bool) false;
+  means =
+      subst (λ n. PredeclaredMeans n (Value (Untyped basic.Bool) false)) (sym e) an_untruth;
+  at = refl;
+}
 
 pub nil_named : (name : List ℕ) → name ≡ codes "nil" → IsUniversal name (Stands (Value Nil false))
 nil_named name e = record { meaning = Value Nil false; means = subst (λ n. PredeclaredMeans n (Value Nil false)) (sym e) a_nil; at = refl }
@@ -53,14 +70,17 @@ not_predeclared name types functions values n m e an_untruth = values.0 (inr (sy
 not_predeclared name types functions values n m e a_nil = values.1 (sym e)
 not_predeclared name types functions values n m e (a_function b) = functions b (sym e)
 
-pub value_else : (name : List ℕ) (found : Option Bound) → ((b : Basic) → name ≡ basic_name b → ⊥) → ((b : Builtin) → name ≡ builtin_name b → ⊥) → IsValueFound name found → IsUniversalFound name found
+pub value_else : (name : List ℕ) (found : Option Bound) → ((b : Basic) → name ≡ basic_name b → ⊥) → ((b : Builtin) → name ≡ builtin_name b → ⊥) →
+    IsValueFound name found → IsUniversalFound name found
 value_else name None types functions h = λ m p. not_predeclared name types functions h name m refl p
 value_else name (Some b) types functions h = h
 
 -- of no block of the program
 
-pub universal_only : (p : Package) (d : ℕ) (b : Bound) → block_of (p.layout.role d) ≡ Universe → IsMeantBy p d b → (is_implied (p.layout.role d) ≡ true) × IsUniversal (p.names d) b
-universal_only p d _ e (predeclared {name = n} {m = m} is means) = (is.implied, record { meaning = m; means = subst (λ v. PredeclaredMeans v m) (sym is.named) means; at = refl })
+pub universal_only : (p : Package) (d : ℕ) (b : Bound) → block_of (p.layout.role d) ≡ Universe → IsMeantBy p d b → (is_implied (p.layout.role d) ≡ true) ×
+    IsUniversal (p.names d) b
+universal_only p d _ e (predeclared {name = n} {m = m} is means) =
+    (is.implied, record { meaning = m; means = subst (λ v. PredeclaredMeans v m) (sym is.named) means; at = refl })
 universal_only p d _ e (import_name is) = let q : Universe ≡ File is.is_import.0 = sym e ∙ is.is_import.1 in let z : ⊥ = cc in absurd z
 universal_only p d _ e (local {file = f} {from = a} {to = b} is) = let q : Universe ≡ Inner f a b = sym e ∙ is in let z : ⊥ = cc in absurd z
 universal_only p d _ e (variable is t) = let q : Universe ≡ PackageBlock = sym e ∙ is.0 in let z : ⊥ = cc in absurd z
@@ -70,18 +90,21 @@ universal_only p d _ e (broken_function is s) = let q : Universe ≡ PackageBloc
 universal_only p d _ e (definition is r w) = let q : Universe ≡ PackageBlock = sym e ∙ is in let z : ⊥ = cc in absurd z
 universal_only p d _ e (broken_definition is r w) = let q : Universe ≡ PackageBlock = sym e ∙ is in let z : ⊥ = cc in absurd z
 
-pub universe_meaning : (p : Package) (d : ℕ) (name : List ℕ) (found : Option Bound) → block_of (p.layout.role d) ≡ Universe → is_implied (p.layout.role d) ≡ true → name ≡ p.names d →
+pub universe_meaning : (p : Package) (d : ℕ) (name : List ℕ) (found : Option Bound) → block_of (p.layout.role d) ≡ Universe →
+    is_implied (p.layout.role d) ≡ true → name ≡ p.names d →
     IsUniversalFound name found → IsMeaningFound p d found
 universe_meaning p d name None e i n h = λ b m. let u = (universal_only p d b e m).1 in h u.meaning (subst (λ v. PredeclaredMeans v u.meaning) (sym n) u.means)
 universe_meaning p d name (Some b) e i n h =
     subst (IsMeantBy p d) (sym h.at) (predeclared {name = name} {m = h.meaning} (record { implied = i; universe = e; named = sym n }) h.means)
 
-pub no_universe_meaning : (p : Package) (d : ℕ) → block_of (p.layout.role d) ≡ Universe → is_implied (p.layout.role d) ≡ false → (b : Bound) → IsMeantBy p d b → ⊥
+pub no_universe_meaning : (p : Package) (d : ℕ) → block_of (p.layout.role d) ≡ Universe → is_implied (p.layout.role d) ≡ false → (b : Bound) →
+    IsMeantBy p d b → ⊥
 no_universe_meaning p d e i b m = true≢false (sym (universal_only p d b e m).0 ∙ i)
 
 -- of a file's block
 
-pub imported_only : (p : Package) (d file : ℕ) (b : Bound) → block_of (p.layout.role d) ≡ File file → IsMeantBy p d b → ((path : List ℕ) × ImportsPath p d path) × (b ≡ Stands PackageName)
+pub imported_only : (p : Package) (d file : ℕ) (b : Bound) → block_of (p.layout.role d) ≡ File file → IsMeantBy p d b →
+    ((path : List ℕ) × ImportsPath p d path) × (b ≡ Stands PackageName)
 imported_only p d file _ e (predeclared is means) = let q : Universe ≡ File file = sym is.universe ∙ e in let z : ⊥ = cc in absurd z
 imported_only p d file _ e (import_name {path = path} is) = ((path, is), refl)
 imported_only p d file _ e (local {file = f} {from = a} {to = b} is) = let q : File file ≡ Inner f a b = sym e ∙ is in let z : ⊥ = cc in absurd z
@@ -92,12 +115,14 @@ imported_only p d file _ e (broken_function is s) = let q : File file ≡ Packag
 imported_only p d file _ e (definition is r w) = let q : File file ≡ PackageBlock = sym e ∙ is in let z : ⊥ = cc in absurd z
 imported_only p d file _ e (broken_definition is r w) = let q : File file ≡ PackageBlock = sym e ∙ is in let z : ⊥ = cc in absurd z
 
-pub no_import_meaning : (p : Package) (d file : ℕ) → block_of (p.layout.role d) ≡ File file → ((path : List ℕ) → ImportsPath p d path → ⊥) → (b : Bound) → IsMeantBy p d b → ⊥
+pub no_import_meaning : (p : Package) (d file : ℕ) → block_of (p.layout.role d) ≡ File file → ((path : List ℕ) → ImportsPath p d path → ⊥) → (b : Bound) →
+    IsMeantBy p d b → ⊥
 no_import_meaning p d file e none b m = let found = (imported_only p d file b e m).0 in none found.0 found.1
 
 -- of the package's block
 
-pub no_meaning : (p : Package) (d : ℕ) → IsPackageLevel p.layout d → ((r : ℕ) → DeclaresVariable p d r → ⊥) → ((r : ℕ) → DeclaresFunction p d r → ⊥) → ((r : ℕ) → DeclaresType p d r → ⊥) →
+pub no_meaning : (p : Package) (d : ℕ) → IsPackageLevel p.layout d → ((r : ℕ) → DeclaresVariable p d r → ⊥) → ((r : ℕ) → DeclaresFunction p d r → ⊥) →
+    ((r : ℕ) → DeclaresType p d r → ⊥) →
     (b : Bound) → IsMeantBy p d b → ⊥
 no_meaning p d e vs fs ts _ (predeclared is means) = let q : PackageBlock ≡ Universe = sym e ∙ is.universe in let z : ⊥ = cc in z
 no_meaning p d e vs fs ts _ (import_name is) = let q : PackageBlock ≡ File is.is_import.0 = sym e ∙ is.is_import.1 in let z : ⊥ = cc in z
@@ -111,9 +136,11 @@ no_meaning p d e vs fs ts _ (broken_definition {rank = r} is t w) = ts r t
 
 -- a variable and a function that the program has at a rank
 
-pub item_at : {X Y : Type 0} (f : X → Y) (xs : List X) (ys : List Y) (rank : ℕ) (x : X) (y : Y) → map f xs ≡ ys → rank < length xs → x ≡ get_or xs rank x → slice_get ys rank ≡ Some y → y ≡ f x
+pub item_at : {X Y : Type 0} (f : X → Y) (xs : List X) (ys : List Y) (rank : ℕ) (x : X) (y : Y) → map f xs ≡ ys → rank < length xs → x ≡ get_or xs rank x →
+    slice_get ys rank ≡ Some y → y ≡ f x
 item_at f xs ys rank x y e lt is at =
-    same_Some y (f x) (sym at ∙ ap (λ z. slice_get z rank) (sym e) ∙ slice_get-map f xs rank ∙ ap (option_map f) (slice_get_read xs (length xs) rank x refl lt is))
+    same_Some y (f x) (sym at ∙ ap (λ z. slice_get z rank) (sym e) ∙ slice_get-map f xs rank ∙
+    ap (option_map f) (slice_get_read xs (length xs) rank x refl lt is))
 
 pub rank_within : {X Y : Type 0} (f : X → Y) (xs : List X) (ys : List Y) (rank : ℕ) (y : Y) → map f xs ≡ ys → slice_get ys rank ≡ Some y → rank < length xs
 rank_within f xs ys rank y e ey = subst (λ n. rank < n) (ap length (sym e) ∙ length-map xs f) (slice_get_within ys rank y ey)
@@ -126,24 +153,28 @@ abbrev pub function_bound : Option Signature → Bound
 function_bound None = BrokenFunction
 function_bound (Some s) = Stands (Function s)
 
-pub variable_means : (p : Package) (d rank : ℕ) (v : PlacedVariable) (found : Option PlainType) → IsPackageLevel p.layout d → DeclaresVariable p d rank → slice_get (package_variables p) rank ≡ Some v →
+pub variable_means : (p : Package) (d rank : ℕ) (v : PlacedVariable) (found : Option PlainType) → IsPackageLevel p.layout d → DeclaresVariable p d rank →
+    slice_get (package_variables p) rank ≡ Some v →
     IsTypeFound p v.file v.type_use found → IsMeantBy p d (variable_bound found)
 variable_means p d rank v None level r at h = broken_variable {v = v} (level, (rank, (r, at))) h
 variable_means p d rank v (Some t) level r at h = variable {v = v} (level, (rank, (r, at))) h
 
-pub function_means : (p : Package) (d rank : ℕ) (f : PlacedFunction) (found : Option Signature) → IsPackageLevel p.layout d → DeclaresFunction p d rank → slice_get (package_functions p) rank ≡ Some f →
+pub function_means : (p : Package) (d rank : ℕ) (f : PlacedFunction) (found : Option Signature) → IsPackageLevel p.layout d → DeclaresFunction p d rank →
+    slice_get (package_functions p) rank ≡ Some f →
     IsSignature p f found → IsMeantBy p d (function_bound found)
 function_means p d rank f None level r at h = broken_function {f = f} (level, (rank, (r, at))) h
 function_means p d rank f (Some s) level r at h = function {f = f} (level, (rank, (r, at))) h
 
-pub variable_found : (p : Package) (items : List Variable) (d rank : ℕ) (x : Variable) (found : Option PlainType) → map variable_of items ≡ package_variables p → IsPackageLevel p.layout d → DeclaresVariable p d rank →
+pub variable_found : (p : Package) (items : List Variable) (d rank : ℕ) (x : Variable) (found : Option PlainType) →
+    map variable_of items ≡ package_variables p → IsPackageLevel p.layout d → DeclaresVariable p d rank →
     x ≡ get_or items rank x → IsTypeFound p x.file (type_view x.var_type.now) found → IsMeantBy p d (variable_bound found)
 variable_found p items d rank x found e level r is h =
     let lt : rank < length items = rank_within variable_of items (package_variables p) rank r.item e r.has_rank in
     let same : r.item ≡ variable_of x = item_at variable_of items (package_variables p) rank x r.item e lt is r.has_rank in
     variable_means p d rank r.item found level r r.has_rank (subst (λ v. IsTypeFound p v.file v.type_use found) (sym same) h)
 
-pub function_found : (p : Package) (items : List Func) (d rank : ℕ) (x : Func) (found : Option Signature) → map function_of items ≡ package_functions p → IsPackageLevel p.layout d → DeclaresFunction p d rank →
+pub function_found : (p : Package) (items : List Func) (d rank : ℕ) (x : Func) (found : Option Signature) → map function_of items ≡ package_functions p →
+    IsPackageLevel p.layout d → DeclaresFunction p d rank →
     x ≡ get_or items rank x → IsSignature p (function_of x) found → IsMeantBy p d (function_bound found)
 function_found p items d rank x found e level r is h =
     let lt : rank < length items = rank_within function_of items (package_functions p) rank r.item e r.has_rank in

@@ -20,10 +20,13 @@ use Rattle.gr_expr.specs.declared.types.Builtin.TheVariants as builtin
 use Rattle.gr_expr.specs.Types.{PlainType, BasicType, Defined, Untyped, Nil, Signature, Meaning, Value, TypeName, BuiltinName}
 use Rattle.gr_expr.specs.World.{Bound, Local, BrokenType}
 use Rattle.gr_expr.specs.World.{Means as Stands}
-use Rattle.gr_declared.specs.Package.{Package, PlacedVariable, PlacedFunction, Export, package_variables, package_functions, package_types, variable_place, function_place, type_place, symbol_in}
+use Rattle.gr_declared.specs.Package.{Package, PlacedVariable, PlacedFunction, Export, package_variables, package_functions, package_types, variable_place}
+use Rattle.gr_declared.specs.Package.{function_place, type_place, symbol_in}
 use Rattle.gr_declared.specs.Written.{BindsToken, DeclaresType, IsBroken, IsTypeOf}
 use Rattle.gr_declared.specs.WrittenView.{IsTypeFound}
-use Rattle.gr_declared.specs.Bound.{PredeclaredMeans, a_type, a_truth, an_untruth, a_nil, a_function, AreTypesOf, parameter_types, result_types, HasSignature, IsVariable, IsFunction, IsMeantBy, predeclared, import_name, local, variable, broken_variable, function, broken_function, definition, broken_definition}
+use Rattle.gr_declared.specs.Bound.{PredeclaredMeans, a_type, a_truth, an_untruth, a_nil, a_function, AreTypesOf, parameter_types, result_types}
+use Rattle.gr_declared.specs.Bound.{HasSignature, IsVariable, IsFunction, IsMeantBy, predeclared, import_name, local, variable, broken_variable, function}
+use Rattle.gr_declared.specs.Bound.{broken_function, definition, broken_definition}
 use Rattle.gr_declared.specs.Definitions.{IsSignature}
 use Rattle.gr_meanings.specs.BoundsView.{IsUniversal}
 use Rattle.gr_meanings.specs.Uniqueness.{AreInOrder}
@@ -66,14 +69,16 @@ named_meaning _ _ (a_function builtin.Print) = refl
 named_meaning _ _ (a_function builtin.Println) = refl
 
 one_universal : (n : List ℕ) (b c : Bound) → IsUniversal n b → IsUniversal n c → b ≡ c
-one_universal n b c x y = x.at ∙ ap Stands (same_Some x.meaning y.meaning (sym (named_meaning n x.meaning x.means) ∙ named_meaning n y.meaning y.means)) ∙ sym y.at
+one_universal n b c x y = x.at ∙ ap Stands (same_Some x.meaning y.meaning (sym (named_meaning n x.meaning x.means) ∙ named_meaning n y.meaning y.means)) ∙
+    sym y.at
 
 -- types and signatures
 
 pub one_type : (p : Package) → WellFormed p.layout → (file : ℕ) (tree : TypeTree) (t u : PlainType) → IsTypeOf p file tree t → IsTypeOf p file tree u → t ≡ u
 one_type p w file tree t u a b = one_named p w file tree t u a.names b.names
 
-one_types : (p : Package) → WellFormed p.layout → (file : ℕ) (trees : List TypeTree) (ts us : List PlainType) → AreTypesOf p file trees ts → AreTypesOf p file trees us → ts ≡ us
+one_types : (p : Package) → WellFormed p.layout → (file : ℕ) (trees : List TypeTree) (ts us : List PlainType) → AreTypesOf p file trees ts →
+    AreTypesOf p file trees us → ts ≡ us
 one_types p w file [] [] [] a b = refl
 one_types p w file [] [] (u ∷ us) a b = absurd b
 one_types p w file [] (t ∷ ts) us a b = absurd a
@@ -83,16 +88,20 @@ one_types p w file (x ∷ xs) (t ∷ ts) (u ∷ us) a b = ap₂ (λ v vs. v ∷ 
 
 pub one_signature : (p : Package) → WellFormed p.layout → (f : PlacedFunction) (s t : Signature) → HasSignature p f s → HasSignature p f t → s ≡ t
 one_signature p w f s t a b =
-    ap (λ ps. record { parameters = ps; results = s.results }) (one_types p w f.file (parameter_types f.function.params) s.parameters t.parameters a.parameters b.parameters) ∙
-    ap (λ rs. record { parameters = t.parameters; results = rs }) (one_types p w f.file (result_types f.function.result) s.results t.results a.results b.results)
+    ap (λ ps. record { parameters = ps; results = s.results })
+    (one_types p w f.file (parameter_types f.function.params) s.parameters t.parameters a.parameters b.parameters) ∙
+    ap (λ rs. record { parameters = t.parameters; results = rs })
+    (one_types p w f.file (result_types f.function.result) s.results t.results a.results b.results)
 
-pub one_found : {X : Type 0} (P : X → Type 0) → ((x y : X) → P x → P y → x ≡ y) → (o u : Option X) → MatchOption o ((x : X) → P x → ⊥) P → MatchOption u ((x : X) → P x → ⊥) P → o ≡ u
+pub one_found : {X : Type 0} (P : X → Type 0) → ((x y : X) → P x → P y → x ≡ y) → (o u : Option X) → MatchOption o ((x : X) → P x → ⊥) P →
+    MatchOption u ((x : X) → P x → ⊥) P → o ≡ u
 one_found P one None None a b = refl
 one_found P one None (Some y) a b = absurd (a y b)
 one_found P one (Some x) None a b = absurd (b x a)
 one_found P one (Some x) (Some y) a b = ap Some (one x y a b)
 
-signature_match : (p : Package) (f : PlacedFunction) (o : Option Signature) → IsSignature p f o → MatchOption o ((s : Signature) → HasSignature p f s → ⊥) (λ s. HasSignature p f s)
+signature_match : (p : Package) (f : PlacedFunction) (o : Option Signature) → IsSignature p f o →
+    MatchOption o ((s : Signature) → HasSignature p f s → ⊥) (λ s. HasSignature p f s)
 signature_match p f None h = h
 signature_match p f (Some s) h = h
 
@@ -110,7 +119,8 @@ definition_bound p rank true = BrokenType
 definition_bound p rank false = Stands (TypeName (Defined (symbol_in p rank)))
 
 data IsGlobal (p : Package) (d : ℕ) (b : Bound) : Type 0 where
-  as_variable : {v : PlacedVariable} (found : Option PlainType) → IsVariable p d v → IsTypeFound p v.file v.type_use found → b ≡ variable_bound found → IsGlobal p d b
+  as_variable : {v : PlacedVariable} (found : Option PlainType) → IsVariable p d v → IsTypeFound p v.file v.type_use found → b ≡ variable_bound found →
+      IsGlobal p d b
   as_function : {f : PlacedFunction} (found : Option Signature) → IsFunction p d f → IsSignature p f found → b ≡ function_bound found → IsGlobal p d b
   as_definition : {rank : ℕ} (broken : Bool) → DeclaresType p d rank → IsDefinitionFound p rank broken → b ≡ definition_bound p rank broken → IsGlobal p d b
 
@@ -127,8 +137,10 @@ global_only p d _ e (broken_definition {rank = r} is declares h) = as_definition
 
 -- the token at which d stands
 
-at_place : (files : List SourceFile) (l : Layout) (sort d : ℕ) (place : Position) → StandsAt l place d → DeclaredAt files sort place.file place.index → DeclaredAt files sort (l.place d).file (l.place d).index
-at_place files l sort d place s h = subst (λ i. DeclaredAt files sort (l.place d).file i) (sym s.2) (subst (λ f. DeclaredAt files sort f place.index) (sym s.1) h)
+at_place : (files : List SourceFile) (l : Layout) (sort d : ℕ) (place : Position) → StandsAt l place d → DeclaredAt files sort place.file place.index →
+    DeclaredAt files sort (l.place d).file (l.place d).index
+at_place files l sort d place s h = subst (λ i. DeclaredAt files sort (l.place d).file i) (sym s.2)
+    (subst (λ f. DeclaredAt files sort f place.index) (sym s.1) h)
 
 variable_stands : (p : Package) (d : ℕ) (v : PlacedVariable) → IsVariable p d v → DeclaredAt p.files 0 (p.layout.place d).file (p.layout.place d).index
 variable_stands p d v is = let r = is.1.1.0 in at_place p.files p.layout 0 d (variable_place r.item) r.stands (variable_at p.files is.1.0 r.item r.has_rank)
@@ -139,16 +151,19 @@ function_stands p d f is = let r = is.1.1.0 in at_place p.files p.layout 2 d (fu
 type_stands : (p : Package) (d rank : ℕ) → DeclaresType p d rank → DeclaredAt p.files 1 (p.layout.place d).file (p.layout.place d).index
 type_stands p d rank r = at_place p.files p.layout 1 d (type_place r.item) r.stands (type_at p.files rank r.item r.has_rank)
 
-apart : (p : Package) → AreInOrder p.files → (d j k : ℕ) → (j ≡ k → ⊥) → DeclaredAt p.files j (p.layout.place d).file (p.layout.place d).index → DeclaredAt p.files k (p.layout.place d).file (p.layout.place d).index → ⊥
+apart : (p : Package) → AreInOrder p.files → (d j k : ℕ) → (j ≡ k → ⊥) → DeclaredAt p.files j (p.layout.place d).file (p.layout.place d).index →
+    DeclaredAt p.files k (p.layout.place d).file (p.layout.place d).index → ⊥
 apart p rising d j k ne a b = ne (one_kind p.files rising j k (p.layout.place d).file (p.layout.place d).index a b)
 
 one_variable : (p : Package) (d : ℕ) (v u : PlacedVariable) → IsVariable p d v → IsVariable p d u → v ≡ u
 one_variable p d v u a b =
-    same_Some v u (sym a.1.1.1 ∙ ap (slice_get (package_variables p)) (one_rank variable_place (package_variables p) p.layout d a.1.0 b.1.0 a.1.1.0 b.1.1.0) ∙ b.1.1.1)
+    same_Some v u (sym a.1.1.1 ∙ ap (slice_get (package_variables p))
+    (one_rank variable_place (package_variables p) p.layout d a.1.0 b.1.0 a.1.1.0 b.1.1.0) ∙ b.1.1.1)
 
 one_function : (p : Package) (d : ℕ) (f g : PlacedFunction) → IsFunction p d f → IsFunction p d g → f ≡ g
 one_function p d f g a b =
-    same_Some f g (sym a.1.1.1 ∙ ap (slice_get (package_functions p)) (one_rank function_place (package_functions p) p.layout d a.1.0 b.1.0 a.1.1.0 b.1.1.0) ∙ b.1.1.1)
+    same_Some f g (sym a.1.1.1 ∙ ap (slice_get (package_functions p))
+    (one_rank function_place (package_functions p) p.layout d a.1.0 b.1.0 a.1.1.0 b.1.1.0) ∙ b.1.1.1)
 
 same_definition : (p : Package) (r : ℕ) (x y : Bool) → IsDefinitionFound p r x → IsDefinitionFound p r y → definition_bound p r x ≡ definition_bound p r y
 same_definition p r true true a b = refl
@@ -159,7 +174,8 @@ same_definition p r false false a b = refl
 one_global : (p : Package) → WellFormed p.layout → AreInOrder p.files → (d : ℕ) (b c : Bound) → IsGlobal p d b → IsGlobal p d c → b ≡ c
 one_global p w rising d b c (as_variable {v = v} o x h e) (as_variable {v = u} q y k g) =
     let same : u ≡ v = one_variable p d u v y x in
-    e ∙ ap variable_bound (one_found (IsTypeOf p v.file v.type_use) (one_type p w v.file v.type_use) o q h (subst (λ z. IsTypeFound p z.file z.type_use q) same k)) ∙ sym g
+    e ∙ ap variable_bound (one_found (IsTypeOf p v.file v.type_use) (one_type p w v.file v.type_use) o q h
+    (subst (λ z. IsTypeFound p z.file z.type_use q) same k)) ∙ sym g
 one_global p w rising d b c (as_variable {v = v} o x h e) (as_function {f = f} q y k g) =
     absurd (apart p rising d 0 2 (λ n. let z : ⊥ = omega (arith, n) in z) (variable_stands p d v x) (function_stands p d f y))
 one_global p w rising d b c (as_variable {v = v} o x h e) (as_definition {rank = r} q y k g) =
@@ -192,7 +208,8 @@ local_only p d f a b _ e (broken_function is s) = let q : Inner f a b ≡ Packag
 local_only p d f a b _ e (definition is r w) = let q : Inner f a b ≡ PackageBlock = sym e ∙ is in let z : ⊥ = cc in absurd z
 local_only p d f a b _ e (broken_definition is r w) = let q : Inner f a b ≡ PackageBlock = sym e ∙ is in let z : ⊥ = cc in absurd z
 
-by_block : (p : Package) → WellFormed p.layout → AreInOrder p.files → (d : ℕ) (b c : Bound) → IsMeantBy p d b → IsMeantBy p d c → (k : Block) → block_of (p.layout.role d) ≡ k → b ≡ c
+by_block : (p : Package) → WellFormed p.layout → AreInOrder p.files → (d : ℕ) (b c : Bound) → IsMeantBy p d b → IsMeantBy p d c → (k : Block) →
+    block_of (p.layout.role d) ≡ k → b ≡ c
 by_block p w rising d b c x y Universe e = one_universal (p.names d) b c (universal_only p d b e x).1 (universal_only p d c e y).1
 by_block p w rising d b c x y (File f) e = (imported_only p d f b e x).1 ∙ sym (imported_only p d f c e y).1
 by_block p w rising d b c x y (Inner f i j) e = local_only p d f i j b e x ∙ sym (local_only p d f i j c e y)
@@ -212,7 +229,8 @@ lexical l names u d e (own same counts) = false≢true (sym (ap may_declare e) �
 
 scope_or_package : (p : Package) (file token d : ℕ) (e : Export) → BindsToken p file token d → IsSelected p file token e → ⊥
 scope_or_package p file token d e b s =
-    let same : b.identifier ≡ s.identifier = one_first (StandsAt p.layout (record { file = file; index = token })) p.size b.identifier s.identifier b.found s.found in
+    let same : b.identifier ≡ s.identifier = one_first (StandsAt p.layout (record { file = file; index = token })) p.size b.identifier s.identifier b.found
+    s.found in
     lexical p.layout p.names b.identifier d (ap p.layout.role same ∙ s.selected) b.bound
 
 one_selected : (p : Package) → WellFormed p.layout → (file token : ℕ) (e f : Export) → IsSelected p file token e → IsSelected p file token f → e ≡ f

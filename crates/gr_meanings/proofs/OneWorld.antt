@@ -13,7 +13,8 @@ use Rattle.gr_expr.specs.Types.{Defined, Underlying, same_path}
 use Rattle.gr_expr.specs.World.{World, Definition, Field, Method, member_by}
 use Rattle.gr_declared.specs.Package.{Package, PlacedType, PlacedFunction, package_types, package_functions, symbol_in}
 use Rattle.gr_declared.specs.Written.{IsTypeOf}
-use Rattle.gr_declared.specs.Definitions.{PlacedField, package_fields, IsCountingField, IsCountingMethod, is_on_pointer, IsField, IsMethod, IsSignature, IsUnderlyingOf, has, has_none, IsDefinition, AreDefinitions}
+use Rattle.gr_declared.specs.Definitions.{PlacedField, package_fields, IsCountingField, IsCountingMethod, is_on_pointer, IsField, IsMethod, IsSignature}
+use Rattle.gr_declared.specs.Definitions.{IsUnderlyingOf, has, has_none, IsDefinition, AreDefinitions}
 use Rattle.gr_meanings.specs.Worlds.{IsWorldOf}
 use Rattle.gr_meanings.specs.Uniqueness.{AreInOrder}
 use Rattle.gr_declared.proofs.OneUnderlying.{one_underlying}
@@ -21,13 +22,15 @@ use Rattle.gr_meanings.proofs.OneMeaning.{one_type, one_signature_found, one_nam
 
 -- fields
 
-counting_rank : (p : Package) (definition : ℕ) (name : List ℕ) (r s : ℕ) (f g : PlacedField) → IsCountingField p definition name r f → IsCountingField p definition name s g → r ≡ s
+counting_rank : (p : Package) (definition : ℕ) (name : List ℕ) (r s : ℕ) (f g : PlacedField) → IsCountingField p definition name r f →
+    IsCountingField p definition name s g → r ≡ s
 counting_rank p definition name r s f g a b = elim (cases_order r s) [
   | inl same ↦ same
   | inr o ↦ elim o [ inl less ↦ absurd (b.first r f less a.is_field) | inr more ↦ absurd (a.first s g more b.is_field) ]
 ]
 
-one_field : (p : Package) → WellFormed p.layout → (definition : ℕ) (name : List ℕ) (o u : Option Field) → IsField p definition name o → IsField p definition name u → o ≡ u
+one_field : (p : Package) → WellFormed p.layout → (definition : ℕ) (name : List ℕ) (o u : Option Field) → IsField p definition name o →
+    IsField p definition name u → o ≡ u
 one_field p w definition name None None a b = refl
 one_field p w definition name None (Some y) a b = absurd (a y.symbol.rank b.0 y.type_of b.1.0 b.1.1)
 one_field p w definition name (Some x) None a b = absurd (b x.symbol.rank a.0 x.type_of a.1.0 a.1.1)
@@ -35,7 +38,8 @@ one_field p w definition name (Some x) (Some y) a b =
     let rank : x.symbol.rank ≡ y.symbol.rank = counting_rank p definition name x.symbol.rank y.symbol.rank a.0 b.0 a.1.0 b.1.0 in
     let place : b.0 ≡ a.0 = same_Some b.0 a.0 (sym b.1.0.is_field.has_rank ∙ ap (slice_get (package_fields p)) (sym rank) ∙ a.1.0.is_field.has_rank) in
     let symbols : x.symbol ≡ y.symbol = a.1.2 ∙ ap (symbol_in p) rank ∙ sym b.1.2 in
-    let types : x.type_of ≡ y.type_of = one_type p w a.0.file a.0.type_use x.type_of y.type_of a.1.1 (subst (λ f. IsTypeOf p f.file f.type_use y.type_of) place b.1.1) in
+    let types : x.type_of ≡ y.type_of = one_type p w a.0.file a.0.type_use x.type_of y.type_of a.1.1
+    (subst (λ f. IsTypeOf p f.file f.type_use y.type_of) place b.1.1) in
     ap Some (
     ap (λ s. record { symbol = s; exported = x.exported; type_of = x.type_of }) symbols ∙
     ap (λ e. record { symbol = y.symbol; exported = e; type_of = x.type_of }) (a.1.3 ∙ sym b.1.3) ∙
@@ -43,7 +47,8 @@ one_field p w definition name (Some x) (Some y) a b =
 
 -- methods
 
-counting_method : (p : Package) (definition : ℕ) (name : List ℕ) (r s : ℕ) (f g : PlacedFunction) → IsCountingMethod p definition name r f → IsCountingMethod p definition name s g → r ≡ s
+counting_method : (p : Package) (definition : ℕ) (name : List ℕ) (r s : ℕ) (f g : PlacedFunction) → IsCountingMethod p definition name r f →
+    IsCountingMethod p definition name s g → r ≡ s
 counting_method p definition name r s f g a b = elim (cases_order r s) [
   | inl same ↦ same
   | inr o ↦ elim o [ inl less ↦ absurd (b.first r f less a.is_method) | inr more ↦ absurd (a.first s g more b.is_method) ]
@@ -53,7 +58,8 @@ abbrev pointer_or : Option ReceiverTree → Bool
 pointer_or None = false
 pointer_or (Some r) = is_on_pointer r
 
-one_method : (p : Package) → WellFormed p.layout → (definition : ℕ) (name : List ℕ) (o u : Option Method) → IsMethod p definition name o → IsMethod p definition name u → o ≡ u
+one_method : (p : Package) → WellFormed p.layout → (definition : ℕ) (name : List ℕ) (o u : Option Method) → IsMethod p definition name o →
+    IsMethod p definition name u → o ≡ u
 one_method p w definition name None None a b = refl
 one_method p w definition name None (Some y) a b = absurd (a y.symbol.rank b.0 b.1)
 one_method p w definition name (Some x) None a b = absurd (b x.symbol.rank a.0 a.1)
@@ -81,15 +87,19 @@ one_underlying_of p w rank _ _ (has_none none) (has_none other) = refl
 pub one_definition : (p : Package) → WellFormed p.layout → (rank : ℕ) (c d : Definition) → IsDefinition p rank c → IsDefinition p rank d → c ≡ d
 one_definition p w rank c d a b =
     ap (λ u. record { underlying = u; field = c.field; method = c.method }) (one_underlying_of p w rank c.underlying d.underlying a.underlying b.underlying) ∙
-    ap (λ f. record { underlying = d.underlying; field = f; method = c.method }) (fun_ext (λ name. one_field p w rank name (c.field name) (d.field name) (a.fields name) (b.fields name))) ∙
-    ap (λ m. record { underlying = d.underlying; field = d.field; method = m }) (fun_ext (λ name. one_method p w rank name (c.method name) (d.method name) (a.methods name) (b.methods name)))
+    ap (λ f. record { underlying = d.underlying; field = f; method = c.method })
+    (fun_ext (λ name. one_field p w rank name (c.field name) (d.field name) (a.fields name) (b.fields name))) ∙
+    ap (λ m. record { underlying = d.underlying; field = d.field; method = m })
+    (fun_ext (λ name. one_method p w rank name (c.method name) (d.method name) (a.methods name) (b.methods name)))
 
-own_definition : (p : Package) → WellFormed p.layout → (c d : Symbol → Definition) → AreDefinitions p c → AreDefinitions p d → (rank : ℕ) (o : Option PlacedType) → slice_get (package_types p) rank ≡ o →
+own_definition : (p : Package) → WellFormed p.layout → (c d : Symbol → Definition) → AreDefinitions p c → AreDefinitions p d →
+    (rank : ℕ) (o : Option PlacedType) → slice_get (package_types p) rank ≡ o →
     c (symbol_in p rank) ≡ d (symbol_in p rank)
 own_definition p w c d a b rank None e = a.beyond rank e ∙ sym (b.beyond rank e)
 own_definition p w c d a b rank (Some t) e = one_definition p w rank (c (symbol_in p rank)) (d (symbol_in p rank)) (a.own rank t e) (b.own rank t e)
 
-in_package : (p : Package) → WellFormed p.layout → (c d : Symbol → Definition) → AreDefinitions p c → AreDefinitions p d → (s : Symbol) (t : Bool) → same_path s.package p.path ≡ t → c s ≡ d s
+in_package : (p : Package) → WellFormed p.layout → (c d : Symbol → Definition) → AreDefinitions p c → AreDefinitions p d → (s : Symbol) (t : Bool) →
+    same_path s.package p.path ≡ t → c s ≡ d s
 in_package p w c d a b s true e =
     let here : s ≡ symbol_in p s.rank = ap (λ path. record { «package» = path; rank = s.rank }) ((bytes_decides s.package p.path).0 e) in
     ap c here ∙ own_definition p w c d a b s.rank (slice_get (package_types p) s.rank) refl ∙ ap d (sym here)
@@ -102,13 +112,15 @@ one_definitions p w c d a b = fun_ext (λ s. in_package p w c d a b s (same_path
 
 -- worlds
 
-pub one_world : (p : Package) → WellFormed p.layout → AreInOrder p.files → (file : ℕ) (s : SourceFile) (v w : World) → IsWorldOf p file s v → IsWorldOf p file s w → v ≡ w
+pub one_world : (p : Package) → WellFormed p.layout → AreInOrder p.files → (file : ℕ) (s : SourceFile) (v w : World) → IsWorldOf p file s v →
+    IsWorldOf p file s w → v ≡ w
 one_world p formed rising file s v w a b =
     let same = one_definitions p formed a.definitions b.definitions a.are_definitions b.are_definitions in
     let bounds : v.bound ≡ w.bound = fun_ext (λ token. one_name p formed rising file token (v.bound token) (w.bound token) (a.names token) (b.names token)) in
     let members : v.member ≡ w.member =
     fun_ext (λ token. fun_ext (λ t. a.member token t ∙ ap (λ d. member_by d p.path (spelling_of s token) t) same ∙ sym (b.member token t))) in
-    let definitions : v.definition ≡ w.definition = fun_ext (λ symbol. a.definition symbol ∙ ap (λ d. (d symbol).underlying) same ∙ sym (b.definition symbol)) in
+    let definitions : v.definition ≡ w.definition = fun_ext
+    (λ symbol. a.definition symbol ∙ ap (λ d. (d symbol).underlying) same ∙ sym (b.definition symbol)) in
     ap (λ x. record { bound = x; member = v.member; definition = v.definition }) bounds ∙
     ap (λ x. record { bound = w.bound; member = x; definition = v.definition }) members ∙
     ap (λ x. record { bound = w.bound; member = w.member; definition = x }) definitions

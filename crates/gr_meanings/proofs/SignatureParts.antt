@@ -24,7 +24,8 @@ names_from : (t : TypeExpr) (names : List (Item Ident)) → flat_map (ident_part
 names_from t [] = refl
 names_from t (n ∷ ns) = ap (λ z. type_view t ∷ z) (names_from t ns)
 
-pub param_from : (param : Param) (names : List (Item Ident)) → names ≡ param.names.items → flat_map (ident_part param.param_type) names ≡ map (λ n. (param_view param).type_use) (param_view param).names
+pub param_from : (param : Param) (names : List (Item Ident)) → names ≡ param.names.items →
+    flat_map (ident_part param.param_type) names ≡ map (λ n. (param_view param).type_use) (param_view param).names
 unfolding param_view
 param_from param names e = ap (flat_map (ident_part param.param_type)) e ∙ names_from param.param_type param.names.items
 

@@ -16,13 +16,15 @@ InOrderBelow files n = (file : ℕ) (s : SourceFile) → file < n → slice_get 
 pub none_in_order : (files : List FileParts) → InOrderBelow files 0
 none_in_order files file s lt at = absurd (omega arith)
 
-pub next_in_order : (files : List FileParts) (n : ℕ) (x : FileParts) → n < length files → x ≡ get_or files n x → IsSourceFile (source_of x) → InOrderBelow files n → InOrderBelow files (n + 1)
+pub next_in_order : (files : List FileParts) (n : ℕ) (x : FileParts) → n < length files → x ≡ get_or files n x → IsSourceFile (source_of x) →
+    InOrderBelow files n → InOrderBelow files (n + 1)
 next_in_order files n x lt ex is h file s below at = elim (cases_lt file n) [
   | inl before ↦ h file s before at
   | inr ge ↦
       let same : n ≡ file = omega arith in
       let here : slice_get (map source_of files) file ≡ Some (source_of x) =
-      ap (slice_get (map source_of files)) (sym same) ∙ slice_get-map source_of files n ∙ ap (option_map source_of) (slice_get_read files (length files) n x refl lt ex) in
+      ap (slice_get (map source_of files)) (sym same) ∙ slice_get-map source_of files n ∙
+      ap (option_map source_of) (slice_get_read files (length files) n x refl lt ex) in
       subst (λ z. AreRising 0 (flatten z.tree)) (same_Some (source_of x) s (sym here ∙ at)) (file_numbered x is).rising
 ]
 

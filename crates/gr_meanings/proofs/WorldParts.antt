@@ -10,7 +10,8 @@ use Rattle.gr_expr.specs.declared.symbol.Symbol.{Symbol}
 use Rattle.gr_expr.specs.declared.world.World.{World}
 use Rattle.gr_expr.specs.Types.{same_path}
 use Rattle.gr_expr.specs.World.{member_by}
-use Rattle.gr_expr.specs.WorldView.{world_of, name_in, definition_of, no_definition, definition_or_none, imported_at, definition_at, definition_in, member_in, bound_in, underlying_in}
+use Rattle.gr_expr.specs.WorldView.{world_of, name_in, definition_of, no_definition, definition_or_none, imported_at, definition_at, definition_in}
+use Rattle.gr_expr.specs.WorldView.{member_in, bound_in, underlying_in}
 use Rattle.gr_expr.specs.WorldView as view
 use Rattle.gr_stmt.specs.View.{is_init_in}
 use Rattle.gr_declared.specs.Package.{Package, package_types, symbol_in, spelled_at}
@@ -24,7 +25,8 @@ use Rattle.gr_meanings.proofs.BoundLists.{slice_get_some, none_past}
 
 at_own : (w : World) (s : Symbol) → w.package.now ≡ s.package → definition_in w s ≡ definition_or_none s (slice_get w.own.now s.rank)
 unfolding definition_in definition_at
-at_own w s e = ap (λ t. definition_or_none s (if t then slice_get w.own.now s.rank else imported_at w.imported.now s)) ((bytes_decides w.package.now s.package).1 e)
+at_own w s e = ap (λ t. definition_or_none s (if t then slice_get w.own.now s.rank else imported_at w.imported.now s))
+    ((bytes_decides w.package.now s.package).1 e)
 
 is_other : (a b : List ℕ) → (a ≡ b → ⊥) → (t : Bool) → same_path a b ≡ t → t ≡ false
 is_other a b n true e = absurd (n ((bytes_decides a b).0 e))
@@ -33,10 +35,12 @@ is_other a b n false e = refl
 at_other : (w : World) (s : Symbol) → (w.package.now ≡ s.package → ⊥) → definition_in w s ≡ definition_or_none s (imported_at w.imported.now s)
 unfolding definition_in definition_at
 at_other w s n =
-    ap (λ t. definition_or_none s (if t then slice_get w.own.now s.rank else imported_at w.imported.now s)) (is_other w.package.now s.package n (same_path w.package.now s.package) refl)
+    ap (λ t. definition_or_none s (if t then slice_get w.own.now s.rank else imported_at w.imported.now s))
+    (is_other w.package.now s.package n (same_path w.package.now s.package) refl)
 
 pub world_definitions : (p : Package) (w : World) → w.package.now ≡ p.path → HaveDefinitions p w.own.now →
-    ((path : List ℕ) (rank : ℕ) → definition_or_none (record { «package» = path; rank = rank }) (imported_at w.imported.now (record { «package» = path; rank = rank })) ≡ (p.interface_of path).definition rank) →
+    ((path : List ℕ) (rank : ℕ) → definition_or_none (record { «package» = path; rank = rank })
+    (imported_at w.imported.now (record { «package» = path; rank = rank })) ≡ (p.interface_of path).definition rank) →
     AreDefinitions p (definition_in w)
 world_definitions p w here own imported = record {
   own = λ rank d at.
@@ -50,7 +54,8 @@ world_definitions p w here own imported = record {
 
 -- the world
 
-pub world_from : (p : Package) (w : World) (file : ℕ) (s : SourceFile) → slice_get p.files file ≡ Some s → w.package.now ≡ p.path → AreNames p file w.bounds.now w.names.now → AreDefinitions p (definition_in w) →
+pub world_from : (p : Package) (w : World) (file : ℕ) (s : SourceFile) → slice_get p.files file ≡ Some s → w.package.now ≡ p.path →
+    AreNames p file w.bounds.now w.names.now → AreDefinitions p (definition_in w) →
     IsWorldOf p file s (world_of w)
 unfolding bound_in member_in
 world_from p w file s at here names definitions = record {
@@ -63,5 +68,6 @@ world_from p w file s at here names definitions = record {
   definition = λ symbol. refl;
 }
 
-pub init_from : (p : Package) (w : World) (file : ℕ) (s : SourceFile) → slice_get p.files file ≡ Some s → AreNames p file w.bounds.now w.names.now → is_init_in w ≡ is_init s
+pub init_from : (p : Package) (w : World) (file : ℕ) (s : SourceFile) → slice_get p.files file ≡ Some s → AreNames p file w.bounds.now w.names.now →
+    is_init_in w ≡ is_init s
 init_from p w file s at names = fun_ext (λ token. ap (λ name. pointwise ◌==◌ name init_name) (names.spelling token ∙ ap (λ o. spelled_at o token) at))

@@ -46,9 +46,10 @@ pub record Extends {X : Type 0} (old new : List X) : Type 0 where
   pub keeps : (i : ℕ) (x : X) → slice_get old i ≡ Some x → slice_get new i ≡ Some x
 
 -- what one more declaration means was added: at the end of the list, unless it means nothing
-pub record AddsMeaning (list : List Bound) (of : List (Option ℕ)) (meaning : Option plain.Bound) (new_list : List Bound) (new_of : List (Option ℕ)) : Type 0 where
-  pub extends : Extends list new_list
-  pub place : Option ℕ
-  pub added : new_of ≡ of ++ (place ∷ [])
-  pub within : (i : ℕ) → place ≡ Some i → i < length new_list
-  pub means : option_map bound_of (bound_at new_list place) ≡ meaning
+pub record AddsMeaning (list : List Bound) (of : List (Option ℕ)) (meaning : Option plain.Bound) (new_list : List Bound) (new_of : List (Option ℕ)) : Type 0
+  where
+    pub extends : Extends list new_list
+    pub place : Option ℕ
+    pub added : new_of ≡ of ++ (place ∷ [])
+    pub within : (i : ℕ) → place ≡ Some i → i < length new_list
+    pub means : option_map bound_of (bound_at new_list place) ≡ meaning

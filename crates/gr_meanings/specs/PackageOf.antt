@@ -18,7 +18,8 @@ package_in path files table interface_of = record {
 
 -- The package that is checked, given the names of other packages, by their paths, and what it sees of them: in its table each
 -- import without a name declares the name of the imported package. There is one such package at most.
-pub record IsPackageOf (path : List ℕ) (files : List FileParts) (name_of : List ℕ → Option (List ℕ)) (interface_of : List ℕ → Interface) (p : Package) : Type 0 where
+pub record IsPackageOf (path : List ℕ) (files : List FileParts) (name_of : List ℕ → Option (List ℕ)) (interface_of : List ℕ → Interface) (p : Package) :
+    Type 0 where
   pub laid : ScopedPackage
   pub is_laid : IsLaidOver (map source_of files) name_of (scoped files) laid
   pub is_package : p ≡ package_in path (map source_of files) laid interface_of

@@ -19,17 +19,20 @@ use Rattle.gr_members.proofs.MethodNames.{one_owner, one_method_name}
 
 -- a fault that is added by a test
 
-pub by_test : (old new : List Fault) (test : Bool) (fault : Fault) (P : Fault → Type 0) → Adds old new (λ f. IsTrue test × (f ≡ fault)) → (test ≡ true → P fault) → ((f : Fault) → P f → (test ≡ true) × (f ≡ fault)) →
+pub by_test : (old new : List Fault) (test : Bool) (fault : Fault) (P : Fault → Type 0) → Adds old new (λ f. IsTrue test × (f ≡ fault)) →
+    (test ≡ true → P fault) → ((f : Fault) → P f → (test ≡ true) × (f ≡ fault)) →
     Adds old new P
 by_test old new test fault P h to from = adds_as old new (λ f. IsTrue test × (f ≡ fault)) P h (λ f k. subst P (sym k.1) (to k.0)) (λ f k. from f k)
 
 -- fields
 
-pub field_fault : (p : Package) (rank : ℕ) (x : PlacedField) (b : Bool) → slice_get (package_fields p) rank ≡ Some x → (b ≡ true) ↔ CountsAsField p rank → not b ≡ true →
+pub field_fault : (p : Package) (rank : ℕ) (x : PlacedField) (b : Bool) → slice_get (package_fields p) rank ≡ Some x → (b ≡ true) ↔ CountsAsField p rank →
+    not b ≡ true →
     IsFieldFault p rank (record { file = x.file; token = x.name; kind = kind.Repeated })
 field_fault p rank x b e h t = record { field = x; has_rank = e; displaced = λ c. false≢true (sym (not-true b t) ∙ h.1 c); at = refl }
 
-pub of_field_fault : (p : Package) (rank : ℕ) (x : PlacedField) (b : Bool) → slice_get (package_fields p) rank ≡ Some x → (b ≡ true) ↔ CountsAsField p rank → (f : Fault) → IsFieldFault p rank f →
+pub of_field_fault : (p : Package) (rank : ℕ) (x : PlacedField) (b : Bool) → slice_get (package_fields p) rank ≡ Some x →
+    (b ≡ true) ↔ CountsAsField p rank → (f : Fault) → IsFieldFault p rank f →
     (not b ≡ true) × (f ≡ record { file = x.file; token = x.name; kind = kind.Repeated })
 of_field_fault p rank x b e h f k =
     let same : k.field ≡ x = same_Some k.field x (sym k.has_rank ∙ e) in
@@ -59,7 +62,8 @@ fault_of_field p f k = record {
   at = k.at;
 }
 
-pub all_field_faults : (p : Package) (old new : List Fault) (count : ℕ) → count ≡ length (package_fields p) → Adds old new (Below (IsFieldFault p) count) → Adds old new (IsRepeatedField p)
+pub all_field_faults : (p : Package) (old new : List Fault) (count : ℕ) → count ≡ length (package_fields p) → Adds old new (Below (IsFieldFault p) count) →
+    Adds old new (IsRepeatedField p)
 all_field_faults p old new count e h =
     adds_as old new (Below (IsFieldFault p) count) (IsRepeatedField p) h (λ f k. repeated_field p k.0 f k.2)
     (λ f k. (k.rank, subst (λ n. k.rank < n) (sym e) (slice_get_within (package_fields p) k.rank k.field k.is_field.has_rank), fault_of_field p f k))
@@ -74,14 +78,16 @@ owner_some : (p : Package) (rank : ℕ) (o : Option ℕ) (d : ℕ) → HasOwner 
 owner_some p rank None d h m = absurd (h d m)
 owner_some p rank (Some e) d h m = refl
 
-pub method_fault : (p : Package) (rank : ℕ) (x : PlacedFunction) (o : Option ℕ) (b : Bool) → slice_get (package_functions p) rank ≡ Some x → HasOwner p rank o → (b ≡ true) ↔ CountsAsMethod p rank →
+pub method_fault : (p : Package) (rank : ℕ) (x : PlacedFunction) (o : Option ℕ) (b : Bool) → slice_get (package_functions p) rank ≡ Some x →
+    HasOwner p rank o → (b ≡ true) ↔ CountsAsMethod p rank →
     (is_some o && not b) ≡ true → IsMethodFault p rank (record { file = x.file; token = x.function.name; kind = kind.Repeated })
 method_fault p rank x o b e has h t =
     let parts = and_parts (is_some o) (not b) t in
     let own = some_owner p rank o has parts.0 in
     record { method = x; has_rank = e; definition = own.0; is_method = own.1; displaced = λ c. false≢true (sym (not-true b parts.1) ∙ h.1 c); at = refl }
 
-pub of_method_fault : (p : Package) (rank : ℕ) (x : PlacedFunction) (o : Option ℕ) (b : Bool) → slice_get (package_functions p) rank ≡ Some x → HasOwner p rank o → (b ≡ true) ↔ CountsAsMethod p rank →
+pub of_method_fault : (p : Package) (rank : ℕ) (x : PlacedFunction) (o : Option ℕ) (b : Bool) → slice_get (package_functions p) rank ≡ Some x →
+    HasOwner p rank o → (b ≡ true) ↔ CountsAsMethod p rank →
     (f : Fault) → IsMethodFault p rank f → ((is_some o && not b) ≡ true) × (f ≡ record { file = x.file; token = x.function.name; kind = kind.Repeated })
 of_method_fault p rank x o b e has h f k =
     let same : k.method ≡ x = same_Some k.method x (sym k.has_rank ∙ e) in (
@@ -110,13 +116,16 @@ fault_of_method p w f k = record {
   is_method = record { name = k.name; method = k.method; is_method = k.is_method };
   displaced = λ c. k.displaced (
       let same : c.method ≡ k.method = same_Some c.method k.method (sym c.counting.is_method.has_rank ∙ k.is_method.has_rank) in
-      subst (λ d. IsCountingMethod p d k.name k.rank k.method) (one_owner p w k.rank k.definition c.definition k.name c.name k.method c.method k.is_method c.counting.is_method)
-      (subst (λ n. IsCountingMethod p c.definition n k.rank k.method) (one_method_name p k.rank k.definition c.definition k.name c.name k.method c.method k.is_method c.counting.is_method)
+      subst (λ d. IsCountingMethod p d k.name k.rank k.method)
+      (one_owner p w k.rank k.definition c.definition k.name c.name k.method c.method k.is_method c.counting.is_method)
+      (subst (λ n. IsCountingMethod p c.definition n k.rank k.method)
+      (one_method_name p k.rank k.definition c.definition k.name c.name k.method c.method k.is_method c.counting.is_method)
       (subst (IsCountingMethod p c.definition c.name k.rank) same c.counting)));
   at = k.at;
 }
 
-pub all_method_faults : (p : Package) → WellFormed p.layout → (old new : List Fault) (count : ℕ) → count ≡ length (package_functions p) → Adds old new (Below (IsMethodFault p) count) →
+pub all_method_faults : (p : Package) → WellFormed p.layout → (old new : List Fault) (count : ℕ) → count ≡ length (package_functions p) →
+    Adds old new (Below (IsMethodFault p) count) →
     Adds old new (IsRepeatedMethod p)
 all_method_faults p w old new count e h =
     adds_as old new (Below (IsMethodFault p) count) (IsRepeatedMethod p) h (λ f k. repeated_method p k.0 f k.2)
@@ -124,17 +133,20 @@ all_method_faults p w old new count e h =
 
 -- recursive definitions
 
-pub recursion_fault : (p : Package) (rank : ℕ) (x : PlacedType) (b : Bool) → slice_get (package_types p) rank ≡ Some x → (b ≡ true) ↔ Holds p rank rank → b ≡ true →
+pub recursion_fault : (p : Package) (rank : ℕ) (x : PlacedType) (b : Bool) → slice_get (package_types p) rank ≡ Some x → (b ≡ true) ↔ Holds p rank rank →
+    b ≡ true →
     IsRecursionFault p rank (record { file = x.file; token = x.spec.name; kind = kind.Recursive })
 recursion_fault p rank x b e h t = record { definition = x; has_rank = e; holds_itself = h.0 t; at = refl }
 
-pub of_recursion_fault : (p : Package) (rank : ℕ) (x : PlacedType) (b : Bool) → slice_get (package_types p) rank ≡ Some x → (b ≡ true) ↔ Holds p rank rank → (f : Fault) → IsRecursionFault p rank f →
+pub of_recursion_fault : (p : Package) (rank : ℕ) (x : PlacedType) (b : Bool) → slice_get (package_types p) rank ≡ Some x → (b ≡ true) ↔ Holds p rank rank →
+    (f : Fault) → IsRecursionFault p rank f →
     (b ≡ true) × (f ≡ record { file = x.file; token = x.spec.name; kind = kind.Recursive })
 of_recursion_fault p rank x b e h f k =
     let same : k.definition ≡ x = same_Some k.definition x (sym k.has_rank ∙ e) in
     (h.1 k.holds_itself, k.at ∙ ap (λ z. make z.file z.spec.name kind.Recursive) same)
 
-pub all_recursion_faults : (p : Package) (old new : List Fault) (count : ℕ) → count ≡ length (package_types p) → Adds old new (Below (IsRecursionFault p) count) → Adds old new (IsRecursive p)
+pub all_recursion_faults : (p : Package) (old new : List Fault) (count : ℕ) → count ≡ length (package_types p) →
+    Adds old new (Below (IsRecursionFault p) count) → Adds old new (IsRecursive p)
 all_recursion_faults p old new count e h =
     adds_as old new (Below (IsRecursionFault p) count) (IsRecursive p) h
     (λ f k. record { rank = k.0; definition = k.2.definition; has_rank = k.2.has_rank; holds_itself = k.2.holds_itself; at = k.2.at })

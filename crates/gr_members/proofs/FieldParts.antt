@@ -22,16 +22,20 @@ abbrev pub ranked_part : ℕ × PlacedType → List PlacedField
 ranked_part r = body_fields r.0 r.1.file r.1.spec.body
 
 names_of_items : (definition file : ℕ) (field : Field) (xs : List (Item ℕ)) →
-    flat_map (name_part definition file field) xs ≡ map (λ n. record { definition = definition; file = file; name = n.value; type_use = type_view field.field_type }) (map (item_view same_place) xs)
+    flat_map (name_part definition file field) xs ≡ map
+    (λ n. record { definition = definition; file = file; name = n.value; type_use = type_view field.field_type }) (map (item_view same_place) xs)
 names_of_items definition file field [] = refl
 names_of_items definition file field (x ∷ xs) =
-    ap (λ z. record { definition = definition; file = file; name = x.value; type_use = type_view field.field_type } ∷ z) (names_of_items definition file field xs)
+    ap (λ z. record { definition = definition; file = file; name = x.value; type_use = type_view field.field_type } ∷ z)
+    (names_of_items definition file field xs)
 
-pub names_from : (definition file : ℕ) (field : Field) (xs : List (Item ℕ)) → xs ≡ field.names.items → flat_map (name_part definition file field) xs ≡ field_names definition file (field_view field)
+pub names_from : (definition file : ℕ) (field : Field) (xs : List (Item ℕ)) → xs ≡ field.names.items →
+    flat_map (name_part definition file field) xs ≡ field_names definition file (field_view field)
 unfolding field_view
 names_from definition file field xs e = ap (flat_map (name_part definition file field)) e ∙ names_of_items definition file field field.names.items
 
-fields_of_items : (definition file : ℕ) (xs : List (Item Field)) → flat_map (field_part definition file) xs ≡ flat_map (λ i. field_names definition file i.value) (list_view field_view xs)
+fields_of_items : (definition file : ℕ) (xs : List (Item Field)) →
+    flat_map (field_part definition file) xs ≡ flat_map (λ i. field_names definition file i.value) (list_view field_view xs)
 fields_of_items definition file [] = refl
 fields_of_items definition file (x ∷ xs) = ap (λ z. field_part definition file x ++ z) (fields_of_items definition file xs)
 
@@ -50,4 +54,5 @@ none_from definition file b t e = ap (λ z. body_fields definition file (body_vi
 pub ranked_fields : (rank : ℕ) (ds : List PlacedType) → flat_map ranked_part (enumerate_from rank ds) ≡ fields_from rank ds
 ranked_fields rank [] = refl
 ranked_fields rank (d ∷ ds) =
-    ap (λ z. body_fields rank d.file d.spec.body ++ z) (ap (λ k. flat_map ranked_part (enumerate_from k ds)) (let e : rank + 1 ≡ suc rank = omega arith in e) ∙ ranked_fields (suc rank) ds)
+    ap (λ z. body_fields rank d.file d.spec.body ++ z)
+    (ap (λ k. flat_map ranked_part (enumerate_from k ds)) (let e : rank + 1 ≡ suc rank = omega arith in e) ∙ ranked_fields (suc rank) ds)

@@ -21,7 +21,8 @@ use Rattle.gr_declared.proofs.OneUnderlying.{one_underlying}
 
 -- a struct of the package
 
-pub own_has : (p : Package) (b : Bool) (noted : ℕ → List ℕ → Bool) (s : Symbol) (name : List ℕ) → b ≡ noted s.rank name → AreNamesBelow (IsFieldNamed p) (length (package_fields p)) noted →
+pub own_has : (p : Package) (b : Bool) (noted : ℕ → List ℕ → Bool) (s : Symbol) (name : List ℕ) → b ≡ noted s.rank name →
+    AreNamesBelow (IsFieldNamed p) (length (package_fields p)) noted →
     s.package ≡ p.path → (b ≡ true) ↔ StructHas p s name
 own_has p b noted s name is h e = (
   (λ t. let w = h.only s.rank name (sym is ∙ t) in own {field = w.0} {f = w.1.1.field} e w.1.1.is_field),
@@ -32,7 +33,8 @@ own_has p b noted s name is h e = (
 )
 
 -- a struct of another package
-pub other_has : (p : Package) (b : Bool) (s : Symbol) (name : List ℕ) → (s.package ≡ p.path → ⊥) → b ≡ exported_field (((p.interface_of s.package).definition s.rank).field name) → (b ≡ true) ↔ StructHas p s name
+pub other_has : (p : Package) (b : Bool) (s : Symbol) (name : List ℕ) → (s.package ≡ p.path → ⊥) →
+    b ≡ exported_field (((p.interface_of s.package).definition s.rank).field name) → (b ≡ true) ↔ StructHas p s name
 other_has p b s name ne e = (
   (λ t. imported ne (sym e ∙ t)),
   (λ has. elim has [
@@ -52,9 +54,11 @@ has_struct p s name h = record { symbol = s; is_struct = refl; has = h }
 pub struct_had : (p : Package) (s : Symbol) (name : List ℕ) → UnderlyingHas p (StructOf s) name → StructHas p s name
 struct_had p s name h = subst (λ t. StructHas p t name) (sym (ap (symbol_or s) h.is_struct)) h.has
 
-pub underlying_had : (p : Package) (v : Found) (s : Symbol) (name : List ℕ) (b : Bool) → v ≡ variant.Struct s → (b ≡ true) ↔ StructHas p s name → (b ≡ true) ↔ UnderlyingHas p (underlying_of v) name
+pub underlying_had : (p : Package) (v : Found) (s : Symbol) (name : List ℕ) (b : Bool) → v ≡ variant.Struct s → (b ≡ true) ↔ StructHas p s name →
+    (b ≡ true) ↔ UnderlyingHas p (underlying_of v) name
 unfolding underlying_of
-underlying_had p v s name b e h = subst (λ w. (b ≡ true) ↔ UnderlyingHas p (underlying_of w) name) (sym e) ((λ t. has_struct p s name (h.0 t)), (λ u. h.1 (struct_had p s name u)))
+underlying_had p v s name b e h = subst (λ w. (b ≡ true) ↔ UnderlyingHas p (underlying_of w) name) (sym e)
+    ((λ t. has_struct p s name (h.0 t)), (λ u. h.1 (struct_had p s name u)))
 
 -- the exported field of a definition
 
@@ -67,17 +71,21 @@ symbol_from s path e = ap (λ z. record { «package» = z; rank = s.rank }) e
 
 -- by the underlying type
 
-named_if : (p : Package) (definition : ℕ) (u : Underlying) (name : List ℕ) → HasUnderlying p (Defined (symbol_in p definition)) u → UnderlyingHas p u name → HasFieldNamed p definition name
+named_if : (p : Package) (definition : ℕ) (u : Underlying) (name : List ℕ) → HasUnderlying p (Defined (symbol_in p definition)) u → UnderlyingHas p u name →
+    HasFieldNamed p definition name
 named_if p definition u name is h =
-    let known : HasUnderlying p (Defined (symbol_in p definition)) (StructOf h.symbol) = subst (HasUnderlying p (Defined (symbol_in p definition))) h.is_struct is in
+    let known : HasUnderlying p (Defined (symbol_in p definition)) (StructOf h.symbol) =
+    subst (HasUnderlying p (Defined (symbol_in p definition))) h.is_struct is in
     elim h.has [
-      | own {field} {f} same at ↦ of_own {rank = h.symbol.rank} {field = field} {f = f} (subst (λ s. HasUnderlying p (Defined (symbol_in p definition)) (StructOf s)) (symbol_from h.symbol p.path same) known) at
+      | own {field} {f} same at ↦ of_own {rank = h.symbol.rank} {field = field} {f = f}
+          (subst (λ s. HasUnderlying p (Defined (symbol_in p definition)) (StructOf s)) (symbol_from h.symbol p.path same) known) at
       | imported other exported ↦ (
           let known_field = field_exported (((p.interface_of h.symbol.package).definition h.symbol.rank).field name) exported in
           of_imported {path = h.symbol.package} {rank = h.symbol.rank} {f = known_field.0} known other known_field.1.0 known_field.1.1)
     ]
 
-only_if : (p : Package) → WellFormed p.layout → (definition : ℕ) (u : Underlying) (name : List ℕ) → HasUnderlying p (Defined (symbol_in p definition)) u → HasFieldNamed p definition name → UnderlyingHas p u name
+only_if : (p : Package) → WellFormed p.layout → (definition : ℕ) (u : Underlying) (name : List ℕ) → HasUnderlying p (Defined (symbol_in p definition)) u →
+    HasFieldNamed p definition name → UnderlyingHas p u name
 only_if p w definition u name is (of_own {rank = rank} {field = field} {f = f} has at) = record {
   symbol = symbol_in p rank;
   is_struct = one_underlying p w (Defined (symbol_in p definition)) u (StructOf (symbol_in p rank)) is has;
@@ -89,18 +97,21 @@ only_if p w definition u name is (of_imported {path = path} {rank = rank} {f = f
   has = imported other (ap exported_field found ∙ exported);
 }
 
-pub field_named_by : (p : Package) → WellFormed p.layout → (definition : ℕ) (o : Option Underlying) (u : Underlying) (name : List ℕ) (b : Bool) → IsUnderlyingFound p definition o → o ≡ Some u →
+pub field_named_by : (p : Package) → WellFormed p.layout → (definition : ℕ) (o : Option Underlying) (u : Underlying) (name : List ℕ) (b : Bool) →
+    IsUnderlyingFound p definition o → o ≡ Some u →
     (b ≡ true) ↔ UnderlyingHas p u name → (b ≡ true) ↔ HasFieldNamed p definition name
 field_named_by p w definition o u name b found e h =
     let is : HasUnderlying p (Defined (symbol_in p definition)) u = subst (IsUnderlyingFound p definition) e found in
     ((λ t. named_if p definition u name is (h.0 t)), (λ f. h.1 (only_if p w definition u name is f)))
 
 -- a definition that has no underlying type
-underlying_of_named : (p : Package) (definition : ℕ) (name : List ℕ) → HasFieldNamed p definition name → (u : Underlying) × HasUnderlying p (Defined (symbol_in p definition)) u
+underlying_of_named : (p : Package) (definition : ℕ) (name : List ℕ) → HasFieldNamed p definition name → (u : Underlying) ×
+    HasUnderlying p (Defined (symbol_in p definition)) u
 underlying_of_named p definition name (of_own has at) = (_, has)
 underlying_of_named p definition name (of_imported has other found exported) = (_, has)
 
-pub no_field_named : (p : Package) (definition : ℕ) (o : Option Underlying) (name : List ℕ) → IsUnderlyingFound p definition o → o ≡ None → HasFieldNamed p definition name → ⊥
+pub no_field_named : (p : Package) (definition : ℕ) (o : Option Underlying) (name : List ℕ) → IsUnderlyingFound p definition o → o ≡ None →
+    HasFieldNamed p definition name → ⊥
 no_field_named p definition o name found e h =
     let none : (u : Underlying) → HasUnderlying p (Defined (symbol_in p definition)) u → ⊥ = subst (IsUnderlyingFound p definition) e found in
     let u = underlying_of_named p definition name h in

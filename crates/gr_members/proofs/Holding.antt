@@ -56,7 +56,8 @@ items_as a b P Q to from h = record {
   only = λ q k. elim (h.only q k) [ inl o ↦ inl o | inr n ↦ inr (to q n) ];
 }
 
-pub items_then : (a b c : List ℕ) (P Q R : ℕ → Type 0) → AddsItems a b P → AddsItems b c Q → ((q : ℕ) → P q ⊎ Q q → R q) → ((q : ℕ) → R q → P q ⊎ Q q) → AddsItems a c R
+pub items_then : (a b c : List ℕ) (P Q R : ℕ → Type 0) → AddsItems a b P → AddsItems b c Q → ((q : ℕ) → P q ⊎ Q q → R q) → ((q : ℕ) → R q → P q ⊎ Q q) →
+    AddsItems a c R
 items_then a b c P Q R h k to from = record {
   keeps = λ q x. k.keeps q (h.keeps q x);
   holds = λ q x. elim (from q x) [ inl y ↦ k.keeps q (h.holds q y) | inr y ↦ k.holds q y ];
@@ -84,13 +85,15 @@ items_all a b P e h q = (
 pub one_of_none : (p : Package) (file r : ℕ) → IsHeldAsOne p file [] r → ⊥
 one_of_none p file r h = let lt : h.1.0.0 < 0 = h.1.0.1 in absurd (omega arith)
 
-pub one_push : (p : Package) (file : ℕ) (ts us : List TypeTree) (t : TypeTree) (r : ℕ) → us ≡ ts ++ (t ∷ []) → IsHeldAsOne p file ts r ⊎ IsHeldAs p file t r → IsHeldAsOne p file us r
+pub one_push : (p : Package) (file : ℕ) (ts us : List TypeTree) (t : TypeTree) (r : ℕ) → us ≡ ts ++ (t ∷ []) → IsHeldAsOne p file ts r ⊎
+    IsHeldAs p file t r → IsHeldAsOne p file us r
 one_push p file ts us t r e h = elim h [
   | inl s ↦ (s.0, (subst (λ xs. Contains xs s.0) (sym e) (Contains-append_left ts (t ∷ []) s.0 s.1.0), s.1.1))
   | inr is ↦ (t, (subst (λ xs. Contains xs t) (sym e) (Contains-push ts t), is))
 ]
 
-pub one_cases : (p : Package) (file : ℕ) (ts us : List TypeTree) (t : TypeTree) (r : ℕ) → us ≡ ts ++ (t ∷ []) → IsHeldAsOne p file us r → IsHeldAsOne p file ts r ⊎ IsHeldAs p file t r
+pub one_cases : (p : Package) (file : ℕ) (ts us : List TypeTree) (t : TypeTree) (r : ℕ) → us ≡ ts ++ (t ∷ []) → IsHeldAsOne p file us r →
+    IsHeldAsOne p file ts r ⊎ IsHeldAs p file t r
 one_cases p file ts us t r e s = elim (Contains-push_cases ts t s.0 (subst (λ xs. Contains xs s.0) e s.1.0)) [
   | inl old ↦ inl (s.0, (old, s.1.1))
   | inr same ↦ inr (subst (λ x. IsHeldAs p file x r) (sym same) s.1.1)
@@ -104,7 +107,8 @@ alone_one p file t r is = one_push p file [] (t ∷ []) t r refl (inr is)
 
 -- what the definition of a rank holds
 
-direct_from : (p : Package) (a b : ℕ) (d : PlacedType) → slice_get (package_types p) a ≡ Some d → IsHeldAsOne p d.file (written_types d.spec.body) b → HoldsDirectly p a b
+direct_from : (p : Package) (a b : ℕ) (d : PlacedType) → slice_get (package_types p) a ≡ Some d → IsHeldAsOne p d.file (written_types d.spec.body) b →
+    HoldsDirectly p a b
 direct_from p a b d e h = record {
   definition = d;
   has_rank = e;
@@ -115,7 +119,8 @@ direct_from p a b d e h = record {
   names = h.1.1.names;
 }
 
-direct_to : (p : Package) (a b : ℕ) (d : PlacedType) → slice_get (package_types p) a ≡ Some d → HoldsDirectly p a b → IsHeldAsOne p d.file (written_types d.spec.body) b
+direct_to : (p : Package) (a b : ℕ) (d : PlacedType) → slice_get (package_types p) a ≡ Some d → HoldsDirectly p a b →
+    IsHeldAsOne p d.file (written_types d.spec.body) b
 direct_to p a b d e h =
     let same : h.definition ≡ d = same_Some h.definition d (sym h.has_rank ∙ e) in
     subst (λ x. IsHeldAsOne p x.file (written_types x.spec.body) b) same
@@ -131,13 +136,20 @@ no_lead : (a b : ℕ) → Leads [] a b → ⊥
 no_lead a b l = no_item b (subst (λ o. Contains (row_of o) b) (slice_get_past [] a (omega arith)) l)
 
 pub held_none : (p : Package) (links : List (Vec ℕ)) → links ≡ [] → HeldBelow p links 0
-held_none p links e = record { size = ap length e; holds = λ a b lt h. absurd (omega arith); only = λ a b l. absurd (no_lead a b (subst (λ ls. Leads ls a b) e l)) }
+held_none p links e = record {
+  size = ap length e;
+  holds = λ a b lt h. absurd (omega arith);
+  only = λ a b l.
+      absurd (no_lead a b (subst (λ ls. Leads ls a b) e l));
+}
 
-pub held_next : (p : Package) (old new : List (Vec ℕ)) (count : ℕ) (row : Vec ℕ) (d : PlacedType) → new ≡ old ++ (row ∷ []) → slice_get (package_types p) count ≡ Some d →
+pub held_next : (p : Package) (old new : List (Vec ℕ)) (count : ℕ) (row : Vec ℕ) (d : PlacedType) → new ≡ old ++ (row ∷ []) →
+    slice_get (package_types p) count ≡ Some d →
     ((r : ℕ) → Contains row.items r ↔ IsHeldAsOne p d.file (written_types d.spec.body) r) → HeldBelow p old count → HeldBelow p new (count + 1)
 held_next p old new count row d e is each h =
     let len : length (old ++ (row ∷ [])) ≡ length old + 1 = length_push old row in
-    let before : (a : ℕ) → a < count → slice_get new a ≡ slice_get old a = λ a lt. ap (λ ls. slice_get ls a) e ∙ get_before old row a (subst (λ n. a < n) (sym h.size) lt) in
+    let before : (a : ℕ) → a < count → slice_get new a ≡ slice_get old a = λ a lt. ap (λ ls. slice_get ls a) e ∙
+    get_before old row a (subst (λ n. a < n) (sym h.size) lt) in
     let last : slice_get new count ≡ Some row = ap (λ ls. slice_get ls count) e ∙ ap (slice_get (old ++ (row ∷ []))) (sym h.size) ∙ get_last old row in
     record {
       size = ap length e ∙ len ∙ ap (λ n. n + 1) h.size;
@@ -145,7 +157,8 @@ held_next p old new count row d e is each h =
         | inl below ↦ subst (λ o. Contains (row_of o) b) (sym (before a below)) (h.holds a b below k)
         | inr ge ↦ (
             let same : a ≡ count = omega arith in
-            let there : Leads new count b = subst (λ o. Contains (row_of o) b) (sym last) ((each b).1 (direct_to p count b d is (subst (λ x. HoldsDirectly p x b) same k))) in
+            let there : Leads new count b = subst (λ o. Contains (row_of o) b) (sym last)
+            ((each b).1 (direct_to p count b d is (subst (λ x. HoldsDirectly p x b) same k))) in
             subst (λ x. Leads new x b) (sym same) there)
       ];
       only = λ a b l. elim (cases_order a count) [
@@ -164,7 +177,11 @@ held_next p old new count row d e is each h =
 pub held_all : (p : Package) (links : List (Vec ℕ)) (count : ℕ) → count ≡ length (package_types p) → HeldBelow p links count → AreHeld p links
 held_all p links count e h = record {
   size = h.size ∙ e;
-  each = λ a b. (h.only a b, (λ k. h.holds a b (let lt : a < length (package_types p) = slice_get_within (package_types p) a k.definition k.has_rank in omega arith) k));
+  each = λ a b. (
+    h.only a b,
+    (λ k. h.holds a b (let lt : a < length (package_types p) = slice_get_within (package_types p) a k.definition k.has_rank in
+        omega arith) k),
+  );
 }
 
 pub held_linked : (p : Package) (links : List (Vec ℕ)) → AreHeld p links → AreLinked links
@@ -183,11 +200,13 @@ reached_holds : (p : Package) (links : List (Vec ℕ)) (r q : ℕ) → AreHeld p
 reached_holds p links r q h (first b) = directly ((h.each r q).0 b)
 reached_holds p links r q h (behind {a = a} reached leads) = holds_then p r a q (reached_holds p links r a h reached) ((h.each a q).0 leads)
 
-holds_reached : (p : Package) (links : List (Vec ℕ)) (B : ℕ → Type 0) (a q : ℕ) → AreHeld p links → ((x : ℕ) → Leads links a x → IsReached links B x) → Holds p a q → IsReached links B q
+holds_reached : (p : Package) (links : List (Vec ℕ)) (B : ℕ → Type 0) (a q : ℕ) → AreHeld p links → ((x : ℕ) → Leads links a x → IsReached links B x) →
+    Holds p a q → IsReached links B q
 holds_reached p links B a q h from (directly k) = from q ((h.each a q).1 k)
 holds_reached p links B a q h from (through {b = b} k rest) = holds_reached p links B b q h (λ x l. behind (from b ((h.each a b).1 k)) l) rest
 
-pub are_recursive : (p : Package) (links : List (Vec ℕ)) (marks : List Bool) → AreHeld p links → length marks ≡ length links → ((q : ℕ) → q < length links → IsMarked marks q ↔ IsOnCycle links q) → AreRecursive p marks
+pub are_recursive : (p : Package) (links : List (Vec ℕ)) (marks : List Bool) → AreHeld p links → length marks ≡ length links →
+    ((q : ℕ) → q < length links → IsMarked marks q ↔ IsOnCycle links q) → AreRecursive p marks
 are_recursive p links marks h size each = record {
   all = size ∙ h.size;
   each = λ r lt.

@@ -15,11 +15,13 @@ use Rattle.gr_declared.proofs.Ranking.{one_rank}
 use Rattle.gr_members.proofs.Noting.{names_next, names_skip, MarksBelow}
 use Rattle.gr_members.proofs.Owning.{HasOwner}
 
-pub same_function : (p : Package) (rank : ℕ) (f g : PlacedFunction) → slice_get (package_functions p) rank ≡ Some f → slice_get (package_functions p) rank ≡ Some g → g ≡ f
+pub same_function : (p : Package) (rank : ℕ) (f g : PlacedFunction) → slice_get (package_functions p) rank ≡ Some f →
+    slice_get (package_functions p) rank ≡ Some g → g ≡ f
 same_function p rank f g e h = same_Some g f (sym h ∙ e)
 
 -- a method belongs to one definition
-pub one_owner : (p : Package) → WellFormed p.layout → (rank d e : ℕ) (m n : List ℕ) (f g : PlacedFunction) → IsMethodOf p d m rank f → IsMethodOf p e n rank g → e ≡ d
+pub one_owner : (p : Package) → WellFormed p.layout → (rank d e : ℕ) (m n : List ℕ) (f g : PlacedFunction) → IsMethodOf p d m rank f →
+    IsMethodOf p e n rank g → e ≡ d
 one_owner p w rank d e m n f g a b =
     let same : g ≡ f = same_function p rank f g a.has_rank b.has_rank in
     let receiver = same_Some b.receiver a.receiver (sym b.received ∙ ap (λ x. x.function.receiver) same ∙ a.received) in
@@ -42,13 +44,15 @@ owner_in_range p rank (Some d) h = owner_within p rank d h
 
 -- one more function
 
-method_here : (p : Package) (rank d : ℕ) (f : PlacedFunction) → slice_get (package_functions p) rank ≡ Some f → IsMethodOn p rank d → IsMethodOf p d (spelled p f.file f.function.name) rank f
+method_here : (p : Package) (rank d : ℕ) (f : PlacedFunction) → slice_get (package_functions p) rank ≡ Some f → IsMethodOn p rank d →
+    IsMethodOf p d (spelled p f.file f.function.name) rank f
 method_here p rank d f e m =
     let same : m.method ≡ f = same_function p rank f m.method e m.is_method.has_rank in
     let named = sym m.is_method.named ∙ ap (λ x. spelled p x.file x.function.name) same in
     subst (λ n. IsMethodOf p d n rank f) named (subst (λ x. IsMethodOf p d m.name rank x) same m.is_method)
 
-pub names_after : (p : Package) → WellFormed p.layout → (rank : ℕ) (f : PlacedFunction) (o : Option ℕ) (old new : ℕ → List ℕ → Bool) (counts : Bool) → slice_get (package_functions p) rank ≡ Some f →
+pub names_after : (p : Package) → WellFormed p.layout → (rank : ℕ) (f : PlacedFunction) (o : Option ℕ) (old new : ℕ → List ℕ → Bool) (counts : Bool) →
+    slice_get (package_functions p) rank ≡ Some f →
     HasOwner p rank o → NotesMethod p f o old new counts → AreNamesBelow (IsMethodNamed p) rank old → AreNamesBelow (IsMethodNamed p) (rank + 1) new
 names_after p w rank f o old new counts e has (no_method none same fails) h =
     let no : (d : ℕ) → IsMethodOn p rank d → ⊥ = subst (HasOwner p rank) none has in
@@ -63,7 +67,8 @@ names_after p w rank f o old new counts e has (method {definition = d} some note
     names_next (IsMethodNamed p) rank d name old new (record { method = f; is_method = is })
     (λ x n k. (one_owner p w rank d x name n f k.method is k.is_method, one_method_name p rank d x name n f k.method is k.is_method)) notes h
 
-pub counts_here : (p : Package) → WellFormed p.layout → (rank : ℕ) (f : PlacedFunction) (o : Option ℕ) (old new : ℕ → List ℕ → Bool) (counts : Bool) → slice_get (package_functions p) rank ≡ Some f →
+pub counts_here : (p : Package) → WellFormed p.layout → (rank : ℕ) (f : PlacedFunction) (o : Option ℕ) (old new : ℕ → List ℕ → Bool) (counts : Bool) →
+    slice_get (package_functions p) rank ≡ Some f →
     HasOwner p rank o → NotesMethod p f o old new counts → AreNamesBelow (IsMethodNamed p) rank old → (counts ≡ true) ↔ CountsAsMethod p rank
 counts_here p w rank f o old new counts e has (no_method none same fails) h =
     let no : (d : ℕ) → IsMethodOn p rank d → ⊥ = subst (HasOwner p rank) none has in (
@@ -91,16 +96,19 @@ counts_here p w rank f o old new counts e has (method {definition = d} some note
           says.1 (
             false_from_ne_true (old d name) (λ t. let before = h.only d name t in
                 c.counting.first before.0 before.1.1.method before.1.0
-                (subst (λ x. IsMethodOf p x c.name before.0 before.1.1.method) (sym ed) (subst (λ n. IsMethodOf p d n before.0 before.1.1.method) (sym en) before.1.1.is_method))),
+                (subst (λ x. IsMethodOf p x c.name before.0 before.1.1.method) (sym ed)
+                (subst (λ n. IsMethodOf p d n before.0 before.1.1.method) (sym en) before.1.1.is_method))),
             λ field. c.counting.no_field (subst (λ x. HasFieldNamed p x c.name) (sym ed) (subst (HasFieldNamed p d) (sym en) field)),
           )),
     )
 
-pub are_counting_methods : (p : Package) (marks : List Bool) (count : ℕ) → count ≡ length (package_functions p) → MarksBelow (CountsAsMethod p) marks count → AreCountingMethods p marks
+pub are_counting_methods : (p : Package) (marks : List Bool) (count : ℕ) → count ≡ length (package_functions p) →
+    MarksBelow (CountsAsMethod p) marks count → AreCountingMethods p marks
 are_counting_methods p marks count e h = record { all = h.all ∙ e; each = λ rank lt. h.each rank (subst (λ n. rank < n) (sym e) lt) }
 
 -- a method whose name was noted
-pub noted_method : (p : Package) (f : PlacedFunction) (o : Option ℕ) (d : ℕ) (name : List ℕ) (old new : ℕ → List ℕ → Bool) (counts : Bool) → o ≡ Some d → name ≡ spelled p f.file f.function.name →
+pub noted_method : (p : Package) (f : PlacedFunction) (o : Option ℕ) (d : ℕ) (name : List ℕ) (old new : ℕ → List ℕ → Bool) (counts : Bool) → o ≡ Some d →
+    name ≡ spelled p f.file f.function.name →
     NotesName old new d name → ((counts ≡ true) ↔ ((old d name ≡ false) × (HasFieldNamed p d name → ⊥))) → NotesMethod p f o old new counts
 noted_method p f o d name old new counts some e notes says =
     method {definition = d} some (subst (NotesName old new d) e notes) (subst (λ n. (counts ≡ true) ↔ ((old d n ≡ false) × (HasFieldNamed p d n → ⊥))) e says)
@@ -113,7 +121,8 @@ counts_if p d name noted is_new has e t h = (
   (λ k. not_from_false has (false_from_ne_true has (λ b. k.1 (h.0 b)))),
 )
 
-pub counts_not : (p : Package) (d : ℕ) (name : List ℕ) (noted is_new : Bool) → is_new ≡ not noted → is_new ≡ false → (false ≡ true) ↔ ((noted ≡ false) × (HasFieldNamed p d name → ⊥))
+pub counts_not : (p : Package) (d : ℕ) (name : List ℕ) (noted is_new : Bool) → is_new ≡ not noted → is_new ≡ false →
+    (false ≡ true) ↔ ((noted ≡ false) × (HasFieldNamed p d name → ⊥))
 counts_not p d name noted is_new e t = (
   (λ n. absurd (false≢true n)),
   (λ k. absurd (false≢true (sym t ∙ e ∙ not_from_false noted k.0))),

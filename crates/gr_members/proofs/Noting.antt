@@ -11,7 +11,8 @@ pub names_none : (K : Naming) (noted : ℕ → List ℕ → Bool) → ((d : ℕ)
 names_none K noted none = record { holds = λ i d n lt k. absurd (omega arith); only = λ d n e. absurd (false≢true (sym (none d n) ∙ e)) }
 
 -- one more item, which has just that name
-pub names_next : (K : Naming) (count d : ℕ) (n : List ℕ) (old new : ℕ → List ℕ → Bool) → K count d n → ((e : ℕ) (m : List ℕ) → K count e m → (e ≡ d) × (m ≡ n)) → NotesName old new d n →
+pub names_next : (K : Naming) (count d : ℕ) (n : List ℕ) (old new : ℕ → List ℕ → Bool) → K count d n →
+    ((e : ℕ) (m : List ℕ) → K count e m → (e ≡ d) × (m ≡ n)) → NotesName old new d n →
     AreNamesBelow K count old → AreNamesBelow K (count + 1) new
 names_next K count d n old new is only notes h = record {
   holds = λ i e m lt k. elim (cases_lt i count) [
@@ -36,7 +37,8 @@ names_next K count d n old new is only notes h = record {
 }
 
 -- one more item, which has no name
-pub names_skip : (K : Naming) (count : ℕ) (noted : ℕ → List ℕ → Bool) → ((e : ℕ) (m : List ℕ) → K count e m → ⊥) → AreNamesBelow K count noted → AreNamesBelow K (count + 1) noted
+pub names_skip : (K : Naming) (count : ℕ) (noted : ℕ → List ℕ → Bool) → ((e : ℕ) (m : List ℕ) → K count e m → ⊥) → AreNamesBelow K count noted →
+    AreNamesBelow K (count + 1) noted
 names_skip K count noted none h = record {
   holds = λ i e m lt k. elim (cases_lt i count) [
     | inl below ↦ h.holds i e m below k
@@ -46,7 +48,8 @@ names_skip K count noted none h = record {
 }
 
 -- a name that was not noted is the first
-pub first_if_new : (K : Naming) (count d : ℕ) (n : List ℕ) (noted : ℕ → List ℕ → Bool) (added : Bool) → K count d n → ((e : ℕ) (m : List ℕ) → K count e m → (e ≡ d) × (m ≡ n)) → added ≡ not (noted d n) →
+pub first_if_new : (K : Naming) (count d : ℕ) (n : List ℕ) (noted : ℕ → List ℕ → Bool) (added : Bool) → K count d n →
+    ((e : ℕ) (m : List ℕ) → K count e m → (e ≡ d) × (m ≡ n)) → added ≡ not (noted d n) →
     AreNamesBelow K count noted → (added ≡ true) ↔ IsFirstNamed K count
 first_if_new K count d n noted added is only e h = (
   (λ t. record { definition = d; name = n; named = is; first = λ i lt k. true≢false (sym (h.holds i d n lt k) ∙ not-true (noted d n) (sym e ∙ t)) }),
@@ -63,14 +66,16 @@ pub record MarksBelow (P : ℕ → Type 0) (marks : List Bool) (count : ℕ) : T
 pub marks_none : (P : ℕ → Type 0) (marks : List Bool) → marks ≡ [] → MarksBelow P marks 0
 marks_none P marks e = record { all = ap length e; each = λ i lt. absurd (omega arith) }
 
-pub marks_next : (P : ℕ → Type 0) (old new : List Bool) (count : ℕ) (b : Bool) → new ≡ old ++ (b ∷ []) → (b ≡ true) ↔ P count → MarksBelow P old count → MarksBelow P new (count + 1)
+pub marks_next : (P : ℕ → Type 0) (old new : List Bool) (count : ℕ) (b : Bool) → new ≡ old ++ (b ∷ []) → (b ≡ true) ↔ P count → MarksBelow P old count →
+    MarksBelow P new (count + 1)
 marks_next P old new count b e is h =
     let len : length (old ++ (b ∷ [])) ≡ length old + 1 = length_push old b in
     record {
       all = ap length e ∙ len ∙ ap (λ n. n + 1) h.all;
       each = λ i lt. elim (cases_lt i count) [
         | inl below ↦ (
-            let same : get_or new i false ≡ get_or old i false = ap (λ xs. get_or xs i false) e ∙ get_or_append_left old (b ∷ []) false i (omega (arith, h.all)) in
+            let same : get_or new i false ≡ get_or old i false = ap (λ xs. get_or xs i false) e ∙
+            get_or_append_left old (b ∷ []) false i (omega (arith, h.all)) in
             ((λ m. (h.each i below).0 (sym same ∙ m)), (λ p. same ∙ (h.each i below).1 p)))
         | inr ge ↦ (
             let last : i ≡ count = omega arith in

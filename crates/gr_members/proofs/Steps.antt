@@ -1,5 +1,6 @@
 -- Steps from definitions to their underlying types, from their parts.
-use Rattle.std.proofs.Common.{ℕ, zero, suc, ◌≡◌, ◌+◌, ◌<◌, ◌≤◌, inl, inr, Bool, true, false, List, [], ◌∷◌, ◌++◌, length, get_or, ap, sym, subst, refl, ◌∙◌, arith}
+use Rattle.std.proofs.Common.{ℕ, zero, suc, ◌≡◌, ◌+◌, ◌<◌, ◌≤◌, inl, inr, Bool, true, false, List, [], ◌∷◌, ◌++◌, length, get_or, ap, sym, subst, refl, ◌∙◌}
+use Rattle.std.proofs.Common.{arith}
 use Rattle.std.specs.Prelude.{Option, Some, None, slice_get, map}
 use Rattle.std.specs.Global.{Vec}
 use Rattle.std.proofs.lemmas.Bool.{cases_lt, false≢true}
@@ -26,7 +27,8 @@ use Rattle.gr_declared.proofs.OneUnderlying.{BodyHas, of_body, none_beyond}
 
 -- one step from a definition, of this package or another
 
-pub from_imported : (p : Package) (s : Symbol) (u : types.Underlying) → (s.package ≡ p.path → ⊥) → u ≡ ((p.interface_of s.package).definition s.rank).underlying → HasUnderlying p (Defined s) u
+pub from_imported : (p : Package) (s : Symbol) (u : types.Underlying) → (s.package ≡ p.path → ⊥) →
+    u ≡ ((p.interface_of s.package).definition s.rank).underlying → HasUnderlying p (Defined s) u
 from_imported p s u other e = subst (HasUnderlying p (Defined s)) (sym e) (imported {path = s.package} {rank = s.rank} other)
 
 pub own_beyond : (p : Package) (rank : ℕ) → length (package_types p) ≤ rank → (u : types.Underlying) → HasUnderlying p (Defined (symbol_in p rank)) u → ⊥
@@ -35,7 +37,8 @@ own_beyond p rank past u h = none_beyond p rank (slice_get_past (package_types p
 pub own_symbol : (p : Package) (s : Symbol) → s.package ≡ p.path → Defined s ≡ Defined (symbol_in p s.rank)
 own_symbol p s e = ap (λ v. Defined (record { «package» = v; rank = s.rank })) e
 
-pub from_own : (p : Package) (s : Symbol) → s.package ≡ p.path → (step : Step) → IsStepFrom p (Defined (symbol_in p s.rank)) step → IsStepFrom p (Defined s) step
+pub from_own : (p : Package) (s : Symbol) → s.package ≡ p.path → (step : Step) → IsStepFrom p (Defined (symbol_in p s.rank)) step →
+    IsStepFrom p (Defined s) step
 from_own p s e step h = subst (λ t. IsStepFrom p t step) (sym (own_symbol p s e)) h
 
 -- one step from a definition that is written as a Type
@@ -43,24 +46,28 @@ from_own p s e step h = subst (λ t. IsStepFrom p t step) (sym (own_symbol p s e
 pub by_nothing : (p : Package) (file : ℕ) (tree : TypeTree) → ((t : PlainType) → Names p file tree t → ⊥) → IsStepBy p file tree Nothing
 by_nothing p file tree none = λ t u names h. none t names
 
-pub by_type : (p : Package) → WellFormed p.layout → (file : ℕ) (tree : TypeTree) (t : PlainType) → Names p file tree t → (s : Step) → IsStepFrom p t s → IsStepBy p file tree s
+pub by_type : (p : Package) → WellFormed p.layout → (file : ℕ) (tree : TypeTree) (t : PlainType) → Names p file tree t → (s : Step) → IsStepFrom p t s →
+    IsStepBy p file tree s
 by_type p w file tree t names (Ends u) h = (t, (names, h))
 by_type p w file tree t names (Continues to) h = (subst (Names p file tree) h.0 names, h.1)
 by_type p w file tree t names Nothing h = λ v u other k. h u (subst (λ x. HasUnderlying p x u) (one_named p w file tree v t other names) k)
 
-pub of_type : (p : Package) (rank : ℕ) (d : PlacedType) (tree : TypeTree) → slice_get (package_types p) rank ≡ Some d → d.spec.body ≡ Other tree → (s : Step) → IsStepBy p d.file tree s → IsStep p rank s
+pub of_type : (p : Package) (rank : ℕ) (d : PlacedType) (tree : TypeTree) → slice_get (package_types p) rank ≡ Some d → d.spec.body ≡ Other tree →
+    (s : Step) → IsStepBy p d.file tree s → IsStep p rank s
 of_type p rank d tree is written (Ends u) h = named is written h.1.0 h.1.1
 of_type p rank d tree is written (Continues to) h = (record { definition = d; has_rank = is; tree = tree; written = written; names = h.0 }, h.1)
 of_type p rank d tree is written Nothing h = λ u k.
     let body : BodyHas p rank d (Other tree) u = subst (λ b. BodyHas p rank d b u) written (of_body p rank d u is k) in
     h body.0 u body.1.0 body.1.1
 
-pub of_struct : (p : Package) (rank : ℕ) (d : PlacedType) (k o c : ℕ) (fs : _) (u : types.Underlying) → slice_get (package_types p) rank ≡ Some d → d.spec.body ≡ Struct k o fs c → u ≡ types.Struct (symbol_in p rank) →
+pub of_struct : (p : Package) (rank : ℕ) (d : PlacedType) (k o c : ℕ) (fs : _) (u : types.Underlying) → slice_get (package_types p) rank ≡ Some d →
+    d.spec.body ≡ Struct k o fs c → u ≡ types.Struct (symbol_in p rank) →
     HasUnderlying p (Defined (symbol_in p rank)) u
 of_struct p rank d k o c fs u is written e = subst (HasUnderlying p (Defined (symbol_in p rank))) (sym e) (struct is written)
 
 -- what holds of each item, where one more is pushed
-pub each_push : {X : Type 0} (P : ℕ → X → Type 0) (old new : List X) (n : ℕ) (x : X) → new ≡ old ++ (x ∷ []) → length old ≡ n → ((r : ℕ) (y : X) → slice_get old r ≡ Some y → P r y) → P n x →
+pub each_push : {X : Type 0} (P : ℕ → X → Type 0) (old new : List X) (n : ℕ) (x : X) → new ≡ old ++ (x ∷ []) → length old ≡ n →
+    ((r : ℕ) (y : X) → slice_get old r ≡ Some y → P r y) → P n x →
     (r : ℕ) (y : X) → slice_get new r ≡ Some y → P r y
 each_push P old new n x is size each last r y h =
     let e : slice_get (old ++ (x ∷ [])) r ≡ Some y = sym (ap (λ xs. slice_get xs r) is) ∙ h in
@@ -83,7 +90,8 @@ pub record LinksBelow (steps : List Step) (links : List (Vec ℕ)) (count : ℕ)
 pub no_link : (steps : List Step) (links : List (Vec ℕ)) → length links ≡ suc (length steps) → ((a b : ℕ) → Leads links a b → ⊥) → LinksBelow steps links 0
 no_link steps links size none = record { size = size; holds = λ to rank lt e. absurd (omega arith); only = λ to rank l. absurd (none to rank l) }
 
-pub next_link : (steps : List Step) (old new : List (Vec ℕ)) (rank : ℕ) (s : Step) → slice_get steps rank ≡ Some s → AddsLinks old new rank (λ to. s ≡ Continues to) → LinksBelow steps old rank →
+pub next_link : (steps : List Step) (old new : List (Vec ℕ)) (rank : ℕ) (s : Step) → slice_get steps rank ≡ Some s →
+    AddsLinks old new rank (λ to. s ≡ Continues to) → LinksBelow steps old rank →
     LinksBelow steps new (rank + 1)
 next_link steps old new rank s is more h = record {
   size = more.size ∙ h.size;
@@ -128,15 +136,18 @@ end_found (Some s) e = let found = end_there s e in (found.0, ap Some found.1)
 
 -- the order of steps
 
-step_at : (steps : List Step) (links : List (Vec ℕ)) (marks : List Bool) (order : List ℕ) → AreStepLinks steps links → marks ≡ map is_end steps ++ (false ∷ []) → IsOrderOf links (IsMarked marks) order →
+step_at : (steps : List Step) (links : List (Vec ℕ)) (marks : List Bool) (order : List ℕ) → AreStepLinks steps links →
+    marks ≡ map is_end steps ++ (false ∷ []) → IsOrderOf links (IsMarked marks) order →
     (i : ℕ) → i < length order → (s : Step) × ((slice_get steps (get_or order i 0) ≡ Some s) × IsBehind s order i)
 step_at steps links marks order l m o i lt = elim (o.ordered i lt) [
-  | inl begins ↦ (let found = end_found (slice_get steps (get_or order i 0)) (sym (end_mark steps (get_or order i 0)) ∙ (ap (λ ms. get_or ms (get_or order i 0) false) (sym m) ∙ begins)) in
+  | inl begins ↦ (let found = end_found (slice_get steps (get_or order i 0))
+      (sym (end_mark steps (get_or order i 0)) ∙ (ap (λ ms. get_or ms (get_or order i 0) false) (sym m) ∙ begins)) in
       (Ends found.0, (found.1, tt)))
   | inr led ↦ (Continues (get_or order led.0 0), (l.only (get_or order led.0 0) (get_or order i 0) led.1.1, (led.0, (led.1.0, refl))))
 ]
 
-pub step_order : (steps : List Step) (links : List (Vec ℕ)) (marks : List Bool) (order : List ℕ) → AreStepLinks steps links → marks ≡ map is_end steps ++ (false ∷ []) → IsOrderOf links (IsMarked marks) order →
+pub step_order : (steps : List Step) (links : List (Vec ℕ)) (marks : List Bool) (order : List ℕ) → AreStepLinks steps links →
+    marks ≡ map is_end steps ++ (false ∷ []) → IsOrderOf links (IsMarked marks) order →
     IsStepOrder steps order
 step_order steps links marks order l m o = record {
   each = step_at steps links marks order l m o;
@@ -144,7 +155,8 @@ step_order steps links marks order l m o = record {
   continues = λ rank to e at. o.places rank (behind (subst (IsReached links (IsMarked marks)) at.1.1 (o.reached at.0 at.1.0)) (l.holds to rank e));
 }
 
-pub ends_size : (steps : List Step) (links : List (Vec ℕ)) (marks : List Bool) → AreStepLinks steps links → marks ≡ map is_end steps ++ (false ∷ []) → length marks ≡ length links
+pub ends_size : (steps : List Step) (links : List (Vec ℕ)) (marks : List Bool) → AreStepLinks steps links → marks ≡ map is_end steps ++ (false ∷ []) →
+    length marks ≡ length links
 ends_size steps links marks l m =
     let len : length (map is_end steps ++ (false ∷ [])) ≡ length (map is_end steps) + 1 = length_push (map is_end steps) false in
     let same : length (map is_end steps) ≡ length steps = length-map steps is_end in

@@ -24,11 +24,13 @@ taken_none links n marks size e = record {
   closed = λ q b m l. absurd (unmarked n marks e q m);
 }
 
-closed_reached : (links : List (Vec ℕ)) (marks : List Bool) (B : ℕ → Type 0) (q : ℕ) → AreTaken links marks → ((x : ℕ) → B x → IsMarked marks x) → IsReached links B q → IsMarked marks q
+closed_reached : (links : List (Vec ℕ)) (marks : List Bool) (B : ℕ → Type 0) (q : ℕ) → AreTaken links marks → ((x : ℕ) → B x → IsMarked marks x) →
+    IsReached links B q → IsMarked marks q
 closed_reached links marks B q h begins (first b) = begins q b
 closed_reached links marks B q h begins (behind {a = a} reached leads) = h.closed a q (closed_reached links marks B a h begins reached) leads
 
-pub taken_next : (links : List (Vec ℕ)) (marks : List Bool) (n : ℕ) → n < length marks → AreAllMarked marks (row_of (slice_get links n)) → AreTaken links marks → AreTaken links (set marks n true)
+pub taken_next : (links : List (Vec ℕ)) (marks : List Bool) (n : ℕ) → n < length marks → AreAllMarked marks (row_of (slice_get links n)) →
+    AreTaken links marks → AreTaken links (set marks n true)
 taken_next links marks n lt all h = record {
   size = length-set marks n true ∙ h.size;
   clear = λ q m k. elim (cases_eq q n) [
@@ -49,7 +51,8 @@ reached_as : (links : List (Vec ℕ)) (B C : ℕ → Type 0) (q : ℕ) → ((x :
 reached_as links B C q to (first b) = first (to q b)
 reached_as links B C q to (behind {a = a} reached leads) = behind (reached_as links B C a to reached) leads
 
-pub cycle_found : (links : List (Vec ℕ)) (given begins marks : List Bool) (n : ℕ) (b : Bool) → given ≡ begins → ((q : ℕ) → IsMarked begins q ↔ Leads links n q) →
+pub cycle_found : (links : List (Vec ℕ)) (given begins marks : List Bool) (n : ℕ) (b : Bool) → given ≡ begins →
+    ((q : ℕ) → IsMarked begins q ↔ Leads links n q) →
     ((q : ℕ) → IsMarked marks q ↔ IsReached links (IsMarked given) q) → n < length marks → b ≡ get_or marks n b → (b ≡ true) ↔ IsOnCycle links n
 cycle_found links given begins marks n b e led found lt is =
     let same : b ≡ get_or marks n false = get_or_read marks n b lt is false in
@@ -69,7 +72,8 @@ passed_none row n size marks es e = record {
   each = λ q. ((λ m. absurd (unmarked n marks e q m)), (λ p. let lt : p.0 < 0 = p.1.0 in absurd (omega arith)));
 }
 
-pub passed_mark : (row : List ℕ) (i n size : ℕ) (marks : List Bool) → n ≡ get_or row i 0 → n < length marks → MarksPassed row i size marks → MarksPassed row (i + 1) size (set marks n true)
+pub passed_mark : (row : List ℕ) (i n size : ℕ) (marks : List Bool) → n ≡ get_or row i 0 → n < length marks → MarksPassed row i size marks →
+    MarksPassed row (i + 1) size (set marks n true)
 passed_mark row i n size marks here within h = record {
   all = length-set marks n true ∙ h.all;
   each = λ q. (

@@ -47,4 +47,5 @@ pub record UnderlyingHas (p : Package) (u : Underlying) (name : List ℕ) : Type
 pub data NotesMethod (p : Package) (f : PlacedFunction) (owner : Option ℕ) (old new : ℕ → List ℕ → Bool) (counts : Bool) : Type 0 where
   no_method : owner ≡ None → ((d : ℕ) (n : List ℕ) → new d n ≡ old d n) → counts ≡ false → NotesMethod p f owner old new counts
   method : {definition : ℕ} → owner ≡ Some definition → NotesName old new definition (spelled p f.file f.function.name) →
-      ((counts ≡ true) ↔ ((old definition (spelled p f.file f.function.name) ≡ false) × (HasFieldNamed p definition (spelled p f.file f.function.name) → ⊥))) → NotesMethod p f owner old new counts
+      ((counts ≡ true) ↔ ((old definition (spelled p f.file f.function.name) ≡ false) ×
+      (HasFieldNamed p definition (spelled p f.file f.function.name) → ⊥))) → NotesMethod p f owner old new counts

@@ -18,7 +18,8 @@ no_members w known r list e = record {
   each = λ n m at. let lt : n < length list = slice_get_within list n m at in let z : length list ≡ 0 = ap length e in absurd (omega arith);
 }
 
-pub more_members : (w : Workspace) (known : Verdicts) (r : Revision) (count : ℕ) (old new : List NewMembers) (x : NewMembers) → new ≡ old ++ (x ∷ []) → AreNewMembersAt w known r count x →
+pub more_members : (w : Workspace) (known : Verdicts) (r : Revision) (count : ℕ) (old new : List NewMembers) (x : NewMembers) → new ≡ old ++ (x ∷ []) →
+    AreNewMembersAt w known r count x →
     AreNewMembersBelow w known r count old → AreNewMembersBelow w known r (count + 1) new
 more_members w known r count old new x e is h = record {
   size = ap length e ∙ length_push old x ∙ ap (λ n. n + 1) h.size;

@@ -10,9 +10,11 @@ use Rattle.gr_meanings.proofs.BoundLists.{pushed_at}
 use Rattle.gr_members_after.specs.declared.new_names.NewName.{NewName}
 use Rattle.gr_members_after.specs.NewNames.{NotesFirst, HasNewName, IsFirstNew, IsFirstOrNone, AreFirsts}
 
-pub no_firsts : (names : List (Option NewName)) (firsts : ℕ → List ℕ → Option ℕ) → names ≡ [] → ((d : ℕ) (n : List ℕ) → firsts d n ≡ None) → AreFirsts names firsts
+pub no_firsts : (names : List (Option NewName)) (firsts : ℕ → List ℕ → Option ℕ) → names ≡ [] → ((d : ℕ) (n : List ℕ) → firsts d n ≡ None) →
+    AreFirsts names firsts
 no_firsts names firsts e none = λ d n. subst (IsFirstOrNone names d n) (sym (none d n))
-    (λ rank h. let lt : rank < length names = slice_get_within names rank (Some h.new) h.has_rank in let z : length names ≡ 0 = ap length e in absurd (omega arith))
+    (λ rank h. let lt : rank < length names = slice_get_within names rank (Some h.new) h.has_rank in let z : length names ≡ 0 = ap length e in
+    absurd (omega arith))
 
 module _ (old new : List (Option NewName)) (x : Option NewName) (e : new ≡ old ++ (x ∷ [])) where
   -- a rank of before has what it had
@@ -21,7 +23,13 @@ module _ (old new : List (Option NewName)) (x : Option NewName) (e : new ≡ old
       record { new = h.new; has_rank = ap (λ l. slice_get l rank) e ∙ get_before old x rank lt ∙ h.has_rank; of_definition = h.of_definition; named = h.named }
 
   pub had : (d : ℕ) (n : List ℕ) (rank : ℕ) → rank < length old → HasNewName new d n rank → HasNewName old d n rank
-  had d n rank lt h = record { new = h.new; has_rank = sym (get_before old x rank lt) ∙ ap (λ l. slice_get l rank) (sym e) ∙ h.has_rank; of_definition = h.of_definition; named = h.named }
+  had d n rank lt h = record {
+    new = h.new;
+    has_rank = sym (get_before old x rank lt) ∙ ap (λ l. slice_get l rank) (sym e) ∙ h.has_rank;
+    of_definition =
+        h.of_definition;
+    named = h.named;
+  }
 
   -- what has the last rank is what was added
   pub is_last : (d : ℕ) (n : List ℕ) (rank : ℕ) → (rank < length old → ⊥) → (h : HasNewName new d n rank) → x ≡ Some h.new
@@ -37,7 +45,8 @@ module _ (old new : List (Option NewName)) (x : Option NewName) (e : new ≡ old
       let lt : rank < length old = slice_get_within old rank (Some h.has.new) h.has.has_rank in
       record { has = keeps d n rank h.has; first = λ other less k. h.first other less (had d n other (omega arith) k) }
 
-  still : (d : ℕ) (n : List ℕ) (o : Option ℕ) → ((y : NewName) → x ≡ Some y → y.definition ≡ d → y.name.items ≡ n → ⊥) → IsFirstOrNone old d n o → IsFirstOrNone new d n o
+  still : (d : ℕ) (n : List ℕ) (o : Option ℕ) → ((y : NewName) → x ≡ Some y → y.definition ≡ d → y.name.items ≡ n → ⊥) → IsFirstOrNone old d n o →
+      IsFirstOrNone new d n o
   still d n None other h = λ rank k. elim (cases_lt rank (length old)) [
     | inl below ↦ h rank (had d n rank below k)
     | inr above ↦ other k.new (is_last d n rank (λ below. omega arith) k) k.of_definition k.named
@@ -45,7 +54,8 @@ module _ (old new : List (Option NewName)) (x : Option NewName) (e : new ≡ old
   still d n (Some rank) other h = first_still d n rank h
 
   -- what was added is the first where none was
-  here : (y : NewName) (o : Option ℕ) → x ≡ Some y → IsFirstOrNone old y.definition y.name.items o → IsFirstOrNone new y.definition y.name.items (Some (unwrap_or o (length old)))
+  here : (y : NewName) (o : Option ℕ) → x ≡ Some y → IsFirstOrNone old y.definition y.name.items o →
+      IsFirstOrNone new y.definition y.name.items (Some (unwrap_or o (length old)))
   here y None is h = record {
     has = record { new = y; has_rank = pushed_at old new x e ∙ ap Some is; of_definition = refl; named = refl };
     first = λ other less k. h other (had y.definition y.name.items other less k);
@@ -55,7 +65,8 @@ module _ (old new : List (Option NewName)) (x : Option NewName) (e : new ≡ old
   pub more_none : (firsts : ℕ → List ℕ → Option ℕ) → x ≡ None → AreFirsts old firsts → AreFirsts new firsts
   more_none firsts is h = λ d n. still d n (firsts d n) (λ y same a b. none-some y (sym is ∙ same)) (h d n)
 
-  pub more_firsts : (before after : ℕ → List ℕ → Option ℕ) (y : NewName) → x ≡ Some y → NotesFirst before after y.definition y.name.items (length old) → AreFirsts old before → AreFirsts new after
+  pub more_firsts : (before after : ℕ → List ℕ → Option ℕ) (y : NewName) → x ≡ Some y → NotesFirst before after y.definition y.name.items (length old) →
+      AreFirsts old before → AreFirsts new after
   more_firsts before after y is notes h = λ d n. elim (cases_bytes y.name.items n) [
     | inl name ↦ elim (cases_eq y.definition d) [
       | inl definition ↦
@@ -69,4 +80,5 @@ module _ (old new : List (Option NewName)) (x : Option NewName) (e : new ≡ old
     where
       others : (d : ℕ) (n : List ℕ) → (d ≡ y.definition → n ≡ y.name.items → ⊥) → IsFirstOrNone new d n (after d n)
       others d n ne = subst (IsFirstOrNone new d n) (sym (notes.elsewhere d n ne))
-          (still d n (before d n) (λ z same a b. let e : y ≡ z = same_Some y z (sym is ∙ same) in ne (sym a ∙ ap (λ (v : NewName). v.definition) (sym e)) (sym b ∙ ap (λ (v : NewName). v.name.items) (sym e))) (h d n))
+          (still d n (before d n) (λ z same a b. let e : y ≡ z = same_Some y z (sym is ∙ same) in
+          ne (sym a ∙ ap (λ (v : NewName). v.definition) (sym e)) (sym b ∙ ap (λ (v : NewName). v.name.items) (sym e))) (h d n))

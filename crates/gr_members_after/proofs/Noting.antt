@@ -15,7 +15,8 @@ use Rattle.gr_bound.specs.Exports.{number_named}
 use Rattle.gr_members_after.specs.NewNames.{rank_in, rank_of, NotesRank, NotesFirst}
 
 -- a name that has no rank gets one
-pub gets_rank : (old new : BTreeMap (Vec ℕ) ℕ) (key : Vec ℕ) (name : List ℕ) (rank : ℕ) → key.items ≡ name → is_some (number_named old name) ≡ false → Updates (λ a b. slice_cmp nat_cmp a.items b.items) old new key (Some rank) →
+pub gets_rank : (old new : BTreeMap (Vec ℕ) ℕ) (key : Vec ℕ) (name : List ℕ) (rank : ℕ) → key.items ≡ name → is_some (number_named old name) ≡ false →
+    Updates (λ a b. slice_cmp nat_cmp a.items b.items) old new key (Some rank) →
     NotesRank (number_named old) (number_named new) name rank
 gets_rank old new key name rank e none u = record {
   here = ap (number_named new) (sym e) ∙ u.1 ∙ ap (λ o. Some (unwrap_or o rank)) (sym (none_there (number_named old name) none));
@@ -27,11 +28,13 @@ some_kept None rank e = absurd (true≢false (sym e))
 some_kept (Some r) rank e = refl
 
 -- one that has a rank keeps it
-pub keeps_rank : (old : BTreeMap (Vec ℕ) ℕ) (name : List ℕ) (rank : ℕ) → is_some (number_named old name) ≡ true → NotesRank (number_named old) (number_named old) name rank
+pub keeps_rank : (old : BTreeMap (Vec ℕ) ℕ) (name : List ℕ) (rank : ℕ) → is_some (number_named old name) ≡ true →
+    NotesRank (number_named old) (number_named old) name rank
 keeps_rank old name rank some = record { here = some_kept (number_named old name) rank some; elsewhere = λ n ne. refl }
 
 -- a rank that is noted in the row of a definition
-pub notes_in_row : (rows : List (BTreeMap (Vec ℕ) ℕ)) (definition : ℕ) (old new : BTreeMap (Vec ℕ) ℕ) (name : List ℕ) (rank : ℕ) → definition < length rows → slice_get rows definition ≡ Some old →
+pub notes_in_row : (rows : List (BTreeMap (Vec ℕ) ℕ)) (definition : ℕ) (old new : BTreeMap (Vec ℕ) ℕ) (name : List ℕ) (rank : ℕ) →
+    definition < length rows → slice_get rows definition ≡ Some old →
     NotesRank (number_named old) (number_named new) name rank → NotesFirst (rank_of rows) (rank_of (set rows definition new)) definition name rank
 notes_in_row rows definition old new name rank lt is s =
     let at : slice_get (set rows definition new) definition ≡ Some new = get_set_same rows definition new lt in
@@ -47,7 +50,8 @@ notes_in_row rows definition old new name rank lt is s =
     }
 
 -- what is noted over other rows that have the same ranks
-pub notes_over : (old rows new : ℕ → List ℕ → Option ℕ) (definition : ℕ) (name : List ℕ) (rank : ℕ) → ((d : ℕ) (n : List ℕ) → rows d n ≡ old d n) → NotesFirst rows new definition name rank → NotesFirst old new definition name rank
+pub notes_over : (old rows new : ℕ → List ℕ → Option ℕ) (definition : ℕ) (name : List ℕ) (rank : ℕ) → ((d : ℕ) (n : List ℕ) → rows d n ≡ old d n) →
+    NotesFirst rows new definition name rank → NotesFirst old new definition name rank
 notes_over old rows new definition name rank same h = record {
   here = h.here ∙ ap (λ o. Some (unwrap_or o rank)) (same definition name);
   elsewhere = λ d n ne. h.elsewhere d n ne ∙ same d n;

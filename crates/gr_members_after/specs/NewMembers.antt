@@ -14,7 +14,8 @@ use Rattle.gr_members_after.specs.NewNames.{AddsName, AreNewNames, AreNamed}
 
 -- the one name that what stands at a position has afterwards; none where no file is there
 abbrev pub IsNameAfter : Revision → Package → Position → Option (List ℕ) → Type 0
-IsNameAfter r p at found = MatchOption found ((name : List ℕ) → IsCalledAfter r p at name → ⊥) (λ name. IsCalledAfter r p at name × ((other : List ℕ) → IsCalledAfter r p at other → other ≡ name))
+IsNameAfter r p at found = MatchOption found ((name : List ℕ) → IsCalledAfter r p at name → ⊥)
+    (λ name. IsCalledAfter r p at name × ((other : List ℕ) → IsCalledAfter r p at other → other ≡ name))
 
 -- one more rank has the member that has its name at a position
 pub record AddsAfter (r : Revision) (p : Package) (old new : List (Option NewName)) (definition : Option ℕ) (at : Position) : Type 0 where

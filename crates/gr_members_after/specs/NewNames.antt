@@ -41,7 +41,8 @@ pub record IsFirstNew (names : List (Option NewName)) (definition : ℕ) (name :
 
 -- the first of each definition and name; none where there is none
 abbrev pub IsFirstOrNone : List (Option NewName) → ℕ → List ℕ → Option ℕ → Type 0
-IsFirstOrNone names definition name found = MatchOption found ((rank : ℕ) → HasNewName names definition name rank → ⊥) (λ rank. IsFirstNew names definition name rank)
+IsFirstOrNone names definition name found = MatchOption found ((rank : ℕ) → HasNewName names definition name rank → ⊥)
+    (λ rank. IsFirstNew names definition name rank)
 
 abbrev pub AreFirsts : List (Option NewName) → (ℕ → List ℕ → Option ℕ) → Type 0
 AreFirsts names firsts = (definition : ℕ) (name : List ℕ) → IsFirstOrNone names definition name (firsts definition name)

@@ -22,7 +22,8 @@ use Rattle.gr_moving.proofs.Fitting.{is_edit_set, are_move_edits, fits}
 abbrev set_with : List FileChange → FileChanges
 set_with cs = record { changed = cs; added = [] }
 
-pub refused_set : (w : Workspace) (known : Verdicts) (m : Moved) (edits : EditMap) (from to called : List ℕ) → IsMoveOf w known from to called m → (r : Refusal) →
+pub refused_set : (w : Workspace) (known : Verdicts) (m : Moved) (edits : EditMap) (from to called : List ℕ) → IsMoveOf w known from to called m →
+    (r : Refusal) →
     TellsChanges {Z = Global} m edits (entries w) (Err r) → PlansMoveEdits w known from to called (Err r)
 refused_set w known m edits from to called is TooLarge h =
     let old = h.0.0 in

@@ -8,7 +8,7 @@ ghost use Rattle.gr_declared.specs.PackageView.{package_of, IsIndexOf};
 ghost use Rattle.gr_bound.specs.Bindings.{AddsAll};
 ghost use Rattle.gr_renaming.specs.FileEdits.{EndBy};
 ghost use Rattle.gr_moving.specs.FileEdits.{ReplacesPath, ReplacesName, IsEditAt, AreFileEdits};
-ghost use Rattle.gr_moving.specs.Steps.{AreImportMarks, edits_with};
+ghost use Rattle.gr_moving.specs.Steps.{edits_with};
 
 use crate::literals::new_literal;
 use crate::marks::import_marks;
@@ -54,27 +54,33 @@ fn add_path(
     push_some(edits, token.span, text)
 }
 
+/// A file of a package, and what moves.
+#[derive(Clone, Copy)]
+struct MovedFile<'a> {
+    unit: Package<'a>,
+    index: &'a Index<'a>,
+    file: &'a FileTree,
+    rank: usize,
+    moved: &'a Moved,
+}
+
 /// Adds the name that follows in place of a name, if that is one of the package that is moved.
 fn add_name(
     edits: &mut Vec<Edit>,
-    unit: Package<'_>,
-    index: &Index<'_>,
-    file: &FileTree,
-    rank: usize,
+    of: &MovedFile<'_>,
     number: usize,
     token: Piece,
-    moved: &Moved,
 ) -> Result<(), AllocError>
-    requires index { IsIndexOf (package_of unit) index.now }
-    requires at { slice_get (tokens_in (source_of file.now).cut) number ≡ Some token }
+    requires index { IsIndexOf (package_of of.now.unit) of.now.index.now }
+    requires at { slice_get (tokens_in (source_of of.now.file.now).cut) number ≡ Some token }
     requires is_name { token.class ≡ Name }
     requires span { token.span.start ≤ token.span.end }
     requires order { EndBy edits.old.items token.span.start }
     ensures order { OnOk result (EndBy edits.new.items token.span.end) }
-    ensures adds { OnOk result (AddsAll edits.old.items edits.new.items (ReplacesName (package_of unit.entry) rank (source_of file.now) moved.now number)) }
+    ensures adds { OnOk result (AddsAll edits.old.items edits.new.items (ReplacesName (package_of of.now.unit) of.now.rank (source_of of.now.file.now) of.now.moved.now number)) }
 {
-    if let Some(name) = &moved.name {
-        if is_package_name(unit, index, file, rank, moved, number) {
+    if let Some(name) = &of.moved.name {
+        if is_package_name(of.unit, of.index, of.file, of.rank, of.moved, number) {
             edits.push(Edit {
                 span: token.span,
                 text: name.clone()?,
@@ -88,27 +94,23 @@ fn add_name(
 fn add_edit(
     alloc: Global,
     edits: &mut Vec<Edit>,
-    unit: Package<'_>,
-    index: &Index<'_>,
-    file: &FileTree,
-    rank: usize,
+    of: &MovedFile<'_>,
     number: usize,
     token: Piece,
     is_import: bool,
-    moved: &Moved,
 ) -> Result<(), AllocError>
-    requires index { IsIndexOf (package_of unit) index.now }
-    requires at { slice_get (tokens_in (source_of file.now).cut) number ≡ Some token }
-    requires is_import { IsTrue is_import ↔ Contains (import_literals (source_of file.now).tree) number }
+    requires index { IsIndexOf (package_of of.now.unit) of.now.index.now }
+    requires at { slice_get (tokens_in (source_of of.now.file.now).cut) number ≡ Some token }
+    requires is_import { IsTrue is_import ↔ Contains (import_literals (source_of of.now.file.now).tree) number }
     requires span { token.span.start ≤ token.span.end }
     requires order { EndBy edits.old.items token.span.start }
     ensures order { OnOk result (EndBy edits.new.items token.span.end) }
-    ensures adds { OnOk result (AddsAll edits.old.items edits.new.items (IsEditAt (package_of unit.entry) rank (source_of file.now) moved.now number)) }
+    ensures adds { OnOk result (AddsAll edits.old.items edits.new.items (IsEditAt (package_of of.now.unit) of.now.rank (source_of of.now.file.now) of.now.moved.now number)) }
 {
     if token.class == Class::Name {
-        add_name(edits, unit, index, file, rank, number, token, moved)
+        add_name(edits, of, number, token)
     } else if is_import {
-        add_path(alloc, edits, file, number, token, moved)
+        add_path(alloc, edits, of.file, number, token, of.moved)
     } else {
         Ok(())
     }
@@ -128,19 +130,22 @@ pub(crate) fn edits_of(
 {
     let marks = import_marks(alloc, file)?;
     let tokens = file.pieces().tokens();
+    let of = MovedFile {
+        unit,
+        index,
+        file,
+        rank,
+        moved,
+    };
     let mut edits = Vec::new(alloc);
     for number in 0..tokens.len() {
         add_edit(
             alloc,
             &mut edits,
-            unit,
-            index,
-            file,
-            rank,
+            &of,
             number,
             tokens[number],
             marks[number],
-            moved,
         )?;
     }
     Ok(edits)

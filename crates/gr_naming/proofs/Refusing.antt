@@ -52,11 +52,18 @@ no_member : (name : List ℕ) → Agree ⊥ (⊥ × IsReserved name)
 no_member name = record { there = λ h. absurd h; back = λ h. h.0 }
 
 -- the name of a member is that which stands where it is declared
-pub member_refused : (IsAt : (rank : ℕ) → Position → Type 0) (p : Package) (rank : ℕ) (name : List ℕ) → ((a b : Position) → IsAt rank a → IsAt rank b → a ≡ b) → (o : Option Position) (r : Result (Unit {0}) Refusal) →
-    MatchOption o ((at : Position) → IsAt rank at → ⊥) (λ at. IsAt rank at) → MatchOption o (RefusesFor ⊥ ⊥ ⊥ r) (λ a. RefusesFor ⊥ ⊥ (spelled p a.file a.index ≡ name) r) →
+pub member_refused : (IsAt : (rank : ℕ) → Position → Type 0) (p : Package) (rank : ℕ) (name : List ℕ) →
+    ((a b : Position) → IsAt rank a → IsAt rank b → a ≡ b) → (o : Option Position) (r : Result (Unit {0}) Refusal) →
+    MatchOption o ((at : Position) → IsAt rank at → ⊥) (λ at. IsAt rank at) →
+    MatchOption o (RefusesFor ⊥ ⊥ ⊥ r) (λ a. RefusesFor ⊥ ⊥ (spelled p a.file a.index ≡ name) r) →
     RefusesFor ⊥ (⊥ × IsReserved name) (IsMemberCalled IsAt p rank name) r
 member_refused IsAt p rank name one None r none h =
-    refuses_as ⊥ ⊥ ⊥ (⊥ × IsReserved name) ⊥ (IsMemberCalled IsAt p rank name) (agree_same ⊥) (no_member name) (record { there = λ n. absurd n; back = λ c. none c.at c.is_at }) r h
+    refuses_as ⊥ ⊥ ⊥ (⊥ × IsReserved name) ⊥ (IsMemberCalled IsAt p rank name) (agree_same ⊥) (no_member name)
+    (record { there = λ n. absurd n; back = λ c. none c.at c.is_at }) r h
 member_refused IsAt p rank name one (Some a) r is h =
     refuses_as ⊥ ⊥ ⊥ (⊥ × IsReserved name) (spelled p a.file a.index ≡ name) (IsMemberCalled IsAt p rank name) (agree_same ⊥) (no_member name)
-    (record { there = λ e. record { at = a; is_at = is; called = e }; back = λ c. subst (λ (x : Position). spelled p x.file x.index ≡ name) (one c.at a c.is_at is) c.called }) r h
+    (record {
+      there = λ e. record { at = a; is_at = is; called = e };
+      back = λ c.
+          subst (λ (x : Position). spelled p x.file x.index ≡ name) (one c.at a c.is_at is) c.called;
+    }) r h

@@ -25,7 +25,8 @@ and_true false b e f = absurd (false≢true e)
 -- characters that begin with a letter, each of which may stand in a name, are those of a word
 name_of : (cs : List ℕ) → begins_with_letter cs ≡ true → list_all continues_name cs ≡ true → all_scalars cs ≡ true → is_name cs ≡ true
 name_of [] e all sc = absurd (false≢true e)
-name_of (c ∷ cs) e all sc = and_true (is_letter c && list_all continues_name cs) (all_scalars (c ∷ cs)) (and_true (is_letter c) (list_all continues_name cs) e (and_parts (continues_name c) (list_all continues_name cs) all).1) sc
+name_of (c ∷ cs) e all sc = and_true (is_letter c && list_all continues_name cs) (all_scalars (c ∷ cs))
+    (and_true (is_letter c) (list_all continues_name cs) e (and_parts (continues_name c) (list_all continues_name cs) all).1) sc
 
 begins_name : (cs : List ℕ) → is_name cs ≡ true → begins_with_letter cs ≡ true
 begins_name [] e = absurd (false≢true e)
@@ -33,7 +34,8 @@ begins_name (c ∷ cs) e = (name_parts c cs e).0
 
 continues_all : (cs : List ℕ) → is_name cs ≡ true → list_all continues_name cs ≡ true
 continues_all [] e = refl
-continues_all (c ∷ cs) e = let parts = name_parts c cs e in and_true (continues_name c) (list_all continues_name cs) (or_true (is_letter c) (is_decimal_number c) parts.0) parts.1
+continues_all (c ∷ cs) e = let parts = name_parts c cs e in
+    and_true (continues_name c) (list_all continues_name cs) (or_true (is_letter c) (is_decimal_number c) parts.0) parts.1
 
 pub word_of : (bs : List ℕ) → IsUtf8 bs → begins_with_letter (chars bs) ≡ true → list_all continues_name (chars bs) ≡ true → IsWord bs
 word_of bs u e all = (chars bs, name_of (chars bs) e all (scalars-chars bs u), sym (encodes-chars bs u))

@@ -54,7 +54,8 @@ RefusesNameIn p d name result = RefusesFor (IsMainIn p d) (IsTopLevelIn p d × I
 -- the same of a declaration of the package of a path
 abbrev pub RefusesNameOf : (Package → Type 0) → List ℕ → Declaration → List ℕ → Result (Unit {0}) Refusal → Type 0
 RefusesNameOf IsPackage path d name result =
-    RefusesFor (InPackage IsPackage path (λ p. IsMainIn p d)) (InPackage IsPackage path (λ p. IsTopLevelIn p d) × IsReserved name) (InPackage IsPackage path (λ p. IsCalledIn p d name)) result
+    RefusesFor (InPackage IsPackage path (λ p. IsMainIn p d)) (InPackage IsPackage path (λ p. IsTopLevelIn p d) × IsReserved name)
+    (InPackage IsPackage path (λ p. IsCalledIn p d name)) result
 
 -- whether a declaration may have a name, or why not: it is fixed, the name is reserved, it has the name already
 abbrev pub RefusesName : (Package → Type 0) → Declaration → List ℕ → Result (Unit {0}) Refusal → Type 0

@@ -12,7 +12,9 @@ use Rattle.gr_declared.specs.Package.{Package}
 use Rattle.gr_object.specs.Lines.{FunctionName, GlobalName}
 use Rattle.gr_object.specs.Source.{Source}
 use Rattle.gr_object.specs.Names.{function_names}
-use Rattle.gr_object.specs.Objects.{Object, Function, Declaration, TypeOf, Variable, FunctionOf, Definition, Initial, defined, definition_of, declared_type, variable, first_initial, other_initials, variables_of, literals_of, initials_of, declared_variables, declared_function, declared_by, names_behind, declared_in, names_behind_all, declared_from}
+use Rattle.gr_object.specs.Objects.{Object, Function, Declaration, TypeOf, Variable, FunctionOf, Definition, Initial, defined, definition_of, declared_type}
+use Rattle.gr_object.specs.Objects.{variable, first_initial, other_initials, variables_of, literals_of, initials_of, declared_variables, declared_function}
+use Rattle.gr_object.specs.Objects.{declared_by, names_behind, declared_in, names_behind_all, declared_from}
 use Rattle.gr_object.specs.Sources.{IsObjectOf}
 use Rattle.gr_object.specs.Fitting.{HasFittingCode}
 use Rattle.gr_object.proofs.FittingStatements.{function_fits}
@@ -47,7 +49,8 @@ variables_fit : (s : Source) (own : Option PlainType) (names : List (Item ℕ)) 
 unfolding variables_of
 variables_fit s own [] values = tt
 variables_fit s own (n ∷ ns) values =
-    both (variable own (s.global n.value) (first_initial values)) (variables_of s own ns (other_initials values)) (variable_fits own (s.global n.value) (first_initial values)) (variables_fit s own ns (other_initials values))
+    both (variable own (s.global n.value) (first_initial values)) (variables_of s own ns (other_initials values))
+    (variable_fits own (s.global n.value) (first_initial values)) (variables_fit s own ns (other_initials values))
 
 named_fits : (s : Source) (names : List FunctionName) (f : FuncTree) → AreFitting (declared_function s names f)
 named_fits s [] f = tt
@@ -69,9 +72,12 @@ from_fits : (sources : List Source) (names : List FunctionName) (ts : List FileT
 unfolding declared_from
 from_fits [] names ts = tt
 from_fits (s ∷ ss) names [] = tt
-from_fits (s ∷ ss) names (t ∷ ts) = both (declared_in s names t.decls) (declared_from ss (names_behind_all names t.decls) ts) (in_fits s names t.decls) (from_fits ss (names_behind_all names t.decls) ts)
+from_fits (s ∷ ss) names (t ∷ ts) = both (declared_in s names t.decls) (declared_from ss (names_behind_all names t.decls) ts) (in_fits s names t.decls)
+    (from_fits ss (names_behind_all names t.decls) ts)
 
-pub code_fits : (p : Package) (files_of : List ℕ → List SourceFile) (o : Object) → IsObjectOf p files_of o → (f : Function) → Contains o.declarations (FunctionOf f) → HasFittingCode f
+pub code_fits : (p : Package) (files_of : List ℕ → List SourceFile) (o : Object) → IsObjectOf p files_of o → (f : Function) →
+    Contains o.declarations (FunctionOf f) → HasFittingCode f
 code_fits p files_of o is f has =
-    let all : AreFitting o.declarations = subst (λ (u : Object). AreFitting u.declarations) (sym is.is_object) (from_fits is.sources (function_names p.path p.files) (map (λ t. t.tree) p.files)) in
+    let all : AreFitting o.declarations = subst (λ (u : Object). AreFitting u.declarations) (sym is.is_object)
+    (from_fits is.sources (function_names p.path p.files) (map (λ t. t.tree) p.files)) in
     All-contains IsFitting o.declarations (FunctionOf f) (All-from_recursion IsFitting o.declarations all) has

@@ -1,5 +1,6 @@
 -- Parts of code that stay within their function, and how they are joined.
-use Rattle.std.proofs.Common.{ℕ, zero, suc, ◌≡◌, ◌==◌, ◌+◌, ◌<◌, ◌≤◌, List, [], ◌∷◌, ◌++◌, length, ap, refl, ◌∙◌, subst, add-zero, Bool, true, false, Option, Some, None, if◌then◌else◌, arith}
+use Rattle.std.proofs.Common.{ℕ, zero, suc, ◌≡◌, ◌==◌, ◌+◌, ◌<◌, ◌≤◌, List, [], ◌∷◌, ◌++◌, length, ap, refl, ◌∙◌, subst, add-zero, Bool, true, false}
+use Rattle.std.proofs.Common.{Option, Some, None, if◌then◌else◌, arith}
 use Rattle.std.specs.Prelude.{⊤}
 use Rattle.std.specs.List.{flat_map}
 use Rattle.gr_object.specs.Lines.{Line, line_if_known}
@@ -51,7 +52,8 @@ at_place k b a (x ∷ xs) ys l h = at_place k (suc b) a xs ys l h.1
 -- in a whole function
 pub fits_at : (k : ℕ) (xs ys : List Line) (l : Line) → Within k 0 (xs ++ (l ∷ ys)) 0 → FitsAt k (length xs) (length ys) l
 fits_at k xs ys l h =
-    subst (λ n. FitsAt k (length xs) n l) (is_count ys 0 ∙ add-zero (length ys)) (subst (λ n. FitsAt k n (count ys 0) l) (is_after xs 0 ∙ add-zero (length xs)) (at_place k 0 0 xs ys l h))
+    subst (λ n. FitsAt k (length xs) n l) (is_count ys 0 ∙ add-zero (length ys))
+    (subst (λ n. FitsAt k n (count ys 0) l) (is_after xs 0 ∙ add-zero (length xs)) (at_place k 0 0 xs ys l h))
 
 pub joined : (k b a : ℕ) (xs ys : List Line) → Within k b xs (count ys a) → Within k (after xs b) ys a → Within k b (xs ++ ys) a
 joined k b a [] ys f g = g

@@ -1,24 +1,33 @@
 -- The code of statements and of functions stays within its function.
-use Rattle.std.proofs.Common.{ℕ, zero, suc, ◌≡◌, ◌+◌, ◌<◌, ◌≤◌, List, [], ◌∷◌, ◌++◌, length, length-append, refl, subst, Bool, true, false, Option, Some, None, arith}
+use Rattle.std.proofs.Common.{ℕ, zero, suc, ◌≡◌, ◌+◌, ◌<◌, ◌≤◌, List, [], ◌∷◌, ◌++◌, length, length-append, refl, subst, Bool, true, false, Option, Some}
+use Rattle.std.proofs.Common.{None, arith}
 use Rattle.std.specs.Prelude.{⊤}
 use Rattle.gr_tree.specs.declared.syntax.BinaryOp.{BinaryOp}
-use Rattle.gr_tree.specs.Tree.{Item, Group, IdentTree, Named, Underscore, TypeTree, ExprTree, Number, Text, Name, Blank, Composite, Paren, Prefix, Address, Chain, Binary, SimpleTree, Alone, Step, Update, Assign, Define, LocalTree, InitTree, ForTree, forever, while, clauses, StatementTree, Empty, Var, Simple, Inner, If, For, Break, Continue, Return, BlockTree, block, StatementTrees, no_statement, statement, IfTree, if_tree, ElseTree, no_else, else_if, else_block, FuncTree}
+use Rattle.gr_tree.specs.Tree.{Item, Group, IdentTree, Named, Underscore, TypeTree, ExprTree, Number, Text, Name, Blank, Composite, Paren, Prefix, Address}
+use Rattle.gr_tree.specs.Tree.{Chain, Binary, SimpleTree, Alone, Step, Update, Assign, Define, LocalTree, InitTree, ForTree, forever, while, clauses}
+use Rattle.gr_tree.specs.Tree.{StatementTree, Empty, Var, Simple, Inner, If, For, Break, Continue, Return, BlockTree, block, StatementTrees, no_statement}
+use Rattle.gr_tree.specs.Tree.{statement, IfTree, if_tree, ElseTree, no_else, else_if, else_block, FuncTree}
 use Rattle.gr_expr.specs.World.{Bound, Means, BrokenVariable, BrokenFunction, BrokenType}
 use Rattle.gr_expr.specs.World.{Local as LocalName}
 use Rattle.gr_expr.specs.Judge.{judge_type}
 use Rattle.gr_imports.specs.Files.{group_items}
 use Rattle.gr_stmt.specs.Simple.{binary_of}
 use Rattle.gr_declared.specs.Bound.{result_types}
-use Rattle.gr_object.specs.Lines.{Line, FunctionName, Duplicate, Load, Pop, Operate, Jump, JumpUnless, JumpBack, Zero, Set, BlankAddress, End, line_if_known, pops}
+use Rattle.gr_object.specs.Lines.{Line, FunctionName, Duplicate, Load, Pop, Operate, Jump, JumpUnless, JumpBack, Zero, Set, BlankAddress, End}
+use Rattle.gr_object.specs.Lines.{line_if_known, pops}
 use Rattle.gr_object.specs.Lines as line
 use Rattle.gr_object.specs.Source.{Source}
 use Rattle.gr_object.specs.Numbering.{slot_of}
 use Rattle.gr_object.specs.Slots.{slots_of}
 use Rattle.gr_object.specs.Expressions.{value_lines, address_lines, values_left}
-use Rattle.gr_object.specs.Statements.{values_of, from_last, set_name, set_bound, set_left, target_lines, targets_of, update_lines, step_op, simple_lines, optional_lines, init_lines, zeros, first_values, local_lines, Exits, further, no_exits, block_exits, branched, for_init, for_condition, for_post, loop_condition, body_exits, turned_back, loop_lines, statement_lines, block_lines, statements_lines, if_lines, else_lines, body_lines}
+use Rattle.gr_object.specs.Statements.{values_of, from_last, set_name, set_bound, set_left, target_lines, targets_of, update_lines, step_op, simple_lines}
+use Rattle.gr_object.specs.Statements.{optional_lines, init_lines, zeros, first_values, local_lines, Exits, further, no_exits, block_exits, branched}
+use Rattle.gr_object.specs.Statements.{for_init, for_condition, for_post, loop_condition, body_exits, turned_back, loop_lines, statement_lines, block_lines}
+use Rattle.gr_object.specs.Statements.{statements_lines, if_lines, else_lines, body_lines}
 use Rattle.gr_object.specs.Objects.{function_of}
 use Rattle.gr_object.specs.Fitting.{FitsAt, HasFittingCode}
-use Rattle.gr_object.proofs.FittingParts.{count, after, is_count, is_after, Within, Before, Stays, fits_at, joined, before_joined, stays_before, none_stays, stays_joined, each_stays, known_stays, is_slot, slot_stays}
+use Rattle.gr_object.proofs.FittingParts.{count, after, is_count, is_after, Within, Before, Stays, fits_at, joined, before_joined, stays_before, none_stays}
+use Rattle.gr_object.proofs.FittingParts.{stays_joined, each_stays, known_stays, is_slot, slot_stays}
 use Rattle.gr_object.proofs.FittingExpressions.{expr_sound}
 
 -- Values, and what takes them
@@ -81,19 +90,25 @@ pops_stay k (suc n) = λ a b. (tt, pops_stay k n a (suc b))
 update_stays : (k : ℕ) (address y : List Line) (o : BinaryOp) → Stays k address → Stays k y → Stays k (update_lines address y o)
 update_stays k address y o f g =
     let ends : Stays k (Operate o ∷ line.Assign 1 ∷ []) = λ a b. (tt, (tt, tt)) in
-    let behind : Stays k (Duplicate ∷ Load ∷ (y ++ (Operate o ∷ line.Assign 1 ∷ []))) = λ a b. (tt, (tt, stays_joined k y (Operate o ∷ line.Assign 1 ∷ []) g ends a (suc (suc b)))) in
+    let behind : Stays k (Duplicate ∷ Load ∷ (y ++ (Operate o ∷ line.Assign 1 ∷ []))) = λ a b.
+    (tt, (tt, stays_joined k y (Operate o ∷ line.Assign 1 ∷ []) g ends a (suc (suc b)))) in
     stays_joined k address (Duplicate ∷ Load ∷ (y ++ (Operate o ∷ line.Assign 1 ∷ []))) f behind
 
 simple_stays : (s : Source) (slots : List ℕ) (a : SimpleTree) → Stays (length slots) (simple_lines s slots a)
 unfolding simple_lines
-simple_stays s slots (Alone e) = stays_joined (length slots) (value_lines s slots e) (pops (values_left s slots e)) (expr_sound s slots e).0 (pops_stay (length slots) (values_left s slots e))
-simple_stays s slots (Step e o p) = update_stays (length slots) (address_lines s slots e) (line.Integer 1 ∷ []) (step_op o) (expr_sound s slots e).1 (λ a b. (tt, tt))
-simple_stays s slots (Update x o p y) = update_stays (length slots) (address_lines s slots x) (value_lines s slots y) (binary_of o) (expr_sound s slots x).1 (expr_sound s slots y).0
+simple_stays s slots (Alone e) = stays_joined (length slots) (value_lines s slots e) (pops (values_left s slots e)) (expr_sound s slots e).0
+    (pops_stay (length slots) (values_left s slots e))
+simple_stays s slots (Step e o p) = update_stays (length slots) (address_lines s slots e) (line.Integer 1 ∷ []) (step_op o) (expr_sound s slots e).1
+    (λ a b. (tt, tt))
+simple_stays s slots (Update x o p y) = update_stays (length slots) (address_lines s slots x) (value_lines s slots y) (binary_of o) (expr_sound s slots x).1
+    (expr_sound s slots y).0
 simple_stays s slots (Assign xs p ys) =
-    stays_joined (length slots) (targets_of s slots xs) (values_of s slots ys ++ (line.Assign (length xs) ∷ [])) (each_stays (length slots) (λ i. target_lines s slots i.value) (λ i. target_stays s slots i.value) xs)
+    stays_joined (length slots) (targets_of s slots xs) (values_of s slots ys ++ (line.Assign (length xs) ∷ []))
+    (each_stays (length slots) (λ i. target_lines s slots i.value) (λ i. target_stays s slots i.value) xs)
     (stays_joined (length slots) (values_of s slots ys) (line.Assign (length xs) ∷ []) (values_stay s slots ys) (λ a b. (tt, tt)))
 simple_stays s slots (Define xs p ys) =
-    stays_joined (length slots) (values_of s slots ys) (from_last (set_left s slots) xs) (values_stay s slots ys) (last_stays (length slots) (set_left s slots) (left_stays s slots) xs)
+    stays_joined (length slots) (values_of s slots ys) (from_last (set_left s slots) xs) (values_stay s slots ys)
+    (last_stays (length slots) (set_left s slots) (left_stays s slots) xs)
 
 optional_stays : (s : Source) (slots : List ℕ) (a : Option SimpleTree) → Stays (length slots) (optional_lines s slots a)
 optional_stays s slots None = none_stays (length slots)
@@ -108,7 +123,8 @@ init_stays s slots (Some i) = optional_stays s slots i.simple
 zeros_stay : (k : ℕ) (s : Source) (t : Option TypeTree) (names : List (Item IdentTree)) → Stays k (zeros s t names)
 unfolding zeros
 zeros_stay k s None names = none_stays k
-zeros_stay k s (Some t) names = each_stays k (λ i. line_if_known Zero (judge_type s.world t).type_of) (λ i. known_stays k Zero (λ own a b. (tt, tt)) (judge_type s.world t).type_of) names
+zeros_stay k s (Some t) names = each_stays k (λ i. line_if_known Zero (judge_type s.world t).type_of)
+    (λ i. known_stays k Zero (λ own a b. (tt, tt)) (judge_type s.world t).type_of) names
 
 first_stay : (s : Source) (slots : List ℕ) (l : LocalTree) (values : Option (ℕ × List (Item ExprTree))) → Stays (length slots) (first_values s slots l values)
 unfolding first_values
@@ -117,7 +133,8 @@ first_stay s slots l (Some v) = values_stay s slots v.1
 
 local_stays : (s : Source) (slots : List ℕ) (l : LocalTree) → Stays (length slots) (local_lines s slots l)
 unfolding local_lines
-local_stays s slots l = stays_joined (length slots) (first_values s slots l l.values) (from_last (set_name slots) l.names) (first_stay s slots l l.values) (last_stays (length slots) (set_name slots) (name_stays slots) l.names)
+local_stays s slots l = stays_joined (length slots) (first_values s slots l l.values) (from_last (set_name slots) l.names) (first_stay s slots l l.values)
+    (last_stays (length slots) (set_name slots) (name_stays slots) l.names)
 
 -- Jumps
 
@@ -137,7 +154,8 @@ over_fits k a body other f g = λ b.
     (lt, before_joined k a body (Jump (length other) ∷ other) f (λ c. (over, g (suc c))) (suc b))
 
 -- body: the lines of the block of an `if`, by where `continue` and `break` lead
-branched_fits : (k a : ℕ) (x : Exits) (body : Exits → List Line) → ((y : Exits) (c : ℕ) → y.next ≤ c → y.out ≤ c → Before k c (body y)) → (other : Option (List Line)) → IsBefore k a other →
+branched_fits : (k a : ℕ) (x : Exits) (body : Exits → List Line) → ((y : Exits) (c : ℕ) → y.next ≤ c → y.out ≤ c → Before k c (body y)) →
+    (other : Option (List Line)) → IsBefore k a other →
     x.next ≤ a → x.out ≤ a → Before k a (branched (body (block_exits other x)) other)
 branched_fits k a x body h None f next out = λ b.
     let lt : length (body x) < count (body x) (suc a) = omega (arith, is_count (body x) (suc a)) in
@@ -158,7 +176,8 @@ turned_fits k a lines f = λ b.
     let back : suc (length lines) ≤ suc (after lines b) = omega (arith, is_after lines b) in
     joined k b (suc a) lines (JumpBack (suc (length lines)) ∷ []) (f b) (back, tt)
 
-loop_fits : (s : Source) (slots : List ℕ) (e : Option ExprTree) (body post : List Line) (a : ℕ) → Before (length slots) (count post (suc a)) body → Stays (length slots) post →
+loop_fits : (s : Source) (slots : List ℕ) (e : Option ExprTree) (body post : List Line) (a : ℕ) → Before (length slots) (count post (suc a)) body →
+    Stays (length slots) post →
     Before (length slots) a (loop_lines s slots e body post)
 loop_fits s slots e body post a f g =
     let le : suc (length (body ++ post)) ≤ count (body ++ post) (suc a) = omega (arith, is_count (body ++ post) (suc a)) in
@@ -182,7 +201,8 @@ first_stays s slots (clauses init p condition q post) = optional_stays s slots i
 mutual
   unfolding statement_lines block_lines statements_lines if_lines else_lines
 
-  statement_fits : (s : Source) (slots : List ℕ) (r : ℕ) (x : Exits) (t : StatementTree) (a : ℕ) → x.next ≤ a → x.out ≤ a → Before (length slots) a (statement_lines s slots r x t)
+  statement_fits : (s : Source) (slots : List ℕ) (r : ℕ) (x : Exits) (t : StatementTree) (a : ℕ) → x.next ≤ a → x.out ≤ a →
+      Before (length slots) a (statement_lines s slots r x t)
   statement_fits s slots r x Empty a next out = λ b. tt
   statement_fits s slots r x (Var p g) a next out = each_stays (length slots) (local_lines s slots) (local_stays s slots) (group_items g) a
   statement_fits s slots r x (Simple t) a next out = simple_stays s slots t a
@@ -191,31 +211,43 @@ mutual
   statement_fits s slots r x (For p h t) a next out =
       let to_next : 0 ≤ count (for_post s slots h) (suc a) = omega arith in
       let to_out : suc (length (for_post s slots h)) ≤ count (for_post s slots h) (suc a) = omega (arith, is_count (for_post s slots h) (suc a)) in
-      stays_before (length slots) a (for_init s slots h) (loop_lines s slots (for_condition h) (block_lines s slots r (body_exits (for_post s slots h)) t) (for_post s slots h)) (first_stays s slots h)
+      stays_before (length slots) a (for_init s slots h)
+      (loop_lines s slots (for_condition h) (block_lines s slots r (body_exits (for_post s slots h)) t) (for_post s slots h)) (first_stays s slots h)
       (loop_fits s slots (for_condition h) (block_lines s slots r (body_exits (for_post s slots h)) t) (for_post s slots h) a
       (block_fits s slots r (body_exits (for_post s slots h)) t (count (for_post s slots h) (suc a)) to_next to_out) (post_stays s slots h))
   statement_fits s slots r x (Break p) a next out = jump_fits (length slots) x.out a out
   statement_fits s slots r x (Continue p) a next out = jump_fits (length slots) x.next a next
-  statement_fits s slots r x (Return p es) a next out = stays_joined (length slots) (values_of s slots es) (line.Return r ∷ []) (values_stay s slots es) (λ c b. (tt, tt)) a
+  statement_fits s slots r x (Return p es) a next out =
+      stays_joined (length slots) (values_of s slots es) (line.Return r ∷ []) (values_stay s slots es) (λ c b. (tt, tt)) a
 
-  block_fits : (s : Source) (slots : List ℕ) (r : ℕ) (x : Exits) (t : BlockTree) (a : ℕ) → x.next ≤ a → x.out ≤ a → Before (length slots) a (block_lines s slots r x t)
+  block_fits : (s : Source) (slots : List ℕ) (r : ℕ) (x : Exits) (t : BlockTree) (a : ℕ) → x.next ≤ a → x.out ≤ a →
+      Before (length slots) a (block_lines s slots r x t)
   block_fits s slots r x (block o ts c) a next out = statements_fit s slots r x ts a next out
 
-  statements_fit : (s : Source) (slots : List ℕ) (r : ℕ) (x : Exits) (ts : StatementTrees) (a : ℕ) → x.next ≤ a → x.out ≤ a → Before (length slots) a (statements_lines s slots r x ts)
+  statements_fit : (s : Source) (slots : List ℕ) (r : ℕ) (x : Exits) (ts : StatementTrees) (a : ℕ) → x.next ≤ a → x.out ≤ a →
+      Before (length slots) a (statements_lines s slots r x ts)
   statements_fit s slots r x no_statement a next out = λ b. tt
   statements_fit s slots r x (statement t p ts) a next out =
-      let to_next : length (statements_lines s slots r x ts) + x.next ≤ count (statements_lines s slots r x ts) a = omega (arith, next, is_count (statements_lines s slots r x ts) a) in
-      let to_out : length (statements_lines s slots r x ts) + x.out ≤ count (statements_lines s slots r x ts) a = omega (arith, out, is_count (statements_lines s slots r x ts) a) in
+      let to_next : length (statements_lines s slots r x ts) + x.next ≤ count (statements_lines s slots r x ts) a =
+      omega (arith, next, is_count (statements_lines s slots r x ts) a) in
+      let to_out : length (statements_lines s slots r x ts) + x.out ≤ count (statements_lines s slots r x ts) a =
+      omega (arith, out, is_count (statements_lines s slots r x ts) a) in
       before_joined (length slots) a (statement_lines s slots r (further (length (statements_lines s slots r x ts)) x) t) (statements_lines s slots r x ts)
-      (statement_fits s slots r (further (length (statements_lines s slots r x ts)) x) t (count (statements_lines s slots r x ts) a) to_next to_out) (statements_fit s slots r x ts a next out)
+      (statement_fits s slots r (further (length (statements_lines s slots r x ts)) x) t (count (statements_lines s slots r x ts) a) to_next to_out)
+      (statements_fit s slots r x ts a next out)
 
   if_fits : (s : Source) (slots : List ℕ) (r : ℕ) (x : Exits) (t : IfTree) (a : ℕ) → x.next ≤ a → x.out ≤ a → Before (length slots) a (if_lines s slots r x t)
   if_fits s slots r x (if_tree p init e t otherwise) a next out =
-      stays_before (length slots) a (init_lines s slots init) (value_lines s slots e ++ branched (block_lines s slots r (block_exits (else_lines s slots r x otherwise) x) t) (else_lines s slots r x otherwise)) (init_stays s slots init)
-      (stays_before (length slots) a (value_lines s slots e) (branched (block_lines s slots r (block_exits (else_lines s slots r x otherwise) x) t) (else_lines s slots r x otherwise)) (expr_sound s slots e).0
-      (branched_fits (length slots) a x (λ y. block_lines s slots r y t) (λ y c to_next to_out. block_fits s slots r y t c to_next to_out) (else_lines s slots r x otherwise) (else_fits s slots r x otherwise a next out) next out))
+      stays_before (length slots) a (init_lines s slots init)
+      (value_lines s slots e ++ branched (block_lines s slots r (block_exits (else_lines s slots r x otherwise) x) t)
+      (else_lines s slots r x otherwise)) (init_stays s slots init)
+      (stays_before (length slots) a (value_lines s slots e)
+      (branched (block_lines s slots r (block_exits (else_lines s slots r x otherwise) x) t) (else_lines s slots r x otherwise)) (expr_sound s slots e).0
+      (branched_fits (length slots) a x (λ y. block_lines s slots r y t) (λ y c to_next to_out. block_fits s slots r y t c to_next to_out)
+      (else_lines s slots r x otherwise) (else_fits s slots r x otherwise a next out) next out))
 
-  else_fits : (s : Source) (slots : List ℕ) (r : ℕ) (x : Exits) (t : ElseTree) (a : ℕ) → x.next ≤ a → x.out ≤ a → IsBefore (length slots) a (else_lines s slots r x t)
+  else_fits : (s : Source) (slots : List ℕ) (r : ℕ) (x : Exits) (t : ElseTree) (a : ℕ) → x.next ≤ a → x.out ≤ a →
+      IsBefore (length slots) a (else_lines s slots r x t)
   else_fits s slots r x no_else a next out = tt
   else_fits s slots r x (else_if p t) a next out = if_fits s slots r x t a next out
   else_fits s slots r x (else_block p t) a next out = block_fits s slots r x t a next out

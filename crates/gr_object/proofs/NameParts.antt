@@ -1,5 +1,6 @@
 -- What functions are called and where fields stand, by the parts that the program goes over.
-use Rattle.std.proofs.Common.{ℕ, ◌≡◌, ◌+◌, ◌-◌, ◌<◌, ◌≤◌, ◌∷◌, ◌++◌, [], List, None, ap, sym, ◌∙◌, refl, append_assoc, append-nil, length, length-append, drop, map, get_or, arith, suc}
+use Rattle.std.proofs.Common.{ℕ, ◌≡◌, ◌+◌, ◌-◌, ◌<◌, ◌≤◌, ◌∷◌, ◌++◌, [], List, None, ap, sym, ◌∙◌, refl, append_assoc, append-nil, length, length-append}
+use Rattle.std.proofs.Common.{drop, map, get_or, arith, suc}
 use Rattle.std.proofs.Math.ListN.{drop_of_length-le}
 use Rattle.std.proofs.lemmas.List.{drop_more}
 use Rattle.gr_tree.specs.declared.tree.Item as items
@@ -16,7 +17,8 @@ use Rattle.gr_object.specs.Names.{function_behind, functions_behind, initializer
 
 -- Functions
 
-pub names_step : (path : List ℕ) (files : List SourceFile) (k n : ℕ) (fs : List Function) (i : ℕ) (f : Function) (now new total : List FunctionName) → i < length fs → f ≡ get_or fs i f →
+pub names_step : (path : List ℕ) (files : List SourceFile) (k n : ℕ) (fs : List Function) (i : ℕ) (f : Function) (now new total : List FunctionName) →
+    i < length fs → f ≡ get_or fs i f →
     now ++ functions_behind path files k (map placed_function (drop i fs)) ≡ total → new ≡ now ++ (function_behind path files k (placed_function f) ∷ []) →
     n ≡ initializers_with files k (placed_function f) → new ++ functions_behind path files n (map placed_function (drop (i + 1) fs)) ≡ total
 names_step path files k n fs i f now new total lt is h e m =
@@ -54,21 +56,27 @@ positions_step begin now new total xs i within lt h e =
     ∙ (ap (λ k. now ++ ((length now - begin) ∷ positions_from k (list_view same_place (drop (i + 1) xs)))) next
     ∙ (ap (λ ys. now ++ positions_from (length now - begin) (list_view same_place ys)) (sym (drop_more xs i no_name lt)) ∙ h)))
 
-pub positions_end : (begin : ℕ) (now total : List ℕ) (xs : List (items.Item ℕ)) (i : ℕ) → length xs ≤ i → now ++ positions_from (length now - begin) (list_view same_place (drop i xs)) ≡ total → now ≡ total
-positions_end begin now total xs i all h = sym (append-nil now) ∙ (ap (λ ys. now ++ positions_from (length now - begin) (list_view same_place ys)) (sym (drop_of_length-le xs all)) ∙ h)
+pub positions_end : (begin : ℕ) (now total : List ℕ) (xs : List (items.Item ℕ)) (i : ℕ) → length xs ≤ i →
+    now ++ positions_from (length now - begin) (list_view same_place (drop i xs)) ≡ total → now ≡ total
+positions_end begin now total xs i all h = sym (append-nil now) ∙
+    (ap (λ ys. now ++ positions_from (length now - begin) (list_view same_place ys)) (sym (drop_of_length-le xs all)) ∙ h)
 
 -- the names of the fields of a struct
 abbrev pub struct_names : List (items.Item Field) → List (Item ℕ)
 struct_names fs = names_of_fields (list_view field_view fs)
 
 pub fields_within : (begin k : ℕ) (now new : List ℕ) (xs : List (Item ℕ)) → begin ≤ length now → new ≡ now ++ positions_from k xs → begin ≤ length new
-fields_within begin k now new xs h e = let grown : length new ≡ length now + length (positions_from k xs) = ap length e ∙ length-append now (positions_from k xs) in omega arith
+fields_within begin k now new xs h e = let grown : length new ≡ length now + length (positions_from k xs) = ap length e ∙
+    length-append now (positions_from k xs) in omega arith
 
-pub fields_step : (begin : ℕ) (now new total : List ℕ) (fs : List (items.Item Field)) (i : ℕ) (f : items.Item Field) → begin ≤ length now → i < length fs → f ≡ get_or fs i f →
-    now ++ positions_from (length now - begin) (struct_names (drop i fs)) ≡ total → new ≡ now ++ positions_from (length now - begin) (field_view f.value).names →
+pub fields_step : (begin : ℕ) (now new total : List ℕ) (fs : List (items.Item Field)) (i : ℕ) (f : items.Item Field) → begin ≤ length now → i < length fs →
+    f ≡ get_or fs i f →
+    now ++ positions_from (length now - begin) (struct_names (drop i fs)) ≡ total →
+    new ≡ now ++ positions_from (length now - begin) (field_view f.value).names →
     new ++ positions_from (length new - begin) (struct_names (drop (i + 1) fs)) ≡ total
 fields_step begin now new total fs i f within lt is h e =
-    let grown : length new ≡ length now + length (field_view f.value).names = ap length e ∙ (length-append now (positions_from (length now - begin) (field_view f.value).names)
+    let grown : length new ≡ length now + length (field_view f.value).names = ap length e ∙
+    (length-append now (positions_from (length now - begin) (field_view f.value).names)
     ∙ ap (λ n. length now + n) (positions_length (length now - begin) (field_view f.value).names)) in
     let next : length new - begin ≡ length now - begin + length (field_view f.value).names = omega arith in
     ap (λ z. z ++ positions_from (length new - begin) (struct_names (drop (i + 1) fs))) e
@@ -77,5 +85,7 @@ fields_step begin now new total fs i f within lt is h e =
     ∙ (ap (λ z. now ++ z) (sym (positions_append (length now - begin) (field_view f.value).names (struct_names (drop (i + 1) fs))))
     ∙ (ap (λ ys. now ++ positions_from (length now - begin) (struct_names ys)) (sym (next_item fs i f lt is)) ∙ h))))
 
-pub fields_end : (begin : ℕ) (now total : List ℕ) (fs : List (items.Item Field)) (i : ℕ) → length fs ≤ i → now ++ positions_from (length now - begin) (struct_names (drop i fs)) ≡ total → now ≡ total
-fields_end begin now total fs i all h = sym (append-nil now) ∙ (ap (λ ys. now ++ positions_from (length now - begin) (struct_names ys)) (sym (drop_of_length-le fs all)) ∙ h)
+pub fields_end : (begin : ℕ) (now total : List ℕ) (fs : List (items.Item Field)) (i : ℕ) → length fs ≤ i →
+    now ++ positions_from (length now - begin) (struct_names (drop i fs)) ≡ total → now ≡ total
+fields_end begin now total fs i all h = sym (append-nil now) ∙
+    (ap (λ ys. now ++ positions_from (length now - begin) (struct_names ys)) (sym (drop_of_length-le fs all)) ∙ h)

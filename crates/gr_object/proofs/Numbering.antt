@@ -1,10 +1,12 @@
 -- Where places first stand in a list.
-use Rattle.std.proofs.Common.{ℕ, ◌≡◌, ◌+◌, ◌==◌, ◌∷◌, ◌++◌, [], List, ap, sym, ◌∙◌, refl, length, suc, zero, Bool, true, false, Option, Some, None, if◌then◌else◌, cond, add-zero, arith}
+use Rattle.std.proofs.Common.{ℕ, ◌≡◌, ◌+◌, ◌==◌, ◌∷◌, ◌++◌, [], List, ap, sym, ◌∙◌, refl, length, suc, zero, Bool, true, false, Option, Some, None}
+use Rattle.std.proofs.Common.{if◌then◌else◌, cond, add-zero, arith}
 use Rattle.std.specs.BTreeMap.{get, is_at, Updates}
 use Rattle.std.specs.Ordering.{nat_cmp}
 use Rattle.gr_object.specs.Numbering.{slot_from, slot_of, first_of}
 
-by_test : (b : Bool) (n : ℕ) (rest : Option ℕ) (here : Bool) (k : ℕ) → first_of (if b then Some n else rest) here k ≡ (if b then Some n else first_of rest here k)
+by_test : (b : Bool) (n : ℕ) (rest : Option ℕ) (here : Bool) (k : ℕ) →
+    first_of (if b then Some n else rest) here k ≡ (if b then Some n else first_of rest here k)
 by_test true n rest here k = refl
 by_test false n rest here k = refl
 

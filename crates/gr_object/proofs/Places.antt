@@ -4,7 +4,8 @@ use Rattle.gr_tree.specs.View.{option_view}
 use Rattle.gr_tree.specs.FileView.{init_view, stmt_view, block_view, statements_view, if_view, else_view}
 use Rattle.gr_tree.specs.declared.tree.BlockItem.{BlockItem}
 use Rattle.gr_tree.specs.declared.tree.Block as trees
-use Rattle.gr_tree.specs.declared.tree.Block.{Block', out-Block, outs-Block', Row_of-BlockItem, end_of-BlockItem, more_of-BlockItem, items-the_row-BlockItem, items_shown-the_row-BlockItem-0}
+use Rattle.gr_tree.specs.declared.tree.Block.{Block', out-Block, outs-Block', Row_of-BlockItem, end_of-BlockItem, more_of-BlockItem}
+use Rattle.gr_tree.specs.declared.tree.Block.{items-the_row-BlockItem, items_shown-the_row-BlockItem-0}
 use Rattle.gr_tree.specs.declared.tree.IfStmt.{IfStmt, IfStmt', out-IfStmt, outs-IfStmt'}
 use Rattle.gr_expr.specs.World.{World}
 use Rattle.gr_object.specs.Slots.{init_places, statement_places, block_places, statements_places, if_places, else_places}
@@ -14,7 +15,8 @@ unfoldable pub places_of_each : World → List BlockItem → List ℕ
 places_of_each w [] = []
 places_of_each w (i ∷ is) = statement_places w (stmt_view i.statement) ++ places_of_each w is
 
-pub each_step : (w : World) (i : BlockItem) (is : List BlockItem) → places_of_each w (i ∷ is) ≡ statement_places w (stmt_view i.statement) ++ places_of_each w is
+pub each_step : (w : World) (i : BlockItem) (is : List BlockItem) →
+    places_of_each w (i ∷ is) ≡ statement_places w (stmt_view i.statement) ++ places_of_each w is
 unfolding places_of_each
 each_step w i is = refl
 
@@ -30,15 +32,18 @@ each_row w (more_of-BlockItem a p rest) = ap (λ ps. statement_places w (stmt_vi
 block_from : (w : World) (b : trees.Block) → places_of_each w (out-Block b).statements.items ≡ block_places w (block_view b)
 unfolding block_places block_view
 block_from w (Block' o shape row c) =
-    ap (λ b. places_of_each w b.statements.items) (outs-Block' o shape row c) ∙ (ap (places_of_each w) (items_shown-the_row-BlockItem-0 shape row) ∙ each_row w row)
+    ap (λ b. places_of_each w b.statements.items) (outs-Block' o shape row c) ∙
+    (ap (places_of_each w) (items_shown-the_row-BlockItem-0 shape row) ∙ each_row w row)
 
 pub block_read : (w : World) (b : trees.Block) (xs : List BlockItem) → xs ≡ (out-Block b).statements.items → places_of_each w xs ≡ block_places w (block_view b)
 block_read w b xs e = ap (places_of_each w) e ∙ block_from w b
 
 pub if_from : (w : World) (i : IfStmt) →
-    init_places w (option_view init_view (out-IfStmt i).init) ++ (block_places w (block_view (out-IfStmt i).body) ++ else_places w (else_view (out-IfStmt i).otherwise)) ≡ if_places w (if_view i)
+    init_places w (option_view init_view (out-IfStmt i).init) ++
+    (block_places w (block_view (out-IfStmt i).body) ++ else_places w (else_view (out-IfStmt i).otherwise)) ≡ if_places w (if_view i)
 unfolding if_places if_view
-if_from w (IfStmt' p init e b rest) = ap (λ i. init_places w (option_view init_view i.init) ++ (block_places w (block_view i.body) ++ else_places w (else_view i.otherwise))) (outs-IfStmt' p init e b rest)
+if_from w (IfStmt' p init e b rest) = ap (λ i. init_places w (option_view init_view i.init) ++
+    (block_places w (block_view i.body) ++ else_places w (else_view i.otherwise))) (outs-IfStmt' p init e b rest)
 
 -- what was added in turn
 pub added : (a b old : List ℕ) {mid new : List ℕ} → mid ≡ old ++ a → new ≡ mid ++ b → new ≡ old ++ (a ++ b)

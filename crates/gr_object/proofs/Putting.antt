@@ -1,5 +1,6 @@
 -- Lines that are put in turn.
-use Rattle.std.proofs.Common.{ℕ, ◌≡◌, ◌+◌, ◌-◌, ◌≤◌, ◌∷◌, ◌++◌, [], List, ap, sym, ◌∙◌, refl, append_assoc, append-nil, length, length-append, subst, suc, zero, arith, map, reverse, set}
+use Rattle.std.proofs.Common.{ℕ, ◌≡◌, ◌+◌, ◌-◌, ◌≤◌, ◌∷◌, ◌++◌, [], List, ap, sym, ◌∙◌, refl, append_assoc, append-nil, length, length-append, subst, suc}
+use Rattle.std.proofs.Common.{zero, arith, map, reverse, set}
 use Rattle.std.proofs.lemmas.List.{map-append, reverse-append, reverse-reverse, length-reverse, length-map, map-set, set_at}
 use Rattle.gr_object.specs.declared.instructions.Instruction.{Instruction}
 use Rattle.gr_object.specs.declared.instructions.Instruction.TheVariants as instruction
@@ -38,7 +39,10 @@ puts_grow {a} {old} {new} n h p = let k = puts_length p in omega arith
 -- The lines of code, of which the program keeps the last one first
 
 pub lines_pushed : (old new : Code) (x : Instruction) → new.lines.items ≡ old.lines.items ++ (x ∷ []) → Puts (line_of x ∷ []) old new
-lines_pushed old new x e = record { put = ap (λ xs. reverse (map line_of xs)) e ∙ (ap reverse (map-append line_of old.lines.items (x ∷ [])) ∙ reverse-append (map line_of old.lines.items) (line_of x ∷ [])) }
+lines_pushed old new x e = record {
+  put = ap (λ xs. reverse (map line_of xs)) e ∙
+      (ap reverse (map-append line_of old.lines.items (x ∷ [])) ∙ reverse-append (map line_of old.lines.items) (line_of x ∷ []));
+}
 
 pub lines_length : (c : Code) → length (lines_in c) ≡ length c.lines.items
 lines_length c = length-reverse (map line_of c.lines.items) ∙ length-map c.lines.items line_of
@@ -47,7 +51,8 @@ reverse_first : (x : Line) (xs : List Line) → reverse (x ∷ xs) ≡ reverse x
 reverse_first x xs = reverse-append (x ∷ []) xs
 
 -- one line set, before the last ones
-pub line_set : (xs : List Line) (n : ℕ) (y : Line) (lines rest : List Line) (l : Line) → length rest ≡ n → reverse xs ≡ lines ++ (l ∷ rest) → reverse (set xs n y) ≡ lines ++ (y ∷ rest)
+pub line_set : (xs : List Line) (n : ℕ) (y : Line) (lines rest : List Line) (l : Line) → length rest ≡ n → reverse xs ≡ lines ++ (l ∷ rest) →
+    reverse (set xs n y) ≡ lines ++ (y ∷ rest)
 line_set xs n y lines rest l size e =
     let split : xs ≡ reverse rest ++ (l ∷ reverse lines) = sym (reverse-reverse xs) ∙ (ap reverse e ∙ (reverse-append lines (l ∷ rest)
     ∙ (ap (λ z. z ++ reverse lines) (reverse_first l rest) ∙ append_assoc (reverse rest) (l ∷ []) (reverse lines)))) in
@@ -58,7 +63,8 @@ line_set xs n y lines rest l size e =
     ∙ (ap (λ z. (lines ++ (y ∷ [])) ++ z) (reverse-reverse rest) ∙ append_assoc lines (y ∷ []) rest))))
 
 -- a line of code that is set to a jump back over all lines before it
-pub turned_back : (old new : Code) (n passed : ℕ) → new.lines.items ≡ set old.lines.items n (instruction.JumpBack passed) → passed ≡ length old.lines.items - n →
+pub turned_back : (old new : Code) (n passed : ℕ) → new.lines.items ≡ set old.lines.items n (instruction.JumpBack passed) →
+    passed ≡ length old.lines.items - n →
     (lines rest : List Line) (l : Line) → length rest ≡ n → lines_in old ≡ lines ++ (l ∷ rest) → lines_in new ≡ lines ++ (JumpBack (suc (length lines)) ∷ rest)
 unfolding line_of
 turned_back old new n passed e count lines rest l size was =

@@ -36,7 +36,8 @@ module _ {K : Type 0} {R : K → K → Ordering} (o : IsTotalOrder R) where
   not_both : (x y : K) → R x y ≡ Less → R y x ≡ Less → ⊥
   not_both x y h k = true≢false (ap is_lt (sym h ∙ o.antisymm x y ∙ ap ordering_reverse k))
 
-  same_first : (x : K) (xs : List K) (y : K) (ys : List K) → IsStrictlySortedBy R (x ∷ xs) → IsStrictlySortedBy R (y ∷ ys) → Contains (y ∷ ys) x → Contains (x ∷ xs) y → x ≡ y
+  same_first : (x : K) (xs : List K) (y : K) (ys : List K) → IsStrictlySortedBy R (x ∷ xs) → IsStrictlySortedBy R (y ∷ ys) → Contains (y ∷ ys) x →
+      Contains (x ∷ xs) y → x ≡ y
   same_first x xs y ys s t f g = elim (first_or_later y ys x f) [
     | inl e ↦ sym e
     | inr d ↦ elim (first_or_later x xs y g) [
@@ -45,7 +46,8 @@ module _ {K : Type 0} {R : K → K → Ordering} (o : IsTotalOrder R) where
     ]
   ]
 
-  pub one_in_order : (xs ys : List K) → IsStrictlySortedBy R xs → IsStrictlySortedBy R ys → ((x : K) → Contains xs x → Contains ys x) → ((x : K) → Contains ys x → Contains xs x) → xs ≡ ys
+  pub one_in_order : (xs ys : List K) → IsStrictlySortedBy R xs → IsStrictlySortedBy R ys → ((x : K) → Contains xs x → Contains ys x) →
+      ((x : K) → Contains ys x → Contains xs x) → xs ≡ ys
   one_in_order [] [] s t f g = refl
   one_in_order [] (y ∷ ys) s t f g = absurd (none_held y (g y (first_in y ys)))
   one_in_order (x ∷ xs) [] s t f g = absurd (none_held x (f x (first_in x xs)))

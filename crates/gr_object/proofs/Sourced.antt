@@ -1,5 +1,6 @@
 -- What the code of a file is made of: that the tables of the program are it.
-use Rattle.std.proofs.Common.{ℕ, ◌≡◌, ◌+◌, ◌==◌, ◌∷◌, ◌++◌, [], List, length, length-append, append_assoc, get_or, ap, sym, subst, refl, ◌∙◌, zero, suc, arith, map, Bool, true, false, if◌then◌else◌, MatchOption}
+use Rattle.std.proofs.Common.{ℕ, ◌≡◌, ◌+◌, ◌==◌, ◌∷◌, ◌++◌, [], List, length, length-append, append_assoc, get_or, ap, sym, subst, refl, ◌∙◌, zero, suc}
+use Rattle.std.proofs.Common.{arith, map, Bool, true, false, if◌then◌else◌, MatchOption}
 use Rattle.std.specs.Prelude.{Option, Some, None, option_map, slice_get}
 use Rattle.std.proofs.Math.Path.{fun_ext}
 use Rattle.std.proofs.lemmas.Option.{same_Some, slice_get-map}
@@ -50,13 +51,16 @@ used_from : (before us : List MemberUse) (token : ℕ) →
     type_used (before ++ us) (slot_from (length before) (map (λ (v : MemberUse). v.place) us) token) ≡ type_before (map use_of us) token
 used_from before [] token = refl
 used_from before (u ∷ us) token = used_by_test before us u token (u.place == token)
-    (ap (λ (all : List MemberUse). type_used all (slot_from (suc (length before)) (map (λ (v : MemberUse). v.place) us) token)) (sym (append_assoc before (u ∷ []) us))
-    ∙ (ap (λ n. type_used ((before ++ (u ∷ [])) ++ us) (slot_from n (map (λ (v : MemberUse). v.place) us) token)) (let e : suc (length before) ≡ length (before ++ (u ∷ [])) = omega (arith, length-append before (u ∷ [])) in e)
+    (ap (λ (all : List MemberUse). type_used all (slot_from (suc (length before)) (map (λ (v : MemberUse). v.place) us) token))
+    (sym (append_assoc before (u ∷ []) us))
+    ∙ (ap (λ n. type_used ((before ++ (u ∷ [])) ++ us) (slot_from n (map (λ (v : MemberUse). v.place) us) token))
+    (let e : suc (length before) ≡ length (before ++ (u ∷ [])) = omega (arith, length-append before (u ∷ [])) in e)
     ∙ used_from (before ++ (u ∷ [])) us token))
 
 -- the uses that checking found, for the world that judges the file
 
-pub uses_found : (p : Package) (file : ℕ) (f : SourceFile) (w : plain.World) (uses : _) → IsOneWorld p → slice_get p.files file ≡ Some f → IsWorldOf p file f w → AreUsesIn p file uses →
+pub uses_found : (p : Package) (file : ℕ) (f : SourceFile) (w : plain.World) (uses : _) → IsOneWorld p → slice_get p.files file ≡ Some f →
+    IsWorldOf p file f w → AreUsesIn p file uses →
     uses ≡ (check_file w (is_init f) f.tree).uses
 uses_found p file f w uses one at judged are =
     let same : are.source ≡ f = same_Some are.source f (sym are.in_file ∙ at) in
@@ -65,26 +69,31 @@ uses_found p file f w uses one at judged are =
 
 -- names of packages
 
-type_at_names : (path : List ℕ) (files : List SourceFile) (o : Option PackageNames) (rank : ℕ) → MatchOption o (files ≡ []) (λ names. AreNamesOf path files names) →
+type_at_names : (path : List ℕ) (files : List SourceFile) (o : Option PackageNames) (rank : ℕ) →
+    MatchOption o (files ≡ []) (λ names. AreNamesOf path files names) →
     type_at o rank ≡ slice_get (type_names path files) rank
 type_at_names path files None rank e = ap (λ fs. slice_get (type_names path fs) rank) (sym e)
 type_at_names path files (Some names) rank h = sym (slice_get-map global_of names.types.items rank) ∙ ap (λ xs. slice_get xs rank) h.types
 
-function_at_names : (path : List ℕ) (files : List SourceFile) (o : Option PackageNames) (rank : ℕ) → MatchOption o (files ≡ []) (λ names. AreNamesOf path files names) →
+function_at_names : (path : List ℕ) (files : List SourceFile) (o : Option PackageNames) (rank : ℕ) →
+    MatchOption o (files ≡ []) (λ names. AreNamesOf path files names) →
     function_at o rank ≡ slice_get (function_names path files) rank
 function_at_names path files None rank e = ap (λ fs. slice_get (function_names path fs) rank) (sym e)
 function_at_names path files (Some names) rank h = sym (slice_get-map function_of names.functions.items rank) ∙ ap (λ xs. slice_get xs rank) h.functions
 
-position_at_names : (path : List ℕ) (files : List SourceFile) (o : Option PackageNames) (rank : ℕ) → MatchOption o (files ≡ []) (λ names. AreNamesOf path files names) →
+position_at_names : (path : List ℕ) (files : List SourceFile) (o : Option PackageNames) (rank : ℕ) →
+    MatchOption o (files ≡ []) (λ names. AreNamesOf path files names) →
     position_at o rank ≡ slice_get (field_positions files) rank
 position_at_names path files None rank e = ap (λ fs. slice_get (field_positions fs) rank) (sym e)
 position_at_names path files (Some names) rank h = ap (λ xs. slice_get xs rank) h.positions
 
 pub types_named : (packages : Packages) (files_of : List ℕ → List SourceFile) → HaveNames packages files_of → type_in packages ≡ type_name files_of
-types_named packages files_of have = fun_ext (λ (s : Symbol). type_at_names s.package (files_of s.package) (package_in packages s.package) s.rank (have s.package))
+types_named packages files_of have = fun_ext (λ (s : Symbol).
+    type_at_names s.package (files_of s.package) (package_in packages s.package) s.rank (have s.package))
 
 -- all of it
-pub is_source : (p : Package) (n : ℕ) (f : SourceFile) (w : World) (uses : List MemberUse) (packages : Packages) (s : Source) → IsOneWorld p → slice_get p.files n ≡ Some f →
+pub is_source : (p : Package) (n : ℕ) (f : SourceFile) (w : World) (uses : List MemberUse) (packages : Packages) (s : Source) → IsOneWorld p →
+    slice_get p.files n ≡ Some f →
     IsTabled p n w uses packages s → IsWorldOf p n f (world_of w) → ((token : ℕ) → spelling_of (name_in w token) ≡ spelled p n token) →
     (files_of : List ℕ → List SourceFile) → HaveNames packages files_of → AreUsesIn p n (map use_of uses) → IsSourceOf p files_of n f (source_of s)
 is_source p n f w uses packages s one at tabled judged spelling files_of have are =
@@ -100,8 +109,10 @@ is_source p n f w uses packages s one at tabled judged spelling files_of have ar
       truth = λ token. tabled.truths token;
       number = λ token. ap number_of (ap (λ v. spelling_of (name_in v token)) same ∙ (spelling token ∙ ap (λ o. spelled_at o token) at));
       text = λ token. tabled.texts f at token;
-      function = λ symbol. ap (λ ps. function_in ps symbol) tabled.packages ∙ function_at_names symbol.package (files_of symbol.package) (package_in packages symbol.package) symbol.rank (have symbol.package);
-      position = λ symbol. ap (λ ps. position_in ps symbol) tabled.packages ∙ position_at_names symbol.package (files_of symbol.package) (package_in packages symbol.package) symbol.rank (have symbol.package);
+      function = λ symbol. ap (λ ps. function_in ps symbol) tabled.packages ∙
+          function_at_names symbol.package (files_of symbol.package) (package_in packages symbol.package) symbol.rank (have symbol.package);
+      position = λ symbol. ap (λ ps. position_in ps symbol) tabled.packages ∙
+          position_at_names symbol.package (files_of symbol.package) (package_in packages symbol.package) symbol.rank (have symbol.package);
     }
   where
     mapped : {X Y : Type 0} (g : X → Y) (xs : List X) (k : ℕ) (d : X) → get_or (map g xs) k (g d) ≡ g (get_or xs k d)

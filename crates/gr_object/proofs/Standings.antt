@@ -1,5 +1,6 @@
 -- What stands behind links, and what the links see of what stands before them.
-use Rattle.std.proofs.Common.{ℕ, ◌≡◌, ◌∷◌, ◌++◌, [], List, ap, sym, ◌∙◌, refl, Bool, true, false, Option, Some, None, zero, suc, ◌+◌, ◌<◌, ◌==◌, ◌&&◌, length, take, get_or, arith}
+use Rattle.std.proofs.Common.{ℕ, ◌≡◌, ◌∷◌, ◌++◌, [], List, ap, sym, ◌∙◌, refl, Bool, true, false, Option, Some, None, zero, suc, ◌+◌, ◌<◌, ◌==◌, ◌&&◌}
+use Rattle.std.proofs.Common.{length, take, get_or, arith}
 use Rattle.std.proofs.Math.Seq.{take-suc}
 use Rattle.std.proofs.lemmas.List.{take_more}
 use Rattle.gr_tree.specs.declared.tree.Link.{Link}
@@ -12,7 +13,8 @@ use Rattle.gr_expr.specs.World.{Member, AField, AMethod, ABrokenMethod}
 use Rattle.gr_expr.specs.declared.types.Builtin.{Builtin}
 use Rattle.gr_object.specs.Lines.{Line, FunctionName}
 use Rattle.gr_object.specs.Source.{Source}
-use Rattle.gr_object.specs.Operands.{Standing, Values, Called, Converts, Predeclared, Qualifies, Operand, qualifies, unqualified, function_standing, field_operand, member_operand, typed_selector, selected_by, selected, calling, left_by_call, name_operand}
+use Rattle.gr_object.specs.Operands.{Standing, Values, Called, Converts, Predeclared, Qualifies, Operand, qualifies, unqualified, function_standing}
+use Rattle.gr_object.specs.Operands.{field_operand, member_operand, typed_selector, selected_by, selected, calling, left_by_call, name_operand}
 use Rattle.gr_object.specs.Expressions.{linked, one_link}
 use Rattle.gr_object.specs.Making.{before_link}
 
@@ -112,18 +114,21 @@ linked_last s slots o [] l = linked_step s slots o l [] ∙ (linked_end s slots 
 linked_last s slots o (x ∷ xs) l = linked_step s slots o x (xs ++ (l ∷ [])) ∙ (linked_last s slots (one_link s slots (link_view x no_link) o) xs l
     ∙ ap (one_link s slots (link_view l no_link)) (sym (linked_step s slots o x xs)))
 
-pub linked_never : (s : Source) (slots : List ℕ) (o : Operand) (xs : List Link) (l : Link) → qualifies (linked s slots o (links_in (xs ++ (l ∷ [])))).standing ≡ false
+pub linked_never : (s : Source) (slots : List ℕ) (o : Operand) (xs : List Link) (l : Link) →
+    qualifies (linked s slots o (links_in (xs ++ (l ∷ [])))).standing ≡ false
 linked_never s slots o xs l = ap (λ p. qualifies p.standing) (linked_last s slots o xs l) ∙ link_never s slots l (linked s slots o (links_in xs))
 
 -- whether the name of a package stands before the link of a number
-pub known_before : (s : Source) (slots : List ℕ) (links : List Link) (n : ℕ) (head : Standing) (o : Operand) → n < length links → before_link o.standing ≡ before_link head →
+pub known_before : (s : Source) (slots : List ℕ) (links : List Link) (n : ℕ) (head : Standing) (o : Operand) → n < length links →
+    before_link o.standing ≡ before_link head →
     qualifies (linked s slots o (links_in (take n links))).standing ≡ (n == 0 && qualifies head)
 known_before s slots links zero head o lt same = ap (λ p. qualifies p.standing) (linked_end s slots o) ∙ same_qualifies o.standing head same
 known_before s slots [] (suc n) head o lt same = let none : ⊥ = omega arith in absurd none
 known_before s slots (x ∷ links) (suc n) head o lt same =
     let never : (suc n == 0) ≡ false = grind (arith) in
     let split : take (suc n) (x ∷ links) ≡ take n (x ∷ links) ++ (get_or (x ∷ links) n x ∷ []) = take-suc (x ∷ links) n x (omega arith) in
-    ap (λ ls. qualifies (linked s slots o (links_in ls)).standing) split ∙ (linked_never s slots o (take n (x ∷ links)) (get_or (x ∷ links) n x) ∙ sym (ap (λ b. b && qualifies head) never))
+    ap (λ ls. qualifies (linked s slots o (links_in ls)).standing) split ∙
+    (linked_never s slots o (take n (x ∷ links)) (get_or (x ∷ links) n x) ∙ sym (ap (λ b. b && qualifies head) never))
 
 -- a link of a number, behind those before it
 pub link_at : (s : Source) (slots : List ℕ) (links : List Link) (n : ℕ) (x : Link) (o : Operand) → n < length links → x ≡ get_or links n x →

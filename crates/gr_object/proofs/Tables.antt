@@ -1,5 +1,6 @@
 -- Tables by tokens, filled in turn.
-use Rattle.std.proofs.Common.{ℕ, ◌≡◌, ◌+◌, ◌<◌, ◌≤◌, ◌∷◌, ◌++◌, [], List, inl, inr, length, length-append, get_or, ap, sym, subst, ◌∙◌, refl, zero, suc, arith, map, take}
+use Rattle.std.proofs.Common.{ℕ, ◌≡◌, ◌+◌, ◌<◌, ◌≤◌, ◌∷◌, ◌++◌, [], List, inl, inr, length, length-append, get_or, ap, sym, subst, ◌∙◌, refl, zero, suc}
+use Rattle.std.proofs.Common.{arith, map, take}
 use Rattle.std.proofs.lemmas.Bool.{cases_lt}
 use Rattle.std.proofs.lemmas.List.{get_or_past, get_or_push, map-append, take_more}
 
@@ -16,7 +17,8 @@ get_below (x ∷ xs) ys (suc t) d lt = get_below xs ys t d (omega arith)
 pub no_row : {X : Type 0} (P : ℕ → X → Type 0) (d : X) (xs : List X) → xs ≡ [] → IsTableBelow P d 0 xs
 no_row P d xs e = record { all = ap length e; each = λ t lt. let no : ⊥ = omega arith in absurd no }
 
-pub next_row : {X : Type 0} (P : ℕ → X → Type 0) (d : X) (n : ℕ) (xs new : List X) (x : X) → new ≡ xs ++ (x ∷ []) → P n x → IsTableBelow P d n xs → IsTableBelow P d (n + 1) new
+pub next_row : {X : Type 0} (P : ℕ → X → Type 0) (d : X) (n : ℕ) (xs new : List X) (x : X) → new ≡ xs ++ (x ∷ []) → P n x → IsTableBelow P d n xs →
+    IsTableBelow P d (n + 1) new
 next_row {X} P d n xs new x e last h = record {
   all = ap length e ∙ (length-append xs (x ∷ []) ∙ ap (λ m. m + 1) h.all);
   each = λ t lt. elim (cases_lt t n) [
@@ -26,12 +28,14 @@ next_row {X} P d n xs new x e last h = record {
   ];
 }
 
-pub all_rows : {X : Type 0} (P : ℕ → X → Type 0) (d : X) (n : ℕ) (xs : List X) → ((t : ℕ) → n ≤ t → P t d) → IsTableBelow P d n xs → (t : ℕ) → P t (get_or xs t d)
+pub all_rows : {X : Type 0} (P : ℕ → X → Type 0) (d : X) (n : ℕ) (xs : List X) → ((t : ℕ) → n ≤ t → P t d) → IsTableBelow P d n xs → (t : ℕ) →
+    P t (get_or xs t d)
 all_rows P d n xs past h t = elim (cases_lt t n) [
   | inl below ↦ h.each t below
   | inr ge ↦ subst (P t) (sym (get_or_past xs t d (subst (λ m. m ≤ t) (sym h.all) ge))) (past t ge)
 ]
 
 -- one more item of a list that another is made of
-pub map_next : {X Y : Type 0} (f : X → Y) (xs : List X) (i : ℕ) (x : X) → i < length xs → x ≡ get_or xs i x → map f (take (i + 1) xs) ≡ map f (take i xs) ++ (f x ∷ [])
+pub map_next : {X Y : Type 0} (f : X → Y) (xs : List X) (i : ℕ) (x : X) → i < length xs → x ≡ get_or xs i x →
+    map f (take (i + 1) xs) ≡ map f (take i xs) ++ (f x ∷ [])
 map_next f xs i x lt is = ap (map f) (take_more xs i x lt ∙ ap (λ y. take i xs ++ (y ∷ [])) (sym is)) ∙ map-append f (take i xs) (x ∷ [])

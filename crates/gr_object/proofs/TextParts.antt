@@ -1,5 +1,6 @@
 -- What the parts of files add to the text of an object.
-use Rattle.std.proofs.Common.{ℕ, suc, zero, ◌≡◌, ◌+◌, ◌<◌, ◌≤◌, ◌∷◌, ◌++◌, [], List, Option, Some, None, ap, sym, ◌∙◌, refl, append_assoc, append-nil, length, drop, map, get_or, arith}
+use Rattle.std.proofs.Common.{ℕ, suc, zero, ◌≡◌, ◌+◌, ◌<◌, ◌≤◌, ◌∷◌, ◌++◌, [], List, Option, Some, None, ap, sym, ◌∙◌, refl, append_assoc, append-nil}
+use Rattle.std.proofs.Common.{length, drop, map, get_or, arith}
 use Rattle.std.specs.Prelude.{slice_get, slice_index_or}
 use Rattle.std.specs.List.{flat_map}
 use Rattle.std.proofs.lemmas.Grind.{flat_map-append}
@@ -23,7 +24,8 @@ use Rattle.gr_object.specs.SourceView.{source_of}
 use Rattle.gr_object.specs.PackagesView.{type_in}
 use Rattle.gr_object.specs.Slots.{slots_of}
 use Rattle.gr_object.specs.Statements.{body_lines}
-use Rattle.gr_object.specs.Objects.{Initial, FunctionOf, declared_type, declared_variables, declared_in, declared_by, first_initial, other_initials, function_of, initial_of, initials_of, names_behind, names_behind_all, parameters_of, results_of, variable, variables_of}
+use Rattle.gr_object.specs.Objects.{Initial, FunctionOf, declared_type, declared_variables, declared_in, declared_by, first_initial, other_initials}
+use Rattle.gr_object.specs.Objects.{function_of, initial_of, initials_of, names_behind, names_behind_all, parameters_of, results_of, variable, variables_of}
 use Rattle.gr_object.specs.Text.{code_text, ended}
 use Rattle.gr_object.specs.ObjectText.{declaration_text, header_text}
 use Rattle.gr_object.specs.DeclarationsView.{literal_at}
@@ -38,7 +40,8 @@ type_specs_text s xs = flat_map (declaration_text (type_in s.packages.now)) (fla
 
 pub type_specs_more : (s : Source) (x : Item TypeSpec) (xs : List (Item TypeSpec)) → type_specs_text s (x ∷ xs) ≡ type_spec_text s x ++ type_specs_text s xs
 type_specs_more s x xs =
-    flat_map-append (declaration_text (type_in s.packages.now)) (declared_type (source_of s) (type_spec_view x.value)) (flat_map (λ i. declared_type (source_of s) (type_spec_view i.value)) xs)
+    flat_map-append (declaration_text (type_in s.packages.now)) (declared_type (source_of s) (type_spec_view x.value))
+    (flat_map (λ i. declared_type (source_of s) (type_spec_view i.value)) xs)
 
 -- Variables
 
@@ -50,7 +53,8 @@ var_specs_text s xs = flat_map (declaration_text (type_in s.packages.now)) (flat
 
 pub var_specs_more : (s : Source) (x : Item VarSpec) (xs : List (Item VarSpec)) → var_specs_text s (x ∷ xs) ≡ var_spec_text s x ++ var_specs_text s xs
 var_specs_more s x xs =
-    flat_map-append (declaration_text (type_in s.packages.now)) (declared_variables (source_of s) (global_view x.value)) (flat_map (λ i. declared_variables (source_of s) (global_view i.value)) xs)
+    flat_map-append (declaration_text (type_in s.packages.now)) (declared_variables (source_of s) (global_view x.value))
+    (flat_map (λ i. declared_variables (source_of s) (global_view i.value)) xs)
 
 -- variables of no known type are none
 pub no_variables : (s : pure.Source) (ns : List (tree.Item ℕ)) (values : List (Option Initial)) → variables_of s None ns values ≡ []
@@ -77,45 +81,60 @@ others_at : (values : List (Option Initial)) (i : ℕ) → other_initials (drop 
 others_at values i = let e : suc i ≡ i + 1 = omega arith in others_behind values i ∙ ap (λ k. drop k values) e
 
 -- the value of the literal of a number
-pub literal_beside : (s : pure.Source) (xs : List (Item BasicLit)) (i : ℕ) → literal_at s (slice_get xs i) ≡ slice_index_or (initials_of s (list_view basic_view xs)) i None
+pub literal_beside : (s : pure.Source) (xs : List (Item BasicLit)) (i : ℕ) →
+    literal_at s (slice_get xs i) ≡ slice_index_or (initials_of s (list_view basic_view xs)) i None
 literal_beside s [] i = refl
 literal_beside s (x ∷ xs) zero = refl
 literal_beside s (x ∷ xs) (suc i) = literal_beside s xs i
 
-pub variables_step : (s : Source) (own : PlainType) (values : List (Option Initial)) (now new total : List ℕ) (ns : List (Item ℕ)) (i : ℕ) (d : Item ℕ) (value : Option Initial) → i < length ns →
+pub variables_step : (s : Source) (own : PlainType) (values : List (Option Initial)) (now new total : List ℕ) (ns : List (Item ℕ)) (i : ℕ) (d : Item ℕ)
+    (value : Option Initial) → i < length ns →
     now ++ variables_text s own (drop i ns) (drop i values) ≡ total →
-    new ≡ now ++ flat_map (declaration_text (type_in s.packages.now)) (variable (Some own) ((source_of s).global (get_or ns i d).value) value) → value ≡ slice_index_or values i None →
+    new ≡ now ++ flat_map (declaration_text (type_in s.packages.now)) (variable (Some own) ((source_of s).global (get_or ns i d).value) value) →
+    value ≡ slice_index_or values i None →
     new ++ variables_text s own (drop (i + 1) ns) (drop (i + 1) values) ≡ total
 unfolding variables_of
 variables_step s own values now new total ns i d value lt h e is =
     ap (λ z. z ++ variables_text s own (drop (i + 1) ns) (drop (i + 1) values)) e
-    ∙ (append_assoc now (flat_map (declaration_text (type_in s.packages.now)) (variable (Some own) ((source_of s).global (get_or ns i d).value) value)) (variables_text s own (drop (i + 1) ns) (drop (i + 1) values))
-    ∙ (ap (λ vs. now ++ (flat_map (declaration_text (type_in s.packages.now)) (variable (Some own) ((source_of s).global (get_or ns i d).value) value) ++ variables_text s own (drop (i + 1) ns) vs)) (sym (others_at values i))
-    ∙ (ap (λ v. now ++ (flat_map (declaration_text (type_in s.packages.now)) (variable (Some own) ((source_of s).global (get_or ns i d).value) v) ++ variables_text s own (drop (i + 1) ns) (other_initials (drop i values))))
+    ∙ (append_assoc now (flat_map (declaration_text (type_in s.packages.now)) (variable (Some own) ((source_of s).global (get_or ns i d).value) value))
+    (variables_text s own (drop (i + 1) ns) (drop (i + 1) values))
+    ∙ (ap (λ vs. now ++ (flat_map (declaration_text (type_in s.packages.now)) (variable (Some own) ((source_of s).global (get_or ns i d).value) value) ++
+    variables_text s own (drop (i + 1) ns) vs)) (sym (others_at values i))
+    ∙ (ap (λ v. now ++ (flat_map (declaration_text (type_in s.packages.now)) (variable (Some own) ((source_of s).global (get_or ns i d).value) v) ++
+    variables_text s own (drop (i + 1) ns) (other_initials (drop i values))))
     (is ∙ sym (first_at values i))
-    ∙ (ap (λ z. now ++ z) (sym (flat_map-append (declaration_text (type_in s.packages.now)) (variable (Some own) ((source_of s).global (get_or ns i d).value) (first_initial (drop i values)))
+    ∙ (ap (λ z. now ++ z) (sym (flat_map-append (declaration_text (type_in s.packages.now))
+    (variable (Some own) ((source_of s).global (get_or ns i d).value) (first_initial (drop i values)))
     (variables_of (source_of s) (Some own) (list_view same_place (drop (i + 1) ns)) (other_initials (drop i values)))))
     ∙ (ap (λ ys. now ++ variables_text s own ys (drop i values)) (sym (drop_more ns i d lt)) ∙ h)))))
 
-pub variables_end : (s : Source) (own : PlainType) (values : List (Option Initial)) (now total : List ℕ) (ns : List (Item ℕ)) (i : ℕ) → length ns ≤ i → now ++ variables_text s own (drop i ns) (drop i values) ≡ total → now ≡ total
+pub variables_end : (s : Source) (own : PlainType) (values : List (Option Initial)) (now total : List ℕ) (ns : List (Item ℕ)) (i : ℕ) → length ns ≤ i →
+    now ++ variables_text s own (drop i ns) (drop i values) ≡ total → now ≡ total
 unfolding variables_of
-variables_end s own values now total ns i all h = sym (append-nil now) ∙ (ap (λ ys. now ++ variables_text s own ys (drop i values)) (sym (drop_of_length-le ns all)) ∙ h)
+variables_end s own values now total ns i all h = sym (append-nil now) ∙
+    (ap (λ ys. now ++ variables_text s own ys (drop i values)) (sym (drop_of_length-le ns all)) ∙ h)
 
 -- Functions
 
-pub function_put : (s : Source) (f : tree.FuncTree) (name : FunctionName) (old new : List ℕ) (slots : List ℕ) (code : List Line) (parameters results : List PlainType) (count : ℕ) →
-    slots ≡ slots_of (source_of s).world f → code ≡ body_lines (source_of s) slots (length (result_types f.result)) f.body → parameters ≡ parameters_of (source_of s).world f → results ≡ results_of (source_of s).world f →
+pub function_put : (s : Source) (f : tree.FuncTree) (name : FunctionName) (old new : List ℕ) (slots : List ℕ) (code : List Line)
+    (parameters results : List PlainType) (count : ℕ) →
+    slots ≡ slots_of (source_of s).world f → code ≡ body_lines (source_of s) slots (length (result_types f.result)) f.body →
+    parameters ≡ parameters_of (source_of s).world f → results ≡ results_of (source_of s).world f →
     count ≡ length slots →
     new ≡ old ++ (ended (header_text (type_in s.packages.now) name parameters results count (length code)) ++ code_text (type_in s.packages.now) code) →
     new ≡ old ++ declaration_text (type_in s.packages.now) (FunctionOf (function_of (source_of s) f name))
 unfolding declaration_text
 function_put s f name old new slots code parameters results count is_slots is_code are_parameters are_results is_count e =
     let names = type_in s.packages.now in
-    let lines : code ≡ body_lines (source_of s) (slots_of (source_of s).world f) (length (result_types f.result)) f.body = is_code ∙ ap (λ xs. body_lines (source_of s) xs (length (result_types f.result)) f.body) is_slots in
+    let lines : code ≡ body_lines (source_of s) (slots_of (source_of s).world f) (length (result_types f.result)) f.body = is_code ∙
+    ap (λ xs. body_lines (source_of s) xs (length (result_types f.result)) f.body) is_slots in
     e ∙ (ap (λ k. old ++ (ended (header_text names name parameters results k (length code)) ++ code_text names code)) (is_count ∙ ap length is_slots)
-    ∙ (ap (λ ps. old ++ (ended (header_text names name ps results (length (slots_of (source_of s).world f)) (length code)) ++ code_text names code)) are_parameters
-    ∙ (ap (λ rs. old ++ (ended (header_text names name (parameters_of (source_of s).world f) rs (length (slots_of (source_of s).world f)) (length code)) ++ code_text names code)) are_results
-    ∙ ap (λ ls. old ++ (ended (header_text names name (parameters_of (source_of s).world f) (results_of (source_of s).world f) (length (slots_of (source_of s).world f)) (length ls)) ++ code_text names ls)) lines)))
+    ∙ (ap (λ ps. old ++ (ended (header_text names name ps results (length (slots_of (source_of s).world f)) (length code)) ++ code_text names code))
+    are_parameters
+    ∙ (ap (λ rs. old ++ (ended (header_text names name (parameters_of (source_of s).world f) rs (length (slots_of (source_of s).world f)) (length code)) ++
+    code_text names code)) are_results
+    ∙ ap (λ ls. old ++ (ended (header_text names name (parameters_of (source_of s).world f) (results_of (source_of s).world f)
+    (length (slots_of (source_of s).world f)) (length ls)) ++ code_text names ls)) lines)))
 
 -- Files
 
@@ -127,24 +146,33 @@ unfolding declared_in
 no_decls s names = refl
 
 decls_more : (s : Source) (names : List FunctionName) (x : Decl) (xs : List Decl) →
-    decls_text s names (x ∷ xs) ≡ flat_map (declaration_text (type_in s.packages.now)) (declared_by (source_of s) names (decl_view x)) ++ decls_text s (names_behind names (decl_view x)) xs
+    decls_text s names (x ∷ xs) ≡ flat_map (declaration_text (type_in s.packages.now)) (declared_by (source_of s) names (decl_view x)) ++ decls_text s
+    (names_behind names (decl_view x)) xs
 unfolding declared_in
-decls_more s names x xs = flat_map-append (declaration_text (type_in s.packages.now)) (declared_by (source_of s) names (decl_view x)) (declared_in (source_of s) (names_behind names (decl_view x)) (map decl_view xs))
+decls_more s names x xs = flat_map-append (declaration_text (type_in s.packages.now)) (declared_by (source_of s) names (decl_view x))
+    (declared_in (source_of s) (names_behind names (decl_view x)) (map decl_view xs))
 
-pub decls_step : (s : Source) (names others : List FunctionName) (now new total : List ℕ) (xs : List Decl) (i : ℕ) (x : Decl) → i < length xs → x ≡ get_or xs i x → now ++ decls_text s names (drop i xs) ≡ total →
-    new ≡ now ++ flat_map (declaration_text (type_in s.packages.now)) (declared_by (source_of s) names (decl_view x)) → others ≡ names_behind names (decl_view x) → new ++ decls_text s others (drop (i + 1) xs) ≡ total
+pub decls_step : (s : Source) (names others : List FunctionName) (now new total : List ℕ) (xs : List Decl) (i : ℕ) (x : Decl) → i < length xs →
+    x ≡ get_or xs i x → now ++ decls_text s names (drop i xs) ≡ total →
+    new ≡ now ++ flat_map (declaration_text (type_in s.packages.now)) (declared_by (source_of s) names (decl_view x)) →
+    others ≡ names_behind names (decl_view x) → new ++ decls_text s others (drop (i + 1) xs) ≡ total
 decls_step s names others now new total xs i x lt is h e behind =
     ap (λ z. z ++ decls_text s others (drop (i + 1) xs)) e
-    ∙ (append_assoc now (flat_map (declaration_text (type_in s.packages.now)) (declared_by (source_of s) names (decl_view x))) (decls_text s others (drop (i + 1) xs))
-    ∙ (ap (λ ns. now ++ (flat_map (declaration_text (type_in s.packages.now)) (declared_by (source_of s) names (decl_view x)) ++ decls_text s ns (drop (i + 1) xs))) behind
+    ∙ (append_assoc now (flat_map (declaration_text (type_in s.packages.now)) (declared_by (source_of s) names (decl_view x)))
+    (decls_text s others (drop (i + 1) xs))
+    ∙ (ap (λ ns. now ++ (flat_map (declaration_text (type_in s.packages.now)) (declared_by (source_of s) names (decl_view x)) ++ decls_text s ns
+    (drop (i + 1) xs))) behind
     ∙ (ap (λ z. now ++ z) (sym (ap (decls_text s names) (next_item xs i x lt is) ∙ decls_more s names x (drop (i + 1) xs))) ∙ h)))
 
-pub names_behind_step : (names others total : List FunctionName) (xs : List Decl) (i : ℕ) (x : Decl) → i < length xs → x ≡ get_or xs i x → names_behind_all names (map decl_view (drop i xs)) ≡ total →
+pub names_behind_step : (names others total : List FunctionName) (xs : List Decl) (i : ℕ) (x : Decl) → i < length xs → x ≡ get_or xs i x →
+    names_behind_all names (map decl_view (drop i xs)) ≡ total →
     others ≡ names_behind names (decl_view x) → names_behind_all others (map decl_view (drop (i + 1) xs)) ≡ total
 unfolding names_behind_all
 names_behind_step names others total xs i x lt is h behind =
-    ap (λ ns. names_behind_all ns (map decl_view (drop (i + 1) xs))) behind ∙ (sym (ap (λ ys. names_behind_all names (map decl_view ys)) (next_item xs i x lt is)) ∙ h)
+    ap (λ ns. names_behind_all ns (map decl_view (drop (i + 1) xs))) behind ∙
+    (sym (ap (λ ys. names_behind_all names (map decl_view ys)) (next_item xs i x lt is)) ∙ h)
 
-pub names_behind_end : (names total : List FunctionName) (xs : List Decl) (i : ℕ) → length xs ≤ i → names_behind_all names (map decl_view (drop i xs)) ≡ total → names ≡ total
+pub names_behind_end : (names total : List FunctionName) (xs : List Decl) (i : ℕ) → length xs ≤ i →
+    names_behind_all names (map decl_view (drop i xs)) ≡ total → names ≡ total
 unfolding names_behind_all
 names_behind_end names total xs i all h = ap (λ ys. names_behind_all names (map decl_view ys)) (sym (drop_of_length-le xs all)) ∙ h

@@ -1,5 +1,6 @@
 -- The object of a package, file by file.
-use Rattle.std.proofs.Common.{ℕ, ◌≡◌, ◌+◌, ◌<◌, ◌≤◌, ◌∷◌, ◌++◌, [], List, inl, inr, length, length-append, append_assoc, append-nil, drop, take, ap, sym, subst, refl, ◌∙◌, zero, suc, arith, map, Result, Ok, Err, OnOk, IfOk}
+use Rattle.std.proofs.Common.{ℕ, ◌≡◌, ◌+◌, ◌<◌, ◌≤◌, ◌∷◌, ◌++◌, [], List, inl, inr, length, length-append, append_assoc, append-nil, drop, take, ap, sym}
+use Rattle.std.proofs.Common.{subst, refl, ◌∙◌, zero, suc, arith, map, Result, Ok, Err, OnOk, IfOk}
 use Rattle.std.specs.Prelude.{Option, Some, None, option_map, slice_get}
 use Rattle.std.specs.List.{flat_map}
 use Rattle.std.specs.List.Sorted.{IsStrictlySortedBy}
@@ -53,9 +54,11 @@ declared_more [] s names (x ∷ ts) t at = append-nil (declared_in s names x.dec
 declared_more (a ∷ ss) s names [] t at = absurd (none-some t at)
 declared_more (a ∷ ss) s names (x ∷ ts) t at =
     ap (λ ds. declared_in a names x.decls ++ ds) (declared_more ss s (names_behind_all names x.decls) ts t at)
-    ∙ sym (append_assoc (declared_in a names x.decls) (declared_from ss (names_behind_all names x.decls) ts) (declared_in s (names_after (names_behind_all names x.decls) (take (length ss) ts)) t.decls))
+    ∙ sym (append_assoc (declared_in a names x.decls) (declared_from ss (names_behind_all names x.decls) ts)
+    (declared_in s (names_after (names_behind_all names x.decls) (take (length ss) ts)) t.decls))
 
-after_more : (n : ℕ) (names : List FunctionName) (ts : List FileTree) (t : FileTree) → slice_get ts n ≡ Some t → names_after names (take (n + 1) ts) ≡ names_behind_all (names_after names (take n ts)) t.decls
+after_more : (n : ℕ) (names : List FunctionName) (ts : List FileTree) (t : FileTree) → slice_get ts n ≡ Some t →
+    names_after names (take (n + 1) ts) ≡ names_behind_all (names_after names (take n ts)) t.decls
 unfolding names_after
 after_more n names [] t at = absurd (none-some t at)
 after_more zero names (x ∷ ts) t at = ap (λ (y : FileTree). names_behind_all names y.decls) (same_Some x t at)
@@ -65,11 +68,13 @@ after_more (suc n) names (x ∷ ts) t at =
 
 -- the uses of a file
 
-uses_at_file : (members : List (Vec MemberUse)) (file : ℕ) (o : Option (Vec MemberUse)) → slice_get members file ≡ o → file < length members → slice_get (map uses_in members) file ≡ Some (map use_of (uses_or_none o))
+uses_at_file : (members : List (Vec MemberUse)) (file : ℕ) (o : Option (Vec MemberUse)) → slice_get members file ≡ o → file < length members →
+    slice_get (map uses_in members) file ≡ Some (map use_of (uses_or_none o))
 uses_at_file members file None e lt = let x = slice_get_some members file lt in absurd (none-some x.0 (sym e ∙ x.1))
 uses_at_file members file (Some v) e lt = slice_get-map uses_in members file ∙ ap (option_map uses_in) e
 
-uses_are : (p : Package) (members : List (Vec MemberUse)) (file : ℕ) (f : SourceFile) → AreMemberUses p (map uses_in members) → slice_get p.files file ≡ Some f →
+uses_are : (p : Package) (members : List (Vec MemberUse)) (file : ℕ) (f : SourceFile) → AreMemberUses p (map uses_in members) →
+    slice_get p.files file ≡ Some f →
     AreUsesIn p file (map use_of (uses_or_none (slice_get members file)))
 uses_are p members file f are at =
     let within : file < length p.files = slice_get_within p.files file f at in
@@ -78,7 +83,8 @@ uses_are p members file f are at =
 
 -- no file yet, and one more
 
-pub no_files : (p : Package) (members : List (Vec MemberUse)) (packages : Packages) (names : List program.FunctionName) (text : List ℕ) → PutsFiles p 0 members packages names 0 text text
+pub no_files : (p : Package) (members : List (Vec MemberUse)) (packages : Packages) (names : List program.FunctionName) (text : List ℕ) →
+    PutsFiles p 0 members packages names 0 text text
 unfolding declared_from names_after
 no_files p members packages names text = record {
   sources = [];
@@ -92,29 +98,37 @@ no_files p members packages names text = record {
 tree_at : (files : List SourceFile) (n : ℕ) (f : SourceFile) → slice_get files n ≡ Some f → slice_get (map (λ (g : SourceFile). g.tree) files) n ≡ Some f.tree
 tree_at files n f at = slice_get-map (λ (g : SourceFile). g.tree) files n ∙ ap (option_map (λ (g : SourceFile). g.tree)) at
 
-pub one_file_more : (p : Package) (n : ℕ) (members : List (Vec MemberUse)) (packages : Packages) (names : List program.FunctionName) (number others : ℕ) (old mid new : List ℕ) →
-    PutsFiles p n members packages names number old mid → PutsFile p n (uses_or_none (slice_get members n)) packages names number others mid new → PutsFiles p (n + 1) members packages names others old new
+pub one_file_more : (p : Package) (n : ℕ) (members : List (Vec MemberUse)) (packages : Packages) (names : List program.FunctionName) (number others : ℕ)
+    (old mid new : List ℕ) →
+    PutsFiles p n members packages names number old mid → PutsFile p n (uses_or_none (slice_get members n)) packages names number others mid new →
+    PutsFiles p (n + 1) members packages names others old new
 one_file_more p n members packages names number others old mid new h k =
     let trees : List FileTree = map (λ (g : SourceFile). g.tree) p.files in
     let at : slice_get trees n ≡ Some k.file_at.tree = tree_at p.files n k.file_at k.in_file in
     let here : slice_get trees (length h.sources) ≡ Some k.file_at.tree = ap (slice_get trees) h.all ∙ at in
     let T : Declaration → List ℕ = declaration_text (type_in packages) in
     let N : List FunctionName = map function_of names in
-    let named : map function_of (drop number names) ≡ names_after N (take (length h.sources) trees) = h.others_are ∙ ap (λ m. names_after N (take m trees)) (sym h.all) in
-    let more : declared_from (h.sources ++ (k.source ∷ [])) N trees ≡ declared_from h.sources N trees ++ declared_in k.source (map function_of (drop number names)) k.file_at.tree.decls =
-    declared_more h.sources k.source N trees k.file_at.tree here ∙ ap (λ ns. declared_from h.sources N trees ++ declared_in k.source ns k.file_at.tree.decls) (sym named) in
+    let named : map function_of (drop number names) ≡ names_after N (take (length h.sources) trees) = h.others_are ∙
+    ap (λ m. names_after N (take m trees)) (sym h.all) in
+    let more : declared_from (h.sources ++ (k.source ∷ [])) N trees ≡ declared_from h.sources N trees ++ declared_in k.source
+    (map function_of (drop number names)) k.file_at.tree.decls =
+    declared_more h.sources k.source N trees k.file_at.tree here ∙
+    ap (λ ns. declared_from h.sources N trees ++ declared_in k.source ns k.file_at.tree.decls) (sym named) in
     record {
       sources = h.sources ++ (k.source ∷ []);
       all = length-append h.sources (k.source ∷ []) ∙ ap (λ m. m + 1) h.all;
       made_of = λ files_of have are file f s in_file at_source. made files_of have are file f s in_file at_source;
       text = k.text ∙ (ap (λ z. z ++ flat_map T (declared_in k.source (map function_of (drop number names)) k.file_at.tree.decls)) h.text
-          ∙ (append_assoc old (flat_map T (declared_from h.sources N trees)) (flat_map T (declared_in k.source (map function_of (drop number names)) k.file_at.tree.decls))
-          ∙ ap (λ z. old ++ z) (sym (flat_map-append T (declared_from h.sources N trees) (declared_in k.source (map function_of (drop number names)) k.file_at.tree.decls)) ∙ ap (flat_map T) (sym more))));
+          ∙ (append_assoc old (flat_map T (declared_from h.sources N trees))
+          (flat_map T (declared_in k.source (map function_of (drop number names)) k.file_at.tree.decls))
+          ∙ ap (λ z. old ++ z) (sym (flat_map-append T (declared_from h.sources N trees)
+          (declared_in k.source (map function_of (drop number names)) k.file_at.tree.decls)) ∙ ap (flat_map T) (sym more))));
       others_are = k.others_are ∙ (ap (λ ns. names_behind_all ns k.file_at.tree.decls) h.others_are ∙ sym (after_more n N trees k.file_at.tree at));
       within = k.within;
     }
   where
-    made : (files_of : List ℕ → List SourceFile) → HaveNames packages files_of → AreMemberUses p (map uses_in members) → (file : ℕ) (f : SourceFile) (s : Source) → slice_get p.files file ≡ Some f →
+    made : (files_of : List ℕ → List SourceFile) → HaveNames packages files_of → AreMemberUses p (map uses_in members) →
+        (file : ℕ) (f : SourceFile) (s : Source) → slice_get p.files file ≡ Some f →
         slice_get (h.sources ++ (k.source ∷ [])) file ≡ Some s → IsSourceOf p files_of file f s
     made files_of have are file f s in_file at_source = elim (cases_lt file n) [
       | inl lt ↦ h.made_of files_of have are file f s in_file (sym (get_before h.sources k.source file (subst (λ m. file < m) (sym h.all) lt)) ∙ at_source)
@@ -122,17 +136,20 @@ one_file_more p n members packages names number others old mid new h k =
           let bound : file < length (h.sources ++ (k.source ∷ [])) = slice_get_within (h.sources ++ (k.source ∷ [])) file s at_source in
           let size : length (h.sources ++ (k.source ∷ [])) ≡ n + 1 = length-append h.sources (k.source ∷ []) ∙ ap (λ m. m + 1) h.all in
           let same : file ≡ n = omega arith in
-          let last : k.source ≡ s = same_Some k.source s (sym (get_last h.sources k.source) ∙ (ap (slice_get (h.sources ++ (k.source ∷ []))) (h.all ∙ sym same) ∙ at_source)) in
+          let last : k.source ≡ s = same_Some k.source s (sym (get_last h.sources k.source) ∙
+          (ap (slice_get (h.sources ++ (k.source ∷ []))) (h.all ∙ sym same) ∙ at_source)) in
           let mine : slice_get p.files n ≡ Some f = ap (slice_get p.files) (sym same) ∙ in_file in
           let alike : k.file_at ≡ f = same_Some k.file_at f (sym k.in_file ∙ mine) in
           let found : IsSourceOf p files_of n k.file_at k.source = k.made_of files_of have (uses_are p members n k.file_at are k.in_file) in
-          subst (λ m. IsSourceOf p files_of m f s) (sym same) (subst (λ g. IsSourceOf p files_of n g s) alike (subst (IsSourceOf p files_of n k.file_at) last found))
+          subst (λ m. IsSourceOf p files_of m f s) (sym same)
+          (subst (λ g. IsSourceOf p files_of n g s) alike (subst (IsSourceOf p files_of n k.file_at) last found))
     ]
 
 -- the first lines
 
 pub head_put : (p : Package) (keys : List (Vec ℕ)) (old mid new : List ℕ) → HoldsPaths (SomeImport p.files) keys → IsStrictlySortedBy path_cmp (paths_in keys) →
-    ((o : Object) → o.path ≡ p.path → o.name ≡ package_name p.files → mid ≡ old ++ first_line o) → new ≡ mid ++ flat_map import_line (paths_in keys) → PutsHead p old new
+    ((o : Object) → o.path ≡ p.path → o.name ≡ package_name p.files → mid ≡ old ++ first_line o) → new ≡ mid ++ flat_map import_line (paths_in keys) →
+    PutsHead p old new
 head_put p keys old mid new holds sorted first e = record {
   imports = paths_in keys;
   are_imports = record { each = holds.each; sorted = sorted };
@@ -142,7 +159,8 @@ head_put p keys old mid new holds sorted first e = record {
 
 -- the whole text
 
-pub whole_text : (p : Package) (members : List (Vec MemberUse)) (packages : Packages) (names : List program.FunctionName) (others : ℕ) (mid new : List ℕ) → map function_of names ≡ function_names p.path p.files →
+pub whole_text : (p : Package) (members : List (Vec MemberUse)) (packages : Packages) (names : List program.FunctionName) (others : ℕ) (mid new : List ℕ) →
+    map function_of names ≡ function_names p.path p.files →
     PutsHead p [] mid → PutsFiles p (length p.files) members packages names others mid new →
     (files_of : List ℕ → List SourceFile) → AreMemberUses p (map uses_in members) → HaveNames packages files_of → IsObjectText p files_of new
 whole_text p members packages names others mid new named head h files_of are have =
@@ -158,8 +176,12 @@ whole_text p members packages names others mid new named head h files_of are hav
         are_imports = head.are_imports;
         is_object = refl;
       };
-      printed = h.text ∙ (ap (λ z. z ++ flat_map (declaration_text (type_in packages)) (declared_from h.sources (map function_of names) trees)) (head.text made refl refl refl)
-          ∙ (append_assoc (first_line made) (flat_map import_line head.imports) (flat_map (declaration_text (type_in packages)) (declared_from h.sources (map function_of names) trees))
-          ∙ (ap (λ ns. first_line made ++ (flat_map import_line head.imports ++ flat_map (declaration_text (type_in packages)) (declared_from h.sources ns trees))) named
-          ∙ ap (λ t. first_line made ++ (flat_map import_line head.imports ++ flat_map (declaration_text t) made.declarations)) (types_named packages files_of have))));
+      printed = h.text ∙ (ap (λ z. z ++ flat_map (declaration_text (type_in packages)) (declared_from h.sources (map function_of names) trees))
+          (head.text made refl refl refl)
+          ∙ (append_assoc (first_line made) (flat_map import_line head.imports)
+          (flat_map (declaration_text (type_in packages)) (declared_from h.sources (map function_of names) trees))
+          ∙ (ap (λ ns. first_line made ++ (flat_map import_line head.imports ++ flat_map (declaration_text (type_in packages))
+          (declared_from h.sources ns trees))) named
+          ∙ ap (λ t. first_line made ++ (flat_map import_line head.imports ++ flat_map (declaration_text t) made.declarations))
+          (types_named packages files_of have))));
     }

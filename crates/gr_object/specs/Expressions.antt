@@ -1,13 +1,16 @@
 -- The code of expressions.
 use Rattle.std.specs.Prelude.{ℕ, suc, Bool, true, false, List, [], ◌∷◌, ◌++◌, Option, Some, None}
-use Rattle.gr_tree.specs.Tree.{ExprTree, Number, Text, Name, Blank, Composite, Paren, Prefix, Address, Chain, Binary, OperandTrees, no_operand, operand, LinkTrees, no_link, selector, index, call, ArgumentTrees, no_argument, argument, LiteralTree, literal, ElementTrees, no_element, element}
+use Rattle.gr_tree.specs.Tree.{ExprTree, Number, Text, Name, Blank, Composite, Paren, Prefix, Address, Chain, Binary, OperandTrees, no_operand, operand}
+use Rattle.gr_tree.specs.Tree.{LinkTrees, no_link, selector, index, call, ArgumentTrees, no_argument, argument, LiteralTree, literal, ElementTrees}
+use Rattle.gr_tree.specs.Tree.{no_element, element}
 use Rattle.gr_expr.specs.Types.{PlainType, Underlying, is_struct}
 use Rattle.gr_expr.specs.World.{Member, AField, AMethod, ABrokenMethod, underlying}
 use Rattle.gr_expr.specs.Judge.{judge_type}
 use Rattle.gr_object.specs.Lines.{Line, Zero, With, MakeSlice, New, line_if_known}
 use Rattle.gr_object.specs.Lines as line
 use Rattle.gr_object.specs.Source.{Source}
-use Rattle.gr_object.specs.Operands.{Operand, plain, standing_as, Values, name_operand, prefixed, operated, selected, indexed, called, settled, grouped, value_count}
+use Rattle.gr_object.specs.Operands.{Operand, plain, standing_as, Values, name_operand, prefixed, operated, selected, indexed, called, settled, grouped}
+use Rattle.gr_object.specs.Operands.{value_count}
 
 unfoldable pub argument_count : ArgumentTrees → ℕ
 argument_count no_argument = 0

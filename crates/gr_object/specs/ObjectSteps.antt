@@ -28,7 +28,8 @@ uses_or_none (Some uses) = uses.items
 pub record PutsHead (p : Package) (old new : List ℕ) : Type 0 where
   pub imports : List (List ℕ)
   pub are_imports : AreImports p.files imports
-  pub text : (o : Object) → o.path ≡ p.path → o.name ≡ package_name p.files → o.imports ≡ imports → new ≡ old ++ (first_line o ++ flat_map import_line o.imports)
+  pub text : (o : Object) → o.path ≡ p.path → o.name ≡ package_name p.files → o.imports ≡ imports →
+      new ≡ old ++ (first_line o ++ flat_map import_line o.imports)
 
 -- what the functions behind some files are called
 unfoldable pub names_after : List FunctionName → List FileTree → List FunctionName
@@ -36,7 +37,8 @@ names_after names [] = names
 names_after names (t ∷ ts) = names_after (names_behind_all names t.decls) ts
 
 -- what the files below n declare was added; the names of the functions behind them begin at a number
-pub record PutsFiles (p : Package) (n : ℕ) (members : List (Vec MemberUse)) (packages : Packages) (names : List program.FunctionName) (others : ℕ) (old new : List ℕ) : Type 0 where
+pub record PutsFiles (p : Package) (n : ℕ) (members : List (Vec MemberUse)) (packages : Packages) (names : List program.FunctionName) (others : ℕ)
+    (old new : List ℕ) : Type 0 where
   pub sources : List Source
   pub all : length sources ≡ n
   pub made_of : (files_of : List ℕ → List SourceFile) → HaveNames packages files_of → AreMemberUses p (map uses_in members) →

@@ -28,7 +28,8 @@ counts_text slots lines = with_number (codes " ") slots ++ with_number (codes " 
 -- the line of a function: its name, its parameters with the receiver first, its results, how many slots it has and how many
 -- lines of code follow
 abbrev pub header_text : (names : Symbol → Option GlobalName) → FunctionName → (parameters results : List PlainType) → (slots lines : ℕ) → List ℕ
-header_text names name parameters results slots lines = codes "func " ++ (function_text name ++ (signature_text names parameters results ++ counts_text slots lines))
+header_text names name parameters results slots lines =
+    codes "func " ++ (function_text name ++ (signature_text names parameters results ++ counts_text slots lines))
 
 unfoldable pub declaration_text : (names : Symbol → Option GlobalName) → Declaration → List ℕ
 declaration_text names (TypeOf name definition) = ended (codes "type " ++ (global_text name ++ (codes " " ++ definition_text names definition)))

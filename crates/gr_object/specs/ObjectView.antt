@@ -24,8 +24,10 @@ use Rattle.gr_object.specs.ObjectText.{declaration_text}
 
 -- the type definitions of a package as other packages see them
 pub record AreOwnDefinitions (p : Package) (found : List Definition) : Type 0 where
-  pub own : (rank : ℕ) (d : PlacedType) → slice_get (package_types p) rank ≡ Some d → IsDefinition p rank (definition_or_none (symbol_in p rank) (slice_get found rank))
-  pub beyond : (rank : ℕ) → slice_get (package_types p) rank ≡ None → definition_or_none (symbol_in p rank) (slice_get found rank) ≡ no_definition (symbol_in p rank)
+  pub own : (rank : ℕ) (d : PlacedType) → slice_get (package_types p) rank ≡ Some d →
+      IsDefinition p rank (definition_or_none (symbol_in p rank) (slice_get found rank))
+  pub beyond : (rank : ℕ) → slice_get (package_types p) rank ≡ None →
+      definition_or_none (symbol_in p rank) (slice_get found rank) ≡ no_definition (symbol_in p rank)
 
 -- the names of the packages whose files are known
 abbrev pub HaveNames : Packages → (List ℕ → List SourceFile) → Type 0
@@ -33,11 +35,13 @@ HaveNames packages files_of = (path : List ℕ) → MatchOption (package_in pack
 
 -- the text of what a file of the package declares was added; its functions are those behind so many, and those of the files
 -- behind it are the others
-pub record PutsFile (p : Package) (file : ℕ) (members : List MemberUse) (packages : Packages) (names : List FunctionName) (number others : ℕ) (old new : List ℕ) : Type 0 where
+pub record PutsFile (p : Package) (file : ℕ) (members : List MemberUse) (packages : Packages) (names : List FunctionName) (number others : ℕ)
+    (old new : List ℕ) : Type 0 where
   pub file_at : SourceFile
   pub in_file : slice_get p.files file ≡ Some file_at
   pub source : Source
-  pub made_of : (files_of : List ℕ → List SourceFile) → HaveNames packages files_of → AreUsesIn p file (map use_of members) → IsSourceOf p files_of file file_at source
+  pub made_of : (files_of : List ℕ → List SourceFile) → HaveNames packages files_of → AreUsesIn p file (map use_of members) →
+      IsSourceOf p files_of file file_at source
   pub text : new ≡ old ++ flat_map (declaration_text (type_in packages)) (declared_in source (map function_of (drop number names)) file_at.tree.decls)
   pub others_are : map function_of (drop others names) ≡ names_behind_all (map function_of (drop number names)) file_at.tree.decls
   pub within : others ≤ length names
@@ -50,6 +54,8 @@ abbrev pub OwnDefinitionsOf : (path : List ℕ) → List FileParts → (List ℕ
 OwnDefinitionsOf path files name_of interface_of found = (p : Package) → IsPackageOf path files name_of interface_of p → AreOwnDefinitions p found
 
 -- the text of its object, where these are its uses of members, and the files of packages have these names
-abbrev pub IsObjectTextOf : (path : List ℕ) → List FileParts → (List ℕ → Option (List ℕ)) → (List ℕ → Interface) → List (List plain.MemberUse) → Packages → List ℕ → Type 0
+abbrev pub IsObjectTextOf : (path : List ℕ) → List FileParts → (List ℕ → Option (List ℕ)) → (List ℕ → Interface) → List (List plain.MemberUse) → Packages →
+    List ℕ → Type 0
 IsObjectTextOf path files name_of interface_of uses packages text =
-    (p : Package) × IsPackageOf path files name_of interface_of p × ((files_of : List ℕ → List SourceFile) → AreMemberUses p uses → HaveNames packages files_of → IsObjectText p files_of text)
+    (p : Package) × IsPackageOf path files name_of interface_of p ×
+    ((files_of : List ℕ → List SourceFile) → AreMemberUses p uses → HaveNames packages files_of → IsObjectText p files_of text)

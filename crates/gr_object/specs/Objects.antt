@@ -1,7 +1,8 @@
 -- The object of a package: what it imports and declares, with the code of its functions.
 use Rattle.std.specs.Prelude.{ℕ, List, [], ◌∷◌, ◌++◌, map, Option, Some, None, length, option_map, option_to_list}
 use Rattle.std.specs.List.{flat_map}
-use Rattle.gr_tree.specs.Tree.{Item, TypeTree, BasicTree, Integer, String, GlobalTree, FieldTree, BodyTree, Other, Struct, TypeSpecTree, ReceiverTree, FuncTree, DeclTree, VarDecl, TypeDecl, FuncDecl, FileTree}
+use Rattle.gr_tree.specs.Tree.{Item, TypeTree, BasicTree, Integer, String, GlobalTree, FieldTree, BodyTree, Other, Struct, TypeSpecTree, ReceiverTree}
+use Rattle.gr_tree.specs.Tree.{FuncTree, DeclTree, VarDecl, TypeDecl, FuncDecl, FileTree}
 use Rattle.gr_expr.specs.Types.{PlainType}
 use Rattle.gr_expr.specs.World.{World}
 use Rattle.gr_expr.specs.Judge.{judge_type, named_type}
@@ -164,4 +165,5 @@ declared_from (s ∷ ss) names (t ∷ ts) = declared_in s names t.decls ++ decla
 
 -- functions: what all functions of the package are called
 abbrev pub object_of : (sources : List Source) → (path name : List ℕ) → (imports : List (List ℕ)) → (functions : List FunctionName) → List FileTree → Object
-object_of sources path name imports functions trees = record { path = path; name = name; imports = imports; declarations = declared_from sources functions trees }
+object_of sources path name imports functions trees =
+    record { path = path; name = name; imports = imports; declarations = declared_from sources functions trees }

@@ -7,11 +7,14 @@ use Rattle.gr_tree.specs.declared.syntax.PrefixOp.TheVariants as prefix
 use Rattle.gr_expr.specs.declared.types.Builtin.{Builtin}
 use Rattle.gr_expr.specs.declared.types.Builtin.TheVariants as builtin
 use Rattle.gr_expr.specs.declared.symbol.Symbol.{Symbol}
-use Rattle.gr_expr.specs.Types.{PlainType, Signature, Kind, Typed, Untyped, Meaning, Value, TypeName, Function, BuiltinName, Package, Results, Broken, is_pointer, points}
+use Rattle.gr_expr.specs.Types.{PlainType, Signature, Kind, Typed, Untyped, Meaning, Value, TypeName, Function, BuiltinName, Package, Results, Broken}
+use Rattle.gr_expr.specs.Types.{is_pointer, points}
 use Rattle.gr_expr.specs.Types.{Nil as NilKind}
 use Rattle.gr_expr.specs.World.{World, Bound, Means, BrokenVariable, BrokenFunction, BrokenType, Member, AField, AMethod, ABrokenMethod, underlying}
 use Rattle.gr_expr.specs.World.{Local as LocalName}
-use Rattle.gr_object.specs.Lines.{GlobalName, FunctionName, Plain, Line, Integer, Text, Truth, Nil, Local, Global, Field, FieldThrough, Index, Load, Negate, Not, Operate, Duplicate, Pop, JumpUnless, JumpIf, Call, CallBuiltin, LocalAddress, GlobalAddress, FieldAddress, IndexAddress, line_if_known}
+use Rattle.gr_object.specs.Lines.{GlobalName, FunctionName, Plain, Line, Integer, Text, Truth, Nil, Local, Global, Field, FieldThrough, Index, Load, Negate}
+use Rattle.gr_object.specs.Lines.{Not, Operate, Duplicate, Pop, JumpUnless, JumpIf, Call, CallBuiltin, LocalAddress, GlobalAddress, FieldAddress}
+use Rattle.gr_object.specs.Lines.{IndexAddress, line_if_known}
 use Rattle.gr_object.specs.Source.{Source}
 use Rattle.gr_object.specs.Numbering.{slot_of}
 
@@ -131,7 +134,8 @@ method_operand receiver name results = record { value = receiver; address = rece
 unfoldable pub member_operand : Source → Operand → PlainType → Option Member → Operand
 member_operand s o t None = record { value = o.value; address = o.value; standing = Values 0 }
 member_operand s o t (Some (AField f own)) = field_operand o (points (underlying s.world t)) (s.position f)
-member_operand s o t (Some (AMethod m on_pointer signature)) = method_operand (receiver_lines o (is_pointer t) on_pointer) (s.function m) (length signature.results)
+member_operand s o t (Some (AMethod m on_pointer signature)) =
+    method_operand (receiver_lines o (is_pointer t) on_pointer) (s.function m) (length signature.results)
 member_operand s o t (Some (ABrokenMethod m)) = record { value = o.value; address = o.value; standing = Values 0 }
 
 unfoldable pub typed_selector : Source → ℕ → Operand → Option PlainType → Operand

@@ -6,10 +6,14 @@ use Rattle.gr_tree.specs.declared.syntax.PrefixOp.{PrefixOp}
 use Rattle.gr_tree.specs.declared.syntax.PrefixOp.TheVariants as prefix
 use Rattle.gr_tree.specs.declared.syntax.Kind.TheVariants as kind
 use Rattle.gr_tree.specs.declared.syntax.Token.{Token}
-use Rattle.gr_tree.specs.Flatten.{sign, sign_if, binary_kind, prefix_kind, type_tokens, key_tokens, expr_tokens, operand_tokens, link_tokens, argument_tokens, literal_tokens, element_tokens, exprs_tokens}
-use Rattle.gr_tree.specs.Tree.{Item, TypeTree, Local, Imported, Pointer, Slice, ExprTree, Number, Text, Name, Blank, Composite, Paren, Prefix, Address, Chain, Binary, OperandTrees, no_operand, operand, LinkTrees, no_link, selector, index, call, ArgumentTrees, no_argument, argument, LiteralTree, literal, ElementTrees, no_element, element}
+use Rattle.gr_tree.specs.Flatten.{sign, sign_if, binary_kind, prefix_kind, type_tokens, key_tokens, expr_tokens, operand_tokens, link_tokens}
+use Rattle.gr_tree.specs.Flatten.{argument_tokens, literal_tokens, element_tokens, exprs_tokens}
+use Rattle.gr_tree.specs.Tree.{Item, TypeTree, Local, Imported, Pointer, Slice, ExprTree, Number, Text, Name, Blank, Composite, Paren, Prefix, Address}
+use Rattle.gr_tree.specs.Tree.{Chain, Binary, OperandTrees, no_operand, operand, LinkTrees, no_link, selector, index, call, ArgumentTrees, no_argument}
+use Rattle.gr_tree.specs.Tree.{argument, LiteralTree, literal, ElementTrees, no_element, element}
 use Rattle.gr_scope.specs.Site.{Site, Source}
-use Rattle.gr_scope.specs.ExpressionSites.{type_sites, key_sites, expr_sites, operand_sites, link_sites, argument_sites, literal_sites, element_sites, exprs_sites}
+use Rattle.gr_scope.specs.ExpressionSites.{type_sites, key_sites, expr_sites, operand_sites, link_sites, argument_sites, literal_sites, element_sites}
+use Rattle.gr_scope.specs.ExpressionSites.{exprs_sites}
 use Rattle.gr_order.specs.Tokens.{is_name}
 use Rattle.gr_order.proofs.Covers.{Covers, IsSkipped, ends, skips, takes, selects, keys, covers_append, covers_end, covers_behind, list_covers}
 

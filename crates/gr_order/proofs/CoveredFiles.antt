@@ -4,8 +4,11 @@ use Rattle.std.specs.Prelude.{codes, bytes_eq}
 use Rattle.std.specs.List.{flat_map}
 use Rattle.std.proofs.lemmas.Bool.{cond_both}
 use Rattle.gr_tree.specs.declared.syntax.Kind.TheVariants as kind
-use Rattle.gr_tree.specs.Flatten.{sign, sign_if, tokens_if, all_tokens, item_tokens, list_tokens, group_tokens, name_tokens, ident_tokens, basic_tokens, type_tokens, value_tokens, import_tokens, global_tokens, field_tokens, body_tokens, type_spec_tokens, receiver_tokens, param_tokens, result_tokens, block_tokens, func_tokens, imports_tokens, decl_tokens}
-use Rattle.gr_tree.specs.Tree.{Item, BasicTree, Integer, String, GlobalTree, FieldTree, BodyTree, Other, Struct, TypeSpecTree, ReceiverTree, ParamTree, ResultTree, no_result, one_result, results, FuncTree, ImportTree, ImportsTree, DeclTree, VarDecl, TypeDecl, FuncDecl}
+use Rattle.gr_tree.specs.Flatten.{sign, sign_if, tokens_if, all_tokens, item_tokens, list_tokens, group_tokens, name_tokens, ident_tokens, basic_tokens}
+use Rattle.gr_tree.specs.Flatten.{type_tokens, value_tokens, import_tokens, global_tokens, field_tokens, body_tokens, type_spec_tokens, receiver_tokens}
+use Rattle.gr_tree.specs.Flatten.{param_tokens, result_tokens, block_tokens, func_tokens, imports_tokens, decl_tokens}
+use Rattle.gr_tree.specs.Tree.{Item, BasicTree, Integer, String, GlobalTree, FieldTree, BodyTree, Other, Struct, TypeSpecTree, ReceiverTree, ParamTree}
+use Rattle.gr_tree.specs.Tree.{ResultTree, no_result, one_result, results, FuncTree, ImportTree, ImportsTree, DeclTree, VarDecl, TypeDecl, FuncDecl}
 use Rattle.gr_scope.specs.declared.model.Block.{Block}
 use Rattle.gr_scope.specs.declared.model.Block.TheVariants.{Package}
 use Rattle.gr_scope.specs.declared.model.Role.{Role}
@@ -14,9 +17,12 @@ use Rattle.gr_scope.specs.declared.model.Purpose.TheVariants as purpose
 use Rattle.gr_scope.specs.Site.{Source, site}
 use Rattle.gr_scope.specs.ExpressionSites.{sites_if, list_sites, type_sites}
 use Rattle.gr_scope.specs.StatementSites.{ident_sites, open_of, block_sites}
-use Rattle.gr_scope.specs.FileSites.{global_name, member_name, spec_sites, global_sites, field_sites, body_sites, type_spec_sites, receiver_sites, param_sites, result_sites, func_block, func_role, func_sites, import_purpose, import_name, import_sites, imports_sites, decl_sites}
+use Rattle.gr_scope.specs.FileSites.{global_name, member_name, spec_sites, global_sites, field_sites, body_sites, type_spec_sites, receiver_sites}
+use Rattle.gr_scope.specs.FileSites.{param_sites, result_sites, func_block, func_role, func_sites, import_purpose, import_name, import_sites, imports_sites}
+use Rattle.gr_scope.specs.FileSites.{decl_sites}
 use Rattle.gr_order.specs.Tokens.{is_name, is_header_name}
-use Rattle.gr_order.proofs.Covers.{Covers, is_linked, ends, skips, takes, none_if, covers_append, covers_pad, covers_end, covers_behind, all_covers, none_all, list_covers, group_covers, option_covers}
+use Rattle.gr_order.proofs.Covers.{Covers, is_linked, ends, skips, takes, none_if, covers_append, covers_pad, covers_end, covers_behind, all_covers}
+use Rattle.gr_order.proofs.Covers.{none_all, list_covers, group_covers, option_covers}
 use Rattle.gr_order.proofs.CoveredExpressions.{Named, named_append, type_named}
 use Rattle.gr_order.proofs.CoveredStatements.{ident_named, block_named}
 

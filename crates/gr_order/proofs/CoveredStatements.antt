@@ -6,15 +6,20 @@ use Rattle.gr_tree.specs.declared.syntax.StepOp.TheVariants as step
 use Rattle.gr_tree.specs.declared.syntax.UpdateOp.{UpdateOp}
 use Rattle.gr_tree.specs.declared.syntax.UpdateOp.TheVariants as update
 use Rattle.gr_tree.specs.declared.syntax.Kind.TheVariants as kind
-use Rattle.gr_tree.specs.Flatten.{sign, sign_if, tokens_if, list_tokens, step_kind, update_kind, ident_tokens, type_tokens, expr_tokens, exprs_tokens, value_tokens, simple_tokens, local_tokens, init_tokens, for_tokens, statement_tokens, block_tokens, statements_tokens, if_tokens, else_tokens}
-use Rattle.gr_tree.specs.Tree.{Item, IdentTree, Named, Underscore, ExprTree, Name, Blank, SimpleTree, Alone, Step, Update, Assign, Define, LocalTree, InitTree, ForTree, forever, while, clauses, StatementTree, Empty, Var, Simple, Inner, If, For, Break, Continue, Return, BlockTree, block, StatementTrees, no_statement, statement, IfTree, if_tree, ElseTree, no_else, else_if, else_block}
+use Rattle.gr_tree.specs.Flatten.{sign, sign_if, tokens_if, list_tokens, step_kind, update_kind, ident_tokens, type_tokens, expr_tokens, exprs_tokens}
+use Rattle.gr_tree.specs.Flatten.{value_tokens, simple_tokens, local_tokens, init_tokens, for_tokens, statement_tokens, block_tokens, statements_tokens}
+use Rattle.gr_tree.specs.Flatten.{if_tokens, else_tokens}
+use Rattle.gr_tree.specs.Tree.{Item, IdentTree, Named, Underscore, ExprTree, Name, Blank, SimpleTree, Alone, Step, Update, Assign, Define, LocalTree}
+use Rattle.gr_tree.specs.Tree.{InitTree, ForTree, forever, while, clauses, StatementTree, Empty, Var, Simple, Inner, If, For, Break, Continue, Return}
+use Rattle.gr_tree.specs.Tree.{BlockTree, block, StatementTrees, no_statement, statement, IfTree, if_tree, ElseTree, no_else, else_if, else_block}
 use Rattle.gr_scope.specs.declared.model.Block.{Block}
 use Rattle.gr_scope.specs.declared.model.Block.TheVariants as blocks
 use Rattle.gr_scope.specs.declared.model.Role.{Role}
 use Rattle.gr_scope.specs.declared.model.Role.TheVariants.{Declaring}
 use Rattle.gr_scope.specs.Site.{Source}
 use Rattle.gr_scope.specs.ExpressionSites.{sites_if, list_sites, type_sites, expr_sites, exprs_sites}
-use Rattle.gr_scope.specs.StatementSites.{ident_sites, left_sites, assigned_sites, simple_sites, value_sites, local_sites, init_sites, for_sites, open_of, statement_sites, block_sites, statements_sites, if_sites, else_sites}
+use Rattle.gr_scope.specs.StatementSites.{ident_sites, left_sites, assigned_sites, simple_sites, value_sites, local_sites, init_sites, for_sites, open_of}
+use Rattle.gr_scope.specs.StatementSites.{statement_sites, block_sites, statements_sites, if_sites, else_sites}
 use Rattle.gr_order.specs.Tokens.{is_name}
 use Rattle.gr_order.proofs.Covers.{IsSkipped, is_linked, ends, skips, takes, covers_end, covers_behind, list_covers, group_covers, option_covers}
 use Rattle.gr_order.proofs.CoveredExpressions.{Named as AtNames, named_append, type_named, expr_named, exprs_named}

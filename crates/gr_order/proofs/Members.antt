@@ -5,14 +5,17 @@ use Rattle.std.specs.List.{flat_map}
 use Rattle.std.proofs.lemmas.Option.{none-some, same_Some}
 use Rattle.gr_tree.specs.FileView.{file_view}
 use Rattle.gr_tree.specs.SourceFile.{FileParts, source_of, spelling_of}
-use Rattle.gr_tree.specs.Tree.{Item, Group, single, several, FieldTree, BodyTree, Other, Struct, TypeSpecTree, ReceiverTree, FuncTree, DeclTree, VarDecl, TypeDecl, FuncDecl, FileTree}
+use Rattle.gr_tree.specs.Tree.{Item, Group, single, several, FieldTree, BodyTree, Other, Struct, TypeSpecTree, ReceiverTree, FuncTree, DeclTree, VarDecl}
+use Rattle.gr_tree.specs.Tree.{TypeDecl, FuncDecl, FileTree}
 use Rattle.gr_scope.specs.declared.model.Position.{Position}
 use Rattle.gr_scope.specs.declared.model.Purpose.TheVariants as purpose
 use Rattle.gr_scope.specs.declared.model.Role.TheVariants.{NotLexical}
 use Rattle.gr_scope.specs.Bindings.{is_implied}
 use Rattle.gr_scope.specs.ExpressionSites.{sites_if, list_sites, type_sites}
 use Rattle.gr_scope.specs.StatementSites.{separated_sites, group_sites, open_of, block_sites}
-use Rattle.gr_scope.specs.FileSites.{global_name, member_name, spec_sites, field_sites, body_sites, type_spec_sites, receiver_sites, param_sites, result_sites, func_block, func_role, func_sites, imports_sites, decl_sites, file_sites, files_sites, universe, universe_site, package_sites}
+use Rattle.gr_scope.specs.FileSites.{global_name, member_name, spec_sites, field_sites, body_sites, type_spec_sites, receiver_sites, param_sites}
+use Rattle.gr_scope.specs.FileSites.{result_sites, func_block, func_role, func_sites, imports_sites, decl_sites, file_sites, files_sites, universe}
+use Rattle.gr_scope.specs.FileSites.{universe_site, package_sites}
 use Rattle.gr_scope.specs.Named.{named}
 use Rattle.gr_scope.specs.Parsed.{spelled_file}
 use Rattle.gr_scope.specs.Scoped.{scoped, layout_in}

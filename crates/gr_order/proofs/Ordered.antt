@@ -1,5 +1,6 @@
 -- Identifiers that stand at rising tokens stand in order.
-use Rattle.std.proofs.Common.{ℕ, zero, suc, ◌≡◌, ◌<◌, ◌≤◌, inl, inr, List, [], ◌∷◌, ◌++◌, Option, Some, None, Bool, true, false, length, map, ap, sym, ◌∙◌, refl, subst, arith}
+use Rattle.std.proofs.Common.{ℕ, zero, suc, ◌≡◌, ◌<◌, ◌≤◌, inl, inr, List, [], ◌∷◌, ◌++◌, Option, Some, None, Bool, true, false, length, map, ap, sym, ◌∙◌}
+use Rattle.std.proofs.Common.{refl, subst, arith}
 use Rattle.std.specs.Prelude.{slice_get, cond}
 use Rattle.std.proofs.lemmas.Bool.{cases_lt, cond_both, true≢false}
 use Rattle.std.proofs.lemmas.List.Elements.{All-head, All-tail}

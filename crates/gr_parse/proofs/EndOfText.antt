@@ -4,11 +4,13 @@ use Rattle.std.specs.Prelude.{◌&&◌}
 use Rattle.gr_tree.specs.declared.syntax.Kind.TheVariants as kind
 use Rattle.gr_tree.specs.declared.syntax.Token.{Token}
 use Rattle.gr_tree.specs.declared.syntax.FaultKind.TheVariants.{Syntax}
-use Rattle.gr_tree.specs.Grammar.{Symbol, One, Opening, Close, A, Part, Rule, Begins, Otherwise, rules, Single, ImportItem, GlobalItem, TypeItem, LocalItem, AfterName, AfterSelector, Address, File}
+use Rattle.gr_tree.specs.Grammar.{Symbol, One, Opening, Close, A, Part, Rule, Begins, Otherwise, rules, Single, ImportItem, GlobalItem, TypeItem, LocalItem}
+use Rattle.gr_tree.specs.Grammar.{AfterName, AfterSelector, Address, File}
 use Rattle.gr_tree.specs.Language.{Among, tested, untested, below, Derives, ends, token, opening, closing, by_rule, FirstFault}
 use Rattle.gr_parse.specs.Machine.{Run, take, opens, closes, expand, refused, refused_opening, left_over, Stopped, Selects, first as selects_first, later, last}
 use Rattle.gr_parse.proofs.Tables.{first, firsts, followed, nullable, nullables, implies, symbols_of}
-use Rattle.gr_parse.proofs.Predictive.{and_left, and_right, and_both, rule_at, implied, no, Good, good_rule, followed_at, selected, goes_by, after_token, after_opening, after_closing, stops_at}
+use Rattle.gr_parse.proofs.Predictive.{and_left, and_right, and_both, rule_at, implied, no, Good, good_rule, followed_at, selected, goes_by, after_token}
+use Rattle.gr_parse.proofs.Predictive.{after_opening, after_closing, stops_at}
 
 -- at the end only the last rule may be applied
 
@@ -61,10 +63,12 @@ derives_empty (by_rule {p = p} {then = then} {ss = ss} a x) =
     let r = nullables_append then ss (derives_empty x) in
     and_both (nullable p) (nullables ss)
     (implied (nullables then) (nullable p) (and_left (implies (nullables then) (nullable p)) (followed p then kind.Name)
-    (and_right (implies (firsts then kind.Name) (first p kind.Name)) (implies (nullables then) (nullable p) && followed p then kind.Name) (rule_at p then kind.Name a))) r.0)
+    (and_right (implies (firsts then kind.Name) (first p kind.Name)) (implies (nullables then) (nullable p) && followed p then kind.Name)
+    (rule_at p then kind.Name a))) r.0)
     r.1
 
-forced_at_end : (rs : List Rule) (then other : List Symbol) → Selects rs [] then → Among rs other → ends_decided rs ≡ true → nullables other ≡ true → other ≡ then
+forced_at_end : (rs : List Rule) (then other : List Symbol) → Selects rs [] then → Among rs other → ends_decided rs ≡ true → nullables other ≡ true →
+    other ≡ then
 forced_at_end [] then other s a e n = elim a [ ]
 forced_at_end (Begins c x ∷ rs) then other (selects_first h) a e n = absurd (no h)
 forced_at_end (Begins c x ∷ rs) then other (later h s) tested e n = absurd (not_empty other rs e n)

@@ -19,10 +19,12 @@ use Rattle.gr_tree.specs.declared.tree.ImportDecl.{ImportDecl}
 use Rattle.gr_tree.specs.declared.tree.FuncDecl.{FuncDecl}
 use Rattle.gr_tree.specs.declared.tree.Decl.TheVariants as decl
 use Rattle.gr_tree.specs.declared.tree.File.{File}
-use Rattle.gr_tree.specs.WellFormed.{IsSeparated, IsList, IsOpenList, IsGroup, Perhaps, Any, IsExprIn, IsLocal, IsGlobal, IsField, IsBody, IsTypeSpec, IsParam, IsResult, IsBlock, IsFunc, IsImports, IsDecl, IsFile}
+use Rattle.gr_tree.specs.WellFormed.{IsSeparated, IsList, IsOpenList, IsGroup, Perhaps, Any, IsExprIn, IsLocal, IsGlobal, IsField, IsBody, IsTypeSpec}
+use Rattle.gr_tree.specs.WellFormed.{IsParam, IsResult, IsBlock, IsFunc, IsImports, IsDecl, IsFile}
 use Rattle.gr_parse.specs.Listed.{IsToldBy}
 use Rattle.gr_tree.specs.View.{option_view, list_view, item_view, group_view, ident_view, type_view, exprs_view}
-use Rattle.gr_tree.specs.FileView.{same_place, values_view, local_view, import_view, var_values_view, global_view, field_view, body_view, type_spec_view, param_view, results_view, block_view, func_view, imports_view, decl_view, file_view}
+use Rattle.gr_tree.specs.FileView.{same_place, values_view, local_view, import_view, var_values_view, global_view, field_view, body_view, type_spec_view}
+use Rattle.gr_tree.specs.FileView.{param_view, results_view, block_view, func_view, imports_view, decl_view, file_view}
 
 pub if_ok : {Y E : Type 0} (P Q : Y → Type 0) (r : Result Y E) → ((y : Y) → P y → Q y) → IfOk r P → IfOk r Q
 if_ok P Q (Ok y) f h = f y h
@@ -40,7 +42,8 @@ pub single_formed : {X : Type 0} (P : X → Type 0) (x : X) → P x → IsGroup 
 unfolding group_view
 single_formed P x h = h
 
-pub several_formed : {X : Type 0} (P : X → Type 0) (o : ℕ) (xs : _) (c : ℕ) → let x : Group X = group.Several o xs c in IsOpenList P (list_view (λ y. y) xs.items) → IsGroup P (group_view (λ y. y) x)
+pub several_formed : {X : Type 0} (P : X → Type 0) (o : ℕ) (xs : _) (c : ℕ) → let x : Group X = group.Several o xs c in
+    IsOpenList P (list_view (λ y. y) xs.items) → IsGroup P (group_view (λ y. y) x)
 unfolding group_view
 several_formed P o xs c h = h
 
@@ -52,18 +55,23 @@ separated_view : {X Y : Type 0} (view : X → Y) (xs : List (Item X)) → IsSepa
 separated_view view [] h = tt
 separated_view view (x ∷ xs) h = (λ e. no_items view xs (h.0 e), separated_view view xs h.1)
 
-all_view : {X Y : Type 0} (P : Y → Type 0) (view : X → Y) (xs : List (Item X)) → All (λ i. P (view i.value)) (list_view (λ y. y) xs) → All (λ i. P i.value) (list_view view xs)
+all_view : {X Y : Type 0} (P : Y → Type 0) (view : X → Y) (xs : List (Item X)) → All (λ i. P (view i.value)) (list_view (λ y. y) xs) →
+    All (λ i. P i.value) (list_view view xs)
 all_view P view [] h = All-nil (λ i. P i.value)
-all_view P view (x ∷ xs) h = All-cons (λ i. P i.value) (item_view view x) (list_view view xs) (head_of (λ i. P (view i.value)) (item_view (λ y. y) x) (list_view (λ y. y) xs) h) (all_view P view xs (tail_of (λ i. P (view i.value)) (item_view (λ y. y) x) (list_view (λ y. y) xs) h))
+all_view P view (x ∷ xs) h = All-cons (λ i. P i.value) (item_view view x) (list_view view xs)
+    (head_of (λ i. P (view i.value)) (item_view (λ y. y) x) (list_view (λ y. y) xs) h)
+    (all_view P view xs (tail_of (λ i. P (view i.value)) (item_view (λ y. y) x) (list_view (λ y. y) xs) h))
 
-pub group_formed : {X Y : Type 0} (P : Y → Type 0) (view : X → Y) (g : Group X) → IsGroup (λ x. P (view x)) (group_view (λ y. y) g) → IsGroup P (group_view view g)
+pub group_formed : {X Y : Type 0} (P : Y → Type 0) (view : X → Y) (g : Group X) → IsGroup (λ x. P (view x)) (group_view (λ y. y) g) →
+    IsGroup P (group_view view g)
 unfolding group_view
 group_formed P view (group.Single x) h = h
 group_formed P view (group.Several o xs c) h = record { separated = separated_view view xs.items h.separated; each = all_view P view xs.items h.each }
 
 -- declarations
 
-pub global_formed : (g : VarSpec) → IsList Any (list_view same_place g.names.items) → Perhaps (λ v. IsList Any v.1) (option_view var_values_view g.values) → IsGlobal (global_view g)
+pub global_formed : (g : VarSpec) → IsList Any (list_view same_place g.names.items) → Perhaps (λ v. IsList Any v.1) (option_view var_values_view g.values) →
+    IsGlobal (global_view g)
 unfolding global_view
 global_formed g n v = record { names = n; values = v }
 
@@ -95,7 +103,8 @@ pub one_result_formed : (t : TypeExpr) → IsResult (results_view (results.Singl
 unfolding results_view
 one_result_formed t = tt
 
-pub several_results_formed : (o : ℕ) (ts : _) (c : ℕ) → let x = results.Several o ts c in IsOpenList Any (list_view type_view ts.items) → IsResult (results_view x)
+pub several_results_formed : (o : ℕ) (ts : _) (c : ℕ) → let x = results.Several o ts c in
+    IsOpenList Any (list_view type_view ts.items) → IsResult (results_view x)
 unfolding results_view
 several_results_formed o ts c h = h
 
@@ -116,7 +125,8 @@ local_formed l n t = record { names = n; told = t.told; values = t.formed }
 
 -- functions, imports and files
 
-pub func_formed : (f : FuncDecl) → IsOpenList IsParam (list_view param_view f.params.items) → IsResult (results_view f.results) → IsBlock (block_view f.body) → IsFunc (func_view f)
+pub func_formed : (f : FuncDecl) → IsOpenList IsParam (list_view param_view f.params.items) → IsResult (results_view f.results) →
+    IsBlock (block_view f.body) → IsFunc (func_view f)
 unfolding func_view
 func_formed f p r b = record { params = p; result = r; body = b }
 

@@ -19,13 +19,15 @@ use Rattle.gr_tree.specs.declared.tree.Else.{Else}
 use Rattle.gr_tree.specs.declared.tree.Else.TheBlock.{hidden-the_row-BlockItem-0}
 use Rattle.gr_tree.specs.declared.tree.Else.TheViews.{roll-Block, roll-IfStmt}
 use Rattle.gr_tree.specs.declared.tree.Else.TheVariants as else
-use Rattle.gr_tree.specs.declared.tree.Block.{Block, Row_of-BlockItem, end_of-BlockItem, more_of-BlockItem, items-the_row-BlockItem, items_hidden-the_row-BlockItem-0}
+use Rattle.gr_tree.specs.declared.tree.Block.{Block, Row_of-BlockItem, end_of-BlockItem, more_of-BlockItem, items-the_row-BlockItem}
+use Rattle.gr_tree.specs.declared.tree.Block.{items_hidden-the_row-BlockItem-0}
 use Rattle.gr_tree.specs.declared.tree.BlockItem.{BlockItem}
 use Rattle.gr_tree.specs.declared.tree.IfStmt.{IfStmt}
 use Rattle.gr_tree.specs.Tree as tree
 use Rattle.gr_tree.specs.Grammar.{in_head}
 use Rattle.gr_parse.specs.Words.{setting_of, IsAllowed}
-use Rattle.gr_tree.specs.WellFormed.{IsList, IsGroup, Perhaps, IsExprIn, IsSimple, IsPost, IsInit, IsFor, IsLocal, IsStatement, AreStatements, IsBlock, IsIf, IsElse}
+use Rattle.gr_tree.specs.WellFormed.{IsList, IsGroup, Perhaps, IsExprIn, IsSimple, IsPost, IsInit, IsFor, IsLocal, IsStatement, AreStatements, IsBlock}
+use Rattle.gr_tree.specs.WellFormed.{IsIf, IsElse}
 use Rattle.gr_parse.specs.Listed.{IsJoinedBy, IsListed, IsSimpleIn, AreReturned}
 use Rattle.gr_tree.specs.View.{option_view, group_view, expr_view, expr_item_view, exprs_view}
 use Rattle.gr_tree.specs.FileView.{local_view, simple_view, init_view, for_view, stmt_view, block_view, statements_view, if_view, else_view}
@@ -40,20 +42,23 @@ alone_formed setting.Plain e h = h
 alone_formed setting.Head e h = h
 alone_formed setting.Post e h = h
 
-pub step_formed : (s : Setting) (e : Expr) (op : StepOp) (p : ℕ) → IsExprIn (in_head (setting_of s)) (expr_view e) → IsSimpleIn s (simple_view (simple.Step e op p))
+pub step_formed : (s : Setting) (e : Expr) (op : StepOp) (p : ℕ) → IsExprIn (in_head (setting_of s)) (expr_view e) →
+    IsSimpleIn s (simple_view (simple.Step e op p))
 unfolding simple_view
 step_formed setting.Plain e op p h = h
 step_formed setting.Head e op p h = h
 step_formed setting.Post e op p h = h
 
-pub update_formed : (s : Setting) (e : Expr) (op : UpdateOp) (p : ℕ) (f : Expr) → IsExprIn (in_head (setting_of s)) (expr_view e) → IsExprIn (in_head (setting_of s)) (expr_view f) →
+pub update_formed : (s : Setting) (e : Expr) (op : UpdateOp) (p : ℕ) (f : Expr) → IsExprIn (in_head (setting_of s)) (expr_view e) →
+    IsExprIn (in_head (setting_of s)) (expr_view f) →
     IsSimpleIn s (simple_view (simple.Update e op p f))
 unfolding simple_view
 update_formed setting.Plain e op p f h k = (h, k)
 update_formed setting.Head e op p f h k = (h, k)
 update_formed setting.Post e op p f h k = (h, k)
 
-pub assign_formed : (s : Setting) (es : _) (p : ℕ) (fs : _) → let x = simple.Assign es p fs in IsList (IsExprIn (in_head (setting_of s))) (exprs_view es.items) → IsList (IsExprIn (in_head (setting_of s))) (exprs_view fs.items) →
+pub assign_formed : (s : Setting) (es : _) (p : ℕ) (fs : _) → let x = simple.Assign es p fs in
+    IsList (IsExprIn (in_head (setting_of s))) (exprs_view es.items) → IsList (IsExprIn (in_head (setting_of s))) (exprs_view fs.items) →
     IsSimpleIn s (simple_view x)
 unfolding simple_view
 assign_formed setting.Plain es p fs h k = (h, k)
@@ -70,13 +75,16 @@ define_formed setting.Post op es p fs e a h k = absurd (subst (λ op. IsAllowed 
 
 -- a list of one expression
 
-one_listed : {X Y : Type 0} (P : Y → Type 0) (item : X → tree.Item Y) (xs : List X) (x : X) (b : Bool) → xs ≡ x ∷ [] → P (item x).value → b ≡ is_some (item x).separator → IsListed P item b xs
+one_listed : {X Y : Type 0} (P : Y → Type 0) (item : X → tree.Item Y) (xs : List X) (x : X) (b : Bool) → xs ≡ x ∷ [] → P (item x).value →
+    b ≡ is_some (item x).separator → IsListed P item b xs
 one_listed P item xs x b e h same = listed_push P item [] xs x true b (listed_none P item [] refl) refl h same e
 
-pub begun_list : (P : tree.ExprTree → Type 0) (xs : List ExprItem) (x : ExprItem) → xs ≡ x ∷ [] → P (expr_view x.value) → is_some x.comma ≡ true → IsListed P expr_item_view true xs
+pub begun_list : (P : tree.ExprTree → Type 0) (xs : List ExprItem) (x : ExprItem) → xs ≡ x ∷ [] → P (expr_view x.value) → is_some x.comma ≡ true →
+    IsListed P expr_item_view true xs
 begun_list P xs x e h same = one_listed P expr_item_view xs x true e h (sym same)
 
-pub single_list : (P : tree.ExprTree → Type 0) (xs : List ExprItem) (x : ExprItem) → xs ≡ x ∷ [] → P (expr_view x.value) → is_some x.comma ≡ false → IsList P (exprs_view xs)
+pub single_list : (P : tree.ExprTree → Type 0) (xs : List ExprItem) (x : ExprItem) → xs ≡ x ∷ [] → P (expr_view x.value) → is_some x.comma ≡ false →
+    IsList P (exprs_view xs)
 single_list P xs x e h same = listed_list P expr_item_view xs false (one_listed P expr_item_view xs x false e h (sym same)) refl
 
 -- headers
@@ -98,7 +106,8 @@ unfolding for_view
 while_formed e h = h
 
 pub clauses_formed : (header : ForHeader) (i : Option SimpleStmt) (s : ℕ) (e : Option Expr) (t : ℕ) (p : Option SimpleStmt) → header ≡ for.Clauses i s e t p →
-    Perhaps (IsSimple true) (option_view simple_view i) → Perhaps (IsExprIn true) (option_view expr_view e) → Perhaps IsPost (option_view simple_view p) → IsFor (for_view header)
+    Perhaps (IsSimple true) (option_view simple_view i) → Perhaps (IsExprIn true) (option_view expr_view e) → Perhaps IsPost (option_view simple_view p) →
+    IsFor (for_view header)
 unfolding for_view
 clauses_formed header i s e t p same a b c = subst (λ h. IsFor (for_view h)) (sym same) (a, b, c)
 
@@ -153,7 +162,8 @@ unfolding statements_view
 some_row end_of-BlockItem h e = h
 some_row (more_of-BlockItem s p rest) h e = cc
 
-row_formed : {n : _} (row : Row_of-BlockItem n) → All (λ i. IsStatement (stmt_view i.statement)) (items-the_row-BlockItem n row) → IsJoinedBy (λ i. i.semicolon) (items-the_row-BlockItem n row) → AreStatements (statements_view row)
+row_formed : {n : _} (row : Row_of-BlockItem n) → All (λ i. IsStatement (stmt_view i.statement)) (items-the_row-BlockItem n row) →
+    IsJoinedBy (λ i. i.semicolon) (items-the_row-BlockItem n row) → AreStatements (statements_view row)
 unfolding AreStatements statements_view
 row_formed end_of-BlockItem a h = tt
 row_formed (more_of-BlockItem s None end_of-BlockItem) a h = (a 0 (record { statement = s; semicolon = None }) (omega arith), refl)
@@ -162,20 +172,24 @@ row_formed (more_of-BlockItem s None (more_of-BlockItem t q rest)) a h = absurd 
 row_formed (more_of-BlockItem s (Some p) (more_of-BlockItem t q rest)) a h = (
   a 0 (record { statement = s; semicolon = Some p }) (omega arith),
   some_row (more_of-BlockItem t q rest) h.1,
-  row_formed (more_of-BlockItem t q rest) (tail_of (λ i. IsStatement (stmt_view i.statement)) (record { statement = s; semicolon = Some p }) (items-the_row-BlockItem _ (more_of-BlockItem t q rest)) a) h.1,
+  row_formed (more_of-BlockItem t q rest) (tail_of (λ i. IsStatement (stmt_view i.statement)) (record { statement = s; semicolon = Some p })
+      (items-the_row-BlockItem _ (more_of-BlockItem t q rest)) a) h.1,
 )
 
-pub block_formed : (o : ℕ) (ss : _) (c : ℕ) → let x = block_view (roll-Block (record { «open» = o; statements = ss; close = c })) in IsListed IsStatement block_item_view false ss.items → IsBlock x
+pub block_formed : (o : ℕ) (ss : _) (c : ℕ) → let x = block_view (roll-Block (record { «open» = o; statements = ss; close = c })) in
+    IsListed IsStatement block_item_view false ss.items → IsBlock x
 unfolding IsBlock block_view roll-Block denote.Hole.Carrier.roll
 block_formed o ss c w =
     let same = sym (items_hidden-the_row-BlockItem-0 ss) in (
       some_row (hidden-the_row-BlockItem-0 ss) (subst (IsJoinedBy (λ (i : BlockItem). i.semicolon)) same (w.joined refl)),
-      row_formed (hidden-the_row-BlockItem-0 ss) (subst (All (λ (i : BlockItem). IsStatement (stmt_view i.statement))) same w.each) (subst (IsJoinedBy (λ (i : BlockItem). i.semicolon)) same (w.joined refl)),
+      row_formed (hidden-the_row-BlockItem-0 ss) (subst (All (λ (i : BlockItem). IsStatement (stmt_view i.statement))) same w.each)
+          (subst (IsJoinedBy (λ (i : BlockItem). i.semicolon)) same (w.joined refl)),
     )
 
 -- `if` and `else`
 
-pub if_formed : (p : ℕ) (i : Option IfInit) (e : Expr) (b : Block) (rest : Else) → Perhaps IsInit (option_view init_view i) → IsExprIn true (expr_view e) → IsBlock (block_view b) → IsElse (else_view rest) →
+pub if_formed : (p : ℕ) (i : Option IfInit) (e : Expr) (b : Block) (rest : Else) → Perhaps IsInit (option_view init_view i) → IsExprIn true (expr_view e) →
+    IsBlock (block_view b) → IsElse (else_view rest) →
     IsIf (if_view (roll-IfStmt (record { at = p; init = i; condition = e; body = b; otherwise = rest })))
 unfolding IsIf if_view roll-IfStmt denote.Hole.Carrier.roll
 if_formed p i e b rest h k l m = (h, k, l, m)

@@ -1,5 +1,6 @@
 -- How well-formed expressions are made from their parts.
-use Rattle.std.proofs.Common.{ℕ, ◌≡◌, ◌≢◌, ◌<◌, ◌≤◌, ap, sym, ◌∙◌, subst, Bool, true, false, List, [], ◌∷◌, ◌++◌, refl, Option, Some, None, arith, Result, Ok, Err, is_some, cond, ◌==◌}
+use Rattle.std.proofs.Common.{ℕ, ◌≡◌, ◌≢◌, ◌<◌, ◌≤◌, ap, sym, ◌∙◌, subst, Bool, true, false, List, [], ◌∷◌, ◌++◌, refl, Option, Some, None, arith, Result}
+use Rattle.std.proofs.Common.{Ok, Err, is_some, cond, ◌==◌}
 use Rattle.std.specs.Result.{IfOk}
 use Rattle.gr_tree.specs.declared.syntax.Kind.{Kind}
 use Rattle.gr_tree.specs.declared.syntax.Kind.TheVariants as kind
@@ -10,7 +11,8 @@ use Rattle.gr_tree.specs.declared.syntax.Token.{Token}
 use Rattle.gr_tree.specs.Grammar.{binary_of}
 use Rattle.gr_tree.specs.Flatten.{sign, binary_kind}
 use Rattle.gr_parse.specs.Strength.{strength_if, strength_at}
-use Rattle.gr_tree.specs.declared.tree.Expr.{Expr, Row_of-Link, end_of-Link, more_of-Link, items-the_row-Link, items_hidden-the_row-Link-0, Row_of-Operand, end_of-Operand, more_of-Operand, items-the_row-Operand, items_hidden-the_row-Operand-1}
+use Rattle.gr_tree.specs.declared.tree.Expr.{Expr, Row_of-Link, end_of-Link, more_of-Link, items-the_row-Link, items_hidden-the_row-Link-0, Row_of-Operand}
+use Rattle.gr_tree.specs.declared.tree.Expr.{end_of-Operand, more_of-Operand, items-the_row-Operand, items_hidden-the_row-Operand-1}
 use Rattle.gr_tree.specs.declared.tree.Expr.TheBlock.{hidden-the_row-Link-0, hidden-the_row-Operand-1, hidden-the_row-ExprItem-2, hidden-the_row-Element-3}
 use Rattle.gr_tree.specs.declared.tree.Expr.TheVariants as expr
 use Rattle.gr_tree.specs.declared.tree.Expr.TheViews.{roll-CompositeLit}
@@ -20,13 +22,17 @@ use Rattle.gr_tree.specs.declared.tree.ExprItem.{ExprItem}
 use Rattle.gr_tree.specs.declared.tree.Element.{Element}
 use Rattle.gr_tree.specs.declared.tree.TypeExpr.{TypeExpr}
 use Rattle.gr_tree.specs.declared.tree.TypeExpr.TheVariants as type
-use Rattle.gr_tree.specs.declared.tree.CompositeLit.{CompositeLit, Row_of-Element, end_of-Element, more_of-Element, items-the_row-Element, items_hidden-the_row-Element-3}
+use Rattle.gr_tree.specs.declared.tree.CompositeLit.{CompositeLit, Row_of-Element, end_of-Element, more_of-Element, items-the_row-Element}
+use Rattle.gr_tree.specs.declared.tree.CompositeLit.{items_hidden-the_row-Element-3}
 use Rattle.gr_parse.specs.Leaf.{leaf_of}
 use Rattle.gr_tree.specs.Tree as tree
-use Rattle.gr_tree.specs.Tree.{TypeTree, Local, Imported, Pointer, Slice, ExprTree, LinkTrees, no_link, LiteralTree, literal, ArgumentTrees, ElementTrees, OperandTrees}
+use Rattle.gr_tree.specs.Tree.{TypeTree, Local, Imported, Pointer, Slice, ExprTree, LinkTrees, no_link, LiteralTree, literal, ArgumentTrees, ElementTrees}
+use Rattle.gr_tree.specs.Tree.{OperandTrees}
 use Rattle.gr_tree.specs.View.{type_view, expr_view, literal_view, link_view, links_view, operands_view, arguments_view, elements_view}
-use Rattle.gr_tree.specs.WellFormed.{strength, strength_of, is_operand, is_binary_tree, IsExpr, IsExprIn, AreOperands, AreLinks, AreArguments, IsLiteral, IsLiteralType, AreElements, IsUnnamed, HasNoNamedLiteral, HaveNoNamedLiteral}
-use Rattle.gr_parse.specs.Grouping.{is_slice, is_literal_type, literal_type_of, IsUnary, IsOperand, IsLiteralIn, IsLink, IsJoined, IsSeparatedBy, IsSeparatedSoFar, AreItems, Each}
+use Rattle.gr_tree.specs.WellFormed.{strength, strength_of, is_operand, is_binary_tree, IsExpr, IsExprIn, AreOperands, AreLinks, AreArguments, IsLiteral}
+use Rattle.gr_tree.specs.WellFormed.{IsLiteralType, AreElements, IsUnnamed, HasNoNamedLiteral, HaveNoNamedLiteral}
+use Rattle.gr_parse.specs.Grouping.{is_slice, is_literal_type, literal_type_of, IsUnary, IsOperand, IsLiteralIn, IsLink, IsJoined, IsSeparatedBy}
+use Rattle.gr_parse.specs.Grouping.{IsSeparatedSoFar, AreItems, Each}
 
 clash : {X : Type 0} → false ≡ true → X
 clash e = absurd (let f : ⊥ = cc in f)
@@ -194,11 +200,17 @@ some_links (more_of-Link (link.Selector d n) rest) w e = cc
 some_links (more_of-Link (link.Index o x c) rest) w e = cc
 some_links (more_of-Link (link.Call' o shape row c) rest) w e = cc
 
-pub chain_grouped : (h : Bool) (e : _) (links : _) → let x = expr.Chain e links in IsOperand h (expr_view e.value) → Each IsLink links.items → links.items ≢ [] → IsUnary h (expr_view x)
+pub chain_grouped : (h : Bool) (e : _) (links : _) → let x = expr.Chain e links in
+    IsOperand h (expr_view e.value) → Each IsLink links.items → links.items ≢ [] → IsUnary h (expr_view x)
 unfolding expr_view IsExpr HasNoNamedLiteral
 chain_grouped h e links w each some = record {
   expr = record {
-    grouped = (w.bare, some_links (hidden-the_row-Link-0 links) (λ x. some (sym (items_hidden-the_row-Link-0 links) ∙ x)), w.expr.grouped, links_wf (hidden-the_row-Link-0 links) (subst (Each IsLink) (sym (items_hidden-the_row-Link-0 links)) each));
+    grouped = (
+      w.bare,
+      some_links (hidden-the_row-Link-0 links) (λ x. some (sym (items_hidden-the_row-Link-0 links) ∙ x)),
+      w.expr.grouped,
+      links_wf (hidden-the_row-Link-0 links) (subst (Each IsLink) (sym (items_hidden-the_row-Link-0 links)) each),
+    );
     unnamed = λ x. w.expr.unnamed x;
   };
   single = refl;
@@ -211,19 +223,28 @@ unfolding AreOperands operands_view
 joined_wf h k end_of-Operand w = tt
 joined_wf h k (more_of-Operand op p e rest) w = (w.0.same, w.0.stronger, w.0.expr.grouped, joined_wf h k rest w.1)
 
-joined_unnamed : (h : Bool) (k : ℕ) {n : _} (row : Row_of-Operand n) → Each (IsJoined h k) (items-the_row-Operand n row) → h ≡ true → HaveNoNamedLiteral (operands_view row)
+joined_unnamed : (h : Bool) (k : ℕ) {n : _} (row : Row_of-Operand n) → Each (IsJoined h k) (items-the_row-Operand n row) → h ≡ true →
+    HaveNoNamedLiteral (operands_view row)
 unfolding HaveNoNamedLiteral operands_view
 joined_unnamed h k end_of-Operand w x = tt
 joined_unnamed h k (more_of-Operand op p e rest) w x = (w.0.expr.unnamed x, joined_unnamed h k rest w.1 x)
 
-joined_tree : (h : Bool) (k : ℕ) {n : _} (row : Row_of-Operand n) (e : ExprTree) → IsExprIn h e → k < strength_of e → Each (IsJoined h k) (items-the_row-Operand n row) →
+joined_tree : (h : Bool) (k : ℕ) {n : _} (row : Row_of-Operand n) (e : ExprTree) → IsExprIn h e → k < strength_of e →
+    Each (IsJoined h k) (items-the_row-Operand n row) →
     items-the_row-Operand n row ≢ [] → IsExpr (tree.Binary e (operands_view row)) × (strength_of (tree.Binary e (operands_view row)) ≡ k)
 unfolding IsExpr operands_view
 joined_tree h k end_of-Operand e w strong each some = absurd (some refl)
-joined_tree h k (more_of-Operand op p f rest) e w strong each some =
-    ((subst (λ j. j < strength_of e) (sym each.0.same) strong, w.grouped, subst (λ j. AreOperands j (operands_view (more_of-Operand op p f rest))) (sym each.0.same) (joined_wf h k (more_of-Operand op p f rest) each)), each.0.same)
+joined_tree h k (more_of-Operand op p f rest) e w strong each some = (
+  (
+    subst (λ j. j < strength_of e) (sym each.0.same) strong,
+    w.grouped,
+    subst (λ j. AreOperands j (operands_view (more_of-Operand op p f rest))) (sym each.0.same) (joined_wf h k (more_of-Operand op p f rest) each),
+  ),
+  each.0.same,
+)
 
-pub binary_grouped : (h : Bool) (k : ℕ) (e : _) (os : _) → let x = expr.Binary e os in IsExprIn h (expr_view e.value) → k < strength_of (expr_view e.value) → Each (IsJoined h k) os.items → os.items ≢ [] →
+pub binary_grouped : (h : Bool) (k : ℕ) (e : _) (os : _) → let x = expr.Binary e os in
+    IsExprIn h (expr_view e.value) → k < strength_of (expr_view e.value) → Each (IsJoined h k) os.items → os.items ≢ [] →
     IsExprIn h (expr_view x)
 unfolding expr_view HasNoNamedLiteral
 binary_grouped h k e os w strong each some =
@@ -234,7 +255,8 @@ binary_grouped h k e os w strong each some =
       unnamed = λ x. (w.unnamed x, joined_unnamed h k (hidden-the_row-Operand-1 os) row x);
     }
 
-pub binary_strength : (h : Bool) (k : ℕ) (e : _) (os : _) → let x = expr.Binary e os in IsExprIn h (expr_view e.value) → k < strength_of (expr_view e.value) → Each (IsJoined h k) os.items → os.items ≢ [] →
+pub binary_strength : (h : Bool) (k : ℕ) (e : _) (os : _) → let x = expr.Binary e os in
+    IsExprIn h (expr_view e.value) → k < strength_of (expr_view e.value) → Each (IsJoined h k) os.items → os.items ≢ [] →
     strength_of (expr_view x) ≡ k
 unfolding expr_view
 binary_strength h k e os w strong each some =
@@ -255,7 +277,8 @@ some_is_not_none : {X : Type 0} (o : Option X) → is_some o ≡ true → o ≢ 
 some_is_not_none None e f = clash e
 some_is_not_none (Some x) e f = cc
 
-pub so_far_push : {X : Type 0} (f : X → Option ℕ) (more : Bool) (xs : List X) (x : X) → more ≡ true → IsSeparatedSoFar f more xs → IsSeparatedSoFar f (is_some (f x)) (xs ++ (x ∷ []))
+pub so_far_push : {X : Type 0} (f : X → Option ℕ) (more : Bool) (xs : List X) (x : X) → more ≡ true → IsSeparatedSoFar f more xs →
+    IsSeparatedSoFar f (is_some (f x)) (xs ++ (x ∷ []))
 so_far_push f more xs x go w = record {
   separated = separated_push f xs x (w.complete go);
   complete = λ e. each_push (λ y. f y ≢ None) xs x (w.complete go) (some_is_not_none (f x) e);
@@ -271,7 +294,8 @@ unfolding arguments_view
 no_arguments end_of-ExprItem e = refl
 no_arguments (more_of-ExprItem e c rest) x = cc
 
-arguments_wf : {n : _} (row : Row_of-ExprItem n) → Each (λ i. IsExpr (expr_view i.value)) (items-the_row-ExprItem n row) → IsSeparatedBy (λ i. i.comma) (items-the_row-ExprItem n row) → AreArguments (arguments_view row)
+arguments_wf : {n : _} (row : Row_of-ExprItem n) → Each (λ i. IsExpr (expr_view i.value)) (items-the_row-ExprItem n row) →
+    IsSeparatedBy (λ i. i.comma) (items-the_row-ExprItem n row) → AreArguments (arguments_view row)
 unfolding AreArguments arguments_view
 arguments_wf end_of-ExprItem w s = tt
 arguments_wf (more_of-ExprItem e c rest) w s = (λ x. no_arguments rest (s.0 x), w.0, arguments_wf rest w.1 s.1)
@@ -287,8 +311,11 @@ index_wf o e c w = (w.grouped, tt)
 pub call_wf : (o : ℕ) (xs : _) (c : ℕ) → let l = link.Call o xs c in AreItems xs.items → IsLink l
 unfolding AreLinks link_view
 call_wf o xs c w =
-    let same = items_hidden-the_row-ExprItem-2 xs in
-    (arguments_wf (hidden-the_row-ExprItem-2 xs) (subst (Each {X = ExprItem} (λ i. IsExpr (expr_view i.value))) (sym same) w.each) (subst (IsSeparatedBy {X = ExprItem} (λ i. i.comma)) (sym same) w.separated), tt)
+    let same = items_hidden-the_row-ExprItem-2 xs in (
+      arguments_wf (hidden-the_row-ExprItem-2 xs) (subst (Each {X = ExprItem} (λ i. IsExpr (expr_view i.value))) (sym same) w.each)
+          (subst (IsSeparatedBy {X = ExprItem} (λ i. i.comma)) (sym same) w.separated),
+      tt,
+    )
 
 -- literals
 
@@ -297,19 +324,27 @@ unfolding elements_view
 no_elements end_of-Element e = refl
 no_elements (more_of-Element k e c rest) x = cc
 
-elements_wf : {n : _} (row : Row_of-Element n) → Each (λ i. IsExpr (expr_view i.value)) (items-the_row-Element n row) → IsSeparatedBy (λ i. i.comma) (items-the_row-Element n row) → AreElements (elements_view row)
+elements_wf : {n : _} (row : Row_of-Element n) → Each (λ i. IsExpr (expr_view i.value)) (items-the_row-Element n row) →
+    IsSeparatedBy (λ i. i.comma) (items-the_row-Element n row) → AreElements (elements_view row)
 unfolding AreElements elements_view
 elements_wf end_of-Element w s = tt
 elements_wf (more_of-Element k e c rest) w s = (λ x. no_elements rest (s.0 x), w.0, elements_wf rest w.1 s.1)
 
-pub literal_wf : (t : TypeExpr) (o : ℕ) (es : _) (c : ℕ) → let l = literal_view (roll-CompositeLit (record { literal_type = t; «open» = o; elements = es; close = c })) in is_literal_type (type_view t) ≡ true → Each {X = Element} (λ i. IsExpr (expr_view i.value)) es.items → IsSeparatedBy {X = Element} (λ i. i.comma) es.items →
+pub literal_wf : (t : TypeExpr) (o : ℕ) (es : _) (c : ℕ) → let l =
+    literal_view (roll-CompositeLit (record { literal_type = t; «open» = o; elements = es; close = c })) in
+    is_literal_type (type_view t) ≡ true → Each {X = Element} (λ i. IsExpr (expr_view i.value)) es.items → IsSeparatedBy {X = Element} (λ i. i.comma) es.items →
     IsLiteral l
 unfolding IsLiteral literal_view roll-CompositeLit denote.Hole.Carrier.roll
 literal_wf t o es c named each separated =
-    let same = items_hidden-the_row-Element-3 es in
-    (literal_type_is (type_view t) named, elements_wf (hidden-the_row-Element-3 es) (subst (Each {X = Element} (λ i. IsExpr (expr_view i.value))) (sym same) each) (subst (IsSeparatedBy {X = Element} (λ i. i.comma)) (sym same) separated))
+    let same = items_hidden-the_row-Element-3 es in (
+      literal_type_is (type_view t) named,
+      elements_wf (hidden-the_row-Element-3 es)
+          (subst (Each {X = Element} (λ i. IsExpr (expr_view i.value))) (sym same) each)
+          (subst (IsSeparatedBy {X = Element} (λ i. i.comma)) (sym same) separated),
+    )
 
-pub literal_typed : (t : TypeExpr) (o : ℕ) (es : _) (c : ℕ) → literal_type_of (literal_view (roll-CompositeLit (record { literal_type = t; «open» = o; elements = es; close = c }))) ≡ type_view t
+pub literal_typed : (t : TypeExpr) (o : ℕ) (es : _) (c : ℕ) →
+    literal_type_of (literal_view (roll-CompositeLit (record { literal_type = t; «open» = o; elements = es; close = c }))) ≡ type_view t
 unfolding literal_view roll-CompositeLit denote.Hole.Carrier.roll
 literal_typed t o es c = refl
 

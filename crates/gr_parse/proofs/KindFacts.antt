@@ -39,10 +39,12 @@ kind_by_prefix k None = k
 kind_by_prefix k (Some op) = prefix_kind op
 
 pub binary_back : (k : Kind) (op : BinaryOp) → binary_of k ≡ Some op → k ≡ binary_kind op
-binary_back k op e = sym (is_only k (kind_by_binary k (binary_of k)) (each_kind (λ k. is k (kind_by_binary k (binary_of k))) refl refl k)) ∙ ap (kind_by_binary k) e
+binary_back k op e = sym (is_only k (kind_by_binary k (binary_of k)) (each_kind (λ k. is k (kind_by_binary k (binary_of k))) refl refl k)) ∙
+    ap (kind_by_binary k) e
 
 pub prefix_back : (k : Kind) (op : PrefixOp) → prefix_of k ≡ Some op → k ≡ prefix_kind op
-prefix_back k op e = sym (is_only k (kind_by_prefix k (prefix_of k)) (each_kind (λ k. is k (kind_by_prefix k (prefix_of k))) refl refl k)) ∙ ap (kind_by_prefix k) e
+prefix_back k op e = sym (is_only k (kind_by_prefix k (prefix_of k)) (each_kind (λ k. is k (kind_by_prefix k (prefix_of k))) refl refl k)) ∙
+    ap (kind_by_prefix k) e
 
 pub binary_some : (k : Kind) (op : BinaryOp) → binary_of k ≡ Some op → is_binary k ≡ true
 binary_some k op e = ap is_some e

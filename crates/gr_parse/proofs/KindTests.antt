@@ -1,12 +1,19 @@
 -- Tests on kinds of tokens.
 use Rattle.std.proofs.Common.{◌≡◌, true, List, [], ◌∷◌, get_or, ap, sym, ◌∙◌, eq-eqb, refl}
 use Rattle.gr_tree.specs.declared.syntax.Kind.{Kind}
-use Rattle.gr_tree.specs.declared.syntax.Kind.TheVariants.{Name, Blank, Number, Text, LeftParen, RightParen, LeftBracket, RightBracket, LeftBrace, RightBrace, Comma, Dot, Colon, Semicolon, Plus, Minus, Star, Slash, Percent, Equal, NotEqual, Less, LessEqual, Greater, GreaterEqual, AndAnd, OrOr, Not, Ampersand, Assign, Define, AddAssign, SubAssign, MulAssign, DivAssign, RemAssign, Increment, Decrement, If, Else, For, Break, Continue, Return, Var, Package, Import, Func, TypeWord, Struct, Other}
+use Rattle.gr_tree.specs.declared.syntax.Kind.TheVariants.{Name, Blank, Number, Text, LeftParen, RightParen, LeftBracket, RightBracket, LeftBrace}
+use Rattle.gr_tree.specs.declared.syntax.Kind.TheVariants.{RightBrace, Comma, Dot, Colon, Semicolon, Plus, Minus, Star, Slash, Percent, Equal, NotEqual}
+use Rattle.gr_tree.specs.declared.syntax.Kind.TheVariants.{Less, LessEqual, Greater, GreaterEqual, AndAnd, OrOr, Not, Ampersand, Assign, Define, AddAssign}
+use Rattle.gr_tree.specs.declared.syntax.Kind.TheVariants.{SubAssign, MulAssign, DivAssign, RemAssign, Increment, Decrement, If, Else, For, Break, Continue}
+use Rattle.gr_tree.specs.declared.syntax.Kind.TheVariants.{Return, Var, Package, Import, Func, TypeWord, Struct, Other}
 use Rattle.std.proofs.lemmas.Bool.{eqb-true}
 use Rattle.gr_tree.specs.Grammar.{number_of, is}
 
 abbrev pub kinds : List Kind
-kinds = Name ∷ Blank ∷ Number ∷ Text ∷ LeftParen ∷ RightParen ∷ LeftBracket ∷ RightBracket ∷ LeftBrace ∷ RightBrace ∷ Comma ∷ Dot ∷ Colon ∷ Semicolon ∷ Plus ∷ Minus ∷ Star ∷ Slash ∷ Percent ∷ Equal ∷ NotEqual ∷ Less ∷ LessEqual ∷ Greater ∷ GreaterEqual ∷ AndAnd ∷ OrOr ∷ Not ∷ Ampersand ∷ Assign ∷ Define ∷ AddAssign ∷ SubAssign ∷ MulAssign ∷ DivAssign ∷ RemAssign ∷ Increment ∷ Decrement ∷ If ∷ Else ∷ For ∷ Break ∷ Continue ∷ Return ∷ Var ∷ Package ∷ Import ∷ Func ∷ TypeWord ∷ Struct ∷ Other ∷ []
+kinds = Name ∷ Blank ∷ Number ∷ Text ∷ LeftParen ∷ RightParen ∷ LeftBracket ∷ RightBracket ∷ LeftBrace ∷ RightBrace ∷ Comma ∷ Dot ∷ Colon ∷ Semicolon ∷ Plus
+    ∷ Minus ∷ Star ∷ Slash ∷ Percent ∷ Equal ∷ NotEqual ∷ Less ∷ LessEqual ∷ Greater ∷ GreaterEqual ∷ AndAnd ∷ OrOr ∷ Not ∷ Ampersand ∷ Assign ∷ Define ∷
+    AddAssign ∷ SubAssign ∷ MulAssign ∷ DivAssign ∷ RemAssign ∷ Increment ∷ Decrement ∷ If ∷ Else ∷ For ∷ Break ∷ Continue ∷ Return ∷ Var ∷ Package ∷ Import
+    ∷ Func ∷ TypeWord ∷ Struct ∷ Other ∷ []
 
 pub at_number : (k : Kind) → get_or kinds (number_of k) Name ≡ k
 at_number Name = refl

@@ -7,7 +7,8 @@ use Rattle.gr_tree.specs.declared.tree.Expr.{Expr}
 use Rattle.gr_tree.specs.declared.tree.ExprItem.{ExprItem}
 use Rattle.gr_tree.specs.declared.tree.Element.{Element}
 use Rattle.gr_tree.specs.declared.tree.TypeExpr.{TypeExpr}
-use Rattle.gr_tree.specs.Tree.{TypeTree, Local, Imported, Pointer, Slice, ExprTree, Number, Text, Name, Blank, Composite, Paren, Prefix, Address, Chain, Binary, LiteralTree, literal}
+use Rattle.gr_tree.specs.Tree.{TypeTree, Local, Imported, Pointer, Slice, ExprTree, Number, Text, Name, Blank, Composite, Paren, Prefix, Address, Chain}
+use Rattle.gr_tree.specs.Tree.{Binary, LiteralTree, literal}
 use Rattle.gr_tree.specs.Flatten.{sign, sign_if, type_tokens, expr_tokens, literal_tokens, link_tokens, operand_tokens, element_tokens, key_tokens, prefix_kind}
 use Rattle.gr_tree.specs.View.{type_view, expr_view, key_view}
 use Rattle.gr_parse.specs.Spelling.{type_spelled, expr_spelled, expr_item_spelled, element_spelled}
@@ -35,7 +36,8 @@ type_tree_some (Slice o c t) = some_here (sign kind.LeftBracket o) (sign kind.Ri
 
 literal_tree_some : (l : LiteralTree) → 1 ≤ length (literal_tokens l)
 unfolding literal_tokens
-literal_tree_some (literal t o es c) = some_left (type_tokens t) (sign kind.LeftBrace o ∷ (element_tokens es ++ (sign kind.RightBrace c ∷ []))) (type_tree_some t)
+literal_tree_some (literal t o es c) = some_left (type_tokens t) (sign kind.LeftBrace o ∷ (element_tokens es ++ (sign kind.RightBrace c ∷ [])))
+    (type_tree_some t)
 
 pub expr_tree_some : (e : ExprTree) → 1 ≤ length (expr_tokens e)
 unfolding expr_tokens
@@ -60,7 +62,8 @@ pub expr_item_some : (i : ExprItem) → 1 ≤ length (expr_item_spelled i)
 expr_item_some i = some_left (expr_spelled i.value) (sign_if kind.Comma i.comma) (expr_some i.value)
 
 pub element_some : (e : Element) → 1 ≤ length (element_spelled e)
-element_some e = some_right (key_tokens (key_view e.key)) (expr_spelled e.value ++ sign_if kind.Comma e.comma) (some_left (expr_spelled e.value) (sign_if kind.Comma e.comma) (expr_some e.value))
+element_some e = some_right (key_tokens (key_view e.key)) (expr_spelled e.value ++ sign_if kind.Comma e.comma)
+    (some_left (expr_spelled e.value) (sign_if kind.Comma e.comma) (expr_some e.value))
 
 -- what is left behind some tokens
 

@@ -31,7 +31,8 @@ listed_none P item xs e = subst (λ xs. IsListed P item true xs) (sym e) (record
   joined = λ h. clash h;
 })
 
-listed_more : {X Y : Type 0} (P : Y → Type 0) (item : X → Item Y) (xs : List X) (x : X) (more b : Bool) → IsListed P item more xs → more ≡ true → P (item x).value →
+listed_more : {X Y : Type 0} (P : Y → Type 0) (item : X → Item Y) (xs : List X) (x : X) (more b : Bool) → IsListed P item more xs → more ≡ true →
+    P (item x).value →
     b ≡ is_some (item x).separator → IsListed P item b (xs ++ (x ∷ []))
 listed_more P item xs x more b w go h same = record {
   each = All-append (λ x. P (item x).value) xs (x ∷ []) w.each (All-cons (λ x. P (item x).value) x [] h (All-nil (λ x. P (item x).value)));
@@ -39,7 +40,8 @@ listed_more P item xs x more b w go h same = record {
   joined = λ e. push_joined (λ x. (item x).separator) xs x (w.complete go) (not_some (item x).separator (sym same ∙ e));
 }
 
-pub listed_push : {X Y : Type 0} (P : Y → Type 0) (item : X → Item Y) (xs ys : List X) (x : X) (more b : Bool) → IsListed P item more xs → more ≡ true → P (item x).value →
+pub listed_push : {X Y : Type 0} (P : Y → Type 0) (item : X → Item Y) (xs ys : List X) (x : X) (more b : Bool) → IsListed P item more xs → more ≡ true →
+    P (item x).value →
     b ≡ is_some (item x).separator → ys ≡ xs ++ (x ∷ []) → IsListed P item b ys
 listed_push P item xs ys x more b w go h same e = subst (λ ys. IsListed P item b ys) (sym e) (listed_more P item xs x more b w go h same)
 
@@ -53,7 +55,8 @@ joined_map item (x ∷ []) h = h
 joined_map item (x ∷ (y ∷ ys)) h = (h.0, joined_map item (y ∷ ys) h.1)
 
 -- a list without brackets, at its end
-pub listed_list : {X Y : Type 0} (P : Y → Type 0) (item : X → Item Y) (xs : List X) (more : Bool) → IsListed P item more xs → more ≡ false → IsList P (map item xs)
+pub listed_list : {X Y : Type 0} (P : Y → Type 0) (item : X → Item Y) (xs : List X) (more : Bool) → IsListed P item more xs → more ≡ false →
+    IsList P (map item xs)
 listed_list P item xs more w e = record {
   some = joined_some item xs (w.joined e);
   joined = joined_map item xs (w.joined e);
@@ -79,7 +82,8 @@ listed_open P item xs true w = record { separated = complete_separated item xs (
 listed_open P item xs false w = record { separated = joined_separated item xs (w.joined refl); each = All-map (λ y. P y.value) item xs w.each }
 
 -- at the end of a list without brackets
-pub listed_false : {X Y : Type 0} (P : Y → Type 0) (item : X → Item Y) (xs : List X) (more : Bool) → IsListed P item more xs → more ≡ false → IsListed P item false xs
+pub listed_false : {X Y : Type 0} (P : Y → Type 0) (item : X → Item Y) (xs : List X) (more : Bool) → IsListed P item more xs → more ≡ false →
+    IsListed P item false xs
 listed_false P item xs more w e = subst (λ b. IsListed P item b xs) e w
 
 -- all of a list

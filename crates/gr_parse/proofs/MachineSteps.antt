@@ -78,27 +78,35 @@ read_as {rest = rest} r e = record { text = r.text ∙ ap (λ x. x ++ rest) e; p
 -- an opening token
 pub passes_opening : (k : Kind) (t : Token) (d : ℕ) (ts rest : List Token) → ts ≡ t ∷ rest → is k t.kind ≡ true → d < limit →
     Passes (Opening (is k) ∷ []) d ts (d + 1) rest
-passes_opening k t d ts rest e same below = record { runs = λ after o r. subst (λ ts. Run d (Opening (is k) ∷ after) ts o) (sym e) (opens same below (rw (← add-one) r)) }
+passes_opening k t d ts rest e same below = record
+    { runs = λ after o r. subst (λ ts. Run d (Opening (is k) ∷ after) ts o) (sym e) (opens same below (rw (← add-one) r)) }
 
 pub refuses_opening : (c : Kind → Bool) (d : ℕ) (ts : List Token) → at c ts ≡ false → Fails (Opening c ∷ []) d ts (Fault Syntax (length ts))
 refuses_opening c d ts e = fails_so _ _ _ _ _ (λ after. refused_opening e)
 
 pub opens_too_deep : (c : Kind → Bool) (t : Token) (d : ℕ) (ts rest : List Token) → ts ≡ t ∷ rest → c t.kind ≡ true → limit ≤ d →
     Fails (Opening c ∷ []) d ts (Fault Nesting (length ts))
-opens_too_deep c t d ts rest e same above = fails_so _ _ _ _ _ (λ after. subst (λ ts. Run d (Opening c ∷ after) ts (Stopped Nesting (length ts))) (sym e) (too_deep same above))
+opens_too_deep c t d ts rest e same above = fails_so _ _ _ _ _
+    (λ after. subst (λ ts. Run d (Opening c ∷ after) ts (Stopped Nesting (length ts))) (sym e) (too_deep same above))
 
 -- faults, and exits by `?`
 
 pub fails_first : {s : Symbol} {ss : List Symbol} {d : ℕ} {ts : List Token} {e : ParseError} → Fails (s ∷ []) d ts e → Fails (s ∷ ss) d ts e
 fails_first {ss = ss} f = record { stops = λ k l same after. f.stops k l same (ss ++ after) }
 
-pub fails_later : {s : Symbol} {ss : List Symbol} {a : List Token} {d f : ℕ} {ts mid : List Token} {e : ParseError} → Read (s ∷ []) a d ts f mid → Fails ss f mid e → Fails (s ∷ ss) d ts e
+pub fails_later : {s : Symbol} {ss : List Symbol} {a : List Token} {d f : ℕ} {ts mid : List Token} {e : ParseError} → Read (s ∷ []) a d ts f mid →
+    Fails ss f mid e → Fails (s ∷ ss) d ts e
 fails_later {ss = ss} p f = record { stops = λ k l same after. p.passes.runs (ss ++ after) _ (f.stops k l same after) }
 
 pub fails_close : {ss : List Symbol} {d e : ℕ} {ts : List Token} {x : ParseError} → e ≡ d + 1 → Fails ss d ts x → Fails (Close ∷ ss) e ts x
-fails_close {ss = ss} {d = d} {ts = ts} deeper f = record { stops = λ k l same after. subst (λ e. Run e (Close ∷ (ss ++ after)) ts (Stopped k l)) (sym (deeper ∙ add-one d)) (closes (f.stops k l same after)) }
+fails_close {ss = ss} {d = d} {ts = ts} deeper f =
+    record {
+      stops = λ k l same after.
+          subst (λ e. Run e (Close ∷ (ss ++ after)) ts (Stopped k l)) (sym (deeper ∙ add-one d)) (closes (f.stops k l same after));
+    }
 
-pub fails_rule : {p : Part} {then : List Symbol} {d : ℕ} {ts : List Token} {e : ParseError} → Selects (rules p) ts then → Fails then d ts e → Fails (A p ∷ []) d ts e
+pub fails_rule : {p : Part} {then : List Symbol} {d : ℕ} {ts : List Token} {e : ParseError} → Selects (rules p) ts then → Fails then d ts e →
+    Fails (A p ∷ []) d ts e
 fails_rule s f = record { stops = λ k l same after. expand s (f.stops k l same after) }
 
 pub exits : {Y : Type 0} (found : Y → Type 0) (symbols : List Symbol) (d : ℕ) (ts : List Token) (e : ParseError) (r : Result Y ParseError) →
@@ -107,7 +115,8 @@ exits found symbols d ts e (Ok y) a f = absurd a
 exits found symbols d ts e (Err x) a f = subst (λ e. Fails symbols d ts e) (sym a) f
 
 -- the last call of a function whose rule begins with one symbol
-pub ends_with : {Y : Type 0} (p : Part) (s : Symbol) (ss : List Symbol) (begun : List Token) (spelled rest : Y → List Token) (d : ℕ) (ts mid : List Token) (r : Result Y ParseError) →
+pub ends_with : {Y : Type 0} (p : Part) (s : Symbol) (ss : List Symbol) (begun : List Token) (spelled rest : Y → List Token) (d : ℕ) (ts mid : List Token)
+    (r : Result Y ParseError) →
     Selects (rules p) ts (s ∷ ss) → Read (s ∷ []) begun d ts d mid → Continues ss begun spelled rest d mid r → Parses (A p ∷ []) spelled rest d ts r
 ends_with p s ss begun spelled rest d ts mid (Ok y) chosen h c = record {
   text = h.text ∙ c.text;
@@ -153,7 +162,8 @@ pub leads_to_end : {p : Part} {ss : List Symbol} {a : List Token} {d : ℕ} {ts 
     Leads ss (A p ∷ []) a d ts d rest → Selects (rules p) rest [] → Read ss a d ts d rest
 leads_to_end l s = record { text = l.text; passes = record { runs = λ after o r. l.leads after o (expand s r) } }
 
-pub fails_leads : {x y : List Symbol} {a : List Token} {d f : ℕ} {ts mid : List Token} {e : ParseError} → Leads x y a d ts f mid → Fails y f mid e → Fails x d ts e
+pub fails_leads : {x y : List Symbol} {a : List Token} {d f : ℕ} {ts mid : List Token} {e : ParseError} → Leads x y a d ts f mid → Fails y f mid e →
+    Fails x d ts e
 fails_leads l f = record { stops = λ k n same after. l.leads after _ (f.stops k n same after) }
 
 pub begins_with : {t : Token} (c : Kind → Bool) (ts rest : List Token) → c t.kind ≡ true → ts ≡ t ∷ rest → at c ts ≡ true
@@ -191,10 +201,16 @@ read_append {xs = xs} {ys = ys} {a = a} {b = b} {d = d} {ts = ts} {rest = rest} 
 -- sequences of several symbols
 
 pub fails_more : {xs : List Symbol} (ys : List Symbol) {d : ℕ} {ts : List Token} {e : ParseError} → Fails xs d ts e → Fails (xs ++ ys) d ts e
-fails_more {xs = xs} ys {d = d} {ts = ts} f = record { stops = λ k l same after. subst (λ s. Run d s ts (Stopped k l)) (sym (append_assoc xs ys after)) (f.stops k l same (ys ++ after)) }
+fails_more {xs = xs} ys {d = d} {ts = ts} f = record
+    { stops = λ k l same after. subst (λ s. Run d s ts (Stopped k l)) (sym (append_assoc xs ys after)) (f.stops k l same (ys ++ after)) }
 
-pub fails_after : {xs ys : List Symbol} {a : List Token} {d e : ℕ} {ts mid : List Token} {x : ParseError} → Read xs a d ts e mid → Fails ys e mid x → Fails (xs ++ ys) d ts x
-fails_after {xs = xs} {ys = ys} {d = d} {ts = ts} p f = record { stops = λ k l same after. subst (λ s. Run d s ts (Stopped k l)) (sym (append_assoc xs ys after)) (p.passes.runs (ys ++ after) _ (f.stops k l same after)) }
+pub fails_after : {xs ys : List Symbol} {a : List Token} {d e : ℕ} {ts mid : List Token} {x : ParseError} → Read xs a d ts e mid → Fails ys e mid x →
+    Fails (xs ++ ys) d ts x
+fails_after {xs = xs} {ys = ys} {d = d} {ts = ts} p f =
+    record {
+      stops = λ k l same after.
+          subst (λ s. Run d s ts (Stopped k l)) (sym (append_assoc xs ys after)) (p.passes.runs (ys ++ after) _ (f.stops k l same after));
+    }
 
 -- goes on from what has been read
 pub read_on : {xs ys : List Symbol} {a b : List Token} {d : ℕ} {ts mid rest : List Token} →
@@ -208,7 +224,8 @@ pub read_through : {x y : List Symbol} {a : List Token} {d e : ℕ} {ts rest : L
 read_through l r = record { text = r.text; passes = record { runs = λ after o t. l.leads after o (r.passes.runs after o t) } }
 
 -- a last call that goes on from what has been read
-pub tail_on : {Y : Type 0} {xs : List Symbol} (ys : List Symbol) {a : List Token} (spelled rest : Y → List Token) {d : ℕ} {ts : List Token} (mid : List Token) (r : Result Y ParseError) →
+pub tail_on : {Y : Type 0} {xs : List Symbol} (ys : List Symbol) {a : List Token} (spelled rest : Y → List Token) {d : ℕ} {ts : List Token}
+    (mid : List Token) (r : Result Y ParseError) →
     Read xs a d ts d mid → Continues ys a spelled rest d mid r → Parses (xs ++ ys) spelled rest d ts r
 tail_on ys spelled rest mid (Ok y) p c = read_on p c
 tail_on ys spelled rest mid (Err e) p c = fails_after p c

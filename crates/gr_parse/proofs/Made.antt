@@ -12,10 +12,12 @@ pub record Made (ss : List Symbol) (vs : Values ss) (ts : List Token) : Type 0 w
   pub by : Derives ss ts
   pub gives : value by ≡ vs
 
-pub one : {c : Kind → Bool} {t : Token} {ss : List Symbol} {vs : Values ss} {ts : List Token} → c t.kind ≡ true → Made ss vs ts → Made (One c ∷ ss) (t, vs) (t ∷ ts)
+pub one : {c : Kind → Bool} {t : Token} {ss : List Symbol} {vs : Values ss} {ts : List Token} → c t.kind ≡ true → Made ss vs ts →
+    Made (One c ∷ ss) (t, vs) (t ∷ ts)
 one {t = t} e m = record { by = token e m.by; gives = ap (λ v. (t, v)) m.gives }
 
-pub opens : {c : Kind → Bool} {t : Token} {ss : List Symbol} {vs : Values ss} {ts : List Token} → c t.kind ≡ true → Made ss vs ts → Made (Opening c ∷ ss) (t, vs) (t ∷ ts)
+pub opens : {c : Kind → Bool} {t : Token} {ss : List Symbol} {vs : Values ss} {ts : List Token} → c t.kind ≡ true → Made ss vs ts →
+    Made (Opening c ∷ ss) (t, vs) (t ∷ ts)
 opens {t = t} e m = record { by = opening e m.by; gives = ap (λ v. (t, v)) m.gives }
 
 pub closes : {ss : List Symbol} {vs : Values ss} {ts : List Token} → Made ss vs ts → Made (Close ∷ ss) vs ts

@@ -6,11 +6,16 @@ use Rattle.gr_tree.specs.declared.syntax.BinaryOp.{BinaryOp}
 use Rattle.gr_tree.specs.declared.syntax.BinaryOp.TheVariants as binary
 use Rattle.gr_tree.specs.declared.syntax.PrefixOp.{PrefixOp}
 use Rattle.gr_tree.specs.declared.syntax.PrefixOp.TheVariants as prefix
-use Rattle.gr_tree.specs.Grammar.{Symbol, Close, A, is_binary, is_prefix, Expression, Binaries, Unary, Operand, AfterName, AfterSelector, Links, Arguments, MoreArguments, Address as AddressPart, Elements, ElementList, MoreElements, Element}
+use Rattle.gr_tree.specs.Grammar.{Symbol, Close, A, is_binary, is_prefix, Expression, Binaries, Unary, Operand, AfterName, AfterSelector, Links, Arguments}
+use Rattle.gr_tree.specs.Grammar.{MoreArguments, Address as AddressPart, Elements, ElementList, MoreElements, Element}
 use Rattle.gr_tree.specs.Language.{tested, untested, below}
-use Rattle.gr_tree.specs.Tree.{TypeTree, Local, Imported, Pointer, Slice, ExprTree, Number, Text, Name, Blank, Composite, Paren, Prefix, Address, Chain, Binary, OperandTrees, no_operand, operand, LinkTrees, no_link, selector, index, call, ArgumentTrees, no_argument, argument, literal, ElementTrees, no_element, element}
-use Rattle.gr_tree.specs.Flatten.{sign, sign_if, binary_kind, prefix_kind, type_tokens, expr_tokens, operand_tokens, link_tokens, argument_tokens, literal_tokens, element_tokens}
-use Rattle.gr_tree.specs.WellFormed.{is_operand, is_binary_tree, IsLiteralType, IsUnnamed, IsExpr, AreOperands, AreLinks, AreArguments, AreElements, HasNoNamedLiteral, HaveNoNamedLiteral, IsExprIn, strength}
+use Rattle.gr_tree.specs.Tree.{TypeTree, Local, Imported, Pointer, Slice, ExprTree, Number, Text, Name, Blank, Composite, Paren, Prefix, Address, Chain}
+use Rattle.gr_tree.specs.Tree.{Binary, OperandTrees, no_operand, operand, LinkTrees, no_link, selector, index, call, ArgumentTrees, no_argument, argument}
+use Rattle.gr_tree.specs.Tree.{literal, ElementTrees, no_element, element}
+use Rattle.gr_tree.specs.Flatten.{sign, sign_if, binary_kind, prefix_kind, type_tokens, expr_tokens, operand_tokens, link_tokens, argument_tokens}
+use Rattle.gr_tree.specs.Flatten.{literal_tokens, element_tokens}
+use Rattle.gr_tree.specs.WellFormed.{is_operand, is_binary_tree, IsLiteralType, IsUnnamed, IsExpr, AreOperands, AreLinks, AreArguments, AreElements}
+use Rattle.gr_tree.specs.WellFormed.{HasNoNamedLiteral, HaveNoNamedLiteral, IsExprIn, strength}
 use Rattle.gr_parse.proofs.Predictive.{no}
 use Rattle.gr_parse.proofs.Precedence.{head_of, tail_of, spread, grouped, grouped-tail_of}
 use Rattle.gr_parse.proofs.Values.{binary_op, prefix_op, chain}
@@ -93,12 +98,15 @@ abbrev pub MakesExpr : Bool → ExprTree → Type 0
 MakesExpr h e = (ss : List Symbol) (vs : Values ss) (ts : List Token) → Made ss vs ts → Made (A (Expression h) ∷ ss) (e, vs) (expr_tokens e ++ ts)
 
 abbrev MakesArguments : ArgumentTrees → Type 0
-MakesArguments xs = (c : ℕ) (ss : List Symbol) (vs : Values ss) (ts : List Token) → Made ss vs ts → Made (A Arguments ∷ ss) ((xs, c), vs) (argument_tokens xs ++ (sign kind.RightParen c ∷ ts))
+MakesArguments xs = (c : ℕ) (ss : List Symbol) (vs : Values ss) (ts : List Token) → Made ss vs ts →
+    Made (A Arguments ∷ ss) ((xs, c), vs) (argument_tokens xs ++ (sign kind.RightParen c ∷ ts))
 
 abbrev MakesElements : ElementTrees → Type 0
-MakesElements es = (c : ℕ) (ss : List Symbol) (vs : Values ss) (ts : List Token) → Made ss vs ts → Made (A ElementList ∷ ss) ((es, c), vs) (element_tokens es ++ (sign kind.RightBrace c ∷ ts))
+MakesElements es = (c : ℕ) (ss : List Symbol) (vs : Values ss) (ts : List Token) → Made ss vs ts →
+    Made (A ElementList ∷ ss) ((es, c), vs) (element_tokens es ++ (sign kind.RightBrace c ∷ ts))
 
-linked_index : (h : Bool) (o : ℕ) (e : ExprTree) (c : ℕ) {ss : List Symbol} {vs : Values ss} {ls : LinkTrees} {ts : List Token} → MakesExpr false e → Linked h ss vs ls ts →
+linked_index : (h : Bool) (o : ℕ) (e : ExprTree) (c : ℕ) {ss : List Symbol} {vs : Values ss} {ls : LinkTrees} {ts : List Token} → MakesExpr false e →
+    Linked h ss vs ls ts →
     Linked h ss vs (index o e c ls) (sign kind.LeftBracket o ∷ (expr_tokens e ++ (sign kind.RightBracket c ∷ ts)))
 linked_index true o e c f k = record {
   links = rule (below tested) (opens refl (f _ _ _ (one refl (closes k.links)))) refl;
@@ -111,7 +119,8 @@ linked_index false o e c f k = record {
   after_selector = rule (below (below tested)) (opens refl (f _ _ _ (one refl (closes k.links)))) refl;
 }
 
-linked_call : (h : Bool) (o : ℕ) (xs : ArgumentTrees) (c : ℕ) {ss : List Symbol} {vs : Values ss} {ls : LinkTrees} {ts : List Token} → MakesArguments xs → Linked h ss vs ls ts →
+linked_call : (h : Bool) (o : ℕ) (xs : ArgumentTrees) (c : ℕ) {ss : List Symbol} {vs : Values ss} {ls : LinkTrees} {ts : List Token} → MakesArguments xs →
+    Linked h ss vs ls ts →
     Linked h ss vs (call o xs c ls) (sign kind.LeftParen o ∷ (argument_tokens xs ++ (sign kind.RightParen c ∷ ts)))
 linked_call true o xs c f k = record {
   links = rule (below (below tested)) (opens refl (f c _ _ _ (closes k.links))) refl;
@@ -130,7 +139,8 @@ braced : (o : ℕ) (es : ElementTrees) (c : ℕ) → MakesElements es → {ss : 
     Made (A Elements ∷ ss) ((λ t. literal t o es c), vs) (sign kind.LeftBrace o ∷ ((element_tokens es ++ (sign kind.RightBrace c ∷ [])) ++ ts))
 braced o es c f {ts = ts} m = rule untested (opens refl (along (append_assoc (element_tokens es) (sign kind.RightBrace c ∷ []) ts) (f c _ _ _ (closes m)))) refl
 
-literal_starts : (h : Bool) (t : TypeTree) (o : ℕ) (es : ElementTrees) (c : ℕ) → IsLiteralType t → (h ≡ true → IsUnnamed (literal t o es c)) → MakesElements es →
+literal_starts : (h : Bool) (t : TypeTree) (o : ℕ) (es : ElementTrees) (c : ℕ) → IsLiteralType t → (h ≡ true → IsUnnamed (literal t o es c)) →
+    MakesElements es →
     (ls : LinkTrees) (ss : List Symbol) (vs : Values ss) (ts : List Token) → Linked h ss vs ls ts →
     Starts h ss vs (chain (Composite (literal t o es c)) ls) (literal_tokens (literal t o es c) ++ ts)
 unfolding expr_tokens type_tokens
@@ -160,7 +170,8 @@ addressed true (Slice b d t) o es c w u f {ts = ts} m =
     rule untested (opens refl (one refl (along (append_assoc (type_tokens t) (sign kind.LeftBrace o ∷ (element_tokens es ++ (sign kind.RightBrace c ∷ []))) ts)
     (made_type t (closes (braced o es c f m)))))) refl
 addressed false (Slice b d t) o es c w u f {ts = ts} m =
-    rule (below untested) (opens refl (one refl (along (append_assoc (type_tokens t) (sign kind.LeftBrace o ∷ (element_tokens es ++ (sign kind.RightBrace c ∷ []))) ts)
+    rule (below untested) (opens refl (one refl (along
+    (append_assoc (type_tokens t) (sign kind.LeftBrace o ∷ (element_tokens es ++ (sign kind.RightBrace c ∷ []))) ts)
     (made_type t (closes (braced o es c f m)))))) refl
 
 -- what follows an argument, or an element
@@ -176,7 +187,8 @@ more_arguments None rest c q f {ss = ss} {vs = vs} {ts = ts} m =
 
 more_elements : (comma : Option ℕ) (rest : ElementTrees) (c : ℕ) → (comma ≡ None → rest ≡ no_element) → MakesElements rest →
     {ss : List Symbol} {vs : Values ss} {ts : List Token} → Made ss vs ts →
-    Made (A MoreElements ∷ ss) ((λ key e. (element key e comma rest, c)), vs) (sign_if kind.Comma comma ++ (element_tokens rest ++ (sign kind.RightBrace c ∷ ts)))
+    Made (A MoreElements ∷ ss) ((λ key e. (element key e comma rest, c)), vs)
+    (sign_if kind.Comma comma ++ (element_tokens rest ++ (sign kind.RightBrace c ∷ ts)))
 unfolding expr_tokens
 more_elements (Some p) rest c q f m = rule tested (one refl (f c _ _ _ m)) refl
 more_elements None rest c q f {ss = ss} {vs = vs} {ts = ts} m =
@@ -242,11 +254,13 @@ mutual
       (along (append_assoc (expr_tokens e) (sign kind.RightParen c ∷ []) ts) (f _ _ _ (one refl (closes k.links))))) refl))
   ready (Prefix op p e) h w u =
       let r = ready e h w.1 u in
-      other_ready h (Prefix op p e) refl refl (λ ss vs ts m. by_operand (rule tested (opens (prefix_fits op) (unary_of (r.stands w.0 (Close ∷ ss) vs ts (closes m))))
+      other_ready h (Prefix op p e) refl refl (λ ss vs ts m.
+      by_operand (rule tested (opens (prefix_fits op) (unary_of (r.stands w.0 (Close ∷ ss) vs ts (closes m))))
       (ap (λ x. (Prefix x p e, vs)) (prefix_back op))))
   ready (Address p (literal t o es c)) h w u =
       let f = elements es w.1 in
-      other_ready h (Address p (literal t o es c)) refl refl (λ ss vs ts m. by_operand (rule (below tested) (opens refl (addressed h t o es c w.0 u f (closes m))) refl))
+      other_ready h (Address p (literal t o es c)) refl refl
+      (λ ss vs ts m. by_operand (rule (below tested) (opens refl (addressed h t o es c w.0 u f (closes m))) refl))
   ready (Chain e ls) h w u =
       let r = ready e h w.2 u in
       let l = links ls h w.3 in
@@ -259,7 +273,8 @@ mutual
       record {
         operates = λ q. absurd (no q);
         stands = λ q. absurd (no (sym q));
-        spreads = λ ss vs more ts m. starts_along (append_assoc (expr_tokens e) (operand_tokens os) ts) (r.spreads ss vs (spread os more) (operand_tokens os ++ ts) (f ss vs more ts m));
+        spreads = λ ss vs more ts m. starts_along (append_assoc (expr_tokens e) (operand_tokens os) ts)
+            (r.spreads ss vs (spread os more) (operand_tokens os ++ ts) (f ss vs more ts m));
       }
 
   operands : (os : OperandTrees) (h : Bool) (k : ℕ) → AreOperands k os → (h ≡ true → HaveNoNamedLiteral os) →
@@ -272,7 +287,8 @@ mutual
       (unary_of (r.spreads ss vs (spread os more) (operand_tokens os ++ ts) (operands os h k w.3 (λ q. (u q).1) ss vs more ts m)))))
       (ap (λ x. (operand x p (head_of e) (tail_of e (spread os more)), vs)) (binary_back op))
 
-  links : (ls : LinkTrees) (h : Bool) → AreLinks ls → (ss : List Symbol) (vs : Values ss) (ts : List Token) → Made ss vs ts → Linked h ss vs ls (link_tokens ls ++ ts)
+  links : (ls : LinkTrees) (h : Bool) → AreLinks ls → (ss : List Symbol) (vs : Values ss) (ts : List Token) → Made ss vs ts →
+      Linked h ss vs ls (link_tokens ls ++ ts)
   links no_link h w ss vs ts m = linked_none h m
   links (selector d n ls) h w ss vs ts m = linked_selector h d n (links ls h w ss vs ts m)
   links (index o e c ls) h w ss vs ts m =
@@ -303,7 +319,8 @@ mutual
   elements (element (Some key) e comma rest) w c ss vs ts m =
       let f = expr_of false e w.1 (ready e false w.1 (λ q. absurd (no q))) in
       let k = more_elements comma rest c w.0 (elements rest w.2) m in
-      along (ap (λ x. sign kind.Name key.0 ∷ sign kind.Colon key.1 ∷ x) (append_assoc (expr_tokens e) (sign_if kind.Comma comma ++ element_tokens rest) (sign kind.RightBrace c ∷ ts)
+      along (ap (λ x. sign kind.Name key.0 ∷ sign kind.Colon key.1 ∷ x)
+      (append_assoc (expr_tokens e) (sign_if kind.Comma comma ++ element_tokens rest) (sign kind.RightBrace c ∷ ts)
       ∙ ap (λ x. expr_tokens e ++ x) (append_assoc (sign_if kind.Comma comma) (element_tokens rest) (sign kind.RightBrace c ∷ ts))))
       (rule (below untested) (rule tested (one refl (rule tested (one refl (f _ _ _ k)) refl)) refl) refl)
 

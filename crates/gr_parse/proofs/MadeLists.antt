@@ -50,12 +50,14 @@ joined_more P f M ts end more None [] b a = end
 joined_more P f M ts end more (Some p) [] b a = absurd (some_no p b)
 joined_more P f M ts end more None (y ∷ ys) b a = absurd (no b.0)
 joined_more P f M ts end more (Some p) (y ∷ ys) b a =
-    subst (λ us. M (λ x. with_separator x (Some p) ∷ (y ∷ ys)) (sign kind.Comma p ∷ us)) (sym (apart (f y.value) (sign_if kind.Comma y.separator) (list_tokens kind.Comma f ys) ts))
+    subst (λ us. M (λ x. with_separator x (Some p) ∷ (y ∷ ys)) (sign kind.Comma p ∷ us))
+    (sym (apart (f y.value) (sign_if kind.Comma y.separator) (list_tokens kind.Comma f ys) ts))
     (more p y.value (all_head (λ x. P x.value) y ys a) (λ x. with_separator x y.separator ∷ ys) _
     (joined_more P f M ts end more y.separator ys (behind_item y ys b.1) (all_tail (λ x. P x.value) y ys a)))
 
 -- behind an item of an open list: its separator and the rest of the list, or the end
-open_more : {X : Type 0} (f : X → List Token) (k : Kind) (c : ℕ) (M : Closed X → List Token → Type 0) (N : (X → Closed X) → List Token → Type 0) (ts : List Token) →
+open_more : {X : Type 0} (f : X → List Token) (k : Kind) (c : ℕ) (M : Closed X → List Token → Type 0) (N : (X → Closed X) → List Token → Type 0)
+    (ts : List Token) →
     ((p : ℕ) (xs : List (Item X)) (us : List Token) → M (xs, c) us → N (λ x. (with_separator x (Some p) ∷ xs, c)) (sign k p ∷ us)) →
     N (λ x. (with_separator x None ∷ [], c)) ts →
     (s : Option ℕ) (xs : List (Item X)) → (s ≡ None → xs ≡ []) → M (xs, c) (list_tokens k f xs ++ ts) →
@@ -66,7 +68,8 @@ open_more f k c M N ts more last None xs q m =
     subst (λ ys. N (λ x. (with_separator x None ∷ ys, c)) (list_tokens k f ys ++ ts)) (sym (q refl)) last
 
 -- M: how the rest of a list is made, up to its bracket; N: how what stands behind an item is
-pub open_list : {X : Type 0} (P : X → Type 0) (f : X → List Token) (k : Kind) (c : ℕ) (M : Closed X → List Token → Type 0) (N : (X → Closed X) → List Token → Type 0) (ts : List Token) →
+pub open_list : {X : Type 0} (P : X → Type 0) (f : X → List Token) (k : Kind) (c : ℕ) (M : Closed X → List Token → Type 0)
+    (N : (X → Closed X) → List Token → Type 0) (ts : List Token) →
     M ([], c) ts →
     ((x : X) → P x → (g : X → Closed X) (us : List Token) → N g us → M (g x) (f x ++ us)) →
     ((p : ℕ) (xs : List (Item X)) (us : List Token) → M (xs, c) us → N (λ x. (with_separator x (Some p) ∷ xs, c)) (sign k p ∷ us)) →
@@ -82,7 +85,8 @@ open_list P f k c M N ts empty item more last (x ∷ xs) s a =
 -- a group in parentheses, or one item
 pub made_group : (i : Sort) (P : ItemOf i → Type 0) (f : ItemOf i → List Token) →
     ((x : ItemOf i) → P x → (ss : List Symbol) (vs : Values ss) (ts : List Token) → Made ss vs ts → Made (A (Single i) ∷ ss) (x, vs) (f x ++ ts)) →
-    (g : Group (ItemOf i)) → IsGroup P g → {ss : List Symbol} {vs : Values ss} {ts : List Token} → Made ss vs ts → Made (A (GroupOf i) ∷ ss) (g, vs) (group_tokens f g ++ ts)
+    (g : Group (ItemOf i)) → IsGroup P g → {ss : List Symbol} {vs : Values ss} {ts : List Token} → Made ss vs ts →
+    Made (A (GroupOf i) ∷ ss) (g, vs) (group_tokens f g ++ ts)
 unfolding group_tokens
 made_group i P f make (single x) w m = rule (below untested) (make x w _ _ _ m) refl
 made_group i P f make (several o xs c) w {ss = ss} {vs = vs} {ts = ts} m =

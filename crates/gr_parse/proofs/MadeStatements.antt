@@ -9,10 +9,12 @@ use Rattle.gr_tree.specs.declared.syntax.StepOp.{StepOp}
 use Rattle.gr_tree.specs.declared.syntax.StepOp.TheVariants as step
 use Rattle.gr_tree.specs.declared.syntax.UpdateOp.{UpdateOp}
 use Rattle.gr_tree.specs.declared.syntax.UpdateOp.TheVariants as update
-use Rattle.gr_tree.specs.Grammar.{Symbol, One, A, is_ident, is_step, is_update, sets, Setting, Plain, Head, Post, in_head, LocalItem, Single, MoreIdents, LocalRest, LocalValues, Expressions, MoreExpressions, SimpleRest}
+use Rattle.gr_tree.specs.Grammar.{Symbol, One, A, is_ident, is_step, is_update, sets, Setting, Plain, Head, Post, in_head, LocalItem, Single, MoreIdents}
+use Rattle.gr_tree.specs.Grammar.{LocalRest, LocalValues, Expressions, MoreExpressions, SimpleRest}
 use Rattle.gr_tree.specs.Language.{tested, untested, below}
 use Rattle.gr_tree.specs.Tree.{Item, IdentTree, Named, Underscore, TypeTree, ExprTree, SimpleTree, Alone, Step, Update, Assign, Define, LocalTree}
-use Rattle.gr_tree.specs.Flatten.{sign, sign_if, step_kind, update_kind, tokens_if, all_tokens, list_tokens, ident_tokens, exprs_tokens, value_tokens, type_tokens, expr_tokens, simple_tokens, local_tokens}
+use Rattle.gr_tree.specs.Flatten.{sign, sign_if, step_kind, update_kind, tokens_if, all_tokens, list_tokens, ident_tokens, exprs_tokens, value_tokens}
+use Rattle.gr_tree.specs.Flatten.{type_tokens, expr_tokens, simple_tokens, local_tokens}
 use Rattle.gr_tree.specs.WellFormed.{Any, Perhaps, IsList, IsExprIn, IsSimple, IsPost, IsLocal}
 use Rattle.gr_parse.proofs.Predictive.{no}
 use Rattle.gr_parse.proofs.Values.{step_op, update_op, ident, set_by}
@@ -90,13 +92,15 @@ sets_define Head es fs p w = refl
 sets_define Post es fs p w = absurd w
 
 set_tokens_apart : (e : ExprTree) (c : Option ℕ) (es fs : List (Item ExprTree)) (t : Token) (ts : List Token) →
-    (exprs_tokens (with_separator e c ∷ es) ++ (t ∷ exprs_tokens fs)) ++ ts ≡ expr_tokens e ++ (sign_if kind.Comma c ++ (exprs_tokens es ++ (t ∷ (exprs_tokens fs ++ ts))))
+    (exprs_tokens (with_separator e c ∷ es) ++ (t ∷ exprs_tokens fs)) ++ ts ≡ expr_tokens e ++
+    (sign_if kind.Comma c ++ (exprs_tokens es ++ (t ∷ (exprs_tokens fs ++ ts))))
 unfolding all_tokens
 set_tokens_apart e c es fs t ts =
     append_assoc (exprs_tokens (with_separator e c ∷ es)) (t ∷ exprs_tokens fs) ts
     ∙ apart (expr_tokens e) (sign_if kind.Comma c) (exprs_tokens es) (t ∷ (exprs_tokens fs ++ ts))
 
-set_more : (s : Setting) (k : Kind) (p : ℕ) → sets s k ≡ true → (x : ExprTree) (c : Option ℕ) (es fs : List (Item ExprTree)) → IsExprIn (in_head s) x → IsSome c →
+set_more : (s : Setting) (k : Kind) (p : ℕ) → sets s k ≡ true → (x : ExprTree) (c : Option ℕ) (es fs : List (Item ExprTree)) → IsExprIn (in_head s) x →
+    IsSome c →
     IsList (IsExprIn (in_head s)) es → IsList (IsExprIn (in_head s)) fs → (ss : List Symbol) (vs : Values ss) (ts : List Token) → Made ss vs ts →
     Spoken s ss vs (set_by (sign k p) (with_separator x c ∷ es) fs) ((exprs_tokens (with_separator x c ∷ es) ++ (sign k p ∷ exprs_tokens fs)) ++ ts)
 set_more s k p a x None es fs u i v w ss vs ts m = absurd (no i)
@@ -119,7 +123,8 @@ set_starts s k p a (x ∷ []) fs v w ss vs ts m = record {
   e = x.value;
   proper = all_head (λ x. IsExprIn (in_head s) x.value) x [] v.each;
   others = sign k p ∷ (exprs_tokens fs ++ ts);
-  same = set_tokens_apart x.value x.separator [] fs (sign k p) ts ∙ ap (λ c. expr_tokens x.value ++ (sign_if kind.Comma c ++ (sign k p ∷ (exprs_tokens fs ++ ts)))) v.joined;
+  same = set_tokens_apart x.value x.separator [] fs (sign k p) ts ∙
+      ap (λ c. expr_tokens x.value ++ (sign_if kind.Comma c ++ (sign k p ∷ (exprs_tokens fs ++ ts)))) v.joined;
   rest = λ e. set_by (sign k p) (with_separator e None ∷ []) fs;
   made = rule (below (below tested)) (one a (made_exprs (in_head s) fs w ss vs ts m)) refl;
   says = ap (λ c. set_by (sign k p) (with_separator x.value c ∷ []) fs) (sym v.joined);
@@ -128,7 +133,8 @@ set_starts s k p a (x ∷ (y ∷ ys)) fs v w ss vs ts m =
     set_more s k p a x.value x.separator (y ∷ ys) fs (all_head (λ x. IsExprIn (in_head s) x.value) x (y ∷ ys) v.each) v.joined.0
     (record { some = tt; joined = v.joined.1; each = all_tail (λ x. IsExprIn (in_head s) x.value) x (y ∷ ys) v.each }) w ss vs ts m
 
-pub speaks : (s : Setting) (t : SimpleTree) → IsSimpleAt s t → (ss : List Symbol) (vs : Values ss) (ts : List Token) → Made ss vs ts → Spoken s ss vs t (simple_tokens t ++ ts)
+pub speaks : (s : Setting) (t : SimpleTree) → IsSimpleAt s t → (ss : List Symbol) (vs : Values ss) (ts : List Token) → Made ss vs ts →
+    Spoken s ss vs t (simple_tokens t ++ ts)
 unfolding simple_tokens
 speaks s (Alone e) w ss vs ts m = record {
   e = e;
@@ -170,7 +176,8 @@ abbrev pub ident_token : IdentTree → Token
 ident_token (Named n) = sign kind.Name n
 ident_token (Underscore n) = sign kind.Blank n
 
-pub one_ident : (x : IdentTree) {ss : List Symbol} {vs : Values ss} {ts : List Token} → Made ss vs ts → Made (One is_ident ∷ ss) (ident_token x, vs) (ident_tokens x ++ ts)
+pub one_ident : (x : IdentTree) {ss : List Symbol} {vs : Values ss} {ts : List Token} → Made ss vs ts →
+    Made (One is_ident ∷ ss) (ident_token x, vs) (ident_tokens x ++ ts)
 one_ident (Named n) m = one refl m
 one_ident (Underscore n) m = one refl m
 
@@ -178,7 +185,8 @@ pub ident_back : (x : IdentTree) → ident (ident_token x) ≡ x
 ident_back (Named n) = refl
 ident_back (Underscore n) = refl
 
-pub more_idents : (s : Option ℕ) (xs : List (Item IdentTree)) → Behind s xs → All (λ x. Any x.value) xs → {ss : List Symbol} {vs : Values ss} {ts : List Token} → Made ss vs ts →
+pub more_idents : (s : Option ℕ) (xs : List (Item IdentTree)) → Behind s xs → All (λ x. Any x.value) xs →
+    {ss : List Symbol} {vs : Values ss} {ts : List Token} → Made ss vs ts →
     Made (A MoreIdents ∷ ss) ((λ x. with_separator x s ∷ xs), vs) (sign_if kind.Comma s ++ (list_tokens kind.Comma ident_tokens xs ++ ts))
 more_idents s xs b a {ss = ss} {vs = vs} {ts = ts} m =
     joined_more Any ident_tokens (λ g us. Made (A MoreIdents ∷ ss) (g, vs) us) ts
@@ -186,7 +194,8 @@ more_idents s xs b a {ss = ss} {vs = vs} {ts = ts} m =
     (λ p y v g us n. rule tested (one refl (one_ident y n)) (ap (λ z. ((λ x. with_separator x (Some p) ∷ g z), vs)) (ident_back y)))
     s xs b a
 
-local_values : (v : Option (ℕ × List (Item ExprTree))) → Perhaps (λ v. IsList (IsExprIn false) v.1) v → {ss : List Symbol} {vs : Values ss} {ts : List Token} → Made ss vs ts →
+local_values : (v : Option (ℕ × List (Item ExprTree))) → Perhaps (λ v. IsList (IsExprIn false) v.1) v →
+    {ss : List Symbol} {vs : Values ss} {ts : List Token} → Made ss vs ts →
     Made (A LocalValues ∷ ss) (v, vs) (tokens_if (value_tokens expr_tokens) v ++ ts)
 local_values None w m = rule (below untested) m refl
 local_values (Some v) w m = rule tested (one refl (made_exprs false v.1 w _ _ _ m)) refl
@@ -213,6 +222,7 @@ local_names (x ∷ xs) t v w q u ss vs ts m =
     (rule untested (one_ident x.value (more_idents x.separator xs (behind_item x xs w.joined) (all_tail (λ x. Any x.value) x xs w.each) (local_rest t v q u m)))
     (ap (λ z. (record { names = with_separator z x.separator ∷ xs; type_use = t; values = v }, vs)) (ident_back x.value)))
 
-pub made_local : (l : LocalTree) → IsLocal l → (ss : List Symbol) (vs : Values ss) (ts : List Token) → Made ss vs ts → Made (A (Single LocalItem) ∷ ss) (l, vs) (local_tokens l ++ ts)
+pub made_local : (l : LocalTree) → IsLocal l → (ss : List Symbol) (vs : Values ss) (ts : List Token) → Made ss vs ts →
+    Made (A (Single LocalItem) ∷ ss) (l, vs) (local_tokens l ++ ts)
 unfolding local_tokens
 made_local l w ss vs ts m = local_names l.names l.type_use l.values w.names w.told w.values ss vs ts m

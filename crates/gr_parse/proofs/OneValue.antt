@@ -55,13 +55,19 @@ one_rule : (p : Part) (rs : List Rule) (k : Kind) (x y : List Symbol) (a : Among
 one_rule p [] k x y a b e l m = elim a [ ]
 one_rule p (Begins c t ∷ rs) k x y tested tested e l m = refl
 one_rule p (Begins c t ∷ rs) k x y tested (below b) e l m =
-    absurd (none_at p rs k y b (implied (c k) (none_looks p rs k) (and_left (implies (c k) (none_looks p rs k)) (decides p rs k) (and_right (implies (looks p t k) (c k)) (implies (c k) (none_looks p rs k) && decides p rs k) e))
+    absurd (none_at p rs k y b (implied (c k) (none_looks p rs k)
+    (and_left (implies (c k) (none_looks p rs k)) (decides p rs k)
+    (and_right (implies (looks p t k) (c k)) (implies (c k) (none_looks p rs k) && decides p rs k) e))
     (implied (looks p t k) (c k) (and_left (implies (looks p t k) (c k)) (implies (c k) (none_looks p rs k) && decides p rs k) e) l)) m)
 one_rule p (Begins c t ∷ rs) k x y (below a) tested e l m =
-    absurd (none_at p rs k x a (implied (c k) (none_looks p rs k) (and_left (implies (c k) (none_looks p rs k)) (decides p rs k) (and_right (implies (looks p t k) (c k)) (implies (c k) (none_looks p rs k) && decides p rs k) e))
+    absurd (none_at p rs k x a (implied (c k) (none_looks p rs k)
+    (and_left (implies (c k) (none_looks p rs k)) (decides p rs k)
+    (and_right (implies (looks p t k) (c k)) (implies (c k) (none_looks p rs k) && decides p rs k) e))
     (implied (looks p t k) (c k) (and_left (implies (looks p t k) (c k)) (implies (c k) (none_looks p rs k) && decides p rs k) e) m)) l)
 one_rule p (Begins c t ∷ rs) k x y (below a) (below b) e l m =
-    ap (further (Begins c t) rs) (one_rule p rs k x y a b (and_right (implies (c k) (none_looks p rs k)) (decides p rs k) (and_right (implies (looks p t k) (c k)) (implies (c k) (none_looks p rs k) && decides p rs k) e)) l m)
+    ap (further (Begins c t) rs) (one_rule p rs k x y a b
+    (and_right (implies (c k) (none_looks p rs k)) (decides p rs k)
+    (and_right (implies (looks p t k) (c k)) (implies (c k) (none_looks p rs k) && decides p rs k) e)) l m)
 one_rule p (Otherwise t ∷ rs) k x y untested untested e l m = refl
 one_rule p (Otherwise t ∷ rs) k x y untested (below b) e l m = absurd (none_at p rs k y b e m)
 one_rule p (Otherwise t ∷ rs) k x y (below a) b e l m = absurd (none_at p rs k x a e l)

@@ -3,7 +3,8 @@ use Rattle.std.proofs.Common.{ℕ, ◌≡◌, ap, sym, ◌∙◌, subst, Bool, t
 use Rattle.gr_tree.specs.declared.syntax.Kind.{Kind}
 use Rattle.gr_tree.specs.declared.syntax.Kind.TheVariants as kind
 use Rattle.gr_tree.specs.declared.syntax.Token.{Token}
-use Rattle.gr_tree.specs.Grammar.{Symbol, One, A, rules, is, Links, AfterName, AfterSelector, AfterTypeName, AfterLiteralName, Address, Elements, Element, Expression, Unary, slice_type}
+use Rattle.gr_tree.specs.Grammar.{Symbol, One, A, rules, is, Links, AfterName, AfterSelector, AfterTypeName, AfterLiteralName, Address, Elements, Element}
+use Rattle.gr_tree.specs.Grammar.{Expression, Unary, slice_type}
 use Rattle.gr_parse.specs.Machine.{Run, take, refused, expand, Selects, first, later, last, at, Outcome}
 use Rattle.gr_parse.specs.Lookahead.{behind, names_literal, begins_key}
 use Rattle.gr_parse.specs.Parsing.{Leads}
@@ -61,10 +62,17 @@ literal_behind : {d : ℕ} {ss : List Symbol} {ts : List Token} {o : Outcome} �
     Run d (A AfterTypeName ∷ A Elements ∷ A (Links false) ∷ ss) ts o → Run d (A (AfterName false) ∷ ss) ts o
 literal_behind {ts = ts} h (expand (first e) r) =
     let brace : at (is kind.LeftBrace) ts ≡ false = not_at kind.Dot kind.LeftBrace ts refl e in
-    let g = and_right (at (is kind.Name) (behind ts)) (at (is kind.LeftBrace) (behind (behind ts))) (and_right (at (is kind.Dot) ts) (at (is kind.Name) (behind ts) && at (is kind.LeftBrace) (behind (behind ts))) (or_other (at (is kind.LeftBrace) ts) (at (is kind.Dot) ts && (at (is kind.Name) (behind ts) && at (is kind.LeftBrace) (behind (behind ts)))) h brace)) in
-    expand (later brace (first e)) (under_one (λ t rest f m r. under_one (λ u more g' n r. expand (first (sym (ap (λ x. at (is kind.LeftBrace) (behind (behind x))) f ∙ ap (λ x. at (is kind.LeftBrace) (behind x)) g') ∙ g)) r) r) r)
+    let g = and_right (at (is kind.Name) (behind ts)) (at (is kind.LeftBrace) (behind (behind ts)))
+    (and_right (at (is kind.Dot) ts) (at (is kind.Name) (behind ts) && at (is kind.LeftBrace) (behind (behind ts)))
+    (or_other (at (is kind.LeftBrace) ts) (at (is kind.Dot) ts && (at (is kind.Name) (behind ts) && at (is kind.LeftBrace) (behind (behind ts)))) h
+    brace)) in
+    expand (later brace (first e)) (under_one (λ t rest f m r.
+    under_one (λ u more g' n r. expand
+    (first (sym (ap (λ x. at (is kind.LeftBrace) (behind (behind x))) f ∙ ap (λ x. at (is kind.LeftBrace) (behind x)) g') ∙ g)) r) r) r)
 literal_behind {ts = ts} h (expand (later e last) r) =
-    expand (first (or_other_left (at (is kind.LeftBrace) ts) (at (is kind.Dot) ts && (at (is kind.Name) (behind ts) && at (is kind.LeftBrace) (behind (behind ts)))) h (ap (λ b. b && (at (is kind.Name) (behind ts) && at (is kind.LeftBrace) (behind (behind ts)))) e))) r
+    expand (first (or_other_left (at (is kind.LeftBrace) ts)
+    (at (is kind.Dot) ts && (at (is kind.Name) (behind ts) && at (is kind.LeftBrace) (behind (behind ts)))) h
+    (ap (λ b. b && (at (is kind.Name) (behind ts) && at (is kind.LeftBrace) (behind (behind ts)))) e))) r
 
 pub unary_literal : (h : Bool) (d : ℕ) (ts : List Token) → at (is kind.Name) ts ≡ true → cond h false (names_literal ts) ≡ true →
     Leads (A (Unary h) ∷ []) (One (is kind.Name) ∷ A AfterTypeName ∷ A Elements ∷ A (Links h) ∷ []) [] d ts d ts
@@ -80,7 +88,8 @@ same_links true g (expand s r) = expand s r
 same_links false g (expand s r) = expand (later (g refl) s) r
 
 links_behind : (h : Bool) {d : ℕ} {ss : List Symbol} {ts : List Token} {o : Outcome} →
-    (h ≡ false → (at (is kind.LeftBrace) ts || (at (is kind.Dot) ts && (at (is kind.Name) (behind ts) && at (is kind.LeftBrace) (behind (behind ts))))) ≡ false) →
+    (h ≡ false → (at (is kind.LeftBrace) ts || (at (is kind.Dot) ts && (at (is kind.Name) (behind ts) && at (is kind.LeftBrace) (behind (behind ts))))) ≡
+    false) →
     Run d (A (Links h) ∷ ss) ts o → Run d (A (AfterName h) ∷ ss) ts o
 links_behind true {ts = ts} g (expand (first e) r) =
     expand (first e) (under_one (λ t rest f m r. under_one (λ u more f' n r. same_links true (λ x. clash (sym x)) r) r) r)
@@ -89,10 +98,13 @@ links_behind false {ts = ts} g (expand (first e) r) =
     expand (later (not_at kind.Dot kind.LeftBrace ts refl e) (first e)) (under_one (λ t rest f m r. under_one (λ u more f' n r. same_links false (λ x.
     sym (ap (λ y. at (is kind.LeftBrace) (behind (behind y))) f ∙ ap (λ y. at (is kind.LeftBrace) (behind y)) f')
     ∙ and_off (at (is kind.Name) (behind ts)) (at (is kind.LeftBrace) (behind (behind ts)))
-    (and_off (at (is kind.Dot) ts) (at (is kind.Name) (behind ts) && at (is kind.LeftBrace) (behind (behind ts))) (or_off_right (at (is kind.LeftBrace) ts) (at (is kind.Dot) ts && (at (is kind.Name) (behind ts) && at (is kind.LeftBrace) (behind (behind ts)))) (g refl)) e)
+    (and_off (at (is kind.Dot) ts) (at (is kind.Name) (behind ts) && at (is kind.LeftBrace) (behind (behind ts)))
+    (or_off_right (at (is kind.LeftBrace) ts) (at (is kind.Dot) ts && (at (is kind.Name) (behind ts) && at (is kind.LeftBrace) (behind (behind ts))))
+    (g refl)) e)
     (ap (λ y. at (is kind.Name) (behind y)) f ∙ (ap (at (is kind.Name)) f' ∙ n))) r) r) r)
 links_behind false {ts = ts} g (expand (later e s) r) =
-    expand (later (or_off_left (at (is kind.LeftBrace) ts) (at (is kind.Dot) ts && (at (is kind.Name) (behind ts) && at (is kind.LeftBrace) (behind (behind ts)))) (g refl)) (later e s)) r
+    expand (later (or_off_left (at (is kind.LeftBrace) ts)
+    (at (is kind.Dot) ts && (at (is kind.Name) (behind ts) && at (is kind.LeftBrace) (behind (behind ts)))) (g refl)) (later e s)) r
 
 cond_off : (h b : Bool) → cond h false b ≡ false → h ≡ false → b ≡ false
 cond_off true b e f = clash (sym f)
@@ -128,13 +140,15 @@ pub element_key : (d : ℕ) (ts : List Token) → begins_key ts ≡ true →
 element_key d ts e = record {
   text = refl;
   leads = λ after o r. expand (first (and_left (at (is kind.Name) ts) (at (is kind.Colon) (behind ts)) e))
-      (under_one (λ t rest f m r. expand (first (behind_is t ts rest (is kind.Colon) true f (and_right (at (is kind.Name) ts) (at (is kind.Colon) (behind ts)) e))) r) r);
+      (under_one (λ t rest f m r. expand (first (behind_is t ts rest (is kind.Colon) true f
+      (and_right (at (is kind.Name) ts) (at (is kind.Colon) (behind ts)) e))) r) r);
 }
 
 element_run : {d : ℕ} {ss : List Symbol} {ts : List Token} {o : Outcome} → begins_key ts ≡ false →
     Run d (A (Expression false) ∷ ss) ts o → Run d (A Element ∷ ss) ts o
 element_run {ts = ts} e (expand last (expand (first n) r)) =
-    expand (first n) (under_one (λ t rest f m r. expand (later (behind_is t ts rest (is kind.Colon) false f (and_off (at (is kind.Name) ts) (at (is kind.Colon) (behind ts)) e n)) last) r) r)
+    expand (first n) (under_one (λ t rest f m r. expand
+    (later (behind_is t ts rest (is kind.Colon) false f (and_off (at (is kind.Name) ts) (at (is kind.Colon) (behind ts)) e n)) last) r) r)
 element_run e (expand last (expand (later n last) r)) = expand (later n last) r
 
 pub element_value : (d : ℕ) (ts : List Token) → begins_key ts ≡ false → Leads (A Element ∷ []) (A (Expression false) ∷ []) [] d ts d ts

@@ -80,7 +80,8 @@ alikes_behind k (operand op p e rest) b x y = (x.0, alike_behind k rest b x.1 y)
 join_weaker : (t : ExprTree) (op : BinaryOp) (p : ℕ) (u : ExprTree) → strength op < strength_of t → join t op p u ≡ Binary t (one_operand op p u)
 join_weaker (Binary e no_operand) op p u h = refl
 join_weaker (Binary e (operand op₁ p₁ f rest)) op p u h =
-    ap (λ b. cond b (Binary (Binary e (operand op₁ p₁ f rest)) (one_operand op p u)) (Binary e (join_last (operand op₁ p₁ f rest) op p u))) (lt-ltb (strength op) (strength op₁) h)
+    ap (λ b. cond b (Binary (Binary e (operand op₁ p₁ f rest)) (one_operand op p u)) (Binary e (join_last (operand op₁ p₁ f rest) op p u)))
+    (lt-ltb (strength op) (strength op₁) h)
 join_weaker (Number n) op p u h = refl
 join_weaker (Text n) op p u h = refl
 join_weaker (Name n) op p u h = refl
@@ -108,7 +109,8 @@ join_equal k (operand op₁ p₁ f no_operand) op p u a h =
 join_equal k (operand op₁ p₁ f (operand op₂ p₂ g rest)) op p u a h = ap (λ x. operand op₁ p₁ f x) (join_equal k (operand op₂ p₂ g rest) op p u a.1 h)
 
 -- a stronger one goes into the last operand
-join_stronger : (k : ℕ) (os : OperandTrees) (op₁ : BinaryOp) (p₁ : ℕ) (f : ExprTree) (op : BinaryOp) (p : ℕ) (u : ExprTree) → strength op₁ ≡ k → k < strength op →
+join_stronger : (k : ℕ) (os : OperandTrees) (op₁ : BinaryOp) (p₁ : ℕ) (f : ExprTree) (op : BinaryOp) (p : ℕ) (u : ExprTree) → strength op₁ ≡ k →
+    k < strength op →
     join_last (behind os (one_operand op₁ p₁ f)) op p u ≡ behind os (one_operand op₁ p₁ (join f op p u))
 join_stronger k no_operand op₁ p₁ f op p u a h =
     ap (λ b. cond b (one_operand op₁ p₁ (join f op p u)) (operand op₁ p₁ f (one_operand op p u))) (lt-ltb (strength op₁) (strength op) (omega (arith, a, h)))
@@ -148,7 +150,8 @@ mutual
   in_hole (Binary e (operand op p f rest)) w k hole j less os =
       in_hole e w.1 k hole j (omega (arith, less, w.0)) (operand op p (head_of f) (tail_of f (spread rest os)))
       ∙ (ap (λ x. grouped x (tail_of f (spread rest os))) (j op p (head_of f) e less ∙ ap hole (join_weaker e op p (head_of f) w.0))
-      ∙ (in_hole f w.2.2 (strength op) (λ g. hole (Binary e (one_operand op p g))) (last_joins k (strength op) hole j e no_operand op p refl less tt) w.2.1 (spread rest os)
+      ∙ (in_hole f w.2.2 (strength op) (λ g. hole (Binary e (one_operand op p g))) (last_joins k (strength op) hole j e no_operand op p refl less tt) w.2.1
+      (spread rest os)
       ∙ in_hole_all rest (strength op) w.2.3 k hole j less e (one_operand op p f) (refl, tt) os))
   in_hole (Number n) w k hole j less os = refl
   in_hole (Text n) w k hole j less os = refl
@@ -166,8 +169,10 @@ mutual
   in_hole_all no_operand n w k hole j less e before a os = ap (λ x. grouped (hole (Binary e x)) os) (sym (behind-none before))
   in_hole_all (operand op p f rest) n w k hole j less e before a os =
       ap (λ x. grouped x (tail_of f (spread rest os))) (j op p (head_of f) (Binary e before) (omega (arith, less, w.0))
-      ∙ ap hole (join_among n e before op p (head_of f) a (omega (arith, w.0)) ∙ ap (λ x. Binary e x) (join_equal n before op p (head_of f) (alikes_alike n before a) w.0)))
-      ∙ (in_hole f w.2 n (λ g. hole (Binary e (behind before (one_operand op p g)))) (last_joins k n hole j e before op p w.0 less (alikes_alike n before a)) w.1 (spread rest os)
+      ∙ ap hole (join_among n e before op p (head_of f) a (omega (arith, w.0)) ∙
+      ap (λ x. Binary e x) (join_equal n before op p (head_of f) (alikes_alike n before a) w.0)))
+      ∙ (in_hole f w.2 n (λ g. hole (Binary e (behind before (one_operand op p g))))
+      (last_joins k n hole j e before op p w.0 less (alikes_alike n before a)) w.1 (spread rest os)
       ∙ (in_hole_all rest n w.3 k hole j less e (behind before (one_operand op p f)) (alikes_last n before op p f w.0 (alikes_alike n before a)) os
       ∙ ap (λ x. grouped (hole (Binary e x)) os) (behind-behind before (one_operand op p f) rest)))
 

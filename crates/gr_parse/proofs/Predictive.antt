@@ -1,16 +1,25 @@
 -- The machine stops at the first fault: what it has taken begins some text of the grammar, and with the token at
 -- which it stops no text begins.
-use Rattle.std.proofs.Common.{◌≤◌, ◌<◌, arith, ℕ, ◌≡◌, ◌⊎◌, inl, inr, Bool, true, false, List, [], ◌∷◌, ◌++◌, length, refl, ap, sym, ◌∙◌, subst, get_or, zero, suc, append_assoc, drop}
+use Rattle.std.proofs.Common.{◌≤◌, ◌<◌, arith, ℕ, ◌≡◌, ◌⊎◌, inl, inr, Bool, true, false, List, [], ◌∷◌, ◌++◌, length, refl, ap, sym, ◌∙◌, subst, get_or}
+use Rattle.std.proofs.Common.{zero, suc, append_assoc, drop}
 use Rattle.std.specs.Prelude.{◌&&◌, ◌||◌}
 use Rattle.gr_tree.specs.declared.syntax.Kind.{Kind}
 use Rattle.gr_tree.specs.declared.syntax.Kind.TheVariants as kind
 use Rattle.gr_tree.specs.declared.syntax.Token.{Token}
 use Rattle.gr_tree.specs.declared.syntax.FaultKind.TheVariants.{Syntax, Nesting}
-use Rattle.gr_tree.specs.Grammar.{number_of, Symbol, One, Opening, Close, A, Part, Rule, Begins, Otherwise, rules, is, Item, ImportItem, GlobalItem, TypeItem, LocalItem, Plain, Head, Post, File, Imports, Tops, GroupOf, Items, MoreItems, Single, MoreNames, GlobalValues, MoreLiterals, TypeBody, Fields, MoreFields, MoreIdents, LocalRest, LocalValues, FuncHead, ReceiverStar, ReceiverEnd, Signature, Params, MoreParams, Result, Types, MoreTypes, Block, MoreStatements, Statement, ReturnValues, Expressions, MoreExpressions, SimpleRest, IfHead, IfAfter, IfBody, ElsePart, ElseBody, ForHead, ForAfter, ForRest, ForCondition, ForPost, TypeUse, AfterTypeName, Expression, Binaries, Unary, Operand, AfterName, AfterSelector, Links, Arguments, MoreArguments, Address, AfterLiteralName, Elements, ElementList, MoreElements, Element, AfterKey}
+use Rattle.gr_tree.specs.Grammar.{number_of, Symbol, One, Opening, Close, A, Part, Rule, Begins, Otherwise, rules, is, Item, ImportItem, GlobalItem}
+use Rattle.gr_tree.specs.Grammar.{TypeItem, LocalItem, Plain, Head, Post, File, Imports, Tops, GroupOf, Items, MoreItems, Single, MoreNames, GlobalValues}
+use Rattle.gr_tree.specs.Grammar.{MoreLiterals, TypeBody, Fields, MoreFields, MoreIdents, LocalRest, LocalValues, FuncHead, ReceiverStar, ReceiverEnd}
+use Rattle.gr_tree.specs.Grammar.{Signature, Params, MoreParams, Result, Types, MoreTypes, Block, MoreStatements, Statement, ReturnValues, Expressions}
+use Rattle.gr_tree.specs.Grammar.{MoreExpressions, SimpleRest, IfHead, IfAfter, IfBody, ElsePart, ElseBody, ForHead, ForAfter, ForRest, ForCondition}
+use Rattle.gr_tree.specs.Grammar.{ForPost, TypeUse, AfterTypeName, Expression, Binaries, Unary, Operand, AfterName, AfterSelector, Links, Arguments}
+use Rattle.gr_tree.specs.Grammar.{MoreArguments, Address, AfterLiteralName, Elements, ElementList, MoreElements, Element, AfterKey}
 use Rattle.gr_tree.specs.Language.{levels, DeepFault, Among, tested, untested, below, Derives, ends, token, opening, closing, by_rule}
-use Rattle.gr_parse.specs.Machine.{Run, take, opens, closes, expand, refused, refused_opening, left_over, too_deep, Stopped, Accepted, accept, Selects, first as selects_first, later, last, at}
+use Rattle.gr_parse.specs.Machine.{Run, take, opens, closes, expand, refused, refused_opening, left_over, too_deep, Stopped, Accepted, accept, Selects}
+use Rattle.gr_parse.specs.Machine.{first as selects_first, later, last, at}
 use Rattle.gr_parse.proofs.KindTests.{kinds, at_number}
-use Rattle.gr_parse.proofs.Tables.{nullable, first, follow, firsts, nullables, implies, looks, followed, symbols_of, rule_fits, rules_fit, none_looks, decides, every, sound, checked}
+use Rattle.gr_parse.proofs.Tables.{nullable, first, follow, firsts, nullables, implies, looks, followed, symbols_of, rule_fits, rules_fit, none_looks}
+use Rattle.gr_parse.proofs.Tables.{decides, every, sound, checked}
 
 -- tests
 
@@ -76,7 +85,8 @@ looks_append p a b k good e = elim (firsts_append a b k e) [
 -- the checks, at a rule
 
 pub sound_at : (p : Part) (k : Kind) → sound p k ≡ true
-sound_at p k = subst (λ j. sound p j ≡ true) (at_number k) (every_at (sound p) kinds (number_of k) kind.Name (checked p) (and_left (sound p kind.Name) (every (sound p) (drop 1 kinds)) (checked p)))
+sound_at p k = subst (λ j. sound p j ≡ true) (at_number k)
+    (every_at (sound p) kinds (number_of k) kind.Name (checked p) (and_left (sound p kind.Name) (every (sound p) (drop 1 kinds)) (checked p)))
 
 fits_at : (p : Part) (rs : List Rule) (k : Kind) (then : List Symbol) → Among rs then → rules_fit p rs k ≡ true → rule_fits p then k ≡ true
 fits_at p [] k then a e = elim a [ ]
@@ -89,9 +99,11 @@ rule_at p then k a = fits_at p (rules p) k then a (and_left (rules_fit p (rules 
 
 firsts_rule : (p : Part) (then ss : List Symbol) (k : Kind) → rule_fits p then k ≡ true → firsts (then ++ ss) k ≡ true → firsts (A p ∷ ss) k ≡ true
 firsts_rule p then ss k fits e = elim (firsts_append then ss k e) [
-  | inl h ↦ or_left (first p k) (nullable p && firsts ss k) (implied (firsts then k) (first p k) (and_left (implies (firsts then k) (first p k)) (implies (nullables then) (nullable p) && followed p then k) fits) h)
+  | inl h ↦ or_left (first p k) (nullable p && firsts ss k)
+      (implied (firsts then k) (first p k) (and_left (implies (firsts then k) (first p k)) (implies (nullables then) (nullable p) && followed p then k) fits) h)
   | inr h ↦ or_right (first p k) (nullable p && firsts ss k) (and_both (nullable p) (firsts ss k)
-      (implied (nullables then) (nullable p) (and_left (implies (nullables then) (nullable p)) (followed p then k) (and_right (implies (firsts then k) (first p k)) (implies (nullables then) (nullable p) && followed p then k) fits)) h.0)
+      (implied (nullables then) (nullable p) (and_left (implies (nullables then) (nullable p)) (followed p then k)
+      (and_right (implies (firsts then k) (first p k)) (implies (nullables then) (nullable p) && followed p then k) fits)) h.0)
       h.1)
 ]
 
@@ -122,7 +134,8 @@ good_rule p ss f g (A q ∷ then) h = (
 )
 
 pub followed_at : (p : Part) (then : List Symbol) → Among (rules p) then → (k : Kind) → followed p then k ≡ true
-followed_at p then a k = and_right (implies (nullables then) (nullable p)) (followed p then k) (and_right (implies (firsts then k) (first p k)) (implies (nullables then) (nullable p) && followed p then k) (rule_at p then k a))
+followed_at p then a k = and_right (implies (nullables then) (nullable p)) (followed p then k)
+    (and_right (implies (firsts then k) (first p k)) (implies (nullables then) (nullable p) && followed p then k) (rule_at p then k a))
 
 pub selected : {rs : List Rule} {ts : List Token} {then : List Symbol} → Selects rs ts then → Among rs then
 selected (selects_first e) = tested
@@ -146,11 +159,14 @@ forced p [] u us then other s a e l = elim a [ ]
 forced p (Begins c x ∷ rs) u us then other (selects_first h) tested e l = refl
 forced p (Begins c x ∷ rs) u us then other (selects_first h) (below a) e l =
     absurd (none_at p rs u.kind other a
-    (implied (c u.kind) (none_looks p rs u.kind) (and_left (implies (c u.kind) (none_looks p rs u.kind)) (decides p rs u.kind) (and_right (implies (looks p x u.kind) (c u.kind)) (implies (c u.kind) (none_looks p rs u.kind) && decides p rs u.kind) e)) h) l)
+    (implied (c u.kind) (none_looks p rs u.kind) (and_left (implies (c u.kind) (none_looks p rs u.kind)) (decides p rs u.kind)
+    (and_right (implies (looks p x u.kind) (c u.kind)) (implies (c u.kind) (none_looks p rs u.kind) && decides p rs u.kind) e)) h) l)
 forced p (Begins c x ∷ rs) u us then other (later h s) tested e l =
-    absurd (no (sym h ∙ implied (looks p other u.kind) (c u.kind) (and_left (implies (looks p other u.kind) (c u.kind)) (implies (c u.kind) (none_looks p rs u.kind) && decides p rs u.kind) e) l))
+    absurd (no (sym h ∙ implied (looks p other u.kind) (c u.kind)
+    (and_left (implies (looks p other u.kind) (c u.kind)) (implies (c u.kind) (none_looks p rs u.kind) && decides p rs u.kind) e) l))
 forced p (Begins c x ∷ rs) u us then other (later h s) (below a) e l =
-    forced p rs u us then other s a (and_right (implies (c u.kind) (none_looks p rs u.kind)) (decides p rs u.kind) (and_right (implies (looks p x u.kind) (c u.kind)) (implies (c u.kind) (none_looks p rs u.kind) && decides p rs u.kind) e)) l
+    forced p rs u us then other s a (and_right (implies (c u.kind) (none_looks p rs u.kind)) (decides p rs u.kind)
+    (and_right (implies (looks p x u.kind) (c u.kind)) (implies (c u.kind) (none_looks p rs u.kind) && decides p rs u.kind) e)) l
 forced p (Otherwise x ∷ rs) u us then other last untested e l = refl
 forced p (Otherwise x ∷ rs) u us then other last (below a) e l = absurd (none_at p rs u.kind other a e l)
 
@@ -159,7 +175,8 @@ pub goes_by : {p : Part} {ss : List Symbol} {u : Token} {us vs : List Token} {th
     Good (A p ∷ ss) → Selects (rules p) (u ∷ vs) then → Derives (A p ∷ ss) (u ∷ us) → Derives (then ++ ss) (u ∷ us)
 goes_by {u = u} {us = us} {then = then} g s (by_rule {p = p} {then = other} {ss = ss} a d) =
     subst (λ x. Derives (x ++ ss) (u ∷ us))
-    (forced p (rules p) u us then other (selects_same s) a (and_right (rules_fit p (rules p) u.kind) (decides p (rules p) u.kind) (sound_at p u.kind)) (looks_append p other ss u.kind g.0 (begins_so d)))
+    (forced p (rules p) u us then other (selects_same s) a (and_right (rules_fit p (rules p) u.kind) (decides p (rules p) u.kind) (sound_at p u.kind))
+    (looks_append p other ss u.kind g.0 (begins_so d)))
     d
 
 -- every stack derives a text
@@ -239,7 +256,8 @@ statement : Derives (A Statement ∷ []) []
 statement = by_rule (below (below (below (below (below (below (below (below untested)))))))) ends
 
 block : Derives (A Block ∷ []) (at_place kind.LeftBrace ∷ at_place kind.RightBrace ∷ [])
-block = by_rule untested (opening refl (derives_append statement (derives_append (nothing_of {p = MoreStatements} (below untested)) (token refl (closing ends)))))
+block = by_rule untested (opening refl (derives_append statement
+    (derives_append (nothing_of {p = MoreStatements} (below untested)) (token refl (closing ends)))))
 
 tops : Derives (A Tops ∷ []) []
 tops = by_rule (below (below (below untested))) ends
@@ -248,22 +266,31 @@ imports : Derives (A Imports ∷ []) []
 imports = by_rule (below untested) tops
 
 signature : Derives (A Signature ∷ []) (at_place kind.LeftParen ∷ at_place kind.RightParen ∷ at_place kind.LeftBrace ∷ at_place kind.RightBrace ∷ [])
-signature = by_rule untested (opening refl (derives_append (by_rule {p = Params} tested (token {t = at_place kind.RightParen} refl ends)) (closing (derives_append (nothing_of {p = Result} (below (below untested))) block))))
+signature = by_rule untested (opening refl (derives_append (by_rule {p = Params} tested (token {t = at_place kind.RightParen} refl ends))
+    (closing (derives_append (nothing_of {p = Result} (below (below untested))) block))))
 
 local_rest : Derives (A LocalRest ∷ []) (at_place kind.Name ∷ [])
 local_rest = by_rule (below untested) (derives_append type_use (nothing_of {p = LocalValues} (below untested)))
 
 single : (i : Item) → Text (A (Single i) ∷ [])
 single ImportItem = (at_place kind.Text ∷ [], by_rule (below untested) (token refl ends))
-single GlobalItem = (at_place kind.Name ∷ at_place kind.Name ∷ [], by_rule untested (token refl (derives_append (nothing_of {p = MoreNames} (below untested)) (derives_append type_use (nothing_of {p = GlobalValues} (below untested))))))
+single GlobalItem = (
+  at_place kind.Name ∷ at_place kind.Name ∷ [],
+  by_rule untested (token refl (derives_append (nothing_of {p = MoreNames} (below untested))
+      (derives_append type_use (nothing_of {p = GlobalValues} (below untested))))),
+)
 single TypeItem = (at_place kind.Name ∷ at_place kind.Name ∷ [], by_rule untested (token refl (by_rule (below untested) type_use)))
-single LocalItem = (at_place kind.Name ∷ at_place kind.Name ∷ [], by_rule untested (token refl (derives_append (nothing_of {p = MoreIdents} (below untested)) local_rest)))
+single LocalItem = (
+  at_place kind.Name ∷ at_place kind.Name ∷ [],
+  by_rule untested (token refl (derives_append (nothing_of {p = MoreIdents} (below untested)) local_rest)),
+)
 
 if_body : Derives (A IfBody ∷ []) (at_place kind.LeftBrace ∷ at_place kind.RightBrace ∷ [])
 if_body = by_rule untested (derives_append block (nothing_of {p = ElsePart} (below untested)))
 
 for_rest : Derives (A ForRest ∷ []) (at_place kind.Semicolon ∷ at_place kind.Semicolon ∷ at_place kind.LeftBrace ∷ at_place kind.RightBrace ∷ [])
-for_rest = by_rule untested (token refl (derives_append (nothing_of {p = ForCondition} (below untested)) (token refl (derives_append (nothing_of {p = ForPost} (below untested)) block))))
+for_rest = by_rule untested (token refl (derives_append (nothing_of {p = ForCondition} (below untested))
+    (token refl (derives_append (nothing_of {p = ForPost} (below untested)) block))))
 
 part_text : (p : Part) → Text (A p ∷ [])
 part_text File = (at_place kind.Package ∷ at_place kind.Name ∷ at_place kind.Semicolon ∷ [], by_rule untested (token refl (token refl (token refl imports))))
@@ -442,8 +469,10 @@ alive_in (r ∷ rs) then (below a) e = alive_in rs then a (and_right (alive (sym
 
 alive_append : (a b : List Symbol) → alive a ≡ true → alive b ≡ true → alive (a ++ b) ≡ true
 alive_append [] b e f = f
-alive_append (One c ∷ a) b e f = and_both (some_kind c kinds) (alive (a ++ b)) (and_left (some_kind c kinds) (alive a) e) (alive_append a b (and_right (some_kind c kinds) (alive a) e) f)
-alive_append (Opening c ∷ a) b e f = and_both (some_kind c kinds) (alive (a ++ b)) (and_left (some_kind c kinds) (alive a) e) (alive_append a b (and_right (some_kind c kinds) (alive a) e) f)
+alive_append (One c ∷ a) b e f = and_both (some_kind c kinds) (alive (a ++ b)) (and_left (some_kind c kinds) (alive a) e)
+    (alive_append a b (and_right (some_kind c kinds) (alive a) e) f)
+alive_append (Opening c ∷ a) b e f = and_both (some_kind c kinds) (alive (a ++ b)) (and_left (some_kind c kinds) (alive a) e)
+    (alive_append a b (and_right (some_kind c kinds) (alive a) e) f)
 alive_append (Close ∷ a) b e f = alive_append a b e f
 alive_append (A p ∷ a) b e f = alive_append a b e f
 
@@ -471,7 +500,8 @@ pub goes_by_levels : {p : Part} {ss : List Symbol} {u : Token} {us vs : List Tok
     (y : Derives (then ++ ss) (u ∷ us)) × ((d : ℕ) → levels d x ≡ levels d y)
 goes_by_levels {u = u} {us = us} {then = then} g s (by_rule {p = p} {then = other} {ss = ss} a x) =
     subst (λ z. (y : Derives (z ++ ss) (u ∷ us)) × ((d : ℕ) → levels d x ≡ levels d y))
-    (forced p (rules p) u us then other (selects_same s) a (and_right (rules_fit p (rules p) u.kind) (decides p (rules p) u.kind) (sound_at p u.kind)) (looks_append p other ss u.kind g.0 (begins_so x)))
+    (forced p (rules p) u us then other (selects_same s) a (and_right (rules_fit p (rules p) u.kind) (decides p (rules p) u.kind) (sound_at p u.kind))
+    (looks_append p other ss u.kind g.0 (begins_so x)))
     (x, λ d. refl)
 
 goes_on_levels : (p : Part) (ss then : List Symbol) (before : List Token) (u : Token) (others more ts : List Token) → ts ≡ before ++ (u ∷ others) →
@@ -480,10 +510,12 @@ goes_on_levels : (p : Part) (ss then : List Symbol) (before : List Token) (u : T
 goes_on_levels p ss then [] u others more ts e s g x = goes_by_levels g (subst (λ z. Selects (rules p) z then) e s) x
 goes_on_levels p ss then (b ∷ before) u others more ts e s g x = goes_by_levels g (subst (λ z. Selects (rules p) z then) e s) x
 
-pub token_levels : {c : Kind → Bool} {u : Token} {ss : List Symbol} {ts : List Token} (d : ℕ) (x : Derives (One c ∷ ss) (u ∷ ts)) → levels d x ≡ 0 ∷ levels d (after_token x)
+pub token_levels : {c : Kind → Bool} {u : Token} {ss : List Symbol} {ts : List Token} (d : ℕ) (x : Derives (One c ∷ ss) (u ∷ ts)) →
+    levels d x ≡ 0 ∷ levels d (after_token x)
 token_levels d (token e x) = refl
 
-pub opening_levels : {c : Kind → Bool} {u : Token} {ss : List Symbol} {ts : List Token} (d : ℕ) (x : Derives (Opening c ∷ ss) (u ∷ ts)) → levels d x ≡ suc d ∷ levels (suc d) (after_opening x)
+pub opening_levels : {c : Kind → Bool} {u : Token} {ss : List Symbol} {ts : List Token} (d : ℕ) (x : Derives (Opening c ∷ ss) (u ∷ ts)) →
+    levels d x ≡ suc d ∷ levels (suc d) (after_opening x)
 opening_levels d (opening e x) = refl
 
 pub closing_levels : {ss : List Symbol} {ts : List Token} (d : ℕ) (x : Derives (Close ∷ ss) ts) → levels (suc d) x ≡ levels d (after_closing x)
@@ -528,7 +560,8 @@ stops_at {d = d} (take {c = c} {t = u} {ss = ss} {ts = ts} e r) g a =
       left_is = f.left_is;
       viable = (f.viable.0, token e f.viable.1);
       dead = λ v others more same d. f.dead v others more same (after_token d);
-      shallow = λ more x. first_or_later (levels d x) (levels d (after_token x)) 0 (length f.before) (token_levels d x) (omega arith) (f.shallow more (after_token x));
+      shallow = λ more x. first_or_later (levels d x) (levels d (after_token x)) 0 (length f.before) (token_levels d x) (omega arith)
+          (f.shallow more (after_token x));
     }
 stops_at {d = d} (opens {c = c} {t = u} {ss = ss} {ts = ts} e b r) g a =
     let f = stops_at r g (and_right (some_kind c kinds) (alive ss) a) in
@@ -539,7 +572,8 @@ stops_at {d = d} (opens {c = c} {t = u} {ss = ss} {ts = ts} e b r) g a =
       left_is = f.left_is;
       viable = (f.viable.0, opening e f.viable.1);
       dead = λ v others more same d. f.dead v others more same (after_opening d);
-      shallow = λ more x. first_or_later (levels d x) (levels (suc d) (after_opening x)) (suc d) (length f.before) (opening_levels d x) (omega (arith, b)) (f.shallow more (after_opening x));
+      shallow = λ more x. first_or_later (levels d x) (levels (suc d) (after_opening x)) (suc d) (length f.before) (opening_levels d x) (omega (arith, b))
+          (f.shallow more (after_opening x));
     }
 stops_at (closes {d = d} r) g a =
     let f = stops_at r g a in
@@ -553,7 +587,8 @@ stops_at (closes {d = d} r) g a =
       shallow = λ more x k h. subst (λ z. get_or z k 0 ≤ 200) (sym (closing_levels d x)) (f.shallow more (after_closing x) k h);
     }
 stops_at {d = d} (expand {p = p} {then = then} {ss = ss} {ts = ts} s r) g a =
-    let f = stops_at r (good_rule p ss g.0 g.1 then (followed_at p then (selected s))) (alive_append then ss (alive_in (rules p) then (selected s) (part_alive p)) a) in
+    let f = stops_at r (good_rule p ss g.0 g.1 then (followed_at p then (selected s)))
+    (alive_append then ss (alive_in (rules p) then (selected s) (part_alive p)) a) in
     record {
       before = f.before;
       rest = f.rest;
@@ -609,7 +644,8 @@ deep_at {d = d} (take {c = c} {t = u} {ss = ss} {ts = ts} e r) g a =
       left_is = f.left_is;
       viable = (f.viable.0, token e f.viable.1);
       deep = λ more x. subst (λ z. 200 < get_or z (suc (length f.before)) 0) (sym (token_levels d x)) (f.deep more (after_token x));
-      first = λ more x. first_or_later (levels d x) (levels d (after_token x)) 0 (length f.before) (token_levels d x) (omega arith) (f.first more (after_token x));
+      first = λ more x. first_or_later (levels d x) (levels d (after_token x)) 0 (length f.before) (token_levels d x) (omega arith)
+          (f.first more (after_token x));
     }
 deep_at {d = d} (opens {c = c} {t = u} {ss = ss} {ts = ts} e b r) g a =
     let f = deep_at r g (and_right (some_kind c kinds) (alive ss) a) in
@@ -621,7 +657,8 @@ deep_at {d = d} (opens {c = c} {t = u} {ss = ss} {ts = ts} e b r) g a =
       left_is = f.left_is;
       viable = (f.viable.0, opening e f.viable.1);
       deep = λ more x. subst (λ z. 200 < get_or z (suc (length f.before)) 0) (sym (opening_levels d x)) (f.deep more (after_opening x));
-      first = λ more x. first_or_later (levels d x) (levels (suc d) (after_opening x)) (suc d) (length f.before) (opening_levels d x) (omega (arith, b)) (f.first more (after_opening x));
+      first = λ more x. first_or_later (levels d x) (levels (suc d) (after_opening x)) (suc d) (length f.before) (opening_levels d x) (omega (arith, b))
+          (f.first more (after_opening x));
     }
 deep_at (closes {d = d} r) g a =
     let f = deep_at r g a in
@@ -636,7 +673,8 @@ deep_at (closes {d = d} r) g a =
       first = λ more x k h. subst (λ z. get_or z k 0 ≤ 200) (sym (closing_levels d x)) (f.first more (after_closing x) k h);
     }
 deep_at {d = d} (expand {p = p} {then = then} {ss = ss} {ts = ts} s r) g a =
-    let f = deep_at r (good_rule p ss g.0 g.1 then (followed_at p then (selected s))) (alive_append then ss (alive_in (rules p) then (selected s) (part_alive p)) a) in
+    let f = deep_at r (good_rule p ss g.0 g.1 then (followed_at p then (selected s)))
+    (alive_append then ss (alive_in (rules p) then (selected s) (part_alive p)) a) in
     record {
       before = f.before;
       t = f.t;
@@ -644,8 +682,10 @@ deep_at {d = d} (expand {p = p} {then = then} {ss = ss} {ts = ts} s r) g a =
       split = f.split;
       left_is = f.left_is;
       viable = (f.viable.0, by_rule (selected s) f.viable.1);
-      deep = λ more x. let y = goes_on_levels p ss then f.before f.t f.others more ts f.split s g x in subst (λ z. 200 < get_or z (length f.before) 0) (sym (y.1 d)) (f.deep more y.0);
-      first = λ more x k h. let y = goes_on_levels p ss then f.before f.t f.others more ts f.split s g x in subst (λ z. get_or z k 0 ≤ 200) (sym (y.1 d)) (f.first more y.0 k h);
+      deep = λ more x. let y = goes_on_levels p ss then f.before f.t f.others more ts f.split s g x in
+          subst (λ z. 200 < get_or z (length f.before) 0) (sym (y.1 d)) (f.deep more y.0);
+      first = λ more x k h. let y = goes_on_levels p ss then f.before f.t f.others more ts f.split s g x in
+          subst (λ z. get_or z k 0 ≤ 200) (sym (y.1 d)) (f.first more y.0 k h);
     }
 deep_at {d = d} (too_deep {c = c} {t = u} {ss = ss} {ts = ts} e b) g a =
     let m = some_text ss (and_right (some_kind c kinds) (alive ss) a) in

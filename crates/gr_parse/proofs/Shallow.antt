@@ -6,7 +6,8 @@ use Rattle.gr_tree.specs.declared.syntax.Token.{Token}
 use Rattle.gr_tree.specs.Grammar.{Symbol, A, Part, rules, File}
 use Rattle.gr_tree.specs.Language.{levels, Derives, ends, closing, by_rule}
 use Rattle.gr_parse.specs.Machine.{Run, take, opens, closes, expand, Accepted, accept, Selects}
-use Rattle.gr_parse.proofs.Predictive.{Good, good_rule, followed_at, selected, goes_by_levels, token_levels, opening_levels, closing_levels, after_token, after_opening, after_closing}
+use Rattle.gr_parse.proofs.Predictive.{Good, good_rule, followed_at, selected, goes_by_levels, token_levels, opening_levels, closing_levels, after_token}
+use Rattle.gr_parse.proofs.Predictive.{after_opening, after_closing}
 
 abbrev Shallow : List ℕ → Type 0
 Shallow ls = All (λ l. l ≤ 200) ls
@@ -26,7 +27,8 @@ shallow_at {d = d} accept g x = subst Shallow (sym (no_levels d x)) (All-nil (λ
 shallow_at {d = d} (take e r) g x =
     subst Shallow (sym (token_levels d x)) (All-cons (λ l. l ≤ 200) 0 (levels d (after_token x)) (omega arith) (shallow_at r g (after_token x)))
 shallow_at {d = d} (opens e b r) g x =
-    subst Shallow (sym (opening_levels d x)) (All-cons (λ l. l ≤ 200) (suc d) (levels (suc d) (after_opening x)) (omega (arith, b)) (shallow_at r g (after_opening x)))
+    subst Shallow (sym (opening_levels d x)) (All-cons (λ l. l ≤ 200) (suc d) (levels (suc d) (after_opening x)) (omega (arith, b))
+    (shallow_at r g (after_opening x)))
 shallow_at (closes {d = d} r) g x = subst Shallow (sym (closing_levels d x)) (shallow_at r g (after_closing x))
 shallow_at {d = d} (expand {p = p} {then = then} {ss = ss} {ts = ts} s r) g x =
     shallow_rule p ss then d ts s g (shallow_at r (good_rule p ss g.0 g.1 then (followed_at p then (selected s)))) x

@@ -6,18 +6,21 @@ use Rattle.gr_tree.specs.declared.syntax.Token.{Token}
 use Rattle.gr_tree.specs.declared.syntax.PrefixOp.{PrefixOp}
 use Rattle.gr_tree.specs.declared.tree.TypeExpr.{TypeExpr}
 use Rattle.gr_tree.specs.declared.tree.TypeExpr.TheVariants as type
-use Rattle.gr_tree.specs.declared.tree.Expr.{Expr, Row_of-Link, end_of-Link, more_of-Link, items-the_row-Link, items_hidden-the_row-Link-0, Row_of-Operand, end_of-Operand, more_of-Operand, items-the_row-Operand, items_hidden-the_row-Operand-1}
+use Rattle.gr_tree.specs.declared.tree.Expr.{Expr, Row_of-Link, end_of-Link, more_of-Link, items-the_row-Link, items_hidden-the_row-Link-0, Row_of-Operand}
+use Rattle.gr_tree.specs.declared.tree.Expr.{end_of-Operand, more_of-Operand, items-the_row-Operand, items_hidden-the_row-Operand-1}
 use Rattle.gr_tree.specs.declared.tree.Expr.TheBlock.{hidden-the_row-Link-0, hidden-the_row-Operand-1, hidden-the_row-ExprItem-2, hidden-the_row-Element-3}
 use Rattle.gr_tree.specs.declared.tree.Expr.TheVariants as expr
 use Rattle.gr_tree.specs.declared.tree.Expr.TheViews.{roll-CompositeLit}
 use Rattle.gr_tree.specs.declared.tree.Link.{Link, Row_of-ExprItem, end_of-ExprItem, more_of-ExprItem, items-the_row-ExprItem, items_hidden-the_row-ExprItem-2}
 use Rattle.gr_tree.specs.declared.tree.Link.TheVariants as link
-use Rattle.gr_tree.specs.declared.tree.CompositeLit.{CompositeLit, Row_of-Element, end_of-Element, more_of-Element, items-the_row-Element, items_hidden-the_row-Element-3}
+use Rattle.gr_tree.specs.declared.tree.CompositeLit.{CompositeLit, Row_of-Element, end_of-Element, more_of-Element, items-the_row-Element}
+use Rattle.gr_tree.specs.declared.tree.CompositeLit.{items_hidden-the_row-Element-3}
 use Rattle.gr_tree.specs.Tree.{LinkTrees}
 use Rattle.gr_parse.specs.Spelling.{type_spelled, expr_spelled, literal_spelled, operand_spelled, link_spelled, expr_item_spelled, element_spelled}
 use Rattle.gr_tree.specs.Grammar.{is_leaf, is_some}
 use Rattle.gr_parse.specs.Leaf.{leaf_of}
-use Rattle.gr_tree.specs.Flatten.{sign, sign_if, binary_kind, prefix_kind, all_tokens, type_tokens, key_tokens, expr_tokens, operand_tokens, link_tokens, argument_tokens, literal_tokens, element_tokens}
+use Rattle.gr_tree.specs.Flatten.{sign, sign_if, binary_kind, prefix_kind, all_tokens, type_tokens, key_tokens, expr_tokens, operand_tokens, link_tokens}
+use Rattle.gr_tree.specs.Flatten.{argument_tokens, literal_tokens, element_tokens}
 use Rattle.gr_tree.specs.View.{type_view, key_view, expr_view, literal_view, link_view, links_view, operands_view, arguments_view, elements_view}
 
 -- types
@@ -34,7 +37,8 @@ pub pointer_tokens : (s : ℕ) (t : _) → type_tokens (type_view (type.Pointer 
 unfolding type_tokens type_view
 pointer_tokens s t = refl
 
-pub slice_tokens : (o c : ℕ) (t : _) → type_tokens (type_view (type.Slice o c t)) ≡ sign kind.LeftBracket o ∷ sign kind.RightBracket c ∷ type_tokens (type_view t.value)
+pub slice_tokens : (o c : ℕ) (t : _) → type_tokens (type_view (type.Slice o c t)) ≡ sign kind.LeftBracket o ∷ sign kind.RightBracket c ∷ type_tokens
+    (type_view t.value)
 unfolding type_tokens type_view
 slice_tokens o c t = refl
 
@@ -199,8 +203,10 @@ prefix_tokens op p e = refl
 link_more : (l : Link) (others : LinkTrees) → link_tokens (link_view l others) ≡ link_spelled l ++ link_tokens others
 unfolding link_tokens link_view
 link_more (link.Selector d n) others = refl
-link_more (link.Index o e c) others = ap (λ x. sign kind.LeftBracket o ∷ x) (sym (append_assoc (expr_spelled e) (sign kind.RightBracket c ∷ []) (link_tokens others)))
-link_more (link.Call' o shape row c) others = ap (λ x. sign kind.LeftParen o ∷ x) (sym (append_assoc (argument_tokens (arguments_view row)) (sign kind.RightParen c ∷ []) (link_tokens others)))
+link_more (link.Index o e c) others = ap (λ x. sign kind.LeftBracket o ∷ x)
+    (sym (append_assoc (expr_spelled e) (sign kind.RightBracket c ∷ []) (link_tokens others)))
+link_more (link.Call' o shape row c) others = ap (λ x. sign kind.LeftParen o ∷ x)
+    (sym (append_assoc (argument_tokens (arguments_view row)) (sign kind.RightParen c ∷ []) (link_tokens others)))
 
 link_row_tokens : {n : _} (row : Row_of-Link n) → link_tokens (links_view row) ≡ all_tokens link_spelled (items-the_row-Link n row)
 unfolding all_tokens links_view link_tokens
@@ -209,7 +215,8 @@ link_row_tokens (more_of-Link l rest) = link_more l (links_view rest) ∙ ap (λ
 
 pub chain_tokens : (e : _) (links : _) → expr_spelled (expr.Chain e links) ≡ expr_spelled e.value ++ all_tokens link_spelled links.items
 unfolding expr_tokens expr_view
-chain_tokens e links = ap (λ x. expr_spelled e.value ++ x) (link_row_tokens (hidden-the_row-Link-0 links) ∙ ap (λ xs. all_tokens link_spelled xs) (items_hidden-the_row-Link-0 links))
+chain_tokens e links = ap (λ x. expr_spelled e.value ++ x)
+    (link_row_tokens (hidden-the_row-Link-0 links) ∙ ap (λ xs. all_tokens link_spelled xs) (items_hidden-the_row-Link-0 links))
 
 pub selector_tokens : (d n : ℕ) → link_spelled (link.Selector d n) ≡ sign kind.Dot d ∷ sign kind.Name n ∷ []
 unfolding link_tokens link_view
@@ -222,11 +229,14 @@ index_tokens o e c = refl
 argument_row_tokens : {n : _} (row : Row_of-ExprItem n) → argument_tokens (arguments_view row) ≡ all_tokens expr_item_spelled (items-the_row-ExprItem n row)
 unfolding all_tokens arguments_view argument_tokens
 argument_row_tokens end_of-ExprItem = refl
-argument_row_tokens (more_of-ExprItem e c rest) = ap (λ x. expr_spelled e ++ (sign_if kind.Comma c ++ x)) (argument_row_tokens rest) ∙ sym (append_assoc (expr_spelled e) (sign_if kind.Comma c) (all_tokens expr_item_spelled (items-the_row-ExprItem _ rest)))
+argument_row_tokens (more_of-ExprItem e c rest) = ap (λ x. expr_spelled e ++ (sign_if kind.Comma c ++ x)) (argument_row_tokens rest) ∙
+    sym (append_assoc (expr_spelled e) (sign_if kind.Comma c) (all_tokens expr_item_spelled (items-the_row-ExprItem _ rest)))
 
-pub call_tokens : (o : ℕ) (xs : _) (c : ℕ) → link_spelled (link.Call o xs c) ≡ sign kind.LeftParen o ∷ (all_tokens expr_item_spelled xs.items ++ (sign kind.RightParen c ∷ []))
+pub call_tokens : (o : ℕ) (xs : _) (c : ℕ) → link_spelled (link.Call o xs c) ≡ sign kind.LeftParen o ∷
+    (all_tokens expr_item_spelled xs.items ++ (sign kind.RightParen c ∷ []))
 unfolding link_tokens link_view
-call_tokens o xs c = ap (λ x. sign kind.LeftParen o ∷ (x ++ (sign kind.RightParen c ∷ []))) (argument_row_tokens (hidden-the_row-ExprItem-2 xs) ∙ ap (λ xs. all_tokens expr_item_spelled xs) (items_hidden-the_row-ExprItem-2 xs))
+call_tokens o xs c = ap (λ x. sign kind.LeftParen o ∷ (x ++ (sign kind.RightParen c ∷ [])))
+    (argument_row_tokens (hidden-the_row-ExprItem-2 xs) ∙ ap (λ xs. all_tokens expr_item_spelled xs) (items_hidden-the_row-ExprItem-2 xs))
 
 -- operands
 
@@ -237,7 +247,8 @@ operand_row_tokens (more_of-Operand op p e rest) = ap (λ x. sign (binary_kind o
 
 pub binary_tokens : (e : _) (os : _) → expr_spelled (expr.Binary e os) ≡ expr_spelled e.value ++ all_tokens operand_spelled os.items
 unfolding expr_tokens expr_view
-binary_tokens e os = ap (λ x. expr_spelled e.value ++ x) (operand_row_tokens (hidden-the_row-Operand-1 os) ∙ ap (λ xs. all_tokens operand_spelled xs) (items_hidden-the_row-Operand-1 os))
+binary_tokens e os = ap (λ x. expr_spelled e.value ++ x)
+    (operand_row_tokens (hidden-the_row-Operand-1 os) ∙ ap (λ xs. all_tokens operand_spelled xs) (items_hidden-the_row-Operand-1 os))
 
 -- literals
 
@@ -246,10 +257,13 @@ unfolding all_tokens elements_view element_tokens
 element_row_tokens end_of-Element = refl
 element_row_tokens (more_of-Element k e c rest) =
     ap (λ x. key_tokens (key_view k) ++ (expr_spelled e ++ (sign_if kind.Comma c ++ x))) (element_row_tokens rest)
-    ∙ (ap (λ x. key_tokens (key_view k) ++ x) (sym (append_assoc (expr_spelled e) (sign_if kind.Comma c) (all_tokens element_spelled (items-the_row-Element _ rest))))
+    ∙ (ap (λ x. key_tokens (key_view k) ++ x) (sym (append_assoc (expr_spelled e) (sign_if kind.Comma c)
+    (all_tokens element_spelled (items-the_row-Element _ rest))))
     ∙ sym (append_assoc (key_tokens (key_view k)) (expr_spelled e ++ sign_if kind.Comma c) (all_tokens element_spelled (items-the_row-Element _ rest))))
 
-pub literal_row_tokens : (t : TypeExpr) (o : ℕ) (es : _) (c : ℕ) → literal_spelled (roll-CompositeLit (record { literal_type = t; «open» = o; elements = es; close = c })) ≡
+pub literal_row_tokens : (t : TypeExpr) (o : ℕ) (es : _) (c : ℕ) →
+    literal_spelled (roll-CompositeLit (record { literal_type = t; «open» = o; elements = es; close = c })) ≡
     type_spelled t ++ (sign kind.LeftBrace o ∷ (all_tokens element_spelled es.items ++ (sign kind.RightBrace c ∷ [])))
 unfolding literal_tokens literal_view roll-CompositeLit denote.Hole.Carrier.roll
-literal_row_tokens t o es c = ap (λ x. type_spelled t ++ (sign kind.LeftBrace o ∷ (x ++ (sign kind.RightBrace c ∷ [])))) (element_row_tokens (hidden-the_row-Element-3 es) ∙ ap (λ xs. all_tokens element_spelled xs) (items_hidden-the_row-Element-3 es))
+literal_row_tokens t o es c = ap (λ x. type_spelled t ++ (sign kind.LeftBrace o ∷ (x ++ (sign kind.RightBrace c ∷ []))))
+    (element_row_tokens (hidden-the_row-Element-3 es) ∙ ap (λ xs. all_tokens element_spelled xs) (items_hidden-the_row-Element-3 es))

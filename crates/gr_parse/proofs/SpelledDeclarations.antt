@@ -13,10 +13,12 @@ use Rattle.gr_tree.specs.declared.tree.Param.{Param}
 use Rattle.gr_tree.specs.declared.tree.Results.TheVariants as results
 use Rattle.gr_tree.specs.declared.tree.Group.{Group}
 use Rattle.gr_tree.specs.declared.tree.Group.TheVariants as group
-use Rattle.gr_tree.specs.Flatten.{sign, sign_if, tokens_if, value_tokens, item_tokens, group_tokens, basic_tokens, type_tokens, import_tokens, global_tokens, field_tokens, body_tokens, type_spec_tokens, receiver_tokens, param_tokens, result_tokens}
+use Rattle.gr_tree.specs.Flatten.{sign, sign_if, tokens_if, value_tokens, item_tokens, group_tokens, basic_tokens, type_tokens, import_tokens}
+use Rattle.gr_tree.specs.Flatten.{global_tokens, field_tokens, body_tokens, type_spec_tokens, receiver_tokens, param_tokens, result_tokens}
 use Rattle.gr_tree.specs.View.{option_view, item_view, group_view, type_view}
 use Rattle.gr_tree.specs.FileView.{import_view, var_values_view, global_view, field_view, body_view, type_spec_view, receiver_view, param_view, results_view}
-use Rattle.gr_parse.specs.Spelling.{names_spelled, ident_spelled, idents_spelled, type_spelled, import_spelled, global_spelled, field_spelled, body_spelled, type_spec_spelled, receiver_spelled, param_spelled, results_spelled}
+use Rattle.gr_parse.specs.Spelling.{names_spelled, ident_spelled, idents_spelled, type_spelled, import_spelled, global_spelled, field_spelled, body_spelled}
+use Rattle.gr_parse.specs.Spelling.{type_spec_spelled, receiver_spelled, param_spelled, results_spelled}
 use Rattle.gr_parse.specs.ListSpelling.{items_spelled, group_spelled}
 use Rattle.gr_parse.proofs.StatementSteps.{all_tokens_map}
 
@@ -24,7 +26,8 @@ pub import_spelled_as : (i : ImportSpec) → import_spelled i ≡ sign_if kind.N
 unfolding import_tokens import_view
 import_spelled_as i = refl
 
-pub global_spelled_as : (g : VarSpec) → global_spelled g ≡ names_spelled g.names.items ++ (type_spelled g.var_type ++ tokens_if (value_tokens basic_tokens) (option_view var_values_view g.values))
+pub global_spelled_as : (g : VarSpec) → global_spelled g ≡ names_spelled g.names.items ++
+    (type_spelled g.var_type ++ tokens_if (value_tokens basic_tokens) (option_view var_values_view g.values))
 unfolding global_tokens global_view
 global_spelled_as g = refl
 
@@ -36,9 +39,11 @@ pub type_body_spelled : (t : TypeExpr) → body_spelled (body.Type t) ≡ type_s
 unfolding body_tokens body_view
 type_body_spelled t = refl
 
-pub struct_spelled : (s o : ℕ) (fs : _) (c : ℕ) → body_spelled (body.Struct s o fs c) ≡ sign kind.Struct s ∷ sign kind.LeftBrace o ∷ (items_spelled kind.Semicolon field_spelled fs.items ++ (sign kind.RightBrace c ∷ []))
+pub struct_spelled : (s o : ℕ) (fs : _) (c : ℕ) → body_spelled (body.Struct s o fs c) ≡ sign kind.Struct s ∷ sign kind.LeftBrace o ∷
+    (items_spelled kind.Semicolon field_spelled fs.items ++ (sign kind.RightBrace c ∷ []))
 unfolding body_tokens body_view
-struct_spelled s o fs c = ap (λ x. sign kind.Struct s ∷ sign kind.LeftBrace o ∷ (x ++ (sign kind.RightBrace c ∷ []))) (sym (all_tokens_map (item_tokens kind.Semicolon field_tokens) (item_view field_view) fs.items))
+struct_spelled s o fs c = ap (λ x. sign kind.Struct s ∷ sign kind.LeftBrace o ∷ (x ++ (sign kind.RightBrace c ∷ [])))
+    (sym (all_tokens_map (item_tokens kind.Semicolon field_tokens) (item_view field_view) fs.items))
 
 pub type_spec_spelled_as : (t : TypeSpec) → type_spec_spelled t ≡ sign kind.Name t.name ∷ body_spelled t.body
 unfolding type_spec_tokens type_spec_view
@@ -61,12 +66,15 @@ pub one_result_spelled : (t : TypeExpr) → results_spelled (results.Single t) �
 unfolding result_tokens results_view
 one_result_spelled t = refl
 
-pub several_results_spelled : (o : ℕ) (ts : _) (c : ℕ) → results_spelled (results.Several o ts c) ≡ sign kind.LeftParen o ∷ (items_spelled kind.Comma type_spelled ts.items ++ (sign kind.RightParen c ∷ []))
+pub several_results_spelled : (o : ℕ) (ts : _) (c : ℕ) →
+    results_spelled (results.Several o ts c) ≡ sign kind.LeftParen o ∷ (items_spelled kind.Comma type_spelled ts.items ++ (sign kind.RightParen c ∷ []))
 unfolding result_tokens results_view
-several_results_spelled o ts c = ap (λ x. sign kind.LeftParen o ∷ (x ++ (sign kind.RightParen c ∷ []))) (sym (all_tokens_map (item_tokens kind.Comma type_tokens) (item_view type_view) ts.items))
+several_results_spelled o ts c = ap (λ x. sign kind.LeftParen o ∷ (x ++ (sign kind.RightParen c ∷ [])))
+    (sym (all_tokens_map (item_tokens kind.Comma type_tokens) (item_view type_view) ts.items))
 
 -- a group of trees is spelled as the program's group of what stands for them
 pub group_spelled_as : {X Y : Type 0} (f : Y → List Token) (view : X → Y) (g : Group X) → group_spelled (λ x. f (view x)) g ≡ group_tokens f (group_view view g)
 unfolding group_tokens group_view
 group_spelled_as f view (group.Single x) = refl
-group_spelled_as f view (group.Several o xs c) = ap (λ x. sign kind.LeftParen o ∷ (x ++ (sign kind.RightParen c ∷ []))) (all_tokens_map (item_tokens kind.Semicolon f) (item_view view) xs.items)
+group_spelled_as f view (group.Several o xs c) = ap (λ x. sign kind.LeftParen o ∷ (x ++ (sign kind.RightParen c ∷ [])))
+    (all_tokens_map (item_tokens kind.Semicolon f) (item_view view) xs.items)

@@ -7,7 +7,8 @@ use Rattle.gr_tree.specs.declared.tree.Expr.{Expr}
 use Rattle.gr_tree.specs.declared.tree.ExprItem.{ExprItem}
 use Rattle.gr_tree.specs.declared.tree.LocalSpec.{LocalSpec}
 use Rattle.gr_tree.specs.declared.tree.SimpleStmt.TheVariants as simple
-use Rattle.gr_tree.specs.Flatten.{sign, tokens_if, value_tokens, item_tokens, all_tokens, step_kind, update_kind, expr_tokens, type_tokens, simple_tokens, local_tokens}
+use Rattle.gr_tree.specs.Flatten.{sign, tokens_if, value_tokens, item_tokens, all_tokens, step_kind, update_kind, expr_tokens, type_tokens, simple_tokens}
+use Rattle.gr_tree.specs.Flatten.{local_tokens}
 use Rattle.gr_tree.specs.View.{option_view, type_view, expr_item_view}
 use Rattle.gr_tree.specs.FileView.{simple_view, values_view, local_view}
 use Rattle.gr_parse.specs.Spelling.{expr_spelled, expr_item_spelled, exprs_spelled, idents_spelled, simple_spelled, local_spelled}
@@ -18,7 +19,8 @@ exprs_by_item : (xs : List ExprItem) → all_tokens expr_item_spelled xs ≡ exp
 exprs_by_item xs = all_tokens_map (item_tokens kind.Comma expr_tokens) expr_item_view xs
 
 pub exprs_push : (xs ys : List ExprItem) (x : ExprItem) → ys ≡ xs ++ (x ∷ []) → exprs_spelled ys ≡ exprs_spelled xs ++ expr_item_spelled x
-exprs_push xs ys x e = ap exprs_spelled e ∙ (sym (exprs_by_item (xs ++ (x ∷ []))) ∙ (sym (tokens_push expr_item_spelled xs x) ∙ ap (λ z. z ++ expr_item_spelled x) (exprs_by_item xs)))
+exprs_push xs ys x e = ap exprs_spelled e ∙ (sym (exprs_by_item (xs ++ (x ∷ []))) ∙
+    (sym (tokens_push expr_item_spelled xs x) ∙ ap (λ z. z ++ expr_item_spelled x) (exprs_by_item xs)))
 
 pub exprs_none : (xs : List ExprItem) → xs ≡ [] → exprs_spelled xs ≡ []
 unfolding all_tokens
@@ -36,18 +38,22 @@ pub step_spelled : (e : Expr) (op : StepOp) (p : ℕ) → simple_spelled (simple
 unfolding simple_tokens simple_view
 step_spelled e op p = refl
 
-pub update_spelled : (e : Expr) (op : UpdateOp) (p : ℕ) (f : Expr) → simple_spelled (simple.Update e op p f) ≡ expr_spelled e ++ (sign (update_kind op) p ∷ expr_spelled f)
+pub update_spelled : (e : Expr) (op : UpdateOp) (p : ℕ) (f : Expr) →
+    simple_spelled (simple.Update e op p f) ≡ expr_spelled e ++ (sign (update_kind op) p ∷ expr_spelled f)
 unfolding simple_tokens simple_view
 update_spelled e op p f = refl
 
-pub assign_spelled : (es : _) (p : ℕ) (fs : _) → simple_spelled (simple.Assign es p fs) ≡ exprs_spelled es.items ++ (sign kind.Assign p ∷ exprs_spelled fs.items)
+pub assign_spelled : (es : _) (p : ℕ) (fs : _) → simple_spelled (simple.Assign es p fs) ≡ exprs_spelled es.items ++
+    (sign kind.Assign p ∷ exprs_spelled fs.items)
 unfolding simple_tokens simple_view
 assign_spelled es p fs = refl
 
-pub define_spelled : (es : _) (p : ℕ) (fs : _) → simple_spelled (simple.Define es p fs) ≡ exprs_spelled es.items ++ (sign kind.Define p ∷ exprs_spelled fs.items)
+pub define_spelled : (es : _) (p : ℕ) (fs : _) → simple_spelled (simple.Define es p fs) ≡ exprs_spelled es.items ++
+    (sign kind.Define p ∷ exprs_spelled fs.items)
 unfolding simple_tokens simple_view
 define_spelled es p fs = refl
 
-pub local_spelled_as : (l : LocalSpec) → local_spelled l ≡ idents_spelled l.names.items ++ (tokens_if type_tokens (option_view type_view l.local_type) ++ tokens_if (value_tokens expr_tokens) (option_view values_view l.values))
+pub local_spelled_as : (l : LocalSpec) → local_spelled l ≡ idents_spelled l.names.items ++
+    (tokens_if type_tokens (option_view type_view l.local_type) ++ tokens_if (value_tokens expr_tokens) (option_view values_view l.values))
 unfolding local_tokens local_view
 local_spelled_as l = refl

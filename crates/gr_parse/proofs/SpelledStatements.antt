@@ -11,16 +11,22 @@ use Rattle.gr_tree.specs.declared.tree.Else.{Else}
 use Rattle.gr_tree.specs.declared.tree.Else.TheBlock.{hidden-the_row-BlockItem-0}
 use Rattle.gr_tree.specs.declared.tree.Else.TheViews.{roll-Block, roll-IfStmt}
 use Rattle.gr_tree.specs.declared.tree.Else.TheVariants as else
-use Rattle.gr_tree.specs.declared.tree.Block.{Block, Row_of-BlockItem, end_of-BlockItem, more_of-BlockItem, items-the_row-BlockItem, items_hidden-the_row-BlockItem-0}
+use Rattle.gr_tree.specs.declared.tree.Block.{Block, Row_of-BlockItem, end_of-BlockItem, more_of-BlockItem, items-the_row-BlockItem}
+use Rattle.gr_tree.specs.declared.tree.Block.{items_hidden-the_row-BlockItem-0}
 use Rattle.gr_tree.specs.declared.tree.IfStmt.{IfStmt}
 use Rattle.gr_tree.specs.declared.tree.FuncDecl.{FuncDecl}
 use Rattle.gr_tree.specs.declared.tree.ImportDecl.{ImportDecl}
 use Rattle.gr_tree.specs.declared.tree.Decl.TheVariants as decl
 use Rattle.gr_tree.specs.declared.tree.File.{File}
-use Rattle.gr_tree.specs.Flatten.{sign, sign_if, tokens_if, item_tokens, all_tokens, expr_tokens, simple_tokens, init_tokens, for_tokens, statement_tokens, block_tokens, statements_tokens, if_tokens, else_tokens, local_tokens, import_tokens, global_tokens, type_spec_tokens, receiver_tokens, param_tokens, func_tokens, imports_tokens, decl_tokens, flatten}
+use Rattle.gr_tree.specs.Flatten.{sign, sign_if, tokens_if, item_tokens, all_tokens, expr_tokens, simple_tokens, init_tokens, for_tokens, statement_tokens}
+use Rattle.gr_tree.specs.Flatten.{block_tokens, statements_tokens, if_tokens, else_tokens, local_tokens, import_tokens, global_tokens, type_spec_tokens}
+use Rattle.gr_tree.specs.Flatten.{receiver_tokens, param_tokens, func_tokens, imports_tokens, decl_tokens, flatten}
 use Rattle.gr_tree.specs.View.{option_view, item_view, expr_view}
-use Rattle.gr_tree.specs.FileView.{simple_view, init_view, for_view, stmt_view, block_view, statements_view, if_view, else_view, local_view, import_view, global_view, type_spec_view, receiver_view, param_view, func_view, imports_view, decl_view, file_view}
-use Rattle.gr_parse.specs.Spelling.{expr_spelled, exprs_spelled, simple_spelled, init_spelled, for_spelled, stmt_spelled, block_spelled, block_item_spelled, if_spelled, else_spelled, local_spelled, import_spelled, global_spelled, type_spec_spelled, param_spelled, results_spelled, func_spelled, imports_spelled, decl_spelled, file_spelled}
+use Rattle.gr_tree.specs.FileView.{simple_view, init_view, for_view, stmt_view, block_view, statements_view, if_view, else_view, local_view, import_view}
+use Rattle.gr_tree.specs.FileView.{global_view, type_spec_view, receiver_view, param_view, func_view, imports_view, decl_view, file_view}
+use Rattle.gr_parse.specs.Spelling.{expr_spelled, exprs_spelled, simple_spelled, init_spelled, for_spelled, stmt_spelled, block_spelled, block_item_spelled}
+use Rattle.gr_parse.specs.Spelling.{if_spelled, else_spelled, local_spelled, import_spelled, global_spelled, type_spec_spelled, param_spelled}
+use Rattle.gr_parse.specs.Spelling.{results_spelled, func_spelled, imports_spelled, decl_spelled, file_spelled}
 use Rattle.gr_parse.specs.ListSpelling.{items_spelled, group_spelled}
 use Rattle.gr_parse.proofs.StatementSteps.{all_tokens_map}
 use Rattle.gr_parse.proofs.SpelledDeclarations.{group_spelled_as}
@@ -40,7 +46,9 @@ unfolding for_tokens for_view
 while_spelled e = refl
 
 pub clauses_spelled : (i : Option SimpleStmt) (s : ℕ) (e : Option Expr) (t : ℕ) (p : Option SimpleStmt) → for_spelled (for.Clauses i s e t p) ≡
-    tokens_if simple_tokens (option_view simple_view i) ++ (sign kind.Semicolon s ∷ (tokens_if expr_tokens (option_view expr_view e) ++ (sign kind.Semicolon t ∷ tokens_if simple_tokens (option_view simple_view p))))
+    tokens_if simple_tokens (option_view simple_view i) ++
+    (sign kind.Semicolon s ∷ (tokens_if expr_tokens (option_view expr_view e) ++
+    (sign kind.Semicolon t ∷ tokens_if simple_tokens (option_view simple_view p))))
 unfolding for_tokens for_view
 clauses_spelled i s e t p = refl
 
@@ -84,7 +92,8 @@ return_spelled p es = refl
 
 -- blocks
 
-statement_row_tokens : {n : _} (row : Row_of-BlockItem n) → statements_tokens (statements_view row) ≡ all_tokens block_item_spelled (items-the_row-BlockItem n row)
+statement_row_tokens : {n : _} (row : Row_of-BlockItem n) →
+    statements_tokens (statements_view row) ≡ all_tokens block_item_spelled (items-the_row-BlockItem n row)
 unfolding all_tokens statements_view statements_tokens
 statement_row_tokens end_of-BlockItem = refl
 statement_row_tokens (more_of-BlockItem s p rest) = ap (λ x. stmt_spelled s ++ (sign_if kind.Semicolon p ++ x)) (statement_row_tokens rest)
@@ -98,10 +107,12 @@ block_spelled_as o ss c = ap (λ x. sign kind.LeftBrace o ∷ (x ++ (sign kind.R
 
 -- `if` and `else`
 
-pub if_spelled_as : (p : ℕ) (i : Option IfInit) (e : Expr) (b : Block) (rest : Else) → if_spelled (roll-IfStmt (record { at = p; init = i; condition = e; body = b; otherwise = rest })) ≡
+pub if_spelled_as : (p : ℕ) (i : Option IfInit) (e : Expr) (b : Block) (rest : Else) →
+    if_spelled (roll-IfStmt (record { at = p; init = i; condition = e; body = b; otherwise = rest })) ≡
     sign kind.If p ∷ ((tokens_if init_tokens (option_view init_view i) ++ expr_spelled e) ++ (block_spelled b ++ else_spelled rest))
 unfolding if_tokens if_view roll-IfStmt denote.Hole.Carrier.roll
-if_spelled_as p i e b rest = ap (λ x. sign kind.If p ∷ x) (sym (append_assoc (tokens_if init_tokens (option_view init_view i)) (expr_spelled e) (block_spelled b ++ else_spelled rest)))
+if_spelled_as p i e b rest = ap (λ x. sign kind.If p ∷ x)
+    (sym (append_assoc (tokens_if init_tokens (option_view init_view i)) (expr_spelled e) (block_spelled b ++ else_spelled rest)))
 
 pub no_else_spelled : else_spelled else.None ≡ []
 unfolding else_tokens else_view
@@ -117,22 +128,29 @@ else_block_spelled p b = refl
 
 -- functions, imports and files
 
-pub func_spelled_as : (f : FuncDecl) → func_spelled f ≡ tokens_if receiver_tokens (option_view receiver_view f.receiver) ++ (sign kind.Name f.name ∷ sign kind.LeftParen f.open ∷
+pub func_spelled_as : (f : FuncDecl) → func_spelled f ≡ tokens_if receiver_tokens (option_view receiver_view f.receiver) ++
+    (sign kind.Name f.name ∷ sign kind.LeftParen f.open ∷
     ((items_spelled kind.Comma param_spelled f.params.items ++ (sign kind.RightParen f.close ∷ [])) ++ (results_spelled f.results ++ block_spelled f.body)))
 unfolding func_tokens func_view
 func_spelled_as f = ap (λ x. tokens_if receiver_tokens (option_view receiver_view f.receiver) ++ (sign kind.Name f.name ∷ sign kind.LeftParen f.open ∷ x))
-    (ap (λ x. x ++ (sign kind.RightParen f.close ∷ (results_spelled f.results ++ block_spelled f.body))) (sym (all_tokens_map (item_tokens kind.Comma param_tokens) (item_view param_view) f.params.items))
-    ∙ sym (append_assoc (items_spelled kind.Comma param_spelled f.params.items) (sign kind.RightParen f.close ∷ []) (results_spelled f.results ++ block_spelled f.body)))
+    (ap (λ x. x ++ (sign kind.RightParen f.close ∷ (results_spelled f.results ++ block_spelled f.body)))
+    (sym (all_tokens_map (item_tokens kind.Comma param_tokens) (item_view param_view) f.params.items))
+    ∙ sym (append_assoc (items_spelled kind.Comma param_spelled f.params.items) (sign kind.RightParen f.close ∷ [])
+    (results_spelled f.results ++ block_spelled f.body)))
 
-pub imports_spelled_as : (i : ImportDecl) → imports_spelled i ≡ sign kind.Import i.at ∷ (group_spelled (λ x. import_spelled x) i.group ++ (sign kind.Semicolon i.semicolon ∷ []))
+pub imports_spelled_as : (i : ImportDecl) → imports_spelled i ≡ sign kind.Import i.at ∷
+    (group_spelled (λ x. import_spelled x) i.group ++ (sign kind.Semicolon i.semicolon ∷ []))
 unfolding imports_tokens imports_view
-imports_spelled_as i = ap (λ x. sign kind.Import i.at ∷ (x ++ (sign kind.Semicolon i.semicolon ∷ []))) (sym (group_spelled_as import_tokens import_view i.group))
+imports_spelled_as i = ap (λ x. sign kind.Import i.at ∷ (x ++ (sign kind.Semicolon i.semicolon ∷ [])))
+    (sym (group_spelled_as import_tokens import_view i.group))
 
-pub var_decl_spelled : (p : ℕ) (g : _) (s : ℕ) → decl_spelled (decl.Var p g s) ≡ sign kind.Var p ∷ (group_spelled (λ x. global_spelled x) g ++ (sign kind.Semicolon s ∷ []))
+pub var_decl_spelled : (p : ℕ) (g : _) (s : ℕ) → decl_spelled (decl.Var p g s) ≡ sign kind.Var p ∷
+    (group_spelled (λ x. global_spelled x) g ++ (sign kind.Semicolon s ∷ []))
 unfolding decl_tokens decl_view
 var_decl_spelled p g s = ap (λ x. sign kind.Var p ∷ (x ++ (sign kind.Semicolon s ∷ []))) (sym (group_spelled_as global_tokens global_view g))
 
-pub type_decl_spelled : (p : ℕ) (g : _) (s : ℕ) → decl_spelled (decl.Type p g s) ≡ sign kind.TypeWord p ∷ (group_spelled (λ x. type_spec_spelled x) g ++ (sign kind.Semicolon s ∷ []))
+pub type_decl_spelled : (p : ℕ) (g : _) (s : ℕ) → decl_spelled (decl.Type p g s) ≡ sign kind.TypeWord p ∷
+    (group_spelled (λ x. type_spec_spelled x) g ++ (sign kind.Semicolon s ∷ []))
 unfolding decl_tokens decl_view
 type_decl_spelled p g s = ap (λ x. sign kind.TypeWord p ∷ (x ++ (sign kind.Semicolon s ∷ []))) (sym (group_spelled_as type_spec_tokens type_spec_view g))
 

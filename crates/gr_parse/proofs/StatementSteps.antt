@@ -1,5 +1,6 @@
 -- Steps of the machine over several symbols, over lists, and from what has been read before.
-use Rattle.std.proofs.Common.{append-nil, append_assoc, ℕ, ◌≡◌, Bool, true, false, List, [], ◌∷◌, ◌++◌, ◌+◌, ◌≤◌, length, ap, sym, ◌∙◌, subst, refl, Option, Some, None, Result, Ok, Err, map, is_some, arith, add-one, length-append}
+use Rattle.std.proofs.Common.{append-nil, append_assoc, ℕ, ◌≡◌, Bool, true, false, List, [], ◌∷◌, ◌++◌, ◌+◌, ◌≤◌, length, ap, sym, ◌∙◌, subst, refl, Option}
+use Rattle.std.proofs.Common.{Some, None, Result, Ok, Err, map, is_some, arith, add-one, length-append}
 use Rattle.gr_tree.specs.declared.syntax.Kind.{Kind}
 use Rattle.gr_tree.specs.declared.syntax.Token.{Token}
 use Rattle.gr_parse.specs.declared.parse_error.ParseError.{ParseError}
@@ -27,7 +28,8 @@ pub fails_on : {xs ys : List Symbol} {a : List Token} {d f : ℕ} {ts mid : List
 fails_on p f = record { stops = λ k l same after. runs_on _ p.passes after _ (f.stops k l same after) }
 
 pub fails_in : {xs : List Symbol} (ys : List Symbol) {d : ℕ} {ts : List Token} {e : ParseError} → Fails xs d ts e → Fails (xs ++ ys) d ts e
-fails_in {xs = xs} ys {d = d} {ts = ts} f = record { stops = λ k l same after. subst (λ ss. Run d ss ts (Stopped k l)) (sym (append_assoc xs ys after)) (f.stops k l same (ys ++ after)) }
+fails_in {xs = xs} ys {d = d} {ts = ts} f = record
+    { stops = λ k l same after. subst (λ ss. Run d ss ts (Stopped k l)) (sym (append_assoc xs ys after)) (f.stops k l same (ys ++ after)) }
 
 pub leads_read : {xs : List Symbol} (ys : List Symbol) {a : List Token} {d e : ℕ} {ts rest : List Token} →
     Read xs a d ts e rest → Leads (xs ++ ys) ys a d ts e rest
@@ -50,7 +52,8 @@ continued begun {a = a} {rest = rest} r e = record {
 }
 
 -- what a last call reads goes on from what was read here
-pub then_continues : {Y : Type 0} (xs ss : List Symbol) (begun : List Token) (spelled rest : Y → List Token) (d : ℕ) (ts mid : List Token) (r : Result Y ParseError) →
+pub then_continues : {Y : Type 0} (xs ss : List Symbol) (begun : List Token) (spelled rest : Y → List Token) (d : ℕ) (ts mid : List Token)
+    (r : Result Y ParseError) →
     Read xs begun d ts d mid → Continues ss begun spelled rest d mid r → Parses (xs ++ ss) spelled rest d ts r
 then_continues xs ss begun spelled rest d ts mid (Ok y) h c = record {
   text = h.text ∙ c.text;
@@ -58,7 +61,8 @@ then_continues xs ss begun spelled rest d ts mid (Ok y) h c = record {
 }
 then_continues xs ss begun spelled rest d ts mid (Err e) h c = fails_on h c
 
-pub continues_rule : {Y : Type 0} (p : Part) (then : List Symbol) (begun : List Token) (spelled rest : Y → List Token) (d : ℕ) (ts : List Token) (r : Result Y ParseError) →
+pub continues_rule : {Y : Type 0} (p : Part) (then : List Symbol) (begun : List Token) (spelled rest : Y → List Token) (d : ℕ) (ts : List Token)
+    (r : Result Y ParseError) →
     Selects (rules p) ts then → Continues then begun spelled rest d ts r → Continues (A p ∷ []) begun spelled rest d ts r
 continues_rule p then begun spelled rest d ts (Ok y) s c = record { text = c.text; passes = record { runs = λ after o t. expand s (c.passes.runs after o t) } }
 continues_rule p then begun spelled rest d ts (Err e) s c = record { stops = λ k l same after. expand s (c.stops k l same after) }
@@ -80,14 +84,16 @@ unfolding all_tokens
 tokens_of_none f = refl
 
 -- before the first item
-pub leads_none : {X : Type 0} (f : X → List Token) {ss : List Symbol} {d : ℕ} {ts : List Token} (xs : List X) → xs ≡ [] → Leads ss ss (all_tokens f xs) d ts d ts
+pub leads_none : {X : Type 0} (f : X → List Token) {ss : List Symbol} {d : ℕ} {ts : List Token} (xs : List X) → xs ≡ [] →
+    Leads ss ss (all_tokens f xs) d ts d ts
 leads_none f {ts = ts} xs e = record { text = ap (λ x. x ++ ts) (sym (ap (all_tokens f) e ∙ tokens_of_none f)); leads = λ after o r. r }
 
 -- one more item
 pub leads_push : {X : Type 0} (f : X → List Token) {from between to : List Symbol} {d e g : ℕ} {ts mid rest : List Token} (xs ys : List X) (x : X) →
     Leads from between (all_tokens f xs) d ts e mid → Leads between to (f x) e mid g rest → ys ≡ xs ++ (x ∷ []) → Leads from to (all_tokens f ys) d ts g rest
 leads_push f {rest = rest} xs ys x p q e = record {
-  text = p.text ∙ (ap (λ z. all_tokens f xs ++ z) q.text ∙ (sym (append_assoc (all_tokens f xs) (f x) rest) ∙ ap (λ z. z ++ rest) (tokens_push f xs x ∙ sym (ap (all_tokens f) e))));
+  text = p.text ∙ (ap (λ z. all_tokens f xs ++ z) q.text ∙
+      (sym (append_assoc (all_tokens f xs) (f x) rest) ∙ ap (λ z. z ++ rest) (tokens_push f xs x ∙ sym (ap (all_tokens f) e))));
   leads = λ after o r. p.leads after o (q.leads after o r);
 }
 
@@ -112,16 +118,19 @@ leads_item_so k None item more {a = a} {d = d} {ts = ts} {mid = mid} {rest = res
 }
 leads_item_so k (Some n) item more {a = a} {d = d} {ts = ts} {mid = mid} {rest = rest} goes ends p s = record {
   text = p.text ∙ (ap (λ x. a ++ x) s ∙ sym (append_assoc a (sign k n ∷ []) rest));
-  leads = λ after o r. runs_on _ p.passes after o (expand (goes mid (at_sign k n s)) (subst (λ us. Run d (One (is k) ∷ ((item ++ (A more ∷ [])) ++ after)) us o) (sym s) (take (is_itself k) r)));
+  leads = λ after o r. runs_on _ p.passes after o (expand (goes mid (at_sign k n s))
+      (subst (λ us. Run d (One (is k) ∷ ((item ++ (A more ∷ [])) ++ after)) us o) (sym s) (take (is_itself k) r)));
 }
 
-pub leads_item : (k : Kind) (sep : Option ℕ) (item : List Symbol) (more : Part) (b : Bool) → b ≡ is_some sep → {a : List Token} {d : ℕ} {ts mid rest : List Token} →
+pub leads_item : (k : Kind) (sep : Option ℕ) (item : List Symbol) (more : Part) (b : Bool) → b ≡ is_some sep →
+    {a : List Token} {d : ℕ} {ts mid rest : List Token} →
     ((us : List Token) → at (is k) us ≡ true → Selects (rules more) us (One (is k) ∷ (item ++ (A more ∷ [])))) →
     ((us : List Token) → at (is k) us ≡ false → Selects (rules more) us []) →
     Read item a d ts d mid → Separates k sep mid rest →
     Leads (item ++ (A more ∷ [])) (items_rest (item ++ (A more ∷ [])) b) (a ++ sign_if k sep) d ts d rest
 leads_item k sep item more b same {a = a} {d = d} {ts = ts} {rest = rest} goes ends p s =
-    subst (λ b. Leads (item ++ (A more ∷ [])) (items_rest (item ++ (A more ∷ [])) b) (a ++ sign_if k sep) d ts d rest) (sym same) (leads_item_so k sep item more goes ends p s)
+    subst (λ b. Leads (item ++ (A more ∷ [])) (items_rest (item ++ (A more ∷ [])) b) (a ++ sign_if k sep) d ts d rest) (sym same)
+    (leads_item_so k sep item more goes ends p s)
 
 -- an item of a list in brackets, and the separator where there is one
 leads_enclosed_so : (k : Kind) (sep : Option ℕ) (item : List Symbol) (list more : Part) (closer : Kind) {a : List Token} {d : ℕ} {ts mid rest : List Token} →
@@ -136,17 +145,20 @@ leads_enclosed_so k None item list more closer {a = a} {d = d} {ts = ts} {mid = 
 }
 leads_enclosed_so k (Some n) item list more closer {a = a} {d = d} {ts = ts} {mid = mid} {rest = rest} chosen goes ends p s = record {
   text = p.text ∙ (ap (λ x. a ++ x) s ∙ sym (append_assoc a (sign k n ∷ []) rest));
-  leads = λ after o r. expand chosen (runs_on _ p.passes after o (expand (goes mid (at_sign k n s)) (subst (λ us. Run d (One (is k) ∷ A list ∷ after) us o) (sym s) (take (is_itself k) r))));
+  leads = λ after o r. expand chosen (runs_on _ p.passes after o
+      (expand (goes mid (at_sign k n s)) (subst (λ us. Run d (One (is k) ∷ A list ∷ after) us o) (sym s) (take (is_itself k) r))));
 }
 
-pub leads_enclosed : (k : Kind) (sep : Option ℕ) (item : List Symbol) (list more : Part) (closer : Kind) (b : Bool) → b ≡ is_some sep → {a : List Token} {d : ℕ} {ts mid rest : List Token} →
+pub leads_enclosed : (k : Kind) (sep : Option ℕ) (item : List Symbol) (list more : Part) (closer : Kind) (b : Bool) → b ≡ is_some sep →
+    {a : List Token} {d : ℕ} {ts mid rest : List Token} →
     Selects (rules list) ts (item ++ (A more ∷ [])) →
     ((us : List Token) → at (is k) us ≡ true → Selects (rules more) us (One (is k) ∷ A list ∷ [])) →
     ((us : List Token) → at (is k) us ≡ false → Selects (rules more) us (One (is closer) ∷ [])) →
     Read item a d ts d mid → Separates k sep mid rest →
     Leads (A list ∷ []) (list_rest list closer b) (a ++ sign_if k sep) d ts d rest
 leads_enclosed k sep item list more closer b same {a = a} {d = d} {ts = ts} {rest = rest} chosen goes ends p s =
-    subst (λ b. Leads (A list ∷ []) (list_rest list closer b) (a ++ sign_if k sep) d ts d rest) (sym same) (leads_enclosed_so k sep item list more closer chosen goes ends p s)
+    subst (λ b. Leads (A list ∷ []) (list_rest list closer b) (a ++ sign_if k sep) d ts d rest) (sym same)
+    (leads_enclosed_so k sep item list more closer chosen goes ends p s)
 
 -- where another item follows
 pub leads_more : (left : Bool → List Symbol) (more : Bool) {from : List Symbol} {a : List Token} {d e : ℕ} {ts rest : List Token} →
@@ -219,7 +231,8 @@ from_push {begun = begun} {a = a} {rest = rest} p q e = record {
 
 pub from_more : (left : Bool → List Symbol) (more : Bool) {begun : List Token} {from : List Symbol} {a : List Token} {d e : ℕ} {ts rest : List Token} →
     LeadsFrom begun from (left more) a d ts e rest → more ≡ true → LeadsFrom begun from (left true) a d ts e rest
-from_more left more {begun = begun} {from = from} {a = a} {d = d} {e = e} {ts = ts} {rest = rest} l h = subst (λ b. LeadsFrom begun from (left b) a d ts e rest) h l
+from_more left more {begun = begun} {from = from} {a = a} {d = d} {e = e} {ts = ts} {rest = rest} l h =
+    subst (λ b. LeadsFrom begun from (left b) a d ts e rest) h l
 
 -- what continues, with a rule, where nothing more may follow
 pub continued_items : (left : Bool → List Symbol) (more : Bool) {begun : List Token} {from : List Symbol} {a : List Token} {d : ℕ} {ts rest : List Token} →
@@ -241,13 +254,15 @@ pub fails_continued : {xs ys : List Symbol} {begun a : List Token} {d : ℕ} {ts
     Continued xs begun a d ts mid → Fails ys d mid e → Fails (xs ++ ys) d ts e
 fails_continued p f = record { stops = λ k l same after. runs_on _ p.passes after _ (f.stops k l same after) }
 
-pub continues_then : {Y : Type 0} (xs ss : List Symbol) (begun both : List Token) (spelled rest : Y → List Token) (d : ℕ) (ts mid : List Token) (r : Result Y ParseError) →
+pub continues_then : {Y : Type 0} (xs ss : List Symbol) (begun both : List Token) (spelled rest : Y → List Token) (d : ℕ) (ts mid : List Token)
+    (r : Result Y ParseError) →
     Continued xs begun both d ts mid → Continues ss both spelled rest d mid r → Continues (xs ++ ss) begun spelled rest d ts r
 continues_then xs ss begun both spelled rest d ts mid (Ok y) h c = continued_on h c
 continues_then xs ss begun both spelled rest d ts mid (Err x) h c = fails_continued h c
 
 -- where nothing was read before
-pub continues_nothing : {Y : Type 0} (ss : List Symbol) (begun : List Token) (spelled rest : Y → List Token) (d : ℕ) (ts : List Token) (r : Result Y ParseError) →
+pub continues_nothing : {Y : Type 0} (ss : List Symbol) (begun : List Token) (spelled rest : Y → List Token) (d : ℕ) (ts : List Token)
+    (r : Result Y ParseError) →
     begun ≡ [] → Continues ss begun spelled rest d ts r → Parses ss spelled rest d ts r
 continues_nothing ss begun spelled rest d ts (Ok y) e c = record { text = ap (λ x. x ++ ts) (sym e) ∙ c.text; passes = c.passes }
 continues_nothing ss begun spelled rest d ts (Err x) e c = c
@@ -262,7 +277,8 @@ pub leads_continued : {x xs : List Symbol} (ys : List Symbol) {begun spelled : L
 leads_continued ys p q = record { text = p.text ∙ q.text; leads = λ after o r. p.leads after o (runs_on ys q.passes after o r) }
 
 -- the end of a level that several symbols fill
-pub read_level : {ss : List Symbol} {a : List Token} {d e : ℕ} {ts rest : List Token} → e ≡ d + 1 → Read ss a d ts e rest → Read (ss ++ (Close ∷ [])) a d ts d rest
+pub read_level : {ss : List Symbol} {a : List Token} {d e : ℕ} {ts rest : List Token} → e ≡ d + 1 → Read ss a d ts e rest →
+    Read (ss ++ (Close ∷ [])) a d ts d rest
 read_level {ss = ss} {d = d} {ts = ts} {rest = rest} same p = record {
   text = p.text;
   passes = record {

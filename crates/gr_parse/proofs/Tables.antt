@@ -4,7 +4,14 @@ use Rattle.std.proofs.Common.{◌≡◌, Bool, true, false, List, [], ◌∷◌,
 use Rattle.std.specs.Prelude.{◌&&◌, ◌||◌}
 use Rattle.gr_tree.specs.declared.syntax.Kind.{Kind}
 use Rattle.gr_tree.specs.declared.syntax.Kind.TheVariants as kind
-use Rattle.gr_tree.specs.Grammar.{Symbol, One, Opening, Close, A, Part, Rule, Begins, Otherwise, rules, is, is_binary, is_ident, is_step, is_update, sets, one_of, begins_type, begins_operand, begins_expression, unless, Item, ImportItem, GlobalItem, TypeItem, LocalItem, Setting, Plain, Head, Post, File, Imports, Tops, GroupOf, Items, MoreItems, Single, MoreNames, GlobalValues, MoreLiterals, TypeBody, Fields, MoreFields, MoreIdents, LocalRest, LocalValues, FuncHead, ReceiverStar, ReceiverEnd, Signature, Params, MoreParams, Result, Types, MoreTypes, Block, MoreStatements, Statement, ReturnValues, Expressions, MoreExpressions, SimpleRest, IfHead, IfAfter, IfBody, ElsePart, ElseBody, ForHead, ForAfter, ForRest, ForCondition, ForPost, TypeUse, AfterTypeName, Expression, Binaries, Unary, Operand, AfterName, AfterSelector, Links, Arguments, MoreArguments, Address, AfterLiteralName, Elements, ElementList, MoreElements, Element, AfterKey}
+use Rattle.gr_tree.specs.Grammar.{Symbol, One, Opening, Close, A, Part, Rule, Begins, Otherwise, rules, is, is_binary, is_ident, is_step, is_update, sets}
+use Rattle.gr_tree.specs.Grammar.{one_of, begins_type, begins_operand, begins_expression, unless, Item, ImportItem, GlobalItem, TypeItem, LocalItem}
+use Rattle.gr_tree.specs.Grammar.{Setting, Plain, Head, Post, File, Imports, Tops, GroupOf, Items, MoreItems, Single, MoreNames, GlobalValues, MoreLiterals}
+use Rattle.gr_tree.specs.Grammar.{TypeBody, Fields, MoreFields, MoreIdents, LocalRest, LocalValues, FuncHead, ReceiverStar, ReceiverEnd, Signature, Params}
+use Rattle.gr_tree.specs.Grammar.{MoreParams, Result, Types, MoreTypes, Block, MoreStatements, Statement, ReturnValues, Expressions, MoreExpressions}
+use Rattle.gr_tree.specs.Grammar.{SimpleRest, IfHead, IfAfter, IfBody, ElsePart, ElseBody, ForHead, ForAfter, ForRest, ForCondition, ForPost, TypeUse}
+use Rattle.gr_tree.specs.Grammar.{AfterTypeName, Expression, Binaries, Unary, Operand, AfterName, AfterSelector, Links, Arguments, MoreArguments, Address}
+use Rattle.gr_tree.specs.Grammar.{AfterLiteralName, Elements, ElementList, MoreElements, Element, AfterKey}
 use Rattle.gr_parse.proofs.KindTests.{kinds}
 
 abbrev pub nullable : Part → Bool

@@ -11,8 +11,21 @@ use Rattle.gr_tree.specs.declared.syntax.StepOp.{StepOp}
 use Rattle.gr_tree.specs.declared.syntax.StepOp.TheVariants as step
 use Rattle.gr_tree.specs.declared.syntax.UpdateOp.{UpdateOp}
 use Rattle.gr_tree.specs.declared.syntax.UpdateOp.TheVariants as update
-use Rattle.gr_tree.specs.Grammar.{Symbol, One, Opening, Close, A, Part, Rule, rules, Item as Sort, ImportItem, GlobalItem, TypeItem, LocalItem, File, Imports, Tops, GroupOf, Items, MoreItems, Single, MoreNames, GlobalValues, MoreLiterals, TypeBody, Fields, MoreFields, MoreIdents, LocalRest, LocalValues, FuncHead, ReceiverStar, ReceiverEnd, Signature, Params, MoreParams, Result, Types, MoreTypes, Block, MoreStatements, Statement, ReturnValues, Expressions, MoreExpressions, SimpleRest, IfHead, IfAfter, IfBody, ElsePart, ElseBody, ForHead, ForAfter, ForRest, ForCondition, ForPost, TypeUse, AfterTypeName, Expression, Binaries, Unary, Operand, AfterName, AfterSelector, Links, Arguments, MoreArguments, Address as AddressPart, AfterLiteralName, Elements, ElementList, MoreElements, Element, AfterKey}
-use Rattle.gr_tree.specs.Tree.{Item, Group, single, several, IdentTree, Named, Underscore, BasicTree, Integer, String, TypeTree, Local, Imported, Pointer, Slice, ExprTree, Number, Text, Name, Blank, Composite, Paren, Prefix, Address, Chain, OperandTrees, no_operand, operand, LinkTrees, no_link, selector, index, call, ArgumentTrees, no_argument, argument, LiteralTree, literal, ElementTrees, no_element, element, SimpleTree, Alone, Step, Update, Assign, Define, LocalTree, ForTree, forever, while, clauses, StatementTree, Empty, Var, Simple, Inner, If, For, Break, Continue, Return, BlockTree, block, StatementTrees, no_statement, statement, IfTree, if_tree, ElseTree, no_else, else_if, else_block, ImportTree, GlobalTree, FieldTree, BodyTree, Other, Struct, TypeSpecTree, ReceiverTree, ParamTree, ResultTree, no_result, one_result, results, FuncTree, ImportsTree, DeclTree, VarDecl, TypeDecl, FuncDecl, FileTree}
+use Rattle.gr_tree.specs.Grammar.{Symbol, One, Opening, Close, A, Part, Rule, rules, Item as Sort, ImportItem, GlobalItem, TypeItem, LocalItem, File}
+use Rattle.gr_tree.specs.Grammar.{Imports, Tops, GroupOf, Items, MoreItems, Single, MoreNames, GlobalValues, MoreLiterals, TypeBody, Fields, MoreFields}
+use Rattle.gr_tree.specs.Grammar.{MoreIdents, LocalRest, LocalValues, FuncHead, ReceiverStar, ReceiverEnd, Signature, Params, MoreParams, Result, Types}
+use Rattle.gr_tree.specs.Grammar.{MoreTypes, Block, MoreStatements, Statement, ReturnValues, Expressions, MoreExpressions, SimpleRest, IfHead, IfAfter}
+use Rattle.gr_tree.specs.Grammar.{IfBody, ElsePart, ElseBody, ForHead, ForAfter, ForRest, ForCondition, ForPost, TypeUse, AfterTypeName, Expression}
+use Rattle.gr_tree.specs.Grammar.{Binaries, Unary, Operand, AfterName, AfterSelector, Links, Arguments, MoreArguments, Address as AddressPart}
+use Rattle.gr_tree.specs.Grammar.{AfterLiteralName, Elements, ElementList, MoreElements, Element, AfterKey}
+use Rattle.gr_tree.specs.Tree.{Item, Group, single, several, IdentTree, Named, Underscore, BasicTree, Integer, String, TypeTree, Local, Imported, Pointer}
+use Rattle.gr_tree.specs.Tree.{Slice, ExprTree, Number, Text, Name, Blank, Composite, Paren, Prefix, Address, Chain, OperandTrees, no_operand, operand}
+use Rattle.gr_tree.specs.Tree.{LinkTrees, no_link, selector, index, call, ArgumentTrees, no_argument, argument, LiteralTree, literal, ElementTrees}
+use Rattle.gr_tree.specs.Tree.{no_element, element, SimpleTree, Alone, Step, Update, Assign, Define, LocalTree, ForTree, forever, while, clauses}
+use Rattle.gr_tree.specs.Tree.{StatementTree, Empty, Var, Simple, Inner, If, For, Break, Continue, Return, BlockTree, block, StatementTrees, no_statement}
+use Rattle.gr_tree.specs.Tree.{statement, IfTree, if_tree, ElseTree, no_else, else_if, else_block, ImportTree, GlobalTree, FieldTree, BodyTree, Other}
+use Rattle.gr_tree.specs.Tree.{Struct, TypeSpecTree, ReceiverTree, ParamTree, ResultTree, no_result, one_result, results, FuncTree, ImportsTree, DeclTree}
+use Rattle.gr_tree.specs.Tree.{VarDecl, TypeDecl, FuncDecl, FileTree}
 use Rattle.gr_parse.proofs.Tables.{symbols_of}
 use Rattle.gr_parse.proofs.Precedence.{grouped}
 

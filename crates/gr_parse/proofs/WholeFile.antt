@@ -18,9 +18,13 @@ use Rattle.gr_parse.proofs.EndOfText.{file_stops}
 use Rattle.gr_parse.proofs.Shallow.{file_shallow}
 
 pub whole_taken : {a : List Token} {ts rest : List Token} → rest ≡ [] → Read (A File ∷ []) a 0 ts 0 rest → (a ≡ ts) × Run 0 (A File ∷ []) ts Accepted
-whole_taken {a = a} none r = (sym (r.text ∙ (ap (λ x. a ++ x) none ∙ append-nil a)), r.passes.runs [] Accepted (subst (λ x. Run 0 [] x Accepted) (sym none) accept))
+whole_taken {a = a} none r = (
+  sym (r.text ∙ (ap (λ x. a ++ x) none ∙ append-nil a)),
+  r.passes.runs [] Accepted (subst (λ x. Run 0 [] x Accepted) (sym none) accept),
+)
 
-pub whole_left : {a : List Token} {ts : List Token} (rest : List Token) → (length rest == 0) ≡ false → Read (A File ∷ []) a 0 ts 0 rest → Run 0 (A File ∷ []) ts (Stopped Syntax (length rest))
+pub whole_left : {a : List Token} {ts : List Token} (rest : List Token) → (length rest == 0) ≡ false → Read (A File ∷ []) a 0 ts 0 rest →
+    Run 0 (A File ∷ []) ts (Stopped Syntax (length rest))
 whole_left [] e r = absurd (let f : ⊥ = cc in f)
 whole_left (t ∷ more) e r = r.passes.runs [] _ left_over
 

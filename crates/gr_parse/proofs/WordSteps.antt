@@ -41,7 +41,8 @@ read_class c k t {d = d} {rest = rest} e within same = record {
 -- a token of another class is refused
 pub token_refused : (c : Kind → Bool) (d : ℕ) (t : Token) {ts rest : List Token} {e : ParseError} → ts ≡ t ∷ rest → c t.kind ≡ false →
     e ≡ Fault Syntax (length ts) → Fails (One c ∷ []) d ts e
-token_refused c d t {ts = ts} {rest = rest} same without is = subst (λ e. Fails (One c ∷ []) d ts e) (sym is) (refuses_one c d ts (at_token c false t ts rest same without))
+token_refused c d t {ts = ts} {rest = rest} same without is =
+    subst (λ e. Fails (One c ∷ []) d ts e) (sym is) (refuses_one c d ts (at_token c false t ts rest same without))
 
 -- and so is the end
 pub end_refused : (c : Kind → Bool) (d : ℕ) {ts : List Token} {e : ParseError} → ts ≡ [] → e ≡ Fault Syntax (length ts) → Fails (One c ∷ []) d ts e

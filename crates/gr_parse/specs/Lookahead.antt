@@ -12,7 +12,8 @@ behind (t ∷ ts) = ts
 
 -- whether behind the first token, a type's name, a literal's braces follow: a brace, or a dot, a name and a brace
 abbrev pub names_literal : List Token → Bool
-names_literal ts = at (is LeftBrace) (behind ts) || (at (is Dot) (behind ts) && (at (is Name) (behind (behind ts)) && at (is LeftBrace) (behind (behind (behind ts)))))
+names_literal ts = at (is LeftBrace) (behind ts) ||
+    (at (is Dot) (behind ts) && (at (is Name) (behind (behind ts)) && at (is LeftBrace) (behind (behind (behind ts)))))
 
 -- whether a name and a colon come next
 abbrev pub begins_key : List Token → Bool

@@ -76,5 +76,6 @@ items_rest item true = item
 items_rest item false = []
 
 -- Item by item: what is left depends on whether a separator followed.
-abbrev pub LeadsBy : {Y : Type 0} → List Symbol → (Bool → List Symbol) → (Y → Option ℕ) → (Y → List Token) → (Y → List Token) → ℕ → List Token → Result Y ParseError → Type 0
+abbrev pub LeadsBy : {Y : Type 0} → List Symbol → (Bool → List Symbol) → (Y → Option ℕ) → (Y → List Token) → (Y → List Token) → ℕ → List Token →
+    Result Y ParseError → Type 0
 LeadsBy from to separator spelled rest d ts = Gives (λ y. Leads from (to (is_some (separator y))) (spelled y) d ts d (rest y)) from d ts

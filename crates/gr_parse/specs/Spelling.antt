@@ -37,7 +37,9 @@ use Rattle.gr_tree.specs.Tree as tree
 use Rattle.gr_tree.specs.Flatten as flat
 use Rattle.gr_tree.specs.Flatten.{sign, sign_if, binary_kind, all_tokens}
 use Rattle.gr_tree.specs.View.{list_view, ident_view, type_view, key_view, expr_view, literal_view, link_view, exprs_view}
-use Rattle.gr_tree.specs.FileView.{same_place, local_view, simple_view, init_view, for_view, stmt_view, block_view, if_view, else_view, import_view, basic_view, global_view, field_view, body_view, type_spec_view, receiver_view, param_view, results_view, func_view, imports_view, decl_view, file_view}
+use Rattle.gr_tree.specs.FileView.{same_place, local_view, simple_view, init_view, for_view, stmt_view, block_view, if_view, else_view, import_view}
+use Rattle.gr_tree.specs.FileView.{basic_view, global_view, field_view, body_view, type_spec_view, receiver_view, param_view, results_view, func_view}
+use Rattle.gr_tree.specs.FileView.{imports_view, decl_view, file_view}
 
 abbrev pub type_spelled : TypeExpr → List Token
 type_spelled t = flat.type_tokens (type_view t)

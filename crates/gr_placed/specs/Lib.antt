@@ -2,3 +2,4 @@
 pub mod DeclaredPlaces
 pub mod Identified
 pub mod Outside
+pub mod Beginnings

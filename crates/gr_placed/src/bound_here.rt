@@ -6,10 +6,13 @@ ghost use Rattle.std.specs.Ordering.{is_lt, is_gt};
 ghost use Rattle.gr_bound.specs.declared.bound_spot.BoundSpot.{BoundSpot as Bound};
 ghost use Rattle.gr_bound.specs.Bindings.{place_at};
 ghost use Rattle.gr_bound.specs.Places.{place_cmp};
+ghost use Rattle.gr_placed.specs.Beginnings.{BeginsAmong, place_of};
 
+use crate::places::NameStart;
 use gr_bound::BoundSpot;
 use gr_bound::bindings::compare;
 use gr_text::Place;
+use std::cmp::Ordering;
 
 /// Whether an identifier begins before a place.
 fn is_before(bound: &BoundSpot, place: &Place) -> bool
@@ -106,4 +109,50 @@ pub fn bound_here<'a>(bound: &'a [BoundSpot], near: &mut usize, place: &Place) -
     let end = end_near(bound, first, place);
     *near = end;
     &bound[first..end]
+}
+
+/// Whether a bound identifier begins where a name does.
+fn begins(bound: &BoundSpot, at: NameStart<'_>) -> bool
+    ensures { IsTrue result ↔ (place_at bound.now ≡ place_of at.entry) }
+{
+    bound.spot.offset == at.offset && bound.spot.path == *at.path
+}
+
+/// Whether the bound identifier of a number begins where a name does.
+fn begins_there(bound: &[BoundSpot], number: usize, at: NameStart<'_>) -> bool
+    ensures { IsTrue result → BeginsAmong bound.now (place_of at.entry) }
+{
+    number < bound.len() && begins(&bound[number], at)
+}
+
+/// How a bound identifier compares with the beginning of a name.
+fn compare_start(bound: &BoundSpot, at: NameStart<'_>) -> Ordering {
+    let by_path = bound.spot.path.cmp(at.path);
+    by_path.then(bound.spot.offset.cmp(&at.offset))
+}
+
+/// Whether one of the bound identifiers begins where a name does, by a search. The number is that at which it was found.
+fn search(bound: &[BoundSpot], near: &mut usize, at: NameStart<'_>) -> bool
+    ensures { IsTrue result → BeginsAmong bound.now (place_of at.entry) }
+{
+    match bound.binary_search_by(|b| compare_start(b, at)) {
+        Ok(number) => *near = number,
+        Err(number) => *near = number,
+    }
+    begins_there(bound, *near, at)
+}
+
+/// Whether one of the bound identifiers, which are in the order of their places, begins where a name does. It is looked for first
+/// where the one before it was found.
+pub fn is_bound(bound: &[BoundSpot], near: &mut usize, at: NameStart<'_>) -> bool
+    ensures { IsTrue result → BeginsAmong bound.now (place_of at.entry) }
+{
+    if begins_there(bound, *near, at) {
+        return true;
+    }
+    *near = near.saturating_add(1);
+    if begins_there(bound, *near, at) {
+        return true;
+    }
+    search(bound, near, at)
 }

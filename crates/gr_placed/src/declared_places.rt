@@ -1,5 +1,5 @@
 //! Where the declarations of a workspace without faults stand.
-ghost use Rattle.std.specs.Prelude.{ℕ, ◌≡◌, ◌<◌, ◌↔◌, None, length, map, slice_index_or, IsTrue, IfOk};
+ghost use Rattle.std.specs.Prelude.{ℕ, ◌≡◌, ◌<◌, ◌↔◌, None, Some, length, map, slice_get, slice_index_or, Contains, IsTrue, IfOk, MatchOption};
 ghost use Rattle.std.specs.Option.{option_copied};
 ghost use Rattle.gr_text.specs.Packages.{package_paths};
 ghost use Rattle.gr_tree.specs.SourceFile.{source_of};
@@ -186,16 +186,36 @@ pub fn package_path(declaration: &Declaration) -> Option<&SharedPath>
     }
 }
 
+/// Whether the package of a number has a path.
+fn has_path(graph: &Graph, number: usize, path: &[u8]) -> bool
+    ensures { IsTrue result → slice_get (package_paths graph.now) number ≡ Some path.now }
+{
+    number < graph.len() && graph.package(number).path.as_slice() == path
+}
+
+/// The number of the package that has a path. It is looked for first where the one before it was found.
+fn number_near(graph: &Graph, near: &mut usize, path: &[u8]) -> Option<usize>
+    ensures { MatchOption result (Contains (package_paths graph.now) path.now → ⊥) (λ number. slice_get (package_paths graph.now) number ≡ Some path.now) }
+{
+    if has_path(graph, *near, path) {
+        return Some(*near);
+    }
+    let found = graph.number_of(path);
+    *near = found.unwrap_or(0);
+    found
+}
+
 /// Where a declaration of the package of a path stands.
 fn declared_under<'a>(
     graph: &Graph,
     all: &'a [DeclaredPlaces],
+    near: &mut usize,
     path: &SharedPath,
     declaration: &Declaration,
 ) -> Option<&'a Place>
     ensures { (known : Verdicts) → AreDeclared graph.now known all.now → IsFoundIn (λ (place : At). InPackage (IsPackage graph.now known) path.now (λ p. StandsIn p declaration.now place)) result }
 {
-    match graph.number_of(path.path()) {
+    match number_near(graph, near, path.path()) {
         None => None,
         Some(number) => match all.get(number) {
             None => None,
@@ -204,7 +224,29 @@ fn declared_under<'a>(
     }
 }
 
-/// Where a declaration of a workspace stands. A predeclared one stands nowhere.
+/// Where a declaration of a workspace stands. A predeclared one stands nowhere. Its package is looked for first where the one before
+/// it was found.
+pub fn declared_near<'a>(
+    graph: &Graph,
+    all: &'a [DeclaredPlaces],
+    near: &mut usize,
+    declaration: &Declaration,
+) -> Option<&'a Place>
+    ensures { (known : Verdicts) → AreDeclared graph.now known all.now → IsFoundIn (IsDeclaredAt (IsPackage graph.now known) declaration.now) result }
+{
+    match declaration {
+        Declaration::Predeclared(_) => None,
+        Declaration::Declared(path, _) => declared_under(graph, all, near, path, declaration),
+        Declaration::Field(symbol) => {
+            declared_under(graph, all, near, &symbol.package, declaration)
+        },
+        Declaration::Method(symbol) => {
+            declared_under(graph, all, near, &symbol.package, declaration)
+        },
+    }
+}
+
+/// The same of one declaration alone.
 pub fn declared_at<'a>(
     graph: &Graph,
     all: &'a [DeclaredPlaces],
@@ -212,10 +254,6 @@ pub fn declared_at<'a>(
 ) -> Option<&'a Place>
     ensures { (known : Verdicts) → AreDeclared graph.now known all.now → IsFoundIn (IsDeclaredAt (IsPackage graph.now known) declaration.now) result }
 {
-    match declaration {
-        Declaration::Predeclared(_) => None,
-        Declaration::Declared(path, _) => declared_under(graph, all, path, declaration),
-        Declaration::Field(symbol) => declared_under(graph, all, &symbol.package, declaration),
-        Declaration::Method(symbol) => declared_under(graph, all, &symbol.package, declaration),
-    }
+    let mut near = 0;
+    declared_near(graph, all, &mut near, declaration)
 }

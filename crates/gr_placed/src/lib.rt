@@ -6,4 +6,4 @@ pub mod declared_places;
 pub mod identifier_places;
 mod places;
 
-pub use places::{beginning, name_beginning, place_of};
+pub use places::{NameStart, beginning, name_beginning, place_of, start};

@@ -1,16 +1,17 @@
 //! The places at which the tokens and the identifiers of packages begin.
-ghost use Rattle.std.specs.Prelude.{◌<◌, Some, length, map, slice_get, IfOk};
+ghost use Rattle.std.specs.Prelude.{◌<◌, Some, length, map, option_map, slice_get, IfOk};
 ghost use Rattle.gr_text.specs.declared.place.Place.{Place as At};
 ghost use Rattle.gr_tree.specs.SourceFile.{source_of};
 ghost use Rattle.gr_declared.specs.PackageView.{package_of};
 ghost use Rattle.gr_bound.specs.Identifiers.{BeginsAt, NameBegins};
 ghost use Rattle.gr_standing.specs.Standing.{TokenBegins};
+ghost use Rattle.gr_placed.specs.Beginnings.{place_of};
 ghost use Rattle.gr_placed.specs.DeclaredPlaces.{IsFound};
 
 use gr_bound::is_name;
 use gr_declared::Package;
 use gr_scope::model::Position;
-use gr_text::Place;
+use gr_text::{Path, Place};
 use gr_tree::FileTree;
 use std::alloc::AllocError;
 
@@ -64,5 +65,48 @@ pub fn beginning(unit: Package<'_>, u: usize) -> Result<Option<Place>, AllocErro
         Ok(None)
     } else {
         name_beginning(unit.files, unit.table.place(u))
+    }
+}
+
+/// Where a name begins: at a byte of a file.
+#[derive(Clone, Copy)]
+pub struct NameStart<'a> {
+    pub path: &'a Path,
+    pub offset: usize,
+}
+
+/// Where a name of a file begins; nowhere where the token is no name.
+fn start_in<'a>(file: &'a FileTree, token: usize) -> Option<NameStart<'a>>
+    ensures { IsFound (λ (place : At). NameBegins (Some (source_of file.now)) token place.path place.offset) (option_map place_of result) }
+{
+    if is_name(file, token) {
+        Some(NameStart {
+            path: file.path(),
+            offset: file.offset(token),
+        })
+    } else {
+        None
+    }
+}
+
+/// Where the name at a position begins; nowhere where the token is no name.
+fn start_at<'a>(files: &'a [FileTree], at: Position) -> Option<NameStart<'a>>
+    ensures { IsFound (λ (place : At). NameBegins (slice_get (map source_of files.now) at.file) at.index place.path place.offset) (option_map place_of result) }
+{
+    match files.get(at.file) {
+        None => None,
+        Some(file) => start_in(file, at.index),
+    }
+}
+
+/// Where an identifier begins; nowhere where it stands in no file, and for the literal of an import.
+pub fn start<'a>(unit: Package<'a>, u: usize) -> Option<NameStart<'a>>
+    requires { u < length unit.table.now.sites }
+    ensures { IsFound (λ (place : At). BeginsAt (package_of unit.entry) place.path place.offset u) (option_map place_of result) }
+{
+    if unit.table.role(u).is_implied() {
+        None
+    } else {
+        start_at(unit.files, unit.table.place(u))
     }
 }

@@ -1,20 +1,25 @@
 -- Calls and operators: what each leads to, and where it breaks a rule.
-use Rattle.std.proofs.Common.{ℕ, ◌≡◌, ◌==◌, Bool, true, false, if◌then◌else◌, inl, inr, List, [], ◌∷◌, length, Option, Some, None, refl, sym, ap, ◌∙◌, subst, suc, true≢false, eq-eqb}
+use Rattle.std.proofs.Common.{ℕ, ◌≡◌, ◌==◌, Bool, true, false, if◌then◌else◌, inl, inr, List, [], ◌∷◌, length, Option, Some, None, refl, sym, ap, ◌∙◌}
+use Rattle.std.proofs.Common.{subst, suc, true≢false, eq-eqb}
 use Rattle.gr_tree.specs.declared.syntax.BinaryOp.{BinaryOp}
 use Rattle.gr_tree.specs.Tree.{ExprTree, ArgumentTrees}
 use Rattle.gr_tree.specs.Tree as tree
 use Rattle.gr_expr.specs.declared.types.Builtin.TheVariants as builtin
 use Rattle.gr_expr.specs.Places.{place_of}
-use Rattle.gr_expr.specs.Types.{PlainType, SliceOf, Kind, Typed, Signature, Meaning, Value, TypeName, Function, BuiltinName, Package, Results, Broken, element_of}
+use Rattle.gr_expr.specs.Types.{PlainType, SliceOf, Kind, Typed, Signature, Meaning, Value, TypeName, Function, BuiltinName, Package, Results, Broken}
+use Rattle.gr_expr.specs.Types.{element_of}
 use Rattle.gr_expr.specs.World.{World, Locals, underlying}
 use Rattle.gr_expr.specs.Operations.{fits, operate}
-use Rattle.gr_expr.specs.Judge.{Argued, value_kind, value_at, call_rule, call_of, call_function, call_builtin, append, append_first, append_to, misfit, misfits, all_misfits, unless_faults, wrong_if_whole, result_meaning, all_whole, value_or_wrong, operation, operation_on, judge, judge_value, judge_arguments}
+use Rattle.gr_expr.specs.Judge.{Argued, value_kind, value_at, call_rule, call_of, call_function, call_builtin, append, append_first, append_to, misfit}
+use Rattle.gr_expr.specs.Judge.{misfits, all_misfits, unless_faults, wrong_if_whole, result_meaning, all_whole, value_or_wrong, operation, operation_on}
+use Rattle.gr_expr.specs.Judge.{judge, judge_value, judge_arguments}
 use Rattle.gr_rules.specs.Fits.{Fits}
 use Rattle.gr_rules.specs.Operators.{Operates}
 use Rattle.gr_rules.specs.Names.{IsWhole}
 use Rattle.gr_rules.specs.Links.{Calls}
 use Rattle.gr_rules.specs.Meanings.{HasMeaning, AreValues, no_argument, argument}
-use Rattle.gr_rules.specs.Faults.{IsNoCallee, a_package, a_call, Misfits, no_fit, no_element, IsMisfit, this_argument, other_argument, IsMisfitOf, this_value, other_value, AreAsMany, no_more, one_more}
+use Rattle.gr_rules.specs.Faults.{IsNoCallee, a_package, a_call, Misfits, no_fit, no_element, IsMisfit, this_argument, other_argument, IsMisfitOf}
+use Rattle.gr_rules.specs.Faults.{this_value, other_value, AreAsMany, no_more, one_more}
 use Rattle.gr_rules.proofs.Steps.{value_whole, function_whole, known_kind}
 use Rattle.gr_rules.proofs.Fitting.{true_fits}
 use Rattle.gr_rules.proofs.Arguments.{AreOf, whole_all, kinds_of}

@@ -1,5 +1,6 @@
 -- Declarations of a package, and files: a fault just where a rule is broken.
-use Rattle.std.proofs.Common.{ℕ, ◌≡◌, ◌==◌, Bool, true, false, if◌then◌else◌, ◌⊎◌, inl, inr, List, [], ◌∷◌, map, length, Option, Some, None, refl, sym, ap, ◌∙◌, subst, suc, true≢false, eq-eqb, eqb-true}
+use Rattle.std.proofs.Common.{ℕ, ◌≡◌, ◌==◌, Bool, true, false, if◌then◌else◌, ◌⊎◌, inl, inr, List, [], ◌∷◌, map, length, Option, Some, None, refl, sym, ap}
+use Rattle.std.proofs.Common.{◌∙◌, subst, suc, true≢false, eq-eqb, eqb-true}
 use Rattle.gr_tree.specs.Tree.{Item, Group, BasicTree, Integer, String, GlobalTree, FieldTree, BodyTree, TypeSpecTree, DeclTree, FileTree}
 use Rattle.gr_tree.specs.Tree as tree
 use Rattle.gr_expr.specs.declared.types.Basic.TheVariants as basic
@@ -9,14 +10,18 @@ use Rattle.gr_expr.specs.Operations.{fits}
 use Rattle.gr_expr.specs.Judge.{judge_type, misfit}
 use Rattle.gr_stmt.specs.Checked.{Checked, check_items, check_group}
 use Rattle.gr_stmt.specs.Sides.{Wants, refused, all_refused}
-use Rattle.gr_stmt.specs.Declarations.{literal_value, first_name, literal_faults, value_faults, global_faults, field_faults, body_faults, check_global, check_type, check_decl, check_decls, check_file}
+use Rattle.gr_stmt.specs.Declarations.{literal_value, first_name, literal_faults, value_faults, global_faults, field_faults, body_faults, check_global}
+use Rattle.gr_stmt.specs.Declarations.{check_type, check_decl, check_decls, check_file}
 use Rattle.gr_rules.specs.Fits.{Fits}
 use Rattle.gr_rules.specs.Names.{IsType}
 use Rattle.gr_rules.specs.Faults.{IsNoType}
 use Rattle.gr_rules.proofs.Naming.{type_true, true_type}
 use Rattle.gr_rules.proofs.Fitting.{fits_true, true_fits}
 use Rattle.gr_statement_rules.proofs.Declarations.{literals}
-use Rattle.gr_places.specs.Declarations.{LiteralMisfits, no_int, no_string, later_literal, GlobalBreaksAt, in_global_type, literal_misfit, wrong_literals, FieldBreaksAt, this_field, later_field, BodyBreaksAt, in_other, in_struct, TypeBreaksAt, in_type_body, Stays, stays, DeclLeads, behind_variables, behind_types, behind_one_function, DeclBreaksAt, in_variables, in_types, in_function, DeclsBreakAt, this_decl, later_decl, FileBreaksAt, in_file}
+use Rattle.gr_places.specs.Declarations.{LiteralMisfits, no_int, no_string, later_literal, GlobalBreaksAt, in_global_type, literal_misfit, wrong_literals}
+use Rattle.gr_places.specs.Declarations.{FieldBreaksAt, this_field, later_field, BodyBreaksAt, in_other, in_struct, TypeBreaksAt, in_type_body, Stays}
+use Rattle.gr_places.specs.Declarations.{stays, DeclLeads, behind_variables, behind_types, behind_one_function, DeclBreaksAt, in_variables, in_types}
+use Rattle.gr_places.specs.Declarations.{in_function, DeclsBreakAt, this_decl, later_decl, FileBreaksAt, in_file}
 use Rattle.gr_places.proofs.Holding.{Holds, Tells, none_told, both_told, told_as, At, at_place, fault_at, test_told, some_same, none_some}
 use Rattle.gr_places.proofs.Types.{type_told}
 use Rattle.gr_places.proofs.Turns.{IsTold, group_told}

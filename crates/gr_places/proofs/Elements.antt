@@ -7,7 +7,9 @@ use Rattle.gr_expr.specs.Places.{place_of}
 use Rattle.gr_expr.specs.Types.{PlainType, Underlying, Plain, PointerTo, SliceOf, Struct, Kind, Value, element_of}
 use Rattle.gr_expr.specs.World.{World, Locals, Member, AField, AMethod, ABrokenMethod, underlying}
 use Rattle.gr_expr.specs.Operations.{fits}
-use Rattle.gr_expr.specs.Judge.{JudgedElements, Seen, element_then, Key, FieldKey, WrongKey, BrokenKey, key_at, key_in, key_of_member, key_faults, is_whole_key, wanted_behind, seen_with, misfit, misfit_if, judge_key, no_key as unkeyed_key, value_kind, judge, judge_value, judge_elements}
+use Rattle.gr_expr.specs.Judge.{JudgedElements, Seen, element_then, Key, FieldKey, WrongKey, BrokenKey, key_at, key_in, key_of_member, key_faults}
+use Rattle.gr_expr.specs.Judge.{is_whole_key, wanted_behind, seen_with, misfit, misfit_if, judge_key, no_key as unkeyed_key, value_kind, judge, judge_value}
+use Rattle.gr_expr.specs.Judge.{judge_elements}
 use Rattle.gr_rules.specs.Fits.{Fits}
 use Rattle.gr_rules.specs.Meanings.{HasMeaning}
 use Rattle.gr_rules.specs.Faults.{IsKey, of_field, IsBrokenKey, of_method, HasUnkeyed, this_unkeyed, other_unkeyed}

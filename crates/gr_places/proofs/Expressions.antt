@@ -6,10 +6,13 @@ use Rattle.gr_tree.specs.Tree.{TypeTree, ExprTree, LinkTrees, OperandTrees, Argu
 use Rattle.gr_tree.specs.Tree as tree
 use Rattle.gr_expr.specs.declared.symbol.Symbol.{Symbol}
 use Rattle.gr_expr.specs.Places.{first_token, first_of_type, place_of}
-use Rattle.gr_expr.specs.Types.{PlainType, Underlying, Plain, PointerTo, SliceOf, Struct, Kind, Typed, Untyped, Nil, Meaning, Value, TypeName, Function, BuiltinName, Package, Results, Broken, element_of}
+use Rattle.gr_expr.specs.Types.{PlainType, Underlying, Plain, PointerTo, SliceOf, Struct, Kind, Typed, Untyped, Nil, Meaning, Value, TypeName, Function}
+use Rattle.gr_expr.specs.Types.{BuiltinName, Package, Results, Broken, element_of}
 use Rattle.gr_expr.specs.World.{World, Locals, underlying}
 use Rattle.gr_expr.specs.Operations.{prefixed}
-use Rattle.gr_expr.specs.Judge.{Judged, TypeJudged, Seen, followed, means_or_wrong, select, index_rule, call_rule, call_of, operation, prefix_of, address_of, value_kind, misfit_if, key_at, key_faults, wanted_behind, seen_with, literal_ends, literal_meaning, judge, judge_value, judge_links, judge_operands, judge_arguments, judge_literal, judge_elements, judge_type}
+use Rattle.gr_expr.specs.Judge.{Judged, TypeJudged, Seen, followed, means_or_wrong, select, index_rule, call_rule, call_of, operation, prefix_of}
+use Rattle.gr_expr.specs.Judge.{address_of, value_kind, misfit_if, key_at, key_faults, wanted_behind, seen_with, literal_ends, literal_meaning, judge}
+use Rattle.gr_expr.specs.Judge.{judge_value, judge_links, judge_operands, judge_arguments, judge_literal, judge_elements, judge_type}
 use Rattle.gr_stmt.specs.Sides.{judge_operand}
 use Rattle.gr_rules.specs.Operators.{Prefixes}
 use Rattle.gr_rules.specs.Names.{IsWhole, IsType}
@@ -22,14 +25,24 @@ use Rattle.gr_rules.proofs.Refusing.{whole_or_broken}
 use Rattle.gr_rules.proofs.Completeness.{complete, has_value, value_was}
 use Rattle.gr_rules.proofs.Placing.{status, whole_status}
 use Rattle.gr_statement_rules.proofs.Values.{value_true}
-use Rattle.gr_places.specs.Expressions.{Stands, meant, unmeant, Next, SelectsBy, IndexedBy, CalledWith, NextOperated, AreWhole, BreaksAt, in_composite, in_address, in_paren, in_prefix, no_prefix, in_chain, in_links, in_binary, in_operands, ValueBreaksAt, LinksBreakAt, no_member, no_selection, behind_selector, not_indexed, in_index, no_int, no_slice, behind_index, not_called, in_arguments, misfit, no_call, behind_call, OperandsBreakAt, in_operand, no_operation, behind_operation, ArgumentsBreakAt, in_this, in_other, LiteralBreaksAt, in_type, in_untyped, in_elements, unkeyed, no_literal, ValuesBreakAt, this_element, other_element, ElementsBreakAt, in_element, no_key, field_misfit, element_misfit, behind_value, behind_field, behind_no_field}
+use Rattle.gr_places.specs.Expressions.{Stands, meant, unmeant, Next, SelectsBy, IndexedBy, CalledWith, NextOperated, AreWhole, BreaksAt, in_composite}
+use Rattle.gr_places.specs.Expressions.{in_address, in_paren, in_prefix, no_prefix, in_chain, in_links, in_binary, in_operands, ValueBreaksAt, LinksBreakAt}
+use Rattle.gr_places.specs.Expressions.{no_member, no_selection, behind_selector, not_indexed, in_index, no_int, no_slice, behind_index, not_called}
+use Rattle.gr_places.specs.Expressions.{in_arguments, misfit, no_call, behind_call, OperandsBreakAt, in_operand, no_operation, behind_operation}
+use Rattle.gr_places.specs.Expressions.{ArgumentsBreakAt, in_this, in_other, LiteralBreaksAt, in_type, in_untyped, in_elements, unkeyed, no_literal}
+use Rattle.gr_places.specs.Expressions.{ValuesBreakAt, this_element, other_element, ElementsBreakAt, in_element, no_key, field_misfit, element_misfit}
+use Rattle.gr_places.specs.Expressions.{behind_value, behind_field, behind_no_field}
 use Rattle.gr_places.specs.Simple.{OperandBreaksAt}
-use Rattle.gr_places.proofs.Holding.{Holds, holds_left, holds_right, holds_cases, Tells, none_told, both_told, told_as, At, at_place, nothing_at, fault_at, none_some}
+use Rattle.gr_places.proofs.Holding.{Holds, holds_left, holds_right, holds_cases, Tells, none_told, both_told, told_as, At, at_place, nothing_at, fault_at}
+use Rattle.gr_places.proofs.Holding.{none_some}
 use Rattle.gr_places.proofs.Types.{type_told}
 use Rattle.gr_places.proofs.Values.{meaning_is, meant_whole, gives_found, gives_only, value_from, operand_from}
-use Rattle.gr_places.proofs.Stepping.{next_found, next_only, selects_rule, SelectorBreaks, misses, no_operand, selector_told, indexes_rule, IndexBreaks, no_value_there, inside, no_int_there, no_slice_there, index_told}
-use Rattle.gr_places.proofs.Calling.{calls_rule, CallBreaks, cannot_be_called, a_misfit, wrong_call, call_told, IsNoOperation, operation_told, operated_found, operated_once}
-use Rattle.gr_places.proofs.Elements.{IsFieldMisfit, IsElementMisfit, slice_told, key_told, misfit_told, Behind, behind_one, behind_none, behind_told, elements_whole, whole_elements, has_unkeyed, unkeyed_is}
+use Rattle.gr_places.proofs.Stepping.{next_found, next_only, selects_rule, SelectorBreaks, misses, no_operand, selector_told, indexes_rule, IndexBreaks}
+use Rattle.gr_places.proofs.Stepping.{no_value_there, inside, no_int_there, no_slice_there, index_told}
+use Rattle.gr_places.proofs.Calling.{calls_rule, CallBreaks, cannot_be_called, a_misfit, wrong_call, call_told, IsNoOperation, operation_told}
+use Rattle.gr_places.proofs.Calling.{operated_found, operated_once}
+use Rattle.gr_places.proofs.Elements.{IsFieldMisfit, IsElementMisfit, slice_told, key_told, misfit_told, Behind, behind_one, behind_none, behind_told}
+use Rattle.gr_places.proofs.Elements.{elements_whole, whole_elements, has_unkeyed, unkeyed_is}
 
 -- what adds to the faults before just the places of which B holds
 record Adds (before after : List ℕ) (B : ℕ → Type 0) : Type 0 where

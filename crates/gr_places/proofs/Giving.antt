@@ -1,5 +1,6 @@
 -- Right sides as they are found, and which values are refused.
-use Rattle.std.proofs.Common.{ℕ, ◌≡◌, ◌==◌, Bool, true, false, ◌&&◌, if◌then◌else◌, ◌⊎◌, inl, inr, List, [], ◌∷◌, ◌++◌, map, length, Option, Some, None, refl, sym, ap, ◌∙◌, subst, suc, true≢false, eq-eqb, eqb-true}
+use Rattle.std.proofs.Common.{ℕ, ◌≡◌, ◌==◌, Bool, true, false, ◌&&◌, if◌then◌else◌, ◌⊎◌, inl, inr, List, [], ◌∷◌, ◌++◌, map, length, Option, Some, None}
+use Rattle.std.proofs.Common.{refl, sym, ap, ◌∙◌, subst, suc, true≢false, eq-eqb, eqb-true}
 use Rattle.gr_tree.specs.Tree.{Item, ExprTree}
 use Rattle.gr_expr.specs.Places.{place_of}
 use Rattle.gr_expr.specs.Types.{PlainType, Kind, Typed, Untyped, Nil, Meaning, Value, TypeName, Function, BuiltinName, Package, Results, Broken}
@@ -20,7 +21,9 @@ use Rattle.gr_rules.proofs.Completeness.{complete}
 use Rattle.gr_statement_rules.specs.Giving.{own, by_default, Taker, Fresh, OfType, fresh, fitting}
 use Rattle.gr_statement_rules.proofs.Giving.{aim}
 use Rattle.gr_places.specs.Expressions.{BreaksAt, ValueBreaksAt}
-use Rattle.gr_places.specs.Giving.{given_at, a_value, not_a_value, EachGives, none_left, one_more, SidesGive, nothing_given, a_call, one_given, several_given, Refuses, refuses, RefusedInTurn, this_refused, later_refused, AllGive, all_given, also_given, AllTake, all_taken, also_taken, IsMisgiven, one_refused, wrong_count, IsMisreturned, result_refused, wrong_return}
+use Rattle.gr_places.specs.Giving.{given_at, a_value, not_a_value, EachGives, none_left, one_more, SidesGive, nothing_given, a_call, one_given}
+use Rattle.gr_places.specs.Giving.{several_given, Refuses, refuses, RefusedInTurn, this_refused, later_refused, AllGive, all_given, also_given, AllTake}
+use Rattle.gr_places.specs.Giving.{all_taken, also_taken, IsMisgiven, one_refused, wrong_count, IsMisreturned, result_refused, wrong_return}
 use Rattle.gr_places.specs.Simple.{LoneBreaksAt, in_lone, gives_nothing, AnyBreaksAt, this_one, a_later_one, SidesBreakAt, alone, one_of_several}
 use Rattle.gr_places.proofs.Holding.{Tells, none_told, both_told, told_as, At, at_place, nothing_at, fault_at, test_told, fault_told}
 use Rattle.gr_places.proofs.Values.{meaning_is, meant_whole, gives_found, gives_only}

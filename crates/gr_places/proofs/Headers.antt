@@ -1,5 +1,6 @@
 -- Functions: a fault just where a rule is broken, and the locals behind them.
-use Rattle.std.proofs.Common.{ℕ, ◌≡◌, Bool, true, false, ◌&&◌, if◌then◌else◌, ◌⊎◌, inl, inr, List, [], ◌∷◌, ◌++◌, Option, Some, None, is_none, option_map, refl, sym, ap, ◌∙◌, subst, true≢false}
+use Rattle.std.proofs.Common.{ℕ, ◌≡◌, Bool, true, false, ◌&&◌, if◌then◌else◌, ◌⊎◌, inl, inr, List, [], ◌∷◌, ◌++◌, Option, Some, None, is_none, option_map}
+use Rattle.std.proofs.Common.{refl, sym, ap, ◌∙◌, subst, true≢false}
 use Rattle.gr_tree.specs.Tree.{Item, TypeTree, ReceiverTree, ParamTree, ResultTree, FuncTree}
 use Rattle.gr_tree.specs.Tree as tree
 use Rattle.gr_expr.specs.declared.symbol.Symbol.{Symbol}
@@ -9,18 +10,23 @@ use Rattle.gr_expr.specs.Judge.{TypeJudged, judge_type, good_type, no_type_at, n
 use Rattle.gr_stmt.specs.Checked.{Checked, fault_if, check_items}
 use Rattle.gr_stmt.specs.Sides.{Target, Wants, named as named_of, with_locals}
 use Rattle.gr_stmt.specs.Simple.{written_locals}
-use Rattle.gr_stmt.specs.Headers.{may_receive, receiving, received, receiver_base, starred, judge_receiver, check_receiver, check_optional_receiver, check_param, judge_types, judge_results, is_empty_list, is_bad_init, check_signature, check_function}
+use Rattle.gr_stmt.specs.Headers.{may_receive, receiving, received, receiver_base, starred, judge_receiver, check_receiver, check_optional_receiver}
+use Rattle.gr_stmt.specs.Headers.{check_param, judge_types, judge_results, is_empty_list, is_bad_init, check_signature, check_function}
 use Rattle.gr_stmt.specs.Statements.{check_block}
 use Rattle.gr_rules.specs.Faults.{IsNoType}
 use Rattle.gr_statement_rules.specs.Turns.{InTurn, IfPresent}
 use Rattle.gr_statement_rules.specs.Declarations.{IsBehindStar}
 use Rattle.gr_statement_rules.proofs.Headers.{no_points, points_no, star_faults, star_found, star_true}
-use Rattle.gr_places.specs.Leading.{MayReceive, may_receive as receives_by, IsReceiverOf, receives, receives_nothing, ReceiverLeads, behind_receiver, ParamLeads, behind_param, BlockLeads, FunctionLeads, behind_function}
+use Rattle.gr_places.specs.Leading.{MayReceive, may_receive as receives_by, IsReceiverOf, receives, receives_nothing, ReceiverLeads, behind_receiver}
+use Rattle.gr_places.specs.Leading.{ParamLeads, behind_param, BlockLeads, FunctionLeads, behind_function}
 use Rattle.gr_places.specs.Giving.{wants}
 use Rattle.gr_places.specs.Turns.{BreaksInTurn, BreaksIfPresent}
 use Rattle.gr_places.specs.Statements.{BlockBreaksAt}
-use Rattle.gr_places.specs.Declarations.{ReceiverBreaksAt, no_receiver, ParamBreaksAt, in_param, AreWritten, no_type_left, also_written, ResultsAre, none_written, one_written, several_written, AnyIsNoType, this_type, later_type, ResultBreaksAt, in_one_result, in_results, FunctionBreaksAt, in_receiver, in_params, in_result, no_init, in_body}
-use Rattle.gr_places.proofs.Holding.{Holds, holds_left, holds_right, holds_cases, Tells, none_told, both_told, told_as, At, at_place, nothing_at, fault_at, none_some}
+use Rattle.gr_places.specs.Declarations.{ReceiverBreaksAt, no_receiver, ParamBreaksAt, in_param, AreWritten, no_type_left, also_written, ResultsAre}
+use Rattle.gr_places.specs.Declarations.{none_written, one_written, several_written, AnyIsNoType, this_type, later_type, ResultBreaksAt, in_one_result}
+use Rattle.gr_places.specs.Declarations.{in_results, FunctionBreaksAt, in_receiver, in_params, in_result, no_init, in_body}
+use Rattle.gr_places.proofs.Holding.{Holds, holds_left, holds_right, holds_cases, Tells, none_told, both_told, told_as, At, at_place, nothing_at, fault_at}
+use Rattle.gr_places.proofs.Holding.{none_some}
 use Rattle.gr_places.proofs.Leading.{written_found, written_only, single_found, single_only, type_found, type_only}
 use Rattle.gr_places.proofs.Types.{type_told}
 use Rattle.gr_places.proofs.Turns.{IsTold, items_told, check_present, present_told}

@@ -1,5 +1,6 @@
 -- The locals behind names, as they are found.
-use Rattle.std.proofs.Common.{ℕ, ◌≡◌, ◌==◌, Bool, true, false, if◌then◌else◌, List, [], ◌∷◌, map, length, Option, Some, None, refl, sym, ap, ◌∙◌, suc, true≢false, eq-eqb, eqb-true, arith}
+use Rattle.std.proofs.Common.{ℕ, ◌≡◌, ◌==◌, Bool, true, false, if◌then◌else◌, List, [], ◌∷◌, map, length, Option, Some, None, refl, sym, ap, ◌∙◌, suc}
+use Rattle.std.proofs.Common.{true≢false, eq-eqb, eqb-true, arith}
 use Rattle.gr_tree.specs.Tree.{Item, IdentTree, TypeTree}
 use Rattle.gr_expr.specs.Types.{PlainType, Kind, Typed, Untyped, Nil}
 use Rattle.gr_expr.specs.World.{World, Locals, declared}
@@ -10,7 +11,8 @@ use Rattle.gr_rules.specs.Names.{IsType}
 use Rattle.gr_rules.proofs.Naming.{type_true, true_type}
 use Rattle.gr_rules.proofs.Tests.{none_is_some}
 use Rattle.gr_statement_rules.specs.Giving.{own, by_default}
-use Rattle.gr_places.specs.Leading.{TakesType, from_value, from_nil, from_nothing, DeclareEach, all_declared, no_local, new_local, DeclareAll, no_name_left, not_named, also_named, DeclareTaken, in_turn, under_wrong_count, IsWritten, a_type, no_type}
+use Rattle.gr_places.specs.Leading.{TakesType, from_value, from_nil, from_nothing, DeclareEach, all_declared, no_local, new_local, DeclareAll, no_name_left}
+use Rattle.gr_places.specs.Leading.{not_named, also_named, DeclareTaken, in_turn, under_wrong_count, IsWritten, a_type, no_type}
 
 -- types from values
 

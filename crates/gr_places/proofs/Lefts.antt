@@ -6,7 +6,8 @@ use Rattle.gr_expr.specs.Places.{place_of}
 use Rattle.gr_expr.specs.Types.{PlainType, Kind, Typed, Untyped, Nil, Meaning, Value, TypeName, Function, BuiltinName, Package, Results, Broken}
 use Rattle.gr_expr.specs.World.{World, Locals, Local}
 use Rattle.gr_expr.specs.Judge.{Judged, judge, judge_value, as_value, followed}
-use Rattle.gr_stmt.specs.Sides.{Target, Wants, Lefts, left_side, own_type, assignable, judge_operand, assigned_one, assigned, declares, no_name as judged_name, renewed, defined_one, defined, defined_name, defined_names}
+use Rattle.gr_stmt.specs.Sides.{Target, Wants, Lefts, left_side, own_type, assignable, judge_operand, assigned_one, assigned, declares}
+use Rattle.gr_stmt.specs.Sides.{no_name as judged_name, renewed, defined_one, defined, defined_name, defined_names}
 use Rattle.gr_stmt.specs.Sides as sides
 use Rattle.gr_rules.specs.Meanings.{HasMeaning}
 use Rattle.gr_rules.proofs.Tests.{none_is_some}
@@ -16,7 +17,8 @@ use Rattle.gr_statement_rules.specs.Excused.{IsBlank, underscored, IsNewName, bo
 use Rattle.gr_statement_rules.proofs.Values.{value_true, operand_true}
 use Rattle.gr_statement_rules.proofs.Lefts.{assigned_cases, own_test, test_own, own_not}
 use Rattle.gr_places.specs.Expressions.{ValueBreaksAt}
-use Rattle.gr_places.specs.Giving.{AssignedTakes, a_blank, a_variable, no_variable, NamesValueOf, an_old_name, DefinedTakes, an_underscore, a_new_name, a_known_name, no_name, EachTakes, no_side, one_side}
+use Rattle.gr_places.specs.Giving.{AssignedTakes, a_blank, a_variable, no_variable, NamesValueOf, an_old_name, DefinedTakes, an_underscore, a_new_name}
+use Rattle.gr_places.specs.Giving.{a_known_name, no_name, EachTakes, no_side, one_side}
 use Rattle.gr_places.specs.Leading.{NewNames, no_names, no_new_name}
 use Rattle.gr_places.specs.Leading as lead
 use Rattle.gr_places.specs.Simple.{OperandBreaksAt, AnyBreaksAt, DefinedBreaksAt, in_old_name, defines_no_name}

@@ -13,7 +13,8 @@ use Rattle.gr_expr.specs.Operations.{operate, class_of, is_int, is_bool}
 use Rattle.gr_expr.specs.Judge.{Argued, judge, judge_value, value_kind}
 use Rattle.gr_stmt.specs.Checked.{Checked}
 use Rattle.gr_stmt.specs.Sides.{rights, Target, Lefts, judge_operand, assigned, defined, given_to, defined_names, first_of_exprs, with_taken}
-use Rattle.gr_stmt.specs.Simple.{check_simple, check_alone, check_step, check_update, check_assign, check_define, check_condition, condition_faults, step_faults, update_faults, fault_if_none, stands_faults, is_statement, binary_of}
+use Rattle.gr_stmt.specs.Simple.{check_simple, check_alone, check_step, check_update, check_assign, check_define, check_condition, condition_faults}
+use Rattle.gr_stmt.specs.Simple.{step_faults, update_faults, fault_if_none, stands_faults, is_statement, binary_of}
 use Rattle.gr_rules.specs.Names.{IsWhole}
 use Rattle.gr_rules.specs.Operators.{IsOf, Operates}
 use Rattle.gr_rules.specs.Meanings.{HasMeaning}
@@ -29,7 +30,9 @@ use Rattle.gr_statement_rules.proofs.Simple.{call_found}
 use Rattle.gr_places.specs.Expressions.{BreaksAt, ValueBreaksAt}
 use Rattle.gr_places.specs.Giving.{SidesGive, AssignedTakes, DefinedTakes, EachTakes, IsMisgiven}
 use Rattle.gr_places.specs.Leading.{SimpleLeads, behind_call, behind_step, behind_update, behind_assignment, behind_definition}
-use Rattle.gr_places.specs.Simple.{OperandBreaksAt, ConditionBreaksAt, in_condition, no_bool, AnyBreaksAt, SidesBreakAt, DefinedBreaksAt, SimpleBreaksAt, in_alone, no_statement, in_step, no_step, in_updated, in_update, no_update, in_assigned, in_assignment, no_assignment, in_defined, in_definition, no_definition}
+use Rattle.gr_places.specs.Simple.{OperandBreaksAt, ConditionBreaksAt, in_condition, no_bool, AnyBreaksAt, SidesBreakAt, DefinedBreaksAt, SimpleBreaksAt}
+use Rattle.gr_places.specs.Simple.{in_alone, no_statement, in_step, no_step, in_updated, in_update, no_update, in_assigned, in_assignment, no_assignment}
+use Rattle.gr_places.specs.Simple.{in_defined, in_definition, no_definition}
 use Rattle.gr_places.proofs.Holding.{Holds, Tells, both_told, told_as, At, at_place, nothing_at, fault_at, test_told, holds_left, some_same}
 use Rattle.gr_places.proofs.Values.{meant_whole, kind_is, kind_means, operand_kind_is, operand_kind_means}
 use Rattle.gr_places.proofs.Expressions.{expression_told, value_told, operand_told}

@@ -11,10 +11,16 @@ use Rattle.gr_stmt.specs.Simple.{check_simple, check_optional, check_condition, 
 use Rattle.gr_stmt.specs.Statements.{returned, check_return, check_init, check_header, check_statement, check_block, check_statements, check_if, check_else}
 use Rattle.gr_statement_rules.specs.Turns.{Rule, IfPresent}
 use Rattle.gr_places.specs.Giving.{SidesGive, taker_of, IsMisreturned, wants}
-use Rattle.gr_places.specs.Leading.{SimpleLeads, InitLeads, behind_init, HeaderLeads, behind_for, behind_while, behind_clauses, StatementLeads, behind_nothing, behind_declaration, behind_simple, behind_inner, behind_choice, behind_loop, behind_break, behind_continue, behind_return, BlockLeads, behind_block, StatementsLead, behind_none, behind_one, IfLeads, behind_if, ElseLeads, without_else, behind_else_if, behind_else}
+use Rattle.gr_places.specs.Leading.{SimpleLeads, InitLeads, behind_init, HeaderLeads, behind_for, behind_while, behind_clauses, StatementLeads}
+use Rattle.gr_places.specs.Leading.{behind_nothing, behind_declaration, behind_simple, behind_inner, behind_choice, behind_loop, behind_break}
+use Rattle.gr_places.specs.Leading.{behind_continue, behind_return, BlockLeads, behind_block, StatementsLead, behind_none, behind_one, IfLeads, behind_if}
+use Rattle.gr_places.specs.Leading.{ElseLeads, without_else, behind_else_if, behind_else}
 use Rattle.gr_places.specs.Turns.{Breaks, BreaksIfPresent}
 use Rattle.gr_places.specs.Simple.{ConditionBreaksAt, SidesBreakAt, SimpleBreaksAt}
-use Rattle.gr_places.specs.Statements.{InitBreaksAt, in_init, HeaderBreaksAt, in_while, in_first, in_test, in_post, StatementBreaksAt, in_declaration, in_simple, in_inner, in_choice, in_header, in_loop, in_return, no_return, BlockBreaksAt, in_block, StatementsBreakAt, this_statement, later_statement, IfBreaksAt, before_condition, in_condition, in_then, in_otherwise, ElseBreaksAt, in_else_if, in_else}
+use Rattle.gr_places.specs.Statements.{InitBreaksAt, in_init, HeaderBreaksAt, in_while, in_first, in_test, in_post, StatementBreaksAt, in_declaration}
+use Rattle.gr_places.specs.Statements.{in_simple, in_inner, in_choice, in_header, in_loop, in_return, no_return, BlockBreaksAt, in_block, StatementsBreakAt}
+use Rattle.gr_places.specs.Statements.{this_statement, later_statement, IfBreaksAt, before_condition, in_condition, in_then, in_otherwise, ElseBreaksAt}
+use Rattle.gr_places.specs.Statements.{in_else_if, in_else}
 use Rattle.gr_places.proofs.Holding.{Holds, Tells, both_told, holds_left}
 use Rattle.gr_places.proofs.Giving.{aim_of, sides_found, sides_only, sides_told, misreturned_told}
 use Rattle.gr_places.proofs.Turns.{IsTold, added_found, added_stands, check_present, present_told, group_told}

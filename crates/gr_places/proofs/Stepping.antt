@@ -6,7 +6,8 @@ use Rattle.gr_expr.specs.Places.{place_of}
 use Rattle.gr_expr.specs.Types.{PlainType, SliceOf, Kind, Typed, Untyped, Nil, Meaning, Value, TypeName, Function, BuiltinName, Package, Results, Broken}
 use Rattle.gr_expr.specs.World.{World, Locals, underlying}
 use Rattle.gr_expr.specs.Operations.{class_of, is_int, element_of_kind}
-use Rattle.gr_expr.specs.Judge.{as_value, value_kind, means_or_wrong, member_meaning, select, select_member, bad_index, indexed, index_of, element_meaning, index_rule, judge, judge_value}
+use Rattle.gr_expr.specs.Judge.{as_value, value_kind, means_or_wrong, member_meaning, select, select_member, bad_index, indexed, index_of, element_meaning}
+use Rattle.gr_expr.specs.Judge.{index_rule, judge, judge_value}
 use Rattle.gr_rules.specs.Operators.{IsOf}
 use Rattle.gr_rules.specs.Names.{IsWhole}
 use Rattle.gr_rules.specs.Links.{Selects, Indexes, element}

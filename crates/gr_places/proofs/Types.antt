@@ -4,7 +4,8 @@ use Rattle.gr_tree.specs.Tree.{TypeTree}
 use Rattle.gr_expr.specs.Types.{Value, TypeName, Function, BuiltinName, Package, Results, Broken}
 use Rattle.gr_expr.specs.World.{World, Bound, Local, Means, BrokenVariable, BrokenFunction, BrokenType}
 use Rattle.gr_expr.specs.Judge.{judge_type, named_type, imported_type}
-use Rattle.gr_rules.specs.Faults.{NamesNoType, NamesValue, a_local, a_value, a_broken_variable, IsNoType, by_name, behind_package, behind_value, no_package, in_pointer, in_slice}
+use Rattle.gr_rules.specs.Faults.{NamesNoType, NamesValue, a_local, a_value, a_broken_variable, IsNoType, by_name, behind_package, behind_value, no_package}
+use Rattle.gr_rules.specs.Faults.{in_pointer, in_slice}
 use Rattle.gr_rules.proofs.Misplaced.{type_each}
 use Rattle.gr_rules.proofs.Placing.{Each}
 use Rattle.gr_places.proofs.Holding.{Holds, Tells}

@@ -1,6 +1,7 @@
 -- Where a function, a declaration of a package or a file breaks a rule though its parts break none.
 use Rattle.std.specs.Prelude.{◌≡◌, ℕ, Bool, true, List, [], ◌∷◌, Option, Some, None, length}
-use Rattle.gr_tree.specs.Tree.{Item, Group, BasicTree, Integer, String, TypeTree, ReceiverTree, ParamTree, ResultTree, FuncTree, GlobalTree, FieldTree, BodyTree, TypeSpecTree, DeclTree, FileTree}
+use Rattle.gr_tree.specs.Tree.{Item, Group, BasicTree, Integer, String, TypeTree, ReceiverTree, ParamTree, ResultTree, FuncTree, GlobalTree, FieldTree}
+use Rattle.gr_tree.specs.Tree.{BodyTree, TypeSpecTree, DeclTree, FileTree}
 use Rattle.gr_tree.specs.Tree as tree
 use Rattle.gr_expr.specs.declared.types.Basic.TheVariants as basic
 use Rattle.gr_expr.specs.declared.symbol.Symbol.{Symbol}

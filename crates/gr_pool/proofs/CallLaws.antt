@@ -1,5 +1,6 @@
 -- What a call leaves at its seat.
-use Rattle.std.proofs.Common.{◌≡◌, ℕ, Bool, true, List, [], ◌∷◌, ◌++◌, ◌⊎◌, inl, inr, Option, Some, None, Result, Ok, Err, refl, sym, ap, subst, ◌∙◌, ⊎_elim, append_assoc}
+use Rattle.std.proofs.Common.{◌≡◌, ℕ, Bool, true, List, [], ◌∷◌, ◌++◌, ◌⊎◌, inl, inr, Option, Some, None, Result, Ok, Err, refl, sym, ap, subst, ◌∙◌}
+use Rattle.std.proofs.Common.{⊎_elim, append_assoc}
 use Rattle.std.specs.Prelude.{All}
 use Rattle.std.proofs.lemmas.List.{append-nil}
 use Rattle.std.proofs.lemmas.List.Elements.{All-cons, All-nil}
@@ -23,7 +24,8 @@ use Rattle.gr_pool.specs.Working.{Replies}
 use Rattle.gr_pool.proofs.GainsLaws.{gains_more}
 
 -- what one step of a book is to its caller
-pub step_of : (old : Machine) (event : Event) (reply : Reply) (kept : Option Receipt) (new : Machine) → StepsAt old event reply kept new → IsStepOf event reply kept
+pub step_of : (old : Machine) (event : Event) (reply : Reply) (kept : Option Receipt) (new : Machine) → StepsAt old event reply kept new →
+    IsStepOf event reply kept
 step_of old event reply (Some receipt) new s = (old, new, s)
 step_of old event reply None new s = s.1.0
 
@@ -34,14 +36,17 @@ kind_is event reply receipt is = ap (λ (x : Entry). x.line.kind) is.2.2.1.0.2
 -- a call gains receipts of its kind
 gains_of : (P : Receipt → Type 0) (old : List Receipt) (event : Event) (reply : Reply) (index : Option ℕ) (new : List Receipt)
     → ((receipt : Receipt) → receipt.entry.line.kind ≡ kind_of event → P receipt) → Calls old event reply index new → Gains P old new
-gains_of P old event reply (Some index) new each calls = (calls.0 ∷ [], calls.3, All-cons P calls.0 [] (each calls.0 (kind_is event reply calls.0 calls.2)) (All-nil P))
+gains_of P old event reply (Some index) new each calls =
+    (calls.0 ∷ [], calls.3, All-cons P calls.0 [] (each calls.0 (kind_is event reply calls.0 calls.2)) (All-nil P))
 gains_of P old event reply None new each calls = ([], calls.1 ∙ sym (append-nil old), All-nil P)
 
-pub works : (old : List Receipt) (event : Event) (reply : Reply) (index : Option ℕ) (new : List Receipt) → is_work (kind_of event) ≡ true → Calls old event reply index new → Gains IsWork old new
+pub works : (old : List Receipt) (event : Event) (reply : Reply) (index : Option ℕ) (new : List Receipt) → is_work (kind_of event) ≡ true →
+    Calls old event reply index new → Gains IsWork old new
 works old event reply index new work calls = gains_of IsWork old event reply index new (λ receipt is. ap is_work is ∙ work) calls
 
 -- a step that left this receipt at the end of the seat
-pub called : (old : List Receipt) (event : Event) (reply : Reply) (receipt : Receipt) (new : List Receipt) → IsStepOf event reply (Some receipt) → new ≡ old ++ receipt ∷ [] → Calls old event reply (Some receipt.index) new
+pub called : (old : List Receipt) (event : Event) (reply : Reply) (receipt : Receipt) (new : List Receipt) → IsStepOf event reply (Some receipt) →
+    new ≡ old ++ receipt ∷ [] → Calls old event reply (Some receipt.index) new
 called old event reply receipt new step is = (receipt, refl, step, is)
 
 -- ---- looks
@@ -52,23 +57,29 @@ refusal_in reply = Memory
 shows_view : (old : List Receipt) (view : View) (index : Option ℕ) (new : List Receipt) → Calls old Look (Looked view) index new → Looks old (Ok view) new
 shows_view old view (Some index) new calls = (index, calls)
 shows_view old view None new calls =
-    absurd (⊎_elim (λ (e : Looked view ≡ Refused Memory). none-some _ (sym (ap told_of e))) (λ (e : Looked view ≡ Refused JournalFull). none-some _ (sym (ap told_of e))) calls.0)
+    absurd (⊎_elim (λ (e : Looked view ≡ Refused Memory). none-some _ (sym (ap told_of e)))
+    (λ (e : Looked view ≡ Refused JournalFull). none-some _ (sym (ap told_of e))) calls.0)
 
 pub looked_view : (old : List Receipt) (view : View) (new : List Receipt) → Replies old Look (Looked view) new → Looks old (Ok view) new
 looked_view old view new replied = shows_view old view replied.0 new replied.1
 
-look_refused : (old : Machine) (refusal : Refusal) (new : Machine) (told : Told) → Step old Look (Refused refusal) new → told_of (Refused refusal) ≡ Some told → ⊥
+look_refused : (old : Machine) (refusal : Refusal) (new : Machine) (told : Told) → Step old Look (Refused refusal) new →
+    told_of (Refused refusal) ≡ Some told → ⊥
 look_refused old Memory new told s is = none-some told is
 look_refused old JournalFull new told s is = none-some told is
 look_refused old refusal new told s is = s.1
 
-turns_away : (old : List Receipt) (refusal : Refusal) (index : Option ℕ) (new : List Receipt) → Calls old Look (Refused refusal) index new → Looks old (Err refusal) new
+turns_away : (old : List Receipt) (refusal : Refusal) (index : Option ℕ) (new : List Receipt) → Calls old Look (Refused refusal) index new →
+    Looks old (Err refusal) new
 unfolding refusal_in
 turns_away old refusal (Some index) new calls =
     let step = calls.2.2.2 in
     absurd (look_refused calls.2.0 refusal calls.2.1 step.1.0.0 step.0 step.1.0.1)
-turns_away old refusal None new calls =
-    (⊎_elim (λ (e : Refused refusal ≡ Refused Memory). inl (ap refusal_in e)) (λ (e : Refused refusal ≡ Refused JournalFull). inr (ap refusal_in e)) calls.0, calls.1)
+turns_away old refusal None new calls = (
+  ⊎_elim (λ (e : Refused refusal ≡ Refused Memory). inl (ap refusal_in e)) (λ (e : Refused refusal ≡ Refused JournalFull). inr (ap refusal_in e))
+      calls.0,
+  calls.1,
+)
 
 pub looked_refusal : (old : List Receipt) (refusal : Refusal) (new : List Receipt) → Replies old Look (Refused refusal) new → Looks old (Err refusal) new
 looked_refusal old refusal new replied = turns_away old refusal replied.0 new replied.1
@@ -78,9 +89,11 @@ pub looks_on : (old mid : List Receipt) (view : View) (new : List Receipt) → G
 looks_on old mid view new gained look =
     gains_more IsLook old mid new gained (gains_of IsLook mid Look (Looked view) (Some look.0) new (λ receipt is. is) look.1)
 
-pub looks_until : (old mid : List Receipt) (view : View) (new : List Receipt) → Gains IsLook old mid → Looks mid (Ok view) new → IsBuilt view → LooksUntilBuilt old (Ok view) new
+pub looks_until : (old mid : List Receipt) (view : View) (new : List Receipt) → Gains IsLook old mid → Looks mid (Ok view) new → IsBuilt view →
+    LooksUntilBuilt old (Ok view) new
 looks_until old mid view new gained look built =
     (gained.0, gained.2, (look.0, subst (λ (x : List Receipt). Calls x Look (Looked view) (Some look.0) new) gained.1 look.1), built)
 
-pub looks_turned : (old mid : List Receipt) (refusal : Refusal) (new : List Receipt) → Gains IsLook old mid → Looks mid (Err refusal) new → LooksUntilBuilt old (Err refusal) new
+pub looks_turned : (old mid : List Receipt) (refusal : Refusal) (new : List Receipt) → Gains IsLook old mid → Looks mid (Err refusal) new →
+    LooksUntilBuilt old (Err refusal) new
 looks_turned old mid refusal new gained look = (gained.0, gained.2, look.1 ∙ gained.1, look.0)

@@ -48,7 +48,8 @@ found (x ∷ xs) index i lt here =
     let r = slice_index_or (x ∷ xs) i x in
     (i, r, lt, get_or_default (x ∷ xs) i r x lt, ranked r.index index Equal (sym (here x)))
 
-missed : (xs : List Receipt) (index i : ℕ) → AllWithin (λ r. nat_cmp r.index index ≡ Less) xs 0 i → AllWithin (λ r. nat_cmp r.index index ≡ Greater) xs i (length xs) → HasIndex xs index → ⊥
+missed : (xs : List Receipt) (index i : ℕ) → AllWithin (λ r. nat_cmp r.index index ≡ Less) xs 0 i →
+    AllWithin (λ r. nat_cmp r.index index ≡ Greater) xs i (length xs) → HasIndex xs index → ⊥
 unfolding HasIndex
 missed xs index i less greater has =
     let k = has.0 in

@@ -18,6 +18,10 @@ use Rattle.gr_graph.specs.contracts.shared_package.PackageParts.{the_row as pack
 use Rattle.gr_graph.specs.contracts.shared_package.SharedPackage.{the_row as shared_package}
 use Rattle.gr_graph.specs.contracts.graph.Parts.{the_row as graph_parts}
 use Rattle.gr_graph.specs.contracts.graph.Graph.{the_row as graph}
+use Rattle.gr_verdict.specs.contracts.earlier.EarlierParts.{the_row as earlier_parts}
+use Rattle.gr_verdict.specs.contracts.earlier.Earlier.{the_row as earlier}
+use Rattle.gr_verdict.specs.contracts.known.Known.{the_row as known}
+use Rattle.gr_keep.specs.contracts.shared_known.SharedKnown.{the_row as shared_known}
 use Rattle.gr_compile.specs.contracts.unit.Compiled.{the_row as compiled}
 use Rattle.gr_compile.specs.contracts.unit.Unit.{the_row as unit}
 use Rattle.gr_keep.specs.contracts.finished.Finished.{the_row as finished}
@@ -36,7 +40,8 @@ use Rattle.gr_graph.proofs.shared_links.SharedLinks.TheSendSync.{the_send as Sha
 use Rattle.gr_compile.proofs.out.Out.TheSendSync.{the_send as Out-send}
 use Rattle.gr_book.proofs.entry.Entry.TheSendSync.{the_send as Entry-send}
 use Rattle.gr_pool.proofs.seat.Seat.TheSendSync.{the_send as Seat-send}
-use Rattle.gr_pool.proofs.SendsFound.{file_fault_sent, file_fault_shared, scope_sent, scope_shared, definition_sent, definition_shared, shared_known_sent}
+use Rattle.gr_pool.proofs.SendsFound.{file_fault_sent, file_fault_shared, scope_sent, scope_shared, definition_sent, definition_shared, verdict_sent}
+use Rattle.gr_pool.proofs.SendsFound.{verdict_shared}
 use Rattle.gr_expr.proofs.types.GoType.TheLaws.TheKnot.{crosses as type_crosses}
 use Rattle.gr_pool.proofs.SendsTrees.{file_tree_sent, file_tree_shared}
 
@@ -102,6 +107,32 @@ graph_parts_shared = search (owned, shared_package_shared) depth 30 fits 50000
 
 pub graph_sent : IsSend graph
 graph_sent = search (owned, graph_parts_sent, graph_parts_shared) depth 30 fits 50000
+
+pub graph_shared : IsSync graph
+graph_shared = search (owned, graph_parts_sent, graph_parts_shared) depth 30 fits 50000
+
+-- what is known of packages, and what was known of them in another graph
+
+pub earlier_parts_sent : IsSend earlier_parts
+earlier_parts_sent = search (owned, graph_sent, verdict_sent) depth 30 fits 50000
+
+pub earlier_parts_shared : IsSync earlier_parts
+earlier_parts_shared = search (owned, graph_shared, verdict_shared) depth 30 fits 50000
+
+pub earlier_sent : IsSend earlier
+earlier_sent = search (owned, earlier_parts_sent, earlier_parts_shared) depth 30 fits 50000
+
+pub earlier_shared : IsSync earlier
+earlier_shared = search (owned, earlier_parts_sent, earlier_parts_shared) depth 30 fits 50000
+
+pub known_sent : IsSend known
+known_sent = search (owned, verdict_sent, earlier_sent) depth 30 fits 50000
+
+pub known_shared : IsSync known
+known_shared = search (owned, verdict_shared, earlier_shared) depth 30 fits 50000
+
+pub shared_known_sent : IsSend shared_known
+shared_known_sent = search (owned, known_sent, known_shared) depth 30 fits 50000
 
 pub compiled_sent : IsSend compiled
 compiled_sent = search (owned, type_crosses, file_fault_sent, scope_sent, scope_shared, definition_sent, definition_shared) depth 30 fits 50000

@@ -17,8 +17,6 @@ use Rattle.gr_verdict.specs.contracts.finding.Finding.{the_row as finding}
 use Rattle.gr_verdict.specs.contracts.finding.SharedFinding.{the_row as shared_finding}
 use Rattle.gr_verdict.specs.contracts.known.SharedInterfaces.{the_row as shared_interfaces}
 use Rattle.gr_verdict.specs.contracts.known.KnownVerdict.{the_row as verdict}
-use Rattle.gr_verdict.specs.contracts.known.Known.{the_row as known}
-use Rattle.gr_keep.specs.contracts.shared_known.SharedKnown.{the_row as shared_known}
 use Rattle.gr_text.proofs.path.Path.TheSendSync.{the_send as Path-send, the_sync as Path-sync}
 use Rattle.gr_expr.proofs.symbol.SharedPath.TheSendSync.{the_send as SharedPath-send, the_sync as SharedPath-sync}
 use Rattle.gr_expr.proofs.types.Basic.TheSendSync.{the_send as Basic-send, the_sync as Basic-sync}
@@ -118,12 +116,3 @@ verdict_sent = search (owned, shared_finding_sent, shared_interfaces_sent) depth
 
 pub verdict_shared : IsSync verdict
 verdict_shared = search (owned, shared_finding_shared, shared_interfaces_shared) depth 30 fits 50000
-
-pub known_sent : IsSend known
-known_sent = search (owned, verdict_sent) depth 30 fits 50000
-
-pub known_shared : IsSync known
-known_shared = search (owned, verdict_shared) depth 30 fits 50000
-
-pub shared_known_sent : IsSend shared_known
-shared_known_sent = search (owned, known_sent, known_shared) depth 30 fits 50000

@@ -52,7 +52,8 @@ after_taken old job (Refused refusal) stays = refl
 after_taken old job (Back refusal back unit) stays = absurd (stays tt)
 
 -- after one that came back, the Job is given back
-pub after_back : (old : List Receipt) (job : JobRecord) (reply : Reply) (new : List Receipt) → ComesBack reply → Sends old (GiveBack job) new → AfterDelivery old job reply new
+pub after_back : (old : List Receipt) (job : JobRecord) (reply : Reply) (new : List Receipt) → ComesBack reply → Sends old (GiveBack job) new →
+    AfterDelivery old job reply new
 after_back old job (Looked view) new back sent = absurd back
 after_back old job (Logged current line) new back sent = absurd back
 after_back old job (Done number) new back sent = absurd back

@@ -26,7 +26,7 @@ fn done(reply: Reply) -> Option<u64> {
 }
 
 /// The view that a look showed.
-pub(crate) fn view_of(reply: Reply) -> Option<View> {
+fn view_of(reply: Reply) -> Option<View> {
     match reply {
         Reply::Looked(view) => Some(view),
         other => {
@@ -85,14 +85,4 @@ pub(crate) fn put<L: Opening, R: Wait + Abort>(
         }
     }
     None
-}
-
-/// Whether a file has that text.
-pub(crate) fn has(view: &View, path: &str, bytes: &str) -> bool {
-    for (name, text) in view.snapshot.files().files().iter() {
-        if name.as_str() == path {
-            return text.bytes() == bytes.as_bytes();
-        }
-    }
-    false
 }

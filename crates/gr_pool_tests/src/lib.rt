@@ -7,8 +7,6 @@ mod calls;
 #[cfg(test)]
 mod meeting;
 #[cfg(test)]
-mod sessions;
-#[cfg(test)]
 mod settling;
 #[cfg(test)]
 mod workers;

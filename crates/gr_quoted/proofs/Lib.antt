@@ -3,5 +3,7 @@ pub mod PathBytes
 pub mod Quoting
 pub mod Cutting
 pub mod Folders
+pub mod Seams
+pub mod Joining
 pub mod Replacing
 pub mod Whole

@@ -1,5 +1,6 @@
 -- String literals that stand for given bytes.
 use Rattle.std.specs.Prelude.{◌≡◌, ℕ, ◌+◌, ◌-◌, List, ◌∷◌, ◌++◌, length}
+use Rattle.gr_scan.specs.declared.piece.Class.{Class}
 use Rattle.gr_scan.specs.declared.piece.Class.TheVariants.{InterpretedString}
 use Rattle.gr_scan.specs.declared.piece.Piece.{Piece}
 use Rattle.gr_scan.specs.Cuts.{bytes_of}
@@ -12,9 +13,13 @@ pub record IsLiteralOf (bytes value : List ℕ) : Type 0 where
   pub stands_for : HasStringValue bytes value
   pub no_other : (other : List ℕ) → HasStringValue bytes other → other ≡ value
 
+-- the piece of a class that the bytes are, where they begin at a place
+abbrev pub piece_at : Class → ℕ → List ℕ → Piece
+piece_at class place bytes = record { class = class; span = record { start = place; end = place + length bytes } }
+
 -- the string piece that the bytes are, where they begin at a place
 abbrev pub literal_at : ℕ → List ℕ → Piece
-literal_at place bytes = record { class = InterpretedString; span = record { start = place; end = place + length bytes } }
+literal_at place bytes = piece_at InterpretedString place bytes
 
 -- behind some of its pieces a text has a string piece, whose bytes begin at a place and stand for a value
 pub record HasLiteralAt (text : List ℕ) (pieces before : List Piece) (place : ℕ) (bytes value : List ℕ) : Type 0 where

@@ -22,7 +22,8 @@ use Rattle.gr_renaming.specs.FileEdits.{AreFileEdits}
 use Rattle.gr_renaming.specs.RenameEdits.{AreEditsOf}
 use Rattle.gr_rename.specs.Laws.{RenamesKeepOtherBytes}
 
-module _ (w : Workspace) (known : Verdicts) (r : Renamed) (s : FileChanges) (are : AreEditsOf w known r s) (fit : Fits s w) (file text : List ℕ) (is : get w file ≡ Some text) where
+module _ (w : Workspace) (known : Verdicts) (r : Renamed) (s : FileChanges) (are : AreEditsOf w known r s) (fit : Fits s w) (file text : List ℕ)
+    (is : get w file ≡ Some text) where
   -- the file's edits are in order and lie in its text
   record AreInText (edits : List Edit) : Type 0 where
     in_order : AreInOrder 0 edits
@@ -53,8 +54,10 @@ module _ (w : Workspace) (known : Verdicts) (r : Renamed) (s : FileChanges) (are
   new_there : get (edited s w) file ≡ Some (edited_text (edits_by (change_of s file)) text)
   new_there = has_file s w fit file (edited_text (edits_by (change_of s file)) text) (inr (file, text, is, stays_there (change_of s file) refl))
 
-  pub bytes_kept : (start end : ℕ) → start < end → end ≤ length text → AreKept (edits_by (change_of s file)) start end → (new : List ℕ) × ((get (edited s w) file ≡ Some new) ×
-      (slice_range new (moved_offset (edits_by (change_of s file)) start) (moved_offset (edits_by (change_of s file)) start + (end - start)) ≡ slice_range text start end))
+  pub bytes_kept : (start end : ℕ) → start < end → end ≤ length text → AreKept (edits_by (change_of s file)) start end → (new : List ℕ) ×
+      ((get (edited s w) file ≡ Some new) ×
+      (slice_range new (moved_offset (edits_by (change_of s file)) start) (moved_offset (edits_by (change_of s file)) start + (end - start)) ≡ slice_range
+      text start end))
   bytes_kept start end some within kept =
       let edits = edits_by (change_of s file) in
       let h = in_text (change_of s file) refl in
@@ -64,7 +67,8 @@ pub renames_keep : RenamesKeepOtherBytes
 renames_keep snapshot path offset name change planned file text is start end some within kept =
     let renamed = planned.1 in
     let rename = renamed.renaming.edits in
-    let h = bytes_kept snapshot.files renamed.renaming.may.renamable.asked.known rename.renamed change.edits rename.edits renamed.fit_files file text is start end some within kept in
+    let h = bytes_kept snapshot.files renamed.renaming.may.renamable.asked.known rename.renamed change.edits rename.edits renamed.fit_files file text is
+    start end some within kept in
     record {
       new = h.0;
       there = ap (λ (c : Change). get c.files file) renamed.is_change ∙ h.1.0;

@@ -34,7 +34,8 @@ pub told_conflict : (snapshot : Snapshot) (known : Verdicts) (asked : Place) (s 
     (by : Option Capturer) (used : Place) → IsToldOr snapshot.files known (revision_of snapshot.files s) asked (record { used = used; by = by }) →
     PlansEdits snapshot known asked s (Err (told_by by used))
 told_conflict snapshot known asked s not None used is = (not, record { conflict = record { used = used; by = None }; is_told = is; tells = refl })
-told_conflict snapshot known asked s not (Some Universe) used is = (not, record { conflict = record { used = used; by = Some Universe }; is_told = is; tells = refl })
+told_conflict snapshot known asked s not (Some Universe) used is =
+    (not, record { conflict = record { used = used; by = Some Universe }; is_told = is; tells = refl })
 told_conflict snapshot known asked s not (Some (At place)) used is =
     (not, record { conflict = record { used = used; by = Some (At place) }; is_told = is; tells = refl })
 
@@ -52,7 +53,8 @@ module _ (snapshot : Snapshot) (known : Verdicts) (asked : Place) (s : FileChang
 
 -- the declaration of what holds the byte
 
-module _ (snapshot : Snapshot) (path : List ℕ) (offset : ℕ) (name : List ℕ) (sound : ListsFaults snapshot.files []) (known : Verdicts) (right : AreVerdicts snapshot.files known) where
+module _ (snapshot : Snapshot) (path : List ℕ) (offset : ℕ) (name : List ℕ) (sound : ListsFaults snapshot.files []) (known : Verdicts)
+    (right : AreVerdicts snapshot.files known) where
   pub finds_refused : (r : Refusal) → FindsDeclaration snapshot.files known path offset (Err r) → PlansIn snapshot path offset name (Err r)
   finds_refused refusal.Memory h = h
   finds_refused refusal.BadCommand h = absurd h
@@ -64,7 +66,11 @@ module _ (snapshot : Snapshot) (path : List ℕ) (offset : ℕ) (name : List ℕ
   finds_refused refusal.NothingToRedo h = absurd h
   finds_refused (refusal.Faulty a b) h = absurd h
   finds_refused refusal.NoIdentifier h = (sound, record { known = known; right = right; none = h })
-  finds_refused refusal.NotRenamable h = (sound, inl (record { known = known; right = right; asked_in = h.0; is_asked = h.1.0; number = h.1.1.0; at = h.1.1.1.0; unbound = h.1.1.1.1 }))
+  finds_refused refusal.NotRenamable h = (
+    sound,
+    inl
+        (record { known = known; right = right; asked_in = h.0; is_asked = h.1.0; number = h.1.1.0; at = h.1.1.1.0; unbound = h.1.1.1.1 }),
+  )
   finds_refused refusal.BadName h = absurd h
   finds_refused refusal.Same h = absurd h
   finds_refused (refusal.Captured a b) h = absurd h
@@ -86,7 +92,8 @@ module _ (snapshot : Snapshot) (path : List ℕ) (offset : ℕ) (name : List ℕ
     abbrev renamable : (IsFixed (IsPackage snapshot.files known) d → ⊥) → IsRenamable snapshot.files path offset
     renamable free = record { asked = asked; not_fixed = free }
 
-    abbrev may_be : (IsFixed (IsPackage snapshot.files known) d → ⊥) → (IsReservedFor (IsPackage snapshot.files known) d name → ⊥) → MayBeCalled snapshot.files path offset name
+    abbrev may_be : (IsFixed (IsPackage snapshot.files known) d → ⊥) → (IsReservedFor (IsPackage snapshot.files known) d name → ⊥) →
+        MayBeCalled snapshot.files path offset name
     may_be free allowed = record { renamable = renamable free; allowed = allowed }
 
     pub name_refused : (r : Refusal) → RefusesName (IsPackage snapshot.files known) d name (Err r) → PlansIn snapshot path offset name (Err r)
@@ -119,7 +126,8 @@ module _ (snapshot : Snapshot) (path : List ℕ) (offset : ℕ) (name : List ℕ
       renaming : (s : FileChanges) → AreRenameEdits snapshot.files known d name s → IsRenaming snapshot.files path offset name s
       renaming s are = record { may = may_be ok.0 ok.1; other = ok.2; edits = are }
 
-      edits_refused : (s : FileChanges) → IsRenaming snapshot.files path offset name s → (r : Refusal) → PlansEdits snapshot known (record { path = path; offset = offset }) s (Err r) → PlansIn snapshot path offset name (Err r)
+      edits_refused : (s : FileChanges) → IsRenaming snapshot.files path offset name s → (r : Refusal) →
+          PlansEdits snapshot known (record { path = path; offset = offset }) s (Err r) → PlansIn snapshot path offset name (Err r)
       edits_refused s is refusal.Memory h = h
       edits_refused s is refusal.BadCommand h = absurd h
       edits_refused s is refusal.BadPath h = absurd h
@@ -133,7 +141,10 @@ module _ (snapshot : Snapshot) (path : List ℕ) (offset : ℕ) (name : List ℕ
       edits_refused s is refusal.NotRenamable h = absurd h
       edits_refused s is refusal.BadName h = absurd h
       edits_refused s is refusal.Same h = absurd h
-      edits_refused s is (refusal.Captured a b) h = (sound, record { changes = s; renaming = is; not_preserved = h.0; known = known; right = right; told = h.1 })
+      edits_refused s is (refusal.Captured a b) h = (
+        sound,
+        record { changes = s; renaming = is; not_preserved = h.0; known = known; right = right; told = h.1 },
+      )
       edits_refused s is (refusal.Lost a) h = (sound, record { changes = s; renaming = is; not_preserved = h.0; known = known; right = right; told = h.1 })
       edits_refused s is refusal.NoPackage h = absurd h
       edits_refused s is refusal.TargetTaken h = absurd h
@@ -145,19 +156,22 @@ module _ (snapshot : Snapshot) (path : List ℕ) (offset : ℕ) (name : List ℕ
       edits_refused s is refusal.NoJob h = absurd h
       edits_refused s is refusal.BodyShort h = absurd h
 
-      edits_planned : (s : FileChanges) → AreRenameEdits snapshot.files known d name s → Fits s snapshot.files → (r : Result Change Refusal) → PlansEdits snapshot known (record { path = path; offset = offset }) s r → PlansIn snapshot path offset name r
+      edits_planned : (s : FileChanges) → AreRenameEdits snapshot.files known d name s → Fits s snapshot.files → (r : Result Change Refusal) →
+          PlansEdits snapshot known (record { path = path; offset = offset }) s r → PlansIn snapshot path offset name r
       edits_planned s are fit (Err r) h = edits_refused s (renaming s are) r h
       edits_planned s are fit (Ok change) h =
           subst (λ (c : Change). PlansIn snapshot path offset name (Ok c)) (sym h.2)
           (sound, record { renaming = renaming s are; preserves = h.0; fits = h.1; fit_files = fit; is_change = refl })
 
-      pub declaration_planned : (r : Result Change Refusal) → PlansDeclaration snapshot known (record { path = path; offset = offset }) d name r → PlansIn snapshot path offset name r
+      pub declaration_planned : (r : Result Change Refusal) → PlansDeclaration snapshot known (record { path = path; offset = offset }) d name r →
+          PlansIn snapshot path offset name r
       declaration_planned r (inl none) = subst (PlansIn snapshot path offset name) (sym none) tt
       declaration_planned r (inr h) = edits_planned h.0 h.1.0 h.1.1.0 r h.1.1.1
 
 -- the first fault
 
-pub faults_refused : (snapshot : Snapshot) (path : List ℕ) (offset : ℕ) (name : List ℕ) (found : Findings) (r : Refusal) → RefusesFaults snapshot.files found (Err r) → PlansIn snapshot path offset name (Err r)
+pub faults_refused : (snapshot : Snapshot) (path : List ℕ) (offset : ℕ) (name : List ℕ) (found : Findings) (r : Refusal) →
+    RefusesFaults snapshot.files found (Err r) → PlansIn snapshot path offset name (Err r)
 faults_refused snapshot path offset name found refusal.Memory h = h
 faults_refused snapshot path offset name found refusal.BadCommand h = absurd h
 faults_refused snapshot path offset name found refusal.BadPath h = absurd h

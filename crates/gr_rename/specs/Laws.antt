@@ -18,9 +18,12 @@ edits_in change file = edits_by (change_of change.edits file)
 pub record KeepsBytes (change : Change) (file text : List ℕ) (start end : ℕ) : Type 0 where
   pub new : List ℕ
   pub there : files.get change.files file ≡ Some new
-  pub kept : slice_range new (moved_offset (edits_in change file) start) (moved_offset (edits_in change file) start + (end - start)) ≡ slice_range text start end
+  pub kept : slice_range new (moved_offset (edits_in change file) start) (moved_offset (edits_in change file) start + (end - start)) ≡ slice_range text
+      start end
 
 -- Where a rename is planned, each file stays at its path, and its bytes stay that are in no span of an edit.
 abbrev pub RenamesKeepOtherBytes : Type 0
-RenamesKeepOtherBytes = (snapshot : Snapshot) (path : List ℕ) (offset : ℕ) (name : List ℕ) (change : Change) → PlansRename snapshot path offset name (Ok change) →
-    (file text : List ℕ) → files.get snapshot.files file ≡ Some text → (start end : ℕ) → start < end → end ≤ length text → AreKept (edits_in change file) start end → KeepsBytes change file text start end
+RenamesKeepOtherBytes = (snapshot : Snapshot) (path : List ℕ) (offset : ℕ) (name : List ℕ) (change : Change) →
+    PlansRename snapshot path offset name (Ok change) →
+    (file text : List ℕ) → files.get snapshot.files file ≡ Some text → (start end : ℕ) → start < end → end ≤ length text →
+    AreKept (edits_in change file) start end → KeepsBytes change file text start end

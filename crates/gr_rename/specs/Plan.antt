@@ -4,7 +4,8 @@ use Rattle.std.specs.FinMap as files
 use Rattle.gr_text.specs.Path.{IsPath}
 use Rattle.gr_text.specs.Workspace.{Workspace}
 use Rattle.gr_text.specs.declared.refusal.Refusal.{Refusal}
-use Rattle.gr_text.specs.declared.refusal.Refusal.TheVariants.{Memory, BadPath, NoFile, TooLarge, Faulty, NoIdentifier, NotRenamable, BadName, Same, Captured, Lost}
+use Rattle.gr_text.specs.declared.refusal.Refusal.TheVariants.{Memory, BadPath, NoFile, TooLarge, Faulty, NoIdentifier, NotRenamable, BadName, Same}
+use Rattle.gr_text.specs.declared.refusal.Refusal.TheVariants.{Captured, Lost}
 use Rattle.gr_verdict.specs.Verdicts.{Verdicts, AreVerdicts}
 use Rattle.gr_verdict.specs.FaultLists.{ListsFaults}
 use Rattle.gr_bound.specs.declared.declaration.Declaration.{Declaration}
@@ -104,7 +105,8 @@ PlansRename snapshot path offset name (Err NoIdentifier) = IsWellAsked snapshot.
 PlansRename snapshot path offset name (Err NotRenamable) =
     IsWellAsked snapshot.files path name × (HasNoDeclaration snapshot.files path offset ⊎ IsAskedFixed snapshot.files path offset)
 PlansRename snapshot path offset name (Err Same) = IsWellAsked snapshot.files path name × IsAskedSame snapshot.files path offset name
-PlansRename snapshot path offset name (Err (Captured used by)) = IsWellAsked snapshot.files path name × HasConflict snapshot.files path offset name (Captured used by)
+PlansRename snapshot path offset name (Err (Captured used by)) = IsWellAsked snapshot.files path name ×
+    HasConflict snapshot.files path offset name (Captured used by)
 PlansRename snapshot path offset name (Err (Lost used)) = IsWellAsked snapshot.files path name × HasConflict snapshot.files path offset name (Lost used)
 PlansRename snapshot path offset name (Err TooLarge) = IsWellAsked snapshot.files path name × IsTooLarge snapshot path offset name
 PlansRename snapshot path offset name (Err Memory) = ⊤

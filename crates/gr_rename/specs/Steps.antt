@@ -34,21 +34,24 @@ PlansEdits snapshot known asked s (Ok change) =
     Preserves snapshot.files (revision_of snapshot.files s) × FitsLimits snapshot.limits (edited s snapshot.files) × (change ≡ renaming_by snapshot s)
 PlansEdits snapshot known asked s (Err (Captured used by)) = IsConflict snapshot known asked s (Captured used by)
 PlansEdits snapshot known asked s (Err (Lost used)) = IsConflict snapshot known asked s (Lost used)
-PlansEdits snapshot known asked s (Err TooLarge) = Preserves snapshot.files (revision_of snapshot.files s) × ¬ (FitsLimits snapshot.limits (edited s snapshot.files))
+PlansEdits snapshot known asked s (Err TooLarge) = Preserves snapshot.files (revision_of snapshot.files s) ×
+    ¬ (FitsLimits snapshot.limits (edited s snapshot.files))
 PlansEdits snapshot known asked s (Err Memory) = ⊤
 PlansEdits snapshot known asked s (Err refusal) = ⊥
 
 -- the same of the edits that give a declaration a name, unless there was no memory for them
 abbrev pub PlansDeclaration : Snapshot → Verdicts → Place → Declaration → List ℕ → Result Change Refusal → Type 0
 PlansDeclaration snapshot known asked d name result =
-    (result ≡ Err Memory) ⊎ ((s : FileChanges) × (AreRenameEdits snapshot.files known d name s × (Fits s snapshot.files × PlansEdits snapshot known asked s result)))
+    (result ≡ Err Memory) ⊎ ((s : FileChanges) × (AreRenameEdits snapshot.files known d name s ×
+    (Fits s snapshot.files × PlansEdits snapshot known asked s result)))
 
 -- what planning answers where the arguments have their forms and the file is there
 abbrev pub PlansIn : Snapshot → List ℕ → ℕ → List ℕ → Result Change Refusal → Type 0
 PlansIn snapshot path offset name (Ok change) = ListsFaults snapshot.files [] × IsRenamed snapshot path offset name change
 PlansIn snapshot path offset name (Err (Faulty place kind)) = HasFirstFault snapshot.files place kind
 PlansIn snapshot path offset name (Err NoIdentifier) = ListsFaults snapshot.files [] × HasNoIdentifier snapshot.files path offset
-PlansIn snapshot path offset name (Err NotRenamable) = ListsFaults snapshot.files [] × (HasNoDeclaration snapshot.files path offset ⊎ IsAskedFixed snapshot.files path offset)
+PlansIn snapshot path offset name (Err NotRenamable) = ListsFaults snapshot.files [] ×
+    (HasNoDeclaration snapshot.files path offset ⊎ IsAskedFixed snapshot.files path offset)
 PlansIn snapshot path offset name (Err BadName) = ListsFaults snapshot.files [] × IsAskedReserved snapshot.files path offset name
 PlansIn snapshot path offset name (Err Same) = ListsFaults snapshot.files [] × IsAskedSame snapshot.files path offset name
 PlansIn snapshot path offset name (Err (Captured used by)) = ListsFaults snapshot.files [] × HasConflict snapshot.files path offset name (Captured used by)

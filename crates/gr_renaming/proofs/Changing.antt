@@ -1,5 +1,6 @@
 -- The changes of files, path by path, and the edit set that they make.
-use Rattle.std.proofs.Common.{◌≡◌, ◌==◌, ℕ, ◌≤◌, length, ◌⊎◌, inl, inr, List, [], ◌∷◌, ◌++◌, map, Option, Some, None, append_assoc, append-nil, refl, sym, ap, subst, ◌∙◌}
+use Rattle.std.proofs.Common.{◌≡◌, ◌==◌, ℕ, ◌≤◌, length, ◌⊎◌, inl, inr, List, [], ◌∷◌, ◌++◌, map, Option, Some, None, append_assoc, append-nil, refl, sym}
+use Rattle.std.proofs.Common.{ap, subst, ◌∙◌}
 use Rattle.std.specs.Prelude.{Contains}
 use Rattle.std.specs.Cmp.Lexicographic.{pointwise}
 use Rattle.std.specs.FinMap.{entries, get}
@@ -31,7 +32,8 @@ use Rattle.gr_renaming.proofs.Sources.{source_text, one_source}
 
 -- paths in order
 
-without_head : (p q : List ℕ) (ps qs : List (List ℕ)) → AllByRecursion (λ r. path_cmp p r ≡ Less) (ps ++ q ∷ qs) → AllByRecursion (λ r. path_cmp p r ≡ Less) (ps ++ qs)
+without_head : (p q : List ℕ) (ps qs : List (List ℕ)) → AllByRecursion (λ r. path_cmp p r ≡ Less) (ps ++ q ∷ qs) →
+    AllByRecursion (λ r. path_cmp p r ≡ Less) (ps ++ qs)
 without_head p q [] qs h = h.1
 without_head p q (x ∷ ps) qs h = (h.0, without_head p q ps qs h.1)
 
@@ -46,9 +48,11 @@ paths_push (d ∷ cs) c = ap (λ ps. d.path ∷ ps) (paths_push cs c)
 
 -- one more change
 
-pub one_added : (f : SourceFile) (r : Renamed) (old new : List FileChange) (c : FileChange) → new ≡ old ++ c ∷ [] → c.path ≡ f.path → c.fate ≡ Stays → AreFileEdits f r c.edits → AddsChange f r old new
+pub one_added : (f : SourceFile) (r : Renamed) (old new : List FileChange) (c : FileChange) → new ≡ old ++ c ∷ [] → c.path ≡ f.path → c.fate ≡ Stays →
+    AreFileEdits f r c.edits → AddsChange f r old new
 one_added f r old new c is at stays are =
-    let same : c ≡ change_to f c.edits = ap (λ p. record { path = p; edits = c.edits; fate = c.fate }) at ∙ ap (λ fate. record { path = f.path; edits = c.edits; fate = fate }) stays in
+    let same : c ≡ change_to f c.edits = ap (λ p. record { path = p; edits = c.edits; fate = c.fate }) at ∙
+    ap (λ fate. record { path = f.path; edits = c.edits; fate = fate }) stays in
     subst (AddsChange f r old) (sym (is ∙ ap (λ (x : FileChange). old ++ x ∷ []) same)) (one c.edits are)
 
 pub none_added : (f : SourceFile) (r : Renamed) (old : List FileChange) (edits : List Edit) → edits ≡ [] → AreFileEdits f r edits → AddsChange f r old old
@@ -79,7 +83,8 @@ pub record Changing (w : Workspace) (known : Verdicts) (r : Renamed) (left : Lis
   pub all : (f : SourceFile) → IsSourceIn w known f → Contains left f.path ⊎ IsChanged cs r f
 
 module _ (w : Workspace) (known : Verdicts) (r : Renamed) where
-  pub changing_first : (paths : List (List ℕ)) (cs : List FileChange) → cs ≡ [] → IsStrictlySortedBy path_cmp paths → ((path : List ℕ) → IsPathOf r path → Contains paths path) → Changing w known r paths cs
+  pub changing_first : (paths : List (List ℕ)) (cs : List FileChange) → cs ≡ [] → IsStrictlySortedBy path_cmp paths →
+      ((path : List ℕ) → IsPathOf r path → Contains paths path) → Changing w known r paths cs
   changing_first paths cs e sorted all = subst (Changing w known r paths) (sym e) (record {
     in_order = sorted;
     each = λ c has. absurd (nothing_in c has);
@@ -87,7 +92,8 @@ module _ (w : Workspace) (known : Verdicts) (r : Renamed) where
   })
 
   -- no Go file has that path
-  pub changing_past : (path : List ℕ) (left : List (List ℕ)) (cs : List FileChange) → ((f : SourceFile) → IsSourceIn w known f → f.path ≡ path → ⊥) → Changing w known r (path ∷ left) cs → Changing w known r left cs
+  pub changing_past : (path : List ℕ) (left : List (List ℕ)) (cs : List FileChange) → ((f : SourceFile) → IsSourceIn w known f → f.path ≡ path → ⊥) →
+      Changing w known r (path ∷ left) cs → Changing w known r left cs
   changing_past path left cs other h = record {
     in_order = without_one (paths_of cs) left path h.in_order;
     each = h.each;
@@ -98,7 +104,8 @@ module _ (w : Workspace) (known : Verdicts) (r : Renamed) where
   }
 
   -- the file of that path is not changed
-  changing_none : (path : List ℕ) (left : List (List ℕ)) (f : SourceFile) (cs : List FileChange) → IsSourceIn w known f → f.path ≡ path → AreFileEdits f r [] → Changing w known r (path ∷ left) cs → Changing w known r left cs
+  changing_none : (path : List ℕ) (left : List (List ℕ)) (f : SourceFile) (cs : List FileChange) → IsSourceIn w known f → f.path ≡ path →
+      AreFileEdits f r [] → Changing w known r (path ∷ left) cs → Changing w known r left cs
   changing_none path left f cs is at empty h = record {
     in_order = without_one (paths_of cs) left path h.in_order;
     each = h.each;
@@ -116,11 +123,13 @@ module _ (w : Workspace) (known : Verdicts) (r : Renamed) where
   changed_then cs c f (inr h) = inr h
 
   -- or it is
-  changing_one : (path : List ℕ) (left : List (List ℕ)) (f : SourceFile) (cs : List FileChange) (edits : List Edit) → IsSourceIn w known f → f.path ≡ path → AreFileEdits f r edits → Changing w known r (path ∷ left) cs →
+  changing_one : (path : List ℕ) (left : List (List ℕ)) (f : SourceFile) (cs : List FileChange) (edits : List Edit) → IsSourceIn w known f → f.path ≡ path →
+      AreFileEdits f r edits → Changing w known r (path ∷ left) cs →
       Changing w known r left (cs ++ change_to f edits ∷ [])
   changing_one path left f cs edits is at are h =
       let c : FileChange = change_to f edits in
-      let paths : paths_of (cs ++ c ∷ []) ++ left ≡ paths_of cs ++ path ∷ left = ap (λ ps. ps ++ left) (paths_push cs c) ∙ append_assoc (paths_of cs) (f.path ∷ []) left ∙ ap (λ p. paths_of cs ++ p ∷ left) at in
+      let paths : paths_of (cs ++ c ∷ []) ++ left ≡ paths_of cs ++ path ∷ left = ap (λ ps. ps ++ left) (paths_push cs c) ∙
+      append_assoc (paths_of cs) (f.path ∷ []) left ∙ ap (λ p. paths_of cs ++ p ∷ left) at in
       record {
         in_order = subst (IsStrictlySortedBy path_cmp) (sym paths) h.in_order;
         each = λ d has. elim (Contains-push_cases cs c d has) [
@@ -136,7 +145,8 @@ module _ (w : Workspace) (known : Verdicts) (r : Renamed) where
         ];
       }
 
-  pub changing_next : (path : List ℕ) (left : List (List ℕ)) (f : SourceFile) (old new : List FileChange) → IsSourceIn w known f → f.path ≡ path → AddsChange f r old new → Changing w known r (path ∷ left) old →
+  pub changing_next : (path : List ℕ) (left : List (List ℕ)) (f : SourceFile) (old new : List FileChange) → IsSourceIn w known f → f.path ≡ path →
+      AddsChange f r old new → Changing w known r (path ∷ left) old →
       Changing w known r left new
   changing_next path left f old _ is at (none empty) h = changing_none path left f old is at empty h
   changing_next path left f old _ is at (one edits are) h = changing_one path left f old edits is at are h
@@ -158,7 +168,8 @@ stays_put c h = ap (λ (x : FileChange). x.fate) h.is_change
 no_targets : (cs : List FileChange) → ((c : FileChange) → Contains cs c → c.fate ≡ Stays) → filter_map (λ (c : FileChange). new_path c.fate) cs ≡ []
 no_targets [] h = refl
 no_targets (c ∷ cs) h =
-    ap (λ fate. cons_option (new_path fate) (filter_map (λ (d : FileChange). new_path d.fate) cs)) (h c (first_in c cs)) ∙ no_targets cs (λ d has. h d (later_in c cs d has))
+    ap (λ fate. cons_option (new_path fate) (filter_map (λ (d : FileChange). new_path d.fate) cs)) (h c (first_in c cs)) ∙
+    no_targets cs (λ d has. h d (later_in c cs d has))
 
 none_distinct : IsDistinct (pointwise ◌==◌) []
 unfolding IsDistinct
@@ -225,11 +236,14 @@ made_of cs es = record { changed = cs; added = es }
 same_made : (cs : List FileChange) (es : List (List ℕ × List ℕ)) → es ≡ [] → made_of cs [] ≡ made_of cs es
 same_made cs es e = ap (made_of cs) (sym e)
 
-pub set_from : (w : Workspace) (known : Verdicts) (r : Renamed) (cs : List FileChange) (es : List (List ℕ × List ℕ)) → es ≡ [] → AreSourceChanges w known r cs → IsEditSet (made_of cs es)
+pub set_from : (w : Workspace) (known : Verdicts) (r : Renamed) (cs : List FileChange) (es : List (List ℕ × List ℕ)) → es ≡ [] →
+    AreSourceChanges w known r cs → IsEditSet (made_of cs es)
 set_from w known r cs es e are = subst IsEditSet (same_made cs es e) (set_of w known r cs are)
 
-pub fits_from : (w : Workspace) (known : Verdicts) (r : Renamed) (cs : List FileChange) (es : List (List ℕ × List ℕ)) (s : FileChanges) → s ≡ made_of cs es → es ≡ [] → AreSourceChanges w known r cs → Fits s w
+pub fits_from : (w : Workspace) (known : Verdicts) (r : Renamed) (cs : List FileChange) (es : List (List ℕ × List ℕ)) (s : FileChanges) →
+    s ≡ made_of cs es → es ≡ [] → AreSourceChanges w known r cs → Fits s w
 fits_from w known r cs es s is e are = subst (λ x. Fits x w) (same_made cs es e ∙ sym is) (fits_of w known r cs are)
 
-pub edits_from : (w : Workspace) (known : Verdicts) (r : Renamed) (cs : List FileChange) (es : List (List ℕ × List ℕ)) (s : FileChanges) → s ≡ made_of cs es → es ≡ [] → AreSourceChanges w known r cs → AreEditsOf w known r s
+pub edits_from : (w : Workspace) (known : Verdicts) (r : Renamed) (cs : List FileChange) (es : List (List ℕ × List ℕ)) (s : FileChanges) →
+    s ≡ made_of cs es → es ≡ [] → AreSourceChanges w known r cs → AreEditsOf w known r s
 edits_from w known r cs es s is e are = subst (AreEditsOf w known r) (same_made cs es e ∙ sym is) (edits_are w known r cs are)

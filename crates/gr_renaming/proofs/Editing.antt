@@ -26,10 +26,15 @@ all_one a b x P e p one = record {
   only = λ y h. elim (Contains-push_cases a x y (subst (λ l. Contains l y) e h)) [ inl o ↦ inl o | inr same ↦ inr (subst P same p) ];
 }
 
-order_push : (at n : ℕ) (a : List Edit) (e : Edit) → AreInOrder at a → LieWithin n a → at ≤ n → n ≤ e.span.start → e.span.start ≤ e.span.end → AreInOrder at (a ++ e ∷ [])
+order_push : (at n : ℕ) (a : List Edit) (e : Edit) → AreInOrder at a → LieWithin n a → at ≤ n → n ≤ e.span.start → e.span.start ≤ e.span.end →
+    AreInOrder at (a ++ e ∷ [])
 order_push at n [] e h ends le start end = (omega arith, end, tt)
-order_push at n (x ∷ xs) e h ends le start end =
-    (h.0, h.1, order_push x.span.end n xs e h.2 (All-tail (λ (d : Edit). d.span.end ≤ n) x xs ends) (All-head (λ (d : Edit). d.span.end ≤ n) x xs ends) start end)
+order_push at n (x ∷ xs) e h ends le start end = (
+  h.0,
+  h.1,
+  order_push x.span.end n xs e h.2 (All-tail (λ (d : Edit). d.span.end ≤ n) x xs ends) (All-head (λ (d : Edit). d.span.end ≤ n) x xs ends)
+      start end,
+)
 
 within_more : (n m : ℕ) (a : List Edit) → n ≤ m → LieWithin n a → LieWithin m a
 within_more n m a le h = All-weaker (λ (d : Edit). d.span.end ≤ n) (λ (d : Edit). d.span.end ≤ m) (λ d k. let less : d.span.end ≤ n = k in omega arith) a h
@@ -57,7 +62,8 @@ edit_is d e s t = ap (λ x. record { span = x; text = d.text }) s ∙ ap (λ x. 
 pub one_insertion : (f : SourceFile) (r : Renamed) (i : ℕ) (d e : Edit) → InsertsName f r i d → InsertsName f r i e → d ≡ e
 one_insertion f r i d e h k =
     let same : h.token ≡ k.token = same_Some h.token k.token (sym h.at ∙ k.at) in
-    edit_is d e (h.span ∙ ap (λ (t : Piece). record { start = t.span.start; end = t.span.start }) same ∙ sym k.span) (one_name_before f i r.name d.text e.text h.text k.text)
+    edit_is d e (h.span ∙ ap (λ (t : Piece). record { start = t.span.start; end = t.span.start }) same ∙ sym k.span)
+    (one_name_before f i r.name d.text e.text h.text k.text)
 
 -- the tokens so far
 
@@ -81,10 +87,17 @@ follow_at ts i at size d lt h =
     let e : drop i ts ≡ get_or ts i d ∷ drop (i + 1) ts = rw add-one (drop-cons ts i d lt) in
     subst (λ l. FollowFrom at l size) e h
 
-pub going_next : (f : SourceFile) (r : Renamed) (ts : List Piece) (i : ℕ) (d : Piece) (old new : List Edit) → i < length ts → Going f r ts i old → EndBy new (get_or ts i d).span.end → AddsAll old new (IsEditAt f r i) →
+pub going_next : (f : SourceFile) (r : Renamed) (ts : List Piece) (i : ℕ) (d : Piece) (old new : List Edit) → i < length ts → Going f r ts i old →
+    EndBy new (get_or ts i d).span.end → AddsAll old new (IsEditAt f r i) →
     Going f r ts (i + 1) new
 going_next f r ts i d old new lt h ends added =
-    record { at = (get_or ts i d).span.end; end_by = ends; follow = (follow_at ts i h.at (length f.cut.text) d lt h.follow).2; adds = next_below (IsEditAt f r) [] old new i h.adds added }
+    record {
+      at = (get_or ts i d).span.end;
+      end_by = ends;
+      follow = (follow_at ts i h.at (length f.cut.text) d lt h.follow).2;
+      adds =
+          next_below (IsEditAt f r) [] old new i h.adds added;
+    }
 
 -- all tokens
 
@@ -100,7 +113,8 @@ within_tokens : (f : SourceFile) (r : Renamed) (i : ℕ) (e : Edit) → IsEditAt
 within_tokens f r i e (inl h) = slice_get_within (tokens_in f.cut) i h.token h.at
 within_tokens f r i e (inr h) = slice_get_within (tokens_in f.cut) i h.token h.at
 
-pub all_edits : (f : SourceFile) (r : Renamed) (ts : List Piece) (edits : List Edit) (n : ℕ) → ts ≡ tokens_in f.cut → n ≡ length ts → Going f r ts n edits → AreFileEdits f r edits
+pub all_edits : (f : SourceFile) (r : Renamed) (ts : List Piece) (edits : List Edit) (n : ℕ) → ts ≡ tokens_in f.cut → n ≡ length ts → Going f r ts n edits →
+    AreFileEdits f r edits
 all_edits f r ts edits n e all h = record {
   end_by = end_more edits h.at (length f.cut.text) (at_end h.at (length f.cut.text) (drop n ts) h.follow) h.end_by;
   each = λ d. (

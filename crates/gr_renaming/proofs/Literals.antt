@@ -12,7 +12,8 @@ use Rattle.gr_standing.proofs.Packages.{in_package, of_package}
 use Rattle.gr_renaming.specs.declared.renamed.Literal.{Literal}
 use Rattle.gr_renaming.specs.Literals.{IsLiteralIn, IsLiteralOf, IsLiteralFound}
 
-pub found_in : (w : Workspace) (known : Verdicts) (n : ℕ) (p : Package) (path : List ℕ) (d : ℕ) → IsPackageAt w known n p → slice_get (package_paths w) n ≡ Some path → (o : Option Literal) →
+pub found_in : (w : Workspace) (known : Verdicts) (n : ℕ) (p : Package) (path : List ℕ) (d : ℕ) → IsPackageAt w known n p →
+    slice_get (package_paths w) n ≡ Some path → (o : Option Literal) →
     IsLiteralFound (IsLiteralIn p d) o → IsLiteralFound (IsLiteralOf (IsPackage w known) (Declared path d)) o
 found_in w known n p path d is at None h = λ l k. h l (of_package w known n p path (λ q. IsLiteralIn q d l) is at k)
 found_in w known n p path d is at (Some l) h = in_package w known n p path (λ q. IsLiteralIn q d l) is at h

@@ -9,7 +9,8 @@ use Rattle.gr_renaming.specs.declared.renamed.Renamed.{Renamed}
 use Rattle.gr_renaming.specs.Changes.{IsPathOfPlace, IsPathOfLiteral, IsPathOf}
 
 -- one place further
-pub more_places : (xs : List Place) (k : ℕ) (p : Place) (a b c : List (List ℕ)) → k < length xs → p ≡ get_or xs k p → AddsAll a b (IsPathOfPlace (take k xs)) → AddsAll b c (λ q. p.path ≡ q) → AddsAll a c (IsPathOfPlace (take (k + 1) xs))
+pub more_places : (xs : List Place) (k : ℕ) (p : Place) (a b c : List (List ℕ)) → k < length xs → p ≡ get_or xs k p →
+    AddsAll a b (IsPathOfPlace (take k xs)) → AddsAll b c (λ q. p.path ≡ q) → AddsAll a c (IsPathOfPlace (take (k + 1) xs))
 more_places xs k p a b c lt is h next =
     all_as a c (λ q. IsPathOfPlace (take k xs) q ⊎ (p.path ≡ q)) (IsPathOfPlace (take (k + 1) xs))
     (λ q x. elim x [
@@ -23,7 +24,8 @@ more_places xs k p a b c lt is h next =
     (all_then a b c (IsPathOfPlace (take k xs)) (λ q. p.path ≡ q) h next)
 
 -- all that were added to nothing
-pub all_paths : (r : Renamed) (a b c d : List (List ℕ)) → a ≡ [] → AddsAll a b (IsPathOfPlace r.places) → AddsAll b c (IsPathOfLiteral r.literal) → ((q : List ℕ) → Contains d q ↔ Contains c q) → (q : List ℕ) → Contains d q ↔ IsPathOf r q
+pub all_paths : (r : Renamed) (a b c d : List (List ℕ)) → a ≡ [] → AddsAll a b (IsPathOfPlace r.places) → AddsAll b c (IsPathOfLiteral r.literal) →
+    ((q : List ℕ) → Contains d q ↔ Contains c q) → (q : List ℕ) → Contains d q ↔ IsPathOf r q
 all_paths r a b c d empty h k same q =
     let all = all_then a b c (IsPathOfPlace r.places) (IsPathOfLiteral r.literal) h k in (
       (λ there. elim (all.only q ((same q).0 there)) [ inl old ↦ absurd (nothing_in q (subst (λ l. Contains l q) empty old)) | inr is ↦ is ]),

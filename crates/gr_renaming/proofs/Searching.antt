@@ -28,12 +28,14 @@ rises ps place sorted = searchable_from_sorted place_cmp_total (λ (p : Place). 
 itself : (o : Ordering) (place : Place) → place_cmp place place ≡ o → o ≡ Equal
 itself o place e = sym e ∙ tied_itself place_cmp_total place
 
-none_in : (ps : List Place) (place : Place) (i : ℕ) → IsPartitionPoint (λ x. compared place x ≡ Less) (λ x. compared place x ≡ Greater) ps i → Contains ps place → ⊥
+none_in : (ps : List Place) (place : Place) (i : ℕ) → IsPartitionPoint (λ x. compared place x ≡ Less) (λ x. compared place x ≡ Greater) ps i →
+    Contains ps place → ⊥
 none_in ps place i split has = elim (cases_lt has.0 i) [
   | inl h ↦ true≢false (ap is_lt (itself Less place (subst (λ x. compared place x ≡ Less) has.2 (split.0 has.0 place (omega arith) h))))
   | inr h ↦ true≢false (ap is_gt (itself Greater place (subst (λ x. compared place x ≡ Greater) has.2 (split.1 has.0 place h has.1))))
 ]
 
 pub none_is : (ps : List Place) (place : Place) (i : ℕ) → IsStrictlySortedBy place_cmp ps →
-    (IsNonDecreasingBy (λ y. ordering_index (compared place y)) ps → IsPartitionPoint (λ x. compared place x ≡ Less) (λ x. compared place x ≡ Greater) ps i) → Contains ps place → ⊥
+    (IsNonDecreasingBy (λ y. ordering_index (compared place y)) ps →
+    IsPartitionPoint (λ x. compared place x ≡ Less) (λ x. compared place x ≡ Greater) ps i) → Contains ps place → ⊥
 none_is ps place i sorted found = none_in ps place i (found (rises ps place sorted))

@@ -63,7 +63,8 @@ entries_in_order w = paths_in_order (entries w) (is_true _ (entries_sorted w))
 paths_filtered : (test : List ℕ → Bool) (es : List (List ℕ × List ℕ)) → map entry_path (filter (λ e. test e.0) es) ≡ filter test (map entry_path es)
 paths_filtered test [] = refl
 paths_filtered test (e ∷ es) =
-    elim (test e.0) as (λ b. map entry_path (cond b (e ∷ filter (λ d. test d.0) es) (filter (λ d. test d.0) es)) ≡ cond b (e.0 ∷ filter test (map entry_path es)) (filter test (map entry_path es))) [
+    elim (test e.0) as (λ b. map entry_path (cond b (e ∷ filter (λ d. test d.0) es) (filter (λ d. test d.0) es)) ≡ cond b
+    (e.0 ∷ filter test (map entry_path es)) (filter test (map entry_path es))) [
       | true ↦ ap (λ ps. e.0 ∷ ps) (paths_filtered test es)
       | false ↦ paths_filtered test es
     ]
@@ -79,7 +80,8 @@ trees_in_order w p ts parsed =
 
 -- each file is parsed from its text
 
-some_parsed : {es : List (List ℕ × List ℕ)} {ts : List FileParts} → AreParsed es ts [] → (t : FileParts) → Contains ts t → (e : List ℕ × List ℕ) × (Contains es e × IsParsed e.0 e.1 (source_of t))
+some_parsed : {es : List (List ℕ × List ℕ)} {ts : List FileParts} → AreParsed es ts [] → (t : FileParts) → Contains ts t → (e : List ℕ × List ℕ) ×
+    (Contains es e × IsParsed e.0 e.1 (source_of t))
 some_parsed none t has = absurd (nothing_in t has)
 some_parsed (tree {e = e} {es = es} {t = u} {ts = ts} is rest) t has = elim (first_or_later u ts t has) [
   | inl same ↦ (e, (first_in e es, subst (λ (x : FileParts). IsParsed e.0 e.1 (source_of x)) same is))
@@ -91,7 +93,8 @@ pub record IsFileIn (w : Workspace) (p : List ℕ) (f : SourceFile) : Type 0 whe
   pub of_package : Contains (package_files w p) (f.path, text)
   pub parsed : IsParsed f.path text f
 
-file_in : (w : Workspace) (p : List ℕ) (ts : List FileParts) → AreParsed (package_files w p) ts [] → (f : SourceFile) → Contains (map source_of ts) f → IsFileIn w p f
+file_in : (w : Workspace) (p : List ℕ) (ts : List FileParts) → AreParsed (package_files w p) ts [] → (f : SourceFile) → Contains (map source_of ts) f →
+    IsFileIn w p f
 file_in w p ts parsed f has =
     let t = mapped_from source_of ts f has in
     let r = some_parsed parsed t.0 t.1 in
@@ -116,7 +119,8 @@ source_file w known f s = package_file w known s.inside s.is_package f s.has
 pub source_entry : (w : Workspace) (known : Verdicts) (f : SourceFile) → IsSourceIn w known f → Contains (entries w) (f.path, f.cut.text)
 source_entry w known f s =
     let r = source_file w known f s in
-    subst (λ t. Contains (entries w) (f.path, t)) (sym r.parsed.of_text) (passes (λ e. is_of_package s.inside.path e.0) (entries w) (f.path, r.text) r.of_package).1
+    subst (λ t. Contains (entries w) (f.path, t)) (sym r.parsed.of_text)
+    (passes (λ e. is_of_package s.inside.path e.0) (entries w) (f.path, r.text) r.of_package).1
 
 pub source_text : (w : Workspace) (known : Verdicts) (f : SourceFile) → IsSourceIn w known f → get w f.path ≡ Some f.cut.text
 source_text w known f s = get_entry w (f.path, f.cut.text) (source_entry w known f s)
@@ -125,7 +129,8 @@ source_text w known f s = get_entry w (f.path, f.cut.text) (source_entry w known
 pub source_folder : (w : Workspace) (known : Verdicts) (f : SourceFile) → (s : IsSourceIn w known f) → folder f.path ≡ s.inside.path
 source_folder w known f s =
     let r = source_file w known f s in
-    let test : (is_go f.path && pointwise ◌==◌ (folder f.path) s.inside.path) ≡ true = (passes (λ e. is_of_package s.inside.path e.0) (entries w) (f.path, r.text) r.of_package).0 in
+    let test : (is_go f.path && pointwise ◌==◌ (folder f.path) s.inside.path) ≡ true =
+    (passes (λ e. is_of_package s.inside.path e.0) (entries w) (f.path, r.text) r.of_package).0 in
     (bytes_decides (folder f.path) s.inside.path).0 (and_parts (is_go f.path) (pointwise ◌==◌ (folder f.path) s.inside.path) test).1
 
 -- one file of a package has a path
@@ -133,17 +138,20 @@ pub one_source : (w : Workspace) (known : Verdicts) (f g : SourceFile) → IsSou
 one_source w known f g s t same =
     let a = source_file w known f s in
     let b = source_file w known g t in
-    let texts : a.text ≡ b.text = sym a.parsed.of_text ∙ same_Some f.cut.text g.cut.text (sym (source_text w known f s) ∙ ap (get w) same ∙ source_text w known g t) ∙ b.parsed.of_text in
+    let texts : a.text ≡ b.text = sym a.parsed.of_text ∙
+    same_Some f.cut.text g.cut.text (sym (source_text w known f s) ∙ ap (get w) same ∙ source_text w known g t) ∙ b.parsed.of_text in
     one_file g.path b.text f g (subst (λ q. IsParsed q b.text f) same (subst (λ x. IsParsed f.path x f) texts a.parsed)) b.parsed
 
 -- the trees of the package of a number
 
-pub trees_of : (w : Workspace) (known : Verdicts) (n : ℕ) (p : Package) → IsPackageAt w known n p → (ts : List FileParts) → AreParsed (package_files w p.path) ts [] → p.files ≡ map source_of ts
+pub trees_of : (w : Workspace) (known : Verdicts) (n : ℕ) (p : Package) → IsPackageAt w known n p → (ts : List FileParts) →
+    AreParsed (package_files w p.path) ts [] → p.files ≡ map source_of ts
 trees_of w known n p is ts parsed =
     let own = is.is_package.is_checked in
     ap (λ (x : Package). x.files) own.is_package.is_package ∙ one_sources own.parsed parsed
 
-pub tree_source : (w : Workspace) (known : Verdicts) (n : ℕ) (p : Package) → IsPackageAt w known n p → (ts : List FileParts) → AreParsed (package_files w p.path) ts [] → (t : FileParts) → Contains ts t →
+pub tree_source : (w : Workspace) (known : Verdicts) (n : ℕ) (p : Package) → IsPackageAt w known n p → (ts : List FileParts) →
+    AreParsed (package_files w p.path) ts [] → (t : FileParts) → Contains ts t →
     IsSourceIn w known (source_of t)
 tree_source w known n p is ts parsed t has = record {
   inside = p;
@@ -152,17 +160,20 @@ tree_source w known n p is ts parsed t has = record {
 }
 
 -- a file of the package of a folder is among them
-pub source_tree : (w : Workspace) (known : Verdicts) (n : ℕ) (p : Package) → IsPackageAt w known n p → (ts : List FileParts) → AreParsed (package_files w p.path) ts [] → (f : SourceFile) → IsSourceIn w known f →
+pub source_tree : (w : Workspace) (known : Verdicts) (n : ℕ) (p : Package) → IsPackageAt w known n p → (ts : List FileParts) →
+    AreParsed (package_files w p.path) ts [] → (f : SourceFile) → IsSourceIn w known f →
     folder f.path ≡ p.path → (t : FileParts) × (Contains ts t × (t.path ≡ f.path))
 source_tree w known n p is ts parsed f s at =
     let same : s.inside ≡ p = one_package w known s.inside p s.is_package is.is_package (sym (source_folder w known f s) ∙ at) in
-    let has : Contains (map source_of ts) f = subst (λ fs. Contains fs f) (trees_of w known n p is ts parsed) (subst (λ (x : Package). Contains x.files f) same s.has) in
+    let has : Contains (map source_of ts) f = subst (λ fs. Contains fs f) (trees_of w known n p is ts parsed)
+    (subst (λ (x : Package). Contains x.files f) same s.has) in
     let t = mapped_from source_of ts f has in
     (t.0, (t.1, ap (λ (x : SourceFile). x.path) t.2))
 
 -- what a search among them finds
 
-pub tree_found : (w : Workspace) (known : Verdicts) (n : ℕ) (p : Package) → IsPackageAt w known n p → (ts : List FileParts) → AreParsed (package_files w p.path) ts [] → (path : List ℕ) → folder path ≡ p.path →
+pub tree_found : (w : Workspace) (known : Verdicts) (n : ℕ) (p : Package) → IsPackageAt w known n p → (ts : List FileParts) →
+    AreParsed (package_files w p.path) ts [] → (path : List ℕ) → folder path ≡ p.path →
     (o : Option (Bor FileParts)) → MatchOption o ((t : FileParts) → Contains ts t → t.path ≡ path → ⊥) (λ file. Contains ts file.now × (file.now.path ≡ path)) →
     MatchOption o ((f : SourceFile) → IsSourceIn w known f → f.path ≡ path → ⊥) (λ file. IsSourceIn w known (source_of file.now) × (file.now.path ≡ path))
 tree_found w known n p is ts parsed path at None h = λ f s same.
@@ -171,6 +182,7 @@ tree_found w known n p is ts parsed path at None h = λ f s same.
 tree_found w known n p is ts parsed path at (Some file) h = (tree_source w known n p is ts parsed file.now h.0, h.1)
 
 -- in the folder of no package there is no such file
-pub none_found : (w : Workspace) (known : Verdicts) (path : List ℕ) → (Contains (package_paths w) (folder path) → ⊥) → (f : SourceFile) → IsSourceIn w known f → f.path ≡ path → ⊥
+pub none_found : (w : Workspace) (known : Verdicts) (path : List ℕ) → (Contains (package_paths w) (folder path) → ⊥) → (f : SourceFile) →
+    IsSourceIn w known f → f.path ≡ path → ⊥
 none_found w known path empty f s same =
     empty (subst (Contains (package_paths w)) (sym (source_folder w known f s) ∙ ap folder same) s.is_package.of_workspace)

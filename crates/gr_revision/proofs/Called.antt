@@ -13,7 +13,8 @@ use Rattle.gr_edit.specs.declared.edit.Edit.{Edit}
 use Rattle.gr_revision.specs.declared.moves.End.{End}
 use Rattle.gr_revision.specs.Ends.{AreEnds, IsLastEnd, IsChangeOf}
 use Rattle.gr_revision.specs.RevisionsOfEdits.{replaces_at, text_or, called_by}
-use Rattle.gr_revision.proofs.Ending.{HasEnds, element, stops}
+use Rattle.gr_revision.specs.FilesMoved.{HasEnds}
+use Rattle.gr_revision.proofs.Ending.{element, stops}
 
 passed_by : (offset start end : ℕ) → end ≤ offset → ((start == offset) && nat_lt start end) ≡ false
 passed_by offset start end h = grind (arith, nat_tests)

@@ -18,6 +18,7 @@ use Rattle.gr_edit.specs.declared.change.FileChange.{FileChange}
 use Rattle.gr_edit.proofs.Searched.{found_is, search_cmp}
 use Rattle.gr_edit.proofs.Steps.{drop_next, past_start, past_later, past_more, past_all, past_stops}
 use Rattle.gr_revision.specs.declared.moves.End.{End}
+use Rattle.gr_revision.specs.FilesMoved.{HasEnds}
 use Rattle.gr_revision.specs.Ends.{past_at, IsEnd, AreEndsBelow, AreEnds, AreEndsOf, IsLastEnd, IsChangeOf}
 
 -- what a list with one more element has at a number
@@ -146,12 +147,6 @@ moved_last edits ends offset n end are last is =
           (stops edits ends offset n are last e.0 e.1)))
       | inr ge ↦ sym (past_all edits offset (past_at n end) past ge)
     ]
-
--- what a change of a file has
-pub record HasEnds (s : FileChanges) (path : List ℕ) (ends : List End) : Type 0 where
-  pub change : FileChange
-  pub is : change_of s path ≡ Some change
-  pub are : AreEnds change.edits ends
 
 pub ends_at : (s : FileChanges) (all : List (Vec End)) (path : List ℕ) (n : ℕ) (here : Vec End) → AreEndsOf s.changed (length s.changed) all →
     IsChangeOf s path n → slice_get all n ≡ Some here → HasEnds s path here.items

@@ -2,3 +2,4 @@
 pub mod Revisions
 pub mod RevisionsOfEdits
 pub mod Ends
+pub mod FilesMoved

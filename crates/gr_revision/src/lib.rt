@@ -3,4 +3,4 @@
 
 mod moves;
 
-pub use moves::Moves;
+pub use moves::{FileMoves, Moves};

@@ -1,5 +1,5 @@
 //! Where edits move places, and how they call identifiers.
-ghost use Rattle.std.specs.Prelude.{ℕ, ◌≡◌, ◌+◌, ◌-◌, ◌<◌, ◌≤◌, List, length, None, Some, find, slice_get, unwrap_or, IfOk, MatchOption};
+ghost use Rattle.std.specs.Prelude.{ℕ, ◌≡◌, ◌+◌, ◌-◌, ◌<◌, ◌≤◌, ◌↔◌, List, length, None, Some, find, slice_get, unwrap_or, IfOk, IsTrue, MatchOption};
 ghost use Rattle.gr_edit.specs.EditSet.{change_of};
 ghost use Rattle.gr_edit.specs.Edits.{AreInOrder};
 ghost use Rattle.gr_edit.specs.Fits.{path_after};
@@ -7,6 +7,7 @@ ghost use Rattle.gr_edit.specs.Moved.{moved, moved_offset, edits_by};
 ghost use Rattle.gr_edit.specs.declared.edit.Edit.{Edit as Edited};
 ghost use Rattle.gr_edit.specs.declared.change.FileChange.{FileChange as Changed};
 ghost use Rattle.gr_revision.specs.Ends.{AreEnds, AreEndsOf, IsLastEnd, IsChangeOf};
+ghost use Rattle.gr_revision.specs.FilesMoved.{AreMovesOf, goes_by};
 ghost use Rattle.gr_revision.specs.RevisionsOfEdits.{called_by, replaces_at, text_or};
 
 use gr_edit::{Edit, EditSet, Fate, FileChange};
@@ -38,6 +39,24 @@ impl<'a> Model for Moves<'a> {
     ghost view = { λ a. a.edits.now };
 
     ghost invariant = { λ a. AreEndsOf a.edits.now.changed (length a.edits.now.changed) a.ends.items };
+}
+
+/// Where the places of a file go: to which file, and where its edits end, if it is changed.
+#[derive(Clone, Copy)]
+pub struct FileMoves<'a> {
+    pub old: &'a Path,
+    pub new: &'a Path,
+    ends: Option<&'a [End]>,
+}
+
+/// Where the file of a change goes. A file that is dropped goes nowhere.
+fn new_path<'a>(change: &'a FileChange, path: &'a Path) -> &'a Path
+    ensures { result.now ≡ goes_by change.now path.now }
+{
+    match &change.fate {
+        Fate::Moves(new) => new,
+        Fate::Stays | Fate::Dropped => path,
+    }
 }
 
 /// The sum of two lengths of texts. No memory holds more bytes than a number can tell.
@@ -159,26 +178,53 @@ impl<'a> Moves<'a> {
         }
     }
 
-    /// Where the file of a path goes. A file that is dropped goes nowhere.
-    pub fn path<'b>(&'b self, path: &'b Path) -> &'b Path
-        ensures { result.now ≡ unwrap_or (path_after self.now path.now) path.now }
+    /// Where the places of the file of a path go.
+    pub fn file<'b>(&'b self, path: &'b Path) -> FileMoves<'b>
+        ensures old { result.old.now ≡ path.now }
+        ensures moves { AreMovesOf self.now result }
     {
         match self.number_of(path) {
-            None => path,
-            Some(number) => match &self.edits.changed()[number].fate {
-                Fate::Moves(new) => new,
-                Fate::Stays | Fate::Dropped => path,
+            None => FileMoves {
+                old: path,
+                new: path,
+                ends: None,
+            },
+            Some(number) => FileMoves {
+                old: path,
+                new: new_path(&self.edits.changed()[number], path),
+                ends: Some(&self.ends[number]),
             },
         }
     }
 
-    /// Where an offset of a file goes.
-    pub fn offset(&self, path: &Path, offset: usize) -> Result<usize, AllocError>
-        ensures { IfOk result (λ n. n ≡ moved_offset (edits_by (change_of self.now path.now)) offset) }
+    /// The same, where the file that was asked about before it is often the same.
+    pub fn file_near<'b>(&'b self, near: FileMoves<'b>, path: &'b Path) -> FileMoves<'b>
+        requires { AreMovesOf self.now near }
+        ensures old { result.old.now ≡ path.now }
+        ensures moves { AreMovesOf self.now result }
     {
-        match self.number_of(path) {
+        if *near.old == *path {
+            near
+        } else {
+            self.file(path)
+        }
+    }
+
+    /// Where the file of a path goes. A file that is dropped goes nowhere.
+    pub fn path<'b>(&'b self, path: &'b Path) -> &'b Path
+        ensures { result.now ≡ unwrap_or (path_after self.now path.now) path.now }
+    {
+        self.file(path).new
+    }
+
+    /// Where an offset of a file goes.
+    pub fn offset(&self, file: FileMoves<'_>, offset: usize) -> Result<usize, AllocError>
+        requires { AreMovesOf self.now file }
+        ensures { IfOk result (λ n. n ≡ moved_offset (edits_by (change_of self.now file.entry.old.now)) offset) }
+    {
+        match file.ends {
             None => Ok(offset),
-            Some(number) => moved_past(&self.ends[number], offset),
+            Some(ends) => moved_past(ends, offset),
         }
     }
 
@@ -186,10 +232,26 @@ impl<'a> Moves<'a> {
     pub fn place(&self, path: &Path, offset: usize) -> Result<Place, AllocError>
         ensures { IfOk result (λ place. place ≡ moved self.now (record { path = path.now; offset = offset })) }
     {
+        let file = self.file(path);
         Ok(Place {
-            path: self.path(path).clone()?,
-            offset: self.offset(path, offset)?,
+            path: file.new.clone()?,
+            offset: self.offset(file, offset)?,
         })
+    }
+
+    /// Whether a place of a file goes to another place.
+    pub fn goes_to(
+        &self,
+        file: FileMoves<'_>,
+        offset: usize,
+        path: &Path,
+        to: usize,
+    ) -> Result<bool, AllocError>
+        requires { AreMovesOf self.now file }
+        ensures { IfOk result (λ yes. IsTrue yes ↔ (moved self.now (record { path = file.entry.old.now; offset = offset }) ≡ record { path = path.now; offset = to })) }
+    {
+        let new = self.offset(file, offset)?;
+        Ok(new == to && *file.new == *path)
     }
 
     /// How an identifier is called afterwards that begins at a place and has a name before.

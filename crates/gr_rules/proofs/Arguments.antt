@@ -70,9 +70,11 @@ unfolding misfits
 in_turn_silent w [] a no_values = refl
 in_turn_silent w [] a (then_fits f more) = absurd a
 in_turn_silent w (v ∷ vs) a no_values = absurd a
-in_turn_silent w (v ∷ vs) a (then_fits {t = t} {ts = ts} f more) = empty_both (misfit w v.place v.kind t) (misfits w vs ts) (fit_silent w v.place a.0 f) (in_turn_silent w vs a.1 more)
+in_turn_silent w (v ∷ vs) a (then_fits {t = t} {ts = ts} f more) =
+    empty_both (misfit w v.place v.kind t) (misfits w vs ts) (fit_silent w v.place a.0 f) (in_turn_silent w vs a.1 more)
 
-pub silent_in_turn : (w : World) (vs : List Argued) (ks : List Kind) (ts : List PlainType) → AreOf vs ks → length vs ≡ length ts → misfits w vs ts ≡ [] → FitInTurn w ks ts
+pub silent_in_turn : (w : World) (vs : List Argued) (ks : List Kind) (ts : List PlainType) → AreOf vs ks → length vs ≡ length ts → misfits w vs ts ≡ [] →
+    FitInTurn w ks ts
 unfolding misfits
 silent_in_turn w [] [] [] a n h = no_values
 silent_in_turn w [] [] (t ∷ ts) a n h = absurd (omega arith)
@@ -90,7 +92,8 @@ unfolding all_misfits
 each_silent w t [] a none = refl
 each_silent w t [] a (also_fits f more) = absurd a
 each_silent w t (v ∷ vs) a none = absurd a
-each_silent w t (v ∷ vs) a (also_fits f more) = empty_both (misfit w v.place v.kind t) (all_misfits w vs t) (fit_silent w v.place a.0 f) (each_silent w t vs a.1 more)
+each_silent w t (v ∷ vs) a (also_fits f more) = empty_both (misfit w v.place v.kind t) (all_misfits w vs t) (fit_silent w v.place a.0 f)
+    (each_silent w t vs a.1 more)
 
 pub silent_each : (w : World) (t : PlainType) (vs : List Argued) (ks : List Kind) → AreOf vs ks → all_misfits w vs t ≡ [] → EachFits w t ks
 unfolding all_misfits
@@ -107,7 +110,8 @@ unfolding all_printed
 printed_true w [] a none_printed = refl
 printed_true w [] a (also i more) = absurd a
 printed_true w (v ∷ vs) a none_printed = absurd a
-printed_true w (v ∷ vs) a (also i more) = and_both (is_printed_value w v.kind) (all_printed w vs) (ap (is_printed_value w) a.0 ∙ ap is_printed (class_true w i)) (printed_true w vs a.1 more)
+printed_true w (v ∷ vs) a (also i more) = and_both (is_printed_value w v.kind) (all_printed w vs)
+    (ap (is_printed_value w) a.0 ∙ ap is_printed (class_true w i)) (printed_true w vs a.1 more)
 
 printed_class : (w : World) (k : Kind) (c : Class) → class_of w k ≡ c → is_printed c ≡ true → (b : Basic) × IsOf w k b
 printed_class w k (class.Of b) e h = (b, class_is w k b e)

@@ -7,15 +7,19 @@ use Rattle.gr_expr.specs.declared.types.Basic.TheVariants as basic
 use Rattle.gr_expr.specs.declared.types.Builtin.TheVariants as builtin
 use Rattle.gr_expr.specs.declared.symbol.Symbol.{Symbol}
 use Rattle.gr_expr.specs.Places.{first_token, place_of, place_of_links}
-use Rattle.gr_expr.specs.Types.{PlainType, BasicType, Defined, Struct, Typed, Meaning, Value, TypeName, Function, BuiltinName, Broken, same_type, same_underlying, is_named, has_nil}
+use Rattle.gr_expr.specs.Types.{PlainType, BasicType, Defined, Struct, Typed, Meaning, Value, TypeName, Function, BuiltinName, Broken, same_type}
+use Rattle.gr_expr.specs.Types.{same_underlying, is_named, has_nil}
 use Rattle.gr_expr.specs.World.{World, Means, Member, AField, AMethod, no_locals}
 use Rattle.gr_expr.specs.Operations.{fits, operate, joined, class_of, family_of, result_of, is_nil, prefixed}
-use Rattle.gr_expr.specs.Judge.{judge, judge_type, as_value, value_kind, select, select_member, all_whole, misfit, misfits, all_misfits, unless_faults, call_function, convert, append, all_printed, call_builtin, call_of, bad_index, indexed, index_of, operation, prefix_of, named_type, imported_type, address_of}
+use Rattle.gr_expr.specs.Judge.{judge, judge_type, as_value, value_kind, select, select_member, all_whole, misfit, misfits, all_misfits, unless_faults}
+use Rattle.gr_expr.specs.Judge.{call_function, convert, append, all_printed, call_builtin, call_of, bad_index, indexed, index_of, operation, prefix_of}
+use Rattle.gr_expr.specs.Judge.{named_type, imported_type, address_of}
 use Rattle.gr_rules.specs.Fits.{untyped, no_values, then_fits, identical}
 use Rattle.gr_rules.specs.Operators.{by_type, a_constant, right_fits, adds}
 use Rattle.gr_rules.specs.Names.{a_bound, named}
 use Rattle.gr_rules.specs.Links.{method_on_variable, one, function}
-use Rattle.gr_rules.specs.Meanings.{HasMeaning, number, name, binary, chain, composite, no_link, selector, call, no_operand, operand, no_argument, argument, struct_literal, no_field, field, first}
+use Rattle.gr_rules.specs.Meanings.{HasMeaning, number, name, binary, chain, composite, no_link, selector, call, no_operand, operand, no_argument, argument}
+use Rattle.gr_rules.specs.Meanings.{struct_literal, no_field, field, first}
 use Rattle.gr_rules.proofs.Steps.{value_whole, function_whole}
 use Rattle.gr_rules.proofs.Soundness.{sound}
 
@@ -35,11 +39,13 @@ thing = Defined (symbol 0)
 abbrev meaning_at : ℕ → Meaning
 meaning_at p =
     if p == 10 then Value (Typed int) true else (if p == 11 then Value (Typed string) true else (if p == 12 then Value (Typed thing) true
-    else (if p == 13 then Function (record { parameters = int ∷ []; results = string ∷ [] }) else (if p == 14 then BuiltinName builtin.Len else (if p == 15 then TypeName thing else Broken)))))
+    else (if p == 13 then Function (record { parameters = int ∷ []; results = string ∷ [] }) else
+    (if p == 14 then BuiltinName builtin.Len else (if p == 15 then TypeName thing else Broken)))))
 
 -- 20: the field x of T, an int; 21: the method m() of *T
 abbrev member_at : ℕ → Option Member
-member_at p = if p == 20 then Some (AField (symbol 1) int) else (if p == 21 then Some (AMethod (symbol 2) true (record { parameters = []; results = [] })) else None)
+member_at p = if p == 20 then Some (AField (symbol 1) int) else
+    (if p == 21 then Some (AMethod (symbol 2) true (record { parameters = []; results = [] })) else None)
 
 abbrev w : World
 w = record { bound = λ p. Means (meaning_at p); member = λ p t. member_at p; definition = λ s. Struct s }
@@ -80,25 +86,35 @@ MeansNothing e = (m : Meaning) → HasMeaning w no_locals e m → ⊥
 
 -- `n + s`
 no_sum : MeansNothing (plus (tree.Name 10) (tree.Name 11))
-unfolding first_token place_of place_of_links same_type same_underlying is_named has_nil fits operate joined class_of family_of result_of is_nil prefixed judge judge_type as_value value_kind select select_member all_whole misfit misfits all_misfits unless_faults call_function convert append all_printed call_builtin call_of bad_index indexed index_of operation prefix_of named_type imported_type address_of
+unfolding first_token place_of place_of_links same_type same_underlying is_named has_nil fits operate joined class_of family_of result_of is_nil prefixed
+    judge judge_type as_value value_kind select select_member all_whole misfit misfits all_misfits unless_faults call_function convert append all_printed
+    call_builtin call_of bad_index indexed index_of operation prefix_of named_type imported_type address_of
 no_sum m h = let a = sound w no_locals h in a.whole (sym a.meaning)
 
 -- `f(s)`
 no_call : MeansNothing (called (tree.Name 13) (tree.Name 11))
-unfolding first_token place_of place_of_links same_type same_underlying is_named has_nil fits operate joined class_of family_of result_of is_nil prefixed judge judge_type as_value value_kind select select_member all_whole misfit misfits all_misfits unless_faults call_function convert append all_printed call_builtin call_of bad_index indexed index_of operation prefix_of named_type imported_type address_of
+unfolding first_token place_of place_of_links same_type same_underlying is_named has_nil fits operate joined class_of family_of result_of is_nil prefixed
+    judge judge_type as_value value_kind select select_member all_whole misfit misfits all_misfits unless_faults call_function convert append all_printed
+    call_builtin call_of bad_index indexed index_of operation prefix_of named_type imported_type address_of
 no_call m h = let a = sound w no_locals h in a.whole (sym a.meaning)
 
 -- `len(n)`
 no_length : MeansNothing (called (tree.Name 14) (tree.Name 10))
-unfolding first_token place_of place_of_links same_type same_underlying is_named has_nil fits operate joined class_of family_of result_of is_nil prefixed judge judge_type as_value value_kind select select_member all_whole misfit misfits all_misfits unless_faults call_function convert append all_printed call_builtin call_of bad_index indexed index_of operation prefix_of named_type imported_type address_of
+unfolding first_token place_of place_of_links same_type same_underlying is_named has_nil fits operate joined class_of family_of result_of is_nil prefixed
+    judge judge_type as_value value_kind select select_member all_whole misfit misfits all_misfits unless_faults call_function convert append all_printed
+    call_builtin call_of bad_index indexed index_of operation prefix_of named_type imported_type address_of
 no_length m h = let a = sound w no_locals h in a.whole (sym a.meaning)
 
 -- `T{}.m`, with m a method of `*T`
 no_method : MeansNothing (dot empty 21)
-unfolding first_token place_of place_of_links same_type same_underlying is_named has_nil fits operate joined class_of family_of result_of is_nil prefixed judge judge_type as_value value_kind select select_member all_whole misfit misfits all_misfits unless_faults call_function convert append all_printed call_builtin call_of bad_index indexed index_of operation prefix_of named_type imported_type address_of
+unfolding first_token place_of place_of_links same_type same_underlying is_named has_nil fits operate joined class_of family_of result_of is_nil prefixed
+    judge judge_type as_value value_kind select select_member all_whole misfit misfits all_misfits unless_faults call_function convert append all_printed
+    call_builtin call_of bad_index indexed index_of operation prefix_of named_type imported_type address_of
 no_method m h = let a = sound w no_locals h in a.whole (sym a.meaning)
 
 -- `T{x: s}`
 no_literal : MeansNothing (with_x (tree.Name 11))
-unfolding first_token place_of place_of_links same_type same_underlying is_named has_nil fits operate joined class_of family_of result_of is_nil prefixed judge judge_type as_value value_kind select select_member all_whole misfit misfits all_misfits unless_faults call_function convert append all_printed call_builtin call_of bad_index indexed index_of operation prefix_of named_type imported_type address_of
+unfolding first_token place_of place_of_links same_type same_underlying is_named has_nil fits operate joined class_of family_of result_of is_nil prefixed
+    judge judge_type as_value value_kind select select_member all_whole misfit misfits all_misfits unless_faults call_function convert append all_printed
+    call_builtin call_of bad_index indexed index_of operation prefix_of named_type imported_type address_of
 no_literal m h = let a = sound w no_locals h in a.whole (sym a.meaning)

@@ -1,6 +1,7 @@
 -- The tests of fitting and converting say what fits and what converts.
 use Rattle.std.proofs.Common.{◌≡◌, Bool, true, false, ◌&&◌, ◌⊎◌, inl, inr, refl, sym, ap, ◌∙◌, subst, true≢false}
-use Rattle.gr_expr.specs.Types.{PlainType, BasicType, Defined, Pointer, Slice, Underlying, Plain, PointerTo, SliceOf, Struct, Kind, Typed, Untyped, Nil, same_type, same_underlying, is_named, either_unnamed, has_nil}
+use Rattle.gr_expr.specs.Types.{PlainType, BasicType, Defined, Pointer, Slice, Underlying, Plain, PointerTo, SliceOf, Struct, Kind, Typed, Untyped, Nil}
+use Rattle.gr_expr.specs.Types.{same_type, same_underlying, is_named, either_unnamed, has_nil}
 use Rattle.gr_expr.specs.World.{World, underlying}
 use Rattle.gr_expr.specs.Operations.{fits, converts}
 use Rattle.gr_rules.specs.Fits.{IsUnnamed, a_pointer, a_slice, Fits, identical, unnamed, untyped, nil_as_pointer, nil_as_slice, Converts, fitting, alike}
@@ -45,7 +46,8 @@ alike_test w v t e = ap (λ x. same_underlying (underlying w v) x) (sym e) ∙ s
 
 pub fits_true : (w : World) {k : Kind} {t : PlainType} → Fits w k t → fits w k t ≡ true
 unfolding fits same_underlying has_nil
-fits_true w (identical {t}) = or_first (same_type t t) (either_unnamed (is_named t) (is_named t) && same_underlying (underlying w t) (underlying w t)) (same_types t)
+fits_true w (identical {t}) = or_first (same_type t t) (either_unnamed (is_named t) (is_named t) && same_underlying (underlying w t) (underlying w t))
+    (same_types t)
 fits_true w (unnamed {v} {t} u e) = or_second (same_type v t) (either_unnamed (is_named v) (is_named t) && same_underlying (underlying w v) (underlying w t))
     (and_both (either_unnamed (is_named v) (is_named t)) (same_underlying (underlying w v) (underlying w t)) (unnamed_test u) (alike_test w v t e))
 fits_true w (untyped {b} {t} e) = ap (λ x. same_underlying (Plain b) x) e ∙ same_underlyings (Plain b)
@@ -64,7 +66,8 @@ unfolding fits
 true_fits w (Typed v) t h = elim (or_cases (same_type v t) (either_unnamed (is_named v) (is_named t) && same_underlying (underlying w v) (underlying w t)) h) [
   | inl e ↦ subst (λ x. Fits w (Typed v) x) (types_same v t e) identical
   | inr e ↦ unnamed (test_unnamed v t (and_first (either_unnamed (is_named v) (is_named t)) (same_underlying (underlying w v) (underlying w t)) e))
-      (underlying_same (underlying w v) (underlying w t) (and_second (either_unnamed (is_named v) (is_named t)) (same_underlying (underlying w v) (underlying w t)) e))
+      (underlying_same (underlying w v) (underlying w t)
+      (and_second (either_unnamed (is_named v) (is_named t)) (same_underlying (underlying w v) (underlying w t)) e))
 ]
 true_fits w (Untyped b) t h = untyped (sym (underlying_same (Plain b) (underlying w t) h))
 true_fits w Nil t h = nil_fits w t (underlying w t) refl h

@@ -16,11 +16,13 @@ pub name_whole : (w : World) (locals : Locals) {p : ℕ} {m : Meaning} → NameM
 name_whole w locals (a_local e f) = value_whole
 name_whole w locals (a_bound e n) = n
 
-local_name : (w : World) (locals : Locals) (p d : ℕ) → w.bound p ≡ Local d → (o : Option PlainType) → locals d ≡ o → IsWhole (variable o) → NameMeans w locals p (variable o)
+local_name : (w : World) (locals : Locals) (p d : ℕ) → w.bound p ≡ Local d → (o : Option PlainType) → locals d ≡ o → IsWhole (variable o) →
+    NameMeans w locals p (variable o)
 local_name w locals p d e None f n = absurd (n refl)
 local_name w locals p d e (Some t) f n = a_local e f
 
-bound_name : (w : World) (locals : Locals) (p : ℕ) (b : Bound) → w.bound p ≡ b → IsWhole (meaning_of_bound locals b) → NameMeans w locals p (meaning_of_bound locals b)
+bound_name : (w : World) (locals : Locals) (p : ℕ) (b : Bound) → w.bound p ≡ b → IsWhole (meaning_of_bound locals b) →
+    NameMeans w locals p (meaning_of_bound locals b)
 bound_name w locals p (Local d) e n = local_name w locals p d e (locals d) refl n
 bound_name w locals p (Means m) e n = a_bound e n
 bound_name w locals p BrokenVariable e n = absurd (n refl)
@@ -58,7 +60,8 @@ bound_type w n BrokenVariable t e h = cc
 bound_type w n BrokenFunction t e h = cc
 bound_type w n BrokenType t e h = cc
 
-of_package : (w : World) (p d n : ℕ) (m : Meaning) (t : PlainType) → w.bound p ≡ Means m → (imported_meaning w m p n).type_of ≡ Some t → IsType w (tree.Imported p d n) t
+of_package : (w : World) (p d n : ℕ) (m : Meaning) (t : PlainType) → w.bound p ≡ Means m → (imported_meaning w m p n).type_of ≡ Some t →
+    IsType w (tree.Imported p d n) t
 of_package w p d n Package t e h = imported e (bound_type w n (w.bound n) t refl h)
 of_package w p d n (Value k a) t e h = cc
 of_package w p d n (TypeName u) t e h = cc
@@ -79,5 +82,7 @@ pub true_type : (w : World) (x : TypeTree) (t : PlainType) → (judge_type w x).
 unfolding judge_type
 true_type w (tree.Local n) t h = named (bound_type w n (w.bound n) t refl h)
 true_type w (tree.Imported p d n) t h = bound_import w p d n (w.bound p) t refl h
-true_type w (tree.Pointer s x) t h = let u = mapped Pointer (judge_type w x).type_of t h in subst (λ z. IsType w (tree.Pointer s x) z) u.2 (pointer (true_type w x u.0 u.1))
-true_type w (tree.Slice o c x) t h = let u = mapped Slice (judge_type w x).type_of t h in subst (λ z. IsType w (tree.Slice o c x) z) u.2 (slice (true_type w x u.0 u.1))
+true_type w (tree.Pointer s x) t h = let u = mapped Pointer (judge_type w x).type_of t h in
+    subst (λ z. IsType w (tree.Pointer s x) z) u.2 (pointer (true_type w x u.0 u.1))
+true_type w (tree.Slice o c x) t h = let u = mapped Slice (judge_type w x).type_of t h in
+    subst (λ z. IsType w (tree.Slice o c x) z) u.2 (slice (true_type w x u.0 u.1))

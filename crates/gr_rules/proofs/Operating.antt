@@ -12,9 +12,13 @@ use Rattle.gr_expr.specs.declared.classes.Family.{Family}
 use Rattle.gr_expr.specs.declared.classes.Family.TheVariants as family
 use Rattle.gr_expr.specs.Types.{PlainType, Underlying, Plain, PointerTo, SliceOf, Struct, Kind, Typed, Untyped, Nil, Meaning, Value, same_type, same_basic}
 use Rattle.gr_expr.specs.World.{World, underlying}
-use Rattle.gr_expr.specs.Operations.{fits, joined, is_nil, class_of, class_of_underlying, compares as compares_class, is_int, is_bool, is_ordered, family_of, when, result_of, operate, operate_on, pointee, prefixed}
+use Rattle.gr_expr.specs.Operations.{fits, joined, is_nil, class_of, class_of_underlying, compares as compares_class, is_int, is_bool, is_ordered}
+use Rattle.gr_expr.specs.Operations.{family_of, when, result_of, operate, operate_on, pointee, prefixed}
 use Rattle.gr_rules.specs.Fits.{Fits, nil_as_pointer, nil_as_slice}
-use Rattle.gr_rules.specs.Operators.{IsUntyped, a_constant, a_nil, GoTogether, of_one_type, right_fits, left_fits, of_one_kind, IsArithmetic, minus, times, divided, remainder, IsOrder, less, less_or_equal, greater, greater_or_equal, IsEquality, equal, not_equal, IsLogic, and, or, IsComparable, a_basic, a_pointer, Operates, adds, computes, orders, connects, compares, compares_with_nil, compares_nil_with, Prefixes, plus, negates, denies, follows}
+use Rattle.gr_rules.specs.Operators.{IsUntyped, a_constant, a_nil, GoTogether, of_one_type, right_fits, left_fits, of_one_kind, IsArithmetic, minus, times}
+use Rattle.gr_rules.specs.Operators.{divided, remainder, IsOrder, less, less_or_equal, greater, greater_or_equal, IsEquality, equal, not_equal, IsLogic}
+use Rattle.gr_rules.specs.Operators.{and, or, IsComparable, a_basic, a_pointer, Operates, adds, computes, orders, connects, compares, compares_with_nil}
+use Rattle.gr_rules.specs.Operators.{compares_nil_with, Prefixes, plus, negates, denies, follows}
 use Rattle.gr_rules.specs.Names.{IsWhole}
 use Rattle.gr_rules.proofs.Same.{types_same, same_types, basics_same, same_basics}
 use Rattle.gr_rules.proofs.Fitting.{fits_true, true_fits}
@@ -50,7 +54,8 @@ if_some true v r h = (refl, cc)
 if_some false v r h = cc
 
 one_type : (w : World) (a b k : _) → (same_type a b ≡ true) × (Typed a ≡ k) → GoTogether w (Typed a) (Typed b) k
-one_type w a b k p = subst (λ z. GoTogether w (Typed a) (Typed b) z) p.1 (subst (λ z. GoTogether w (Typed a) (Typed z) (Typed a)) (types_same a b p.0) of_one_type)
+one_type w a b k p = subst (λ z. GoTogether w (Typed a) (Typed b) z) p.1
+    (subst (λ z. GoTogether w (Typed a) (Typed z) (Typed a)) (types_same a b p.0) of_one_type)
 
 fits_right : (w : World) (a : PlainType) (v k : Kind) → IsUntyped v → (fits w v a ≡ true) × (Typed a ≡ k) → GoTogether w (Typed a) v k
 fits_right w a v k u p = subst (λ z. GoTogether w (Typed a) v z) p.1 (right_fits u (true_fits w v a p.0))
@@ -59,7 +64,8 @@ fits_left : (w : World) (a : PlainType) (v k : Kind) → IsUntyped v → (fits w
 fits_left w a v k u p = subst (λ z. GoTogether w v (Typed a) z) p.1 (left_fits u (true_fits w v a p.0))
 
 one_kind : (w : World) (a b : Basic) (k : Kind) → (same_basic a b ≡ true) × (Untyped a ≡ k) → GoTogether w (Untyped a) (Untyped b) k
-one_kind w a b k p = subst (λ z. GoTogether w (Untyped a) (Untyped b) z) p.1 (subst (λ z. GoTogether w (Untyped a) (Untyped z) (Untyped a)) (basics_same a b p.0) (of_one_kind a_constant))
+one_kind w a b k p = subst (λ z. GoTogether w (Untyped a) (Untyped b) z) p.1
+    (subst (λ z. GoTogether w (Untyped a) (Untyped z) (Untyped a)) (basics_same a b p.0) (of_one_kind a_constant))
 
 pub go_together : (w : World) (a b k : Kind) → joined w a b ≡ Some k → GoTogether w a b k
 unfolding joined
@@ -99,7 +105,8 @@ unfolding family_of
 logic_family and = refl
 logic_family or = refl
 
-operated : (w : World) (o : BinaryOp) (f : Family) {a b k : Kind} → family_of o ≡ f → GoTogether w a b k → operate w o a b ≡ result_of f (is_nil a || is_nil b) (class_of w k) k
+operated : (w : World) (o : BinaryOp) (f : Family) {a b k : Kind} → family_of o ≡ f → GoTogether w a b k →
+    operate w o a b ≡ result_of f (is_nil a || is_nil b) (class_of w k) k
 unfolding operate
 operated w o f {a} {b} {k} e g = ap (λ x. operate_on w x (is_nil a || is_nil b) (joined w a b)) e ∙ ap (operate_on w f (is_nil a || is_nil b)) (joined_is w g)
 
@@ -122,9 +129,12 @@ operates_true w (adds {k = k} g i) = operated w op.Add family.Addition refl g �
 operates_true w (computes {o} {k = k} q g i) = operated w o family.Arithmetic (arithmetic_family q) g ∙ holds k (ap is_int (class_true w i))
 operates_true w (orders {o} {k = k} q g i) = operated w o family.Order (order_family q) g ∙ holds (Untyped basic.Bool) (ordered_true w k i)
 operates_true w (connects {o} {k = k} q g i) = operated w o family.Logic (logic_family q) g ∙ holds k (ap is_bool (class_true w i))
-operates_true w (compares {o} {a} {b} q g c) = operated w o family.Equality (equality_family q) g ∙ holds (Untyped basic.Bool) (comparable_class w (is_nil a || is_nil b) c)
-operates_true w (compares_with_nil {o} {t} q f) = operated w o family.Equality (equality_family q) (right_fits a_nil f) ∙ holds (Untyped basic.Bool) (nil_class w t f)
-operates_true w (compares_nil_with {o} {t} q f) = operated w o family.Equality (equality_family q) (left_fits a_nil f) ∙ holds (Untyped basic.Bool) (nil_class w t f)
+operates_true w (compares {o} {a} {b} q g c) = operated w o family.Equality (equality_family q) g ∙
+    holds (Untyped basic.Bool) (comparable_class w (is_nil a || is_nil b) c)
+operates_true w (compares_with_nil {o} {t} q f) = operated w o family.Equality (equality_family q) (right_fits a_nil f) ∙
+    holds (Untyped basic.Bool) (nil_class w t f)
+operates_true w (compares_nil_with {o} {t} q f) = operated w o family.Equality (equality_family q) (left_fits a_nil f) ∙
+    holds (Untyped basic.Bool) (nil_class w t f)
 
 -- and back
 
@@ -139,8 +149,10 @@ addition : (w : World) (a b k r : Kind) → GoTogether w a b k → when (is_orde
 addition w a b k r g h = let p : (is_ordered (class_of w k) ≡ true) × (k ≡ r) = some_when (is_ordered (class_of w k)) k r h in
     subst (λ z. Operates w op.Add a b z) p.1 (adds g (is_of_ordered w k p.0))
 
-order : (w : World) (o : BinaryOp) (a b k r : Kind) → IsOrder o → GoTogether w a b k → when (is_ordered (class_of w k)) (Untyped basic.Bool) ≡ Some r → Operates w o a b r
-order w o a b k r q g h = let p : (is_ordered (class_of w k) ≡ true) × (Untyped basic.Bool ≡ r) = some_when (is_ordered (class_of w k)) (Untyped basic.Bool) r h in
+order : (w : World) (o : BinaryOp) (a b k r : Kind) → IsOrder o → GoTogether w a b k → when (is_ordered (class_of w k)) (Untyped basic.Bool) ≡ Some r →
+    Operates w o a b r
+order w o a b k r q g h = let p : (is_ordered (class_of w k) ≡ true) × (Untyped basic.Bool ≡ r) =
+    some_when (is_ordered (class_of w k)) (Untyped basic.Bool) r h in
     subst (λ z. Operates w o a b z) p.1 (orders q g (is_of_ordered w k p.0))
 
 logic : (w : World) (o : BinaryOp) (a b k r : Kind) → IsLogic o → GoTogether w a b k → when (is_bool (class_of w k)) k ≡ Some r → Operates w o a b r
@@ -150,7 +162,8 @@ logic w o a b k r q g h = let p : (is_bool (class_of w k) ≡ true) × (k ≡ r)
 no_class : {A : Type 0} → class.Nil ≡ class.Slice → A
 no_class h = cc
 
-with_nil : (w : World) (o : BinaryOp) {a b k : Kind} → IsEquality o → GoTogether w a b k → (is_nil a || is_nil b) ≡ true → class_of w k ≡ class.Slice → Operates w o a b (Untyped basic.Bool)
+with_nil : (w : World) (o : BinaryOp) {a b k : Kind} → IsEquality o → GoTogether w a b k → (is_nil a || is_nil b) ≡ true → class_of w k ≡ class.Slice →
+    Operates w o a b (Untyped basic.Bool)
 unfolding is_nil class_of
 with_nil w o q (right_fits a_nil f) h c = compares_with_nil q f
 with_nil w o q (left_fits a_nil f) h c = compares_nil_with q f
@@ -160,18 +173,22 @@ with_nil w o q (left_fits a_constant f) h c = absurd (true≢false (sym h))
 with_nil w o q (of_one_kind a_constant) h c = absurd (true≢false (sym h))
 with_nil w o q (of_one_kind a_nil) h c = no_class c
 
-comparison : (w : World) (o : BinaryOp) (a b k : Kind) (c : Class) → IsEquality o → GoTogether w a b k → class_of w k ≡ c → compares_class (is_nil a || is_nil b) c ≡ true → Operates w o a b (Untyped basic.Bool)
+comparison : (w : World) (o : BinaryOp) (a b k : Kind) (c : Class) → IsEquality o → GoTogether w a b k → class_of w k ≡ c →
+    compares_class (is_nil a || is_nil b) c ≡ true → Operates w o a b (Untyped basic.Bool)
 comparison w o a b k (class.Of x) q g e h = compares q g (a_basic (class_is w k x e))
 comparison w o a b k class.Pointer q g e h = compares q g (pointer_comparable w k e)
 comparison w o a b k class.Slice q g e h = with_nil w o q g h e
 comparison w o a b k class.Struct q g e h = absurd (true≢false (sym h))
 comparison w o a b k class.Nil q g e h = absurd (true≢false (sym h))
 
-equality : (w : World) (o : BinaryOp) (a b k r : Kind) → IsEquality o → GoTogether w a b k → when (compares_class (is_nil a || is_nil b) (class_of w k)) (Untyped basic.Bool) ≡ Some r → Operates w o a b r
-equality w o a b k r q g h = let p : (compares_class (is_nil a || is_nil b) (class_of w k) ≡ true) × (Untyped basic.Bool ≡ r) = some_when (compares_class (is_nil a || is_nil b) (class_of w k)) (Untyped basic.Bool) r h in
+equality : (w : World) (o : BinaryOp) (a b k r : Kind) → IsEquality o → GoTogether w a b k →
+    when (compares_class (is_nil a || is_nil b) (class_of w k)) (Untyped basic.Bool) ≡ Some r → Operates w o a b r
+equality w o a b k r q g h = let p : (compares_class (is_nil a || is_nil b) (class_of w k) ≡ true) × (Untyped basic.Bool ≡ r) =
+    some_when (compares_class (is_nil a || is_nil b) (class_of w k)) (Untyped basic.Bool) r h in
     subst (λ z. Operates w o a b z) p.1 (comparison w o a b k (class_of w k) q g refl p.0)
 
-by_operator : (w : World) (o : BinaryOp) (a b k r : Kind) → GoTogether w a b k → result_of (family_of o) (is_nil a || is_nil b) (class_of w k) k ≡ Some r → Operates w o a b r
+by_operator : (w : World) (o : BinaryOp) (a b k r : Kind) → GoTogether w a b k → result_of (family_of o) (is_nil a || is_nil b) (class_of w k) k ≡ Some r →
+    Operates w o a b r
 unfolding family_of result_of
 by_operator w op.Multiply a b k r g h = arithmetic w op.Multiply a b k r times g h
 by_operator w op.Divide a b k r g h = arithmetic w op.Divide a b k r divided g h
@@ -187,7 +204,8 @@ by_operator w op.GreaterEqual a b k r g h = order w op.GreaterEqual a b k r grea
 by_operator w op.And a b k r g h = logic w op.And a b k r and g h
 by_operator w op.Or a b k r g h = logic w op.Or a b k r or g h
 
-by_common : (w : World) (o : BinaryOp) (a b r : Kind) (j : Option Kind) → joined w a b ≡ j → operate_on w (family_of o) (is_nil a || is_nil b) j ≡ Some r → Operates w o a b r
+by_common : (w : World) (o : BinaryOp) (a b r : Kind) (j : Option Kind) → joined w a b ≡ j → operate_on w (family_of o) (is_nil a || is_nil b) j ≡ Some r →
+    Operates w o a b r
 by_common w o a b r None e h = cc
 by_common w o a b r (Some k) e h = by_operator w o a b k r (go_together w a b k e) h
 

@@ -1,5 +1,6 @@
 -- Each fault that a rule finds stands where the rule is broken.
-use Rattle.std.proofs.Common.{ℕ, ◌≡◌, ◌==◌, Bool, true, false, inl, inr, List, [], ◌∷◌, ◌++◌, length, Option, Some, None, refl, sym, ap, ◌∙◌, subst, true≢false, if◌then◌else◌, All, eqb-true, eq-eqb}
+use Rattle.std.proofs.Common.{ℕ, ◌≡◌, ◌==◌, Bool, true, false, inl, inr, List, [], ◌∷◌, ◌++◌, length, Option, Some, None, refl, sym, ap, ◌∙◌, subst}
+use Rattle.std.proofs.Common.{true≢false, if◌then◌else◌, All, eqb-true, eq-eqb}
 use Rattle.std.proofs.lemmas.List.Elements.{All-nil, All-cons}
 use Rattle.gr_tree.specs.declared.syntax.BinaryOp.{BinaryOp}
 use Rattle.gr_tree.specs.declared.syntax.PrefixOp.{PrefixOp}
@@ -8,15 +9,20 @@ use Rattle.gr_tree.specs.Tree as tree
 use Rattle.gr_expr.specs.declared.types.Basic.TheVariants as basic
 use Rattle.gr_expr.specs.declared.types.Builtin.{Builtin}
 use Rattle.gr_expr.specs.declared.types.Builtin.TheVariants as builtin
-use Rattle.gr_expr.specs.Types.{PlainType, BasicType, Underlying, Plain, PointerTo, SliceOf, Struct, Kind, Typed, Untyped, Nil, Signature, Meaning, Value, TypeName, Function, BuiltinName, Package, Results, Broken, element_of}
+use Rattle.gr_expr.specs.Types.{PlainType, BasicType, Underlying, Plain, PointerTo, SliceOf, Struct, Kind, Typed, Untyped, Nil, Signature, Meaning, Value}
+use Rattle.gr_expr.specs.Types.{TypeName, Function, BuiltinName, Package, Results, Broken, element_of}
 use Rattle.gr_expr.specs.World.{World, Locals, underlying}
 use Rattle.gr_expr.specs.Operations.{operate, prefixed, converts, class_of, is_int, element_of_kind}
-use Rattle.gr_expr.specs.Judge.{Argued, means, wrong, means_or_wrong, value_or_wrong, as_value, value_kind, member_meaning, select, select_member, is_whole, all_whole, unless_faults, wrong_if_whole, bad_index, indexed, index_of, element_meaning, operation, prefix_of, misfits, all_misfits, result_meaning, call_function, convert, convert_one, append, append_first, append_to, len_fits, all_printed, call_builtin, call_of}
+use Rattle.gr_expr.specs.Judge.{Argued, means, wrong, means_or_wrong, value_or_wrong, as_value, value_kind, member_meaning, select, select_member, is_whole}
+use Rattle.gr_expr.specs.Judge.{all_whole, unless_faults, wrong_if_whole, bad_index, indexed, index_of, element_meaning, operation, prefix_of, misfits}
+use Rattle.gr_expr.specs.Judge.{all_misfits, result_meaning, call_function, convert, convert_one, append, append_first, append_to, len_fits, all_printed}
+use Rattle.gr_expr.specs.Judge.{call_builtin, call_of}
 use Rattle.gr_rules.specs.Operators.{IsOf, Operates, Prefixes}
 use Rattle.gr_rules.specs.Names.{IsWhole}
 use Rattle.gr_rules.specs.Links.{Selects, Indexes, element}
 use Rattle.gr_rules.specs.Meanings.{HasMeaning}
-use Rattle.gr_rules.specs.Faults.{IsNoValue, IsOperand, meant, unmeant, LinksHaveFault, no_member, no_selection, behind_selector, behind_no_selector, IsNoCallee, a_package, a_call}
+use Rattle.gr_rules.specs.Faults.{IsNoValue, IsOperand, meant, unmeant, LinksHaveFault, no_member, no_selection, behind_selector, behind_no_selector}
+use Rattle.gr_rules.specs.Faults.{IsNoCallee, a_package, a_call}
 use Rattle.gr_rules.specs.Uses.{SelectsBroken, a_method, of_package}
 use Rattle.gr_rules.proofs.Steps.{value_whole, function_whole, results_whole, wrong_broken}
 use Rattle.gr_rules.proofs.Tests.{and_both}
@@ -84,11 +90,13 @@ as_value_each P place Broken f = tt
 
 -- operators
 
-prefix_chosen : (P : ℕ → Type 0) (w : World) (o : PrefixOp) (p : ℕ) (k : Kind) (r : Option Meaning) → prefixed w o k ≡ r → (((m : Meaning) → Prefixes w o k m → ⊥) → P p) → Each P (means_or_wrong r p).faults
+prefix_chosen : (P : ℕ → Type 0) (w : World) (o : PrefixOp) (p : ℕ) (k : Kind) (r : Option Meaning) → prefixed w o k ≡ r →
+    (((m : Meaning) → Prefixes w o k m → ⊥) → P p) → Each P (means_or_wrong r p).faults
 prefix_chosen P w o p k None e f = (f (λ m h. let c : None ≡ Some m = sym e ∙ prefixes_true w h in cc), tt)
 prefix_chosen P w o p k (Some m) e f = tt
 
-pub prefix_each : (P : ℕ → Type 0) (w : World) (o : PrefixOp) (p place : ℕ) (m : Meaning) → ((k : Kind) (a : Bool) → m ≡ Value k a → ((r : Meaning) → Prefixes w o k r → ⊥) → P p) → Each P (prefix_of w o p (as_value place m).meaning).faults
+pub prefix_each : (P : ℕ → Type 0) (w : World) (o : PrefixOp) (p place : ℕ) (m : Meaning) →
+    ((k : Kind) (a : Bool) → m ≡ Value k a → ((r : Meaning) → Prefixes w o k r → ⊥) → P p) → Each P (prefix_of w o p (as_value place m).meaning).faults
 unfolding prefix_of as_value
 prefix_each P w o p place (Value k a) f = prefix_chosen P w o p k (prefixed w o k) refl (f k a refl)
 prefix_each P w o p place (TypeName t) f = tt
@@ -98,12 +106,14 @@ prefix_each P w o p place Package f = tt
 prefix_each P w o p place (Results ts) f = tt
 prefix_each P w o p place Broken f = tt
 
-operation_chosen : (P : ℕ → Type 0) (w : World) (o : BinaryOp) (start : ℕ) (j k : Kind) (r : Option Kind) → operate w o j k ≡ r → (((l : Kind) → Operates w o j k l → ⊥) → P start) → Each P (value_or_wrong r start).faults
+operation_chosen : (P : ℕ → Type 0) (w : World) (o : BinaryOp) (start : ℕ) (j k : Kind) (r : Option Kind) → operate w o j k ≡ r →
+    (((l : Kind) → Operates w o j k l → ⊥) → P start) → Each P (value_or_wrong r start).faults
 operation_chosen P w o start j k None e f = (f (λ l h. let c : None ≡ Some l = sym e ∙ operates_true w h in cc), tt)
 operation_chosen P w o start j k (Some l) e f = tt
 
 pub operation_each : (P : ℕ → Type 0) (w : World) (o : BinaryOp) (start place : ℕ) (m n : Meaning) →
-    ((j k : Kind) (a b : Bool) → m ≡ Value j a → n ≡ Value k b → ((l : Kind) → Operates w o j k l → ⊥) → P start) → Each P (operation w o start m (as_value place n).meaning).faults
+    ((j k : Kind) (a b : Bool) → m ≡ Value j a → n ≡ Value k b → ((l : Kind) → Operates w o j k l → ⊥) → P start) →
+    Each P (operation w o start m (as_value place n).meaning).faults
 unfolding operation value_kind as_value
 operation_each P w o start place (Value j a) (Value k b) f = operation_chosen P w o start j k (operate w o j k) refl (f j k a b refl refl)
 operation_each P w o start place (Value j a) (TypeName t) f = tt
@@ -121,13 +131,15 @@ operation_each P w o start place Broken n f = tt
 
 -- selectors
 
-refused_selection : (w : World) (locals : Locals) (place name : ℕ) (m s : Meaning) → (select w locals place name m).meaning ≡ Broken → Selects w locals m name s → ⊥
+refused_selection : (w : World) (locals : Locals) (place name : ℕ) (m s : Meaning) → (select w locals place name m).meaning ≡ Broken →
+    Selects w locals m name s → ⊥
 refused_selection w locals place name m s e h = let g = selects_true w locals place h in g.whole (sym g.meaning ∙ e)
 
 no_names : {A : Type 0} (name : ℕ) → (name ∷ []) ≡ [] → A
 no_names name h = cc
 
-broken_selection : (w : World) (locals : Locals) (place : ℕ) {m : Meaning} {name : ℕ} → SelectsBroken w locals m name → (select w locals place name m).faults ≡ []
+broken_selection : (w : World) (locals : Locals) (place : ℕ) {m : Meaning} {name : ℕ} → SelectsBroken w locals m name →
+    (select w locals place name m).faults ≡ []
 unfolding select select_member
 broken_selection w locals place (a_method {t} {a} {name} e) = ap (λ z. (means_or_wrong (member_meaning w t a z) name).faults) e
 broken_selection w locals place (of_package n) = refl
@@ -136,14 +148,18 @@ member_each : (P : ℕ → Type 0) (name : ℕ) (r : Option Meaning) → (r ≡ 
 member_each P name None f = (f refl, tt)
 member_each P name (Some m) f = tt
 
-pub select_each : (P : ℕ → Type 0) (w : World) (locals : Locals) (start place d n : ℕ) (rest : LinkTrees) (m : Meaning) → ((p : ℕ) → LinksHaveFault w locals start place (status m) (tree.selector d n rest) p → P p) →
+pub select_each : (P : ℕ → Type 0) (w : World) (locals : Locals) (start place d n : ℕ) (rest : LinkTrees) (m : Meaning) →
+    ((p : ℕ) → LinksHaveFault w locals start place (status m) (tree.selector d n rest) p → P p) →
     Each P (select w locals place n m).faults
 unfolding select select_member
 select_each P w locals start place d n rest (Value (Typed t) a) f =
-    member_each P n (member_meaning w t a (w.member n t)) (λ e. f n (no_member (λ s h. refused_selection w locals place n (Value (Typed t) a) s (ap (λ z. (means_or_wrong z n).meaning) e) h)
+    member_each P n (member_meaning w t a (w.member n t))
+    (λ e. f n (no_member (λ s h. refused_selection w locals place n (Value (Typed t) a) s (ap (λ z. (means_or_wrong z n).meaning) e) h)
     (λ h. no_names n (sym (ap (λ z. (means_or_wrong z n).faults) e) ∙ broken_selection w locals place h))))
-select_each P w locals start place d n rest (Value (Untyped b) a) f = (f n (no_member (λ s h. refused_selection w locals place n (Value (Untyped b) a) s refl h) (λ h. no_names n (broken_selection w locals place h))), tt)
-select_each P w locals start place d n rest (Value Nil a) f = (f n (no_member (λ s h. refused_selection w locals place n (Value Nil a) s refl h) (λ h. no_names n (broken_selection w locals place h))), tt)
+select_each P w locals start place d n rest (Value (Untyped b) a) f =
+    (f n (no_member (λ s h. refused_selection w locals place n (Value (Untyped b) a) s refl h) (λ h. no_names n (broken_selection w locals place h))), tt)
+select_each P w locals start place d n rest (Value Nil a) f =
+    (f n (no_member (λ s h. refused_selection w locals place n (Value Nil a) s refl h) (λ h. no_names n (broken_selection w locals place h))), tt)
 select_each P w locals start place d n rest (TypeName t) f = (f place (no_selection ((λ k a h. cc), (λ h. cc))), tt)
 select_each P w locals start place d n rest (Function s) f = (f place (no_selection ((λ k a h. cc), (λ h. cc))), tt)
 select_each P w locals start place d n rest (BuiltinName b) f = (f place (no_selection ((λ k a h. cc), (λ h. cc))), tt)
@@ -151,7 +167,8 @@ select_each P w locals start place d n rest Package f = tt
 select_each P w locals start place d n rest (Results ts) f = (f place (no_selection ((λ k a h. cc), (λ h. cc))), tt)
 select_each P w locals start place d n rest Broken f = tt
 
-pub behind_select : (w : World) (locals : Locals) (start place d n p : ℕ) (rest : LinkTrees) (m : Meaning) → LinksHaveFault w locals start n (status (select w locals place n m).meaning) rest p →
+pub behind_select : (w : World) (locals : Locals) (start place d n p : ℕ) (rest : LinkTrees) (m : Meaning) →
+    LinksHaveFault w locals start n (status (select w locals place n m).meaning) rest p →
     LinksHaveFault w locals start place (status m) (tree.selector d n rest) p
 behind_select w locals start place d n p rest m h = elim (whole_or_broken (select w locals place n m).meaning) [
   | inl q ↦ (let s = true_selects w locals place n m q in
@@ -162,11 +179,13 @@ behind_select w locals start place d n p rest m h = elim (whole_or_broken (selec
 
 -- indexes
 
-slice_or_not : (P : ℕ → Type 0) (w : World) (start : ℕ) (s : Kind) (b : Bool) (o : Option PlainType) → (o ≡ None → P start) → Each P (element_meaning o start).faults
+slice_or_not : (P : ℕ → Type 0) (w : World) (start : ℕ) (s : Kind) (b : Bool) (o : Option PlainType) → (o ≡ None → P start) →
+    Each P (element_meaning o start).faults
 slice_or_not P w start s b None f = (f refl, tt)
 slice_or_not P w start s b (Some t) f = tt
 
-int_or_not : (P : ℕ → Type 0) (w : World) (start place : ℕ) (m : Meaning) (b : Bool) → (b ≡ false → P place) → ((s : Kind) (x : Bool) → b ≡ true → m ≡ Value s x → element_of_kind w s ≡ None → P start) →
+int_or_not : (P : ℕ → Type 0) (w : World) (start place : ℕ) (m : Meaning) (b : Bool) → (b ≡ false → P place) →
+    ((s : Kind) (x : Bool) → b ≡ true → m ≡ Value s x → element_of_kind w s ≡ None → P start) →
     Each P (indexed w start (if b then [] else (place ∷ [])) true m).faults
 unfolding indexed
 int_or_not P w start place m false f g = (f refl, tt)
@@ -185,14 +204,17 @@ nothing_indexed P w start m = tt
 not_of_int : (w : World) (k : Kind) → is_int (class_of w k) ≡ false → IsOf w k basic.Int → ⊥
 not_of_int w k e i = true≢false (sym (ap is_int (class_true w i)) ∙ e)
 
-pub no_slice_here : {w : World} {m : Meaning} {k : Kind} {r : Meaning} → Indexes w m k r → (s : Kind) (x : Bool) → m ≡ Value s x → element_of_kind w s ≡ None → ⊥
+pub no_slice_here : {w : World} {m : Meaning} {k : Kind} {r : Meaning} → Indexes w m k r → (s : Kind) (x : Bool) → m ≡ Value s x →
+    element_of_kind w s ≡ None → ⊥
 no_slice_here {w} (element {t} {u} {a} e i) s x same none = let q : Typed t ≡ s = cc in
     let c : Some u ≡ None = sym (ap element_of e) ∙ (ap (element_of_kind w) q ∙ none) in cc
 
 pub index_each : (P : ℕ → Type 0) (w : World) (start place : ℕ) (m i : Meaning) → ((k : Kind) (a : Bool) → i ≡ Value k a → (IsOf w k basic.Int → ⊥) → P place) →
-    ((s k : Kind) (x a : Bool) → m ≡ Value s x → i ≡ Value k a → IsOf w k basic.Int → element_of_kind w s ≡ None → P start) → Each P (index_of w start place m i).faults
+    ((s k : Kind) (x a : Bool) → m ≡ Value s x → i ≡ Value k a → IsOf w k basic.Int → element_of_kind w s ≡ None → P start) →
+    Each P (index_of w start place m i).faults
 unfolding index_of bad_index value_kind
-index_each P w start place m (Value k a) f g = int_or_not P w start place m (is_int (class_of w k)) (λ e. f k a refl (not_of_int w k e)) (λ s x b e n. g s k x a e refl (is_of_int w k b) n)
+index_each P w start place m (Value k a) f g = int_or_not P w start place m (is_int (class_of w k)) (λ e. f k a refl (not_of_int w k e))
+    (λ s x b e n. g s k x a e refl (is_of_int w k b) n)
 index_each P w start place m (TypeName t) f g = nothing_indexed P w start m
 index_each P w start place m (Function t) f g = nothing_indexed P w start m
 index_each P w start place m (BuiltinName t) f g = nothing_indexed P w start m
@@ -223,27 +245,32 @@ IsWrong w vs (BuiltinName builtin.Append) = AppendsToNone w vs
 IsWrong w vs m = Unit {0}
 
 count_each : (P : ℕ → Type 0) (w : World) (start : ℕ) (s : Signature) (vs : List Argued) (b : Bool) → (b ≡ true → Each P (misfits w vs s.parameters)) →
-    (b ≡ false → all_whole vs ≡ true → (if b then unless_faults (misfits w vs s.parameters) (all_whole vs) (result_meaning s.results) else wrong_if_whole (all_whole vs) start).meaning ≡ Broken → P start) →
+    (b ≡ false → all_whole vs ≡ true → (if b then unless_faults (misfits w vs s.parameters) (all_whole vs) (result_meaning s.results) else wrong_if_whole
+    (all_whole vs) start).meaning ≡ Broken → P start) →
     Each P (if b then unless_faults (misfits w vs s.parameters) (all_whole vs) (result_meaning s.results) else wrong_if_whole (all_whole vs) start).faults
 count_each P w start s vs true f g = unless_each P (misfits w vs s.parameters) (all_whole vs) (result_meaning s.results) (f refl)
 count_each P w start s vs false f g = whole_each P (all_whole vs) start (λ a. g refl a (wrong_broken (all_whole vs) start))
 
-converts_each : (P : ℕ → Type 0) (start : ℕ) (t : PlainType) (b : Bool) → ((if b then means (Value (Typed t) false) else wrong start).meaning ≡ Broken → P start) →
+converts_each : (P : ℕ → Type 0) (start : ℕ) (t : PlainType) (b : Bool) →
+    ((if b then means (Value (Typed t) false) else wrong start).meaning ≡ Broken → P start) →
     Each P (if b then means (Value (Typed t) false) else wrong start).faults
 converts_each P start t true f = tt
 converts_each P start t false f = (f refl, tt)
 
-one_each : (P : ℕ → Type 0) (w : World) (start : ℕ) (t : PlainType) (o : Option Kind) → (is_whole o ≡ true → (convert_one w start t o).meaning ≡ Broken → P start) → Each P (convert_one w start t o).faults
+one_each : (P : ℕ → Type 0) (w : World) (start : ℕ) (t : PlainType) (o : Option Kind) →
+    (is_whole o ≡ true → (convert_one w start t o).meaning ≡ Broken → P start) → Each P (convert_one w start t o).faults
 one_each P w start t None f = tt
 one_each P w start t (Some k) f = converts_each P start t (converts w k t) (f refl)
 
-conversion_each : (P : ℕ → Type 0) (w : World) (start : ℕ) (t : PlainType) (vs : List Argued) → (all_whole vs ≡ true → (convert w start t vs).meaning ≡ Broken → P start) → Each P (convert w start t vs).faults
+conversion_each : (P : ℕ → Type 0) (w : World) (start : ℕ) (t : PlainType) (vs : List Argued) →
+    (all_whole vs ≡ true → (convert w start t vs).meaning ≡ Broken → P start) → Each P (convert w start t vs).faults
 unfolding convert all_whole
 conversion_each P w start t [] f = (f refl refl, tt)
 conversion_each P w start t (v ∷ []) f = one_each P w start t v.kind (λ a. f (and_both (is_whole v.kind) true a refl))
 conversion_each P w start t (v ∷ u ∷ vs) f = whole_each P (all_whole (v ∷ u ∷ vs)) start (λ a. f a (wrong_broken (all_whole (v ∷ u ∷ vs)) start))
 
-fine_each : (P : ℕ → Type 0) (fine whole : Bool) (start : ℕ) (m : Meaning) → (whole ≡ true → (if whole then (if fine then means m else wrong start) else means Broken).meaning ≡ Broken → P start) →
+fine_each : (P : ℕ → Type 0) (fine whole : Bool) (start : ℕ) (m : Meaning) →
+    (whole ≡ true → (if whole then (if fine then means m else wrong start) else means Broken).meaning ≡ Broken → P start) →
     Each P (if whole then (if fine then means m else wrong start) else means Broken).faults
 fine_each P true true start m f = tt
 fine_each P false true start m f = (f refl refl, tt)
@@ -254,8 +281,10 @@ abbrev pub ElementsMisfit : (ℕ → Type 0) → World → List Argued → Type 
 ElementsMisfit P w [] = Unit {0}
 ElementsMisfit P w (v ∷ vs) = (t u : PlainType) → v.kind ≡ Some (Typed t) → underlying w t ≡ SliceOf u → Each P (all_misfits w vs u)
 
-element_each : (P : ℕ → Type 0) (w : World) (start : ℕ) (k : Kind) (vs : List Argued) (u : Underlying) → ((x : PlainType) → u ≡ SliceOf x → Each P (all_misfits w vs x)) →
-    (((x : PlainType) → u ≡ SliceOf x → ⊥) → all_whole vs ≡ true → (append_to w start k (element_of u) vs).meaning ≡ Broken → P start) → Each P (append_to w start k (element_of u) vs).faults
+element_each : (P : ℕ → Type 0) (w : World) (start : ℕ) (k : Kind) (vs : List Argued) (u : Underlying) →
+    ((x : PlainType) → u ≡ SliceOf x → Each P (all_misfits w vs x)) →
+    (((x : PlainType) → u ≡ SliceOf x → ⊥) → all_whole vs ≡ true → (append_to w start k (element_of u) vs).meaning ≡ Broken → P start) →
+    Each P (append_to w start k (element_of u) vs).faults
 element_each P w start k vs (SliceOf x) f g = unless_each P (all_misfits w vs x) (all_whole vs) (Value k false) (f x refl)
 element_each P w start k vs (Plain b) f g = whole_each P (all_whole vs) start (λ a. g (λ y h. cc) a (wrong_broken (all_whole vs) start))
 element_each P w start k vs (PointerTo x) f g = whole_each P (all_whole vs) start (λ a. g (λ y h. cc) a (wrong_broken (all_whole vs) start))
@@ -264,14 +293,18 @@ element_each P w start k vs (Struct s) f g = whole_each P (all_whole vs) start (
 underlying_along : (w : World) (t y : PlainType) {u : PlainType} → Some (Typed t) ≡ Some (Typed y) → underlying w y ≡ SliceOf u → underlying w t ≡ SliceOf u
 underlying_along w t y h e = let same : t ≡ y = cc in ap (underlying w) same ∙ e
 
-first_each : (P : ℕ → Type 0) (w : World) (start : ℕ) (vs : List Argued) (o : Option Kind) → ((t u : PlainType) → o ≡ Some (Typed t) → underlying w t ≡ SliceOf u → Each P (all_misfits w vs u)) →
-    (((t u : PlainType) → o ≡ Some (Typed t) → underlying w t ≡ SliceOf u → ⊥) → is_whole o ≡ true → all_whole vs ≡ true → (append_first w start o vs).meaning ≡ Broken → P start) → Each P (append_first w start o vs).faults
+first_each : (P : ℕ → Type 0) (w : World) (start : ℕ) (vs : List Argued) (o : Option Kind) →
+    ((t u : PlainType) → o ≡ Some (Typed t) → underlying w t ≡ SliceOf u → Each P (all_misfits w vs u)) →
+    (((t u : PlainType) → o ≡ Some (Typed t) → underlying w t ≡ SliceOf u → ⊥) → is_whole o ≡ true → all_whole vs ≡ true →
+    (append_first w start o vs).meaning ≡ Broken → P start) → Each P (append_first w start o vs).faults
 first_each P w start vs None f g = tt
-first_each P w start vs (Some (Typed t)) f g = element_each P w start (Typed t) vs (underlying w t) (λ x e. f t x refl e) (λ n. g (λ y u h e. n u (underlying_along w t y h e)) refl)
+first_each P w start vs (Some (Typed t)) f g = element_each P w start (Typed t) vs (underlying w t) (λ x e. f t x refl e)
+    (λ n. g (λ y u h e. n u (underlying_along w t y h e)) refl)
 first_each P w start vs (Some (Untyped b)) f g = whole_each P (all_whole vs) start (λ a. g (λ t u h e. cc) refl a (wrong_broken (all_whole vs) start))
 first_each P w start vs (Some Nil) f g = whole_each P (all_whole vs) start (λ a. g (λ t u h e. cc) refl a (wrong_broken (all_whole vs) start))
 
-append_each : (P : ℕ → Type 0) (w : World) (start : ℕ) (vs : List Argued) → ElementsMisfit P w vs → (AppendsToNone w vs → all_whole vs ≡ true → (append w start vs).meaning ≡ Broken → P start) → Each P (append w start vs).faults
+append_each : (P : ℕ → Type 0) (w : World) (start : ℕ) (vs : List Argued) → ElementsMisfit P w vs →
+    (AppendsToNone w vs → all_whole vs ≡ true → (append w start vs).meaning ≡ Broken → P start) → Each P (append w start vs).faults
 unfolding append all_whole
 append_each P w start [] f g = (g tt refl refl, tt)
 append_each P w start (v ∷ vs) f g = first_each P w start vs v.kind f (λ n a b. g n (and_both (is_whole v.kind) (all_whole vs) a b))
@@ -287,10 +320,13 @@ builtin_each P w start builtin.Print vs f g = fine_each P (all_printed w vs) (al
 builtin_each P w start builtin.Println vs f g = fine_each P (all_printed w vs) (all_whole vs) start (Results []) (g tt)
 
 pub call_each : (P : ℕ → Type 0) (w : World) (start place : ℕ) (vs : List Argued) (m : Meaning) → (IsNoCallee m → P place) →
-    ((s : Signature) → m ≡ Function s → length vs ≡ length s.parameters → Each P (misfits w vs s.parameters)) → (m ≡ BuiltinName builtin.Append → ElementsMisfit P w vs) →
+    ((s : Signature) → m ≡ Function s → length vs ≡ length s.parameters → Each P (misfits w vs s.parameters)) →
+    (m ≡ BuiltinName builtin.Append → ElementsMisfit P w vs) →
     (IsWhole m → IsWrong w vs m → all_whole vs ≡ true → (call_of w start place vs m).meaning ≡ Broken → P start) → Each P (call_of w start place vs m).faults
 unfolding call_of call_function
-call_each P w start place vs (Function s) f g h i = count_each P w start s vs (length vs == length s.parameters) (λ e. g s refl (eqb-true (length vs) (length s.parameters) e)) (λ e. i function_whole (λ l. true≢false (sym (eq-eqb (length vs) (length s.parameters) l) ∙ e)))
+call_each P w start place vs (Function s) f g h i =
+    count_each P w start s vs (length vs == length s.parameters) (λ e. g s refl (eqb-true (length vs) (length s.parameters) e))
+    (λ e. i function_whole (λ l. true≢false (sym (eq-eqb (length vs) (length s.parameters) l) ∙ e)))
 call_each P w start place vs (TypeName t) f g h i = conversion_each P w start t vs (i (λ q. cc) tt)
 call_each P w start place vs (BuiltinName b) f g h i = builtin_each P w start b vs (λ e. h (ap BuiltinName e)) (i (λ q. cc))
 call_each P w start place vs (Value k x) f g h i = whole_each P (all_whole vs) start (λ a. i value_whole tt a (wrong_broken (all_whole vs) start))

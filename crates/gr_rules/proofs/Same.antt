@@ -4,7 +4,8 @@ use Rattle.std.specs.Cmp.Lexicographic.{bytes_decides}
 use Rattle.gr_expr.specs.declared.types.Basic.{Basic}
 use Rattle.gr_expr.specs.declared.types.Basic.TheVariants as basic
 use Rattle.gr_expr.specs.declared.symbol.Symbol.{Symbol}
-use Rattle.gr_expr.specs.Types.{PlainType, BasicType, Defined, Pointer, Slice, Underlying, Plain, PointerTo, SliceOf, Struct, same_basic, same_path, same_symbol, same_type, same_underlying}
+use Rattle.gr_expr.specs.Types.{PlainType, BasicType, Defined, Pointer, Slice, Underlying, Plain, PointerTo, SliceOf, Struct, same_basic, same_path}
+use Rattle.gr_expr.specs.Types.{same_symbol, same_type, same_underlying}
 use Rattle.gr_rules.proofs.Tests.{and_first, and_second, and_both}
 
 pub basics_same : (a b : Basic) → same_basic a b ≡ true → a ≡ b

@@ -2,10 +2,12 @@
 use Rattle.std.proofs.Common.{ℕ, ◌≡◌, Bool, true, false, ◌||◌, List, [], ◌∷◌, Option, Some, None, refl, sym, ap, ◌∙◌, if◌then◌else◌, option_map}
 use Rattle.gr_expr.specs.declared.types.Basic.TheVariants as basic
 use Rattle.gr_expr.specs.declared.symbol.Symbol.{Symbol}
-use Rattle.gr_expr.specs.Types.{PlainType, BasicType, Defined, Pointer, Slice, Underlying, Plain, PointerTo, SliceOf, Struct, Kind, Typed, Untyped, Nil, Signature, Meaning, Value, TypeName, Function, BuiltinName, Package, Results, Broken, points, is_pointer, element_of}
+use Rattle.gr_expr.specs.Types.{PlainType, BasicType, Defined, Pointer, Slice, Underlying, Plain, PointerTo, SliceOf, Struct, Kind, Typed, Untyped, Nil}
+use Rattle.gr_expr.specs.Types.{Signature, Meaning, Value, TypeName, Function, BuiltinName, Package, Results, Broken, points, is_pointer, element_of}
 use Rattle.gr_expr.specs.World.{World, Locals, Member, AField, AMethod, ABrokenMethod, member_symbol, underlying}
 use Rattle.gr_expr.specs.Operations.{class_of, is_int, element_of_kind}
-use Rattle.gr_expr.specs.Judge.{means, means_or_wrong, member_meaning, select, select_member, as_value, value_kind, is_whole, bad_index, indexed, index_of, element_meaning}
+use Rattle.gr_expr.specs.Judge.{means, means_or_wrong, member_meaning, select, select_member, as_value, value_kind, is_whole, bad_index, indexed, index_of}
+use Rattle.gr_expr.specs.Judge.{element_meaning}
 use Rattle.gr_rules.specs.Operators.{IsOf}
 use Rattle.gr_rules.specs.Names.{IsWhole}
 use Rattle.gr_rules.specs.Links.{Selects, field, field_through_pointer, method, method_on_pointer, method_on_variable, of_package, Indexes, element}
@@ -25,10 +27,12 @@ no_pointer (Struct s) n = refl
 abbrev found : World → PlainType → Bool → Option Member → Option Meaning
 found w t a m = member_meaning w t a m
 
-found_member : (w : World) (t : PlainType) (a : Bool) (name : ℕ) {m : Member} {r : Meaning} → w.member name t ≡ Some m → found w t a (Some m) ≡ Some r → found w t a (w.member name t) ≡ Some r
+found_member : (w : World) (t : PlainType) (a : Bool) (name : ℕ) {m : Member} {r : Meaning} → w.member name t ≡ Some m → found w t a (Some m) ≡ Some r →
+    found w t a (w.member name t) ≡ Some r
 found_member w t a name e f = ap (found w t a) e ∙ f
 
-selected : (w : World) (t : PlainType) (a : Bool) (name : ℕ) {r : Meaning} → found w t a (w.member name t) ≡ Some r → IsWhole r → Agrees (select_member w name t a) r
+selected : (w : World) (t : PlainType) (a : Bool) (name : ℕ) {r : Meaning} → found w t a (w.member name t) ≡ Some r → IsWhole r →
+    Agrees (select_member w name t a) r
 unfolding select_member
 selected w t a name e n = used_agrees (record { place = name; before = t; member = option_map member_symbol (w.member name t) }) (chosen_agrees name e n)
 
@@ -39,7 +43,8 @@ selects_true w locals place {name = name} (field {t} {u} {a} {s = s} e n) =
 selects_true w locals place {name = name} (field_through_pointer {t} {u} {a = a} {s = s} e p) =
     selected w t a name (found_member w t a name e (ap (λ x. Some (Value (Typed u) (points x || a))) p)) value_whole
 selects_true w locals place {name = name} (method {t} {a} e) = selected w t a name (found_member w t a name e refl) function_whole
-selects_true w locals place {name = name} (method_on_pointer {t} {a} e) = selected w (Pointer t) a name (found_member w (Pointer t) a name e refl) function_whole
+selects_true w locals place {name = name} (method_on_pointer {t} {a} e) =
+    selected w (Pointer t) a name (found_member w (Pointer t) a name e refl) function_whole
 selects_true w locals place {name = name} (method_on_variable {t} {s = s} {signature = g} e) =
     selected w t true name (found_member w t true name e (ap (λ b. if b then Some (Function g) else None) (or_true (is_pointer t)))) function_whole
   where
@@ -48,7 +53,8 @@ selects_true w locals place {name = name} (method_on_variable {t} {s = s} {signa
     or_true false = refl
 selects_true w locals place (of_package h) = agrees_as (ap means (name_true w locals h)) (means_it (name_whole w locals h))
 
-field_of : (w : World) (locals : Locals) (t u : PlainType) (a : Bool) (name : ℕ) (s : Symbol) → w.member name t ≡ Some (AField s u) → (v : Underlying) → underlying w t ≡ v →
+field_of : (w : World) (locals : Locals) (t u : PlainType) (a : Bool) (name : ℕ) (s : Symbol) → w.member name t ≡ Some (AField s u) → (v : Underlying) →
+    underlying w t ≡ v →
     Selects w locals (Value (Typed t) a) name (Value (Typed u) (points v || a))
 field_of w locals t u a name s e (PointerTo x) f = field_through_pointer e f
 field_of w locals t u a name s e (Plain b) f = field e (λ x p. let c : Plain b ≡ PointerTo x = sym f ∙ p in cc)
@@ -64,7 +70,8 @@ of_variable w locals t name s g true e n = method_on_variable e
 of_variable w locals t name s g false e n = absurd (n refl)
 
 pointer_method : (w : World) (locals : Locals) (t : PlainType) (name : ℕ) (s : Symbol) (g : Signature) (a : Bool) → w.member name t ≡ Some (AMethod s true g) →
-    IsWhole (means_or_wrong (on_variable (is_pointer t || a) g) name).meaning → Selects w locals (Value (Typed t) a) name (means_or_wrong (on_variable (is_pointer t || a) g) name).meaning
+    IsWhole (means_or_wrong (on_variable (is_pointer t || a) g) name).meaning →
+    Selects w locals (Value (Typed t) a) name (means_or_wrong (on_variable (is_pointer t || a) g) name).meaning
 pointer_method w locals (Pointer t) name s g a e n = method_on_pointer e
 pointer_method w locals (BasicType b) name s g a e n = of_variable w locals (BasicType b) name s g a e n
 pointer_method w locals (Defined d) name s g a e n = of_variable w locals (Defined d) name s g a e n
@@ -78,7 +85,8 @@ member_selected w locals t a name (Some (AMethod s true g)) e n = pointer_method
 member_selected w locals t a name (Some (AMethod s false g)) e n = method e
 member_selected w locals t a name (Some (ABrokenMethod s)) e n = absurd (n refl)
 
-pub true_selects : (w : World) (locals : Locals) (place name : ℕ) (m : Meaning) → IsWhole (select w locals place name m).meaning → IsWhole m × Selects w locals m name (select w locals place name m).meaning
+pub true_selects : (w : World) (locals : Locals) (place name : ℕ) (m : Meaning) → IsWhole (select w locals place name m).meaning → IsWhole m ×
+    Selects w locals m name (select w locals place name m).meaning
 unfolding select select_member
 true_selects w locals place name (Value (Typed t) a) n = (value_whole, member_selected w locals t a name (w.member name t) refl n)
 true_selects w locals place name (Value (Untyped b) a) n = absurd (n refl)
@@ -95,7 +103,8 @@ true_selects w locals place name Broken n = absurd (n refl)
 pub indexes_true : (w : World) (start place : ℕ) {m r : Meaning} {k : Kind} (a : Bool) → Indexes w m k r → Agrees (index_of w start place m (Value k a)) r
 unfolding index_of bad_index value_kind indexed
 indexes_true w start place a (element {t} {u} {a = b} e j) = agrees_as
-    (ap (λ (x : Bool). indexed w start (if x then [] else place ∷ []) true (Value (Typed t) b)) (ap is_int (class_true w j)) ∙ ap (λ x. element_meaning (element_of x) start) e)
+    (ap (λ (x : Bool). indexed w start (if x then [] else place ∷ []) true (Value (Typed t) b)) (ap is_int (class_true w j)) ∙
+    ap (λ x. element_meaning (element_of x) start) e)
     (means_it value_whole)
 
 broken_operand : (w : World) (start : ℕ) (faults : List ℕ) (b : Bool) → (indexed w start faults b Broken).meaning ≡ Broken
@@ -104,7 +113,8 @@ broken_operand w start [] true = refl
 broken_operand w start [] false = refl
 broken_operand w start (x ∷ xs) b = refl
 
-element_found : (w : World) (start : ℕ) (t : PlainType) (a : Bool) (k : Kind) → IsOf w k basic.Int → (u : Underlying) → underlying w t ≡ u → IsWhole (element_meaning (element_of u) start).meaning →
+element_found : (w : World) (start : ℕ) (t : PlainType) (a : Bool) (k : Kind) → IsOf w k basic.Int → (u : Underlying) → underlying w t ≡ u →
+    IsWhole (element_meaning (element_of u) start).meaning →
     Indexes w (Value (Typed t) a) k (element_meaning (element_of u) start).meaning
 element_found w start t a k j (SliceOf x) e n = element e j
 element_found w start t a k j (Plain b) e n = absurd (n refl)
@@ -117,7 +127,8 @@ value_indexed w start (Typed t) k a j n = element_found w start t a k j (underly
 value_indexed w start (Untyped b) k a j n = absurd (n refl)
 value_indexed w start Nil k a j n = absurd (n refl)
 
-by_int : (w : World) (start place : ℕ) (s k : Kind) (a : Bool) (b : Bool) → is_int (class_of w k) ≡ b → IsWhole (indexed w start (if b then [] else place ∷ []) true (Value s a)).meaning →
+by_int : (w : World) (start place : ℕ) (s k : Kind) (a : Bool) (b : Bool) → is_int (class_of w k) ≡ b →
+    IsWhole (indexed w start (if b then [] else place ∷ []) true (Value s a)).meaning →
     Indexes w (Value s a) k (indexed w start (if b then [] else place ∷ []) true (Value s a)).meaning
 unfolding indexed
 by_int w start place s k a true e n = value_indexed w start s k a (is_of_int w k e) n

@@ -4,7 +4,8 @@ use Rattle.gr_expr.specs.declared.types.Basic.{Basic}
 use Rattle.gr_expr.specs.declared.types.Basic.TheVariants as basic
 use Rattle.gr_expr.specs.declared.types.Builtin.TheVariants as builtin
 use Rattle.gr_expr.specs.declared.symbol.Symbol.{Symbol}
-use Rattle.gr_expr.specs.Types.{PlainType, BasicType, Pointer, PointerTo, SliceOf, Kind, Typed, Signature, Meaning, Value, TypeName, Function, BuiltinName, Package, Results}
+use Rattle.gr_expr.specs.Types.{PlainType, BasicType, Pointer, PointerTo, SliceOf, Kind, Typed, Signature, Meaning, Value, TypeName, Function, BuiltinName}
+use Rattle.gr_expr.specs.Types.{Package, Results}
 use Rattle.gr_expr.specs.World.{World, Locals, AField, AMethod, underlying}
 use Rattle.gr_rules.specs.Fits.{Converts, FitInTurn, EachFits}
 use Rattle.gr_rules.specs.Operators.{IsOf}
@@ -13,9 +14,11 @@ use Rattle.gr_rules.specs.Names.{NameMeans}
 -- An operand, the name behind its dot, and what that selects: a field, which is a variable through a pointer and else where the
 -- operand is one; a method of T on a T or `*T`; a method of `*T` on a `*T` or on a variable; what a package has by that name.
 pub data Selects (w : World) (locals : Locals) : Meaning → ℕ → Meaning → Type 0 where
-  field : {t u : PlainType} {a : Bool} {name : ℕ} {s : Symbol} → w.member name t ≡ Some (AField s u) → ((target : PlainType) → underlying w t ≡ PointerTo target → ⊥) →
+  field : {t u : PlainType} {a : Bool} {name : ℕ} {s : Symbol} → w.member name t ≡ Some (AField s u) →
+      ((target : PlainType) → underlying w t ≡ PointerTo target → ⊥) →
       Selects w locals (Value (Typed t) a) name (Value (Typed u) a)
-  field_through_pointer : {t u target : PlainType} {a : Bool} {name : ℕ} {s : Symbol} → w.member name t ≡ Some (AField s u) → underlying w t ≡ PointerTo target →
+  field_through_pointer : {t u target : PlainType} {a : Bool} {name : ℕ} {s : Symbol} → w.member name t ≡ Some (AField s u) →
+      underlying w t ≡ PointerTo target →
       Selects w locals (Value (Typed t) a) name (Value (Typed u) true)
   method : {t : PlainType} {a : Bool} {name : ℕ} {s : Symbol} {signature : Signature} → w.member name t ≡ Some (AMethod s false signature) →
       Selects w locals (Value (Typed t) a) name (Function signature)
@@ -51,7 +54,8 @@ pub data Calls (w : World) : Meaning → List Kind → Meaning → Type 0 where
   function : {s : Signature} {ks : List Kind} {m : Meaning} → FitInTurn w ks s.parameters → Gives s.results m → Calls w (Function s) ks m
   conversion : {k : Kind} {t : PlainType} → Converts w k t → Calls w (TypeName t) (k ∷ []) (Value (Typed t) false)
   len : {k : Kind} → HasLength w k → Calls w (BuiltinName builtin.Len) (k ∷ []) (Value (Typed (BasicType basic.Int)) false)
-  append : {t u : PlainType} {ks : List Kind} → underlying w t ≡ SliceOf u → EachFits w u ks → Calls w (BuiltinName builtin.Append) (Typed t ∷ ks) (Value (Typed t) false)
+  append : {t u : PlainType} {ks : List Kind} → underlying w t ≡ SliceOf u → EachFits w u ks →
+      Calls w (BuiltinName builtin.Append) (Typed t ∷ ks) (Value (Typed t) false)
   panic : {k : Kind} → Calls w (BuiltinName builtin.Panic) (k ∷ []) (Results [])
   print : {ks : List Kind} → ArePrinted w ks → Calls w (BuiltinName builtin.Print) ks (Results [])
   println : {ks : List Kind} → ArePrinted w ks → Calls w (BuiltinName builtin.Println) ks (Results [])

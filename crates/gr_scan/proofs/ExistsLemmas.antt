@@ -1,5 +1,7 @@
 -- Each text has a cut or a first fault.
-use Rattle.std.proofs.Common.{◌≡◌, ◌⊎◌, ℕ, zero, suc, ◌+◌, ◌^◌, ◌<◌, ◌≤◌, List, [], ◌∷◌, ◌++◌, Bool, true, eqb, ltb, Option, Some, None, refl, sym, ap, ◌∙◌, subst, drop, take, length, arith, inl, inr, ⊎_elim, length-drop, length-take, length-take-le, get_or-take, append-nil, eqb-true, ltb-true, eq-eqb, lt-ltb}
+use Rattle.std.proofs.Common.{◌≡◌, ◌⊎◌, ℕ, zero, suc, ◌+◌, ◌^◌, ◌<◌, ◌≤◌, List, [], ◌∷◌, ◌++◌, Bool, true, eqb, ltb, Option, Some, None, refl, sym, ap, ◌∙◌}
+use Rattle.std.proofs.Common.{subst, drop, take, length, arith, inl, inr, ⊎_elim, length-drop, length-take, length-take-le, get_or-take, append-nil}
+use Rattle.std.proofs.Common.{eqb-true, ltb-true, eq-eqb, lt-ltb}
 use Rattle.std.specs.Prelude.{slice_index, nat_eq, find}
 use Rattle.std.specs.List.{starts_with}
 use Rattle.std.specs.Str.{IsUtf8, is_utf8, bytes_eq}
@@ -34,7 +36,9 @@ use Rattle.gr_scan.specs.Words.{NameRunSoFar}
 use Rattle.gr_scan.proofs.WordLemmas.{run_empty, run_grows, run_stops, char_some}
 use Rattle.gr_scan.proofs.CommentLemmas.{comment_unclosed, comment_closed, occurs_take}
 use Rattle.gr_scan.proofs.StringLemmas.{StringSoFar, string_opens, string_grows, string_ends, part_len_le, bad_at_end, bad_escape, bad_other}
-use Rattle.gr_scan.proofs.FrontLemmas.{blank_stands, newline_stands, keyword_stands, name_stands, no_word, integer_stands, integer_breaks, line_comment_stands, general_comment_stands, operator_stands, no_operator, fraction_breaks, string_stands, raw_stands, raw_breaks}
+use Rattle.gr_scan.proofs.FrontLemmas.{blank_stands, newline_stands, keyword_stands, name_stands, no_word, integer_stands, integer_breaks}
+use Rattle.gr_scan.proofs.FrontLemmas.{line_comment_stands, general_comment_stands, operator_stands, no_operator, fraction_breaks, string_stands}
+use Rattle.gr_scan.proofs.FrontLemmas.{raw_stands, raw_breaks}
 use Rattle.gr_scan.proofs.CutLemmas.{CutsUpTo-push}
 
 -- a test that is decided
@@ -51,7 +55,10 @@ none_here P i to never none k low high p =
 
 first_later : (P : ℕ → Type 0) (i j : ℕ) → (P i → ⊥) → ((r : Option ℕ) × IsFirst P (i + 1) j r) → (r : Option ℕ) × IsFirst P i j r
 first_later P i j never (None, none) = (None, none_here P i j never none)
-first_later P i j never (Some k, found) = (Some k, (record { low = omega (arith, found.0.low); high = found.0.high; before = none_here P i k never found.0.before }, found.1))
+first_later P i j never (Some k, found) = (
+  Some k,
+  (record { low = omega (arith, found.0.low); high = found.0.high; before = none_here P i k never found.0.before }, found.1),
+)
 
 pub first : (P : ℕ → Type 0) → ((k : ℕ) → Decided (P k)) → (n i j : ℕ) → i + n ≡ j → (r : Option ℕ) × IsFirst P i j r
 first P decide zero i j size = (None, λ k low high p. omega (arith, low, high, size))
@@ -65,9 +72,11 @@ decide_true : (b : Bool) → Decided (b ≡ true)
 decide_true b = by_test b (λ is. inl is) (λ not. inr (λ is. false≢true (sym not ∙ is)))
 
 pub first_byte : (x : ℕ) (bytes : List ℕ) → (r : Option ℕ) × IsFirstByte (is_byte x) bytes r
-first_byte x bytes = first (λ k. is_byte x (slice_index bytes k) ≡ true) (λ k. decide_true (is_byte x (slice_index bytes k))) (length bytes) 0 (length bytes) (omega arith)
+first_byte x bytes = first (λ k. is_byte x (slice_index bytes k) ≡ true) (λ k. decide_true (is_byte x (slice_index bytes k))) (length bytes) 0
+    (length bytes) (omega arith)
 
-two_reads : (bytes : List ℕ) (x y k : ℕ) → slice_index bytes (k + 0) ≡ x → slice_index bytes (k + 1) ≡ y → (j : ℕ) → j < 2 → slice_index bytes (k + j) ≡ slice_index (x ∷ y ∷ []) j
+two_reads : (bytes : List ℕ) (x y k : ℕ) → slice_index bytes (k + 0) ≡ x → slice_index bytes (k + 1) ≡ y → (j : ℕ) → j < 2 →
+    slice_index bytes (k + j) ≡ slice_index (x ∷ y ∷ []) j
 two_reads bytes x y k a b zero less = a
 two_reads bytes x y k a b (suc zero) less = b
 two_reads bytes x y k a b (suc (suc j)) less = absurd (omega (arith, less))
@@ -77,7 +86,11 @@ two_at bytes x y k =
     by_test (ltb (k + 1) (length bytes))
     (λ fits. by_test (eqb (slice_index bytes (k + 0)) x)
     (λ a. by_test (eqb (slice_index bytes (k + 1)) y)
-    (λ b. inl (record { fits = omega (arith, ltb-true (k + 1) (length bytes) fits); reads = two_reads bytes x y k (eqb-true (slice_index bytes (k + 0)) x a) (eqb-true (slice_index bytes (k + 1)) y b) }))
+    (λ b. inl (record {
+      fits = omega (arith, ltb-true (k + 1) (length bytes) fits);
+      reads =
+          two_reads bytes x y k (eqb-true (slice_index bytes (k + 0)) x a) (eqb-true (slice_index bytes (k + 1)) y b);
+    }))
     (λ b. inr (λ at. false≢true (sym b ∙ eq-eqb (slice_index bytes (k + 1)) y (at.reads 1 (omega arith))))))
     (λ a. inr (λ at. false≢true (sym a ∙ eq-eqb (slice_index bytes (k + 0)) x (at.reads 0 (omega arith))))))
     (λ fits. inr (λ at. false≢true (sym fits ∙ lt-ltb (k + 1) (length bytes) (omega (arith, at.fits)))))
@@ -103,7 +116,8 @@ break : (text : List ℕ) (k : FaultKind) (n : ℕ) → Breaks k n text → Fron
 break text k n breaks = inr (record { kind = k; place = n; breaks = breaks })
 
 -- words
-run_or_stop : (text : List ℕ) (n : ℕ) → NameRunSoFar text n → (o : Option ℕ) → (decoded (drop n text)).char ≡ o → ((c : ℕ) → (decoded (drop n text)).char ≡ Some c → continues_name c ≡ true → (m : ℕ) × IsNameRun text m) → (m : ℕ) × IsNameRun text m
+run_or_stop : (text : List ℕ) (n : ℕ) → NameRunSoFar text n → (o : Option ℕ) → (decoded (drop n text)).char ≡ o →
+    ((c : ℕ) → (decoded (drop n text)).char ≡ Some c → continues_name c ≡ true → (m : ℕ) × IsNameRun text m) → (m : ℕ) × IsNameRun text m
 run_or_stop text n before None read more = (n, run_stops text n before (rw read tt))
 run_or_stop text n before (Some c) read more = by_test (continues_name c) (more c read) (λ no. (n, run_stops text n before (rw read no)))
 
@@ -113,24 +127,30 @@ run_from text zero n enough before =
     (λ c read yes. absurd (omega (arith, (run_grows text n c before read yes).fits, char_some (drop n text) c read, enough)))
 run_from text (suc fuel) n enough before =
     run_or_stop text n before (decoded (drop n text)).char refl
-    (λ c read yes. run_from text fuel (n + (decoded (drop n text)).size) (omega (arith, char_some (drop n text) c read, enough)) (run_grows text n c before read yes))
+    (λ c read yes. run_from text fuel (n + (decoded (drop n text)).size) (omega (arith, char_some (drop n text) c read, enough))
+    (run_grows text n c before read yes))
 
 -- the word of a run is a keyword or a name
 pub record IsNamed (text : List ℕ) (n : ℕ) : Type 0 where
   pub class : Class
   pub stands : Stands text class n
 
-pub keyword_or_name : (text : List ℕ) (n : ℕ) (o : Option Keyword) → find (λ k. bytes_eq (keyword_spelling k) (take n text)) all_keywords ≡ o → 0 < length text → starts_word (slice_index text 0) ≡ true → begins_with_letter text ≡ true → IsNameRun text n → IsNamed text n
-keyword_or_name text n None found some starts begins run = record { class = class.Name; stands = name_stands text (take n text) n some starts begins run refl found }
-keyword_or_name text n (Some k) found some starts begins run = record { class = class.Keyword k; stands = keyword_stands text (take n text) n k some starts begins run refl found }
+pub keyword_or_name : (text : List ℕ) (n : ℕ) (o : Option Keyword) → find (λ k. bytes_eq (keyword_spelling k) (take n text)) all_keywords ≡ o →
+    0 < length text → starts_word (slice_index text 0) ≡ true → begins_with_letter text ≡ true → IsNameRun text n → IsNamed text n
+keyword_or_name text n None found some starts begins run =
+    record { class = class.Name; stands = name_stands text (take n text) n some starts begins run refl found }
+keyword_or_name text n (Some k) found some starts begins run =
+    record { class = class.Keyword k; stands = keyword_stands text (take n text) n k some starts begins run refl found }
 
-pub run_is_word : (text : List ℕ) (n : ℕ) → 0 < length text → starts_word (slice_index text 0) ≡ true → begins_with_letter text ≡ true → IsNameRun text n → IsNamed text n
+pub run_is_word : (text : List ℕ) (n : ℕ) → 0 < length text → starts_word (slice_index text 0) ≡ true → begins_with_letter text ≡ true → IsNameRun text n →
+    IsNamed text n
 run_is_word text n = keyword_or_name text n (find (λ k. bytes_eq (keyword_spelling k) (take n text)) all_keywords) refl
 
 word : (text : List ℕ) → 0 < length text → starts_word (slice_index text 0) ≡ true → Front text
 word text some starts =
     by_test (begins_with_letter text)
-    (λ begins. let run = run_from text (length text) 0 (omega arith) (run_empty text) in let named = run_is_word text run.0 some starts begins run.1 in piece text named.class run.0 named.stands)
+    (λ begins. let run = run_from text (length text) 0 (omega arith) (run_empty text) in let named = run_is_word text run.0 some starts begins run.1 in
+    piece text named.class run.0 named.stands)
     (λ none. break text kinds.Character 0 (no_word text some starts none))
 
 -- numbers
@@ -157,7 +177,8 @@ line_until text None opens none = (
   record {
     fits = omega arith;
     some = omega (arith, opens.fits);
-    piece = subst IsLineComment (sym (take_all (length text) text (omega arith))) (record { opens = opens; one_line = λ k fits same. none k (omega arith) fits (eq-eqb (slice_index text k) 10 same) });
+    piece = subst IsLineComment (sym (take_all (length text) text (omega arith)))
+        (record { opens = opens; one_line = λ k fits same. none k (omega arith) fits (eq-eqb (slice_index text k) 10 same) });
     longest = λ m more fits p. omega (arith, more, fits);
   },
 )
@@ -172,7 +193,8 @@ line_until text (Some n) opens found =
         some = omega (arith, two);
         piece = record {
           opens = occurs_take text line_opening 0 n opens two fits;
-          one_line = λ k less same. found.0.before k (omega arith) (omega (arith, less, long)) (eq-eqb (slice_index text k) 10 (sym (get_or-take n text k 0 (omega (arith, less, long))) ∙ same));
+          one_line = λ k less same. found.0.before k (omega arith) (omega (arith, less, long))
+              (eq-eqb (slice_index text k) 10 (sym (get_or-take n text k 0 (omega (arith, less, long))) ∙ same));
         };
         longest = λ m more m_fits p. p.one_line n (omega (arith, more, length-take-le m text m_fits)) (get_or-take m text n 0 more ∙ newline);
       },
@@ -187,29 +209,34 @@ line_comment_there text opens =
 line_comment : (text : List ℕ) → OccursAt text line_opening 0 → Front text
 line_comment text opens = let there = line_comment_there text opens in piece text class.LineComment there.0 there.1
 
-comment_until : (text : List ℕ) (r : Option ℕ) → OccursAt text comment_opening 0 → FindsNeedle (drop 2 text) comment_closing 0 r → ((n : ℕ) × Stands text class.GeneralComment n) ⊎ Breaks kinds.Comment 0 text
+comment_until : (text : List ℕ) (r : Option ℕ) → OccursAt text comment_opening 0 → FindsNeedle (drop 2 text) comment_closing 0 r →
+    ((n : ℕ) × Stands text class.GeneralComment n) ⊎ Breaks kinds.Comment 0 text
 comment_until text None opens none = inr (refl, comment_unclosed text (drop 2 text) refl opens none)
 comment_until text (Some n) opens found = inl (n + 4, general_comment_stands text (n + 4) opens (comment_closed text (drop 2 text) n refl opens found))
 
 pub comment_there : (text : List ℕ) → OccursAt text comment_opening 0 → ((n : ℕ) × Stands text class.GeneralComment n) ⊎ Breaks kinds.Comment 0 text
 comment_there text opens =
-    let closing = first (OccursAt (drop 2 text) comment_closing) (two_at (drop 2 text) 42 47) (length (drop 2 text) + 1) 0 (length (drop 2 text) + 1) (omega arith) in
+    let closing = first (OccursAt (drop 2 text) comment_closing) (two_at (drop 2 text) 42 47) (length (drop 2 text) + 1) 0 (length (drop 2 text) + 1)
+    (omega arith) in
     comment_until text closing.0 opens closing.1
 
 general_comment : (text : List ℕ) → OccursAt text comment_opening 0 → Front text
-general_comment text opens = ⊎_elim (λ (there : (n : ℕ) × Stands text class.GeneralComment n). piece text class.GeneralComment there.0 there.1) (break text kinds.Comment 0) (comment_there text opens)
+general_comment text opens = ⊎_elim (λ (there : (n : ℕ) × Stands text class.GeneralComment n). piece text class.GeneralComment there.0 there.1)
+    (break text kinds.Comment 0) (comment_there text opens)
 
 -- strings
 parts_or_stop : (text : List ℕ) (n : ℕ) → StringSoFar text n → (0 < part_len (drop n text) → (m : ℕ) × IsStringRun text m) → (m : ℕ) × IsStringRun text m
 parts_or_stop text n before more =
-    ⊎_elim more (λ (none : part_len (drop n text) ≤ 0). let zero_is : 0 ≡ part_len (drop n text) = omega (arith, none) in (n, string_ends text (drop n text) n before refl zero_is)) (cases_lt 0 (part_len (drop n text)))
+    ⊎_elim more (λ (none : part_len (drop n text) ≤ 0). let zero_is : 0 ≡ part_len (drop n text) = omega (arith, none) in
+    (n, string_ends text (drop n text) n before refl zero_is)) (cases_lt 0 (part_len (drop n text)))
 
 pub parts_from : (text : List ℕ) (fuel n : ℕ) → length text ≤ n + fuel → StringSoFar text n → (m : ℕ) × IsStringRun text m
 parts_from text zero n enough before =
     parts_or_stop text n before (λ some. absurd (omega (arith, some, part_len_le (drop n text), length-drop n text, enough)))
 parts_from text (suc fuel) n enough before =
     parts_or_stop text n before
-    (λ some. parts_from text fuel (n + part_len (drop n text)) (omega (arith, some, enough)) (string_grows text (drop n text) n (part_len (drop n text)) before refl refl some (part_len_le (drop n text))))
+    (λ some. parts_from text fuel (n + part_len (drop n text)) (omega (arith, some, enough))
+    (string_grows text (drop n text) n (part_len (drop n text)) before refl refl some (part_len_le (drop n text))))
 
 string : (text : List ℕ) → 0 < length text → slice_index text 0 ≡ 34 → Front text
 string text some first_is =
@@ -220,7 +247,8 @@ string text some first_is =
     (λ quote. piece text class.InterpretedString (n + 1) (string_stands text n some first_is run.1 more (eqb-true (slice_index text n) 34 quote)))
     (λ other. by_test (eqb (slice_index text n) 92)
     (λ backslash. break text kinds.String n (inl (bad_escape text n run.1 (eqb-true (slice_index text n) 92 backslash))))
-    (λ neither. break text kinds.String 0 (inl (bad_other text n run.1 (λ e. false≢true (sym other ∙ eq-eqb (slice_index text n) 34 e)) (λ e. false≢true (sym neither ∙ eq-eqb (slice_index text n) 92 e)))))))
+    (λ neither. break text kinds.String 0 (inl (bad_other text n run.1 (λ e. false≢true (sym other ∙ eq-eqb (slice_index text n) 34 e))
+    (λ e. false≢true (sym neither ∙ eq-eqb (slice_index text n) 92 e)))))))
     (λ (end : length text ≤ n). break text kinds.String 0 (inl (bad_at_end text n run.1 (omega (arith, end, run.1.fits)))))
     (cases_lt n (length text))
 
@@ -242,19 +270,22 @@ decide_fraction text =
     (λ short. inr (λ is. false≢true (sym short ∙ lt-ltb 1 (length text) is.1))))
     (λ other. inr (λ is. false≢true (sym other ∙ eq-eqb (slice_index text 0) 46 is.0)))
 
-operator_or_none : (text : List ℕ) (o : Option Operator) → find (λ o. starts_with nat_eq text (operator_spelling o)) all_operators ≡ o → MayBeOperator text → (IsFraction text → ⊥) → Front text
+operator_or_none : (text : List ℕ) (o : Option Operator) → find (λ o. starts_with nat_eq text (operator_spelling o)) all_operators ≡ o →
+    MayBeOperator text → (IsFraction text → ⊥) → Front text
 operator_or_none text None found may whole = break text kinds.Character 0 (no_operator text may found)
 operator_or_none text (Some o) found may whole = piece text (class.Operator o) (length (operator_spelling o)) (operator_stands text o may whole found)
 
 operator : (text : List ℕ) → MayBeOperator text → Front text
 operator text may =
-    ⊎_elim (λ bad. break text kinds.Number 0 (fraction_breaks text bad)) (operator_or_none text (find (λ o. starts_with nat_eq text (operator_spelling o)) all_operators) refl may) (decide_fraction text)
+    ⊎_elim (λ bad. break text kinds.Number 0 (fraction_breaks text bad))
+    (operator_or_none text (find (λ o. starts_with nat_eq text (operator_spelling o)) all_operators) refl may) (decide_fraction text)
 
 slash : (text : List ℕ) → 0 < length text → slice_index text 0 ≡ 47 → Front text
 slash text some first_is =
     let family : family_of (slice_index text 0) ≡ 3 = rw first_is refl in
     ⊎_elim (line_comment text)
-    (λ no_line. ⊎_elim (general_comment text) (λ no_comment. operator text (record { some = some; family = inl family; no_line = no_line; no_comment = no_comment })) (two_at text 47 42 0))
+    (λ no_line. ⊎_elim (general_comment text) (λ no_comment.
+    operator text (record { some = some; family = inl family; no_line = no_line; no_comment = no_comment })) (two_at text 47 42 0))
     (two_at text 47 47 0)
 
 front : (text : List ℕ) → 0 < length text → Front text
@@ -284,22 +315,27 @@ record HasFault (text : List ℕ) : Type 0 where
   pub is_first : IsFirstFault text fault
 
 grow : (text : List ℕ) (ps : List Piece) (n : ℕ) → IsWellEncoded text → n ≤ length text → CutsUpTo text ps n
-    → ((more : List Piece) (size : ℕ) → 0 < size → n + size ≤ length text → CutsUpTo text more (n + size) → HasCut text ⊎ HasFault text) → HasCut text ⊎ HasFault text
+    → ((more : List Piece) (size : ℕ) → 0 < size → n + size ≤ length text → CutsUpTo text more (n + size) → HasCut text ⊎ HasFault text) → HasCut text ⊎
+    HasFault text
 grow text ps n encoded fits cut more =
     ⊎_elim
     (λ (less : n < length text). ⊎_elim
-    (λ (at : IsPieceAt (drop n text)). more (ps ++ (record { class = at.class; span = record { start = n; end = n + at.size } }) ∷ []) at.size at.stands.some (omega (arith, at.stands.fits, length-drop n text)) (CutsUpTo-push text ps n at.class at.size (drop n text) cut refl at.stands))
+    (λ (at : IsPieceAt (drop n text)). more (ps ++ (record { class = at.class; span = record { start = n; end = n + at.size } }) ∷ []) at.size
+    at.stands.some (omega (arith, at.stands.fits, length-drop n text)) (CutsUpTo-push text ps n at.class at.size (drop n text) cut refl at.stands))
     (λ (at : IsBreakAt (drop n text)). inr (record {
       fault = record { offset = n + at.place; kind = at.kind };
       is_first = inr (record { encoded = encoded; pieces = ps; to = n; place = at.place; cut = cut; breaks = at.breaks; offset_is = refl });
     }))
     (front (drop n text) (omega (arith, less, length-drop n text))))
-    (λ (end : length text ≤ n). let whole : n ≡ length text = omega (arith, end, fits) in inl (record { pieces = ps; cut = record { encoded = encoded; cut = subst (CutsUpTo text ps) whole cut } }))
+    (λ (end : length text ≤ n). let whole : n ≡ length text = omega (arith, end, fits) in
+    inl (record { pieces = ps; cut = record { encoded = encoded; cut = subst (CutsUpTo text ps) whole cut } }))
     (cases_lt n (length text))
 
-cut_from : (text : List ℕ) (fuel n : ℕ) (ps : List Piece) → IsWellEncoded text → n ≤ length text → length text ≤ n + fuel → CutsUpTo text ps n → HasCut text ⊎ HasFault text
+cut_from : (text : List ℕ) (fuel n : ℕ) (ps : List Piece) → IsWellEncoded text → n ≤ length text → length text ≤ n + fuel → CutsUpTo text ps n →
+    HasCut text ⊎ HasFault text
 cut_from text zero n ps encoded fits enough cut = grow text ps n encoded fits cut (λ more size some m_fits _. absurd (omega (arith, some, m_fits, enough)))
-cut_from text (suc fuel) n ps encoded fits enough cut = grow text ps n encoded fits cut (λ more size some m_fits next. cut_from text fuel (n + size) more encoded m_fits (omega (arith, some, enough)) next)
+cut_from text (suc fuel) n ps encoded fits enough cut =
+    grow text ps n encoded fits cut (λ more size some m_fits next. cut_from text fuel (n + size) more encoded m_fits (omega (arith, some, enough)) next)
 
 mark_fits : (text : List ℕ) → mark_len text ≤ length text
 mark_fits text =
@@ -308,7 +344,8 @@ mark_fits text =
     (λ not. rw not (omega arith))
 
 well_cut : (text : List ℕ) → IsWellEncoded text → HasCut text ⊎ HasFault text
-well_cut text encoded = cut_from text (length text) (mark_len text) (mark_of text) encoded (mark_fits text) (omega arith) ([], sym (append-nil (mark_of text)), refl)
+well_cut text encoded = cut_from text (length text) (mark_len text) (mark_of text) encoded (mark_fits text) (omega arith)
+    ([], sym (append-nil (mark_of text)), refl)
 
 -- encoding
 well_if_no_zero : (bytes : List ℕ) → IsUtf8 bytes → ((r : Option ℕ) × IsFirstByte (is_byte 0) bytes r) → Decided (IsWellEncoded bytes)

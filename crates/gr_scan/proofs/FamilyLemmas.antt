@@ -1,5 +1,6 @@
 -- The first byte of a piece tells which classes it can be of.
-use Rattle.std.proofs.Common.{◌≡◌, ℕ, zero, suc, ◌<◌, ◌≤◌, List, [], ◌∷◌, Bool, true, false, cond, ◌&&◌, eqb, ltb, refl, sym, ap, ◌∙◌, subst, take, length, get_or, arith, ⊎_elim, get_or-take, encode_utf8, encode_utf8_all, ltb-true, length-append}
+use Rattle.std.proofs.Common.{◌≡◌, ℕ, zero, suc, ◌<◌, ◌≤◌, List, [], ◌∷◌, Bool, true, false, cond, ◌&&◌, eqb, ltb, refl, sym, ap, ◌∙◌, subst, take, length}
+use Rattle.std.proofs.Common.{get_or, arith, ⊎_elim, get_or-take, encode_utf8, encode_utf8_all, ltb-true, length-append}
 use Rattle.std.specs.Prelude.{slice_index}
 use Rattle.std.specs.List.{list_all}
 use Rattle.std.specs.Str.{all_scalars}
@@ -29,7 +30,8 @@ unfolding all_below
 at_below p zero k all lt = absurd (omega arith)
 at_below p (suc n) k all lt =
     let both = and_parts (p n) (all_below p n) all in
-    ⊎_elim (λ (below : k < n). at_below p n k both.1 below) (λ (above : n ≤ k). let same : n ≡ k = omega arith in subst (λ i. p i ≡ true) same both.0) (cases_lt k n)
+    ⊎_elim (λ (below : k < n). at_below p n k both.1 below) (λ (above : n ≤ k). let same : n ≡ k = omega arith in subst (λ i. p i ≡ true) same both.0)
+    (cases_lt k n)
 
 -- below 128 the letters are those of ASCII and `_`
 letters_of_ascii : all_below (λ c. cond (is_letter c) (starts_word c) (cond (starts_word c) false true)) 128 ≡ true
@@ -43,7 +45,8 @@ same false true h = absurd (false≢true h)
 same false false h = refl
 
 pub ascii_letter : (c : ℕ) → c < 128 → is_letter c ≡ starts_word c
-ascii_letter c small = same (is_letter c) (starts_word c) (at_below (λ c. cond (is_letter c) (starts_word c) (cond (starts_word c) false true)) 128 c letters_of_ascii small)
+ascii_letter c small = same (is_letter c) (starts_word c)
+    (at_below (λ c. cond (is_letter c) (starts_word c) (cond (starts_word c) false true)) 128 c letters_of_ascii small)
 
 -- below 128 these may all stand in a name
 ascii_words : all_below (λ b. cond (is_ascii_word b) (continues_name b) true) 128 ≡ true
@@ -66,17 +69,20 @@ pub ascii_word_small : (b : ℕ) → is_ascii_word b ≡ true → b < 128
 ascii_word_small b is = ⊎_elim (λ (small : b < 128). small) (λ (large : 128 ≤ b). grind (arith, nat_tests)) (cases_lt b 128)
 
 pub ascii_word_continues : (b : ℕ) → is_ascii_word b ≡ true → continues_name b ≡ true
-ascii_word_continues b is = if_true (is_ascii_word b) (continues_name b) (at_below (λ b. cond (is_ascii_word b) (continues_name b) true) 128 b ascii_words (ascii_word_small b is)) is
+ascii_word_continues b is = if_true (is_ascii_word b) (continues_name b)
+    (at_below (λ b. cond (is_ascii_word b) (continues_name b) true) 128 b ascii_words (ascii_word_small b is)) is
 
 pub word_family : (b : ℕ) → starts_word b ≡ true → family_of b ≡ 4
 word_family b starts =
-    ⊎_elim (λ (small : b < 128). eqb-true (family_of b) 4 (if_true (starts_word b) (eqb (family_of b) 4) (at_below (λ b. cond (starts_word b) (eqb (family_of b) 4) true) 128 b word_of_ascii small) starts))
+    ⊎_elim (λ (small : b < 128). eqb-true (family_of b) 4
+    (if_true (starts_word b) (eqb (family_of b) 4) (at_below (λ b. cond (starts_word b) (eqb (family_of b) 4) true) 128 b word_of_ascii small) starts))
     (λ (large : 128 ≤ b). grind (arith, nat_tests))
     (cases_lt b 128)
 
 pub digit_family : (b : ℕ) → is_digit b 10 ≡ true → family_of b ≡ 5
 digit_family b digit =
-    ⊎_elim (λ (small : b < 128). eqb-true (family_of b) 5 (if_true (is_digit b 10) (eqb (family_of b) 5) (at_below (λ b. cond (is_digit b 10) (eqb (family_of b) 5) true) 128 b digit_of_ascii small) digit))
+    ⊎_elim (λ (small : b < 128). eqb-true (family_of b) 5
+    (if_true (is_digit b 10) (eqb (family_of b) 5) (at_below (λ b. cond (is_digit b 10) (eqb (family_of b) 5) true) 128 b digit_of_ascii small) digit))
     (λ (large : 128 ≤ b). grind (arith, nat_tests))
     (cases_lt b 128)
 
@@ -101,11 +107,13 @@ pub record HasFamily (c : Class) (bs : List ℕ) : Type 0 where
 pub word_first : (bs : List ℕ) → IsWord bs → (0 < length bs) × (starts_word (slice_index bs 0) ≡ true)
 word_first bs ([], is, spelled) = absurd (false≢true is)
 word_first bs (c ∷ cs, is, spelled) =
-    let letter : is_letter c ≡ true = (and_parts (is_letter c) (list_all continues_name cs) (and_parts (is_letter c && list_all continues_name cs) (all_scalars (c ∷ cs)) is).0).0 in
+    let letter : is_letter c ≡ true = (and_parts (is_letter c) (list_all continues_name cs)
+    (and_parts (is_letter c && list_all continues_name cs) (all_scalars (c ∷ cs)) is).0).0 in
     let some : 0 < length bs = omega (arith, ap length spelled, length-append (encode_utf8 c) (encode_utf8_all cs), length-encode c, len_utf8_bounds c) in (
       some,
       ⊎_elim
-          (λ (small : get_or bs 0 0 < 128). let same = char_from_byte bs (encode_utf8_all cs) c spelled small some in ap starts_word (sym same) ∙ sym (ascii_letter c (omega (arith, same))) ∙ letter)
+          (λ (small : get_or bs 0 0 < 128). let same = char_from_byte bs (encode_utf8_all cs) c spelled small some in
+          ap starts_word (sym same) ∙ sym (ascii_letter c (omega (arith, same))) ∙ letter)
           (λ (large : 128 ≤ get_or bs 0 0). grind (arith, nat_tests))
           (cases_lt (get_or bs 0 0) 128),
     )
@@ -122,7 +130,11 @@ has_family (class.Keyword k) bs p = subst (HasFamily (class.Keyword k)) (sym p) 
   is = eqb-true _ _ (each_keyword (λ k. eqb (family_of (slice_index (keyword_spelling k) 0)) 4) refl k);
 })
 has_family class.Integer [] p = absurd (false≢true p)
-has_family class.Integer (b ∷ rest) p = record { some = omega arith; is = digit_family b (by_test (eqb b 48) (λ is. rw (eqb-true b 48 is) refl) (λ not. (and_parts (is_digit b 10) _ (rw not at p)).0)) }
+has_family class.Integer (b ∷ rest) p = record {
+  some = omega arith;
+  is =
+      digit_family b (by_test (eqb b 48) (λ is. rw (eqb-true b 48 is) refl) (λ not. (and_parts (is_digit b 10) _ (rw not at p)).0));
+}
 has_family class.InterpretedString bs p = subst (HasFamily class.InterpretedString) (sym p.spelled) (record { some = omega arith; is = refl })
 has_family class.RawString bs p = subst (HasFamily class.RawString) (sym p.spelled) (record { some = omega arith; is = refl })
 has_family (class.Operator o) bs p = subst (HasFamily (class.Operator o)) (sym p) (record {

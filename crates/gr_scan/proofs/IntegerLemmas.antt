@@ -1,5 +1,6 @@
 -- The longest integer literal at the front of some bytes.
-use Rattle.std.proofs.Common.{◌≡◌, ℕ, zero, suc, ◌+◌, ◌<◌, ◌≤◌, List, [], ◌∷◌, Bool, true, false, ◌&&◌, ◌||◌, eqb, ltb, refl, sym, ap, ◌∙◌, subst, drop, take, length, arith, ⊎_elim, drop-drop, eqb-true, ltb-true, lt-ltb, lit≤}
+use Rattle.std.proofs.Common.{◌≡◌, ℕ, zero, suc, ◌+◌, ◌<◌, ◌≤◌, List, [], ◌∷◌, Bool, true, false, ◌&&◌, ◌||◌, eqb, ltb, refl, sym, ap, ◌∙◌, subst, drop}
+use Rattle.std.proofs.Common.{take, length, arith, ⊎_elim, drop-drop, eqb-true, ltb-true, lt-ltb, lit≤}
 use Rattle.std.specs.Char.{is_digit}
 use Rattle.std.proofs.lemmas.Bool.{and_parts, or_cases, or_left, or_right, cases_Bool, false≢true}
 use Rattle.std.proofs.lemmas.Bool.Decides.{nat_tests}
@@ -28,15 +29,18 @@ digits_end base (b ∷ c ∷ rest) none =
     (λ no. by_test (eqb b 95 && is_digit c base) (λ under. absurd (omega (arith, rw (no, under) at none))) (λ other. rw (no, other) refl))
 
 -- the same behind the first n bytes
-pub digits_step_at : (base : ℕ) (bs part : List ℕ) (n size : ℕ) → part ≡ drop n bs → size ≡ digit_len base part → 0 < size → n + digits_len base (drop n bs) ≡ digits_len base bs → n + size + digits_len base (drop (n + size) bs) ≡ digits_len base bs
+pub digits_step_at : (base : ℕ) (bs part : List ℕ) (n size : ℕ) → part ≡ drop n bs → size ≡ digit_len base part → 0 < size →
+    n + digits_len base (drop n bs) ≡ digits_len base bs → n + size + digits_len base (drop (n + size) bs) ≡ digits_len base bs
 digits_step_at base bs part n size part_is size_is some before =
     let s : size ≡ digit_len base (drop n bs) = size_is ∙ ap (digit_len base) part_is in
     let step = digits_step base (drop n bs) (omega (arith, s)) in
-    let rest : drop (digit_len base (drop n bs)) (drop n bs) ≡ drop (n + size) bs = drop-drop (digit_len base (drop n bs)) n bs ∙ ap (λ k. drop (n + k) bs) (sym s) in
+    let rest : drop (digit_len base (drop n bs)) (drop n bs) ≡ drop (n + size) bs = drop-drop (digit_len base (drop n bs)) n bs ∙
+    ap (λ k. drop (n + k) bs) (sym s) in
     let tail = ap (digits_len base) rest in
     omega (arith, step, tail, s, before)
 
-pub digits_end_at : (base : ℕ) (bs part : List ℕ) (n size : ℕ) → part ≡ drop n bs → size ≡ digit_len base part → size ≡ 0 → n + digits_len base (drop n bs) ≡ digits_len base bs → n ≡ digits_len base bs
+pub digits_end_at : (base : ℕ) (bs part : List ℕ) (n size : ℕ) → part ≡ drop n bs → size ≡ digit_len base part → size ≡ 0 →
+    n + digits_len base (drop n bs) ≡ digits_len base bs → n ≡ digits_len base bs
 digits_end_at base bs part n size part_is size_is none before =
     let s : digit_len base (drop n bs) ≡ 0 = sym (ap (digit_len base) part_is) ∙ sym size_is ∙ none in
     omega (arith, digits_end base (drop n bs) s, before)
@@ -46,7 +50,8 @@ digits_cons base b [] one more = one
 digits_cons base b (c ∷ xs) one more = rw (one, more) refl
 
 digits_under : (base b c : ℕ) (xs : List ℕ) → eqb b 95 ≡ true → is_digit c base ≡ true → digits base xs ≡ true → digits base (b ∷ c ∷ xs) ≡ true
-digits_under base b c xs under one more = or_right (is_digit b base && digits base (c ∷ xs)) (eqb b 95 && (is_digit c base && digits base xs)) (rw (under, one, more) refl)
+digits_under base b c xs under one more = or_right (is_digit b base && digits base (c ∷ xs)) (eqb b 95 && (is_digit c base && digits base xs))
+    (rw (under, one, more) refl)
 
 -- what is counted is such digits
 pub digits_take : (base : ℕ) (bs : List ℕ) → digits base (take (digits_len base bs) bs) ≡ true
@@ -57,7 +62,8 @@ digits_take base (b ∷ c ∷ rest) =
     by_test (is_digit b base)
     (λ yes. rw yes (digits_cons base b (take (digits_len base (c ∷ rest)) (c ∷ rest)) yes (digits_take base (c ∷ rest))))
     (λ no. by_test (eqb b 95 && is_digit c base)
-    (λ under. let both = and_parts (eqb b 95) (is_digit c base) under in rw (no, under) (digits_under base b c (take (digits_len base rest) rest) both.0 both.1 (digits_take base rest)))
+    (λ under. let both = and_parts (eqb b 95) (is_digit c base) under in
+    rw (no, under) (digits_under base b c (take (digits_len base rest) rest) both.0 both.1 (digits_take base rest)))
     (λ other. rw (no, other) refl))
 
 -- no longer front is such digits
@@ -70,7 +76,8 @@ digits_most base (b ∷ []) (suc (suc m)) low fits all = absurd (omega arith)
 digits_most base (b ∷ c ∷ rest) (suc zero) low fits all = rw all (omega arith)
 digits_most base (b ∷ c ∷ rest) (suc (suc m)) low fits all =
     ⊎_elim
-    (λ digit. let both = and_parts (is_digit b base) (digits base (c ∷ take m rest)) digit in let more = digits_most base (c ∷ rest) (suc m) low (omega arith) both.1 in rw both.0 (omega (arith, more)))
+    (λ digit. let both = and_parts (is_digit b base) (digits base (c ∷ take m rest)) digit in
+    let more = digits_most base (c ∷ rest) (suc m) low (omega arith) both.1 in rw both.0 (omega (arith, more)))
     (λ under.
     let both = and_parts (eqb b 95) (is_digit c base && digits base (take m rest)) under in
     let digit = and_parts (is_digit c base) (digits base (take m rest)) both.1 in
@@ -91,11 +98,14 @@ IsPrefix-at b n at same = subst IsPrefix (sym (eqb-true b n same)) at
 pub IsPrefix-from : (b : ℕ) → 0 < prefix_base b → IsPrefix b
 IsPrefix-from b some =
     by_test (eqb b 120 || eqb b 88)
-    (λ hex. ⊎_elim (IsPrefix-at b 120 (record { octal = refl; under = refl; base = lit≤ tt; letter = refl })) (IsPrefix-at b 88 (record { octal = refl; under = refl; base = lit≤ tt; letter = refl })) (or_cases (eqb b 120) (eqb b 88) hex))
+    (λ hex. ⊎_elim (IsPrefix-at b 120 (record { octal = refl; under = refl; base = lit≤ tt; letter = refl }))
+    (IsPrefix-at b 88 (record { octal = refl; under = refl; base = lit≤ tt; letter = refl })) (or_cases (eqb b 120) (eqb b 88) hex))
     (λ no_hex. by_test (eqb b 111 || eqb b 79)
-    (λ octal. ⊎_elim (IsPrefix-at b 111 (record { octal = refl; under = refl; base = lit≤ tt; letter = refl })) (IsPrefix-at b 79 (record { octal = refl; under = refl; base = lit≤ tt; letter = refl })) (or_cases (eqb b 111) (eqb b 79) octal))
+    (λ octal. ⊎_elim (IsPrefix-at b 111 (record { octal = refl; under = refl; base = lit≤ tt; letter = refl }))
+    (IsPrefix-at b 79 (record { octal = refl; under = refl; base = lit≤ tt; letter = refl })) (or_cases (eqb b 111) (eqb b 79) octal))
     (λ no_octal. by_test (eqb b 98 || eqb b 66)
-    (λ binary. ⊎_elim (IsPrefix-at b 98 (record { octal = refl; under = refl; base = lit≤ tt; letter = refl })) (IsPrefix-at b 66 (record { octal = refl; under = refl; base = lit≤ tt; letter = refl })) (or_cases (eqb b 98) (eqb b 66) binary))
+    (λ binary. ⊎_elim (IsPrefix-at b 98 (record { octal = refl; under = refl; base = lit≤ tt; letter = refl }))
+    (IsPrefix-at b 66 (record { octal = refl; under = refl; base = lit≤ tt; letter = refl })) (or_cases (eqb b 98) (eqb b 66) binary))
     (λ no_binary. absurd (omega (arith, rw (no_hex, no_octal, no_binary) at some)))))
 
 no_digit : (c : ℕ) → is_digit c 0 ≡ false
@@ -153,8 +163,10 @@ after_zero_take [] = refl
 after_zero_take (b ∷ rest) =
     by_test (ltb 0 (prefix_base b))
     (λ letter. by_test (ltb 0 (digits_len (prefix_base b) rest))
-    (λ some. rw (letter, some) (or_right (digits 8 (b ∷ take (digits_len (prefix_base b) rest) rest)) (some_digits (prefix_base b) (take (digits_len (prefix_base b) rest) rest))
-    (some_take (prefix_base b) (digits_len (prefix_base b) rest) rest (ltb-true 0 (digits_len (prefix_base b) rest) some) (digits_len_le (prefix_base b) rest) (digits_take (prefix_base b) rest))))
+    (λ some. rw (letter, some) (or_right (digits 8 (b ∷ take (digits_len (prefix_base b) rest) rest))
+    (some_digits (prefix_base b) (take (digits_len (prefix_base b) rest) rest))
+    (some_take (prefix_base b) (digits_len (prefix_base b) rest) rest (ltb-true 0 (digits_len (prefix_base b) rest) some)
+    (digits_len_le (prefix_base b) rest) (digits_take (prefix_base b) rest))))
     (λ none. rw (letter, none) refl))
     (λ other. rw other (after_zero_octal (take (digits_len 8 (b ∷ rest)) (b ∷ rest)) (digits_take 8 (b ∷ rest))))
 
@@ -169,7 +181,8 @@ after_zero_most (b ∷ rest) (suc m) fits all =
     ⊎_elim
     (λ octal. absurd (no_octal b (take m rest) at.octal at.under octal))
     (λ some.
-    let most = digits_most (prefix_base b) rest m (under_no_digit (prefix_base b) at.base) (omega arith) (digits_from_some (prefix_base b) (take m rest) some) in
+    let most = digits_most (prefix_base b) rest m (under_no_digit (prefix_base b) at.base) (omega arith)
+    (digits_from_some (prefix_base b) (take m rest) some) in
     let more : 0 < m = some_more (prefix_base b) m rest some in
     let test : ltb 0 (digits_len (prefix_base b) rest) ≡ true = lt-ltb 0 (digits_len (prefix_base b) rest) (omega arith) in
     rw (letter, test) (omega (arith, most)))
@@ -187,7 +200,8 @@ integer_take [] some = absurd (omega arith)
 integer_take (b ∷ rest) some =
     by_test (eqb b 48)
     (λ zero_first. rw zero_first (rw zero_first (after_zero_take rest)))
-    (λ other. by_test (is_digit b 10) (λ digit. rw (other, digit) (rw (other, digit) (digits_take 10 rest))) (λ none. absurd (omega (arith, rw (other, none) at some))))
+    (λ other. by_test (is_digit b 10) (λ digit. rw (other, digit) (rw (other, digit) (digits_take 10 rest)))
+    (λ none. absurd (omega (arith, rw (other, none) at some))))
 
 pub integer_most : (bs : List ℕ) (m : ℕ) → m ≤ length bs → is_integer (take m bs) ≡ true → m ≤ integer_len bs
 unfolding integer_len
@@ -196,14 +210,16 @@ integer_most [] (suc m) fits all = absurd (omega arith)
 integer_most (b ∷ rest) (suc m) fits all =
     by_test (eqb b 48)
     (λ zero_first. let more = after_zero_most rest m (omega arith) (rw zero_first at all) in rw zero_first (omega (arith, more)))
-    (λ other. let both = and_parts (is_digit b 10) (digits 10 (take m rest)) (rw other at all) in let more = digits_most 10 rest m refl (omega arith) both.1 in rw (other, both.0) (omega (arith, more)))
+    (λ other. let both = and_parts (is_digit b 10) (digits 10 (take m rest)) (rw other at all) in
+    let more = digits_most 10 rest m refl (omega arith) both.1 in rw (other, both.0) (omega (arith, more)))
 
 after_zero_len_le : (bs : List ℕ) → after_zero_len bs ≤ length bs
 unfolding after_zero_len
 after_zero_len_le [] = omega arith
 after_zero_len_le (b ∷ rest) =
     by_test (ltb 0 (prefix_base b))
-    (λ letter. by_test (ltb 0 (digits_len (prefix_base b) rest)) (λ some. let fits = digits_len_le (prefix_base b) rest in rw (letter, some) (omega (arith, fits))) (λ none. rw (letter, none) (omega arith)))
+    (λ letter. by_test (ltb 0 (digits_len (prefix_base b) rest))
+    (λ some. let fits = digits_len_le (prefix_base b) rest in rw (letter, some) (omega (arith, fits))) (λ none. rw (letter, none) (omega arith)))
     (λ other. rw other (digits_len_le 8 (b ∷ rest)))
 
 pub integer_len_le : (bs : List ℕ) → integer_len bs ≤ length bs
@@ -212,4 +228,5 @@ integer_len_le [] = omega arith
 integer_len_le (b ∷ rest) =
     let octal = after_zero_len_le rest in
     let decimal = digits_len_le 10 rest in
-    by_test (eqb b 48) (λ is. rw is (omega (arith, octal))) (λ not. by_test (is_digit b 10) (λ digit. rw (not, digit) (omega (arith, decimal))) (λ none. rw (not, none) (omega arith)))
+    by_test (eqb b 48) (λ is. rw is (omega (arith, octal)))
+    (λ not. by_test (is_digit b 10) (λ digit. rw (not, digit) (omega (arith, decimal))) (λ none. rw (not, none) (omega arith)))

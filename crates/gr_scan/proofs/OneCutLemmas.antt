@@ -10,7 +10,8 @@ use Rattle.gr_text.specs.declared.fault_kind.FaultKind.TheVariants as kinds
 use Rattle.gr_scan.specs.Pieces.{Breaks}
 use Rattle.gr_scan.specs.Cuts.{IsFirstFault, IsWellEncoded, byte_order_mark, bytes_of}
 use Rattle.gr_scan.proofs.IntegerLemmas.{by_test}
-use Rattle.std.proofs.Common.{◌≡◌, ℕ, ◌-◌, List, [], ◌∷◌, ◌++◌, true, false, cond, eqb, refl, sym, ap, ◌∙◌, subst, drop, take, length, arith, ⊎_elim, length-drop, eq-eqb}
+use Rattle.std.proofs.Common.{◌≡◌, ℕ, ◌-◌, List, [], ◌∷◌, ◌++◌, true, false, cond, eqb, refl, sym, ap, ◌∙◌, subst, drop, take, length, arith, ⊎_elim}
+use Rattle.std.proofs.Common.{length-drop, eq-eqb}
 use Rattle.std.specs.Prelude.{slice_index}
 use Rattle.std.proofs.lemmas.Bool.{false≢true, cases_order}
 use Rattle.bstr.specs.Find.{OccursAt}
@@ -56,11 +57,13 @@ no_comment_operator : (o : Operator) (bs : List ℕ) → bs ≡ operator_spellin
 no_comment_operator o bs same =
     let first = ap (λ l. slice_index l 0) same in
     let second = ap (λ l. slice_index l 1) same in (
-      λ at. let test = each_operator (λ o. cond (eqb (slice_index (operator_spelling o) 0) 47) (cond (eqb (slice_index (operator_spelling o) 1) 47) false true) true) refl o in
+      λ at. let test = each_operator (λ o. cond (eqb (slice_index (operator_spelling o) 0) 47)
+          (cond (eqb (slice_index (operator_spelling o) 1) 47) false true) true) refl o in
           let a : eqb (slice_index (operator_spelling o) 0) 47 ≡ true = eq-eqb _ _ (sym first ∙ at.reads 0 (omega arith)) in
           let b : eqb (slice_index (operator_spelling o) 1) 47 ≡ true = eq-eqb _ _ (sym second ∙ at.reads 1 (omega arith)) in
           false≢true (rw (a, b) at test),
-      λ at. let test = each_operator (λ o. cond (eqb (slice_index (operator_spelling o) 0) 47) (cond (eqb (slice_index (operator_spelling o) 1) 42) false true) true) refl o in
+      λ at. let test = each_operator (λ o. cond (eqb (slice_index (operator_spelling o) 0) 47)
+          (cond (eqb (slice_index (operator_spelling o) 1) 42) false true) true) refl o in
           let a : eqb (slice_index (operator_spelling o) 0) 47 ≡ true = eq-eqb _ _ (sym first ∙ at.reads 0 (omega arith)) in
           let b : eqb (slice_index (operator_spelling o) 1) 42 ≡ true = eq-eqb _ _ (sym second ∙ at.reads 1 (omega arith)) in
           false≢true (rw (a, b) at test),
@@ -84,17 +87,20 @@ from_name (class.Keyword k) bs h p q = absurd (p.1 k q)
 from_name (class.Operator o) bs h p q = absurd (not_operator o 4 h (λ e. omega (arith, e)) (λ e. omega (arith, e)))
 from_name _ bs h p q = absurd (omega (arith, h))
 
-from_keyword : (k : Rattle.gr_scan.specs.declared.keywords.Keyword.Keyword) (d : Class) (bs : List ℕ) → 4 ≡ family d → IsPiece (class.Keyword k) bs → IsPiece d bs → class.Keyword k ≡ d
+from_keyword : (k : Rattle.gr_scan.specs.declared.keywords.Keyword.Keyword) (d : Class) (bs : List ℕ) → 4 ≡ family d → IsPiece (class.Keyword k) bs →
+    IsPiece d bs → class.Keyword k ≡ d
 from_keyword k class.Name bs h p q = absurd (q.1 k p)
 from_keyword k (class.Keyword j) bs h p q = ap class.Keyword (keyword_same k j (sym p ∙ q))
 from_keyword k (class.Operator o) bs h p q = absurd (not_operator o 4 h (λ e. omega (arith, e)) (λ e. omega (arith, e)))
 from_keyword k _ bs h p q = absurd (omega (arith, h))
 
-from_operator : (o : Operator) (d : Class) (bs : List ℕ) → family (class.Operator o) ≡ family d → IsPiece (class.Operator o) bs → IsPiece d bs → class.Operator o ≡ d
+from_operator : (o : Operator) (d : Class) (bs : List ℕ) → family (class.Operator o) ≡ family d → IsPiece (class.Operator o) bs → IsPiece d bs →
+    class.Operator o ≡ d
 from_operator o class.LineComment bs h p q = absurd ((no_comment_operator o bs p).0 q.opens)
 from_operator o class.GeneralComment bs h p q = absurd ((no_comment_operator o bs p).1 q.opens)
 from_operator o (class.Operator x) bs h p q = ap class.Operator (operator_same o x (sym p ∙ q))
-from_operator o _ bs h p q = ⊎_elim (λ three. absurd (omega (arith, h, three))) (λ eight. absurd (omega (arith, h, eight))) (operator_family o (family (class.Operator o)) refl)
+from_operator o _ bs h p q = ⊎_elim (λ three. absurd (omega (arith, h, three))) (λ eight. absurd (omega (arith, h, eight)))
+    (operator_family o (family (class.Operator o)) refl)
 
 -- the bytes of a piece tell its class
 pub same_class : (c d : Class) (bs : List ℕ) → IsPiece c bs → IsPiece d bs → c ≡ d
@@ -116,7 +122,8 @@ same_class c d bs p q = by_class c (sym (has_family c bs p).is ∙ (has_family d
 -- one piece stands at the front of a text
 pub one_piece : (text : List ℕ) (c d : Class) (n m : ℕ) → Stands text c n → Stands text d m → (n ≡ m) × (c ≡ d)
 one_piece text c d n m a b =
-    let same : n ≡ m = ⊎_elim (λ e. e) (⊎_elim (λ less. absurd (a.longest d m less b.fits b.piece)) (λ more. absurd (b.longest c n more a.fits a.piece))) (cases_order n m) in
+    let same : n ≡ m = ⊎_elim (λ e. e) (⊎_elim (λ less. absurd (a.longest d m less b.fits b.piece)) (λ more. absurd (b.longest c n more a.fits a.piece)))
+    (cases_order n m) in
     (same, same_class c d (take n text) a.piece (subst (λ (k : ℕ). IsPiece d (take k text)) (sym same) b.piece))
 
 CutsTo-one : (text : List ℕ) (from : ℕ) (ps qs : List Piece) → CutsTo text from ps (length text) → CutsTo text from qs (length text) → ps ≡ qs
@@ -140,14 +147,16 @@ one_cut text ps qs a b =
 breaks_some : (kind : FaultKind) (place : ℕ) (text : List ℕ) → Breaks kind place text → 0 < length text
 breaks_some kinds.Encoding place text breaks = absurd breaks
 breaks_some kinds.Number place text breaks =
-    ⊎_elim (λ bad. omega (arith, (has_family class.Integer (take bad.size text) bad.integer).some, length-take bad.size text)) (λ fraction. omega (arith, fraction.1)) breaks.1
+    ⊎_elim (λ bad. omega (arith, (has_family class.Integer (take bad.size text) bad.integer).some, length-take bad.size text))
+    (λ fraction. omega (arith, fraction.1)) breaks.1
 breaks_some kinds.String place text breaks = ⊎_elim (λ bad. omega (arith, ap length bad.spelled)) (λ bad. omega (arith, ap length bad.1.spelled)) breaks
 breaks_some kinds.Comment place text breaks = omega (arith, breaks.1.opens.fits)
 breaks_some kinds.Character place text breaks = breaks.1
 breaks_some _ place text breaks = absurd breaks
 
 -- no rule is broken at the end of some pieces, where the whole text is cut
-no_break_in_cut : (text : List ℕ) (from to : ℕ) (ps qs : List Piece) (kind : FaultKind) (place : ℕ) → CutsTo text from ps to → CutsTo text from qs (length text) → Breaks kind place (drop to text) → ⊥
+no_break_in_cut : (text : List ℕ) (from to : ℕ) (ps qs : List Piece) (kind : FaultKind) (place : ℕ) → CutsTo text from ps to →
+    CutsTo text from qs (length text) → Breaks kind place (drop to text) → ⊥
 no_break_in_cut text from to [] [] kind place a b breaks = omega (arith, a, b, breaks_some kind place (drop to text) breaks, length-drop to text)
 no_break_in_cut text from to [] (q ∷ qs) kind place a b breaks = b.2.sound kind place (subst (λ (k : ℕ). Breaks kind place (drop k text)) (sym a) breaks)
 no_break_in_cut text from to (p ∷ ps) [] kind place a b breaks = omega (arith, b, a.2.some, a.2.fits, length-drop from text)
@@ -185,5 +194,7 @@ pub cut_joins : (text : List ℕ) (ps : List Piece) → IsCut text ps → flat_m
 cut_joins text ps cut =
     let rest = cut.cut.0 in
     let joined = CutsTo-joins text (mark_len text) (length text) rest cut.cut.2 in
-    let whole : flat_map (bytes_of text) rest ≡ drop (mark_len text) text = sym (append-nil (flat_map (bytes_of text) rest)) ∙ ap (λ l. flat_map (bytes_of text) rest ++ l) (sym (drop_all (length text) text (omega arith))) ∙ joined in
-    ap (flat_map (bytes_of text)) cut.cut.1 ∙ flat_map-append (bytes_of text) (mark_of text) rest ∙ ap (λ l. flat_map (bytes_of text) (mark_of text) ++ l) whole ∙ mark_joins text
+    let whole : flat_map (bytes_of text) rest ≡ drop (mark_len text) text = sym (append-nil (flat_map (bytes_of text) rest)) ∙
+    ap (λ l. flat_map (bytes_of text) rest ++ l) (sym (drop_all (length text) text (omega arith))) ∙ joined in
+    ap (flat_map (bytes_of text)) cut.cut.1 ∙ flat_map-append (bytes_of text) (mark_of text) rest ∙
+    ap (λ l. flat_map (bytes_of text) (mark_of text) ++ l) whole ∙ mark_joins text

@@ -1,5 +1,6 @@
 -- A text has at most one first fault.
-use Rattle.std.proofs.Common.{◌≡◌, ◌≢◌, ◌⊎◌, ℕ, ◌+◌, ◌-◌, ◌<◌, List, [], ◌∷◌, ◌++◌, cond, eqb, refl, sym, ap, ◌∙◌, subst, drop, take, length, arith, inl, inr, ⊎_elim}
+use Rattle.std.proofs.Common.{◌≡◌, ◌≢◌, ◌⊎◌, ℕ, ◌+◌, ◌-◌, ◌<◌, List, [], ◌∷◌, ◌++◌, cond, eqb, refl, sym, ap, ◌∙◌, subst, drop, take, length, arith, inl}
+use Rattle.std.proofs.Common.{inr, ⊎_elim}
 use Rattle.std.specs.Prelude.{slice_index}
 use Rattle.std.specs.List.{concat}
 use Rattle.std.proofs.lemmas.Bool.{cases_order}
@@ -56,7 +57,8 @@ number_comment text m n a b = no_number text 47 (slash_first text n b) (λ e. om
 string_comment : (text : List ℕ) (m n : ℕ) → Breaks kinds.String m text → Breaks kinds.Comment n text → ⊥
 string_comment text m n a b =
     let slash = slash_first text n b in
-    ⊎_elim (λ (quote : slice_index text 0 ≡ 34). omega (arith, slash, quote)) (λ (quote : slice_index text 0 ≡ 96). omega (arith, slash, quote)) (quote_first text m a)
+    ⊎_elim (λ (quote : slice_index text 0 ≡ 34). omega (arith, slash, quote)) (λ (quote : slice_index text 0 ≡ 96). omega (arith, slash, quote))
+    (quote_first text m a)
 
 number_character : (text : List ℕ) (m n : ℕ) → Breaks kinds.Number m text → Breaks kinds.Character n text → ⊥
 number_character text m n a b =
@@ -77,7 +79,8 @@ string_place text m n a b =
     (λ (bad : IsBadString text m). ⊎_elim (bad_string_place text m n bad)
     (λ raw. let first : 34 ≡ 96 = sym (ap (λ t. slice_index t 0) bad.spelled) ∙ ap (λ t. slice_index t 0) raw.1.spelled in absurd (omega (arith, first))) b)
     (λ raw. ⊎_elim
-    (λ (bad : IsBadString text n). let first : 34 ≡ 96 = sym (ap (λ t. slice_index t 0) bad.spelled) ∙ ap (λ t. slice_index t 0) raw.1.spelled in absurd (omega (arith, first)))
+    (λ (bad : IsBadString text n). let first : 34 ≡ 96 = sym (ap (λ t. slice_index t 0) bad.spelled) ∙ ap (λ t. slice_index t 0) raw.1.spelled in
+    absurd (omega (arith, first)))
     (λ other. raw.0 ∙ sym other.0) b)
     a
 
@@ -106,7 +109,8 @@ one_break kinds.Character _ m n text a b = absurd b
 one_break _ k m n text a b = absurd a
 
 -- the pieces lead up to one place
-one_place : (text : List ℕ) (from to other : ℕ) (ps qs : List Piece) (j k : FaultKind) (m n : ℕ) → CutsTo text from ps to → CutsTo text from qs other → Breaks j m (drop to text) → Breaks k n (drop other text) → to ≡ other
+one_place : (text : List ℕ) (from to other : ℕ) (ps qs : List Piece) (j k : FaultKind) (m n : ℕ) → CutsTo text from ps to → CutsTo text from qs other →
+    Breaks j m (drop to text) → Breaks k n (drop other text) → to ≡ other
 one_place text from to other [] [] j k m n a b left right = sym a ∙ b
 one_place text from to other [] (q ∷ qs) j k m n a b left right = absurd (b.2.sound j m (subst (λ (i : ℕ). Breaks j m (drop i text)) (sym a) left))
 one_place text from to other (p ∷ ps) [] j k m n a b left right = absurd (a.2.sound k n (subst (λ (i : ℕ). Breaks k n (drop i text)) (sym b) right))
@@ -122,7 +126,8 @@ same_fault f g kind offset i = record { offset = offset i; kind = kind i }
 one_ill_place : (text : List ℕ) (m n : ℕ) → IsIllEncodedAt text m → IsIllEncodedAt text n → m ≡ n
 one_ill_place text m n a b =
     ⊎_elim (λ (same : m ≡ n). same)
-    (⊎_elim (λ (less : m < n). absurd (a.longest n less (omega (arith, b.short)) b.front)) (λ (more : n < m). absurd (b.longest m more (omega (arith, a.short)) a.front)))
+    (⊎_elim (λ (less : m < n). absurd (a.longest n less (omega (arith, b.short)) b.front))
+    (λ (more : n < m). absurd (b.longest m more (omega (arith, a.short)) a.front)))
     (cases_order m n)
 
 ill_or_well : (text : List ℕ) (n : ℕ) → IsIllEncodedAt text n → IsWellEncoded text → ⊥
@@ -138,7 +143,8 @@ pub one_fault : (text : List ℕ) (f g : Fault) → IsFirstFault text f → IsFi
 one_fault text f g a b =
     ⊎_elim
     (λ (ill : (f.kind ≡ kinds.Encoding) × IsIllEncodedAt text f.offset). ⊎_elim
-    (λ (other : (g.kind ≡ kinds.Encoding) × IsIllEncodedAt text g.offset). same_fault f g (ill.0 ∙ sym other.0) (one_ill_place text f.offset g.offset ill.1 other.1))
+    (λ (other : (g.kind ≡ kinds.Encoding) × IsIllEncodedAt text g.offset).
+    same_fault f g (ill.0 ∙ sym other.0) (one_ill_place text f.offset g.offset ill.1 other.1))
     (λ (breaks : BreaksFirst text g). absurd (ill_or_well text f.offset ill.1 breaks.encoded)) b)
     (λ (breaks : BreaksFirst text f). ⊎_elim
     (λ (ill : (g.kind ≡ kinds.Encoding) × IsIllEncodedAt text g.offset). absurd (ill_or_well text g.offset ill.1 breaks.encoded))

@@ -11,7 +11,8 @@ pub record IsRead (v : CutText) (i : ℕ) (t : Piece) : Type 0 where
   pub at : t ≡ token_at v i
   pub is : IsToken v.text t
 
-pub token_read : (v : CutText) (tokens : List Piece) (i : ℕ) (t : Piece) → IsCutText v.text v.pieces tokens → i < length (tokens_in v) → t ≡ get_or tokens i t → IsRead v i t
+pub token_read : (v : CutText) (tokens : List Piece) (i : ℕ) (t : Piece) → IsCutText v.text v.pieces tokens → i < length (tokens_in v) →
+    t ≡ get_or tokens i t → IsRead v i t
 token_read v tokens i t known fits t_is =
     record {
       at = t_is ∙ ap (λ l. get_or l i t) known.tokens_are ∙ get_or_default (tokens_in v) i t (semicolon 0) fits;

@@ -1,5 +1,6 @@
 -- What is known while a text is scanned, and how it goes on by a piece.
-use Rattle.std.proofs.Common.{◌≡◌, ℕ, ◌+◌, ◌≤◌, Bool, true, false, nat_eq, List, [], ◌∷◌, ◌++◌, length, drop, Option, Some, None, refl, ap, sym, ◌∙◌, append_assoc, append-nil}
+use Rattle.std.proofs.Common.{◌≡◌, ℕ, ◌+◌, ◌≤◌, Bool, true, false, nat_eq, List, [], ◌∷◌, ◌++◌, length, drop, Option, Some, None, refl, ap, sym, ◌∙◌}
+use Rattle.std.proofs.Common.{append_assoc, append-nil}
 use Rattle.std.specs.List.{starts_with}
 use Rattle.gr_scan.specs.declared.piece.Class.{Class}
 use Rattle.gr_scan.specs.declared.piece.Piece.{Piece}
@@ -16,13 +17,15 @@ pub record Scanned (text : List ℕ) (pieces found : List Piece) (due : Option �
   pub cut : CutsUpTo text pieces at
   pub so_far : (rest : List Piece) → found ++ tokens_due text due rest ≡ tokens_of text (pieces ++ rest)
 
-mark_has_no_token : (b : Bool) (text : List ℕ) (rest : List Piece) → starts_with nat_eq text byte_order_mark ≡ b → tokens_of text rest ≡ tokens_of text (mark_of text ++ rest)
+mark_has_no_token : (b : Bool) (text : List ℕ) (rest : List Piece) → starts_with nat_eq text byte_order_mark ≡ b →
+    tokens_of text rest ≡ tokens_of text (mark_of text ++ rest)
 unfolding tokens_of
 mark_has_no_token true text rest is = rw is refl
 mark_has_no_token false text rest is = rw is refl
 
 -- at the beginning
-pub scanned_mark : (text : List ℕ) (pieces : List Piece) (at : ℕ) → pieces ≡ mark_of text → at ≡ mark_len text → at ≤ length text → Scanned text pieces [] None at
+pub scanned_mark : (text : List ℕ) (pieces : List Piece) (at : ℕ) → pieces ≡ mark_of text → at ≡ mark_len text → at ≤ length text →
+    Scanned text pieces [] None at
 scanned_mark text pieces at pieces_are at_is fits = record {
   fits = fits;
   cut = ([], pieces_are ∙ sym (append-nil (mark_of text)), sym at_is);
@@ -42,15 +45,18 @@ scanned_more text pieces found more due next at size class rest before rest_is s
       so_far = λ others. goes others ∙ before.so_far (p ∷ others) ∙ ap (tokens_of text) (sym (append_assoc pieces (p ∷ []) others));
     }
 
-whole : (text : List ℕ) (pieces found : List Piece) (due : Option ℕ) (at : ℕ) (tokens : List Piece) → IsWellEncoded text → Scanned text pieces found due at → at ≡ length text → found ++ tokens_due text due [] ≡ tokens → IsCutText text pieces tokens
+whole : (text : List ℕ) (pieces found : List Piece) (due : Option ℕ) (at : ℕ) (tokens : List Piece) → IsWellEncoded text →
+    Scanned text pieces found due at → at ≡ length text → found ++ tokens_due text due [] ≡ tokens → IsCutText text pieces tokens
 whole text pieces found due at tokens encoded before all tokens_are = record {
   cut = record { encoded = encoded; cut = rw (← all) before.cut };
   tokens_are = sym tokens_are ∙ before.so_far [] ∙ ap (tokens_of text) (append-nil pieces);
 }
 
 -- at the end, with a semicolon due or none
-pub whole_due : (text : List ℕ) (pieces found : List Piece) (end at : ℕ) → IsWellEncoded text → Scanned text pieces found (Some end) at → at ≡ length text → IsCutText text pieces (found ++ semicolon end ∷ [])
+pub whole_due : (text : List ℕ) (pieces found : List Piece) (end at : ℕ) → IsWellEncoded text → Scanned text pieces found (Some end) at → at ≡ length text →
+    IsCutText text pieces (found ++ semicolon end ∷ [])
 whole_due text pieces found end at encoded before all = whole text pieces found (Some end) at _ encoded before all (end_due text found end)
 
-pub whole_plain : (text : List ℕ) (pieces found : List Piece) (at : ℕ) → IsWellEncoded text → Scanned text pieces found None at → at ≡ length text → IsCutText text pieces found
+pub whole_plain : (text : List ℕ) (pieces found : List Piece) (at : ℕ) → IsWellEncoded text → Scanned text pieces found None at → at ≡ length text →
+    IsCutText text pieces found
 whole_plain text pieces found at encoded before all = whole text pieces found None at _ encoded before all (end_plain text found)

@@ -1,5 +1,6 @@
 -- How the pieces and the tokens of a cut lie in the text.
-use Rattle.std.proofs.Common.{◌≡◌, ℕ, zero, suc, ◌-◌, ◌<◌, ◌≤◌, List, [], ◌∷◌, ◌++◌, true, false, ◌&&◌, refl, sym, ap, ◌∙◌, subst, drop, take, length, get_or, arith, inl, inr, ⊎_elim}
+use Rattle.std.proofs.Common.{◌≡◌, ℕ, zero, suc, ◌-◌, ◌<◌, ◌≤◌, List, [], ◌∷◌, ◌++◌, true, false, ◌&&◌, refl, sym, ap, ◌∙◌, subst, drop, take, length}
+use Rattle.std.proofs.Common.{get_or, arith, inl, inr, ⊎_elim}
 use Rattle.std.specs.Prelude.{nat_eq}
 use Rattle.std.specs.Cmp.{nat_cmp_is}
 use Rattle.std.specs.List.{All, AllByRecursion, starts_with}
@@ -28,14 +29,16 @@ mark_covers text rest to covers =
     (λ not. rw not (rw not at covers))
 
 pub cut_covers : (text : List ℕ) (ps : List Piece) → IsCut text ps → CoversFrom 0 ps (length text)
-cut_covers text ps cut = subst (λ l. CoversFrom 0 l (length text)) (sym cut.cut.1) (mark_covers text cut.cut.0 (length text) (CoversFrom-cut text (mark_len text) (length text) cut.cut.0 cut.cut.2))
+cut_covers text ps cut = subst (λ l. CoversFrom 0 l (length text)) (sym cut.cut.1)
+    (mark_covers text cut.cut.0 (length text) (CoversFrom-cut text (mark_len text) (length text) cut.cut.0 cut.cut.2))
 
 covers_on : (from to : ℕ) (ps : List Piece) → CoversFrom from ps to → from ≤ to
 covers_on from to [] covers = omega (arith, covers)
 covers_on from to (p ∷ ps) covers = omega (arith, covers.1, covers_on p.span.end to ps covers.2)
 
 -- each piece lies within
-pub covers_at : (from to : ℕ) (ps : List Piece) (i : ℕ) (d : Piece) → CoversFrom from ps to → i < length ps → ((get_or ps i d).span.start ≤ (get_or ps i d).span.end) × ((get_or ps i d).span.end ≤ to)
+pub covers_at : (from to : ℕ) (ps : List Piece) (i : ℕ) (d : Piece) → CoversFrom from ps to → i < length ps →
+    ((get_or ps i d).span.start ≤ (get_or ps i d).span.end) × ((get_or ps i d).span.end ≤ to)
 covers_at from to [] i d covers fits = absurd (omega (arith, fits))
 covers_at from to (p ∷ ps) zero d covers fits = (omega (arith, covers.0, covers.1), covers_on p.span.end to ps covers.2)
 covers_at from to (p ∷ ps) (suc i) d covers fits = covers_at p.span.end to ps i d covers.2 (omega (arith, fits))
@@ -58,7 +61,8 @@ follow_tokens text from to (p ∷ ps) covers =
     (λ ends. rw (token, ends) (start, order, (omega arith, omega arith, rest)))
     (λ goes. rw (token, goes) (start, order, rest)))
 
-pub follow_at : (from to : ℕ) (ts : List Piece) (i : ℕ) (d : Piece) → FollowFrom from ts to → i < length ts → ((get_or ts i d).span.start ≤ (get_or ts i d).span.end) × ((get_or ts i d).span.end ≤ to)
+pub follow_at : (from to : ℕ) (ts : List Piece) (i : ℕ) (d : Piece) → FollowFrom from ts to → i < length ts →
+    ((get_or ts i d).span.start ≤ (get_or ts i d).span.end) × ((get_or ts i d).span.end ≤ to)
 follow_at from to [] i d follow fits = absurd (omega (arith, fits))
 follow_at from to (t ∷ ts) zero d follow fits = (follow.1, follow_on t.span.end to ts follow.2)
   where
@@ -89,7 +93,8 @@ from_here text from to (p ∷ ps) covers =
     (λ goes. rw (token, goes) (start, rest)))
 
 -- where the line ends first, they begin later
-behind_line_end : (text : List ℕ) (from to : ℕ) (ps : List Piece) → CoversFrom from ps to → line_ends text ps ≡ true → AllByRecursion (λ x. nat_cmp from x ≡ Less) (starts (tokens_of text ps))
+behind_line_end : (text : List ℕ) (from to : ℕ) (ps : List Piece) → CoversFrom from ps to → line_ends text ps ≡ true →
+    AllByRecursion (λ x. nat_cmp from x ≡ Less) (starts (tokens_of text ps))
 unfolding tokens_of line_ends
 behind_line_end text from to [] covers ends = tt
 behind_line_end text from to (p ∷ ps) covers ends =
@@ -102,13 +107,17 @@ unfolding tokens_of IsStrictlySortedBy
 starts_rise text from to [] covers = tt
 starts_rise text from to (p ∷ ps) covers =
     let rest = starts_rise text p.span.end to ps covers.2 in
-    let later = strictly_above p.span.start p.span.end (starts (tokens_of text ps)) (omega (arith, covers.0, covers.1)) (from_here text p.span.end to ps covers.2) in
+    let later = strictly_above p.span.start p.span.end (starts (tokens_of text ps)) (omega (arith, covers.0, covers.1))
+    (from_here text p.span.end to ps covers.2) in
     by_test (is_trivia p.class)
     (λ trivia. rw trivia rest)
     (λ token. by_test (ends_statement p.class && line_ends text ps)
     (λ ends.
     let line = (and_parts (ends_statement p.class) (line_ends text ps) ends).1 in
-    rw (token, ends) ((sym (nat_cmp_is p.span.start p.span.end Less (omega (arith, covers.0, covers.1))), later), (behind_line_end text p.span.end to ps covers.2 line, rest)))
+    rw (token, ends) (
+      (sym (nat_cmp_is p.span.start p.span.end Less (omega (arith, covers.0, covers.1))), later),
+      (behind_line_end text p.span.end to ps covers.2 line, rest),
+    ))
     (λ goes. rw (token, goes) (later, rest)))
 
 pub tokens_in_order : (text : List ℕ) (ps : List Piece) → IsCut text ps → AreInOrder text (tokens_of text ps)
@@ -119,16 +128,21 @@ tokens_in_order text ps cut =
 -- what the bytes of the pieces are
 pieces_of : (text : List ℕ) (from to : ℕ) (ps : List Piece) → CutsTo text from ps to → AllByRecursion (λ p. IsPieceText p.class (bytes_of text p)) ps
 pieces_of text from to [] cut = tt
-pieces_of text from to (p ∷ ps) cut = (inl (subst (λ (k : ℕ). IsPiece p.class (take (p.span.end - k) (drop k text))) (sym cut.0) cut.2.piece), pieces_of text p.span.end to ps cut.3)
+pieces_of text from to (p ∷ ps) cut = (
+  inl (subst (λ (k : ℕ). IsPiece p.class (take (p.span.end - k) (drop k text))) (sym cut.0) cut.2.piece),
+  pieces_of text p.span.end to ps cut.3,
+)
 
-mark_pieces : (text : List ℕ) (rest : List Piece) → AllByRecursion (λ p. IsPieceText p.class (bytes_of text p)) rest → AllByRecursion (λ p. IsPieceText p.class (bytes_of text p)) (mark_of text ++ rest)
+mark_pieces : (text : List ℕ) (rest : List Piece) → AllByRecursion (λ p. IsPieceText p.class (bytes_of text p)) rest →
+    AllByRecursion (λ p. IsPieceText p.class (bytes_of text p)) (mark_of text ++ rest)
 mark_pieces text rest all =
     by_test (starts_with nat_eq text byte_order_mark)
     (λ is. rw is (inr (refl, sym (same_text _ _ (sym is))), all))
     (λ not. rw not all)
 
 pub cut_pieces : (text : List ℕ) (ps : List Piece) → IsCut text ps → AllByRecursion (λ p. IsPieceText p.class (bytes_of text p)) ps
-cut_pieces text ps cut = subst (AllByRecursion (λ p. IsPieceText p.class (bytes_of text p))) (sym cut.cut.1) (mark_pieces text cut.cut.0 (pieces_of text (mark_len text) (length text) cut.cut.0 cut.cut.2))
+cut_pieces text ps cut = subst (AllByRecursion (λ p. IsPieceText p.class (bytes_of text p))) (sym cut.cut.1)
+    (mark_pieces text cut.cut.0 (pieces_of text (mark_len text) (length text) cut.cut.0 cut.cut.2))
 
 -- what the bytes of the tokens are
 token_of_piece : (class : Class) (bytes : List ℕ) → is_trivia class ≡ false → IsPieceText class bytes → IsTokenText class bytes
@@ -137,7 +151,8 @@ token_of_piece class bytes token piece = ⊎_elim (λ p. inl p) (λ mark. absurd
 empty_token : (text : List ℕ) (at : ℕ) → bytes_of text (semicolon at) ≡ []
 empty_token text at = let none : at - at ≡ 0 = omega arith in rw none refl
 
-tokens_of_pieces : (text : List ℕ) (ps : List Piece) → AllByRecursion (λ p. IsPieceText p.class (bytes_of text p)) ps → AllByRecursion (λ t. IsTokenText t.class (bytes_of text t)) (tokens_of text ps)
+tokens_of_pieces : (text : List ℕ) (ps : List Piece) → AllByRecursion (λ p. IsPieceText p.class (bytes_of text p)) ps →
+    AllByRecursion (λ t. IsTokenText t.class (bytes_of text t)) (tokens_of text ps)
 unfolding tokens_of
 tokens_of_pieces text [] all = tt
 tokens_of_pieces text (p ∷ ps) all =
@@ -167,7 +182,8 @@ pub record IsToken (text : List ℕ) (t : Piece) : Type 0 where
   pub fits : t.span.end ≤ length text
   pub bytes : IsTokenText t.class (bytes_of text t)
 
-pub token_is : (text : List ℕ) (ps ts : List Piece) (i : ℕ) (t : Piece) → IsCut text ps → ts ≡ tokens_of text ps → t ≡ get_or ts i t → i < length ts → IsToken text t
+pub token_is : (text : List ℕ) (ps ts : List Piece) (i : ℕ) (t : Piece) → IsCut text ps → ts ≡ tokens_of text ps → t ≡ get_or ts i t → i < length ts →
+    IsToken text t
 token_is text ps ts i t cut ts_is t_is fits =
     let fits' : i < length (tokens_of text ps) = omega (arith, fits, ap length ts_is) in
     let at : t ≡ get_or (tokens_of text ps) i t = t_is ∙ ap (λ l. get_or l i t) ts_is in

@@ -1,5 +1,6 @@
 -- The values of string literals.
-use Rattle.std.proofs.Common.{◌≡◌, ℕ, ◌+◌, ◌*◌, ◌-◌, ◌<◌, ◌≤◌, ◌^◌, List, [], ◌∷◌, ◌++◌, true, false, ◌&&◌, eqb, refl, sym, ap, ◌∙◌, subst, drop, take, length, arith, inr, ⊎_elim, ltb-true, leb-true, append-nil, length-append, Result, Ok, Err, IfOk}
+use Rattle.std.proofs.Common.{◌≡◌, ℕ, ◌+◌, ◌*◌, ◌-◌, ◌<◌, ◌≤◌, ◌^◌, List, [], ◌∷◌, ◌++◌, true, false, ◌&&◌, eqb, refl, sym, ap, ◌∙◌, subst, drop, take}
+use Rattle.std.proofs.Common.{length, arith, inr, ⊎_elim, ltb-true, leb-true, append-nil, length-append, Result, Ok, Err, IfOk}
 use borrow.Author.Tests.{eqb-true}
 use Rattle.std.specs.Prelude.{nat_le, slice_index, flat_map}
 use Rattle.std.specs.List.{list_all, concat}
@@ -34,8 +35,10 @@ by_form b rest {P} is plain octal byte short long =
     (λ others. ⊎_elim
     (λ h. let both = and_parts (eqb b 120) (are_digits 2 16 rest) h in byte (eqb-true b 120 both.0) both.1)
     (λ others. ⊎_elim
-    (λ h. let both = and_parts (eqb b 117) (are_digits 4 16 rest && is_character (number_in 16 rest)) h in short (eqb-true b 117 both.0) (and_parts (are_digits 4 16 rest) (is_character (number_in 16 rest)) both.1).1)
-    (λ h. let both = and_parts (eqb b 85) (are_digits 8 16 rest && is_character (number_in 16 rest)) h in long (eqb-true b 85 both.0) (and_parts (are_digits 8 16 rest) (is_character (number_in 16 rest)) both.1).1)
+    (λ h. let both = and_parts (eqb b 117) (are_digits 4 16 rest && is_character (number_in 16 rest)) h in
+    short (eqb-true b 117 both.0) (and_parts (are_digits 4 16 rest) (is_character (number_in 16 rest)) both.1).1)
+    (λ h. let both = and_parts (eqb b 85) (are_digits 8 16 rest && is_character (number_in 16 rest)) h in
+    long (eqb-true b 85 both.0) (and_parts (are_digits 8 16 rest) (is_character (number_in 16 rest)) both.1).1)
     (or_cases _ _ others))
     (or_cases _ _ others))
     (or_cases _ _ others))
@@ -51,7 +54,8 @@ octal_small b rest is digit =
     (λ b_is _. absurd (false≢true (ap (λ x. is_digit x 8) (sym b_is) ∙ digit)))
 
 next_small : (n c : ℕ) → is_digit c 16 ≡ true → next_value 16 n c ≤ n * 16 + 15
-next_small n c digit = let value = ltb-true (digit_value c) 16 digit in by_test (eqb c 95) (λ under. rw under (omega arith)) (λ other. rw other (omega (arith, value)))
+next_small n c digit = let value = ltb-true (digit_value c) 16 digit in
+    by_test (eqb c 95) (λ under. rw under (omega arith)) (λ other. rw other (omega (arith, value)))
 
 two_small : (xs : List ℕ) → are_digits 2 16 xs ≡ true → number_in 16 xs < 256
 two_small [] is = absurd (false≢true is)
@@ -60,7 +64,10 @@ two_small (c ∷ d ∷ []) is =
     let first = and_parts (is_digit c 16) (is_digit d 16 && true) is in
     let second = and_parts (is_digit d 16) true first.1 in
     omega (arith, next_small 0 c first.0, next_small (next_value 16 0 c) d second.0)
-two_small (c ∷ d ∷ e ∷ xs) is = absurd (omega (arith, eqb-true (length (c ∷ d ∷ e ∷ xs)) 2 (and_parts (eqb (length (c ∷ d ∷ e ∷ xs)) 2) (list_all (λ b. is_digit b 16) (c ∷ d ∷ e ∷ xs)) is).0))
+two_small (c ∷ d ∷ e ∷ xs) is = absurd (omega (
+  arith,
+  eqb-true (length (c ∷ d ∷ e ∷ xs)) 2 (and_parts (eqb (length (c ∷ d ∷ e ∷ xs)) 2) (list_all (λ b. is_digit b 16) (c ∷ d ∷ e ∷ xs)) is).0,
+))
 
 pub byte_small : (b : ℕ) (rest : List ℕ) → is_escape (b ∷ rest) ≡ true → b ≡ 120 → number_in 16 rest < 256
 byte_small b rest is letter =
@@ -71,7 +78,8 @@ byte_small b rest is letter =
     (λ b_is _. absurd (omega (arith, letter, b_is)))
     (λ b_is _. absurd (omega (arith, letter, b_is)))
 
-pub escape_character : (b : ℕ) (rest : List ℕ) → is_escape (b ∷ rest) ≡ true → is_plain_escape b ≡ false → is_digit b 8 ≡ false → (b ≡ 120 → ⊥) → is_character (number_in 16 rest) ≡ true
+pub escape_character : (b : ℕ) (rest : List ℕ) → is_escape (b ∷ rest) ≡ true → is_plain_escape b ≡ false → is_digit b 8 ≡ false → (b ≡ 120 → ⊥) →
+    is_character (number_in 16 rest) ≡ true
 escape_character b rest is not_plain not_digit not_byte =
     by_form b rest is
     (λ plain. absurd (false≢true (sym not_plain ∙ plain)))
@@ -90,9 +98,11 @@ pub record ValueSoFar (text : List ℕ) (n : ℕ) (value : List ℕ) : Type 0 wh
 
 pub value_opens : (text : List ℕ) → IsString text → ValueSoFar text 1 []
 unfolding string_opens
-value_opens text string = subst (λ t. ValueSoFar t 1 []) (sym string.spelled) (record { so_far = string_opens (34 ∷ (concat string.parts ++ (34 ∷ []))) (omega arith) refl; value_is = refl })
+value_opens text string = subst (λ t. ValueSoFar t 1 []) (sym string.spelled)
+    (record { so_far = string_opens (34 ∷ (concat string.parts ++ (34 ∷ []))) (omega arith) refl; value_is = refl })
 
-pub value_grows : (text part value more : List ℕ) (n size : ℕ) → ValueSoFar text n value → part ≡ drop n text → size ≡ part_len part → 0 < size → size ≤ length part
+pub value_grows : (text part value more : List ℕ) (n size : ℕ) → ValueSoFar text n value → part ≡ drop n text → size ≡ part_len part → 0 < size →
+    size ≤ length part
     → more ≡ value ++ part_value (take size part) → ValueSoFar text (n + size) more
 unfolding string_grows
 value_grows text part value more n size before part_is size_is some fits more_is = record {
@@ -105,7 +115,8 @@ value_grows text part value more n size before part_is size_is some fits more_is
 }
 
 -- at the end these are the parts of the string
-pub value_ends : (text part value : List ℕ) (n : ℕ) → IsString text → ValueSoFar text n value → part ≡ drop n text → 0 ≡ part_len part → HasPartsValue text value
+pub value_ends : (text part value : List ℕ) (n : ℕ) → IsString text → ValueSoFar text n value → part ≡ drop n text → 0 ≡ part_len part →
+    HasPartsValue text value
 value_ends text part value n string before part_is none =
     let stops = stops_from (drop n text) (ap part_len (sym part_is) ∙ sym none) in
     let both : concat before.so_far.parts ++ drop n text ≡ concat string.parts ++ (34 ∷ []) = ap (drop 1) (sym before.so_far.spelled ∙ string.spelled) in
@@ -141,7 +152,8 @@ pub record IsLastForm (escape : List ℕ) (n : ℕ) : Type 0 where
   pub character : is_character n ≡ true
   pub value : encode_utf8 n ≡ escape_value escape
 
-pub last_form : (e : List ℕ) (n : ℕ) → 1 ≤ length e → is_escape e ≡ true → is_plain_escape (slice_index e 0) ≡ false → is_digit (slice_index e 0) 8 ≡ false → (slice_index e 0 ≡ 120 → ⊥)
+pub last_form : (e : List ℕ) (n : ℕ) → 1 ≤ length e → is_escape e ≡ true → is_plain_escape (slice_index e 0) ≡ false →
+    is_digit (slice_index e 0) 8 ≡ false → (slice_index e 0 ≡ 120 → ⊥)
     → n ≡ number_in 16 (take (length e - 1) (drop 1 e)) → IsLastForm e n
 last_form [] n some is plain digit byte n_is = absurd (omega (arith, some))
 last_form (b ∷ rest) n some is plain digit byte n_is =
@@ -154,11 +166,13 @@ last_form (b ∷ rest) n some is plain digit byte n_is =
 pub raw_from : (bytes v : List ℕ) → IsRawString bytes → v ≡ raw_value (take (length bytes - 1 - 1) (drop 1 bytes)) → HasStringValue bytes v
 raw_from bytes v s v_is =
     let size : length bytes - 1 - 1 ≡ length s.body = omega (arith, ap length s.spelled, length-append s.body (96 ∷ [])) in
-    let body : take (length bytes - 1 - 1) (drop 1 bytes) ≡ s.body = ap (λ l. take (length bytes - 1 - 1) (drop 1 l)) s.spelled ∙ take_at s.body (96 ∷ []) (length bytes - 1 - 1) (sym size) in
+    let body : take (length bytes - 1 - 1) (drop 1 bytes) ≡ s.body = ap (λ l. take (length bytes - 1 - 1) (drop 1 l)) s.spelled ∙
+    take_at s.body (96 ∷ []) (length bytes - 1 - 1) (sym size) in
     inr (s, v_is ∙ ap raw_value body)
 
 pub raw_literal : (bytes : List ℕ) → slice_index bytes 0 ≡ 96 → IsStringPiece bytes → IsRawString bytes
-raw_literal bytes first piece = ⊎_elim (λ (s : IsString bytes). let same : 34 ≡ 96 = sym (ap (λ t. slice_index t 0) s.spelled) ∙ first in absurd (omega (arith, same))) (λ raw. raw) piece
+raw_literal bytes first piece = ⊎_elim (λ (s : IsString bytes). let same : 34 ≡ 96 = sym (ap (λ t. slice_index t 0) s.spelled) ∙ first in
+    absurd (omega (arith, same))) (λ raw. raw) piece
 
 -- what holds of each value holds of the answer's
 pub if_ok : {T E : Type 0} (r : Result T E) (P Q : T → Type 0) → ((v : T) → P v → Q v) → IfOk r P → IfOk r Q

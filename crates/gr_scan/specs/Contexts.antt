@@ -4,7 +4,8 @@ use Rattle.std.specs.List.{starts_with}
 use Rattle.bstr.specs.Find.{OccursAt}
 use Rattle.bstr.specs.Utf8.{decoded}
 use Rattle.gr_scan.specs.declared.piece.Class.{Class}
-use Rattle.gr_scan.specs.declared.piece.Class.TheVariants.{ByteOrderMark, Blank, Newline, LineComment, GeneralComment, Name, Keyword, Integer, InterpretedString, RawString, Operator}
+use Rattle.gr_scan.specs.declared.piece.Class.TheVariants.{ByteOrderMark, Blank, Newline, LineComment, GeneralComment, Name, Keyword, Integer}
+use Rattle.gr_scan.specs.declared.piece.Class.TheVariants.{InterpretedString, RawString, Operator}
 use Rattle.gr_scan.specs.Characters.{continues_name}
 use Rattle.gr_scan.specs.Integers.{integer_value}
 use Rattle.gr_scan.specs.Operators.{operator_spelling}
@@ -17,7 +18,8 @@ EndsName rest = IfSome (decoded rest).char (λ c. continues_name c ≡ false)
 
 -- an operator and what follows begin no longer operator, no comment and no fraction
 pub record EndsOperator (o : Rattle.gr_scan.specs.declared.operators.Operator.Operator) (rest : List ℕ) : Type 0 where
-  pub longest : (other : Rattle.gr_scan.specs.declared.operators.Operator.Operator) → starts_with nat_eq (operator_spelling o ++ rest) (operator_spelling other) ≡ true → length (operator_spelling other) ≤ length (operator_spelling o)
+  pub longest : (other : Rattle.gr_scan.specs.declared.operators.Operator.Operator) →
+      starts_with nat_eq (operator_spelling o ++ rest) (operator_spelling other) ≡ true → length (operator_spelling other) ≤ length (operator_spelling o)
   pub no_line : OccursAt (operator_spelling o ++ rest) line_opening 0 → ⊥
   pub no_comment : OccursAt (operator_spelling o ++ rest) comment_opening 0 → ⊥
   pub whole : IsFraction (operator_spelling o ++ rest) → ⊥

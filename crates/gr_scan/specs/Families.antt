@@ -1,5 +1,6 @@
 -- What the first byte of a piece tells of its class.
-use Rattle.std.specs.Prelude.{◌≡◌, ◌⊎◌, ℕ, ◌<◌, Bool, false, ◌==◌, ◌||◌, ◌&&◌, nat_le, if◌then◌else◌, List, length, slice_index, Option, None, Some, Result, MatchResult}
+use Rattle.std.specs.Prelude.{◌≡◌, ◌⊎◌, ℕ, ◌<◌, Bool, false, ◌==◌, ◌||◌, ◌&&◌, nat_le, if◌then◌else◌, List, length, slice_index, Option, None, Some, Result}
+use Rattle.std.specs.Prelude.{MatchResult}
 use Rattle.bstr.specs.Find.{OccursAt}
 use Rattle.bstr.specs.Utf8.{decoded}
 use Rattle.gr_scan.specs.declared.piece.Class.{Class}
@@ -15,7 +16,8 @@ starts_word b = b == 95 || ((nat_le 97 b && nat_le b 122) || ((nat_le 65 b && na
 
 -- blanks 1, newlines 2, what a `/` begins 3, words 4, numbers 5, strings 6 and 7, other operators 8
 abbrev pub family_of : ℕ → ℕ
-family_of b = if is_blank b then 1 else (if b == 10 then 2 else (if b == 47 then 3 else (if starts_word b then 4 else (if is_digit b 10 then 5 else (if b == 34 then 6 else (if b == 96 then 7 else 8))))))
+family_of b = if is_blank b then 1 else (if b == 10 then 2 else
+    (if b == 47 then 3 else (if starts_word b then 4 else (if is_digit b 10 then 5 else (if b == 34 then 6 else (if b == 96 then 7 else 8))))))
 
 -- the text begins with a letter
 abbrev pub letter_at : Option ℕ → Bool

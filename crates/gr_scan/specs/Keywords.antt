@@ -1,7 +1,8 @@
 -- Keywords.
 use Rattle.std.specs.Prelude.{ℕ, Bool, List, [], ◌∷◌, filter, slice_index, ◌==◌, ◌&&◌, ◌||◌, nat_le}
 use Rattle.gr_scan.specs.declared.keywords.Keyword.{Keyword}
-use Rattle.gr_scan.specs.declared.keywords.Keyword.TheVariants.{Break, Case, Chan, Const, Continue, Default, Defer, Else, Fallthrough, For, Func, Go, Goto, If, Import, Interface, Map, Package, Range, Return, Select, Struct, Switch, «Type», Var}
+use Rattle.gr_scan.specs.declared.keywords.Keyword.TheVariants.{Break, Case, Chan, Const, Continue, Default, Defer, Else, Fallthrough, For, Func, Go, Goto}
+use Rattle.gr_scan.specs.declared.keywords.Keyword.TheVariants.{If, Import, Interface, Map, Package, Range, Return, Select, Struct, Switch, «Type», Var}
 
 abbrev pub keyword_spelling : Keyword → List ℕ
 keyword_spelling Break = 98 ∷ 114 ∷ 101 ∷ 97 ∷ 107 ∷ []  -- break
@@ -32,7 +33,8 @@ keyword_spelling Var = 118 ∷ 97 ∷ 114 ∷ []  -- var
 
 -- each of them, the longer ones first
 abbrev pub all_keywords : List Keyword
-all_keywords = Break ∷ Case ∷ Chan ∷ Const ∷ Continue ∷ Default ∷ Defer ∷ Else ∷ Fallthrough ∷ For ∷ Func ∷ Go ∷ Goto ∷ If ∷ Import ∷ Interface ∷ Map ∷ Package ∷ Range ∷ Return ∷ Select ∷ Struct ∷ Switch ∷ «Type» ∷ Var ∷ []
+all_keywords = Break ∷ Case ∷ Chan ∷ Const ∷ Continue ∷ Default ∷ Defer ∷ Else ∷ Fallthrough ∷ For ∷ Func ∷ Go ∷ Goto ∷ If ∷ Import ∷ Interface ∷ Map ∷
+    Package ∷ Range ∷ Return ∷ Select ∷ Struct ∷ Switch ∷ «Type» ∷ Var ∷ []
 
 -- those that begin with a byte
 abbrev pub keywords_with : ℕ → List Keyword → List Keyword

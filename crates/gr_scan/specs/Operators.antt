@@ -1,7 +1,12 @@
 -- Operators and punctuation.
 use Rattle.std.specs.Prelude.{ℕ, List, [], ◌∷◌, filter, slice_index, ◌==◌}
 use Rattle.gr_scan.specs.declared.operators.Operator.{Operator}
-use Rattle.gr_scan.specs.declared.operators.Operator.TheVariants.{ShiftLeftAssign, ShiftRightAssign, Ellipsis, AndNotAssign, AddAssign, AndAssign, LogicalAnd, Equal, NotEqual, SubtractAssign, OrAssign, LogicalOr, LessEqual, MultiplyAssign, XorAssign, Arrow, GreaterEqual, ShiftLeft, DivideAssign, Increment, Define, ShiftRight, RemainderAssign, Decrement, AndNot, Add, And, LeftParen, RightParen, Subtract, Or, Less, LeftBracket, RightBracket, Multiply, Xor, Greater, LeftBrace, RightBrace, Divide, Assign, Comma, Semicolon, Remainder, Not, Period, Colon, Tilde}
+use Rattle.gr_scan.specs.declared.operators.Operator.TheVariants.{ShiftLeftAssign, ShiftRightAssign, Ellipsis, AndNotAssign, AddAssign, AndAssign}
+use Rattle.gr_scan.specs.declared.operators.Operator.TheVariants.{LogicalAnd, Equal, NotEqual, SubtractAssign, OrAssign, LogicalOr, LessEqual}
+use Rattle.gr_scan.specs.declared.operators.Operator.TheVariants.{MultiplyAssign, XorAssign, Arrow, GreaterEqual, ShiftLeft, DivideAssign, Increment}
+use Rattle.gr_scan.specs.declared.operators.Operator.TheVariants.{Define, ShiftRight, RemainderAssign, Decrement, AndNot, Add, And, LeftParen, RightParen}
+use Rattle.gr_scan.specs.declared.operators.Operator.TheVariants.{Subtract, Or, Less, LeftBracket, RightBracket, Multiply, Xor, Greater, LeftBrace}
+use Rattle.gr_scan.specs.declared.operators.Operator.TheVariants.{RightBrace, Divide, Assign, Comma, Semicolon, Remainder, Not, Period, Colon, Tilde}
 
 abbrev pub operator_spelling : Operator → List ℕ
 operator_spelling ShiftLeftAssign = 60 ∷ 60 ∷ 61 ∷ []  -- <<=
@@ -55,7 +60,10 @@ operator_spelling Tilde = 126 ∷ []  -- ~
 
 -- each of them, the longer ones first
 abbrev pub all_operators : List Operator
-all_operators = ShiftLeftAssign ∷ ShiftRightAssign ∷ Ellipsis ∷ AndNotAssign ∷ AddAssign ∷ AndAssign ∷ LogicalAnd ∷ Equal ∷ NotEqual ∷ SubtractAssign ∷ OrAssign ∷ LogicalOr ∷ LessEqual ∷ MultiplyAssign ∷ XorAssign ∷ Arrow ∷ GreaterEqual ∷ ShiftLeft ∷ DivideAssign ∷ Increment ∷ Define ∷ ShiftRight ∷ RemainderAssign ∷ Decrement ∷ AndNot ∷ Add ∷ And ∷ LeftParen ∷ RightParen ∷ Subtract ∷ Or ∷ Less ∷ LeftBracket ∷ RightBracket ∷ Multiply ∷ Xor ∷ Greater ∷ LeftBrace ∷ RightBrace ∷ Divide ∷ Assign ∷ Comma ∷ Semicolon ∷ Remainder ∷ Not ∷ Period ∷ Colon ∷ Tilde ∷ []
+all_operators = ShiftLeftAssign ∷ ShiftRightAssign ∷ Ellipsis ∷ AndNotAssign ∷ AddAssign ∷ AndAssign ∷ LogicalAnd ∷ Equal ∷ NotEqual ∷ SubtractAssign ∷
+    OrAssign ∷ LogicalOr ∷ LessEqual ∷ MultiplyAssign ∷ XorAssign ∷ Arrow ∷ GreaterEqual ∷ ShiftLeft ∷ DivideAssign ∷ Increment ∷ Define ∷ ShiftRight ∷
+    RemainderAssign ∷ Decrement ∷ AndNot ∷ Add ∷ And ∷ LeftParen ∷ RightParen ∷ Subtract ∷ Or ∷ Less ∷ LeftBracket ∷ RightBracket ∷ Multiply ∷ Xor ∷ Greater
+    ∷ LeftBrace ∷ RightBrace ∷ Divide ∷ Assign ∷ Comma ∷ Semicolon ∷ Remainder ∷ Not ∷ Period ∷ Colon ∷ Tilde ∷ []
 
 -- those that begin with a byte
 abbrev pub operators_with : ℕ → List Operator → List Operator

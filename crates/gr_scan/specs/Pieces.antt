@@ -1,9 +1,11 @@
 -- What a text is cut into.
-use Rattle.std.specs.Prelude.{◌≡◌, ◌≢◌, ◌⊎◌, ℕ, ◌^◌, ◌<◌, ◌≤◌, Bool, true, false, ◌==◌, ◌||◌, List, [], ◌∷◌, Option, Some, None, length, take, drop, slice_index}
+use Rattle.std.specs.Prelude.{◌≡◌, ◌≢◌, ◌⊎◌, ℕ, ◌^◌, ◌<◌, ◌≤◌, Bool, true, false, ◌==◌, ◌||◌, List, [], ◌∷◌, Option, Some, None, length, take, drop}
+use Rattle.std.specs.Prelude.{slice_index}
 use Rattle.std.specs.Char.{is_digit}
 use Rattle.bstr.specs.Utf8.{decoded}
 use Rattle.gr_scan.specs.declared.piece.Class.{Class}
-use Rattle.gr_scan.specs.declared.piece.Class.TheVariants.{ByteOrderMark, Blank, Newline, LineComment, GeneralComment, Name, Keyword, Integer, InterpretedString, RawString, Operator}
+use Rattle.gr_scan.specs.declared.piece.Class.TheVariants.{ByteOrderMark, Blank, Newline, LineComment, GeneralComment, Name, Keyword, Integer}
+use Rattle.gr_scan.specs.declared.piece.Class.TheVariants.{InterpretedString, RawString, Operator}
 use Rattle.gr_text.specs.declared.fault_kind.FaultKind.{FaultKind}
 use Rattle.gr_text.specs.declared.fault_kind.FaultKind.TheVariants.{Encoding, Number, String, Comment, Character}
 use Rattle.gr_scan.specs.Characters.{continues_name}

@@ -6,7 +6,8 @@ use Rattle.gr_scan.specs.Strings.{is_plain_escape, IsString, IsRawString}
 
 -- a b f n r t v stand for control characters, and a backslash and a quote for themselves
 abbrev pub plain_escape_value : ℕ → ℕ
-plain_escape_value b = if b == 97 then 7 else (if b == 98 then 8 else (if b == 102 then 12 else (if b == 110 then 10 else (if b == 114 then 13 else (if b == 116 then 9 else (if b == 118 then 11 else b))))))
+plain_escape_value b = if b == 97 then 7 else (if b == 98 then 8 else
+    (if b == 102 then 12 else (if b == 110 then 10 else (if b == 114 then 13 else (if b == 116 then 9 else (if b == 118 then 11 else b))))))
 
 -- what stands behind a backslash: octal digits and x give a byte, u and U the UTF-8 of a character
 abbrev pub escape_value : List ℕ → List ℕ

@@ -4,7 +4,8 @@ use Rattle.std.specs.List.{list_any}
 use Rattle.gr_scan.specs.declared.keywords.Keyword.TheVariants.{Break, Continue, Fallthrough, Return}
 use Rattle.gr_scan.specs.declared.operators.Operator.TheVariants.{Semicolon, Increment, Decrement, RightParen, RightBracket, RightBrace}
 use Rattle.gr_scan.specs.declared.piece.Class.{Class}
-use Rattle.gr_scan.specs.declared.piece.Class.TheVariants.{ByteOrderMark, Blank, Newline, LineComment, GeneralComment, Name, Keyword, Integer, InterpretedString, RawString, Operator}
+use Rattle.gr_scan.specs.declared.piece.Class.TheVariants.{ByteOrderMark, Blank, Newline, LineComment, GeneralComment, Name, Keyword, Integer}
+use Rattle.gr_scan.specs.declared.piece.Class.TheVariants.{InterpretedString, RawString, Operator}
 use Rattle.gr_scan.specs.declared.piece.Piece.{Piece}
 
 abbrev pub is_trivia : Class → Bool

@@ -18,7 +18,8 @@ use Rattle.gr_scope.proofs.Uniqueness.{same_or_not}
 -- the best of the candidates that are not left
 abbrev pub BestSoFar : Layout → Names → List ℕ → (Region → Type 0) → ℕ → Option ℕ → Option ℕ → Type 0
 BestSoFar l names name R u at None = (d : ℕ) → IsCandidate l names name R u d → IsLeft at d
-BestSoFar l names name R u at (Some b) = (IsLeft at b → ⊥) × IsCandidate l names name R u b × ((d : ℕ) → IsCandidate l names name R u d → IsLeft at d ⊎ ((d ≡ b) ⊎ Precedes l b d))
+BestSoFar l names name R u at (Some b) = (IsLeft at b → ⊥) × IsCandidate l names name R u b ×
+    ((d : ℕ) → IsCandidate l names name R u d → IsLeft at d ⊎ ((d ≡ b) ⊎ Precedes l b d))
 
 pub may_in_range : (xs : List Identifier) (d : ℕ) → MayDeclare (layout_of xs) d → d < length xs
 may_in_range [] d m = cc
@@ -37,7 +38,8 @@ not_left_later : (d b : ℕ) (next : Option ℕ) → ForSome next (λ e. e < d) 
 not_left_later d b None h later k = k
 not_left_later d b (Some e) h later k = let less : e < d = h e refl in later (omega (arith, less, k))
 
-best_takes : (l : Layout) → Nested l → (names : Names) (name : List ℕ) (R : Region → Type 0) (u d : ℕ) (next best : Option ℕ) → ForSome next (λ e. e < d) → Behind l names name R u d next →
+best_takes : (l : Layout) → Nested l → (names : Names) (name : List ℕ) (R : Region → Type 0) (u d : ℕ) (next best : Option ℕ) → ForSome next (λ e. e < d) →
+    Behind l names name R u d next →
     BestSoFar l names name R u (Some d) best → IsCandidate l names name R u d → TakesOver l best d → BestSoFar l names name R u next (Some d)
 best_takes l nested names name R u d next None lower behind h c t = (
   not_left d next lower,
@@ -66,7 +68,8 @@ best_takes l nested names name R u d next (Some b) lower behind h c t =
       ],
     )
 
-best_stays : (l : Layout) → Nested l → (names : Names) (name : List ℕ) (R : Region → Type 0) (u d : ℕ) (next best : Option ℕ) → ForSome next (λ e. e < d) → Behind l names name R u d next →
+best_stays : (l : Layout) → Nested l → (names : Names) (name : List ℕ) (R : Region → Type 0) (u d : ℕ) (next best : Option ℕ) → ForSome next (λ e. e < d) →
+    Behind l names name R u d next →
     BestSoFar l names name R u (Some d) best → (IsCandidate l names name R u d → TakesOver l best d → ⊥) → BestSoFar l names name R u next best
 best_stays l nested names name R u d next None lower behind h never = λ e ce. elim (same_or_not e d) [
   | inl same ↦ (let P : ℕ → Type 0 = λ v. IsCandidate l names name R u v in absurd (never (subst P same ce) tt))
@@ -102,8 +105,10 @@ best_start xs name region u n last previous sized h = λ d c.
     chain_left (Leads (layout_of xs) (names_of xs)) (keys_of (layout_of xs) (names_of xs)) n (pair name region) last previous h d
     (c.2, pair_same (names_of xs d) name (region_at (layout_of xs) d) region c.0 c.3) (let within : d < n = omega arith in within)
 
-pub best_next : (l : Layout) → Nested l → (names : Names) (name : List ℕ) (region : Region) (u d n : ℕ) (previous : List (Option ℕ)) (at next x best then : Option ℕ) →
-    IsLinked (Leads l names) (keys_of l names) n previous → at ≡ Some d → next ≡ get_or previous d x → IsKnown (Leads l names) (keys_of l names) (pair name region) n at →
+pub best_next : (l : Layout) → Nested l → (names : Names) (name : List ℕ) (region : Region) (u d n : ℕ) (previous : List (Option ℕ))
+    (at next x best then : Option ℕ) →
+    IsLinked (Leads l names) (keys_of l names) n previous → at ≡ Some d → next ≡ get_or previous d x →
+    IsKnown (Leads l names) (keys_of l names) (pair name region) n at →
     BestSoFar l names name (λ r. r ≡ region) u at best →
     ((InScope l d u × TakesOver l best d) × (then ≡ Some d)) ⊎ ((InScope l d u × TakesOver l best d → ⊥) × (then ≡ best)) →
     BestSoFar l names name (λ r. r ≡ region) u next then
@@ -126,7 +131,8 @@ best_next l nested names name region u d n previous at next x best then linked i
     ]
 
 -- the best so far is one of the identifiers
-pub best_known : (xs : List Identifier) (name : List ℕ) (R : Region → Type 0) (u : ℕ) (at best : Option ℕ) → BestSoFar (layout_of xs) (names_of xs) name R u at best →
+pub best_known : (xs : List Identifier) (name : List ℕ) (R : Region → Type 0) (u : ℕ) (at best : Option ℕ) →
+    BestSoFar (layout_of xs) (names_of xs) name R u at best →
     ForSome best (λ b. b < length xs)
 best_known xs name R u at None h = λ x e. cc
 best_known xs name R u at (Some b) h = λ x e.

@@ -13,7 +13,8 @@ in_file_block Package s f other inside = absurd inside
 in_file_block (File g) s f other inside = ap File inside
 in_file_block (Inner g a b) s f other inside = absurd (other g a b refl)
 
-pub import_bound : (l : Layout) (names : Names) (u i f : ℕ) → Counts l names i → block_of (l.role i) ≡ File f → names i ≡ names u → (l.place u).file ≡ f → IsUse l names u →
+pub import_bound : (l : Layout) (names : Names) (u i f : ℕ) → Counts l names i → block_of (l.role i) ≡ File f → names i ≡ names u → (l.place u).file ≡ f →
+    IsUse l names u →
     ((e g a b : ℕ) → Counts l names e → names e ≡ names u → InScope l e u → block_of (l.role e) ≡ Inner g a b → ⊥) → IsBoundTo l names u i
 import_bound l names u i f c file named at used other =
     let S : Block → Type 0 = λ B. Holds (scope_in B (start_of (l.role i))) (l.place u) in
@@ -23,7 +24,8 @@ import_bound l names u i f c file named at used other =
       in_scope = subst S (sym file) at;
       innermost = λ e d same holds inside.
           let I : Block → Type 0 = λ B. IsInside (scope_of (l.role e)) (scope_in B (start_of (l.role i))) in
-          let block : block_of (l.role e) ≡ File f = in_file_block (block_of (l.role e)) (start_of (l.role e)) f (λ g a b. other e g a b d same holds) (subst I file inside) in
+          let block : block_of (l.role e) ≡ File f = in_file_block (block_of (l.role e)) (start_of (l.role e)) f (λ g a b. other e g a b d same holds)
+          (subst I file inside) in
           elim (cases_order e i) [
             | inl one ↦ one
             | inr o ↦ elim o [

@@ -21,7 +21,8 @@ module _ {K : Type 0} where
   abbrev pub IsKnown : (ℕ → Type 0) → (ℕ → K) → K → ℕ → Option ℕ → Type 0
   IsKnown D keys key n at = ForSome at (λ d. (d < n) × IsKeyed D keys key d)
 
-  last_left : (D : ℕ → Type 0) (keys : ℕ → K) (key : K) (n : ℕ) (at : Option ℕ) → IsLastBelow D keys key n at → (e : ℕ) → IsKeyed D keys key e → e < n → IsLeft at e
+  last_left : (D : ℕ → Type 0) (keys : ℕ → K) (key : K) (n : ℕ) (at : Option ℕ) → IsLastBelow D keys key n at → (e : ℕ) → IsKeyed D keys key e → e < n →
+      IsLeft at e
   last_left D keys key n None h e ne lt = h e lt ne
   last_left D keys key n (Some d) h e ne lt = elim (cases_order e d) [
     | inl same ↦ omega arith
@@ -39,7 +40,8 @@ module _ {K : Type 0} where
       (e : ℕ) → IsKeyed D keys key e → e < n → IsLeft last e
   chain_left D keys n key last previous h = last_left D keys key n last h.is_last
 
-  pub chain_known : (D : ℕ → Type 0) (keys : ℕ → K) (n : ℕ) (key : K) (last : Option ℕ) (previous : List (Option ℕ)) → IsChain D keys key n last previous → IsKnown D keys key n last
+  pub chain_known : (D : ℕ → Type 0) (keys : ℕ → K) (n : ℕ) (key : K) (last : Option ℕ) (previous : List (Option ℕ)) → IsChain D keys key n last previous →
+      IsKnown D keys key n last
   chain_known D keys n key last previous h = last_known D keys key n last h.is_last
 
   -- the next of d in a chain

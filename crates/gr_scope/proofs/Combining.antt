@@ -19,7 +19,8 @@ use Rattle.gr_scope.proofs.Nests.{nests}
 use Rattle.gr_scope.proofs.Uniqueness.{same_or_not}
 
 -- what is nearest is one of the identifiers
-pub nearest_known : (xs : List Identifier) (name : List ℕ) (R : Region → Type 0) (u : ℕ) (best : Option ℕ) → IsNearest (layout_of xs) (IsCandidate (layout_of xs) (names_of xs) name R u) best →
+pub nearest_known : (xs : List Identifier) (name : List ℕ) (R : Region → Type 0) (u : ℕ) (best : Option ℕ) →
+    IsNearest (layout_of xs) (IsCandidate (layout_of xs) (names_of xs) name R u) best →
     ForSome best (λ b. b < length xs)
 nearest_known xs name R u None h = λ x e. cc
 nearest_known xs name R u (Some b) h = λ x e.
@@ -31,21 +32,24 @@ module _ (l : Layout) (nested : Nested l) (names : Names) (name : List ℕ) (u :
   abbrev Both : Region → Type 0
   Both r = R r ⊎ S r
 
-  only_first : (b : Option ℕ) → IsNearest l (IsCandidate l names name R u) b → IsNearest l (IsCandidate l names name S u) None → IsNearest l (IsCandidate l names name Both u) b
+  only_first : (b : Option ℕ) → IsNearest l (IsCandidate l names name R u) b → IsNearest l (IsCandidate l names name S u) None →
+      IsNearest l (IsCandidate l names name Both u) b
   only_first None h k = λ d c. elim c.3 [ inl r ↦ h d (c.0, c.1, c.2, r) | inr s ↦ k d (c.0, c.1, c.2, s) ]
   only_first (Some b) h k = (
     (h.0.0, h.0.1, h.0.2, inl h.0.3),
     λ d c. elim c.3 [ inl r ↦ h.1 d (c.0, c.1, c.2, r) | inr s ↦ absurd (k d (c.0, c.1, c.2, s)) ],
   )
 
-  only_second : (d : ℕ) → IsNearest l (IsCandidate l names name R u) None → IsNearest l (IsCandidate l names name S u) (Some d) → IsNearest l (IsCandidate l names name Both u) (Some d)
+  only_second : (d : ℕ) → IsNearest l (IsCandidate l names name R u) None → IsNearest l (IsCandidate l names name S u) (Some d) →
+      IsNearest l (IsCandidate l names name Both u) (Some d)
   only_second d h k = (
     (k.0.0, k.0.1, k.0.2, inr k.0.3),
     λ e c. elim c.3 [ inl r ↦ absurd (h e (c.0, c.1, c.2, r)) | inr s ↦ k.1 e (c.0, c.1, c.2, s) ],
   )
 
   -- the second one does not lie round the first: it is the nearest of all
-  second_takes : (b d : ℕ) → IsNearest l (IsCandidate l names name R u) (Some b) → IsNearest l (IsCandidate l names name S u) (Some d) → TakesOver l (Some b) d →
+  second_takes : (b d : ℕ) → IsNearest l (IsCandidate l names name R u) (Some b) → IsNearest l (IsCandidate l names name S u) (Some d) →
+      TakesOver l (Some b) d →
       IsNearest l (IsCandidate l names name Both u) (Some d)
   second_takes b d h k t =
       let over : (b ≡ d) ⊎ Precedes l d b = elim (nested.comparable d b u k.0.2.declares.may h.0.2.declares.may k.0.1 h.0.1) [
@@ -66,7 +70,8 @@ module _ (l : Layout) (nested : Nested l) (names : Names) (name : List ℕ) (u :
       )
 
   -- the second one lies round the first, which is the nearest of all
-  first_stays : (b d : ℕ) → IsNearest l (IsCandidate l names name R u) (Some b) → IsNearest l (IsCandidate l names name S u) (Some d) → (TakesOver l (Some b) d → ⊥) →
+  first_stays : (b d : ℕ) → IsNearest l (IsCandidate l names name R u) (Some b) → IsNearest l (IsCandidate l names name S u) (Some d) →
+      (TakesOver l (Some b) d → ⊥) →
       IsNearest l (IsCandidate l names name Both u) (Some b)
   first_stays b d h k never =
       let over : Precedes l b d = elim (nested.comparable b d u h.0.2.declares.may k.0.2.declares.may h.0.1 k.0.1) [
@@ -86,7 +91,8 @@ module _ (l : Layout) (nested : Nested l) (names : Names) (name : List ℕ) (u :
         ],
       )
 
-  pub nearest_of_both : (first second result : Option ℕ) → IsNearest l (IsCandidate l names name R u) first → IsNearest l (IsCandidate l names name S u) second → IsNearer l first second result →
+  pub nearest_of_both : (first second result : Option ℕ) → IsNearest l (IsCandidate l names name R u) first →
+      IsNearest l (IsCandidate l names name S u) second → IsNearer l first second result →
       IsNearest l (IsCandidate l names name (λ r. R r ⊎ S r) u) result
   nearest_of_both first None result h k e =
       let P : Option ℕ → Type 0 = λ b. IsNearest l (IsCandidate l names name Both u) b in subst P (sym e) (only_first first h k)
@@ -110,7 +116,8 @@ abbrev pub Seen : Layout → ℕ → Region → Type 0
 Seen l u r = Surrounds (l.place u).file 6 ((l.place u).index / 16) r ⊎ (r ≡ regions.Package)
 
 -- of two declarations whose scopes hold a place, the first precedes the second, unless the second one's block lies in the first one's
-pub precedes_by : (l : Layout) → Nested l → (b e u : ℕ) → MayDeclare l b → MayDeclare l e → InScope l b u → InScope l e u → (SameBlock l b e → e < b → ⊥) → (NestsAt l e b → ⊥) →
+pub precedes_by : (l : Layout) → Nested l → (b e u : ℕ) → MayDeclare l b → MayDeclare l e → InScope l b u → InScope l e u → (SameBlock l b e → e < b → ⊥) →
+    (NestsAt l e b → ⊥) →
     (e ≡ b) ⊎ Precedes l b e
 precedes_by l nested b e u mb me hb he first inner = elim (nested.comparable b e u mb me hb he) [
   | inl s ↦ elim (cases_order b e) [
@@ -121,7 +128,8 @@ precedes_by l nested b e u mb me hb he first inner = elim (nested.comparable b e
 ]
 
 -- a name is bound to the nearest declaration
-pub nearest_binds : (l : Layout) → WellFormed l → (names : Names) (name : List ℕ) (u : ℕ) (result : Option ℕ) → IsNearest l (IsCandidate l names name (Seen l u) u) result →
+pub nearest_binds : (l : Layout) → WellFormed l → (names : Names) (name : List ℕ) (u : ℕ) (result : Option ℕ) →
+    IsNearest l (IsCandidate l names name (Seen l u) u) result →
     MatchOption result ((d : ℕ) → BindsAt l names name u d → ⊥) (λ d. BindsAt l names name u d)
 nearest_binds l w names name u None h = λ d b. h d (b.named, b.in_scope, (counts_only l names d b.counts).0, kept l w d u b.counts.declares.may b.in_scope)
 nearest_binds l w names name u (Some b) h =
@@ -135,7 +143,8 @@ nearest_binds l w names name u (Some b) h =
           (λ n. leader_none l names e de (λ f lf nf sf le.
           let hf : InScope l f u = elim (same_or_not f e) [
             | inl same ↦ (let P : ℕ → Type 0 = λ v. InScope l v u in subst P (sym same) he)
-            | inr other ↦ nested.shrinking f e u lf.declares.may de.may sf (elim (cases_order f e) [ inl same ↦ absurd (other same) | inr o ↦ elim o [ inl less ↦ less | inr more ↦ absurd (omega arith) ] ]) he
+            | inr other ↦ nested.shrinking f e u lf.declares.may de.may sf
+                (elim (cases_order f e) [ inl same ↦ absurd (other same) | inr o ↦ elim o [ inl less ↦ less | inr more ↦ absurd (omega arith) ] ]) he
           ] in
           elim (h.1 f (nf ∙ ne, hf, lf, kept l w f u lf.declares.may hf)) [
             | inl same ↦ (let P : ℕ → Type 0 = λ v. SameBlock l v e in same_not_nests_back l b e (subst P same sf) n)

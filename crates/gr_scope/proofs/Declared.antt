@@ -1,5 +1,6 @@
 -- The identifiers of the files that the program goes over, and the layout that they have.
-use Rattle.std.proofs.Common.{ℕ, ◌≡◌, ◌+◌, ◌<◌, ◌≤◌, List, [], ◌∷◌, ◌++◌, length, take, get_or, map, ap, sym, ◌∙◌, refl, subst, append_assoc, append-nil, arith, zero, suc}
+use Rattle.std.proofs.Common.{ℕ, ◌≡◌, ◌+◌, ◌<◌, ◌≤◌, List, [], ◌∷◌, ◌++◌, length, take, get_or, map, ap, sym, ◌∙◌, refl, subst, append_assoc, append-nil}
+use Rattle.std.proofs.Common.{arith, zero, suc}
 use Rattle.std.specs.Prelude.{slice_get}
 use Rattle.std.proofs.Math.Path.{fun_ext}
 use Rattle.std.proofs.Math.Seq.{take-length}
@@ -35,11 +36,13 @@ files_take r i [] d lt = absurd (omega arith)
 files_take r zero (x ∷ xs) d lt = ap (λ k. file_part k x) (let e : r + 0 ≡ r = omega arith in e) ∙ sym (append-nil (file_part r x))
 files_take r (suc i) (x ∷ xs) d lt =
     append_assoc (file_part r x) (files_sites (suc r) (map spelled_file (take i xs))) (file_part (r + suc i) (get_or xs i d)) ∙
-    ap (λ z. file_part r x ++ z) (ap (λ k. files_sites (suc r) (map spelled_file (take i xs)) ++ file_part k (get_or xs i d)) (let e : r + suc i ≡ suc r + i = omega arith in e) ∙
+    ap (λ z. file_part r x ++ z) (ap (λ k. files_sites (suc r) (map spelled_file (take i xs)) ++ file_part k (get_or xs i d))
+    (let e : r + suc i ≡ suc r + i = omega arith in e) ∙
     files_take (suc r) i xs d (omega arith))
 
 pub files_next : (files : List FileParts) (rank : ℕ) (x : FileParts) (file : File) → rank < length files → x ≡ get_or files rank x → file ≡ x.file →
-    files_sites 0 (map spelled_file (take rank files)) ++ file_sites (record { rank = rank; spell = spelling_of (source_of x) }) (file_view file) ≡ files_sites 0 (map spelled_file (take (rank + 1) files))
+    files_sites 0 (map spelled_file (take rank files)) ++ file_sites (record { rank = rank; spell = spelling_of (source_of x) }) (file_view file) ≡
+    files_sites 0 (map spelled_file (take (rank + 1) files))
 files_next files rank x file lt ex ef =
     ap (λ z. files_sites 0 (map spelled_file (take rank files)) ++ file_sites (record { rank = rank; spell = spelling_of (source_of x) }) (file_view z)) ef ∙
     ap (λ z. files_sites 0 (map spelled_file (take rank files)) ++ file_part rank z) ex ∙
@@ -84,14 +87,16 @@ unfolding files_sites
 no_files = refl
 
 pub package_made : (none found : List Identifier) (files : List FileParts) (rank : ℕ) → none ≡ [] → rank ≡ length files →
-    Adds none found (map universe_site universe ++ files_sites 0 (map spelled_file (take rank files))) → map site_of found ≡ package_sites (map spelled_file files)
+    Adds none found (map universe_site universe ++ files_sites 0 (map spelled_file (take rank files))) →
+    map site_of found ≡ package_sites (map spelled_file files)
 unfolding package_sites
 package_made none found files rank en er h =
     h.added ∙ ap (λ z. map site_of z ++ (map universe_site universe ++ files_sites 0 (map spelled_file (take rank files)))) en ∙
     ap (λ k. map universe_site universe ++ files_sites 0 (map spelled_file (take k files))) er ∙
     ap (λ z. map universe_site universe ++ files_sites 0 (map spelled_file z)) (take-length files)
 
-pub package_numbered : (files : List FileParts) (rank : ℕ) → rank ≡ length files → AreNumbered (map spelled_file (take rank files)) → AreNumbered (map spelled_file files)
+pub package_numbered : (files : List FileParts) (rank : ℕ) → rank ≡ length files → AreNumbered (map spelled_file (take rank files)) →
+    AreNumbered (map spelled_file files)
 package_numbered files rank e w =
     let P : List FileParts → Type 0 = λ fs. AreNumbered (map spelled_file fs) in
     subst P (ap (λ k. take k files) e ∙ take-length files) w
@@ -115,7 +120,8 @@ layout-sites xs =
     ap (λ r. layout_made r (λ i. place_at (slice_get xs i))) (fun_ext (same_role xs)) ∙
     ap (layout_made (λ i. (found_site (slice_get (map site_of xs) i)).role)) (fun_ext (same_place xs))
 
-pub declared_well_formed : (xs : List Identifier) (files : List SpelledFile) → map site_of xs ≡ package_sites files → AreNumbered files → WellFormed (layout_of xs)
+pub declared_well_formed : (xs : List Identifier) (files : List SpelledFile) → map site_of xs ≡ package_sites files → AreNumbered files →
+    WellFormed (layout_of xs)
 declared_well_formed xs files e w =
     let P : Layout → Type 0 = λ l. WellFormed l in
     subst P (sym (layout-sites xs ∙ ap sites_layout e)) (package_well_formed files w)

@@ -7,10 +7,13 @@ use Rattle.gr_scope.specs.declared.model.Role.TheVariants.{Use, Declaring, LeftN
 use Rattle.gr_scope.specs.declared.model.Purpose.TheVariants as purpose
 use Rattle.gr_scope.specs.Site.{Site, Source}
 use Rattle.gr_scope.specs.ExpressionSites.{type_sites, expr_sites, literal_sites, element_sites, link_sites, argument_sites}
-use Rattle.gr_scope.specs.StatementSites.{simple_sites, local_sites, separated_sites, group_sites, init_sites, for_sites, statement_sites, block_sites, statements_sites, if_sites, else_sites}
+use Rattle.gr_scope.specs.StatementSites.{simple_sites, local_sites, separated_sites, group_sites, init_sites, for_sites, statement_sites, block_sites}
+use Rattle.gr_scope.specs.StatementSites.{statements_sites, if_sites, else_sites}
 use Rattle.gr_scope.specs.FileSites.{func_sites, param_sites, result_sites, receiver_sites, import_sites, imports_sites}
 use Rattle.gr_tree.specs.declared.syntax.StepOp.TheVariants as step
-use Rattle.gr_tree.specs.Tree.{Item, single, several, Named, Local, Imported, Number, Name, Blank, Composite, Chain, no_link, selector, call, no_argument, literal, no_element, element, Alone, Step, Define, Assign, clauses, Empty, Var, Simple, If, For, block, no_statement, statement, if_tree, else_block, no_result}
+use Rattle.gr_tree.specs.Tree.{Item, single, several, Named, Local, Imported, Number, Name, Blank, Composite, Chain, no_link, selector, call, no_argument}
+use Rattle.gr_tree.specs.Tree.{literal, no_element, element, Alone, Step, Define, Assign, clauses, Empty, Var, Simple, If, For, block, no_statement}
+use Rattle.gr_tree.specs.Tree.{statement, if_tree, else_block, no_result}
 
 -- the number and the role of an identifier
 abbrev mark : Site → ℕ × Role
@@ -27,13 +30,15 @@ abbrev only : {X : Type 0} → X → List (Item X)
 only x = record { value = x; separator = None } ∷ []
 
 -- `{ x := x; x }`, from token 0 on: the new x begins behind the statement
-pub define_example : marks (block_sites source (block 0 (statement (Simple (Define (only (Name 1)) 2 (only (Name 3)))) (Some 4) (statement (Simple (Alone (Name 5))) None no_statement)) 6)) ≡
+pub define_example : marks (block_sites source (block 0
+    (statement (Simple (Define (only (Name 1)) 2 (only (Name 3)))) (Some 4) (statement (Simple (Alone (Name 5))) None no_statement)) 6)) ≡
     (1, LeftName (blocks.Inner 0 0 6) 4) ∷ (3, Use) ∷ (5, Use) ∷ []
 unfolding block_sites statements_sites statement_sites simple_sites expr_sites
 define_example = refl
 
 -- `{ _, x := f() }`: a `_` declares nothing, and the scope of the last statement's x is empty
-pub blank_example : marks (block_sites source (block 0 (statement (Simple (Define (record { value = Blank 1; separator = Some 2 } ∷ record { value = Name 3; separator = None } ∷ []) 4
+pub blank_example : marks (block_sites source (block 0
+    (statement (Simple (Define (record { value = Blank 1; separator = Some 2 } ∷ record { value = Name 3; separator = None } ∷ []) 4
     (only (Chain (Name 5) (call 6 no_argument 7 no_link))))) None no_statement) 8)) ≡
     (1, NotLexical purpose.Blank) ∷ (3, LeftName (blocks.Inner 0 0 8) 8) ∷ (5, Use) ∷ []
 unfolding block_sites statements_sites statement_sites simple_sites expr_sites link_sites argument_sites
@@ -42,21 +47,26 @@ blank_example = refl
 -- `{ var ( a int ; b = a ) ; }`: each of a group begins at the token behind it
 pub var_example : marks (block_sites source (block 0 (statement (Var 1 (several 2
     (record { value = record { names = only (Named 3); type_use = Some (Local 4); values = None }; separator = Some 5 } ∷
-    record { value = record { names = only (Named 6); type_use = None; values = Some (7, only (Name 8)) }; separator = None } ∷ []) 9)) (Some 10) (statement Empty None no_statement)) 11)) ≡
+    record { value = record { names = only (Named 6); type_use = None; values = Some (7, only (Name 8)) }; separator = None } ∷ []) 9)) (Some 10)
+    (statement Empty None no_statement)) 11)) ≡
     (3, Declaring (blocks.Inner 0 0 11) 5) ∷ (4, Use) ∷ (6, Declaring (blocks.Inner 0 0 11) 9) ∷ (8, Use) ∷ []
 unfolding block_sites statements_sites statement_sites group_sites separated_sites local_sites expr_sites type_sites
 var_example = refl
 
 -- `{ if x := 1; x { } else { x } }`: header and branches share the block of the `if`
-pub if_example : marks (block_sites source (block 0 (statement (If (if_tree 1 (Some (record { simple = Some (Define (only (Name 2)) 3 (only (Number 4))); semicolon = 5 })) (Name 6)
-    (block 7 (statement Empty None no_statement) 8) (else_block 9 (block 10 (statement (Simple (Alone (Name 11))) None no_statement) 12)))) None no_statement) 13)) ≡
+pub if_example : marks (block_sites source (block 0
+    (statement (If (if_tree 1 (Some (record { simple = Some (Define (only (Name 2)) 3 (only (Number 4))); semicolon = 5 })) (Name 6)
+    (block 7 (statement Empty None no_statement) 8) (else_block 9 (block 10 (statement (Simple (Alone (Name 11))) None no_statement) 12)))) None
+    no_statement) 13)) ≡
     (2, LeftName (blocks.Inner 0 1 13) 5) ∷ (6, Use) ∷ (11, Use) ∷ []
 unfolding block_sites statements_sites statement_sites if_sites else_sites init_sites simple_sites expr_sites
 if_example = refl
 
 -- `{ for i := 0; i; i++ { var i int } }`: the body is a block within that of the `for`
-pub for_example : marks (block_sites source (block 0 (statement (For 1 (clauses (Some (Define (only (Name 2)) 3 (only (Number 4)))) 5 (Some (Name 6)) 7 (Some (Step (Name 8) step.Increment 9)))
-    (block 10 (statement (Var 11 (single (record { names = only (Named 12); type_use = Some (Local 13); values = None }))) None no_statement) 14)) None no_statement) 15)) ≡
+pub for_example : marks (block_sites source (block 0
+    (statement (For 1 (clauses (Some (Define (only (Name 2)) 3 (only (Number 4)))) 5 (Some (Name 6)) 7 (Some (Step (Name 8) step.Increment 9)))
+    (block 10 (statement (Var 11 (single (record { names = only (Named 12); type_use = Some (Local 13); values = None }))) None no_statement) 14)) None
+    no_statement) 15)) ≡
     (2, LeftName (blocks.Inner 0 1 15) 5) ∷ (6, Use) ∷ (8, Use) ∷ (12, Declaring (blocks.Inner 0 10 14) 14) ∷ (13, Use) ∷ []
 unfolding block_sites statements_sites statement_sites for_sites group_sites local_sites simple_sites expr_sites type_sites
 for_example = refl
@@ -64,7 +74,8 @@ for_example = refl
 -- `_ = p.T { k : v } . f`: a key and what stands behind a dot are no lexical uses
 pub literal_example : marks (simple_sites source (blocks.Inner 0 0 20) 13 (Assign (only (Blank 1)) 2 (only (Chain (Composite (literal (Imported 3 4 5) 6
     (element (Some (7, 8)) (Name 9) None no_element) 10)) (selector 11 12 no_link))))) ≡
-    (1, NotLexical purpose.Blank) ∷ (3, Use) ∷ (5, NotLexical purpose.Selected) ∷ (7, NotLexical purpose.Key) ∷ (9, Use) ∷ (12, NotLexical purpose.Selected) ∷ []
+    (1, NotLexical purpose.Blank) ∷ (3, Use) ∷ (5, NotLexical purpose.Selected) ∷ (7, NotLexical purpose.Key) ∷ (9, Use) ∷ (12, NotLexical purpose.Selected)
+    ∷ []
 unfolding simple_sites expr_sites literal_sites element_sites link_sites type_sites
 literal_example = refl
 

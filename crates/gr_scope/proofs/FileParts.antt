@@ -9,10 +9,12 @@ use Rattle.gr_scope.specs.declared.model.Purpose.TheVariants as purpose
 use Rattle.gr_scope.specs.Site.{Site, Source, site}
 use Rattle.gr_scope.specs.ExpressionSites.{sites_if, list_sites, type_sites}
 use Rattle.gr_scope.specs.StatementSites.{separated_sites, group_sites, open_of, close_of, block_sites}
-use Rattle.gr_scope.specs.FileSites.{global_name, member_name, spec_sites, global_sites, field_sites, body_sites, type_spec_sites, receiver_sites, param_sites, result_sites, func_role, func_sites, import_sites, imports_sites, decl_sites, file_sites}
+use Rattle.gr_scope.specs.FileSites.{global_name, member_name, spec_sites, global_sites, field_sites, body_sites, type_spec_sites, receiver_sites}
+use Rattle.gr_scope.specs.FileSites.{param_sites, result_sites, func_role, func_sites, import_sites, imports_sites, decl_sites, file_sites}
 use Rattle.gr_scope.proofs.StatementParts.{flat_map-map, open_from}
 use Rattle.gr_tree.specs.View.{option_view, item_view, list_view, group_view, type_view}
-use Rattle.gr_tree.specs.FileView.{global_view, field_view, body_view, type_spec_view, receiver_view, param_view, results_view, func_view, block_view, import_view, imports_view, decl_view, file_view}
+use Rattle.gr_tree.specs.FileView.{global_view, field_view, body_view, type_spec_view, receiver_view, param_view, results_view, func_view, block_view}
+use Rattle.gr_tree.specs.FileView.{import_view, imports_view, decl_view, file_view}
 use Rattle.gr_tree.specs.declared.tree.Group.{Group}
 use Rattle.gr_tree.specs.declared.tree.Group.TheVariants as group
 use Rattle.gr_tree.specs.declared.tree.TypeBody.{TypeBody}
@@ -63,32 +65,39 @@ imports_part s x = imports_sites s (imports_view x)
 abbrev pub decl_part : Source → Decl → List Site
 decl_part s x = decl_sites s (decl_view x)
 
-pub spec_from : {X Y : Type 0} (f : Y → List Site) (v : X → Y) (g : Group X) (o : ℕ) (items : _) (c : ℕ) (xs : List (Item X)) → g ≡ group.Several o items c → xs ≡ items.items →
+pub spec_from : {X Y : Type 0} (f : Y → List Site) (v : X → Y) (g : Group X) (o : ℕ) (items : _) (c : ℕ) (xs : List (Item X)) →
+    g ≡ group.Several o items c → xs ≡ items.items →
     flat_map (λ x. f (v x.value)) xs ≡ spec_sites f (group_view v g)
 unfolding group_sites group_view separated_sites
-spec_from f v g o items c xs eg ex = ap (flat_map (λ x. f (v x.value))) ex ∙ flat_map-map (λ x. f x.value) (item_view v) items.items ∙ ap (λ z. spec_sites f (group_view v z)) (sym eg)
+spec_from f v g o items c xs eg ex = ap (flat_map (λ x. f (v x.value))) ex ∙ flat_map-map (λ x. f x.value) (item_view v) items.items ∙
+    ap (λ z. spec_sites f (group_view v z)) (sym eg)
 
 pub struct_from : (s : Source) (b : TypeBody) (p o : ℕ) (fields : _) (c : ℕ) (xs : List (Item Field)) → b ≡ body.Struct p o fields c → xs ≡ fields.items →
     flat_map (field_part s) xs ≡ body_sites s (body_view b)
 unfolding body_sites body_view
-struct_from s b p o fields c xs eb ex = ap (flat_map (field_part s)) ex ∙ flat_map-map (λ x. field_sites s x.value) (item_view field_view) fields.items ∙ ap (λ z. body_sites s (body_view z)) (sym eb)
+struct_from s b p o fields c xs eb ex = ap (flat_map (field_part s)) ex ∙ flat_map-map (λ x. field_sites s x.value) (item_view field_view) fields.items ∙
+    ap (λ z. body_sites s (body_view z)) (sym eb)
 
 pub results_from : (s : Source) (r : Results) (o : ℕ) (types : _) (c : ℕ) (xs : List (Item TypeExpr)) → r ≡ results.Several o types c → xs ≡ types.items →
     flat_map (type_part s) xs ≡ result_sites s (results_view r)
 unfolding result_sites results_view
-results_from s r o types c xs er ex = ap (flat_map (type_part s)) ex ∙ flat_map-map (λ x. type_sites s x.value) (item_view type_view) types.items ∙ ap (λ z. result_sites s (results_view z)) (sym er)
+results_from s r o types c xs er ex = ap (flat_map (type_part s)) ex ∙ flat_map-map (λ x. type_sites s x.value) (item_view type_view) types.items ∙
+    ap (λ z. result_sites s (results_view z)) (sym er)
 
 func_parts : Source → FuncDecl → ℕ → ℕ → Role → List (Item Param) → List Site
 func_parts s f o c role ps =
     sites_if (receiver_sites s (Inner s.rank o c) o) (option_view receiver_view f.receiver) ++ (site s f.name role ∷
-    (list_sites (param_sites s (Inner s.rank o c) o) (list_view param_view ps) ++ (result_sites s (results_view f.results) ++ block_sites s (block_view f.body))))
+    (list_sites (param_sites s (Inner s.rank o c) o) (list_view param_view ps) ++
+    (result_sites s (results_view f.results) ++ block_sites s (block_view f.body))))
 
 close_from : (x : trees.Block) → (out-Block x).close ≡ close_of (block_view x)
 unfolding block_view
 close_from (Block' o shape row c) = ap (λ r. r.close) (outs-Block' o shape row c)
 
-pub func_read : (s : Source) (f : FuncDecl) (role : Role) (ps : List (Item Param)) → role ≡ func_role (option_view receiver_view f.receiver) (s.spell f.name) → ps ≡ f.params.items →
-    sites_if (receiver_sites s (Inner s.rank (out-Block f.body).«open» (out-Block f.body).close) (out-Block f.body).«open») (option_view receiver_view f.receiver) ++ (site s f.name role ∷
+pub func_read : (s : Source) (f : FuncDecl) (role : Role) (ps : List (Item Param)) →
+    role ≡ func_role (option_view receiver_view f.receiver) (s.spell f.name) → ps ≡ f.params.items →
+    sites_if (receiver_sites s (Inner s.rank (out-Block f.body).«open» (out-Block f.body).close) (out-Block f.body).«open»)
+    (option_view receiver_view f.receiver) ++ (site s f.name role ∷
     (list_sites (param_sites s (Inner s.rank (out-Block f.body).«open» (out-Block f.body).close) (out-Block f.body).«open») (list_view param_view ps) ++
     (result_sites s (results_view f.results) ++ block_sites s (block_view f.body)))) ≡ func_sites s (func_view f)
 unfolding func_sites func_view func_parts
@@ -96,7 +105,8 @@ func_read s f role ps er ep =
     ap (λ r. func_parts s f (out-Block f.body).«open» (out-Block f.body).close r ps) er ∙
     ap (func_parts s f (out-Block f.body).«open» (out-Block f.body).close (func_role (option_view receiver_view f.receiver) (s.spell f.name))) ep ∙
     ap (λ o. func_parts s f o (out-Block f.body).close (func_role (option_view receiver_view f.receiver) (s.spell f.name)) f.params.items) (open_from f.body) ∙
-    ap (λ c. func_parts s f (open_of (block_view f.body)) c (func_role (option_view receiver_view f.receiver) (s.spell f.name)) f.params.items) (close_from f.body)
+    ap (λ c. func_parts s f (open_of (block_view f.body)) c (func_role (option_view receiver_view f.receiver) (s.spell f.name)) f.params.items)
+    (close_from f.body)
 
 pub file_read : (s : Source) (f : File) (is : List ImportDecl) (ds : List Decl) → is ≡ f.imports.items → ds ≡ f.decls.items →
     site s f.name (NotLexical purpose.PackageClause) ∷ (flat_map (imports_part s) is ++ flat_map (decl_part s) ds) ≡ file_sites s (file_view f)
@@ -104,5 +114,7 @@ unfolding file_sites file_view
 file_read s f is ds ei ed =
     ap (λ z. site s f.name (NotLexical purpose.PackageClause) ∷ (flat_map (imports_part s) z ++ flat_map (decl_part s) ds)) ei ∙
     ap (λ z. site s f.name (NotLexical purpose.PackageClause) ∷ (flat_map (imports_part s) f.imports.items ++ flat_map (decl_part s) z)) ed ∙
-    ap (λ z. site s f.name (NotLexical purpose.PackageClause) ∷ (z ++ flat_map (decl_part s) f.decls.items)) (flat_map-map (imports_sites s) imports_view f.imports.items) ∙
-    ap (λ z. site s f.name (NotLexical purpose.PackageClause) ∷ (flat_map (imports_sites s) (map imports_view f.imports.items) ++ z)) (flat_map-map (decl_sites s) decl_view f.decls.items)
+    ap (λ z. site s f.name (NotLexical purpose.PackageClause) ∷ (z ++ flat_map (decl_part s) f.decls.items))
+    (flat_map-map (imports_sites s) imports_view f.imports.items) ∙
+    ap (λ z. site s f.name (NotLexical purpose.PackageClause) ∷ (flat_map (imports_sites s) (map imports_view f.imports.items) ++ z))
+    (flat_map-map (decl_sites s) decl_view f.decls.items)

@@ -11,15 +11,21 @@ use Rattle.gr_scope.specs.Bindings.{may_declare}
 use Rattle.gr_scope.specs.Site.{Site, Source, site}
 use Rattle.gr_scope.specs.ExpressionSites.{sites_if, list_sites, type_sites}
 use Rattle.gr_scope.specs.StatementSites.{ident_sites, separated_sites, group_sites, open_of, close_of, block_sites}
-use Rattle.gr_scope.specs.FileSites.{global_name, member_name, spec_sites, global_sites, field_sites, body_sites, type_spec_sites, receiver_sites, param_sites, result_sites, func_role, func_sites, import_name, import_purpose, import_sites, imports_sites, decl_sites, file_sites}
-use Rattle.gr_scope.proofs.Regions.{Each, each_append, Segment, segment_join, segment_widen, segment_outward, Plain, segment_plain_before, Flat, Level, segment_level, level_plain, Together, segment_head, together_plain}
+use Rattle.gr_scope.specs.FileSites.{global_name, member_name, spec_sites, global_sites, field_sites, body_sites, type_spec_sites, receiver_sites}
+use Rattle.gr_scope.specs.FileSites.{param_sites, result_sites, func_role, func_sites, import_name, import_purpose, import_sites, imports_sites, decl_sites}
+use Rattle.gr_scope.specs.FileSites.{file_sites}
+use Rattle.gr_scope.proofs.Regions.{Each, each_append, Segment, segment_join, segment_widen, segment_outward, Plain, segment_plain_before, Flat, Level}
+use Rattle.gr_scope.proofs.Regions.{segment_level, level_plain, Together, segment_head, together_plain}
 use Rattle.gr_scope.proofs.PlainSites.{plain_append, plain_list, plain_type}
 use Rattle.gr_scope.proofs.StatementRegions.{idents_together, ident_together, statements_fits}
 use Rattle.gr_scope.proofs.Rising.{Rises, rises_le, rises_up, rises_down, rises_split}
 use Rattle.gr_tree.specs.declared.syntax.Kind.TheVariants as kind
-use Rattle.gr_tree.specs.Flatten.{sign, tokens_if, all_tokens, list_tokens, group_tokens, param_tokens, receiver_tokens, result_tokens, block_tokens, statements_tokens, global_tokens, type_spec_tokens, func_tokens, imports_tokens, decl_tokens, flatten}
+use Rattle.gr_tree.specs.Flatten.{sign, tokens_if, all_tokens, list_tokens, group_tokens, param_tokens, receiver_tokens, result_tokens, block_tokens}
+use Rattle.gr_tree.specs.Flatten.{statements_tokens, global_tokens, type_spec_tokens, func_tokens, imports_tokens, decl_tokens, flatten}
 use Rattle.gr_tree.specs.WellFormed.{IsFunc, IsDecl, IsFile, IsBlock}
-use Rattle.gr_tree.specs.Tree.{Item, Group, single, several, GlobalTree, FieldTree, BodyTree, Other, Struct, TypeSpecTree, ReceiverTree, ParamTree, ResultTree, no_result, one_result, results, FuncTree, ImportTree, ImportsTree, DeclTree, VarDecl, TypeDecl, FuncDecl, FileTree, BlockTree, block}
+use Rattle.gr_tree.specs.Tree.{Item, Group, single, several, GlobalTree, FieldTree, BodyTree, Other, Struct, TypeSpecTree, ReceiverTree, ParamTree}
+use Rattle.gr_tree.specs.Tree.{ResultTree, no_result, one_result, results, FuncTree, ImportTree, ImportsTree, DeclTree, VarDecl, TypeDecl, FuncDecl}
+use Rattle.gr_tree.specs.Tree.{FileTree, BlockTree, block}
 
 level_append : (xs ys : List Site) → Level xs → Level ys → Level (xs ++ ys)
 level_append xs ys a b = each_append (λ x. may_declare x.role ≡ true → Flat x) xs ys a b
@@ -47,11 +53,13 @@ plain_member s n = (refl, tt)
 
 level_global : (s : Source) (g : GlobalTree) → Level (global_sites s g)
 unfolding global_sites
-level_global s g = level_append (list_sites (global_name s) g.names) (type_sites s g.type_use) (level_list (global_name s) (level_name s) g.names) (level_plain (type_sites s g.type_use) (plain_type s g.type_use))
+level_global s g = level_append (list_sites (global_name s) g.names) (type_sites s g.type_use) (level_list (global_name s) (level_name s) g.names)
+    (level_plain (type_sites s g.type_use) (plain_type s g.type_use))
 
 plain_field : (s : Source) (f : FieldTree) → Plain (field_sites s f)
 unfolding field_sites
-plain_field s f = plain_append (list_sites (member_name s) f.names) (type_sites s f.type_use) (plain_list (member_name s) (plain_member s) f.names) (plain_type s f.type_use)
+plain_field s f = plain_append (list_sites (member_name s) f.names) (type_sites s f.type_use) (plain_list (member_name s) (plain_member s) f.names)
+    (plain_type s f.type_use)
 
 plain_body : (s : Source) (b : BodyTree) → Plain (body_sites s b)
 unfolding body_sites
@@ -103,7 +111,8 @@ head_receiver : (s : Source) (o c : ℕ) (r : Option ReceiverTree) → Head s o 
 unfolding receiver_sites
 head_receiver s o c None = tt
 head_receiver s o c (Some r) =
-    head_append s o c (ident_sites s (Declaring (Inner s.rank o c) o) r.name) (site s r.type_name Use ∷ []) (ident_together s o c o o r.name) ((λ m. absurd_may m), tt)
+    head_append s o c (ident_sites s (Declaring (Inner s.rank o c) o) r.name) (site s r.type_name Use ∷ []) (ident_together s o c o o r.name)
+    ((λ m. absurd_may m), tt)
 
 head_param : (s : Source) (o c : ℕ) (p : ParamTree) → Head s o c (param_sites s (Inner s.rank o c) o p)
 unfolding param_sites
@@ -114,7 +123,8 @@ head_param s o c p =
 head_params : (s : Source) (o c : ℕ) (ps : List (Item ParamTree)) → Head s o c (list_sites (param_sites s (Inner s.rank o c) o) ps)
 head_params s o c [] = tt
 head_params s o c (p ∷ ps) =
-    head_append s o c (param_sites s (Inner s.rank o c) o p.value) (list_sites (param_sites s (Inner s.rank o c) o) ps) (head_param s o c p.value) (head_params s o c ps)
+    head_append s o c (param_sites s (Inner s.rank o c) o p.value) (list_sites (param_sites s (Inner s.rank o c) o) ps) (head_param s o c p.value)
+    (head_params s o c ps)
 
 init_name : (s : Source) (o c i : ℕ) (b : Bool) → Together s.rank o c o o (site s i (if b then NotLexical purpose.InitFunction else Declaring Package 0))
 init_name s o c i true = λ m. absurd_may m
@@ -125,7 +135,8 @@ func_name s o c i (Some r) name = λ m. absurd_may m
 func_name s o c i None name = init_name s o c i (bytes_eq name (codes "init"))
 
 body_fits : (s : Source) (k m : ℕ) (x : BlockTree) → IsBlock x → Rises k (block_tokens x) m →
-    (k ≤ open_of x) × (open_of x < close_of x) × (suc (close_of x) ≤ m) × Segment s.rank (open_of x) (close_of x) (suc (open_of x)) (close_of x) (block_sites s x)
+    (k ≤ open_of x) × (open_of x < close_of x) × (suc (close_of x) ≤ m) ×
+    Segment s.rank (open_of x) (close_of x) (suc (open_of x)) (close_of x) (block_sites s x)
 unfolding block_tokens block_sites IsBlock
 body_fits s k m (block o ss c) w h =
     let r = rises_split (suc o) (statements_tokens ss) (sign kind.RightBrace c ∷ []) m h.1 in
@@ -134,9 +145,11 @@ body_fits s k m (block o ss c) w h =
     (h.0, omega arith, r.1.1.1, statements_fits s o c (suc o) c ss w.1 (omega arith) (omega arith) (rises_up (suc o) (statements_tokens ss) r.0 c rc r.1.0))
 
 -- what stands before the body, and the body
-func_body : (s : Source) (o c : ℕ) (receiver : Option ReceiverTree) (name : ℕ) (role : Role) (params : List (Item ParamTree)) (result : ResultTree) (body : List Site) →
+func_body : (s : Source) (o c : ℕ) (receiver : Option ReceiverTree) (name : ℕ) (role : Role) (params : List (Item ParamTree)) (result : ResultTree)
+    (body : List Site) →
     Together s.rank o c o o (site s name role) → o < c → Segment s.rank o c (suc o) c body →
-    Segment s.rank o c o c (sites_if (receiver_sites s (Inner s.rank o c) o) receiver ++ (site s name role ∷ (list_sites (param_sites s (Inner s.rank o c) o) params ++ (result_sites s result ++ body))))
+    Segment s.rank o c o c (sites_if (receiver_sites s (Inner s.rank o c) o) receiver ++
+    (site s name role ∷ (list_sites (param_sites s (Inner s.rank o c) o) params ++ (result_sites s result ++ body))))
 func_body s o c receiver name role params result body named oc y =
     let rs = sites_if (receiver_sites s (Inner s.rank o c) o) receiver in
     let ps = list_sites (param_sites s (Inner s.rank o c) o) params in
@@ -144,7 +157,8 @@ func_body s o c receiver name role params result body named oc y =
     segment_head s.rank o c rs (site s name role ∷ (ps ++ all)) (omega arith) (head_receiver s o c receiver)
     (segment_head s.rank o c (site s name role ∷ []) (ps ++ all) (omega arith) (named, tt)
     (segment_head s.rank o c ps all (omega arith) (head_params s o c params)
-    (segment_plain_before s.rank o c o c (result_sites s result) body (plain_result s result) (segment_widen s.rank o c (suc o) c o c body (omega arith) (omega arith) y))))
+    (segment_plain_before s.rank o c o c (result_sites s result) body (plain_result s result)
+    (segment_widen s.rank o c (suc o) c o c body (omega arith) (omega arith) y))))
 
 -- a function's block lies behind its name
 func_fits : (s : Source) (b n m : ℕ) (f : FuncTree) → IsFunc f → m ≤ b → Rises n (func_tokens f) m →
@@ -153,12 +167,14 @@ unfolding func_tokens func_sites
 func_fits s b n m f w mb h =
     let o = open_of f.body in
     let c = close_of f.body in
-    let params = sign kind.LeftParen f.lparen ∷ (list_tokens kind.Comma param_tokens f.params ++ (sign kind.RightParen f.rparen ∷ (result_tokens f.result ++ block_tokens f.body))) in
+    let params = sign kind.LeftParen f.lparen ∷ (list_tokens kind.Comma param_tokens f.params ++
+    (sign kind.RightParen f.rparen ∷ (result_tokens f.result ++ block_tokens f.body))) in
     let r = rises_split n (tokens_if receiver_tokens f.receiver) (sign kind.Name f.name ∷ params) m h in
     let nr : n ≤ r.0 = rises_le n (tokens_if receiver_tokens f.receiver) r.0 r.1.0 in
     let rn : r.0 ≤ f.name = r.1.1.0 in
     let nl : suc f.name ≤ f.lparen = r.1.1.1.0 in
-    let u = rises_split (suc f.lparen) (list_tokens kind.Comma param_tokens f.params) (sign kind.RightParen f.rparen ∷ (result_tokens f.result ++ block_tokens f.body)) m r.1.1.1.1 in
+    let u = rises_split (suc f.lparen) (list_tokens kind.Comma param_tokens f.params)
+    (sign kind.RightParen f.rparen ∷ (result_tokens f.result ++ block_tokens f.body)) m r.1.1.1.1 in
     let lu : suc f.lparen ≤ u.0 = rises_le (suc f.lparen) (list_tokens kind.Comma param_tokens f.params) u.0 u.1.0 in
     let ur : u.0 ≤ f.rparen = u.1.1.0 in
     let v = rises_split (suc f.rparen) (result_tokens f.result) (block_tokens f.body) m u.1.1.1 in
@@ -172,7 +188,8 @@ func_fits s b n m f w mb h =
         omega arith,
         cm,
         segment_outward s.rank o c o c 0 b n c (func_sites s f) oc (omega arith) (omega arith) (omega arith) (omega arith) (omega arith)
-            (func_body s o c f.receiver f.name (func_role f.receiver (s.spell f.name)) f.params f.result (block_sites s f.body) (func_name s o c f.name f.receiver (s.spell f.name)) oc y.3),
+            (func_body s o c f.receiver f.name (func_role f.receiver (s.spell f.name)) f.params f.result (block_sites s f.body)
+            (func_name s o c f.name f.receiver (s.spell f.name)) oc y.3),
       ),
     )
 

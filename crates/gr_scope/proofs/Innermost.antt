@@ -3,7 +3,8 @@ use Rattle.std.proofs.Common.{ℕ, ◌≡◌, ◌⊎◌, inl, inr, List, sym, �
 use Rattle.std.proofs.lemmas.Bool.{cases_order}
 use Rattle.gr_scope.specs.declared.model.Block.{Block}
 use Rattle.gr_scope.specs.declared.model.Block.TheVariants.{Package, File}
-use Rattle.gr_scope.specs.Bindings.{Layout, Names, MayDeclare, SameBlock, InScope, Declares, IsPackageLevel, IsImport, Displaces, Counts, AllCount, BindsAt, block_of}
+use Rattle.gr_scope.specs.Bindings.{Layout, Names, MayDeclare, SameBlock, InScope, Declares, IsPackageLevel, IsImport, Displaces, Counts, AllCount, BindsAt}
+use Rattle.gr_scope.specs.Bindings.{block_of}
 use Rattle.gr_scope.proofs.Nesting.{NestsAt, nests_not, Nested}
 use Rattle.gr_scope.specs.Scopes.{Nests}
 use Rattle.gr_scope.specs.Table.{Precedes}
@@ -51,7 +52,8 @@ module _ (l : Layout) (nested : Nested l) where
   displaces_precedes a b (inl h) = inl h
   displaces_precedes a b (inr h) = inr (package_nests_import l a b h.0 h.1)
 
-  pub precedes_trans : (a b c u : ℕ) → MayDeclare l a → MayDeclare l b → MayDeclare l c → InScope l a u → InScope l b u → InScope l c u → Precedes l a b → Precedes l b c → Precedes l a c
+  pub precedes_trans : (a b c u : ℕ) → MayDeclare l a → MayDeclare l b → MayDeclare l c → InScope l a u → InScope l b u → InScope l c u → Precedes l a b →
+      Precedes l b c → Precedes l a c
   precedes_trans a b c u ma mb mc ha hb hc (inl x) (inl y) = inl (x.0 ∙ y.0, omega arith)
   precedes_trans a b c u ma mb mc ha hb hc (inl x) (inr y) = inr (nests_along_left l a b c x.0 y)
   precedes_trans a b c u ma mb mc ha hb hc (inr x) (inl y) = inr (nests_along_right l a b c y.0 x)

@@ -40,7 +40,8 @@ module _ {A : Type 0} (P : ℕ → A → Type 0) where
 pub sized_next : {A : Type 0} (xs new : List A) (y : A) (n : ℕ) → length xs ≡ n → new ≡ xs ++ (y ∷ []) → length new ≡ n + 1
 sized_next xs new y n s e = ap length e ∙ length-append xs (y ∷ []) ∙ (omega arith)
 
-pub marks_next : (P : ℕ → Type 0) (n : ℕ) (marks new : List Bool) (mark : Bool) → AreMarks P n marks → new ≡ marks ++ (mark ∷ []) → IsTrue mark ↔ P n → AreMarks P (n + 1) new
+pub marks_next : (P : ℕ → Type 0) (n : ℕ) (marks new : List Bool) (mark : Bool) → AreMarks P n marks → new ≡ marks ++ (mark ∷ []) → IsTrue mark ↔ P n →
+    AreMarks P (n + 1) new
 marks_next P n marks new mark h e m = record {
   sized = sized_next marks new mark n h.sized e;
   exact = each_next (λ k x. IsTrue x ↔ P k) marks new mark n h.sized e m h.exact;
@@ -51,7 +52,8 @@ marks_none P marks e = record { sized = ap length e; exact = λ d x lt. absurd (
 
 -- the links and marks of one more identifier
 pub first_next : {S : Type 0} (xs : List Identifier) (n : ℕ) (after : IndexMap Key ℕ S) (new : List (Option ℕ)) (declaring marked : List Bool) (mark : Bool) →
-    AreLinks (layout_of xs) (names_of xs) after new → length new ≡ n + 1 → AreMarks (Declares (layout_of xs) (names_of xs)) n declaring → marked ≡ declaring ++ (mark ∷ []) →
+    AreLinks (layout_of xs) (names_of xs) after new → length new ≡ n + 1 → AreMarks (Declares (layout_of xs) (names_of xs)) n declaring →
+    marked ≡ declaring ++ (mark ∷ []) →
     IsTrue mark ↔ Declares (layout_of xs) (names_of xs) n → AreFirst xs (n + 1) after new marked
 first_next xs n after new declaring marked mark links sized marks e m = record {
   links = links;
@@ -62,7 +64,8 @@ first_next xs n after new declaring marked mark links sized marks e m = record {
 pub bindings_none : (l : Layout) (names : Names) (bindings : List (Option ℕ)) → bindings ≡ [] → AreBindings l names 0 bindings
 bindings_none l names bindings e = record { sized = ap length e; each = λ u x lt. absurd (omega arith) }
 
-pub bindings_next : (l : Layout) (names : Names) (n : ℕ) (bindings new : List (Option ℕ)) (bound : Option ℕ) → AreBindings l names n bindings → new ≡ bindings ++ (bound ∷ []) →
+pub bindings_next : (l : Layout) (names : Names) (n : ℕ) (bindings new : List (Option ℕ)) (bound : Option ℕ) → AreBindings l names n bindings →
+    new ≡ bindings ++ (bound ∷ []) →
     IsBinding l names n bound → AreBindings l names (n + 1) new
 bindings_next l names n bindings new bound h e b = record {
   sized = sized_next bindings new bound n h.sized e;

@@ -7,7 +7,8 @@ use Rattle.gr_scope.specs.declared.model.Role.{Role}
 use Rattle.gr_scope.specs.declared.model.Role.TheVariants.{Use, Declaring, LeftName, Implied, NotLexical}
 use Rattle.gr_scope.specs.declared.model.Block.TheVariants.{Package, File, Inner}
 use Rattle.gr_scope.specs.Scopes.{Holds, IsInside}
-use Rattle.gr_scope.specs.Bindings.{Layout, Names, MayDeclare, SameBlock, InScope, Declares, Displaces, Counts, BindsAt, block_of, scope_of, may_declare, is_left_name}
+use Rattle.gr_scope.specs.Bindings.{Layout, Names, MayDeclare, SameBlock, InScope, Declares, Displaces, Counts, BindsAt, block_of, scope_of, may_declare}
+use Rattle.gr_scope.specs.Bindings.{is_left_name}
 use Rattle.gr_scope.specs.Named.{is_unnamed_import, named_where, named_sites}
 use Rattle.gr_scope.specs.Site.{Site, found_site, sites_layout, sites_names}
 use Rattle.gr_scope.specs.WellFormed.{WellFormed}
@@ -86,7 +87,8 @@ module _ (k l : Layout) (kn ln : Names) (w : WellFormed l) (stays : (d : ℕ) �
   }
 
   pub binding_stays : (name : List ℕ) (u d : ℕ) → BindsAt l ln name u d → ((f : ℕ) → block_of (l.role d) ≡ File f → ⊥) →
-      ((i f : ℕ) → Counts k kn i → block_of (k.role i) ≡ File f → kn i ≡ name → InScope k i u → IsInside (scope_of (k.role i)) (scope_of (k.role d)) → ⊥) → BindsAt k kn name u d
+      ((i f : ℕ) → Counts k kn i → block_of (k.role i) ≡ File f → kn i ≡ name → InScope k i u → IsInside (scope_of (k.role i)) (scope_of (k.role d)) → ⊥) →
+      BindsAt k kn name u d
   binding_stays name u d b other none =
       let s = unchanged d b.counts.declares.may in
       record {
@@ -128,6 +130,8 @@ sites_stay names (x ∷ xs) (suc d) = sites_stay (λ u. names (suc u)) xs d
 pub named_binding : (names : ℕ → Option (List ℕ)) (xs : List Site) → WellFormed (sites_layout xs) → (name : List ℕ) (u d : ℕ) →
     (let k = sites_layout (named_sites names xs) in let kn = sites_names (named_sites names xs) in
     BindsAt (sites_layout xs) (sites_names xs) name u d → ((f : ℕ) → block_of ((sites_layout xs).role d) ≡ File f → ⊥) →
-    ((i f : ℕ) → Counts k kn i → block_of (k.role i) ≡ File f → kn i ≡ name → InScope k i u → IsInside (scope_of (k.role i)) (scope_of (k.role d)) → ⊥) → BindsAt k kn name u d)
+    ((i f : ℕ) → Counts k kn i → block_of (k.role i) ≡ File f → kn i ≡ name → InScope k i u → IsInside (scope_of (k.role i)) (scope_of (k.role d)) → ⊥) →
+    BindsAt k kn name u d)
 named_binding names xs w =
-    binding_stays (sites_layout (named_sites names xs)) (sites_layout xs) (sites_names (named_sites names xs)) (sites_names xs) w (sites_stay names xs) (place_stays names xs)
+    binding_stays (sites_layout (named_sites names xs)) (sites_layout xs) (sites_names (named_sites names xs)) (sites_names xs) w (sites_stay names xs)
+    (place_stays names xs)

@@ -46,7 +46,8 @@ run_here file sizes rest first last e same =
     let P : ℕ → Type 0 = λ s. regions.Run file rest first ≡ run_of file s first last in
     subst P (sym e) (run_if (regions.Run file rest first) (run_of file rest (first / 16) (last / 16)) first last (nat_eq first last) refl same)
 
-pub run_larger : (file sizes rest first last : ℕ) → sizes ≡ suc rest → (first ≡ last → ⊥) → run_of file rest (first / 16) (last / 16) ≡ run_of file sizes first last
+pub run_larger : (file sizes rest first last : ℕ) → sizes ≡ suc rest → (first ≡ last → ⊥) →
+    run_of file rest (first / 16) (last / 16) ≡ run_of file sizes first last
 unfolding run_of
 run_larger file sizes rest first last e other =
     let P : ℕ → Type 0 = λ s. run_of file rest (first / 16) (last / 16) ≡ run_of file s first last in
@@ -74,7 +75,8 @@ unfolding Surrounds
 file_surrounds file zero at = refl
 file_surrounds file (suc sizes) at = inr (file_surrounds file sizes (at / 16))
 
-kept_in : (b : Block) (s : ℕ) (p : Position) → Starts b s → Holds (scope_in b s) p → Surrounds p.file 6 (p.index / 16) (region_of b) ⊎ (region_of b ≡ regions.Package)
+kept_in : (b : Block) (s : ℕ) (p : Position) → Starts b s → Holds (scope_in b s) p → Surrounds p.file 6 (p.index / 16) (region_of b) ⊎
+    (region_of b ≡ regions.Package)
 kept_in Universe s p st h = inr refl
 kept_in Package s p st h = inr refl
 kept_in (File f) s p st h =

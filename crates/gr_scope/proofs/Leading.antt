@@ -6,7 +6,8 @@ use Rattle.gr_scope.specs.Leading.{Leads, IsLeader, HoldsAt, GivesWay}
 use Rattle.gr_scope.proofs.Nesting.{Nested}
 use Rattle.gr_scope.proofs.Uniqueness.{declares_if}
 
-no_leader : (l : Layout) (names : Names) (k e : ℕ) → e < k → Declares l names e → ((f : ℕ) → Leads l names f → names f ≡ names e → SameBlock l f e → f ≤ e → ⊥) → ⊥
+no_leader : (l : Layout) (names : Names) (k e : ℕ) → e < k → Declares l names e →
+    ((f : ℕ) → Leads l names f → names f ≡ names e → SameBlock l f e → f ≤ e → ⊥) → ⊥
 no_leader l names zero e lt de none = absurd (omega arith)
 no_leader l names (suc k) e lt de none =
     none e (record {
@@ -48,7 +49,8 @@ leads_not l names d e leader is k x =
     x.first e h.1.declares h.2 h.3 h.0
 
 module _ (l : Layout) (nested : Nested l) (names : Names) (d : ℕ) where
-  blocked : (leader : Option ℕ) → IsLeader l names d leader → (HoldsAt l leader d → ⊥) → (e : ℕ) → Declares l names e → SameBlock l e d → names e ≡ names d → InScope l e d → e < d → ⊥
+  blocked : (leader : Option ℕ) → IsLeader l names d leader → (HoldsAt l leader d → ⊥) → (e : ℕ) → Declares l names e → SameBlock l e d →
+      names e ≡ names d → InScope l e d → e < d → ⊥
   blocked None h free e de se ne he less = leader_none l names e de (λ f lf nf sf le. h f (let lt : f < d = omega arith in lt) lf (nf ∙ ne) (sf ∙ se))
   blocked (Some g) h free e de se ne he less = elim (cases_order g e) [
     | inl same ↦ (let P : ℕ → Type 0 = λ v. InScope l v d in free (subst P (sym same) he))
@@ -63,7 +65,8 @@ module _ (l : Layout) (nested : Nested l) (names : Names) (d : ℕ) where
   declares_behind leader h may free =
       declares_if l nested names d may (λ left e de se ne he. blocked leader h (free left) e de se ne he (nested.earlier e d de.may left se he))
 
-pub declares_not : (l : Layout) (names : Names) (d : ℕ) (leader : Option ℕ) → IsLeader l names d leader → IsLeftName l d → HoldsAt l leader d → Declares l names d → ⊥
+pub declares_not : (l : Layout) (names : Names) (d : ℕ) (leader : Option ℕ) → IsLeader l names d leader → IsLeftName l d → HoldsAt l leader d →
+    Declares l names d → ⊥
 declares_not l names d None h left holds x = holds
 declares_not l names d (Some e) h left holds x = x.is_new left e h.1.declares.may h.3 h.2 holds
 

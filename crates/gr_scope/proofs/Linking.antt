@@ -1,5 +1,6 @@
 -- The links of numbers, one number after another.
-use Rattle.std.proofs.Common.{rules, ℕ, ◌≡◌, ◌+◌, ◌<◌, inl, inr, List, [], ◌∷◌, ◌++◌, length, get_or, Option, Some, None, sym, ◌∙◌, ap, subst, arith, Bool, true, false, cond, length-append, refl}
+use Rattle.std.proofs.Common.{rules, ℕ, ◌≡◌, ◌+◌, ◌<◌, inl, inr, List, [], ◌∷◌, ◌++◌, length, get_or, Option, Some, None, sym, ◌∙◌, ap, subst, arith, Bool}
+use Rattle.std.proofs.Common.{true, false, cond, length-append, refl}
 use Rattle.std.proofs.lemmas.Grind.{common_steps}
 use Rattle.std.specs.Prelude.{◌↔◌}
 use Rattle.std.proofs.lemmas.Bool.{cases_order}
@@ -25,7 +26,8 @@ module _ {K : Type 0} where
   last_with : (D : ℕ → Type 0) (keys : ℕ → K) (key : K) (d : ℕ) → IsKeyed D keys key d → IsLastBelow D keys key (d + 1) (Some d)
   last_with D keys key d m = (omega arith, m, λ k lt le ne. omega arith)
 
-  last_without : (D : ℕ → Type 0) (keys : ℕ → K) (key : K) (d : ℕ) (old : Option ℕ) → (IsKeyed D keys key d → ⊥) → IsLastBelow D keys key d old → IsLastBelow D keys key (d + 1) old
+  last_without : (D : ℕ → Type 0) (keys : ℕ → K) (key : K) (d : ℕ) (old : Option ℕ) → (IsKeyed D keys key d → ⊥) → IsLastBelow D keys key d old →
+      IsLastBelow D keys key (d + 1) old
   last_without D keys key d None other h = λ k lt m. elim (same_or_not k d) [
     | inl same ↦ (let P : ℕ → Type 0 = λ v. IsKeyed D keys key v in other (subst P same m))
     | inr not ↦ h k (elim (cases_order k d) [ inl same ↦ absurd (not same) | inr o ↦ elim o [ inl less ↦ less | inr more ↦ omega arith ] ]) m
@@ -39,16 +41,19 @@ module _ {K : Type 0} where
     ],
   )
 
-  last_by : (D : ℕ → Type 0) (keys : ℕ → K) (own key : K) (d : ℕ) (old : Option ℕ) (b : Bool) → D d → keys d ≡ own → (b ≡ true → own ≡ key) × (own ≡ key → b ≡ true) →
+  last_by : (D : ℕ → Type 0) (keys : ℕ → K) (own key : K) (d : ℕ) (old : Option ℕ) (b : Bool) → D d → keys d ≡ own → (b ≡ true → own ≡ key) ×
+      (own ≡ key → b ≡ true) →
       IsLastBelow D keys key d old → IsLastBelow D keys key (d + 1) (cond b (Some d) old)
   last_by D keys own key d old true m e t h = last_with D keys key d (m, e ∙ t.0 refl)
   last_by D keys own key d old false m e t h = last_without D keys key d old (λ k. (let f : false ≡ true = t.1 (sym e ∙ k.1) in cc)) h
 
   -- one more number, which is not such
-  pub last_kept : (D : ℕ → Type 0) (keys : ℕ → K) (key : K) (d : ℕ) (old : Option ℕ) → (D d → ⊥) → IsLastBelow D keys key d old → IsLastBelow D keys key (d + 1) old
+  pub last_kept : (D : ℕ → Type 0) (keys : ℕ → K) (key : K) (d : ℕ) (old : Option ℕ) → (D d → ⊥) → IsLastBelow D keys key d old →
+      IsLastBelow D keys key (d + 1) old
   last_kept D keys key d old none h = last_without D keys key d old (λ m. none m.0) h
 
-  pub linked_next : (D : ℕ → Type 0) (keys : ℕ → K) (d : ℕ) (previous new : List (Option ℕ)) (before : Option ℕ) → IsLinked D keys d previous → new ≡ previous ++ (before ∷ []) →
+  pub linked_next : (D : ℕ → Type 0) (keys : ℕ → K) (d : ℕ) (previous new : List (Option ℕ)) (before : Option ℕ) → IsLinked D keys d previous →
+      new ≡ previous ++ (before ∷ []) →
       (D d → IsLastBelow D keys (keys d) d before) → IsLinked D keys (d + 1) new
   linked_next D keys d previous new before h e b = record {
     sized = ap length e ∙ length-append previous (before ∷ []) ∙ (let s : length previous ≡ d = h.sized in omega arith);
@@ -59,10 +64,12 @@ module _ {K : Type 0} where
         subst P (sym e) (elim (same_or_not k d) [
           | inl same ↦
               let R : ℕ → Type 0 = λ j. IsLastBelow D keys (keys j) j before in
-              let z : get_or (previous ++ (before ∷ [])) k x ≡ before = ap (λ j. get_or (previous ++ (before ∷ [])) j x) (same ∙ sym s) ∙ get_last previous before x in
+              let z : get_or (previous ++ (before ∷ [])) k x ≡ before = ap (λ j. get_or (previous ++ (before ∷ [])) j x) (same ∙ sym s) ∙
+              get_last previous before x in
               subst Q (sym z) (subst R (sym same) (b (subst D same m)))
           | inr not ↦
-              let less : k < length previous = elim (cases_order k d) [ inl same ↦ absurd (not same) | inr o ↦ elim o [ inl less ↦ omega arith | inr more ↦ omega arith ] ] in
+              let less : k < length previous = elim (cases_order k d)
+              [ inl same ↦ absurd (not same) | inr o ↦ elim o [ inl less ↦ omega arith | inr more ↦ omega arith ] ] in
               subst Q (sym (get_before previous before x k less)) (h.before k x (omega arith) m)
         ]);
   }
@@ -81,7 +88,8 @@ key_decides x y = (
 )
 
 -- the links of no identifiers
-pub links_none : {S : Type 0} (l : Layout) (names : Names) (last : IndexMap Key ℕ S) (previous : List (Option ℕ)) → previous ≡ [] → ((key : Key) → get equal.ghosts.eq last key ≡ None) →
+pub links_none : {S : Type 0} (l : Layout) (names : Names) (last : IndexMap Key ℕ S) (previous : List (Option ℕ)) → previous ≡ [] →
+    ((key : Key) → get equal.ghosts.eq last key ≡ None) →
     AreLinks l names last previous
 links_none l names last previous e none =
     let P : List (Option ℕ) → Type 0 = λ xs. AreLinks l names last xs in
@@ -109,8 +117,10 @@ module _ {S : Type 0} (l : Layout) (names : Names) (d : ℕ) (last after : Index
         linked = subst K z (linked_next (Leads l names) (keys_of l names) d previous new before (subst L s h.linked) e own);
       }
 
-  pub links_with : (own : Key) → length previous ≡ d → new ≡ previous ++ (before ∷ []) → AreLinks l names last previous → Leads l names d → keys_of l names d ≡ key_of own →
-      before ≡ get equal.ghosts.eq last own → ((key : Key) → get equal.ghosts.eq after key ≡ cond (equal.ghosts.eq own key) (Some d) (get equal.ghosts.eq last key)) → AreLinks l names after new
+  pub links_with : (own : Key) → length previous ≡ d → new ≡ previous ++ (before ∷ []) → AreLinks l names last previous → Leads l names d →
+      keys_of l names d ≡ key_of own →
+      before ≡ get equal.ghosts.eq last own → ((key : Key) →
+      get equal.ghosts.eq after key ≡ cond (equal.ghosts.eq own key) (Some d) (get equal.ghosts.eq last key)) → AreLinks l names after new
   links_with own s e h m k b up =
       let N : ℕ → Type 0 = λ n. IsLastBelow (Leads l names) (keys_of l names) (key_of own) n (get equal.ghosts.eq last own) in
       let B : Option ℕ → Type 0 = λ x. IsLastBelow (Leads l names) (keys_of l names) (key_of own) d x in
@@ -118,10 +128,12 @@ module _ {S : Type 0} (l : Layout) (names : Names) (d : ℕ) (last after : Index
       links_by s e h
       (λ key below.
       let P : Option ℕ → Type 0 = λ x. IsLastBelow (Leads l names) (keys_of l names) (key_of key) (d + 1) x in
-      subst P (sym (up key)) (last_by (Leads l names) (keys_of l names) (key_of own) (key_of key) d (get equal.ghosts.eq last key) (equal.ghosts.eq own key) m k (key_decides own key) below))
+      subst P (sym (up key)) (last_by (Leads l names) (keys_of l names) (key_of own) (key_of key) d (get equal.ghosts.eq last key) (equal.ghosts.eq own key)
+      m k (key_decides own key) below))
       (λ n. subst X (sym k) (subst B (sym b) (subst N s (h.lasts own))))
 
-  pub links_without : length previous ≡ d → new ≡ previous ++ (before ∷ []) → AreLinks l names last previous → (Leads l names d → ⊥) → after ≡ last → AreLinks l names after new
+  pub links_without : length previous ≡ d → new ≡ previous ++ (before ∷ []) → AreLinks l names last previous → (Leads l names d → ⊥) → after ≡ last →
+      AreLinks l names after new
   links_without s e h m same =
       let kept : (x : IndexMap Key ℕ S) → x ≡ last → (key : Key) → IsLastBelow (Leads l names) (keys_of l names) (key_of key) d (get equal.ghosts.eq last key) →
       IsLastBelow (Leads l names) (keys_of l names) (key_of key) (d + 1) (get equal.ghosts.eq x key) = λ x ex key below.

@@ -173,7 +173,8 @@ module _ (Known : ℕ → ℕ → Type 0) (m : ℕ → ℕ → ℕ) (l k : Layou
     uses = λ d. along (is_use (k.role d)) (is_use (l.role d)) (ap is_use (v.roles d) ∙ use_moved m (l.role d));
     same = λ d e. (
       (λ s. block_at d ∙ ap (moved_block m) s ∙ sym (block_at e)),
-      (λ s. blocks_back Known m v.increasing (block_of (l.role d)) (block_of (l.role e)) (start_of (l.role d)) (start_of (l.role e)) (v.known_block d) (v.known_block e)
+      (λ s. blocks_back Known m v.increasing (block_of (l.role d)) (block_of (l.role e)) (start_of (l.role d)) (start_of (l.role e)) (v.known_block d)
+          (v.known_block e)
           (sym (block_at d) ∙ s ∙ block_at e)),
     );
     scope = λ d u.
@@ -183,7 +184,8 @@ module _ (Known : ℕ → ℕ → Type 0) (m : ℕ → ℕ → ℕ) (l k : Layou
     import = λ d. let h = file_moved m (block_of (l.role d)) in
         ((λ x. let y = h.0 x in (y.0, block_at d ∙ y.1)), (λ x. h.1 (x.0, sym (block_at d) ∙ x.1)));
     inside = λ d e.
-        let h = inside_moved Known m v.increasing (block_of (l.role d)) (block_of (l.role e)) (start_of (l.role d)) (start_of (l.role e)) (v.known_block d) (v.known_block e) in
+        let h = inside_moved Known m v.increasing (block_of (l.role d)) (block_of (l.role e)) (start_of (l.role d)) (start_of (l.role e)) (v.known_block d)
+        (v.known_block e) in
         ((λ x. rw (scope_at d, scope_at e) (h.0 x)), (λ x. h.1 (rw (scope_at d, scope_at e) at x)));
   }
 

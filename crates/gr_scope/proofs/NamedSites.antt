@@ -1,6 +1,7 @@
 -- Identifiers in which imports without a name declare in their files: what stands at each number, and that the layout
 -- stays well-formed.
-use Rattle.std.proofs.Common.{ℕ, ◌≡◌, ◌+◌, ◌<◌, ◌≤◌, ◌⊎◌, inl, inr, List, [], ◌∷◌, ◌++◌, length, take, get_or, map, Option, Some, None, Bool, true, false, ap, sym, ◌∙◌, refl, subst, arith, zero, suc}
+use Rattle.std.proofs.Common.{ℕ, ◌≡◌, ◌+◌, ◌<◌, ◌≤◌, ◌⊎◌, inl, inr, List, [], ◌∷◌, ◌++◌, length, take, get_or, map, Option, Some, None, Bool, true, false}
+use Rattle.std.proofs.Common.{ap, sym, ◌∙◌, refl, subst, arith, zero, suc}
 use Rattle.std.specs.Prelude.{slice_get}
 use Rattle.std.proofs.Math.ListN.{get_or-map}
 use Rattle.std.proofs.lemmas.List.{length-map, map-append}
@@ -37,7 +38,8 @@ site_stays true (Some name) x = inr (x.place.file, refl)
 site_stays true None x = inl refl
 site_stays false name x = inl refl
 
-role_stays : (names : ℕ → Option (List ℕ)) (xs : List Site) (d : ℕ) → RoleStays (found_site (slice_get (named_sites names xs) d)).role (found_site (slice_get xs d)).role
+role_stays : (names : ℕ → Option (List ℕ)) (xs : List Site) (d : ℕ) →
+    RoleStays (found_site (slice_get (named_sites names xs) d)).role (found_site (slice_get xs d)).role
 unfolding named_sites
 role_stays names [] d = inl refl
 role_stays names (x ∷ xs) zero = site_stays (is_unnamed_import x.role) (names 0) x
@@ -48,7 +50,8 @@ stays_in_place true (Some name) x = refl
 stays_in_place true None x = refl
 stays_in_place false name x = refl
 
-pub place_stays : (names : ℕ → Option (List ℕ)) (xs : List Site) (d : ℕ) → (found_site (slice_get (named_sites names xs) d)).place ≡ (found_site (slice_get xs d)).place
+pub place_stays : (names : ℕ → Option (List ℕ)) (xs : List Site) (d : ℕ) →
+    (found_site (slice_get (named_sites names xs) d)).place ≡ (found_site (slice_get xs d)).place
 unfolding named_sites
 place_stays names [] d = refl
 place_stays names (x ∷ xs) zero = stays_in_place (is_unnamed_import x.role) (names 0) x
@@ -60,7 +63,8 @@ file_not_inner h f a b e = cc
 not_left : (h : ℕ) → is_left_name (Declaring (File h) 0) ≡ true → ⊥
 not_left h e = cc
 
-module _ (k l : Layout) (n : ℕ) (finite : (d : ℕ) → MayDeclare k d → d < n) (roles : (d : ℕ) → RoleStays (k.role d) (l.role d)) (places : (d : ℕ) → k.place d ≡ l.place d)
+module _ (k l : Layout) (n : ℕ) (finite : (d : ℕ) → MayDeclare k d → d < n) (roles : (d : ℕ) → RoleStays (k.role d) (l.role d))
+    (places : (d : ℕ) → k.place d ≡ l.place d)
     (w : WellFormed l) (level : AreImportsLevel l) where
   inner_stays : (d f a b : ℕ) → IsIn k d (Inner f a b) → k.role d ≡ l.role d
   inner_stays d f a b i = elim (roles d) [ inl e ↦ e | inr h ↦ absurd (file_not_inner h.0 f a b (sym (ap block_of h.1) ∙ i)) ]
@@ -130,12 +134,14 @@ module _ (k l : Layout) (n : ℕ) (finite : (d : ℕ) → MayDeclare k d → d <
 pub named_well_formed : (names : ℕ → Option (List ℕ)) (xs : List Site) → WellFormed (sites_layout xs) → AreImportsLevel (sites_layout xs) →
     WellFormed (sites_layout (named_sites names xs))
 named_well_formed names xs w level =
-    stays_well_formed (sites_layout (named_sites names xs)) (sites_layout xs) (length (named_sites names xs)) (may_at (named_sites names xs)) (role_stays names xs) (place_stays names xs) w level
+    stays_well_formed (sites_layout (named_sites names xs)) (sites_layout xs) (length (named_sites names xs)) (may_at (named_sites names xs))
+    (role_stays names xs) (place_stays names xs) w level
 
 pub named_level : (names : ℕ → Option (List ℕ)) (xs : List Site) → WellFormed (sites_layout xs) → AreImportsLevel (sites_layout xs) →
     AreImportsLevel (sites_layout (named_sites names xs))
 named_level names xs w level =
-    imports_stay_level (sites_layout (named_sites names xs)) (sites_layout xs) (length (named_sites names xs)) (may_at (named_sites names xs)) (role_stays names xs) (place_stays names xs) w level
+    imports_stay_level (sites_layout (named_sites names xs)) (sites_layout xs) (length (named_sites names xs)) (may_at (named_sites names xs))
+    (role_stays names xs) (place_stays names xs) w level
 
 level_role : (r : Role) (f : ℕ) → (may_declare r ≡ true → (start_of r ≡ 0) ⊎ (block_of r ≡ File f → ⊥)) → block_of r ≡ File f → start_of r ≡ 0
 level_role Use f h e = refl
@@ -152,30 +158,35 @@ level_site x f h = level_role x.role f (λ m. elim (h m) [
 
 -- the imports of a package that have a name are seen from the beginning of their files
 pub package_level : (files : List SpelledFile) → AreNumbered files → AreImportsLevel (sites_layout (package_sites files))
-package_level files w d f i = level_site (found_site (slice_get (package_sites files) d)) f (each_at (From 0) (λ m. not_may m) (package_sites files) (package_agrees files w).0 d) i
+package_level files w d f i = level_site (found_site (slice_get (package_sites files) d)) f
+    (each_at (From 0) (λ m. not_may m) (package_sites files) (package_agrees files w).0 d) i
 
 -- one more identifier of the program's list
-pub found_next : (names : ℕ → Option (List ℕ)) (xs old new : List Identifier) (u : ℕ) (d x : Identifier) (name : Option (List ℕ)) → u < length xs → new ≡ old ++ (x ∷ []) →
+pub found_next : (names : ℕ → Option (List ℕ)) (xs old new : List Identifier) (u : ℕ) (d x : Identifier) (name : Option (List ℕ)) → u < length xs →
+    new ≡ old ++ (x ∷ []) →
     name ≡ names u → site_of x ≡ named_site name (site_of (get_or xs u d)) → map site_of old ≡ named_sites names (take u (map site_of xs)) →
     map site_of new ≡ named_sites names (take (u + 1) (map site_of xs))
 found_next names xs old new u d x name lt e en one h =
     let sites = map site_of xs in
     let lm : u < length sites = rw length-map lt in
     ap (map site_of) e ∙ map-append site_of old (x ∷ []) ∙ ap (λ z. z ++ (site_of x ∷ [])) h ∙
-    ap (λ z. named_sites names (take u sites) ++ (z ∷ [])) (one ∙ ap (λ n. named_site n (site_of (get_or xs u d))) en ∙ ap (named_site (names u)) (sym (get_or-map site_of xs u d))) ∙
+    ap (λ z. named_sites names (take u sites) ++ (z ∷ []))
+    (one ∙ ap (λ n. named_site n (site_of (get_or xs u d))) en ∙ ap (named_site (names u)) (sym (get_or-map site_of xs u d))) ∙
     named_next names sites u (site_of d) lm ∙ ap (λ k. named_sites names (take k sites)) (let s : suc u ≡ u + 1 = omega arith in s)
 
 pub found_none : (names : ℕ → Option (List ℕ)) (none : List Identifier) (xs : List Site) → none ≡ [] → map site_of none ≡ named_sites names (take 0 xs)
 unfolding named_sites
 found_none names none xs e = ap (map site_of) e
 
-pub named_list_well_formed : (names : ℕ → Option (List ℕ)) (xs : List Identifier) (ys : List Site) → map site_of xs ≡ named_sites names ys → WellFormed (sites_layout ys) → AreImportsLevel (sites_layout ys) →
+pub named_list_well_formed : (names : ℕ → Option (List ℕ)) (xs : List Identifier) (ys : List Site) → map site_of xs ≡ named_sites names ys →
+    WellFormed (sites_layout ys) → AreImportsLevel (sites_layout ys) →
     WellFormed (layout_of xs) × AreImportsLevel (layout_of xs)
 named_list_well_formed names xs ys e w level =
     let P : Layout → Type 0 = λ l. WellFormed l × AreImportsLevel l in
     subst P (sym (layout-sites xs ∙ ap sites_layout e)) (named_well_formed names ys w level, named_level names ys w level)
 
-pub declared_level : (xs : List Identifier) (files : List SpelledFile) → map site_of xs ≡ package_sites files → AreNumbered files → AreImportsLevel (layout_of xs)
+pub declared_level : (xs : List Identifier) (files : List SpelledFile) → map site_of xs ≡ package_sites files → AreNumbered files →
+    AreImportsLevel (layout_of xs)
 declared_level xs files e w =
     let P : Layout → Type 0 = λ l. AreImportsLevel l in
     subst P (sym (layout-sites xs ∙ ap sites_layout e)) (package_level files w)

@@ -45,8 +45,13 @@ run_smaller file (suc s) first last from to g rest at lo mid hi e = elim (same_o
   | inl same ↦
       let z : regions.Run file s first ≡ regions.Run g rest at = run_here file (suc s) s first last refl same ∙ e in
       let t : s ≡ rest = run_rank file s first g rest at z in
-      let one : from ≡ to = omega arith in
-      (s, from, (let le : rest ≤ s = omega arith in le), sym (run_here file (suc s) s from to refl one) ∙ ap (λ v. regions.Run v s from) (run_file file s first g rest at z))
+      let one : from ≡ to = omega arith in (
+        s,
+        from,
+        (let le : rest ≤ s = omega arith in le),
+        sym (run_here file (suc s) s from to refl one) ∙
+            ap (λ v. regions.Run v s from) (run_file file s first g rest at z),
+      )
   | inr other ↦
       let larger : run_of file s (first / 16) (last / 16) ≡ regions.Run g rest at = run_larger file (suc s) s first last refl other ∙ e in
       elim (same_or_not from to) [
@@ -55,7 +60,8 @@ run_smaller file (suc s) first last from to g rest at lo mid hi e = elim (same_o
             let below : rest < s = h.1 in
             (s, from, (let le : rest ≤ s = omega arith in le), sym (run_here file (suc s) s from to refl one) ∙ ap (λ v. regions.Run v s from) h.0)
         | inr apart ↦
-            let h = run_smaller file s (first / 16) (last / 16) (from / 16) (to / 16) g rest at (run_number first from lo) (run_number from to mid) (run_number to last hi) larger in
+            let h = run_smaller file s (first / 16) (last / 16) (from / 16) (to / 16) g rest at (run_number first from lo) (run_number from to mid)
+            (run_number to last hi) larger in
             (h.0, h.1, h.2, sym (run_larger file (suc s) s from to refl apart) ∙ h.3)
       ]
 ]
@@ -70,7 +76,8 @@ surrounds_not file (suc s) at g k n r le e h = elim h [
 ]
 
 -- a block inside another is kept in a run that is no larger
-nested_region : (b d : Block) (s g rest at : ℕ) → Starts d s → Nests d b → region_of b ≡ regions.Run g rest at → (k : ℕ) × (n : ℕ) × (rest ≤ k) × (region_of d ≡ regions.Run g k n)
+nested_region : (b d : Block) (s g rest at : ℕ) → Starts d s → Nests d b → region_of b ≡ regions.Run g rest at → (k : ℕ) × (n : ℕ) × (rest ≤ k) ×
+    (region_of d ≡ regions.Run g k n)
 nested_region Universe d s g rest at st n e = cc
 nested_region Package d s g rest at st n e = cc
 nested_region (File f) d s g rest at st n e = file_not_run f g rest at e
@@ -112,9 +119,11 @@ module _ (l : Layout) (w : WellFormed l) (names : Names) (name : List ℕ) (u : 
         λ d c. elim c.3 [
           | inl here ↦ h.1 d (c.0, c.1, c.2, here)
           | inr more ↦ precedes_by l (nests l w) b d u h.0.2.declares.may c.2.declares.may h.0.1 c.1
-              (λ s less. surrounds_not file rest (at / 16) file rest at (region_at l d) (let le : rest ≤ rest = omega arith in le) (sym (ap region_of s) ∙ h.0.3) more)
+              (λ s less. surrounds_not file rest (at / 16) file rest at (region_at l d) (let le : rest ≤ rest = omega arith in le)
+              (sym (ap region_of s) ∙ h.0.3) more)
               (λ n.
-              let k = nested_region (block_of (l.role b)) (block_of (l.role d)) (start_of (l.role d)) file rest at (starts_at l w d c.2.declares.may (block_of (l.role d)) refl) n h.0.3 in
+              let k = nested_region (block_of (l.role b)) (block_of (l.role d)) (start_of (l.role d)) file rest at
+              (starts_at l w d c.2.declares.may (block_of (l.role d)) refl) n h.0.3 in
               surrounds_not file rest (at / 16) file k.0 k.1 (region_at l d) k.2 k.3 more)
         ],
       )
@@ -124,12 +133,14 @@ module _ (l : Layout) (w : WellFormed l) (names : Names) (name : List ℕ) (u : 
   nearer_none (Some d) = inl (tt, refl)
 
   -- where a run has none, there are the larger ones
-  pub around_next : (file sizes rest at : ℕ) (found : Option ℕ) → sizes ≡ suc rest → IsNearest l (IsCandidate l names name (λ r. r ≡ regions.Run file rest at) u) None →
+  pub around_next : (file sizes rest at : ℕ) (found : Option ℕ) → sizes ≡ suc rest →
+      IsNearest l (IsCandidate l names name (λ r. r ≡ regions.Run file rest at) u) None →
       IsNearest l (IsCandidate l names name (Surrounds file rest (at / 16)) u) found → IsNearest l (IsCandidate l names name (Surrounds file sizes at) u) found
   unfolding Surrounds
   around_next file sizes rest at found e h k =
       let S : ℕ → Type 0 = λ s. IsNearest l (IsCandidate l names name (Surrounds file s at) u) found in
-      subst S (sym e) (nearest_of_both l (nests l w) names name u (λ r. r ≡ regions.Run file rest at) (Surrounds file rest (at / 16)) None found found h k (nearer_none found))
+      subst S (sym e) (nearest_of_both l (nests l w) names name u (λ r. r ≡ regions.Run file rest at) (Surrounds file rest (at / 16)) None found found h k
+      (nearer_none found))
 
   -- what is found in an inner block is nearer than what is declared in no file
   pub inner_nearest : (R : Region → Type 0) (found : Option ℕ) → IsInner l found → IsNearest l (IsCandidate l names name R u) found →

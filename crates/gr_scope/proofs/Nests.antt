@@ -125,7 +125,8 @@ abbrev BeginsOutside : Block → Block → ℕ → Type 0
 BeginsOutside (Inner f a b) (Inner g a' b') s = f ≡ g → a' < a → b ≤ b' → (s < a) ⊎ (b ≤ s)
 BeginsOutside _ _ s = Unit {0}
 
-begins_outside_at : (l : Layout) → WellFormed l → (d e : ℕ) → MayDeclare l d → MayDeclare l e → (B C : Block) → IsIn l d B → IsIn l e C → BeginsOutside B C (start_of (l.role e))
+begins_outside_at : (l : Layout) → WellFormed l → (d e : ℕ) → MayDeclare l d → MayDeclare l e → (B C : Block) → IsIn l d B → IsIn l e C →
+    BeginsOutside B C (start_of (l.role e))
 begins_outside_at l w d e md me (Inner f a b) (Inner g a' b') hd he = λ same.
     w.begins_outside d e f a b a' b' md me hd (let P : ℕ → Type 0 = λ k. IsIn l e (Inner k a' b') in subst P (sym same) he)
 begins_outside_at l w d e md me _ _ hd he = tt
@@ -150,16 +151,18 @@ nests_in (File f) (File g) s t p st o x y n = absurd n
 nests_in (File f) Universe s t p st o x y n = inl tt
 nests_in Universe C s t p st o x y n = absurd n
 
-in_nests : (B C : Block) (s t : ℕ) (p : Position) → Starts B s → Starts C t → NestOrPart B C → BeginsOutside C B s → Holds (scope_in B s) p → Holds (scope_in C t) p →
+in_nests : (B C : Block) (s t : ℕ) (p : Position) → Starts B s → Starts C t → NestOrPart B C → BeginsOutside C B s → Holds (scope_in B s) p →
+    Holds (scope_in C t) p →
     IsInside (scope_in B s) (scope_in C t) → (B ≡ C) ⊎ (Nests B C ⊎ Pair C B)
 unfolding Pair
-in_nests (Inner f a b) (Inner g c d) s t p sb sc n o x y i = elim (compare_blocks (Inner f a b) (Inner g c d) p n (within (Inner f a b) s p sb x) (within (Inner g c d) t p sc y)) [
-  | inl e ↦ inl e
-  | inr r ↦ elim r [
-    | inl m ↦ inr (inl m)
-    | inr m ↦ elim (o m.0 m.1 m.2) [ inl h ↦ absurd (omega arith) | inr h ↦ absurd (omega arith) ]
-  ]
-]
+in_nests (Inner f a b) (Inner g c d) s t p sb sc n o x y i =
+    elim (compare_blocks (Inner f a b) (Inner g c d) p n (within (Inner f a b) s p sb x) (within (Inner g c d) t p sc y)) [
+      | inl e ↦ inl e
+      | inr r ↦ elim r [
+        | inl m ↦ inr (inl m)
+        | inr m ↦ elim (o m.0 m.1 m.2) [ inl h ↦ absurd (omega arith) | inr h ↦ absurd (omega arith) ]
+      ]
+    ]
 in_nests (Inner f a b) (File g) s t p sb sc n o x y i = inr (inl i)
 in_nests (Inner f a b) Package s t p sb sc n o x y i = inr (inl tt)
 in_nests (Inner f a b) Universe s t p sb sc n o x y i = inr (inl tt)
@@ -186,7 +189,8 @@ directly_at l w x z left mz (Inner f a b) (Inner g a' b') hx hz = λ same.
     w.left_directly x z f a b a' b' left mz hx (let P : ℕ → Type 0 = λ k. IsIn l z (Inner k a' b') in subst P (sym same) hz)
 directly_at l w x z left mz _ _ hx hz = tt
 
-is_direct : (B C : Block) (p : Position) → NestOrPart C B → Directly B C p → Within B p → Within C p → (f : ℕ) → (a : ℕ) → (b : ℕ) → B ≡ Inner f a b → (C ≡ B) ⊎ Nests B C
+is_direct : (B C : Block) (p : Position) → NestOrPart C B → Directly B C p → Within B p → Within C p → (f : ℕ) → (a : ℕ) → (b : ℕ) → B ≡ Inner f a b →
+    (C ≡ B) ⊎ Nests B C
 is_direct (Inner f a b) (Inner g c d) p n o x y _ _ _ e = elim (compare_blocks (Inner g c d) (Inner f a b) p n y x) [
   | inl q ↦ inl q
   | inr r ↦ elim r [
@@ -273,13 +277,15 @@ import_inside B C s t h =
 
 -- two scopes that share a place nest
 pub scopes_nest : (l : Layout) → WellFormed l → (d e : ℕ) → MayDeclare l d → MayDeclare l e → (p : Position) →
-    Holds (scope_of (l.role d)) p → Holds (scope_of (l.role e)) p → IsInside (scope_of (l.role d)) (scope_of (l.role e)) ⊎ IsInside (scope_of (l.role e)) (scope_of (l.role d))
+    Holds (scope_of (l.role d)) p → Holds (scope_of (l.role e)) p → IsInside (scope_of (l.role d)) (scope_of (l.role e)) ⊎
+    IsInside (scope_of (l.role e)) (scope_of (l.role d))
 scopes_nest l w d e md me p hd he =
     let B = block_of (l.role d) in
     let C = block_of (l.role e) in
     let s = start_of (l.role d) in
     let t = start_of (l.role e) in
-    elim (compare_blocks B C p (nest_or_part l w d e md me B C refl refl) (within B s p (starts_at l w d md B refl) hd) (within C t p (starts_at l w e me C refl) he)) [
+    elim (compare_blocks B C p (nest_or_part l w d e md me B C refl refl) (within B s p (starts_at l w d md B refl) hd)
+    (within C t p (starts_at l w e me C refl) he)) [
       | inl same ↦
           let P : Block → Type 0 = λ D. IsInside (scope_in B s) (scope_in D t) ⊎ IsInside (scope_in D t) (scope_in B s) in
           subst P same (elim (cases_order s t) [

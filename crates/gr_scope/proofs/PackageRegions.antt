@@ -10,7 +10,8 @@ use Rattle.gr_scope.specs.Site.{Site, Source, found_site, sites_layout}
 use Rattle.gr_scope.specs.FileSites.{SpelledFile, file_sites, files_sites, universe, universe_site, package_sites}
 use Rattle.gr_scope.specs.Trees.{IsNumbered, AreNumbered}
 use Rattle.gr_scope.proofs.Nests.{left_may}
-use Rattle.gr_scope.proofs.Regions.{Each, EachPair, each_append, each_map, pairs_append, pairs_of_each, inner_from, inner_to, inner_file, Flat, Framed, Fits, Pair, Related, flat_first, flat_second}
+use Rattle.gr_scope.proofs.Regions.{Each, EachPair, each_append, each_map, pairs_append, pairs_of_each, inner_from, inner_to, inner_file, Flat, Framed}
+use Rattle.gr_scope.proofs.Regions.{Fits, Pair, Related, flat_first, flat_second}
 use Rattle.gr_scope.proofs.FileRegions.{file_fits}
 use Rattle.gr_scope.proofs.Rising.{Rises, rises_le, rises_of}
 use Rattle.gr_tree.specs.declared.syntax.Kind.TheVariants as kind
@@ -68,7 +69,8 @@ from_at rank x h m = elim (h m) [ inl flat ↦ inl flat | inr s ↦ inr (rank, (
 file_not_empty : (m : ℕ) (f : FileTree) → Rises 0 (flatten f) m → 0 < m
 unfolding flatten
 file_not_empty m f h =
-    let le : suc f.keyword ≤ m = rises_le (suc f.keyword) (sign kind.Name f.name ∷ sign kind.Semicolon f.semicolon ∷ (all_tokens imports_tokens f.imports ++ all_tokens decl_tokens f.decls)) m h.1 in
+    let le : suc f.keyword ≤ m = rises_le (suc f.keyword)
+    (sign kind.Name f.name ∷ sign kind.Semicolon f.semicolon ∷ (all_tokens imports_tokens f.imports ++ all_tokens decl_tokens f.decls)) m h.1 in
     omega arith
 
 files_agree : (rank : ℕ) (fs : List SpelledFile) → AreNumbered fs → Each (From rank) (files_sites rank fs) × EachPair Related (files_sites rank fs)
@@ -83,7 +85,8 @@ files_agree rank (f ∷ fs) w =
     let at = each_map (Fits rank 0 bound.0 0 bound.0) (At rank) (λ x. at_of_fits rank bound.0 0 bound.0 x pos (omega arith)) (file_sites s f.tree) here.0 in
     let rest = files_agree (suc rank) fs (All-tail IsNumbered f fs w) in (
       each_append (From rank) (file_sites s f.tree) (files_sites (suc rank) fs)
-          (each_map (At rank) (From rank) (from_at rank) (file_sites s f.tree) at) (each_map (From (suc rank)) (From rank) (from_later rank) (files_sites (suc rank) fs) rest.0),
+          (each_map (At rank) (From rank) (from_at rank) (file_sites s f.tree) at)
+          (each_map (From (suc rank)) (From rank) (from_later rank) (files_sites (suc rank) fs) rest.0),
       pairs_append Related (At rank) (From (suc rank)) (file_first rank) (file_sites s f.tree) (files_sites (suc rank) fs) at rest.0 here.1 rest.1,
     )
 
@@ -113,7 +116,8 @@ each_at P p [] a d = p
 each_at P p (x ∷ xs) a zero = a.0
 each_at P p (x ∷ xs) a (suc d) = each_at P p xs a.1 d
 
-pair_at : (R : Site → Site → Type 0) → ((x : Site) → R x (found_site (slice_get [] 0))) → ((y : Site) → R (found_site (slice_get [] 0)) y) → (xs : List Site) → EachPair R xs →
+pair_at : (R : Site → Site → Type 0) → ((x : Site) → R x (found_site (slice_get [] 0))) → ((y : Site) → R (found_site (slice_get [] 0)) y) →
+    (xs : List Site) → EachPair R xs →
     (d e : ℕ) → d < e → R (found_site (slice_get xs d)) (found_site (slice_get xs e))
 pair_at R p q [] a d e h = q (found_site (slice_get [] e))
 pair_at R p q (x ∷ xs) a zero zero h = absurd (omega arith)

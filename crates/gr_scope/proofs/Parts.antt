@@ -5,11 +5,14 @@ use Rattle.gr_scope.specs.Site.{Site, Source}
 use Rattle.gr_scope.specs.ExpressionSites.{key_sites, type_sites, expr_sites, operand_sites, link_sites, argument_sites, literal_sites, element_sites}
 use Rattle.gr_tree.specs.Tree.{no_link, LinkTrees}
 use Rattle.gr_tree.specs.View.{type_view, expr_view, literal_view, link_view, links_view, operands_view, arguments_view, elements_view, key_view}
-use Rattle.gr_tree.specs.declared.tree.Expr.{Expr, Row_of-Link, end_of-Link, more_of-Link, items-the_row-Link, items_hidden-the_row-Link-0, Row_of-Operand, end_of-Operand, more_of-Operand, items-the_row-Operand, items_hidden-the_row-Operand-1}
+use Rattle.gr_tree.specs.declared.tree.Expr.{Expr, Row_of-Link, end_of-Link, more_of-Link, items-the_row-Link, items_hidden-the_row-Link-0, Row_of-Operand}
+use Rattle.gr_tree.specs.declared.tree.Expr.{end_of-Operand, more_of-Operand, items-the_row-Operand, items_hidden-the_row-Operand-1}
 use Rattle.gr_tree.specs.declared.tree.Expr.TheBlock.{hidden-the_row-Link-0, hidden-the_row-Operand-1, hidden-the_row-ExprItem-2, hidden-the_row-Element-3}
 use Rattle.gr_tree.specs.declared.tree.Expr.TheViews.{roll-CompositeLit}
 use Rattle.gr_tree.specs.declared.tree.TypeExpr.{TypeExpr}
-use Rattle.gr_tree.specs.declared.tree.CompositeLit.{CompositeLit, CompositeLit', out-CompositeLit, Row_of-Element, end_of-Element, more_of-Element, items-the_row-Element, items_hidden-the_row-Element-3, items_shown-the_row-Element-3, outs-CompositeLit'}
+use Rattle.gr_tree.specs.declared.tree.CompositeLit.{CompositeLit, CompositeLit', out-CompositeLit, Row_of-Element, end_of-Element, more_of-Element}
+use Rattle.gr_tree.specs.declared.tree.CompositeLit.{items-the_row-Element, items_hidden-the_row-Element-3, items_shown-the_row-Element-3}
+use Rattle.gr_tree.specs.declared.tree.CompositeLit.{outs-CompositeLit'}
 use Rattle.gr_tree.specs.declared.tree.Expr.TheVariants as expr
 use Rattle.gr_tree.specs.declared.tree.Link.{Link, Row_of-ExprItem, end_of-ExprItem, more_of-ExprItem, items-the_row-ExprItem, items_hidden-the_row-ExprItem-2}
 use Rattle.gr_tree.specs.declared.tree.Link.TheVariants as link
@@ -45,22 +48,28 @@ unfolding operand_sites operands_view
 operand_row s end_of-Operand = refl
 operand_row s (more_of-Operand op at e rest) = ap (λ z. expr_sites s (expr_view e) ++ z) (operand_row s rest)
 
-argument_row : (s : Source) {n : _} (row : Row_of-ExprItem n) → argument_sites s (arguments_view row) ≡ flat_map (argument_part s) (items-the_row-ExprItem n row)
+argument_row : (s : Source) {n : _} (row : Row_of-ExprItem n) →
+    argument_sites s (arguments_view row) ≡ flat_map (argument_part s) (items-the_row-ExprItem n row)
 unfolding argument_sites arguments_view
 argument_row s end_of-ExprItem = refl
 argument_row s (more_of-ExprItem e c rest) = ap (λ z. expr_sites s (expr_view e) ++ z) (argument_row s rest)
 
-pub chain_parts : (s : Source) (first : _) (links : _) → expr_sites s (expr_view (expr.Chain first links)) ≡ expr_sites s (expr_view first.value) ++ flat_map (link_part s) links.items
+pub chain_parts : (s : Source) (first : _) (links : _) →
+    expr_sites s (expr_view (expr.Chain first links)) ≡ expr_sites s (expr_view first.value) ++ flat_map (link_part s) links.items
 unfolding expr_sites expr_view
-chain_parts s first links = ap (λ z. expr_sites s (expr_view first.value) ++ z) (link_row s (hidden-the_row-Link-0 links) ∙ ap (flat_map (link_part s)) (items_hidden-the_row-Link-0 links))
+chain_parts s first links = ap (λ z. expr_sites s (expr_view first.value) ++ z)
+    (link_row s (hidden-the_row-Link-0 links) ∙ ap (flat_map (link_part s)) (items_hidden-the_row-Link-0 links))
 
-pub binary_parts : (s : Source) (first : _) (rest : _) → expr_sites s (expr_view (expr.Binary first rest)) ≡ expr_sites s (expr_view first.value) ++ flat_map (operand_part s) rest.items
+pub binary_parts : (s : Source) (first : _) (rest : _) →
+    expr_sites s (expr_view (expr.Binary first rest)) ≡ expr_sites s (expr_view first.value) ++ flat_map (operand_part s) rest.items
 unfolding expr_sites expr_view
-binary_parts s first rest = ap (λ z. expr_sites s (expr_view first.value) ++ z) (operand_row s (hidden-the_row-Operand-1 rest) ∙ ap (flat_map (operand_part s)) (items_hidden-the_row-Operand-1 rest))
+binary_parts s first rest = ap (λ z. expr_sites s (expr_view first.value) ++ z)
+    (operand_row s (hidden-the_row-Operand-1 rest) ∙ ap (flat_map (operand_part s)) (items_hidden-the_row-Operand-1 rest))
 
 pub call_parts : (s : Source) (o : ℕ) (arguments : _) (c : ℕ) → link_part s (link.Call o arguments c) ≡ flat_map (argument_part s) arguments.items
 unfolding link_sites link_view
-call_parts s o arguments c = append-nil _ ∙ argument_row s (hidden-the_row-ExprItem-2 arguments) ∙ ap (flat_map (argument_part s)) (items_hidden-the_row-ExprItem-2 arguments)
+call_parts s o arguments c = append-nil _ ∙ argument_row s (hidden-the_row-ExprItem-2 arguments) ∙
+    ap (flat_map (argument_part s)) (items_hidden-the_row-ExprItem-2 arguments)
 
 element_row : (s : Source) {n : _} (row : Row_of-Element n) → element_sites s (elements_view row) ≡ flat_map (element_part s) (items-the_row-Element n row)
 unfolding element_sites elements_view
@@ -70,9 +79,11 @@ element_row s (more_of-Element k e c rest) =
     sym (append_assoc (key_sites s (key_view k)) (expr_sites s (expr_view e)) (flat_map (element_part s) (items-the_row-Element _ rest)))
 
 pub literal_parts : (s : Source) (t : TypeExpr) (o : ℕ) (es : _) (c : ℕ) →
-    literal_sites s (literal_view (roll-CompositeLit (record { literal_type = t; «open» = o; elements = es; close = c }))) ≡ type_sites s (type_view t) ++ flat_map (element_part s) es.items
+    literal_sites s (literal_view (roll-CompositeLit (record { literal_type = t; «open» = o; elements = es; close = c }))) ≡ type_sites s (type_view t) ++
+    flat_map (element_part s) es.items
 unfolding literal_sites literal_view roll-CompositeLit denote.Hole.Carrier.roll
-literal_parts s t o es c = ap (λ z. type_sites s (type_view t) ++ z) (element_row s (hidden-the_row-Element-3 es) ∙ ap (flat_map (element_part s)) (items_hidden-the_row-Element-3 es))
+literal_parts s t o es c = ap (λ z. type_sites s (type_view t) ++ z)
+    (element_row s (hidden-the_row-Element-3 es) ∙ ap (flat_map (element_part s)) (items_hidden-the_row-Element-3 es))
 
 -- what the program reads of a value, and the value
 
@@ -82,7 +93,8 @@ chain_from s e first links v xs ee ev ex =
     ap (λ z. expr_sites s (expr_view z) ++ flat_map (link_part s) xs) ev ∙ ap (λ z. expr_sites s (expr_view first.value) ++ flat_map (link_part s) z) ex ∙
     sym (chain_parts s first links) ∙ ap (λ z. expr_sites s (expr_view z)) (sym ee)
 
-pub binary_from : (s : Source) (e : Expr) (first : _) (rest : _) (v : Expr) (xs : List Operand) → e ≡ expr.Binary first rest → v ≡ first.value → xs ≡ rest.items →
+pub binary_from : (s : Source) (e : Expr) (first : _) (rest : _) (v : Expr) (xs : List Operand) → e ≡ expr.Binary first rest → v ≡ first.value →
+    xs ≡ rest.items →
     expr_sites s (expr_view v) ++ flat_map (operand_part s) xs ≡ expr_sites s (expr_view e)
 binary_from s e first rest v xs ee ev ex =
     ap (λ z. expr_sites s (expr_view z) ++ flat_map (operand_part s) xs) ev ∙ ap (λ z. expr_sites s (expr_view first.value) ++ flat_map (operand_part s) z) ex ∙
@@ -96,11 +108,13 @@ pub index_from : (s : Source) (l : Link) (o : ℕ) (e : Expr) (c : ℕ) → l �
 unfolding link_sites link_view
 index_from s l o e c el = sym (append-nil (expr_sites s (expr_view e))) ∙ ap (link_part s) (sym el)
 
-literal_from : (s : Source) (l : CompositeLit) → type_sites s (type_view (out-CompositeLit l).literal_type) ++ flat_map (element_part s) (out-CompositeLit l).elements.items ≡ literal_sites s (literal_view l)
+literal_from : (s : Source) (l : CompositeLit) → type_sites s (type_view (out-CompositeLit l).literal_type) ++ flat_map (element_part s)
+    (out-CompositeLit l).elements.items ≡ literal_sites s (literal_view l)
 unfolding literal_sites literal_view
 literal_from s (CompositeLit' t o shape row c) =
     ap (λ r. type_sites s (type_view r.literal_type) ++ flat_map (element_part s) r.elements.items) (outs-CompositeLit' t o shape row c) ∙
-    ap (λ z. type_sites s (type_view t) ++ flat_map (element_part s) z) (items_shown-the_row-Element-3 shape row) ∙ ap (λ z. type_sites s (type_view t) ++ z) (sym (element_row s row))
+    ap (λ z. type_sites s (type_view t) ++ flat_map (element_part s) z) (items_shown-the_row-Element-3 shape row) ∙
+    ap (λ z. type_sites s (type_view t) ++ z) (sym (element_row s row))
 
 pub literal_read : (s : Source) (l : CompositeLit) (xs : List Element) → xs ≡ (out-CompositeLit l).elements.items →
     type_sites s (type_view (out-CompositeLit l).literal_type) ++ flat_map (element_part s) xs ≡ literal_sites s (literal_view l)

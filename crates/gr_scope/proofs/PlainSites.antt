@@ -1,11 +1,14 @@
 -- Types and expressions declare nothing.
 use Rattle.std.proofs.Common.{ℕ, List, [], ◌∷◌, ◌++◌, Option, Some, None, refl}
 use Rattle.gr_scope.specs.Site.{Site, Source}
-use Rattle.gr_scope.specs.ExpressionSites.{sites_if, list_sites, type_sites, key_sites, expr_sites, operand_sites, link_sites, argument_sites, literal_sites, element_sites, exprs_sites}
+use Rattle.gr_scope.specs.ExpressionSites.{sites_if, list_sites, type_sites, key_sites, expr_sites, operand_sites, link_sites, argument_sites}
+use Rattle.gr_scope.specs.ExpressionSites.{literal_sites, element_sites, exprs_sites}
 use Rattle.gr_scope.specs.Bindings.{may_declare}
 use Rattle.gr_scope.specs.StatementSites.{assigned_sites}
 use Rattle.gr_scope.proofs.Regions.{Plain, each_append}
-use Rattle.gr_tree.specs.Tree.{Item, TypeTree, Local, Imported, Pointer, Slice, ExprTree, Number, Text, Name, Blank, Composite, Paren, Prefix, Address, Chain, Binary, OperandTrees, no_operand, operand, LinkTrees, no_link, selector, index, call, ArgumentTrees, no_argument, argument, LiteralTree, literal, ElementTrees, no_element, element}
+use Rattle.gr_tree.specs.Tree.{Item, TypeTree, Local, Imported, Pointer, Slice, ExprTree, Number, Text, Name, Blank, Composite, Paren, Prefix, Address}
+use Rattle.gr_tree.specs.Tree.{Chain, Binary, OperandTrees, no_operand, operand, LinkTrees, no_link, selector, index, call, ArgumentTrees, no_argument}
+use Rattle.gr_tree.specs.Tree.{argument, LiteralTree, literal, ElementTrees, no_element, element}
 use Rattle.std.specs.Prelude.{◌≡◌, false}
 
 pub plain_append : (xs ys : List Site) → Plain xs → Plain ys → Plain (xs ++ ys)

@@ -200,7 +200,8 @@ module _ (f a b n q r : ℕ) (x y : Site) where
       | inl ox ↦ elim (hy my) [
         | inl flat ↦ flat_second x y f a b ox.block flat
         | inr sy ↦ elim sy [
-          | inl oy ↦ same_block x y f a b ox.block oy.block (let high : start_of x.role ≤ q = ox.high in let low : suc q ≤ start_of y.role = oy.low in omega arith)
+          | inl oy ↦ same_block x y f a b ox.block oy.block (let high : start_of x.role ≤ q = ox.high in let low : suc q ≤ start_of y.role = oy.low in
+              omega arith)
           | inr iy ↦ own_inside ox iy
         ]
       ]
@@ -271,8 +272,10 @@ segment_join f a b n q r xs ys hn hr x y = (
 pub segment_widen : (f a b n q n' q' : ℕ) (xs : List Site) → n' ≤ n → q ≤ q' → Segment f a b n q xs → Segment f a b n' q' xs
 segment_widen f a b n q n' q' xs hn hq x = (each_map (Fits f a b n q) (Fits f a b n' q') (wider f a b n q n' q' hn hq) xs x.0, x.1)
 
-pub segment_outward : (f c d n q a b n' q' : ℕ) (xs : List Site) → c < d → q ≤ d → a < c → d ≤ b → n' ≤ c → d ≤ q' → Segment f c d n q xs → Segment f a b n' q' xs
-segment_outward f c d n q a b n' q' xs cd qd ac db nc dq x = (each_map (Fits f c d n q) (Fits f a b n' q') (outward f c d n q a b n' q' cd qd ac db nc dq) xs x.0, x.1)
+pub segment_outward : (f c d n q a b n' q' : ℕ) (xs : List Site) → c < d → q ≤ d → a < c → d ≤ b → n' ≤ c → d ≤ q' → Segment f c d n q xs →
+    Segment f a b n' q' xs
+segment_outward f c d n q a b n' q' xs cd qd ac db nc dq x =
+    (each_map (Fits f c d n q) (Fits f a b n' q') (outward f c d n q a b n' q' cd qd ac db nc dq) xs x.0, x.1)
 
 -- identifiers that declare nothing
 abbrev pub Plain : List Site → Type 0
@@ -290,7 +293,8 @@ segment_plain f a b n q xs h = (
 pub segment_plain_after : (f a b n q : ℕ) (xs ys : List Site) → Segment f a b n q xs → Plain ys → Segment f a b n q (xs ++ ys)
 segment_plain_after f a b n q xs ys x p = (
   each_append (Fits f a b n q) xs ys x.0 (segment_plain f a b n q ys p).0,
-  pairs_append Related (Fits f a b n q) (λ y. may_declare y.role ≡ false) (λ u v hu hv mu mv. not_both v hv mv) xs ys x.0 p x.1 (segment_plain f a b n q ys p).1,
+  pairs_append Related (Fits f a b n q) (λ y. may_declare y.role ≡ false) (λ u v hu hv mu mv. not_both v hv mv) xs ys x.0 p x.1
+      (segment_plain f a b n q ys p).1,
 )
 
 pub segment_plain_before : (f a b n q : ℕ) (xs ys : List Site) → Plain xs → Segment f a b n q ys → Segment f a b n q (xs ++ ys)

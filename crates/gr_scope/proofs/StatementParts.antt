@@ -7,7 +7,8 @@ use Rattle.gr_scope.specs.declared.model.Block.TheVariants as blocks
 use Rattle.gr_scope.specs.declared.model.Role.{Role}
 use Rattle.gr_scope.specs.Site.{Site, Source}
 use Rattle.gr_scope.specs.ExpressionSites.{list_sites, expr_sites, exprs_sites}
-use Rattle.gr_scope.specs.StatementSites.{ident_sites, left_sites, assigned_sites, simple_sites, value_sites, for_sites, local_sites, separated_sites, group_sites, statement_sites, statements_sites, block_sites, if_sites, else_sites, init_sites, open_of}
+use Rattle.gr_scope.specs.StatementSites.{ident_sites, left_sites, assigned_sites, simple_sites, value_sites, for_sites, local_sites, separated_sites}
+use Rattle.gr_scope.specs.StatementSites.{group_sites, statement_sites, statements_sites, block_sites, if_sites, else_sites, init_sites, open_of}
 use Rattle.gr_scope.specs.ExpressionSites.{sites_if, type_sites}
 use Rattle.gr_scope.specs.declared.model.Role.TheVariants.{Declaring}
 use Rattle.gr_tree.specs.View.{option_view, item_view, list_view, group_view, ident_view, type_view, expr_view, exprs_view}
@@ -27,7 +28,8 @@ use Rattle.gr_tree.specs.declared.tree.Group.{Group}
 use Rattle.gr_tree.specs.declared.tree.Group.TheVariants as group
 use Rattle.gr_tree.specs.declared.tree.BlockItem.{BlockItem}
 use Rattle.gr_tree.specs.declared.tree.Block as trees
-use Rattle.gr_tree.specs.declared.tree.Block.{Block', out-Block, outs-Block', Row_of-BlockItem, end_of-BlockItem, more_of-BlockItem, items-the_row-BlockItem, items_shown-the_row-BlockItem-0}
+use Rattle.gr_tree.specs.declared.tree.Block.{Block', out-Block, outs-Block', Row_of-BlockItem, end_of-BlockItem, more_of-BlockItem}
+use Rattle.gr_tree.specs.declared.tree.Block.{items-the_row-BlockItem, items_shown-the_row-BlockItem-0}
 use Rattle.gr_tree.specs.declared.tree.IfStmt.{IfStmt, IfStmt', out-IfStmt, outs-IfStmt'}
 
 abbrev pub expr_part : Source → ExprItem → List Site
@@ -53,24 +55,28 @@ pub flat_map-map : {X Y : Type 0} (f : Y → List Site) (g : X → Y) (xs : List
 flat_map-map f g [] = refl
 flat_map-map f g (x ∷ xs) = ap (λ z. f (g x) ++ z) (flat_map-map f g xs)
 
-statement_row : (s : Source) (b : Block) (close : ℕ) {n : _} (row : Row_of-BlockItem n) → statements_sites s b close (statements_view row) ≡ flat_map (statement_part s b close) (items-the_row-BlockItem n row)
+statement_row : (s : Source) (b : Block) (close : ℕ) {n : _} (row : Row_of-BlockItem n) →
+    statements_sites s b close (statements_view row) ≡ flat_map (statement_part s b close) (items-the_row-BlockItem n row)
 unfolding statements_sites statements_view
 statement_row s b close end_of-BlockItem = refl
 statement_row s b close (more_of-BlockItem x p rest) = ap (λ z. statement_sites s b (unwrap_or p close) (stmt_view x) ++ z) (statement_row s b close rest)
 
 block_from : (s : Source) (x : trees.Block) →
-    flat_map (statement_part s (blocks.Inner s.rank (out-Block x).«open» (out-Block x).close) (out-Block x).close) (out-Block x).statements.items ≡ block_sites s (block_view x)
+    flat_map (statement_part s (blocks.Inner s.rank (out-Block x).«open» (out-Block x).close) (out-Block x).close) (out-Block x).statements.items ≡
+    block_sites s (block_view x)
 unfolding block_sites block_view
 block_from s (Block' o shape row c) =
     ap (λ r. flat_map (statement_part s (blocks.Inner s.rank r.«open» r.close) r.close) r.statements.items) (outs-Block' o shape row c) ∙
-    ap (flat_map (statement_part s (blocks.Inner s.rank o c) c)) (items_shown-the_row-BlockItem-0 shape row) ∙ sym (statement_row s (blocks.Inner s.rank o c) c row)
+    ap (flat_map (statement_part s (blocks.Inner s.rank o c) c)) (items_shown-the_row-BlockItem-0 shape row) ∙
+    sym (statement_row s (blocks.Inner s.rank o c) c row)
 
 pub block_read : (s : Source) (x : trees.Block) (xs : List BlockItem) → xs ≡ (out-Block x).statements.items →
     flat_map (statement_part s (blocks.Inner s.rank (out-Block x).«open» (out-Block x).close) (out-Block x).close) xs ≡ block_sites s (block_view x)
 block_read s x xs e = ap (flat_map (statement_part s (blocks.Inner s.rank (out-Block x).«open» (out-Block x).close) (out-Block x).close)) e ∙ block_from s x
 
 pub if_from : (s : Source) (q : ℕ) (x : IfStmt) →
-    sites_if (init_sites s (blocks.Inner s.rank (out-IfStmt x).at q)) (option_view init_view (out-IfStmt x).init) ++ (expr_sites s (expr_view (out-IfStmt x).condition) ++
+    sites_if (init_sites s (blocks.Inner s.rank (out-IfStmt x).at q)) (option_view init_view (out-IfStmt x).init) ++
+    (expr_sites s (expr_view (out-IfStmt x).condition) ++
     (block_sites s (block_view (out-IfStmt x).body) ++ else_sites s q (else_view (out-IfStmt x).otherwise))) ≡ if_sites s q (if_view x)
 unfolding if_sites if_view
 if_from s q (IfStmt' p init e b rest) =
@@ -108,28 +114,35 @@ assigned_default s (expr.Address at l) no_blank = refl
 assigned_default s (expr.Chain' p e shape row) no_blank = refl
 assigned_default s (expr.Binary' p e shape row) no_blank = refl
 
-pub assign_from : (s : Source) (b : Block) (q : ℕ) (x : SimpleStmt) (left right : _) (p : ℕ) (ls rs : List ExprItem) → x ≡ simple.Assign left p right → ls ≡ left.items → rs ≡ right.items →
+pub assign_from : (s : Source) (b : Block) (q : ℕ) (x : SimpleStmt) (left right : _) (p : ℕ) (ls rs : List ExprItem) → x ≡ simple.Assign left p right →
+    ls ≡ left.items → rs ≡ right.items →
     list_sites (assigned_sites s) (exprs_view ls) ++ exprs_sites s (exprs_view rs) ≡ simple_sites s b q (simple_view x)
 unfolding simple_sites simple_view
 assign_from s b q x left right p ls rs ex el er =
-    ap (λ z. list_sites (assigned_sites s) (exprs_view z) ++ exprs_sites s (exprs_view rs)) el ∙ ap (λ z. list_sites (assigned_sites s) (exprs_view left.items) ++ exprs_sites s (exprs_view z)) er ∙
+    ap (λ z. list_sites (assigned_sites s) (exprs_view z) ++ exprs_sites s (exprs_view rs)) el ∙
+    ap (λ z. list_sites (assigned_sites s) (exprs_view left.items) ++ exprs_sites s (exprs_view z)) er ∙
     ap (λ z. simple_sites s b q (simple_view z)) (sym ex)
 
-pub define_from : (s : Source) (b : Block) (q : ℕ) (x : SimpleStmt) (left right : _) (p : ℕ) (ls rs : List ExprItem) → x ≡ simple.Define left p right → ls ≡ left.items → rs ≡ right.items →
+pub define_from : (s : Source) (b : Block) (q : ℕ) (x : SimpleStmt) (left right : _) (p : ℕ) (ls rs : List ExprItem) → x ≡ simple.Define left p right →
+    ls ≡ left.items → rs ≡ right.items →
     list_sites (left_sites s b q) (exprs_view ls) ++ exprs_sites s (exprs_view rs) ≡ simple_sites s b q (simple_view x)
 unfolding simple_sites simple_view
 define_from s b q x left right p ls rs ex el er =
-    ap (λ z. list_sites (left_sites s b q) (exprs_view z) ++ exprs_sites s (exprs_view rs)) el ∙ ap (λ z. list_sites (left_sites s b q) (exprs_view left.items) ++ exprs_sites s (exprs_view z)) er ∙
+    ap (λ z. list_sites (left_sites s b q) (exprs_view z) ++ exprs_sites s (exprs_view rs)) el ∙
+    ap (λ z. list_sites (left_sites s b q) (exprs_view left.items) ++ exprs_sites s (exprs_view z)) er ∙
     ap (λ z. simple_sites s b q (simple_view z)) (sym ex)
 
 pub local_read : (s : Source) (b : Block) (q : ℕ) (x : LocalSpec) (xs : List (Item Ident)) → xs ≡ x.names.items →
-    list_sites (ident_sites s (Declaring b q)) (list_view ident_view xs) ++ (sites_if (type_sites s) (option_view type_view x.local_type) ++ sites_if (value_sites s) (option_view values_view x.values)) ≡
+    list_sites (ident_sites s (Declaring b q)) (list_view ident_view xs) ++
+    (sites_if (type_sites s) (option_view type_view x.local_type) ++ sites_if (value_sites s) (option_view values_view x.values)) ≡
     local_sites s b q (local_view x)
 unfolding local_sites local_view
 local_read s b q x xs e =
-    ap (λ z. list_sites (ident_sites s (Declaring b q)) (list_view ident_view z) ++ (sites_if (type_sites s) (option_view type_view x.local_type) ++ sites_if (value_sites s) (option_view values_view x.values))) e
+    ap (λ z. list_sites (ident_sites s (Declaring b q)) (list_view ident_view z) ++
+    (sites_if (type_sites s) (option_view type_view x.local_type) ++ sites_if (value_sites s) (option_view values_view x.values))) e
 
-pub locals_from : (s : Source) (b : Block) (q : ℕ) (g : Group LocalSpec) (o : ℕ) (items : _) (c : ℕ) (xs : List (Item LocalSpec)) → g ≡ group.Several o items c → xs ≡ items.items →
+pub locals_from : (s : Source) (b : Block) (q : ℕ) (g : Group LocalSpec) (o : ℕ) (items : _) (c : ℕ) (xs : List (Item LocalSpec)) →
+    g ≡ group.Several o items c → xs ≡ items.items →
     flat_map (local_part s b c) xs ≡ group_sites (local_sites s b) q (group_view local_view g)
 unfolding group_sites group_view separated_sites
 locals_from s b q g o items c xs eg ex =
@@ -140,4 +153,5 @@ pub for_from : (s : Source) (b : Block) (q : ℕ) (x : Stmt) (p : ℕ) (h : ForH
     for_sites s (blocks.Inner s.rank p q) (out-Block body).«open» (for_view h) ++ block_sites s (block_view body) ≡ statement_sites s b q (stmt_view x)
 unfolding statement_sites stmt_view
 for_from s b q x p h body ex =
-    ap (λ z. for_sites s (blocks.Inner s.rank p q) z (for_view h) ++ block_sites s (block_view body)) (open_from body) ∙ ap (λ z. statement_sites s b q (stmt_view z)) (sym ex)
+    ap (λ z. for_sites s (blocks.Inner s.rank p q) z (for_view h) ++ block_sites s (block_view body)) (open_from body) ∙
+    ap (λ z. statement_sites s b q (stmt_view z)) (sym ex)

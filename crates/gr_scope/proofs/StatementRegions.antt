@@ -8,16 +8,22 @@ use Rattle.gr_scope.specs.declared.model.Block.TheVariants as blocks
 use Rattle.gr_scope.specs.declared.model.Role.TheVariants.{Declaring}
 use Rattle.gr_scope.specs.Site.{Site, Source}
 use Rattle.gr_scope.specs.ExpressionSites.{sites_if, list_sites, type_sites, expr_sites, exprs_sites}
-use Rattle.gr_scope.specs.StatementSites.{ident_sites, left_sites, assigned_sites, simple_sites, value_sites, local_sites, separated_sites, group_sites, init_sites, for_sites, open_of, close_of, statement_sites, block_sites, statements_sites, if_sites, else_sites}
-use Rattle.gr_scope.proofs.Regions.{Each, each_append, Segment, segment_join, segment_widen, segment_outward, Plain, segment_plain, segment_plain_after, segment_plain_before, Together, segment_together, together_plain}
+use Rattle.gr_scope.specs.StatementSites.{ident_sites, left_sites, assigned_sites, simple_sites, value_sites, local_sites, separated_sites, group_sites}
+use Rattle.gr_scope.specs.StatementSites.{init_sites, for_sites, open_of, close_of, statement_sites, block_sites, statements_sites, if_sites, else_sites}
+use Rattle.gr_scope.proofs.Regions.{Each, each_append, Segment, segment_join, segment_widen, segment_outward, Plain, segment_plain, segment_plain_after}
+use Rattle.gr_scope.proofs.Regions.{segment_plain_before, Together, segment_together, together_plain}
 use Rattle.gr_scope.proofs.PlainSites.{plain_append, plain_list, plain_if, plain_type, plain_expr, plain_exprs, plain_assigned}
 use Rattle.gr_scope.proofs.Rising.{Rises, rises_le, rises_up, rises_down, rises_split}
 use Rattle.gr_tree.specs.declared.syntax.Kind.{Kind}
 use Rattle.gr_tree.specs.declared.syntax.Kind.TheVariants as kind
 use Rattle.gr_tree.specs.declared.syntax.Token.{Token}
-use Rattle.gr_tree.specs.Flatten.{sign, sign_if, tokens_if, all_tokens, item_tokens, list_tokens, group_tokens, expr_tokens, exprs_tokens, simple_tokens, local_tokens, init_tokens, for_tokens, statement_tokens, block_tokens, statements_tokens, if_tokens, else_tokens}
+use Rattle.gr_tree.specs.Flatten.{sign, sign_if, tokens_if, all_tokens, item_tokens, list_tokens, group_tokens, expr_tokens, exprs_tokens, simple_tokens}
+use Rattle.gr_tree.specs.Flatten.{local_tokens, init_tokens, for_tokens, statement_tokens, block_tokens, statements_tokens, if_tokens, else_tokens}
 use Rattle.gr_tree.specs.WellFormed.{IsSeparated, IsGroup, Perhaps, IsPost, IsFor, IsLocal, IsStatement, IsBlock, AreStatements, IsIf, IsElse}
-use Rattle.gr_tree.specs.Tree.{Item, Group, single, several, IdentTree, Named, Underscore, ExprTree, Number, Text, Name, Blank, Composite, Paren, Prefix, Address, Chain, Binary, SimpleTree, Alone, Step, Update, Assign, Define, LocalTree, InitTree, ForTree, forever, while, clauses, StatementTree, Empty, Var, Simple, Inner, If, For, Break, Continue, Return, BlockTree, block, StatementTrees, no_statement, statement, IfTree, if_tree, ElseTree, no_else, else_if, else_block}
+use Rattle.gr_tree.specs.Tree.{Item, Group, single, several, IdentTree, Named, Underscore, ExprTree, Number, Text, Name, Blank, Composite, Paren, Prefix}
+use Rattle.gr_tree.specs.Tree.{Address, Chain, Binary, SimpleTree, Alone, Step, Update, Assign, Define, LocalTree, InitTree, ForTree, forever, while}
+use Rattle.gr_tree.specs.Tree.{clauses, StatementTree, Empty, Var, Simple, Inner, If, For, Break, Continue, Return, BlockTree, block, StatementTrees}
+use Rattle.gr_tree.specs.Tree.{no_statement, statement, IfTree, if_tree, ElseTree, no_else, else_if, else_block}
 
 -- what begins later begins late enough
 together_down : (f a b n k q : ℕ) (xs : List Site) → n ≤ k → Each (Together f a b k q) xs → Each (Together f a b n q) xs
@@ -68,10 +74,12 @@ pub ident_together : (s : Source) (a b q n : ℕ) (x : IdentTree) → Each (Toge
 ident_together s a b q n (Named i) = ((λ may. inr (record { block = refl; start = refl; left = λ left. not_left left })), tt)
 ident_together s a b q n (Underscore i) = ((λ may. not_left may), tt)
 
-pub idents_together : (s : Source) (a b q n : ℕ) (xs : List (Item IdentTree)) → Each (Together s.rank a b n q) (list_sites (ident_sites s (Declaring (blocks.Inner s.rank a b) q)) xs)
+pub idents_together : (s : Source) (a b q n : ℕ) (xs : List (Item IdentTree)) →
+    Each (Together s.rank a b n q) (list_sites (ident_sites s (Declaring (blocks.Inner s.rank a b) q)) xs)
 idents_together s a b q n [] = tt
 idents_together s a b q n (x ∷ xs) =
-    each_append (Together s.rank a b n q) (ident_sites s (Declaring (blocks.Inner s.rank a b) q) x.value) (list_sites (ident_sites s (Declaring (blocks.Inner s.rank a b) q)) xs)
+    each_append (Together s.rank a b n q) (ident_sites s (Declaring (blocks.Inner s.rank a b) q) x.value)
+    (list_sites (ident_sites s (Declaring (blocks.Inner s.rank a b) q)) xs)
     (ident_together s a b q n x.value) (idents_together s a b q n xs)
 
 pub simple_fits : (s : Source) (a b n following : ℕ) (x : SimpleTree) → a ≤ n → Rises n (simple_tokens x) following →
@@ -98,7 +106,8 @@ unfolding simple_sites
 post_plain s b q (Alone e) h = plain_expr s e
 post_plain s b q (Step e op p) h = plain_expr s e
 post_plain s b q (Update e op p f) h = plain_append (expr_sites s e) (expr_sites s f) (plain_expr s e) (plain_expr s f)
-post_plain s b q (Assign es p fs) h = plain_append (list_sites (assigned_sites s) es) (exprs_sites s fs) (plain_list (assigned_sites s) (plain_assigned s) es) (plain_exprs s fs)
+post_plain s b q (Assign es p fs) h = plain_append (list_sites (assigned_sites s) es) (exprs_sites s fs)
+    (plain_list (assigned_sites s) (plain_assigned s) es) (plain_exprs s fs)
 post_plain s b q (Define es p fs) h = absurd h
 
 plain_values : (s : Source) (v : ℕ × List (Item ExprTree)) → Plain (value_sites s v)
@@ -109,10 +118,12 @@ pub local_fits : (s : Source) (a b n following : ℕ) (x : LocalTree) → a ≤ 
 unfolding local_sites local_tokens
 local_fits s a b n q x an h =
     let nq : n ≤ q = rises_le n (local_tokens x) q h in
-    segment_plain_after s.rank a b n q (list_sites (ident_sites s (Declaring (blocks.Inner s.rank a b) q)) x.names) (sites_if (type_sites s) x.type_use ++ sites_if (value_sites s) x.values)
+    segment_plain_after s.rank a b n q (list_sites (ident_sites s (Declaring (blocks.Inner s.rank a b) q)) x.names)
+    (sites_if (type_sites s) x.type_use ++ sites_if (value_sites s) x.values)
     (segment_together s.rank a b n q (list_sites (ident_sites s (Declaring (blocks.Inner s.rank a b) q)) x.names) (omega arith) nq
     (idents_together s a b q n x.names))
-    (plain_append (sites_if (type_sites s) x.type_use) (sites_if (value_sites s) x.values) (plain_if (type_sites s) (plain_type s) x.type_use) (plain_if (value_sites s) (plain_values s) x.values))
+    (plain_append (sites_if (type_sites s) x.type_use) (sites_if (value_sites s) x.values) (plain_if (type_sites s) (plain_type s) x.type_use)
+    (plain_if (value_sites s) (plain_values s) x.values))
 
 -- items, each with its identifiers in the region before the token behind it
 module _ {X : Type 0} (P : X → Type 0) (tokens : X → List Token) (sites : ℕ → X → List Site) (f a b : ℕ)
@@ -146,7 +157,8 @@ module _ {X : Type 0} (P : X → Type 0) (tokens : X → List Token) (sites : �
   unfolding all_tokens separated_sites
   separated_fits n c [] an sep ps h = (tt, tt)
   separated_fits n c (x ∷ xs) an sep ps h =
-      item_then n c x.value x.separator xs an (All-head (λ y. P y.value) x xs ps) sep.0 h (λ k nk r. separated_fits k c xs (omega arith) sep.1 (All-tail (λ y. P y.value) x xs ps) r)
+      item_then n c x.value x.separator xs an (All-head (λ y. P y.value) x xs ps) sep.0 h
+      (λ k nk r. separated_fits k c xs (omega arith) sep.1 (All-tail (λ y. P y.value) x xs ps) r)
 
   pub group_fits : (n q : ℕ) (g : Group X) → a ≤ n → IsGroup P g → Rises n (group_tokens tokens g) q → Segment f a b n q (group_sites sites q g)
   unfolding group_tokens group_sites
@@ -214,13 +226,15 @@ header_fits s p b o k (clauses init first condition second post) w h =
         segment_plain_after s.rank p b (suc p) first (sites_if (simple_sites s (blocks.Inner s.rank p b) first) init)
             (sites_if (expr_sites s) condition ++ sites_if (simple_sites s (blocks.Inner s.rank p b) o) post)
             (simple_if_fits s p b (suc p) first init (omega arith) (rises_up (suc p) (tokens_if simple_tokens init) r.0 first rf r.1.0))
-            (plain_append (sites_if (expr_sites s) condition) (sites_if (simple_sites s (blocks.Inner s.rank p b) o) post) (plain_if (expr_sites s) (plain_expr s) condition)
+            (plain_append (sites_if (expr_sites s) condition) (sites_if (simple_sites s (blocks.Inner s.rank p b) o) post)
+            (plain_if (expr_sites s) (plain_expr s) condition)
             (post_if_plain s (blocks.Inner s.rank p b) o post w.2)),
       ),
     )
 
 mutual
-  unfolding statement_tokens block_tokens statements_tokens if_tokens else_tokens statement_sites block_sites statements_sites if_sites else_sites IsStatement IsBlock AreStatements IsIf IsElse
+  unfolding statement_tokens block_tokens statements_tokens if_tokens else_tokens statement_sites block_sites statements_sites if_sites else_sites
+      IsStatement IsBlock AreStatements IsIf IsElse
 
   pub statement_fits : (s : Source) (a b n q : ℕ) (x : StatementTree) → IsStatement x → a < n → q ≤ b → Rises n (statement_tokens x) q →
       Segment s.rank a b n q (statement_sites s (blocks.Inner s.rank a b) q x)
@@ -228,7 +242,8 @@ mutual
   statement_fits s a b n q (Var p g) w an qb h =
       let np : n ≤ p = h.0 in
       segment_widen s.rank a b (suc p) q n q (group_sites (local_sites s (blocks.Inner s.rank a b)) q g) (omega arith) (omega arith)
-      (group_fits IsLocal local_tokens (local_sites s (blocks.Inner s.rank a b)) s.rank a b (λ k m x ak px r. local_fits s a b k m x ak r) (suc p) q g (omega arith) w h.1)
+      (group_fits IsLocal local_tokens (local_sites s (blocks.Inner s.rank a b)) s.rank a b (λ k m x ak px r. local_fits s a b k m x ak r) (suc p) q g
+      (omega arith) w h.1)
   statement_fits s a b n q (Simple x) w an qb h = simple_fits s a b n q x (omega arith) h
   statement_fits s a b n q (Inner x) w an qb h =
       let r = block_fits s a b n q x w an (omega arith) h in
@@ -244,7 +259,8 @@ mutual
       let v = block_fits s p q (suc u.0) q x w.1 (omega arith) (omega arith) (rises_down (suc u.0) r.0 (block_tokens x) q ur r.1.1) in
       let cq : suc (close_of x) ≤ q = v.0 in
       let rq : suc u.0 ≤ q = rises_le (suc u.0) (block_tokens x) q (rises_down (suc u.0) r.0 (block_tokens x) q ur r.1.1) in
-      segment_outward s.rank p q (suc p) q a b n q (for_sites s (blocks.Inner s.rank p q) (open_of x) f ++ block_sites s x) (omega arith) (omega arith) (omega arith) qb np (omega arith)
+      segment_outward s.rank p q (suc p) q a b n q (for_sites s (blocks.Inner s.rank p q) (open_of x) f ++ block_sites s x) (omega arith) (omega arith)
+      (omega arith) qb np (omega arith)
       (segment_join s.rank p q (suc p) u.0 q (for_sites s (blocks.Inner s.rank p q) (open_of x) f) (block_sites s x) (omega arith) (omega arith) u.1.2
       (segment_widen s.rank p q (suc u.0) (close_of x) (suc u.0) q (block_sites s x) (omega arith) (omega arith) v.1))
   statement_fits s a b n q (Break p) w an qb h = (tt, tt)
@@ -260,7 +276,8 @@ mutual
       let cm : suc c ≤ m = r.1.1.1 in
       let ro : suc o ≤ r.0 = rises_le (suc o) (statements_tokens ss) r.0 r.1.0 in (
         cm,
-        segment_outward s.rank o c (suc o) c a b n c (statements_sites s (blocks.Inner s.rank o c) c ss) (omega arith) (omega arith) (omega arith) (omega arith) no (omega arith)
+        segment_outward s.rank o c (suc o) c a b n c (statements_sites s (blocks.Inner s.rank o c) c ss) (omega arith) (omega arith) (omega arith)
+            (omega arith) no (omega arith)
             (statements_fits s o c (suc o) c ss w.1 (omega arith) (omega arith) (rises_up (suc o) (statements_tokens ss) r.0 c rc r.1.0)),
       )
 
@@ -278,7 +295,8 @@ mutual
       let rp : r.0 ≤ p = r.1.1.0 in
       let pc : suc p ≤ c = rises_le (suc p) (statements_tokens rest) c r.1.1.1 in
       let nr : n ≤ r.0 = rises_le n (statement_tokens x) r.0 r.1.0 in
-      segment_join s.rank a b n p c (statement_sites s (blocks.Inner s.rank a b) p x) (statements_sites s (blocks.Inner s.rank a b) c rest) (omega arith) (omega arith)
+      segment_join s.rank a b n p c (statement_sites s (blocks.Inner s.rank a b) p x) (statements_sites s (blocks.Inner s.rank a b) c rest) (omega arith)
+      (omega arith)
       (statement_fits s a b n p x w.0 an (omega arith) (rises_up n (statement_tokens x) r.0 p rp r.1.0))
       (statements_fits s a b (suc p) c rest w.2 (omega arith) cb r.1.1.1)
 
@@ -300,7 +318,8 @@ mutual
       let oc : suc u.0 ≤ close_of x = close_above (suc u.0) t.0 x (rises_down (suc u.0) v.0 (block_tokens x) t.0 (omega arith) t.1.0) in
       let z = else_fits s p q (suc (close_of x)) q rest w.3 (omega arith) (omega arith) (rises_down (suc (close_of x)) t.0 (else_tokens rest) q ct t.1.1) in
       segment_outward s.rank p q (suc p) q a b n q (if_sites s q (if_tree p init e x rest)) (omega arith) (omega arith) (omega arith) qb np (omega arith)
-      (segment_join s.rank p q (suc p) u.0 q (sites_if (init_sites s B) init) (expr_sites s e ++ (block_sites s x ++ else_sites s q rest)) (omega arith) (omega arith) u.1.2
+      (segment_join s.rank p q (suc p) u.0 q (sites_if (init_sites s B) init) (expr_sites s e ++ (block_sites s x ++ else_sites s q rest)) (omega arith)
+      (omega arith) u.1.2
       (segment_plain_before s.rank p q (suc u.0) q (expr_sites s e) (block_sites s x ++ else_sites s q rest) (plain_expr s e)
       (segment_join s.rank p q (suc u.0) (close_of x) q (block_sites s x) (else_sites s q rest) (omega arith) (omega arith) y.1 z)))
 

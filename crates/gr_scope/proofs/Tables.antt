@@ -12,7 +12,8 @@ use Rattle.gr_scope.specs.Site.{Site, sites_layout, sites_names}
 use Rattle.gr_scope.specs.Table.{layout_of, names_of, IsFirstOf}
 use Rattle.gr_scope.proofs.Declared.{in_sites}
 
-pub of_table : (P : List FileParts → Layout → Names → ℕ → Type 0) (xs ys : List Identifier) (files : List FileParts) (p : ScopedPackage) → xs ≡ ys → files ≡ p.files → map site_of ys ≡ p.sites →
+pub of_table : (P : List FileParts → Layout → Names → ℕ → Type 0) (xs ys : List Identifier) (files : List FileParts) (p : ScopedPackage) → xs ≡ ys →
+    files ≡ p.files → map site_of ys ≡ p.sites →
     P files (layout_of xs) (names_of xs) (length xs) → P p.files (layout_in p) (names_in p) (length p.sites)
 of_table P xs ys files p ex ef es h =
     let X : List Identifier → Type 0 = λ zs. P files (layout_of zs) (names_of zs) (length zs) in

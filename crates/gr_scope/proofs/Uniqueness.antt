@@ -48,9 +48,11 @@ module _ (l : Layout) (nested : Nested l) where
   pub bound_once : (names : Names) (u d e : ℕ) → IsBoundTo l names u d → IsBoundTo l names u e → d ≡ e
   bound_once names u d e (use_bound i x) (use_bound j y) = binds_once l nested names (names u) u d e x y
   bound_once names u d e (own p c) (own q k) = sym p ∙ q
-  bound_once names u d e (use_bound (inl i) x) (own q k) = absurd (use_not_may (l.role u) i (let P : ℕ → Type 0 = λ v. MayDeclare l v in subst P (sym q) k.declares.may))
+  bound_once names u d e (use_bound (inl i) x) (own q k) =
+      absurd (use_not_may (l.role u) i (let P : ℕ → Type 0 = λ v. MayDeclare l v in subst P (sym q) k.declares.may))
   bound_once names u d e (use_bound (inr i) x) (own q k) = absurd (i.1 (let P : ℕ → Type 0 = λ v. Declares l names v in subst P (sym q) k.declares))
-  bound_once names u d e (own p c) (use_bound (inl i) x) = absurd (use_not_may (l.role u) i (let P : ℕ → Type 0 = λ v. MayDeclare l v in subst P (sym p) c.declares.may))
+  bound_once names u d e (own p c) (use_bound (inl i) x) =
+      absurd (use_not_may (l.role u) i (let P : ℕ → Type 0 = λ v. MayDeclare l v in subst P (sym p) c.declares.may))
   bound_once names u d e (own p c) (use_bound (inr i) x) = absurd (i.1 (let P : ℕ → Type 0 = λ v. Declares l names v in subst P (sym p) c.declares))
 
 -- a declaring identifier is no use

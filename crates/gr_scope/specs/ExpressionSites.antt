@@ -4,7 +4,9 @@ use Rattle.std.specs.List.{flat_map}
 use Rattle.gr_scope.specs.declared.model.Role.TheVariants.{Use, NotLexical}
 use Rattle.gr_scope.specs.declared.model.Purpose.TheVariants as purpose
 use Rattle.gr_scope.specs.Site.{Site, Source, site}
-use Rattle.gr_tree.specs.Tree.{Item, TypeTree, Local, Imported, Pointer, Slice, ExprTree, Number, Text, Name, Blank, Composite, Paren, Prefix, Address, Chain, Binary, OperandTrees, no_operand, operand, LinkTrees, no_link, selector, index, call, ArgumentTrees, no_argument, argument, LiteralTree, literal, ElementTrees, no_element, element}
+use Rattle.gr_tree.specs.Tree.{Item, TypeTree, Local, Imported, Pointer, Slice, ExprTree, Number, Text, Name, Blank, Composite, Paren, Prefix, Address}
+use Rattle.gr_tree.specs.Tree.{Chain, Binary, OperandTrees, no_operand, operand, LinkTrees, no_link, selector, index, call, ArgumentTrees, no_argument}
+use Rattle.gr_tree.specs.Tree.{argument, LiteralTree, literal, ElementTrees, no_element, element}
 
 -- the identifiers of what may be absent
 abbrev pub sites_if : {X : Type 0} → (X → List Site) → Option X → List Site

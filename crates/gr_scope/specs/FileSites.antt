@@ -10,7 +10,8 @@ use Rattle.gr_scope.specs.declared.model.Purpose.TheVariants as purpose
 use Rattle.gr_scope.specs.Site.{Site, Source, site}
 use Rattle.gr_scope.specs.ExpressionSites.{sites_if, list_sites, type_sites}
 use Rattle.gr_scope.specs.StatementSites.{ident_sites, group_sites, open_of, close_of, block_sites}
-use Rattle.gr_tree.specs.Tree.{Group, GlobalTree, FieldTree, BodyTree, Other, Struct, TypeSpecTree, ReceiverTree, ParamTree, ResultTree, no_result, one_result, results, FuncTree, ImportTree, ImportsTree, DeclTree, VarDecl, TypeDecl, FuncDecl, FileTree}
+use Rattle.gr_tree.specs.Tree.{Group, GlobalTree, FieldTree, BodyTree, Other, Struct, TypeSpecTree, ReceiverTree, ParamTree, ResultTree, no_result}
+use Rattle.gr_tree.specs.Tree.{one_result, results, FuncTree, ImportTree, ImportsTree, DeclTree, VarDecl, TypeDecl, FuncDecl, FileTree}
 
 -- a name that the package's block declares
 abbrev pub global_name : Source → ℕ → List Site

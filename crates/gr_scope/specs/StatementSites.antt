@@ -10,7 +10,10 @@ use Rattle.gr_scope.specs.declared.model.Role.TheVariants.{Declaring, LeftName, 
 use Rattle.gr_scope.specs.declared.model.Purpose.TheVariants as purpose
 use Rattle.gr_scope.specs.Site.{Site, Source, site}
 use Rattle.gr_scope.specs.ExpressionSites.{sites_if, list_sites, type_sites, expr_sites, exprs_sites}
-use Rattle.gr_tree.specs.Tree.{Item, Group, single, several, IdentTree, Named, Underscore, ExprTree, Name, Blank, SimpleTree, Alone, Step, Update, Assign, Define, LocalTree, InitTree, ForTree, forever, while, clauses, StatementTree, Empty, Var, Simple, Inner, If, For, Break, Continue, Return, BlockTree, block, StatementTrees, no_statement, statement, IfTree, if_tree, ElseTree, no_else, else_if, else_block}
+use Rattle.gr_tree.specs.Tree.{Item, Group, single, several, IdentTree, Named, Underscore, ExprTree, Name, Blank, SimpleTree, Alone, Step, Update, Assign}
+use Rattle.gr_tree.specs.Tree.{Define, LocalTree, InitTree, ForTree, forever, while, clauses, StatementTree, Empty, Var, Simple, Inner, If, For, Break}
+use Rattle.gr_tree.specs.Tree.{Continue, Return, BlockTree, block, StatementTrees, no_statement, statement, IfTree, if_tree, ElseTree, no_else, else_if}
+use Rattle.gr_tree.specs.Tree.{else_block}
 
 -- a name that is declared; a `_` declares nothing
 abbrev pub ident_sites : Source → Role → IdentTree → List Site

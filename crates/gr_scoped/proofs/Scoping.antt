@@ -21,17 +21,20 @@ use Rattle.gr_scoped.specs.Scopes.{package_scoped, AreScopesOf, AreScopesNamed, 
 use Rattle.gr_scoped.proofs.ClauseNames.{none_faulty}
 
 -- a file has no tree
-pub not_scoped : (w : Workspace) (path : List ℕ) (files : List FileParts) (faulty : List FaultyParts) → AreParsed (package_files w path) files faulty → (faulty ≡ [] → ⊥) → IsNotScoped w path
+pub not_scoped : (w : Workspace) (path : List ℕ) (files : List FileParts) (faulty : List FaultyParts) → AreParsed (package_files w path) files faulty →
+    (faulty ≡ [] → ⊥) → IsNotScoped w path
 not_scoped w path files faulty parsed some = λ p is e. some (none_faulty parsed is.parsed (ap (package_files w) (sym e)))
 
 -- each file has one
-pub is_scoped : (w : Workspace) (path : List ℕ) (files : List FileParts) (name_of : List ℕ → Option (List ℕ)) (s : PackageScopes) → Contains (package_paths w) path → AreParsed (package_files w path) files [] →
+pub is_scoped : (w : Workspace) (path : List ℕ) (files : List FileParts) (name_of : List ℕ → Option (List ℕ)) (s : PackageScopes) →
+    Contains (package_paths w) path → AreParsed (package_files w path) files [] →
     AreClauseNames w name_of → AreScopesNamed path files name_of s → AreScopes w path s
 is_scoped w path files name_of s has parsed names h =
     let same_files : s.files.now ≡ files = h.are_scopes.same_files in
     let same_table : s.table ≡ h.laid = h.are_scopes.same_table in
     let own : AreParsed (package_files w path) s.files.now [] = subst (λ fs. AreParsed (package_files w path) fs []) (sym same_files) parsed in
-    let over : IsLaidOver (map source_of s.files.now) name_of (scoped s.files.now) h.laid = subst (λ fs. IsLaidOver (map source_of fs) name_of (scoped fs) h.laid) (sym same_files) h.is_laid in
+    let over : IsLaidOver (map source_of s.files.now) name_of (scoped s.files.now) h.laid =
+    subst (λ fs. IsLaidOver (map source_of fs) name_of (scoped fs) h.laid) (sym same_files) h.is_laid in
     record {
       is_scoped = record {
         of_workspace = has;
@@ -39,7 +42,11 @@ is_scoped w path files name_of s has parsed names h =
         parsed = own;
         name_of = name_of;
         are_names = names;
-        is_package = record { laid = s.table; is_laid = subst (IsLaidOver (map source_of s.files.now) name_of (scoped s.files.now)) (sym same_table) over; is_package = refl };
+        is_package = record {
+          laid = s.table;
+          is_laid = subst (IsLaidOver (map source_of s.files.now) name_of (scoped s.files.now)) (sym same_table) over;
+          is_package = refl;
+        };
       };
       parsed = own;
       users = h.are_scopes.users;
@@ -74,6 +81,7 @@ more_scopes w count old new x e is h = record {
 pub no_package : (w : Workspace) (path : List ℕ) → (Contains (package_paths w) path → ⊥) → IsNotScoped w path
 no_package w path none = λ p is e. none (subst (Contains (package_paths w)) e is.of_workspace)
 
-pub found_at : (w : Workspace) (path : List ℕ) (r : Option (Bor PackageScopes)) (o : Option PackageScopes) → option_copied r ≡ o → MayBeScopes w path o → MatchOption r (IsNotScoped w path) (λ s. AreScopes w path s.now)
+pub found_at : (w : Workspace) (path : List ℕ) (r : Option (Bor PackageScopes)) (o : Option PackageScopes) → option_copied r ≡ o → MayBeScopes w path o →
+    MatchOption r (IsNotScoped w path) (λ s. AreScopes w path s.now)
 found_at w path None o e h = subst (MayBeScopes w path) (sym e) h
 found_at w path (Some s) o e h = subst (MayBeScopes w path) (sym e) h

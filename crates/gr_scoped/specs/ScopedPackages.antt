@@ -12,7 +12,8 @@ use Rattle.gr_meanings.specs.PackageOf.{IsPackageOf}
 
 -- the name of the package of a path: that in the clause of its first file, where each of its files has a tree
 pub data IsClauseName (w : Workspace) (path : List ℕ) : Option (List ℕ) → Type 0 where
-  named : {files : List FileParts} → Contains (package_paths w) path → AreParsed (package_files w path) files [] → IsClauseName w path (Some (package_name (map source_of files)))
+  named : {files : List FileParts} → Contains (package_paths w) path → AreParsed (package_files w path) files [] →
+      IsClauseName w path (Some (package_name (map source_of files)))
   unnamed : ((files : List FileParts) → Contains (package_paths w) path → AreParsed (package_files w path) files [] → ⊥) → IsClauseName w path None
 
 -- A package each of whose files has a tree. Of what other packages export nothing is known: scopes do not ask for it.
@@ -37,5 +38,6 @@ AreClauseNames w name_of = (path : List ℕ) → IsClauseName w path (name_of pa
 
 -- the name of one package was added, if it has one
 pub data AddsClauseName (w : Workspace) (path : List ℕ) (old new : List ℕ → Option (List ℕ)) : Type 0 where
-  added : {name : List ℕ} → IsClauseName w path (Some name) → new path ≡ Some name → ((other : List ℕ) → (other ≡ path → ⊥) → new other ≡ old other) → AddsClauseName w path old new
+  added : {name : List ℕ} → IsClauseName w path (Some name) → new path ≡ Some name → ((other : List ℕ) → (other ≡ path → ⊥) → new other ≡ old other) →
+      AddsClauseName w path old new
   nothing : IsClauseName w path None → ((other : List ℕ) → new other ≡ old other) → AddsClauseName w path old new

@@ -52,7 +52,8 @@ MayBeScopes w path found = MatchOption found (IsNotScoped w path) (λ s. AreScop
 -- the same of each of the first packages
 pub record AreScopesBelow (w : Workspace) (count : ℕ) (list : List (Option PackageScopes)) : Type 0 where
   pub size : length list ≡ count
-  pub each : (n : ℕ) (path : List ℕ) (found : Option PackageScopes) → slice_get (package_paths w) n ≡ Some path → slice_get list n ≡ Some found → MayBeScopes w path found
+  pub each : (n : ℕ) (path : List ℕ) (found : Option PackageScopes) → slice_get (package_paths w) n ≡ Some path → slice_get list n ≡ Some found →
+      MayBeScopes w path found
 
 -- the same of all packages
 abbrev pub AreAllScopes : Workspace → List (Option PackageScopes) → Type 0

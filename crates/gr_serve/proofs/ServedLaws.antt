@@ -32,8 +32,10 @@ handed_back : (parts from : ℕ) (seats : List (List Receipt)) (book : Machine) 
     → IsHandedBack parts seats book
 handed_back parts from seats book none legal bound whole = record {
   legal = legal;
-  bound = subst (λ (n : ℕ). n ≤ length book.journal) (zero-add (receipt_count seats)) (subst (λ (n : ℕ). n + receipt_count seats ≤ length book.journal) none bound);
-  whole = λ all. subst (λ (n : ℕ). length book.journal ≡ n) (zero-add (receipt_count seats)) (subst (λ (n : ℕ). length book.journal ≡ n + receipt_count seats) none (whole all));
+  bound = subst (λ (n : ℕ). n ≤ length book.journal) (zero-add (receipt_count seats))
+      (subst (λ (n : ℕ). n + receipt_count seats ≤ length book.journal) none bound);
+  whole = λ all. subst (λ (n : ℕ). length book.journal ≡ n) (zero-add (receipt_count seats))
+      (subst (λ (n : ℕ). length book.journal ≡ n + receipt_count seats) none (whole all));
 }
 
 -- the length of the journal of a book that is handed back

@@ -8,8 +8,15 @@ use std::alloc::Global;
 use std::io::{BufReader, BufWriter};
 use std::os::unix::net::UnixStream;
 use std::sync::Wait;
-use std::thread::Threads;
+use std::thread::{Builder, Threads};
 use std::{io, thread};
+
+/// The stack of each thread, whatever limit the server was started with: four times what a file takes at the limit of nesting.
+const STACK_BYTES: usize = 8_388_608;
+
+fn sized() -> Builder {
+    Builder::new().stack_size(STACK_BYTES)
+}
 
 /// Serves the session of one connection.
 fn talk<L: Opening, R: Wait>(
@@ -58,8 +65,8 @@ fn serve_sessions<L: Opening + Send + Sync, R: Threads + Wait + Sync>(
         let mut are_made = were_made;
         let mut turn = turns.turn.lock(rt);
         for seat in seats {
-            if scope
-                .spawn(move || take_turns(rt, alloc, shared, seat, turns))
+            if sized()
+                .spawn_scoped(scope, move || take_turns(rt, alloc, shared, seat, turns))
                 .is_err()
             {
                 are_made = false;
@@ -89,8 +96,8 @@ pub(crate) fn run<L: Opening + Send + Sync, R: Threads + Wait + Sync, G: Gate + 
         let count = workers.min(seats.len());
         let (at_work, in_sessions) = seats.split_at_mut(count);
         for seat in at_work {
-            if scope
-                .spawn(move || worker(rt, alloc, shared, seat, gate))
+            if sized()
+                .spawn_scoped(scope, move || worker(rt, alloc, shared, seat, gate))
                 .is_err()
             {
                 are_made = false;

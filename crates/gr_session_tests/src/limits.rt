@@ -35,8 +35,8 @@ fn answers(rt: &(impl Abort + AllocGlobal), lowered: Lowered, input: &str, outpu
 fn limits_of_a_file_and_of_a_line(rt: HostRuntime) {
     answers(
         &rt,
-        Lowered::FileBytes(9),
-        "put 0 a/a.go 10\npackage a\n",
+        Lowered::FileBytes(57),
+        "put 0 a/a.go 58\npackage a\n\nvar x int\n\nfunc F(y int) int {\n\treturn x + y\n}\n",
         "no 5 0\n",
     );
     answers(
@@ -58,7 +58,7 @@ fn limit_of_undo(rt: HostRuntime) {
     answers(
         &rt,
         Lowered::OneUndo,
-        "put 0 a/a.go 10\npackage a\nput 1 b/b.go 10\npackage b\nundo 2\nundo 1\n",
+        "put 0 a/a.go 58\npackage a\n\nvar x int\n\nfunc F(y int) int {\n\treturn x + y\n}\nput 1 b/b.go 10\npackage b\nundo 2\nundo 1\n",
         "ok 1 0\nok 2 0\nok 1 0\nno 7 0\n",
     );
 }
@@ -69,7 +69,7 @@ fn limit_of_the_journal(rt: HostRuntime) {
     answers(
         &rt,
         Lowered::Journal(3),
-        "look\nput 0 a/a.go 10\npackage a\nlook\n",
+        "look\nput 0 a/a.go 58\npackage a\n\nvar x int\n\nfunc F(y int) int {\n\treturn x + y\n}\nlook\n",
         "ok 0 14\nundo 0 redo 0\nok 1 0\nno 19 0\n",
     );
     let input = "put 0 a/a.go 10\npackage a\nwork\nlook\n";

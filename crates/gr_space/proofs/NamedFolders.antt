@@ -1,6 +1,5 @@
 -- The files outside the folders of all that an edit set names are the same after it.
 use Rattle.std.proofs.Common.{◌≡◌, ℕ, ◌+◌, ◌<◌, ◌⊎◌, inl, inr, List, [], ◌∷◌, length, take, get_or, Option, Some, None, Bor, refl, sym, ap, subst, ◌∙◌, ⊎_elim}
-use Rattle.std.specs.declared.cmp.Ordering.{Ordering}
 use Rattle.std.specs.declared.cmp.Ordering.TheVariants.{Less, Equal, Greater}
 use Rattle.std.specs.Ordering.{match_ordering}
 use Rattle.std.specs.BTreeSet.{insert_key}
@@ -10,12 +9,10 @@ use Rattle.std.proofs.lemmas.List.{take_more}
 use Rattle.std.proofs.lemmas.List.Elements.{Contains-push_cases}
 use Rattle.std.proofs.lemmas.Option.{none-some, same_Some}
 use Rattle.gr_text.specs.Path.{folder}
-use Rattle.gr_text.specs.Packages.{is_go}
 use Rattle.gr_text.specs.Workspace.{Workspace}
 use Rattle.gr_text.proofs.WorkspaceLaws.{path_cmp_exact}
-use Rattle.gr_edit.specs.Edits.{edited_text}
-use Rattle.gr_edit.specs.EditSet.{FileChanges, path_by, change_of, file_by, file_after, edited}
-use Rattle.gr_edit.specs.Fits.{Fits, new_path, path_by_change}
+use Rattle.gr_edit.specs.EditSet.{FileChanges, path_by, change_of, file_by, edited}
+use Rattle.gr_edit.specs.Fits.{Fits, new_path}
 use Rattle.gr_edit.specs.declared.change.FileChange.{FileChange}
 use Rattle.gr_edit.specs.declared.change.Fate.{Fate}
 use Rattle.gr_edit.specs.declared.change.Fate.TheVariants.{Stays, Moves, Dropped}
@@ -25,13 +22,16 @@ use Rattle.gr_edit.proofs.FilesAfter.{IsOldFile, comes_from, has_file}
 use Rattle.gr_graph.specs.Filling.{names}
 use Rattle.gr_graph.specs.Staying.{DiffersOnlyIn}
 use Rattle.gr_graph.proofs.PackagePaths.{folder_cmp}
-use Rattle.gr_space.specs.Folders.{AddsFolders, HoldsFolders, IsNamed, IsOfAdded, IsOfChange, IsOfChanges}
+use Rattle.gr_space.specs.Folders.{AddsFolders, HoldsFolders, IsNamed, IsOfChange}
 
 -- ---- one folder more
-pub inserted : (ks : List (Bor (List ℕ))) (k : Bor (List ℕ)) (q : List ℕ) → (Contains (names ks) q ⊎ (k.now ≡ q)) → Contains (names (insert_key folder_cmp ks k)) q
-inserted [] k q either = ⊎_elim (λ (none : Contains [] q). absurd (nothing_in q none)) (λ (same : k.now ≡ q). subst (Contains (k.now ∷ [])) same (first_in k.now [])) either
+pub inserted : (ks : List (Bor (List ℕ))) (k : Bor (List ℕ)) (q : List ℕ) → (Contains (names ks) q ⊎ (k.now ≡ q)) →
+    Contains (names (insert_key folder_cmp ks k)) q
+inserted [] k q either = ⊎_elim (λ (none : Contains [] q). absurd (nothing_in q none))
+    (λ (same : k.now ≡ q). subst (Contains (k.now ∷ [])) same (first_in k.now [])) either
 inserted (x ∷ xs) k q either =
-    elim (folder_cmp k x) as (λ order. folder_cmp k x ≡ order → Contains (names (match_ordering order (k ∷ x ∷ xs) (x ∷ xs) (x ∷ insert_key folder_cmp xs k))) q) [
+    elim (folder_cmp k x) as (λ order. folder_cmp k x ≡ order →
+    Contains (names (match_ordering order (k ∷ x ∷ xs) (x ∷ xs) (x ∷ insert_key folder_cmp xs k))) q) [
       | Less ↦ λ e. ⊎_elim
           (λ (old : Contains (x.now ∷ names xs) q). later_in k.now (x.now ∷ names xs) q old)
           (λ (same : k.now ≡ q). subst (Contains (k.now ∷ x.now ∷ names xs)) same (first_in k.now (x.now ∷ names xs)))
@@ -49,7 +49,8 @@ inserted (x ∷ xs) k q either =
           either
     ] refl
 
-pub adds_folder : (path : List ℕ) (ks new : List (Bor (List ℕ))) (k : Bor (List ℕ)) → k.now ≡ folder path → new ≡ insert_key folder_cmp ks k → AddsFolders (λ p. path ≡ p) (names ks) (names new)
+pub adds_folder : (path : List ℕ) (ks new : List (Bor (List ℕ))) (k : Bor (List ℕ)) → k.now ≡ folder path → new ≡ insert_key folder_cmp ks k →
+    AddsFolders (λ p. path ≡ p) (names ks) (names new)
 adds_folder path ks new k is e = subst (λ (l : List (Bor (List ℕ))). AddsFolders (λ p. path ≡ p) (names ks) (names l)) (sym e) (record {
   kept = λ f has. inserted ks k f (inl has);
   each = λ p same. inserted ks k (folder p) (inr (is ∙ ap folder same));
@@ -69,12 +70,14 @@ pub adds_fewer : (P Q : List ℕ → Type 0) (a b : List (List ℕ)) → ((p : L
 adds_fewer P Q a b gives adds = record { kept = adds.kept; each = λ p is. adds.each p (gives p is) }
 
 -- ---- the folders of one change
-pub change_stays : (c : FileChange) (old new : List (List ℕ)) → new_path c.fate ≡ None → AddsFolders (λ p. c.path ≡ p) old new → AddsFolders (IsOfChange c) old new
+pub change_stays : (c : FileChange) (old new : List (List ℕ)) → new_path c.fate ≡ None → AddsFolders (λ p. c.path ≡ p) old new →
+    AddsFolders (IsOfChange c) old new
 change_stays c old new none adds = adds_fewer (λ p. c.path ≡ p) (IsOfChange c) old new
     (λ p named. ⊎_elim (λ (same : c.path ≡ p). same) (λ (to : new_path c.fate ≡ Some p). absurd (none-some p (sym none ∙ to))) named)
     adds
 
-pub change_moves : (c : FileChange) (to : List ℕ) (a b d : List (List ℕ)) → new_path c.fate ≡ Some to → AddsFolders (λ p. c.path ≡ p) a b → AddsFolders (λ p. to ≡ p) b d
+pub change_moves : (c : FileChange) (to : List ℕ) (a b d : List (List ℕ)) → new_path c.fate ≡ Some to → AddsFolders (λ p. c.path ≡ p) a b →
+    AddsFolders (λ p. to ≡ p) b d
     → AddsFolders (IsOfChange c) a d
 change_moves c to a b d is first second = adds_more (λ p. c.path ≡ p) (λ p. to ≡ p) (IsOfChange c) a b d
     (λ p named. ⊎_elim (λ (same : c.path ≡ p). inl same) (λ (goes : new_path c.fate ≡ Some p). inr (same_Some to p (sym is ∙ goes))) named)
@@ -136,7 +139,8 @@ one_option None None f g = refl
 one_option None (Some t) f g = absurd (none-some t (g t refl))
 one_option (Some t) y f g = sym (f t refl)
 
-pub differs_only_in : (s : FileChanges) (w : Workspace) → Fits s w → (folders : List (List ℕ)) → HoldsFolders (IsNamed s) folders → DiffersOnlyIn folders w (edited s w)
+pub differs_only_in : (s : FileChanges) (w : Workspace) → Fits s w → (folders : List (List ℕ)) → HoldsFolders (IsNamed s) folders →
+    DiffersOnlyIn folders w (edited s w)
 differs_only_in s w fits folders holds path go apart =
     let not_named : IsNamed s path → ⊥ = λ named. apart (holds path named) in
     one_option (get (edited s w) path) (get w path) (λ t. there_before s w path not_named t) (λ t. there_after s w path not_named fits t)

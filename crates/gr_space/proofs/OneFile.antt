@@ -1,5 +1,6 @@
 -- The edit sets of puts and dels: that they fit, and what they make of the files.
-use Rattle.std.proofs.Common.{◌≡◌, ◌==◌, ℕ, ◌⊎◌, inl, inr, Bool, true, false, cond, List, [], ◌∷◌, length, ◌≤◌, Option, Some, None, IsSome, refl, sym, ap, subst, ◌∙◌, ⊎_elim}
+use Rattle.std.proofs.Common.{◌≡◌, ◌==◌, ℕ, inl, inr, true, false, cond, List, [], ◌∷◌, length, ◌≤◌, Option, Some, None, IsSome, refl, sym, ap, subst, ◌∙◌}
+use Rattle.std.proofs.Common.{⊎_elim}
 use Rattle.std.specs.Cmp.Lexicographic.{pointwise, bytes_decides}
 use Rattle.std.specs.Ordering.{eq_by_cmp}
 use Rattle.std.specs.List.{Contains, All, IsDistinct}
@@ -29,7 +30,8 @@ record OneGoes (s : FileChanges) (w : Workspace) (path : List ℕ) : Type 0 wher
 
 gets_other : (s : FileChanges) (w : Workspace) (path : List ℕ) → OneGoes s w path → (old new : List ℕ) → Gets s w old new → (path ≡ old → ⊥) × (old ≡ new)
 gets_other s w path one old new g =
-    let apart : path ≡ old → ⊥ = λ same. none-some new (sym (one.goes (subst (λ (p : List ℕ). IsSome (get w p)) (sym same) g.0)) ∙ ap (path_after s) same ∙ g.1) in
+    let apart : path ≡ old → ⊥ = λ same. none-some new
+    (sym (one.goes (subst (λ (p : List ℕ). IsSome (get w p)) (sym same) g.0)) ∙ ap (path_after s) same ∙ g.1) in
     (apart, same_Some old new (sym (ap (λ o. path_by_change o old) (one.others old apart)) ∙ g.1))
 
 kept_file : (s : FileChanges) (w : Workspace) (path : List ℕ) → OneGoes s w path → (q t : List ℕ) → (path ≡ q → ⊥) → get w q ≡ Some t → IsOldFile s w q t
@@ -50,7 +52,8 @@ own_path path old = ap (λ b. cond b (Some (dropped (path, old))) None) ((bytes_
 
 dropped_there : (w : Workspace) (path old text : List ℕ) → get w path ≡ Some text → All (IsThere w) (dropped (path, old) ∷ [])
 dropped_there w path old text is =
-    All-cons (IsThere w) (dropped (path, old)) [] (is_there w (dropped (path, old)) text is (All-nil (λ (e : Edit). e.span.end ≤ length text))) (All-nil (IsThere w))
+    All-cons (IsThere w) (dropped (path, old)) [] (is_there w (dropped (path, old)) text is (All-nil (λ (e : Edit). e.span.end ≤ length text)))
+    (All-nil (IsThere w))
 
 -- ---- edit sets
 no_paths : IsDistinct {K = List ℕ} (pointwise ◌==◌) []
@@ -83,12 +86,14 @@ pub put_is_set : (w : Workspace) (path text : List ℕ) → IsEditSet (put_chang
 put_is_set w path text = put_is_set_by (get w path) path text
 
 -- lists that make such a set
-pub del_set_from : (path : List ℕ) (cs : List FileChange) (es : List (List ℕ × List ℕ)) → cs ≡ dropped (path, []) ∷ [] → es ≡ [] → IsEditSet (record { changed = cs; added = es })
+pub del_set_from : (path : List ℕ) (cs : List FileChange) (es : List (List ℕ × List ℕ)) → cs ≡ dropped (path, []) ∷ [] → es ≡ [] →
+    IsEditSet (record { changed = cs; added = es })
 del_set_from path cs es h k =
     let same : ◌≡◌ {A = FileChanges} (del_changes path) (record { changed = cs; added = es }) = (λ i. record { changed = sym h i; added = sym k i }) in
     subst IsEditSet same (del_is_set path)
 
-pub put_set_from : (w : Workspace) (path text : List ℕ) (cs : List FileChange) (es : List (List ℕ × List ℕ)) → cs ≡ replaced (get w path) path → es ≡ (path, text) ∷ [] → IsEditSet (record { changed = cs; added = es })
+pub put_set_from : (w : Workspace) (path text : List ℕ) (cs : List FileChange) (es : List (List ℕ × List ℕ)) → cs ≡ replaced (get w path) path →
+    es ≡ (path, text) ∷ [] → IsEditSet (record { changed = cs; added = es })
 put_set_from w path text cs es h k =
     let same : ◌≡◌ {A = FileChanges} (put_changes w path text) (record { changed = cs; added = es }) = (λ i. record { changed = sym h i; added = sym k i }) in
     subst IsEditSet same (put_is_set w path text)
@@ -136,17 +141,22 @@ module _ (w : Workspace) (path text : List ℕ) where
       ⊎_elim
       (λ (new : Contains put_set.added (q, t)).
       let same = only (path, text) (q, t) new in
-      get-insert path_cmp_total w path text q ∙ ap (λ b. cond b (Some text) (get w q)) (same_path q path (sym (ap (λ (e : List ℕ × List ℕ). e.0) same))) ∙ ap (λ (e : List ℕ × List ℕ). Some e.1) same)
+      get-insert path_cmp_total w path text q ∙ ap (λ b. cond b (Some text) (get w q)) (same_path q path (sym (ap (λ (e : List ℕ × List ℕ). e.0) same))) ∙
+      ap (λ (e : List ℕ × List ℕ). Some e.1) same)
       (λ (o : IsOldFile put_set w q t).
       let r = old_kept put_set w path (put_goes w path text) q t o in
-      get-insert path_cmp_total w path text q ∙ ap (λ b. cond b (Some text) (get w q)) (not_true (eq_by_cmp path_cmp q path) (λ tied. r.0 (sym (exact_path q path tied)))) ∙ r.1)
+      get-insert path_cmp_total w path text q ∙ ap (λ b. cond b (Some text) (get w q))
+      (not_true (eq_by_cmp path_cmp q path) (λ tied. r.0 (sym (exact_path q path tied)))) ∙ r.1)
       (comes_from put_set w q t h)
 
   put_from : (q t : List ℕ) → get (insert w path text) q ≡ Some t → IsSome (get (edited put_set w) q)
   put_from q t h =
       elim (eq_by_cmp path_cmp q path) as (λ b. eq_by_cmp path_cmp q path ≡ b → cond b (Some text) (get w q) ≡ Some t → IsSome (get (edited put_set w) q)) [
-        | true ↦ λ tied k. subst (λ (p : List ℕ). IsSome (get (edited put_set w) p)) (sym (exact_path q path tied)) (some_is (get (edited put_set w) path) text (has_file put_set w (put_fits w path text) path text (inl (first_in (path, text) []))))
-        | false ↦ λ apart k. some_is (get (edited put_set w) q) t (has_file put_set w (put_fits w path text) q t (inr (kept_file put_set w path (put_goes w path text) q t (λ same. true≢false (sym (same_path q path (sym same)) ∙ apart)) k)))
+        | true ↦ λ tied k. subst (λ (p : List ℕ). IsSome (get (edited put_set w) p)) (sym (exact_path q path tied))
+            (some_is (get (edited put_set w) path) text (has_file put_set w (put_fits w path text) path text (inl (first_in (path, text) []))))
+        | false ↦ λ apart k. some_is (get (edited put_set w) q) t
+            (has_file put_set w (put_fits w path text) q t
+            (inr (kept_file put_set w path (put_goes w path text) q t (λ same. true≢false (sym (same_path q path (sym same)) ∙ apart)) k)))
       ] refl (sym (get-insert path_cmp_total w path text q) ∙ h)
 
   pub put_edited : edited (put_changes w path text) w ≡ insert w path text
@@ -178,14 +188,17 @@ module _ (w : Workspace) (path : List ℕ) (some : IsSome (get w path)) where
       (λ (new : Contains del_set.added (q, t)). let x : get (remove w path) q ≡ Some t = absurd (nothing_in (q, t) new) in x)
       (λ (o : IsOldFile del_set w q t).
       let r = old_kept del_set w path (del_goes w path) q t o in
-      get-remove path_cmp_total w path q ∙ ap (λ b. cond b None (get w q)) (not_true (eq_by_cmp path_cmp q path) (λ tied. r.0 (sym (exact_path q path tied)))) ∙ r.1)
+      get-remove path_cmp_total w path q ∙ ap (λ b. cond b None (get w q))
+      (not_true (eq_by_cmp path_cmp q path) (λ tied. r.0 (sym (exact_path q path tied)))) ∙ r.1)
       (comes_from del_set w q t h)
 
   del_from : (q t : List ℕ) → get (remove w path) q ≡ Some t → IsSome (get (edited del_set w) q)
   del_from q t h =
       elim (eq_by_cmp path_cmp q path) as (λ b. eq_by_cmp path_cmp q path ≡ b → cond b None (get w q) ≡ Some t → IsSome (get (edited del_set w) q)) [
         | true ↦ λ tied k. absurd (none-some t k)
-        | false ↦ λ apart k. some_is (get (edited del_set w) q) t (has_file del_set w (del_fits w path some) q t (inr (kept_file del_set w path (del_goes w path) q t (λ same. true≢false (sym (same_path q path (sym same)) ∙ apart)) k)))
+        | false ↦ λ apart k. some_is (get (edited del_set w) q) t
+            (has_file del_set w (del_fits w path some) q t
+            (inr (kept_file del_set w path (del_goes w path) q t (λ same. true≢false (sym (same_path q path (sym same)) ∙ apart)) k)))
       ] refl (sym (get-remove path_cmp_total w path q) ∙ h)
 
   pub del_edited : edited (del_changes path) w ≡ remove w path

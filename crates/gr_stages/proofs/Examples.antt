@@ -1,7 +1,8 @@
 -- Examples of marks, computed: where a `break` is stray, and which `:=` there are.
 use Rattle.std.proofs.Common.{◌≡◌, false, List, [], ◌∷◌, refl}
 use Rattle.std.specs.Prelude.{Some, None}
-use Rattle.gr_tree.specs.Tree.{Item, ExprTree, Name, Number, Define, forever, clauses, StatementTree, If, For, Break, Continue, BlockTree, block, no_statement, statement, if_tree, no_else}
+use Rattle.gr_tree.specs.Tree.{Item, ExprTree, Name, Number, Define, forever, clauses, StatementTree, If, For, Break, Continue, BlockTree, block}
+use Rattle.gr_tree.specs.Tree.{no_statement, statement, if_tree, no_else}
 use Rattle.gr_text.specs.declared.fault_kind.FaultKind.TheVariants as kind
 use Rattle.gr_imports.specs.declared.states.ImportState.TheVariants as states
 use Rattle.gr_imports.specs.States.{import_fault}
@@ -34,7 +35,8 @@ abbrev one : ExprTree → List (Item ExprTree)
 one e = record { value = e; separator = None } ∷ []
 
 -- `for i := 1; ; { break }`
-define_in_header : statement_marks false (For 3 (clauses (Some (Define (one (Name 4)) 5 (one (Number 6)))) 7 None 8 None) (lone (Break 11))) ≡ Defines (one (Name 4)) 5 ∷ []
+define_in_header : statement_marks false (For 3 (clauses (Some (Define (one (Name 4)) 5 (one (Number 6)))) 7 None 8 None) (lone (Break 11))) ≡ Defines
+    (one (Name 4)) 5 ∷ []
 unfolding statement_marks statements_marks block_marks simple_marks for_marks
 define_in_header = refl
 

@@ -21,9 +21,11 @@ use Rattle.gr_imports.specs.Laid.{Laid, literal_of, IsPathOf, is_exported}
 use Rattle.gr_stages.specs.Unknown.{IsFaultOfKind, IsUnknownOf, IsQualifiedBy}
 
 -- the fault of a name of the package of a path
-pub name_added : {E : Type 0} (one : (bytes v w : List ℕ) → HasStringValue bytes v → HasStringValue bytes w → v ≡ w) (files : List SourceFile) (exports : (path name : List ℕ) → Bool) (p : Laid) (d u : ℕ)
+pub name_added : {E : Type 0} (one : (bytes v w : List ℕ) → HasStringValue bytes v → HasStringValue bytes w → v ≡ w) (files : List SourceFile)
+    (exports : (path name : List ℕ) → Bool) (p : Laid) (d u : ℕ)
     (path : List ℕ) (kind : Option FaultKind) (a b : List Fault) (r : Result (Unit {0}) E) → IsPathOf files p d path →
-    kind ≡ qualified_fault (is_exported (p.names u)) (exports path (p.names u)) → OnOk r (Adds a b (IsFaultOfKind p u kind)) → OnOk r (Adds a b (IsUnknownOf files exports p d u))
+    kind ≡ qualified_fault (is_exported (p.names u)) (exports path (p.names u)) → OnOk r (Adds a b (IsFaultOfKind p u kind)) →
+    OnOk r (Adds a b (IsUnknownOf files exports p d u))
 name_added one files exports p d u path kind a b r of_path is k =
     let kind_of : List ℕ → Option FaultKind = λ v. qualified_fault (is_exported (p.names u)) (exports v (p.names u)) in
     call_adds a b (IsFaultOfKind p u kind) (IsUnknownOf files exports p d u) r k
@@ -34,12 +36,23 @@ before_one : (u a b : ℕ) → u ≡ suc a → u ≡ suc b → a ≡ b
 before_one u a b e h = omega arith
 
 -- the fault of a name behind that of the one import to which the use before it is bound
-pub unknown_added : {E : Type 0} (files : List SourceFile) (exports : (path name : List ℕ) → Bool) (p : Laid) (d u : ℕ) (a b : List Fault) (r : Result (Unit {0}) E) →
+pub unknown_added : {E : Type 0} (files : List SourceFile) (exports : (path name : List ℕ) → Bool) (p : Laid) (d u : ℕ) (a b : List Fault)
+    (r : Result (Unit {0}) E) →
     ((v x y : ℕ) → IsBoundTo p.layout p.names v x → IsBoundTo p.layout p.names v y → x ≡ y) → IsQualifiedBy p u d →
     OnOk r (Adds a b (IsUnknownOf files exports p d u)) → OnOk r (Adds a b (IsUnknown files exports p u))
 unknown_added files exports p d u a b r one q k =
     call_adds a b (IsUnknownOf files exports p d u) (IsUnknown files exports p u) r k
-    (λ f h. record { before = q.0; import = d; path = h.path; qualified = q.1; of_path = h.of_path; file = h.of_kind.file; token = h.of_kind.token; kind = h.of_kind.is_kind })
+    (λ f h. record {
+      before = q.0;
+      import = d;
+      path = h.path;
+      qualified = q.1;
+      of_path = h.of_path;
+      file = h.of_kind.file;
+      token = h.of_kind.token;
+      kind =
+          h.of_kind.is_kind;
+    })
     (λ f h.
     let same : h.before ≡ q.0 = before_one u h.before q.0 h.qualified.next q.1.next in
     let import : h.import ≡ d = one q.0 h.import d (subst (λ v. IsBoundTo p.layout p.names v h.import) same h.qualified.bound) q.1.bound in

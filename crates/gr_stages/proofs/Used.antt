@@ -1,5 +1,6 @@
 -- Which identifiers are used, one user after the other.
-use Rattle.std.proofs.Common.{ℕ, ◌≡◌, ◌≢◌, ◌+◌, ◌<◌, ◌⊎◌, ◌↔◌, inl, inr, Bool, true, false, List, length, get_or, ap, sym, ◌∙◌, subst, refl, arith, MatchOption, get_or-set_same, get_or-set_other}
+use Rattle.std.proofs.Common.{ℕ, ◌≡◌, ◌≢◌, ◌+◌, ◌<◌, ◌⊎◌, ◌↔◌, inl, inr, Bool, true, false, List, length, get_or, ap, sym, ◌∙◌, subst, refl, arith}
+use Rattle.std.proofs.Common.{MatchOption, get_or-set_same, get_or-set_other}
 use Rattle.std.specs.Prelude.{Option, Some, None}
 use Rattle.std.proofs.Math.ListN.{set, length-set}
 use Rattle.std.proofs.lemmas.Bool.{cases_lt}
@@ -33,14 +34,17 @@ same_or_not d k = elim (cases_lt d k) [
 ]
 
 -- a test that says the same as before, of a number that the new user does not use
-kept : (p : Laid) (n d : ℕ) (b c : Bool) → c ≡ b → ((b ≡ true) ↔ IsUsedBelow p n d) → (IsUse p.layout p.names n → IsBoundTo p.layout p.names n d → ⊥) → (c ≡ true) ↔ IsUsedBelow p (n + 1) d
+kept : (p : Laid) (n d : ℕ) (b c : Bool) → c ≡ b → ((b ≡ true) ↔ IsUsedBelow p n d) → (IsUse p.layout p.names n → IsBoundTo p.layout p.names n d → ⊥) →
+    (c ≡ true) ↔ IsUsedBelow p (n + 1) d
 kept p n d b c e h no_use = (
   (λ t. later p n d (h.0 (sym e ∙ t))),
   (λ u. elim (earlier p n d u) [ inl o ↦ e ∙ h.1 o | inr q ↦ absurd (no_use q.0 q.1) ]),
 )
 
-pub marked : (p : Laid) (used new : List Bool) (u : ℕ) (r : Option ℕ) → ((v d e : ℕ) → IsBoundTo p.layout p.names v d → IsBoundTo p.layout p.names v e → d ≡ e) →
-    AreUsed p u used → MatchOption r (IsUse p.layout p.names u → (d : ℕ) → IsBoundTo p.layout p.names u d → ⊥) (λ d. IsUse p.layout p.names u × IsBoundTo p.layout p.names u d) →
+pub marked : (p : Laid) (used new : List Bool) (u : ℕ) (r : Option ℕ) →
+    ((v d e : ℕ) → IsBoundTo p.layout p.names v d → IsBoundTo p.layout p.names v e → d ≡ e) →
+    AreUsed p u used → MatchOption r (IsUse p.layout p.names u → (d : ℕ) → IsBoundTo p.layout p.names u d → ⊥)
+    (λ d. IsUse p.layout p.names u × IsBoundTo p.layout p.names u d) →
     MatchOption r (new ≡ used) (λ k. new ≡ set used k true) → AreUsed p (u + 1) new
 marked p used new u None one h no_use e = record {
   all = ap length e ∙ h.all;
@@ -53,6 +57,7 @@ marked p used new u (Some k) one h bound_now e = record {
       (λ t. now_used p u d bound_now.0 (subst (IsBoundTo p.layout p.names u) (sym same) bound_now.1)),
       (λ q. ap (λ z. get_or z d false) (e ∙ ap (λ j. set used j true) (sym same)) ∙ set_same used d (rw h.all lt)),
     )
-    | inr apart ↦ kept p u d (get_or used d false) (get_or new d false) (ap (λ z. get_or z d false) e ∙ set_other used k d apart) (h.each d lt) (λ q b. apart (one u d k b bound_now.1))
+    | inr apart ↦ kept p u d (get_or used d false) (get_or new d false) (ap (λ z. get_or z d false) e ∙ set_other used k d apart) (h.each d lt)
+        (λ q b. apart (one u d k b bound_now.1))
   ];
 }

@@ -6,7 +6,10 @@ use Rattle.gr_text.specs.declared.fault_kind.FaultKind.TheVariants as kind
 use Rattle.gr_fault.specs.declared.fault.Fault.{Fault}
 use Rattle.gr_fault.specs.Listing.{SomeOf}
 use Rattle.gr_tree.specs.SourceFile.{SourceFile}
-use Rattle.gr_tree.specs.Tree.{Item, ExprTree, Number, Text, Name, Blank, Composite, Paren, Prefix, Address, Chain, Binary, SimpleTree, Alone, Step, Update, Assign, Define, InitTree, ForTree, forever, while, clauses, StatementTree, Empty, Var, Simple, Inner, If, For, Break, Continue, Return, BlockTree, block, StatementTrees, no_statement, statement, IfTree, if_tree, ElseTree, no_else, else_if, else_block, DeclTree, VarDecl, TypeDecl, FuncDecl, FileTree}
+use Rattle.gr_tree.specs.Tree.{Item, ExprTree, Number, Text, Name, Blank, Composite, Paren, Prefix, Address, Chain, Binary, SimpleTree, Alone, Step, Update}
+use Rattle.gr_tree.specs.Tree.{Assign, Define, InitTree, ForTree, forever, while, clauses, StatementTree, Empty, Var, Simple, Inner, If, For, Break}
+use Rattle.gr_tree.specs.Tree.{Continue, Return, BlockTree, block, StatementTrees, no_statement, statement, IfTree, if_tree, ElseTree, no_else, else_if}
+use Rattle.gr_tree.specs.Tree.{else_block, DeclTree, VarDecl, TypeDecl, FuncDecl, FileTree}
 use Rattle.gr_scope.specs.Bindings.{Declares}
 use Rattle.gr_scope.specs.Table.{IsFoundAt}
 use Rattle.gr_imports.specs.Files.{Ranked, ranked}

@@ -9,7 +9,7 @@ use Rattle.gr_graph.proofs.Asked.{at_contains}
 use Rattle.gr_declared.specs.Package.{Package}
 use Rattle.gr_verdict.specs.declared.findings.Findings.{Findings}
 use Rattle.gr_verdict.specs.Verdicts.{Verdicts, IsPackageIn}
-use Rattle.gr_verdict.specs.Found.{known_by}
+use Rattle.gr_verdict.specs.Told.{known_by}
 use Rattle.gr_verdict.proofs.OneVerdict.{right_below, verdict_by, without_faults}
 use Rattle.gr_bound.specs.Uses.{IsPackage}
 use Rattle.gr_bound.specs.Workspaces.{IsSound, IsPackageAt, known_in}
@@ -17,7 +17,8 @@ use Rattle.gr_bound.proofs.Units.{no_fault_in, one_package}
 use Rattle.gr_standing.specs.Standing.{InPackage}
 
 -- each number is that of a checked package
-pub package_there : (w : Workspace) (found : Findings) → IsSound w found → (n : ℕ) → n < length (package_paths w) → (p : Package) × (IsPackageAt w (known_in found) n p)
+pub package_there : (w : Workspace) (found : Findings) → IsSound w found → (n : ℕ) → n < length (package_paths w) → (p : Package) ×
+    (IsPackageAt w (known_in found) n p)
 package_there w found h n lt =
     let known = known_by found.interfaces in
     let x = slice_get_some (package_paths w) n lt in
@@ -36,14 +37,17 @@ package_there w found h n lt =
     )
 
 -- what holds of the package of a number holds of that of its path
-pub in_package : (w : Workspace) (known : Verdicts) (n : ℕ) (p : Package) (path : List ℕ) (P : Package → Type 0) → IsPackageAt w known n p → slice_get (package_paths w) n ≡ Some path → P p → InPackage (IsPackage w known) path P
+pub in_package : (w : Workspace) (known : Verdicts) (n : ℕ) (p : Package) (path : List ℕ) (P : Package → Type 0) → IsPackageAt w known n p →
+    slice_get (package_paths w) n ≡ Some path → P p → InPackage (IsPackage w known) path P
 in_package w known n p path P is at h = record { inside = p; is_package = is.is_package; of_path = same_Some p.path path (sym is.has_number ∙ at); holds = h }
 
-pub of_package : (w : Workspace) (known : Verdicts) (n : ℕ) (p : Package) (path : List ℕ) (P : Package → Type 0) → IsPackageAt w known n p → slice_get (package_paths w) n ≡ Some path → InPackage (IsPackage w known) path P → P p
+pub of_package : (w : Workspace) (known : Verdicts) (n : ℕ) (p : Package) (path : List ℕ) (P : Package → Type 0) → IsPackageAt w known n p →
+    slice_get (package_paths w) n ≡ Some path → InPackage (IsPackage w known) path P → P p
 of_package w known n p path P is at h =
     let same : h.inside ≡ p = one_package w known h.inside p h.is_package is.is_package (h.of_path ∙ sym (same_Some p.path path (sym is.has_number ∙ at))) in
     subst P same h.holds
 
 -- no package has a path that is that of none
-pub no_package : (w : Workspace) (known : Verdicts) (path : List ℕ) (P : Package → Type 0) → (Contains (package_paths w) path → ⊥) → InPackage (IsPackage w known) path P → ⊥
+pub no_package : (w : Workspace) (known : Verdicts) (path : List ℕ) (P : Package → Type 0) → (Contains (package_paths w) path → ⊥) →
+    InPackage (IsPackage w known) path P → ⊥
 no_package w known path P none h = none (subst (Contains (package_paths w)) h.of_path h.is_package.of_workspace)

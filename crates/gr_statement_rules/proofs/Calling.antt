@@ -12,13 +12,15 @@ use Rattle.gr_expr.specs.Judge.{judge}
 use Rattle.gr_stmt.specs.Simple.{is_end, ends_in_call, unless_end, without_last, may_stand, is_statement, stands_faults, binary_of}
 use Rattle.gr_rules.specs.Names.{IsWhole}
 use Rattle.gr_rules.specs.Fits.{Fits, identical}
-use Rattle.gr_rules.specs.Operators.{IsUntyped, GoTogether, of_one_type, right_fits, left_fits, of_one_kind, IsOrder, IsEquality, IsLogic, Operates, adds, computes, orders, connects, compares, compares_with_nil}
+use Rattle.gr_rules.specs.Operators.{IsUntyped, GoTogether, of_one_type, right_fits, left_fits, of_one_kind, IsOrder, IsEquality, IsLogic, Operates, adds}
+use Rattle.gr_rules.specs.Operators.{computes, orders, connects, compares, compares_with_nil}
 use Rattle.gr_rules.specs.Meanings.{HasMeaning}
 use Rattle.gr_rules.proofs.Refusing.{no_fault}
 use Rattle.gr_rules.proofs.Soundness.{sound}
 use Rattle.gr_rules.proofs.Completeness.{complete}
 use Rattle.gr_rules.proofs.Steps.{function_whole}
-use Rattle.gr_statement_rules.specs.Simple.{EndsInCall, the_call, behind_selector, behind_index, behind_call, MayStand, a_function, a_panic, a_print, a_println, Updates, by_sum, by_difference, by_product, by_quotient, by_remainder}
+use Rattle.gr_statement_rules.specs.Simple.{EndsInCall, the_call, behind_selector, behind_index, behind_call, MayStand, a_function, a_panic, a_print}
+use Rattle.gr_statement_rules.specs.Simple.{a_println, Updates, by_sum, by_difference, by_product, by_quotient, by_remainder}
 
 -- links that end in a call
 

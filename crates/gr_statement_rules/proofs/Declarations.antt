@@ -8,15 +8,21 @@ use Rattle.gr_expr.specs.World.{World, Locals, no_locals}
 use Rattle.gr_expr.specs.Judge.{Argued, judge_type}
 use Rattle.gr_stmt.specs.Checked.{Checked}
 use Rattle.gr_stmt.specs.Sides.{Target, Wants, all_refused}
-use Rattle.gr_stmt.specs.Declarations.{literal_value, first_name, literal_faults, value_faults, global_faults, field_faults, body_faults, check_global, check_type, check_decl, check_decls, check_file}
+use Rattle.gr_stmt.specs.Declarations.{literal_value, first_name, literal_faults, value_faults, global_faults, field_faults, body_faults, check_global}
+use Rattle.gr_stmt.specs.Declarations.{check_type, check_decl, check_decls, check_file}
 use Rattle.gr_rules.specs.Names.{IsType}
 use Rattle.gr_rules.proofs.Steps.{empty_first, empty_second, empty_both}
 use Rattle.gr_rules.proofs.Naming.{type_true, true_type}
 use Rattle.gr_rules.proofs.Refusing.{no_fault, type_or_broken}
 use Rattle.gr_rules.proofs.Arguments.{AreOf}
 use Rattle.gr_statement_rules.specs.Giving.{OfType, TakenInTurn}
-use Rattle.gr_statement_rules.specs.Declarations.{FunctionIsTyped, AreLiterals, no_literal, an_integer, a_string, GlobalIsTyped, without_values, with_literals, FieldsAreTyped, no_field_left, also_field, BodyIsTyped, another_type, a_struct, TypeIsTyped, a_definition_of, DeclIsTyped, variables, types, one_function, DeclsAreTyped, no_decl, also_decl, FileIsTyped, a_file}
-use Rattle.gr_statement_rules.specs.Excused.{GlobalIsExcused, global_of_broken, FieldIsBroken, this_field, later_field, BodyIsBroken, other_broken, in_struct, TypeIsExcused, in_type_body, DeclIsExcused, in_variables, in_types, in_function, DeclsAreExcused, this_decl, later_decl, FileIsExcused, in_file}
+use Rattle.gr_statement_rules.specs.Declarations.{FunctionIsTyped, AreLiterals, no_literal, an_integer, a_string, GlobalIsTyped, without_values}
+use Rattle.gr_statement_rules.specs.Declarations.{with_literals, FieldsAreTyped, no_field_left, also_field, BodyIsTyped, another_type, a_struct}
+use Rattle.gr_statement_rules.specs.Declarations.{TypeIsTyped, a_definition_of, DeclIsTyped, variables, types, one_function, DeclsAreTyped, no_decl}
+use Rattle.gr_statement_rules.specs.Declarations.{also_decl, FileIsTyped, a_file}
+use Rattle.gr_statement_rules.specs.Excused.{GlobalIsExcused, global_of_broken, FieldIsBroken, this_field, later_field, BodyIsBroken, other_broken}
+use Rattle.gr_statement_rules.specs.Excused.{in_struct, TypeIsExcused, in_type_body, DeclIsExcused, in_variables, in_types, in_function, DeclsAreExcused}
+use Rattle.gr_statement_rules.specs.Excused.{this_decl, later_decl, FileIsExcused, in_file}
 use Rattle.gr_statement_rules.proofs.Giving.{aim, as_many, none_refused, all_taken, counted, right_count}
 use Rattle.gr_statement_rules.proofs.Reaching.{IsAt, reached, held, IsSettled, group_true, group_settled}
 use Rattle.gr_statement_rules.proofs.Locals.{same_aims}
@@ -88,7 +94,8 @@ global_silent : (w : World) (g : GlobalTree) (t : PlainType) → IsType w g.type
 unfolding global_faults
 global_silent w g t i h = ap (λ z. z.faults ++ value_faults w g.names z.type_of g.values) (type_true w i) ∙ h
 
-pub global_true : (w : World) (s : Checked) (g : GlobalTree) (after : Locals) → s.faults ≡ [] → GlobalIsTyped w s.locals g after → IsAt (check_global w s g) after
+pub global_true : (w : World) (s : Checked) (g : GlobalTree) (after : Locals) → s.faults ≡ [] → GlobalIsTyped w s.locals g after →
+    IsAt (check_global w s g) after
 global_true w s g after h (without_values {t = t} i e) = reached s (global_faults w g) [] h (global_silent w g t i (without_silent w g t e)) refl
 global_true w s g after h (with_literals {t = t} i e l u) = reached s (global_faults w g) [] h (global_silent w g t i (with_silent w g t e l u)) refl
 
@@ -141,7 +148,8 @@ unfolding body_faults
 body_settled w (tree.Other x) h = elim (type_or_broken w x h) [ inl t ↦ inl (another_type (true_type w x t.0 t.1)) | inr b ↦ inr (other_broken b) ]
 body_settled w (tree.Struct p o is c) h = elim (fields_settled w is h) [ inl f ↦ inl (a_struct f) | inr b ↦ inr (in_struct b) ]
 
-pub type_spec_true : (w : World) (s : Checked) (t : TypeSpecTree) (after : Locals) → s.faults ≡ [] → TypeIsTyped w s.locals t after → IsAt (check_type w s t) after
+pub type_spec_true : (w : World) (s : Checked) (t : TypeSpecTree) (after : Locals) → s.faults ≡ [] → TypeIsTyped w s.locals t after →
+    IsAt (check_type w s t) after
 type_spec_true w s t after h (a_definition_of b) = reached s (body_faults w t.body) [] h (body_silent w b) refl
 
 type_spec_settled : (w : World) (s : Checked) (t : TypeSpecTree) → (check_type w s t).faults ≡ [] →

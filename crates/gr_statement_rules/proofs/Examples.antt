@@ -10,7 +10,8 @@ use Rattle.gr_rules.specs.Fits.{identical}
 use Rattle.gr_rules.specs.Operators.{by_type}
 use Rattle.gr_rules.specs.Names.{a_local}
 use Rattle.gr_rules.specs.Meanings.{number, name}
-use Rattle.gr_statement_rules.specs.Giving.{GivesType, by_default, fresh, fitting, none_given, also_given, no_expression, also_value, values, no_name, new_local}
+use Rattle.gr_statement_rules.specs.Giving.{GivesType, by_default, fresh, fitting, none_given, also_given, no_expression, also_value, values, no_name}
+use Rattle.gr_statement_rules.specs.Giving.{new_local}
 use Rattle.gr_statement_rules.specs.Simple.{SimpleIsTyped, no_definition, a_new_name, a_definition, a_step}
 use Rattle.gr_statement_rules.specs.Statements.{StatementIsTyped, a_simple, a_return, BlockIsTyped, a_block, no_more, one_more}
 

@@ -1,6 +1,7 @@
 -- What is typed is not excused, since behind typed parts there are the same locals however the rules are applied.
 use Rattle.std.proofs.Common.{ℕ, ◌≡◌, Bool, List, [], ◌∷◌, Option, Some, None, refl, sym, ap, ◌∙◌, subst}
-use Rattle.gr_tree.specs.Tree.{Item, Group, TypeTree, ExprTree, SimpleTree, InitTree, StatementTree, BlockTree, StatementTrees, IfTree, ElseTree, ParamTree, ResultTree, FuncTree, FieldTree, BodyTree, DeclTree, FileTree}
+use Rattle.gr_tree.specs.Tree.{Item, Group, TypeTree, ExprTree, SimpleTree, InitTree, StatementTree, BlockTree, StatementTrees, IfTree, ElseTree, ParamTree}
+use Rattle.gr_tree.specs.Tree.{ResultTree, FuncTree, FieldTree, BodyTree, DeclTree, FileTree}
 use Rattle.gr_expr.specs.Types.{PlainType, Kind}
 use Rattle.gr_expr.specs.World.{World, Locals}
 use Rattle.gr_stmt.specs.Checked.{Checked}
@@ -12,12 +13,28 @@ use Rattle.gr_stmt.specs.Declarations.{check_global, check_type, check_decl}
 use Rattle.gr_rules.specs.Names.{IsType}
 use Rattle.gr_rules.specs.Uses.{UsesBroken, IsBrokenType}
 use Rattle.gr_statement_rules.specs.Reaches.{wanted}
-use Rattle.gr_statement_rules.specs.Turns.{Rule, InTurn, no_item, then_item, InGroup, alone, together, IfPresent, absent, present, Excuse, ExcusedInTurn, this_item, later_item, ExcusedInGroup, excused_alone, excused_together, ExcusedIfPresent, excused_present}
+use Rattle.gr_statement_rules.specs.Turns.{Rule, InTurn, no_item, then_item, InGroup, alone, together, IfPresent, absent, present, Excuse, ExcusedInTurn}
+use Rattle.gr_statement_rules.specs.Turns.{this_item, later_item, ExcusedInGroup, excused_alone, excused_together, ExcusedIfPresent, excused_present}
 use Rattle.gr_statement_rules.specs.Giving.{Give}
 use Rattle.gr_statement_rules.specs.Simple.{ConditionIsTyped, a_condition, SimpleIsTyped, LocalIsTyped, of_type, of_type_with_values, of_values}
-use Rattle.gr_statement_rules.specs.Statements.{InitIsTyped, an_init, HeaderIsTyped, endless, a_while, with_clauses, StatementIsTyped, nothing, a_declaration, a_simple, an_inner_block, a_choice, a_loop, a_break, a_continue, a_return, BlockIsTyped, a_block, StatementsAreTyped, no_more, one_more, IfIsTyped, an_if, ElseIsTyped, without_else, an_else_if, an_else}
-use Rattle.gr_statement_rules.specs.Declarations.{ReceiverIsTyped, a_receiver, ParamIsTyped, a_param, AreTypes, no_type_left, also_type, AreResults, none_written, one_written, several_written, FunctionIsTyped, a_function, GlobalIsTyped, without_values, with_literals, FieldsAreTyped, no_field_left, also_field, BodyIsTyped, another_type, a_struct, TypeIsTyped, a_definition_of, DeclIsTyped, variables, types, one_function, DeclsAreTyped, no_decl, also_decl, FileIsTyped, a_file}
-use Rattle.gr_statement_rules.specs.Excused.{AnyUsesBroken, SimpleIsExcused, LocalIsExcused, of_broken_type, of_broken_value, of_nothing, InitIsExcused, in_init, HeaderIsExcused, in_while, in_first, in_test, in_post, StatementIsExcused, in_declaration, in_simple, in_inner, in_choice, in_header, in_loop, in_return, BlockIsExcused, in_block, StatementsAreExcused, this_statement, later_statement, IfIsExcused, before_condition, in_condition, in_then, in_otherwise, ElseIsExcused, in_else_if, in_else, ReceiverIsExcused, of_broken, ParamIsExcused, param_of_broken, AnyIsBrokenType, this_type, later_type, ResultIsExcused, one_broken, one_of_several, FunctionIsExcused, in_receiver, in_params, in_result, in_body, GlobalIsExcused, global_of_broken, FieldIsBroken, this_field, later_field, BodyIsBroken, other_broken, in_struct, TypeIsExcused, in_type_body, DeclIsExcused, in_variables, in_types, in_function, DeclsAreExcused, this_decl, later_decl, FileIsExcused, in_file}
+use Rattle.gr_statement_rules.specs.Statements.{InitIsTyped, an_init, HeaderIsTyped, endless, a_while, with_clauses, StatementIsTyped, nothing}
+use Rattle.gr_statement_rules.specs.Statements.{a_declaration, a_simple, an_inner_block, a_choice, a_loop, a_break, a_continue, a_return, BlockIsTyped}
+use Rattle.gr_statement_rules.specs.Statements.{a_block, StatementsAreTyped, no_more, one_more, IfIsTyped, an_if, ElseIsTyped, without_else, an_else_if}
+use Rattle.gr_statement_rules.specs.Statements.{an_else}
+use Rattle.gr_statement_rules.specs.Declarations.{ReceiverIsTyped, a_receiver, ParamIsTyped, a_param, AreTypes, no_type_left, also_type, AreResults}
+use Rattle.gr_statement_rules.specs.Declarations.{none_written, one_written, several_written, FunctionIsTyped, a_function, GlobalIsTyped, without_values}
+use Rattle.gr_statement_rules.specs.Declarations.{with_literals, FieldsAreTyped, no_field_left, also_field, BodyIsTyped, another_type, a_struct}
+use Rattle.gr_statement_rules.specs.Declarations.{TypeIsTyped, a_definition_of, DeclIsTyped, variables, types, one_function, DeclsAreTyped, no_decl}
+use Rattle.gr_statement_rules.specs.Declarations.{also_decl, FileIsTyped, a_file}
+use Rattle.gr_statement_rules.specs.Excused.{AnyUsesBroken, SimpleIsExcused, LocalIsExcused, of_broken_type, of_broken_value, of_nothing, InitIsExcused}
+use Rattle.gr_statement_rules.specs.Excused.{in_init, HeaderIsExcused, in_while, in_first, in_test, in_post, StatementIsExcused, in_declaration, in_simple}
+use Rattle.gr_statement_rules.specs.Excused.{in_inner, in_choice, in_header, in_loop, in_return, BlockIsExcused, in_block, StatementsAreExcused}
+use Rattle.gr_statement_rules.specs.Excused.{this_statement, later_statement, IfIsExcused, before_condition, in_condition, in_then, in_otherwise}
+use Rattle.gr_statement_rules.specs.Excused.{ElseIsExcused, in_else_if, in_else, ReceiverIsExcused, of_broken, ParamIsExcused, param_of_broken}
+use Rattle.gr_statement_rules.specs.Excused.{AnyIsBrokenType, this_type, later_type, ResultIsExcused, one_broken, one_of_several, FunctionIsExcused}
+use Rattle.gr_statement_rules.specs.Excused.{in_receiver, in_params, in_result, in_body, GlobalIsExcused, global_of_broken, FieldIsBroken, this_field}
+use Rattle.gr_statement_rules.specs.Excused.{later_field, BodyIsBroken, other_broken, in_struct, TypeIsExcused, in_type_body, DeclIsExcused, in_variables}
+use Rattle.gr_statement_rules.specs.Excused.{in_types, in_function, DeclsAreExcused, this_decl, later_decl, FileIsExcused, in_file}
 use Rattle.gr_statement_rules.proofs.Unbroken.{no_use, no_type, one_type}
 use Rattle.gr_statement_rules.proofs.Reaching.{IsAt}
 use Rattle.gr_statement_rules.proofs.Simple.{simple_true, condition_true}

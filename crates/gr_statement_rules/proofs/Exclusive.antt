@@ -8,8 +8,12 @@ use Rattle.gr_rules.specs.Operators.{IsUntyped}
 use Rattle.gr_rules.specs.Meanings.{HasMeaning}
 use Rattle.gr_rules.proofs.Laws.{one_meaning}
 use Rattle.gr_statement_rules.specs.Giving.{Taker, AreEach, also_value, Give, values, results}
-use Rattle.gr_statement_rules.specs.Simple.{AreAssigned, a_blank, an_operand, AreDefined, an_underscore, a_new_name, an_old_name, SimpleIsTyped, a_call, a_step, an_update, an_assignment, a_definition}
-use Rattle.gr_statement_rules.specs.Excused.{IsNoVariable, without_type, constant, AnyUsesBroken, this_one, a_later_one, IsBlank, underscored, IsNewName, bound_to_itself, AssignedIsExcused, assigned_uses, assigned_without_type, later_assigned, DefinedIsExcused, defined_uses, defined_no_variable, later_defined, SimpleIsExcused, in_call, in_step, in_updated, in_update, updated_without_type, in_assigned, in_assignment, in_defined, in_definition}
+use Rattle.gr_statement_rules.specs.Simple.{AreAssigned, a_blank, an_operand, AreDefined, an_underscore, a_new_name, an_old_name, SimpleIsTyped, a_call}
+use Rattle.gr_statement_rules.specs.Simple.{a_step, an_update, an_assignment, a_definition}
+use Rattle.gr_statement_rules.specs.Excused.{IsNoVariable, without_type, constant, AnyUsesBroken, this_one, a_later_one, IsBlank, underscored, IsNewName}
+use Rattle.gr_statement_rules.specs.Excused.{bound_to_itself, AssignedIsExcused, assigned_uses, assigned_without_type, later_assigned, DefinedIsExcused}
+use Rattle.gr_statement_rules.specs.Excused.{defined_uses, defined_no_variable, later_defined, SimpleIsExcused, in_call, in_step, in_updated, in_update}
+use Rattle.gr_statement_rules.specs.Excused.{updated_without_type, in_assigned, in_assignment, in_defined, in_definition}
 use Rattle.gr_statement_rules.proofs.Unbroken.{no_use}
 
 each_means : (w : World) (locals : Locals) {is : List (Item ExprTree)} {ks : List Kind} → AnyUsesBroken w locals is → AreEach w locals is ks → ⊥

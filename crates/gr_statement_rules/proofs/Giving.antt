@@ -1,11 +1,13 @@
 -- What takes values, as it is found: no value is refused exactly where each is taken.
-use Rattle.std.proofs.Common.{ℕ, ◌≡◌, ◌==◌, Bool, true, false, ◌&&◌, if◌then◌else◌, List, [], ◌∷◌, map, length, Option, Some, None, refl, sym, ap, ◌∙◌, subst, suc, arith, eq-eqb, eqb-true}
+use Rattle.std.proofs.Common.{ℕ, ◌≡◌, ◌==◌, Bool, true, false, ◌&&◌, if◌then◌else◌, List, [], ◌∷◌, map, length, Option, Some, None, refl, sym, ap, ◌∙◌}
+use Rattle.std.proofs.Common.{subst, suc, arith, eq-eqb, eqb-true}
 use Rattle.gr_tree.specs.Tree.{Item, IdentTree}
 use Rattle.gr_expr.specs.Types.{PlainType, BasicType, Kind, Typed, Untyped, Nil}
 use Rattle.gr_expr.specs.World.{World, Locals, declared}
 use Rattle.gr_expr.specs.Judge.{Argued, all_whole}
 use Rattle.gr_stmt.specs.Checked.{fault_if}
-use Rattle.gr_stmt.specs.Sides.{Target, Wants, is_sound, all_sound, nil_refused, refused, all_refused, given_to, default_type, taken_type, taken_types, taken, with_locals, with_taken, declared_if, head_or_none, tail_of}
+use Rattle.gr_stmt.specs.Sides.{Target, Wants, is_sound, all_sound, nil_refused, refused, all_refused, given_to, default_type, taken_type, taken_types}
+use Rattle.gr_stmt.specs.Sides.{taken, with_locals, with_taken, declared_if, head_or_none, tail_of}
 use Rattle.gr_stmt.specs.Sides.{all_named, named as named_of}
 use Rattle.gr_stmt.specs.Sides as sides
 use Rattle.gr_stmt.specs.Simple.{written_locals}
@@ -14,7 +16,8 @@ use Rattle.gr_rules.proofs.Tests.{and_both}
 use Rattle.gr_rules.proofs.Steps.{empty_first, empty_second, empty_both}
 use Rattle.gr_rules.proofs.Refusing.{no_fault}
 use Rattle.gr_rules.proofs.Arguments.{AreOf, whole_all, fit_silent, silent_fit}
-use Rattle.gr_statement_rules.specs.Giving.{GivesType, own, by_default, Taker, Fresh, OfType, Takes, fresh, fitting, TakenInTurn, none_given, also_given, Declare, no_name, no_local, new_local, DeclareAs, no_name_left, not_named, named}
+use Rattle.gr_statement_rules.specs.Giving.{GivesType, own, by_default, Taker, Fresh, OfType, Takes, fresh, fitting, TakenInTurn, none_given, also_given}
+use Rattle.gr_statement_rules.specs.Giving.{Declare, no_name, no_local, new_local, DeclareAs, no_name_left, not_named, named}
 
 abbrev pub aim : Taker → Target
 aim Fresh = sides.Takes

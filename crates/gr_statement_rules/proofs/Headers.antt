@@ -1,14 +1,18 @@
 -- Functions: no fault is found in what is typed, and what has no fault is typed or excused.
-use Rattle.std.proofs.Common.{ℕ, ◌≡◌, Bool, true, false, ◌&&◌, if◌then◌else◌, ◌⊎◌, inl, inr, List, [], ◌∷◌, ◌++◌, map, Option, Some, None, is_none, option_map, refl, sym, ap, ◌∙◌, subst, true≢false}
+use Rattle.std.proofs.Common.{ℕ, ◌≡◌, Bool, true, false, ◌&&◌, if◌then◌else◌, ◌⊎◌, inl, inr, List, [], ◌∷◌, ◌++◌, map, Option, Some, None, is_none}
+use Rattle.std.proofs.Common.{option_map, refl, sym, ap, ◌∙◌, subst, true≢false}
 use Rattle.gr_tree.specs.Tree.{Item, TypeTree, ReceiverTree, ParamTree, ResultTree, FuncTree}
 use Rattle.gr_tree.specs.Tree as tree
 use Rattle.gr_expr.specs.declared.symbol.Symbol.{Symbol}
-use Rattle.gr_expr.specs.Types.{PlainType, BasicType, Defined, Pointer, Slice, Underlying, Plain, PointerTo, SliceOf, Struct, Value, TypeName, Function, BuiltinName, Package, Results, Broken, points}
+use Rattle.gr_expr.specs.Types.{PlainType, BasicType, Defined, Pointer, Slice, Underlying, Plain, PointerTo, SliceOf, Struct, Value, TypeName, Function}
+use Rattle.gr_expr.specs.Types.{BuiltinName, Package, Results, Broken, points}
 use Rattle.gr_expr.specs.World.{World, Locals, Bound, Local, Means, BrokenVariable, BrokenFunction, BrokenType}
 use Rattle.gr_expr.specs.Judge.{TypeJudged, judge_type, good_type, no_type_at, named_type}
 use Rattle.gr_stmt.specs.Checked.{Checked, fault_if, check_items}
 use Rattle.gr_stmt.specs.Sides.{Target, Wants, named as named_of, with_locals}
-use Rattle.gr_stmt.specs.Headers.{may_receive, receiving, received, receiver_base, starred, judge_receiver, check_receiver, check_optional_receiver, check_param, ResultsJudged, result_then, judge_types, judge_results, is_empty_list, is_bad_init, check_signature, check_function}
+use Rattle.gr_stmt.specs.Headers.{may_receive, receiving, received, receiver_base, starred, judge_receiver, check_receiver, check_optional_receiver}
+use Rattle.gr_stmt.specs.Headers.{check_param, ResultsJudged, result_then, judge_types, judge_results, is_empty_list, is_bad_init, check_signature}
+use Rattle.gr_stmt.specs.Headers.{check_function}
 use Rattle.gr_stmt.specs.Statements.{check_block}
 use Rattle.gr_rules.proofs.Steps.{empty_first, empty_second, empty_both}
 use Rattle.gr_rules.proofs.Naming.{type_true, true_type}
@@ -16,8 +20,12 @@ use Rattle.gr_rules.proofs.Refusing.{no_fault, type_or_broken}
 use Rattle.gr_statement_rules.specs.Turns.{InTurn, IfPresent, absent, present, ExcusedIfPresent, excused_present}
 use Rattle.gr_statement_rules.specs.Giving.{OfType, DeclareAs}
 use Rattle.gr_statement_rules.specs.Statements.{BlockIsTyped}
-use Rattle.gr_statement_rules.specs.Declarations.{IsBehindStar, no_star, a_star, ReceiverIsTyped, a_receiver, ParamIsTyped, a_param, AreTypes, no_type_left, also_type, AreResults, none_written, one_written, several_written, KeepsInit, another_name, a_method, a_plain_one, FunctionIsTyped, a_function}
-use Rattle.gr_statement_rules.specs.Excused.{BlockIsExcused, ReceiverIsExcused, of_broken, ParamIsExcused, param_of_broken, AnyIsBrokenType, this_type, later_type, ResultIsExcused, one_broken, one_of_several, FunctionIsExcused, in_receiver, in_params, in_result, in_body}
+use Rattle.gr_statement_rules.specs.Declarations.{IsBehindStar, no_star, a_star, ReceiverIsTyped, a_receiver, ParamIsTyped, a_param, AreTypes, no_type_left}
+use Rattle.gr_statement_rules.specs.Declarations.{also_type, AreResults, none_written, one_written, several_written, KeepsInit, another_name, a_method}
+use Rattle.gr_statement_rules.specs.Declarations.{a_plain_one, FunctionIsTyped, a_function}
+use Rattle.gr_statement_rules.specs.Excused.{BlockIsExcused, ReceiverIsExcused, of_broken, ParamIsExcused, param_of_broken, AnyIsBrokenType, this_type}
+use Rattle.gr_statement_rules.specs.Excused.{later_type, ResultIsExcused, one_broken, one_of_several, FunctionIsExcused, in_receiver, in_params, in_result}
+use Rattle.gr_statement_rules.specs.Excused.{in_body}
 use Rattle.gr_statement_rules.proofs.Giving.{aim, single_as_true, single_as_found}
 use Rattle.gr_statement_rules.proofs.Reaching.{IsAt, here, reached, held, IsSettled, items_true, items_settled}
 use Rattle.gr_statement_rules.proofs.Locals.{typed_names, found_as}

@@ -1,12 +1,14 @@
 -- Left sides as they are found: without a fault exactly where each can take a value.
-use Rattle.std.proofs.Common.{ℕ, ◌≡◌, Bool, true, false, if◌then◌else◌, List, [], ◌∷◌, ◌++◌, map, Option, Some, None, refl, sym, ap, ◌∙◌, subst, true≢false, ◌⊎◌, inl, inr, eq-eqb, eqb-true}
+use Rattle.std.proofs.Common.{ℕ, ◌≡◌, Bool, true, false, if◌then◌else◌, List, [], ◌∷◌, ◌++◌, map, Option, Some, None, refl, sym, ap, ◌∙◌, subst, true≢false}
+use Rattle.std.proofs.Common.{◌⊎◌, inl, inr, eq-eqb, eqb-true}
 use Rattle.gr_tree.specs.Tree.{Item, ExprTree}
 use Rattle.gr_tree.specs.Tree as tree
 use Rattle.gr_expr.specs.Places.{place_of}
 use Rattle.gr_expr.specs.Types.{PlainType, Kind, Typed, Untyped, Nil, Meaning, Value, Broken}
 use Rattle.gr_expr.specs.World.{World, Locals, Bound, Local, Means, BrokenVariable, BrokenFunction, BrokenType}
 use Rattle.gr_expr.specs.Judge.{Judged, judge, judge_value}
-use Rattle.gr_stmt.specs.Sides.{Target, Wants, Lefts, left_side, lefts_then, own_type, judge_operand, assigned_one, assigned, is_own, declares, no_name, renewed, defined_one, defined, defined_name, defined_names}
+use Rattle.gr_stmt.specs.Sides.{Target, Wants, Lefts, left_side, lefts_then, own_type, judge_operand, assigned_one, assigned, is_own, declares, no_name}
+use Rattle.gr_stmt.specs.Sides.{renewed, defined_one, defined, defined_name, defined_names}
 use Rattle.gr_stmt.specs.Sides as sides
 use Rattle.gr_rules.specs.Names.{IsWhole}
 use Rattle.gr_rules.specs.Operators.{IsUntyped, a_constant, a_nil}
@@ -17,7 +19,8 @@ use Rattle.gr_rules.proofs.Refusing.{no_fault}
 use Rattle.gr_rules.proofs.Soundness.{sound}
 use Rattle.gr_statement_rules.specs.Giving.{Taker, Fresh, OfType}
 use Rattle.gr_statement_rules.specs.Simple.{AreAssigned, no_left, a_blank, an_operand, AreDefined, no_definition, an_underscore, a_new_name, an_old_name}
-use Rattle.gr_statement_rules.specs.Excused.{without_type, constant, IsBlank, IsNewName, bound_to_itself, AssignedIsExcused, assigned_uses, assigned_without_type, later_assigned, DefinedIsExcused, defined_uses, defined_no_variable, later_defined}
+use Rattle.gr_statement_rules.specs.Excused.{without_type, constant, IsBlank, IsNewName, bound_to_itself, AssignedIsExcused, assigned_uses}
+use Rattle.gr_statement_rules.specs.Excused.{assigned_without_type, later_assigned, DefinedIsExcused, defined_uses, defined_no_variable, later_defined}
 use Rattle.gr_statement_rules.proofs.Values.{value_true, value_settled, IsOperandFound, operand_true, operand_settled}
 use Rattle.gr_statement_rules.proofs.Giving.{aim, AreNew}
 

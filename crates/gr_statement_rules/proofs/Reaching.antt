@@ -5,7 +5,8 @@ use Rattle.gr_expr.specs.World.{Locals}
 use Rattle.gr_expr.specs.Judge.{MemberUse}
 use Rattle.gr_stmt.specs.Checked.{Checked, reaching, check_items, check_group}
 use Rattle.gr_rules.proofs.Steps.{empty_both}
-use Rattle.gr_statement_rules.specs.Turns.{Rule, InTurn, no_item, then_item, InGroup, alone, together, Excuse, ExcusedInTurn, this_item, later_item, ExcusedInGroup, excused_alone, excused_together}
+use Rattle.gr_statement_rules.specs.Turns.{Rule, InTurn, no_item, then_item, InGroup, alone, together, Excuse, ExcusedInTurn, this_item, later_item}
+use Rattle.gr_statement_rules.specs.Turns.{ExcusedInGroup, excused_alone, excused_together}
 
 -- no fault so far, and those locals
 pub record IsAt (s : Checked) (locals : Locals) : Type 0 where

@@ -13,7 +13,8 @@ use Rattle.gr_expr.specs.Operations.{operate, class_of, is_int, is_bool}
 use Rattle.gr_expr.specs.Judge.{JudgedList, Argued, judge, judge_value, value_kind}
 use Rattle.gr_stmt.specs.Checked.{Checked}
 use Rattle.gr_stmt.specs.Sides.{rights, Target, Lefts, judge_operand, assigned, defined, given_to, defined_names, first_of_exprs, with_taken}
-use Rattle.gr_stmt.specs.Simple.{check_simple, check_alone, check_step, check_update, check_assign, check_define, check_condition, condition_faults, step_faults, update_faults, fault_if_none, stands_faults, is_statement, binary_of, giving}
+use Rattle.gr_stmt.specs.Simple.{check_simple, check_alone, check_step, check_update, check_assign, check_define, check_condition, condition_faults}
+use Rattle.gr_stmt.specs.Simple.{step_faults, update_faults, fault_if_none, stands_faults, is_statement, binary_of, giving}
 use Rattle.gr_rules.specs.Operators.{IsOf, a_constant, a_nil, Operates}
 use Rattle.gr_rules.specs.Meanings.{HasMeaning}
 use Rattle.gr_rules.specs.Uses.{UsesBroken}
@@ -27,7 +28,8 @@ use Rattle.gr_rules.proofs.Settling.{settle}
 use Rattle.gr_rules.proofs.Arguments.{AreOf}
 use Rattle.gr_statement_rules.specs.Giving.{Taker, TakenInTurn}
 use Rattle.gr_statement_rules.specs.Simple.{ConditionIsTyped, a_condition, SimpleIsTyped, a_call, a_step, an_update, an_assignment, a_definition}
-use Rattle.gr_statement_rules.specs.Excused.{SimpleIsExcused, in_call, in_step, in_updated, in_update, updated_without_type, in_assigned, in_assignment, in_defined, in_definition}
+use Rattle.gr_statement_rules.specs.Excused.{SimpleIsExcused, in_call, in_step, in_updated, in_update, updated_without_type, in_assigned, in_assignment}
+use Rattle.gr_statement_rules.specs.Excused.{in_defined, in_definition}
 use Rattle.gr_statement_rules.proofs.Values.{value_true, value_settled, operand_true, operand_settled, AreGiven, rights_given, rights_settled}
 use Rattle.gr_statement_rules.proofs.Giving.{aim, given_silent, silent_given, declare_true, declare_found}
 use Rattle.gr_statement_rules.proofs.Lefts.{AreLefts, assigned_true, assigned_settled, defined_true, defined_new, defined_settled}

@@ -13,8 +13,14 @@ use Rattle.gr_rules.proofs.Steps.{empty_first, empty_second, empty_both}
 use Rattle.gr_statement_rules.specs.Turns.{IfPresent, absent, present, ExcusedIfPresent, excused_present}
 use Rattle.gr_statement_rules.specs.Giving.{OfType, TakenInTurn, Give}
 use Rattle.gr_statement_rules.specs.Simple.{ConditionIsTyped, SimpleIsTyped, LocalIsTyped}
-use Rattle.gr_statement_rules.specs.Statements.{InitIsTyped, an_init, HeaderIsTyped, endless, a_while, with_clauses, StatementIsTyped, nothing, a_declaration, a_simple, an_inner_block, a_choice, a_loop, a_break, a_continue, a_return, BlockIsTyped, a_block, StatementsAreTyped, no_more, one_more, IfIsTyped, an_if, ElseIsTyped, without_else, an_else_if, an_else}
-use Rattle.gr_statement_rules.specs.Excused.{SimpleIsExcused, LocalIsExcused, InitIsExcused, in_init, HeaderIsExcused, in_while, in_first, in_test, in_post, StatementIsExcused, in_declaration, in_simple, in_inner, in_choice, in_header, in_loop, in_return, BlockIsExcused, in_block, StatementsAreExcused, this_statement, later_statement, IfIsExcused, before_condition, in_condition, in_then, in_otherwise, ElseIsExcused, in_else_if, in_else}
+use Rattle.gr_statement_rules.specs.Statements.{InitIsTyped, an_init, HeaderIsTyped, endless, a_while, with_clauses, StatementIsTyped, nothing}
+use Rattle.gr_statement_rules.specs.Statements.{a_declaration, a_simple, an_inner_block, a_choice, a_loop, a_break, a_continue, a_return, BlockIsTyped}
+use Rattle.gr_statement_rules.specs.Statements.{a_block, StatementsAreTyped, no_more, one_more, IfIsTyped, an_if, ElseIsTyped, without_else, an_else_if}
+use Rattle.gr_statement_rules.specs.Statements.{an_else}
+use Rattle.gr_statement_rules.specs.Excused.{SimpleIsExcused, LocalIsExcused, InitIsExcused, in_init, HeaderIsExcused, in_while, in_first, in_test, in_post}
+use Rattle.gr_statement_rules.specs.Excused.{StatementIsExcused, in_declaration, in_simple, in_inner, in_choice, in_header, in_loop, in_return}
+use Rattle.gr_statement_rules.specs.Excused.{BlockIsExcused, in_block, StatementsAreExcused, this_statement, later_statement, IfIsExcused, before_condition}
+use Rattle.gr_statement_rules.specs.Excused.{in_condition, in_then, in_otherwise, ElseIsExcused, in_else_if, in_else}
 use Rattle.gr_statement_rules.proofs.Values.{rights_given, rights_settled}
 use Rattle.gr_statement_rules.proofs.Giving.{aim, return_silent, silent_return}
 use Rattle.gr_statement_rules.proofs.Reaching.{IsAt, reached, held, group_true, group_settled}

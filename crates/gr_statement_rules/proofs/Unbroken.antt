@@ -10,7 +10,8 @@ use Rattle.gr_rules.specs.Links.{Selects, Indexes, Calls}
 use Rattle.gr_rules.specs.Links as links
 use Rattle.gr_rules.specs.Meanings.{HasMeaning, LeadsTo, CombinesTo, AreValues, IsLiteralOf, AreFields, AreElements}
 use Rattle.gr_rules.specs.Meanings as means
-use Rattle.gr_rules.specs.Uses.{IsBrokenType, SelectsBroken, UsesBroken, LinksUseBroken, OperandsUseBroken, ArgumentsUseBroken, LiteralUsesBroken, ElementsUseBroken}
+use Rattle.gr_rules.specs.Uses.{IsBrokenType, SelectsBroken, UsesBroken, LinksUseBroken, OperandsUseBroken, ArgumentsUseBroken, LiteralUsesBroken}
+use Rattle.gr_rules.specs.Uses.{ElementsUseBroken}
 use Rattle.gr_rules.specs.Uses as uses
 use Rattle.gr_rules.proofs.Naming.{type_true}
 use Rattle.gr_rules.proofs.Selecting.{selects_true}

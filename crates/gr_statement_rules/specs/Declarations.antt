@@ -1,6 +1,7 @@
 -- The typing rules of functions, of declarations of a package and of files.
 use Rattle.std.specs.Prelude.{◌≡◌, ℕ, Bool, false, List, [], ◌∷◌, Option, Some, None, map}
-use Rattle.gr_tree.specs.Tree.{Item, Group, TypeTree, BasicTree, Integer, String, ReceiverTree, ParamTree, ResultTree, FuncTree, GlobalTree, FieldTree, BodyTree, TypeSpecTree, DeclTree, FileTree}
+use Rattle.gr_tree.specs.Tree.{Item, Group, TypeTree, BasicTree, Integer, String, ReceiverTree, ParamTree, ResultTree, FuncTree, GlobalTree, FieldTree}
+use Rattle.gr_tree.specs.Tree.{BodyTree, TypeSpecTree, DeclTree, FileTree}
 use Rattle.gr_tree.specs.Tree as tree
 use Rattle.gr_expr.specs.declared.types.Basic.TheVariants as basic
 use Rattle.gr_expr.specs.declared.symbol.Symbol.{Symbol}

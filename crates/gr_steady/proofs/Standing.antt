@@ -22,7 +22,8 @@ use Rattle.gr_verdict.proofs.MemberFiles.{field_file, function_file}
 use Rattle.gr_verdict.proofs.PackageFiles.{package_file, some_tree}
 use Rattle.gr_bound.specs.declared.declaration.Declaration.{Declaration}
 use Rattle.gr_bound.specs.declared.declaration.Declaration.TheVariants.{Predeclared, Declared, Field, Method}
-use Rattle.gr_bound.specs.Binding.{IsPredeclared, BindsByScope, BindsByPackage, BindsByMember, BindsByName, by_scope, by_package, by_member, by_name, IsExportedUse, field_place}
+use Rattle.gr_bound.specs.Binding.{IsPredeclared, BindsByScope, BindsByPackage, BindsByMember, BindsByName, by_scope, by_package, by_member, by_name}
+use Rattle.gr_bound.specs.Binding.{IsExportedUse, field_place}
 use Rattle.gr_bound.specs.Uses.{IsPackage, IsBoundTo}
 use Rattle.gr_bound.proofs.OnePlace.{names_of}
 use Rattle.gr_standing.proofs.Folders.{file_in_folder}

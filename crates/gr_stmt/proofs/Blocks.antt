@@ -4,7 +4,8 @@ use Rattle.gr_tree.specs.View.{expr_view, option_view}
 use Rattle.gr_tree.specs.FileView.{init_view, stmt_view, block_view, statements_view, if_view, else_view}
 use Rattle.gr_tree.specs.declared.tree.BlockItem.{BlockItem}
 use Rattle.gr_tree.specs.declared.tree.Block as trees
-use Rattle.gr_tree.specs.declared.tree.Block.{Block', out-Block, outs-Block', Row_of-BlockItem, end_of-BlockItem, more_of-BlockItem, items-the_row-BlockItem, items_shown-the_row-BlockItem-0}
+use Rattle.gr_tree.specs.declared.tree.Block.{Block', out-Block, outs-Block', Row_of-BlockItem, end_of-BlockItem, more_of-BlockItem}
+use Rattle.gr_tree.specs.declared.tree.Block.{items-the_row-BlockItem, items_shown-the_row-BlockItem-0}
 use Rattle.gr_tree.specs.declared.tree.IfStmt.{IfStmt, IfStmt', out-IfStmt, outs-IfStmt'}
 use Rattle.gr_expr.specs.World.{World}
 use Rattle.gr_stmt.specs.Checked.{Checked}
@@ -17,7 +18,8 @@ unfoldable pub check_each : World → List Target → Checked → List BlockItem
 check_each w rs s [] = s
 check_each w rs s (x ∷ xs) = check_each w rs (check_statement w rs s (stmt_view x.statement)) xs
 
-pub each_step : (w : World) (rs : List Target) (s : Checked) (x : BlockItem) (xs : List BlockItem) → check_each w rs s (x ∷ xs) ≡ check_each w rs (check_statement w rs s (stmt_view x.statement)) xs
+pub each_step : (w : World) (rs : List Target) (s : Checked) (x : BlockItem) (xs : List BlockItem) →
+    check_each w rs s (x ∷ xs) ≡ check_each w rs (check_statement w rs s (stmt_view x.statement)) xs
 unfolding check_each
 each_step w rs s x xs = refl
 
@@ -25,22 +27,28 @@ pub each_end : (w : World) (rs : List Target) (s : Checked) → check_each w rs 
 unfolding check_each
 each_end w rs s = refl
 
-each_row : (w : World) (rs : List Target) (s : Checked) {n : _} (row : Row_of-BlockItem n) → check_each w rs s (items-the_row-BlockItem n row) ≡ check_statements w rs s (statements_view row)
+each_row : (w : World) (rs : List Target) (s : Checked) {n : _} (row : Row_of-BlockItem n) →
+    check_each w rs s (items-the_row-BlockItem n row) ≡ check_statements w rs s (statements_view row)
 unfolding check_each check_statements statements_view
 each_row w rs s end_of-BlockItem = refl
 each_row w rs s (more_of-BlockItem x p rest) = each_row w rs (check_statement w rs s (stmt_view x)) rest
 
-block_from : (w : World) (rs : List Target) (s : Checked) (x : trees.Block) → check_each w rs s (out-Block x).statements.items ≡ check_block w rs s (block_view x)
+block_from : (w : World) (rs : List Target) (s : Checked) (x : trees.Block) →
+    check_each w rs s (out-Block x).statements.items ≡ check_block w rs s (block_view x)
 unfolding check_block block_view
 block_from w rs s (Block' o shape row c) =
-    ap (λ r. check_each w rs s r.statements.items) (outs-Block' o shape row c) ∙ (ap (check_each w rs s) (items_shown-the_row-BlockItem-0 shape row) ∙ each_row w rs s row)
+    ap (λ r. check_each w rs s r.statements.items) (outs-Block' o shape row c) ∙
+    (ap (check_each w rs s) (items_shown-the_row-BlockItem-0 shape row) ∙ each_row w rs s row)
 
-pub block_read : (w : World) (rs : List Target) (s : Checked) (x : trees.Block) (xs : List BlockItem) → xs ≡ (out-Block x).statements.items → check_each w rs s xs ≡ check_block w rs s (block_view x)
+pub block_read : (w : World) (rs : List Target) (s : Checked) (x : trees.Block) (xs : List BlockItem) → xs ≡ (out-Block x).statements.items →
+    check_each w rs s xs ≡ check_block w rs s (block_view x)
 block_read w rs s x xs e = ap (check_each w rs s) e ∙ block_from w rs s x
 
 pub if_from : (w : World) (rs : List Target) (s : Checked) (x : IfStmt) →
-    check_else w rs (check_block w rs (check_condition w (check_init w s (option_view init_view (out-IfStmt x).init)) (expr_view (out-IfStmt x).condition)) (block_view (out-IfStmt x).body)) (else_view (out-IfStmt x).otherwise)
+    check_else w rs (check_block w rs (check_condition w (check_init w s (option_view init_view (out-IfStmt x).init)) (expr_view (out-IfStmt x).condition))
+    (block_view (out-IfStmt x).body)) (else_view (out-IfStmt x).otherwise)
     ≡ check_if w rs s (if_view x)
 unfolding check_if if_view
 if_from w rs s (IfStmt' p init e b rest) =
-    ap (λ r. check_else w rs (check_block w rs (check_condition w (check_init w s (option_view init_view r.init)) (expr_view r.condition)) (block_view r.body)) (else_view r.otherwise)) (outs-IfStmt' p init e b rest)
+    ap (λ r. check_else w rs (check_block w rs (check_condition w (check_init w s (option_view init_view r.init)) (expr_view r.condition))
+    (block_view r.body)) (else_view r.otherwise)) (outs-IfStmt' p init e b rest)

@@ -26,7 +26,8 @@ pub grown_lefts_step : {rest more total : Lefts} (one : Lefts) {old now new : Fo
 grown_lefts_step {rest} {more} {total} one {old} {now} {new} {ts} {us} g a e = record {
   targets = ap (λ x. (ts ++ x) ++ more.targets) a.targets ∙ grown ts one.targets more.targets (ap (λ x. ts ++ x.targets) (sym e) ∙ g.targets);
   faults = ap (λ x. x ++ more.faults) a.faults ∙ grown now.faults.items one.faults more.faults (ap (λ x. now.faults.items ++ x.faults) (sym e) ∙ g.faults);
-  uses = ap (λ x. x ++ more.uses) a.uses ∙ grown (map use_of now.uses.items) one.uses more.uses (ap (λ x. map use_of now.uses.items ++ x.uses) (sym e) ∙ g.uses);
+  uses = ap (λ x. x ++ more.uses) a.uses ∙ grown (map use_of now.uses.items) one.uses more.uses
+      (ap (λ x. map use_of now.uses.items ++ x.uses) (sym e) ∙ g.uses);
 }
 
 pub grown_lefts_end : {rest total : Lefts} {old now : Found} {ts : List Target} → GrownLefts rest total old now ts →
@@ -37,7 +38,8 @@ grown_lefts_end {rest} {total} {old} {now} {ts} g e = record {
   uses = sym (append-nil (map use_of now.uses.items)) ∙ (ap (λ x. map use_of now.uses.items ++ x.uses) (sym e) ∙ g.uses);
 }
 
-pub adds_left : {j : Judged} (t : Target) {old new : Found} {m : Meaning} {ts : List Target} → Adds j old new m → ts ≡ t ∷ [] → AddsLefts (left_side t j) old new ts
+pub adds_left : {j : Judged} (t : Target) {old new : Found} {m : Meaning} {ts : List Target} → Adds j old new m → ts ≡ t ∷ [] →
+    AddsLefts (left_side t j) old new ts
 adds_left t a e = record { targets = e; faults = a.faults; uses = a.uses }
 
 pub adds_no_left : (t : Target) (m : Meaning) (f : Found) → AddsLefts (left_side t (means m)) f f (t ∷ [])
@@ -48,10 +50,12 @@ lefts_as {old = old} {new = new} {ts = ts} a e = subst (λ (x : Lefts). AddsLeft
 
 -- values
 
-pub adds_one : {j : Judged} (place : ℕ) {old new : Found} {m : Meaning} {vs : List Argued} → Adds j old new m → vs ≡ record { place = place; kind = value_kind m } ∷ [] → AddsList (one_value place j) old new vs
+pub adds_one : {j : Judged} (place : ℕ) {old new : Found} {m : Meaning} {vs : List Argued} → Adds j old new m →
+    vs ≡ record { place = place; kind = value_kind m } ∷ [] → AddsList (one_value place j) old new vs
 adds_one place a e = record { values = e ∙ ap (λ k. record { place = place; kind = value_kind k } ∷ []) a.meaning; faults = a.faults; uses = a.uses }
 
-pub adds_followed : {j : Judged} (rule : Meaning → JudgedList) {old mid new : Found} {m : Meaning} {vs : List Argued} → Adds j old mid m → AddsList (rule m) mid new vs → AddsList (list_followed j rule) old new vs
+pub adds_followed : {j : Judged} (rule : Meaning → JudgedList) {old mid new : Found} {m : Meaning} {vs : List Argued} → Adds j old mid m →
+    AddsList (rule m) mid new vs → AddsList (list_followed j rule) old new vs
 adds_followed {j} rule {old} {mid} {new} {m} {vs} a b =
     let b' : AddsList (rule j.meaning) mid new vs = subst (λ (x : Meaning). AddsList (rule x) mid new vs) a.meaning b in
     record {
@@ -79,14 +83,16 @@ pub record GrownFaults (rest total : List ℕ) (old now : Found) : Type 0 where
 pub grown_faults_start : {f : Found} (places : List ℕ) → GrownFaults places places f f
 grown_faults_start places = record { faults = refl; uses = refl }
 
-pub grown_faults_step : {rest more total : List ℕ} (places : List ℕ) {old now new : Found} → GrownFaults rest total old now → Notes places now new → rest ≡ places ++ more → GrownFaults more total old new
+pub grown_faults_step : {rest more total : List ℕ} (places : List ℕ) {old now new : Found} → GrownFaults rest total old now → Notes places now new →
+    rest ≡ places ++ more → GrownFaults more total old new
 grown_faults_step {rest} {more} {total} places {old} {now} {new} g a e = record {
   faults = ap (λ x. x ++ more) a.faults ∙ grown now.faults.items places more (ap (λ x. now.faults.items ++ x) (sym e) ∙ g.faults);
   uses = a.uses ∙ g.uses;
 }
 
 pub grown_faults_end : {rest total : List ℕ} {old now : Found} → GrownFaults rest total old now → rest ≡ [] → Notes total old now
-grown_faults_end {rest} {total} {old} {now} g e = record { faults = sym (append-nil now.faults.items) ∙ (ap (λ x. now.faults.items ++ x) (sym e) ∙ g.faults); uses = g.uses }
+grown_faults_end {rest} {total} {old} {now} g e = record
+    { faults = sym (append-nil now.faults.items) ∙ (ap (λ x. now.faults.items ++ x) (sym e) ∙ g.faults); uses = g.uses }
 
 -- results
 
@@ -101,12 +107,14 @@ grown_results_start j = record { wanted = refl; faults = refl; uses = refl }
 pub grown_results_step : {rest more total : ResultsJudged} (j : TypeJudged) {old now new : Found} {ts : List Target} (t : Target) {own : Option PlainType} →
     GrownResults rest total old now ts → AddsType j now new own → t ≡ Wants own → rest ≡ result_then j more → GrownResults more total old new (ts ++ (t ∷ []))
 grown_results_step {rest} {more} {total} j {old} {now} {new} {ts} t {own} g a is e = record {
-  wanted = ap (λ x. (ts ++ (x ∷ [])) ++ more.wanted) (is ∙ ap Wants a.found) ∙ grown ts (Wants j.type_of ∷ []) more.wanted (ap (λ x. ts ++ x.wanted) (sym e) ∙ g.wanted);
+  wanted = ap (λ x. (ts ++ (x ∷ [])) ++ more.wanted) (is ∙ ap Wants a.found) ∙
+      grown ts (Wants j.type_of ∷ []) more.wanted (ap (λ x. ts ++ x.wanted) (sym e) ∙ g.wanted);
   faults = ap (λ x. x ++ more.faults) a.faults ∙ grown now.faults.items j.faults more.faults (ap (λ x. now.faults.items ++ x.faults) (sym e) ∙ g.faults);
   uses = a.uses ∙ g.uses;
 }
 
-pub grown_results_end : {rest total : ResultsJudged} {old now : Found} {ts : List Target} → GrownResults rest total old now ts → rest ≡ record { wanted = []; faults = [] } → AddsResults total old now ts
+pub grown_results_end : {rest total : ResultsJudged} {old now : Found} {ts : List Target} → GrownResults rest total old now ts →
+    rest ≡ record { wanted = []; faults = [] } → AddsResults total old now ts
 grown_results_end {rest} {total} {old} {now} {ts} g e = record {
   wanted = sym (append-nil ts) ∙ (ap (λ x. ts ++ x.wanted) (sym e) ∙ g.wanted);
   faults = sym (append-nil now.faults.items) ∙ (ap (λ x. now.faults.items ++ x.faults) (sym e) ∙ g.faults);

@@ -22,11 +22,14 @@ pub push_at : {X Y Z : Type 0} (f : X → Z) (g : Y → Z) (vs us : List X) (v :
     f v ≡ g (get_or ys i d) → map f vs ≡ map g (take i ys) → map f us ≡ map g (take (i + 1) ys)
 push_at f g vs us v ys i d pushed lt same so_far =
     ap (map f) pushed ∙ (map-append f vs (v ∷ []) ∙ (ap (λ z. map f vs ++ (z ∷ [])) same ∙ (ap (λ z. z ++ (g (get_or ys i d) ∷ [])) so_far
-    ∙ (sym (map-append g (take i ys) (get_or ys i d ∷ [])) ∙ (sym (ap (map g) (take-suc ys i d lt)) ∙ ap (λ k. map g (take k ys)) (let e : suc i ≡ i + 1 = omega arith in e))))))
+    ∙ (sym (map-append g (take i ys) (get_or ys i d ∷ [])) ∙
+    (sym (ap (map g) (take-suc ys i d lt)) ∙ ap (λ k. map g (take k ys)) (let e : suc i ≡ i + 1 = omega arith in e))))))
 
-pub push_mapped : {X Y Z : Type 0} (f : X → Z) (g : Y → Z) (vs us : List X) (v : X) (ys : List Y) (i : ℕ) (y : Y) → us ≡ vs ++ (v ∷ []) → i < length ys → y ≡ get_or ys i y →
+pub push_mapped : {X Y Z : Type 0} (f : X → Z) (g : Y → Z) (vs us : List X) (v : X) (ys : List Y) (i : ℕ) (y : Y) → us ≡ vs ++ (v ∷ []) → i < length ys →
+    y ≡ get_or ys i y →
     f v ≡ g y → map f vs ≡ map g (take i ys) → map f us ≡ map g (take (i + 1) ys)
 push_mapped f g vs us v ys i y pushed lt is same so_far = push_at f g vs us v ys i y pushed lt (same ∙ ap g is) so_far
 
-pub all_mapped : {X Y Z : Type 0} (f : X → Z) (g : Y → Z) (vs : List X) (ys : List Y) (i : ℕ) → i ≡ length ys → map f vs ≡ map g (take i ys) → map f vs ≡ map g ys
+pub all_mapped : {X Y Z : Type 0} (f : X → Z) (g : Y → Z) (vs : List X) (ys : List Y) (i : ℕ) → i ≡ length ys → map f vs ≡ map g (take i ys) →
+    map f vs ≡ map g ys
 all_mapped f g vs ys i e h = h ∙ (ap (λ k. map g (take k ys)) e ∙ ap (map g) (take-length ys))

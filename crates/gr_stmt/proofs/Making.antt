@@ -16,7 +16,8 @@ use Rattle.gr_stmt.specs.View.{checked_with, AddsLefts, AddsResults, Notes}
 pub checked_path : {ls ks : Locals} {fs gs : List ℕ} {us vs : List MemberUse} → ls ≡ ks → fs ≡ gs → us ≡ vs →
     let a : Checked = record { locals = ls; faults = fs; uses = us } in let b : Checked = record { locals = ks; faults = gs; uses = vs } in a ≡ b
 checked_path {ls} {ks} {fs} {gs} {us} {vs} e f g =
-    ap (λ x. record { locals = x; faults = fs; uses = us }) e ∙ (ap (λ x. record { locals = ks; faults = x; uses = us }) f ∙ ap (λ x. record { locals = ks; faults = gs; uses = x }) g)
+    ap (λ x. record { locals = x; faults = fs; uses = us }) e ∙
+    (ap (λ x. record { locals = ks; faults = x; uses = us }) f ∙ ap (λ x. record { locals = ks; faults = gs; uses = x }) g)
 
 pub notes_as : {ps qs : List ℕ} {old new : Found} → Notes ps old new → ps ≡ qs → Notes qs old new
 notes_as {old = old} {new = new} a e = subst (λ (x : List ℕ). Notes x old new) e a
@@ -26,21 +27,25 @@ pub found_then : {j : Judged} (ls : Locals) {old mid new : Found} {m : Meaning} 
 found_then {j} ls {old} {mid} {new} {m} {places} a n =
     checked_path refl (n.faults ∙ (ap (λ x. x ++ places) a.faults ∙ append_assoc old.faults.items j.faults places)) (ap (map use_of) n.uses ∙ a.uses)
 
-pub updated : {j k : Judged} (ls : Locals) {old mid third new : Found} {m n : Meaning} {places : List ℕ} → Adds j old mid m → Adds k mid third n → Notes places third new →
+pub updated : {j k : Judged} (ls : Locals) {old mid third new : Found} {m n : Meaning} {places : List ℕ} → Adds j old mid m → Adds k mid third n →
+    Notes places third new →
     checked_with ls new ≡ noting (checked_with ls old) (j.faults ++ (k.faults ++ places)) (j.uses ++ k.uses)
 updated {j} {k} ls {old} {mid} {third} {new} {m} {n} {places} a b c =
     checked_path refl
-    (c.faults ∙ (ap (λ x. x ++ places) (b.faults ∙ ap (λ x. x ++ k.faults) a.faults) ∙ (append_assoc (old.faults.items ++ j.faults) k.faults places ∙ append_assoc old.faults.items j.faults (k.faults ++ places))))
+    (c.faults ∙ (ap (λ x. x ++ places) (b.faults ∙ ap (λ x. x ++ k.faults) a.faults) ∙
+    (append_assoc (old.faults.items ++ j.faults) k.faults places ∙ append_assoc old.faults.items j.faults (k.faults ++ places))))
     (ap (map use_of) c.uses ∙ (b.uses ∙ (ap (λ x. x ++ k.uses) a.uses ∙ append_assoc (map use_of old.uses.items) j.uses k.uses)))
 
 pub given_then : {l : Lefts} {r : JudgedList} (w : World) (place : ℕ) (ls : Locals) {old mid third new : Found} {ts : List Target} {vs : List Argued} →
     AddsLefts l old mid ts → AddsList r mid third vs → Notes (given_to w place vs ts) third new → (ks : Locals) →
     checked_with ks new ≡ giving w (checked_with ls old) place ks l r
 given_then {l} {r} w place ls {old} {mid} {third} {new} {ts} {vs} a b c ks =
-    let places : given_to w place vs ts ≡ given_to w place r.values l.targets = ap (λ x. given_to w place x ts) b.values ∙ ap (λ x. given_to w place r.values x) a.targets in
+    let places : given_to w place vs ts ≡ given_to w place r.values l.targets = ap (λ x. given_to w place x ts) b.values ∙
+    ap (λ x. given_to w place r.values x) a.targets in
     checked_path refl
     (c.faults ∙ (ap (λ x. x ++ given_to w place vs ts) (b.faults ∙ ap (λ x. x ++ r.faults) a.faults)
-    ∙ (append_assoc (old.faults.items ++ l.faults) r.faults (given_to w place vs ts) ∙ (append_assoc old.faults.items l.faults (r.faults ++ given_to w place vs ts)
+    ∙ (append_assoc (old.faults.items ++ l.faults) r.faults (given_to w place vs ts) ∙
+    (append_assoc old.faults.items l.faults (r.faults ++ given_to w place vs ts)
     ∙ ap (λ x. old.faults.items ++ (l.faults ++ (r.faults ++ x))) places))))
     (ap (map use_of) c.uses ∙ (b.uses ∙ (ap (λ x. x ++ r.uses) a.uses ∙ append_assoc (map use_of old.uses.items) l.uses r.uses)))
 
@@ -56,7 +61,8 @@ returned_then {r} w place results ls {old} {mid} {new} {vs} b c =
 pub adds_names : (names : List (Item IdentTree)) (t : Target) (f : Found) {ts : List Target} → ts ≡ map (λ i. t) names → AddsLefts (name_targets names t) f f ts
 adds_names names t f e = record { targets = e; faults = sym (append-nil f.faults.items); uses = sym (append-nil (map use_of f.uses.items)) }
 
-pub adds_written : {j : TypeJudged} (names : List (Item IdentTree)) {old new : Found} {t : Option PlainType} {ts : List Target} → AddsType j old new t → ts ≡ map (λ i. Wants t) names → AddsLefts (written_targets names j) old new ts
+pub adds_written : {j : TypeJudged} (names : List (Item IdentTree)) {old new : Found} {t : Option PlainType} {ts : List Target} → AddsType j old new t →
+    ts ≡ map (λ i. Wants t) names → AddsLefts (written_targets names j) old new ts
 adds_written names {old} {new} a e = record {
   targets = e ∙ ap (λ x. map (λ i. Wants x) names) a.found;
   faults = a.faults;
@@ -71,18 +77,21 @@ signed {j} ls {old} {mid} {new} {ts} {places} a n =
     (ap (map use_of) (n.uses ∙ a.uses) ∙ sym (append-nil (map use_of old.uses.items)))
 
 -- a written type alone, with what it declares
-pub declared_then : {j : TypeJudged} (ls : Locals) {old new : Found} {t : Option PlainType} → AddsType j old new t → (ks : Locals) → checked_with ks new ≡ reaching (checked_with ls old) ks j.faults []
+pub declared_then : {j : TypeJudged} (ls : Locals) {old new : Found} {t : Option PlainType} → AddsType j old new t → (ks : Locals) →
+    checked_with ks new ≡ reaching (checked_with ls old) ks j.faults []
 declared_then ls {old} {new} a ks = checked_path refl a.faults (ap (map use_of) a.uses ∙ sym (append-nil (map use_of old.uses.items)))
 
 pub adds_no_fault : (t : Option PlainType) (f : Found) → AddsType (record { type_of = t; faults = [] }) f f t
 adds_no_fault t f = record { found = refl; faults = sym (append-nil f.faults.items); uses = refl }
 
-pub adds_received : {j : TypeJudged} (w : World) (place : ℕ) {old mid new : Found} {t r : Option PlainType} → AddsType j old mid t → AddsType (receiving w place t) mid new r → AddsType (received w place j) old new r
+pub adds_received : {j : TypeJudged} (w : World) (place : ℕ) {old mid new : Found} {t r : Option PlainType} → AddsType j old mid t →
+    AddsType (receiving w place t) mid new r → AddsType (received w place j) old new r
 adds_received {j} w place {old} {mid} {new} {t} {r} a b =
     let b' : AddsType (receiving w place j.type_of) mid new r = subst (λ (x : Option PlainType). AddsType (receiving w place x) mid new r) a.found b in
     record {
       found = b'.found;
-      faults = b'.faults ∙ (ap (λ x. x ++ (receiving w place j.type_of).faults) a.faults ∙ append_assoc old.faults.items j.faults (receiving w place j.type_of).faults);
+      faults = b'.faults ∙ (ap (λ x. x ++ (receiving w place j.type_of).faults) a.faults ∙
+          append_assoc old.faults.items j.faults (receiving w place j.type_of).faults);
       uses = b'.uses ∙ a.uses;
     }
 

@@ -15,7 +15,8 @@ use Rattle.gr_expr.specs.Judge.{judge_type, judge_value, judge_arguments, value_
 use Rattle.gr_stmt.specs.Checked.{Checked, check_items}
 use Rattle.gr_stmt.specs.Headers.{judge_types, result_then}
 use Rattle.gr_stmt.specs.Declarations.{field_faults, check_decl, check_decls}
-use Rattle.gr_stmt.specs.Sides.{judge_each, assigned, assigned_one, defined, defined_one, lefts_then, Target, refused, all_refused, with_locals, declared_if, head_or_none, tail_of}
+use Rattle.gr_stmt.specs.Sides.{judge_each, assigned, assigned_one, defined, defined_one, lefts_then, Target, refused, all_refused, with_locals}
+use Rattle.gr_stmt.specs.Sides.{declared_if, head_or_none, tail_of}
 
 -- values in turn are the arguments of a call
 pub arguments_each : (w : World) (ls : Locals) (xs : List ExprItem) → judge_arguments w ls (arguments_in xs) ≡ judge_each w ls (exprs_view xs)
@@ -41,7 +42,8 @@ pub defined_end : (w : World) (ls : Locals) → defined w ls (exprs_view []) ≡
 unfolding defined
 defined_end w ls = refl
 
-pub all_refused_step : (w : World) (v : Argued) (vs : List Argued) (t : Target) (ts : List Target) → all_refused w (v ∷ vs) (t ∷ ts) ≡ refused w v.place v.kind t ++ all_refused w vs ts
+pub all_refused_step : (w : World) (v : Argued) (vs : List Argued) (t : Target) (ts : List Target) →
+    all_refused w (v ∷ vs) (t ∷ ts) ≡ refused w v.place v.kind t ++ all_refused w vs ts
 unfolding all_refused
 all_refused_step w v vs t ts = refl
 
@@ -63,7 +65,8 @@ pub with_locals_end : (ls : Locals) (ts : List (Option PlainType)) → with_loca
 unfolding with_locals
 with_locals_end ls ts = refl
 
-pub judge_types_step : (w : World) (x : Item TypeExpr) (xs : List (Item TypeExpr)) → judge_types w (list_view type_view (x ∷ xs)) ≡ result_then (judge_type w (type_view x.value)) (judge_types w (list_view type_view xs))
+pub judge_types_step : (w : World) (x : Item TypeExpr) (xs : List (Item TypeExpr)) →
+    judge_types w (list_view type_view (x ∷ xs)) ≡ result_then (judge_type w (type_view x.value)) (judge_types w (list_view type_view xs))
 unfolding judge_types
 judge_types_step w x xs = refl
 
@@ -89,7 +92,8 @@ pub decls_end : (w : World) (is_init : ℕ → Bool) (s : Checked) → check_dec
 unfolding check_decls
 decls_end w is_init s = refl
 
-pub field_faults_step : (w : World) (x : Item Field) (xs : List (Item Field)) → field_faults w (list_view field_view (x ∷ xs)) ≡ (judge_type w (type_view x.value.field_type)).faults ++ field_faults w (list_view field_view xs)
+pub field_faults_step : (w : World) (x : Item Field) (xs : List (Item Field)) →
+    field_faults w (list_view field_view (x ∷ xs)) ≡ (judge_type w (type_view x.value.field_type)).faults ++ field_faults w (list_view field_view xs)
 unfolding field_faults field_view
 field_faults_step w x xs = refl
 

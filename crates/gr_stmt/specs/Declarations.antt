@@ -1,6 +1,7 @@
 -- Package-level declarations, and whole files.
 use Rattle.std.specs.Prelude.{ℕ, ◌==◌, Bool, if◌then◌else◌, List, [], ◌∷◌, ◌++◌, Option, Some, None, length, map}
-use Rattle.gr_tree.specs.Tree.{Item, BasicTree, Integer, String, GlobalTree, FieldTree, BodyTree, Other, Struct, TypeSpecTree, DeclTree, VarDecl, TypeDecl, FuncDecl, FileTree}
+use Rattle.gr_tree.specs.Tree.{Item, BasicTree, Integer, String, GlobalTree, FieldTree, BodyTree, Other, Struct, TypeSpecTree, DeclTree, VarDecl, TypeDecl}
+use Rattle.gr_tree.specs.Tree.{FuncDecl, FileTree}
 use Rattle.gr_expr.specs.declared.types.Basic.TheVariants as basic
 use Rattle.gr_expr.specs.Types.{PlainType, Untyped}
 use Rattle.gr_expr.specs.World.{World, no_locals}

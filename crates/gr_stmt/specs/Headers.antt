@@ -81,7 +81,8 @@ is_bad_init is_init f wanted = is_init && (is_none f.receiver && (if is_empty_li
 -- what a function's header declares, and the faults in it
 unfoldable pub check_signature : World → Bool → Checked → FuncTree → Checked
 check_signature w is_init s f =
-    noting (check_items (check_param w) (check_optional_receiver w s f.receiver) f.params) ((judge_results w f.result).faults ++ fault_if (is_bad_init is_init f (judge_results w f.result).wanted) f.name) []
+    noting (check_items (check_param w) (check_optional_receiver w s f.receiver) f.params)
+    ((judge_results w f.result).faults ++ fault_if (is_bad_init is_init f (judge_results w f.result).wanted) f.name) []
 
 unfoldable pub check_function : World → Bool → Checked → FuncTree → Checked
 check_function w is_init s f = check_block w (judge_results w f.result).wanted (check_signature w is_init s f) f.body

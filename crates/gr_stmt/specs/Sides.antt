@@ -6,7 +6,8 @@ use Rattle.gr_tree.specs.Tree.{Item, IdentTree, Named, Underscore, ExprTree, Nam
 use Rattle.gr_expr.specs.Types.{PlainType, BasicType, Kind, Typed, Untyped, Nil, Meaning, Value, Results, Broken}
 use Rattle.gr_expr.specs.World.{World, Bound, Local, Locals, declared}
 use Rattle.gr_expr.specs.Places.{place_of, first_token}
-use Rattle.gr_expr.specs.Judge.{Judged, MemberUse, Argued, JudgedList, judge, judge_value, as_value, value_kind, value_before, misfit, means, wrong, followed, all_whole}
+use Rattle.gr_expr.specs.Judge.{Judged, MemberUse, Argued, JudgedList, judge, judge_value, as_value, value_kind, value_before, misfit, means, wrong}
+use Rattle.gr_expr.specs.Judge.{followed, all_whole}
 use Rattle.gr_stmt.specs.Checked.{fault_if}
 
 -- Right sides: a lone call of several results, or of none, gives those, each at the place of the call

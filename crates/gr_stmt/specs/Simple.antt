@@ -4,7 +4,8 @@ use Rattle.gr_tree.specs.declared.syntax.BinaryOp.{BinaryOp}
 use Rattle.gr_tree.specs.declared.syntax.BinaryOp.TheVariants as binary
 use Rattle.gr_tree.specs.declared.syntax.UpdateOp.{UpdateOp}
 use Rattle.gr_tree.specs.declared.syntax.UpdateOp.TheVariants as update
-use Rattle.gr_tree.specs.Tree.{Item, IdentTree, TypeTree, ExprTree, Chain, LinkTrees, no_link, selector, index, call, SimpleTree, Alone, Step, Update, Assign, Define, LocalTree}
+use Rattle.gr_tree.specs.Tree.{Item, IdentTree, TypeTree, ExprTree, Chain, LinkTrees, no_link, selector, index, call, SimpleTree, Alone, Step, Update}
+use Rattle.gr_tree.specs.Tree.{Assign, Define, LocalTree}
 use Rattle.gr_expr.specs.Types.{PlainType, Kind, Meaning, Function, BuiltinName, Broken}
 use Rattle.gr_expr.specs.World.{World, Locals}
 use Rattle.gr_expr.specs.Operations.{operate, class_of, is_int, is_bool}
@@ -13,7 +14,8 @@ use Rattle.gr_expr.specs.declared.types.Builtin.{Builtin}
 use Rattle.gr_expr.specs.declared.types.Builtin.TheVariants as builtin
 use Rattle.gr_expr.specs.Judge.{JudgedList, TypeJudged, judge, judge_value, judge_type, value_kind}
 use Rattle.gr_stmt.specs.Checked.{Checked, reaching, noting, finding}
-use Rattle.gr_stmt.specs.Sides.{rights, Target, Takes, Wants, given_to, Lefts, judge_operand, assigned, defined, with_taken, with_locals, defined_names, all_named, first_of_exprs, first_of_idents}
+use Rattle.gr_stmt.specs.Sides.{rights, Target, Takes, Wants, given_to, Lefts, judge_operand, assigned, defined, with_taken, with_locals, defined_names}
+use Rattle.gr_stmt.specs.Sides.{all_named, first_of_exprs, first_of_idents}
 
 -- Conditions: a value of underlying bool
 
@@ -145,7 +147,8 @@ written_locals ls names t = with_locals ls (all_named names) (map (λ i. t) name
 
 unfoldable pub check_written : World → Checked → List (Item IdentTree) → TypeJudged → Option (ℕ × List (Item ExprTree)) → Checked
 check_written w s names t None = reaching s (written_locals s.locals names t.type_of) t.faults []
-check_written w s names t (Some v) = giving w s (first_of_idents names) (written_locals s.locals names t.type_of) (written_targets names t) (rights w s.locals v.1)
+check_written w s names t (Some v) = giving w s (first_of_idents names) (written_locals s.locals names t.type_of) (written_targets names t)
+    (rights w s.locals v.1)
 
 -- the grammar has no declaration without a type and without values
 unfoldable pub check_unwritten : World → Checked → List (Item IdentTree) → Option (ℕ × List (Item ExprTree)) → Checked

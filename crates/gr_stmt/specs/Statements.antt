@@ -1,7 +1,9 @@
 -- Statements and blocks. Declarations are met in source order; the locals of an inner block stay, since a name is bound
 -- to one by its place.
 use Rattle.std.specs.Prelude.{ℕ, ◌==◌, if◌then◌else◌, List, ◌++◌, Option, Some, None, length}
-use Rattle.gr_tree.specs.Tree.{Item, ExprTree, InitTree, ForTree, forever, while, clauses, StatementTree, Empty, Var, Simple, Inner, If, For, Break, Continue, Return, BlockTree, block, StatementTrees, no_statement, statement, IfTree, if_tree, ElseTree, no_else, else_if, else_block}
+use Rattle.gr_tree.specs.Tree.{Item, ExprTree, InitTree, ForTree, forever, while, clauses, StatementTree, Empty, Var, Simple, Inner, If, For, Break}
+use Rattle.gr_tree.specs.Tree.{Continue, Return, BlockTree, block, StatementTrees, no_statement, statement, IfTree, if_tree, ElseTree, no_else, else_if}
+use Rattle.gr_tree.specs.Tree.{else_block}
 use Rattle.gr_expr.specs.World.{World}
 use Rattle.gr_expr.specs.Judge.{Argued, JudgedList, all_whole}
 use Rattle.gr_stmt.specs.Checked.{Checked, noting, fault_if, check_group}

@@ -42,8 +42,10 @@ heads t u a b e = cc
 syntax_once : {ss : List Symbol} {l d : ℕ} {ts : List Token} {m n : ℕ} → FirstFault ss l d ts m → FirstFault ss l d ts n → m ≡ n
 syntax_once {ss = ss} f g = elim (cut f.before f.rest g.before g.rest (sym f.split ∙ g.split)) [
   | alike p q ↦ sym f.left_is ∙ (ap length q ∙ g.left_is)
-  | second_longer t mid p q ↦ absurd (f.dead t (mid ++ g.rest) (mid ++ g.viable.0) q (subst (λ x. Derives ss x) (regrouped f.before g.before t t mid g.viable.0 p refl) g.viable.1))
-  | first_longer t mid p q ↦ absurd (g.dead t (mid ++ f.rest) (mid ++ f.viable.0) q (subst (λ x. Derives ss x) (regrouped g.before f.before t t mid f.viable.0 p refl) f.viable.1))
+  | second_longer t mid p q ↦ absurd (f.dead t (mid ++ g.rest) (mid ++ g.viable.0) q
+      (subst (λ x. Derives ss x) (regrouped f.before g.before t t mid g.viable.0 p refl) g.viable.1))
+  | first_longer t mid p q ↦ absurd (g.dead t (mid ++ f.rest) (mid ++ f.viable.0) q
+      (subst (λ x. Derives ss x) (regrouped g.before f.before t t mid f.viable.0 p refl) f.viable.1))
 ]
 
 -- an open level over the limit, and none
@@ -84,7 +86,8 @@ bounded l (x ∷ xs) a (suc k) = bounded l xs (All-tail (λ x. x ≤ l) x xs a) 
 whole_or_nesting : {ts : List Token} {n : ℕ} → IsWhole ts → IsVerdict ts (Faulty Nesting n) → ⊥
 whole_or_nesting w g =
     let y = moved 0 _ _ g.split w.derived in
-    too_deep 200 (levels 0 w.derived) (levels 0 y.0) (length g.before) y.1 (g.deep g.others y.0) (bounded 200 (levels 0 w.derived) (w.shallow w.derived) (length g.before))
+    too_deep 200 (levels 0 w.derived) (levels 0 y.0) (length g.before) y.1 (g.deep g.others y.0)
+    (bounded 200 (levels 0 w.derived) (w.shallow w.derived) (length g.before))
 
 pub one_verdict : (ts : List Token) (v w : Verdict) → IsVerdict ts v → IsVerdict ts w → v ≡ w
 one_verdict ts Whole Whole a b = refl

@@ -1,7 +1,9 @@
 -- The trees of statements, declarations and files that values of the program stand for.
 use Rattle.std.specs.Prelude.{ℕ, List, map}
 use Rattle.gr_tree.specs.Tree as tree
-use Rattle.gr_tree.specs.Tree.{LocalTree, SimpleTree, InitTree, ForTree, StatementTree, BlockTree, StatementTrees, IfTree, ElseTree, ExprTree, BasicTree, ImportTree, GlobalTree, FieldTree, BodyTree, TypeSpecTree, ReceiverTree, ParamTree, ResultTree, FuncTree, ImportsTree, DeclTree, FileTree}
+use Rattle.gr_tree.specs.Tree.{LocalTree, SimpleTree, InitTree, ForTree, StatementTree, BlockTree, StatementTrees, IfTree, ElseTree, ExprTree, BasicTree}
+use Rattle.gr_tree.specs.Tree.{ImportTree, GlobalTree, FieldTree, BodyTree, TypeSpecTree, ReceiverTree, ParamTree, ResultTree, FuncTree, ImportsTree}
+use Rattle.gr_tree.specs.Tree.{DeclTree, FileTree}
 use Rattle.gr_tree.specs.View.{option_view, list_view, group_view, ident_view, type_view, expr_view, exprs_view}
 use Rattle.gr_tree.specs.declared.tree.Values.{Values}
 use Rattle.gr_tree.specs.declared.tree.LocalSpec.{LocalSpec}
@@ -57,7 +59,8 @@ init_view i = record { simple = option_view simple_view i.statement; semicolon =
 unfoldable pub for_view : ForHeader → ForTree
 for_view for.Forever = tree.forever
 for_view (for.While e) = tree.while (expr_view e)
-for_view (for.Clauses init s condition t post) = tree.clauses (option_view simple_view init) s (option_view expr_view condition) t (option_view simple_view post)
+for_view (for.Clauses init s condition t post) = tree.clauses (option_view simple_view init) s (option_view expr_view condition) t
+    (option_view simple_view post)
 
 unfoldable mutual
   pub stmt_view : Stmt → StatementTree
@@ -121,7 +124,16 @@ results_view (results.Single t) = tree.one_result (type_view t)
 results_view (results.Several o ts c) = tree.results o (list_view type_view ts.items) c
 
 unfoldable pub func_view : FuncDecl → FuncTree
-func_view f = record { receiver = option_view receiver_view f.receiver; name = f.name; lparen = f.open; params = list_view param_view f.params.items; rparen = f.close; result = results_view f.results; body = block_view f.body }
+func_view f = record {
+  receiver = option_view receiver_view f.receiver;
+  name = f.name;
+  lparen = f.open;
+  params =
+      list_view param_view f.params.items;
+  rparen = f.close;
+  result = results_view f.results;
+  body = block_view f.body;
+}
 
 unfoldable pub imports_view : ImportDecl → ImportsTree
 imports_view i = record { keyword = i.at; imports = group_view import_view i.group; semicolon = i.semicolon }
@@ -132,4 +144,11 @@ decl_view (decl.Type p g s) = tree.TypeDecl p (group_view type_spec_view g) s
 decl_view (decl.Func p f s) = tree.FuncDecl p (func_view f) s
 
 unfoldable pub file_view : File → FileTree
-file_view f = record { keyword = f.package; name = f.name; semicolon = f.semicolon; imports = map imports_view f.imports.items; decls = map decl_view f.decls.items }
+file_view f = record {
+  keyword = f.package;
+  name = f.name;
+  semicolon = f.semicolon;
+  imports = map imports_view f.imports.items;
+  decls =
+      map decl_view f.decls.items;
+}

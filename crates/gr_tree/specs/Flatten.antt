@@ -11,7 +11,14 @@ use Rattle.gr_tree.specs.declared.syntax.StepOp.{StepOp}
 use Rattle.gr_tree.specs.declared.syntax.StepOp.TheVariants as step
 use Rattle.gr_tree.specs.declared.syntax.UpdateOp.{UpdateOp}
 use Rattle.gr_tree.specs.declared.syntax.UpdateOp.TheVariants as update
-use Rattle.gr_tree.specs.Tree.{Item, Group, single, several, IdentTree, Named, Underscore, BasicTree, Integer, String, TypeTree, Local, Imported, Pointer, Slice, ExprTree, Number, Text, Name, Blank, Composite, Paren, Prefix, Address, Chain, Binary, OperandTrees, no_operand, operand, LinkTrees, no_link, selector, index, call, ArgumentTrees, no_argument, argument, LiteralTree, literal, ElementTrees, no_element, element, SimpleTree, Alone, Step, Update, Assign, Define, LocalTree, InitTree, ForTree, forever, while, clauses, StatementTree, Empty, Var, Simple, Inner, If, For, Break, Continue, Return, BlockTree, block, StatementTrees, no_statement, statement, IfTree, if_tree, ElseTree, no_else, else_if, else_block, ImportTree, GlobalTree, FieldTree, BodyTree, Other, Struct, TypeSpecTree, ReceiverTree, ParamTree, ResultTree, no_result, one_result, results, FuncTree, ImportsTree, DeclTree, VarDecl, TypeDecl, FuncDecl, FileTree}
+use Rattle.gr_tree.specs.Tree.{Item, Group, single, several, IdentTree, Named, Underscore, BasicTree, Integer, String, TypeTree, Local, Imported, Pointer}
+use Rattle.gr_tree.specs.Tree.{Slice, ExprTree, Number, Text, Name, Blank, Composite, Paren, Prefix, Address, Chain, Binary, OperandTrees, no_operand}
+use Rattle.gr_tree.specs.Tree.{operand, LinkTrees, no_link, selector, index, call, ArgumentTrees, no_argument, argument, LiteralTree, literal, ElementTrees}
+use Rattle.gr_tree.specs.Tree.{no_element, element, SimpleTree, Alone, Step, Update, Assign, Define, LocalTree, InitTree, ForTree, forever, while, clauses}
+use Rattle.gr_tree.specs.Tree.{StatementTree, Empty, Var, Simple, Inner, If, For, Break, Continue, Return, BlockTree, block, StatementTrees, no_statement}
+use Rattle.gr_tree.specs.Tree.{statement, IfTree, if_tree, ElseTree, no_else, else_if, else_block, ImportTree, GlobalTree, FieldTree, BodyTree, Other}
+use Rattle.gr_tree.specs.Tree.{Struct, TypeSpecTree, ReceiverTree, ParamTree, ResultTree, no_result, one_result, results, FuncTree, ImportsTree, DeclTree}
+use Rattle.gr_tree.specs.Tree.{VarDecl, TypeDecl, FuncDecl, FileTree}
 
 abbrev pub sign : Kind → ℕ → Token
 sign k p = record { kind = k; place = p }

@@ -1,7 +1,11 @@
 -- The grammar, as rules for the parts of a text.
 use Rattle.std.specs.Prelude.{◌||◌, ℕ, Bool, true, false, List, [], ◌∷◌, Option, Some, None, cond, nat_eq}
 use Rattle.gr_tree.specs.declared.syntax.Kind.{Kind}
-use Rattle.gr_tree.specs.declared.syntax.Kind.TheVariants.{Name, Blank, Number, Text, LeftParen, RightParen, LeftBracket, RightBracket, LeftBrace, RightBrace, Comma, Dot, Colon, Semicolon, Plus, Minus, Star, Slash, Percent, Equal, NotEqual, Less, LessEqual, Greater, GreaterEqual, AndAnd, OrOr, Not, Ampersand, Assign, Define, AddAssign, SubAssign, MulAssign, DivAssign, RemAssign, Increment, Decrement, If, Else, For, Break, Continue, Return, Var, Package, Import, Func, TypeWord, Struct, Other}
+use Rattle.gr_tree.specs.declared.syntax.Kind.TheVariants.{Name, Blank, Number, Text, LeftParen, RightParen, LeftBracket, RightBracket, LeftBrace}
+use Rattle.gr_tree.specs.declared.syntax.Kind.TheVariants.{RightBrace, Comma, Dot, Colon, Semicolon, Plus, Minus, Star, Slash, Percent, Equal, NotEqual}
+use Rattle.gr_tree.specs.declared.syntax.Kind.TheVariants.{Less, LessEqual, Greater, GreaterEqual, AndAnd, OrOr, Not, Ampersand, Assign, Define, AddAssign}
+use Rattle.gr_tree.specs.declared.syntax.Kind.TheVariants.{SubAssign, MulAssign, DivAssign, RemAssign, Increment, Decrement, If, Else, For, Break, Continue}
+use Rattle.gr_tree.specs.declared.syntax.Kind.TheVariants.{Return, Var, Package, Import, Func, TypeWord, Struct, Other}
 use Rattle.gr_tree.specs.declared.syntax.BinaryOp.{BinaryOp}
 use Rattle.gr_tree.specs.declared.syntax.BinaryOp.TheVariants as binary
 use Rattle.gr_tree.specs.declared.syntax.PrefixOp.{PrefixOp}

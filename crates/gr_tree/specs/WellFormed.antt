@@ -5,7 +5,13 @@ use Rattle.std.specs.List.{All}
 use Rattle.gr_tree.specs.declared.syntax.Token.{Token}
 use Rattle.gr_tree.specs.declared.syntax.BinaryOp.{BinaryOp}
 use Rattle.gr_tree.specs.declared.syntax.BinaryOp.TheVariants as binary
-use Rattle.gr_tree.specs.Tree.{Item, Group, single, several, TypeTree, Pointer, Slice, ExprTree, Number, Text, Name, Blank, Composite, Paren, Prefix, Address, Chain, Binary, OperandTrees, no_operand, operand, LinkTrees, no_link, selector, index, call, ArgumentTrees, no_argument, argument, LiteralTree, literal, ElementTrees, no_element, element, SimpleTree, Alone, Step, Update, Assign, Define, LocalTree, InitTree, ForTree, forever, while, clauses, StatementTree, Empty, Var, Simple, Inner, If, For, Break, Continue, Return, BlockTree, block, StatementTrees, no_statement, statement, IfTree, if_tree, ElseTree, no_else, else_if, else_block, GlobalTree, FieldTree, BodyTree, Other, Struct, TypeSpecTree, ParamTree, ResultTree, no_result, one_result, results, FuncTree, ImportsTree, DeclTree, VarDecl, TypeDecl, FuncDecl, FileTree}
+use Rattle.gr_tree.specs.Tree.{Item, Group, single, several, TypeTree, Pointer, Slice, ExprTree, Number, Text, Name, Blank, Composite, Paren, Prefix}
+use Rattle.gr_tree.specs.Tree.{Address, Chain, Binary, OperandTrees, no_operand, operand, LinkTrees, no_link, selector, index, call, ArgumentTrees}
+use Rattle.gr_tree.specs.Tree.{no_argument, argument, LiteralTree, literal, ElementTrees, no_element, element, SimpleTree, Alone, Step, Update, Assign}
+use Rattle.gr_tree.specs.Tree.{Define, LocalTree, InitTree, ForTree, forever, while, clauses, StatementTree, Empty, Var, Simple, Inner, If, For, Break}
+use Rattle.gr_tree.specs.Tree.{Continue, Return, BlockTree, block, StatementTrees, no_statement, statement, IfTree, if_tree, ElseTree, no_else, else_if}
+use Rattle.gr_tree.specs.Tree.{else_block, GlobalTree, FieldTree, BodyTree, Other, Struct, TypeSpecTree, ParamTree, ResultTree, no_result, one_result}
+use Rattle.gr_tree.specs.Tree.{results, FuncTree, ImportsTree, DeclTree, VarDecl, TypeDecl, FuncDecl, FileTree}
 use Rattle.gr_tree.specs.Flatten.{flatten}
 
 -- lists

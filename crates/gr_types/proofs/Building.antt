@@ -15,10 +15,12 @@ use Rattle.gr_expr.specs.World as plain
 use Rattle.gr_expr.specs.WorldView.{definition_of}
 use Rattle.gr_declared.specs.Package.{Package, PlacedType, PlacedFunction, package_types, package_functions, spelled}
 use Rattle.gr_declared.specs.Written.{IsTypeOf}
-use Rattle.gr_declared.specs.Definitions.{PlacedField, body_fields, fields_from, package_fields, IsCountingField, IsMethodOf, IsCountingMethod, IsField, IsSignature, IsMethod, IsUnderlyingOf}
+use Rattle.gr_declared.specs.Definitions.{PlacedField, body_fields, fields_from, package_fields, IsCountingField, IsMethodOf, IsCountingMethod, IsField}
+use Rattle.gr_declared.specs.Definitions.{IsSignature, IsMethod, IsUnderlyingOf}
 use Rattle.gr_members.specs.MembersView.{CountsAsField, IsMethodOn, CountsAsMethod}
 use Rattle.gr_meanings.specs.DefinitionsView.{HaveDefinitions}
-use Rattle.gr_types.specs.Building.{IsFieldBelow, IsMethodBelow, IsDefinitionBelow, HaveMembersBelow, SetsField, field_by, received_by_pointer, method_by, SetsMethodOf, ChangesAt, AddsField, typed, untyped}
+use Rattle.gr_types.specs.Building.{IsFieldBelow, IsMethodBelow, IsDefinitionBelow, HaveMembersBelow, SetsField, field_by, received_by_pointer, method_by}
+use Rattle.gr_types.specs.Building.{SetsMethodOf, ChangesAt, AddsField, typed, untyped}
 use Rattle.gr_declared.proofs.ByteKeys.{cases_bytes}
 use Rattle.gr_declared.proofs.Mentioning.{get_set_same, get_set_other}
 use Rattle.gr_members.proofs.Owning.{HasOwner}
@@ -43,13 +45,16 @@ bounded_append n (x ∷ xs) ys h k = bounded_more n x (xs ++ ys) (h 0 x refl) (b
 abbrev named_fields : ℕ → ℕ → Item FieldTree → List PlacedField
 named_fields rank file i = map (λ n. record { definition = rank; file = file; name = n.value; type_use = i.value.type_use }) i.value.names
 
-bounded_names : (n rank file : ℕ) (type_use : _) (names : List (Item ℕ)) → rank < n → Bounded n (map (λ i. record { definition = rank; file = file; name = i.value; type_use = type_use }) names)
+bounded_names : (n rank file : ℕ) (type_use : _) (names : List (Item ℕ)) → rank < n →
+    Bounded n (map (λ i. record { definition = rank; file = file; name = i.value; type_use = type_use }) names)
 bounded_names n rank file t [] lt = bounded_none n
-bounded_names n rank file t (x ∷ xs) lt = bounded_more n (record { definition = rank; file = file; name = x.value; type_use = t }) _ lt (bounded_names n rank file t xs lt)
+bounded_names n rank file t (x ∷ xs) lt = bounded_more n (record { definition = rank; file = file; name = x.value; type_use = t }) _ lt
+    (bounded_names n rank file t xs lt)
 
 bounded_items : (n rank file : ℕ) (fs : List (Item FieldTree)) → rank < n → Bounded n (flat_map (named_fields rank file) fs)
 bounded_items n rank file [] lt = bounded_none n
-bounded_items n rank file (i ∷ fs) lt = bounded_append n (named_fields rank file i) (flat_map (named_fields rank file) fs) (bounded_names n rank file i.value.type_use i.value.names lt) (bounded_items n rank file fs lt)
+bounded_items n rank file (i ∷ fs) lt = bounded_append n (named_fields rank file i) (flat_map (named_fields rank file) fs)
+    (bounded_names n rank file i.value.type_use i.value.names lt) (bounded_items n rank file fs lt)
 
 bounded_body : (n rank file : ℕ) (b : BodyTree) → rank < n → Bounded n (body_fields rank file b)
 bounded_body n rank file (Other t) lt = bounded_none n
@@ -58,14 +63,16 @@ bounded_body n rank file (Struct k o fs c) lt = bounded_items n rank file fs lt
 bounded_from : (n rank : ℕ) (ds : List PlacedType) → rank + length ds ≤ n → Bounded n (fields_from rank ds)
 bounded_from n rank [] le = bounded_none n
 bounded_from n rank (d ∷ ds) le =
-    bounded_append n (body_fields rank d.file d.spec.body) (fields_from (suc rank) ds) (bounded_body n rank d.file d.spec.body (omega arith)) (bounded_from n (suc rank) ds (omega arith))
+    bounded_append n (body_fields rank d.file d.spec.body) (fields_from (suc rank) ds) (bounded_body n rank d.file d.spec.body (omega arith))
+    (bounded_from n (suc rank) ds (omega arith))
 
 pub field_within : (p : Package) (rank : ℕ) (f : PlacedField) → slice_get (package_fields p) rank ≡ Some f → f.definition < length (package_types p)
 field_within p rank f e = bounded_from (length (package_types p)) 0 (package_types p) (omega arith) rank f e
 
 -- a list of which one item is set
 
-changes_set : {X : Type 0} (old : List X) (place : ℕ) (x y : X) (C : X → X → Type 0) → place < length old → x ≡ get_or old place x → C x y → ChangesAt old (set old place y) place C
+changes_set : {X : Type 0} (old : List X) (place : ℕ) (x y : X) (C : X → X → Type 0) → place < length old → x ≡ get_or old place x → C x y →
+    ChangesAt old (set old place y) place C
 changes_set old place x y C lt is c = record {
   size = length-set old place y;
   before = x;
@@ -81,13 +88,16 @@ changes_set old place x y C lt is c = record {
 same_field : (p : Package) (rank d : ℕ) (n : List ℕ) (f g : PlacedField) → slice_get (package_fields p) rank ≡ Some f → IsCountingField p d n rank g → g ≡ f
 same_field p rank d n f g e c = same_Some g f (sym c.is_field.has_rank ∙ e)
 
-its_definition : (p : Package) (rank d : ℕ) (n : List ℕ) (f g : PlacedField) → slice_get (package_fields p) rank ≡ Some f → IsCountingField p d n rank g → d ≡ f.definition
+its_definition : (p : Package) (rank d : ℕ) (n : List ℕ) (f g : PlacedField) → slice_get (package_fields p) rank ≡ Some f → IsCountingField p d n rank g →
+    d ≡ f.definition
 its_definition p rank d n f g e c = sym c.is_field.of_struct ∙ ap (λ (z : PlacedField). z.definition) (same_field p rank d n f g e c)
 
-its_name : (p : Package) (rank d : ℕ) (n : List ℕ) (f g : PlacedField) → slice_get (package_fields p) rank ≡ Some f → IsCountingField p d n rank g → n ≡ spelled p f.file f.name
+its_name : (p : Package) (rank d : ℕ) (n : List ℕ) (f g : PlacedField) → slice_get (package_fields p) rank ≡ Some f → IsCountingField p d n rank g →
+    n ≡ spelled p f.file f.name
 its_name p rank d n f g e c = sym c.is_field.named ∙ ap (λ (z : PlacedField). spelled p z.file z.name) (same_field p rank d n f g e c)
 
-counting_field : (p : Package) (rank : ℕ) (f : PlacedField) → slice_get (package_fields p) rank ≡ Some f → CountsAsField p rank → IsCountingField p f.definition (spelled p f.file f.name) rank f
+counting_field : (p : Package) (rank : ℕ) (f : PlacedField) → slice_get (package_fields p) rank ≡ Some f → CountsAsField p rank →
+    IsCountingField p f.definition (spelled p f.file f.name) rank f
 counting_field p rank f e c =
     subst (λ d. IsCountingField p d (spelled p f.file f.name) rank f) (its_definition p rank c.definition c.name f c.field e c.counting)
     (subst (λ n. IsCountingField p c.definition n rank f) (its_name p rank c.definition c.name f c.field e c.counting)
@@ -104,22 +114,30 @@ field_later p count d n None none h = λ r f t lt c is. elim (cases_lt r count) 
 ]
 field_later p count d n (Some x) none h = h
 
-fields_later : (p : Package) (count methods rank : ℕ) (d : plain.Definition) → ((n : List ℕ) → NoField p count rank n) → IsDefinitionBelow p count methods rank d → IsDefinitionBelow p (count + 1) methods rank d
-fields_later p count methods rank d none h = record { underlying = h.underlying; has_fields = λ n. field_later p count rank n (d.field n) (none n) (h.has_fields n); has_methods = h.has_methods }
+fields_later : (p : Package) (count methods rank : ℕ) (d : plain.Definition) → ((n : List ℕ) → NoField p count rank n) →
+    IsDefinitionBelow p count methods rank d → IsDefinitionBelow p (count + 1) methods rank d
+fields_later p count methods rank d none h = record
+    { underlying = h.underlying; has_fields = λ n. field_later p count rank n (d.field n) (none n) (h.has_fields n); has_methods = h.has_methods }
 
-fields_skipped : (p : Package) (count methods : ℕ) (found : List Definition) → ((d : ℕ) (n : List ℕ) → NoField p count d n) → HaveMembersBelow p count methods found → HaveMembersBelow p (count + 1) methods found
+fields_skipped : (p : Package) (count methods : ℕ) (found : List Definition) → ((d : ℕ) (n : List ℕ) → NoField p count d n) →
+    HaveMembersBelow p count methods found → HaveMembersBelow p (count + 1) methods found
 fields_skipped p count methods found none h = record { all = h.all; each = λ r d e. fields_later p count methods r (definition_of d) (none r) (h.each r d e) }
 
 -- a field that does not count
-pub field_skipped : (p : Package) (count methods : ℕ) (found : List Definition) → (CountsAsField p count → ⊥) → HaveMembersBelow p count methods found → HaveMembersBelow p (count + 1) methods found
-field_skipped p count methods found none h = fields_skipped p count methods found (λ d n f t c is. none (record { definition = d; name = n; field = f; counting = c })) h
+pub field_skipped : (p : Package) (count methods : ℕ) (found : List Definition) → (CountsAsField p count → ⊥) → HaveMembersBelow p count methods found →
+    HaveMembersBelow p (count + 1) methods found
+field_skipped p count methods found none h = fields_skipped p count methods found
+    (λ d n f t c is. none (record { definition = d; name = n; field = f; counting = c })) h
 
-field_set : (p : Package) (count methods : ℕ) (f : PlacedField) (t : PlainType) (x y : plain.Definition) → slice_get (package_fields p) count ≡ Some f → IsCountingField p f.definition (spelled p f.file f.name) count f →
-    IsTypeOf p f.file f.type_use t → SetsField x y (spelled p f.file f.name) (field_by p count f t) → IsDefinitionBelow p count methods f.definition x → IsDefinitionBelow p (count + 1) methods f.definition y
+field_set : (p : Package) (count methods : ℕ) (f : PlacedField) (t : PlainType) (x y : plain.Definition) → slice_get (package_fields p) count ≡ Some f →
+    IsCountingField p f.definition (spelled p f.file f.name) count f →
+    IsTypeOf p f.file f.type_use t → SetsField x y (spelled p f.file f.name) (field_by p count f t) → IsDefinitionBelow p count methods f.definition x →
+    IsDefinitionBelow p (count + 1) methods f.definition y
 field_set p count methods f t x y at c is s h = record {
   underlying = subst (IsUnderlyingOf p f.definition) (sym s.underlying) h.underlying;
   has_fields = λ n. elim (cases_bytes n (spelled p f.file f.name)) [
-    | inl same ↦ subst (λ z. IsFieldBelow p (count + 1) f.definition z (y.field z)) (sym same) (subst (IsFieldBelow p (count + 1) f.definition (spelled p f.file f.name)) (sym s.here) (f, (c, is, refl, refl)))
+    | inl same ↦ subst (λ z. IsFieldBelow p (count + 1) f.definition z (y.field z)) (sym same)
+        (subst (IsFieldBelow p (count + 1) f.definition (spelled p f.file f.name)) (sym s.here) (f, (c, is, refl, refl)))
     | inr ne ↦ subst (IsFieldBelow p (count + 1) f.definition n) (sym (s.elsewhere n ne))
         (field_later p count f.definition n (x.field n) (λ g u k typed. ne (its_name p count f.definition n f g at k)) (h.has_fields n))
   ];
@@ -128,7 +146,8 @@ field_set p count methods f t x y at c is s h = record {
 
 fields_added : (p : Package) (count methods : ℕ) (f : PlacedField) (t : PlainType) (old new : List Definition) → slice_get (package_fields p) count ≡ Some f →
     IsCountingField p f.definition (spelled p f.file f.name) count f → IsTypeOf p f.file f.type_use t →
-    ChangesAt old new f.definition (λ x y. SetsField (definition_of x) (definition_of y) (spelled p f.file f.name) (field_by p count f t)) → HaveMembersBelow p count methods old →
+    ChangesAt old new f.definition (λ x y. SetsField (definition_of x) (definition_of y) (spelled p f.file f.name) (field_by p count f t)) →
+    HaveMembersBelow p count methods old →
     HaveMembersBelow p (count + 1) methods new
 fields_added p count methods f t old new at c is ch h = record {
   all = ch.size ∙ h.all;
@@ -137,56 +156,68 @@ fields_added p count methods f t old new at c is ch h = record {
         subst (λ k. IsDefinitionBelow p (count + 1) methods k (definition_of d)) (sym same)
         (subst (λ z. IsDefinitionBelow p (count + 1) methods f.definition (definition_of z)) after
         (field_set p count methods f t (definition_of ch.before) (definition_of ch.after) at c is ch.changed (h.each f.definition ch.before ch.was))))
-    | inr ne ↦ fields_later p count methods r (definition_of d) (λ n g u k typed. ne (its_definition p count r n f g at k)) (h.each r d (sym (ch.elsewhere r ne) ∙ e))
+    | inr ne ↦ fields_later p count methods r (definition_of d) (λ n g u k typed. ne (its_definition p count r n f g at k))
+        (h.each r d (sym (ch.elsewhere r ne) ∙ e))
   ];
 }
 
-pub field_changed : (p : Package) (rank : ℕ) (f : PlacedField) (t : PlainType) (old : List Definition) (x y : Definition) → f.definition < length old → x ≡ get_or old f.definition x → IsTypeOf p f.file f.type_use t →
+pub field_changed : (p : Package) (rank : ℕ) (f : PlacedField) (t : PlainType) (old : List Definition) (x y : Definition) → f.definition < length old →
+    x ≡ get_or old f.definition x → IsTypeOf p f.file f.type_use t →
     SetsField (definition_of x) (definition_of y) (spelled p f.file f.name) (field_by p rank f t) → AddsField p rank f old (set old f.definition y)
 field_changed p rank f t old x y lt at is s =
     typed is (changes_set old f.definition x y (λ a b. SetsField (definition_of a) (definition_of b) (spelled p f.file f.name) (field_by p rank f t)) lt at s)
 
 -- a field that counts
-pub field_added : (p : Package) (count methods : ℕ) (f : PlacedField) (old new : List Definition) → slice_get (package_fields p) count ≡ Some f → CountsAsField p count → AddsField p count f old new →
+pub field_added : (p : Package) (count methods : ℕ) (f : PlacedField) (old new : List Definition) → slice_get (package_fields p) count ≡ Some f →
+    CountsAsField p count → AddsField p count f old new →
     HaveMembersBelow p count methods old → HaveMembersBelow p (count + 1) methods new
 field_added p count methods f old new at c (typed {t = t} is ch) h = fields_added p count methods f t old new at (counting_field p count f at c) is ch h
 field_added p count methods f old new at c (untyped none e) h =
     subst (HaveMembersBelow p (count + 1) methods) (sym e)
-    (fields_skipped p count methods old (λ d n g u k is. none u (subst (λ (z : PlacedField). IsTypeOf p z.file z.type_use u) (same_field p count d n f g at k) is)) h)
+    (fields_skipped p count methods old (λ d n g u k is.
+    none u (subst (λ (z : PlacedField). IsTypeOf p z.file z.type_use u) (same_field p count d n f g at k) is)) h)
 
 -- Methods
 
 same_method : (p : Package) (rank d : ℕ) (n : List ℕ) (f g : PlacedFunction) → slice_get (package_functions p) rank ≡ Some f → IsMethodOf p d n rank g → g ≡ f
 same_method p rank d n f g e m = same_function p rank f g e m.has_rank
 
-method_name : (p : Package) (rank d : ℕ) (n : List ℕ) (f g : PlacedFunction) → slice_get (package_functions p) rank ≡ Some f → IsMethodOf p d n rank g → n ≡ spelled p f.file f.function.name
+method_name : (p : Package) (rank d : ℕ) (n : List ℕ) (f g : PlacedFunction) → slice_get (package_functions p) rank ≡ Some f → IsMethodOf p d n rank g →
+    n ≡ spelled p f.file f.function.name
 method_name p rank d n f g e m = sym m.named ∙ ap (λ (z : PlacedFunction). spelled p z.file z.function.name) (same_method p rank d n f g e m)
 
-counting_method : (p : Package) → WellFormed p.layout → (rank d : ℕ) (f : PlacedFunction) → slice_get (package_functions p) rank ≡ Some f → CountsAsMethod p rank → IsMethodOn p rank d →
+counting_method : (p : Package) → WellFormed p.layout → (rank d : ℕ) (f : PlacedFunction) → slice_get (package_functions p) rank ≡ Some f →
+    CountsAsMethod p rank → IsMethodOn p rank d →
     IsCountingMethod p d (spelled p f.file f.function.name) rank f
 counting_method p w rank d f e c m =
-    subst (λ k. IsCountingMethod p k (spelled p f.file f.function.name) rank f) (one_owner p w rank d c.definition m.name c.name m.method c.method m.is_method c.counting.is_method)
+    subst (λ k. IsCountingMethod p k (spelled p f.file f.function.name) rank f)
+    (one_owner p w rank d c.definition m.name c.name m.method c.method m.is_method c.counting.is_method)
     (subst (λ n. IsCountingMethod p c.definition n rank f) (method_name p rank c.definition c.name f c.method e c.counting.is_method)
     (subst (IsCountingMethod p c.definition c.name rank) (same_method p rank c.definition c.name f c.method e c.counting.is_method) c.counting))
 
 abbrev NoMethod : Package → (rank definition : ℕ) → List ℕ → Type 0
 NoMethod p rank d n = (f : PlacedFunction) → IsCountingMethod p d n rank f → ⊥
 
-method_later : (p : Package) (count d : ℕ) (n : List ℕ) (o : Option Method) → NoMethod p count d n → IsMethodBelow p count d n o → IsMethodBelow p (count + 1) d n o
+method_later : (p : Package) (count d : ℕ) (n : List ℕ) (o : Option Method) → NoMethod p count d n → IsMethodBelow p count d n o →
+    IsMethodBelow p (count + 1) d n o
 method_later p count d n None none h = λ r f lt c. elim (cases_lt r count) [
   | inl below ↦ h r f below c
   | inr ge ↦ (let e : r ≡ count = omega arith in none f (subst (λ k. IsCountingMethod p d n k f) e c))
 ]
 method_later p count d n (Some x) none h = h
 
-methods_later : (p : Package) (fields count rank : ℕ) (d : plain.Definition) → ((n : List ℕ) → NoMethod p count rank n) → IsDefinitionBelow p fields count rank d → IsDefinitionBelow p fields (count + 1) rank d
-methods_later p fields count rank d none h = record { underlying = h.underlying; has_fields = h.has_fields; has_methods = λ n. method_later p count rank n (d.method n) (none n) (h.has_methods n) }
+methods_later : (p : Package) (fields count rank : ℕ) (d : plain.Definition) → ((n : List ℕ) → NoMethod p count rank n) →
+    IsDefinitionBelow p fields count rank d → IsDefinitionBelow p fields (count + 1) rank d
+methods_later p fields count rank d none h = record
+    { underlying = h.underlying; has_fields = h.has_fields; has_methods = λ n. method_later p count rank n (d.method n) (none n) (h.has_methods n) }
 
 -- a function that is no method that counts
-pub method_skipped : (p : Package) (fields count : ℕ) (found : List Definition) → (CountsAsMethod p count → ⊥) → HaveMembersBelow p fields count found → HaveMembersBelow p fields (count + 1) found
+pub method_skipped : (p : Package) (fields count : ℕ) (found : List Definition) → (CountsAsMethod p count → ⊥) → HaveMembersBelow p fields count found →
+    HaveMembersBelow p fields (count + 1) found
 method_skipped p fields count found none h = record {
   all = h.all;
-  each = λ r d e. methods_later p fields count r (definition_of d) (λ n f c. none (record { definition = r; name = n; method = f; counting = c })) (h.each r d e);
+  each = λ r d e. methods_later p fields count r (definition_of d) (λ n f c. none (record { definition = r; name = n; method = f; counting = c }))
+      (h.each r d e);
 }
 
 -- a function that is no method
@@ -194,11 +225,13 @@ pub no_owner : (p : Package) (rank : ℕ) (o : Option ℕ) → HasOwner p rank o
 no_owner p rank None has none c = has c.definition (record { name = c.name; method = c.method; is_method = c.counting.is_method })
 no_owner p rank (Some d) has none c = none d refl
 
-method_there : (p : Package) (rank d : ℕ) (f : PlacedFunction) (s : Option Signature) → IsSignature p f s → (c : IsCountingMethod p d (spelled p f.file f.function.name) rank f) →
+method_there : (p : Package) (rank d : ℕ) (f : PlacedFunction) (s : Option Signature) → IsSignature p f s →
+    (c : IsCountingMethod p d (spelled p f.file f.function.name) rank f) →
     IsMethod p d (spelled p f.file f.function.name) (Some (method_by p rank f s))
 method_there p rank d f s is c = (f, c, is, ap received_by_pointer c.is_method.received, refl, refl)
 
-method_set : (p : Package) (fields count d : ℕ) (f : PlacedFunction) (x y : plain.Definition) → slice_get (package_functions p) count ≡ Some f → IsCountingMethod p d (spelled p f.file f.function.name) count f →
+method_set : (p : Package) (fields count d : ℕ) (f : PlacedFunction) (x y : plain.Definition) → slice_get (package_functions p) count ≡ Some f →
+    IsCountingMethod p d (spelled p f.file f.function.name) count f →
     SetsMethodOf p count f x y → IsDefinitionBelow p fields count d x → IsDefinitionBelow p fields (count + 1) d y
 method_set p fields count d f x y at c s h = record {
   underlying = subst (IsUnderlyingOf p d) (sym s.sets.underlying) h.underlying;
@@ -206,17 +239,21 @@ method_set p fields count d f x y at c s h = record {
   has_methods = λ n. elim (cases_bytes n (spelled p f.file f.function.name)) [
     | inl same ↦ subst (λ z. IsMethodBelow p (count + 1) d z (y.method z)) (sym same)
         (subst (IsMethodBelow p (count + 1) d (spelled p f.file f.function.name)) (sym s.sets.here) (method_there p count d f s.signature s.is_signature c))
-    | inr ne ↦ subst (IsMethodBelow p (count + 1) d n) (sym (s.sets.elsewhere n ne)) (method_later p count d n (x.method n) (λ g k. ne (method_name p count d n f g at k.is_method)) (h.has_methods n))
+    | inr ne ↦ subst (IsMethodBelow p (count + 1) d n) (sym (s.sets.elsewhere n ne))
+        (method_later p count d n (x.method n) (λ g k. ne (method_name p count d n f g at k.is_method)) (h.has_methods n))
   ];
 }
 
-pub method_changed : (p : Package) (rank : ℕ) (f : PlacedFunction) (old : List Definition) (d : ℕ) (x y : Definition) → d < length old → x ≡ get_or old d x → SetsMethodOf p rank f (definition_of x) (definition_of y) →
+pub method_changed : (p : Package) (rank : ℕ) (f : PlacedFunction) (old : List Definition) (d : ℕ) (x y : Definition) → d < length old →
+    x ≡ get_or old d x → SetsMethodOf p rank f (definition_of x) (definition_of y) →
     ChangesAt old (set old d y) d (λ a b. SetsMethodOf p rank f (definition_of a) (definition_of b))
 method_changed p rank f old d x y lt at s = changes_set old d x y (λ a b. SetsMethodOf p rank f (definition_of a) (definition_of b)) lt at s
 
 -- a method that counts
-pub method_added : (p : Package) → WellFormed p.layout → (fields count d : ℕ) (f : PlacedFunction) (old new : List Definition) → slice_get (package_functions p) count ≡ Some f → CountsAsMethod p count →
-    IsMethodOn p count d → ChangesAt old new d (λ x y. SetsMethodOf p count f (definition_of x) (definition_of y)) → HaveMembersBelow p fields count old → HaveMembersBelow p fields (count + 1) new
+pub method_added : (p : Package) → WellFormed p.layout → (fields count d : ℕ) (f : PlacedFunction) (old new : List Definition) →
+    slice_get (package_functions p) count ≡ Some f → CountsAsMethod p count →
+    IsMethodOn p count d → ChangesAt old new d (λ x y. SetsMethodOf p count f (definition_of x) (definition_of y)) → HaveMembersBelow p fields count old →
+    HaveMembersBelow p fields (count + 1) new
 method_added p w fields count d f old new at c m ch h =
     let counting = counting_method p w count d f at c m in
     record {
@@ -226,7 +263,8 @@ method_added p w fields count d f old new at c m ch h =
             subst (λ k. IsDefinitionBelow p fields (count + 1) k (definition_of x)) (sym same)
             (subst (λ z. IsDefinitionBelow p fields (count + 1) d (definition_of z)) after
             (method_set p fields count d f (definition_of ch.before) (definition_of ch.after) at counting ch.changed (h.each d ch.before ch.was))))
-        | inr ne ↦ methods_later p fields count r (definition_of x) (λ n g k. ne (one_owner p w count d r m.name n m.method g m.is_method k.is_method)) (h.each r x (sym (ch.elsewhere r ne) ∙ e))
+        | inr ne ↦ methods_later p fields count r (definition_of x) (λ n g k. ne (one_owner p w count d r m.name n m.method g m.is_method k.is_method))
+            (h.each r x (sym (ch.elsewhere r ne) ∙ e))
       ];
     }
 
@@ -240,7 +278,8 @@ all_methods : (p : Package) (d : ℕ) (n : List ℕ) (o : Option Method) → IsM
 all_methods p d n None h = λ r f c. h r f (slice_get_within (package_functions p) r f c.is_method.has_rank) c
 all_methods p d n (Some x) h = h
 
-pub have_definitions : (p : Package) (found : List Definition) → HaveMembersBelow p (length (package_fields p)) (length (package_functions p)) found → HaveDefinitions p found
+pub have_definitions : (p : Package) (found : List Definition) → HaveMembersBelow p (length (package_fields p)) (length (package_functions p)) found →
+    HaveDefinitions p found
 have_definitions p found h = record {
   all = h.all;
   each = λ r d e.

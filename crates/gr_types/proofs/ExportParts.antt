@@ -1,16 +1,14 @@
 -- What a package exports, from its parts.
-use Rattle.std.proofs.Common.{ℕ, ◌≡◌, ◌+◌, ◌<◌, ◌≤◌, inl, inr, List, length, get_or, ap, sym, subst, refl, ◌∙◌, arith, MatchOption}
-use Rattle.std.specs.Prelude.{Option, Some, None, option_map, slice_get, map}
+use Rattle.std.proofs.Common.{ℕ, ◌≡◌, ◌+◌, ◌<◌, ◌≤◌, inl, inr, List, length, ap, sym, subst, refl, ◌∙◌, arith, MatchOption}
+use Rattle.std.specs.Prelude.{Option, Some, None, option_map, slice_get}
 use Rattle.std.specs.Global.{Vec}
 use Rattle.std.specs.BTreeMap.{BTreeMap, Updates}
 use Rattle.std.specs.Cmp.Lexicographic.{slice_cmp}
 use Rattle.std.specs.Ordering.{nat_cmp}
 use Rattle.std.proofs.lemmas.Bool.{cases_lt, cases_order}
-use Rattle.std.proofs.lemmas.Option.{slice_get_past, slice_get_within, same_Some, none-some}
-use Rattle.gr_imports.proofs.PathParts.{source_at}
+use Rattle.std.proofs.lemmas.Option.{slice_get_past, slice_get_within}
 use Rattle.gr_scope.specs.declared.model.Block.{Block}
 use Rattle.gr_scope.specs.declared.model.Block.TheVariants as block
-use Rattle.gr_tree.specs.SourceFile.{FileParts, source_of, offset_of}
 use Rattle.gr_scope.specs.Bindings.{Layout, Names, Counts, IsPackageLevel, Declares, IsBoundTo, block_of}
 use Rattle.gr_scope.specs.Site.{Site, found_site, sites_layout}
 use Rattle.gr_expr.specs.Types.{Meaning}
@@ -26,14 +24,17 @@ use Rattle.gr_meanings.specs.DefinitionsView.{HaveDefinitions}
 use Rattle.gr_declared.specs.Bound.{IsMeantBy}
 use Rattle.gr_declared.specs.Bound as bound
 use Rattle.gr_declared.specs.InterfacesView.{export_of, exports_at}
-use Rattle.gr_types.specs.Interfaces.{IsSeen, IsPlacedAt, IsExportBy, IsExport, IsExported, IsGlobalMeaning, variable, type_name, function, IsGlobalFound, IsExportFound, IsExportBelow, AreExportsBelow}
+use Rattle.gr_types.specs.Interfaces.{IsSeen, IsExportBy, IsExport, IsExported, IsGlobalMeaning, variable, type_name, function, IsGlobalFound}
+use Rattle.gr_types.specs.Interfaces.{IsExportFound, IsExportBelow, AreExportsBelow}
 use Rattle.gr_meanings.proofs.BoundLists.{slice_get_some, none_past}
 use Rattle.gr_declared.proofs.ByteKeys.{cases_bytes, others_stay}
 
 -- whether a declaration counts
 
-pub counts_by : (l : Layout) (names : Names) (d : ℕ) (o : Option ℕ) → ((u e : ℕ) → Declares l names u → (IsBoundTo l names u e → (u ≡ e) × Counts l names e) × ((u ≡ e) × Counts l names e → IsBoundTo l names u e)) →
-    Declares l names d → MatchOption o ((e : ℕ) → IsBoundTo l names d e → ⊥) (λ e. IsBoundTo l names d e) → MatchOption o (Counts l names d → ⊥) (λ e. Counts l names d)
+pub counts_by : (l : Layout) (names : Names) (d : ℕ) (o : Option ℕ) →
+    ((u e : ℕ) → Declares l names u → (IsBoundTo l names u e → (u ≡ e) × Counts l names e) × ((u ≡ e) × Counts l names e → IsBoundTo l names u e)) →
+    Declares l names d → MatchOption o ((e : ℕ) → IsBoundTo l names d e → ⊥) (λ e. IsBoundTo l names d e) →
+    MatchOption o (Counts l names d → ⊥) (λ e. Counts l names d)
 counts_by l names d None law declares h = λ counts. h d ((law d d declares).1 (refl, counts))
 counts_by l names d (Some e) law declares h = let is : (d ≡ e) × Counts l names e = (law d e declares).0 h in subst (Counts l names) (sym is.0) is.1
 
@@ -63,14 +64,13 @@ not_seen p d not = λ e by. not by.seen
 pub means_nothing : (p : Package) (d : ℕ) → ((b : Bound) → IsMeantBy p d b → ⊥) → IsExportFound p d None
 means_nothing p d none = λ e by. none (Stands e.meaning) by.means
 
-pub without_place : (p : Package) (d : ℕ) → slice_get p.files (p.layout.place d).file ≡ None → IsExportFound p d None
-without_place p d none = λ e by. none-some by.placed.source (sym none ∙ by.placed.in_file)
-
-pub no_export : (p : Package) (d : ℕ) (b : Bound) → ((b c : Bound) → IsMeantBy p d b → IsMeantBy p d c → b ≡ c) → IsMeantBy p d b → IsGlobalFound b None → IsExportFound p d None
+pub no_export : (p : Package) (d : ℕ) (b : Bound) → ((b c : Bound) → IsMeantBy p d b → IsMeantBy p d c → b ≡ c) → IsMeantBy p d b → IsGlobalFound b None →
+    IsExportFound p d None
 no_export p d b one means none = λ e by. none e.meaning (global_by p d by.seen.package_level e.meaning by.means) (one b (Stands e.meaning) means by.means)
 
-pub is_export : (p : Package) (d : ℕ) (b : Bound) (e : plain.Export) → IsSeen p d → IsMeantBy p d b → b ≡ Stands e.meaning → IsPlacedAt p d e.path e.offset → IsExportBy p d e
-is_export p d b e seen means is placed = record { seen = seen; means = subst (IsMeantBy p d) is means; placed = placed }
+pub is_export : (p : Package) (d : ℕ) (b : Bound) (e : plain.Export) → IsSeen p d → IsMeantBy p d b → b ≡ Stands e.meaning →
+    IsExportBy p d e
+is_export p d b e seen means is = record { seen = seen; means = subst (IsMeantBy p d) is means }
 
 -- one more declaration
 
@@ -80,7 +80,8 @@ FoundBelow p n name o = MatchOption o ((e : plain.Export) → IsExportBelow p n 
 later : (p : Package) (n : ℕ) (name : List ℕ) (e : plain.Export) → IsExportBelow p n name e → IsExportBelow p (n + 1) name e
 later p n name e h = record { declaration = h.declaration; below = let lt = h.below in omega arith; named = h.named; by_declaration = h.by_declaration }
 
-still : (p : Package) (n : ℕ) (name : List ℕ) (o : Option plain.Export) → ((e : plain.Export) → p.names n ≡ name → IsExportBy p n e → ⊥) → FoundBelow p n name o → FoundBelow p (n + 1) name o
+still : (p : Package) (n : ℕ) (name : List ℕ) (o : Option plain.Export) → ((e : plain.Export) → p.names n ≡ name → IsExportBy p n e → ⊥) →
+    FoundBelow p n name o → FoundBelow p (n + 1) name o
 still p n name None none h = λ e k. elim (cases_lt k.declaration n) [
   | inl below ↦ h e (record { declaration = k.declaration; below = below; named = k.named; by_declaration = k.by_declaration })
   | inr ge ↦ let lt = k.below in let at : k.declaration ≡ n = omega arith in
@@ -88,15 +89,18 @@ still p n name None none h = λ e k. elim (cases_lt k.declaration n) [
 ]
 still p n name (Some e) none h = later p n name e h
 
-pub same_exports : (p : Package) (n : ℕ) (found : List ℕ → Option plain.Export) → IsExportFound p n None → AreExportsBelow p n found → AreExportsBelow p (n + 1) found
+pub same_exports : (p : Package) (n : ℕ) (found : List ℕ → Option plain.Export) → IsExportFound p n None → AreExportsBelow p n found →
+    AreExportsBelow p (n + 1) found
 same_exports p n found none h = λ name. still p n name (found name) (λ e named by. none e by) (h name)
 
 pub one_more_export : (p : Package) (n : ℕ) (old new : BTreeMap (Vec ℕ) Export) (key : Vec ℕ) (e : Export) → key.items ≡ p.names n →
-    Updates (λ a b. slice_cmp nat_cmp a.items b.items) old new key (Some e) → IsExportBy p n (export_of e) → AreExportsBelow p n (exports_at old) → AreExportsBelow p (n + 1) (exports_at new)
+    Updates (λ a b. slice_cmp nat_cmp a.items b.items) old new key (Some e) → IsExportBy p n (export_of e) → AreExportsBelow p n (exports_at old) →
+    AreExportsBelow p (n + 1) (exports_at new)
 one_more_export p n old new key e is u by h = λ name. elim (cases_bytes key.items name) [
   | inl at ↦
       subst (λ v. FoundBelow p (n + 1) v (exports_at new v)) at
-      (subst (FoundBelow p (n + 1) key.items) (sym (ap (option_map export_of) u.1)) (record { declaration = n; below = omega arith; named = sym is; by_declaration = by }))
+      (subst (FoundBelow p (n + 1) key.items) (sym (ap (option_map export_of) u.1))
+      (record { declaration = n; below = omega arith; named = sym is; by_declaration = by }))
   | inr ne ↦
       subst (FoundBelow p (n + 1) name) (sym (ap (option_map export_of) (others_stay old new key (Some e) u name (λ same. ne (sym same)))))
       (still p n name (exports_at old name) (λ x named k. ne (is ∙ named)) (h name))
@@ -105,28 +109,29 @@ one_more_export p n old new key e is u by h = λ name. elim (cases_bytes key.ite
 -- all declarations
 
 beyond : (sites : List Site) (d : ℕ) → length sites ≤ d → block_of ((sites_layout sites).role d) ≡ block.Package → ⊥
-beyond sites d ge level = not_level (block_of ((sites_layout sites).role d)) block.Universe level (ap (λ s. block_of (found_site s).role) (slice_get_past sites d ge))
+beyond sites d ge level = not_level (block_of ((sites_layout sites).role d)) block.Universe level
+    (ap (λ s. block_of (found_site s).role) (slice_get_past sites d ge))
 
-export_within : (p : Package) (sites : List Site) (name : List ℕ) (e : plain.Export) → p.layout ≡ sites_layout sites → IsExport p name e → IsExportBelow p (length sites) name e
+export_within : (p : Package) (sites : List Site) (name : List ℕ) (e : plain.Export) → p.layout ≡ sites_layout sites → IsExport p name e →
+    IsExportBelow p (length sites) name e
 export_within p sites name e is x = elim (cases_lt x.declaration (length sites)) [
   | inl below ↦ record { declaration = x.declaration; below = below; named = x.named; by_declaration = x.by_declaration }
   | inr ge ↦ absurd (beyond sites x.declaration ge (subst (λ l. IsPackageLevel l x.declaration) is x.by_declaration.seen.package_level))
 ]
 
-exported_by : (p : Package) (sites : List Site) (name : List ℕ) (o : Option plain.Export) → p.layout ≡ sites_layout sites → FoundBelow p (length sites) name o → IsExported p name o
+exported_by : (p : Package) (sites : List Site) (name : List ℕ) (o : Option plain.Export) → p.layout ≡ sites_layout sites →
+    FoundBelow p (length sites) name o → IsExported p name o
 exported_by p sites name None is h = λ e x. h e (export_within p sites name e is x)
 exported_by p sites name (Some e) is h = record { declaration = h.declaration; named = h.named; by_declaration = h.by_declaration }
 
-pub all_exports : (p : Package) (sites : List Site) (found : List ℕ → Option plain.Export) → p.layout ≡ sites_layout sites → AreExportsBelow p (length sites) found → (name : List ℕ) → IsExported p name (found name)
+pub all_exports : (p : Package) (sites : List Site) (found : List ℕ → Option plain.Export) → p.layout ≡ sites_layout sites →
+    AreExportsBelow p (length sites) found → (name : List ℕ) → IsExported p name (found name)
 all_exports p sites found is h name = exported_by p sites name (found name) is (h name)
-
--- the file in which a declaration stands
-pub file_at : (files : List FileParts) (i j : ℕ) (x : FileParts) → i ≡ j → i < length files → x ≡ get_or files i x → slice_get (map source_of files) j ≡ Some (source_of x)
-file_at files i j x e lt is = ap (slice_get (map source_of files)) (sym e) ∙ source_at files i x lt is
 
 -- all type definitions
 
-pub all_definitions : (p : Package) (found : List Definition) → HaveDefinitions p found → (rank : ℕ) (d : PlacedType) → slice_get (package_types p) rank ≡ Some d →
+pub all_definitions : (p : Package) (found : List Definition) → HaveDefinitions p found → (rank : ℕ) (d : PlacedType) →
+    slice_get (package_types p) rank ≡ Some d →
     IsDefinition p rank (definition_or_none (symbol_in p rank) (slice_get found rank))
 all_definitions p found h rank d is =
     let at = slice_get_some found rank (subst (λ n. rank < n) (sym h.all) (slice_get_within (package_types p) rank d is)) in
@@ -140,7 +145,8 @@ beyond_definitions p found h rank none =
 
 -- a name is exported as one thing
 
-one_declaration : (l : Layout) (names : Names) (d e : ℕ) → IsPackageLevel l d → IsPackageLevel l e → Counts l names d → Counts l names e → names d ≡ names e → d ≡ e
+one_declaration : (l : Layout) (names : Names) (d e : ℕ) → IsPackageLevel l d → IsPackageLevel l e → Counts l names d → Counts l names e →
+    names d ≡ names e → d ≡ e
 one_declaration l names d e at_d at_e h k same = elim (cases_order d e) [
   | inl is ↦ is
   | inr o ↦ elim o [
@@ -149,25 +155,17 @@ one_declaration l names d e at_d at_e h k same = elim (cases_order d e) [
   ]
 ]
 
-same_export : (e f : plain.Export) → e.meaning ≡ f.meaning → e.path ≡ f.path → e.offset ≡ f.offset → e ≡ f
-same_export e f meaning path offset =
-    ap (λ m. record { meaning = m; path = e.path; offset = e.offset }) meaning ∙ ap (λ v. record { meaning = f.meaning; path = v; offset = e.offset }) path
-    ∙ ap (λ n. record { meaning = f.meaning; path = f.path; offset = n }) offset
-
-one_place : (p : Package) (d : ℕ) (e f : plain.Export) → IsPlacedAt p d e.path e.offset → IsPlacedAt p d f.path f.offset → (e.path ≡ f.path) × (e.offset ≡ f.offset)
-one_place p d e f h k =
-    let same : h.source ≡ k.source = same_Some h.source k.source (sym h.in_file ∙ k.in_file) in
-    (h.has_path ∙ ap (λ s. s.path) same ∙ sym k.has_path, h.has_offset ∙ ap (λ s. offset_of s (p.layout.place d).index) same ∙ sym k.has_offset)
-
-one_export_by : (p : Package) → ((d : ℕ) (b c : Bound) → IsMeantBy p d b → IsMeantBy p d c → b ≡ c) → (d : ℕ) (e f : plain.Export) → IsExportBy p d e → IsExportBy p d f → e ≡ f
+one_export_by : (p : Package) → ((d : ℕ) (b c : Bound) → IsMeantBy p d b → IsMeantBy p d c → b ≡ c) → (d : ℕ) (e f : plain.Export) → IsExportBy p d e →
+    IsExportBy p d f → e ≡ f
 one_export_by p one d e f h k =
     let stands : Stands e.meaning ≡ Stands f.meaning = one d (Stands e.meaning) (Stands f.meaning) h.means k.means in
     let meaning : e.meaning ≡ f.meaning = cc in
-    let place = one_place p d e f h.placed k.placed in
-    same_export e f meaning place.0 place.1
+    ap (λ m. record { meaning = m }) meaning
 
-pub one_export : (p : Package) → ((d : ℕ) (b c : Bound) → IsMeantBy p d b → IsMeantBy p d c → b ≡ c) → (name : List ℕ) (e f : plain.Export) → IsExport p name e → IsExport p name f → e ≡ f
+pub one_export : (p : Package) → ((d : ℕ) (b c : Bound) → IsMeantBy p d b → IsMeantBy p d c → b ≡ c) → (name : List ℕ) (e f : plain.Export) →
+    IsExport p name e → IsExport p name f → e ≡ f
 one_export p one name e f h k =
     let at : h.declaration ≡ k.declaration =
-    one_declaration p.layout p.names h.declaration k.declaration h.by_declaration.seen.package_level k.by_declaration.seen.package_level h.by_declaration.seen.counts k.by_declaration.seen.counts (h.named ∙ sym k.named) in
+    one_declaration p.layout p.names h.declaration k.declaration h.by_declaration.seen.package_level k.by_declaration.seen.package_level
+    h.by_declaration.seen.counts k.by_declaration.seen.counts (h.named ∙ sym k.named) in
     one_export_by p one k.declaration e f (subst (λ d. IsExportBy p d e) at h.by_declaration) k.by_declaration

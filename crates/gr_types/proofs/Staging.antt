@@ -24,7 +24,8 @@ lists_first P Q found ne h = first_listed P Q found (record { keeps = λ f c. ab
 
 -- a stage that has faults
 
-faulty_by : (P : Fault → Type 0) (p : Package) (c : Checked) → (c.faults.items ≡ [] → ⊥) → Lists P c.faults.items → IsStrictlySortedBy order.ghosts.cmp c.faults.items → c.interface ≡ None → IsCheckedBy P p c
+faulty_by : (P : Fault → Type 0) (p : Package) (c : Checked) → (c.faults.items ≡ [] → ⊥) → Lists P c.faults.items →
+    IsStrictlySortedBy order.ghosts.cmp c.faults.items → c.interface ≡ None → IsCheckedBy P p c
 faulty_by P p c ne h sorted none = record {
   faults = h;
   order = sorted;
@@ -40,12 +41,14 @@ some_found found b is fails e = eqb-false (vec_len found) 0 (sym is ∙ fails) (
 pub none_found : (found : Vec Fault) (b : Bool) → b ≡ nat_eq (vec_len found) 0 → b ≡ true → found.items ≡ []
 none_found found b is passes = nil_from_length found.items (sym found.ok.0 ∙ eqb-true (vec_len found) 0 (sym is ∙ passes))
 
-pub ends_with : (P Q : Fault → Type 0) (p : Package) (c : Checked) (found : Vec Fault) (b : Bool) → c.faults ≡ found → c.interface ≡ None → b ≡ nat_eq (vec_len found) 0 → b ≡ false → Lists P found.items →
+pub ends_with : (P Q : Fault → Type 0) (p : Package) (c : Checked) (found : Vec Fault) (b : Bool) → c.faults ≡ found → c.interface ≡ None →
+    b ≡ nat_eq (vec_len found) 0 → b ≡ false → Lists P found.items →
     IsStrictlySortedBy order.ghosts.cmp found.items → IsCheckedBy (FirstOf P Q) p c
 ends_with P Q p c found b same none is fails h sorted =
     let ne : c.faults.items ≡ [] → ⊥ = λ e. some_found found b is fails (sym (ap (λ (v : Vec Fault). v.items) same) ∙ e) in
     let listed : Lists P c.faults.items = subst (λ (v : Vec Fault). Lists P v.items) (sym same) h in
-    faulty_by (FirstOf P Q) p c ne (lists_first P Q c.faults.items ne listed) (subst (λ (v : Vec Fault). IsStrictlySortedBy order.ghosts.cmp v.items) (sym same) sorted) none
+    faulty_by (FirstOf P Q) p c ne (lists_first P Q c.faults.items ne listed)
+    (subst (λ (v : Vec Fault). IsStrictlySortedBy order.ghosts.cmp v.items) (sym same) sorted) none
 
 -- the same faults, told otherwise
 pub checked_same : (P Q : Fault → Type 0) (p : Package) (c : Checked) → ((f : Fault) → P f ↔ Q f) → IsCheckedBy P p c → IsCheckedBy Q p c
@@ -60,9 +63,14 @@ checked_same P Q p c same h = record {
 
 without_first : (P Q : Fault → Type 0) (p : Package) (c : Checked) → Lists P [] → IsCheckedBy Q p c → IsCheckedBy (FirstOf P Q) p c
 without_first P Q p c none h = checked_same Q (FirstOf P Q) p c
-    (λ f. (λ is. inr (λ g by. nothing_in g (none.holds g by), is), λ first. elim first [ inl by ↦ absurd (nothing_in f (none.holds f by)) | inr later ↦ later.1 ])) h
+    (λ f. (
+      λ is. inr (λ g by. nothing_in g (none.holds g by), is),
+      λ first.
+          elim first [ inl by ↦ absurd (nothing_in f (none.holds f by)) | inr later ↦ later.1 ],
+    )) h
 
-pub goes_on : (P Q : Fault → Type 0) (p : Package) (found : Vec Fault) (b : Bool) → b ≡ nat_eq (vec_len found) 0 → b ≡ true → Lists P found.items → (c : Checked) → IsCheckedBy Q p c →
+pub goes_on : (P Q : Fault → Type 0) (p : Package) (found : Vec Fault) (b : Bool) → b ≡ nat_eq (vec_len found) 0 → b ≡ true → Lists P found.items →
+    (c : Checked) → IsCheckedBy Q p c →
     IsCheckedBy (FirstOf P Q) p c
 goes_on P Q p found b is passes h c k = without_first P Q p c (subst (Lists P) (none_found found b is passes) h) k
 

@@ -52,7 +52,8 @@ next_token file tokens i d a b c lt h k =
       | inr e ↦ inr (fault_from f file x kind.«Type» q.in_file (sym e) q.kind)
     ]))
 
-pub all_tokens : (file : ℕ) (tokens : List ℕ) (i : ℕ) (a b : List Fault) → i ≡ length tokens → Adds a b (IsAtToken file (take i tokens)) → Adds a b (IsAtToken file tokens)
+pub all_tokens : (file : ℕ) (tokens : List ℕ) (i : ℕ) (a b : List Fault) → i ≡ length tokens → Adds a b (IsAtToken file (take i tokens)) →
+    Adds a b (IsAtToken file tokens)
 all_tokens file tokens i a b e h = subst (λ ts. Adds a b (IsAtToken file ts)) (ap (λ n. take n tokens) e ∙ take-length tokens) h
 
 -- the faults of a file
@@ -70,17 +71,21 @@ fault_in p file c ch f h = record {
   };
 }
 
-fault_from_file : (p : Package) → IsOneWorld p → (file : ℕ) (c : Checked) → IsChecked p file c → (f : Fault) → IsTypeFaultIn p file f → IsAtToken file c.faults f
+fault_from_file : (p : Package) → IsOneWorld p → (file : ℕ) (c : Checked) → IsChecked p file c → (f : Fault) → IsTypeFaultIn p file f →
+    IsAtToken file c.faults f
 fault_from_file p one file c ch f h =
     let t = h.fault in
-    let source : t.source ≡ ch.source = same_Some t.source ch.source (sym (subst (λ n. slice_get p.files n ≡ Some t.source) h.in_file t.in_file) ∙ ch.in_file) in
-    let judged : IsWorldOf p file ch.source t.world = subst (λ s. IsWorldOf p file s t.world) source (subst (λ n. IsWorldOf p n t.source t.world) h.in_file t.judged_by) in
+    let source : t.source ≡ ch.source = same_Some t.source ch.source
+    (sym (subst (λ n. slice_get p.files n ≡ Some t.source) h.in_file t.in_file) ∙ ch.in_file) in
+    let judged : IsWorldOf p file ch.source t.world = subst (λ s. IsWorldOf p file s t.world) source
+    (subst (λ n. IsWorldOf p n t.source t.world) h.in_file t.judged_by) in
     let world : t.world ≡ ch.world = one file ch.source t.world ch.world judged ch.judged_by in
     let same : check_file t.world (is_init t.source) t.source.tree ≡ c =
     ap (λ s. check_file t.world (is_init s) s.tree) source ∙ ap (λ w. check_file w (is_init ch.source) ch.source.tree) world ∙ sym ch.is in
     record { in_file = h.in_file; at = subst (λ z. Contains z.faults f.token) same t.found; kind = t.kind }
 
-pub faults_of_file : (p : Package) → IsOneWorld p → (file : ℕ) (c : Checked) (a b : List Fault) → IsChecked p file c → Adds a b (IsAtToken file c.faults) → Adds a b (IsTypeFaultIn p file)
+pub faults_of_file : (p : Package) → IsOneWorld p → (file : ℕ) (c : Checked) (a b : List Fault) → IsChecked p file c → Adds a b (IsAtToken file c.faults) →
+    Adds a b (IsTypeFaultIn p file)
 faults_of_file p one file c a b ch h = adds_as a b (IsAtToken file c.faults) (IsTypeFaultIn p file) h (fault_in p file c ch) (fault_from_file p one file c ch)
 
 -- the faults of all files
@@ -98,8 +103,16 @@ all_faults p n found e h =
 
 -- member uses
 
-pub uses_of_file : (p : Package) (file : ℕ) (c : Checked) (old new : List (Vec FoundUse)) → IsChecked p file c → AddsUses old new c.uses → AddsFile p file old new
-uses_of_file p file c old new ch h = (c.uses, (h, record { source = ch.source; in_file = ch.in_file; world = ch.world; judged_by = ch.judged_by; found = ap (λ z. z.uses) ch.is }))
+pub uses_of_file : (p : Package) (file : ℕ) (c : Checked) (old new : List (Vec FoundUse)) → IsChecked p file c → AddsUses old new c.uses →
+    AddsFile p file old new
+uses_of_file p file c old new ch h = (
+  c.uses,
+  (
+    h,
+    record
+        { source = ch.source; in_file = ch.in_file; world = ch.world; judged_by = ch.judged_by; found = ap (λ z. z.uses) ch.is },
+  ),
+)
 
 pub no_uses : (p : Package) (members : List (Vec FoundUse)) → members ≡ [] → AreMemberUsesBelow p 0 (map uses_in members)
 no_uses p members e = record {
@@ -107,7 +120,8 @@ no_uses p members e = record {
   each = λ file uses at. absurd (none-some uses (ap (λ ms. slice_get (map uses_in ms) file) (sym e) ∙ at));
 }
 
-pub next_uses : (p : Package) (n : ℕ) (old new : List (Vec FoundUse)) → AddsFile p n old new → AreMemberUsesBelow p n (map uses_in old) → AreMemberUsesBelow p (n + 1) (map uses_in new)
+pub next_uses : (p : Package) (n : ℕ) (old new : List (Vec FoundUse)) → AddsFile p n old new → AreMemberUsesBelow p n (map uses_in old) →
+    AreMemberUsesBelow p (n + 1) (map uses_in new)
 next_uses p n old new added h =
     let xs = map uses_in old in
     let e : map uses_in new ≡ xs ++ (added.0 ∷ []) = added.1.0 in
@@ -119,7 +133,8 @@ next_uses p n old new added h =
         | inr ge ↦
             let lt : file < n + 1 = subst (λ m. file < m) size (slice_get_within (map uses_in new) file uses at) in
             let same : file ≡ n = omega arith in
-            let last : slice_get (map uses_in new) n ≡ Some added.0 = ap (λ z. slice_get z n) e ∙ ap (slice_get (xs ++ (added.0 ∷ []))) (sym h.all) ∙ get_last xs added.0 in
+            let last : slice_get (map uses_in new) n ≡ Some added.0 = ap (λ z. slice_get z n) e ∙ ap (slice_get (xs ++ (added.0 ∷ []))) (sym h.all) ∙
+            get_last xs added.0 in
             let equal : added.0 ≡ uses = same_Some added.0 uses (sym last ∙ ap (slice_get (map uses_in new)) (sym same) ∙ at) in
             subst (λ k. AreUsesIn p k uses) (sym same) (subst (AreUsesIn p n) equal added.1.1)
       ];
@@ -129,7 +144,8 @@ pub all_uses : (p : Package) (n : ℕ) (members : List (List MemberUse)) → n �
 all_uses p n members e h = subst (λ k. AreMemberUsesBelow p k members) e h
 
 -- what is found by the world that the program has
-pub checked_by : (p : Package) (file : ℕ) (x : FileParts) (w : FileWorld) (c : Checked) (t : FileTree) → slice_get p.files file ≡ Some (source_of x) → IsWorldOf p file (source_of x) (world_of w) →
+pub checked_by : (p : Package) (file : ℕ) (x : FileParts) (w : FileWorld) (c : Checked) (t : FileTree) → slice_get p.files file ≡ Some (source_of x) →
+    IsWorldOf p file (source_of x) (world_of w) →
     is_init_in w ≡ is_init (source_of x) → t ≡ (source_of x).tree → c ≡ check_file (world_of w) (is_init_in w) t → IsChecked p file c
 checked_by p file x w c t at judged init tree is = record {
   source = source_of x;

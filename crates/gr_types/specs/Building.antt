@@ -13,7 +13,8 @@ use Rattle.gr_declared.specs.Definitions.{PlacedField, IsCountingField, IsCounti
 
 -- the field of a name, where only the fields below a rank were added
 abbrev pub IsFieldBelow : Package → (count definition : ℕ) → List ℕ → Option Field → Type 0
-IsFieldBelow p count definition name None = (rank : ℕ) (f : PlacedField) (t : PlainType) → rank < count → IsCountingField p definition name rank f → IsTypeOf p f.file f.type_use t → ⊥
+IsFieldBelow p count definition name None = (rank : ℕ) (f : PlacedField) (t : PlainType) → rank < count → IsCountingField p definition name rank f →
+    IsTypeOf p f.file f.type_use t → ⊥
 IsFieldBelow p count definition name (Some x) = IsField p definition name (Some x)
 
 -- the method of a name, where only the methods below a rank were added
@@ -56,7 +57,13 @@ received_by_pointer (Some r) = is_on_pointer r
 -- a method as expressions see it
 abbrev pub method_by : Package → ℕ → PlacedFunction → Option Signature → Method
 method_by p rank f s =
-    record { symbol = symbol_in p rank; exported = is_exported (spelled p f.file f.function.name); on_pointer = received_by_pointer f.function.receiver; signature = s }
+    record {
+      symbol = symbol_in p rank;
+      exported = is_exported (spelled p f.file f.function.name);
+      on_pointer =
+          received_by_pointer f.function.receiver;
+      signature = s;
+    }
 
 -- the method was set in a definition
 pub record SetsMethodOf (p : Package) (rank : ℕ) (f : PlacedFunction) (old new : plain.Definition) : Type 0 where
@@ -77,5 +84,6 @@ pub record ChangesAt {X : Type 0} (old new : List X) (place : ℕ) (C : X → X 
 -- a field was added to the definition that writes it, unless it has no type
 pub data AddsField (p : Package) (rank : ℕ) (f : PlacedField) (old new : List Definition) : Type 0 where
   typed : {t : PlainType} → IsTypeOf p f.file f.type_use t →
-      ChangesAt old new f.definition (λ x y. SetsField (definition_of x) (definition_of y) (spelled p f.file f.name) (field_by p rank f t)) → AddsField p rank f old new
+      ChangesAt old new f.definition (λ x y. SetsField (definition_of x) (definition_of y) (spelled p f.file f.name) (field_by p rank f t)) →
+      AddsField p rank f old new
   untyped : ((t : PlainType) → IsTypeOf p f.file f.type_use t → ⊥) → new ≡ old → AddsField p rank f old new

@@ -42,6 +42,9 @@ IsLaterFault p = FirstOf (IsInnerFault p.files (exports_in p) (laid_of p)) (Firs
 
 -- What is found of the files of a package: the faults of their clauses or imports, or where these have none what is found in
 -- the package that they make.
-pub data IsFoundIn (path : List ℕ) (files : List FileParts) (state : List ℕ → ImportState) (name_of : List ℕ → Option (List ℕ)) (interface_of : List ℕ → Interface) (c : Checked) : Type 0 where
-  outside : (c.faults.items ≡ [] → ⊥) → Lists (IsOuterFault state (map source_of files)) c.faults.items → c.interface ≡ None → IsFoundIn path files state name_of interface_of c
-  inside : {p : Package} → HasNone (IsOuterFault state (map source_of files)) → IsPackageOf path files name_of interface_of p → IsCheckedBy (IsLaterFault p) p c → IsFoundIn path files state name_of interface_of c
+pub data IsFoundIn (path : List ℕ) (files : List FileParts) (state : List ℕ → ImportState) (name_of : List ℕ → Option (List ℕ))
+    (interface_of : List ℕ → Interface) (c : Checked) : Type 0 where
+  outside : (c.faults.items ≡ [] → ⊥) → Lists (IsOuterFault state (map source_of files)) c.faults.items → c.interface ≡ None →
+      IsFoundIn path files state name_of interface_of c
+  inside : {p : Package} → HasNone (IsOuterFault state (map source_of files)) → IsPackageOf path files name_of interface_of p →
+      IsCheckedBy (IsLaterFault p) p c → IsFoundIn path files state name_of interface_of c

@@ -1,6 +1,5 @@
 -- What other packages see of one.
 use Rattle.std.specs.Prelude.{ℕ, ◌≡◌, ◌<◌, true, List, Option, Some, None, slice_get, MatchOption}
-use Rattle.gr_tree.specs.SourceFile.{SourceFile, offset_of}
 use Rattle.gr_scope.specs.Bindings.{Counts, IsPackageLevel}
 use Rattle.gr_expr.specs.Types.{PlainType, Typed, Signature, Meaning, Value, TypeName, Function}
 use Rattle.gr_expr.specs.World.{Bound}
@@ -18,18 +17,10 @@ pub record IsSeen (p : Package) (d : ℕ) : Type 0 where
   pub counts : Counts p.layout p.names d
   pub exported : is_exported (p.names d) ≡ true
 
--- the place of an identifier, as a path and an offset
-pub record IsPlacedAt (p : Package) (d : ℕ) (path : List ℕ) (offset : ℕ) : Type 0 where
-  pub source : SourceFile
-  pub in_file : slice_get p.files (p.layout.place d).file ≡ Some source
-  pub has_path : path ≡ source.path
-  pub has_offset : offset ≡ offset_of source (p.layout.place d).index
-
 -- the declaration d is seen so
 pub record IsExportBy (p : Package) (d : ℕ) (e : Export) : Type 0 where
   pub seen : IsSeen p d
   pub means : IsMeantBy p d (Stands e.meaning)
-  pub placed : IsPlacedAt p d e.path e.offset
 
 -- a declaration of that name is seen so
 pub record IsExport (p : Package) (name : List ℕ) (e : Export) : Type 0 where

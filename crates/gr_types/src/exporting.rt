@@ -70,29 +70,20 @@ pub fn is_seen(unit: Package<'_>, d: usize) -> bool
 }
 
 /// What a declaration that is seen in other packages is there, by what it means.
-fn placed(
+fn export_by(
     alloc: Global,
     unit: Package<'_>,
     d: usize,
     bound: &Bound,
 ) -> Result<Option<Export>, AllocError>
-    requires in_range { d < length unit.table.now.sites }
     requires seen { IsSeen (package_of unit) d }
     requires means { IsMeantBy (package_of unit) d (bound_of bound.now) }
     requires one { IsOneMeaning (package_of unit) }
     ensures { IfOk result (λ e. IsExportFound (package_of unit.entry) d (option_map export_of e)) }
 {
-    let place = unit.table.place(d);
-    let Some(source) = unit.files.get(place.file) else {
-        return Ok(None);
-    };
     match global_meaning(alloc, bound)? {
         None => Ok(None),
-        Some(meaning) => Ok(Some(Export {
-            meaning,
-            path: source.path().clone()?,
-            offset: source.offset(place.index),
-        })),
+        Some(meaning) => Ok(Some(Export { meaning })),
     }
 }
 
@@ -113,7 +104,7 @@ fn export(
     }
     match meant(bounds, d) {
         None => Ok(None),
-        Some(bound) => placed(alloc, unit, d, bound),
+        Some(bound) => export_by(alloc, unit, d, bound),
     }
 }
 

@@ -3,17 +3,23 @@ use Rattle.std.proofs.Common.{ℕ, zero, suc, ◌≡◌, ◌+◌, ◌≤◌, Lis
 use Rattle.std.specs.Prelude.{Some, slice_get}
 use Rattle.std.specs.List.{flat_map, enumerate_from}
 use Rattle.gr_tree.specs.declared.syntax.Kind.TheVariants as kind
-use Rattle.gr_tree.specs.Flatten.{sign, sign_if, tokens_if, all_tokens, item_tokens, list_tokens, group_tokens, name_tokens, type_tokens, field_tokens, body_tokens, type_spec_tokens, receiver_tokens, param_tokens, result_tokens, block_tokens, func_tokens, imports_tokens, decl_tokens, flatten}
+use Rattle.gr_tree.specs.Flatten.{sign, sign_if, tokens_if, all_tokens, item_tokens, list_tokens, group_tokens, name_tokens, type_tokens, field_tokens}
+use Rattle.gr_tree.specs.Flatten.{body_tokens, type_spec_tokens, receiver_tokens, param_tokens, result_tokens, block_tokens, func_tokens, imports_tokens}
+use Rattle.gr_tree.specs.Flatten.{decl_tokens, flatten}
 use Rattle.gr_tree.specs.SourceFile.{SourceFile}
-use Rattle.gr_tree.specs.Tree.{Item, Group, single, several, TypeTree, FieldTree, BodyTree, Other, Struct, TypeSpecTree, DeclTree, VarDecl, TypeDecl, FuncDecl, FileTree}
+use Rattle.gr_tree.specs.Tree.{Item, Group, single, several, TypeTree, FieldTree, BodyTree, Other, Struct, TypeSpecTree, DeclTree, VarDecl, TypeDecl}
+use Rattle.gr_tree.specs.Tree.{FuncDecl, FileTree}
 use Rattle.gr_scope.specs.Trees.{AreRising}
 use Rattle.gr_scope.proofs.Rising.{Rises, rises_le, rises_split, rises_of}
 use Rattle.gr_imports.specs.Files.{group_items}
 use Rattle.gr_declared.specs.Definitions.{PlacedField, body_fields, fields_from}
-use Rattle.gr_declared.specs.Package.{PlacedType, PlacedFunction, placed_type, decl_types, decl_functions, types_in, functions_in, declared_types, declared_functions, function_place}
+use Rattle.gr_declared.specs.Package.{PlacedType, PlacedFunction, placed_type, decl_types, decl_functions, types_in, functions_in, declared_types}
+use Rattle.gr_declared.specs.Package.{declared_functions, function_place}
 use Rattle.gr_meanings.specs.Uniqueness.{AreInOrder}
 use Rattle.gr_bound.specs.Binding.{field_place}
-use Rattle.gr_unique.proofs.Apart.{Disjoint, disjoint_none, disjoint_append, disjoint_got, Apart, apart_append, one_rank, RiseIn, rise_down, rise_up, rise_append, rise_lies, lies_before, lies_behind, rise_apart, FromFile, rise_in_file, file_before, file_behind, file_first}
+use Rattle.gr_unique.proofs.Apart.{Disjoint, disjoint_none, disjoint_append, disjoint_got, Apart, apart_append, one_rank, RiseIn, rise_down, rise_up}
+use Rattle.gr_unique.proofs.Apart.{rise_append, rise_lies, lies_before, lies_behind, rise_apart, FromFile, rise_in_file, file_before, file_behind}
+use Rattle.gr_unique.proofs.Apart.{file_first}
 
 -- the fields of a file stand at its tokens, in their order
 

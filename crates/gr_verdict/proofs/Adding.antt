@@ -18,7 +18,7 @@ use Rattle.gr_verdict.specs.declared.finding.Finding.{Finding}
 use Rattle.gr_verdict.specs.declared.judging.Judged.{Judged}
 use Rattle.gr_verdict.specs.Verdicts.{BuildsOn, Verdicts, IsFaultBy, HasInterface, IsVerdictBy}
 use Rattle.gr_verdict.specs.FaultLists.{AreListed}
-use Rattle.gr_verdict.specs.Found.{is_unknown, known_by, AreWhole, AreUsesOf, IsFinding}
+use Rattle.gr_verdict.specs.Told.{is_unknown, known_by, AreWhole, AreUsesOf, IsFinding}
 use Rattle.gr_verdict.specs.Steps.{IsBuildOrder, IsJudged, MayAdd, Learns}
 use Rattle.gr_verdict.proofs.Alike.{KnowsAlike, alike_back, package_as, fault_as}
 use Rattle.gr_verdict.proofs.Closed.{to_package}
@@ -38,8 +38,10 @@ whole_by all more p (Some i) whole s q gone = elim (cases_bytes q p) [
   | inr ne ↦ (let same = s.elsewhere q ne in same.interface ∙ whole q (sym same.name ∙ gone))
 ]
 
-verdict_found : (w : Workspace) (known : Verdicts) (p : List ℕ) (faults : List FileFault) (o : Option FoundInterface) (all more : Interfaces) → name_in all p ≡ None → AreListed (IsFaultBy w known p) faults →
-    MatchOption o (faults ≡ [] → ⊥) (λ i. (faults ≡ []) × HasInterface w known p (interface_of p i)) → MayAdd all more p o → IsVerdictBy w known p (known_by more p)
+verdict_found : (w : Workspace) (known : Verdicts) (p : List ℕ) (faults : List FileFault) (o : Option FoundInterface) (all more : Interfaces) →
+    name_in all p ≡ None → AreListed (IsFaultBy w known p) faults →
+    MatchOption o (faults ≡ [] → ⊥) (λ i. (faults ≡ []) × HasInterface w known p (interface_of p i)) → MayAdd all more p o →
+    IsVerdictBy w known p (known_by more p)
 verdict_found w known p faults None all more fresh listed some e =
     let unknown : is_unknown (name_in more p) ≡ true = ap (λ i. is_unknown (name_in i p)) e ∙ ap is_unknown fresh in
     record {
@@ -56,7 +58,8 @@ verdict_found w known p faults (Some i) all more fresh listed found s =
       has_interface = λ e. subst (HasInterface w known p) (sym s.has_interface) found.1;
     }
 
-pub learns_by : (w : Workspace) (p : List ℕ) (all more : Interfaces) (j : Judged) (f : Finding) → name_in all p ≡ None → AreWhole all → IsJudged w (known_by all) p j → MayAdd all more p j.interface →
+pub learns_by : (w : Workspace) (p : List ℕ) (all more : Interfaces) (j : Judged) (f : Finding) → name_in all p ≡ None → AreWhole all →
+    IsJudged w (known_by all) p j → MayAdd all more p j.interface →
     f.path ≡ p → f.faults ≡ j.faults → f.members ≡ j.members → Learns w p f all more
 learns_by w p all more j f fresh whole h may path faults members = record {
   is_finding = record {
@@ -94,7 +97,8 @@ in_taken xs k i m lt at =
     )
 
 module _ (w : Workspace) (order : List ℕ) (built : IsBuildOrder w order) (k : ℕ) where
-  pub below_before : (n : ℕ) (p q : List ℕ) → slice_get order k ≡ Some n → slice_get (package_paths w) n ≡ Some p → BuildsOn w p q → (m : ℕ) × (Contains (take k order) m × (slice_get (package_paths w) m ≡ Some q))
+  pub below_before : (n : ℕ) (p q : List ℕ) → slice_get order k ≡ Some n → slice_get (package_paths w) n ≡ Some p → BuildsOn w p q → (m : ℕ) ×
+      (Contains (take k order) m × (slice_get (package_paths w) m ≡ Some q))
   below_before n p q at at_n on =
       let m = number w q (to_package w p q on.imported) in
       let j = built.behind k n m.0 p q at at_n m.1 on in

@@ -9,7 +9,8 @@ use Rattle.gr_imports.specs.declared.states.ImportState.{ImportState}
 use Rattle.gr_stages.specs.Stages.{IsOuterFault}
 use Rattle.gr_declared.specs.Package.{Package, Interface}
 use Rattle.gr_verdict.specs.declared.fault.FileFault.{FileFault}
-use Rattle.gr_verdict.specs.Verdicts.{BuildsOn, Verdict, Verdicts, IsStateOf, is_missing, is_on_cycle, is_faulty, is_good, AreStates, IsSeenAs, seen, unseen, IsPackageIn, IsInnerFault, IsReadFault, IsFaultBy, HasInterface, IsVerdictBy}
+use Rattle.gr_verdict.specs.Verdicts.{BuildsOn, Verdict, Verdicts, IsStateOf, is_missing, is_on_cycle, is_faulty, is_good, AreStates, IsSeenAs, seen}
+use Rattle.gr_verdict.specs.Verdicts.{unseen, IsPackageIn, IsInnerFault, IsReadFault, IsFaultBy, HasInterface, IsVerdictBy}
 use Rattle.gr_verdict.specs.Laws.{IsSameVerdict}
 
 -- the same is known of all that p builds on
@@ -21,7 +22,8 @@ alike_back w p a b same q on =
     let s = same q on in
     record { faulty = sym s.faulty; interface = λ e. sym (s.interface (s.faulty ∙ e)) }
 
-pub first_as : (P Q R S : Fault → Type 0) → ((f : Fault) → P f → R f) → ((f : Fault) → R f → P f) → ((f : Fault) → Q f → S f) → (f : Fault) → FirstOf P Q f → FirstOf R S f
+pub first_as : (P Q R S : Fault → Type 0) → ((f : Fault) → P f → R f) → ((f : Fault) → R f → P f) → ((f : Fault) → Q f → S f) → (f : Fault) →
+    FirstOf P Q f → FirstOf R S f
 first_as P Q R S there back later f h = elim h [
   | inl p ↦ inl (there f p)
   | inr n ↦ inr (λ g r. n.0 g (back g r), later f n.1)

@@ -114,7 +114,8 @@ module _ (p : Package) (stands : (u : ℕ) → (p.layout.place u).file < length 
   ]
 
 -- where the identifiers of a package stand
-pub identifiers_stand : (w : Workspace) (known : Verdicts) (p : List ℕ) (c : Package) (h : IsPackageIn w known p c) → 0 < length h.files → (u : ℕ) → (c.layout.place u).file < length c.files
+pub identifiers_stand : (w : Workspace) (known : Verdicts) (p : List ℕ) (c : Package) (h : IsPackageIn w known p c) → 0 < length h.files → (u : ℕ) →
+    (c.layout.place u).file < length c.files
 identifiers_stand w known p c h some u =
     let own = h.is_package in
     let n = length (map spelled_file h.files) in
@@ -123,7 +124,8 @@ identifiers_stand w known p c h some u =
     let sites = package_sites (map spelled_file h.files) in
     let names = own.is_laid.names in
     let pos : 0 < n = subst (λ k. 0 < k) (sym spelled) some in
-    let plain : (found_site (slice_get sites u)).place.file < n = each_at (λ (x : Site). x.place.file < n) pos sites (stands_in_file (map spelled_file h.files) pos) u in
+    let plain : (found_site (slice_get sites u)).place.file < n =
+    each_at (λ (x : Site). x.place.file < n) pos sites (stands_in_file (map spelled_file h.files) pos) u in
     let laid : (found_site (slice_get (named_sites names sites) u)).place.file < n = subst (λ place. place.file < n) (sym (place_stays names sites u)) plain in
     let is : c.layout ≡ sites_layout (named_sites names sites) = ap (λ (x : Package). x.layout) own.is_package ∙ ap layout_in own.is_laid.is_named in
     let files : length c.files ≡ n = ap (λ (x : Package). length x.files) own.is_package ∙ sources ∙ sym spelled in

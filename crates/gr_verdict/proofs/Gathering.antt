@@ -14,7 +14,8 @@ use Rattle.gr_verdict.specs.declared.finding.Finding.{Finding}
 use Rattle.gr_verdict.specs.declared.findings.Findings.{Findings}
 use Rattle.gr_verdict.specs.declared.gathered.Gathered.{Gathered}
 use Rattle.gr_verdict.specs.Verdicts.{BuildsOn, AreVerdictsBelow, AreVerdicts}
-use Rattle.gr_verdict.specs.Found.{known_by, AreWhole, IsFindingOf, IsFoundBy, AreFindings}
+use Rattle.gr_verdict.specs.Found.{IsFoundBy, AreFindings}
+use Rattle.gr_verdict.specs.Told.{known_by, AreWhole, IsFindingOf}
 use Rattle.gr_verdict.specs.Steps.{AreKnown, AreGathered, AreAllGathered, IsGathered, IsBuildOrder, LearnsOf, MayLearn, somes}
 use Rattle.gr_verdict.proofs.Adding.{finding_as}
 use Rattle.gr_verdict.proofs.Knowing.{learnt_next}
@@ -38,7 +39,8 @@ gathered_stays fs n m f within g = elim (cases_eq m n) [
 -- a package that was judged by what was known of all that it builds on is known
 
 module _ (w : Workspace) (q : List ℕ) (n : ℕ) (old new : Gathered) (at : slice_get (package_paths w) n ≡ Some q) (unknown : IsGathered old.findings.items n → ⊥)
-    (below : (r : List ℕ) → BuildsOn w q r → (k : ℕ) × (IsGathered old.findings.items k × (slice_get (package_paths w) k ≡ Some r))) (h : AreGathered w (length (package_paths w)) old) (l : LearnsOf w q n old new) where
+    (below : (r : List ℕ) → BuildsOn w q r → (k : ℕ) × (IsGathered old.findings.items k × (slice_get (package_paths w) k ≡ Some r)))
+    (h : AreGathered w (length (package_paths w)) old) (l : LearnsOf w q n old new) where
   abbrev fs : List (Option Finding)
   fs = old.findings.items
 
@@ -58,7 +60,8 @@ module _ (w : Workspace) (q : List ℕ) (n : ℕ) (old new : Gathered) (at : sli
             let same : l.finding ≡ f =
             same_Some l.finding f (same_Some (Some l.finding) (Some f) (sym (get_set_same fs n (Some l.finding) within) ∙ here)) in
             let path : q ≡ r = same_Some q r (sym at ∙ subst (λ k. slice_get (package_paths w) k ≡ Some r) e at_m) in
-            subst (λ p. IsFindingOf w p f) path (subst (IsFindingOf w q) same (record { known = known_by old.interfaces; right = right; finding = l.learns.is_finding })))
+            subst (λ p. IsFindingOf w p f) path (subst (IsFindingOf w q) same
+            (record { known = known_by old.interfaces; right = right; finding = l.learns.is_finding })))
         | inr ne ↦ h.each m r f at_m (sym (get_set_other fs n m (Some l.finding) ne) ∙ is_set)
       ]
 
@@ -82,12 +85,14 @@ module _ (w : Workspace) (q : List ℕ) (n : ℕ) (old new : Gathered) (at : sli
 
 -- before the first package
 
-pub none_passed : (w : Workspace) (numbers : List ℕ) (all : Gathered) → numbers ≡ [] → AreGathered w (length (package_paths w)) all → AreAllGathered w numbers all
+pub none_passed : (w : Workspace) (numbers : List ℕ) (all : Gathered) → numbers ≡ [] → AreGathered w (length (package_paths w)) all →
+    AreAllGathered w numbers all
 none_passed w numbers all e h = record { right = h; each = λ m c. absurd (nothing_in m (subst (λ l. Contains l m) e c)) }
 
 -- one package further
 
-module _ (w : Workspace) (q : List ℕ) (xs ys : List ℕ) (n : ℕ) (at : slice_get (package_paths w) n ≡ Some q) (more_in : (m : ℕ) → Contains ys m → Contains xs m ⊎ (n ≡ m))
+module _ (w : Workspace) (q : List ℕ) (xs ys : List ℕ) (n : ℕ) (at : slice_get (package_paths w) n ≡ Some q)
+    (more_in : (m : ℕ) → Contains ys m → Contains xs m ⊎ (n ≡ m))
     (below : (r : List ℕ) → BuildsOn w q r → (k : ℕ) × (Contains xs k × (slice_get (package_paths w) k ≡ Some r)))
     (old new : Gathered) (h : AreAllGathered w xs old) where
   known_below : (r : List ℕ) → BuildsOn w q r → (k : ℕ) × (IsGathered old.findings.items k × (slice_get (package_paths w) k ≡ Some r))
@@ -110,15 +115,19 @@ module _ (w : Workspace) (q : List ℕ) (xs ys : List ℕ) (n : ℕ) (at : slice
 
 -- all packages
 
-pub each_there : (w : Workspace) (order : List ℕ) (all : Gathered) → IsBuildOrder w order → AreAllGathered w order all → (n : ℕ) → n < length all.findings.items → IsGathered all.findings.items n
+pub each_there : (w : Workspace) (order : List ℕ) (all : Gathered) → IsBuildOrder w order → AreAllGathered w order all → (n : ℕ) →
+    n < length all.findings.items → IsGathered all.findings.items n
 each_there w order all built h n lt = h.each n ((built.each n).1 (subst (λ k. n < k) h.right.size lt))
 
-pub there_next : (found new : List Finding) (f : Finding) (all : List (Option Finding)) (k : ℕ) (o : Option Finding) → somes found ≡ take k all → new ≡ found ++ f ∷ [] → k < length all → get_or all k o ≡ Some f → somes new ≡ take (k + 1) all
+pub there_next : (found new : List Finding) (f : Finding) (all : List (Option Finding)) (k : ℕ) (o : Option Finding) → somes found ≡ take k all →
+    new ≡ found ++ f ∷ [] → k < length all → get_or all k o ≡ Some f → somes new ≡ take (k + 1) all
 there_next found new f all k o before is lt at =
     ap somes is ∙ map-append (λ (x : Finding). Some x) found (f ∷ []) ∙ ap₂ (λ xs x. xs ++ x ∷ []) before (sym at) ∙ sym (take_more all k o lt)
 
-there_at : (found : List Finding) (all : List (Option Finding)) → somes found ≡ all → (n : ℕ) (f : Finding) → slice_get found n ≡ Some f → slice_get all n ≡ Some (Some f)
-there_at found all same n f is = ap (λ l. slice_get l n) (sym same) ∙ slice_get-map (λ (x : Finding). Some x) found n ∙ ap (option_map (λ (x : Finding). Some x)) is
+there_at : (found : List Finding) (all : List (Option Finding)) → somes found ≡ all → (n : ℕ) (f : Finding) → slice_get found n ≡ Some f →
+    slice_get all n ≡ Some (Some f)
+there_at found all same n f is = ap (λ l. slice_get l n) (sym same) ∙ slice_get-map (λ (x : Finding). Some x) found n ∙
+    ap (option_map (λ (x : Finding). Some x)) is
 
 module _ (w : Workspace) (order : List ℕ) (all : Gathered) (built : IsBuildOrder w order) (h : AreAllGathered w order all) where
   all_right : AreVerdicts w (known_by all.interfaces)
@@ -132,13 +141,15 @@ module _ (w : Workspace) (order : List ℕ) (all : Gathered) (built : IsBuildOrd
         right = right;
         each = λ n p f at is. (
             let g = h.right.each n p f at (there_at found.packages.items all.findings.items same n f is) in
-            finding_as w p g.known (known_by found.interfaces) (right_alike w p g.known (known_by found.interfaces) g.right (right_below w (known_by found.interfaces) right p)) f g.finding);
+            finding_as w p g.known (known_by found.interfaces)
+            (right_alike w p g.known (known_by found.interfaces) g.right (right_below w (known_by found.interfaces) right p)) f g.finding);
         whole = subst AreWhole (sym interfaces) h.right.verdicts.whole;
       }
 
 -- one package of all
 
-pub found_by : (w : Workspace) (found : Findings) → AreFindings w found → (n : ℕ) (p : List ℕ) (f : Finding) → slice_get (package_paths w) n ≡ Some p → slice_get found.packages.items n ≡ Some f → IsFoundBy w p found.interfaces f
+pub found_by : (w : Workspace) (found : Findings) → AreFindings w found → (n : ℕ) (p : List ℕ) (f : Finding) → slice_get (package_paths w) n ≡ Some p →
+    slice_get found.packages.items n ≡ Some f → IsFoundBy w p found.interfaces f
 found_by w found h n p f at is = record {
   below = right_below w (known_by found.interfaces) h.right p;
   own = h.right p (at_contains w n p at);

@@ -37,7 +37,8 @@ group_literals : (g : Group ImportTree) → map (λ (i : ImportTree). i.path) (g
 group_literals (single i) = refl
 group_literals (several o xs c) = items xs
   where
-    items : (xs : List (Item ImportTree)) → map (λ (i : ImportTree). i.path) (map (λ (x : Item ImportTree). x.value) xs) ≡ map (λ (x : Item ImportTree). x.value.path) xs
+    items : (xs : List (Item ImportTree)) → map (λ (i : ImportTree). i.path) (map (λ (x : Item ImportTree). x.value) xs) ≡ map
+        (λ (x : Item ImportTree). x.value.path) xs
     items [] = refl
     items (x ∷ xs) = ap (λ rest. x.value.path ∷ rest) (items xs)
 
@@ -75,7 +76,8 @@ literal_path s i path h l = elim (cases_lt i (length (tokens_in s.cut))) [
   | inr ge ↦ absurd (not_string (subst (λ (x : Piece). IsStringClass x.class) (get_or_past (tokens_in s.cut) i (semicolon 0) ge) l.is_string))
 ]
 
-package_imports : (w : Workspace) (p : List ℕ) (ts : List FileParts) → AreParsed (package_files w p) ts [] → (s : SourceFile) (i : ImportTree) (path : List ℕ) → Contains (map source_of ts) s →
+package_imports : (w : Workspace) (p : List ℕ) (ts : List FileParts) → AreParsed (package_files w p) ts [] →
+    (s : SourceFile) (i : ImportTree) (path : List ℕ) → Contains (map source_of ts) s →
     Contains (imports_in s.tree) i → HasLiteral s i.path path → PackageImports w p path
 package_imports w p ts parsed s i path among h l =
     let at = file_among parsed s among in
@@ -84,9 +86,11 @@ package_imports w p ts parsed s i path among h l =
 -- two tables of states that say the same of what is imported
 
 abbrev SameStates : (state other : List ℕ → ImportState) → List SourceFile → Type 0
-SameStates state other files = (s : SourceFile) (i : ImportTree) (path : List ℕ) → Contains files s → Contains (imports_in s.tree) i → HasLiteral s i.path path → state path ≡ other path
+SameStates state other files = (s : SourceFile) (i : ImportTree) (path : List ℕ) → Contains files s → Contains (imports_in s.tree) i →
+    HasLiteral s i.path path → state path ≡ other path
 
-import_as : (state other : List ℕ → ImportState) (i : PlacedImport) (f : Fault) → ((path : List ℕ) → HasLiteral i.0.1 i.1.path path → state path ≡ other path) → IsFaultOfImport state i f → IsFaultOfImport other i f
+import_as : (state other : List ℕ → ImportState) (i : PlacedImport) (f : Fault) →
+    ((path : List ℕ) → HasLiteral i.0.1 i.1.path path → state path ≡ other path) → IsFaultOfImport state i f → IsFaultOfImport other i f
 import_as state other i f same h = record {
   path = h.path;
   has_path = h.has_path;
@@ -108,17 +112,20 @@ of_file state other r (i ∷ is) rest f same later h = elim h [
 ]
 
 of_files : (state other : List ℕ → ImportState) (k : ℕ) (files : List SourceFile) (f : Fault) → SameStates state other files →
-    SomeOf (IsFaultOfImport state) (flat_map placed_imports (enumerate_from k files)) f → SomeOf (IsFaultOfImport other) (flat_map placed_imports (enumerate_from k files)) f
+    SomeOf (IsFaultOfImport state) (flat_map placed_imports (enumerate_from k files)) f →
+    SomeOf (IsFaultOfImport other) (flat_map placed_imports (enumerate_from k files)) f
 of_files state other k [] f same h = h
 of_files state other k (s ∷ ss) f same h =
     of_file state other (k, s) (imports_in s.tree) (flat_map placed_imports (enumerate_from (k + 1) ss)) f (λ i path c l. same s i path (first_in s ss) c l)
     (of_files state other (k + 1) ss f (λ t i path at c l. same t i path (later_in s ss t at) c l)) h
 
 -- so both tell the same faults of clauses and imports
-pub outer_as : (w : Workspace) (known : Verdicts) (p : List ℕ) (ts : List FileParts) → AreParsed (package_files w p) ts [] → (state other : List ℕ → ImportState) → AreStates w known p state → AreStates w known p other →
+pub outer_as : (w : Workspace) (known : Verdicts) (p : List ℕ) (ts : List FileParts) → AreParsed (package_files w p) ts [] →
+    (state other : List ℕ → ImportState) → AreStates w known p state → AreStates w known p other →
     (f : Fault) → IsOuterFault state (map source_of ts) f → IsOuterFault other (map source_of ts) f
 outer_as w known p ts parsed state other a b f h =
     let files = map source_of ts in
     let same : SameStates state other files = λ s i path at c l.
     let imports = package_imports w p ts parsed s i path at c l in one_state w known p path (state path) (other path) (a path imports) (b path imports) in
-    first_as (IsClauseFault files) (IsImportFault state files) (IsClauseFault files) (IsImportFault other files) (λ g x. x) (λ g x. x) (λ g x. of_files state other 0 files g same x) f h
+    first_as (IsClauseFault files) (IsImportFault state files) (IsClauseFault files) (IsImportFault other files) (λ g x. x) (λ g x. x)
+    (λ g x. of_files state other 0 files g same x) f h

@@ -33,8 +33,10 @@ use Rattle.gr_verdict.proofs.OnePackage.{one_sources, one_checked}
 use Rattle.gr_verdict.proofs.PackageFiles.{package_file, some_tree}
 use Rattle.gr_verdict.proofs.Unread.{none_unread}
 
-module _ (w : Workspace) (known : Verdicts) (p : List ℕ) (own : Contains (package_paths w) p) (files : List FileParts) (parsed : AreParsed (package_files w p) files [])
-    (name_of : List ℕ → Option (List ℕ)) (interface_at : List ℕ → Interface) (are_seen : AreSeen w known p name_of interface_at) (state : List ℕ → ImportState) (are_states : AreStates w known p state) where
+module _ (w : Workspace) (known : Verdicts) (p : List ℕ) (own : Contains (package_paths w) p) (files : List FileParts)
+    (parsed : AreParsed (package_files w p) files [])
+    (name_of : List ℕ → Option (List ℕ)) (interface_at : List ℕ → Interface) (are_seen : AreSeen w known p name_of interface_at)
+    (state : List ℕ → ImportState) (are_states : AreStates w known p state) where
   abbrev Outer : Fault → Type 0
   Outer = IsOuterFault state (map source_of files)
 
@@ -54,7 +56,8 @@ module _ (w : Workspace) (known : Verdicts) (p : List ℕ) (own : Contains (pack
       let at : f.file < length c.files = in_later c (identifiers_stand w known p c (is_checked c h) has_file) f is in
       subst (λ k. f.file < k) (ap (λ (x : Package). length x.files) h.is_package) at
 
-  placed_some : (faults : List Fault) (found : List FileFault) → ((y : FileFault) → Contains found y ↔ IsPlacedOf files faults y) → (f : Fault) → Contains faults f → f.file < length (map source_of files) → found ≡ [] → ⊥
+  placed_some : (faults : List Fault) (found : List FileFault) → ((y : FileFault) → Contains found y ↔ IsPlacedOf files faults y) → (f : Fault) →
+      Contains faults f → f.file < length (map source_of files) → found ≡ [] → ⊥
   placed_some faults found each f c lt =
       let y = in_some_file f lt in
       not_empty_by found y.0 ((each y.0).1 (record { fault = f; among = c; is_placed = y.1 }))
@@ -70,7 +73,12 @@ module _ (w : Workspace) (known : Verdicts) (p : List ℕ) (own : Contains (pack
       outer_as w known p r.files r.parsed state r.state are_states r.are_states f (subst (λ ss. IsOuterFault state ss f) (sym (one_sources r.parsed parsed)) is)
 
   placed_here : (h : FileFault) (r : IsReadFault w known p h) → IsPlacedAs files r.fault h
-  placed_here h r = record { source = r.source; in_file = subst (λ ss. slice_get ss r.fault.file ≡ Some r.source) (one_sources r.parsed parsed) r.in_file; at = r.at }
+  placed_here h r = record {
+    source = r.source;
+    in_file =
+        subst (λ ss. slice_get ss r.fault.file ≡ Some r.source) (one_sources r.parsed parsed) r.in_file;
+    at = r.at;
+  }
 
   read_by : (f : Fault) (y : FileFault) → IsPlacedAs files f y → FirstOf Outer (IsInnerFault w known p) f → IsReadFault w known p y
   read_by f y a is = record {
@@ -87,7 +95,8 @@ module _ (w : Workspace) (known : Verdicts) (p : List ℕ) (own : Contains (pack
 
   -- which faults are listed
 
-  listed_by : (P : Fault → Type 0) (faults : List Fault) (found : List FileFault) → Lists P faults → ((y : FileFault) → Contains found y ↔ IsPlacedOf files faults y) → ((f : Fault) → P f → FirstOf Outer (IsInnerFault w known p) f) →
+  listed_by : (P : Fault → Type 0) (faults : List Fault) (found : List FileFault) → Lists P faults →
+      ((y : FileFault) → Contains found y ↔ IsPlacedOf files faults y) → ((f : Fault) → P f → FirstOf Outer (IsInnerFault w known p) f) →
       ((y : FileFault) (r : IsReadFault w known p y) → P r.fault) → (y : FileFault) → Contains found y ↔ IsFaultBy w known p y
   listed_by P faults found lists each there back y = (
     λ c. (let a = (each y).0 c in inr (read_by a.fault y a.is_placed (there a.fault (lists.only a.fault a.among)))),
@@ -105,36 +114,43 @@ module _ (w : Workspace) (known : Verdicts) (p : List ℕ) (own : Contains (pack
     | inr i ↦ (let x = some_in faults some in absurd (i.0 x.0 (outer_there y r x.0 (lists.only x.0 x.1))))
   ]
 
-  pub judged_outside : (c : Checked) (j : Judged) → (c.faults.items ≡ [] → ⊥) → Lists Outer c.faults.items → c.interface ≡ None → j.interface ≡ c.interface → IsStrictlySortedBy fault_cmp j.faults.items →
+  pub judged_outside : (c : Checked) (j : Judged) → (c.faults.items ≡ [] → ⊥) → Lists Outer c.faults.items → c.interface ≡ None →
+      j.interface ≡ c.interface → IsStrictlySortedBy fault_cmp j.faults.items →
       ((y : FileFault) → Contains j.faults.items y ↔ IsPlacedOf files c.faults.items y) → IsJudged w known p j
   judged_outside c j some lists gone same sorted each =
       let x = some_in c.faults.items some in
-      let filled : j.faults.items ≡ [] → ⊥ = placed_some c.faults.items j.faults.items each x.0 x.1 (in_outer state (map source_of files) x.0 (lists.only x.0 x.1)) in
+      let filled : j.faults.items ≡ [] → ⊥ = placed_some c.faults.items j.faults.items each x.0 x.1
+      (in_outer state (map source_of files) x.0 (lists.only x.0 x.1)) in
       record {
         listed = record {
           in_order = sorted;
           each = listed_by Outer c.faults.items j.faults.items lists each (λ f o. inl o) (outside_back c.faults.items some lists);
         };
-        has_interface = subst (λ o. MatchOption o (j.faults.items ≡ [] → ⊥) (λ i. (j.faults.items ≡ []) × HasInterface w known p (interface_of p i))) (sym (same ∙ gone)) filled;
+        has_interface = subst (λ o. MatchOption o (j.faults.items ≡ [] → ⊥) (λ i. (j.faults.items ≡ []) × HasInterface w known p (interface_of p i)))
+            (sym (same ∙ gone)) filled;
         uses = λ e. absurd (filled e);
       }
 
   -- those of the later stages, or none
 
-  inside_back : (c : Package) → IsPackageOf p files name_of interface_at c → HasNone Outer → (y : FileFault) (r : IsReadFault w known p y) → IsLaterFault c r.fault
+  inside_back : (c : Package) → IsPackageOf p files name_of interface_at c → HasNone Outer → (y : FileFault) (r : IsReadFault w known p y) →
+      IsLaterFault c r.fault
   inside_back c h sound y r = elim r.is_fault [
     | inl o ↦ absurd (sound r.fault (outer_here y r r.fault o))
     | inr i ↦ subst (λ (d : Package). IsLaterFault d r.fault) (one_checked w known p i.1.checked c i.1.is_package (is_checked c h)) i.1.is_fault
   ]
 
-  interface_by : (c : Package) (faults : List Fault) (found : List FileFault) (o : Option FoundInterface) → IsPackageOf p files name_of interface_at c → (found ≡ [] → faults ≡ []) → (faults ≡ [] → found ≡ []) →
-      MatchOption o (faults ≡ [] → ⊥) (λ i. (faults ≡ []) × IsInterface c (interface_of c.path i)) → MatchOption o (found ≡ [] → ⊥) (λ i. (found ≡ []) × HasInterface w known p (interface_of p i))
+  interface_by : (c : Package) (faults : List Fault) (found : List FileFault) (o : Option FoundInterface) → IsPackageOf p files name_of interface_at c →
+      (found ≡ [] → faults ≡ []) → (faults ≡ [] → found ≡ []) →
+      MatchOption o (faults ≡ [] → ⊥) (λ i. (faults ≡ []) × IsInterface c (interface_of c.path i)) →
+      MatchOption o (found ≡ [] → ⊥) (λ i. (found ≡ []) × HasInterface w known p (interface_of p i))
   interface_by c faults found None h to from m = λ e. m (to e)
   interface_by c faults found (Some i) h to from m =
       let path : c.path ≡ p = ap (λ (x : Package). x.path) h.is_package in
       (from m.0, record { checked = c; is_package = is_checked c h; is_interface = subst (λ q. IsInterface c (interface_of q i)) path m.1 })
 
-  pub judged_inside : (c : Package) (x : Checked) (j : Judged) → HasNone Outer → IsPackageOf p files name_of interface_at c → IsCheckedBy (IsLaterFault c) c x → j.interface ≡ x.interface → j.members ≡ x.members → IsStrictlySortedBy fault_cmp j.faults.items →
+  pub judged_inside : (c : Package) (x : Checked) (j : Judged) → HasNone Outer → IsPackageOf p files name_of interface_at c →
+      IsCheckedBy (IsLaterFault c) c x → j.interface ≡ x.interface → j.members ≡ x.members → IsStrictlySortedBy fault_cmp j.faults.items →
       ((y : FileFault) → Contains j.faults.items y ↔ IsPlacedOf files x.faults.items y) → IsJudged w known p j
   judged_inside c x j sound h checked same_interface same_members sorted each =
       let to : j.faults.items ≡ [] → x.faults.items ≡ [] = λ e.
@@ -144,9 +160,11 @@ module _ (w : Workspace) (known : Verdicts) (p : List ℕ) (own : Contains (pack
       record {
         listed = record {
           in_order = sorted;
-          each = listed_by (IsLaterFault c) x.faults.items j.faults.items checked.faults each (λ f l. inr (sound, record { checked = c; is_package = is_checked c h; is_fault = l })) (inside_back c h sound);
+          each = listed_by (IsLaterFault c) x.faults.items j.faults.items checked.faults each
+              (λ f l. inr (sound, record { checked = c; is_package = is_checked c h; is_fault = l })) (inside_back c h sound);
         };
-        has_interface = subst (λ o. MatchOption o (j.faults.items ≡ [] → ⊥) (λ i. (j.faults.items ≡ []) × HasInterface w known p (interface_of p i))) (sym same_interface)
+        has_interface = subst (λ o. MatchOption o (j.faults.items ≡ [] → ⊥) (λ i. (j.faults.items ≡ []) × HasInterface w known p (interface_of p i)))
+            (sym same_interface)
             (interface_by c x.faults.items j.faults.items x.interface h to from checked.interface);
         uses = λ e. record {
           checked = c;
@@ -155,7 +173,9 @@ module _ (w : Workspace) (known : Verdicts) (p : List ℕ) (own : Contains (pack
         };
       }
 
-  pub judged_by : (x : Checked) (j : Judged) → IsFoundIn p files state name_of interface_at x → j.interface ≡ x.interface → j.members ≡ x.members → IsStrictlySortedBy fault_cmp j.faults.items →
+  pub judged_by : (x : Checked) (j : Judged) → IsFoundIn p files state name_of interface_at x → j.interface ≡ x.interface → j.members ≡ x.members →
+      IsStrictlySortedBy fault_cmp j.faults.items →
       ((y : FileFault) → Contains j.faults.items y ↔ IsPlacedOf files x.faults.items y) → IsJudged w known p j
   judged_by x j (outside some lists gone) same_interface same_members sorted each = judged_outside x j some lists gone same_interface sorted each
-  judged_by x j (inside {p = c} sound h checked) same_interface same_members sorted each = judged_inside c x j sound h checked same_interface same_members sorted each
+  judged_by x j (inside {p = c} sound h checked) same_interface same_members sorted each =
+      judged_inside c x j sound h checked same_interface same_members sorted each

@@ -13,13 +13,18 @@ use Rattle.gr_declared.specs.declared.interfaces.Interfaces.{Interfaces}
 use Rattle.gr_verdict.specs.declared.finding.Finding.{Finding}
 use Rattle.gr_verdict.specs.Verdicts.{BuildsOn, Verdict, IsVerdict, follows}
 use Rattle.gr_verdict.specs.Laws.{IsSameVerdict}
-use Rattle.gr_verdict.specs.Found.{is_unknown, known_by, AreWhole}
+use Rattle.gr_verdict.specs.Told.{is_unknown, known_by, AreWhole}
 use Rattle.gr_verdict.specs.Steps.{AreKnown, Learns}
 
 -- where the same is known of a path
 
 pub same_known : (all more : Interfaces) → more ≡ all → (q : List ℕ) → KnowsSame all more q
-same_known all more e q = record { interface = ap (λ i. interface_in i q) e; name = ap (λ i. name_in i q) e; state = ap (λ (i : Interfaces). state_in i.states q) e }
+same_known all more e q = record {
+  interface = ap (λ i. interface_in i q) e;
+  name = ap (λ i. name_in i q) e;
+  state =
+      ap (λ (i : Interfaces). state_in i.states q) e;
+}
 
 pub verdict_alike : (all more : Interfaces) (q : List ℕ) → KnowsSame all more q → IsSameVerdict (known_by all q) (known_by more q)
 verdict_alike all more q same = record { faulty = sym (ap is_unknown same.name); interface = λ e. sym same.interface }
@@ -31,23 +36,28 @@ pub verdict_same : (all more : Interfaces) (q : List ℕ) → KnowsSame all more
 verdict_same all more q same = ap₂ verdict_of (sym (ap is_unknown same.name)) (sym same.interface)
 
 -- and where the same is told of a package, so is its verdict
-pub verdict_as : (w : Workspace) (p : List ℕ) (a b : Interfaces) → name_in b p ≡ name_in a p → interface_in b p ≡ interface_in a p → IsVerdict w p (known_by a p) → IsVerdict w p (known_by b p)
+pub verdict_as : (w : Workspace) (p : List ℕ) (a b : Interfaces) → name_in b p ≡ name_in a p → interface_in b p ≡ interface_in a p →
+    IsVerdict w p (known_by a p) → IsVerdict w p (known_by b p)
 verdict_as w p a b name interface right =
-    subst (λ i. IsVerdict w p (verdict_of (is_unknown (name_in b p)) i)) (sym interface) (subst (λ o. IsVerdict w p (verdict_of (is_unknown o) (interface_in a p))) (sym name) right)
+    subst (λ i. IsVerdict w p (verdict_of (is_unknown (name_in b p)) i)) (sym interface)
+    (subst (λ o. IsVerdict w p (verdict_of (is_unknown o) (interface_in a p))) (sym name) right)
 
 -- a package that is known is another than one that is not
-pub another : (w : Workspace) (Is : ℕ → Type 0) (n : ℕ) (p : List ℕ) → slice_get (package_paths w) n ≡ Some p → (Is n → ⊥) → (m : ℕ) (r : List ℕ) → Is m → slice_get (package_paths w) m ≡ Some r → r ≡ p → ⊥
+pub another : (w : Workspace) (Is : ℕ → Type 0) (n : ℕ) (p : List ℕ) → slice_get (package_paths w) n ≡ Some p → (Is n → ⊥) → (m : ℕ) (r : List ℕ) → Is m →
+    slice_get (package_paths w) m ≡ Some r → r ≡ p → ⊥
 another w Is n p at new_one m r c at_m e = new_one (subst Is (one_number (package_paths w) (paths_sorted w) m n p (at_m ∙ ap Some e) at) c)
 
 -- the same packages are known
-pub known_as : (w : Workspace) (Is So : ℕ → Type 0) (all : Interfaces) → ((m : ℕ) → So m → Is m) → ((m : ℕ) → Is m → So m) → AreKnown w Is all → AreKnown w So all
+pub known_as : (w : Workspace) (Is So : ℕ → Type 0) (all : Interfaces) → ((m : ℕ) → So m → Is m) → ((m : ℕ) → Is m → So m) → AreKnown w Is all →
+    AreKnown w So all
 known_as w Is So all there back h = record {
   right = λ m r c at. h.right m r (there m c) at;
   fresh = λ m r none at. h.fresh m r (λ c. none (back m c)) at;
   whole = h.whole;
 }
 
-module _ (w : Workspace) (Is So : ℕ → Type 0) (n : ℕ) (p : List ℕ) (at : slice_get (package_paths w) n ≡ Some p) (more_in : (m : ℕ) → So m → Is m ⊎ (n ≡ m)) (keeps : (m : ℕ) → Is m → So m) (here : So n) (new_one : Is n → ⊥)
+module _ (w : Workspace) (Is So : ℕ → Type 0) (n : ℕ) (p : List ℕ) (at : slice_get (package_paths w) n ≡ Some p) (more_in : (m : ℕ) → So m → Is m ⊎ (n ≡ m))
+    (keeps : (m : ℕ) → Is m → So m) (here : So n) (new_one : Is n → ⊥)
     (all more : Interfaces) (h : AreKnown w Is all) where
   module _ (elsewhere : (q : List ℕ) → (q ≡ p → ⊥) → KnowsSame all more q) where
     right_next : IsVerdict w p (known_by more p) → (m : ℕ) (r : List ℕ) → So m → slice_get (package_paths w) m ≡ Some r → IsVerdict w r (known_by more r)
@@ -68,5 +78,6 @@ module _ (w : Workspace) (Is So : ℕ → Type 0) (n : ℕ) (p : List ℕ) (at :
     known_next whole own = record { right = right_next own; fresh = fresh_next; whole = whole }
 
   -- one that was judged by what was known of all that it builds on
-  pub learnt_next : (f : Finding) → ((q : List ℕ) → BuildsOn w p q → (k : ℕ) × (Is k × (slice_get (package_paths w) k ≡ Some q))) → Learns w p f all more → AreKnown w So more
+  pub learnt_next : (f : Finding) → ((q : List ℕ) → BuildsOn w p q → (k : ℕ) × (Is k × (slice_get (package_paths w) k ≡ Some q))) → Learns w p f all more →
+      AreKnown w So more
   learnt_next f below l = known_next l.elsewhere l.whole (follows (known_by all) (λ q on. (let k = below q on in h.right k.0 q k.1.0 k.1.1)) l.is_verdict)

@@ -7,6 +7,7 @@ pub mod Alike
 pub mod OnePackage
 pub mod OneVerdict
 pub mod OneList
+pub mod StandsAlike
 pub mod Local
 pub mod PlacedExpressions
 pub mod PlacedStatements
@@ -27,5 +28,7 @@ pub mod Adding
 pub mod Taking
 pub mod Telling
 pub mod Gathering
+pub mod SameImports
+pub mod Keeping
 pub mod Listing
 pub mod Examples

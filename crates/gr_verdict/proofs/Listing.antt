@@ -14,7 +14,8 @@ use Rattle.gr_verdict.specs.declared.finding.Finding.{Finding}
 use Rattle.gr_verdict.specs.declared.findings.Findings.{Findings}
 use Rattle.gr_verdict.specs.Faults.{fault_cmp}
 use Rattle.gr_verdict.specs.FaultLists.{IsFaultOfSome, ListsFaults}
-use Rattle.gr_verdict.specs.Found.{known_by, AreFindings}
+use Rattle.gr_verdict.specs.Found.{AreFindings}
+use Rattle.gr_verdict.specs.Told.{known_by}
 use Rattle.gr_verdict.proofs.Members.{nothing_in}
 
 abbrev pub faults_in : Finding → List FileFault
@@ -27,7 +28,8 @@ of_one g [] i x y at c = absurd (none-some x at)
 of_one g (z ∷ zs) zero x y at c = Contains-append_left (g z) (flat_map g zs) y (subst (λ v. Contains (g v) y) (sym (same_Some z x at)) c)
 of_one g (z ∷ zs) (suc i) x y at c = Contains-append_right (g z) (flat_map g zs) y (of_one g zs i x y at c)
 
-one_of : {X Y : Type 0} (g : X → List Y) (xs : List X) (y : Y) → Contains (flat_map g xs) y → (i : ℕ) × ((x : X) × ((slice_get xs i ≡ Some x) × Contains (g x) y))
+one_of : {X Y : Type 0} (g : X → List Y) (xs : List X) (y : Y) → Contains (flat_map g xs) y → (i : ℕ) ×
+    ((x : X) × ((slice_get xs i ≡ Some x) × Contains (g x) y))
 one_of g [] y c = absurd (nothing_in y c)
 one_of g (z ∷ zs) y c = elim (Contains-append_cases (g z) (flat_map g zs) y c) [
   | inl here ↦ (0, (z, (refl, here)))
@@ -51,7 +53,8 @@ module _ (w : Workspace) (found : Findings) (h : AreFindings w found) where
       let is = h.each n.0 s.path x.0 n.1 x.1 in
       of_one faults_in found.packages.items n.0 x.0 f x.1 ((is.listed.each f).1 s.is_fault)
 
-  pub list_found : (list : List FileFault) → IsStrictlySortedBy fault_cmp list → ((f : FileFault) → Contains list f ↔ Contains (flat_map faults_in found.packages.items) f) → ListsFaults w list
+  pub list_found : (list : List FileFault) → IsStrictlySortedBy fault_cmp list →
+      ((f : FileFault) → Contains list f ↔ Contains (flat_map faults_in found.packages.items) f) → ListsFaults w list
   list_found list sorted same = record {
     known = known_by found.interfaces;
     right = h.right;

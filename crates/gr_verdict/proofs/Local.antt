@@ -1,29 +1,26 @@
 -- Where the closure of a package has the same texts in two workspaces, the package has the same verdict and fault list in both.
-use Rattle.std.proofs.Common.{ℕ, ◌≡◌, inl, inr, List, [], sym, subst, ◌∙◌}
-use Rattle.std.specs.Prelude.{Option, Contains, map}
+use Rattle.std.proofs.Common.{ℕ, ◌≡◌, List, sym, subst, ◌∙◌}
+use Rattle.std.specs.Prelude.{Contains}
 use Rattle.std.specs.Cmp.{IsTotalOrder, on_total}
 use Rattle.std.specs.Cmp.Lexicographic.{nat_list_cmp_total}
 use Rattle.gr_text.specs.Packages.{package_paths, package_files}
 use Rattle.gr_text.specs.Workspace.{Workspace}
-use Rattle.gr_fault.specs.declared.fault.Fault.{Fault}
-use Rattle.gr_tree.specs.SourceFile.{source_of}
 use Rattle.gr_graph.specs.Packages.{PackageImports, IsInClosure, itself, through}
-use Rattle.gr_graph.specs.Parsed.{AreParsed}
-use Rattle.gr_imports.specs.declared.states.ImportState.{ImportState}
 use Rattle.gr_order.proofs.OwnPaths.{entry_cmp, files_sorted}
-use Rattle.gr_stages.specs.Stages.{IsOuterFault}
-use Rattle.gr_declared.specs.Package.{Package, Interface}
+use Rattle.gr_declared.specs.Package.{Package}
 use Rattle.gr_verdict.specs.declared.fault.FileFault.{FileFault}
-use Rattle.gr_verdict.specs.Verdicts.{BuildsOn, Verdict, Verdicts, IsStateOf, is_missing, is_on_cycle, is_faulty, is_good, AreStates, IsSeenAs, seen, unseen, IsPackageIn, IsUnreadFault, IsInnerFault, IsReadFault, IsFaultBy, HasInterface, IsVerdictBy, IsVerdict, follows, AreVerdictsBelow}
+use Rattle.gr_verdict.specs.Verdicts.{BuildsOn, Verdict, Verdicts}
+use Rattle.gr_verdict.specs.Verdicts.{IsPackageIn, IsVerdict}
+use Rattle.gr_verdict.specs.Verdicts.{follows, AreVerdictsBelow}
 use Rattle.gr_verdict.specs.declared.finding.Finding.{Finding}
 use Rattle.gr_verdict.specs.declared.known.KnownVerdict.{KnownVerdict}
-use Rattle.gr_verdict.specs.FaultLists.{AreListed, ListsPackageFaults}
-use Rattle.gr_verdict.specs.Found.{known_by, IsFindingOf, TellsVerdict}
+use Rattle.gr_verdict.specs.FaultLists.{ListsPackageFaults}
+use Rattle.gr_verdict.specs.Told.{known_by, IsFindingOf, TellsVerdict}
 use Rattle.gr_verdict.specs.Closures.{HasSameClosure}
-use Rattle.gr_verdict.proofs.Alike.{first_as}
 use Rattle.gr_verdict.proofs.Closed.{from_package, to_package, in_closure_then}
 use Rattle.gr_verdict.proofs.Members.{one_sorted}
 use Rattle.gr_verdict.proofs.PackageFiles.{package_file, in_folder}
+use Rattle.gr_verdict.proofs.StandsAlike.{StandsAlike, package_there, by_there, listed_there, finding_there}
 
 -- one workspace for another
 
@@ -34,7 +31,8 @@ pub same_back : (w x : Workspace) (p : List ℕ) → HasSameClosure w x p → Ha
 same_back w x p same e = ((same e).1, (same e).0)
 
 -- a package of the closure, with a file of it, is one of the other's, with that file
-carried : (w x : Workspace) (p : List ℕ) → HasSameClosure w x p → (q : List ℕ) (e : List ℕ × List ℕ) → IsInClosure w p q → Contains (package_files w q) e → IsInClosure x p q × Contains (package_files x q) e
+carried : (w x : Workspace) (p : List ℕ) → HasSameClosure w x p → (q : List ℕ) (e : List ℕ × List ℕ) → IsInClosure w p q → Contains (package_files w q) e →
+    IsInClosure x p q × Contains (package_files x q) e
 carried w x p same q e closed has =
     let there = (same e).0 (record { path = q; in_closure = closed; of_package = has }) in
     let is : there.path ≡ q = sym (in_folder x there.path e there.of_package) ∙ in_folder w q e has in
@@ -64,7 +62,8 @@ imports_there w x p same q r closed i = record {
 on_there : (w x : Workspace) (p : List ℕ) → HasSameClosure w x p → (q r : List ℕ) → IsInClosure w p q → IsInClosure w q r → IsInClosure x q r
 on_there w x p same q _ closed (itself has) = itself (to_package x p q (closed_there w x p same q closed))
 on_there w x p same q r closed (through {q = m} i rest) =
-    through (imports_there w x p same q m closed i) (on_there w x p same m r (in_closure_then w p q m closed (through i (itself (from_package w m r rest)))) rest)
+    through (imports_there w x p same q m closed i) (on_there w x p same m r (in_closure_then w p q m closed (through i (itself (from_package w m r rest))))
+    rest)
 
 pub same_within : (w x : Workspace) (p : List ℕ) → HasSameClosure w x p → (q : List ℕ) → IsInClosure w p q → HasSameClosure w x q
 same_within w x p same q closed e = (
@@ -91,89 +90,23 @@ builds_there w x p same q on = record {
 
 -- what is found in p
 
-module _ (w x : Workspace) (p : List ℕ) (same : HasSameClosure w x p) (own : Contains (package_paths w) p) (known : Verdicts) where
-  back : HasSameClosure x w p
-  back = same_back w x p same
-
-  own_files : package_files w p ≡ package_files x p
-  own_files = files_there w x p same p (itself own)
-
-  state_there : (q : List ℕ) (s : ImportState) → PackageImports w p q → IsStateOf w known p q s → IsStateOf x known p q s
-  state_there q _ i (is_missing none) =
-      is_missing (λ has.
-      let there = imports_there w x p same p q (itself own) i in
-      let closed : IsInClosure x p q = through there (itself has) in
-      none (to_package w p q (closed_there x w p back q closed)))
-  state_there q _ i (is_on_cycle round) =
-      is_on_cycle (on_there w x p same q p (through i (itself (from_package w q p round))) round)
-  state_there q _ i (is_faulty on is) = is_faulty (builds_there w x p same q on) is
-  state_there q _ i (is_good on is) = is_good (builds_there w x p same q on) is
-
-  imports_here : (q : List ℕ) → PackageImports x p q → PackageImports w p q
-  imports_here q i = imports_there x w p back p q (closed_there w x p same p (itself own)) i
-
-  states_there : (state : List ℕ → ImportState) → AreStates w known p state → AreStates x known p state
-  states_there state h q i = state_there q (state q) (imports_here q i) (h q (imports_here q i))
-
-  seen_there : (q : List ℕ) (n : Option (List ℕ)) (i : Interface) → IsSeenAs w known p q n i → IsSeenAs x known p q n i
-  seen_there q _ _ (seen on is) = seen (builds_there w x p same q on) is
-  seen_there q _ _ (unseen none) = unseen (λ on. none (builds_there x w p back q on))
-
-  pub package_there : (c : Package) → IsPackageIn w known p c → IsPackageIn x known p c
-  package_there c h = record {
-    files = h.files;
-    parsed = subst (λ es. AreParsed es h.files []) own_files h.parsed;
-    name_of = h.name_of;
-    interface_of = h.interface_of;
-    are_seen = λ q. seen_there q (h.name_of q) (h.interface_of q) (h.are_seen q);
-    is_package = h.is_package;
-  }
-
-  unread_there : (f : FileFault) → IsUnreadFault w p f → IsUnreadFault x p f
-  unread_there f h = record {
-    path = h.path;
-    text = h.text;
-    fault = h.fault;
-    of_package = subst (λ es. Contains es (h.path, h.text)) own_files h.of_package;
-    is_fault = h.is_fault;
-    at = h.at;
-  }
-
-  inner_there : (f : Fault) → IsInnerFault w known p f → IsInnerFault x known p f
-  inner_there f h = record { checked = h.checked; is_package = package_there h.checked h.is_package; is_fault = h.is_fault }
-
-  read_there : (f : FileFault) → IsReadFault w known p f → IsReadFault x known p f
-  read_there f h =
-      let P = IsOuterFault h.state (map source_of h.files) in
-      record {
-        files = h.files;
-        parsed = subst (λ es. AreParsed es h.files []) own_files h.parsed;
-        state = h.state;
-        are_states = states_there h.state h.are_states;
-        fault = h.fault;
-        is_fault = first_as P (IsInnerFault w known p) P (IsInnerFault x known p) (λ g r. r) (λ g r. r) inner_there h.fault h.is_fault;
-        source = h.source;
-        in_file = h.in_file;
-        at = h.at;
-      }
-
-  pub fault_there : (f : FileFault) → IsFaultBy w known p f → IsFaultBy x known p f
-  fault_there f h = elim h [ inl u ↦ inl (unread_there f u) | inr r ↦ inr (read_there f r) ]
-
-  interface_there : (i : Interface) → HasInterface w known p i → HasInterface x known p i
-  interface_there i h = record { checked = h.checked; is_package = package_there h.checked h.is_package; is_interface = h.is_interface }
-
 pub own_there : (w x : Workspace) (p : List ℕ) → HasSameClosure w x p → Contains (package_paths w) p → Contains (package_paths x) p
 own_there w x p same own = to_package x p p (closed_there w x p same p (itself own))
 
-by_there : (w x : Workspace) (p : List ℕ) → HasSameClosure w x p → Contains (package_paths w) p → (known : Verdicts) (v : Verdict) → IsVerdictBy w known p v → IsVerdictBy x known p v
-by_there w x p same own known v h = record {
-  has_faults = (
-    λ e. let f = h.has_faults.0 e in (f.0, fault_there w x p same own known f.0 f.1),
-    λ f. h.has_faults.1 (f.0, fault_there x w p (same_back w x p same) (own_there w x p same own) known f.0 f.1),
-  );
-  has_interface = λ e. interface_there w x p same own known v.interface (h.has_interface e);
+stands_there : (w x : Workspace) (p : List ℕ) → HasSameClosure w x p → Contains (package_paths w) p → StandsAlike w x p
+stands_there w x p same own = record {
+  files = files_there w x p same p (itself own);
+  missing = λ q i none has. (
+      let there = imports_there w x p same p q (itself own) i in
+      let closed : IsInClosure x p q = through there (itself has) in
+      none (to_package w p q (closed_there x w p (same_back w x p same) q closed)));
+  round = λ q i round. on_there w x p same q p (through i (itself (from_package w q p round))) round;
+  builds = builds_there w x p same;
+  back = builds_there x w p (same_back w x p same);
 }
+
+stands_back : (w x : Workspace) (p : List ℕ) → HasSameClosure w x p → Contains (package_paths w) p → StandsAlike x w p
+stands_back w x p same own = stands_there x w p (same_back w x p same) (own_there w x p same own)
 
 pub local_verdict : (w x : Workspace) (p : List ℕ) (v : Verdict) → Contains (package_paths w) p → HasSameClosure w x p → IsVerdict w p v → IsVerdict x p v
 local_verdict w x p v own same (follows known below by) =
@@ -181,41 +114,36 @@ local_verdict w x p v own same (follows known below by) =
     (λ q on.
     let here = builds_there x w p (same_back w x p same) q on in
     local_verdict w x q (known q) (to_package w p q here.imported) (same_within w x p same q here.imported) (below q here))
-    (by_there w x p same own known v by)
+    (by_there w x p (stands_there w x p same own) (stands_back w x p same own) known v by)
 
 local_below : (w x : Workspace) (p : List ℕ) (known : Verdicts) → HasSameClosure w x p → AreVerdictsBelow w p known → AreVerdictsBelow x p known
 local_below w x p known same right = λ q on.
     let here = builds_there x w p (same_back w x p same) q on in
     local_verdict w x q (known q) (to_package w p q here.imported) (same_within w x p same q here.imported) (right q here)
 
-listed_there : (w x : Workspace) (p : List ℕ) (known : Verdicts) (list : List FileFault) → Contains (package_paths w) p → HasSameClosure w x p → AreListed (IsFaultBy w known p) list → AreListed (IsFaultBy x known p) list
-listed_there w x p known list own same h = record {
-  in_order = h.in_order;
-  each = λ f. (
-    λ has. fault_there w x p same own known f ((h.each f).0 has),
-    λ is. (h.each f).1 (fault_there x w p (same_back w x p same) (own_there w x p same own) known f is),
-  );
+pub local_list : (w x : Workspace) (p : List ℕ) (list : List FileFault) → Contains (package_paths w) p → HasSameClosure w x p →
+    ListsPackageFaults w p list → ListsPackageFaults x p list
+local_list w x p list own same h = record {
+  known = h.known;
+  right = local_below w x p h.known same h.right;
+  listed =
+      listed_there w x p (stands_there w x p same own) (stands_back w x p same own) h.known list h.listed;
 }
 
-pub local_list : (w x : Workspace) (p : List ℕ) (list : List FileFault) → Contains (package_paths w) p → HasSameClosure w x p → ListsPackageFaults w p list → ListsPackageFaults x p list
-local_list w x p list own same h = record { known = h.known; right = local_below w x p h.known same h.right; listed = listed_there w x p h.known list own same h.listed }
-
-pub locally_checked : (w x : Workspace) (p : List ℕ) (known : Verdicts) (c : Package) → Contains (package_paths w) p → HasSameClosure w x p → AreVerdictsBelow w p known → IsPackageIn w known p c →
+pub locally_checked : (w x : Workspace) (p : List ℕ) (known : Verdicts) (c : Package) → Contains (package_paths w) p → HasSameClosure w x p →
+    AreVerdictsBelow w p known → IsPackageIn w known p c →
     AreVerdictsBelow x p known × IsPackageIn x known p c
-locally_checked w x p known c own same right h = (local_below w x p known same right, package_there w x p same own known c h)
+locally_checked w x p known c own same right h = (local_below w x p known same right, package_there w x p (stands_there w x p same own) known c h)
 
 pub local_finding : (w x : Workspace) (p : List ℕ) (f : Finding) → Contains (package_paths w) p → HasSameClosure w x p → IsFindingOf w p f → IsFindingOf x p f
 local_finding w x p f own same h = record {
   known = h.known;
   right = local_below w x p h.known same h.right;
-  finding = record {
-    has_path = h.finding.has_path;
-    listed = listed_there w x p h.known f.faults.items own same h.finding.listed;
-    members = λ e. (let u = h.finding.members e in record { checked = u.checked; is_package = package_there w x p same own h.known u.checked u.is_package; are_uses = u.are_uses });
-  };
+  finding = finding_there w x p (stands_there w x p same own) (stands_back w x p same own) h.known f h.finding;
 }
 
-pub told_there : (w x : Workspace) (p : List ℕ) (one : KnownVerdict) → Contains (package_paths w) p → HasSameClosure w x p → TellsVerdict w p one → TellsVerdict x p one
+pub told_there : (w x : Workspace) (p : List ℕ) (one : KnownVerdict) → Contains (package_paths w) p → HasSameClosure w x p → TellsVerdict w p one →
+    TellsVerdict x p one
 told_there w x p one own same told = record {
   right = local_verdict w x p (known_by one.interfaces p) own same told.right;
   whole = told.whole;

@@ -6,7 +6,8 @@ use Rattle.gr_tree.specs.Tree.{Item, FieldTree, BodyTree, Other, Struct, DeclTre
 use Rattle.gr_tree.specs.SourceFile.{SourceFile}
 use Rattle.gr_imports.specs.Files.{Ranked, ranked, group_items}
 use Rattle.gr_order.proofs.Elements.{all_append, all_got, all_flat, all_made, all_map, all_numbered}
-use Rattle.gr_declared.specs.Package.{Package, PlacedType, PlacedFunction, placed_type, decl_types, decl_functions, types_in, functions_in, package_types, package_functions}
+use Rattle.gr_declared.specs.Package.{Package, PlacedType, PlacedFunction, placed_type, decl_types, decl_functions, types_in, functions_in, package_types}
+use Rattle.gr_declared.specs.Package.{package_functions}
 use Rattle.gr_declared.specs.Definitions.{PlacedField, body_fields, fields_from, package_fields}
 
 -- the files by their ranks

@@ -12,7 +12,7 @@ use Rattle.gr_imports.specs.declared.states.ImportState.TheVariants.{Missing}
 use Rattle.gr_declared.specs.InterfacesView.{Notes, name_in, interface_in}
 use Rattle.gr_declared.specs.declared.interfaces.Interfaces.{Interfaces}
 use Rattle.gr_declared.proofs.ByteKeys.{cases_bytes}
-use Rattle.gr_verdict.specs.Found.{is_unknown, known_by}
+use Rattle.gr_verdict.specs.Told.{is_unknown, known_by}
 use Rattle.gr_verdict.specs.Verdicts.{BuildsOn, Verdicts, IsStateOf, is_missing, AreStates, IsSeenAs, AreSeen}
 use Rattle.gr_verdict.specs.Steps.{KnowsSameOfOthers}
 use Rattle.gr_verdict.proofs.Closed.{imports_closed}
@@ -23,13 +23,15 @@ pub record AreNoted (w : Workspace) (known : Verdicts) (p : List ℕ) (numbers :
   pub noted : (n : ℕ) (q : List ℕ) → Contains numbers n → slice_get (package_paths w) n ≡ Some q → IsStateOf w known p q (state q)
   pub others : (q : List ℕ) → (Contains (package_paths w) q → ⊥) → state q ≡ Missing
 
-pub none_noted : (w : Workspace) (known : Verdicts) (p : List ℕ) (numbers : List ℕ) (state : List ℕ → ImportState) → numbers ≡ [] → ((q : List ℕ) → state q ≡ Missing) → AreNoted w known p numbers state
+pub none_noted : (w : Workspace) (known : Verdicts) (p : List ℕ) (numbers : List ℕ) (state : List ℕ → ImportState) → numbers ≡ [] →
+    ((q : List ℕ) → state q ≡ Missing) → AreNoted w known p numbers state
 none_noted w known p numbers state e missing = record {
   noted = λ n q c at. absurd (nothing_in n (subst (λ l. Contains l n) e c));
   others = λ q none. missing q;
 }
 
-pub noted_next : (w : Workspace) (known : Verdicts) (p : List ℕ) (xs ys : List ℕ) (n : ℕ) (q : List ℕ) → slice_get (package_paths w) n ≡ Some q → ((m : ℕ) → Contains ys m → Contains xs m ⊎ (n ≡ m)) →
+pub noted_next : (w : Workspace) (known : Verdicts) (p : List ℕ) (xs ys : List ℕ) (n : ℕ) (q : List ℕ) → slice_get (package_paths w) n ≡ Some q →
+    ((m : ℕ) → Contains ys m → Contains xs m ⊎ (n ≡ m)) →
     (old new : List ℕ → ImportState) (s : ImportState) → Notes old new q s → IsStateOf w known p q s → AreNoted w known p xs old → AreNoted w known p ys new
 noted_next w known p xs ys n q at more old new s notes is h = record {
   noted = λ m r c at_m. elim (cases_bytes r q) [
@@ -42,7 +44,8 @@ noted_next w known p xs ys n q at more old new s notes is h = record {
   others = λ r none. notes.elsewhere r (λ e. none (subst (Contains (package_paths w)) (sym e) (at_contains w n q at))) ∙ h.others r none;
 }
 
-pub all_noted : (w : Workspace) (known : Verdicts) (p : List ℕ) (numbers : List ℕ) (state : List ℕ → ImportState) → HoldsPackages w (PackageImports w p) numbers → AreNoted w known p numbers state → AreStates w known p state
+pub all_noted : (w : Workspace) (known : Verdicts) (p : List ℕ) (numbers : List ℕ) (state : List ℕ → ImportState) →
+    HoldsPackages w (PackageImports w p) numbers → AreNoted w known p numbers state → AreStates w known p state
 all_noted w known p numbers state holds h q imports = elim (cases_contains (package_paths w) q) [
   | inl has ↦ (let n = number w q has in h.noted n.0 q ((holds n.0).1 (q, n.1, imports)) n.1)
   | inr none ↦ subst (IsStateOf w known p q) (sym (h.others q none)) (is_missing none)
@@ -50,7 +53,8 @@ all_noted w known p numbers state holds h q imports = elim (cases_contains (pack
 
 -- what an imported package is
 
-pub builds_by : (w : Workspace) (p q : List ℕ) (n : ℕ) → slice_get (package_paths w) n ≡ Some q → PackageImports w p q → (IsInClosure w q p → ⊥) → BuildsOn w p q
+pub builds_by : (w : Workspace) (p q : List ℕ) (n : ℕ) → slice_get (package_paths w) n ≡ Some q → PackageImports w p q → (IsInClosure w q p → ⊥) →
+    BuildsOn w p q
 builds_by w p q n at imports not_back = record { imported = imports_closed w p q imports (at_contains w n q at); not_back = not_back }
 
 pub unknown_by : (all : Interfaces) (q : List ℕ) → name_in all q ≡ None → (known_by all q).faulty ≡ true
@@ -61,6 +65,7 @@ known_as all q name e = ap is_unknown e
 
 -- what is seen stays while imports are noted
 
-pub seen_still : (w : Workspace) (known : Verdicts) (p : List ℕ) (old new : Interfaces) → KnowsSameOfOthers old new → AreSeen w known p (name_in old) (interface_in old) → AreSeen w known p (name_in new) (interface_in new)
+pub seen_still : (w : Workspace) (known : Verdicts) (p : List ℕ) (old new : Interfaces) → KnowsSameOfOthers old new →
+    AreSeen w known p (name_in old) (interface_in old) → AreSeen w known p (name_in new) (interface_in new)
 seen_still w known p old new same h q =
     subst (λ n. IsSeenAs w known p q n (interface_in new q)) (sym (same.names q)) (subst (IsSeenAs w known p q (name_in old q)) (sym (same.interfaces q)) (h q))

@@ -36,15 +36,18 @@ use Rattle.gr_verdict.proofs.OneSeen.{one_names, one_interfaces}
 
 pub one_sources : {es : List (List ℕ × List ℕ)} {ts us : List FileParts} → AreParsed es ts [] → AreParsed es us [] → map source_of ts ≡ map source_of us
 one_sources none none = refl
-one_sources (tree {e = e} {t = t} is rest) (tree {t = u} so others) = ap₂ (λ s ss. s ∷ ss) (one_file e.0 e.1 (source_of t) (source_of u) is so) (one_sources rest others)
+one_sources (tree {e = e} {t = t} is rest) (tree {t = u} so others) =
+    ap₂ (λ s ss. s ∷ ss) (one_file e.0 e.1 (source_of t) (source_of u) is so) (one_sources rest others)
 
 numbered : {es : List (List ℕ × List ℕ)} {ts : List FileParts} → AreParsed es ts [] → AreNumbered (map spelled_file ts)
 numbered none = All-nil IsNumbered
 numbered (tree {t = t} {ts = ts} is rest) = All-cons IsNumbered (spelled_file t) (map spelled_file ts) (file_numbered t is.is_file) (numbered rest)
 
-in_order : {es : List (List ℕ × List ℕ)} {ts : List FileParts} → AreParsed es ts [] → (file : ℕ) (s : SourceFile) → slice_get (map source_of ts) file ≡ Some s → AreRising 0 (flatten s.tree)
+in_order : {es : List (List ℕ × List ℕ)} {ts : List FileParts} → AreParsed es ts [] → (file : ℕ) (s : SourceFile) →
+    slice_get (map source_of ts) file ≡ Some s → AreRising 0 (flatten s.tree)
 in_order none file s at = absurd (none-some s at)
-in_order (tree {t = t} is rest) zero s at = subst (λ (z : SourceFile). AreRising 0 (flatten z.tree)) (same_Some (source_of t) s at) (file_numbered t is.is_file).rising
+in_order (tree {t = t} is rest) zero s at = subst (λ (z : SourceFile). AreRising 0 (flatten z.tree)) (same_Some (source_of t) s at)
+    (file_numbered t is.is_file).rising
 in_order (tree is rest) (suc k) s at = in_order rest k s at
 
 -- which of the files' trees a package is made of does not matter, but only what they stand for
@@ -100,7 +103,8 @@ layout_formed w known p c h =
     let names = own.is_laid.names in
     let sites = package_sites (map spelled_file h.files) in
     let plain : WellFormed (sites_layout sites) = package_well_formed (map spelled_file h.files) (numbered h.parsed) in
-    let laid : WellFormed (sites_layout (named_sites names sites)) = named_well_formed names sites plain (package_level (map spelled_file h.files) (numbered h.parsed)) in
+    let laid : WellFormed (sites_layout (named_sites names sites)) =
+    named_well_formed names sites plain (package_level (map spelled_file h.files) (numbered h.parsed)) in
     let is : c.layout ≡ sites_layout (named_sites names sites) = ap (λ (x : Package). x.layout) own.is_package ∙ ap layout_in own.is_laid.is_named in
     subst WellFormed (sym is) laid
 
@@ -111,21 +115,27 @@ files_in_order w known p c h =
 
 -- one interface
 
-exported_match : (p : Package) (name : List ℕ) (o : Option Export) → IsExported p name o → MatchOption o ((e : Export) → IsExport p name e → ⊥) (λ e. IsExport p name e)
+exported_match : (p : Package) (name : List ℕ) (o : Option Export) → IsExported p name o →
+    MatchOption o ((e : Export) → IsExport p name e → ⊥) (λ e. IsExport p name e)
 exported_match p name None h = h
 exported_match p name (Some e) h = h
 
-one_exported : (p : Package) → WellFormed p.layout → AreInOrder p.files → (name : List ℕ) (o u : Option Export) → IsExported p name o → IsExported p name u → o ≡ u
+one_exported : (p : Package) → WellFormed p.layout → AreInOrder p.files → (name : List ℕ) (o u : Option Export) → IsExported p name o →
+    IsExported p name u → o ≡ u
 one_exported p formed rising name o u a b =
     one_found (IsExport p name) (one_export p (one_meaning p formed rising) name) o u (exported_match p name o a) (exported_match p name u b)
 
-one_defined : (p : Package) → WellFormed p.layout → (i j : Interface) → IsInterface p i → IsInterface p j → (rank : ℕ) (o : Option PlacedType) → slice_get (package_types p) rank ≡ o →
+one_defined : (p : Package) → WellFormed p.layout → (i j : Interface) → IsInterface p i → IsInterface p j → (rank : ℕ) (o : Option PlacedType) →
+    slice_get (package_types p) rank ≡ o →
     i.definition rank ≡ j.definition rank
 one_defined p formed i j a b rank None e = a.beyond rank e ∙ sym (b.beyond rank e)
-one_defined p formed i j a b rank (Some d) e = one_definition p formed rank (i.definition rank) (j.definition rank) (a.definitions rank d e) (b.definitions rank d e)
+one_defined p formed i j a b rank (Some d) e = one_definition p formed rank (i.definition rank) (j.definition rank) (a.definitions rank d e)
+    (b.definitions rank d e)
 
 pub one_interface : (p : Package) → WellFormed p.layout → AreInOrder p.files → (i j : Interface) → IsInterface p i → IsInterface p j → i ≡ j
 one_interface p formed rising i j a b =
     ap (λ n. record { name = n; exported = i.exported; definition = i.definition }) (a.name ∙ sym b.name) ∙
-    ap (λ x. record { name = j.name; exported = x; definition = i.definition }) (fun_ext (λ name. one_exported p formed rising name (i.exported name) (j.exported name) (a.exported name) (b.exported name))) ∙
-    ap (λ d. record { name = j.name; exported = j.exported; definition = d }) (fun_ext (λ rank. one_defined p formed i j a b rank (slice_get (package_types p) rank) refl))
+    ap (λ x. record { name = j.name; exported = x; definition = i.definition })
+    (fun_ext (λ name. one_exported p formed rising name (i.exported name) (j.exported name) (a.exported name) (b.exported name))) ∙
+    ap (λ d. record { name = j.name; exported = j.exported; definition = d })
+    (fun_ext (λ rank. one_defined p formed i j a b rank (slice_get (package_types p) rank) refl))

@@ -18,7 +18,8 @@ same_tests false false f g = refl
 same_interface : (w : Workspace) (known : Verdicts) (p : List ℕ) (i j : Interface) → HasInterface w known p i → HasInterface w known p j → i ≡ j
 same_interface w known p i j a b =
     let same : b.checked ≡ a.checked = one_checked w known p b.checked a.checked b.is_package a.is_package in
-    one_interface a.checked (layout_formed w known p a.checked a.is_package) (files_in_order w known p a.checked a.is_package) i j a.is_interface (subst (λ c. IsInterface c j) same b.is_interface)
+    one_interface a.checked (layout_formed w known p a.checked a.is_package) (files_in_order w known p a.checked a.is_package) i j a.is_interface
+    (subst (λ c. IsInterface c j) same b.is_interface)
 
 same_by : (w : Workspace) (known : Verdicts) (p : List ℕ) (v u : Verdict) → IsVerdictBy w known p v → IsVerdictBy w known p u → IsSameVerdict v u
 same_by w known p v u a b =
@@ -41,7 +42,8 @@ right_below w known right p = λ q on. right q (to_package w p q on.imported)
 pub verdict_by : (w : Workspace) (p : List ℕ) (known : Verdicts) (v : Verdict) → AreVerdictsBelow w p known → IsVerdict w p v → IsVerdictBy w known p v
 verdict_by w p known v right (follows a below by) = verdict_as w p a known (right_alike w p a known below right) v by
 
-pub checked_as_one : (w : Workspace) (p : List ℕ) (a b : Verdicts) → AreVerdictsBelow w p a → AreVerdictsBelow w p b → (x y : Package) → IsPackageIn w a p x → IsPackageIn w b p y → x ≡ y
+pub checked_as_one : (w : Workspace) (p : List ℕ) (a b : Verdicts) → AreVerdictsBelow w p a → AreVerdictsBelow w p b → (x y : Package) →
+    IsPackageIn w a p x → IsPackageIn w b p y → x ≡ y
 checked_as_one w p a b right also x y h k = one_checked w b p x y (package_as w p a b (right_alike w p a b right also) x h) k
 
 -- one of which no fault is one is not faulty

@@ -55,11 +55,13 @@ some_folder paths q h =
 
 pub package_file : (w : Workspace) (p : List ℕ) → Contains (package_paths w) p → (e : List ℕ × List ℕ) × Contains (package_files w p) e
 package_file w p h =
-    let at = mapped folder (filter is_go (map (λ (e : List ℕ × List ℕ). e.0) (entries w))) p (some_folder (filter is_go (map (λ (e : List ℕ × List ℕ). e.0) (entries w))) p h) in
+    let at = mapped folder (filter is_go (map (λ (e : List ℕ × List ℕ). e.0) (entries w))) p
+    (some_folder (filter is_go (map (λ (e : List ℕ × List ℕ). e.0) (entries w))) p h) in
     let go = passes is_go (map (λ (e : List ℕ × List ℕ). e.0) (entries w)) at.0 at.1.0 in
     let file = mapped (λ (e : List ℕ × List ℕ). e.0) (entries w) at.0 go.1 in
     let is_of : (is_go file.0.0 && pointwise ◌==◌ (folder file.0.0) p) ≡ true =
-    and_from (is_go file.0.0) (pointwise ◌==◌ (folder file.0.0) p) (ap is_go file.1.1 ∙ go.0) ((bytes_decides (folder file.0.0) p).1 (ap folder file.1.1 ∙ at.1.1)) in
+    and_from (is_go file.0.0) (pointwise ◌==◌ (folder file.0.0) p) (ap is_go file.1.1 ∙ go.0)
+    ((bytes_decides (folder file.0.0) p).1 (ap folder file.1.1 ∙ at.1.1)) in
     (file.0, passed (λ (e : List ℕ × List ℕ). is_of_package p e.0) (entries w) file.0 is_of file.1.0)
 
 pub some_tree : {es : List (List ℕ × List ℕ)} {ts : List FileParts} → AreParsed es ts [] → (e : List ℕ × List ℕ) → Contains es e → 0 < length ts

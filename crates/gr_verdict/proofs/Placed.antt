@@ -12,7 +12,8 @@ use Rattle.gr_verdict.proofs.Members.{nothing_in, taken_or_next, still_taken, ne
 
 -- one fault
 
-pub placed_as : (s : SourceFile) (x : Fault) (y : FileFault) → y.place.path ≡ s.path → y.place.offset ≡ offset_of s x.token → y.kind ≡ x.kind → y ≡ placed_in s x
+pub placed_as : (s : SourceFile) (x : Fault) (y : FileFault) → y.place.path ≡ s.path → y.place.offset ≡ offset_of s x.token → y.kind ≡ x.kind →
+    y ≡ placed_in s x
 placed_as s x y path offset kind i = record { place = record { path = path i; offset = offset i }; kind = kind i }
 
 pub placed_nowhere : (files : List FileParts) (x : Fault) (old : List FileFault) → slice_get files x.file ≡ None → AddsPlaced files x old old
@@ -21,7 +22,8 @@ placed_nowhere files x old gone f = (
   λ h. elim h [ inl c ↦ c | inr p ↦ absurd (none-some p.source (sym (slice_get-map source_of files x.file ∙ ap (option_map source_of) gone) ∙ p.in_file)) ],
 )
 
-pub placed_here : (files : List FileParts) (x : Fault) (file : FileParts) (old new : List FileFault) (y : FileFault) → slice_get files x.file ≡ Some file → y ≡ placed_in (source_of file) x → new ≡ old ++ y ∷ [] →
+pub placed_here : (files : List FileParts) (x : Fault) (file : FileParts) (old new : List FileFault) (y : FileFault) → slice_get files x.file ≡ Some file →
+    y ≡ placed_in (source_of file) x → new ≡ old ++ y ∷ [] →
     AddsPlaced files x old new
 placed_here files x file old new y at is e f =
     let source : slice_get (map source_of files) x.file ≡ Some (source_of file) = slice_get-map source_of files x.file ∙ ap (option_map source_of) at in (
@@ -39,13 +41,15 @@ placed_here files x file old new y at is e f =
 
 -- those that were passed
 
-pub none_placed : (files : List FileParts) (faults : List Fault) (found : List FileFault) → faults ≡ [] → found ≡ [] → (f : FileFault) → Contains found f ↔ IsPlacedOf files faults f
+pub none_placed : (files : List FileParts) (faults : List Fault) (found : List FileFault) → faults ≡ [] → found ≡ [] → (f : FileFault) →
+    Contains found f ↔ IsPlacedOf files faults f
 none_placed files faults found none empty f = (
   λ c. absurd (nothing_in f (subst (λ l. Contains l f) empty c)),
   λ h. absurd (nothing_in h.fault (subst (λ l. Contains l h.fault) none h.among)),
 )
 
-pub next_placed : (files : List FileParts) (faults : List Fault) (k : ℕ) (d x : Fault) → k < length faults → x ≡ get_or faults k d → (old new : List FileFault) → ((f : FileFault) → Contains old f ↔ IsPlacedOf files (take k faults) f) →
+pub next_placed : (files : List FileParts) (faults : List Fault) (k : ℕ) (d x : Fault) → k < length faults → x ≡ get_or faults k d →
+    (old new : List FileFault) → ((f : FileFault) → Contains old f ↔ IsPlacedOf files (take k faults) f) →
     AddsPlaced files x old new → (f : FileFault) → Contains new f ↔ IsPlacedOf files (take (k + 1) faults) f
 next_placed files faults k d x lt is old new before adds f = (
   λ c. elim ((adds f).0 c) [

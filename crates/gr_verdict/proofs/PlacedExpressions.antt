@@ -2,10 +2,13 @@
 use Rattle.std.proofs.Common.{ℕ, List, [], ◌∷◌, ◌++◌}
 use Rattle.std.specs.Prelude.{Option, Some, None}
 use Rattle.std.specs.List.{flat_map}
-use Rattle.gr_tree.specs.Tree.{Item, TypeTree, Local, Imported, Pointer, Slice, ExprTree, Number, Text, Name, Blank, Composite, Paren, Prefix, Address, Chain, Binary, OperandTrees, no_operand, operand, LinkTrees, no_link, selector, index, call, ArgumentTrees, no_argument, argument, LiteralTree, literal, ElementTrees, no_element, element}
+use Rattle.gr_tree.specs.Tree.{Item, TypeTree, Local, Imported, Pointer, Slice, ExprTree, Number, Text, Name, Blank, Composite, Paren, Prefix, Address}
+use Rattle.gr_tree.specs.Tree.{Chain, Binary, OperandTrees, no_operand, operand, LinkTrees, no_link, selector, index, call, ArgumentTrees, no_argument}
+use Rattle.gr_tree.specs.Tree.{argument, LiteralTree, literal, ElementTrees, no_element, element}
 use Rattle.gr_scope.specs.declared.model.Role.{Role}
 use Rattle.gr_scope.specs.Site.{Site, Source, site}
-use Rattle.gr_scope.specs.ExpressionSites.{sites_if, list_sites, type_sites, key_sites, expr_sites, operand_sites, link_sites, argument_sites, literal_sites, element_sites, exprs_sites}
+use Rattle.gr_scope.specs.ExpressionSites.{sites_if, list_sites, type_sites, key_sites, expr_sites, operand_sites, link_sites, argument_sites}
+use Rattle.gr_scope.specs.ExpressionSites.{literal_sites, element_sites, exprs_sites}
 use Rattle.gr_scope.proofs.Regions.{Each, each_append}
 
 pub each_listed : (P : Site → Type 0) {X : Type 0} (f : X → List Site) → ((x : X) → Each P (f x)) → (xs : List (Item X)) → Each P (list_sites f xs)

@@ -16,7 +16,8 @@ unfolding files_sites
 in_files n rank [] le = tt
 in_files n rank (f ∷ fs) le =
     let s : Source = record { rank = rank; spell = f.spell } in
-    each_append (StandsBelow n) (file_sites s f.tree) (files_sites (suc rank) fs) (in_file s (StandsBelow n) (λ i role. (let lt : rank < n = omega arith in lt)) f.tree)
+    each_append (StandsBelow n) (file_sites s f.tree) (files_sites (suc rank) fs)
+    (in_file s (StandsBelow n) (λ i role. (let lt : rank < n = omega arith in lt)) f.tree)
     (in_files n (suc rank) fs (omega arith))
 
 in_universe : (n : ℕ) → 0 < n → (names : List (List ℕ)) → Each (StandsBelow n) (map universe_site names)
@@ -27,4 +28,5 @@ in_universe n lt (x ∷ xs) = (lt, in_universe n lt xs)
 pub stands_in_file : (fs : List SpelledFile) → 0 < length fs → Each (StandsBelow (length fs)) (package_sites fs)
 unfolding package_sites
 stands_in_file fs lt =
-    each_append (StandsBelow (length fs)) (map universe_site universe) (files_sites 0 fs) (in_universe (length fs) lt universe) (in_files (length fs) 0 fs (omega arith))
+    each_append (StandsBelow (length fs)) (map universe_site universe) (files_sites 0 fs) (in_universe (length fs) lt universe)
+    (in_files (length fs) 0 fs (omega arith))

@@ -1,14 +1,18 @@
 -- The same of statements.
 use Rattle.std.proofs.Common.{ℕ, List, ◌++◌}
 use Rattle.std.specs.Option.{unwrap_or}
-use Rattle.gr_tree.specs.Tree.{Item, Group, single, several, IdentTree, Named, Underscore, ExprTree, Number, Text, Name, Blank, Composite, Paren, Prefix, Address, Chain, Binary, SimpleTree, Alone, Step, Update, Assign, Define, LocalTree, InitTree, ForTree, forever, while, clauses, StatementTree, Empty, Var, Simple, Inner, If, For, Break, Continue, Return, BlockTree, block, StatementTrees, no_statement, statement, IfTree, if_tree, ElseTree, no_else, else_if, else_block}
+use Rattle.gr_tree.specs.Tree.{Item, Group, single, several, IdentTree, Named, Underscore, ExprTree, Number, Text, Name, Blank, Composite, Paren, Prefix}
+use Rattle.gr_tree.specs.Tree.{Address, Chain, Binary, SimpleTree, Alone, Step, Update, Assign, Define, LocalTree, InitTree, ForTree, forever, while}
+use Rattle.gr_tree.specs.Tree.{clauses, StatementTree, Empty, Var, Simple, Inner, If, For, Break, Continue, Return, BlockTree, block, StatementTrees}
+use Rattle.gr_tree.specs.Tree.{no_statement, statement, IfTree, if_tree, ElseTree, no_else, else_if, else_block}
 use Rattle.gr_scope.specs.declared.model.Block.{Block}
 use Rattle.gr_scope.specs.declared.model.Block.TheVariants as blocks
 use Rattle.gr_scope.specs.declared.model.Role.{Role}
 use Rattle.gr_scope.specs.declared.model.Role.TheVariants.{Declaring}
 use Rattle.gr_scope.specs.Site.{Site, Source, site}
 use Rattle.gr_scope.specs.ExpressionSites.{sites_if, list_sites, type_sites, expr_sites, exprs_sites}
-use Rattle.gr_scope.specs.StatementSites.{ident_sites, left_sites, assigned_sites, simple_sites, value_sites, local_sites, separated_sites, group_sites, init_sites, for_sites, open_of, statement_sites, block_sites, statements_sites, if_sites, else_sites}
+use Rattle.gr_scope.specs.StatementSites.{ident_sites, left_sites, assigned_sites, simple_sites, value_sites, local_sites, separated_sites, group_sites}
+use Rattle.gr_scope.specs.StatementSites.{init_sites, for_sites, open_of, statement_sites, block_sites, statements_sites, if_sites, else_sites}
 use Rattle.gr_scope.proofs.Regions.{Each, each_append}
 use Rattle.gr_verdict.proofs.PlacedExpressions.{each_listed, each_flat, each_perhaps, in_type, in_expr, in_exprs}
 
@@ -48,9 +52,11 @@ module _ (s : Source) (P : Site → Type 0) (all : (i : ℕ) (role : Role) → P
   in_simple b following (Alone e) = (in_expr s P all) e
   in_simple b following (Step e op p) = (in_expr s P all) e
   in_simple b following (Update e op p f) = each_append P (expr_sites s e) (expr_sites s f) ((in_expr s P all) e) ((in_expr s P all) f)
-  in_simple b following (Assign es p fs) = each_append P (list_sites (assigned_sites s) es) (exprs_sites s fs) (each_listed P (assigned_sites s) in_assigned es) ((in_exprs s P all) fs)
+  in_simple b following (Assign es p fs) = each_append P (list_sites (assigned_sites s) es) (exprs_sites s fs)
+      (each_listed P (assigned_sites s) in_assigned es) ((in_exprs s P all) fs)
   in_simple b following (Define es p fs) =
-      each_append P (list_sites (left_sites s b following) es) (exprs_sites s fs) (each_listed P (left_sites s b following) (in_left b following) es) ((in_exprs s P all) fs)
+      each_append P (list_sites (left_sites s b following) es) (exprs_sites s fs) (each_listed P (left_sites s b following) (in_left b following) es)
+      ((in_exprs s P all) fs)
 
   in_value : (v : ℕ × List (Item ExprTree)) → Each P (value_sites s v)
   in_value v = (in_exprs s P all) v.1
@@ -60,9 +66,11 @@ module _ (s : Source) (P : Site → Type 0) (all : (i : ℕ) (role : Role) → P
   in_local b following l =
       each_append P (list_sites (ident_sites s (Declaring b following)) l.names) (sites_if (type_sites s) l.type_use ++ sites_if (value_sites s) l.values)
       (each_listed P (ident_sites s (Declaring b following)) (in_ident (Declaring b following)) l.names)
-      (each_append P (sites_if (type_sites s) l.type_use) (sites_if (value_sites s) l.values) (each_perhaps P (type_sites s) (in_type s P all) l.type_use) (each_perhaps P (value_sites s) in_value l.values))
+      (each_append P (sites_if (type_sites s) l.type_use) (sites_if (value_sites s) l.values) (each_perhaps P (type_sites s) (in_type s P all) l.type_use)
+      (each_perhaps P (value_sites s) in_value l.values))
 
-  in_separated : {X : Type 0} (f : ℕ → X → List Site) → ((n : ℕ) (x : X) → Each P (f n x)) → (close : ℕ) (xs : List (Item X)) → Each P (separated_sites f close xs)
+  in_separated : {X : Type 0} (f : ℕ → X → List Site) → ((n : ℕ) (x : X) → Each P (f n x)) → (close : ℕ) (xs : List (Item X)) →
+      Each P (separated_sites f close xs)
   unfolding separated_sites
   in_separated f h close xs = each_flat P (λ x. f (unwrap_or x.separator close) x.value) (λ x. h (unwrap_or x.separator close) x.value) xs
 
@@ -82,7 +90,8 @@ module _ (s : Source) (P : Site → Type 0) (all : (i : ℕ) (role : Role) → P
   in_for b open_brace (clauses init first condition second post) =
       each_append P (sites_if (simple_sites s b first) init) (sites_if (expr_sites s) condition ++ sites_if (simple_sites s b open_brace) post)
       (each_perhaps P (simple_sites s b first) (in_simple b first) init)
-      (each_append P (sites_if (expr_sites s) condition) (sites_if (simple_sites s b open_brace) post) (each_perhaps P (expr_sites s) (in_expr s P all) condition) (each_perhaps P (simple_sites s b open_brace) (in_simple b open_brace) post))
+      (each_append P (sites_if (expr_sites s) condition) (sites_if (simple_sites s b open_brace) post)
+      (each_perhaps P (expr_sites s) (in_expr s P all) condition) (each_perhaps P (simple_sites s b open_brace) (in_simple b open_brace) post))
 
   mutual
     unfolding statement_sites block_sites statements_sites if_sites else_sites
@@ -94,7 +103,8 @@ module _ (s : Source) (P : Site → Type 0) (all : (i : ℕ) (role : Role) → P
     in_statement b following (Inner x) = in_block x
     in_statement b following (If x) = in_if following x
     in_statement b following (For p f x) =
-        each_append P (for_sites s (blocks.Inner s.rank p following) (open_of x) f) (block_sites s x) (in_for (blocks.Inner s.rank p following) (open_of x) f) (in_block x)
+        each_append P (for_sites s (blocks.Inner s.rank p following) (open_of x) f) (block_sites s x)
+        (in_for (blocks.Inner s.rank p following) (open_of x) f) (in_block x)
     in_statement b following (Break p) = tt
     in_statement b following (Continue p) = tt
     in_statement b following (Return p es) = (in_exprs s P all) es
@@ -105,7 +115,8 @@ module _ (s : Source) (P : Site → Type 0) (all : (i : ℕ) (role : Role) → P
     in_statements : (b : Block) (close : ℕ) (xs : StatementTrees) → Each P (statements_sites s b close xs)
     in_statements b close no_statement = tt
     in_statements b close (statement x semicolon rest) =
-        each_append P (statement_sites s b (unwrap_or semicolon close) x) (statements_sites s b close rest) (in_statement b (unwrap_or semicolon close) x) (in_statements b close rest)
+        each_append P (statement_sites s b (unwrap_or semicolon close) x) (statements_sites s b close rest) (in_statement b (unwrap_or semicolon close) x)
+        (in_statements b close rest)
 
     in_if : (following : ℕ) (x : IfTree) → Each P (if_sites s following x)
     in_if following (if_tree p init e x rest) =

@@ -13,7 +13,7 @@ use Rattle.gr_declared.specs.InterfacesView.{name_in, interface_in, name_or_none
 use Rattle.gr_declared.specs.declared.interfaces.Interfaces.{Interfaces}
 use Rattle.gr_declared.proofs.ByteKeys.{cases_bytes}
 use Rattle.gr_verdict.specs.Verdicts.{BuildsOn, IsSeenAs, seen, unseen, AreSeen}
-use Rattle.gr_verdict.specs.Found.{is_unknown, known_by, AreWhole}
+use Rattle.gr_verdict.specs.Told.{is_unknown, known_by, AreWhole}
 use Rattle.gr_verdict.specs.Steps.{MayShare, IsSharedOf}
 use Rattle.gr_verdict.proofs.Closed.{to_package}
 use Rattle.gr_verdict.proofs.Members.{nothing_in}
@@ -35,7 +35,8 @@ pub record AreShared (w : Workspace) (p : List ℕ) (numbers : List ℕ) (all i 
   pub each : (r : List ℕ) → SharesOf w p numbers all i r
   pub states : (r : List ℕ) → state_in i.states r ≡ Missing
 
-pub none_shared : (w : Workspace) (p : List ℕ) (numbers : List ℕ) (all i : Interfaces) → numbers ≡ [] → ((r : List ℕ) → name_in i r ≡ None) → ((r : List ℕ) → interface_in i r ≡ no_interface r) → ((r : List ℕ) → state_in i.states r ≡ Missing) →
+pub none_shared : (w : Workspace) (p : List ℕ) (numbers : List ℕ) (all i : Interfaces) → numbers ≡ [] → ((r : List ℕ) → name_in i r ≡ None) →
+    ((r : List ℕ) → interface_in i r ≡ no_interface r) → ((r : List ℕ) → state_in i.states r ≡ Missing) →
     AreShared w p numbers all i
 none_shared w p numbers all i e names interfaces states = record {
   each = λ r. inr (λ s. nothing_in s.number (subst (λ l. Contains l s.number) e s.among), record { name = names r; interface = interfaces r });
@@ -44,7 +45,8 @@ none_shared w p numbers all i e names interfaces states = record {
 
 -- one package further
 
-module _ (w : Workspace) (p : List ℕ) (xs ys : List ℕ) (n : ℕ) (q : List ℕ) (at : slice_get (package_paths w) n ≡ Some q) (more : (m : ℕ) → Contains ys m → Contains xs m ⊎ (n ≡ m)) (keeps : (m : ℕ) → Contains xs m → Contains ys m)
+module _ (w : Workspace) (p : List ℕ) (xs ys : List ℕ) (n : ℕ) (q : List ℕ) (at : slice_get (package_paths w) n ≡ Some q)
+    (more : (m : ℕ) → Contains ys m → Contains xs m ⊎ (n ≡ m)) (keeps : (m : ℕ) → Contains xs m → Contains ys m)
     (here : Contains ys n) (all old new : Interfaces) where
   still : (r : List ℕ) → IsSharedOf w p xs r → IsSharedOf w p ys r
   still r s = record { number = s.number; among = keeps s.number s.among; has_path = s.has_path; builds_on = s.builds_on }
@@ -96,7 +98,8 @@ module _ (w : Workspace) (p : List ℕ) (xs ys : List ℕ) (n : ℕ) (q : List �
 
 -- all packages of the closure
 
-seen_by : (w : Workspace) (p : List ℕ) (all i : Interfaces) (r : List ℕ) → AreWhole all → BuildsOn w p r → IsKnownAs all i r → (o : Option (List ℕ)) → name_in all r ≡ o → IsSeenAs w (known_by all) p r (name_in i r) (interface_in i r)
+seen_by : (w : Workspace) (p : List ℕ) (all i : Interfaces) (r : List ℕ) → AreWhole all → BuildsOn w p r → IsKnownAs all i r → (o : Option (List ℕ)) →
+    name_in all r ≡ o → IsSeenAs w (known_by all) p r (name_in i r) (interface_in i r)
 seen_by w p all i r whole on h (Some n) e =
     let is : Some (interface_in all r).name ≡ name_in i r = ap (λ o. Some (name_or_none o)) e ∙ sym (h.name ∙ e) in
     subst (λ x. IsSeenAs w (known_by all) p r (name_in i r) x) (sym h.interface)
@@ -105,12 +108,14 @@ seen_by w p all i r whole on h None e =
     subst (λ x. IsSeenAs w (known_by all) p r (name_in i r) x) (sym (h.interface ∙ whole r e))
     (subst (λ m. IsSeenAs w (known_by all) p r m (no_interface r)) (sym (h.name ∙ e)) (unseen (λ also. ap is_unknown e)))
 
-unseen_by : (w : Workspace) (p : List ℕ) (all i : Interfaces) (r : List ℕ) → (BuildsOn w p r → ⊥) → IsNothing i r → IsSeenAs w (known_by all) p r (name_in i r) (interface_in i r)
+unseen_by : (w : Workspace) (p : List ℕ) (all i : Interfaces) (r : List ℕ) → (BuildsOn w p r → ⊥) → IsNothing i r →
+    IsSeenAs w (known_by all) p r (name_in i r) (interface_in i r)
 unseen_by w p all i r not h =
     subst (λ x. IsSeenAs w (known_by all) p r (name_in i r) x) (sym h.interface)
     (subst (λ m. IsSeenAs w (known_by all) p r m (no_interface r)) (sym h.name) (unseen (λ on. absurd (not on))))
 
-pub all_seen : (w : Workspace) (p : List ℕ) (numbers : List ℕ) (all i : Interfaces) → HoldsPackages w (IsInClosure w p) numbers → AreWhole all → AreShared w p numbers all i → AreSeen w (known_by all) p (name_in i) (interface_in i)
+pub all_seen : (w : Workspace) (p : List ℕ) (numbers : List ℕ) (all i : Interfaces) → HoldsPackages w (IsInClosure w p) numbers → AreWhole all →
+    AreShared w p numbers all i → AreSeen w (known_by all) p (name_in i) (interface_in i)
 all_seen w p numbers all i holds whole h r = elim (h.each r) [
   | inl s ↦ seen_by w p all i r whole s.0.builds_on s.1 (name_in all r) refl
   | inr s ↦ unseen_by w p all i r (λ on.

@@ -1,5 +1,6 @@
 -- What a package builds on reaches fewer than it, so an order by how many each reaches has each behind those.
-use Rattle.std.proofs.Common.{ℕ, ◌≡◌, ◌+◌, ◌<◌, ◌≤◌, ◌↔◌, inl, inr, Bool, false, List, [], ◌∷◌, ◌++◌, length, get_or, sym, ap, subst, ◌∙◌, arith, Result, Ok, Err, is_ok, IsTrue, MatchResult}
+use Rattle.std.proofs.Common.{ℕ, ◌≡◌, ◌+◌, ◌<◌, ◌≤◌, ◌↔◌, inl, inr, Bool, false, List, [], ◌∷◌, ◌++◌, length, get_or, sym, ap, subst, ◌∙◌, arith, Result}
+use Rattle.std.proofs.Common.{Ok, Err, is_ok, IsTrue, MatchResult}
 use Rattle.std.specs.Prelude.{Contains, nat_eq, Some, slice_get}
 use Rattle.std.specs.Cmp.{nat_eq_equiv}
 use Rattle.std.specs.List.{IsDistinct}
@@ -10,7 +11,8 @@ use Rattle.std.proofs.lemmas.Bool.Decides.{Decides-eqb}
 use Rattle.std.proofs.lemmas.List.{get_or_default, get_or_append_left, get_or_push, length_push}
 use Rattle.std.proofs.lemmas.List.Elements.{Contains-get_or, recursion_from_All}
 use Rattle.std.proofs.lemmas.List.Sorted.{Contains-permutation, IsPermutation-sym, searched}
-use Rattle.std.proofs.lemmas.Map.Keys.{IsDistinct-IsPermutation, IsDistinct-cons, apart_from_distinct, sorted_from_strictly_increasing, non_decreasing_from_sorted}
+use Rattle.std.proofs.lemmas.Map.Keys.{IsDistinct-IsPermutation, IsDistinct-cons, apart_from_distinct, sorted_from_strictly_increasing}
+use Rattle.std.proofs.lemmas.Map.Keys.{non_decreasing_from_sorted, IsDistinct-from_apart, below_from_sorted}
 use Rattle.std.proofs.lemmas.Map.Made.{length-le_from_is_member, is_member-Decides}
 use Rattle.std.proofs.lemmas.Option.{same_Some, get_or_from_slice_get, slice_get-get_or, slice_get_within}
 use Rattle.gr_text.specs.Workspace.{Workspace}
@@ -18,16 +20,22 @@ use Rattle.gr_text.specs.Packages.{package_paths}
 use Rattle.gr_graph.specs.Imports.{HoldsBelow}
 use Rattle.gr_graph.specs.Packages.{IsInClosure, itself}
 use Rattle.gr_graph.proofs.Asked.{number}
-use Rattle.gr_graph.proofs.Ordered.{distinct_rising}
 use Rattle.gr_verdict.specs.Verdicts.{BuildsOn}
 use Rattle.gr_verdict.specs.Steps.{IsSize, AreSizes, IsBuildOrder}
 use Rattle.gr_verdict.proofs.Closed.{from_package, in_closure_then}
 use Rattle.gr_verdict.proofs.Members.{first_or_later}
 
+-- numbers in order differ
+distinct_rising : (xs : List ℕ) → IsStrictlyIncreasing xs → IsDistinct nat_eq xs
+distinct_rising xs up =
+    IsDistinct-from_apart nat_eq xs (λ i j d h l. ne_eqb (get_or xs i d) (get_or xs j d)
+    (λ e. absurd (omega (arith, below_from_sorted xs i j d (sorted_from_strictly_increasing xs up) h l))))
+
 -- what a search among numbers that rise finds
 
 among_by : (xs : List ℕ) (x : ℕ) (r : Result ℕ ℕ) (b : Bool) →
-    MatchResult r (λ i. (i < length xs) × (get_or xs i 0 ≡ x)) (λ i. (i ≤ length xs) × ((k : ℕ) → k < i → get_or xs k 0 < x) × ((k : ℕ) → i ≤ k → k < length xs → x < get_or xs k 0)) →
+    MatchResult r (λ i. (i < length xs) × (get_or xs i 0 ≡ x))
+    (λ i. (i ≤ length xs) × ((k : ℕ) → k < i → get_or xs k 0 < x) × ((k : ℕ) → i ≤ k → k < length xs → x < get_or xs k 0)) →
     b ≡ is_ok r → IsTrue b ↔ Contains xs x
 among_by xs x (Ok i) b s e = (λ t. (i, s.0, get_or_default xs i x 0 s.0 ∙ s.1), λ h. e)
 among_by xs x (Err i) b s e = (
@@ -41,7 +49,8 @@ among_by xs x (Err i) b s e = (
       ],
 )
 
-pub among : (xs : List ℕ) (x : ℕ) (r : Result ℕ ℕ) (b : Bool) → IsStrictlyIncreasing xs → IsBinarySearchResult (λ y. nat_cmp y x) xs r → b ≡ is_ok r → IsTrue b ↔ Contains xs x
+pub among : (xs : List ℕ) (x : ℕ) (r : Result ℕ ℕ) (b : Bool) → IsStrictlyIncreasing xs → IsBinarySearchResult (λ y. nat_cmp y x) xs r → b ≡ is_ok r →
+    IsTrue b ↔ Contains xs x
 among xs x r b up is e =
     among_by xs x r b (searched xs x r is (λ i j le lt. non_decreasing_from_sorted xs (sorted_from_strictly_increasing xs up) i j 0 le lt)) e
 
@@ -54,13 +63,16 @@ fewer w p q a b on hp hq =
     let apart : (y : ℕ) → Contains hq.numbers y → nat_eq n.0 y ≡ false = λ y c. ne_eqb n.0 y (λ e.
     let r = (hq.holds n.0).0 (subst (Contains hq.numbers) (sym e) c) in
     on.not_back (subst (IsInClosure w q) (same_Some r.0 p (sym r.1 ∙ n.1)) r.2)) in
-    let distinct = IsDistinct-cons nat_eq n.0 hq.numbers (recursion_from_All (λ y. nat_eq n.0 y ≡ false) hq.numbers (λ k d l. apart (get_or hq.numbers k d) (Contains-get_or hq.numbers k d l))) (distinct_rising hq.numbers hq.rising) in
+    let distinct = IsDistinct-cons nat_eq n.0 hq.numbers
+    (recursion_from_All (λ y. nat_eq n.0 y ≡ false) hq.numbers (λ k d l. apart (get_or hq.numbers k d) (Contains-get_or hq.numbers k d l)))
+    (distinct_rising hq.numbers hq.rising) in
     let within : (x : ℕ) → Contains (n.0 ∷ hq.numbers) x → Contains hp.numbers x = λ x c. elim (first_or_later n.0 hq.numbers x c) [
       | inl e ↦ subst (Contains hp.numbers) e ((hp.holds n.0).1 (p, n.1, itself own))
       | inr o ↦ (let r = (hq.holds x).0 o in (hp.holds x).1 (r.0, r.1, in_closure_then w p q r.0 on.imported r.2))
     ] in
     let le : length (n.0 ∷ hq.numbers) ≤ length hp.numbers =
-    length-le_from_is_member nat_eq_equiv (n.0 ∷ hq.numbers) hp.numbers distinct (λ x m. (is_member-Decides Decides-eqb hp.numbers x).1 (within x ((is_member-Decides Decides-eqb (n.0 ∷ hq.numbers) x).0 m))) in
+    length-le_from_is_member nat_eq_equiv (n.0 ∷ hq.numbers) hp.numbers distinct
+    (λ x m. (is_member-Decides Decides-eqb hp.numbers x).1 (within x ((is_member-Decides Decides-eqb (n.0 ∷ hq.numbers) x).0 m))) in
     omega (arith, hp.is, hq.is)
 
 -- the order
@@ -76,7 +88,8 @@ same_place xs d i j n a b = elim (cases_order i j) [
   | inr o ↦ elim o [ inl lt ↦ absurd (one_place xs d i j n a b lt) | inr gt ↦ absurd (one_place xs d j i n b a gt) ]
 ]
 
-pub order_is : (w : Workspace) (count : ℕ) (sizes list order : List ℕ) → count ≡ length (package_paths w) → AreSizes w (length (package_paths w)) sizes → HoldsBelow (λ n. Unit {0}) count list → IsPermutation list order →
+pub order_is : (w : Workspace) (count : ℕ) (sizes list order : List ℕ) → count ≡ length (package_paths w) → AreSizes w (length (package_paths w)) sizes →
+    HoldsBelow (λ n. Unit {0}) count list → IsPermutation list order →
     IsNonDecreasingBy (λ n. get_or sizes n 0) order → IsBuildOrder w order
 order_is w count sizes list order all sized held moved sorted =
     let back = IsPermutation-sym list order moved in
@@ -84,7 +97,8 @@ order_is w count sizes list order all sized held moved sorted =
     Contains-permutation list order n moved ((held.each n).1 ((let less : n < count = omega arith in less), tt)) in
     record {
       each = λ n. (
-        λ c. (let less : n < count = ((held.each n).0 (Contains-permutation order list n back c)).0 in let lt : n < length (package_paths w) = omega arith in lt),
+        λ c. (let less : n < count = ((held.each n).0 (Contains-permutation order list n back c)).0 in
+            let lt : n < length (package_paths w) = omega arith in lt),
         has n,
       );
       once = same_place order (IsDistinct-IsPermutation nat_eq nat_eq_equiv.symm list order moved (distinct_rising list held.rising));
@@ -92,7 +106,8 @@ order_is w count sizes list order all sized held moved sorted =
           let within = slice_get_within order i n at in
           let n_in = slice_get_within (package_paths w) n p at_n in
           let m_in = slice_get_within (package_paths w) m q at_m in
-          let less : get_or sizes m 0 < get_or sizes n 0 = fewer w p q (get_or sizes n 0) (get_or sizes m 0) on (sized.each n p n_in at_n) (sized.each m q m_in at_m) in
+          let less : get_or sizes m 0 < get_or sizes n 0 = fewer w p q (get_or sizes n 0) (get_or sizes m 0) on (sized.each n p n_in at_n)
+          (sized.each m q m_in at_m) in
           let there = has m m_in in
           let lt : there.0 < length order = there.1 in
           let n_is : get_or order i 0 ≡ n = get_or_from_slice_get order i n 0 at in
@@ -102,7 +117,8 @@ order_is w count sizes list order all sized held moved sorted =
               | inl before ↦ before
               | inr after ↦ (
                   let up : get_or sizes (get_or order i 0) 0 ≤ get_or sizes (get_or order there.0 0) 0 = sorted i there.0 0 after lt in
-                  let up_n : get_or sizes n 0 ≤ get_or sizes (get_or order there.0 0) 0 = subst (λ x. get_or sizes x 0 ≤ get_or sizes (get_or order there.0 0) 0) n_is up in
+                  let up_n : get_or sizes n 0 ≤ get_or sizes (get_or order there.0 0) 0 =
+                  subst (λ x. get_or sizes x 0 ≤ get_or sizes (get_or order there.0 0) 0) n_is up in
                   let up_m : get_or sizes n 0 ≤ get_or sizes m 0 = subst (λ x. get_or sizes n 0 ≤ get_or sizes x 0) m_is up_n in
                   absurd (omega arith))
             ],
@@ -111,14 +127,16 @@ order_is w count sizes list order all sized held moved sorted =
     }
 
 -- one size more
-pub next_size : (w : Workspace) (old new : List ℕ) (n size : ℕ) → new ≡ old ++ size ∷ [] → AreSizes w n old → ((p : List ℕ) → slice_get (package_paths w) n ≡ Some p → IsSize w p size) → AreSizes w (n + 1) new
+pub next_size : (w : Workspace) (old new : List ℕ) (n size : ℕ) → new ≡ old ++ size ∷ [] → AreSizes w n old →
+    ((p : List ℕ) → slice_get (package_paths w) n ≡ Some p → IsSize w p size) → AreSizes w (n + 1) new
 next_size w old new n size e h here =
     let long = length_push old size in
     let sized : length old ≡ n = h.size in
     record {
       size = ap length e ∙ (let l : length (old ++ size ∷ []) ≡ n + 1 = omega arith in l);
       each = λ i p lt at. subst (λ l. IsSize w p (get_or l i 0)) (sym e) (elim (cases_lt i n) [
-        | inl before ↦ subst (IsSize w p) (sym (get_or_append_left old (size ∷ []) 0 i (let less : i < length old = omega arith in less))) (h.each i p before at)
+        | inl before ↦ subst (IsSize w p) (sym (get_or_append_left old (size ∷ []) 0 i (let less : i < length old = omega arith in less)))
+            (h.each i p before at)
         | inr after ↦ (
             let is : n ≡ i = omega arith in
             let last : get_or (old ++ size ∷ []) i 0 ≡ size = get_or_push old size 0 i (sized ∙ is) in

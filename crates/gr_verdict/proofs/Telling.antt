@@ -1,6 +1,7 @@
 -- What is known of packages is told, one package further.
 use Rattle.std.proofs.Common.{ℕ, ◌≡◌, ◌+◌, ◌<◌, inl, inr, List, [], ◌∷◌, ◌++◌, length, sym, ap, subst, ◌∙◌, arith, length-append}
 use Rattle.std.specs.Prelude.{Option, Some, slice_get}
+use Rattle.std.specs.Global.{Vec}
 use Rattle.std.proofs.lemmas.Bool.{cases_lt}
 use Rattle.std.proofs.lemmas.Option.{none-some, same_Some, slice_get_within}
 use Rattle.gr_text.specs.Workspace.{Workspace}
@@ -11,7 +12,8 @@ use Rattle.gr_declared.specs.declared.interfaces.Interfaces.{Interfaces}
 use Rattle.gr_declared.proofs.Paths.{get_before, get_last}
 use Rattle.gr_verdict.specs.declared.known.Known.{Known}
 use Rattle.gr_verdict.specs.declared.known.KnownVerdict.{KnownVerdict}
-use Rattle.gr_verdict.specs.Found.{known_by, AreWhole, IsFindingOf, TellsVerdict, MayTell, KnowsVerdicts, AreKnownNext}
+use Rattle.gr_verdict.specs.Found.{KnowsVerdicts, AreKnownNext}
+use Rattle.gr_verdict.specs.Told.{known_by, AreWhole, IsFindingOf, TellsVerdict, MayTell}
 use Rattle.gr_verdict.specs.Verdicts.{IsVerdict}
 use Rattle.gr_verdict.proofs.Knowing.{verdict_as}
 
@@ -23,9 +25,14 @@ nothing_known known e w n p one at is = absurd (none-some (Some one) (subst (λ 
 pub nothing_told : (known : Known) → known.verdicts.items ≡ [] → (w : Workspace) → AreKnownNext w 0 known
 nothing_told known e w = record { size = ap length e; verdicts = nothing_known known e w }
 
+-- what is known stays right where the verdicts are the same
+pub known_still : (w : Workspace) (old new : Known) → new.verdicts ≡ old.verdicts → KnowsVerdicts w old → KnowsVerdicts w new
+known_still w old new e h n p one at is = h n p one at (subst (λ (v : Vec (Option KnownVerdict)). slice_get v.items n ≡ Some (Some one)) e is)
+
 -- one package further
 
-module _ (w : Workspace) (n : ℕ) (old new : Known) (found : Option KnownVerdict) (e : new.verdicts.items ≡ old.verdicts.items ++ found ∷ []) (h : AreKnownNext w n old) where
+module _ (w : Workspace) (n : ℕ) (old new : Known) (found : Option KnownVerdict) (e : new.verdicts.items ≡ old.verdicts.items ++ found ∷ [])
+    (h : AreKnownNext w n old) where
   told_then : OfPackage w n (λ p. MayTell w p found) → KnowsVerdicts w new
   told_then tells m p one at is =
       let items = old.verdicts.items in
@@ -35,7 +42,8 @@ module _ (w : Workspace) (n : ℕ) (old new : Known) (found : Option KnownVerdic
         | inr past ↦ (
             let within : m < length (items ++ found ∷ []) = slice_get_within (items ++ found ∷ []) m (Some one) told in
             let here : m ≡ length items = omega (arith, length-append items (found ∷ [])) in
-            let last : found ≡ Some one = same_Some found (Some one) (sym (get_last items found) ∙ subst (λ k. slice_get (items ++ found ∷ []) k ≡ Some (Some one)) here told) in
+            let last : found ≡ Some one = same_Some found (Some one)
+            (sym (get_last items found) ∙ subst (λ k. slice_get (items ++ found ∷ []) k ≡ Some (Some one)) here told) in
             tells p (subst (λ k. slice_get (package_paths w) k ≡ Some p) (here ∙ h.size) at) one last)
       ]
 
@@ -44,7 +52,8 @@ module _ (w : Workspace) (n : ℕ) (old new : Known) (found : Option KnownVerdic
 
 -- a verdict that all tell, told alone
 
-pub told_alone : (w : Workspace) (p : List ℕ) (all : Interfaces) (one : KnownVerdict) → name_in one.interfaces p ≡ name_in all p → interface_in one.interfaces p ≡ interface_in all p → AreWhole all → IsVerdict w p (known_by all p) →
+pub told_alone : (w : Workspace) (p : List ℕ) (all : Interfaces) (one : KnownVerdict) → name_in one.interfaces p ≡ name_in all p →
+    interface_in one.interfaces p ≡ interface_in all p → AreWhole all → IsVerdict w p (known_by all p) →
     IsFindingOf w p one.finding → TellsVerdict w p one
 told_alone w p all one name interface whole right finding = record {
   right = verdict_as w p all one.interfaces name interface right;

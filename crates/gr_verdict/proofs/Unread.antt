@@ -45,7 +45,8 @@ left_in j k m n e = cc
 one_of_tokens : (c : CutText) (f g : TextFault) → IsParseFault c f → IsParseFault c g → f ≡ g
 one_of_tokens c f g a b =
     let same = one_verdict (kinds_of c) (Faulty a.kind a.left) (Faulty b.kind b.left) a.verdict b.verdict in
-    same_fault f g (a.offset_is ∙ ap (place_of c) (left_in a.kind b.kind a.left b.left same) ∙ sym b.offset_is) (a.kind_is ∙ ap kind_for (kind_in a.kind b.kind a.left b.left same) ∙ sym b.kind_is)
+    same_fault f g (a.offset_is ∙ ap (place_of c) (left_in a.kind b.kind a.left b.left same) ∙ sym b.offset_is)
+    (a.kind_is ∙ ap kind_for (kind_in a.kind b.kind a.left b.left same) ∙ sym b.kind_is)
 
 cut_without : (text : List ℕ) (f g : TextFault) → IsFaultOf text f → IsFaultOfTokens text g → f ≡ g
 cut_without text f g a b = elim a [
@@ -77,7 +78,8 @@ pub record IsFaultAmong (es : List (List ℕ × List ℕ)) (f : FileFault) : Typ
 further : (e : List ℕ × List ℕ) (es : List (List ℕ × List ℕ)) (f : FileFault) → IsFaultAmong es f → IsFaultAmong (e ∷ es) f
 further e es f h = record { path = h.path; text = h.text; fault = h.fault; among = later_in e es (h.path, h.text) h.among; is_fault = h.is_fault; at = h.at }
 
-listed_among : {es : List (List ℕ × List ℕ)} {ts : List FileParts} {fs : List FaultyParts} → AreParsed es ts fs → (f : FileFault) → Contains (unread_faults fs) f → IsFaultAmong es f
+listed_among : {es : List (List ℕ × List ℕ)} {ts : List FileParts} {fs : List FaultyParts} → AreParsed es ts fs → (f : FileFault) →
+    Contains (unread_faults fs) f → IsFaultAmong es f
 listed_among none f h = absurd (nothing_in f h)
 listed_among (tree {e = e} {es = es} is rest) f h = further e es f (listed_among rest f h)
 listed_among (fault {e = e} {es = es} {f = x} {fs = fs} is rest) f h = elim (first_or_later (placed x.path x.fault) (unread_faults fs) f h) [
@@ -92,7 +94,8 @@ listed_among (fault {e = e} {es = es} {f = x} {fs = fs} is rest) f h = elim (fir
   | inr c ↦ further e es f (listed_among rest f c)
 ]
 
-among_listed : {es : List (List ℕ × List ℕ)} {ts : List FileParts} {fs : List FaultyParts} → AreParsed es ts fs → (path text : List ℕ) (g : TextFault) → Contains es (path, text) → IsFaultOf text g → Contains (unread_faults fs) (placed path g)
+among_listed : {es : List (List ℕ × List ℕ)} {ts : List FileParts} {fs : List FaultyParts} → AreParsed es ts fs → (path text : List ℕ) (g : TextFault) →
+    Contains es (path, text) → IsFaultOf text g → Contains (unread_faults fs) (placed path g)
 among_listed none path text g c is_fault = absurd (nothing_in (path, text) c)
 among_listed (tree {e = e} {es = es} {t = t} is rest) path text g c is_fault = elim (first_or_later e es (path, text) c) [
   | inl same ↦ absurd (file_or_fault e.0 e.1 (source_of t) g is (subst (λ (x : List ℕ). IsFaultOf x g) (sym (ap (λ (d : List ℕ × List ℕ). d.1) same)) is_fault))
@@ -103,7 +106,8 @@ among_listed (fault {e = e} {es = es} {f = x} {fs = fs} is rest) path text g c i
       let paths : x.path ≡ path = is.of_path ∙ ap (λ (d : List ℕ × List ℕ). d.0) same in
       let texts : e.1 ≡ text = ap (λ (d : List ℕ × List ℕ). d.1) same in
       let faults : x.fault ≡ g = one_text_fault text x.fault g (subst (λ (t : List ℕ). IsFaultOf t x.fault) texts is.is_fault) is_fault in
-      subst (Contains (unread_faults (x ∷ fs))) (ap (λ p. placed p x.fault) paths ∙ ap (placed path) faults) (first_in (placed x.path x.fault) (unread_faults fs)))
+      subst (Contains (unread_faults (x ∷ fs))) (ap (λ p. placed p x.fault) paths ∙ ap (placed path) faults)
+      (first_in (placed x.path x.fault) (unread_faults fs)))
   | inr d ↦ later_in (placed x.path x.fault) (unread_faults fs) (placed path g) (among_listed rest path text g d is_fault)
 ]
 
@@ -117,7 +121,8 @@ pub none_unread : (w : Workspace) (p : List ℕ) (ts : List FileParts) → ArePa
 none_unread w p ts parsed f h = nothing_in (placed h.path h.fault) (among_listed parsed h.path h.text h.fault h.of_package h.is_fault)
 
 -- what is found of such a package
-pub unread_judged : (w : Workspace) (known : Verdicts) (p : List ℕ) (ts : List FileParts) (fs : List FaultyParts) → AreParsed (package_files w p) ts fs → (fs ≡ [] → ⊥) → (j : Judged) → IsStrictlySortedBy fault_cmp j.faults.items →
+pub unread_judged : (w : Workspace) (known : Verdicts) (p : List ℕ) (ts : List FileParts) (fs : List FaultyParts) → AreParsed (package_files w p) ts fs →
+    (fs ≡ [] → ⊥) → (j : Judged) → IsStrictlySortedBy fault_cmp j.faults.items →
     ((f : FileFault) → Contains j.faults.items f ↔ Contains (unread_faults fs) f) → j.interface ≡ None → IsJudged w known p j
 unread_judged w known p ts fs parsed some j sorted same gone =
     let filled : j.faults.items ≡ [] → ⊥ = filled_by fs some (λ f c. (same f).1 c) in
@@ -125,17 +130,21 @@ unread_judged w known p ts fs parsed some j sorted same gone =
       listed = record {
         in_order = sorted;
         each = λ f. (
-          λ c. (let a = listed_among parsed f ((same f).0 c) in inl (record { path = a.path; text = a.text; fault = a.fault; of_package = a.among; is_fault = a.is_fault; at = a.at })),
+          λ c. (let a = listed_among parsed f ((same f).0 c) in
+              inl (record { path = a.path; text = a.text; fault = a.fault; of_package = a.among; is_fault = a.is_fault; at = a.at })),
           λ h. elim h [
             | inl u ↦ (same f).1 (subst (Contains (unread_faults fs)) (sym u.at) (among_listed parsed u.path u.text u.fault u.of_package u.is_fault))
             | inr r ↦ absurd (not_all parsed some r.parsed)
           ],
         );
       };
-      has_interface = subst (λ o. MatchOption o (j.faults.items ≡ [] → ⊥) (λ i. (j.faults.items ≡ []) × HasInterface w known p (interface_of p i))) (sym gone) filled;
+      has_interface = subst (λ o. MatchOption o (j.faults.items ≡ [] → ⊥) (λ i. (j.faults.items ≡ []) × HasInterface w known p (interface_of p i)))
+          (sym gone) filled;
       uses = λ e. absurd (filled e);
     }
   where
-    filled_by : (fs : List FaultyParts) → (fs ≡ [] → ⊥) → ((f : FileFault) → Contains (unread_faults fs) f → Contains j.faults.items f) → j.faults.items ≡ [] → ⊥
+    filled_by : (fs : List FaultyParts) → (fs ≡ [] → ⊥) → ((f : FileFault) → Contains (unread_faults fs) f → Contains j.faults.items f) →
+        j.faults.items ≡ [] → ⊥
     filled_by [] some has = absurd (some refl)
-    filled_by (x ∷ xs) some has = not_empty_by j.faults.items (placed x.path x.fault) (has (placed x.path x.fault) (first_in (placed x.path x.fault) (unread_faults xs)))
+    filled_by (x ∷ xs) some has = not_empty_by j.faults.items (placed x.path x.fault)
+        (has (placed x.path x.fault) (first_in (placed x.path x.fault) (unread_faults xs)))

@@ -23,7 +23,8 @@ placed_in s fault = record { place = record { path = s.path; offset = offset_of 
 -- by the bytes of the package's path, of the file's path, by offset, and by the bytes of the kind's name
 abbrev pub fault_cmp : FileFault → FileFault → Ordering
 fault_cmp f g = ordering_then (path_cmp (folder f.place.path) (folder g.place.path))
-    (ordering_then (path_cmp f.place.path g.place.path) (ordering_then (nat_cmp f.place.offset g.place.offset) (slice_cmp nat_cmp (name_of f.kind) (name_of g.kind))))
+    (ordering_then (path_cmp f.place.path g.place.path)
+    (ordering_then (nat_cmp f.place.offset g.place.offset) (slice_cmp nat_cmp (name_of f.kind) (name_of g.kind))))
 
 pub fault_cmp_total : IsTotalOrder fault_cmp
 fault_cmp_total =

@@ -1,13 +1,14 @@
 -- The laws of verdicts, as statements.
 use Rattle.std.specs.Prelude.{ℕ, ◌≡◌, false, List, Contains}
 use Rattle.gr_text.specs.Workspace.{Workspace}
-use Rattle.gr_text.specs.Packages.{package_paths}
+use Rattle.gr_text.specs.Packages.{package_paths, package_files}
 use Rattle.gr_declared.specs.Package.{Package}
 use Rattle.gr_verdict.specs.declared.fault.FileFault.{FileFault}
-use Rattle.gr_verdict.specs.Verdicts.{Verdict, Verdicts, IsPackageIn, IsVerdict, AreVerdictsBelow}
+use Rattle.gr_verdict.specs.Verdicts.{BuildsOn, Verdict, Verdicts, IsPackageIn, IsVerdict, AreVerdictsBelow}
 use Rattle.gr_verdict.specs.FaultLists.{ListsPackageFaults, ListsFaults}
 use Rattle.gr_verdict.specs.Closures.{HasSameClosure}
-use Rattle.gr_verdict.specs.Found.{TellsVerdict}
+use Rattle.gr_verdict.specs.Earlier.{HaveSameImports}
+use Rattle.gr_verdict.specs.Told.{TellsVerdict}
 use Rattle.gr_verdict.specs.declared.known.KnownVerdict.{KnownVerdict}
 
 -- both say the same: whether there are faults, and where there are none, what others see
@@ -31,19 +32,28 @@ HaveOneList = (w : Workspace) (p : List ℕ) (a b : List FileFault) → ListsPac
 abbrev pub HaveOneWholeList : Type 0
 HaveOneWholeList = (w : Workspace) (a b : List FileFault) → ListsFaults w a → ListsFaults w b → a ≡ b
 
+-- where two workspaces have the same packages, which import the same, and a package has the same files in both and sees the same of
+-- what it builds on, it has the same verdict in both
+abbrev pub VerdictsFollowInterfaces : Type 0
+VerdictsFollowInterfaces = (v w : Workspace) (p : List ℕ) (a b : Verdicts) (x : Verdict) → HaveSameImports v w → package_files v p ≡ package_files w p →
+    AreVerdictsBelow v p a → AreVerdictsBelow w p b → ((q : List ℕ) → BuildsOn v p q → IsSameVerdict (a q) (b q)) → IsVerdict v p x → IsVerdict w p x
+
 -- where the closure of a package has the same texts in two workspaces, it has the same verdict in both
 abbrev pub AreLocalVerdicts : Type 0
 AreLocalVerdicts = (w x : Workspace) (p : List ℕ) (v : Verdict) → Contains (package_paths w) p → HasSameClosure w x p → IsVerdict w p v → IsVerdict x p v
 
 -- and the same fault list
 abbrev pub AreLocalLists : Type 0
-AreLocalLists = (w x : Workspace) (p : List ℕ) (list : List FileFault) → Contains (package_paths w) p → HasSameClosure w x p → ListsPackageFaults w p list → ListsPackageFaults x p list
+AreLocalLists = (w x : Workspace) (p : List ℕ) (list : List FileFault) → Contains (package_paths w) p → HasSameClosure w x p → ListsPackageFaults w p list →
+    ListsPackageFaults x p list
 
 -- and is checked as the same
 abbrev pub AreLocallyChecked : Type 0
-AreLocallyChecked = (w x : Workspace) (p : List ℕ) (known : Verdicts) (c : Package) → Contains (package_paths w) p → HasSameClosure w x p → AreVerdictsBelow w p known → IsPackageIn w known p c →
+AreLocallyChecked = (w x : Workspace) (p : List ℕ) (known : Verdicts) (c : Package) → Contains (package_paths w) p → HasSameClosure w x p →
+    AreVerdictsBelow w p known → IsPackageIn w known p c →
     AreVerdictsBelow x p known × IsPackageIn x known p c
 
 -- and what is found in it is the same, so that what is known of it there is known of it here
 abbrev pub AreLocallyKnown : Type 0
-AreLocallyKnown = (w x : Workspace) (p : List ℕ) (one : KnownVerdict) → Contains (package_paths w) p → HasSameClosure w x p → TellsVerdict w p one → TellsVerdict x p one
+AreLocallyKnown = (w x : Workspace) (p : List ℕ) (one : KnownVerdict) → Contains (package_paths w) p → HasSameClosure w x p → TellsVerdict w p one →
+    TellsVerdict x p one

@@ -4,5 +4,7 @@ pub mod Verdicts
 pub mod FaultLists
 pub mod Closures
 pub mod Laws
+pub mod Told
 pub mod Found
 pub mod Steps
+pub mod Earlier

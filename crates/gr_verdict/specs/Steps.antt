@@ -16,7 +16,7 @@ use Rattle.gr_declared.specs.declared.interfaces.Interfaces.{Interfaces}
 use Rattle.gr_verdict.specs.Faults.{placed, placed_in}
 use Rattle.gr_verdict.specs.Verdicts.{Verdicts, BuildsOn, IsFaultBy, HasInterface, IsVerdictBy, IsVerdict}
 use Rattle.gr_verdict.specs.FaultLists.{AreListed}
-use Rattle.gr_verdict.specs.Found.{known_by, AreWhole, AreUsesOf, IsFinding, IsFindingOf}
+use Rattle.gr_verdict.specs.Told.{known_by, AreWhole, AreUsesOf, IsFinding, IsFindingOf}
 use Rattle.gr_verdict.specs.declared.fault.FileFault.{FileFault}
 use Rattle.gr_verdict.specs.declared.finding.Finding.{Finding}
 use Rattle.gr_verdict.specs.declared.judging.Judged.{Judged}
@@ -40,7 +40,8 @@ pub record AreSizes (w : Workspace) (count : ℕ) (sizes : List ℕ) : Type 0 wh
 pub record IsBuildOrder (w : Workspace) (order : List ℕ) : Type 0 where
   pub each : (n : ℕ) → Contains order n ↔ (n < length (package_paths w))
   pub once : (i j n : ℕ) → slice_get order i ≡ Some n → slice_get order j ≡ Some n → i ≡ j
-  pub behind : (i n m : ℕ) (p q : List ℕ) → slice_get order i ≡ Some n → slice_get (package_paths w) n ≡ Some p → slice_get (package_paths w) m ≡ Some q → BuildsOn w p q →
+  pub behind : (i n m : ℕ) (p q : List ℕ) → slice_get order i ≡ Some n → slice_get (package_paths w) n ≡ Some p → slice_get (package_paths w) m ≡ Some q →
+      BuildsOn w p q →
       (j : ℕ) × (j < i) × (slice_get order j ≡ Some m)
 
 -- What a package sees

@@ -113,7 +113,8 @@ pub record IsVerdictBy (w : Workspace) (known : Verdicts) (p : List ℕ) (v : Ve
 
 -- the verdict on p: that which follows from the verdicts on the packages that it builds on
 pub data IsVerdict (w : Workspace) : List ℕ → Verdict → Type 0 where
-  follows : {p : List ℕ} {v : Verdict} (known : Verdicts) → ((q : List ℕ) → BuildsOn w p q → IsVerdict w q (known q)) → IsVerdictBy w known p v → IsVerdict w p v
+  follows : {p : List ℕ} {v : Verdict} (known : Verdicts) → ((q : List ℕ) → BuildsOn w p q → IsVerdict w q (known q)) → IsVerdictBy w known p v →
+      IsVerdict w p v
 
 -- of each package that p builds on the verdict is known
 abbrev pub AreVerdictsBelow : Workspace → List ℕ → Verdicts → Type 0

@@ -3,14 +3,18 @@ ghost use Rattle.std.specs.Prelude.{ℕ, ◌≡◌, ◌<◌, length, map, None, 
 ghost use Rattle.gr_text.specs.Packages.{package_paths};
 ghost use Rattle.gr_graph.specs.Graphs.{OfPackage};
 ghost use Rattle.gr_declared.specs.InterfacesView.{name_in};
-ghost use Rattle.gr_verdict.specs.Found.{AreWhole, IsFound, KnowsVerdicts};
+ghost use Rattle.gr_verdict.specs.Earlier.{AreSteady, HaveSameImports};
+ghost use Rattle.gr_verdict.specs.Found.{IsFound, KnowsVerdicts};
+ghost use Rattle.gr_verdict.specs.Told.{AreWhole};
 ghost use Rattle.gr_verdict.specs.Steps.{AreAllGathered, AreGathered, IsBuildOrder, IsGathered, MayAdd, Learns, LearnsOf, MayLearn, somes};
 
+use crate::earlier::Earlier;
 use crate::finding::{Finding, SharedFinding};
 use crate::gathered::{Gathered, gather, known_now};
 use crate::judging::{Judged, judge};
 use crate::known::Known;
 use crate::order::order;
+use crate::steady::{is_steady, standing};
 use gr_declared::{Interface, Interfaces};
 use gr_expr::symbol::SharedPath;
 use gr_graph::Graph;
@@ -126,6 +130,71 @@ fn judge_all(
     Ok(())
 }
 
+/// Judges a package, if nothing is known of it, and what was known of it before does not stand.
+fn keep_or_judge(
+    alloc: Global,
+    graph: &Graph,
+    number: usize,
+    earlier: &Earlier,
+    steady: &[bool],
+    all: &mut Gathered,
+) -> Result<(), AllocError>
+    requires in_range { number < length (package_paths graph.now) }
+    requires all { AreGathered graph.now (length (package_paths graph.now)) all.old }
+    requires same { HaveSameImports earlier.now.graph graph.now }
+    requires steady { AreSteady graph.now earlier.now.verdicts.items all.old steady.now }
+    ensures { OnOk result (OfPackage graph.now number (λ p. MayLearn graph.now p number all.old all.new)) }
+{
+    if all.knows(number) {
+        return Ok(());
+    }
+    if let Some(verdict) = standing(earlier, graph, number, steady) {
+        all.keep(alloc, number, &graph.package(number).path, verdict)?;
+        return Ok(());
+    }
+    judge_unknown(alloc, graph, number, all)?;
+    Ok(())
+}
+
+/// Judges each package of which nothing is known, behind all that it builds on, where what was known of it before does not stand.
+fn judge_changed(
+    alloc: Global,
+    graph: &Graph,
+    order: &[usize],
+    earlier: &Earlier,
+    all: &mut Gathered,
+) -> Result<(), AllocError>
+    requires order { IsBuildOrder graph.now order.now }
+    requires all { AreGathered graph.now (length (package_paths graph.now)) all.old }
+    requires same { HaveSameImports earlier.now.graph graph.now }
+    ensures { OnOk result (AreAllGathered graph.now order.now all.new) }
+{
+    let mut steady = vec![in alloc; false; graph.len()]?;
+    for number in order {
+        keep_or_judge(alloc, graph, *number, earlier, &steady, all)?;
+        steady[*number] = is_steady(earlier, graph, *number, &all.interfaces);
+    }
+    Ok(())
+}
+
+/// Judges what is not known yet, behind all that it builds on.
+fn judge_rest(
+    alloc: Global,
+    graph: &Graph,
+    order: &[usize],
+    known: &Known,
+    all: &mut Gathered,
+) -> Result<(), AllocError>
+    requires order { IsBuildOrder graph.now order.now }
+    requires all { AreGathered graph.now (length (package_paths graph.now)) all.old }
+    ensures { OnOk result (AreAllGathered graph.now order.now all.new) }
+{
+    match known.earlier(graph) {
+        Some(earlier) => judge_changed(alloc, graph, order, earlier, all),
+        None => judge_all(alloc, graph, order, all),
+    }
+}
+
 /// Findings, each of which is there.
 fn all_there(
     alloc: Global,
@@ -143,15 +212,16 @@ fn all_there(
     Ok(packages)
 }
 
-/// What is found in each package. One of which nothing is known is checked once, behind all that it builds on; what is known of
-/// the others is shared.
+/// What is found in each package. One of which nothing is known is checked once, behind all that it builds on, unless what was known
+/// of it before the workspace changed stands, since its files are the same and what it sees of its imports; what is known of the
+/// others is shared.
 pub fn verdicts(alloc: Global, graph: &Graph, known: &Known) -> Result<Found, AllocError>
     requires { KnowsVerdicts graph.now known.now }
     ensures { IfOk result (IsFound graph.now) }
 {
     let mut all = gather(alloc, graph, known)?;
     let order = order(alloc, graph)?;
-    judge_all(alloc, graph, &order, &mut all)?;
+    judge_rest(alloc, graph, &order, known, &mut all)?;
     let known = known_now(alloc, graph, known, &all)?;
     let packages = all_there(alloc, &all.findings)?;
     let interfaces = all.interfaces;

@@ -1,10 +1,12 @@
 //! What is found in some packages, in one, by which others are judged.
 ghost use Rattle.std.specs.Prelude.{◌≡◌, ◌+◌, ◌<◌, ◌++◌, [], ◌∷◌, ◌↔◌, ℕ, List, length, IfOk, IsTrue, MatchOption, None, OnOk, Some, slice_get};
+ghost use Rattle.std.proofs.Math.ListN.{set};
 ghost use Rattle.gr_text.specs.Packages.{package_paths};
 ghost use Rattle.gr_graph.specs.Graphs.{OfPackage};
 ghost use Rattle.gr_declared.specs.InterfacesView.{Shares, interface_in, name_in, no_interface};
 ghost use Rattle.gr_verdict.specs.declared.finding.Finding.{Finding as Found};
-ghost use Rattle.gr_verdict.specs.Found.{KnowsVerdicts, MayTell};
+ghost use Rattle.gr_verdict.specs.Found.{KnowsVerdicts};
+ghost use Rattle.gr_verdict.specs.Told.{MayTell};
 ghost use Rattle.gr_verdict.specs.Steps.{AreGathered, IsGathered};
 
 use crate::finding::SharedFinding;
@@ -67,6 +69,24 @@ impl Gathered {
         let finding = verdict.finding.clone()?;
         self.interfaces.share(alloc, verdict.interfaces(), path)?;
         self.findings.push(Some(finding))?;
+        Ok(())
+    }
+
+    /// Takes what was known of a package, of which nothing is known yet.
+    pub(crate) fn keep(
+        &mut self,
+        alloc: Global,
+        number: usize,
+        path: &[u8],
+        verdict: &KnownVerdict,
+    ) -> Result<(), AllocError>
+        requires { number < length self.old.findings.items }
+        ensures findings { OnOk result (self.new.findings.items ≡ set self.old.findings.items number (Some verdict.now.finding)) }
+        ensures interfaces { OnOk result (Shares verdict.now.interfaces self.old.interfaces self.new.interfaces path.now) }
+    {
+        let finding = verdict.finding.clone()?;
+        self.interfaces.share(alloc, verdict.interfaces(), path)?;
+        self.findings[number] = Some(finding);
         Ok(())
     }
 

@@ -4,7 +4,7 @@ ghost use Rattle.gr_text.specs.Packages.{package_paths};
 ghost use Rattle.gr_text.specs.Workspace.{Workspace};
 ghost use Rattle.gr_graph.specs.Graphs.{IsPackage, OfPackage};
 ghost use Rattle.gr_verdict.specs.Verdicts.{Verdicts};
-ghost use Rattle.gr_verdict.specs.Found.{known_by, AreWhole};
+ghost use Rattle.gr_verdict.specs.Told.{known_by, AreWhole};
 ghost use Rattle.gr_verdict.specs.Steps.{IsJudged};
 
 use crate::fault::{FileFault, sort};

@@ -1,12 +1,17 @@
-//! What is known of packages: what is found in some of them, with the verdicts on these.
-ghost use Rattle.std.specs.Prelude.{◌≡◌, ◌++◌, [], ◌∷◌, IfOk, MatchOption, OnOk, Some, slice_get};
+//! What is known of packages: what is found in some of them, with the verdicts on these, and what was known of all before the
+//! workspace changed.
+ghost use Rattle.std.specs.Prelude.{ℕ, ◌≡◌, ◌↔◌, ◌++◌, [], ◌∷◌, IfOk, IfSome, IsTrue, MatchOption, None, OnOk, Some, slice_get};
 ghost use Rattle.gr_text.specs.Workspace.{Workspace};
 ghost use Rattle.gr_declared.specs.InterfacesView.{interface_in, name_in};
+ghost use Rattle.gr_verdict.specs.Earlier.{HaveSameImports};
 ghost use Rattle.gr_verdict.specs.Found.{KnowsVerdicts};
 ghost use Rattle.gr_verdict.specs.declared.known.KnownVerdict.{KnownVerdict as Verdict};
 
+use crate::earlier::Earlier;
 use crate::finding::SharedFinding;
+use crate::steady::have_same_imports;
 use gr_declared::Interfaces;
+use gr_graph::Graph;
 use std::alloc::{AllocError, Global};
 use std::marker::Model;
 use std::sync::Arc;
@@ -105,17 +110,54 @@ impl Clone for KnownVerdict {
     }
 }
 
-/// What is known of some packages of a workspace, by the packages' numbers.
+/// What is known of some packages of a workspace, by the packages' numbers; and what was known of all before it changed, if that is
+/// kept.
 pub struct Known {
     verdicts: Vec<Option<KnownVerdict>>,
+    earlier: Option<Earlier>,
 }
 
 /// Written out, so that crates above call it and don't prove again how each part is dropped.
 impl Drop for Known {
     fn drop(self) {
-        let Known { verdicts } = self;
+        let Known { verdicts, earlier } = self;
         drop(verdicts);
+        drop(earlier);
     }
+}
+
+/// What is known of the package of a number, if anything is.
+pub(crate) fn verdict_at(verdicts: &[Option<KnownVerdict>], number: usize) -> Option<&KnownVerdict>
+    ensures { MatchOption result ((one : Verdict) → slice_get verdicts.now number ≡ Some (Some one) → ⊥) (λ one. slice_get verdicts.now number ≡ Some (Some one.now)) }
+{
+    match verdicts.get(number) {
+        Some(verdict) => verdict.as_ref(),
+        None => None,
+    }
+}
+
+/// What is known of a package, once more.
+fn copy_of(verdict: &Option<KnownVerdict>) -> Result<Option<KnownVerdict>, AllocError>
+    ensures { IfOk result (λ copy. copy ≡ verdict.now) }
+{
+    match verdict {
+        Some(verdict) => Ok(Some(verdict.clone()?)),
+        None => Ok(None),
+    }
+}
+
+/// What is known of packages, once more.
+fn copies(
+    alloc: Global,
+    verdicts: &[Option<KnownVerdict>],
+) -> Result<Vec<Option<KnownVerdict>>, AllocError>
+    ensures { IfOk result (λ copies. copies.items ≡ verdicts.now) }
+{
+    let mut copies = Vec::new(alloc);
+    for verdict in verdicts {
+        copies.push(copy_of(verdict)?)?;
+    }
+    Ok(copies)
 }
 
 impl Known {
@@ -126,6 +168,7 @@ impl Known {
     {
         Known {
             verdicts: Vec::new(alloc),
+            earlier: None,
         }
     }
 
@@ -133,10 +176,7 @@ impl Known {
     pub fn get(&self, number: usize) -> Option<&KnownVerdict>
         ensures { MatchOption result ((one : Verdict) → slice_get self.now.verdicts.items number ≡ Some (Some one) → ⊥) (λ one. slice_get self.now.verdicts.items number ≡ Some (Some one.now)) }
     {
-        match self.verdicts.get(number) {
-            Some(verdict) => verdict.as_ref(),
-            None => None,
-        }
+        verdict_at(&self.verdicts, number)
     }
 
     /// Adds the next package, with what is known of it, if anything is.
@@ -145,5 +185,68 @@ impl Known {
     {
         self.verdicts.push(verdict)?;
         Ok(())
+    }
+
+    /// Whether something is known of each package. Only what is judged again rests on it.
+    fn knows_all(&self) -> bool {
+        for verdict in &self.verdicts {
+            if verdict.is_none() {
+                return false;
+            }
+        }
+        true
+    }
+
+    /// What is known, as what was known before the workspace changes, if it is known of all packages; else what was known before.
+    fn then(&self, alloc: Global, graph: &Graph) -> Result<Option<Earlier>, AllocError>
+        requires { KnowsVerdicts graph.now self.now }
+    {
+        if self.knows_all() {
+            let graph = graph.clone()?;
+            let verdicts = copies(alloc, &self.verdicts)?;
+            let earlier = Earlier::new(alloc, graph, verdicts)?;
+            return Ok(Some(earlier));
+        }
+        match &self.earlier {
+            Some(earlier) => Ok(Some(earlier.clone()?)),
+            None => Ok(None),
+        }
+    }
+
+    /// Keeps what was known of a workspace before it changed to this one, so that the verdict on a package may stand whose files are
+    /// the same, and whose imports are seen as before.
+    pub fn keep_earlier(
+        &mut self,
+        alloc: Global,
+        before: &Graph,
+        known: &Known,
+    ) -> Result<(), AllocError>
+        requires { KnowsVerdicts before.now known.now }
+        ensures { self.new.verdicts ≡ self.old.verdicts }
+    {
+        self.earlier = known.then(alloc, before)?;
+        Ok(())
+    }
+
+    /// Keeps what was known before, as it is kept elsewhere.
+    pub fn share_earlier(&mut self, other: &Known) -> Result<(), AllocError>
+        ensures { self.new.verdicts ≡ self.old.verdicts }
+    {
+        if let Some(earlier) = &other.earlier {
+            self.earlier = Some(earlier.clone()?);
+        }
+        Ok(())
+    }
+
+    /// What was known before the workspace changed, if its packages import the same as then.
+    pub(crate) fn earlier(&self, graph: &Graph) -> Option<&Earlier>
+        ensures { IfSome result (λ earlier. HaveSameImports earlier.now.graph graph.now) }
+    {
+        let earlier = self.earlier.as_ref()?;
+        if have_same_imports(earlier.graph(), graph) {
+            Some(earlier)
+        } else {
+            None
+        }
     }
 }

@@ -8,6 +8,7 @@ ghost use Rattle.gr_verdict.specs.Laws.{
   AreLocalLists,
   AreLocallyChecked,
   AreLocallyKnown,
+  VerdictsFollowInterfaces,
 };
 
 /// A package has one verdict at most.
@@ -33,4 +34,10 @@ pub fn verdicts_are_local()
     ensures lists { AreLocalLists }
     ensures checked { AreLocallyChecked }
     ensures known { AreLocallyKnown }
+{}
+
+/// Where two workspaces have the same packages, which import the same, a package with the same files in both has the same verdict in
+/// both, if it sees the same of the packages that it builds on.
+pub fn verdicts_follow_interfaces()
+    ensures { VerdictsFollowInterfaces }
 {}

@@ -2,6 +2,7 @@
 //! of members.
 #![tactic(auto)]
 
+mod earlier;
 mod fault;
 mod fault_list;
 mod finding;
@@ -10,14 +11,19 @@ mod gathered;
 mod judging;
 mod known;
 pub mod laws;
+mod marks;
 mod order;
 mod placing;
 mod reaching;
 mod seeing;
+mod steady;
 
+pub use earlier::{Earlier, EarlierParts};
 pub use fault::FileFault;
 pub use fault_list::faults;
 pub use finding::{Finding, SharedFinding};
 pub use findings::{Findings, Found, verdicts};
 pub use known::{Known, KnownVerdict};
+pub use marks::is_marked;
+pub use reaching::{is_among, reaches};
 pub use seeing::seen;

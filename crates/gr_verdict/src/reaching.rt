@@ -5,12 +5,11 @@ ghost use Rattle.std.specs.List.Sorted.{IsStrictlyIncreasing};
 ghost use Rattle.gr_text.specs.Packages.{package_paths};
 ghost use Rattle.gr_graph.specs.Graphs.{OfPackage};
 ghost use Rattle.gr_graph.specs.Packages.{IsInClosure};
-ghost use Rattle.gr_verdict.specs.Verdicts.{BuildsOn};
 
 use gr_graph::Graph;
 
 /// Whether a number is among numbers that rise.
-fn is_among(numbers: &[usize], number: usize) -> bool
+pub fn is_among(numbers: &[usize], number: usize) -> bool
     requires { IsStrictlyIncreasing numbers.now }
     ensures { IsTrue result ↔ Contains numbers.now number }
 {
@@ -18,21 +17,9 @@ fn is_among(numbers: &[usize], number: usize) -> bool
 }
 
 /// Whether a package imports another, directly or indirectly, or is it.
-pub(crate) fn reaches(graph: &Graph, from: usize, to: usize) -> bool
+pub fn reaches(graph: &Graph, from: usize, to: usize) -> bool
     requires { from < length (package_paths graph.now) }
     ensures { OfPackage graph.now from (λ p. OfPackage graph.now to (λ q. IsTrue result ↔ IsInClosure graph.now p q)) }
 {
     is_among(graph.closure(from), to)
-}
-
-/// Whether a package builds on another: it reaches that one, and is not reached by it.
-pub(crate) fn builds_on(graph: &Graph, from: usize, to: usize) -> bool
-    requires from { from < length (package_paths graph.now) }
-    requires to { to < length (package_paths graph.now) }
-    ensures { OfPackage graph.now from (λ p. OfPackage graph.now to (λ q. IsTrue result ↔ BuildsOn graph.now p q)) }
-{
-    if reaches(graph, to, from) {
-        return false;
-    }
-    reaches(graph, from, to)
 }

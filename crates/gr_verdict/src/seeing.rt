@@ -7,7 +7,7 @@ ghost use Rattle.gr_imports.specs.States.{state_in};
 ghost use Rattle.gr_imports.specs.declared.states.ImportState.TheVariants.{Missing};
 ghost use Rattle.gr_declared.specs.InterfacesView.{name_in, interface_in};
 ghost use Rattle.gr_verdict.specs.Verdicts.{IsStateOf, AreStates, AreSeen};
-ghost use Rattle.gr_verdict.specs.Found.{known_by, AreWhole};
+ghost use Rattle.gr_verdict.specs.Told.{known_by, AreWhole};
 ghost use Rattle.gr_verdict.specs.Steps.{MayShare, KnowsSameOfOthers};
 
 use crate::reaching::reaches;

@@ -1,20 +1,31 @@
 -- The uses of members in expressions stand among their tokens.
-use Rattle.std.proofs.Common.{ℕ, ◌≡◌, List, [], ◌∷◌, ◌++◌, Option, Some, None, Bool, true, false, append_assoc, append-nil, ap, sym, ◌∙◌, refl, subst, if◌then◌else◌, ◌==◌, length}
+use Rattle.std.proofs.Common.{ℕ, ◌≡◌, List, [], ◌∷◌, ◌++◌, Option, Some, None, Bool, true, false, append_assoc, append-nil, ap, sym, ◌∙◌, refl, subst}
+use Rattle.std.proofs.Common.{if◌then◌else◌, ◌==◌, length}
 use Rattle.gr_tree.specs.declared.syntax.BinaryOp.{BinaryOp}
 use Rattle.gr_tree.specs.declared.syntax.PrefixOp.{PrefixOp}
 use Rattle.gr_tree.specs.declared.syntax.Kind.TheVariants as kind
 use Rattle.gr_tree.specs.declared.syntax.Token.{Token}
-use Rattle.gr_tree.specs.Flatten.{sign, sign_if, binary_kind, prefix_kind, type_tokens, key_tokens, expr_tokens, operand_tokens, link_tokens, argument_tokens, literal_tokens, element_tokens}
-use Rattle.gr_tree.specs.Tree.{ExprTree, Number, Text, Name, Blank, Composite, Paren, Prefix, Address, Chain, Binary, OperandTrees, no_operand, operand, LinkTrees, no_link, selector, index, call, ArgumentTrees, no_argument, argument, LiteralTree, literal, ElementTrees, no_element, element}
+use Rattle.gr_tree.specs.Flatten.{sign, sign_if, binary_kind, prefix_kind, type_tokens, key_tokens, expr_tokens, operand_tokens, link_tokens}
+use Rattle.gr_tree.specs.Flatten.{argument_tokens, literal_tokens, element_tokens}
+use Rattle.gr_tree.specs.Tree.{ExprTree, Number, Text, Name, Blank, Composite, Paren, Prefix, Address, Chain, Binary, OperandTrees, no_operand, operand}
+use Rattle.gr_tree.specs.Tree.{LinkTrees, no_link, selector, index, call, ArgumentTrees, no_argument, argument, LiteralTree, literal, ElementTrees}
+use Rattle.gr_tree.specs.Tree.{no_element, element}
 use Rattle.gr_expr.specs.declared.types.Basic.TheVariants as basic
 use Rattle.gr_expr.specs.declared.types.Builtin.{Builtin}
 use Rattle.gr_expr.specs.declared.types.Builtin.TheVariants as builtin
 use Rattle.gr_expr.specs.Places.{first_token, first_of_type, place_of}
-use Rattle.gr_expr.specs.Types.{PlainType, BasicType, Underlying, SliceOf, Struct, Kind, Typed, Untyped, Nil, Signature, Meaning, Value, TypeName, Function, BuiltinName, Package, Results, Broken}
+use Rattle.gr_expr.specs.Types.{PlainType, BasicType, Underlying, SliceOf, Struct, Kind, Typed, Untyped, Nil, Signature, Meaning, Value, TypeName, Function}
+use Rattle.gr_expr.specs.Types.{BuiltinName, Package, Results, Broken}
 use Rattle.gr_expr.specs.World.{World, Locals, name_meaning, meaning_of_bound, underlying}
 use Rattle.gr_expr.specs.Operations.{operate, converts, prefixed, element_of_kind}
-use Rattle.gr_expr.specs.Judge.{Judged, Argued, Seen, none_seen, means, wrong, means_or_wrong, value_or_wrong, followed, as_value, value_kind, member_meaning, select_member, select, misfits, all_misfits, all_whole, is_whole, result_meaning, unless_faults, wrong_if_whole, call_function, convert_one, convert, append_to, append_first, append, len_fits, all_printed, call_when, call_builtin, call_of, bad_index, element_meaning, indexed, index_of, operation_on, operation, prefix_of, address_of, judge_type, element_key, seen_after, literal_ends, literal_meaning, value_at, index_rule, call_rule, judge, judge_operands, judge_links, judge_arguments, judge_literal, judge_elements}
-use Rattle.gr_walk.proofs.Picked.{IsPackage, MayUse, Picked, stops, passes, closes, leaves, selects, keys, Passes, pass_append, pass_none, pass_before, IsNoValue, Fits, Ends, Walks, walk_passes, walk_append, walk_before, walk_closed, walk_same}
+use Rattle.gr_expr.specs.Judge.{Judged, Argued, Seen, none_seen, means, wrong, means_or_wrong, value_or_wrong, followed, as_value, value_kind}
+use Rattle.gr_expr.specs.Judge.{member_meaning, select_member, select, misfits, all_misfits, all_whole, is_whole, result_meaning, unless_faults}
+use Rattle.gr_expr.specs.Judge.{wrong_if_whole, call_function, convert_one, convert, append_to, append_first, append, len_fits, all_printed, call_when}
+use Rattle.gr_expr.specs.Judge.{call_builtin, call_of, bad_index, element_meaning, indexed, index_of, operation_on, operation, prefix_of, address_of}
+use Rattle.gr_expr.specs.Judge.{judge_type, element_key, seen_after, literal_ends, literal_meaning, value_at, index_rule, call_rule, judge, judge_operands}
+use Rattle.gr_expr.specs.Judge.{judge_links, judge_arguments, judge_literal, judge_elements}
+use Rattle.gr_walk.proofs.Picked.{IsPackage, MayUse, Picked, stops, passes, closes, leaves, selects, keys, Passes, pass_append, pass_none, pass_before}
+use Rattle.gr_walk.proofs.Picked.{IsNoValue, Fits, Ends, Walks, walk_passes, walk_append, walk_before, walk_closed, walk_same}
 
 -- what uses nothing
 
@@ -82,7 +93,8 @@ faults_uses fs b m = refl
 function_uses : (w : World) (start : ℕ) (s : Signature) (vs : List Argued) → UsesNone (call_function w start s vs)
 unfolding call_function
 function_uses w start s vs =
-    if_uses (length vs == length s.parameters) (unless_faults (misfits w vs s.parameters) (all_whole vs) (result_meaning s.results)) (wrong_if_whole (all_whole vs) start)
+    if_uses (length vs == length s.parameters) (unless_faults (misfits w vs s.parameters) (all_whole vs) (result_meaning s.results))
+    (wrong_if_whole (all_whole vs) start)
     (faults_uses (misfits w vs s.parameters) (all_whole vs) (result_meaning s.results)) (whole_uses (all_whole vs) start)
 
 one_uses : (w : World) (start : ℕ) (t : PlainType) (k : Option Kind) → UsesNone (convert_one w start t k)
@@ -172,9 +184,11 @@ pub followed_walks : (w : World) (j : Judged) (rule : Meaning → Judged) (ts : 
     ((m : Meaning) → IsNoValue m → IsNoValue (rule m).meaning) → Walks w j.uses ts j.meaning →
     Walks w (followed j rule).uses ts (followed j rule).meaning
 followed_walks w j rule ts none kept h =
-    walk_same w j.uses (j.uses ++ (rule j.meaning).uses) ts j.meaning (rule j.meaning).meaning (ap (λ us. j.uses ++ us) (none j.meaning) ∙ append-nil j.uses) (kept j.meaning) h
+    walk_same w j.uses (j.uses ++ (rule j.meaning).uses) ts j.meaning (rule j.meaning).meaning
+    (ap (λ us. j.uses ++ us) (none j.meaning) ∙ append-nil j.uses) (kept j.meaning) h
 
-pub value_walks : (w : World) (e : ExprTree) (j : Judged) (ts : List Token) → Walks w j.uses ts j.meaning → Walks w (value_at e j).uses ts (value_at e j).meaning
+pub value_walks : (w : World) (e : ExprTree) (j : Judged) (ts : List Token) → Walks w j.uses ts j.meaning →
+    Walks w (value_at e j).uses ts (value_at e j).meaning
 value_walks w e j ts h = followed_walks w j (as_value (place_of e)) ts (value_uses (place_of e)) (no_value (place_of e)) h
 
 -- selectors
@@ -290,7 +304,8 @@ mutual
       (walk_passes w v.uses (expr_tokens e) v.meaning (value_walks w e (judge w ls e) (expr_tokens e) (expr_walks w ls e))))) in
       let done = judge_links w ls start start next rest in
       subst (λ xs. Walks w done.uses xs done.meaning)
-      (append_assoc ts ps (link_tokens rest) ∙ ap (λ xs. ts ++ (sign kind.LeftBracket o ∷ xs)) (append_assoc (expr_tokens e) (sign kind.RightBracket c ∷ []) (link_tokens rest)))
+      (append_assoc ts ps (link_tokens rest) ∙ ap (λ xs. ts ++ (sign kind.LeftBracket o ∷ xs))
+      (append_assoc (expr_tokens e) (sign kind.RightBracket c ∷ []) (link_tokens rest)))
       (links_walks w ls start start next (ts ++ ps) rest (walk_append w j.uses i.uses ts ps j.meaning i.meaning h (λ b fits. part b)))
   links_walks w ls start place j ts (call o xs c rest) h =
       let args = judge_arguments w ls xs in
@@ -304,7 +319,8 @@ mutual
       (walk_closed w args.uses (argument_tokens xs) kind.RightParen c i.meaning refl (arguments_pass w ls xs))) in
       let done = judge_links w ls start start next rest in
       subst (λ ys. Walks w done.uses ys done.meaning)
-      (append_assoc ts ps (link_tokens rest) ∙ ap (λ ys. ts ++ (sign kind.LeftParen o ∷ ys)) (append_assoc (argument_tokens xs) (sign kind.RightParen c ∷ []) (link_tokens rest)))
+      (append_assoc ts ps (link_tokens rest) ∙ ap (λ ys. ts ++ (sign kind.LeftParen o ∷ ys))
+      (append_assoc (argument_tokens xs) (sign kind.RightParen c ∷ []) (link_tokens rest)))
       (links_walks w ls start start next (ts ++ ps) rest (walk_append w j.uses i.uses ts ps j.meaning i.meaning h (λ b fits. part b)))
 
   arguments_pass : (w : World) (ls : Locals) (xs : ArgumentTrees) → Passes w (judge_arguments w ls xs).uses (argument_tokens xs)
@@ -335,7 +351,8 @@ mutual
       let k = element_key w t seen key in
       let v = value_at e (judge w ls e) in
       let others = judge_elements w ls t (seen_after w t seen key) rest in
-      pass_append w k.uses (v.uses ++ others.uses) (key_tokens key) (expr_tokens e ++ (sign_if kind.Comma comma ++ element_tokens rest)) (key_passes w t seen key)
+      pass_append w k.uses (v.uses ++ others.uses) (key_tokens key) (expr_tokens e ++ (sign_if kind.Comma comma ++ element_tokens rest))
+      (key_passes w t seen key)
       (pass_append w v.uses others.uses (expr_tokens e) (sign_if kind.Comma comma ++ element_tokens rest)
       (walk_passes w v.uses (expr_tokens e) v.meaning (value_walks w e (judge w ls e) (expr_tokens e) (expr_walks w ls e)))
       (pass_before w others.uses (sign_if kind.Comma comma) (element_tokens rest) (elements_pass w ls t (seen_after w t seen key) rest)))

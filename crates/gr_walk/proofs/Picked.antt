@@ -76,7 +76,8 @@ Walks w us ts m = (b : Option ℕ) → Ends w b us ts m
 pub walk_passes : (w : World) (us : List MemberUse) (ts : List Token) (m : Meaning) → Walks w us ts m → Passes w us ts
 walk_passes w us ts m h b = let r = h b in (r.0, r.1.0)
 
-pub walk_append : (w : World) (us vs : List MemberUse) (ts rs : List Token) (m n : Meaning) → Walks w us ts m → ((c : Option ℕ) → Fits w m c → Ends w c vs rs n) →
+pub walk_append : (w : World) (us vs : List MemberUse) (ts rs : List Token) (m n : Meaning) → Walks w us ts m →
+    ((c : Option ℕ) → Fits w m c → Ends w c vs rs n) →
     Walks w (us ++ vs) (ts ++ rs) n
 walk_append w us vs ts rs m n p q b = let l = p b in let r = q l.0 l.1.1 in (r.0, (picked_append w b l.0 r.0 us vs ts rs l.1.0 r.1.0, r.1.1))
 
@@ -87,13 +88,20 @@ walk_before w us t ts m h b = let r = h (Some t.place) in (r.0, (passes r.1.0, r
 pub walk_closed : (w : World) (us : List MemberUse) (ts : List Token) (k : Kind) (c : ℕ) (m : Meaning) → is_name k ≡ false → Passes w us ts →
     Walks w us (ts ++ (sign k c ∷ [])) m
 walk_closed w us ts k c m other p b =
-    let r = p b in
-    (None, (subst (λ xs. Picked w b xs (ts ++ (sign k c ∷ [])) None) (append-nil us) (picked_append w b r.0 None us [] ts (sign k c ∷ []) r.1 (closes other stops)), tt))
+    let r = p b in (
+      None,
+      (
+        subst (λ xs. Picked w b xs (ts ++ (sign k c ∷ [])) None) (append-nil us)
+            (picked_append w b r.0 None us [] ts (sign k c ∷ []) r.1 (closes other stops)),
+        tt,
+      ),
+    )
 
 pub fits_still : (w : World) (m n : Meaning) (o : Option ℕ) → (IsNoValue m → IsNoValue n) → Fits w m o → Fits w n o
 fits_still w m n None f h = tt
 fits_still w m n (Some k) f h = λ p. f (h p)
 
 -- the same uses, and a meaning that is no value where the one before is none
-pub walk_same : (w : World) (us vs : List MemberUse) (ts : List Token) (m n : Meaning) → vs ≡ us → (IsNoValue m → IsNoValue n) → Walks w us ts m → Walks w vs ts n
+pub walk_same : (w : World) (us vs : List MemberUse) (ts : List Token) (m n : Meaning) → vs ≡ us → (IsNoValue m → IsNoValue n) → Walks w us ts m →
+    Walks w vs ts n
 walk_same w us vs ts m n e f h b = let r = h b in (r.0, (subst (λ xs. Picked w b xs ts r.0) (sym e) r.1.0, fits_still w m n r.0 f r.1.1))

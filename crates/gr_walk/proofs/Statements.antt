@@ -1,17 +1,26 @@
 -- The uses of members in the statements and declarations of a file stand among its tokens.
-use Rattle.std.proofs.Common.{ℕ, ◌≡◌, List, [], ◌∷◌, ◌++◌, Option, Some, None, Bool, true, false, append_assoc, append-nil, ap, sym, ◌∙◌, refl, subst, if◌then◌else◌}
+use Rattle.std.proofs.Common.{ℕ, ◌≡◌, List, [], ◌∷◌, ◌++◌, Option, Some, None, Bool, true, false, append_assoc, append-nil, ap, sym, ◌∙◌, refl, subst}
+use Rattle.std.proofs.Common.{if◌then◌else◌}
 use Rattle.gr_tree.specs.declared.syntax.Kind.{Kind}
 use Rattle.gr_tree.specs.declared.syntax.Kind.TheVariants as kind
 use Rattle.gr_tree.specs.declared.syntax.Token.{Token}
-use Rattle.gr_tree.specs.Flatten.{sign, sign_if, tokens_if, all_tokens, item_tokens, list_tokens, group_tokens, step_kind, update_kind, ident_tokens, type_tokens, expr_tokens, exprs_tokens, value_tokens, simple_tokens, local_tokens, init_tokens, for_tokens, statement_tokens, block_tokens, statements_tokens, if_tokens, else_tokens, global_tokens, type_spec_tokens, receiver_tokens, param_tokens, result_tokens, func_tokens, imports_tokens, decl_tokens, flatten}
-use Rattle.gr_tree.specs.Tree.{Item, Group, single, several, IdentTree, TypeTree, ExprTree, Name, Blank, SimpleTree, Alone, Step, Update, Assign, Define, LocalTree, InitTree, ForTree, forever, while, clauses, StatementTree, Empty, Var, Simple, Inner, If, For, Break, Continue, Return, BlockTree, block, StatementTrees, no_statement, statement, IfTree, if_tree, ElseTree, no_else, else_if, else_block, ReceiverTree, ParamTree, FuncTree, DeclTree, VarDecl, TypeDecl, FuncDecl, FileTree}
+use Rattle.gr_tree.specs.Flatten.{sign, sign_if, tokens_if, all_tokens, item_tokens, list_tokens, group_tokens, step_kind, update_kind, ident_tokens}
+use Rattle.gr_tree.specs.Flatten.{type_tokens, expr_tokens, exprs_tokens, value_tokens, simple_tokens, local_tokens, init_tokens, for_tokens}
+use Rattle.gr_tree.specs.Flatten.{statement_tokens, block_tokens, statements_tokens, if_tokens, else_tokens, global_tokens, type_spec_tokens}
+use Rattle.gr_tree.specs.Flatten.{receiver_tokens, param_tokens, result_tokens, func_tokens, imports_tokens, decl_tokens, flatten}
+use Rattle.gr_tree.specs.Tree.{Item, Group, single, several, IdentTree, TypeTree, ExprTree, Name, Blank, SimpleTree, Alone, Step, Update, Assign, Define}
+use Rattle.gr_tree.specs.Tree.{LocalTree, InitTree, ForTree, forever, while, clauses, StatementTree, Empty, Var, Simple, Inner, If, For, Break, Continue}
+use Rattle.gr_tree.specs.Tree.{Return, BlockTree, block, StatementTrees, no_statement, statement, IfTree, if_tree, ElseTree, no_else, else_if, else_block}
+use Rattle.gr_tree.specs.Tree.{ReceiverTree, ParamTree, FuncTree, DeclTree, VarDecl, TypeDecl, FuncDecl, FileTree}
 use Rattle.gr_expr.specs.Places.{place_of}
 use Rattle.gr_expr.specs.Types.{Meaning, Value, Results, Broken}
 use Rattle.gr_expr.specs.World.{World, Locals}
 use Rattle.gr_expr.specs.Judge.{MemberUse, TypeJudged, judge, judge_value, judge_type, as_value, followed}
 use Rattle.gr_stmt.specs.Checked.{Checked, reaching, check_items, check_group}
-use Rattle.gr_stmt.specs.Sides.{Target, Lefts, values_of, judge_each, rights, assignable, judge_operand, assigned_one, assigned, no_name, declares, renewed, defined_one, defined}
-use Rattle.gr_stmt.specs.Simple.{check_condition, check_step, check_update, check_alone, check_assign, check_define, check_simple, check_optional, check_optional_condition, check_written, check_unwritten, check_local_of, check_local}
+use Rattle.gr_stmt.specs.Sides.{Target, Lefts, values_of, judge_each, rights, assignable, judge_operand, assigned_one, assigned, no_name, declares, renewed}
+use Rattle.gr_stmt.specs.Sides.{defined_one, defined}
+use Rattle.gr_stmt.specs.Simple.{check_condition, check_step, check_update, check_alone, check_assign, check_define, check_simple, check_optional}
+use Rattle.gr_stmt.specs.Simple.{check_optional_condition, check_written, check_unwritten, check_local_of, check_local}
 use Rattle.gr_stmt.specs.Statements.{check_return, check_init, check_header, check_statement, check_block, check_statements, check_if, check_else}
 use Rattle.gr_stmt.specs.Headers.{judge_results, check_optional_receiver, check_receiver, check_param, check_signature, check_function}
 use Rattle.gr_stmt.specs.Declarations.{check_global, check_type, check_decl, check_decls, check_file}
@@ -28,7 +37,8 @@ more_pass w us vs ts e p = subst (λ xs. Passes w xs ts) (sym (ap (λ xs. us ++ 
 
 value_pass : (w : World) (ls : Locals) (e : ExprTree) → Passes w (judge_value w ls e).uses (expr_tokens e)
 value_pass w ls e =
-    more_pass w (judge w ls e).uses (as_value (place_of e) (judge w ls e).meaning).uses (expr_tokens e) (value_uses (place_of e) (judge w ls e).meaning) (expr_pass w ls e)
+    more_pass w (judge w ls e).uses (as_value (place_of e) (judge w ls e).meaning).uses (expr_tokens e) (value_uses (place_of e) (judge w ls e).meaning)
+    (expr_pass w ls e)
 
 each_pass : (w : World) (ls : Locals) (es : List (Item ExprTree)) → Passes w (judge_each w ls es).uses (exprs_tokens es)
 unfolding judge_each all_tokens
@@ -64,7 +74,8 @@ assignable_uses place m = refl
 
 operand_pass : (w : World) (ls : Locals) (e : ExprTree) → Passes w (judge_operand w ls e).uses (expr_tokens e)
 operand_pass w ls e =
-    more_pass w (judge w ls e).uses (assignable (place_of e) (judge w ls e).meaning).uses (expr_tokens e) (assignable_uses (place_of e) (judge w ls e).meaning) (expr_pass w ls e)
+    more_pass w (judge w ls e).uses (assignable (place_of e) (judge w ls e).meaning).uses (expr_tokens e)
+    (assignable_uses (place_of e) (judge w ls e).meaning) (expr_pass w ls e)
 
 assigned_pass : (w : World) (ls : Locals) (e : ExprTree) → Passes w (assigned_one w ls e).uses (expr_tokens e)
 unfolding assigned_one
@@ -82,7 +93,8 @@ lefts_if w false l r ts p q = q
 
 unnamed_pass : (w : World) (ls : Locals) (e : ExprTree) → Passes w (followed (judge_value w ls e) (no_name (place_of e))).uses (expr_tokens e)
 unnamed_pass w ls e =
-    more_pass w (judge_value w ls e).uses (no_name (place_of e) (judge_value w ls e).meaning).uses (expr_tokens e) (no_name_uses (place_of e) (judge_value w ls e).meaning)
+    more_pass w (judge_value w ls e).uses (no_name (place_of e) (judge_value w ls e).meaning).uses (expr_tokens e)
+    (no_name_uses (place_of e) (judge_value w ls e).meaning)
     (value_pass w ls e)
 
 defined_pass : (w : World) (ls : Locals) (e : ExprTree) → Passes w (defined_one w ls e).uses (expr_tokens e)
@@ -161,7 +173,8 @@ simple_grows w s (Step e op p) = λ ts h.
     pass_append w s.uses (judge_operand w s.locals e).uses ts (expr_tokens e ++ (sign (step_kind op) p ∷ [])) h
     (pass_behind w (judge_operand w s.locals e).uses (expr_tokens e) (sign (step_kind op) p ∷ []) (operand_pass w s.locals e))
 simple_grows w s (Update x op p y) = λ ts h.
-    pass_append w s.uses ((judge_operand w s.locals x).uses ++ (judge_value w s.locals y).uses) ts (expr_tokens x ++ (sign (update_kind op) p ∷ expr_tokens y)) h
+    pass_append w s.uses ((judge_operand w s.locals x).uses ++ (judge_value w s.locals y).uses) ts
+    (expr_tokens x ++ (sign (update_kind op) p ∷ expr_tokens y)) h
     (pass_append w (judge_operand w s.locals x).uses (judge_value w s.locals y).uses (expr_tokens x) (sign (update_kind op) p ∷ expr_tokens y)
     (operand_pass w s.locals x) (pass_before w (judge_value w s.locals y).uses (sign (update_kind op) p ∷ []) (expr_tokens y) (value_pass w s.locals y)))
 simple_grows w s (Assign xs p ys) = λ ts h.
@@ -241,7 +254,8 @@ mutual
   statement_grows : (w : World) (results : List Target) (s : Checked) (x : StatementTree) → Grows w s (check_statement w results s x) (statement_tokens x)
   statement_grows w results s Empty = grows_none w s []
   statement_grows w results s (Var p g) =
-      grows_behind w s (check_group (check_local w) s g) (sign kind.Var p) (group_tokens local_tokens g) (group_grows w (check_local w) local_tokens (local_grows w) s g)
+      grows_behind w s (check_group (check_local w) s g) (sign kind.Var p) (group_tokens local_tokens g)
+      (group_grows w (check_local w) local_tokens (local_grows w) s g)
   statement_grows w results s (Simple a) = simple_grows w s a
   statement_grows w results s (Inner b) = block_grows w results s b
   statement_grows w results s (If i) = if_grows w results s i
@@ -309,7 +323,8 @@ function_grows w is_init s f =
     let results = result_tokens f.result in
     let params = list_tokens kind.Comma param_tokens f.params in
     let rest = sign kind.RightParen f.rparen ∷ (results ++ block_tokens f.body) in
-    grows_then w s a d (tokens_if receiver_tokens f.receiver) (sign kind.Name f.name ∷ (sign kind.LeftParen f.lparen ∷ (params ++ rest))) (receiver_grows w s f.receiver)
+    grows_then w s a d (tokens_if receiver_tokens f.receiver) (sign kind.Name f.name ∷ (sign kind.LeftParen f.lparen ∷ (params ++ rest)))
+    (receiver_grows w s f.receiver)
     (grows_after w a d (sign kind.Name f.name ∷ (sign kind.LeftParen f.lparen ∷ [])) (params ++ rest)
     (grows_then w a b d params rest (items_grow w (check_param w) kind.Comma param_tokens (param_grows w) a f.params)
     (grows_then w b c d (sign kind.RightParen f.rparen ∷ results) (block_tokens f.body) (noted w b c (sign kind.RightParen f.rparen ∷ results) refl)
@@ -320,11 +335,13 @@ unfolding check_decl decl_tokens
 decl_grows w is_init s (VarDecl k g c) =
     let a = check_group (check_global w) s g in
     grows_behind w s a (sign kind.Var k) (group_tokens global_tokens g ++ (sign kind.Semicolon c ∷ []))
-    (grows_before w s a (group_tokens global_tokens g) (sign kind.Semicolon c ∷ []) (group_grows w (check_global w) global_tokens (λ x y. noted w x (check_global w x y) (global_tokens y) refl) s g))
+    (grows_before w s a (group_tokens global_tokens g) (sign kind.Semicolon c ∷ [])
+    (group_grows w (check_global w) global_tokens (λ x y. noted w x (check_global w x y) (global_tokens y) refl) s g))
 decl_grows w is_init s (TypeDecl k g c) =
     let a = check_group (check_type w) s g in
     grows_behind w s a (sign kind.TypeWord k) (group_tokens type_spec_tokens g ++ (sign kind.Semicolon c ∷ []))
-    (grows_before w s a (group_tokens type_spec_tokens g) (sign kind.Semicolon c ∷ []) (group_grows w (check_type w) type_spec_tokens (λ x y. noted w x (check_type w x y) (type_spec_tokens y) refl) s g))
+    (grows_before w s a (group_tokens type_spec_tokens g) (sign kind.Semicolon c ∷ [])
+    (group_grows w (check_type w) type_spec_tokens (λ x y. noted w x (check_type w x y) (type_spec_tokens y) refl) s g))
 decl_grows w is_init s (FuncDecl k f c) =
     let a = check_function w (is_init f.name) s f in
     grows_behind w s a (sign kind.Func k) (func_tokens f ++ (sign kind.Semicolon c ∷ []))

@@ -48,8 +48,13 @@ module _ {D : Type 0} (steps : D → Event → Reply → D → Type 0) (waits : 
   step_answered None b x y z old new (Ask command) reply h k w = tt
   step_answered None b x y z old new Unknown reply h k w = tt
   step_answered None b x y z old new CutShort reply h k w = tt
-  step_answered (Some input) b x y z old new (Ask command) reply h k w =
-      (h.0.0, reply_text reply, Exchange-one steps waits limits input h.0.0 old new (Ask command) reply h.0.1 k, h.0.2, kept_then x y z (reply_text reply) h.1 w)
+  step_answered (Some input) b x y z old new (Ask command) reply h k w = (
+    h.0.0,
+    reply_text reply,
+    Exchange-one steps waits limits input h.0.0 old new (Ask command) reply h.0.1 k,
+    h.0.2,
+    kept_then x y z (reply_text reply) h.1 w,
+  )
   step_answered (Some input) b x y z old new Unknown reply h k w =
       (h.0.0, reply_text reply, Exchange-one steps waits limits input h.0.0 old new Unknown reply h.0.1 k, h.0.2, kept_then x y z (reply_text reply) h.1 w)
   step_answered (Some input) b x y z old new CutShort reply h k w = (

@@ -30,14 +30,35 @@ module _ {D : Type 0} (steps : D → Event → Reply → D → Type 0) (waits : 
       let q' = rw p.3 at q in
       (q'.0, p.1 ++ q'.1, Exchange-append steps waits limits input p.0 q'.0 old now new p.1 q'.1 p.2 q'.2, q'.3, Appends-trans x y z p.1 q'.1 p.4 q'.4)
   StepEnds-append (Some input) b c x y z old now new (Ok false) p q =
-      let q' = rw p.3 at q in
-      (q'.0, q'.1, p.1 ++ q'.2, Exchange-append steps waits limits input p.0 q'.0 old now new p.1 q'.2 p.2 q'.3, q'.4, q'.5, Appends-trans x y z p.1 q'.2 p.4 q'.6)
+      let q' = rw p.3 at q in (
+        q'.0,
+        q'.1,
+        p.1 ++ q'.2,
+        Exchange-append steps waits limits input p.0 q'.0 old now new p.1 q'.2 p.2 q'.3,
+        q'.4,
+        q'.5,
+        Appends-trans x y z p.1 q'.2 p.4 q'.6,
+      )
   StepEnds-append (Some input) b c x y z old now new (Err Read) p q =
-      let q' = rw p.3 at q in
-      (q'.0, q'.1, p.1 ++ q'.2, Exchange-append steps waits limits input p.0 (q'.0 ++ q'.1) old now new p.1 q'.2 p.2 q'.3, q'.4, Appends-trans x y z p.1 q'.2 p.4 q'.5, q'.6)
+      let q' = rw p.3 at q in (
+        q'.0,
+        q'.1,
+        p.1 ++ q'.2,
+        Exchange-append steps waits limits input p.0 (q'.0 ++ q'.1) old now new p.1 q'.2 p.2 q'.3,
+        q'.4,
+        Appends-trans x y z p.1 q'.2 p.4 q'.5,
+        q'.6,
+      )
   StepEnds-append (Some input) b c x y z old now new (Err Turns) p q =
-      let q' = rw p.3 at q in
-      (q'.0, q'.1, p.1 ++ q'.2, Exchange-append steps waits limits input p.0 (q'.0 ++ q'.1) old now new p.1 q'.2 p.2 q'.3, q'.4, Appends-trans x y z p.1 q'.2 p.4 q'.5, q'.6)
+      let q' = rw p.3 at q in (
+        q'.0,
+        q'.1,
+        p.1 ++ q'.2,
+        Exchange-append steps waits limits input p.0 (q'.0 ++ q'.1) old now new p.1 q'.2 p.2 q'.3,
+        q'.4,
+        Appends-trans x y z p.1 q'.2 p.4 q'.5,
+        q'.6,
+      )
   StepEnds-append (Some input) b c x y z old now new (Err Write) p q =
       let q' = rw p.3 at q in
       (q'.0, p.1 ++ q'.1, CutsOff-after steps waits limits input p.0 q'.0 old now new p.1 q'.1 p.2 q'.2, q'.3, Appends-trans x y z p.1 q'.1 p.4 q'.4)

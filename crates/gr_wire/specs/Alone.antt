@@ -11,7 +11,8 @@ use Rattle.gr_wire.specs.Transcript.{SessionEnds}
 
 -- The session ended so, whatever the reader then has left. `before` is what the reader had left at first, `held` and `holds` what
 -- the writer held.
-abbrev pub Converses : {D : Type 0} → (D → Event → Reply → D → Type 0) → WaitLaw D → Limits → (before held holds : Option (List ℕ)) → D → D → Result (Unit {0}) SessionFault → Type 0
+abbrev pub Converses : {D : Type 0} → (D → Event → Reply → D → Type 0) → WaitLaw D → Limits → (before held holds : Option (List ℕ)) → D → D →
+    Result (Unit {0}) SessionFault → Type 0
 Converses steps waits limits before held holds old new result =
     (after : Option (List ℕ)) × SessionEnds steps waits limits before after held holds old new result
 

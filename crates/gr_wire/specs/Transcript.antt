@@ -16,7 +16,8 @@ use Rattle.gr_wire.specs.Answers.{AnswersAll}
 
 -- The input up to `rest` was read as messages, answered in one run of the desk from old to new,
 -- and `text` is the text of the replies.
-pub record Exchange {D : Type 0} (steps : D → Event → Reply → D → Type 0) (waits : WaitLaw D) (limits : Limits) (input rest : List ℕ) (old new : D) (text : List ℕ) : Type 0 where
+pub record Exchange {D : Type 0} (steps : D → Event → Reply → D → Type 0) (waits : WaitLaw D) (limits : Limits) (input rest : List ℕ) (old new : D)
+    (text : List ℕ) : Type 0 where
   pub messages : List Message
   pub replies : List Response
   pub read : Reads limits input messages rest
@@ -25,7 +26,8 @@ pub record Exchange {D : Type 0} (steps : D → Event → Reply → D → Type 0
 
 -- The input up to `rest` was read as messages, answered in one run of the desk from old to new. The replies to all but the last
 -- are written whole, and a first part of the last one.
-pub record BreaksOff {D : Type 0} (steps : D → Event → Reply → D → Type 0) (waits : WaitLaw D) (limits : Limits) (input rest : List ℕ) (old new : D) (text : List ℕ) : Type 0 where
+pub record BreaksOff {D : Type 0} (steps : D → Event → Reply → D → Type 0) (waits : WaitLaw D) (limits : Limits) (input rest : List ℕ) (old new : D)
+    (text : List ℕ) : Type 0 where
   pub messages : List Message
   pub earlier : List Response
   pub last : Response
@@ -43,7 +45,8 @@ CutsOff steps waits limits input rest old new text = Exchange steps waits limits
 
 -- How a session ends, over an input that the reader tells. `before` and `after` are what the reader has left,
 -- `held` and `holds` what the writer holds.
-abbrev pub SessionEnds : {D : Type 0} → (D → Event → Reply → D → Type 0) → WaitLaw D → Limits → (before after held holds : Option (List ℕ)) → D → D → Result (Unit {0}) SessionFault → Type 0
+abbrev pub SessionEnds : {D : Type 0} → (D → Event → Reply → D → Type 0) → WaitLaw D → Limits → (before after held holds : Option (List ℕ)) → D → D →
+    Result (Unit {0}) SessionFault → Type 0
 -- all messages are answered, and nothing is read beyond the last
 SessionEnds steps waits limits before after held holds old new (Ok done) = IfSome before (λ input.
     (mid : List ℕ) × (rest : List ℕ) × (text : List ℕ) × Exchange steps waits limits input mid old new text
@@ -70,7 +73,8 @@ CountsFaults a b c d (Err Write) = (b ≡ a) × (d ≢ c)
 CountsFaults a b c d (Err Turns) = (b ≡ a) × (d ≡ c)
 
 -- What one step of a session does: true where it goes on.
-abbrev pub StepEnds : {D : Type 0} → (D → Event → Reply → D → Type 0) → WaitLaw D → Limits → (before after held holds : Option (List ℕ)) → D → D → Result Bool SessionFault → Type 0
+abbrev pub StepEnds : {D : Type 0} → (D → Event → Reply → D → Type 0) → WaitLaw D → Limits → (before after held holds : Option (List ℕ)) → D → D →
+    Result Bool SessionFault → Type 0
 StepEnds steps waits limits before after held holds old new (Ok true) = IfSome before (λ input.
     (rest : List ℕ) × (text : List ℕ) × Exchange steps waits limits input rest old new text × (after ≡ Some rest) × Appends held holds text)
 StepEnds steps waits limits before after held holds old new (Ok false) = SessionEnds steps waits limits before after held holds old new (Ok tt)

@@ -40,7 +40,8 @@ use Rattle.gr_decided.proofs.Files.{IsGlobal, paired_at, universe_paired}
 use Rattle.gr_decided.proofs.Spellings.{text_is_string}
 use Rattle.gr_decided.proofs.Meanings.{universal_meant, global_meant}
 use Rattle.gr_decided.proofs.Numbers.{OfKind, IsTold, IsTextAt, IsKept, universal, plain, laid, files_paired}
-use Rattle.gr_worlds.proofs.Declared.{told_global, told_universe, told_identifies, given, sites, old_site, new_site, sources, role_is, place_is, name_is, kept, may_within, file_of_told}
+use Rattle.gr_worlds.proofs.Declared.{told_global, told_universe, told_identifies, given, sites, old_site, new_site, sources, role_is, place_is, name_is}
+use Rattle.gr_worlds.proofs.Declared.{kept, may_within, file_of_told}
 
 -- a string stands at the token of the file
 abbrev InSome : Option FileParts → ℕ → Type 0

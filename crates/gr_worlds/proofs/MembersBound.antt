@@ -8,7 +8,8 @@ use Rattle.gr_scope.specs.declared.model.Purpose.TheVariants as purpose
 use Rattle.gr_scope.specs.declared.model.Role.TheVariants.{NotLexical}
 use Rattle.gr_imports.specs.Files.{Ranked, ranked, group_items}
 use Rattle.gr_declared.specs.Definitions.{PlacedField, body_fields, fields_from, package_fields}
-use Rattle.gr_declared.specs.Package.{Package, PlacedType, PlacedFunction, placed_type, decl_types, decl_functions, types_in, functions_in, package_types, package_functions, spelled}
+use Rattle.gr_declared.specs.Package.{Package, PlacedType, PlacedFunction, placed_type, decl_types, decl_functions, types_in, functions_in, package_types}
+use Rattle.gr_declared.specs.Package.{package_functions, spelled}
 use Rattle.gr_meanings.proofs.DeclKinds.{Holds}
 use Rattle.gr_verdict.specs.FaultLists.{ListsFaults}
 use Rattle.gr_verdict.specs.Verdicts.{Verdicts, AreVerdicts}

@@ -14,7 +14,8 @@ use Rattle.gr_scope.specs.declared.model.Position.{Position}
 use Rattle.gr_scope.specs.declared.model.Purpose.TheVariants as purpose
 use Rattle.gr_scope.specs.declared.model.Role.{Role}
 use Rattle.gr_scope.specs.declared.model.Role.TheVariants.{Declaring, LeftName, Implied, Use, NotLexical}
-use Rattle.gr_scope.specs.Bindings.{MayDeclare, IsLeftName, SameBlock, InScope, IsUse, IsBoundTo, Declares, Counts, BindsAt, use_bound, own, block_of, is_implied, may_declare, is_use, is_left_name}
+use Rattle.gr_scope.specs.Bindings.{MayDeclare, IsLeftName, SameBlock, InScope, IsUse, IsBoundTo, Declares, Counts, BindsAt, use_bound, own, block_of}
+use Rattle.gr_scope.specs.Bindings.{is_implied, may_declare, is_use, is_left_name}
 use Rattle.gr_scope.specs.Scopes.{Nests}
 use Rattle.gr_scope.specs.Table.{StandsAt}
 use Rattle.gr_scope.specs.WellFormed.{WellFormed}

@@ -31,10 +31,13 @@ returns c = λ fresh.
     let job = c.args.job.now in
     let built = c.args.built.now in
     let s : State = record { number = c.state.inside.number; files = c.state.inside.files; finished = c.state.inside.finished } in
-    let at : slice_get (package_paths c.state.inside.files) c.in-Some.number ≡ Some job.package = c.in-Some.ensures ∙ ap Some (c.path.ensures ∙ c.package.ensures) in
+    let at : slice_get (package_paths c.state.inside.files) c.in-Some.number ≡ Some job.package = c.in-Some.ensures ∙
+    ap Some (c.path.ensures ∙ c.package.ensures) in
     let texts : AreClosureTexts c.state.inside.files job.package (entries c.in_ok-files.files) = c.in_ok-files.ensures job.package at in
     let here : IsFresh s job built = subst (λ (x : State). IsFresh x job built) (sym c.state.view_is) fresh in
     elim c.else-same.branch [
-      | else-same-via-then-same+else-same-2 w ↦ other_built s job built c.in_ok-files.files texts (λ is. false≢true (sym w.if-same-2.false ∙ w.same-then-same.ensures.1 (is ∙ sym (w.files-then-same.ensures ∙ c.inputs-of_built.ensures)))) here
-      | else-same-via-else-same w ↦ other_inputs s job built c.in_ok-files.files texts (λ is. false≢true (sym w.if-same.false ∙ c.same.ensures.1 (is ∙ sym (c.files-2.ensures ∙ c.inputs-of_job.ensures)))) here
+      | else-same-via-then-same+else-same-2 w ↦ other_built s job built c.in_ok-files.files texts
+          (λ is. false≢true (sym w.if-same-2.false ∙ w.same-then-same.ensures.1 (is ∙ sym (w.files-then-same.ensures ∙ c.inputs-of_built.ensures)))) here
+      | else-same-via-else-same w ↦ other_inputs s job built c.in_ok-files.files texts
+          (λ is. false≢true (sym w.if-same.false ∙ c.same.ensures.1 (is ∙ sym (c.files-2.ensures ∙ c.inputs-of_job.ensures)))) here
     ]

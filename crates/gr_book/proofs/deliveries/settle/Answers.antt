@@ -9,4 +9,5 @@ use Rattle.gr_book.proofs.deliveries.settle.Goals as goal
 pub invariant_of-current : goal.invariant_of-current
 invariant_of-current c =
     let has = subst (HasTable c.args.current.now) c.in-Entered.is c.requires in
-    subst (λ (x : State). (length c.in-Entered.finished ≡ length (package_paths x.files)) × KnowsVerdicts x.files c.in-Entered.known) (sym c.current.view_is) has
+    subst (λ (x : State). (length c.in-Entered.finished ≡ length (package_paths x.files)) × KnowsVerdicts x.files c.in-Entered.known)
+    (sym c.current.view_is) has

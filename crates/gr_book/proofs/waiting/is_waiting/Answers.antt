@@ -25,7 +25,8 @@ pub returns-else-is_none : goal.returns-else-is_none
 returns-else-is_none c =
     let n = c.args.number in
     let found = is_there c.state.inside.finished n c.get.result (sym (c.is_none.ensures ∙ ap not c.if-is_none.false)) c.get.ensures in
-    let has : slice_get c.args.state.now.finished n ≡ Some (Some found.0) = subst (λ (x : State). slice_get x.finished n ≡ Some (Some found.0)) c.state.view_is found.1 in (
+    let has : slice_get c.args.state.now.finished n ≡ Some (Some found.0) =
+    subst (λ (x : State). slice_get x.finished n ≡ Some (Some found.0)) c.state.view_is found.1 in (
       λ is. absurd (false≢true (sym c.if-is_none.false ∙ is)),
       λ all. absurd (not_waiting c.args.state.now c.args.out.now c.args.visit n found.0 c.requires has all),
     )

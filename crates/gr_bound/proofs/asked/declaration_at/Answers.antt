@@ -8,8 +8,10 @@ use Rattle.gr_bound.proofs.asked.declaration_at.Goals as goal
 
 pub returns-in-None : goal.returns-in-None
 returns-in-None c = λ p is u holds.
-    no_folder c.args.graph.now (known_in c.args.found.now) c.args.path.now (λ has. c.in-None.ensures (subst (Contains (package_paths c.args.graph.now)) (sym c.folder.ensures) has)) p is
+    no_folder c.args.graph.now (known_in c.args.found.now) c.args.path.now
+    (λ has. c.in-None.ensures (subst (Contains (package_paths c.args.graph.now)) (sym c.folder.ensures) has)) p is
 
 pub returns-in-Some : goal.returns-in-Some
 returns-in-Some c =
-    found_at c.args.graph.now (known_in c.args.found.now) c.in-Some.number c.args.path.now c.args.offset (c.in-Some.ensures ∙ ap Some c.folder.ensures) c.declaration_in.result c.declaration_in.ensures
+    found_at c.args.graph.now (known_in c.args.found.now) c.in-Some.number c.args.path.now c.args.offset (c.in-Some.ensures ∙ ap Some c.folder.ensures)
+    c.declaration_in.result c.declaration_in.ensures

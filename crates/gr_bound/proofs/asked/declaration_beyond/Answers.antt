@@ -11,7 +11,8 @@ use Rattle.gr_bound.proofs.asked.declaration_beyond.Goals as goal
 
 pub returns-in-Some : goal.returns-in-Some
 returns-in-Some c =
-    by_package (subst (IsDeclarationFound (BindsByPackage (IsPackage c.args.graph.now (known_in c.args.found.now)) (package_of c.args.unit) c.args.u)) c.in-Some.is c.in_ok-declaration.ensures)
+    by_package (subst (IsDeclarationFound (BindsByPackage (IsPackage c.args.graph.now (known_in c.args.found.now)) (package_of c.args.unit) c.args.u))
+    c.in-Some.is c.in_ok-declaration.ensures)
 
 pub returns-in-None : goal.returns-in-None
 returns-in-None c =

@@ -17,5 +17,6 @@ returns-in-Some c =
     let p = package_of c.args.unit in
     let path = c.in-Some.path.now in
     IfOk-weaker c.exported_declaration.result _ _
-    (λ o h. by_path w known p c.args.u path c.in-Some.ensures.0 c.in-Some.ensures.1 o (subst (λ n. IsDeclarationFound (ExportsAs w known path n) o) c.name.ensures h))
+    (λ o h. by_path w known p c.args.u path c.in-Some.ensures.0 c.in-Some.ensures.1 o
+    (subst (λ n. IsDeclarationFound (ExportsAs w known path n) o) c.name.ensures h))
     c.exported_declaration.ensures

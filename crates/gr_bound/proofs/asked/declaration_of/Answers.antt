@@ -9,4 +9,5 @@ pub returns-in-Some : goal.returns-in-Some
 returns-in-Some c = by_scope (subst (IsDeclarationFound (BindsByScope (package_of c.args.unit) c.args.u)) c.in-Some.is c.in_ok-declaration.ensures)
 
 pub declaration_beyond-requires-clause-unbound : goal.declaration_beyond-requires-clause-unbound
-declaration_beyond-requires-clause-unbound c = subst (IsDeclarationFound (BindsByScope (package_of c.args.unit) c.args.u)) c.in-None.is c.in_ok-declaration.ensures
+declaration_beyond-requires-clause-unbound c = subst (IsDeclarationFound (BindsByScope (package_of c.args.unit) c.args.u)) c.in-None.is
+    c.in_ok-declaration.ensures

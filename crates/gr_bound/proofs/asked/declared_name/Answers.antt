@@ -16,5 +16,7 @@ pub returns-in-Some : goal.returns-in-Some
 returns-in-Some c =
     let w = c.args.graph.now in
     let known = known_in c.args.found.now in
-    IfOk-weaker c.name_at.result (λ name. IsNameAt w known c.in-Some.number c.args.d (option_map bytes_of name)) (λ name. IsExportedUnder w known (Declared c.args.path.now c.args.d) (option_map bytes_of name))
-    (λ name x. name_exported w known c.args.path.now c.args.d x.0 x.1.0.is_package (same_Some _ _ (sym x.1.0.has_number ∙ c.in-Some.ensures) ∙ c.path.ensures) (option_map bytes_of name) x.1.1) c.name_at.ensures
+    IfOk-weaker c.name_at.result (λ name. IsNameAt w known c.in-Some.number c.args.d (option_map bytes_of name))
+    (λ name. IsExportedUnder w known (Declared c.args.path.now c.args.d) (option_map bytes_of name))
+    (λ name x. name_exported w known c.args.path.now c.args.d x.0 x.1.0.is_package
+    (same_Some _ _ (sym x.1.0.has_number ∙ c.in-Some.ensures) ∙ c.path.ensures) (option_map bytes_of name) x.1.1) c.name_at.ensures

@@ -6,4 +6,5 @@ use Rattle.gr_bound.proofs.asked.exported_under.Goals as goal
 
 pub returns-in-Declared : goal.returns-in-Declared
 returns-in-Declared c =
-    subst (λ d. IfOk c.declared_name.result (λ name. IsExportedUnder c.args.graph.now (known_in c.args.found.now) d (option_map bytes_of name))) (sym c.in-Declared.is) c.declared_name.ensures
+    subst (λ d. IfOk c.declared_name.result (λ name. IsExportedUnder c.args.graph.now (known_in c.args.found.now) d (option_map bytes_of name)))
+    (sym c.in-Declared.is) c.declared_name.ensures

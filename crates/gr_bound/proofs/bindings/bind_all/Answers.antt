@@ -11,7 +11,8 @@ pub loop-number-init : goal.loop-number-init
 loop-number-init c = none_below _ c.args.bound.now.items
 
 pub loop-number-preserved : goal.loop-number-preserved
-loop-number-preserved c = next_below _ c.args.bound.now.items c.loop-number.bound.items c.bind_package.new.bound.items c.loop-number.number c.loop-number.invariant c.in_ok-bind_package.ensures
+loop-number-preserved c = next_below _ c.args.bound.now.items c.loop-number.bound.items c.bind_package.new.bound.items c.loop-number.number
+    c.loop-number.invariant c.in_ok-bind_package.ensures
 
 pub returns : goal.returns
 returns c =

@@ -17,6 +17,9 @@ returns-in-None c =
 pub returns-in-Some : goal.returns-in-Some
 returns-in-Some c =
     let p = package_of c.args.unit in
-    let is : BindsByScope p c.args.u c.in-Some.declaration = subst (IsDeclarationFound (BindsByScope p c.args.u)) c.in-Some.is c.in_ok-declaration_in_scope.ensures in
-    bound_to_one (λ b. BeginsAt p (place_at b).path (place_at b).offset c.args.u) (BindsByScope p c.args.u) c.args.bound.now.items c.bind_identifier.new.found.items c.in-Some.declaration c.bind_identifier.result is
-    (λ e k. one_by_scope p c.args.u (c.bindings_are_unique.ensures p.layout c.is_well_formed.ensures p.names c.args.u) e c.in-Some.declaration k is) c.bind_identifier.ensures
+    let is : BindsByScope p c.args.u c.in-Some.declaration =
+    subst (IsDeclarationFound (BindsByScope p c.args.u)) c.in-Some.is c.in_ok-declaration_in_scope.ensures in
+    bound_to_one (λ b. BeginsAt p (place_at b).path (place_at b).offset c.args.u) (BindsByScope p c.args.u) c.args.bound.now.items
+    c.bind_identifier.new.found.items c.in-Some.declaration c.bind_identifier.result is
+    (λ e k. one_by_scope p c.args.u (c.bindings_are_unique.ensures p.layout c.is_well_formed.ensures p.names c.args.u) e c.in-Some.declaration k is)
+    c.bind_identifier.ensures

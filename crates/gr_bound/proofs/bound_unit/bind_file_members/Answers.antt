@@ -20,10 +20,12 @@ loop-k-preserved c =
     let k = c.loop-k.k in
     let x = c.index-uses-k.result in
     next_below _ c.args.bound.now.items c.loop-k.bound.items c.bind_member.new.bound.items k c.loop-k.invariant
-    (one_use_bound ds p c.args.file (map use_of c.args.uses.now) k (use_of x) c.loop-k.bound.items c.bind_member.new.bound.items (use_at c.args.uses.now k x (omega arith) c.index-uses-k.is) c.in_ok-bind_member.ensures)
+    (one_use_bound ds p c.args.file (map use_of c.args.uses.now) k (use_of x) c.loop-k.bound.items c.bind_member.new.bound.items
+    (use_at c.args.uses.now k x (omega arith) c.index-uses-k.is) c.in_ok-bind_member.ensures)
 
 pub returns : goal.returns
 returns c =
     let e : c.loop-k.k ≡ length c.args.uses.now = omega arith in
-    all_uses_bound (definitions_seen c.args.unit c.args.own.now) (package_of c.args.unit) c.args.file (map use_of c.args.uses.now) c.loop-k.k c.args.bound.now.items c.loop-k.bound.items
+    all_uses_bound (definitions_seen c.args.unit c.args.own.now) (package_of c.args.unit) c.args.file (map use_of c.args.uses.now) c.loop-k.k
+    c.args.bound.now.items c.loop-k.bound.items
     (e ∙ sym (length-map c.args.uses.now use_of)) c.loop-k.invariant

@@ -10,4 +10,5 @@ use Rattle.gr_bound.proofs.bound_unit.bind_file_members.Given as goal
 -- the member uses that were passed were added
 abbrev pub invariant-loop-k : goal.invariant-loop-k
 invariant-loop-k l =
-    AddsAll l.initial.bound.items l.bound.items (BelowAll (λ k b. IsMemberUseAt (definitions_seen l.unit l.own) (package_of l.unit) l.file b.declaration (map use_of l.uses) k (place_at b)) l.k)
+    AddsAll l.initial.bound.items l.bound.items (BelowAll
+    (λ k b. IsMemberUseAt (definitions_seen l.unit l.own) (package_of l.unit) l.file b.declaration (map use_of l.uses) k (place_at b)) l.k)

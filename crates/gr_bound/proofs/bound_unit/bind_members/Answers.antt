@@ -25,11 +25,13 @@ loop-file-preserved c =
     let b = c.bind_file_members.new.bound.items in
     next_below _ c.args.bound.now.items a b file c.loop-file.invariant
     (one_file_bound ds p members file v a b (slice_get_read members (length members) file v refl (omega arith) c.index-members-file.is)
-    (subst (λ l. AddsAll a b (λ x. IsMemberUseAmong ds p file x.declaration (map use_of l) (place_at x))) c.deref.ensures.value c.in_ok-bind_file_members.ensures))
+    (subst (λ l. AddsAll a b (λ x. IsMemberUseAmong ds p file x.declaration (map use_of l) (place_at x))) c.deref.ensures.value
+    c.in_ok-bind_file_members.ensures))
 
 pub returns : goal.returns
 returns c =
     let own = c.args.own.now in
     let e : c.loop-file.file ≡ length c.args.members.now = omega arith in
-    all_members_bound (package_of c.args.unit) c.is_well_formed.ensures c.one_world.ensures (definitions_seen c.args.unit own) (seen_definitions c.args.unit own c.requires.own) c.args.members.now c.requires.members
+    all_members_bound (package_of c.args.unit) c.is_well_formed.ensures c.one_world.ensures (definitions_seen c.args.unit own)
+    (seen_definitions c.args.unit own c.requires.own) c.args.members.now c.requires.members
     c.loop-file.file c.args.bound.now.items c.loop-file.bound.items e c.loop-file.invariant

@@ -9,4 +9,5 @@ use Rattle.gr_bound.proofs.bound_unit.bind_members.Given as goal
 -- the member uses of the files that were passed were added
 abbrev pub invariant-loop-file : goal.invariant-loop-file
 invariant-loop-file l =
-    AddsAll l.initial.bound.items l.bound.items (BelowAll (λ file b. IsFileUse (definitions_seen l.unit l.own) (package_of l.unit) b.declaration l.members file (place_at b)) l.file)
+    AddsAll l.initial.bound.items l.bound.items (BelowAll
+    (λ file b. IsFileUse (definitions_seen l.unit l.own) (package_of l.unit) b.declaration l.members file (place_at b)) l.file)

@@ -13,4 +13,5 @@ returns c =
     let p = package_of c.args.unit in
     either_way (λ b. BeginsAt p (place_at b).path (place_at b).offset c.args.u) (BindsByScope p c.args.u)
     (BindsByPackage (IsPackage c.args.exports.now.graph.now (known_in c.args.exports.now.found.now)) p c.args.u)
-    c.args.bound.now.items c.bind_by_scope.new.bound.items c.bind_by_package.new.bound.items c.bind_by_package.result c.in_ok-bind_by_scope.ensures c.bind_by_package.ensures
+    c.args.bound.now.items c.bind_by_scope.new.bound.items c.bind_by_package.new.bound.items c.bind_by_package.result c.in_ok-bind_by_scope.ensures
+    c.bind_by_package.ensures

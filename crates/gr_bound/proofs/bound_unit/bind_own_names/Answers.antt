@@ -16,5 +16,7 @@ bind_methods-requires-clause-places c = subst (ArePlaces (IsMethodAt (package_of
 pub returns : goal.returns
 returns c =
     let p = package_of c.args.unit in
-    all_names p c.deref.result.now c.deref-2.result.now (subst (ArePlaces (IsFieldAt p)) (sym c.deref.ensures.value) c.in_ok-fields.ensures) (subst (ArePlaces (IsMethodAt p)) (sym c.deref-2.ensures.value) c.in_ok-methods.ensures)
-    (one_field_place p) (one_method_place p) c.args.bound.now.items c.bind_fields.new.bound.items c.bind_methods.new.bound.items c.bind_methods.result c.in_ok-bind_fields.ensures c.bind_methods.ensures
+    all_names p c.deref.result.now c.deref-2.result.now (subst (ArePlaces (IsFieldAt p)) (sym c.deref.ensures.value) c.in_ok-fields.ensures)
+    (subst (ArePlaces (IsMethodAt p)) (sym c.deref-2.ensures.value) c.in_ok-methods.ensures)
+    (one_field_place p) (one_method_place p) c.args.bound.now.items c.bind_fields.new.bound.items c.bind_methods.new.bound.items c.bind_methods.result
+    c.in_ok-bind_fields.ensures c.bind_methods.ensures

@@ -8,7 +8,8 @@ use Rattle.gr_bound.proofs.exports.add_number.Goals as goal
 
 pub returns-in_ok-insert : goal.returns-in_ok-insert
 returns-in_ok-insert c =
-    one_more_number (package_of c.args.unit) c.args.d c.args.numbers.now c.insert.new.self c.in_ok-name.name (c.in_ok-name.ensures.items ∙ c.name.ensures) c.in_ok-insert.ensures.updates
+    one_more_number (package_of c.args.unit) c.args.d c.args.numbers.now c.insert.new.self c.in_ok-name.name (c.in_ok-name.ensures.items ∙ c.name.ensures)
+    c.in_ok-insert.ensures.updates
     (c.is_seen.ensures.0 c.if-is_seen.true)
 
 pub returns-else-is_seen : goal.returns-else-is_seen

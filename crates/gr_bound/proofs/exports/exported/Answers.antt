@@ -17,8 +17,10 @@ returns-in-None-named c =
     let known = known_in c.args.found.now in
     let n = c.in-Some.number in
     let x = c.index-exports-number.result in
-    let within : n < length c.args.exports.now = subst (λ m. n < m) (sym c.requires.exports.size) (slice_get_within (package_paths w) n c.args.path.now c.in-Some.ensures) in
-    let are : AreNumbersAt w known n x = c.requires.exports.each n x (slice_get_read c.args.exports.now (length c.args.exports.now) n x refl within c.index-exports-number.is) in
+    let within : n < length c.args.exports.now = subst (λ m. n < m) (sym c.requires.exports.size)
+    (slice_get_within (package_paths w) n c.args.path.now c.in-Some.ensures) in
+    let are : AreNumbersAt w known n x = c.requires.exports.each n x
+    (slice_get_read c.args.exports.now (length c.args.exports.now) n x refl within c.index-exports-number.is) in
     not_exported w known c.args.path.now c.args.name.now n x c.in-Some.ensures are (sym c.in-None-named.ensures)
 
 pub returns-in_ok-path-in-Some-named : goal.returns-in_ok-path-in-Some-named
@@ -27,7 +29,9 @@ returns-in_ok-path-in-Some-named c =
     let known = known_in c.args.found.now in
     let n = c.in-Some.number in
     let x = c.index-exports-number.result in
-    let within : n < length c.args.exports.now = subst (λ m. n < m) (sym c.requires.exports.size) (slice_get_within (package_paths w) n c.args.path.now c.in-Some.ensures) in
-    let are : AreNumbersAt w known n x = c.requires.exports.each n x (slice_get_read c.args.exports.now (length c.args.exports.now) n x refl within c.index-exports-number.is) in
+    let within : n < length c.args.exports.now = subst (λ m. n < m) (sym c.requires.exports.size)
+    (slice_get_within (package_paths w) n c.args.path.now c.in-Some.ensures) in
+    let are : AreNumbersAt w known n x = c.requires.exports.each n x
+    (slice_get_read c.args.exports.now (length c.args.exports.now) n x refl within c.index-exports-number.is) in
     is_exported w known c.args.path.now c.args.name.now n x c.in-Some-named.d c.in-Some.ensures are (sym c.in-Some-named.ensures) _
     (c.in_ok-path-in-Some-named.ensures.cases ∙ c.path_of.ensures c.args.path.now c.in-Some.ensures)

@@ -10,7 +10,8 @@ pub loop-finding-preserved : goal.loop-finding-preserved
 loop-finding-preserved c = λ n f below at.
     let x = c.finding-item.result in
     sound_next c.args.packages.now c.loop-finding.finding-index n x f (omega arith) c.finding-item.is
-    (sym (ap (λ (f : Finding). f.faults.items) c.get.ensures) ∙ vec_empty c.get.result.now.faults c.is_empty.result c.is_empty.ensures c.if-not-is_empty.false) c.loop-finding.invariant below at
+    (sym (ap (λ (f : Finding). f.faults.items) c.get.ensures) ∙
+    vec_empty c.get.result.now.faults c.is_empty.result c.is_empty.ensures c.if-not-is_empty.false) c.loop-finding.invariant below at
 
 pub returns : goal.returns
 returns c = λ t n f at.

@@ -7,7 +7,8 @@ use Rattle.gr_bound.proofs.identifiers.add_identifier.Goals as goal
 
 pub returns-then-is_implied : goal.returns-then-is_implied
 returns-then-is_implied c =
-    no_identifier (package_of c.args.unit) c.args.u c.args.found.now.items (ap is_implied (sym c.role.ensures) ∙ sym c.is_implied.ensures ∙ c.if-is_implied.true)
+    no_identifier (package_of c.args.unit) c.args.u c.args.found.now.items
+    (ap is_implied (sym c.role.ensures) ∙ sym c.is_implied.ensures ∙ c.if-is_implied.true)
 
 pub returns : goal.returns
 returns c =

@@ -7,8 +7,10 @@ use Rattle.gr_bound.proofs.identifiers.add_name.Goals as goal
 
 pub returns-in_ok-push : goal.returns-in_ok-push
 returns-in_ok-push c =
-    name_pushed c.args.found.now.items c.push.new.self.items (source_of c.args.file.now) c.args.token (record { path = c.in_ok-path.path; offset = c.offset-offset.result })
+    name_pushed c.args.found.now.items c.push.new.self.items (source_of c.args.file.now) c.args.token
+    (record { path = c.in_ok-path.path; offset = c.offset-offset.result })
     (c.is_name.ensures.0 c.if-is_name.true) c.in_ok-push.ensures.items (search rules) (search rules)
 
 pub returns-else-is_name : goal.returns-else-is_name
-returns-else-is_name c = not_a_name c.args.found.now.items (source_of c.args.file.now) c.args.token (λ q. false≢true (sym c.if-is_name.false ∙ c.is_name.ensures.1 q))
+returns-else-is_name c = not_a_name c.args.found.now.items (source_of c.args.file.now) c.args.token
+    (λ q. false≢true (sym c.if-is_name.false ∙ c.is_name.ensures.1 q))

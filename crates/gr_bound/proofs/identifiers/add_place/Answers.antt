@@ -5,7 +5,8 @@ use Rattle.gr_bound.proofs.identifiers.add_place.Goals as goal
 
 pub returns-then-at-files : goal.returns-then-at-files
 returns-then-at-files c =
-    name_in_file c.args.found.now.items c.add_name.new.found.items c.add_name.result c.args.files.now c.args.at.file c.args.at.index c.index-files-at.result c.if-at-files.true c.index-files-at.is c.add_name.ensures
+    name_in_file c.args.found.now.items c.add_name.new.found.items c.add_name.result c.args.files.now c.args.at.file c.args.at.index c.index-files-at.result
+    c.if-at-files.true c.index-files-at.is c.add_name.ensures
 
 pub returns-else-at-files : goal.returns-else-at-files
 returns-else-at-files c =

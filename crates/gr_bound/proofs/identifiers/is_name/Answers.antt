@@ -6,4 +6,5 @@ use Rattle.gr_bound.specs.Identifiers.{IsName}
 use Rattle.gr_bound.proofs.identifiers.is_name.Goals as goal
 
 pub returns : goal.returns
-returns c = subst (λ ts. IsTrue c.is_name_at.result ↔ IsName (slice_get ts c.args.token)) (c.tokens.ensures.tokens ∙ ap tokens_in c.pieces.ensures) c.is_name_at.ensures
+returns c = subst (λ ts. IsTrue c.is_name_at.result ↔ IsName (slice_get ts c.args.token)) (c.tokens.ensures.tokens ∙ ap tokens_in c.pieces.ensures)
+    c.is_name_at.ensures

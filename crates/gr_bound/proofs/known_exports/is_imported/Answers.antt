@@ -10,7 +10,8 @@ returns-then-is_marked c = λ path at.
     let w = c.args.graph.now in
     let importers = c.importers-importer-items.result.now in
     let k = c.loop-importer.importer-index in (
-      (λ _. imported_by w (IsMarked c.args.marks.now) path importers (c.importers-importer-items.ensures path at) k c.loop-importer-test.true (c.is_marked.ensures.0 c.if-is_marked.true)),
+      (λ _. imported_by w (IsMarked c.args.marks.now) path importers (c.importers-importer-items.ensures.importers path at) k c.loop-importer-test.true
+          (c.is_marked.ensures.0 c.if-is_marked.true)),
       (λ _. refl),
     )
 
@@ -23,6 +24,6 @@ returns c = λ path at.
     let importers = c.importers-importer-items.result.now in
     let end = c.loop-importer-test.false in (
       (λ no. absurd (false≢true no)),
-      (λ is. absurd (not_imported w (IsMarked c.args.marks.now) path importers (c.importers-importer-items.ensures path at)
+      (λ is. absurd (not_imported w (IsMarked c.args.marks.now) path importers (c.importers-importer-items.ensures.importers path at)
           (λ k lt. c.loop-importer.invariant k (omega (arith, end))) is)),
     )

@@ -8,7 +8,8 @@ use Rattle.gr_bound.proofs.may_use.may_use_member.Goals as goal
 pub returns-then-reaches : goal.returns-then-reaches
 returns-then-reaches c = λ p is file token d m at. elim (cases_Bool c.uses_members.result) [
   | inl holds ↦ holds
-  | inr none ↦ absurd (one_used c.args.graph.now (known_in c.args.found.now) c.requires.sound.findings.right c.args.number p is c.members_of.result.now (c.members_of.ensures p is) file token d m (c.uses_members.ensures none file))
+  | inr none ↦ absurd (one_used c.args.graph.now (known_in c.args.found.now) c.requires.sound.findings.right c.args.number p is c.members_of.result.now
+      (c.members_of.ensures p is) file token d m (c.uses_members.ensures none file))
 ]
 
 pub returns-else-reaches : goal.returns-else-reaches

@@ -11,7 +11,8 @@ loop-uses-preserved c =
     let members = c.args.members.now in
     let x = c.uses-item.result in
     below_more _ _ c.loop-uses.invariant
-    (ap uses_or_none (slice_get_read members (length members) c.loop-uses.uses-index x refl c.loop-uses-test.true c.uses-item.is) ∙ vec_empty x c.is_empty.result c.is_empty.ensures c.if-not-is_empty.false)
+    (ap uses_or_none (slice_get_read members (length members) c.loop-uses.uses-index x refl c.loop-uses-test.true c.uses-item.is) ∙
+    vec_empty x c.is_empty.result c.is_empty.ensures c.if-not-is_empty.false)
 
 pub returns : goal.returns
 returns c = λ e file.

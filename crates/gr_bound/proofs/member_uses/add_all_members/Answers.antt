@@ -12,7 +12,8 @@ use Rattle.gr_bound.proofs.MemberPlaces.{IsFileUse, one_file, all_members}
 use Rattle.gr_bound.proofs.member_uses.add_all_members.Goals as goal
 
 pub loop-file-init : goal.loop-file-init
-loop-file-init c = below_none (IsFileUse (definitions_seen c.args.unit c.args.own.now) (package_of c.args.unit) c.args.declaration.now c.args.members.now) c.args.found.now.items
+loop-file-init c = below_none (IsFileUse (definitions_seen c.args.unit c.args.own.now) (package_of c.args.unit) c.args.declaration.now c.args.members.now)
+    c.args.found.now.items
 
 pub loop-file-preserved : goal.loop-file-preserved
 loop-file-preserved c =
@@ -32,5 +33,6 @@ pub returns : goal.returns
 returns c =
     let own = c.args.own.now in
     let e : c.loop-file.file ≡ length c.args.members.now = omega arith in
-    all_members (package_of c.args.unit) c.is_well_formed.ensures c.one_world.ensures (definitions_seen c.args.unit own) (seen_definitions c.args.unit own c.requires.own) c.args.members.now c.requires.members
+    all_members (package_of c.args.unit) c.is_well_formed.ensures c.one_world.ensures (definitions_seen c.args.unit own)
+    (seen_definitions c.args.unit own c.requires.own) c.args.members.now c.requires.members
     c.args.declaration.now c.loop-file.file c.args.found.now.items c.loop-file.found.items e c.loop-file.invariant

@@ -24,10 +24,12 @@ returns-in-Some c =
     let p = package_of c.args.unit in
     let k = c.loop-k.k in
     let x = c.index-uses-k.result in
-    one_among ds p c.args.file c.args.token (map use_of c.args.uses.now) k (use_of x) c.in-Some.declaration (use_at c.args.uses.now k x (omega arith) c.index-uses-k.is)
+    one_among ds p c.args.file c.args.token (map use_of c.args.uses.now) k (use_of x) c.in-Some.declaration
+    (use_at c.args.uses.now k x (omega arith) c.index-uses-k.is)
     (subst (IsDeclarationFound (IsMemberIf ds p c.args.file c.args.token (use_of x))) c.in-Some.is c.in_ok-declaration_if.ensures)
 
 pub returns : goal.returns
 returns c =
     let e : c.loop-k.k ≡ length c.args.uses.now = omega arith in
-    none_among (definitions_seen c.args.unit c.args.own.now) (package_of c.args.unit) c.args.file c.args.token (map use_of c.args.uses.now) c.loop-k.k (e ∙ sym (length-map c.args.uses.now use_of)) c.loop-k.invariant
+    none_among (definitions_seen c.args.unit c.args.own.now) (package_of c.args.unit) c.args.file c.args.token (map use_of c.args.uses.now) c.loop-k.k
+    (e ∙ sym (length-map c.args.uses.now use_of)) c.loop-k.invariant

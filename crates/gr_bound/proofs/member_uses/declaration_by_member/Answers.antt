@@ -15,6 +15,7 @@ returns c =
     let at = c.place-at.result in
     IfOk-weaker c.declaration_among.result _ _
     (λ o h. subst (λ x. IsDeclarationFound (IsMemberAt p x.file x.index) o) c.place-at.ensures
-    (found_member p c.is_well_formed.ensures c.one_world.ensures (definitions_seen c.args.unit own) (seen_definitions c.args.unit own c.requires.own) c.args.members.now c.requires.members at.file at.index
+    (found_member p c.is_well_formed.ensures c.one_world.ensures (definitions_seen c.args.unit own) (seen_definitions c.args.unit own c.requires.own)
+    c.args.members.now c.requires.members at.file at.index
     c.uses_of.result.now c.uses_of.ensures o h))
     c.declaration_among.ensures

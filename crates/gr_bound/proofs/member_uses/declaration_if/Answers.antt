@@ -9,4 +9,5 @@ use Rattle.gr_bound.proofs.member_uses.declaration_if.Goals as goal
 pub returns-then-found-token : goal.returns-then-found-token
 returns-then-found-token c =
     IfOk-weaker c.member_declaration.result _ _
-    (λ o e. at_token (definitions_seen c.args.unit c.args.own.now) (package_of c.args.unit) c.args.file c.args.token (use_of c.args.found.now) c.if-found-token.true o e) c.member_declaration.ensures
+    (λ o e. at_token (definitions_seen c.args.unit c.args.own.now) (package_of c.args.unit) c.args.file c.args.token (use_of c.args.found.now)
+    c.if-found-token.true o e) c.member_declaration.ensures

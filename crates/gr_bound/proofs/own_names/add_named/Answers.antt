@@ -8,8 +8,10 @@ use Rattle.gr_bound.proofs.own_names.add_named.Goals as goal
 
 pub returns-in-None : goal.returns-in-None
 returns-in-None c =
-    subst (λ o. Adds c.args.found.now.items c.args.found.now.items (AtFound (package_of c.args.unit) o)) (sym c.in-None.is ∙ c.place_of.ensures) (adds_none c.args.found.now.items (λ place. ⊥) (λ place h. h))
+    subst (λ o. Adds c.args.found.now.items c.args.found.now.items (AtFound (package_of c.args.unit) o)) (sym c.in-None.is ∙ c.place_of.ensures)
+    (adds_none c.args.found.now.items (λ place. ⊥) (λ place h. h))
 
 pub returns-in-Some : goal.returns-in-Some
 returns-in-Some c =
-    subst (λ o. OnOk c.add_token.result (Adds c.args.found.now.items c.add_token.new.found.items (AtFound (package_of c.args.unit) o))) (sym c.in-Some.is ∙ c.place_of.ensures) c.add_token.ensures
+    subst (λ o. OnOk c.add_token.result (Adds c.args.found.now.items c.add_token.new.found.items (AtFound (package_of c.args.unit) o)))
+    (sym c.in-Some.is ∙ c.place_of.ensures) c.add_token.ensures

@@ -21,7 +21,10 @@ loop-rank-preserved c =
     let at = item_at field_of fields (package_fields p) rank c.index-field.result.now c.in_ok-fields.ensures lt c.index-field.ensures in
     let within : rank < length (package_fields p) = subst (λ n. rank < n) (sym (length-map fields field_of) ∙ ap length c.in_ok-fields.ensures) lt in
     next_place (IsFieldAt p) rank c.loop-rank.places.items c.push.new.self.items c.marked.result c.in_ok-push.ensures.items
-    (found_place (IsFieldAt p rank) c.marked.result _ c.marked.ensures (marked_field p rank (field_of c.index-field.result.now) _ at (mark_is c.in_ok-marks.marks.items rank c.index.result.now _ (subst (λ n. rank < n) (sym c.in_ok-marks.ensures.all) within) c.index.ensures (c.in_ok-marks.ensures.each rank within)))) c.loop-rank.invariant
+    (found_place (IsFieldAt p rank) c.marked.result _ c.marked.ensures
+    (marked_field p rank (field_of c.index-field.result.now) _ at
+    (mark_is c.in_ok-marks.marks.items rank c.index.result.now _ (subst (λ n. rank < n) (sym c.in_ok-marks.ensures.all) within) c.index.ensures
+    (c.in_ok-marks.ensures.each rank within)))) c.loop-rank.invariant
 
 pub returns : goal.returns
 returns c =
@@ -29,4 +32,5 @@ returns c =
     let fields = c.in_ok-fields.fields.items in
     let end : c.loop-rank.rank ≡ length fields = omega (arith, c.len-rank-end.ensures) in
     let size : c.loop-rank.rank ≡ length (package_fields p) = end ∙ sym (length-map fields field_of) ∙ ap length c.in_ok-fields.ensures in
-    all_places (IsFieldAt p) c.loop-rank.rank c.loop-rank.places.items (λ rank at is. subst (λ n. rank < n) (sym size) (field_within p rank at is)) c.loop-rank.invariant
+    all_places (IsFieldAt p) c.loop-rank.rank c.loop-rank.places.items (λ rank at is. subst (λ n. rank < n) (sym size) (field_within p rank at is))
+    c.loop-rank.invariant

@@ -23,7 +23,10 @@ loop-rank-preserved c =
     let at = item_at function_of functions (package_functions p) rank c.index-function.result.now c.requires.functions lt c.index-function.ensures in
     let within : rank < length (package_functions p) = subst (λ n. rank < n) (sym (length-map functions function_of) ∙ ap length c.requires.functions) lt in
     next_place (IsMethodAt p) rank c.loop-rank.places.items c.push.new.self.items c.marked.result c.in_ok-push.ensures.items
-    (found_place (IsMethodAt p rank) c.marked.result _ c.marked.ensures (marked_method p rank (function_of c.index-function.result.now) _ at (mark_is c.in_ok-marks.marks.items rank c.index.result.now _ (subst (λ n. rank < n) (sym c.in_ok-marks.ensures.all) within) c.index.ensures (c.in_ok-marks.ensures.each rank within)))) c.loop-rank.invariant
+    (found_place (IsMethodAt p rank) c.marked.result _ c.marked.ensures
+    (marked_method p rank (function_of c.index-function.result.now) _ at
+    (mark_is c.in_ok-marks.marks.items rank c.index.result.now _ (subst (λ n. rank < n) (sym c.in_ok-marks.ensures.all) within) c.index.ensures
+    (c.in_ok-marks.ensures.each rank within)))) c.loop-rank.invariant
 
 pub returns : goal.returns
 returns c =
@@ -31,4 +34,5 @@ returns c =
     let functions = c.args.index.now.declared.functions.items in
     let end : c.loop-rank.rank ≡ length functions = omega (arith, c.len-rank-end.ensures) in
     let size : c.loop-rank.rank ≡ length (package_functions p) = end ∙ sym (length-map functions function_of) ∙ ap length c.requires.functions in
-    all_places (IsMethodAt p) c.loop-rank.rank c.loop-rank.places.items (λ rank at is. subst (λ n. rank < n) (sym size) (method_within p rank at is)) c.loop-rank.invariant
+    all_places (IsMethodAt p) c.loop-rank.rank c.loop-rank.places.items (λ rank at is. subst (λ n. rank < n) (sym size) (method_within p rank at is))
+    c.loop-rank.invariant

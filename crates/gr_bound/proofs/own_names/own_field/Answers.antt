@@ -5,9 +5,11 @@ use Rattle.gr_bound.proofs.own_names.own_field.Goals as goal
 
 pub returns-in-None : goal.returns-in-None
 returns-in-None c =
-    no_field_name (package_of c.args.unit) c.args.u c.place.result c.in_ok-places.places.items _ c.place.ensures c.deref.ensures.value c.in_ok-places.ensures c.in-None.ensures
+    no_field_name (package_of c.args.unit) c.args.u c.place.result c.in_ok-places.places.items _ c.place.ensures c.deref.ensures.value
+    c.in_ok-places.ensures c.in-None.ensures
 
 pub returns : goal.returns
 returns c =
-    field_name (package_of c.args.unit) c.args.u c.place.result c.in-Some.rank c.in_ok-places.places.items _ c.place.ensures c.deref.ensures.value c.in_ok-places.ensures c.requires.stands c.in-Some.ensures
+    field_name (package_of c.args.unit) c.args.u c.place.result c.in-Some.rank c.in_ok-places.places.items _ c.place.ensures c.deref.ensures.value
+    c.in_ok-places.ensures c.requires.stands c.in-Some.ensures
     c.in_ok-symbol-in-Some.field-0 c.in_ok-symbol-in-Some.ensures

@@ -7,7 +7,8 @@ use Rattle.gr_bound.proofs.Adding.{below_none, below_next, all_below}
 use Rattle.gr_bound.proofs.package_uses.add_package_uses.Goals as goal
 
 pub loop-u-init : goal.loop-u-init
-loop-u-init c = let p = package_of c.args.unit in below_none (λ u place. BeginsAt p place.path place.offset u × (IsBehindPackage p u c.args.path.now × (p.names u ≡ c.args.name.now))) c.args.found.now.items
+loop-u-init c = let p = package_of c.args.unit in below_none
+    (λ u place. BeginsAt p place.path place.offset u × (IsBehindPackage p u c.args.path.now × (p.names u ≡ c.args.name.now))) c.args.found.now.items
 
 pub loop-u-preserved : goal.loop-u-preserved
 loop-u-preserved c =
@@ -19,4 +20,5 @@ pub returns : goal.returns
 returns c =
     let p = package_of c.args.unit in
     let e : c.loop-u.u ≡ length c.args.unit.table.now.sites = omega (arith, c.len-u-end.ensures) in
-    all_below p (λ u. (IsBehindPackage p u c.args.path.now × (p.names u ≡ c.args.name.now))) c.loop-u.u c.args.found.now.items c.loop-u.found.items e c.loop-u.invariant
+    all_below p (λ u. (IsBehindPackage p u c.args.path.now × (p.names u ≡ c.args.name.now))) c.loop-u.u c.args.found.now.items c.loop-u.found.items e
+    c.loop-u.invariant

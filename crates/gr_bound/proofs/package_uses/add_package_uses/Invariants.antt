@@ -11,4 +11,5 @@ use Rattle.gr_bound.proofs.package_uses.add_package_uses.Given as goal
 abbrev pub invariant-loop-u : goal.invariant-loop-u
 invariant-loop-u l =
     Adds l.initial.found.items l.found.items
-    (Below (λ u place. BeginsAt (package_of l.unit) place.path place.offset u × (IsBehindPackage (package_of l.unit) u l.path × ((package_of l.unit).names u ≡ l.name))) l.u)
+    (Below (λ u place. BeginsAt (package_of l.unit) place.path place.offset u ×
+    (IsBehindPackage (package_of l.unit) u l.path × ((package_of l.unit).names u ≡ l.name))) l.u)

@@ -13,4 +13,5 @@ returns c = λ p is.
     let finding = c.index.result.now in
     let lt = subst (λ m. c.args.number < m) (sym c.requires.sound.findings.size) c.requires.in_range in
     let at = slice_get_read found.packages.items (length found.packages.items) c.args.number finding refl lt c.index.ensures in
-    subst (λ members. AreMemberUses p (map uses_in members)) (sym (c.deref.ensures.value ∙ ap (λ (f : Finding). f.members.items) c.get.ensures)) (members_at c.args.graph.now found c.requires.sound c.args.number finding at p is)
+    subst (λ members. AreMemberUses p (map uses_in members)) (sym (c.deref.ensures.value ∙ ap (λ (f : Finding). f.members.items) c.get.ensures))
+    (members_at c.args.graph.now found c.requires.sound c.args.number finding at p is)

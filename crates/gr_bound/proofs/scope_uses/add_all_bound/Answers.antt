@@ -7,7 +7,8 @@ use Rattle.gr_bound.proofs.Adding.{below_none, below_next, all_below}
 use Rattle.gr_bound.proofs.scope_uses.add_all_bound.Goals as goal
 
 pub loop-u-init : goal.loop-u-init
-loop-u-init c = let p = package_of c.args.unit in below_none (λ u place. BeginsAt p place.path place.offset u × IsBoundTo p.layout p.names u c.args.d) c.args.found.now.items
+loop-u-init c = let p = package_of c.args.unit in below_none (λ u place. BeginsAt p place.path place.offset u × IsBoundTo p.layout p.names u c.args.d)
+    c.args.found.now.items
 
 pub loop-u-preserved : goal.loop-u-preserved
 loop-u-preserved c =

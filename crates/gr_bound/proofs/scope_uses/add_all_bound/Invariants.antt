@@ -9,4 +9,5 @@ use Rattle.gr_bound.proofs.scope_uses.add_all_bound.Given as goal
 -- the identifiers that were passed were added
 abbrev pub invariant-loop-u : goal.invariant-loop-u
 invariant-loop-u l =
-    Adds l.initial.found.items l.found.items (Below (λ u place. BeginsAt (package_of l.unit) place.path place.offset u × IsBoundTo (package_of l.unit).layout (package_of l.unit).names u l.d) l.u)
+    Adds l.initial.found.items l.found.items (Below (λ u place. BeginsAt (package_of l.unit) place.path place.offset u ×
+    IsBoundTo (package_of l.unit).layout (package_of l.unit).names u l.d) l.u)

@@ -11,5 +11,6 @@ returns-in-None c = let p = package_of c.args.unit in uses_none p (λ u. BindsBy
 pub returns-in-Some : goal.returns-in-Some
 returns-in-Some c =
     let p = package_of c.args.unit in
-    uses_as p (λ u. IsBoundTo p.layout p.names u c.in-Some.d) (λ u. BindsByScope p u c.args.declaration.now) c.args.found.now.items c.add_all_bound.new.found.items c.add_all_bound.result
+    uses_as p (λ u. IsBoundTo p.layout p.names u c.in-Some.d) (λ u. BindsByScope p u c.args.declaration.now) c.args.found.now.items
+    c.add_all_bound.new.found.items c.add_all_bound.result
     (λ u. (c.in-Some.ensures u).1) (λ u. (c.in-Some.ensures u).0) c.add_all_bound.ensures

@@ -7,7 +7,8 @@ use Rattle.gr_bound.proofs.scope_uses.is_bound_to.Goals as goal
 pub returns-then-has_name_of : goal.returns-then-has_name_of
 returns-then-has_name_of c =
     let p = package_of c.args.unit in
-    let same = found_is p.layout p.names c.args.u c.args.d c.binding.result (λ a b x y. c.bindings_are_unique.ensures p.layout c.is_well_formed.ensures p.names c.args.u a b x y) c.binding.ensures in
+    let same = found_is p.layout p.names c.args.u c.args.d c.binding.result
+    (λ a b x y. c.bindings_are_unique.ensures p.layout c.is_well_formed.ensures p.names c.args.u a b x y) c.binding.ensures in
     ((λ t. same.0 (c.is_number.ensures.0 t)), (λ b. c.is_number.ensures.1 (same.1 b)))
 
 pub returns-else-has_name_of : goal.returns-else-has_name_of

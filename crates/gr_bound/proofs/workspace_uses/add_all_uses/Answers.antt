@@ -19,12 +19,15 @@ loop-number-preserved c =
     let spots = c.loop-number.spots.items in
     let n = c.loop-number.number in
     elim c.if-may_use.branch [
-      | then-may_use+in_ok-add_package_uses w ↦ rw w.spots-is (below_next P before spots w.add_package_uses.new.spots.items n c.loop-number.invariant w.in_ok-add_package_uses.ensures)
-      | else-may_use w ↦ rw w.spots-is (below_next P before spots spots n c.loop-number.invariant (adds_none spots (P n) (λ place used. false≢true (sym w.if-may_use.false ∙ c.may_use.ensures place used))))
+      | then-may_use+in_ok-add_package_uses w ↦ rw w.spots-is
+          (below_next P before spots w.add_package_uses.new.spots.items n c.loop-number.invariant w.in_ok-add_package_uses.ensures)
+      | else-may_use w ↦ rw w.spots-is (below_next P before spots spots n c.loop-number.invariant
+          (adds_none spots (P n) (λ place used. false≢true (sym w.if-may_use.false ∙ c.may_use.ensures place used))))
     ]
 
 pub returns : goal.returns
 returns c =
     let w = c.args.graph.now in
     let e : c.loop-number.number ≡ length (package_paths w) = omega arith in
-    all_uses w (known_in c.args.found.now) c.args.declaration.now (name_value c.args.name) c.requires.name c.loop-number.number c.args.spots.now.items c.loop-number.spots.items e c.loop-number.invariant
+    all_uses w (known_in c.args.found.now) c.args.declaration.now (name_value c.args.name) c.requires.name c.loop-number.number c.args.spots.now.items
+    c.loop-number.spots.items e c.loop-number.invariant

@@ -9,4 +9,5 @@ pub returns : goal.returns
 returns c =
     let w = c.args.graph.now in
     let is : IsFile w c.args.path.now = search rules in
-    uses_of_file w c.args.path.now c.args.offset is c.uses_in.result (subst (λ p. TellsUsesIn w p c.args.offset c.uses_in.result) c.in_ok-path.ensures.0 c.uses_in.ensures)
+    uses_of_file w c.args.path.now c.args.offset is c.uses_in.result
+    (subst (λ p. TellsUsesIn w p c.args.offset c.uses_in.result) c.in_ok-path.ensures.0 c.uses_in.ensures)

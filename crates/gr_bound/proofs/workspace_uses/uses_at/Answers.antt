@@ -9,4 +9,5 @@ returns-in-Err c =
 
 pub returns-in_ok-list_uses-in-Ok : goal.returns-in_ok-list_uses-in-Ok
 returns-in_ok-list_uses-in-Ok c =
-    lists_uses c.args.graph.now (known_in c.args.found.now) c.requires.findings.right c.args.path.now c.args.offset c.in-Ok.declaration c.in_ok-list_uses-in-Ok.field-0 c.in-Ok.ensures c.in_ok-list_uses-in-Ok.ensures
+    lists_uses c.args.graph.now (known_in c.args.found.now) c.requires.findings.right c.args.path.now c.args.offset c.in-Ok.declaration
+    c.in_ok-list_uses-in-Ok.field-0 c.in-Ok.ensures c.in_ok-list_uses-in-Ok.ensures

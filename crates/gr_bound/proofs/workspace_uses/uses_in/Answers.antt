@@ -8,7 +8,8 @@ returns-in-Err c = faults_refused c.args.graph.now c.args.found.now c.args.path.
 
 pub returns-in-Ok : goal.returns-in-Ok
 returns-in-Ok c =
-    uses_told c.args.graph.now c.args.path.now c.args.offset (list_of_sound c.args.graph.now c.args.found.now c.in-Ok.ensures) c.uses_at.result c.uses_at.ensures
+    uses_told c.args.graph.now c.args.path.now c.args.offset (list_of_sound c.args.graph.now c.args.found.now c.in-Ok.ensures) c.uses_at.result
+    c.uses_at.ensures
 
 pub uses_at-requires : goal.uses_at-requires
 uses_at-requires c = c.in-Ok.ensures

@@ -30,7 +30,8 @@ returns-in-Some c =
     let path = c.deref.result.now in
     let lt : n < length list = subst (λ m. n < m) (sym c.requires.scoped.size) c.requires.in_range in
     let has = slice_get_read list (length list) n o refl lt c.index-scoped-number.is in
-    let at : slice_get (package_paths w) n ≡ Some path = subst (λ q. slice_get (package_paths w) n ≡ Some q) (sym c.deref.ensures.value) c.package.ensures.path in
+    let at : slice_get (package_paths w) n ≡ Some path =
+    subst (λ q. slice_get (package_paths w) n ≡ Some q) (sym c.deref.ensures.value) c.package.ensures.path in
     let are = subst (MayBeScopes w path) c.in-Some.is (c.requires.scoped.each n path o at has) in
     let p = package_scoped path s in
     call_all c.args.bound.now.items c.add_scopes.new.bound.items (IsBoundIn p) (IsBoundInNumber w n) c.add_scopes.result

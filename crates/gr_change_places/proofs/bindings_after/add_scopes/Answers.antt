@@ -14,7 +14,8 @@ pub returns : goal.returns
 returns c =
     let s = c.args.scopes.now in
     let files = map source_of s.files.now in
-    let added = λ (q : List ℕ) (i : List ℕ → Interface). OnOk c.add_unit.result (AddsAll c.args.bound.now.items c.add_unit.new.bound.items (IsBoundIn (package_in q files s.table i))) in
+    let added = λ (q : List ℕ) (i : List ℕ → Interface).
+    OnOk c.add_unit.result (AddsAll c.args.bound.now.items c.add_unit.new.bound.items (IsBoundIn (package_in q files s.table i))) in
     let none : interface_in c.new-nothing.result ≡ no_interface = fun_ext c.new-nothing.ensures.interfaces in
     subst (λ (i : List ℕ → Interface). added c.args.path.now i) none
     (subst (λ (q : List ℕ). added q (interface_in c.new-nothing.result)) c.in_ok-path.ensures c.add_unit.ensures)

@@ -4,10 +4,9 @@ use Rattle.std.specs.Prelude.{IsTrue}
 use Rattle.std.specs.Option.{option_copied}
 use Rattle.std.proofs.lemmas.Result.{IfOk-weaker}
 use Rattle.gr_edit.specs.Moved.{moved}
-use Rattle.gr_bound.specs.Uses.{IsPackage}
 use Rattle.gr_check.specs.Among.{BothGo, BecomesAmong, view_among}
-use Rattle.gr_check.specs.Sound.{packages_of}
-use Rattle.gr_check.proofs.Becoming.{same_names}
+use Rattle.gr_kept.specs.Sound.{packages_of}
+use Rattle.gr_kept.proofs.Becoming.{same_names}
 use Rattle.gr_check.proofs.Marked.{become_by}
 use Rattle.gr_check.proofs.keeps_among.became.Goals as goal
 

@@ -1,5 +1,5 @@
 -- The packages that are held are those of the workspaces.
-use Rattle.std.proofs.Common.{◌≡◌, Bool, List, ap, sym, subst, ◌∙◌}
+use Rattle.std.proofs.Common.{Bool, List, ap, sym, subst, ◌∙◌}
 use Rattle.std.specs.Prelude.{IsTrue, IfOk}
 use Rattle.gr_text.specs.Workspace.{Workspace}
 use Rattle.gr_edit.specs.EditSet.{edited}
@@ -22,7 +22,8 @@ keeps_marked-requires-clause-affected c =
     let w = c.args.graph.now in
     subst (λ (v : Workspace). AreAffected v v then.graph.now s before.marks.now) (sym c.in_ok-before.ensures.graph)
     (subst (λ (x : Workspace). AreAffected w w x s before.marks.now) (sym c.in_ok-then.ensures.graph)
-    (subst (λ (m : List Bool). AreAffected w w c.args.after.now s m) (sym (c.in_ok-before.ensures.marks ∙ c.deref-2.ensures.value)) c.in_ok-marks.ensures.before))
+    (subst (λ (m : List Bool). AreAffected w w c.args.after.now s m) (sym (c.in_ok-before.ensures.marks ∙ c.deref-2.ensures.value))
+    c.in_ok-marks.ensures.before))
 
 pub returns : goal.returns
 returns c =

@@ -1,5 +1,5 @@
 -- The answers to the goals of `keeps_among::keeps_marked`.
-use Rattle.std.proofs.Common.{subst, sym}
+use Rattle.std.proofs.Common.{subst}
 use Rattle.std.specs.Prelude.{IsTrue}
 use Rattle.std.proofs.lemmas.Result.{IfOk-weaker}
 use Rattle.gr_edit.specs.EditSet.{FileChanges}

@@ -18,5 +18,6 @@ returns c =
       number = c.number.ensures;
       of_package = path;
       inputs = inputs;
-      unit = subst (λ (p : List ℕ). IsUnitIn job.inputs p made.unit) path (subst (λ (w : Workspace). IsUnitIn w c.in_ok-package.package made.unit) inputs c.in_ok-made.ensures.unit);
+      unit = subst (λ (p : List ℕ). IsUnitIn job.inputs p made.unit) path
+          (subst (λ (w : Workspace). IsUnitIn w c.in_ok-package.package made.unit) inputs c.in_ok-made.ensures.unit);
     }

@@ -11,5 +11,7 @@ returns c =
     let p = c.args.path.now in
     let interface = c.in_ok-interface.interface in
     let object = c.in_ok-object.object in
-    IfOk-weaker c.new.result (λ unit. unit ≡ Done interface object) (IsUnitOf w p)
-    (λ unit is. subst (IsUnitOf w p) (sym is) (subst (λ i. IsCompiled w p i object) (sym c.in_ok-interface.ensures) c.in_ok-object.ensures)) c.new.ensures
+    let just = c.in_ok-interface.ensures in
+    let made : IsUnitOf w p (Done interface object) =
+    record { value = subst (λ i. IsCompiled w p i object) (sym just.same) c.in_ok-object.ensures; alone = just.alone } in
+    IfOk-weaker c.new.result (λ unit. unit ≡ Done interface object) (IsUnitOf w p) (λ unit is. subst (IsUnitOf w p) (sym is) made) c.new.ensures

@@ -13,7 +13,8 @@ some_there [] some = absurd (some refl)
 some_there (x ∷ xs) some = omega arith
 
 -- a list is its first element before the others
-first_and_others : {X : Type 0} (xs : List X) (first : X) (others : List X) → (xs ≡ [] → ⊥) → first ≡ slice_index_or xs 0 first → others ≡ remove xs 0 → first ∷ others ≡ xs
+first_and_others : {X : Type 0} (xs : List X) (first : X) (others : List X) → (xs ≡ [] → ⊥) → first ≡ slice_index_or xs 0 first → others ≡ remove xs 0 →
+    first ∷ others ≡ xs
 first_and_others [] first others some is rest = absurd (some refl)
 first_and_others (x ∷ xs) first others some is rest = ap₂ (λ y ys. y ∷ ys) is rest
 

@@ -17,7 +17,11 @@ pub package-files-requires : goal.package-files-requires
 package-files-requires c = slice_get_within (package_paths c.args.graph.now) c.args.number c.args.path.now c.requires.at
 
 pub seen-requires : goal.seen-requires
-seen-requires c = record { in_range = slice_get_within (package_paths c.args.graph.now) c.args.number c.args.path.now c.requires.at; whole = c.requires.found.whole }
+seen-requires c = record {
+  in_range = slice_get_within (package_paths c.args.graph.now) c.args.number c.args.path.now c.requires.at;
+  whole =
+      c.requires.found.whole;
+}
 
 pub names_below-requires : goal.names_below-requires
 names_below-requires c = slice_get_within (package_paths c.args.graph.now) c.args.number c.args.path.now c.requires.at
@@ -33,9 +37,11 @@ object-requires c =
     let i = c.in_ok-interfaces.interfaces in
     let list = c.definitions_of-definitions.result.now in
     let same : (rank : ℕ) → slice_get list rank ≡ ranked (definitions_at all.definitions p) rank =
-    subst (λ (q : List ℕ). (rank : ℕ) → slice_get list rank ≡ ranked (definitions_at all.definitions q) rank) c.path.ensures c.definitions_of-definitions.ensures in
+    subst (λ (q : List ℕ). (rank : ℕ) → slice_get list rank ≡ ranked (definitions_at all.definitions q) rank) c.path.ensures
+    c.definitions_of-definitions.ensures in
     subst (λ ts. OwnDefinitionsOf p ts (name_in i) (interface_in i) list) (sym c.deref.ensures.value)
-    (definitions_by w p all c.args.members.now c.requires.found files.trees.items files.faulty.items parsed (name_in i) (interface_in i) (c.in_ok-interfaces.ensures.seen p c.requires.at) list same)
+    (definitions_by w p all c.args.members.now c.requires.found files.trees.items files.faulty.items parsed (name_in i) (interface_in i)
+    (c.in_ok-interfaces.ensures.seen p c.requires.at) list same)
 
 pub returns : goal.returns
 returns c =
@@ -51,6 +57,8 @@ returns c =
     let text = c.in_ok-text.text.items in
     let made = subst (λ ts. IsObjectTextOf p ts (name_in i) (interface_in i) (map uses_in members) packages text) c.deref.ensures.value c.in_ok-text.ensures in
     let compiled : IsCompiled w p (interface_in all p) text =
-    compiled_by w p all members c.requires.found files.trees.items files.faulty.items parsed (name_in i) (interface_in i) (c.in_ok-interfaces.ensures.seen p c.requires.at)
+    compiled_by w p all members c.requires.found files.trees.items files.faulty.items parsed (name_in i) (interface_in i)
+    (c.in_ok-interfaces.ensures.seen p c.requires.at)
     packages text (c.in_ok-packages.ensures p c.requires.at) made in
-    IfOk-weaker c.new.result (λ t. t ≡ text) (IsCompiled w p (interface_in all p)) (λ t is. subst (IsCompiled w p (interface_in all p)) (sym is) compiled) c.new.ensures
+    IfOk-weaker c.new.result (λ t. t ≡ text) (IsCompiled w p (interface_in all p)) (λ t is. subst (IsCompiled w p (interface_in all p)) (sym is) compiled)
+    c.new.ensures

@@ -1,13 +1,21 @@
 -- The answers to the goals of `compiling::unit_by`.
-use Rattle.std.proofs.Common.{◌≡◌, [], sym, subst, ◌∙◌}
+use Rattle.std.proofs.Common.{◌≡◌, ℕ, List, [], sym, subst, ◌∙◌}
 use Rattle.std.proofs.lemmas.Result.{IfOk-weaker}
 use Rattle.gr_verdict.specs.FaultLists.{AreListed}
-use Rattle.gr_verdict.specs.Found.{known_by, AreUsesOf}
+use Rattle.gr_verdict.specs.Told.{known_by, AreUsesOf}
 use Rattle.gr_verdict.specs.Verdicts.{IsFaultBy}
 use Rattle.gr_verdict.proofs.Members.{vec_empty, vec_holds}
 use Rattle.gr_compile.specs.Compiling.{HoldsFaults}
-use Rattle.gr_compile.specs.Units.{IsUnitOf, IsUnitValue}
+use Rattle.gr_verdict.specs.declared.fault.FileFault.{FileFault}
+use Rattle.gr_compile.specs.declared.unit.Unit.{Unit as PackageUnit}
+use Rattle.gr_compile.specs.declared.unit.Compiled.TheVariants as compiled
+use Rattle.gr_compile.specs.Units.{Faults, IsUnitOf, IsUnitValue, TellsOnly, unit_value}
 use Rattle.gr_compile.proofs.compiling.unit_by.Goals as goal
+
+-- a unit that stands for faults tells of no package
+faults_alone : (p : List ℕ) (list : List FileFault) (unit : PackageUnit) → unit_value p unit ≡ Faults list → TellsOnly p unit
+faults_alone p list (compiled.Faults first others) e = tt
+faults_alone p list (compiled.Done interface object) e = absurd (cc)
 
 pub faultless_unit-requires : goal.faultless_unit-requires
 faultless_unit-requires c =
@@ -44,4 +52,8 @@ returns-in_ok-faults c =
     let some = λ (e : c.in_ok-faults.faults.items ≡ []). vec_holds faults c.is_empty.result c.is_empty.ensures c.if-is_empty.false (sym same ∙ e) in
     let listed = subst (λ l. AreListed (IsFaultBy w (known_by c.args.all.now) p) l) (sym same) is.finding.listed in
     IfOk-weaker c.faulty_unit.result (HoldsFaults c.in_ok-faults.faults.items) (IsUnitOf w p)
-    (λ unit holds. subst (IsUnitValue w p) (sym (holds p)) (record { known = known_by c.args.all.now; right = is.below; listed = listed }, some)) c.faulty_unit.ensures
+    (λ unit holds. record {
+      value = subst (IsUnitValue w p) (sym (holds p)) (record { known = known_by c.args.all.now; right = is.below; listed = listed }, some);
+      alone = faults_alone p c.in_ok-faults.faults.items unit (holds p);
+    })
+    c.faulty_unit.ensures

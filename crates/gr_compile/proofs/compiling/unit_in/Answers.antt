@@ -23,4 +23,5 @@ returns-in-None c =
     let w = c.args.graph.now in
     let p = c.args.path.now in
     IfOk-weaker c.no_unit.result (λ (made : Made). (x : Workspace) → KnowsVerdicts x made.known) (IsMadeIn w p)
-    (λ made is. record { unit = λ among. absurd (c.in-None.ensures (subst (Contains (package_paths w)) (sym c.path.ensures) among)); verdicts = is w }) c.no_unit.ensures
+    (λ made is. record { unit = λ among. absurd (c.in-None.ensures (subst (Contains (package_paths w)) (sym c.path.ensures) among)); verdicts = is w })
+    c.no_unit.ensures

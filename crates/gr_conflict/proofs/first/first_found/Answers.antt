@@ -29,7 +29,8 @@ first_judged-requires c =
       bound = subst (AreScopeBindings c.args.after.now) (sym c.deref-5.ensures.value) c.in_ok-bound.ensures;
       members =
           subst (AreAllNewMembers w known (change_by c.args.after.now c.args.moves.now)) (sym c.deref.ensures.value)
-          (subst (λ (v : Workspace). AreAllNewMembers w known (change_by v c.args.moves.now) c.args.before.now.members.items) (sym c.requires.after) c.requires.before.members);
+          (subst (λ (v : Workspace). AreAllNewMembers w known (change_by v c.args.moves.now) c.args.before.now.members.items) (sym c.requires.after)
+          c.requires.before.members);
     }
 
 pub returns-clause-takes : goal.returns-clause-takes

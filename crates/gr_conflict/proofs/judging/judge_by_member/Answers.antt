@@ -18,7 +18,8 @@ returns-in-Some-clause-takes c =
     let x = use_of c.args.found.now in
     let old = c.in-Some.old in
     let r = change_in c.args.judge.now in
-    call_takes (IsOtherAt Known (IsUsedNow Known r ds p c.args.file x) p (record { file = c.args.file; index = x.place }) old) (IsMemberConflict Known r ds p c.args.file x)
+    call_takes (IsOtherAt Known (IsUsedNow Known r ds p c.args.file x) p (record { file = c.args.file; index = x.place }) old)
+    (IsMemberConflict Known r ds p c.args.file x)
     c.args.first.now c.judge_token.new.first c.judge_token.result
     (member_conflict Known r ds p c.args.file x old (sym c.in_ok-member_declaration.ensures ∙ c.in-Some.is)) c.judge_token.ensures.takes
 

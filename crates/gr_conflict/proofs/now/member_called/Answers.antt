@@ -14,5 +14,6 @@ returns c =
     IfOk-weaker c.member.result _ _
     (λ found h.
     member_known c.args.judge.now c.types.result types.graph types.found types.members c.requires c.path.result.now unit.path.now c.args.called.now
-    c.path.ensures (underlying_in seen.result) (λ s. (definitions_seen unit c.args.own.now s).underlying) seen.ensures (type_of c.args.found.now.before) found h)
+    c.path.ensures (underlying_in seen.result) (λ s. (definitions_seen unit c.args.own.now s).underlying) seen.ensures (type_of c.args.found.now.before)
+    found h)
     c.member.ensures

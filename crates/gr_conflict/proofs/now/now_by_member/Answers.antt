@@ -14,5 +14,6 @@ returns c =
     let unit = c.args.unit in
     subst
     (λ n. IfOk c.member_called.result (IsDeclarationFound
-    (IsMemberAfter (known_packages j) (change_in j) unit.path.now n (λ s. (definitions_seen unit c.args.own.now s).underlying) (type_of c.args.found.now.before))))
+    (IsMemberAfter (known_packages j) (change_in j) unit.path.now n (λ s. (definitions_seen unit c.args.own.now s).underlying)
+    (type_of c.args.found.now.before))))
     c.called-called.ensures c.member_called.ensures

@@ -17,5 +17,7 @@ returns c =
     let items = c.args.index.now.declared.types.items in
     let count : length items ≡ length (package_types p) = definition_count p items c.requires.types in
     let n : c.len.result ≡ length items = omega (arith, c.len.ensures) in
-    are_broken p c.deref.result.now c.deref-2.result.now c.in_ok-broken.broken.items c.len.result (omega arith) (subst (AreMentions p) (sym c.deref.ensures.value) c.in_ok-links.ensures)
-    (c.deref-2.ensures.value ∙ c.in_ok-push.ensures.items ∙ ap (λ bs. bs ++ (true ∷ [])) (c.in_ok-begins.ensures.items_if_clones_equal (search rules))) c.in_ok-broken.ensures.size c.in_ok-broken.ensures.reached
+    are_broken p c.deref.result.now c.deref-2.result.now c.in_ok-broken.broken.items c.len.result (omega arith)
+    (subst (AreMentions p) (sym c.deref.ensures.value) c.in_ok-links.ensures)
+    (c.deref-2.ensures.value ∙ c.in_ok-push.ensures.items ∙ ap (λ bs. bs ++ (true ∷ [])) (c.in_ok-begins.ensures.items_if_clones_equal (search rules)))
+    c.in_ok-broken.ensures.size c.in_ok-broken.ensures.reached

@@ -23,7 +23,8 @@ loop-rank-preserved c =
     let p = package_of c.args.unit in
     let items = c.args.index.now.declared.types.items in
     one_more p c.loop-rank.links.items c.note_definition.new.links.items c.loop-rank.rank (type_of c.index.result.now)
-    (item_at type_of items (package_types p) c.loop-rank.rank c.index.result.now c.requires.types (omega (arith, c.loop-rank-test.true, c.len-rank-end.ensures)) c.index.ensures) c.in_ok-note_definition.ensures
+    (item_at type_of items (package_types p) c.loop-rank.rank c.index.result.now c.requires.types
+    (omega (arith, c.loop-rank-test.true, c.len-rank-end.ensures)) c.index.ensures) c.in_ok-note_definition.ensures
     c.loop-rank.invariant
 
 pub returns : goal.returns

@@ -17,5 +17,6 @@ pub returns-else-branch : goal.returns-else-branch
 returns-else-branch c =
     let items = c.args.index.now.declared.types.items in
     let size : c.len.result ≡ length items = omega (arith, c.len.ensures) in
-    target_nothing (package_of c.args.unit) c.args.file (type_view c.args.written.now) c.len.result (size ∙ sym (length-map items type_of) ∙ ap length c.requires.types)
+    target_nothing (package_of c.args.unit) c.args.file (type_view c.args.written.now) c.len.result
+    (size ∙ sym (length-map items type_of) ∙ ap length c.requires.types)
     (λ u names. false≢true (sym c.if-branch.false ∙ c.in_ok-names_type.ensures.1 (u, names)))

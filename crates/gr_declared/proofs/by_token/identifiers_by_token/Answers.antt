@@ -5,4 +5,5 @@ use Rattle.gr_declared.proofs.TokenRows.{next_identifier}
 use Rattle.gr_declared.proofs.by_token.identifiers_by_token.Goals as goal
 
 pub loop-u-preserved : goal.loop-u-preserved
-loop-u-preserved c = next_identifier (layout_in c.args.table.now) c.loop-u.u (number_at c.loop-u.found) (number_at c.note_identifier.new.found) c.in_ok-note_identifier.ensures c.loop-u.invariant
+loop-u-preserved c = next_identifier (layout_in c.args.table.now) c.loop-u.u (number_at c.loop-u.found) (number_at c.note_identifier.new.found)
+    c.in_ok-note_identifier.ensures c.loop-u.invariant

@@ -18,11 +18,13 @@ returns-in-Single c =
 
 pub loop-item-preserved : goal.loop-item-preserved
 loop-item-preserved c =
-    appends_next type_of c.args.found.now.items c.loop-item.found.items c.add_type-in-loop-item.new.found.items (type_part c.args.file) c.deref-item-items.result.now c.loop-item.item-index
+    appends_next type_of c.args.found.now.items c.loop-item.found.items c.add_type-in-loop-item.new.found.items (type_part c.args.file)
+    c.deref-item-items.result.now c.loop-item.item-index
     c.item-item.result (omega arith) c.item-item.is c.loop-item.invariant c.in_ok-add_type-in-Several.ensures
 
 pub returns-after-loop-item : goal.returns-after-loop-item
 returns-after-loop-item c =
     appends_as type_of c.args.found.now.items c.loop-item.found.items _ _
-    (appends_all type_of c.args.found.now.items c.loop-item.found.items (type_part c.args.file) c.deref-item-items.result.now c.loop-item.item-index (omega arith) c.loop-item.invariant)
+    (appends_all type_of c.args.found.now.items c.loop-item.found.items (type_part c.args.file) c.deref-item-items.result.now c.loop-item.item-index
+    (omega arith) c.loop-item.invariant)
     (types_from c.args.file c.args.group.now c.in-Several.«open» c.in-Several.items c.in-Several.close _ c.in-Several.is c.deref-item-items.ensures.value)

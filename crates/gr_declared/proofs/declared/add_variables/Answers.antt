@@ -18,11 +18,14 @@ returns-in-Single c =
 
 pub loop-item-preserved : goal.loop-item-preserved
 loop-item-preserved c =
-    appends_next variable_of c.args.found.now.items c.loop-item.found.items c.add_names-in-loop-item.new.found.items (spec_part c.args.file) c.deref-item-items.result.now c.loop-item.item-index
+    appends_next variable_of c.args.found.now.items c.loop-item.found.items c.add_names-in-loop-item.new.found.items (spec_part c.args.file)
+    c.deref-item-items.result.now c.loop-item.item-index
     c.item-item.result (omega arith) c.item-item.is c.loop-item.invariant c.in_ok-add_names-in-Several.ensures
 
 pub returns-after-loop-item : goal.returns-after-loop-item
 returns-after-loop-item c =
     appends_as variable_of c.args.found.now.items c.loop-item.found.items _ _
-    (appends_all variable_of c.args.found.now.items c.loop-item.found.items (spec_part c.args.file) c.deref-item-items.result.now c.loop-item.item-index (omega arith) c.loop-item.invariant)
-    (several_from (variables_of c.args.file) global_view c.args.group.now c.in-Several.«open» c.in-Several.items c.in-Several.close _ c.in-Several.is c.deref-item-items.ensures.value)
+    (appends_all variable_of c.args.found.now.items c.loop-item.found.items (spec_part c.args.file) c.deref-item-items.result.now c.loop-item.item-index
+    (omega arith) c.loop-item.invariant)
+    (several_from (variables_of c.args.file) global_view c.args.group.now c.in-Several.«open» c.in-Several.items c.in-Several.close _ c.in-Several.is
+    c.deref-item-items.ensures.value)

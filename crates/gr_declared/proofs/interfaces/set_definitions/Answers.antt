@@ -11,9 +11,11 @@ returns-in-None-clause-elsewhere c = λ p ne.
 
 pub returns-in_ok-insert-in-Some-clause-here : goal.returns-in_ok-insert-in-Some-clause-here
 returns-in_ok-insert-in-Some-clause-here c =
-    ap (definitions_at (record { packages = c.insert.new.self })) (sym c.in_ok-key-in-Some.ensures.items) ∙ ap shared_definitions c.in_ok-insert-in-Some.ensures.updates.1 ∙ sym (ap shared_definitions c.in-Some.is)
+    ap (definitions_at (record { packages = c.insert.new.self })) (sym c.in_ok-key-in-Some.ensures.items) ∙
+    ap shared_definitions c.in_ok-insert-in-Some.ensures.updates.1 ∙ sym (ap shared_definitions c.in-Some.is)
 
 pub returns-in_ok-insert-in-Some-clause-elsewhere : goal.returns-in_ok-insert-in-Some-clause-elsewhere
 returns-in_ok-insert-in-Some-clause-elsewhere c = λ p ne.
     ap shared_definitions
-    (others_stay c.args.known.now.packages c.insert.new.self c.in_ok-key-in-Some.key (Some c.in-Some.definitions) c.in_ok-insert-in-Some.ensures.updates p (λ e. ne (e ∙ c.in_ok-key-in-Some.ensures.items)))
+    (others_stay c.args.known.now.packages c.insert.new.self c.in_ok-key-in-Some.key (Some c.in-Some.definitions) c.in_ok-insert-in-Some.ensures.updates p
+    (λ e. ne (e ∙ c.in_ok-key-in-Some.ensures.items)))

@@ -5,5 +5,6 @@ use Rattle.gr_declared.proofs.spread.reached_in_order.Goals as goal
 
 pub returns : goal.returns
 returns c =
-    order_of c.args.links.now (IsMarked c.args.begins.now) c.in_ok-spread.spread.found.items c.in_ok-spread.spread.marks.items c.in_ok-spread.ensures.listed c.in_ok-spread.ensures.ordered
+    order_of c.args.links.now (IsMarked c.args.begins.now) c.in_ok-spread.spread.found.items c.in_ok-spread.spread.marks.items c.in_ok-spread.ensures.listed
+    c.in_ok-spread.ensures.ordered
     c.in_ok-spread.ensures.reached

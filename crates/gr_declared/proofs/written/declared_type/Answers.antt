@@ -15,4 +15,5 @@ returns-in-None c = declares_none (package_of c.args.unit) c.args.d c.in_default
 
 pub returns-in_ok-defined_type-in-Some-definition : goal.returns-in_ok-defined_type-in-Some-definition
 returns-in_ok-defined_type-in-Some-definition c =
-    subst (DeclaresPlain (package_of c.args.unit) c.args.d) (sym c.in_ok-defined_type-in-Some-definition.ensures) (defined {rank = c.in-Some-definition.rank} c.in-Some-definition.ensures)
+    subst (DeclaresPlain (package_of c.args.unit) c.args.d) (sym c.in_ok-defined_type-in-Some-definition.ensures)
+    (defined {rank = c.in-Some-definition.rank} c.in-Some-definition.ensures)

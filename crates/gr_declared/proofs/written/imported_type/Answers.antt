@@ -9,4 +9,5 @@ returns-in-None c = λ t n. c.in-None.ensures n.export n.exported
 
 pub returns-in-Some : goal.returns-in-Some
 returns-in-Some c =
-    type_by_export (package_of c.args.unit) c.args.file c.args.qualifier c.args.name (export_of c.in-Some.export.now) c.exported_type.result c.in-Some.ensures.0 c.in-Some.ensures.1 c.exported_type.ensures
+    type_by_export (package_of c.args.unit) c.args.file c.args.qualifier c.args.name (export_of c.in-Some.export.now) c.exported_type.result
+    c.in-Some.ensures.0 c.in-Some.ensures.1 c.exported_type.ensures

@@ -7,4 +7,5 @@ pub returns-in-None : goal.returns-in-None
 returns-in-None c = mentions_nothing (package_of c.args.unit) c.args.file c.args.name c.in-None.ensures.bound
 
 pub returns-in-Some : goal.returns-in-Some
-returns-in-Some c = mentioned_by (package_of c.args.unit) c.args.file c.args.name c.in-Some.d c.definition.result c.in-Some.ensures.bound c.in-Some.ensures.only c.definition.ensures
+returns-in-Some c = mentioned_by (package_of c.args.unit) c.args.file c.args.name c.in-Some.d c.definition.result c.in-Some.ensures.bound
+    c.in-Some.ensures.only c.definition.ensures

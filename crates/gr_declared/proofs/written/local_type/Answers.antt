@@ -12,4 +12,5 @@ returns-in-None c = names_nothing (package_of c.args.unit) c.args.file c.args.na
 pub returns-in-Some : goal.returns-in-Some
 returns-in-Some c =
     IfOk-weaker c.declared_type.result _ _
-    (λ o h. named_by (package_of c.args.unit) c.args.file c.args.name c.in-Some.d (option_map type_of o) c.in-Some.ensures.bound c.in-Some.ensures.only h) c.declared_type.ensures
+    (λ o h. named_by (package_of c.args.unit) c.args.file c.args.name c.in-Some.d (option_map type_of o) c.in-Some.ensures.bound c.in-Some.ensures.only h)
+    c.declared_type.ensures

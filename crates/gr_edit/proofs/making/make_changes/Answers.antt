@@ -5,7 +5,8 @@ use Rattle.gr_edit.proofs.Turned.{within_there}
 use Rattle.gr_edit.proofs.making.make_changes.Goals as goal
 
 pub make_change-requires-clause-order : goal.make_change-requires-clause-order
-make_change-requires-clause-order c = order_at c.args.changed.now c.loop-change.change-index c.change-item.result c.loop-change-test.true c.change-item.is c.requires.order
+make_change-requires-clause-order c = order_at c.args.changed.now c.loop-change.change-index c.change-item.result c.loop-change-test.true c.change-item.is
+    c.requires.order
 
 pub make_change-requires-clause-within : goal.make_change-requires-clause-within
 make_change-requires-clause-within c =

@@ -11,7 +11,8 @@ overflow_add-past c =
     let edits = c.args.edits.now in
     let n = c.loop-past.past.edits in
     let e = c.index-edits-past-in-loop-past.result in
-    let same : get_or edits n c.index-edits-past.result ≡ e = get_or_default edits n c.index-edits-past.result e c.loop-past-test.true ∙ sym c.index-edits-past-in-loop-past.is in
+    let same : get_or edits n c.index-edits-past.result ≡ e = get_or_default edits n c.index-edits-past.result e c.loop-past-test.true ∙
+    sym c.index-edits-past-in-loop-past.is in
     let ends : e.span.end ≤ c.args.offset = subst (λ (x : Edit). x.span.end ≤ c.args.offset) same c.if-edits-past.true in
     let next = past_more edits c.args.offset c.loop-past.past e c.loop-past.invariant c.loop-past-test.true c.index-edits-past-in-loop-past.is ends in
     let fits = next.fits in
@@ -24,7 +25,8 @@ overflow_add-past-in-loop-past c =
     let edits = c.args.edits.now in
     let n = c.loop-past.past.edits in
     let e = c.index-edits-past-in-loop-past.result in
-    let same : get_or edits n c.index-edits-past.result ≡ e = get_or_default edits n c.index-edits-past.result e c.loop-past-test.true ∙ sym c.index-edits-past-in-loop-past.is in
+    let same : get_or edits n c.index-edits-past.result ≡ e = get_or_default edits n c.index-edits-past.result e c.loop-past-test.true ∙
+    sym c.index-edits-past-in-loop-past.is in
     let ends : e.span.end ≤ c.args.offset = subst (λ (x : Edit). x.span.end ≤ c.args.offset) same c.if-edits-past.true in
     let next = past_more edits c.args.offset c.loop-past.past e c.loop-past.invariant c.loop-past-test.true c.index-edits-past-in-loop-past.is ends in
     let fits = next.fits in
@@ -37,7 +39,9 @@ loop-past-preserved c =
     let edits = c.args.edits.now in
     let past = c.loop-past.past in
     let e = c.index-edits-past-in-loop-past.result in
-    let same : get_or edits past.edits c.index-edits-past.result ≡ e = get_or_default edits past.edits c.index-edits-past.result e c.loop-past-test.true ∙ sym c.index-edits-past-in-loop-past.is in
+    let same : get_or edits past.edits c.index-edits-past.result ≡ e = get_or_default edits past.edits c.index-edits-past.result e c.loop-past-test.true ∙
+    sym c.index-edits-past-in-loop-past.is in
     let ends : e.span.end ≤ c.args.offset = subst (λ (x : Edit). x.span.end ≤ c.args.offset) same c.if-edits-past.true in
     let next = past_more edits c.args.offset past e c.loop-past.invariant c.loop-past-test.true c.index-edits-past-in-loop-past.is ends in
-    subst (λ (n : ℕ). IsPast edits c.args.offset (record { edits = past.edits + 1; old = e.span.end; new = past.new + ((e.span.start - past.old) + n) })) (sym c.len.ensures) next.next
+    subst (λ (n : ℕ). IsPast edits c.args.offset (record { edits = past.edits + 1; old = e.span.end; new = past.new + ((e.span.start - past.old) + n) }))
+    (sym c.len.ensures) next.next

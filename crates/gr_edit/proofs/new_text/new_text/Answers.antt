@@ -15,7 +15,8 @@ loop-edit-preserved c =
     let next = next_edit edits i c.loop-edit.at (length old) e c.loop-edit-test.true c.edit-item.is c.loop-edit.invariant.order within in
     let kept = c.loop-edit.new.items ++ slice_range old c.loop-edit.at e.span.start in
     let items : c.extend_from_slice-in-loop-edit.new.self.items ≡ kept ++ e.text =
-    c.in_ok-extend_from_slice-2.ensures.items ∙ ap (λ (xs : List ℕ). xs ++ c.bytes.result.now) c.in_ok-extend_from_slice.ensures.items ∙ ap (λ (xs : List ℕ). kept ++ xs) c.bytes.ensures in
+    c.in_ok-extend_from_slice-2.ensures.items ∙ ap (λ (xs : List ℕ). xs ++ c.bytes.result.now) c.in_ok-extend_from_slice.ensures.items ∙
+    ap (λ (xs : List ℕ). kept ++ xs) c.bytes.ensures in
     record {
       made = ap (λ (xs : List ℕ). xs ++ edited_from e.span.end (drop (i + 1) edits) old) items
           ∙ text_more edits i c.loop-edit.at old c.loop-edit.new.items (edited_text edits old) e next c.loop-edit.invariant.made;

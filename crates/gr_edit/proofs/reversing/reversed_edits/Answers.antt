@@ -23,11 +23,13 @@ loop-edit-preserved c =
     let len = c.len.ensures in
     record {
       made = ap (λ (xs : List Edit). xs ++ rest) c.in_ok-push.ensures.items
-          ∙ reversed_more edits c.loop-edit.back.items (reversed edits old) i c.loop-edit.at c.loop-edit.new c.len.result old e r next c.loop-edit.invariant.made len
+          ∙ reversed_more edits c.loop-edit.back.items (reversed edits old) i c.loop-edit.at c.loop-edit.new c.len.result old e r next
+          c.loop-edit.invariant.made len
           (λ k. record { span = record { start = start; end = start + c.len.result }; text = c.in_ok-text.ensures k });
       order = next.order;
       inside = next.third;
-      left = size_left c.loop-edit.new (e.span.start - c.loop-edit.at) c.len.result (length e.text) (length (edited_from e.span.end (drop (i + 1) edits) old)) (length (edited_from c.loop-edit.at (drop i edits) old)) c.len-size.result more left len;
+      left = size_left c.loop-edit.new (e.span.start - c.loop-edit.at) c.len.result (length e.text)
+          (length (edited_from e.span.end (drop (i + 1) edits) old)) (length (edited_from c.loop-edit.at (drop i edits) old)) c.len-size.result more left len;
     }
   where
     size_left : (new kept len text rest all size : ℕ) → all ≡ kept + (text + rest) → new + all ≡ size → len ≡ text → ((new + kept) + len) + rest ≡ size

@@ -3,4 +3,4 @@ use Rattle.gr_exports.proofs.Own.{interface_own}
 use Rattle.gr_exports.proofs.laws.interfaces_of_units_are_own.Goals as goal
 
 pub returns : goal.returns
-returns c = λ w p i object u. interface_own w u.known p i u.checked u.is_package u.interface
+returns c = λ w p i object u. (u.known, interface_own w u.known p i u.checked u.is_package u.interface)

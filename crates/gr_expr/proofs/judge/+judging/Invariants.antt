@@ -30,5 +30,6 @@ invariant-chain-loop-next l = (j : Judged) (before : Found) → Adds j before l.
 abbrev pub invariant-elements-loop-element : goal.invariant-elements-loop-element
 invariant-elements-loop-element l =
     ReachedElements (judge_elements (world_of l.scope.world.now) (locals_of l.scope.locals.now) (option_map type_of l.own) none_seen (elements_in l.list))
-    (judge_elements (world_of l.scope.world.now) (locals_of l.scope.locals.now) (option_map type_of l.own) (seen_of l.seen) (elements_in (drop l.element-index l.list)))
+    (judge_elements (world_of l.scope.world.now) (locals_of l.scope.locals.now) (option_map type_of l.own) (seen_of l.seen)
+    (elements_in (drop l.element-index l.list)))
     l.fn.found l.found l.elements.whole l.elements.unkeyed

@@ -11,7 +11,8 @@ pub loop-link-preserved : goal.loop-link-preserved
 unfolding links_in
 loop-link-preserved c = ap (λ p. place_of_links c.args.start p (links_in (drop (c.loop-link.link-index + 1) c.args.links.now))) c.place_behind-place.ensures
     ∙ (sym (place_step c.args.start c.loop-link.place c.link-item.result (links_in (drop (c.loop-link.link-index + 1) c.args.links.now)))
-    ∙ (ap (λ xs. place_of_links c.args.start c.loop-link.place (links_in xs)) (sym (next_item _ _ _ c.loop-link-test.true c.link-item.is)) ∙ c.loop-link.invariant))
+    ∙ (ap (λ xs. place_of_links c.args.start c.loop-link.place (links_in xs)) (sym (next_item _ _ _ c.loop-link-test.true c.link-item.is)) ∙
+    c.loop-link.invariant))
 
 pub returns : goal.returns
 unfolding place_of_links links_in

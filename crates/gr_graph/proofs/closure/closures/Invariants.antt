@@ -1,10 +1,11 @@
 -- The closures of the packages that were passed.
-use Rattle.std.proofs.Common.{◌≡◌, ℕ, ◌<◌, length, get_or}
-use Rattle.gr_graph.specs.Closures.{IsClosed, nothing}
+use Rattle.std.proofs.Common.{◌≡◌, ℕ, ◌<◌, length}
+use Rattle.gr_graph.specs.Imports.{imports_of}
+use Rattle.gr_graph.specs.Closures.{IsClosed}
 use Rattle.gr_graph.proofs.closure.closures.Given as goal
 
 abbrev pub invariant-loop-number : goal.invariant-loop-number
 invariant-loop-number l = record {
   size : length l.closures.items ≡ l.number;
-  each : (p : ℕ) → p < l.number → IsClosed l.imports p (get_or l.closures.items p nothing);
+  each : (p : ℕ) → p < l.number → IsClosed l.imports p (imports_of l.closures.items p);
 }

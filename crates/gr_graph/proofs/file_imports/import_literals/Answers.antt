@@ -11,5 +11,6 @@ use Rattle.gr_graph.proofs.file_imports.import_literals.Goals as goal
 pub returns : goal.returns
 returns c =
     c.loop-decl.invariant
-    ∙ (ap (λ decls. flat_map (λ decl. paths_in (group_view import_view decl.group)) decls) (take_all c.loop-decl.decl-index c.deref-decl-items.result.now (omega (arith, c.loop-decl-test.false)) ∙ c.deref-decl-items.ensures.value)
+    ∙ (ap (λ decls. flat_map (λ decl. paths_in (group_view import_view decl.group)) decls)
+    (take_all c.loop-decl.decl-index c.deref-decl-items.result.now (omega (arith, c.loop-decl-test.false)) ∙ c.deref-decl-items.ensures.value)
     ∙ file_paths c.args.file.now)

@@ -6,4 +6,5 @@ use Rattle.gr_graph.specs.FileImports.{HasValue}
 use Rattle.gr_graph.proofs.file_imports.read_imports.Given as goal
 
 abbrev pub invariant-loop-literal : goal.invariant-loop-literal
-invariant-loop-literal l = AllZip (λ token found. (found.literal ≡ token) × HasValue (source_of l.file) token found.path) (take l.literal-index l.literal-items) l.imports.items
+invariant-loop-literal l = AllZip (λ token found. (found.literal ≡ token) × HasValue (source_of l.file) token found.path)
+    (take l.literal-index l.literal-items) l.imports.items

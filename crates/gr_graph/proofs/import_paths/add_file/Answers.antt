@@ -11,4 +11,5 @@ use Rattle.gr_graph.proofs.import_paths.add_file.Goals as goal
 pub returns : goal.returns
 returns c =
     let lists = subst (ListsImports (source_of c.args.file.now)) (sym c.deref.ensures.value) c.in_ok-imports.ensures in
-    on_ok_weaker c.add_imports.result (λ q. adds_as (SomeStandFor c.deref.result.now) (ImportsPath (source_of c.args.file.now)) c.args.paths.now.keys c.add_imports.new.paths.keys (imports_are c.args.file.now c.deref.result.now lists) q) c.add_imports.ensures
+    on_ok_weaker c.add_imports.result (λ q. adds_as (SomeStandFor c.deref.result.now) (ImportsPath (source_of c.args.file.now)) c.args.paths.now.keys
+    c.add_imports.new.paths.keys (imports_are c.args.file.now c.deref.result.now lists) q) c.add_imports.ensures

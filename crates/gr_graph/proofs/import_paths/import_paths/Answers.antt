@@ -15,9 +15,12 @@ pub loop-file-preserved : goal.loop-file-preserved
 loop-file-preserved c =
     let all = c.args.files.now in
     let k = c.loop-file.file-index in
-    holds_more (SomeImport (take k all)) (ImportsPath (source_of c.file-item.result)) (SomeImport (take (k + 1) all)) c.loop-file.paths.keys c.add_file.new.paths.keys
-    (some_more (λ (f : FileParts) q. ImportsPath (source_of f) q) (take k all) (take (k + 1) all) c.file-item.result (take_more all k c.file-item.result c.loop-file-test.true ∙ ap (λ y. take k all ++ (y ∷ [])) (sym c.file-item.is)))
+    holds_more (SomeImport (take k all)) (ImportsPath (source_of c.file-item.result)) (SomeImport (take (k + 1) all)) c.loop-file.paths.keys
+    c.add_file.new.paths.keys
+    (some_more (λ (f : FileParts) q. ImportsPath (source_of f) q) (take k all) (take (k + 1) all) c.file-item.result
+    (take_more all k c.file-item.result c.loop-file-test.true ∙ ap (λ y. take k all ++ (y ∷ [])) (sym c.file-item.is)))
     c.loop-file.invariant c.in_ok-add_file.ensures
 
 pub returns : goal.returns
-returns c = subst (λ fs. HoldsPaths (SomeImport fs) c.loop-file.paths.keys) (take_all c.loop-file.file-index c.args.files.now (omega (arith, c.loop-file-test.false))) c.loop-file.invariant
+returns c = subst (λ fs. HoldsPaths (SomeImport fs) c.loop-file.paths.keys)
+    (take_all c.loop-file.file-index c.args.files.now (omega (arith, c.loop-file-test.false))) c.loop-file.invariant

@@ -7,7 +7,8 @@ use Rattle.gr_graph.proofs.importers.importers.Goals as goal
 pub loop-importer-preserved : goal.loop-importer-preserved
 loop-importer-preserved c =
     HoldImporters-more c.args.imports.now c.loop-importer.importers.items c.note_row.new.importers.items c.loop-importer.importer c.loop-importer.invariant
-    (subst (λ (row : List ℕ). NotesRow c.loop-importer.importers.items row c.loop-importer.importer c.note_row.new.importers.items) c.imports_of.ensures c.in_ok-note_row.ensures)
+    (subst (λ (row : List ℕ). NotesRow c.loop-importer.importers.items row c.loop-importer.importer c.note_row.new.importers.items) c.imports_of.ensures
+    c.in_ok-note_row.ensures)
 
 pub returns : goal.returns
 returns c =

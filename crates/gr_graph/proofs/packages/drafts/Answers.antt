@@ -19,10 +19,12 @@ use Rattle.gr_graph.proofs.packages.drafts.Goals as goal
 
 pub loop-path-init : goal.loop-path-init
 loop-path-init c =
-    let begun : map.entries c.args.files.now ≡ c.into_iter-path-iterator.result = sym (c.into_iter-path-iterator.ensures.into_iter_gives ∙ c.iter-path-items.ensures.files) in
+    let begun : map.entries c.args.files.now ≡ c.into_iter-path-iterator.result =
+    sym (c.into_iter-path-iterator.ensures.into_iter_gives ∙ c.iter-path-items.ensures.files) in
     record {
       paths = c.in_ok-drafts.ensures.paths;
-      filled = subst (λ es. AreFilled c.args.staying.now (map.entries c.args.files.now) es c.in_ok-drafts.drafts.items) begun (filled_start c.args.staying.now (map.entries c.args.files.now) c.in_ok-drafts.drafts.items c.in_ok-drafts.ensures.empty);
+      filled = subst (λ es. AreFilled c.args.staying.now (map.entries c.args.files.now) es c.in_ok-drafts.drafts.items) begun
+          (filled_start c.args.staying.now (map.entries c.args.files.now) c.in_ok-drafts.drafts.items c.in_ok-drafts.ensures.empty);
       there = subst (AreThere (package_paths c.args.files.now)) begun (all_there c.args.files.now);
     }
 
@@ -33,7 +35,8 @@ draft_number-requires c =
 
 pub add_file-requires : goal.add_file-requires
 add_file-requires c =
-    let within : c.in-Some-draft_number.number < length (paths_of c.deref.result.now) = slice_get_within (paths_of c.deref.result.now) _ _ c.in-Some-draft_number.ensures in
+    let within : c.in-Some-draft_number.number < length (paths_of c.deref.result.now) =
+    slice_get_within (paths_of c.deref.result.now) _ _ c.in-Some-draft_number.ensures in
     let len = length-map c.deref.result.now (λ (p : Package). p.path.items) in
     let value = ap length c.deref.ensures.value in
     omega (arith, c.loop-path.drafts.ok.0)
@@ -47,11 +50,15 @@ loop-path-preserved-in-Continue-branch-3 c =
     let there = subst (AreThere (package_paths c.args.files.now)) left c.loop-path.invariant.there in
     let sorted : IsStrictlySortedBy path_cmp (paths_of old) = rw c.loop-path.invariant.paths (paths_sorted c.args.files.now) in
     let adds = c.in_ok-add_file.ensures in
-    let of_none = subst (λ (b : Bool). MatchBool b (IsOfNone c.args.staying.now e.0) (IsOfOne c.args.staying.now e.0)) c.if-is_of_none.true c.is_of_none.ensures in
-    let at : slice_get (paths_of old) c.in-Some-draft_number.number ≡ Some (folder e.0) = ap (λ ps. slice_get (paths_of ps) c.in-Some-draft_number.number) (sym c.deref.ensures.value) ∙ c.in-Some-draft_number.ensures ∙ ap Some c.folder.ensures in
+    let of_none = subst (λ (b : Bool). MatchBool b (IsOfNone c.args.staying.now e.0) (IsOfOne c.args.staying.now e.0)) c.if-is_of_none.true
+    c.is_of_none.ensures in
+    let at : slice_get (paths_of old) c.in-Some-draft_number.number ≡ Some (folder e.0) =
+    ap (λ ps. slice_get (paths_of ps) c.in-Some-draft_number.number) (sym c.deref.ensures.value) ∙ c.in-Some-draft_number.ensures ∙
+    ap Some c.folder.ensures in
     record {
       paths = paths_added _ _ _ _ adds ∙ c.loop-path.invariant.paths;
-      filled = filled_add c.args.staying.now all e c.next.new.self old c.add_file.new.packages.items c.in-Some-draft_number.number c.in_ok-file.file sorted of_none at adds c.in_ok-file.ensures
+      filled = filled_add c.args.staying.now all e c.next.new.self old c.add_file.new.packages.items c.in-Some-draft_number.number c.in_ok-file.file sorted
+          of_none at adds c.in_ok-file.ensures
           (subst (λ es. AreFilled c.args.staying.now all es old) left c.loop-path.invariant.filled);
       there = there.1;
     }
@@ -60,4 +67,5 @@ pub returns-clause-files : goal.returns-clause-files
 returns-clause-files c =
     let none = rest_all deref_pair _ _ _ c.in-None.is c.next.ensures.steps in
     let all = map.entries c.args.files.now in
-    filled_end c.args.staying.now all c.loop-path.drafts.items (subst (λ es. AreFilled c.args.staying.now all es c.loop-path.drafts.items) none c.loop-path.invariant.filled)
+    filled_end c.args.staying.now all c.loop-path.drafts.items
+    (subst (λ es. AreFilled c.args.staying.now all es c.loop-path.drafts.items) none c.loop-path.invariant.filled)

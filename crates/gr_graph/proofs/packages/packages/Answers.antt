@@ -17,7 +17,8 @@ loop-draft-preserved c =
     let draft = c.in-Some.draft in
     let begun = c.into_iter-draft-iterator.ensures.into_iter_gives in
     let gives = YieldsList-from_vec {s = c.into_iter-draft-iterator.result} drafts begun.0 (begun.1 ∙ c.in_ok-draft-items.draft-items.ok.0) in
-    let turn = YieldsList-turn gives passed c.loop-draft.draft-iterator c.loop-draft.yielded_by c.next.result c.next.new.self draft c.in-Some.is c.next.ensures.steps in
+    let turn = YieldsList-turn gives passed c.loop-draft.draft-iterator c.loop-draft.yielded_by c.next.result c.next.new.self draft c.in-Some.is
+    c.next.ensures.steps in
     let at : slice_get drafts (length passed) ≡ Some draft = slice_get-get_or drafts (length passed) draft turn.0 ∙ ap Some (sym turn.1) in
     let new : Package = c.in_ok-staying_or.field-0 in
     let old = c.loop-draft.packages.items in

@@ -10,5 +10,7 @@ use Rattle.gr_graph.proofs.packages.staying_or.Goals as goal
 pub returns-in-None-clause-files : goal.returns-in-None-clause-files
 returns-in-None-clause-files c =
     IfOk-weaker c.new.result (λ shared. shared ≡ c.args.draft)
-    (λ shared. (w : Workspace) → All (HasFiles w) c.args.staying.now → ((Contains (paths_of c.args.staying.now) c.args.draft.path.items → ⊥) → HasFiles w c.args.draft) → HasFiles w shared)
-    (λ shared is w all gives. subst (HasFiles w) (sym is) (gives (λ has. c.in-None.ensures (subst (Contains (paths_of c.args.staying.now)) (sym c.deref.ensures.value) has)))) c.new.ensures
+    (λ shared. (w : Workspace) → All (HasFiles w) c.args.staying.now →
+    ((Contains (paths_of c.args.staying.now) c.args.draft.path.items → ⊥) → HasFiles w c.args.draft) → HasFiles w shared)
+    (λ shared is w all gives. subst (HasFiles w) (sym is)
+    (gives (λ has. c.in-None.ensures (subst (Contains (paths_of c.args.staying.now)) (sym c.deref.ensures.value) has)))) c.new.ensures

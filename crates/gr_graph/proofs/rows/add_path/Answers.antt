@@ -11,10 +11,12 @@ returns-in_ok-push c =
     let paths = paths_of c.args.packages.now in
     let path = c.args.path.now in
     let at = c.in-Some.ensures in
-    rw c.in_ok-push.ensures.items (adds_one (λ j. slice_get paths j ≡ Some path) c.args.row.now.items c.in-Some.number at (λ j here. one_number paths c.requires j c.in-Some.number path here at))
+    rw c.in_ok-push.ensures.items (adds_one (λ j. slice_get paths j ≡ Some path) c.args.row.now.items c.in-Some.number at
+    (λ j here. one_number paths c.requires j c.in-Some.number path here at))
 
 pub returns-in_default : goal.returns-in_default
 returns-in_default c =
     let paths = paths_of c.args.packages.now in
     let path = c.args.path.now in
-    adds_none (λ j. slice_get paths j ≡ Some path) c.args.row.now.items (λ j here. c.in_default.ensures (j, slice_get_within paths j path here, get_or_from_slice_get paths j path path here))
+    adds_none (λ j. slice_get paths j ≡ Some path) c.args.row.now.items
+    (λ j here. c.in_default.ensures (j, slice_get_within paths j path here, get_or_from_slice_get paths j path path here))

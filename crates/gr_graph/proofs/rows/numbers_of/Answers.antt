@@ -13,8 +13,10 @@ pub loop-path-init : goal.loop-path-init
 loop-path-init c =
     let paths = paths_of c.args.packages.now in
     let some = bytes_of_paths c.args.paths.now.keys in
-    let begun : c.args.paths.now.keys ≡ c.into_iter-path-iterator.result = sym (c.into_iter-path-iterator.ensures.into_iter_gives ∙ c.iter-path-items.ensures.rest) in
-    subst (λ (ks : List (Vec ℕ Global)). AreLeft paths some (bytes_of_paths ks) c.new-row.result.items) begun (left_all paths some c.new-row.result.items c.new-row.ensures.items)
+    let begun : c.args.paths.now.keys ≡ c.into_iter-path-iterator.result =
+    sym (c.into_iter-path-iterator.ensures.into_iter_gives ∙ c.iter-path-items.ensures.rest) in
+    subst (λ (ks : List (Vec ℕ Global)). AreLeft paths some (bytes_of_paths ks) c.new-row.result.items) begun
+    (left_all paths some c.new-row.result.items c.new-row.ensures.items)
 
 pub loop-path-preserved : goal.loop-path-preserved
 loop-path-preserved c =
@@ -22,7 +24,8 @@ loop-path-preserved c =
     let some = bytes_of_paths c.args.paths.now.keys in
     let left = rest_more deref _ _ _ c.in-Some.path c.in-Some.is c.next.ensures.steps in
     let path = c.in-Some.path.now.items in
-    let adds = subst (λ p. AddsNumbers (λ j. slice_get paths j ≡ Some p) c.loop-path.row.items c.add_path.new.row.items) c.deref.ensures.value c.in_ok-add_path.ensures in
+    let adds = subst (λ p. AddsNumbers (λ j. slice_get paths j ≡ Some p) c.loop-path.row.items c.add_path.new.row.items) c.deref.ensures.value
+    c.in_ok-add_path.ensures in
     left_more paths some path (bytes_of_paths c.next.new.self) c.loop-path.row.items c.add_path.new.row.items
     (subst (λ (ks : List (Vec ℕ Global)). AreLeft paths some (bytes_of_paths ks) c.loop-path.row.items) left c.loop-path.invariant) adds
 
@@ -31,4 +34,5 @@ returns c =
     let paths = paths_of c.args.packages.now in
     let some = bytes_of_paths c.args.paths.now.keys in
     let none = rest_all deref _ _ _ c.in-None.is c.next.ensures.steps in
-    left_none paths some c.loop-path.row.items (subst (λ (ks : List (Vec ℕ Global)). AreLeft paths some (bytes_of_paths ks) c.loop-path.row.items) none c.loop-path.invariant)
+    left_none paths some c.loop-path.row.items (subst (λ (ks : List (Vec ℕ Global)). AreLeft paths some (bytes_of_paths ks) c.loop-path.row.items) none
+    c.loop-path.invariant)

@@ -9,4 +9,5 @@ returns c = λ t.
     let rows = c.args.rows.now in
     let size : length links ≡ length rows = sym c.len.ensures ∙ c.if-len-rows.false in
     same_lists links rows size (λ k d within.
-    get_or_default links k d [] within ∙ c.loop-number.invariant k (omega (arith, c.loop-number-test.false, size)) ∙ get_or_default rows k [] d (omega (arith, size)))
+    get_or_default links k d [] within ∙ c.loop-number.invariant k (omega (arith, c.loop-number-test.false, size)) ∙
+    get_or_default rows k [] d (omega (arith, size)))

@@ -18,8 +18,10 @@ loop-package-preserved c =
     let all = c.args.packages.now in
     let k = c.loop-package.package-index in
     let p = c.package-item.result in
-    let among : c.is_among.result ≡ list_any (eq_by_cmp path_cmp p.path.items) folders = c.is_among.ensures ∙ ap (λ (q : List ℕ). list_any (eq_by_cmp path_cmp q) folders) c.path.ensures in
-    let more = λ (b : Bool) (tells : c.is_among.result ≡ not b) (twice : not (not b) ≡ b). outside_more test all k p b c.loop-package-test.true c.package-item.is (ap not (sym among ∙ tells) ∙ twice) in
+    let among : c.is_among.result ≡ list_any (eq_by_cmp path_cmp p.path.items) folders = c.is_among.ensures ∙
+    ap (λ (q : List ℕ). list_any (eq_by_cmp path_cmp q) folders) c.path.ensures in
+    let more = λ (b : Bool) (tells : c.is_among.result ≡ not b) (twice : not (not b) ≡ b).
+    outside_more test all k p b c.loop-package-test.true c.package-item.is (ap not (sym among ∙ tells) ∙ twice) in
     elim c.if-not-is_among.branch [
       | then-not-is_among+in_ok-clone+in_ok-push w ↦ rw (w.staying-is, w.in_ok-push.ensures.items)
           (ap (λ (l : List Package). l ++ w.in_ok-clone.field-0 ∷ []) c.loop-package.invariant
@@ -30,4 +32,5 @@ loop-package-preserved c =
 pub returns : goal.returns
 returns c =
     c.loop-package.invariant
-    ∙ ap (filter (is_outside (names c.args.folders.now.keys))) (take_all c.loop-package.package-index c.args.packages.now (omega (arith, c.loop-package-test.false)))
+    ∙ ap (filter (is_outside (names c.args.folders.now.keys)))
+    (take_all c.loop-package.package-index c.args.packages.now (omega (arith, c.loop-package-test.false)))

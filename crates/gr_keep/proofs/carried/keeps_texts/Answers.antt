@@ -17,11 +17,13 @@ returns-then-are_unmarked c =
       λ t p at.
           let first = subst (λ (m : List Bool). AreUnmarked m there) c.deref.ensures.value (c.are_unmarked.ensures.0 c.if-are_unmarked.true) in
           let second = subst (λ (m : List Bool). AreUnmarked m here) c.deref-then-are_unmarked.ensures.value (c.are_unmarked-then-are_unmarked.ensures.0 t) in
-          same_by_marks v w p before after there here c.requires.before_marks c.requires.after_marks (c.closure.ensures.closure p at) (c.closure-then-are_unmarked.ensures.closure p (sym c.requires.same ∙ at)) first second,
+          same_by_marks v w p before after there here c.requires.before_marks c.requires.after_marks (c.closure.ensures.closure p at)
+          (c.closure-then-are_unmarked.ensures.closure p (sym c.requires.same ∙ at)) first second,
       λ same.
           let p = get_or (package_paths v) c.args.old [] in
           let at = slice_get-get_or (package_paths v) c.args.old [] c.requires.old in
-          let none = after_unmarked v w p after here c.requires.after_marks (c.closure-then-are_unmarked.ensures.closure p (sym c.requires.same ∙ at)) (same p at) in
+          let none = after_unmarked v w p after here c.requires.after_marks (c.closure-then-are_unmarked.ensures.closure p (sym c.requires.same ∙ at))
+          (same p at) in
           c.are_unmarked-then-are_unmarked.ensures.1 (subst (λ (m : List Bool). AreUnmarked m here) (sym c.deref-then-are_unmarked.ensures.value) none),
     )
 

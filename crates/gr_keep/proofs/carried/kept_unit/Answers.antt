@@ -20,5 +20,7 @@ returns c = λ p at.
     let is : c.deref.result.now ≡ p = c.deref.ensures.value ∙ same_Some _ _ (sym c.package.ensures.path ∙ at) in
     let before : slice_get (package_paths c.args.before.now) c.in-Some.old ≡ Some p = c.in-Some.ensures ∙ ap Some is in
     let unit : c.in_ok-unit.unit ≡ c.in-Some-get.unit.now = c.in_ok-unit.ensures.cases in
-    let there : slice_get c.args.finished.now c.in-Some.old ≡ Some (Some c.in_ok-unit.unit) = c.in-Some-get.ensures ∙ ap (λ (u : PackageUnit). Some (Some u)) (sym unit) in
-    keeps_some c.args.before.now c.args.finished.now c.args.after.now p c.in-Some.old before c.in_ok-unit.unit there (c.keeps_texts.ensures.0 c.if-not-keeps_texts.false)
+    let there : slice_get c.args.finished.now c.in-Some.old ≡ Some (Some c.in_ok-unit.unit) = c.in-Some-get.ensures ∙
+    ap (λ (u : PackageUnit). Some (Some u)) (sym unit) in
+    keeps_some c.args.before.now c.args.finished.now c.args.after.now p c.in-Some.old before c.in_ok-unit.unit there
+    (c.keeps_texts.ensures.0 c.if-not-keeps_texts.false)

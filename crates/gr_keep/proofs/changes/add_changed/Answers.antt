@@ -24,7 +24,8 @@ loop-path-preserved-in-Continue-1 c =
     let left = rest_more deref_pair _ _ _ (c.in-Some.path, c.in-Some.text) c.in-Some.is c.next.ensures.steps in
     let so = subst (λ es. AreNoted T w es old (names c.loop-path.folders.items)) left c.loop-path.invariant in
     let tell = c.if-is_changed.ensures in
-    let pushed = ap names c.in_ok-push.ensures.items ∙ names_push c.loop-path.folders.items c.folder.result ∙ ap (λ (f : List ℕ). names c.loop-path.folders.items ++ f ∷ []) c.folder.ensures in
+    let pushed = ap names c.in_ok-push.ensures.items ∙ names_push c.loop-path.folders.items c.folder.result ∙
+    ap (λ (f : List ℕ). names c.loop-path.folders.items ++ f ∷ []) c.folder.ensures in
     subst (AreNoted T w c.next.new.self old) (sym pushed) (noted_more T w old e c.next.new.self (names c.loop-path.folders.items) tell.0 tell.1 so)
 
 pub loop-path-preserved : goal.loop-path-preserved

@@ -6,4 +6,5 @@ use Rattle.gr_keep.proofs.changes.changed_folders.Goals as goal
 
 pub returns : goal.returns
 returns c =
-    changed_by c.args.before.now c.args.after.now (names c.new-folders.result.items) (names c.add_changed.new.folders.items) (names c.add_new.new.folders.items) (ap names c.new-folders.ensures.items) c.in_ok-add_changed.ensures c.in_ok-add_new.ensures
+    changed_by c.args.before.now c.args.after.now (names c.new-folders.result.items) (names c.add_changed.new.folders.items)
+    (names c.add_new.new.folders.items) (ap names c.new-folders.ensures.items) c.in_ok-add_changed.ensures c.in_ok-add_new.ensures

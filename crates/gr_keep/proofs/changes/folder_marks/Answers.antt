@@ -13,6 +13,8 @@ loop-folder-preserved c =
     let i = c.loop-folder.folder-index in
     let old = c.loop-folder.marks.items in
     elim c.match-number_of.branch [
-      | in-Some b ↦ subst (λ (ms : Vec Bool Global). MarkFolders w (names (take (i + 1) fs)) ms.items) (sym b.marks-is) (mark_one w fs i _ old c.loop-folder-test.true b.in-Some.number b.in-Some.ensures c.loop-folder.invariant)
-      | in_default b ↦ subst (λ (ms : Vec Bool Global). MarkFolders w (names (take (i + 1) fs)) ms.items) (sym b.marks-is) (mark_none w fs i _ old c.loop-folder-test.true b.in_default.ensures c.loop-folder.invariant)
+      | in-Some b ↦ subst (λ (ms : Vec Bool Global). MarkFolders w (names (take (i + 1) fs)) ms.items) (sym b.marks-is)
+          (mark_one w fs i _ old c.loop-folder-test.true b.in-Some.number b.in-Some.ensures c.loop-folder.invariant)
+      | in_default b ↦ subst (λ (ms : Vec Bool Global). MarkFolders w (names (take (i + 1) fs)) ms.items) (sym b.marks-is)
+          (mark_none w fs i _ old c.loop-folder-test.true b.in_default.ensures c.loop-folder.invariant)
     ]

@@ -2,7 +2,8 @@
 use Rattle.std.proofs.Common.{◌≡◌, ℕ, List, map, sym, subst, ◌∙◌}
 use Rattle.std.proofs.lemmas.Option.{same_Some}
 use Rattle.gr_text.specs.Packages.{package_files}
-use Rattle.gr_keep.specs.Inputs.{tree_file, faulty_file, Adds}
+use Rattle.gr_keep.specs.Inputs.{faulty_file, Adds}
+use Rattle.gr_verdict.specs.Earlier.{tree_file}
 use Rattle.gr_keep.proofs.ClosureFiles.{adds_both, parsed_files}
 use Rattle.gr_keep.proofs.inputs.add_package.Goals as goal
 
@@ -16,4 +17,5 @@ returns c = λ p at.
     let faulty = subst (λ fs. Adds (map faulty_file fs) mid c.add_faulty.new.files) c.deref-2.ensures.value c.in_ok-add_faulty.ensures in
     let files = parsed_files c.package-package.ensures.files in
     subst (λ (q : List ℕ). Adds (package_files w q) c.args.files.now c.add_faulty.new.files) path
-    (adds_both (map tree_file own.trees.items) (map faulty_file own.faulty.items) (package_files w own.path.items) c.args.files.now mid c.add_faulty.new.files files trees faulty)
+    (adds_both (map tree_file own.trees.items) (map faulty_file own.faulty.items) (package_files w own.path.items) c.args.files.now mid
+    c.add_faulty.new.files files trees faulty)

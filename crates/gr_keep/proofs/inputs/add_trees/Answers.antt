@@ -2,7 +2,8 @@
 use Rattle.std.proofs.Common.{◌≡◌, ◌+◌, take, map, refl, ap, subst, ◌∙◌, arith}
 use Rattle.std.proofs.lemmas.List.{take_all}
 use Rattle.gr_scan.specs.CutText.{CutText}
-use Rattle.gr_keep.specs.Inputs.{tree_file, Adds}
+use Rattle.gr_keep.specs.Inputs.{Adds}
+use Rattle.gr_verdict.specs.Earlier.{tree_file}
 use Rattle.gr_keep.proofs.ClosureFiles.{adds_none, adds_more, mapped_more}
 use Rattle.gr_keep.proofs.inputs.add_trees.Goals as goal
 
@@ -16,8 +17,10 @@ loop-tree-preserved c =
     let t = c.tree-item.result in
     let path : c.in_ok-path.path ≡ t.path = c.in_ok-path.ensures.cases ∙ c.path.ensures in
     let text : c.in_ok-text.text ≡ t.cut.text = c.in_ok-text.ensures.cases ∙ c.file.ensures.text ∙ ap (λ (x : CutText). x.text) c.pieces.ensures in
-    let more = adds_more (map tree_file (take k trees)) (map tree_file (take (k + 1) trees)) c.args.files.now c.loop-tree.files (tree_file t) (mapped_more tree_file trees k t (omega arith) c.tree-item.is) c.loop-tree.invariant in
+    let more = adds_more (map tree_file (take k trees)) (map tree_file (take (k + 1) trees)) c.args.files.now c.loop-tree.files (tree_file t)
+    (mapped_more tree_file trees k t (omega arith) c.tree-item.is) c.loop-tree.invariant in
     rw (c.in_ok-insert.ensures.ok, path, text) more
 
 pub returns : goal.returns
-returns c = subst (λ l. Adds (map tree_file l) c.args.files.now c.loop-tree.files) (take_all c.loop-tree.tree-index c.args.trees.now (omega arith)) c.loop-tree.invariant
+returns c = subst (λ l. Adds (map tree_file l) c.args.files.now c.loop-tree.files) (take_all c.loop-tree.tree-index c.args.trees.now (omega arith))
+    c.loop-tree.invariant

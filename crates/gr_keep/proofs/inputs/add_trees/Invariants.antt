@@ -1,6 +1,7 @@
 -- The files that were passed were added.
 use Rattle.std.proofs.Common.{take, map}
-use Rattle.gr_keep.specs.Inputs.{tree_file, Adds}
+use Rattle.gr_keep.specs.Inputs.{Adds}
+use Rattle.gr_verdict.specs.Earlier.{tree_file}
 use Rattle.gr_keep.proofs.inputs.add_trees.Given as goal
 
 abbrev pub invariant-loop-tree : goal.invariant-loop-tree

@@ -1,27 +1,34 @@
--- The files of the closure differ from those of the workspace in the other packages alone.
+-- The files of the closure are those of its packages.
 use Rattle.std.proofs.Common.{[], get_or, sym, subst}
 use Rattle.std.specs.FinMap.{entries}
-use Rattle.std.proofs.lemmas.Option.{slice_get-get_or}
+use Rattle.std.proofs.lemmas.List.Elements.{Contains-get_or}
+use Rattle.std.proofs.lemmas.Option.{slice_get-get_or, slice_get_within}
 use Rattle.gr_text.specs.Packages.{package_paths}
 use Rattle.gr_text.specs.Workspace.{Workspace}
-use Rattle.gr_graph.specs.Filling.{names}
 use Rattle.gr_graph.specs.Packages.{AreClosureTexts}
 use Rattle.gr_graph.proofs.Asked.{at_contains}
 use Rattle.gr_graph.proofs.Filled.{ok_both}
-use Rattle.gr_keep.proofs.OtherPaths.{closure_differs}
+use Rattle.gr_keep.proofs.PartFiles.{closure_files_of}
 use Rattle.gr_keep.proofs.inputs.inputs_of.Goals as goal
 
-pub changed-requires : goal.changed-requires
-changed-requires c =
+pub part-requires : goal.part-requires
+part-requires c =
     let w = c.args.graph.now in
     let p = get_or (package_paths w) c.args.number [] in
     let at = slice_get-get_or (package_paths w) c.args.number [] c.requires in
-    closure_differs w p c.closure.result.now c.in_ok-files.files (c.in_ok-files.ensures p at) (c.closure.ensures.closure p at) (names c.in_ok-others.others.keys) c.in_ok-others.ensures
+    let numbers = c.closure.result.now in
+    record {
+      numbers = λ i d lt.
+          let s = (c.closure.ensures.closure p at (get_or numbers i d)).0 (Contains-get_or numbers i d lt) in
+          slice_get_within (package_paths w) (get_or numbers i d) s.0 s.1;
+      rising = c.closure.ensures.rising;
+      files = closure_files_of w p numbers c.in_ok-files.files (c.in_ok-files.ensures p at) (c.closure.ensures.closure p at);
+    }
 
 pub returns : goal.returns
 returns c =
     let w = c.args.graph.now in
-    ok_both c.changed.result (λ g is also p at. record {
+    ok_both c.part.result (λ g is also p at. record {
       is_package = at_contains w c.args.number p at;
       texts = subst (λ (x : Workspace). AreClosureTexts w p (entries x)) (sym is) (c.in_ok-files.ensures p at);
-    }) c.changed.ensures c.changed.ensures
+    }) c.part.ensures c.part.ensures

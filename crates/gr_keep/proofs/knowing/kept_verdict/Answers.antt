@@ -3,7 +3,7 @@ use Rattle.std.proofs.Common.{◌≡◌, Some, slice_get, sym, ap, subst, ◌∙
 use Rattle.std.proofs.lemmas.Option.{none-some, same_Some, slice_get_within}
 use Rattle.gr_text.specs.Packages.{package_paths}
 use Rattle.gr_graph.proofs.Asked.{at_contains}
-use Rattle.gr_verdict.specs.Found.{TellsVerdict}
+use Rattle.gr_verdict.specs.Told.{TellsVerdict}
 use Rattle.gr_verdict.proofs.Local.{told_there}
 use Rattle.gr_keep.proofs.knowing.kept_verdict.Goals as goal
 

@@ -2,7 +2,7 @@
 use Rattle.std.proofs.Common.{sym, subst, ◌∙◌}
 use Rattle.std.proofs.lemmas.Option.{none-some, same_Some}
 use Rattle.gr_graph.proofs.Asked.{at_contains}
-use Rattle.gr_verdict.specs.Found.{TellsVerdict}
+use Rattle.gr_verdict.specs.Told.{TellsVerdict}
 use Rattle.gr_keep.proofs.knowing.verdict_there.Goals as goal
 
 pub returns-in_default : goal.returns-in_default
@@ -17,5 +17,6 @@ returns c = λ one is.
     let n = c.in-Some.number in
     let path = c.args.path.now in (
       at_contains v n path c.in-Some.ensures,
-      subst (TellsVerdict v path) (sym c.in_ok-verdict.ensures.cases ∙ same_Some c.in_ok-verdict.verdict one is) (c.requires n path c.in-Some-get.verdict.now c.in-Some.ensures c.in-Some-get.ensures),
+      subst (TellsVerdict v path) (sym c.in_ok-verdict.ensures.cases ∙ same_Some c.in_ok-verdict.verdict one is)
+          (c.requires n path c.in-Some-get.verdict.now c.in-Some.ensures c.in-Some-get.ensures),
     )

@@ -15,7 +15,8 @@ loop-line-preserved g c = record {
   reads = c.in_ok-read_byte.ensures.reads ∙ c.loop-line.invariant.reads;
   grown = c.loop-line.invariant.grown;
   room = c.loop-line.invariant.room;
-  so_far = long_push c.args.limit (g.S.Source.remaining c.args.source.now) (g.S.Source.remaining c.loop-line.source) (g.S.Source.remaining c.read_byte.new.source)
+  so_far = long_push c.args.limit (g.S.Source.remaining c.args.source.now) (g.S.Source.remaining c.loop-line.source)
+      (g.S.Source.remaining c.read_byte.new.source)
       c.loop-line.line.items c.loop-line.is_too_long c.in-Some.byte c.loop-line.invariant.so_far
       (rw c.in-Some.is at c.in_ok-read_byte.ensures.byte) (search rules) (omega (arith, c.loop-line.line.ok.0));
   reader = c.in_ok-read_byte.ensures.counted ∙ c.loop-line.invariant.reader;

@@ -7,7 +7,8 @@ use Rattle.gr_line.proofs.next.read_put.Goals.{then-is_whole, else-is_whole}
 
 pub returns-after-is_whole-clause-put : goal.returns-after-is_whole-clause-put
 returns-after-is_whole-clause-put g c =
-    let skipped = put_skipped c.args.limits.now c.args.basis c.args.path.now c.args.size (g.S.Source.remaining c.args.source.now) (g.S.Source.remaining c.skip.new.source)
+    let skipped = put_skipped c.args.limits.now c.args.basis c.args.path.now c.args.size (g.S.Source.remaining c.args.source.now)
+    (g.S.Source.remaining c.skip.new.source)
     c.in_ok-is_whole-in-Err.is_whole c.in_ok-is_whole-in-Err.ensures.skips in
     elim c.if-is_whole.branch [
       | then-is_whole w ↦ rw w.result-is (rw w.if-is_whole.true at skipped)

@@ -9,7 +9,8 @@ use Rattle.gr_meanings.proofs.bounds.bounds_of.Goals as goal
 
 pub loop-d-preserved : goal.loop-d-preserved
 loop-d-preserved c =
-    next_meaning (package_of c.args.unit) c.loop-d.d c.loop-d.bounds.list.items c.loop-d.bounds.of.items (option_map bound_of c.in_ok-meaning.field-0) c.note.new.self.list.items c.note.new.self.of.items
+    next_meaning (package_of c.args.unit) c.loop-d.d c.loop-d.bounds.list.items c.loop-d.bounds.of.items (option_map bound_of c.in_ok-meaning.field-0)
+    c.note.new.self.list.items c.note.new.self.of.items
     c.in_ok-note.ensures c.in_ok-meaning.ensures c.loop-d.invariant
 
 pub returns : goal.returns

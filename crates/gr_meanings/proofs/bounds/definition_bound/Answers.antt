@@ -14,13 +14,16 @@ pub returns-then-broken-rank : goal.returns-then-broken-rank
 unfolding bound_of
 returns-then-broken-rank c =
     let p = package_of c.args.unit in
-    let lt : c.args.rank < length (package_types p) = slice_get_within (package_types p) c.args.rank c.requires.definition.item c.requires.definition.has_rank in
+    let lt : c.args.rank < length (package_types p) = slice_get_within (package_types p) c.args.rank c.requires.definition.item
+    c.requires.definition.has_rank in
     broken_definition {rank = c.args.rank} c.requires.level c.requires.definition ((c.requires.broken.each c.args.rank lt).0 c.if-broken-rank.true)
 
 pub returns : goal.returns
 unfolding bound_of
 returns c =
     let p = package_of c.args.unit in
-    let lt : c.args.rank < length (package_types p) = slice_get_within (package_types p) c.args.rank c.requires.definition.item c.requires.definition.has_rank in
+    let lt : c.args.rank < length (package_types p) = slice_get_within (package_types p) c.args.rank c.requires.definition.item
+    c.requires.definition.has_rank in
     subst (λ t. IsMeantBy p c.args.d (Means (TypeName t))) (sym c.in_ok-own.ensures)
-    (definition {rank = c.args.rank} c.requires.level c.requires.definition (λ b. false≢true (sym c.if-broken-rank.false ∙ (c.requires.broken.each c.args.rank lt).1 b)))
+    (definition {rank = c.args.rank} c.requires.level c.requires.definition
+    (λ b. false≢true (sym c.if-broken-rank.false ∙ (c.requires.broken.each c.args.rank lt).1 b)))

@@ -12,14 +12,19 @@ use Rattle.gr_meanings.proofs.bounds.function_bound.Goals as goal
 
 pub index-function-requires : goal.index-function-requires
 index-function-requires c =
-    omega (arith, rank_within function_of c.args.index.now.declared.functions.items (package_functions (package_of c.args.unit)) c.args.rank c.requires.function.item c.requires.index.functions c.requires.function.has_rank)
+    omega (
+      arith,
+      rank_within function_of c.args.index.now.declared.functions.items (package_functions (package_of c.args.unit)) c.args.rank
+          c.requires.function.item c.requires.index.functions c.requires.function.has_rank,
+    )
 
 pub returns-in-None : goal.returns-in-None
 unfolding bound_of
 returns-in-None c =
     let p = package_of c.args.unit in
     let x = c.index-function.result.now in
-    function_found p c.args.index.now.declared.functions.items c.args.d c.args.rank x None c.requires.index.functions c.requires.level c.requires.function c.index-function.ensures
+    function_found p c.args.index.now.declared.functions.items c.args.d c.args.rank x None c.requires.index.functions c.requires.level c.requires.function
+    c.index-function.ensures
     (subst (λ o. IsSignature p (function_of x) (option_map signature_of o)) c.in-None.is c.in_ok-signature.ensures)
 
 pub returns-in-Some : goal.returns-in-Some
@@ -27,5 +32,6 @@ unfolding bound_of
 returns-in-Some c =
     let p = package_of c.args.unit in
     let x = c.index-function.result.now in
-    function_found p c.args.index.now.declared.functions.items c.args.d c.args.rank x (Some (signature_of c.in-Some.own)) c.requires.index.functions c.requires.level c.requires.function c.index-function.ensures
+    function_found p c.args.index.now.declared.functions.items c.args.d c.args.rank x (Some (signature_of c.in-Some.own)) c.requires.index.functions
+    c.requires.level c.requires.function c.index-function.ensures
     (subst (λ o. IsSignature p (function_of x) (option_map signature_of o)) c.in-Some.is c.in_ok-signature.ensures)

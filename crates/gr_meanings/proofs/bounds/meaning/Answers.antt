@@ -11,4 +11,5 @@ pub returns-in-Inner : goal.returns-in-Inner
 unfolding bound_of
 returns-in-Inner c =
     subst (λ x. IsMeantBy (package_of c.args.unit) c.args.d (Local x.index)) (sym c.place.ensures)
-    (local {file = c.in-Inner.field-0} {from = c.in-Inner.field-1} {to = c.in-Inner.field-2} (ap block_of (sym c.role.ensures) ∙ sym c.block.ensures ∙ c.in-Inner.is))
+    (local {file = c.in-Inner.field-0} {from = c.in-Inner.field-1} {to = c.in-Inner.field-2}
+    (ap block_of (sym c.role.ensures) ∙ sym c.block.ensures ∙ c.in-Inner.is))

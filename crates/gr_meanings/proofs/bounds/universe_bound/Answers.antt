@@ -14,4 +14,5 @@ returns-then-is_implied c =
 
 pub returns-else-is_implied : goal.returns-else-is_implied
 returns-else-is_implied c =
-    no_universe_meaning (package_of c.args.unit) c.args.d c.requires.universe (ap is_implied (sym c.role.ensures) ∙ sym c.is_implied.ensures ∙ c.if-is_implied.false)
+    no_universe_meaning (package_of c.args.unit) c.args.d c.requires.universe
+    (ap is_implied (sym c.role.ensures) ∙ sym c.is_implied.ensures ∙ c.if-is_implied.false)

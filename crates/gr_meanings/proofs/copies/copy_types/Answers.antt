@@ -6,7 +6,8 @@ use Rattle.gr_meanings.proofs.copies.copy_types.Goals as goal
 
 pub loop-own-preserved : goal.loop-own-preserved
 loop-own-preserved c =
-    next_copy type_of c.args.types.now c.loop-own.copy.items c.push.new.self.items c.loop-own.own-index c.own-item.result c.in_ok-copy.field-0 (omega arith) c.in_ok-push.ensures.items
+    next_copy type_of c.args.types.now c.loop-own.copy.items c.push.new.self.items c.loop-own.own-index c.own-item.result c.in_ok-copy.field-0 (omega arith)
+    c.in_ok-push.ensures.items
     (c.in_ok-copy.ensures ∙ ap type_of c.own-item.is) c.loop-own.invariant
 
 pub returns : goal.returns

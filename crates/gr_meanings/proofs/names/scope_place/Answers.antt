@@ -9,7 +9,11 @@ use Rattle.gr_meanings.proofs.NameParts.{no_scope, scope_found}
 use Rattle.gr_meanings.proofs.names.scope_place.Goals as goal
 
 pub returns-in-None : goal.returns-in-None
-returns-in-None c = record { found = no_scope (package_of c.args.unit) c.args.file c.args.token c.in-None.ensures.bound; within = λ i e. absurd (none-some i e) }
+returns-in-None c = record {
+  found = no_scope (package_of c.args.unit) c.args.file c.args.token c.in-None.ensures.bound;
+  within = λ i e.
+      absurd (none-some i e);
+}
 
 pub returns-in-Some : goal.returns-in-Some
 returns-in-Some c =
@@ -19,6 +23,7 @@ returns-in-Some c =
     let d = c.in-Some.d in
     record {
       found = subst (λ o. IsScopeFound p c.args.file c.args.token (option_map bound_of (bound_at list o))) (sym c.get.ensures)
-          (scope_found p c.args.file c.args.token d (bound_at list (slice_index_or of d None)) c.in-Some.ensures.bound c.in-Some.ensures.only (c.requires.bounds.each d c.in-Some.ensures.in_range));
+          (scope_found p c.args.file c.args.token d (bound_at list (slice_index_or of d None)) c.in-Some.ensures.bound c.in-Some.ensures.only
+          (c.requires.bounds.each d c.in-Some.ensures.in_range));
       within = λ i e. c.requires.bounds.within d i (sym c.get.ensures ∙ e);
     }

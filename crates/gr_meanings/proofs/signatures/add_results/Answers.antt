@@ -12,18 +12,22 @@ use Rattle.gr_meanings.proofs.signatures.add_results.Goals as goal
 pub returns-in-None : goal.returns-in-None
 unfolding results_view
 returns-in-None c =
-    appends_as tree_of c.args.found.now.items c.args.found.now.items _ _ (appends_none tree_of c.args.found.now.items) (ap (λ r. result_types (results_view r)) (sym c.in-None.is))
+    appends_as tree_of c.args.found.now.items c.args.found.now.items _ _ (appends_none tree_of c.args.found.now.items)
+    (ap (λ r. result_types (results_view r)) (sym c.in-None.is))
 
 pub returns-in_ok-push-in-Single : goal.returns-in_ok-push-in-Single
 unfolding results_view
 returns-in_ok-push-in-Single c =
-    appends_as tree_of c.args.found.now.items c.push.new.self.items _ _ (appends_one tree_of c.args.found.now.items c.push.new.self.items _ c.in_ok-push-in-Single.ensures.items)
+    appends_as tree_of c.args.found.now.items c.push.new.self.items _ _
+    (appends_one tree_of c.args.found.now.items c.push.new.self.items _ c.in_ok-push-in-Single.ensures.items)
     (ap (λ r. result_types (results_view r)) (sym c.in-Single.is))
 
 pub returns-after-loop-item : goal.returns-after-loop-item
 unfolding results_view
 returns-after-loop-item c =
     appends_as tree_of c.args.found.now.items c.loop-item.found.items _ _
-    (appends_all tree_of c.args.found.now.items c.loop-item.found.items type_part c.deref-item-items.result.now c.loop-item.item-index (omega arith) c.loop-item.invariant)
-    (types_from c.deref-item-items.result.now ∙ ap (λ xs. result_types (tree.results c.in-Several.«open» (list_view type_view xs) c.in-Several.close)) c.deref-item-items.ensures.value ∙
+    (appends_all tree_of c.args.found.now.items c.loop-item.found.items type_part c.deref-item-items.result.now c.loop-item.item-index (omega arith)
+    c.loop-item.invariant)
+    (types_from c.deref-item-items.result.now ∙ ap (λ xs. result_types (tree.results c.in-Several.«open» (list_view type_view xs) c.in-Several.close))
+    c.deref-item-items.ensures.value ∙
     ap (λ r. result_types (results_view r)) (sym c.in-Several.is))

@@ -15,12 +15,14 @@ returns-in-None c =
     let p = package_of c.args.unit in
     let none : IsTypeFound p c.args.file (type_view c.one-item.result.now) None =
     subst (λ o. IsTypeFound p c.args.file (type_view c.one-item.result.now) (option_map type_of o)) c.in-None.is c.in_ok-whole_type.ensures in
-    no_type_for p c.args.file tree_of c.args.written.now c.loop-one.one-index c.one-item.result (omega arith) (subst (λ z. IsTypeFound p c.args.file (tree_of z) None) c.one-item.is none)
+    no_type_for p c.args.file tree_of c.args.written.now c.loop-one.one-index c.one-item.result (omega arith)
+    (subst (λ z. IsTypeFound p c.args.file (tree_of z) None) c.one-item.is none)
 
 pub loop-one-preserved : goal.loop-one-preserved
 loop-one-preserved c =
     let p = package_of c.args.unit in
     let some : IsTypeFound p c.args.file (type_view c.one-item.result.now) (Some (type_of c.in-Some.own)) =
     subst (λ o. IsTypeFound p c.args.file (type_view c.one-item.result.now) (option_map type_of o)) c.in-Some.is c.in_ok-whole_type.ensures in
-    next_type p c.args.file tree_of type_of c.args.written.now c.loop-one.types.items c.push.new.self.items c.loop-one.one-index c.one-item.result c.in-Some.own (omega arith)
+    next_type p c.args.file tree_of type_of c.args.written.now c.loop-one.types.items c.push.new.self.items c.loop-one.one-index c.one-item.result
+    c.in-Some.own (omega arith)
     c.in_ok-push-in-Some.ensures.items (subst (λ z. IsTypeOf p c.args.file (tree_of z) (type_of c.in-Some.own)) c.one-item.is some) c.loop-one.invariant

@@ -8,8 +8,10 @@ use Rattle.gr_meanings.proofs.whole_types.mentions_broken.Goals as goal
 pub returns-then-rank-broken : goal.returns-then-rank-broken
 returns-then-rank-broken c =
     let p = package_of c.args.unit in
-    let tree = type_view c.args.written.now in
-    (marked_broken p c.args.file tree c.args.broken.now c.in-Some.rank c.requires.broken c.in-Some.ensures.0, broken_marked p c.args.file tree c.args.broken.now c.in-Some.rank c.requires.broken c.in-Some.ensures.1)
+    let tree = type_view c.args.written.now in (
+      marked_broken p c.args.file tree c.args.broken.now c.in-Some.rank c.requires.broken c.in-Some.ensures.0,
+      broken_marked p c.args.file tree c.args.broken.now c.in-Some.rank c.requires.broken c.in-Some.ensures.1,
+    )
 
 pub returns-else-rank-broken : goal.returns-else-rank-broken
 returns-else-rank-broken c =

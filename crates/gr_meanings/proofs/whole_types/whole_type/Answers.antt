@@ -10,10 +10,12 @@ use Rattle.gr_meanings.proofs.WholeTypes.{broken_none, whole_named}
 use Rattle.gr_meanings.proofs.whole_types.whole_type.Goals as goal
 
 pub returns-then-mentions_broken : goal.returns-then-mentions_broken
-returns-then-mentions_broken c = broken_none (package_of c.args.unit) c.args.file (type_view c.args.written.now) (c.mentions_broken.ensures.0 c.if-mentions_broken.true)
+returns-then-mentions_broken c = broken_none (package_of c.args.unit) c.args.file (type_view c.args.written.now)
+    (c.mentions_broken.ensures.0 c.if-mentions_broken.true)
 
 pub returns-else-mentions_broken : goal.returns-else-mentions_broken
 returns-else-mentions_broken c =
     IfOk-weaker c.named_type.result _ _
-    (λ o h. whole_named (package_of c.args.unit) c.args.file (type_view c.args.written.now) (option_map type_of o) (λ b. false≢true (sym c.if-mentions_broken.false ∙ c.mentions_broken.ensures.1 b)) h)
+    (λ o h. whole_named (package_of c.args.unit) c.args.file (type_view c.args.written.now) (option_map type_of o)
+    (λ b. false≢true (sym c.if-mentions_broken.false ∙ c.mentions_broken.ensures.1 b)) h)
     c.named_type.ensures

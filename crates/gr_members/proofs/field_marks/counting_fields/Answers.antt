@@ -14,7 +14,11 @@ use Rattle.gr_members.proofs.field_marks.counting_fields.Goals as goal
 pub loop-field-init : goal.loop-field-init
 loop-field-init c =
     let K = IsFieldNamed (package_of c.args.unit) in
-    record { names = names_none K (is_noted c.new-names.result) c.new-names.ensures; marks = marks_none (IsFirstNamed K) c.new-marks.result.items c.new-marks.ensures.items }
+    record {
+      names = names_none K (is_noted c.new-names.result) c.new-names.ensures;
+      marks =
+          marks_none (IsFirstNamed K) c.new-marks.result.items c.new-marks.ensures.items;
+    }
 
 pub loop-field-preserved : goal.loop-field-preserved
 loop-field-preserved c =
@@ -27,13 +31,16 @@ loop-field-preserved c =
     let is = field_named p rank f at in
     let only = one_name p rank f at in
     record {
-      names = names_next K rank f.definition name (is_noted c.loop-field.names) (is_noted c.note_field.new.names) is only c.in_ok-counts.ensures.noted c.loop-field.invariant.names;
+      names = names_next K rank f.definition name (is_noted c.loop-field.names) (is_noted c.note_field.new.names) is only c.in_ok-counts.ensures.noted
+          c.loop-field.invariant.names;
       marks = marks_next (IsFirstNamed K) c.loop-field.marks.items c.push.new.self.items rank _ c.in_ok-push.ensures.items
-          (first_if_new K rank f.definition name (is_noted c.loop-field.names) _ is only c.in_ok-counts.ensures.added c.loop-field.invariant.names) c.loop-field.invariant.marks;
+          (first_if_new K rank f.definition name (is_noted c.loop-field.names) _ is only c.in_ok-counts.ensures.added c.loop-field.invariant.names)
+          c.loop-field.invariant.marks;
     }
 
 pub returns : goal.returns
 returns c =
     let p = package_of c.args.unit in
     let end : c.loop-field.field-index ≡ length c.args.fields.now = omega arith in
-    are_counting p c.loop-field.marks.items c.loop-field.field-index (end ∙ sym (length-map c.args.fields.now field_of) ∙ ap length c.requires) c.loop-field.invariant.marks
+    are_counting p c.loop-field.marks.items c.loop-field.field-index (end ∙ sym (length-map c.args.fields.now field_of) ∙ ap length c.requires)
+    c.loop-field.invariant.marks

@@ -20,11 +20,13 @@ loop-field-preserved c =
     let rank = c.loop-field.field-index in
     let f = field_of c.field-item.result in
     let at = item_at field_of c.args.fields.now (package_fields p) rank c.field-item.result c.requires (omega arith) c.field-item.is in
-    names_next (IsFieldNamed p) rank f.definition (spelled p f.file f.name) (is_noted c.loop-field.names) (is_noted c.note_field.new.names) (field_named p rank f at) (one_name p rank f at)
+    names_next (IsFieldNamed p) rank f.definition (spelled p f.file f.name) (is_noted c.loop-field.names) (is_noted c.note_field.new.names)
+    (field_named p rank f at) (one_name p rank f at)
     c.in_ok-note_field.ensures.noted c.loop-field.invariant
 
 pub returns : goal.returns
 returns c =
     let p = package_of c.args.unit in
     let end : c.loop-field.field-index ≡ length c.args.fields.now = omega arith in
-    subst (λ n. AreNamesBelow (IsFieldNamed p) n (is_noted c.loop-field.names)) (end ∙ sym (length-map c.args.fields.now field_of) ∙ ap length c.requires) c.loop-field.invariant
+    subst (λ n. AreNamesBelow (IsFieldNamed p) n (is_noted c.loop-field.names)) (end ∙ sym (length-map c.args.fields.now field_of) ∙ ap length c.requires)
+    c.loop-field.invariant

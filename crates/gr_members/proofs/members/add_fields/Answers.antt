@@ -24,9 +24,11 @@ loop-rank-preserved c =
     let counts = slice_index_or c.args.counting.now rank false in
     let says = c.requires.counting.each rank within in
     below_next (IsFieldFault p) c.args.found.now.items c.loop-rank.found.items c.push_if.new.found.items rank c.loop-rank.invariant
-    (by_test c.loop-rank.found.items c.push_if.new.found.items _ _ (IsFieldFault p rank) c.in_ok-push_if.ensures (field_fault p rank x counts at says) (of_field_fault p rank x counts at says))
+    (by_test c.loop-rank.found.items c.push_if.new.found.items _ _ (IsFieldFault p rank) c.in_ok-push_if.ensures (field_fault p rank x counts at says)
+    (of_field_fault p rank x counts at says))
 
 pub returns : goal.returns
 returns c =
     let end : c.loop-rank.rank ≡ length c.args.fields.now = omega arith in
-    all_field_faults (package_of c.args.unit) c.args.found.now.items c.loop-rank.found.items c.loop-rank.rank (end ∙ sym (length-map c.args.fields.now field_of) ∙ ap length c.requires.fields) c.loop-rank.invariant
+    all_field_faults (package_of c.args.unit) c.args.found.now.items c.loop-rank.found.items c.loop-rank.rank
+    (end ∙ sym (length-map c.args.fields.now field_of) ∙ ap length c.requires.fields) c.loop-rank.invariant

@@ -36,4 +36,5 @@ returns c =
     let p = package_of c.args.unit in
     let items = c.args.index.now.declared.types.items in
     let end : c.loop-rank.rank ≡ length items = omega (arith, c.len-rank-end.ensures) in
-    all_recursion_faults p c.args.found.now.items c.loop-rank.found.items c.loop-rank.rank (end ∙ definition_count p items c.requires.index.types) c.loop-rank.invariant
+    all_recursion_faults p c.args.found.now.items c.loop-rank.found.items c.loop-rank.rank (end ∙ definition_count p items c.requires.index.types)
+    c.loop-rank.invariant

@@ -5,4 +5,5 @@ use Rattle.gr_declared.specs.PackageView.{package_of}
 use Rattle.gr_members.proofs.members.member_faults.Goals as goal
 
 pub returns-clause-listed : goal.returns-clause-listed
-returns-clause-listed c = same_listed (IsMemberFault (package_of c.args.unit)) c.in_ok-found.found.items c.sort.new.found.items c.in_ok-found.ensures c.sort.ensures.same
+returns-clause-listed c = same_listed (IsMemberFault (package_of c.args.unit)) c.in_ok-found.found.items c.sort.new.found.items c.in_ok-found.ensures
+    c.sort.ensures.same

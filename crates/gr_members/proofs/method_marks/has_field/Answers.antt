@@ -13,13 +13,19 @@ returns-in-None c =
     let d = c.args.definition in
     let own = c.args.underlying.now in
     let short : d < length own = omega (arith, c.requires.underlying.all, c.requires.in_range) in
-    let e = ap (option_map underlying_of) (sym (get_or_read own d c.index-underlying-definition.result short c.index-underlying-definition.is None) ∙ c.in-None.is) in
-    ((λ t. absurd (false≢true t)), (λ f. absurd (no_field_named (package_of c.args.unit) d _ c.args.name.now (c.requires.underlying.each d c.requires.in_range) e f)))
+    let e = ap (option_map underlying_of) (sym (get_or_read own d c.index-underlying-definition.result short c.index-underlying-definition.is None) ∙
+    c.in-None.is) in (
+      (λ t. absurd (false≢true t)),
+      (λ f. absurd (no_field_named (package_of c.args.unit) d _ c.args.name.now
+          (c.requires.underlying.each d c.requires.in_range) e f)),
+    )
 
 pub returns-in-Some : goal.returns-in-Some
 returns-in-Some c =
     let d = c.args.definition in
     let own = c.args.underlying.now in
     let short : d < length own = omega (arith, c.requires.underlying.all, c.requires.in_range) in
-    let e = ap (option_map underlying_of) (sym (get_or_read own d c.index-underlying-definition.result short c.index-underlying-definition.is None) ∙ c.in-Some.is) in
-    field_named_by (package_of c.args.unit) c.is_well_formed.ensures d _ (underlying_of c.in-Some.own) c.args.name.now c.underlying_has.result (c.requires.underlying.each d c.requires.in_range) e c.underlying_has.ensures
+    let e = ap (option_map underlying_of) (sym (get_or_read own d c.index-underlying-definition.result short c.index-underlying-definition.is None) ∙
+    c.in-Some.is) in
+    field_named_by (package_of c.args.unit) c.is_well_formed.ensures d _ (underlying_of c.in-Some.own) c.args.name.now c.underlying_has.result
+    (c.requires.underlying.each d c.requires.in_range) e c.underlying_has.ensures

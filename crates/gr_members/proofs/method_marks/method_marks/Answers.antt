@@ -25,7 +25,11 @@ note_function-requires-clause-owner c =
 pub loop-rank-init : goal.loop-rank-init
 loop-rank-init c =
     let p = package_of c.args.unit in
-    record { names = names_none (IsMethodNamed p) (is_noted c.new-names.result) c.new-names.ensures; marks = marks_none (CountsAsMethod p) c.new-marks.result.items c.new-marks.ensures.items }
+    record {
+      names = names_none (IsMethodNamed p) (is_noted c.new-names.result) c.new-names.ensures;
+      marks =
+          marks_none (CountsAsMethod p) c.new-marks.result.items c.new-marks.ensures.items;
+    }
 
 pub loop-rank-preserved : goal.loop-rank-preserved
 loop-rank-preserved c =
@@ -43,11 +47,13 @@ loop-rank-preserved c =
     record {
       names = names_after p c.is_well_formed.ensures rank f o old new c.in_ok-counts.counts at has c.in_ok-counts.ensures c.loop-rank.invariant.names;
       marks = marks_next (CountsAsMethod p) c.loop-rank.marks.items c.push.new.self.items rank c.in_ok-counts.counts c.in_ok-push.ensures.items
-          (counts_here p c.is_well_formed.ensures rank f o old new c.in_ok-counts.counts at has c.in_ok-counts.ensures c.loop-rank.invariant.names) c.loop-rank.invariant.marks;
+          (counts_here p c.is_well_formed.ensures rank f o old new c.in_ok-counts.counts at has c.in_ok-counts.ensures c.loop-rank.invariant.names)
+          c.loop-rank.invariant.marks;
     }
 
 pub returns : goal.returns
 returns c =
     let items = c.args.index.now.declared.functions.items in
     let end : c.loop-rank.rank ≡ length items = omega (arith, c.len-rank-end.ensures) in
-    are_counting_methods (package_of c.args.unit) c.loop-rank.marks.items c.loop-rank.rank (end ∙ sym (length-map items function_of) ∙ ap length c.requires.index.functions) c.loop-rank.invariant.marks
+    are_counting_methods (package_of c.args.unit) c.loop-rank.marks.items c.loop-rank.rank
+    (end ∙ sym (length-map items function_of) ∙ ap length c.requires.index.functions) c.loop-rank.invariant.marks

@@ -7,12 +7,14 @@ use Rattle.gr_members.proofs.method_marks.note_method.Goals as goal
 pub returns-then-is_new : goal.returns-then-is_new
 returns-then-is_new c = (
   c.in_ok-is_new.ensures.noted,
-  counts_if (package_of c.args.unit) c.args.definition c.args.name.now (is_noted c.args.names.now c.args.definition c.args.name.now) c.in_ok-is_new.is_new c.has_field.result c.in_ok-is_new.ensures.added c.if-is_new.true
+  counts_if (package_of c.args.unit) c.args.definition c.args.name.now (is_noted c.args.names.now c.args.definition c.args.name.now) c.in_ok-is_new.is_new
+      c.has_field.result c.in_ok-is_new.ensures.added c.if-is_new.true
       c.has_field.ensures,
 )
 
 pub returns-else-is_new : goal.returns-else-is_new
 returns-else-is_new c = (
   c.in_ok-is_new.ensures.noted,
-  counts_not (package_of c.args.unit) c.args.definition c.args.name.now (is_noted c.args.names.now c.args.definition c.args.name.now) c.in_ok-is_new.is_new c.in_ok-is_new.ensures.added c.if-is_new.false,
+  counts_not (package_of c.args.unit) c.args.definition c.args.name.now (is_noted c.args.names.now c.args.definition c.args.name.now) c.in_ok-is_new.is_new
+      c.in_ok-is_new.ensures.added c.if-is_new.false,
 )

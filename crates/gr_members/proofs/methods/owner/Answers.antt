@@ -14,4 +14,5 @@ returns-in-None c = no_receiver (package_of c.args.unit) (function_of c.args.fun
 pub returns-in-Some : goal.returns-in-Some
 unfolding func_view receiver_view
 returns-in-Some c =
-    owned_by (package_of c.args.unit) (function_of c.args.function) (receiver_view c.in-Some.receiver) c.local_definition.result (ap (option_view receiver_view) c.in-Some.is) c.local_definition.ensures
+    owned_by (package_of c.args.unit) (function_of c.args.function) (receiver_view c.in-Some.receiver) c.local_definition.result
+    (ap (option_view receiver_view) c.in-Some.is) c.local_definition.ensures

@@ -16,12 +16,15 @@ loop-rank-preserved c =
     let p = package_of c.args.unit in
     let items = c.args.index.now.declared.functions.items in
     let rank = c.loop-rank.rank in
-    let at = item_at function_of items (package_functions p) rank c.index-function.result.now c.requires.functions (omega (arith, c.loop-rank-test.true, c.len-rank-end.ensures)) c.index-function.ensures in
-    owners_next p c.loop-rank.owners.items c.push.new.self.items rank c.owner.result c.in_ok-push.ensures.items (has_owner p rank (function_of c.index-function.result.now) c.owner.result at c.owner.ensures)
+    let at = item_at function_of items (package_functions p) rank c.index-function.result.now c.requires.functions
+    (omega (arith, c.loop-rank-test.true, c.len-rank-end.ensures)) c.index-function.ensures in
+    owners_next p c.loop-rank.owners.items c.push.new.self.items rank c.owner.result c.in_ok-push.ensures.items
+    (has_owner p rank (function_of c.index-function.result.now) c.owner.result at c.owner.ensures)
     c.loop-rank.invariant
 
 pub returns : goal.returns
 returns c =
     let items = c.args.index.now.declared.functions.items in
     let end : c.loop-rank.rank ≡ length items = omega (arith, c.len-rank-end.ensures) in
-    all_owners (package_of c.args.unit) c.loop-rank.owners.items c.loop-rank.rank (end ∙ sym (length-map items function_of) ∙ ap length c.requires.functions) c.loop-rank.invariant
+    all_owners (package_of c.args.unit) c.loop-rank.owners.items c.loop-rank.rank
+    (end ∙ sym (length-map items function_of) ∙ ap length c.requires.functions) c.loop-rank.invariant

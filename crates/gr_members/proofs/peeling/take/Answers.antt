@@ -5,4 +5,5 @@ use Rattle.gr_members.proofs.Taking.{taken_next}
 use Rattle.gr_members.proofs.peeling.take.Goals as goal
 
 pub returns : goal.returns
-returns c = taken_next c.args.links.now c.args.marks.now c.args.number (omega arith) (subst (AreAllMarked c.args.marks.now) c.row.ensures (c.are_all_marked.ensures.0 c.if-not-are_all_marked.false)) c.requires
+returns c = taken_next c.args.links.now c.args.marks.now c.args.number (omega arith)
+    (subst (AreAllMarked c.args.marks.now) c.row.ensures (c.are_all_marked.ensures.0 c.if-not-are_all_marked.false)) c.requires

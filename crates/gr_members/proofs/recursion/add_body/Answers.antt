@@ -17,8 +17,10 @@ returns-in-Type c =
     let p = package_of c.args.unit in
     let file = c.args.file in
     let t = type_view c.in-Type.written in
-    subst (λ b. OnOk c.add_type.result (AddsItems c.args.found.now.items c.add_type.new.found.items (IsHeldAsOne p file (written_types (body_view b))))) (sym c.in-Type.is)
-    (on_ok_weaker c.add_type.result (λ h. items_as c.args.found.now.items c.add_type.new.found.items (IsHeldAs p file t) (IsHeldAsOne p file (t ∷ [])) (alone_one p file t) (one_alone p file t) h)
+    subst (λ b. OnOk c.add_type.result (AddsItems c.args.found.now.items c.add_type.new.found.items (IsHeldAsOne p file (written_types (body_view b)))))
+    (sym c.in-Type.is)
+    (on_ok_weaker c.add_type.result (λ h. items_as c.args.found.now.items c.add_type.new.found.items (IsHeldAs p file t) (IsHeldAsOne p file (t ∷ []))
+    (alone_one p file t) (one_alone p file t) h)
     c.add_type.ensures)
 
 pub returns-in-Struct : goal.returns-in-Struct
@@ -26,5 +28,7 @@ unfolding body_view
 returns-in-Struct c =
     let p = package_of c.args.unit in
     let file = c.args.file in
-    subst (λ b. OnOk c.add_fields.result (AddsItems c.args.found.now.items c.add_fields.new.found.items (IsHeldAsOne p file (written_types (body_view b))))) (sym c.in-Struct.is)
-    (subst (λ fs. OnOk c.add_fields.result (AddsItems c.args.found.now.items c.add_fields.new.found.items (IsHeldAsOne p file (field_types fs)))) c.deref.ensures.value c.add_fields.ensures)
+    subst (λ b. OnOk c.add_fields.result (AddsItems c.args.found.now.items c.add_fields.new.found.items (IsHeldAsOne p file (written_types (body_view b)))))
+    (sym c.in-Struct.is)
+    (subst (λ fs. OnOk c.add_fields.result (AddsItems c.args.found.now.items c.add_fields.new.found.items (IsHeldAsOne p file (field_types fs))))
+    c.deref.ensures.value c.add_fields.ensures)

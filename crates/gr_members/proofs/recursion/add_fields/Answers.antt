@@ -19,5 +19,6 @@ loop-field-preserved c =
     let after = field_types (take (i + 1) c.args.fields.now) in
     let t = type_view c.field-item.result.value.field_type in
     let e : after ≡ before ++ (t ∷ []) = fields_next c.args.fields.now i c.field-item.result (omega arith) c.field-item.is in
-    items_then c.args.found.now.items c.loop-field.found.items c.add_type.new.found.items (IsHeldAsOne p file before) (IsHeldAs p file t) (IsHeldAsOne p file after) c.loop-field.invariant
+    items_then c.args.found.now.items c.loop-field.found.items c.add_type.new.found.items (IsHeldAsOne p file before) (IsHeldAs p file t)
+    (IsHeldAsOne p file after) c.loop-field.invariant
     c.in_ok-add_type.ensures (λ r h. one_push p file before after t r e h) (λ r s. one_cases p file before after t r e s)

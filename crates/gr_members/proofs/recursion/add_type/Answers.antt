@@ -6,4 +6,5 @@ pub returns-in-None : goal.returns-in-None
 returns-in-None c = items_none c.args.found.now.items _ c.in-None.ensures
 
 pub returns-in_ok-push-in-Some : goal.returns-in_ok-push-in-Some
-returns-in_ok-push-in-Some c = items_one c.args.found.now.items c.push.new.self.items c.in-Some.rank _ c.in_ok-push-in-Some.ensures.items c.in-Some.ensures.0 c.in-Some.ensures.1
+returns-in_ok-push-in-Some c = items_one c.args.found.now.items c.push.new.self.items c.in-Some.rank _ c.in_ok-push-in-Some.ensures.items
+    c.in-Some.ensures.0 c.in-Some.ensures.1

@@ -8,4 +8,5 @@ loop-number-init c = marks_none (IsOnCycle c.args.links.now) c.new-marks.result.
 
 pub loop-number-preserved : goal.loop-number-preserved
 loop-number-preserved c =
-    marks_next (IsOnCycle c.args.links.now) c.loop-number.marks.items c.push.new.self.items c.loop-number.number _ c.in_ok-push.ensures.items c.in_ok-leads_back.ensures c.loop-number.invariant
+    marks_next (IsOnCycle c.args.links.now) c.loop-number.marks.items c.push.new.self.items c.loop-number.number _ c.in_ok-push.ensures.items
+    c.in_ok-leads_back.ensures c.loop-number.invariant

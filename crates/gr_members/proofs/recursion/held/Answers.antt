@@ -18,7 +18,8 @@ loop-rank-preserved c =
     let p = package_of c.args.unit in
     let items = c.args.index.now.declared.types.items in
     held_next p c.loop-rank.links.items c.push.new.self.items c.loop-rank.rank _ (type_of c.index-definition.result.now) c.in_ok-push.ensures.items
-    (item_at type_of items (package_types p) c.loop-rank.rank c.index-definition.result.now c.requires.types (omega (arith, c.loop-rank-test.true, c.len-rank-end.ensures)) c.index-definition.ensures) c.in_ok-held_by.ensures c.loop-rank.invariant
+    (item_at type_of items (package_types p) c.loop-rank.rank c.index-definition.result.now c.requires.types
+    (omega (arith, c.loop-rank-test.true, c.len-rank-end.ensures)) c.index-definition.ensures) c.in_ok-held_by.ensures c.loop-rank.invariant
 
 pub returns : goal.returns
 returns c =

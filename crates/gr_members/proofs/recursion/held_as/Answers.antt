@@ -14,12 +14,15 @@ returns-in-Local c =
 
 pub returns-in-Imported : goal.returns-in-Imported
 unfolding type_view
-returns-in-Imported c = λ r h. no_import_held (package_of c.args.unit) c.args.file _ _ _ r (subst (λ w. IsHeldAs (package_of c.args.unit) c.args.file w r) (ap type_view c.in-Imported.is) h)
+returns-in-Imported c = λ r h. no_import_held (package_of c.args.unit) c.args.file _ _ _ r
+    (subst (λ w. IsHeldAs (package_of c.args.unit) c.args.file w r) (ap type_view c.in-Imported.is) h)
 
 pub returns-in-Pointer : goal.returns-in-Pointer
 unfolding type_view
-returns-in-Pointer c = λ r h. no_pointer_held (package_of c.args.unit) c.args.file _ r _ (subst (λ w. IsHeldAs (package_of c.args.unit) c.args.file w r) (ap type_view c.in-Pointer.is) h)
+returns-in-Pointer c = λ r h. no_pointer_held (package_of c.args.unit) c.args.file _ r _
+    (subst (λ w. IsHeldAs (package_of c.args.unit) c.args.file w r) (ap type_view c.in-Pointer.is) h)
 
 pub returns-in-Slice : goal.returns-in-Slice
 unfolding type_view
-returns-in-Slice c = λ r h. no_slice_held (package_of c.args.unit) c.args.file _ _ r _ (subst (λ w. IsHeldAs (package_of c.args.unit) c.args.file w r) (ap type_view c.in-Slice.is) h)
+returns-in-Slice c = λ r h. no_slice_held (package_of c.args.unit) c.args.file _ _ r _
+    (subst (λ w. IsHeldAs (package_of c.args.unit) c.args.file w r) (ap type_view c.in-Slice.is) h)

@@ -8,7 +8,8 @@ use Rattle.gr_members.proofs.recursion.led_to.Goals as goal
 
 pub loop-to-init : goal.loop-to-init
 loop-to-init c =
-    passed_none c.row-to-items.result.now (length c.args.links.now) (length c.args.links.now) c.in_ok-marks.marks.items refl (c.in_ok-marks.ensures.items_if_clones_equal (search rules))
+    passed_none c.row-to-items.result.now (length c.args.links.now) (length c.args.links.now) c.in_ok-marks.marks.items refl
+    (c.in_ok-marks.ensures.items_if_clones_equal (search rules))
 
 pub index_mut-requires : goal.index_mut-requires
 index_mut-requires c =

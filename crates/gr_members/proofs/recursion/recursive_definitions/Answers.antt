@@ -11,5 +11,6 @@ cycles-requires c = subst AreLinked (sym c.deref.ensures.value) (held_linked (pa
 
 pub returns : goal.returns
 returns c =
-    are_recursive (package_of c.args.unit) c.deref.result.now c.in_ok-marks.marks.items (subst (AreHeld (package_of c.args.unit)) (sym c.deref.ensures.value) c.in_ok-links.ensures) c.in_ok-marks.ensures.size
+    are_recursive (package_of c.args.unit) c.deref.result.now c.in_ok-marks.marks.items
+    (subst (AreHeld (package_of c.args.unit)) (sym c.deref.ensures.value) c.in_ok-links.ensures) c.in_ok-marks.ensures.size
     c.in_ok-marks.ensures.marked

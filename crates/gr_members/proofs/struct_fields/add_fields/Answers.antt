@@ -12,11 +12,14 @@ returns-in-Type c =
 
 pub loop-item-preserved : goal.loop-item-preserved
 loop-item-preserved c =
-    appends_next field_of c.args.found.now.items c.loop-item.found.items c.add_names.new.found.items (field_part c.args.definition c.args.file) c.deref-item-items.result.now c.loop-item.item-index
+    appends_next field_of c.args.found.now.items c.loop-item.found.items c.add_names.new.found.items (field_part c.args.definition c.args.file)
+    c.deref-item-items.result.now c.loop-item.item-index
     c.item-item.result (omega arith) c.item-item.is c.loop-item.invariant c.in_ok-add_names-in-Struct.ensures
 
 pub returns-after-loop-item : goal.returns-after-loop-item
 returns-after-loop-item c =
     appends_as field_of c.args.found.now.items c.loop-item.found.items _ _
-    (appends_all field_of c.args.found.now.items c.loop-item.found.items (field_part c.args.definition c.args.file) c.deref-item-items.result.now c.loop-item.item-index (omega arith) c.loop-item.invariant)
-    (struct_from c.args.definition c.args.file c.args.spec.now.body c.in-Struct.at c.in-Struct.«open» c.in-Struct.fields c.in-Struct.close _ c.in-Struct.is c.deref-item-items.ensures.value)
+    (appends_all field_of c.args.found.now.items c.loop-item.found.items (field_part c.args.definition c.args.file) c.deref-item-items.result.now
+    c.loop-item.item-index (omega arith) c.loop-item.invariant)
+    (struct_from c.args.definition c.args.file c.args.spec.now.body c.in-Struct.at c.in-Struct.«open» c.in-Struct.fields c.in-Struct.close _ c.in-Struct.is
+    c.deref-item-items.ensures.value)

@@ -6,4 +6,5 @@ use Rattle.gr_declared.specs.Definitions.{fields_from}
 use Rattle.gr_members.proofs.struct_fields.fields.Goals as goal
 
 pub returns : goal.returns
-returns c = IfOk-weaker c.fields_of.result _ _ (λ found e. e ∙ ap (λ ts. fields_from 0 (map type_of ts)) c.deref.ensures.value ∙ ap (fields_from 0) c.requires.types) c.fields_of.ensures
+returns c = IfOk-weaker c.fields_of.result _ _ (λ found e. e ∙ ap (λ ts. fields_from 0 (map type_of ts)) c.deref.ensures.value ∙
+    ap (fields_from 0) c.requires.types) c.fields_of.ensures

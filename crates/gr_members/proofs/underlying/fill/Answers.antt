@@ -9,7 +9,8 @@ use Rattle.gr_members.proofs.underlying.fill.Goals as goal
 
 pub loop-rank-init : goal.loop-rank-init
 loop-rank-init c =
-    none_filled (package_of c.args.unit) c.args.order.now c.in_ok-found.found.items (omega (arith, c.in_ok-found.ensures.size, c.requires.steps.all)) c.in_ok-found.ensures.none
+    none_filled (package_of c.args.unit) c.args.order.now c.in_ok-found.found.items (omega (arith, c.in_ok-found.ensures.size, c.requires.steps.all))
+    c.in_ok-found.ensures.none
 
 pub index_mut-requires : goal.index_mut-requires
 index_mut-requires c =
@@ -32,4 +33,5 @@ loop-rank-preserved c =
 
 pub returns : goal.returns
 returns c =
-    all_filled (package_of c.args.unit) c.is_well_formed.ensures c.args.steps.now c.args.order.now c.loop-rank.rank-index c.loop-rank.found.items c.requires.steps c.requires.order (omega arith) c.loop-rank.invariant
+    all_filled (package_of c.args.unit) c.is_well_formed.ensures c.args.steps.now c.args.order.now c.loop-rank.rank-index c.loop-rank.found.items
+    c.requires.steps c.requires.order (omega arith) c.loop-rank.invariant

@@ -12,5 +12,6 @@ same_target s to a e h = let k : Continues a ≡ Continues to = sym h ∙ e in c
 pub returns-in-Continues : goal.returns-in-Continues
 returns-in-Continues c =
     on_ok_weaker c.note.result
-    (λ h. adds_as c.args.links.now.items c.note.new.links.items c.args.rank (λ a. a ≡ c.in-Continues.to) (λ a. c.args.step.now ≡ Continues a) (λ a e. c.in-Continues.is ∙ ap Continues (sym e))
+    (λ h. adds_as c.args.links.now.items c.note.new.links.items c.args.rank (λ a. a ≡ c.in-Continues.to) (λ a. c.args.step.now ≡ Continues a)
+    (λ a e. c.in-Continues.is ∙ ap Continues (sym e))
     (λ a e. same_target c.args.step.now c.in-Continues.to a c.in-Continues.is e) h) c.note.ensures

@@ -19,5 +19,6 @@ pub returns-in-Some : goal.returns-in-Some
 returns-in-Some c =
     let p = package_of c.args.unit in
     let tree = type_view c.args.written.now in
-    let names : IsNamedBy p c.args.file tree (Some (type_of c.in-Some.named)) = subst (λ o. IsNamedBy p c.args.file tree (option_map type_of o)) c.in-Some.is c.in_ok-named_type.ensures in
+    let names : IsNamedBy p c.args.file tree (Some (type_of c.in-Some.named)) =
+    subst (λ o. IsNamedBy p c.args.file tree (option_map type_of o)) c.in-Some.is c.in_ok-named_type.ensures in
     IfOk-weaker c.step_from.result _ _ (λ s h. by_type p c.is_well_formed.ensures c.args.file tree (type_of c.in-Some.named) names s h) c.step_from.ensures

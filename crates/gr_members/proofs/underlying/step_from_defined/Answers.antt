@@ -15,4 +15,5 @@ returns-then-eq c =
 pub returns-in_ok-imported_underlying : goal.returns-in_ok-imported_underlying
 returns-in_ok-imported_underlying c =
     from_imported (package_of c.args.unit) c.args.symbol.now (underlying_of c.in_ok-imported_underlying.field-0)
-    (λ e. false≢true (c.if-eq.ensures ∙ (bytes_eq-Decides c.path.result.now c.path-2.result.now).1 (c.path.ensures ∙ (sym e ∙ sym c.path-2.ensures)))) c.in_ok-imported_underlying.ensures
+    (λ e. false≢true (c.if-eq.ensures ∙ (bytes_eq-Decides c.path.result.now c.path-2.result.now).1 (c.path.ensures ∙ (sym e ∙ sym c.path-2.ensures))))
+    c.in_ok-imported_underlying.ensures

@@ -18,7 +18,8 @@ note_step-requires c = λ to e.
 pub loop-rank-preserved : goal.loop-rank-preserved
 loop-rank-preserved c =
     next_link c.args.steps.now c.loop-rank.links.items c.note_step.new.links.items c.loop-rank.rank c.index-steps-rank.result
-    (slice_get_read c.args.steps.now (length c.args.steps.now) c.loop-rank.rank c.index-steps-rank.result (omega arith) (omega arith) c.index-steps-rank.is) c.in_ok-note_step.ensures c.loop-rank.invariant
+    (slice_get_read c.args.steps.now (length c.args.steps.now) c.loop-rank.rank c.index-steps-rank.result (omega arith) (omega arith) c.index-steps-rank.is)
+    c.in_ok-note_step.ensures c.loop-rank.invariant
 
 pub returns : goal.returns
 returns c = all_links c.args.steps.now c.loop-rank.links.items c.loop-rank.rank (omega arith) c.loop-rank.invariant

@@ -11,10 +11,12 @@ reached_in_order-requires-clause-linked c =
 
 pub reached_in_order-requires-clause-size : goal.reached_in_order-requires-clause-size
 reached_in_order-requires-clause-size c =
-    ends_size c.args.steps.now c.deref.result.now c.deref-2.result.now (subst (AreStepLinks c.args.steps.now) (sym c.deref.ensures.value) c.in_ok-links.ensures) (c.deref-2.ensures.value ∙ c.in_ok-ends.ensures)
+    ends_size c.args.steps.now c.deref.result.now c.deref-2.result.now
+    (subst (AreStepLinks c.args.steps.now) (sym c.deref.ensures.value) c.in_ok-links.ensures) (c.deref-2.ensures.value ∙ c.in_ok-ends.ensures)
 
 pub returns : goal.returns
 returns c =
     IfOk-weaker c.reached_in_order.result _ _
-    (λ order h. step_order c.args.steps.now c.deref.result.now c.deref-2.result.now order.items (subst (AreStepLinks c.args.steps.now) (sym c.deref.ensures.value) c.in_ok-links.ensures)
+    (λ order h. step_order c.args.steps.now c.deref.result.now c.deref-2.result.now order.items
+    (subst (AreStepLinks c.args.steps.now) (sym c.deref.ensures.value) c.in_ok-links.ensures)
     (c.deref-2.ensures.value ∙ c.in_ok-ends.ensures) h) c.reached_in_order.ensures

@@ -11,12 +11,14 @@ use Rattle.gr_members.proofs.underlying.steps.Goals as goal
 
 pub step_of-requires-clause-definition : goal.step_of-requires-clause-definition
 step_of-requires-clause-definition c =
-    item_at type_of c.args.index.now.declared.types.items (package_types (package_of c.args.unit)) c.loop-rank.rank c.index.result.now c.requires.types (omega (arith, c.loop-rank-test.true, c.len-rank-end.ensures)) c.index.ensures
+    item_at type_of c.args.index.now.declared.types.items (package_types (package_of c.args.unit)) c.loop-rank.rank c.index.result.now c.requires.types
+    (omega (arith, c.loop-rank-test.true, c.len-rank-end.ensures)) c.index.ensures
 
 pub loop-rank-preserved : goal.loop-rank-preserved
 loop-rank-preserved c = record {
   all = search rules;
-  each = each_push (IsStep (package_of c.args.unit)) c.loop-rank.steps.items c.push.new.self.items c.loop-rank.rank c.in_ok-step_of.field-0 c.in_ok-push.ensures.items c.loop-rank.invariant.all c.loop-rank.invariant.each c.in_ok-step_of.ensures;
+  each = each_push (IsStep (package_of c.args.unit)) c.loop-rank.steps.items c.push.new.self.items c.loop-rank.rank c.in_ok-step_of.field-0
+      c.in_ok-push.ensures.items c.loop-rank.invariant.all c.loop-rank.invariant.each c.in_ok-step_of.ensures;
 }
 
 pub returns : goal.returns

@@ -6,7 +6,8 @@ use Rattle.std.proofs.lemmas.Result.{on_ok_weaker}
 use Rattle.gr_members_after.proofs.members.add_after.Goals as goal
 
 pub returns-clause-added : goal.returns-clause-added
-returns-clause-added c = on_ok_weaker c.add.result (λ adds w p e. record { name = bytes_in c.in_ok-name.name; is_name = c.in_ok-name.ensures w p e; adds = adds }) c.add.ensures.added
+returns-clause-added c = on_ok_weaker c.add.result
+    (λ adds w p e. record { name = bytes_in c.in_ok-name.name; is_name = c.in_ok-name.ensures w p e; adds = adds }) c.add.ensures.added
 
 pub returns-clause-size : goal.returns-clause-size
 returns-clause-size c = on_ok_weaker c.add.result (λ adds. ap length adds.1.1 ∙ length_push _ _) c.add.ensures.added

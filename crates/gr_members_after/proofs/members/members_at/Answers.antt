@@ -13,7 +13,8 @@ returns c =
     let w = c.args.graph.now in
     let known = known_in c.args.found.now in
     let q = package_in c.path_of-path.result.now (map source_of c.trees-files.result.now) c.in_ok-table.table (interface_in c.in_ok-seen.seen) in
-    let at = unit_at w known c.args.number c.path_of-path.result.now c.trees-files.result.now c.in_ok-seen.seen c.in_ok-table.table c.requires.in_range c.path_of-path.ensures c.trees-files.ensures c.in_ok-seen.ensures.seen c.in_ok-table.ensures in
+    let at = unit_at w known c.args.number c.path_of-path.result.now c.trees-files.result.now c.in_ok-seen.seen c.in_ok-table.table c.requires.in_range
+    c.path_of-path.ensures c.trees-files.ensures c.in_ok-seen.ensures.seen c.in_ok-table.ensures in
     IfOk-weaker c.members_by.result _ _ (λ members h. record { inside = q; is_package = at; are_members = h w }) c.members_by.ensures
 
 pub seen-requires-clause-whole : goal.seen-requires-clause-whole

@@ -24,8 +24,10 @@ loop-rank-preserved c =
     record {
       names = c.in_ok-add_after.ensures.names;
       size = c.in_ok-add_after.ensures.size ∙ ap (λ n. n + 1) c.loop-rank.invariant.size;
-      named = λ w. named_next c.loop-rank.names.names.items c.add_after.new.names.names.items rank (IsFieldAfter (revision_of w c.args.moves.now) p) _ _ c.loop-rank.invariant.size (adds w p refl).adds
-          (field_last (revision_of w c.args.moves.now) p rank (field_of c.index-field.result.now) (adds w p refl).name at (adds w p refl).is_name) (c.loop-rank.invariant.named w);
+      named = λ w. named_next c.loop-rank.names.names.items c.add_after.new.names.names.items rank (IsFieldAfter (revision_of w c.args.moves.now) p) _ _
+          c.loop-rank.invariant.size (adds w p refl).adds
+          (field_last (revision_of w c.args.moves.now) p rank (field_of c.index-field.result.now) (adds w p refl).name at (adds w p refl).is_name)
+          (c.loop-rank.invariant.named w);
     }
 
 pub returns-clause-named : goal.returns-clause-named

@@ -8,11 +8,13 @@ use Rattle.gr_members_after.proofs.AllMembers.{no_members, more_members}
 use Rattle.gr_members_after.proofs.members.new_members.Goals as goal
 
 pub loop-number-init : goal.loop-number-init
-loop-number-init c = no_members c.args.graph.now (known_in c.args.found.now) (revision_of c.args.graph.now c.args.moves.now) c.new-members.result.items c.new-members.ensures.items
+loop-number-init c = no_members c.args.graph.now (known_in c.args.found.now) (revision_of c.args.graph.now c.args.moves.now) c.new-members.result.items
+    c.new-members.ensures.items
 
 pub loop-number-preserved : goal.loop-number-preserved
 loop-number-preserved c =
-    more_members c.args.graph.now (known_in c.args.found.now) (revision_of c.args.graph.now c.args.moves.now) c.loop-number.number c.loop-number.members.items c.push.new.self.items _ c.in_ok-push.ensures.items
+    more_members c.args.graph.now (known_in c.args.found.now) (revision_of c.args.graph.now c.args.moves.now) c.loop-number.number
+    c.loop-number.members.items c.push.new.self.items _ c.in_ok-push.ensures.items
     c.in_ok-members_at.ensures c.loop-number.invariant
 
 pub returns : goal.returns

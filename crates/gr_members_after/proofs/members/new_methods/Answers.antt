@@ -32,13 +32,16 @@ loop-rank-preserved c =
     let owners = c.in_ok-owners.owners.items in
     let short : rank < length owners = subst (λ n. rank < n) (sym c.in_ok-owners.ensures.all) within in
     let owner = c.index.result.now in
-    let has : HasOwner p rank owner = subst (HasOwner p rank) (sym (get_or_read owners rank owner short c.index.ensures None)) (c.in_ok-owners.ensures.each rank within) in
+    let has : HasOwner p rank owner = subst (HasOwner p rank) (sym (get_or_read owners rank owner short c.index.ensures None))
+    (c.in_ok-owners.ensures.each rank within) in
     let adds = c.in_ok-add_after.ensures.added in
     record {
       names = c.in_ok-add_after.ensures.names;
       size = c.in_ok-add_after.ensures.size ∙ ap (λ n. n + 1) c.loop-rank.invariant.size;
-      named = λ w. named_next c.loop-rank.names.names.items c.add_after.new.names.names.items rank (IsMethodAfter (revision_of w c.args.moves.now) p) owner _ c.loop-rank.invariant.size (adds w p refl).adds
-          (method_last (revision_of w c.args.moves.now) p c.is_well_formed.ensures rank (function_of c.index-function.result.now) owner (adds w p refl).name at has (adds w p refl).is_name)
+      named = λ w. named_next c.loop-rank.names.names.items c.add_after.new.names.names.items rank (IsMethodAfter (revision_of w c.args.moves.now) p) owner
+          _ c.loop-rank.invariant.size (adds w p refl).adds
+          (method_last (revision_of w c.args.moves.now) p c.is_well_formed.ensures rank (function_of c.index-function.result.now) owner (adds w p refl).name
+          at has (adds w p refl).is_name)
           (c.loop-rank.invariant.named w);
     }
 

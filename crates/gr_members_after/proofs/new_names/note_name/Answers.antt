@@ -8,4 +8,5 @@ returns-then-contains_key c = keeps_rank c.args.names.now c.args.name.now c.args
 
 pub returns : goal.returns
 returns c =
-    gets_rank c.args.names.now c.insert.new.self c.in_ok-key.key c.args.name.now c.args.rank c.in_ok-key.ensures.items (sym c.contains_key.ensures ∙ c.if-contains_key.false) c.in_ok-insert.ensures.updates
+    gets_rank c.args.names.now c.insert.new.self c.in_ok-key.key c.args.name.now c.args.rank c.in_ok-key.ensures.items
+    (sym c.contains_key.ensures ∙ c.if-contains_key.false) c.in_ok-insert.ensures.updates

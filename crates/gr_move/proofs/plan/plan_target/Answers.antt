@@ -10,7 +10,11 @@ pub returns-in-Err-clause-planned : goal.returns-in-Err-clause-planned
 returns-in-Err-clause-planned c = target_no_path c.args.snapshot.now c.args.from.now c.args.to.now c.in-Err.refusal c.in-Err.ensures
 
 pub plan_paths-requires-clause-paths : goal.plan_paths-requires-clause-paths
-plan_paths-requires-clause-paths c = record { source = c.requires.source; target = subst (λ (p : List ℕ). IsPath 1 p) (sym c.in-Ok.ensures.0) c.in-Ok.ensures.1 }
+plan_paths-requires-clause-paths c = record {
+  source = c.requires.source;
+  target =
+      subst (λ (p : List ℕ). IsPath 1 p) (sym c.in-Ok.ensures.0) c.in-Ok.ensures.1;
+}
 
 pub returns-in-Ok-clause-planned : goal.returns-in-Ok-clause-planned
 returns-in-Ok-clause-planned c =

@@ -18,7 +18,8 @@ pub returns-in-Err-clause-planned : goal.returns-in-Err-clause-planned
 returns-in-Err-clause-planned c =
     let w = c.args.snapshot.now.files in
     let same = ap (λ (x : Change). x.edits) c.in_ok-change.ensures in
-    conflict_of_length w c.args.from.now c.args.edits c.in-Err.refusal (subst (λ (s : FileChanges). RefusesConflict w c.args.from.now s (Err c.in-Err.refusal)) same c.in-Err.ensures)
+    conflict_of_length w c.args.from.now c.args.edits c.in-Err.refusal
+    (subst (λ (s : FileChanges). RefusesConflict w c.args.from.now s (Err c.in-Err.refusal)) same c.in-Err.ensures)
 
 pub returns-clause-planned : goal.returns-clause-planned
 returns-clause-planned c =

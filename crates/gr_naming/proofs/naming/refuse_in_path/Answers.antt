@@ -30,6 +30,8 @@ returns-in-Some c =
     in
     let main = agree (λ q. IsMainIn q d) in
     let top = agree (λ q. IsTopLevelIn q d) in
-    refuses_as (IsMainIn p d) (InPackage (IsPackage w known) path (λ q. IsMainIn q d)) (IsTopLevelIn p d × IsReserved name) (InPackage (IsPackage w known) path (λ q. IsTopLevelIn q d) × IsReserved name)
+    refuses_as (IsMainIn p d) (InPackage (IsPackage w known) path (λ q. IsMainIn q d)) (IsTopLevelIn p d × IsReserved name)
+    (InPackage (IsPackage w known) path (λ q. IsTopLevelIn q d) × IsReserved name)
     (IsCalledIn p d name) (InPackage (IsPackage w known) path (λ q. IsCalledIn q d name)) main
-    (record { there = λ h. (top.there h.0, h.1); back = λ h. (top.back h.0, h.1) }) (agree (λ q. IsCalledIn q d name)) c.refuse_in_package.result (c.refuse_in_package.ensures p x.1)
+    (record { there = λ h. (top.there h.0, h.1); back = λ h. (top.back h.0, h.1) }) (agree (λ q. IsCalledIn q d name)) c.refuse_in_package.result
+    (c.refuse_in_package.ensures p x.1)

@@ -12,6 +12,8 @@ pub returns : goal.returns
 returns c =
     let p = package_of c.args.unit in
     let rank = c.args.symbol.now.rank in
-    let same : slice_index_or c.in_ok-places.places.items rank None ≡ c.place_at.result = sym (c.place_at.ensures ∙ ap (λ l. slice_index_or l rank None) c.deref.ensures.value) in
+    let same : slice_index_or c.in_ok-places.places.items rank None ≡ c.place_at.result =
+    sym (c.place_at.ensures ∙ ap (λ l. slice_index_or l rank None) c.deref.ensures.value) in
     member_refused (IsMethodAt p) p rank c.args.name.now (one_method_place p rank) c.place_at.result c.refuse_at.result
-    (subst (λ o. MatchOption o ((at : Position) → IsMethodAt p rank at → ⊥) (λ at. IsMethodAt p rank at)) same (c.in_ok-places.ensures rank)) c.refuse_at.ensures
+    (subst (λ o. MatchOption o ((at : Position) → IsMethodAt p rank at → ⊥) (λ at. IsMethodAt p rank at)) same (c.in_ok-places.ensures rank))
+    c.refuse_at.ensures

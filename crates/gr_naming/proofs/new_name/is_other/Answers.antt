@@ -5,4 +5,5 @@ use Rattle.gr_naming.specs.NewName.{is_other_text}
 use Rattle.gr_naming.proofs.new_name.is_other.Goals as goal
 
 pub returns : goal.returns
-returns c = c.ne.ensures ∙ ap (λ x. is_other_text x c.as_bytes.result.now) c.spelling.ensures ∙ ap (λ x. is_other_text (keyword_spelling c.args.k) x) c.as_bytes.ensures.value
+returns c = c.ne.ensures ∙ ap (λ x. is_other_text x c.as_bytes.result.now) c.spelling.ensures ∙
+    ap (λ x. is_other_text (keyword_spelling c.args.k) x) c.as_bytes.ensures.value

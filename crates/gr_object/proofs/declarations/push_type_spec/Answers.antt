@@ -13,11 +13,13 @@ pub returns-in-None : goal.returns-in-None
 unfolding type_spec_view
 returns-in-None c =
     sym (append-nil c.args.text.now.items)
-    ∙ ap (λ o. c.args.text.now.items ++ flat_map (declaration_text (type_in c.args.source.now.packages.now)) (defined o (definition_of (world_of c.args.source.now.world) (body_view c.args.spec.now.body)))) c.in-None.ensures
+    ∙ ap (λ o. c.args.text.now.items ++ flat_map (declaration_text (type_in c.args.source.now.packages.now))
+    (defined o (definition_of (world_of c.args.source.now.world) (body_view c.args.spec.now.body)))) c.in-None.ensures
 
 pub returns-in-Some : goal.returns-in-Some
 unfolding type_spec_view
 returns-in-Some c =
     on_ok_weaker c.push_defined.result
-    (λ q. q ∙ ap (λ o. c.args.text.now.items ++ flat_map (declaration_text (type_in c.args.source.now.packages.now)) (defined o (definition_of (world_of c.args.source.now.world) (body_view c.args.spec.now.body)))) c.in-Some.ensures)
+    (λ q. q ∙ ap (λ o. c.args.text.now.items ++ flat_map (declaration_text (type_in c.args.source.now.packages.now))
+    (defined o (definition_of (world_of c.args.source.now.world) (body_view c.args.spec.now.body)))) c.in-Some.ensures)
     c.push_defined.ensures

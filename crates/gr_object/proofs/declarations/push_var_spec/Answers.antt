@@ -29,7 +29,10 @@ returns-in-Some c =
     let s = source_of c.args.source.now in
     on_ok_weaker c.push_typed.result
     (λ q. q ∙ ap (λ ds. c.args.text.now.items ++ flat_map (declaration_text (type_in c.args.source.now.packages.now)) ds)
-    (ap (λ xs. variables_of s (Some (type_of c.in-Some.own)) (list_view same_place xs) (initials_of s (list_view basic_view c.literals.result.now))) c.deref.ensures.value
+    (ap (λ xs. variables_of s (Some (type_of c.in-Some.own)) (list_view same_place xs) (initials_of s (list_view basic_view c.literals.result.now)))
+    c.deref.ensures.value
     ∙ (ap (λ ls. variables_of s (Some (type_of c.in-Some.own)) (list_view same_place c.args.spec.now.names.items) (initials_of s ls)) c.literals.ensures
-    ∙ ap (λ o. variables_of s o (list_view same_place c.args.spec.now.names.items) (initials_of s (literals_of (option_view var_values_view c.args.spec.now.values)))) (ap (option_map type_of) (sym c.in-Some.is) ∙ c.in_ok-written_type.ensures))))
+    ∙ ap (λ o. variables_of s o (list_view same_place c.args.spec.now.names.items)
+    (initials_of s (literals_of (option_view var_values_view c.args.spec.now.values))))
+    (ap (option_map type_of) (sym c.in-Some.is) ∙ c.in_ok-written_type.ensures))))
     c.push_typed.ensures

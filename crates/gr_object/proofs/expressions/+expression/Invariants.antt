@@ -13,13 +13,16 @@ invariant-chain-loop-i l =
     GoesOver (source_of l.scope.source.now) l.scope.slots.now.places.items l.links l.i l.head l.fn.want l.want l.initial.code l.code
 
 abbrev pub invariant-operations-loop-i : goal.invariant-operations-loop-i
-invariant-operations-loop-i l = GoesOnFrom (λ a. operations (source_of l.scope.source.now) l.scope.slots.now.places.items a (operands_in (drop l.i l.rest))) l.initial.code l.code
+invariant-operations-loop-i l = GoesOnFrom (λ a. operations (source_of l.scope.source.now) l.scope.slots.now.places.items a (operands_in (drop l.i l.rest)))
+    l.initial.code l.code
 
 abbrev pub invariant-arguments-loop-i : goal.invariant-arguments-loop-i
-invariant-arguments-loop-i l = Puts (argument_lines (source_of l.scope.source.now) l.scope.slots.now.places.items (arguments_in (drop l.i l.list))) l.initial.code l.code
+invariant-arguments-loop-i l = Puts (argument_lines (source_of l.scope.source.now) l.scope.slots.now.places.items (arguments_in (drop l.i l.list)))
+    l.initial.code l.code
 
 abbrev pub invariant-keyed-loop-i : goal.invariant-keyed-loop-i
-invariant-keyed-loop-i l = Puts (keyed_lines (source_of l.scope.source.now) l.scope.slots.now.places.items (elements_in (drop l.i l.list))) l.initial.code l.code
+invariant-keyed-loop-i l = Puts (keyed_lines (source_of l.scope.source.now) l.scope.slots.now.places.items (elements_in (drop l.i l.list))) l.initial.code
+    l.code
 
 abbrev pub invariant-bare-loop-i : goal.invariant-bare-loop-i
 invariant-bare-loop-i l = Puts (bare_lines (source_of l.scope.source.now) l.scope.slots.now.places.items (elements_in (drop l.i l.list))) l.initial.code l.code

@@ -6,4 +6,5 @@ use Rattle.gr_object.proofs.TypeParts.{for_results}
 use Rattle.gr_object.proofs.functions.add_items.Given as goal
 
 abbrev pub invariant-loop-item : goal.invariant-loop-item
-invariant-loop-item l = map type_of l.types.items ++ for_results (world_of l.world) (drop l.item-index l.items) ≡ map type_of l.initial.types.items ++ for_results (world_of l.world) l.items
+invariant-loop-item l = map type_of l.types.items ++ for_results (world_of l.world) (drop l.item-index l.items) ≡ map type_of l.initial.types.items ++
+    for_results (world_of l.world) l.items

@@ -6,4 +6,5 @@ use Rattle.gr_object.proofs.TypeParts.{for_params}
 use Rattle.gr_object.proofs.functions.add_params.Given as goal
 
 abbrev pub invariant-loop-param : goal.invariant-loop-param
-invariant-loop-param l = map type_of l.types.items ++ for_params (world_of l.world) (drop l.param-index l.params) ≡ map type_of l.initial.types.items ++ for_params (world_of l.world) l.params
+invariant-loop-param l = map type_of l.types.items ++ for_params (world_of l.world) (drop l.param-index l.params) ≡ map type_of l.initial.types.items ++
+    for_params (world_of l.world) l.params

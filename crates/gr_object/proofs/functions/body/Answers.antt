@@ -12,6 +12,8 @@ block-requires c = record { next = omega arith; out = omega arith }
 
 pub returns : goal.returns
 unfolding func_view line_of
-returns c = body_put (source_of c.args.scope.source.now) c.args.scope.slots.now.places.items c.result_count-results.result (block_view c.args.func.now.body) (record { next = c.len-end.result; out = c.len-end.result })
+returns c = body_put (source_of c.args.scope.source.now) c.args.scope.slots.now.places.items c.result_count-results.result (block_view c.args.func.now.body)
+    (record { next = c.len-end.result; out = c.len-end.result })
     c.new-code.ensures c.in_ok-put.ensures c.len-end.ensures c.len-end.ensures c.in_ok-block.ensures
-    ∙ ap (λ n. body_lines (source_of c.args.scope.source.now) c.args.scope.slots.now.places.items n (block_view c.args.func.now.body)) c.result_count-results.ensures
+    ∙ ap (λ n. body_lines (source_of c.args.scope.source.now) c.args.scope.slots.now.places.items n (block_view c.args.func.now.body))
+    c.result_count-results.ensures

@@ -16,9 +16,12 @@ pub loop-file-preserved : goal.loop-file-preserved
 loop-file-preserved c =
     let all = c.args.files.now in
     let k = c.loop-file.file-index in
-    holds_more (SomeImport (map source_of (take k all))) (ImportsPath (source_of c.file-item.result)) (SomeImport (map source_of (take (k + 1) all))) c.loop-file.paths.keys c.add_file.new.paths.keys
-    (some_more (λ (f : SourceFile) q. ImportsPath f q) (map source_of (take k all)) (map source_of (take (k + 1) all)) (source_of c.file-item.result) (map_next source_of all k c.file-item.result c.loop-file-test.true c.file-item.is))
+    holds_more (SomeImport (map source_of (take k all))) (ImportsPath (source_of c.file-item.result)) (SomeImport (map source_of (take (k + 1) all)))
+    c.loop-file.paths.keys c.add_file.new.paths.keys
+    (some_more (λ (f : SourceFile) q. ImportsPath f q) (map source_of (take k all)) (map source_of (take (k + 1) all)) (source_of c.file-item.result)
+    (map_next source_of all k c.file-item.result c.loop-file-test.true c.file-item.is))
     c.loop-file.invariant c.in_ok-add_file.ensures
 
 pub returns : goal.returns
-returns c = subst (λ fs. HoldsPaths (SomeImport (map source_of fs)) c.loop-file.paths.keys) (take_all c.args.files.now c.loop-file.file-index c.loop-file-test.false) c.loop-file.invariant
+returns c = subst (λ fs. HoldsPaths (SomeImport (map source_of fs)) c.loop-file.paths.keys)
+    (take_all c.args.files.now c.loop-file.file-index c.loop-file-test.false) c.loop-file.invariant

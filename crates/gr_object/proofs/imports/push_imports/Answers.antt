@@ -13,7 +13,8 @@ loop-path-preserved c =
     let left = rest_more deref _ _ _ c.in-Some.path c.in-Some.is c.next.ensures.steps in
     let rest = flat_map import_line (paths_in c.next.new.self) in
     ap (λ z. z ++ rest) (c.in_ok-push_import.ensures ∙ ap (λ q. c.loop-path.text.items ++ import_line q) c.deref.ensures.value)
-    ∙ (append_assoc c.loop-path.text.items (import_line c.in-Some.path.now.items) rest ∙ (ap (λ ks. c.loop-path.text.items ++ flat_map import_line (paths_in ks)) (sym left) ∙ c.loop-path.invariant))
+    ∙ (append_assoc c.loop-path.text.items (import_line c.in-Some.path.now.items) rest ∙
+    (ap (λ ks. c.loop-path.text.items ++ flat_map import_line (paths_in ks)) (sym left) ∙ c.loop-path.invariant))
 
 pub returns-clause-lines : goal.returns-clause-lines
 returns-clause-lines c =

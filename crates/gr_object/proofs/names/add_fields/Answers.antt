@@ -7,8 +7,10 @@ use Rattle.gr_object.proofs.names.add_fields.Goals as goal
 
 pub loop-field-preserved : goal.loop-field-preserved
 loop-field-preserved c = record {
-  within = fields_within c.len-begin.result _ c.loop-field.positions.items c.add_field.new.positions.items (field_view c.field-item.result.value).names c.loop-field.invariant.within c.in_ok-add_field.ensures;
-  rest = fields_step c.len-begin.result c.loop-field.positions.items c.add_field.new.positions.items _ c.args.fields.now c.loop-field.field-index c.field-item.result c.loop-field.invariant.within c.loop-field-test.true
+  within = fields_within c.len-begin.result _ c.loop-field.positions.items c.add_field.new.positions.items (field_view c.field-item.result.value).names
+      c.loop-field.invariant.within c.in_ok-add_field.ensures;
+  rest = fields_step c.len-begin.result c.loop-field.positions.items c.add_field.new.positions.items _ c.args.fields.now c.loop-field.field-index
+      c.field-item.result c.loop-field.invariant.within c.loop-field-test.true
       c.field-item.is c.loop-field.invariant.rest c.in_ok-add_field.ensures;
 }
 

@@ -11,7 +11,8 @@ use Rattle.gr_object.proofs.names.function_names.Goals as goal
 
 pub loop-i-preserved : goal.loop-i-preserved
 loop-i-preserved c = record {
-  named = names_step c.args.path.now (map source_of c.args.files.now) c.loop-i.initializers c.initializers_with-initializers.result c.args.functions.now c.loop-i.i c.index-functions-i.result
+  named = names_step c.args.path.now (map source_of c.args.files.now) c.loop-i.initializers c.initializers_with-initializers.result c.args.functions.now
+      c.loop-i.i c.index-functions-i.result
       (map function_of c.loop-i.names.items) (map function_of c.push.new.self.items) _ (omega arith) c.index-functions-i.is c.loop-i.invariant.named
       (ap (map function_of) c.in_ok-push.ensures.items ∙ (map-append function_of c.loop-i.names.items (c.function_behind.result ∷ [])
       ∙ ap (λ n. map function_of c.loop-i.names.items ++ (n ∷ [])) c.function_behind.ensures)) c.initializers_with-initializers.ensures.counted;
@@ -20,5 +21,6 @@ loop-i-preserved c = record {
 
 pub returns : goal.returns
 returns c =
-    rest_end (λ fs. functions_behind c.args.path.now (map source_of c.args.files.now) c.loop-i.initializers (map placed_function fs)) refl _ (map function_of c.loop-i.names.items) c.args.functions.now c.loop-i.i
+    rest_end (λ fs. functions_behind c.args.path.now (map source_of c.args.files.now) c.loop-i.initializers (map placed_function fs)) refl _
+    (map function_of c.loop-i.names.items) c.args.functions.now c.loop-i.i
     (omega arith) c.loop-i.invariant.named

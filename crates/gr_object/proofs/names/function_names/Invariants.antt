@@ -8,6 +8,7 @@ use Rattle.gr_object.proofs.names.function_names.Given as goal
 
 abbrev pub invariant-loop-i : goal.invariant-loop-i
 invariant-loop-i l = record {
-  named : map function_of l.names.items ++ functions_behind l.path (map source_of l.files) l.initializers (map placed_function (drop l.i l.functions)) ≡ functions_behind l.path (map source_of l.files) 0 (map placed_function l.functions);
+  named : map function_of l.names.items ++ functions_behind l.path (map source_of l.files) l.initializers (map placed_function (drop l.i l.functions)) ≡
+      functions_behind l.path (map source_of l.files) 0 (map placed_function l.functions);
   bounded : l.initializers ≤ l.i;
 }

@@ -15,5 +15,7 @@ returns c =
     let files = map source_of c.args.unit.files.now in
     let named = ap (map function_of) c.deref-2.ensures.value ∙ (c.in_ok-names.ensures.functions ∙ ap (λ q. function_names q files) c.path_bytes.ensures) in
     let head = subst (λ old. PutsHead p old c.push_head.new.text.items) c.new-text.ensures.items c.in_ok-push_head.ensures in
-    let all = subst (λ n. PutsFiles p n c.args.members.now c.args.packages.now c.deref-2.result.now c.in_ok-push_files.field-0 c.push_head.new.text.items c.push_files.new.text.items) (sym (length-map c.args.unit.files.now source_of)) c.in_ok-push_files.ensures in
-    λ files_of uses have. whole_text p c.args.members.now c.args.packages.now c.deref-2.result.now c.in_ok-push_files.field-0 c.push_head.new.text.items c.push_files.new.text.items named head all files_of uses have
+    let all = subst (λ n. PutsFiles p n c.args.members.now c.args.packages.now c.deref-2.result.now c.in_ok-push_files.field-0 c.push_head.new.text.items
+    c.push_files.new.text.items) (sym (length-map c.args.unit.files.now source_of)) c.in_ok-push_files.ensures in
+    λ files_of uses have. whole_text p c.args.members.now c.args.packages.now c.deref-2.result.now c.in_ok-push_files.field-0 c.push_head.new.text.items
+    c.push_files.new.text.items named head all files_of uses have

@@ -26,9 +26,13 @@ returns c =
       file_at = plain_file x;
       in_file = at;
       source = source_of s;
-      made_of = is_source p c.args.file (plain_file x) c.own_world-judged_by.result c.args.members.now c.args.packages.now s c.requires.one at c.in_ok-made_of.ensures (c.own_world-judged_by.ensures.world (plain_file x) at) c.own_world-judged_by.ensures.spelling;
-      text = text ∙ (ap (λ ps. c.args.text.now.items ++ flat_map (declaration_text (type_in ps)) (declared_in (source_of s) (map function_of (drop c.args.number c.args.names.now)) (map decl_view c.deref.result.now))) c.in_ok-made_of.ensures.packages
-          ∙ ap (λ ds. c.args.text.now.items ++ flat_map (declaration_text (type_in c.args.packages.now)) (declared_in (source_of s) (map function_of (drop c.args.number c.args.names.now)) ds)) decls);
+      made_of = is_source p c.args.file (plain_file x) c.own_world-judged_by.result c.args.members.now c.args.packages.now s c.requires.one at
+          c.in_ok-made_of.ensures (c.own_world-judged_by.ensures.world (plain_file x) at) c.own_world-judged_by.ensures.spelling;
+      text = text ∙ (ap (λ ps. c.args.text.now.items ++ flat_map (declaration_text (type_in ps))
+          (declared_in (source_of s) (map function_of (drop c.args.number c.args.names.now)) (map decl_view c.deref.result.now)))
+          c.in_ok-made_of.ensures.packages
+          ∙ ap (λ ds. c.args.text.now.items ++ flat_map (declaration_text (type_in c.args.packages.now))
+          (declared_in (source_of s) (map function_of (drop c.args.number c.args.names.now)) ds)) decls);
       others_are = rest ∙ ap (names_behind_all (map function_of (drop c.args.number c.args.names.now))) decls;
       within = within;
     }) c.push_decls.ensures.text c.push_decls.ensures.others c.push_decls.ensures.within

@@ -7,4 +7,5 @@ use Rattle.gr_object.proofs.printing.push_types_behind.Given as goal
 
 abbrev pub invariant-loop-own : goal.invariant-loop-own
 invariant-loop-own l =
-    l.text.items ++ types_behind (type_in l.packages) l.separator (map type_of (drop l.own-index l.types)) ≡ l.initial.text.items ++ types_behind (type_in l.packages) l.separator (map type_of l.types)
+    l.text.items ++ types_behind (type_in l.packages) l.separator (map type_of (drop l.own-index l.types)) ≡ l.initial.text.items ++ types_behind
+    (type_in l.packages) l.separator (map type_of l.types)

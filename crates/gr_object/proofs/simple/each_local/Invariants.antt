@@ -9,4 +9,5 @@ use Rattle.gr_object.specs.Statements.{local_lines}
 use Rattle.gr_object.proofs.simple.each_local.Given as goal
 
 abbrev pub invariant-loop-i : goal.invariant-loop-i
-invariant-loop-i l = Puts (flat_map (λ i. local_lines (source_of l.scope.source.now) l.scope.slots.now.places.items i.value) (list_view local_view (drop l.i l.items))) l.initial.code l.code
+invariant-loop-i l = Puts (flat_map (λ i. local_lines (source_of l.scope.source.now) l.scope.slots.now.places.items i.value)
+    (list_view local_view (drop l.i l.items))) l.initial.code l.code

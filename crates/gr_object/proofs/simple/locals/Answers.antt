@@ -13,5 +13,9 @@ use Rattle.gr_object.proofs.simple.locals.Goals as goal
 
 pub returns-in-Several : goal.returns-in-Several
 unfolding group_view
-returns-in-Several c = on_ok_weaker c.each_local.result (λ q. puts_as (ap (λ g. flat_map (local_lines (source_of c.args.scope.source.now) c.args.scope.slots.now.places.items) (group_items (group_view local_view g))) c.in-Several.is
-    ∙ (sym (several_lines (source_of c.args.scope.source.now) c.args.scope.slots.now.places.items c.in-Several.items.items) ∙ ap (λ xs. flat_map (λ i. local_lines (source_of c.args.scope.source.now) c.args.scope.slots.now.places.items i.value) (list_view local_view xs)) (sym c.deref.ensures.value))) q) c.each_local.ensures
+returns-in-Several c = on_ok_weaker c.each_local.result
+    (λ q. puts_as (ap (λ g. flat_map (local_lines (source_of c.args.scope.source.now) c.args.scope.slots.now.places.items)
+    (group_items (group_view local_view g))) c.in-Several.is
+    ∙ (sym (several_lines (source_of c.args.scope.source.now) c.args.scope.slots.now.places.items c.in-Several.items.items) ∙
+    ap (λ xs. flat_map (λ i. local_lines (source_of c.args.scope.source.now) c.args.scope.slots.now.places.items i.value) (list_view local_view xs))
+    (sym c.deref.ensures.value))) q) c.each_local.ensures

@@ -10,4 +10,5 @@ pub loop-item-init : goal.loop-item-init
 loop-item-init c = puts_as (from_last_none (set_left (source_of c.args.scope.source.now) c.args.scope.slots.now.places.items)) (puts_none _)
 
 pub loop-item-preserved : goal.loop-item-preserved
-loop-item-preserved c = taken_step (set_left (source_of c.args.scope.source.now) c.args.scope.slots.now.places.items) expr_item_view c.args.left.now c.loop-item.item-index _ c.loop-item-test.true c.item-item.is c.loop-item.invariant c.in_ok-put_set_left.ensures
+loop-item-preserved c = taken_step (set_left (source_of c.args.scope.source.now) c.args.scope.slots.now.places.items) expr_item_view c.args.left.now
+    c.loop-item.item-index _ c.loop-item-test.true c.item-item.is c.loop-item.invariant c.in_ok-put_set_left.ensures

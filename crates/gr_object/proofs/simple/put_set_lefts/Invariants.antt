@@ -7,4 +7,5 @@ use Rattle.gr_object.specs.Statements.{from_last, set_left}
 use Rattle.gr_object.proofs.simple.put_set_lefts.Given as goal
 
 abbrev pub invariant-loop-item : goal.invariant-loop-item
-invariant-loop-item l = Puts (from_last (set_left (source_of l.scope.source.now) l.scope.slots.now.places.items) (exprs_view (take l.item-index l.left))) l.initial.code l.code
+invariant-loop-item l = Puts (from_last (set_left (source_of l.scope.source.now) l.scope.slots.now.places.items) (exprs_view (take l.item-index l.left)))
+    l.initial.code l.code

@@ -9,4 +9,5 @@ pub loop-name-init : goal.loop-name-init
 loop-name-init c = puts_as (from_last_none (set_name c.args.scope.slots.now.places.items)) (puts_none _)
 
 pub loop-name-preserved : goal.loop-name-preserved
-loop-name-preserved c = taken_at (set_name c.args.scope.slots.now.places.items) (item_view ident_view) c.args.names.now c.loop-name.name-index _ c.loop-name-test.true c.loop-name.invariant c.in_ok-put_set_name.ensures
+loop-name-preserved c = taken_at (set_name c.args.scope.slots.now.places.items) (item_view ident_view) c.args.names.now c.loop-name.name-index _
+    c.loop-name-test.true c.loop-name.invariant c.in_ok-put_set_name.ensures

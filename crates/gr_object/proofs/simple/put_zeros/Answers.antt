@@ -10,5 +10,6 @@ use Rattle.gr_object.proofs.Loops.{back_alike}
 use Rattle.gr_object.proofs.simple.put_zeros.Goals as goal
 
 pub loop-i-preserved : goal.loop-i-preserved
-loop-i-preserved c = back_alike (λ xs. flat_map (λ i. line_if_known line.Zero (judge_type (source_of c.args.scope.source.now).world (type_view c.args.written.now)).type_of) (list_view ident_view xs)) _
+loop-i-preserved c = back_alike (λ xs. flat_map (λ i.
+    line_if_known line.Zero (judge_type (source_of c.args.scope.source.now).world (type_view c.args.written.now)).type_of) (list_view ident_view xs)) _
     (λ x xs. refl) c.args.names.now _ (omega arith) (omega arith) c.loop-i.invariant c.in_ok-put_zero.ensures

@@ -10,4 +10,5 @@ use Rattle.gr_object.specs.SourceView.{source_of}
 use Rattle.gr_object.proofs.simple.put_zeros.Given as goal
 
 abbrev pub invariant-loop-i : goal.invariant-loop-i
-invariant-loop-i l = Puts (flat_map (λ i. line_if_known line.Zero (judge_type (source_of l.scope.source.now).world (type_view l.written)).type_of) (list_view ident_view (drop l._i l.names))) l.initial.code l.code
+invariant-loop-i l = Puts (flat_map (λ i. line_if_known line.Zero (judge_type (source_of l.scope.source.now).world (type_view l.written)).type_of)
+    (list_view ident_view (drop l._i l.names))) l.initial.code l.code

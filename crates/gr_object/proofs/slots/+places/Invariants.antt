@@ -6,4 +6,5 @@ use Rattle.gr_object.proofs.slots.+places.Given as goal
 
 abbrev pub invariant-add_block-loop-item : goal.invariant-add_block-loop-item
 invariant-add_block-loop-item l =
-    l.places.items ++ places_of_each (world_of l.world) (drop l.item-index l.item-items) ≡ l.initial.places.items ++ places_of_each (world_of l.world) l.item-items
+    l.places.items ++ places_of_each (world_of l.world) (drop l.item-index l.item-items) ≡ l.initial.places.items ++ places_of_each (world_of l.world)
+    l.item-items

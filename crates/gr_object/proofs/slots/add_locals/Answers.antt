@@ -11,5 +11,7 @@ use Rattle.gr_object.proofs.slots.add_locals.Goals as goal
 
 pub returns-after-loop-item : goal.returns-after-loop-item
 unfolding group_view
-returns-after-loop-item c = rest_end local_list_places refl _ c.loop-item.places.items c.deref-item-items.result.now c.loop-item.item-index c.loop-item-test.false c.loop-item.invariant
-    ∙ ap (λ z. c.args.places.now.items ++ z) (ap local_list_places c.deref-item-items.ensures.value ∙ (several_places c.in-Several.items.items ∙ ap (λ g. flat_map local_places (group_items (group_view local_view g))) (sym c.in-Several.is)))
+returns-after-loop-item c = rest_end local_list_places refl _ c.loop-item.places.items c.deref-item-items.result.now c.loop-item.item-index
+    c.loop-item-test.false c.loop-item.invariant
+    ∙ ap (λ z. c.args.places.now.items ++ z) (ap local_list_places c.deref-item-items.ensures.value ∙
+    (several_places c.in-Several.items.items ∙ ap (λ g. flat_map local_places (group_items (group_view local_view g))) (sym c.in-Several.is)))

@@ -8,7 +8,8 @@ use Rattle.gr_object.proofs.slots.add_names.Goals as goal
 
 pub loop-name-preserved : goal.loop-name-preserved
 loop-name-preserved c =
-    rest_at name_places (λ x. ident_place (ident_view x.value) ∷ []) (λ x xs. refl) _ c.loop-name.places.items c.push.new.self.items c.args.names.now c.loop-name.name-index _
+    rest_at name_places (λ x. ident_place (ident_view x.value) ∷ []) (λ x xs. refl) _ c.loop-name.places.items c.push.new.self.items c.args.names.now
+    c.loop-name.name-index _
     c.loop-name-test.true c.loop-name.invariant (c.in_ok-push.ensures.items ∙ ap (λ p. c.loop-name.places.items ++ (p ∷ [])) c.ident_place.ensures)
 
 pub returns : goal.returns

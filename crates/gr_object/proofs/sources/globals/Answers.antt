@@ -13,8 +13,12 @@ pub loop-token-init : goal.loop-token-init
 loop-token-init c = no_row (IsGlobal (package_of c.args.unit) c.args.file) None _ (ap (map (option_map global_of)) c.new-globals.ensures.items)
 
 pub loop-token-preserved : goal.loop-token-preserved
-loop-token-preserved c = next_row (IsGlobal (package_of c.args.unit) c.args.file) None c.loop-token.token (map (option_map global_of) c.loop-token.globals.items) (map (option_map global_of) c.push.new.self.items) _ (ap (map (option_map global_of)) c.in_ok-push.ensures.items ∙ map-append (option_map global_of) c.loop-token.globals.items _) c.global_at.ensures c.loop-token.invariant
+loop-token-preserved c = next_row (IsGlobal (package_of c.args.unit) c.args.file) None c.loop-token.token
+    (map (option_map global_of) c.loop-token.globals.items) (map (option_map global_of) c.push.new.self.items) _
+    (ap (map (option_map global_of)) c.in_ok-push.ensures.items ∙ map-append (option_map global_of) c.loop-token.globals.items _) c.global_at.ensures
+    c.loop-token.invariant
 
 pub returns : goal.returns
 returns c = all_rows (IsGlobal (package_of c.args.unit) c.args.file) None c.loop-token.token (map (option_map global_of) c.loop-token.globals.items)
-    (λ token past. no_global_past (package_of c.args.unit) c.args.file token _ (c.width-token-end.ensures token (omega (arith, past, c.loop-token-test.false))) (c.requires.identifiers c.args.file token)) c.loop-token.invariant
+    (λ token past. no_global_past (package_of c.args.unit) c.args.file token _
+    (c.width-token-end.ensures token (omega (arith, past, c.loop-token-test.false))) (c.requires.identifiers c.args.file token)) c.loop-token.invariant

@@ -7,4 +7,5 @@ pub returns-in-None : goal.returns-in-None
 returns-in-None c = λ d path binds i. c.in-None.ensures.bound d binds
 
 pub returns-in-Some : goal.returns-in-Some
-returns-in-Some c = import_by (package_of c.args.unit) c.args.file c.args.token c.in-Some.d c.path.result c.in-Some.ensures.bound c.in-Some.ensures.only c.path.ensures
+returns-in-Some c = import_by (package_of c.args.unit) c.args.file c.args.token c.in-Some.d c.path.result c.in-Some.ensures.bound c.in-Some.ensures.only
+    c.path.ensures

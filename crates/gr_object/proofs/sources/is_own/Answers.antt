@@ -11,5 +11,6 @@ returns-in-None c = (λ t. absurd (false≢true t), λ w. absurd (c.in-None.ensu
 pub returns-in-Some : goal.returns-in-Some
 returns-in-Some c = (
   λ t. (c.in-Some.d, (c.in-Some.ensures.bound, ap block_of (sym c.role.ensures) ∙ sym c.block.ensures ∙ c.same.ensures.0 t)),
-  λ w. c.same.ensures.1 (c.block.ensures ∙ ap block_of c.role.ensures ∙ subst (IsPackageLevel (package_of c.args.unit).layout) (c.in-Some.ensures.only w.0 w.1.0) w.1.1),
+  λ w. c.same.ensures.1 (c.block.ensures ∙ ap block_of c.role.ensures ∙
+      subst (IsPackageLevel (package_of c.args.unit).layout) (c.in-Some.ensures.only w.0 w.1.0) w.1.1),
 )

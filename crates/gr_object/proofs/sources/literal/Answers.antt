@@ -6,4 +6,5 @@ use Rattle.gr_object.proofs.sources.literal.Goals as goal
 
 pub returns-then-token-tokens : goal.returns-then-token-tokens
 returns-then-token-tokens c =
-    IfOk-weaker c.string_value.result _ _ (λ o h. text_from (source_of c.args.file.now) c.pieces-pieces.result.now c.args.token o c.pieces-pieces.ensures h) c.string_value.ensures
+    IfOk-weaker c.string_value.result _ _ (λ o h. text_from (source_of c.args.file.now) c.pieces-pieces.result.now c.args.token o c.pieces-pieces.ensures h)
+    c.string_value.ensures

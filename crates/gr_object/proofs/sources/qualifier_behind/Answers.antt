@@ -8,7 +8,9 @@ use Rattle.gr_object.proofs.sources.qualifier_behind.Goals as goal
 pub returns-then-is_behind_dot : goal.returns-then-is_behind_dot
 returns-then-is_behind_dot c =
     let e : c.args.token ≡ suc (suc (c.args.token - 2)) = omega (arith, c.requires.late) in
-    behind_by (package_of c.args.unit) c.args.file c.args.token (c.args.token - 2) c.import_at.result e (c.is_behind_dot.ensures.0 c.if-is_behind_dot.true) c.import_at.ensures
+    behind_by (package_of c.args.unit) c.args.file c.args.token (c.args.token - 2) c.import_at.result e (c.is_behind_dot.ensures.0 c.if-is_behind_dot.true)
+    c.import_at.ensures
 
 pub returns-else-is_behind_dot : goal.returns-else-is_behind_dot
-returns-else-is_behind_dot c = λ path b. false≢true (sym c.if-is_behind_dot.false ∙ c.is_behind_dot.ensures.1 (dot_before (package_of c.args.unit) c.args.file c.args.token path b))
+returns-else-is_behind_dot c = λ path b. false≢true
+    (sym c.if-is_behind_dot.false ∙ c.is_behind_dot.ensures.1 (dot_before (package_of c.args.unit) c.args.file c.args.token path b))

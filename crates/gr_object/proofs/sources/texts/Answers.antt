@@ -13,7 +13,8 @@ loop-token-init c = no_row (λ token value. IsTextAt (source_of c.args.file.now)
 
 pub loop-token-preserved : goal.loop-token-preserved
 loop-token-preserved c =
-    next_row (λ token value. IsTextAt (source_of c.args.file.now) token (option_map (λ v. v.items) value)) None c.loop-token.token c.loop-token.texts.items c.push.new.self.items _ c.in_ok-push.ensures.items c.in_ok-literal.ensures c.loop-token.invariant
+    next_row (λ token value. IsTextAt (source_of c.args.file.now) token (option_map (λ v. v.items) value)) None c.loop-token.token c.loop-token.texts.items
+    c.push.new.self.items _ c.in_ok-push.ensures.items c.in_ok-literal.ensures c.loop-token.invariant
 
 pub returns : goal.returns
 returns c =

@@ -11,4 +11,5 @@ loop-next-preserved c = c.in_ok-push.ensures.items ∙ (ap (λ z. z ++ (c.next-i
     ∙ sym (map_next (λ (u : MemberUse). u.place) c.args.uses.now c.loop-next.next-index c.next-item.result c.loop-next-test.true c.next-item.is))
 
 pub returns : goal.returns
-returns c = ok_map c.of.result (λ n e. e ∙ (c.loop-next.invariant ∙ ap (map (λ (u : MemberUse). u.place)) (take_all c.args.uses.now c.loop-next.next-index c.loop-next-test.false))) c.of.ensures
+returns c = ok_map c.of.result (λ n e. e ∙ (c.loop-next.invariant ∙
+    ap (map (λ (u : MemberUse). u.place)) (take_all c.args.uses.now c.loop-next.next-index c.loop-next-test.false))) c.of.ensures

@@ -7,4 +7,5 @@ use Rattle.gr_object.proofs.statements.+statement.Given as goal
 
 abbrev pub invariant-each-loop-i : goal.invariant-each-loop-i
 invariant-each-loop-i l =
-    Puts (lines_of_each (source_of l.scope.source.now) l.scope.slots.now.places.items l.results (exits_of l.marks (length (lines_in l.initial.code))) (drop l.i l.list)) l.initial.code l.code
+    Puts (lines_of_each (source_of l.scope.source.now) l.scope.slots.now.places.items l.results (exits_of l.marks (length (lines_in l.initial.code)))
+    (drop l.i l.list)) l.initial.code l.code

@@ -15,7 +15,8 @@ use Rattle.gr_parse.proofs.declarations.fields.Given as goal
 
 abbrev pub invariant-fields : goal.invariant-fields
 invariant-fields l = record {
-  leads : Leads (A Fields ∷ []) (list_rest Fields kind.RightBrace l.more) (all_tokens (item_spelled kind.Semicolon field_spelled) l.fields.items) l.depth l.fn.tokens l.depth l.rest;
+  leads : Leads (A Fields ∷ []) (list_rest Fields kind.RightBrace l.more) (all_tokens (item_spelled kind.Semicolon field_spelled) l.fields.items) l.depth
+      l.fn.tokens l.depth l.rest;
   formed : IsListed IsField (item_view field_view) l.more l.fields.items;
 }
 

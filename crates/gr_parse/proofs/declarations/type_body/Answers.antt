@@ -16,13 +16,17 @@ returns-in_err-open-clause-exact c = exits _ _ _ _ c.in_err-open.field-0.0 c.fro
 
 pub returns-in_err-fields-clause-exact : goal.returns-in_err-fields-clause-exact
 returns-in_err-fields-clause-exact c = exits _ _ _ _ c.in_err-fields.field-0.0 c.from_residual-in_err-fields.result c.from_residual-in_err-fields.ensures.1
-    (fails_rule (first (sym c.at.ensures ∙ c.if-at.true)) (fails_later c.in_ok-at.ensures (fails_later c.in_ok-open.ensures.read (fails_first c.in_err-fields.ensures.exact))))
+    (fails_rule (first (sym c.at.ensures ∙ c.if-at.true))
+    (fails_later c.in_ok-at.ensures (fails_later c.in_ok-open.ensures.read (fails_first c.in_err-fields.ensures.exact))))
 
 pub returns-then-at-clause-exact : goal.returns-then-at-clause-exact
-returns-then-at-clause-exact c = read_as (read_rule (first (sym c.at.ensures ∙ c.if-at.true)) (read_then c.in_ok-at.ensures (read_then c.in_ok-open.ensures.read (read_to_close c.in_ok-open.ensures.deeper c.in_ok-fields.ensures.exact)))) (sym (struct_spelled _ _ _ _))
+returns-then-at-clause-exact c = read_as (read_rule (first (sym c.at.ensures ∙ c.if-at.true))
+    (read_then c.in_ok-at.ensures (read_then c.in_ok-open.ensures.read (read_to_close c.in_ok-open.ensures.deeper c.in_ok-fields.ensures.exact))))
+    (sym (struct_spelled _ _ _ _))
 
 pub returns-in_err-type_expr-clause-exact : goal.returns-in_err-type_expr-clause-exact
-returns-in_err-type_expr-clause-exact c = exits _ _ _ _ c.in_err-type_expr.field-0.0 c.from_residual-in_err-type_expr.result c.from_residual-in_err-type_expr.ensures.1
+returns-in_err-type_expr-clause-exact c = exits _ _ _ _ c.in_err-type_expr.field-0.0 c.from_residual-in_err-type_expr.result
+    c.from_residual-in_err-type_expr.ensures.1
     (fails_rule (later (sym c.at.ensures ∙ c.if-at.false) last) c.in_err-type_expr.ensures)
 
 pub returns-clause-exact : goal.returns-clause-exact

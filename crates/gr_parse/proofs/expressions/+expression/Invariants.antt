@@ -71,7 +71,8 @@ decreases-chain-links l = length l.rest
 
 abbrev pub invariant-literal-elements : goal.invariant-literal-elements
 invariant-literal-elements l = record {
-  leads : Leads (A ElementList ∷ []) (list_rest ElementList kind.RightBrace l.more) (all_tokens element_spelled l.elements.items) l.inside l.initial.rest l.inside l.rest;
+  leads : Leads (A ElementList ∷ []) (list_rest ElementList kind.RightBrace l.more) (all_tokens element_spelled l.elements.items) l.inside l.initial.rest
+      l.inside l.rest;
   kept : type_view l.literal_type ≡ type_view l.fn.literal_type;
   grouped : Each {X = Element} (λ i. IsExpr (expr_view i.value)) l.elements.items;
   separated : IsSeparatedSoFar {X = Element} (λ i. i.comma) l.more l.elements.items;
@@ -83,7 +84,8 @@ decreases-literal-elements l = length l.rest
 
 abbrev pub invariant-arguments-arguments : goal.invariant-arguments-arguments
 invariant-arguments-arguments l = record {
-  leads : Leads (A Arguments ∷ []) (list_rest Arguments kind.RightParen l.more) (all_tokens expr_item_spelled l.arguments.items) l.depth l.fn.tokens l.depth l.rest;
+  leads : Leads (A Arguments ∷ []) (list_rest Arguments kind.RightParen l.more) (all_tokens expr_item_spelled l.arguments.items) l.depth l.fn.tokens l.depth
+      l.rest;
   grouped : Each {X = ExprItem} (λ i. IsExpr (expr_view i.value)) l.arguments.items;
   separated : IsSeparatedSoFar {X = ExprItem} (λ i. i.comma) l.more l.arguments.items;
   shorter : length l.rest ≤ length l.fn.tokens;

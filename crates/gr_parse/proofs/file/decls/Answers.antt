@@ -22,7 +22,9 @@ returns-in_err-next-clause-exact c = exits _ _ _ _ c.in_err-next.field-0.0 c.fro
     (fails_leads c.decls.invariant.leads c.in_err-next.ensures.exact)
 
 pub returns-clause-exact : goal.returns-clause-exact
-returns-clause-exact c = leads_to_end c.decls.invariant.leads (later (c.begins_decl.ensures.var c.decls-test.false) (later (c.begins_decl.ensures.type_word c.decls-test.false) (later (c.begins_decl.ensures.func c.decls-test.false) last)))
+returns-clause-exact c = leads_to_end c.decls.invariant.leads
+    (later (c.begins_decl.ensures.var c.decls-test.false)
+    (later (c.begins_decl.ensures.type_word c.decls-test.false) (later (c.begins_decl.ensures.func c.decls-test.false) last)))
 
 pub returns-clause-formed : goal.returns-clause-formed
 returns-clause-formed c = c.decls.invariant.formed

@@ -21,18 +21,27 @@ returns-in_err-open-clause-exact c = exits _ _ _ _ c.in_err-open.field-0.0 c.fro
 
 pub returns-in_err-params-clause-exact : goal.returns-in_err-params-clause-exact
 returns-in_err-params-clause-exact c = exits _ _ _ _ c.in_err-params.field-0.0 c.from_residual-in_err-params.result c.from_residual-in_err-params.ensures.1
-    (fails_leads c.in_ok-receiver.ensures (fails_later c.in_ok-name.ensures (fails_rule last (fails_later c.in_ok-open.ensures.read (fails_first c.in_err-params.ensures.exact)))))
+    (fails_leads c.in_ok-receiver.ensures (fails_later c.in_ok-name.ensures
+    (fails_rule last (fails_later c.in_ok-open.ensures.read (fails_first c.in_err-params.ensures.exact)))))
 
 pub returns-in_err-results-clause-exact : goal.returns-in_err-results-clause-exact
 returns-in_err-results-clause-exact c = exits _ _ _ _ c.in_err-results.field-0.0 c.from_residual-in_err-results.result c.from_residual-in_err-results.ensures.1
-    (fails_leads c.in_ok-receiver.ensures (fails_later c.in_ok-name.ensures (fails_rule last (fails_later c.in_ok-open.ensures.read (fails_later c.in_ok-params.ensures.exact (fails_close c.in_ok-open.ensures.deeper (fails_first c.in_err-results.ensures.exact)))))))
+    (fails_leads c.in_ok-receiver.ensures (fails_later c.in_ok-name.ensures
+    (fails_rule last (fails_later c.in_ok-open.ensures.read
+    (fails_later c.in_ok-params.ensures.exact (fails_close c.in_ok-open.ensures.deeper (fails_first c.in_err-results.ensures.exact)))))))
 
 pub returns-in_err-body-clause-exact : goal.returns-in_err-body-clause-exact
 returns-in_err-body-clause-exact c = exits _ _ _ _ c.in_err-body.field-0.0 c.from_residual-in_err-body.result c.from_residual-in_err-body.ensures.1
-    (fails_leads c.in_ok-receiver.ensures (fails_later c.in_ok-name.ensures (fails_rule last (fails_later c.in_ok-open.ensures.read (fails_later c.in_ok-params.ensures.exact (fails_close c.in_ok-open.ensures.deeper (fails_later c.in_ok-results.ensures.exact c.in_err-body.ensures.exact)))))))
+    (fails_leads c.in_ok-receiver.ensures (fails_later c.in_ok-name.ensures
+    (fails_rule last (fails_later c.in_ok-open.ensures.read
+    (fails_later c.in_ok-params.ensures.exact
+    (fails_close c.in_ok-open.ensures.deeper (fails_later c.in_ok-results.ensures.exact c.in_err-body.ensures.exact)))))))
 
 pub returns-clause-exact : goal.returns-clause-exact
-returns-clause-exact c = read_as (read_leads c.in_ok-receiver.ensures (read_then c.in_ok-name.ensures (read_rule last (read_then c.in_ok-open.ensures.read (read_then c.in_ok-params.ensures.exact (read_close c.in_ok-open.ensures.deeper (read_then c.in_ok-results.ensures.exact c.in_ok-body.ensures.exact)))))))
+returns-clause-exact c = read_as (read_leads c.in_ok-receiver.ensures
+    (read_then c.in_ok-name.ensures
+    (read_rule last (read_then c.in_ok-open.ensures.read
+    (read_then c.in_ok-params.ensures.exact (read_close c.in_ok-open.ensures.deeper (read_then c.in_ok-results.ensures.exact c.in_ok-body.ensures.exact)))))))
     (sym (func_spelled_as _))
 
 pub returns-clause-formed : goal.returns-clause-formed

@@ -15,11 +15,13 @@ returns-in_err-group-clause-exact c = exits _ _ _ _ c.in_err-group.field-0.0 c.f
     (fails_rule (first c.requires) (fails_later c.in_ok-at.ensures (fails_first c.in_err-group.ensures.exact)))
 
 pub returns-in_err-semicolon-clause-exact : goal.returns-in_err-semicolon-clause-exact
-returns-in_err-semicolon-clause-exact c = exits _ _ _ _ c.in_err-semicolon.field-0.0 c.from_residual-in_err-semicolon.result c.from_residual-in_err-semicolon.ensures.1
+returns-in_err-semicolon-clause-exact c = exits _ _ _ _ c.in_err-semicolon.field-0.0 c.from_residual-in_err-semicolon.result
+    c.from_residual-in_err-semicolon.ensures.1
     (fails_rule (first c.requires) (fails_later c.in_ok-at.ensures (fails_later c.in_ok-group.ensures.exact (fails_first c.in_err-semicolon.ensures))))
 
 pub returns-clause-exact : goal.returns-clause-exact
-returns-clause-exact c = leads_as (leads_rule (first c.requires) (leads_then c.in_ok-at.ensures (leads_then c.in_ok-group.ensures.exact (leads_then c.in_ok-semicolon.ensures leads_here)))) (sym (imports_spelled_as _))
+returns-clause-exact c = leads_as (leads_rule (first c.requires)
+    (leads_then c.in_ok-at.ensures (leads_then c.in_ok-group.ensures.exact (leads_then c.in_ok-semicolon.ensures leads_here)))) (sym (imports_spelled_as _))
 
 pub returns-clause-formed : goal.returns-clause-formed
 returns-clause-formed c = imports_formed _ c.in_ok-group.ensures.formed

@@ -10,7 +10,11 @@ use Rattle.gr_tree.specs.WellFormed.{IsImports}
 use Rattle.gr_parse.proofs.file.imports.Goals as goal
 
 pub imports-init : goal.imports-init
-imports-init c = record { leads = leads_none imports_spelled _ c.new-imports.ensures.items; formed = all_none (λ i. IsImports (imports_view i)) _ c.new-imports.ensures.items }
+imports-init c = record {
+  leads = leads_none imports_spelled _ c.new-imports.ensures.items;
+  formed =
+      all_none (λ i. IsImports (imports_view i)) _ c.new-imports.ensures.items;
+}
 
 pub imports-preserved : goal.imports-preserved
 imports-preserved c = record {

@@ -12,7 +12,8 @@ returns-in_err-names-clause-exact c = exits _ _ _ _ c.in_err-names.field-0.0 c.f
     (fails_in (A TypeUse ∷ []) c.in_err-names.ensures.exact)
 
 pub returns-in_err-param_type-clause-exact : goal.returns-in_err-param_type-clause-exact
-returns-in_err-param_type-clause-exact c = exits _ _ _ _ c.in_err-param_type.field-0.0 c.from_residual-in_err-param_type.result c.from_residual-in_err-param_type.ensures.1
+returns-in_err-param_type-clause-exact c = exits _ _ _ _ c.in_err-param_type.field-0.0 c.from_residual-in_err-param_type.result
+    c.from_residual-in_err-param_type.ensures.1
     (fails_on c.in_ok-names.ensures.exact c.in_err-param_type.ensures)
 
 pub returns-clause-exact : goal.returns-clause-exact

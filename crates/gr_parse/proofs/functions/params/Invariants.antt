@@ -15,7 +15,8 @@ use Rattle.gr_parse.proofs.functions.params.Given as goal
 
 abbrev pub invariant-params : goal.invariant-params
 invariant-params l = record {
-  leads : Leads (A Params ∷ []) (list_rest Params kind.RightParen l.more) (all_tokens (item_spelled kind.Comma param_spelled) l.params.items) l.depth l.fn.tokens l.depth l.rest;
+  leads : Leads (A Params ∷ []) (list_rest Params kind.RightParen l.more) (all_tokens (item_spelled kind.Comma param_spelled) l.params.items) l.depth
+      l.fn.tokens l.depth l.rest;
   formed : IsListed IsParam (item_view param_view) l.more l.params.items;
 }
 

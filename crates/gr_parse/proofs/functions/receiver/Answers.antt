@@ -18,11 +18,23 @@ returns-in_err-ident c = exits _ _ _ _ c.in_err-ident.field-0.0 c.from_residual-
 
 pub returns-in_err-type_name : goal.returns-in_err-type_name
 returns-in_err-type_name c = exits _ _ _ _ c.in_err-type_name.field-0.0 c.from_residual-in_err-type_name.result c.from_residual-in_err-type_name.ensures.1
-    (fails_later c.in_ok-open.ensures.read (fails_later c.in_ok-ident.ensures (fails_later (read_optional ReceiverStar kind.Star _ (λ us e. first e) (λ us e. later e last) c.separator-star.ensures) (fails_first c.in_err-type_name.ensures))))
+    (fails_later c.in_ok-open.ensures.read (fails_later c.in_ok-ident.ensures
+    (fails_later (read_optional ReceiverStar kind.Star _ (λ us e. first e) (λ us e. later e last) c.separator-star.ensures)
+    (fails_first c.in_err-type_name.ensures))))
 
 pub returns-in_err-close : goal.returns-in_err-close
 returns-in_err-close c = exits _ _ _ _ c.in_err-close.field-0.0 c.from_residual-in_err-close.result c.from_residual-in_err-close.ensures.1
-    (fails_later c.in_ok-open.ensures.read (fails_later c.in_ok-ident.ensures (fails_later (read_optional ReceiverStar kind.Star _ (λ us e. first e) (λ us e. later e last) c.separator-star.ensures) (fails_later c.in_ok-type_name.ensures (fails_first (fails_leads (leads_optional ReceiverEnd kind.Comma _ (One (is kind.RightParen) ∷ []) (λ us e. first e) (λ us e. later e last) c.separator-comma.ensures) c.in_err-close.ensures))))))
+    (fails_later c.in_ok-open.ensures.read (fails_later c.in_ok-ident.ensures
+    (fails_later (read_optional ReceiverStar kind.Star _ (λ us e. first e) (λ us e. later e last) c.separator-star.ensures)
+    (fails_later c.in_ok-type_name.ensures
+    (fails_first (fails_leads (leads_optional ReceiverEnd kind.Comma _ (One (is kind.RightParen) ∷ []) (λ us e. first e) (λ us e. later e last)
+    c.separator-comma.ensures) c.in_err-close.ensures))))))
 
 pub returns : goal.returns
-returns c = read_as (read_then c.in_ok-open.ensures.read (read_then c.in_ok-ident.ensures (read_then (read_optional ReceiverStar kind.Star _ (λ us e. first e) (λ us e. later e last) c.separator-star.ensures) (read_then c.in_ok-type_name.ensures (read_to_close c.in_ok-open.ensures.deeper (read_leads (leads_optional ReceiverEnd kind.Comma _ (One (is kind.RightParen) ∷ []) (λ us e. first e) (λ us e. later e last) c.separator-comma.ensures) c.in_ok-close.ensures)))))) (sym (receiver_spelled_as _))
+returns c = read_as (read_then c.in_ok-open.ensures.read
+    (read_then c.in_ok-ident.ensures
+    (read_then (read_optional ReceiverStar kind.Star _ (λ us e. first e) (λ us e. later e last) c.separator-star.ensures)
+    (read_then c.in_ok-type_name.ensures
+    (read_to_close c.in_ok-open.ensures.deeper
+    (read_leads (leads_optional ReceiverEnd kind.Comma _ (One (is kind.RightParen) ∷ []) (λ us e. first e) (λ us e. later e last) c.separator-comma.ensures)
+    c.in_ok-close.ensures)))))) (sym (receiver_spelled_as _))

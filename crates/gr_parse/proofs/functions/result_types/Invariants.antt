@@ -14,7 +14,8 @@ use Rattle.gr_parse.proofs.functions.result_types.Given as goal
 
 abbrev pub invariant-types : goal.invariant-types
 invariant-types l = record {
-  leads : Leads (A Types ∷ []) (list_rest Types kind.RightParen l.more) (all_tokens (item_spelled kind.Comma type_spelled) l.types.items) l.depth l.fn.tokens l.depth l.rest;
+  leads : Leads (A Types ∷ []) (list_rest Types kind.RightParen l.more) (all_tokens (item_spelled kind.Comma type_spelled) l.types.items) l.depth
+      l.fn.tokens l.depth l.rest;
   formed : IsListed (λ x. Any x) (item_view type_view) l.more l.types.items;
 }
 

@@ -14,7 +14,8 @@ returns-in_err-items-clause-exact g c = exits _ _ _ _ c.in_err-items.field-0.0 c
     (fails_rule (first (sym c.at.ensures ∙ c.if-at.true)) (fails_later c.in_ok-open.ensures.read (fails_first c.in_err-items.ensures.exact)))
 
 pub returns-then-at-clause-exact : goal.returns-then-at-clause-exact
-returns-then-at-clause-exact g c = read_rule (first (sym c.at.ensures ∙ c.if-at.true)) (read_then c.in_ok-open.ensures.read (read_to_close c.in_ok-open.ensures.deeper c.in_ok-items.ensures.exact))
+returns-then-at-clause-exact g c = read_rule (first (sym c.at.ensures ∙ c.if-at.true))
+    (read_then c.in_ok-open.ensures.read (read_to_close c.in_ok-open.ensures.deeper c.in_ok-items.ensures.exact))
 
 pub returns-in_err-single-clause-exact : goal.returns-in_err-single-clause-exact
 returns-in_err-single-clause-exact g c = exits _ _ _ _ c.in_err-single.field-0.0 c.from_residual-in_err-single.result c.from_residual-in_err-single.ensures.1

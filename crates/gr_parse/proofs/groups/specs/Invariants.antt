@@ -12,7 +12,8 @@ use Rattle.gr_parse.proofs.groups.specs.Given as goal
 
 abbrev pub invariant-items : goal.invariant-items
 invariant-items g l = record {
-  leads : Leads (A (Items g.S.Spec.item) ∷ []) (list_rest (Items g.S.Spec.item) kind.RightParen l.more) (all_tokens (item_spelled kind.Semicolon g.S.Spec.spelled) l.items.items) l.depth l.fn.tokens l.depth l.rest;
+  leads : Leads (A (Items g.S.Spec.item) ∷ []) (list_rest (Items g.S.Spec.item) kind.RightParen l.more)
+      (all_tokens (item_spelled kind.Semicolon g.S.Spec.spelled) l.items.items) l.depth l.fn.tokens l.depth l.rest;
   formed : IsListed g.S.Spec.is_formed (item_view (λ x. x)) l.more l.items.items;
 }
 

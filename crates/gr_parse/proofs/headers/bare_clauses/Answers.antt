@@ -12,7 +12,8 @@ returns-in_err-clauses-clause-exact c = exits _ _ _ _ c.in_err-clauses.field-0.0
     (fails_rule (later c.requires.brace (first c.requires.semicolon)) c.in_err-clauses.ensures.exact)
 
 pub returns-clause-exact : goal.returns-clause-exact
-returns-clause-exact c = leads_as (leads_rule (later c.requires.brace (first c.requires.semicolon)) c.in_ok-clauses.ensures.exact) (sym (ap for_spelled c.header-bare.ensures ∙ clauses_spelled _ _ _ _ _))
+returns-clause-exact c = leads_as (leads_rule (later c.requires.brace (first c.requires.semicolon)) c.in_ok-clauses.ensures.exact)
+    (sym (ap for_spelled c.header-bare.ensures ∙ clauses_spelled _ _ _ _ _))
 
 pub returns-clause-formed : goal.returns-clause-formed
 returns-clause-formed c = clauses_formed _ _ _ _ _ _ c.header-bare.ensures tt c.in_ok-clauses.ensures.formed.0 c.in_ok-clauses.ensures.formed.1

@@ -14,12 +14,14 @@ returns-in_err-semicolon-clause-exact c = exits _ _ _ _ c.in_err-semicolon.field
     (fails_rule (first c.requires) (fails_first c.in_err-semicolon.ensures))
 
 pub returns-in_err-condition-clause-exact : goal.returns-in_err-condition-clause-exact
-returns-in_err-condition-clause-exact c = exits _ _ _ _ c.in_err-condition.field-0.0 c.from_residual-in_err-condition.result c.from_residual-in_err-condition.ensures.1
+returns-in_err-condition-clause-exact c = exits _ _ _ _ c.in_err-condition.field-0.0 c.from_residual-in_err-condition.result
+    c.from_residual-in_err-condition.ensures.1
     (fails_rule (first c.requires) (fails_later c.in_ok-semicolon.ensures (fails_first c.in_err-condition.ensures.exact)))
 
 pub returns-clause-exact : goal.returns-clause-exact
 returns-clause-exact c = leads_as (leads_rule (first c.requires) (leads_then c.in_ok-semicolon.ensures (leads_then c.in_ok-condition.ensures.exact leads_here)))
-    (ap (λ x. sign kind.Semicolon c.in_ok-semicolon.semicolon ∷ x) (append-nil (expr_spelled c.in_ok-condition.condition)) ∙ ap (λ x. x ++ expr_spelled c.in_ok-condition.condition) (sym (init_spelled_as _)))
+    (ap (λ x. sign kind.Semicolon c.in_ok-semicolon.semicolon ∷ x) (append-nil (expr_spelled c.in_ok-condition.condition)) ∙
+    ap (λ x. x ++ expr_spelled c.in_ok-condition.condition) (sym (init_spelled_as _)))
 
 pub returns-clause-formed : goal.returns-clause-formed
 returns-clause-formed c = (bare_init_formed _ refl, c.in_ok-condition.ensures.formed)

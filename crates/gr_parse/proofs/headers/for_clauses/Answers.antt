@@ -15,7 +15,8 @@ pub returns-in-Err-clause-exact : goal.returns-in-Err-clause-exact
 returns-in-Err-clause-exact c = fails_rule last (fails_on c.in_ok-first.ensures.exact (fails_in (A Block ∷ []) c.in-Err.ensures.exact))
 
 pub returns-in-Ok-clause-exact : goal.returns-in-Ok-clause-exact
-returns-in-Ok-clause-exact c = leads_rule last (leads_on (leads_read (One (is kind.Semicolon) ∷ A ForPost ∷ A Block ∷ []) c.in_ok-first.ensures.exact) (leads_read (A Block ∷ []) c.in-Ok.ensures.exact))
+returns-in-Ok-clause-exact c = leads_rule last (leads_on (leads_read (One (is kind.Semicolon) ∷ A ForPost ∷ A Block ∷ []) c.in_ok-first.ensures.exact)
+    (leads_read (A Block ∷ []) c.in-Ok.ensures.exact))
 
 pub returns-in-Ok-clause-formed : goal.returns-in-Ok-clause-formed
 returns-in-Ok-clause-formed c = (c.in_ok-first.ensures.formed, c.in-Ok.ensures.formed)

@@ -24,17 +24,26 @@ returns-in_err-first-clause-exact c = exits _ _ _ _ c.in_err-first.field-0.0 c.f
     (fails_rule (later (sym c.at.ensures ∙ c.if-at.false) (later (sym c.at-2.ensures ∙ c.if-at-2.false) last)) (fails_first c.in_err-first.ensures.exact))
 
 pub returns-then-at-3-clause-exact : goal.returns-then-at-3-clause-exact
-returns-then-at-3-clause-exact c = leads_as (leads_rule (later (sym c.at.ensures ∙ c.if-at.false) (later (sym c.at-2.ensures ∙ c.if-at-2.false) last)) (leads_then c.in_ok-first.ensures.exact (leads_rule (first (sym c.at-3.ensures ∙ c.if-at-3.true)) leads_here))) (append-nil (expr_spelled c.in_ok-first.first) ∙ sym (while_spelled _))
+returns-then-at-3-clause-exact c = leads_as (leads_rule (later (sym c.at.ensures ∙ c.if-at.false) (later (sym c.at-2.ensures ∙ c.if-at-2.false) last))
+    (leads_then c.in_ok-first.ensures.exact (leads_rule (first (sym c.at-3.ensures ∙ c.if-at-3.true)) leads_here)))
+    (append-nil (expr_spelled c.in_ok-first.first) ∙ sym (while_spelled _))
 
 pub returns-in_err-init-clause-exact : goal.returns-in_err-init-clause-exact
 returns-in_err-init-clause-exact c = exits _ _ _ _ c.in_err-init.field-0.0 c.from_residual-in_err-init.result c.from_residual-in_err-init.ensures.1
-    (fails_rule (later (sym c.at.ensures ∙ c.if-at.false) (later (sym c.at-2.ensures ∙ c.if-at-2.false) last)) (fails_later c.in_ok-first.ensures.exact (fails_rule (later (sym c.at-3.ensures ∙ c.if-at-3.false) last) (fails_first c.in_err-init.ensures.exact))))
+    (fails_rule (later (sym c.at.ensures ∙ c.if-at.false) (later (sym c.at-2.ensures ∙ c.if-at-2.false) last))
+    (fails_later c.in_ok-first.ensures.exact (fails_rule (later (sym c.at-3.ensures ∙ c.if-at-3.false) last) (fails_first c.in_err-init.ensures.exact))))
 
 pub returns-in-Err-clause-exact : goal.returns-in-Err-clause-exact
-returns-in-Err-clause-exact c = fails_rule (later (sym c.at.ensures ∙ c.if-at.false) (later (sym c.at-2.ensures ∙ c.if-at-2.false) last)) (fails_leads (leads_continued (A ForRest ∷ []) (leads_next (leads_read (A ForAfter ∷ []) c.in_ok-first.ensures.exact) (later (sym c.at-3.ensures ∙ c.if-at-3.false) last)) c.in_ok-init.ensures.exact) c.in-Err.ensures.exact)
+returns-in-Err-clause-exact c = fails_rule (later (sym c.at.ensures ∙ c.if-at.false) (later (sym c.at-2.ensures ∙ c.if-at-2.false) last))
+    (fails_leads (leads_continued (A ForRest ∷ [])
+    (leads_next (leads_read (A ForAfter ∷ []) c.in_ok-first.ensures.exact) (later (sym c.at-3.ensures ∙ c.if-at-3.false) last)) c.in_ok-init.ensures.exact)
+    c.in-Err.ensures.exact)
 
 pub returns-in-Ok-clause-exact : goal.returns-in-Ok-clause-exact
-returns-in-Ok-clause-exact c = leads_as (leads_rule (later (sym c.at.ensures ∙ c.if-at.false) (later (sym c.at-2.ensures ∙ c.if-at-2.false) last)) (leads_on (leads_continued (A ForRest ∷ []) (leads_next (leads_read (A ForAfter ∷ []) c.in_ok-first.ensures.exact) (later (sym c.at-3.ensures ∙ c.if-at-3.false) last)) c.in_ok-init.ensures.exact) c.in-Ok.ensures.exact)) (sym (ap for_spelled c.header-whole.ensures ∙ clauses_spelled _ _ _ _ _))
+returns-in-Ok-clause-exact c = leads_as (leads_rule (later (sym c.at.ensures ∙ c.if-at.false) (later (sym c.at-2.ensures ∙ c.if-at-2.false) last))
+    (leads_on (leads_continued (A ForRest ∷ [])
+    (leads_next (leads_read (A ForAfter ∷ []) c.in_ok-first.ensures.exact) (later (sym c.at-3.ensures ∙ c.if-at-3.false) last)) c.in_ok-init.ensures.exact)
+    c.in-Ok.ensures.exact)) (sym (ap for_spelled c.header-whole.ensures ∙ clauses_spelled _ _ _ _ _))
 
 pub returns-then-at-clause-formed : goal.returns-then-at-clause-formed
 returns-then-at-clause-formed c = forever_formed

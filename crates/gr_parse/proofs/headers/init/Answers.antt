@@ -18,7 +18,8 @@ pub returns-in-Err-clause-exact : goal.returns-in-Err-clause-exact
 returns-in-Err-clause-exact c = fails_continued c.in_ok-statement.ensures.exact c.in-Err.ensures
 
 pub returns-in-Ok-clause-exact : goal.returns-in-Ok-clause-exact
-returns-in-Ok-clause-exact c = continued_on c.in_ok-statement.ensures.exact (continued (simple_spelled c.in_ok-statement.statement) c.in-Ok.ensures (sym (init_spelled_as _)))
+returns-in-Ok-clause-exact c = continued_on c.in_ok-statement.ensures.exact
+    (continued (simple_spelled c.in_ok-statement.statement) c.in-Ok.ensures (sym (init_spelled_as _)))
 
 pub returns-in-Ok-clause-formed : goal.returns-in-Ok-clause-formed
 returns-in-Ok-clause-formed c = init_formed _ _ refl c.in_ok-statement.ensures.formed

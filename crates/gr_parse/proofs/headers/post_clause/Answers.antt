@@ -9,14 +9,17 @@ returns-in_err-semicolon-clause-exact c = exits _ _ _ _ c.in_err-semicolon.field
     (fails_first c.in_err-semicolon.ensures)
 
 pub returns-then-not-begins_expression-clause-exact : goal.returns-then-not-begins_expression-clause-exact
-returns-then-not-begins_expression-clause-exact c = read_then c.in_ok-semicolon.ensures (read_rule (later (sym c.begins_expression.ensures ∙ c.if-not-begins_expression.true) last) read_end)
+returns-then-not-begins_expression-clause-exact c =
+    read_then c.in_ok-semicolon.ensures (read_rule (later (sym c.begins_expression.ensures ∙ c.if-not-begins_expression.true) last) read_end)
 
 pub returns-in_err-post-clause-exact : goal.returns-in_err-post-clause-exact
 returns-in_err-post-clause-exact c = exits _ _ _ _ c.in_err-post.field-0.0 c.from_residual-in_err-post.result c.from_residual-in_err-post.ensures.1
-    (fails_later c.in_ok-semicolon.ensures (fails_rule (first (sym c.begins_expression.ensures ∙ c.if-not-begins_expression.false)) c.in_err-post.ensures.exact))
+    (fails_later c.in_ok-semicolon.ensures (fails_rule (first (sym c.begins_expression.ensures ∙ c.if-not-begins_expression.false))
+    c.in_err-post.ensures.exact))
 
 pub returns-clause-exact : goal.returns-clause-exact
-returns-clause-exact c = read_then c.in_ok-semicolon.ensures (read_rule (first (sym c.begins_expression.ensures ∙ c.if-not-begins_expression.false)) c.in_ok-post.ensures.exact)
+returns-clause-exact c = read_then c.in_ok-semicolon.ensures
+    (read_rule (first (sym c.begins_expression.ensures ∙ c.if-not-begins_expression.false)) c.in_ok-post.ensures.exact)
 
 pub returns-then-not-begins_expression-clause-formed : goal.returns-then-not-begins_expression-clause-formed
 returns-then-not-begins_expression-clause-formed c = tt

@@ -13,7 +13,8 @@ pub returns-then-at-clause-exact : goal.returns-then-at-clause-exact
 returns-then-at-clause-exact c = read_rule (first (sym c.at.ensures ∙ c.if-at.true)) c.in_ok-only_values.ensures.exact
 
 pub returns-in_err-local_type-clause-exact : goal.returns-in_err-local_type-clause-exact
-returns-in_err-local_type-clause-exact c = exits _ _ _ _ c.in_err-local_type.field-0.0 c.from_residual-in_err-local_type.result c.from_residual-in_err-local_type.ensures.1
+returns-in_err-local_type-clause-exact c = exits _ _ _ _ c.in_err-local_type.field-0.0 c.from_residual-in_err-local_type.result
+    c.from_residual-in_err-local_type.ensures.1
     (fails_rule (later (sym c.at.ensures ∙ c.if-at.false) last) (fails_first c.in_err-local_type.ensures))
 
 pub returns-in_err-values-clause-exact : goal.returns-in_err-values-clause-exact

@@ -15,17 +15,24 @@ use Rattle.gr_parse.proofs.StatementSteps.{leads_none, leads_push, leads_more, l
 use Rattle.gr_parse.proofs.names.idents.Goals as goal
 
 pub idents-init : goal.idents-init
-idents-init c = record { leads = leads_none (item_spelled kind.Comma ident_spelled) _ c.new-idents.ensures.items; formed = listed_none _ _ _ c.new-idents.ensures.items }
+idents-init c = record {
+  leads = leads_none (item_spelled kind.Comma ident_spelled) _ c.new-idents.ensures.items;
+  formed =
+      listed_none _ _ _ c.new-idents.ensures.items;
+}
 
 pub idents-preserved : goal.idents-preserved
 idents-preserved c = record {
-  leads = leads_push (item_spelled kind.Comma ident_spelled) _ _ _ (leads_more (items_rest (One is_ident ∷ A MoreIdents ∷ [])) _ c.idents.invariant.leads c.idents-test.true)
-      (leads_item kind.Comma _ (One is_ident ∷ []) MoreIdents _ c.is_some-more.ensures (λ us e. first e) (λ us e. later e last) c.in_ok-value.ensures c.separator-separator.ensures) c.in_ok-push.ensures.items;
+  leads = leads_push (item_spelled kind.Comma ident_spelled) _ _ _
+      (leads_more (items_rest (One is_ident ∷ A MoreIdents ∷ [])) _ c.idents.invariant.leads c.idents-test.true)
+      (leads_item kind.Comma _ (One is_ident ∷ []) MoreIdents _ c.is_some-more.ensures (λ us e. first e) (λ us e. later e last) c.in_ok-value.ensures
+      c.separator-separator.ensures) c.in_ok-push.ensures.items;
   formed = listed_push _ _ _ _ _ _ _ c.idents.invariant.formed c.idents-test.true tt c.is_some-more.ensures c.in_ok-push.ensures.items;
 }
 
 pub returns-clause-exact : goal.returns-clause-exact
-returns-clause-exact c = read_as (read_items (items_rest (One is_ident ∷ A MoreIdents ∷ [])) _ refl c.idents.invariant.leads c.idents-test.false) (all_tokens_map (item_tokens kind.Comma ident_tokens) (item_view ident_view) _)
+returns-clause-exact c = read_as (read_items (items_rest (One is_ident ∷ A MoreIdents ∷ [])) _ refl c.idents.invariant.leads c.idents-test.false)
+    (all_tokens_map (item_tokens kind.Comma ident_tokens) (item_view ident_view) _)
 
 pub returns-clause-formed : goal.returns-clause-formed
 returns-clause-formed c = listed_list _ _ _ _ c.idents.invariant.formed c.idents-test.false

@@ -14,7 +14,8 @@ use Rattle.gr_parse.proofs.names.idents.Given as goal
 
 abbrev pub invariant-idents : goal.invariant-idents
 invariant-idents l = record {
-  leads : Leads (One is_ident ∷ A MoreIdents ∷ []) (items_rest (One is_ident ∷ A MoreIdents ∷ []) l.more) (all_tokens (item_spelled kind.Comma ident_spelled) l.idents.items) l.depth l.fn.tokens l.depth l.rest;
+  leads : Leads (One is_ident ∷ A MoreIdents ∷ []) (items_rest (One is_ident ∷ A MoreIdents ∷ []) l.more)
+      (all_tokens (item_spelled kind.Comma ident_spelled) l.idents.items) l.depth l.fn.tokens l.depth l.rest;
   formed : IsListed (λ x. Any x) (item_view ident_view) l.more l.idents.items;
 }
 

@@ -15,17 +15,24 @@ use Rattle.gr_parse.proofs.StatementSteps.{leads_none, leads_push, leads_more, l
 use Rattle.gr_parse.proofs.names.literals.Goals as goal
 
 pub literals-init : goal.literals-init
-literals-init c = record { leads = leads_none (item_spelled kind.Comma basic_spelled) _ c.new-literals.ensures.items; formed = listed_none _ _ _ c.new-literals.ensures.items }
+literals-init c = record {
+  leads = leads_none (item_spelled kind.Comma basic_spelled) _ c.new-literals.ensures.items;
+  formed =
+      listed_none _ _ _ c.new-literals.ensures.items;
+}
 
 pub literals-preserved : goal.literals-preserved
 literals-preserved c = record {
-  leads = leads_push (item_spelled kind.Comma basic_spelled) _ _ _ (leads_more (items_rest (One is_literal ∷ A MoreLiterals ∷ [])) _ c.literals.invariant.leads c.literals-test.true)
-      (leads_item kind.Comma _ (One is_literal ∷ []) MoreLiterals _ c.is_some-more.ensures (λ us e. first e) (λ us e. later e last) c.in_ok-value.ensures c.separator-separator.ensures) c.in_ok-push.ensures.items;
+  leads = leads_push (item_spelled kind.Comma basic_spelled) _ _ _
+      (leads_more (items_rest (One is_literal ∷ A MoreLiterals ∷ [])) _ c.literals.invariant.leads c.literals-test.true)
+      (leads_item kind.Comma _ (One is_literal ∷ []) MoreLiterals _ c.is_some-more.ensures (λ us e. first e) (λ us e. later e last) c.in_ok-value.ensures
+      c.separator-separator.ensures) c.in_ok-push.ensures.items;
   formed = listed_push _ _ _ _ _ _ _ c.literals.invariant.formed c.literals-test.true tt c.is_some-more.ensures c.in_ok-push.ensures.items;
 }
 
 pub returns-clause-exact : goal.returns-clause-exact
-returns-clause-exact c = read_as (read_items (items_rest (One is_literal ∷ A MoreLiterals ∷ [])) _ refl c.literals.invariant.leads c.literals-test.false) (all_tokens_map (item_tokens kind.Comma basic_tokens) (item_view basic_view) _)
+returns-clause-exact c = read_as (read_items (items_rest (One is_literal ∷ A MoreLiterals ∷ [])) _ refl c.literals.invariant.leads c.literals-test.false)
+    (all_tokens_map (item_tokens kind.Comma basic_tokens) (item_view basic_view) _)
 
 pub returns-clause-formed : goal.returns-clause-formed
 returns-clause-formed c = listed_list _ _ _ _ c.literals.invariant.formed c.literals-test.false

@@ -15,7 +15,8 @@ use Rattle.gr_parse.proofs.names.literals.Given as goal
 
 abbrev pub invariant-literals : goal.invariant-literals
 invariant-literals l = record {
-  leads : Leads (One is_literal ∷ A MoreLiterals ∷ []) (items_rest (One is_literal ∷ A MoreLiterals ∷ []) l.more) (all_tokens (item_spelled kind.Comma basic_spelled) l.literals.items) l.depth l.fn.tokens l.depth l.rest;
+  leads : Leads (One is_literal ∷ A MoreLiterals ∷ []) (items_rest (One is_literal ∷ A MoreLiterals ∷ []) l.more)
+      (all_tokens (item_spelled kind.Comma basic_spelled) l.literals.items) l.depth l.fn.tokens l.depth l.rest;
   formed : IsListed (λ x. Any x) (item_view basic_view) l.more l.literals.items;
 }
 

@@ -14,17 +14,24 @@ use Rattle.gr_parse.proofs.StatementSteps.{leads_none, leads_push, leads_more, l
 use Rattle.gr_parse.proofs.names.names.Goals as goal
 
 pub names-init : goal.names-init
-names-init c = record { leads = leads_none (item_spelled kind.Comma name_tokens) _ c.new-names.ensures.items; formed = listed_none _ _ _ c.new-names.ensures.items }
+names-init c = record {
+  leads = leads_none (item_spelled kind.Comma name_tokens) _ c.new-names.ensures.items;
+  formed =
+      listed_none _ _ _ c.new-names.ensures.items;
+}
 
 pub names-preserved : goal.names-preserved
 names-preserved c = record {
-  leads = leads_push (item_spelled kind.Comma name_tokens) _ _ _ (leads_more (items_rest (One (is kind.Name) ∷ A MoreNames ∷ [])) _ c.names.invariant.leads c.names-test.true)
-      (leads_item kind.Comma _ (One (is kind.Name) ∷ []) MoreNames _ c.is_some-more.ensures (λ us e. first e) (λ us e. later e last) c.in_ok-value.ensures c.separator-separator.ensures) c.in_ok-push.ensures.items;
+  leads = leads_push (item_spelled kind.Comma name_tokens) _ _ _
+      (leads_more (items_rest (One (is kind.Name) ∷ A MoreNames ∷ [])) _ c.names.invariant.leads c.names-test.true)
+      (leads_item kind.Comma _ (One (is kind.Name) ∷ []) MoreNames _ c.is_some-more.ensures (λ us e. first e) (λ us e. later e last) c.in_ok-value.ensures
+      c.separator-separator.ensures) c.in_ok-push.ensures.items;
   formed = listed_push _ _ _ _ _ _ _ c.names.invariant.formed c.names-test.true tt c.is_some-more.ensures c.in_ok-push.ensures.items;
 }
 
 pub returns-clause-exact : goal.returns-clause-exact
-returns-clause-exact c = read_as (read_items (items_rest (One (is kind.Name) ∷ A MoreNames ∷ [])) _ refl c.names.invariant.leads c.names-test.false) (all_tokens_map (item_tokens kind.Comma name_tokens) (item_view same_place) _)
+returns-clause-exact c = read_as (read_items (items_rest (One (is kind.Name) ∷ A MoreNames ∷ [])) _ refl c.names.invariant.leads c.names-test.false)
+    (all_tokens_map (item_tokens kind.Comma name_tokens) (item_view same_place) _)
 
 pub returns-clause-formed : goal.returns-clause-formed
 returns-clause-formed c = listed_list _ _ _ _ c.names.invariant.formed c.names-test.false

@@ -15,7 +15,8 @@ use Rattle.gr_parse.proofs.names.names.Given as goal
 
 abbrev pub invariant-names : goal.invariant-names
 invariant-names l = record {
-  leads : Leads (One (is kind.Name) ∷ A MoreNames ∷ []) (items_rest (One (is kind.Name) ∷ A MoreNames ∷ []) l.more) (all_tokens (item_spelled kind.Comma name_tokens) l.names.items) l.depth l.fn.tokens l.depth l.rest;
+  leads : Leads (One (is kind.Name) ∷ A MoreNames ∷ []) (items_rest (One (is kind.Name) ∷ A MoreNames ∷ []) l.more)
+      (all_tokens (item_spelled kind.Comma name_tokens) l.names.items) l.depth l.fn.tokens l.depth l.rest;
   formed : IsListed (λ x. Any x) (item_view same_place) l.more l.names.items;
 }
 

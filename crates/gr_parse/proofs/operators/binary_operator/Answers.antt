@@ -11,7 +11,8 @@ returns-in_default c = rw c.misplaced.ensures (refuses_one is_binary c.args.dept
 
 pub returns-in_default-binary_op : goal.returns-in_default-binary_op
 returns-in_default-binary_op c = rw c.misplaced-in_default-binary_op.ensures (refuses_one is_binary c.args.depth c.args.tokens.now
-    (at_token is_binary false c.in-Some.first c.args.tokens.now c.in-Some.rest.now c.in-Some.ensures (binary_none c.in-Some.first.kind (sym c.in_default-binary_op.ensures))))
+    (at_token is_binary false c.in-Some.first c.args.tokens.now c.in-Some.rest.now c.in-Some.ensures
+    (binary_none c.in-Some.first.kind (sym c.in_default-binary_op.ensures))))
 
 pub returns : goal.returns
 returns c = read_one is_binary (binary_kind c.in-Some-binary_op.op) c.in-Some.first c.args.depth c.args.tokens.now c.in-Some.rest.now c.in-Some.ensures

@@ -7,11 +7,13 @@ use Rattle.gr_parse.proofs.Grouping.{leaf_grouped}
 use Rattle.gr_parse.proofs.operators.leaf.Goals as goal
 
 pub returns-in_default-clause-exact : goal.returns-in_default-clause-exact
-returns-in_default-clause-exact c = rw c.misplaced.ensures (refuses_one is_leaf c.args.depth c.args.tokens.now (at_end is_leaf c.args.tokens.now c.in_default.ensures))
+returns-in_default-clause-exact c = rw c.misplaced.ensures
+    (refuses_one is_leaf c.args.depth c.args.tokens.now (at_end is_leaf c.args.tokens.now c.in_default.ensures))
 
 pub returns-in_default-leaf_of-clause-exact : goal.returns-in_default-leaf_of-clause-exact
 returns-in_default-leaf_of-clause-exact c = rw c.misplaced-in_default-leaf_of.ensures (refuses_one is_leaf c.args.depth c.args.tokens.now
-    (at_token is_leaf false c.in-Some.first c.args.tokens.now c.in-Some.rest.now c.in-Some.ensures (leaf_none c.in-Some.first.place c.in-Some.first.kind (sym c.in_default-leaf_of.ensures))))
+    (at_token is_leaf false c.in-Some.first c.args.tokens.now c.in-Some.rest.now c.in-Some.ensures
+    (leaf_none c.in-Some.first.place c.in-Some.first.kind (sym c.in_default-leaf_of.ensures))))
 
 pub returns-clause-exact : goal.returns-clause-exact
 returns-clause-exact c = read_as (read_one is_leaf c.in-Some.first.kind c.in-Some.first c.args.depth c.args.tokens.now c.in-Some.rest.now c.in-Some.ensures

@@ -7,11 +7,13 @@ use Rattle.gr_parse.proofs.MachineSteps.{refuses_opening, opens_too_deep, at_end
 use Rattle.gr_parse.proofs.operators.open_prefix.Goals as goal
 
 pub returns-in_default : goal.returns-in_default
-returns-in_default c = rw c.misplaced.ensures (refuses_opening is_prefix c.args.depth c.args.tokens.now (at_end is_prefix c.args.tokens.now c.in_default.ensures))
+returns-in_default c = rw c.misplaced.ensures (refuses_opening is_prefix c.args.depth c.args.tokens.now
+    (at_end is_prefix c.args.tokens.now c.in_default.ensures))
 
 pub returns-in_default-prefix_op : goal.returns-in_default-prefix_op
 returns-in_default-prefix_op c = rw c.misplaced-in_default-prefix_op.ensures (refuses_opening is_prefix c.args.depth c.args.tokens.now
-    (at_token is_prefix false c.in-Some.first c.args.tokens.now c.in-Some.rest.now c.in-Some.ensures (prefix_none c.in-Some.first.kind (sym c.in_default-prefix_op.ensures))))
+    (at_token is_prefix false c.in-Some.first c.args.tokens.now c.in-Some.rest.now c.in-Some.ensures
+    (prefix_none c.in-Some.first.kind (sym c.in_default-prefix_op.ensures))))
 
 pub returns-then-depth-ge-LIMIT : goal.returns-then-depth-ge-LIMIT
 returns-then-depth-ge-LIMIT c = opens_too_deep is_prefix c.in-Some.first c.args.depth c.args.tokens.now c.in-Some.rest.now c.in-Some.ensures

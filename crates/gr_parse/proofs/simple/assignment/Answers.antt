@@ -19,11 +19,13 @@ returns-in_err-right-clause-exact c = exits _ _ _ _ c.in_err-right.field-0.0 c.f
 
 pub returns-in-Assign-clause-exact : goal.returns-in-Assign-clause-exact
 returns-in-Assign-clause-exact c = continued (exprs_spelled c.args.left.items) (read_then c.in_ok-op.ensures.exact c.in_ok-right.ensures.exact)
-    (ap (λ k. (exprs_spelled c.args.left.items) ++ (sign (set_kind k) c.in_ok-op.at ∷ exprs_spelled c.in_ok-right.right.items)) c.in-Assign.is ∙ sym (assign_spelled _ _ _))
+    (ap (λ k. (exprs_spelled c.args.left.items) ++ (sign (set_kind k) c.in_ok-op.at ∷ exprs_spelled c.in_ok-right.right.items)) c.in-Assign.is ∙
+    sym (assign_spelled _ _ _))
 
 pub returns-in-Define-clause-exact : goal.returns-in-Define-clause-exact
 returns-in-Define-clause-exact c = continued (exprs_spelled c.args.left.items) (read_then c.in_ok-op.ensures.exact c.in_ok-right.ensures.exact)
-    (ap (λ k. (exprs_spelled c.args.left.items) ++ (sign (set_kind k) c.in_ok-op.at ∷ exprs_spelled c.in_ok-right.right.items)) c.in-Define.is ∙ sym (define_spelled _ _ _))
+    (ap (λ k. (exprs_spelled c.args.left.items) ++ (sign (set_kind k) c.in_ok-op.at ∷ exprs_spelled c.in_ok-right.right.items)) c.in-Define.is ∙
+    sym (define_spelled _ _ _))
 
 pub returns-in-Assign-clause-formed : goal.returns-in-Assign-clause-formed
 returns-in-Assign-clause-formed c = assign_formed c.args.setting _ _ _ c.requires c.in_ok-right.ensures.formed

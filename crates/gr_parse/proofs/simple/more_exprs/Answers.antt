@@ -17,16 +17,23 @@ exprs-init c = record { leads = from_begun _; formed = c.requires }
 pub exprs-preserved : goal.exprs-preserved
 exprs-preserved c = record {
   formed = listed_push _ _ _ _ _ _ _ c.exprs.invariant.formed c.exprs-test.true c.in_ok-value.ensures.formed c.is_some-more.ensures c.in_ok-push.ensures.items;
-  leads = from_push (from_more (items_rest (A (Expression (in_head (setting_of c.args.setting))) ∷ A (MoreExpressions (in_head (setting_of c.args.setting))) ∷ [])) _ c.exprs.invariant.leads c.exprs-test.true)
-      (leads_item kind.Comma _ (A (Expression (in_head (setting_of c.args.setting))) ∷ []) (MoreExpressions (in_head (setting_of c.args.setting))) _ c.is_some-more.ensures (λ us e. first e) (λ us e. later e last) c.in_ok-value.ensures.exact c.separator-comma.ensures) (exprs_push _ _ _ c.in_ok-push.ensures.items);
+  leads = from_push (from_more (items_rest (A (Expression (in_head (setting_of c.args.setting))) ∷ A (MoreExpressions (in_head (setting_of c.args.setting)))
+      ∷ [])) _ c.exprs.invariant.leads c.exprs-test.true)
+      (leads_item kind.Comma _ (A (Expression (in_head (setting_of c.args.setting))) ∷ []) (MoreExpressions (in_head (setting_of c.args.setting))) _
+      c.is_some-more.ensures (λ us e. first e) (λ us e. later e last) c.in_ok-value.ensures.exact c.separator-comma.ensures)
+      (exprs_push _ _ _ c.in_ok-push.ensures.items);
 }
 
 pub returns-in_err-value-clause-exact : goal.returns-in_err-value-clause-exact
 returns-in_err-value-clause-exact c = exits _ _ _ _ c.in_err-value.field-0.0 c.from_residual.result c.from_residual.ensures.1
-    (fails_rule last (fails_leads (from_more (items_rest (A (Expression (in_head (setting_of c.args.setting))) ∷ A (MoreExpressions (in_head (setting_of c.args.setting))) ∷ [])) _ c.exprs.invariant.leads c.exprs-test.true).leads (fails_first c.in_err-value.ensures.exact)))
+    (fails_rule last (fails_leads (from_more (items_rest
+    (A (Expression (in_head (setting_of c.args.setting))) ∷ A (MoreExpressions (in_head (setting_of c.args.setting))) ∷ [])) _ c.exprs.invariant.leads
+    c.exprs-test.true).leads (fails_first c.in_err-value.ensures.exact)))
 
 pub returns-clause-exact : goal.returns-clause-exact
-returns-clause-exact c = continued_rule last (continued_items (items_rest (A (Expression (in_head (setting_of c.args.setting))) ∷ A (MoreExpressions (in_head (setting_of c.args.setting))) ∷ [])) _ refl c.exprs.invariant.leads c.exprs-test.false)
+returns-clause-exact c = continued_rule last (continued_items
+    (items_rest (A (Expression (in_head (setting_of c.args.setting))) ∷ A (MoreExpressions (in_head (setting_of c.args.setting))) ∷ [])) _ refl
+    c.exprs.invariant.leads c.exprs-test.false)
 
 pub returns-clause-formed : goal.returns-clause-formed
 returns-clause-formed c = listed_list _ _ _ _ c.exprs.invariant.formed c.exprs-test.false

@@ -12,8 +12,10 @@ use Rattle.gr_parse.proofs.simple.more_exprs.Given as goal
 
 abbrev pub invariant-exprs : goal.invariant-exprs
 invariant-exprs l = record {
-  leads : LeadsFrom (exprs_spelled l.fn.begun.items) (A (Expression (in_head (setting_of l.setting))) ∷ A (MoreExpressions (in_head (setting_of l.setting))) ∷ [])
-      (items_rest (A (Expression (in_head (setting_of l.setting))) ∷ A (MoreExpressions (in_head (setting_of l.setting))) ∷ []) l.more) (exprs_spelled l.exprs.items) l.depth l.fn.tokens l.depth l.rest;
+  leads : LeadsFrom (exprs_spelled l.fn.begun.items)
+      (A (Expression (in_head (setting_of l.setting))) ∷ A (MoreExpressions (in_head (setting_of l.setting))) ∷ [])
+      (items_rest (A (Expression (in_head (setting_of l.setting))) ∷ A (MoreExpressions (in_head (setting_of l.setting))) ∷ []) l.more)
+      (exprs_spelled l.exprs.items) l.depth l.fn.tokens l.depth l.rest;
   formed : IsListed (IsExprIn (in_head (setting_of l.setting))) expr_item_view l.more l.exprs.items;
 }
 

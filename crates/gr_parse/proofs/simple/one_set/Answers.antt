@@ -9,7 +9,8 @@ use Rattle.gr_parse.proofs.FormedStatements.{single_list}
 use Rattle.gr_parse.proofs.simple.one_set.Goals as goal
 
 pub returns-clause-exact : goal.returns-clause-exact
-returns-clause-exact c = continues_then [] (One (sets (setting_of c.args.setting)) ∷ A (Expressions (in_head (setting_of c.args.setting))) ∷ []) _ _ _ _ _ _ _ c.assignment.result (continued (expr_spelled c.args.first) read_end (sym c.in_ok-single.ensures.spelled)) c.assignment.ensures.exact
+returns-clause-exact c = continues_then [] (One (sets (setting_of c.args.setting)) ∷ A (Expressions (in_head (setting_of c.args.setting))) ∷ []) _ _ _ _ _ _
+    _ c.assignment.result (continued (expr_spelled c.args.first) read_end (sym c.in_ok-single.ensures.spelled)) c.assignment.ensures.exact
 
 pub assignment-requires : goal.assignment-requires
 assignment-requires c = single_list _ _ _ c.in_ok-single.ensures.alone c.requires refl

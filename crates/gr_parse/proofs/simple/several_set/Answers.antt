@@ -18,8 +18,10 @@ returns-in_err-left-clause-exact c = exits _ _ _ _ c.in_err-left.field-0.0 c.fro
     (fails_later c.in_ok-comma.ensures (fails_first c.in_err-left.ensures.exact))
 
 pub returns-clause-exact : goal.returns-clause-exact
-returns-clause-exact c = continues_then (One (is kind.Comma) ∷ A (Expressions (in_head (setting_of c.args.setting))) ∷ []) (One (sets (setting_of c.args.setting)) ∷ A (Expressions (in_head (setting_of c.args.setting))) ∷ []) _ _ _ _ _ _ _ c.assignment.result
-    (continued_on (continued (expr_spelled c.args.first) c.in_ok-comma.ensures (sym c.in_ok-begun.ensures.spelled)) c.in_ok-left.ensures.exact) c.assignment.ensures.exact
+returns-clause-exact c = continues_then (One (is kind.Comma) ∷ A (Expressions (in_head (setting_of c.args.setting))) ∷ [])
+    (One (sets (setting_of c.args.setting)) ∷ A (Expressions (in_head (setting_of c.args.setting))) ∷ []) _ _ _ _ _ _ _ c.assignment.result
+    (continued_on (continued (expr_spelled c.args.first) c.in_ok-comma.ensures (sym c.in_ok-begun.ensures.spelled)) c.in_ok-left.ensures.exact)
+    c.assignment.ensures.exact
 
 pub more_exprs-requires : goal.more_exprs-requires
 more_exprs-requires c = begun_list _ _ _ c.in_ok-begun.ensures.alone c.requires refl

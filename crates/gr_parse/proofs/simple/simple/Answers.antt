@@ -11,7 +11,8 @@ returns-in_err-first-clause-exact c = exits _ _ _ _ c.in_err-first.field-0.0 c.f
     (fails_first c.in_err-first.ensures.exact)
 
 pub returns-clause-exact : goal.returns-clause-exact
-returns-clause-exact c = then_continues (A (Expression (in_head (setting_of c.args.setting))) ∷ []) (A (SimpleRest (setting_of c.args.setting)) ∷ []) _ _ _ _ _ _ c.simple_rest.result c.in_ok-first.ensures.exact c.simple_rest.ensures.exact
+returns-clause-exact c = then_continues (A (Expression (in_head (setting_of c.args.setting))) ∷ []) (A (SimpleRest (setting_of c.args.setting)) ∷ []) _ _ _
+    _ _ _ c.simple_rest.result c.in_ok-first.ensures.exact c.simple_rest.ensures.exact
 
 pub simple_rest-requires : goal.simple_rest-requires
 simple_rest-requires c = c.in_ok-first.ensures.formed

@@ -13,23 +13,34 @@ use Rattle.std.proofs.Common.{append-nil}
 use Rattle.gr_parse.proofs.simple.simple_rest.Goals as goal
 
 pub returns-then-at_step-clause-exact : goal.returns-then-at_step-clause-exact
-returns-then-at_step-clause-exact c = continues_rule _ (One is_step ∷ []) _ _ _ _ _ c.stepped.result (first (sym c.at_step.ensures ∙ c.if-at_step.true)) c.stepped.ensures.exact
+returns-then-at_step-clause-exact c = continues_rule _ (One is_step ∷ []) _ _ _ _ _ c.stepped.result (first (sym c.at_step.ensures ∙ c.if-at_step.true))
+    c.stepped.ensures.exact
 
 pub stepped-requires : goal.stepped-requires
 stepped-requires c = c.requires
 
 pub returns-then-at_update-clause-exact : goal.returns-then-at_update-clause-exact
-returns-then-at_update-clause-exact c = continues_rule _ (One is_update ∷ A (Expression (in_head (setting_of c.args.setting))) ∷ []) _ _ _ _ _ c.updated.result (later (sym c.at_step.ensures ∙ c.if-at_step.false) (first (sym c.at_update.ensures ∙ c.if-at_update.true))) c.updated.ensures.exact
+returns-then-at_update-clause-exact c = continues_rule _ (One is_update ∷ A (Expression (in_head (setting_of c.args.setting))) ∷ []) _ _ _ _ _
+    c.updated.result (later (sym c.at_step.ensures ∙ c.if-at_step.false) (first (sym c.at_update.ensures ∙ c.if-at_update.true))) c.updated.ensures.exact
 
 pub returns-then-at_set-clause-exact : goal.returns-then-at_set-clause-exact
-returns-then-at_set-clause-exact c = continues_rule _ (One (sets (setting_of c.args.setting)) ∷ A (Expressions (in_head (setting_of c.args.setting))) ∷ []) _ _ _ _ _ c.one_set.result (later (sym c.at_step.ensures ∙ c.if-at_step.false) (later (sym c.at_update.ensures ∙ c.if-at_update.false) (first (sym c.at_set.ensures ∙ c.if-at_set.true)))) c.one_set.ensures.exact
+returns-then-at_set-clause-exact c = continues_rule _ (One (sets (setting_of c.args.setting)) ∷ A (Expressions (in_head (setting_of c.args.setting))) ∷ [])
+    _ _ _ _ _ c.one_set.result (later (sym c.at_step.ensures ∙ c.if-at_step.false)
+    (later (sym c.at_update.ensures ∙ c.if-at_update.false) (first (sym c.at_set.ensures ∙ c.if-at_set.true)))) c.one_set.ensures.exact
 
 pub returns-then-at-clause-exact : goal.returns-then-at-clause-exact
-returns-then-at-clause-exact c = continues_rule _ (One (is kind.Comma) ∷ A (Expressions (in_head (setting_of c.args.setting))) ∷ One (sets (setting_of c.args.setting)) ∷ A (Expressions (in_head (setting_of c.args.setting))) ∷ []) _ _ _ _ _ c.several_set.result
-    (later (sym c.at_step.ensures ∙ c.if-at_step.false) (later (sym c.at_update.ensures ∙ c.if-at_update.false) (later (sym c.at_set.ensures ∙ c.if-at_set.false) (first (sym c.at.ensures ∙ c.if-at.true))))) c.several_set.ensures.exact
+returns-then-at-clause-exact c = continues_rule _ (One (is kind.Comma) ∷ A (Expressions (in_head (setting_of c.args.setting))) ∷ One
+    (sets (setting_of c.args.setting)) ∷ A (Expressions (in_head (setting_of c.args.setting))) ∷ []) _ _ _ _ _ c.several_set.result
+    (later (sym c.at_step.ensures ∙ c.if-at_step.false)
+    (later (sym c.at_update.ensures ∙ c.if-at_update.false)
+    (later (sym c.at_set.ensures ∙ c.if-at_set.false) (first (sym c.at.ensures ∙ c.if-at.true))))) c.several_set.ensures.exact
 
 pub returns-clause-exact : goal.returns-clause-exact
-returns-clause-exact c = continued (expr_spelled c.args.first) (read_rule (later (sym c.at_step.ensures ∙ c.if-at_step.false) (later (sym c.at_update.ensures ∙ c.if-at_update.false) (later (sym c.at_set.ensures ∙ c.if-at_set.false) (later (sym c.at.ensures ∙ c.if-at.false) last)))) read_end) (append-nil (expr_spelled c.args.first) ∙ sym (alone_spelled _))
+returns-clause-exact c = continued (expr_spelled c.args.first)
+    (read_rule (later (sym c.at_step.ensures ∙ c.if-at_step.false)
+    (later (sym c.at_update.ensures ∙ c.if-at_update.false)
+    (later (sym c.at_set.ensures ∙ c.if-at_set.false) (later (sym c.at.ensures ∙ c.if-at.false) last)))) read_end)
+    (append-nil (expr_spelled c.args.first) ∙ sym (alone_spelled _))
 
 pub updated-requires : goal.updated-requires
 updated-requires c = c.requires

@@ -30,7 +30,8 @@ decreases-if_stmt l = 8 * length l.tokens.now + 3
 
 abbrev pub invariant-block-statements : goal.invariant-block-statements
 invariant-block-statements l = record {
-  leads : Leads (A Statement ∷ A MoreStatements ∷ []) (items_rest (A Statement ∷ A MoreStatements ∷ []) l.more) (all_tokens block_item_spelled l.statements.items) l.inside l.initial.rest l.inside l.rest;
+  leads : Leads (A Statement ∷ A MoreStatements ∷ []) (items_rest (A Statement ∷ A MoreStatements ∷ []) l.more)
+      (all_tokens block_item_spelled l.statements.items) l.inside l.initial.rest l.inside l.rest;
   shorter : length l.rest < length l.fn.tokens;
   formed : IsListed IsStatement block_item_view l.more l.statements.items;
 }

@@ -10,10 +10,12 @@ use Rattle.gr_parse.proofs.SpelledSimple.{exprs_none}
 use Rattle.gr_parse.proofs.statements.return_values.Goals as goal
 
 pub returns-then-not-begins_expression-clause-exact : goal.returns-then-not-begins_expression-clause-exact
-returns-then-not-begins_expression-clause-exact c = read_as (read_rule (later (sym c.begins_expression.ensures ∙ c.if-not-begins_expression.true) last) read_end) (sym (exprs_none _ c.new.ensures.items))
+returns-then-not-begins_expression-clause-exact c =
+    read_as (read_rule (later (sym c.begins_expression.ensures ∙ c.if-not-begins_expression.true) last) read_end) (sym (exprs_none _ c.new.ensures.items))
 
 pub returns-clause-exact : goal.returns-clause-exact
-returns-clause-exact c = tail_rule ReturnValues (A (Expressions false) ∷ []) _ _ _ _ c.exprs.result (first (sym c.begins_expression.ensures ∙ c.if-not-begins_expression.false)) c.exprs.ensures.exact
+returns-clause-exact c = tail_rule ReturnValues (A (Expressions false) ∷ []) _ _ _ _ c.exprs.result
+    (first (sym c.begins_expression.ensures ∙ c.if-not-begins_expression.false)) c.exprs.ensures.exact
 
 pub returns-then-not-begins_expression-clause-formed : goal.returns-then-not-begins_expression-clause-formed
 returns-then-not-begins_expression-clause-formed c = inl (ap exprs_view c.new.ensures.items)

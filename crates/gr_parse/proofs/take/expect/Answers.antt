@@ -17,7 +17,8 @@ returns-in-Some c =
 pub returns-in_default : goal.returns-in_default
 returns-in_default c =
     let refusal : at (is c.args.kind) c.args.tokens.now ≡ false = elim c.in_default.branch [
-      | in_default-via-in-Some+else-is_kind w ↦ at_token (is c.args.kind) false w.in-Some.first c.args.tokens.now w.in-Some.rest.now w.in-Some.ensures (sym w.is_kind.ensures ∙ w.if-is_kind.false)
+      | in_default-via-in-Some+else-is_kind w ↦ at_token (is c.args.kind) false w.in-Some.first c.args.tokens.now w.in-Some.rest.now w.in-Some.ensures
+          (sym w.is_kind.ensures ∙ w.if-is_kind.false)
       | in_default-via-in_default w ↦ at_end (is c.args.kind) c.args.tokens.now w.in_default.ensures
     ] in
     rw c.misplaced.ensures (refuses_one (is c.args.kind) c.args.depth c.args.tokens.now refusal)

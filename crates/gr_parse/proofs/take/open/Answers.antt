@@ -5,13 +5,17 @@ use Rattle.gr_parse.proofs.MachineSteps.{passes_opening, token_text, refuses_ope
 use Rattle.gr_parse.proofs.take.open.Goals as goal
 
 pub returns-in_default : goal.returns-in_default
-returns-in_default c = rw c.misplaced.ensures (refuses_opening (is c.args.kind) c.args.depth c.args.tokens.now (at_end (is c.args.kind) c.args.tokens.now c.in_default.ensures))
+returns-in_default c = rw c.misplaced.ensures (refuses_opening (is c.args.kind) c.args.depth c.args.tokens.now
+    (at_end (is c.args.kind) c.args.tokens.now c.in_default.ensures))
 
 pub returns-then-not-is_kind : goal.returns-then-not-is_kind
-returns-then-not-is_kind c = rw c.misplaced-then-not-is_kind.ensures (refuses_opening (is c.args.kind) c.args.depth c.args.tokens.now (at_token (is c.args.kind) false c.in-Some.first c.args.tokens.now c.in-Some.rest.now c.in-Some.ensures (sym c.is_kind.ensures ∙ c.if-not-is_kind.true)))
+returns-then-not-is_kind c = rw c.misplaced-then-not-is_kind.ensures
+    (refuses_opening (is c.args.kind) c.args.depth c.args.tokens.now
+    (at_token (is c.args.kind) false c.in-Some.first c.args.tokens.now c.in-Some.rest.now c.in-Some.ensures (sym c.is_kind.ensures ∙ c.if-not-is_kind.true)))
 
 pub returns-then-depth-ge-LIMIT : goal.returns-then-depth-ge-LIMIT
-returns-then-depth-ge-LIMIT c = opens_too_deep (is c.args.kind) c.in-Some.first c.args.depth c.args.tokens.now c.in-Some.rest.now c.in-Some.ensures (sym c.is_kind.ensures ∙ c.if-not-is_kind.false) c.if-depth-ge-LIMIT.true
+returns-then-depth-ge-LIMIT c = opens_too_deep (is c.args.kind) c.in-Some.first c.args.depth c.args.tokens.now c.in-Some.rest.now c.in-Some.ensures
+    (sym c.is_kind.ensures ∙ c.if-not-is_kind.false) c.if-depth-ge-LIMIT.true
 
 pub returns : goal.returns
 returns c =

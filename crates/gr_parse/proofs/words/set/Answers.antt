@@ -9,10 +9,12 @@ pub returns-in_default-clause-exact : goal.returns-in_default-clause-exact
 returns-in_default-clause-exact c = end_refused (sets (setting_of c.args.setting)) _ c.in_default.ensures c.misplaced.ensures
 
 pub returns-in_default-set_op-clause-exact : goal.returns-in_default-set_op-clause-exact
-returns-in_default-set_op-clause-exact c = token_refused (sets (setting_of c.args.setting)) _ c.in-Some.first c.in-Some.ensures (set_refused _ _ (sym c.set_op.ensures ∙ c.in_default-set_op.is)) c.misplaced-in_default-set_op.ensures
+returns-in_default-set_op-clause-exact c = token_refused (sets (setting_of c.args.setting)) _ c.in-Some.first c.in-Some.ensures
+    (set_refused _ _ (sym c.set_op.ensures ∙ c.in_default-set_op.is)) c.misplaced-in_default-set_op.ensures
 
 pub returns-clause-exact : goal.returns-clause-exact
-returns-clause-exact c = read_class (sets (setting_of c.args.setting)) _ c.in-Some.first c.in-Some.ensures (set_class _ _ _ (sym c.set_op.ensures ∙ c.in-Some-set_op.is)).0 (set_class _ _ _ (sym c.set_op.ensures ∙ c.in-Some-set_op.is)).1
+returns-clause-exact c = read_class (sets (setting_of c.args.setting)) _ c.in-Some.first c.in-Some.ensures
+    (set_class _ _ _ (sym c.set_op.ensures ∙ c.in-Some-set_op.is)).0 (set_class _ _ _ (sym c.set_op.ensures ∙ c.in-Some-set_op.is)).1
 
 pub returns-clause-allowed : goal.returns-clause-allowed
 returns-clause-allowed c = set_allowed c.args.setting _ _ (sym c.set_op.ensures ∙ c.in-Some-set_op.is)

@@ -8,7 +8,9 @@ pub returns-in_default : goal.returns-in_default
 returns-in_default c = end_refused is_step _ c.in_default.ensures c.misplaced.ensures
 
 pub returns-in_default-step_op : goal.returns-in_default-step_op
-returns-in_default-step_op c = token_refused is_step _ c.in-Some.first c.in-Some.ensures (step_refused _ (sym c.step_op.ensures ∙ c.in_default-step_op.is)) c.misplaced-in_default-step_op.ensures
+returns-in_default-step_op c = token_refused is_step _ c.in-Some.first c.in-Some.ensures (step_refused _ (sym c.step_op.ensures ∙ c.in_default-step_op.is))
+    c.misplaced-in_default-step_op.ensures
 
 pub returns : goal.returns
-returns c = read_class is_step _ c.in-Some.first c.in-Some.ensures (step_class _ _ (sym c.step_op.ensures ∙ c.in-Some-step_op.is)).0 (step_class _ _ (sym c.step_op.ensures ∙ c.in-Some-step_op.is)).1
+returns c = read_class is_step _ c.in-Some.first c.in-Some.ensures (step_class _ _ (sym c.step_op.ensures ∙ c.in-Some-step_op.is)).0
+    (step_class _ _ (sym c.step_op.ensures ∙ c.in-Some-step_op.is)).1

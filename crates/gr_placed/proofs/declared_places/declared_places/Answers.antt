@@ -11,7 +11,8 @@ loop-number-init c = no_packages c.args.packages.now.graph.now (known_in c.args.
 
 pub loop-number-preserved : goal.loop-number-preserved
 loop-number-preserved c =
-    more_packages c.args.packages.now.graph.now (known_in c.args.packages.now.found.now) c.loop-number.number c.loop-number.all.items c.push.new.self.items c.in_ok-places_at.field-0
+    more_packages c.args.packages.now.graph.now (known_in c.args.packages.now.found.now) c.loop-number.number c.loop-number.all.items c.push.new.self.items
+    c.in_ok-places_at.field-0
     c.in_ok-places_at.ensures c.in_ok-push.ensures.items c.loop-number.invariant
 
 pub returns : goal.returns

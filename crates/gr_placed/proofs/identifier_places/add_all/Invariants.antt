@@ -6,4 +6,5 @@ use Rattle.gr_placed.specs.Identified.{BeginsInNumber}
 use Rattle.gr_placed.proofs.identifier_places.add_all.Given as goal
 
 abbrev pub invariant-loop-number : goal.invariant-loop-number
-invariant-loop-number l = AddsAll l.initial.places.items l.places.items (BelowAll (BeginsInNumber l.packages.graph.now (known_in l.packages.found.now)) l.number)
+invariant-loop-number l = AddsAll l.initial.places.items l.places.items
+    (BelowAll (BeginsInNumber l.packages.graph.now (known_in l.packages.found.now)) l.number)

@@ -6,5 +6,6 @@ use Rattle.gr_placed.proofs.identifier_places.identifier_places.Goals as goal
 
 pub returns : goal.returns
 returns c =
-    all_added c.new-places.result.items c.add_all.new.places.items (IsIdentifierAt c.args.packages.now.graph.now (known_in c.args.packages.now.found.now)) c.new-places.ensures.items
+    all_added c.new-places.result.items c.add_all.new.places.items (IsIdentifierAt c.args.packages.now.graph.now (known_in c.args.packages.now.found.now))
+    c.new-places.ensures.items
     c.in_ok-add_all.ensures

@@ -9,4 +9,5 @@ returns-in-Err-clause-planned c =
     let snapshot = c.args.snapshot.now in
     let asked = c.args.asked.now in
     let found = c.args.found.now.findings in
-    finds_refused snapshot asked.path.now asked.offset asked.name.now (list_of_sound snapshot.files found c.requires.sound) (known_in found) c.requires.sound.findings.right c.in-Err.refusal c.in-Err.ensures
+    finds_refused snapshot asked.path.now asked.offset asked.name.now (list_of_sound snapshot.files found c.requires.sound) (known_in found)
+    c.requires.sound.findings.right c.in-Err.refusal c.in-Err.ensures

@@ -10,7 +10,8 @@ returns-in-Err-clause-planned c =
     let snapshot = c.args.snapshot.now in
     let asked = c.args.asked.now in
     let found = c.args.found.now.findings in
-    name_refused snapshot asked.path.now asked.offset asked.name.now (list_of_sound snapshot.files found c.requires.sound) (known_in found) c.requires.sound.findings.right c.args.declaration.now c.requires.has
+    name_refused snapshot asked.path.now asked.offset asked.name.now (list_of_sound snapshot.files found c.requires.sound) (known_in found)
+    c.requires.sound.findings.right c.args.declaration.now c.requires.has
     c.in-Err.refusal c.in-Err.ensures
 
 pub returns-in-Ok-clause-planned : goal.returns-in-Ok-clause-planned
@@ -18,7 +19,8 @@ returns-in-Ok-clause-planned c =
     let snapshot = c.args.snapshot.now in
     let asked = c.args.asked.now in
     let found = c.args.found.now.findings in
-    declaration_planned snapshot asked.path.now asked.offset asked.name.now (list_of_sound snapshot.files found c.requires.sound) (known_in found) c.requires.sound.findings.right c.args.declaration.now c.requires.has
+    declaration_planned snapshot asked.path.now asked.offset asked.name.now (list_of_sound snapshot.files found c.requires.sound) (known_in found)
+    c.requires.sound.findings.right c.args.declaration.now c.requires.has
     c.in-Ok.ensures (change_in c.plan_declaration.result) c.plan_declaration.ensures.planned
 
 pub returns-in-Ok-clause-known : goal.returns-in-Ok-clause-known

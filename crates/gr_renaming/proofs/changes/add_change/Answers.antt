@@ -13,8 +13,10 @@ returns-in_ok-push c =
     let f = source_of c.args.file.now in
     let r = c.args.renamed.now in
     let change : FileChange = record { path = c.in_ok-clone.field-0; edits = c.new.result; fate = Stays } in
-    one_added f r c.args.changed.now.items c.push.new.self.items change c.in_ok-push.ensures.items (c.in_ok-clone.ensures.cases ∙ c.path.ensures) refl (subst (AreFileEdits f r) (sym c.new.ensures) c.in_ok-edits.ensures)
+    one_added f r c.args.changed.now.items c.push.new.self.items change c.in_ok-push.ensures.items (c.in_ok-clone.ensures.cases ∙ c.path.ensures) refl
+    (subst (AreFileEdits f r) (sym c.new.ensures) c.in_ok-edits.ensures)
 
 pub returns-else-not-is_empty : goal.returns-else-not-is_empty
 returns-else-not-is_empty c =
-    none_added (source_of c.args.file.now) c.args.renamed.now c.args.changed.now.items c.in_ok-edits.edits.items (vec_empty c.in_ok-edits.edits c.is_empty.result c.is_empty.ensures c.if-not-is_empty.false) c.in_ok-edits.ensures
+    none_added (source_of c.args.file.now) c.args.renamed.now c.args.changed.now.items c.in_ok-edits.edits.items
+    (vec_empty c.in_ok-edits.edits c.is_empty.result c.is_empty.ensures c.if-not-is_empty.false) c.in_ok-edits.ensures

@@ -10,7 +10,8 @@ use Rattle.gr_renaming.proofs.changes.changes_in.Goals.{in-Some+in_ok-add_change
 
 pub loop-path-init : goal.loop-path-init
 loop-path-init c =
-    changing_first c.args.graph.now (known_in c.args.found.now) c.args.renamed.now c.args.paths.now c.new-changed.result.items c.new-changed.ensures.items c.requires.order (λ path h. (c.requires.each path).1 h)
+    changing_first c.args.graph.now (known_in c.args.found.now) c.args.renamed.now c.args.paths.now c.new-changed.result.items c.new-changed.ensures.items
+    c.requires.order (λ path h. (c.requires.each path).1 h)
 
 pub loop-path-preserved : goal.loop-path-preserved
 loop-path-preserved c =
@@ -23,10 +24,12 @@ loop-path-preserved c =
     let rest = drop (k + 1) c.args.paths.now in
     let left = subst (λ ps. Changing w known r ps old) (next_item c.args.paths.now k path c.loop-path-test.true c.path-item.is) c.loop-path.invariant in
     elim c.match-tree_of.branch [
-      | in-Some+in_ok-add_change x ↦ rw x.changed-is (changing_next w known r path rest (source_of x.in-Some.file.now) old x.add_change.new.changed.items x.in-Some.ensures.0 x.in-Some.ensures.1 x.in_ok-add_change.ensures left)
+      | in-Some+in_ok-add_change x ↦ rw x.changed-is (changing_next w known r path rest (source_of x.in-Some.file.now) old x.add_change.new.changed.items
+          x.in-Some.ensures.0 x.in-Some.ensures.1 x.in_ok-add_change.ensures left)
       | in_default x ↦ rw x.changed-is (changing_past w known r path rest old x.in_default.ensures left)
     ]
 
 pub returns : goal.returns
 returns c =
-    changing_last c.args.graph.now (known_in c.args.found.now) c.args.renamed.now (drop c.loop-path.path-index c.args.paths.now) c.loop-path.changed.items (drop_all c.loop-path.path-index c.args.paths.now c.loop-path-test.false) c.loop-path.invariant
+    changing_last c.args.graph.now (known_in c.args.found.now) c.args.renamed.now (drop c.loop-path.path-index c.args.paths.now) c.loop-path.changed.items
+    (drop_all c.loop-path.path-index c.args.paths.now c.loop-path-test.false) c.loop-path.invariant

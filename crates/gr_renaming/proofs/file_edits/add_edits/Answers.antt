@@ -14,5 +14,6 @@ returns-clause-adds c =
     let before = c.args.edits.now.items in
     let between = c.add_insertion.new.edits.items in
     let after = c.add_replacement.new.edits.items in
-    let more = λ (k : AddsAll between after (ReplacesName f r i)). all_then before between after (InsertsName f r i) (ReplacesName f r i) c.in_ok-add_insertion.ensures.adds k in
+    let more = λ (k : AddsAll between after (ReplacesName f r i)).
+    all_then before between after (InsertsName f r i) (ReplacesName f r i) c.in_ok-add_insertion.ensures.adds k in
     on_ok_weaker c.add_replacement.result more c.add_replacement.ensures.adds

@@ -7,4 +7,5 @@ use Rattle.gr_renaming.proofs.file_edits.add_replacement.Goals as goal
 pub returns-in_ok-push-clause-order : goal.returns-in_ok-push-clause-order
 returns-in_ok-push-clause-order c =
     let e : Edit = record { span = c.args.token.span; text = c.in_ok-text.text } in
-    end_push c.args.edits.now.items c.push.new.self.items e c.args.token.span.start c.args.token.span.end c.in_ok-push.ensures.items c.requires.order (omega arith) c.requires.span (omega arith)
+    end_push c.args.edits.now.items c.push.new.self.items e c.args.token.span.start c.args.token.span.end c.in_ok-push.ensures.items c.requires.order
+    (omega arith) c.requires.span (omega arith)

@@ -21,4 +21,5 @@ returns-in-Some c =
     let d = c.args.d in
     let at : slice_get (package_paths w) n ≡ Some path = c.in-Some.ensures ∙ ap Some c.path.ensures in
     let x = package_there w c.args.found.now c.requires n (slice_get_within (package_paths w) n path at) in
-    IfOk-weaker c.literal_at.result (IsLiteralFound (IsLiteralIn x.0 d)) (IsLiteralFound (IsLiteralOf (IsPackage w known) (Declared path d))) (found_in w known n x.0 path d x.1 at) (c.literal_at.ensures x.0 x.1)
+    IfOk-weaker c.literal_at.result (IsLiteralFound (IsLiteralIn x.0 d)) (IsLiteralFound (IsLiteralOf (IsPackage w known) (Declared path d)))
+    (found_in w known n x.0 path d x.1 at) (c.literal_at.ensures x.0 x.1)

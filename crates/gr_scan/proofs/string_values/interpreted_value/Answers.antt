@@ -9,7 +9,8 @@ pub loop-value-init : goal.loop-value-init
 loop-value-init c = rw c.new-value.ensures.items (value_opens c.args.literal.now c.requires)
 
 pub returns-then-size-eq0 : goal.returns-then-size-eq0
-returns-then-size-eq0 c = value_ends c.args.literal.now _ c.loop-value.value.items c.loop-value.n c.requires c.loop-value.invariant (take_rest c.args.literal.now c.loop-value.n) (sym c.if-size-eq0.true ∙ c.part_len-size.ensures.value)
+returns-then-size-eq0 c = value_ends c.args.literal.now _ c.loop-value.value.items c.loop-value.n c.requires c.loop-value.invariant
+    (take_rest c.args.literal.now c.loop-value.n) (sym c.if-size-eq0.true ∙ c.part_len-size.ensures.value)
 
 pub push_part-requires : goal.push_part-requires
 push_part-requires c =
@@ -28,4 +29,5 @@ loop-value-preserved c =
     let size = c.part_len-size.result in
     let rest = take_rest text n in
     let count : n + size - n ≡ size = omega arith in
-    value_grows text _ c.loop-value.value.items _ n size c.loop-value.invariant rest c.part_len-size.ensures.value (omega arith) c.part_len-size.ensures.fits (rw (rest, ← count) c.in_ok-push_part.ensures)
+    value_grows text _ c.loop-value.value.items _ n size c.loop-value.invariant rest c.part_len-size.ensures.value (omega arith)
+    c.part_len-size.ensures.fits (rw (rest, ← count) c.in_ok-push_part.ensures)

@@ -14,7 +14,8 @@ size : (c : goal.Then-continues_name) → (decoded (drop c.loop-n.n c.args.bytes
 size c = sym (c.decode-found.ensures.size ∙ ap (λ l. (decoded l).size) (take_rest c.args.bytes.now c.loop-n.n))
 
 grown : (c : goal.Then-continues_name) → NameRunSoFar c.args.bytes.now (c.loop-n.n + c.decode-found.result.1)
-grown c = rw (← size c) (run_grows c.args.bytes.now c.loop-n.n c.in-Some.c c.loop-n.invariant (read c) (sym c.continues_name.ensures ∙ c.if-continues_name.true))
+grown c = rw (← size c) (run_grows c.args.bytes.now c.loop-n.n c.in-Some.c c.loop-n.invariant (read c)
+    (sym c.continues_name.ensures ∙ c.if-continues_name.true))
 
 pub overflow_add-n : goal.overflow_add-n
 overflow_add-n c = omega (arith, (grown c).fits)

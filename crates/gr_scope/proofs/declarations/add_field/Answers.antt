@@ -12,4 +12,5 @@ pub returns : goal.returns
 unfolding field_sites field_view
 returns c =
     then_adds _ _ c.add_type.result c.in_ok-add_members.ensures c.add_type.ensures
-    (ap (λ z. list_sites (member_name (source_of c.args.source.now)) (list_view same_place z) ++ type_sites (source_of c.args.source.now) (type_view c.args.field.now.field_type)) c.deref.ensures.value)
+    (ap (λ z. list_sites (member_name (source_of c.args.source.now)) (list_view same_place z) ++ type_sites (source_of c.args.source.now)
+    (type_view c.args.field.now.field_type)) c.deref.ensures.value)

@@ -7,7 +7,8 @@ use Rattle.gr_scope.proofs.declarations.add_file.Goals as goal
 
 pub returns : goal.returns
 returns c =
-    adds_as (adds_then (adds_then c.in_ok-add.ensures (each_all (imports_part (source_of c.args.source.now)) c.deref-import-items.result.now c.loop-import.import-index (omega arith) c.loop-import.invariant))
+    adds_as (adds_then (adds_then c.in_ok-add.ensures (each_all (imports_part (source_of c.args.source.now)) c.deref-import-items.result.now
+    c.loop-import.import-index (omega arith) c.loop-import.invariant))
     (each_all (decl_part (source_of c.args.source.now)) c.deref-decl-items.result.now c.loop-decl.decl-index (omega arith) c.loop-decl.invariant))
     (file_read _ c.args.file.now _ _ c.deref-import-items.ensures.value c.deref-decl-items.ensures.value)
 

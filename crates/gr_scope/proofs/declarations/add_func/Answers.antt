@@ -5,5 +5,6 @@ use Rattle.gr_scope.proofs.declarations.add_func.Goals as goal
 
 pub returns : goal.returns
 returns c =
-    four_then_adds _ _ c.add_block.result c.in_ok-add_receiver.ensures c.in_ok-add.ensures c.in_ok-add_params.ensures c.in_ok-add_results.ensures c.add_block.ensures
+    four_then_adds _ _ c.add_block.result c.in_ok-add_receiver.ensures c.in_ok-add.ensures c.in_ok-add_params.ensures c.in_ok-add_results.ensures
+    c.add_block.ensures
     (func_read _ c.args.func.now _ _ c.function_role.ensures c.deref.ensures.value)

@@ -11,7 +11,8 @@ use Rattle.gr_scope.proofs.declarations.add_params.Goals as goal
 
 pub returns : goal.returns
 returns c =
-    adds_as (each_all (param_part (source_of c.args.source.now) c.args.block c.args.start) c.args.params.now c.loop-item.item-index (omega arith) c.loop-item.invariant)
+    adds_as (each_all (param_part (source_of c.args.source.now) c.args.block c.args.start) c.args.params.now c.loop-item.item-index (omega arith)
+    c.loop-item.invariant)
     (flat_map-map (λ x. param_sites (source_of c.args.source.now) c.args.block c.args.start x.value) (item_view param_view) c.args.params.now)
 
 pub loop-item-preserved : goal.loop-item-preserved

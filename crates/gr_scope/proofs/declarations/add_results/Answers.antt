@@ -13,7 +13,8 @@ returns-in-None c = adds_as (adds_none c.args.found.now.items) (ap (λ v. result
 
 pub returns-in-Single : goal.returns-in-Single
 unfolding result_sites results_view
-returns-in-Single c = call_adds _ _ c.add_type.result c.add_type.ensures (ap (λ v. result_sites (source_of c.args.source.now) (results_view v)) (sym c.in-Single.is))
+returns-in-Single c = call_adds _ _ c.add_type.result c.add_type.ensures
+    (ap (λ v. result_sites (source_of c.args.source.now) (results_view v)) (sym c.in-Single.is))
 
 pub returns-after-loop-item : goal.returns-after-loop-item
 returns-after-loop-item c =

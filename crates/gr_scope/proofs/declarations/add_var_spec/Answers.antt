@@ -12,4 +12,5 @@ pub returns : goal.returns
 unfolding global_sites global_view
 returns c =
     then_adds _ _ c.add_type.result c.in_ok-add_globals.ensures c.add_type.ensures
-    (ap (λ z. list_sites (global_name (source_of c.args.source.now)) (list_view same_place z) ++ type_sites (source_of c.args.source.now) (type_view c.args.spec.now.var_type)) c.deref.ensures.value)
+    (ap (λ z. list_sites (global_name (source_of c.args.source.now)) (list_view same_place z) ++ type_sites (source_of c.args.source.now)
+    (type_view c.args.spec.now.var_type)) c.deref.ensures.value)

@@ -7,7 +7,8 @@ use Rattle.gr_scope.proofs.Tables.{in_slice}
 use Rattle.gr_scope.proofs.declare.declare.Goals as goal
 
 pub new-requires-clause-well_formed : goal.new-requires-clause-well_formed
-new-requires-clause-well_formed c = declared_well_formed c.in_ok-identifiers.identifiers.items _ c.in_ok-identifiers.ensures.sites c.in_ok-identifiers.ensures.numbered
+new-requires-clause-well_formed c = declared_well_formed c.in_ok-identifiers.identifiers.items _ c.in_ok-identifiers.ensures.sites
+    c.in_ok-identifiers.ensures.numbered
 
 pub new-requires-clause-imports : goal.new-requires-clause-imports
 new-requires-clause-imports c = declared_level c.in_ok-identifiers.identifiers.items _ c.in_ok-identifiers.ensures.sites c.in_ok-identifiers.ensures.numbered

@@ -11,7 +11,8 @@ pub loop-rank-preserved : goal.loop-rank-preserved
 loop-rank-preserved c = record {
   added = adds_as (adds_then c.loop-rank.invariant.added c.in_ok-add_file.ensures)
       (files_next c.args.files.now c.loop-rank.rank c.index-files-rank.result _ (omega arith) c.index-files-rank.is c.file.ensures.tree);
-  numbered = numbered_next c.args.files.now c.loop-rank.rank c.index-files-rank.result (omega arith) c.index-files-rank.is c.file.ensures.is_file c.loop-rank.invariant.numbered;
+  numbered = numbered_next c.args.files.now c.loop-rank.rank c.index-files-rank.result (omega arith) c.index-files-rank.is c.file.ensures.is_file
+      c.loop-rank.invariant.numbered;
 }
 
 pub returns : goal.returns

@@ -11,7 +11,9 @@ returns-else-not-is_left_name c =
     let l = layout_of c.args.identifiers.now in
     let names = names_of c.args.identifiers.now in
     let may : may_declare (l.role c.args.d) ≡ true = ap may_declare (sym c.role_at-role.ensures) ∙ sym c.may_declare.ensures ∙ c.if-may_declare.true in
-    let left : is_left_name (l.role c.args.d) ≡ true = ap is_left_name (sym c.role_at-role.ensures) ∙ sym c.is_left_name.ensures ∙ c.if-not-is_left_name.false in (
-      (λ t. declares_behind l (nests l c.requires.well_formed) names c.args.d c.args.leader c.requires.leader may (λ left h. not_both c.holds.result t (c.holds.ensures.1 h))),
+    let left : is_left_name (l.role c.args.d) ≡ true = ap is_left_name (sym c.role_at-role.ensures) ∙ sym c.is_left_name.ensures ∙
+    c.if-not-is_left_name.false in (
+      (λ t. declares_behind l (nests l c.requires.well_formed) names c.args.d c.args.leader c.requires.leader may
+          (λ left h. not_both c.holds.result t (c.holds.ensures.1 h))),
       (λ x. not_if c.holds.result (λ h. declares_not l names c.args.d c.args.leader c.requires.leader left (c.holds.ensures.0 h) x)),
     )

@@ -8,5 +8,6 @@ loop-u-init c = bindings_none (layout_of c.args.identifiers.now) (names_of c.arg
 
 pub loop-u-preserved : goal.loop-u-preserved
 loop-u-preserved c =
-    bindings_next (layout_of c.args.identifiers.now) (names_of c.args.identifiers.now) c.loop-u.u c.loop-u.found.items c.push.new.self.items c.bound_to.result c.loop-u.invariant c.in_ok-push.ensures.items
+    bindings_next (layout_of c.args.identifiers.now) (names_of c.args.identifiers.now) c.loop-u.u c.loop-u.found.items c.push.new.self.items
+    c.bound_to.result c.loop-u.invariant c.in_ok-push.ensures.items
     c.bound_to.ensures

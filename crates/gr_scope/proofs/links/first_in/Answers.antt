@@ -15,7 +15,8 @@ loop-at-init c =
     let n = length c.args.links.now.previous.items in
     let chained = c.chain-chain.ensures l names c.requires.linked in
     record {
-      left = λ e lt b. chain_left (Leads l names) (keys_of l names) n (key_of c.args.key) c.chain-chain.result.last c.chain-chain.result.previous.now chained e (b.0, b.1) lt;
+      left = λ e lt b. chain_left (Leads l names) (keys_of l names) n (key_of c.args.key) c.chain-chain.result.last c.chain-chain.result.previous.now
+          chained e (b.0, b.1) lt;
       known = chain_known (Leads l names) (keys_of l names) n (key_of c.args.key) c.chain-chain.result.last c.chain-chain.result.previous.now chained;
     }
 
@@ -35,7 +36,8 @@ loop-at-preserved c =
     let previous = c.chain-chain.result.previous.now in
     let linked = (c.chain-chain.ensures l names c.requires.linked).linked in
     record {
-      left = λ e lt b. walk_left (Leads l names) (keys_of l names) n key previous c.loop-at.at _ None c.in-Some.e linked c.in-Some.is refl c.loop-at.invariant.known
+      left = λ e lt b. walk_left (Leads l names) (keys_of l names) n key previous c.loop-at.at _ None c.in-Some.e linked c.in-Some.is refl
+          c.loop-at.invariant.known
           e (b.0, b.1) (c.loop-at.invariant.left e lt b)
           (λ same.
           let P : ℕ → Type 0 = λ v. LeadsIn l names key c.args.block v in
@@ -58,5 +60,6 @@ loop-at-smaller c =
     let l = layout_of xs in
     let names = names_of xs in
     let linked = (c.chain-chain.ensures l names c.requires.linked).linked in
-    walk_ends (Leads l names) (keys_of l names) (length c.args.links.now.previous.items) (key_of c.args.key) c.chain-chain.result.previous.now c.loop-at.at _ None c.in-Some.e linked c.in-Some.is refl
+    walk_ends (Leads l names) (keys_of l names) (length c.args.links.now.previous.items) (key_of c.args.key) c.chain-chain.result.previous.now c.loop-at.at
+    _ None c.in-Some.e linked c.in-Some.is refl
     c.loop-at.invariant.known

@@ -10,7 +10,8 @@ use Rattle.gr_scope.proofs.links.first_in.Given as goal
 abbrev pub invariant-loop-at : goal.invariant-loop-at
 invariant-loop-at l = record {
   left : (e : ℕ) → e < length l.links.previous.items → LeadsIn (layout_of l.identifiers) (names_of l.identifiers) (key_of l.fn.key) l.block e → IsLeft l.at e;
-  known : IsKnown (Leads (layout_of l.identifiers) (names_of l.identifiers)) (keys_of (layout_of l.identifiers) (names_of l.identifiers)) (key_of l.fn.key) (length l.links.previous.items) l.at;
+  known : IsKnown (Leads (layout_of l.identifiers) (names_of l.identifiers)) (keys_of (layout_of l.identifiers) (names_of l.identifiers)) (key_of l.fn.key)
+      (length l.links.previous.items) l.at;
 }
 
 abbrev pub decreases-loop-at : goal.decreases-loop-at

@@ -10,5 +10,6 @@ loop-u-init c = found_none (name_given c.args.names.now) c.new-found.result.item
 
 pub loop-u-preserved : goal.loop-u-preserved
 loop-u-preserved c =
-    found_next (name_given c.args.names.now) c.args.identifiers.now c.loop-u.found.items c.push.new.self.items c.loop-u.u _ c.named_identifier.result _ (omega arith) c.in_ok-push.ensures.items
+    found_next (name_given c.args.names.now) c.args.identifiers.now c.loop-u.found.items c.push.new.self.items c.loop-u.u _ c.named_identifier.result _
+    (omega arith) c.in_ok-push.ensures.items
     c.name_given.ensures c.named_identifier.ensures c.loop-u.invariant

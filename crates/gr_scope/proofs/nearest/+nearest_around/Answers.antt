@@ -13,15 +13,18 @@ returns-then-sizes-eq0 t c =
     let names = names_of c.args.identifiers.now in
     let name = c.args.name.now in
     let F : Position → Type 0 = λ p. IsNearest l (IsCandidate l names name (λ r. r ≡ regions.File p.file) c.args.u) c.nearest_in.result in
-    around_none l names name c.args.u (l.place c.args.u).file c.args.sizes c.args.at c.nearest_in.result (omega arith) (subst F c.place_at-file.ensures c.nearest_in.ensures)
+    around_none l names name c.args.u (l.place c.args.u).file c.args.sizes c.args.at c.nearest_in.result (omega arith)
+    (subst F c.place_at-file.ensures c.nearest_in.ensures)
 
 pub returns-in-Some : goal.returns-in-Some
 returns-in-Some t c =
     let l = layout_of c.args.identifiers.now in
     let names = names_of c.args.identifiers.now in
     let rest = c.args.sizes - 1 in
-    let F : Position → Type 0 = λ p. IsNearest l (IsCandidate l names c.args.name.now (λ r. r ≡ regions.Run p.file rest c.args.at) c.args.u) (Some c.in-Some.d) in
-    let N : Option ℕ → Type 0 = λ x. IsNearest l (IsCandidate l names c.args.name.now (λ r. r ≡ regions.Run c.place_at-file.result.file rest c.args.at) c.args.u) x in
+    let F : Position → Type 0 = λ p. IsNearest l (IsCandidate l names c.args.name.now (λ r. r ≡ regions.Run p.file rest c.args.at) c.args.u)
+    (Some c.in-Some.d) in
+    let N : Option ℕ → Type 0 = λ x. IsNearest l (IsCandidate l names c.args.name.now (λ r. r ≡ regions.Run c.place_at-file.result.file rest c.args.at)
+    c.args.u) x in
     around_here l c.requires.well_formed names c.args.name.now c.args.u (l.place c.args.u).file c.args.sizes rest c.args.at c.in-Some.d (omega arith)
     (subst F c.place_at-file.ensures (subst N c.in-Some.is c.nearest_in-else-sizes-eq0.ensures))
 
@@ -31,6 +34,8 @@ returns-in-None t c =
     let names = names_of c.args.identifiers.now in
     let rest = c.args.sizes - 1 in
     let F : Position → Type 0 = λ p. IsNearest l (IsCandidate l names c.args.name.now (λ r. r ≡ regions.Run p.file rest c.args.at) c.args.u) None in
-    let N : Option ℕ → Type 0 = λ x. IsNearest l (IsCandidate l names c.args.name.now (λ r. r ≡ regions.Run c.place_at-file.result.file rest c.args.at) c.args.u) x in
-    around_next l c.requires.well_formed names c.args.name.now c.args.u (l.place c.args.u).file c.args.sizes rest c.args.at c.nearest_around.result (omega arith)
+    let N : Option ℕ → Type 0 = λ x. IsNearest l (IsCandidate l names c.args.name.now (λ r. r ≡ regions.Run c.place_at-file.result.file rest c.args.at)
+    c.args.u) x in
+    around_next l c.requires.well_formed names c.args.name.now c.args.u (l.place c.args.u).file c.args.sizes rest c.args.at c.nearest_around.result
+    (omega arith)
     (subst F c.place_at-file.ensures (subst N c.in-None.is c.nearest_in-else-sizes-eq0.ensures)) c.nearest_around.ensures

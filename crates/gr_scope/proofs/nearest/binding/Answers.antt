@@ -18,7 +18,8 @@ returns c =
     let F : Position → Type 0 = λ p. IsNearest l (IsCandidate l names name (Surrounds (l.place u).file 6 (p.index / 16)) u) c.nearest_around-around.result in
     nearest_binds l c.requires.well_formed names name u c.nearer.result
     (nearest_of_both l (nests l c.requires.well_formed) names name u (Surrounds (l.place u).file 6 ((l.place u).index / 16)) (λ r. r ≡ regions.Package)
-    c.nearest_around-around.result c.nearest_in-outside.result c.nearer.result (subst F c.place_at-at.ensures c.nearest_around-around.ensures) c.nearest_in-outside.ensures c.nearer.ensures)
+    c.nearest_around-around.result c.nearest_in-outside.result c.nearer.result (subst F c.place_at-at.ensures c.nearest_around-around.ensures)
+    c.nearest_in-outside.ensures c.nearer.ensures)
 
 pub returns-then-is_inner : goal.returns-then-is_inner
 returns-then-is_inner c =
@@ -28,5 +29,6 @@ returns-then-is_inner c =
     let u = c.args.u in
     let F : Position → Type 0 = λ p. IsNearest l (IsCandidate l names name (Surrounds (l.place u).file 6 (p.index / 16)) u) c.nearest_around-around.result in
     nearest_binds l c.requires.well_formed names name u c.nearest_around-around.result
-    (inner_nearest l c.requires.well_formed names name u (Surrounds (l.place u).file 6 ((l.place u).index / 16)) c.nearest_around-around.result (c.is_inner.ensures.0 c.if-is_inner.true)
+    (inner_nearest l c.requires.well_formed names name u (Surrounds (l.place u).file 6 ((l.place u).index / 16)) c.nearest_around-around.result
+    (c.is_inner.ensures.0 c.if-is_inner.true)
     (subst F c.place_at-at.ensures c.nearest_around-around.ensures))

@@ -31,7 +31,8 @@ improves-requires-clause-second c =
     omega arith
 
 pub improves-requires-clause-known : goal.improves-requires-clause-known
-improves-requires-clause-known c = best_known c.args.identifiers.now c.args.name.now (λ r. r ≡ c.args.region) c.args.u c.loop-at.at c.loop-at.best c.loop-at.invariant.best
+improves-requires-clause-known c = best_known c.args.identifiers.now c.args.name.now (λ r. r ≡ c.args.region) c.args.u c.loop-at.at c.loop-at.best
+    c.loop-at.invariant.best
 
 pub loop-at-preserved : goal.loop-at-preserved
 loop-at-preserved c =
@@ -41,20 +42,27 @@ loop-at-preserved c =
     let previous = c.chain-chain.result.previous.now in
     let linked = (c.chain-chain.ensures l names c.requires.linked.links).linked in
     record {
-      best = best_next l (nests l c.requires.well_formed) names c.args.name.now c.args.region c.args.u c.in-Some.d (length c.args.links.now.previous.items) previous
+      best = best_next l (nests l c.requires.well_formed) names c.args.name.now c.args.region c.args.u c.in-Some.d (length c.args.links.now.previous.items)
+          previous
           c.loop-at.at _ None c.loop-at.best c.if-improves.best linked c.in-Some.is refl c.loop-at.invariant.known c.loop-at.invariant.best
           (elim c.if-improves.branch [
             | then-improves w ↦ inl (c.improves.ensures.0 w.if-improves.true, w.best-is)
-            | else-improves w ↦ inr ((λ x. let t : c.improves.result ≡ true = c.improves.ensures.1 x in let f : c.improves.result ≡ false = w.if-improves.false in cc), w.best-is)
+            | else-improves w ↦ inr (
+              (λ x. let t : c.improves.result ≡ true = c.improves.ensures.1 x in
+                  let f : c.improves.result ≡ false = w.if-improves.false in cc),
+              w.best-is,
+            )
           ]);
-      known = walk_known (Leads l names) (keys_of l names) (length c.args.links.now.previous.items) (pair c.args.name.now c.args.region) previous c.loop-at.at _ None c.in-Some.d linked c.in-Some.is refl c.loop-at.invariant.known;
+      known = walk_known (Leads l names) (keys_of l names) (length c.args.links.now.previous.items) (pair c.args.name.now c.args.region) previous
+          c.loop-at.at _ None c.in-Some.d linked c.in-Some.is refl c.loop-at.invariant.known;
     }
 
 pub returns : goal.returns
 returns c =
     let xs = c.args.identifiers.now in
     let P : Option ℕ → Type 0 = λ a. BestSoFar (layout_of xs) (names_of xs) c.args.name.now (λ r. r ≡ c.args.region) c.args.u a c.loop-at.best in
-    best_nearest (layout_of xs) (names_of xs) c.args.name.now (λ r. r ≡ c.args.region) c.args.u c.loop-at.best (subst P c.in_default.is c.loop-at.invariant.best)
+    best_nearest (layout_of xs) (names_of xs) c.args.name.now (λ r. r ≡ c.args.region) c.args.u c.loop-at.best
+    (subst P c.in_default.is c.loop-at.invariant.best)
 
 pub bounds-chain-d : goal.bounds-chain-d
 bounds-chain-d c =
@@ -70,4 +78,5 @@ loop-at-smaller c =
     let l = layout_of xs in
     let names = names_of xs in
     let linked = (c.chain-chain.ensures l names c.requires.linked.links).linked in
-    walk_ends (Leads l names) (keys_of l names) (length c.args.links.now.previous.items) (pair c.args.name.now c.args.region) c.chain-chain.result.previous.now c.loop-at.at _ None c.in-Some.d linked c.in-Some.is refl c.loop-at.invariant.known
+    walk_ends (Leads l names) (keys_of l names) (length c.args.links.now.previous.items) (pair c.args.name.now c.args.region)
+    c.chain-chain.result.previous.now c.loop-at.at _ None c.in-Some.d linked c.in-Some.is refl c.loop-at.invariant.known

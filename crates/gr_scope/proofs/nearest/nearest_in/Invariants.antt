@@ -11,7 +11,8 @@ use Rattle.gr_scope.proofs.nearest.nearest_in.Given as goal
 abbrev pub invariant-loop-at : goal.invariant-loop-at
 invariant-loop-at l = record {
   best : BestSoFar (layout_of l.identifiers) (names_of l.identifiers) l.name (λ r. r ≡ l.fn.region) l.u l.at l.best;
-  known : IsKnown (Leads (layout_of l.identifiers) (names_of l.identifiers)) (keys_of (layout_of l.identifiers) (names_of l.identifiers)) (pair l.name l.fn.region) (length l.links.previous.items) l.at;
+  known : IsKnown (Leads (layout_of l.identifiers) (names_of l.identifiers)) (keys_of (layout_of l.identifiers) (names_of l.identifiers))
+      (pair l.name l.fn.region) (length l.links.previous.items) l.at;
 }
 
 abbrev pub decreases-loop-at : goal.decreases-loop-at

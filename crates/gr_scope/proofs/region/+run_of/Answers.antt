@@ -10,4 +10,5 @@ pub returns-then-first-last : goal.returns-then-first-last
 returns-then-first-last t c = run_here c.args.file c.args.sizes (c.args.sizes - 1) c.args.first c.args.last (omega arith) (omega arith)
 
 pub returns-else-first-last : goal.returns-else-first-last
-returns-else-first-last t c = c.run_of.ensures ∙ run_larger c.args.file c.args.sizes (c.args.sizes - 1) c.args.first c.args.last (omega arith) (λ e. omega (arith, e))
+returns-else-first-last t c = c.run_of.ensures ∙ run_larger c.args.file c.args.sizes (c.args.sizes - 1) c.args.first c.args.last (omega arith)
+    (λ e. omega (arith, e))

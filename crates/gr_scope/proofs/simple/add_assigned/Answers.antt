@@ -12,4 +12,5 @@ unfolding expr_view
 returns-in-Blank c = call_adds _ _ c.add.result c.add.ensures (ap (λ v. assigned_sites (source_of c.args.source.now) (expr_view v)) (sym c.in-Blank.is))
 
 pub returns-in_default : goal.returns-in_default
-returns-in_default c = call_adds _ _ c.add_expr.result c.add_expr.ensures (assigned_default (source_of c.args.source.now) c.args.left.now c.in_default.not-Blank)
+returns-in_default c = call_adds _ _ c.add_expr.result c.add_expr.ensures
+    (assigned_default (source_of c.args.source.now) c.args.left.now c.in_default.not-Blank)

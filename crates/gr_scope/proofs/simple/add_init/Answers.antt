@@ -10,4 +10,5 @@ use Rattle.gr_scope.proofs.simple.add_init.Goals as goal
 
 pub returns-in-Some : goal.returns-in-Some
 unfolding init_sites init_view
-returns-in-Some c = call_adds _ _ c.add_optional.result c.add_optional.ensures (ap (λ v. sites_if (init_sites (source_of c.args.source.now) c.args.block) (option_view init_view v)) (sym c.in-Some.is))
+returns-in-Some c = call_adds _ _ c.add_optional.result c.add_optional.ensures
+    (ap (λ v. sites_if (init_sites (source_of c.args.source.now) c.args.block) (option_view init_view v)) (sym c.in-Some.is))

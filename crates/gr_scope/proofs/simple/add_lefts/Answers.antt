@@ -9,7 +9,8 @@ use Rattle.gr_scope.proofs.simple.add_lefts.Goals as goal
 
 pub returns : goal.returns
 returns c =
-    adds_as (each_all (left_part (source_of c.args.source.now) c.args.block c.args.following) c.args.lefts.now c.loop-item.item-index (omega arith) c.loop-item.invariant)
+    adds_as (each_all (left_part (source_of c.args.source.now) c.args.block c.args.following) c.args.lefts.now c.loop-item.item-index (omega arith)
+    c.loop-item.invariant)
     (flat_map-map (λ x. left_sites (source_of c.args.source.now) c.args.block c.args.following x.value) expr_item_view c.args.lefts.now)
 
 pub loop-item-preserved : goal.loop-item-preserved

@@ -11,4 +11,5 @@ use Rattle.gr_scope.proofs.simple.add_values.Goals as goal
 pub returns-in-Some : goal.returns-in-Some
 returns-in-Some c =
     call_adds _ _ c.add_exprs.result c.add_exprs.ensures
-    (ap (λ z. exprs_sites (source_of c.args.source.now) (exprs_view z)) c.deref.ensures.value ∙ ap (λ v. sites_if (value_sites (source_of c.args.source.now)) (option_view values_view v)) (sym c.in-Some.is))
+    (ap (λ z. exprs_sites (source_of c.args.source.now) (exprs_view z)) c.deref.ensures.value ∙
+    ap (λ v. sites_if (value_sites (source_of c.args.source.now)) (option_view values_view v)) (sym c.in-Some.is))

@@ -13,36 +13,45 @@ use Rattle.gr_scope.proofs.statements.+statement.Goals as goal
 
 pub add_statement-returns-in-Empty : goal.add_statement-returns-in-Empty
 unfolding statement_sites stmt_view
-add_statement-returns-in-Empty t c = adds_as (adds_none c.args.found.now.items) (ap (λ v. statement_sites (source_of c.args.source.now) c.args.block c.args.following (stmt_view v)) (sym c.in-Empty.is))
+add_statement-returns-in-Empty t c = adds_as (adds_none c.args.found.now.items)
+    (ap (λ v. statement_sites (source_of c.args.source.now) c.args.block c.args.following (stmt_view v)) (sym c.in-Empty.is))
 
 pub add_statement-returns-in-Break : goal.add_statement-returns-in-Break
 unfolding statement_sites stmt_view
-add_statement-returns-in-Break t c = adds_as (adds_none c.args.found.now.items) (ap (λ v. statement_sites (source_of c.args.source.now) c.args.block c.args.following (stmt_view v)) (sym c.in-Break.is))
+add_statement-returns-in-Break t c = adds_as (adds_none c.args.found.now.items)
+    (ap (λ v. statement_sites (source_of c.args.source.now) c.args.block c.args.following (stmt_view v)) (sym c.in-Break.is))
 
 pub add_statement-returns-in-Continue : goal.add_statement-returns-in-Continue
 unfolding statement_sites stmt_view
-add_statement-returns-in-Continue t c = adds_as (adds_none c.args.found.now.items) (ap (λ v. statement_sites (source_of c.args.source.now) c.args.block c.args.following (stmt_view v)) (sym c.in-Continue.is))
+add_statement-returns-in-Continue t c = adds_as (adds_none c.args.found.now.items)
+    (ap (λ v. statement_sites (source_of c.args.source.now) c.args.block c.args.following (stmt_view v)) (sym c.in-Continue.is))
 
 pub add_statement-returns-in-Var : goal.add_statement-returns-in-Var
 unfolding statement_sites stmt_view
-add_statement-returns-in-Var t c = call_adds _ _ c.add_locals.result c.add_locals.ensures (ap (λ v. statement_sites (source_of c.args.source.now) c.args.block c.args.following (stmt_view v)) (sym c.in-Var.is))
+add_statement-returns-in-Var t c = call_adds _ _ c.add_locals.result c.add_locals.ensures
+    (ap (λ v. statement_sites (source_of c.args.source.now) c.args.block c.args.following (stmt_view v)) (sym c.in-Var.is))
 
 pub add_statement-returns-in-Simple : goal.add_statement-returns-in-Simple
 unfolding statement_sites stmt_view
-add_statement-returns-in-Simple t c = call_adds _ _ c.add_simple.result c.add_simple.ensures (ap (λ v. statement_sites (source_of c.args.source.now) c.args.block c.args.following (stmt_view v)) (sym c.in-Simple.is))
+add_statement-returns-in-Simple t c = call_adds _ _ c.add_simple.result c.add_simple.ensures
+    (ap (λ v. statement_sites (source_of c.args.source.now) c.args.block c.args.following (stmt_view v)) (sym c.in-Simple.is))
 
 pub add_statement-returns-in-Block : goal.add_statement-returns-in-Block
 unfolding statement_sites stmt_view
-add_statement-returns-in-Block t c = call_adds _ _ c.add_block.result c.add_block.ensures (ap (λ v. statement_sites (source_of c.args.source.now) c.args.block c.args.following (stmt_view v)) (sym c.in-Block.is))
+add_statement-returns-in-Block t c = call_adds _ _ c.add_block.result c.add_block.ensures
+    (ap (λ v. statement_sites (source_of c.args.source.now) c.args.block c.args.following (stmt_view v)) (sym c.in-Block.is))
 
 pub add_statement-returns-in-If : goal.add_statement-returns-in-If
 unfolding statement_sites stmt_view
-add_statement-returns-in-If t c = call_adds _ _ c.add_if.result c.add_if.ensures (ap (λ v. statement_sites (source_of c.args.source.now) c.args.block c.args.following (stmt_view v)) (sym c.in-If.is))
+add_statement-returns-in-If t c = call_adds _ _ c.add_if.result c.add_if.ensures
+    (ap (λ v. statement_sites (source_of c.args.source.now) c.args.block c.args.following (stmt_view v)) (sym c.in-If.is))
 
 pub add_statement-returns-in-Return : goal.add_statement-returns-in-Return
 unfolding statement_sites stmt_view
 add_statement-returns-in-Return t c =
-    call_adds _ _ c.add_exprs.result c.add_exprs.ensures (ap (λ z. exprs_sites (source_of c.args.source.now) (exprs_view z)) c.deref.ensures.value ∙ ap (λ v. statement_sites (source_of c.args.source.now) c.args.block c.args.following (stmt_view v)) (sym c.in-Return.is))
+    call_adds _ _ c.add_exprs.result c.add_exprs.ensures
+    (ap (λ z. exprs_sites (source_of c.args.source.now) (exprs_view z)) c.deref.ensures.value ∙
+    ap (λ v. statement_sites (source_of c.args.source.now) c.args.block c.args.following (stmt_view v)) (sym c.in-Return.is))
 
 pub add_statement-returns-in_ok-add_header-in-For : goal.add_statement-returns-in_ok-add_header-in-For
 add_statement-returns-in_ok-add_header-in-For t c =
@@ -68,13 +77,16 @@ add_if-returns t c =
 
 pub add_else-returns-in-None : goal.add_else-returns-in-None
 unfolding else_sites else_view
-add_else-returns-in-None t c = adds_as (adds_none c.args.found.now.items) (ap (λ v. else_sites (source_of c.args.source.now) c.args.following (else_view v)) (sym c.in-None.is))
+add_else-returns-in-None t c = adds_as (adds_none c.args.found.now.items)
+    (ap (λ v. else_sites (source_of c.args.source.now) c.args.following (else_view v)) (sym c.in-None.is))
 
 pub add_else-returns-in-If : goal.add_else-returns-in-If
 unfolding else_sites else_view
 add_else-returns-in-If t c =
-    call_adds _ _ c.add_if.result c.add_if.ensures (ap (λ z. if_sites (source_of c.args.source.now) c.args.following (if_view z)) c.deref.ensures ∙ ap (λ v. else_sites (source_of c.args.source.now) c.args.following (else_view v)) (sym c.in-If.is))
+    call_adds _ _ c.add_if.result c.add_if.ensures (ap (λ z. if_sites (source_of c.args.source.now) c.args.following (if_view z)) c.deref.ensures ∙
+    ap (λ v. else_sites (source_of c.args.source.now) c.args.following (else_view v)) (sym c.in-If.is))
 
 pub add_else-returns-in-Block : goal.add_else-returns-in-Block
 unfolding else_sites else_view
-add_else-returns-in-Block t c = call_adds _ _ c.add_block.result c.add_block.ensures (ap (λ v. else_sites (source_of c.args.source.now) c.args.following (else_view v)) (sym c.in-Block.is))
+add_else-returns-in-Block t c = call_adds _ _ c.add_block.result c.add_block.ensures
+    (ap (λ v. else_sites (source_of c.args.source.now) c.args.following (else_view v)) (sym c.in-Block.is))

@@ -20,7 +20,8 @@ returns-then-not-is_empty c = λ p at.
     let read = c.package-package.result.now in
     let same : read.path.items ≡ p = same_Some _ _ (sym c.package-package.ensures.path ∙ at) in
     subst (λ q. AddsClauseName c.args.graph.now q (name_in c.args.names.now) (name_in c.args.names.now)) same
-    (without_clause c.args.graph.now read.path.items read.trees.items read.faulty.items (name_in c.args.names.now) c.package-package.ensures.files (λ e. eqb-false (vec_len read.faulty) 0 (sym c.is_empty.ensures ∙ c.if-not-is_empty.true) (read.faulty.ok.0 ∙ ap length e)))
+    (without_clause c.args.graph.now read.path.items read.trees.items read.faulty.items (name_in c.args.names.now) c.package-package.ensures.files
+    (λ e. eqb-false (vec_len read.faulty) 0 (sym c.is_empty.ensures ∙ c.if-not-is_empty.true) (read.faulty.ok.0 ∙ ap length e)))
 
 pub returns : goal.returns
 returns c =
@@ -34,6 +35,8 @@ returns c =
     (λ h p at.
     let same : path ≡ p = is ∙ same_Some _ _ (sym c.package-package.ensures.path ∙ at) in
     subst (λ q. AddsClauseName w q (name_in c.args.names.now) (name_in c.add.new.self)) same
-    (with_clause w path read.trees.items i.scope.name.items c.args.names.now c.add.new.self i (subst (Contains (package_paths w)) (sym is) (at_contains w c.args.number read.path.items c.package-package.ensures.path))
-    (subst (λ q. AreParsed (package_files w q) read.trees.items []) (sym is) (subst (AreParsed (package_files w read.path.items) read.trees.items) none c.package-package.ensures.files))
+    (with_clause w path read.trees.items i.scope.name.items c.args.names.now c.add.new.self i
+    (subst (Contains (package_paths w)) (sym is) (at_contains w c.args.number read.path.items c.package-package.ensures.path))
+    (subst (λ q. AreParsed (package_files w q) read.trees.items []) (sym is)
+    (subst (AreParsed (package_files w read.path.items) read.trees.items) none c.package-package.ensures.files))
     (c.in_ok-interface.ensures ∙ ap (λ trees. package_name (map source_of trees)) c.deref.ensures.value) refl h)) c.add.ensures.added

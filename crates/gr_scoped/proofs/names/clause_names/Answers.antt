@@ -15,7 +15,8 @@ loop-number-preserved c =
     let n = c.loop-number.number in
     let lt : n < length (package_paths w) = omega arith in
     let at = slice_get_some (package_paths w) n lt in
-    one_more w n at.0 at.1 (name_in c.loop-number.names) (name_in c.add_clause_name.new.names) c.loop-number.invariant (c.in_ok-add_clause_name.ensures at.0 at.1)
+    one_more w n at.0 at.1 (name_in c.loop-number.names) (name_in c.add_clause_name.new.names) c.loop-number.invariant
+    (c.in_ok-add_clause_name.ensures at.0 at.1)
 
 pub returns : goal.returns
 returns c =

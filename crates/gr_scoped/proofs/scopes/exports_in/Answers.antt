@@ -13,4 +13,5 @@ returns c =
     let files = map source_of c.args.files.now in
     let none : interface_in c.new-nothing.result ≡ no_interface = fun_ext c.new-nothing.ensures.interfaces in
     subst (λ i. IfOk c.numbers_by.result (λ numbers. AreNumbers (package_in c.args.path.now files c.args.table.now i) (number_named numbers))) none
-    (subst (λ q. IfOk c.numbers_by.result (λ numbers. AreNumbers (package_in q files c.args.table.now (interface_in c.new-nothing.result)) (number_named numbers))) c.in_ok-path.ensures c.numbers_by.ensures)
+    (subst (λ q. IfOk c.numbers_by.result (λ numbers. AreNumbers (package_in q files c.args.table.now (interface_in c.new-nothing.result))
+    (number_named numbers))) c.in_ok-path.ensures c.numbers_by.ensures)

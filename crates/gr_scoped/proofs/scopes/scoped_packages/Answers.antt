@@ -10,7 +10,8 @@ loop-number-init c = no_scopes c.args.graph.now c.new-packages.result.items c.ne
 
 pub loop-number-preserved : goal.loop-number-preserved
 loop-number-preserved c =
-    more_scopes c.args.graph.now c.loop-number.number c.loop-number.packages.items c.push.new.self.items _ c.in_ok-push.ensures.items c.in_ok-package_scopes.ensures c.loop-number.invariant
+    more_scopes c.args.graph.now c.loop-number.number c.loop-number.packages.items c.push.new.self.items _ c.in_ok-push.ensures.items
+    c.in_ok-package_scopes.ensures c.loop-number.invariant
 
 pub returns : goal.returns
 returns c =

@@ -13,6 +13,8 @@ returns-in-Some c =
     let w = c.args.graph.now in
     let n = c.in-Some.number in
     let found = c.index-packages-number.result in
-    let within : n < length c.args.packages.now = subst (λ m. n < m) (sym c.requires.size) (slice_get_within (package_paths w) n c.args.path.now c.in-Some.ensures) in
+    let within : n < length c.args.packages.now = subst (λ m. n < m) (sym c.requires.size)
+    (slice_get_within (package_paths w) n c.args.path.now c.in-Some.ensures) in
     found_at w c.args.path.now c.as_ref.result found c.as_ref.ensures.value
-    (c.requires.each n c.args.path.now found c.in-Some.ensures (slice_get_read c.args.packages.now (length c.args.packages.now) n found refl within c.index-packages-number.is))
+    (c.requires.each n c.args.path.now found c.in-Some.ensures
+    (slice_get_read c.args.packages.now (length c.args.packages.now) n found refl within c.index-packages-number.is))

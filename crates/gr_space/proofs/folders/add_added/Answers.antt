@@ -14,8 +14,10 @@ pub loop-file-preserved : goal.loop-file-preserved
 loop-file-preserved c =
     let all = c.args.added.now in
     let k = c.loop-file.file-index in
-    adds_more (IsOfAdded (take k all)) (λ p. c.file-item.result.0 ≡ p) (IsOfAdded (take (k + 1) all)) (names c.args.folders.now.keys) (names c.loop-file.folders.keys) (names c.add_path.new.folders.keys)
+    adds_more (IsOfAdded (take k all)) (λ p. c.file-item.result.0 ≡ p) (IsOfAdded (take (k + 1) all)) (names c.args.folders.now.keys)
+    (names c.loop-file.folders.keys) (names c.add_path.new.folders.keys)
     (one_more (λ (e : List ℕ × List ℕ) p. e.0 ≡ p) all k c.file-item.result c.loop-file-test.true c.file-item.is) c.loop-file.invariant c.in_ok-add_path.ensures
 
 pub returns : goal.returns
-returns c = subst (λ cs. AddsFolders (IsOfAdded cs) (names c.args.folders.now.keys) (names c.loop-file.folders.keys)) (take_all c.loop-file.file-index c.args.added.now (omega (arith, c.loop-file-test.false))) c.loop-file.invariant
+returns c = subst (λ cs. AddsFolders (IsOfAdded cs) (names c.args.folders.now.keys) (names c.loop-file.folders.keys))
+    (take_all c.loop-file.file-index c.args.added.now (omega (arith, c.loop-file-test.false))) c.loop-file.invariant

@@ -14,8 +14,10 @@ pub loop-change-preserved : goal.loop-change-preserved
 loop-change-preserved c =
     let all = c.args.changes.now in
     let k = c.loop-change.change-index in
-    adds_more (IsOfChanges (take k all)) (IsOfChange c.change-item.result) (IsOfChanges (take (k + 1) all)) (names c.args.folders.now.keys) (names c.loop-change.folders.keys) (names c.add_change.new.folders.keys)
+    adds_more (IsOfChanges (take k all)) (IsOfChange c.change-item.result) (IsOfChanges (take (k + 1) all)) (names c.args.folders.now.keys)
+    (names c.loop-change.folders.keys) (names c.add_change.new.folders.keys)
     (one_more IsOfChange all k c.change-item.result c.loop-change-test.true c.change-item.is) c.loop-change.invariant c.in_ok-add_change.ensures
 
 pub returns : goal.returns
-returns c = subst (λ cs. AddsFolders (IsOfChanges cs) (names c.args.folders.now.keys) (names c.loop-change.folders.keys)) (take_all c.loop-change.change-index c.args.changes.now (omega (arith, c.loop-change-test.false))) c.loop-change.invariant
+returns c = subst (λ cs. AddsFolders (IsOfChanges cs) (names c.args.folders.now.keys) (names c.loop-change.folders.keys))
+    (take_all c.loop-change.change-index c.args.changes.now (omega (arith, c.loop-change-test.false))) c.loop-change.invariant

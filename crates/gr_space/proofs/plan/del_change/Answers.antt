@@ -22,6 +22,7 @@ returns c =
     let path = c.args.path.now in
     let is = c.in_ok-edits.ensures in
     let files = ap (λ (s : FileChanges). edited s w) is ∙ del_edited w path (some_from (get w path) c.requires) in
-    let whole : ◌≡◌ {A = Change} (record { base = w; kind = Del; edits = c.in_ok-edits.edits; files = edited c.in_ok-edits.edits w }) (record { base = w; kind = Del; edits = del_changes path; files = remove w path }) =
+    let whole : ◌≡◌ {A = Change} (record { base = w; kind = Del; edits = c.in_ok-edits.edits; files = edited c.in_ok-edits.edits w })
+    (record { base = w; kind = Del; edits = del_changes path; files = remove w path }) =
     (λ i. record { base = w; kind = Del; edits = is i; files = files i }) in
     subst (λ (x : Change). IfOk c.of.result (λ change. change ≡ x)) whole c.of.ensures

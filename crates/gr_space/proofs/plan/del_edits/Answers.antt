@@ -7,5 +7,6 @@ use Rattle.gr_space.proofs.plan.del_edits.Goals as goal
 pub new-requires-2 : goal.new-requires-2
 new-requires-2 c =
     del_set_from c.args.path.now c.push.new.self.items c.new.result.items
-    (c.in_ok-push.ensures.items ∙ ap (λ (xs : List FileChange). xs ++ c.in_ok-dropping.field-0 ∷ []) c.new-changed.ensures.items ∙ ap (λ (x : FileChange). x ∷ []) c.in_ok-dropping.ensures)
+    (c.in_ok-push.ensures.items ∙ ap (λ (xs : List FileChange). xs ++ c.in_ok-dropping.field-0 ∷ []) c.new-changed.ensures.items ∙
+    ap (λ (x : FileChange). x ∷ []) c.in_ok-dropping.ensures)
     c.new.ensures.items

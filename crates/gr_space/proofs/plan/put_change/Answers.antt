@@ -22,6 +22,7 @@ returns c =
     let w = c.args.snapshot.now.files in
     let is = c.in_ok-edits.ensures ∙ ap (λ (v : Workspace). put_changes v c.args.path c.args.text) c.files.ensures in
     let files = ap (λ (s : FileChanges). edited s w) is ∙ put_edited w c.args.path c.args.text in
-    let whole : ◌≡◌ {A = Change} (record { base = w; kind = Put; edits = c.in_ok-edits.edits; files = edited c.in_ok-edits.edits w }) (record { base = w; kind = Put; edits = put_changes w c.args.path c.args.text; files = insert w c.args.path c.args.text }) =
+    let whole : ◌≡◌ {A = Change} (record { base = w; kind = Put; edits = c.in_ok-edits.edits; files = edited c.in_ok-edits.edits w })
+    (record { base = w; kind = Put; edits = put_changes w c.args.path c.args.text; files = insert w c.args.path c.args.text }) =
     (λ i. record { base = w; kind = Put; edits = is i; files = files i }) in
     subst (λ (x : Change). IfOk c.of.result (λ change. change ≡ x)) whole c.of.ensures

@@ -12,5 +12,9 @@ returns c =
     let same = ap (λ t. make c.args.rank t kind.Package) c.clause_token.ensures in
     call_adds c.args.found.now.items c.push.new.found.items (λ f. f ≡ make c.args.rank c.clause_token.result kind.Package)
     (IsFaultOfClause c.args.name.now (c.args.rank, source_of c.args.file.now)) c.push.result c.push.ensures
-    (λ f e. record { at = e ∙ same; differs = is_false (clause_name (source_of c.args.file.now) ≡ c.args.name.now) c.is_named.result c.is_named.ensures c.if-is_named.false })
+    (λ f e. record {
+      at = e ∙ same;
+      differs = is_false (clause_name (source_of c.args.file.now) ≡ c.args.name.now) c.is_named.result c.is_named.ensures
+          c.if-is_named.false;
+    })
     (λ f h. h.at ∙ sym same)

@@ -7,4 +7,5 @@ use Rattle.gr_stages.specs.Clauses.{IsFaultOfClause}
 use Rattle.gr_stages.proofs.clauses.add_clauses.Given as goal
 
 abbrev pub invariant-loop-rank : goal.invariant-loop-rank
-invariant-loop-rank l = AddsEach (IsFaultOfClause l.name) l.initial.found.items l.found.items (flat_map (λ r. r ∷ []) (take l.rank (enumerate_from 0 (map source_of l.files))))
+invariant-loop-rank l = AddsEach (IsFaultOfClause l.name) l.initial.found.items l.found.items
+    (flat_map (λ r. r ∷ []) (take l.rank (enumerate_from 0 (map source_of l.files))))

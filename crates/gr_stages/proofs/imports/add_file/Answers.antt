@@ -29,13 +29,17 @@ imports_from r tree ds f et ed =
 pub loop-decl-preserved : goal.loop-decl-preserved
 loop-decl-preserved c =
     each_step (IsFaultOfImport (state_in c.args.states.now)) c.args.found.now.items c.loop-decl.found.items c.add_import_decl.new.found.items
-    (λ d. map (λ i. ((c.args.rank, source_of c.args.file.now), i)) (group_items (imports_view d).imports)) c.deref-decl-items.result.now c.loop-decl.decl-index c.decl-item.result
+    (λ d. map (λ i. ((c.args.rank, source_of c.args.file.now), i)) (group_items (imports_view d).imports)) c.deref-decl-items.result.now
+    c.loop-decl.decl-index c.decl-item.result
     (omega arith) c.decl-item.is c.loop-decl.invariant c.in_ok-add_import_decl.ensures
 
 pub returns : goal.returns
 returns c =
     let Q = IsFaultOfImport (state_in c.args.states.now) in
     each_as Q c.args.found.now.items c.loop-decl.found.items _ _
-    (each_all Q c.args.found.now.items c.loop-decl.found.items (λ d. map (λ i. ((c.args.rank, source_of c.args.file.now), i)) (group_items (imports_view d).imports)) c.deref-decl-items.result.now c.loop-decl.decl-index
+    (each_all Q c.args.found.now.items c.loop-decl.found.items
+    (λ d. map (λ i. ((c.args.rank, source_of c.args.file.now), i)) (group_items (imports_view d).imports)) c.deref-decl-items.result.now
+    c.loop-decl.decl-index
     (omega arith) c.loop-decl.invariant)
-    (imports_from (c.args.rank, source_of c.args.file.now) c.file-tree.result.now c.deref-decl-items.result.now c.args.file.now c.file-tree.ensures.tree c.deref-decl-items.ensures.value)
+    (imports_from (c.args.rank, source_of c.args.file.now) c.file-tree.result.now c.deref-decl-items.result.now c.args.file.now c.file-tree.ensures.tree
+    c.deref-decl-items.ensures.value)

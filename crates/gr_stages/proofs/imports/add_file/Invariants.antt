@@ -10,4 +10,5 @@ use Rattle.gr_stages.specs.Imports.{IsFaultOfImport}
 use Rattle.gr_stages.proofs.imports.add_file.Given as goal
 
 abbrev pub invariant-loop-decl : goal.invariant-loop-decl
-invariant-loop-decl l = AddsEach (IsFaultOfImport (state_in l.states)) l.initial.found.items l.found.items (flat_map (λ d. map (λ i. ((l.rank, source_of l.file), i)) (group_items (imports_view d).imports)) (take l.decl-index l.decl-items))
+invariant-loop-decl l = AddsEach (IsFaultOfImport (state_in l.states)) l.initial.found.items l.found.items
+    (flat_map (λ d. map (λ i. ((l.rank, source_of l.file), i)) (group_items (imports_view d).imports)) (take l.decl-index l.decl-items))

@@ -9,4 +9,5 @@ use Rattle.gr_stages.specs.Imports.{IsFaultOfImport}
 use Rattle.gr_stages.proofs.imports.add_import_decl.Given as goal
 
 abbrev pub invariant-loop-item : goal.invariant-loop-item
-invariant-loop-item l = AddsEach (IsFaultOfImport (state_in l.states)) l.initial.found.items l.found.items (flat_map (λ x. ((l.rank, source_of l.file), import_view x.value) ∷ []) (take l.item-index l.item-items))
+invariant-loop-item l = AddsEach (IsFaultOfImport (state_in l.states)) l.initial.found.items l.found.items
+    (flat_map (λ x. ((l.rank, source_of l.file), import_view x.value) ∷ []) (take l.item-index l.item-items))

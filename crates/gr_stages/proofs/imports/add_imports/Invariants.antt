@@ -8,4 +8,5 @@ use Rattle.gr_stages.specs.Imports.{IsFaultOfImport, placed_imports}
 use Rattle.gr_stages.proofs.imports.add_imports.Given as goal
 
 abbrev pub invariant-loop-rank : goal.invariant-loop-rank
-invariant-loop-rank l = AddsEach (IsFaultOfImport (state_in l.states)) l.initial.found.items l.found.items (flat_map placed_imports (take l.rank (enumerate_from 0 (map source_of l.files))))
+invariant-loop-rank l = AddsEach (IsFaultOfImport (state_in l.states)) l.initial.found.items l.found.items
+    (flat_map placed_imports (take l.rank (enumerate_from 0 (map source_of l.files))))

@@ -13,6 +13,7 @@ same_kind k j e = cc
 pub returns-in-Some : goal.returns-in-Some
 returns-in-Some c =
     let some : import_fault c.args.state ≡ Some c.in-Some.kind = sym c.fault.ensures ∙ c.in-Some.is in
-    call_adds c.args.found.now.items c.push.new.found.items (λ f. f ≡ make c.args.rank c.args.token c.in-Some.kind) (IsFaultOfState c.args.rank c.args.token c.args.state) c.push.result c.push.ensures
+    call_adds c.args.found.now.items c.push.new.found.items (λ f. f ≡ make c.args.rank c.args.token c.in-Some.kind)
+    (IsFaultOfState c.args.rank c.args.token c.args.state) c.push.result c.push.ensures
     (λ f e. record { in_file = ap (λ x. x.file) e; at_token = ap (λ x. x.token) e; kind = some ∙ ap (λ x. Some x.kind) (sym e) })
     (λ f h. fault_from f c.args.rank c.args.token c.in-Some.kind h.in_file h.at_token (same_kind f.kind c.in-Some.kind (sym h.kind ∙ some)))

@@ -13,6 +13,7 @@ returns c =
     let Q = IsFaultOfMark (laid_in c.args.scope.table.now) c.args.scope.rank in
     let x : Mark = Defines (exprs_view c.args.left.now) c.args.at in
     call_one Q c.args.found.now.items c.push_if.new.found.items x (x ∷ []) c.push_if.result
-    (call_adds c.args.found.now.items c.push_if.new.found.items (λ f. IsTrue c.is_old.result × (f ≡ make c.args.scope.rank c.args.at kind.NoNew)) (Q x) c.push_if.result c.push_if.ensures
+    (call_adds c.args.found.now.items c.push_if.new.found.items (λ f. IsTrue c.is_old.result × (f ≡ make c.args.scope.rank c.args.at kind.NoNew)) (Q x)
+    c.push_if.result c.push_if.ensures
     (λ f h. (h.1, c.is_old.ensures.0 h.0)) (λ f h. (c.is_old.ensures.1 h.1, h.0)))
     refl

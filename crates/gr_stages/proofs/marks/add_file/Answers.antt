@@ -23,11 +23,14 @@ marks_from tree ds f et ed = ap (flat_map decl_part) (ed ∙ ap (λ t. t.decls.i
 
 pub loop-decl-preserved : goal.loop-decl-preserved
 loop-decl-preserved c =
-    each_step (IsFaultOfMark (laid_in c.args.scope.table.now) c.args.scope.rank) c.args.found.now.items c.loop-decl.found.items c.add_decl.new.found.items decl_part c.deref-decl-items.result.now c.loop-decl.decl-index c.decl-item.result
+    each_step (IsFaultOfMark (laid_in c.args.scope.table.now) c.args.scope.rank) c.args.found.now.items c.loop-decl.found.items c.add_decl.new.found.items
+    decl_part c.deref-decl-items.result.now c.loop-decl.decl-index c.decl-item.result
     (omega arith) c.decl-item.is c.loop-decl.invariant c.in_ok-add_decl.ensures
 
 pub returns : goal.returns
 returns c =
-    each_as (IsFaultOfMark (laid_in c.args.scope.table.now) c.args.scope.rank) c.args.found.now.items c.loop-decl.found.items (flat_map decl_part c.deref-decl-items.result.now) (file_marks (source_of c.args.file.now).tree)
-    (each_all (IsFaultOfMark (laid_in c.args.scope.table.now) c.args.scope.rank) c.args.found.now.items c.loop-decl.found.items decl_part c.deref-decl-items.result.now c.loop-decl.decl-index (omega arith) c.loop-decl.invariant)
+    each_as (IsFaultOfMark (laid_in c.args.scope.table.now) c.args.scope.rank) c.args.found.now.items c.loop-decl.found.items
+    (flat_map decl_part c.deref-decl-items.result.now) (file_marks (source_of c.args.file.now).tree)
+    (each_all (IsFaultOfMark (laid_in c.args.scope.table.now) c.args.scope.rank) c.args.found.now.items c.loop-decl.found.items decl_part
+    c.deref-decl-items.result.now c.loop-decl.decl-index (omega arith) c.loop-decl.invariant)
     (marks_from c.file-tree.result.now c.deref-decl-items.result.now c.args.file.now c.file-tree.ensures.tree c.deref-decl-items.ensures.value)

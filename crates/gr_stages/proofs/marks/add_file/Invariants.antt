@@ -8,4 +8,5 @@ use Rattle.gr_stages.specs.Marks.{IsFaultOfMark, decl_marks}
 use Rattle.gr_stages.proofs.marks.add_file.Given as goal
 
 abbrev pub invariant-loop-decl : goal.invariant-loop-decl
-invariant-loop-decl l = AddsEach (IsFaultOfMark (laid_in l.scope.table.now) l.scope.rank) l.initial.found.items l.found.items (flat_map (λ d. decl_marks (decl_view d)) (take l.decl-index l.decl-items))
+invariant-loop-decl l = AddsEach (IsFaultOfMark (laid_in l.scope.table.now) l.scope.rank) l.initial.found.items l.found.items
+    (flat_map (λ d. decl_marks (decl_view d)) (take l.decl-index l.decl-items))

@@ -10,5 +10,7 @@ use Rattle.gr_stages.proofs.marks.add_init.Goals as goal
 pub returns-in-Some : goal.returns-in-Some
 unfolding init_view
 returns-in-Some c =
-    call_each (IsFaultOfMark (laid_in c.args.scope.table.now) c.args.scope.rank) c.args.found.now.items c.add_optional.new.found.items (optional_marks (option_view simple_view c.in-Some.init.statement)) (init_marks (option_view init_view c.args.init.now)) c.add_optional.result c.add_optional.ensures
+    call_each (IsFaultOfMark (laid_in c.args.scope.table.now) c.args.scope.rank) c.args.found.now.items c.add_optional.new.found.items
+    (optional_marks (option_view simple_view c.in-Some.init.statement)) (init_marks (option_view init_view c.args.init.now)) c.add_optional.result
+    c.add_optional.ensures
     (ap (λ v. init_marks (option_view init_view v)) (sym c.in-Some.is))

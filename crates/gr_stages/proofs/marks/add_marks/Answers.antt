@@ -11,7 +11,8 @@ use Rattle.gr_stages.proofs.marks.add_marks.Goals as goal
 pub loop-rank-preserved : goal.loop-rank-preserved
 loop-rank-preserved c =
     let Q = IsFaultOfMarks (laid_in c.args.table.now) in
-    next_file Q c.args.found.now.items c.loop-rank.found.items c.add_file.new.found.items (λ r. r ∷ []) source_of c.args.files.now c.loop-rank.rank c.index-files-rank.result
+    next_file Q c.args.found.now.items c.loop-rank.found.items c.add_file.new.found.items (λ r. r ∷ []) source_of c.args.files.now c.loop-rank.rank
+    c.index-files-rank.result
     (omega arith) c.index-files-rank.is c.loop-rank.invariant
     (each_one Q c.loop-rank.found.items c.add_file.new.found.items (c.loop-rank.rank, source_of c.index-files-rank.result) c.in_ok-add_file.ensures)
 

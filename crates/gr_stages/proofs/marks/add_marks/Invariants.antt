@@ -8,4 +8,5 @@ use Rattle.gr_stages.specs.Marks.{IsFaultOfMarks}
 use Rattle.gr_stages.proofs.marks.add_marks.Given as goal
 
 abbrev pub invariant-loop-rank : goal.invariant-loop-rank
-invariant-loop-rank l = AddsEach (IsFaultOfMarks (laid_in l.table)) l.initial.found.items l.found.items (flat_map (λ r. r ∷ []) (take l.rank (enumerate_from 0 (map source_of l.files))))
+invariant-loop-rank l = AddsEach (IsFaultOfMarks (laid_in l.table)) l.initial.found.items l.found.items
+    (flat_map (λ r. r ∷ []) (take l.rank (enumerate_from 0 (map source_of l.files))))

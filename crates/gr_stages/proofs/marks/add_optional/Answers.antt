@@ -9,5 +9,6 @@ use Rattle.gr_stages.proofs.marks.add_optional.Goals as goal
 
 pub returns-in-Some : goal.returns-in-Some
 returns-in-Some c =
-    call_each (IsFaultOfMark (laid_in c.args.scope.table.now) c.args.scope.rank) c.args.found.now.items c.add_simple.new.found.items (simple_marks (simple_view c.in-Some.simple)) (optional_marks (option_view simple_view c.args.statement.now)) c.add_simple.result c.add_simple.ensures
+    call_each (IsFaultOfMark (laid_in c.args.scope.table.now) c.args.scope.rank) c.args.found.now.items c.add_simple.new.found.items
+    (simple_marks (simple_view c.in-Some.simple)) (optional_marks (option_view simple_view c.args.statement.now)) c.add_simple.result c.add_simple.ensures
     (ap (λ v. optional_marks (option_view simple_view v)) (sym c.in-Some.is))

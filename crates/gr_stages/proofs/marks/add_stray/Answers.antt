@@ -7,5 +7,6 @@ use Rattle.gr_stages.proofs.marks.add_stray.Goals as goal
 
 pub returns : goal.returns
 returns c =
-    call_one (IsFaultOfMark (laid_in c.args.scope.table.now) c.args.scope.rank) c.args.found.now.items c.push.new.found.items (Stray c.args.at) (stray c.args.in_for c.args.at) c.push.result c.push.ensures
+    call_one (IsFaultOfMark (laid_in c.args.scope.table.now) c.args.scope.rank) c.args.found.now.items c.push.new.found.items (Stray c.args.at)
+    (stray c.args.in_for c.args.at) c.push.result c.push.ensures
     (ap (λ v. stray v c.args.at) (sym c.if-in_for.false))

@@ -11,7 +11,8 @@ loop-u-init c = below_none (IsFaultOfIdentifier (laid_in c.args.table.now)) c.ar
 
 pub loop-u-preserved : goal.loop-u-preserved
 loop-u-preserved c =
-    below_next (IsFaultOfIdentifier (laid_in c.args.table.now)) c.args.found.now.items c.loop-u.found.items c.add_identifier.new.found.items c.loop-u.u c.loop-u.invariant c.in_ok-add_identifier.ensures
+    below_next (IsFaultOfIdentifier (laid_in c.args.table.now)) c.args.found.now.items c.loop-u.found.items c.add_identifier.new.found.items c.loop-u.u
+    c.loop-u.invariant c.in_ok-add_identifier.ensures
 
 pub returns : goal.returns
 returns c =

@@ -7,7 +7,8 @@ use Rattle.gr_stages.proofs.scoping.add_undeclared.Goals as goal
 
 pub returns : goal.returns
 returns c =
-    call_adds c.args.found.now.items c.push_if.new.found.items (λ f. IsTrue c.is_undeclared.result × (f ≡ c.fault_at-fault.result)) (IsUndeclared (laid_in c.args.table.now) c.args.u)
+    call_adds c.args.found.now.items c.push_if.new.found.items (λ f. IsTrue c.is_undeclared.result × (f ≡ c.fault_at-fault.result))
+    (IsUndeclared (laid_in c.args.table.now) c.args.u)
     c.push_if.result c.push_if.ensures
     (λ f h. let b = c.is_undeclared.ensures.0 h.0 in record { at = h.1 ∙ c.fault_at-fault.ensures; is_use = b.0; unbound = b.1 })
     (λ f h. (c.is_undeclared.ensures.1 (h.is_use, h.unbound), h.at ∙ sym c.fault_at-fault.ensures))

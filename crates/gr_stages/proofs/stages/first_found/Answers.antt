@@ -20,7 +20,9 @@ returns c =
     let h = subst (λ z. Adds z a P) c.new-found.ensures.items c.in_ok-add_clauses.ensures in
     elim c.if-has_none.branch [
       | then-has_none+in_ok-add_imports w ↦ subst (λ v. Lists (IsOuterFault (state_in c.args.states.now) fs) v.items) (sym w.found-is)
-          (later_listed P Q a w.add_imports.new.found.items h (sym c.as_slice.ensures.value ∙ c.has_none.ensures.0 w.if-has_none.true) w.in_ok-add_imports.ensures)
+          (later_listed P Q a w.add_imports.new.found.items h (sym c.as_slice.ensures.value ∙ c.has_none.ensures.0 w.if-has_none.true)
+          w.in_ok-add_imports.ensures)
       | else-has_none w ↦ subst (λ v. Lists (IsOuterFault (state_in c.args.states.now) fs) v.items) (sym w.found-is)
-          (first_listed P Q a h (λ e. is_false (c.as_slice.result.now ≡ []) c.has_none.result c.has_none.ensures w.if-has_none.false (c.as_slice.ensures.value ∙ e)))
+          (first_listed P Q a h (λ e. is_false (c.as_slice.result.now ≡ []) c.has_none.result c.has_none.ensures w.if-has_none.false
+          (c.as_slice.ensures.value ∙ e)))
     ]

@@ -8,4 +8,5 @@ use Rattle.gr_stages.proofs.stages.inner_faults.Goals as goal
 
 pub returns-clause-listed : goal.returns-clause-listed
 returns-clause-listed g c =
-    same_listed (IsInnerFault (map source_of c.args.files.now) (g.E.Exports.exported c.args.exports.now) (laid_in c.args.table.now)) c.in_ok-found.found.items c.sort.new.found.items c.in_ok-found.ensures c.sort.ensures.same
+    same_listed (IsInnerFault (map source_of c.args.files.now) (g.E.Exports.exported c.args.exports.now) (laid_in c.args.table.now))
+    c.in_ok-found.found.items c.sort.new.found.items c.in_ok-found.ensures c.sort.ensures.same

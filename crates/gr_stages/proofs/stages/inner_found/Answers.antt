@@ -11,4 +11,5 @@ pub returns : goal.returns
 returns g c =
     let p = laid_in c.args.table.now in
     let files = map source_of c.args.files.now in
-    listed_then (IsOwnFault files p) (IsUnknownFault files (g.E.Exports.exported c.args.exports.now) p) c.in_ok-found.found.items c.add_unknowns.new.found.items c.in_ok-found.ensures c.in_ok-add_unknowns.ensures
+    listed_then (IsOwnFault files p) (IsUnknownFault files (g.E.Exports.exported c.args.exports.now) p) c.in_ok-found.found.items
+    c.add_unknowns.new.found.items c.in_ok-found.ensures c.in_ok-add_unknowns.ensures

@@ -7,4 +7,5 @@ use Rattle.gr_stages.specs.Stages.{IsOuterFault}
 use Rattle.gr_stages.proofs.stages.outer_faults.Goals as goal
 
 pub returns-clause-listed : goal.returns-clause-listed
-returns-clause-listed c = same_listed (IsOuterFault (state_in c.args.states.now) (map source_of c.args.files.now)) c.in_ok-found.found.items c.sort.new.found.items c.in_ok-found.ensures c.sort.ensures.same
+returns-clause-listed c = same_listed (IsOuterFault (state_in c.args.states.now) (map source_of c.args.files.now)) c.in_ok-found.found.items
+    c.sort.new.found.items c.in_ok-found.ensures c.sort.ensures.same

@@ -7,4 +7,5 @@ use Rattle.gr_stages.specs.Stages.{IsOwnFault}
 use Rattle.gr_stages.proofs.stages.own_faults.Goals as goal
 
 pub returns-clause-listed : goal.returns-clause-listed
-returns-clause-listed c = same_listed (IsOwnFault (map source_of c.args.files.now) (laid_in c.args.table.now)) c.in_ok-found.found.items c.sort.new.found.items c.in_ok-found.ensures c.sort.ensures.same
+returns-clause-listed c = same_listed (IsOwnFault (map source_of c.args.files.now) (laid_in c.args.table.now)) c.in_ok-found.found.items
+    c.sort.new.found.items c.in_ok-found.ensures c.sort.ensures.same

@@ -12,4 +12,5 @@ pub returns : goal.returns
 returns c =
     let P = IsScopeFault (laid_in c.args.table.now) in
     let Q = IsMarkFault (map source_of c.args.files.now) (laid_in c.args.table.now) in
-    both_listed P Q c.add_scopes.new.found.items c.add_marks.new.found.items (subst (λ z. Adds z c.add_scopes.new.found.items P) c.new-found.ensures.items c.in_ok-add_scopes.ensures) c.in_ok-add_marks.ensures
+    both_listed P Q c.add_scopes.new.found.items c.add_marks.new.found.items
+    (subst (λ z. Adds z c.add_scopes.new.found.items P) c.new-found.ensures.items c.in_ok-add_scopes.ensures) c.in_ok-add_marks.ensures

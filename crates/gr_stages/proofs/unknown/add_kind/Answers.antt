@@ -15,5 +15,11 @@ returns-in-Some c =
     let p = laid_in c.args.table.now in
     let at = p.layout.place c.args.u in
     call_adds c.args.found.now.items c.push.new.found.items (λ f. f ≡ c.fault_at.result) (IsFaultOfKind p c.args.u c.args.kind) c.push.result c.push.ensures
-    (λ f e. let is = e ∙ c.fault_at.ensures in record { file = ap (λ x. x.file) is; token = ap (λ x. x.token) is; is_kind = c.in-Some.is ∙ ap (λ x. Some x.kind) (sym is) })
-    (λ f h. fault_from f at.file at.index c.in-Some.kind h.file h.token (same_kind f.kind c.in-Some.kind (sym h.is_kind ∙ c.in-Some.is)) ∙ sym c.fault_at.ensures)
+    (λ f e. let is = e ∙ c.fault_at.ensures in record {
+      file = ap (λ x. x.file) is;
+      token = ap (λ x. x.token) is;
+      is_kind = c.in-Some.is ∙
+          ap (λ x. Some x.kind) (sym is);
+    })
+    (λ f h. fault_from f at.file at.index c.in-Some.kind h.file h.token (same_kind f.kind c.in-Some.kind (sym h.is_kind ∙ c.in-Some.is)) ∙
+    sym c.fault_at.ensures)

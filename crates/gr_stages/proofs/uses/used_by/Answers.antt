@@ -12,4 +12,5 @@ used_from U B (Some d) u h = (u, h)
 pub returns-then-is_name_use : goal.returns-then-is_name_use
 returns-then-is_name_use c =
     let p = laid_in c.args.table.now in
-    used_from (IsUse p.layout p.names c.args.u) (λ d. IsBoundTo p.layout p.names c.args.u d) c.binding.result (c.is_name_use.ensures.0 c.if-is_name_use.true) c.binding.ensures
+    used_from (IsUse p.layout p.names c.args.u) (λ d. IsBoundTo p.layout p.names c.args.u d) c.binding.result
+    (c.is_name_use.ensures.0 c.if-is_name_use.true) c.binding.ensures

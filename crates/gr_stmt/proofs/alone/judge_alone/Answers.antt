@@ -11,8 +11,10 @@ use Rattle.gr_stmt.proofs.alone.judge_alone.Goals as goal
 
 pub returns-in-Chain-clause-found : goal.returns-in-Chain-clause-found
 returns-in-Chain-clause-found c =
-    ok_map c.judge_chain.result (λ a q. adds_as q (ap (judge (world_of c.args.scope.world.now) (locals_of c.args.scope.locals.now)) (chain_is c.in-Chain.first c.in-Chain.links c.in-Chain.is _ _ c.deref.ensures c.deref-in-Chain.ensures.value))) c.judge_chain.ensures.found
+    ok_map c.judge_chain.result (λ a q. adds_as q (ap (judge (world_of c.args.scope.world.now) (locals_of c.args.scope.locals.now))
+    (chain_is c.in-Chain.first c.in-Chain.links c.in-Chain.is _ _ c.deref.ensures c.deref-in-Chain.ensures.value))) c.judge_chain.ensures.found
 
 pub returns-in-Chain-clause-stands : goal.returns-in-Chain-clause-stands
 returns-in-Chain-clause-stands c =
-    ok_map c.judge_chain.result (λ a q. q ∙ ap (is_statement (world_of c.args.scope.world.now) (locals_of c.args.scope.locals.now)) (chain_is c.in-Chain.first c.in-Chain.links c.in-Chain.is _ _ c.deref.ensures c.deref-in-Chain.ensures.value)) c.judge_chain.ensures.stands
+    ok_map c.judge_chain.result (λ a q. q ∙ ap (is_statement (world_of c.args.scope.world.now) (locals_of c.args.scope.locals.now))
+    (chain_is c.in-Chain.first c.in-Chain.links c.in-Chain.is _ _ c.deref.ensures c.deref-in-Chain.ensures.value)) c.judge_chain.ensures.stands

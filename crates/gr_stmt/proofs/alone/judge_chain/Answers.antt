@@ -15,16 +15,21 @@ use Rattle.gr_stmt.proofs.alone.judge_chain.Goals as goal
 
 pub returns-in-Some-clause-found : goal.returns-in-Some-clause-found
 returns-in-Some-clause-found c =
-    ok_map c.judge_last.result (λ a q. adds_as q (ap (λ x. judge (world_of c.args.scope.world.now) (locals_of c.args.scope.locals.now) (Chain (expr_view c.args.first.now) (links_in x))) (sym c.in-Some.ensures.cases.0))) c.judge_last.ensures.found
+    ok_map c.judge_last.result (λ a q. adds_as q (ap (λ x.
+    judge (world_of c.args.scope.world.now) (locals_of c.args.scope.locals.now) (Chain (expr_view c.args.first.now) (links_in x)))
+    (sym c.in-Some.ensures.cases.0))) c.judge_last.ensures.found
 
 pub returns-in-Some-clause-stands : goal.returns-in-Some-clause-stands
 returns-in-Some-clause-stands c =
-    ok_map c.judge_last.result (λ a q. q ∙ ap (λ x. is_statement (world_of c.args.scope.world.now) (locals_of c.args.scope.locals.now) (Chain (expr_view c.args.first.now) (links_in x))) (sym c.in-Some.ensures.cases.0)) c.judge_last.ensures.stands
+    ok_map c.judge_last.result (λ a q. q ∙ ap (λ x. is_statement (world_of c.args.scope.world.now) (locals_of c.args.scope.locals.now)
+    (Chain (expr_view c.args.first.now) (links_in x))) (sym c.in-Some.ensures.cases.0)) c.judge_last.ensures.stands
 
 pub returns-in_ok-meaning-in-None-clause-found : goal.returns-in_ok-meaning-in-None-clause-found
 returns-in_ok-meaning-in-None-clause-found c =
-    bare_adds (world_of c.args.scope.world.now) (locals_of c.args.scope.locals.now) (expr_view c.args.first.now) c.args.links.now (nil_from_length c.args.links.now c.in-None.ensures.cases) c.in_ok-meaning-in-None.ensures
+    bare_adds (world_of c.args.scope.world.now) (locals_of c.args.scope.locals.now) (expr_view c.args.first.now) c.args.links.now
+    (nil_from_length c.args.links.now c.in-None.ensures.cases) c.in_ok-meaning-in-None.ensures
 
 pub returns-in_ok-meaning-in-None-clause-stands : goal.returns-in_ok-meaning-in-None-clause-stands
 returns-in_ok-meaning-in-None-clause-stands c =
-    bare_stands (world_of c.args.scope.world.now) (locals_of c.args.scope.locals.now) (expr_view c.args.first.now) c.args.links.now (nil_from_length c.args.links.now c.in-None.ensures.cases)
+    bare_stands (world_of c.args.scope.world.now) (locals_of c.args.scope.locals.now) (expr_view c.args.first.now) c.args.links.now
+    (nil_from_length c.args.links.now c.in-None.ensures.cases)

@@ -8,4 +8,5 @@ use Rattle.gr_stmt.proofs.Growing.{GrownFaults}
 use Rattle.gr_stmt.proofs.declarations.note_field_faults.Given as goal
 
 abbrev pub invariant-loop-item : goal.invariant-loop-item
-invariant-loop-item l = GrownFaults (field_faults (world_of l.world) (list_view field_view (drop l.item-index l.fields))) (field_faults (world_of l.world) (list_view field_view l.fields)) l.initial.found l.found
+invariant-loop-item l = GrownFaults (field_faults (world_of l.world) (list_view field_view (drop l.item-index l.fields)))
+    (field_faults (world_of l.world) (list_view field_view l.fields)) l.initial.found l.found

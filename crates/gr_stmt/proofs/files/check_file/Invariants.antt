@@ -8,4 +8,5 @@ use Rattle.gr_stmt.proofs.files.check_file.Given as goal
 
 abbrev pub invariant-loop-decl : goal.invariant-loop-decl
 invariant-loop-decl l =
-    check_decls (world_of l.world) (is_init_in l.world) (checked_of l.checked) (map decl_view (drop l.decl-index l.decl-items)) ≡ check_decls (world_of l.world) (is_init_in l.world) (checked_of l.initial.checked) (map decl_view l.decl-items)
+    check_decls (world_of l.world) (is_init_in l.world) (checked_of l.checked) (map decl_view (drop l.decl-index l.decl-items)) ≡ check_decls
+    (world_of l.world) (is_init_in l.world) (checked_of l.initial.checked) (map decl_view l.decl-items)

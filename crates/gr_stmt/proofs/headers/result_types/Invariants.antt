@@ -9,4 +9,5 @@ use Rattle.gr_stmt.proofs.headers.result_types.Given as goal
 
 abbrev pub invariant-loop-item : goal.invariant-loop-item
 invariant-loop-item l =
-    GrownResults (judge_types (world_of l.world) (list_view type_view (drop l.item-index l.types))) (judge_types (world_of l.world) (list_view type_view l.types)) l.initial.found l.found (map target_of l.targets.items)
+    GrownResults (judge_types (world_of l.world) (list_view type_view (drop l.item-index l.types)))
+    (judge_types (world_of l.world) (list_view type_view l.types)) l.initial.found l.found (map target_of l.targets.items)

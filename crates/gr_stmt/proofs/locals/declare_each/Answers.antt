@@ -12,10 +12,13 @@ loop-i-preserved c =
     let within : c.loop-i.i < length c.args.values.now = omega arith in
     ap (λ ls. with_locals ls (drop (c.loop-i.i + 1) c.args.names.now) (taken_types (map argued_of (drop (c.loop-i.i + 1) c.args.values.now))))
     (c.in_ok-declare_if.ensures ∙ ap (λ t. declared_if (locals_of c.loop-i.locals) (get_or c.args.names.now c.loop-i.i None) t) c.in_ok-own.ensures)
-    ∙ (sym (ap (λ ns. with_locals (locals_of c.loop-i.locals) ns (taken_types (map argued_of (drop c.loop-i.i c.args.values.now)))) (next_plain c.args.names.now c.loop-i.i None c.loop-i-test.true)
-    ∙ (ap (λ vs. with_locals (locals_of c.loop-i.locals) (get_or c.args.names.now c.loop-i.i None ∷ drop (c.loop-i.i + 1) c.args.names.now) (taken_types (map argued_of vs))) (next_plain c.args.values.now c.loop-i.i c.index-values-i.result within)
+    ∙ (sym (ap (λ ns. with_locals (locals_of c.loop-i.locals) ns (taken_types (map argued_of (drop c.loop-i.i c.args.values.now))))
+    (next_plain c.args.names.now c.loop-i.i None c.loop-i-test.true)
+    ∙ (ap (λ vs. with_locals (locals_of c.loop-i.locals) (get_or c.args.names.now c.loop-i.i None ∷ drop (c.loop-i.i + 1) c.args.names.now)
+    (taken_types (map argued_of vs))) (next_plain c.args.values.now c.loop-i.i c.index-values-i.result within)
     ∙ with_locals_step (locals_of c.loop-i.locals) _ _ _)) ∙ c.loop-i.invariant)
 
 pub returns : goal.returns
 returns c =
-    sym (ap (λ ns. with_locals (locals_of c.loop-i.locals) ns (taken_types (map argued_of (drop c.loop-i.i c.args.values.now)))) (drop_of_length-le _ c.loop-i-test.false) ∙ with_locals_end (locals_of c.loop-i.locals) _) ∙ c.loop-i.invariant
+    sym (ap (λ ns. with_locals (locals_of c.loop-i.locals) ns (taken_types (map argued_of (drop c.loop-i.i c.args.values.now))))
+    (drop_of_length-le _ c.loop-i-test.false) ∙ with_locals_end (locals_of c.loop-i.locals) _) ∙ c.loop-i.invariant

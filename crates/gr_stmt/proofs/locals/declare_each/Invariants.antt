@@ -6,4 +6,5 @@ use Rattle.gr_stmt.proofs.locals.declare_each.Given as goal
 
 abbrev pub invariant-loop-i : goal.invariant-loop-i
 invariant-loop-i l =
-    with_locals (locals_of l.locals) (drop l.i l.names) (taken_types (map argued_of (drop l.i l.values))) ≡ with_locals (locals_of l.initial.locals) l.names (taken_types (map argued_of l.values))
+    with_locals (locals_of l.locals) (drop l.i l.names) (taken_types (map argued_of (drop l.i l.values))) ≡ with_locals (locals_of l.initial.locals) l.names
+    (taken_types (map argued_of l.values))

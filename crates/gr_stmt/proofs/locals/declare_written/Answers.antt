@@ -21,10 +21,13 @@ pub loop-item-preserved : goal.loop-item-preserved
 loop-item-preserved c =
     ap (λ ls. written_locals ls (list_view ident_view (drop (c.loop-item.item-index + 1) c.args.idents.now)) (option_map type_of c.args.own.now))
     (c.in_ok-declare_if.ensures ∙ (ap (λ n. declared_if (locals_of c.loop-item.locals) n (option_map type_of c.in_ok-own.own)) c.named.ensures
-    ∙ ap (λ t. declared_if (locals_of c.loop-item.locals) (named (ident_view (get_or c.args.idents.now c.loop-item.item-index first_name).value)) t) c.in_ok-own.ensures))
-    ∙ (sym (ap (λ xs. written_locals (locals_of c.loop-item.locals) (list_view ident_view xs) (option_map type_of c.args.own.now)) (next_plain c.args.idents.now c.loop-item.item-index first_name c.loop-item-test.true)
+    ∙ ap (λ t. declared_if (locals_of c.loop-item.locals) (named (ident_view (get_or c.args.idents.now c.loop-item.item-index first_name).value)) t)
+    c.in_ok-own.ensures))
+    ∙ (sym (ap (λ xs. written_locals (locals_of c.loop-item.locals) (list_view ident_view xs) (option_map type_of c.args.own.now))
+    (next_plain c.args.idents.now c.loop-item.item-index first_name c.loop-item-test.true)
     ∙ with_locals_step (locals_of c.loop-item.locals) _ _ _) ∙ c.loop-item.invariant)
 
 pub returns : goal.returns
 returns c =
-    sym (ap (λ xs. written_locals (locals_of c.loop-item.locals) (list_view ident_view xs) (option_map type_of c.args.own.now)) (drop_of_length-le _ c.loop-item-test.false) ∙ with_locals_end (locals_of c.loop-item.locals) _) ∙ c.loop-item.invariant
+    sym (ap (λ xs. written_locals (locals_of c.loop-item.locals) (list_view ident_view xs) (option_map type_of c.args.own.now))
+    (drop_of_length-le _ c.loop-item-test.false) ∙ with_locals_end (locals_of c.loop-item.locals) _) ∙ c.loop-item.invariant

@@ -8,4 +8,5 @@ use Rattle.gr_stmt.proofs.locals.declare_written.Given as goal
 
 abbrev pub invariant-loop-item : goal.invariant-loop-item
 invariant-loop-item l =
-    written_locals (locals_of l.locals) (list_view ident_view (drop l.item-index l.idents)) (option_map type_of l.own) ≡ written_locals (locals_of l.initial.locals) (list_view ident_view l.idents) (option_map type_of l.own)
+    written_locals (locals_of l.locals) (list_view ident_view (drop l.item-index l.idents)) (option_map type_of l.own) ≡ written_locals
+    (locals_of l.initial.locals) (list_view ident_view l.idents) (option_map type_of l.own)

@@ -12,11 +12,13 @@ use Rattle.gr_stmt.proofs.sides.assigned_one.Goals as goal
 
 pub returns-in-Blank : goal.returns-in-Blank
 unfolding expr_view assigned_one target_of
-returns-in-Blank c = lefts_as (adds_no_left Takes Broken c.args.found.now) (ap (λ e. assigned_one (world_of c.args.scope.world.now) (locals_of c.args.scope.locals.now) (expr_view e)) (sym c.in-Blank.is))
+returns-in-Blank c = lefts_as (adds_no_left Takes Broken c.args.found.now)
+    (ap (λ e. assigned_one (world_of c.args.scope.world.now) (locals_of c.args.scope.locals.now) (expr_view e)) (sym c.in-Blank.is))
 
 pub returns-in_ok-meaning-in_default : goal.returns-in_ok-meaning-in_default
 unfolding target_of
 returns-in_ok-meaning-in_default c =
-    lefts_as (adds_left (Wants (own_type (judge_operand (world_of c.args.scope.world.now) (locals_of c.args.scope.locals.now) (expr_view c.args.expr.now)).meaning)) c.in_ok-meaning-in_default.ensures
+    lefts_as (adds_left (Wants (own_type (judge_operand (world_of c.args.scope.world.now) (locals_of c.args.scope.locals.now)
+    (expr_view c.args.expr.now)).meaning)) c.in_ok-meaning-in_default.ensures
     (ap (λ t. Wants t ∷ []) (c.own_type.ensures ∙ ap own_type c.in_ok-meaning-in_default.ensures.meaning)))
     (assigned_default (world_of c.args.scope.world.now) (locals_of c.args.scope.locals.now) c.args.expr.now c.in_default.not-Blank)

@@ -14,11 +14,14 @@ use Rattle.gr_stmt.proofs.sides.defined.Goals as goal
 
 pub loop-item-preserved : goal.loop-item-preserved
 loop-item-preserved c =
-    subst (λ (ts : List Target). GrownLefts (defined (world_of c.args.scope.world.now) (locals_of c.args.scope.locals.now) (exprs_view (drop (c.loop-item.item-index + 1) c.args.exprs.now)))
+    subst (λ (ts : List Target). GrownLefts (defined (world_of c.args.scope.world.now) (locals_of c.args.scope.locals.now)
+    (exprs_view (drop (c.loop-item.item-index + 1) c.args.exprs.now)))
     (defined (world_of c.args.scope.world.now) (locals_of c.args.scope.locals.now) (exprs_view c.args.exprs.now)) c.args.found.now c.defined_one.new.found ts)
     (sym (ap (map target_of) c.in_ok-push.ensures.items ∙ map-append target_of c.loop-item.targets.items _))
-    (grown_lefts_step (defined_one (world_of c.args.scope.world.now) (locals_of c.args.scope.locals.now) (expr_view c.item-item.result.value)) c.loop-item.invariant c.in_ok-target.ensures
-    (ap (λ xs. defined (world_of c.args.scope.world.now) (locals_of c.args.scope.locals.now) (exprs_view xs)) (next_item _ _ _ c.loop-item-test.true c.item-item.is)
+    (grown_lefts_step (defined_one (world_of c.args.scope.world.now) (locals_of c.args.scope.locals.now) (expr_view c.item-item.result.value))
+    c.loop-item.invariant c.in_ok-target.ensures
+    (ap (λ xs. defined (world_of c.args.scope.world.now) (locals_of c.args.scope.locals.now) (exprs_view xs))
+    (next_item _ _ _ c.loop-item-test.true c.item-item.is)
     ∙ defined_step (world_of c.args.scope.world.now) (locals_of c.args.scope.locals.now) c.item-item.result _))
 
 pub returns : goal.returns

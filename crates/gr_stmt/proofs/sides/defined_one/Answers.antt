@@ -15,22 +15,27 @@ use Rattle.gr_stmt.proofs.sides.defined_one.Goals as goal
 
 pub returns-in-Blank : goal.returns-in-Blank
 unfolding expr_view defined_one target_of
-returns-in-Blank c = lefts_as (adds_no_left Takes Broken c.args.found.now) (ap (λ e. defined_one (world_of c.args.scope.world.now) (locals_of c.args.scope.locals.now) (expr_view e)) (sym c.in-Blank.is))
+returns-in-Blank c = lefts_as (adds_no_left Takes Broken c.args.found.now)
+    (ap (λ e. defined_one (world_of c.args.scope.world.now) (locals_of c.args.scope.locals.now) (expr_view e)) (sym c.in-Blank.is))
 
 pub returns-then-declares : goal.returns-then-declares
 unfolding expr_view defined_one target_of
 returns-then-declares c =
     lefts_as (adds_no_left Takes Broken c.args.found.now)
-    (ap (λ (b : Bool). if b then left_side Takes (means Broken) else renewed (world_of c.args.scope.world.now) (locals_of c.args.scope.locals.now) c.in-Name.place) (sym c.if-declares.true ∙ c.declares.ensures)
+    (ap (λ (b : Bool). if b then left_side Takes (means Broken) else renewed (world_of c.args.scope.world.now) (locals_of c.args.scope.locals.now)
+    c.in-Name.place) (sym c.if-declares.true ∙ c.declares.ensures)
     ∙ ap (λ e. defined_one (world_of c.args.scope.world.now) (locals_of c.args.scope.locals.now) (expr_view e)) (sym c.in-Name.is))
 
 pub returns-in_ok-meaning-in-Name : goal.returns-in_ok-meaning-in-Name
 unfolding expr_view defined_one target_of
 returns-in_ok-meaning-in-Name c =
-    lefts_as (adds_left (Wants (own_type (judge_value (world_of c.args.scope.world.now) (locals_of c.args.scope.locals.now) (expr_view c.args.expr.now)).meaning)) c.in_ok-meaning-in-Name.ensures
+    lefts_as (adds_left (Wants (own_type (judge_value (world_of c.args.scope.world.now) (locals_of c.args.scope.locals.now)
+    (expr_view c.args.expr.now)).meaning)) c.in_ok-meaning-in-Name.ensures
     (ap (λ t. Wants t ∷ []) (c.own_type.ensures ∙ ap own_type c.in_ok-meaning-in-Name.ensures.meaning)))
-    (ap (λ e. left_side (Wants (own_type (judge_value (world_of c.args.scope.world.now) (locals_of c.args.scope.locals.now) (expr_view e)).meaning)) (judge_value (world_of c.args.scope.world.now) (locals_of c.args.scope.locals.now) (expr_view e))) c.in-Name.is
-    ∙ (ap (λ (b : Bool). if b then left_side Takes (means Broken) else renewed (world_of c.args.scope.world.now) (locals_of c.args.scope.locals.now) c.in-Name.place) (sym c.if-declares.false ∙ c.declares.ensures)
+    (ap (λ e. left_side (Wants (own_type (judge_value (world_of c.args.scope.world.now) (locals_of c.args.scope.locals.now) (expr_view e)).meaning))
+    (judge_value (world_of c.args.scope.world.now) (locals_of c.args.scope.locals.now) (expr_view e))) c.in-Name.is
+    ∙ (ap (λ (b : Bool). if b then left_side Takes (means Broken) else renewed (world_of c.args.scope.world.now) (locals_of c.args.scope.locals.now)
+    c.in-Name.place) (sym c.if-declares.false ∙ c.declares.ensures)
     ∙ ap (λ e. defined_one (world_of c.args.scope.world.now) (locals_of c.args.scope.locals.now) (expr_view e)) (sym c.in-Name.is)))
 
 pub returns-in_ok-no_name-in_default : goal.returns-in_ok-no_name-in_default

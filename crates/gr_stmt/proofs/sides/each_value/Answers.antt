@@ -8,4 +8,5 @@ use Rattle.gr_stmt.proofs.sides.each_value.Goals as goal
 
 pub returns : goal.returns
 returns c =
-    ok_map c.arguments.result (λ vs a. list_as a (arguments_each (world_of c.args.scope.world.now) (locals_of c.args.scope.locals.now) c.args.exprs.now)) c.arguments.ensures
+    ok_map c.arguments.result (λ vs a. list_as a (arguments_each (world_of c.args.scope.world.now) (locals_of c.args.scope.locals.now) c.args.exprs.now))
+    c.arguments.ensures

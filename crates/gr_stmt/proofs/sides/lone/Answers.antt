@@ -16,9 +16,11 @@ unfolding meaning_of
 returns-in-Results c =
     ok_map c.results_at.result (λ vs e. adds_followed (values_of (place_of (expr_view c.args.expr.now))) c.in_ok-meaning.ensures
     (list_as (adds_results c.place_of-place.result (map type_of c.in-Results.types.now) _ e)
-    (ap (λ x. values_of c.place_of-place.result (meaning_of x)) (sym c.in-Results.is) ∙ ap (λ p. values_of p (meaning_of c.in_ok-meaning.meaning)) c.place_of-place.ensures))) c.results_at.ensures
+    (ap (λ x. values_of c.place_of-place.result (meaning_of x)) (sym c.in-Results.is) ∙
+    ap (λ p. values_of p (meaning_of c.in_ok-meaning.meaning)) c.place_of-place.ensures))) c.results_at.ensures
 
 pub returns-in_default : goal.returns-in_default
 returns-in_default c =
     ok_map c.one_value.result (λ vs e. adds_followed (values_of (place_of (expr_view c.args.expr.now))) c.in_ok-meaning.ensures
-    (list_as e (ap (λ p. one_value p (as_value p (meaning_of c.in_ok-meaning.meaning))) c.place_of-place.ensures ∙ values_default (place_of (expr_view c.args.expr.now)) c.in_ok-meaning.meaning c.in_default.not-Results))) c.one_value.ensures
+    (list_as e (ap (λ p. one_value p (as_value p (meaning_of c.in_ok-meaning.meaning))) c.place_of-place.ensures ∙
+    values_default (place_of (expr_view c.args.expr.now)) c.in_ok-meaning.meaning c.in_default.not-Results))) c.one_value.ensures

@@ -15,7 +15,8 @@ first_name = record { value = ident.Named 0; separator = None }
 pub loop-item-preserved : goal.loop-item-preserved
 unfolding target_of
 loop-item-preserved c =
-    push_at target_of (λ i. Takes) c.loop-item.targets.items _ _ c.args.names.now c.loop-item._item-index first_name c.in_ok-push.ensures.items c.loop-item-test.true refl c.loop-item.invariant
+    push_at target_of (λ i. Takes) c.loop-item.targets.items _ _ c.args.names.now c.loop-item._item-index first_name c.in_ok-push.ensures.items
+    c.loop-item-test.true refl c.loop-item.invariant
 
 pub returns : goal.returns
 returns c =

@@ -16,9 +16,11 @@ first_name = record { value = ident.Named 0; separator = None }
 pub loop-item-preserved : goal.loop-item-preserved
 unfolding target_of
 loop-item-preserved c =
-    push_at target_of (λ i. Wants (option_map type_of c.args.own.now)) c.loop-item.targets.items _ _ c.args.names.now c.loop-item._item-index first_name c.in_ok-push.ensures.items c.loop-item-test.true (ap Wants c.in_ok-copied.ensures) c.loop-item.invariant
+    push_at target_of (λ i. Wants (option_map type_of c.args.own.now)) c.loop-item.targets.items _ _ c.args.names.now c.loop-item._item-index first_name
+    c.in_ok-push.ensures.items c.loop-item-test.true (ap Wants c.in_ok-copied.ensures) c.loop-item.invariant
 
 pub returns : goal.returns
 returns c =
-    all_mapped target_of (λ i. Wants (option_map type_of c.args.own.now)) c.loop-item.targets.items c.args.names.now c.loop-item._item-index (omega arith) c.loop-item.invariant
+    all_mapped target_of (λ i. Wants (option_map type_of c.args.own.now)) c.loop-item.targets.items c.args.names.now c.loop-item._item-index (omega arith)
+    c.loop-item.invariant
     ∙ sym (map_map (λ i. Wants (option_map type_of c.args.own.now)) (item_view ident_view) c.args.names.now)

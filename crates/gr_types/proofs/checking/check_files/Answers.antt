@@ -26,9 +26,11 @@ returns-then-not-is_empty c =
     subst (λ s. Lists (IsOuterFault (state_in s) (map source_of files)) c.in_ok-faults.faults.items) c.states.ensures c.in_ok-faults.ensures.listed in
     record {
       order = subst (λ (v : Vec Fault). IsStrictlySortedBy order.ghosts.cmp v.items) (sym c.faulty.ensures.faults) c.in_ok-faults.ensures.order;
-      found = found_outside path files (state_in i.states) (name_in i) (interface_in i) c.faulty.result c.in_ok-faults.faults c.is_empty.result c.faulty.ensures.faults c.faulty.ensures.interface c.is_empty.ensures
+      found = found_outside path files (state_in i.states) (name_in i) (interface_in i) c.faulty.result c.in_ok-faults.faults c.is_empty.result
+          c.faulty.ensures.faults c.faulty.ensures.interface c.is_empty.ensures
           c.if-not-is_empty.true listed;
-      checked = λ p h. outer_ends (state_in i.states) path files (name_in i) (interface_in i) p h c.faulty.result c.in_ok-faults.faults c.is_empty.result c.faulty.ensures.faults c.faulty.ensures.interface c.is_empty.ensures
+      checked = λ p h. outer_ends (state_in i.states) path files (name_in i) (interface_in i) p h c.faulty.result c.in_ok-faults.faults c.is_empty.result
+          c.faulty.ensures.faults c.faulty.ensures.interface c.is_empty.ensures
           c.if-not-is_empty.true listed c.in_ok-faults.ensures.order;
     }
 
@@ -46,11 +48,16 @@ returns c =
       is_package = refl;
     } in
     record {
-      order = IfOk-weaker c.check_laid.result (λ x. IsCheckedBy (IsLaterFault own) own x) (λ x. IsStrictlySortedBy order.ghosts.cmp x.faults.items) (λ x checked. checked.order) c.check_laid.ensures;
-      found = IfOk-weaker c.check_laid.result (λ x. IsCheckedBy (IsLaterFault own) own x) (IsFoundIn path files (state_in i.states) (name_in i) (interface_in i))
-          (λ x checked. found_inside path files (state_in i.states) (name_in i) (interface_in i) own laid c.in_ok-faults.faults c.is_empty.result c.is_empty.ensures c.if-not-is_empty.false listed x
+      order = IfOk-weaker c.check_laid.result (λ x. IsCheckedBy (IsLaterFault own) own x) (λ x. IsStrictlySortedBy order.ghosts.cmp x.faults.items)
+          (λ x checked. checked.order) c.check_laid.ensures;
+      found = IfOk-weaker c.check_laid.result (λ x. IsCheckedBy (IsLaterFault own) own x)
+          (IsFoundIn path files (state_in i.states) (name_in i) (interface_in i))
+          (λ x checked. found_inside path files (state_in i.states) (name_in i) (interface_in i) own laid c.in_ok-faults.faults c.is_empty.result
+          c.is_empty.ensures c.if-not-is_empty.false listed x
           checked) c.check_laid.ensures;
-      checked = IfOk-weaker c.check_laid.result (λ x. IsCheckedBy (IsLaterFault own) own x) (λ x. (p : Package) → IsPackageOf path files (name_in i) (interface_in i) p → IsCheckedPackage (state_in i.states) p x)
-          (λ x checked p h. outer_goes_on (state_in i.states) path files (name_in i) (interface_in i) p own h laid c.in_ok-faults.faults c.is_empty.result c.is_empty.ensures c.if-not-is_empty.false
+      checked = IfOk-weaker c.check_laid.result (λ x. IsCheckedBy (IsLaterFault own) own x)
+          (λ x. (p : Package) → IsPackageOf path files (name_in i) (interface_in i) p → IsCheckedPackage (state_in i.states) p x)
+          (λ x checked p h. outer_goes_on (state_in i.states) path files (name_in i) (interface_in i) p own h laid c.in_ok-faults.faults c.is_empty.result
+          c.is_empty.ensures c.if-not-is_empty.false
           listed x checked) c.check_laid.ensures;
     }

@@ -11,11 +11,13 @@ use Rattle.gr_types.proofs.checking.check_known.Goals as goal
 pub returns-then-not-is_empty : goal.returns-then-not-is_empty
 returns-then-not-is_empty c =
     let p = package_of c.args.unit in
-    ends_with (IsMemberFault p) (IsTypeFault p) p c.faulty.result c.in_ok-faults.faults c.is_empty.result c.faulty.ensures.faults c.faulty.ensures.interface c.is_empty.ensures c.if-not-is_empty.true
+    ends_with (IsMemberFault p) (IsTypeFault p) p c.faulty.result c.in_ok-faults.faults c.is_empty.result c.faulty.ensures.faults c.faulty.ensures.interface
+    c.is_empty.ensures c.if-not-is_empty.true
     c.in_ok-faults.ensures.listed c.in_ok-faults.ensures.order
 
 pub returns : goal.returns
 returns c =
     let p = package_of c.args.unit in
     IfOk-weaker c.check_definitions.result (λ x. IsCheckedBy (IsTypeFault p) p x) (λ x. IsCheckedBy (FirstOf (IsMemberFault p) (IsTypeFault p)) p x)
-    (λ x h. goes_on (IsMemberFault p) (IsTypeFault p) p c.in_ok-faults.faults c.is_empty.result c.is_empty.ensures c.if-not-is_empty.false c.in_ok-faults.ensures.listed x h) c.check_definitions.ensures
+    (λ x h. goes_on (IsMemberFault p) (IsTypeFault p) p c.in_ok-faults.faults c.is_empty.result c.is_empty.ensures c.if-not-is_empty.false
+    c.in_ok-faults.ensures.listed x h) c.check_definitions.ensures

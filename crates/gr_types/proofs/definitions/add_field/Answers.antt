@@ -17,4 +17,5 @@ returns-in-Some c =
     let t = type_of c.in-Some.own in
     let typed : IsTypeOf p f.file f.type_use t = subst (λ o. IsTypeFound p f.file f.type_use (option_map type_of o)) c.in-Some.is c.in_ok-whole_type.ensures in
     on_ok_weaker c.set_field.result
-    (λ s. field_changed p c.args.rank f t c.args.definitions.now.items c.index_mut.result.now c.set_field.new.definition c.requires.in_range c.index_mut.ensures.value typed s) c.set_field.ensures
+    (λ s. field_changed p c.args.rank f t c.args.definitions.now.items c.index_mut.result.now c.set_field.new.definition c.requires.in_range
+    c.index_mut.ensures.value typed s) c.set_field.ensures

@@ -24,7 +24,8 @@ loop-rank-preserved c =
     elim c.if-counting-rank.branch [
       | then-counting-rank+in_ok-add_field w ↦
           let f = field_of w.index-fields-rank.result in
-          let at = item_at field_of c.args.fields.now (package_fields p) rank w.index-fields-rank.result c.requires.fields c.loop-rank-test.true w.index-fields-rank.is in
+          let at = item_at field_of c.args.fields.now (package_fields p) rank w.index-fields-rank.result c.requires.fields c.loop-rank-test.true
+          w.index-fields-rank.is in
           subst (λ (v : Vec Definition). HaveMembersBelow p (rank + 1) 0 v.items) (sym w.definitions-is)
           (field_added p rank 0 f old w.add_field.new.definitions.items at (says.0 w.if-counting-rank.true) w.in_ok-add_field.ensures c.loop-rank.invariant)
       | else-counting-rank w ↦
@@ -36,6 +37,7 @@ pub add_field-requires-clause-in_range : goal.add_field-requires-clause-in_range
 add_field-requires-clause-in_range c =
     let p = package_of c.args.unit in
     let f = field_of c.index-fields-rank.result in
-    let at = item_at field_of c.args.fields.now (package_fields p) c.loop-rank.rank c.index-fields-rank.result c.requires.fields c.loop-rank-test.true c.index-fields-rank.is in
+    let at = item_at field_of c.args.fields.now (package_fields p) c.loop-rank.rank c.index-fields-rank.result c.requires.fields c.loop-rank-test.true
+    c.index-fields-rank.is in
     let within : f.definition < length (package_types p) = field_within p c.loop-rank.rank f at in
     omega (arith, c.loop-rank.invariant.all)

@@ -40,7 +40,8 @@ loop-rank-preserved c =
           let there : d < length old = omega (arith, c.loop-rank.invariant.all) in
           subst (λ (v : Vec Definition). HaveMembersBelow p fields (rank + 1) v.items) (sym w.definitions-is)
           (method_added p c.is_well_formed.ensures fields rank d f old _ at (says.0 w.if-counting-rank.true) on
-          (method_changed p rank f old d w.index_mut.result.now w.set_method.new.definition there w.index_mut.ensures.value w.in_ok-set_method.ensures) c.loop-rank.invariant)
+          (method_changed p rank f old d w.index_mut.result.now w.set_method.new.definition there w.index_mut.ensures.value w.in_ok-set_method.ensures)
+          c.loop-rank.invariant)
       | then-counting-rank+in_default w ↦
           subst (λ (v : Vec Definition). HaveMembersBelow p fields (rank + 1) v.items) (sym w.definitions-is)
           (method_skipped p fields rank old (no_owner p rank (slice_index_or owners rank None) has w.in_default.not-Some) c.loop-rank.invariant)

@@ -15,13 +15,15 @@ bare_definition-requires c =
     let p = package_of c.args.unit in
     let rank = c.loop-rank.rank in
     let within : rank < length (package_types p) = omega (arith, c.loop-rank-test.true, c.requires.all) in
-    subst (λ o. IsUnderlyingFound p rank (option_map underlying_of o)) (sym (get_or_read c.args.underlying.now rank c.index-underlying-rank.result c.loop-rank-test.true c.index-underlying-rank.is None))
+    subst (λ o. IsUnderlyingFound p rank (option_map underlying_of o))
+    (sym (get_or_read c.args.underlying.now rank c.index-underlying-rank.result c.loop-rank-test.true c.index-underlying-rank.is None))
     (c.requires.each rank within)
 
 pub loop-rank-preserved : goal.loop-rank-preserved
 loop-rank-preserved c = record {
   all = search rules;
-  each = each_push (λ r d. IsDefinitionBelow (package_of c.args.unit) 0 0 r (definition_of d)) c.loop-rank.found.items c.push.new.self.items c.loop-rank.rank c.in_ok-bare_definition.field-0 c.in_ok-push.ensures.items
+  each = each_push (λ r d. IsDefinitionBelow (package_of c.args.unit) 0 0 r (definition_of d)) c.loop-rank.found.items c.push.new.self.items
+      c.loop-rank.rank c.in_ok-bare_definition.field-0 c.in_ok-push.ensures.items
       c.loop-rank.invariant.all c.loop-rank.invariant.each c.in_ok-bare_definition.ensures;
 }
 

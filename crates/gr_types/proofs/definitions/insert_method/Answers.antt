@@ -9,6 +9,7 @@ pub returns : goal.returns
 returns c = record {
   underlying = refl;
   here = ap (option_map method_of) c.in_ok-insert.ensures.updates.1;
-  elsewhere = λ n ne. ap (option_map method_of) (others_stay c.args.definition.now.methods c.insert.new.self c.args.name (Some c.args.method) c.in_ok-insert.ensures.updates n ne);
+  elsewhere = λ n ne. ap (option_map method_of) (others_stay c.args.definition.now.methods c.insert.new.self c.args.name (Some c.args.method)
+      c.in_ok-insert.ensures.updates n ne);
   fields = λ n. refl;
 }

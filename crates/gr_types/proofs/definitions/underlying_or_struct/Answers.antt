@@ -24,4 +24,5 @@ returns-in-Some c =
     let rank = c.args.rank in
     let own = underlying_of c.in-Some.own in
     let found : IsUnderlyingFound p rank (Some own) = subst (λ o. IsUnderlyingFound p rank (option_map underlying_of o)) c.in-Some.is c.requires in
-    IfOk-weaker c.copy.result (λ u. underlying_of u ≡ own) (λ u. IsUnderlyingOf p rank (underlying_of u)) (λ u e. subst (IsUnderlyingOf p rank) (sym e) (has found)) c.copy.ensures
+    IfOk-weaker c.copy.result (λ u. underlying_of u ≡ own) (λ u. IsUnderlyingOf p rank (underlying_of u))
+    (λ u e. subst (IsUnderlyingOf p rank) (sym e) (has found)) c.copy.ensures

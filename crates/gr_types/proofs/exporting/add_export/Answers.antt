@@ -9,7 +9,8 @@ use Rattle.gr_types.proofs.exporting.add_export.Goals as goal
 
 pub returns-in_ok-insert-in-Some : goal.returns-in_ok-insert-in-Some
 returns-in_ok-insert-in-Some c =
-    one_more_export (package_of c.args.unit) c.args.d c.args.found.now c.insert.new.self c.in_ok-name-in-Some.name c.in-Some.export (c.in_ok-name-in-Some.ensures.items ∙ c.name.ensures) c.in_ok-insert-in-Some.ensures.updates
+    one_more_export (package_of c.args.unit) c.args.d c.args.found.now c.insert.new.self c.in_ok-name-in-Some.name c.in-Some.export
+    (c.in_ok-name-in-Some.ensures.items ∙ c.name.ensures) c.in_ok-insert-in-Some.ensures.updates
     (subst (λ o. IsExportFound (package_of c.args.unit) c.args.d (option_map export_of o)) c.in-Some.is c.in_ok-export.ensures)
 
 pub returns-in-None : goal.returns-in-None

@@ -8,7 +8,9 @@ loop-token-init c = no_tokens c.args.file c.args.found.now.items
 
 pub loop-token-preserved : goal.loop-token-preserved
 loop-token-preserved c =
-    next_token c.args.file c.args.tokens.now c.loop-token.token-index 0 c.args.found.now.items c.loop-token.found.items c.push.new.found.items (omega arith) c.loop-token.invariant c.in_ok-push.ensures
+    next_token c.args.file c.args.tokens.now c.loop-token.token-index 0 c.args.found.now.items c.loop-token.found.items c.push.new.found.items (omega arith)
+    c.loop-token.invariant c.in_ok-push.ensures
 
 pub returns : goal.returns
-returns c = all_tokens c.args.file c.args.tokens.now c.loop-token.token-index c.args.found.now.items c.loop-token.found.items (omega arith) c.loop-token.invariant
+returns c = all_tokens c.args.file c.args.tokens.now c.loop-token.token-index c.args.found.now.items c.loop-token.found.items (omega arith)
+    c.loop-token.invariant

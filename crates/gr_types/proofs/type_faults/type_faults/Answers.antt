@@ -14,8 +14,10 @@ pub loop-file-preserved : goal.loop-file-preserved
 loop-file-preserved c =
     let p = package_of c.args.unit in
     record {
-      faults = below_next (IsTypeFaultIn p) _ c.loop-file.typed.faults.items c.add_file.new.typed.faults.items c.loop-file.file c.loop-file.invariant.faults c.in_ok-add_file.ensures.faults;
-      members = next_uses p c.loop-file.file c.loop-file.typed.members.items c.add_file.new.typed.members.items c.in_ok-add_file.ensures.members c.loop-file.invariant.members;
+      faults = below_next (IsTypeFaultIn p) _ c.loop-file.typed.faults.items c.add_file.new.typed.faults.items c.loop-file.file c.loop-file.invariant.faults
+          c.in_ok-add_file.ensures.faults;
+      members = next_uses p c.loop-file.file c.loop-file.typed.members.items c.add_file.new.typed.members.items c.in_ok-add_file.ensures.members
+          c.loop-file.invariant.members;
       kept = c.in_ok-add_file.ensures.bounds;
     }
 
@@ -25,7 +27,8 @@ returns c =
     let size : length p.files ≡ length c.args.unit.files.now = length-map c.args.unit.files.now source_of in
     let n : c.loop-file.file ≡ length p.files = omega (arith, size) in
     record {
-      listed = same_listed (IsTypeFault p) c.loop-file.typed.faults.items c.sort.new.found.items (all_faults p c.loop-file.file c.loop-file.typed.faults.items n c.loop-file.invariant.faults) c.sort.ensures.same;
+      listed = same_listed (IsTypeFault p) c.loop-file.typed.faults.items c.sort.new.found.items
+          (all_faults p c.loop-file.file c.loop-file.typed.faults.items n c.loop-file.invariant.faults) c.sort.ensures.same;
       order = c.sort.ensures.order;
       members = all_uses p c.loop-file.file _ n c.loop-file.invariant.members;
       bounds = c.loop-file.invariant.kept;

@@ -8,4 +8,5 @@ use Rattle.gr_verdict.proofs.fault_list.faults.Goals as goal
 pub returns : goal.returns
 returns c = λ w h.
     list_found w c.args.found.now h c.sort.new.found.items c.sort.ensures.order
-    (λ f. subst (λ l. Contains c.sort.new.found.items f ↔ Contains l f) (c.in_ok-list.ensures ∙ ap (flat_map faults_in) c.deref.ensures.value) (c.sort.ensures.same f))
+    (λ f. subst (λ l. Contains c.sort.new.found.items f ↔ Contains l f) (c.in_ok-list.ensures ∙ ap (flat_map faults_in) c.deref.ensures.value)
+    (c.sort.ensures.same f))

@@ -23,5 +23,6 @@ loop-there-preserved c =
           ∙ there_next c.loop-there.packages.items w.push.new.self.items f findings k here c.loop-there.invariant w.in_ok-push.ensures.items lt is)
       | in_default w ↦ (
           let g = c.requires k lt in
-          absurd (w.in_default.not-Some g.0 (c.there-item.is ∙ same_Some (get_or findings k here) (Some g.0) (sym (slice_get-get_or findings k here lt) ∙ g.1))))
+          absurd (w.in_default.not-Some g.0 (c.there-item.is ∙
+          same_Some (get_or findings k here) (Some g.0) (sym (slice_get-get_or findings k here lt) ∙ g.1))))
     ]

@@ -34,7 +34,8 @@ loop-number-preserved c =
     let n = get_or order k 0 in
     let there = slice_get-get_or order k 0 lt in
     let q = slice_get_some (package_paths w) n ((built.each n).0 (Contains-get_or order k 0 lt)) in
-    gathered_next w q.0 (take k order) (take (k + 1) order) n q.1 (λ m h. taken_or_next order k 0 m lt h) (λ r on. below_before w order built k n q.0 r there q.1 on)
+    gathered_next w q.0 (take k order) (take (k + 1) order) n q.1 (λ m h. taken_or_next order k 0 m lt h)
+    (λ r on. below_before w order built k n q.0 r there q.1 on)
     c.loop-number.all c.judge_next.new.all c.loop-number.invariant (c.in_ok-judge_next.ensures q.0 q.1)
 
 pub returns : goal.returns

@@ -8,5 +8,6 @@ pub returns : goal.returns
 returns c = λ p at.
     let path = c.requires.path p at in
     let j = c.in_ok-faults.field-0 in
-    learns_by c.args.graph.now p c.args.all.now c.add.new.all j _ (c.requires.fresh p at) c.requires.whole (c.in_ok-faults.ensures p at) (subst (λ q. MayAdd c.args.all.now c.add.new.all q j.interface) path c.in_ok-add.ensures)
+    learns_by c.args.graph.now p c.args.all.now c.add.new.all j _ (c.requires.fresh p at) c.requires.whole (c.in_ok-faults.ensures p at)
+    (subst (λ q. MayAdd c.args.all.now c.add.new.all q j.interface) path c.in_ok-add.ensures)
     path refl refl

@@ -17,5 +17,6 @@ pub returns : goal.returns
 returns c = λ p at. record {
   finding = c.in_ok-finding-2.finding;
   is_set = refl;
-  learns = subst (λ (f : Finding). Learns c.args.graph.now p f c.args.all.now.interfaces c.judge_one.new.all) (sym c.in_ok-finding-2.ensures) (c.in_ok-finding.ensures p at);
+  learns = subst (λ (f : Finding). Learns c.args.graph.now p f c.args.all.now.interfaces c.judge_one.new.all) (sym c.in_ok-finding-2.ensures)
+      (c.in_ok-finding.ensures p at);
 }

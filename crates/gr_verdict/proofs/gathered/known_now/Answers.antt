@@ -7,7 +7,8 @@ loop-number-init c = nothing_told c.new-all.result c.new-all.ensures.nothing c.a
 
 pub loop-number-preserved : goal.loop-number-preserved
 loop-number-preserved c =
-    told_next c.args.graph.now c.loop-number.number c.loop-number.all c.push.new.self c.in_ok-verdict.verdict c.in_ok-push.ensures c.loop-number.invariant c.in_ok-verdict.ensures
+    told_next c.args.graph.now c.loop-number.number c.loop-number.all c.push.new.self c.in_ok-verdict.verdict c.in_ok-push.ensures c.loop-number.invariant
+    c.in_ok-verdict.ensures
 
 pub returns : goal.returns
 returns c = c.loop-number.invariant.verdicts

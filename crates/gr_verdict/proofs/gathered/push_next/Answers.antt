@@ -11,7 +11,8 @@ pub returns-in_default : goal.returns-in_default
 returns-in_default c =
     let w = c.args.graph.now in
     let p = slice_get_some (package_paths w) c.args.number c.requires.number in
-    unknown_next w c.args.number p.0 p.1 c.args.gathered.now c.push_unknown.new.self c.requires.gathered c.in_ok-push_unknown.ensures.findings c.in_ok-push_unknown.ensures.interfaces
+    unknown_next w c.args.number p.0 p.1 c.args.gathered.now c.push_unknown.new.self c.requires.gathered c.in_ok-push_unknown.ensures.findings
+    c.in_ok-push_unknown.ensures.interfaces
 
 pub returns : goal.returns
 returns c =
@@ -23,4 +24,5 @@ returns c =
     let old = c.args.gathered.now in
     let new = c.push_known.new.self in
     taken_next w n p.0 p.1 old new c.requires.gathered told (c.requires.known n p.0 told p.1 c.in-Some.ensures)
-    (subst (λ (q : List ℕ). Shares told.interfaces old.interfaces new.interfaces q) path c.in_ok-push_known.ensures.interfaces) c.in_ok-push_known.ensures.findings
+    (subst (λ (q : List ℕ). Shares told.interfaces old.interfaces new.interfaces q) path c.in_ok-push_known.ensures.interfaces)
+    c.in_ok-push_known.ensures.findings

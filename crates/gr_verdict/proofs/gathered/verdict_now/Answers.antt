@@ -4,13 +4,14 @@ use Rattle.std.specs.Prelude.{Some}
 use Rattle.std.proofs.lemmas.Option.{none-some, same_Some}
 use Rattle.gr_declared.specs.InterfacesView.{name_in, interface_in}
 use Rattle.gr_verdict.specs.declared.known.KnownVerdict.{KnownVerdict}
-use Rattle.gr_verdict.specs.Found.{IsFindingOf, TellsVerdict}
+use Rattle.gr_verdict.specs.Told.{IsFindingOf, TellsVerdict}
 use Rattle.gr_verdict.proofs.Telling.{told_alone}
 use Rattle.gr_verdict.proofs.gathered.verdict_now.Goals as goal
 
 pub returns-in-Some : goal.returns-in-Some
 returns-in-Some c = λ p at one is.
-    c.requires.before c.args.number p one at (c.in-Some.ensures ∙ ap (λ (v : KnownVerdict). Some (Some v)) (sym c.in_ok-verdict.ensures.cases ∙ same_Some c.in_ok-verdict.verdict one is))
+    c.requires.before c.args.number p one at (c.in-Some.ensures ∙
+    ap (λ (v : KnownVerdict). Some (Some v)) (sym c.in_ok-verdict.ensures.cases ∙ same_Some c.in_ok-verdict.verdict one is))
 
 pub returns-in_default-finding : goal.returns-in_default-finding
 returns-in_default-finding c = λ p at one is. absurd (none-some one is)

@@ -4,7 +4,7 @@ use Rattle.std.proofs.lemmas.Result.{IfOk-weaker}
 use Rattle.gr_text.specs.Workspace.{Workspace}
 use Rattle.gr_graph.specs.Graphs.{IsPackage, OfPackage}
 use Rattle.gr_verdict.specs.Verdicts.{Verdicts}
-use Rattle.gr_verdict.specs.Found.{known_by}
+use Rattle.gr_verdict.specs.Told.{known_by}
 use Rattle.gr_verdict.specs.Steps.{IsJudged}
 use Rattle.gr_verdict.proofs.Members.{vec_empty, vec_holds}
 use Rattle.gr_verdict.proofs.judging.judge.Goals as goal
@@ -25,5 +25,6 @@ pub returns-else-is_empty : goal.returns-else-is_empty
 returns-else-is_empty c =
     let w = c.args.graph.now in
     let n = c.args.number in
-    IfOk-weaker c.judge_unread.result (λ j. (x : Workspace) → (m : ℕ) → (known : Verdicts) → IsPackage x m c.package-files.result.now → OfPackage x m (λ p. IsJudged x known p j))
+    IfOk-weaker c.judge_unread.result (λ j. (x : Workspace) → (m : ℕ) → (known : Verdicts) → IsPackage x m c.package-files.result.now →
+    OfPackage x m (λ p. IsJudged x known p j))
     (λ j. OfPackage w n (λ p. IsJudged w (known_by c.args.all.now) p j)) (λ j h. h w n (known_by c.args.all.now) c.package-files.ensures) c.judge_unread.ensures

@@ -8,4 +8,5 @@ pub returns : goal.returns
 returns c =
     let sizes = c.in_ok-sizes.sizes.items in
     let sorted = IsNonDecreasingBy-from_sort_by_key (λ n. get_or sizes n 0) _ c.in_ok-sort_by_key.ensures.sorted (λ a r q k. search rules) in
-    order_is c.args.graph.now c.len.result sizes c.in_ok-order.order.items _ c.len.ensures c.in_ok-sizes.ensures c.in_ok-order.ensures c.in_ok-sort_by_key.ensures.permutation sorted
+    order_is c.args.graph.now c.len.result sizes c.in_ok-order.order.items _ c.len.ensures c.in_ok-sizes.ensures c.in_ok-order.ensures
+    c.in_ok-sort_by_key.ensures.permutation sorted

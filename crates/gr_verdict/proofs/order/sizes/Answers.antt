@@ -9,5 +9,6 @@ loop-number-init c = record { size = ap length c.new-sizes.ensures.items; each =
 
 pub loop-number-preserved : goal.loop-number-preserved
 loop-number-preserved c =
-    next_size c.args.graph.now c.loop-number.sizes.items c.push.new.self.items c.loop-number.number (length c.closure.result.now) c.in_ok-push.ensures.items c.loop-number.invariant
+    next_size c.args.graph.now c.loop-number.sizes.items c.push.new.self.items c.loop-number.number (length c.closure.result.now) c.in_ok-push.ensures.items
+    c.loop-number.invariant
     (λ p at. record { numbers = c.closure.result.now; rising = c.closure.ensures.rising; holds = c.closure.ensures.closure p at; is = refl })

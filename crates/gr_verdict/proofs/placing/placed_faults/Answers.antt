@@ -11,9 +11,11 @@ loop-fault-init c = λ f. none_placed c.args.files.now _ c.new-found.result.item
 
 pub loop-fault-preserved : goal.loop-fault-preserved
 loop-fault-preserved c = λ f.
-    next_placed c.args.files.now c.args.faults.now c.loop-fault.fault-index _ _ (omega arith) refl c.loop-fault.found.items c.add_placed.new.found.items c.loop-fault.invariant
+    next_placed c.args.files.now c.args.faults.now c.loop-fault.fault-index _ _ (omega arith) refl c.loop-fault.found.items c.add_placed.new.found.items
+    c.loop-fault.invariant
     c.in_ok-add_placed.ensures f
 
 pub returns : goal.returns
 returns c = λ f.
-    subst (λ l. Contains c.loop-fault.found.items f ↔ IsPlacedOf c.args.files.now l f) (take_all c.loop-fault.fault-index c.args.faults.now (omega arith)) (c.loop-fault.invariant f)
+    subst (λ l. Contains c.loop-fault.found.items f ↔ IsPlacedOf c.args.files.now l f) (take_all c.loop-fault.fault-index c.args.faults.now (omega arith))
+    (c.loop-fault.invariant f)

@@ -8,7 +8,7 @@ use Rattle.gr_graph.specs.Packages.{PackageImports}
 use Rattle.gr_imports.specs.States.{state_in}
 use Rattle.gr_declared.specs.InterfacesView.{Notes}
 use Rattle.gr_meanings.proofs.BoundLists.{slice_get_some}
-use Rattle.gr_verdict.specs.Found.{known_by}
+use Rattle.gr_verdict.specs.Told.{known_by}
 use Rattle.gr_verdict.proofs.Members.{taken_or_next}
 use Rattle.gr_verdict.proofs.Noting.{AreNoted, none_noted, noted_next, all_noted}
 use Rattle.gr_verdict.proofs.seeing.note_imports.Goals as goal
@@ -58,8 +58,10 @@ loop-import-preserved c =
           let s = (c.imports-import-items.ensures.imports p at n).0 (Contains-get_or items k 0 lt) in
           let path : c.in_ok-path.path.items ≡ s.0 =
           c.in_ok-path.ensures.items ∙ c.deref.ensures.value ∙ same_Some c.package.result.now.path.items s.0 (sym c.package.ensures.path ∙ s.1) in
-          noted_next w (known_by c.args.all.now) p (take k items) (take (k + 1) items) n s.0 s.1 (λ m h. taken_or_next items k 0 m lt h) (state_in old.states) (state_in new.states) c.state_of.result
-          (subst (λ v. Notes (state_in old.states) (state_in new.states) v c.state_of.result) path c.in_ok-note.ensures.noted) (c.state_of.ensures p at s.0 s.1) (c.loop-import.invariant.noted p at);
+          noted_next w (known_by c.args.all.now) p (take k items) (take (k + 1) items) n s.0 s.1 (λ m h. taken_or_next items k 0 m lt h)
+          (state_in old.states) (state_in new.states) c.state_of.result
+          (subst (λ v. Notes (state_in old.states) (state_in new.states) v c.state_of.result) path c.in_ok-note.ensures.noted)
+          (c.state_of.ensures p at s.0 s.1) (c.loop-import.invariant.noted p at);
       kept = record {
         names = λ q. c.note.ensures.names q ∙ c.loop-import.invariant.kept.names q;
         interfaces = λ q. c.note.ensures.kept q ∙ c.loop-import.invariant.kept.interfaces q;
@@ -71,5 +73,6 @@ returns-clause-states c = λ p at.
     let w = c.args.graph.now in
     let items = c.imports-import-items.result.now in
     let state = state_in c.loop-import.seen.states in
-    let whole = subst (λ l. AreNoted w (known_by c.args.all.now) p l state) (take_all c.loop-import.import-index items (omega arith)) (c.loop-import.invariant.noted p at) in
+    let whole = subst (λ l. AreNoted w (known_by c.args.all.now) p l state) (take_all c.loop-import.import-index items (omega arith))
+    (c.loop-import.invariant.noted p at) in
     all_noted w (known_by c.args.all.now) p items state (c.imports-import-items.ensures.imports p at) whole

@@ -2,7 +2,7 @@
 use Rattle.std.proofs.Common.{take}
 use Rattle.gr_graph.specs.Graphs.{OfPackage}
 use Rattle.gr_imports.specs.States.{state_in}
-use Rattle.gr_verdict.specs.Found.{known_by}
+use Rattle.gr_verdict.specs.Told.{known_by}
 use Rattle.gr_verdict.specs.Steps.{KnowsSameOfOthers}
 use Rattle.gr_verdict.proofs.Noting.{AreNoted}
 use Rattle.gr_verdict.proofs.seeing.note_imports.Given as goal

@@ -11,7 +11,8 @@ use Rattle.gr_verdict.proofs.Sharing.{none_shared, shared_next, all_seen, AreSha
 use Rattle.gr_verdict.proofs.seeing.seen.Goals as goal
 
 pub loop-other-init : goal.loop-other-init
-loop-other-init c = λ p at. none_shared c.args.graph.now p _ c.args.all.now c.new-seen.result refl c.new-seen.ensures.names c.new-seen.ensures.interfaces c.new-seen.ensures.states
+loop-other-init c = λ p at. none_shared c.args.graph.now p _ c.args.all.now c.new-seen.result refl c.new-seen.ensures.names c.new-seen.ensures.interfaces
+    c.new-seen.ensures.states
 
 pub share-requires : goal.share-requires
 share-requires c =
@@ -37,13 +38,15 @@ loop-other-preserved c = λ p at.
     let lt : k < length items = omega arith in
     let n = get_or items k 0 in
     let s = (c.closure-other-items.ensures.closure p at n).0 (Contains-get_or items k 0 lt) in
-    shared_next w p (take k items) (take (k + 1) items) n s.0 s.1 (λ m h. taken_or_next items k 0 m lt h) (λ m h. still_taken items k 0 m lt h) (next_taken items k 0 lt) c.args.all.now c.loop-other.seen c.share.new.seen
+    shared_next w p (take k items) (take (k + 1) items) n s.0 s.1 (λ m h. taken_or_next items k 0 m lt h) (λ m h. still_taken items k 0 m lt h)
+    (next_taken items k 0 lt) c.args.all.now c.loop-other.seen c.share.new.seen
     (c.in_ok-share.ensures p at s.0 s.1) (c.loop-other.invariant p at)
 
 pub returns-clause-seen : goal.returns-clause-seen
 returns-clause-seen c = λ p at.
     let items = c.closure-other-items.result.now in
-    let whole = subst (λ l. AreShared c.args.graph.now p l c.args.all.now c.loop-other.seen) (take_all c.loop-other.other-index items (omega arith)) (c.loop-other.invariant p at) in
+    let whole = subst (λ l. AreShared c.args.graph.now p l c.args.all.now c.loop-other.seen) (take_all c.loop-other.other-index items (omega arith))
+    (c.loop-other.invariant p at) in
     all_seen c.args.graph.now p items c.args.all.now c.loop-other.seen (c.closure-other-items.ensures.closure p at) c.requires.whole whole
 
 pub returns-clause-states : goal.returns-clause-states

@@ -17,5 +17,12 @@ returns c =
     on_ok_weaker c.share.result
     (λ shared p at q there.
     let path : c.deref.result.now ≡ q = c.deref.ensures.value ∙ same_Some c.package.result.now.path.items q (sym c.package.ensures.path ∙ there) in
-    inl (record { imported = c.requires.in_closure p at q there; not_back = λ back. false≢true (sym c.if-reaches.false ∙ (c.reaches.ensures q there p at).1 back) }, subst (Shares all old new) path shared))
+    inl (
+      record {
+        imported = c.requires.in_closure p at q there;
+        not_back = λ back.
+            false≢true (sym c.if-reaches.false ∙ (c.reaches.ensures q there p at).1 back);
+      },
+      subst (Shares all old new) path shared,
+    ))
     c.share.ensures.shared

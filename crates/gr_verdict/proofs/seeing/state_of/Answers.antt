@@ -13,11 +13,13 @@ returns-then-reaches c = λ p at q there. is_on_cycle ((c.reaches.ensures q ther
 pub returns-in-None : goal.returns-in-None
 returns-in-None c = λ p at q there.
     let path : c.deref.result.now ≡ q = c.deref.ensures.value ∙ same_Some c.package.result.now.path.items q (sym c.package.ensures.path ∙ there) in
-    is_faulty (builds_by c.args.graph.now p q c.args.import there (c.requires.imports p at q there) (λ back. false≢true (sym c.if-reaches.false ∙ (c.reaches.ensures q there p at).1 back)))
+    is_faulty (builds_by c.args.graph.now p q c.args.import there (c.requires.imports p at q there)
+    (λ back. false≢true (sym c.if-reaches.false ∙ (c.reaches.ensures q there p at).1 back)))
     (unknown_by c.args.all.now q (ap (name_in c.args.all.now) (sym path) ∙ sym c.in-None.ensures))
 
 pub returns-in-Some : goal.returns-in-Some
 returns-in-Some c = λ p at q there.
     let path : c.deref.result.now ≡ q = c.deref.ensures.value ∙ same_Some c.package.result.now.path.items q (sym c.package.ensures.path ∙ there) in
-    is_good (builds_by c.args.graph.now p q c.args.import there (c.requires.imports p at q there) (λ back. false≢true (sym c.if-reaches.false ∙ (c.reaches.ensures q there p at).1 back)))
+    is_good (builds_by c.args.graph.now p q c.args.import there (c.requires.imports p at q there)
+    (λ back. false≢true (sym c.if-reaches.false ∙ (c.reaches.ensures q there p at).1 back)))
     (known_as c.args.all.now q _ (ap (name_in c.args.all.now) (sym path) ∙ sym c.in-Some.ensures))

@@ -8,7 +8,8 @@ returns-in_err-await_message-clause-step g c =
     let p = err_from_is_err_and c.from_residual.result c.from_residual.ensures.1 in
     rw (p.1, p.2)
     (step_stopped g.D.Desk.steps g.D.Desk.waits c.args.limits.now (g.S.Source.remaining c.args.source.now) (g.S.Source.remaining c.await_message.new.source)
-    (g.T.Sink.contents c.args.sink.now) (g.T.Sink.contents c.await_message.new.sink) c.args.desk.now c.in_err-await_message.field-0.0 c.in_err-await_message.ensures.awaits)
+    (g.T.Sink.contents c.args.sink.now) (g.T.Sink.contents c.await_message.new.sink) c.args.desk.now c.in_err-await_message.field-0.0
+    c.in_err-await_message.ensures.awaits)
 
 pub returns-in_err-print_reply-in-NoRoom-clause-step : goal.returns-in_err-print_reply-in-NoRoom-clause-step
 returns-in_err-print_reply-in-NoRoom-clause-step g c =
@@ -16,7 +17,8 @@ returns-in_err-print_reply-in-NoRoom-clause-step g c =
     let cut = rw c.refuse.ensures at c.in_err-print_reply-in-NoRoom.ensures.written in
     rw (p.1, p.2)
     (step_refused_cut g.D.Desk.steps g.D.Desk.waits c.args.limits.now (g.S.Source.remaining c.args.source.now) (g.S.Source.remaining c.await_message.new.source)
-    (g.T.Sink.contents c.args.sink.now) (g.T.Sink.contents c.await_message.new.sink) (g.T.Sink.contents c.print_reply.new.sink) c.args.desk.now cut.written cut.unwritten
+    (g.T.Sink.contents c.args.sink.now) (g.T.Sink.contents c.await_message.new.sink) (g.T.Sink.contents c.print_reply.new.sink) c.args.desk.now cut.written
+    cut.unwritten
     (rw c.in-NoRoom.is at c.in_ok-await_message.ensures.awaits) cut.whole cut.appended)
 
 pub returns-in_err-send_reply-in-Message-clause-step : goal.returns-in_err-send_reply-in-Message-clause-step
@@ -25,7 +27,8 @@ returns-in_err-send_reply-in-Message-clause-step g c =
     let cut = c.in_err-send_reply-in-Message.ensures.written in
     rw (p.1, p.2)
     (step_cut g.D.Desk.steps g.D.Desk.waits c.args.limits.now (g.S.Source.remaining c.args.source.now) (g.S.Source.remaining c.await_message.new.source)
-    (g.T.Sink.contents c.args.sink.now) (g.T.Sink.contents c.await_message.new.sink) (g.T.Sink.contents c.send_reply.new.sink) c.args.desk.now c.answer-reply.new.desk
+    (g.T.Sink.contents c.args.sink.now) (g.T.Sink.contents c.await_message.new.sink) (g.T.Sink.contents c.send_reply.new.sink) c.args.desk.now
+    c.answer-reply.new.desk
     c.in-Message.message c.answer-reply.result cut.written cut.unwritten
     (rw c.in-Message.is at c.in_ok-await_message.ensures.awaits) c.answer-reply.ensures cut.whole cut.appended)
 
@@ -45,6 +48,7 @@ pub returns-in_ok-send_reply-in-Message-clause-step : goal.returns-in_ok-send_re
 returns-in_ok-send_reply-in-Message-clause-step g c =
     rw c.is_last-is_last.ensures
     (step_answered g.D.Desk.steps g.D.Desk.waits c.args.limits.now (g.S.Source.remaining c.args.source.now) (g.S.Source.remaining c.await_message.new.source)
-    (g.T.Sink.contents c.args.sink.now) (g.T.Sink.contents c.await_message.new.sink) (g.T.Sink.contents c.send_reply.new.sink) c.args.desk.now c.answer-reply.new.desk
+    (g.T.Sink.contents c.args.sink.now) (g.T.Sink.contents c.await_message.new.sink) (g.T.Sink.contents c.send_reply.new.sink) c.args.desk.now
+    c.answer-reply.new.desk
     c.in-Message.message c.answer-reply.result
     (rw c.in-Message.is at c.in_ok-await_message.ensures.awaits) c.answer-reply.ensures c.in_ok-send_reply-in-Message.ensures.written)

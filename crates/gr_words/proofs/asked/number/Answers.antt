@@ -14,12 +14,15 @@ returns-in_err-number c = rw c.from_residual.ensures
 
 pub returns-then-number-most : goal.returns-then-number-most
 returns-then-number-most c =
-    number_read (λ bs r. ParsesUnsigned 32 10 bs r × ExplainsUnsignedError 10 bs r × HasUnsignedDigitsIfOk bs r) (λ u x h. h.0) c.args.option.now _ c.args.most _
-    (one_text-rows (found_of c.args.matches.now) c.args.option.now) c.in_ok-number.number c.in_ok-number.ensures.none c.in_ok-number.ensures.value c.if-number-ge1.true c.if-number-most.true
+    number_read (λ bs r. ParsesUnsigned 32 10 bs r × ExplainsUnsignedError 10 bs r × HasUnsignedDigitsIfOk bs r) (λ u x h. h.0) c.args.option.now _
+    c.args.most _
+    (one_text-rows (found_of c.args.matches.now) c.args.option.now) c.in_ok-number.number c.in_ok-number.ensures.none c.in_ok-number.ensures.value
+    c.if-number-ge1.true c.if-number-most.true
 
 pub returns-else-number-ge1 : goal.returns-else-number-ge1
 returns-else-number-ge1 c = λ n h.
-    let same : n ≡ c.in_ok-number.number = number_same (λ bs r. ParsesUnsigned 32 10 bs r × ExplainsUnsignedError 10 bs r × HasUnsignedDigitsIfOk bs r) (λ u x h. h.0)
+    let same : n ≡ c.in_ok-number.number = number_same (λ bs r. ParsesUnsigned 32 10 bs r × ExplainsUnsignedError 10 bs r × HasUnsignedDigitsIfOk bs r)
+    (λ u x h. h.0)
     c.args.option.now _ c.args.most _ (one_text-rows (found_of c.args.matches.now) c.args.option.now) c.in_ok-number.number n c.in_ok-number.ensures.value h in
     let low = h.4 in
     let high = h.5 in

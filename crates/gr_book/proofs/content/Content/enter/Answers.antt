@@ -9,7 +9,17 @@ use Rattle.gr_book.proofs.content.Content.enter.Goals as goal
 pub returns-in-Ok-take_back : goal.returns-in-Ok-take_back
 returns-in-Ok-take_back c =
     let job = c.args.job in
-    let old : Content = record { limits = c.self.inside.limits; earlier = c.self.inside.earlier.items; current = c.self.inside.current; later = c.self.inside.later.items; next = c.self.inside.next; visit = c.self.inside.visit; out = c.self.inside.out } in
+    let old : Content = record {
+      limits = c.self.inside.limits;
+      earlier = c.self.inside.earlier.items;
+      current = c.self.inside.current;
+      later =
+          c.self.inside.later.items;
+      next = c.self.inside.next;
+      visit = c.self.inside.visit;
+      out = c.self.inside.out;
+    } in
     let new : Content = record old { current = c.settle.new.current; out = c.take_back.new.self } in
     subst (λ (x : Content). AnswersOrLacks x (Deliver job c.args.built) c.settle.result new) c.self.view_is
-    (settled old job c.args.built c.take_back.new.self c.in-Ok-take_back.ensures.1 c.in-Ok.outcome c.settle.result c.settle.new.current c.in-Ok.ensures c.settle.ensures)
+    (settled old job c.args.built c.take_back.new.self c.in-Ok-take_back.ensures.1 c.in-Ok.outcome c.settle.result c.settle.new.current c.in-Ok.ensures
+    c.settle.ensures)

@@ -27,18 +27,29 @@ returns c =
     let p = c.deref.result.now in
     let job = c.in_ok-job.job in
     let state = c.self.inside.current in
-    let m : Content = record { limits = c.self.inside.limits; earlier = c.self.inside.earlier.items; current = c.self.inside.current; later = c.self.inside.later.items; next = c.self.inside.next; visit = c.self.inside.visit; out = c.self.inside.out } in
+    let m : Content = record {
+      limits = c.self.inside.limits;
+      earlier = c.self.inside.earlier.items;
+      current = c.self.inside.current;
+      later =
+          c.self.inside.later.items;
+      next = c.self.inside.next;
+      visit = c.self.inside.visit;
+      out = c.self.inside.out;
+    } in
     let handed = c.in_ok-job.ensures in
     let here : slice_get (package_paths c.current.inside.files) n ≡ Some p = c.package.ensures.path ∙ ap Some (sym c.deref.ensures.value) in
     let at : slice_get (package_paths state.files) n ≡ Some p = subst (λ (s : State). slice_get (package_paths s.files) n ≡ Some p) c.current.view_is here in
     let named : p ≡ job.package = sym (ap (λ (j : JobRecord). j.package) handed.0 ∙ c.in_ok-package.ensures) in
-    let inputs : AreInputs state.files p c.in_ok-inputs.inputs = subst (λ (s : State). AreInputs s.files p c.in_ok-inputs.inputs) c.current.view_is (c.in_ok-inputs.ensures p here) in
+    let inputs : AreInputs state.files p c.in_ok-inputs.inputs =
+    subst (λ (s : State). AreInputs s.files p c.in_ok-inputs.inputs) c.current.view_is (c.in_ok-inputs.ensures p here) in
     let next : IsNextJob m job = record {
       ticket = ap (λ (j : JobRecord). j.ticket) handed.0;
       number = ap (λ (j : JobRecord). j.number) handed.0 ∙ ap (λ (s : State). s.number) c.current.view_is;
       visit = ap (λ (j : JobRecord). j.visit) handed.0;
       first = subst (IsFirstWaiting state m.out m.visit) named (c.in-Some.ensures.1 p at);
-      inputs = subst (λ (x : Workspace). AreInputs state.files job.package x) (sym (ap (λ (j : JobRecord). j.inputs) handed.0)) (subst (λ (q : List ℕ). AreInputs state.files q c.in_ok-inputs.inputs) named inputs);
+      inputs = subst (λ (x : Workspace). AreInputs state.files job.package x) (sym (ap (λ (j : JobRecord). j.inputs) handed.0))
+          (subst (λ (q : List ℕ). AreInputs state.files q c.in_ok-inputs.inputs) named inputs);
     } in (
       subst (λ (x : Content). IsNextJob x job) c.self.view_is next,
       ap (λ (o : JobsOut). record m { out = o }) handed.1 ∙ ap (λ (x : Content). record x { out = with_job x.out (label_of job) }) c.self.view_is,

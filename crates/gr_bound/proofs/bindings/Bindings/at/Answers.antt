@@ -15,9 +15,11 @@ find-requires c = subst (IsSortedBy (λ a b. is_lt (place_cmp (place_at a) (plac
 pub returns-in-None : goal.returns-in-None
 returns-in-None c =
     let same : c.deref.result.now ≡ c.args.self.now = c.deref.ensures.value ∙ c.self.view_is in
-    λ w known are. unbound_at w known c.args.self.now c.args.place.now are (subst (λ (l : List BoundSpot). (b : BoundSpot) → Contains l b → place_at b ≡ c.args.place.now → ⊥) same c.in-None.ensures)
+    λ w known are. unbound_at w known c.args.self.now c.args.place.now are
+    (subst (λ (l : List BoundSpot). (b : BoundSpot) → Contains l b → place_at b ≡ c.args.place.now → ⊥) same c.in-None.ensures)
 
 pub returns-in-Some : goal.returns-in-Some
 returns-in-Some c =
     let same : c.deref.result.now ≡ c.args.self.now = c.deref.ensures.value ∙ c.self.view_is in
-    λ w known are. bound_at w known c.args.self.now c.args.place.now c.in-Some.b.now are (subst (λ (l : List BoundSpot). Contains l c.in-Some.b.now × (place_at c.in-Some.b.now ≡ c.args.place.now)) same c.in-Some.ensures)
+    λ w known are. bound_at w known c.args.self.now c.args.place.now c.in-Some.b.now are
+    (subst (λ (l : List BoundSpot). Contains l c.in-Some.b.now × (place_at c.in-Some.b.now ≡ c.args.place.now)) same c.in-Some.ensures)

@@ -12,8 +12,10 @@ returns-in-Some c =
     let n = c.args.number in
     let all = c.requires.exports.numbers in
     let lt : n < length self.numbers.now = subst (λ m. n < m) (sym all.size) c.requires.in_range in
-    let at : slice_get self.numbers.now n ≡ Some (Some c.in-Some.numbers) = slice_get-get_or self.numbers.now n c.index-self-number.result lt ∙ ap Some c.in-Some.is in
-    number_found self.graph.now (known_in self.found.now) n c.args.name.now c.in-Some.numbers c.named.result (all.each n (Some c.in-Some.numbers) at) c.named.ensures
+    let at : slice_get self.numbers.now n ≡ Some (Some c.in-Some.numbers) = slice_get-get_or self.numbers.now n c.index-self-number.result lt ∙
+    ap Some c.in-Some.is in
+    number_found self.graph.now (known_in self.found.now) n c.args.name.now c.in-Some.numbers c.named.result (all.each n (Some c.in-Some.numbers) at)
+    c.named.ensures
 
 pub returns-in_ok-numbers-in-None : goal.returns-in_ok-numbers-in-None
 returns-in_ok-numbers-in-None c =

@@ -8,5 +8,6 @@ use Rattle.gr_declared.proofs.declared.Declared.add_file.Given as goal
 
 abbrev pub invariant-loop-decl : goal.invariant-loop-decl
 invariant-loop-decl l =
-    AddsDeclared l.initial.self l.self (flat_map (λ d. decl_variables l.rank (decl_view d)) (take l.decl-index l.decl-items)) (flat_map (λ d. decl_types l.rank (decl_view d)) (take l.decl-index l.decl-items))
+    AddsDeclared l.initial.self l.self (flat_map (λ d. decl_variables l.rank (decl_view d)) (take l.decl-index l.decl-items))
+    (flat_map (λ d. decl_types l.rank (decl_view d)) (take l.decl-index l.decl-items))
     (flat_map (λ d. decl_functions l.rank (decl_view d)) (take l.decl-index l.decl-items))

@@ -8,5 +8,6 @@ use Rattle.gr_declared.proofs.declared.Declared.of.Given as goal
 
 abbrev pub invariant-loop-rank : goal.invariant-loop-rank
 invariant-loop-rank l =
-    AddsDeclared l.initial.declared l.declared (flat_map variables_in (take l.rank (enumerate_from 0 (map source_of l.files)))) (flat_map types_in (take l.rank (enumerate_from 0 (map source_of l.files))))
+    AddsDeclared l.initial.declared l.declared (flat_map variables_in (take l.rank (enumerate_from 0 (map source_of l.files))))
+    (flat_map types_in (take l.rank (enumerate_from 0 (map source_of l.files))))
     (flat_map functions_in (take l.rank (enumerate_from 0 (map source_of l.files))))

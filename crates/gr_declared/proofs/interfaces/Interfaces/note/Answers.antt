@@ -8,5 +8,6 @@ use Rattle.gr_declared.proofs.interfaces.Interfaces.note.Goals as goal
 pub returns-clause-noted : goal.returns-clause-noted
 returns-clause-noted c = record {
   here = ap (λ o. unwrap_or o Missing) c.in_ok-insert.ensures.updates.1;
-  elsewhere = λ p ne. ap (λ o. unwrap_or o Missing) (others_stay c.args.self.now.states.states c.insert.new.self c.args.path (Some c.args.state) c.in_ok-insert.ensures.updates p ne);
+  elsewhere = λ p ne. ap (λ o. unwrap_or o Missing) (others_stay c.args.self.now.states.states c.insert.new.self c.args.path (Some c.args.state)
+      c.in_ok-insert.ensures.updates p ne);
 }

@@ -9,7 +9,8 @@ pub returns-clause-set : goal.returns-clause-set
 returns-clause-set c =
     let old = c.args.self.now in
     let new : Interfaces = record { scopes = c.set_scope.new.scopes; definitions = c.set_definitions.new.known; states = old.states } in
-    is_set old new c.args.path.now c.args.scope (shared_definitions c.args.definitions) c.set_scope.ensures.here (λ p ne. c.set_scope.ensures.elsewhere p ne ∙ c.reserve.ensures.kept p)
+    is_set old new c.args.path.now c.args.scope (shared_definitions c.args.definitions) c.set_scope.ensures.here
+    (λ p ne. c.set_scope.ensures.elsewhere p ne ∙ c.reserve.ensures.kept p)
     c.in_ok-set_definitions.ensures.here c.in_ok-set_definitions.ensures.elsewhere refl
 
 on_err : {T E P : Type 0} (r : Result T E) → P → OnErr r P

@@ -24,7 +24,8 @@ loop-number-preserved c =
     let i = c.loop-number.number-index in
     record {
       listed = c.in_ok-mark.ensures.listed;
-      marked = marks_then c.args.self.now.found.items c.args.self.now.marks.items c.loop-number.self.found.items c.loop-number.self.marks.items c.mark.new.self.found.items c.mark.new.self.marks.items (IsPassed row i)
+      marked = marks_then c.args.self.now.found.items c.args.self.now.marks.items c.loop-number.self.found.items c.loop-number.self.marks.items
+          c.mark.new.self.found.items c.mark.new.self.marks.items (IsPassed row i)
           (λ q. q ≡ get_or row i 0) (IsPassed row (i + 1)) c.loop-number.invariant.marked c.in_ok-mark.ensures.marked (passed_next row i) (passed_more row i);
     }
 
@@ -34,7 +35,10 @@ returns-clause-marked c =
     let i = c.loop-number.number-index in
     let found = c.args.self.now.found.items in
     let from : c.index.result.now ≡ get_or found c.args.place 0 = get_or_read found c.args.place c.index.result.now c.requires.place c.index.ensures 0 in
-    let is : row ≡ row_of (slice_get c.args.links.now (get_or found c.args.place 0)) = c.row-number-items.ensures ∙ ap (λ a. row_of (slice_get c.args.links.now a)) from in
+    let is : row ≡ row_of (slice_get c.args.links.now (get_or found c.args.place 0)) = c.row-number-items.ensures ∙
+    ap (λ a. row_of (slice_get c.args.links.now a)) from in
     let end : i ≡ length row = omega arith in
-    marks_as found c.args.self.now.marks.items c.loop-number.self.found.items c.loop-number.self.marks.items (IsPassed row i) (Leads c.args.links.now (get_or found c.args.place 0))
-    (λ q leads. passed_all row i q end (subst (λ xs. Contains xs q) (sym is) leads)) (λ q p. subst (λ xs. Contains xs q) is (passed_held row i q end p)) c.loop-number.invariant.marked
+    marks_as found c.args.self.now.marks.items c.loop-number.self.found.items c.loop-number.self.marks.items (IsPassed row i)
+    (Leads c.args.links.now (get_or found c.args.place 0))
+    (λ q leads. passed_all row i q end (subst (λ xs. Contains xs q) (sym is) leads)) (λ q p. subst (λ xs. Contains xs q) is (passed_held row i q end p))
+    c.loop-number.invariant.marked

@@ -13,7 +13,8 @@ loop-place-init c =
       begun = more.holds;
       sound = λ q m. elim (more.only q m) [ inl k ↦ absurd (c.in_ok-spread.ensures.none q k) | inr b ↦ first b ];
       followed = λ i q lt leads. absurd (omega arith);
-      ordered = λ i lt. elim (more.only (get_or c.begin.new.self.found.items i 0) (c.in_ok-begin.ensures.listed.marked i lt)) [ inl k ↦ absurd (c.in_ok-spread.ensures.none (get_or c.begin.new.self.found.items i 0) k) | inr b ↦ inl b ];
+      ordered = λ i lt. elim (more.only (get_or c.begin.new.self.found.items i 0) (c.in_ok-begin.ensures.listed.marked i lt))
+          [ inl k ↦ absurd (c.in_ok-spread.ensures.none (get_or c.begin.new.self.found.items i 0) k) | inr b ↦ inl b ];
       within = omega arith;
     }
 
@@ -32,7 +33,8 @@ loop-place-preserved c =
       begun = λ q b. more.keeps q (inv.begun q b);
       sound = reached_more c.args.links.now (IsMarked c.args.begins.now) f m g n c.loop-place.place here inv.listed inv.sound more;
       followed = followed_more c.args.links.now f m g n c.loop-place.place here inv.followed more;
-      ordered = ordered_more c.args.links.now (IsMarked c.args.begins.now) f m g n c.loop-place.place here inv.listed c.in_ok-follow.ensures.listed inv.ordered more;
+      ordered = ordered_more c.args.links.now (IsMarked c.args.begins.now) f m g n c.loop-place.place here inv.listed c.in_ok-follow.ensures.listed
+          inv.ordered more;
       within = omega (arith, more.longer);
     }
 
@@ -42,4 +44,8 @@ returns-clause-reached c =
     let f = c.loop-place.spread.found.items in
     let m = c.loop-place.spread.marks.items in
     let end : c.loop-place.place ≡ length f = omega (arith, inv.within, c.len.ensures, c.loop-place-test.false) in
-    λ q. (inv.sound q, holds_reached c.args.links.now (IsMarked c.args.begins.now) f m inv.listed inv.begun (subst (IsFollowed c.args.links.now f m) end inv.followed) q)
+    λ q. (
+      inv.sound q,
+      holds_reached c.args.links.now (IsMarked c.args.begins.now) f m inv.listed inv.begun
+          (subst (IsFollowed c.args.links.now f m) end inv.followed) q,
+    )

@@ -7,5 +7,6 @@ use Rattle.gr_declared.proofs.unit.Index.path.Goals as goal
 
 pub returns : goal.returns
 returns c =
-    path_read c.one_string_value.ensures (package_of c.args.unit) c.args.d c.path_at.result _ (c.path_at.ensures ∙ ap (λ ps. path_in (slice_get ps c.args.d)) c.deref.ensures.value)
+    path_read c.one_string_value.ensures (package_of c.args.unit) c.args.d c.path_at.result _
+    (c.path_at.ensures ∙ ap (λ ps. path_in (slice_get ps c.args.d)) c.deref.ensures.value)
     (c.requires.index.paths.each c.args.d c.requires.in_range)

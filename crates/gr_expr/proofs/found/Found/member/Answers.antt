@@ -12,5 +12,6 @@ use Rattle.gr_expr.proofs.found.Found.member.Goals as goal
 pub returns : goal.returns
 returns c = ok_map c.means_or_wrong.result (λ m a. adds_member (world_of c.args.world.now) (type_of c.args.before) c.args.name c.args.addressable _ _
     c.member-member.ensures c.in_ok-meaning.ensures c.in_ok-note_use.ensures.faults
-    (c.in_ok-note_use.ensures.uses ∙ ap (λ (s : Option Symbol). map use_of c.args.self.now.uses.items ++ (record { place = c.args.name; before = type_of c.args.before; member = s } ∷ [])) c.in_ok-symbol.ensures) a)
+    (c.in_ok-note_use.ensures.uses ∙ ap (λ (s : Option Symbol).
+    map use_of c.args.self.now.uses.items ++ (record { place = c.args.name; before = type_of c.args.before; member = s } ∷ [])) c.in_ok-symbol.ensures) a)
     c.means_or_wrong.ensures

@@ -7,4 +7,5 @@ use Rattle.gr_expr.proofs.keys.SeenFields.add.Goals as goal
 
 pub returns-in_ok-insert : goal.returns-in_ok-insert
 unfolding key_of
-returns-in_ok-insert c = one_more c.args.self.now (record { ranks = c.insert.new.self }) c.in-Field.rank c.in_ok-insert.ensures.updates ∙ ap (λ k. seen_with (key_of k) (seen_of c.args.self.now)) (sym c.in-Field.is)
+returns-in_ok-insert c = one_more c.args.self.now (record { ranks = c.insert.new.self }) c.in-Field.rank c.in_ok-insert.ensures.updates ∙
+    ap (λ k. seen_with (key_of k) (seen_of c.args.self.now)) (sym c.in-Field.is)

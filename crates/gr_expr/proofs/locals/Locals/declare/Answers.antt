@@ -7,7 +7,8 @@ use Rattle.gr_expr.proofs.LocalTypes.{one_put}
 use Rattle.gr_expr.proofs.locals.Locals.declare.Goals as goal
 
 pub returns-in_ok-before-in-Some : goal.returns-in_ok-before-in-Some
-returns-in_ok-before-in-Some c = one_put c.args.self.now (record { types = c.insert.new.self }) c.args.place (Some c.in-Some.own) c.in_ok-before-in-Some.ensures.updates
+returns-in_ok-before-in-Some c = one_put c.args.self.now (record { types = c.insert.new.self }) c.args.place (Some c.in-Some.own)
+    c.in_ok-before-in-Some.ensures.updates
     ∙ ap (λ t. declared (locals_of c.args.self.now) c.args.place (option_map type_of t)) (sym c.in-Some.is)
 
 pub returns-in-None : goal.returns-in-None

@@ -1,7 +1,11 @@
 -- The importers of a package, in the words of the workspace.
 use Rattle.gr_graph.proofs.Asked.{importers_are}
+use Rattle.gr_graph.proofs.Answered.{all_rising}
 use Rattle.gr_graph.proofs.graph.Graph.importers.Goals as goal
 
-pub returns : goal.returns
-returns c =
-    λ p at. importers_are c.args.self.now c.links.result.now c.links.ensures.links c.args.number p c.importers.result.now at c.importers.ensures
+pub returns-clause-importers : goal.returns-clause-importers
+returns-clause-importers c =
+    λ p at. importers_are c.args.self.now c.links.result.now c.links.ensures.links c.args.number p c.importers.result.now at c.importers.ensures.importers
+
+pub returns-clause-rising : goal.returns-clause-rising
+returns-clause-rising c = c.importers.ensures.rising (all_rising c.links.result.now c.links.ensures.rising)

@@ -5,7 +5,8 @@ use Rattle.std.proofs.lemmas.List.{get_or-set_same}
 use Rattle.gr_graph.specs.Imports.{Imports, imports_of}
 use Rattle.gr_graph.specs.Search.{IsMarked, package_at}
 use Rattle.gr_graph.specs.declared.search.Found.{Found}
-use Rattle.gr_graph.proofs.SearchSteps.{IsSearch-add, GoesOn-add, GoesOn-trans, IsFollowed-more, number_at, number_below, linked_below, row_imports, mark_read, marked_stays, longer}
+use Rattle.gr_graph.proofs.SearchSteps.{IsSearch-add, GoesOn-add, GoesOn-trans, IsFollowed-more, number_at, number_below, linked_below, row_imports}
+use Rattle.gr_graph.proofs.SearchSteps.{mark_read, marked_stays, longer}
 use Rattle.gr_graph.proofs.search.Search.follow.Goals as goal
 use Rattle.gr_graph.proofs.search.Search.follow.Goals.{then-not-index+in_ok-push, else-not-index}
 
@@ -21,7 +22,8 @@ index-requires-in-loop-number c =
     let g = c.args.imports.now in
     let f = c.args.self.now.found.items in
     let e = number_at f c.args.place c.index.result.now c.requires.place c.index.ensures in
-    let i = row_imports g (package_at f c.args.place) c.index.result.now.number c.imports_of-number-items.result.now c.loop-number.number-index e c.imports_of-number-items.ensures c.loop-number-test.true in
+    let i = row_imports g (package_at f c.args.place) c.index.result.now.number c.imports_of-number-items.result.now c.loop-number.number-index e
+    c.imports_of-number-items.ensures c.loop-number-test.true in
     let b = linked_below g (package_at f c.args.place) _ c.requires.linked i in
     omega (arith, c.loop-number.invariant.search.size, c.loop-number.self.marks.ok.0)
 
@@ -30,7 +32,8 @@ index_mut-requires c =
     let g = c.args.imports.now in
     let f = c.args.self.now.found.items in
     let e = number_at f c.args.place c.index.result.now c.requires.place c.index.ensures in
-    let i = row_imports g (package_at f c.args.place) c.index.result.now.number c.imports_of-number-items.result.now c.loop-number.number-index e c.imports_of-number-items.ensures c.loop-number-test.true in
+    let i = row_imports g (package_at f c.args.place) c.index.result.now.number c.imports_of-number-items.result.now c.loop-number.number-index e
+    c.imports_of-number-items.ensures c.loop-number-test.true in
     let b = linked_below g (package_at f c.args.place) _ c.requires.linked i in
     omega (arith, c.loop-number.invariant.search.size, c.loop-number.self.marks.ok.0)
 
@@ -53,13 +56,19 @@ loop-number-preserved c =
     elim c.if-not-index.branch [
       | then-not-index+in_ok-push w ↦
           let fresh = mark_read n (get_or row k 0) read.result.now false within read.ensures w.if-not-index.true in
-          let s = IsSearch-add g h n place (get_or row k 0) inv.search (omega (arith, inv.more.longer, c.requires.place)) b fresh (subst (λ (x : Found). Imports g x.number (get_or row k 0)) (sym (inv.more.same place c.requires.place)) i) in
+          let s = IsSearch-add g h n place (get_or row k 0) inv.search (omega (arith, inv.more.longer, c.requires.place)) b fresh
+          (subst (λ (x : Found). Imports g x.number (get_or row k 0)) (sym (inv.more.same place c.requires.place)) i) in
           rw (w.self-is, w.in_ok-push.ensures.items) (record {
             search = s;
             more = GoesOn-trans f h (longer h place (get_or row k 0)) m n (set n (get_or row k 0) true) inv.more (GoesOn-add h n place (get_or row k 0));
             done = below_more _ _ (λ j l. marked_stays n (get_or row k 0) _ (inv.done j l)) (get_or-set_same n (get_or row k 0) true false within);
           })
-      | else-not-index w ↦ rw w.self-is (record { search = inv.search; more = inv.more; done = below_more _ _ inv.done (mark_read n (get_or row k 0) read.result.now true within read.ensures w.if-not-index.false) })
+      | else-not-index w ↦ rw w.self-is (record {
+        search = inv.search;
+        more = inv.more;
+        done =
+            below_more _ _ inv.done (mark_read n (get_or row k 0) read.result.now true within read.ensures w.if-not-index.false);
+      })
     ]
 
 pub returns-clause-followed : goal.returns-clause-followed
@@ -71,6 +80,7 @@ returns-clause-followed c =
     let n = c.loop-number.self.marks.items in
     let e = number_at f c.args.place c.index.result.now c.requires.place c.index.ensures in
     let same : c.imports_of-number-items.result.now ≡ imports_of g (package_at f c.args.place) = c.imports_of-number-items.ensures ∙ ap (imports_of g) e in
-    let passed : (k : ℕ) → k < length c.imports_of-number-items.result.now → IsMarked n (get_or c.imports_of-number-items.result.now k 0) = λ k l. inv.done k (omega arith) in
+    let passed : (k : ℕ) → k < length c.imports_of-number-items.result.now → IsMarked n (get_or c.imports_of-number-items.result.now k 0) = λ k l.
+    inv.done k (omega arith) in
     IsFollowed-more g f h c.args.self.now.marks.items n c.args.place c.requires.place inv.more c.requires.followed
     (subst (λ (row : List ℕ). (k : ℕ) → k < length row → IsMarked n (get_or row k 0)) same passed)

@@ -11,4 +11,5 @@ returns-clause-names c =
     let before = rank_of c.args.self.now.firsts.items in
     let then = rank_of c.note_first.new.firsts.items in
     let size : c.len.result ≡ length old = omega (arith, c.len.ensures) in
-    more_firsts old c.push.new.self.items (Some c.args.new) c.in_ok-push.ensures.items before then c.args.new refl (subst (NotesFirst before then c.args.new.definition c.args.new.name.items) size c.in_ok-note_first.ensures) c.requires
+    more_firsts old c.push.new.self.items (Some c.args.new) c.in_ok-push.ensures.items before then c.args.new refl
+    (subst (NotesFirst before then c.args.new.definition c.args.new.name.items) size c.in_ok-note_first.ensures) c.requires

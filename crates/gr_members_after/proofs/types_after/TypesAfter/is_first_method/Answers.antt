@@ -14,7 +14,8 @@ returns c = λ r h.
     let Known = known_types t in
     let s = c.args.of.now in
     let new = c.args.new.now in
-    let at = subst (λ (z : Symbol). IsRankFound (λ n. InPackage Known z.package (λ p. IsFirstMethod Known r p z.rank c.deref.result.now n)) c.first_method.result)
+    let at = subst (λ (z : Symbol). IsRankFound (λ n. InPackage Known z.package (λ p. IsFirstMethod Known r p z.rank c.deref.result.now n))
+    c.first_method.result)
     c.in_ok-definition.ensures (c.first_method.ensures r h) in
     let found = subst (λ m. IsRankFound (λ n. InPackage Known s.package (λ p. IsFirstMethod Known r p new.definition m n)) c.first_method.result)
     c.deref.ensures.value at in

@@ -8,7 +8,8 @@ use Rattle.gr_object.proofs.Links.{chain_alone, chain_behind, prefix_stands}
 use Rattle.gr_object.proofs.scope.Scope.+standing.Goals as goal
 
 pub returns-in-Name : goal.returns-in-Name
-returns-in-Name t c = c.name_standing.ensures ∙ sym (ap (λ p. p.standing) (name_here (source_of c.args.self.source.now) c.args.self.slots.now.places.items _ c.in-Name.is))
+returns-in-Name t c = c.name_standing.ensures ∙ sym
+    (ap (λ p. p.standing) (name_here (source_of c.args.self.source.now) c.args.self.slots.now.places.items _ c.in-Name.is))
 
 pub returns-in-Blank : goal.returns-in-Blank
 unfolding standing_of
@@ -16,11 +17,15 @@ returns-in-Blank t c = sym (ap (λ p. p.standing) (blank_here (source_of c.args.
 
 pub returns-then-is_empty : goal.returns-then-is_empty
 unfolding standing_of
-returns-then-is_empty t c = sym (chain_alone (source_of c.args.self.source.now) c.args.self.slots.now.places.items _ _ c.in-Chain.is _ c.deref.ensures (grind (c.if-is_empty.true, c.is_empty.ensures, c.in-Chain.links.ok.0, arith)) _ (sym c.standing-head.ensures) ∙ ap Values (sym c.values.ensures))
+returns-then-is_empty t c = sym (chain_alone (source_of c.args.self.source.now) c.args.self.slots.now.places.items _ _ c.in-Chain.is _ c.deref.ensures
+    (grind (c.if-is_empty.true, c.is_empty.ensures, c.in-Chain.links.ok.0, arith)) _ (sym c.standing-head.ensures) ∙ ap Values (sym c.values.ensures))
 
 pub returns-else-is_empty : goal.returns-else-is_empty
 unfolding standing_of
-returns-else-is_empty t c = sym (chain_behind (source_of c.args.self.source.now) c.args.self.slots.now.places.items _ _ c.in-Chain.is _ c.deref.ensures _ c.deref-in-Chain.ensures.value (c.len.result - 1) (let h = c.len.ensures ∙ c.in-Chain.links.ok.0 in grind (h, c.if-is_empty.false, c.is_empty.ensures, c.in-Chain.links.ok.0, arith)) _ (sym c.standing-head.ensures) _ c.left_by_links.ensures)
+returns-else-is_empty t c = sym (chain_behind (source_of c.args.self.source.now) c.args.self.slots.now.places.items _ _ c.in-Chain.is _ c.deref.ensures _
+    c.deref-in-Chain.ensures.value (c.len.result - 1)
+    (let h = c.len.ensures ∙ c.in-Chain.links.ok.0 in grind (h, c.if-is_empty.false, c.is_empty.ensures, c.in-Chain.links.ok.0, arith)) _
+    (sym c.standing-head.ensures) _ c.left_by_links.ensures)
 
 pub returns-in-Number : goal.returns-in-Number
 unfolding standing_of

@@ -13,7 +13,8 @@ returns-in_err-names-clause-exact c = exits _ _ _ _ c.in_err-names.field-0.0 c.f
     (fails_rule last (fails_in (A TypeUse ∷ A GlobalValues ∷ []) c.in_err-names.ensures.exact))
 
 pub returns-in_err-var_type-clause-exact : goal.returns-in_err-var_type-clause-exact
-returns-in_err-var_type-clause-exact c = exits _ _ _ _ c.in_err-var_type.field-0.0 c.from_residual-in_err-var_type.result c.from_residual-in_err-var_type.ensures.1
+returns-in_err-var_type-clause-exact c = exits _ _ _ _ c.in_err-var_type.field-0.0 c.from_residual-in_err-var_type.result
+    c.from_residual-in_err-var_type.ensures.1
     (fails_rule last (fails_on c.in_ok-names.ensures.exact (fails_first c.in_err-var_type.ensures)))
 
 pub returns-in_err-values-clause-exact : goal.returns-in_err-values-clause-exact
@@ -21,7 +22,8 @@ returns-in_err-values-clause-exact c = exits _ _ _ _ c.in_err-values.field-0.0 c
     (fails_rule last (fails_on c.in_ok-names.ensures.exact (fails_later c.in_ok-var_type.ensures c.in_err-values.ensures.exact)))
 
 pub returns-clause-exact : goal.returns-clause-exact
-returns-clause-exact c = read_as (read_rule last (read_on c.in_ok-names.ensures.exact (read_then c.in_ok-var_type.ensures c.in_ok-values.ensures.exact))) (sym (global_spelled_as _))
+returns-clause-exact c = read_as (read_rule last (read_on c.in_ok-names.ensures.exact (read_then c.in_ok-var_type.ensures c.in_ok-values.ensures.exact)))
+    (sym (global_spelled_as _))
 
 pub returns-clause-formed : goal.returns-clause-formed
 returns-clause-formed c = global_formed _ c.in_ok-names.ensures.formed c.in_ok-values.ensures.formed

@@ -13,7 +13,8 @@ returns-in_err-names-clause-exact c = exits _ _ _ _ c.in_err-names.field-0.0 c.f
     (fails_rule last (fails_in (A LocalRest ∷ []) c.in_err-names.ensures.exact))
 
 pub returns-in_err-local_type-clause-exact : goal.returns-in_err-local_type-clause-exact
-returns-in_err-local_type-clause-exact c = exits _ _ _ _ c.in_err-local_type.field-0.0 c.from_residual-in_err-local_type.result c.from_residual-in_err-local_type.ensures.1
+returns-in_err-local_type-clause-exact c = exits _ _ _ _ c.in_err-local_type.field-0.0 c.from_residual-in_err-local_type.result
+    c.from_residual-in_err-local_type.ensures.1
     (fails_rule last (fails_on c.in_ok-names.ensures.exact c.in_err-local_type.ensures.exact))
 
 pub returns-clause-exact : goal.returns-clause-exact

@@ -6,4 +6,5 @@ use Rattle.gr_scan.proofs.SpanLemmas.{tokens_in_order}
 use Rattle.gr_scan.proofs.pieces.Pieces.tokens.Goals as goal
 
 pub returns-clause-order : goal.returns-clause-order
-returns-clause-order c = subst (λ (v : CutText). AreInOrder v.text (tokens_in v)) c.self.view_is (tokens_in_order c.self.inside.file c.self.inside.pieces.items c.self.invariant.cut)
+returns-clause-order c = subst (λ (v : CutText). AreInOrder v.text (tokens_in v)) c.self.view_is
+    (tokens_in_order c.self.inside.file c.self.inside.pieces.items c.self.invariant.cut)

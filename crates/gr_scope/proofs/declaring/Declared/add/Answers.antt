@@ -4,5 +4,6 @@ use Rattle.gr_scope.proofs.declaring.Declared.add.Goals as goal
 
 pub returns : goal.returns
 returns c =
-    first_next c.args.identifiers.now c.args.d c.link.new.self.last c.link.new.self.previous.items c.args.self.now.declaring.items c.push.new.self.items c.declares-declares.result
+    first_next c.args.identifiers.now c.args.d c.link.new.self.last c.link.new.self.previous.items c.args.self.now.declaring.items c.push.new.self.items
+    c.declares-declares.result
     c.in_ok-link.ensures.linked c.in_ok-link.ensures.next c.requires.first.marks c.in_ok-push.ensures.items c.declares-declares.ensures

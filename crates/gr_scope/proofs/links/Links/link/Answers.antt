@@ -14,8 +14,10 @@ returns-clause-linked c =
     let old = c.args.self.now in
     let before = c.if-leads.before in
     elim c.if-leads.branch [
-      | then-leads+in_ok-before w ↦ links_with l names c.args.d old.last c.if-leads.self.last old.previous.items c.push.new.self.items before w.key_at.result c.requires.next
-          (c.in_ok-push.ensures.items ∙ ap (λ s. s.previous.items ++ (before ∷ [])) w.self-is) c.requires.linked (c.requires.leading.0 w.if-leads.true) (sym w.key_at.ensures)
+      | then-leads+in_ok-before w ↦ links_with l names c.args.d old.last c.if-leads.self.last old.previous.items c.push.new.self.items before
+          w.key_at.result c.requires.next
+          (c.in_ok-push.ensures.items ∙ ap (λ s. s.previous.items ++ (before ∷ [])) w.self-is) c.requires.linked (c.requires.leading.0 w.if-leads.true)
+          (sym w.key_at.ensures)
           (w.before-is ∙ w.in_ok-before.ensures.old) (λ q. ap (λ s. get equal.ghosts.eq s.last q) w.self-is ∙ w.in_ok-before.ensures.updates.0 q)
       | else-leads w ↦ links_without l names c.args.d old.last c.if-leads.self.last old.previous.items c.push.new.self.items before c.requires.next
           (c.in_ok-push.ensures.items ∙ ap (λ s. s.previous.items ++ (before ∷ [])) w.self-is) c.requires.linked

@@ -8,7 +8,8 @@ use Rattle.gr_scope.proofs.table.ScopeTable.binding.Goals as goal
 pub returns : goal.returns
 returns c =
     of_table (λ files l names n. IsBinding l names c.args.u c.found_binding.result)
-    c.deref.result.now c.self.inside.identifiers.items c.self.inside.files.now c.args.self.now c.deref.ensures.value (ap (λ p. p.files) c.self.view_is) (ap (λ p. p.sites) c.self.view_is)
+    c.deref.result.now c.self.inside.identifiers.items c.self.inside.files.now c.args.self.now c.deref.ensures.value (ap (λ p. p.files) c.self.view_is)
+    (ap (λ p. p.sites) c.self.view_is)
     c.found_binding.ensures
 
 pub found_binding-requires-clause-declared : goal.found_binding-requires-clause-declared

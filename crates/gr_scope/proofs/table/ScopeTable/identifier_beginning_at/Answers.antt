@@ -8,5 +8,8 @@ use Rattle.gr_scope.proofs.table.ScopeTable.identifier_beginning_at.Goals as goa
 
 pub returns : goal.returns
 returns c =
-    of_table (λ files l names n. MatchOption c.first_beginning_at.result ((u : ℕ) → u < n → BeginsIn files l c.args.place.now.path c.args.place.now.offset u → ⊥) (λ u. IsFirstOf (BeginsIn files l c.args.place.now.path c.args.place.now.offset) n u))
-    c.deref.result.now c.self.inside.identifiers.items c.self.inside.files.now c.args.self.now c.deref.ensures.value (ap (λ p. p.files) c.self.view_is) (ap (λ p. p.sites) c.self.view_is) c.first_beginning_at.ensures
+    of_table (λ files l names n. MatchOption c.first_beginning_at.result
+    ((u : ℕ) → u < n → BeginsIn files l c.args.place.now.path c.args.place.now.offset u → ⊥)
+    (λ u. IsFirstOf (BeginsIn files l c.args.place.now.path c.args.place.now.offset) n u))
+    c.deref.result.now c.self.inside.identifiers.items c.self.inside.files.now c.args.self.now c.deref.ensures.value (ap (λ p. p.files) c.self.view_is)
+    (ap (λ p. p.sites) c.self.view_is) c.first_beginning_at.ensures

@@ -7,4 +7,5 @@ use Rattle.gr_scope.proofs.table.ScopeTable.imports_are_level.Goals as goal
 pub returns : goal.returns
 returns c =
     of_table (λ files l names n. AreImportsLevel l)
-    c.self.inside.identifiers.items c.self.inside.identifiers.items c.self.inside.files.now c.args.self.now refl (ap (λ p. p.files) c.self.view_is) (ap (λ p. p.sites) c.self.view_is) c.self.invariant.0.imports
+    c.self.inside.identifiers.items c.self.inside.identifiers.items c.self.inside.files.now c.args.self.now refl (ap (λ p. p.files) c.self.view_is)
+    (ap (λ p. p.sites) c.self.view_is) c.self.invariant.0.imports

@@ -9,7 +9,8 @@ use Rattle.gr_scope.proofs.table.ScopeTable.is_repeated.Goals as goal
 pub returns : goal.returns
 returns c =
     of_table (λ files l names n. IsTrue c.is_repeated.result ↔ (Declares l names c.args.declaration × (Counts l names c.args.declaration → ⊥)))
-    c.deref.result.now c.self.inside.identifiers.items c.self.inside.files.now c.args.self.now c.deref.ensures.value (ap (λ p. p.files) c.self.view_is) (ap (λ p. p.sites) c.self.view_is) c.is_repeated.ensures
+    c.deref.result.now c.self.inside.identifiers.items c.self.inside.files.now c.args.self.now c.deref.ensures.value (ap (λ p. p.files) c.self.view_is)
+    (ap (λ p. p.sites) c.self.view_is) c.is_repeated.ensures
 
 pub is_repeated-requires-clause-declared : goal.is_repeated-requires-clause-declared
 is_repeated-requires-clause-declared c =
@@ -21,5 +22,6 @@ is_repeated-requires-clause-bound c =
     let xs = c.deref.result.now in
     let bound = c.binding-bound.result in
     of_table (λ files l names n. IsBinding l names c.args.declaration bound → IsBinding (layout_of xs) (names_of xs) c.args.declaration bound)
-    xs c.self.inside.identifiers.items c.self.inside.files.now c.args.self.now c.deref.ensures.value (ap (λ p. p.files) c.self.view_is) (ap (λ p. p.sites) c.self.view_is) (λ h. h)
+    xs c.self.inside.identifiers.items c.self.inside.files.now c.args.self.now c.deref.ensures.value (ap (λ p. p.files) c.self.view_is)
+    (ap (λ p. p.sites) c.self.view_is) (λ h. h)
     c.binding-bound.ensures

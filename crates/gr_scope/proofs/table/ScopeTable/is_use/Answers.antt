@@ -8,7 +8,8 @@ use Rattle.gr_scope.proofs.table.ScopeTable.is_use.Goals as goal
 pub returns : goal.returns
 returns c =
     of_table (λ files l names n. IsTrue c.is_use.result ↔ IsUse l names c.args.u)
-    c.deref.result.now c.self.inside.identifiers.items c.self.inside.files.now c.args.self.now c.deref.ensures.value (ap (λ p. p.files) c.self.view_is) (ap (λ p. p.sites) c.self.view_is) c.is_use.ensures
+    c.deref.result.now c.self.inside.identifiers.items c.self.inside.files.now c.args.self.now c.deref.ensures.value (ap (λ p. p.files) c.self.view_is)
+    (ap (λ p. p.sites) c.self.view_is) c.is_use.ensures
 
 pub is_use-requires-clause-declared : goal.is_use-requires-clause-declared
 is_use-requires-clause-declared c =

@@ -7,4 +7,5 @@ use Rattle.gr_stmt.proofs.checked.Checked.+statement.Given as goal
 
 abbrev pub invariant-check_block-loop-item : goal.invariant-check_block-loop-item
 invariant-check_block-loop-item l =
-    check_each (world_of l.world) (map target_of l.results) (checked_of l.self) (drop l.item-index l.item-items) ≡ check_each (world_of l.world) (map target_of l.results) (checked_of l.initial.self) l.item-items
+    check_each (world_of l.world) (map target_of l.results) (checked_of l.self) (drop l.item-index l.item-items) ≡ check_each (world_of l.world)
+    (map target_of l.results) (checked_of l.initial.self) l.item-items

@@ -15,4 +15,6 @@ returns c =
     on_ok_weaker c.require_statement.result (λ n. found_then (locals_of c.args.self.now.locals) c.in_ok-alone.ensures.found
     (notes_as n (ap (λ p. stands_faults p c.in_ok-alone.alone.stands (meaning_of c.in_ok-alone.alone.meaning)) c.place_of-place.ensures
     ∙ (ap (λ b. stands_faults (place_of (expr_view c.args.expr.now)) b (meaning_of c.in_ok-alone.alone.meaning)) c.in_ok-alone.ensures.stands
-    ∙ ap (λ m. stands_faults (place_of (expr_view c.args.expr.now)) (is_statement (world_of c.args.world.now) (locals_of c.args.self.now.locals) (expr_view c.args.expr.now)) m) c.in_ok-alone.ensures.found.meaning)))) c.require_statement.ensures
+    ∙ ap (λ m. stands_faults (place_of (expr_view c.args.expr.now))
+    (is_statement (world_of c.args.world.now) (locals_of c.args.self.now.locals) (expr_view c.args.expr.now)) m) c.in_ok-alone.ensures.found.meaning))))
+    c.require_statement.ensures

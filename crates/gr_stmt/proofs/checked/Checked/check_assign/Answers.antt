@@ -13,6 +13,11 @@ use Rattle.gr_stmt.proofs.checked.Checked.check_assign.Goals as goal
 pub returns : goal.returns
 unfolding check_assign
 returns c =
-    on_ok_weaker c.given_to.result (λ n. given_then (world_of c.args.world.now) (first_of_exprs (exprs_view c.args.left.now)) (locals_of c.args.self.now.locals) c.in_ok-targets.ensures c.in_ok-values.ensures (notes_as n (ap (λ p. given_to (world_of c.args.world.now) p (map argued_of c.deref.result.now) (map target_of c.deref-2.result.now)) c.first_of_exprs-place.ensures
-    ∙ (ap (λ vs. given_to (world_of c.args.world.now) (first_of_exprs (exprs_view c.args.left.now)) (map argued_of vs) (map target_of c.deref-2.result.now)) c.deref.ensures.value
-    ∙ ap (λ ts. given_to (world_of c.args.world.now) (first_of_exprs (exprs_view c.args.left.now)) (map argued_of c.in_ok-values.values.items) (map target_of ts)) c.deref-2.ensures.value))) (locals_of c.args.self.now.locals)) c.given_to.ensures
+    on_ok_weaker c.given_to.result (λ n. given_then (world_of c.args.world.now) (first_of_exprs (exprs_view c.args.left.now))
+    (locals_of c.args.self.now.locals) c.in_ok-targets.ensures c.in_ok-values.ensures
+    (notes_as n (ap (λ p. given_to (world_of c.args.world.now) p (map argued_of c.deref.result.now) (map target_of c.deref-2.result.now))
+    c.first_of_exprs-place.ensures
+    ∙ (ap (λ vs. given_to (world_of c.args.world.now) (first_of_exprs (exprs_view c.args.left.now)) (map argued_of vs) (map target_of c.deref-2.result.now))
+    c.deref.ensures.value
+    ∙ ap (λ ts. given_to (world_of c.args.world.now) (first_of_exprs (exprs_view c.args.left.now)) (map argued_of c.in_ok-values.values.items)
+    (map target_of ts)) c.deref-2.ensures.value))) (locals_of c.args.self.now.locals)) c.given_to.ensures

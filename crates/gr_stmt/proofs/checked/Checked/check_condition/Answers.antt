@@ -16,4 +16,5 @@ unfolding check_condition
 returns c =
     on_ok_weaker c.require_bool.result (λ n. found_then (locals_of c.args.self.now.locals) c.in_ok-judge_value.ensures
     (notes_as n (ap (λ p. condition_faults (world_of c.args.world.now) p (option_map kind_of c.into_kind-kind.result)) c.place_of-place.ensures
-    ∙ ap (λ k. condition_faults (world_of c.args.world.now) (place_of (expr_view c.args.expr.now)) k) (c.into_kind-kind.ensures ∙ ap value_kind c.in_ok-judge_value.ensures.meaning)))) c.require_bool.ensures
+    ∙ ap (λ k. condition_faults (world_of c.args.world.now) (place_of (expr_view c.args.expr.now)) k)
+    (c.into_kind-kind.ensures ∙ ap value_kind c.in_ok-judge_value.ensures.meaning)))) c.require_bool.ensures

@@ -10,4 +10,5 @@ use Rattle.gr_stmt.proofs.checked.Checked.check_globals.Given as goal
 
 abbrev pub invariant-loop-item : goal.invariant-loop-item
 invariant-loop-item l =
-    check_items (check_global (world_of l.world)) (checked_of l.self) (list_view global_view (drop l.item-index l.item-items)) ≡ check_items (check_global (world_of l.world)) (checked_of l.initial.self) (list_view global_view l.item-items)
+    check_items (check_global (world_of l.world)) (checked_of l.self) (list_view global_view (drop l.item-index l.item-items)) ≡ check_items
+    (check_global (world_of l.world)) (checked_of l.initial.self) (list_view global_view l.item-items)

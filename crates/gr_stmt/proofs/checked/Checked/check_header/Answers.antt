@@ -15,10 +15,15 @@ returns-in-Forever c = ap (λ v. check_header (world_of c.args.world.now) (check
 
 pub returns-in-While : goal.returns-in-While
 unfolding check_header for_view
-returns-in-While c = on_ok_weaker c.check_condition.result (λ q. q ∙ ap (λ v. check_header (world_of c.args.world.now) (checked_of c.args.self.now) (for_view v)) (sym c.in-While.is)) c.check_condition.ensures
+returns-in-While c = on_ok_weaker c.check_condition.result
+    (λ q. q ∙ ap (λ v. check_header (world_of c.args.world.now) (checked_of c.args.self.now) (for_view v)) (sym c.in-While.is)) c.check_condition.ensures
 
 pub returns-in_ok-check_optional_condition-in-Clauses : goal.returns-in_ok-check_optional_condition-in-Clauses
 unfolding check_header for_view
 returns-in_ok-check_optional_condition-in-Clauses c =
-    on_ok_weaker c.check_optional-in-Clauses.result (λ q. q ∙ (ap (λ s. check_optional (world_of c.args.world.now) s (option_view simple_view c.in-Clauses.post))
-    (c.in_ok-check_optional_condition-in-Clauses.ensures ∙ ap (λ s. check_optional_condition (world_of c.args.world.now) s (option_view expr_view c.in-Clauses.condition)) c.in_ok-check_optional-in-Clauses.ensures) ∙ ap (λ v. check_header (world_of c.args.world.now) (checked_of c.args.self.now) (for_view v)) (sym c.in-Clauses.is))) c.check_optional-in-Clauses.ensures
+    on_ok_weaker c.check_optional-in-Clauses.result (λ q. q ∙
+    (ap (λ s. check_optional (world_of c.args.world.now) s (option_view simple_view c.in-Clauses.post))
+    (c.in_ok-check_optional_condition-in-Clauses.ensures ∙
+    ap (λ s. check_optional_condition (world_of c.args.world.now) s (option_view expr_view c.in-Clauses.condition))
+    c.in_ok-check_optional-in-Clauses.ensures) ∙
+    ap (λ v. check_header (world_of c.args.world.now) (checked_of c.args.self.now) (for_view v)) (sym c.in-Clauses.is))) c.check_optional-in-Clauses.ensures

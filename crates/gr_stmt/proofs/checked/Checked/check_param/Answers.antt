@@ -16,6 +16,9 @@ use Rattle.gr_stmt.proofs.checked.Checked.check_param.Goals as goal
 pub returns : goal.returns
 unfolding check_param param_view
 returns c =
-    on_ok_weaker c.declare_written.result (λ q. ap (λ ks. checked_with ks c.judge_type.new.self) (q ∙ (ap (λ ns. written_locals (locals_of c.args.self.now.locals) (list_view ident_view ns) (option_map type_of c.in_ok-own.own)) c.deref.ensures.value
+    on_ok_weaker c.declare_written.result (λ q. ap (λ ks. checked_with ks c.judge_type.new.self)
+    (q ∙ (ap (λ ns. written_locals (locals_of c.args.self.now.locals) (list_view ident_view ns) (option_map type_of c.in_ok-own.own)) c.deref.ensures.value
     ∙ ap (λ t. written_locals (locals_of c.args.self.now.locals) (list_view ident_view c.args.param.now.names.items) t) c.in_ok-own.ensures.found))
-    ∙ declared_then (locals_of c.args.self.now.locals) c.in_ok-own.ensures (written_locals (locals_of c.args.self.now.locals) (list_view ident_view c.args.param.now.names.items) (judge_type (world_of c.args.world.now) (type_view c.args.param.now.param_type)).type_of)) c.declare_written.ensures
+    ∙ declared_then (locals_of c.args.self.now.locals) c.in_ok-own.ensures
+    (written_locals (locals_of c.args.self.now.locals) (list_view ident_view c.args.param.now.names.items)
+    (judge_type (world_of c.args.world.now) (type_view c.args.param.now.param_type)).type_of)) c.declare_written.ensures

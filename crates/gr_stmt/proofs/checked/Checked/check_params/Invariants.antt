@@ -10,4 +10,5 @@ use Rattle.gr_stmt.proofs.checked.Checked.check_params.Given as goal
 
 abbrev pub invariant-loop-item : goal.invariant-loop-item
 invariant-loop-item l =
-    check_items (check_param (world_of l.world)) (checked_of l.self) (list_view param_view (drop l.item-index l.params)) ≡ check_items (check_param (world_of l.world)) (checked_of l.initial.self) (list_view param_view l.params)
+    check_items (check_param (world_of l.world)) (checked_of l.self) (list_view param_view (drop l.item-index l.params)) ≡ check_items
+    (check_param (world_of l.world)) (checked_of l.initial.self) (list_view param_view l.params)

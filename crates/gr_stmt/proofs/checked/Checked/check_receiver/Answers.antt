@@ -15,6 +15,9 @@ use Rattle.gr_stmt.proofs.checked.Checked.check_receiver.Goals as goal
 pub returns : goal.returns
 unfolding check_receiver with_locals receiver_view
 returns c =
-    on_ok_weaker c.declare_if.result (λ q. ap (λ ks. checked_with ks c.receiver_type.new.found) (q ∙ (ap (λ n. declared_if (locals_of c.args.self.now.locals) n (option_map type_of c.in_ok-own.own)) c.named.ensures
+    on_ok_weaker c.declare_if.result (λ q. ap (λ ks. checked_with ks c.receiver_type.new.found)
+    (q ∙ (ap (λ n. declared_if (locals_of c.args.self.now.locals) n (option_map type_of c.in_ok-own.own)) c.named.ensures
     ∙ ap (λ t. declared_if (locals_of c.args.self.now.locals) (named (ident_view c.args.receiver.now.ident)) t) c.in_ok-own.ensures.found))
-    ∙ declared_then (locals_of c.args.self.now.locals) c.in_ok-own.ensures (declared_if (locals_of c.args.self.now.locals) (named (ident_view c.args.receiver.now.ident)) (judge_receiver (world_of c.args.world.now) (receiver_view c.args.receiver.now)).type_of)) c.declare_if.ensures
+    ∙ declared_then (locals_of c.args.self.now.locals) c.in_ok-own.ensures
+    (declared_if (locals_of c.args.self.now.locals) (named (ident_view c.args.receiver.now.ident))
+    (judge_receiver (world_of c.args.world.now) (receiver_view c.args.receiver.now)).type_of)) c.declare_if.ensures

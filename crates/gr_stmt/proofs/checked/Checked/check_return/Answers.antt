@@ -11,5 +11,7 @@ use Rattle.gr_stmt.proofs.checked.Checked.check_return.Goals as goal
 pub returns : goal.returns
 unfolding check_return
 returns c =
-    on_ok_weaker c.returned.result (λ n. returned_then (world_of c.args.world.now) c.args.place (map target_of c.args.results.now) (locals_of c.args.self.now.locals) c.in_ok-given.ensures
-    (notes_as n (ap (λ vs. returned (world_of c.args.world.now) c.args.place (map argued_of vs) (map target_of c.args.results.now)) c.deref.ensures.value))) c.returned.ensures
+    on_ok_weaker c.returned.result (λ n. returned_then (world_of c.args.world.now) c.args.place (map target_of c.args.results.now)
+    (locals_of c.args.self.now.locals) c.in_ok-given.ensures
+    (notes_as n (ap (λ vs. returned (world_of c.args.world.now) c.args.place (map argued_of vs) (map target_of c.args.results.now)) c.deref.ensures.value)))
+    c.returned.ensures

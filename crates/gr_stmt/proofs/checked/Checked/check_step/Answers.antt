@@ -16,4 +16,5 @@ unfolding check_step
 returns c =
     on_ok_weaker c.require_int.result (λ n. found_then (locals_of c.args.self.now.locals) c.in_ok-operand.ensures
     (notes_as n (ap (λ p. step_faults (world_of c.args.world.now) p (option_map kind_of c.into_kind-kind.result)) c.place_of-place.ensures
-    ∙ ap (λ k. step_faults (world_of c.args.world.now) (place_of (expr_view c.args.expr.now)) k) (c.into_kind-kind.ensures ∙ ap value_kind c.in_ok-operand.ensures.meaning)))) c.require_int.ensures
+    ∙ ap (λ k. step_faults (world_of c.args.world.now) (place_of (expr_view c.args.expr.now)) k)
+    (c.into_kind-kind.ensures ∙ ap value_kind c.in_ok-operand.ensures.meaning)))) c.require_int.ensures

@@ -16,6 +16,10 @@ pub returns : goal.returns
 unfolding check_update
 returns c =
     on_ok_weaker c.require_operation.result (λ n. updated (locals_of c.args.self.now.locals) c.in_ok-operand.ensures c.in_ok-judge_value.ensures
-    (notes_as n (ap (λ p. update_faults (world_of c.args.world.now) p c.args.op (option_map kind_of c.into_kind-assigned.result) (option_map kind_of c.into_kind-given.result)) c.first_token-start.ensures
-    ∙ (ap (λ k. update_faults (world_of c.args.world.now) (first_token (expr_view c.args.left.now)) c.args.op k (option_map kind_of c.into_kind-given.result)) (c.into_kind-assigned.ensures ∙ ap value_kind c.in_ok-operand.ensures.meaning)
-    ∙ ap (λ k. update_faults (world_of c.args.world.now) (first_token (expr_view c.args.left.now)) c.args.op (value_kind (judge_operand (world_of c.args.world.now) (locals_of c.args.self.now.locals) (expr_view c.args.left.now)).meaning) k) (c.into_kind-given.ensures ∙ ap value_kind c.in_ok-judge_value.ensures.meaning))))) c.require_operation.ensures
+    (notes_as n (ap (λ p. update_faults (world_of c.args.world.now) p c.args.op (option_map kind_of c.into_kind-assigned.result)
+    (option_map kind_of c.into_kind-given.result)) c.first_token-start.ensures
+    ∙ (ap (λ k. update_faults (world_of c.args.world.now) (first_token (expr_view c.args.left.now)) c.args.op k
+    (option_map kind_of c.into_kind-given.result)) (c.into_kind-assigned.ensures ∙ ap value_kind c.in_ok-operand.ensures.meaning)
+    ∙ ap (λ k. update_faults (world_of c.args.world.now) (first_token (expr_view c.args.left.now)) c.args.op
+    (value_kind (judge_operand (world_of c.args.world.now) (locals_of c.args.self.now.locals) (expr_view c.args.left.now)).meaning) k)
+    (c.into_kind-given.ensures ∙ ap value_kind c.in_ok-judge_value.ensures.meaning))))) c.require_operation.ensures

@@ -11,5 +11,8 @@ returns-then-len c =
 
 pub returns-else-len : goal.returns-else-len
 returns-else-len c =
-    let same = same_len c.self.inside.texts c.other.inside.texts c.len-2.ensures.ordered c.len.ensures.ordered in
-    (λ t. absurd (c.if-len.false ((Decides-eqb _ _).0 t)), λ e. eq-eqb _ _ (c.len.ensures.len ∙ sym (same (c.self.view_is ∙ e ∙ sym c.other.view_is)) ∙ sym c.len-2.ensures.len))
+    let same = same_len c.self.inside.texts c.other.inside.texts c.len-2.ensures.ordered c.len.ensures.ordered in (
+      λ t. absurd (c.if-len.false ((Decides-eqb _ _).0 t)),
+      λ e.
+          eq-eqb _ _ (c.len.ensures.len ∙ sym (same (c.self.view_is ∙ e ∙ sym c.other.view_is)) ∙ sym c.len-2.ensures.len),
+    )

@@ -6,12 +6,12 @@ use denote.Param.Send.{sendable, param_send, arg_send, shr_send, mut_send}
 use Rattle.std.proofs.Crossing.{send as Global-send}
 use Rattle.gr_serve.proofs.Captures.{captured, five_sent}
 use Rattle.gr_pool.proofs.Sends.{seat_sent, shared_shared}
-use Rattle.gr_serve.proofs.threads.fn.run.scope.Lts.{arg-2-1}
+use Rattle.gr_serve.proofs.threads.fn.run.scope.Lts.{arg-3-1}
 use Rattle.gr_serve.proofs.threads.fn.run.scope.Goals as goal
 
-pub spawn-requires-send-F : goal.spawn-requires-send-F
-spawn-requires-send-F g c = λ κs outlived. param_send 1
-    (arg-2-1 g.row.L g.row.R g.row.G g.L.laws g.R.laws g.G.laws g.L.Opening g.L.Opening-dict g.L.Ledger g.L.Ledger-dict
+pub spawn_scoped-requires-send-F : goal.spawn_scoped-requires-send-F
+spawn_scoped-requires-send-F g c = λ κs outlived. param_send 1
+    (arg-3-1 g.row.L g.row.R g.row.G g.L.laws g.R.laws g.G.laws g.L.Opening g.L.Opening-dict g.L.Ledger g.L.Ledger-dict
     g.R.Threads g.R.Threads-dict g.R.Wait g.R.Wait-dict
     g.G.Gate g.G.Gate-dict κs)
     (arg_send captured no _ (five_sent _ _ _ _ _ _

@@ -7,12 +7,12 @@ use Rattle.std.proofs.Crossing.{send as Global-send}
 use Rattle.gr_serve.proofs.Captures.{captured, five_sent}
 use Rattle.gr_pool.proofs.Sends.{seat_sent, shared_shared}
 use Rattle.gr_serve.proofs.turns.Turns.TheSendSync.{the_sync as turns-sync}
-use Rattle.gr_serve.proofs.threads.fn.serve_sessions.scope.Lts.{arg-1-1}
+use Rattle.gr_serve.proofs.threads.fn.serve_sessions.scope.Lts.{arg-2-1}
 use Rattle.gr_serve.proofs.threads.fn.serve_sessions.scope.Goals as goal
 
-pub spawn-requires-send-F : goal.spawn-requires-send-F
-spawn-requires-send-F g c = λ κs outlived. param_send 1
-    (arg-1-1 g.row.L g.row.R g.L.laws g.R.laws g.L.Opening g.L.Opening-dict g.L.Ledger g.L.Ledger-dict
+pub spawn_scoped-requires-send-F : goal.spawn_scoped-requires-send-F
+spawn_scoped-requires-send-F g c = λ κs outlived. param_send 1
+    (arg-2-1 g.row.L g.row.R g.L.laws g.R.laws g.L.Opening g.L.Opening-dict g.L.Ledger g.L.Ledger-dict
     g.R.Threads g.R.Threads-dict g.R.Wait g.R.Wait-dict κs)
     (arg_send captured no _ (five_sent _ _ _ _ _ _
     (shr_send (named 5) κs.1.1.1.1.1.0 (param 1 g.row.R) (search sendable))

@@ -1,0 +1,113 @@
+"""What `gorename`, `gomvpkg` and a running `gopls` take for renames and moves in the files of a workspace, where these are installed."""
+import json
+import os
+import shutil
+import subprocess
+import tempfile
+import time
+
+
+def laid(top, files):
+    """Writes files below the folder `src` of another."""
+    for path, text in files.items():
+        name = os.path.join(top, "src", path)
+        os.makedirs(os.path.dirname(name), exist_ok=True)
+        with open(name, "wb") as file:
+            file.write(text)
+
+
+def environment_in(top, modules):
+    return dict(os.environ, GO111MODULE=modules, GOPATH=top, GOCACHE=os.path.join(top, "cache"), GOFLAGS="", HOME=top)
+
+
+def once(files, program, *words):
+    """Prints the seconds of a program that ends, in a folder of its own."""
+    if shutil.which(program) is None:
+        print(f"  {program}: skipped, since it is not there")
+        return
+    with tempfile.TemporaryDirectory() as top:
+        laid(top, files)
+        begin = time.perf_counter()
+        subprocess.run([program, *words], cwd=os.path.join(top, "src"), env=environment_in(top, "off"), check=True, capture_output=True)
+        print(f"  {' '.join((program, *words)):70} {time.perf_counter() - begin:8.3f} s")
+
+
+class Gopls:
+    """A running gopls, over files of a module."""
+
+    def __init__(self, top, files, module):
+        laid(top, {f"{module}/go.mod": f"module {module}\n\ngo 1.19\n".encode(), **files})
+        self.root = os.path.join(top, "src", module)
+        self.number = 0
+        self.child = subprocess.Popen(
+            ["gopls", "serve"],
+            stdin=subprocess.PIPE,
+            stdout=subprocess.PIPE,
+            stderr=subprocess.DEVNULL,
+            cwd=self.root,
+            env=environment_in(top, "on"),
+        )
+
+    def place(self, path):
+        return "file://" + os.path.join(os.path.dirname(self.root), path)
+
+    def send(self, message):
+        text = json.dumps({"jsonrpc": "2.0", **message}).encode()
+        self.child.stdin.write(b"Content-Length: %d\r\n\r\n" % len(text) + text)
+        self.child.stdin.flush()
+
+    def tell(self, method, **params):
+        self.send({"method": method, "params": params})
+
+    def ask(self, method, **params):
+        """The result, and its seconds. What the server asks meanwhile is answered by nothing."""
+        self.number += 1
+        begin = time.perf_counter()
+        self.send({"id": self.number, "method": method, "params": params})
+        while True:
+            length = 0
+            while (line := self.child.stdout.readline().strip()) != b"":
+                length = int(line.split()[1]) if line.startswith(b"Content-Length") else length
+            message = json.loads(self.child.stdout.read(length))
+            if "method" in message and "id" in message:
+                asked = message["params"].get("items", []) if message["method"] == "workspace/configuration" else None
+                self.send({"id": message["id"], "result": asked and [None] * len(asked)})
+            elif message.get("id") == self.number:
+                if "error" in message:
+                    raise RuntimeError(f"{method}: {message['error']}")
+                return message["result"], time.perf_counter() - begin
+
+    def peak(self):
+        with open(f"/proc/{self.child.pid}/status") as status:
+            return next(int(line.split()[1]) for line in status if line.startswith("VmHWM")) / 1024
+
+
+def position(text, offset):
+    return {"line": text.count(b"\n", 0, offset), "character": offset - (text.rfind(b"\n", 0, offset) + 1)}
+
+
+def running(files, module, asked):
+    """Prints the seconds of a running gopls: until it is ready, and of each that is asked: a label, a path, an offset, and
+    a new name, or none where the uses are asked for. The first is asked twice: by then it has loaded all."""
+    if shutil.which("gopls") is None:
+        print("  gopls: skipped, since it is not there")
+        return
+    with tempfile.TemporaryDirectory() as top:
+        server = Gopls(top, files, module)
+        _, seconds = server.ask("initialize", processId=None, rootUri="file://" + server.root, capabilities={})
+        server.tell("initialized")
+        for _, path, _, _ in asked:
+            text = files[path].decode()
+            server.tell("textDocument/didOpen", textDocument={"uri": server.place(path), "languageId": "go", "version": 1, "text": text})
+        for label, path, offset, name in (asked[0], *asked):
+            there = {"textDocument": {"uri": server.place(path)}, "position": position(files[path], offset)}
+            if name is None:
+                found, seconds = server.ask("textDocument/references", context={"includeDeclaration": True}, **there)
+                told = f"{len(found)} places"
+            else:
+                found, seconds = server.ask("textDocument/rename", newName=name, **there)
+                told = f"{sum(len(change['edits']) for change in found.get('documentChanges', []))} edits"
+            print(f"  gopls: {label:63} {seconds:8.3f} s, {told}")
+        print(f"  gopls: most memory {server.peak():.0f} MiB")
+        server.child.kill()
+        server.child.wait()

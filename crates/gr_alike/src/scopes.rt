@@ -1,0 +1,54 @@
+//! When the scopes of packages are alike: their names, and what they export.
+ghost use Rattle.std.specs.Prelude.{◌≡◌, ◌↔◌, IsTrue, map, option_map};
+ghost use Rattle.gr_declared.specs.InterfacesView.{meaning_of, export_of, scope_in};
+ghost use Rattle.gr_alike.specs.Known.{entry_value, known_scope};
+
+use crate::definitions::{is_same_signature, is_same_type};
+use crate::parts::{Alike, are_maps_alike, is_same_name};
+use gr_declared::{Export, ExportMeaning, Interfaces, PackageScope};
+use std::collections::BTreeMap;
+
+#[tactic(auto, unfolding(gr_declared::specs::InterfacesView::meaning_of))]
+fn is_same_meaning(one: &ExportMeaning, other: &ExportMeaning) -> bool
+    ensures { IsTrue result ↔ (meaning_of one.now ≡ meaning_of other.now) }
+{
+    match (one, other) {
+        (ExportMeaning::Variable(one), ExportMeaning::Variable(other)) => is_same_type(one, other),
+        (ExportMeaning::TypeName(one), ExportMeaning::TypeName(other)) => is_same_type(one, other),
+        (ExportMeaning::Function(one), ExportMeaning::Function(other)) => {
+            is_same_signature(one, other)
+        }
+        _ => false,
+    }
+}
+
+impl Alike for Export {
+    ghost alike = { λ one other. export_of one ≡ export_of other };
+
+    fn is_like(&self, other: &Export) -> bool {
+        is_same_meaning(&self.meaning, &other.meaning)
+    }
+}
+
+fn are_same_exports(one: &BTreeMap<Vec<u8>, Export>, other: &BTreeMap<Vec<u8>, Export>) -> bool
+    ensures { IsTrue result ↔ (map (entry_value export_of) one.now.entries ≡ map (entry_value export_of) other.now.entries) }
+{
+    are_maps_alike(one, other)
+}
+
+fn is_scope_alike(one: &PackageScope, other: &PackageScope) -> bool
+    ensures { IsTrue result ↔ (known_scope one.now ≡ known_scope other.now) }
+{
+    is_same_name(&one.name, &other.name) && are_same_exports(&one.exported, &other.exported)
+}
+
+/// Whether the same name and the same exported names are known of the package of a path.
+pub(crate) fn are_scopes_alike(a: &Interfaces, b: &Interfaces, path: &[u8]) -> bool
+    ensures { IsTrue result ↔ (option_map known_scope (scope_in a.now path.now) ≡ option_map known_scope (scope_in b.now path.now)) }
+{
+    match (a.scope(path), b.scope(path)) {
+        (None, None) => true,
+        (Some(one), Some(other)) => is_scope_alike(one, other),
+        _ => false,
+    }
+}

@@ -1,0 +1,4 @@
+-- The lemmas of this crate.
+pub mod Every
+pub mod Becoming
+pub mod Alignment

@@ -1,0 +1,75 @@
+-- Bound identifiers that go one to the next: what they tell.
+use Rattle.std.specs.Prelude.{ℕ, ◌≡◌, ◌+◌, ◌<◌, ◌⊎◌, List, length, Some, slice_get}
+use Rattle.gr_text.specs.declared.place.Place.{Place}
+use Rattle.gr_edit.specs.Moved.{moved}
+use Rattle.gr_declared.specs.Package.{Package}
+use Rattle.gr_bound.specs.declared.bound_spot.BoundSpot.{BoundSpot}
+use Rattle.gr_bound.specs.Bindings.{place_at}
+use Rattle.gr_bound.specs.Identifiers.{BeginsAt}
+use Rattle.gr_bound.specs.Uses.{IsPackage}
+use Rattle.gr_bound.specs.Workspaces.{IsPackageAt, known_in}
+use Rattle.gr_placed.specs.Beginnings.{BeginsAmong}
+use Rattle.gr_kept.specs.declared.aligned.Compared.{Compared}
+use Rattle.gr_kept.specs.Held.{IsHeld}
+use Rattle.gr_kept.specs.Sound.{view_in}
+use Rattle.gr_kept.specs.Steps.{Becomes}
+
+-- both workspaces are held with what is asked of them
+pub record AreCompared (c : Compared) : Type 0 where
+  pub before : IsHeld c.before.now
+  pub then : IsHeld c.then.now
+
+-- where a place goes
+abbrev pub moved_in : Compared → Place → Place
+moved_in c = moved c.moves.now
+
+-- the bound identifiers before and then
+abbrev pub old_of : Compared → List BoundSpot
+old_of c = c.before.now.bindings
+
+abbrev pub new_of : Compared → List BoundSpot
+new_of c = c.then.now.bindings
+
+-- the one goes to where the other begins, which is bound to what its declaration has become
+pub record ArePaired (c : Compared) (old new : BoundSpot) : Type 0 where
+  pub goes : moved_in c (place_at old) ≡ place_at new
+  pub becomes : Becomes (view_in c.before.now) (view_in c.then.now) (moved_in c) old.declaration new.declaration
+
+-- the one of a number and the next do not begin at one place
+abbrev pub AreApart : List BoundSpot → ℕ → Type 0
+AreApart new n = (this next : BoundSpot) → slice_get new n ≡ Some this → slice_get new (n + 1) ≡ Some next → place_at this ≡ place_at next → ⊥
+
+-- those of a number are paired, and that of the one list is apart from the next
+pub record IsAlignedAt (c : Compared) (old new : List BoundSpot) (n : ℕ) : Type 0 where
+  pub paired : (a b : BoundSpot) → slice_get old n ≡ Some a → slice_get new n ≡ Some b → ArePaired c a b
+  pub apart : AreApart new n
+
+-- the same of each of the first numbers
+pub record AreAlignedBelow (c : Compared) (old new : List BoundSpot) (count : ℕ) : Type 0 where
+  pub each : (n : ℕ) → n < count → IsAlignedAt c old new n
+
+-- the same of all
+pub record GoInOrder (c : Compared) : Type 0 where
+  pub size : length (old_of c) ≡ length (new_of c)
+  pub each : AreAlignedBelow c (old_of c) (new_of c) (length (old_of c))
+
+-- the path is that of the file of the identifier of a number
+abbrev pub IsFileAt : List BoundSpot → ℕ → List ℕ → Type 0
+IsFileAt old n path = (b : BoundSpot) → slice_get old n ≡ Some b → path ≡ b.spot.path
+
+-- an identifier that is bound begins at the place, or none does where that goes
+abbrev pub IsSafe : Compared → Place → Type 0
+IsSafe c place = BeginsAmong (old_of c) place ⊎ (BeginsAmong (new_of c) (moved_in c place) → ⊥)
+
+-- the same where the identifier of a number of a package begins; of all in it; in the package of a number; and of all packages
+abbrev pub IsSafeAt : Compared → Package → ℕ → Type 0
+IsSafeAt c p u = (place : Place) → BeginsAt p place.path place.offset u → IsSafe c place
+
+abbrev pub IsSafeIn : Compared → Package → Type 0
+IsSafeIn c p = (u : ℕ) → IsSafeAt c p u
+
+abbrev pub IsSafeNumber : Compared → ℕ → Type 0
+IsSafeNumber c n = (p : Package) → IsPackageAt c.before.now.packages.now.graph.now (known_in c.before.now.packages.now.found.now) n p → IsSafeIn c p
+
+abbrev pub AreSafe : Compared → Type 0
+AreSafe c = (p : Package) → IsPackage c.before.now.packages.now.graph.now (known_in c.before.now.packages.now.found.now) p → IsSafeIn c p

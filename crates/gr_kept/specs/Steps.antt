@@ -1,0 +1,52 @@
+-- What the steps of the decision answer.
+use Rattle.std.specs.Prelude.{ℕ, ◌≡◌, List, Contains}
+use Rattle.gr_text.specs.declared.place.Place.{Place}
+use Rattle.gr_bound.specs.declared.bound_spot.BoundSpot.{BoundSpot}
+use Rattle.gr_bound.specs.declared.declaration.Declaration.{Declaration}
+use Rattle.gr_bound.specs.declared.declaration.Declaration.TheVariants.{Predeclared}
+use Rattle.gr_bound.specs.Bindings.{place_at}
+use Rattle.gr_bound.specs.Uses.{IsUseOf}
+use Rattle.gr_kept.specs.Corresponding.{Corresponds}
+use Rattle.gr_kept.specs.BoundToOne.{IsBoundToOne}
+use Rattle.gr_placed.specs.Identified.{IsIdentifierAt}
+use Rattle.gr_kept.specs.Sound.{SoundView, packages_of}
+
+-- the same predeclared name
+pub record IsSamePredeclared (d e : Declaration) : Type 0 where
+  pub number : ℕ
+  pub one : d ≡ Predeclared number
+  pub other : e ≡ Predeclared number
+
+-- d of the one workspace has become e of the other
+abbrev pub Becomes : SoundView → SoundView → (Place → Place) → Declaration → Declaration → Type 0
+Becomes before then moved d e = Corresponds (packages_of before) (packages_of then) moved d e
+
+-- one of some bound identifiers has a declaration of which P holds
+pub record HasBound (P : Declaration → Type 0) (bound : List BoundSpot) : Type 0 where
+  pub one : BoundSpot
+  pub listed : Contains bound one
+  pub holds : P one.declaration
+
+-- what begins at a place is bound to one of which P holds
+abbrev pub IsBoundBy : SoundView → Place → (Declaration → Type 0) → Type 0
+IsBoundBy s place P = IsBoundToOne s.workspace s.known place P
+
+-- a bound identifier is afterwards bound to what its declaration has become
+abbrev pub IsKept : SoundView → SoundView → (Place → Place) → BoundSpot → Type 0
+IsKept before then moved b = IsBoundBy then (moved (place_at b)) (λ e. Becomes before then moved b.declaration e)
+
+-- each of the new ones is bound to what has become a declaration to which one of the old is bound
+abbrev pub AllWere : SoundView → SoundView → (Place → Place) → List BoundSpot → List BoundSpot → Type 0
+AllWere before then moved old new = (b : BoundSpot) → Contains new b → HasBound (λ d. Becomes before then moved d b.declaration) old
+
+-- what begins at a place is afterwards bound to nothing but what its declarations have become
+abbrev pub AddsNone : SoundView → SoundView → (Place → Place) → Place → Type 0
+AddsNone before then moved place =
+    (e : Declaration) → IsUseOf then.workspace then.known e (moved place) → IsBoundBy before place (λ d. Becomes before then moved d e)
+
+abbrev pub KeepsAll : SoundView → SoundView → (Place → Place) → Type 0
+KeepsAll before then moved =
+    (place : Place) (d : Declaration) → IsUseOf before.workspace before.known d place → IsBoundBy then (moved place) (λ e. Becomes before then moved d e)
+
+abbrev pub AddsNowhere : SoundView → SoundView → (Place → Place) → Type 0
+AddsNowhere before then moved = (place : Place) → IsIdentifierAt before.workspace before.known place → AddsNone before then moved place

@@ -1,0 +1,6 @@
+-- The lemmas of this crate.
+pub mod Behind
+pub mod Gaining
+pub mod NamedTree
+pub mod Putting
+pub mod Whole

@@ -1,0 +1,4 @@
+-- The definitions of this crate.
+pub mod Around
+pub mod Named
+pub mod Put

@@ -1,0 +1,14 @@
+-- The lemmas of this crate.
+pub mod Names
+pub mod Leading
+pub mod Single
+pub mod Offsets
+pub mod Places
+pub mod Many
+pub mod Kept
+pub mod Tokens
+pub mod Trees
+pub mod Spelled
+pub mod Following
+pub mod Faults
+pub mod ByTokens

@@ -1,0 +1,4 @@
+-- The definitions of this crate.
+mod Examples
+pub mod Renamings
+pub mod Trees

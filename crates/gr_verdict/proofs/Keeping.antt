@@ -1,0 +1,121 @@
+-- What was known of a package stands, where its files are the same and it sees the same.
+use Rattle.std.proofs.Common.{ℕ, ◌≡◌, ◌<◌, inl, inr, Bool, true, false, List, length, replicate, sym, ap, subst, ◌∙◌}
+use Rattle.std.specs.Prelude.{Option, Some, slice_get}
+use Rattle.std.proofs.Math.ListN.{set}
+use Rattle.std.proofs.Math.Path.{ap₂}
+use Rattle.std.proofs.lemmas.Bool.{cases_eq, true≢false}
+use Rattle.std.proofs.lemmas.List.{get_or-set_same, get_or-set_other, get_or-replicate}
+use Rattle.std.proofs.lemmas.Option.{same_Some, slice_get_within}
+use Rattle.gr_text.specs.Workspace.{Workspace}
+use Rattle.gr_text.specs.Packages.{package_paths, package_files}
+use Rattle.gr_graph.specs.Search.{IsMarked}
+use Rattle.gr_graph.proofs.Asked.{number}
+use Rattle.gr_graph.proofs.PackagePaths.{paths_sorted, one_number}
+use Rattle.gr_declared.proofs.Mentioning.{get_set_other}
+use Rattle.gr_declared.specs.InterfacesView.{Shares}
+use Rattle.gr_declared.specs.declared.interfaces.Interfaces.{Interfaces}
+use Rattle.gr_alike.specs.Known.{IsKnownAlike}
+use Rattle.gr_verdict.specs.declared.finding.Finding.{Finding}
+use Rattle.gr_verdict.specs.declared.gathered.Gathered.{Gathered}
+use Rattle.gr_verdict.specs.declared.known.KnownVerdict.{KnownVerdict}
+use Rattle.gr_verdict.specs.Verdicts.{Verdict, Verdicts, IsVerdictBy, IsVerdict, AreVerdictsBelow, follows}
+use Rattle.gr_verdict.specs.Laws.{IsSameVerdict}
+use Rattle.gr_verdict.specs.Told.{is_unknown, known_by, AreWhole, IsFinding}
+use Rattle.gr_verdict.specs.Steps.{IsGathered, Learns, MayLearn}
+use Rattle.gr_verdict.specs.Earlier.{AreTold, HaveSameImports, AreMarkedBelow, StandsWith, WasKnown, AreSteady}
+use Rattle.gr_verdict.proofs.Adding.{finding_as}
+use Rattle.gr_verdict.proofs.Alike.{KnowsAlike}
+use Rattle.gr_verdict.proofs.Alike as alike
+use Rattle.gr_verdict.proofs.Closed.{to_package}
+use Rattle.gr_verdict.proofs.Knowing.{verdict_of}
+use Rattle.gr_verdict.proofs.OneVerdict.{one_verdict, verdict_by}
+use Rattle.gr_verdict.proofs.SameImports.{imports_back, builds_by, stands_by}
+use Rattle.gr_verdict.proofs.StandsAlike.{by_there, finding_there}
+use Rattle.gr_verdict.proofs.Taking.{whole_shared}
+
+module _ (v w : Workspace) (same : HaveSameImports v w) (p : List ℕ) (files : package_files v p ≡ package_files w p) (a b : Verdicts)
+    (sees : KnowsAlike v p a b) where
+  pub steady_verdict : (x : Verdict) → IsVerdictBy v a p x → IsVerdictBy w b p x
+  steady_verdict x h =
+      by_there v w p (stands_by v w same p files) (stands_by w v (imports_back v w same) p (sym files)) b x (alike.verdict_as v p a b sees x h)
+
+  pub steady_finding : (f : Finding) → IsFinding v a p f → IsFinding w b p f
+  steady_finding f h =
+      finding_there v w p (stands_by v w same p files) (stands_by w v (imports_back v w same) p (sym files)) b f (finding_as v p a b sees f h)
+
+pub verdicts_follow : (v w : Workspace) (p : List ℕ) (a b : Verdicts) (x : Verdict) → HaveSameImports v w → package_files v p ≡ package_files w p →
+    AreVerdictsBelow v p a → AreVerdictsBelow w p b → KnowsAlike v p a b → IsVerdict v p x → IsVerdict w p x
+verdicts_follow v w p a b x same files right also sees h = follows b also (steady_verdict v w same p files a b sees x (verdict_by v p a x right h))
+
+-- what was known of a package is what is known
+was_known : (one : KnownVerdict) (all : Interfaces) (q : List ℕ) → IsKnownAlike one.interfaces all q → known_by one.interfaces q ≡ known_by all q
+was_known one all q is = ap₂ verdict_of (ap is_unknown is.name) is.interface
+
+module _ (v w : Workspace) (same : HaveSameImports v w) (verdicts : List (Option KnownVerdict)) (told : AreTold v verdicts) (marks : List Bool)
+    (old : Gathered) (steady : AreSteady w verdicts old marks) where
+  -- the packages that p builds on were known so
+  seen_before : (p : List ℕ) (known : Verdicts) → AreVerdictsBelow v p known → AreMarkedBelow w p marks → KnowsAlike v p known (known_by old.interfaces)
+  seen_before p known right below q on =
+      let here = builds_by v w same p q on in
+      let m = number w q (to_package w p q here.imported) in
+      let was = (steady m.0 q m.1 (below m.0 q m.1 here)).1 in
+      let then = told m.0 q was.verdict (subst (λ ps. slice_get ps m.0 ≡ Some q) (sym same.paths) m.1) was.was in
+      subst (IsSameVerdict (known q)) (was_known was.verdict old.interfaces q was.alike)
+      (one_verdict v q (known q) (known_by was.verdict.interfaces q) (right q on) then.right)
+
+  pub stands_learnt : (p : List ℕ) (one : KnownVerdict) (new : Gathered) → AreWhole old.interfaces → StandsWith v w marks p one →
+      Shares one.interfaces old.interfaces new.interfaces p →
+      Learns w p one.finding old.interfaces new.interfaces
+  stands_learnt p one new whole stands s =
+      let f = stands.told.finding in
+      let sees = seen_before p f.known f.right stands.below in
+      let here : known_by one.interfaces p ≡ known_by new.interfaces p = ap₂ verdict_of (sym (ap is_unknown s.has_name)) (sym s.has_interface) in
+      record {
+        is_finding = steady_finding v w same p stands.files f.known (known_by old.interfaces) sees one.finding f.finding;
+        is_verdict = subst (IsVerdictBy w (known_by old.interfaces) p) here
+            (steady_verdict v w same p stands.files f.known (known_by old.interfaces) sees (known_by one.interfaces p)
+            (verdict_by v p f.known (known_by one.interfaces p) f.right stands.told.right));
+        elsewhere = s.elsewhere;
+        whole = whole_shared p one.interfaces old.interfaces new.interfaces s stands.told.whole whole;
+      }
+
+-- one package further
+
+module _ (w : Workspace) (verdicts : List (Option KnownVerdict)) (n : ℕ) (p : List ℕ) (at : slice_get (package_paths w) n ≡ Some p) (old new : Gathered)
+    (marks : List Bool) (within : n < length marks) (may : MayLearn w p n old new) (steady : AreSteady w verdicts old marks) where
+  -- what is known of others stays
+  still_known : (m : ℕ) (q : List ℕ) → (m ≡ n → ⊥) → slice_get (package_paths w) m ≡ Some q → IsGathered old.findings.items m →
+      WasKnown verdicts old.interfaces m q → IsGathered new.findings.items m × WasKnown verdicts new.interfaces m q
+  still_known m q other at_m known was = elim may [
+    | inl l ↦ (
+        let ne : q ≡ p → ⊥ = λ e. other (one_number (package_paths w) (paths_sorted w) m n p (at_m ∙ ap Some e) at) in
+        let same = l.1.learns.elsewhere q ne in (
+          subst (λ xs. IsGathered xs m) (sym l.1.is_set) (known.0, get_set_other old.findings.items n m (Some l.1.finding) other ∙ known.1),
+          record {
+            verdict = was.verdict;
+            was = was.was;
+            alike = record { name = was.alike.name ∙ sym same.name; interface = was.alike.interface ∙ sym same.interface };
+          },
+        ))
+    | inr s ↦ (
+      subst (λ (g : Gathered). IsGathered g.findings.items m) (sym s.1) known,
+      subst (λ (g : Gathered). WasKnown verdicts g.interfaces m q) (sym s.1) was,
+    )
+  ]
+
+  pub steady_next : (b : Bool) → (b ≡ true → WasKnown verdicts new.interfaces n p) → IsGathered new.findings.items n → AreSteady w verdicts new (set marks n b)
+  steady_next b same here m q at_m marked = elim (cases_eq m n) [
+    | inl e ↦ (
+        let path : p ≡ q = same_Some p q (sym at ∙ subst (λ k. slice_get (package_paths w) k ≡ Some q) e at_m) in
+        let is : b ≡ true = sym (get_or-set_same marks n b false within) ∙ subst (IsMarked (set marks n b)) e marked in
+        subst (λ k. IsGathered new.findings.items k × WasKnown verdicts new.interfaces k q) (sym e)
+        (here, subst (WasKnown verdicts new.interfaces n) path (same is)))
+    | inr other ↦ (
+        let was = steady m q at_m (sym (get_or-set_other marks n m b false other) ∙ marked) in
+        still_known m q other at_m was.0 was.1)
+  ]
+
+pub none_steady : (w : Workspace) (verdicts : List (Option KnownVerdict)) (all : Gathered) (count : ℕ) → count ≡ length (package_paths w) →
+    AreSteady w verdicts all (replicate count false)
+none_steady w verdicts all count size m q at marked =
+    absurd (true≢false (sym marked ∙ get_or-replicate count m false false (subst (λ k. m < k) (sym size) (slice_get_within (package_paths w) m q at))))

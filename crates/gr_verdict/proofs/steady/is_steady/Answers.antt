@@ -1,0 +1,15 @@
+-- The answers to the goals of `steady::is_steady`.
+use Rattle.std.proofs.Common.{◌≡◌, List, ℕ, sym, subst, ◌∙◌}
+use Rattle.std.proofs.lemmas.Option.{same_Some}
+use Rattle.gr_alike.specs.Known.{IsKnownAlike}
+use Rattle.gr_verdict.proofs.steady.is_steady.Goals as goal
+
+pub returns-in-Some : goal.returns-in-Some
+returns-in-Some c = λ t p at.
+    let path : c.deref.result.now ≡ p = c.deref.ensures.value ∙ same_Some c.package.result.now.path.items p (sym c.package.ensures.path ∙ at) in
+    record {
+      verdict = c.in-Some.one.now;
+      was = c.in-Some.ensures.verdict;
+      alike = subst (λ i. IsKnownAlike i c.args.all.now p) c.interfaces.ensures
+          (subst (λ (q : List ℕ). IsKnownAlike c.interfaces.result.now c.args.all.now q) path (c.are_alike.ensures.interface t));
+    }

@@ -1,0 +1,156 @@
+//! What of an earlier workspace stays: whether packages import the same, have the same files, and see the same. Each question here may
+//! be answered with no where it could be yes: only speed rests on that.
+ghost use Rattle.std.specs.Prelude.{ℕ, ◌≡◌, ◌<◌, ◌⊎◌, IsTrue, IfSome, length, map, slice_get};
+ghost use Rattle.gr_text.specs.Packages.{package_files, package_paths};
+ghost use Rattle.gr_text.specs.Workspace.{Workspace};
+ghost use Rattle.gr_graph.specs.Graphs.{IsPackage, OfPackage};
+ghost use Rattle.gr_graph.specs.Packages.{IsInClosure};
+ghost use Rattle.gr_graph.specs.Search.{IsMarked};
+ghost use Rattle.gr_verdict.specs.Earlier.{AreMarkedBelow, AreTold, HaveSameImports, StandsWith, WasKnown, tree_file};
+
+use crate::earlier::Earlier;
+use crate::known::KnownVerdict;
+use crate::marks::is_marked;
+use crate::reaching::reaches;
+use gr_alike::are_alike;
+use gr_declared::Interfaces;
+use gr_graph::{Graph, ImportLinks, Package};
+use gr_tree::FileTree;
+
+/// Whether the packages of a number have the same path.
+fn is_same_path(before: &Graph, after: &Graph, number: usize) -> bool
+    requires before { number < length (package_paths before.now) }
+    requires after { number < length (package_paths after.now) }
+    ensures { IsTrue result → slice_get (package_paths before.now) number ≡ slice_get (package_paths after.now) number }
+{
+    before.package(number).path.as_slice() == after.package(number).path.as_slice()
+}
+
+/// Whether packages are the same by their paths.
+fn have_same_paths(before: &Graph, after: &Graph) -> bool
+    ensures { IsTrue result → package_paths before.now ≡ package_paths after.now }
+{
+    if before.len() != after.len() {
+        return false;
+    }
+    for number in 0..before.len() {
+        if !is_same_path(before, after, number) {
+            return false;
+        }
+    }
+    true
+}
+
+/// Whether packages import those of the same numbers.
+fn have_same_links(before: &ImportLinks, after: &ImportLinks) -> bool
+    ensures { IsTrue result → before.now ≡ after.now }
+{
+    if before.len() != after.len() {
+        return false;
+    }
+    for number in 0..before.len() {
+        if before.imports(number) != after.imports(number) {
+            return false;
+        }
+    }
+    true
+}
+
+/// Whether two workspaces have the same packages, which import the same.
+pub(crate) fn have_same_imports(before: &Graph, after: &Graph) -> bool
+    ensures { IsTrue result → HaveSameImports before.now after.now }
+{
+    have_same_paths(before, after) && have_same_links(before.links(), after.links())
+}
+
+/// Whether a file has the same path and the same text.
+fn is_same_tree(before: &FileTree, after: &FileTree) -> bool
+    ensures { IsTrue result → tree_file before.now ≡ tree_file after.now }
+{
+    before.path() == after.path() && before.pieces().file() == after.pieces().file()
+}
+
+/// Whether files have the same paths and texts.
+fn are_same_trees(before: &[FileTree], after: &[FileTree]) -> bool
+    ensures { IsTrue result → map tree_file before.now ≡ map tree_file after.now }
+{
+    if before.len() != after.len() {
+        return false;
+    }
+    for place in 0..before.len() {
+        if !is_same_tree(&before[place], &after[place]) {
+            return false;
+        }
+    }
+    true
+}
+
+/// Whether a package has the same files. One with a file that has no tree is not asked for them: it is soon judged.
+fn has_same_files(before: &Package, after: &Package) -> bool
+    ensures { IsTrue result → (v w : Workspace) → (n : ℕ) → IsPackage v n before.now → IsPackage w n after.now →
+        package_files v before.now.path.items ≡ package_files w after.now.path.items }
+{
+    if !before.faulty.is_empty() {
+        return false;
+    }
+    if !after.faulty.is_empty() {
+        return false;
+    }
+    are_same_trees(&before.trees, &after.trees)
+}
+
+/// Whether a package is marked, or reaches another.
+fn is_marked_or_reaches(graph: &Graph, number: usize, other: usize, steady: &[bool]) -> bool
+    requires { other < length (package_paths graph.now) }
+    ensures { IsTrue result → IsMarked steady.now other ⊎ OfPackage graph.now other (λ q. OfPackage graph.now number (IsInClosure graph.now q)) }
+{
+    if is_marked(steady, other) {
+        return true;
+    }
+    reaches(graph, other, number)
+}
+
+/// Whether all that a package builds on is marked.
+fn is_marked_below(graph: &Graph, number: usize, steady: &[bool]) -> bool
+    requires { number < length (package_paths graph.now) }
+    ensures { IsTrue result → OfPackage graph.now number (λ p. AreMarkedBelow graph.now p steady.now) }
+{
+    for other in graph.closure(number) {
+        if !is_marked_or_reaches(graph, number, *other, steady) {
+            return false;
+        }
+    }
+    true
+}
+
+/// What was known of a package, if its files are the same and all that it builds on is marked.
+pub(crate) fn standing<'a>(
+    earlier: &'a Earlier,
+    graph: &Graph,
+    number: usize,
+    steady: &[bool],
+) -> Option<&'a KnownVerdict>
+    requires number { number < length (package_paths graph.now) }
+    requires same { HaveSameImports earlier.now.graph graph.now }
+    ensures stands { IfSome result (λ one. OfPackage graph.now number (λ p. StandsWith earlier.now.graph graph.now steady.now p one.now)) }
+    ensures told { AreTold earlier.now.graph earlier.now.verdicts.items }
+{
+    let verdict = earlier.verdict(number)?;
+    let before = earlier.graph().package(number);
+    if has_same_files(before, graph.package(number)) && is_marked_below(graph, number, steady) {
+        Some(verdict)
+    } else {
+        None
+    }
+}
+
+/// Whether the same was known of a package as is known now.
+pub(crate) fn is_steady(earlier: &Earlier, graph: &Graph, number: usize, all: &Interfaces) -> bool
+    requires { number < length (package_paths graph.now) }
+    ensures { IsTrue result → OfPackage graph.now number (WasKnown earlier.now.verdicts.items all.now number) }
+{
+    match earlier.verdict(number) {
+        Some(one) => are_alike(one.interfaces(), all, &graph.package(number).path),
+        None => false,
+    }
+}
