@@ -19,7 +19,6 @@ import lexer
 import programs
 import shadows
 from history import History, fault_lines, reply, uses_of
-from lexical import Uses
 from workspace import SourceFile, Workspace
 
 
@@ -98,7 +97,7 @@ def a_place(generator, texts):
 
 
 def uses_in_files(generator, count):
-    """A few files, with questions about what stands in them, while one after another is put again."""
+    """A few files, with questions about what stands in them, while one after another is put again. Most have faults of types."""
     session = Session()
     texts = {}
     while count > 0:
@@ -110,10 +109,10 @@ def uses_in_files(generator, count):
         count -= 1
         session.put(path, text)
         texts[path] = text
-        uses = Uses(Workspace(texts), texts)
+        workspace = Workspace(texts)
         for _ in range(generator.randrange(12)):
             place = a_place(generator, texts)
-            session.tell("uses %s:#%d" % place, *uses.tell(*place))
+            session.tell("uses %s:#%d" % place, *uses_of(workspace, texts, *place))
         if fault is not None:
             session.delete(path)
             del texts[path]
