@@ -40,7 +40,7 @@ fn bind_by_scope(
     ensures { let p = package_of unit.entry in
         OnOk result (AddsAll bound.old.items bound.new.items (λ b. BeginsAt p (place_at b).path (place_at b).offset u × BindsByScope p u b.declaration)) }
 {
-    gr_scope::law::bindings_are_unique();
+    gr_scope::laws::bindings_are_unique();
     unit.table.is_well_formed();
     match declaration_in_scope(unit, u)? {
         None => Ok(()),

@@ -80,7 +80,7 @@ fn is_bound_to(unit: Package<'_>, u: usize, d: usize) -> bool
     ensures { let p = package_of unit.entry in
         IsTrue result ↔ IsBoundTo p.layout p.names u d }
 {
-    gr_scope::law::bindings_are_unique();
+    gr_scope::laws::bindings_are_unique();
     unit.table.is_well_formed();
     has_name_of(unit, u, d) && is_number(unit.table.binding(u), d)
 }

@@ -83,7 +83,7 @@ fn judge_by_scope(
     ensures stays { let p = package_of unit.entry in
         OnOk result (HoldsAhead (IfBegins p u (StaysByScope (workspace_in judge.now) (known_verdicts judge.now) (change_in judge.now) p u)) first.new) }
 {
-    gr_scope::law::bindings_are_unique();
+    gr_scope::laws::bindings_are_unique();
     unit.table.is_well_formed();
     match declaration_in_scope(unit, u)? {
         None => Ok(()),

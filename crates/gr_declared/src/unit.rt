@@ -105,7 +105,7 @@ impl<'a> Index<'a> {
         ensures only { MatchOption result (Unit {0}) (λ d. (e : ℕ) → BindsToken (package_of unit.entry) file token e → e ≡ d) }
         ensures in_range { MatchOption result (Unit {0}) (λ d. d < length unit.entry.table.now.sites) }
     {
-        gr_scope::law::bindings_are_unique();
+        gr_scope::laws::bindings_are_unique();
         unit.table.is_well_formed();
         match self.identifiers.get(Position { file, index: token }) {
             None => None,

@@ -9,7 +9,7 @@ mod functions;
 mod groups;
 mod headers;
 mod kinds;
-pub mod law;
+pub mod laws;
 mod locals;
 mod lookahead;
 mod names;

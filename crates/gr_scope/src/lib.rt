@@ -7,7 +7,7 @@ pub mod declare;
 mod declaring;
 mod expressions;
 mod known;
-pub mod law;
+pub mod laws;
 mod links;
 pub mod model;
 pub mod named;

@@ -47,7 +47,7 @@ fn import_of(table: &ScopeTable, b: usize) -> Option<usize>
     ensures bound { MatchOption result ((d : ℕ) → IsOfImport (laid_in table.now) b d → ⊥) (λ d. IsOfImport (laid_in table.now) b d) }
     ensures in_range { MatchOption result (Unit {0}) (λ d. d < (laid_in table.now).size) }
 {
-    gr_scope::law::bindings_are_unique();
+    gr_scope::laws::bindings_are_unique();
     table.is_well_formed();
     match binding(table, b) {
         Some(d) if d < table.len() && is_import(table, d) => Some(d),
@@ -135,7 +135,7 @@ fn add_unknown<E: Exports>(
     requires { u < (laid_in table.now).size }
     ensures { OnOk result (Adds found.old.items found.new.items (IsUnknown (map source_of files.now) (E.exported exports.now) (laid_in table.now) u)) }
 {
-    gr_scope::law::bindings_are_unique();
+    gr_scope::laws::bindings_are_unique();
     table.is_well_formed();
     match qualifier_of(table, u) {
         None => Ok(()),

@@ -38,7 +38,7 @@ fn mark(used: &mut Vec<bool>, d: Option<usize>)
 pub(crate) fn uses(alloc: Global, table: &ScopeTable) -> Result<Vec<bool>, AllocError>
     ensures { IfOk result (λ used. AreUsed (laid_in table.now) (laid_in table.now).size used.items) }
 {
-    gr_scope::law::bindings_are_unique();
+    gr_scope::laws::bindings_are_unique();
     table.is_well_formed();
     let mut used = vec![in alloc; false; table.len()]?;
     for u in 0..table.len() {

@@ -1,4 +1,4 @@
 //! The typing rules of statements and declarations, and that files are checked by them.
 #![tactic(auto)]
 
-pub mod law;
+pub mod laws;

@@ -2,7 +2,7 @@
 #![tactic(auto)]
 
 mod file_tree;
-pub mod law;
+pub mod laws;
 pub mod syntax;
 pub mod tree;
 

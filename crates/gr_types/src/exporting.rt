@@ -55,7 +55,7 @@ fn counts(table: &ScopeTable<'_>, d: usize) -> bool
     requires { d < length table.now.sites }
     ensures { IsTrue result ↔ Counts (layout_in table.now) (names_in table.now) d }
 {
-    gr_scope::law::declarations_are_bound_to_themselves();
+    gr_scope::laws::declarations_are_bound_to_themselves();
     table.declares(d) && table.binding(d).is_some()
 }
 

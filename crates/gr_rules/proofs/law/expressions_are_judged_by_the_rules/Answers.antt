@@ -1,6 +1,0 @@
--- The answers to the goals of `law::expressions_are_judged_by_the_rules`.
-use Rattle.gr_rules.proofs.Laws.{judged_by_the_rules}
-use Rattle.gr_rules.proofs.law.expressions_are_judged_by_the_rules.Goals as goal
-
-pub returns : goal.returns
-returns c = λ w locals e m. judged_by_the_rules w locals e m

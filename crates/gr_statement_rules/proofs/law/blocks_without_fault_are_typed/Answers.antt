@@ -1,6 +1,0 @@
--- The answers to the goals of `law::blocks_without_fault_are_typed`.
-use Rattle.gr_statement_rules.proofs.Laws.{settled_block}
-use Rattle.gr_statement_rules.proofs.law.blocks_without_fault_are_typed.Goals as goal
-
-pub returns : goal.returns
-returns c = λ w results s x h. settled_block w results s x h

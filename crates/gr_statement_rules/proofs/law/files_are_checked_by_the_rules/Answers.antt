@@ -1,6 +1,0 @@
--- The answers to the goals of `law::files_are_checked_by_the_rules`.
-use Rattle.gr_statement_rules.proofs.Laws.{file_law}
-use Rattle.gr_statement_rules.proofs.law.files_are_checked_by_the_rules.Goals as goal
-
-pub returns : goal.returns
-returns c = λ w b f n. file_law w b f n

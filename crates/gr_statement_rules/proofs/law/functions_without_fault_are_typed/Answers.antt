@@ -1,6 +1,0 @@
--- The answers to the goals of `law::functions_without_fault_are_typed`.
-use Rattle.gr_statement_rules.proofs.Laws.{settled_function}
-use Rattle.gr_statement_rules.proofs.law.functions_without_fault_are_typed.Goals as goal
-
-pub returns : goal.returns
-returns c = λ w b s f h. settled_function w b s f h

@@ -1,0 +1,6 @@
+-- The answers to the goals of `laws::typed_blocks_have_no_fault`.
+use Rattle.gr_statement_rules.proofs.Laws.{block_law}
+use Rattle.gr_statement_rules.proofs.laws.typed_blocks_have_no_fault.Goals as goal
+
+pub returns : goal.returns
+returns c = λ w results s x after h r. block_law w results s x after h r
