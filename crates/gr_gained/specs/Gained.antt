@@ -4,11 +4,12 @@ use Rattle.gr_scan.specs.CutText.{CutText, tokens_in}
 use Rattle.gr_scope.specs.declared.model.Block.TheVariants.{File}
 use Rattle.gr_scope.specs.declared.model.Role.TheVariants.{Declaring, NotLexical}
 use Rattle.gr_scope.specs.declared.model.Purpose.TheVariants.{ImportPath, UnnamedImport}
-use Rattle.gr_scope.specs.FileSites.{SpelledFile}
+use Rattle.gr_scope.specs.FileSites.{SpelledFile, file_sites}
 use Rattle.gr_scope.specs.Site.{Site}
 use Rattle.gr_tree.specs.SourceFile.{spelling_at}
 use Rattle.gr_tree.specs.Tree.{FileTree}
-use Rattle.gr_named_import.specs.Around.{from_on}
+use Rattle.gr_named_import.specs.Around.{AroundImport, around_by, bare_import, file_with, from_on, named_import}
+use Rattle.gr_named_import.specs.Named.{NamePut, after_put, before_put}
 use Rattle.gr_renumbered_sites.specs.MovedSites.{moved_site}
 
 -- the bytes of a token, by its number; none beyond the last token
@@ -18,6 +19,10 @@ spelled c n = spelling_at c.text (slice_get (tokens_in c) n)
 -- a tree with the bytes of its text's tokens
 abbrev pub spelled_tree : CutText → FileTree → SpelledFile
 spelled_tree c t = record { tree = t; spell = spelled c }
+
+-- the identifiers of a file of a rank
+abbrev pub sites_in : ℕ → SpelledFile → List Site
+sites_in rank f = file_sites (record { rank = rank; spell = f.spell }) f.tree
 
 -- an import without a name that gains one: the rank of its file, the number of its literal's token, the literal's bytes, and the name
 pub record Gain : Type 0 where
@@ -49,3 +54,15 @@ pub record HasGained (i : Gain) (stood : Site) (at : ℕ) (old new : List Site) 
   pub placed : length before ≡ at
   pub old_is : old ≡ before ++ stood ∷ behind
   pub new_is : new ≡ map (moved_site (moved_by i)) before ++ import_site i i.name ∷ path_site i ∷ map (moved_site (moved_by i)) behind
+
+-- the gain of an import in whose text a name is put before the literal, which is the token of a number
+abbrev pub gain_of : ℕ → ℕ → NamePut → Gain
+gain_of rank number p = record { rank = rank; number = number; literal = p.literal; name = p.name }
+
+-- the file before, in which the literal is the path of an import without a name
+abbrev pub file_before : ℕ → AroundImport → NamePut → SpelledFile
+file_before number a p = spelled_tree (before_put p) (file_with (bare_import number) a)
+
+-- the file after, in which the import has the name
+abbrev pub file_after : ℕ → AroundImport → NamePut → SpelledFile
+file_after number a p = spelled_tree (after_put p) (file_with (named_import number) (around_by (from_on number) a))

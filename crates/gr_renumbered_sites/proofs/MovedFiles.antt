@@ -85,7 +85,7 @@ module _ (move : ℕ → ℕ → ℕ) (rank : ℕ) (old new : ℕ → List ℕ) 
   all_moved f h F each [] = refl
   all_moved f h F each (x ∷ xs) = both (f x) (flat_map f xs) (each x) (all_moved f h F each xs)
 
-  list_moved : {X : Type 0} (f h : X → List Site) (F : X → X) → ((x : X) → h (F x) ≡ map by (f x)) → (xs : List (Item X)) →
+  pub list_moved : {X : Type 0} (f h : X → List Site) (F : X → X) → ((x : X) → h (F x) ≡ map by (f x)) → (xs : List (Item X)) →
       list_sites h (items_by g F xs) ≡ map by (list_sites f xs)
   list_moved f h F each xs = all_moved (λ x. f x.value) (λ x. h x.value) (item_by g F) (λ x. each x.value) xs
 
@@ -354,7 +354,7 @@ module _ (move : ℕ → ℕ → ℕ) (rank : ℕ) (old new : ℕ → List ℕ) 
       (λ i. parts after (open_by g f.body i) (close_by g f.body i) (role_moved f.receiver f.name i) (func_by g f))
       ∙ parts_moved (open_of f.body) (close_of f.body) (func_role f.receiver (old f.name)) f
 
-  import_moved : (i : ImportTree) → import_sites after (import_by g i) ≡ map by (import_sites before i)
+  pub import_moved : (i : ImportTree) → import_sites after (import_by g i) ≡ map by (import_sites before i)
   unfolding import_sites
   import_moved i = by_name i.name
     where
@@ -368,7 +368,7 @@ module _ (move : ℕ → ℕ → ℕ) (rank : ℕ) (old new : ℕ → List ℕ) 
   unfolding imports_sites
   imports_moved i = spec_moved (import_sites before) (import_sites after) (import_by g) import_moved i.imports
 
-  decl_moved : (d : DeclTree) → decl_sites after (decl_by g d) ≡ map by (decl_sites before d)
+  pub decl_moved : (d : DeclTree) → decl_sites after (decl_by g d) ≡ map by (decl_sites before d)
   unfolding decl_sites
   decl_moved (VarDecl k v s) = spec_moved (global_sites before) (global_sites after) (global_by g) global_moved v
   decl_moved (TypeDecl k v s) = spec_moved (type_spec_sites before) (type_spec_sites after) (type_spec_by g) type_spec_moved v

@@ -1,0 +1,4 @@
+-- The lemmas of this crate.
+pub mod Sites
+pub mod Spelling
+pub mod Standing

@@ -1,0 +1,36 @@
+//! The laws of an import without a name that gains one.
+ghost use Rattle.std.specs.Prelude.{◌≡◌, ℕ, ◌+◌, Some, slice_get};
+ghost use Rattle.std.specs.List.{Contains};
+ghost use Rattle.gr_scan.specs.CutText.{tokens_in};
+ghost use Rattle.gr_tree.specs.Tree.{FileTree, ImportTree};
+ghost use Rattle.gr_imports.specs.Files.{imports_in};
+ghost use Rattle.gr_named_import.specs.Around.{AroundImport, file_with, from_on};
+ghost use Rattle.gr_named_import.specs.Named.{MayPut, NamePut, after_put, before_put, literal_piece};
+ghost use Rattle.gr_gained.specs.Gained.{HasGained, file_after, file_before, gain_of, sites_in, spelled, unnamed_site};
+
+/// Each import of a file stands in a place of it: the file is what stands around the import, with the import there. And what stands so in a
+/// file is one of its imports.
+pub fn imports_stand_in_their_files()
+    ensures found { (f : FileTree) (i : ImportTree) → Contains (imports_in f) i → (a : AroundImport) × (f ≡ file_with i a) }
+    ensures among { (i : ImportTree) (a : AroundImport) → Contains (imports_in (file_with i a)) i }
+{}
+
+/// Where a name and a blank are put before a string literal, each token of the old text is spelled as before, at its new number. The token
+/// that comes in is spelled as the name, and stands where the literal stood; the literal is behind it.
+pub fn named_text_is_spelled()
+    ensures kept { (p : NamePut) (number : ℕ) → MayPut p → slice_get (tokens_in (before_put p)) number ≡ Some (literal_piece p) →
+        (n : ℕ) → spelled (after_put p) (from_on number n) ≡ spelled (before_put p) n }
+    ensures name { (p : NamePut) (number : ℕ) → MayPut p → slice_get (tokens_in (before_put p)) number ≡ Some (literal_piece p) →
+        spelled (after_put p) number ≡ p.name }
+    ensures path { (p : NamePut) (number : ℕ) → MayPut p → slice_get (tokens_in (before_put p)) number ≡ Some (literal_piece p) →
+        spelled (after_put p) (number + 1) ≡ p.literal }
+{}
+
+/// Where the literal is the path of an import without a name, the file's identifiers stay as they were, with the numbers of tokens from the
+/// literal's on greater by one: in places, in the ends of blocks and in the beginnings of scopes. Just in the place of the literal, which
+/// declared nothing, there are two: the name, which is declared in the file, and the literal behind it, which is the path of a named import.
+pub fn named_import_is_among_the_identifiers()
+    ensures { (rank number : ℕ) (p : NamePut) (a : AroundImport) → MayPut p → slice_get (tokens_in (before_put p)) number ≡ Some (literal_piece p) →
+        (at : ℕ) × HasGained (gain_of rank number p) (unnamed_site (gain_of rank number p)) at (sites_in rank (file_before number a p))
+        (sites_in rank (file_after number a p)) }
+{}
