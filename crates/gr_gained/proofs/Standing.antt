@@ -1,5 +1,5 @@
 -- Each import of a file stands in a place of it.
-use Rattle.std.proofs.Common.{ℕ, ◌≡◌, List, [], ◌∷◌, ◌++◌, map, refl, sym, ap, ◌∙◌, subst, append_assoc}
+use Rattle.std.proofs.Common.{ℕ, ◌≡◌, List, [], ◌∷◌, ◌++◌, map, refl, sym, ap, ◌∙◌, subst, append_assoc, arith}
 use Rattle.std.specs.List.{AllByRecursion, Contains, flat_map}
 use Rattle.std.proofs.lemmas.List.Elements.{All-contains, All-from_recursion, Contains-append_left, Contains-append_right}
 use Rattle.gr_tree.specs.Tree.{DeclTree, FileTree, Group, ImportTree, ImportsTree, Item, several, single}
@@ -58,7 +58,7 @@ import_stands f i has =
 -- an import in its place is one of the file's
 
 first_of_them : {X : Type 0} (x : X) (xs : List X) → Contains (x ∷ xs) x
-first_of_them x xs = (0, (omega arith, refl))
+first_of_them x xs = (0, omega arith, refl)
 
 item_among : (before after : List (Item ImportTree)) (x : Item ImportTree) → Contains (map (λ y. y.value) (before ++ x ∷ after)) x.value
 item_among [] after x = first_of_them x.value (map (λ y. y.value) after)
