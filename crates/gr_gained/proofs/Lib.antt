@@ -1,4 +1,6 @@
 -- The lemmas of this crate.
+pub mod Laying
+pub mod Packages
 pub mod Sites
 pub mod Spelling
 pub mod Standing

@@ -1,8 +1,7 @@
 -- The identifiers of a file in which an import without a name gains one.
-use Rattle.std.proofs.Common.{ℕ, suc, ◌≡◌, ◌+◌, List, [], ◌∷◌, ◌++◌, Option, Some, None, length, map, refl, sym, ap, ◌∙◌, subst, true, eq-eqb, append_assoc, append-nil}
+use Rattle.std.proofs.Common.{ℕ, ◌≡◌, ◌+◌, List, [], ◌∷◌, ◌++◌, Some, length, map, refl, sym, ap, ◌∙◌, true, eq-eqb, append_assoc, append-nil}
 use Rattle.std.specs.Prelude.{cond, nat_eq, slice_get}
 use Rattle.std.specs.List.{flat_map}
-use Rattle.std.proofs.lemmas.Grind.{flat_map-append}
 use Rattle.gr_scan.specs.CutText.{tokens_in}
 use Rattle.gr_scope.specs.declared.model.Role.TheVariants.{NotLexical}
 use Rattle.gr_scope.specs.declared.model.Purpose.TheVariants as purpose
@@ -10,7 +9,7 @@ use Rattle.gr_scope.specs.Site.{Site, Source, site}
 use Rattle.gr_scope.specs.ExpressionSites.{list_sites}
 use Rattle.gr_scope.specs.StatementSites.{separated_sites, group_sites}
 use Rattle.gr_scope.specs.FileSites.{spec_sites, import_sites, imports_sites, decl_sites, file_sites}
-use Rattle.gr_tree.specs.Tree.{Item, ImportTree, ImportsTree}
+use Rattle.gr_tree.specs.Tree.{ImportTree, ImportsTree}
 use Rattle.gr_renumbered.specs.Renumbered.{import_by, imports_by, decl_by}
 use Rattle.gr_named_import.specs.Around.{AroundImport, AroundItem, alone, among, around_by, bare_import, file_with, from_on, group_with, imports_with, item_around_by}
 use Rattle.gr_named_import.specs.Around.{named_import}
@@ -138,17 +137,19 @@ gained_sites i old new a spelled =
     let lead : left now (around_by g a) ≡ map (moved_site (moved_by i)) (left was a) =
     ap (λ (h : ℕ → ℕ). left now (around_by h a)) (sym is) ∙ left_moved (moved_by i) i.rank old new same a in
     let rest : right now (around_by g a) ≡ map (moved_site (moved_by i)) (right was a) =
-    ap (λ (h : ℕ → ℕ). right now (around_by h a)) (sym is) ∙ right_moved (moved_by i) i.rank old new same a in
-    (length (left was a), record {
-      before = left was a;
-      behind = right was a;
-      placed = refl;
-      old_is = file_split was (bare_import i.number) a ∙ ap (λ l. left was a ++ (l ++ right was a)) (bare_sites was i.number)
-          ∙ ap (λ x. left was a ++ x ∷ right was a) stood;
-      new_is = file_split now (named_import i.number) (around_by g a)
-          ∙ ap (λ l. left now (around_by g a) ++ (l ++ right now (around_by g a))) (named_sites i new spelled.name path)
-          ∙ (λ j. lead j ++ import_site i i.name ∷ path_site i ∷ rest j);
-    })
+    ap (λ (h : ℕ → ℕ). right now (around_by h a)) (sym is) ∙ right_moved (moved_by i) i.rank old new same a in (
+      length (left was a),
+      record {
+        before = left was a;
+        behind = right was a;
+        placed = refl;
+        old_is = file_split was (bare_import i.number) a ∙ ap (λ l. left was a ++ (l ++ right was a)) (bare_sites was i.number)
+            ∙ ap (λ x. left was a ++ x ∷ right was a) stood;
+        new_is = file_split now (named_import i.number) (around_by g a)
+            ∙ ap (λ l. left now (around_by g a) ++ (l ++ right now (around_by g a))) (named_sites i new spelled.name path)
+            ∙ (λ j. lead j ++ import_site i i.name ∷ path_site i ∷ rest j);
+      },
+    )
 
 pub put_sites : (rank number : ℕ) (p : NamePut) (a : AroundImport) → MayPut p → slice_get (tokens_in (before_put p)) number ≡ Some (literal_piece p) →
     (at : ℕ) × HasGained (gain_of rank number p) (unnamed_site (gain_of rank number p)) at (sites_in rank (file_before number a p))

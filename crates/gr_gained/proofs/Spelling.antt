@@ -1,5 +1,5 @@
 -- How the tokens of a text are spelled, in which a name is put before a string literal.
-use Rattle.std.proofs.Common.{ℕ, zero, suc, ◌≡◌, ◌+◌, ◌-◌, ◌≤◌, List, [], ◌∷◌, ◌++◌, Option, Some, length, take, drop, map, refl, sym, ap, ◌∙◌, subst, arith}
+use Rattle.std.proofs.Common.{ℕ, zero, suc, ◌≡◌, ◌+◌, ◌-◌, ◌≤◌, List, [], ◌∷◌, ◌++◌, Some, length, take, drop, map, refl, sym, ap, ◌∙◌, subst, arith}
 use Rattle.std.specs.Prelude.{slice_get}
 use Rattle.std.specs.List.{AllByRecursion}
 use Rattle.std.proofs.lemmas.Bool.Decides.{nat_tests}
@@ -13,7 +13,7 @@ use Rattle.gr_tree.specs.SourceFile.{spelling_at}
 use Rattle.gr_named_import.specs.Around.{from_on}
 use Rattle.gr_named_import.specs.Named.{MayPut, NamePut, after_put, before_put, literal_piece, moved_behind, name_piece, put_bytes}
 use Rattle.gr_named_import.proofs.Behind.{AllLie, LiesBefore, LiesBehind, all_by, behind_bytes, front_bytes}
-use Rattle.gr_named_import.proofs.Gaining.{Tokens, both_tokens, literal_number, name_bytes, news, same_rest, texts}
+use Rattle.gr_named_import.proofs.Gaining.{both_tokens, literal_number, name_bytes, news, same_rest, texts}
 use Rattle.gr_gained.specs.Gained.{spelled}
 
 -- the numbers of tokens
@@ -21,10 +21,10 @@ use Rattle.gr_gained.specs.Gained.{spelled}
 pub from_first : (n : ℕ) → from_on 0 n ≡ suc n
 from_first n = grind (arith, nat_tests)
 
-from_zero : (k : ℕ) → from_on (suc k) 0 ≡ 0
+pub from_zero : (k : ℕ) → from_on (suc k) 0 ≡ 0
 from_zero k = grind (arith, nat_tests)
 
-from_suc : (k n : ℕ) → from_on (suc k) (suc n) ≡ suc (from_on k n)
+pub from_suc : (k n : ℕ) → from_on (suc k) (suc n) ≡ suc (from_on k n)
 from_suc k n = grind (arith, nat_tests)
 
 pub from_itself : (n : ℕ) → from_on n n ≡ n + 1

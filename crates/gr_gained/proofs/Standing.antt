@@ -1,5 +1,5 @@
 -- Each import of a file stands in a place of it.
-use Rattle.std.proofs.Common.{ℕ, ◌≡◌, List, [], ◌∷◌, ◌++◌, map, refl, sym, ap, ◌∙◌, subst, append_assoc, arith}
+use Rattle.std.proofs.Common.{ℕ, ◌≡◌, List, [], ◌∷◌, ◌++◌, map, refl, ap, subst, append_assoc, arith}
 use Rattle.std.specs.List.{AllByRecursion, Contains, flat_map}
 use Rattle.std.proofs.lemmas.List.Elements.{All-contains, All-from_recursion, Contains-append_left, Contains-append_right}
 use Rattle.gr_tree.specs.Tree.{DeclTree, FileTree, Group, ImportTree, ImportsTree, Item, several, single}
@@ -13,9 +13,11 @@ StandsIn g i = (x : AroundItem) × (g ≡ group_with i x)
 items_stand : (o c : ℕ) (before xs : List (Item ImportTree)) → AllByRecursion (StandsIn (several o (before ++ xs) c)) (map (λ x. x.value) xs)
 items_stand o c before [] = tt
 items_stand o c before (x ∷ xs) =
-    let same : (before ++ x ∷ []) ++ xs ≡ before ++ x ∷ xs = append_assoc before (x ∷ []) xs in
-    ((among o before x.separator xs c, refl), subst (λ (ys : List (Item ImportTree)). AllByRecursion (StandsIn (several o ys c)) (map (λ y. y.value) xs)) same
-    (items_stand o c (before ++ x ∷ []) xs))
+    let same : (before ++ x ∷ []) ++ xs ≡ before ++ x ∷ xs = append_assoc before (x ∷ []) xs in (
+      (among o before x.separator xs c, refl),
+      subst (λ (ys : List (Item ImportTree)). AllByRecursion (StandsIn (several o ys c)) (map (λ y. y.value) xs)) same
+          (items_stand o c (before ++ x ∷ []) xs),
+    )
 
 group_stands : (g : Group ImportTree) → AllByRecursion (StandsIn g) (group_items g)
 group_stands (single x) = ((alone, refl), tt)
@@ -29,17 +31,20 @@ module _ (keyword name semicolon : ℕ) (decls : List DeclTree) where
   InFile xs i = (a : AroundImport) × (file xs ≡ file_with i a)
 
   stands_within : (before after : List ImportsTree) (d : ImportsTree) (i : ImportTree) → StandsIn d.imports i → InFile (before ++ d ∷ after) i
-  stands_within before after d i stands = (record {
-    keyword = keyword;
-    name = name;
-    semicolon = semicolon;
-    before = before;
-    import_keyword = d.keyword;
-    item = stands.0;
-    import_semicolon = d.semicolon;
-    after = after;
-    decls = decls;
-  }, ap (λ (g : Group ImportTree). file (before ++ record { keyword = d.keyword; imports = g; semicolon = d.semicolon } ∷ after)) stands.1)
+  stands_within before after d i stands = (
+    record {
+      keyword = keyword;
+      name = name;
+      semicolon = semicolon;
+      before = before;
+      import_keyword = d.keyword;
+      item = stands.0;
+      import_semicolon = d.semicolon;
+      after = after;
+      decls = decls;
+    },
+    ap (λ (g : Group ImportTree). file (before ++ record { keyword = d.keyword; imports = g; semicolon = d.semicolon } ∷ after)) stands.1,
+  )
 
   groups_stand : (before after : List ImportsTree) → AllByRecursion (InFile (before ++ after)) (flat_map (λ d. group_items d.imports) after)
   groups_stand before [] = tt

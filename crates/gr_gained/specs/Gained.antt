@@ -1,11 +1,12 @@
 -- The identifiers of a package in which an import without a name gains one.
-use Rattle.std.specs.Prelude.{◌≡◌, ℕ, ◌+◌, List, ◌∷◌, ◌++◌, cond, length, map, nat_eq, slice_get}
+use Rattle.std.specs.Prelude.{◌≡◌, ℕ, ◌+◌, List, ◌∷◌, ◌++◌, Option, true, cond, length, map, nat_eq, slice_get}
 use Rattle.gr_scan.specs.CutText.{CutText, tokens_in}
 use Rattle.gr_scope.specs.declared.model.Block.TheVariants.{File}
 use Rattle.gr_scope.specs.declared.model.Role.TheVariants.{Declaring, NotLexical}
 use Rattle.gr_scope.specs.declared.model.Purpose.TheVariants.{ImportPath, UnnamedImport}
 use Rattle.gr_scope.specs.FileSites.{SpelledFile, file_sites}
-use Rattle.gr_scope.specs.Site.{Site}
+use Rattle.gr_scope.specs.Named.{is_unnamed_import}
+use Rattle.gr_scope.specs.Site.{Site, sites_layout}
 use Rattle.gr_tree.specs.SourceFile.{spelling_at}
 use Rattle.gr_tree.specs.Tree.{FileTree}
 use Rattle.gr_named_import.specs.Around.{AroundImport, around_by, bare_import, file_with, from_on, named_import}
@@ -54,6 +55,10 @@ pub record HasGained (i : Gain) (stood : Site) (at : ℕ) (old new : List Site) 
   pub placed : length before ≡ at
   pub old_is : old ≡ before ++ stood ∷ behind
   pub new_is : new ≡ map (moved_site (moved_by i)) before ++ import_site i i.name ∷ path_site i ∷ map (moved_site (moved_by i)) behind
+
+-- Of the other imports without a name, the names of their packages are the same, given by the numbers that the identifiers get.
+abbrev pub AreLater : ℕ → List Site → (ℕ → Option (List ℕ)) → (ℕ → Option (List ℕ)) → Type 0
+AreLater at old names later = (d : ℕ) → (d ≡ at → ⊥) → is_unnamed_import ((sites_layout old).role d) ≡ true → later (from_on at d) ≡ names d
 
 -- the gain of an import in whose text a name is put before the literal, which is the token of a number
 abbrev pub gain_of : ℕ → ℕ → NamePut → Gain

@@ -1,12 +1,17 @@
 //! The laws of an import without a name that gains one.
-ghost use Rattle.std.specs.Prelude.{◌≡◌, ℕ, ◌+◌, Some, slice_get};
+ghost use Rattle.std.specs.Prelude.{◌≡◌, ℕ, ◌+◌, List, ◌∷◌, ◌++◌, length, Option, Some, None, slice_get};
 ghost use Rattle.std.specs.List.{Contains};
 ghost use Rattle.gr_scan.specs.CutText.{tokens_in};
+ghost use Rattle.gr_scope.specs.FileSites.{SpelledFile, package_sites};
+ghost use Rattle.gr_scope.specs.Named.{named_sites};
+ghost use Rattle.gr_scope.specs.Site.{Site};
+ghost use Rattle.gr_tree.specs.Kinds.{kinds_of};
 ghost use Rattle.gr_tree.specs.Tree.{FileTree, ImportTree};
+ghost use Rattle.gr_tree.specs.WellFormed.{IsTreeOf};
 ghost use Rattle.gr_imports.specs.Files.{imports_in};
-ghost use Rattle.gr_named_import.specs.Around.{AroundImport, file_with, from_on};
+ghost use Rattle.gr_named_import.specs.Around.{AroundImport, bare_import, file_with, from_on};
 ghost use Rattle.gr_named_import.specs.Named.{MayPut, NamePut, after_put, before_put, literal_piece};
-ghost use Rattle.gr_gained.specs.Gained.{HasGained, file_after, file_before, gain_of, sites_in, spelled, unnamed_site};
+ghost use Rattle.gr_gained.specs.Gained.{AreLater, Gain, HasGained, file_after, file_before, gain_of, import_site, sites_in, spelled, unnamed_site};
 
 /// Each import of a file stands in a place of it: the file is what stands around the import, with the import there. And what stands so in a
 /// file is one of its imports.
@@ -33,4 +38,25 @@ pub fn named_import_is_among_the_identifiers()
     ensures { (rank number : ℕ) (p : NamePut) (a : AroundImport) → MayPut p → slice_get (tokens_in (before_put p)) number ≡ Some (literal_piece p) →
         (at : ℕ) × HasGained (gain_of rank number p) (unnamed_site (gain_of rank number p)) at (sites_in rank (file_before number a p))
         (sites_in rank (file_after number a p)) }
+{}
+
+/// So it is in the package: the identifiers of its other files, and the predeclared names, stay as they are.
+pub fn named_import_is_in_the_package()
+    ensures { (p : NamePut) (number : ℕ) (a : AroundImport) (first rest : List SpelledFile) → MayPut p →
+        slice_get (tokens_in (before_put p)) number ≡ Some (literal_piece p) → IsTreeOf (file_with (bare_import number) a) (kinds_of (before_put p)) →
+        let i = gain_of (length first) number p in
+        (at : ℕ) × HasGained i (unnamed_site i) at (package_sites (first ++ file_before number a p ∷ rest))
+        (package_sites (first ++ file_after number a p ∷ rest)) }
+{}
+
+/// Where imports without a name declare the names of their packages, the import declared that name at its literal. With a name of its own it
+/// declares this one at it, and its literal declares nothing; all else stays, moved. Where its package's name was not known, it declares
+/// only now.
+pub fn declaration_moves_to_the_name()
+    ensures known { (i : Gain) (at : ℕ) (old new : List Site) (names later : ℕ → Option (List ℕ)) (called : List ℕ) →
+        HasGained i (unnamed_site i) at old new → AreLater at old names later → names at ≡ Some called →
+        HasGained i (import_site i called) at (named_sites names old) (named_sites later new) }
+    ensures unknown { (i : Gain) (at : ℕ) (old new : List Site) (names later : ℕ → Option (List ℕ)) →
+        HasGained i (unnamed_site i) at old new → AreLater at old names later → names at ≡ None →
+        HasGained i (unnamed_site i) at (named_sites names old) (named_sites later new) }
 {}
