@@ -1,12 +1,10 @@
 -- The identifiers of a package in which imports without a name declare their packages' names, where one of these gains a name of its own.
-use Rattle.std.proofs.Common.{ℕ, zero, suc, ◌≡◌, ◌+◌, List, [], ◌∷◌, ◌++◌, Option, Some, None, Bool, true, false, length, map, refl, sym, ap, ◌∙◌, subst}
+use Rattle.std.proofs.Common.{ℕ, suc, ◌≡◌, ◌+◌, List, [], ◌∷◌, ◌++◌, Option, Some, None, Bool, true, false, length, map, refl, sym, ap, ◌∙◌, subst}
 use Rattle.gr_scope.specs.declared.model.Role.{Role}
 use Rattle.gr_scope.specs.declared.model.Role.TheVariants.{Use, Declaring, LeftName, Implied, NotLexical}
-use Rattle.gr_scope.specs.declared.model.Purpose.{Purpose}
 use Rattle.gr_scope.specs.Moves.{moved_role}
 use Rattle.gr_scope.specs.Named.{is_unnamed_import, named_site, named_sites, named_where}
 use Rattle.gr_scope.specs.Site.{Site, sites_layout}
-use Rattle.gr_named_import.specs.Around.{from_on}
 use Rattle.gr_renumbered_sites.specs.MovedSites.{moved_site}
 use Rattle.gr_gained.specs.Gained.{AreLater, Gain, HasGained, import_site, moved_by, path_site, unnamed_site}
 use Rattle.gr_gained.proofs.Spelling.{from_first, from_suc, from_zero}

@@ -1,5 +1,5 @@
 -- The identifiers of a package of which one file has an import that gains a name.
-use Rattle.std.proofs.Common.{ℕ, zero, suc, ◌≡◌, ◌+◌, ◌<◌, ◌≤◌, List, [], ◌∷◌, ◌++◌, Option, Some, None, length, map, refl, sym, ap, ◌∙◌, arith, Bool, true, false}
+use Rattle.std.proofs.Common.{ℕ, zero, suc, ◌≡◌, ◌+◌, ◌<◌, ◌≤◌, List, [], ◌∷◌, ◌++◌, Some, length, map, refl, sym, ap, ◌∙◌, arith, Bool, true, false}
 use Rattle.std.proofs.Common.{⊎_elim, append_assoc, ne_eqb}
 use Rattle.std.specs.Prelude.{cond, nat_eq, slice_get}
 use Rattle.std.proofs.lemmas.Bool.{cases_eq}
@@ -139,11 +139,13 @@ package_gains p number a first rest may at tree =
     ∙ sym (append_assoc known (files_sites 0 first) (sites_in (length first) f ++ back)) in
     let here = put_sites (length first) number p a may at in
     let whole = gained_within i (unnamed_site i) here.0 lead back (sites_in (length first) (file_before number a p))
-    (sites_in (length first) (file_after number a p)) lead_stays back_stays here.1 in
-    (length lead + here.0, record {
-      before = whole.before;
-      behind = whole.behind;
-      placed = whole.placed;
-      old_is = split (file_before number a p) ∙ whole.old_is;
-      new_is = split (file_after number a p) ∙ whole.new_is;
-    })
+    (sites_in (length first) (file_after number a p)) lead_stays back_stays here.1 in (
+      length lead + here.0,
+      record {
+        before = whole.before;
+        behind = whole.behind;
+        placed = whole.placed;
+        old_is = split (file_before number a p) ∙ whole.old_is;
+        new_is = split (file_after number a p) ∙ whole.new_is;
+      },
+    )
