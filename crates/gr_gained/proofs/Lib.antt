@@ -1,4 +1,5 @@
 -- The lemmas of this crate.
+pub mod Examples
 pub mod Laying
 pub mod Packages
 pub mod Sites
