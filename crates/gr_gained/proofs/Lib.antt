@@ -1,4 +1,6 @@
 -- The lemmas of this crate.
+pub mod Along
+pub mod Bound
 pub mod Examples
 pub mod Laying
 pub mod Packages

@@ -1,10 +1,11 @@
 //! The laws of an import without a name that gains one.
-ghost use Rattle.std.specs.Prelude.{◌≡◌, ℕ, ◌+◌, List, ◌∷◌, ◌++◌, length, Option, Some, None, slice_get};
+ghost use Rattle.std.specs.Prelude.{◌≡◌, ◌↔◌, ℕ, suc, ◌+◌, List, ◌∷◌, ◌++◌, length, Option, Some, None, slice_get};
 ghost use Rattle.std.specs.List.{Contains};
 ghost use Rattle.gr_scan.specs.CutText.{tokens_in};
+ghost use Rattle.gr_scope.specs.Bindings.{IsBoundTo, Names};
 ghost use Rattle.gr_scope.specs.FileSites.{SpelledFile, package_sites};
 ghost use Rattle.gr_scope.specs.Named.{named_sites};
-ghost use Rattle.gr_scope.specs.Site.{Site};
+ghost use Rattle.gr_scope.specs.Site.{Site, sites_layout, sites_names};
 ghost use Rattle.gr_tree.specs.Kinds.{kinds_of};
 ghost use Rattle.gr_tree.specs.Tree.{FileTree, ImportTree};
 ghost use Rattle.gr_tree.specs.WellFormed.{IsTreeOf};
@@ -59,4 +60,22 @@ pub fn declaration_moves_to_the_name()
     ensures unknown { (i : Gain) (at : ℕ) (old new : List Site) (names later : ℕ → Option (List ℕ)) →
         HasGained i (unnamed_site i) at old new → AreLater at old names later → names at ≡ None →
         HasGained i (unnamed_site i) at (named_sites names old) (named_sites later new) }
+{}
+
+/// All bindings stay: whatever identifiers are called, one of the old ones is bound to another exactly if it is in the new place, under its
+/// new number, where they are called the same. The literal is bound to nothing, and nothing to it. So where the import gains the name that
+/// it declared before, nothing changes; where it gains another, all that is bound to it has to be called so too, and what that changes is
+/// what a rename of the import changes on the old scopes.
+pub fn bindings_stay_where_an_import_gains_a_name()
+    ensures bound { (i : Gain) (called : List ℕ) (at : ℕ) (old new : List Site) → HasGained i (import_site i called) at old new →
+        (later : Names) (u d : ℕ) → IsBoundTo (sites_layout old) (λ x. later (from_on (suc at) x)) u d ↔
+        IsBoundTo (sites_layout new) later (from_on (suc at) u) (from_on (suc at) d) }
+    ensures literal_bound { (i : Gain) (called : List ℕ) (at : ℕ) (old new : List Site) → HasGained i (import_site i called) at old new →
+        (later : Names) (d : ℕ) → IsBoundTo (sites_layout new) later (suc at) d → ⊥ }
+    ensures bound_to_literal { (i : Gain) (called : List ℕ) (at : ℕ) (old new : List Site) → HasGained i (import_site i called) at old new →
+        (later : Names) (u : ℕ) → IsBoundTo (sites_layout new) later u (suc at) → ⊥ }
+    ensures names { (i : Gain) (called : List ℕ) (at : ℕ) (old new : List Site) → HasGained i (import_site i called) at old new →
+        (d : ℕ) → (d ≡ at → ⊥) → sites_names new (from_on (suc at) d) ≡ sites_names old d }
+    ensures import_name { (i : Gain) (called : List ℕ) (at : ℕ) (old new : List Site) → HasGained i (import_site i called) at old new →
+        sites_names new (from_on (suc at) at) ≡ i.name }
 {}
