@@ -177,13 +177,13 @@ put_tokens p text q ps token = by_form p.blank_first
 
 -- both
 
-abbrev texts : NamePut → List ℕ
+abbrev pub texts : NamePut → List ℕ
 texts p = (before_put p).text
 
-abbrev news : NamePut → List ℕ
+abbrev pub news : NamePut → List ℕ
 news p = (after_put p).text
 
-same_rest : (p : NamePut) → drop (length p.front) (texts p) ≡ drop (length p.front + length (put_bytes p)) (news p)
+pub same_rest : (p : NamePut) → drop (length p.front) (texts p) ≡ drop (length p.front + length (put_bytes p)) (news p)
 same_rest p =
     let tail : List ℕ = p.literal ++ p.rest in
     drop_at p.front tail (length p.front) refl
@@ -288,7 +288,7 @@ kinds_later n move text other (t ∷ ts) same =
     let rest : kinds_from (n + 1 + 1) other (map move ts) ≡ map later (kinds_from (n + 1) text ts) = kinds_later (n + 1) move text other ts same.1 in
     λ i. record { kind = first i; place = n + 1 } ∷ rest i
 
-name_bytes : (p : NamePut) → bytes_of (news p) (name_piece p) ≡ p.name
+pub name_bytes : (p : NamePut) → bytes_of (news p) (name_piece p) ≡ p.name
 name_bytes p = by_form p.blank_first
   where
     take_name : (at : ℕ) (text : List ℕ) → drop at text ≡ p.name ++ 32 ∷ (p.literal ++ p.rest) → bytes_of text (piece_at class.Name at p.name) ≡ p.name

@@ -1,0 +1,4 @@
+-- The lemmas of this crate.
+pub mod Examples
+pub mod MovedFiles
+pub mod Staying
