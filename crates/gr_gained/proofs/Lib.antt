@@ -2,6 +2,7 @@
 pub mod Along
 pub mod Bound
 pub mod Examples
+pub mod Finding
 pub mod Laying
 pub mod Packages
 pub mod Sites

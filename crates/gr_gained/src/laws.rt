@@ -1,24 +1,36 @@
 //! The laws of an import without a name that gains one.
-ghost use Rattle.std.specs.Prelude.{◌≡◌, ◌↔◌, ℕ, suc, ◌+◌, List, ◌∷◌, ◌++◌, length, Option, Some, None, slice_get};
+ghost use Rattle.std.specs.Prelude.{◌≡◌, ◌↔◌, ℕ, suc, ◌+◌, List, ◌∷◌, ◌++◌, length, Option, Some, None, Bool, false, slice_get};
 ghost use Rattle.std.specs.List.{Contains};
+ghost use Rattle.gr_scan.specs.declared.piece.Class.TheVariants.{Name};
 ghost use Rattle.gr_scan.specs.CutText.{tokens_in};
+ghost use Rattle.gr_scan.specs.Pieces.{IsPiece};
 ghost use Rattle.gr_scope.specs.Bindings.{IsBoundTo, Names};
 ghost use Rattle.gr_scope.specs.FileSites.{SpelledFile, package_sites};
 ghost use Rattle.gr_scope.specs.Named.{named_sites};
 ghost use Rattle.gr_scope.specs.Site.{Site, sites_layout, sites_names};
 ghost use Rattle.gr_tree.specs.Kinds.{kinds_of};
+ghost use Rattle.gr_tree.specs.SourceFile.{IsSourceFile, SourceFile, offset_of};
 ghost use Rattle.gr_tree.specs.Tree.{FileTree, ImportTree};
 ghost use Rattle.gr_tree.specs.WellFormed.{IsTreeOf};
 ghost use Rattle.gr_imports.specs.Files.{imports_in};
 ghost use Rattle.gr_named_import.specs.Around.{AroundImport, bare_import, file_with, from_on};
 ghost use Rattle.gr_named_import.specs.Named.{MayPut, NamePut, after_put, before_put, literal_piece};
-ghost use Rattle.gr_gained.specs.Gained.{AreLater, Gain, HasGained, file_after, file_before, gain_of, import_site, sites_in, spelled, unnamed_site};
+ghost use Rattle.gr_named_import.specs.Put.{NoWordEndsAt};
+ghost use Rattle.gr_gained.specs.Gained.{AreLater, Gain, HasGained, MayGain, file_after, file_before, gain_of, import_site, sites_in, spelled};
+ghost use Rattle.gr_gained.specs.Gained.{unnamed_site};
 
 /// Each import of a file stands in a place of it: the file is what stands around the import, with the import there. And what stands so in a
 /// file is one of its imports.
 pub fn imports_stand_in_their_files()
     ensures found { (f : FileTree) (i : ImportTree) → Contains (imports_in f) i → (a : AroundImport) × (f ≡ file_with i a) }
     ensures among { (i : ImportTree) (a : AroundImport) → Contains (imports_in (file_with i a)) i }
+{}
+
+/// So the literal of each import without a name stands in its file's text such that a name may be put before it: with a blank before the name
+/// too, or without one where no word and no number ends at the literal.
+pub fn imports_without_a_name_may_gain_one()
+    ensures { (f : SourceFile) (i : ImportTree) (name : List ℕ) (blank_first : Bool) → IsSourceFile f → Contains (imports_in f.tree) i → i.name ≡ None →
+        IsPiece Name name → (blank_first ≡ false → NoWordEndsAt (offset_of f i.path) f.cut.pieces) → MayGain f i.path name blank_first }
 {}
 
 /// Where a name and a blank are put before a string literal, each token of the old text is spelled as before, at its new number. The token
