@@ -1,5 +1,5 @@
 -- The literal of an import without a name, in the text of its file, where a name may be put before it.
-use Rattle.std.proofs.Common.{ℕ, zero, suc, ◌≡◌, ◌+◌, ◌-◌, ◌<◌, ◌≤◌, inl, inr, List, [], ◌∷◌, ◌++◌, Option, Some, None, Bool, true, false, length, take, drop}
+use Rattle.std.proofs.Common.{ℕ, zero, suc, ◌≡◌, ◌+◌, ◌-◌, ◌<◌, ◌≤◌, inl, inr, List, [], ◌∷◌, ◌++◌, Some, None, Bool, true, false, length, take, drop}
 use Rattle.std.proofs.Common.{refl, sym, ap, ◌∙◌, subst, arith, ⊎_elim, cond}
 use Rattle.std.specs.Prelude.{slice_get, slice_index_or, ◌==◌}
 use Rattle.std.specs.Cmp.Lexicographic.{pointwise}
@@ -17,9 +17,7 @@ use Rattle.gr_scan.specs.declared.piece.Piece.{Piece}
 use Rattle.gr_scan.specs.Cuts.{IsCut, bytes_of}
 use Rattle.gr_scan.specs.CutText.{CutText, tokens_in}
 use Rattle.gr_scan.specs.Pieces.{IsPiece}
-use Rattle.gr_scan.specs.Spans.{CoversFrom}
 use Rattle.gr_scan.specs.TokenValues.{IsStringClass}
-use Rattle.gr_scan.specs.Tokens.{tokens_of}
 use Rattle.gr_scan.proofs.SpanLemmas.{covers_at, cut_covers}
 use Rattle.gr_quoted.specs.Literals.{piece_at}
 use Rattle.gr_tree.specs.declared.syntax.Kind.{Kind}
@@ -28,13 +26,13 @@ use Rattle.gr_tree.specs.declared.syntax.Token.{Token}
 use Rattle.gr_tree.specs.Flatten.{flatten, sign}
 use Rattle.gr_tree.specs.Kinds.{kind_of, kind_of_keyword, kind_of_operator, kinds_from, kinds_of}
 use Rattle.gr_tree.specs.SourceFile.{IsSourceFile, SourceFile, offset_at, offset_of}
-use Rattle.gr_tree.specs.Tree.{FileTree, ImportTree}
+use Rattle.gr_tree.specs.Tree.{ImportTree}
 use Rattle.gr_imports.specs.Files.{imports_in}
 use Rattle.gr_recut.proofs.Spelled.{held_at}
 use Rattle.gr_recut.proofs.Tokens.{each_in}
 use Rattle.gr_recut.proofs.Trees.{each_token}
 use Rattle.gr_named_import.specs.Around.{AroundImport, bare_import, file_with}
-use Rattle.gr_named_import.specs.Named.{MayPut, NamePut, before_put, literal_piece}
+use Rattle.gr_named_import.specs.Named.{NamePut, before_put, literal_piece}
 use Rattle.gr_named_import.specs.Put.{IsNoWord, NoWordEndsAt}
 use Rattle.gr_named_import.proofs.NamedTree.{NumberedFrom, bare_tokens, file_split, kinds_numbered, left, numbered_behind, right}
 use Rattle.gr_gained.specs.Gained.{MayGain}
@@ -147,17 +145,13 @@ kind_at f number a is tree =
     let size : number ≡ length (left a) = omega (arith, place) in
     (λ j. slice_get (kinds j) (size j)) ∙ seam (left a) (right a) (sign kind.Text number)
 
-pub gains : (f : SourceFile) (i : ImportTree) (name : List ℕ) (blank_first : Bool) → IsSourceFile f → Contains (imports_in f.tree) i → i.name ≡ None →
-    IsPiece class.Name name → (blank_first ≡ false → NoWordEndsAt (offset_of f i.path) f.cut.pieces) → MayGain f i.path name blank_first
-gains f i name blank_first is has none is_word apart =
-    let stands = import_stands f.tree i has in
-    let tree : f.tree ≡ file_with (bare_import i.path) stands.0 = stands.1 ∙ ap (λ (x : ImportTree). file_with x stands.0) (bare i none) in
-    let token = token_of 0 f.cut.text (tokens_in f.cut) i.path (sign kind.Text i.path) (kind_at f i.path stands.0 is tree) in
-    let q : Piece = token.piece in
-    let string : IsStringClass q.class = string_class q.class (bytes_of f.cut.text q) token.is in
-    let in_pieces = among_pieces f.cut i.path q token.at string in
-    let split = split_at f.cut.pieces q in_pieces.0 in_pieces.1 in_pieces.2 in
-    let held = held_in f.cut.text f.cut.pieces q is.is_cut in_pieces in
+-- the text and the tree around it, by its piece
+
+gains_by : (f : SourceFile) (number : ℕ) (a : AroundImport) (name : List ℕ) (blank_first : Bool) (q : Piece) → Split f.cut.pieces q →
+    IsHeld f.cut.text q → IsCut f.cut.text f.cut.pieces → slice_get (tokens_in f.cut) number ≡ Some q → IsStringClass q.class →
+    f.tree ≡ file_with (bare_import number) a → IsPiece class.Name name →
+    (blank_first ≡ false → NoWordEndsAt (offset_of f number) f.cut.pieces) → MayGain f number name blank_first
+gains_by f number a name blank_first q split held cut at string tree is_word apart =
     let put : NamePut = record {
       front = held.front;
       literal = bytes_of f.cut.text q;
@@ -168,25 +162,37 @@ gains f i name blank_first is has none is_word apart =
       blank_first = blank_first;
       name = name;
     } in
-    let pieces : f.cut.pieces ≡ split.before ++ literal_piece put ∷ split.after = split.is ∙ ap (λ x. split.before ++ x ∷ split.after) (sym held.piece) in
-    let text : f.cut.text ≡ held.front ++ (bytes_of f.cut.text q ++ held.rest) = held.is in
-    let cut : f.cut ≡ before_put put = λ j. record { text = text j; pieces = pieces j } in
-    let begins : offset_of f i.path ≡ length held.front = ap (offset_at f.cut.text) token.at ∙ sym held.begins in
+    let pieces : f.cut.pieces ≡ (before_put put).pieces = split.is ∙ ap (λ (x : Piece). split.before ++ x ∷ split.after) (sym held.piece) in
+    let text : f.cut.text ≡ (before_put put).text = held.is in
+    let same : f.cut ≡ before_put put = λ j. record { text = text j; pieces = pieces j } in
+    let begins : offset_of f number ≡ length held.front = ap (offset_at f.cut.text) at ∙ sym held.begins in
+    let P : Piece → Type 0 = λ p. p.span.end ≡ length held.front → IsNoWord p.class in
     record {
       put = put;
-      around = stands.0;
+      around = a;
       may = record {
         is_name = is_word;
         is_string = string;
         apart = λ joined.
-            let P : Piece → Type 0 = λ p. p.span.end ≡ length held.front → IsNoWord p.class in
             let all = recursion_from_All P f.cut.pieces (subst (λ (n : ℕ). NoWordEndsAt n f.cut.pieces) begins (apart joined)) in
-            All-from_recursion P split.before (first_all P split.before (literal_piece put ∷ split.after) (subst (AllByRecursion P) pieces all));
-        is_cut = subst (λ (c : CutText). IsCut c.text c.pieces) cut is.is_cut;
+            All-from_recursion P split.before (first_all P split.before (q ∷ split.after) (subst (AllByRecursion P) split.is all));
+        is_cut = subst (λ (c : CutText). IsCut c.text c.pieces) same cut;
       };
       named = refl;
       blank = refl;
-      cut_is = cut;
+      cut_is = same;
       tree_is = tree;
-      literal = subst (λ (c : CutText). slice_get (tokens_in c) i.path ≡ Some (literal_piece put)) cut (token.at ∙ ap Some (sym held.piece));
+      literal = subst (λ (c : CutText). slice_get (tokens_in c) number ≡ Some (literal_piece put)) same (at ∙ ap Some (sym held.piece));
     }
+
+pub gains : (f : SourceFile) (i : ImportTree) (name : List ℕ) (blank_first : Bool) → IsSourceFile f → Contains (imports_in f.tree) i → i.name ≡ None →
+    IsPiece class.Name name → (blank_first ≡ false → NoWordEndsAt (offset_of f i.path) f.cut.pieces) → MayGain f i.path name blank_first
+gains f i name blank_first is has none is_word apart =
+    let stands = import_stands f.tree i has in
+    let tree : f.tree ≡ file_with (bare_import i.path) stands.0 = stands.1 ∙ ap (λ (x : ImportTree). file_with x stands.0) (bare i none) in
+    let token = token_of 0 f.cut.text (tokens_in f.cut) i.path (sign kind.Text i.path) (kind_at f i.path stands.0 is tree) in
+    let q : Piece = token.piece in
+    let string : IsStringClass q.class = string_class q.class (bytes_of f.cut.text q) token.is in
+    let in_pieces = among_pieces f.cut i.path q token.at string in
+    gains_by f i.path stands.0 name blank_first q (split_at f.cut.pieces q in_pieces.0 in_pieces.1 in_pieces.2)
+    (held_in f.cut.text f.cut.pieces q is.is_cut in_pieces) is.is_cut token.at string tree is_word apart

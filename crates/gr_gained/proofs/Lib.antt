@@ -5,6 +5,7 @@ pub mod Examples
 pub mod Finding
 pub mod Laying
 pub mod Packages
+pub mod Renamed
 pub mod Sites
 pub mod Spelling
 pub mod Standing

@@ -13,6 +13,7 @@ ghost use Rattle.gr_tree.specs.SourceFile.{IsSourceFile, SourceFile, offset_of};
 ghost use Rattle.gr_tree.specs.Tree.{FileTree, ImportTree};
 ghost use Rattle.gr_tree.specs.WellFormed.{IsTreeOf};
 ghost use Rattle.gr_imports.specs.Files.{imports_in};
+ghost use Rattle.gr_rescoped.specs.Renaming.{HasNoConflict, Renames};
 ghost use Rattle.gr_named_import.specs.Around.{AroundImport, bare_import, file_with, from_on};
 ghost use Rattle.gr_named_import.specs.Named.{MayPut, NamePut, after_put, before_put, literal_piece};
 ghost use Rattle.gr_named_import.specs.Put.{NoWordEndsAt};
@@ -74,10 +75,9 @@ pub fn declaration_moves_to_the_name()
         HasGained i (unnamed_site i) at (named_sites names old) (named_sites later new) }
 {}
 
-/// All bindings stay: whatever identifiers are called, one of the old ones is bound to another exactly if it is in the new place, under its
-/// new number, where they are called the same. The literal is bound to nothing, and nothing to it. So where the import gains the name that
-/// it declared before, nothing changes; where it gains another, all that is bound to it has to be called so too, and what that changes is
-/// what a rename of the import changes on the old scopes.
+/// All bindings stay. Take any names for the identifiers of the new package, and let the old ones be called as those at their new numbers:
+/// then one is bound to another in the old package exactly if it is in the new one. The literal is bound to nothing, and nothing to it. All
+/// but the import are called as before.
 pub fn bindings_stay_where_an_import_gains_a_name()
     ensures bound { (i : Gain) (called : List ℕ) (at : ℕ) (old new : List Site) → HasGained i (import_site i called) at old new →
         (later : Names) (u d : ℕ) → IsBoundTo (sites_layout old) (λ x. later (from_on (suc at) x)) u d ↔
@@ -90,4 +90,14 @@ pub fn bindings_stay_where_an_import_gains_a_name()
         (d : ℕ) → (d ≡ at → ⊥) → sites_names new (from_on (suc at) d) ≡ sites_names old d }
     ensures import_name { (i : Gain) (called : List ℕ) (at : ℕ) (old new : List Site) → HasGained i (import_site i called) at old new →
         sites_names new (from_on (suc at) at) ≡ i.name }
+{}
+
+/// Where an import without a name gains another name than it declared, and all that was bound to it is called so too, each identifier stays
+/// bound to its declaration exactly if the old names tell no conflict of that rename on the old scopes.
+pub fn imports_gain_other_names_without_conflicts()
+    ensures { (i : Gain) (called : List ℕ) (at : ℕ) (old new : List Site) → HasGained i (import_site i called) at old new → (later : Names) →
+        Renames (sites_layout old) (sites_names old) at i.name (λ x. later (from_on (suc at) x)) →
+        ((u d : ℕ) → IsBoundTo (sites_layout old) (sites_names old) u d →
+        IsBoundTo (sites_layout new) later (from_on (suc at) u) (from_on (suc at) d)) ↔
+        HasNoConflict (sites_layout old) (sites_names old) at i.name }
 {}
