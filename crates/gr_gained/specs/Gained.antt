@@ -1,5 +1,6 @@
 -- The identifiers of a package in which an import without a name gains one.
 use Rattle.std.specs.Prelude.{◌≡◌, ℕ, ◌+◌, List, ◌∷◌, ◌++◌, Option, Some, Bool, true, cond, length, map, nat_eq, slice_get}
+use Rattle.gr_edit.specs.declared.edit.Edit.{Edit}
 use Rattle.gr_scan.specs.CutText.{CutText, tokens_in}
 use Rattle.gr_scope.specs.declared.model.Block.TheVariants.{File}
 use Rattle.gr_scope.specs.declared.model.Role.TheVariants.{Declaring, NotLexical}
@@ -83,3 +84,7 @@ pub record MayGain (f : SourceFile) (number : ℕ) (name : List ℕ) (blank_firs
   pub cut_is : f.cut ≡ before_put put
   pub tree_is : f.tree ≡ file_with (bare_import number) around
   pub literal : slice_get (tokens_in (before_put put)) number ≡ Some (literal_piece put)
+
+-- the edit that puts bytes at an offset, and takes none away
+abbrev pub inserted : ℕ → List ℕ → Edit
+inserted at bytes = record { span = record { start = at; end = at }; text = bytes }
