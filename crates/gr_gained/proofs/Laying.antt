@@ -1,5 +1,5 @@
 -- The identifiers of a package in which imports without a name declare their packages' names, where one of these gains a name of its own.
-use Rattle.std.proofs.Common.{ℕ, suc, ◌≡◌, ◌+◌, List, [], ◌∷◌, ◌++◌, Option, Some, None, Bool, true, false, length, map, refl, sym, ap, ◌∙◌, subst}
+use Rattle.std.proofs.Common.{ℕ, suc, ◌≡◌, List, [], ◌∷◌, ◌++◌, Option, Some, None, Bool, true, false, length, map, refl, sym, ap, ◌∙◌, subst}
 use Rattle.gr_scope.specs.declared.model.Role.{Role}
 use Rattle.gr_scope.specs.declared.model.Role.TheVariants.{Use, Declaring, LeftName, Implied, NotLexical}
 use Rattle.gr_scope.specs.Moves.{moved_role}

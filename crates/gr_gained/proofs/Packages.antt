@@ -114,7 +114,8 @@ unfolding flatten head_kind
 no_first p (suc k) a may at tree = omega arith
 no_first p zero a may at tree =
     let found = first_kind (before_put p).text (tokens_in (before_put p)) (literal_piece p) at in
-    let wrong : kind.Package ≡ kind.Text = ap head_kind tree.written ∙ found ∙ text_kind p.class (bytes_of (before_put p).text (literal_piece p)) may.is_string in
+    let wrong : kind.Package ≡ kind.Text = ap head_kind tree.written ∙ found ∙
+    text_kind p.class (bytes_of (before_put p).text (literal_piece p)) may.is_string in
     cc
 
 -- the package

@@ -11,7 +11,8 @@ use Rattle.gr_scope.specs.StatementSites.{separated_sites, group_sites}
 use Rattle.gr_scope.specs.FileSites.{spec_sites, import_sites, imports_sites, decl_sites, file_sites}
 use Rattle.gr_tree.specs.Tree.{ImportTree, ImportsTree}
 use Rattle.gr_renumbered.specs.Renumbered.{import_by, imports_by, decl_by}
-use Rattle.gr_named_import.specs.Around.{AroundImport, AroundItem, alone, among, around_by, bare_import, file_with, from_on, group_with, imports_with, item_around_by}
+use Rattle.gr_named_import.specs.Around.{AroundImport, AroundItem, alone, among, around_by, bare_import, file_with, from_on, group_with, imports_with}
+use Rattle.gr_named_import.specs.Around.{item_around_by}
 use Rattle.gr_named_import.specs.Around.{named_import}
 use Rattle.gr_named_import.specs.Named.{MayPut, NamePut, before_put, literal_piece}
 use Rattle.gr_renumbered_sites.specs.MovedSites.{moved_site}

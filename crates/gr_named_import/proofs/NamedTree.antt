@@ -69,7 +69,7 @@ imports_split i a rest =
     ∙ ap (λ l. l ++ more) (group_split i a.item) ∙ append_assoc (left_item a.item) (import_tokens i ++ right_item a.item) more
     ∙ ap (λ l. left_item a.item ++ l) (append_assoc (import_tokens i) (right_item a.item) more))
 
-file_split : (i : ImportTree) (a : AroundImport) → flatten (file_with i a) ≡ left a ++ (import_tokens i ++ right a)
+pub file_split : (i : ImportTree) (a : AroundImport) → flatten (file_with i a) ≡ left a ++ (import_tokens i ++ right a)
 unfolding flatten
 file_split i a =
     let front : List Token = all_tokens imports_tokens a.before in
@@ -114,11 +114,11 @@ module _ (g : ℕ → ℕ) where
 
 -- the tokens of a file are numbered in their order
 
-abbrev NumberedFrom : ℕ → List Token → Type 0
+abbrev pub NumberedFrom : ℕ → List Token → Type 0
 NumberedFrom n [] = Unit {0}
 NumberedFrom n (t ∷ ts) = (t.place ≡ n) × NumberedFrom (n + 1) ts
 
-kinds_numbered : (n : ℕ) (text : List ℕ) (ts : List Piece) → NumberedFrom n (kinds_from n text ts)
+pub kinds_numbered : (n : ℕ) (text : List ℕ) (ts : List Piece) → NumberedFrom n (kinds_from n text ts)
 unfolding kinds_from
 kinds_numbered n text [] = tt
 kinds_numbered n text (t ∷ ts) = (refl, kinds_numbered (n + 1) text ts)
@@ -127,7 +127,7 @@ numbered_front : (n : ℕ) (us vs : List Token) → NumberedFrom n (us ++ vs) �
 numbered_front n [] vs all = tt
 numbered_front n (u ∷ us) vs all = (all.0, numbered_front (n + 1) us vs all.1)
 
-numbered_behind : (n : ℕ) (us vs : List Token) → NumberedFrom n (us ++ vs) → NumberedFrom (n + length us) vs
+pub numbered_behind : (n : ℕ) (us vs : List Token) → NumberedFrom n (us ++ vs) → NumberedFrom (n + length us) vs
 numbered_behind n [] vs all = let same : n ≡ n + 0 = omega arith in subst (λ (k : ℕ). NumberedFrom k vs) same all
 numbered_behind n (u ∷ us) vs all =
     let same : n + 1 + length us ≡ n + length (u ∷ us) = omega arith in
@@ -201,7 +201,7 @@ named_well g i j a w =
 
 -- both
 
-bare_tokens : (number : ℕ) → import_tokens (bare_import number) ≡ sign kind.Text number ∷ []
+pub bare_tokens : (number : ℕ) → import_tokens (bare_import number) ≡ sign kind.Text number ∷ []
 unfolding import_tokens
 bare_tokens number = refl
 

@@ -31,7 +31,7 @@ range_joined text a b c one two =
     let behind : drop (b - a) (drop a text) ≡ drop b text = drop-drop (b - a) a text ∙ ap (λ k. drop k text) place in
     ap (λ l. slice_range text a b ++ take (c - b) l) (sym behind) ∙ sym (take-add (b - a) (c - b) (drop a text)) ∙ ap (λ k. take k (drop a text)) size
 
-edited_split : (edits : List Edit) (text : List ℕ) (a b : ℕ) → a ≤ b → AreInOrder b edits →
+pub edited_split : (edits : List Edit) (text : List ℕ) (a b : ℕ) → a ≤ b → AreInOrder b edits →
     edited_from a edits text ≡ slice_range text a b ++ edited_from b edits text
 edited_split [] text a b le order = sym (range_then_rest text a b le)
 edited_split (e ∷ edits) text a b le order =
