@@ -25,6 +25,7 @@ pub mod StatementParts
 pub mod FileParts
 pub mod Declared
 pub mod Tables
+pub mod TokenRows
 pub mod NamedSites
 pub mod BoundImports
 pub mod KeptBindings

@@ -15,5 +15,6 @@ pub mod Parsed
 pub mod Scoped
 pub mod Regions
 pub mod Chains
+pub mod ByToken
 pub mod Known
 pub mod Named

@@ -1,6 +1,6 @@
 //! Which declarations count, and to which an identifier is bound.
-ghost use Rattle.std.specs.Prelude.{◌≡◌, ◌<◌, ◌↔◌, length, IsTrue};
-ghost use Rattle.gr_scope.specs.Bindings.{Counts, IsUse, is_use, is_implied, scope_of};
+ghost use Rattle.std.specs.Prelude.{◌≡◌, ◌<◌, ◌↔◌, ◌⊎◌, true, length, IsTrue};
+ghost use Rattle.gr_scope.specs.Bindings.{Counts, IsUse, is_use, is_left_name, is_implied, scope_of};
 ghost use Rattle.gr_scope.specs.Chains.{AreAllLinks};
 ghost use Rattle.gr_scope.specs.Known.{AreDeclared, IsBinding};
 ghost use Rattle.gr_scope.specs.Leading.{Leads, GivesWay, IsInPackage};
@@ -25,6 +25,13 @@ impl Role {
             | Role::Implied(_, _)
             | Role::NotLexical(_) => false,
         }
+    }
+
+    /// Whether an identifier of this role is a lexical use, if it is known whether it declares.
+    pub(crate) fn is_use_unless(self, declares: bool) -> bool
+        ensures { IsTrue result ↔ (is_use self ≡ true) ⊎ ((is_left_name self ≡ true) × (IsTrue declares → ⊥)) }
+    {
+        self.is_use() || (self.is_left_name() && !declares)
     }
 
     pub fn is_implied(self) -> bool
@@ -87,13 +94,12 @@ fn counts<'a>(identifiers: &[Identifier<'a>], links: &Links<'a>, d: usize) -> bo
 }
 
 /// Whether an identifier is a lexical use.
-pub(crate) fn is_use(identifiers: &[Identifier], declared: &Declared, d: usize) -> bool
+fn is_use(identifiers: &[Identifier], declared: &Declared, d: usize) -> bool
     requires in_range { d < length identifiers.now }
     requires declared { AreDeclared identifiers.now declared.now.links.last declared.now.links.previous.items declared.now.declaring.items }
     ensures { IsTrue result ↔ IsUse (layout_of identifiers.now) (names_of identifiers.now) d }
 {
-    let role = role_at(identifiers, d);
-    role.is_use() || (role.is_left_name() && !declared.declaring[d])
+    role_at(identifiers, d).is_use_unless(declared.declaring[d])
 }
 
 /// The declaration to which an identifier is bound.

@@ -1,11 +1,13 @@
 //! Scopes and lexical bindings of a package.
 #![tactic(auto)]
 
+pub mod by_token;
 mod counting;
 mod declarations;
 pub mod declare;
 mod declaring;
 mod expressions;
+pub mod identifiers;
 mod known;
 pub mod law;
 mod links;
