@@ -36,14 +36,14 @@ pub record AreBindings (l : Layout) (names : Names) (n : ℕ) (bindings : List (
   pub each : (u : ℕ) (x : Option ℕ) → u < n → IsBinding l names u (slice_index_or bindings u x)
 
 -- which identifiers declare, and to what each is bound
-pub record AreBound (l : Layout) (names : Names) (n : ℕ) (declaring : List Bool) (bindings : List (Option ℕ)) : Type 0 where
+pub record AreBound (l : Layout) (names : Names) (n : ℕ) (declaring : List Bool) (bound : List (Option ℕ)) : Type 0 where
   pub marks : AreMarks (Declares l names) n declaring
-  pub bindings : AreBindings l names n bindings
+  pub bindings : AreBindings l names n bound
 
 -- what is kept of the identifiers of a package: which of them declare, to what each is bound, and which one stands at a token
-pub record AreKnown (p : ScopedPackage) (declaring : List Bool) (bindings : List (Option ℕ)) (numbers : Numbers) : Type 0 where
-  pub bound : AreBound (layout_in p) (names_in p) (length p.sites) declaring bindings
-  pub numbers : AreIdentifiers (layout_in p) (length p.sites) numbers
+pub record AreKnown (p : ScopedPackage) (declaring : List Bool) (bound : List (Option ℕ)) (noted : Numbers) : Type 0 where
+  pub known : AreBound (layout_in p) (names_in p) (length p.sites) declaring bound
+  pub numbers : AreIdentifiers (layout_in p) (length p.sites) noted
 
 -- identifiers that were taken from a package's files
 pub record AreLaidOut (xs : List Identifier) : Type 0 where
