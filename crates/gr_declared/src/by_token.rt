@@ -1,11 +1,21 @@
 //! Numbers that stand at tokens of files: found again in one step.
 ghost use Rattle.std.specs.Prelude.{length, IfOk};
-ghost use Rattle.gr_declared.specs.ByToken.{number_at, AreRanksOf};
+ghost use Rattle.gr_scope.specs.Scoped.{layout_in};
+ghost use Rattle.gr_declared.specs.ByToken.{number_at, AreIdentifiers, AreRanksOf};
 
-pub use gr_scope::by_token::{ByToken, identifiers_by_token};
+pub use gr_scope::by_token::ByToken;
 
+use gr_scope::by_token;
 use gr_scope::model::Position;
+use gr_scope::table::ScopeTable;
 use std::alloc::{AllocError, Global};
+
+/// The identifier at each token of a package.
+pub fn identifiers_by_token(alloc: Global, table: &ScopeTable) -> Result<ByToken, AllocError>
+    ensures { IfOk result (λ found. AreIdentifiers (layout_in table.now) (length table.now.sites) (number_at found)) }
+{
+    by_token::identifiers_by_token(alloc, table.identifiers())
+}
 
 /// The ranks of a list of places, by their tokens: the first of each place.
 pub fn ranks_by_token(alloc: Global, places: &[Position]) -> Result<ByToken, AllocError>

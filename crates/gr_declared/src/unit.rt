@@ -93,7 +93,7 @@ impl<'a> Index<'a> {
         Ok(Index {
             declared,
             ranks,
-            identifiers: identifiers_by_token(alloc, unit.table.identifiers())?,
+            identifiers: identifiers_by_token(alloc, unit.table)?,
             paths: import_paths(alloc, unit)?,
         })
     }

@@ -8,12 +8,12 @@ pub new-requires-clause-well_formed : goal.new-requires-clause-well_formed
 new-requires-clause-well_formed c =
     let names = name_given c.args.names.now in
     (named_list_well_formed names c.in_ok-list.list.items c.args.plain.now.sites
-    (c.in_ok-list.ensures ∙ ap (named_sites names) c.as_slice.ensures)
+    (c.in_ok-list.ensures ∙ ap (named_sites names) c.as_slice.ensures.sites)
     c.is_well_formed.ensures c.imports_are_level.ensures).0
 
 pub new-requires-clause-imports : goal.new-requires-clause-imports
 new-requires-clause-imports c =
     let names = name_given c.args.names.now in
     (named_list_well_formed names c.in_ok-list.list.items c.args.plain.now.sites
-    (c.in_ok-list.ensures ∙ ap (named_sites names) c.as_slice.ensures)
+    (c.in_ok-list.ensures ∙ ap (named_sites names) c.as_slice.ensures.sites)
     c.is_well_formed.ensures c.imports_are_level.ensures).1
