@@ -9,12 +9,12 @@ use Rattle.gr_scope.specs.Table.{StandsAt}
 use Rattle.gr_scope.specs.ByToken.{Numbers, Notes, first, later, NotesIdentifier, stands, stands_nowhere, IsFirstBelow, AreIdentifiers, AreRanksOf}
 
 -- one more number of which P does not hold
-widen : (P : ℕ → Type 0) (n : ℕ) (o : Option ℕ) → (P n → ⊥) → IsFirstBelow P n o → IsFirstBelow P (n + 1) o
+pub widen : (P : ℕ → Type 0) (n : ℕ) (o : Option ℕ) → (P n → ⊥) → IsFirstBelow P n o → IsFirstBelow P (n + 1) o
 widen P n None none h = λ u lt p. elim (cases_lt u n) [ inl below ↦ h u below p | inr ge ↦ let e : u ≡ n = omega arith in none (subst P e p) ]
 widen P n (Some u) none h = record { within = let lt : u < n = h.within in omega arith; holds = h.holds; first = h.first }
 
 -- one more number, where an earlier one is found
-widen_found : (P : ℕ → Type 0) (n u : ℕ) → IsFirstBelow P n (Some u) → IsFirstBelow P (n + 1) (Some u)
+pub widen_found : (P : ℕ → Type 0) (n u : ℕ) → IsFirstBelow P n (Some u) → IsFirstBelow P (n + 1) (Some u)
 widen_found P n u h = record { within = let lt : u < n = h.within in omega arith; holds = h.holds; first = h.first }
 
 -- the first number of which P holds

@@ -5,7 +5,8 @@ use Rattle.gr_scope.specs.Bindings.{Layout, Names, Declares, IsBoundTo}
 use Rattle.gr_scope.specs.Chains.{AreLinks, AreAllLinks}
 use Rattle.gr_scope.specs.ByToken.{Numbers, AreIdentifiers}
 use Rattle.gr_scope.specs.Scoped.{ScopedPackage, layout_in, names_in}
-use Rattle.gr_scope.specs.Table.{layout_of, names_of}
+use Rattle.gr_scope.specs.Numbering.{told}
+use Rattle.gr_scope.specs.Table.{layout_of}
 use Rattle.gr_scope.specs.WellFormed.{WellFormed, AreImportsLevel}
 use Rattle.gr_scope.specs.declared.model.Identifier.{Identifier}
 use Rattle.gr_scope.specs.declared.links.Key.{Key}
@@ -15,16 +16,18 @@ pub record AreMarks (P : ℕ → Type 0) (n : ℕ) (marks : List Bool) : Type 0 
   pub sized : length marks ≡ n
   pub exact : (d : ℕ) (x : Bool) → d < n → IsTrue (slice_index_or marks d x) ↔ P d
 
--- the links of so many identifiers, and which of them declare
-pub record AreFirst {S : Type 0} (xs : List Identifier) (n : ℕ) (last : IndexMap Key ℕ S) (previous : List (Option ℕ)) (declaring : List Bool) : Type 0 where
-  pub links : AreLinks (layout_of xs) (names_of xs) last previous
+-- the links of so many identifiers, and which of them declare, where names are told by their numbers
+pub record AreFirst {S : Type 0} (xs : List Identifier) (numbers : List ℕ) (n : ℕ) (last : IndexMap Key ℕ S) (previous : List (Option ℕ))
+    (declaring : List Bool) : Type 0 where
+  pub links : AreLinks (layout_of xs) (told numbers) last previous
   pub sized : length previous ≡ n
-  pub marks : AreMarks (Declares (layout_of xs) (names_of xs)) n declaring
+  pub marks : AreMarks (Declares (layout_of xs) (told numbers)) n declaring
 
 -- those of all identifiers
-pub record AreDeclared {S : Type 0} (xs : List Identifier) (last : IndexMap Key ℕ S) (previous : List (Option ℕ)) (declaring : List Bool) : Type 0 where
-  pub links : AreAllLinks xs last previous
-  pub marks : AreMarks (Declares (layout_of xs) (names_of xs)) (length xs) declaring
+pub record AreDeclared {S : Type 0} (xs : List Identifier) (numbers : List ℕ) (last : IndexMap Key ℕ S) (previous : List (Option ℕ)) (declaring : List Bool)
+    : Type 0 where
+  pub links : AreAllLinks xs (told numbers) last previous
+  pub marks : AreMarks (Declares (layout_of xs) (told numbers)) (length xs) declaring
 
 -- the declaration to which u is bound, or none
 abbrev pub IsBinding : Layout → Names → ℕ → Option ℕ → Type 0

@@ -16,5 +16,6 @@ pub mod Scoped
 pub mod Regions
 pub mod Chains
 pub mod ByToken
+pub mod Numbering
 pub mod Known
 pub mod Named

@@ -3,6 +3,7 @@
 ghost use Rattle.std.specs.Prelude.{◌<◌, length, IfOk};
 ghost use Rattle.gr_scope.specs.ByToken.{number_at};
 ghost use Rattle.gr_scope.specs.Known.{AreBindings, AreBound, AreDeclared, AreKnown};
+ghost use Rattle.gr_scope.specs.Numbering.{told, AreInner};
 ghost use Rattle.gr_scope.specs.Table.{layout_of, names_of};
 ghost use Rattle.gr_scope.specs.WellFormed.{WellFormed};
 
@@ -11,6 +12,7 @@ use crate::counting::bound_to;
 use crate::declaring::{Declared, declared_of};
 use crate::identifiers::Identifiers;
 use crate::model::Identifier;
+use crate::numbering::numbers_of;
 use crate::table::DeclId;
 use std::alloc::{AllocError, Global};
 
@@ -30,14 +32,15 @@ struct Bound {
 }
 
 /// The declaration to which each identifier is bound.
-fn bindings_of<'a>(
+fn bindings_of(
     alloc: Global,
-    identifiers: &[Identifier<'a>],
-    declared: &Declared<'a>,
+    identifiers: &[Identifier],
+    declared: &Declared,
 ) -> Result<Vec<Option<DeclId>>, AllocError>
     requires well_formed { WellFormed (layout_of identifiers.now) }
-    requires declared { AreDeclared identifiers.now declared.now.links.last declared.now.links.previous.items declared.now.declaring.items }
-    ensures { IfOk result (λ found. AreBindings (layout_of identifiers.now) (names_of identifiers.now) (length identifiers.now) found.items) }
+    requires inner { AreInner (layout_of identifiers.now) (length identifiers.now) declared.now.links.names.items declared.now.links.inner.items }
+    requires declared { AreDeclared identifiers.now declared.now.links.names.items declared.now.links.last declared.now.links.previous.items declared.now.declaring.items }
+    ensures { IfOk result (λ found. AreBindings (layout_of identifiers.now) (told declared.now.links.names.items) (length identifiers.now) found.items) }
 {
     let mut found = Vec::new(alloc);
     for u in 0..identifiers.len() {
@@ -46,17 +49,30 @@ fn bindings_of<'a>(
     Ok(found)
 }
 
-/// Which identifiers declare, and to what each is bound.
-fn bound_of(alloc: Global, identifiers: &[Identifier]) -> Result<Bound, AllocError>
+/// Which identifiers declare, and to what each is bound, where their names are told by numbers.
+fn told_bound(
+    alloc: Global,
+    identifiers: &[Identifier],
+    names: Vec<usize>,
+) -> Result<Bound, AllocError>
     requires { WellFormed (layout_of identifiers.now) }
-    ensures { IfOk result (λ bound. AreBound (layout_of identifiers.now) (names_of identifiers.now) (length identifiers.now) bound.declaring.items bound.bindings.items) }
+    ensures { IfOk result (λ bound. AreBound (layout_of identifiers.now) (told names.items) (length identifiers.now) bound.declaring.items bound.bindings.items) }
 {
-    let declared = declared_of(alloc, identifiers)?;
+    let declared = declared_of(alloc, identifiers, names)?;
     let bindings = bindings_of(alloc, identifiers, &declared)?;
     Ok(Bound {
         declaring: declared.declaring,
         bindings,
     })
+}
+
+/// Which identifiers declare, and to what each is bound.
+fn bound_of(alloc: Global, identifiers: &[Identifier]) -> Result<Bound, AllocError>
+    requires { WellFormed (layout_of identifiers.now) }
+    ensures { IfOk result (λ bound. AreBound (layout_of identifiers.now) (names_of identifiers.now) (length identifiers.now) bound.declaring.items bound.bindings.items) }
+{
+    let names = numbers_of(alloc, identifiers)?;
+    told_bound(alloc, identifiers, names)
 }
 
 /// What is kept of a package's identifiers.

@@ -14,6 +14,7 @@ mod links;
 pub mod model;
 pub mod named;
 mod nearest;
+mod numbering;
 mod region;
 mod resolve;
 mod simple;
