@@ -3,9 +3,8 @@ ghost use Rattle.std.specs.Prelude.{length, IfOk};
 ghost use Rattle.gr_scope.specs.Scoped.{layout_in};
 ghost use Rattle.gr_declared.specs.ByToken.{number_at, AreIdentifiers, AreRanksOf};
 
-pub use gr_scope::by_token::ByToken;
-
 use gr_scope::by_token;
+pub use gr_scope::by_token::ByToken;
 use gr_scope::model::Position;
 use gr_scope::table::ScopeTable;
 use std::alloc::{AllocError, Global};
