@@ -2,7 +2,6 @@
 pub mod Appending
 pub mod DeclaredParts
 pub mod AddingDeclared
-pub mod TokenRows
 pub mod Ranking
 pub mod ByteKeys
 pub mod Paths

@@ -12,7 +12,7 @@ use Rattle.gr_scope.specs.Table.{StandsAt}
 use Rattle.gr_declared.specs.Package.{IsRanked}
 use Rattle.gr_declared.specs.ByToken.{Numbers, IsFirstBelow, AreRanksOf, number_if, number_of, number_in}
 use Rattle.gr_declared.specs.RanksView.{IsRankOf, AreRanks}
-use Rattle.gr_declared.proofs.TokenRows.{place_or}
+use Rattle.gr_scope.proofs.TokenRows.{place_or}
 
 -- where d stands
 abbrev own_place : Layout → ℕ → Position

@@ -1,6 +1,6 @@
 -- The definitions of this crate.
 pub mod Appending
-pub mod ByToken
+pub use Rattle.gr_scope.specs.ByToken
 pub mod Spread
 pub mod Package
 pub mod DeclaredView

@@ -5,7 +5,8 @@ ghost use Rattle.gr_scope.specs.Named.{is_unnamed_import, name_value, name_given
 ghost use Rattle.gr_imports.specs.Laid.{laid_in};
 ghost use Rattle.gr_imports.specs.PackageNames.{IsPackageName, ArePackageNames, IsLaidOver};
 
-use crate::paths::path_of;
+use crate::paths::path_among;
+use gr_scope::identifiers::Identifiers;
 use gr_scope::named::name_imports;
 use gr_scope::table::ScopeTable;
 use gr_tree::FileTree;
@@ -24,16 +25,16 @@ pub trait PackageNames {
 /// The name of the package of the path that an import names.
 fn name_at<'a, N: PackageNames>(
     alloc: Global,
-    table: &ScopeTable<'_>,
+    plain: &Identifiers<'_>,
     files: &[FileTree],
     packages: &'a N,
     u: usize,
 ) -> Result<Option<&'a [u8]>, AllocError>
-    requires { u < (laid_in table.now).size }
-    ensures { IfOk result (λ name. IsPackageName (map source_of files.now) (N.name_of packages.now) (laid_in table.now) u (name_value name)) }
+    requires { u < (laid_in plain.now).size }
+    ensures { IfOk result (λ name. IsPackageName (map source_of files.now) (N.name_of packages.now) (laid_in plain.now) u (name_value name)) }
 {
     gr_scan::laws::one_string_value();
-    match path_of(alloc, table, files, u)? {
+    match path_among(alloc, plain, files, u)? {
         None => Ok(None),
         Some(path) => Ok(packages.name(&path)),
     }
@@ -42,17 +43,17 @@ fn name_at<'a, N: PackageNames>(
 /// The name of the package of an import without a name.
 fn package_name<'a, N: PackageNames>(
     alloc: Global,
-    table: &ScopeTable<'_>,
+    plain: &Identifiers<'_>,
     files: &[FileTree],
     packages: &'a N,
     u: usize,
 ) -> Result<Option<&'a [u8]>, AllocError>
-    requires { u < (laid_in table.now).size }
-    ensures { IfOk result (λ name. is_unnamed_import ((laid_in table.now).layout.role u) ≡ true →
-        IsPackageName (map source_of files.now) (N.name_of packages.now) (laid_in table.now) u (name_value name)) }
+    requires { u < (laid_in plain.now).size }
+    ensures { IfOk result (λ name. is_unnamed_import ((laid_in plain.now).layout.role u) ≡ true →
+        IsPackageName (map source_of files.now) (N.name_of packages.now) (laid_in plain.now) u (name_value name)) }
 {
-    if table.role(u).is_unnamed_import() {
-        name_at(alloc, table, files, packages, u)
+    if plain.role(u).is_unnamed_import() {
+        name_at(alloc, plain, files, packages, u)
     } else {
         Ok(None)
     }
@@ -61,15 +62,15 @@ fn package_name<'a, N: PackageNames>(
 /// The names of the packages of the imports without a name, by their numbers.
 fn package_names<'a, N: PackageNames>(
     alloc: Global,
-    table: &ScopeTable<'_>,
+    plain: &Identifiers<'_>,
     files: &[FileTree],
     packages: &'a N,
 ) -> Result<Vec<Option<&'a [u8]>>, AllocError>
-    ensures { IfOk result (λ names. ArePackageNames (map source_of files.now) (N.name_of packages.now) (laid_in table.now) (name_given names.items)) }
+    ensures { IfOk result (λ names. ArePackageNames (map source_of files.now) (N.name_of packages.now) (laid_in plain.now) (name_given names.items)) }
 {
     let mut names = Vec::new(alloc);
-    for u in 0..table.len() {
-        names.push(package_name(alloc, table, files, packages, u)?)?;
+    for u in 0..plain.len() {
+        names.push(package_name(alloc, plain, files, packages, u)?)?;
     }
     Ok(names)
 }
@@ -78,12 +79,12 @@ fn package_names<'a, N: PackageNames>(
 /// far as that is known.
 pub fn lay_names<'a, N: PackageNames>(
     alloc: Global,
-    table: &ScopeTable<'a>,
+    plain: &Identifiers<'a>,
     files: &[FileTree],
     packages: &'a N,
 ) -> Result<ScopeTable<'a>, AllocError>
-    ensures { IfOk result (λ laid. IsLaidOver (map source_of files.now) (N.name_of packages.now) table.now laid) }
+    ensures { IfOk result (λ laid. IsLaidOver (map source_of files.now) (N.name_of packages.now) plain.now laid) }
 {
-    let names = package_names(alloc, table, files, packages)?;
-    name_imports(alloc, table, &names)
+    let names = package_names(alloc, plain, files, packages)?;
+    name_imports(alloc, plain, &names)
 }

@@ -5,6 +5,7 @@ ghost use Rattle.gr_scope.specs.Bindings.{IsImport};
 ghost use Rattle.gr_imports.specs.Laid.{laid_in, is_literal, literal_of, IsPathOf};
 
 use crate::files::literal;
+use gr_scope::identifiers::Identifiers;
 use gr_scope::model::{Block, Purpose, Role};
 use gr_scope::table::ScopeTable;
 use gr_tree::FileTree;
@@ -32,16 +33,48 @@ fn is_literal(role: Role) -> bool
 }
 
 /// The identifier that stands for an import's literal: the next one where the import has a name, else itself.
+fn literal_among(identifiers: &Identifiers, d: usize) -> usize
+    requires { d < (laid_in identifiers.now).size }
+    ensures literal { result ≡ literal_of (laid_in identifiers.now).layout d }
+    ensures in_range { result < (laid_in identifiers.now).size }
+{
+    if 1 < identifiers.len() - d && is_literal(identifiers.role(d + 1)) {
+        d + 1
+    } else {
+        d
+    }
+}
+
+/// The path that an import names, in a package whose bindings are not known.
+pub(crate) fn path_among(
+    alloc: Global,
+    identifiers: &Identifiers,
+    files: &[FileTree],
+    d: usize,
+) -> Result<Option<Vec<u8>>, AllocError>
+    requires { d < (laid_in identifiers.now).size }
+    ensures { IfOk result (λ path. MatchOption path ((v : List ℕ) → IsPathOf (map source_of files.now) (laid_in identifiers.now) d v → ⊥)
+        (λ v. IsPathOf (map source_of files.now) (laid_in identifiers.now) d v.items)) }
+{
+    let file = identifiers.place(d).file;
+    if file < files.len() {
+        literal(
+            alloc,
+            &files[file],
+            identifiers.place(literal_among(identifiers, d)).index,
+        )
+    } else {
+        Ok(None)
+    }
+}
+
+/// The identifier that stands for an import's literal: the next one where the import has a name, else itself.
 pub fn literal_of(table: &ScopeTable, d: usize) -> usize
     requires { d < (laid_in table.now).size }
     ensures literal { result ≡ literal_of (laid_in table.now).layout d }
     ensures in_range { result < (laid_in table.now).size }
 {
-    if 1 < table.len() - d && is_literal(table.role(d + 1)) {
-        d + 1
-    } else {
-        d
-    }
+    literal_among(table.identifiers(), d)
 }
 
 /// The path that an import names.
@@ -55,10 +88,5 @@ pub fn path_of(
     ensures { IfOk result (λ path. MatchOption path ((v : List ℕ) → IsPathOf (map source_of files.now) (laid_in table.now) d v → ⊥)
         (λ v. IsPathOf (map source_of files.now) (laid_in table.now) d v.items)) }
 {
-    let file = table.place(d).file;
-    if file < files.len() {
-        literal(alloc, &files[file], table.place(literal_of(table, d)).index)
-    } else {
-        Ok(None)
-    }
+    path_among(alloc, table.identifiers(), files, d)
 }

@@ -5,7 +5,7 @@ use Rattle.gr_scope.specs.declared.region.Region.{Region}
 use Rattle.gr_scope.specs.Bindings.{Layout, Names, MayDeclare, InScope}
 use Rattle.gr_scope.specs.Leading.{Leads}
 use Rattle.gr_scope.specs.Regions.{keys_of, region_at}
-use Rattle.gr_scope.specs.Table.{layout_of, names_of, IsCandidate, IsNearest, Precedes, TakesOver}
+use Rattle.gr_scope.specs.Table.{layout_of, IsCandidate, IsNearest, Precedes, TakesOver}
 use Rattle.std.specs.Option.{ForSome}
 use Rattle.std.proofs.lemmas.Bool.{cases_order}
 use Rattle.gr_scope.specs.Chains.{IsLinked, IsChain, IsLeft}
@@ -97,13 +97,14 @@ best_stays l nested names name R u d next (Some b) lower behind h never = (
   ],
 )
 
-pub best_start : (xs : List Identifier) (name : List ℕ) (region : Region) (u n : ℕ) (last : Option ℕ) (previous : List (Option ℕ)) → n ≡ length xs →
-    IsChain (Leads (layout_of xs) (names_of xs)) (keys_of (layout_of xs) (names_of xs)) (pair name region) n last previous →
-    BestSoFar (layout_of xs) (names_of xs) name (λ r. r ≡ region) u last None
-best_start xs name region u n last previous sized h = λ d c.
+pub best_start : (xs : List Identifier) (names : Names) (name : List ℕ) (region : Region) (u n : ℕ) (last : Option ℕ) (previous : List (Option ℕ)) →
+    n ≡ length xs →
+    IsChain (Leads (layout_of xs) names) (keys_of (layout_of xs) names) (pair name region) n last previous →
+    BestSoFar (layout_of xs) names name (λ r. r ≡ region) u last None
+best_start xs names name region u n last previous sized h = λ d c.
     let less : d < length xs = may_in_range xs d c.2.declares.may in
-    chain_left (Leads (layout_of xs) (names_of xs)) (keys_of (layout_of xs) (names_of xs)) n (pair name region) last previous h d
-    (c.2, pair_same (names_of xs d) name (region_at (layout_of xs) d) region c.0 c.3) (let within : d < n = omega arith in within)
+    chain_left (Leads (layout_of xs) names) (keys_of (layout_of xs) names) n (pair name region) last previous h d
+    (c.2, pair_same (names d) name (region_at (layout_of xs) d) region c.0 c.3) (let within : d < n = omega arith in within)
 
 pub best_next : (l : Layout) → Nested l → (names : Names) (name : List ℕ) (region : Region) (u d n : ℕ) (previous : List (Option ℕ))
     (at next x best then : Option ℕ) →
@@ -131,11 +132,11 @@ best_next l nested names name region u d n previous at next x best then linked i
     ]
 
 -- the best so far is one of the identifiers
-pub best_known : (xs : List Identifier) (name : List ℕ) (R : Region → Type 0) (u : ℕ) (at best : Option ℕ) →
-    BestSoFar (layout_of xs) (names_of xs) name R u at best →
+pub best_known : (xs : List Identifier) (names : Names) (name : List ℕ) (R : Region → Type 0) (u : ℕ) (at best : Option ℕ) →
+    BestSoFar (layout_of xs) names name R u at best →
     ForSome best (λ b. b < length xs)
-best_known xs name R u at None h = λ x e. cc
-best_known xs name R u at (Some b) h = λ x e.
+best_known xs names name R u at None h = λ x e. cc
+best_known xs names name R u at (Some b) h = λ x e.
     let same : b ≡ x = cc in
     let P : ℕ → Type 0 = λ v. v < length xs in
     subst P same (may_in_range xs b h.1.2.declares.may)

@@ -8,7 +8,7 @@ use Rattle.gr_scope.specs.declared.region.Region.TheVariants as regions
 use Rattle.std.proofs.lemmas.Bool.{cases_order}
 use Rattle.gr_scope.specs.Bindings.{Layout, Names, MayDeclare, SameBlock, InScope, BindsAt}
 use Rattle.gr_scope.specs.Regions.{Surrounds, region_of}
-use Rattle.gr_scope.specs.Table.{layout_of, names_of, IsCandidate, IsNearer, IsNearest, Precedes, TakesOver}
+use Rattle.gr_scope.specs.Table.{layout_of, IsCandidate, IsNearer, IsNearest, Precedes, TakesOver}
 use Rattle.gr_scope.specs.WellFormed.{WellFormed}
 use Rattle.gr_scope.proofs.Best.{may_in_range}
 use Rattle.gr_scope.proofs.Innermost.{precedes_trans, precedes_asym, same_not_nests, same_not_nests_back, nests_along_right, bound_of_first}
@@ -19,11 +19,11 @@ use Rattle.gr_scope.proofs.Nests.{nests}
 use Rattle.gr_scope.proofs.Uniqueness.{same_or_not}
 
 -- what is nearest is one of the identifiers
-pub nearest_known : (xs : List Identifier) (name : List ℕ) (R : Region → Type 0) (u : ℕ) (best : Option ℕ) →
-    IsNearest (layout_of xs) (IsCandidate (layout_of xs) (names_of xs) name R u) best →
+pub nearest_known : (xs : List Identifier) (names : Names) (name : List ℕ) (R : Region → Type 0) (u : ℕ) (best : Option ℕ) →
+    IsNearest (layout_of xs) (IsCandidate (layout_of xs) names name R u) best →
     ForSome best (λ b. b < length xs)
-nearest_known xs name R u None h = λ x e. cc
-nearest_known xs name R u (Some b) h = λ x e.
+nearest_known xs names name R u None h = λ x e. cc
+nearest_known xs names name R u (Some b) h = λ x e.
     let same : b ≡ x = cc in
     let P : ℕ → Type 0 = λ v. v < length xs in
     subst P same (may_in_range xs b h.0.2.declares.may)

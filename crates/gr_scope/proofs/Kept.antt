@@ -9,7 +9,8 @@ use Rattle.gr_scope.specs.declared.model.Identifier.{Identifier}
 use Rattle.gr_scope.specs.Bindings.{Layout, Names, Declares}
 use Rattle.gr_scope.specs.Chains.{AreLinks}
 use Rattle.gr_scope.specs.Known.{AreMarks, AreFirst, AreBindings, IsBinding}
-use Rattle.gr_scope.specs.Table.{layout_of, names_of}
+use Rattle.gr_scope.specs.Numbering.{told}
+use Rattle.gr_scope.specs.Table.{layout_of}
 use Rattle.gr_scope.proofs.Uniqueness.{same_or_not}
 
 -- what is true of each entry of a list stays true of one more
@@ -51,14 +52,15 @@ pub marks_none : (P : ℕ → Type 0) (marks : List Bool) → marks ≡ [] → A
 marks_none P marks e = record { sized = ap length e; exact = λ d x lt. absurd (omega arith) }
 
 -- the links and marks of one more identifier
-pub first_next : {S : Type 0} (xs : List Identifier) (n : ℕ) (after : IndexMap Key ℕ S) (new : List (Option ℕ)) (declaring marked : List Bool) (mark : Bool) →
-    AreLinks (layout_of xs) (names_of xs) after new → length new ≡ n + 1 → AreMarks (Declares (layout_of xs) (names_of xs)) n declaring →
+pub first_next : {S : Type 0} (xs : List Identifier) (numbers : List ℕ) (n : ℕ) (after : IndexMap Key ℕ S) (new : List (Option ℕ))
+    (declaring marked : List Bool) (mark : Bool) →
+    AreLinks (layout_of xs) (told numbers) after new → length new ≡ n + 1 → AreMarks (Declares (layout_of xs) (told numbers)) n declaring →
     marked ≡ declaring ++ (mark ∷ []) →
-    IsTrue mark ↔ Declares (layout_of xs) (names_of xs) n → AreFirst xs (n + 1) after new marked
-first_next xs n after new declaring marked mark links sized marks e m = record {
+    IsTrue mark ↔ Declares (layout_of xs) (told numbers) n → AreFirst xs numbers (n + 1) after new marked
+first_next xs numbers n after new declaring marked mark links sized marks e m = record {
   links = links;
   sized = sized;
-  marks = marks_next (Declares (layout_of xs) (names_of xs)) n declaring marked mark marks e m;
+  marks = marks_next (Declares (layout_of xs) (told numbers)) n declaring marked mark marks e m;
 }
 
 pub bindings_none : (l : Layout) (names : Names) (bindings : List (Option ℕ)) → bindings ≡ [] → AreBindings l names 0 bindings

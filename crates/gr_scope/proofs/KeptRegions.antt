@@ -70,7 +70,7 @@ run_surrounds file (suc sizes) first last at lo hi =
     run_or_larger file sizes first last at (nat_eq first last) refl lo hi (run_of file sizes (first / 16) (last / 16))
     (run_surrounds file sizes (first / 16) (last / 16) (at / 16) (run_number first at lo) (run_number at last hi))
 
-file_surrounds : (file sizes at : ℕ) → Surrounds file sizes at (regions.File file)
+pub file_surrounds : (file sizes at : ℕ) → Surrounds file sizes at (regions.File file)
 unfolding Surrounds
 file_surrounds file zero at = refl
 file_surrounds file (suc sizes) at = inr (file_surrounds file sizes (at / 16))

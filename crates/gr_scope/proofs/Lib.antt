@@ -24,7 +24,10 @@ pub mod Parts
 pub mod StatementParts
 pub mod FileParts
 pub mod Declared
+pub mod NameNumbers
+pub mod InnerNames
 pub mod Tables
+pub mod TokenRows
 pub mod NamedSites
 pub mod BoundImports
 pub mod KeptBindings

@@ -78,13 +78,18 @@ module _ {K : Type 0} where
   no_links D keys = record { sized = refl; before = λ d x lt m. absurd (omega arith) }
 
 -- keys that compare as equal are one name in one region
-equal_fields : (x y : Key) → equal.ghosts.eq x y ≡ true ↔ ((x.name.now ≡ y.name.now) × (x.region ≡ y.region))
+equal_fields : (x y : Key) → equal.ghosts.eq x y ≡ true ↔ ((x.name ≡ y.name) × (x.region ≡ y.region))
 equal_fields x y = search rules
 
+alone : List ℕ → ℕ
+alone [] = 0
+alone (n ∷ ns) = n
+
 key_decides : (x y : Key) → (equal.ghosts.eq x y ≡ true → key_of x ≡ key_of y) × (key_of x ≡ key_of y → equal.ghosts.eq x y ≡ true)
+unfolding alone
 key_decides x y = (
-  (λ e. let h = (equal_fields x y).0 e in pair_same x.name.now y.name.now x.region y.region h.0 h.1),
-  (λ e. (equal_fields x y).1 (ap (λ k. k.0) e, ap (λ k. k.1) e)),
+  (λ e. let h = (equal_fields x y).0 e in pair_same (x.name ∷ []) (y.name ∷ []) x.region y.region (ap (λ n. n ∷ []) h.0) h.1),
+  (λ e. (equal_fields x y).1 (ap (λ k. alone k.0) e, ap (λ k. k.1) e)),
 )
 
 -- the links of no identifiers

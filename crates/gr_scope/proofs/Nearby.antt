@@ -14,7 +14,7 @@ use Rattle.gr_scope.proofs.KeptRegions.{run_none, run_here, run_larger, run_numb
 use Rattle.gr_scope.proofs.Nests.{Starts, starts_at, nests}
 use Rattle.gr_scope.proofs.Uniqueness.{same_or_not}
 
-file_not_run : {A : Type 0} (file g rest at : ℕ) → regions.File file ≡ regions.Run g rest at → A
+pub file_not_run : {A : Type 0} (file g rest at : ℕ) → regions.File file ≡ regions.Run g rest at → A
 file_not_run file g rest at e = cc
 
 run_file : (f s n g rest at : ℕ) → regions.Run f s n ≡ regions.Run g rest at → f ≡ g

@@ -4,7 +4,7 @@ use Rattle.indexmap.specs.IndexMap.{IndexMap, get}
 use Rattle.gr_scope.specs.Bindings.{Layout, Names}
 use Rattle.gr_scope.specs.Leading.{Leads}
 use Rattle.gr_scope.specs.Regions.{key_of, keys_of}
-use Rattle.gr_scope.specs.Table.{layout_of, names_of}
+use Rattle.gr_scope.specs.Table.{layout_of}
 use Rattle.gr_scope.specs.declared.model.Identifier.{Identifier}
 use Rattle.gr_scope.specs.declared.links.Key.{Key}
 use Rattle.gr_scope.specs.contracts.links.KeyPartialEq.TheImpl as equal
@@ -35,8 +35,8 @@ pub record AreLinks {S : Type 0} (l : Layout) (names : Names) (last : IndexMap K
   pub linked : IsLinked (Leads l names) (keys_of l names) (length previous) previous
 
 -- the links of all identifiers
-pub record AreAllLinks {S : Type 0} (xs : List Identifier) (last : IndexMap Key ℕ S) (previous : List (Option ℕ)) : Type 0 where
-  pub links : AreLinks (layout_of xs) (names_of xs) last previous
+pub record AreAllLinks {S : Type 0} (xs : List Identifier) (names : Names) (last : IndexMap Key ℕ S) (previous : List (Option ℕ)) : Type 0 where
+  pub links : AreLinks (layout_of xs) names last previous
   pub sized : length previous ≡ length xs
 
 -- d is the next in the chain or stands further on

@@ -1,30 +1,33 @@
 -- What a table keeps of its identifiers.
 use Rattle.std.specs.Prelude.{ℕ, ◌≡◌, ◌<◌, ◌↔◌, List, length, Option, Bool, IsTrue, MatchOption, slice_index_or}
-use Rattle.indexmap.specs.IndexMap.{IndexMap, get}
+use Rattle.indexmap.specs.IndexMap.{IndexMap}
 use Rattle.gr_scope.specs.Bindings.{Layout, Names, Declares, IsBoundTo}
 use Rattle.gr_scope.specs.Chains.{AreLinks, AreAllLinks}
-use Rattle.gr_scope.specs.Table.{layout_of, names_of, StandsAt, IsFoundAt}
+use Rattle.gr_scope.specs.ByToken.{Numbers, AreIdentifiers}
+use Rattle.gr_scope.specs.Scoped.{ScopedPackage, layout_in, names_in}
+use Rattle.gr_scope.specs.Numbering.{told}
+use Rattle.gr_scope.specs.Table.{layout_of}
 use Rattle.gr_scope.specs.WellFormed.{WellFormed, AreImportsLevel}
 use Rattle.gr_scope.specs.declared.model.Identifier.{Identifier}
-use Rattle.gr_scope.specs.declared.model.Position.{Position}
 use Rattle.gr_scope.specs.declared.links.Key.{Key}
-use Rattle.gr_scope.specs.contracts.model.PositionPartialEq.TheImpl as same
 
 -- of each of so many numbers whether it is such
 pub record AreMarks (P : ℕ → Type 0) (n : ℕ) (marks : List Bool) : Type 0 where
   pub sized : length marks ≡ n
   pub exact : (d : ℕ) (x : Bool) → d < n → IsTrue (slice_index_or marks d x) ↔ P d
 
--- the links of so many identifiers, and which of them declare
-pub record AreFirst {S : Type 0} (xs : List Identifier) (n : ℕ) (last : IndexMap Key ℕ S) (previous : List (Option ℕ)) (declaring : List Bool) : Type 0 where
-  pub links : AreLinks (layout_of xs) (names_of xs) last previous
+-- the links of so many identifiers, and which of them declare, where names are told by their numbers
+pub record AreFirst {S : Type 0} (xs : List Identifier) (numbers : List ℕ) (n : ℕ) (last : IndexMap Key ℕ S) (previous : List (Option ℕ))
+    (declaring : List Bool) : Type 0 where
+  pub links : AreLinks (layout_of xs) (told numbers) last previous
   pub sized : length previous ≡ n
-  pub marks : AreMarks (Declares (layout_of xs) (names_of xs)) n declaring
+  pub marks : AreMarks (Declares (layout_of xs) (told numbers)) n declaring
 
 -- those of all identifiers
-pub record AreDeclared {S : Type 0} (xs : List Identifier) (last : IndexMap Key ℕ S) (previous : List (Option ℕ)) (declaring : List Bool) : Type 0 where
-  pub links : AreAllLinks xs last previous
-  pub marks : AreMarks (Declares (layout_of xs) (names_of xs)) (length xs) declaring
+pub record AreDeclared {S : Type 0} (xs : List Identifier) (numbers : List ℕ) (last : IndexMap Key ℕ S) (previous : List (Option ℕ)) (declaring : List Bool)
+    : Type 0 where
+  pub links : AreAllLinks xs (told numbers) last previous
+  pub marks : AreMarks (Declares (layout_of xs) (told numbers)) (length xs) declaring
 
 -- the declaration to which u is bound, or none
 abbrev pub IsBinding : Layout → Names → ℕ → Option ℕ → Type 0
@@ -35,21 +38,17 @@ pub record AreBindings (l : Layout) (names : Names) (n : ℕ) (bindings : List (
   pub sized : length bindings ≡ n
   pub each : (u : ℕ) (x : Option ℕ) → u < n → IsBinding l names u (slice_index_or bindings u x)
 
--- the first identifier at a token, or none
-abbrev pub IsNumberAt : Layout → ℕ → Position → Option ℕ → Type 0
-IsNumberAt l n place found = MatchOption found ((u : ℕ) → u < n → StandsAt l place u → ⊥) (λ u. IsFoundAt l n place u)
+-- which identifiers declare, and to what each is bound
+pub record AreBound (l : Layout) (names : Names) (n : ℕ) (declaring : List Bool) (bound : List (Option ℕ)) : Type 0 where
+  pub marks : AreMarks (Declares l names) n declaring
+  pub bindings : AreBindings l names n bound
 
--- the first identifier at each token
-abbrev pub AreNumbers : {S : Type 0} → Layout → ℕ → IndexMap Position ℕ S → Type 0
-AreNumbers l n numbers = (place : Position) → IsNumberAt l n place (get same.ghosts.eq numbers place)
+-- what is kept of the identifiers of a package: which of them declare, to what each is bound, and which one stands at a token
+pub record AreKnown (p : ScopedPackage) (declaring : List Bool) (bound : List (Option ℕ)) (noted : Numbers) : Type 0 where
+  pub known : AreBound (layout_in p) (names_in p) (length p.sites) declaring bound
+  pub numbers : AreIdentifiers (layout_in p) (length p.sites) noted
 
--- to what each identifier is bound, and which one stands at a token
-pub record AreKnown {S : Type 0} (xs : List Identifier) (bound : List (Option ℕ)) (noted : IndexMap Position ℕ S) : Type 0 where
-  pub bindings : AreBindings (layout_of xs) (names_of xs) (length xs) bound
-  pub numbers : AreNumbers (layout_of xs) (length xs) noted
-
--- the identifiers of a package, and which of them declare
-pub record IsTable {S : Type 0} (xs : List Identifier) (last : IndexMap Key ℕ S) (previous : List (Option ℕ)) (declaring : List Bool) : Type 0 where
+-- identifiers that were taken from a package's files
+pub record AreLaidOut (xs : List Identifier) : Type 0 where
   pub well_formed : WellFormed (layout_of xs)
   pub imports : AreImportsLevel (layout_of xs)
-  pub declared : AreDeclared xs last previous declaring

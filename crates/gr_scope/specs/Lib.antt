@@ -15,5 +15,7 @@ pub mod Parsed
 pub mod Scoped
 pub mod Regions
 pub mod Chains
+pub mod ByToken
+pub mod Numbering
 pub mod Known
 pub mod Named

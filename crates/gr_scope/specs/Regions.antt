@@ -1,5 +1,5 @@
 -- The parts of a package in which the declarations of one name are kept together.
-use Rattle.std.specs.Prelude.{ℕ, zero, suc, ◌≡◌, ◌⊎◌, ◌/◌, List, nat_eq, if◌then◌else◌}
+use Rattle.std.specs.Prelude.{ℕ, zero, suc, ◌≡◌, ◌⊎◌, ◌/◌, List, [], ◌∷◌, nat_eq, if◌then◌else◌}
 use Rattle.gr_scope.specs.declared.model.Block.{Block}
 use Rattle.gr_scope.specs.declared.model.Block.TheVariants.{Universe, Package, File, Inner}
 use Rattle.gr_scope.specs.declared.region.Region.{Region}
@@ -27,9 +27,9 @@ unfoldable pub Surrounds : ℕ → ℕ → ℕ → Region → Type 0
 Surrounds file zero at r = r ≡ regions.File file
 Surrounds file (suc sizes) at r = (r ≡ regions.Run file sizes at) ⊎ Surrounds file sizes (at / 16) r
 
--- a name in a region
+-- a name in a region, written as its number alone
 abbrev pub key_of : Key → List ℕ × Region
-key_of k = (k.name.now, k.region)
+key_of k = (k.name ∷ [], k.region)
 
 -- of each declaration its name, in the region where it is kept
 abbrev pub keys_of : Layout → Names → ℕ → List ℕ × Region

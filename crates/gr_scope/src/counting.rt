@@ -1,18 +1,20 @@
 //! Which declarations count, and to which an identifier is bound.
-ghost use Rattle.std.specs.Prelude.{◌≡◌, ◌<◌, ◌↔◌, length, IsTrue};
-ghost use Rattle.gr_scope.specs.Bindings.{Counts, IsUse, is_use, is_implied, scope_of};
+ghost use Rattle.std.specs.Prelude.{◌≡◌, ◌<◌, ◌↔◌, ◌⊎◌, ◌∷◌, [], true, length, IsTrue};
+ghost use Rattle.gr_scope.specs.Bindings.{Counts, IsUse, is_use, is_left_name, is_implied, scope_of};
 ghost use Rattle.gr_scope.specs.Chains.{AreAllLinks};
 ghost use Rattle.gr_scope.specs.Known.{AreDeclared, IsBinding};
 ghost use Rattle.gr_scope.specs.Leading.{Leads, GivesWay, IsInPackage};
 ghost use Rattle.gr_scope.specs.WellFormed.{WellFormed};
-ghost use Rattle.gr_scope.specs.Table.{layout_of, names_of};
+ghost use Rattle.gr_scope.specs.Numbering.{told, AreInner};
+ghost use Rattle.gr_scope.specs.Table.{layout_of};
 
 use crate::declaring::Declared;
 use crate::links::{Key, Links, first_in, key_at};
 use crate::model::{Block, Identifier, Role, Scope};
 use crate::nearest::binding;
+use crate::numbering::number_at;
 use crate::region::Region;
-use crate::resolve::{name_at, role_at};
+use crate::resolve::role_at;
 
 impl Role {
     pub(crate) fn is_use(self) -> bool
@@ -25,6 +27,13 @@ impl Role {
             | Role::Implied(_, _)
             | Role::NotLexical(_) => false,
         }
+    }
+
+    /// Whether an identifier of this role is a lexical use, if it is known whether it declares.
+    pub(crate) fn is_use_unless(self, declares: bool) -> bool
+        ensures { IsTrue result ↔ (is_use self ≡ true) ⊎ ((is_left_name self ≡ true) × (IsTrue declares → ⊥)) }
+    {
+        self.is_use() || (self.is_left_name() && !declares)
     }
 
     pub fn is_implied(self) -> bool
@@ -44,71 +53,72 @@ impl Role {
 }
 
 /// Whether a declaration comes first of its name in its block.
-fn leads<'a>(identifiers: &[Identifier<'a>], links: &Links<'a>, d: usize) -> bool
+fn leads(identifiers: &[Identifier], links: &Links, d: usize) -> bool
     requires in_range { d < length identifiers.now }
-    requires linked { AreAllLinks identifiers.now links.now.last links.now.previous.items }
-    ensures { IsTrue result ↔ Leads (layout_of identifiers.now) (names_of identifiers.now) d }
+    requires linked { AreAllLinks identifiers.now (told links.now.names.items) links.now.last links.now.previous.items }
+    ensures { IsTrue result ↔ Leads (layout_of identifiers.now) (told links.now.names.items) d }
 {
     let block = role_at(identifiers, d).block();
-    match first_in(identifiers, links, key_at(identifiers, d), block) {
+    match first_in(
+        identifiers,
+        links,
+        key_at(identifiers, &links.names, d),
+        block,
+    ) {
         None => false,
         Some(e) => e == d,
     }
 }
 
 /// Whether d is an import, and its name is declared in the package's block.
-fn gives_way<'a>(identifiers: &[Identifier<'a>], links: &Links<'a>, d: usize) -> bool
+fn gives_way(identifiers: &[Identifier], links: &Links, d: usize) -> bool
     requires in_range { d < length identifiers.now }
-    requires linked { AreAllLinks identifiers.now links.now.last links.now.previous.items }
-    ensures { IsTrue result ↔ GivesWay (layout_of identifiers.now) (names_of identifiers.now) d }
+    requires linked { AreAllLinks identifiers.now (told links.now.names.items) links.now.last links.now.previous.items }
+    ensures { IsTrue result ↔ GivesWay (layout_of identifiers.now) (told links.now.names.items) d }
 {
     match role_at(identifiers, d).block() {
-        Block::File(_) => is_package_level(identifiers, links, name_at(identifiers, d)),
+        Block::File(_) => is_package_level(identifiers, links, number_at(&links.names, d)),
         _ => false,
     }
 }
 
 /// Whether a name is declared in the package's block.
-fn is_package_level<'a>(identifiers: &[Identifier<'a>], links: &Links<'a>, name: &'a [u8]) -> bool
-    requires { AreAllLinks identifiers.now links.now.last links.now.previous.items }
-    ensures { IsTrue result ↔ IsInPackage (layout_of identifiers.now) (names_of identifiers.now) name.now }
+fn is_package_level(identifiers: &[Identifier], links: &Links, name: usize) -> bool
+    requires { AreAllLinks identifiers.now (told links.now.names.items) links.now.last links.now.previous.items }
+    ensures { IsTrue result ↔ IsInPackage (layout_of identifiers.now) (told links.now.names.items) (name ∷ []) }
 {
     let region = Region::Package;
     first_in(identifiers, links, Key { name, region }, Block::Package).is_some()
 }
 
 /// Whether an identifier is a declaration that counts.
-fn counts<'a>(identifiers: &[Identifier<'a>], links: &Links<'a>, d: usize) -> bool
+fn counts(identifiers: &[Identifier], links: &Links, d: usize) -> bool
     requires in_range { d < length identifiers.now }
-    requires linked { AreAllLinks identifiers.now links.now.last links.now.previous.items }
-    ensures { IsTrue result ↔ Counts (layout_of identifiers.now) (names_of identifiers.now) d }
+    requires linked { AreAllLinks identifiers.now (told links.now.names.items) links.now.last links.now.previous.items }
+    ensures { IsTrue result ↔ Counts (layout_of identifiers.now) (told links.now.names.items) d }
 {
     leads(identifiers, links, d) && !gives_way(identifiers, links, d)
 }
 
 /// Whether an identifier is a lexical use.
-pub(crate) fn is_use(identifiers: &[Identifier], declared: &Declared, d: usize) -> bool
+fn is_use(identifiers: &[Identifier], declared: &Declared, d: usize) -> bool
     requires in_range { d < length identifiers.now }
-    requires declared { AreDeclared identifiers.now declared.now.links.last declared.now.links.previous.items declared.now.declaring.items }
-    ensures { IsTrue result ↔ IsUse (layout_of identifiers.now) (names_of identifiers.now) d }
+    requires declared { AreDeclared identifiers.now declared.now.links.names.items declared.now.links.last declared.now.links.previous.items declared.now.declaring.items }
+    ensures { IsTrue result ↔ IsUse (layout_of identifiers.now) (told declared.now.links.names.items) d }
 {
-    let role = role_at(identifiers, d);
-    role.is_use() || (role.is_left_name() && !declared.declaring[d])
+    role_at(identifiers, d).is_use_unless(declared.declaring[d])
 }
 
 /// The declaration to which an identifier is bound.
-pub(crate) fn bound_to<'a>(
-    identifiers: &[Identifier<'a>],
-    declared: &Declared<'a>,
-    d: usize,
-) -> Option<usize>
+pub(crate) fn bound_to(identifiers: &[Identifier], declared: &Declared, d: usize) -> Option<usize>
     requires in_range { d < length identifiers.now }
     requires well_formed { WellFormed (layout_of identifiers.now) }
-    requires declared { AreDeclared identifiers.now declared.now.links.last declared.now.links.previous.items declared.now.declaring.items }
-    ensures { IsBinding (layout_of identifiers.now) (names_of identifiers.now) d result }
+    requires inner { AreInner (layout_of identifiers.now) (length identifiers.now) declared.now.links.names.items declared.now.links.inner.items }
+    requires declared { AreDeclared identifiers.now declared.now.links.names.items declared.now.links.last declared.now.links.previous.items declared.now.declaring.items }
+    ensures { IsBinding (layout_of identifiers.now) (told declared.now.links.names.items) d result }
 {
     if is_use(identifiers, declared, d) {
-        binding(identifiers, &declared.links, name_at(identifiers, d), d)
+        binding(identifiers, &declared.links, d)
     } else if declared.declaring[d] && counts(identifiers, &declared.links, d) {
         Some(d)
     } else {

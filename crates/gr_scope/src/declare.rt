@@ -1,4 +1,4 @@
-//! The table of a package from the trees of its files.
+//! The identifiers of a package from the trees of its files.
 ghost use Rattle.std.specs.Prelude.{◌≡◌, ◌∷◌, [], OnOk, IfOk, map};
 ghost use Rattle.gr_scope.specs.FileSites.{universe, universe_site, package_sites};
 ghost use Rattle.gr_scope.specs.Found.{Adds, site_of};
@@ -7,10 +7,9 @@ ghost use Rattle.gr_scope.specs.Scoped.{scoped};
 ghost use Rattle.gr_scope.specs.Trees.{AreNumbered};
 
 use crate::declarations::add_file;
-use crate::declaring::declared_of;
+use crate::identifiers::Identifiers;
 use crate::model::{Block, Identifier, Position, Role};
 use crate::source::RankedFile;
-use crate::table::ScopeTable;
 use gr_tree::FileTree;
 use std::alloc::{AllocError, Global};
 
@@ -59,11 +58,10 @@ fn identifiers_of<'a>(
     Ok(found)
 }
 
-/// The table of a package, of which the files are given in the order of their paths.
-pub fn declare<'a>(alloc: Global, files: &'a [FileTree]) -> Result<ScopeTable<'a>, AllocError>
-    ensures { IfOk result (λ table. table ≡ scoped files.now) }
+/// The identifiers of a package, of which the files are given in the order of their paths.
+pub fn declare<'a>(alloc: Global, files: &'a [FileTree]) -> Result<Identifiers<'a>, AllocError>
+    ensures { IfOk result (λ identifiers. identifiers ≡ scoped files.now) }
 {
-    let identifiers = identifiers_of(alloc, files)?;
-    let declared = declared_of(alloc, &identifiers)?;
-    Ok(ScopeTable::new(files, identifiers, declared, None))
+    let list = identifiers_of(alloc, files)?;
+    Ok(Identifiers::new(files, list))
 }

@@ -1,34 +1,48 @@
 //! Which identifiers of a package declare, found once for each, in their order.
 ghost use Rattle.std.specs.Prelude.{ℕ, ◌≡◌, ◌≤◌, ◌<◌, ◌+◌, ◌↔◌, length, IsTrue, IfOk, OnOk};
 ghost use Rattle.std.specs.Option.{ForSome};
-ghost use Rattle.gr_scope.specs.Bindings.{Declares};
+ghost use Rattle.gr_scope.specs.Bindings.{Declares, MayDeclare};
 ghost use Rattle.gr_scope.specs.Chains.{AreLinks};
 ghost use Rattle.gr_scope.specs.Known.{AreDeclared, AreFirst};
 ghost use Rattle.gr_scope.specs.Leading.{HoldsAt, IsLeader, Leads};
-ghost use Rattle.gr_scope.specs.Table.{layout_of, names_of};
+ghost use Rattle.gr_scope.specs.Numbering.{told, AreInner};
+ghost use Rattle.gr_scope.specs.Table.{layout_of};
 ghost use Rattle.gr_scope.specs.WellFormed.{WellFormed};
 
 use crate::links::{Links, first_in, key_at};
 use crate::model::Identifier;
+use crate::numbering::inner_names;
 use crate::resolve::{in_scope, role_at};
 use std::alloc::{AllocError, Global};
 
 /// Whether each identifier declares, and the links of those that come first of their name in their blocks.
 #[derive(Drop)]
-pub struct Declared<'a> {
-    pub links: Links<'a>,
+pub struct Declared {
+    pub links: Links,
     pub declaring: Vec<bool>,
 }
 
+/// Whether an identifier declares, and whether it comes first of its name in its block.
+#[derive(Clone, Copy)]
+struct Standing {
+    declares: bool,
+    leads: bool,
+}
+
 /// The first declaration of an identifier's name in its block, of those that are linked.
-fn leader<'a>(identifiers: &[Identifier<'a>], links: &Links<'a>, d: usize) -> Option<usize>
+fn leader(identifiers: &[Identifier], links: &Links, d: usize) -> Option<usize>
     requires in_range { d < length identifiers.now }
     requires next { length links.now.previous.items ≡ d }
-    requires linked { AreLinks (layout_of identifiers.now) (names_of identifiers.now) links.now.last links.now.previous.items }
-    ensures { IsLeader (layout_of identifiers.now) (names_of identifiers.now) d result }
+    requires linked { AreLinks (layout_of identifiers.now) (told links.now.names.items) links.now.last links.now.previous.items }
+    ensures { IsLeader (layout_of identifiers.now) (told links.now.names.items) d result }
 {
     let block = role_at(identifiers, d).block();
-    first_in(identifiers, links, key_at(identifiers, d), block)
+    first_in(
+        identifiers,
+        links,
+        key_at(identifiers, &links.names, d),
+        block,
+    )
 }
 
 /// Whether the scope of a declaration, where there is one, holds the place of u.
@@ -43,56 +57,94 @@ fn holds(identifiers: &[Identifier], d: Option<usize>, u: usize) -> bool
     }
 }
 
-/// Whether an identifier declares, behind the first declaration of its name in its block.
-fn declares(identifiers: &[Identifier], leader: Option<usize>, d: usize) -> bool
+/// Whether an identifier that may declare does so, behind the first declaration of its name in its block.
+fn declares(identifiers: &[Identifier], links: &Links, leader: Option<usize>, d: usize) -> bool
     requires in_range { d < length identifiers.now }
     requires well_formed { WellFormed (layout_of identifiers.now) }
-    requires leader { IsLeader (layout_of identifiers.now) (names_of identifiers.now) d leader }
-    ensures { IsTrue result ↔ Declares (layout_of identifiers.now) (names_of identifiers.now) d }
+    requires may_declare { MayDeclare (layout_of identifiers.now) d }
+    requires leader { IsLeader (layout_of identifiers.now) (told links.now.names.items) d leader }
+    ensures { IsTrue result ↔ Declares (layout_of identifiers.now) (told links.now.names.items) d }
 {
-    let role = role_at(identifiers, d);
-    role.may_declare() && (!role.is_left_name() || !holds(identifiers, leader, d))
+    !role_at(identifiers, d).is_left_name() || !holds(identifiers, leader, d)
 }
 
-/// Whether an identifier comes first of its name in its block.
-fn comes_first(identifiers: &[Identifier], leader: Option<usize>, d: usize, declares: bool) -> bool
-    requires leader { IsLeader (layout_of identifiers.now) (names_of identifiers.now) d leader }
-    requires declares { IsTrue declares ↔ Declares (layout_of identifiers.now) (names_of identifiers.now) d }
-    ensures { IsTrue result ↔ Leads (layout_of identifiers.now) (names_of identifiers.now) d }
+/// What an identifier that may declare does, behind the first declaration of its name in its block.
+fn standing_behind(
+    identifiers: &[Identifier],
+    links: &Links,
+    leader: Option<usize>,
+    d: usize,
+) -> Standing
+    requires in_range { d < length identifiers.now }
+    requires well_formed { WellFormed (layout_of identifiers.now) }
+    requires may_declare { MayDeclare (layout_of identifiers.now) d }
+    requires leader { IsLeader (layout_of identifiers.now) (told links.now.names.items) d leader }
+    ensures declares { IsTrue result.declares ↔ Declares (layout_of identifiers.now) (told links.now.names.items) d }
+    ensures leads { IsTrue result.leads ↔ Leads (layout_of identifiers.now) (told links.now.names.items) d }
 {
+    let declares = declares(identifiers, links, leader, d);
     match leader {
-        None => declares,
-        Some(_) => false,
+        None => Standing {
+            declares,
+            leads: declares,
+        },
+        Some(_) => Standing {
+            declares,
+            leads: false,
+        },
     }
 }
 
-impl<'a> Declared<'a> {
+/// What the next identifier does: one look-up where it may declare, and else none.
+fn standing_of(identifiers: &[Identifier], links: &Links, d: usize) -> Standing
+    requires in_range { d < length identifiers.now }
+    requires well_formed { WellFormed (layout_of identifiers.now) }
+    requires next { length links.now.previous.items ≡ d }
+    requires linked { AreLinks (layout_of identifiers.now) (told links.now.names.items) links.now.last links.now.previous.items }
+    ensures declares { IsTrue result.declares ↔ Declares (layout_of identifiers.now) (told links.now.names.items) d }
+    ensures leads { IsTrue result.leads ↔ Leads (layout_of identifiers.now) (told links.now.names.items) d }
+{
+    if role_at(identifiers, d).may_declare() {
+        standing_behind(identifiers, links, leader(identifiers, links, d), d)
+    } else {
+        Standing {
+            declares: false,
+            leads: false,
+        }
+    }
+}
+
+impl Declared {
     /// Adds the next identifier: two look-ups at most.
-    fn add(&mut self, identifiers: &[Identifier<'a>], d: usize) -> Result<(), AllocError>
+    fn add(&mut self, identifiers: &[Identifier], d: usize) -> Result<(), AllocError>
         requires in_range { d < length identifiers.now }
         requires well_formed { WellFormed (layout_of identifiers.now) }
-        requires first { AreFirst identifiers.now d self.old.links.last self.old.links.previous.items self.old.declaring.items }
-        ensures { OnOk result (AreFirst identifiers.now (d + 1) self.new.links.last self.new.links.previous.items self.new.declaring.items) }
+        requires first { AreFirst identifiers.now self.old.links.names.items d self.old.links.last self.old.links.previous.items self.old.declaring.items }
+        ensures first { OnOk result (AreFirst identifiers.now self.old.links.names.items (d + 1) self.new.links.last self.new.links.previous.items self.new.declaring.items) }
+        ensures names { self.new.links.names.items ≡ self.old.links.names.items }
+        ensures inner { self.new.links.inner.items ≡ self.old.links.inner.items }
     {
-        let leader = leader(identifiers, &self.links, d);
-        let declares = declares(identifiers, leader, d);
-        let leads = comes_first(identifiers, leader, d, declares);
-        self.links.link(identifiers, d, leads)?;
-        self.declaring.push(declares)?;
+        let standing = standing_of(identifiers, &self.links, d);
+        self.links.link(identifiers, d, standing.leads)?;
+        self.declaring.push(standing.declares)?;
         Ok(())
     }
 }
 
-/// Which of the identifiers declare.
-pub(crate) fn declared_of<'a>(
+/// Which of the identifiers declare, whose names have those numbers.
+pub(crate) fn declared_of(
     alloc: Global,
-    identifiers: &[Identifier<'a>],
-) -> Result<Declared<'a>, AllocError>
+    identifiers: &[Identifier],
+    names: Vec<usize>,
+) -> Result<Declared, AllocError>
     requires { WellFormed (layout_of identifiers.now) }
-    ensures { IfOk result (λ r. AreDeclared identifiers.now r.links.last r.links.previous.items r.declaring.items) }
+    ensures declared { IfOk result (λ r. AreDeclared identifiers.now r.links.names.items r.links.last r.links.previous.items r.declaring.items) }
+    ensures names { IfOk result (λ r. r.links.names.items ≡ names.items) }
+    ensures inner { IfOk result (λ r. AreInner (layout_of identifiers.now) (length identifiers.now) r.links.names.items r.links.inner.items) }
 {
+    let inner = inner_names(alloc, identifiers, &names)?;
     let mut declared = Declared {
-        links: Links::new(alloc),
+        links: Links::new(alloc, names, inner),
         declaring: Vec::new(alloc),
     };
     for d in 0..identifiers.len() {

@@ -1,33 +1,46 @@
-//! What a table keeps of its identifiers: to which declaration each is bound, and which one stands at a token.
-ghost use Rattle.std.specs.Prelude.{◌<◌, ◌+◌, length, IfOk, OnOk};
-ghost use Rattle.gr_scope.specs.Known.{AreBindings, AreDeclared, AreNumbers};
+//! What a table keeps of its identifiers: which of them declare, to which declaration each is bound, and which one stands at a
+//! token.
+ghost use Rattle.std.specs.Prelude.{◌<◌, length, IfOk};
+ghost use Rattle.gr_scope.specs.ByToken.{number_at};
+ghost use Rattle.gr_scope.specs.Known.{AreBindings, AreBound, AreDeclared, AreKnown};
+ghost use Rattle.gr_scope.specs.Numbering.{told, AreInner};
 ghost use Rattle.gr_scope.specs.Table.{layout_of, names_of};
 ghost use Rattle.gr_scope.specs.WellFormed.{WellFormed};
 
+use crate::by_token::{ByToken, identifiers_by_token};
 use crate::counting::bound_to;
-use crate::declaring::Declared;
-use crate::model::{Identifier, Position};
-use crate::resolve::{place_at, role_at};
+use crate::declaring::{Declared, declared_of};
+use crate::identifiers::Identifiers;
+use crate::model::Identifier;
+use crate::numbering::numbers_of;
 use crate::table::DeclId;
-use indexmap::IndexMap;
 use std::alloc::{AllocError, Global};
 
-/// The declaration of each identifier, and at each token the identifier that stands there.
+/// Whether each identifier declares; the declaration to which each is bound; and at each token the identifier that stands there.
 #[derive(Drop)]
 pub struct Known {
+    pub declaring: Vec<bool>,
     pub bindings: Vec<Option<DeclId>>,
-    pub numbers: IndexMap<Position, usize>,
+    pub numbers: ByToken,
+}
+
+/// Whether each identifier declares, and the declaration to which it is bound.
+#[derive(Drop)]
+struct Bound {
+    declaring: Vec<bool>,
+    bindings: Vec<Option<DeclId>>,
 }
 
 /// The declaration to which each identifier is bound.
-fn bindings_of<'a>(
+fn bindings_of(
     alloc: Global,
-    identifiers: &[Identifier<'a>],
-    declared: &Declared<'a>,
+    identifiers: &[Identifier],
+    declared: &Declared,
 ) -> Result<Vec<Option<DeclId>>, AllocError>
     requires well_formed { WellFormed (layout_of identifiers.now) }
-    requires declared { AreDeclared identifiers.now declared.now.links.last declared.now.links.previous.items declared.now.declaring.items }
-    ensures { IfOk result (λ found. AreBindings (layout_of identifiers.now) (names_of identifiers.now) (length identifiers.now) found.items) }
+    requires inner { AreInner (layout_of identifiers.now) (length identifiers.now) declared.now.links.names.items declared.now.links.inner.items }
+    requires declared { AreDeclared identifiers.now declared.now.links.names.items declared.now.links.last declared.now.links.previous.items declared.now.declaring.items }
+    ensures { IfOk result (λ found. AreBindings (layout_of identifiers.now) (told declared.now.links.names.items) (length identifiers.now) found.items) }
 {
     let mut found = Vec::new(alloc);
     for u in 0..identifiers.len() {
@@ -36,49 +49,42 @@ fn bindings_of<'a>(
     Ok(found)
 }
 
-/// Notes the next identifier at its token, if it stands at one and is the first there.
-fn note(
-    numbers: &mut IndexMap<Position, usize>,
-    identifiers: &[Identifier],
-    u: usize,
-) -> Result<(), AllocError>
-    requires in_range { u < length identifiers.now }
-    requires noted { AreNumbers (layout_of identifiers.now) u numbers.old }
-    ensures { OnOk result (AreNumbers (layout_of identifiers.now) (u + 1) numbers.new) }
-{
-    let place = place_at(identifiers, u);
-    if !role_at(identifiers, u).is_implied() && numbers.get(&place).is_none() {
-        numbers.insert(place, u)?;
-    }
-    Ok(())
-}
-
-/// The first identifier at each token.
-fn numbers_of(
+/// Which identifiers declare, and to what each is bound, where their names are told by numbers.
+fn told_bound(
     alloc: Global,
     identifiers: &[Identifier],
-) -> Result<IndexMap<Position, usize>, AllocError>
-    ensures { IfOk result (λ numbers. AreNumbers (layout_of identifiers.now) (length identifiers.now) numbers) }
+    names: Vec<usize>,
+) -> Result<Bound, AllocError>
+    requires { WellFormed (layout_of identifiers.now) }
+    ensures { IfOk result (λ bound. AreBound (layout_of identifiers.now) (told names.items) (length identifiers.now) bound.declaring.items bound.bindings.items) }
 {
-    let mut numbers = IndexMap::new(alloc);
-    for u in 0..identifiers.len() {
-        note(&mut numbers, identifiers, u)?;
-    }
-    Ok(numbers)
+    let declared = declared_of(alloc, identifiers, names)?;
+    let bindings = bindings_of(alloc, identifiers, &declared)?;
+    Ok(Bound {
+        declaring: declared.declaring,
+        bindings,
+    })
 }
 
-/// What is kept of identifiers.
-pub(crate) fn known_of<'a>(
-    alloc: Global,
-    identifiers: &[Identifier<'a>],
-    declared: &Declared<'a>,
-) -> Result<Known, AllocError>
-    requires well_formed { WellFormed (layout_of identifiers.now) }
-    requires declared { AreDeclared identifiers.now declared.now.links.last declared.now.links.previous.items declared.now.declaring.items }
-    ensures bindings { IfOk result (λ known. AreBindings (layout_of identifiers.now) (names_of identifiers.now) (length identifiers.now) known.bindings.items) }
-    ensures numbers { IfOk result (λ known. AreNumbers (layout_of identifiers.now) (length identifiers.now) known.numbers) }
+/// Which identifiers declare, and to what each is bound.
+fn bound_of(alloc: Global, identifiers: &[Identifier]) -> Result<Bound, AllocError>
+    requires { WellFormed (layout_of identifiers.now) }
+    ensures { IfOk result (λ bound. AreBound (layout_of identifiers.now) (names_of identifiers.now) (length identifiers.now) bound.declaring.items bound.bindings.items) }
 {
-    let bindings = bindings_of(alloc, identifiers, declared)?;
-    let numbers = numbers_of(alloc, identifiers)?;
-    Ok(Known { bindings, numbers })
+    let names = numbers_of(alloc, identifiers)?;
+    told_bound(alloc, identifiers, names)
+}
+
+/// What is kept of a package's identifiers.
+pub(crate) fn known_of(alloc: Global, identifiers: &Identifiers) -> Result<Known, AllocError>
+    ensures { IfOk result (λ known. AreKnown identifiers.now known.declaring.items known.bindings.items (number_at known.numbers)) }
+{
+    identifiers.is_well_formed();
+    let bound = bound_of(alloc, identifiers.as_slice())?;
+    let numbers = identifiers_by_token(alloc, identifiers)?;
+    Ok(Known {
+        declaring: bound.declaring,
+        bindings: bound.bindings,
+        numbers,
+    })
 }

@@ -1,17 +1,20 @@
 //! Scopes and lexical bindings of a package.
 #![tactic(auto)]
 
+pub mod by_token;
 mod counting;
 mod declarations;
 pub mod declare;
 mod declaring;
 mod expressions;
+pub mod identifiers;
 mod known;
 pub mod laws;
 mod links;
 pub mod model;
 pub mod named;
 mod nearest;
+mod numbering;
 mod region;
 mod resolve;
 mod simple;

@@ -3,14 +3,11 @@ ghost use Rattle.std.specs.Prelude.{◌≡◌, ◌<◌, ◌∷◌, [], length, m
 ghost use Rattle.gr_scope.specs.Found.{Adds, site_of};
 ghost use Rattle.gr_scope.specs.Named.{is_unnamed_import, name_value, name_given, named, named_site, named_sites};
 ghost use Rattle.gr_scope.specs.Site.{found_site};
-ghost use Rattle.gr_scope.specs.Table.{layout_of};
-ghost use Rattle.gr_scope.specs.WellFormed.{WellFormed, AreImportsLevel};
 
-use crate::declaring::declared_of;
+use crate::identifiers::Identifiers;
 use crate::known::known_of;
 use crate::model::{Block, Identifier, Purpose, Role};
 use crate::table::ScopeTable;
-use gr_tree::FileTree;
 use std::alloc::{AllocError, Global};
 
 impl Role {
@@ -69,33 +66,28 @@ fn named_identifiers<'a>(
     Ok(found)
 }
 
-/// The table of identifiers that were taken from files, with what is found of them once.
+/// The table of a package's identifiers, with what is found of them once.
 fn known_table<'a>(
     alloc: Global,
-    files: &'a [FileTree],
-    identifiers: Vec<Identifier<'a>>,
+    identifiers: Identifiers<'a>,
 ) -> Result<ScopeTable<'a>, AllocError>
-    requires well_formed { WellFormed (layout_of identifiers.items) }
-    requires imports { AreImportsLevel (layout_of identifiers.items) }
-    ensures files { IfOk result (λ table. table.files ≡ files.now) }
-    ensures sites { IfOk result (λ table. table.sites ≡ map site_of identifiers.entry.items) }
+    ensures { IfOk result (λ table. table ≡ identifiers.entry) }
 {
-    let declared = declared_of(alloc, &identifiers)?;
-    let known = known_of(alloc, &identifiers, &declared)?;
-    Ok(ScopeTable::new(files, identifiers, declared, Some(known)))
+    let known = known_of(alloc, &identifiers)?;
+    Ok(ScopeTable::new(identifiers, known))
 }
 
 /// The table in which an import without a name declares in its file, at its literal, the name that is known of the package
 /// that it imports. The names are given by the numbers of the literals; of those without one nothing is known.
 pub fn name_imports<'a>(
     alloc: Global,
-    table: &ScopeTable<'a>,
+    plain: &Identifiers<'a>,
     names: &[Option<&'a [u8]>],
 ) -> Result<ScopeTable<'a>, AllocError>
-    ensures { IfOk result (λ laid. laid ≡ named (name_given names.now) table.now) }
+    ensures { IfOk result (λ laid. laid ≡ named (name_given names.now) plain.now) }
 {
-    table.is_well_formed();
-    table.imports_are_level();
-    let identifiers = named_identifiers(alloc, table.identifiers(), names)?;
-    known_table(alloc, table.files(), identifiers)
+    plain.is_well_formed();
+    plain.imports_are_level();
+    let list = named_identifiers(alloc, plain.as_slice(), names)?;
+    known_table(alloc, Identifiers::new(plain.files(), list))
 }

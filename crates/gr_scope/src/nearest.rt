@@ -1,33 +1,31 @@
 //! The declaration to which a use is bound.
-ghost use Rattle.std.specs.Prelude.{ℕ, ◌≡◌, ◌<◌, ◌↔◌, length, IsTrue, MatchOption};
+ghost use Rattle.std.specs.Prelude.{ℕ, ◌≡◌, ◌<◌, ◌↔◌, ◌/◌, ◌∷◌, [], length, IsTrue, MatchOption};
 ghost use Rattle.std.specs.Option.{ForSome};
 ghost use Rattle.gr_scope.specs.Bindings.{BindsAt, InScope};
 ghost use Rattle.gr_scope.specs.Chains.{AreAllLinks};
+ghost use Rattle.gr_scope.specs.Numbering.{told, AreInner};
 ghost use Rattle.gr_scope.specs.Regions.{Surrounds};
-ghost use Rattle.gr_scope.specs.Table.{IsCandidate, IsInner, IsNearer, IsNearest, TakesOver, layout_of, names_of};
+ghost use Rattle.gr_scope.specs.Table.{IsCandidate, IsInner, IsNearer, IsNearest, TakesOver, layout_of};
 ghost use Rattle.gr_scope.specs.WellFormed.{WellFormed};
 
 use crate::links::{Key, Links};
 use crate::model::{Block, Identifier};
+use crate::numbering::{may_be_marked, number_at};
 use crate::region::{Region, SIZES};
 use crate::resolve::{in_scope, place_at, role_at};
 
-/// The declaration to which a name is bound at the place of u: the nearest one round it, or one of no file.
-pub(crate) fn binding<'a>(
-    identifiers: &[Identifier<'a>],
-    links: &Links<'a>,
-    name: &'a [u8],
-    u: usize,
-) -> Option<usize>
+/// The declaration to which the name of u is bound at the place of u: the nearest one round it, or one of no file.
+pub(crate) fn binding(identifiers: &[Identifier], links: &Links, u: usize) -> Option<usize>
     requires in_range { u < length identifiers.now }
     requires well_formed { WellFormed (layout_of identifiers.now) }
-    requires linked { AreAllLinks identifiers.now links.now.last links.now.previous.items }
+    requires inner { AreInner (layout_of identifiers.now) (length identifiers.now) links.now.names.items links.now.inner.items }
+    requires linked { AreAllLinks identifiers.now (told links.now.names.items) links.now.last links.now.previous.items }
     ensures { let l = layout_of identifiers.now in
-        let names = names_of identifiers.now in
-        MatchOption result ((d : ℕ) → BindsAt l names name.now u d → ⊥) (λ d. BindsAt l names name.now u d) }
+        let names = told links.now.names.items in
+        MatchOption result ((d : ℕ) → BindsAt l names (names u) u d → ⊥) (λ d. BindsAt l names (names u) u d) }
 {
-    let at = place_at(identifiers, u).index / 16;
-    let around = nearest_around(identifiers, links, name, u, SIZES, at);
+    let name = number_at(&links.names, u);
+    let around = around(identifiers, links, name, u);
     if is_inner(identifiers, around) {
         return around;
     }
@@ -35,21 +33,39 @@ pub(crate) fn binding<'a>(
     nearer(identifiers, around, outside)
 }
 
+/// The nearest declaration of a name whose scope holds the place of u, among those of u's file. No run is looked at where no
+/// inner block may declare the name.
+fn around(identifiers: &[Identifier], links: &Links, name: usize, u: usize) -> Option<usize>
+    requires in_range { u < length identifiers.now }
+    requires well_formed { WellFormed (layout_of identifiers.now) }
+    requires inner { AreInner (layout_of identifiers.now) (length identifiers.now) links.now.names.items links.now.inner.items }
+    requires linked { AreAllLinks identifiers.now (told links.now.names.items) links.now.last links.now.previous.items }
+    ensures { let l = layout_of identifiers.now in
+        IsNearest l (IsCandidate l (told links.now.names.items) (name ∷ []) (Surrounds (l.place u).file 6 ((l.place u).index / 16)) u) result }
+{
+    let place = place_at(identifiers, u);
+    if may_be_marked(&links.inner, name) {
+        nearest_around(identifiers, links, name, u, SIZES, place.index / 16)
+    } else {
+        nearest_in(identifiers, links, name, Region::File(place.file), u)
+    }
+}
+
 /// The nearest declaration of a name whose scope holds the place of u, among those that are kept in u's file, or in that run
 /// and the larger ones round it, of so many sizes. What is found in a run is nearer than all in the larger ones.
-fn nearest_around<'a>(
-    identifiers: &[Identifier<'a>],
-    links: &Links<'a>,
-    name: &'a [u8],
+fn nearest_around(
+    identifiers: &[Identifier],
+    links: &Links,
+    name: usize,
     u: usize,
     sizes: usize,
     at: usize,
 ) -> Option<usize>
     requires in_range { u < length identifiers.now }
     requires well_formed { WellFormed (layout_of identifiers.now) }
-    requires linked { AreAllLinks identifiers.now links.now.last links.now.previous.items }
+    requires linked { AreAllLinks identifiers.now (told links.now.names.items) links.now.last links.now.previous.items }
     ensures { let l = layout_of identifiers.now in
-        IsNearest l (IsCandidate l (names_of identifiers.now) name.now (Surrounds (l.place u).file sizes at) u) result }
+        IsNearest l (IsCandidate l (told links.now.names.items) (name ∷ []) (Surrounds (l.place u).file sizes at) u) result }
 {
     let file = place_at(identifiers, u).file;
     if sizes == 0 {
@@ -87,18 +103,18 @@ fn nearer(identifiers: &[Identifier], first: Option<usize>, second: Option<usize
 }
 
 /// The nearest declaration of a name whose scope holds the place of u, among those that are kept in a region.
-fn nearest_in<'a>(
-    identifiers: &[Identifier<'a>],
-    links: &Links<'a>,
-    name: &'a [u8],
+fn nearest_in(
+    identifiers: &[Identifier],
+    links: &Links,
+    name: usize,
     region: Region,
     u: usize,
 ) -> Option<usize>
     requires in_range { u < length identifiers.now }
     requires well_formed { WellFormed (layout_of identifiers.now) }
-    requires linked { AreAllLinks identifiers.now links.now.last links.now.previous.items }
+    requires linked { AreAllLinks identifiers.now (told links.now.names.items) links.now.last links.now.previous.items }
     ensures { let l = layout_of identifiers.now in
-        IsNearest l (IsCandidate l (names_of identifiers.now) name.now (λ r. r ≡ region) u) result }
+        IsNearest l (IsCandidate l (told links.now.names.items) (name ∷ []) (λ r. r ≡ region) u) result }
 {
     let chain = links.chain(Key { name, region });
     let mut best: Option<usize> = None;

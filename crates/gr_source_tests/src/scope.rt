@@ -55,10 +55,17 @@ fn files(alloc: Global, text: &[u8]) -> Result<Vec<FileTree>, Fail> {
     Ok(files)
 }
 
+/// The table of a package where nothing is known of what it imports.
+fn plain_table(alloc: Global, files: &[FileTree]) -> Result<ScopeTable<'_>, Fail> {
+    let plain = declare(alloc, files)?;
+    let none: [Option<&[u8]>; 0] = [];
+    Ok(name_imports(alloc, &plain, &none)?)
+}
+
 /// Where the identifier begins that declares what an identifier means, or None for none and for a predeclared name.
 fn declared_at(table: &ScopeTable<'_>, place: &Place) -> Option<usize> {
     let declaration = table.resolve(place)?;
-    let identifier = table.identifiers().get(declaration)?;
+    let identifier = table.identifiers().as_slice().get(declaration)?;
     if identifier.role.is_implied() {
         return None;
     }
@@ -73,7 +80,7 @@ fn is_bound(
     used: usize,
     declared: Option<usize>,
 ) -> Result<bool, Fail> {
-    let table = declare(alloc, files)?;
+    let table = plain_table(alloc, files)?;
     let place = Place {
         path: path(alloc, "a/a.go")?,
         offset: used,
@@ -107,9 +114,7 @@ fn bindings(rt: HostRuntime) -> Result<(), Fail> {
 
 /// Whether no import declares a name where nothing is known of any package.
 fn gives_no_name(alloc: Global, files: &[FileTree]) -> Result<bool, Fail> {
-    let plain = declare(alloc, files)?;
-    let none: [Option<&[u8]>; 0] = [];
-    let table = name_imports(alloc, &plain, &none)?;
+    let table = plain_table(alloc, files)?;
     Ok((0..table.len()).all(|u| table.declares(u) == table.role(u).is_implied()))
 }
 

@@ -1,9 +1,10 @@
 -- The answers to the goals of `by_token::identifiers_by_token`.
-use Rattle.gr_scope.specs.Scoped.{layout_in}
-use Rattle.gr_declared.specs.ByToken.{number_at}
-use Rattle.gr_declared.proofs.TokenRows.{next_identifier}
+use Rattle.std.proofs.Common.{length, subst, IfOk}
+use Rattle.gr_scope.specs.Scoped.{ScopedPackage, layout_in}
+use Rattle.gr_declared.specs.ByToken.{number_at, AreIdentifiers}
 use Rattle.gr_declared.proofs.by_token.identifiers_by_token.Goals as goal
 
-pub loop-u-preserved : goal.loop-u-preserved
-loop-u-preserved c = next_identifier (layout_in c.args.table.now) c.loop-u.u (number_at c.loop-u.found) (number_at c.note_identifier.new.found)
-    c.in_ok-note_identifier.ensures c.loop-u.invariant
+pub returns : goal.returns
+returns c =
+    let P : ScopedPackage → Type 0 = λ t. IfOk c.identifiers_by_token.result (λ found. AreIdentifiers (layout_in t) (length t.sites) (number_at found)) in
+    subst P c.identifiers.ensures c.identifiers_by_token.ensures

@@ -1,7 +1,7 @@
 -- The answers to the goals of `by_token::ranks_by_token`.
 use Rattle.std.proofs.Common.{arith}
 use Rattle.gr_declared.specs.ByToken.{number_at}
-use Rattle.gr_declared.proofs.TokenRows.{next_rank}
+use Rattle.gr_scope.proofs.TokenRows.{next_rank}
 use Rattle.gr_declared.proofs.by_token.ranks_by_token.Goals as goal
 
 pub loop-rank-preserved : goal.loop-rank-preserved

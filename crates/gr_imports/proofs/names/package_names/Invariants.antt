@@ -9,6 +9,6 @@ use Rattle.gr_imports.proofs.names.package_names.Given as goal
 abbrev pub invariant-loop-u : goal.invariant-loop-u
 invariant-loop-u g l = record {
   sized : length l.names.items ≡ l.u;
-  each : (k : ℕ) → k < l.u → is_unnamed_import ((laid_in l.table).layout.role k) ≡ true →
-      IsPackageName (map source_of l.files) (g.N.PackageNames.name_of l.packages) (laid_in l.table) k (name_given l.names.items k);
+  each : (k : ℕ) → k < l.u → is_unnamed_import ((laid_in l.plain).layout.role k) ≡ true →
+      IsPackageName (map source_of l.files) (g.N.PackageNames.name_of l.packages) (laid_in l.plain) k (name_given l.names.items k);
 }

@@ -3,7 +3,8 @@ use Rattle.std.proofs.Common.{ℕ, ◌≡◌, ◌<◌, ◌≤◌, arith, length,
 use Rattle.gr_scope.specs.Bindings.{block_of}
 use Rattle.gr_scope.specs.Leading.{Leads, LeadsIn}
 use Rattle.gr_scope.specs.Regions.{key_of, keys_of}
-use Rattle.gr_scope.specs.Table.{layout_of, names_of}
+use Rattle.gr_scope.specs.Numbering.{told}
+use Rattle.gr_scope.specs.Table.{layout_of}
 use Rattle.gr_scope.proofs.Chains.{chain_left, chain_known, walk_left, walk_known, walk_ends}
 use Rattle.gr_scope.proofs.links.first_in.Goals as goal
 
@@ -11,7 +12,7 @@ pub loop-at-init : goal.loop-at-init
 loop-at-init c =
     let xs = c.args.identifiers.now in
     let l = layout_of xs in
-    let names = names_of xs in
+    let names = told c.args.links.now.names.items in
     let n = length c.args.links.now.previous.items in
     let chained = c.chain-chain.ensures l names c.requires.linked in
     record {
@@ -30,7 +31,7 @@ pub loop-at-preserved : goal.loop-at-preserved
 loop-at-preserved c =
     let xs = c.args.identifiers.now in
     let l = layout_of xs in
-    let names = names_of xs in
+    let names = told c.args.links.now.names.items in
     let n = length c.args.links.now.previous.items in
     let key = key_of c.args.key in
     let previous = c.chain-chain.result.previous.now in
@@ -49,7 +50,7 @@ loop-at-preserved c =
 pub bounds-chain-e : goal.bounds-chain-e
 bounds-chain-e c =
     let xs = c.args.identifiers.now in
-    let linked = (c.chain-chain.ensures (layout_of xs) (names_of xs) c.requires.linked).linked in
+    let linked = (c.chain-chain.ensures (layout_of xs) (told c.args.links.now.names.items) c.requires.linked).linked in
     let sized : length c.chain-chain.result.previous.now ≡ length c.args.links.now.previous.items = linked.sized in
     let within : c.in-Some.e < length c.args.links.now.previous.items = (c.loop-at.invariant.known c.in-Some.e c.in-Some.is).0 in
     omega arith
@@ -58,7 +59,7 @@ pub loop-at-smaller : goal.loop-at-smaller
 loop-at-smaller c =
     let xs = c.args.identifiers.now in
     let l = layout_of xs in
-    let names = names_of xs in
+    let names = told c.args.links.now.names.items in
     let linked = (c.chain-chain.ensures l names c.requires.linked).linked in
     walk_ends (Leads l names) (keys_of l names) (length c.args.links.now.previous.items) (key_of c.args.key) c.chain-chain.result.previous.now c.loop-at.at
     _ None c.in-Some.e linked c.in-Some.is refl

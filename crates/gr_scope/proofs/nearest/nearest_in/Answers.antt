@@ -1,8 +1,9 @@
 -- The answers to the goals of `nearest::nearest_in`.
-use Rattle.std.proofs.Common.{ℕ, ◌≡◌, ◌<◌, arith, length, inl, inr, true, false, refl, subst, None, Option}
+use Rattle.std.proofs.Common.{ℕ, ◌≡◌, ◌<◌, ◌∷◌, [], arith, length, inl, inr, true, false, refl, subst, None, Option}
 use Rattle.gr_scope.specs.Leading.{Leads}
 use Rattle.gr_scope.specs.Regions.{keys_of}
-use Rattle.gr_scope.specs.Table.{layout_of, names_of}
+use Rattle.gr_scope.specs.Numbering.{told}
+use Rattle.gr_scope.specs.Table.{layout_of}
 use Rattle.gr_scope.proofs.Best.{BestSoFar, best_start, best_next, best_known, best_nearest}
 use Rattle.gr_scope.proofs.Chains.{chain_known, walk_known, walk_ends}
 use Rattle.gr_scope.proofs.KeptRegions.{pair}
@@ -14,14 +15,14 @@ pub loop-at-init : goal.loop-at-init
 loop-at-init c =
     let xs = c.args.identifiers.now in
     let l = layout_of xs in
-    let names = names_of xs in
+    let names = told c.args.links.now.names.items in
     let last = c.chain-chain.result.last in
     let previous = c.chain-chain.result.previous.now in
     let n = length c.args.links.now.previous.items in
     let chained = c.chain-chain.ensures l names c.requires.linked.links in
     record {
-      best = best_start xs c.args.name.now c.args.region c.args.u n last previous c.requires.linked.sized chained;
-      known = chain_known (Leads l names) (keys_of l names) n (pair c.args.name.now c.args.region) last previous chained;
+      best = best_start xs names (c.args.name ∷ []) c.args.region c.args.u n last previous c.requires.linked.sized chained;
+      known = chain_known (Leads l names) (keys_of l names) n (pair (c.args.name ∷ []) c.args.region) last previous chained;
     }
 
 pub improves-requires-clause-second : goal.improves-requires-clause-second
@@ -31,18 +32,19 @@ improves-requires-clause-second c =
     omega arith
 
 pub improves-requires-clause-known : goal.improves-requires-clause-known
-improves-requires-clause-known c = best_known c.args.identifiers.now c.args.name.now (λ r. r ≡ c.args.region) c.args.u c.loop-at.at c.loop-at.best
+improves-requires-clause-known c = best_known c.args.identifiers.now (told c.args.links.now.names.items) (c.args.name ∷ []) (λ r. r ≡ c.args.region)
+    c.args.u c.loop-at.at c.loop-at.best
     c.loop-at.invariant.best
 
 pub loop-at-preserved : goal.loop-at-preserved
 loop-at-preserved c =
     let xs = c.args.identifiers.now in
     let l = layout_of xs in
-    let names = names_of xs in
+    let names = told c.args.links.now.names.items in
     let previous = c.chain-chain.result.previous.now in
     let linked = (c.chain-chain.ensures l names c.requires.linked.links).linked in
     record {
-      best = best_next l (nests l c.requires.well_formed) names c.args.name.now c.args.region c.args.u c.in-Some.d (length c.args.links.now.previous.items)
+      best = best_next l (nests l c.requires.well_formed) names (c.args.name ∷ []) c.args.region c.args.u c.in-Some.d (length c.args.links.now.previous.items)
           previous
           c.loop-at.at _ None c.loop-at.best c.if-improves.best linked c.in-Some.is refl c.loop-at.invariant.known c.loop-at.invariant.best
           (elim c.if-improves.branch [
@@ -53,21 +55,22 @@ loop-at-preserved c =
               w.best-is,
             )
           ]);
-      known = walk_known (Leads l names) (keys_of l names) (length c.args.links.now.previous.items) (pair c.args.name.now c.args.region) previous
+      known = walk_known (Leads l names) (keys_of l names) (length c.args.links.now.previous.items) (pair (c.args.name ∷ []) c.args.region) previous
           c.loop-at.at _ None c.in-Some.d linked c.in-Some.is refl c.loop-at.invariant.known;
     }
 
 pub returns : goal.returns
 returns c =
     let xs = c.args.identifiers.now in
-    let P : Option ℕ → Type 0 = λ a. BestSoFar (layout_of xs) (names_of xs) c.args.name.now (λ r. r ≡ c.args.region) c.args.u a c.loop-at.best in
-    best_nearest (layout_of xs) (names_of xs) c.args.name.now (λ r. r ≡ c.args.region) c.args.u c.loop-at.best
+    let P : Option ℕ → Type 0 = λ a. BestSoFar (layout_of xs) (told c.args.links.now.names.items) (c.args.name ∷ []) (λ r. r ≡ c.args.region) c.args.u a
+    c.loop-at.best in
+    best_nearest (layout_of xs) (told c.args.links.now.names.items) (c.args.name ∷ []) (λ r. r ≡ c.args.region) c.args.u c.loop-at.best
     (subst P c.in_default.is c.loop-at.invariant.best)
 
 pub bounds-chain-d : goal.bounds-chain-d
 bounds-chain-d c =
     let xs = c.args.identifiers.now in
-    let linked = (c.chain-chain.ensures (layout_of xs) (names_of xs) c.requires.linked.links).linked in
+    let linked = (c.chain-chain.ensures (layout_of xs) (told c.args.links.now.names.items) c.requires.linked.links).linked in
     let sized : length c.chain-chain.result.previous.now ≡ length c.args.links.now.previous.items = linked.sized in
     let within : c.in-Some.d < length c.args.links.now.previous.items = (c.loop-at.invariant.known c.in-Some.d c.in-Some.is).0 in
     omega arith
@@ -76,7 +79,7 @@ pub loop-at-smaller : goal.loop-at-smaller
 loop-at-smaller c =
     let xs = c.args.identifiers.now in
     let l = layout_of xs in
-    let names = names_of xs in
+    let names = told c.args.links.now.names.items in
     let linked = (c.chain-chain.ensures l names c.requires.linked.links).linked in
-    walk_ends (Leads l names) (keys_of l names) (length c.args.links.now.previous.items) (pair c.args.name.now c.args.region)
+    walk_ends (Leads l names) (keys_of l names) (length c.args.links.now.previous.items) (pair (c.args.name ∷ []) c.args.region)
     c.chain-chain.result.previous.now c.loop-at.at _ None c.in-Some.d linked c.in-Some.is refl c.loop-at.invariant.known

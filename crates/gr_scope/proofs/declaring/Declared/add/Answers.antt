@@ -2,8 +2,9 @@
 use Rattle.gr_scope.proofs.Kept.{first_next}
 use Rattle.gr_scope.proofs.declaring.Declared.add.Goals as goal
 
-pub returns : goal.returns
-returns c =
-    first_next c.args.identifiers.now c.args.d c.link.new.self.last c.link.new.self.previous.items c.args.self.now.declaring.items c.push.new.self.items
-    c.declares-declares.result
-    c.in_ok-link.ensures.linked c.in_ok-link.ensures.next c.requires.first.marks c.in_ok-push.ensures.items c.declares-declares.ensures
+pub returns-clause-first : goal.returns-clause-first
+returns-clause-first c =
+    first_next c.args.identifiers.now c.args.self.now.links.names.items c.args.d c.link.new.self.last c.link.new.self.previous.items
+    c.args.self.now.declaring.items c.push.new.self.items
+    c.standing_of-standing.result.declares
+    c.in_ok-link.ensures.linked c.in_ok-link.ensures.next c.requires.first.marks c.in_ok-push.ensures.items c.standing_of-standing.ensures.declares

@@ -1,0 +1,21 @@
+-- The answers to the goals of `known::known_of`.
+use Rattle.std.proofs.Common.{List, length, ap, sym, subst, ◌∙◌}
+use Rattle.gr_scope.specs.Known.{AreBound}
+use Rattle.gr_scope.specs.Site.{Site, sites_layout, sites_names}
+use Rattle.gr_scope.specs.WellFormed.{WellFormed}
+use Rattle.gr_scope.proofs.Declared.{layout-sites, in_sites}
+use Rattle.gr_scope.proofs.known.known_of.Goals as goal
+
+pub bound_of-requires : goal.bound_of-requires
+bound_of-requires c = subst WellFormed (sym (layout-sites c.as_slice.result.now ∙ ap sites_layout c.as_slice.ensures.sites)) c.is_well_formed.ensures
+
+pub returns : goal.returns
+returns c =
+    let declaring = c.in_ok-bound.bound.declaring.items in
+    let bindings = c.in_ok-bound.bound.bindings.items in
+    let S : List Site → Type 0 = λ zs. AreBound (sites_layout zs) (sites_names zs) (length zs) declaring bindings in
+    record {
+      known = subst S c.as_slice.ensures.sites
+          (in_sites (λ l names n. AreBound l names n declaring bindings) c.as_slice.result.now c.in_ok-bound.ensures);
+      numbers = c.in_ok-numbers.ensures;
+    }

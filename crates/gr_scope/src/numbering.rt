@@ -1,0 +1,131 @@
+//! Numbers that stand for the names of identifiers: found once for each, so that no look-up after that goes over the bytes of
+//! a name.
+ghost use Rattle.std.specs.Prelude.{ℕ, true, ◌≡◌, ◌<◌, ◌+◌, ◌↔◌, length, slice_index_or, IsTrue, IfOk, OnOk};
+ghost use Rattle.gr_scope.specs.Numbering.{is_lexical, number_at, AreFirsts, AreInner, HasName, IsLexical, Marks, MayBeMarked, TellApart};
+ghost use Rattle.gr_scope.specs.Table.{layout_of, names_of, IsFirstOf};
+
+use crate::model::{Block, Identifier, Role};
+use crate::resolve::{name_at, role_at};
+use indexmap::IndexMap;
+use std::alloc::{AllocError, Global};
+
+/// How a name is spelled.
+#[derive(Clone, Copy, PartialEq, Eq, Hash)]
+pub struct Spelled<'a> {
+    pub bytes: &'a [u8],
+}
+
+impl Role {
+    /// Whether the name of an identifier of this role is looked up: it is used, or it may declare.
+    fn is_lexical(self) -> bool
+        ensures { result ≡ is_lexical self }
+    {
+        match self {
+            Role::Use | Role::Declaring(_, _) | Role::LeftName(_, _) | Role::Implied(_, _) => true,
+            Role::NotLexical(_) => false,
+        }
+    }
+}
+
+/// The number of the next name that is looked up: that of the first identifier that has it.
+fn first_of<'a>(
+    firsts: &mut IndexMap<Spelled<'a>, usize>,
+    identifiers: &[Identifier<'a>],
+    u: usize,
+) -> Result<usize, AllocError>
+    requires in_range { u < length identifiers.now }
+    requires lexical { IsLexical (layout_of identifiers.now) u }
+    requires firsts { AreFirsts (layout_of identifiers.now) (names_of identifiers.now) u firsts.old }
+    ensures firsts { OnOk result (AreFirsts (layout_of identifiers.now) (names_of identifiers.now) (u + 1) firsts.new) }
+    ensures number { IfOk result (λ n. IsFirstOf (HasName (layout_of identifiers.now) (names_of identifiers.now) (names_of identifiers.now u)) (u + 1) n) }
+{
+    let bytes = name_at(identifiers, u);
+    let name = Spelled { bytes };
+    match firsts.get(&name).copied() {
+        Some(first) => Ok(first),
+        None => {
+            firsts.insert(name, u)?;
+            Ok(u)
+        }
+    }
+}
+
+/// The number of the next name; any number where it is not looked up.
+fn next_number<'a>(
+    firsts: &mut IndexMap<Spelled<'a>, usize>,
+    identifiers: &[Identifier<'a>],
+    u: usize,
+) -> Result<usize, AllocError>
+    requires in_range { u < length identifiers.now }
+    requires firsts { AreFirsts (layout_of identifiers.now) (names_of identifiers.now) u firsts.old }
+    ensures firsts { OnOk result (AreFirsts (layout_of identifiers.now) (names_of identifiers.now) (u + 1) firsts.new) }
+    ensures number { IfOk result (λ n. IsLexical (layout_of identifiers.now) u →
+        IsFirstOf (HasName (layout_of identifiers.now) (names_of identifiers.now) (names_of identifiers.now u)) (u + 1) n) }
+{
+    if role_at(identifiers, u).is_lexical() {
+        first_of(firsts, identifiers, u)
+    } else {
+        Ok(0)
+    }
+}
+
+/// A number for each name, so that two names that are looked up have one number exactly if they are the same.
+pub(crate) fn numbers_of(
+    alloc: Global,
+    identifiers: &[Identifier],
+) -> Result<Vec<usize>, AllocError>
+    ensures { IfOk result (λ numbers. TellApart (layout_of identifiers.now) (names_of identifiers.now) (length identifiers.now) numbers.items) }
+{
+    let mut firsts = IndexMap::new(alloc);
+    let mut numbers = Vec::new(alloc);
+    for u in 0..identifiers.len() {
+        numbers.push(next_number(&mut firsts, identifiers, u)?)?;
+    }
+    Ok(numbers)
+}
+
+/// The number of an identifier's name.
+pub(crate) fn number_at(numbers: &[usize], d: usize) -> usize
+    ensures { result ≡ number_at numbers.now d }
+{
+    match numbers.get(d) {
+        None => 0,
+        Some(number) => *number,
+    }
+}
+
+/// Marks a number.
+fn mark(marks: &mut Vec<bool>, number: usize)
+    ensures { Marks marks.old.items marks.new.items number }
+{
+    if number < marks.len() {
+        marks[number] = true;
+    }
+}
+
+/// Whether a number may be marked.
+pub(crate) fn may_be_marked(marks: &[bool], number: usize) -> bool
+    ensures { result ≡ slice_index_or marks.now number true }
+{
+    match marks.get(number) {
+        None => true,
+        Some(marked) => *marked,
+    }
+}
+
+/// Marks the names that an inner block may declare, by their numbers.
+pub(crate) fn inner_names(
+    alloc: Global,
+    identifiers: &[Identifier],
+    numbers: &[usize],
+) -> Result<Vec<bool>, AllocError>
+    ensures { IfOk result (λ marks. AreInner (layout_of identifiers.now) (length identifiers.now) numbers.now marks.items) }
+{
+    let mut marks = vec![in alloc; false; identifiers.len()]?;
+    for d in 0..identifiers.len() {
+        if role_at(identifiers, d).block().nests(Block::Package) {
+            mark(&mut marks, number_at(numbers, d));
+        }
+    }
+    Ok(marks)
+}
