@@ -139,7 +139,7 @@ fn initializers_with(files: &[FileTree], number: usize, function: Function<'_>) 
 }
 
 /// What the functions of a package are called.
-fn function_names<'a>(
+pub fn function_names<'a>(
     alloc: Global,
     path: &'a [u8],
     files: &'a [FileTree],

@@ -1,25 +1,25 @@
 //! What the code of a file is made of, from the scopes of its package and what checking found.
-ghost use Rattle.std.specs.Prelude.{◌≡◌, ◌<◌, ◌≤◌, ◌↔◌, ℕ, List, codes, length, map, option_map, IfOk, IsTrue, MatchOption};
+ghost use Rattle.std.specs.Prelude.{◌≡◌, ◌<◌, ◌≤◌, ◌↔◌, ℕ, List, codes, length, map, option_map, slice_get, IfOk, IsTrue, MatchOption};
 ghost use Rattle.gr_tree.specs.SourceFile.{source_of as plain_file};
-ghost use Rattle.gr_scope.specs.declared.model.Role.TheVariants.{NotLexical};
-ghost use Rattle.gr_scope.specs.declared.model.Purpose.TheVariants as purpose;
 ghost use Rattle.gr_scope.specs.Bindings.{IsPackageLevel};
-ghost use Rattle.gr_meanings.specs.NamesView.{IsBehindDot};
 ghost use Rattle.gr_declared.specs.PackageView.{package_of, IsIndexOf};
 ghost use Rattle.gr_declared.specs.Written.{BindsToken, IsPredeclared};
 ghost use Rattle.gr_declared.specs.Written.{ImportsPath as DeclaresImport};
 ghost use Rattle.gr_object.specs.LineView.{global_of};
+ghost use Rattle.gr_object.specs.ObjectSteps.{uses_or_none};
 ghost use Rattle.gr_object.specs.Sources.{IsBehindImport, IsGlobal, IsTextAt, IsTrueAt};
 ghost use Rattle.gr_object.specs.TablesView.{AreGlobals, AreTexts, AreTruths, IsTabled};
 
 use crate::instructions::GlobalName;
 use crate::numbered::Numbered;
-use crate::packages::{Packages, path_bytes};
+use crate::origin::Origin;
+use crate::packages::path_bytes;
 use crate::source::Source;
 use gr_declared::{Index, Package};
 use gr_expr::found::MemberUse;
 use gr_expr::world::World;
-use gr_scope::model::{Block, Position, Purpose, Role};
+use gr_meanings::is_behind_dot;
+use gr_scope::model::Block;
 use gr_tree::FileTree;
 use std::alloc::{AllocError, Global};
 
@@ -55,27 +55,6 @@ fn used(alloc: Global, uses: &[MemberUse]) -> Result<Numbered, AllocError>
         places.push(next.place)?;
     }
     Numbered::of(alloc, places)
-}
-
-/// Whether a role is that of a name behind a dot.
-fn is_selected(role: Role) -> bool
-    ensures { IsTrue result ↔ (role ≡ NotLexical purpose.Selected) }
-{
-    match role {
-        Role::NotLexical(Purpose::Selected) => true,
-        _ => false,
-    }
-}
-
-/// Whether a name behind a dot stands at a token.
-fn is_behind_dot(unit: Package<'_>, index: &Index<'_>, file: usize, token: usize) -> bool
-    requires { IsIndexOf (package_of unit) index.now }
-    ensures { IsTrue result ↔ IsBehindDot (package_of unit.entry) file token }
-{
-    match index.identifiers.get(Position { file, index: token }) {
-        None => false,
-        Some(u) => is_selected(unit.table.role(u)),
-    }
 }
 
 /// The path of the import that the name at a token is bound to.
@@ -220,28 +199,36 @@ fn truths(
     Ok(truths)
 }
 
+/// The uses of members of a file.
+fn uses_at(members: &[Vec<MemberUse>], file: usize) -> &[MemberUse]
+    ensures { result.now ≡ uses_or_none (slice_get members.now file) }
+{
+    match members.get(file) {
+        None => &[],
+        Some(uses) => uses,
+    }
+}
+
 /// What the code of a file is made of.
 pub fn source<'a>(
     alloc: Global,
-    unit: Package<'a>,
-    index: &'a Index<'_>,
+    origin: Origin<'a>,
     world: World<'a>,
-    uses: &'a [MemberUse],
-    packages: &'a Packages<'a>,
     file: usize,
 ) -> Result<Source<'a>, AllocError>
-    requires index { IsIndexOf (package_of unit) index.now }
-    requires in_range { file < length unit.files.now }
-    ensures { IfOk result (λ s. IsTabled (package_of unit.entry) file world.entry uses.now packages.now s) }
+    requires index { IsIndexOf (package_of origin.unit) origin.index.now }
+    requires in_range { file < length origin.unit.files.now }
+    ensures { IfOk result (λ s. IsTabled (package_of origin.entry.unit) file world.entry (uses_or_none (slice_get origin.entry.members.now file)) origin.entry.packages.now s) }
 {
-    let files = unit.files;
+    let uses = uses_at(origin.members, file);
+    let files = origin.unit.files;
     Ok(Source {
         world,
         uses,
         used: used(alloc, uses)?,
-        globals: globals(alloc, unit, index, file)?,
-        truths: truths(alloc, unit, index, file)?,
+        globals: globals(alloc, origin.unit, origin.index, file)?,
+        truths: truths(alloc, origin.unit, origin.index, file)?,
         texts: texts(alloc, &files[file])?,
-        packages,
+        packages: origin.packages,
     })
 }
