@@ -23,7 +23,7 @@ ghost use Rattle.gr_object.specs.ObjectView.{AreOwnDefinitions, HaveNames, IsObj
 ghost use Rattle.gr_object.specs.Sources.{IsObjectText};
 
 use crate::declarations::push_decls;
-use crate::imports::push_imports;
+use crate::imports::{import_paths, push_imports};
 use crate::instructions::FunctionName;
 use crate::names::function_names;
 use crate::origin::Origin;
@@ -34,7 +34,6 @@ use gr_declared::{Index, Interfaces, Package, broken_definitions};
 use gr_expr::found::MemberUse;
 use gr_expr::symbol::SharedPath;
 use gr_expr::world::{Bound, Definition, Name, World};
-use gr_graph::import_paths::import_paths;
 use gr_imports::lay_names;
 use gr_meanings::{Bounds, bounds_of, file_names, one_world};
 use gr_scope::declare::declare;
@@ -42,17 +41,21 @@ use gr_scope::table::ScopeTable;
 use gr_tree::FileTree;
 use std::alloc::{AllocError, Global};
 
-/// What the object of a package without faults is made of: the path of the package and its files, in the order of their paths;
-/// what is known of the packages that it sees, its own type definitions, the uses of members that checking found, by files, and
-/// what packages call what they declare.
+/// A package without faults: its path and its files, in the order of their paths; its own type definitions, and the uses of
+/// members that checking found, by files.
 #[derive(Clone, Copy)]
 pub struct Faultless<'a> {
     pub path: &'a SharedPath,
     pub files: &'a [FileTree],
-    pub interfaces: &'a Interfaces,
     pub definitions: &'a [Definition],
     pub members: &'a [Vec<MemberUse>],
-    pub packages: &'a Packages<'a>,
+}
+
+/// A file, and behind how many of the functions of its package those that it declares stand.
+#[derive(Clone, Copy)]
+struct Turn {
+    file: usize,
+    number: usize,
 }
 
 /// What a file is judged by, with the type definitions of its package as other packages see them. Checking judges it by the type
@@ -78,28 +81,36 @@ fn own_world<'w>(
     }
 }
 
-/// Adds what a file declares that is judged by a world. The names of its functions begin at a number, and those of the
-/// functions behind it at the one that is answered.
+/// Adds what a file declares, by its names and what they mean. The names of the functions behind its own begin at the number
+/// that is answered.
 fn push_judged<'w>(
     alloc: Global,
     origin: Origin<'w>,
-    judged_by: World<'w>,
-    number: usize,
-    file: usize,
+    spelled: &'w [Name<'w>],
+    bounds: &'w [Bound],
+    turn: Turn,
     text: &mut Vec<u8>,
 ) -> Result<usize, AllocError>
     requires index { IsIndexOf (package_of origin.unit) origin.index.now }
+    requires names { AreNames (package_of origin.unit) turn.file bounds.now spelled.now }
+    requires definitions { AreOwnDefinitions (package_of origin.unit) origin.definitions.now }
     requires one { IsOneWorld (package_of origin.unit) }
-    requires world { (s : SourceFile) → slice_get (package_of origin.unit).files file ≡ Some s → IsWorldOf (package_of origin.unit) file s (world_of judged_by) }
-    requires spelling { (token : ℕ) → spelling_of (name_in judged_by token) ≡ spelled (package_of origin.unit) file token }
-    requires in_range { file < length origin.unit.files.now }
-    requires within { number ≤ length origin.names.now }
-    ensures { IfOk result (λ others. PutsFile (package_of origin.entry.unit) file (uses_or_none (slice_get origin.entry.members.now file)) origin.entry.packages.now origin.entry.names.now number others text.old.items text.new.items) }
+    requires in_range { turn.file < length origin.unit.files.now }
+    requires within { turn.number ≤ length origin.names.now }
+    ensures { IfOk result (λ others. PutsFile (package_of origin.entry.unit) turn.file (uses_or_none (slice_get origin.entry.members.now turn.file)) origin.entry.packages.now origin.entry.names.now turn.number others text.old.items text.new.items) }
 {
-    let made_of = source(alloc, origin, judged_by, file)?;
+    let judged_by = own_world(origin.unit, spelled, bounds, origin.definitions, turn.file);
+    let made_of = source(alloc, origin, judged_by, turn.file)?;
     let files = origin.unit.files;
-    let tree = files[file].file();
-    push_decls(alloc, &made_of, origin.names, number, &tree.decls, text)
+    let tree = files[turn.file].file();
+    push_decls(
+        alloc,
+        &made_of,
+        origin.names,
+        turn.number,
+        &tree.decls,
+        text,
+    )
 }
 
 /// Adds what a file declares.
@@ -107,28 +118,20 @@ fn push_file(
     alloc: Global,
     origin: Origin<'_>,
     bounds: &mut Bounds,
-    number: usize,
-    file: usize,
+    turn: Turn,
     text: &mut Vec<u8>,
 ) -> Result<usize, AllocError>
     requires index { IsIndexOf (package_of origin.unit) origin.index.now }
     requires bounds { AreBounds (package_of origin.unit) bounds.old.list.items bounds.old.of.items }
     requires definitions { AreOwnDefinitions (package_of origin.unit) origin.definitions.now }
     requires one { IsOneWorld (package_of origin.unit) }
-    requires in_range { file < length origin.unit.files.now }
-    requires within { number ≤ length origin.names.now }
-    ensures puts { IfOk result (λ others. PutsFile (package_of origin.entry.unit) file (uses_or_none (slice_get origin.entry.members.now file)) origin.entry.packages.now origin.entry.names.now number others text.old.items text.new.items) }
+    requires in_range { turn.file < length origin.unit.files.now }
+    requires within { turn.number ≤ length origin.names.now }
+    ensures puts { IfOk result (λ others. PutsFile (package_of origin.entry.unit) turn.file (uses_or_none (slice_get origin.entry.members.now turn.file)) origin.entry.packages.now origin.entry.names.now turn.number others text.old.items text.new.items) }
     ensures bounds { OnOk result (AreBounds (package_of origin.entry.unit) bounds.new.list.items bounds.new.of.items) }
 {
-    let spelled = file_names(alloc, origin.unit, origin.index, bounds, file)?;
-    let judged_by = own_world(
-        origin.unit,
-        &spelled,
-        bounds.list(),
-        origin.definitions,
-        file,
-    );
-    push_judged(alloc, origin, judged_by, number, file, text)
+    let spelled = file_names(alloc, origin.unit, origin.index, bounds, turn.file)?;
+    push_judged(alloc, origin, &spelled, bounds.list(), turn, text)
 }
 
 /// Adds what the files of a package declare.
@@ -146,7 +149,11 @@ fn push_files(
 {
     let mut others = 0;
     for file in 0..origin.unit.files.len() {
-        others = push_file(alloc, origin, bounds, others, file, text)?;
+        let turn = Turn {
+            file,
+            number: others,
+        };
+        others = push_file(alloc, origin, bounds, turn, text)?;
     }
     Ok(others)
 }
@@ -221,19 +228,20 @@ fn text_with<'a>(
     unit: Package<'a>,
     index: &'a Index<'a>,
     given: Faultless<'a>,
+    packages: &'a Packages<'a>,
     names: &'a [FunctionName<'a>],
 ) -> Result<Vec<u8>, AllocError>
     requires index { IsIndexOf (package_of unit) index.now }
     requires definitions { AreOwnDefinitions (package_of unit) given.definitions.now }
     requires names { map function_of names.now ≡ function_names unit.path.now (map source_of unit.files.now) }
-    ensures { IfOk result (λ text. (files_of : List ℕ → List SourceFile) → AreMemberUses (package_of unit.entry) (map uses_in given.entry.members.now) → HaveNames given.entry.packages.now files_of → IsObjectText (package_of unit.entry) files_of text.items) }
+    ensures { IfOk result (λ text. (files_of : List ℕ → List SourceFile) → AreMemberUses (package_of unit.entry) (map uses_in given.entry.members.now) → HaveNames packages.now files_of → IsObjectText (package_of unit.entry) files_of text.items) }
 {
     let origin = Origin {
         unit,
         index,
         definitions: given.definitions,
         members: given.members,
-        packages: given.packages,
+        packages,
         names,
     };
     named_text(alloc, origin)
@@ -245,10 +253,11 @@ fn indexed_text<'a>(
     unit: Package<'a>,
     index: &'a Index<'a>,
     given: Faultless<'a>,
+    packages: &'a Packages<'a>,
 ) -> Result<Vec<u8>, AllocError>
     requires index { IsIndexOf (package_of unit) index.now }
     requires definitions { AreOwnDefinitions (package_of unit) given.definitions.now }
-    ensures { IfOk result (λ text. (files_of : List ℕ → List SourceFile) → AreMemberUses (package_of unit.entry) (map uses_in given.entry.members.now) → HaveNames given.entry.packages.now files_of → IsObjectText (package_of unit.entry) files_of text.items) }
+    ensures { IfOk result (λ text. (files_of : List ℕ → List SourceFile) → AreMemberUses (package_of unit.entry) (map uses_in given.entry.members.now) → HaveNames packages.now files_of → IsObjectText (package_of unit.entry) files_of text.items) }
 {
     let names = function_names(
         alloc,
@@ -256,7 +265,7 @@ fn indexed_text<'a>(
         unit.files,
         &index.declared.functions,
     )?;
-    text_with(alloc, unit, index, given, &names)
+    text_with(alloc, unit, index, given, packages, &names)
 }
 
 /// The text of the object of a package.
@@ -264,12 +273,13 @@ fn package_text(
     alloc: Global,
     unit: Package<'_>,
     given: Faultless<'_>,
+    packages: &Packages<'_>,
 ) -> Result<Vec<u8>, AllocError>
     requires { AreOwnDefinitions (package_of unit) given.definitions.now }
-    ensures { IfOk result (λ text. (files_of : List ℕ → List SourceFile) → AreMemberUses (package_of unit.entry) (map uses_in given.entry.members.now) → HaveNames given.entry.packages.now files_of → IsObjectText (package_of unit.entry) files_of text.items) }
+    ensures { IfOk result (λ text. (files_of : List ℕ → List SourceFile) → AreMemberUses (package_of unit.entry) (map uses_in given.entry.members.now) → HaveNames packages.now files_of → IsObjectText (package_of unit.entry) files_of text.items) }
 {
     let index = Index::of(alloc, unit)?;
-    indexed_text(alloc, unit, &index, given)
+    indexed_text(alloc, unit, &index, given, packages)
 }
 
 /// The table of a package in which each import without a name declares the name of the imported package.
@@ -285,29 +295,37 @@ fn laid<'a>(
 }
 
 /// The text of the object of a package with that table.
-fn laid_text<'a>(
+fn laid_text(
     alloc: Global,
-    given: Faultless<'a>,
-    table: &'a ScopeTable<'a>,
+    given: Faultless<'_>,
+    table: &ScopeTable<'_>,
+    interfaces: &Interfaces,
+    packages: &Packages<'_>,
 ) -> Result<Vec<u8>, AllocError>
-    requires { AreOwnDefinitions (package_in given.path.now (map source_of given.files.now) table.now (interface_in given.interfaces.now)) given.definitions.now }
-    ensures { IfOk result (λ text. (files_of : List ℕ → List SourceFile) → AreMemberUses (package_in given.entry.path.now (map source_of given.entry.files.now) table.now (interface_in given.entry.interfaces.now)) (map uses_in given.entry.members.now) →
-        HaveNames given.entry.packages.now files_of → IsObjectText (package_in given.entry.path.now (map source_of given.entry.files.now) table.now (interface_in given.entry.interfaces.now)) files_of text.items) }
+    requires { AreOwnDefinitions (package_in given.path.now (map source_of given.files.now) table.now (interface_in interfaces.now)) given.definitions.now }
+    ensures { IfOk result (λ text. (files_of : List ℕ → List SourceFile) → AreMemberUses (package_in given.entry.path.now (map source_of given.entry.files.now) table.now (interface_in interfaces.now)) (map uses_in given.entry.members.now) →
+        HaveNames packages.now files_of → IsObjectText (package_in given.entry.path.now (map source_of given.entry.files.now) table.now (interface_in interfaces.now)) files_of text.items) }
 {
     let unit = Package {
         path: given.path,
         files: given.files,
         table,
-        interfaces: given.interfaces,
+        interfaces,
     };
-    package_text(alloc, unit, given)
+    package_text(alloc, unit, given, packages)
 }
 
-/// The text of the object of a package that has no fault.
-pub fn object(alloc: Global, given: Faultless<'_>) -> Result<Vec<u8>, AllocError>
-    requires { OwnDefinitionsOf given.path.now given.files.now (known_name given.interfaces.now) (interface_in given.interfaces.now) given.definitions.now }
-    ensures { IfOk result (λ text. IsObjectTextOf given.entry.path.now given.entry.files.now (known_name given.entry.interfaces.now) (interface_in given.entry.interfaces.now) (map uses_in given.entry.members.now) given.entry.packages.now text.items) }
+/// The text of the object of a package that has no fault, by what is known of the packages that it sees and what packages call
+/// what they declare.
+pub fn object(
+    alloc: Global,
+    given: Faultless<'_>,
+    interfaces: &Interfaces,
+    packages: &Packages<'_>,
+) -> Result<Vec<u8>, AllocError>
+    requires { OwnDefinitionsOf given.path.now given.files.now (known_name interfaces.now) (interface_in interfaces.now) given.definitions.now }
+    ensures { IfOk result (λ text. IsObjectTextOf given.entry.path.now given.entry.files.now (known_name interfaces.now) (interface_in interfaces.now) (map uses_in given.entry.members.now) packages.now text.items) }
 {
-    let table = laid(alloc, given.files, given.interfaces)?;
-    laid_text(alloc, given, &table)
+    let table = laid(alloc, given.files, interfaces)?;
+    laid_text(alloc, given, &table, interfaces, packages)
 }

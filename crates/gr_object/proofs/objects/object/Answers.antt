@@ -10,13 +10,13 @@ use Rattle.gr_object.proofs.objects.object.Goals as goal
 pub laid_text-requires : goal.laid_text-requires
 laid_text-requires c =
     let g = c.args.given in
-    c.requires (package_in g.path.now (map source_of g.files.now) c.in_ok-table.table (interface_in g.interfaces.now))
+    c.requires (package_in g.path.now (map source_of g.files.now) c.in_ok-table.table (interface_in c.args.interfaces.now))
     (record { laid = c.in_ok-table.table; is_laid = c.in_ok-table.ensures; is_package = refl })
 
 pub returns : goal.returns
 returns c =
     let g = c.args.given in
-    let own = package_in g.path.now (map source_of g.files.now) c.in_ok-table.table (interface_in g.interfaces.now) in
-    let mine : IsPackageOf g.path.now g.files.now (name_in g.interfaces.now) (interface_in g.interfaces.now) own =
+    let own = package_in g.path.now (map source_of g.files.now) c.in_ok-table.table (interface_in c.args.interfaces.now) in
+    let mine : IsPackageOf g.path.now g.files.now (name_in c.args.interfaces.now) (interface_in c.args.interfaces.now) own =
     record { laid = c.in_ok-table.table; is_laid = c.in_ok-table.ensures; is_package = refl } in
     IfOk-weaker c.laid_text.result _ _ (λ text h. (own, mine, h)) c.laid_text.ensures

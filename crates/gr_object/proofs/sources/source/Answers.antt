@@ -16,8 +16,7 @@ returns c =
       world = refl;
       uses = c.uses_at-uses.ensures;
       used = c.in_ok-used.ensures ∙ ap (map (λ (u : MemberUse). u.place)) c.uses_at-uses.ensures;
-      globals = c.in_ok-globals.ensures;
-      truths = c.in_ok-truths.ensures;
+      marks = c.in_ok-marks.ensures;
       texts = λ f is. subst (λ g. AreTexts g c.in_ok-texts.field-0.items) (same_Some _ _ (sym at ∙ is)) c.in_ok-texts.ensures;
       packages = refl;
     }
