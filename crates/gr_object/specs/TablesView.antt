@@ -1,5 +1,5 @@
 -- What is found of a file's tokens, as the program keeps it.
-use Rattle.std.specs.Prelude.{ℕ, ◌≡◌, ◌↔◌, true, List, Option, None, option_map, slice_get, slice_index_or, map}
+use Rattle.std.specs.Prelude.{ℕ, ◌≡◌, ◌↔◌, true, List, Option, Some, None, option_map, slice_get, slice_index_or, map}
 use Rattle.std.specs.Global.{Vec}
 use Rattle.gr_tree.specs.SourceFile.{SourceFile}
 use Rattle.gr_expr.specs.declared.world.World.{World}

@@ -257,12 +257,15 @@ pub fn source<'a>(
 {
     let uses = uses_at(origin.members, file);
     let files = origin.unit.files;
+    let marks = marks(alloc, origin.unit, origin.index, file)?;
+    let texts = texts(alloc, &files[file])?;
+    let used = used(alloc, uses)?;
     Ok(Source {
         world,
         uses,
-        used: used(alloc, uses)?,
-        marks: marks(alloc, origin.unit, origin.index, file)?,
-        texts: texts(alloc, &files[file])?,
+        used,
+        marks,
+        texts,
         packages: origin.packages,
     })
 }

@@ -17,6 +17,6 @@ returns c =
       uses = c.uses_at-uses.ensures;
       used = c.in_ok-used.ensures ∙ ap (map (λ (u : MemberUse). u.place)) c.uses_at-uses.ensures;
       marks = c.in_ok-marks.ensures;
-      texts = λ f is. subst (λ g. AreTexts g c.in_ok-texts.field-0.items) (same_Some _ _ (sym at ∙ is)) c.in_ok-texts.ensures;
+      texts = λ f is. subst (λ g. AreTexts g c.in_ok-texts.texts.items) (same_Some _ _ (sym at ∙ is)) c.in_ok-texts.ensures;
       packages = refl;
     }
