@@ -17,16 +17,6 @@ use gr_tree::syntax::BinaryOp;
 use itoa::Buffer;
 use std::alloc::AllocError;
 
-/// What `?` does, where the error is not made another: a step for the prover in place of three.
-macro_rules! done {
-    ($result:expr) => {
-        match $result {
-            Ok(value) => value,
-            Err(error) => return Err(error),
-        }
-    };
-}
-
 /// Adds a word.
 pub fn push_word(text: &mut Vec<u8>, word: &[u8]) -> Result<(), AllocError>
     ensures { OnOk result (text.new.items ≡ text.old.items ++ word.now) }
@@ -39,10 +29,8 @@ pub fn push_word(text: &mut Vec<u8>, word: &[u8]) -> Result<(), AllocError>
 pub fn push_words(text: &mut Vec<u8>, word: &[u8], other: &[u8]) -> Result<(), AllocError>
     ensures { OnOk result (text.new.items ≡ text.old.items ++ (word.now ++ other.now)) }
 {
-    match push_word(text, word) {
-        Ok(()) => push_word(text, other),
-        Err(error) => Err(error),
-    }
+    push_word(text, word)?;
+    push_word(text, other)
 }
 
 /// Adds a word between two others.
@@ -54,7 +42,7 @@ pub fn push_between(
 ) -> Result<(), AllocError>
     ensures { OnOk result (text.new.items ≡ text.old.items ++ (before.now ++ (word.now ++ after.now))) }
 {
-    done!(push_word(text, before));
+    push_word(text, before)?;
     push_words(text, word, after)
 }
 
