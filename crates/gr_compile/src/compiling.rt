@@ -15,7 +15,7 @@ use gr_expr::found::MemberUse;
 use gr_expr::symbol::SharedPath;
 use gr_expr::world::Definition;
 use gr_graph::Graph;
-use gr_object::objects::object;
+use gr_object::objects::{Faultless, object};
 use gr_text::FileText;
 use gr_verdict::{FileFault, Finding, Found, Known, seen, verdicts};
 use std::alloc::{AllocError, Global};
@@ -60,15 +60,14 @@ fn object_of(
     let interfaces = seen(alloc, graph, number, all)?;
     let packages = names_below(alloc, graph, number)?;
     let definitions = definitions_of(all, path.path());
-    let text = object(
-        alloc,
+    let trees = files.trees.as_slice();
+    let given = Faultless {
         path,
-        &files.trees,
-        &interfaces,
+        files: trees,
         definitions,
         members,
-        &packages,
-    )?;
+    };
+    let text = object(alloc, given, &interfaces, &packages)?;
     FileText::new(alloc, text)
 }
 

@@ -28,3 +28,4 @@ pub mod FittingParts
 pub mod FittingExpressions
 pub mod FittingStatements
 pub mod FittingObjects
+pub mod Marks

@@ -41,7 +41,7 @@ not_lexical l names u d e (use_bound is b) = elim is [
 ]
 not_lexical l names u d e (own same counts) = false≢true (sym (ap may_declare e) ∙ ap (λ v. may_declare (l.role v)) same ∙ counts.declares.may)
 
-own_or_imported : (p : Package) (file token d : ℕ) (path : List ℕ) → BindsToken p file token d → IsBehindImport p file token path → ⊥
+pub own_or_imported : (p : Package) (file token d : ℕ) (path : List ℕ) → BindsToken p file token d → IsBehindImport p file token path → ⊥
 own_or_imported p file token d path b s =
     let same : b.identifier ≡ s.identifier = one_first (StandsAt p.layout (record { file = file; index = token })) p.size b.identifier s.identifier b.found
     s.found in

@@ -105,8 +105,8 @@ is_source p n f w uses packages s one at tabled judged spelling files_of have ar
           ap (λ us. type_used us (slot_from 0 s.used.places.items token)) tabled.uses
           ∙ (ap (λ ps. type_used uses (slot_from 0 ps token)) tabled.used
           ∙ (used_from [] uses token ∙ ap (λ us. type_before us token) (uses_found p n f (world_of s.world) (map use_of uses) one at judges are)));
-      global = λ token. subst (IsGlobal p n token) (mapped (option_map global_of) s.globals.items token None) (tabled.globals token);
-      truth = λ token. tabled.truths token;
+      global = λ token. (tabled.marks token).global;
+      truth = λ token. (tabled.marks token).truth;
       number = λ token. ap number_of (ap (λ v. spelling_of (name_in v token)) same ∙ (spelling token ∙ ap (λ o. spelled_at o token) at));
       text = λ token. tabled.texts f at token;
       function = λ symbol. ap (λ ps. function_in ps symbol) tabled.packages ∙
@@ -114,8 +114,3 @@ is_source p n f w uses packages s one at tabled judged spelling files_of have ar
       position = λ symbol. ap (λ ps. position_in ps symbol) tabled.packages ∙
           position_at_names symbol.package (files_of symbol.package) (package_in packages symbol.package) symbol.rank (have symbol.package);
     }
-  where
-    mapped : {X Y : Type 0} (g : X → Y) (xs : List X) (k : ℕ) (d : X) → get_or (map g xs) k (g d) ≡ g (get_or xs k d)
-    mapped g [] k d = refl
-    mapped g (x ∷ xs) zero d = refl
-    mapped g (x ∷ xs) (suc k) d = mapped g xs k d

@@ -116,25 +116,26 @@ variables_end s own values now total ns i all h = sym (append-nil now) ∙
 
 -- Functions
 
-pub function_put : (s : Source) (f : tree.FuncTree) (name : FunctionName) (old new : List ℕ) (slots : List ℕ) (code : List Line)
+pub function_put : (s : Source) (f : tree.FuncTree) (name called : FunctionName) (old new : List ℕ) (slots : List ℕ) (code : List Line)
     (parameters results : List PlainType) (count : ℕ) →
     slots ≡ slots_of (source_of s).world f → code ≡ body_lines (source_of s) slots (length (result_types f.result)) f.body →
-    parameters ≡ parameters_of (source_of s).world f → results ≡ results_of (source_of s).world f →
+    called ≡ name → parameters ≡ parameters_of (source_of s).world f → results ≡ results_of (source_of s).world f →
     count ≡ length slots →
-    new ≡ old ++ (ended (header_text (type_in s.packages.now) name parameters results count (length code)) ++ code_text (type_in s.packages.now) code) →
+    new ≡ old ++ (ended (header_text (type_in s.packages.now) called parameters results count (length code)) ++ code_text (type_in s.packages.now) code) →
     new ≡ old ++ declaration_text (type_in s.packages.now) (FunctionOf (function_of (source_of s) f name))
 unfolding declaration_text
-function_put s f name old new slots code parameters results count is_slots is_code are_parameters are_results is_count e =
+function_put s f name called old new slots code parameters results count is_slots is_code is_called are_parameters are_results is_count e =
     let names = type_in s.packages.now in
     let lines : code ≡ body_lines (source_of s) (slots_of (source_of s).world f) (length (result_types f.result)) f.body = is_code ∙
     ap (λ xs. body_lines (source_of s) xs (length (result_types f.result)) f.body) is_slots in
-    e ∙ (ap (λ k. old ++ (ended (header_text names name parameters results k (length code)) ++ code_text names code)) (is_count ∙ ap length is_slots)
+    e ∙ (ap (λ n. old ++ (ended (header_text names n parameters results count (length code)) ++ code_text names code)) is_called
+    ∙ (ap (λ k. old ++ (ended (header_text names name parameters results k (length code)) ++ code_text names code)) (is_count ∙ ap length is_slots)
     ∙ (ap (λ ps. old ++ (ended (header_text names name ps results (length (slots_of (source_of s).world f)) (length code)) ++ code_text names code))
     are_parameters
     ∙ (ap (λ rs. old ++ (ended (header_text names name (parameters_of (source_of s).world f) rs (length (slots_of (source_of s).world f)) (length code)) ++
     code_text names code)) are_results
     ∙ ap (λ ls. old ++ (ended (header_text names name (parameters_of (source_of s).world f) (results_of (source_of s).world f)
-    (length (slots_of (source_of s).world f)) (length ls)) ++ code_text names ls)) lines)))
+    (length (slots_of (source_of s).world f)) (length ls)) ++ code_text names ls)) lines))))
 
 -- Files
 

@@ -1,13 +1,18 @@
 -- Parts of declarations in src/, as the definition has them.
-use Rattle.std.specs.Prelude.{Option, Some, None, map}
+use Rattle.std.specs.Prelude.{ℕ, ◌≡◌, Option, Some, None, map}
 use Rattle.gr_tree.specs.declared.tree.Item.{Item}
 use Rattle.gr_tree.specs.declared.tree.BasicLit.{BasicLit}
 use Rattle.gr_tree.specs.FileView.{basic_view}
+use Rattle.gr_tree.specs.Tree.{FuncTree}
 use Rattle.gr_expr.specs.View.{type_of}
+use Rattle.gr_expr.specs.World.{World}
 use Rattle.gr_object.specs.declared.declarations.Initial.{Initial}
 use Rattle.gr_object.specs.declared.declarations.Initial.TheVariants as initial
 use Rattle.gr_object.specs.declared.declarations.Definition.{Definition}
 use Rattle.gr_object.specs.declared.declarations.Definition.TheVariants as definition
+use Rattle.gr_object.specs.declared.declarations.Signature.{Signature}
+use Rattle.gr_object.specs.Lines.{FunctionName}
+use Rattle.gr_object.specs.LineView.{function_of}
 use Rattle.gr_object.specs.Source.{Source}
 use Rattle.gr_object.specs.Objects as object
 
@@ -23,3 +28,10 @@ definition_view (definition.Fields ts) = object.Fields (map type_of ts.items)
 abbrev pub literal_at : Source → Option (Item BasicLit) → Option object.Initial
 literal_at s None = None
 literal_at s (Some i) = object.initial_of s (basic_view i.value)
+
+-- what stands on the first line of a function of that name with so many slots
+pub record IsSignature (w : World) (f : FuncTree) (name : FunctionName) (slots : ℕ) (s : Signature) : Type 0 where
+  pub named : function_of s.name ≡ name
+  pub parameters : map type_of s.parameters.items ≡ object.parameters_of w f
+  pub results : map type_of s.results.items ≡ object.results_of w f
+  pub slot_count : s.slots ≡ slots

@@ -15,7 +15,7 @@ ghost use Rattle.gr_object.specs.Objects.{SameAs, TypeOf, Variable, FunctionOf, 
 ghost use Rattle.gr_object.specs.Objects as object;
 ghost use Rattle.gr_object.specs.Text.{code_text, ended};
 ghost use Rattle.gr_object.specs.ObjectText.{counts_text, declaration_text, definition_text, header_text, initial_text, signature_text};
-ghost use Rattle.gr_object.specs.DeclarationsView.{initial_view, definition_view, literal_at};
+ghost use Rattle.gr_object.specs.DeclarationsView.{initial_view, definition_view, literal_at, IsSignature};
 
 use crate::code::Code;
 use crate::functions::{add_written, body, parameters, results};
@@ -23,8 +23,8 @@ use crate::instructions::{FunctionName, GlobalName};
 use crate::numbered::Numbered;
 use crate::packages::Packages;
 use crate::printing::{
-    push_bytes, push_code, push_function, push_integer, push_numbered, push_type, push_type_list,
-    push_types, push_word_global, push_word_type,
+    push_code, push_numbered, push_type, push_type_list, push_types, push_word, push_word_bytes,
+    push_word_function, push_word_global, push_word_integer, push_word_type,
 };
 use crate::scope::Scope;
 use crate::slots::slots;
@@ -49,6 +49,15 @@ pub enum Initial<'a> {
 pub enum Definition {
     SameAs(GoType),
     Fields(Vec<GoType>),
+}
+
+/// What stands on the first line of a function, but for how many lines of code it has.
+#[derive(Drop)]
+pub struct Signature<'a> {
+    pub name: FunctionName<'a>,
+    pub parameters: Vec<GoType>,
+    pub results: Vec<GoType>,
+    pub slots: usize,
 }
 
 /// Adds the type of fields, once for each name.
@@ -127,10 +136,9 @@ fn push_definition(
     match definition {
         Definition::SameAs(own) => push_type(text, packages, own),
         Definition::Fields(types) => {
-            text.extend_from_slice(b"struct{")?;
+            push_word(text, b"struct{")?;
             push_types(text, packages, b";", types)?;
-            text.extend_from_slice(b"}")?;
-            Ok(())
+            push_word(text, b"}")
         }
     }
 }
@@ -146,10 +154,9 @@ fn push_type_line(
     ensures { OnOk result (text.new.items ≡ text.old.items ++ declaration_text (type_in packages.now) (TypeOf (global_of name.entry) (definition_view definition.now))) }
 {
     push_word_global(text, b"type ", name)?;
-    text.extend_from_slice(b" ")?;
+    push_word(text, b" ")?;
     push_definition(text, packages, definition)?;
-    text.push(b'\n')?;
-    Ok(())
+    push_word(text, b"\n")
 }
 
 /// Adds the line of the type definition of that name, where it is known what it is defined as.
@@ -247,14 +254,8 @@ fn push_initial(text: &mut Vec<u8>, value: Option<Initial<'_>>) -> Result<(), Al
 {
     match value {
         None => Ok(()),
-        Some(Initial::Integer(number)) => {
-            text.extend_from_slice(b" ")?;
-            push_integer(text, number)
-        }
-        Some(Initial::Text(bytes)) => {
-            text.extend_from_slice(b" ")?;
-            push_bytes(text, bytes)
-        }
+        Some(Initial::Integer(number)) => push_word_integer(text, b" ", number),
+        Some(Initial::Text(bytes)) => push_word_bytes(text, b" ", bytes),
     }
 }
 
@@ -272,8 +273,7 @@ fn push_variable(
     push_word_global(text, b"var ", name)?;
     push_word_type(text, packages, b" ", own)?;
     push_initial(text, value)?;
-    text.push(b'\n')?;
-    Ok(())
+    push_word(text, b"\n")
 }
 
 /// Adds the line of the variable of a name, where that is known.
@@ -355,9 +355,7 @@ fn push_signature(
 ) -> Result<(), AllocError>
     ensures { OnOk result (text.new.items ≡ text.old.items ++ signature_text (type_in packages.now) (map type_of parameters.now) (map type_of results.now)) }
 {
-    text.extend_from_slice(b" ")?;
     push_type_list(text, packages, parameters)?;
-    text.extend_from_slice(b" ")?;
     push_type_list(text, packages, results)
 }
 
@@ -369,40 +367,52 @@ fn push_counts(text: &mut Vec<u8>, slots: usize, lines: usize) -> Result<(), All
     push_numbered(text, b" ", lines)
 }
 
-/// Adds the first line of a function.
+/// Adds the first line of a function with so many lines of code.
 fn push_header(
     text: &mut Vec<u8>,
     packages: &Packages<'_>,
-    name: FunctionName<'_>,
-    parameters: &[GoType],
-    results: &[GoType],
-    slots: usize,
+    signature: &Signature<'_>,
     lines: usize,
 ) -> Result<(), AllocError>
-    ensures { OnOk result (text.new.items ≡ text.old.items ++ ended (header_text (type_in packages.now) (function_of name.entry) (map type_of parameters.now) (map type_of results.now) slots lines)) }
+    ensures { OnOk result (text.new.items ≡ text.old.items ++ ended (header_text (type_in packages.now) (function_of signature.now.name) (map type_of signature.now.parameters.items) (map type_of signature.now.results.items) signature.now.slots lines)) }
 {
-    text.extend_from_slice(b"func ")?;
-    push_function(text, name)?;
-    push_signature(text, packages, parameters, results)?;
-    push_counts(text, slots, lines)?;
-    text.push(b'\n')?;
-    Ok(())
+    push_word_function(text, b"func ", signature.name)?;
+    push_signature(text, packages, &signature.parameters, &signature.results)?;
+    push_counts(text, signature.slots, lines)?;
+    push_word(text, b"\n")
 }
 
 /// Adds the first line of a function and its code.
 fn push_lines(
     text: &mut Vec<u8>,
     packages: &Packages<'_>,
-    name: FunctionName<'_>,
-    parameters: &[GoType],
-    results: &[GoType],
-    slots: usize,
+    signature: &Signature<'_>,
     code: &Code<'_>,
 ) -> Result<(), AllocError>
-    ensures { OnOk result (text.new.items ≡ text.old.items ++ (ended (header_text (type_in packages.now) (function_of name.entry) (map type_of parameters.now) (map type_of results.now) slots (length (lines_in code.now))) ++ code_text (type_in packages.now) (lines_in code.now))) }
+    ensures { OnOk result (text.new.items ≡ text.old.items ++ (ended (header_text (type_in packages.now) (function_of signature.now.name) (map type_of signature.now.parameters.items) (map type_of signature.now.results.items) signature.now.slots (length (lines_in code.now))) ++ code_text (type_in packages.now) (lines_in code.now))) }
 {
-    push_header(text, packages, name, parameters, results, slots, code.len())?;
+    push_header(text, packages, signature, code.len())?;
     push_code(text, packages, code)
+}
+
+/// What stands on the first line of a function of that name with so many slots.
+fn signature_of<'a>(
+    alloc: Global,
+    world: &World<'_>,
+    func: &FuncDecl,
+    name: FunctionName<'a>,
+    slots: usize,
+) -> Result<Signature<'a>, AllocError>
+    ensures { IfOk result (IsSignature (world_of world.now) (func_view func.now) (function_of name.entry) slots) }
+{
+    let parameters = parameters(alloc, world, func)?;
+    let results = results(alloc, world, func)?;
+    Ok(Signature {
+        name,
+        parameters,
+        results,
+        slots,
+    })
 }
 
 /// Adds the lines of a function, whose slots are those of the scope.
@@ -417,18 +427,9 @@ fn push_scoped(
     ensures { OnOk result (text.new.items ≡ text.old.items ++ declaration_text (type_in scope.entry.source.now.packages.now) (FunctionOf (object.function_of (source_of scope.entry.source.now) (func_view func.now) (function_of name.entry)))) }
 {
     let source = scope.source;
+    let signature = signature_of(alloc, &source.world, func, name, scope.slots.len())?;
     let code = body(alloc, scope, func)?;
-    let received = parameters(alloc, &source.world, func)?;
-    let given = results(alloc, &source.world, func)?;
-    push_lines(
-        text,
-        source.packages,
-        name,
-        &received,
-        &given,
-        scope.slots.len(),
-        &code,
-    )
+    push_lines(text, source.packages, &signature, &code)
 }
 
 /// Adds the lines of a function that has these slots.

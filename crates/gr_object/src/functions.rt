@@ -50,6 +50,19 @@ pub fn body<'a>(alloc: Global, scope: Scope<'a>, func: &FuncDecl) -> Result<Code
     Ok(code)
 }
 
+/// Adds a type, where it is known.
+fn add_known(types: &mut Vec<GoType>, known: Option<GoType>) -> Result<(), AllocError>
+    ensures { OnOk result (map type_of types.new.items ≡ map type_of types.old.items ++ option_to_list (option_map type_of known)) }
+{
+    match known {
+        None => Ok(()),
+        Some(own) => {
+            types.push(own)?;
+            Ok(())
+        }
+    }
+}
+
 /// Adds the type that is written, where it is known.
 pub fn add_written(
     alloc: Global,
@@ -59,13 +72,8 @@ pub fn add_written(
 ) -> Result<(), AllocError>
     ensures { OnOk result (map type_of types.new.items ≡ map type_of types.old.items ++ written (world_of world.now) (type_view written_as.now)) }
 {
-    match written_type(alloc, world, written_as)? {
-        None => Ok(()),
-        Some(own) => {
-            types.push(own)?;
-            Ok(())
-        }
-    }
+    let known = written_type(alloc, world, written_as)?;
+    add_known(types, known)
 }
 
 /// The type that a receiver names, with its star.
@@ -96,13 +104,8 @@ fn add_receiver(
     let Some(receiver) = receiver else {
         return Ok(());
     };
-    match received_type(alloc, world, receiver)? {
-        None => Ok(()),
-        Some(own) => {
-            types.push(own)?;
-            Ok(())
-        }
-    }
+    let known = received_type(alloc, world, receiver)?;
+    add_known(types, known)
 }
 
 /// Adds the type of parameters, once for each name.

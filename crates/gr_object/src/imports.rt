@@ -8,6 +8,7 @@ ghost use Rattle.gr_graph.specs.Packages.{ImportsPath};
 ghost use Rattle.gr_object.specs.ObjectText.{import_line};
 ghost use Rattle.gr_object.specs.ImportsView.{paths_in, AddsPaths, HoldsPaths, SomeImport, SomeStandFor, StandsFor};
 
+use crate::printing::push_between;
 use gr_graph::{FileImport, read_imports};
 use gr_tree::FileTree;
 use std::alloc::{AllocError, Global};
@@ -68,10 +69,7 @@ pub fn import_paths(alloc: Global, files: &[FileTree]) -> Result<BTreeSet<Vec<u8
 fn push_import(text: &mut Vec<u8>, path: &[u8]) -> Result<(), AllocError>
     ensures { OnOk result (text.new.items ≡ text.old.items ++ import_line path.now) }
 {
-    text.extend_from_slice(b"import ")?;
-    text.extend_from_slice(path)?;
-    text.push(b'\n')?;
-    Ok(())
+    push_between(text, b"import ", path, b"\n")
 }
 
 /// Adds the lines of imports, by bytes.

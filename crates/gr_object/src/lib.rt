@@ -14,6 +14,7 @@ mod names;
 mod numbered;
 pub mod objects;
 mod operands;
+mod origin;
 pub mod packages;
 mod printing;
 mod scope;

@@ -5,6 +5,7 @@ ghost use Rattle.gr_tree.specs.View.{list_view, option_view};
 ghost use Rattle.gr_tree.specs.FileView.{body_view, field_view, receiver_view};
 ghost use Rattle.gr_tree.specs.SourceFile.{source_of};
 ghost use Rattle.gr_declared.specs.DeclaredView.{type_of, function_of as placed_function};
+ghost use Rattle.gr_declared.specs.Package.{declared_types, declared_functions};
 ghost use Rattle.gr_object.specs.LineView.{global_of, function_of};
 ghost use Rattle.gr_object.specs.Names.{body_positions, function_behind, function_called, function_named, functions_behind, initializers_with, is_initializer, is_named_init, names_of_fields, positions_from, spelled_in, type_called, type_positions};
 ghost use Rattle.gr_object.specs.NamesView.{AreNamesOf};
@@ -139,7 +140,7 @@ fn initializers_with(files: &[FileTree], number: usize, function: Function<'_>) 
 }
 
 /// What the functions of a package are called.
-fn function_names<'a>(
+pub fn function_names<'a>(
     alloc: Global,
     path: &'a [u8],
     files: &'a [FileTree],
@@ -212,6 +213,27 @@ fn field_positions(alloc: Global, types: &[TypeDef<'_>]) -> Result<Vec<usize>, A
     Ok(positions)
 }
 
+/// What the declarations of the package of a path are called, by what it declares.
+fn names_of<'a>(
+    alloc: Global,
+    path: &'a [u8],
+    files: &'a [FileTree],
+    declared: &Declared<'_>,
+) -> Result<PackageNames<'a>, AllocError>
+    requires types { map type_of declared.now.types.items ≡ declared_types (map source_of files.now) }
+    requires functions { map placed_function declared.now.functions.items ≡ declared_functions (map source_of files.now) }
+    ensures { IfOk result (λ names. AreNamesOf path.now (map source_of files.now) names) }
+{
+    let types = type_names(alloc, path, files, &declared.types)?;
+    let positions = field_positions(alloc, &declared.types)?;
+    let functions = function_names(alloc, path, files, &declared.functions)?;
+    Ok(PackageNames {
+        types,
+        functions,
+        positions,
+    })
+}
+
 impl<'a> PackageNames<'a> {
     /// What the declarations of the package of a path are called. Its files are in the order of their paths.
     pub fn of(
@@ -222,10 +244,6 @@ impl<'a> PackageNames<'a> {
         ensures { IfOk result (λ names. AreNamesOf path.now (map source_of files.now) names) }
     {
         let declared = Declared::of(alloc, files)?;
-        Ok(PackageNames {
-            types: type_names(alloc, path, files, &declared.types)?,
-            functions: function_names(alloc, path, files, &declared.functions)?,
-            positions: field_positions(alloc, &declared.types)?,
-        })
+        names_of(alloc, path, files, &declared)
     }
 }

@@ -14,6 +14,8 @@ ghost use Rattle.gr_meanings.specs.NamesView.{AreNames};
 ghost use Rattle.gr_declared.specs.Package.{spelled};
 ghost use Rattle.gr_declared.specs.PackageView.{package_of, IsIndexOf};
 ghost use Rattle.gr_meanings.specs.Uniqueness.{IsOneWorld};
+ghost use Rattle.gr_object.specs.LineView.{function_of};
+ghost use Rattle.gr_object.specs.Names.{function_names};
 ghost use Rattle.gr_object.specs.Objects.{Object};
 ghost use Rattle.gr_object.specs.ObjectText.{first_line};
 ghost use Rattle.gr_object.specs.ObjectSteps.{uses_or_none, PutsHead, PutsFiles};
@@ -23,7 +25,10 @@ ghost use Rattle.gr_object.specs.Sources.{IsObjectText};
 use crate::declarations::push_decls;
 use crate::imports::{import_paths, push_imports};
 use crate::instructions::FunctionName;
-use crate::packages::{PackageNames, Packages, path_bytes};
+use crate::names::function_names;
+use crate::origin::Origin;
+use crate::packages::{Packages, path_bytes};
+use crate::printing::{push_between, push_words};
 use crate::sources::source;
 use gr_declared::{Index, Interfaces, Package, broken_definitions};
 use gr_expr::found::MemberUse;
@@ -36,7 +41,25 @@ use gr_scope::table::ScopeTable;
 use gr_tree::FileTree;
 use std::alloc::{AllocError, Global};
 
-/// What a file is judged by, with the type definitions of its package as other packages see them.
+/// A package without faults: its path and its files, in the order of their paths; its own type definitions, and the uses of
+/// members that checking found, by files.
+#[derive(Clone, Copy)]
+pub struct Faultless<'a> {
+    pub path: &'a SharedPath,
+    pub files: &'a [FileTree],
+    pub definitions: &'a [Definition],
+    pub members: &'a [Vec<MemberUse>],
+}
+
+/// A file, and behind how many of the functions of its package those that it declares stand.
+#[derive(Clone, Copy)]
+struct Turn {
+    file: usize,
+    number: usize,
+}
+
+/// What a file is judged by, with the type definitions of its package as other packages see them. Checking judges it by the type
+/// definitions as it found them, which gr_types has and no crate below both.
 fn own_world<'w>(
     unit: Package<'w>,
     names: &'w [Name<'w>],
@@ -58,120 +81,79 @@ fn own_world<'w>(
     }
 }
 
-/// Adds what a file declares, by its names and what they mean. The names of its functions begin at a number, and those of the
-/// functions behind it at the one that is answered.
+/// Adds what a file declares, by its names and what they mean. The names of the functions behind its own begin at the number
+/// that is answered.
 fn push_judged<'w>(
     alloc: Global,
-    unit: Package<'w>,
-    index: &'w Index<'w>,
+    origin: Origin<'w>,
     spelled: &'w [Name<'w>],
     bounds: &'w [Bound],
-    definitions: &'w [Definition],
-    members: &'w [MemberUse],
-    packages: &'w Packages<'w>,
-    names: &[FunctionName<'_>],
-    number: usize,
-    file: usize,
+    turn: Turn,
     text: &mut Vec<u8>,
 ) -> Result<usize, AllocError>
-    requires index { IsIndexOf (package_of unit) index.now }
-    requires names { AreNames (package_of unit) file bounds.now spelled.now }
-    requires definitions { AreOwnDefinitions (package_of unit) definitions.now }
-    requires one { IsOneWorld (package_of unit) }
-    requires in_range { file < length unit.files.now }
-    requires within { number ≤ length names.now }
-    ensures { IfOk result (λ others. PutsFile (package_of unit.entry) file members.now packages.now names.now number others text.old.items text.new.items) }
+    requires index { IsIndexOf (package_of origin.unit) origin.index.now }
+    requires names { AreNames (package_of origin.unit) turn.file bounds.now spelled.now }
+    requires definitions { AreOwnDefinitions (package_of origin.unit) origin.definitions.now }
+    requires one { IsOneWorld (package_of origin.unit) }
+    requires in_range { turn.file < length origin.unit.files.now }
+    requires within { turn.number ≤ length origin.names.now }
+    ensures { IfOk result (λ others. PutsFile (package_of origin.entry.unit) turn.file (uses_or_none (slice_get origin.entry.members.now turn.file)) origin.entry.packages.now origin.entry.names.now turn.number others text.old.items text.new.items) }
 {
-    let judged_by = own_world(unit, spelled, bounds, definitions, file);
-    let made_of = source(alloc, unit, index, judged_by, members, packages, file)?;
-    let files = unit.files;
-    let tree = files[file].file();
-    push_decls(alloc, &made_of, names, number, &tree.decls, text)
+    let judged_by = own_world(origin.unit, spelled, bounds, origin.definitions, turn.file);
+    let made_of = source(alloc, origin, judged_by, turn.file)?;
+    let files = origin.unit.files;
+    let tree = files[turn.file].file();
+    push_decls(
+        alloc,
+        &made_of,
+        origin.names,
+        turn.number,
+        &tree.decls,
+        text,
+    )
 }
 
 /// Adds what a file declares.
 fn push_file(
     alloc: Global,
-    unit: Package<'_>,
-    index: &Index<'_>,
+    origin: Origin<'_>,
     bounds: &mut Bounds,
-    definitions: &[Definition],
-    members: &[MemberUse],
-    packages: &Packages<'_>,
-    names: &[FunctionName<'_>],
-    number: usize,
-    file: usize,
+    turn: Turn,
     text: &mut Vec<u8>,
 ) -> Result<usize, AllocError>
-    requires index { IsIndexOf (package_of unit) index.now }
-    requires bounds { AreBounds (package_of unit) bounds.old.list.items bounds.old.of.items }
-    requires definitions { AreOwnDefinitions (package_of unit) definitions.now }
-    requires one { IsOneWorld (package_of unit) }
-    requires in_range { file < length unit.files.now }
-    requires within { number ≤ length names.now }
-    ensures puts { IfOk result (λ others. PutsFile (package_of unit.entry) file members.now packages.now names.now number others text.old.items text.new.items) }
-    ensures bounds { OnOk result (AreBounds (package_of unit.entry) bounds.new.list.items bounds.new.of.items) }
+    requires index { IsIndexOf (package_of origin.unit) origin.index.now }
+    requires bounds { AreBounds (package_of origin.unit) bounds.old.list.items bounds.old.of.items }
+    requires definitions { AreOwnDefinitions (package_of origin.unit) origin.definitions.now }
+    requires one { IsOneWorld (package_of origin.unit) }
+    requires in_range { turn.file < length origin.unit.files.now }
+    requires within { turn.number ≤ length origin.names.now }
+    ensures puts { IfOk result (λ others. PutsFile (package_of origin.entry.unit) turn.file (uses_or_none (slice_get origin.entry.members.now turn.file)) origin.entry.packages.now origin.entry.names.now turn.number others text.old.items text.new.items) }
+    ensures bounds { OnOk result (AreBounds (package_of origin.entry.unit) bounds.new.list.items bounds.new.of.items) }
 {
-    let spelled = file_names(alloc, unit, index, bounds, file)?;
-    push_judged(
-        alloc,
-        unit,
-        index,
-        &spelled,
-        bounds.list(),
-        definitions,
-        members,
-        packages,
-        names,
-        number,
-        file,
-        text,
-    )
-}
-
-/// The uses of members of a file.
-fn uses_at(members: &[Vec<MemberUse>], file: usize) -> &[MemberUse]
-    ensures { result.now ≡ uses_or_none (slice_get members.now file) }
-{
-    match members.get(file) {
-        None => &[],
-        Some(uses) => uses,
-    }
+    let spelled = file_names(alloc, origin.unit, origin.index, bounds, turn.file)?;
+    push_judged(alloc, origin, &spelled, bounds.list(), turn, text)
 }
 
 /// Adds what the files of a package declare.
 fn push_files(
     alloc: Global,
-    unit: Package<'_>,
-    index: &Index<'_>,
+    origin: Origin<'_>,
     bounds: &mut Bounds,
-    definitions: &[Definition],
-    members: &[Vec<MemberUse>],
-    packages: &Packages<'_>,
-    names: &[FunctionName<'_>],
     text: &mut Vec<u8>,
 ) -> Result<usize, AllocError>
-    requires index { IsIndexOf (package_of unit) index.now }
-    requires bounds { AreBounds (package_of unit) bounds.old.list.items bounds.old.of.items }
-    requires definitions { AreOwnDefinitions (package_of unit) definitions.now }
-    requires one { IsOneWorld (package_of unit) }
-    ensures { IfOk result (λ others. PutsFiles (package_of unit.entry) (length unit.entry.files.now) members.now packages.now names.now others text.old.items text.new.items) }
+    requires index { IsIndexOf (package_of origin.unit) origin.index.now }
+    requires bounds { AreBounds (package_of origin.unit) bounds.old.list.items bounds.old.of.items }
+    requires definitions { AreOwnDefinitions (package_of origin.unit) origin.definitions.now }
+    requires one { IsOneWorld (package_of origin.unit) }
+    ensures { IfOk result (λ others. PutsFiles (package_of origin.entry.unit) (length origin.entry.unit.files.now) origin.entry.members.now origin.entry.packages.now origin.entry.names.now others text.old.items text.new.items) }
 {
     let mut others = 0;
-    for file in 0..unit.files.len() {
-        others = push_file(
-            alloc,
-            unit,
-            index,
-            bounds,
-            definitions,
-            uses_at(members, file),
-            packages,
-            names,
-            others,
+    for file in 0..origin.unit.files.len() {
+        let turn = Turn {
             file,
-            text,
-        )?;
+            number: others,
+        };
+        others = push_file(alloc, origin, bounds, turn, text)?;
     }
     Ok(others)
 }
@@ -191,12 +173,8 @@ fn package_name(files: &[FileTree]) -> &[u8]
 fn push_first_line(text: &mut Vec<u8>, path: &[u8], name: &[u8]) -> Result<(), AllocError>
     ensures { OnOk result ((o : Object) → o.path ≡ path.now → o.name ≡ name.now → text.new.items ≡ text.old.items ++ first_line o) }
 {
-    text.extend_from_slice(b"object ")?;
-    text.extend_from_slice(path)?;
-    text.extend_from_slice(b" ")?;
-    text.extend_from_slice(name)?;
-    text.push(b'\n')?;
-    Ok(())
+    push_between(text, b"object ", path, b" ")?;
+    push_words(text, name, b"\n")
 }
 
 /// Adds the first lines of an object: its own, and those of its imports.
@@ -208,36 +186,100 @@ fn push_head(alloc: Global, unit: Package<'_>, text: &mut Vec<u8>) -> Result<(),
     push_imports(text, &paths)
 }
 
+/// The text of the object of a package, where it is known what its declarations mean.
+fn meant_text(alloc: Global, origin: Origin<'_>, bounds: &mut Bounds) -> Result<Vec<u8>, AllocError>
+    requires index { IsIndexOf (package_of origin.unit) origin.index.now }
+    requires bounds { AreBounds (package_of origin.unit) bounds.old.list.items bounds.old.of.items }
+    requires definitions { AreOwnDefinitions (package_of origin.unit) origin.definitions.now }
+    requires one { IsOneWorld (package_of origin.unit) }
+    requires names { map function_of origin.names.now ≡ function_names origin.unit.path.now (map source_of origin.unit.files.now) }
+    ensures { IfOk result (λ text. (files_of : List ℕ → List SourceFile) → AreMemberUses (package_of origin.entry.unit) (map uses_in origin.entry.members.now) → HaveNames origin.entry.packages.now files_of → IsObjectText (package_of origin.entry.unit) files_of text.items) }
+{
+    let mut text = Vec::new(alloc);
+    push_head(alloc, origin.unit, &mut text)?;
+    push_files(alloc, origin, bounds, &mut text)?;
+    Ok(text)
+}
+
+/// What the declarations of a package mean.
+fn all_bounds(alloc: Global, unit: Package<'_>, index: &Index<'_>) -> Result<Bounds, AllocError>
+    requires { IsIndexOf (package_of unit) index.now }
+    ensures { IfOk result (λ bounds. AreBounds (package_of unit.entry) bounds.list.items bounds.of.items) }
+{
+    let broken = broken_definitions(alloc, unit, index)?;
+    bounds_of(alloc, unit, index, &broken)
+}
+
+/// The text of the object of a package, where it is known what its functions are called.
+fn named_text(alloc: Global, origin: Origin<'_>) -> Result<Vec<u8>, AllocError>
+    requires index { IsIndexOf (package_of origin.unit) origin.index.now }
+    requires definitions { AreOwnDefinitions (package_of origin.unit) origin.definitions.now }
+    requires names { map function_of origin.names.now ≡ function_names origin.unit.path.now (map source_of origin.unit.files.now) }
+    ensures { IfOk result (λ text. (files_of : List ℕ → List SourceFile) → AreMemberUses (package_of origin.entry.unit) (map uses_in origin.entry.members.now) → HaveNames origin.entry.packages.now files_of → IsObjectText (package_of origin.entry.unit) files_of text.items) }
+{
+    one_world(origin.unit);
+    let mut bounds = all_bounds(alloc, origin.unit, origin.index)?;
+    meant_text(alloc, origin, &mut bounds)
+}
+
+/// The text of the object of a package whose functions have these names.
+fn text_with<'a>(
+    alloc: Global,
+    unit: Package<'a>,
+    index: &'a Index<'a>,
+    given: Faultless<'a>,
+    packages: &'a Packages<'a>,
+    names: &'a [FunctionName<'a>],
+) -> Result<Vec<u8>, AllocError>
+    requires index { IsIndexOf (package_of unit) index.now }
+    requires definitions { AreOwnDefinitions (package_of unit) given.definitions.now }
+    requires names { map function_of names.now ≡ function_names unit.path.now (map source_of unit.files.now) }
+    ensures { IfOk result (λ text. (files_of : List ℕ → List SourceFile) → AreMemberUses (package_of unit.entry) (map uses_in given.entry.members.now) → HaveNames packages.now files_of → IsObjectText (package_of unit.entry) files_of text.items) }
+{
+    let origin = Origin {
+        unit,
+        index,
+        definitions: given.definitions,
+        members: given.members,
+        packages,
+        names,
+    };
+    named_text(alloc, origin)
+}
+
+/// The text of the object of a package in which this is found once.
+fn indexed_text<'a>(
+    alloc: Global,
+    unit: Package<'a>,
+    index: &'a Index<'a>,
+    given: Faultless<'a>,
+    packages: &'a Packages<'a>,
+) -> Result<Vec<u8>, AllocError>
+    requires index { IsIndexOf (package_of unit) index.now }
+    requires definitions { AreOwnDefinitions (package_of unit) given.definitions.now }
+    ensures { IfOk result (λ text. (files_of : List ℕ → List SourceFile) → AreMemberUses (package_of unit.entry) (map uses_in given.entry.members.now) → HaveNames packages.now files_of → IsObjectText (package_of unit.entry) files_of text.items) }
+{
+    let names = function_names(
+        alloc,
+        path_bytes(unit.path),
+        unit.files,
+        &index.declared.functions,
+    )?;
+    text_with(alloc, unit, index, given, packages, &names)
+}
+
 /// The text of the object of a package.
 fn package_text(
     alloc: Global,
     unit: Package<'_>,
-    definitions: &[Definition],
-    members: &[Vec<MemberUse>],
+    given: Faultless<'_>,
     packages: &Packages<'_>,
 ) -> Result<Vec<u8>, AllocError>
-    requires { AreOwnDefinitions (package_of unit) definitions.now }
-    ensures { IfOk result (λ text. (files_of : List ℕ → List SourceFile) → AreMemberUses (package_of unit.entry) (map uses_in members.now) → HaveNames packages.now files_of → IsObjectText (package_of unit.entry) files_of text.items) }
+    requires { AreOwnDefinitions (package_of unit) given.definitions.now }
+    ensures { IfOk result (λ text. (files_of : List ℕ → List SourceFile) → AreMemberUses (package_of unit.entry) (map uses_in given.entry.members.now) → HaveNames packages.now files_of → IsObjectText (package_of unit.entry) files_of text.items) }
 {
-    one_world(unit);
     let index = Index::of(alloc, unit)?;
-    let broken = broken_definitions(alloc, unit, &index)?;
-    let mut bounds = bounds_of(alloc, unit, &index, &broken)?;
-    let names = PackageNames::of(alloc, path_bytes(unit.path), unit.files)?;
-    let mut text = Vec::new(alloc);
-    push_head(alloc, unit, &mut text)?;
-    push_files(
-        alloc,
-        unit,
-        &index,
-        &mut bounds,
-        definitions,
-        members,
-        packages,
-        &names.functions,
-        &mut text,
-    )?;
-    Ok(text)
+    indexed_text(alloc, unit, &index, given, packages)
 }
 
 /// The table of a package in which each import without a name declares the name of the imported package.
@@ -255,74 +297,35 @@ fn laid<'a>(
 /// The text of the object of a package with that table.
 fn laid_text(
     alloc: Global,
-    path: &SharedPath,
-    files: &[FileTree],
+    given: Faultless<'_>,
     table: &ScopeTable<'_>,
     interfaces: &Interfaces,
-    definitions: &[Definition],
-    members: &[Vec<MemberUse>],
     packages: &Packages<'_>,
 ) -> Result<Vec<u8>, AllocError>
-    requires { AreOwnDefinitions (package_in path.now (map source_of files.now) table.now (interface_in interfaces.now)) definitions.now }
-    ensures { IfOk result (λ text. (files_of : List ℕ → List SourceFile) → AreMemberUses (package_in path.now (map source_of files.now) table.now (interface_in interfaces.now)) (map uses_in members.now) →
-        HaveNames packages.now files_of → IsObjectText (package_in path.now (map source_of files.now) table.now (interface_in interfaces.now)) files_of text.items) }
+    requires { AreOwnDefinitions (package_in given.path.now (map source_of given.files.now) table.now (interface_in interfaces.now)) given.definitions.now }
+    ensures { IfOk result (λ text. (files_of : List ℕ → List SourceFile) → AreMemberUses (package_in given.entry.path.now (map source_of given.entry.files.now) table.now (interface_in interfaces.now)) (map uses_in given.entry.members.now) →
+        HaveNames packages.now files_of → IsObjectText (package_in given.entry.path.now (map source_of given.entry.files.now) table.now (interface_in interfaces.now)) files_of text.items) }
 {
     let unit = Package {
-        path,
-        files,
+        path: given.path,
+        files: given.files,
         table,
         interfaces,
     };
-    package_text(alloc, unit, definitions, members, packages)
+    package_text(alloc, unit, given, packages)
 }
 
-/// The text of the object of the package of a path, where its files and what it sees last equally long.
-fn object_text<'a>(
-    alloc: Global,
-    path: &SharedPath,
-    files: &'a [FileTree],
-    interfaces: &'a Interfaces,
-    definitions: &[Definition],
-    members: &[Vec<MemberUse>],
-    packages: &Packages<'_>,
-) -> Result<Vec<u8>, AllocError>
-    requires { OwnDefinitionsOf path.now files.now (known_name interfaces.now) (interface_in interfaces.now) definitions.now }
-    ensures { IfOk result (λ text. IsObjectTextOf path.now files.now (known_name interfaces.now) (interface_in interfaces.now) (map uses_in members.now) packages.now text.items) }
-{
-    let table = laid(alloc, files, interfaces)?;
-    laid_text(
-        alloc,
-        path,
-        files,
-        &table,
-        interfaces,
-        definitions,
-        members,
-        packages,
-    )
-}
-
-/// The text of the object of the package of a path that has no fault: by its own type definitions, the uses of members that
-/// checking found, and what the packages that it sees call what they declare. Its files are in the order of their paths.
+/// The text of the object of a package that has no fault, by what is known of the packages that it sees and what packages call
+/// what they declare.
 pub fn object(
     alloc: Global,
-    path: &SharedPath,
-    files: &[FileTree],
+    given: Faultless<'_>,
     interfaces: &Interfaces,
-    definitions: &[Definition],
-    members: &[Vec<MemberUse>],
     packages: &Packages<'_>,
 ) -> Result<Vec<u8>, AllocError>
-    requires { OwnDefinitionsOf path.now files.now (known_name interfaces.now) (interface_in interfaces.now) definitions.now }
-    ensures { IfOk result (λ text. IsObjectTextOf path.now files.now (known_name interfaces.now) (interface_in interfaces.now) (map uses_in members.now) packages.now text.items) }
+    requires { OwnDefinitionsOf given.path.now given.files.now (known_name interfaces.now) (interface_in interfaces.now) given.definitions.now }
+    ensures { IfOk result (λ text. IsObjectTextOf given.entry.path.now given.entry.files.now (known_name interfaces.now) (interface_in interfaces.now) (map uses_in given.entry.members.now) packages.now text.items) }
 {
-    object_text(
-        alloc,
-        path,
-        files,
-        interfaces,
-        definitions,
-        members,
-        packages,
-    )
+    let table = laid(alloc, given.files, interfaces)?;
+    laid_text(alloc, given, &table, interfaces, packages)
 }

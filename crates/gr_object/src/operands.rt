@@ -8,7 +8,7 @@ use crate::instructions::FunctionName;
 use gr_expr::types::Builtin;
 
 /// What of an expression is wanted: its value, or the address of its value.
-#[derive(Clone, Copy, PartialEq, Eq, Debug)]
+#[derive(Clone, Copy)]
 pub enum Wanted {
     Value,
     Address,

@@ -17,57 +17,71 @@ use gr_tree::syntax::BinaryOp;
 use itoa::Buffer;
 use std::alloc::AllocError;
 
-/// Adds a number in decimal.
-pub fn push_number(text: &mut Vec<u8>, number: usize) -> Result<(), AllocError>
-    ensures { OnOk result (text.new.items ≡ text.old.items ++ decimal number) }
+/// Adds a word.
+pub fn push_word(text: &mut Vec<u8>, word: &[u8]) -> Result<(), AllocError>
+    ensures { OnOk result (text.new.items ≡ text.old.items ++ word.now) }
 {
-    let mut digits = Buffer::new();
-    text.extend_from_slice(digits.format(number).as_bytes())?;
+    text.extend_from_slice(word)?;
     Ok(())
 }
 
-/// Adds the value of an integer literal in decimal.
-pub fn push_integer(text: &mut Vec<u8>, number: u64) -> Result<(), AllocError>
-    ensures { OnOk result (text.new.items ≡ text.old.items ++ decimal number) }
+/// Adds a word and another.
+pub fn push_words(text: &mut Vec<u8>, word: &[u8], other: &[u8]) -> Result<(), AllocError>
+    ensures { OnOk result (text.new.items ≡ text.old.items ++ (word.now ++ other.now)) }
 {
-    let mut digits = Buffer::new();
-    text.extend_from_slice(digits.format(number).as_bytes())?;
-    Ok(())
+    push_word(text, word)?;
+    push_word(text, other)
+}
+
+/// Adds a word between two others.
+pub fn push_between(
+    text: &mut Vec<u8>,
+    before: &[u8],
+    word: &[u8],
+    after: &[u8],
+) -> Result<(), AllocError>
+    ensures { OnOk result (text.new.items ≡ text.old.items ++ (before.now ++ (word.now ++ after.now))) }
+{
+    push_word(text, before)?;
+    push_words(text, word, after)
 }
 
 /// Adds a word and a number.
 pub fn push_numbered(text: &mut Vec<u8>, word: &[u8], number: usize) -> Result<(), AllocError>
     ensures { OnOk result (text.new.items ≡ text.old.items ++ with_number word.now number) }
 {
-    text.extend_from_slice(word)?;
-    push_number(text, number)
+    let mut digits = Buffer::new();
+    push_words(text, word, digits.format(number).as_bytes())
+}
+
+/// Adds a word and the value of an integer literal in decimal.
+pub fn push_word_integer(text: &mut Vec<u8>, word: &[u8], number: u64) -> Result<(), AllocError>
+    ensures { OnOk result (text.new.items ≡ text.old.items ++ with_number word.now number) }
+{
+    let mut digits = Buffer::new();
+    push_words(text, word, digits.format(number).as_bytes())
 }
 
 /// Adds the name of a declaration of a package's block.
-pub fn push_global(text: &mut Vec<u8>, name: GlobalName<'_>) -> Result<(), AllocError>
+fn push_global(text: &mut Vec<u8>, name: GlobalName<'_>) -> Result<(), AllocError>
     ensures { OnOk result (text.new.items ≡ text.old.items ++ global_text (global_of name.entry)) }
 {
-    text.extend_from_slice(name.path)?;
-    text.extend_from_slice(b"#")?;
-    text.extend_from_slice(name.name)?;
-    Ok(())
+    push_between(text, name.path, b"#", name.name)
 }
 
 /// Adds the name of a function.
 #[tactic(auto, unfolding(crate::specs::LineView::function_of, crate::specs::Text::function_text))]
-pub fn push_function(text: &mut Vec<u8>, name: FunctionName<'_>) -> Result<(), AllocError>
+fn push_function(text: &mut Vec<u8>, name: FunctionName<'_>) -> Result<(), AllocError>
     ensures { OnOk result (text.new.items ≡ text.old.items ++ function_text (function_of name.entry)) }
 {
     match name {
         FunctionName::Plain(name) => push_global(text, name),
         FunctionName::Method { receiver, name } => {
             push_global(text, receiver)?;
-            text.extend_from_slice(b"#")?;
-            text.extend_from_slice(name)?;
-            Ok(())
+            push_words(text, b"#", name)
         }
         FunctionName::Initializer { path, number } => {
-            text.extend_from_slice(path)?;
+            push_word(text, path)?;
             push_numbered(text, b"#init.", number)
         }
     }
@@ -121,17 +135,14 @@ pub fn push_type(
     ensures { OnOk result (text.new.items ≡ text.old.items ++ type_text (type_in packages.now) (type_of own.now)) }
 {
     match own {
-        GoType::Basic(basic) => {
-            text.extend_from_slice(basic_name(*basic))?;
-            Ok(())
-        }
+        GoType::Basic(basic) => push_word(text, basic_name(*basic)),
         GoType::Defined(symbol) => push_symbol(text, packages, symbol),
         GoType::Pointer(target) => {
-            text.extend_from_slice(b"*")?;
+            push_word(text, b"*")?;
             push_type(text, packages, target)
         }
         GoType::Slice(element) => {
-            text.extend_from_slice(b"[]")?;
+            push_word(text, b"[]")?;
             push_type(text, packages, element)
         }
     }
@@ -146,7 +157,7 @@ fn push_type_behind(
 ) -> Result<(), AllocError>
     ensures { OnOk result (text.new.items ≡ text.old.items ++ type_behind (type_in packages.now) separator.now (type_of own.now)) }
 {
-    text.extend_from_slice(separator)?;
+    push_word(text, separator)?;
     push_type(text, packages, own)
 }
 
@@ -181,18 +192,17 @@ pub fn push_types(
     push_types_behind(text, packages, separator, others)
 }
 
-/// Adds the list of the types of parameters or results.
+/// Adds a blank and the list of the types of parameters or results.
 pub fn push_type_list(
     text: &mut Vec<u8>,
     packages: &Packages<'_>,
     types: &[GoType],
 ) -> Result<(), AllocError>
-    ensures { OnOk result (text.new.items ≡ text.old.items ++ type_list (type_in packages.now) (map type_of types.now)) }
+    ensures { OnOk result (text.new.items ≡ text.old.items ++ (codes " " ++ type_list (type_in packages.now) (map type_of types.now))) }
 {
-    text.extend_from_slice(b"(")?;
+    push_word(text, b" (")?;
     push_types(text, packages, b",", types)?;
-    text.extend_from_slice(b")")?;
-    Ok(())
+    push_word(text, b")")
 }
 
 /// A digit of base 16, in lower case.
@@ -207,9 +217,7 @@ fn hex_digit(digit: u8) -> u8
 fn push_hex_byte(text: &mut Vec<u8>, byte: u8) -> Result<(), AllocError>
     ensures { OnOk result (text.new.items ≡ text.old.items ++ hex_byte byte) }
 {
-    text.push(hex_digit(byte / 16))?;
-    text.push(hex_digit(byte % 16))?;
-    Ok(())
+    push_word(text, &[hex_digit(byte / 16), hex_digit(byte % 16)])
 }
 
 /// Adds two digits for each byte.
@@ -223,10 +231,10 @@ fn push_hex(text: &mut Vec<u8>, bytes: &[u8]) -> Result<(), AllocError>
 }
 
 /// Adds the bytes of a string.
-pub fn push_bytes(text: &mut Vec<u8>, bytes: &[u8]) -> Result<(), AllocError>
+fn push_bytes(text: &mut Vec<u8>, bytes: &[u8]) -> Result<(), AllocError>
     ensures { OnOk result (text.new.items ≡ text.old.items ++ bytes_text bytes.now) }
 {
-    text.extend_from_slice(b"x")?;
+    push_word(text, b"x")?;
     push_hex(text, bytes)
 }
 
@@ -252,14 +260,6 @@ fn operator_text(op: BinaryOp) -> &'static [u8]
     }
 }
 
-/// Adds a word.
-fn push_word(text: &mut Vec<u8>, word: &[u8]) -> Result<(), AllocError>
-    ensures { OnOk result (text.new.items ≡ text.old.items ++ word.now) }
-{
-    text.extend_from_slice(word)?;
-    Ok(())
-}
-
 /// Adds a word and a name of a declaration of a package's block.
 pub fn push_word_global(
     text: &mut Vec<u8>,
@@ -268,8 +268,20 @@ pub fn push_word_global(
 ) -> Result<(), AllocError>
     ensures { OnOk result (text.new.items ≡ text.old.items ++ (word.now ++ global_text (global_of name.entry))) }
 {
-    text.extend_from_slice(word)?;
+    push_word(text, word)?;
     push_global(text, name)
+}
+
+/// Adds a word and the name of a function.
+pub fn push_word_function(
+    text: &mut Vec<u8>,
+    word: &[u8],
+    name: FunctionName<'_>,
+) -> Result<(), AllocError>
+    ensures { OnOk result (text.new.items ≡ text.old.items ++ (word.now ++ function_text (function_of name.entry))) }
+{
+    push_word(text, word)?;
+    push_function(text, name)
 }
 
 /// Adds the words of a call of a function.
@@ -280,8 +292,7 @@ fn push_call(
 ) -> Result<(), AllocError>
     ensures { OnOk result (text.new.items ≡ text.old.items ++ (codes "call " ++ (function_text (function_of function.entry) ++ with_number (codes " ") arguments))) }
 {
-    text.extend_from_slice(b"call ")?;
-    push_function(text, function)?;
+    push_word_function(text, b"call ", function)?;
     push_numbered(text, b" ", arguments)
 }
 
@@ -289,34 +300,16 @@ fn push_call(
 fn push_builtin(text: &mut Vec<u8>, builtin: Builtin, arguments: usize) -> Result<(), AllocError>
     ensures { OnOk result (text.new.items ≡ text.old.items ++ (codes "builtin " ++ (builtin_name builtin ++ with_number (codes " ") arguments))) }
 {
-    text.extend_from_slice(b"builtin ")?;
-    text.extend_from_slice(builtin_name(builtin))?;
+    push_words(text, b"builtin ", builtin_name(builtin))?;
     push_numbered(text, b" ", arguments)
 }
 
 /// Adds a word and a string's bytes.
-fn push_word_bytes(text: &mut Vec<u8>, word: &[u8], bytes: &[u8]) -> Result<(), AllocError>
+pub fn push_word_bytes(text: &mut Vec<u8>, word: &[u8], bytes: &[u8]) -> Result<(), AllocError>
     ensures { OnOk result (text.new.items ≡ text.old.items ++ (word.now ++ bytes_text bytes.now)) }
 {
-    text.extend_from_slice(word)?;
+    push_word(text, word)?;
     push_bytes(text, bytes)
-}
-
-/// Adds a word and an integer literal.
-fn push_word_integer(text: &mut Vec<u8>, word: &[u8], number: u64) -> Result<(), AllocError>
-    ensures { OnOk result (text.new.items ≡ text.old.items ++ (word.now ++ decimal number)) }
-{
-    text.extend_from_slice(word)?;
-    push_integer(text, number)
-}
-
-/// Adds a word and another.
-fn push_words(text: &mut Vec<u8>, word: &[u8], other: &[u8]) -> Result<(), AllocError>
-    ensures { OnOk result (text.new.items ≡ text.old.items ++ (word.now ++ other.now)) }
-{
-    text.extend_from_slice(word)?;
-    text.extend_from_slice(other)?;
-    Ok(())
 }
 
 /// Adds a word and a type.
@@ -328,7 +321,7 @@ pub fn push_word_type(
 ) -> Result<(), AllocError>
     ensures { OnOk result (text.new.items ≡ text.old.items ++ (word.now ++ type_text (type_in packages.now) (type_of own.now))) }
 {
-    text.extend_from_slice(word)?;
+    push_word(text, word)?;
     push_type(text, packages, own)
 }
 
@@ -400,8 +393,7 @@ fn push_line(
     ensures { OnOk result (text.new.items ≡ text.old.items ++ ended (words_of (type_in packages.now) (line_of line.now))) }
 {
     push_line_words(text, packages, line)?;
-    text.push(b'\n')?;
-    Ok(())
+    push_word(text, b"\n")
 }
 
 /// Adds lines of which the last one stands first.

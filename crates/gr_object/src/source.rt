@@ -13,16 +13,22 @@ use gr_expr::types::GoType;
 use gr_expr::world::World;
 use gr_scan::integer_value;
 
-/// What names are bound to, by their tokens; the uses of members, with the tokens at which they stand; by tokens the declaration of
-/// a package's block that a name is bound to, whether a truth value is the true one, and the values of string literals. And what
-/// is called how in packages.
+/// What the name at a token is to code: the declaration of a package's block that it is bound to, and whether it is the predeclared
+/// `true`.
+#[derive(Clone, Copy)]
+pub struct Mark<'a> {
+    pub global: Option<GlobalName<'a>>,
+    pub truth: bool,
+}
+
+/// What names are bound to, by their tokens; the uses of members, with the tokens at which they stand; by tokens what names are to
+/// code, and the values of string literals. And what is called how in packages.
 #[derive(Drop)]
 pub struct Source<'a> {
     pub world: World<'a>,
     pub uses: &'a [MemberUse],
     pub used: Numbered,
-    pub globals: Vec<Option<GlobalName<'a>>>,
-    pub truths: Vec<bool>,
+    pub marks: Vec<Mark<'a>>,
     pub texts: Vec<Option<Vec<u8>>>,
     pub packages: &'a Packages<'a>,
 }
@@ -40,16 +46,16 @@ impl<'a> Source<'a> {
     pub fn global(&self, token: usize) -> Option<GlobalName<'a>>
         ensures { option_map global_of result ≡ (source_of self.now).global token }
     {
-        *self.globals.get(token)?
+        self.marks.get(token)?.global
     }
 
     /// Whether the truth value at a token is the true one.
     pub fn truth(&self, token: usize) -> bool
         ensures { result ≡ (source_of self.now).truth token }
     {
-        match self.truths.get(token) {
+        match self.marks.get(token) {
             None => false,
-            Some(truth) => *truth,
+            Some(mark) => mark.truth,
         }
     }
 

@@ -1,21 +1,22 @@
 //! What the code of a file is made of, from the scopes of its package and what checking found.
-ghost use Rattle.std.specs.Prelude.{◌≡◌, ◌<◌, ◌≤◌, ◌↔◌, ℕ, List, codes, length, map, option_map, IfOk, IsTrue, MatchOption};
+ghost use Rattle.std.specs.Prelude.{◌≡◌, ◌<◌, ◌≤◌, ◌↔◌, ℕ, List, Some, codes, length, map, option_map, slice_get, IfOk, IsTrue, MatchOption};
 ghost use Rattle.gr_tree.specs.SourceFile.{source_of as plain_file};
 ghost use Rattle.gr_scope.specs.declared.model.Role.TheVariants.{NotLexical};
 ghost use Rattle.gr_scope.specs.declared.model.Purpose.TheVariants as purpose;
-ghost use Rattle.gr_scope.specs.Bindings.{IsPackageLevel};
 ghost use Rattle.gr_meanings.specs.NamesView.{IsBehindDot};
 ghost use Rattle.gr_declared.specs.PackageView.{package_of, IsIndexOf};
 ghost use Rattle.gr_declared.specs.Written.{BindsToken, IsPredeclared};
 ghost use Rattle.gr_declared.specs.Written.{ImportsPath as DeclaresImport};
 ghost use Rattle.gr_object.specs.LineView.{global_of};
-ghost use Rattle.gr_object.specs.Sources.{IsBehindImport, IsGlobal, IsTextAt, IsTrueAt};
-ghost use Rattle.gr_object.specs.TablesView.{AreGlobals, AreTexts, AreTruths, IsTabled};
+ghost use Rattle.gr_object.specs.ObjectSteps.{uses_or_none};
+ghost use Rattle.gr_object.specs.Sources.{IsBehindImport, IsGlobal, IsTextAt};
+ghost use Rattle.gr_object.specs.TablesView.{AreMarks, AreTexts, IsMarkAt, IsTabled};
 
 use crate::instructions::GlobalName;
 use crate::numbered::Numbered;
-use crate::packages::{Packages, path_bytes};
-use crate::source::Source;
+use crate::origin::Origin;
+use crate::packages::path_bytes;
+use crate::source::{Mark, Source};
 use gr_declared::{Index, Package};
 use gr_expr::found::MemberUse;
 use gr_expr::world::World;
@@ -130,57 +131,6 @@ fn qualifier<'i>(
     }
 }
 
-/// Whether the name at a token is bound to a declaration of the package's block.
-fn is_own(unit: Package<'_>, index: &Index<'_>, file: usize, token: usize) -> bool
-    requires { IsIndexOf (package_of unit) index.now }
-    ensures { IsTrue result ↔ ((d : ℕ) × (BindsToken (package_of unit.entry) file token d × IsPackageLevel (package_of unit.entry).layout d)) }
-{
-    match index.binding(unit, file, token) {
-        None => false,
-        Some(d) => unit.table.role(d).block().same(Block::Package),
-    }
-}
-
-/// The declaration of a package's block that the name at a token is bound to.
-fn global_at<'a>(
-    unit: Package<'a>,
-    index: &'a Index<'_>,
-    file: usize,
-    token: usize,
-) -> Option<GlobalName<'a>>
-    requires { IsIndexOf (package_of unit) index.now }
-    ensures { IsGlobal (package_of unit.entry) file token (option_map global_of result) }
-{
-    let name = unit.spelling(file, token);
-    if is_own(unit, index, file, token) {
-        return Some(GlobalName {
-            path: path_bytes(unit.path),
-            name,
-        });
-    }
-    match qualifier(unit, index, file, token) {
-        None => None,
-        Some(path) => Some(GlobalName { path, name }),
-    }
-}
-
-/// The declarations of package blocks that the names of a file are bound to, by their tokens.
-fn globals<'a>(
-    alloc: Global,
-    unit: Package<'a>,
-    index: &'a Index<'_>,
-    file: usize,
-) -> Result<Vec<Option<GlobalName<'a>>>, AllocError>
-    requires { IsIndexOf (package_of unit) index.now }
-    ensures { IfOk result (λ globals. AreGlobals (package_of unit.entry) file (map (option_map global_of) globals.items)) }
-{
-    let mut globals = Vec::new(alloc);
-    for token in 0..index.identifiers.width(file) {
-        globals.push(global_at(unit, index, file, token))?;
-    }
-    Ok(globals)
-}
-
 /// Whether a declaration is the predeclared `true`.
 fn is_true(unit: Package<'_>, d: usize) -> bool
     requires { d < length unit.table.now.sites }
@@ -192,56 +142,130 @@ fn is_true(unit: Package<'_>, d: usize) -> bool
         && unit.table.name(d) == b"true".as_slice()
 }
 
-/// Whether the name at a token is bound to the predeclared `true`.
-fn is_true_at(unit: Package<'_>, index: &Index<'_>, file: usize, token: usize) -> bool
-    requires { IsIndexOf (package_of unit) index.now }
-    ensures { IsTrue result ↔ IsTrueAt (package_of unit.entry) file token }
+/// The declaration of a package's block that the name at a token is bound to, where it is bound to this declaration.
+fn own_global<'a>(unit: Package<'a>, file: usize, token: usize, d: usize) -> Option<GlobalName<'a>>
+    requires in_range { d < length unit.table.now.sites }
+    requires bound { BindsToken (package_of unit) file token d }
+    requires only { (e : ℕ) → BindsToken (package_of unit) file token e → e ≡ d }
+    ensures { IsGlobal (package_of unit.entry) file token (option_map global_of result) }
 {
-    match index.binding(unit, file, token) {
-        None => false,
-        Some(d) => is_true(unit, d),
+    let is_own = unit.table.role(d).block().same(Block::Package);
+    if is_own {
+        Some(GlobalName {
+            path: path_bytes(unit.path),
+            name: unit.spelling(file, token),
+        })
+    } else {
+        None
     }
 }
 
-/// Which names of a file are bound to the predeclared `true`, by their tokens.
-fn truths(
-    alloc: Global,
-    unit: Package<'_>,
-    index: &Index<'_>,
-    file: usize,
-) -> Result<Vec<bool>, AllocError>
-    requires { IsIndexOf (package_of unit) index.now }
-    ensures { IfOk result (λ truths. AreTruths (package_of unit.entry) file truths.items) }
+/// What the name at a token is to code that is bound to a declaration.
+fn bound_mark<'a>(unit: Package<'a>, file: usize, token: usize, d: usize) -> Mark<'a>
+    requires in_range { d < length unit.table.now.sites }
+    requires bound { BindsToken (package_of unit) file token d }
+    requires only { (e : ℕ) → BindsToken (package_of unit) file token e → e ≡ d }
+    ensures { IsMarkAt (package_of unit.entry) file token (Some result) }
 {
-    let mut truths = Vec::new(alloc);
-    for token in 0..index.identifiers.width(file) {
-        truths.push(is_true_at(unit, index, file, token))?;
+    Mark {
+        global: own_global(unit, file, token, d),
+        truth: is_true(unit, d),
     }
-    Ok(truths)
+}
+
+/// The declaration of an imported package's block that the name at a token is bound to, where it is bound to no declaration of
+/// its own package.
+fn imported_global<'a>(
+    unit: Package<'a>,
+    index: &'a Index<'_>,
+    file: usize,
+    token: usize,
+) -> Option<GlobalName<'a>>
+    requires index { IsIndexOf (package_of unit) index.now }
+    requires unbound { (d : ℕ) → BindsToken (package_of unit) file token d → ⊥ }
+    ensures { IsGlobal (package_of unit.entry) file token (option_map global_of result) }
+{
+    match qualifier(unit, index, file, token) {
+        None => None,
+        Some(path) => Some(GlobalName {
+            path,
+            name: unit.spelling(file, token),
+        }),
+    }
+}
+
+/// What the name at a token is to code that is bound to no declaration.
+fn free_mark<'a>(unit: Package<'a>, index: &'a Index<'_>, file: usize, token: usize) -> Mark<'a>
+    requires index { IsIndexOf (package_of unit) index.now }
+    requires unbound { (d : ℕ) → BindsToken (package_of unit) file token d → ⊥ }
+    ensures { IsMarkAt (package_of unit.entry) file token (Some result) }
+{
+    Mark {
+        global: imported_global(unit, index, file, token),
+        truth: false,
+    }
+}
+
+/// What the name at a token is to code.
+fn mark_at<'a>(unit: Package<'a>, index: &'a Index<'_>, file: usize, token: usize) -> Mark<'a>
+    requires { IsIndexOf (package_of unit) index.now }
+    ensures { IsMarkAt (package_of unit.entry) file token (Some result) }
+{
+    match index.binding(unit, file, token) {
+        None => free_mark(unit, index, file, token),
+        Some(d) => bound_mark(unit, file, token, d),
+    }
+}
+
+/// What the names of a file are to code, by their tokens.
+fn marks<'a>(
+    alloc: Global,
+    unit: Package<'a>,
+    index: &'a Index<'_>,
+    file: usize,
+) -> Result<Vec<Mark<'a>>, AllocError>
+    requires { IsIndexOf (package_of unit) index.now }
+    ensures { IfOk result (λ marks. AreMarks (package_of unit.entry) file marks.items) }
+{
+    let mut marks = Vec::new(alloc);
+    for token in 0..index.identifiers.width(file) {
+        marks.push(mark_at(unit, index, file, token))?;
+    }
+    Ok(marks)
+}
+
+/// The uses of members of a file.
+fn uses_at(members: &[Vec<MemberUse>], file: usize) -> &[MemberUse]
+    ensures { result.now ≡ uses_or_none (slice_get members.now file) }
+{
+    match members.get(file) {
+        None => &[],
+        Some(uses) => uses,
+    }
 }
 
 /// What the code of a file is made of.
 pub fn source<'a>(
     alloc: Global,
-    unit: Package<'a>,
-    index: &'a Index<'_>,
+    origin: Origin<'a>,
     world: World<'a>,
-    uses: &'a [MemberUse],
-    packages: &'a Packages<'a>,
     file: usize,
 ) -> Result<Source<'a>, AllocError>
-    requires index { IsIndexOf (package_of unit) index.now }
-    requires in_range { file < length unit.files.now }
-    ensures { IfOk result (λ s. IsTabled (package_of unit.entry) file world.entry uses.now packages.now s) }
+    requires index { IsIndexOf (package_of origin.unit) origin.index.now }
+    requires in_range { file < length origin.unit.files.now }
+    ensures { IfOk result (λ s. IsTabled (package_of origin.entry.unit) file world.entry (uses_or_none (slice_get origin.entry.members.now file)) origin.entry.packages.now s) }
 {
-    let files = unit.files;
+    let uses = uses_at(origin.members, file);
+    let files = origin.unit.files;
+    let marks = marks(alloc, origin.unit, origin.index, file)?;
+    let texts = texts(alloc, &files[file])?;
+    let used = used(alloc, uses)?;
     Ok(Source {
         world,
         uses,
-        used: used(alloc, uses)?,
-        globals: globals(alloc, unit, index, file)?,
-        truths: truths(alloc, unit, index, file)?,
-        texts: texts(alloc, &files[file])?,
-        packages,
+        used,
+        marks,
+        texts,
+        packages: origin.packages,
     })
 }

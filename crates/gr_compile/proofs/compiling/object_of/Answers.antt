@@ -39,7 +39,7 @@ object-requires c =
     let same : (rank : ℕ) → slice_get list rank ≡ ranked (definitions_at all.definitions p) rank =
     subst (λ (q : List ℕ). (rank : ℕ) → slice_get list rank ≡ ranked (definitions_at all.definitions q) rank) c.path.ensures
     c.definitions_of-definitions.ensures in
-    subst (λ ts. OwnDefinitionsOf p ts (name_in i) (interface_in i) list) (sym c.deref.ensures.value)
+    subst (λ ts. OwnDefinitionsOf p ts (name_in i) (interface_in i) list) (sym c.as_slice-trees.ensures.value)
     (definitions_by w p all c.args.members.now c.requires.found files.trees.items files.faulty.items parsed (name_in i) (interface_in i)
     (c.in_ok-interfaces.ensures.seen p c.requires.at) list same)
 
@@ -55,7 +55,7 @@ returns c =
     let i = c.in_ok-interfaces.interfaces in
     let packages = c.in_ok-packages.packages in
     let text = c.in_ok-text.text.items in
-    let made = subst (λ ts. IsObjectTextOf p ts (name_in i) (interface_in i) (map uses_in members) packages text) c.deref.ensures.value c.in_ok-text.ensures in
+    let made = subst (λ ts. IsObjectTextOf p ts (name_in i) (interface_in i) (map uses_in members) packages text) c.as_slice-trees.ensures.value c.in_ok-text.ensures in
     let compiled : IsCompiled w p (interface_in all p) text =
     compiled_by w p all members c.requires.found files.trees.items files.faulty.items parsed (name_in i) (interface_in i)
     (c.in_ok-interfaces.ensures.seen p c.requires.at)

@@ -9,10 +9,11 @@ use Rattle.gr_object.proofs.declarations.push_scoped.Goals as goal
 
 pub returns : goal.returns
 returns c =
+    let s = c.in_ok-signature.signature in
+    let h = c.in_ok-signature.ensures in
     on_ok_weaker c.push_lines.result
-    (λ q. function_put c.args.scope.source.now (func_view c.args.func.now) (function_of c.args.name) c.args.text.now.items c.push_lines.new.text.items
-    c.args.scope.slots.now.places.items (lines_in c.in_ok-code.code)
-    (map type_of c.deref.result.now) (map type_of c.deref-2.result.now) c.len.result c.requires c.in_ok-code.ensures
-    (ap (map type_of) c.deref.ensures.value ∙ c.in_ok-received.ensures)
-    (ap (map type_of) c.deref-2.ensures.value ∙ c.in_ok-given.ensures) c.len.ensures q)
+    (λ q. function_put c.args.scope.source.now (func_view c.args.func.now) (function_of c.args.name) (function_of s.name) c.args.text.now.items
+    c.push_lines.new.text.items c.args.scope.slots.now.places.items (lines_in c.in_ok-code.code)
+    (map type_of s.parameters.items) (map type_of s.results.items) s.slots c.requires c.in_ok-code.ensures h.named h.parameters h.results
+    (h.slot_count ∙ c.len.ensures) q)
     c.push_lines.ensures

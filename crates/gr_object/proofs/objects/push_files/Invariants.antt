@@ -7,6 +7,6 @@ use Rattle.gr_object.proofs.objects.push_files.Given as goal
 
 abbrev pub invariant-loop-file : goal.invariant-loop-file
 invariant-loop-file l = record {
-  puts : PutsFiles (package_of l.unit) l.file l.members l.packages l.names l.others l.initial.text.items l.text.items;
-  kept : AreBounds (package_of l.unit) l.bounds.list.items l.bounds.of.items;
+  puts : PutsFiles (package_of l.origin.unit) l.file l.origin.members.now l.origin.packages.now l.origin.names.now l.others l.initial.text.items l.text.items;
+  kept : AreBounds (package_of l.origin.unit) l.bounds.list.items l.bounds.of.items;
 }
