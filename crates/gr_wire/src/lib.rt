@@ -3,10 +3,10 @@
 
 mod alone;
 mod exchange;
-mod law;
+mod laws;
 mod memory;
 
 pub use alone::{converse, session_alone};
 pub use exchange::{SessionFault, session};
-pub use law::runs_the_machine;
+pub use laws::runs_the_machine;
 pub use memory::transcript;

@@ -1,6 +1,6 @@
--- The answers to the goals of `law::runs_the_machine`.
+-- The answers to the goals of `laws::runs_the_machine`.
 use Rattle.gr_wire.proofs.Runs.{exchange_runs, cut_runs}
-use Rattle.gr_wire.proofs.law.runs_the_machine.Goals as goal
+use Rattle.gr_wire.proofs.laws.runs_the_machine.Goals as goal
 
 pub returns-clause-whole : goal.returns-clause-whole
 returns-clause-whole c = exchange_runs
