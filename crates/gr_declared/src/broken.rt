@@ -57,23 +57,29 @@ fn target(
     }
 }
 
+/// A definition, by its rank, and the file that it stands in.
+#[derive(Clone, Copy)]
+struct DefinitionPlace {
+    rank: usize,
+    file: usize,
+}
+
 /// Notes what a Type mentions that is written in a definition.
 fn note_type(
     alloc: Global,
     unit: Package<'_>,
     index: &Index<'_>,
     links: &mut Vec<Vec<usize>>,
-    rank: usize,
-    file: usize,
+    at: DefinitionPlace,
     written: &TypeExpr,
 ) -> Result<(), AllocError>
     requires index { IsIndexOf (package_of unit) index.now }
     requires size { length links.old.items ≡ suc (length (package_types (package_of unit))) }
-    ensures { OnOk result (AddsLinks links.old.items links.new.items rank (IsTarget (package_of unit.entry) file (type_view written.now))) }
+    ensures { OnOk result (AddsLinks links.old.items links.new.items at.rank (IsTarget (package_of unit.entry) at.file (type_view written.now))) }
 {
-    match target(alloc, unit, index, file, written)? {
+    match target(alloc, unit, index, at.file, written)? {
         None => Ok(()),
-        Some(to) => note(links, to, rank),
+        Some(to) => note(links, to, at.rank),
     }
 }
 
@@ -83,24 +89,15 @@ fn note_fields(
     unit: Package<'_>,
     index: &Index<'_>,
     links: &mut Vec<Vec<usize>>,
-    rank: usize,
-    file: usize,
+    at: DefinitionPlace,
     fields: &[Item<Field>],
 ) -> Result<(), AllocError>
     requires index { IsIndexOf (package_of unit) index.now }
     requires size { length links.old.items ≡ suc (length (package_types (package_of unit))) }
-    ensures { OnOk result (AddsLinks links.old.items links.new.items rank (IsTargetOfSome (package_of unit.entry) file (map (λ f. f.value.type_use) (list_view field_view fields.now)))) }
+    ensures { OnOk result (AddsLinks links.old.items links.new.items at.rank (IsTargetOfSome (package_of unit.entry) at.file (map (λ f. f.value.type_use) (list_view field_view fields.now)))) }
 {
     for field in fields {
-        note_type(
-            alloc,
-            unit,
-            index,
-            links,
-            rank,
-            file,
-            &field.value.field_type,
-        )?;
+        note_type(alloc, unit, index, links, at, &field.value.field_type)?;
     }
     Ok(())
 }
@@ -120,11 +117,10 @@ fn note_definition(
     ensures { OnOk result (AddsLinks links.old.items links.new.items rank (IsTargetOfSome (package_of unit.entry) definition.now.file (written_types (body_view definition.now.spec.now.body)))) }
 {
     let file = definition.file;
+    let at = DefinitionPlace { rank, file };
     match &definition.spec.body {
-        TypeBody::Type(written) => note_type(alloc, unit, index, links, rank, file, written),
-        TypeBody::Struct { fields, .. } => {
-            note_fields(alloc, unit, index, links, rank, file, fields)
-        }
+        TypeBody::Type(written) => note_type(alloc, unit, index, links, at, written),
+        TypeBody::Struct { fields, .. } => note_fields(alloc, unit, index, links, at, fields),
     }
 }
 

@@ -9,6 +9,7 @@ ghost use Rattle.gr_expr.specs.Found.{meaning_of, argued_of, Adds, AddsPlaces};
 
 use crate::found::Found;
 use crate::meaning::{Argued, Meaning, all_whole, result_meaning};
+use crate::places::FaultPlaces;
 use crate::types::{Basic, Builtin, GoType, Kind, Signature};
 use crate::world::World;
 use std::alloc::{AllocError, Global};
@@ -271,19 +272,19 @@ impl Found {
         }
     }
 
-    /// The meaning of a call of an operand that has that meaning and stands at `place`.
+    /// The meaning of a call of an operand that has that meaning.
     #[tactic(auto, unfolding(crate::specs::Found::meaning_of, crate::specs::View::kind_of, crate::specs::Judge::call_of))]
     pub fn call<'w>(
         &mut self,
         alloc: Global,
         world: &World<'w>,
-        start: usize,
-        place: usize,
+        at: FaultPlaces,
         values: &[Argued],
         meaning: Meaning<'w>,
     ) -> Result<Meaning<'w>, AllocError>
-        ensures { IfOk result (λ m. Adds (call_of (world_of world.now) start place (map argued_of values.now) (meaning_of meaning.entry)) self.old self.new (meaning_of m)) }
+        ensures { IfOk result (λ m. Adds (call_of (world_of world.now) at.start at.place (map argued_of values.now) (meaning_of meaning.entry)) self.old self.new (meaning_of m)) }
     {
+        let start = at.start;
         match meaning {
             Meaning::Function(signature) => {
                 self.call_function(alloc, world, start, signature, values)
@@ -292,7 +293,7 @@ impl Found {
             Meaning::Builtin(builtin) => self.call_builtin(alloc, world, start, builtin, values),
             Meaning::Value { .. } => self.wrong_if_whole(start, values),
             Meaning::Broken => Ok(Meaning::Broken),
-            Meaning::Package | Meaning::Results(_) => self.wrong(place),
+            Meaning::Package | Meaning::Results(_) => self.wrong(at.place),
         }
     }
 }

@@ -12,7 +12,7 @@ use crate::found::{Found, Scope};
 use crate::keys::SeenFields;
 use crate::literals::Elements;
 use crate::meaning::{Argued, Meaning};
-use crate::places::{first_of_type, first_token, place_behind, place_of};
+use crate::places::{FaultPlaces, first_of_type, first_token, place_behind, place_of};
 use crate::types::{Basic, GoType, Kind};
 use gr_tree::tree::{CompositeLit, Element, Expr, ExprItem, Link, Operand};
 use std::alloc::{AllocError, Global};
@@ -44,15 +44,10 @@ pub fn judge<'w>(
         }
         Expr::Chain { first, links } => {
             let meaning = judge(alloc, scope, first, found)?;
-            chain(
-                alloc,
-                scope,
-                first_token(first),
-                place_of(first),
-                meaning,
-                links,
-                found,
-            )
+            let start = first_token(first);
+            let place = place_of(first);
+            let at = FaultPlaces { start, place };
+            chain(alloc, scope, at, meaning, links, found)
         }
         Expr::Binary { first, rest } => {
             let meaning = judge_value(alloc, scope, first, found)?;
@@ -75,23 +70,24 @@ pub fn judge_value<'w>(
     found.as_value(place_of(e), meaning)
 }
 
-/// The links of a chain, behind an operand that has that meaning and stands at `place`.
+/// The links of a chain, behind an operand that has that meaning.
 #[cycle(judging)]
 pub fn chain<'w>(
     alloc: Global,
     scope: Scope<'w>,
-    start: usize,
-    place: usize,
+    at: FaultPlaces,
     meaning: Meaning<'w>,
     links: &[Link],
     found: &mut Found,
 ) -> Result<Meaning<'w>, AllocError>
-    ensures { IfOk result (λ m. Continues (λ j. judge_links (world_of scope.entry.world.now) (locals_of scope.entry.locals.now) start place j (links_in links.now)) (meaning_of meaning.entry) found.old found.new (meaning_of m)) }
+    ensures { IfOk result (λ m. Continues (λ j. judge_links (world_of scope.entry.world.now) (locals_of scope.entry.locals.now) at.start at.place j (links_in links.now)) (meaning_of meaning.entry) found.old found.new (meaning_of m)) }
 {
     let mut meaning = meaning;
-    let mut place = place;
+    let start = at.start;
+    let mut place = at.place;
     for next in links {
-        meaning = judge_link(alloc, scope, start, place, meaning, next, found)?;
+        let at = FaultPlaces { start, place };
+        meaning = judge_link(alloc, scope, at, meaning, next, found)?;
         place = place_behind(start, next);
     }
     Ok(meaning)
@@ -117,32 +113,34 @@ fn binary<'w>(
     Ok(meaning)
 }
 
-/// One link of a chain, behind an operand that has that meaning and stands at `place`.
+/// One link of a chain, behind an operand that has that meaning.
 #[cycle(judging)]
 pub fn judge_link<'w>(
     alloc: Global,
     scope: Scope<'w>,
-    start: usize,
-    place: usize,
+    at: FaultPlaces,
     meaning: Meaning<'w>,
     next: &Link,
     found: &mut Found,
 ) -> Result<Meaning<'w>, AllocError>
-    ensures { IfOk result (λ m. Adds (judge_link (world_of scope.entry.world.now) (locals_of scope.entry.locals.now) start place (link_view next.now no_link) (meaning_of meaning.entry)) found.old found.new (meaning_of m)) }
+    ensures { IfOk result (λ m. Adds (judge_link (world_of scope.entry.world.now) (locals_of scope.entry.locals.now) at.start at.place (link_view next.now no_link) (meaning_of meaning.entry)) found.old found.new (meaning_of m)) }
 {
     match next {
-        Link::Selector { name, .. } => found.select(alloc, scope, place, *name, meaning),
+        Link::Selector { name, .. } => found.select(alloc, scope, at.place, *name, meaning),
         Link::Index { index, .. } => {
-            let operand = found.as_value(place, meaning)?;
+            let operand = found.as_value(at.place, meaning)?;
             let value = judge_value(alloc, scope, index, found)?;
-            found.index(alloc, scope.world, start, place_of(index), operand, value)
+            let start = at.start;
+            let place = place_of(index);
+            let at = FaultPlaces { start, place };
+            found.index(alloc, scope.world, at, operand, value)
         }
         Link::Call {
             arguments: list,
             ..
         } => {
             let values = arguments(alloc, scope, list, found)?;
-            found.call(alloc, scope.world, start, place, &values, meaning)
+            found.call(alloc, scope.world, at, &values, meaning)
         }
     }
 }

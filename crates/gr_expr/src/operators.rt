@@ -8,6 +8,7 @@ ghost use Rattle.gr_expr.specs.Found.{meaning_of, Adds};
 
 use crate::found::Found;
 use crate::meaning::Meaning;
+use crate::places::FaultPlaces;
 use crate::types::{Kind, pointer_to};
 use crate::world::{Shape, World};
 use gr_tree::syntax::{BinaryOp, PrefixOp};
@@ -128,27 +129,26 @@ impl Found {
         }
     }
 
-    /// The meaning of an index, which stands at `place`, behind an operand.
+    /// The meaning of an index, at the place of which a wrong one is a fault, behind an operand.
     #[tactic(auto, unfolding(crate::specs::Found::meaning_of, crate::specs::Judge::index_of, crate::specs::Judge::indexed, crate::specs::Judge::bad_index))]
     pub fn index<'w>(
         &mut self,
         alloc: Global,
         world: &World<'w>,
-        start: usize,
-        place: usize,
+        at: FaultPlaces,
         operand: Meaning<'w>,
         index: Meaning<'w>,
     ) -> Result<Meaning<'w>, AllocError>
-        ensures { IfOk result (λ m. Adds (index_of (world_of world.now) start place (meaning_of operand.entry) (meaning_of index.entry)) self.old self.new (meaning_of m)) }
+        ensures { IfOk result (λ m. Adds (index_of (world_of world.now) at.start at.place (meaning_of operand.entry) (meaning_of index.entry)) self.old self.new (meaning_of m)) }
     {
         let Some(index) = index.into_kind() else {
             return Ok(Meaning::Broken);
         };
         if !world.class_of(&index).is_int() {
-            return self.wrong(place);
+            return self.wrong(at.place);
         }
         match operand {
-            Meaning::Value { kind, .. } => self.element(alloc, world, start, &kind),
+            Meaning::Value { kind, .. } => self.element(alloc, world, at.start, &kind),
             _ => Ok(Meaning::Broken),
         }
     }

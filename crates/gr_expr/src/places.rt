@@ -7,6 +7,14 @@ ghost use Rattle.gr_expr.specs.Lists.{links_in};
 
 use gr_tree::tree::{Expr, Link, TypeExpr};
 
+/// Where the faults of a link of a chain stand: at the chain's first token, or at the token where the operand before the link,
+/// or its index, has its faults.
+#[derive(Clone, Copy)]
+pub struct FaultPlaces {
+    pub start: usize,
+    pub place: usize,
+}
+
 /// The first token of a type.
 #[tactic(auto, unfolding(gr_tree::specs::View::type_view))]
 pub(crate) fn first_of_type(t: &TypeExpr) -> usize

@@ -83,26 +83,32 @@ fn prepare_put(
     Ok((Word::new(alloc, path)?, is_kept))
 }
 
+/// What a line `put` says.
+#[derive(Clone, Copy)]
+struct PutLine<'a> {
+    basis: u64,
+    path: &'a str,
+    size: u32,
+}
+
 /// Reads the body that a line announces, and makes the command.
 fn read_put<S: Source>(
     alloc: Global,
     source: &mut S,
     reads_left: &mut u64,
-    basis: u64,
-    path: &str,
-    size: u32,
+    line: PutLine<'_>,
     limits: &Limits,
 ) -> Result<Next, InputFault>
     requires reads { S.reads source.old + reads_left.old < 2 ^ 64 }
-    ensures put { ReadsPut limits.now basis path.now size (S.remaining source.old) (S.remaining source.new) result }
+    ensures put { ReadsPut limits.now line.entry.basis line.entry.path.now line.entry.size (S.remaining source.old) (S.remaining source.new) result }
     ensures counted { CountsReadFault (S.failures source.old) (S.failures source.new) result }
     ensures turns { IfOk result (λ _. reads_left.new ≤ reads_left.old) }
     ensures reads { S.reads source.new + reads_left.new ≡ S.reads source.old + reads_left.old }
     ensures turns_over { result ≡ Err InputFault.Turns → reads_left.new ≡ 0 }
 {
-    match prepare_put(alloc, path, size, limits) {
+    match prepare_put(alloc, line.path, line.size, limits) {
         Err(_) => {
-            let is_whole = skip(source, reads_left, size as usize)?;
+            let is_whole = skip(source, reads_left, line.size as usize)?;
             Ok(if is_whole {
                 Next::NoRoom
             } else {
@@ -110,8 +116,8 @@ fn read_put<S: Source>(
             })
         }
         Ok((path, is_kept)) => {
-            let body = read_body(alloc, source, reads_left, size as usize, is_kept)?;
-            Ok(put_message(basis, path, body))
+            let body = read_body(alloc, source, reads_left, line.size as usize, is_kept)?;
+            Ok(put_message(line.basis, path, body))
         }
     }
 }
@@ -147,15 +153,9 @@ fn command_after<S: Source>(
 {
     match line {
         CommandLine::Put { basis, path, size } => {
-            read_put(
-                alloc,
-                source,
-                reads_left,
-                basis,
-                path.as_str(),
-                size,
-                limits,
-            )
+            let path = path.as_str();
+            let line = PutLine { basis, path, size };
+            read_put(alloc, source, reads_left, line, limits)
         }
         CommandLine::End => Ok(Next::End),
         CommandLine::Look => Ok(ask(Command::Look)),

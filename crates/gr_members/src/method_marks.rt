@@ -94,6 +94,20 @@ fn has_field(
     }
 }
 
+/// The name of a method, and the definition that it belongs to.
+#[derive(Clone, Copy)]
+struct MethodName<'a> {
+    definition: usize,
+    name: &'a [u8],
+}
+
+/// A function, and the definition that it belongs to, if it is a method.
+#[derive(Clone, Copy)]
+struct OwnedFunction<'a> {
+    function: Function<'a>,
+    owner: Option<usize>,
+}
+
 /// Notes the name of a method for the definition that it belongs to, and tells whether it counts.
 fn note_method<'a>(
     alloc: Global,
@@ -101,18 +115,17 @@ fn note_method<'a>(
     names: &mut MemberNames<'a>,
     structs: &MemberNames<'_>,
     underlying: &[Option<Underlying>],
-    definition: usize,
-    name: &'a [u8],
+    method: MethodName<'a>,
 ) -> Result<bool, AllocError>
     requires structs { AreNamesBelow (IsFieldNamed (package_of unit)) (length (package_fields (package_of unit))) (is_noted structs.now) }
     requires underlying { AreUnderlying (package_of unit) underlying.now }
-    requires in_range { definition < length (package_types (package_of unit)) }
-    ensures { IfOk result (λ counts. NotesName (is_noted names.old) (is_noted names.new) definition name.now ×
-        (IsTrue counts ↔ ((is_noted names.old definition name.now ≡ false) × (HasFieldNamed (package_of unit.entry) definition name.now → ⊥)))) }
+    requires in_range { method.definition < length (package_types (package_of unit)) }
+    ensures { IfOk result (λ counts. NotesName (is_noted names.old) (is_noted names.new) method.entry.definition method.entry.name.now ×
+        (IsTrue counts ↔ ((is_noted names.old method.entry.definition method.entry.name.now ≡ false) × (HasFieldNamed (package_of unit.entry) method.entry.definition method.entry.name.now → ⊥)))) }
 {
-    let is_new = names.note(alloc, definition, name)?;
+    let is_new = names.note(alloc, method.definition, method.name)?;
     if is_new {
-        Ok(!has_field(unit, structs, underlying, definition, name))
+        Ok(!has_field(unit, structs, underlying, method.definition, method.name))
     } else {
         Ok(false)
     }
@@ -125,19 +138,20 @@ fn note_function<'a>(
     names: &mut MemberNames<'a>,
     structs: &MemberNames<'_>,
     underlying: &[Option<Underlying>],
-    function: Function<'_>,
-    owner: Option<usize>,
+    owned: OwnedFunction<'_>,
 ) -> Result<bool, AllocError>
     requires structs { AreNamesBelow (IsFieldNamed (package_of unit)) (length (package_fields (package_of unit))) (is_noted structs.now) }
     requires underlying { AreUnderlying (package_of unit) underlying.now }
-    requires owner { MatchOption owner (Unit {0}) (λ d. d < length (package_types (package_of unit))) }
-    ensures { IfOk result (NotesMethod (package_of unit.entry) (function_of function.entry) owner (is_noted names.old) (is_noted names.new)) }
+    requires owner { MatchOption owned.owner (Unit {0}) (λ d. d < length (package_types (package_of unit))) }
+    ensures { IfOk result (NotesMethod (package_of unit.entry) (function_of owned.entry.function) owned.entry.owner (is_noted names.old) (is_noted names.new)) }
 {
-    match owner {
+    let function = owned.function;
+    match owned.owner {
         None => Ok(false),
         Some(definition) => {
             let name = unit.spelling(function.file, function.func.name);
-            note_method(alloc, unit, names, structs, underlying, definition, name)
+            let method = MethodName { definition, name };
+            note_method(alloc, unit, names, structs, underlying, method)
         }
     }
 }
@@ -164,9 +178,8 @@ fn method_marks(
     for rank in 0..functions.len() {
         let function = functions[rank];
         let owner = owners[rank];
-        let counts = note_function(
-            alloc, unit, &mut names, structs, underlying, function, owner,
-        )?;
+        let owned = OwnedFunction { function, owner };
+        let counts = note_function(alloc, unit, &mut names, structs, underlying, owned)?;
         marks.push(counts)?;
     }
     Ok(marks)

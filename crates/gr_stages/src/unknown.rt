@@ -97,29 +97,33 @@ fn add_kind(
     }
 }
 
+/// The identifiers of a package, and its files.
+#[derive(Clone, Copy)]
+struct Identified<'a> {
+    table: &'a ScopeTable<'a>,
+    files: &'a [FileTree],
+}
+
 /// Adds the fault of a name of the package that an import names.
 fn add_name<E: Exports>(
     alloc: Global,
     found: &mut Vec<Fault>,
-    table: &ScopeTable,
-    files: &[FileTree],
+    of: &Identified<'_>,
     exports: &E,
     import: usize,
     u: usize,
 ) -> Result<(), AllocError>
-    requires import { import < (laid_in table.now).size }
-    requires name { u < (laid_in table.now).size }
-    ensures { OnOk result (Adds found.old.items found.new.items (IsUnknownOf (map source_of files.now) (E.exported exports.now) (laid_in table.now) import u)) }
+    requires import { import < (laid_in of.now.table.now).size }
+    requires name { u < (laid_in of.now.table.now).size }
+    ensures { OnOk result (Adds found.old.items found.new.items (IsUnknownOf (map source_of of.now.files.now) (E.exported exports.now) (laid_in of.now.table.now) import u)) }
 {
     gr_scan::laws::one_string_value();
-    match path_of(alloc, table, files, import)? {
+    match path_of(alloc, of.table, of.files, import)? {
         None => Ok(()),
-        Some(path) => add_kind(
-            found,
-            table,
-            u,
-            qualified_fault(exports, &path, table.name(u)),
-        ),
+        Some(path) => {
+            let kind = qualified_fault(exports, &path, of.table.name(u));
+            add_kind(found, of.table, u, kind)
+        }
     }
 }
 
@@ -139,7 +143,10 @@ fn add_unknown<E: Exports>(
     table.is_well_formed();
     match qualifier_of(table, u) {
         None => Ok(()),
-        Some(import) => add_name(alloc, found, table, files, exports, import, u),
+        Some(import) => {
+            let of = Identified { table, files };
+            add_name(alloc, found, &of, exports, import, u)
+        }
     }
 }
 

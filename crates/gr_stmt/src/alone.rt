@@ -14,7 +14,7 @@ use crate::checked::Checked;
 use gr_expr::found::{Found, Scope};
 use gr_expr::judge::{chain, judge, judge_link};
 use gr_expr::meaning::Meaning;
-use gr_expr::places::{first_token, place_behind, place_of};
+use gr_expr::places::{FaultPlaces, first_token, place_behind, place_of};
 use gr_expr::types::Builtin;
 use gr_expr::world::World;
 use gr_tree::tree::{Expr, Link};
@@ -83,10 +83,15 @@ fn judge_last<'w>(
     let start = first_token(first);
     let place = place_of(first);
     let operand = judge(alloc, scope, first, found)?;
-    let called = chain(alloc, scope, start, place, operand, before, found)?;
+    let at = FaultPlaces { start, place };
+    let called = chain(alloc, scope, at, operand, before, found)?;
     let stands = calls_statement(last, &called);
     let behind = place_behind_all(start, place, before);
-    let meaning = judge_link(alloc, scope, start, behind, called, last, found)?;
+    let at = FaultPlaces {
+        start,
+        place: behind,
+    };
+    let meaning = judge_link(alloc, scope, at, called, last, found)?;
     Ok(Alone { meaning, stands })
 }
 

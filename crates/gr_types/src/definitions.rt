@@ -104,26 +104,39 @@ fn set_field(
     insert_field(definition, key, made)
 }
 
+/// A package, what is found once in it, and which of its definitions are broken.
+#[derive(Clone, Copy)]
+struct Laying<'a> {
+    unit: Package<'a>,
+    index: &'a Index<'a>,
+    broken: &'a [bool],
+}
+
 /// Adds a field to the definition that writes it, unless it has no type.
 fn add_field(
     alloc: Global,
-    unit: Package<'_>,
-    index: &Index<'_>,
-    broken: &[bool],
+    of: &Laying<'_>,
     definitions: &mut Vec<Definition>,
     rank: usize,
     field: FieldDef<'_>,
 ) -> Result<(), AllocError>
-    requires index { IsIndexOf (package_of unit) index.now }
-    requires broken { AreBroken (package_of unit) broken.now }
+    requires index { IsIndexOf (package_of of.now.unit) of.now.index.now }
+    requires broken { AreBroken (package_of of.now.unit) of.now.broken.now }
     requires in_range { field.definition < length definitions.old.items }
-    ensures { OnOk result (AddsField (package_of unit.entry) rank (field_of field.entry) definitions.old.items definitions.new.items) }
+    ensures { OnOk result (AddsField (package_of of.now.unit) rank (field_of field.entry) definitions.old.items definitions.new.items) }
 {
-    match whole_type(alloc, unit, index, broken, field.file, field.field_type)? {
+    match whole_type(
+        alloc,
+        of.unit,
+        of.index,
+        of.broken,
+        field.file,
+        field.field_type,
+    )? {
         None => Ok(()),
         Some(own) => set_field(
             alloc,
-            unit,
+            of.unit,
             &mut definitions[field.definition],
             rank,
             field,
@@ -135,23 +148,21 @@ fn add_field(
 /// Adds the fields that count.
 fn add_fields(
     alloc: Global,
-    unit: Package<'_>,
-    index: &Index<'_>,
-    broken: &[bool],
+    of: &Laying<'_>,
     definitions: &mut Vec<Definition>,
     fields: &[FieldDef<'_>],
     counting: &[bool],
 ) -> Result<(), AllocError>
-    requires index { IsIndexOf (package_of unit) index.now }
-    requires broken { AreBroken (package_of unit) broken.now }
-    requires fields { map field_of fields.now ≡ package_fields (package_of unit) }
-    requires counting { AreCountingFields (package_of unit) counting.now }
-    requires bare { HaveMembersBelow (package_of unit) 0 0 definitions.old.items }
-    ensures { OnOk result (HaveMembersBelow (package_of unit.entry) (length (package_fields (package_of unit.entry))) 0 definitions.new.items) }
+    requires index { IsIndexOf (package_of of.now.unit) of.now.index.now }
+    requires broken { AreBroken (package_of of.now.unit) of.now.broken.now }
+    requires fields { map field_of fields.now ≡ package_fields (package_of of.now.unit) }
+    requires counting { AreCountingFields (package_of of.now.unit) counting.now }
+    requires bare { HaveMembersBelow (package_of of.now.unit) 0 0 definitions.old.items }
+    ensures { OnOk result (HaveMembersBelow (package_of of.now.unit) (length (package_fields (package_of of.now.unit))) 0 definitions.new.items) }
 {
     for rank in 0..fields.len() {
         if counting[rank] {
-            add_field(alloc, unit, index, broken, definitions, rank, fields[rank])?;
+            add_field(alloc, of, definitions, rank, fields[rank])?;
         }
     }
     Ok(())
@@ -184,25 +195,23 @@ fn insert_method(
 #[tactic(auto, unfolding(gr_tree::specs::FileView::func_view))]
 fn set_method(
     alloc: Global,
-    unit: Package<'_>,
-    index: &Index<'_>,
-    broken: &[bool],
+    of: &Laying<'_>,
     definition: &mut Definition,
     rank: usize,
     function: Function<'_>,
 ) -> Result<(), AllocError>
-    requires index { IsIndexOf (package_of unit) index.now }
-    requires broken { AreBroken (package_of unit) broken.now }
-    ensures { OnOk result (SetsMethodOf (package_of unit.entry) rank (function_of function.entry) (definition_of definition.old) (definition_of definition.new)) }
+    requires index { IsIndexOf (package_of of.now.unit) of.now.index.now }
+    requires broken { AreBroken (package_of of.now.unit) of.now.broken.now }
+    ensures { OnOk result (SetsMethodOf (package_of of.now.unit) rank (function_of function.entry) (definition_of definition.old) (definition_of definition.new)) }
 {
-    let name = unit.spelling(function.file, function.func.name);
+    let name = of.unit.spelling(function.file, function.func.name);
     let key = Vec::from_slice(alloc, name)?;
-    let package = unit.path.clone()?;
+    let package = of.unit.path.clone()?;
     let made = Method {
         symbol: Symbol { package, rank },
         exported: is_exported(name),
         on_pointer: is_on_pointer(function),
-        signature: signature(alloc, unit, index, broken, function)?,
+        signature: signature(alloc, of.unit, of.index, of.broken, function)?,
     };
     insert_method(definition, key, made)
 }
@@ -210,34 +219,24 @@ fn set_method(
 /// Adds the methods that count.
 fn add_methods(
     alloc: Global,
-    unit: Package<'_>,
-    index: &Index<'_>,
-    broken: &[bool],
+    of: &Laying<'_>,
     definitions: &mut Vec<Definition>,
     owners: &[Option<usize>],
     counting: &[bool],
 ) -> Result<(), AllocError>
-    requires index { IsIndexOf (package_of unit) index.now }
-    requires broken { AreBroken (package_of unit) broken.now }
-    requires owners { AreOwners (package_of unit) owners.now }
-    requires counting { AreCountingMethods (package_of unit) counting.now }
-    requires fields { HaveMembersBelow (package_of unit) (length (package_fields (package_of unit))) 0 definitions.old.items }
-    ensures { OnOk result (HaveMembersBelow (package_of unit.entry) (length (package_fields (package_of unit.entry))) (length (package_functions (package_of unit.entry))) definitions.new.items) }
+    requires index { IsIndexOf (package_of of.now.unit) of.now.index.now }
+    requires broken { AreBroken (package_of of.now.unit) of.now.broken.now }
+    requires owners { AreOwners (package_of of.now.unit) owners.now }
+    requires counting { AreCountingMethods (package_of of.now.unit) counting.now }
+    requires fields { HaveMembersBelow (package_of of.now.unit) (length (package_fields (package_of of.now.unit))) 0 definitions.old.items }
+    ensures { OnOk result (HaveMembersBelow (package_of of.now.unit) (length (package_fields (package_of of.now.unit))) (length (package_functions (package_of of.now.unit))) definitions.new.items) }
 {
-    unit.table.is_well_formed();
-    let functions = &index.declared.functions;
+    of.unit.table.is_well_formed();
+    let functions = &of.index.declared.functions;
     for rank in 0..functions.len() {
         if counting[rank] {
             if let Some(owner) = owners[rank] {
-                set_method(
-                    alloc,
-                    unit,
-                    index,
-                    broken,
-                    &mut definitions[owner],
-                    rank,
-                    functions[rank],
-                )?;
+                set_method(alloc, of, &mut definitions[owner], rank, functions[rank])?;
             }
         }
     }
@@ -259,24 +258,13 @@ pub fn definitions(
 {
     let fields = &members.fields;
     let methods = &members.methods;
+    let of = Laying {
+        unit,
+        index,
+        broken,
+    };
     let mut found = bare_definitions(alloc, unit, &members.underlying)?;
-    add_fields(
-        alloc,
-        unit,
-        index,
-        broken,
-        &mut found,
-        &fields.all,
-        &fields.counting,
-    )?;
-    add_methods(
-        alloc,
-        unit,
-        index,
-        broken,
-        &mut found,
-        &methods.owners,
-        &methods.counting,
-    )?;
+    add_fields(alloc, &of, &mut found, &fields.all, &fields.counting)?;
+    add_methods(alloc, &of, &mut found, &methods.owners, &methods.counting)?;
     Ok(found)
 }

@@ -65,24 +65,30 @@ fn check_names<'w>(
     check_file(alloc, &world, tree)
 }
 
+/// A package, what is found once in it, and its definitions.
+#[derive(Clone, Copy)]
+struct Judging<'a> {
+    unit: Package<'a>,
+    index: &'a Index<'a>,
+    definitions: &'a [Definition],
+}
+
 /// What is found in a file.
 fn check_source(
     alloc: Global,
-    unit: Package<'_>,
-    index: &Index<'_>,
+    of: &Judging<'_>,
     bounds: &mut Bounds,
-    definitions: &[Definition],
     file: usize,
 ) -> Result<Checked, AllocError>
-    requires index { IsIndexOf (package_of unit) index.now }
-    requires bounds { AreBounds (package_of unit) bounds.old.list.items bounds.old.of.items }
-    requires definitions { HaveDefinitions (package_of unit) definitions.now }
-    requires in_range { file < length unit.files.now }
-    ensures checked { IfOk result (λ c. IsChecked (package_of unit.entry) file (checked_of c)) }
-    ensures bounds { OnOk result (AreBounds (package_of unit.entry) bounds.new.list.items bounds.new.of.items) }
+    requires index { IsIndexOf (package_of of.now.unit) of.now.index.now }
+    requires bounds { AreBounds (package_of of.now.unit) bounds.old.list.items bounds.old.of.items }
+    requires definitions { HaveDefinitions (package_of of.now.unit) of.now.definitions.now }
+    requires in_range { file < length of.now.unit.files.now }
+    ensures checked { IfOk result (λ c. IsChecked (package_of of.now.unit) file (checked_of c)) }
+    ensures bounds { OnOk result (AreBounds (package_of of.now.unit) bounds.new.list.items bounds.new.of.items) }
 {
-    let names = file_names(alloc, unit, index, bounds, file)?;
-    check_names(alloc, unit, &names, bounds.list(), definitions, file)
+    let names = file_names(alloc, of.unit, of.index, bounds, file)?;
+    check_names(alloc, of.unit, &names, bounds.list(), of.definitions, file)
 }
 
 impl Typed {
@@ -102,23 +108,21 @@ impl Typed {
 /// Adds the faults of types of a file, and its member uses.
 fn add_file(
     alloc: Global,
-    unit: Package<'_>,
-    index: &Index<'_>,
+    of: &Judging<'_>,
     bounds: &mut Bounds,
-    definitions: &[Definition],
     typed: &mut Typed,
     file: usize,
 ) -> Result<(), AllocError>
-    requires index { IsIndexOf (package_of unit) index.now }
-    requires bounds { AreBounds (package_of unit) bounds.old.list.items bounds.old.of.items }
-    requires definitions { HaveDefinitions (package_of unit) definitions.now }
-    requires in_range { file < length unit.files.now }
-    requires one { IsOneWorld (package_of unit) }
-    ensures faults { OnOk result (Adds typed.old.faults.items typed.new.faults.items (IsTypeFaultIn (package_of unit.entry) file)) }
-    ensures members { OnOk result (AddsFile (package_of unit.entry) file typed.old.members.items typed.new.members.items) }
-    ensures bounds { OnOk result (AreBounds (package_of unit.entry) bounds.new.list.items bounds.new.of.items) }
+    requires index { IsIndexOf (package_of of.now.unit) of.now.index.now }
+    requires bounds { AreBounds (package_of of.now.unit) bounds.old.list.items bounds.old.of.items }
+    requires definitions { HaveDefinitions (package_of of.now.unit) of.now.definitions.now }
+    requires in_range { file < length of.now.unit.files.now }
+    requires one { IsOneWorld (package_of of.now.unit) }
+    ensures faults { OnOk result (Adds typed.old.faults.items typed.new.faults.items (IsTypeFaultIn (package_of of.now.unit) file)) }
+    ensures members { OnOk result (AddsFile (package_of of.now.unit) file typed.old.members.items typed.new.members.items) }
+    ensures bounds { OnOk result (AreBounds (package_of of.now.unit) bounds.new.list.items bounds.new.of.items) }
 {
-    let checked = check_source(alloc, unit, index, bounds, definitions, file)?;
+    let checked = check_source(alloc, of, bounds, file)?;
     typed.add(file, checked)
 }
 
@@ -144,8 +148,13 @@ pub fn type_faults(
         faults: Vec::new(alloc),
         members: Vec::new(alloc),
     };
+    let of = Judging {
+        unit,
+        index,
+        definitions,
+    };
     for file in 0..unit.files.len() {
-        add_file(alloc, unit, index, bounds, definitions, &mut typed, file)?;
+        add_file(alloc, &of, bounds, &mut typed, file)?;
     }
     sort(&mut typed.faults);
     Ok(typed)

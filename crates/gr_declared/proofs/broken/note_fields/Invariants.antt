@@ -6,5 +6,5 @@ use Rattle.gr_declared.proofs.Mentioning.{field_types}
 use Rattle.gr_declared.proofs.broken.note_fields.Given as goal
 
 abbrev pub invariant-loop-field : goal.invariant-loop-field
-invariant-loop-field l = AddsLinks l.initial.links.items l.links.items l.rank
-    (IsTargetOfSome (package_of l.unit) l.file (field_types (take l.field-index l.fields)))
+invariant-loop-field l = AddsLinks l.initial.links.items l.links.items l.at.rank
+    (IsTargetOfSome (package_of l.unit) l.at.file (field_types (take l.field-index l.fields)))

@@ -69,25 +69,25 @@ binary-returns t c = record {
 
 pub chain-loop-next-preserved : goal.chain-loop-next-preserved
 chain-loop-next-preserved t c = λ j before a.
-    reached_step _ (λ k. judge_links (world_of c.args.scope.world.now) (locals_of c.args.scope.locals.now) c.args.start c.place_behind-place.result k
+    reached_step _ (λ k. judge_links (world_of c.args.scope.world.now) (locals_of c.args.scope.locals.now) c.args.at.start c.place_behind-place.result k
     (links_in (drop (c.loop-next.next-index + 1) c.args.links.now)))
-    (λ m. judge_link (world_of c.args.scope.world.now) (locals_of c.args.scope.locals.now) c.args.start c.loop-next.place
+    (λ m. judge_link (world_of c.args.scope.world.now) (locals_of c.args.scope.locals.now) c.args.at.start c.loop-next.place
     (link_view c.next-item.result no_link) m)
     (c.loop-next.invariant j before a) c.in_ok-meaning.ensures
-    (λ k. ap (λ xs. judge_links (world_of c.args.scope.world.now) (locals_of c.args.scope.locals.now) c.args.start c.loop-next.place k (links_in xs))
+    (λ k. ap (λ xs. judge_links (world_of c.args.scope.world.now) (locals_of c.args.scope.locals.now) c.args.at.start c.loop-next.place k (links_in xs))
     (next_item _ _ _ c.loop-next-test.true c.next-item.is)
-    ∙ (links_step (world_of c.args.scope.world.now) (locals_of c.args.scope.locals.now) c.args.start c.loop-next.place k c.next-item.result _
-    ∙ ap (λ p. judge_links (world_of c.args.scope.world.now) (locals_of c.args.scope.locals.now) c.args.start p
-    (followed k (judge_link (world_of c.args.scope.world.now) (locals_of c.args.scope.locals.now) c.args.start c.loop-next.place
+    ∙ (links_step (world_of c.args.scope.world.now) (locals_of c.args.scope.locals.now) c.args.at.start c.loop-next.place k c.next-item.result _
+    ∙ ap (λ p. judge_links (world_of c.args.scope.world.now) (locals_of c.args.scope.locals.now) c.args.at.start p
+    (followed k (judge_link (world_of c.args.scope.world.now) (locals_of c.args.scope.locals.now) c.args.at.start c.loop-next.place
     (link_view c.next-item.result no_link))) (links_in (drop (c.loop-next.next-index + 1) c.args.links.now))) (sym c.place_behind-place.ensures)))
 
 pub chain-returns : goal.chain-returns
 chain-returns t c = record {
   after = λ j before a.
       reached_end _ (c.loop-next.invariant j before a) (λ k.
-      ap (λ xs. judge_links (world_of c.args.scope.world.now) (locals_of c.args.scope.locals.now) c.args.start c.loop-next.place k (links_in xs))
+      ap (λ xs. judge_links (world_of c.args.scope.world.now) (locals_of c.args.scope.locals.now) c.args.at.start c.loop-next.place k (links_in xs))
       (drop_of_length-le _ c.loop-next-test.false) ∙
-      links_end (world_of c.args.scope.world.now) (locals_of c.args.scope.locals.now) c.args.start c.loop-next.place k);
+      links_end (world_of c.args.scope.world.now) (locals_of c.args.scope.locals.now) c.args.at.start c.loop-next.place k);
 }
 
 pub elements-returns : goal.elements-returns
@@ -122,28 +122,28 @@ judge_link-returns-in-Selector t c = ok_map c.select.result
 pub judge_link-returns-in_ok-values-in-Call : goal.judge_link-returns-in_ok-values-in-Call
 judge_link-returns-in_ok-values-in-Call t c = ok_map c.call.result
     (λ m a. adds_as (call_judged (world_of c.args.scope.world.now) (locals_of c.args.scope.locals.now) _ _ _ _ _ _ c.in-Call.is _ c.deref.ensures.value)
-    (adds_values (λ vs. call_of (world_of c.args.scope.world.now) c.args.start c.args.place vs (meaning_of c.args.meaning))
+    (adds_values (λ vs. call_of (world_of c.args.scope.world.now) c.args.at.start c.args.at.place vs (meaning_of c.args.meaning))
     (list_as refl (ap (map argued_of) c.deref-in-Call.ensures.value) c.in_ok-values-in-Call.ensures) a)) c.call.ensures
 
 pub judge-returns-in_ok-meaning-in-Chain : goal.judge-returns-in_ok-meaning-in-Chain
 judge-returns-in_ok-meaning-in-Chain t c =
     let e : judge (world_of c.args.scope.world.now) (locals_of c.args.scope.locals.now) (expr_view c.args.e.now) ≡ judge_links
-    (world_of c.args.scope.world.now) (locals_of c.args.scope.locals.now) c.first_token.result c.place_of.result
+    (world_of c.args.scope.world.now) (locals_of c.args.scope.locals.now) c.first_token-start.result c.place_of-place.result
     (judge (world_of c.args.scope.world.now) (locals_of c.args.scope.locals.now) (expr_view c.deref-in-Chain.result.now))
     (links_in c.deref-in-Chain-4.result.now) =
     chain_found (world_of c.args.scope.world.now) (locals_of c.args.scope.locals.now) _ _ c.in-Chain.is _ c.deref-in-Chain-2.result.now
     c.deref-in-Chain-3.result.now _ c.deref-in-Chain.ensures c.deref-in-Chain-2.ensures c.deref-in-Chain-3.ensures c.deref-in-Chain-4.ensures.value _ _
-    c.first_token.ensures c.place_of.ensures in
+    c.first_token-start.ensures c.place_of-place.ensures in
     ok_map c.chain.result (λ m a. adds_as e (a.after _ _ c.in_ok-meaning-in-Chain.ensures)) c.chain.ensures
 
 pub judge-returns-in_ok-meaning-in-Binary : goal.judge-returns-in_ok-meaning-in-Binary
 judge-returns-in_ok-meaning-in-Binary t c =
     let e : judge (world_of c.args.scope.world.now) (locals_of c.args.scope.locals.now) (expr_view c.args.e.now) ≡ judge_operands
-    (world_of c.args.scope.world.now) (locals_of c.args.scope.locals.now) c.first_token-in-Binary.result
+    (world_of c.args.scope.world.now) (locals_of c.args.scope.locals.now) c.first_token.result
     (judge_value (world_of c.args.scope.world.now) (locals_of c.args.scope.locals.now) (expr_view c.deref-in-Binary.result.now))
     (operands_in c.deref-in-Binary-3.result.now) =
     binary_found (world_of c.args.scope.world.now) (locals_of c.args.scope.locals.now) _ _ c.in-Binary.is _ c.deref-in-Binary-2.result.now _
-    c.deref-in-Binary.ensures c.deref-in-Binary-2.ensures c.deref-in-Binary-3.ensures.value _ c.first_token-in-Binary.ensures in
+    c.deref-in-Binary.ensures c.deref-in-Binary-2.ensures c.deref-in-Binary-3.ensures.value _ c.first_token.ensures in
     ok_map c.binary.result (λ m a. adds_as e (a.after _ _ c.in_ok-meaning-in-Binary.ensures)) c.binary.ensures
 
 pub elements-loop-element-preserved : goal.elements-loop-element-preserved
@@ -197,11 +197,11 @@ pub judge_link-returns-in_ok-value-in-Index : goal.judge_link-returns-in_ok-valu
 judge_link-returns-in_ok-value-in-Index t c = ok_map c.index.result
     (λ m a. adds_as (index_judged (world_of c.args.scope.world.now) (locals_of c.args.scope.locals.now) _ _ _ _ _ _ c.in-Index.is)
     (adds_then (λ s. followed (judge_value (world_of c.args.scope.world.now) (locals_of c.args.scope.locals.now) (expr_view c.in-Index.index))
-    (index_of (world_of c.args.scope.world.now) c.args.start (place_of (expr_view c.in-Index.index)) s)) c.in_ok-operand-in-Index.ensures
-    (adds_then (index_of (world_of c.args.scope.world.now) c.args.start (place_of (expr_view c.in-Index.index))
+    (index_of (world_of c.args.scope.world.now) c.args.at.start (place_of (expr_view c.in-Index.index)) s)) c.in_ok-operand-in-Index.ensures
+    (adds_then (index_of (world_of c.args.scope.world.now) c.args.at.start (place_of (expr_view c.in-Index.index))
     (meaning_of c.in_ok-operand-in-Index.operand)) c.in_ok-value-in-Index.ensures
-    (adds_as (ap (λ p. index_of (world_of c.args.scope.world.now) c.args.start p (meaning_of c.in_ok-operand-in-Index.operand)
-    (meaning_of c.in_ok-value-in-Index.value)) (sym c.place_of.ensures)) a)))) c.index.ensures
+    (adds_as (ap (λ p. index_of (world_of c.args.scope.world.now) c.args.at.start p (meaning_of c.in_ok-operand-in-Index.operand)
+    (meaning_of c.in_ok-value-in-Index.value)) (sym c.place_of-place.ensures)) a)))) c.index.ensures
 
 pub literal-returns : goal.literal-returns
 literal-returns t c = ok_map c.literal_meaning.result
@@ -218,7 +218,7 @@ judge_value-returns t c = ok_map c.as_value.result (λ m a. adds_then (as_value 
 
 pub chain-loop-next-init : goal.chain-loop-next-init
 chain-loop-next-init t c = λ j before a. reached_start (λ k. judge_links (world_of c.args.scope.world.now) (locals_of c.args.scope.locals.now)
-    c.args.start c.args.place k (links_in c.args.links.now)) a
+    c.args.at.start c.args.at.place k (links_in c.args.links.now)) a
 
 pub binary-loop-operand-init : goal.binary-loop-operand-init
 binary-loop-operand-init t c = λ j before a. reached_start (λ k. judge_operands (world_of c.args.scope.world.now) (locals_of c.args.scope.locals.now)

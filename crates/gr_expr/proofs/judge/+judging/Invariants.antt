@@ -23,8 +23,8 @@ invariant-binary-loop-operand l = (j : Judged) (before : Found) → Adds j befor
 
 abbrev pub invariant-chain-loop-next : goal.invariant-chain-loop-next
 invariant-chain-loop-next l = (j : Judged) (before : Found) → Adds j before l.fn.found (meaning_of l.fn.meaning) →
-    Reached (judge_links (world_of l.scope.world.now) (locals_of l.scope.locals.now) l.start l.fn.place j (links_in l.links))
-    (λ k. judge_links (world_of l.scope.world.now) (locals_of l.scope.locals.now) l.start l.place k (links_in (drop l.next-index l.links)))
+    Reached (judge_links (world_of l.scope.world.now) (locals_of l.scope.locals.now) l.fn.at.start l.fn.at.place j (links_in l.links))
+    (λ k. judge_links (world_of l.scope.world.now) (locals_of l.scope.locals.now) l.fn.at.start l.place k (links_in (drop l.next-index l.links)))
     before l.found (meaning_of l.meaning)
 
 abbrev pub invariant-elements-loop-element : goal.invariant-elements-loop-element

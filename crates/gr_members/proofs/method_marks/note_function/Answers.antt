@@ -16,6 +16,6 @@ unfolding func_view
 returns-in-Some c =
     let p = package_of c.args.unit in
     IfOk-weaker c.note_method.result _ _
-    (λ counts h. noted_method p _ c.args.owner c.in-Some.definition c.spelling-name.result.now (is_noted c.args.names.now)
+    (λ counts h. noted_method p _ c.args.owned.owner c.in-Some.definition c.spelling-name.result.now (is_noted c.args.names.now)
     (is_noted c.note_method.new.names) counts c.in-Some.is c.spelling-name.ensures h.0 h.1)
     c.note_method.ensures

@@ -12,7 +12,7 @@ use Rattle.gr_types.proofs.definitions.add_field.Goals as goal
 
 pub returns-in-Some : goal.returns-in-Some
 returns-in-Some c =
-    let p = package_of c.args.unit in
+    let p = package_of c.args.of.now.unit in
     let f = field_of c.args.field in
     let t = type_of c.in-Some.own in
     let typed : IsTypeOf p f.file f.type_use t = subst (λ o. IsTypeFound p f.file f.type_use (option_map type_of o)) c.in-Some.is c.in_ok-whole_type.ensures in

@@ -20,9 +20,9 @@ use Rattle.gr_types.proofs.definitions.add_methods.Goals.{then-counting-rank+in-
 
 pub loop-rank-preserved : goal.loop-rank-preserved
 loop-rank-preserved c =
-    let p = package_of c.args.unit in
+    let p = package_of c.args.of.now.unit in
     let fields : ℕ = length (package_fields p) in
-    let items = c.args.index.now.declared.functions.items in
+    let items = c.args.of.now.index.now.declared.functions.items in
     let rank = c.loop-rank.rank in
     let owners = c.args.owners.now in
     let old = c.loop-rank.definitions.items in
