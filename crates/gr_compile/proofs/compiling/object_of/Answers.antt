@@ -55,7 +55,8 @@ returns c =
     let i = c.in_ok-interfaces.interfaces in
     let packages = c.in_ok-packages.packages in
     let text = c.in_ok-text.text.items in
-    let made = subst (λ ts. IsObjectTextOf p ts (name_in i) (interface_in i) (map uses_in members) packages text) c.as_slice-trees.ensures.value c.in_ok-text.ensures in
+    let made = subst (λ ts. IsObjectTextOf p ts (name_in i) (interface_in i) (map uses_in members) packages text) c.as_slice-trees.ensures.value
+    c.in_ok-text.ensures in
     let compiled : IsCompiled w p (interface_in all p) text =
     compiled_by w p all members c.requires.found files.trees.items files.faulty.items parsed (name_in i) (interface_in i)
     (c.in_ok-interfaces.ensures.seen p c.requires.at)
