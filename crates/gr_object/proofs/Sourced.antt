@@ -1,5 +1,5 @@
 -- What the code of a file is made of: that the tables of the program are it.
-use Rattle.std.proofs.Common.{ℕ, ◌≡◌, ◌+◌, ◌==◌, ◌∷◌, ◌++◌, [], List, length, length-append, append_assoc, get_or, ap, sym, subst, refl, ◌∙◌, zero, suc}
+use Rattle.std.proofs.Common.{ℕ, ◌≡◌, ◌+◌, ◌==◌, ◌∷◌, ◌++◌, [], List, length, length-append, append_assoc, ap, sym, subst, refl, ◌∙◌, suc}
 use Rattle.std.proofs.Common.{arith, map, Bool, true, false, if◌then◌else◌, MatchOption}
 use Rattle.std.specs.Prelude.{Option, Some, None, option_map, slice_get}
 use Rattle.std.proofs.Math.Path.{fun_ext}
@@ -30,7 +30,7 @@ use Rattle.gr_object.specs.NamesView.{AreNamesOf}
 use Rattle.gr_object.specs.Numbering.{slot_from}
 use Rattle.gr_object.specs.ObjectView.{HaveNames}
 use Rattle.gr_object.specs.PackagesView.{package_in, type_at, type_in, function_at, function_in, position_at, position_in}
-use Rattle.gr_object.specs.Sources.{IsGlobal, IsSourceOf, type_before}
+use Rattle.gr_object.specs.Sources.{IsSourceOf, type_before}
 use Rattle.gr_object.specs.SourceView.{source_of, type_used}
 use Rattle.gr_object.specs.TablesView.{IsTabled}
 

@@ -1,5 +1,5 @@
 -- The answers to the goals of `declarations::push_scoped`.
-use Rattle.std.proofs.Common.{◌∙◌, ap, length, map}
+use Rattle.std.proofs.Common.{◌∙◌, map}
 use Rattle.std.proofs.lemmas.Result.{on_ok_weaker}
 use Rattle.gr_tree.specs.FileView.{func_view}
 use Rattle.gr_expr.specs.View.{type_of}

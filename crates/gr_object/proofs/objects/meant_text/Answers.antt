@@ -1,5 +1,5 @@
 -- The answers to the goals of `objects::meant_text`.
-use Rattle.std.proofs.Common.{sym, subst, map}
+use Rattle.std.proofs.Common.{sym, subst}
 use Rattle.std.proofs.lemmas.List.{length-map}
 use Rattle.gr_tree.specs.SourceFile.{source_of}
 use Rattle.gr_declared.specs.PackageView.{package_of}
