@@ -16,9 +16,9 @@ loop-file-init c = none_below _ c.args.bound.now.items
 
 pub loop-file-preserved : goal.loop-file-preserved
 loop-file-preserved c =
-    let ds = definitions_seen c.args.unit c.args.own.now in
-    let p = package_of c.args.unit in
-    let members = c.args.members.now in
+    let ds = definitions_seen c.args.of.now.unit c.args.of.now.own.now in
+    let p = package_of c.args.of.now.unit in
+    let members = c.args.of.now.members.now in
     let file = c.loop-file.file in
     let v = c.index-members-file.result in
     let a = c.loop-file.bound.items in
@@ -30,8 +30,8 @@ loop-file-preserved c =
 
 pub returns : goal.returns
 returns c =
-    let own = c.args.own.now in
-    let e : c.loop-file.file ≡ length c.args.members.now = omega arith in
-    all_members_bound (package_of c.args.unit) c.is_well_formed.ensures c.one_world.ensures (definitions_seen c.args.unit own)
-    (seen_definitions c.args.unit own c.requires.own) c.args.members.now c.requires.members
+    let own = c.args.of.now.own.now in
+    let e : c.loop-file.file ≡ length c.args.of.now.members.now = omega arith in
+    all_members_bound (package_of c.args.of.now.unit) c.is_well_formed.ensures c.one_world.ensures (definitions_seen c.args.of.now.unit own)
+    (seen_definitions c.args.of.now.unit own c.requires.own) c.args.of.now.members.now c.requires.members
     c.loop-file.file c.args.bound.now.items c.loop-file.bound.items e c.loop-file.invariant

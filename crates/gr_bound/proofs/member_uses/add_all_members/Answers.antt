@@ -12,14 +12,14 @@ use Rattle.gr_bound.proofs.MemberPlaces.{IsFileUse, one_file, all_members}
 use Rattle.gr_bound.proofs.member_uses.add_all_members.Goals as goal
 
 pub loop-file-init : goal.loop-file-init
-loop-file-init c = below_none (IsFileUse (definitions_seen c.args.unit c.args.own.now) (package_of c.args.unit) c.args.declaration.now c.args.members.now)
+loop-file-init c = below_none (IsFileUse (definitions_seen c.args.of.now.unit c.args.of.now.own.now) (package_of c.args.of.now.unit) c.args.declaration.now c.args.of.now.members.now)
     c.args.found.now.items
 
 pub loop-file-preserved : goal.loop-file-preserved
 loop-file-preserved c =
-    let ds = definitions_seen c.args.unit c.args.own.now in
-    let p = package_of c.args.unit in
-    let members = c.args.members.now in
+    let ds = definitions_seen c.args.of.now.unit c.args.of.now.own.now in
+    let p = package_of c.args.of.now.unit in
+    let members = c.args.of.now.members.now in
     let d = c.args.declaration.now in
     let file = c.loop-file.file in
     let v = c.index-members-file.result in
@@ -31,8 +31,8 @@ loop-file-preserved c =
 
 pub returns : goal.returns
 returns c =
-    let own = c.args.own.now in
-    let e : c.loop-file.file ≡ length c.args.members.now = omega arith in
-    all_members (package_of c.args.unit) c.is_well_formed.ensures c.one_world.ensures (definitions_seen c.args.unit own)
-    (seen_definitions c.args.unit own c.requires.own) c.args.members.now c.requires.members
+    let own = c.args.of.now.own.now in
+    let e : c.loop-file.file ≡ length c.args.of.now.members.now = omega arith in
+    all_members (package_of c.args.of.now.unit) c.is_well_formed.ensures c.one_world.ensures (definitions_seen c.args.of.now.unit own)
+    (seen_definitions c.args.of.now.unit own c.requires.own) c.args.of.now.members.now c.requires.members
     c.args.declaration.now c.loop-file.file c.args.found.now.items c.loop-file.found.items e c.loop-file.invariant
