@@ -1,5 +1,5 @@
 -- Names that other packages export, and what is bound in all packages.
-use Rattle.std.proofs.Common.{ℕ, ◌≡◌, ◌<◌, inl, inr, List, length, refl, ap, sym, subst, ◌∙◌}
+use Rattle.std.proofs.Common.{ℕ, ◌≡◌, ◌<◌, inl, inr, List, length, ap, sym, subst, ◌∙◌}
 use Rattle.std.specs.Prelude.{Option, Some, None, Contains}
 use Rattle.gr_text.specs.Packages.{package_paths}
 use Rattle.gr_text.specs.Workspace.{Workspace}
@@ -15,7 +15,7 @@ use Rattle.gr_bound.specs.Binding as binding
 use Rattle.gr_bound.specs.Steps as step
 use Rattle.gr_bound.specs.Steps.{Adds, UsesIn, BindsIn, BindsAs, IsExportedBy, IsOnePath, IsDeclarationFound}
 use Rattle.gr_bound.specs.Uses.{IsPackage, IsBoundTo, IsUseOf}
-use Rattle.gr_bound.specs.Workspaces.{IsPackageAt, ExportsAs, IsExportedUnder, IsHome, IsUseAt, BindsMember}
+use Rattle.gr_bound.specs.Workspaces.{IsPackageAt, ExportsAs, IsExportedUnder, IsUseAt, BindsMember}
 use Rattle.gr_bound.proofs.Adding.{Below, adds_as}
 use Rattle.gr_bound.proofs.Units.{one_package, one_at, numbered, number_within}
 
@@ -166,10 +166,3 @@ pub last_kind : (P : Package → Type 0) (p : Package) (u : ℕ) → ((d : Decla
     IsDeclarationFound (BindsMember p u) o → IsDeclarationFound (Binds P p u) o
 last_kind P p u a b None h = bound_to_none P p u a b h
 last_kind P p u a b (Some d) h = bound_as_member P p u d h
-
--- a declaration without a package in the workspace is exported under no name
-pub homeless : (w : Workspace) (known : Verdicts) (d : Declaration) → IsHome w d None → IsExportedUnder w known d None
-homeless w known (Predeclared n) none = refl
-homeless w known (Declared path n) none = λ p is e seen. none path refl (subst (Contains (package_paths w)) e is.of_workspace)
-homeless w known (Field s) none = refl
-homeless w known (Method s) none = refl

@@ -160,6 +160,22 @@ pub(crate) fn declared_name(
     }
 }
 
+/// The name under which the package of a declaration exports it.
+pub(crate) fn exported_under(
+    alloc: Global,
+    graph: &Graph,
+    found: &Findings,
+    declaration: &Declaration,
+) -> Result<Option<Vec<u8>>, AllocError>
+    requires { IsSound graph.now found.now }
+    ensures { IfOk result (λ name. IsExportedUnder graph.now (known_in found.now) declaration.now (option_map bytes_of name)) }
+{
+    match declaration {
+        Declaration::Declared(path, d) => declared_name(alloc, graph, found, path, *d),
+        Declaration::Predeclared(_) | Declaration::Field(_) | Declaration::Method(_) => Ok(None),
+    }
+}
+
 /// What another package exports, behind whose name an identifier stands.
 fn declaration_by_package(
     alloc: Global,

@@ -1,5 +1,5 @@
 //! Which packages may use a declaration, by what they import and by the members that are used in them.
-ghost use Rattle.std.specs.Prelude.{ℕ, ◌≡◌, ◌≢◌, ◌<◌, ◌↔◌, [], false, length, slice_get, IfSome, IsTrue};
+ghost use Rattle.std.specs.Prelude.{ℕ, ◌≡◌, ◌≢◌, ◌<◌, ◌↔◌, [], false, length, slice_get, IsTrue};
 ghost use Rattle.gr_text.specs.declared.place.Place.{Place};
 ghost use Rattle.gr_text.specs.Packages.{package_paths};
 ghost use Rattle.gr_scope.specs.Named.{name_value};
@@ -78,8 +78,7 @@ fn may_use_other(
 
 /// The number of the package of a declaration, if it has one.
 pub(crate) fn home_of(graph: &Graph, declaration: &Declaration) -> Option<usize>
-    ensures home { IsHome graph.now declaration.now result }
-    ensures in_range { IfSome result (λ number. number < length (package_paths graph.now)) }
+    ensures { IsHome graph.now declaration.now result }
 {
     match declaration {
         Declaration::Predeclared(_) => None,

@@ -1,5 +1,5 @@
 //! The identifiers of a workspace that are bound to the same declaration.
-ghost use Rattle.std.specs.Prelude.{ℕ, ◌≡◌, ◌<◌, Some, None, length, option_map, slice_get, IfOk, OnOk};
+ghost use Rattle.std.specs.Prelude.{ℕ, ◌≡◌, ◌<◌, Some, length, option_map, slice_get, IfOk, OnOk};
 ghost use Rattle.gr_text.specs.Packages.{package_paths};
 ghost use Rattle.gr_text.specs.Path.{folder};
 ghost use Rattle.gr_scope.specs.Named.{name_value};
@@ -10,9 +10,9 @@ ghost use Rattle.gr_bound.specs.Indexed.{IsNumbered, IsUnitAt, IsIndexed, IsSoug
 ghost use Rattle.gr_bound.specs.Packages.{IsTableAs};
 ghost use Rattle.gr_bound.specs.Steps.{Adds};
 ghost use Rattle.gr_bound.specs.Uses.{IsUseOf, TellsUses, TellsUsesAt};
-ghost use Rattle.gr_bound.specs.Workspaces.{IsSound, known_in, bytes_of, IsExportedUnder, IsHome, IsUseAt, ListsFound, TellsUsesIn};
+ghost use Rattle.gr_bound.specs.Workspaces.{IsSound, known_in, bytes_of, IsExportedUnder, IsUseAt, ListsFound, TellsUsesIn};
 
-use crate::asked::{declaration_in_unit, declared_name, own_name};
+use crate::asked::{declaration_in_unit, declared_name, exported_under, own_name};
 use crate::declaration::Declaration;
 use crate::faults::refuse_faults;
 use crate::indexed::{Indexed, Numbered, known_of, unit_of};
@@ -210,7 +210,7 @@ fn scope_name(
 }
 
 /// The name under which the package of a declaration exports it. One package was read.
-fn exported_under(
+fn name_by_read(
     alloc: Global,
     read: Numbered<'_>,
     unit: Package<'_>,
@@ -273,73 +273,27 @@ fn list_from(
     requires indexed { IsIndexed of.now }
     ensures { IfOk result (ListsFound read.entry.graph.now (known_in read.entry.found.now) declaration.now) }
 {
-    let name = exported_under(alloc, read, of.unit, declaration)?;
+    let name = name_by_read(alloc, read, of.unit, declaration)?;
     list_named(alloc, read, of, declaration, bytes(&name))
 }
 
-/// The same by what was found once in the package that was read.
-fn list_indexed(
-    alloc: Global,
-    read: Numbered<'_>,
-    unit: Package<'_>,
-    index: &Index<'_>,
-    declaration: &Declaration,
-) -> Result<Places, AllocError>
-    requires numbered { IsNumbered read }
-    requires unit { IsUnitAt read (package_of unit) }
-    requires index { IsIndexOf (package_of unit) index.now }
-    ensures { IfOk result (ListsFound read.entry.graph.now (known_in read.entry.found.now) declaration.now) }
-{
-    let of = known_of(read, unit, index);
-    list_from(alloc, read, &of, declaration)
-}
-
-/// The same by what that package sees and by its table.
-fn list_by(
-    alloc: Global,
-    read: Numbered<'_>,
-    seen: &Interfaces,
-    table: &ScopeTable<'_>,
-    declaration: &Declaration,
-) -> Result<Places, AllocError>
-    requires numbered { IsNumbered read }
-    requires table { IsTableAs read.graph.now (known_in read.found.now) read.number table.now seen.now }
-    ensures { IfOk result (ListsFound read.entry.graph.now (known_in read.entry.found.now) declaration.now) }
-{
-    let unit = unit_of(read, seen, table);
-    let index = Index::of(alloc, unit)?;
-    list_indexed(alloc, read, unit, &index, declaration)
-}
-
-/// The places of all uses of a declaration, in order. Its package is read once.
-fn list_at(
-    alloc: Global,
-    home: Numbered<'_>,
-    declaration: &Declaration,
-) -> Result<Places, AllocError>
-    requires { IsNumbered home }
-    ensures { IfOk result (ListsFound home.entry.graph.now (known_in home.entry.found.now) declaration.now) }
-{
-    let seen = seen(alloc, home.graph, home.number, &home.found.interfaces)?;
-    let table = read_table(alloc, home.graph, home.found, &seen, home.number)?;
-    list_by(alloc, home, &seen, &table, declaration)
-}
-
-/// The places of all uses of a declaration that has no package in the workspace, in order.
-fn list_homeless(
+/// The places of all uses of a declaration, in order. It is exported under a name, if it is.
+fn list_everywhere(
     alloc: Global,
     graph: &Graph,
     found: &Findings,
     declaration: &Declaration,
+    name: Option<&[u8]>,
 ) -> Result<Places, AllocError>
     requires sound { IsSound graph.now found.now }
-    requires home { IsHome graph.now declaration.now None }
+    requires name { IsExportedUnder graph.now (known_in found.now) declaration.now (name_value name) }
     ensures { IfOk result (ListsFound graph.now (known_in found.now) declaration.now) }
 {
+    let home = home_of(graph, declaration);
     let sought = Sought {
         declaration,
-        name: None,
-        home: None,
+        name,
+        home,
     };
     let mut spots = Vec::new(alloc);
     add_all_uses(alloc, &mut spots, graph, found, &sought)?;
@@ -356,17 +310,8 @@ pub fn list_uses(
     requires { IsSound graph.now found.now }
     ensures { IfOk result (ListsFound graph.now (known_in found.now) declaration.now) }
 {
-    match home_of(graph, declaration) {
-        None => list_homeless(alloc, graph, found, declaration),
-        Some(number) => {
-            let home = Numbered {
-                graph,
-                found,
-                number,
-            };
-            list_at(alloc, home, declaration)
-        }
-    }
+    let name = exported_under(alloc, graph, found, declaration)?;
+    list_everywhere(alloc, graph, found, declaration, bytes(&name))
 }
 
 /// The uses of what holds a byte of a file of a package.

@@ -26,6 +26,7 @@ loop-k-preserved c =
 pub returns : goal.returns
 returns c =
     let e : c.loop-k.k ≡ length c.args.uses.now = omega arith in
-    all_uses_bound (definitions_seen c.args.of.now.unit c.args.of.now.own.now) (package_of c.args.of.now.unit) c.args.file (map use_of c.args.uses.now) c.loop-k.k
+    all_uses_bound (definitions_seen c.args.of.now.unit c.args.of.now.own.now) (package_of c.args.of.now.unit) c.args.file (map use_of c.args.uses.now)
+    c.loop-k.k
     c.args.bound.now.items c.loop-k.bound.items
     (e ∙ sym (length-map c.args.uses.now use_of)) c.loop-k.invariant

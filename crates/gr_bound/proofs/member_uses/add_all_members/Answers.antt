@@ -12,7 +12,8 @@ use Rattle.gr_bound.proofs.MemberPlaces.{IsFileUse, one_file, all_members}
 use Rattle.gr_bound.proofs.member_uses.add_all_members.Goals as goal
 
 pub loop-file-init : goal.loop-file-init
-loop-file-init c = below_none (IsFileUse (definitions_seen c.args.of.now.unit c.args.of.now.own.now) (package_of c.args.of.now.unit) c.args.declaration.now c.args.of.now.members.now)
+loop-file-init c = below_none (IsFileUse (definitions_seen c.args.of.now.unit c.args.of.now.own.now) (package_of c.args.of.now.unit) c.args.declaration.now
+    c.args.of.now.members.now)
     c.args.found.now.items
 
 pub loop-file-preserved : goal.loop-file-preserved

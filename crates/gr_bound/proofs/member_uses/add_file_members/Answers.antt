@@ -10,7 +10,8 @@ use Rattle.gr_bound.proofs.MemberPlaces.{use_at, one_ranked, all_ranked}
 use Rattle.gr_bound.proofs.member_uses.add_file_members.Goals as goal
 
 pub loop-k-init : goal.loop-k-init
-loop-k-init c = below_none (IsMemberUseAt (definitions_seen c.args.of.now.unit c.args.of.now.own.now) (package_of c.args.of.now.unit) c.args.file c.args.declaration.now
+loop-k-init c = below_none (IsMemberUseAt (definitions_seen c.args.of.now.unit c.args.of.now.own.now) (package_of c.args.of.now.unit) c.args.file
+    c.args.declaration.now
     (map use_of c.args.uses.now)) c.args.found.now.items
 
 pub loop-k-preserved : goal.loop-k-preserved

@@ -9,14 +9,16 @@ use Rattle.gr_bound.proofs.workspace_uses.add_all_uses.Goals as goal
 
 pub loop-number-init : goal.loop-number-init
 loop-number-init c =
-    below_none (IsUseAt c.args.graph.now (known_in c.args.found.now) c.args.sought.now.declaration.now (name_value c.args.sought.now.name)) c.args.spots.now.items
+    below_none (IsUseAt c.args.graph.now (known_in c.args.found.now) c.args.sought.now.declaration.now (name_value c.args.sought.now.name))
+    c.args.spots.now.items
 
 pub add_if_used-requires-clause-numbered : goal.add_if_used-requires-clause-numbered
 add_if_used-requires-clause-numbered c = record { in_range = omega arith; sound = c.requires.sound }
 
 pub loop-number-preserved : goal.loop-number-preserved
 loop-number-preserved c =
-    below_next (IsUseAt c.args.graph.now (known_in c.args.found.now) c.args.sought.now.declaration.now (name_value c.args.sought.now.name)) c.args.spots.now.items
+    below_next (IsUseAt c.args.graph.now (known_in c.args.found.now) c.args.sought.now.declaration.now (name_value c.args.sought.now.name))
+    c.args.spots.now.items
     c.loop-number.spots.items c.add_if_used.new.spots.items c.loop-number.number c.loop-number.invariant c.in_ok-add_if_used.ensures
 
 pub returns : goal.returns

@@ -5,7 +5,7 @@ use Rattle.gr_bound.proofs.Asking.{lists_found}
 use Rattle.gr_bound.proofs.workspace_uses.list_named.Goals as goal
 
 pub add_uses_beyond-requires-clause-sought : goal.add_uses_beyond-requires-clause-sought
-add_uses_beyond-requires-clause-sought c = record { name = c.requires.name; home = c.home_of-home.ensures.home }
+add_uses_beyond-requires-clause-sought c = record { name = c.requires.name; home = c.home_of-home.ensures }
 
 pub returns : goal.returns
 returns c =

@@ -1,5 +1,8 @@
 -- The answers to the goals of `workspace_uses::list_uses`.
+use Rattle.std.proofs.Common.{sym, subst}
+use Rattle.gr_bound.specs.Workspaces.{known_in, IsExportedUnder}
 use Rattle.gr_bound.proofs.workspace_uses.list_uses.Goals as goal
 
-pub list_at-requires : goal.list_at-requires
-list_at-requires c = record { in_range = c.in-Some.ensures.in_range; sound = c.requires }
+pub list_everywhere-requires-clause-name : goal.list_everywhere-requires-clause-name
+list_everywhere-requires-clause-name c =
+    subst (IsExportedUnder c.args.graph.now (known_in c.args.found.now) c.args.declaration.now) (sym c.bytes.ensures) c.in_ok-name.ensures

@@ -16,7 +16,8 @@ returns-then-is_own c =
     let p = package_of c.args.unit in
     IfOk-weaker c.own_name.result (λ name. IsExportedBy p c.args.d (option_map bytes_of name))
     (λ name. IsExportedUnder w known (Declared c.args.path.now c.args.d) (option_map bytes_of name))
-    (λ name h. name_exported w known c.args.path.now c.args.d p c.requires.unit.is_package (sym (c.is_own.ensures.0 c.if-is_own.true)) (option_map bytes_of name) h) c.own_name.ensures
+    (λ name h. name_exported w known c.args.path.now c.args.d p c.requires.unit.is_package (sym (c.is_own.ensures.0 c.if-is_own.true))
+    (option_map bytes_of name) h) c.own_name.ensures
 
 pub declared_name-requires : goal.declared_name-requires
 declared_name-requires c = c.requires.numbered.sound

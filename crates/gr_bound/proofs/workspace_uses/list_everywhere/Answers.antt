@@ -1,15 +1,11 @@
--- The answers to the goals of `workspace_uses::list_homeless`.
+-- The answers to the goals of `workspace_uses::list_everywhere`.
 use Rattle.std.proofs.Common.{sym, subst}
 use Rattle.gr_bound.specs.Workspaces.{known_in, ListsFound}
 use Rattle.gr_bound.proofs.Asking.{lists_found}
-use Rattle.gr_bound.proofs.Exporting.{homeless}
-use Rattle.gr_bound.proofs.workspace_uses.list_homeless.Goals as goal
+use Rattle.gr_bound.proofs.workspace_uses.list_everywhere.Goals as goal
 
 pub add_all_uses-requires-clause-sought : goal.add_all_uses-requires-clause-sought
-add_all_uses-requires-clause-sought c = record {
-  name = homeless c.args.graph.now (known_in c.args.found.now) c.args.declaration.now c.requires.home;
-  home = c.requires.home;
-}
+add_all_uses-requires-clause-sought c = record { name = c.requires.name; home = c.home_of-home.ensures }
 
 pub returns : goal.returns
 returns c =

@@ -1,8 +1,8 @@
--- The answers to the goals of `workspace_uses::exported_under`.
+-- The answers to the goals of `workspace_uses::name_by_read`.
 use Rattle.std.proofs.Common.{sym, subst}
 use Rattle.std.specs.Prelude.{IfOk, option_map}
 use Rattle.gr_bound.specs.Workspaces.{known_in, bytes_of, IsExportedUnder}
-use Rattle.gr_bound.proofs.workspace_uses.exported_under.Goals as goal
+use Rattle.gr_bound.proofs.workspace_uses.name_by_read.Goals as goal
 
 pub returns-in-Declared : goal.returns-in-Declared
 returns-in-Declared c =
