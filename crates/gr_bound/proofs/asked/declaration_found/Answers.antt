@@ -9,6 +9,6 @@ declaration_in_unit-requires-clause-sound c = c.requires.numbered.sound
 
 pub returns : goal.returns
 returns c =
-    in_package c.args.at.graph.now (known_in c.args.at.found.now) c.args.at.number c.args.file.now c.args.offset (package_of c.of.unit)
+    in_package c.args.at.graph.now (known_in c.args.at.found.now) c.args.at.number c.args.file.now c.args.offset (package_of c.known_of-of.result.unit)
     c.known_of-of.ensures.unit
     c.declaration_in_unit.result c.declaration_in_unit.ensures

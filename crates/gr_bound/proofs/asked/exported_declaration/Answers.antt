@@ -16,8 +16,8 @@ returns-in-None-2 c =
     let x = subst (IsExportedNumber w known c.in-Some.number c.args.name.now) c.in-None-2.is c.in_ok-exported_number-in-Some.ensures in
     none_exported w known c.args.path.now c.args.name.now x.0 x.1.0.is_package (same_Some _ _ (sym x.1.0.has_number ∙ c.in-Some.ensures)) x.1.1
 
-pub exported_number-in-Some-requires : goal.exported_number-in-Some-requires
-exported_number-in-Some-requires c = record {
+pub exported_number-requires : goal.exported_number-requires
+exported_number-requires c = record {
   in_range = slice_get_within (package_paths c.args.graph.now) c.in-Some.number _ c.in-Some.ensures;
   sound = c.requires;
 }

@@ -19,7 +19,7 @@ pub returns : goal.returns
 returns c =
     let w = c.args.exports.now.graph.now in
     let known = known_in c.args.exports.now.found.now in
-    let p = package_of c.of.unit in
+    let p = package_of c.known_of-of.result.unit in
     let is = c.known_of-of.ensures.unit in
     call_all c.args.bound.now.items c.bind_unit.new.bound.items (BoundIn p (IsBoundTo w known p)) (IsBoundAt w known c.args.number) c.bind_unit.result
     (λ b h. record { used_in = p; is_package = is; bound = h })
