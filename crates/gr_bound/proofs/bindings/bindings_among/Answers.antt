@@ -20,4 +20,4 @@ returns c =
     let IsOf = IsMarked c.args.marks.now in
     all_among w known IsOf c.bind_marked.new.bound.items c.sort_runs.new.bound.items
     (subst (λ l. AddsAll l c.bind_marked.new.bound.items (IsBoundAmong w known IsOf)) c.new-bound.ensures.items c.in_ok-bind_marked.ensures)
-    c.in_ok-sort_runs.ensures c.sort_runs.ensures.same
+    c.in_ok-sort_runs.ensures.order c.sort_runs.ensures.same

@@ -10,5 +10,5 @@ returns c =
     let w = c.args.packages.now.graph.now in
     let known = known_in c.args.packages.now.found.now in
     all_bound w known c.bind_all.new.bound.items c.sort_runs.new.bound.items
-    (subst (λ l. AddsAll l c.bind_all.new.bound.items (IsBound w known)) c.new-bound.ensures.items c.in_ok-bind_all.ensures) c.in_ok-sort_runs.ensures
+    (subst (λ l. AddsAll l c.bind_all.new.bound.items (IsBound w known)) c.new-bound.ensures.items c.in_ok-bind_all.ensures) c.in_ok-sort_runs.ensures.order
     c.sort_runs.ensures.same

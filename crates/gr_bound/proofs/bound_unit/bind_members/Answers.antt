@@ -20,11 +20,11 @@ loop-file-preserved c =
     let p = package_of c.args.of.now.unit in
     let members = c.args.of.now.members.now in
     let file = c.loop-file.file in
-    let v = c.index-members-file.result in
+    let v = c.index-of-file.result in
     let a = c.loop-file.bound.items in
     let b = c.bind_file_members.new.bound.items in
     next_below _ c.args.bound.now.items a b file c.loop-file.invariant
-    (one_file_bound ds p members file v a b (slice_get_read members (length members) file v refl (omega arith) c.index-members-file.is)
+    (one_file_bound ds p members file v a b (slice_get_read members (length members) file v refl (omega arith) c.index-of-file.is)
     (subst (λ l. AddsAll a b (λ x. IsMemberUseAmong ds p file x.declaration (map use_of l) (place_at x))) c.deref.ensures.value
     c.in_ok-bind_file_members.ensures))
 

@@ -23,11 +23,11 @@ loop-file-preserved c =
     let members = c.args.of.now.members.now in
     let d = c.args.declaration.now in
     let file = c.loop-file.file in
-    let v = c.index-members-file.result in
+    let v = c.index-of-file.result in
     let a = c.loop-file.found.items in
     let b = c.add_file_members.new.found.items in
     below_next (IsFileUse ds p d members) c.args.found.now.items a b file c.loop-file.invariant
-    (one_file ds p d members file v a b (slice_get_read members (length members) file v refl (omega arith) c.index-members-file.is)
+    (one_file ds p d members file v a b (slice_get_read members (length members) file v refl (omega arith) c.index-of-file.is)
     (subst (λ l. Adds a b (IsMemberUseAmong ds p file d (map use_of l))) c.deref.ensures.value c.in_ok-add_file_members.ensures))
 
 pub returns : goal.returns
