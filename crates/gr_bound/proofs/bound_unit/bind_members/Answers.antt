@@ -1,6 +1,8 @@
 -- The answers to the goals of `bound_unit::bind_members`.
-use Rattle.std.proofs.Common.{◌≡◌, length, refl, subst, arith}
+use Rattle.std.proofs.Common.{◌≡◌, length, refl, sym, subst, arith}
 use Rattle.std.specs.Prelude.{map}
+use Rattle.std.specs.Global.{Vec}
+use Rattle.gr_expr.specs.declared.found.MemberUse.{MemberUse as FoundUse}
 use Rattle.std.proofs.lemmas.Option.{slice_get_read}
 use Rattle.gr_expr.specs.Found.{use_of}
 use Rattle.gr_declared.specs.PackageView.{package_of}
@@ -25,8 +27,9 @@ loop-file-preserved c =
     let b = c.bind_file_members.new.bound.items in
     next_below _ c.args.bound.now.items a b file c.loop-file.invariant
     (one_file_bound ds p members file v a b (slice_get_read members (length members) file v refl (omega arith) c.index-of-file.is)
-    (subst (λ l. AddsAll a b (λ x. IsMemberUseAmong ds p file x.declaration (map use_of l) (place_at x))) c.deref.ensures.value
-    c.in_ok-bind_file_members.ensures))
+    (subst (λ (x : Vec FoundUse). AddsAll a b (λ y. IsMemberUseAmong ds p file y.declaration (map use_of x.items) (place_at y))) (sym c.index-of-file.is)
+    (subst (λ l. AddsAll a b (λ y. IsMemberUseAmong ds p file y.declaration (map use_of l) (place_at y))) c.deref.ensures.value
+    c.in_ok-bind_file_members.ensures)))
 
 pub returns : goal.returns
 returns c =

@@ -1,6 +1,8 @@
 -- The answers to the goals of `member_uses::add_all_members`.
-use Rattle.std.proofs.Common.{◌≡◌, length, refl, subst, arith}
+use Rattle.std.proofs.Common.{◌≡◌, length, refl, sym, subst, arith}
 use Rattle.std.specs.Prelude.{map}
+use Rattle.std.specs.Global.{Vec}
+use Rattle.gr_expr.specs.declared.found.MemberUse.{MemberUse as FoundUse}
 use Rattle.std.proofs.lemmas.Option.{slice_get_read}
 use Rattle.gr_expr.specs.Found.{use_of}
 use Rattle.gr_declared.specs.PackageView.{package_of}
@@ -28,7 +30,8 @@ loop-file-preserved c =
     let b = c.add_file_members.new.found.items in
     below_next (IsFileUse ds p d members) c.args.found.now.items a b file c.loop-file.invariant
     (one_file ds p d members file v a b (slice_get_read members (length members) file v refl (omega arith) c.index-of-file.is)
-    (subst (λ l. Adds a b (IsMemberUseAmong ds p file d (map use_of l))) c.deref.ensures.value c.in_ok-add_file_members.ensures))
+    (subst (λ (x : Vec FoundUse). Adds a b (IsMemberUseAmong ds p file d (map use_of x.items))) (sym c.index-of-file.is)
+    (subst (λ l. Adds a b (IsMemberUseAmong ds p file d (map use_of l))) c.deref.ensures.value c.in_ok-add_file_members.ensures)))
 
 pub returns : goal.returns
 returns c =
