@@ -1,5 +1,5 @@
 -- A package of a number, and what is known of its identifiers.
-use Rattle.std.specs.Prelude.{ℕ, ◌<◌, length, map}
+use Rattle.std.specs.Prelude.{◌<◌, length, map}
 use Rattle.gr_text.specs.Packages.{package_paths}
 use Rattle.gr_text.specs.Workspace.{Workspace}
 use Rattle.gr_scope.specs.Named.{name_value}
