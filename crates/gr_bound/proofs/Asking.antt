@@ -186,3 +186,9 @@ lists_found w known d places old found e up held added = record {
     (λ h. (held (spot_at place)).1 (added.holds (spot_at place) h)),
   );
 }
+
+-- the uses of what holds a byte of the package of its folder
+pub tells_uses : (w : Workspace) (known : Verdicts) → AreVerdicts w known → (path : List ℕ) (offset : ℕ) (p : Package) → IsAskedIn w known path p →
+    (d : Declaration) (places : List Place) → FindsDeclarationIn w known p path offset (Ok d) → ListsFound w known d places →
+    ListsUses w path offset places
+tells_uses w known right path offset p is d places h = lists_uses w known right path offset d places (found w known path offset p is (Ok d) h)

@@ -9,3 +9,4 @@ pub mod Workspaces
 pub mod Packages
 pub mod Exports
 pub mod Bindings
+pub mod Indexed

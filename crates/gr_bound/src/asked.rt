@@ -1,18 +1,13 @@
 //! The declaration to which an identifier of a workspace is bound.
-ghost use Rattle.std.specs.Prelude.{ℕ, ◌≡◌, ◌<◌, length, map, option_map, IfOk, MatchOption};
-ghost use Rattle.gr_text.specs.Packages.{package_paths};
-ghost use Rattle.gr_tree.specs.SourceFile.{source_of};
-ghost use Rattle.gr_meanings.specs.PackageOf.{package_in};
-ghost use Rattle.gr_types.specs.Interfaces.{IsSeen};
-ghost use Rattle.gr_declared.specs.InterfacesView.{interface_in};
-ghost use Rattle.gr_meanings.specs.MemberUses.{AreMemberUses, uses_in};
+ghost use Rattle.std.specs.Prelude.{◌≡◌, ◌<◌, length, option_map, IfOk};
 ghost use Rattle.gr_declared.specs.PackageView.{package_of, IsIndexOf};
-ghost use Rattle.gr_bound.specs.Members.{KnowsOwn};
-ghost use Rattle.gr_bound.specs.Steps.{IsDeclarationFound, IsExportedBy};
-ghost use Rattle.gr_bound.specs.Uses.{IsPackage, IsBoundTo};
-ghost use Rattle.gr_bound.specs.Binding.{BindsByScope, BindsByPackage};
 ghost use Rattle.gr_bound.specs.declared.declaration.Declaration.{Declaration as Bound};
 ghost use Rattle.gr_bound.specs.declared.declaration.Declaration.TheVariants.{Declared};
+ghost use Rattle.gr_bound.specs.Binding.{BindsByScope, BindsByPackage};
+ghost use Rattle.gr_bound.specs.Indexed.{IsNumbered, IsUnitAt, IsIndexed};
+ghost use Rattle.gr_bound.specs.Packages.{IsTableAs};
+ghost use Rattle.gr_bound.specs.Steps.{IsDeclarationFound, IsExportedBy};
+ghost use Rattle.gr_bound.specs.Uses.{IsPackage, IsBoundTo};
 ghost use Rattle.gr_bound.specs.Workspaces.{
   IsSound,
   known_in,
@@ -29,59 +24,47 @@ ghost use Rattle.gr_bound.specs.Workspaces.{
 
 use crate::declaration::Declaration;
 use crate::identifiers::{identifier_at, named_by};
+use crate::indexed::{Indexed, Numbered, known_of, unit_of};
 use crate::member_uses::declaration_by_member;
 use crate::own_names::declaration_by_name;
 use crate::package_uses::{exported_as, exported_name, package_before};
-use crate::reading::{laid_table, members_of, own_of, path_of, trees};
+use crate::packages::read_table;
+use crate::reading::path_of;
 use crate::scope_uses::declaration_in_scope;
 use gr_declared::{Index, Interfaces, Package};
-use gr_expr::found::MemberUse;
 use gr_expr::symbol::SharedPath;
-use gr_expr::world::Definition;
 use gr_graph::Graph;
 use gr_scope::table::ScopeTable;
 use gr_text::{Path, Refusal};
-use gr_tree::FileTree;
 use gr_verdict::{Findings, seen};
 use std::alloc::{AllocError, Global};
 
-/// The number of the declaration that the package of a path exports under a name.
-fn exported_in(
-    path: &SharedPath,
-    files: &[FileTree],
+/// The number of the declaration that the package of a number exports under a name, by what it sees and by its table.
+fn exported_by(
+    at: Numbered<'_>,
+    seen: &Interfaces,
     table: &ScopeTable<'_>,
-    interfaces: &Interfaces,
     name: &[u8],
 ) -> Option<usize>
-    ensures { let p = package_in path.now (map source_of files.now) table.now (interface_in interfaces.now) in
-        MatchOption result ((d : ℕ) → IsSeen p d → p.names d ≡ name.now → ⊥) (λ d. IsSeen p d × (p.names d ≡ name.now)) }
+    requires numbered { IsNumbered at }
+    requires table { IsTableAs at.graph.now (known_in at.found.now) at.number table.now seen.now }
+    ensures { IsExportedNumber at.entry.graph.now (known_in at.entry.found.now) at.entry.number name.now result }
 {
-    let unit = Package {
-        path,
-        files,
-        table,
-        interfaces,
-    };
-    exported_as(unit, name)
+    exported_as(unit_of(at, seen, table), name)
 }
 
 /// The number of the declaration that the package of a number exports under a name.
 fn exported_number(
     alloc: Global,
-    graph: &Graph,
-    found: &Findings,
-    number: usize,
+    at: Numbered<'_>,
     name: &[u8],
 ) -> Result<Option<usize>, AllocError>
-    requires in_range { number < length (package_paths graph.now) }
-    requires sound { IsSound graph.now found.now }
-    ensures { IfOk result (IsExportedNumber graph.now (known_in found.now) number name.now) }
+    requires { IsNumbered at }
+    ensures { IfOk result (IsExportedNumber at.entry.graph.now (known_in at.entry.found.now) at.entry.number name.now) }
 {
-    let files = trees(graph, found, number);
-    let seen = seen(alloc, graph, number, &found.interfaces)?;
-    let table = laid_table(alloc, files, &seen)?;
-    let path = path_of(graph, found, number);
-    Ok(exported_in(path, files, &table, &seen, name))
+    let seen = seen(alloc, at.graph, at.number, &at.found.interfaces)?;
+    let table = read_table(alloc, at.graph, at.found, &seen, at.number)?;
+    Ok(exported_by(at, &seen, &table, name))
 }
 
 /// What the package of a path exports under a name.
@@ -97,61 +80,64 @@ fn exported_declaration(
 {
     match graph.number_of(path) {
         None => Ok(None),
-        Some(number) => match exported_number(alloc, graph, found, number, name)? {
-            None => Ok(None),
-            Some(d) => {
-                let path = path_of(graph, found, number).clone()?;
-                Ok(Some(Declaration::Declared(path, d)))
+        Some(number) => {
+            let at = Numbered {
+                graph,
+                found,
+                number,
+            };
+            match exported_number(alloc, at, name)? {
+                None => Ok(None),
+                Some(d) => {
+                    let path = path_of(graph, found, number).clone()?;
+                    Ok(Some(Declaration::Declared(path, d)))
+                }
             }
-        },
+        }
     }
 }
 
-/// The name under which the package of a path exports a declaration of its own.
-fn name_in(
+/// The name under which a package exports a declaration of its own.
+pub(crate) fn own_name(
     alloc: Global,
-    path: &SharedPath,
-    files: &[FileTree],
-    table: &ScopeTable<'_>,
-    interfaces: &Interfaces,
+    unit: Package<'_>,
     d: usize,
 ) -> Result<Option<Vec<u8>>, AllocError>
-    ensures { let p = package_in path.now (map source_of files.now) table.now (interface_in interfaces.now) in
-        IfOk result (λ name. IsExportedBy p d (option_map bytes_of name)) }
+    ensures { IfOk result (λ name. IsExportedBy (package_of unit.entry) d (option_map bytes_of name)) }
 {
-    let unit = Package {
-        path,
-        files,
-        table,
-        interfaces,
-    };
     match exported_name(unit, d) {
         None => Ok(None),
         Some(name) => Ok(Some(Vec::from_slice(alloc, name)?)),
     }
 }
 
-/// The name under which the package of a number exports a declaration of its own.
-fn name_at(
+/// The name under which the package of a number exports a declaration of its own, by what it sees and by its table.
+fn name_by(
     alloc: Global,
-    graph: &Graph,
-    found: &Findings,
-    number: usize,
+    at: Numbered<'_>,
+    seen: &Interfaces,
+    table: &ScopeTable<'_>,
     d: usize,
 ) -> Result<Option<Vec<u8>>, AllocError>
-    requires in_range { number < length (package_paths graph.now) }
-    requires sound { IsSound graph.now found.now }
-    ensures { IfOk result (λ name. IsNameAt graph.now (known_in found.now) number d (option_map bytes_of name)) }
+    requires numbered { IsNumbered at }
+    requires table { IsTableAs at.graph.now (known_in at.found.now) at.number table.now seen.now }
+    ensures { IfOk result (λ name. IsNameAt at.entry.graph.now (known_in at.entry.found.now) at.entry.number d (option_map bytes_of name)) }
 {
-    let files = trees(graph, found, number);
-    let seen = seen(alloc, graph, number, &found.interfaces)?;
-    let table = laid_table(alloc, files, &seen)?;
-    let path = path_of(graph, found, number);
-    name_in(alloc, path, files, &table, &seen, d)
+    own_name(alloc, unit_of(at, seen, table), d)
+}
+
+/// The name under which the package of a number exports a declaration of its own.
+fn name_at(alloc: Global, at: Numbered<'_>, d: usize) -> Result<Option<Vec<u8>>, AllocError>
+    requires { IsNumbered at }
+    ensures { IfOk result (λ name. IsNameAt at.entry.graph.now (known_in at.entry.found.now) at.entry.number d (option_map bytes_of name)) }
+{
+    let seen = seen(alloc, at.graph, at.number, &at.found.interfaces)?;
+    let table = read_table(alloc, at.graph, at.found, &seen, at.number)?;
+    name_by(alloc, at, &seen, &table, d)
 }
 
 /// The name under which the package of a declaration of a scope exports it.
-fn declared_name(
+pub(crate) fn declared_name(
     alloc: Global,
     graph: &Graph,
     found: &Findings,
@@ -163,12 +149,19 @@ fn declared_name(
 {
     match graph.number_of(path.path()) {
         None => Ok(None),
-        Some(number) => name_at(alloc, graph, found, number, d),
+        Some(number) => {
+            let at = Numbered {
+                graph,
+                found,
+                number,
+            };
+            name_at(alloc, at, d)
+        }
     }
 }
 
 /// The name under which the package of a declaration exports it.
-pub fn exported_under(
+pub(crate) fn exported_under(
     alloc: Global,
     graph: &Graph,
     found: &Findings,
@@ -206,20 +199,15 @@ fn declaration_by_package(
 /// The field or method that an identifier is, where it is used or where it is declared.
 fn member_declaration(
     alloc: Global,
-    unit: Package<'_>,
-    index: &Index<'_>,
-    own: &[Definition],
-    members: &[Vec<MemberUse>],
+    of: &Indexed<'_>,
     u: usize,
 ) -> Result<Option<Declaration>, AllocError>
-    requires index { IsIndexOf (package_of unit) index.now }
-    requires own { KnowsOwn (package_of unit) own.now }
-    requires members { AreMemberUses (package_of unit) (map uses_in members.now) }
-    requires in_range { u < length unit.table.now.sites }
-    ensures { IfOk result (IsDeclarationFound (BindsMember (package_of unit.entry) u)) }
+    requires indexed { IsIndexed of.now }
+    requires in_range { u < length of.now.unit.table.now.sites }
+    ensures { IfOk result (IsDeclarationFound (BindsMember (package_of of.now.unit) u)) }
 {
-    match declaration_by_member(unit, own, members, u)? {
-        None => declaration_by_name(alloc, unit, index, u),
+    match declaration_by_member(of.unit, of.own, of.members, u)? {
+        None => declaration_by_name(alloc, of.unit, of.index, u),
         Some(declaration) => Ok(Some(declaration)),
     }
 }
@@ -229,23 +217,18 @@ fn declaration_beyond(
     alloc: Global,
     graph: &Graph,
     found: &Findings,
-    unit: Package<'_>,
-    index: &Index<'_>,
-    own: &[Definition],
-    members: &[Vec<MemberUse>],
+    of: &Indexed<'_>,
     u: usize,
 ) -> Result<Option<Declaration>, AllocError>
     requires sound { IsSound graph.now found.now }
-    requires index { IsIndexOf (package_of unit) index.now }
-    requires own { KnowsOwn (package_of unit) own.now }
-    requires members { AreMemberUses (package_of unit) (map uses_in members.now) }
-    requires in_range { u < length unit.table.now.sites }
-    requires unbound { (d : Bound) → BindsByScope (package_of unit) u d → ⊥ }
-    ensures { IfOk result (IsDeclarationFound (IsBoundTo graph.now (known_in found.now) (package_of unit.entry) u)) }
+    requires indexed { IsIndexed of.now }
+    requires in_range { u < length of.now.unit.table.now.sites }
+    requires unbound { (d : Bound) → BindsByScope (package_of of.now.unit) u d → ⊥ }
+    ensures { IfOk result (IsDeclarationFound (IsBoundTo graph.now (known_in found.now) (package_of of.now.unit) u)) }
 {
-    match declaration_by_package(alloc, graph, found, unit, index, u)? {
+    match declaration_by_package(alloc, graph, found, of.unit, of.index, u)? {
         Some(declaration) => Ok(Some(declaration)),
-        None => member_declaration(alloc, unit, index, own, members, u),
+        None => member_declaration(alloc, of, u),
     }
 }
 
@@ -254,47 +237,38 @@ fn declaration_of(
     alloc: Global,
     graph: &Graph,
     found: &Findings,
-    unit: Package<'_>,
-    index: &Index<'_>,
-    own: &[Definition],
-    members: &[Vec<MemberUse>],
+    of: &Indexed<'_>,
     u: usize,
 ) -> Result<Option<Declaration>, AllocError>
     requires sound { IsSound graph.now found.now }
-    requires index { IsIndexOf (package_of unit) index.now }
-    requires own { KnowsOwn (package_of unit) own.now }
-    requires members { AreMemberUses (package_of unit) (map uses_in members.now) }
-    requires in_range { u < length unit.table.now.sites }
-    ensures { IfOk result (IsDeclarationFound (IsBoundTo graph.now (known_in found.now) (package_of unit.entry) u)) }
+    requires indexed { IsIndexed of.now }
+    requires in_range { u < length of.now.unit.table.now.sites }
+    ensures { IfOk result (IsDeclarationFound (IsBoundTo graph.now (known_in found.now) (package_of of.now.unit) u)) }
 {
-    match declaration_in_scope(unit, u)? {
+    match declaration_in_scope(of.unit, u)? {
         Some(declaration) => Ok(Some(declaration)),
-        None => declaration_beyond(alloc, graph, found, unit, index, own, members, u),
+        None => declaration_beyond(alloc, graph, found, of, u),
     }
 }
 
 /// The declaration of what holds a byte of a file of a package.
-fn declaration_in_unit(
+pub(crate) fn declaration_in_unit(
     alloc: Global,
     graph: &Graph,
     found: &Findings,
-    unit: Package<'_>,
-    own: &[Definition],
-    members: &[Vec<MemberUse>],
+    of: &Indexed<'_>,
     path: &Path,
     offset: usize,
 ) -> Result<Declaration, Refusal>
     requires sound { IsSound graph.now found.now }
-    requires own { KnowsOwn (package_of unit) own.now }
-    requires members { AreMemberUses (package_of unit) (map uses_in members.now) }
-    ensures { FindsDeclarationIn graph.now (known_in found.now) (package_of unit.entry) path.now offset result }
+    requires indexed { IsIndexed of.now }
+    ensures { FindsDeclarationIn graph.now (known_in found.now) (package_of of.now.unit) path.now offset result }
 {
-    let index = Index::of(alloc, unit)?;
-    match identifier_at(unit, path, offset) {
+    match identifier_at(of.unit, path, offset) {
         None => Err(Refusal::NoIdentifier),
         Some(u) => {
-            let name = named_by(unit, u);
-            match declaration_of(alloc, graph, found, unit, &index, own, members, name)? {
+            let name = named_by(of.unit, u);
+            match declaration_of(alloc, graph, found, of, name)? {
                 None => Err(Refusal::NotRenamable),
                 Some(declaration) => Ok(declaration),
             }
@@ -302,57 +276,55 @@ fn declaration_in_unit(
     }
 }
 
-/// The declaration of what holds a byte of a file of the package of a path.
-fn declaration_by(
+/// The declaration of what holds a byte of a file of the package of a number, with what was found once in it.
+fn declaration_found(
     alloc: Global,
-    graph: &Graph,
-    found: &Findings,
-    path: &SharedPath,
-    files: &[FileTree],
-    table: &ScopeTable<'_>,
-    interfaces: &Interfaces,
-    own: &[Definition],
-    members: &[Vec<MemberUse>],
+    at: Numbered<'_>,
+    unit: Package<'_>,
+    index: &Index<'_>,
     file: &Path,
     offset: usize,
 ) -> Result<Declaration, Refusal>
-    requires sound { IsSound graph.now found.now }
-    requires own { KnowsOwn (package_in path.now (map source_of files.now) table.now (interface_in interfaces.now)) own.now }
-    requires members { AreMemberUses (package_in path.now (map source_of files.now) table.now (interface_in interfaces.now)) (map uses_in members.now) }
-    ensures { let p = package_in path.now (map source_of files.now) table.now (interface_in interfaces.now) in
-        FindsDeclarationIn graph.now (known_in found.now) p file.now offset result }
+    requires numbered { IsNumbered at }
+    requires unit { IsUnitAt at (package_of unit) }
+    requires index { IsIndexOf (package_of unit) index.now }
+    ensures { FindsDeclarationAt at.entry.graph.now (known_in at.entry.found.now) at.entry.number file.now offset result }
 {
-    let unit = Package {
-        path,
-        files,
-        table,
-        interfaces,
-    };
-    declaration_in_unit(alloc, graph, found, unit, own, members, file, offset)
+    let of = known_of(at, unit, index);
+    declaration_in_unit(alloc, at.graph, at.found, &of, file, offset)
+}
+
+/// The declaration of what holds a byte of a file of the package of a number, by what it sees and by its table.
+fn declaration_by(
+    alloc: Global,
+    at: Numbered<'_>,
+    seen: &Interfaces,
+    table: &ScopeTable<'_>,
+    file: &Path,
+    offset: usize,
+) -> Result<Declaration, Refusal>
+    requires numbered { IsNumbered at }
+    requires table { IsTableAs at.graph.now (known_in at.found.now) at.number table.now seen.now }
+    ensures { FindsDeclarationAt at.entry.graph.now (known_in at.entry.found.now) at.entry.number file.now offset result }
+{
+    let unit = unit_of(at, seen, table);
+    let index = Index::of(alloc, unit)?;
+    declaration_found(alloc, at, unit, &index, file, offset)
 }
 
 /// The declaration of what holds a byte of a file of the package of a number.
 fn declaration_in(
     alloc: Global,
-    graph: &Graph,
-    found: &Findings,
-    number: usize,
+    at: Numbered<'_>,
     file: &Path,
     offset: usize,
 ) -> Result<Declaration, Refusal>
-    requires in_range { number < length (package_paths graph.now) }
-    requires sound { IsSound graph.now found.now }
-    ensures { FindsDeclarationAt graph.now (known_in found.now) number file.now offset result }
+    requires { IsNumbered at }
+    ensures { FindsDeclarationAt at.entry.graph.now (known_in at.entry.found.now) at.entry.number file.now offset result }
 {
-    let files = trees(graph, found, number);
-    let seen = seen(alloc, graph, number, &found.interfaces)?;
-    let table = laid_table(alloc, files, &seen)?;
-    let path = path_of(graph, found, number);
-    let own = own_of(graph, found, number);
-    let members = members_of(graph, found, number);
-    declaration_by(
-        alloc, graph, found, path, files, &table, &seen, own, members, file, offset,
-    )
+    let seen = seen(alloc, at.graph, at.number, &at.found.interfaces)?;
+    let table = read_table(alloc, at.graph, at.found, &seen, at.number)?;
+    declaration_by(alloc, at, &seen, &table, file, offset)
 }
 
 /// The declaration of what holds a byte of a file.
@@ -368,6 +340,13 @@ pub fn declaration_at(
 {
     match graph.number_of(path.folder()) {
         None => Err(Refusal::NoIdentifier),
-        Some(number) => declaration_in(alloc, graph, found, number, path, offset),
+        Some(number) => {
+            let at = Numbered {
+                graph,
+                found,
+                number,
+            };
+            declaration_in(alloc, at, path, offset)
+        }
     }
 }

@@ -5,7 +5,7 @@ ghost use Rattle.std.specs.Ordering.{is_lt};
 ghost use Rattle.gr_text.specs.Packages.{package_paths};
 ghost use Rattle.gr_text.specs.Workspace.{Workspace};
 ghost use Rattle.gr_graph.specs.Search.{IsMarked};
-ghost use Rattle.gr_declared.specs.PackageView.{package_of};
+ghost use Rattle.gr_declared.specs.PackageView.{package_of, IsIndexOf};
 ghost use Rattle.gr_verdict.specs.Verdicts.{Verdicts};
 ghost use Rattle.gr_bound.specs.declared.bound_spot.BoundSpot.{BoundSpot as Bound};
 ghost use Rattle.gr_bound.specs.declared.declaration.Declaration.{Declaration as Declared};
@@ -19,10 +19,10 @@ ghost use Rattle.gr_bound.specs.Workspaces.{IsSound, known_in, IsPackageAt};
 use crate::bound_spot::BoundSpot;
 use crate::bound_unit::bind_unit;
 use crate::declaration::Declaration;
+use crate::indexed::{Numbered, known_of, unit_of};
 use crate::known_exports::{KnownExports, all_exports, imported_exports};
 use crate::packages::{Packages, read_table};
-use crate::reading::{members_of, own_of, path_of};
-use gr_declared::{Interfaces, Package};
+use gr_declared::{Index, Interfaces, Package};
 use gr_graph::Graph;
 use gr_scope::table::ScopeTable;
 use gr_text::Place;
@@ -53,6 +53,29 @@ impl Model for Bindings {
     ghost invariant = { λ a. IsSortedBy (λ b c. is_lt (place_cmp (place_at b) (place_at c))) a.bound.items };
 }
 
+/// Adds the bound identifiers of the package of a number, with what was found once in it.
+fn bind_indexed(
+    alloc: Global,
+    bound: &mut Vec<BoundSpot>,
+    exports: &KnownExports<'_>,
+    unit: Package<'_>,
+    index: &Index<'_>,
+    number: usize,
+) -> Result<(), AllocError>
+    requires exports { KnowsExports exports.now }
+    requires numbered { IsPackageAt exports.now.graph.now (known_in exports.now.found.now) number (package_of unit) }
+    requires index { IsIndexOf (package_of unit) index.now }
+    ensures { OnOk result (AddsAll bound.old.items bound.new.items (IsBoundAt exports.now.graph.now (known_in exports.now.found.now) number)) }
+{
+    let at = Numbered {
+        graph: exports.graph,
+        found: exports.found,
+        number,
+    };
+    let of = known_of(at, unit, index);
+    bind_unit(alloc, bound, exports, &of)
+}
+
 /// Adds the bound identifiers of a package that has a number.
 fn bind_numbered(
     alloc: Global,
@@ -65,9 +88,8 @@ fn bind_numbered(
     requires numbered { IsPackageAt exports.now.graph.now (known_in exports.now.found.now) number (package_of unit) }
     ensures { OnOk result (AddsAll bound.old.items bound.new.items (IsBoundAt exports.now.graph.now (known_in exports.now.found.now) number)) }
 {
-    let own = own_of(exports.graph, exports.found, number);
-    let members = members_of(exports.graph, exports.found, number);
-    bind_unit(alloc, bound, exports, unit, own, members)
+    let index = Index::of(alloc, unit)?;
+    bind_indexed(alloc, bound, exports, unit, &index, number)
 }
 
 /// Adds the bound identifiers of the package of a number.
@@ -122,15 +144,12 @@ fn bind_laid(
     requires table { IsTableAs exports.now.graph.now (known_in exports.now.found.now) number table.now seen.now }
     ensures { OnOk result (AddsAll bound.old.items bound.new.items (IsBoundAt exports.now.graph.now (known_in exports.now.found.now) number)) }
 {
-    let path = path_of(exports.graph, exports.found, number);
-    let files = table.files();
-    let unit = Package {
-        path,
-        files,
-        table,
-        interfaces: seen,
+    let at = Numbered {
+        graph: exports.graph,
+        found: exports.found,
+        number,
     };
-    bind_numbered(alloc, bound, exports, unit, number)
+    bind_numbered(alloc, bound, exports, unit_of(at, seen, table), number)
 }
 
 /// Adds the bound identifiers of the package of a number, which is read for it.
@@ -194,6 +213,15 @@ pub fn sort(bound: &mut Vec<BoundSpot>)
     bound.sort_unstable_by(|a, b| a.spot.cmp(&b.spot));
 }
 
+/// Sorts bound identifiers by their places. Those of each package come in few runs, and packages in nearly the order of their
+/// files, which this sort makes use of.
+fn sort_runs(bound: &mut Vec<BoundSpot>) -> Result<(), AllocError>
+    ensures order { OnOk result (IsSortedBy (λ a b. is_lt (place_cmp (place_at a) (place_at b))) bound.new.items) }
+    ensures same { (b : Bound) → Contains bound.new.items b ↔ Contains bound.old.items b }
+{
+    bound.sort_by(|a, b| a.spot.cmp(&b.spot))
+}
+
 /// The bound identifiers of a workspace in which nothing is a fault.
 pub fn bindings_of(alloc: Global, packages: &Packages<'_>) -> Result<Bindings, AllocError>
     requires { ArePackages packages.now }
@@ -202,7 +230,7 @@ pub fn bindings_of(alloc: Global, packages: &Packages<'_>) -> Result<Bindings, A
     let numbers = all_exports(alloc, packages)?;
     let mut bound = Vec::new(alloc);
     bind_all(alloc, &mut bound, packages, &numbers)?;
-    sort(&mut bound);
+    sort_runs(&mut bound)?;
     Ok(Bindings { bound })
 }
 
@@ -225,7 +253,7 @@ pub fn bindings_among(
     };
     let mut bound = Vec::new(alloc);
     bind_marked(alloc, &mut bound, &exports, marks)?;
-    sort(&mut bound);
+    sort_runs(&mut bound)?;
     Ok(Bindings { bound })
 }
 

@@ -1,7 +1,6 @@
 //! The bound identifiers of one package, each with its declaration.
 ghost use Rattle.std.specs.Prelude.{ℕ, ◌≡◌, ◌<◌, ◌⊎◌, length, map, slice_index_or, None, OnOk};
 ghost use Rattle.gr_expr.specs.Found.{use_of};
-ghost use Rattle.gr_meanings.specs.MemberUses.{AreMemberUses, uses_in};
 ghost use Rattle.gr_declared.specs.Package.{symbol_in};
 ghost use Rattle.gr_declared.specs.PackageView.{package_of, IsIndexOf};
 ghost use Rattle.gr_bound.specs.declared.declaration.Declaration.{Declaration as Bound};
@@ -10,13 +9,15 @@ ghost use Rattle.gr_bound.specs.Binding.{BindsByScope, BindsByPackage, BindsByMe
 ghost use Rattle.gr_bound.specs.Bindings.{AddsAll, BoundIn, place_at};
 ghost use Rattle.gr_bound.specs.Exports.{KnowsExports};
 ghost use Rattle.gr_bound.specs.Identifiers.{BeginsAt};
-ghost use Rattle.gr_bound.specs.Members.{definitions_seen, IsMemberUseOf, IsMemberUseAmong, KnowsOwn};
+ghost use Rattle.gr_bound.specs.Indexed.{IsIndexed};
+ghost use Rattle.gr_bound.specs.Members.{definitions_seen, IsMemberUseOf, IsMemberUseAmong};
 ghost use Rattle.gr_bound.specs.Steps.{AtFound, ArePlaces};
 ghost use Rattle.gr_bound.specs.Uses.{IsPackage, IsBoundTo};
 ghost use Rattle.gr_bound.specs.Workspaces.{known_in};
 
 use crate::bound_spot::{BoundSpot, bind_identifier, bind_token};
 use crate::declaration::Declaration;
+use crate::indexed::Indexed;
 use crate::known_exports::KnownExports;
 use crate::member_uses::member_declaration;
 use crate::own_names::{field_places, method_places, place_of, symbol};
@@ -24,7 +25,6 @@ use crate::package_uses::package_before;
 use crate::scope_uses::declaration_in_scope;
 use gr_declared::{Index, Package};
 use gr_expr::found::MemberUse;
-use gr_expr::world::Definition;
 use gr_meanings::one_world;
 use gr_scope::model::Position;
 use std::alloc::{AllocError, Global};
@@ -115,25 +115,23 @@ fn bind_numbers(
 fn bind_member(
     alloc: Global,
     bound: &mut Vec<BoundSpot>,
-    unit: Package<'_>,
-    index: &Index<'_>,
-    own: &[Definition],
+    of: &Indexed<'_>,
     file: usize,
     member: &MemberUse,
 ) -> Result<(), AllocError>
-    requires { IsIndexOf (package_of unit) index.now }
-    ensures { let p = package_of unit.entry in
-        let ds = definitions_seen unit.entry own.now in
+    requires { IsIndexed of.now }
+    ensures { let p = package_of of.now.unit in
+        let ds = definitions_seen of.now.unit of.now.own.now in
         OnOk result (AddsAll bound.old.items bound.new.items (λ b. IsMemberUseOf ds p file b.declaration (use_of member.now) (place_at b))) }
 {
-    match member_declaration(unit, own, file, member)? {
+    match member_declaration(of.unit, of.own, file, member)? {
         None => Ok(()),
         Some(declaration) => {
             let at = Position {
                 file,
                 index: member.place,
             };
-            bind_token(alloc, bound, unit, index, at, &declaration)
+            bind_token(alloc, bound, of.unit, of.index, at, &declaration)
         }
     }
 }
@@ -142,19 +140,17 @@ fn bind_member(
 fn bind_file_members(
     alloc: Global,
     bound: &mut Vec<BoundSpot>,
-    unit: Package<'_>,
-    index: &Index<'_>,
-    own: &[Definition],
+    of: &Indexed<'_>,
     file: usize,
     uses: &[MemberUse],
 ) -> Result<(), AllocError>
-    requires { IsIndexOf (package_of unit) index.now }
-    ensures { let p = package_of unit.entry in
-        let ds = definitions_seen unit.entry own.now in
+    requires { IsIndexed of.now }
+    ensures { let p = package_of of.now.unit in
+        let ds = definitions_seen of.now.unit of.now.own.now in
         OnOk result (AddsAll bound.old.items bound.new.items (λ b. IsMemberUseAmong ds p file b.declaration (map use_of uses.now) (place_at b))) }
 {
     for k in 0..uses.len() {
-        bind_member(alloc, bound, unit, index, own, file, &uses[k])?;
+        bind_member(alloc, bound, of, file, &uses[k])?;
     }
     Ok(())
 }
@@ -163,21 +159,16 @@ fn bind_file_members(
 fn bind_members(
     alloc: Global,
     bound: &mut Vec<BoundSpot>,
-    unit: Package<'_>,
-    index: &Index<'_>,
-    own: &[Definition],
-    members: &[Vec<MemberUse>],
+    of: &Indexed<'_>,
 ) -> Result<(), AllocError>
-    requires index { IsIndexOf (package_of unit) index.now }
-    requires own { KnowsOwn (package_of unit) own.now }
-    requires members { AreMemberUses (package_of unit) (map uses_in members.now) }
-    ensures { let p = package_of unit.entry in
+    requires { IsIndexed of.now }
+    ensures { let p = package_of of.now.unit in
         OnOk result (AddsAll bound.old.items bound.new.items (BoundIn p (BindsByMember p))) }
 {
-    unit.table.is_well_formed();
-    one_world(unit);
-    for file in 0..members.len() {
-        bind_file_members(alloc, bound, unit, index, own, file, &members[file])?;
+    of.unit.table.is_well_formed();
+    one_world(of.unit);
+    for file in 0..of.members.len() {
+        bind_file_members(alloc, bound, of, file, &of.members[file])?;
     }
     Ok(())
 }
@@ -186,19 +177,18 @@ fn bind_members(
 fn bind_name(
     alloc: Global,
     bound: &mut Vec<BoundSpot>,
-    unit: Package<'_>,
-    index: &Index<'_>,
+    of: &Indexed<'_>,
     places: &[Option<Position>],
     rank: usize,
     declaration: &Declaration,
 ) -> Result<(), AllocError>
-    requires { IsIndexOf (package_of unit) index.now }
-    ensures { let p = package_of unit.entry in
+    requires { IsIndexed of.now }
+    ensures { let p = package_of of.now.unit in
         OnOk result (AddsAll bound.old.items bound.new.items (λ b. AtFound p (slice_index_or places.now rank None) (place_at b) × (b.declaration ≡ declaration.now))) }
 {
     match place_of(places, rank) {
         None => Ok(()),
-        Some(at) => bind_token(alloc, bound, unit, index, at, declaration),
+        Some(at) => bind_token(alloc, bound, of.unit, of.index, at, declaration),
     }
 }
 
@@ -206,18 +196,17 @@ fn bind_name(
 fn bind_fields(
     alloc: Global,
     bound: &mut Vec<BoundSpot>,
-    unit: Package<'_>,
-    index: &Index<'_>,
+    of: &Indexed<'_>,
     places: &[Option<Position>],
 ) -> Result<(), AllocError>
-    requires index { IsIndexOf (package_of unit) index.now }
-    requires places { ArePlaces (IsFieldAt (package_of unit)) places.now }
-    ensures { let p = package_of unit.entry in
+    requires indexed { IsIndexed of.now }
+    requires places { ArePlaces (IsFieldAt (package_of of.now.unit)) places.now }
+    ensures { let p = package_of of.now.unit in
         OnOk result (AddsAll bound.old.items bound.new.items (λ b. (rank : ℕ) × (AtFound p (slice_index_or places.now rank None) (place_at b) × (b.declaration ≡ Field (symbol_in p rank))))) }
 {
     for rank in 0..places.len() {
-        let declaration = Declaration::Field(symbol(unit, rank)?);
-        bind_name(alloc, bound, unit, index, places, rank, &declaration)?;
+        let declaration = Declaration::Field(symbol(of.unit, rank)?);
+        bind_name(alloc, bound, of, places, rank, &declaration)?;
     }
     Ok(())
 }
@@ -226,18 +215,17 @@ fn bind_fields(
 fn bind_methods(
     alloc: Global,
     bound: &mut Vec<BoundSpot>,
-    unit: Package<'_>,
-    index: &Index<'_>,
+    of: &Indexed<'_>,
     places: &[Option<Position>],
 ) -> Result<(), AllocError>
-    requires index { IsIndexOf (package_of unit) index.now }
-    requires places { ArePlaces (IsMethodAt (package_of unit)) places.now }
-    ensures { let p = package_of unit.entry in
+    requires indexed { IsIndexed of.now }
+    requires places { ArePlaces (IsMethodAt (package_of of.now.unit)) places.now }
+    ensures { let p = package_of of.now.unit in
         OnOk result (AddsAll bound.old.items bound.new.items (λ b. (rank : ℕ) × (AtFound p (slice_index_or places.now rank None) (place_at b) × (b.declaration ≡ Method (symbol_in p rank))))) }
 {
     for rank in 0..places.len() {
-        let declaration = Declaration::Method(symbol(unit, rank)?);
-        bind_name(alloc, bound, unit, index, places, rank, &declaration)?;
+        let declaration = Declaration::Method(symbol(of.unit, rank)?);
+        bind_name(alloc, bound, of, places, rank, &declaration)?;
     }
     Ok(())
 }
@@ -246,17 +234,16 @@ fn bind_methods(
 fn bind_own_names(
     alloc: Global,
     bound: &mut Vec<BoundSpot>,
-    unit: Package<'_>,
-    index: &Index<'_>,
+    of: &Indexed<'_>,
 ) -> Result<(), AllocError>
-    requires { IsIndexOf (package_of unit) index.now }
-    ensures { let p = package_of unit.entry in
+    requires { IsIndexed of.now }
+    ensures { let p = package_of of.now.unit in
         OnOk result (AddsAll bound.old.items bound.new.items (BoundIn p (BindsByName p))) }
 {
-    let fields = field_places(alloc, unit, index)?;
-    let methods = method_places(alloc, unit, index)?;
-    bind_fields(alloc, bound, unit, index, &fields)?;
-    bind_methods(alloc, bound, unit, index, &methods)
+    let fields = field_places(alloc, of.unit, of.index)?;
+    let methods = method_places(alloc, of.unit, of.index)?;
+    bind_fields(alloc, bound, of, &fields)?;
+    bind_methods(alloc, bound, of, &methods)
 }
 
 /// Adds the bound identifiers of a package.
@@ -264,18 +251,14 @@ pub fn bind_unit(
     alloc: Global,
     bound: &mut Vec<BoundSpot>,
     exports: &KnownExports<'_>,
-    unit: Package<'_>,
-    own: &[Definition],
-    members: &[Vec<MemberUse>],
+    of: &Indexed<'_>,
 ) -> Result<(), AllocError>
     requires exports { KnowsExports exports.now }
-    requires own { KnowsOwn (package_of unit) own.now }
-    requires members { AreMemberUses (package_of unit) (map uses_in members.now) }
-    ensures { let p = package_of unit.entry in
+    requires indexed { IsIndexed of.now }
+    ensures { let p = package_of of.now.unit in
         OnOk result (AddsAll bound.old.items bound.new.items (BoundIn p (IsBoundTo exports.now.graph.now (known_in exports.now.found.now) p))) }
 {
-    let index = Index::of(alloc, unit)?;
-    bind_numbers(alloc, bound, exports, unit, &index)?;
-    bind_members(alloc, bound, unit, &index, own, members)?;
-    bind_own_names(alloc, bound, unit, &index)
+    bind_numbers(alloc, bound, exports, of.unit, of.index)?;
+    bind_members(alloc, bound, of)?;
+    bind_own_names(alloc, bound, of)
 }

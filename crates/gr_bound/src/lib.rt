@@ -9,6 +9,7 @@ mod declaration;
 pub mod exports;
 mod faults;
 mod identifiers;
+mod indexed;
 mod known_exports;
 pub mod laws;
 mod may_use;

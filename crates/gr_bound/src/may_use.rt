@@ -17,6 +17,14 @@ use gr_expr::found::MemberUse;
 use gr_graph::Graph;
 use gr_verdict::{Findings, is_among, reaches};
 
+/// A declaration that is sought, with the name under which it is exported and the number of its package, if it has them.
+#[derive(Clone, Copy)]
+pub struct Sought<'a> {
+    pub declaration: &'a Declaration,
+    pub name: Option<&'a [u8]>,
+    pub home: Option<usize>,
+}
+
 /// Whether a package imports another directly.
 fn imports(graph: &Graph, number: usize, other: usize) -> bool
     requires { number < length (package_paths graph.now) }
@@ -46,24 +54,23 @@ fn may_use_member(graph: &Graph, found: &Findings, number: usize, home: usize) -
     reaches(graph, number, home) && uses_members(members_of(graph, found, number))
 }
 
-/// Whether a declaration of the package of another number may be used in a package. It is exported under a name, if it is.
+/// Whether a declaration of the package of another number may be used in a package.
 fn may_use_other(
     graph: &Graph,
     found: &Findings,
     number: usize,
     home: usize,
-    declaration: &Declaration,
-    name: Option<&[u8]>,
+    sought: &Sought<'_>,
 ) -> bool
     requires in_range { number < length (package_paths graph.now) }
     requires sound { IsSound graph.now found.now }
-    requires home { slice_get (package_paths graph.now) home ≡ home_path declaration.now }
+    requires home { slice_get (package_paths graph.now) home ≡ home_path sought.now.declaration.now }
     requires other { home ≢ number }
-    ensures { (place : Place) → IsUseAt graph.now (known_in found.now) declaration.now (name_value name.entry) number place → IsTrue result }
+    ensures { (place : Place) → IsUseAt graph.now (known_in found.now) sought.now.declaration.now (name_value sought.now.name) number place → IsTrue result }
 {
-    match declaration {
+    match sought.declaration {
         Declaration::Predeclared(_) => true,
-        Declaration::Declared(_, _) => name.is_some() && imports(graph, number, home),
+        Declaration::Declared(_, _) => sought.name.is_some() && imports(graph, number, home),
         Declaration::Field(_) => may_use_member(graph, found, number, home),
         Declaration::Method(_) => may_use_member(graph, found, number, home),
     }
@@ -81,25 +88,15 @@ pub(crate) fn home_of(graph: &Graph, declaration: &Declaration) -> Option<usize>
     }
 }
 
-/// Whether an identifier of a package may be bound to a declaration, whose package has the other number, if there is one.
-/// It is exported under a name, if it is.
-pub(crate) fn may_use(
-    graph: &Graph,
-    found: &Findings,
-    number: usize,
-    home: Option<usize>,
-    declaration: &Declaration,
-    name: Option<&[u8]>,
-) -> bool
+/// Whether an identifier of a package may be bound to a declaration.
+pub(crate) fn may_use(graph: &Graph, found: &Findings, number: usize, sought: &Sought<'_>) -> bool
     requires in_range { number < length (package_paths graph.now) }
     requires sound { IsSound graph.now found.now }
-    requires home { IsHome graph.now declaration.now home }
-    ensures { (place : Place) → IsUseAt graph.now (known_in found.now) declaration.now (name_value name.entry) number place → IsTrue result }
+    requires home { IsHome graph.now sought.now.declaration.now sought.now.home }
+    ensures { (place : Place) → IsUseAt graph.now (known_in found.now) sought.now.declaration.now (name_value sought.now.name) number place → IsTrue result }
 {
-    match home {
+    match sought.home {
         None => true,
-        Some(home) => {
-            home == number || may_use_other(graph, found, number, home, declaration, name)
-        }
+        Some(home) => home == number || may_use_other(graph, found, number, home, sought),
     }
 }

@@ -5,15 +5,17 @@ ghost use Rattle.gr_expr.specs.View.{type_of};
 ghost use Rattle.gr_expr.specs.World.{member_by};
 ghost use Rattle.gr_expr.specs.WorldView.{member_of, spelling_of};
 ghost use Rattle.gr_meanings.specs.MemberUses.{AreMemberUses, uses_in};
-ghost use Rattle.gr_declared.specs.PackageView.{package_of, IsIndexOf};
+ghost use Rattle.gr_declared.specs.PackageView.{package_of};
 ghost use Rattle.gr_bound.specs.Binding.{BindsByMember};
+ghost use Rattle.gr_bound.specs.Indexed.{IsIndexed};
 ghost use Rattle.gr_bound.specs.Steps.{Adds, UsesIn, AtToken, IsDeclarationFound};
 ghost use Rattle.gr_bound.specs.Members.{definitions_seen, member_at, uses_or_none, IsMemberIf, IsMemberIn, IsMemberUseOf, IsMemberUseAmong, KnowsOwn};
 
 use crate::declaration::Declaration;
 use crate::identifiers::add_token;
+use crate::indexed::Indexed;
 use crate::spot::Spot;
-use gr_declared::{Index, Package};
+use gr_declared::Package;
 use gr_expr::found::MemberUse;
 use gr_expr::types::GoType;
 use gr_expr::world::{Definition, Member, Name, World};
@@ -149,22 +151,20 @@ pub fn declaration_by_member(
 /// Adds the place of the member that is used, if it is that of a declaration.
 fn add_member_use(
     found: &mut Vec<Spot>,
-    unit: Package<'_>,
-    index: &Index<'_>,
-    own: &[Definition],
+    of: &Indexed<'_>,
     file: usize,
     member: &MemberUse,
     declaration: &Declaration,
 ) -> Result<(), AllocError>
-    requires { IsIndexOf (package_of unit) index.now }
-    ensures { OnOk result (Adds found.old.items found.new.items (IsMemberUseOf (definitions_seen unit.entry own.now) (package_of unit.entry) file declaration.now (use_of member.now))) }
+    requires { IsIndexed of.now }
+    ensures { OnOk result (Adds found.old.items found.new.items (IsMemberUseOf (definitions_seen of.now.unit of.now.own.now) (package_of of.now.unit) file declaration.now (use_of member.now))) }
 {
-    if is_member_use(unit, own, file, member, declaration) {
+    if is_member_use(of.unit, of.own, file, member, declaration) {
         let at = Position {
             file,
             index: member.place,
         };
-        add_token(found, unit, index, at)
+        add_token(found, of.unit, of.index, at)
     } else {
         Ok(())
     }
@@ -173,18 +173,16 @@ fn add_member_use(
 /// Adds the places of the members that are used in a file, where they are that of a declaration.
 fn add_file_members(
     found: &mut Vec<Spot>,
-    unit: Package<'_>,
-    index: &Index<'_>,
-    own: &[Definition],
+    of: &Indexed<'_>,
     file: usize,
     uses: &[MemberUse],
     declaration: &Declaration,
 ) -> Result<(), AllocError>
-    requires { IsIndexOf (package_of unit) index.now }
-    ensures { OnOk result (Adds found.old.items found.new.items (IsMemberUseAmong (definitions_seen unit.entry own.now) (package_of unit.entry) file declaration.now (map use_of uses.now))) }
+    requires { IsIndexed of.now }
+    ensures { OnOk result (Adds found.old.items found.new.items (IsMemberUseAmong (definitions_seen of.now.unit of.now.own.now) (package_of of.now.unit) file declaration.now (map use_of uses.now))) }
 {
     for k in 0..uses.len() {
-        add_member_use(found, unit, index, own, file, &uses[k], declaration)?;
+        add_member_use(found, of, file, &uses[k], declaration)?;
     }
     Ok(())
 }
@@ -192,46 +190,34 @@ fn add_file_members(
 /// Adds the places of the identifiers of a package that are a member, behind a dot or as a key.
 fn add_all_members(
     found: &mut Vec<Spot>,
-    unit: Package<'_>,
-    index: &Index<'_>,
-    own: &[Definition],
-    members: &[Vec<MemberUse>],
+    of: &Indexed<'_>,
     declaration: &Declaration,
 ) -> Result<(), AllocError>
-    requires index { IsIndexOf (package_of unit) index.now }
-    requires own { KnowsOwn (package_of unit) own.now }
-    requires members { AreMemberUses (package_of unit) (map uses_in members.now) }
-    ensures { let p = package_of unit.entry in
+    requires { IsIndexed of.now }
+    ensures { let p = package_of of.now.unit in
         OnOk result (Adds found.old.items found.new.items (UsesIn p (λ u. BindsByMember p u declaration.now))) }
 {
-    unit.table.is_well_formed();
-    one_world(unit);
-    for file in 0..members.len() {
-        add_file_members(found, unit, index, own, file, &members[file], declaration)?;
+    of.unit.table.is_well_formed();
+    one_world(of.unit);
+    for file in 0..of.members.len() {
+        add_file_members(found, of, file, &of.members[file], declaration)?;
     }
     Ok(())
 }
 
 /// Adds the places of the identifiers of a package that are a field or method, behind a dot or as a key. Where the
 /// declaration is none, there are no such places.
-pub fn add_member_uses(
+pub(crate) fn add_member_uses(
     found: &mut Vec<Spot>,
-    unit: Package<'_>,
-    index: &Index<'_>,
-    own: &[Definition],
-    members: &[Vec<MemberUse>],
+    of: &Indexed<'_>,
     declaration: &Declaration,
 ) -> Result<(), AllocError>
-    requires index { IsIndexOf (package_of unit) index.now }
-    requires own { KnowsOwn (package_of unit) own.now }
-    requires members { AreMemberUses (package_of unit) (map uses_in members.now) }
-    ensures { let p = package_of unit.entry in
+    requires { IsIndexed of.now }
+    ensures { let p = package_of of.now.unit in
         OnOk result (Adds found.old.items found.new.items (UsesIn p (λ u. BindsByMember p u declaration.now))) }
 {
     match declaration {
         Declaration::Predeclared(_) | Declaration::Declared(_, _) => Ok(()),
-        Declaration::Field(_) | Declaration::Method(_) => {
-            add_all_members(found, unit, index, own, members, declaration)
-        }
+        Declaration::Field(_) | Declaration::Method(_) => add_all_members(found, of, declaration),
     }
 }

@@ -197,7 +197,7 @@ fn add_named(
 }
 
 /// Whether a path is that of a package.
-fn is_own(unit: Package<'_>, path: &SharedPath) -> bool
+pub(crate) fn is_own(unit: Package<'_>, path: &SharedPath) -> bool
     ensures { IsTrue result ↔ (path.now ≡ unit.entry.path.now) }
 {
     path.path() == unit.path.path()

@@ -6,8 +6,8 @@ use Rattle.gr_bound.specs.Steps.{IsDeclarationFound}
 use Rattle.gr_bound.proofs.asked.declaration_of.Goals as goal
 
 pub returns-in-Some : goal.returns-in-Some
-returns-in-Some c = by_scope (subst (IsDeclarationFound (BindsByScope (package_of c.args.unit) c.args.u)) c.in-Some.is c.in_ok-declaration.ensures)
+returns-in-Some c = by_scope (subst (IsDeclarationFound (BindsByScope (package_of c.args.of.now.unit) c.args.u)) c.in-Some.is c.in_ok-declaration.ensures)
 
 pub declaration_beyond-requires-clause-unbound : goal.declaration_beyond-requires-clause-unbound
-declaration_beyond-requires-clause-unbound c = subst (IsDeclarationFound (BindsByScope (package_of c.args.unit) c.args.u)) c.in-None.is
+declaration_beyond-requires-clause-unbound c = subst (IsDeclarationFound (BindsByScope (package_of c.args.of.now.unit) c.args.u)) c.in-None.is
     c.in_ok-declaration.ensures

@@ -1,7 +1,7 @@
 -- The answers to the goals of `asked::declared_name`.
 use Rattle.std.proofs.Common.{◌∙◌, sym, subst}
 use Rattle.std.specs.Prelude.{Contains, option_map}
-use Rattle.std.proofs.lemmas.Option.{same_Some}
+use Rattle.std.proofs.lemmas.Option.{same_Some, slice_get_within}
 use Rattle.std.proofs.lemmas.Result.{IfOk-weaker}
 use Rattle.gr_text.specs.Packages.{package_paths}
 use Rattle.gr_bound.specs.declared.declaration.Declaration.TheVariants.{Declared}
@@ -20,3 +20,9 @@ returns-in-Some c =
     (λ name. IsExportedUnder w known (Declared c.args.path.now c.args.d) (option_map bytes_of name))
     (λ name x. name_exported w known c.args.path.now c.args.d x.0 x.1.0.is_package
     (same_Some _ _ (sym x.1.0.has_number ∙ c.in-Some.ensures) ∙ c.path.ensures) (option_map bytes_of name) x.1.1) c.name_at.ensures
+
+pub name_at-requires : goal.name_at-requires
+name_at-requires c = record {
+  in_range = slice_get_within (package_paths c.args.graph.now) c.in-Some.number _ c.in-Some.ensures;
+  sound = c.requires;
+}

@@ -1,21 +1,11 @@
 -- The answers to the goals of `asked::exported_number`.
-use Rattle.std.specs.Prelude.{map}
-use Rattle.gr_tree.specs.SourceFile.{source_of}
-use Rattle.gr_meanings.specs.PackageOf.{package_in}
-use Rattle.gr_declared.specs.InterfacesView.{interface_in}
-use Rattle.gr_bound.specs.Workspaces.{known_in}
-use Rattle.gr_bound.proofs.Units.{unit_at}
 use Rattle.gr_bound.proofs.asked.exported_number.Goals as goal
 
-pub returns : goal.returns
-returns c = (
-  package_in c.path_of-path.result.now (map source_of c.trees-files.result.now) c.in_ok-table.table (interface_in c.in_ok-seen.seen),
-  (
-    (unit_at c.args.graph.now (known_in c.args.found.now) c.args.number c.path_of-path.result.now c.trees-files.result.now c.in_ok-seen.seen
-        c.in_ok-table.table c.requires.in_range c.path_of-path.ensures c.trees-files.ensures c.in_ok-seen.ensures.seen c.in_ok-table.ensures),
-    c.exported_in.ensures,
-  ),
-)
+pub seen-requires-clause-in_range : goal.seen-requires-clause-in_range
+seen-requires-clause-in_range c = c.requires.in_range
 
 pub seen-requires-clause-whole : goal.seen-requires-clause-whole
 seen-requires-clause-whole c = c.requires.sound.findings.whole
+
+pub read_table-requires : goal.read_table-requires
+read_table-requires c = record { in_range = c.requires.in_range; sound = c.requires.sound; seen = c.in_ok-seen.ensures.seen }

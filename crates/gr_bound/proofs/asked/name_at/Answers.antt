@@ -1,22 +1,11 @@
 -- The answers to the goals of `asked::name_at`.
-use Rattle.std.proofs.lemmas.Result.{IfOk-weaker}
-use Rattle.std.specs.Prelude.{map, option_map}
-use Rattle.gr_tree.specs.SourceFile.{source_of}
-use Rattle.gr_meanings.specs.PackageOf.{package_in}
-use Rattle.gr_declared.specs.InterfacesView.{interface_in}
-use Rattle.gr_bound.specs.Steps.{IsExportedBy}
-use Rattle.gr_bound.specs.Workspaces.{known_in, bytes_of, IsNameAt}
-use Rattle.gr_bound.proofs.Units.{unit_at}
 use Rattle.gr_bound.proofs.asked.name_at.Goals as goal
 
-pub returns : goal.returns
-returns c =
-    let p = package_in c.path_of-path.result.now (map source_of c.trees-files.result.now) c.in_ok-table.table (interface_in c.in_ok-seen.seen) in
-    let is = unit_at c.args.graph.now (known_in c.args.found.now) c.args.number c.path_of-path.result.now c.trees-files.result.now c.in_ok-seen.seen
-    c.in_ok-table.table c.requires.in_range c.path_of-path.ensures c.trees-files.ensures c.in_ok-seen.ensures.seen c.in_ok-table.ensures in
-    IfOk-weaker c.name_in.result (λ name. IsExportedBy p c.args.d (option_map bytes_of name))
-    (λ name. IsNameAt c.args.graph.now (known_in c.args.found.now) c.args.number c.args.d (option_map bytes_of name)) (λ name h. (p, (is, h)))
-    c.name_in.ensures
+pub seen-requires-clause-in_range : goal.seen-requires-clause-in_range
+seen-requires-clause-in_range c = c.requires.in_range
 
 pub seen-requires-clause-whole : goal.seen-requires-clause-whole
 seen-requires-clause-whole c = c.requires.sound.findings.whole
+
+pub read_table-requires : goal.read_table-requires
+read_table-requires c = record { in_range = c.requires.in_range; sound = c.requires.sound; seen = c.in_ok-seen.ensures.seen }

@@ -18,6 +18,6 @@ returns c =
     let w = c.args.graph.now in
     let known = known_in c.args.found.now in
     let IsOf = IsMarked c.args.marks.now in
-    all_among w known IsOf c.bind_marked.new.bound.items c.sort.new.bound.items
+    all_among w known IsOf c.bind_marked.new.bound.items c.sort_runs.new.bound.items
     (subst (λ l. AddsAll l c.bind_marked.new.bound.items (IsBoundAmong w known IsOf)) c.new-bound.ensures.items c.in_ok-bind_marked.ensures)
-    c.sort.ensures.order c.sort.ensures.same
+    c.in_ok-sort_runs.ensures.order c.sort_runs.ensures.same

@@ -10,4 +10,4 @@ use Rattle.gr_bound.proofs.bound_unit.bind_fields.Given as goal
 -- the names of the ranks that were passed were added
 abbrev pub invariant-loop-rank : goal.invariant-loop-rank
 invariant-loop-rank l = AddsAll l.initial.bound.items l.bound.items
-    (BelowAll (NamedAt (package_of l.unit) l.places (λ n. Field (symbol_in (package_of l.unit) n))) l.rank)
+    (BelowAll (NamedAt (package_of l.of.unit) l.places (λ n. Field (symbol_in (package_of l.of.unit) n))) l.rank)

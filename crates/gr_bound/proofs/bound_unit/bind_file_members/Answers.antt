@@ -15,8 +15,8 @@ loop-k-init c = none_below _ c.args.bound.now.items
 
 pub loop-k-preserved : goal.loop-k-preserved
 loop-k-preserved c =
-    let ds = definitions_seen c.args.unit c.args.own.now in
-    let p = package_of c.args.unit in
+    let ds = definitions_seen c.args.of.now.unit c.args.of.now.own.now in
+    let p = package_of c.args.of.now.unit in
     let k = c.loop-k.k in
     let x = c.index-uses-k.result in
     next_below _ c.args.bound.now.items c.loop-k.bound.items c.bind_member.new.bound.items k c.loop-k.invariant
@@ -26,6 +26,7 @@ loop-k-preserved c =
 pub returns : goal.returns
 returns c =
     let e : c.loop-k.k ≡ length c.args.uses.now = omega arith in
-    all_uses_bound (definitions_seen c.args.unit c.args.own.now) (package_of c.args.unit) c.args.file (map use_of c.args.uses.now) c.loop-k.k
+    all_uses_bound (definitions_seen c.args.of.now.unit c.args.of.now.own.now) (package_of c.args.of.now.unit) c.args.file (map use_of c.args.uses.now)
+    c.loop-k.k
     c.args.bound.now.items c.loop-k.bound.items
     (e ∙ sym (length-map c.args.uses.now use_of)) c.loop-k.invariant

@@ -11,4 +11,4 @@ use Rattle.gr_bound.proofs.bound_unit.bind_file_members.Given as goal
 abbrev pub invariant-loop-k : goal.invariant-loop-k
 invariant-loop-k l =
     AddsAll l.initial.bound.items l.bound.items (BelowAll
-    (λ k b. IsMemberUseAt (definitions_seen l.unit l.own) (package_of l.unit) l.file b.declaration (map use_of l.uses) k (place_at b)) l.k)
+    (λ k b. IsMemberUseAt (definitions_seen l.of.unit l.of.own.now) (package_of l.of.unit) l.file b.declaration (map use_of l.uses) k (place_at b)) l.k)

@@ -10,4 +10,4 @@ use Rattle.gr_bound.proofs.bound_unit.bind_members.Given as goal
 abbrev pub invariant-loop-file : goal.invariant-loop-file
 invariant-loop-file l =
     AddsAll l.initial.bound.items l.bound.items (BelowAll
-    (λ file b. IsFileUse (definitions_seen l.unit l.own) (package_of l.unit) b.declaration l.members file (place_at b)) l.file)
+    (λ file b. IsFileUse (definitions_seen l.of.unit l.of.own.now) (package_of l.of.unit) b.declaration l.of.members.now file (place_at b)) l.file)

@@ -12,7 +12,7 @@ loop-rank-init c = none_below _ c.args.bound.now.items
 
 pub loop-rank-preserved : goal.loop-rank-preserved
 loop-rank-preserved c =
-    let p = package_of c.args.unit in
+    let p = package_of c.args.of.now.unit in
     next_below (NamedAt p c.args.places.now (λ n. Method (symbol_in p n))) c.args.bound.now.items c.loop-rank.bound.items c.bind_name.new.bound.items
     c.loop-rank.rank c.loop-rank.invariant
     (named_as p c.args.places.now c.loop-rank.rank c.loop-rank.bound.items c.bind_name.new.bound.items _ (Method (symbol_in p c.loop-rank.rank))
@@ -20,7 +20,7 @@ loop-rank-preserved c =
 
 pub returns : goal.returns
 returns c =
-    let p = package_of c.args.unit in
+    let p = package_of c.args.of.now.unit in
     let e : c.loop-rank.rank ≡ length c.args.places.now = omega arith in
     all_numbers (NamedAt p c.args.places.now (λ n. Method (symbol_in p n))) _ c.loop-rank.rank c.args.bound.now.items c.loop-rank.bound.items
     (λ rank b h. (rank, h))

@@ -9,4 +9,5 @@ use Rattle.gr_bound.proofs.member_uses.add_all_members.Given as goal
 -- the member uses of the files that were passed were added
 abbrev pub invariant-loop-file : goal.invariant-loop-file
 invariant-loop-file l =
-    Adds l.initial.found.items l.found.items (Below (IsFileUse (definitions_seen l.unit l.own) (package_of l.unit) l.declaration l.members) l.file)
+    Adds l.initial.found.items l.found.items (Below (IsFileUse (definitions_seen l.of.unit l.of.own.now) (package_of l.of.unit) l.declaration
+    l.of.members.now) l.file)

@@ -10,13 +10,14 @@ use Rattle.gr_bound.proofs.MemberPlaces.{use_at, one_ranked, all_ranked}
 use Rattle.gr_bound.proofs.member_uses.add_file_members.Goals as goal
 
 pub loop-k-init : goal.loop-k-init
-loop-k-init c = below_none (IsMemberUseAt (definitions_seen c.args.unit c.args.own.now) (package_of c.args.unit) c.args.file c.args.declaration.now
+loop-k-init c = below_none (IsMemberUseAt (definitions_seen c.args.of.now.unit c.args.of.now.own.now) (package_of c.args.of.now.unit) c.args.file
+    c.args.declaration.now
     (map use_of c.args.uses.now)) c.args.found.now.items
 
 pub loop-k-preserved : goal.loop-k-preserved
 loop-k-preserved c =
-    let ds = definitions_seen c.args.unit c.args.own.now in
-    let p = package_of c.args.unit in
+    let ds = definitions_seen c.args.of.now.unit c.args.of.now.own.now in
+    let p = package_of c.args.of.now.unit in
     let uses = map use_of c.args.uses.now in
     let k = c.loop-k.k in
     let x = c.index-uses-k.result in
@@ -29,6 +30,6 @@ pub returns : goal.returns
 returns c =
     let uses = map use_of c.args.uses.now in
     let e : c.loop-k.k ≡ length c.args.uses.now = omega arith in
-    all_ranked (definitions_seen c.args.unit c.args.own.now) (package_of c.args.unit) c.args.file c.args.declaration.now uses c.loop-k.k
+    all_ranked (definitions_seen c.args.of.now.unit c.args.of.now.own.now) (package_of c.args.of.now.unit) c.args.file c.args.declaration.now uses c.loop-k.k
     c.args.found.now.items c.loop-k.found.items
     (e ∙ sym (length-map c.args.uses.now use_of)) c.loop-k.invariant

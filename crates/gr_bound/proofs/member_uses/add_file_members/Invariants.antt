@@ -10,5 +10,5 @@ use Rattle.gr_bound.proofs.member_uses.add_file_members.Given as goal
 -- the member uses that were passed were added
 abbrev pub invariant-loop-k : goal.invariant-loop-k
 invariant-loop-k l =
-    Adds l.initial.found.items l.found.items (Below (IsMemberUseAt (definitions_seen l.unit l.own) (package_of l.unit) l.file l.declaration
+    Adds l.initial.found.items l.found.items (Below (IsMemberUseAt (definitions_seen l.of.unit l.of.own.now) (package_of l.of.unit) l.file l.declaration
     (map use_of l.uses)) l.k)

@@ -6,7 +6,8 @@ use Rattle.gr_bound.proofs.unit_uses.add_unit_uses.Goals as goal
 
 pub returns : goal.returns
 returns c =
-    bound_in (package_of c.args.unit) c.args.declaration.now (name_value c.args.name) c.args.found.now.items c.add_scope_uses.new.found.items
+    bound_in (package_of c.args.of.now.unit) c.args.sought.now.declaration.now (name_value c.args.sought.now.name) c.args.found.now.items
+    c.add_scope_uses.new.found.items
     c.add_exported_uses.new.found.items c.add_member_uses.new.found.items
     c.add_own_names.new.found.items c.add_own_names.result c.in_ok-add_scope_uses.ensures c.in_ok-add_exported_uses.ensures c.in_ok-add_member_uses.ensures
     c.add_own_names.ensures

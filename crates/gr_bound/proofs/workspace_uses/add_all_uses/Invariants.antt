@@ -7,4 +7,6 @@ use Rattle.gr_bound.proofs.workspace_uses.add_all_uses.Given as goal
 
 -- the uses in the packages that were passed were added
 abbrev pub invariant-loop-number : goal.invariant-loop-number
-invariant-loop-number l = Adds l.initial.spots.items l.spots.items (Below (IsUseAt l.graph (known_in l.found) l.declaration (name_value l.name)) l.number)
+invariant-loop-number l =
+    Adds l.initial.spots.items l.spots.items
+    (Below (IsUseAt l.graph (known_in l.found) l.sought.declaration.now (name_value l.sought.name)) l.number)

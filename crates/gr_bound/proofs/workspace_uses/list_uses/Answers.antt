@@ -1,18 +1,8 @@
 -- The answers to the goals of `workspace_uses::list_uses`.
 use Rattle.std.proofs.Common.{sym, subst}
-use Rattle.gr_bound.specs.Workspaces.{known_in, ListsFound, IsExportedUnder}
-use Rattle.gr_bound.proofs.Asking.{lists_found}
+use Rattle.gr_bound.specs.Workspaces.{known_in, IsExportedUnder}
 use Rattle.gr_bound.proofs.workspace_uses.list_uses.Goals as goal
 
-pub add_all_uses-requires-clause-name : goal.add_all_uses-requires-clause-name
-add_all_uses-requires-clause-name c =
+pub list_everywhere-requires-clause-name : goal.list_everywhere-requires-clause-name
+list_everywhere-requires-clause-name c =
     subst (IsExportedUnder c.args.graph.now (known_in c.args.found.now) c.args.declaration.now) (sym c.bytes.ensures) c.in_ok-name.ensures
-
-pub returns : goal.returns
-returns c =
-    let w = c.args.graph.now in
-    let known = known_in c.args.found.now in
-    let d = c.args.declaration.now in
-    subst (ListsFound w known d) (sym c.new.ensures)
-    (lists_found w known d c.in_ok-places.field-0.items c.new-spots.result.items c.add_all_uses.new.spots.items c.new-spots.ensures.items
-    c.in_ok-places.ensures.order c.in_ok-places.ensures.each c.in_ok-add_all_uses.ensures)

@@ -1,0 +1,34 @@
+-- A package of a number, and what is known of its identifiers.
+use Rattle.std.specs.Prelude.{◌<◌, length, map}
+use Rattle.gr_text.specs.Packages.{package_paths}
+use Rattle.gr_text.specs.Workspace.{Workspace}
+use Rattle.gr_scope.specs.Named.{name_value}
+use Rattle.gr_declared.specs.Package.{Package}
+use Rattle.gr_declared.specs.PackageView.{package_of, IsIndexOf}
+use Rattle.gr_meanings.specs.MemberUses.{AreMemberUses, uses_in}
+use Rattle.gr_verdict.specs.Verdicts.{Verdicts}
+use Rattle.gr_bound.specs.declared.indexed.Numbered.{Numbered}
+use Rattle.gr_bound.specs.declared.indexed.Indexed.{Indexed}
+use Rattle.gr_bound.specs.declared.may_use.Sought.{Sought}
+use Rattle.gr_bound.specs.Members.{KnowsOwn}
+use Rattle.gr_bound.specs.Workspaces.{IsSound, known_in, IsPackageAt, IsHome, IsExportedUnder}
+
+-- the number is that of a package, in a workspace without faults
+pub record IsNumbered (at : Numbered) : Type 0 where
+  pub in_range : at.number < length (package_paths at.graph.now)
+  pub sound : IsSound at.graph.now at.found.now
+
+-- the package is that of the number
+abbrev pub IsUnitAt : Numbered → Package → Type 0
+IsUnitAt at p = IsPackageAt at.graph.now (known_in at.found.now) at.number p
+
+-- what was found once in a package, its type definitions, and its uses of members
+pub record IsIndexed (of : Indexed) : Type 0 where
+  pub index : IsIndexOf (package_of of.unit) of.index.now
+  pub own : KnowsOwn (package_of of.unit) of.own.now
+  pub members : AreMemberUses (package_of of.unit) (map uses_in of.members.now)
+
+-- a declaration has that name abroad, and its package that number
+pub record IsSought (w : Workspace) (known : Verdicts) (sought : Sought) : Type 0 where
+  pub name : IsExportedUnder w known sought.declaration.now (name_value sought.name)
+  pub home : IsHome w sought.declaration.now sought.home
