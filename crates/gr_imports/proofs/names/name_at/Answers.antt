@@ -10,7 +10,8 @@ returns-in-None g c =
     let p = laid_in c.args.plain.now in
     let files = map source_of c.args.files.now in
     path_missing files (g.N.PackageNames.name_of c.args.packages.now) p c.args.u
-    (subst (λ o. MatchOption o ((v : List ℕ) → IsPathOf files p c.args.u v → ⊥) (λ v. IsPathOf files p c.args.u v.items)) c.in-None.is c.in_ok-path_among.ensures)
+    (subst (λ o. MatchOption o ((v : List ℕ) → IsPathOf files p c.args.u v → ⊥) (λ v. IsPathOf files p c.args.u v.items)) c.in-None.is
+    c.in_ok-path_among.ensures)
 
 pub returns-in-Some : goal.returns-in-Some
 returns-in-Some g c =
@@ -18,5 +19,6 @@ returns-in-Some g c =
     let files = map source_of c.args.files.now in
     let name_of = g.N.PackageNames.name_of c.args.packages.now in
     path_named c.one_string_value.ensures files name_of p c.args.u c.in-Some.path.items _
-    (subst (λ o. MatchOption o ((v : List ℕ) → IsPathOf files p c.args.u v → ⊥) (λ v. IsPathOf files p c.args.u v.items)) c.in-Some.is c.in_ok-path_among.ensures)
+    (subst (λ o. MatchOption o ((v : List ℕ) → IsPathOf files p c.args.u v → ⊥) (λ v. IsPathOf files p c.args.u v.items)) c.in-Some.is
+    c.in_ok-path_among.ensures)
     (c.name.ensures ∙ ap name_of c.deref.ensures.value)

@@ -15,6 +15,7 @@ returns-clause-faults c =
 pub returns-clause-members : goal.returns-clause-members
 returns-clause-members c =
     on_ok_weaker c.add.result
-    (λ h. uses_of_file (package_of c.args.of.now.unit) c.args.file (checked_of c.in_ok-checked.checked) c.args.typed.now.members.items c.add.new.self.members.items
+    (λ h. uses_of_file (package_of c.args.of.now.unit) c.args.file (checked_of c.in_ok-checked.checked) c.args.typed.now.members.items
+    c.add.new.self.members.items
     c.in_ok-checked.ensures.checked h)
     c.add.ensures.members
