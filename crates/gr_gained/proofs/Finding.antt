@@ -63,12 +63,12 @@ string_class _ bytes e = cc
 
 -- the token of a kind, and the piece that it is
 
-record IsToken (text : List ℕ) (ts : List Piece) (n : ℕ) (k : Kind) : Type 0 where
-  piece : Piece
-  at : slice_get ts n ≡ Some piece
-  is : kind_of piece.class (bytes_of text piece) ≡ k
+pub record IsToken (text : List ℕ) (ts : List Piece) (n : ℕ) (k : Kind) : Type 0 where
+  pub piece : Piece
+  pub at : slice_get ts n ≡ Some piece
+  pub is : kind_of piece.class (bytes_of text piece) ≡ k
 
-token_of : (m : ℕ) (text : List ℕ) (ts : List Piece) (n : ℕ) (x : Token) → slice_get (kinds_from m text ts) n ≡ Some x → IsToken text ts n x.kind
+pub token_of : (m : ℕ) (text : List ℕ) (ts : List Piece) (n : ℕ) (x : Token) → slice_get (kinds_from m text ts) n ≡ Some x → IsToken text ts n x.kind
 unfolding kinds_from
 token_of m text [] n x at = absurd (none-some x at)
 token_of m text (t ∷ ts) zero x at =
@@ -103,14 +103,14 @@ first_all P (x ∷ xs) ys all = (all.0, first_all P xs ys all.1)
 
 -- a text, cut at a piece
 
-record IsHeld (text : List ℕ) (q : Piece) : Type 0 where
-  front : List ℕ
-  rest : List ℕ
-  begins : length front ≡ q.span.start
-  is : text ≡ front ++ (bytes_of text q ++ rest)
-  piece : piece_at q.class (length front) (bytes_of text q) ≡ q
+pub record IsHeld (text : List ℕ) (q : Piece) : Type 0 where
+  pub front : List ℕ
+  pub rest : List ℕ
+  pub begins : length front ≡ q.span.start
+  pub is : text ≡ front ++ (bytes_of text q ++ rest)
+  pub piece : piece_at q.class (length front) (bytes_of text q) ≡ q
 
-held_in : (text : List ℕ) (ps : List Piece) (q : Piece) → IsCut text ps → Contains ps q → IsHeld text q
+pub held_in : (text : List ℕ) (ps : List Piece) (q : Piece) → IsCut text ps → Contains ps q → IsHeld text q
 held_in text ps q cut has =
     let lies = covers_at 0 (length text) ps has.0 q (cut_covers text ps cut) has.1 in
     let same = has.2 in
@@ -131,19 +131,27 @@ held_in text ps q cut has =
 
 -- the import's literal
 
-bare : (i : ImportTree) → i.name ≡ None → i ≡ bare_import i.path
+pub bare : (i : ImportTree) → i.name ≡ None → i ≡ bare_import i.path
 bare i none = λ j. record { name = none j; path = i.path }
 
-kind_at : (f : SourceFile) (number : ℕ) (a : AroundImport) → IsSourceFile f → f.tree ≡ file_with (bare_import number) a →
-    slice_get (kinds_of f.cut) number ≡ Some (sign kind.Text number)
-kind_at f number a is tree =
+-- the kinds of the file's tokens, about the literal's, and its number
+pub record KindsAbout (f : SourceFile) (number : ℕ) (a : AroundImport) : Type 0 where
+  pub kinds : kinds_of f.cut ≡ left a ++ sign kind.Text number ∷ right a
+  pub size : number ≡ length (left a)
+
+pub kinds_about : (f : SourceFile) (number : ℕ) (a : AroundImport) → IsSourceFile f → f.tree ≡ file_with (bare_import number) a → KindsAbout f number a
+kinds_about f number a is tree =
     let there : List Token = sign kind.Text number ∷ right a in
     let kinds : kinds_of f.cut ≡ left a ++ there =
     sym is.is_tree.written ∙ ap flatten tree ∙ file_split (bare_import number) a ∙ ap (λ l. left a ++ (l ++ right a)) (bare_tokens number) in
     let order : NumberedFrom 0 (left a ++ there) = subst (NumberedFrom 0) kinds (kinds_numbered 0 f.cut.text (tokens_in f.cut)) in
     let place : number ≡ 0 + length (left a) = (numbered_behind 0 (left a) there order).0 in
-    let size : number ≡ length (left a) = omega (arith, place) in
-    (λ j. slice_get (kinds j) (size j)) ∙ seam (left a) (right a) (sign kind.Text number)
+    record { kinds = kinds; size = omega (arith, place) }
+
+pub literal_token : (f : SourceFile) (number : ℕ) (a : AroundImport) → KindsAbout f number a →
+    IsToken f.cut.text (tokens_in f.cut) number kind.Text
+literal_token f number a about = token_of 0 f.cut.text (tokens_in f.cut) number (sign kind.Text number)
+    ((λ j. slice_get (about.kinds j) (about.size j)) ∙ seam (left a) (right a) (sign kind.Text number))
 
 -- the text and the tree around it, by its piece
 
@@ -190,7 +198,7 @@ pub gains : (f : SourceFile) (i : ImportTree) (name : List ℕ) (blank_first : B
 gains f i name blank_first is has none is_word apart =
     let stands = import_stands f.tree i has in
     let tree : f.tree ≡ file_with (bare_import i.path) stands.0 = stands.1 ∙ ap (λ (x : ImportTree). file_with x stands.0) (bare i none) in
-    let token = token_of 0 f.cut.text (tokens_in f.cut) i.path (sign kind.Text i.path) (kind_at f i.path stands.0 is tree) in
+    let token = literal_token f i.path stands.0 (kinds_about f i.path stands.0 is tree) in
     let q : Piece = token.piece in
     let string : IsStringClass q.class = string_class q.class (bytes_of f.cut.text q) token.is in
     let in_pieces = among_pieces f.cut i.path q token.at string in

@@ -1,5 +1,6 @@
 -- The lemmas of this crate.
 pub mod Along
+pub mod Apart
 pub mod Beside
 pub mod Bound
 pub mod Examples

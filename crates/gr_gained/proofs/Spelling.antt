@@ -32,7 +32,7 @@ from_itself n = grind (arith, nat_tests)
 
 -- where tokens lie
 
-behind : (place from to : ℕ) (ts : List Piece) → place ≤ from → FollowFrom from ts to → AllByRecursion (LiesBehind place) ts
+pub behind : (place from to : ℕ) (ts : List Piece) → place ≤ from → FollowFrom from ts to → AllByRecursion (LiesBehind place) ts
 behind place from to [] le follow = tt
 behind place from to (t ∷ ts) le follow =
     ((omega (arith, follow.0), follow.1), behind place t.span.end to ts (omega (arith, follow.0, follow.1)) follow.2)

@@ -1,5 +1,5 @@
 //! The laws of an import without a name that gains one.
-ghost use Rattle.std.specs.Prelude.{◌≡◌, ◌↔◌, ◌<◌, ℕ, suc, ◌+◌, List, ◌∷◌, ◌++◌, length, Option, Some, None, Bool, false, slice_get, take, drop};
+ghost use Rattle.std.specs.Prelude.{◌≡◌, ◌↔◌, ◌<◌, ℕ, suc, ◌+◌, List, ◌∷◌, ◌++◌, length, Option, Some, None, Bool, false, codes, slice_get, take, drop};
 ghost use Rattle.std.specs.List.{All, Contains};
 ghost use Rattle.gr_scan.specs.declared.piece.Class.TheVariants.{Name};
 ghost use Rattle.gr_scan.specs.CutText.{tokens_in};
@@ -13,7 +13,7 @@ ghost use Rattle.gr_scope.specs.FileSites.{SpelledFile, package_sites};
 ghost use Rattle.gr_scope.specs.Named.{named_sites};
 ghost use Rattle.gr_scope.specs.Site.{Site, sites_layout, sites_names};
 ghost use Rattle.gr_tree.specs.Kinds.{kinds_of};
-ghost use Rattle.gr_tree.specs.SourceFile.{IsSourceFile, SourceFile, offset_of};
+ghost use Rattle.gr_tree.specs.SourceFile.{IsSourceFile, SourceFile, offset_of, spelling_of};
 ghost use Rattle.gr_tree.specs.Tree.{FileTree, ImportTree};
 ghost use Rattle.gr_tree.specs.WellFormed.{IsTreeOf};
 ghost use Rattle.gr_imports.specs.Files.{imports_in};
@@ -38,6 +38,15 @@ pub fn imports_stand_in_their_files()
 pub fn imports_without_a_name_may_gain_one()
     ensures { (f : SourceFile) (i : ImportTree) (name : List ℕ) (blank_first : Bool) → IsSourceFile f → Contains (imports_in f.tree) i → i.name ≡ None →
         IsPiece Name name → (blank_first ≡ false → NoWordEndsAt (offset_of f i.path) f.cut.pieces) → MayGain f i.path name blank_first }
+{}
+
+/// At the literal of an import without a name no word and no number ends but the word `import`: so the name needs no blank before it where
+/// that word does not end there.
+pub fn literals_stand_behind_no_other_word()
+    ensures { (f : SourceFile) (i : ImportTree) → IsSourceFile f → Contains (imports_in f.tree) i → i.name ≡ None →
+        ((before : ℕ) → i.path ≡ suc before → spelling_of f before ≡ codes "import" →
+        offset_of f before + length (spelling_of f before) ≡ offset_of f i.path → ⊥) →
+        NoWordEndsAt (offset_of f i.path) f.cut.pieces }
 {}
 
 /// Where a name and a blank are put before a string literal, each token of the old text is spelled as before, at its new number. The token
