@@ -16,7 +16,8 @@ use Rattle.gr_named_import.specs.Around.{from_on}
 use Rattle.gr_renumbered_sites.specs.MovedSites.{moved_site}
 use Rattle.gr_gained.specs.Gained.{Gain, HasGained, import_site, moved_by, path_site}
 use Rattle.gr_gained.proofs.Along.{Along, IsLooked, bound_along}
-use Rattle.gr_gained.proofs.Spelling.{from_first, from_suc, from_zero, seam}
+use Rattle.gr_bare_imports.proofs.Tokens.{seam}
+use Rattle.gr_gained.proofs.Spelling.{from_first, from_suc, from_zero}
 
 -- numbers
 

@@ -1,7 +1,7 @@
 -- The literal of an import without a name, in the text of its file, where a name may be put before it.
-use Rattle.std.proofs.Common.{ℕ, zero, suc, ◌≡◌, ◌+◌, ◌-◌, ◌<◌, ◌≤◌, inl, inr, List, [], ◌∷◌, ◌++◌, Some, None, Bool, true, false, length, take, drop}
+use Rattle.std.proofs.Common.{ℕ, zero, suc, ◌≡◌, ◌+◌, ◌-◌, ◌≤◌, inl, inr, List, [], ◌∷◌, ◌++◌, Some, None, Bool, true, false, length, take, drop}
 use Rattle.std.proofs.Common.{refl, sym, ap, ◌∙◌, subst, arith, ⊎_elim, cond}
-use Rattle.std.specs.Prelude.{slice_get, slice_index_or, ◌==◌}
+use Rattle.std.specs.Prelude.{slice_get, ◌==◌}
 use Rattle.std.specs.Cmp.Lexicographic.{pointwise}
 use Rattle.std.specs.List.{AllByRecursion, Contains}
 use Rattle.std.proofs.lemmas.List.{length-drop, length-take-le, take-append-drop}
@@ -28,6 +28,7 @@ use Rattle.gr_tree.specs.Kinds.{kind_of, kind_of_keyword, kind_of_operator, kind
 use Rattle.gr_tree.specs.SourceFile.{IsSourceFile, SourceFile, offset_at, offset_of}
 use Rattle.gr_tree.specs.Tree.{ImportTree}
 use Rattle.gr_imports.specs.Files.{imports_in}
+use Rattle.gr_recut.proofs.Places.{Parts, parts}
 use Rattle.gr_recut.proofs.Spelled.{held_at}
 use Rattle.gr_recut.proofs.Tokens.{each_in}
 use Rattle.gr_recut.proofs.Trees.{each_token}
@@ -35,9 +36,9 @@ use Rattle.gr_named_import.specs.Around.{AroundImport, bare_import, file_with}
 use Rattle.gr_named_import.specs.Named.{NamePut, before_put, literal_piece}
 use Rattle.gr_named_import.specs.Put.{IsNoWord, NoWordEndsAt}
 use Rattle.gr_named_import.proofs.NamedTree.{NumberedFrom, bare_tokens, file_split, kinds_numbered, left, numbered_behind, right}
-use Rattle.gr_gained.specs.Gained.{MayGain}
-use Rattle.gr_gained.proofs.Spelling.{seam}
-use Rattle.gr_gained.proofs.Standing.{import_stands}
+use Rattle.gr_bare_imports.specs.MayGain.{MayGain}
+use Rattle.gr_bare_imports.proofs.Tokens.{seam}
+use Rattle.gr_bare_imports.proofs.Standing.{import_stands}
 
 -- what is of the kind of a string is a string
 
@@ -85,17 +86,6 @@ among_pieces c n t at is =
     let all : AllByRecursion P (tokens_in c) = each_token P (λ place wrong. absurd (no_sign wrong)) c.text c.pieces
     (each_in P c.pieces (λ q has string. has)) in
     held_at P (tokens_in c) n t all at is
-
-record Split {X : Type 0} (xs : List X) (x : X) : Type 0 where
-  before : List X
-  after : List X
-  is : xs ≡ before ++ x ∷ after
-
-split_at : {X : Type 0} (xs : List X) (x : X) (k : ℕ) → k < length xs → slice_index_or xs k x ≡ x → Split xs x
-split_at [] x k lt e = absurd (omega arith)
-split_at (y ∷ ys) x zero lt e = record { before = []; after = ys; is = ap (λ z. z ∷ ys) e }
-split_at (y ∷ ys) x (suc k) lt e =
-    let rest = split_at ys x k (omega arith) e in record { before = y ∷ rest.before; after = rest.after; is = ap (λ l. y ∷ l) rest.is }
 
 first_all : {X : Type 0} (P : X → Type 0) (xs ys : List X) → AllByRecursion P (xs ++ ys) → AllByRecursion P xs
 first_all P [] ys all = tt
@@ -155,7 +145,7 @@ literal_token f number a about = token_of 0 f.cut.text (tokens_in f.cut) number 
 
 -- the text and the tree around it, by its piece
 
-gains_by : (f : SourceFile) (number : ℕ) (a : AroundImport) (name : List ℕ) (blank_first : Bool) (q : Piece) → Split f.cut.pieces q →
+gains_by : (f : SourceFile) (number : ℕ) (a : AroundImport) (name : List ℕ) (blank_first : Bool) (q : Piece) → Parts f.cut.pieces q →
     IsHeld f.cut.text q → IsCut f.cut.text f.cut.pieces → slice_get (tokens_in f.cut) number ≡ Some q → IsStringClass q.class →
     f.tree ≡ file_with (bare_import number) a → IsPiece class.Name name →
     (blank_first ≡ false → NoWordEndsAt (offset_of f number) f.cut.pieces) → MayGain f number name blank_first
@@ -170,7 +160,7 @@ gains_by f number a name blank_first q split held cut at string tree is_word apa
       blank_first = blank_first;
       name = name;
     } in
-    let pieces : f.cut.pieces ≡ (before_put put).pieces = split.is ∙ ap (λ (x : Piece). split.before ++ x ∷ split.after) (sym held.piece) in
+    let pieces : f.cut.pieces ≡ (before_put put).pieces = split.whole ∙ ap (λ (x : Piece). split.before ++ x ∷ split.after) (sym held.piece) in
     let text : f.cut.text ≡ (before_put put).text = held.is in
     let same : f.cut ≡ before_put put = λ j. record { text = text j; pieces = pieces j } in
     let begins : offset_of f number ≡ length held.front = ap (offset_at f.cut.text) at ∙ sym held.begins in
@@ -183,7 +173,7 @@ gains_by f number a name blank_first q split held cut at string tree is_word apa
         is_string = string;
         apart = λ joined.
             let all = recursion_from_All P f.cut.pieces (subst (λ (n : ℕ). NoWordEndsAt n f.cut.pieces) begins (apart joined)) in
-            All-from_recursion P split.before (first_all P split.before (q ∷ split.after) (subst (AllByRecursion P) split.is all));
+            All-from_recursion P split.before (first_all P split.before (q ∷ split.after) (subst (AllByRecursion P) split.whole all));
         is_cut = subst (λ (c : CutText). IsCut c.text c.pieces) same cut;
       };
       named = refl;
@@ -202,5 +192,5 @@ gains f i name blank_first is has none is_word apart =
     let q : Piece = token.piece in
     let string : IsStringClass q.class = string_class q.class (bytes_of f.cut.text q) token.is in
     let in_pieces = among_pieces f.cut i.path q token.at string in
-    gains_by f i.path stands.0 name blank_first q (split_at f.cut.pieces q in_pieces.0 in_pieces.1 in_pieces.2)
+    gains_by f i.path stands.0 name blank_first q (parts f.cut.pieces q in_pieces)
     (held_in f.cut.text f.cut.pieces q is.is_cut in_pieces) is.is_cut token.at string tree is_word apart

@@ -40,9 +40,9 @@ use Rattle.gr_named_import.specs.Around.{AroundImport, AroundItem, alone, among,
 use Rattle.gr_named_import.specs.Put.{IsNoWord, NoWordEndsAt}
 use Rattle.gr_named_import.proofs.Behind.{LiesBehind}
 use Rattle.gr_named_import.proofs.NamedTree.{left, left_item, right}
-use Rattle.gr_gained.proofs.Finding.{IsHeld, IsToken, KindsAbout, bare, held_in, kinds_about, literal_token, token_of}
-use Rattle.gr_gained.proofs.Spelling.{behind, seam}
-use Rattle.gr_gained.proofs.Standing.{import_stands}
+use Rattle.gr_bare_imports.proofs.Finding.{IsHeld, IsToken, KindsAbout, bare, held_in, kinds_about, literal_token, token_of}
+use Rattle.gr_bare_imports.proofs.Tokens.{behind, seam}
+use Rattle.gr_bare_imports.proofs.Standing.{import_stands}
 
 -- what stands before an import without a name
 
