@@ -1,5 +1,5 @@
 -- No word and no number ends at the literal of an import without a name, but the word `import`.
-use Rattle.std.proofs.Common.{ℕ, zero, suc, ◌≡◌, ◌+◌, ◌-◌, ◌<◌, ◌≤◌, ◌⊎◌, inl, inr, List, [], ◌∷◌, ◌++◌, ◌&&◌, Option, Some, None, Bool, true, false, length}
+use Rattle.std.proofs.Common.{ℕ, zero, suc, ◌≡◌, ◌+◌, ◌<◌, ◌≤◌, ◌⊎◌, inl, inr, List, [], ◌∷◌, ◌++◌, ◌&&◌, Option, Some, None, Bool, true, false, length}
 use Rattle.std.proofs.Common.{refl, sym, ap, ◌∙◌, subst, arith, ⊎_elim, append_assoc, append-nil, cond, length-append}
 use Rattle.std.specs.Prelude.{codes, option_map, slice_get, ◌==◌}
 use Rattle.std.specs.Cmp.{nat_cmp_is}
