@@ -4,3 +4,4 @@ pub mod Beside
 pub mod Finding
 pub mod Standing
 pub mod Tokens
+pub mod Whole

@@ -1,19 +1,22 @@
 //! The laws of imports without a name, and of a name put before their literals.
-ghost use Rattle.std.specs.Prelude.{◌≡◌, ◌<◌, ℕ, suc, ◌+◌, List, ◌∷◌, ◌++◌, length, None, Bool, false, codes, take, drop};
+ghost use Rattle.std.specs.Prelude.{◌≡◌, ◌<◌, ℕ, suc, ◌+◌, List, ◌∷◌, ◌++◌, length, Some, None, Bool, false, codes, slice_get, take, drop};
 ghost use Rattle.std.specs.List.{All, Contains};
 ghost use Rattle.gr_scan.specs.declared.piece.Class.TheVariants.{Name};
+ghost use Rattle.gr_scan.specs.CutText.{tokens_in};
 ghost use Rattle.gr_scan.specs.Cuts.{IsCut};
 ghost use Rattle.gr_scan.specs.Pieces.{IsPiece};
 ghost use Rattle.gr_edit.specs.Edits.{AreInOrder, LieWithin, edited_text};
 ghost use Rattle.gr_edit.specs.Moved.{moved_offset};
 ghost use Rattle.gr_edit.specs.declared.edit.Edit.{Edit};
+ghost use Rattle.gr_tree.specs.declared.syntax.Kind.TheVariants as kind;
+ghost use Rattle.gr_tree.specs.Kinds.{kind_of_name};
 ghost use Rattle.gr_tree.specs.SourceFile.{IsSourceFile, SourceFile, offset_of, spelling_of};
 ghost use Rattle.gr_tree.specs.Tree.{FileTree, ImportTree};
 ghost use Rattle.gr_imports.specs.Files.{imports_in};
 ghost use Rattle.gr_recut.specs.Renamings.{AreNameEdits};
 ghost use Rattle.gr_recut.specs.Trees.{renamed_file};
-ghost use Rattle.gr_named_import.specs.Around.{AroundImport, file_with};
-ghost use Rattle.gr_named_import.specs.Named.{after_put, put_bytes};
+ghost use Rattle.gr_named_import.specs.Around.{AroundImport, around_by, bare_import, file_with, from_on, named_import};
+ghost use Rattle.gr_named_import.specs.Named.{MayPut, NamePut, after_put, before_put, literal_piece, put_bytes};
 ghost use Rattle.gr_named_import.specs.Put.{NoWordEndsAt};
 ghost use Rattle.gr_bare_imports.specs.MayGain.{MayGain, inserted};
 
@@ -57,4 +60,13 @@ pub fn a_name_is_put_beside_replaced_ones()
         AreNameEdits f.cut.pieces (before ++ behind) → (g : MayGain (renamed_file (before ++ behind) f) number name blank_first) →
         let whole = before ++ inserted (offset_of f number) (put_bytes g.put) ∷ behind in
         AreInOrder 0 whole → LieWithin (length f.cut.text) whole → edited_text whole f.cut.text ≡ (after_put g.put).text }
+{}
+
+/// Where the old text, with a tree in which the literal is the path of an import without a name, is a file within the limit of nesting, the new
+/// text with the tree in which the import has the name is one.
+pub fn named_import_is_in_the_file()
+    ensures { (path : List ℕ) (p : NamePut) (number : ℕ) (a : AroundImport) → MayPut p →
+        slice_get (tokens_in (before_put p)) number ≡ Some (literal_piece p) → kind_of_name p.name ≡ kind.Name →
+        IsSourceFile (record { path = path; cut = before_put p; tree = file_with (bare_import number) a }) →
+        IsSourceFile (record { path = path; cut = after_put p; tree = file_with (named_import number) (around_by (from_on number) a) }) }
 {}
