@@ -1,7 +1,7 @@
 //! The laws of an import without a name that gains one.
 ghost use Rattle.std.specs.Prelude.{◌≡◌, ◌↔◌, ℕ, suc, ◌+◌, List, ◌∷◌, ◌++◌, length, Option, Some, None, slice_get};
 ghost use Rattle.gr_scan.specs.CutText.{tokens_in};
-ghost use Rattle.gr_scope.specs.Bindings.{IsBoundTo, Names};
+ghost use Rattle.gr_scope.specs.Bindings.{Counts, IsBoundTo, Names};
 ghost use Rattle.gr_scope.specs.FileSites.{SpelledFile, package_sites};
 ghost use Rattle.gr_scope.specs.Named.{named_sites};
 ghost use Rattle.gr_scope.specs.Site.{Site, sites_layout, sites_names};
@@ -55,12 +55,15 @@ pub fn declaration_moves_to_the_name()
 {}
 
 /// All bindings stay. Take any names for the identifiers of the new package, and let the old ones be called as those at their new numbers:
-/// then one is bound to another in the old package exactly if it is in the new one. The literal is bound to nothing, and nothing to it. All
-/// but the import are called as before.
+/// then one is bound to another in the old package exactly if it is in the new one, and one counts exactly if it does there. The literal is
+/// bound to nothing, and nothing to it. All but the import are called as before.
 pub fn bindings_stay_where_an_import_gains_a_name()
     ensures bound { (i : Gain) (called : List ℕ) (at : ℕ) (old new : List Site) → HasGained i (import_site i called) at old new →
         (later : Names) (u d : ℕ) → IsBoundTo (sites_layout old) (λ x. later (from_on (suc at) x)) u d ↔
         IsBoundTo (sites_layout new) later (from_on (suc at) u) (from_on (suc at) d) }
+    ensures counts { (i : Gain) (called : List ℕ) (at : ℕ) (old new : List Site) → HasGained i (import_site i called) at old new →
+        (later : Names) (d : ℕ) → Counts (sites_layout old) (λ x. later (from_on (suc at) x)) d ↔
+        Counts (sites_layout new) later (from_on (suc at) d) }
     ensures literal_bound { (i : Gain) (called : List ℕ) (at : ℕ) (old new : List Site) → HasGained i (import_site i called) at old new →
         (later : Names) (d : ℕ) → IsBoundTo (sites_layout new) later (suc at) d → ⊥ }
     ensures bound_to_literal { (i : Gain) (called : List ℕ) (at : ℕ) (old new : List Site) → HasGained i (import_site i called) at old new →
