@@ -8,7 +8,7 @@ use Rattle.std.proofs.lemmas.Option.{slice_get-map}
 use Rattle.gr_scope.specs.declared.model.Block.{Block}
 use Rattle.gr_scope.specs.declared.model.Block.TheVariants.{File, Inner, Package, Universe}
 use Rattle.gr_scope.specs.declared.model.Role.{Role}
-use Rattle.gr_scope.specs.Bindings.{IsBoundTo, Layout, Names, block_of, is_left_name, is_use, may_declare, own, start_of, use_bound}
+use Rattle.gr_scope.specs.Bindings.{Counts, IsBoundTo, Layout, Names, block_of, is_left_name, is_use, may_declare, own, start_of, use_bound}
 use Rattle.gr_scope.specs.Moves.{IsMoved, KnownIn, moved_place, moved_role}
 use Rattle.gr_scope.specs.Site.{Site, found_site, sites_layout, sites_names}
 use Rattle.gr_scope.proofs.Moved.{bindings_move}
@@ -16,7 +16,8 @@ use Rattle.gr_named_import.specs.Around.{from_on}
 use Rattle.gr_renumbered_sites.specs.MovedSites.{moved_site}
 use Rattle.gr_gained.specs.Gained.{Gain, HasGained, import_site, moved_by, path_site}
 use Rattle.gr_gained.proofs.Along.{Along, IsLooked, bound_along}
-use Rattle.gr_gained.proofs.Spelling.{from_first, from_suc, from_zero, seam}
+use Rattle.gr_bare_imports.proofs.Tokens.{seam}
+use Rattle.gr_gained.proofs.Spelling.{from_first, from_suc, from_zero}
 
 -- numbers
 
@@ -85,6 +86,11 @@ all_known (Inner f a b) start = (tt, tt, tt)
 all_known (File f) start = tt
 all_known Package start = tt
 all_known Universe start = tt
+
+-- to what something is bound, that counts
+bound_counts : (l : Layout) (names : Names) (u d : ℕ) → IsBoundTo l names u d → Counts l names d
+bound_counts l names u d (use_bound is x) = x.counts
+bound_counts l names u d (own p c) = c
 
 -- the bindings
 
@@ -169,6 +175,12 @@ module _ (i : Gain) (called : List ℕ) (at : ℕ) (old new : List Site) (g : Ha
       let first = bindings_move (λ f n. Unit {0}) move was moved is_moved (λ x. later (e x)) u d in
       let then = bound_along e moved now along later u d in
       ((λ x. then.0 (first.0 x)), (λ x. first.1 (then.1 x)))
+
+  pub counts_gained : (later : Names) (d : ℕ) → Counts was (λ x. later (e x)) d ↔ Counts now later (e d)
+  counts_gained later d = (
+    (λ c. bound_counts now later (e d) (e d) ((bound_gained later d d).0 (own refl c))),
+    (λ c. bound_counts was (λ x. later (e x)) d d ((bound_gained later d d).1 (own refl c))),
+  )
 
   -- the literal is bound to nothing, and nothing to it
   pub nothing_bound : (later : Names) (d : ℕ) → IsBoundTo now later (suc at) d → ⊥

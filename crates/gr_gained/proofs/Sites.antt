@@ -2,6 +2,7 @@
 use Rattle.std.proofs.Common.{ℕ, ◌≡◌, ◌+◌, List, [], ◌∷◌, ◌++◌, Some, length, map, refl, sym, ap, ◌∙◌, true, eq-eqb, append_assoc, append-nil}
 use Rattle.std.specs.Prelude.{cond, nat_eq, slice_get}
 use Rattle.std.specs.List.{flat_map}
+use Rattle.std.proofs.lemmas.Grind.{flat_map-append}
 use Rattle.gr_scan.specs.CutText.{tokens_in}
 use Rattle.gr_scope.specs.declared.model.Role.TheVariants.{NotLexical}
 use Rattle.gr_scope.specs.declared.model.Purpose.TheVariants as purpose
@@ -36,16 +37,12 @@ left s a = site s a.name (NotLexical purpose.PackageClause) ∷ (flat_map (impor
 abbrev right : Source → AroundImport → List Site
 right s a = right_item s a.item ++ (flat_map (imports_sites s) a.after ++ flat_map (decl_sites s) a.decls)
 
-all_of : {X : Type 0} (f : X → List Site) (xs : List X) (y : X) (ys : List X) → flat_map f (xs ++ y ∷ ys) ≡ flat_map f xs ++ (f y ++ flat_map f ys)
-all_of f [] y ys = refl
-all_of f (x ∷ xs) y ys = ap (λ l. f x ++ l) (all_of f xs y ys) ∙ sym (append_assoc (f x) (flat_map f xs) (f y ++ flat_map f ys))
-
 group_split : (s : Source) (i : ImportTree) (x : AroundItem) →
     spec_sites (import_sites s) (group_with i x) ≡ left_item s x ++ (import_sites s i ++ right_item s x)
 unfolding group_sites separated_sites
 group_split s i alone = sym (append-nil (import_sites s i))
 group_split s i (among o before separator after c) =
-    all_of (λ x. import_sites s x.value) before (record { value = i; separator = separator }) after
+    flat_map-append (λ x. import_sites s x.value) before (record { value = i; separator = separator } ∷ after)
 
 file_split : (s : Source) (i : ImportTree) (a : AroundImport) → file_sites s (file_with i a) ≡ left s a ++ (import_sites s i ++ right s a)
 unfolding file_sites imports_sites
@@ -55,7 +52,7 @@ file_split s i a =
     let decls : List Site = flat_map (decl_sites s) a.decls in
     let here : List Site = imports_sites s (imports_with i a) in
     ap (λ l. site s a.name (NotLexical purpose.PackageClause) ∷ l)
-    (ap (λ l. l ++ decls) (all_of (imports_sites s) a.before (imports_with i a) a.after) ∙ append_assoc front (here ++ after) decls
+    (ap (λ l. l ++ decls) (flat_map-append (imports_sites s) a.before (imports_with i a ∷ a.after)) ∙ append_assoc front (here ++ after) decls
     ∙ ap (λ l. front ++ l) (append_assoc here after decls ∙ ap (λ l. l ++ (after ++ decls)) (group_split s i a.item)
     ∙ append_assoc (left_item s a.item) (import_sites s i ++ right_item s a.item) (after ++ decls)
     ∙ ap (λ l. left_item s a.item ++ l) (append_assoc (import_sites s i) (right_item s a.item) (after ++ decls)))

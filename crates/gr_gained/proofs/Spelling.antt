@@ -1,5 +1,5 @@
 -- How the tokens of a text are spelled, in which a name is put before a string literal.
-use Rattle.std.proofs.Common.{ℕ, zero, suc, ◌≡◌, ◌+◌, ◌-◌, ◌≤◌, List, [], ◌∷◌, ◌++◌, Some, length, take, drop, map, refl, sym, ap, ◌∙◌, subst, arith}
+use Rattle.std.proofs.Common.{ℕ, zero, suc, ◌≡◌, ◌+◌, ◌-◌, List, [], ◌∷◌, ◌++◌, Some, length, take, drop, map, refl, sym, ap, ◌∙◌, subst, arith}
 use Rattle.std.specs.Prelude.{slice_get}
 use Rattle.std.specs.List.{AllByRecursion}
 use Rattle.std.proofs.lemmas.Bool.Decides.{nat_tests}
@@ -14,6 +14,7 @@ use Rattle.gr_named_import.specs.Around.{from_on}
 use Rattle.gr_named_import.specs.Named.{MayPut, NamePut, after_put, before_put, literal_piece, moved_behind, name_piece, put_bytes}
 use Rattle.gr_named_import.proofs.Behind.{AllLie, LiesBefore, LiesBehind, all_by, behind_bytes, front_bytes}
 use Rattle.gr_named_import.proofs.Gaining.{both_tokens, literal_number, name_bytes, news, same_rest, texts}
+use Rattle.gr_bare_imports.proofs.Tokens.{behind, seam}
 use Rattle.gr_gained.specs.Gained.{spelled}
 
 -- the numbers of tokens
@@ -31,11 +32,6 @@ pub from_itself : (n : ℕ) → from_on n n ≡ n + 1
 from_itself n = grind (arith, nat_tests)
 
 -- where tokens lie
-
-behind : (place from to : ℕ) (ts : List Piece) → place ≤ from → FollowFrom from ts to → AllByRecursion (LiesBehind place) ts
-behind place from to [] le follow = tt
-behind place from to (t ∷ ts) le follow =
-    ((omega (arith, follow.0), follow.1), behind place t.span.end to ts (omega (arith, follow.0, follow.1)) follow.2)
 
 tokens_lie : (from to : ℕ) (ones rest : List Piece) (t : Piece) → FollowFrom from (ones ++ t ∷ rest) to → AllLie t.span.start from ones (t ∷ rest)
 tokens_lie from to [] rest t follow = record {
@@ -70,10 +66,6 @@ module _ (text other : List ℕ) (one : Piece) (move : Piece → Piece) where
   spelled_on (t ∷ ones) rest same moved (suc n) =
       ap (λ (k : ℕ). spelling_at other (slice_get (t ∷ (ones ++ one ∷ map move rest)) k)) (from_suc (length ones) n)
       ∙ spelled_on ones rest same.1 moved n
-
-pub seam : {X : Type 0} (ones rest : List X) (one : X) → slice_get (ones ++ one ∷ rest) (length ones) ≡ Some one
-seam [] rest one = refl
-seam (x ∷ ones) rest one = seam ones rest one
 
 pub spelled_kept : (p : NamePut) (number : ℕ) → MayPut p → slice_get (tokens_in (before_put p)) number ≡ Some (literal_piece p) → (n : ℕ) →
     spelled (after_put p) (from_on number n) ≡ spelled (before_put p) n

@@ -1,6 +1,5 @@
 -- The identifiers of a package in which an import without a name gains one.
-use Rattle.std.specs.Prelude.{◌≡◌, ℕ, ◌+◌, List, ◌∷◌, ◌++◌, Option, Some, Bool, true, cond, length, map, nat_eq, slice_get}
-use Rattle.gr_edit.specs.declared.edit.Edit.{Edit}
+use Rattle.std.specs.Prelude.{◌≡◌, ℕ, ◌+◌, List, ◌∷◌, ◌++◌, Option, true, cond, length, map, nat_eq, slice_get}
 use Rattle.gr_scan.specs.CutText.{CutText, tokens_in}
 use Rattle.gr_scope.specs.declared.model.Block.TheVariants.{File}
 use Rattle.gr_scope.specs.declared.model.Role.TheVariants.{Declaring, NotLexical}
@@ -8,10 +7,10 @@ use Rattle.gr_scope.specs.declared.model.Purpose.TheVariants.{ImportPath, Unname
 use Rattle.gr_scope.specs.FileSites.{SpelledFile, file_sites}
 use Rattle.gr_scope.specs.Named.{is_unnamed_import}
 use Rattle.gr_scope.specs.Site.{Site, sites_layout}
-use Rattle.gr_tree.specs.SourceFile.{SourceFile, spelling_at}
+use Rattle.gr_tree.specs.SourceFile.{spelling_at}
 use Rattle.gr_tree.specs.Tree.{FileTree}
 use Rattle.gr_named_import.specs.Around.{AroundImport, around_by, bare_import, file_with, from_on, named_import}
-use Rattle.gr_named_import.specs.Named.{MayPut, NamePut, after_put, before_put, literal_piece}
+use Rattle.gr_named_import.specs.Named.{NamePut, after_put, before_put}
 use Rattle.gr_renumbered_sites.specs.MovedSites.{moved_site}
 
 -- the bytes of a token, by its number; none beyond the last token
@@ -72,19 +71,3 @@ file_before number a p = spelled_tree (before_put p) (file_with (bare_import num
 -- the file after, in which the import has the name
 abbrev pub file_after : ℕ → AroundImport → NamePut → SpelledFile
 file_after number a p = spelled_tree (after_put p) (file_with (named_import number) (around_by (from_on number) a))
-
--- The token of a number in a file is the literal of an import without a name, before which the name may be put: with a blank before the name
--- too, or not.
-pub record MayGain (f : SourceFile) (number : ℕ) (name : List ℕ) (blank_first : Bool) : Type 0 where
-  pub put : NamePut
-  pub around : AroundImport
-  pub may : MayPut put
-  pub named : put.name ≡ name
-  pub blank : put.blank_first ≡ blank_first
-  pub cut_is : f.cut ≡ before_put put
-  pub tree_is : f.tree ≡ file_with (bare_import number) around
-  pub literal : slice_get (tokens_in (before_put put)) number ≡ Some (literal_piece put)
-
--- the edit that puts bytes at an offset, and takes none away
-abbrev pub inserted : ℕ → List ℕ → Edit
-inserted at bytes = record { span = record { start = at; end = at }; text = bytes }

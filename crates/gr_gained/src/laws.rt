@@ -1,44 +1,17 @@
 //! The laws of an import without a name that gains one.
-ghost use Rattle.std.specs.Prelude.{◌≡◌, ◌↔◌, ◌<◌, ℕ, suc, ◌+◌, List, ◌∷◌, ◌++◌, length, Option, Some, None, Bool, false, slice_get, take, drop};
-ghost use Rattle.std.specs.List.{All, Contains};
-ghost use Rattle.gr_scan.specs.declared.piece.Class.TheVariants.{Name};
+ghost use Rattle.std.specs.Prelude.{◌≡◌, ◌↔◌, ℕ, suc, ◌+◌, List, ◌∷◌, ◌++◌, length, Option, Some, None, slice_get};
 ghost use Rattle.gr_scan.specs.CutText.{tokens_in};
-ghost use Rattle.gr_scan.specs.Cuts.{IsCut};
-ghost use Rattle.gr_scan.specs.Pieces.{IsPiece};
-ghost use Rattle.gr_edit.specs.Edits.{AreInOrder, LieWithin, edited_text};
-ghost use Rattle.gr_edit.specs.Moved.{moved_offset};
-ghost use Rattle.gr_edit.specs.declared.edit.Edit.{Edit};
-ghost use Rattle.gr_scope.specs.Bindings.{IsBoundTo, Names};
+ghost use Rattle.gr_scope.specs.Bindings.{Counts, IsBoundTo, Names};
 ghost use Rattle.gr_scope.specs.FileSites.{SpelledFile, package_sites};
 ghost use Rattle.gr_scope.specs.Named.{named_sites};
 ghost use Rattle.gr_scope.specs.Site.{Site, sites_layout, sites_names};
 ghost use Rattle.gr_tree.specs.Kinds.{kinds_of};
-ghost use Rattle.gr_tree.specs.SourceFile.{IsSourceFile, SourceFile, offset_of};
-ghost use Rattle.gr_tree.specs.Tree.{FileTree, ImportTree};
 ghost use Rattle.gr_tree.specs.WellFormed.{IsTreeOf};
-ghost use Rattle.gr_imports.specs.Files.{imports_in};
 ghost use Rattle.gr_rescoped.specs.Renaming.{HasNoConflict, Renames};
-ghost use Rattle.gr_recut.specs.Renamings.{AreNameEdits};
-ghost use Rattle.gr_recut.specs.Trees.{renamed_file};
 ghost use Rattle.gr_named_import.specs.Around.{AroundImport, bare_import, file_with, from_on};
-ghost use Rattle.gr_named_import.specs.Named.{MayPut, NamePut, after_put, before_put, literal_piece, put_bytes};
-ghost use Rattle.gr_named_import.specs.Put.{NoWordEndsAt};
-ghost use Rattle.gr_gained.specs.Gained.{AreLater, Gain, HasGained, MayGain, file_after, file_before, gain_of, import_site, sites_in, spelled};
-ghost use Rattle.gr_gained.specs.Gained.{inserted, unnamed_site};
-
-/// Each import of a file stands in a place of it: the file is what stands around the import, with the import there. And what stands so in a
-/// file is one of its imports.
-pub fn imports_stand_in_their_files()
-    ensures found { (f : FileTree) (i : ImportTree) → Contains (imports_in f) i → (a : AroundImport) × (f ≡ file_with i a) }
-    ensures among { (i : ImportTree) (a : AroundImport) → Contains (imports_in (file_with i a)) i }
-{}
-
-/// So the literal of each import without a name stands in its file's text such that a name may be put before it: with a blank before the name
-/// too, or without one where no word and no number ends at the literal.
-pub fn imports_without_a_name_may_gain_one()
-    ensures { (f : SourceFile) (i : ImportTree) (name : List ℕ) (blank_first : Bool) → IsSourceFile f → Contains (imports_in f.tree) i → i.name ≡ None →
-        IsPiece Name name → (blank_first ≡ false → NoWordEndsAt (offset_of f i.path) f.cut.pieces) → MayGain f i.path name blank_first }
-{}
+ghost use Rattle.gr_named_import.specs.Named.{MayPut, NamePut, after_put, before_put, literal_piece};
+ghost use Rattle.gr_gained.specs.Gained.{AreLater, Gain, HasGained, file_after, file_before, gain_of, import_site, sites_in, spelled};
+ghost use Rattle.gr_gained.specs.Gained.{unnamed_site};
 
 /// Where a name and a blank are put before a string literal, each token of the old text is spelled as before, at its new number. The token
 /// that comes in is spelled as the name, and stands where the literal stood; the literal is behind it.
@@ -82,12 +55,15 @@ pub fn declaration_moves_to_the_name()
 {}
 
 /// All bindings stay. Take any names for the identifiers of the new package, and let the old ones be called as those at their new numbers:
-/// then one is bound to another in the old package exactly if it is in the new one. The literal is bound to nothing, and nothing to it. All
-/// but the import are called as before.
+/// then one is bound to another in the old package exactly if it is in the new one, and one counts exactly if it does there. The literal is
+/// bound to nothing, and nothing to it. All but the import are called as before.
 pub fn bindings_stay_where_an_import_gains_a_name()
     ensures bound { (i : Gain) (called : List ℕ) (at : ℕ) (old new : List Site) → HasGained i (import_site i called) at old new →
         (later : Names) (u d : ℕ) → IsBoundTo (sites_layout old) (λ x. later (from_on (suc at) x)) u d ↔
         IsBoundTo (sites_layout new) later (from_on (suc at) u) (from_on (suc at) d) }
+    ensures counts { (i : Gain) (called : List ℕ) (at : ℕ) (old new : List Site) → HasGained i (import_site i called) at old new →
+        (later : Names) (d : ℕ) → Counts (sites_layout old) (λ x. later (from_on (suc at) x)) d ↔
+        Counts (sites_layout new) later (from_on (suc at) d) }
     ensures literal_bound { (i : Gain) (called : List ℕ) (at : ℕ) (old new : List Site) → HasGained i (import_site i called) at old new →
         (later : Names) (d : ℕ) → IsBoundTo (sites_layout new) later (suc at) d → ⊥ }
     ensures bound_to_literal { (i : Gain) (called : List ℕ) (at : ℕ) (old new : List Site) → HasGained i (import_site i called) at old new →
@@ -106,23 +82,4 @@ pub fn imports_gain_other_names_without_conflicts()
         ((u d : ℕ) → IsBoundTo (sites_layout old) (sites_names old) u d →
         IsBoundTo (sites_layout new) later (from_on (suc at) u) (from_on (suc at) d)) ↔
         HasNoConflict (sites_layout old) (sites_names old) at i.name }
-{}
-
-/// Where an edit puts bytes at an offset, beside others that end before it or take bytes away behind it, the new text is that of the others
-/// with the bytes put where they move the offset.
-pub fn bytes_are_put_beside_other_edits()
-    ensures { (text put : List ℕ) (at : ℕ) (before behind : List Edit) → AreInOrder 0 (before ++ inserted at put ∷ behind) →
-        LieWithin (length text) (before ++ inserted at put ∷ behind) → All (λ d. at < d.span.end) behind →
-        let new = edited_text (before ++ behind) text in
-        let place = moved_offset (before ++ behind) at in
-        edited_text (before ++ inserted at put ∷ behind) text ≡ take place new ++ (put ++ drop place new) }
-{}
-
-/// So where an import gains a name and others are replaced in the same text, as the name's uses, the new text is the one in which they are
-/// replaced, with the name put before the literal: what is told of either holds of both, one after the other.
-pub fn a_name_is_put_beside_replaced_ones()
-    ensures { (f : SourceFile) (number : ℕ) (name : List ℕ) (blank_first : Bool) (before behind : List Edit) → IsCut f.cut.text f.cut.pieces →
-        AreNameEdits f.cut.pieces (before ++ behind) → (g : MayGain (renamed_file (before ++ behind) f) number name blank_first) →
-        let whole = before ++ inserted (offset_of f number) (put_bytes g.put) ∷ behind in
-        AreInOrder 0 whole → LieWithin (length f.cut.text) whole → edited_text whole f.cut.text ≡ (after_put g.put).text }
 {}

@@ -3,4 +3,3 @@ pub mod Behind
 pub mod Gaining
 pub mod NamedTree
 pub mod Putting
-pub mod Whole

@@ -10,7 +10,6 @@ ghost use Rattle.gr_scan.specs.TokenValues.{IsStringClass};
 ghost use Rattle.gr_quoted.specs.Literals.{piece_at, shifted};
 ghost use Rattle.gr_tree.specs.declared.syntax.Kind.TheVariants as kind;
 ghost use Rattle.gr_tree.specs.Kinds.{kind_of_name, kinds_of};
-ghost use Rattle.gr_tree.specs.SourceFile.{IsSourceFile};
 ghost use Rattle.gr_tree.specs.WellFormed.{IsTreeOf};
 ghost use Rattle.gr_named_import.specs.Around.{AroundImport, around_by, bare_import, file_with, from_on, named_import};
 ghost use Rattle.gr_named_import.specs.Named.{MayPut, NamePut, after_put, before_put, later, literal_piece, moved_behind, name_piece, name_token};
@@ -59,12 +58,4 @@ pub fn named_import_is_in_the_tree()
     ensures { (p : NamePut) (number : ℕ) (a : AroundImport) → MayPut p → slice_get (tokens_in (before_put p)) number ≡ Some (literal_piece p) →
         kind_of_name p.name ≡ kind.Name → IsTreeOf (file_with (bare_import number) a) (kinds_of (before_put p)) →
         IsTreeOf (file_with (named_import number) (around_by (from_on number) a)) (kinds_of (after_put p)) }
-{}
-
-/// So where the old text with that tree is a file within the limit of nesting, the new text with the new tree is one.
-pub fn named_import_is_in_the_file()
-    ensures { (path : List ℕ) (p : NamePut) (number : ℕ) (a : AroundImport) → MayPut p →
-        slice_get (tokens_in (before_put p)) number ≡ Some (literal_piece p) → kind_of_name p.name ≡ kind.Name →
-        IsSourceFile (record { path = path; cut = before_put p; tree = file_with (bare_import number) a }) →
-        IsSourceFile (record { path = path; cut = after_put p; tree = file_with (named_import number) (around_by (from_on number) a) }) }
 {}

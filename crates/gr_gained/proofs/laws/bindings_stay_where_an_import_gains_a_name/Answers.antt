@@ -1,9 +1,12 @@
 -- The answers to the goals of `laws::bindings_stay_where_an_import_gains_a_name`.
-use Rattle.gr_gained.proofs.Bound.{bound_gained, bound_to_nothing, import_named, names_stay, nothing_bound}
+use Rattle.gr_gained.proofs.Bound.{bound_gained, bound_to_nothing, counts_gained, import_named, names_stay, nothing_bound}
 use Rattle.gr_gained.proofs.laws.bindings_stay_where_an_import_gains_a_name.Goals as goal
 
 pub returns-clause-bound : goal.returns-clause-bound
 returns-clause-bound c = bound_gained
+
+pub returns-clause-counts : goal.returns-clause-counts
+returns-clause-counts c = counts_gained
 
 pub returns-clause-literal_bound : goal.returns-clause-literal_bound
 returns-clause-literal_bound c = nothing_bound

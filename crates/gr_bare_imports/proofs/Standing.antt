@@ -1,7 +1,8 @@
 -- Each import of a file stands in a place of it.
-use Rattle.std.proofs.Common.{ℕ, ◌≡◌, List, [], ◌∷◌, ◌++◌, map, refl, ap, subst, append_assoc, arith}
+use Rattle.std.proofs.Common.{ℕ, ◌≡◌, List, [], ◌∷◌, ◌++◌, map, refl, ap, subst, append_assoc}
 use Rattle.std.specs.List.{AllByRecursion, Contains, flat_map}
 use Rattle.std.proofs.lemmas.List.Elements.{All-contains, All-from_recursion, Contains-append_left, Contains-append_right}
+use Rattle.gr_edit.proofs.Held.{first_in}
 use Rattle.gr_tree.specs.Tree.{DeclTree, FileTree, Group, ImportTree, ImportsTree, Item, several, single}
 use Rattle.gr_imports.specs.Files.{group_items, imports_in}
 use Rattle.gr_named_import.specs.Around.{AroundImport, AroundItem, alone, among, file_with, group_with, imports_with}
@@ -62,15 +63,12 @@ import_stands f i has =
 
 -- an import in its place is one of the file's
 
-first_of_them : {X : Type 0} (x : X) (xs : List X) → Contains (x ∷ xs) x
-first_of_them x xs = (0, omega arith, refl)
-
 item_among : (before after : List (Item ImportTree)) (x : Item ImportTree) → Contains (map (λ y. y.value) (before ++ x ∷ after)) x.value
-item_among [] after x = first_of_them x.value (map (λ y. y.value) after)
+item_among [] after x = first_in x.value (map (λ y. y.value) after)
 item_among (b ∷ before) after x = Contains-append_right (b.value ∷ []) (map (λ y. y.value) (before ++ x ∷ after)) x.value (item_among before after x)
 
 group_among : (i : ImportTree) (x : AroundItem) → Contains (group_items (group_with i x)) i
-group_among i alone = first_of_them i []
+group_among i alone = first_in i []
 group_among i (among o before separator after c) = item_among before after (record { value = i; separator = separator })
 
 groups_among : (i : ImportTree) (before after : List ImportsTree) (d : ImportsTree) → Contains (group_items d.imports) i →

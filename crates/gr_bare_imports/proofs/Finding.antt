@@ -1,7 +1,7 @@
 -- The literal of an import without a name, in the text of its file, where a name may be put before it.
-use Rattle.std.proofs.Common.{ℕ, zero, suc, ◌≡◌, ◌+◌, ◌-◌, ◌<◌, ◌≤◌, inl, inr, List, [], ◌∷◌, ◌++◌, Some, None, Bool, true, false, length, take, drop}
+use Rattle.std.proofs.Common.{ℕ, zero, suc, ◌≡◌, ◌+◌, ◌-◌, ◌≤◌, inl, inr, List, [], ◌∷◌, ◌++◌, Some, None, Bool, true, false, length, take, drop}
 use Rattle.std.proofs.Common.{refl, sym, ap, ◌∙◌, subst, arith, ⊎_elim, cond}
-use Rattle.std.specs.Prelude.{slice_get, slice_index_or, ◌==◌}
+use Rattle.std.specs.Prelude.{slice_get, ◌==◌}
 use Rattle.std.specs.Cmp.Lexicographic.{pointwise}
 use Rattle.std.specs.List.{AllByRecursion, Contains}
 use Rattle.std.proofs.lemmas.List.{length-drop, length-take-le, take-append-drop}
@@ -28,6 +28,7 @@ use Rattle.gr_tree.specs.Kinds.{kind_of, kind_of_keyword, kind_of_operator, kind
 use Rattle.gr_tree.specs.SourceFile.{IsSourceFile, SourceFile, offset_at, offset_of}
 use Rattle.gr_tree.specs.Tree.{ImportTree}
 use Rattle.gr_imports.specs.Files.{imports_in}
+use Rattle.gr_recut.proofs.Places.{Parts, parts}
 use Rattle.gr_recut.proofs.Spelled.{held_at}
 use Rattle.gr_recut.proofs.Tokens.{each_in}
 use Rattle.gr_recut.proofs.Trees.{each_token}
@@ -35,9 +36,9 @@ use Rattle.gr_named_import.specs.Around.{AroundImport, bare_import, file_with}
 use Rattle.gr_named_import.specs.Named.{NamePut, before_put, literal_piece}
 use Rattle.gr_named_import.specs.Put.{IsNoWord, NoWordEndsAt}
 use Rattle.gr_named_import.proofs.NamedTree.{NumberedFrom, bare_tokens, file_split, kinds_numbered, left, numbered_behind, right}
-use Rattle.gr_gained.specs.Gained.{MayGain}
-use Rattle.gr_gained.proofs.Spelling.{seam}
-use Rattle.gr_gained.proofs.Standing.{import_stands}
+use Rattle.gr_bare_imports.specs.MayGain.{MayGain}
+use Rattle.gr_bare_imports.proofs.Tokens.{seam}
+use Rattle.gr_bare_imports.proofs.Standing.{import_stands}
 
 -- what is of the kind of a string is a string
 
@@ -63,12 +64,12 @@ string_class _ bytes e = cc
 
 -- the token of a kind, and the piece that it is
 
-record IsToken (text : List ℕ) (ts : List Piece) (n : ℕ) (k : Kind) : Type 0 where
-  piece : Piece
-  at : slice_get ts n ≡ Some piece
-  is : kind_of piece.class (bytes_of text piece) ≡ k
+pub record IsToken (text : List ℕ) (ts : List Piece) (n : ℕ) (k : Kind) : Type 0 where
+  pub piece : Piece
+  pub at : slice_get ts n ≡ Some piece
+  pub is : kind_of piece.class (bytes_of text piece) ≡ k
 
-token_of : (m : ℕ) (text : List ℕ) (ts : List Piece) (n : ℕ) (x : Token) → slice_get (kinds_from m text ts) n ≡ Some x → IsToken text ts n x.kind
+pub token_of : (m : ℕ) (text : List ℕ) (ts : List Piece) (n : ℕ) (x : Token) → slice_get (kinds_from m text ts) n ≡ Some x → IsToken text ts n x.kind
 unfolding kinds_from
 token_of m text [] n x at = absurd (none-some x at)
 token_of m text (t ∷ ts) zero x at =
@@ -86,31 +87,20 @@ among_pieces c n t at is =
     (each_in P c.pieces (λ q has string. has)) in
     held_at P (tokens_in c) n t all at is
 
-record Split {X : Type 0} (xs : List X) (x : X) : Type 0 where
-  before : List X
-  after : List X
-  is : xs ≡ before ++ x ∷ after
-
-split_at : {X : Type 0} (xs : List X) (x : X) (k : ℕ) → k < length xs → slice_index_or xs k x ≡ x → Split xs x
-split_at [] x k lt e = absurd (omega arith)
-split_at (y ∷ ys) x zero lt e = record { before = []; after = ys; is = ap (λ z. z ∷ ys) e }
-split_at (y ∷ ys) x (suc k) lt e =
-    let rest = split_at ys x k (omega arith) e in record { before = y ∷ rest.before; after = rest.after; is = ap (λ l. y ∷ l) rest.is }
-
 first_all : {X : Type 0} (P : X → Type 0) (xs ys : List X) → AllByRecursion P (xs ++ ys) → AllByRecursion P xs
 first_all P [] ys all = tt
 first_all P (x ∷ xs) ys all = (all.0, first_all P xs ys all.1)
 
 -- a text, cut at a piece
 
-record IsHeld (text : List ℕ) (q : Piece) : Type 0 where
-  front : List ℕ
-  rest : List ℕ
-  begins : length front ≡ q.span.start
-  is : text ≡ front ++ (bytes_of text q ++ rest)
-  piece : piece_at q.class (length front) (bytes_of text q) ≡ q
+pub record IsHeld (text : List ℕ) (q : Piece) : Type 0 where
+  pub front : List ℕ
+  pub rest : List ℕ
+  pub begins : length front ≡ q.span.start
+  pub is : text ≡ front ++ (bytes_of text q ++ rest)
+  pub piece : piece_at q.class (length front) (bytes_of text q) ≡ q
 
-held_in : (text : List ℕ) (ps : List Piece) (q : Piece) → IsCut text ps → Contains ps q → IsHeld text q
+pub held_in : (text : List ℕ) (ps : List Piece) (q : Piece) → IsCut text ps → Contains ps q → IsHeld text q
 held_in text ps q cut has =
     let lies = covers_at 0 (length text) ps has.0 q (cut_covers text ps cut) has.1 in
     let same = has.2 in
@@ -131,23 +121,31 @@ held_in text ps q cut has =
 
 -- the import's literal
 
-bare : (i : ImportTree) → i.name ≡ None → i ≡ bare_import i.path
+pub bare : (i : ImportTree) → i.name ≡ None → i ≡ bare_import i.path
 bare i none = λ j. record { name = none j; path = i.path }
 
-kind_at : (f : SourceFile) (number : ℕ) (a : AroundImport) → IsSourceFile f → f.tree ≡ file_with (bare_import number) a →
-    slice_get (kinds_of f.cut) number ≡ Some (sign kind.Text number)
-kind_at f number a is tree =
+-- the kinds of the file's tokens, about the literal's, and its number
+pub record KindsAbout (f : SourceFile) (number : ℕ) (a : AroundImport) : Type 0 where
+  pub kinds : kinds_of f.cut ≡ left a ++ sign kind.Text number ∷ right a
+  pub size : number ≡ length (left a)
+
+pub kinds_about : (f : SourceFile) (number : ℕ) (a : AroundImport) → IsSourceFile f → f.tree ≡ file_with (bare_import number) a → KindsAbout f number a
+kinds_about f number a is tree =
     let there : List Token = sign kind.Text number ∷ right a in
     let kinds : kinds_of f.cut ≡ left a ++ there =
     sym is.is_tree.written ∙ ap flatten tree ∙ file_split (bare_import number) a ∙ ap (λ l. left a ++ (l ++ right a)) (bare_tokens number) in
     let order : NumberedFrom 0 (left a ++ there) = subst (NumberedFrom 0) kinds (kinds_numbered 0 f.cut.text (tokens_in f.cut)) in
     let place : number ≡ 0 + length (left a) = (numbered_behind 0 (left a) there order).0 in
-    let size : number ≡ length (left a) = omega (arith, place) in
-    (λ j. slice_get (kinds j) (size j)) ∙ seam (left a) (right a) (sign kind.Text number)
+    record { kinds = kinds; size = omega (arith, place) }
+
+pub literal_token : (f : SourceFile) (number : ℕ) (a : AroundImport) → KindsAbout f number a →
+    IsToken f.cut.text (tokens_in f.cut) number kind.Text
+literal_token f number a about = token_of 0 f.cut.text (tokens_in f.cut) number (sign kind.Text number)
+    ((λ j. slice_get (about.kinds j) (about.size j)) ∙ seam (left a) (right a) (sign kind.Text number))
 
 -- the text and the tree around it, by its piece
 
-gains_by : (f : SourceFile) (number : ℕ) (a : AroundImport) (name : List ℕ) (blank_first : Bool) (q : Piece) → Split f.cut.pieces q →
+gains_by : (f : SourceFile) (number : ℕ) (a : AroundImport) (name : List ℕ) (blank_first : Bool) (q : Piece) → Parts f.cut.pieces q →
     IsHeld f.cut.text q → IsCut f.cut.text f.cut.pieces → slice_get (tokens_in f.cut) number ≡ Some q → IsStringClass q.class →
     f.tree ≡ file_with (bare_import number) a → IsPiece class.Name name →
     (blank_first ≡ false → NoWordEndsAt (offset_of f number) f.cut.pieces) → MayGain f number name blank_first
@@ -162,7 +160,7 @@ gains_by f number a name blank_first q split held cut at string tree is_word apa
       blank_first = blank_first;
       name = name;
     } in
-    let pieces : f.cut.pieces ≡ (before_put put).pieces = split.is ∙ ap (λ (x : Piece). split.before ++ x ∷ split.after) (sym held.piece) in
+    let pieces : f.cut.pieces ≡ (before_put put).pieces = split.whole ∙ ap (λ (x : Piece). split.before ++ x ∷ split.after) (sym held.piece) in
     let text : f.cut.text ≡ (before_put put).text = held.is in
     let same : f.cut ≡ before_put put = λ j. record { text = text j; pieces = pieces j } in
     let begins : offset_of f number ≡ length held.front = ap (offset_at f.cut.text) at ∙ sym held.begins in
@@ -175,7 +173,7 @@ gains_by f number a name blank_first q split held cut at string tree is_word apa
         is_string = string;
         apart = λ joined.
             let all = recursion_from_All P f.cut.pieces (subst (λ (n : ℕ). NoWordEndsAt n f.cut.pieces) begins (apart joined)) in
-            All-from_recursion P split.before (first_all P split.before (q ∷ split.after) (subst (AllByRecursion P) split.is all));
+            All-from_recursion P split.before (first_all P split.before (q ∷ split.after) (subst (AllByRecursion P) split.whole all));
         is_cut = subst (λ (c : CutText). IsCut c.text c.pieces) same cut;
       };
       named = refl;
@@ -190,9 +188,9 @@ pub gains : (f : SourceFile) (i : ImportTree) (name : List ℕ) (blank_first : B
 gains f i name blank_first is has none is_word apart =
     let stands = import_stands f.tree i has in
     let tree : f.tree ≡ file_with (bare_import i.path) stands.0 = stands.1 ∙ ap (λ (x : ImportTree). file_with x stands.0) (bare i none) in
-    let token = token_of 0 f.cut.text (tokens_in f.cut) i.path (sign kind.Text i.path) (kind_at f i.path stands.0 is tree) in
+    let token = literal_token f i.path stands.0 (kinds_about f i.path stands.0 is tree) in
     let q : Piece = token.piece in
     let string : IsStringClass q.class = string_class q.class (bytes_of f.cut.text q) token.is in
     let in_pieces = among_pieces f.cut i.path q token.at string in
-    gains_by f i.path stands.0 name blank_first q (split_at f.cut.pieces q in_pieces.0 in_pieces.1 in_pieces.2)
+    gains_by f i.path stands.0 name blank_first q (parts f.cut.pieces q in_pieces)
     (held_in f.cut.text f.cut.pieces q is.is_cut in_pieces) is.is_cut token.at string tree is_word apart

@@ -20,7 +20,7 @@ use Rattle.gr_recut.proofs.Many.{edited_split, have_bytes}
 use Rattle.gr_recut.proofs.Offsets.{HaveBytes, order_from}
 use Rattle.gr_recut.proofs.Trees.{offset_moved}
 use Rattle.gr_named_import.specs.Named.{NamePut, after_put, before_put, put_bytes}
-use Rattle.gr_gained.specs.Gained.{MayGain, inserted}
+use Rattle.gr_bare_imports.specs.MayGain.{MayGain, inserted}
 
 abbrev EndBehind : ℕ → List Edit → Type 0
 EndBehind at edits = AllByRecursion (λ d. at < d.span.end) edits
