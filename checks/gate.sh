@@ -15,16 +15,14 @@ case $(rt version) in
         held_at_once=$(awk '/^MemAvailable:/ { print int($2 / 5500000) }' /proc/meminfo)
         jobs=$((held_at_once < processors ? held_at_once : processors))
         export RT_JOBS=$((jobs < 1 ? 1 : jobs))
-        # It sums up sources once for each path of crates.txt, which takes hours: it is run so that each sum is kept.
-        run_rt() { python3 checks/rt_once.py "$@"; }
         ;;
     *)
         # Later kits give a proof the processors that no other waits for, unless RT_JOBS is set: then each has one, and the
         # longest chain of crates takes that much longer.
-        run_rt() { rt "$@"; }
         ;;
 esac
-run_rt ci | {
+# rt sums up sources again and again: it is run so that each sum is kept, which saves two minutes under kit 13f, and hours under 13b.
+python3 checks/rt_once.py ci | {
     while IFS= read -r line; do
         [ -z "${last+set}" ] || printf '%s\n' "$last"
         last=$line

@@ -3,8 +3,8 @@
 usage: python3 checks/rt_once.py ci
 
 Kit 13b sums up the sources of a library once for each path of crates.txt that leads to it, which is over a million times
-here, and takes hours; later kits do so once. This starts the kit's own rt, unchanged but for these two answers, which it
-keeps by the crate's folder: what is proved, refused and run is the same. checks/gate.sh uses it under kit 13b alone.
+here, and takes hours; kit 13f does so once for each question, which takes two minutes. This starts the kit's own rt, unchanged but
+for these two answers, which it keeps by the crate's folder: what is proved, refused and run is the same. checks/gate.sh uses it.
 """
 import functools
 import importlib.machinery
