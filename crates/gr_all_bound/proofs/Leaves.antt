@@ -22,7 +22,7 @@ use Rattle.gr_rules.specs.Meanings.{HasMeaning}
 use Rattle.gr_rules.specs.Meanings as means
 use Rattle.gr_rules.specs.Uses.{UsesBroken}
 use Rattle.gr_rules.specs.Uses as uses
-use Rattle.gr_rules.proofs.Laws.{one_meaning}
+use Rattle.gr_rules.proofs.Conclusions.{one_meaning}
 use Rattle.gr_rules.proofs.Soundness.{sound}
 use Rattle.gr_rules.proofs.Steps.{empty_first, empty_second, value_at_agrees}
 use Rattle.gr_stmt.specs.Sides.{no_name, defined_one, defined}

@@ -15,5 +15,5 @@ pub mod Locals
 pub mod Statements
 pub mod Headers
 pub mod Declarations
-pub mod Laws
+pub mod Conclusions
 pub mod Examples

@@ -17,5 +17,5 @@ pub mod Settling
 pub mod Placing
 pub mod Misplaced
 pub mod Finding
-pub mod Laws
+pub mod Conclusions
 pub mod Examples

@@ -6,7 +6,7 @@ use Rattle.gr_expr.specs.Types.{PlainType, Kind, Typed, Meaning, Value}
 use Rattle.gr_expr.specs.World.{World, Locals}
 use Rattle.gr_rules.specs.Operators.{IsUntyped}
 use Rattle.gr_rules.specs.Meanings.{HasMeaning}
-use Rattle.gr_rules.proofs.Laws.{one_meaning}
+use Rattle.gr_rules.proofs.Conclusions.{one_meaning}
 use Rattle.gr_statement_rules.specs.Giving.{Taker, AreEach, also_value, Give, values, results}
 use Rattle.gr_statement_rules.specs.Simple.{AreAssigned, a_blank, an_operand, AreDefined, an_underscore, a_new_name, an_old_name, SimpleIsTyped, a_call}
 use Rattle.gr_statement_rules.specs.Simple.{a_step, an_update, an_assignment, a_definition}

@@ -9,7 +9,7 @@ pub mod Locals
 pub mod Statements
 pub mod Headers
 pub mod Declarations
-pub mod Laws
+pub mod Conclusions
 pub mod Examples
 pub mod Unbroken
 pub mod Exclusive

@@ -17,7 +17,7 @@ use Rattle.gr_rules.proofs.Naming.{type_true}
 use Rattle.gr_rules.proofs.Selecting.{selects_true}
 use Rattle.gr_rules.proofs.Arguments.{AreOf}
 use Rattle.gr_rules.proofs.Calling.{calls_true}
-use Rattle.gr_rules.proofs.Laws.{one_meaning}
+use Rattle.gr_rules.proofs.Conclusions.{one_meaning}
 
 -- one outcome
 

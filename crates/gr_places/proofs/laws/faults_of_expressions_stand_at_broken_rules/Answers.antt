@@ -1,5 +1,5 @@
 -- The answers to the goals of `laws::faults_of_expressions_stand_at_broken_rules`.
-use Rattle.gr_places.proofs.Laws.{expression_places}
+use Rattle.gr_places.proofs.Conclusions.{expression_places}
 use Rattle.gr_places.proofs.laws.faults_of_expressions_stand_at_broken_rules.Goals as goal
 
 pub returns : goal.returns

@@ -1,5 +1,5 @@
 -- The answers to the goals of `laws::faults_of_files_stand_at_broken_rules`.
-use Rattle.gr_places.proofs.Laws.{file_places}
+use Rattle.gr_places.proofs.Conclusions.{file_places}
 use Rattle.gr_places.proofs.laws.faults_of_files_stand_at_broken_rules.Goals as goal
 
 pub returns : goal.returns

@@ -1,5 +1,5 @@
 -- The answers to the goals of `laws::files_that_break_no_rule_are_typed`.
-use Rattle.gr_places.proofs.Laws.{unbroken_typed}
+use Rattle.gr_places.proofs.Conclusions.{unbroken_typed}
 use Rattle.gr_places.proofs.laws.files_that_break_no_rule_are_typed.Goals as goal
 
 pub returns : goal.returns

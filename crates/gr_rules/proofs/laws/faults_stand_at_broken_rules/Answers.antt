@@ -1,5 +1,5 @@
 -- The answers to the goals of `laws::faults_stand_at_broken_rules`.
-use Rattle.gr_rules.proofs.Laws.{faults_placed}
+use Rattle.gr_rules.proofs.Conclusions.{faults_placed}
 use Rattle.gr_rules.proofs.laws.faults_stand_at_broken_rules.Goals as goal
 
 pub returns : goal.returns

@@ -1,5 +1,5 @@
 -- The answers to the goals of `laws::meanings_are_unique`.
-use Rattle.gr_rules.proofs.Laws.{one_meaning}
+use Rattle.gr_rules.proofs.Conclusions.{one_meaning}
 use Rattle.gr_rules.proofs.laws.meanings_are_unique.Goals as goal
 
 pub returns : goal.returns

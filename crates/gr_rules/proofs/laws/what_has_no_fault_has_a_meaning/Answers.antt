@@ -1,5 +1,5 @@
 -- The answers to the goals of `laws::what_has_no_fault_has_a_meaning`.
-use Rattle.gr_rules.proofs.Laws.{meant_without_faults}
+use Rattle.gr_rules.proofs.Conclusions.{meant_without_faults}
 use Rattle.gr_rules.proofs.laws.what_has_no_fault_has_a_meaning.Goals as goal
 
 pub returns : goal.returns

@@ -1,5 +1,5 @@
 -- The answers to the goals of `laws::blocks_without_fault_are_typed`.
-use Rattle.gr_statement_rules.proofs.Laws.{settled_block}
+use Rattle.gr_statement_rules.proofs.Conclusions.{settled_block}
 use Rattle.gr_statement_rules.proofs.laws.blocks_without_fault_are_typed.Goals as goal
 
 pub returns : goal.returns

@@ -1,5 +1,5 @@
 -- The answers to the goals of `laws::declarations_without_fault_are_typed`.
-use Rattle.gr_statement_rules.proofs.Laws.{settled_decl}
+use Rattle.gr_statement_rules.proofs.Conclusions.{settled_decl}
 use Rattle.gr_statement_rules.proofs.laws.declarations_without_fault_are_typed.Goals as goal
 
 pub returns : goal.returns

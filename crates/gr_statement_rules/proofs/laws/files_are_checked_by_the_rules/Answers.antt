@@ -1,5 +1,5 @@
 -- The answers to the goals of `laws::files_are_checked_by_the_rules`.
-use Rattle.gr_statement_rules.proofs.Laws.{file_law}
+use Rattle.gr_statement_rules.proofs.Conclusions.{file_law}
 use Rattle.gr_statement_rules.proofs.laws.files_are_checked_by_the_rules.Goals as goal
 
 pub returns : goal.returns

@@ -1,5 +1,5 @@
 -- The answers to the goals of `laws::typed_blocks_have_no_fault`.
-use Rattle.gr_statement_rules.proofs.Laws.{block_law}
+use Rattle.gr_statement_rules.proofs.Conclusions.{block_law}
 use Rattle.gr_statement_rules.proofs.laws.typed_blocks_have_no_fault.Goals as goal
 
 pub returns : goal.returns

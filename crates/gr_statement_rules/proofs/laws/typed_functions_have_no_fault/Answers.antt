@@ -1,5 +1,5 @@
 -- The answers to the goals of `laws::typed_functions_have_no_fault`.
-use Rattle.gr_statement_rules.proofs.Laws.{function_law}
+use Rattle.gr_statement_rules.proofs.Conclusions.{function_law}
 use Rattle.gr_statement_rules.proofs.laws.typed_functions_have_no_fault.Goals as goal
 
 pub returns : goal.returns

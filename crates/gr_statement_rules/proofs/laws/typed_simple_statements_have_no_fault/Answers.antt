@@ -1,5 +1,5 @@
 -- The answers to the goals of `laws::typed_simple_statements_have_no_fault`.
-use Rattle.gr_statement_rules.proofs.Laws.{simple_law}
+use Rattle.gr_statement_rules.proofs.Conclusions.{simple_law}
 use Rattle.gr_statement_rules.proofs.laws.typed_simple_statements_have_no_fault.Goals as goal
 
 pub returns : goal.returns

@@ -1,5 +1,5 @@
 -- The answers to the goals of `laws::typed_statements_have_one_outcome`.
-use Rattle.gr_statement_rules.proofs.Laws.{one_outcome}
+use Rattle.gr_statement_rules.proofs.Conclusions.{one_outcome}
 use Rattle.gr_statement_rules.proofs.laws.typed_statements_have_one_outcome.Goals as goal
 
 pub returns : goal.returns
