@@ -208,19 +208,32 @@ fn plan_name<D: Desk>(
     planned
 }
 
+/// A byte of a file, as a command names it.
+#[derive(Drop)]
+struct NamedByte {
+    path: Word,
+    offset: usize,
+}
+
 /// The change that a rename asks for, committed.
 fn rename<D: Desk>(
     alloc: Global,
     desk: &mut D,
     view: &View,
     basis: u64,
-    path: Word,
-    offset: usize,
+    at: NamedByte,
     name: Word,
 ) -> Response
-    ensures { (planned : Result PlannedChange WhyRefused) × PlansRename view.now.snapshot path offset name planned × Commits D.steps desk.old basis planned result desk.new }
+    ensures { (planned : Result PlannedChange WhyRefused) × PlansRename view.now.snapshot at.path at.offset name planned × Commits D.steps desk.old basis planned result desk.new }
 {
-    let planned = plan_name(alloc, desk, view, path.as_str(), offset, name.as_str());
+    let planned = plan_name(
+        alloc,
+        desk,
+        view,
+        at.path.as_str(),
+        at.offset,
+        name.as_str(),
+    );
     commit_known(desk, basis, planned)
 }
 
@@ -375,7 +388,7 @@ fn act_on<D: Desk>(alloc: Global, desk: &mut D, view: &View, command: Command) -
             path,
             offset,
             name,
-        } => rename(alloc, desk, view, basis, path, offset, name),
+        } => rename(alloc, desk, view, basis, NamedByte { path, offset }, name),
         Command::Move { basis, from, to } => move_to(alloc, desk, view, basis, from, to),
         Command::Undo { basis } => undo(desk, basis),
         Command::Redo { basis } => redo(desk, basis),

@@ -88,22 +88,28 @@ fn add_files(
     Ok(())
 }
 
+/// The path of a package, and its files.
+#[derive(Clone, Copy)]
+struct PackageFiles<'p, 'f> {
+    path: &'p SharedPath,
+    files: &'f [FileTree],
+}
+
 /// Adds the edits of the files of the package of a path.
 fn add_package_by(
     alloc: Global,
     edits: &mut BTreeMap<Path, Edits>,
-    path: &SharedPath,
-    files: &[FileTree],
+    of: &PackageFiles<'_, '_>,
     table: &ScopeTable<'_>,
     interfaces: &Interfaces,
     moved: &Moved,
 ) -> Result<(), AllocError>
-    ensures { let p = package_in path.now (map source_of files.now) table.now (interface_in interfaces.now) in
+    ensures { let p = package_in of.now.path.now (map source_of of.now.files.now) table.now (interface_in interfaces.now) in
         OnOk result (AddsEdits edits.old edits.new (AreEditsIn p moved.now) (HasFileIn p)) }
 {
     let unit = Package {
-        path,
-        files,
+        path: of.path,
+        files: of.files,
         table,
         interfaces,
     };
@@ -127,7 +133,8 @@ fn add_package(
     let seen = seen(alloc, graph, number, &found.interfaces)?;
     let table = laid_table(alloc, files, &seen)?;
     let path = path_of(graph, found, number);
-    add_package_by(alloc, edits, path, files, &table, &seen, moved)
+    let of = PackageFiles { path, files };
+    add_package_by(alloc, edits, &of, &table, &seen, moved)
 }
 
 /// The edits of all Go files of a workspace without faults.

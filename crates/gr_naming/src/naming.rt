@@ -152,6 +152,13 @@ fn refuse_in_unit(
     }
 }
 
+/// A declaration, and the name that it is to get.
+#[derive(Clone, Copy)]
+struct Asked<'d, 'n> {
+    declaration: &'d Declaration,
+    name: &'n [u8],
+}
+
 /// Refuses a name to a declaration of the package of a path.
 fn refuse_by(
     alloc: Global,
@@ -159,11 +166,10 @@ fn refuse_by(
     files: &[FileTree],
     table: &ScopeTable<'_>,
     interfaces: &Interfaces,
-    declaration: &Declaration,
-    name: &[u8],
+    asked: &Asked<'_, '_>,
 ) -> Result<(), Refusal>
     ensures { let p = package_in path.now (map source_of files.now) table.now (interface_in interfaces.now) in
-        RefusesNameIn p declaration.now name.now result }
+        RefusesNameIn p asked.now.declaration.now asked.now.name.now result }
 {
     let unit = Package {
         path,
@@ -171,7 +177,7 @@ fn refuse_by(
         table,
         interfaces,
     };
-    refuse_in_unit(alloc, unit, declaration, name)
+    refuse_in_unit(alloc, unit, asked.declaration, asked.name)
 }
 
 /// Refuses a name to a declaration of the package of a number.
@@ -191,7 +197,8 @@ fn refuse_in_package(
     let seen = seen(alloc, graph, number, &found.interfaces)?;
     let table = laid_table(alloc, files, &seen)?;
     let path = path_of(graph, found, number);
-    refuse_by(alloc, path, files, &table, &seen, declaration, name)
+    let asked = Asked { declaration, name };
+    refuse_by(alloc, path, files, &table, &seen, &asked)
 }
 
 /// Refuses a name to a declaration of the package of a path, if there is one.

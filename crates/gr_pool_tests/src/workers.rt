@@ -75,11 +75,11 @@ fn all_at_work<L: Opening + Send + Sync, R: Threads + Wait + Abort + Sync>(
     rt: &R,
     alloc: Global,
     lent: &Shared<L>,
-    first: Seat<L>,
-    second: Seat<L>,
+    workers: (Seat<L>, Seat<L>),
     mine: Seat<L>,
     meeting: &Meeting,
 ) -> (Seat<L>, (Seat<L>, Seat<L>)) {
+    let (first, second) = workers;
     thread::join(
         rt,
         move || waited(rt, lent, mine),
@@ -114,7 +114,7 @@ fn work_together<L: Opening + Send + Sync, R: Threads + Wait + Abort + Sync>(
     let mut mine = shared.seat().expect(rt, "a third seat");
     let gate = Meeting::new();
     puts(rt, alloc, &shared, &mut mine);
-    let (mine, (first, second)) = all_at_work(rt, alloc, &shared, first, second, mine, &gate);
+    let (mine, (first, second)) = all_at_work(rt, alloc, &shared, (first, second), mine, &gate);
     let mut seats = Vec::new(alloc);
     seats.push(first).expect(rt, "memory");
     seats.push(second).expect(rt, "memory");

@@ -10,4 +10,4 @@ mod turns;
 
 pub use fault::ServeFault;
 pub use serving::serve;
-pub use session::session_at_seat;
+pub use session::{Connection, session_at_seat};

@@ -5,7 +5,7 @@ ghost use Rattle.gr_serve.specs.Served.{Serves, Settles};
 
 use crate::fault::ServeFault;
 use crate::socket::listen;
-use crate::threads::run;
+use crate::threads::{Running, run};
 use crate::turns::Turns;
 use gr_book::Book;
 use gr_pool::{Gate, Opening, Seat, Shared, Unsettled};
@@ -74,15 +74,15 @@ fn serve_by<L: Opening + Send + Sync, R: Threads + Wait + Sync, G: Gate + Sync>(
     shared: &Shared<L>,
     seats: &mut [Seat<L>],
     words: &ServeWords<'_>,
-    gate: &G,
-    turns: Turns,
+    running: Running<'_, G>,
 ) -> Result<(), ServeFault>
     ensures all { OnOk result (length seats.new ≡ words.now.workers + words.now.sessions) }
     ensures err { IfErr result (λ fault. fault ≢ ServeFault.Unsettled) }
 {
     let workers = words.workers as usize;
     let are_made = seats.len() as u64 == threads_of(words)
-        && run(rt, alloc, shared, seats, workers, gate, &turns);
+        && run(rt, alloc, shared, seats, workers, &running);
+    let Running { gate: _, turns } = running;
     if !are_made {
         return Err(ServeFault::Memory);
     }
@@ -117,7 +117,8 @@ fn serve_in<L: Opening + Send + Sync, R: Threads + Wait + Sync, G: Gate + Sync>(
             return Err(ServeFault::Memory);
         }
     };
-    let served = serve_by(rt, alloc, &shared, seats.as_mut_slice(), words, gate, turns);
+    let running = Running { gate, turns };
+    let served = serve_by(rt, alloc, &shared, seats.as_mut_slice(), words, running);
     let length = settle(shared, seats);
     served?;
     length

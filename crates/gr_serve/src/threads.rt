@@ -1,5 +1,5 @@
 //! The threads of a server.
-use crate::session::session_at_seat;
+use crate::session::{Connection, session_at_seat};
 use crate::turns::Turns;
 use gr_pool::{Gate, Opening, Seat, Shared, worker};
 use gr_text::Limits;
@@ -28,7 +28,8 @@ fn talk<L: Opening, R: Wait>(
 ) -> io::Result<Result<(), SessionFault>> {
     let input = BufReader::new(alloc, stream)?;
     let output = BufWriter::new(alloc, stream)?;
-    let (ended, _output) = session_at_seat(rt, alloc, shared, seat, input, output, Limits::FULL);
+    let connection = Connection { input, output };
+    let (ended, _output) = session_at_seat(rt, alloc, shared, seat, connection, Limits::FULL);
     Ok(ended)
 }
 
@@ -80,6 +81,12 @@ fn serve_sessions<L: Opening + Send + Sync, R: Threads + Wait + Sync>(
     })
 }
 
+/// What the threads of a server keep to: whom each worker's progress is told, and whose turn it is to accept a connection.
+pub(crate) struct Running<'a, G> {
+    pub(crate) gate: &'a G,
+    pub(crate) turns: Turns,
+}
+
 /// Builds packages in as many threads as there are workers, and serves sessions in the others, until none is accepted any more. It is
 /// false where a thread could not be made.
 pub(crate) fn run<L: Opening + Send + Sync, R: Threads + Wait + Sync, G: Gate + Sync>(
@@ -88,9 +95,10 @@ pub(crate) fn run<L: Opening + Send + Sync, R: Threads + Wait + Sync, G: Gate + 
     shared: &Shared<L>,
     seats: &mut [Seat<L>],
     workers: usize,
-    gate: &G,
-    turns: &Turns,
+    running: &Running<'_, G>,
 ) -> bool {
+    let gate = running.gate;
+    let turns = &running.turns;
     thread::scope(thread::scope_env(), rt, move |scope| {
         let mut are_made = true;
         let count = workers.min(seats.len());

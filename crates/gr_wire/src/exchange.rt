@@ -1,5 +1,5 @@
 //! A session: it reads messages, has them answered, and writes the replies.
-ghost use Rattle.std.specs.Prelude.{◌≡◌, ◌+◌, ◌^◌, ◌≤◌, ◌<◌, ℕ, List, Option, IfOk, OnOk, IsTrue};
+ghost use Rattle.std.specs.Prelude.{◌≡◌, ◌+◌, ◌^◌, ◌≤◌, ◌<◌, IfOk, OnOk, IsTrue};
 ghost use Rattle.gr_line.specs.Failures.{CountsFailure, WritesText};
 ghost use Rattle.gr_line.specs.Replies.{reply_text};
 ghost use Rattle.gr_wire.specs.Answers.{Answered};
@@ -53,27 +53,40 @@ fn answer<D: Desk>(alloc: Global, desk: &mut D, message: Message) -> Response
     }
 }
 
+/// What reading uses up: the room for a line, and the reads that are left.
+#[derive(Drop)]
+struct Reading {
+    line: LineBuffer,
+    reads_left: u64,
+}
+
 /// Has all sent that was written, since a read may wait for the other side, and reads the next message.
 fn await_message<S: Source, T: Sink>(
     alloc: Global,
     source: &mut S,
     sink: &mut T,
-    reads_left: &mut u64,
-    line: &mut LineBuffer,
+    reading: &mut Reading,
     limits: &Limits,
 ) -> Result<Next, SessionFault>
-    requires reads { S.reads source.old + reads_left.old < 2 ^ 64 }
+    requires reads { S.reads source.old + reading.old.reads_left < 2 ^ 64 }
     ensures awaits { AwaitsNext limits.now (S.remaining source.old) (S.remaining source.new)
         (T.contents sink.old) (T.contents sink.new) result }
     ensures sent { LeavesSent (T.sent sink.new) result }
     ensures counted { CountsFaults (S.failures source.old) (S.failures source.new)
         (T.failures sink.old) (T.failures sink.new) result }
-    ensures turns { IfOk result (λ _. reads_left.new < reads_left.old) }
-    ensures turns_over { result ≡ Err SessionFault.Turns → reads_left.new ≡ 0 }
-    ensures reads { S.reads source.new + reads_left.new ≡ S.reads source.old + reads_left.old }
+    ensures turns { IfOk result (λ _. reading.new.reads_left < reading.old.reads_left) }
+    ensures turns_over { result ≡ Err SessionFault.Turns → reading.new.reads_left ≡ 0 }
+    ensures reads { S.reads source.new + reading.new.reads_left ≡ S.reads source.old + reading.old.reads_left }
 {
     sink.flush()?;
-    match read_command(alloc, source, sink, reads_left, line, limits) {
+    match read_command(
+        alloc,
+        source,
+        sink,
+        &mut reading.reads_left,
+        &mut reading.line,
+        limits,
+    ) {
         Ok(next) => Ok(next),
         Err(InputFault::Read) => Err(SessionFault::Read),
         Err(InputFault::Turns) => Err(SessionFault::Turns),
@@ -96,21 +109,20 @@ fn serve_next<S: Source, T: Sink, D: Desk>(
     source: &mut S,
     sink: &mut T,
     desk: &mut D,
-    reads_left: &mut u64,
-    line: &mut LineBuffer,
+    reading: &mut Reading,
     limits: &Limits,
 ) -> Result<bool, SessionFault>
-    requires reads { S.reads source.old + reads_left.old < 2 ^ 64 }
+    requires reads { S.reads source.old + reading.old.reads_left < 2 ^ 64 }
     ensures step { StepEnds D.steps D.waits limits.now (S.remaining source.old) (S.remaining source.new)
         (T.contents sink.old) (T.contents sink.new) desk.old desk.new result }
     ensures sent { StepLeavesSent (T.sent sink.new) result }
     ensures counted { CountsFaults (S.failures source.old) (S.failures source.new)
         (T.failures sink.old) (T.failures sink.new) result }
-    ensures turns { IfOk result (λ _. reads_left.new < reads_left.old) }
-    ensures turns_over { result ≡ Err SessionFault.Turns → reads_left.new ≡ 0 }
-    ensures reads { S.reads source.new + reads_left.new ≡ S.reads source.old + reads_left.old }
+    ensures turns { IfOk result (λ _. reading.new.reads_left < reading.old.reads_left) }
+    ensures turns_over { result ≡ Err SessionFault.Turns → reading.new.reads_left ≡ 0 }
+    ensures reads { S.reads source.new + reading.new.reads_left ≡ S.reads source.old + reading.old.reads_left }
 {
-    match await_message(alloc, source, sink, reads_left, line, limits)? {
+    match await_message(alloc, source, sink, reading, limits)? {
         Next::End => Ok(false),
         Next::NoRoom => {
             print_reply(sink, &refuse(Refusal::Memory))?;
@@ -144,19 +156,14 @@ pub fn session<S: Source, T: Sink, D: Desk>(
     ensures few_reads { S.reads source.new ≤ S.reads source.old + limits.reads }
     ensures turns { result ≡ Err SessionFault.Turns → S.reads source.new ≡ S.reads source.old + limits.reads }
 {
-    let mut line = match LineBuffer::new(alloc) {
+    let line = match LineBuffer::new(alloc) {
         Ok(line) => line,
         Err(_) => return Err(SessionFault::Memory),
     };
-    let mut reads_left = limits.reads;
-    while serve_next(
-        alloc,
-        source,
-        sink,
-        desk,
-        &mut reads_left,
-        &mut line,
-        &limits,
-    )? {}
+    let mut reading = Reading {
+        line,
+        reads_left: limits.reads,
+    };
+    while serve_next(alloc, source, sink, desk, &mut reading, &limits)? {}
     Ok(())
 }

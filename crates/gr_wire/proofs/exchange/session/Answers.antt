@@ -4,8 +4,8 @@ use Rattle.std.proofs.lemmas.Result.{err_from_is_err_and}
 use Rattle.gr_wire.proofs.Steps.{StepEnds-none, StepEnds-append, SessionEnds-from_step}
 use Rattle.gr_wire.proofs.exchange.session.Goals as goal
 
-pub loop-line-init : goal.loop-line-init
-loop-line-init g c = record {
+pub loop-reading-init : goal.loop-reading-init
+loop-reading-init g c = record {
   reads = search rules;
   step = StepEnds-none g.D.Desk.steps g.D.Desk.waits c.args.limits (g.S.Source.remaining c.args.source.now) (g.T.Sink.contents c.args.sink.now) c.args.desk.now;
   reader = search rules;
@@ -21,28 +21,28 @@ returns-in_err-serve_next-clause-session g c =
     (g.T.Sink.contents c.args.sink.now) (g.T.Sink.contents c.serve_next.new.sink)
     c.args.desk.now c.serve_next.new.desk fault c.from_residual.result
     (StepEnds-append g.D.Desk.steps g.D.Desk.waits c.args.limits
-    (g.S.Source.remaining c.args.source.now) (g.S.Source.remaining c.loop-line.source) (g.S.Source.remaining c.serve_next.new.source)
-    (g.T.Sink.contents c.args.sink.now) (g.T.Sink.contents c.loop-line.sink) (g.T.Sink.contents c.serve_next.new.sink)
-    c.args.desk.now c.loop-line.desk c.serve_next.new.desk (Err fault)
-    c.loop-line.invariant.step c.in_err-serve_next.ensures.step)
+    (g.S.Source.remaining c.args.source.now) (g.S.Source.remaining c.loop-reading.source) (g.S.Source.remaining c.serve_next.new.source)
+    (g.T.Sink.contents c.args.sink.now) (g.T.Sink.contents c.loop-reading.sink) (g.T.Sink.contents c.serve_next.new.sink)
+    c.args.desk.now c.loop-reading.desk c.serve_next.new.desk (Err fault)
+    c.loop-reading.invariant.step c.in_err-serve_next.ensures.step)
     (p.1 ∙ ap Err p.2)
 
-pub loop-line-preserved : goal.loop-line-preserved
-loop-line-preserved g c = record {
-  reads = c.in_ok-serve_next.ensures.reads ∙ c.loop-line.invariant.reads;
+pub loop-reading-preserved : goal.loop-reading-preserved
+loop-reading-preserved g c = record {
+  reads = c.in_ok-serve_next.ensures.reads ∙ c.loop-reading.invariant.reads;
   step = StepEnds-append g.D.Desk.steps g.D.Desk.waits c.args.limits
-      (g.S.Source.remaining c.args.source.now) (g.S.Source.remaining c.loop-line.source) (g.S.Source.remaining c.serve_next.new.source)
-      (g.T.Sink.contents c.args.sink.now) (g.T.Sink.contents c.loop-line.sink) (g.T.Sink.contents c.serve_next.new.sink)
-      c.args.desk.now c.loop-line.desk c.serve_next.new.desk (Ok true)
-      c.loop-line.invariant.step (rw c.if-branch.true at c.in_ok-serve_next.ensures.step);
-  reader = c.in_ok-serve_next.ensures.counted.0 ∙ c.loop-line.invariant.reader;
-  writer = c.in_ok-serve_next.ensures.counted.1 ∙ c.loop-line.invariant.writer;
+      (g.S.Source.remaining c.args.source.now) (g.S.Source.remaining c.loop-reading.source) (g.S.Source.remaining c.serve_next.new.source)
+      (g.T.Sink.contents c.args.sink.now) (g.T.Sink.contents c.loop-reading.sink) (g.T.Sink.contents c.serve_next.new.sink)
+      c.args.desk.now c.loop-reading.desk c.serve_next.new.desk (Ok true)
+      c.loop-reading.invariant.step (rw c.if-branch.true at c.in_ok-serve_next.ensures.step);
+  reader = c.in_ok-serve_next.ensures.counted.0 ∙ c.loop-reading.invariant.reader;
+  writer = c.in_ok-serve_next.ensures.counted.1 ∙ c.loop-reading.invariant.writer;
 }
 
 pub returns-clause-session : goal.returns-clause-session
 returns-clause-session g c =
     StepEnds-append g.D.Desk.steps g.D.Desk.waits c.args.limits
-    (g.S.Source.remaining c.args.source.now) (g.S.Source.remaining c.loop-line.source) (g.S.Source.remaining c.serve_next.new.source)
-    (g.T.Sink.contents c.args.sink.now) (g.T.Sink.contents c.loop-line.sink) (g.T.Sink.contents c.serve_next.new.sink)
-    c.args.desk.now c.loop-line.desk c.serve_next.new.desk (Ok false)
-    c.loop-line.invariant.step (rw c.if-branch.false at c.in_ok-serve_next.ensures.step)
+    (g.S.Source.remaining c.args.source.now) (g.S.Source.remaining c.loop-reading.source) (g.S.Source.remaining c.serve_next.new.source)
+    (g.T.Sink.contents c.args.sink.now) (g.T.Sink.contents c.loop-reading.sink) (g.T.Sink.contents c.serve_next.new.sink)
+    c.args.desk.now c.loop-reading.desk c.serve_next.new.desk (Ok false)
+    c.loop-reading.invariant.step (rw c.if-branch.false at c.in_ok-serve_next.ensures.step)
