@@ -34,6 +34,38 @@ use gr_scope::model::Position;
 use gr_text::Place;
 use std::alloc::{AllocError, Global};
 
+/// A name that is seen in other packages, with the path of its package.
+#[derive(Clone, Copy)]
+struct Export<'a> {
+    path: &'a [u8],
+    name: &'a [u8],
+}
+
+/// An identifier of a package, behind the name of the package of a path.
+#[derive(Clone, Copy)]
+struct Selected<'a> {
+    unit: Package<'a>,
+    behind: &'a [u8],
+    u: usize,
+}
+
+/// A package with what is found once in it, and its own type definitions.
+#[derive(Clone, Copy)]
+struct Owned<'a> {
+    unit: Package<'a>,
+    index: &'a Index<'a>,
+    own: &'a [Definition],
+}
+
+/// A member that is used at a token of a package, with the package's own type definitions.
+#[derive(Clone, Copy)]
+struct Used<'a> {
+    unit: Package<'a>,
+    own: &'a [Definition],
+    at: Position,
+    found: &'a MemberUse,
+}
+
 /// Judges the identifier at a place that the scopes of its package bind to a declaration.
 fn note_by_scope(
     first: &mut Option<Conflict>,
@@ -96,18 +128,17 @@ fn note_by_package(
     alloc: Global,
     first: &mut Option<Conflict>,
     judge: &Judge<'_, '_, '_>,
-    behind: &[u8],
-    name: &[u8],
+    export: Export<'_>,
     place: Place,
     old: &Declaration,
 ) -> Result<(), AllocError>
     requires knows { KnowsChange judge.now }
-    requires there { Contains (package_paths (workspace_in judge.now)) behind.now }
-    ensures takes { OnOk result (Takes (IsNoted (becomes_in judge.now) (known_packages judge.now) (IsExportAfter (workspace_in judge.now) (change_in judge.now) behind.now (called_by judge.now.moves.now place name.now)) place old.now) first.old first.new) }
-    ensures stays { let now = IsExportAfter (workspace_in judge.now) (change_in judge.now) behind.now (called_by judge.now.moves.now place name.now) in
+    requires there { Contains (package_paths (workspace_in judge.now)) export.path.now }
+    ensures takes { OnOk result (Takes (IsNoted (becomes_in judge.now) (known_packages judge.now) (IsExportAfter (workspace_in judge.now) (change_in judge.now) export.entry.path.now (called_by judge.now.moves.now place export.entry.name.now)) place old.now) first.old first.new) }
+    ensures stays { let now = IsExportAfter (workspace_in judge.now) (change_in judge.now) export.entry.path.now (called_by judge.now.moves.now place export.entry.name.now) in
         OnOk result (IsAhead first.new place → StaysBound (becomes_in judge.now) now old.now) }
 {
-    let now = now_by_package(alloc, judge, behind, &place, name)?;
+    let now = now_by_package(alloc, judge, export.path, &place, export.name)?;
     note(judge, first, place, old, now)
 }
 
@@ -116,23 +147,27 @@ fn judge_exported(
     alloc: Global,
     first: &mut Option<Conflict>,
     judge: &Judge<'_, '_, '_>,
-    unit: Package<'_>,
-    behind: &[u8],
-    u: usize,
+    of: &Selected<'_>,
     old: &Declaration,
 ) -> Result<(), AllocError>
     requires knows { KnowsChange judge.now }
-    requires in_range { u < length unit.table.now.sites }
-    requires behind { IsOnlyBehind (package_of unit) u behind.now }
-    requires there { Contains (package_paths (workspace_in judge.now)) behind.now }
-    requires was { BindsByPackage (known_packages judge.now) (package_of unit) u old.now }
-    ensures takes { OnOk result (Takes (IsConflictIn (workspace_in judge.now) (known_verdicts judge.now) (change_in judge.now) (package_of unit.entry)) first.old first.new) }
-    ensures stays { let p = package_of unit.entry in
-        OnOk result (HoldsAhead (IfBegins p u (λ at. StaysBound (becomes_in judge.now) (IsBoundByPackage (workspace_in judge.now) (change_in judge.now) at p u) old.now)) first.new) }
+    requires in_range { of.now.u < length of.now.unit.table.now.sites }
+    requires behind { IsOnlyBehind (package_of of.now.unit) of.now.u of.now.behind.now }
+    requires there { Contains (package_paths (workspace_in judge.now)) of.now.behind.now }
+    requires was { BindsByPackage (known_packages judge.now) (package_of of.now.unit) of.now.u old.now }
+    ensures takes { OnOk result (Takes (IsConflictIn (workspace_in judge.now) (known_verdicts judge.now) (change_in judge.now) (package_of of.now.unit)) first.old first.new) }
+    ensures stays { let p = package_of of.now.unit in
+        OnOk result (HoldsAhead (IfBegins p of.now.u (λ at. StaysBound (becomes_in judge.now) (IsBoundByPackage (workspace_in judge.now) (change_in judge.now) at p of.now.u) old.now)) first.new) }
 {
-    match beginning(unit, u)? {
+    match beginning(of.unit, of.u)? {
         None => Ok(()),
-        Some(place) => note_by_package(alloc, first, judge, behind, unit.table.name(u), place, old),
+        Some(place) => {
+            let export = Export {
+                path: of.behind,
+                name: of.unit.table.name(of.u),
+            };
+            note_by_package(alloc, first, judge, export, place, old)
+        }
     }
 }
 
@@ -141,27 +176,25 @@ fn judge_behind(
     alloc: Global,
     first: &mut Option<Conflict>,
     judge: &Judge<'_, '_, '_>,
-    unit: Package<'_>,
-    behind: &[u8],
-    u: usize,
+    of: &Selected<'_>,
 ) -> Result<(), AllocError>
     requires knows { KnowsChange judge.now }
-    requires in_range { u < length unit.table.now.sites }
-    requires behind { IsOnlyBehind (package_of unit) u behind.now }
-    ensures takes { OnOk result (Takes (IsConflictIn (workspace_in judge.now) (known_verdicts judge.now) (change_in judge.now) (package_of unit.entry)) first.old first.new) }
-    ensures stays { let p = package_of unit.entry in
-        OnOk result (HoldsAhead (IfBegins p u (StaysByPackage (workspace_in judge.now) (known_verdicts judge.now) (change_in judge.now) p u)) first.new) }
+    requires in_range { of.now.u < length of.now.unit.table.now.sites }
+    requires behind { IsOnlyBehind (package_of of.now.unit) of.now.u of.now.behind.now }
+    ensures takes { OnOk result (Takes (IsConflictIn (workspace_in judge.now) (known_verdicts judge.now) (change_in judge.now) (package_of of.now.unit)) first.old first.new) }
+    ensures stays { let p = package_of of.now.unit in
+        OnOk result (HoldsAhead (IfBegins p of.now.u (StaysByPackage (workspace_in judge.now) (known_verdicts judge.now) (change_in judge.now) p of.now.u)) first.new) }
 {
-    let name = unit.table.name(u);
+    let name = of.unit.table.name(of.u);
     match exported(
         judge.packages.graph,
         judge.packages.found,
         judge.exports,
-        behind,
+        of.behind,
         name,
     )? {
         None => Ok(()),
-        Some(old) => judge_exported(alloc, first, judge, unit, behind, u, &old),
+        Some(old) => judge_exported(alloc, first, judge, of, &old),
     }
 }
 
@@ -183,7 +216,10 @@ fn judge_by_package(
 {
     match package_before(unit, index, u) {
         None => Ok(()),
-        Some(behind) => judge_behind(alloc, first, judge, unit, behind, u),
+        Some(behind) => {
+            let of = Selected { unit, behind, u };
+            judge_behind(alloc, first, judge, &of)
+        }
     }
 }
 
@@ -211,20 +247,17 @@ fn judge_numbers(
 fn note_by_member(
     first: &mut Option<Conflict>,
     judge: &Judge<'_, '_, '_>,
-    unit: Package<'_>,
-    own: &[Definition],
-    at: Position,
-    found: &MemberUse,
+    used: &Used<'_>,
     place: Place,
     old: &Declaration,
 ) -> Result<(), AllocError>
     requires { KnowsChange judge.now }
-    ensures takes { let now = IsMemberNow (known_packages judge.now) (change_in judge.now) (definitions_seen unit.entry own.now) (package_of unit.entry) at (type_of found.now.before) place in
+    ensures takes { let now = IsMemberNow (known_packages judge.now) (change_in judge.now) (definitions_seen used.now.unit used.now.own.now) (package_of used.now.unit) used.now.at (type_of used.now.found.now.before) place in
         OnOk result (Takes (IsOtherNoted (known_packages judge.now) now place old.now) first.old first.new) }
-    ensures stays { OnOk result (IsAhead first.new place → IsMemberNow (known_packages judge.now) (change_in judge.now) (definitions_seen unit.entry own.now) (package_of unit.entry) at (type_of found.now.before) place old.now) }
+    ensures stays { OnOk result (IsAhead first.new place → IsMemberNow (known_packages judge.now) (change_in judge.now) (definitions_seen used.now.unit used.now.own.now) (package_of used.now.unit) used.now.at (type_of used.now.found.now.before) place old.now) }
 {
-    let name = unit.spelling(at.file, at.index);
-    let now = now_by_member(judge, unit, own, found, &place, name)?;
+    let name = used.unit.spelling(used.at.file, used.at.index);
+    let now = now_by_member(judge, used.unit, used.own, used.found, &place, name)?;
     note_member(judge, first, place, old, now)
 }
 
@@ -232,23 +265,20 @@ fn note_by_member(
 fn judge_token(
     first: &mut Option<Conflict>,
     judge: &Judge<'_, '_, '_>,
-    unit: Package<'_>,
     index: &Index<'_>,
-    own: &[Definition],
-    at: Position,
-    found: &MemberUse,
+    used: &Used<'_>,
     old: &Declaration,
 ) -> Result<(), AllocError>
     requires knows { KnowsChange judge.now }
-    requires index { IsIndexOf (package_of unit) index.now }
-    ensures takes { let now = IsMemberNow (known_packages judge.now) (change_in judge.now) (definitions_seen unit.entry own.now) (package_of unit.entry) at (type_of found.now.before) in
-        OnOk result (Takes (IsOtherAt (known_packages judge.now) now (package_of unit.entry) at old.now) first.old first.new) }
-    ensures stays { let now = IsMemberNow (known_packages judge.now) (change_in judge.now) (definitions_seen unit.entry own.now) (package_of unit.entry) at (type_of found.now.before) in
-        OnOk result (HoldsAtToken (package_of unit.entry) at (λ place. now place old.now) first.new) }
+    requires index { IsIndexOf (package_of used.now.unit) index.now }
+    ensures takes { let now = IsMemberNow (known_packages judge.now) (change_in judge.now) (definitions_seen used.now.unit used.now.own.now) (package_of used.now.unit) used.now.at (type_of used.now.found.now.before) in
+        OnOk result (Takes (IsOtherAt (known_packages judge.now) now (package_of used.now.unit) used.now.at old.now) first.old first.new) }
+    ensures stays { let now = IsMemberNow (known_packages judge.now) (change_in judge.now) (definitions_seen used.now.unit used.now.own.now) (package_of used.now.unit) used.now.at (type_of used.now.found.now.before) in
+        OnOk result (HoldsAtToken (package_of used.now.unit) used.now.at (λ place. now place old.now) first.new) }
 {
-    match token_beginning(unit, index, at)? {
+    match token_beginning(used.unit, index, used.at)? {
         None => Ok(()),
-        Some(place) => note_by_member(first, judge, unit, own, at, found, place, old),
+        Some(place) => note_by_member(first, judge, used, place, old),
     }
 }
 
@@ -256,25 +286,28 @@ fn judge_token(
 fn judge_by_member(
     first: &mut Option<Conflict>,
     judge: &Judge<'_, '_, '_>,
-    unit: Package<'_>,
-    index: &Index<'_>,
-    own: &[Definition],
+    of: &Owned<'_>,
     file: usize,
     found: &MemberUse,
 ) -> Result<(), AllocError>
     requires knows { KnowsChange judge.now }
-    requires index { IsIndexOf (package_of unit) index.now }
-    ensures takes { OnOk result (Takes (IsMemberConflict (known_packages judge.now) (change_in judge.now) (definitions_seen unit.entry own.now) (package_of unit.entry) file (use_of found.now)) first.old first.new) }
-    ensures stays { OnOk result (HoldsAhead (UseStays (known_packages judge.now) (change_in judge.now) (definitions_seen unit.entry own.now) (package_of unit.entry) file (use_of found.now)) first.new) }
+    requires index { IsIndexOf (package_of of.now.unit) of.now.index.now }
+    ensures takes { OnOk result (Takes (IsMemberConflict (known_packages judge.now) (change_in judge.now) (definitions_seen of.now.unit of.now.own.now) (package_of of.now.unit) file (use_of found.now)) first.old first.new) }
+    ensures stays { OnOk result (HoldsAhead (UseStays (known_packages judge.now) (change_in judge.now) (definitions_seen of.now.unit of.now.own.now) (package_of of.now.unit) file (use_of found.now)) first.new) }
 {
-    match member_declaration(unit, own, file, found)? {
+    match member_declaration(of.unit, of.own, file, found)? {
         None => Ok(()),
         Some(old) => {
-            let at = Position {
-                file,
-                index: found.place,
+            let used = Used {
+                unit: of.unit,
+                own: of.own,
+                at: Position {
+                    file,
+                    index: found.place,
+                },
+                found,
             };
-            judge_token(first, judge, unit, index, own, at, found, &old)
+            judge_token(first, judge, of.index, &used, &old)
         }
     }
 }
@@ -283,19 +316,17 @@ fn judge_by_member(
 fn judge_file(
     first: &mut Option<Conflict>,
     judge: &Judge<'_, '_, '_>,
-    unit: Package<'_>,
-    index: &Index<'_>,
-    own: &[Definition],
+    of: &Owned<'_>,
     file: usize,
     uses: &[MemberUse],
 ) -> Result<(), AllocError>
     requires knows { KnowsChange judge.now }
-    requires index { IsIndexOf (package_of unit) index.now }
-    ensures takes { OnOk result (Takes (IsMemberConflictAmong (known_packages judge.now) (change_in judge.now) (definitions_seen unit.entry own.now) (package_of unit.entry) file (map use_of uses.now)) first.old first.new) }
-    ensures stays { OnOk result (HoldsAhead (UsesStay (known_packages judge.now) (change_in judge.now) (definitions_seen unit.entry own.now) (package_of unit.entry) file (map use_of uses.now)) first.new) }
+    requires index { IsIndexOf (package_of of.now.unit) of.now.index.now }
+    ensures takes { OnOk result (Takes (IsMemberConflictAmong (known_packages judge.now) (change_in judge.now) (definitions_seen of.now.unit of.now.own.now) (package_of of.now.unit) file (map use_of uses.now)) first.old first.new) }
+    ensures stays { OnOk result (HoldsAhead (UsesStay (known_packages judge.now) (change_in judge.now) (definitions_seen of.now.unit of.now.own.now) (package_of of.now.unit) file (map use_of uses.now)) first.new) }
 {
     for k in 0..uses.len() {
-        judge_by_member(first, judge, unit, index, own, file, &uses[k])?;
+        judge_by_member(first, judge, of, file, &uses[k])?;
     }
     Ok(())
 }
@@ -318,8 +349,9 @@ fn judge_members(
     unit.table.is_well_formed();
     let own = own_of(judge.packages.graph, judge.packages.found, number);
     let members = members_of(judge.packages.graph, judge.packages.found, number);
+    let of = Owned { unit, index, own };
     for file in 0..members.len() {
-        judge_file(first, judge, unit, index, own, file, &members[file])?;
+        judge_file(first, judge, &of, file, &members[file])?;
     }
     Ok(())
 }

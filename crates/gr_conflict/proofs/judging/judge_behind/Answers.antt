@@ -19,17 +19,17 @@ pub judge_exported-requires-clause-was : goal.judge_exported-requires-clause-was
 judge_exported-requires-clause-was c =
     let w = workspace_in c.args.judge.now in
     let known = known_verdicts c.args.judge.now in
-    let p = package_of c.args.unit in
-    let path = c.args.behind.now in
+    let p = package_of c.args.of.now.unit in
+    let path = c.args.of.now.behind.now in
     let found = subst (λ n. IsDeclarationFound (ExportsAs w known path n) c.in_ok-exported.field-0) c.name-name.ensures c.in_ok-exported.ensures in
-    exported_binds w known p c.args.u path c.requires.behind.0 c.in-Some.old
-    (subst (IsDeclarationFound (ExportsAs w known path (p.names c.args.u))) c.in-Some.is found)
+    exported_binds w known p c.args.of.now.u path c.requires.behind.0 c.in-Some.old
+    (subst (IsDeclarationFound (ExportsAs w known path (p.names c.args.of.now.u))) c.in-Some.is found)
 
 pub judge_exported-requires-clause-there : goal.judge_exported-requires-clause-there
 judge_exported-requires-clause-there c =
     let w = workspace_in c.args.judge.now in
     let known = known_verdicts c.args.judge.now in
-    let path = c.args.behind.now in
+    let path = c.args.of.now.behind.now in
     let name = c.name-name.result.now in
     exported_there w known path name c.in-Some.old (subst (IsDeclarationFound (ExportsAs w known path name)) c.in-Some.is c.in_ok-exported.ensures)
 
@@ -41,9 +41,9 @@ returns-in-None-clause-stays c =
     let j = c.args.judge.now in
     let w = workspace_in j in
     let known = known_verdicts j in
-    let p = package_of c.args.unit in
-    let u = c.args.u in
-    let path = c.args.behind.now in
+    let p = package_of c.args.of.now.unit in
+    let u = c.args.of.now.u in
+    let path = c.args.of.now.behind.now in
     let o = c.in_ok-exported.field-0 in
     let found = by_path w known p u path c.requires.behind.0 c.requires.behind.1 o
     (subst (λ n. IsDeclarationFound (ExportsAs w known path n) o) c.name-name.ensures c.in_ok-exported.ensures) in
@@ -55,9 +55,9 @@ returns-in-Some-clause-stays c =
     let j = c.args.judge.now in
     let w = workspace_in j in
     let known = known_verdicts j in
-    let p = package_of c.args.unit in
-    let u = c.args.u in
-    let path = c.args.behind.now in
+    let p = package_of c.args.of.now.unit in
+    let u = c.args.of.now.u in
+    let path = c.args.of.now.behind.now in
     let o = c.in_ok-exported.field-0 in
     let found = by_path w known p u path c.requires.behind.0 c.requires.behind.1 o
     (subst (λ n. IsDeclarationFound (ExportsAs w known path n) o) c.name-name.ensures c.in_ok-exported.ensures) in

@@ -12,9 +12,9 @@ use Rattle.gr_conflict.proofs.judging.judge_by_member.Goals as goal
 
 pub returns-in-Some-clause-takes : goal.returns-in-Some-clause-takes
 returns-in-Some-clause-takes c =
-    let p = package_of c.args.unit in
+    let p = package_of c.args.of.now.unit in
     let Known = known_packages c.args.judge.now in
-    let ds = definitions_seen c.args.unit c.args.own.now in
+    let ds = definitions_seen c.args.of.now.unit c.args.of.now.own.now in
     let x = use_of c.args.found.now in
     let old = c.in-Some.old in
     let r = change_in c.args.judge.now in
@@ -26,13 +26,13 @@ returns-in-Some-clause-takes c =
 pub returns-in-None-clause-stays : goal.returns-in-None-clause-stays
 returns-in-None-clause-stays c =
     let j = c.args.judge.now in
-    let ds = definitions_seen c.args.unit c.args.own.now in
-    no_use_stays (known_packages j) (change_in j) ds (package_of c.args.unit) c.args.file (use_of c.args.found.now) c.args.first.now
+    let ds = definitions_seen c.args.of.now.unit c.args.of.now.own.now in
+    no_use_stays (known_packages j) (change_in j) ds (package_of c.args.of.now.unit) c.args.file (use_of c.args.found.now) c.args.first.now
     (sym c.in_ok-member_declaration.ensures ∙ c.in-None.is)
 
 pub returns-in-Some-clause-stays : goal.returns-in-Some-clause-stays
 returns-in-Some-clause-stays c =
     let j = c.args.judge.now in
-    let ds = definitions_seen c.args.unit c.args.own.now in
-    use_stays (known_packages j) (change_in j) ds (package_of c.args.unit) c.args.file (use_of c.args.found.now) c.in-Some.old c.judge_token.new.first
+    let ds = definitions_seen c.args.of.now.unit c.args.of.now.own.now in
+    use_stays (known_packages j) (change_in j) ds (package_of c.args.of.now.unit) c.args.file (use_of c.args.found.now) c.in-Some.old c.judge_token.new.first
     c.judge_token.result (sym c.in_ok-member_declaration.ensures ∙ c.in-Some.is) c.judge_token.ensures.stays

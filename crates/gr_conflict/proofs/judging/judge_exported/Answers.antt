@@ -21,25 +21,27 @@ returns-in-Some-clause-takes c =
     let w = workspace_in j in
     let known = known_verdicts j in
     let r = change_in j in
-    let p = package_of c.args.unit in
+    let p = package_of c.args.of.now.unit in
     let place = c.in-Some.place in
     let old = c.args.old.now in
-    let path = c.args.behind.now in
-    let begins : BeginsAt p place.path place.offset c.args.u = subst (IsFound (λ (x : Place). BeginsAt p x.path x.offset c.args.u)) c.in-Some.is
+    let path = c.args.of.now.behind.now in
+    let begins : BeginsAt p place.path place.offset c.args.of.now.u = subst (IsFound (λ (x : Place). BeginsAt p x.path x.offset c.args.of.now.u)) c.in-Some.is
     c.in_ok-beginning.ensures in
     let noted = subst (λ n. OnOk c.note_by_package.result
     (Takes (IsNoted (becomes_in j) (known_packages j) (IsExportAfter w r path (r.called place n)) place old) c.args.first.now c.note_by_package.new.first))
     c.name.ensures c.note_by_package.ensures.takes in
-    call_takes (IsNoted (becomes_in j) (known_packages j) (IsExportAfter w r path (r.called place (p.names c.args.u))) place old) (IsConflictIn w known r p)
+    call_takes (IsNoted (becomes_in j) (known_packages j) (IsExportAfter w r path (r.called place (p.names c.args.of.now.u))) place old)
+        (IsConflictIn w known r p)
     c.args.first.now c.note_by_package.new.first c.note_by_package.result
-    (package_turned w known r p c.args.u path c.requires.behind.0 c.requires.behind.1 old c.requires.was place begins) noted
+    (package_turned w known r p c.args.of.now.u path c.requires.behind.0 c.requires.behind.1 old c.requires.was place begins) noted
 
 pub returns-in-None-clause-stays : goal.returns-in-None-clause-stays
 returns-in-None-clause-stays c =
     let j = c.args.judge.now in
-    let p = package_of c.args.unit in
-    begins_nowhere p c.args.u (λ (at : Place). StaysBound (becomes_in j) (IsBoundByPackage (workspace_in j) (change_in j) at p c.args.u) c.args.old.now)
-    c.args.first.now (subst (IsFound (λ (x : Place). BeginsAt p x.path x.offset c.args.u)) c.in-None.is c.in_ok-beginning.ensures)
+    let p = package_of c.args.of.now.unit in
+    begins_nowhere p c.args.of.now.u (λ (at : Place). StaysBound (becomes_in j) (IsBoundByPackage (workspace_in j) (change_in j) at p c.args.of.now.u)
+        c.args.old.now)
+    c.args.first.now (subst (IsFound (λ (x : Place). BeginsAt p x.path x.offset c.args.of.now.u)) c.in-None.is c.in_ok-beginning.ensures)
 
 pub returns-in-Some-clause-stays : goal.returns-in-Some-clause-stays
 returns-in-Some-clause-stays c =
@@ -47,11 +49,11 @@ returns-in-Some-clause-stays c =
     let w = workspace_in j in
     let r = change_in j in
     let B = becomes_in j in
-    let p = package_of c.args.unit in
-    let u = c.args.u in
+    let p = package_of c.args.of.now.unit in
+    let u = c.args.of.now.u in
     let place = c.in-Some.place in
     let old = c.args.old.now in
-    let path = c.args.behind.now in
+    let path = c.args.of.now.behind.now in
     let first = c.note_by_package.new.first in
     let begins : BeginsAt p place.path place.offset u = subst (IsFound (λ (x : Place). BeginsAt p x.path x.offset u)) c.in-Some.is c.in_ok-beginning.ensures in
     let stays = subst (λ n. OnOk c.note_by_package.result (IsAhead first place → StaysBound B (IsExportAfter w r path (r.called place n)) old)) c.name.ensures

@@ -17,16 +17,16 @@ use Rattle.gr_conflict.proofs.judging.judge_file.Goals as goal
 pub loop-k-init : goal.loop-k-init
 loop-k-init c =
     let j = c.args.judge.now in
-    let ds = definitions_seen c.args.unit c.args.own.now in
-    let K = RankStays (known_packages j) (change_in j) ds (package_of c.args.unit) c.args.file (map use_of c.args.uses.now) in
+    let ds = definitions_seen c.args.of.now.unit c.args.of.now.own.now in
+    let K = RankStays (known_packages j) (change_in j) ds (package_of c.args.of.now.unit) c.args.file (map use_of c.args.uses.now) in
     (takes_none _ c.args.first.now, none_below K c.args.first.now)
 
 pub loop-k-preserved : goal.loop-k-preserved
 loop-k-preserved c =
-    let p = package_of c.args.unit in
+    let p = package_of c.args.of.now.unit in
     let Known = known_packages c.args.judge.now in
     let r = change_in c.args.judge.now in
-    let ds = definitions_seen c.args.unit c.args.own.now in
+    let ds = definitions_seen c.args.of.now.unit c.args.of.now.own.now in
     let file = c.args.file in
     let uses = map use_of c.args.uses.now in
     let k = c.loop-k.k in
@@ -50,9 +50,9 @@ returns-clause-takes c = c.loop-k.invariant.0
 pub returns-clause-stays : goal.returns-clause-stays
 returns-clause-stays c =
     let j = c.args.judge.now in
-    let ds = definitions_seen c.args.unit c.args.own.now in
+    let ds = definitions_seen c.args.of.now.unit c.args.of.now.own.now in
     let uses = map use_of c.args.uses.now in
-    let K = RankStays (known_packages j) (change_in j) ds (package_of c.args.unit) c.args.file uses in
+    let K = RankStays (known_packages j) (change_in j) ds (package_of c.args.of.now.unit) c.args.file uses in
     let size : length uses ≡ length c.args.uses.now = length-map c.args.uses.now use_of in
     let end : c.loop-k.k ≡ length c.args.uses.now = omega arith in
     all_below K c.loop-k.k c.loop-k.first

@@ -22,31 +22,31 @@ returns-clause-takes c =
     let j = c.args.judge.now in
     let Known = known_packages j in
     let r = change_in j in
-    let p = package_of c.args.unit in
-    let ds = definitions_seen c.args.unit c.args.own.now in
-    let before = type_of c.args.found.now.before in
+    let p = package_of c.args.used.now.unit in
+    let ds = definitions_seen c.args.used.now.unit c.args.used.now.own.now in
+    let before = type_of c.args.used.now.found.now.before in
     let place = c.args.place in
     let old = c.args.old.now in
     let now = c.in_ok-now.now in
-    let K = IsMemberNow Known r ds p c.args.at before place in
+    let K = IsMemberNow Known r ds p c.args.used.now.at before place in
     let is : IsDeclarationFound K now =
     subst (λ n. IsDeclarationFound (IsMemberAfter Known r p.path (called_by j.moves.now place n) (λ s. (ds s).underlying) before) now) c.spelling-name.ensures
     c.in_ok-now.ensures in
     call_takes (IsOtherNoted Known (λ e. now ≡ Some e) place old) (IsOtherNoted Known K place old) c.args.first.now c.note_member.new.first
     c.note_member.result (other_found Known K place old now is (one_member_after (workspace_in j) (known_verdicts j) r p.path
-    (r.called place (spelled p c.args.at.file c.args.at.index)) (λ s. (ds s).underlying) before)) c.note_member.ensures.takes
+    (r.called place (spelled p c.args.used.now.at.file c.args.used.now.at.index)) (λ s. (ds s).underlying) before)) c.note_member.ensures.takes
 
 pub returns-clause-stays : goal.returns-clause-stays
 returns-clause-stays c =
     let j = c.args.judge.now in
     let Known = known_packages j in
     let r = change_in j in
-    let p = package_of c.args.unit in
-    let ds = definitions_seen c.args.unit c.args.own.now in
-    let before = type_of c.args.found.now.before in
+    let p = package_of c.args.used.now.unit in
+    let ds = definitions_seen c.args.used.now.unit c.args.used.now.own.now in
+    let before = type_of c.args.used.now.found.now.before in
     let place = c.args.place in
     let now = c.in_ok-now.now in
-    let K = IsMemberNow Known r ds p c.args.at before place in
+    let K = IsMemberNow Known r ds p c.args.used.now.at before place in
     let is : IsDeclarationFound K now =
     subst (λ n. IsDeclarationFound (IsMemberAfter Known r p.path (called_by j.moves.now place n) (λ s. (ds s).underlying) before) now) c.spelling-name.ensures
     c.in_ok-now.ensures in

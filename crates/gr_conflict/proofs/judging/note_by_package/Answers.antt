@@ -14,26 +14,26 @@ pub note-requires-clause-counts : goal.note-requires-clause-counts
 note-requires-clause-counts c =
     let j = c.args.judge.now in
     let r = change_in j in
-    let name = r.called c.args.place c.args.name.now in
-    all_counted r.after (IsExportAfter (workspace_in j) r c.args.behind.now name) c.in_ok-now.now
-    (counted_export (workspace_in j) r c.args.behind.now name) c.in_ok-now.ensures
+    let name = r.called c.args.place c.args.export.name.now in
+    all_counted r.after (IsExportAfter (workspace_in j) r c.args.export.path.now name) c.in_ok-now.now
+    (counted_export (workspace_in j) r c.args.export.path.now name) c.in_ok-now.ensures
 
 pub returns-clause-takes : goal.returns-clause-takes
 returns-clause-takes c =
     let j = c.args.judge.now in
     let r = change_in j in
     let now = c.in_ok-now.now in
-    let name = r.called c.args.place c.args.name.now in
-    let K = IsExportAfter (workspace_in j) r c.args.behind.now name in
+    let name = r.called c.args.place c.args.export.name.now in
+    let K = IsExportAfter (workspace_in j) r c.args.export.path.now name in
     call_takes (IsNoted (becomes_in j) (known_packages j) (λ d. now ≡ Some d) c.args.place c.args.old.now)
     (IsNoted (becomes_in j) (known_packages j) K c.args.place c.args.old.now)
     c.args.first.now c.note.new.first c.note.result
     (noted_found (becomes_in j) (known_packages j) K c.args.place c.args.old.now now c.in_ok-now.ensures
-    (one_export (workspace_in j) r c.args.behind.now name)) c.note.ensures.takes
+    (one_export (workspace_in j) r c.args.export.path.now name)) c.note.ensures.takes
 
 pub returns-clause-stays : goal.returns-clause-stays
 returns-clause-stays c =
     let j = c.args.judge.now in
     let r = change_in j in
-    let K = IsExportAfter (workspace_in j) r c.args.behind.now (r.called c.args.place c.args.name.now) in
+    let K = IsExportAfter (workspace_in j) r c.args.export.path.now (r.called c.args.place c.args.export.name.now) in
     call_stays (becomes_in j) K c.args.old.now c.in_ok-now.now c.note.new.first c.args.place c.note.result c.in_ok-now.ensures c.note.ensures.stays
