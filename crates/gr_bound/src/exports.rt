@@ -1,5 +1,5 @@
 //! What each package of a workspace exports, by name.
-ghost use Rattle.std.specs.Prelude.{◌≡◌, ◌<◌, ◌+◌, length, map, slice_get, IfOk, OnOk, MatchOption, ℕ};
+ghost use Rattle.std.specs.Prelude.{◌≡◌, ◌<◌, ◌+◌, length, map, IfOk, OnOk};
 ghost use Rattle.gr_text.specs.Packages.{package_paths};
 ghost use Rattle.gr_tree.specs.SourceFile.{source_of};
 ghost use Rattle.gr_meanings.specs.PackageOf.{package_in};
@@ -72,7 +72,7 @@ pub fn numbers_by(
 }
 
 /// The same of the package of a number.
-pub(crate) fn numbers_of(
+pub fn numbers_of(
     alloc: Global,
     packages: &Packages<'_>,
     number: usize,
@@ -86,7 +86,7 @@ pub(crate) fn numbers_of(
 }
 
 /// The same of the package of a number, which is read for it.
-pub(crate) fn numbers_at(
+pub fn numbers_at(
     alloc: Global,
     graph: &Graph,
     found: &Findings,
@@ -119,7 +119,7 @@ pub fn exports(
 }
 
 /// The number that a map has for a name.
-pub(crate) fn named(numbers: &BTreeMap<Vec<u8>, usize>, name: &[u8]) -> Option<usize>
+pub fn named(numbers: &BTreeMap<Vec<u8>, usize>, name: &[u8]) -> Option<usize>
     ensures { result ≡ number_named numbers.now name.now }
 {
     numbers.get(name).copied()
