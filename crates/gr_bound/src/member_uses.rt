@@ -1,5 +1,5 @@
 //! The members that are used: behind a dot, or as a key of a literal.
-ghost use Rattle.std.specs.Prelude.{◌≡◌, ◌<◌, Some, [], option_map, slice_get, IfOk};
+ghost use Rattle.std.specs.Prelude.{◌≡◌, Some, [], option_map, slice_get, IfOk};
 ghost use Rattle.gr_expr.specs.View.{type_of};
 ghost use Rattle.gr_expr.specs.World.{member_by};
 ghost use Rattle.gr_expr.specs.WorldView.{member_of, spelling_of};

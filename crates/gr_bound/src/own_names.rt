@@ -1,5 +1,5 @@
 //! The places of the names by which a package's own fields and methods are declared.
-ghost use Rattle.std.specs.Prelude.{◌≡◌, ◌<◌, Some, None, slice_index_or, if◌then◌else◌, IfOk};
+ghost use Rattle.std.specs.Prelude.{◌≡◌, Some, None, slice_index_or, if◌then◌else◌, IfOk};
 ghost use Rattle.gr_members.specs.MembersView.{AreCountingMethods};
 ghost use Rattle.gr_declared.specs.PackageView.{package_of, IsIndexOf};
 ghost use Rattle.gr_bound.specs.Binding.{IsFieldAt, IsMethodAt};

@@ -1,5 +1,5 @@
 //! The name under which the package of a declaration exports it.
-ghost use Rattle.std.specs.Prelude.{◌<◌, option_map, IfOk, Some};
+ghost use Rattle.std.specs.Prelude.{option_map, IfOk, Some};
 ghost use Rattle.gr_declared.specs.PackageView.{package_of};
 ghost use Rattle.gr_bound.specs.declared.declaration.Declaration.TheVariants.{Declared};
 ghost use Rattle.gr_bound.specs.Indexed.{IsNumbered};

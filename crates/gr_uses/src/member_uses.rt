@@ -1,5 +1,5 @@
 //! Where the member of a declaration is used: behind a dot, or as a key of a literal.
-ghost use Rattle.std.specs.Prelude.{◌≡◌, ◌<◌, ◌↔◌, Some, map, IsTrue, OnOk};
+ghost use Rattle.std.specs.Prelude.{◌≡◌, ◌↔◌, Some, map, IsTrue, OnOk};
 ghost use Rattle.gr_expr.specs.Found.{use_of};
 ghost use Rattle.gr_expr.specs.View.{type_of};
 ghost use Rattle.gr_declared.specs.PackageView.{package_of};

@@ -1,5 +1,5 @@
 //! The name by which the field or method of a declaration is declared.
-ghost use Rattle.std.specs.Prelude.{◌≡◌, ◌<◌, ◌↔◌, Some, None, slice_index_or, IsTrue, OnOk};
+ghost use Rattle.std.specs.Prelude.{◌≡◌, ◌↔◌, Some, None, slice_index_or, IsTrue, OnOk};
 ghost use Rattle.gr_declared.specs.PackageView.{package_of, IsIndexOf};
 ghost use Rattle.gr_bound.specs.declared.declaration.Declaration.TheVariants.{Field, Method};
 ghost use Rattle.gr_bound.specs.Binding.{BindsByName};
