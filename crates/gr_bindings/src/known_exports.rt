@@ -9,7 +9,7 @@ ghost use Rattle.gr_bound.specs.Packages.{ArePackages};
 ghost use Rattle.gr_bound.specs.Steps.{IsDeclarationFound};
 ghost use Rattle.gr_bound.specs.Workspaces.{IsSound, known_in, ExportsAs, IsExportedNumber};
 
-use gr_bound::exports::{named, numbers_at, numbers_of};
+use crate::exports::{named, numbers_at, numbers_of};
 use gr_bound::{Declaration, Packages, path_of};
 use gr_graph::Graph;
 use gr_verdict::{Findings, is_marked};

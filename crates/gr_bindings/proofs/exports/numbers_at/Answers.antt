@@ -6,7 +6,7 @@ use Rattle.gr_meanings.specs.PackageOf.{package_in}
 use Rattle.gr_declared.specs.InterfacesView.{interface_in}
 use Rattle.gr_bound.specs.Workspaces.{known_in}
 use Rattle.gr_bound.proofs.Units.{unit_at}
-use Rattle.gr_bound.proofs.exports.numbers_at.Goals as goal
+use Rattle.gr_bindings.proofs.exports.numbers_at.Goals as goal
 
 pub seen-requires-clause-whole : goal.seen-requires-clause-whole
 seen-requires-clause-whole c = c.requires.sound.findings.whole

@@ -6,7 +6,7 @@ use Rattle.gr_bound.specs.Exports.{AreNumbersAt}
 use Rattle.gr_bound.specs.Workspaces.{known_in}
 use Rattle.gr_bound.proofs.Exporting.{no_package}
 use Rattle.gr_bound.proofs.ExportNumbers.{not_exported, is_exported}
-use Rattle.gr_bound.proofs.exports.exported.Goals as goal
+use Rattle.gr_bindings.proofs.exports.exported.Goals as goal
 
 pub returns-in-None : goal.returns-in-None
 returns-in-None c = no_package c.args.graph.now (known_in c.args.found.now) c.args.path.now c.args.name.now c.in-None.ensures

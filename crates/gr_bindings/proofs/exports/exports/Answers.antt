@@ -5,7 +5,7 @@ use Rattle.gr_bound.specs.Exports.{AreNumbersAt}
 use Rattle.gr_bound.specs.Packages.{HoldsOfEach}
 use Rattle.gr_bound.specs.Workspaces.{known_in}
 use Rattle.gr_bound.proofs.Each.{none_yet, one_more}
-use Rattle.gr_bound.proofs.exports.exports.Goals as goal
+use Rattle.gr_bindings.proofs.exports.exports.Goals as goal
 
 pub loop-number-init : goal.loop-number-init
 loop-number-init c =
