@@ -8,7 +8,7 @@ mod own_names;
 mod package_uses;
 mod places;
 mod scope_uses;
-mod spots;
+mod sorting;
 mod unit_uses;
 mod workspace_uses;
 

@@ -17,7 +17,7 @@ use crate::exported_name::{declared_name, exported_under, own_name};
 use crate::may_use::{Sought, home_of, may_use};
 use crate::own_names::is_own;
 use crate::places::Places;
-use crate::spots::places;
+use crate::sorting::places;
 use crate::unit_uses::add_unit_uses;
 use gr_asked::declaration_in_unit;
 use gr_bound::indexed::{Indexed, Numbered, known_of, unit_of};

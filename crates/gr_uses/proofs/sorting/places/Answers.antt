@@ -1,9 +1,9 @@
--- The answers to the goals of `spots::places`.
+-- The answers to the goals of `sorting::places`.
 use Rattle.std.proofs.Common.{◌≡◌, map}
 use Rattle.std.proofs.lemmas.Result.{IfOk-weaker}
 use Rattle.gr_bound.specs.Steps.{place_of}
 use Rattle.gr_uses.proofs.Spots.{held_as}
-use Rattle.gr_uses.proofs.spots.places.Goals as goal
+use Rattle.gr_uses.proofs.sorting.places.Goals as goal
 
 pub returns-clause-each : goal.returns-clause-each
 returns-clause-each c =

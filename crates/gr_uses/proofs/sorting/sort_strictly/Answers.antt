@@ -1,8 +1,8 @@
--- The answers to the goals of `spots::sort_strictly`.
+-- The answers to the goals of `sorting::sort_strictly`.
 use Rattle.std.proofs.lemmas.List.Filters.{dedup_is}
 use Rattle.std.proofs.lemmas.List.Kept.{Any-dedup, Contains-from_dedup, IsStrictlySortedBy-dedup}
 use Rattle.std.proofs.lemmas.List.Sorted.{Contains-permutation, IsPermutation-sym}
-use Rattle.gr_uses.proofs.spots.sort_strictly.Goals as goal
+use Rattle.gr_uses.proofs.sorting.sort_strictly.Goals as goal
 
 pub returns-clause-keeps : goal.returns-clause-keeps
 returns-clause-keeps g c = λ x h.
