@@ -1,5 +1,5 @@
 //! What expressions stand for.
-ghost use Rattle.std.specs.Prelude.{◌≡◌, IfOk, map, option_map, is_some, false};
+ghost use Rattle.std.specs.Prelude.{◌≡◌, IfOk, map, option_map, is_some, false, true};
 ghost use Rattle.std.specs.List.{list_all};
 ghost use Rattle.gr_expr.specs.Judge.{value_kind, all_whole, result_meaning};
 ghost use Rattle.gr_expr.specs.View.{type_of, kind_of};
@@ -38,6 +38,17 @@ impl<'w> Meaning<'w> {
         Meaning::Value {
             kind,
             addressable: false,
+        }
+    }
+
+    /// A value that can be assigned, and whose address can be taken.
+    #[tactic(auto, unfolding(crate::specs::Found::meaning_of))]
+    pub(crate) fn variable(kind: Kind) -> Meaning<'w>
+        ensures { meaning_of result ≡ Value (kind_of kind) true }
+    {
+        Meaning::Value {
+            kind,
+            addressable: true,
         }
     }
 

@@ -9,7 +9,7 @@ ghost use Rattle.gr_expr.specs.Found.{meaning_of, Adds};
 use crate::found::Found;
 use crate::meaning::Meaning;
 use crate::places::FaultPlaces;
-use crate::types::{Kind, pointer_to};
+use crate::types::{GoType, Kind, pointer_to};
 use crate::world::{Shape, World};
 use gr_tree::syntax::{BinaryOp, PrefixOp};
 use std::alloc::{AllocError, Global};
@@ -41,23 +41,41 @@ impl World<'_> {
                     Ok(None)
                 }
             }
-            PrefixOp::Deref => self.behind(alloc, &kind),
+            PrefixOp::Deref => self.behind(alloc, kind),
         }
     }
 
-    /// What a pointer points to.
-    #[tactic(auto, unfolding(crate::specs::Found::meaning_of, crate::specs::View::kind_of, crate::specs::WorldView::shape_of))]
-    fn behind<'w>(&self, alloc: Global, kind: &Kind) -> Result<Option<Meaning<'w>>, AllocError>
+    /// What a pointer points to: of one that is written as a pointer the very part of its type.
+    #[tactic(auto, unfolding(crate::specs::View::kind_of, crate::specs::View::type_of))]
+    fn behind<'w>(&self, alloc: Global, kind: Kind) -> Result<Option<Meaning<'w>>, AllocError>
+        ensures { IfOk result (λ m. option_map meaning_of m ≡ pointee_of_kind (world_of self.now) (kind_of kind)) }
+    {
+        match kind {
+            Kind::Typed(GoType::Pointer(target)) => {
+                let target = Kind::Typed(Box::into_inner(target));
+                Ok(Some(Meaning::variable(target)))
+            }
+            kind => self.copied_behind(alloc, &kind),
+        }
+    }
+
+    /// What a pointer points to, in other memory.
+    #[tactic(auto, unfolding(crate::specs::View::kind_of, crate::specs::WorldView::shape_of))]
+    fn copied_behind<'w>(
+        &self,
+        alloc: Global,
+        kind: &Kind,
+    ) -> Result<Option<Meaning<'w>>, AllocError>
         ensures { IfOk result (λ m. option_map meaning_of m ≡ pointee_of_kind (world_of self.now) (kind_of kind.now)) }
     {
         let Kind::Typed(own) = kind else {
             return Ok(None);
         };
         match self.underlying(own) {
-            Shape::PointerTo(target) => Ok(Some(Meaning::Value {
-                kind: Kind::Typed(target.copy(alloc)?),
-                addressable: true,
-            })),
+            Shape::PointerTo(target) => {
+                let target = Kind::Typed(target.copy(alloc)?);
+                Ok(Some(Meaning::variable(target)))
+            }
             _ => Ok(None),
         }
     }
@@ -109,9 +127,28 @@ impl Found {
         }
     }
 
-    /// The meaning of an element of a slice.
-    #[tactic(auto, unfolding(crate::specs::Found::meaning_of, crate::specs::View::kind_of))]
+    /// The meaning of an element of a slice: of one that is written as a slice the very part of its type.
+    #[tactic(auto, unfolding(crate::specs::View::kind_of, crate::specs::View::type_of))]
     fn element<'w>(
+        &mut self,
+        alloc: Global,
+        world: &World<'w>,
+        start: usize,
+        slice: Kind,
+    ) -> Result<Meaning<'w>, AllocError>
+        ensures { IfOk result (λ m. Adds (element_meaning (element_of_kind (world_of world.now) (kind_of slice)) start) self.old self.new (meaning_of m)) }
+    {
+        match slice {
+            Kind::Typed(GoType::Slice(element)) => {
+                Ok(Meaning::variable(Kind::Typed(Box::into_inner(element))))
+            }
+            slice => self.copied_element(alloc, world, start, &slice),
+        }
+    }
+
+    /// The meaning of an element of a slice, in other memory.
+    #[tactic(auto, unfolding(crate::specs::Found::meaning_of, crate::specs::View::kind_of))]
+    fn copied_element<'w>(
         &mut self,
         alloc: Global,
         world: &World<'w>,
@@ -121,10 +158,10 @@ impl Found {
         ensures { IfOk result (λ m. Adds (element_meaning (element_of_kind (world_of world.now) (kind_of slice.now)) start) self.old self.new (meaning_of m)) }
     {
         match world.element_of(slice) {
-            Some(element) => Ok(Meaning::Value {
-                kind: Kind::Typed(element.copy(alloc)?),
-                addressable: true,
-            }),
+            Some(element) => {
+                let element = Kind::Typed(element.copy(alloc)?);
+                Ok(Meaning::variable(element))
+            }
             None => self.wrong(start),
         }
     }
@@ -148,7 +185,7 @@ impl Found {
             return self.wrong(at.place);
         }
         match operand {
-            Meaning::Value { kind, .. } => self.element(alloc, world, at.start, &kind),
+            Meaning::Value { kind, .. } => self.element(alloc, world, at.start, kind),
             _ => Ok(Meaning::Broken),
         }
     }

@@ -1,15 +1,18 @@
 -- The walk to the declaration that precedes all others, from the last identifier of its name in a region to the first.
-use Rattle.std.proofs.Common.{ℕ, ◌≡◌, ◌<◌, ◌≤◌, ◌⊎◌, inl, inr, List, [], ◌∷◌, length, get_or, Option, Some, None, refl, sym, ap, subst, arith, zero, suc}
+use Rattle.std.proofs.Common.{ℕ, ◌≡◌, ◌<◌, ◌≤◌, ◌⊎◌, inl, inr, List, [], ◌∷◌, length, get_or, Option, Some, None, refl, sym, ◌∙◌, ap, subst, arith, zero, suc}
 use Rattle.gr_scope.specs.declared.model.Identifier.{Identifier}
 use Rattle.gr_scope.specs.declared.region.Region.{Region}
 use Rattle.gr_scope.specs.Bindings.{Layout, Names, MayDeclare, InScope}
 use Rattle.gr_scope.specs.Leading.{Leads}
 use Rattle.gr_scope.specs.Regions.{keys_of, region_at}
-use Rattle.gr_scope.specs.Table.{layout_of, IsCandidate, IsNearest, Precedes, TakesOver}
+use Rattle.gr_scope.specs.Table.{layout_of, IsCandidate, IsInner, IsNearest, Precedes, TakesOver}
+use Rattle.gr_scope.specs.WellFormed.{FollowBlocks}
 use Rattle.std.specs.Option.{ForSome}
 use Rattle.std.proofs.lemmas.Bool.{cases_order}
 use Rattle.gr_scope.specs.Chains.{IsLinked, IsChain, IsLeft}
 use Rattle.gr_scope.proofs.Chains.{IsKnown, chain_left, walk_left, walk_before}
+use Rattle.gr_scope.proofs.Following.{not_seen_within}
+use Rattle.gr_scope.proofs.Leading.{leads_once}
 use Rattle.gr_scope.proofs.Nesting.{Nested}
 use Rattle.gr_scope.proofs.Innermost.{precedes_trans, precedes_asym, same_not_nests}
 use Rattle.gr_scope.proofs.KeptRegions.{pair, pair_same}
@@ -140,6 +143,32 @@ best_known xs names name R u at (Some b) h = λ x e.
     let same : b ≡ x = cc in
     let P : ℕ → Type 0 = λ v. v < length xs in
     subst P same (may_in_range xs b h.1.2.declares.may)
+
+left_lower : (at : Option ℕ) (d b : ℕ) → (IsLeft at b → ⊥) → IsLeft at d → d < b
+left_lower None d b passed left = absurd left
+left_lower (Some e) d b passed left = elim (cases_order d b) [
+  | inl same ↦ absurd (passed (let le : b ≤ e = omega arith in le))
+  | inr o ↦ elim o [ inl less ↦ less | inr more ↦ absurd (passed (let le : b ≤ e = omega arith in le)) ]
+]
+
+-- what is found in an inner block is nearer than all that is left
+pub best_stops : (l : Layout) → Nested l → FollowBlocks l → (names : Names) (name : List ℕ) (R : Region → Type 0) (u : ℕ) (at best : Option ℕ) →
+    IsInner l best → BestSoFar l names name R u at best → BestSoFar l names name R u None best
+best_stops l nested o names name R u at None i h = absurd i
+best_stops l nested o names name R u at (Some b) i h = (
+  λ k. k,
+  h.1,
+  λ d c. elim (h.2 d c) [
+    | inl left ↦ inr (elim (nested.comparable d b u c.2.declares.may h.1.2.declares.may c.1 h.1.1) [
+      | inl same ↦ inl (leads_once l names d b c.2 h.1.2 (c.0 ∙ sym h.1.0) same)
+      | inr r ↦ elim r [
+        | inl n ↦ absurd (not_seen_within l o d b u (left_lower at d b h.0 left) c.2.declares.may h.1.2.declares.may c.1 h.1.1 n i)
+        | inr n ↦ inr (inr n)
+      ]
+    ])
+    | inr x ↦ inr x
+  ],
+)
 
 -- at the end it is the best of all
 pub best_nearest : (l : Layout) (names : Names) (name : List ℕ) (R : Region → Type 0) (u : ℕ) (best : Option ℕ) → BestSoFar l names name R u None best →

@@ -12,10 +12,8 @@ use Rattle.gr_scope.specs.Site.{Site, found_site, sites_layout, sites_names}
 use Rattle.gr_scope.specs.Parsed.{spelled_file}
 use Rattle.gr_scope.specs.FileSites.{SpelledFile, file_sites, files_sites, universe, universe_site, package_sites}
 use Rattle.gr_scope.specs.Trees.{AreRising, IsNumbered, AreNumbered}
-use Rattle.gr_scope.specs.WellFormed.{WellFormed}
 use Rattle.gr_scope.specs.Found.{site_of, Adds}
 use Rattle.gr_scope.specs.Table.{role_at, place_at, name_at, layout_of, names_of}
-use Rattle.gr_scope.proofs.PackageRegions.{package_well_formed}
 use Rattle.std.proofs.lemmas.List.Elements.{All-cons, All-head, All-tail}
 use Rattle.std.proofs.lemmas.List.{length-map}
 use Rattle.gr_scan.specs.CutText.{tokens_in}
@@ -119,12 +117,6 @@ unfolding layout_made
 layout-sites xs =
     ap (λ r. layout_made r (λ i. place_at (slice_get xs i))) (fun_ext (same_role xs)) ∙
     ap (layout_made (λ i. (found_site (slice_get (map site_of xs) i)).role)) (fun_ext (same_place xs))
-
-pub declared_well_formed : (xs : List Identifier) (files : List SpelledFile) → map site_of xs ≡ package_sites files → AreNumbered files →
-    WellFormed (layout_of xs)
-declared_well_formed xs files e w =
-    let P : Layout → Type 0 = λ l. WellFormed l in
-    subst P (sym (layout-sites xs ∙ ap sites_layout e)) (package_well_formed files w)
 
 same_name : (xs : List Identifier) (i : ℕ) → name_at (slice_get xs i) ≡ (found_site (slice_get (map site_of xs) i)).name
 same_name [] i = refl

@@ -9,6 +9,7 @@ use Rattle.gr_scope.specs.declared.model.Identifier.{Identifier}
 use Rattle.gr_scope.specs.Bindings.{Layout, Names, Declares}
 use Rattle.gr_scope.specs.Chains.{AreLinks}
 use Rattle.gr_scope.specs.Known.{AreMarks, AreFirst, AreBindings, IsBinding}
+use Rattle.gr_scope.specs.Leading.{Leads}
 use Rattle.gr_scope.specs.Numbering.{told}
 use Rattle.gr_scope.specs.Table.{layout_of}
 use Rattle.gr_scope.proofs.Uniqueness.{same_or_not}
@@ -53,14 +54,16 @@ marks_none P marks e = record { sized = ap length e; exact = λ d x lt. absurd (
 
 -- the links and marks of one more identifier
 pub first_next : {S : Type 0} (xs : List Identifier) (numbers : List ℕ) (n : ℕ) (after : IndexMap Key ℕ S) (new : List (Option ℕ))
-    (declaring marked : List Bool) (mark : Bool) →
+    (declaring marked leading led : List Bool) (mark lead : Bool) →
     AreLinks (layout_of xs) (told numbers) after new → length new ≡ n + 1 → AreMarks (Declares (layout_of xs) (told numbers)) n declaring →
     marked ≡ declaring ++ (mark ∷ []) →
-    IsTrue mark ↔ Declares (layout_of xs) (told numbers) n → AreFirst xs numbers (n + 1) after new marked
-first_next xs numbers n after new declaring marked mark links sized marks e m = record {
+    IsTrue mark ↔ Declares (layout_of xs) (told numbers) n → AreMarks (Leads (layout_of xs) (told numbers)) n leading → led ≡ leading ++ (lead ∷ []) →
+    IsTrue lead ↔ Leads (layout_of xs) (told numbers) n → AreFirst xs numbers (n + 1) after new marked led
+first_next xs numbers n after new declaring marked leading led mark lead links sized marks e m firsts f h = record {
   links = links;
   sized = sized;
   marks = marks_next (Declares (layout_of xs) (told numbers)) n declaring marked mark marks e m;
+  firsts = marks_next (Leads (layout_of xs) (told numbers)) n leading led lead firsts f h;
 }
 
 pub bindings_none : (l : Layout) (names : Names) (bindings : List (Option ℕ)) → bindings ≡ [] → AreBindings l names 0 bindings

@@ -7,6 +7,7 @@ pub mod KeptRegions
 pub mod Chains
 pub mod Linking
 pub mod Leading
+pub mod Following
 pub mod Kept
 pub mod Best
 pub mod Combining

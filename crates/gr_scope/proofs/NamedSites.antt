@@ -17,9 +17,9 @@ use Rattle.gr_scope.specs.Named.{is_unnamed_import, named_where, named_site, nam
 use Rattle.gr_scope.specs.Site.{Site, found_site, sites_layout}
 use Rattle.gr_scope.specs.Table.{layout_of}
 use Rattle.gr_scope.specs.Trees.{AreNumbered}
-use Rattle.gr_scope.specs.WellFormed.{WellFormed, AreImportsLevel, IsIn}
+use Rattle.gr_scope.specs.WellFormed.{WellFormed, AreImportsLevel, FollowBlocks, IsLaidOut, IsIn}
 use Rattle.gr_scope.proofs.Declared.{layout-sites}
-use Rattle.gr_scope.proofs.PackageRegions.{From, may_at, each_at, not_may, package_agrees}
+use Rattle.gr_scope.proofs.PackageRegions.{From, may_at, each_at, not_may, package_agrees, package_well_formed, package_follows_blocks}
 
 -- one more identifier
 pub named_next : (names : ℕ → Option (List ℕ)) (xs : List Site) (u : ℕ) (d : Site) → u < length xs →
@@ -131,6 +131,20 @@ module _ (k l : Layout) (n : ℕ) (finite : (d : ℕ) → MayDeclare k d → d <
         subst P (sym (places x)) (w.left_directly x z f a b a' b' (left x e m) (may z h mz) (within x f a b e i) (within z f a' b' h j) lt le);
   }
 
+  pub follow_blocks_still : FollowBlocks l → FollowBlocks k
+  follow_blocks_still o = record {
+    before = λ d g f a b a' b' lt md mg i j out within_it.
+        let e = inner_stays d f a b i in
+        let h = inner_stays g f a' b' j in
+        let P : Role → Type 0 = λ r. start_of r < a' in
+        subst P (sym e) (o.before d g f a b a' b' lt (may d e md) (may g h mg) (within d f a b e i) (within g f a' b' h j) out within_it);
+    behind = λ d g f a b a' b' lt md mg i j out within_it.
+        let e = inner_stays d f a b i in
+        let h = inner_stays g f a' b' j in
+        let P : Role → Type 0 = λ r. b ≤ start_of r in
+        subst P (sym h) (o.behind d g f a b a' b' lt (may d e md) (may g h mg) (within d f a b e i) (within g f a' b' h j) out within_it);
+  }
+
 pub named_well_formed : (names : ℕ → Option (List ℕ)) (xs : List Site) → WellFormed (sites_layout xs) → AreImportsLevel (sites_layout xs) →
     WellFormed (sites_layout (named_sites names xs))
 named_well_formed names xs w level =
@@ -142,6 +156,14 @@ pub named_level : (names : ℕ → Option (List ℕ)) (xs : List Site) → WellF
 named_level names xs w level =
     imports_stay_level (sites_layout (named_sites names xs)) (sites_layout xs) (length (named_sites names xs)) (may_at (named_sites names xs))
     (role_stays names xs) (place_stays names xs) w level
+
+pub named_laid_out : (names : ℕ → Option (List ℕ)) (xs : List Site) → IsLaidOut (sites_layout xs) → IsLaidOut (sites_layout (named_sites names xs))
+named_laid_out names xs h = record {
+  well_formed = named_well_formed names xs h.well_formed h.imports;
+  imports = named_level names xs h.well_formed h.imports;
+  ordered = follow_blocks_still (sites_layout (named_sites names xs)) (sites_layout xs) (length (named_sites names xs)) (may_at (named_sites names xs))
+      (role_stays names xs) (place_stays names xs) h.well_formed h.imports h.ordered;
+}
 
 level_role : (r : Role) (f : ℕ) → (may_declare r ≡ true → (start_of r ≡ 0) ⊎ (block_of r ≡ File f → ⊥)) → block_of r ≡ File f → start_of r ≡ 0
 level_role Use f h e = refl
@@ -178,15 +200,16 @@ pub found_none : (names : ℕ → Option (List ℕ)) (none : List Identifier) (x
 unfolding named_sites
 found_none names none xs e = ap (map site_of) e
 
-pub named_list_well_formed : (names : ℕ → Option (List ℕ)) (xs : List Identifier) (ys : List Site) → map site_of xs ≡ named_sites names ys →
-    WellFormed (sites_layout ys) → AreImportsLevel (sites_layout ys) →
-    WellFormed (layout_of xs) × AreImportsLevel (layout_of xs)
-named_list_well_formed names xs ys e w level =
-    let P : Layout → Type 0 = λ l. WellFormed l × AreImportsLevel l in
-    subst P (sym (layout-sites xs ∙ ap sites_layout e)) (named_well_formed names ys w level, named_level names ys w level)
+pub named_list_laid_out : (names : ℕ → Option (List ℕ)) (xs : List Identifier) (ys : List Site) → map site_of xs ≡ named_sites names ys →
+    IsLaidOut (sites_layout ys) → IsLaidOut (layout_of xs)
+named_list_laid_out names xs ys e h = subst IsLaidOut (sym (layout-sites xs ∙ ap sites_layout e)) (named_laid_out names ys h)
 
-pub declared_level : (xs : List Identifier) (files : List SpelledFile) → map site_of xs ≡ package_sites files → AreNumbered files →
-    AreImportsLevel (layout_of xs)
-declared_level xs files e w =
-    let P : Layout → Type 0 = λ l. AreImportsLevel l in
-    subst P (sym (layout-sites xs ∙ ap sites_layout e)) (package_level files w)
+package_laid_out : (files : List SpelledFile) → AreNumbered files → IsLaidOut (sites_layout (package_sites files))
+package_laid_out files w = record {
+  well_formed = package_well_formed files w;
+  imports = package_level files w;
+  ordered = package_follows_blocks files w;
+}
+
+pub declared_laid_out : (xs : List Identifier) (files : List SpelledFile) → map site_of xs ≡ package_sites files → AreNumbered files → IsLaidOut (layout_of xs)
+declared_laid_out xs files e w = subst IsLaidOut (sym (layout-sites xs ∙ ap sites_layout e)) (package_laid_out files w)

@@ -5,7 +5,7 @@ use Rattle.std.proofs.lemmas.List.Elements.{All-head, All-tail}
 use Rattle.std.proofs.lemmas.Bool.{cases_order}
 use Rattle.gr_scope.specs.declared.model.Block.TheVariants.{Inner}
 use Rattle.gr_scope.specs.Bindings.{Layout, MayDeclare, start_of, is_left_name, may_declare}
-use Rattle.gr_scope.specs.WellFormed.{WellFormed, IsIn}
+use Rattle.gr_scope.specs.WellFormed.{WellFormed, FollowBlocks, IsIn}
 use Rattle.gr_scope.specs.Site.{Site, Source, found_site, sites_layout}
 use Rattle.gr_scope.specs.FileSites.{SpelledFile, file_sites, files_sites, universe, universe_site, package_sites}
 use Rattle.gr_scope.specs.Trees.{IsNumbered, AreNumbered}
@@ -185,8 +185,8 @@ module _ (xs : List Site) (each : Each (From 0) xs) (pairs : EachPair Related xs
     begins_outside = λ d e g p q p' q' md me hd he lt le. elim (cases_order d e) [
       | inl s ↦ (let x : p ≡ p' = same_from d e g p q p' q' s hd he in absurd (omega arith))
       | inr o ↦ elim o [
-        | inl less ↦ ((pair d e less md me).agree g p q p' q' hd he).second_outside lt le
-        | inr more ↦ ((pair e d more me md).agree g p' q' p q he hd).first_outside lt le
+        | inl less ↦ inr (((pair d e less md me).agree g p q p' q' hd he).second_outside lt le)
+        | inr more ↦ inl (((pair e d more me md).agree g p' q' p q he hd).first_outside lt le)
       ]
     ];
     in_order = λ d e md me s lt. (pair d e lt md me).in_order s;
@@ -201,5 +201,14 @@ module _ (xs : List Site) (each : Each (From 0) xs) (pairs : EachPair Related xs
     ];
   }
 
+  pub sites_follow_blocks : FollowBlocks l
+  sites_follow_blocks = record {
+    before = λ d e g p q p' q' lt md me hd he o i. ((pair d e lt md me).agree g p q p' q' hd he).first_outside o i;
+    behind = λ d e g p q p' q' lt md me hd he o i. ((pair d e lt md me).agree g p q p' q' hd he).second_outside o i;
+  }
+
 pub package_well_formed : (fs : List SpelledFile) → AreNumbered fs → WellFormed (sites_layout (package_sites fs))
 package_well_formed fs w = let h = package_agrees fs w in sites_well_formed (package_sites fs) h.0 h.1
+
+pub package_follows_blocks : (fs : List SpelledFile) → AreNumbered fs → FollowBlocks (sites_layout (package_sites fs))
+package_follows_blocks fs w = let h = package_agrees fs w in sites_follow_blocks (package_sites fs) h.0 h.1

@@ -79,8 +79,8 @@ Fits f a b n q x = may_declare x.role ≡ true → Flat x ⊎ (Own f a b n q x �
 -- what holds of two blocks and two beginnings of scopes
 pub record Agree (x y : Site) (p q s p' q' s' : ℕ) : Type 0 where
   pub blocks : ((q ≤ p') ⊎ (q' ≤ p)) ⊎ (((p' < p) × (q ≤ q')) ⊎ (((p < p') × (q' ≤ q)) ⊎ ((p ≡ p') × (q ≡ q'))))
-  pub first_outside : p < p' → q' ≤ q → (s < p') ⊎ (q' ≤ s)
-  pub second_outside : p' < p → q ≤ q' → (s' < p) ⊎ (q ≤ s')
+  pub first_outside : p < p' → q' ≤ q → s < p'
+  pub second_outside : p' < p → q ≤ q' → q ≤ s'
   pub first_directly : is_left_name x.role ≡ true → p < p' → q' ≤ q → (x.place.index < p') ⊎ (q' ≤ x.place.index)
   pub second_directly : is_left_name y.role ≡ true → p' < p → q ≤ q' → (y.place.index < p) ⊎ (q ≤ y.place.index)
 
@@ -139,7 +139,7 @@ module _ (f a b n q r : ℕ) (x y : Site) where
             let ut : u' ≡ fy.to = inner_to g p' u' f fy.from fy.to (sym j ∙ fy.block) in
             record {
               blocks = inr (inr (inl (omega arith, omega arith)));
-              first_outside = λ lt le. inl (omega arith);
+              first_outside = λ lt le. omega arith;
               second_outside = λ lt le. absurd (omega arith);
               first_directly = λ left lt le. inl (let w : x.place.index < start_of x.role = (sx.left left).3 in omega arith);
               second_directly = λ left lt le. absurd (omega arith);
@@ -163,7 +163,7 @@ module _ (f a b n q r : ℕ) (x y : Site) where
             record {
               blocks = inr (inl (omega arith, omega arith));
               first_outside = λ lt le. absurd (omega arith);
-              second_outside = λ lt le. inr (omega arith);
+              second_outside = λ lt le. omega arith;
               first_directly = λ left lt le. absurd (omega arith);
               second_directly = λ left lt le. inr (let w : suc q ≤ y.place.index = (sy.left left).2 in omega arith);
             };

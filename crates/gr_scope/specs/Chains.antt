@@ -1,10 +1,13 @@
 -- The identifiers that come first of one name in one region, in their blocks, from the last to the first.
 use Rattle.std.specs.Prelude.{ℕ, ◌≡◌, ◌<◌, ◌≤◌, List, length, Option, Some, None, slice_index_or}
 use Rattle.indexmap.specs.IndexMap.{IndexMap, get}
-use Rattle.gr_scope.specs.Bindings.{Layout, Names}
+use Rattle.gr_scope.specs.Bindings.{Layout, Names, MayDeclare, block_of}
 use Rattle.gr_scope.specs.Leading.{Leads}
 use Rattle.gr_scope.specs.Regions.{key_of, keys_of}
 use Rattle.gr_scope.specs.Table.{layout_of}
+use Rattle.gr_scope.specs.Scopes.{Nests}
+use Rattle.gr_scope.specs.declared.model.Block.{Block}
+use Rattle.gr_scope.specs.declared.model.Block.TheVariants.{Package}
 use Rattle.gr_scope.specs.declared.model.Identifier.{Identifier}
 use Rattle.gr_scope.specs.declared.links.Key.{Key}
 use Rattle.gr_scope.specs.contracts.links.KeyPartialEq.TheImpl as equal
@@ -43,3 +46,8 @@ pub record AreAllLinks {S : Type 0} (xs : List Identifier) (names : Names) (last
 abbrev pub IsLeft : Option ℕ → ℕ → Type 0
 IsLeft None d = ⊥
 IsLeft (Some k) d = d ≤ k
+
+-- of so many identifiers none declares in a block before one that declares in an inner block round it
+abbrev pub StaysOpen : Layout → ℕ → Block → Type 0
+StaysOpen l n block = (f e : ℕ) → f < e → e < n → MayDeclare l f → MayDeclare l e → block_of (l.role f) ≡ block → Nests block (block_of (l.role e)) →
+    Nests (block_of (l.role e)) Package → ⊥

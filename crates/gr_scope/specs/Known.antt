@@ -4,10 +4,10 @@ use Rattle.indexmap.specs.IndexMap.{IndexMap}
 use Rattle.gr_scope.specs.Bindings.{Layout, Names, Declares, IsBoundTo}
 use Rattle.gr_scope.specs.Chains.{AreLinks, AreAllLinks}
 use Rattle.gr_scope.specs.ByToken.{Numbers, AreIdentifiers}
+use Rattle.gr_scope.specs.Leading.{Leads}
 use Rattle.gr_scope.specs.Scoped.{ScopedPackage, layout_in, names_in}
 use Rattle.gr_scope.specs.Numbering.{told}
 use Rattle.gr_scope.specs.Table.{layout_of}
-use Rattle.gr_scope.specs.WellFormed.{WellFormed, AreImportsLevel}
 use Rattle.gr_scope.specs.declared.model.Identifier.{Identifier}
 use Rattle.gr_scope.specs.declared.links.Key.{Key}
 
@@ -16,18 +16,21 @@ pub record AreMarks (P : ℕ → Type 0) (n : ℕ) (marks : List Bool) : Type 0 
   pub sized : length marks ≡ n
   pub exact : (d : ℕ) (x : Bool) → d < n → IsTrue (slice_index_or marks d x) ↔ P d
 
--- the links of so many identifiers, and which of them declare, where names are told by their numbers
+-- the links of so many identifiers, which of them declare, and which come first of their name in their blocks, where names are told
+-- by their numbers
 pub record AreFirst {S : Type 0} (xs : List Identifier) (numbers : List ℕ) (n : ℕ) (last : IndexMap Key ℕ S) (previous : List (Option ℕ))
-    (declaring : List Bool) : Type 0 where
+    (declaring leading : List Bool) : Type 0 where
   pub links : AreLinks (layout_of xs) (told numbers) last previous
   pub sized : length previous ≡ n
   pub marks : AreMarks (Declares (layout_of xs) (told numbers)) n declaring
+  pub firsts : AreMarks (Leads (layout_of xs) (told numbers)) n leading
 
 -- those of all identifiers
-pub record AreDeclared {S : Type 0} (xs : List Identifier) (numbers : List ℕ) (last : IndexMap Key ℕ S) (previous : List (Option ℕ)) (declaring : List Bool)
-    : Type 0 where
+pub record AreDeclared {S : Type 0} (xs : List Identifier) (numbers : List ℕ) (last : IndexMap Key ℕ S) (previous : List (Option ℕ))
+    (declaring leading : List Bool) : Type 0 where
   pub links : AreAllLinks xs (told numbers) last previous
   pub marks : AreMarks (Declares (layout_of xs) (told numbers)) (length xs) declaring
+  pub firsts : AreMarks (Leads (layout_of xs) (told numbers)) (length xs) leading
 
 -- the declaration to which u is bound, or none
 abbrev pub IsBinding : Layout → Names → ℕ → Option ℕ → Type 0
@@ -47,8 +50,3 @@ pub record AreBound (l : Layout) (names : Names) (n : ℕ) (declaring : List Boo
 pub record AreKnown (p : ScopedPackage) (declaring : List Bool) (bound : List (Option ℕ)) (noted : Numbers) : Type 0 where
   pub known : AreBound (layout_in p) (names_in p) (length p.sites) declaring bound
   pub numbers : AreIdentifiers (layout_in p) (length p.sites) noted
-
--- identifiers that were taken from a package's files
-pub record AreLaidOut (xs : List Identifier) : Type 0 where
-  pub well_formed : WellFormed (layout_of xs)
-  pub imports : AreImportsLevel (layout_of xs)

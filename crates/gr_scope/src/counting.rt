@@ -4,12 +4,12 @@ ghost use Rattle.gr_scope.specs.Bindings.{Counts, IsUse, is_use, is_left_name, i
 ghost use Rattle.gr_scope.specs.Chains.{AreAllLinks};
 ghost use Rattle.gr_scope.specs.Known.{AreDeclared, IsBinding};
 ghost use Rattle.gr_scope.specs.Leading.{Leads, GivesWay, IsInPackage};
-ghost use Rattle.gr_scope.specs.WellFormed.{WellFormed};
+ghost use Rattle.gr_scope.specs.WellFormed.{IsLaidOut};
 ghost use Rattle.gr_scope.specs.Numbering.{told, AreInner};
 ghost use Rattle.gr_scope.specs.Table.{layout_of};
 
 use crate::declaring::Declared;
-use crate::links::{Key, Links, first_in, key_at};
+use crate::links::{Key, Links, first_in};
 use crate::model::{Block, Identifier, Role, Scope};
 use crate::nearest::binding;
 use crate::numbering::number_at;
@@ -53,21 +53,12 @@ impl Role {
 }
 
 /// Whether a declaration comes first of its name in its block.
-fn leads(identifiers: &[Identifier], links: &Links, d: usize) -> bool
+fn leads(identifiers: &[Identifier], declared: &Declared, d: usize) -> bool
     requires in_range { d < length identifiers.now }
-    requires linked { AreAllLinks identifiers.now (told links.now.names.items) links.now.last links.now.previous.items }
-    ensures { IsTrue result ↔ Leads (layout_of identifiers.now) (told links.now.names.items) d }
+    requires declared { AreDeclared identifiers.now declared.now.links.names.items declared.now.links.last declared.now.links.previous.items declared.now.declaring.items declared.now.leading.items }
+    ensures { IsTrue result ↔ Leads (layout_of identifiers.now) (told declared.now.links.names.items) d }
 {
-    let block = role_at(identifiers, d).block();
-    match first_in(
-        identifiers,
-        links,
-        key_at(identifiers, &links.names, d),
-        block,
-    ) {
-        None => false,
-        Some(e) => e == d,
-    }
+    declared.leading[d]
 }
 
 /// Whether d is an import, and its name is declared in the package's block.
@@ -92,18 +83,18 @@ fn is_package_level(identifiers: &[Identifier], links: &Links, name: usize) -> b
 }
 
 /// Whether an identifier is a declaration that counts.
-fn counts(identifiers: &[Identifier], links: &Links, d: usize) -> bool
+fn counts(identifiers: &[Identifier], declared: &Declared, d: usize) -> bool
     requires in_range { d < length identifiers.now }
-    requires linked { AreAllLinks identifiers.now (told links.now.names.items) links.now.last links.now.previous.items }
-    ensures { IsTrue result ↔ Counts (layout_of identifiers.now) (told links.now.names.items) d }
+    requires declared { AreDeclared identifiers.now declared.now.links.names.items declared.now.links.last declared.now.links.previous.items declared.now.declaring.items declared.now.leading.items }
+    ensures { IsTrue result ↔ Counts (layout_of identifiers.now) (told declared.now.links.names.items) d }
 {
-    leads(identifiers, links, d) && !gives_way(identifiers, links, d)
+    leads(identifiers, declared, d) && !gives_way(identifiers, &declared.links, d)
 }
 
 /// Whether an identifier is a lexical use.
 fn is_use(identifiers: &[Identifier], declared: &Declared, d: usize) -> bool
     requires in_range { d < length identifiers.now }
-    requires declared { AreDeclared identifiers.now declared.now.links.names.items declared.now.links.last declared.now.links.previous.items declared.now.declaring.items }
+    requires declared { AreDeclared identifiers.now declared.now.links.names.items declared.now.links.last declared.now.links.previous.items declared.now.declaring.items declared.now.leading.items }
     ensures { IsTrue result ↔ IsUse (layout_of identifiers.now) (told declared.now.links.names.items) d }
 {
     role_at(identifiers, d).is_use_unless(declared.declaring[d])
@@ -112,14 +103,14 @@ fn is_use(identifiers: &[Identifier], declared: &Declared, d: usize) -> bool
 /// The declaration to which an identifier is bound.
 pub(crate) fn bound_to(identifiers: &[Identifier], declared: &Declared, d: usize) -> Option<usize>
     requires in_range { d < length identifiers.now }
-    requires well_formed { WellFormed (layout_of identifiers.now) }
+    requires laid_out { IsLaidOut (layout_of identifiers.now) }
     requires inner { AreInner (layout_of identifiers.now) (length identifiers.now) declared.now.links.names.items declared.now.links.inner.items }
-    requires declared { AreDeclared identifiers.now declared.now.links.names.items declared.now.links.last declared.now.links.previous.items declared.now.declaring.items }
+    requires declared { AreDeclared identifiers.now declared.now.links.names.items declared.now.links.last declared.now.links.previous.items declared.now.declaring.items declared.now.leading.items }
     ensures { IsBinding (layout_of identifiers.now) (told declared.now.links.names.items) d result }
 {
     if is_use(identifiers, declared, d) {
         binding(identifiers, &declared.links, d)
-    } else if declared.declaring[d] && counts(identifiers, &declared.links, d) {
+    } else if declared.declaring[d] && counts(identifiers, declared, d) {
         Some(d)
     } else {
         None

@@ -7,7 +7,7 @@ ghost use Rattle.gr_scope.specs.Known.{AreDeclared, AreFirst};
 ghost use Rattle.gr_scope.specs.Leading.{HoldsAt, IsLeader, Leads};
 ghost use Rattle.gr_scope.specs.Numbering.{told, AreInner};
 ghost use Rattle.gr_scope.specs.Table.{layout_of};
-ghost use Rattle.gr_scope.specs.WellFormed.{WellFormed};
+ghost use Rattle.gr_scope.specs.WellFormed.{IsLaidOut, WellFormed};
 
 use crate::links::{Links, first_in, key_at};
 use crate::model::Identifier;
@@ -15,11 +15,12 @@ use crate::numbering::inner_names;
 use crate::resolve::{in_scope, role_at};
 use std::alloc::{AllocError, Global};
 
-/// Whether each identifier declares, and the links of those that come first of their name in their blocks.
+/// Whether each identifier declares, whether it comes first of its name in its block, and the links of those that do.
 #[derive(Drop)]
 pub struct Declared {
     pub links: Links,
     pub declaring: Vec<bool>,
+    pub leading: Vec<bool>,
 }
 
 /// Whether an identifier declares, and whether it comes first of its name in its block.
@@ -32,16 +33,18 @@ struct Standing {
 /// The first declaration of an identifier's name in its block, of those that are linked.
 fn leader(identifiers: &[Identifier], links: &Links, d: usize) -> Option<usize>
     requires in_range { d < length identifiers.now }
+    requires laid_out { IsLaidOut (layout_of identifiers.now) }
+    requires may_declare { MayDeclare (layout_of identifiers.now) d }
     requires next { length links.now.previous.items ≡ d }
     requires linked { AreLinks (layout_of identifiers.now) (told links.now.names.items) links.now.last links.now.previous.items }
     ensures { IsLeader (layout_of identifiers.now) (told links.now.names.items) d result }
 {
-    let block = role_at(identifiers, d).block();
+    let own = role_at(identifiers, d).block();
     first_in(
         identifiers,
         links,
         key_at(identifiers, &links.names, d),
-        block,
+        own,
     )
 }
 
@@ -98,7 +101,7 @@ fn standing_behind(
 /// What the next identifier does: one look-up where it may declare, and else none.
 fn standing_of(identifiers: &[Identifier], links: &Links, d: usize) -> Standing
     requires in_range { d < length identifiers.now }
-    requires well_formed { WellFormed (layout_of identifiers.now) }
+    requires laid_out { IsLaidOut (layout_of identifiers.now) }
     requires next { length links.now.previous.items ≡ d }
     requires linked { AreLinks (layout_of identifiers.now) (told links.now.names.items) links.now.last links.now.previous.items }
     ensures declares { IsTrue result.declares ↔ Declares (layout_of identifiers.now) (told links.now.names.items) d }
@@ -118,15 +121,16 @@ impl Declared {
     /// Adds the next identifier: two look-ups at most.
     fn add(&mut self, identifiers: &[Identifier], d: usize) -> Result<(), AllocError>
         requires in_range { d < length identifiers.now }
-        requires well_formed { WellFormed (layout_of identifiers.now) }
-        requires first { AreFirst identifiers.now self.old.links.names.items d self.old.links.last self.old.links.previous.items self.old.declaring.items }
-        ensures first { OnOk result (AreFirst identifiers.now self.old.links.names.items (d + 1) self.new.links.last self.new.links.previous.items self.new.declaring.items) }
+        requires laid_out { IsLaidOut (layout_of identifiers.now) }
+        requires first { AreFirst identifiers.now self.old.links.names.items d self.old.links.last self.old.links.previous.items self.old.declaring.items self.old.leading.items }
+        ensures first { OnOk result (AreFirst identifiers.now self.old.links.names.items (d + 1) self.new.links.last self.new.links.previous.items self.new.declaring.items self.new.leading.items) }
         ensures names { self.new.links.names.items ≡ self.old.links.names.items }
         ensures inner { self.new.links.inner.items ≡ self.old.links.inner.items }
     {
         let standing = standing_of(identifiers, &self.links, d);
         self.links.link(identifiers, d, standing.leads)?;
         self.declaring.push(standing.declares)?;
+        self.leading.push(standing.leads)?;
         Ok(())
     }
 }
@@ -137,8 +141,8 @@ pub(crate) fn declared_of(
     identifiers: &[Identifier],
     names: Vec<usize>,
 ) -> Result<Declared, AllocError>
-    requires { WellFormed (layout_of identifiers.now) }
-    ensures declared { IfOk result (λ r. AreDeclared identifiers.now r.links.names.items r.links.last r.links.previous.items r.declaring.items) }
+    requires { IsLaidOut (layout_of identifiers.now) }
+    ensures declared { IfOk result (λ r. AreDeclared identifiers.now r.links.names.items r.links.last r.links.previous.items r.declaring.items r.leading.items) }
     ensures names { IfOk result (λ r. r.links.names.items ≡ names.items) }
     ensures inner { IfOk result (λ r. AreInner (layout_of identifiers.now) (length identifiers.now) r.links.names.items r.links.inner.items) }
 {
@@ -146,6 +150,7 @@ pub(crate) fn declared_of(
     let mut declared = Declared {
         links: Links::new(alloc, names, inner),
         declaring: Vec::new(alloc),
+        leading: Vec::new(alloc),
     };
     for d in 0..identifiers.len() {
         declared.add(identifiers, d)?;

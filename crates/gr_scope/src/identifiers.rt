@@ -4,7 +4,7 @@ ghost use Rattle.gr_tree.specs.SourceFile.{source_of, offset_of};
 ghost use Rattle.gr_scope.specs.Found.{site_of};
 ghost use Rattle.gr_scope.specs.Scoped.{layout_in, names_in, IsPlaceOf, BeginsAt};
 ghost use Rattle.gr_scope.specs.Table.{layout_of, IsFirstOf};
-ghost use Rattle.gr_scope.specs.WellFormed.{WellFormed, AreImportsLevel};
+ghost use Rattle.gr_scope.specs.WellFormed.{WellFormed, IsLaidOut};
 
 use crate::model::{Identifier, Position, Role};
 use crate::resolve::{name_at, place_at, role_at};
@@ -26,7 +26,8 @@ impl<'a> Model for Identifiers<'a> {
     ghost use Rattle.gr_tree.specs.contracts.tree.File as e;
     ghost use Rattle.gr_scope.specs.Found.{site_of};
     ghost use Rattle.gr_scope.specs.Scoped.{ScopedPackage};
-    ghost use Rattle.gr_scope.specs.Known.{AreLaidOut};
+    ghost use Rattle.gr_scope.specs.Table.{layout_of};
+    ghost use Rattle.gr_scope.specs.WellFormed.{IsLaidOut};
 
     ghost Value = { ScopedPackage };
 
@@ -34,7 +35,7 @@ impl<'a> Model for Identifiers<'a> {
 
     ghost view = { λ t. record { files = t.files.now; sites = map site_of t.list.items } };
 
-    ghost invariant = { λ t. AreLaidOut t.list.items };
+    ghost invariant = { λ t. IsLaidOut (layout_of t.list.items) };
 }
 
 /// Whether a token of a file begins at a place.
@@ -59,8 +60,7 @@ fn is_place(files: &[FileTree], at: Position, place: &Place) -> bool
 impl<'a> Identifiers<'a> {
     /// Identifiers that were taken from files.
     pub(crate) fn new(files: &'a [FileTree], list: Vec<Identifier<'a>>) -> Identifiers<'a>
-        requires well_formed { WellFormed (layout_of list.items) }
-        requires imports { AreImportsLevel (layout_of list.items) }
+        requires { IsLaidOut (layout_of list.items) }
         ensures files { result.files ≡ files.now }
         ensures sites { result.sites ≡ map site_of list.entry.items }
     {
@@ -81,9 +81,10 @@ impl<'a> Identifiers<'a> {
         let _list = &self.list;
     }
 
-    /// What is declared in a file's block is seen from the file's beginning.
-    pub(crate) fn imports_are_level(&self)
-        ensures { AreImportsLevel (layout_in self.now) }
+    /// More of their layout: what is declared in a file's block is seen from the file's beginning, and blocks are opened and
+    /// closed in the order of declarations.
+    pub(crate) fn are_laid_out(&self)
+        ensures { IsLaidOut (layout_in self.now) }
     {
         let _list = &self.list;
     }

@@ -5,7 +5,7 @@ ghost use Rattle.gr_scope.specs.ByToken.{number_at};
 ghost use Rattle.gr_scope.specs.Known.{AreBindings, AreBound, AreDeclared, AreKnown};
 ghost use Rattle.gr_scope.specs.Numbering.{told, AreInner};
 ghost use Rattle.gr_scope.specs.Table.{layout_of, names_of};
-ghost use Rattle.gr_scope.specs.WellFormed.{WellFormed};
+ghost use Rattle.gr_scope.specs.WellFormed.{IsLaidOut};
 
 use crate::by_token::{ByToken, identifiers_by_token};
 use crate::counting::bound_to;
@@ -37,9 +37,9 @@ fn bindings_of(
     identifiers: &[Identifier],
     declared: &Declared,
 ) -> Result<Vec<Option<DeclId>>, AllocError>
-    requires well_formed { WellFormed (layout_of identifiers.now) }
+    requires laid_out { IsLaidOut (layout_of identifiers.now) }
     requires inner { AreInner (layout_of identifiers.now) (length identifiers.now) declared.now.links.names.items declared.now.links.inner.items }
-    requires declared { AreDeclared identifiers.now declared.now.links.names.items declared.now.links.last declared.now.links.previous.items declared.now.declaring.items }
+    requires declared { AreDeclared identifiers.now declared.now.links.names.items declared.now.links.last declared.now.links.previous.items declared.now.declaring.items declared.now.leading.items }
     ensures { IfOk result (λ found. AreBindings (layout_of identifiers.now) (told declared.now.links.names.items) (length identifiers.now) found.items) }
 {
     let mut found = Vec::new(alloc);
@@ -55,7 +55,7 @@ fn told_bound(
     identifiers: &[Identifier],
     names: Vec<usize>,
 ) -> Result<Bound, AllocError>
-    requires { WellFormed (layout_of identifiers.now) }
+    requires { IsLaidOut (layout_of identifiers.now) }
     ensures { IfOk result (λ bound. AreBound (layout_of identifiers.now) (told names.items) (length identifiers.now) bound.declaring.items bound.bindings.items) }
 {
     let declared = declared_of(alloc, identifiers, names)?;
@@ -68,7 +68,7 @@ fn told_bound(
 
 /// Which identifiers declare, and to what each is bound.
 fn bound_of(alloc: Global, identifiers: &[Identifier]) -> Result<Bound, AllocError>
-    requires { WellFormed (layout_of identifiers.now) }
+    requires { IsLaidOut (layout_of identifiers.now) }
     ensures { IfOk result (λ bound. AreBound (layout_of identifiers.now) (names_of identifiers.now) (length identifiers.now) bound.declaring.items bound.bindings.items) }
 {
     let names = numbers_of(alloc, identifiers)?;
@@ -79,7 +79,7 @@ fn bound_of(alloc: Global, identifiers: &[Identifier]) -> Result<Bound, AllocErr
 pub(crate) fn known_of(alloc: Global, identifiers: &Identifiers) -> Result<Known, AllocError>
     ensures { IfOk result (λ known. AreKnown identifiers.now known.declaring.items known.bindings.items (number_at known.numbers)) }
 {
-    identifiers.is_well_formed();
+    identifiers.are_laid_out();
     let bound = bound_of(alloc, identifiers.as_slice())?;
     let numbers = identifiers_by_token(alloc, identifiers)?;
     Ok(Known {

@@ -1,10 +1,12 @@
 //! Which identifiers of a package are the first to declare one name in their blocks, by the name's number and region.
 ghost use Rattle.std.specs.Prelude.{ℕ, ◌≡◌, ◌≤◌, ◌<◌, ◌+◌, ◌↔◌, length, IsTrue, MatchOption, OnOk};
 ghost use Rattle.gr_scope.specs.Bindings.{Layout, Names};
-ghost use Rattle.gr_scope.specs.Chains.{AreLinks, IsChain, IsKeyed};
+ghost use Rattle.gr_scope.specs.Chains.{AreLinks, IsChain, IsKeyed, StaysOpen};
 ghost use Rattle.gr_scope.specs.Leading.{Leads, LeadsIn};
+ghost use Rattle.gr_scope.specs.declared.model.Block.TheVariants.{Package};
 ghost use Rattle.gr_scope.specs.Regions.{key_of, keys_of};
 ghost use Rattle.gr_scope.specs.Numbering.{told};
+ghost use Rattle.gr_scope.specs.Scopes.{Nests};
 ghost use Rattle.gr_scope.specs.Table.{layout_of};
 
 use crate::model::{Block, Identifier};
@@ -103,7 +105,15 @@ impl Links {
     }
 }
 
-/// The declaration of a name that comes first in a block, of those that are linked.
+/// Whether a block lies in another, an inner one.
+fn lies_in(block: Block, outer: Block) -> bool
+    ensures { IsTrue result ↔ (Nests block outer × Nests outer Package) }
+{
+    block.nests(outer) && outer.nests(Block::Package)
+}
+
+/// The declaration of a name that comes first in a block, of those that are linked. Before a declaration of an inner block round
+/// it there is none.
 pub(crate) fn first_in(
     identifiers: &[Identifier],
     links: &Links,
@@ -112,16 +122,22 @@ pub(crate) fn first_in(
 ) -> Option<usize>
     requires within { length links.now.previous.items ≤ length identifiers.now }
     requires linked { AreLinks (layout_of identifiers.now) (told links.now.names.items) links.now.last links.now.previous.items }
+    requires open { StaysOpen (layout_of identifiers.now) (length links.now.previous.items) block }
     ensures { let P = LeadsIn (layout_of identifiers.now) (told links.now.names.items) (key_of key) block in
         MatchOption result ((e : ℕ) → e < length links.now.previous.items → P e → ⊥) (λ e. (e < length links.now.previous.items) × P e) }
 {
     let chain = links.chain(key);
     let mut at = chain.last;
     while let Some(e) = at {
-        if role_at(identifiers, e).block().same(block) {
+        let found = role_at(identifiers, e).block();
+        if found.same(block) {
             return Some(e);
         }
-        at = chain.previous[e];
+        at = if lies_in(block, found) {
+            None
+        } else {
+            chain.previous[e]
+        };
     }
     None
 }

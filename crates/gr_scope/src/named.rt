@@ -86,8 +86,7 @@ pub fn name_imports<'a>(
 ) -> Result<ScopeTable<'a>, AllocError>
     ensures { IfOk result (λ laid. laid ≡ named (name_given names.now) plain.now) }
 {
-    plain.is_well_formed();
-    plain.imports_are_level();
+    plain.are_laid_out();
     let list = named_identifiers(alloc, plain.as_slice(), names)?;
     known_table(alloc, Identifiers::new(plain.files(), list))
 }

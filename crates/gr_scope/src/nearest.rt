@@ -6,7 +6,7 @@ ghost use Rattle.gr_scope.specs.Chains.{AreAllLinks};
 ghost use Rattle.gr_scope.specs.Numbering.{told, AreInner};
 ghost use Rattle.gr_scope.specs.Regions.{Surrounds};
 ghost use Rattle.gr_scope.specs.Table.{IsCandidate, IsInner, IsNearer, IsNearest, TakesOver, layout_of};
-ghost use Rattle.gr_scope.specs.WellFormed.{WellFormed};
+ghost use Rattle.gr_scope.specs.WellFormed.{IsLaidOut};
 
 use crate::links::{Key, Links};
 use crate::model::{Block, Identifier};
@@ -17,7 +17,7 @@ use crate::resolve::{in_scope, place_at, role_at};
 /// The declaration to which the name of u is bound at the place of u: the nearest one round it, or one of no file.
 pub(crate) fn binding(identifiers: &[Identifier], links: &Links, u: usize) -> Option<usize>
     requires in_range { u < length identifiers.now }
-    requires well_formed { WellFormed (layout_of identifiers.now) }
+    requires laid_out { IsLaidOut (layout_of identifiers.now) }
     requires inner { AreInner (layout_of identifiers.now) (length identifiers.now) links.now.names.items links.now.inner.items }
     requires linked { AreAllLinks identifiers.now (told links.now.names.items) links.now.last links.now.previous.items }
     ensures { let l = layout_of identifiers.now in
@@ -37,7 +37,7 @@ pub(crate) fn binding(identifiers: &[Identifier], links: &Links, u: usize) -> Op
 /// inner block may declare the name.
 fn around(identifiers: &[Identifier], links: &Links, name: usize, u: usize) -> Option<usize>
     requires in_range { u < length identifiers.now }
-    requires well_formed { WellFormed (layout_of identifiers.now) }
+    requires laid_out { IsLaidOut (layout_of identifiers.now) }
     requires inner { AreInner (layout_of identifiers.now) (length identifiers.now) links.now.names.items links.now.inner.items }
     requires linked { AreAllLinks identifiers.now (told links.now.names.items) links.now.last links.now.previous.items }
     ensures { let l = layout_of identifiers.now in
@@ -62,7 +62,7 @@ fn nearest_around(
     at: usize,
 ) -> Option<usize>
     requires in_range { u < length identifiers.now }
-    requires well_formed { WellFormed (layout_of identifiers.now) }
+    requires laid_out { IsLaidOut (layout_of identifiers.now) }
     requires linked { AreAllLinks identifiers.now (told links.now.names.items) links.now.last links.now.previous.items }
     ensures { let l = layout_of identifiers.now in
         IsNearest l (IsCandidate l (told links.now.names.items) (name ∷ []) (Surrounds (l.place u).file sizes at) u) result }
@@ -102,7 +102,8 @@ fn nearer(identifiers: &[Identifier], first: Option<usize>, second: Option<usize
     }
 }
 
-/// The nearest declaration of a name whose scope holds the place of u, among those that are kept in a region.
+/// The nearest declaration of a name whose scope holds the place of u, among those that are kept in a region. Found in an inner
+/// block it is nearer than all that come before it, since the blocks of these are closed or lie round it.
 fn nearest_in(
     identifiers: &[Identifier],
     links: &Links,
@@ -111,7 +112,7 @@ fn nearest_in(
     u: usize,
 ) -> Option<usize>
     requires in_range { u < length identifiers.now }
-    requires well_formed { WellFormed (layout_of identifiers.now) }
+    requires laid_out { IsLaidOut (layout_of identifiers.now) }
     requires linked { AreAllLinks identifiers.now (told links.now.names.items) links.now.last links.now.previous.items }
     ensures { let l = layout_of identifiers.now in
         IsNearest l (IsCandidate l (told links.now.names.items) (name ∷ []) (λ r. r ≡ region) u) result }
@@ -123,7 +124,11 @@ fn nearest_in(
         if improves(identifiers, u, best, d) {
             best = Some(d);
         }
-        at = chain.previous[d];
+        at = if is_inner(identifiers, best) {
+            None
+        } else {
+            chain.previous[d]
+        };
     }
     best
 }

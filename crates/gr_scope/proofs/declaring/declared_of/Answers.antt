@@ -1,6 +1,7 @@
 -- The answers to the goals of `declaring::declared_of`.
 use Rattle.std.proofs.Common.{ℕ, List, Bool, length, refl, sym, subst, ◌∙◌}
 use Rattle.gr_scope.specs.Bindings.{Declares}
+use Rattle.gr_scope.specs.Leading.{Leads}
 use Rattle.gr_scope.specs.Numbering.{told, AreInner}
 use Rattle.gr_scope.specs.Table.{layout_of}
 use Rattle.gr_scope.proofs.Kept.{marks_none}
@@ -15,6 +16,7 @@ loop-d-init c =
         links = c.new.ensures.linked l names;
         sized = c.new.ensures.none;
         marks = marks_none (Declares l names) c.new-2.result.items c.new-2.ensures.items;
+        firsts = marks_none (Leads l names) c.new-3.result.items c.new-3.ensures.items;
       };
       names = refl;
       inner = refl;

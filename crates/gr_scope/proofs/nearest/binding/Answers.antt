@@ -17,8 +17,8 @@ returns c =
     let is : c.number_at-name.result ∷ [] ≡ names u = ap (λ n. n ∷ []) (c.number_at-name.ensures ∙ ap (λ xs. number_at xs u) c.deref.ensures.value) in
     let A : List ℕ → Type 0 = λ n. IsNearest l (IsCandidate l names n (Surrounds (l.place u).file 6 ((l.place u).index / 16)) u) c.around-around.result in
     let B : List ℕ → Type 0 = λ n. IsNearest l (IsCandidate l names n (λ r. r ≡ regions.Package) u) c.nearest_in-outside.result in
-    nearest_binds l c.requires.well_formed names (names u) u c.nearer.result
-    (nearest_of_both l (nests l c.requires.well_formed) names (names u) u (Surrounds (l.place u).file 6 ((l.place u).index / 16)) (λ r. r ≡ regions.Package)
+    nearest_binds l c.requires.laid_out.well_formed names (names u) u c.nearer.result
+    (nearest_of_both l (nests l c.requires.laid_out.well_formed) names (names u) u (Surrounds (l.place u).file 6 ((l.place u).index / 16)) (λ r. r ≡ regions.Package)
     c.around-around.result c.nearest_in-outside.result c.nearer.result (subst A is c.around-around.ensures)
     (subst B is c.nearest_in-outside.ensures) c.nearer.ensures)
 
@@ -29,7 +29,7 @@ returns-then-is_inner c =
     let u = c.args.u in
     let is : c.number_at-name.result ∷ [] ≡ names u = ap (λ n. n ∷ []) (c.number_at-name.ensures ∙ ap (λ xs. number_at xs u) c.deref.ensures.value) in
     let A : List ℕ → Type 0 = λ n. IsNearest l (IsCandidate l names n (Surrounds (l.place u).file 6 ((l.place u).index / 16)) u) c.around-around.result in
-    nearest_binds l c.requires.well_formed names (names u) u c.around-around.result
-    (inner_nearest l c.requires.well_formed names (names u) u (Surrounds (l.place u).file 6 ((l.place u).index / 16)) c.around-around.result
+    nearest_binds l c.requires.laid_out.well_formed names (names u) u c.around-around.result
+    (inner_nearest l c.requires.laid_out.well_formed names (names u) u (Surrounds (l.place u).file 6 ((l.place u).index / 16)) c.around-around.result
     (c.is_inner.ensures.0 c.if-is_inner.true)
     (subst A is c.around-around.ensures))
