@@ -6,14 +6,14 @@ use Rattle.gr_edit.specs.EditSet.{FileChanges}
 use Rattle.gr_edit.specs.declared.change.FileChange.{FileChange}
 use Rattle.gr_keep.specs.Changes.{AreMarks, MarkFolders}
 use Rattle.gr_affected.specs.Affected.{IsUnaffected}
-use Rattle.gr_affected.specs.declared.marking.Change.{Change}
+use Rattle.gr_affected.specs.declared.marking.MarkedChange.{MarkedChange}
 
 -- the folders of changed files
 abbrev pub folders_of : List FileChange → List (List ℕ)
 folders_of changed = map (λ c. folder c.path) changed
 
 -- the packages that have other files then, before and after, and those that hold a file that is among the changed ones
-pub record IsRead (c : Change) : Type 0 where
+pub record IsRead (c : MarkedChange) : Type 0 where
   pub before_marks : AreMarks c.before.now c.after.now c.marks.before.items
   pub after_marks : AreMarks c.after.now c.before.now c.marks.after.items
   pub touched : MarkFolders c.before.now (folders_of c.edits.now.changed) c.touched.items

@@ -31,7 +31,7 @@ fn touched_marks(
 
 /// A change of a workspace, with the packages that it changes itself.
 #[derive(Drop)]
-struct Change<'a> {
+struct MarkedChange<'a> {
     before: &'a Graph,
     edits: &'a EditSet,
     after: &'a Graph,
@@ -39,13 +39,13 @@ struct Change<'a> {
     touched: Vec<bool>,
 }
 
-impl<'a> Change<'a> {
+impl<'a> MarkedChange<'a> {
     fn of(
         alloc: Global,
         before: &'a Graph,
         edits: &'a EditSet,
         after: &'a Graph,
-    ) -> Result<Change<'a>, AllocError>
+    ) -> Result<MarkedChange<'a>, AllocError>
         ensures before { IfOk result (λ change. change.before.now ≡ before.now) }
         ensures edits { IfOk result (λ change. change.edits.now ≡ edits.now) }
         ensures after { IfOk result (λ change. change.after.now ≡ after.now) }
@@ -53,7 +53,7 @@ impl<'a> Change<'a> {
     {
         let marks = changed_marks(alloc, before, after)?;
         let touched = touched_marks(alloc, before, edits.changed())?;
-        Ok(Change {
+        Ok(MarkedChange {
             before,
             edits,
             after,
@@ -140,7 +140,7 @@ pub fn affected_by(
     ensures before { IfOk result (λ marks. AreAffected before.now before.now after.now edits.now marks.before.items) }
     ensures then { IfOk result (λ marks. AreAffected after.now before.now after.now edits.now marks.then.items) }
 {
-    let change = Change::of(alloc, before, edits, after)?;
+    let change = MarkedChange::of(alloc, before, edits, after)?;
     Ok(Affected {
         before: change.before_marks(alloc)?,
         then: change.then_marks(alloc)?,

@@ -18,4 +18,5 @@ pub mod Typed
 pub mod Fine
 pub mod Rules
 pub mod Begun
+pub mod OwnLocals
 pub mod Scoped

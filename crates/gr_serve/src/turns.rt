@@ -4,7 +4,7 @@ use std::sync::{Mutex, Wait};
 
 /// What the one whose turn it is accepts from.
 #[derive(Drop)]
-pub(crate) struct Turn {
+pub(crate) struct Accepting {
     listener: UnixListener,
     /// How many connections are still to be accepted, if not all.
     left: Option<u32>,
@@ -12,7 +12,7 @@ pub(crate) struct Turn {
     has_failed: bool,
 }
 
-impl Turn {
+impl Accepting {
     /// The next connection, if there is to be one. The last was accepted once it fails.
     fn next(&mut self) -> Option<UnixStream> {
         if self.is_over || self.left == Some(0) {
@@ -40,13 +40,13 @@ impl Turn {
 /// Gives turns at accepting.
 #[derive(Drop)]
 pub(crate) struct Turns {
-    pub(crate) turn: Mutex<Turn>,
+    pub(crate) turn: Mutex<Accepting>,
 }
 
 impl Turns {
     pub(crate) fn new(listener: UnixListener, left: Option<u32>) -> Turns {
         Turns {
-            turn: Mutex::new(Turn {
+            turn: Mutex::new(Accepting {
                 listener,
                 left,
                 is_over: false,

@@ -4,7 +4,7 @@ use std::alloc::AllocError;
 use thiserror::Error;
 
 #[derive(Debug, Drop, Error)]
-pub enum Fault {
+pub enum ProgramFault {
     #[error("memory fault")]
     Memory,
     #[error("read fault")]
@@ -15,19 +15,19 @@ pub enum Fault {
     Turns,
 }
 
-impl From<AllocError> for Fault {
-    fn from(_: AllocError) -> Fault {
-        Fault::Memory
+impl From<AllocError> for ProgramFault {
+    fn from(_: AllocError) -> ProgramFault {
+        ProgramFault::Memory
     }
 }
 
-impl From<SessionFault> for Fault {
-    fn from(fault: SessionFault) -> Fault {
+impl From<SessionFault> for ProgramFault {
+    fn from(fault: SessionFault) -> ProgramFault {
         match fault {
-            SessionFault::Memory => Fault::Memory,
-            SessionFault::Read => Fault::Read,
-            SessionFault::Write => Fault::Write,
-            SessionFault::Turns => Fault::Turns,
+            SessionFault::Memory => ProgramFault::Memory,
+            SessionFault::Read => ProgramFault::Read,
+            SessionFault::Write => ProgramFault::Write,
+            SessionFault::Turns => ProgramFault::Turns,
         }
     }
 }

@@ -3,7 +3,7 @@
 
 mod fault;
 
-use fault::Fault;
+use fault::ProgramFault;
 use gr_pool::OpenGate;
 use gr_serve::serve;
 use gr_text::Limits;
@@ -19,10 +19,10 @@ const NOT_UTF8: &str =
     "error: a word is not UTF-8\n\nUsage: gorefd <COMMAND>\n\nFor more information, try '--help'.\n";
 
 /// Serves one session over standard input and output.
-fn run(rt: &(impl Input + Print + AllocGlobal)) -> Result<(), Fault> {
+fn run(rt: &(impl Input + Print + AllocGlobal)) -> Result<(), ProgramFault> {
     let alloc = rt.alloc();
-    let input = BufReader::new(alloc, rt.reader()).map_err(|_| Fault::Memory)?;
-    let output = BufWriter::new(alloc, std::io::writer(rt)).map_err(|_| Fault::Memory)?;
+    let input = BufReader::new(alloc, rt.reader()).map_err(|_| ProgramFault::Memory)?;
+    let output = BufWriter::new(alloc, std::io::writer(rt)).map_err(|_| ProgramFault::Memory)?;
     let (ended, _output) = session_alone(alloc, input, output, Limits::FULL);
     ended?;
     Ok(())
@@ -32,7 +32,7 @@ fn run(rt: &(impl Input + Print + AllocGlobal)) -> Result<(), Fault> {
 fn settled<R: Print + Eprint>(rt: &R, entries: u64) -> ExitCode {
     match println!(rt; "settled {entries}") {
         Ok(()) => ExitCode::SUCCESS,
-        Err(_) => ended(rt, Fault::Write),
+        Err(_) => ended(rt, ProgramFault::Write),
     }
 }
 
@@ -45,10 +45,10 @@ fn ended(rt: &impl Eprint, fault: impl Display + Drop) -> ExitCode {
 /// Tells what is told of words that ask nothing, and gives the exit status.
 fn told<R: Print + Eprint>(rt: &R, fault: &WordsFault) -> ExitCode {
     match fault {
-        WordsFault::Memory => ended(rt, Fault::Memory),
+        WordsFault::Memory => ended(rt, ProgramFault::Memory),
         WordsFault::Help(text) => match print!(rt; "{text}") {
             Ok(()) => ExitCode::SUCCESS,
-            Err(_) => ended(rt, Fault::Write),
+            Err(_) => ended(rt, ProgramFault::Write),
         },
         WordsFault::Usage(text) => {
             let _ = eprint!(rt; "{text}");

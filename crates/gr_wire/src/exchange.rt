@@ -55,7 +55,7 @@ fn answer<D: Desk>(alloc: Global, desk: &mut D, message: Message) -> Response
 
 /// What reading uses up: the room for a line, and the reads that are left.
 #[derive(Drop)]
-struct Reading {
+struct Allowance {
     line: LineBuffer,
     reads_left: u64,
 }
@@ -65,7 +65,7 @@ fn await_message<S: Source, T: Sink>(
     alloc: Global,
     source: &mut S,
     sink: &mut T,
-    reading: &mut Reading,
+    reading: &mut Allowance,
     limits: &Limits,
 ) -> Result<Next, SessionFault>
     requires reads { S.reads source.old + reading.old.reads_left < 2 ^ 64 }
@@ -109,7 +109,7 @@ fn serve_next<S: Source, T: Sink, D: Desk>(
     source: &mut S,
     sink: &mut T,
     desk: &mut D,
-    reading: &mut Reading,
+    reading: &mut Allowance,
     limits: &Limits,
 ) -> Result<bool, SessionFault>
     requires reads { S.reads source.old + reading.old.reads_left < 2 ^ 64 }
@@ -160,7 +160,7 @@ pub fn session<S: Source, T: Sink, D: Desk>(
         Ok(line) => line,
         Err(_) => return Err(SessionFault::Memory),
     };
-    let mut reading = Reading {
+    let mut reading = Allowance {
         line,
         reads_left: limits.reads,
     };

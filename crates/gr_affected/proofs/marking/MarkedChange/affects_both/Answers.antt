@@ -1,11 +1,11 @@
--- The answers to the goals of `marking::Change::affects_both`.
+-- The answers to the goals of `marking::MarkedChange::affects_both`.
 use Rattle.std.proofs.Common.{List, Bool, [], get_or, sym, subst, ◌∙◌}
 use Rattle.std.proofs.lemmas.Bool.{false≢true}
 use Rattle.std.proofs.lemmas.Option.{slice_get-get_or}
 use Rattle.gr_text.specs.Packages.{package_paths}
 use Rattle.gr_keep.proofs.Carrying.{AreUnmarked}
 use Rattle.gr_affected.proofs.Marked.{by_touched, by_texts}
-use Rattle.gr_affected.proofs.marking.Change.affects_both.Goals as goal
+use Rattle.gr_affected.proofs.marking.MarkedChange.affects_both.Goals as goal
 
 pub returns-then-not-are_unmarked : goal.returns-then-not-are_unmarked
 returns-then-not-are_unmarked c =
