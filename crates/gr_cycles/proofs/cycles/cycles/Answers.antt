@@ -1,7 +1,7 @@
--- The answers to the goals of `recursion::cycles`.
-use Rattle.gr_members.specs.Recursion.{IsOnCycle}
-use Rattle.gr_members.proofs.Noting.{marks_none, marks_next}
-use Rattle.gr_members.proofs.recursion.cycles.Goals as goal
+-- The answers to the goals of `cycles::cycles`.
+use Rattle.gr_cycles.specs.Cycles.{IsOnCycle}
+use Rattle.gr_cycles.proofs.Marking.{marks_none, marks_next}
+use Rattle.gr_cycles.proofs.cycles.cycles.Goals as goal
 
 pub loop-number-init : goal.loop-number-init
 loop-number-init c = marks_none (IsOnCycle c.args.links.now) c.new-marks.result.items c.new-marks.ensures.items

@@ -1,49 +1,45 @@
--- Numbers taken so that what they lead to was taken, and marks for what one number leads to.
-use Rattle.std.proofs.Common.{ℕ, ◌≡◌, ◌+◌, ◌<◌, inl, inr, Bool, true, false, List, length, get_or, ap, sym, subst, ◌∙◌, arith}
-use Rattle.std.specs.Prelude.{slice_get, Contains, ◌↔◌}
+-- Marks for numbers: of those below one, of those that one leads to, and of what is reached from there.
+use Rattle.std.proofs.Common.{ℕ, ◌≡◌, ◌+◌, ◌<◌, inl, inr, Bool, true, false, List, [], ◌∷◌, ◌++◌, length, get_or, ap, sym, subst, ◌∙◌, arith}
+use Rattle.std.specs.Prelude.{Contains, ◌↔◌}
 use Rattle.std.specs.Global.{Vec}
 use Rattle.std.proofs.Math.ListN.{set, replicate}
-use Rattle.std.proofs.lemmas.Bool.{cases_eq, false≢true}
-use Rattle.std.proofs.lemmas.List.{get_or-set_same, length-set, length-replicate, get_or-replicate, get_or_read}
-use Rattle.gr_declared.specs.Spread.{IsMarked, Leads, IsReached, first, behind, row_of}
-use Rattle.gr_members.specs.Recursion.{AreAllMarked, AreTaken, IsOnCycle}
+use Rattle.std.proofs.lemmas.Bool.{cases_lt, cases_eq, false≢true}
+use Rattle.std.proofs.lemmas.List.{get_or-set_same, length-set, length-replicate, get_or-replicate, get_or_read, get_or_append_left, get_or_push, length_push}
+use Rattle.gr_declared.specs.Spread.{IsMarked, Leads, IsReached, first, behind}
+use Rattle.gr_cycles.specs.Cycles.{IsOnCycle}
 use Rattle.gr_declared.proofs.Spreading.{marked_within, marked_stays, marked_before, IsPassed, passed_next, passed_more, passed_held, passed_all}
 
+-- marks for the items below a number
+pub record MarksBelow (P : ℕ → Type 0) (marks : List Bool) (count : ℕ) : Type 0 where
+  pub all : length marks ≡ count
+  pub each : (item : ℕ) → item < count → IsMarked marks item ↔ P item
+
+pub marks_none : (P : ℕ → Type 0) (marks : List Bool) → marks ≡ [] → MarksBelow P marks 0
+marks_none P marks e = record { all = ap length e; each = λ i lt. absurd (omega arith) }
+
+pub marks_next : (P : ℕ → Type 0) (old new : List Bool) (count : ℕ) (b : Bool) → new ≡ old ++ (b ∷ []) → (b ≡ true) ↔ P count → MarksBelow P old count →
+    MarksBelow P new (count + 1)
+marks_next P old new count b e is h =
+    let len : length (old ++ (b ∷ [])) ≡ length old + 1 = length_push old b in
+    record {
+      all = ap length e ∙ len ∙ ap (λ n. n + 1) h.all;
+      each = λ i lt. elim (cases_lt i count) [
+        | inl below ↦ (
+            let same : get_or new i false ≡ get_or old i false = ap (λ xs. get_or xs i false) e ∙
+            get_or_append_left old (b ∷ []) false i (omega (arith, h.all)) in
+            ((λ m. (h.each i below).0 (sym same ∙ m)), (λ p. same ∙ (h.each i below).1 p)))
+        | inr ge ↦ (
+            let last : i ≡ count = omega arith in
+            let here : get_or new i false ≡ b = ap (λ xs. get_or xs i false) e ∙ get_or_push old b false i (omega (arith, h.all)) in
+            ((λ m. subst P (sym last) (is.0 (sym here ∙ m))), (λ p. here ∙ is.1 (subst P last p))))
+      ];
+    }
+
 -- no mark is set
-pub unmarked : (n : ℕ) (marks : List Bool) → marks ≡ replicate n false → (q : ℕ) → IsMarked marks q → ⊥
+unmarked : (n : ℕ) (marks : List Bool) → marks ≡ replicate n false → (q : ℕ) → IsMarked marks q → ⊥
 unmarked n marks e q m =
     let lt : q < length (replicate n false) = subst (λ xs. q < length xs) e (marked_within marks q m) in
     false≢true (sym (ap (λ xs. get_or xs q false) e ∙ get_or-replicate n q false false (subst (λ k. q < k) (length-replicate n false) lt)) ∙ m)
-
--- what was taken
-
-pub taken_none : (links : List (Vec ℕ)) (n : ℕ) (marks : List Bool) → n ≡ length links → marks ≡ replicate n false → AreTaken links marks
-taken_none links n marks size e = record {
-  size = ap length e ∙ length-replicate n false ∙ size;
-  clear = λ q m k. unmarked n marks e q m;
-  closed = λ q b m l. absurd (unmarked n marks e q m);
-}
-
-closed_reached : (links : List (Vec ℕ)) (marks : List Bool) (B : ℕ → Type 0) (q : ℕ) → AreTaken links marks → ((x : ℕ) → B x → IsMarked marks x) →
-    IsReached links B q → IsMarked marks q
-closed_reached links marks B q h begins (first b) = begins q b
-closed_reached links marks B q h begins (behind {a = a} reached leads) = h.closed a q (closed_reached links marks B a h begins reached) leads
-
-pub taken_next : (links : List (Vec ℕ)) (marks : List Bool) (n : ℕ) → n < length marks → AreAllMarked marks (row_of (slice_get links n)) →
-    AreTaken links marks → AreTaken links (set marks n true)
-taken_next links marks n lt all h = record {
-  size = length-set marks n true ∙ h.size;
-  clear = λ q m k. elim (cases_eq q n) [
-    | inl same ↦ (
-        let cycle : IsOnCycle links n = subst (IsOnCycle links) same k in
-        h.clear n (closed_reached links marks (Leads links n) n h all cycle) cycle)
-    | inr other ↦ h.clear q (marked_before marks n q other m) k
-  ];
-  closed = λ q b m l. elim (cases_eq q n) [
-    | inl same ↦ marked_stays marks n b lt (all b (subst (λ x. Leads links x b) same l))
-    | inr other ↦ marked_stays marks n b lt (h.closed q b (marked_before marks n q other m) l)
-  ];
-}
 
 -- a search from what a number leads to
 
