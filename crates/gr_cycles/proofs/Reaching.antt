@@ -1,9 +1,9 @@
 -- What numbers reach along links, and the cycles that follow.
-use Rattle.std.proofs.Common.{ℕ, ◌≡◌, ◌+◌, ◌<◌, ◌≤◌, inl, inr, true, List, [], ◌∷◌, ◌++◌, length, get_or, refl, sym, ap, subst, ◌∙◌, arith}
-use Rattle.std.specs.Prelude.{Some, slice_get, Contains}
+use Rattle.std.proofs.Common.{Bool, not, ℕ, ◌≡◌, ◌+◌, ◌<◌, ◌≤◌, inl, inr, true, List, [], ◌∷◌, ◌++◌, length, get_or, refl, sym, ap, subst, ◌∙◌, arith}
+use Rattle.std.specs.Prelude.{Some, slice_get, Contains, ◌↔◌}
 use Rattle.std.specs.Global.{Vec}
 use Rattle.std.proofs.Math.ListN.{set}
-use Rattle.std.proofs.lemmas.Bool.{cases_eq, cases_lt}
+use Rattle.std.proofs.lemmas.Bool.{cases_eq, cases_lt, false≢true, not-true}
 use Rattle.std.proofs.lemmas.List.{get_or-set_same, get_or-set_other, length-set, get_or_append_left, get_or_push, length_push}
 use Rattle.std.proofs.lemmas.List.Elements.{Contains-get_or}
 use Rattle.std.proofs.lemmas.Option.{get_or_from_slice_get, slice_get_within, slice_get_past}
@@ -140,3 +140,23 @@ FallsBelow links values count = (q : ℕ) → q < count → AreAtMost values (ro
 
 pub falls_all : (links : List (Vec ℕ)) (values : List ℕ) (count : ℕ) → count ≡ length links → FallsBelow links values count → Falls links values
 falls_all links values count e h a b leads = h a (let lt : a < length links = leads_within links a b leads in omega arith) b leads
+
+-- what tests of values tell
+
+alike_as : (vs ws xs ys : List ℕ) (v w : ℕ) → vs ≡ ws → xs ≡ ys → v ≡ w → HasAlike vs xs v → HasAlike ws ys w
+alike_as vs ws xs ys v w e f g h = subst (HasAlike ws ys) g (subst (λ z. HasAlike ws z v) f (subst (λ z. HasAlike z xs v) e h))
+
+pub clear_by_test : (links : List (Vec ℕ)) (values vs ws row : List ℕ) (n v : ℕ) (b : Bool) → vs ≡ values → ws ≡ values →
+    row ≡ row_of (slice_get links n) → v ≡ get_or vs n 0 → Falls links values → (b ≡ true) ↔ HasAlike ws row v → not b ≡ true →
+    IsOnCycle links n → ⊥
+clear_by_test links values vs ws row n v b ev ew er is falls test t =
+    let own : get_or values n 0 ≡ v = sym (is ∙ ap (λ xs. get_or xs n 0) ev) in
+    clear_by_values links values n falls
+    (λ h. false≢true (sym (not-true b t) ∙ test.1 (alike_as values ws (row_of (slice_get links n)) row (get_or values n 0) v (sym ew) (sym er) own h)))
+
+pub shown_by_test : (links : List (Vec ℕ)) (values origins ends os es row : List ℕ) (falls b : Bool) (n v : ℕ) → AreLinked links →
+    n < length links → Tells links values falls origins ends → os ≡ origins → es ≡ ends → row ≡ row_of (slice_get links n) →
+    v ≡ get_or os n 0 → (b ≡ true) ↔ HasAlike es row v → b ≡ true → IsOnCycle links n
+shown_by_test links values origins ends os es row falls b n v linked within told eo ee er is test t =
+    shown_by_ends links values falls origins ends n linked within told
+    (alike_as es ends row (row_of (slice_get links n)) v (get_or origins n 0) ee er (is ∙ ap (λ xs. get_or xs n 0) eo) (test.0 t))

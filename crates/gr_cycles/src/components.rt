@@ -6,7 +6,7 @@ ghost use Rattle.gr_declared.specs.Spread.{AreLinked};
 ghost use Rattle.gr_cycles.specs.Cycles.{AreOrigins, IsTurned, Tells};
 
 use crate::origins::{numbers, origins};
-use crate::search::{Search, search};
+use crate::search::{Search, search_from};
 use crate::values::falls;
 use gr_declared::{no_links, note, row};
 use std::alloc::{AllocError, Global};
@@ -41,15 +41,15 @@ fn reversed(alloc: Global, links: &[Vec<usize>]) -> Result<Vec<Vec<usize>>, Allo
 /// A search along links, in the order in which one against them left numbers.
 fn along(alloc: Global, links: &[Vec<usize>], back: &[Vec<usize>]) -> Result<Search, AllocError> {
     let order = numbers(alloc, back.len())?;
-    let against = search(alloc, back, &order)?;
-    search(alloc, links, &against.left)
+    let against = search_from(alloc, back, &order)?;
+    search_from(alloc, links, &against.left)
 }
 
 /// For each number one that links the other way round led to it from, in an order.
 fn ends(alloc: Global, back: &[Vec<usize>], order: &[usize]) -> Result<Vec<usize>, AllocError>
     ensures { IfOk result (λ ends. AreOrigins back.now ends.items) }
 {
-    let against = search(alloc, back, order)?;
+    let against = search_from(alloc, back, order)?;
     origins(alloc, back, &against.followed)
 }
 
@@ -65,16 +65,17 @@ fn components_of(
     let along = along(alloc, links, back)?;
     let ends = ends(alloc, back, &along.left)?;
     let origins = origins(alloc, links, &along.followed)?;
+    let falling = falls(links, &along.turns);
     Ok(Components {
-        falls: falls(links, &along.turns),
         turns: along.turns,
+        falls: falling,
         origins,
         ends,
     })
 }
 
 /// The components of links.
-pub(crate) fn components(alloc: Global, links: &[Vec<usize>]) -> Result<Components, AllocError>
+pub(crate) fn find_components(alloc: Global, links: &[Vec<usize>]) -> Result<Components, AllocError>
     requires { AreLinked links.now }
     ensures { IfOk result (λ c. Tells links.now c.turns.items c.falls c.origins.items c.ends.items) }
 {

@@ -2,9 +2,9 @@
 #![tactic(auto)]
 
 mod components;
-mod cycles;
+mod leading;
 mod origins;
 mod search;
 mod values;
 
-pub use cycles::cycles;
+pub use leading::cycles;

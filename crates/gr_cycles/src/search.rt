@@ -61,9 +61,10 @@ impl Search {
     /// Looks at a link, or leaves the number that it would lead from.
     fn look(&mut self, links: &[Vec<usize>], link: Link, turn: usize) -> Result<(), AllocError> {
         match row(links, link.from).get(link.place) {
-            None => self.left.push(link.from),
-            Some(to) => self.pass(link, *to, turn),
+            None => self.left.push(link.from)?,
+            Some(to) => self.pass(link, *to, turn)?,
         }
+        Ok(())
     }
 
     /// Searches from a number.
@@ -85,7 +86,7 @@ impl Search {
 }
 
 /// Searches from each of some numbers, from the last of them to the first.
-pub(crate) fn search(
+pub(crate) fn search_from(
     alloc: Global,
     links: &[Vec<usize>],
     order: &[usize],

@@ -1,10 +1,10 @@
--- The answers to the goals of `cycles::led_to`.
+-- The answers to the goals of `leading::led_to`.
 use Rattle.std.proofs.Common.{rules, ℕ, ◌<◌, length, get_or, arith, refl, subst}
 use Rattle.std.specs.Prelude.{Contains, ◌↔◌}
 use Rattle.std.proofs.lemmas.List.Elements.{Contains-get_or}
 use Rattle.gr_declared.specs.Spread.{IsMarked, Leads}
 use Rattle.gr_cycles.proofs.Marking.{passed_none, passed_mark, passed_row}
-use Rattle.gr_cycles.proofs.cycles.led_to.Goals as goal
+use Rattle.gr_cycles.proofs.leading.led_to.Goals as goal
 
 pub loop-to-init : goal.loop-to-init
 loop-to-init c =

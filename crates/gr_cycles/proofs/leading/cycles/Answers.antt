@@ -1,7 +1,7 @@
--- The answers to the goals of `cycles::cycles`.
+-- The answers to the goals of `leading::cycles`.
 use Rattle.gr_cycles.specs.Cycles.{IsOnCycle}
 use Rattle.gr_cycles.proofs.Marking.{marks_none, marks_next}
-use Rattle.gr_cycles.proofs.cycles.cycles.Goals as goal
+use Rattle.gr_cycles.proofs.leading.cycles.Goals as goal
 
 pub loop-number-init : goal.loop-number-init
 loop-number-init c = marks_none (IsOnCycle c.args.links.now) c.new-marks.result.items c.new-marks.ensures.items

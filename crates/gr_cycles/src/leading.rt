@@ -3,7 +3,7 @@ ghost use Rattle.std.specs.Prelude.{◌≡◌, ◌<◌, ◌↔◌, ℕ, length, 
 ghost use Rattle.gr_declared.specs.Spread.{AreLinked, IsMarked, Leads};
 ghost use Rattle.gr_cycles.specs.Cycles.{IsOnCycle, Tells};
 
-use crate::components::{Components, components};
+use crate::components::{Components, find_components};
 use crate::values::{has_alike, value_at};
 use gr_declared::{reached, row};
 use std::alloc::{AllocError, Global};
@@ -82,7 +82,7 @@ pub fn cycles(alloc: Global, links: &[Vec<usize>]) -> Result<Vec<bool>, AllocErr
     ensures size { IfOk result (λ marks. length marks.items ≡ length links.now) }
     ensures marked { IfOk result (λ marks. (q : ℕ) → q < length links.now → IsMarked marks.items q ↔ IsOnCycle links.now q) }
 {
-    let told = components(alloc, links)?;
+    let told = find_components(alloc, links)?;
     let mut marks = Vec::new(alloc);
     for number in 0..links.len() {
         marks.push(leads_back(alloc, links, &told, number)?)?;

@@ -1,7 +1,7 @@
--- The answers to the goals of `cycles::is_on_cycle`.
+-- The answers to the goals of `leading::is_on_cycle`.
 use Rattle.std.proofs.Common.{arith}
 use Rattle.gr_cycles.proofs.Marking.{cycle_found}
-use Rattle.gr_cycles.proofs.cycles.is_on_cycle.Goals as goal
+use Rattle.gr_cycles.proofs.leading.is_on_cycle.Goals as goal
 
 pub returns : goal.returns
 returns c =
