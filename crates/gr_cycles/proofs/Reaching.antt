@@ -1,12 +1,10 @@
 -- What numbers reach along links, and the cycles that follow.
 use Rattle.std.proofs.Common.{Bool, not, ℕ, ◌≡◌, ◌+◌, ◌<◌, ◌≤◌, inl, inr, true, List, [], ◌∷◌, ◌++◌, length, get_or, refl, sym, ap, subst, ◌∙◌, arith}
-use Rattle.std.specs.Prelude.{Some, slice_get, Contains, ◌↔◌}
+use Rattle.std.specs.Prelude.{slice_get, ◌↔◌}
 use Rattle.std.specs.Global.{Vec}
 use Rattle.std.proofs.Math.ListN.{set}
 use Rattle.std.proofs.lemmas.Bool.{cases_eq, cases_lt, false≢true, not-true}
 use Rattle.std.proofs.lemmas.List.{get_or-set_same, get_or-set_other, length-set, get_or_append_left, get_or_push, length_push}
-use Rattle.std.proofs.lemmas.List.Elements.{Contains-get_or}
-use Rattle.std.proofs.lemmas.Option.{get_or_from_slice_get, slice_get_within, slice_get_past}
 use Rattle.gr_declared.specs.Spread.{Leads, IsReached, first, behind, row_of, AreLinked}
 use Rattle.gr_declared.specs.Broken.{AddsLinks}
 use Rattle.gr_cycles.specs.Cycles.{IsOnCycle, Reaches, AreOrigins, IsTurned, AreAtMost, Falls, HasAlike, Tells}
@@ -123,23 +121,8 @@ told links back values origins ends falls falling turned from to = record {
 
 -- values along links, as far as a loop has come
 
-pub got_item : (xs : List ℕ) (i x : ℕ) → slice_get xs i ≡ Some x → Contains xs x
-got_item xs i x e = subst (Contains xs) (get_or_from_slice_get xs i x 0 e) (Contains-get_or xs i 0 (slice_get_within xs i x e))
-
-no_item : (b : ℕ) → Contains [] b → ⊥
-no_item b c = let lt : c.0 < 0 = c.1 in absurd (omega arith)
-
-leads_within : (links : List (Vec ℕ)) (a b : ℕ) → Leads links a b → a < length links
-leads_within links a b leads = elim (cases_lt a (length links)) [
-  | inl lt ↦ lt
-  | inr ge ↦ absurd (no_item b (subst (λ o. Contains (row_of o) b) (slice_get_past links a ge) leads))
-]
-
 abbrev pub FallsBelow : List (Vec ℕ) → List ℕ → ℕ → Type 0
 FallsBelow links values count = (q : ℕ) → q < count → AreAtMost values (row_of (slice_get links q)) (get_or values q 0)
-
-pub falls_all : (links : List (Vec ℕ)) (values : List ℕ) (count : ℕ) → count ≡ length links → FallsBelow links values count → Falls links values
-falls_all links values count e h a b leads = h a (let lt : a < length links = leads_within links a b leads in omega arith) b leads
 
 -- what tests of values tell
 
