@@ -12,7 +12,8 @@ use Rattle.gr_declared.specs.Written.{BindsToken, Mentions, by_name, written_typ
 use Rattle.gr_declared.specs.WrittenView.{IsMentionedBy}
 use Rattle.gr_members.specs.Members.{HoldsDirectly, Holds, directly, through}
 use Rattle.gr_declared.specs.Spread.{row_of, Leads, AreLinked, IsMarked, IsReached, first, behind}
-use Rattle.gr_members.specs.Recursion.{AddsItems, IsHeldAs, IsHeldAsOne, AreHeld, IsOnCycle, AreRecursive}
+use Rattle.gr_members.specs.Recursion.{AddsItems, IsHeldAs, IsHeldAsOne, AreHeld, AreRecursive}
+use Rattle.gr_cycles.specs.Cycles.{IsOnCycle}
 use Rattle.gr_members.proofs.Owning.{bound_definition}
 use Rattle.gr_declared.proofs.Paths.{get_before, get_last}
 

@@ -9,5 +9,4 @@ pub mod Owning
 pub mod FieldsHad
 pub mod MethodNames
 pub mod Holding
-pub mod Taking
 pub mod Displacing

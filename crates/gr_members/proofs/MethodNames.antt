@@ -12,7 +12,8 @@ use Rattle.gr_members.specs.MembersView.{IsMethodOn, CountsAsMethod, AreCounting
 use Rattle.gr_members.specs.MethodsView.{IsMethodNamed, NotesMethod, no_method, method}
 use Rattle.gr_declared.proofs.Naming.{one_binding}
 use Rattle.gr_declared.proofs.Ranking.{one_rank}
-use Rattle.gr_members.proofs.Noting.{names_next, names_skip, MarksBelow}
+use Rattle.gr_cycles.proofs.Marking.{MarksBelow}
+use Rattle.gr_members.proofs.Noting.{names_next, names_skip}
 use Rattle.gr_members.proofs.Owning.{HasOwner}
 
 pub same_function : (p : Package) (rank : ℕ) (f g : PlacedFunction) → slice_get (package_functions p) rank ≡ Some f →

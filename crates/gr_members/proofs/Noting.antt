@@ -1,9 +1,7 @@
--- Names noted one item after the other, and marks for the items that came first.
-use Rattle.std.proofs.Common.{ℕ, ◌≡◌, ◌+◌, ◌<◌, inl, inr, Bool, true, false, not, List, [], ◌∷◌, ◌++◌, length, get_or, ap, sym, subst, ◌∙◌, arith}
+-- Names noted one item after the other.
+use Rattle.std.proofs.Common.{ℕ, ◌≡◌, ◌+◌, ◌<◌, inl, inr, Bool, true, false, not, List, sym, subst, ◌∙◌, arith}
 use Rattle.std.specs.Prelude.{◌↔◌}
 use Rattle.std.proofs.lemmas.Bool.{cases_lt, cases_eq, true≢false, false≢true, not-true, not_from_false, false_from_ne_true}
-use Rattle.std.proofs.lemmas.List.{get_or_append_left, get_or_push, length_push}
-use Rattle.gr_declared.specs.Spread.{IsMarked}
 use Rattle.gr_members.specs.MemberNames.{Naming, NotesName, AreNamesBelow, IsFirstNamed}
 use Rattle.gr_declared.proofs.ByteKeys.{cases_bytes}
 
@@ -57,29 +55,3 @@ first_if_new K count d n noted added is only e h = (
       e ∙ not_from_false (noted d n) (false_from_ne_true (noted d n) (λ t. let w = h.only d n t in
       f.first w.0 w.1.0 (subst (λ z. K w.0 z f.name) (sym at.0) (subst (λ z. K w.0 d z) (sym at.1) w.1.1))))),
 )
-
--- marks for the items below a number
-pub record MarksBelow (P : ℕ → Type 0) (marks : List Bool) (count : ℕ) : Type 0 where
-  pub all : length marks ≡ count
-  pub each : (item : ℕ) → item < count → IsMarked marks item ↔ P item
-
-pub marks_none : (P : ℕ → Type 0) (marks : List Bool) → marks ≡ [] → MarksBelow P marks 0
-marks_none P marks e = record { all = ap length e; each = λ i lt. absurd (omega arith) }
-
-pub marks_next : (P : ℕ → Type 0) (old new : List Bool) (count : ℕ) (b : Bool) → new ≡ old ++ (b ∷ []) → (b ≡ true) ↔ P count → MarksBelow P old count →
-    MarksBelow P new (count + 1)
-marks_next P old new count b e is h =
-    let len : length (old ++ (b ∷ [])) ≡ length old + 1 = length_push old b in
-    record {
-      all = ap length e ∙ len ∙ ap (λ n. n + 1) h.all;
-      each = λ i lt. elim (cases_lt i count) [
-        | inl below ↦ (
-            let same : get_or new i false ≡ get_or old i false = ap (λ xs. get_or xs i false) e ∙
-            get_or_append_left old (b ∷ []) false i (omega (arith, h.all)) in
-            ((λ m. (h.each i below).0 (sym same ∙ m)), (λ p. same ∙ (h.each i below).1 p)))
-        | inr ge ↦ (
-            let last : i ≡ count = omega arith in
-            let here : get_or new i false ≡ b = ap (λ xs. get_or xs i false) e ∙ get_or_push old b false i (omega (arith, h.all)) in
-            ((λ m. subst P (sym last) (is.0 (sym here ∙ m))), (λ p. here ∙ is.1 (subst P last p))))
-      ];
-    }

@@ -5,7 +5,7 @@ use Rattle.gr_tree.specs.Tree.{TypeTree, Local}
 use Rattle.gr_declared.specs.Package.{Package, package_types}
 use Rattle.gr_declared.specs.Written.{BindsToken, DeclaresType}
 use Rattle.gr_members.specs.Members.{HoldsDirectly, Holds}
-use Rattle.gr_declared.specs.Spread.{Leads, IsMarked, IsReached}
+use Rattle.gr_declared.specs.Spread.{Leads, IsMarked}
 
 -- the items of which P holds were added, and no other
 pub record AddsItems (old new : List ℕ) (P : ℕ → Type 0) : Type 0 where
@@ -29,19 +29,6 @@ IsHeldAsOne p file ts rank = (t : TypeTree) × (Contains ts t × IsHeldAs p file
 pub record AreHeld (p : Package) (links : List (Vec ℕ)) : Type 0 where
   pub size : length links ≡ length (package_types p)
   pub each : (a b : ℕ) → Leads links a b ↔ HoldsDirectly p a b
-
-abbrev pub AreAllMarked : List Bool → List ℕ → Type 0
-AreAllMarked marks numbers = (q : ℕ) → Contains numbers q → IsMarked marks q
-
--- a number leads back to itself
-abbrev pub IsOnCycle : List (Vec ℕ) → ℕ → Type 0
-IsOnCycle links number = IsReached links (Leads links number) number
-
--- What was taken of numbers: none of it is on a cycle, and all that it leads to was taken.
-pub record AreTaken (links : List (Vec ℕ)) (marks : List Bool) : Type 0 where
-  pub size : length marks ≡ length links
-  pub clear : (q : ℕ) → IsMarked marks q → IsOnCycle links q → ⊥
-  pub closed : (q b : ℕ) → IsMarked marks q → Leads links q b → IsMarked marks b
 
 -- a mark for each definition of a package, by its rank: whether it holds itself
 pub record AreRecursive (p : Package) (marks : List Bool) : Type 0 where

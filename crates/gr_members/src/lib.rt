@@ -7,7 +7,6 @@ mod member_names;
 mod members;
 mod method_marks;
 mod methods;
-mod peeling;
 mod recursion;
 mod struct_fields;
 mod underlying;

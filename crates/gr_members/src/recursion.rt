@@ -1,15 +1,13 @@
 //! Recursive type definitions: those that hold themselves, by name or in fields, and not behind a pointer or slice.
-ghost use Rattle.std.specs.Prelude.{◌≡◌, ◌<◌, ◌↔◌, ℕ, length, map, Contains, IsTrue, IfOk, OnOk, MatchOption};
+ghost use Rattle.std.specs.Prelude.{◌≡◌, ◌↔◌, ℕ, map, Contains, IfOk, OnOk, MatchOption};
 ghost use Rattle.gr_tree.specs.View.{type_view, list_view};
 ghost use Rattle.gr_tree.specs.FileView.{field_view, body_view};
-ghost use Rattle.gr_declared.specs.Package.{package_types};
 ghost use Rattle.gr_declared.specs.Written.{written_types};
-ghost use Rattle.gr_declared.specs.Spread.{AreLinked, IsMarked, Leads};
-ghost use Rattle.gr_members.specs.Recursion.{AddsItems, IsHeldAs, IsHeldAsOne, AreHeld, IsOnCycle, AreRecursive};
+ghost use Rattle.gr_members.specs.Recursion.{AddsItems, IsHeldAs, IsHeldAsOne, AreHeld, AreRecursive};
 ghost use Rattle.gr_declared.specs.PackageView.{package_of, IsIndexOf};
 
-use crate::peeling::peeled;
-use gr_declared::{Index, Package, TypeDef, local_definition, reached, row};
+use gr_cycles::cycles;
+use gr_declared::{Index, Package, TypeDef, local_definition};
 use gr_tree::tree::{Field, Item, TypeBody, TypeExpr};
 use std::alloc::{AllocError, Global};
 
@@ -115,64 +113,6 @@ fn held(alloc: Global, unit: Package<'_>, index: &Index<'_>) -> Result<Vec<Vec<u
         links.push(held_by(alloc, unit, index, definition)?)?;
     }
     Ok(links)
-}
-
-/// A mark for each number that one leads to.
-fn led_to(alloc: Global, links: &[Vec<usize>], from: usize) -> Result<Vec<bool>, AllocError>
-    requires { AreLinked links.now }
-    ensures size { IfOk result (λ marks. length marks.items ≡ length links.now) }
-    ensures marked { IfOk result (λ marks. (q : ℕ) → IsMarked marks.items q ↔ Leads links.now from q) }
-{
-    let mut marks = vec![in alloc; false; links.len()]?;
-    for to in row(links, from) {
-        marks[*to] = true;
-    }
-    Ok(marks)
-}
-
-/// Whether a number leads back to itself.
-fn is_on_cycle(alloc: Global, links: &[Vec<usize>], number: usize) -> Result<bool, AllocError>
-    requires linked { AreLinked links.now }
-    requires in_range { number < length links.now }
-    ensures { IfOk result (λ found. IsTrue found ↔ IsOnCycle links.now number) }
-{
-    let begins = led_to(alloc, links, number)?;
-    let marks = reached(alloc, links, &begins)?;
-    Ok(marks[number])
-}
-
-/// Whether a number leads back to itself, with a mark for each of some that lead to none that leads back.
-fn leads_back(
-    alloc: Global,
-    links: &[Vec<usize>],
-    clear: &[bool],
-    number: usize,
-) -> Result<bool, AllocError>
-    requires linked { AreLinked links.now }
-    requires in_range { number < length links.now }
-    requires clear { (q : ℕ) → IsMarked clear.now q → IsOnCycle links.now q → ⊥ }
-    requires size { length clear.now ≡ length links.now }
-    ensures { IfOk result (λ found. IsTrue found ↔ IsOnCycle links.now number) }
-{
-    if clear[number] {
-        return Ok(false);
-    }
-    is_on_cycle(alloc, links, number)
-}
-
-/// A mark for each number that leads back to itself. Numbers that cannot are told first, so that a search begins at the
-/// others alone.
-fn cycles(alloc: Global, links: &[Vec<usize>]) -> Result<Vec<bool>, AllocError>
-    requires { AreLinked links.now }
-    ensures size { IfOk result (λ marks. length marks.items ≡ length links.now) }
-    ensures marked { IfOk result (λ marks. (q : ℕ) → q < length links.now → IsMarked marks.items q ↔ IsOnCycle links.now q) }
-{
-    let clear = peeled(alloc, links)?;
-    let mut marks = Vec::new(alloc);
-    for number in 0..links.len() {
-        marks.push(leads_back(alloc, links, &clear, number)?)?;
-    }
-    Ok(marks)
 }
 
 /// Which type definitions of a package hold themselves, by their ranks.

@@ -7,7 +7,8 @@ use Rattle.gr_members.specs.FieldsView.{field_of, IsFieldNamed}
 use Rattle.gr_members.specs.MemberNames.{is_noted, IsFirstNamed}
 use Rattle.gr_declared.specs.PackageView.{package_of}
 use Rattle.gr_declared.proofs.Items.{item_at}
-use Rattle.gr_members.proofs.Noting.{names_none, names_next, first_if_new, marks_none, marks_next}
+use Rattle.gr_cycles.proofs.Marking.{marks_none, marks_next}
+use Rattle.gr_members.proofs.Noting.{names_none, names_next, first_if_new}
 use Rattle.gr_members.proofs.FieldNames.{field_named, one_name, are_counting}
 use Rattle.gr_members.proofs.field_marks.counting_fields.Goals as goal
 

@@ -2,7 +2,7 @@
 use Rattle.gr_members.specs.FieldsView.{IsFieldNamed}
 use Rattle.gr_members.specs.MemberNames.{is_noted, AreNamesBelow, IsFirstNamed}
 use Rattle.gr_declared.specs.PackageView.{package_of}
-use Rattle.gr_members.proofs.Noting.{MarksBelow}
+use Rattle.gr_cycles.proofs.Marking.{MarksBelow}
 use Rattle.gr_members.proofs.field_marks.counting_fields.Given as goal
 
 abbrev pub invariant-loop-field : goal.invariant-loop-field

@@ -9,7 +9,8 @@ use Rattle.gr_members.specs.MembersView.{CountsAsMethod}
 use Rattle.gr_members.specs.MethodsView.{IsMethodNamed}
 use Rattle.gr_declared.specs.PackageView.{package_of}
 use Rattle.gr_declared.proofs.Items.{item_at}
-use Rattle.gr_members.proofs.Noting.{names_none, marks_none, marks_next}
+use Rattle.gr_cycles.proofs.Marking.{marks_none, marks_next}
+use Rattle.gr_members.proofs.Noting.{names_none}
 use Rattle.gr_members.proofs.MethodNames.{owner_in_range, names_after, counts_here, are_counting_methods}
 use Rattle.gr_members.proofs.method_marks.method_marks.Goals as goal
 

@@ -1,7 +1,0 @@
--- The invariants of the loops of `recursion::led_to`.
-use Rattle.std.proofs.Common.{length}
-use Rattle.gr_members.proofs.Taking.{MarksPassed}
-use Rattle.gr_members.proofs.recursion.led_to.Given as goal
-
-abbrev pub invariant-loop-to : goal.invariant-loop-to
-invariant-loop-to l = MarksPassed l.to-items l.to-index (length l.links) l.marks.items
