@@ -10,7 +10,7 @@ use Rattle.gr_scope.specs.declared.model.Role.{Role}
 use Rattle.gr_scope.specs.Bindings.{Layout, Names}
 use Rattle.gr_scope.specs.Site.{Site, found_site, sites_layout, sites_names}
 use Rattle.gr_scope.specs.Parsed.{spelled_file}
-use Rattle.gr_scope.specs.FileSites.{SpelledFile, file_sites, files_sites, universe, universe_site, package_sites}
+use Rattle.gr_scope.specs.FileSites.{file_sites, files_sites, universe, universe_site, package_sites}
 use Rattle.gr_scope.specs.Trees.{AreRising, IsNumbered, AreNumbered}
 use Rattle.gr_scope.specs.Found.{site_of, Adds}
 use Rattle.gr_scope.specs.Table.{role_at, place_at, name_at, layout_of, names_of}

@@ -1,9 +1,8 @@
 -- The answers to the goals of `found::Found::member`.
-use Rattle.std.proofs.Common.{Option, List, ap, ◌∙◌, ◌++◌, ◌∷◌, [], map}
+use Rattle.std.proofs.Common.{Option, ap, ◌∙◌, ◌++◌, ◌∷◌, [], map}
 use Rattle.gr_expr.specs.declared.symbol.Symbol.{Symbol}
 use Rattle.gr_expr.specs.View.{type_of}
 use Rattle.gr_expr.specs.WorldView.{world_of}
-use Rattle.gr_expr.specs.Judge.{MemberUse}
 use Rattle.gr_expr.specs.Found.{use_of}
 use Rattle.gr_expr.proofs.Adding.{adds_member}
 use Rattle.gr_expr.proofs.Equations.{ok_map}
