@@ -6,14 +6,14 @@ use Rattle.gr_tree.specs.declared.tree.Expr.{Expr}
 use Rattle.gr_tree.specs.declared.tree.Expr.TheVariants as expr
 use Rattle.gr_tree.specs.declared.tree.Link.{Link}
 use Rattle.gr_tree.specs.declared.tree.Link.TheVariants as link
-use Rattle.gr_expr.specs.Places.{first_token, place_of, place_of_links}
+use Rattle.gr_expr.specs.Places.{first_token, place_of, place_of_links, place_behind}
 use Rattle.gr_expr.specs.World.{World, Locals}
 use Rattle.gr_expr.specs.Judge.{Judged, judge, judge_link, judge_value, judge_links, judge_arguments, select, index_rule, call_rule, followed}
 use Rattle.gr_expr.specs.Lists.{links_in}
 use Rattle.gr_expr.specs.declared.found.Found.{Found}
 use Rattle.gr_expr.specs.Types.{Meaning}
 use Rattle.gr_expr.specs.Found.{Adds}
-use Rattle.gr_expr.proofs.Trees.{chain_tree}
+use Rattle.gr_expr.proofs.Trees.{chain_tree, place_step}
 use Rattle.gr_expr.proofs.Equations.{links_step, links_end}
 use Rattle.gr_stmt.specs.Simple.{is_end, is_statement, may_stand, ends_in_call, without_last}
 use Rattle.gr_expr.proofs.Adding.{adds_then}
@@ -63,6 +63,16 @@ links_append w ls start here j (link.Index o e c ∷ xs) ys =
     links_append w ls start start (followed j (index_rule w start here (expr_view e) (judge_value w ls (expr_view e)))) xs ys
 links_append w ls start here j (link.Call' o shape row c ∷ xs) ys =
     links_append w ls start start (followed j (call_rule w start here (judge_arguments w ls (arguments_view row)))) xs ys
+
+-- where a fault of links stands is told by the last
+pub place_behind_last : (start here : ℕ) (xs : List Link) (l : Link) →
+    place_of_links start here (links_in (xs ++ (l ∷ []))) ≡ place_behind start (link_view l no_link)
+unfolding links_in link_view place_of_links
+place_behind_last start here [] (link.Selector d n) = refl
+place_behind_last start here [] (link.Index o e c) = refl
+place_behind_last start here [] (link.Call' o shape row c) = refl
+place_behind_last start here (x ∷ xs) l = place_step start here x (links_in (xs ++ (l ∷ []))) ∙
+    place_behind_last start (place_behind start (link_view x no_link)) xs l
 
 pub no_links : (start here : ℕ) (xs : List Link) → length xs ≡ 0 → here ≡ place_of_links start here (links_in xs)
 unfolding links_in place_of_links
