@@ -1,10 +1,15 @@
 -- A path and an offset in one word, with the signs :# between.
-use Rattle.std.proofs.Common.{◌≡◌, ◌≢◌, ℕ, ◌+◌, ◌^◌, ◌<◌, List, [], ◌∷◌, ◌++◌, refl, sym, ap, ◌∙◌, arith}
-use Rattle.std.proofs.Common.{append_assoc, decimal}
+use Rattle.std.proofs.Common.{◌≡◌, ◌≢◌, ℕ, ◌+◌, ◌^◌, ◌<◌, List, [], ◌∷◌, ◌++◌, length, take, drop, Option, None, Some, refl, sym, ap, ◌∙◌, arith}
+use Rattle.std.proofs.Common.{append_assoc, decimal, codes, length-append, take-append-drop}
+use Rattle.std.specs.Prelude.{MatchOption}
+use Rattle.std.specs.Borrow.{Bor}
 use Rattle.std.specs.Int.{IsInRange}
+use Rattle.std.specs.Str.Pattern.{RFindsText, SplitsAroundMatch}
+use Rattle.std.proofs.lemmas.List.{drop_at, drop-drop}
 use Rattle.std.proofs.lemmas.Fmt.{decimal_injective}
 use Rattle.gr_line.specs.Words.{HasNoSpace, HasNoMark}
 use Rattle.gr_line.specs.Lines.{place_word}
+use Rattle.gr_line.specs.Parsing.{SplitsPlace}
 use Rattle.gr_line.proofs.Words.{HasNone, none_within, decimal_none, decimal_word}
 
 no_mark : (text : List ℕ) → HasNone 58 text → HasNoMark text
@@ -58,3 +63,18 @@ pub place_word_no_space : (path : List ℕ) (offset : ℕ) → HasNoSpace path �
 place_word_no_space path offset h k =
     rw (place_word_is path offset)
     (no_space_append path (58 ∷ 35 ∷ decimal offset) h (not_32 58 (omega arith), (not_32 35 (omega arith), decimal_word offset (omega (arith, k)))))
+
+-- what a search from the end for the mark finds
+pub last_mark : (text : List ℕ) (r : Option (Bor (List ℕ) × Bor (List ℕ)))
+    → MatchOption r (RFindsText (codes ":#") text None) (λ x. SplitsAroundMatch (RFindsText (codes ":#")) text x.0.now x.1.now) → SplitsPlace text r
+last_mark text None h = λ front back e.
+    h (length front) (omega (arith, ap length e, length-append front (58 ∷ 35 ∷ back))) back
+    (ap (drop (length front)) e ∙ drop_at front (58 ∷ 35 ∷ back) (length front) refl)
+last_mark text (Some x) h = (
+  sym (take-append-drop h.0 text) ∙ ap (λ l. take h.0 text ++ l) h.2.1.split ∙ (λ k. sym h.3 k ++ 58 ∷ 35 ∷ sym h.4 k),
+  λ front back e.
+      let further = length front in
+      let found : drop (h.1 + further) text ≡ 58 ∷ 35 ∷ back =
+      sym (drop-drop further h.1 text) ∙ ap (drop further) (sym h.4 ∙ e) ∙ drop_at front (58 ∷ 35 ∷ back) further refl in
+      h.2.0 (h.1 + further) (omega (arith, h.2.1.ends)) (omega (arith, h.7, ap length e, length-append front (58 ∷ 35 ∷ back))) back found,
+)

@@ -4,7 +4,7 @@ use Rattle.gr_tree.specs.declared.syntax.Kind.{Kind}
 use Rattle.gr_tree.specs.declared.syntax.Token.{Token}
 use Rattle.gr_tree.specs.Grammar.{is, One, A, Symbol, Part, rules}
 use Rattle.gr_parse.specs.Machine.{Run, expand, at, Selects}
-use Rattle.gr_parse.specs.Parsing.{Leads, Read, Separates, list_rest}
+use Rattle.gr_parse.specs.Parsing.{Leads, Read, Separates, list_rest, items_rest}
 use Rattle.gr_tree.specs.Flatten.{sign, sign_if}
 use Rattle.gr_parse.proofs.KindTests.{is_itself}
 use Rattle.gr_parse.proofs.MachineSteps.{leads_rule, leads_then, leads_here, passes_one}
@@ -24,6 +24,16 @@ pub list_separated : (list more : Part) (sep closer : Kind) (s : Option ℕ) (d 
 list_separated list more sep closer None d ts rest selected unselected h =
     record { text = h.1; leads = λ after o r. expand (unselected ts h.0) (subst (λ x. Run d (One (is closer) ∷ after) x o) (sym h.1) r) }
 list_separated list more sep closer (Some p) d ts rest selected unselected h =
+    leads_rule (selected ts (separator_at sep p ts rest h)) (leads_then (separator_read sep p d ts rest h) leads_here)
+
+-- What comes behind an item of a list without brackets: a separator and another item, or nothing.
+pub items_separated : (item : List Symbol) (more : Part) (sep : Kind) (s : Option ℕ) (d : ℕ) (ts rest : List Token) →
+    ((ts : List Token) → at (is sep) ts ≡ true → Selects (rules more) ts (One (is sep) ∷ item)) →
+    ((ts : List Token) → at (is sep) ts ≡ false → Selects (rules more) ts []) →
+    Separates sep s ts rest → Leads (A more ∷ []) (items_rest item (is_some s)) (sign_if sep s) d ts d rest
+items_separated item more sep None d ts rest selected unselected h =
+    record { text = h.1; leads = λ after o r. expand (unselected ts h.0) (subst (λ x. Run d after x o) (sym h.1) r) }
+items_separated item more sep (Some p) d ts rest selected unselected h =
     leads_rule (selected ts (separator_at sep p ts rest h)) (leads_then (separator_read sep p d ts rest h) leads_here)
 
 -- the end of a list in brackets
