@@ -1,5 +1,5 @@
 -- When the inputs of a Job, and of what was built, are the texts of the closure as they stand.
-use Rattle.std.proofs.Common.{◌≡◌, ℕ, true, false, List, Option, Some, None, MatchOption, Bor, is_some, slice_get, subst}
+use Rattle.std.proofs.Common.{◌≡◌, ℕ, Bool, true, false, List, Option, Some, None, MatchOption, Bor, is_some, slice_get, sym, subst, ◌∙◌}
 use Rattle.std.proofs.lemmas.Bool.{true≢false, false≢true}
 use Rattle.std.specs.FinMap.{entries}
 use Rattle.std.specs.List.{Contains}
@@ -12,8 +12,9 @@ use Rattle.gr_compile.specs.declared.built.Built.{Built}
 use Rattle.gr_compile.specs.declared.job.JobRecord.{JobRecord}
 use Rattle.gr_compile.specs.declared.unit.Unit.{Unit as PackageUnit}
 use Rattle.gr_keep.specs.Finished.{Table}
+use Rattle.gr_keep.proofs.FinishedUnits.{unit_at}
 use Rattle.gr_book.specs.State.{State}
-use Rattle.gr_book.specs.Deliveries.{IsFresh}
+use Rattle.gr_book.specs.Deliveries.{IsFresh, HasUnit}
 use Rattle.gr_book.proofs.Entries.{same_workspace}
 
 -- the texts of a closure are one workspace
@@ -56,3 +57,7 @@ pub not_there : (table : Table) (n : ℕ) (found : Option (Bor PackageUnit)) →
     slice_get table n ≡ Some (Some unit) → ⊥
 not_there table n (Some unit) none holds = absurd (false≢true none)
 not_there table n None none holds = holds
+
+pub no_unit : (state : State) (p : List ℕ) (n : ℕ) → slice_get (package_paths state.files) n ≡ Some p →
+    ((unit : PackageUnit) → slice_get state.finished n ≡ Some (Some unit) → ⊥) → HasUnit state p → ⊥
+no_unit state p n at none has = none has.0 (unit_at state.files state.finished p has.0 n at has.1)
