@@ -1,5 +1,5 @@
-//! The tests of the server on a socket, with a client on another thread, over public calls alone. They stand apart from the crate, since a
-//! crate with tests of its own is proved twice.
+//! The tests of the server on a socket, with clients on other threads, and of the words that it is started by, over public calls alone.
+//! They stand apart from the crates, since a crate with tests of its own is proved twice.
 #![tactic(auto)]
 
 #[cfg(test)]
@@ -12,3 +12,5 @@ mod served;
 mod story;
 #[cfg(test)]
 mod together;
+#[cfg(test)]
+mod words;
