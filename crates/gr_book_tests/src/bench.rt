@@ -280,16 +280,17 @@ fn is_shown(entry: &Entry, shown: &Shown) -> bool {
     entry.line.kind == shown.0 && entry.line.basis == shown.1 && entry.line.out == shown.2
 }
 
-/// Asserts that the book's journal shows just these entries.
-pub(crate) fn has_entries(rt: &impl Abort, bench: &Bench, shown: &[Shown]) {
-    let entries = bench.book.journal();
-    assert_eq!(rt; entries.len(), shown.len());
-    assert!(rt;
-        entries
+fn are_shown(entries: &[Entry], shown: &[Shown]) -> bool {
+    entries.len() == shown.len()
+        && entries
             .iter()
             .zip(shown.iter())
             .all(|pair| is_shown(pair.0, pair.1))
-    );
+}
+
+/// Asserts that the book's journal shows just these entries.
+pub(crate) fn has_entries(rt: &impl Abort, bench: &Bench, shown: &[Shown]) {
+    assert!(rt; are_shown(bench.book.journal(), shown));
 }
 
 /// Retires a Job that is held.
