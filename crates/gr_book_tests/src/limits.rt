@@ -1,10 +1,31 @@
 //! Each limit of a workspace, by plans of one file.
-use crate::lowered::{Lowered, limits};
 use crate::texts::text;
 use gr_graph::Graph;
 use gr_space::{Snapshot, plan_put};
 use gr_text::{Files, Limits, Path, Refusal};
 use std::process::Abort;
+
+/// Which limit is lowered, and how far.
+#[derive(Clone, Copy)]
+enum Lowered {
+    Nothing,
+    FileBytes(u8),
+    TotalBytes(u8),
+    Files(u8),
+    Packages(u8),
+}
+
+fn limits(lowered: Lowered) -> Limits {
+    let mut limits = Limits::FULL;
+    match lowered {
+        Lowered::Nothing => (),
+        Lowered::FileBytes(bytes) => limits.file_bytes = bytes as usize,
+        Lowered::TotalBytes(bytes) => limits.total_bytes = bytes as usize,
+        Lowered::Files(files) => limits.files = files as usize,
+        Lowered::Packages(packages) => limits.packages = packages as usize,
+    }
+    limits
+}
 
 /// One file, `a/a.go`, of ten bytes.
 fn files(rt: &(impl Abort + AllocGlobal)) -> Files {

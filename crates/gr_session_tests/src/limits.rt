@@ -1,9 +1,28 @@
 //! Sessions under lowered limits, and one at the limit of a file.
 use crate::desks::written;
-use crate::lowered::{Lowered, limits};
 use gr_text::Limits;
 use std::alloc::{AllocError, Global};
 use std::process::Abort;
+
+/// Which limit is lowered, and how far.
+#[derive(Clone, Copy)]
+enum Lowered {
+    FileBytes(u8),
+    OneUndo,
+    Journal(u8),
+    CommandBytes(u8),
+}
+
+fn limits(lowered: Lowered) -> Limits {
+    let mut limits = Limits::FULL;
+    match lowered {
+        Lowered::FileBytes(bytes) => limits.file_bytes = bytes as usize,
+        Lowered::OneUndo => limits.undo_depth = 1,
+        Lowered::Journal(entries) => limits.journal = entries as u64,
+        Lowered::CommandBytes(bytes) => limits.command_bytes = bytes as usize,
+    }
+    limits
+}
 
 /// Asserts what a session under a limit writes.
 fn answers(rt: &(impl Abort + AllocGlobal), lowered: Lowered, input: &str, output: &str) {
