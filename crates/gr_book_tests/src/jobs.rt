@@ -45,9 +45,10 @@ fn deliveries_that_come_late(rt: HostRuntime) {
     does(&rt, &mut bench, Act::Take("a"), Outcome::Taken(2, 2, 4));
     does(&rt, &mut bench, Act::Deliver(2), Outcome::Done(2));
     does(&rt, &mut bench, Act::Deliver(0), Outcome::Already);
-    has_entries(&rt, &bench, &ENTRIES[..10]);
+    let entries = ENTRIES;
+    has_entries(&rt, &bench, &entries[..10]);
     does(&rt, &mut bench, Act::Take("a"), Outcome::NoJob);
-    has_entries(&rt, &bench, &ENTRIES);
+    has_entries(&rt, &bench, &entries);
     ends(&rt, bench, (11, 3))
 }
 
