@@ -3,12 +3,13 @@
 ghost use Rattle.std.specs.Prelude.{IfOk};
 ghost use Rattle.gr_verdict.specs.Found.{IsFound};
 
-use gr_book::{Book, Event, Line, Reply, View};
+use crate::calls::{planned, view_of};
+use gr_book::{Book, Entry, Event, Kind, Line, Reply, Told, View};
 use gr_check::Planned;
 use gr_compile::{Built, Job, build};
 use gr_rename::plan_rename;
-use gr_space::{MadeChange, plan_put};
-use gr_text::{FileText, Limits, Refusal};
+use gr_space::MadeChange;
+use gr_text::{Limits, Refusal};
 use gr_verdict::{Found, verdicts};
 use std::alloc::{AllocError, Global};
 use std::process::Abort;
@@ -130,41 +131,14 @@ fn told(jobs: &mut Vec<Job>, reply: Reply) -> Outcome {
     }
 }
 
-/// The put of a file on a view.
-fn planned(rt: &(impl Abort + AllocGlobal), view: &View, path: &str, bytes: &str) -> MadeChange {
-    let bytes = bytes.as_bytes().to_vec(rt.alloc()).expect(rt, "bytes");
-    let text = FileText::new(rt.alloc(), bytes).expect(rt, "a text");
-    plan_put(rt.alloc(), view.snapshot.get(), path, text)
-        .ok()
-        .expect(rt, "a plan")
+fn looked(rt: &impl Abort, book: &mut Book) -> View {
+    view_of(book.step(Event::Look)).expect(rt, "a view")
 }
 
 fn put(rt: &(impl Abort + AllocGlobal), book: &mut Book, path: &str, bytes: &str) -> Reply {
-    match book.step(Event::Look) {
-        Reply::Looked(view) => {
-            let change = planned(rt, &view, path, bytes);
-            book.step(Event::Commit(view.snapshot.number(), change))
-        }
-        other => other,
-    }
-}
-
-fn looked(rt: &impl Abort, book: &mut Book) -> View {
-    let shown = match book.step(Event::Look) {
-        Reply::Looked(view) => Some(view),
-        Reply::Done(_number) => None,
-        Reply::Logged(_number, _line) => None,
-        Reply::Refused(_refusal) => None,
-        Reply::Taken(job) => {
-            drop(job.retire());
-            None
-        }
-        Reply::Back(_refusal, job, _built) => {
-            drop(job.retire());
-            None
-        }
-    };
-    shown.expect(rt, "a view")
+    let view = looked(rt, book);
+    let change = planned(rt, rt.alloc(), &view, path, bytes);
+    book.step(Event::Commit(view.snapshot.number(), change))
 }
 
 /// Has the other book put a file, and the book commit the same change, planned there.
@@ -176,15 +150,13 @@ fn put_as_elsewhere(
 ) -> Reply {
     let view = looked(rt, &mut bench.other);
     let number = view.snapshot.number();
-    let there = Event::Commit(number, planned(rt, &view, path, bytes));
+    let there = Event::Commit(number, planned(rt, rt.alloc(), &view, path, bytes));
     let reply = bench.other.step(there);
     assert_eq!(rt;
         told(&mut bench.jobs, reply),
         Outcome::Done(number.wrapping_add(1))
     );
-    bench
-        .book
-        .step(Event::Commit(number, planned(rt, &view, path, bytes)))
+    bench.book.step(Event::Commit(number, planned(rt, rt.alloc(), &view, path, bytes)))
 }
 
 /// What is found in the packages of a view's files.
@@ -301,9 +273,24 @@ pub(crate) fn does(rt: &(impl Abort + AllocGlobal), bench: &mut Bench, act: Act,
     assert_eq!(rt; told(&mut bench.jobs, reply), outcome);
 }
 
-/// Asserts how many entries the book's journal has.
-pub(crate) fn has_entries(rt: &impl Abort, bench: &Bench, entries: usize) {
-    assert_eq!(rt; bench.book.journal().len(), entries);
+/// The kind of an entry, its basis, and how its event was answered.
+pub(crate) type Shown = (Kind, u64, Told);
+
+fn is_shown(entry: &Entry, shown: &Shown) -> bool {
+    entry.line.kind == shown.0 && entry.line.basis == shown.1 && entry.line.out == shown.2
+}
+
+fn are_shown(entries: &[Entry], shown: &[Shown]) -> bool {
+    entries.len() == shown.len()
+        && entries
+            .iter()
+            .zip(shown.iter())
+            .all(|pair| is_shown(pair.0, pair.1))
+}
+
+/// Asserts that the book's journal shows just these entries.
+pub(crate) fn has_entries(rt: &impl Abort, bench: &Bench, shown: &[Shown]) {
+    assert!(rt; are_shown(bench.book.journal(), shown));
 }
 
 /// Retires a Job that is held.

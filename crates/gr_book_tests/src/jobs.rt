@@ -1,6 +1,7 @@
 //! Jobs of a book: they are handed out, delivered late, given back and handed in elsewhere. A put is two entries of the
 //! journal, or one where it is planned on another book; each other act is one.
-use crate::bench::{Act, Bench, Outcome, does, ends, has_entries, opened, retires};
+use crate::bench::{Act, Bench, Outcome, Shown, does, ends, has_entries, opened, retires};
+use crate::texts::A;
 use gr_book::{Kind, Line, Reason, Told};
 use gr_compile::{Job, Out, SharedPath};
 use gr_graph::Graph;
@@ -8,7 +9,25 @@ use gr_text::Files;
 use gr_verdict::Known;
 use std::process::Abort;
 
-const A: &str = "package a\n\nvar x int\n\nfunc F(y int) int {\n\treturn x + y\n}\n";
+/// What `deliveries_that_come_late` leaves: of the Jobs 1, 2 and 0, which are handed in in this order, the first and the last are of a
+/// state that is not current, or of a package that is finished.
+const ENTRIES: [Shown; 11] = [
+    (Kind::Commit, 0, Told::Done(1)),
+    (Kind::Commit, 1, Told::Done(2)),
+    (Kind::Take, 2, Told::Done(2)),
+    (Kind::Undo, 2, Told::Done(1)),
+    (Kind::Take, 1, Told::Done(1)),
+    (Kind::Redo, 1, Told::Done(2)),
+    (
+        Kind::Deliver,
+        1,
+        Told::Refused(Reason::Stale { current: 2 }),
+    ),
+    (Kind::Take, 2, Told::Done(2)),
+    (Kind::Deliver, 2, Told::Done(2)),
+    (Kind::Deliver, 2, Told::Refused(Reason::Already)),
+    (Kind::Take, 2, Told::Refused(Reason::NoJob)),
+];
 
 /// A put and a rename that were planned on another book, with an undo and a redo between the Jobs.
 #[test]
@@ -26,8 +45,10 @@ fn deliveries_that_come_late(rt: HostRuntime) {
     does(&rt, &mut bench, Act::Take("a"), Outcome::Taken(2, 2, 4));
     does(&rt, &mut bench, Act::Deliver(2), Outcome::Done(2));
     does(&rt, &mut bench, Act::Deliver(0), Outcome::Already);
-    has_entries(&rt, &bench, 10);
+    let entries = ENTRIES;
+    has_entries(&rt, &bench, &entries[..10]);
     does(&rt, &mut bench, Act::Take("a"), Outcome::NoJob);
+    has_entries(&rt, &bench, &entries);
     ends(&rt, bench, (11, 3))
 }
 

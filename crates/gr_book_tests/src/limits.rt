@@ -1,7 +1,8 @@
 //! Each limit of a workspace, by plans of one file.
+use crate::texts::text;
 use gr_graph::Graph;
 use gr_space::{Snapshot, plan_put};
-use gr_text::{FileText, Files, Limits, Path, Refusal};
+use gr_text::{Files, Limits, Path, Refusal};
 use std::process::Abort;
 
 /// Which limit is lowered, and how far.
@@ -26,11 +27,6 @@ fn limits(lowered: Lowered) -> Limits {
     limits
 }
 
-fn text(rt: &(impl Abort + AllocGlobal), bytes: &str) -> FileText {
-    let bytes = bytes.as_bytes().to_vec(rt.alloc()).expect(rt, "bytes");
-    FileText::new(rt.alloc(), bytes).expect(rt, "a text")
-}
-
 /// One file, `a/a.go`, of ten bytes.
 fn files(rt: &(impl Abort + AllocGlobal)) -> Files {
     let path = Path::read(rt.alloc(), "a/a.go", 2)
@@ -38,7 +34,7 @@ fn files(rt: &(impl Abort + AllocGlobal)) -> Files {
         .expect(rt, "a path");
     let mut files = Files::new(rt.alloc());
     files
-        .insert(path, text(rt, "package a\n"))
+        .insert(path, text(rt, rt.alloc(), "package a\n"))
         .expect(rt, "room");
     files
 }
@@ -62,7 +58,8 @@ enum Plan {
 }
 
 fn put(rt: &(impl Abort + AllocGlobal), limits: Limits, path: &str, bytes: &str) -> Plan {
-    match plan_put(rt.alloc(), &snapshot(rt, limits), path, text(rt, bytes)) {
+    let text = text(rt, rt.alloc(), bytes);
+    match plan_put(rt.alloc(), &snapshot(rt, limits), path, text) {
         Ok(_) => Plan::Planned,
         Err(Refusal::BadPath) => Plan::BadPath,
         Err(Refusal::Same) => Plan::Same,

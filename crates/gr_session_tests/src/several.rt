@@ -14,7 +14,12 @@ fn answers(rt: &(impl Abort + AllocGlobal), solo: &mut Solo, input: &str, output
 #[test]
 fn three_sessions_on_one_book(rt: HostRuntime) {
     let mut solo = opened(rt.alloc(), Limits::FULL).expect(&rt, "a desk");
-    answers(&rt, &mut solo, "put 0 a/a.go 10\npackage a\n", "ok 1 0\n");
+    answers(
+        &rt,
+        &mut solo,
+        "put 0 a/a.go 58\npackage a\n\nvar x int\n\nfunc F(y int) int {\n\treturn x + y\n}\n",
+        "ok 1 0\n",
+    );
     answers(
         &rt,
         &mut solo,
@@ -25,7 +30,7 @@ fn three_sessions_on_one_book(rt: HostRuntime) {
         &rt,
         &mut solo,
         "cat a/a.go\nend\nlook\n",
-        "ok 2 10\npackage a\n",
+        "ok 2 58\npackage a\n\nvar x int\n\nfunc F(y int) int {\n\treturn x + y\n}\n",
     );
     assert!(rt; solo.into_book().close() == 6);
 }

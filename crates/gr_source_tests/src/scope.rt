@@ -73,7 +73,7 @@ fn declared_at(table: &ScopeTable<'_>, place: &Place) -> Option<usize> {
     Some(file.offset(identifier.place.index))
 }
 
-/// Whether what is used there in the one file is declared there.
+/// Whether an identifier stands there in the one file, and what it means is declared there.
 fn is_bound(
     alloc: Global,
     files: &[FileTree],
@@ -85,7 +85,8 @@ fn is_bound(
         path: path(alloc, "a/a.go")?,
         offset: used,
     };
-    Ok(declared_at(&table, &place) == declared)
+    let is_used = table.identifier_beginning_at(&place).is_some();
+    Ok(is_used && declared_at(&table, &place) == declared)
 }
 
 fn is_right(alloc: Global, row: &str) -> Result<bool, Fail> {
@@ -112,10 +113,11 @@ fn bindings(rt: HostRuntime) -> Result<(), Fail> {
     Ok(())
 }
 
-/// Whether no import declares a name where nothing is known of any package.
+/// Whether there is an import without a name, and it declares none where nothing is known of any package.
 fn gives_no_name(alloc: Global, files: &[FileTree]) -> Result<bool, Fail> {
     let table = plain_table(alloc, files)?;
-    Ok((0..table.len()).all(|u| table.declares(u) == table.role(u).is_implied()))
+    let is_there = (0..table.len()).any(|u| table.role(u).is_unnamed_import());
+    Ok(is_there && (0..table.len()).all(|u| table.declares(u) == table.role(u).is_implied()))
 }
 
 #[test]

@@ -52,7 +52,7 @@ fn lines_count_from_one(rt: HostRuntime) -> Result<(), Fail> {
 /// Puts a file that a row tells: its path, a blank, and its text.
 pub(crate) fn put(alloc: Global, files: &mut Files, row: &str) -> Result<(), Fail> {
     let Some((at, text)) = row.split_once(' ') else {
-        return Ok(());
+        return Err("no row".into());
     };
     let path = path(alloc, at)?;
     let text = file(alloc, text.as_bytes())?;

@@ -8,7 +8,7 @@ use denote.Param.{param}
 use denote.Param.SendFields.{as_row_send, declared_send}
 use denote.Param.Send.{sendable, param_send, arg_send, shr_send}
 use Rattle.gr_pool.proofs.Sends.{seat_sent, shared_shared}
-use Rattle.gr_pool_tests.proofs.workers.all_at_work.Goals as goal
+use Rattle.gr_book_tests.proofs.workers.all_at_work.Goals as goal
 
 pub join-requires-send-F : goal.join-requires-send-F
 join-requires-send-F g c = λ κs within. param_send 1 _ (arg_send _ no _ (declared_send (type_at _ (_ ∷ _ ∷ _ ∷ [])) (

@@ -4,7 +4,8 @@ ghost use Rattle.std.specs.Prelude.{◌≡◌};
 use crate::calls::put;
 use crate::meeting::Meeting;
 use crate::settling::settled;
-use gr_book::{Book, Entry, Kind, Reason, Told};
+use crate::texts::A;
+use gr_book::{Book, Entry, Kind, Reason, Told, View};
 use gr_pool::{Opening, Seat, Shared, worker};
 use gr_text::Limits;
 use std::alloc::Global;
@@ -14,8 +15,6 @@ use std::sync::Wait;
 use std::sync::ledger::Blank;
 use std::thread;
 use std::thread::Threads;
-
-const A: &str = "package a\n\nvar x int\n\nfunc F(y int) int {\n\treturn x + y\n}\n";
 
 #[test]
 fn two_workers_together(rt: HostRuntime) {
@@ -46,11 +45,17 @@ fn worked<L: Opening, R: Wait>(
     seat
 }
 
+fn are_finished(view: &View) -> bool {
+    view.snapshot.files().len() == 2
+        && view.finished.get(0).is_some()
+        && view.finished.get(1).is_some()
+}
+
 /// Waits until all is built, which is two packages, and lets the workers end.
 fn waited<L: Opening, R: Wait + Abort>(rt: &R, shared: &Shared<L>, mut seat: Seat<L>) -> Seat<L> {
     let view = shared.wait_built(rt, &mut seat).ok().expect(rt, "a view");
     shared.stop(rt);
-    assert_eq!(rt; view.snapshot.files().len(), 2);
+    assert!(rt; are_finished(&view));
     seat
 }
 

@@ -21,26 +21,27 @@ fn is_help(alloc: Global, words: &[String]) -> bool {
     matches!(read_words(alloc, words), Err(WordsFault::Help(_)))
 }
 
+/// A line each.
+const USAGE: &str = "gorefd
+gorefd frob
+gorefd run run
+gorefd help
+gorefd serve
+gorefd serve --workers 1 --sessions 1
+gorefd serve --socket s --sessions 1
+gorefd serve --socket s --workers 1
+gorefd serve --socket s --workers 0 --sessions 1
+gorefd serve --socket s --workers 17 --sessions 1
+gorefd serve --socket s --workers 1 --sessions 0
+gorefd serve --socket s --workers 1 --sessions 33
+gorefd serve --socket s --workers 1 --sessions 1 --stop-after 0
+gorefd serve --socket s --workers 1 --sessions 1 --stop-after 1000001
+gorefd serve --socket s --socket t --workers 1 --sessions 1";
+
 #[test]
 fn words_that_ask_nothing(rt: HostRuntime) {
     let alloc = rt.alloc();
-    for line in [
-        "gorefd",
-        "gorefd frob",
-        "gorefd run run",
-        "gorefd help",
-        "gorefd serve",
-        "gorefd serve --workers 1 --sessions 1",
-        "gorefd serve --socket s --sessions 1",
-        "gorefd serve --socket s --workers 1",
-        "gorefd serve --socket s --workers 0 --sessions 1",
-        "gorefd serve --socket s --workers 17 --sessions 1",
-        "gorefd serve --socket s --workers 1 --sessions 0",
-        "gorefd serve --socket s --workers 1 --sessions 33",
-        "gorefd serve --socket s --workers 1 --sessions 1 --stop-after 0",
-        "gorefd serve --socket s --workers 1 --sessions 1 --stop-after 1000001",
-        "gorefd serve --socket s --socket t --workers 1 --sessions 1",
-    ] {
+    for line in USAGE.lines() {
         let words = split(&rt, alloc, line);
         assert!(rt; is_usage(alloc, words.as_slice()), "{line}");
     }
@@ -49,7 +50,7 @@ fn words_that_ask_nothing(rt: HostRuntime) {
 #[test]
 fn words_that_ask_for_help(rt: HostRuntime) {
     let alloc = rt.alloc();
-    for line in ["gorefd --help", "gorefd run --help", "gorefd serve -h"] {
+    for line in "gorefd --help\ngorefd run --help\ngorefd serve -h".lines() {
         let words = split(&rt, alloc, line);
         assert!(rt; is_help(alloc, words.as_slice()), "{line}");
     }

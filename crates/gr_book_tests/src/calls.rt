@@ -1,8 +1,8 @@
-//! What the tests do at a seat: a look, and the put of a file.
+//! What the tests do with a view and at a seat: a look, and the put of a file.
+use crate::texts::text;
 use gr_book::{Event, Reply, View};
 use gr_pool::{Opening, Seat, Shared};
 use gr_space::{MadeChange, plan_put};
-use gr_text::FileText;
 use std::alloc::Global;
 use std::process::Abort;
 use std::sync::Wait;
@@ -26,7 +26,7 @@ fn done(reply: Reply) -> Option<u64> {
 }
 
 /// The view that a look showed.
-fn view_of(reply: Reply) -> Option<View> {
+pub(crate) fn view_of(reply: Reply) -> Option<View> {
     match reply {
         Reply::Looked(view) => Some(view),
         other => {
@@ -46,9 +46,14 @@ pub(crate) fn look<L: Opening, R: Wait>(
 }
 
 /// The put of a file on a view.
-fn planned<R: Abort>(rt: &R, alloc: Global, view: &View, path: &str, bytes: &str) -> MadeChange {
-    let bytes = bytes.as_bytes().to_vec(alloc).expect(rt, "bytes");
-    let text = FileText::new(alloc, bytes).expect(rt, "a text");
+pub(crate) fn planned<R: Abort>(
+    rt: &R,
+    alloc: Global,
+    view: &View,
+    path: &str,
+    bytes: &str,
+) -> MadeChange {
+    let text = text(rt, alloc, bytes);
     plan_put(alloc, view.snapshot.get(), path, text)
         .ok()
         .expect(rt, "a plan")

@@ -1,5 +1,5 @@
 -- The ledger is that of the blank, and the journal is empty at first.
-use Rattle.gr_held_tests.proofs.sessions.two_sessions.Given as goal
+use Rattle.gr_book_tests.proofs.sessions.two_sessions.Given as goal
 
 abbrev pub ghosts-change_both-L-Opening : goal.ghosts-change_both-L-Opening
 ghosts-change_both-L-Opening g a = record { from = 0 }

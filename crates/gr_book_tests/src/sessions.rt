@@ -1,12 +1,13 @@
 //! Two sessions on threads, each with a seat at one book.
 ghost use Rattle.std.specs.Prelude.{◌≡◌};
 
+use crate::texts::{A, text};
 use gr_book::Book;
 use gr_desk::{Desk, Solo, act};
 use gr_held::Held;
 use gr_line::{Command, Response, Word};
 use gr_pool::{Opening, Seat, Shared, Unsettled};
-use gr_text::{FileText, Limits, Refusal};
+use gr_text::{Limits, Refusal};
 use std::alloc::Global;
 use std::marker::Brand;
 use std::process::Abort;
@@ -14,8 +15,6 @@ use std::sync::Wait;
 use std::sync::ledger::Blank;
 use std::thread;
 use std::thread::Threads;
-
-const A: &str = "package a\n\nvar x int\n\nfunc F(y int) int {\n\treturn x + y\n}\n";
 
 const B: &str = "package b\n";
 
@@ -26,12 +25,10 @@ fn two_sessions(rt: HostRuntime) {
 
 /// The command that puts a file.
 fn put_of<R: Abort>(rt: &R, alloc: Global, basis: u64, path: &str, bytes: &str) -> Command {
-    let bytes = bytes.as_bytes().to_vec(alloc).expect(rt, "bytes");
-    let text = FileText::new(alloc, bytes).expect(rt, "a text");
     Command::Put {
         basis,
         path: Word::new(alloc, path).expect(rt, "a path"),
-        body: Some(text),
+        body: Some(text(rt, alloc, bytes)),
     }
 }
 

@@ -1,5 +1,5 @@
 -- The ledger is that of the blank, and the journal is empty at first.
-use Rattle.gr_pool_tests.proofs.settling.one_seat_left_out.Given as goal
+use Rattle.gr_book_tests.proofs.settling.one_seat_left_out.Given as goal
 
 abbrev pub ghosts-left_out-L-Opening : goal.ghosts-left_out-L-Opening
 ghosts-left_out-L-Opening g a = record { from = 0 }

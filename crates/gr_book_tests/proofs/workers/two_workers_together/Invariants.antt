@@ -1,5 +1,5 @@
 -- The ledger is that of the blank, and the journal is empty at first.
-use Rattle.gr_pool_tests.proofs.workers.two_workers_together.Given as goal
+use Rattle.gr_book_tests.proofs.workers.two_workers_together.Given as goal
 
 abbrev pub ghosts-work_together-L-Opening : goal.ghosts-work_together-L-Opening
 ghosts-work_together-L-Opening g a = record { from = 0 }
