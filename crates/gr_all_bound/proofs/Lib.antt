@@ -18,5 +18,4 @@ pub mod Typed
 pub mod Fine
 pub mod Rules
 pub mod Begun
-pub mod OwnLocals
 pub mod Scoped

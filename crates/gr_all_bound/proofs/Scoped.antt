@@ -8,10 +8,11 @@ use Rattle.gr_text.specs.Workspace.{Workspace}
 use Rattle.gr_tree.specs.declared.syntax.Token.{Token}
 use Rattle.gr_tree.specs.Flatten.{flatten}
 use Rattle.gr_tree.specs.SourceFile.{SourceFile, source_of, spelling_of}
-use Rattle.gr_scope.specs.declared.model.Block.TheVariants.{Inner}
+use Rattle.gr_scope.specs.declared.model.Block.TheVariants.{Universe, File, Inner}
+use Rattle.gr_scope.specs.declared.model.Block.TheVariants.{Package as PackageBlock}
 use Rattle.gr_scope.specs.declared.model.Position.{Position}
 use Rattle.gr_scope.specs.declared.model.Role.{Role}
-use Rattle.gr_scope.specs.declared.model.Role.TheVariants.{Use, LeftName, NotLexical}
+use Rattle.gr_scope.specs.declared.model.Role.TheVariants.{Use, Declaring, LeftName, Implied, NotLexical}
 use Rattle.gr_scope.specs.declared.model.Purpose.TheVariants as purpose
 use Rattle.gr_scope.specs.Bindings.{Layout, IsIdentifier, IsBoundTo, Counts, use_bound, own, block_of, start_of, may_declare, is_implied}
 use Rattle.gr_scope.specs.FileSites.{SpelledFile, file_sites, files_sites, universe, universe_site, package_sites}
@@ -32,10 +33,12 @@ use Rattle.gr_order.proofs.Places.{plainly_stands}
 use Rattle.gr_expr.specs.Types.{Meaning, Broken}
 use Rattle.gr_expr.specs.World.{World, Bound, Local, Means, BrokenVariable, BrokenFunction, BrokenType}
 use Rattle.gr_expr.specs.Judge.{MemberUse}
+use Rattle.gr_declared.specs.Bound.{IsMeantBy}
 use Rattle.gr_declared.specs.Bound as bound
 use Rattle.gr_declared.specs.Package.{Package}
+use Rattle.gr_declared.specs.Written.{BindsToken}
 use Rattle.gr_meanings.specs.MemberUses.{AreUsesIn}
-use Rattle.gr_meanings.specs.Worlds.{is_bound, by_scope}
+use Rattle.gr_meanings.specs.Worlds.{IsName, is_bound, is_unbound, by_scope, by_package}
 use Rattle.gr_meanings.proofs.DeclKinds.{Holds}
 use Rattle.gr_meanings.proofs.OneMeaning.{one_name}
 use Rattle.gr_verdict.specs.Verdicts.{Verdicts, IsPackageIn}
@@ -51,7 +54,6 @@ use Rattle.gr_all_bound.specs.Scopes.{may_be_local, IsEarlier, IsResolved, AreRe
 use Rattle.gr_all_bound.specs.Unbroken.{IsUnbroken}
 use Rattle.gr_all_bound.proofs.Begun.{file_begins}
 use Rattle.gr_all_bound.proofs.Links.{source_is}
-use Rattle.gr_all_bound.proofs.OwnLocals.{local_role, IsPlaced, local_bound}
 use Rattle.gr_all_bound.proofs.Rules.{source_strung}
 use Rattle.gr_all_bound.proofs.Sites.{files_among}
 use Rattle.gr_all_bound.proofs.Types.{Stands, Kept, all_kept, none_by_scope}
@@ -129,6 +131,19 @@ all_themselves [] = tt
 all_themselves (x ∷ xs) = (inl refl, all_as (Holds xs) (Holds (x ∷ xs)) (λ y h. inr h) xs (all_themselves xs))
 
 -- identifiers with a block inside a file
+
+local_role : (r : Role) (f a c : ℕ) → may_declare r ≡ true → is_implied r ≡ false → block_of r ≡ Inner f a c → may_be_local r ≡ true
+local_role (Declaring (Inner g d e) start) f a c m i b = refl
+local_role (LeftName (Inner g d e) start) f a c m i b = refl
+local_role (Declaring Universe start) f a c m i b = let z : ⊥ = cc in absurd z
+local_role (Declaring PackageBlock start) f a c m i b = let z : ⊥ = cc in absurd z
+local_role (Declaring (File g) start) f a c m i b = let z : ⊥ = cc in absurd z
+local_role (LeftName Universe start) f a c m i b = let z : ⊥ = cc in absurd z
+local_role (LeftName PackageBlock start) f a c m i b = let z : ⊥ = cc in absurd z
+local_role (LeftName (File g) start) f a c m i b = let z : ⊥ = cc in absurd z
+local_role (Implied block start) f a c m i b = absurd (true≢false i)
+local_role Use f a c m i b = absurd (true≢false (sym m))
+local_role (NotLexical p) f a c m i b = absurd (true≢false (sym m))
 
 identified : (s : Source) (xs : List Site) (ts : List Token) → Pairs s xs ts → AllByRecursion (λ x. is_implied x.role ≡ false) xs
 identified s [] ts p = tt
@@ -271,6 +286,27 @@ module _ (w : Workspace) (known : Verdicts) (path : List ℕ) (p : Package) (h :
     abbrev B : ℕ → Type 0
     B = IsBlankAt j.source
 
+    -- the block and the place of a local
+    IsPlaced : (d k : ℕ) → Type 0
+    IsPlaced d k = (f : ℕ) × ((a : ℕ) × ((c : ℕ) × ((block_of (p.layout.role d) ≡ Inner f a c) × ((p.layout.place d).index ≡ k))))
+
+    meant_local : (d k : ℕ) (b : Bound) → IsMeantBy p d b → b ≡ Local k → IsPlaced d k
+    unfolding IsPlaced
+    meant_local d k _ (bound.predeclared is means) e = let z : ⊥ = cc in absurd z
+    meant_local d k _ (bound.import_name is) e = let z : ⊥ = cc in absurd z
+    meant_local d k _ (bound.local {file = f} {from = a} {to = c} is) e = (f, (a, (c, (is, (let same : (p.layout.place d).index ≡ k = cc in same)))))
+    meant_local d k _ (bound.variable is t) e = let z : ⊥ = cc in absurd z
+    meant_local d k _ (bound.broken_variable is t) e = let z : ⊥ = cc in absurd z
+    meant_local d k _ (bound.function is s) e = let z : ⊥ = cc in absurd z
+    meant_local d k _ (bound.broken_function is s) e = let z : ⊥ = cc in absurd z
+    meant_local d k _ (bound.definition is t whole) e = let z : ⊥ = cc in absurd z
+    meant_local d k _ (bound.broken_definition is t broken) e = let z : ⊥ = cc in absurd z
+
+    local_bound : (i k : ℕ) (b : Bound) → IsName p file i b → b ≡ Local k → (d : ℕ) × (BindsToken p file i d × IsPlaced d k)
+    local_bound i k b (is_bound (by_scope {declaration = d} binds m)) e = (d, (binds, meant_local d k b m e))
+    local_bound i k _ (is_bound (by_package x)) e = let z : ⊥ = cc in absurd z
+    local_bound i k _ (is_unbound none) e = let z : ⊥ = cc in absurd z
+
     -- an identifier that declares a local is bound to itself
     own_bound : (d f a c : ℕ) → block_of (p.layout.role d) ≡ Inner f a c → Counts p.layout p.names d → (p.layout.place d).file ≡ file →
         v.bound (p.layout.place d).index ≡ Local (p.layout.place d).index
@@ -296,7 +332,7 @@ module _ (w : Workspace) (known : Verdicts) (path : List ℕ) (p : Package) (h :
         ((may_declare (p.layout.role u) ≡ true) × (v.bound i ≡ Local i)) ⊎ IsEarlier v A i
     unfolding HasSite IsPlaced
     by_local xs sites i k u lt stands e A before =
-        let x = local_bound p file i k (v.bound i) (j.judged_by.names i) e in
+        let x = local_bound i k (v.bound i) (j.judged_by.names i) e in
         let same : x.1.0.identifier ≡ u =
         one_stands p.layout p.size in_order (record { file = file; index = i }) x.1.0.identifier u x.1.0.found.within lt x.1.0.found.holds stands in
         decide x.0 x.1.1.0 x.1.1.1.0 x.1.1.1.1.0 x.1.1.1.1.1.0 x.1.1.1.1.1.1 (subst (λ z. IsBoundTo p.layout p.names z x.0) same x.1.0.bound)
@@ -363,7 +399,7 @@ module _ (w : Workspace) (known : Verdicts) (path : List ℕ) (p : Package) (h :
     by_role xs sites i (NotLexical purpose.Selected) k A before = λ b e q.
         let u = k refl in
         whole_bound i (v.bound i) refl (subst (StandsForSomething v j.source i) u.1.1.1 (mean u.0 i u.1.0 u.1.1.0) b e q)
-        (λ n is. let x = local_bound p file i n (v.bound i) (j.judged_by.names i) is in none_by_scope w known path p h file i u x.0 x.1.0)
+        (λ n is. let x = local_bound i n (v.bound i) (j.judged_by.names i) is in none_by_scope w known path p h file i u x.0 x.1.0)
     by_role xs sites i (LeftName block start) k A before =
         let u = k refl in
         let l = subst (StandsForSomething v j.source i) u.1.1.1 (mean u.0 i u.1.0 u.1.1.0) in

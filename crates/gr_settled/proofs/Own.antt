@@ -2,14 +2,17 @@
 use Rattle.std.proofs.Common.{ℕ, ◌≡◌, ◌<◌, ◌≤◌, inl, inr, true, false, List, [], ◌∷◌, map, ap, sym, subst, refl, ◌∙◌, arith}
 use Rattle.std.specs.Prelude.{Some, slice_get, option_map}
 use Rattle.std.specs.List.{AllByRecursion}
+use Rattle.std.proofs.lemmas.Bool.{true≢false}
 use Rattle.std.proofs.lemmas.Option.{same_Some, slice_get-map}
 use Rattle.gr_text.specs.Workspace.{Workspace}
 use Rattle.gr_tree.specs.SourceFile.{SourceFile, source_of, spelling_of}
 use Rattle.gr_tree.specs.Flatten.{flatten}
 use Rattle.gr_tree.specs.Tree.{FuncTree, FuncDecl}
 use Rattle.gr_scope.specs.declared.model.Block.TheVariants.{Universe, File, Inner}
+use Rattle.gr_scope.specs.declared.model.Block.TheVariants.{Package as PackageBlock}
 use Rattle.gr_scope.specs.declared.model.Position.{Position}
 use Rattle.gr_scope.specs.declared.model.Role.{Role}
+use Rattle.gr_scope.specs.declared.model.Role.TheVariants.{Use, Declaring, LeftName, Implied, NotLexical}
 use Rattle.gr_scope.specs.Bindings.{MayDeclare, Counts, IsBoundTo, use_bound, own, block_of, start_of, may_declare, is_implied}
 use Rattle.gr_scope.specs.FileSites.{SpelledFile, file_sites, files_sites, universe, package_sites, func_sites}
 use Rattle.gr_scope.specs.Parsed.{spelled_file}
@@ -20,10 +23,12 @@ use Rattle.gr_scope.proofs.FileRegions.{file_fits}
 use Rattle.gr_scope.proofs.Regions.{Each, Fits, inner_file}
 use Rattle.gr_scope.proofs.Rising.{rises_of}
 use Rattle.gr_order.proofs.Ordered.{same_length}
-use Rattle.gr_expr.specs.World.{World, Local}
+use Rattle.gr_expr.specs.World.{World, Bound, Local}
+use Rattle.gr_declared.specs.Bound.{IsMeantBy}
 use Rattle.gr_declared.specs.Bound as bound
 use Rattle.gr_declared.specs.Package.{Package}
-use Rattle.gr_meanings.specs.Worlds.{IsWorldOf, is_bound, by_scope}
+use Rattle.gr_declared.specs.Written.{BindsToken}
+use Rattle.gr_meanings.specs.Worlds.{IsName, IsWorldOf, is_bound, is_unbound, by_scope, by_package}
 use Rattle.gr_meanings.proofs.DeclKinds.{Holds}
 use Rattle.gr_meanings.proofs.OneMeaning.{one_name}
 use Rattle.gr_verdict.specs.Verdicts.{Verdicts, IsPackageIn}
@@ -35,12 +40,24 @@ use Rattle.gr_decided.proofs.Files.{IsGlobal}
 use Rattle.gr_decided.proofs.Numbers.{OfKind, IsTold, IsKept, universal, plain, laid, kept_at}
 use Rattle.gr_all_bound.specs.Scopes.{may_be_local}
 use Rattle.gr_all_bound.proofs.Links.{source_is}
-use Rattle.gr_all_bound.proofs.OwnLocals.{local_role, IsPlaced, local_bound}
 use Rattle.gr_all_bound.proofs.Scoped.{found_first}
 use Rattle.gr_all_bound.proofs.Sites.{files_among}
 use Rattle.gr_worlds.proofs.Declared.{told_identifies, given, sites, old_site, new_site, role_is, place_is, kept, may_within, file_of_told}
 use Rattle.gr_settled.proofs.Reaching.{Lies, Reaches, file_only}
 use Rattle.gr_settled.proofs.Slots.{function_slotted}
+
+local_role : (r : Role) (f a c : ℕ) → may_declare r ≡ true → is_implied r ≡ false → block_of r ≡ Inner f a c → may_be_local r ≡ true
+local_role (Declaring (Inner g d e) start) f a c m i b = refl
+local_role (LeftName (Inner g d e) start) f a c m i b = refl
+local_role (Declaring Universe start) f a c m i b = let z : ⊥ = cc in absurd z
+local_role (Declaring PackageBlock start) f a c m i b = let z : ⊥ = cc in absurd z
+local_role (Declaring (File g) start) f a c m i b = let z : ⊥ = cc in absurd z
+local_role (LeftName Universe start) f a c m i b = let z : ⊥ = cc in absurd z
+local_role (LeftName PackageBlock start) f a c m i b = let z : ⊥ = cc in absurd z
+local_role (LeftName (File g) start) f a c m i b = let z : ⊥ = cc in absurd z
+local_role (Implied block start) f a c m i b = absurd (true≢false i)
+local_role Use f a c m i b = absurd (true≢false (sym m))
+local_role (NotLexical p) f a c m i b = absurd (true≢false (sym m))
 
 -- what declares inside of a file does so in a block of the file
 abbrev IsFramed : ℕ → Role → Type 0
@@ -148,6 +165,27 @@ module _ (w : Workspace) (known : Verdicts) (path : List ℕ) (p : Package) (h :
   -- the names of a file
 
   module _ (file : ℕ) (s : SourceFile) (at : slice_get p.files file ≡ Some s) (v : World) (judged : IsWorldOf p file s v) where
+    -- the block and the place of a local
+    IsPlaced : (d k : ℕ) → Type 0
+    IsPlaced d k = (f : ℕ) × ((a : ℕ) × ((c : ℕ) × ((block_of (p.layout.role d) ≡ Inner f a c) × ((p.layout.place d).index ≡ k))))
+
+    meant_local : (d k : ℕ) (b : Bound) → IsMeantBy p d b → b ≡ Local k → IsPlaced d k
+    unfolding IsPlaced
+    meant_local d k _ (bound.predeclared is means) e = let z : ⊥ = cc in absurd z
+    meant_local d k _ (bound.import_name is) e = let z : ⊥ = cc in absurd z
+    meant_local d k _ (bound.local {file = f} {from = a} {to = c} is) e = (f, (a, (c, (is, (let same : (p.layout.place d).index ≡ k = cc in same)))))
+    meant_local d k _ (bound.variable is t) e = let z : ⊥ = cc in absurd z
+    meant_local d k _ (bound.broken_variable is t) e = let z : ⊥ = cc in absurd z
+    meant_local d k _ (bound.function is s) e = let z : ⊥ = cc in absurd z
+    meant_local d k _ (bound.broken_function is s) e = let z : ⊥ = cc in absurd z
+    meant_local d k _ (bound.definition is t whole) e = let z : ⊥ = cc in absurd z
+    meant_local d k _ (bound.broken_definition is t broken) e = let z : ⊥ = cc in absurd z
+
+    local_bound : (i k : ℕ) (b : Bound) → IsName p file i b → b ≡ Local k → (d : ℕ) × (BindsToken p file i d × IsPlaced d k)
+    local_bound i k b (is_bound (by_scope {declaration = d} binds m)) e = (d, (binds, meant_local d k b m e))
+    local_bound i k _ (is_bound (by_package x)) e = let z : ⊥ = cc in absurd z
+    local_bound i k _ (is_unbound none) e = let z : ⊥ = cc in absurd z
+
     -- an identifier that declares a local is bound to itself
     own_bound : (d f a c : ℕ) → block_of (p.layout.role d) ≡ Inner f a c → Counts p.layout p.names d → (p.layout.place d).file ≡ file →
         v.bound (p.layout.place d).index ≡ Local (p.layout.place d).index
@@ -197,6 +235,6 @@ module _ (w : Workspace) (known : Verdicts) (path : List ℕ) (p : Package) (h :
       pub own_local : (place : ℕ) → v.bound n ≡ Local place → HasPlace place
       unfolding IsPlaced
       own_local place e =
-          let x = local_bound p file n place (v.bound n) (judged.names n) e in
+          let x = local_bound n place (v.bound n) (judged.names n) e in
           let y = x.1.1 in
           subst HasPlace y.1.1.1.1 (by_bound x.1.0.identifier x.0 y.0 y.1.0 y.1.1.0 x.1.0.found.holds y.1.1.1.0 x.1.0.bound)

@@ -138,8 +138,6 @@ body_within s n k m (block o ss c) nk w h =
     let fits = statements_fits s o c (suc o) c ss w.1 (omega arith) (omega arith) (rises_up (suc o) (statements_tokens ss) r.0 c rc r.1.0) in
     (omega arith, omega arith, all_fit s.rank o c (suc o) c n m (statements_sites s (Inner s.rank o c) c ss) (omega arith) (omega arith) fits.0)
 
--- Its parts are found as in gr_scope's `func_fits`, which tells of the same identifiers that they lie in blocks: what is found is no
--- lemma of its own, since it would have to name each of the parts.
 func_within : (s : Source) (n m : ℕ) (f : FuncTree) → IsFunc f → Rises n (func_tokens f) m → AllByRecursion (IsWithin n m) (func_sites s f)
 unfolding func_tokens func_sites
 func_within s n m f w h =
