@@ -50,10 +50,7 @@ fn add_file(alloc: Global, paths: &mut BTreeSet<Vec<u8>>, file: &FileTree) -> Re
 }
 
 /// The paths that some files import.
-pub(crate) fn import_paths(
-    alloc: Global,
-    files: &[FileTree],
-) -> Result<BTreeSet<Vec<u8>>, AllocError>
+pub fn import_paths(alloc: Global, files: &[FileTree]) -> Result<BTreeSet<Vec<u8>>, AllocError>
     ensures { IfOk result (λ paths. HoldsPaths (SomeImport files.now) paths.keys) }
 {
     let mut paths = BTreeSet::new(alloc);

@@ -6,7 +6,7 @@ mod faulty_file;
 mod file_imports;
 mod graph;
 mod import_links;
-mod import_paths;
+pub mod import_paths;
 mod importers;
 mod kept;
 mod package;

@@ -23,7 +23,7 @@ use Rattle.gr_meanings.proofs.BoundLists.{slice_get_some, none_past}
 
 -- definitions
 
-at_own : (w : World) (s : Symbol) → w.package.now ≡ s.package → definition_in w s ≡ definition_or_none s (slice_get w.own.now s.rank)
+pub at_own : (w : World) (s : Symbol) → w.package.now ≡ s.package → definition_in w s ≡ definition_or_none s (slice_get w.own.now s.rank)
 unfolding definition_in definition_at
 at_own w s e = ap (λ t. definition_or_none s (if t then slice_get w.own.now s.rank else imported_at w.imported.now s))
     ((bytes_decides w.package.now s.package).1 e)
@@ -32,7 +32,7 @@ is_other : (a b : List ℕ) → (a ≡ b → ⊥) → (t : Bool) → same_path a
 is_other a b n true e = absurd (n ((bytes_decides a b).0 e))
 is_other a b n false e = refl
 
-at_other : (w : World) (s : Symbol) → (w.package.now ≡ s.package → ⊥) → definition_in w s ≡ definition_or_none s (imported_at w.imported.now s)
+pub at_other : (w : World) (s : Symbol) → (w.package.now ≡ s.package → ⊥) → definition_in w s ≡ definition_or_none s (imported_at w.imported.now s)
 unfolding definition_in definition_at
 at_other w s n =
     ap (λ t. definition_or_none s (if t then slice_get w.own.now s.rank else imported_at w.imported.now s))

@@ -11,7 +11,7 @@ mod whole_types;
 
 pub use bounds::{Bounds, bounds_of};
 pub use copies::copy_signature;
-pub use names::file_names;
+pub use names::{file_names, is_behind_dot};
 pub use signatures::signature;
 pub use uniqueness::{one_meaning, one_world};
 pub use whole_types::whole_type;

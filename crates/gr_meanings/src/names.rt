@@ -30,7 +30,7 @@ fn is_selected(role: Role) -> bool
 }
 
 /// Whether a name behind a dot stands at a token.
-fn is_behind_dot(unit: Package<'_>, index: &Index<'_>, file: usize, token: usize) -> bool
+pub fn is_behind_dot(unit: Package<'_>, index: &Index<'_>, file: usize, token: usize) -> bool
     requires { IsIndexOf (package_of unit) index.now }
     ensures { IsTrue result ↔ IsBehindDot (package_of unit.entry) file token }
 {

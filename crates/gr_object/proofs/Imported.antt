@@ -1,170 +1,53 @@
--- The paths that files import, collected in a set.
-use Rattle.std.proofs.Common.{ℕ, ◌≡◌, ◌+◌, ◌<◌, ◌↔◌, ◌⊎◌, ◌∷◌, ◌++◌, [], List, inl, inr, ⊎_elim, ap, sym, subst, ◌∙◌, refl, length, map, arith, Global}
-use Rattle.std.specs.Prelude.{Option, Some, None, Vec, slice_get}
+-- The paths that files import, as the object of their package lists them.
+use Rattle.std.proofs.Common.{ℕ, zero, suc, ◌≡◌, ◌<◌, ◌↔◌, ◌∷◌, [], List, ap, sym, subst, ◌∙◌, refl, length, get_or, map, arith, Global}
+use Rattle.std.proofs.lemmas.List.{get_or-map, length-map}
+use Rattle.std.specs.Prelude.{Vec}
 use Rattle.std.specs.declared.cmp.Ordering.{Ordering}
-use Rattle.std.specs.declared.cmp.Ordering.TheVariants.{Less, Equal, Greater}
-use Rattle.std.specs.Ordering.{match_ordering}
-use Rattle.std.specs.BTreeSet.{insert_key}
+use Rattle.std.specs.declared.cmp.Ordering.TheVariants.{Less}
 use Rattle.std.specs.List.{Contains, AllByRecursion}
 use Rattle.std.specs.List.Sorted.{IsStrictlySortedBy}
-use Rattle.std.proofs.lemmas.List.Elements.{Contains-push, Contains-push_cases, Contains-append_left, Contains-append_right, Contains-append_cases}
-use Rattle.std.proofs.lemmas.Option.{same_Some}
 use Rattle.gr_text.specs.Workspace.{path_cmp}
-use Rattle.gr_text.proofs.WorkspaceLaws.{path_cmp_exact}
 use Rattle.gr_tree.specs.SourceFile.{SourceFile, FileParts, source_of}
-use Rattle.gr_graph.specs.FileImports.{ListsImports}
+use Rattle.gr_graph.specs.ImportPaths.{bytes_of_paths, HoldsPaths, SomeImport}
 use Rattle.gr_graph.specs.Packages.{ImportsPath}
-use Rattle.gr_graph.specs.Rows.{HasNumber}
-use Rattle.gr_graph.specs.declared.file_imports.FileImport.{FileImport}
-use Rattle.gr_graph.proofs.Collected.{are_imports, none_held}
-use Rattle.gr_object.specs.ImportsView.{paths_in, AddsPaths, HoldsPaths, SomeImport, SomeStandFor, StandsFor}
-
--- a list with one more item before it
-
-cons_cases : (x : List ℕ) (xs : List (List ℕ)) (q : List ℕ) → Contains (x ∷ xs) q → (x ≡ q) ⊎ Contains xs q
-cons_cases x xs q h = ⊎_elim
-    (λ (a : Contains (x ∷ []) q). ⊎_elim (λ (n : Contains [] q). absurd (none_held q n)) (λ (e : x ≡ q). inl e) (Contains-push_cases [] x q a))
-    (λ (b : Contains xs q). inr b)
-    (Contains-append_cases (x ∷ []) xs q h)
-
-cons_here : (x : List ℕ) (xs : List (List ℕ)) (q : List ℕ) → x ≡ q → Contains (x ∷ xs) q
-cons_here x xs q e = subst (Contains (x ∷ xs)) e (Contains-append_left (x ∷ []) xs x (Contains-push [] x))
-
-cons_there : (x : List ℕ) (xs : List (List ℕ)) (q : List ℕ) → Contains xs q → Contains (x ∷ xs) q
-cons_there x xs q h = Contains-append_right (x ∷ []) xs q h
-
--- one more path in a set
+use Rattle.gr_object.specs.Sources.{AreImports}
 
 abbrev bytes_cmp : Vec ℕ Global → Vec ℕ Global → Ordering
 bytes_cmp a b = path_cmp a.items b.items
 
-inserted : (ks : List (Vec ℕ Global)) (k : Vec ℕ Global) (q : List ℕ) →
-    Contains (paths_in (insert_key bytes_cmp ks k)) q ↔ (Contains (paths_in ks) q ⊎ (k.items ≡ q))
-inserted [] k q = (
-  λ h. Contains-push_cases [] k.items q h,
-  λ either. ⊎_elim (λ (n : Contains [] q). absurd (none_held q n)) (λ (e : k.items ≡ q). cons_here k.items [] q e) either,
-)
-inserted (x ∷ xs) k q =
-    elim (path_cmp k.items x.items) as (λ order. path_cmp k.items x.items ≡ order
-    → Contains (paths_in (match_ordering order (k ∷ x ∷ xs) (x ∷ xs) (x ∷ insert_key bytes_cmp xs k))) q ↔
-    (Contains (x.items ∷ paths_in xs) q ⊎ (k.items ≡ q))) [
-      | Less ↦ λ e. (
-        λ h. ⊎_elim (λ (s : k.items ≡ q). inr s) (λ (o : Contains (x.items ∷ paths_in xs) q). inl o) (cons_cases k.items (x.items ∷ paths_in xs) q h),
-        λ either. ⊎_elim (λ (o : Contains (x.items ∷ paths_in xs) q). cons_there k.items (x.items ∷ paths_in xs) q o)
-            (λ (s : k.items ≡ q). cons_here k.items (x.items ∷ paths_in xs) q s) either,
-      )
-      | Equal ↦ λ e. (
-        λ h. inl h,
-        λ either. ⊎_elim (λ (o : Contains (x.items ∷ paths_in xs) q). o)
-            (λ (s : k.items ≡ q). cons_here x.items (paths_in xs) q (sym (path_cmp_exact k.items x.items e) ∙ s)) either,
-      )
-      | Greater ↦ λ e. (
-        λ h. ⊎_elim
-            (λ (s : x.items ≡ q). inl (cons_here x.items (paths_in xs) q s))
-            (λ (t : Contains (paths_in (insert_key bytes_cmp xs k)) q).
-            ⊎_elim (λ (o : Contains (paths_in xs) q). inl (cons_there x.items (paths_in xs) q o)) (λ (s : k.items ≡ q). inr s) ((inserted xs k q).0 t))
-            (cons_cases x.items (paths_in (insert_key bytes_cmp xs k)) q h),
-        λ either. ⊎_elim
-            (λ (o : Contains (x.items ∷ paths_in xs) q). ⊎_elim
-            (λ (s : x.items ≡ q). cons_here x.items (paths_in (insert_key bytes_cmp xs k)) q s)
-            (λ (t : Contains (paths_in xs) q). cons_there x.items (paths_in (insert_key bytes_cmp xs k)) q ((inserted xs k q).1 (inl t)))
-            (cons_cases x.items (paths_in xs) q o))
-            (λ (s : k.items ≡ q). cons_there x.items (paths_in (insert_key bytes_cmp xs k)) q ((inserted xs k q).1 (inr s)))
-            either,
-      )
-    ] refl
-
-pub insert_adds : (ks new : List (Vec ℕ Global)) (k v : Vec ℕ Global) (o : Option (Vec ℕ Global)) → o ≡ Some v → k.items ≡ v.items →
-    new ≡ insert_key bytes_cmp ks k → AddsPaths (StandsFor o) ks new
-insert_adds ks new k v o is same e = subst (λ (z : List (Vec ℕ Global)). AddsPaths (StandsFor o) ks z) (sym e) (record {
-  each = λ q. (
-    λ h. ⊎_elim (λ (a : Contains (paths_in ks) q). inl a)
-        (λ (s : k.items ≡ q). inr (subst (λ (z : Option (Vec ℕ Global)). StandsFor z q) (sym is) (sym same ∙ s))) ((inserted ks k q).0 h),
-    λ either. (inserted ks k q).1 (⊎_elim
-        (λ (a : Contains (paths_in ks) q). inl a)
-        (λ (s : StandsFor o q). let t : v.items ≡ q = subst (λ (z : Option (Vec ℕ Global)). StandsFor z q) is s in inr (same ∙ t))
-        either),
-  );
-})
-
--- paths that are added in turn
-
-pub adds_none : (P : List ℕ → Type 0) (ks : List (Vec ℕ Global)) → ((q : List ℕ) → P q → ⊥) → AddsPaths P ks ks
-adds_none P ks none = record { each = λ q. (λ h. inl h, λ either. ⊎_elim (λ (a : Contains (paths_in ks) q). a) (λ (s : P q). absurd (none q s)) either) }
-
-pub adds_more : (P Q S : List ℕ → Type 0) (a b c : List (Vec ℕ Global)) → ((q : List ℕ) → S q ↔ (P q ⊎ Q q)) → AddsPaths P a b → AddsPaths Q b c →
-    AddsPaths S a c
-adds_more P Q S a b c are first second = record {
-  each = λ q. (
-    λ has. ⊎_elim
-        (λ (h : Contains (paths_in b) q). ⊎_elim (λ (o : Contains (paths_in a) q). inl o) (λ (x : P q). inr ((are q).1 (inl x))) ((first.each q).0 h))
-        (λ (y : Q q). inr ((are q).1 (inr y)))
-        ((second.each q).0 has),
-    λ either. (second.each q).1 (⊎_elim
-        (λ (o : Contains (paths_in a) q). inl ((first.each q).1 (inl o)))
-        (λ (s : S q). ⊎_elim (λ (x : P q). inl ((first.each q).1 (inr x))) (λ (y : Q q). inr y) ((are q).0 s))
-        either),
-  );
-}
-
-pub adds_as : (P Q : List ℕ → Type 0) (a b : List (Vec ℕ Global)) → ((q : List ℕ) → Q q ↔ P q) → AddsPaths P a b → AddsPaths Q a b
-adds_as P Q a b are adds = record {
-  each = λ q. (
-    λ has. ⊎_elim (λ (o : Contains (paths_in a) q). inl o) (λ (x : P q). inr ((are q).1 x)) ((adds.each q).0 has),
-    λ either. (adds.each q).1 (⊎_elim (λ (o : Contains (paths_in a) q). inl o) (λ (y : Q q). inr ((are q).0 y)) either),
-  );
-}
-
-pub holds_none : (P : List ℕ → Type 0) (ks : List (Vec ℕ Global)) → ks ≡ [] → ((q : List ℕ) → P q → ⊥) → HoldsPaths P ks
-holds_none P ks e none = subst (λ (z : List (Vec ℕ Global)). HoldsPaths P z) (sym e)
-    (record { each = λ q. (λ h. absurd (none_held q h), λ s. absurd (none q s)) })
-
-pub holds_more : (P Q S : List ℕ → Type 0) (a b : List (Vec ℕ Global)) → ((q : List ℕ) → S q ↔ (P q ⊎ Q q)) → HoldsPaths P a → AddsPaths Q a b → HoldsPaths S b
-holds_more P Q S a b are holds adds = record {
-  each = λ q. (
-    λ has. (are q).1 (⊎_elim (λ (o : Contains (paths_in a) q). inl ((holds.each q).0 o)) (λ (y : Q q). inr y) ((adds.each q).0 has)),
-    λ s. (adds.each q).1 (⊎_elim (λ (x : P q). inl ((holds.each q).1 x)) (λ (y : Q q). inr y) ((are q).0 s)),
-  );
-}
-
--- one more of a list
-pub some_more : {X : Type 0} (R : X → List ℕ → Type 0) (xs ys : List X) (x : X) → ys ≡ xs ++ (x ∷ []) → (q : List ℕ) →
-    ((y : X) × (Contains ys y × R y q)) ↔ (((y : X) × (Contains xs y × R y q)) ⊎ R x q)
-some_more {X} R xs ys x e q = (
-  λ w. ⊎_elim (λ (o : Contains xs w.0). inl (w.0, (o, w.1.1))) (λ (h : x ≡ w.0). inr (subst (λ (y : X). R y q) (sym h) w.1.1))
-      (Contains-push_cases xs x w.0 (subst (λ (l : List X). Contains l w.0) e w.1.0)),
-  λ either. ⊎_elim
-      (λ (w : (y : X) × (Contains xs y × R y q)). (w.0, (subst (λ (l : List X). Contains l w.0) (sym e) (Contains-append_left xs (x ∷ []) w.0 w.1.0), w.1.1)))
-      (λ (r : R x q). (x, (subst (λ (l : List X). Contains l x) (sym e) (Contains-push xs x), r)))
-      either,
-)
-
--- what a file imports, by what was read of it
-
-number_stands : (q : List ℕ) (o : Option (Vec ℕ Global)) → HasNumber (q ∷ []) 0 o → StandsFor o q
-number_stands q None h = h
-number_stands q (Some v) h = sym (same_Some q v.items h)
-
-stands_number : (q : List ℕ) (o : Option (Vec ℕ Global)) → StandsFor o q → HasNumber (q ∷ []) 0 o
-stands_number q None h = h
-stands_number q (Some v) h = ap Some (sym h)
-
-pub imports_are : (file : FileParts) (imports : List FileImport) → ListsImports (source_of file) imports → (q : List ℕ) →
-    ImportsPath (source_of file) q ↔ SomeStandFor imports q
-imports_are file imports lists q = (
-  λ i. let w = (are_imports file (q ∷ []) imports lists 0).0 (q, refl, i) in (w.0, (w.1, number_stands q w.0.path w.2)),
-  λ s. let w = (are_imports file (q ∷ []) imports lists 0).1 (s.0, s.1.0, stands_number q s.0.path s.1.1) in
-      subst (ImportsPath (source_of file)) (sym (same_Some q w.0 w.1)) w.2,
-)
-
 -- the paths of a set are in order
 
 below_paths : (k : Vec ℕ Global) (ks : List (Vec ℕ Global)) → AllByRecursion (λ y. bytes_cmp k y ≡ Less) ks →
-    AllByRecursion (λ y. path_cmp k.items y ≡ Less) (paths_in ks)
+    AllByRecursion (λ y. path_cmp k.items y ≡ Less) (bytes_of_paths ks)
 below_paths k [] h = tt
 below_paths k (x ∷ ks) h = (h.0, below_paths k ks h.1)
 
-pub paths_sorted : (ks : List (Vec ℕ Global)) → IsStrictlySortedBy bytes_cmp ks → IsStrictlySortedBy path_cmp (paths_in ks)
+pub paths_sorted : (ks : List (Vec ℕ Global)) → IsStrictlySortedBy bytes_cmp ks → IsStrictlySortedBy path_cmp (bytes_of_paths ks)
 unfolding IsStrictlySortedBy
 paths_sorted [] h = tt
 paths_sorted (k ∷ ks) h = (below_paths k ks h.0, paths_sorted ks h.1)
+
+-- what a list contains, and what one made of it does
+
+in_mapped : {X Y : Type 0} (f : X → Y) (xs : List X) (x : X) → Contains xs x → Contains (map f xs) (f x)
+in_mapped f xs x h = (h.0, subst (λ n. h.0 < n) (sym (length-map xs f)) h.1, get_or-map f xs h.0 x (f x) h.1 ∙ ap f h.2)
+
+at_mapped : {X Y : Type 0} (f : X → Y) (xs : List X) (y : Y) (k : ℕ) → k < length xs → get_or (map f xs) k y ≡ y → (x : X) × (Contains xs x × (f x ≡ y))
+at_mapped f [] y k lt e = let none : ⊥ = omega arith in absurd none
+at_mapped f (x ∷ xs) y zero lt e = (x, ((0, omega arith, refl), e))
+at_mapped f (x ∷ xs) y (suc k) lt e =
+    let w = at_mapped f xs y k (omega arith) e in
+    let within : suc w.1.0.0 < length (x ∷ xs) = omega (arith, w.1.0.1) in
+    (w.0, ((suc w.1.0.0, within, w.1.0.2), w.1.1))
+
+-- the paths that some files import, of their plain files
+pub imports_listed : (files : List FileParts) (keys : List (Vec ℕ Global)) → HoldsPaths (SomeImport files) keys →
+    IsStrictlySortedBy path_cmp (bytes_of_paths keys) → AreImports (map source_of files) (bytes_of_paths keys)
+imports_listed files keys holds sorted = record {
+  each = λ path. (
+    λ has. let w = (holds.each path).0 has in (source_of w.0, (in_mapped source_of files w.0 w.1.0, w.1.1)),
+    λ i. let w = at_mapped source_of files i.0 i.1.0.0 (subst (λ n. i.1.0.0 < n) (length-map files source_of) i.1.0.1) i.1.0.2 in
+        (holds.each path).1 (w.0, (w.1.0, subst (λ (f : SourceFile). ImportsPath f path) (sym w.1.1) i.1.1)),
+  );
+  sorted = sorted;
+}

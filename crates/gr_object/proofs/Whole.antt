@@ -11,7 +11,8 @@ use Rattle.std.proofs.lemmas.List.{length-map}
 use Rattle.std.proofs.lemmas.Option.{none-some, same_Some, slice_get-map, slice_get_within}
 use Rattle.gr_text.specs.Workspace.{path_cmp}
 use Rattle.gr_tree.specs.Tree.{FileTree}
-use Rattle.gr_tree.specs.SourceFile.{SourceFile}
+use Rattle.gr_tree.specs.SourceFile.{SourceFile, FileParts, source_of}
+use Rattle.gr_graph.specs.ImportPaths.{bytes_of_paths, HoldsPaths, SomeImport}
 use Rattle.gr_imports.specs.Files.{package_name}
 use Rattle.gr_expr.specs.declared.found.MemberUse.{MemberUse}
 use Rattle.gr_expr.specs.Found.{use_of}
@@ -26,12 +27,12 @@ use Rattle.gr_object.specs.LineView.{function_of}
 use Rattle.gr_object.specs.Names.{function_names, type_name}
 use Rattle.gr_object.specs.Source.{Source}
 use Rattle.gr_object.specs.Sources.{AreImports, IsSourceOf, IsObjectOf, IsObjectText}
-use Rattle.gr_object.specs.ImportsView.{HoldsPaths, SomeImport, paths_in}
 use Rattle.gr_object.specs.Objects.{Object, Declaration, declared_from, declared_in, names_behind_all, object_of}
 use Rattle.gr_object.specs.ObjectSteps.{names_after, uses_or_none, PutsFiles, PutsHead}
 use Rattle.gr_object.specs.ObjectText.{declaration_text, first_line, import_line, object_text}
 use Rattle.gr_object.specs.ObjectView.{HaveNames, PutsFile}
 use Rattle.gr_object.specs.PackagesView.{type_in}
+use Rattle.gr_object.proofs.Imported.{imports_listed}
 use Rattle.gr_object.proofs.Sourced.{types_named}
 
 -- several clauses of one call
@@ -147,14 +148,16 @@ one_file_more p n members packages names number others old mid new h k =
 
 -- the first lines
 
-pub head_put : (p : Package) (keys : List (Vec ℕ)) (old mid new : List ℕ) → HoldsPaths (SomeImport p.files) keys → IsStrictlySortedBy path_cmp (paths_in keys) →
-    ((o : Object) → o.path ≡ p.path → o.name ≡ package_name p.files → mid ≡ old ++ first_line o) → new ≡ mid ++ flat_map import_line (paths_in keys) →
+pub head_put : (p : Package) (files : List FileParts) (keys : List (Vec ℕ)) (old mid new : List ℕ) → p.files ≡ map source_of files →
+    HoldsPaths (SomeImport files) keys → IsStrictlySortedBy path_cmp (bytes_of_paths keys) →
+    ((o : Object) → o.path ≡ p.path → o.name ≡ package_name p.files → mid ≡ old ++ first_line o) → new ≡ mid ++ flat_map import_line (bytes_of_paths keys) →
     PutsHead p old new
-head_put p keys old mid new holds sorted first e = record {
-  imports = paths_in keys;
-  are_imports = record { each = holds.each; sorted = sorted };
-  text = λ o path name imports. e ∙ (ap (λ z. z ++ flat_map import_line (paths_in keys)) (first o path name)
-      ∙ (append_assoc old (first_line o) (flat_map import_line (paths_in keys)) ∙ ap (λ ps. old ++ (first_line o ++ flat_map import_line ps)) (sym imports)));
+head_put p files keys old mid new are holds sorted first e = record {
+  imports = bytes_of_paths keys;
+  are_imports = subst (λ fs. AreImports fs (bytes_of_paths keys)) (sym are) (imports_listed files keys holds sorted);
+  text = λ o path name imports. e ∙ (ap (λ z. z ++ flat_map import_line (bytes_of_paths keys)) (first o path name)
+      ∙ (append_assoc old (first_line o) (flat_map import_line (bytes_of_paths keys))
+      ∙ ap (λ ps. old ++ (first_line o ++ flat_map import_line ps)) (sym imports)));
 }
 
 -- the whole text

@@ -21,7 +21,6 @@ pub mod ExitsView
 pub mod NamesView
 pub mod TablesView
 pub mod ObjectView
-pub mod ImportsView
 pub mod ObjectSteps
 pub mod Fitting
 pub mod Laws

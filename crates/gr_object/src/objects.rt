@@ -23,7 +23,7 @@ ghost use Rattle.gr_object.specs.ObjectView.{AreOwnDefinitions, HaveNames, IsObj
 ghost use Rattle.gr_object.specs.Sources.{IsObjectText};
 
 use crate::declarations::push_decls;
-use crate::imports::{import_paths, push_imports};
+use crate::imports::push_imports;
 use crate::instructions::FunctionName;
 use crate::names::function_names;
 use crate::origin::Origin;
@@ -34,6 +34,7 @@ use gr_declared::{Index, Interfaces, Package, broken_definitions};
 use gr_expr::found::MemberUse;
 use gr_expr::symbol::SharedPath;
 use gr_expr::world::{Bound, Definition, Name, World};
+use gr_graph::import_paths::import_paths;
 use gr_imports::lay_names;
 use gr_meanings::{Bounds, bounds_of, file_names, one_world};
 use gr_scope::declare::declare;

@@ -1,9 +1,6 @@
 //! What the code of a file is made of, from the scopes of its package and what checking found.
 ghost use Rattle.std.specs.Prelude.{◌≡◌, ◌<◌, ◌≤◌, ◌↔◌, ℕ, List, Some, codes, length, map, option_map, slice_get, IfOk, IsTrue, MatchOption};
 ghost use Rattle.gr_tree.specs.SourceFile.{source_of as plain_file};
-ghost use Rattle.gr_scope.specs.declared.model.Role.TheVariants.{NotLexical};
-ghost use Rattle.gr_scope.specs.declared.model.Purpose.TheVariants as purpose;
-ghost use Rattle.gr_meanings.specs.NamesView.{IsBehindDot};
 ghost use Rattle.gr_declared.specs.PackageView.{package_of, IsIndexOf};
 ghost use Rattle.gr_declared.specs.Written.{BindsToken, IsPredeclared};
 ghost use Rattle.gr_declared.specs.Written.{ImportsPath as DeclaresImport};
@@ -20,7 +17,8 @@ use crate::source::{Mark, Source};
 use gr_declared::{Index, Package};
 use gr_expr::found::MemberUse;
 use gr_expr::world::World;
-use gr_scope::model::{Block, Position, Purpose, Role};
+use gr_meanings::is_behind_dot;
+use gr_scope::model::Block;
 use gr_tree::FileTree;
 use std::alloc::{AllocError, Global};
 
@@ -56,27 +54,6 @@ fn used(alloc: Global, uses: &[MemberUse]) -> Result<Numbered, AllocError>
         places.push(next.place)?;
     }
     Numbered::of(alloc, places)
-}
-
-/// Whether a role is that of a name behind a dot.
-fn is_selected(role: Role) -> bool
-    ensures { IsTrue result ↔ (role ≡ NotLexical purpose.Selected) }
-{
-    match role {
-        Role::NotLexical(Purpose::Selected) => true,
-        _ => false,
-    }
-}
-
-/// Whether a name behind a dot stands at a token.
-fn is_behind_dot(unit: Package<'_>, index: &Index<'_>, file: usize, token: usize) -> bool
-    requires { IsIndexOf (package_of unit) index.now }
-    ensures { IsTrue result ↔ IsBehindDot (package_of unit.entry) file token }
-{
-    match index.identifiers.get(Position { file, index: token }) {
-        None => false,
-        Some(u) => is_selected(unit.table.role(u)),
-    }
 }
 
 /// The path of the import that the name at a token is bound to.
