@@ -2,7 +2,8 @@
 
 Measured for each length of a chain: `faults` after all files were put, and once more; `faults` after a put inside a function of
 the top package, and of the lowest; `uses` of a function, and once more; and in another session the build of all packages by
-repeated `work`, with nothing asked before. Ratios to the first `faults` are printed beside.
+repeated `work`, with nothing asked before. Ratios to the first `faults` are printed beside. What is measured is the processor
+time of the program, as the kernel tells it, so that a busy machine tells the same.
 usage: bench/chain.py PROGRAM [LENGTH..]
 """
 import sys
@@ -14,6 +15,19 @@ check.FILES = 2
 check.FUNCTIONS = 6
 check.package_path = lambda number: f"gen/p{number}"
 check.imports_of = lambda number: [number - 1] if number else []
+
+
+class Session(check.Session):
+    """A session whose seconds are those of the program's processor time."""
+
+    def spent(self):
+        with open(f"/proc/{self.child.pid}/schedstat") as file:
+            return int(file.read().split()[0]) / 1e9
+
+    def ask(self, line, body=b""):
+        begin = self.spent()
+        word, number, body, _ = super().ask(line, body)
+        return word, number, body, self.spent() - begin
 
 
 def chain(length):
@@ -44,7 +58,7 @@ def uses(session, files):
 
 def measure(program, length):
     files = chain(length)
-    session = check.Session(program)
+    session = Session(program)
     number = put_all(session, files)
     first = session.faults()
     rows = [("faults", first), ("faults again", session.faults())]
@@ -55,9 +69,11 @@ def measure(program, length):
     rows += [("uses", uses(session, files)), ("uses again", uses(session, files))]
     session.child.stdin.close()
     session.child.wait()
-    session = check.Session(program)
+    session = Session(program)
     put_all(session, files)
-    rows += [("work over all", build.build(session, length)), ("faults behind it", session.faults())]
+    begin = session.spent()
+    build.build(session, length)
+    rows += [("work over all", session.spent() - begin), ("faults behind it", session.faults())]
     session.child.stdin.close()
     session.child.wait()
     lines = sum(text.count(b"\n") for text in files.values())

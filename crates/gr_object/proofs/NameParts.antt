@@ -1,6 +1,7 @@
 -- What functions are called and where fields stand, by the parts that the program goes over.
 use Rattle.std.proofs.Common.{ℕ, ◌≡◌, ◌+◌, ◌-◌, ◌<◌, ◌≤◌, ◌∷◌, ◌++◌, [], List, None, ap, sym, ◌∙◌, refl, append_assoc, append-nil, length, length-append}
-use Rattle.std.proofs.Common.{drop, map, get_or, arith, suc}
+use Rattle.std.proofs.Common.{drop, take, map, get_or, arith, zero, suc, Bool, true, false, if◌then◌else◌}
+use Rattle.std.specs.Prelude.{Some, option_map, slice_get}
 use Rattle.std.proofs.Math.ListN.{drop_of_length-le}
 use Rattle.std.proofs.lemmas.List.{drop_more}
 use Rattle.gr_tree.specs.declared.tree.Item as items
@@ -12,8 +13,9 @@ use Rattle.gr_tree.specs.SourceFile.{SourceFile}
 use Rattle.gr_declared.specs.declared.declared.Function.{Function}
 use Rattle.gr_declared.specs.DeclaredView.{function_of as placed_function}
 use Rattle.gr_expr.proofs.Items.{next_item}
-use Rattle.gr_object.specs.Lines.{FunctionName}
-use Rattle.gr_object.specs.Names.{function_behind, functions_behind, initializers_with, names_of_fields, positions_from}
+use Rattle.gr_object.specs.Lines.{FunctionName, Initializer}
+use Rattle.gr_object.specs.Names.{function_behind, function_called, functions_behind, initializers_among, initializers_with, is_initializer}
+use Rattle.gr_object.specs.Names.{names_of_fields, positions_from}
 
 -- Functions
 
@@ -26,6 +28,58 @@ names_step path files k n fs i f now new total lt is h e m =
     ∙ (append_assoc now (function_behind path files k (placed_function f) ∷ []) (functions_behind path files n (map placed_function (drop (i + 1) fs)))
     ∙ (ap (λ j. now ++ (function_behind path files k (placed_function f) ∷ functions_behind path files j (map placed_function (drop (i + 1) fs)))) m
     ∙ (ap (λ xs. now ++ functions_behind path files k (map placed_function xs)) (sym (next_item fs i f lt is)) ∙ h)))
+
+-- how many of them are functions `init`
+
+pub count_step : (files : List SourceFile) (k n : ℕ) (fs : List Function) (i : ℕ) (f : Function) (total : ℕ) → i < length fs → f ≡ get_or fs i f →
+    initializers_among files k (map placed_function (drop i fs)) ≡ total → n ≡ initializers_with files k (placed_function f) →
+    initializers_among files n (map placed_function (drop (i + 1) fs)) ≡ total
+count_step files k n fs i f total lt is h m =
+    ap (λ j. initializers_among files j (map placed_function (drop (i + 1) fs))) m
+    ∙ (ap (λ xs. initializers_among files k (map placed_function xs)) (sym (next_item fs i f lt is)) ∙ h)
+
+pub count_end : (files : List SourceFile) (k : ℕ) (fs : List Function) (i total : ℕ) → length fs ≤ i →
+    initializers_among files k (map placed_function (drop i fs)) ≡ total → k ≡ total
+count_end files k fs i total past h = ap (λ xs. initializers_among files k (map placed_function xs)) (sym (drop_of_length-le fs past)) ∙ h
+
+-- what the function of a rank is called
+
+name_at : (path : List ℕ) (files : List SourceFile) (k : ℕ) (fs : List Function) (n : ℕ) →
+    slice_get (functions_behind path files k (map placed_function fs)) n
+    ≡ option_map (λ f. function_behind path files (initializers_among files k (map placed_function (take n fs))) (placed_function f)) (slice_get fs n)
+name_at path files k [] n = refl
+name_at path files k (f ∷ fs) zero = refl
+name_at path files k (f ∷ fs) (suc n) = name_at path files (initializers_with files k (placed_function f)) fs n
+
+pub nothing_at : (path : List ℕ) (files : List SourceFile) (fs : List Function) (n : ℕ) → slice_get fs n ≡ None →
+    None ≡ slice_get (functions_behind path files 0 (map placed_function fs)) n
+nothing_at path files fs n none =
+    sym (name_at path files 0 fs n
+    ∙ ap (option_map (λ f. function_behind path files (initializers_among files 0 (map placed_function (take n fs))) (placed_function f))) none)
+
+module _ (path : List ℕ) (files : List SourceFile) (fs : List Function) (n : ℕ) (f : Function) (at : slice_get fs n ≡ Some f) where
+  behind : slice_get (functions_behind path files 0 (map placed_function fs)) n
+      ≡ Some (function_behind path files (initializers_among files 0 (map placed_function (take n fs))) (placed_function f))
+  behind = name_at path files 0 fs n
+      ∙ ap (option_map (λ g. function_behind path files (initializers_among files 0 (map placed_function (take n fs))) (placed_function g))) at
+
+  by_test : (b : Bool) (k : ℕ) → b ≡ true → (if b then Initializer path k else function_called path files (placed_function f)) ≡ Initializer path k
+  by_test b k e = ap (λ c. if c then Initializer path k else function_called path files (placed_function f)) e
+
+  by_other : (b : Bool) (k : ℕ) → b ≡ false → (if b then Initializer path k else function_called path files (placed_function f)) ≡
+      function_called path files (placed_function f)
+  by_other b k e = ap (λ c. if c then Initializer path k else function_called path files (placed_function f)) e
+
+  pub initializer_at : (number : ℕ) → is_initializer files (placed_function f) ≡ true → number ≡ initializers_among files 0 (map placed_function (take n fs)) →
+      Some (Initializer path number) ≡ slice_get (functions_behind path files 0 (map placed_function fs)) n
+  initializer_at number is counted =
+      ap (λ k. Some (Initializer path k)) counted
+      ∙ sym (behind ∙ ap Some (by_test (is_initializer files (placed_function f)) (initializers_among files 0 (map placed_function (take n fs))) is))
+
+  pub called_at : is_initializer files (placed_function f) ≡ false →
+      Some (function_called path files (placed_function f)) ≡ slice_get (functions_behind path files 0 (map placed_function fs)) n
+  called_at other =
+      sym (behind ∙ ap Some (by_other (is_initializer files (placed_function f)) (initializers_among files 0 (map placed_function (take n fs))) other))
 
 -- Fields
 

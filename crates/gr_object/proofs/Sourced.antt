@@ -15,7 +15,9 @@ use Rattle.gr_expr.specs.View.{type_of}
 use Rattle.gr_expr.specs.World as plain
 use Rattle.gr_expr.specs.WorldView.{world_of, name_in, spelling_of}
 use Rattle.gr_stmt.specs.Declarations.{check_file}
-use Rattle.gr_declared.specs.Package.{Package, spelled, spelled_at}
+use Rattle.gr_stmt.proofs.Lists.{map_map}
+use Rattle.gr_declared.specs.DeclaredView.{type_of as definition_of}
+use Rattle.gr_declared.specs.Package.{Package, declared_types, declared_functions, spelled, spelled_at}
 use Rattle.gr_meanings.specs.Worlds.{IsWorldOf, is_init}
 use Rattle.gr_meanings.specs.MemberUses.{AreUsesIn}
 use Rattle.gr_meanings.specs.Uniqueness.{IsOneWorld}
@@ -23,9 +25,8 @@ use Rattle.gr_object.specs.declared.called.Packages.{Packages}
 use Rattle.gr_object.specs.declared.called.PackageNames.{PackageNames}
 use Rattle.gr_object.specs.declared.source.Source.{Source}
 use Rattle.gr_object.specs.Lines.{GlobalName, FunctionName}
-use Rattle.gr_object.specs.LineView.{global_of, function_of}
 use Rattle.gr_object.specs.Literals.{number_of}
-use Rattle.gr_object.specs.Names.{type_name, type_names, function_name, function_names, field_position, field_positions}
+use Rattle.gr_object.specs.Names.{type_called, type_name, type_names, functions_behind, function_name, function_names, field_position, field_positions}
 use Rattle.gr_object.specs.NamesView.{AreNamesOf}
 use Rattle.gr_object.specs.Numbering.{slot_from}
 use Rattle.gr_object.specs.ObjectView.{HaveNames}
@@ -73,13 +74,26 @@ type_at_names : (path : List ℕ) (files : List SourceFile) (o : Option PackageN
     MatchOption o (files ≡ []) (λ names. AreNamesOf path files names) →
     type_at o rank ≡ slice_get (type_names path files) rank
 type_at_names path files None rank e = ap (λ fs. slice_get (type_names path fs) rank) (sym e)
-type_at_names path files (Some names) rank h = sym (slice_get-map global_of names.types.items rank) ∙ ap (λ xs. slice_get xs rank) h.types
+type_at_names path files (Some names) rank h =
+    let P = names.path.now in
+    let F = map file.source_of names.files.now in
+    let ts = names.declared.types.items in
+    sym (slice_get-map (λ t. type_called P F (definition_of t)) ts rank)
+    ∙ ap (λ xs. slice_get xs rank) (sym (map_map (type_called P F) definition_of ts)
+    ∙ (ap (λ ds. map (type_called P F) ds) h.types
+    ∙ (ap (λ p. map (type_called p F) (declared_types files)) h.has_path
+    ∙ ap (λ fs. map (type_called path fs) (declared_types files)) h.has_files)))
 
 function_at_names : (path : List ℕ) (files : List SourceFile) (o : Option PackageNames) (rank : ℕ) →
     MatchOption o (files ≡ []) (λ names. AreNamesOf path files names) →
     function_at o rank ≡ slice_get (function_names path files) rank
 function_at_names path files None rank e = ap (λ fs. slice_get (function_names path fs) rank) (sym e)
-function_at_names path files (Some names) rank h = sym (slice_get-map function_of names.functions.items rank) ∙ ap (λ xs. slice_get xs rank) h.functions
+function_at_names path files (Some names) rank h =
+    let P = names.path.now in
+    let F = map file.source_of names.files.now in
+    ap (λ fs. slice_get (functions_behind P F 0 fs) rank) h.functions
+    ∙ (ap (λ p. slice_get (functions_behind p F 0 (declared_functions files)) rank) h.has_path
+    ∙ ap (λ fs. slice_get (functions_behind path fs 0 (declared_functions files)) rank) h.has_files)
 
 position_at_names : (path : List ℕ) (files : List SourceFile) (o : Option PackageNames) (rank : ℕ) →
     MatchOption o (files ≡ []) (λ names. AreNamesOf path files names) →

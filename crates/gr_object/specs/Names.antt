@@ -51,6 +51,11 @@ function_behind path files k f = if is_initializer files f then Initializer path
 abbrev pub initializers_with : List SourceFile → ℕ → PlacedFunction → ℕ
 initializers_with files k f = if is_initializer files f then k + 1 else k
 
+-- how many there are with these functions, behind so many
+abbrev pub initializers_among : List SourceFile → ℕ → List PlacedFunction → ℕ
+initializers_among files k [] = k
+initializers_among files k (f ∷ fs) = initializers_among files (initializers_with files k f) fs
+
 abbrev pub functions_behind : (path : List ℕ) → List SourceFile → ℕ → List PlacedFunction → List FunctionName
 functions_behind path files k [] = []
 functions_behind path files k (f ∷ fs) = function_behind path files k f ∷ functions_behind path files (initializers_with files k f) fs

@@ -4,15 +4,17 @@ ghost use Rattle.std.specs.Cmp.Lexicographic.{slice_cmp};
 ghost use Rattle.std.specs.Ordering.{nat_cmp};
 ghost use Rattle.std.specs.Prelude.{◌≡◌, ◌<◌, ℕ, List, Some, length};
 
-use crate::instructions::{FunctionName, GlobalName};
+use gr_declared::Declared;
+use gr_tree::FileTree;
 use std::collections::BTreeMap;
 
-/// What a package declares, by ranks: what its types and its functions are called, and for each field where it stands in its
+/// What a package declares, by ranks, of which each name is made where it is asked for; and for each field where it stands in its
 /// struct.
 #[derive(Drop)]
 pub struct PackageNames<'a> {
-    pub types: Vec<GlobalName<'a>>,
-    pub functions: Vec<FunctionName<'a>>,
+    pub path: &'a [u8],
+    pub files: &'a [FileTree],
+    pub declared: Declared<'a>,
     pub positions: Vec<usize>,
 }
 

@@ -7,7 +7,7 @@ ghost use Rattle.gr_tree.specs.SourceFile.{source_of};
 ghost use Rattle.gr_declared.specs.DeclaredView.{type_of, function_of as placed_function};
 ghost use Rattle.gr_declared.specs.Package.{declared_types, declared_functions};
 ghost use Rattle.gr_object.specs.LineView.{global_of, function_of};
-ghost use Rattle.gr_object.specs.Names.{body_positions, function_behind, function_called, function_named, functions_behind, initializers_with, is_initializer, is_named_init, names_of_fields, positions_from, spelled_in, type_called, type_positions};
+ghost use Rattle.gr_object.specs.Names.{body_positions, function_behind, function_called, function_named, functions_behind, initializers_among, initializers_with, is_initializer, is_named_init, names_of_fields, positions_from, spelled_in, type_called, type_positions};
 ghost use Rattle.gr_object.specs.NamesView.{AreNamesOf};
 
 use crate::instructions::{FunctionName, GlobalName};
@@ -29,29 +29,17 @@ fn spelling(files: &[FileTree], file: usize, token: usize) -> &[u8]
 
 /// What a type definition is called.
 #[tactic(auto, unfolding(gr_tree::specs::FileView::type_spec_view))]
-fn type_called<'a>(path: &'a [u8], files: &'a [FileTree], own: TypeDef<'_>) -> GlobalName<'a>
+pub(crate) fn type_called<'a>(
+    path: &'a [u8],
+    files: &'a [FileTree],
+    own: TypeDef<'_>,
+) -> GlobalName<'a>
     ensures { global_of result ≡ type_called path.now (map source_of files.now) (type_of own.entry) }
 {
     GlobalName {
         path,
         name: spelling(files, own.file, own.spec.name),
     }
-}
-
-/// What the type definitions of a package are called.
-fn type_names<'a>(
-    alloc: Global,
-    path: &'a [u8],
-    files: &'a [FileTree],
-    types: &[TypeDef<'_>],
-) -> Result<Vec<GlobalName<'a>>, AllocError>
-    ensures { IfOk result (λ names. map global_of names.items ≡ map (type_called path.now (map source_of files.now)) (map type_of types.now)) }
-{
-    let mut names = Vec::new(alloc);
-    for own in types {
-        names.push(type_called(path, files, *own))?;
-    }
-    Ok(names)
 }
 
 /// Whether a function with that receiver and that name is a function `init`.
@@ -66,7 +54,7 @@ fn is_named_init(receiver: &Option<Receiver>, name: &[u8]) -> bool
 
 /// Whether a function is a function `init`.
 #[tactic(auto, unfolding(gr_tree::specs::FileView::func_view))]
-fn is_initializer(files: &[FileTree], function: Function<'_>) -> bool
+pub(crate) fn is_initializer(files: &[FileTree], function: Function<'_>) -> bool
     ensures { result ≡ is_initializer (map source_of files.now) (placed_function function.entry) }
 {
     let name = spelling(files, function.file, function.func.name);
@@ -98,7 +86,7 @@ fn function_named<'a>(
 
 /// What a function is called that is no `init`.
 #[tactic(auto, unfolding(gr_tree::specs::FileView::func_view))]
-fn function_called<'a>(
+pub(crate) fn function_called<'a>(
     path: &'a [u8],
     files: &'a [FileTree],
     function: Function<'_>,
@@ -137,6 +125,17 @@ fn initializers_with(files: &[FileTree], number: usize, function: Function<'_>) 
     } else {
         number
     }
+}
+
+/// How many functions `init` are among functions.
+pub(crate) fn initializers(files: &[FileTree], functions: &[Function<'_>]) -> usize
+    ensures { result ≡ initializers_among (map source_of files.now) 0 (map placed_function functions.now) }
+{
+    let mut number = 0;
+    for i in 0..functions.len() {
+        number = initializers_with(files, number, functions[i]);
+    }
+    number
 }
 
 /// What the functions of a package are called.
@@ -218,18 +217,17 @@ fn names_of<'a>(
     alloc: Global,
     path: &'a [u8],
     files: &'a [FileTree],
-    declared: &Declared<'_>,
+    declared: Declared<'a>,
 ) -> Result<PackageNames<'a>, AllocError>
-    requires types { map type_of declared.now.types.items ≡ declared_types (map source_of files.now) }
-    requires functions { map placed_function declared.now.functions.items ≡ declared_functions (map source_of files.now) }
+    requires types { map type_of declared.types.items ≡ declared_types (map source_of files.now) }
+    requires functions { map placed_function declared.functions.items ≡ declared_functions (map source_of files.now) }
     ensures { IfOk result (λ names. AreNamesOf path.now (map source_of files.now) names) }
 {
-    let types = type_names(alloc, path, files, &declared.types)?;
     let positions = field_positions(alloc, &declared.types)?;
-    let functions = function_names(alloc, path, files, &declared.functions)?;
     Ok(PackageNames {
-        types,
-        functions,
+        path,
+        files,
+        declared,
         positions,
     })
 }
@@ -244,6 +242,6 @@ impl<'a> PackageNames<'a> {
         ensures { IfOk result (λ names. AreNamesOf path.now (map source_of files.now) names) }
     {
         let declared = Declared::of(alloc, files)?;
-        names_of(alloc, path, files, &declared)
+        names_of(alloc, path, files, declared)
     }
 }

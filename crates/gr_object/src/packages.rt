@@ -1,27 +1,68 @@
 //! What the types, functions and fields of packages are called in objects.
-ghost use Rattle.std.specs.Prelude.{◌≡◌, ℕ, List, None, Some, option_copied, option_map, OnOk};
+ghost use Rattle.std.specs.Prelude.{◌≡◌, ℕ, List, None, Some, map, option_copied, option_map, slice_get, OnOk};
+ghost use Rattle.gr_tree.specs.SourceFile.{source_of};
+ghost use Rattle.gr_declared.specs.DeclaredView.{function_of as placed_function};
 ghost use Rattle.gr_object.specs.LineView.{global_of, function_of};
+ghost use Rattle.gr_object.specs.Names.{functions_behind};
 ghost use Rattle.gr_object.specs.PackagesView.{package_in, type_at, type_in, function_at, function_in, position_at, position_in};
 
 pub use crate::called::{PackageNames, Packages};
 use crate::instructions::{FunctionName, GlobalName};
+use crate::names::{function_called, initializers, is_initializer, type_called};
+use gr_declared::Function;
 use gr_expr::symbol::{SharedPath, Symbol};
+use gr_tree::FileTree;
 use std::alloc::{AllocError, Global};
 use std::collections::BTreeMap;
+
+/// What the function of a rank is called. How many functions `init` stand before it is counted for such a function alone.
+fn function_of_rank<'a>(
+    path: &'a [u8],
+    files: &'a [FileTree],
+    functions: &[Function<'_>],
+    rank: usize,
+    function: Function<'_>,
+) -> FunctionName<'a>
+    requires { slice_get functions.now rank ≡ Some function }
+    ensures { Some (function_of result) ≡ slice_get (functions_behind path.now (map source_of files.now) 0 (map placed_function functions.now)) rank }
+{
+    if is_initializer(files, function) {
+        let number = initializers(files, &functions[..rank]);
+        FunctionName::Initializer { path, number }
+    } else {
+        function_called(path, files, function)
+    }
+}
+
+/// What the function of a rank is called, if there is one.
+fn function_at<'a>(
+    path: &'a [u8],
+    files: &'a [FileTree],
+    functions: &[Function<'_>],
+    rank: usize,
+) -> Option<FunctionName<'a>>
+    ensures { option_map function_of result ≡ slice_get (functions_behind path.now (map source_of files.now) 0 (map placed_function functions.now)) rank }
+{
+    match functions.get(rank) {
+        None => None,
+        Some(function) => Some(function_of_rank(path, files, functions, rank, *function)),
+    }
+}
 
 impl<'a> PackageNames<'a> {
     /// What the type definition of a rank is called.
     fn type_name(&self, rank: usize) -> Option<GlobalName<'a>>
         ensures { option_map global_of result ≡ type_at (Some self.now) rank }
     {
-        Some(*self.types.get(rank)?)
+        let own = *self.declared.types.get(rank)?;
+        Some(type_called(self.path, self.files, own))
     }
 
     /// What the function of a rank is called.
     fn function(&self, rank: usize) -> Option<FunctionName<'a>>
         ensures { option_map function_of result ≡ function_at (Some self.now) rank }
     {
-        Some(*self.functions.get(rank)?)
+        function_at(self.path, self.files, &self.declared.functions, rank)
     }
 
     /// Where the field of a rank stands in its struct.
