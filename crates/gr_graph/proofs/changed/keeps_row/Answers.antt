@@ -1,0 +1,23 @@
+-- The row is that of the links where they are equal.
+use Rattle.std.proofs.Common.{◌≡◌, ◌<◌, List, ℕ, length, sym, ap, subst, ◌∙◌, arith, Some, slice_get}
+use Rattle.std.proofs.lemmas.Option.{slice_get_within}
+use Rattle.gr_graph.specs.Graphs.{paths_of}
+use Rattle.gr_graph.specs.Imports.{imports_of}
+use Rattle.gr_graph.specs.Rows.{IsRow}
+use Rattle.gr_graph.proofs.ChangedPackages.{at_path}
+use Rattle.gr_graph.proofs.PackagePaths.{one_number}
+use Rattle.gr_graph.proofs.changed.keeps_row.Goals as goal
+
+pub returns-in_default : goal.returns-in_default
+returns-in_default c = λ _ n at. absurd (c.in_default.ensures (at_path (paths_of c.args.packages.now) n c.path.result.now (at ∙ ap Some (sym c.path.ensures))))
+
+pub imports-requires : goal.imports-requires
+imports-requires c = omega (arith, slice_get_within (paths_of c.args.packages.now) c.in-Some.number c.path.result.now c.in-Some.ensures, c.requires.size)
+
+pub returns : goal.returns
+returns c = λ t n at.
+    let paths = paths_of c.args.packages.now in
+    let path = ap Some (sym c.path.ensures) in
+    let same : n ≡ c.in-Some.number = one_number paths c.requires.sorted n c.in-Some.number c.path.result.now (at ∙ path) c.in-Some.ensures in
+    let row = sym c.as_slice.ensures ∙ c.eq.ensures.0 t ∙ c.imports.ensures in
+    ?
