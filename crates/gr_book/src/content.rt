@@ -15,8 +15,8 @@ use crate::view::View;
 use crate::waiting::first_waiting;
 use gr_compile::{Built, Job, Out, SharedPath};
 use gr_graph::Graph;
-use gr_keep::{Finished, SharedKnown, carried_units, changed_marks, inputs_of, kept, known_within};
-use gr_space::Change;
+use gr_keep::{Finished, SharedKnown, carried_units, inputs_of, kept, known_within, marks_of};
+use gr_space::MadeChange;
 use gr_text::{Files, Limits, Refusal};
 use gr_verdict::Known;
 use std::alloc::{AllocError, Global};
@@ -162,19 +162,20 @@ impl Content {
     }
 
     /// Besides the number of the new state it gives the edits, for the entry.
-    fn commit(&mut self, basis: u64, change: Change) -> Result<(u64, MadeEdits), Refusal>
+    fn commit(&mut self, basis: u64, change: MadeChange) -> Result<(u64, MadeEdits), Refusal>
         requires { HasNumbers self.old }
         ensures answer { AnswersOrLacks self.old (Event.Commit basis change) (committed result) self.new }
         ensures edits { IfOk result (λ made. made.1 ≡ change.edits) }
     {
         let current = &self.current;
         let number = current.number;
-        if basis != number || !change.base.files().same(current.files.files()) {
+        if basis != number || !change.get().base.files().same(current.files.files()) {
             return Err(Refusal::Moved { current: number });
         }
+        let marks = marks_of(self.alloc, &current.files, &change)?;
+        let change = change.into_change();
         let files = change.files;
         let edits = MadeEdits::new(self.alloc, change.edits)?;
-        let marks = changed_marks(self.alloc, &current.files, &files)?;
         let finished = carried_units(
             self.alloc,
             &current.files,
@@ -298,7 +299,7 @@ impl Content {
     }
 
     /// Answers a change, and gives its edits if it is admitted.
-    fn change(&mut self, basis: u64, change: Change) -> (Reply, Option<MadeEdits>)
+    fn change(&mut self, basis: u64, change: MadeChange) -> (Reply, Option<MadeEdits>)
         requires { HasNumbers self.old }
         ensures answer { AnswersOrLacks self.old (Event.Commit basis change) result.0 self.new }
         ensures edits { result.1 ≡ edits_of (Event.Commit basis change) result.0 }

@@ -7,7 +7,7 @@ ghost use Rattle.gr_book.specs.Step.{refused};
 use crate::entry::{Kind, Line, Reason, Told};
 use crate::view::View;
 use gr_compile::{Built, Job};
-use gr_space::Change;
+use gr_space::MadeChange;
 use gr_text::Refusal;
 
 /// What happens to a book. The number is the basis: the state that the sender believes to be current.
@@ -16,7 +16,7 @@ pub enum Event {
     /// Asks for the line of an entry of the journal, by its number.
     Log(u64),
     /// It is admitted where its base has the current files, byte for byte.
-    Commit(u64, Change),
+    Commit(u64, MadeChange),
     Undo(u64),
     Redo(u64),
     /// Asks for a Job of the first package that waits to be built.

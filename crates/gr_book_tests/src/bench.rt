@@ -7,7 +7,7 @@ use gr_book::{Book, Event, Line, Reply, View};
 use gr_check::Planned;
 use gr_compile::{Built, Job, build};
 use gr_rename::plan_rename;
-use gr_space::{Change, plan_put};
+use gr_space::{MadeChange, plan_put};
 use gr_text::{FileText, Limits, Refusal};
 use gr_verdict::{Found, verdicts};
 use std::alloc::{AllocError, Global};
@@ -131,7 +131,7 @@ fn told(jobs: &mut Vec<Job>, reply: Reply) -> Outcome {
 }
 
 /// The put of a file on a view.
-fn planned(rt: &(impl Abort + AllocGlobal), view: &View, path: &str, bytes: &str) -> Change {
+fn planned(rt: &(impl Abort + AllocGlobal), view: &View, path: &str, bytes: &str) -> MadeChange {
     let bytes = bytes.as_bytes().to_vec(rt.alloc()).expect(rt, "bytes");
     let text = FileText::new(rt.alloc(), bytes).expect(rt, "a text");
     plan_put(rt.alloc(), view.snapshot.get(), path, text)
@@ -201,7 +201,7 @@ fn renamed(
     path: &str,
     offset: usize,
     name: &str,
-) -> Change {
+) -> MadeChange {
     let alloc = rt.alloc();
     let snapshot = &view.snapshot;
     let found = found(alloc, view).expect(rt, "findings");

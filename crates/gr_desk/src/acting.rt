@@ -36,7 +36,7 @@ use gr_graph::Graph;
 use gr_line::{Bytes, Command, Response, Word};
 use gr_move::plan_move;
 use gr_rename::plan_rename;
-use gr_space::{Change, plan_del, plan_put};
+use gr_space::{MadeChange, plan_del, plan_put};
 use gr_text::{FileText, Path, Refusal};
 use gr_verdict::{Findings, Found, Known};
 use std::alloc::{AllocError, Global};
@@ -57,7 +57,7 @@ fn plan_body(
     view: &View,
     path: &str,
     body: Option<FileText>,
-) -> Result<Change, Refusal>
+) -> Result<MadeChange, Refusal>
     ensures { PlansBody view.now path.now body result }
 {
     match body {
@@ -98,7 +98,7 @@ fn redo<D: Desk>(desk: &mut D, basis: u64) -> Response
 }
 
 /// Commits a change that was planned.
-fn commit<D: Desk>(desk: &mut D, basis: u64, planned: Result<Change, Refusal>) -> Response
+fn commit<D: Desk>(desk: &mut D, basis: u64, planned: Result<MadeChange, Refusal>) -> Response
     ensures { Commits D.steps desk.old basis planned result desk.new }
 {
     match planned {
@@ -111,7 +111,7 @@ fn commit<D: Desk>(desk: &mut D, basis: u64, planned: Result<Change, Refusal>) -
 fn commit_learning<D: Desk>(
     desk: &mut D,
     basis: u64,
-    change: Change,
+    change: MadeChange,
     files: &Graph,
     known: Known,
 ) -> Response
@@ -129,7 +129,7 @@ fn commit_planned<D: Desk>(desk: &mut D, basis: u64, planned: Planned) -> Respon
     ensures { Sends D.steps desk.old (Event.Commit basis planned.change) result desk.new }
 {
     let Planned { change, known } = planned;
-    match change.files.clone() {
+    match change.get().files.clone() {
         Ok(files) => commit_learning(desk, basis, change, &files, known),
         Err(_) => send(desk, Event::Commit(basis, change)),
     }

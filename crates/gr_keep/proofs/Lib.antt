@@ -5,4 +5,5 @@ pub mod Learning
 pub mod ClosureFiles
 pub mod PartFiles
 pub mod Changed
+pub mod AmongFolders
 pub mod Carrying

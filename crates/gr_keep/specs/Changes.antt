@@ -20,6 +20,10 @@ HasText w e = map.get w e.0 ≡ Some e.1
 abbrev pub HasPath : Workspace → List ℕ × List ℕ → Type 0
 HasPath w e = (text : List ℕ) × (map.get w e.0 ≡ Some text)
 
+-- these files are there, each with its text
+abbrev pub HaveTexts : Workspace → List (List ℕ × List ℕ) → Type 0
+HaveTexts w files = (e : List ℕ × List ℕ) → Contains files e → HasText w e
+
 -- a Go file that is not there; or it is no Go file, or is there
 abbrev pub TellsLacking : (List ℕ × List ℕ → Type 0) → List ℕ × List ℕ → Bool → Type 0
 TellsLacking IsThere e b = MatchBool b ((is_go e.0 ≡ true) × (IsThere e → ⊥)) ((is_go e.0 ≡ false) ⊎ IsThere e)

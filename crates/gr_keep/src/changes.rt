@@ -8,7 +8,7 @@ use gr_graph::Graph;
 use gr_text::{FileText, Files, Path};
 use std::alloc::{AllocError, Global};
 
-fn has_text(files: &Files, path: &Path, text: &FileText) -> bool
+pub(crate) fn has_text(files: &Files, path: &Path, text: &FileText) -> bool
     ensures { IsTrue result ↔ (map.get files.now path.now ≡ Some text.now) }
 {
     match files.get(path) {
@@ -79,7 +79,11 @@ fn changed_folders<'a>(
 }
 
 /// A mark for each package that is among some folders.
-fn folder_marks(alloc: Global, graph: &Graph, folders: &[&[u8]]) -> Result<Vec<bool>, AllocError>
+pub(crate) fn folder_marks(
+    alloc: Global,
+    graph: &Graph,
+    folders: &[&[u8]],
+) -> Result<Vec<bool>, AllocError>
     ensures { IfOk result (λ marks. MarkFolders graph.now (names folders.now) marks.items) }
 {
     let mut marks = vec![in alloc; false; graph.len()]?;

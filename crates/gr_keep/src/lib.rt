@@ -6,6 +6,7 @@ mod changes;
 mod finished;
 mod inputs;
 mod knowing;
+mod named;
 mod shared_known;
 
 pub use carried::{are_unmarked, carried_units, keeps_texts};
@@ -13,4 +14,5 @@ pub use changes::{Marks, changed_marks};
 pub use finished::Finished;
 pub use inputs::{closure_files, inputs_of};
 pub use knowing::{kept, known_after, known_within, learned};
+pub use named::marks_of;
 pub use shared_known::SharedKnown;

@@ -19,7 +19,7 @@ use gr_check::{Planned, preserves, within_limits};
 use gr_conflict::{Conflict, first_conflict, told};
 use gr_edit::EditSet;
 use gr_moving::move_edits;
-use gr_space::{Change, ChangeKind, Snapshot};
+use gr_space::{Change, ChangeKind, MadeChange, Snapshot};
 use gr_text::{Path, Place, Refusal};
 use gr_verdict::{Found, Known};
 use std::alloc::{AllocError, Global};
@@ -98,7 +98,7 @@ fn judged(
     snapshot: &Snapshot,
     found: &Found,
     from: &Path,
-    change: Change,
+    change: MadeChange,
 ) -> Result<Planned, Refusal>
     requires sound { IsSound snapshot.now.files found.now.findings }
     requires known { KnowsVerdicts snapshot.now.files found.now.known }
@@ -106,7 +106,7 @@ fn judged(
     ensures planned { PlansEdits snapshot.now from.now change.edits (change_in result) }
     ensures known { IfOk result (λ p. KnowsVerdicts p.change.files p.known) }
 {
-    match refuse_conflict(alloc, snapshot, found, from, &change) {
+    match refuse_conflict(alloc, snapshot, found, from, change.get()) {
         Err(refusal) => Err(refusal),
         Ok(known) => within_limits(&snapshot.limits, change, known),
     }
@@ -126,7 +126,7 @@ fn plan_edits(
     ensures planned { PlansEdits snapshot.now from.now edits (change_in result) }
     ensures known { IfOk result (λ p. KnowsVerdicts p.change.files p.known) }
 {
-    let change = Change::of(alloc, snapshot, ChangeKind::Move, edits)?;
+    let change = MadeChange::of(alloc, snapshot, ChangeKind::Move, edits)?;
     judged(alloc, snapshot, found, from, change)
 }
 
@@ -144,8 +144,8 @@ fn refuse_length(
     ensures planned { RefusesLength snapshot.now.files from.now edits (change_in result) }
     ensures known { IfOk result (λ p. KnowsVerdicts p.change.files p.known) }
 {
-    let change = Change::of(alloc, snapshot, ChangeKind::Move, edits)?;
-    match refuse_conflict(alloc, snapshot, found, from, &change) {
+    let change = MadeChange::of(alloc, snapshot, ChangeKind::Move, edits)?;
+    match refuse_conflict(alloc, snapshot, found, from, change.get()) {
         Err(refusal) => Err(refusal),
         Ok(_known) => Err(Refusal::TooLarge),
     }

@@ -1,7 +1,7 @@
 //! What the tests do at a seat: a look, and the put of a file.
 use gr_book::{Event, Reply, View};
 use gr_pool::{Opening, Seat, Shared};
-use gr_space::{Change, plan_put};
+use gr_space::{MadeChange, plan_put};
 use gr_text::FileText;
 use std::alloc::Global;
 use std::process::Abort;
@@ -46,7 +46,7 @@ pub(crate) fn look<L: Opening, R: Wait>(
 }
 
 /// The put of a file on a view.
-fn planned<R: Abort>(rt: &R, alloc: Global, view: &View, path: &str, bytes: &str) -> Change {
+fn planned<R: Abort>(rt: &R, alloc: Global, view: &View, path: &str, bytes: &str) -> MadeChange {
     let bytes = bytes.as_bytes().to_vec(alloc).expect(rt, "bytes");
     let text = FileText::new(alloc, bytes).expect(rt, "a text");
     plan_put(alloc, view.snapshot.get(), path, text)

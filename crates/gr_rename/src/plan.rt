@@ -17,7 +17,7 @@ use gr_check::{Planned, preserves, within_limits};
 use gr_conflict::{Conflict, first_conflict, told};
 use gr_naming::{is_new_name, refuse_name};
 use gr_renaming::rename_edits;
-use gr_space::{Change, ChangeKind, Snapshot};
+use gr_space::{Change, ChangeKind, MadeChange, Snapshot};
 use gr_text::{Path, Place, Refusal};
 use gr_verdict::Found;
 use std::alloc::{AllocError, Global};
@@ -92,7 +92,7 @@ fn judged(
     snapshot: &Snapshot,
     found: &Found,
     asked: &Asked<'_>,
-    change: Change,
+    change: MadeChange,
 ) -> Result<Planned, Refusal>
     requires sound { IsSound snapshot.now.files found.now.findings }
     requires known { KnowsVerdicts snapshot.now.files found.now.known }
@@ -100,9 +100,10 @@ fn judged(
     ensures planned { PlansEdits snapshot.now (known_in found.now.findings) (asked_place asked.now) change.edits (change_in result) }
     ensures known { IfOk result (λ p. KnowsVerdicts p.change.files p.known) }
 {
-    match preserves(alloc, &snapshot.files, found, &change.edits, &change.files)? {
+    let made = change.get();
+    match preserves(alloc, &snapshot.files, found, &made.edits, &made.files)? {
         Some(known) => within_limits(&snapshot.limits, change, known),
-        None => Err(refusal_of(alloc, snapshot, found, asked, &change)),
+        None => Err(refusal_of(alloc, snapshot, found, asked, made)),
     }
 }
 
@@ -126,7 +127,7 @@ fn plan_declaration(
         declaration,
         asked.name,
     )?;
-    let change = Change::of(alloc, snapshot, ChangeKind::Rename, edits)?;
+    let change = MadeChange::of(alloc, snapshot, ChangeKind::Rename, edits)?;
     judged(alloc, snapshot, found, asked, change)
 }
 

@@ -22,6 +22,8 @@ use Rattle.gr_edit.proofs.FilesAfter.{IsOldFile, comes_from, has_file}
 use Rattle.gr_graph.specs.Filling.{names}
 use Rattle.gr_graph.specs.Staying.{DiffersOnlyIn}
 use Rattle.gr_graph.proofs.PackagePaths.{folder_cmp}
+use Rattle.gr_space.specs.Made.{IsMade}
+use Rattle.gr_space.specs.declared.change.Change.{Change}
 use Rattle.gr_space.specs.Folders.{AddsFolders, HoldsFolders, IsNamed, IsOfChange}
 
 -- ---- one folder more
@@ -144,3 +146,9 @@ pub differs_only_in : (s : FileChanges) (w : Workspace) → Fits s w → (folder
 differs_only_in s w fits folders holds path go apart =
     let not_named : IsNamed s path → ⊥ = λ named. apart (holds path named) in
     one_option (get (edited s w) path) (get w path) (λ t. there_before s w path not_named t) (λ t. there_after s w path not_named fits t)
+
+-- the same of a change whose files are made
+pub made_differs : (change : Change) → IsMade change → (folders : List (List ℕ)) → HoldsFolders (IsNamed change.edits) folders →
+    DiffersOnlyIn folders change.base change.files
+made_differs change made folders holds =
+    subst (DiffersOnlyIn folders change.base) (sym made.files) (differs_only_in change.edits change.base made.fits folders holds)

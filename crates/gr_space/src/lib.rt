@@ -4,10 +4,12 @@
 mod change;
 mod fits;
 mod folders;
+mod made_change;
 mod plan;
 mod snapshot;
 
 pub use change::{Change, ChangeKind};
 pub use fits::fits_limits;
+pub use made_change::MadeChange;
 pub use plan::{plan_del, plan_put};
 pub use snapshot::Snapshot;

@@ -1,8 +1,9 @@
 -- What is known is right of a clone of the change's files.
-use Rattle.std.proofs.Common.{sym, subst}
+use Rattle.std.proofs.Common.{sym, ap, subst, ◌∙◌}
 use Rattle.gr_text.specs.Workspace.{Workspace}
 use Rattle.gr_verdict.specs.Found.{KnowsVerdicts}
+use Rattle.gr_space.specs.declared.change.Change.{Change}
 use Rattle.gr_desk.proofs.acting.commit_planned.Goals as goal
 
 pub commit_learning-requires : goal.commit_learning-requires
-commit_learning-requires g c = subst (λ (w : Workspace). KnowsVerdicts w c.args.planned.known) (sym c.in-Ok.ensures.cases) c.requires
+commit_learning-requires g c = subst (λ (w : Workspace). KnowsVerdicts w c.args.planned.known) (sym (c.in-Ok.ensures.cases ∙ ap (λ (x : Change). x.files) c.get.ensures)) c.requires

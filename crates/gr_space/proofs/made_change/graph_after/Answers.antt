@@ -4,7 +4,7 @@ use Rattle.gr_text.specs.Workspace.{Workspace}
 use Rattle.gr_graph.specs.Filling.{names}
 use Rattle.gr_graph.specs.Staying.{DiffersOnlyIn}
 use Rattle.gr_space.proofs.NamedFolders.{differs_only_in}
-use Rattle.gr_space.proofs.change.graph_after.Goals as goal
+use Rattle.gr_space.proofs.made_change.graph_after.Goals as goal
 
 pub changed-requires : goal.changed-requires
 changed-requires c =

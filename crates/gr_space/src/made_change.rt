@@ -1,0 +1,104 @@
+//! Changes whose files are what their edit sets make.
+ghost use Rattle.std.specs.Prelude.{◌≡◌, IfOk};
+ghost use Rattle.gr_edit.specs.EditSet.{edited};
+ghost use Rattle.gr_edit.specs.Fits.{Fits};
+ghost use Rattle.gr_graph.specs.Filling.{names};
+ghost use Rattle.gr_graph.specs.Staying.{DiffersOnlyIn};
+
+use crate::change::{Change, ChangeKind};
+use crate::folders::named_folders;
+use crate::snapshot::Snapshot;
+use gr_edit::{EditSet, Prepared, prepare};
+use gr_graph::Graph;
+use gr_text::Files;
+use std::alloc::{AllocError, Global};
+use std::collections::BTreeSet;
+use std::marker::Model;
+
+/// A change whose files are what its edit set, which fits its base, makes of that. Contracts see the change alone.
+pub struct MadeChange {
+    change: Change,
+}
+
+/// Written out, so that crates above call it and don't prove again how each part is dropped.
+impl Drop for MadeChange {
+    fn drop(self) {
+        let MadeChange { change } = self;
+        drop(change);
+    }
+}
+
+impl Model for MadeChange {
+    ghost use Rattle.gr_space.specs.contracts.change.Change.{the_row};
+    ghost use Rattle.gr_space.specs.declared.change.Change.{Change};
+    ghost use Rattle.gr_space.specs.Made.{IsMade};
+
+    ghost Value = { Change };
+
+    ghost coded = { the_row.coded };
+
+    ghost view = { λ a. a.change };
+
+    ghost invariant = { λ a. IsMade a.change };
+}
+
+/// The graph of the files that an edit set makes of those of a graph. Only packages in whose folder it names a file are
+/// looked at.
+fn graph_after(
+    alloc: Global,
+    base: &Graph,
+    edits: &EditSet,
+    files: Files,
+) -> Result<Graph, AllocError>
+    requires fits { Fits edits.now base.now }
+    requires files { files ≡ edited edits.now base.now }
+    ensures { IfOk result (λ graph. graph ≡ files) }
+{
+    let folders = named_folders(alloc, edits)?;
+    Graph::changed(alloc, base, files, &folders)
+}
+
+impl MadeChange {
+    /// The change of a snapshot's files by an edit set. Only files with a new text are parsed.
+    pub fn of(
+        alloc: Global,
+        snapshot: &Snapshot,
+        kind: ChangeKind,
+        edits: EditSet,
+    ) -> Result<MadeChange, AllocError>
+        requires { Fits edits snapshot.now.files }
+        ensures { IfOk result (λ change. change ≡ record { base = snapshot.now.files; kind = kind; edits = edits; files = edited edits snapshot.now.files }) }
+    {
+        let base = &snapshot.files;
+        let Prepared { files, inverse } = prepare(alloc, &edits, base.files())?;
+        inverse.retire();
+        let files = graph_after(alloc, base, &edits, files)?;
+        let change = Change {
+            base: base.clone()?,
+            kind,
+            edits,
+            files,
+        };
+        Ok(MadeChange { change })
+    }
+
+    pub fn get(&self) -> &Change
+        ensures { result.now ≡ self.now }
+    {
+        &self.change
+    }
+
+    pub fn into_change(self) -> Change
+        ensures { result ≡ self }
+    {
+        let MadeChange { change } = self;
+        change
+    }
+
+    /// The folders of all files that the edit set names. Go files of other folders stay as they are.
+    pub fn folders<'a>(&'a self, alloc: Global) -> Result<BTreeSet<&'a [u8]>, AllocError>
+        ensures { IfOk result (λ folders. DiffersOnlyIn (names folders.keys) self.now.base self.now.files) }
+    {
+        named_folders(alloc, &self.change.edits)
+    }
+}
