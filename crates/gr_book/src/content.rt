@@ -70,6 +70,13 @@ fn line_at(journal: &[Entry], number: u64) -> Option<Line>
     }
 }
 
+/// Whether a change was planned on some files.
+fn is_based(change: &MadeChange, files: &Graph) -> bool
+    ensures { IsTrue result ↔ (change.now.base ≡ files.now) }
+{
+    change.get().base.files().same(files.files())
+}
+
 fn looked_reply(outcome: Result<View, Refusal>) -> Reply
     ensures { result ≡ looked outcome }
 {
@@ -169,7 +176,7 @@ impl Content {
     {
         let current = &self.current;
         let number = current.number;
-        if basis != number || !change.get().base.files().same(current.files.files()) {
+        if basis != number || !is_based(&change, &current.files) {
             return Err(Refusal::Moved { current: number });
         }
         let marks = marks_of(self.alloc, &current.files, &change)?;

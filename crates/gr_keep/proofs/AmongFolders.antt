@@ -1,25 +1,23 @@
 -- Which packages of some folders have other files, file by file and folder by folder.
-use Rattle.std.proofs.Common.{◌≡◌, ℕ, ◌+◌, ◌<◌, ◌↔◌, ◌⊎◌, true, false, List, [], ◌∷◌, ◌++◌, length, take, drop, map as mapped, get_or, Bor, Some, slice_get}
-use Rattle.std.proofs.Common.{refl, sym, ap, subst, ◌∙◌, inl, inr, ⊎_elim}
+use Rattle.std.proofs.Common.{◌≡◌, ℕ, ◌+◌, ◌<◌, ◌↔◌, ◌⊎◌, true, false, List, [], ◌∷◌, ◌++◌, length, take, map as mapped, get_or}
+use Rattle.std.proofs.Common.{refl, sym, subst, ◌∙◌, inl, inr, ⊎_elim}
 use Rattle.std.specs.List.{Contains, list_any}
 use Rattle.std.specs.Ordering.{eq_by_cmp}
 use Rattle.std.proofs.lemmas.Bool.{true≢false}
 use Rattle.std.proofs.lemmas.Map.Views.{Contains-from_any}
 use Rattle.std.proofs.lemmas.List.Elements.{Contains-append_left, Contains-push, Contains-push_cases, Contains-get_or}
-use Rattle.std.proofs.lemmas.Option.{same_Some}
 use Rattle.gr_text.specs.Packages.{package_paths, package_files}
 use Rattle.gr_text.specs.Workspace.{Workspace, path_cmp}
 use Rattle.gr_edit.proofs.Held.{is_mapped}
-use Rattle.gr_graph.specs.Filling.{names}
 use Rattle.gr_graph.specs.Staying.{DiffersOnlyIn}
 use Rattle.gr_graph.proofs.Asked.{has_file}
 use Rattle.gr_graph.proofs.PackagePaths.{exact_names}
 use Rattle.gr_graph.proofs.SameFiles.{same_files}
 use Rattle.gr_graph.proofs.StayingPackages.{any_of}
-use Rattle.gr_verdict.proofs.Members.{nothing_in, first_in, later_in, first_or_later, passes, passed}
+use Rattle.gr_verdict.proofs.Members.{nothing_in, first_or_later}
 use Rattle.gr_verdict.proofs.PackageFiles.{package_file}
 use Rattle.gr_keep.specs.Changes.{HasSameFiles, HasText, HaveTexts, AreChanged}
-use Rattle.gr_keep.proofs.Changed.{names_push, package_has, package_path, in_package}
+use Rattle.gr_keep.proofs.Changed.{package_has, package_path, in_package}
 use Rattle.gr_keep.proofs.ClosureFiles.{mapped_more}
 
 -- ---- one file after another

@@ -108,13 +108,13 @@ pub names_push : (folders : List (Bor (List ℕ))) (f : Bor (List ℕ)) → name
 names_push folders f = map_push (λ (g : Bor (List ℕ)). g.now) folders f
 
 -- ---- the packages that have not the same files
-package_has : (w : Workspace) (q : List ℕ) (e : List ℕ × List ℕ) → Contains (package_files w q) e → map_of.get w e.0 ≡ Some e.1
+pub package_has : (w : Workspace) (q : List ℕ) (e : List ℕ × List ℕ) → Contains (package_files w q) e → map_of.get w e.0 ≡ Some e.1
 package_has w q e has = get_entry w e (passes (λ d. is_of_package q d.0) (map_of.entries w) e has).1
 
-package_path : (w : Workspace) (q : List ℕ) (e : List ℕ × List ℕ) → Contains (package_files w q) e → is_of_package q e.0 ≡ true
+pub package_path : (w : Workspace) (q : List ℕ) (e : List ℕ × List ℕ) → Contains (package_files w q) e → is_of_package q e.0 ≡ true
 package_path w q e has = (passes (λ d. is_of_package q d.0) (map_of.entries w) e has).0
 
-in_package : (w : Workspace) (q path text : List ℕ) → is_of_package q path ≡ true → map_of.get w path ≡ Some text → Contains (package_files w q) (path, text)
+pub in_package : (w : Workspace) (q path text : List ℕ) → is_of_package q path ≡ true → map_of.get w path ≡ Some text → Contains (package_files w q) (path, text)
 in_package w q path text of got = passed (λ d. is_of_package q d.0) (map_of.entries w) (path, text) of (entry_of w path text got)
 
 -- First the files of v that w has not with the same text, then those of w that v has not at all.

@@ -1,5 +1,5 @@
 -- One file more, and all of them at the end.
-use Rattle.std.proofs.Common.{◌≡◌, ◌+◌, take, map, Some, refl, ap, sym, subst, ◌∙◌, arith}
+use Rattle.std.proofs.Common.{◌≡◌, map, Some, refl, ap, sym, subst, ◌∙◌, arith}
 use Rattle.std.specs.FinMap as files
 use Rattle.std.proofs.lemmas.Bool.{true≢false}
 use Rattle.std.proofs.lemmas.List.{take_all}

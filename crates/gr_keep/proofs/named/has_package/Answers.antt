@@ -1,5 +1,5 @@
 -- The files of a package are those that have trees, and the others.
-use Rattle.std.proofs.Common.{◌≡◌, ℕ, List, map, IsTrue, sym, ap, subst, ◌∙◌}
+use Rattle.std.proofs.Common.{◌≡◌, ℕ, List, map, sym, subst, ◌∙◌}
 use Rattle.std.proofs.lemmas.Bool.{true≢false}
 use Rattle.std.proofs.lemmas.Option.{same_Some}
 use Rattle.gr_text.specs.Packages.{package_files}

@@ -1,5 +1,5 @@
 -- All files before are there afterwards, and all afterwards were there before.
-use Rattle.std.proofs.Common.{◌≡◌, sym, subst, ◌∙◌}
+use Rattle.std.proofs.Common.{sym, subst, ◌∙◌}
 use Rattle.std.proofs.lemmas.Bool.{true≢false}
 use Rattle.gr_text.specs.Packages.{package_files}
 use Rattle.gr_text.specs.Workspace.{Workspace}

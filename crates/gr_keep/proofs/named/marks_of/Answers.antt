@@ -1,5 +1,5 @@
 -- The base, and the files of the change.
-use Rattle.std.proofs.Common.{IfOk, sym, ap, subst, ◌∙◌}
+use Rattle.std.proofs.Common.{IfOk, sym, ap, subst}
 use Rattle.gr_text.specs.Workspace.{Workspace}
 use Rattle.gr_graph.specs.Filling.{names}
 use Rattle.gr_graph.specs.Staying.{DiffersOnlyIn}

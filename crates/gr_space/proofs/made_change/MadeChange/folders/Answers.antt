@@ -1,5 +1,5 @@
 -- The files outside the folders that are named are the same after the edit set.
-use Rattle.std.proofs.Common.{List, ℕ, sym, ap, subst, ◌∙◌}
+use Rattle.std.proofs.Common.{ap, subst}
 use Rattle.std.proofs.lemmas.Result.{IfOk-weaker}
 use Rattle.gr_edit.specs.EditSet.{FileChanges}
 use Rattle.gr_graph.specs.Filling.{names}
