@@ -7,7 +7,7 @@ use Rattle.std.specs.FinMap.{entries, contains_key-keys}
 use Rattle.std.specs.List.{All, Contains, list_any}
 use Rattle.std.specs.List.Sorted.{IsStrictlySortedBy}
 use Rattle.std.specs.Ordering.{eq_by_cmp}
-use Rattle.std.proofs.lemmas.Bool.{true≢false, cases_eq}
+use Rattle.std.proofs.lemmas.Bool.{true≢false, cases_eq, eqb-true}
 use Rattle.std.proofs.lemmas.List.{take_more, map_push}
 use Rattle.std.proofs.lemmas.List.Elements.{All-contains, All-push, Contains-append_left, Contains-push, Contains-push_cases}
 use Rattle.std.proofs.lemmas.Map.Views.{Contains-from_any}
@@ -34,7 +34,10 @@ use Rattle.gr_graph.proofs.StayingPackages.{any_of}
 -- ---- whether a package has a file
 some_by : {X : Type 0} (xs : List X) (n : ℕ) → n ≡ length xs → not (nat_eq n 0) ≡ has_some xs
 some_by [] n is = ap (λ m. not (nat_eq m 0)) is
-some_by (x ∷ xs) n is = ap (λ m. not (nat_eq m 0)) is
+some_by (x ∷ xs) n is = elim (nat_eq n 0) as (λ b. nat_eq n 0 ≡ b → not b ≡ true) [
+  | true ↦ λ t. let z : n ≡ 0 = eqb-true n 0 t in absurd (omega arith)
+  | false ↦ λ f. refl
+] refl
 
 pub vec_some : {X : Type 0} (xs : Vec X) (b : Bool) → b ≡ nat_eq (vec_len xs) 0 → not b ≡ has_some xs.items
 vec_some xs b is = ap not is ∙ some_by xs.items (vec_len xs) xs.ok.0
@@ -98,9 +101,9 @@ module _ (before fresh packages : List Package) (k : ℕ) (x : Package) (below :
       (so.each i p at)
 
   pub replaced_none : (Contains (paths_of before) x.path.items → ⊥) → AreReplaced before (take (k + 1) fresh) packages
-  replaced_none none = record {
+  replaced_none never = record {
     paths = so.paths;
-    each = λ i p at. elsewhere i p at (λ there. none (at_path (paths_of before) i x.path.items there));
+    each = λ i p at. elsewhere i p at (λ there. never (at_path (paths_of before) i x.path.items there));
   }
 
   pub replaced_more : IsStrictlySortedBy path_cmp (paths_of before) → (n : ℕ) → slice_get (paths_of before) n ≡ Some x.path.items →
@@ -141,8 +144,8 @@ module _ (v w : Workspace) (before fresh packages : List Package) (g : Links) (g
       (All-contains (KeepsPath (package_paths v)) fresh p kept has)
     where
       not_among : (q : List ℕ) → (Contains (package_paths v) q → ⊥) → among q (package_paths v) ≡ false
-      not_among q none = elim (among q (package_paths v)) as (λ b. among q (package_paths v) ≡ b → b ≡ false) [
-        | true ↦ λ is. absurd (none (Contains-from_any exact_names q (package_paths v) is))
+      not_among q never = elim (among q (package_paths v)) as (λ b. among q (package_paths v) ≡ b → b ≡ false) [
+        | true ↦ λ is. absurd (never (Contains-from_any exact_names q (package_paths v) is))
         | false ↦ λ is. refl
       ] refl
 

@@ -44,23 +44,23 @@ pub(crate) fn folder_packages(
     shared(alloc, drafts)
 }
 
-fn has_file(package: &Package) -> bool
-    ensures { result ≡ has_file package.now }
+fn has_file(one: &Package) -> bool
+    ensures { result ≡ has_file one.now }
 {
-    if !package.trees.is_empty() {
+    if !one.trees.is_empty() {
         return true;
     }
-    !package.faulty.is_empty()
+    !one.faulty.is_empty()
 }
 
 /// Whether a package is among others just where it has a file.
-fn keeps_path(before: &[SharedPackage], package: &SharedPackage) -> bool
+fn keeps_path(before: &[SharedPackage], one: &SharedPackage) -> bool
     requires { IsStrictlySortedBy path_cmp (paths_of before.now) }
-    ensures { IsTrue result → KeepsPath (paths_of before.now) package.now }
+    ensures { IsTrue result → KeepsPath (paths_of before.now) one.now }
 {
-    match number_of(before, package.path()) {
-        Some(_) => has_file(package.package()),
-        None => !has_file(package.package()),
+    match number_of(before, one.path()) {
+        Some(_) => has_file(one.package()),
+        None => !has_file(one.package()),
     }
 }
 
@@ -99,16 +99,16 @@ fn keeps_row(
     alloc: Global,
     packages: &[SharedPackage],
     links: &ImportLinks,
-    package: &SharedPackage,
+    one: &SharedPackage,
 ) -> Result<bool, AllocError>
     requires sorted { IsStrictlySortedBy path_cmp (paths_of packages.now) }
     requires size { length links.now ≡ length (paths_of packages.now) }
-    ensures { IfOk result (λ kept. IsTrue kept → HasRow (paths_of packages.now) links.now package.now) }
+    ensures { IfOk result (λ kept. IsTrue kept → HasRow (paths_of packages.now) links.now one.now) }
 {
-    let Some(number) = number_of(packages, package.path()) else {
+    let Some(number) = number_of(packages, one.path()) else {
         return Ok(true);
     };
-    let row = row_of(alloc, packages, package)?;
+    let row = row_of(alloc, packages, one)?;
     Ok(row.as_slice() == links.imports(number))
 }
 

@@ -11,7 +11,7 @@ use Rattle.gr_graph.proofs.changed.keep_rows.Goals as goal
 pub loop-package-preserved : goal.loop-package-preserved
 loop-package-preserved c =
     all_more (HasRow (paths_of c.args.packages.now) c.args.links.now) c.args.fresh.now c.loop-package.package-index c.package-item.result
-    c.loop-package-test.true c.package-item.is c.loop-package.invariant (c.in_ok-keeps_row.ensures c.if-not-field-0.false)
+    c.loop-package-test.true c.package-item.is c.loop-package.invariant (c.in_ok-keeps_row.ensures c.if-not-branch.false)
 
 pub returns : goal.returns
 returns c = λ _.

@@ -1,5 +1,6 @@
 -- The row is that of the links where they are equal.
 use Rattle.std.proofs.Common.{◌≡◌, ◌<◌, List, ℕ, length, sym, ap, subst, ◌∙◌, arith, Some, slice_get}
+use Rattle.std.specs.Cmp.Lexicographic.{bytes_decides}
 use Rattle.std.proofs.lemmas.Option.{slice_get_within}
 use Rattle.gr_graph.specs.Graphs.{paths_of}
 use Rattle.gr_graph.specs.Imports.{imports_of}
@@ -19,5 +20,7 @@ returns c = λ t n at.
     let paths = paths_of c.args.packages.now in
     let path = ap Some (sym c.path.ensures) in
     let same : n ≡ c.in-Some.number = one_number paths c.requires.sorted n c.in-Some.number c.path.result.now (at ∙ path) c.in-Some.ensures in
-    let row = sym c.as_slice.ensures ∙ c.eq.ensures.0 t ∙ c.imports.ensures in
-    ?
+    let trees = c.args.one.now.trees.items in
+    let row : c.in_ok-row.row ≡ imports_of c.args.links.now c.in-Some.number = sym c.as_slice.ensures ∙ (bytes_decides _ _).0 (sym c.eq.ensures ∙ t) ∙
+    c.imports.ensures in
+    subst (λ (k : ℕ). IsRow paths trees (imports_of c.args.links.now k)) (sym same) (subst (IsRow paths trees) row c.in_ok-row.ensures)

@@ -10,7 +10,7 @@ use Rattle.gr_graph.proofs.ChangedPackages.{none_replaced, replaced_none, replac
 use Rattle.gr_graph.proofs.changed.replaced.Goals as goal
 
 pub loop-package-init : goal.loop-package-init
-loop-package-init c = none_replaced c.args.before.now.items c.in_ok-packages.packages.items ?
+loop-package-init c = none_replaced c.args.before.now.items c.in_ok-packages.packages.items (search rules)
 
 pub returns : goal.returns
 returns c =
