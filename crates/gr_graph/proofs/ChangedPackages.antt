@@ -4,7 +4,7 @@ use Rattle.std.proofs.Common.{refl, sym, ap, subst, ◌∙◌, inl, inr, ⊎_eli
 use Rattle.std.proofs.Math.ListN.{set}
 use Rattle.std.specs.Global.{Vec}
 use Rattle.std.specs.FinMap.{entries, contains_key-keys}
-use Rattle.std.specs.List.{All, Contains, list_any}
+use Rattle.std.specs.List.{All, AllZip, Contains, list_any}
 use Rattle.std.specs.List.Sorted.{IsStrictlySortedBy}
 use Rattle.std.specs.Ordering.{eq_by_cmp}
 use Rattle.std.proofs.lemmas.Bool.{true≢false, cases_eq, eqb-true}
@@ -68,6 +68,13 @@ paths_put : (ps : List Package) (n : ℕ) (a : Package) → slice_get (paths_of 
 paths_put [] n a at = refl
 paths_put (p ∷ ps) zero a at = ap (λ path. path ∷ paths_of ps) (sym (same_Some _ _ at))
 paths_put (p ∷ ps) (suc n) a at = ap (λ rest. p.path.items ∷ rest) (paths_put ps n a at)
+
+-- a clone holds the same
+pub clones_are : (xs ys : List Package) → AllZip (λ x y. y ≡ x) xs ys → ys ≡ xs
+clones_are [] [] are = refl
+clones_are [] (y ∷ ys) are = absurd are
+clones_are (x ∷ xs) [] are = absurd are
+clones_are (x ∷ xs) (y ∷ ys) are = ap (λ z. z ∷ ys) are.0 ∙ ap (λ zs. x ∷ zs) (clones_are xs ys are.1)
 
 pub none_replaced : (before packages : List Package) → packages ≡ before → AreReplaced before [] packages
 none_replaced before packages same = record {
