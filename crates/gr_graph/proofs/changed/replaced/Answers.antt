@@ -13,7 +13,7 @@ use Rattle.gr_graph.proofs.changed.replaced.Goals as goal
 
 pub loop-package-init : goal.loop-package-init
 loop-package-init c = none_replaced c.args.before.now.items c.in_ok-packages.packages.items
-    (clones_are c.args.before.now.items c.in_ok-packages.packages.items c.in_ok-packages.ensures.cases)
+    (clones_are c.args.before.now.items c.in_ok-packages.packages.items c.in_ok-packages.ensures.cases.0)
 
 pub loop-package-preserved : goal.loop-package-preserved
 loop-package-preserved c =
