@@ -2,6 +2,7 @@
 use Rattle.std.proofs.Common.{◌≡◌, ◌<◌, ℕ, List, length, slice_get, Some, Bool, MatchBool, refl, ap, sym, ◌∙◌, subst, arith}
 use Rattle.std.specs.FinMap as map
 use Rattle.std.specs.Map.Iter.{deref_pair}
+use Rattle.std.specs.List.{Contains}
 use Rattle.std.specs.List.Sorted.{IsStrictlySortedBy}
 use Rattle.std.proofs.lemmas.Map.Iter.{rest_all, rest_more}
 use Rattle.std.proofs.lemmas.Option.{slice_get_within}
@@ -38,8 +39,8 @@ add_file-requires c =
     let value = ap length c.deref.ensures.value in
     omega (arith, c.loop-path.drafts.ok.0)
 
-pub loop-path-preserved-in-Continue-branch-3 : goal.loop-path-preserved-in-Continue-branch-3
-loop-path-preserved-in-Continue-branch-3 c =
+pub loop-path-preserved-in-Continue-branch-2 : goal.loop-path-preserved-in-Continue-branch-2
+loop-path-preserved-in-Continue-branch-2 c =
     let left = rest_more deref_pair _ _ _ (c.in-Some.path, c.in-Some.text) c.in-Some.is c.next.ensures.steps in
     let all = map.entries c.args.files.now in
     let old = c.loop-path.drafts.items in
@@ -55,6 +56,21 @@ loop-path-preserved-in-Continue-branch-3 c =
       paths = paths_added _ _ _ _ adds ∙ c.loop-path.invariant.paths;
       filled = filled_add c.args.staying.now all e c.next.new.self old c.add_file.new.packages.items c.in-Some-draft_number.number c.in_ok-file.file sorted
           of_none at adds c.in_ok-file.ensures
+          (subst (λ es. AreFilled c.args.staying.now all es old) left c.loop-path.invariant.filled);
+    }
+
+pub loop-path-preserved-in_default : goal.loop-path-preserved-in_default
+loop-path-preserved-in_default c =
+    let left = rest_more deref_pair _ _ _ (c.in-Some.path, c.in-Some.text) c.in-Some.is c.next.ensures.steps in
+    let all = map.entries c.args.files.now in
+    let old = c.loop-path.drafts.items in
+    let e : List ℕ × List ℕ = (c.in-Some.path.now, c.in-Some.text.now) in
+    let never : Contains (paths_of old) (folder e.0) → ⊥ =
+    λ there. c.in_default.ensures (subst (λ (path : List ℕ). Contains (paths_of c.deref.result.now) path) (sym c.folder.ensures)
+    (subst (λ (ps : List Package). Contains (paths_of ps) (folder e.0)) (sym c.deref.ensures.value) there)) in
+    record {
+      paths = c.loop-path.invariant.paths;
+      filled = filled_other c.args.staying.now all e c.next.new.self old never
           (subst (λ es. AreFilled c.args.staying.now all es old) left c.loop-path.invariant.filled);
     }
 
