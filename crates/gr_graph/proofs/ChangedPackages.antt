@@ -1,5 +1,5 @@
 -- The packages of files of which only those in some folders changed, where no package comes and none goes.
-use Rattle.std.proofs.Common.{◌≡◌, ℕ, zero, suc, ◌+◌, ◌<◌, ◌⊎◌, Bool, true, false, not, ◌||◌, List, [], ◌∷◌, ◌++◌, ◌↔◌, length, take, get_or, map, Some, slice_get}
+use Rattle.std.proofs.Common.{◌≡◌, ℕ, zero, suc, ◌+◌, ◌<◌, ◌⊎◌, Bool, true, false, not, ◌||◌, List, [], ◌∷◌, ◌++◌, ◌↔◌, length, take, get_or, Some, slice_get}
 use Rattle.std.proofs.Common.{refl, sym, ap, subst, ◌∙◌, inl, inr, ⊎_elim, nat_eq, vec_len, arith}
 use Rattle.std.proofs.Math.ListN.{set}
 use Rattle.std.specs.Global.{Vec}
@@ -11,7 +11,7 @@ use Rattle.std.proofs.lemmas.Bool.{true≢false, cases_eq, eqb-true}
 use Rattle.std.proofs.lemmas.List.{take_more, map_push}
 use Rattle.std.proofs.lemmas.List.Elements.{All-contains, All-push, Contains-append_left, Contains-push, Contains-push_cases}
 use Rattle.std.proofs.lemmas.Map.Views.{Contains-from_any}
-use Rattle.std.proofs.lemmas.Option.{none-some, same_Some, slice_get_within, get_or_from_slice_get}
+use Rattle.std.proofs.lemmas.Option.{same_Some, slice_get_within, get_or_from_slice_get}
 use Rattle.gr_text.specs.Packages.{folders, package_paths, package_files}
 use Rattle.gr_text.specs.Workspace.{Workspace, path_cmp}
 use Rattle.gr_tree.specs.SourceFile.{FileParts}
@@ -26,7 +26,7 @@ use Rattle.gr_graph.specs.declared.package.Package.{Package}
 use Rattle.gr_graph.proofs.Collected.{none_held}
 use Rattle.gr_graph.proofs.Filled.{path_at, set_there, set_elsewhere}
 use Rattle.gr_graph.proofs.Linked.{package_at, row_imports}
-use Rattle.gr_graph.proofs.PackagePaths.{exact_names, go_folders, has_folder, one_number, paths_are, paths_sorted}
+use Rattle.gr_graph.proofs.PackagePaths.{exact_names, has_folder, one_number, paths_are, paths_sorted}
 use Rattle.gr_graph.proofs.PartPackages.{folder_found}
 use Rattle.gr_graph.proofs.SameFiles.{same_files}
 use Rattle.gr_graph.proofs.StayingPackages.{any_of}

@@ -1,5 +1,5 @@
 -- The package is there, or it is not.
-use Rattle.std.proofs.Common.{List, ℕ, inl, inr, sym, ap, subst, ◌∙◌}
+use Rattle.std.proofs.Common.{inl, inr, sym, ap, subst, ◌∙◌}
 use Rattle.std.specs.List.{Contains}
 use Rattle.gr_graph.specs.Changed.{has_file}
 use Rattle.gr_graph.specs.Graphs.{paths_of}

@@ -1,9 +1,7 @@
 -- One more package, and all of them at the end.
-use Rattle.std.proofs.Common.{◌≡◌, ◌<◌, List, ℕ, Some, slice_get, length, take, ap, sym, subst, ◌∙◌, ◌+◌, arith}
-use Rattle.std.proofs.Math.ListN.{set}
+use Rattle.std.proofs.Common.{List, Some, slice_get, ap, sym, subst, ◌∙◌, arith}
 use Rattle.std.specs.List.{Contains}
-use Rattle.std.proofs.lemmas.List.{take_all, length-map}
-use Rattle.std.proofs.lemmas.Option.{slice_get_within}
+use Rattle.std.proofs.lemmas.List.{take_all}
 use Rattle.gr_graph.specs.Changed.{AreReplaced}
 use Rattle.gr_graph.specs.Graphs.{paths_of}
 use Rattle.gr_graph.specs.declared.package.Package.{Package}

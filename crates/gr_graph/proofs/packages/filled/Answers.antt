@@ -13,7 +13,7 @@ use Rattle.gr_graph.specs.Graphs.{paths_of}
 use Rattle.gr_graph.specs.Filling.{AreFilled}
 use Rattle.gr_graph.specs.Staying.{IsOfNone, IsOfOne}
 use Rattle.gr_graph.specs.declared.package.Package.{Package}
-use Rattle.gr_graph.proofs.Filled.{filled_start, filled_add, filled_skip, filled_other, filled_end, paths_added}
+use Rattle.gr_graph.proofs.Filled.{filled_start, filled_add, filled_other, filled_end, paths_added}
 use Rattle.gr_graph.proofs.packages.filled.Goals as goal
 
 pub loop-path-init : goal.loop-path-init

@@ -1,10 +1,9 @@
 -- The packages of the folders stand in the place of what was there, and the links stay where these import what they did.
-use Rattle.std.proofs.Common.{◌≡◌, ℕ, List, length, ap, sym, subst, ◌∙◌}
+use Rattle.std.proofs.Common.{◌≡◌, List, length, ap, sym, subst, ◌∙◌}
 use Rattle.std.specs.List.{All}
-use Rattle.std.specs.List.Sorted.{IsStrictlySortedBy}
 use Rattle.gr_text.specs.Packages.{package_paths}
-use Rattle.gr_text.specs.Workspace.{Workspace, path_cmp}
-use Rattle.gr_graph.specs.Changed.{AreReplaced, HasRow}
+use Rattle.gr_text.specs.Workspace.{Workspace}
+use Rattle.gr_graph.specs.Changed.{HasRow}
 use Rattle.gr_graph.specs.Graphs.{paths_of, IsGraph}
 use Rattle.gr_graph.specs.Imports.{Links}
 use Rattle.gr_graph.specs.declared.package.Package.{Package}
