@@ -127,6 +127,18 @@ filled_skip staying all e left ps of_one filled i p at apart_p ts fs parsed =
     (sym (not_in_folder e left p.path.items (λ same. apart_p (subst (Contains (paths_of staying)) same stays)))) parsed))
     of_one
 
+-- ---- a file of another folder than those of the packages
+pub filled_other : (staying : List Package) (all : List (List ℕ × List ℕ)) (e : List ℕ × List ℕ) (left : List (List ℕ × List ℕ)) (ps : List Package) →
+    (Contains (paths_of ps) (folder e.0) → ⊥) → AreFilled staying all (e ∷ left) ps → AreFilled staying all left ps
+filled_other staying all e left ps never filled i p at apart_p ts fs parsed =
+    let there : Contains (paths_of ps) p.path.items = (
+      i,
+      slice_get_within (paths_of ps) i p.path.items (path_at ps i p at),
+      get_or_from_slice_get (paths_of ps) i p.path.items p.path.items (path_at ps i p at),
+    ) in
+    filled i p at apart_p ts fs (subst (λ es. AreParsed es ts fs)
+    (sym (not_in_folder e left p.path.items (λ same. never (subst (Contains (paths_of ps)) (sym same) there)))) parsed)
+
 -- ---- nothing is left
 pub filled_end : (staying : List Package) (all : List (List ℕ × List ℕ)) (ps : List Package) → AreFilled staying all [] ps → (i : ℕ) (p : Package) →
     slice_get ps i ≡ Some p → (Contains (paths_of staying) p.path.items → ⊥)

@@ -17,3 +17,4 @@ pub mod SameFiles
 pub mod StayingPackages
 pub mod PartPackages
 pub mod Asked
+pub mod ChangedPackages

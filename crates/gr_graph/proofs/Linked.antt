@@ -1,5 +1,5 @@
 -- The rows of the packages are the links of the workspace.
-use Rattle.std.proofs.Common.{◌≡◌, ℕ, zero, suc, ◌<◌, List, [], ◌∷◌, length, Some, slice_get, get_or, refl, sym, ap, subst, ◌∙◌, arith}
+use Rattle.std.proofs.Common.{◌≡◌, ℕ, zero, suc, ◌<◌, ◌↔◌, List, [], ◌∷◌, length, Some, slice_get, get_or, refl, sym, ap, subst, ◌∙◌, arith}
 use Rattle.std.specs.List.{Contains, AllZip, All}
 use Rattle.std.specs.List.Sorted.{IsStrictlyIncreasing}
 use Rattle.std.proofs.lemmas.List.{length-map}
@@ -60,6 +60,25 @@ package_at [] i p h = absurd (none-some p h)
 package_at (q ∷ ps) zero p h = (q, refl, same_Some _ _ h)
 package_at (q ∷ ps) (suc i) p h = package_at ps i p h
 
+-- the row of a package tells what it imports
+pub row_imports : (w : Workspace) (paths : List (List ℕ)) (p : Package) (row : List ℕ) → AreParsed (package_files w p.path.items) p.trees.items p.faulty.items →
+    IsRow paths p.trees.items row → (j : ℕ) (q : List ℕ) → slice_get paths j ≡ Some q → Contains row j ↔ PackageImports w p.path.items q
+row_imports w paths p row parsed is j q at = (
+  λ has.
+      let some = (is.each j).0 has in
+      let of = tree_is_of parsed some.0 some.1 in
+      record {
+        entry = of.0;
+        of_package = of.1;
+        file = source_of some.0;
+        parsed = of.2;
+        imports = subst (ImportsPath (source_of some.0)) (same_Some _ _ (sym some.2.1 ∙ at)) some.2.2;
+      },
+  λ pi.
+      let found = tree_of parsed pi.entry pi.of_package pi.file pi.parsed in
+      (is.each j).1 (found.0, found.1, (q, at, subst (λ (f : SourceFile). ImportsPath f q) found.2 pi.imports)),
+)
+
 module _ (w : Workspace) (ps : List Package) (g : Links) (paths : paths_of ps ≡ package_paths w)
     (parsed : (i : ℕ) (p : Package) → slice_get ps i ≡ Some p → AreParsed (package_files w p.path.items) p.trees.items p.faulty.items)
     (rows : AllZip (λ p row. IsRow (paths_of ps) p.trees.items row) ps g) where
@@ -75,23 +94,14 @@ module _ (w : Workspace) (ps : List Package) (g : Links) (paths : paths_of ps �
   imports_is : (i j : ℕ) (p q : List ℕ) → slice_get (paths_of ps) i ≡ Some p → slice_get (paths_of ps) j ≡ Some q → Imports g i j → PackageImports w p q
   imports_is i j p q at_i at_j has =
       let here = package_at ps i p at_i in
-      let some = ((row_at i here.0 here.1).each j).0 has in
-      let same : some.2.0 ≡ q = same_Some _ _ (sym some.2.1 ∙ at_j) in
-      let of = tree_is_of (parsed i here.0 here.1) some.0 some.1 in
-      record {
-        entry = of.0;
-        of_package = subst (λ (path : List ℕ). Contains (package_files w path) of.0) here.2 of.1;
-        file = source_of some.0;
-        parsed = of.2;
-        imports = subst (ImportsPath (source_of some.0)) same some.2.2;
-      }
+      subst (λ (path : List ℕ). PackageImports w path q) here.2
+      ((row_imports w (paths_of ps) here.0 (imports_of g i) (parsed i here.0 here.1) (row_at i here.0 here.1) j q at_j).0 has)
 
   is_imports : (i j : ℕ) (p q : List ℕ) → slice_get (paths_of ps) i ≡ Some p → slice_get (paths_of ps) j ≡ Some q → PackageImports w p q → Imports g i j
   is_imports i j p q at_i at_j pi =
       let here = package_at ps i p at_i in
-      let found = tree_of (parsed i here.0 here.1) pi.entry (subst (λ (path : List ℕ). Contains (package_files w path) pi.entry) (sym here.2) pi.of_package)
-      pi.file pi.parsed in
-      ((row_at i here.0 here.1).each j).1 (found.0, found.1, (q, at_j, subst (λ (f : SourceFile). ImportsPath f q) found.2 pi.imports))
+      (row_imports w (paths_of ps) here.0 (imports_of g i) (parsed i here.0 here.1) (row_at i here.0 here.1) j q at_j).1
+      (subst (λ (path : List ℕ). PackageImports w path q) (sym here.2) pi)
 
   below : (i : ℕ) → i < length g → (j : ℕ) → Imports g i j → j < length g
   below i within j has =

@@ -18,6 +18,7 @@ use Rattle.gr_text.specs.Path.{folder}
 use Rattle.gr_text.specs.Packages.{is_go, is_of_package, folders, package_paths, package_files, files_in}
 use Rattle.gr_text.specs.Workspace.{Workspace, path_cmp}
 use Rattle.gr_text.proofs.WorkspaceLaws.{path_cmp_total}
+use Rattle.gr_graph.specs.Changed.{has_some}
 use Rattle.gr_graph.specs.Graphs.{paths_of}
 use Rattle.gr_graph.specs.Parsed.{AreParsed}
 use Rattle.gr_graph.specs.Parts.{IsNumbered, HasFilesOf, AreNumbered}
@@ -79,19 +80,15 @@ module _ (old : List Package) where
       ∙ less)
 
 -- ---- whether a folder has a Go file
-abbrev has_some : {X : Type 0} → List X → Bool
-has_some [] = false
-has_some (x ∷ xs) = true
-
-first_of : {X : Type 0} (xs : List X) → has_some xs ≡ true → (x : X) × Contains xs x
+pub first_of : {X : Type 0} (xs : List X) → has_some xs ≡ true → (x : X) × Contains xs x
 first_of [] h = absurd (true≢false (sym h))
 first_of (x ∷ xs) h = (x, (0, omega arith, refl))
 
-not_true : (b : Bool) → (b ≡ true → ⊥) → b ≡ false
+pub not_true : (b : Bool) → (b ≡ true → ⊥) → b ≡ false
 not_true true h = absurd (h refl)
 not_true false h = refl
 
-folder_found : (q : List ℕ) (es : List (List ℕ × List ℕ)) → list_any (eq_by_cmp path_cmp q) (go_folders es) ≡ has_some (files_in q es)
+pub folder_found : (q : List ℕ) (es : List (List ℕ × List ℕ)) → list_any (eq_by_cmp path_cmp q) (go_folders es) ≡ has_some (files_in q es)
 folder_found q [] = refl
 folder_found q (e ∷ es) =
     let names = filter is_go (map (λ (d : List ℕ × List ℕ). d.0) es) in

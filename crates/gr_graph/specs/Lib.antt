@@ -12,4 +12,5 @@ pub mod Graphs
 pub mod Rows
 pub mod Filling
 pub mod Staying
+pub mod Changed
 pub mod Parts

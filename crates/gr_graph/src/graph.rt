@@ -5,6 +5,7 @@ ghost use Rattle.std.specs.List.Sorted.{IsStrictlyIncreasing};
 ghost use Rattle.gr_graph.specs.Imports.{imports_of};
 ghost use Rattle.gr_text.specs.Packages.{package_paths};
 ghost use Rattle.gr_graph.specs.Packages.{PackageImports, IsInClosure, AreLinksOf};
+ghost use Rattle.gr_graph.specs.Changed.{KeepsPath};
 ghost use Rattle.gr_graph.specs.Filling.{names};
 ghost use Rattle.gr_graph.specs.Parts.{HasFilesOf};
 ghost use Rattle.gr_graph.specs.Staying.{DiffersOnlyIn, HasFiles};
@@ -16,6 +17,7 @@ ghost use Rattle.gr_graph.specs.Graphs.{
   HoldsPackages,
 };
 
+use crate::changed::{folder_packages, keep_paths, keep_rows, replaced};
 use crate::import_links::ImportLinks;
 use crate::package::Package;
 use crate::packages::packages;
@@ -100,10 +102,42 @@ impl Graph {
         requires { DiffersOnlyIn (names folders.now.keys) before.now files }
         ensures { IfOk result (λ graph. graph ≡ files) }
     {
-        let before = &before.parts;
-        let staying = packages_outside(alloc, &before.packages, folders)?;
-        let packages = packages(alloc, &before.packages, &staying, &files)?;
-        Graph::made(alloc, Some(&before.links), files, packages)
+        let old: &Parts = &before.parts;
+        let fresh = folder_packages(alloc, &old.packages, folders, &files)?;
+        if keep_paths(&old.packages, &fresh) {
+            return Graph::replaced(alloc, before, &fresh, files);
+        }
+        let staying = packages_outside(alloc, &old.packages, folders)?;
+        let packages = packages(alloc, &fresh, &staying, &files)?;
+        Graph::made(alloc, Some(&old.links), files, packages)
+    }
+
+    /// The graph of other files, by the packages of the folders in which Go files differ, where no package comes and none goes.
+    fn replaced(
+        alloc: Global,
+        before: &Graph,
+        fresh: &[SharedPackage],
+        files: Files,
+    ) -> Result<Graph, AllocError>
+        requires differs { DiffersOnlyIn (paths_of fresh.now) before.now files }
+        requires fresh { All (HasFiles files) fresh.now }
+        requires kept { All (KeepsPath (package_paths before.now)) fresh.now }
+        ensures { IfOk result (λ graph. graph ≡ files) }
+    {
+        let old: &Parts = &before.parts;
+        let packages = replaced(&old.packages, fresh)?;
+        if !keep_rows(alloc, &packages, old.links.links(), fresh)? {
+            return Graph::made(alloc, Some(&old.links), files, packages);
+        }
+        let links = old.links.clone()?;
+        let parts = Parts {
+            files,
+            packages,
+            links,
+        };
+        Ok(Graph {
+            parts: Arc::new(alloc, parts)?,
+        })
     }
 
     /// The graph of a part of a workspace: its Go files are exactly those of the packages with some numbers. All packages are

@@ -1,6 +1,7 @@
 //! The packages of a workspace, and which import which.
 #![tactic(auto)]
 
+mod changed;
 mod closure;
 mod faulty_file;
 mod file_imports;

@@ -18,7 +18,10 @@ use std::alloc::{AllocError, Global};
 use std::collections::BTreeSet;
 
 /// Packages at some folders, with no file yet.
-fn packages_at(alloc: Global, folders: &BTreeSet<&[u8]>) -> Result<Vec<Package>, AllocError>
+pub(crate) fn packages_at(
+    alloc: Global,
+    folders: &BTreeSet<&[u8]>,
+) -> Result<Vec<Package>, AllocError>
     ensures paths { IfOk result (λ packages. paths_of packages.items ≡ names folders.now.keys) }
     ensures empty { IfOk result (λ packages. All IsEmpty packages.items) }
     ensures rising { IfOk result (λ _. IsStrictlySortedBy path_cmp (names folders.now.keys)) }
@@ -73,20 +76,23 @@ fn is_of_none(packages: &[SharedPackage], path: &Path) -> bool
     path.is_go() && number_of(packages, path.folder()).is_none()
 }
 
-/// The packages of some files, but only those that do not stay have their files. What is among the packages before is not
-/// parsed again.
-fn drafts(
+/// Fills packages that have no file yet with the files that are in their folders, but only those that do not stay. What is among the
+/// packages before is not parsed again.
+pub(crate) fn filled(
     alloc: Global,
     before: &[SharedPackage],
     staying: &[SharedPackage],
+    empty: Vec<Package>,
     files: &Files,
 ) -> Result<Vec<Package>, AllocError>
     requires before { IsStrictlySortedBy path_cmp (paths_of before.now) }
     requires staying { IsStrictlySortedBy path_cmp (paths_of staying.now) }
-    ensures paths { IfOk result (λ drafts. paths_of drafts.items ≡ package_paths files.now) }
-    ensures files { IfOk result (λ drafts. (i : ℕ) (p : Package) → slice_get drafts.items i ≡ Some p → (Contains (paths_of staying.now) p.path.items → ⊥) → HasFiles files.now p) }
+    requires paths { IsStrictlySortedBy path_cmp (paths_of empty.items) }
+    requires empty { All IsEmpty empty.items }
+    ensures paths { IfOk result (λ filled. paths_of filled.items ≡ paths_of empty.items) }
+    ensures files { IfOk result (λ filled. (i : ℕ) (p : Package) → slice_get filled.items i ≡ Some p → (Contains (paths_of staying.now) p.path.items → ⊥) → HasFiles files.now p) }
 {
-    let mut drafts = empty_packages(alloc, files)?;
+    let mut drafts = empty;
     for (path, text) in files.iter() {
         if is_of_none(staying, path) {
             if let Some(number) = draft_number(&drafts, path.folder()) {
@@ -128,7 +134,8 @@ pub(crate) fn packages(
     ensures files { IfOk result (λ packages. (i : ℕ) (p : Package) → slice_get packages.items i ≡ Some p → HasFiles files.now p) }
 {
     let mut packages = Vec::new(alloc);
-    for draft in drafts(alloc, before, staying, files)? {
+    let empty = empty_packages(alloc, files)?;
+    for draft in filled(alloc, before, staying, empty, files)? {
         packages.push(staying_or(alloc, staying, draft)?)?;
     }
     Ok(packages)

@@ -41,7 +41,7 @@ fn numbers_of(
 }
 
 /// The packages that the files of one import.
-fn row_of(
+pub(crate) fn row_of(
     alloc: Global,
     packages: &[SharedPackage],
     importer: &SharedPackage,

@@ -8,7 +8,11 @@ use Rattle.std.proofs.lemmas.Option.{slice_get-get_or, slice_get_within, get_or_
 use Rattle.gr_graph.specs.Graphs.{paths_of}
 use Rattle.gr_graph.specs.Staying.{HasFiles}
 use Rattle.gr_graph.specs.declared.package.Package.{Package}
+use Rattle.gr_graph.proofs.PackagePaths.{paths_sorted}
 use Rattle.gr_graph.proofs.packages.packages.Goals as goal
+
+pub filled-requires-clause-paths : goal.filled-requires-clause-paths
+filled-requires-clause-paths c = rw c.in_ok-empty.ensures.paths (paths_sorted c.args.files.now)
 
 pub loop-draft-preserved : goal.loop-draft-preserved
 loop-draft-preserved c =
@@ -40,6 +44,6 @@ returns c =
     let all : passed ≡ drafts = sym (map-id passed) ∙ end.0 in
     let new = c.loop-draft.packages.items in
     record {
-      paths = c.loop-draft.invariant.paths ∙ ap paths_of all ∙ c.in_ok-draft-items.ensures.paths;
+      paths = c.loop-draft.invariant.paths ∙ ap paths_of all ∙ c.in_ok-draft-items.ensures.paths ∙ c.in_ok-empty.ensures.paths;
       files = λ i p at. subst (HasFiles c.args.files.now) (get_or_from_slice_get new i p p at) (c.loop-draft.invariant.files i p (slice_get_within new i p at));
     }

@@ -1,7 +1,8 @@
 -- One more file, and all of them at the end.
-use Rattle.std.proofs.Common.{◌≡◌, ◌<◌, ℕ, List, length, slice_get, Some, Bool, MatchBool, ap, sym, ◌∙◌, subst, arith}
+use Rattle.std.proofs.Common.{◌≡◌, ◌<◌, ℕ, List, length, slice_get, Some, Bool, MatchBool, refl, ap, sym, ◌∙◌, subst, arith}
 use Rattle.std.specs.FinMap as map
 use Rattle.std.specs.Map.Iter.{deref_pair}
+use Rattle.std.specs.List.{Contains}
 use Rattle.std.specs.List.Sorted.{IsStrictlySortedBy}
 use Rattle.std.proofs.lemmas.Map.Iter.{rest_all, rest_more}
 use Rattle.std.proofs.lemmas.Option.{slice_get_within}
@@ -12,26 +13,23 @@ use Rattle.gr_graph.specs.Graphs.{paths_of}
 use Rattle.gr_graph.specs.Filling.{AreFilled}
 use Rattle.gr_graph.specs.Staying.{IsOfNone, IsOfOne}
 use Rattle.gr_graph.specs.declared.package.Package.{Package}
-use Rattle.gr_graph.proofs.PackagePaths.{AreThere, all_there, paths_sorted}
-use Rattle.gr_graph.proofs.Filled.{filled_start, filled_add, filled_end, paths_added}
-use Rattle.gr_text.specs.Packages.{package_paths}
-use Rattle.gr_graph.proofs.packages.drafts.Goals as goal
+use Rattle.gr_graph.proofs.Filled.{filled_start, filled_add, filled_other, filled_end, paths_added}
+use Rattle.gr_graph.proofs.packages.filled.Goals as goal
 
 pub loop-path-init : goal.loop-path-init
 loop-path-init c =
     let begun : map.entries c.args.files.now ≡ c.into_iter-path-iterator.result =
     sym (c.into_iter-path-iterator.ensures.into_iter_gives ∙ c.iter-path-items.ensures.files) in
     record {
-      paths = c.in_ok-drafts.ensures.paths;
-      filled = subst (λ es. AreFilled c.args.staying.now (map.entries c.args.files.now) es c.in_ok-drafts.drafts.items) begun
-          (filled_start c.args.staying.now (map.entries c.args.files.now) c.in_ok-drafts.drafts.items c.in_ok-drafts.ensures.empty);
-      there = subst (AreThere (package_paths c.args.files.now)) begun (all_there c.args.files.now);
+      paths = refl;
+      filled = subst (λ es. AreFilled c.args.staying.now (map.entries c.args.files.now) es c.args.empty.items) begun
+          (filled_start c.args.staying.now (map.entries c.args.files.now) c.args.empty.items c.requires.empty);
     }
 
 pub draft_number-requires : goal.draft_number-requires
 draft_number-requires c =
     let paths = ap paths_of c.deref.ensures.value ∙ c.loop-path.invariant.paths in
-    rw paths (paths_sorted c.args.files.now)
+    rw paths c.requires.paths
 
 pub add_file-requires : goal.add_file-requires
 add_file-requires c =
@@ -41,14 +39,13 @@ add_file-requires c =
     let value = ap length c.deref.ensures.value in
     omega (arith, c.loop-path.drafts.ok.0)
 
-pub loop-path-preserved-in-Continue-branch-3 : goal.loop-path-preserved-in-Continue-branch-3
-loop-path-preserved-in-Continue-branch-3 c =
+pub loop-path-preserved-in-Continue-branch-2 : goal.loop-path-preserved-in-Continue-branch-2
+loop-path-preserved-in-Continue-branch-2 c =
     let left = rest_more deref_pair _ _ _ (c.in-Some.path, c.in-Some.text) c.in-Some.is c.next.ensures.steps in
     let all = map.entries c.args.files.now in
     let old = c.loop-path.drafts.items in
     let e : List ℕ × List ℕ = (c.in-Some.path.now, c.in-Some.text.now) in
-    let there = subst (AreThere (package_paths c.args.files.now)) left c.loop-path.invariant.there in
-    let sorted : IsStrictlySortedBy path_cmp (paths_of old) = rw c.loop-path.invariant.paths (paths_sorted c.args.files.now) in
+    let sorted : IsStrictlySortedBy path_cmp (paths_of old) = rw c.loop-path.invariant.paths c.requires.paths in
     let adds = c.in_ok-add_file.ensures in
     let of_none = subst (λ (b : Bool). MatchBool b (IsOfNone c.args.staying.now e.0) (IsOfOne c.args.staying.now e.0)) c.if-is_of_none.true
     c.is_of_none.ensures in
@@ -60,7 +57,21 @@ loop-path-preserved-in-Continue-branch-3 c =
       filled = filled_add c.args.staying.now all e c.next.new.self old c.add_file.new.packages.items c.in-Some-draft_number.number c.in_ok-file.file sorted
           of_none at adds c.in_ok-file.ensures
           (subst (λ es. AreFilled c.args.staying.now all es old) left c.loop-path.invariant.filled);
-      there = there.1;
+    }
+
+pub loop-path-preserved-in_default : goal.loop-path-preserved-in_default
+loop-path-preserved-in_default c =
+    let left = rest_more deref_pair _ _ _ (c.in-Some.path, c.in-Some.text) c.in-Some.is c.next.ensures.steps in
+    let all = map.entries c.args.files.now in
+    let old = c.loop-path.drafts.items in
+    let e : List ℕ × List ℕ = (c.in-Some.path.now, c.in-Some.text.now) in
+    let never : Contains (paths_of old) (folder e.0) → ⊥ =
+    λ there. c.in_default.ensures (subst (λ (path : List ℕ). Contains (paths_of c.deref.result.now) path) (sym c.folder.ensures)
+    (subst (λ (ps : List Package). Contains (paths_of ps) (folder e.0)) (sym c.deref.ensures.value) there)) in
+    record {
+      paths = c.loop-path.invariant.paths;
+      filled = filled_other c.args.staying.now all e c.next.new.self old never
+          (subst (λ es. AreFilled c.args.staying.now all es old) left c.loop-path.invariant.filled);
     }
 
 pub returns-clause-files : goal.returns-clause-files

@@ -1,0 +1,132 @@
+//! The packages of files of which only those in some folders changed, where no package comes and none goes.
+ghost use Rattle.std.specs.Prelude.{◌≡◌, IfOk, IsTrue, length};
+ghost use Rattle.std.specs.List.{All};
+ghost use Rattle.std.specs.List.Sorted.{IsStrictlySortedBy};
+ghost use Rattle.gr_text.specs.Workspace.{path_cmp};
+ghost use Rattle.gr_graph.specs.Changed.{AreOfFolders, AreReplaced, HasRow, KeepsPath, has_file};
+ghost use Rattle.gr_graph.specs.Filling.{names};
+ghost use Rattle.gr_graph.specs.Graphs.{paths_of};
+
+use crate::import_links::ImportLinks;
+use crate::package::Package;
+use crate::packages::{filled, packages_at};
+use crate::rows::row_of;
+use crate::shared_package::{SharedPackage, number_of};
+use gr_text::Files;
+use std::alloc::{AllocError, Global};
+use std::collections::BTreeSet;
+
+/// Packages that no longer change.
+fn shared(alloc: Global, drafts: Vec<Package>) -> Result<Vec<SharedPackage>, AllocError>
+    ensures { IfOk result (λ packages. packages.items ≡ drafts.items) }
+{
+    let mut packages = Vec::new(alloc);
+    for draft in drafts {
+        packages.push(SharedPackage::new(alloc, draft)?)?;
+    }
+    Ok(packages)
+}
+
+/// The packages at some folders, which have no file where a folder has no Go file. What is among the packages before is not parsed
+/// again.
+pub(crate) fn folder_packages(
+    alloc: Global,
+    before: &[SharedPackage],
+    folders: &BTreeSet<&[u8]>,
+    files: &Files,
+) -> Result<Vec<SharedPackage>, AllocError>
+    requires { IsStrictlySortedBy path_cmp (paths_of before.now) }
+    ensures { IfOk result (λ fresh. AreOfFolders (names folders.now.keys) files.now fresh.items) }
+{
+    let none = Vec::new(alloc);
+    let empty = packages_at(alloc, folders)?;
+    let drafts = filled(alloc, before, &none, empty, files)?;
+    shared(alloc, drafts)
+}
+
+fn has_file(one: &Package) -> bool
+    ensures { result ≡ has_file one.now }
+{
+    if !one.trees.is_empty() {
+        return true;
+    }
+    !one.faulty.is_empty()
+}
+
+/// Whether a package is among others just where it has a file.
+fn keeps_path(before: &[SharedPackage], one: &SharedPackage) -> bool
+    requires { IsStrictlySortedBy path_cmp (paths_of before.now) }
+    ensures { IsTrue result → KeepsPath (paths_of before.now) one.now }
+{
+    match number_of(before, one.path()) {
+        Some(_) => has_file(one.package()),
+        None => !has_file(one.package()),
+    }
+}
+
+/// Whether packages are among others just where they have files.
+pub(crate) fn keep_paths(before: &[SharedPackage], fresh: &[SharedPackage]) -> bool
+    requires { IsStrictlySortedBy path_cmp (paths_of before.now) }
+    ensures { IsTrue result → All (KeepsPath (paths_of before.now)) fresh.now }
+{
+    for package in fresh {
+        if !keeps_path(before, package) {
+            return false;
+        }
+    }
+    true
+}
+
+/// The packages before, but others in the place of those that have their paths.
+pub(crate) fn replaced(
+    before: &Vec<SharedPackage>,
+    fresh: &[SharedPackage],
+) -> Result<Vec<SharedPackage>, AllocError>
+    requires { IsStrictlySortedBy path_cmp (paths_of before.now.items) }
+    ensures { IfOk result (λ packages. AreReplaced before.now.items fresh.now packages.items) }
+{
+    let mut packages = before.clone()?;
+    for package in fresh {
+        if let Some(number) = number_of(before, package.path()) {
+            packages[number] = package.clone()?;
+        }
+    }
+    Ok(packages)
+}
+
+/// Whether a package, if it is one of those, imports what the links say of it.
+fn keeps_row(
+    alloc: Global,
+    packages: &[SharedPackage],
+    links: &ImportLinks,
+    one: &SharedPackage,
+) -> Result<bool, AllocError>
+    requires sorted { IsStrictlySortedBy path_cmp (paths_of packages.now) }
+    requires size { length links.now ≡ length (paths_of packages.now) }
+    ensures { IfOk result (λ kept. IsTrue kept → HasRow (paths_of packages.now) links.now one.now) }
+{
+    let Some(number) = number_of(packages, one.path()) else {
+        return Ok(true);
+    };
+    let row = row_of(alloc, packages, one)?;
+    Ok(row.as_slice() == links.imports(number))
+}
+
+/// Whether packages, as far as they are of those, import what the links say of them.
+pub(crate) fn keep_rows(
+    alloc: Global,
+    packages: &[SharedPackage],
+    links: &ImportLinks,
+    fresh: &[SharedPackage],
+) -> Result<bool, AllocError>
+    requires sorted { IsStrictlySortedBy path_cmp (paths_of packages.now) }
+    requires size { length links.now ≡ length (paths_of packages.now) }
+    ensures { IfOk result (λ kept. IsTrue kept → All (HasRow (paths_of packages.now) links.now) fresh.now) }
+{
+    for package in fresh {
+        if !keeps_row(alloc, packages, links, package)? {
+            return Ok(false);
+        }
+    }
+    Ok(true)
+}
