@@ -74,7 +74,7 @@ impl Before {
         let exports = exports(alloc, packages)?;
         let places = declared_places(alloc, packages)?;
         let old = old_places(alloc, packages, &places, moves)?;
-        let members = new_members(alloc, packages.graph, packages.found, moves)?;
+        let members = new_members(alloc, packages, moves)?;
         Ok(Before {
             exports,
             places,
