@@ -49,6 +49,7 @@ is_scoped w path files name_of s has parsed names h =
         };
       };
       parsed = own;
+      users = h.are_scopes.users;
       exports = h.are_scopes.exports;
     }
 
