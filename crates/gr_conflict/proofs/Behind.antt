@@ -28,7 +28,7 @@ later place used less = behind used place (ap (λ (o : Ordering). ordering_then 
 -- the file in which an identifier begins
 begun_in : (o : Option SourceFile) (token : ℕ) (path : List ℕ) (offset : ℕ) → NameBegins o token path offset → (f : SourceFile) × ((o ≡ Some f) × (f.path ≡ path))
 begun_in None token path offset h = absurd h
-begun_in (Some f) token path offset h = (f, (refl, h.1.0))
+begun_in (Some f) token path offset h = (f, (refl, h.1))
 
 module _ (files : List FileParts) (p : Package) (own : p.files ≡ map source_of files) where
   file_there : (place : Place) (u : ℕ) → BeginsAt p place.path place.offset u → (f : FileParts) × (Contains files f × (f.path ≡ place.path))
@@ -43,7 +43,7 @@ module _ (files : List FileParts) (p : Package) (own : p.files ≡ map source_of
   pub none_ahead : (w : Workspace) (known : Verdicts) (r : Revision) (first : Option Conflict) → AreBehind first files → HoldsAhead (StaysIn w known r p) first
   none_ahead w known r first h = λ place ahead u begins.
       let f = file_there place u begins in
-      let lies : IsTrue _ = All-contains (LiesBehind h.0.used) files f.0 h.1.1 f.1.0 in
+      let lies : LiesBehind h.0.used f.0 = All-contains (LiesBehind h.0.used) files f.0 h.1.1 f.1.0 in
       let less : path_cmp h.0.used.path place.path ≡ Less =
       subst (λ (q : List ℕ). path_cmp h.0.used.path q ≡ Less) f.1.1 (less_of (path_cmp h.0.used.path f.0.path) lies) in
       absurd (later place h.0.used less (subst (λ (o : Option Conflict). IsAhead o place) h.1.0 ahead))
