@@ -7,22 +7,8 @@ python3 checks/memory.py || exit
 export PYTHONUNBUFFERED=1
 SECONDS=0
 passed() { printf '%d:%02d' $((SECONDS / 60)) $((SECONDS % 60)); }
-case $(rt version) in
-    'rattle-kit-13b '*)
-        # A proof for each processor, as far as free memory holds 5.5 GB for each, which is the most that one was seen to take.
-        # Left to itself this kit plans for more memory than that, and lets processors wait.
-        processors=$(nproc)
-        held_at_once=$(awk '/^MemAvailable:/ { print int($2 / 5500000) }' /proc/meminfo)
-        jobs=$((held_at_once < processors ? held_at_once : processors))
-        export RT_JOBS=$((jobs < 1 ? 1 : jobs))
-        ;;
-    *)
-        # Later kits give a proof the processors that no other waits for, unless RT_JOBS is set: then each has one, and the
-        # longest chain of crates takes that much longer.
-        ;;
-esac
-# rt sums up sources again and again: it is run so that each sum is kept, which saves two minutes under kit 13f, and hours under 13b.
-python3 checks/rt_once.py ci | {
+# rt ci, but that each sum is found once, and that the proof which most others wait for has more processors.
+python3 checks/gate.py | {
     while IFS= read -r line; do
         [ -z "${last+set}" ] || printf '%s\n' "$last"
         last=$line

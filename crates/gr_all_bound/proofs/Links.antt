@@ -34,8 +34,8 @@ use Rattle.gr_verdict.specs.Verdicts.{Verdicts, IsPackageIn}
 use Rattle.gr_bound.specs.declared.declaration.Declaration.{Declaration}
 use Rattle.gr_bound.specs.Binding.{BindsByMember, IsBehindPackage, declaration_of}
 use Rattle.gr_bound.specs.Identifiers.{Stands}
-use Rattle.gr_bound.proofs.NamedMembers.{part_at}
-use Rattle.gr_bound.proofs.OnePlace.{names_of, laid_of, same_layout, same_files}
+use Rattle.gr_asked.proofs.NamedMembers.{part_at}
+use Rattle.gr_asked.proofs.OnePlace.{names_of, laid_of, same_layout, same_files}
 use Rattle.gr_all_used.specs.Linked.{IsUsedMember, IsLinked}
 use Rattle.gr_all_used.proofs.Files.{all_linked}
 use Rattle.gr_order.proofs.Elements.{all_got}

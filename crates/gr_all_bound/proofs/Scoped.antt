@@ -44,8 +44,8 @@ use Rattle.gr_meanings.proofs.OneMeaning.{one_name}
 use Rattle.gr_verdict.specs.Verdicts.{Verdicts, IsPackageIn}
 use Rattle.gr_verdict.proofs.Members.{first_in, later_in}
 use Rattle.gr_verdict.proofs.OnePackage.{layout_formed, files_in_order}
-use Rattle.gr_bound.proofs.NamedMembers.{part_at}
-use Rattle.gr_bound.proofs.OnePlace.{names_of, laid_of, same_layout, same_size, same_files}
+use Rattle.gr_asked.proofs.NamedMembers.{part_at}
+use Rattle.gr_asked.proofs.OnePlace.{names_of, laid_of, same_layout, same_size, same_files}
 use Rattle.gr_order.proofs.Elements.{all_append}
 use Rattle.gr_unique.proofs.Apart.{all_as}
 use Rattle.gr_unique.proofs.UsedMembers.{file_at}

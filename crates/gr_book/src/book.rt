@@ -24,6 +24,13 @@ pub struct Book {
     journal: Vec<Entry>,
 }
 
+/// How many steps can be made from the current state, back and forth.
+#[derive(Clone, Copy)]
+pub struct Depth {
+    pub undo: usize,
+    pub redo: usize,
+}
+
 /// It is a fact of each book that its content is the replay of its journal.
 impl Model for Book {
     ghost use Rattle.std.specs.Prelude.{◌+◌, ◌≤◌, length, vec_capacity};
@@ -105,11 +112,15 @@ impl Book {
         self.journal.as_slice()
     }
 
-    /// How many steps undo can make.
-    pub fn depth(&self) -> usize
-        ensures { result ≡ length self.now.earlier }
+    /// How many steps undo and redo can make, as a look tells them.
+    pub fn depth(&self) -> Depth
+        ensures undo { result.undo ≡ length self.now.earlier }
+        ensures redo { result.redo ≡ length self.now.later }
     {
-        self.content.earlier.len()
+        Depth {
+            undo: self.content.earlier.len(),
+            redo: self.content.later.len(),
+        }
     }
 
     /// How many entries the journal has, with those that are kept for the Jobs out.

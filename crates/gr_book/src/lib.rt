@@ -13,7 +13,7 @@ mod state;
 mod view;
 mod waiting;
 
-pub use book::Book;
+pub use book::{Book, Depth};
 pub use entry::{Entry, Kind, Line, Reason, SharedEdits, Told};
 pub use event::{Event, Reply, refuse};
 pub use laws::{

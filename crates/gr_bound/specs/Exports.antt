@@ -10,7 +10,6 @@ use Rattle.gr_graph.specs.Packages.{PackageImports}
 use Rattle.gr_declared.specs.Package.{Package}
 use Rattle.gr_types.specs.Interfaces.{IsSeen}
 use Rattle.gr_verdict.specs.Verdicts.{Verdicts}
-use Rattle.gr_bound.specs.declared.known_exports.KnownExports.{KnownExports}
 use Rattle.gr_bound.specs.Workspaces.{IsSound, known_in, IsPackageAt}
 use Rattle.gr_bound.specs.Packages.{HoldsOfEach}
 
@@ -39,20 +38,3 @@ AreNumbersAt w known n numbers = (p : Package) × (IsPackageAt w known n p × Ar
 -- the same of all packages
 abbrev pub AreExports : Workspace → Verdicts → List (BTreeMap (Vec ℕ) ℕ) → Type 0
 AreExports w known list = HoldsOfEach (AreNumbersAt w known) (length (package_paths w)) list
-
--- the same of the packages of which it is known
-abbrev pub AreSomeExports : Workspace → Verdicts → List (Option (BTreeMap (Vec ℕ) ℕ)) → Type 0
-AreSomeExports w known list = HoldsOfEach (λ n numbers. IfSome numbers (AreNumbersAt w known n)) (length (package_paths w)) list
-
--- a workspace without faults, and what its packages export, as far as it is known
-pub record KnowsExports (e : KnownExports) : Type 0 where
-  pub sound : IsSound e.graph.now e.found.now
-  pub numbers : AreSomeExports e.graph.now (known_in e.found.now) e.numbers.now
-
--- the package of one of some numbers imports the package of a path
-pub record IsImportedAmong (w : Workspace) (IsOf : ℕ → Type 0) (path : List ℕ) : Type 0 where
-  pub number : ℕ
-  pub is_of : IsOf number
-  pub importer : List ℕ
-  pub has_number : slice_get (package_paths w) number ≡ Some importer
-  pub imports : PackageImports w importer path

@@ -9,7 +9,6 @@ use Rattle.gr_meanings.specs.MemberUses.{AreMemberUses, uses_in}
 use Rattle.gr_verdict.specs.Verdicts.{Verdicts}
 use Rattle.gr_bound.specs.declared.indexed.Numbered.{Numbered}
 use Rattle.gr_bound.specs.declared.indexed.Indexed.{Indexed}
-use Rattle.gr_bound.specs.declared.may_use.Sought.{Sought}
 use Rattle.gr_bound.specs.Members.{KnowsOwn}
 use Rattle.gr_bound.specs.Workspaces.{IsSound, known_in, IsPackageAt, IsHome, IsExportedUnder}
 
@@ -27,8 +26,3 @@ pub record IsIndexed (of : Indexed) : Type 0 where
   pub index : IsIndexOf (package_of of.unit) of.index.now
   pub own : KnowsOwn (package_of of.unit) of.own.now
   pub members : AreMemberUses (package_of of.unit) (map uses_in of.members.now)
-
--- a declaration has that name abroad, and its package that number
-pub record IsSought (w : Workspace) (known : Verdicts) (sought : Sought) : Type 0 where
-  pub name : IsExportedUnder w known sought.declaration.now (name_value sought.name)
-  pub home : IsHome w sought.declaration.now sought.home

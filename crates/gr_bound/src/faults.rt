@@ -1,5 +1,5 @@
 //! The first fault of a workspace.
-ghost use Rattle.std.specs.Prelude.{ℕ, ◌≡◌, ◌↔◌, [], slice_get, Some, IsTrue};
+ghost use Rattle.std.specs.Prelude.{ℕ, ◌≡◌, [], slice_get, Some, IsTrue};
 ghost use Rattle.gr_verdict.specs.declared.finding.Finding.{Finding as Found};
 ghost use Rattle.gr_verdict.specs.Found.{AreFindings};
 ghost use Rattle.gr_bound.specs.Workspaces.{RefusesFaults, RefusesFirst};

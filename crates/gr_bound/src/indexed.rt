@@ -1,5 +1,4 @@
 //! A package of a number, and what is known of its identifiers.
-ghost use Rattle.std.specs.Prelude.{◌≡◌};
 ghost use Rattle.gr_declared.specs.PackageView.{package_of, IsIndexOf};
 ghost use Rattle.gr_bound.specs.Packages.{IsTableAs};
 ghost use Rattle.gr_bound.specs.Workspaces.{known_in};
@@ -31,11 +30,7 @@ pub struct Indexed<'a> {
 }
 
 /// The package of a number, by what it sees and by its table.
-pub(crate) fn unit_of<'a>(
-    at: Numbered<'a>,
-    seen: &'a Interfaces,
-    table: &'a ScopeTable<'a>,
-) -> Package<'a>
+pub fn unit_of<'a>(at: Numbered<'a>, seen: &'a Interfaces, table: &'a ScopeTable<'a>) -> Package<'a>
     requires numbered { IsNumbered at }
     requires table { IsTableAs at.graph.now (known_in at.found.now) at.number table.now seen.now }
     ensures { IsUnitAt at.entry (package_of result) }
@@ -51,7 +46,7 @@ pub(crate) fn unit_of<'a>(
 }
 
 /// The package of a number with what is known of it.
-pub(crate) fn known_of<'a>(at: Numbered<'a>, unit: Package<'a>, index: &'a Index<'a>) -> Indexed<'a>
+pub fn known_of<'a>(at: Numbered<'a>, unit: Package<'a>, index: &'a Index<'a>) -> Indexed<'a>
     requires numbered { IsNumbered at }
     requires unit { IsUnitAt at (package_of unit) }
     requires index { IsIndexOf (package_of unit) index.now }

@@ -7,7 +7,7 @@ ghost use Rattle.gr_tree.specs.SourceFile.{source_of};
 ghost use Rattle.gr_scope.specs.Scoped.{scoped};
 ghost use Rattle.gr_imports.specs.PackageNames.{IsLaidOver};
 ghost use Rattle.gr_expr.specs.WorldView.{definitions_at};
-ghost use Rattle.gr_declared.specs.InterfacesView.{name_in, interface_in};
+ghost use Rattle.gr_declared.specs.InterfacesView.{name_in};
 ghost use Rattle.gr_meanings.specs.MemberUses.{AreMemberUses, uses_in};
 ghost use Rattle.gr_declared.specs.Package.{Package as Checked};
 ghost use Rattle.gr_bound.specs.Members.{KnowsOwn, definitions_or_none};

@@ -29,8 +29,8 @@ use Rattle.gr_revision.specs.RevisionsOfEdits.{called_by, revision_of}
 use Rattle.gr_affected.specs.Affected.{AreAffected}
 use Rattle.gr_check.specs.declared.among.MarkedPackages.{MarkedPackages}
 use Rattle.gr_placed.specs.declared.declared_places.DeclaredPlaces.{DeclaredPlaces}
-use Rattle.gr_kept.specs.Corresponding.{stands}
-use Rattle.gr_kept.specs.Sound.{packages_of}
+use Rattle.gr_sound.specs.Corresponding.{stands}
+use Rattle.gr_sound.specs.Sound.{packages_of}
 use Rattle.gr_check.specs.Among.{AreHeldOf, BothGo, view_among, IsBoundMarked, IsBoundThere, IsIdentifierAmong, BecomesAmong, AllWereAmong}
 use Rattle.gr_check.specs.Among.{AddsNoneAmong, KeepsMarked, AddsMarked}
 use Rattle.gr_placed.specs.DeclaredPlaces.{IsFoundIn, AreDeclaredIn, AreDeclaredAt, IsPlaceIn}
@@ -38,7 +38,8 @@ use Rattle.gr_placed.specs.Outside.{path_by}
 use Rattle.gr_kept.specs.BoundToOne.{IsBoundToOne}
 use Rattle.gr_check.specs.Preserved.{KeepsBindings}
 use Rattle.gr_placed.specs.Identified.{IsIdentifierAt}
-use Rattle.gr_kept.specs.Steps.{Becomes as Becoming_to, HasBound, IsBoundBy}
+use Rattle.gr_kept.specs.Steps.{HasBound, IsBoundBy}
+use Rattle.gr_sound.specs.Becoming.{Becomes as Becoming_to}
 use Rattle.gr_kept.proofs.Every.{spot_at}
 use Rattle.gr_check.proofs.Unaffected.{Becoming, unaffected_becomes, unaffected_keeps, unaffected_adds}
 

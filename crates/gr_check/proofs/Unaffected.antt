@@ -22,7 +22,7 @@ use Rattle.gr_steady.proofs.Bindings.{use_stays}
 use Rattle.gr_steady.proofs.Standing.{bound_within}
 use Rattle.gr_affected.specs.Affected.{IsUnaffected}
 use Rattle.gr_affected.proofs.Unaffected.{stays_put, declared_then}
-use Rattle.gr_kept.specs.Corresponding.{Corresponds, predeclared, stands}
+use Rattle.gr_sound.specs.Corresponding.{Corresponds, predeclared, stands}
 use Rattle.gr_placed.specs.Outside.{path_by}
 use Rattle.gr_kept.specs.BoundToOne.{IsBoundToOne}
 use Rattle.gr_placed.specs.Identified.{IsIdentifierAt}

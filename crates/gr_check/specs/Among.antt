@@ -16,9 +16,10 @@ use Rattle.gr_check.specs.declared.among.MarkedPackages.{MarkedPackages}
 use Rattle.gr_placed.specs.declared.declared_places.DeclaredPlaces.{DeclaredPlaces}
 use Rattle.gr_placed.specs.DeclaredPlaces.{AreDeclaredAt}
 use Rattle.gr_placed.specs.Outside.{IsOutside}
-use Rattle.gr_kept.specs.Sound.{SoundView}
+use Rattle.gr_sound.specs.Sound.{SoundView}
 use Rattle.gr_placed.specs.Identified.{BeginsInNumber}
-use Rattle.gr_kept.specs.Steps.{Becomes, IsBoundBy, IsKept, HasBound}
+use Rattle.gr_kept.specs.Steps.{IsBoundBy, IsKept, HasBound}
+use Rattle.gr_sound.specs.Becoming.{Becomes}
 use Rattle.gr_check.specs.declared.answer.Answer.{Answer}
 use Rattle.gr_check.specs.declared.answer.Answer.TheVariants.{Yes, No, Unknown}
 

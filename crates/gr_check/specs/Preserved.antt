@@ -11,7 +11,7 @@ use Rattle.gr_bound.specs.Uses.{IsPackage, IsUseOf}
 use Rattle.gr_placed.specs.Identified.{IsIdentifierAt}
 use Rattle.gr_revision.specs.Revisions.{Revision}
 use Rattle.gr_kept.specs.BoundToOne.{IsBoundToOne}
-use Rattle.gr_kept.specs.Corresponding.{Corresponds}
+use Rattle.gr_sound.specs.Corresponding.{Corresponds}
 
 -- Each identifier is bound to a declaration exactly where it is afterwards bound to the one that this has become.
 pub record KeepsBindings (w : Workspace) (before : Verdicts) (r : Revision) (after : Verdicts) : Type 0 where

@@ -22,10 +22,10 @@ use Rattle.gr_scoped.specs.ScopedPackages.{IsScopedIn}
 use Rattle.gr_scoped.specs.Scopes.{package_scoped, IsNotScoped}
 use Rattle.gr_scoped.specs.declared.scopes.PackageScopes.{PackageScopes}
 use Rattle.gr_standing.specs.Standing.{TokenAt, StandsIn, IsDeclaredAt}
-use Rattle.gr_kept.specs.Corresponding.{Corresponds, stands}
+use Rattle.gr_sound.specs.Corresponding.{Corresponds, stands}
 use Rattle.gr_placed.specs.DeclaredPlaces.{IsFound}
-use Rattle.gr_kept.specs.Steps.{IsSamePredeclared}
-use Rattle.gr_kept.proofs.Becoming.{StandBoth, by_cases, same_names}
+use Rattle.gr_sound.specs.Becoming.{IsSamePredeclared}
+use Rattle.gr_sound.proofs.Becoming.{StandBoth, by_cases, same_names}
 use Rattle.gr_placed.proofs.Declared.{one_place}
 use Rattle.gr_placed.proofs.Found.{found_as}
 use Rattle.gr_conflict.specs.Afterwards.{HasBecome}

@@ -16,7 +16,7 @@ use Rattle.gr_bound.specs.Uses.{IsPackage}
 use Rattle.gr_revision.specs.Revisions.{Revision, GoesTo}
 use Rattle.gr_members_after.specs.MembersAfter.{IsMemberAfter}
 use Rattle.gr_scoped.specs.ScopedPackages.{IsScopedIn}
-use Rattle.gr_kept.specs.Corresponding.{Corresponds}
+use Rattle.gr_sound.specs.Corresponding.{Corresponds}
 use Rattle.gr_change_places.specs.ScopeBindings.{IsScopeUse}
 
 -- c of the workspace before has become e, as scopes see it

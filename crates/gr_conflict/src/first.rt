@@ -15,7 +15,7 @@ use crate::conflict::Conflict;
 use crate::first_identifier::first_identifier;
 use crate::judge::Judge;
 use crate::judging::judge_unit;
-use gr_bound::exports::exports;
+use gr_bindings::exports::exports;
 use gr_bound::{BoundSpot, Packages, all_seen};
 use gr_change_places::{lie_behind, old_places, scope_bindings};
 use gr_edit::EditSet;

@@ -9,7 +9,7 @@ ghost use Rattle.gr_change_places.specs.Read.{workspace_of, verdicts_of};
 
 use crate::noting::compare;
 use gr_bound::Packages;
-use gr_kept::SoundWorkspace;
+use gr_sound::SoundWorkspace;
 use gr_text::Place;
 use std::alloc::{AllocError, Global};
 

@@ -20,7 +20,7 @@ use crate::conflict::Conflict;
 use crate::judge::Judge;
 use crate::noting::{note, note_lost, note_member};
 use crate::now::{now_by_member, now_by_package, now_by_scope};
-use gr_bound::exports::exported;
+use gr_bindings::exports::exported;
 use gr_bound::{
     Declaration, declaration_in_scope, field_places, member_declaration, members_of, method_places,
     own_of, package_before,

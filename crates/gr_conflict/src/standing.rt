@@ -14,10 +14,10 @@ use crate::judge::Judge;
 use gr_bound::Declaration;
 use gr_change_places::before_of;
 use gr_imports::literal_of;
-use gr_kept::{are_predeclared, goes_to};
 use gr_placed::declared_places::declared_at;
 use gr_placed::place_of;
 use gr_scoped::{PackageScopes, scopes_at};
+use gr_sound::{are_predeclared, goes_to};
 use gr_text::Place;
 use std::alloc::AllocError;
 

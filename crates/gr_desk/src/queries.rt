@@ -108,7 +108,7 @@ pub fn uses(
     requires { AreFindings view.now.snapshot.files found.now }
     ensures { WritesUses view.now path.now offset result }
 {
-    let places = gr_bound::uses(alloc, view.snapshot.files(), found, path, offset)?;
+    let places = gr_uses::uses(alloc, view.snapshot.files(), found, path, offset)?;
     let lines = place_lines(alloc, places.as_slice())?;
     Ok(Bytes::new(lines))
 }

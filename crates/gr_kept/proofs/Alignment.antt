@@ -25,8 +25,9 @@ use Rattle.gr_placed.specs.Beginnings.{BeginsAmong}
 use Rattle.gr_kept.specs.declared.aligned.Compared.{Compared}
 use Rattle.gr_kept.specs.Aligned.{AreCompared, moved_in, old_of, new_of, ArePaired, AreApart, IsAlignedAt, AreAlignedBelow, GoInOrder, IsSafeAt, IsSafeIn}
 use Rattle.gr_kept.specs.Aligned.{IsSafeNumber, AreSafe}
-use Rattle.gr_kept.specs.Sound.{view_in}
-use Rattle.gr_kept.specs.Steps.{Becomes, IsBoundBy, KeepsAll, AddsNowhere}
+use Rattle.gr_sound.specs.Sound.{view_in}
+use Rattle.gr_kept.specs.Steps.{IsBoundBy, KeepsAll, AddsNowhere}
+use Rattle.gr_sound.specs.Becoming.{Becomes}
 use Rattle.gr_kept.proofs.Every.{spot_at}
 
 abbrev InOrder : List BoundSpot → Type 0

@@ -9,8 +9,9 @@ use Rattle.gr_bound.specs.declared.declaration.Declaration.{Declaration}
 use Rattle.gr_bound.specs.Bindings.{place_at}
 use Rattle.gr_bound.specs.Uses.{IsUseOf}
 use Rattle.gr_placed.specs.Identified.{IsIdentifierAt}
-use Rattle.gr_kept.specs.Sound.{SoundView, IsBoundIn, IsBoundHere}
-use Rattle.gr_kept.specs.Steps.{Becomes, HasBound, IsBoundBy, IsKept, AllWere, AddsNone, KeepsAll, AddsNowhere}
+use Rattle.gr_sound.specs.Sound.{SoundView, IsBoundIn, IsBoundHere}
+use Rattle.gr_kept.specs.Steps.{HasBound, IsBoundBy, IsKept, AllWere, AddsNone, KeepsAll, AddsNowhere}
+use Rattle.gr_sound.specs.Becoming.{Becomes}
 
 -- it holds of each of the first elements
 pub record HoldsBelow {X : Type 0} (P : X → Type 0) (xs : List X) (count : ℕ) : Type 0 where

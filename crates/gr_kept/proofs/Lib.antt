@@ -1,4 +1,3 @@
 -- The lemmas of this crate.
 pub mod Every
-pub mod Becoming
 pub mod Alignment

@@ -10,9 +10,9 @@ use Rattle.gr_bound.specs.Uses.{IsPackage}
 use Rattle.gr_bound.specs.Workspaces.{IsPackageAt, known_in}
 use Rattle.gr_placed.specs.Beginnings.{BeginsAmong}
 use Rattle.gr_kept.specs.declared.aligned.Compared.{Compared}
-use Rattle.gr_kept.specs.Held.{IsHeld}
-use Rattle.gr_kept.specs.Sound.{view_in}
-use Rattle.gr_kept.specs.Steps.{Becomes}
+use Rattle.gr_sound.specs.Held.{IsHeld}
+use Rattle.gr_sound.specs.Sound.{view_in}
+use Rattle.gr_sound.specs.Becoming.{Becomes}
 
 -- both workspaces are held with what is asked of them
 pub record AreCompared (c : Compared) : Type 0 where

@@ -1,25 +1,14 @@
 -- What the steps of the decision answer.
-use Rattle.std.specs.Prelude.{ℕ, ◌≡◌, List, Contains}
+use Rattle.std.specs.Prelude.{List, Contains}
 use Rattle.gr_text.specs.declared.place.Place.{Place}
 use Rattle.gr_bound.specs.declared.bound_spot.BoundSpot.{BoundSpot}
 use Rattle.gr_bound.specs.declared.declaration.Declaration.{Declaration}
-use Rattle.gr_bound.specs.declared.declaration.Declaration.TheVariants.{Predeclared}
 use Rattle.gr_bound.specs.Bindings.{place_at}
 use Rattle.gr_bound.specs.Uses.{IsUseOf}
-use Rattle.gr_kept.specs.Corresponding.{Corresponds}
 use Rattle.gr_kept.specs.BoundToOne.{IsBoundToOne}
 use Rattle.gr_placed.specs.Identified.{IsIdentifierAt}
-use Rattle.gr_kept.specs.Sound.{SoundView, packages_of}
-
--- the same predeclared name
-pub record IsSamePredeclared (d e : Declaration) : Type 0 where
-  pub number : ℕ
-  pub one : d ≡ Predeclared number
-  pub other : e ≡ Predeclared number
-
--- d of the one workspace has become e of the other
-abbrev pub Becomes : SoundView → SoundView → (Place → Place) → Declaration → Declaration → Type 0
-Becomes before then moved d e = Corresponds (packages_of before) (packages_of then) moved d e
+use Rattle.gr_sound.specs.Becoming.{Becomes}
+use Rattle.gr_sound.specs.Sound.{SoundView}
 
 -- one of some bound identifiers has a declaration of which P holds
 pub record HasBound (P : Declaration → Type 0) (bound : List BoundSpot) : Type 0 where

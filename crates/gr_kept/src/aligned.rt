@@ -6,11 +6,10 @@ ghost use Rattle.gr_placed.specs.Beginnings.{place_of};
 ghost use Rattle.gr_revision.specs.FilesMoved.{AreMovesOf};
 ghost use Rattle.gr_bound.specs.Bindings.{place_at};
 ghost use Rattle.gr_kept.specs.Aligned.{AreCompared, moved_in, ArePaired, AreApart, IsAlignedAt, AreAlignedBelow, GoInOrder, IsFileAt, IsSafe, IsSafeAt, IsSafeIn, IsSafeNumber, AreSafe};
-ghost use Rattle.gr_kept.specs.Sound.{view_in};
-ghost use Rattle.gr_kept.specs.Steps.{Becomes, KeepsAll, AddsNowhere};
+ghost use Rattle.gr_sound.specs.Sound.{view_in};
+ghost use Rattle.gr_kept.specs.Steps.{KeepsAll, AddsNowhere};
+ghost use Rattle.gr_sound.specs.Becoming.{Becomes};
 
-use crate::corresponding::are_predeclared;
-use crate::held::SoundWorkspace;
 use crate::near::Near;
 use gr_bound::bindings::find;
 use gr_bound::{BoundSpot, Declaration};
@@ -18,6 +17,7 @@ use gr_declared::Package;
 use gr_placed::bound_here::is_bound;
 use gr_placed::{NameStart, start};
 use gr_revision::{FileMoves, Moves};
+use gr_sound::{SoundWorkspace, are_predeclared};
 use std::alloc::AllocError;
 
 /// Two workspaces without faults, and where the places of the one go in the other.

@@ -2,15 +2,15 @@
 ghost use Rattle.std.specs.Prelude.{◌≡◌, ◌↔◌, IsTrue, IfOk, Contains};
 ghost use Rattle.gr_text.specs.declared.place.Place.{Place as At};
 ghost use Rattle.gr_edit.specs.Moved.{moved};
-ghost use Rattle.gr_kept.specs.Held.{IsHeld};
-ghost use Rattle.gr_kept.specs.Sound.{view_in};
-ghost use Rattle.gr_kept.specs.Steps.{Becomes, HasBound, IsKept, AllWere, AddsNone, KeepsAll, AddsNowhere};
+ghost use Rattle.gr_sound.specs.Held.{IsHeld};
+ghost use Rattle.gr_sound.specs.Sound.{view_in};
+ghost use Rattle.gr_kept.specs.Steps.{HasBound, IsKept, AllWere, AddsNone, KeepsAll, AddsNowhere};
+ghost use Rattle.gr_sound.specs.Becoming.{Becomes};
 
-use crate::corresponding::corresponds;
-use crate::held::SoundWorkspace;
 use crate::near::Near;
 use gr_bound::{BoundSpot, Declaration};
 use gr_revision::Moves;
+use gr_sound::{SoundWorkspace, corresponds};
 use gr_text::Place;
 use std::alloc::{AllocError, Global};
 

@@ -1,14 +1,14 @@
 //! Whether all identifiers stay bound to what their declarations become.
 ghost use Rattle.std.specs.Prelude.{◌↔◌, IsTrue, IfOk};
 ghost use Rattle.gr_edit.specs.Moved.{moved};
-ghost use Rattle.gr_kept.specs.Held.{IsHeld};
-ghost use Rattle.gr_kept.specs.Sound.{view_in};
+ghost use Rattle.gr_sound.specs.Held.{IsHeld};
+ghost use Rattle.gr_sound.specs.Sound.{view_in};
 ghost use Rattle.gr_kept.specs.Steps.{KeepsAll, AddsNowhere};
 
 use crate::aligned::{Compared, keep_order};
-use crate::held::SoundWorkspace;
 use crate::keeping::{adds_nowhere, are_kept};
 use gr_revision::Moves;
+use gr_sound::SoundWorkspace;
 use std::alloc::{AllocError, Global};
 
 /// Whether each identifier of a workspace stays bound to what its declaration becomes in another, by a search for each.

@@ -2,14 +2,9 @@
 #![tactic(auto)]
 
 mod aligned;
-mod corresponding;
-mod held;
 mod keeping;
 mod kept;
 mod near;
-mod sound_workspace;
 
-pub use corresponding::{are_predeclared, corresponds, goes_to, is_same};
-pub use held::SoundWorkspace;
 pub use kept::keeps;
 pub use near::Near;

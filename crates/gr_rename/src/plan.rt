@@ -12,7 +12,8 @@ ghost use Rattle.gr_rename.specs.Plan.{PlansRename};
 ghost use Rattle.gr_rename.specs.Asked.{asked_place};
 ghost use Rattle.gr_rename.specs.Steps.{renaming_by, PlansEdits, PlansDeclaration, PlansIn};
 
-use gr_bound::{Declaration, declaration_at, refuse_faults};
+use gr_asked::declaration_at;
+use gr_bound::{Declaration, refuse_faults};
 use gr_check::{Planned, preserves, within_limits};
 use gr_conflict::{Conflict, first_conflict, told};
 use gr_naming::{is_new_name, refuse_name};

@@ -1,6 +1,6 @@
 //! What gets another name.
-use gr_bound::Places;
 use gr_text::{FileText, Path};
+use gr_uses::Places;
 
 /// A token of a file.
 #[derive(Drop)]

@@ -40,7 +40,7 @@ use Rattle.gr_object.specs.Sources.{IsSourceOf}
 use Rattle.gr_balance.specs.Answered.{IsKnown, IsCalled, method_arity, MemberIsKnown}
 use Rattle.gr_balance.specs.Stack.{Arity}
 use Rattle.gr_bound.specs.Uses.{IsPackage}
-use Rattle.gr_bound.proofs.OnePlace.{same_files}
+use Rattle.gr_asked.proofs.OnePlace.{same_files}
 use Rattle.gr_standing.proofs.Alike.{package_for}
 use Rattle.gr_all_bound.proofs.Fine.{seen_interface}
 use Rattle.gr_compile.specs.Units.{IsReadBy, within, beyond, AreFilesBelow}

@@ -34,8 +34,8 @@ use Rattle.gr_meanings.proofs.OneMeaning.{one_name}
 use Rattle.gr_verdict.specs.Verdicts.{Verdicts, IsPackageIn}
 use Rattle.gr_verdict.proofs.OnePackage.{layout_formed, files_in_order}
 use Rattle.gr_object.specs.Slots.{slots_of}
-use Rattle.gr_bound.proofs.NamedMembers.{part_at}
-use Rattle.gr_bound.proofs.OnePlace.{same_size, same_files}
+use Rattle.gr_asked.proofs.NamedMembers.{part_at}
+use Rattle.gr_asked.proofs.OnePlace.{same_size, same_files}
 use Rattle.gr_decided.proofs.Files.{IsGlobal}
 use Rattle.gr_decided.proofs.Numbers.{OfKind, IsTold, IsKept, universal, plain, laid, kept_at}
 use Rattle.gr_all_bound.specs.Scopes.{may_be_local}

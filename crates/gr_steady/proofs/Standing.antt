@@ -25,14 +25,14 @@ use Rattle.gr_bound.specs.declared.declaration.Declaration.TheVariants.{Predecla
 use Rattle.gr_bound.specs.Binding.{IsPredeclared, BindsByScope, BindsByPackage, BindsByMember, BindsByName, by_scope, by_package, by_member, by_name}
 use Rattle.gr_bound.specs.Binding.{IsExportedUse, field_place}
 use Rattle.gr_bound.specs.Uses.{IsPackage, IsBoundTo}
-use Rattle.gr_bound.proofs.OnePlace.{names_of}
+use Rattle.gr_asked.proofs.OnePlace.{names_of}
 use Rattle.gr_standing.proofs.Folders.{file_in_folder}
 use Rattle.gr_standing.specs.Standing.{InPackage, TokenBegins, TokenAt, IsPositionOf, StandsIn, IsDeclaredAt}
 use Rattle.gr_steady.specs.Within.{StandsWithin, IsDeclaredWithin, predeclared, stands}
 use Rattle.gr_steady.proofs.Bindings.{behind_closed}
-use Rattle.gr_bound.proofs.ImportSites.{predeclared_block}
-use Rattle.gr_bound.proofs.NamedImports.{role_at, counted}
-use Rattle.gr_bound.proofs.OwnedMembers.{IsOwned, member_owned}
+use Rattle.gr_asked.proofs.ImportSites.{predeclared_block}
+use Rattle.gr_asked.proofs.NamedImports.{role_at, counted}
+use Rattle.gr_asked.proofs.OwnedMembers.{IsOwned, member_owned}
 use Rattle.gr_steady.proofs.Packages.{package_stays}
 
 -- a token of a package's files begins somewhere in its folder

@@ -36,7 +36,7 @@ use Rattle.gr_bound.specs.declared.declaration.Declaration.TheVariants.{Declared
 use Rattle.gr_bound.specs.Binding.{by_package, IsBehindPackage, IsExportedUse}
 use Rattle.gr_bound.specs.Identifiers.{Stands}
 use Rattle.gr_bound.specs.Uses.{IsPackage, IsBoundTo}
-use Rattle.gr_bound.proofs.OnePlace.{names_of, laid_of as table_of, same_layout, same_size}
+use Rattle.gr_asked.proofs.OnePlace.{names_of, laid_of as table_of, same_layout, same_size}
 use Rattle.gr_unique.proofs.Faultless.{no_fault_later}
 use Rattle.gr_unique.proofs.Headers.{marked_kind}
 use Rattle.gr_unique.proofs.LiteralNames.{next_identifier}

@@ -16,7 +16,7 @@ use Rattle.gr_order.proofs.Roles.{role_keeps}
 use Rattle.gr_declared.specs.Package.{Package}
 use Rattle.gr_verdict.specs.Verdicts.{Verdicts, IsPackageIn}
 use Rattle.gr_bound.specs.Identifiers.{Stands, is_named_literal, named_by}
-use Rattle.gr_bound.proofs.OnePlace.{names_of, laid_of, same_layout}
+use Rattle.gr_asked.proofs.OnePlace.{names_of, laid_of, same_layout}
 
 -- the literal of an import that has a name is not the first identifier of a file
 

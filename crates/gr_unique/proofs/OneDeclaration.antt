@@ -10,10 +10,10 @@ use Rattle.gr_bound.specs.Binding.{by_scope, by_package, by_member, by_name}
 use Rattle.gr_bound.specs.Identifiers.{Stands, BeginsAt, named_by}
 use Rattle.gr_bound.specs.Uses.{IsPackage, IsBoundTo, IsNamedTo, IsUseOf, HasDeclaration}
 use Rattle.gr_bound.proofs.Excluding.{one_by_scope, one_by_package, not_both}
-use Rattle.gr_bound.proofs.NamedMembers.{name_not_scope, name_not_package}
-use Rattle.gr_bound.proofs.OnePlace.{one_begins, one_asked}
+use Rattle.gr_asked.proofs.NamedMembers.{name_not_scope, name_not_package}
+use Rattle.gr_asked.proofs.OnePlace.{one_begins, one_asked}
 use Rattle.gr_bound.proofs.Units.{one_package}
-use Rattle.gr_bound.proofs.UsedMembers.{one_member, member_not_scope, member_not_name}
+use Rattle.gr_asked.proofs.UsedMembers.{one_member, member_not_scope, member_not_name}
 use Rattle.gr_standing.proofs.Folders.{begins_in_folder}
 use Rattle.gr_unique.proofs.LiteralNames.{name_stands}
 use Rattle.gr_unique.proofs.NamedMembers.{one_by_name}

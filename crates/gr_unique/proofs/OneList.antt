@@ -16,7 +16,7 @@ use Rattle.gr_verdict.proofs.Members.{one_sorted}
 use Rattle.gr_verdict.proofs.OneList.{one_whole_list}
 use Rattle.gr_bound.specs.Identifiers.{HoldsByte}
 use Rattle.gr_bound.specs.Uses.{IsNamedTo, IsUseOf, IsAskedIn, ListsUses, HasNoIdentifier, HasNoDeclaration, IsFile, HasFirstFault, TellsUses}
-use Rattle.gr_bound.proofs.OnePlace.{one_asked}
+use Rattle.gr_asked.proofs.OnePlace.{one_asked}
 use Rattle.gr_bound.proofs.PlaceOrder.{place_cmp_total}
 use Rattle.gr_standing.proofs.Alike.{use_for, asked_for, held_for}
 use Rattle.gr_unique.proofs.OneDeclaration.{one_held}

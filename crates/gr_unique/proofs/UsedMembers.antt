@@ -35,8 +35,8 @@ use Rattle.gr_bound.specs.declared.declaration.Declaration.{Declaration}
 use Rattle.gr_bound.specs.Binding.{BindsByPackage, BindsByMember, IsBehindPackage, NamesPackage}
 use Rattle.gr_bound.specs.Identifiers.{Stands}
 use Rattle.gr_bound.proofs.Excluding.{exported_as}
-use Rattle.gr_bound.proofs.NamedMembers.{part_at}
-use Rattle.gr_bound.proofs.OnePlace.{names_of, laid_of, same_layout, same_size, same_files}
+use Rattle.gr_asked.proofs.NamedMembers.{part_at}
+use Rattle.gr_asked.proofs.OnePlace.{names_of, laid_of, same_layout, same_size, same_files}
 use Rattle.gr_unique.proofs.Headers.{name_before_dot}
 
 module _ (w : Workspace) (known : Verdicts) (path : List ℕ) (p : Package) (h : IsPackageIn w known path p) where

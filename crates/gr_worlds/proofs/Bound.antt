@@ -30,7 +30,7 @@ use Rattle.gr_bound.specs.declared.declaration.Declaration.TheVariants.{Predecla
 use Rattle.gr_bound.specs.Binding.{by_scope, by_member, IsBehindPackage}
 use Rattle.gr_bound.specs.Identifiers.{Stands}
 use Rattle.gr_bound.specs.Uses.{IsPackage, IsBoundTo}
-use Rattle.gr_bound.proofs.OnePlace.{same_files}
+use Rattle.gr_asked.proofs.OnePlace.{same_files}
 use Rattle.gr_unique.proofs.ExportedNames.{bound_behind}
 use Rattle.gr_unique.proofs.UsedMembers.{file_at}
 use Rattle.gr_decided.proofs.Deciding.{is_true}

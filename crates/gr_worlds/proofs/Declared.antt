@@ -31,7 +31,7 @@ use Rattle.gr_verdict.specs.FaultLists.{ListsFaults}
 use Rattle.gr_verdict.specs.Verdicts.{Verdicts, IsSeenAs, seen, unseen, IsPackageIn}
 use Rattle.gr_verdict.proofs.Closed.{to_package}
 use Rattle.gr_verdict.proofs.OneList.{checked_package}
-use Rattle.gr_bound.proofs.OnePlace.{names_of, same_layout, same_size, same_files}
+use Rattle.gr_asked.proofs.OnePlace.{names_of, same_layout, same_size, same_files}
 use Rattle.gr_decided.proofs.Told.{Told}
 use Rattle.gr_decided.proofs.Files.{IsGlobal}
 use Rattle.gr_decided.proofs.Spellings.{name_spelled}

@@ -33,7 +33,7 @@ use Rattle.gr_declared.specs.Package.{Package}
 use Rattle.gr_declared.specs.Written.{ImportsPath, IsBroken}
 use Rattle.gr_meanings.proofs.DeclKinds.{Holds}
 use Rattle.gr_verdict.specs.Verdicts.{Verdicts, IsPackageIn}
-use Rattle.gr_bound.proofs.OnePlace.{same_size, same_files}
+use Rattle.gr_asked.proofs.OnePlace.{same_size, same_files}
 use Rattle.gr_decided.specs.Strings.{AreStringsKnown}
 use Rattle.gr_decided.proofs.Deciding.{Decided}
 use Rattle.gr_decided.proofs.Files.{IsGlobal, paired_at, universe_paired}

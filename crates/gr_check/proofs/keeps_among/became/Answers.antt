@@ -5,8 +5,8 @@ use Rattle.std.specs.Option.{option_copied}
 use Rattle.std.proofs.lemmas.Result.{IfOk-weaker}
 use Rattle.gr_edit.specs.Moved.{moved}
 use Rattle.gr_check.specs.Among.{BothGo, BecomesAmong, view_among}
-use Rattle.gr_kept.specs.Sound.{packages_of}
-use Rattle.gr_kept.proofs.Becoming.{same_names}
+use Rattle.gr_sound.specs.Sound.{packages_of}
+use Rattle.gr_sound.proofs.Becoming.{same_names}
 use Rattle.gr_check.proofs.Marked.{become_by}
 use Rattle.gr_check.proofs.keeps_among.became.Goals as goal
 

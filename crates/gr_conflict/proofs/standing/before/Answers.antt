@@ -2,7 +2,7 @@
 use Rattle.std.proofs.Common.{ℕ, ◌≡◌, inl, inr, sym, subst}
 use Rattle.std.proofs.lemmas.Result.{IfOk-weaker}
 use Rattle.gr_bound.specs.declared.declaration.Declaration.TheVariants.{Predeclared}
-use Rattle.gr_kept.specs.Corresponding.{predeclared}
+use Rattle.gr_sound.specs.Corresponding.{predeclared}
 use Rattle.gr_conflict.specs.Judging.{workspace_in, known_verdicts, change_in, becomes_in}
 use Rattle.gr_conflict.proofs.Become.{become_where, not_predeclared}
 use Rattle.gr_conflict.proofs.standing.before.Goals as goal

@@ -5,8 +5,8 @@ use Rattle.std.proofs.lemmas.Result.{IfOk-weaker}
 use Rattle.gr_text.specs.declared.place.Place.{Place}
 use Rattle.gr_bound.specs.Bindings.{place_at}
 use Rattle.gr_kept.specs.Aligned.{moved_in, ArePaired}
-use Rattle.gr_kept.specs.Sound.{view_in}
-use Rattle.gr_kept.specs.Steps.{Becomes}
+use Rattle.gr_sound.specs.Sound.{view_in}
+use Rattle.gr_sound.specs.Becoming.{Becomes}
 use Rattle.gr_kept.proofs.aligned.are_paired.Goals as goal
 
 pub returns-then-branch : goal.returns-then-branch

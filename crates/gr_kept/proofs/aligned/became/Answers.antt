@@ -4,9 +4,9 @@ use Rattle.std.specs.Prelude.{IsTrue, ◌↔◌}
 use Rattle.std.proofs.lemmas.Result.{IfOk-weaker}
 use Rattle.gr_text.specs.declared.place.Place.{Place}
 use Rattle.gr_kept.specs.Aligned.{moved_in}
-use Rattle.gr_kept.specs.Sound.{view_in}
-use Rattle.gr_kept.specs.Steps.{Becomes}
-use Rattle.gr_kept.proofs.Becoming.{are_same, by_places}
+use Rattle.gr_sound.specs.Sound.{view_in}
+use Rattle.gr_sound.specs.Becoming.{Becomes}
+use Rattle.gr_sound.proofs.Becoming.{are_same, by_places}
 use Rattle.gr_kept.proofs.aligned.became.Goals as goal
 
 pub returns-then-are_predeclared : goal.returns-then-are_predeclared

@@ -1,6 +1,6 @@
 -- It is so at the places that were passed.
 use Rattle.gr_edit.specs.Moved.{moved}
-use Rattle.gr_kept.specs.Sound.{view_in}
+use Rattle.gr_sound.specs.Sound.{view_in}
 use Rattle.gr_kept.specs.Steps.{AddsNone}
 use Rattle.gr_kept.proofs.Every.{HoldsBelow}
 use Rattle.gr_kept.proofs.keeping.add_none.Given as goal

@@ -5,7 +5,7 @@ use Rattle.std.proofs.lemmas.Result.{IfOk-weaker}
 use Rattle.gr_text.specs.declared.place.Place.{Place}
 use Rattle.gr_edit.specs.Moved.{moved}
 use Rattle.gr_placed.specs.Identified.{IsIdentifierAt}
-use Rattle.gr_kept.specs.Sound.{view_in}
+use Rattle.gr_sound.specs.Sound.{view_in}
 use Rattle.gr_kept.specs.Steps.{AddsNone, AddsNowhere}
 use Rattle.gr_kept.proofs.Every.{nowhere_as}
 use Rattle.gr_kept.proofs.keeping.adds_nowhere.Goals as goal

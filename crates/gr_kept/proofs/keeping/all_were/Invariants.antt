@@ -1,8 +1,9 @@
 -- Those that were passed were bound so.
 use Rattle.gr_edit.specs.Moved.{moved}
 use Rattle.gr_bound.specs.declared.bound_spot.BoundSpot.{BoundSpot}
-use Rattle.gr_kept.specs.Sound.{view_in}
-use Rattle.gr_kept.specs.Steps.{Becomes, HasBound}
+use Rattle.gr_sound.specs.Sound.{view_in}
+use Rattle.gr_kept.specs.Steps.{HasBound}
+use Rattle.gr_sound.specs.Becoming.{Becomes}
 use Rattle.gr_kept.proofs.Every.{HoldsBelow}
 use Rattle.gr_kept.proofs.keeping.all_were.Given as goal
 

@@ -1,7 +1,7 @@
 -- The answers to the goals of `keeping::are_kept`.
 use Rattle.std.proofs.Common.{refl, arith}
 use Rattle.gr_edit.specs.Moved.{moved}
-use Rattle.gr_kept.specs.Sound.{view_in}
+use Rattle.gr_sound.specs.Sound.{view_in}
 use Rattle.gr_kept.specs.Steps.{IsKept, KeepsAll}
 use Rattle.gr_kept.proofs.Every.{none_yet, one_more, of_each, contained, fails_at, keeps_all, kept_one}
 use Rattle.gr_kept.proofs.keeping.are_kept.Goals as goal

@@ -1,6 +1,6 @@
 -- Those that were passed are kept.
 use Rattle.gr_edit.specs.Moved.{moved}
-use Rattle.gr_kept.specs.Sound.{view_in}
+use Rattle.gr_sound.specs.Sound.{view_in}
 use Rattle.gr_kept.specs.Steps.{IsKept}
 use Rattle.gr_kept.proofs.Every.{HoldsBelow}
 use Rattle.gr_kept.proofs.keeping.are_kept.Given as goal

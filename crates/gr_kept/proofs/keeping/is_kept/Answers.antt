@@ -6,8 +6,9 @@ use Rattle.gr_text.specs.declared.place.Place.{Place}
 use Rattle.gr_bound.specs.declared.declaration.Declaration.{Declaration}
 use Rattle.gr_bound.specs.Bindings.{place_at}
 use Rattle.gr_edit.specs.Moved.{moved}
-use Rattle.gr_kept.specs.Sound.{view_in}
-use Rattle.gr_kept.specs.Steps.{Becomes, HasBound, IsBoundBy, IsKept}
+use Rattle.gr_sound.specs.Sound.{view_in}
+use Rattle.gr_kept.specs.Steps.{HasBound, IsBoundBy, IsKept}
+use Rattle.gr_sound.specs.Becoming.{Becomes}
 use Rattle.gr_kept.proofs.Every.{has_as}
 use Rattle.gr_kept.proofs.keeping.is_kept.Goals as goal
 

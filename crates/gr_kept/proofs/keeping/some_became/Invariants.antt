@@ -1,7 +1,7 @@
 -- None of those that were passed.
 use Rattle.gr_edit.specs.Moved.{moved}
-use Rattle.gr_kept.specs.Sound.{view_in}
-use Rattle.gr_kept.specs.Steps.{Becomes}
+use Rattle.gr_sound.specs.Sound.{view_in}
+use Rattle.gr_sound.specs.Becoming.{Becomes}
 use Rattle.gr_kept.proofs.Every.{HoldsBelow, Not}
 use Rattle.gr_kept.proofs.keeping.some_became.Given as goal
 

@@ -3,8 +3,8 @@ use Rattle.std.proofs.Common.{arith}
 use Rattle.gr_edit.specs.Moved.{moved}
 use Rattle.gr_bound.specs.declared.bound_spot.BoundSpot.{BoundSpot}
 use Rattle.gr_bound.specs.declared.declaration.Declaration.{Declaration}
-use Rattle.gr_kept.specs.Sound.{view_in}
-use Rattle.gr_kept.specs.Steps.{Becomes}
+use Rattle.gr_sound.specs.Sound.{view_in}
+use Rattle.gr_sound.specs.Becoming.{Becomes}
 use Rattle.gr_kept.proofs.Every.{Not, none_yet, one_more, fails_not, one_has, none_has}
 use Rattle.gr_kept.proofs.keeping.some_was.Goals as goal
 

@@ -1,0 +1,118 @@
+"""rt ci, with two things done otherwise that change nothing of what is proved, refused and run.
+
+usage: python3 checks/gate.py
+
+Sums: kit 13b sums up the sources of a library once for each path of crates.txt that leads to it, which is over a million times here,
+and takes hours. Here the sum and the libraries of each crate are found once in a run.
+
+Order: a gate takes no less than its longest chain of crates, one behind another. rt tells how long a chain is by lines, plans for
+more memory than proofs take, and may give each proof one processor. Here a chain is told by the seconds of checks/gate_seconds.txt, and the
+proof with the longest chain behind it has up to three processors. checks/gate.sh runs this.
+"""
+import functools
+import importlib.machinery
+import importlib.util
+import inspect
+import os
+import shutil
+import sys
+from concurrent.futures import FIRST_COMPLETED, ThreadPoolExecutor, wait
+
+sys.dont_write_bytecode = True
+
+# The most memory that a proof with one processor was seen to take is half of this, in bytes.
+MEMORY_OF_ONE = 5_500_000_000
+PROCESSORS_OF_THE_FIRST = 3
+SECONDS = os.path.join(os.path.dirname(os.path.abspath(__file__)), "gate_seconds.txt")
+
+
+def load(path):
+    loader = importlib.machinery.SourceFileLoader("rt", path)
+    module = importlib.util.module_from_spec(importlib.util.spec_from_loader("rt", loader))
+    sys.modules["rt"] = module
+    loader.exec_module(module)
+    return module
+
+
+def once(method):
+    """A method of a crate without arguments, asked once for each folder."""
+    known = {}
+
+    @functools.wraps(method)
+    def asked(crate):
+        if crate.folder not in known:
+            known[crate.folder] = method(crate)
+        return known[crate.folder]
+
+    return asked
+
+
+def known_seconds():
+    """What each task took, by crate and kind: lines `crate kind seconds`."""
+    with open(SECONDS, encoding="utf-8") as file:
+        words = [line.split() for line in file if line.strip() and not line.startswith("#")]
+    return {(crate, kind): int(seconds) for crate, kind, seconds in words}
+
+
+def behind_each(tasks):
+    """How many seconds the longest chain takes that begins with each task. A task stands after those that it waits for."""
+    known = known_seconds()
+    behind = dict.fromkeys(tasks, 0)
+    for key in reversed([*tasks]):
+        waits, lines, _, _ = tasks[key]
+        behind[key] += known.get(key, lines // 10)
+        for it in waits:
+            behind[it] = max(behind[it], behind[key])
+    return behind
+
+
+def lanes_at_once():
+    """How many proofs with one processor each the machine holds."""
+    with open("/proc/meminfo", encoding="utf-8") as file:
+        free = next(1024 * int(line.split()[1]) for line in file if line.startswith("MemAvailable:"))
+    return max(1, min(len(os.sched_getaffinity(0)), free // MEMORY_OF_ONE))
+
+
+def lanes_of(rt):
+    """A way to run tasks side by side, for rt's own: what they wait for and what they give is the same."""
+    own = rt.in_lanes
+
+    def in_lanes(tasks):
+        lanes = lanes_at_once()
+        if any(len(task) != 4 or len(inspect.signature(task[3]).parameters) < 2 for task in tasks.values()):
+            # a kit whose tasks are of another form
+            os.environ["RT_JOBS"] = str(lanes)
+            return own(tasks)
+        behind = behind_each(tasks)
+        left = sorted(tasks, key=lambda it: -behind[it])
+        running, given = {}, {}
+        with ThreadPoolExecutor(lanes) as pool:
+            while left or running:
+                for key in [it for it in left if all(below in given for below in tasks[it][0])]:
+                    idle = lanes - sum(jobs for _, jobs in running.values())
+                    if idle < 1:
+                        break
+                    is_first = key[1] == "proof" and behind[key] >= 0.99 * behind[left[0]]
+                    jobs = min(idle, PROCESSORS_OF_THE_FIRST) if is_first else 1
+                    left.remove(key)
+                    running[pool.submit(tasks[key][3], given, jobs)] = key, jobs
+                for it in wait(running, return_when=FIRST_COMPLETED).done:
+                    given[running.pop(it)[0]] = it.result()
+        return given
+
+    return in_lanes
+
+
+def main():
+    rt = load(os.path.realpath(shutil.which("rt")))
+    crate = rt.rtlib.Crate
+    crate.stamp, crate.below = once(crate.stamp), once(crate.below)
+    if hasattr(rt, "in_lanes"):
+        rt.in_lanes = lanes_of(rt)
+    else:
+        os.environ["RT_JOBS"] = str(lanes_at_once())
+    return rt.main(["ci"])
+
+
+if __name__ == "__main__":
+    sys.exit(main())

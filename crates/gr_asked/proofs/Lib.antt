@@ -1,0 +1,9 @@
+-- The lemmas of this crate.
+pub mod Asking
+pub mod OnePlace
+pub mod NamedMembers
+pub mod UsedMembers
+pub mod HeaderStrings
+pub mod ImportSites
+pub mod NamedImports
+pub mod OwnedMembers

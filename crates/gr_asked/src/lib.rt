@@ -1,0 +1,12 @@
+//! The declaration to which the identifier at a byte of a file is bound, and that there is one at most.
+#![tactic(auto)]
+
+mod asked;
+mod exported;
+mod holding;
+pub mod laws;
+mod own_name;
+mod used_member;
+
+pub use asked::{declaration_at, declaration_in_unit};
+pub use exported::has_name;

@@ -1,0 +1,268 @@
+//! All bound identifiers of a workspace, by their places.
+ghost use Rattle.std.specs.Prelude.{◌≡◌, ◌<◌, ◌↔◌, length, Contains, IfOk, OnOk, MatchOption};
+ghost use Rattle.std.specs.List.Sorted.{IsSortedBy};
+ghost use Rattle.std.specs.Ordering.{is_lt};
+ghost use Rattle.gr_text.specs.Packages.{package_paths};
+ghost use Rattle.gr_text.specs.Workspace.{Workspace};
+ghost use Rattle.gr_graph.specs.Search.{IsMarked};
+ghost use Rattle.gr_declared.specs.PackageView.{package_of, IsIndexOf};
+ghost use Rattle.gr_verdict.specs.Verdicts.{Verdicts};
+ghost use Rattle.gr_bound.specs.declared.bound_spot.BoundSpot.{BoundSpot as Bound};
+ghost use Rattle.gr_bound.specs.declared.declaration.Declaration.{Declaration as Declared};
+ghost use Rattle.gr_bound.specs.Bindings.{AddsAll, IsBoundAt, IsBoundAmong, IsBound, AreBindings, AreBindingsAmong, place_at};
+ghost use Rattle.gr_bindings.specs.KnownExports.{AreSomeExports, KnowsExports};
+ghost use Rattle.gr_bound.specs.Packages.{ArePackages, IsTableAs};
+ghost use Rattle.gr_bound.specs.Places.{place_cmp};
+ghost use Rattle.gr_bound.specs.Uses.{IsUseOf};
+ghost use Rattle.gr_bound.specs.Workspaces.{IsSound, known_in, IsPackageAt};
+
+use crate::bound_unit::bind_unit;
+use crate::known_exports::{KnownExports, all_exports, imported_exports};
+use gr_bound::bindings::find;
+use gr_bound::indexed::{Numbered, known_of, unit_of};
+use gr_bound::{BoundSpot, Declaration, Packages, read_table};
+use gr_declared::{Index, Interfaces, Package};
+use gr_graph::Graph;
+use gr_scope::table::ScopeTable;
+use gr_text::Place;
+use gr_verdict::{Findings, is_marked, seen};
+use std::alloc::{AllocError, Global};
+use std::collections::BTreeMap;
+use std::marker::Model;
+
+/// The bound identifiers of a workspace, each by the place at which it begins and with its declaration, in the order of places.
+#[derive(Drop)]
+pub struct Bindings {
+    bound: Vec<BoundSpot>,
+}
+
+impl Model for Bindings {
+    ghost use Rattle.std.specs.Prelude.{List};
+    ghost use Rattle.std.specs.List.Sorted.{IsSortedBy};
+    ghost use Rattle.std.specs.Ordering.{is_lt};
+    ghost use Rattle.gr_bound.specs.declared.bound_spot.BoundSpot.{BoundSpot};
+    ghost use Rattle.gr_bound.specs.Bindings.{place_at};
+    ghost use Rattle.gr_bound.specs.Places.{place_cmp};
+
+    ghost Value = { List BoundSpot };
+
+    ghost view = { λ a. a.bound.items };
+
+    ghost invariant = { λ a. IsSortedBy (λ b c. is_lt (place_cmp (place_at b) (place_at c))) a.bound.items };
+}
+
+/// Adds the bound identifiers of the package of a number, with what was found once in it.
+fn bind_indexed(
+    alloc: Global,
+    bound: &mut Vec<BoundSpot>,
+    exports: &KnownExports<'_>,
+    unit: Package<'_>,
+    index: &Index<'_>,
+    number: usize,
+) -> Result<(), AllocError>
+    requires exports { KnowsExports exports.now }
+    requires numbered { IsPackageAt exports.now.graph.now (known_in exports.now.found.now) number (package_of unit) }
+    requires index { IsIndexOf (package_of unit) index.now }
+    ensures { OnOk result (AddsAll bound.old.items bound.new.items (IsBoundAt exports.now.graph.now (known_in exports.now.found.now) number)) }
+{
+    let at = Numbered {
+        graph: exports.graph,
+        found: exports.found,
+        number,
+    };
+    let of = known_of(at, unit, index);
+    bind_unit(alloc, bound, exports, &of)
+}
+
+/// Adds the bound identifiers of a package that has a number.
+fn bind_numbered(
+    alloc: Global,
+    bound: &mut Vec<BoundSpot>,
+    exports: &KnownExports<'_>,
+    unit: Package<'_>,
+    number: usize,
+) -> Result<(), AllocError>
+    requires exports { KnowsExports exports.now }
+    requires numbered { IsPackageAt exports.now.graph.now (known_in exports.now.found.now) number (package_of unit) }
+    ensures { OnOk result (AddsAll bound.old.items bound.new.items (IsBoundAt exports.now.graph.now (known_in exports.now.found.now) number)) }
+{
+    let index = Index::of(alloc, unit)?;
+    bind_indexed(alloc, bound, exports, unit, &index, number)
+}
+
+/// Adds the bound identifiers of the package of a number.
+fn bind_package(
+    alloc: Global,
+    bound: &mut Vec<BoundSpot>,
+    packages: &Packages<'_>,
+    numbers: &[Option<BTreeMap<Vec<u8>, usize>>],
+    number: usize,
+) -> Result<(), AllocError>
+    requires in_range { number < length (package_paths packages.now.graph.now) }
+    requires read { ArePackages packages.now }
+    requires exports { AreSomeExports packages.now.graph.now (known_in packages.now.found.now) numbers.now }
+    ensures { OnOk result (AddsAll bound.old.items bound.new.items (IsBoundAt packages.now.graph.now (known_in packages.now.found.now) number)) }
+{
+    let exports = KnownExports {
+        graph: packages.graph,
+        found: packages.found,
+        numbers,
+    };
+    bind_numbered(alloc, bound, &exports, packages.unit(number), number)
+}
+
+/// Adds the bound identifiers of all packages.
+fn bind_all(
+    alloc: Global,
+    bound: &mut Vec<BoundSpot>,
+    packages: &Packages<'_>,
+    numbers: &[Option<BTreeMap<Vec<u8>, usize>>],
+) -> Result<(), AllocError>
+    requires read { ArePackages packages.now }
+    requires exports { AreSomeExports packages.now.graph.now (known_in packages.now.found.now) numbers.now }
+    ensures { OnOk result (AddsAll bound.old.items bound.new.items (IsBound packages.now.graph.now (known_in packages.now.found.now))) }
+{
+    for number in 0..packages.graph.len() {
+        bind_package(alloc, bound, packages, numbers, number)?;
+    }
+    Ok(())
+}
+
+/// Adds the bound identifiers of the package of a number, by what this sees and its table.
+fn bind_laid(
+    alloc: Global,
+    bound: &mut Vec<BoundSpot>,
+    exports: &KnownExports<'_>,
+    seen: &Interfaces,
+    table: &ScopeTable<'_>,
+    number: usize,
+) -> Result<(), AllocError>
+    requires in_range { number < length (package_paths exports.now.graph.now) }
+    requires exports { KnowsExports exports.now }
+    requires table { IsTableAs exports.now.graph.now (known_in exports.now.found.now) number table.now seen.now }
+    ensures { OnOk result (AddsAll bound.old.items bound.new.items (IsBoundAt exports.now.graph.now (known_in exports.now.found.now) number)) }
+{
+    let at = Numbered {
+        graph: exports.graph,
+        found: exports.found,
+        number,
+    };
+    bind_numbered(alloc, bound, exports, unit_of(at, seen, table), number)
+}
+
+/// Adds the bound identifiers of the package of a number, which is read for it.
+fn bind_read(
+    alloc: Global,
+    bound: &mut Vec<BoundSpot>,
+    exports: &KnownExports<'_>,
+    number: usize,
+) -> Result<(), AllocError>
+    requires in_range { number < length (package_paths exports.now.graph.now) }
+    requires exports { KnowsExports exports.now }
+    ensures { OnOk result (AddsAll bound.old.items bound.new.items (IsBoundAt exports.now.graph.now (known_in exports.now.found.now) number)) }
+{
+    let graph = exports.graph;
+    let found = exports.found;
+    let seen = seen(alloc, graph, number, &found.interfaces)?;
+    let table = read_table(alloc, graph, found, &seen, number)?;
+    bind_laid(alloc, bound, exports, &seen, &table, number)
+}
+
+/// Adds the bound identifiers of the package of a number, if it is marked.
+fn bind_if_marked(
+    alloc: Global,
+    bound: &mut Vec<BoundSpot>,
+    exports: &KnownExports<'_>,
+    marks: &[bool],
+    number: usize,
+) -> Result<(), AllocError>
+    requires in_range { number < length (package_paths exports.now.graph.now) }
+    requires exports { KnowsExports exports.now }
+    ensures { OnOk result (AddsAll bound.old.items bound.new.items (λ b. IsMarked marks.now number × IsBoundAt exports.now.graph.now (known_in exports.now.found.now) number b)) }
+{
+    if is_marked(marks, number) {
+        bind_read(alloc, bound, exports, number)
+    } else {
+        Ok(())
+    }
+}
+
+/// Adds the bound identifiers of the packages that are marked.
+fn bind_marked(
+    alloc: Global,
+    bound: &mut Vec<BoundSpot>,
+    exports: &KnownExports<'_>,
+    marks: &[bool],
+) -> Result<(), AllocError>
+    requires { KnowsExports exports.now }
+    ensures { OnOk result (AddsAll bound.old.items bound.new.items (IsBoundAmong exports.now.graph.now (known_in exports.now.found.now) (IsMarked marks.now))) }
+{
+    for number in 0..exports.graph.len() {
+        bind_if_marked(alloc, bound, exports, marks, number)?;
+    }
+    Ok(())
+}
+
+/// Sorts bound identifiers by their places. Those of each package come in few runs, and packages in nearly the order of their
+/// files, which this sort makes use of.
+fn sort_runs(bound: &mut Vec<BoundSpot>) -> Result<(), AllocError>
+    ensures order { OnOk result (IsSortedBy (λ a b. is_lt (place_cmp (place_at a) (place_at b))) bound.new.items) }
+    ensures same { (b : Bound) → Contains bound.new.items b ↔ Contains bound.old.items b }
+{
+    bound.sort_by(|a, b| a.spot.cmp(&b.spot))
+}
+
+/// The bound identifiers of a workspace in which nothing is a fault.
+pub fn bindings_of(alloc: Global, packages: &Packages<'_>) -> Result<Bindings, AllocError>
+    requires { ArePackages packages.now }
+    ensures { IfOk result (AreBindings packages.now.graph.now (known_in packages.now.found.now)) }
+{
+    let numbers = all_exports(alloc, packages)?;
+    let mut bound = Vec::new(alloc);
+    bind_all(alloc, &mut bound, packages, &numbers)?;
+    sort_runs(&mut bound)?;
+    Ok(Bindings { bound })
+}
+
+/// The bound identifiers of the packages that are marked, by the packages' numbers, in a workspace in which nothing is a fault.
+/// Only these packages are read, and of those that they import what these export.
+pub fn bindings_among(
+    alloc: Global,
+    graph: &Graph,
+    found: &Findings,
+    marks: &[bool],
+) -> Result<Bindings, AllocError>
+    requires { IsSound graph.now found.now }
+    ensures { IfOk result (AreBindingsAmong graph.now (known_in found.now) (IsMarked marks.now)) }
+{
+    let numbers = imported_exports(alloc, graph, found, marks)?;
+    let exports = KnownExports {
+        graph,
+        found,
+        numbers: &numbers,
+    };
+    let mut bound = Vec::new(alloc);
+    bind_marked(alloc, &mut bound, &exports, marks)?;
+    sort_runs(&mut bound)?;
+    Ok(Bindings { bound })
+}
+
+impl Bindings {
+    /// The bound identifiers in the order of their places.
+    pub fn as_slice(&self) -> &[BoundSpot]
+        ensures { result.now ≡ self.now }
+    {
+        self.bound.as_slice()
+    }
+
+    /// The declaration to which the identifier that begins at a place is bound.
+    pub fn at(&self, place: &Place) -> Option<&Declaration>
+        ensures { (w : Workspace) → (known : Verdicts) → AreBindings w known self.now →
+            MatchOption result ((d : Declared) → IsUseOf w known d place.now → ⊥) (λ d. IsUseOf w known d.now place.now) }
+    {
+        match find(&self.bound, place) {
+            None => None,
+            Some(b) => Some(&b.declaration),
+        }
+    }
+}

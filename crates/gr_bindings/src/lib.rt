@@ -1,0 +1,10 @@
+//! All bound identifiers of a workspace, each with its declaration; and what its packages export.
+#![tactic(auto)]
+
+mod bindings;
+mod bound_spot;
+mod bound_unit;
+pub mod exports;
+mod known_exports;
+
+pub use bindings::{Bindings, bindings_among, bindings_of};

@@ -1,0 +1,5 @@
+-- The definitions of this crate.
+pub mod Corresponding
+pub mod Sound
+pub mod Held
+pub mod Becoming

@@ -1,0 +1,75 @@
+//! What is asked of a workspace without faults: where its declarations stand, and what its identifiers are bound to.
+ghost use Rattle.std.specs.Prelude.{◌≡◌, ◌↔◌, Contains, IfOk};
+ghost use Rattle.gr_text.specs.declared.place.Place.{Place as At};
+ghost use Rattle.gr_bound.specs.declared.bound_spot.BoundSpot.{BoundSpot as Bound};
+ghost use Rattle.gr_bound.specs.Packages.{ArePackages};
+ghost use Rattle.gr_standing.specs.Standing.{IsDeclaredAt};
+ghost use Rattle.gr_placed.specs.DeclaredPlaces.{IsFoundIn};
+ghost use Rattle.gr_sound.specs.Held.{IsHeld};
+ghost use Rattle.gr_placed.specs.Identified.{IsIdentifierAt};
+ghost use Rattle.gr_sound.specs.Sound.{view_in, view_of, packages_of, IsBoundIn, IsBoundHere};
+
+use crate::held::SoundWorkspace;
+use gr_bindings::bindings_of;
+use gr_bound::{BoundSpot, Declaration, Packages};
+use gr_placed::bound_here::bound_here;
+use gr_placed::declared_places::{declared_at, declared_near, declared_places};
+use gr_placed::identifier_places::identifier_places;
+use gr_text::Place;
+use std::alloc::{AllocError, Global};
+
+impl<'a> SoundWorkspace<'a> {
+    pub fn of(alloc: Global, packages: &'a Packages<'a>) -> Result<SoundWorkspace<'a>, AllocError>
+        requires { ArePackages packages.now }
+        ensures view { IfOk result (λ sound. view_in sound ≡ view_of packages.now) }
+        ensures held { IfOk result (λ sound. IsHeld sound) }
+    {
+        let places = declared_places(alloc, packages)?;
+        let bindings = bindings_of(alloc, packages)?;
+        Ok(SoundWorkspace {
+            packages,
+            places,
+            bindings,
+        })
+    }
+
+    /// Where a declaration stands. A predeclared one stands nowhere. Its package is looked for first where the one before it was found.
+    pub fn declared_near(&self, near: &mut usize, declaration: &Declaration) -> Option<&Place>
+        requires { IsHeld self.now }
+        ensures { IsFoundIn (IsDeclaredAt (packages_of (view_in self.now)) declaration.now) result }
+    {
+        declared_near(self.packages.graph, &self.places, near, declaration)
+    }
+
+    /// The same of one declaration alone.
+    pub fn declared_at(&self, declaration: &Declaration) -> Option<&Place>
+        requires { IsHeld self.now }
+        ensures { IsFoundIn (IsDeclaredAt (packages_of (view_in self.now)) declaration.now) result }
+    {
+        declared_at(self.packages.graph, &self.places, declaration)
+    }
+
+    /// The bound identifiers, each with its declaration.
+    pub fn bound(&self) -> &[BoundSpot]
+        requires { IsHeld self.now }
+        ensures { (b : Bound) → Contains result.now b ↔ IsBoundIn (view_in self.now) b }
+    {
+        self.bindings.as_slice()
+    }
+
+    /// Those that begin at a place. They are looked for first at the number where those found last end.
+    pub fn bound_at(&self, near: &mut usize, place: &Place) -> &[BoundSpot]
+        requires { IsHeld self.now }
+        ensures { (b : Bound) → Contains result.now b ↔ IsBoundHere (view_in self.now) place.now b }
+    {
+        bound_here(self.bindings.as_slice(), near, place)
+    }
+
+    /// The places at which identifiers begin that are no literals.
+    pub fn identifier_places(&self, alloc: Global) -> Result<Vec<Place>, AllocError>
+        requires { IsHeld self.now }
+        ensures { IfOk result (λ places. (place : At) → Contains places.items place ↔ IsIdentifierAt (view_in self.now).workspace (view_in self.now).known place) }
+    {
+        identifier_places(alloc, self.packages)
+    }
+}

@@ -1,0 +1,17 @@
+-- The answers to the goals of `workspace_uses::list_named`.
+use Rattle.std.proofs.Common.{sym, subst}
+use Rattle.gr_bound.specs.Workspaces.{known_in, ListsFound}
+use Rattle.gr_asked.proofs.Asking.{lists_found}
+use Rattle.gr_uses.proofs.workspace_uses.list_named.Goals as goal
+
+pub add_uses_beyond-requires-clause-sought : goal.add_uses_beyond-requires-clause-sought
+add_uses_beyond-requires-clause-sought c = record { name = c.requires.name; home = c.home_of-home.ensures }
+
+pub returns : goal.returns
+returns c =
+    let w = c.args.read.graph.now in
+    let known = known_in c.args.read.found.now in
+    let d = c.args.declaration.now in
+    subst (ListsFound w known d) (sym c.new.ensures)
+    (lists_found w known d c.in_ok-places.field-0.items c.new-spots.result.items c.add_uses_beyond.new.spots.items c.new-spots.ensures.items
+    c.in_ok-places.ensures.order c.in_ok-places.ensures.each c.in_ok-add_uses_beyond.ensures)

@@ -1,0 +1,101 @@
+//! Which packages may use a declaration, by what they import and by the members that are used in them.
+ghost use Rattle.std.specs.Prelude.{ℕ, ◌≡◌, ◌≢◌, ◌<◌, ◌↔◌, [], false, length, slice_get, IsTrue};
+ghost use Rattle.gr_text.specs.declared.place.Place.{Place};
+ghost use Rattle.gr_text.specs.Packages.{package_paths};
+ghost use Rattle.gr_scope.specs.Named.{name_value};
+ghost use Rattle.gr_graph.specs.Graphs.{OfPackage};
+ghost use Rattle.gr_graph.specs.Packages.{PackageImports};
+ghost use Rattle.gr_declared.specs.Package.{Package as Checked};
+ghost use Rattle.gr_bound.specs.declared.declaration.Declaration.{Declaration as Bound};
+ghost use Rattle.gr_bound.specs.Binding.{IsMemberAt};
+ghost use Rattle.gr_bound.specs.Members.{uses_or_none};
+ghost use Rattle.gr_bound.specs.Workspaces.{IsSound, IsPackageAt, known_in, home_path, IsHome, IsUseAt};
+
+use gr_bound::{Declaration, members_of};
+use gr_expr::found::MemberUse;
+use gr_graph::Graph;
+use gr_verdict::{Findings, is_among, reaches};
+
+/// A declaration that is sought, with the name under which it is exported and the number of its package, if it has them.
+#[derive(Clone, Copy)]
+pub struct Sought<'a> {
+    pub declaration: &'a Declaration,
+    pub name: Option<&'a [u8]>,
+    pub home: Option<usize>,
+}
+
+/// Whether a package imports another directly.
+fn imports(graph: &Graph, number: usize, other: usize) -> bool
+    requires { number < length (package_paths graph.now) }
+    ensures { OfPackage graph.now number (λ p. OfPackage graph.now other (λ q. IsTrue result ↔ PackageImports graph.now p q)) }
+{
+    is_among(graph.imports(number), other)
+}
+
+/// Whether a member is used in one of some files.
+fn uses_members(members: &[Vec<MemberUse>]) -> bool
+    ensures { result ≡ false → (file : ℕ) → uses_or_none (slice_get members.now file) ≡ [] }
+{
+    for uses in members {
+        if !uses.is_empty() {
+            return true;
+        }
+    }
+    false
+}
+
+/// Whether a member of the package of another number may be used in a package.
+fn may_use_member(graph: &Graph, found: &Findings, number: usize, home: usize) -> bool
+    requires in_range { number < length (package_paths graph.now) }
+    requires sound { IsSound graph.now found.now }
+    ensures { (p : Checked) → IsPackageAt graph.now (known_in found.now) number p → (file token : ℕ) (d : Bound) → IsMemberAt p file token d → slice_get (package_paths graph.now) home ≡ home_path d → IsTrue result }
+{
+    reaches(graph, number, home) && uses_members(members_of(graph, found, number))
+}
+
+/// Whether a declaration of the package of another number may be used in a package.
+fn may_use_other(
+    graph: &Graph,
+    found: &Findings,
+    number: usize,
+    home: usize,
+    sought: &Sought<'_>,
+) -> bool
+    requires in_range { number < length (package_paths graph.now) }
+    requires sound { IsSound graph.now found.now }
+    requires home { slice_get (package_paths graph.now) home ≡ home_path sought.now.declaration.now }
+    requires other { home ≢ number }
+    ensures { (place : Place) → IsUseAt graph.now (known_in found.now) sought.now.declaration.now (name_value sought.now.name) number place → IsTrue result }
+{
+    match sought.declaration {
+        Declaration::Predeclared(_) => true,
+        Declaration::Declared(_, _) => sought.name.is_some() && imports(graph, number, home),
+        Declaration::Field(_) => may_use_member(graph, found, number, home),
+        Declaration::Method(_) => may_use_member(graph, found, number, home),
+    }
+}
+
+/// The number of the package of a declaration, if it has one.
+pub(crate) fn home_of(graph: &Graph, declaration: &Declaration) -> Option<usize>
+    ensures { IsHome graph.now declaration.now result }
+{
+    match declaration {
+        Declaration::Predeclared(_) => None,
+        Declaration::Declared(path, _) => graph.number_of(path.path()),
+        Declaration::Field(symbol) => graph.number_of(symbol.package.path()),
+        Declaration::Method(symbol) => graph.number_of(symbol.package.path()),
+    }
+}
+
+/// Whether an identifier of a package may be bound to a declaration.
+pub(crate) fn may_use(graph: &Graph, found: &Findings, number: usize, sought: &Sought<'_>) -> bool
+    requires in_range { number < length (package_paths graph.now) }
+    requires sound { IsSound graph.now found.now }
+    requires home { IsHome graph.now sought.now.declaration.now sought.now.home }
+    ensures { (place : Place) → IsUseAt graph.now (known_in found.now) sought.now.declaration.now (name_value sought.now.name) number place → IsTrue result }
+{
+    match sought.home {
+        None => true,
+        Some(home) => home == number || may_use_other(graph, found, number, home, sought),
+    }
+}
