@@ -22,9 +22,10 @@ use Rattle.gr_check.specs.Among.{view_among, IsBoundMarked, IsBoundThere, TellsM
 use Rattle.gr_check.specs.Answers.{Tells}
 use Rattle.gr_check.specs.Preserved.{KeepsBindings}
 use Rattle.gr_standing.specs.Standing.{IsDeclaredAt}
-use Rattle.gr_kept.specs.Sound.{SoundView, packages_of}
-use Rattle.gr_kept.specs.Steps.{IsSamePredeclared, Becomes, HasBound, IsKept}
-use Rattle.gr_kept.proofs.Becoming.{old_nowhere, new_nowhere}
+use Rattle.gr_sound.specs.Sound.{SoundView, packages_of}
+use Rattle.gr_sound.specs.Becoming.{IsSamePredeclared, Becomes}
+use Rattle.gr_kept.specs.Steps.{HasBound, IsKept}
+use Rattle.gr_sound.proofs.Becoming.{old_nowhere, new_nowhere}
 use Rattle.gr_kept.proofs.Every.{spot_at}
 use Rattle.gr_check.proofs.Marked.{IsMarkedFolder, among_use, use_among, kept_by_marked}
 

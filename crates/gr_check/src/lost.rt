@@ -2,11 +2,12 @@
 ghost use Rattle.std.specs.Prelude.{◌↔◌, IfOk, IsTrue};
 ghost use Rattle.gr_edit.specs.Moved.{moved};
 ghost use Rattle.gr_check.specs.Among.{AreHeld, view_among};
-ghost use Rattle.gr_kept.specs.Steps.{IsSamePredeclared, Becomes, HasBound, IsKept};
+ghost use Rattle.gr_sound.specs.Becoming.{IsSamePredeclared, Becomes};
+ghost use Rattle.gr_kept.specs.Steps.{HasBound, IsKept};
 
 use crate::among::MarkedPackages;
 use gr_bound::{BoundSpot, Declaration};
-use gr_kept::{are_predeclared, goes_to};
+use gr_sound::{are_predeclared, goes_to};
 use gr_revision::Moves;
 use std::alloc::AllocError;
 

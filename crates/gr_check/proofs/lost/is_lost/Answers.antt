@@ -3,7 +3,8 @@ use Rattle.std.specs.Prelude.{IsTrue}
 use Rattle.std.proofs.lemmas.Result.{IfOk-weaker}
 use Rattle.gr_edit.specs.Moved.{moved}
 use Rattle.gr_check.specs.Among.{view_among}
-use Rattle.gr_kept.specs.Steps.{Becomes, HasBound, IsKept}
+use Rattle.gr_sound.specs.Becoming.{Becomes}
+use Rattle.gr_kept.specs.Steps.{HasBound, IsKept}
 use Rattle.gr_check.proofs.Losing.{lost_here}
 use Rattle.gr_check.proofs.lost.is_lost.Goals as goal
 

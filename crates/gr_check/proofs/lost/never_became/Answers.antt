@@ -3,7 +3,7 @@ use Rattle.std.proofs.Common.{sym, ◌∙◌}
 use Rattle.std.proofs.lemmas.Bool.{false≢true, not-true}
 use Rattle.gr_edit.specs.Moved.{moved}
 use Rattle.gr_check.specs.Among.{view_among}
-use Rattle.gr_kept.proofs.Becoming.{by_places}
+use Rattle.gr_sound.proofs.Becoming.{by_places}
 use Rattle.gr_check.proofs.Losing.{becomes_no_other, none_becomes}
 use Rattle.gr_check.proofs.lost.never_became.Goals as goal
 

@@ -3,7 +3,7 @@ use Rattle.std.proofs.Common.{arith}
 use Rattle.gr_edit.specs.Moved.{moved}
 use Rattle.gr_bound.specs.declared.declaration.Declaration.{Declaration}
 use Rattle.gr_check.specs.Among.{view_among}
-use Rattle.gr_kept.specs.Steps.{Becomes}
+use Rattle.gr_sound.specs.Becoming.{Becomes}
 use Rattle.gr_kept.proofs.Every.{Not, none_yet, one_more, of_each}
 use Rattle.gr_check.proofs.lost.none_became.Goals as goal
 

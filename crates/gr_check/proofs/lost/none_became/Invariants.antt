@@ -1,7 +1,7 @@
 -- None of those that were passed.
 use Rattle.gr_edit.specs.Moved.{moved}
 use Rattle.gr_check.specs.Among.{view_among}
-use Rattle.gr_kept.specs.Steps.{Becomes}
+use Rattle.gr_sound.specs.Becoming.{Becomes}
 use Rattle.gr_kept.proofs.Every.{HoldsBelow, Not}
 use Rattle.gr_check.proofs.lost.none_became.Given as goal
 
