@@ -21,7 +21,10 @@ use crate::judge::Judge;
 use crate::noting::{note, note_lost, note_member};
 use crate::now::{now_by_member, now_by_package, now_by_scope};
 use gr_bindings::exports::exported;
-use gr_bound::{Declaration, declaration_in_scope, field_places, member_declaration, members_of, method_places, own_of, package_before};
+use gr_bound::{
+    Declaration, declaration_in_scope, field_places, member_declaration, members_of, method_places,
+    own_of, package_before,
+};
 use gr_change_places::symbol;
 use gr_declared::{Index, Package};
 use gr_expr::found::MemberUse;
