@@ -79,10 +79,10 @@ module _ (before then : MarkedPackages) (s : FileChanges) (right : AreVerdicts b
 -- an answer that is yes or no, or unknown
 pub yes_told : (P : Answer → Type 0) (holds : Bool) (answer : Answer) → MatchBool holds (answer ≡ Yes) (answer ≡ Unknown) → (IsTrue holds → P Yes) →
     P Unknown → P answer
-yes_told P true answer is yes others = subst P (sym is) (yes refl)
-yes_told P false answer is yes others = subst P (sym is) others
+yes_told P true answer is told others = subst P (sym is) (told refl)
+yes_told P false answer is told others = subst P (sym is) others
 
 pub no_told : (P : Answer → Type 0) (fails : Bool) (answer : Answer) → MatchBool fails (answer ≡ No) (answer ≡ Unknown) → (IsTrue fails → P No) →
     P Unknown → P answer
-no_told P true answer is no others = subst P (sym is) (no refl)
-no_told P false answer is no others = subst P (sym is) others
+no_told P true answer is told others = subst P (sym is) (told refl)
+no_told P false answer is told others = subst P (sym is) others
