@@ -9,10 +9,10 @@ use Rattle.gr_check.proofs.lost.never_became.Goals as goal
 
 pub returns-in_ok-goes_to-in-Some-declared_at : goal.returns-in_ok-goes_to-in-Some-declared_at
 returns-in_ok-goes_to-in-Some-declared_at c = λ t h.
-    let yes = c.in_ok-goes_to.field-0 in
+    let yes = c.in_ok-goes_to-in-Some-declared_at.field-0 in
     let becomes = by_places (view_among c.args.before.now) (view_among c.args.then.now) (moved c.args.moves.now) c.args.d.now c.args.e.now
     c.are_predeclared.result c.are_predeclared.ensures c.if-are_predeclared.false c.in-Some.old.now c.in-Some-declared_at.new.now c.in-Some.ensures
-    c.in-Some-declared_at.ensures yes c.in_ok-goes_to.ensures in
+    c.in-Some-declared_at.ensures yes c.in_ok-goes_to-in-Some-declared_at.ensures in
     false≢true (sym (not-true yes t) ∙ becomes.1 h)
 
 pub returns-then-is_predeclared : goal.returns-then-is_predeclared
