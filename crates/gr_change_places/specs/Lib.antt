@@ -2,3 +2,4 @@
 pub mod Read
 pub mod OldPlaces
 pub mod ScopeBindings
+pub mod Behind

@@ -3,7 +3,9 @@
 #![tactic(auto)]
 
 mod bindings_after;
+mod files_behind;
 mod places_before;
 
 pub use bindings_after::scope_bindings;
+pub use files_behind::lie_behind;
 pub use places_before::{before_of, old_places, symbol};

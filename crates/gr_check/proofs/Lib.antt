@@ -4,3 +4,4 @@ pub mod Deciding
 pub mod Laid
 pub mod Unaffected
 pub mod Marked
+pub mod Losing

@@ -1,5 +1,5 @@
 -- What is held of the marked packages of a workspace without faults, and what they tell.
-use Rattle.std.specs.Prelude.{ℕ, ◌≡◌, ◌⊎◌, Bool, List, Option, Some, length, MatchOption, Contains}
+use Rattle.std.specs.Prelude.{ℕ, ◌≡◌, ◌⊎◌, ⊤, Bool, List, Option, Some, length, MatchOption, Contains}
 use Rattle.gr_text.specs.Packages.{package_paths}
 use Rattle.gr_text.specs.Workspace.{Workspace}
 use Rattle.gr_text.specs.declared.place.Place.{Place}
@@ -18,8 +18,10 @@ use Rattle.gr_placed.specs.DeclaredPlaces.{AreDeclaredAt}
 use Rattle.gr_placed.specs.Outside.{IsOutside}
 use Rattle.gr_sound.specs.Sound.{SoundView}
 use Rattle.gr_placed.specs.Identified.{BeginsInNumber}
-use Rattle.gr_kept.specs.Steps.{IsBoundBy, HasBound}
+use Rattle.gr_kept.specs.Steps.{IsBoundBy, IsKept, HasBound}
 use Rattle.gr_sound.specs.Becoming.{Becomes}
+use Rattle.gr_check.specs.declared.answer.Answer.{Answer}
+use Rattle.gr_check.specs.declared.answer.Answer.TheVariants.{Yes, No, Unknown}
 
 -- where the declarations of the package of a number stand, if it is marked
 abbrev pub IsHeldOf : Workspace → Verdicts → List Bool → ℕ → Option DeclaredPlaces → Type 0
@@ -83,3 +85,10 @@ KeepsMarked before then moved = (b : BoundSpot) → IsBoundMarked before b → I
 abbrev pub AddsMarked : MarkedPackages → MarkedPackages → (Place → Place) → Type 0
 AddsMarked before then moved =
     (place : Place) → IsIdentifierAmong before.graph.now (known_in before.found.now) before.marks.now place → AddsNoneAmong before then moved place
+
+-- what an answer tells of both: yes, that each identifier of the marked packages is kept, and none is bound to more; no, that one is not
+-- kept
+abbrev pub TellsMarked : MarkedPackages → MarkedPackages → (Place → Place) → Answer → Type 0
+TellsMarked before then moved Yes = KeepsMarked before then moved × AddsMarked before then moved
+TellsMarked before then moved No = (b : BoundSpot) × (IsBoundMarked before b × (IsKept (view_among before) (view_among then) moved b → ⊥))
+TellsMarked before then moved Unknown = ⊤

@@ -2,3 +2,4 @@
 pub mod Preserved
 pub mod Among
 pub mod Planned
+pub mod Answers

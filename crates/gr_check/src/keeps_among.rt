@@ -1,5 +1,5 @@
-//! Whether the affected packages alone tell that an edit set keeps all bindings.
-ghost use Rattle.std.specs.Prelude.{◌≡◌, Contains, IfOk, IsTrue, Some};
+//! Whether the affected packages alone tell that an edit set keeps all bindings, or that it does not.
+ghost use Rattle.std.specs.Prelude.{◌≡◌, Contains, IfOk, IsTrue, MatchOption, Some};
 ghost use Rattle.std.specs.Option.{option_copied};
 ghost use Rattle.gr_text.specs.declared.place.Place.{Place as At};
 ghost use Rattle.gr_edit.specs.EditSet.{edited};
@@ -7,11 +7,14 @@ ghost use Rattle.gr_edit.specs.Moved.{moved};
 ghost use Rattle.gr_bound.specs.Workspaces.{IsSound, known_in};
 ghost use Rattle.gr_revision.specs.RevisionsOfEdits.{revision_of};
 ghost use Rattle.gr_affected.specs.Affected.{AreAffected};
-ghost use Rattle.gr_check.specs.Among.{AreHeld, BecomesAmong, IsKeptAmong, AllWereAmong, AddsNoneAmong, KeepsMarked, AddsMarked, BothGo};
+ghost use Rattle.gr_check.specs.Among.{AreHeld, BecomesAmong, IsKeptAmong, AllWereAmong, AddsNoneAmong, KeepsMarked, AddsMarked, BothGo, IsBoundMarked, TellsMarked};
+ghost use Rattle.gr_check.specs.Answers.{Tells};
 ghost use Rattle.gr_check.specs.Preserved.{KeepsBindings};
 ghost use Rattle.gr_kept.specs.Steps.{HasBound};
 
 use crate::among::MarkedPackages;
+use crate::answer::{Answer, no_or_unknown, yes_or_unknown};
+use crate::lost::is_lost;
 use gr_affected::affected_by;
 use gr_bound::{BoundSpot, Declaration};
 use gr_edit::EditSet;
@@ -119,24 +122,24 @@ fn is_kept(
     )
 }
 
-/// Whether each bound identifier of the marked packages is.
-fn are_kept(
+/// The first bound identifier of the marked packages of which this is not told.
+fn first_unkept<'a>(
     moves: &Moves<'_>,
-    before: &MarkedPackages<'_>,
+    before: &'a MarkedPackages<'_>,
     then: &MarkedPackages<'_>,
-) -> Result<bool, AllocError>
+) -> Result<Option<&'a BoundSpot>, AllocError>
     requires before { AreHeld before.now }
     requires then { AreHeld then.now }
-    ensures { IfOk result (λ yes. IsTrue yes → KeepsMarked before.now then.now (moved moves.now)) }
+    ensures { IfOk result (λ first. MatchOption first (KeepsMarked before.now then.now (moved moves.now)) (λ b. IsBoundMarked before.now b.now)) }
 {
     let all = before.bound();
     let mut near = 0;
     for bound in all {
         if !is_kept(moves, before, then, &mut near, bound)? {
-            return Ok(false);
+            return Ok(Some(bound));
         }
     }
-    Ok(true)
+    Ok(None)
 }
 
 /// Whether each of some identifiers that are bound afterwards is bound to what has become one of those before.
@@ -219,29 +222,74 @@ fn adds_nowhere(
     add_none(moves, before, then, &places)
 }
 
-/// Whether each identifier of the marked packages stays bound to what its declaration becomes.
+/// Whether no identifier of the marked packages is bound to more, where each stays bound.
+fn adds_marked(
+    alloc: Global,
+    moves: &Moves<'_>,
+    before: &MarkedPackages<'_>,
+    then: &MarkedPackages<'_>,
+) -> Result<Answer, AllocError>
+    requires before { AreHeld before.now }
+    requires then { AreHeld then.now }
+    requires keeps { KeepsMarked before.now then.now (moved moves.now) }
+    ensures { IfOk result (λ answer. TellsMarked before.now then.now (moved moves.now) answer) }
+{
+    let adds_none = adds_nowhere(alloc, moves, before, then)?;
+    Ok(yes_or_unknown(adds_none))
+}
+
+/// Whether an identifier of the marked packages that may not stay bound does not.
+fn loses_marked(
+    moves: &Moves<'_>,
+    before: &MarkedPackages<'_>,
+    then: &MarkedPackages<'_>,
+    bound: &BoundSpot,
+) -> Result<Answer, AllocError>
+    requires before { AreHeld before.now }
+    requires then { AreHeld then.now }
+    requires bound { IsBoundMarked before.now bound.now }
+    ensures { IfOk result (λ answer. TellsMarked before.now then.now (moved moves.now) answer) }
+{
+    let lost = is_lost(moves, before, then, bound)?;
+    Ok(no_or_unknown(lost))
+}
+
+/// Whether the marked packages tell that each identifier stays bound to what its declaration becomes, or that one does not.
+fn tell_marked(
+    alloc: Global,
+    moves: &Moves<'_>,
+    before: &MarkedPackages<'_>,
+    then: &MarkedPackages<'_>,
+) -> Result<Answer, AllocError>
+    requires before { AreHeld before.now }
+    requires then { AreHeld then.now }
+    ensures { IfOk result (λ answer. TellsMarked before.now then.now (moved moves.now) answer) }
+{
+    match first_unkept(moves, before, then)? {
+        None => adds_marked(alloc, moves, before, then),
+        Some(bound) => loses_marked(moves, before, then, bound),
+    }
+}
+
+/// What the marked packages tell of all identifiers.
 fn keeps_marked(
     alloc: Global,
     before: &MarkedPackages<'_>,
     edits: &EditSet,
     then: &MarkedPackages<'_>,
-) -> Result<bool, AllocError>
+) -> Result<Answer, AllocError>
     requires before { AreHeld before.now }
     requires then { AreHeld then.now }
     requires edited { then.now.graph.now ≡ edited edits.now before.now.graph.now }
     requires affected { AreAffected before.now.graph.now before.now.graph.now then.now.graph.now edits.now before.now.marks.now }
-    ensures { IfOk result (λ yes. IsTrue yes → KeepsBindings before.now.graph.now (known_in before.now.found.now) (revision_of before.now.graph.now edits.now) (known_in then.now.found.now)) }
+    ensures { IfOk result (λ answer. Tells answer (KeepsBindings before.now.graph.now (known_in before.now.found.now) (revision_of before.now.graph.now edits.now) (known_in then.now.found.now))) }
 {
     let moves = Moves::of(alloc, edits)?;
-    if are_kept(&moves, before, then)? {
-        adds_nowhere(alloc, &moves, before, then)
-    } else {
-        Ok(false)
-    }
+    tell_marked(alloc, &moves, before, then)
 }
 
-/// Whether the packages that an edit set affects tell that it keeps all bindings. Where they don't tell it, or are all packages,
-/// the answer is no.
+/// Whether the packages that an edit set affects tell that it keeps all bindings, or that it does not. Where they tell neither, or are
+/// all packages, this stays unknown.
 pub fn keeps_among(
     alloc: Global,
     graph: &Graph,
@@ -249,15 +297,15 @@ pub fn keeps_among(
     edits: &EditSet,
     after: &Graph,
     found_after: &Findings,
-) -> Result<bool, AllocError>
+) -> Result<Answer, AllocError>
     requires sound { IsSound graph.now found.now }
     requires after { after.now ≡ edited edits.now graph.now }
     requires sound_after { IsSound after.now found_after.now }
-    ensures { IfOk result (λ yes. IsTrue yes → KeepsBindings graph.now (known_in found.now) (revision_of graph.now edits.now) (known_in found_after.now)) }
+    ensures { IfOk result (λ answer. Tells answer (KeepsBindings graph.now (known_in found.now) (revision_of graph.now edits.now) (known_in found_after.now))) }
 {
     let marks = affected_by(alloc, graph, edits, after)?;
     if marks.before.iter().all(|mark| *mark) {
-        return Ok(false);
+        return Ok(Answer::Unknown);
     }
     let before = MarkedPackages::of(alloc, graph, found, &marks.before)?;
     let then = MarkedPackages::of(alloc, after, found_after, &marks.then)?;

@@ -2,7 +2,9 @@
 #![tactic(auto)]
 
 mod among;
+mod answer;
 mod keeps_among;
+mod lost;
 mod planned;
 mod preserving;
 

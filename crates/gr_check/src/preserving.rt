@@ -8,6 +8,7 @@ ghost use Rattle.gr_bound.specs.Workspaces.{IsSound, known_in};
 ghost use Rattle.gr_check.specs.Preserved.{KeepsBindings, Preserves, TellsPreserved};
 ghost use Rattle.gr_revision.specs.RevisionsOfEdits.{revision_of};
 
+use crate::answer::Answer;
 use crate::keeps_among::keeps_among;
 use gr_bound::{Packages, all_seen, refuse_faults};
 use gr_edit::EditSet;
@@ -73,10 +74,11 @@ fn keeps_bindings(
     requires sound_after { IsSound after.now found_after.now }
     ensures { IfOk result (λ kept. IsTrue kept ↔ KeepsBindings graph.now (known_in found.now) (revision_of graph.now edits.now) (known_in found_after.now)) }
 {
-    if keeps_among(alloc, graph, found, edits, after, found_after)? {
-        return Ok(true);
+    match keeps_among(alloc, graph, found, edits, after, found_after)? {
+        Answer::Yes => Ok(true),
+        Answer::No => Ok(false),
+        Answer::Unknown => keeps_all_bindings(alloc, graph, found, edits, after, found_after),
     }
-    keeps_all_bindings(alloc, graph, found, edits, after, found_after)
 }
 
 /// Whether nothing that was found in a workspace is a fault.

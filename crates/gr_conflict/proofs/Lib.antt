@@ -11,4 +11,5 @@ pub mod Types
 pub mod Telling
 pub mod Stayed
 pub mod Firsts
+pub mod Behind
 pub mod Turned

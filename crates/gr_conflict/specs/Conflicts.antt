@@ -1,8 +1,9 @@
 -- Identifiers that a change loses or captures, and what is told of them. Known: the packages of the workspace before.
-use Rattle.std.specs.Prelude.{ℕ, ◌≡◌, ◌⊎◌, ⊤, List, Option, Some, None, MatchOption, slice_get}
+use Rattle.std.specs.Prelude.{ℕ, ◌≡◌, ◌⊎◌, ⊤, All, List, Option, Some, None, MatchOption, slice_get}
 use Rattle.std.specs.declared.cmp.Ordering.TheVariants.{Less}
 use Rattle.gr_text.specs.Workspace.{Workspace}
 use Rattle.gr_text.specs.declared.place.Place.{Place}
+use Rattle.gr_tree.specs.SourceFile.{FileParts}
 use Rattle.gr_scope.specs.declared.model.Position.{Position}
 use Rattle.gr_expr.specs.declared.symbol.Symbol.{Symbol}
 use Rattle.gr_expr.specs.Judge.{MemberUse}
@@ -20,6 +21,7 @@ use Rattle.gr_revision.specs.Revisions.{Revision}
 use Rattle.gr_standing.specs.Standing.{IsDeclaredAt}
 use Rattle.gr_placed.specs.Identified.{IsIdentifierAt}
 use Rattle.gr_members_after.specs.MembersAfter.{CountsAfter}
+use Rattle.gr_change_places.specs.Behind.{LiesBehind}
 use Rattle.gr_conflict.specs.Afterwards.{HasBecome, IsBoundByScopes, IsBoundByPackage, IsBoundByMember, IsMemberNow}
 use Rattle.gr_conflict.specs.Firsts.{IsNotBefore}
 use Rattle.gr_conflict.specs.Staying.{NoneIsLost, NoneIsLostBefore}
@@ -110,6 +112,10 @@ Takes P old new = (new ≡ old) ⊎ ((c : Conflict) × ((new ≡ Some c) × (P c
 -- K holds of each place that stands before the conflict that was found first, and of all where there is none
 abbrev pub HoldsAhead : (Place → Type 0) → Option Conflict → Type 0
 HoldsAhead K first = (place : Place) → IsAhead first place → K place
+
+-- files that stand behind the conflict that was found first
+abbrev pub AreBehind : Option Conflict → List FileParts → Type 0
+AreBehind first files = (c : Conflict) × ((first ≡ Some c) × All (LiesBehind c.used) files)
 
 -- the conflict of that place, by that capturer
 abbrev pub IsKept : Place → Option Capturer → Conflict → Type 0

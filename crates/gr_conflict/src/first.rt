@@ -1,12 +1,12 @@
 //! The first identifier of a workspace that a change would lose or capture.
-ghost use Rattle.std.specs.Prelude.{◌≡◌, ◌<◌, None, length, IfOk, OnOk};
+ghost use Rattle.std.specs.Prelude.{◌≡◌, ◌<◌, None, length, IsTrue, IfOk, OnOk};
 ghost use Rattle.gr_text.specs.Packages.{package_paths};
 ghost use Rattle.gr_edit.specs.EditSet.{edited};
 ghost use Rattle.gr_revision.specs.RevisionsOfEdits.{revision_of};
 ghost use Rattle.gr_bound.specs.Packages.{ArePackages};
 ghost use Rattle.gr_bound.specs.Workspaces.{IsSound, known_in};
 ghost use Rattle.gr_scoped.specs.Scopes.{AreAllScopes};
-ghost use Rattle.gr_conflict.specs.Conflicts.{IsConflict, IsToldFirst, TellsFirst, Takes, HoldsAhead};
+ghost use Rattle.gr_conflict.specs.Conflicts.{AreBehind, IsConflict, IsToldFirst, TellsFirst, Takes, HoldsAhead};
 ghost use Rattle.gr_change_places.specs.Read.{workspace_of, verdicts_of};
 ghost use Rattle.gr_conflict.specs.Judging.{KnowsBefore, KnowsChange, workspace_in, known_verdicts, change_in};
 ghost use Rattle.gr_conflict.specs.Staying.{StaysAt, StaysInNumber};
@@ -17,18 +17,29 @@ use crate::judge::Judge;
 use crate::judging::judge_unit;
 use gr_bindings::exports::exports;
 use gr_bound::{BoundSpot, Packages, all_seen};
-use gr_change_places::{old_places, scope_bindings};
+use gr_change_places::{lie_behind, old_places, scope_bindings};
 use gr_edit::EditSet;
 use gr_graph::Graph;
 use gr_members_after::{NewMembers, new_members};
 use gr_placed::declared_places::{DeclaredPlaces, declared_places};
 use gr_revision::Moves;
 use gr_scoped::{PackageScopes, clause_names, scoped_packages};
+use gr_tree::FileTree;
 use gr_verdict::Findings;
 use std::alloc::{AllocError, Global};
 use std::collections::BTreeMap;
 
-/// Judges the identifiers of the package of a number.
+/// Whether some files all stand behind the conflict that was found first.
+fn are_behind(first: &Option<Conflict>, files: &[FileTree]) -> bool
+    ensures { IsTrue result → AreBehind first.now files.now }
+{
+    match first {
+        None => false,
+        Some(conflict) => lie_behind(&conflict.used, files),
+    }
+}
+
+/// Judges the identifiers of the package of a number, unless they all stand behind the conflict that was found.
 fn judge_package(
     alloc: Global,
     first: &mut Option<Conflict>,
@@ -41,6 +52,9 @@ fn judge_package(
     ensures stays { OnOk result (HoldsAhead (StaysInNumber (workspace_in judge.now) (known_verdicts judge.now) (change_in judge.now) number) first.new) }
 {
     let unit = judge.packages.unit(number);
+    if are_behind(first, unit.files) {
+        return Ok(());
+    }
     judge_unit(alloc, first, judge, unit, number)
 }
 
@@ -74,7 +88,7 @@ impl Before {
         let exports = exports(alloc, packages)?;
         let places = declared_places(alloc, packages)?;
         let old = old_places(alloc, packages, &places, moves)?;
-        let members = new_members(alloc, packages.graph, packages.found, moves)?;
+        let members = new_members(alloc, packages, moves)?;
         Ok(Before {
             exports,
             places,

@@ -1,31 +1,26 @@
 //! The fields and the methods of the packages of a workspace under their new names.
-ghost use Rattle.std.specs.Prelude.{ℕ, ◌≡◌, ◌+◌, ◌<◌, length, map, slice_get, IfOk, OnOk};
+ghost use Rattle.std.specs.Prelude.{◌≡◌, ◌+◌, ◌<◌, length, map, slice_get, IfOk, OnOk};
 ghost use Rattle.std.specs.Option.{option_copied};
 ghost use Rattle.gr_members_after.specs.NewNames.{bytes_in};
 ghost use Rattle.gr_text.specs.Packages.{package_paths};
 ghost use Rattle.gr_text.specs.Workspace.{Workspace};
 ghost use Rattle.gr_tree.specs.SourceFile.{source_of, offset_of, spelling_of};
 ghost use Rattle.gr_declared.specs.Package.{Package as Checked};
-ghost use Rattle.gr_declared.specs.InterfacesView.{interface_in};
 ghost use Rattle.gr_declared.specs.PackageView.{package_of, IsIndexOf};
-ghost use Rattle.gr_meanings.specs.PackageOf.{package_in};
 ghost use Rattle.gr_revision.specs.RevisionsOfEdits.{called_by, revision_of};
-ghost use Rattle.gr_bound.specs.Workspaces.{IsSound, known_in};
+ghost use Rattle.gr_bound.specs.Packages.{ArePackages};
+ghost use Rattle.gr_bound.specs.Workspaces.{known_in};
 ghost use Rattle.gr_members_after.specs.MembersAfter.{IsFieldAfter, IsMethodAfter};
 ghost use Rattle.gr_members_after.specs.NewMembers.{IsNameAfter, AddsAfter, AreNewMembers, AreNewMembersAt, AreAllNewMembers};
 ghost use Rattle.gr_members_after.specs.NewNames.{AreNewNames, AreNamed};
 
 use crate::new_names::NewNames;
-use gr_bound::{laid_table, path_of, trees};
-use gr_declared::{Index, Interfaces, Package};
-use gr_expr::symbol::SharedPath;
-use gr_graph::Graph;
+use gr_bound::Packages;
+use gr_declared::{Index, Package};
 use gr_members::{fields, owners};
 use gr_revision::Moves;
 use gr_scope::model::Position;
-use gr_scope::table::ScopeTable;
 use gr_tree::FileTree;
-use gr_verdict::{Findings, seen};
 use std::alloc::{AllocError, Global};
 
 /// The members of a package's types under their new names.
@@ -158,59 +153,33 @@ fn members_of_unit(
     Ok(NewMembers { fields, methods })
 }
 
-/// The same of the package of a path.
-fn members_by(
-    alloc: Global,
-    moves: &Moves<'_>,
-    path: &SharedPath,
-    files: &[FileTree],
-    table: &ScopeTable<'_>,
-    interfaces: &Interfaces,
-) -> Result<NewMembers, AllocError>
-    ensures { let p = package_in path.now (map source_of files.now) table.now (interface_in interfaces.now) in
-        IfOk result (λ members. (w : Workspace) → AreNewMembers (revision_of w moves.now) p members) }
-{
-    let unit = Package {
-        path,
-        files,
-        table,
-        interfaces,
-    };
-    members_of_unit(alloc, moves, unit)
-}
-
 /// The same of the package of a number.
 fn members_at(
     alloc: Global,
-    graph: &Graph,
-    found: &Findings,
+    packages: &Packages<'_>,
     moves: &Moves<'_>,
     number: usize,
 ) -> Result<NewMembers, AllocError>
-    requires in_range { number < length (package_paths graph.now) }
-    requires sound { IsSound graph.now found.now }
-    ensures { IfOk result (AreNewMembersAt graph.now (known_in found.now) (revision_of graph.now moves.now) number) }
+    requires in_range { number < length (package_paths packages.now.graph.now) }
+    requires read { ArePackages packages.now }
+    ensures { IfOk result (AreNewMembersAt packages.now.graph.now (known_in packages.now.found.now) (revision_of packages.now.graph.now moves.now) number) }
 {
-    let files = trees(graph, found, number);
-    let seen = seen(alloc, graph, number, &found.interfaces)?;
-    let table = laid_table(alloc, files, &seen)?;
-    let path = path_of(graph, found, number);
-    members_by(alloc, moves, path, files, &table, &seen)
+    let unit = packages.unit(number);
+    members_of_unit(alloc, moves, unit)
 }
 
 /// The members of the types of all packages, by the packages' numbers.
 pub fn new_members(
     alloc: Global,
-    graph: &Graph,
-    found: &Findings,
+    packages: &Packages<'_>,
     moves: &Moves<'_>,
 ) -> Result<Vec<NewMembers>, AllocError>
-    requires { IsSound graph.now found.now }
-    ensures { IfOk result (λ all. AreAllNewMembers graph.now (known_in found.now) (revision_of graph.now moves.now) all.items) }
+    requires { ArePackages packages.now }
+    ensures { IfOk result (λ all. AreAllNewMembers packages.now.graph.now (known_in packages.now.found.now) (revision_of packages.now.graph.now moves.now) all.items) }
 {
     let mut members = Vec::new(alloc);
-    for number in 0..graph.len() {
-        members.push(members_at(alloc, graph, found, moves, number)?)?;
+    for number in 0..packages.graph.len() {
+        members.push(members_at(alloc, packages, moves, number)?)?;
     }
     Ok(members)
 }

@@ -1,12 +1,13 @@
 -- The packages that are held are those of the workspaces.
 use Rattle.std.proofs.Common.{Bool, List, ap, sym, subst, ◌∙◌}
-use Rattle.std.specs.Prelude.{IsTrue, IfOk}
+use Rattle.std.specs.Prelude.{IfOk}
 use Rattle.gr_text.specs.Workspace.{Workspace}
 use Rattle.gr_edit.specs.EditSet.{edited}
 use Rattle.gr_verdict.specs.declared.findings.Findings.{Findings}
 use Rattle.gr_bound.specs.Workspaces.{known_in}
 use Rattle.gr_revision.specs.RevisionsOfEdits.{revision_of}
 use Rattle.gr_affected.specs.Affected.{AreAffected}
+use Rattle.gr_check.specs.Answers.{Tells}
 use Rattle.gr_check.specs.Preserved.{KeepsBindings}
 use Rattle.gr_check.proofs.keeps_among.keeps_among.Goals as goal
 
@@ -28,8 +29,8 @@ keeps_marked-requires-clause-affected c =
 pub returns : goal.returns
 returns c =
     let before = c.in_ok-before.before in
-    let kept = λ (w : Workspace) (f g : Findings). IfOk c.keeps_marked.result (λ yes. IsTrue yes
-    → KeepsBindings w (known_in f) (revision_of w c.args.edits.now) (known_in g)) in
+    let kept = λ (w : Workspace) (f g : Findings). IfOk c.keeps_marked.result (λ answer. Tells answer
+    (KeepsBindings w (known_in f) (revision_of w c.args.edits.now) (known_in g))) in
     subst (λ (w : Workspace). kept w c.args.found.now c.args.found_after.now) c.in_ok-before.ensures.graph
     (subst (λ (f : Findings). kept before.graph.now f c.args.found_after.now) c.in_ok-before.ensures.found
     (subst (λ (g : Findings). kept before.graph.now before.found.now g) c.in_ok-then.ensures.found c.keeps_marked.ensures))

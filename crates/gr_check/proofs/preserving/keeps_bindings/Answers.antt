@@ -1,6 +1,20 @@
 -- The answers to the goals of `preserving::keeps_bindings`.
-use Rattle.std.proofs.Common.{refl}
+use Rattle.std.proofs.Common.{refl, subst}
+use Rattle.std.proofs.lemmas.Bool.{false≢true}
+use Rattle.gr_bound.specs.Workspaces.{known_in}
+use Rattle.gr_revision.specs.RevisionsOfEdits.{revision_of}
+use Rattle.gr_check.specs.Answers.{Tells}
+use Rattle.gr_check.specs.Preserved.{KeepsBindings}
 use Rattle.gr_check.proofs.preserving.keeps_bindings.Goals as goal
 
-pub returns-then-branch : goal.returns-then-branch
-returns-then-branch c = ((λ t. c.in_ok-keeps_among.ensures c.if-branch.true), (λ h. refl))
+pub returns-in-Yes : goal.returns-in-Yes
+returns-in-Yes c =
+    let w = c.args.graph.now in
+    let P = KeepsBindings w (known_in c.args.found.now) (revision_of w c.args.edits.now) (known_in c.args.found_after.now) in
+    ((λ t. subst (λ a. Tells a P) c.in-Yes.is c.in_ok-keeps_among.ensures), (λ h. refl))
+
+pub returns-in-No : goal.returns-in-No
+returns-in-No c =
+    let w = c.args.graph.now in
+    let P = KeepsBindings w (known_in c.args.found.now) (revision_of w c.args.edits.now) (known_in c.args.found_after.now) in
+    ((λ t. absurd (false≢true t)), (λ h. absurd ((subst (λ a. Tells a P) c.in-No.is c.in_ok-keeps_among.ensures) h)))

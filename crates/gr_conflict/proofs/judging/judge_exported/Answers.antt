@@ -31,7 +31,7 @@ returns-in-Some-clause-takes c =
     (Takes (IsNoted (becomes_in j) (known_packages j) (IsExportAfter w r path (r.called place n)) place old) c.args.first.now c.note_by_package.new.first))
     c.name.ensures c.note_by_package.ensures.takes in
     call_takes (IsNoted (becomes_in j) (known_packages j) (IsExportAfter w r path (r.called place (p.names c.args.of.now.u))) place old)
-        (IsConflictIn w known r p)
+    (IsConflictIn w known r p)
     c.args.first.now c.note_by_package.new.first c.note_by_package.result
     (package_turned w known r p c.args.of.now.u path c.requires.behind.0 c.requires.behind.1 old c.requires.was place begins) noted
 
@@ -40,7 +40,7 @@ returns-in-None-clause-stays c =
     let j = c.args.judge.now in
     let p = package_of c.args.of.now.unit in
     begins_nowhere p c.args.of.now.u (λ (at : Place). StaysBound (becomes_in j) (IsBoundByPackage (workspace_in j) (change_in j) at p c.args.of.now.u)
-        c.args.old.now)
+    c.args.old.now)
     c.args.first.now (subst (IsFound (λ (x : Place). BeginsAt p x.path x.offset c.args.of.now.u)) c.in-None.is c.in_ok-beginning.ensures)
 
 pub returns-in-Some-clause-stays : goal.returns-in-Some-clause-stays

@@ -11,9 +11,9 @@ use Rattle.gr_conflict.proofs.judging.judge_file.Given as goal
 abbrev pub invariant-loop-k : goal.invariant-loop-k
 invariant-loop-k l =
     Takes (IsMemberConflictAmong (known_packages l.judge) (change_in l.judge) (definitions_seen l.of.unit l.of.own.now) (package_of l.of.unit) l.file
-        (map use_of l.uses))
+    (map use_of l.uses))
     l.initial.first l.first
     × HoldsAhead
     (Below (RankStays (known_packages l.judge) (change_in l.judge) (definitions_seen l.of.unit l.of.own.now) (package_of l.of.unit) l.file
-        (map use_of l.uses)) l.k)
+    (map use_of l.uses)) l.k)
     l.first

@@ -19,7 +19,7 @@ returns-in-Some-clause-takes c =
     let Known = known_packages c.args.judge.now in
     let place = c.in-Some.place in
     let E = IsMemberNow Known (change_in c.args.judge.now) (definitions_seen c.args.used.now.unit c.args.used.now.own.now) p c.args.used.now.at
-        (type_of c.args.used.now.found.now.before) in
+    (type_of c.args.used.now.found.now.before) in
     let begins : AtToken p c.args.used.now.at place = subst (IsFound (AtToken p c.args.used.now.at)) c.in-Some.is c.in_ok-token_beginning.ensures in
     call_takes (IsOtherNoted Known (E place) place c.args.old.now) (IsOtherAt Known E p c.args.used.now.at c.args.old.now) c.args.first.now
     c.note_by_member.new.first c.note_by_member.result
@@ -37,6 +37,6 @@ returns-in-Some-clause-stays c =
     let j = c.args.judge.now in
     let place = c.in-Some.place in
     let E = IsMemberNow (known_packages j) (change_in j) (definitions_seen c.args.used.now.unit c.args.used.now.own.now) p c.args.used.now.at
-        (type_of c.args.used.now.found.now.before) in
+    (type_of c.args.used.now.found.now.before) in
     let begins : AtToken p c.args.used.now.at place = subst (IsFound (AtToken p c.args.used.now.at)) c.in-Some.is c.in_ok-token_beginning.ensures in
     holds_there p c.args.used.now.at (λ x. E x c.args.old.now) c.note_by_member.new.first place c.note_by_member.result begins c.note_by_member.ensures.stays

@@ -1,21 +1,14 @@
 -- The answers to the goals of `members::members_at`.
-use Rattle.std.specs.Prelude.{map}
 use Rattle.std.proofs.lemmas.Result.{IfOk-weaker}
-use Rattle.gr_tree.specs.SourceFile.{source_of}
-use Rattle.gr_meanings.specs.PackageOf.{package_in}
-use Rattle.gr_declared.specs.InterfacesView.{interface_in}
+use Rattle.gr_declared.specs.PackageView.{package_of}
 use Rattle.gr_bound.specs.Workspaces.{known_in}
-use Rattle.gr_bound.proofs.Units.{unit_at}
+use Rattle.gr_revision.specs.RevisionsOfEdits.{revision_of}
+use Rattle.gr_members_after.specs.NewMembers.{AreNewMembersAt}
 use Rattle.gr_members_after.proofs.members.members_at.Goals as goal
 
 pub returns : goal.returns
 returns c =
-    let w = c.args.graph.now in
-    let known = known_in c.args.found.now in
-    let q = package_in c.path_of-path.result.now (map source_of c.trees-files.result.now) c.in_ok-table.table (interface_in c.in_ok-seen.seen) in
-    let at = unit_at w known c.args.number c.path_of-path.result.now c.trees-files.result.now c.in_ok-seen.seen c.in_ok-table.table c.requires.in_range
-    c.path_of-path.ensures c.trees-files.ensures c.in_ok-seen.ensures.seen c.in_ok-table.ensures in
-    IfOk-weaker c.members_by.result _ _ (λ members h. record { inside = q; is_package = at; are_members = h w }) c.members_by.ensures
-
-pub seen-requires-clause-whole : goal.seen-requires-clause-whole
-seen-requires-clause-whole c = c.requires.sound.findings.whole
+    let w = c.args.packages.now.graph.now in
+    let known = known_in c.args.packages.now.found.now in
+    IfOk-weaker c.members_of_unit.result _ (AreNewMembersAt w known (revision_of w c.args.moves.now) c.args.number)
+    (λ members h. record { inside = package_of c.unit-unit.result; is_package = c.unit-unit.ensures; are_members = h w }) c.members_of_unit.ensures

@@ -7,6 +7,3 @@ use Rattle.gr_conflict.proofs.first.Before.of.Goals as goal
 pub old_places-requires-clause-places : goal.old_places-requires-clause-places
 old_places-requires-clause-places c = subst (AreDeclared (workspace_of c.args.packages.now) (verdicts_of c.args.packages.now)) (sym c.deref.ensures.value)
     c.in_ok-places.ensures
-
-pub new_members-requires : goal.new_members-requires
-new_members-requires c = c.requires.sound

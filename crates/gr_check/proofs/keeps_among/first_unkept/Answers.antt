@@ -1,9 +1,9 @@
--- The answers to the goals of `keeps_among::are_kept`.
+-- The answers to the goals of `keeps_among::first_unkept`.
 use Rattle.std.proofs.Common.{arith}
 use Rattle.gr_edit.specs.Moved.{moved}
 use Rattle.gr_check.specs.Among.{IsKeptAmong}
-use Rattle.gr_kept.proofs.Every.{none_yet, one_more, of_each}
-use Rattle.gr_check.proofs.keeps_among.are_kept.Goals as goal
+use Rattle.gr_kept.proofs.Every.{contained, none_yet, one_more, of_each}
+use Rattle.gr_check.proofs.keeps_among.first_unkept.Goals as goal
 
 pub loop-bound-init : goal.loop-bound-init
 loop-bound-init c = none_yet (IsKeptAmong c.args.before.now c.args.then.now (moved c.args.moves.now)) c.bound-all.result.now
@@ -14,7 +14,12 @@ loop-bound-preserved c =
     c.bound-item.result c.loop-bound-test.true c.bound-item.is
     (c.in_ok-is_kept.ensures c.if-not-branch.false) c.loop-bound.invariant
 
+pub returns-then-not-branch : goal.returns-then-not-branch
+returns-then-not-branch c =
+    (c.bound-all.ensures c.bound-item.result).0
+    (contained c.bound-all.result.now c.loop-bound.bound-index c.bound-item.result c.loop-bound-test.true c.bound-item.is)
+
 pub returns : goal.returns
-returns c = λ t b is.
+returns c = λ b is.
     of_each (IsKeptAmong c.args.before.now c.args.then.now (moved c.args.moves.now)) c.bound-all.result.now c.loop-bound.bound-index (omega arith)
     c.loop-bound.invariant b ((c.bound-all.ensures b).1 is)

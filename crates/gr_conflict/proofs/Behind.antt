@@ -1,0 +1,49 @@
+-- Packages whose files all stand behind the conflict that was found first.
+use Rattle.std.proofs.Common.{ℕ, ◌≡◌, List, refl, sym, ap, subst, ◌∙◌}
+use Rattle.std.specs.Prelude.{All, Option, Some, None, Contains, IsTrue, map, slice_get}
+use Rattle.std.specs.declared.cmp.Ordering.{Ordering}
+use Rattle.std.specs.declared.cmp.Ordering.TheVariants.{Less}
+use Rattle.std.specs.Ordering.{nat_cmp, ordering_then}
+use Rattle.std.proofs.lemmas.List.Elements.{All-contains}
+use Rattle.std.proofs.lemmas.Option.{slice_get_within, get_or_from_slice_get}
+use Rattle.gr_text.specs.Workspace.{Workspace, path_cmp}
+use Rattle.gr_text.specs.declared.place.Place.{Place}
+use Rattle.gr_tree.specs.SourceFile.{SourceFile, FileParts, source_of}
+use Rattle.gr_declared.specs.Package.{Package}
+use Rattle.gr_verdict.specs.Verdicts.{Verdicts}
+use Rattle.gr_verdict.proofs.PackageFiles.{mapped}
+use Rattle.gr_bound.specs.Identifiers.{BeginsAt, NameBegins, file_of}
+use Rattle.gr_bound.specs.Places.{place_cmp}
+use Rattle.gr_revision.specs.Revisions.{Revision}
+use Rattle.gr_change_places.specs.Behind.{LiesBehind}
+use Rattle.gr_conflict.specs.Conflicts.{AreBehind, IsAhead, HoldsAhead}
+use Rattle.gr_conflict.specs.Staying.{StaysIn}
+use Rattle.gr_conflict.specs.declared.conflict.Conflict.{Conflict}
+use Rattle.gr_conflict.proofs.Firsts.{behind, less_of}
+
+-- what begins in a file stands behind a place, where the file's path comes behind that
+later : (place used : Place) → path_cmp used.path place.path ≡ Less → place_cmp place used ≡ Less → ⊥
+later place used less = behind used place (ap (λ (o : Ordering). ordering_then o (nat_cmp used.offset place.offset)) less)
+
+-- the file in which an identifier begins
+begun_in : (o : Option SourceFile) (token : ℕ) (path : List ℕ) (offset : ℕ) → NameBegins o token path offset → (f : SourceFile) × ((o ≡ Some f) × (f.path ≡ path))
+begun_in None token path offset h = absurd h
+begun_in (Some f) token path offset h = (f, (refl, h.1))
+
+module _ (files : List FileParts) (p : Package) (own : p.files ≡ map source_of files) where
+  file_there : (place : Place) (u : ℕ) → BeginsAt p place.path place.offset u → (f : FileParts) × (Contains files f × (f.path ≡ place.path))
+  file_there place u begins =
+      let s = begun_in (file_of p u) (p.layout.place u).index place.path place.offset begins.1 in
+      let k = (p.layout.place u).file in
+      let has : Contains p.files s.0 = (k, slice_get_within p.files k s.0 s.1.0, get_or_from_slice_get p.files k s.0 s.0 s.1.0) in
+      let f = mapped source_of files s.0 (subst (λ (l : List SourceFile). Contains l s.0) own has) in
+      (f.0, (f.1.0, ap (λ (x : SourceFile). x.path) f.1.1 ∙ s.1.1))
+
+  -- where all files of a package stand behind the conflict, no identifier of it stands before that
+  pub none_ahead : (w : Workspace) (known : Verdicts) (r : Revision) (first : Option Conflict) → AreBehind first files → HoldsAhead (StaysIn w known r p) first
+  none_ahead w known r first h = λ place ahead u begins.
+      let f = file_there place u begins in
+      let lies : LiesBehind h.0.used f.0 = All-contains (LiesBehind h.0.used) files f.0 h.1.1 f.1.0 in
+      let less : path_cmp h.0.used.path place.path ≡ Less =
+      subst (λ (q : List ℕ). path_cmp h.0.used.path q ≡ Less) f.1.1 (less_of (path_cmp h.0.used.path f.0.path) lies) in
+      absurd (later place h.0.used less (subst (λ (o : Option Conflict). IsAhead o place) h.1.0 ahead))
