@@ -7,8 +7,8 @@ ghost use Rattle.gr_kept.specs.Steps.{HasBound, IsKept};
 
 use crate::among::MarkedPackages;
 use gr_bound::{BoundSpot, Declaration};
-use gr_sound::{are_predeclared, goes_to};
 use gr_revision::Moves;
+use gr_sound::{are_predeclared, goes_to};
 use std::alloc::AllocError;
 
 /// Whether a declaration is a predeclared name.

@@ -15,11 +15,7 @@ pub struct Planned {
 }
 
 /// The change, with what is known of its files, unless these pass a limit.
-pub fn within_limits(
-    limits: &Limits,
-    change: MadeChange,
-    known: Known,
-) -> Result<Planned, Refusal>
+pub fn within_limits(limits: &Limits, change: MadeChange, known: Known) -> Result<Planned, Refusal>
     requires { KnowsVerdicts change.files known }
     ensures planned { KeepsLimits limits.now change (change_in result) }
     ensures known { IfOk result (λ p. KnowsVerdicts p.change.files p.known) }
