@@ -1,6 +1,6 @@
 -- The answers to the goals of `plan::judged`.
 use Rattle.std.proofs.Common.{ap, sym, subst}
-use Rattle.std.specs.Prelude.{Option}
+use Rattle.std.specs.Prelude.{Err, Option}
 use Rattle.gr_text.specs.Workspace.{Workspace}
 use Rattle.gr_verdict.specs.declared.known.Known.{Known}
 use Rattle.gr_verdict.specs.Found.{KnowsVerdicts}
@@ -10,6 +10,7 @@ use Rattle.gr_space.specs.declared.change.Change.{Change}
 use Rattle.gr_check.specs.Planned.{change_in}
 use Rattle.gr_check.specs.Preserved.{TellsPreserved}
 use Rattle.gr_rename.specs.Asked.{asked_place}
+use Rattle.gr_rename.specs.Steps.{PlansEdits}
 use Rattle.gr_rename.proofs.Planned.{kept_planned}
 use Rattle.gr_rename.proofs.plan.judged.Goals as goal
 
@@ -25,7 +26,9 @@ refusal_of-requires-clause-not_preserved c =
     subst (λ (o : Option Known). TellsPreserved w (revision_of w c.get-made.result.now.edits) o) c.in-None.is c.in_ok-known.ensures
 
 pub returns-in-None-clause-planned : goal.returns-in-None-clause-planned
-returns-in-None-clause-planned c = rw c.get-made.ensures at c.refusal_of.ensures
+returns-in-None-clause-planned c =
+    subst (λ (x : Change). PlansEdits c.args.snapshot.now (known_in c.args.found.now.findings) (asked_place c.args.asked.now) x.edits
+    (Err c.refusal_of.result)) c.get-made.ensures c.refusal_of.ensures
 
 pub within_limits-requires : goal.within_limits-requires
 within_limits-requires c =
