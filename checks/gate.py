@@ -20,8 +20,8 @@ from concurrent.futures import FIRST_COMPLETED, ThreadPoolExecutor, wait
 
 sys.dont_write_bytecode = True
 
-# The most memory that a proof with one processor was seen to take is half of this, in bytes.
-MEMORY_OF_ONE = 5_500_000_000
+# More memory than a proof was seen to take, in bytes.
+MEMORY_OF_ONE = 3_500_000_000
 PROCESSORS_OF_THE_FIRST = 3
 SECONDS = os.path.join(os.path.dirname(os.path.abspath(__file__)), "gate_seconds.txt")
 
@@ -67,10 +67,11 @@ def behind_each(tasks):
 
 
 def lanes_at_once():
-    """How many proofs with one processor each the machine holds."""
+    """How many proofs with one processor each are run at a time, as far as memory holds them: one more than there are processors, since
+    a proof that was given three leaves them idle for a part of its time."""
     with open("/proc/meminfo", encoding="utf-8") as file:
         free = next(1024 * int(line.split()[1]) for line in file if line.startswith("MemAvailable:"))
-    return max(1, min(len(os.sched_getaffinity(0)), free // MEMORY_OF_ONE))
+    return max(1, min(len(os.sched_getaffinity(0)) + 1, free // MEMORY_OF_ONE))
 
 
 def lanes_of(rt):
