@@ -1,5 +1,5 @@
 -- Where a key stands among entries.
-use Rattle.std.specs.Prelude.{◌≡◌, Bool, false, not, List, [], ◌∷◌, filter}
+use Rattle.std.specs.Prelude.{◌≡◌, Bool, false, not, List, [], ◌∷◌, filter, ⊤}
 use Rattle.std.specs.List.{AllByRecursion}
 use Rattle.std.specs.Ordering.{eq_by_cmp, is_lt, is_eq, is_gt}
 use Rattle.std.specs.declared.cmp.Ordering.{Ordering}
@@ -21,6 +21,11 @@ module _ {K X : Type 0} (R : K → K → Ordering) where
   -- k is below all keys
   abbrev pub IsBeforeAll : K → List (K × X) → Type 0
   IsBeforeAll k es = AllByRecursion (λ e. R k e.0 ≡ Less) es
+
+  -- the keys rise
+  abbrev pub Rises : List (K × X) → Type 0
+  Rises [] = ⊤
+  Rises (e ∷ es) = IsBeforeAll e.0 es × Rises es
 
   -- whether k is below the first key
   abbrev pub is_before : K → List (K × X) → Bool

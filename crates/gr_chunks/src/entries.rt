@@ -1,8 +1,8 @@
 //! Entries in the order of their keys.
 ghost use Rattle.std.specs.Prelude.{◌≡◌, ◌<◌, ◌≤◌, true, false, IsTrue, IfOk, length, take, drop};
 ghost use Rattle.std.specs.Option.{option_copied};
-ghost use Rattle.std.specs.FinMap.{find, put, is_sorted};
-ghost use Rattle.gr_chunks.specs.Entries.{without, IsAfterAll, is_after, is_at};
+ghost use Rattle.std.specs.FinMap.{find, put};
+ghost use Rattle.gr_chunks.specs.Entries.{without, Rises, IsAfterAll, is_after, is_at};
 
 use crate::copies::{copies_around, copies_of_both};
 use crate::share::Share;
@@ -10,7 +10,7 @@ use std::alloc::{AllocError, Global};
 
 /// How many entries stand before the place of a key.
 pub(crate) fn place<K: Ord, V>(entries: &[(K, V)], key: &K) -> usize
-    requires { IsTrue (is_sorted K.cmp entries.now) }
+    requires { Rises K.cmp entries.now }
     ensures within { result ≤ length entries.now }
     ensures front { IsAfterAll K.cmp key.now (take result entries.now) }
     ensures back { is_after K.cmp key.now (drop result entries.now) ≡ false }
@@ -38,7 +38,7 @@ fn is_at<K: Ord, V>(entries: &[(K, V)], at: usize, key: &K) -> bool
 
 /// The value at a key.
 pub(crate) fn value_of<'a, K: Ord, V>(entries: &'a [(K, V)], key: &K) -> Option<&'a V>
-    requires { IsTrue (is_sorted K.cmp entries.now) }
+    requires { Rises K.cmp entries.now }
     ensures { option_copied result ≡ find K.cmp key.now entries.now }
 {
     let at = place(entries, key);
@@ -56,7 +56,7 @@ pub(crate) fn with_entry<K: Ord + Share, V: Share>(
     key: K,
     value: V,
 ) -> Result<Vec<(K, V)>, AllocError>
-    requires { IsTrue (is_sorted K.cmp entries.now) }
+    requires { Rises K.cmp entries.now }
     ensures { IfOk result (λ new. new.items ≡ put K.cmp key value entries.now) }
 {
     let at = place(entries, &key);
@@ -74,7 +74,7 @@ pub(crate) fn without_key<K: Ord + Share, V: Share>(
     entries: &[(K, V)],
     key: &K,
 ) -> Result<Vec<(K, V)>, AllocError>
-    requires { IsTrue (is_sorted K.cmp entries.now) }
+    requires { Rises K.cmp entries.now }
     ensures { IfOk result (λ new. new.items ≡ without K.cmp key.now entries.now) }
 {
     let at = place(entries, key);
