@@ -47,6 +47,16 @@ all_front : {X : Type 0} (P : X → Type 0) (xs ys : List X) → AllByRecursion 
 all_front P [] ys h = tt
 all_front P (x ∷ xs) ys h = (h.0, all_front P xs ys h.1)
 
+module _ {K : Type 0} {R : K → K → Ordering} (o : IsTotalOrder R) where
+  below : (x k e : K) (r : Ordering) → R k e ≡ r → is_lt r ≡ false → R x e ≡ Less → R x k ≡ Less
+  below x k e Less q n p = absurd (true≢false n)
+  below x k e Equal q n p = alike_right o k e x q ∙ p
+  below x k e Greater q n p = o.trans x e k p (o.antisymm e k ∙ ap ordering_reverse q)
+
+  -- a key that is not below another is above what the other is above
+  above : (x k e : K) → R x e ≡ Less → is_lt (R k e) ≡ false → R k x ≡ Greater
+  above x k e p n = o.antisymm k x ∙ ap ordering_reverse (below x k e (R k e) refl n p)
+
 module _ {K X : Type 0} (R : K → K → Ordering) where
   before_all : (k : K) (es : List (K × X)) → below_all R k es ≡ true → IsBeforeAll R k es
   before_all k [] h = tt
@@ -190,18 +200,9 @@ module _ {K X : Type 0} (R : K → K → Ordering) where
     before_tied k j [] p h = tt
     before_tied k j (e ∷ es) p h = (o.congr k j e.0 p ∙ h.0, before_tied k j es p h.1)
 
-    below : (x k e : K) (r : Ordering) → R k e ≡ r → is_lt r ≡ false → R x e ≡ Less → R x k ≡ Less
-    below x k e Less q n p = absurd (true≢false n)
-    below x k e Equal q n p = alike_right o k e x q ∙ p
-    below x k e Greater q n p = o.trans x e k p (o.antisymm e k ∙ ap ordering_reverse q)
-
-    -- a key that is not below another is above what the other is above
-    above : (x k e : K) → R x e ≡ Less → is_lt (R k e) ≡ false → R k x ≡ Greater
-    above x k e p n = o.antisymm k x ∙ ap ordering_reverse (below x k e (R k e) refl n p)
-
     after_all : (k : K) (xs : List (K × X)) (e : K × X) (ys : List (K × X)) → Rises R (xs ++ e ∷ ys) → is_lt (R k e.0) ≡ false → IsAfterAll R k xs
     after_all k [] e ys h n = tt
-    after_all k (x ∷ xs) e ys h n = (above x.0 k e.0 (before_middle x.0 xs e ys h.0) n, after_all k xs e ys h.1 n)
+    after_all k (x ∷ xs) e ys h n = (above o x.0 k e.0 (before_middle x.0 xs e ys h.0) n, after_all k xs e ys h.1 n)
 
     -- the m-th entry stands before the key, and so do those before it
     pub after_upto : (k : K) (es : List (K × X)) (m : ℕ) (d : K × X) → Rises R es → m < length es → is_gt (R k (get_or es m d).0) ≡ true → IsAfterAll R k (take (suc m) es)
@@ -209,7 +210,7 @@ module _ {K X : Type 0} (R : K → K → Ordering) where
     after_upto k (e ∷ es) zero d h lt g = (greater (R k e.0) g, tt)
     after_upto k (e ∷ es) (suc m) d h lt g =
         let within : m < length es = omega arith in
-        (above e.0 k (get_or es m d).0 (before_at e.0 es m d within h.0) (not_less (R k (get_or es m d).0) g), after_upto k es m d h.1 within g)
+        (above o e.0 k (get_or es m d).0 (before_at e.0 es m d within h.0) (not_less (R k (get_or es m d).0) g), after_upto k es m d h.1 within g)
 
     -- a key that is not below a part's first is above all before that part
     pub after_part : (k : K) (xs c ys : List (K × X)) → Rises R (xs ++ (c ++ ys)) → 0 < length c → is_before R k c ≡ false → IsAfterAll R k xs
