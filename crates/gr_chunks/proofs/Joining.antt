@@ -1,8 +1,10 @@
 -- Lists in chunks, cut at one of the chunks.
-use Rattle.std.proofs.Common.{◌≡◌, ℕ, zero, suc, ◌+◌, ◌*◌, ◌<◌, ◌≤◌, List, [], ◌∷◌, ◌++◌, length, get_or, take, drop, set, refl, sym, ap, ◌∙◌, append_assoc, length-append, arith}
+use Rattle.std.proofs.Common.{◌≡◌, ℕ, zero, suc, ◌+◌, ◌*◌, ◌<◌, ◌≤◌, List, [], ◌∷◌, ◌++◌, length, get_or, take, drop, set, ◌-◌, refl, sym, ap, ◌∙◌, subst, append_assoc, length-append, length-take, length-drop, take-append-drop, add-one, arith}
 use Rattle.std.specs.List.{AllByRecursion}
 use Rattle.std.proofs.lemmas.List.Concat.{flat_map-append}
-use Rattle.gr_chunks.specs.Chunks.{joined, AreFilled, AreFull}
+use Rattle.std.proofs.lemmas.List.{get_or_append_left, get_or-append_right, set-append_left, set-append_right}
+use Rattle.gr_chunks.specs.Chunks.{joined, AreFilled, AreFull, Replaces}
+use Rattle.gr_chunks.proofs.Standing.{all_append}
 
 module _ {X : Type 0} where
   pub joined_append : (bs cs : List (List X)) → joined (bs ++ cs) ≡ joined bs ++ joined cs
@@ -62,7 +64,61 @@ module _ {X : Type 0} where
   pub full_get : (cs : List (List X)) (q r : ℕ) (d : X) → AreFull cs → q < length cs → r < 64 → get_or (joined cs) (64 * q + r) d ≡ get_or (get_or cs q []) r d
   full_get [] q r d h lt s = absurd (omega arith)
   full_get (c ∷ cs) zero r d h lt s =
-      let within : r < length c = omega (arith, h.0) in
-      get_in_front c (joined cs) r (64 * zero + r) d within (omega arith)
+      let size : length c ≡ 64 = h.0 in
+      let place : 64 * zero + r ≡ r = omega arith in
+      let within : r < length c = omega arith in
+      ap (λ i. get_or (c ++ joined cs) i d) place ∙ get_or_append_left c (joined cs) d r within
   full_get (c ∷ cs) (suc q) r d h lt s =
-      get_behind c (joined cs) (64 * q + r) (64 * suc q + r) d (omega (arith, h.0)) ∙ full_get cs q r d h.1 (omega arith) s
+      let past : 64 ≤ 64 * suc q + r = omega arith in
+      let place : 64 * suc q + r - 64 ≡ 64 * q + r = omega arith in
+      get_or-append_right c (joined cs) 64 (64 * suc q + r) d h.0 past
+      ∙ ap (λ i. get_or (joined cs) i d) place ∙ full_get cs q r d h.1 (omega arith) s
+
+  -- the same chunks with another item there
+  pub full_set : (cs : List (List X)) (q r : ℕ) (x : X) → AreFull cs → q < length cs → r < 64
+      → set (joined cs) (64 * q + r) x ≡ joined (set cs q (set (get_or cs q []) r x))
+  full_set [] q r x h lt s = absurd (omega arith)
+  full_set (c ∷ cs) zero r x h lt s =
+      let size : length c ≡ 64 = h.0 in
+      let place : 64 * zero + r ≡ r = omega arith in
+      let within : r < length c = omega arith in
+      ap (λ i. set (c ++ joined cs) i x) place ∙ set-append_left c (joined cs) r x within
+  full_set (c ∷ cs) (suc q) r x h lt s =
+      let past : 64 ≤ 64 * suc q + r = omega arith in
+      let place : 64 * suc q + r - 64 ≡ 64 * q + r = omega arith in
+      set-append_right c (joined cs) 64 (64 * suc q + r) x h.0 past
+      ∙ ap (λ i. c ++ set (joined cs) i x) place ∙ ap (λ xs. c ++ xs) (full_set cs q r x h.1 (omega arith) s)
+
+  -- a chunk taken out
+  pub replaces_none : (old new : List (List X)) (i : ℕ) → new ≡ take i old ++ drop (i + 1) old → Replaces old new i []
+  replaces_none old new i e = record {
+    parts = ap joined e ∙ joined_append (take i old) (drop (i + 1) old);
+    filled = λ h. subst AreFilled (sym e) (all_append (λ c. 0 < length c) (take i old) (drop (i + 1) old) (all_take (λ c. 0 < length c) old i h) (all_drop (λ c. 0 < length c) old (i + 1) h));
+  }
+
+  pub replaces_one : (old new : List (List X)) (i : ℕ) (ws : List X) → 0 < length ws → new ≡ take i old ++ ws ∷ drop (i + 1) old → Replaces old new i ws
+  replaces_one old new i ws some e = record {
+    parts = ap joined e ∙ joined_append (take i old) (ws ∷ drop (i + 1) old);
+    filled = λ h. subst AreFilled (sym e) (all_append (λ c. 0 < length c) (take i old) (ws ∷ drop (i + 1) old) (all_take (λ c. 0 < length c) old i h) (some, all_drop (λ c. 0 < length c) old (i + 1) h));
+  }
+
+  pub replaces_two : (old new : List (List X)) (i : ℕ) (ws : List X) (m : ℕ) → 0 < m → m < length ws
+      → new ≡ take i old ++ take m ws ∷ drop m ws ∷ drop (i + 1) old → Replaces old new i ws
+  replaces_two old new i ws m low high e = record {
+    parts = ap joined e ∙ joined_append (take i old) (take m ws ∷ drop m ws ∷ drop (i + 1) old)
+        ∙ ap (λ xs. joined (take i old) ++ xs) (sym (append_assoc (take m ws) (drop m ws) (joined (drop (i + 1) old))))
+        ∙ ap (λ xs. joined (take i old) ++ (xs ++ joined (drop (i + 1) old))) (take-append-drop m ws);
+    filled = λ h.
+        let front : 0 < length (take m ws) = omega (arith, length-take m ws) in
+        let back : 0 < length (drop m ws) = omega (arith, length-drop m ws) in
+        subst AreFilled (sym e) (all_append (λ c. 0 < length c) (take i old) (take m ws ∷ drop m ws ∷ drop (i + 1) old) (all_take (λ c. 0 < length c) old i h) (front, (back, all_drop (λ c. 0 < length c) old (i + 1) h)));
+  }
+
+  -- how many items there are then
+  pub replaced_length : (old new : List (List X)) (i : ℕ) (ws : List X) (n : ℕ) → Replaces old new i ws
+      → n + length (get_or old i []) ≡ length (joined old) + length ws → n ≡ length (joined new)
+  replaced_length old new i ws n r e =
+      let c = get_or old i [] in
+      let before = ap length (joined_parts old i ∙ ap (λ j. joined (take i old) ++ (c ++ joined (drop j old))) (sym (add-one i))) in
+      let after = ap length r.parts in
+      omega (arith, before, after, e, length-append (joined (take i old)) (c ++ joined (drop (i + 1) old)), length-append c (joined (drop (i + 1) old)), length-append (joined (take i old)) (ws ++ joined (drop (i + 1) old)), length-append ws (joined (drop (i + 1) old)))

@@ -1,5 +1,5 @@
 //! A list in chunks.
-ghost use Rattle.std.specs.Prelude.{◌≡◌, ◌<◌, ◌++◌, ◌∷◌, [], IfOk, OnOk, OnErr, length, slice_get, slice_set, vec_len};
+ghost use Rattle.std.specs.Prelude.{◌≡◌, ◌<◌, ◌++◌, ◌∷◌, [], IfOk, OnOk, OnErr, length, slice_get, slice_set, slice_index_or, vec_len};
 ghost use Rattle.std.specs.Option.{option_copied};
 ghost use Rattle.gr_chunks.specs.Chunks.{joined, AreFull};
 
@@ -89,14 +89,26 @@ impl<T> SharedList<T> {
         self.len
     }
 
-    pub fn get(&self, i: usize) -> Option<&T>
-        ensures { option_copied result ≡ slice_get self.now i }
+    /// The item of that number.
+    pub fn item(&self, i: usize) -> &T
+        requires { i < length self.now }
+        ensures { result.now ≡ slice_index_or self.now i result.now }
     {
         let at = i / 64;
         if at < self.full.len() {
-            self.full[at].items().get(i % 64)
+            &self.full[at].items()[i % 64]
         } else {
-            self.last.get(i - 64 * self.full.len())
+            &self.last[i - 64 * self.full.len()]
+        }
+    }
+
+    pub fn get(&self, i: usize) -> Option<&T>
+        ensures { option_copied result ≡ slice_get self.now i }
+    {
+        if i < self.len() {
+            Some(self.item(i))
+        } else {
+            None
         }
     }
 
