@@ -93,7 +93,7 @@ module _ {K X : Type 0} (R : K → K → Ordering) where
       ap (λ r. by_order r ((k, v) ∷ x ∷ (xs ++ ys)) ((x.0, v) ∷ (xs ++ ys)) (x ∷ put R k v (xs ++ ys))) h.0
       ∙ ap (λ es. x ∷ es) (put_after k v xs ys h.1)
 
-  put_first : (k : K) (v : X) (ys : List (K × X)) → IsBeforeAll R k ys → put R k v ys ≡ (k, v) ∷ ys
+  pub put_first : (k : K) (v : X) (ys : List (K × X)) → IsBeforeAll R k ys → put R k v ys ≡ (k, v) ∷ ys
   put_first k v [] h = refl
   put_first k v (y ∷ ys) h = ap (λ r. by_order r ((k, v) ∷ y ∷ ys) ((y.0, v) ∷ ys) (y ∷ put R k v ys)) h.0
 
