@@ -2,7 +2,7 @@
 use Rattle.std.proofs.Common.{◌≡◌, ℕ, zero, suc, ◌+◌, ◌*◌, ◌<◌, ◌≤◌, List, [], ◌∷◌, ◌++◌, length, get_or, take, drop, set, ◌-◌, refl, sym, ap, ◌∙◌, subst, append_assoc, length-append, length-take, length-drop, take-append-drop, add-one, arith}
 use Rattle.std.specs.List.{AllByRecursion}
 use Rattle.std.proofs.lemmas.List.Concat.{flat_map-append}
-use Rattle.std.proofs.lemmas.List.{get_or_append_left, get_or-append_right, set-append_left, set-append_right}
+use Rattle.std.proofs.lemmas.List.{set_split, take_all, drop_all, get_or_append_left, get_or-append_right, set-append_left, set-append_right}
 use Rattle.gr_chunks.specs.Chunks.{joined, AreFilled, AreFull, Replaces}
 use Rattle.gr_chunks.proofs.Standing.{all_append}
 
@@ -88,6 +88,26 @@ module _ {X : Type 0} where
       let place : 64 * suc q + r - 64 ≡ 64 * q + r = omega arith in
       set-append_right c (joined cs) 64 (64 * suc q + r) x h.0 past
       ∙ ap (λ i. c ++ set (joined cs) i x) place ∙ ap (λ xs. c ++ xs) (full_set cs q r x h.1 (omega arith) s)
+
+  -- one chunk, or two, in place of the i-th, and one behind all
+  pub one_at : (cs : List (List X)) (i : ℕ) (a : List X) → i < length cs → set cs i a ≡ take i cs ++ a ∷ drop (i + 1) cs
+  one_at cs i a lt = set_split cs i a lt ∙ ap (λ j. take i cs ++ a ∷ drop j cs) (sym (add-one i))
+
+  pub one_behind : (cs : List (List X)) (i : ℕ) (a : List X) → length cs ≤ i → cs ++ a ∷ [] ≡ take i cs ++ a ∷ drop (i + 1) cs
+  one_behind cs i a le =
+      let front : take i cs ≡ cs = take_all i cs le in
+      let back : drop (i + 1) cs ≡ [] = drop_all (i + 1) cs (omega arith) in
+      λ j. sym front j ++ a ∷ sym back j
+
+  two_at_suc : (cs : List (List X)) (i : ℕ) (a b : List X) → i < length cs → set (take (suc i) cs ++ b ∷ drop (suc i) cs) i a ≡ take i cs ++ a ∷ b ∷ drop (suc i) cs
+  two_at_suc [] i a b lt = absurd (omega arith)
+  two_at_suc (c ∷ cs) zero a b lt = refl
+  two_at_suc (c ∷ cs) (suc i) a b lt = ap (λ xs. c ∷ xs) (two_at_suc cs i a b (omega arith))
+
+  pub two_at : (cs : List (List X)) (i : ℕ) (a b : List X) → i < length cs → set (take (i + 1) cs ++ b ∷ drop (i + 1) cs) i a ≡ take i cs ++ a ∷ b ∷ drop (i + 1) cs
+  two_at cs i a b lt =
+      let same = add-one i in
+      subst (λ j. set (take j cs ++ b ∷ drop j cs) i a ≡ take i cs ++ a ∷ b ∷ drop j cs) (sym same) (two_at_suc cs i a b lt)
 
   -- a chunk taken out
   pub replaces_none : (old new : List (List X)) (i : ℕ) → new ≡ take i old ++ drop (i + 1) old → Replaces old new i []

@@ -2,3 +2,4 @@
 pub mod Standing
 pub mod Joining
 pub mod Mapping
+pub mod Listing

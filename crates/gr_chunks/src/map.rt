@@ -5,7 +5,7 @@ ghost use Rattle.std.specs.FinMap.{find, put, is_sorted};
 ghost use Rattle.gr_chunks.specs.Entries.{without, from_key};
 
 use crate::chunk::Chunk;
-use crate::chunks::{chunk_of, items_at, put_items};
+use crate::chunks::{chunk_of, chunks_behind, items_at, put_items};
 use crate::copies::copies;
 use crate::entries::{place, value_of, with_entry, without_key};
 use crate::items::{Entries, Items};
@@ -113,8 +113,7 @@ impl<K: Ord, V> SharedMap<K, V> {
         let at = chunk_of(&self.chunks, key);
         let first = items_at(&self.chunks, at);
         let from = place(first, key);
-        let next = self.chunks.len().min(at + 1);
-        Entries::new(Items::new(&first[from..], &self.chunks[next..]))
+        Entries::new(Items::new(&first[from..], chunks_behind(&self.chunks, at)))
     }
 }
 
