@@ -165,7 +165,7 @@ pub(crate) fn put_items<T: Drop>(
 ) -> Result<usize, AllocError>
     requires there { at ≤ vec_len chunks.old }
     requires len { len ≡ length (joined chunks.old.items) }
-    ensures len { IfOk result (λ n. n ≡ length (joined chunks.new.items)) }
+    ensures count { IfOk result (λ n. n ≡ length (joined chunks.new.items)) }
     ensures ok { OnOk result (Replaces chunks.old.items chunks.new.items at items.items) }
     ensures err { OnErr result (chunks.new.items ≡ chunks.old.items) }
 {
