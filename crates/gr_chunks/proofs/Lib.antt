@@ -3,3 +3,4 @@ pub mod Standing
 pub mod Joining
 pub mod Mapping
 pub mod Listing
+pub mod Stepping

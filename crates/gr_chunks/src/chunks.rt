@@ -122,8 +122,9 @@ fn cut<T: Drop>(items: &mut Vec<T>, at: usize) -> Result<Chunk<T>, AllocError>
     Chunk::new(alloc, back)
 }
 
-/// Puts two halves in place of a chunk.
-fn put_halves<T: Drop>(
+/// Puts two parts in place of a chunk: halves, or, where it is the last, all but one item and that one, so that items that come in order
+/// fill their chunks.
+fn put_parts<T: Drop>(
     chunks: &mut Vec<Chunk<T>>,
     at: usize,
     mut items: Vec<T>,
@@ -133,7 +134,11 @@ fn put_halves<T: Drop>(
     ensures ok { OnOk result (Replaces chunks.old.items chunks.new.items at items.items) }
     ensures err { OnErr result (chunks.new.items ≡ chunks.old.items) }
 {
-    let middle = items.len() / 2;
+    let middle = if at + 1 < chunks.len() {
+        items.len() / 2
+    } else {
+        items.len() - 1
+    };
     let back = cut(&mut items, middle)?;
     let front = Chunk::new(*chunks.allocator(), items)?;
     put_two(chunks, at, front, back)
@@ -150,7 +155,7 @@ fn replace<T: Drop>(chunks: &mut Vec<Chunk<T>>, at: usize, items: Vec<T>) -> Res
         return Ok(());
     }
     if items.len() > MOST && at < chunks.len() {
-        return put_halves(chunks, at, items);
+        return put_parts(chunks, at, items);
     }
     let chunk = Chunk::new(*chunks.allocator(), items)?;
     put_one(chunks, at, chunk)

@@ -1,6 +1,7 @@
 //! A list in chunks.
 ghost use Rattle.std.specs.Prelude.{◌≡◌, ◌<◌, ◌++◌, ◌∷◌, [], IfOk, OnOk, OnErr, length, slice_get, slice_set, slice_index_or, vec_len};
 ghost use Rattle.std.specs.Option.{option_copied};
+ghost use Rattle.std.specs.Map.Iter.{ShowsInOrder, deref};
 ghost use Rattle.gr_chunks.specs.Chunks.{joined, AreFull};
 
 use crate::chunk::Chunk;
@@ -114,7 +115,8 @@ impl<T> SharedList<T> {
 
     /// The items in order.
     pub fn iter(&self) -> ListItems<'_, T>
-        ensures { result ≡ self.now }
+        ensures items { result ≡ self.now }
+        ensures runs { ShowsInOrder (deref {X = T}) }
     {
         ListItems::new(Items::new(&[], &self.full), &self.last)
     }

@@ -1,6 +1,7 @@
 //! A sorted map in chunks.
 ghost use Rattle.std.specs.Prelude.{◌≡◌, ◌↔◌, [], length, IfOk, OnOk, OnErr, IsTrue};
 ghost use Rattle.std.specs.Option.{option_copied};
+ghost use Rattle.std.specs.Map.Iter.{ShowsInOrder, deref_pair};
 ghost use Rattle.std.specs.FinMap.{find, put, is_sorted};
 ghost use Rattle.gr_chunks.specs.Entries.{without, from_key};
 
@@ -100,6 +101,7 @@ impl<K: Ord, V> SharedMap<K, V> {
     /// The entries in the order of their keys.
     pub fn iter(&self) -> Entries<'_, K, V>
         ensures entries { result ≡ self.now }
+        ensures runs { ShowsInOrder (deref_pair {K = K} {X = V}) }
         ensures ordered { IsTrue (is_sorted K.cmp self.now) }
     {
         Entries::new(Items::new(&[], &self.chunks))
@@ -108,6 +110,7 @@ impl<K: Ord, V> SharedMap<K, V> {
     /// The entries whose keys are not below a key, in their order.
     pub fn iter_from(&self, key: &K) -> Entries<'_, K, V>
         ensures entries { result ≡ from_key K.cmp key.now self.now }
+        ensures runs { ShowsInOrder (deref_pair {K = K} {X = V}) }
         ensures ordered { IsTrue (is_sorted K.cmp self.now) }
     {
         let at = chunk_of(&self.chunks, key);
