@@ -72,7 +72,7 @@ impl<'a, K, V> Model for Entries<'a, K, V> {
 
 impl<'a, K, V> Entries<'a, K, V> {
     pub(crate) fn new(items: Items<'a, (K, V)>) -> Entries<'a, K, V>
-        ensures { result ≡ items }
+        ensures { result ≡ items.entry }
     {
         Entries { items }
     }
@@ -109,7 +109,7 @@ impl<'a, T> Model for ListItems<'a, T> {
 
 impl<'a, T> ListItems<'a, T> {
     pub(crate) fn new(full: Items<'a, T>, last: &'a [T]) -> ListItems<'a, T>
-        ensures { result ≡ full ++ last.now }
+        ensures { result ≡ full.entry ++ last.now }
     {
         ListItems {
             full,
