@@ -1,5 +1,6 @@
 -- Lists in chunks, cut at one of the chunks.
-use Rattle.std.proofs.Common.{◌≡◌, ℕ, zero, suc, ◌+◌, ◌*◌, ◌<◌, ◌≤◌, List, [], ◌∷◌, ◌++◌, length, get_or, take, drop, set, ◌-◌, refl, sym, ap, ◌∙◌, subst, append_assoc, length-append, length-take, length-drop, take-append-drop, add-one, arith}
+use Rattle.std.proofs.Common.{◌≡◌, ℕ, zero, suc, ◌+◌, ◌*◌, ◌<◌, ◌≤◌, List, [], ◌∷◌, ◌++◌, length, get_or, take, drop, set, ◌-◌, refl, sym, ap, ◌∙◌, subst}
+use Rattle.std.proofs.Common.{append_assoc, length-append, length-take, length-drop, take-append-drop, add-one, arith}
 use Rattle.std.specs.List.{AllByRecursion}
 use Rattle.std.proofs.lemmas.List.Concat.{flat_map-append}
 use Rattle.std.proofs.lemmas.List.{set_split, take_all, drop_all, get_or_append_left, get_or-append_right, set-append_left, set-append_right}
@@ -99,12 +100,14 @@ module _ {X : Type 0} where
       let back : drop (i + 1) cs ≡ [] = drop_all (i + 1) cs (omega arith) in
       λ j. sym front j ++ a ∷ sym back j
 
-  two_at_suc : (cs : List (List X)) (i : ℕ) (a b : List X) → i < length cs → set (take (suc i) cs ++ b ∷ drop (suc i) cs) i a ≡ take i cs ++ a ∷ b ∷ drop (suc i) cs
+  two_at_suc : (cs : List (List X)) (i : ℕ) (a b : List X) → i < length cs →
+      set (take (suc i) cs ++ b ∷ drop (suc i) cs) i a ≡ take i cs ++ a ∷ b ∷ drop (suc i) cs
   two_at_suc [] i a b lt = absurd (omega arith)
   two_at_suc (c ∷ cs) zero a b lt = refl
   two_at_suc (c ∷ cs) (suc i) a b lt = ap (λ xs. c ∷ xs) (two_at_suc cs i a b (omega arith))
 
-  pub two_at : (cs : List (List X)) (i : ℕ) (a b : List X) → i < length cs → set (take (i + 1) cs ++ b ∷ drop (i + 1) cs) i a ≡ take i cs ++ a ∷ b ∷ drop (i + 1) cs
+  pub two_at : (cs : List (List X)) (i : ℕ) (a b : List X) → i < length cs →
+      set (take (i + 1) cs ++ b ∷ drop (i + 1) cs) i a ≡ take i cs ++ a ∷ b ∷ drop (i + 1) cs
   two_at cs i a b lt =
       let same = add-one i in
       subst (λ j. set (take j cs ++ b ∷ drop j cs) i a ≡ take i cs ++ a ∷ b ∷ drop j cs) (sym same) (two_at_suc cs i a b lt)
@@ -113,13 +116,15 @@ module _ {X : Type 0} where
   pub replaces_none : (old new : List (List X)) (i : ℕ) → new ≡ take i old ++ drop (i + 1) old → Replaces old new i []
   replaces_none old new i e = record {
     parts = ap joined e ∙ joined_append (take i old) (drop (i + 1) old);
-    filled = λ h. subst AreFilled (sym e) (all_append (λ c. 0 < length c) (take i old) (drop (i + 1) old) (all_take (λ c. 0 < length c) old i h) (all_drop (λ c. 0 < length c) old (i + 1) h));
+    filled = λ h. subst AreFilled (sym e) (all_append (λ c. 0 < length c) (take i old) (drop (i + 1) old) (all_take (λ c. 0 < length c) old i h)
+        (all_drop (λ c. 0 < length c) old (i + 1) h));
   }
 
   pub replaces_one : (old new : List (List X)) (i : ℕ) (ws : List X) → 0 < length ws → new ≡ take i old ++ ws ∷ drop (i + 1) old → Replaces old new i ws
   replaces_one old new i ws some e = record {
     parts = ap joined e ∙ joined_append (take i old) (ws ∷ drop (i + 1) old);
-    filled = λ h. subst AreFilled (sym e) (all_append (λ c. 0 < length c) (take i old) (ws ∷ drop (i + 1) old) (all_take (λ c. 0 < length c) old i h) (some, all_drop (λ c. 0 < length c) old (i + 1) h));
+    filled = λ h. subst AreFilled (sym e) (all_append (λ c. 0 < length c) (take i old) (ws ∷ drop (i + 1) old) (all_take (λ c. 0 < length c) old i h)
+        (some, all_drop (λ c. 0 < length c) old (i + 1) h));
   }
 
   pub replaces_two : (old new : List (List X)) (i : ℕ) (ws : List X) (m : ℕ) → 0 < m → m < length ws
@@ -131,7 +136,8 @@ module _ {X : Type 0} where
     filled = λ h.
         let front : 0 < length (take m ws) = omega (arith, length-take m ws) in
         let back : 0 < length (drop m ws) = omega (arith, length-drop m ws) in
-        subst AreFilled (sym e) (all_append (λ c. 0 < length c) (take i old) (take m ws ∷ drop m ws ∷ drop (i + 1) old) (all_take (λ c. 0 < length c) old i h) (front, (back, all_drop (λ c. 0 < length c) old (i + 1) h)));
+        subst AreFilled (sym e) (all_append (λ c. 0 < length c) (take i old) (take m ws ∷ drop m ws ∷ drop (i + 1) old)
+        (all_take (λ c. 0 < length c) old i h) (front, (back, all_drop (λ c. 0 < length c) old (i + 1) h)));
   }
 
   -- how many items there are then
@@ -141,4 +147,13 @@ module _ {X : Type 0} where
       let c = get_or old i [] in
       let before = ap length (joined_parts old i ∙ ap (λ j. joined (take i old) ++ (c ++ joined (drop j old))) (sym (add-one i))) in
       let after = ap length r.parts in
-      omega (arith, before, after, e, length-append (joined (take i old)) (c ++ joined (drop (i + 1) old)), length-append c (joined (drop (i + 1) old)), length-append (joined (take i old)) (ws ++ joined (drop (i + 1) old)), length-append ws (joined (drop (i + 1) old)))
+      omega (
+        arith,
+        before,
+        after,
+        e,
+        length-append (joined (take i old)) (c ++ joined (drop (i + 1) old)),
+        length-append c (joined (drop (i + 1) old)),
+        length-append (joined (take i old)) (ws ++ joined (drop (i + 1) old)),
+        length-append ws (joined (drop (i + 1) old)),
+      )

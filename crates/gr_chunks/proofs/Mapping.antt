@@ -1,5 +1,5 @@
 -- A sorted map in chunks, of which one chunk changes.
-use Rattle.std.proofs.Common.{◌≡◌, ℕ, suc, ◌+◌, ◌<◌, Bool, true, false, T, IsTrue, List, [], ◌∷◌, ◌++◌, length, get_or, take, drop, refl, sym, ap, ◌∙◌, subst, add-one}
+use Rattle.std.proofs.Common.{◌≡◌, ℕ, ◌+◌, ◌<◌, Bool, true, false, T, IsTrue, List, [], ◌++◌, length, get_or, take, drop, refl, sym, ap, ◌∙◌, subst, add-one}
 use Rattle.std.specs.declared.cmp.Ordering.{Ordering}
 use Rattle.std.specs.Ordering.{eq_by_cmp}
 use Rattle.std.specs.Prelude.{not}
@@ -25,7 +25,8 @@ module _ {K X : Type 0} (R : K → K → Ordering) where
   -- the keys of each chunk rise
   pub part_rises : (cs : List (List (K × X))) (i : ℕ) → IsMap R cs → Rises R (get_or cs i [])
   part_rises cs i h =
-      rises_front R (get_or cs i []) (joined (drop (i + 1) cs)) (rises_back R (joined (take i cs)) (get_or cs i [] ++ joined (drop (i + 1) cs)) (parts_rise cs i h))
+      rises_front R (get_or cs i []) (joined (drop (i + 1) cs))
+      (rises_back R (joined (take i cs)) (get_or cs i [] ++ joined (drop (i + 1) cs)) (parts_rise cs i h))
 
   -- where the key is not below the first of the m-th chunk, all chunks before that one are below the key
   pub after_chunk : IsTotalOrder R → (k : K) (cs : List (List (K × X))) (m : ℕ) → IsMap R cs → m < length cs → is_before R k (get_or cs m []) ≡ false

@@ -1,5 +1,6 @@
 -- What a key's place among entries says of finding, setting and taking out.
-use Rattle.std.proofs.Common.{◌≡◌, ℕ, zero, suc, ◌<◌, Bool, true, false, cond, not, ◌&&◌, List, [], ◌∷◌, ◌++◌, length, get_or, take, drop, Some, None, refl, sym, ap, ◌∙◌, true≢false, IsTrue, arith}
+use Rattle.std.proofs.Common.{◌≡◌, ℕ, zero, suc, ◌<◌, Bool, true, false, cond, not, ◌&&◌, List, [], ◌∷◌, ◌++◌, length, get_or, take, drop, Some, None, refl}
+use Rattle.std.proofs.Common.{sym, ap, ◌∙◌, true≢false, IsTrue, arith}
 use Rattle.std.specs.Ordering.{is_lt, is_eq, is_gt, ordering_reverse}
 use Rattle.std.specs.declared.cmp.Ordering.{Ordering}
 use Rattle.std.specs.declared.cmp.Ordering.TheVariants.{Less, Equal, Greater}
@@ -100,7 +101,8 @@ module _ {K X : Type 0} (R : K → K → Ordering) where
   put_before : (k : K) (v : X) (xs ys : List (K × X)) → IsBeforeAll R k ys → put R k v (xs ++ ys) ≡ put R k v xs ++ ys
   put_before k v [] ys h = put_first k v ys h
   put_before k v (x ∷ xs) ys h =
-      elim (R k x.0) as (λ r. by_order r ((k, v) ∷ x ∷ (xs ++ ys)) ((x.0, v) ∷ (xs ++ ys)) (x ∷ put R k v (xs ++ ys)) ≡ by_order r ((k, v) ∷ x ∷ xs) ((x.0, v) ∷ xs) (x ∷ put R k v xs) ++ ys) [
+      elim (R k x.0) as (λ r. by_order r ((k, v) ∷ x ∷ (xs ++ ys)) ((x.0, v) ∷ (xs ++ ys)) (x ∷ put R k v (xs ++ ys)) ≡ by_order r ((k, v) ∷ x ∷ xs)
+      ((x.0, v) ∷ xs) (x ∷ put R k v xs) ++ ys) [
         | Less ↦ refl
         | Equal ↦ refl
         | Greater ↦ ap (λ es. x ∷ es) (put_before k v xs ys h)
@@ -167,7 +169,8 @@ module _ {K X : Type 0} (R : K → K → Ordering) where
   is_at_at k (e ∷ es) zero d lt = refl
   is_at_at k (e ∷ es) (suc m) d lt = is_at_at k es m d (omega arith)
 
-  pub find_there : (k : K) (es : List (K × X)) (m : ℕ) (d : K × X) → IsAfterAll R k (take m es) → is_at R k (drop m es) ≡ true → find R k es ≡ Some (get_or es m d).1
+  pub find_there : (k : K) (es : List (K × X)) (m : ℕ) (d : K × X) → IsAfterAll R k (take m es) → is_at R k (drop m es) ≡ true →
+      find R k es ≡ Some (get_or es m d).1
   find_there k [] zero d f h = absurd (true≢false (sym h))
   find_there k [] (suc m) d f h = absurd (true≢false (sym h))
   find_there k (e ∷ es) zero d f h = ap (λ b. cond b (Some e.1) (find R k es)) h
@@ -205,7 +208,8 @@ module _ {K X : Type 0} (R : K → K → Ordering) where
     after_all k (x ∷ xs) e ys h n = (above o x.0 k e.0 (before_middle x.0 xs e ys h.0) n, after_all k xs e ys h.1 n)
 
     -- the m-th entry stands before the key, and so do those before it
-    pub after_upto : (k : K) (es : List (K × X)) (m : ℕ) (d : K × X) → Rises R es → m < length es → is_gt (R k (get_or es m d).0) ≡ true → IsAfterAll R k (take (suc m) es)
+    pub after_upto : (k : K) (es : List (K × X)) (m : ℕ) (d : K × X) → Rises R es → m < length es → is_gt (R k (get_or es m d).0) ≡ true →
+        IsAfterAll R k (take (suc m) es)
     after_upto k [] m d h lt g = absurd (omega arith)
     after_upto k (e ∷ es) zero d h lt g = (greater (R k e.0) g, tt)
     after_upto k (e ∷ es) (suc m) d h lt g =
@@ -226,7 +230,8 @@ module _ {K X : Type 0} (R : K → K → Ordering) where
     all_before : (k : K) (e : K × X) (es : List (K × X)) → Rises R (e ∷ es) → R k e.0 ≡ Less → IsBeforeAll R k (e ∷ es)
     all_before k e es h p = (p, before_less k e.0 es p h.0)
 
-    pub find_absent : (k : K) (es : List (K × X)) (m : ℕ) → Rises R es → IsAfterAll R k (take m es) → is_after R k (drop m es) ≡ false → is_at R k (drop m es) ≡ false
+    pub find_absent : (k : K) (es : List (K × X)) (m : ℕ) → Rises R es → IsAfterAll R k (take m es) → is_after R k (drop m es) ≡ false →
+        is_at R k (drop m es) ≡ false
         → find R k es ≡ None
     find_absent k [] m h f g n = refl
     find_absent k (e ∷ es) zero h f g n = find_none k (e ∷ es) (all_before k e es h (neither (R k e.0) g n))
@@ -243,7 +248,8 @@ module _ {K X : Type 0} (R : K → K → Ordering) where
         ap (λ r. cond (not (is_eq r)) (e ∷ without R k es) (without R k es)) f.0
         ∙ ap (λ fs. e ∷ fs) (without_there k es m h.1 f.1 n)
 
-    pub without_gap : (k : K) (es : List (K × X)) (m : ℕ) → Rises R es → IsAfterAll R k (take m es) → is_after R k (drop m es) ≡ false → is_at R k (drop m es) ≡ false
+    pub without_gap : (k : K) (es : List (K × X)) (m : ℕ) → Rises R es → IsAfterAll R k (take m es) → is_after R k (drop m es) ≡ false →
+        is_at R k (drop m es) ≡ false
         → without R k es ≡ take m es ++ drop m es
     without_gap k [] zero h f g n = refl
     without_gap k [] (suc m) h f g n = refl
@@ -259,7 +265,8 @@ module _ {K X : Type 0} (R : K → K → Ordering) where
         ∙ ap (λ fs. e ∷ fs) (from_before k es (before_tied k e.0 es p h.0))
     from_first k e es Greater p g h = absurd (true≢false g)
 
-    pub from_place : (k : K) (es : List (K × X)) (m : ℕ) → Rises R es → IsAfterAll R k (take m es) → is_after R k (drop m es) ≡ false → from_key R k es ≡ drop m es
+    pub from_place : (k : K) (es : List (K × X)) (m : ℕ) → Rises R es → IsAfterAll R k (take m es) → is_after R k (drop m es) ≡ false →
+        from_key R k es ≡ drop m es
     from_place k [] zero h f g = refl
     from_place k [] (suc m) h f g = refl
     from_place k (e ∷ es) zero h f g = from_first k e es (R k e.0) refl g h

@@ -1,8 +1,8 @@
 -- Iterators that are seen as the list of what they have left.
-use Rattle.std.proofs.Common.{◌≡◌, List, [], ◌∷◌, ◌++◌, length, Option, Some, None, Bor, refl, sym, ap, ◌∙◌, arith}
+use Rattle.std.proofs.Common.{List, length, Option, Some, None, ap, arith}
 use Rattle.std.proofs.iter.runs.Sources.{from_front}
 use Rattle.std.specs.Iterator.{MakesProgress, at_most}
-use Rattle.std.specs.Map.Iter.{TakesFirst, ShowsInOrder, deref}
+use Rattle.std.specs.Map.Iter.{TakesFirst, ShowsInOrder}
 
 module _ {A X : Type 0} (shows : A → X) where
   -- what calls of `next` show, one after another

@@ -1,5 +1,5 @@
 -- Both parts have items, and together they have all.
-use Rattle.std.proofs.Common.{◌≡◌, ◌+◌, ◌<◌, ◌∷◌, ◌++◌, length, take, drop, ap, ◌∙◌, arith}
+use Rattle.std.proofs.Common.{◌≡◌, ◌+◌, ◌<◌, ◌∷◌, ◌++◌, length, take, drop, ◌∙◌, arith}
 use Rattle.std.proofs.lemmas.Result.{IfOk-weaker}
 use Rattle.gr_chunks.specs.Chunks.{Replaces}
 use Rattle.gr_chunks.proofs.Joining.{replaces_two}
@@ -14,9 +14,9 @@ returns-clause-ok g c =
     let ws = c.args.items.items in
     let m = c.if-at-len.middle in
     let low : 0 < m =
-      elim c.if-at-len.branch [ then-at-len w ↦ omega (arith, c.args.items.ok.0) | else-at-len w ↦ omega (arith, c.args.items.ok.0) ] in
+    elim c.if-at-len.branch [ then-at-len w ↦ omega (arith, c.args.items.ok.0) | else-at-len w ↦ omega (arith, c.args.items.ok.0) ] in
     let high : m < length ws =
-      elim c.if-at-len.branch [ then-at-len w ↦ omega (arith, c.args.items.ok.0) | else-at-len w ↦ omega (arith, c.args.items.ok.0) ] in
+    elim c.if-at-len.branch [ then-at-len w ↦ omega (arith, c.args.items.ok.0) | else-at-len w ↦ omega (arith, c.args.items.ok.0) ] in
     let front : c.in_ok-front.front ≡ take m ws = c.in_ok-front.ensures ∙ c.in_ok-back.ensures.front in
     let back : c.in_ok-back.back ≡ drop m ws = c.in_ok-back.ensures.back in
     IfOk-weaker c.put_two.result

@@ -15,6 +15,7 @@ halving-preserved-then-is_gt g c =
     record {
       order = omega arith;
       within = c.halving.invariant.within;
-      front = subst (λ j. IsAfterAll g.K.Ord.cmp c.args.key.now (take j es)) (sym (add-one m)) (after_upto g.K.Ord.cmp g.met.K.Ord.total c.args.key.now es m d c.requires within gt);
+      front = subst (λ j. IsAfterAll g.K.Ord.cmp c.args.key.now (take j es)) (sym (add-one m))
+          (after_upto g.K.Ord.cmp g.met.K.Ord.total c.args.key.now es m d c.requires within gt);
       back = c.halving.invariant.back;
     }

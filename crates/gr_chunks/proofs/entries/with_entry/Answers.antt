@@ -17,8 +17,8 @@ returns-in_ok-same g c =
     (λ new. new.items ≡ take m es ++ (c.in_ok-same.same, c.args.value) ∷ take (length es - (m + 1)) (drop (m + 1) es))
     (λ new. new.items ≡ put g.K.Ord.cmp c.args.key c.args.value es)
     (λ new made.
-        made ∙ (λ i. take m es ++ (key i, c.args.value) ∷ (rest ∙ ap (λ j. drop j es) (add-one m)) i)
-        ∙ sym (put_there g.K.Ord.cmp c.args.key c.args.value es m d c.place-at.ensures.front (sym c.if-is_at.ensures.there)))
+    made ∙ (λ i. take m es ++ (key i, c.args.value) ∷ (rest ∙ ap (λ j. drop j es) (add-one m)) i)
+    ∙ sym (put_there g.K.Ord.cmp c.args.key c.args.value es m d c.place-at.ensures.front (sym c.if-is_at.ensures.there)))
     c.copies_around.ensures
 
 pub returns-else-is_at : goal.returns-else-is_at
@@ -29,6 +29,6 @@ returns-else-is_at g c =
     (λ new. new.items ≡ take m es ++ (c.args.key, c.args.value) ∷ take (length es - m) (drop m es))
     (λ new. new.items ≡ put g.K.Ord.cmp c.args.key c.args.value es)
     (λ new made.
-        made ∙ ap (λ fs. take m es ++ (c.args.key, c.args.value) ∷ fs) (take_rest es m)
-        ∙ sym (put_gap g.K.Ord.cmp c.args.key c.args.value es m c.place-at.ensures.front c.place-at.ensures.back (sym c.if-is_at.ensures.there)))
+    made ∙ ap (λ fs. take m es ++ (c.args.key, c.args.value) ∷ fs) (take_rest es m)
+    ∙ sym (put_gap g.K.Ord.cmp c.args.key c.args.value es m c.place-at.ensures.front c.place-at.ensures.back (sym c.if-is_at.ensures.there)))
     c.copies_around-else-is_at.ensures

@@ -14,8 +14,8 @@ returns-then-is_at g c =
     (λ new. new.items ≡ take m es ++ take (length es - (m + 1)) (drop (m + 1) es))
     (λ new. new.items ≡ without g.K.Ord.cmp c.args.key.now es)
     (λ new made.
-        made ∙ ap (λ fs. take m es ++ fs) (take_rest es (m + 1) ∙ ap (λ j. drop j es) (add-one m))
-        ∙ sym (without_there g.K.Ord.cmp g.met.K.Ord.total c.args.key.now es m c.requires c.place-at.ensures.front (sym c.if-is_at.ensures.there)))
+    made ∙ ap (λ fs. take m es ++ fs) (take_rest es (m + 1) ∙ ap (λ j. drop j es) (add-one m))
+    ∙ sym (without_there g.K.Ord.cmp g.met.K.Ord.total c.args.key.now es m c.requires c.place-at.ensures.front (sym c.if-is_at.ensures.there)))
     c.copies_of_both.ensures
 
 pub returns-else-is_at : goal.returns-else-is_at
@@ -26,6 +26,7 @@ returns-else-is_at g c =
     (λ new. new.items ≡ take m es ++ take (length es - m) (drop m es))
     (λ new. new.items ≡ without g.K.Ord.cmp c.args.key.now es)
     (λ new made.
-        made ∙ ap (λ fs. take m es ++ fs) (take_rest es m)
-        ∙ sym (without_gap g.K.Ord.cmp g.met.K.Ord.total c.args.key.now es m c.requires c.place-at.ensures.front c.place-at.ensures.back (sym c.if-is_at.ensures.there)))
+    made ∙ ap (λ fs. take m es ++ fs) (take_rest es m)
+    ∙ sym (without_gap g.K.Ord.cmp g.met.K.Ord.total c.args.key.now es m c.requires c.place-at.ensures.front c.place-at.ensures.back
+    (sym c.if-is_at.ensures.there)))
     c.copies_of_both-else-is_at.ensures

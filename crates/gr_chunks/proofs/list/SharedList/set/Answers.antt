@@ -15,8 +15,8 @@ invariant_of-self g c =
     let even = c.self.invariant.even in
     let within : i / 64 < length full = omega (arith, c.self.inside.full.ok.0) in
     let chunk : c.in_ok-chunk.chunk ≡ set (get_or full (i / 64) []) (i % 64) x =
-      c.in_ok-chunk.ensures
-      ∙ ap (λ xs. set xs (i % 64) x) (c.items.ensures ∙ c.index.ensures ∙ get_or_default full (i / 64) c.index.result.now [] within) in
+    c.in_ok-chunk.ensures
+    ∙ ap (λ xs. set xs (i % 64) x) (c.items.ensures ∙ c.index.ensures ∙ get_or_default full (i / 64) c.index.result.now [] within) in
     let whole = ap (λ d. joined (set full (i / 64) d) ++ last) chunk ∙ set_in_full full last even i x within in
     let size = ap length chunk ∙ length-set (get_or full (i / 64) []) (i % 64) x ∙ all_at (λ d. length d ≡ 64) full (i / 64) within even in
     record {
@@ -40,8 +40,8 @@ returns-in_ok-chunk-clause-ok g c =
     let x = c.args.item in
     let within : i / 64 < length full = omega (arith, c.self.inside.full.ok.0) in
     let chunk : c.in_ok-chunk.chunk ≡ set (get_or full (i / 64) []) (i % 64) x =
-      c.in_ok-chunk.ensures
-      ∙ ap (λ xs. set xs (i % 64) x) (c.items.ensures ∙ c.index.ensures ∙ get_or_default full (i / 64) c.index.result.now [] within) in
+    c.in_ok-chunk.ensures
+    ∙ ap (λ xs. set xs (i % 64) x) (c.items.ensures ∙ c.index.ensures ∙ get_or_default full (i / 64) c.index.result.now [] within) in
     let seen : joined full ++ last ≡ c.args.self.now = c.self.view_is in
     ap (λ d. joined (set full (i / 64) d) ++ last) chunk ∙ set_in_full full last c.self.invariant.even i x within ∙ ap (λ xs. set xs i x) seen
 

@@ -24,8 +24,11 @@ invariant_of-self-2 g c =
     let front = subst (λ bs. IsAfterAll g.K.Ord.cmp k (joined (take i bs))) c.deref.ensures.value c.chunk_of-at.ensures.front in
     let back = subst (λ bs. IsBeforeAll g.K.Ord.cmp k (joined (drop (i + 1) bs))) c.deref.ensures.value c.chunk_of-at.ensures.back in
     let made : ws ≡ put g.K.Ord.cmp k c.args.value (get_or cs i []) = c.in_ok-entries.ensures ∙ ap (put g.K.Ord.cmp k c.args.value) part in
-    let whole = put_in_chunk g.K.Ord.cmp k c.args.value cs new i ws c.in_ok-self-inside.ensures.ok made front back in
-    (c.in_ok-self-inside.ensures.count, map_put g.K.Ord.cmp g.met.K.Ord.total k c.args.value cs new i ws c.self.invariant.1 c.in_ok-self-inside.ensures.ok whole)
+    let whole = put_in_chunk g.K.Ord.cmp k c.args.value cs new i ws c.in_ok-self-inside.ensures.ok made front back in (
+      c.in_ok-self-inside.ensures.count,
+      map_put g.K.Ord.cmp g.met.K.Ord.total k c.args.value cs new i ws c.self.invariant.1 c.in_ok-self-inside.ensures.ok
+          whole,
+    )
 
 pub returns-clause-ok : goal.returns-clause-ok
 returns-clause-ok g c =

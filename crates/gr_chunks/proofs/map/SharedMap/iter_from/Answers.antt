@@ -1,5 +1,5 @@
 -- What is not below the key stands in the chunk of the key and behind it.
-use Rattle.std.proofs.Common.{◌≡◌, ◌+◌, ◌-◌, [], ◌++◌, length, get_or, take, drop, ap, sym, ◌∙◌, subst}
+use Rattle.std.proofs.Common.{◌≡◌, ◌+◌, ◌-◌, [], ◌++◌, get_or, take, drop, ap, sym, ◌∙◌, subst}
 use Rattle.std.specs.Map.Iter.{deref_pair}
 use Rattle.std.proofs.lemmas.List.{take_rest}
 use Rattle.gr_chunks.specs.Chunks.{joined}
@@ -29,7 +29,7 @@ returns-clause-entries g c =
     let back = subst (λ bs. IsBeforeAll g.K.Ord.cmp k (joined (drop (i + 1) bs))) c.deref.ensures.value c.chunk_of-at.ensures.back in
     let behind : c.chunks_behind.result.now ≡ drop (i + 1) cs = c.chunks_behind.ensures ∙ ap (λ bs. drop (i + 1) bs) c.deref-3.ensures.value in
     let own : drop m first ≡ from_key g.K.Ord.cmp k (get_or cs i []) =
-      sym (from_place g.K.Ord.cmp g.met.K.Ord.total k first m rising c.place-from.ensures.front c.place-from.ensures.back) ∙ ap (from_key g.K.Ord.cmp k) part in
+    sym (from_place g.K.Ord.cmp g.met.K.Ord.total k first m rising c.place-from.ensures.front c.place-from.ensures.back) ∙ ap (from_key g.K.Ord.cmp k) part in
     let seen : joined cs ≡ c.args.self.now = c.self.view_is in
     c.new-2.ensures ∙ c.new.ensures ∙ (λ j. (take_rest first m ∙ own) j ++ joined (behind j))
     ∙ from_in_chunk g.K.Ord.cmp k cs i front back ∙ ap (from_key g.K.Ord.cmp k) seen

@@ -1,6 +1,5 @@
 -- The chunk of the key is another.
 use Rattle.std.proofs.Common.{◌≡◌, ◌+◌, [], get_or, take, drop, ap, sym, ◌∙◌, subst}
-
 use Rattle.gr_chunks.specs.Chunks.{joined}
 use Rattle.gr_chunks.specs.Entries.{without, Rises, IsAfterAll, IsBeforeAll}
 use Rattle.gr_chunks.proofs.Mapping.{part_rises, without_in_chunk, map_without}
