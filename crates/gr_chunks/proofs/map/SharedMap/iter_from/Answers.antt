@@ -1,5 +1,5 @@
 -- What is not below the key stands in the chunk of the key and behind it.
-use Rattle.std.proofs.Common.{◌≡◌, ◌+◌, ◌-◌, [], ◌++◌, get_or, take, drop, ap, sym, ◌∙◌, subst}
+use Rattle.std.proofs.Common.{◌≡◌, ◌+◌, [], ◌++◌, get_or, take, drop, ap, sym, ◌∙◌, subst}
 use Rattle.std.specs.Map.Iter.{deref_pair}
 use Rattle.std.proofs.lemmas.List.{take_rest}
 use Rattle.gr_chunks.specs.Chunks.{joined}
