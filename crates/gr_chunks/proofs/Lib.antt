@@ -1,0 +1,6 @@
+-- The lemmas of this crate.
+pub mod Standing
+pub mod Joining
+pub mod Mapping
+pub mod Listing
+pub mod Stepping

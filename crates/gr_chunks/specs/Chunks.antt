@@ -1,0 +1,33 @@
+-- Lists in chunks.
+use Rattle.std.specs.Prelude.{◌≡◌, ℕ, ◌+◌, ◌<◌, IsTrue, List, ◌++◌, length, take, drop}
+use Rattle.std.specs.List.{flat_map, AllByRecursion}
+use Rattle.std.specs.FinMap.{is_sorted}
+use Rattle.std.specs.declared.cmp.Ordering.{Ordering}
+
+-- the items of all chunks, one chunk after another
+abbrev pub joined : {X : Type 0} → List (List X) → List X
+joined cs = flat_map (λ c. c) cs
+
+-- no chunk is empty
+abbrev pub AreFilled : {X : Type 0} → List (List X) → Type 0
+AreFilled cs = AllByRecursion (λ c. 0 < length c) cs
+
+-- each chunk has 64 items
+abbrev pub AreFull : {X : Type 0} → List (List X) → Type 0
+AreFull cs = AllByRecursion (λ c. length c ≡ 64) cs
+
+-- the chunks of a map: none is empty, and the keys rise from the first to the last
+pub record IsMap {K X : Type 0} (R : K → K → Ordering) (cs : List (List (K × X))) : Type 0 where
+  pub filled : AreFilled cs
+  pub ordered : IsTrue (is_sorted R (joined cs))
+
+-- full chunks and what stands behind them
+pub record IsList {X : Type 0} (full : List (List X)) (last : List X) (len : ℕ) : Type 0 where
+  pub even : AreFull full
+  pub short : length last < 64
+  pub count : len ≡ length (joined full ++ last)
+
+-- the items ws in place of those of the chunk at i; where i is the number of chunks, behind all
+pub record Replaces {X : Type 0} (old new : List (List X)) (i : ℕ) (ws : List X) : Type 0 where
+  pub parts : joined new ≡ joined (take i old) ++ (ws ++ joined (drop (i + 1) old))
+  pub filled : AreFilled old → AreFilled new

@@ -1,0 +1,46 @@
+//! Items that several collections share.
+ghost use Rattle.std.specs.Prelude.{◌≡◌, IfOk};
+
+use crate::share::Share;
+use std::alloc::{AllocError, Global};
+use std::marker::Model;
+use std::sync::Arc;
+
+/// Items that no longer change. A copy shares them.
+#[derive(Drop)]
+pub(crate) struct Chunk<T> {
+    items: Arc<Vec<T>, Global>,
+}
+
+impl<T> Model for Chunk<T> {
+    ghost use Rattle.std.specs.Prelude.{List};
+    ghost use Rattle.std.specs.Arc.{arc_value};
+
+    ghost Value = { List T };
+
+    ghost view = { λ a. (arc_value a.items).items };
+}
+
+impl<T> Chunk<T> {
+    pub(crate) fn new(alloc: Global, items: Vec<T>) -> Result<Chunk<T>, AllocError>
+    where
+        T: Drop,
+        ensures { IfOk result (λ chunk. chunk ≡ items.items) }
+    {
+        let items = Arc::new(alloc, items)?;
+        Ok(Chunk { items })
+    }
+
+    pub(crate) fn items(&self) -> &[T]
+        ensures { result.now ≡ self.now }
+    {
+        self.items.as_slice()
+    }
+}
+
+impl<T: Drop> Share for Chunk<T> {
+    fn share(&self) -> Result<Chunk<T>, AllocError> {
+        let items = Arc::try_clone(&self.items)?;
+        Ok(Chunk { items })
+    }
+}

@@ -1,0 +1,16 @@
+//! Lists and sorted maps in chunks that copies share, so that a changed copy costs a chunk and not all items.
+#![tactic(auto)]
+
+mod chunk;
+mod chunks;
+mod copies;
+mod entries;
+mod items;
+mod list;
+mod map;
+mod share;
+
+pub use items::{Entries, Items, ListItems};
+pub use list::SharedList;
+pub use map::SharedMap;
+pub use share::{Same, Share};
