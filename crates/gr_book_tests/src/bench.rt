@@ -4,7 +4,7 @@ ghost use Rattle.std.specs.Prelude.{IfOk};
 ghost use Rattle.gr_verdict.specs.Found.{IsFound};
 
 use crate::calls::{planned, view_of};
-use gr_book::{Book, Entry, Event, Kind, Line, Reply, Told, View};
+use gr_book::{Book, Entry, Event, EntryKind, Line, Reply, Told, View};
 use gr_check::Planned;
 use gr_compile::{Built, Job, build};
 use gr_rename::plan_rename;
@@ -274,7 +274,7 @@ pub(crate) fn does(rt: &(impl Abort + AllocGlobal), bench: &mut Bench, act: Act,
 }
 
 /// The kind of an entry, its basis, and how its event was answered.
-pub(crate) type Shown = (Kind, u64, Told);
+pub(crate) type Shown = (EntryKind, u64, Told);
 
 fn is_shown(entry: &Entry, shown: &Shown) -> bool {
     entry.line.kind == shown.0 && entry.line.basis == shown.1 && entry.line.out == shown.2

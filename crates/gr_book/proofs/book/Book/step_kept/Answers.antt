@@ -1,35 +1,85 @@
 -- The answer with its entry, and a copy of it, is a step, what the journal bounds stays within it, and the content stays its replay.
-use Rattle.std.proofs.Common.{sym, subst, vec_capacity}
+use Rattle.std.proofs.Common.{◌≡◌, ◌+◌, ◌≤◌, ◌↔◌, IsTrue, length, sym, ap, subst, arith, vec_capacity, None}
 use Rattle.gr_book.specs.Machine.{Machine, with_journal}
 use Rattle.gr_book.specs.Kept.{IsEntryIf, StepKept}
-use Rattle.gr_book.specs.Step.{HasRoom}
-use Rattle.gr_book.proofs.Kept.{step_kept}
+use Rattle.gr_book.specs.Step.{HasRoom, entries_due}
+use Rattle.gr_book.specs.declared.event.Event.{Event}
+use Rattle.gr_book.specs.declared.event.Reply.{Reply}
+use Rattle.gr_book.proofs.Asked.{place_is, room_is}
+use Rattle.gr_book.proofs.Kept.{full_kept, lacking_kept, step_kept}
 use Rattle.gr_book.proofs.Legal.{holds_on, holds_still}
 use Rattle.gr_book.proofs.book.Book.step_kept.Goals as goal
 
 pub invariant_of-self-in-Err : goal.invariant_of-self-in-Err
-invariant_of-self-in-Err c =
+invariant_of-self-in-Err g c =
     holds_still c.self.inside.content c.self.inside.journal.items c.make_room.new.journal.items (vec_capacity c.self.inside.journal)
     (vec_capacity c.make_room.new.journal)
     c.make_room.ensures.items c.make_room.ensures.grows c.self.invariant
 
+pub answer-requires-place : goal.answer-requires-place
+answer-requires-place g c =
+    let event : Event = g.Q.Question.event c.args.question in
+    let within : length c.make_room.new.journal.items + length c.self.inside.content.out.jobs ≤ vec_capacity c.make_room.new.journal =
+    omega (arith, ap length c.make_room.ensures.items, c.make_room.ensures.grows, c.self.invariant.4) in
+    (place_is (vec_capacity c.make_room.new.journal) (length c.make_room.new.journal.items + length c.self.inside.content.out.jobs)
+    c.self.inside.content.out event c.asked.result c.asked.ensures.kind c.asked.ensures.out within).1
+    c.in-Ok.ensures.ok
+
 pub invariant_of-self : goal.invariant_of-self
-invariant_of-self c =
-    let room : HasRoom (with_journal c.self.inside.content c.self.inside.journal.items) c.args.event =
-    subst (λ (x : Machine). HasRoom x c.args.event) (sym c.self.view_is) (c.has_room.ensures.0 c.if-not-has_room.false) in
+invariant_of-self g c =
+    let m : Machine = with_journal c.self.inside.content c.self.inside.journal.items in
+    let event : Event = g.Q.Question.event c.args.question in
+    let tested : IsTrue c.has_room.result ↔ (entries_due m + c.entries_needed.result ≤ m.limits.journal) =
+    subst (λ (x : Machine). IsTrue c.has_room.result ↔ (entries_due x + c.entries_needed.result ≤ x.limits.journal)) (sym c.self.view_is) c.has_room.ensures in
+    let fits : HasRoom m event ↔ (entries_due m + c.entries_needed.result ≤ m.limits.journal) =
+    room_is m event c.asked.result c.entries_needed.result c.asked.ensures.kind c.asked.ensures.out c.self.invariant.3 c.entries_needed.ensures in
+    let within : length c.make_room.new.journal.items + length c.self.inside.content.out.jobs ≤ vec_capacity c.make_room.new.journal =
+    omega (arith, ap length c.make_room.ensures.items, c.make_room.ensures.grows, c.self.invariant.4) in
+    let place = (place_is (vec_capacity c.make_room.new.journal) (length c.make_room.new.journal.items + length c.self.inside.content.out.jobs)
+    c.self.inside.content.out event c.asked.result c.asked.ensures.kind c.asked.ensures.out within).1
+    c.in-Ok.ensures.ok in
     let on = holds_on c.self.inside.content c.answer.new.content c.self.inside.journal.items c.make_room.new.journal.items c.answer.new.journal.items
-    (vec_capacity c.self.inside.journal) (vec_capacity c.make_room.new.journal) (vec_capacity c.answer.new.journal) c.args.event c.answer.result.0
-    c.self.invariant c.make_room.ensures.items c.make_room.ensures.grows c.answer.ensures.capacity room c.in-Ok.ensures.ok c.answer.ensures.keeps in
+    (vec_capacity c.self.inside.journal) (vec_capacity c.make_room.new.journal) (vec_capacity c.answer.new.journal) event
+    (g.Q.Question.reply c.answer.result.0) c.self.invariant c.make_room.ensures.items c.make_room.ensures.grows c.answer.ensures.capacity
+    (fits.1 (tested.0 c.if-not-has_room.false)) place c.answer.ensures.keeps in
     on.0
 
 pub returns-in-Ok : goal.returns-in-Ok
-returns-in-Ok c =
-    let room : HasRoom (with_journal c.self.inside.content c.self.inside.journal.items) c.args.event =
-    subst (λ (x : Machine). HasRoom x c.args.event) (sym c.self.view_is) (c.has_room.ensures.0 c.if-not-has_room.false) in
-    let on = holds_on c.self.inside.content c.answer.new.content c.self.inside.journal.items c.make_room.new.journal.items c.answer.new.journal.items
-    (vec_capacity c.self.inside.journal) (vec_capacity c.make_room.new.journal) (vec_capacity c.answer.new.journal) c.args.event c.answer.result.0
-    c.self.invariant c.make_room.ensures.items c.make_room.ensures.grows c.answer.ensures.capacity room c.in-Ok.ensures.ok c.answer.ensures.keeps in
+returns-in-Ok g c =
     let m : Machine = with_journal c.self.inside.content c.self.inside.journal.items in
-    subst (λ (x : Machine). StepKept x c.args.event c.answer.result.0 c.answer.result.1 (with_journal c.answer.new.content c.answer.new.journal.items))
-    c.self.view_is
-    (step_kept m c.args.event c.answer.result.0 c.answer.result.1 (with_journal c.answer.new.content c.answer.new.journal.items) on.1 c.answer.ensures.copy)
+    let event : Event = g.Q.Question.event c.args.question in
+    let tested : IsTrue c.has_room.result ↔ (entries_due m + c.entries_needed.result ≤ m.limits.journal) =
+    subst (λ (x : Machine). IsTrue c.has_room.result ↔ (entries_due x + c.entries_needed.result ≤ x.limits.journal)) (sym c.self.view_is) c.has_room.ensures in
+    let fits : HasRoom m event ↔ (entries_due m + c.entries_needed.result ≤ m.limits.journal) =
+    room_is m event c.asked.result c.entries_needed.result c.asked.ensures.kind c.asked.ensures.out c.self.invariant.3 c.entries_needed.ensures in
+    let within : length c.make_room.new.journal.items + length c.self.inside.content.out.jobs ≤ vec_capacity c.make_room.new.journal =
+    omega (arith, ap length c.make_room.ensures.items, c.make_room.ensures.grows, c.self.invariant.4) in
+    let place = (place_is (vec_capacity c.make_room.new.journal) (length c.make_room.new.journal.items + length c.self.inside.content.out.jobs)
+    c.self.inside.content.out event c.asked.result c.asked.ensures.kind c.asked.ensures.out within).1
+    c.in-Ok.ensures.ok in
+    let on = holds_on c.self.inside.content c.answer.new.content c.self.inside.journal.items c.make_room.new.journal.items c.answer.new.journal.items
+    (vec_capacity c.self.inside.journal) (vec_capacity c.make_room.new.journal) (vec_capacity c.answer.new.journal) event
+    (g.Q.Question.reply c.answer.result.0) c.self.invariant c.make_room.ensures.items c.make_room.ensures.grows c.answer.ensures.capacity
+    (fits.1 (tested.0 c.if-not-has_room.false)) place c.answer.ensures.keeps in
+    subst (λ (x : Machine). StepKept x event (g.Q.Question.reply c.answer.result.0) c.answer.result.1
+    (with_journal c.answer.new.content c.answer.new.journal.items)) c.self.view_is
+    (step_kept m event (g.Q.Question.reply c.answer.result.0) c.answer.result.1 (with_journal c.answer.new.content c.answer.new.journal.items) on.1
+    c.answer.ensures.copy)
+
+pub returns-in-Err : goal.returns-in-Err
+returns-in-Err g c =
+    let event : Event = g.Q.Question.event c.args.question in
+    subst (λ (x : Machine). StepKept x event (g.Q.Question.reply c.refuse-in-Err.result) None x) c.self.view_is
+    (lacking_kept (with_journal c.self.inside.content c.self.inside.journal.items) event (g.Q.Question.reply c.refuse-in-Err.result) c.refuse-in-Err.ensures
+    (λ brings. c.in-Err.ensures.err (c.asked.ensures.out.1 brings)))
+
+pub returns-if-not-has_room : goal.returns-if-not-has_room
+returns-if-not-has_room g c =
+    let m : Machine = with_journal c.self.inside.content c.self.inside.journal.items in
+    let event : Event = g.Q.Question.event c.args.question in
+    let tested : IsTrue c.has_room.result ↔ (entries_due m + c.entries_needed.result ≤ m.limits.journal) =
+    subst (λ (x : Machine). IsTrue c.has_room.result ↔ (entries_due x + c.entries_needed.result ≤ x.limits.journal)) (sym c.self.view_is) c.has_room.ensures in
+    let fits : HasRoom m event ↔ (entries_due m + c.entries_needed.result ≤ m.limits.journal) =
+    room_is m event c.asked.result c.entries_needed.result c.asked.ensures.kind c.asked.ensures.out c.self.invariant.3 c.entries_needed.ensures in
+    subst (λ (x : Machine). StepKept x event (g.Q.Question.reply c.refuse.result) None x) c.self.view_is
+    (full_kept m event (g.Q.Question.reply c.refuse.result) c.refuse.ensures (λ room. c.if-not-has_room.true (tested.1 (fits.0 room))))
