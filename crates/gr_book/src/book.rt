@@ -4,7 +4,6 @@ ghost use Rattle.gr_verdict.specs.Found.{KnowsVerdicts};
 ghost use Rattle.gr_book.specs.Machine.{HasNumbers, Machine, content, opening};
 ghost use Rattle.gr_book.specs.Kept.{IsEntryIf, StepKept};
 ghost use Rattle.gr_book.specs.Run.{IsReplay};
-ghost use Rattle.gr_book.specs.Asked.{entries_needed};
 ghost use Rattle.gr_book.specs.Journal.{basis_of, kind_of};
 ghost use Rattle.gr_book.specs.Step.{HasPlace, Keeps, Step, entries_due};
 
@@ -59,11 +58,10 @@ impl Model for Book {
 
 /// Makes room for the entry of an event, and for those of the Jobs out then. For a Job that is out the room is there.
 fn make_room(journal: &mut Vec<Entry>, content: &Content, asked: &Asked) -> Result<(), AllocError>
-    requires jobs { length content.now.out.jobs ≤ 1000000 }
-    requires due { length journal.old.items + length content.now.out.jobs ≤ vec_capacity journal.old }
+    requires { length content.now.out.jobs ≤ 1000000 }
     ensures items { journal.new.items ≡ journal.old.items }
     ensures grows { vec_capacity journal.old ≤ vec_capacity journal.new }
-    ensures ok { OnOk result (length journal.new.items + length content.now.out.jobs + entries_needed asked.now ≤ vec_capacity journal.new) }
+    ensures ok { OnOk result ((IsTrue asked.now.is_out → ⊥) → length journal.new.items + length content.now.out.jobs + 2 ≤ vec_capacity journal.new) }
     ensures err { OnErr result (IsTrue asked.now.is_out → ⊥) }
 {
     if asked.is_out {

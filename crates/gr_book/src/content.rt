@@ -128,7 +128,11 @@ impl Content {
     }
 
     /// Besides the number of the new state it gives the edits, for the entry.
-    pub(crate) fn commit(&mut self, basis: u64, change: MadeChange) -> Result<(u64, MadeEdits), Refusal>
+    pub(crate) fn commit(
+        &mut self,
+        basis: u64,
+        change: MadeChange,
+    ) -> Result<(u64, MadeEdits), Refusal>
         requires { HasNumbers self.old }
         ensures answer { AnswersOrLacks self.old (Commit basis change) (committed result) self.new }
         ensures edits { IfOk result (λ made. made.1 ≡ change.edits) }

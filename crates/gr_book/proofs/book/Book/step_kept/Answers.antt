@@ -5,7 +5,7 @@ use Rattle.gr_book.specs.Kept.{IsEntryIf, StepKept}
 use Rattle.gr_book.specs.Step.{HasRoom, entries_due}
 use Rattle.gr_book.specs.declared.event.Event.{Event}
 use Rattle.gr_book.specs.declared.event.Reply.{Reply}
-use Rattle.gr_book.proofs.Asked.{place_is, room_is}
+use Rattle.gr_book.proofs.Asked.{place_now, room_is}
 use Rattle.gr_book.proofs.Kept.{full_kept, lacking_kept, step_kept}
 use Rattle.gr_book.proofs.Legal.{holds_on, holds_still}
 use Rattle.gr_book.proofs.book.Book.step_kept.Goals as goal
@@ -19,11 +19,8 @@ invariant_of-self-in-Err g c =
 pub answer-requires-place : goal.answer-requires-place
 answer-requires-place g c =
     let event : Event = g.Q.Question.event c.args.question in
-    let within : length c.make_room.new.journal.items + length c.self.inside.content.out.jobs ≤ vec_capacity c.make_room.new.journal =
-    omega (arith, ap length c.make_room.ensures.items, c.make_room.ensures.grows, c.self.invariant.4) in
-    (place_is (vec_capacity c.make_room.new.journal) (length c.make_room.new.journal.items + length c.self.inside.content.out.jobs)
-    c.self.inside.content.out event c.asked.result c.asked.ensures.kind c.asked.ensures.out within).1
-    c.in-Ok.ensures.ok
+    place_now (vec_capacity c.make_room.new.journal) (length c.make_room.new.journal.items + length c.self.inside.content.out.jobs)
+    c.self.inside.content.out event c.asked.result.is_out c.asked.ensures.out c.in-Ok.ensures.ok
 
 pub invariant_of-self : goal.invariant_of-self
 invariant_of-self g c =
@@ -33,11 +30,8 @@ invariant_of-self g c =
     subst (λ (x : Machine). IsTrue c.has_room.result ↔ (entries_due x + c.entries_needed.result ≤ x.limits.journal)) (sym c.self.view_is) c.has_room.ensures in
     let fits : HasRoom m event ↔ (entries_due m + c.entries_needed.result ≤ m.limits.journal) =
     room_is m event c.asked.result c.entries_needed.result c.asked.ensures.kind c.asked.ensures.out c.self.invariant.3 c.entries_needed.ensures in
-    let within : length c.make_room.new.journal.items + length c.self.inside.content.out.jobs ≤ vec_capacity c.make_room.new.journal =
-    omega (arith, ap length c.make_room.ensures.items, c.make_room.ensures.grows, c.self.invariant.4) in
-    let place = (place_is (vec_capacity c.make_room.new.journal) (length c.make_room.new.journal.items + length c.self.inside.content.out.jobs)
-    c.self.inside.content.out event c.asked.result c.asked.ensures.kind c.asked.ensures.out within).1
-    c.in-Ok.ensures.ok in
+    let place = place_now (vec_capacity c.make_room.new.journal) (length c.make_room.new.journal.items + length c.self.inside.content.out.jobs)
+    c.self.inside.content.out event c.asked.result.is_out c.asked.ensures.out c.in-Ok.ensures.ok in
     let on = holds_on c.self.inside.content c.answer.new.content c.self.inside.journal.items c.make_room.new.journal.items c.answer.new.journal.items
     (vec_capacity c.self.inside.journal) (vec_capacity c.make_room.new.journal) (vec_capacity c.answer.new.journal) event
     (g.Q.Question.reply c.answer.result.0) c.self.invariant c.make_room.ensures.items c.make_room.ensures.grows c.answer.ensures.capacity
@@ -52,11 +46,8 @@ returns-in-Ok g c =
     subst (λ (x : Machine). IsTrue c.has_room.result ↔ (entries_due x + c.entries_needed.result ≤ x.limits.journal)) (sym c.self.view_is) c.has_room.ensures in
     let fits : HasRoom m event ↔ (entries_due m + c.entries_needed.result ≤ m.limits.journal) =
     room_is m event c.asked.result c.entries_needed.result c.asked.ensures.kind c.asked.ensures.out c.self.invariant.3 c.entries_needed.ensures in
-    let within : length c.make_room.new.journal.items + length c.self.inside.content.out.jobs ≤ vec_capacity c.make_room.new.journal =
-    omega (arith, ap length c.make_room.ensures.items, c.make_room.ensures.grows, c.self.invariant.4) in
-    let place = (place_is (vec_capacity c.make_room.new.journal) (length c.make_room.new.journal.items + length c.self.inside.content.out.jobs)
-    c.self.inside.content.out event c.asked.result c.asked.ensures.kind c.asked.ensures.out within).1
-    c.in-Ok.ensures.ok in
+    let place = place_now (vec_capacity c.make_room.new.journal) (length c.make_room.new.journal.items + length c.self.inside.content.out.jobs)
+    c.self.inside.content.out event c.asked.result.is_out c.asked.ensures.out c.in-Ok.ensures.ok in
     let on = holds_on c.self.inside.content c.answer.new.content c.self.inside.journal.items c.make_room.new.journal.items c.answer.new.journal.items
     (vec_capacity c.self.inside.journal) (vec_capacity c.make_room.new.journal) (vec_capacity c.answer.new.journal) event
     (g.Q.Question.reply c.answer.result.0) c.self.invariant c.make_room.ensures.items c.make_room.ensures.grows c.answer.ensures.capacity
