@@ -1,5 +1,5 @@
 -- A step adds the entry of its event and its reply, or changes nothing.
-use Rattle.std.proofs.Common.{◌≡◌, ◌∷◌, [], ◌++◌, List, Option, Some, None, ◌⊎◌, inl, inr, refl, sym, ap, subst, ◌∙◌}
+use Rattle.std.proofs.Common.{◌≡◌, ◌∷◌, [], ◌++◌, Option, Some, None, inl, inr, refl, sym, ap, subst, ◌∙◌}
 use Rattle.std.proofs.lemmas.Option.{none-some, same_Some}
 use Rattle.gr_text.specs.declared.refusal.Refusal.{Refusal}
 use Rattle.gr_text.specs.declared.refusal.Refusal.TheVariants.{Memory, JournalFull}
@@ -10,9 +10,9 @@ use Rattle.gr_book.specs.declared.entry.Told.{Told}
 use Rattle.gr_book.specs.declared.event.Event.{Event}
 use Rattle.gr_book.specs.declared.event.Event.TheVariants.{Look, Log, Commit, Undo, Redo, Take, Deliver, GiveBack}
 use Rattle.gr_book.specs.declared.event.Reply.{Reply}
-use Rattle.gr_book.specs.declared.event.Reply.TheVariants.{Looked, Logged, Done, Taken, Refused, Back}
-use Rattle.gr_book.specs.Journal.{Records, entry_of, told_of}
-use Rattle.gr_book.specs.Kept.{GainsEntry, IsEntryIf, IsEntryOf, IsTurnedAway, StepKept}
+use Rattle.gr_book.specs.declared.event.Reply.TheVariants.{Refused, Back}
+use Rattle.gr_book.specs.Journal.{entry_of, told_of}
+use Rattle.gr_book.specs.Kept.{IsEntryIf, IsTurnedAway, StepKept}
 use Rattle.gr_book.specs.Machine.{Machine}
 use Rattle.gr_book.specs.Step.{BringsJob, BringsOut, HasRoom, IsBackOf, Step, refused}
 use Rattle.gr_book.proofs.Stepped.{full_step, lacking_step}

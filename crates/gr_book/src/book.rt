@@ -1,5 +1,5 @@
 //! The book: the states of a workspace with the Jobs that are out, and the journal of the events that move among them.
-ghost use Rattle.std.specs.Prelude.{◌≡◌, ℕ, ◌+◌, ◌≤◌, ◌↔◌, IfOk, IsTrue, OnErr, OnOk, length, vec_capacity};
+ghost use Rattle.std.specs.Prelude.{◌≡◌, ◌+◌, ◌≤◌, ◌↔◌, IfOk, IsTrue, OnErr, OnOk, length, vec_capacity};
 ghost use Rattle.gr_verdict.specs.Found.{KnowsVerdicts};
 ghost use Rattle.gr_book.specs.Machine.{HasNumbers, Machine, content, opening};
 ghost use Rattle.gr_book.specs.Kept.{IsEntryIf, StepKept};

@@ -1,7 +1,6 @@
 -- What a call leaves at its seat.
-use Rattle.std.proofs.Common.{◌≡◌, ℕ, Bool, true, List, [], ◌∷◌, ◌++◌, ◌⊎◌, inl, inr, Option, Some, None, Result, Ok, Err, refl, sym, ap, subst, ◌∙◌}
-use Rattle.std.proofs.Common.{⊎_elim, append_assoc}
-use Rattle.std.specs.Prelude.{All}
+use Rattle.std.proofs.Common.{◌≡◌, ℕ, true, List, [], ◌∷◌, ◌++◌, ◌⊎◌, inl, inr, Option, Some, None, Result, Ok, Err, refl, sym, ap, subst, ◌∙◌}
+use Rattle.std.proofs.Common.{⊎_elim}
 use Rattle.std.proofs.lemmas.List.{append-nil}
 use Rattle.std.proofs.lemmas.List.Elements.{All-cons, All-nil}
 use Rattle.std.proofs.lemmas.Option.{none-some}
@@ -12,14 +11,13 @@ use Rattle.gr_book.specs.declared.entry.Told.{Told}
 use Rattle.gr_book.specs.declared.event.Event.{Event}
 use Rattle.gr_book.specs.declared.event.Event.TheVariants.{Look}
 use Rattle.gr_book.specs.declared.event.Reply.{Reply}
-use Rattle.gr_book.specs.declared.event.Reply.TheVariants.{Looked, Logged, Done, Taken, Refused, Back}
+use Rattle.gr_book.specs.declared.event.Reply.TheVariants.{Looked, Refused}
 use Rattle.gr_book.specs.declared.view.View.{View}
 use Rattle.gr_book.specs.Journal.{kind_of, told_of}
-use Rattle.gr_book.specs.Kept.{IsTurnedAway}
 use Rattle.gr_book.specs.Machine.{Machine}
 use Rattle.gr_book.specs.Step.{Step, looked}
 use Rattle.gr_pool.specs.declared.receipt.Receipt.{Receipt}
-use Rattle.gr_pool.specs.Call.{Calls, Gains, IsBuilt, IsLack, IsLook, IsReceiptOf, IsStepOf, IsWork, Looks, LooksUntilBuilt, StepsAt, is_work}
+use Rattle.gr_pool.specs.Call.{Calls, Gains, IsBuilt, IsLook, IsReceiptOf, IsStepOf, IsWork, Looks, LooksUntilBuilt, StepsAt, is_work}
 use Rattle.gr_pool.specs.Working.{Replies}
 use Rattle.gr_pool.proofs.GainsLaws.{gains_more}
 

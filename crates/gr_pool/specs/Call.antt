@@ -5,7 +5,6 @@ use Rattle.gr_text.specs.declared.refusal.Refusal.TheVariants.{Memory, JournalFu
 use Rattle.gr_text.specs.Packages.{package_paths}
 use Rattle.gr_compile.specs.declared.unit.Unit.{Unit as PackageUnit}
 use Rattle.gr_keep.specs.Finished.{Table}
-use Rattle.gr_book.specs.declared.entry.Entry.{Entry}
 use Rattle.gr_book.specs.declared.entry.EntryKind.{EntryKind}
 use Rattle.gr_book.specs.declared.entry.EntryKind.TheVariants as kind
 use Rattle.gr_book.specs.declared.event.Event.{Event}

@@ -1,8 +1,9 @@
 -- The answer with its entry, and a copy of it, is a step, what the journal bounds stays within it, and the content stays its replay.
-use Rattle.std.proofs.Common.{◌≡◌, ◌+◌, ◌≤◌, ◌↔◌, IsTrue, length, sym, ap, subst, arith, vec_capacity, None}
+use Rattle.std.proofs.Common.{◌+◌, ◌≤◌, ◌↔◌, IsTrue, List, length, sym, subst, vec_capacity, None}
 use Rattle.gr_book.specs.Machine.{Machine, with_journal}
-use Rattle.gr_book.specs.Kept.{IsEntryIf, StepKept}
+use Rattle.gr_book.specs.Kept.{StepKept}
 use Rattle.gr_book.specs.Step.{HasRoom, entries_due}
+use Rattle.gr_book.specs.declared.entry.Entry.{Entry}
 use Rattle.gr_book.specs.declared.event.Event.{Event}
 use Rattle.gr_book.specs.declared.event.Reply.{Reply}
 use Rattle.gr_book.proofs.Asked.{place_now, room_is}
@@ -59,10 +60,12 @@ returns-in-Ok g c =
 
 pub returns-in-Err : goal.returns-in-Err
 returns-in-Err g c =
+    let m : Machine = with_journal c.self.inside.content c.self.inside.journal.items in
     let event : Event = g.Q.Question.event c.args.question in
-    subst (λ (x : Machine). StepKept x event (g.Q.Question.reply c.refuse-in-Err.result) None x) c.self.view_is
-    (lacking_kept (with_journal c.self.inside.content c.self.inside.journal.items) event (g.Q.Question.reply c.refuse-in-Err.result) c.refuse-in-Err.ensures
-    (λ brings. c.in-Err.ensures.err (c.asked.ensures.out.1 brings)))
+    let reply : Reply = g.Q.Question.reply c.refuse-in-Err.result in
+    let lacks = lacking_kept m event reply c.refuse-in-Err.ensures (λ brings. c.in-Err.ensures.err (c.asked.ensures.out.1 brings)) in
+    subst (λ (x : Machine). StepKept x event reply None (with_journal c.self.inside.content c.make_room.new.journal.items)) c.self.view_is
+    (subst (λ (j : List Entry). StepKept m event reply None (with_journal c.self.inside.content j)) (sym c.make_room.ensures.items) lacks)
 
 pub returns-if-not-has_room : goal.returns-if-not-has_room
 returns-if-not-has_room g c =
