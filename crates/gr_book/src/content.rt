@@ -228,15 +228,14 @@ impl Content {
         Ok(job)
     }
 
-    /// Takes in a delivery for a Job that is out.
+    /// Takes in a delivery, if its Job is out.
     fn enter(&mut self, job: Job, built: Built) -> Handed
-        requires { IsOut self.old.out job }
         ensures { AnswersOrLacks self.old (Deliver job built) (handed result) self.new }
     {
         match outcome_of(self.alloc, &self.current, &job, &built) {
             Err(_) => Handed::Back(Refusal::Memory, job, Some(built)),
             Ok(outcome) => match self.out.take_back(job) {
-                Err(_job) => unreachable!(),
+                Err(job) => Handed::Back(Refusal::NoJob, job, Some(built)),
                 Ok(record) => {
                     drop(record);
                     drop(built);
@@ -246,6 +245,7 @@ impl Content {
         }
     }
 
+    /// A Job that is not out comes back before anything is made.
     pub(crate) fn deliver(&mut self, job: Job, built: Built) -> Handed
         ensures { AnswersOrLacks self.old (Deliver job built) (handed result) self.new }
     {

@@ -23,5 +23,5 @@ returns-in-Ok-take_back c =
     let new : Content = record old { current = c.take_in.new.current; out = c.take_back.new.self } in
     subst (λ (x : Content). AnswersOrLacks x (Deliver job c.args.built) (handed c.take_in.result) new) c.self.view_is
     (settled old job c.args.built c.take_back.new.self c.in-Ok-take_back.ensures.1 c.in-Ok.outcome (handed c.take_in.result) c.take_in.new.current
-        c.in-Ok.ensures
+    c.in-Ok.ensures
     c.take_in.ensures)
