@@ -50,7 +50,7 @@ impl Question for Looking {
         Asked::alone(EntryKind::Look, content.number())
     }
 
-    fn answer(self, content: &mut Content, _journal: &[Entry]) -> Answered<Result<View, Refusal>> {
+    fn ask(self, content: &mut Content, _journal: &[Entry]) -> Answered<Result<View, Refusal>> {
         match content.look() {
             Ok(view) => {
                 let out = Some(Told::Done(view.snapshot.number()));
@@ -83,7 +83,7 @@ impl Question for Logging {
         Asked::alone(EntryKind::Log, content.number())
     }
 
-    fn answer(
+    fn ask(
         self,
         content: &mut Content,
         journal: &[Entry],
@@ -113,7 +113,7 @@ impl Question for Taking {
         Asked::alone(EntryKind::Take, content.number())
     }
 
-    fn answer(self, content: &mut Content, _journal: &[Entry]) -> Answered<Result<Job, Refusal>> {
+    fn ask(self, content: &mut Content, _journal: &[Entry]) -> Answered<Result<Job, Refusal>> {
         match content.take() {
             Ok(job) => {
                 let out = Some(Told::Done(job.number()));

@@ -91,7 +91,7 @@ fn answer<Q: Question>(
         out,
         subject,
         made,
-    } = question.answer(content, journal.as_slice());
+    } = question.ask(content, journal.as_slice());
     let Some(out) = out else {
         return (answer, None);
     };

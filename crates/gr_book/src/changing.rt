@@ -83,7 +83,7 @@ impl Question for Changing {
         }
     }
 
-    fn answer(self, content: &mut Content, _journal: &[Entry]) -> Answered<Result<u64, Refusal>> {
+    fn ask(self, content: &mut Content, _journal: &[Entry]) -> Answered<Result<u64, Refusal>> {
         match self {
             Changing::Commit(basis, change) => commit(content, basis, change),
             Changing::Undo(basis) => answered(content.undo(basis)),

@@ -76,7 +76,7 @@ impl Question for HandingIn {
         }
     }
 
-    fn answer(self, content: &mut Content, _journal: &[Entry]) -> Answered<Handed> {
+    fn ask(self, content: &mut Content, _journal: &[Entry]) -> Answered<Handed> {
         match self {
             HandingIn::Deliver(job, built) => {
                 let ticket = job.ticket();

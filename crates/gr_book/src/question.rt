@@ -52,7 +52,7 @@ pub trait Question {
 
     /// Answers it. A log is shown an entry of the journal. Room is made before anything changes, so want of memory leaves all as it
     /// was.
-    fn answer(self, content: &mut Content, journal: &[Entry]) -> Answered<Self::Answer>
+    fn ask(self, content: &mut Content, journal: &[Entry]) -> Answered<Self::Answer>
         requires { HasNumbers content.old }
         ensures answer { AnswersOrLacks content.old (event self) (reply result.answer) content.new }
         ensures shows { ShowsLine journal.now (event self) (reply result.answer) }
