@@ -8,3 +8,7 @@ abbrev pub receipts_needed : EntryKind → ℕ → ℕ
 receipts_needed Take jobs = jobs + 2
 receipts_needed GiveBack jobs = max jobs 1
 receipts_needed kind jobs = jobs + 1
+
+abbrev pub GivesBack : EntryKind → Type 0
+GivesBack GiveBack = Unit {0}
+GivesBack kind = ⊥

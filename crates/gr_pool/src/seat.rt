@@ -1,7 +1,6 @@
 //! A seat at a shared book.
 ghost use Rattle.std.specs.Prelude.{◌≡◌, ◌+◌, ◌<◌, ◌≤◌, [], length, vec_len, vec_capacity, IfOk, IsOk};
-ghost use Rattle.gr_book.specs.declared.entry.EntryKind.TheVariants.{GiveBack};
-ghost use Rattle.gr_pool.specs.Reserved.{receipts_needed};
+ghost use Rattle.gr_pool.specs.Reserved.{GivesBack, receipts_needed};
 
 use crate::opening::Opening;
 use crate::receipt::Receipt;
@@ -74,7 +73,7 @@ fn sum(one: u64, other: u64) -> Result<u64, AllocError>
 /// already.
 fn receipts_needed(jobs: u64, kind: EntryKind) -> Result<u64, AllocError>
     ensures needed { IfOk result (λ needed. (needed ≡ receipts_needed kind jobs) × (0 < needed)) }
-    ensures given_back { kind ≡ GiveBack → IsOk result }
+    ensures given_back { GivesBack kind → IsOk result }
 {
     match kind {
         EntryKind::Take => sum(jobs, 2),
@@ -95,7 +94,7 @@ pub(crate) fn reserve(
     ensures kept { vec_len receipts.old + jobs ≤ vec_capacity receipts.new }
     ensures needed { IfOk result (λ needed. (needed ≡ receipts_needed kind jobs) × (0 < needed)) }
     ensures room { IfOk result (λ needed. vec_len receipts.old + needed ≤ vec_capacity receipts.new) }
-    ensures given_back { kind ≡ GiveBack → 0 < jobs → IsOk result }
+    ensures given_back { GivesBack kind → 0 < jobs → IsOk result }
 {
     let needed = receipts_needed(jobs, kind)?;
     receipts.reserve(needed as usize)?;
