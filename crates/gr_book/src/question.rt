@@ -1,6 +1,6 @@
 //! What a book is asked: an event of one kind, with the type of the answers that it may get.
 ghost use Rattle.std.specs.Prelude.{◌≡◌, ◌↔◌, IsTrue, None, false};
-ghost use Rattle.gr_book.specs.Asked.{entries_needed};
+ghost use Rattle.gr_book.specs.Needed.{entries_needed};
 ghost use Rattle.gr_book.specs.Journal.{ShowsLine, basis_of, edits_of, kind_of, subject_after, subject_of, told_of};
 ghost use Rattle.gr_book.specs.Machine.{HasNumbers};
 ghost use Rattle.gr_book.specs.Step.{AnswersOrLacks, BringsOut, refused};

@@ -6,7 +6,7 @@ use Rattle.gr_book.specs.declared.entry.EntryKind.{EntryKind}
 use Rattle.gr_book.specs.declared.event.Event.{Event}
 use Rattle.gr_book.specs.declared.event.Event.TheVariants.{Look, Log, Commit, Undo, Redo, Take, Deliver, GiveBack}
 use Rattle.gr_book.specs.declared.question.Asked.{Asked}
-use Rattle.gr_book.specs.Asked.{entries_for, entries_needed}
+use Rattle.gr_book.specs.Needed.{entries_for, entries_needed}
 use Rattle.gr_book.specs.Journal.{kind_of}
 use Rattle.gr_book.specs.Machine.{Machine}
 use Rattle.gr_book.specs.Step.{BringsOut, HasPlace, HasRoom, entries_due}
