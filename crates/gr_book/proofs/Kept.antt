@@ -1,5 +1,5 @@
 -- A step adds the entry of its event and its reply, or changes nothing.
-use Rattle.std.proofs.Common.{◌≡◌, ◌∷◌, [], ◌++◌, List, Option, Some, None, ◌⊎◌, inl, inr, refl, sym, ap, subst, ◌∙◌}
+use Rattle.std.proofs.Common.{◌≡◌, ◌∷◌, [], ◌++◌, Option, Some, None, inl, inr, refl, sym, ap, subst, ◌∙◌}
 use Rattle.std.proofs.lemmas.Option.{none-some, same_Some}
 use Rattle.gr_text.specs.declared.refusal.Refusal.{Refusal}
 use Rattle.gr_text.specs.declared.refusal.Refusal.TheVariants.{Memory, JournalFull}
@@ -10,12 +10,12 @@ use Rattle.gr_book.specs.declared.entry.Told.{Told}
 use Rattle.gr_book.specs.declared.event.Event.{Event}
 use Rattle.gr_book.specs.declared.event.Event.TheVariants.{Look, Log, Commit, Undo, Redo, Take, Deliver, GiveBack}
 use Rattle.gr_book.specs.declared.event.Reply.{Reply}
-use Rattle.gr_book.specs.declared.event.Reply.TheVariants.{Looked, Logged, Done, Taken, Refused, Back}
-use Rattle.gr_book.specs.Journal.{Records, entry_of, told_of}
-use Rattle.gr_book.specs.Kept.{GainsEntry, IsEntryIf, IsEntryOf, IsTurnedAway, StepKept}
+use Rattle.gr_book.specs.declared.event.Reply.TheVariants.{Refused, Back}
+use Rattle.gr_book.specs.Journal.{entry_of, told_of}
+use Rattle.gr_book.specs.Kept.{IsEntryIf, IsTurnedAway, StepKept}
 use Rattle.gr_book.specs.Machine.{Machine}
-use Rattle.gr_book.specs.MayReply.{MayReply}
-use Rattle.gr_book.specs.Step.{BringsJob, IsBackOf, Step, refused}
+use Rattle.gr_book.specs.Step.{BringsJob, BringsOut, HasRoom, IsBackOf, Step, refused}
+use Rattle.gr_book.proofs.Stepped.{full_step, lacking_step}
 
 -- a refusal of an event that brought no Job
 refused_is : (event : Event) (refusal : Refusal) → ¬ (BringsJob event) → Refused refusal ≡ refused event refusal
@@ -58,3 +58,10 @@ pub step_kept : (old : Machine) (event : Event) (reply : Reply) (kept : Option E
 step_kept old event reply None new s is = (s, turned_away old event reply new s is)
 step_kept old event reply (Some entry) new s is =
     (s, (is, added old event reply new is.0 s is.1 ∙ ap (λ (x : Entry). old.journal ++ x ∷ []) (sym is.2)))
+
+-- what is turned away for want of room in the journal, or of memory, is a step that keeps no entry
+pub full_kept : (m : Machine) (event : Event) (reply : Reply) → reply ≡ refused event JournalFull → (HasRoom m event → ⊥) → StepKept m event reply None m
+full_kept m event reply is none = subst (λ (x : Reply). StepKept m event x None m) (sym is) (full_step m event none, (inr refl, refl))
+
+pub lacking_kept : (m : Machine) (event : Event) (reply : Reply) → reply ≡ refused event Memory → (BringsOut m.out event → ⊥) → StepKept m event reply None m
+lacking_kept m event reply is none = subst (λ (x : Reply). StepKept m event x None m) (sym is) (lacking_step m event none, (inl refl, refl))

@@ -5,6 +5,7 @@ pub mod Fresh
 pub mod Settled
 pub mod Replies
 pub mod Stepped
+pub mod Needed
 pub mod Legal
 pub mod Kept
 pub mod Journaled

@@ -5,8 +5,8 @@ use Rattle.gr_edit.specs.EditSet.{FileChanges}
 use Rattle.gr_text.specs.declared.refusal.Refusal.{Refusal}
 use Rattle.gr_text.specs.declared.refusal.Refusal.TheVariants.{Moved, NothingToUndo, NothingToRedo, Stale, Already, NoJob}
 use Rattle.gr_book.specs.declared.entry.Entry.{Entry}
-use Rattle.gr_book.specs.declared.entry.Kind.{Kind}
-use Rattle.gr_book.specs.declared.entry.Kind.TheVariants as kind
+use Rattle.gr_book.specs.declared.entry.EntryKind.{EntryKind}
+use Rattle.gr_book.specs.declared.entry.EntryKind.TheVariants as kind
 use Rattle.gr_book.specs.declared.entry.Line.{Line}
 use Rattle.gr_book.specs.declared.entry.Reason.{Reason}
 use Rattle.gr_book.specs.declared.entry.Reason.TheVariants as reason
@@ -17,7 +17,7 @@ use Rattle.gr_book.specs.declared.event.Event.TheVariants.{Look, Log, Commit, Un
 use Rattle.gr_book.specs.declared.event.Reply.{Reply}
 use Rattle.gr_book.specs.declared.event.Reply.TheVariants.{Looked, Logged, Done, Taken, Refused, Back}
 
-abbrev pub kind_of : Event → Kind
+abbrev pub kind_of : Event → EntryKind
 kind_of Look = kind.Look
 kind_of (Log number) = kind.Log
 kind_of (Commit basis change) = kind.Commit

@@ -2,12 +2,12 @@
 use Rattle.std.specs.Prelude.{ℕ, List, codes}
 use Rattle.gr_text.specs.declared.refusal.Refusal.{Refusal}
 use Rattle.gr_text.specs.declared.refusal.Refusal.TheVariants as refusal
-use Rattle.gr_book.specs.declared.entry.Kind.{Kind}
-use Rattle.gr_book.specs.declared.entry.Kind.TheVariants as kind
+use Rattle.gr_book.specs.declared.entry.EntryKind.{EntryKind}
+use Rattle.gr_book.specs.declared.entry.EntryKind.TheVariants as kind
 use Rattle.gr_book.specs.declared.entry.Reason.{Reason}
 use Rattle.gr_book.specs.declared.entry.Reason.TheVariants as reason
 
-abbrev pub kind_name : Kind → List ℕ
+abbrev pub kind_name : EntryKind → List ℕ
 kind_name kind.Look = codes "look"
 kind_name kind.Log = codes "log"
 kind_name kind.Commit = codes "commit"

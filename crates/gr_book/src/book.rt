@@ -1,15 +1,16 @@
 //! The book: the states of a workspace with the Jobs that are out, and the journal of the events that move among them.
-ghost use Rattle.std.specs.Prelude.{◌≡◌, ℕ, ◌+◌, ◌≤◌, ◌↔◌, IfOk, IsTrue, OnErr, OnOk, length, vec_capacity};
+ghost use Rattle.std.specs.Prelude.{◌≡◌, ◌+◌, ◌≤◌, ◌↔◌, IfOk, IsTrue, OnErr, OnOk, length, vec_capacity};
 ghost use Rattle.gr_verdict.specs.Found.{KnowsVerdicts};
 ghost use Rattle.gr_book.specs.Machine.{HasNumbers, Machine, content, opening};
 ghost use Rattle.gr_book.specs.Kept.{IsEntryIf, StepKept};
 ghost use Rattle.gr_book.specs.Run.{IsReplay};
-ghost use Rattle.gr_book.specs.Step.{BringsOut, HasPlace, HasRoom, Keeps, Step, entries_due};
+ghost use Rattle.gr_book.specs.Journal.{basis_of, kind_of};
+ghost use Rattle.gr_book.specs.Step.{HasPlace, Keeps, Step, entries_due};
 
 use crate::content::Content;
 use crate::entry::{Entry, Line};
-use crate::event::{Event, Reply, refuse};
 use crate::made::entry_twice;
+use crate::question::{Answered, Asked, Question};
 use gr_graph::Graph;
 use gr_text::{Limits, Refusal};
 use gr_verdict::Known;
@@ -56,40 +57,52 @@ impl Model for Book {
 }
 
 /// Makes room for the entry of an event, and for those of the Jobs out then. For a Job that is out the room is there.
-fn make_room(journal: &mut Vec<Entry>, content: &Content, event: &Event) -> Result<(), AllocError>
+fn make_room(journal: &mut Vec<Entry>, content: &Content, asked: &Asked) -> Result<(), AllocError>
     requires { length content.now.out.jobs ≤ 1000000 }
     ensures items { journal.new.items ≡ journal.old.items }
     ensures grows { vec_capacity journal.old ≤ vec_capacity journal.new }
-    ensures ok { OnOk result (HasPlace (vec_capacity journal.new) (length journal.new.items + length content.now.out.jobs) content.now.out event.now) }
-    ensures err { OnErr result (BringsOut content.now.out event.now → ⊥) }
+    ensures ok { OnOk result ((IsTrue asked.now.is_out → ⊥) → length journal.new.items + length content.now.out.jobs + 2 ≤ vec_capacity journal.new) }
+    ensures err { OnErr result (IsTrue asked.now.is_out → ⊥) }
 {
-    if content.brings_out(event) {
+    if asked.is_out {
         return Ok(());
     }
     journal.reserve(content.jobs() + 2)
 }
 
-/// Answers an event, and adds its entry to the journal. With the reply comes a copy of the entry.
-fn answer(content: &mut Content, journal: &mut Vec<Entry>, event: Event) -> (Reply, Option<Entry>)
+/// Answers an event, and adds its entry to the journal. With the answer comes a copy of the entry.
+fn answer<Q: Question>(
+    content: &mut Content,
+    journal: &mut Vec<Entry>,
+    asked: Asked,
+    question: Q,
+) -> (Q::Answer, Option<Entry>)
     requires numbers { HasNumbers content.old }
     requires due { length journal.old.items + length content.old.out.jobs ≤ vec_capacity journal.old }
-    requires place { HasPlace (vec_capacity journal.old) (length journal.old.items + length content.old.out.jobs) content.old.out event }
-    ensures keeps { Keeps content.old journal.old.items event result.0 content.new journal.new.items }
-    ensures copy { IsEntryIf content.old.current.number event result.0 result.1 }
+    requires place { HasPlace (vec_capacity journal.old) (length journal.old.items + length content.old.out.jobs) content.old.out (Q.event question) }
+    requires kind { asked.kind ≡ kind_of (Q.event question) }
+    requires basis { asked.basis ≡ basis_of content.old.current.number (Q.event question) }
+    ensures keeps { Keeps content.old journal.old.items (Q.event question) (Q.reply result.0) content.new journal.new.items }
+    ensures copy { IsEntryIf content.old.current.number (Q.event question) (Q.reply result.0) result.1 }
     ensures capacity { vec_capacity journal.new ≡ vec_capacity journal.old }
 {
-    let kind = event.kind();
-    let basis = event.basis(content.number());
-    let asked = event.subject();
-    let (reply, made) = content.answer(journal.as_slice(), event);
-    let Some(out) = reply.told() else {
-        return (reply, None);
+    let Answered {
+        answer,
+        out,
+        subject,
+        made,
+    } = question.ask(content, journal.as_slice());
+    let Some(out) = out else {
+        return (answer, None);
     };
-    let line = Line { kind, basis, out };
-    let subject = reply.subject(asked);
+    let line = Line {
+        kind: asked.kind,
+        basis: asked.basis,
+        out,
+    };
     let (entry, copy) = entry_twice(line, subject, made);
     journal.push_reserved(entry);
-    (reply, Some(copy))
+    (answer, Some(copy))
 }
 
 impl Book {
@@ -130,45 +143,37 @@ impl Book {
         self.journal.len() as u64 + self.content.out.len() as u64
     }
 
-    /// Whether the journal has room for the entry of an event.
-    fn has_room(&self, event: &Event) -> bool
-        ensures { IsTrue result ↔ HasRoom self.now event.now }
+    /// Whether the journal has room for so many entries beside those that are due.
+    fn has_room(&self, needed: u64) -> bool
+        ensures { IsTrue result ↔ (entries_due self.now + needed ≤ self.now.limits.journal) }
     {
-        let left = self.content.limits.journal - self.entries_due();
-        match event {
-            Event::Look | Event::Log(_) | Event::Commit(..) | Event::Undo(_) | Event::Redo(_) => {
-                left >= 1
-            }
-            Event::Take => left >= 2,
-            Event::Deliver(job, _) | Event::GiveBack(job) => {
-                left >= 1 || self.content.out.is_out(job)
-            }
-        }
+        self.content.limits.journal - self.entries_due() >= needed
     }
 
     /// One step of the machine, with a copy of the entry that it added. Room is made before anything changes, so a refusal for want of
     /// memory, or of room in the journal, leaves the book as it was, and keeps no entry. The copy of the entry of a Job that is given
     /// back takes no memory.
-    pub fn step_kept(&mut self, event: Event) -> (Reply, Option<Entry>)
-        ensures { StepKept self.old event result.0 result.1 self.new }
+    pub fn step_kept<Q: Question>(&mut self, question: Q) -> (Q::Answer, Option<Entry>)
+        ensures { StepKept self.old (Q.event question) (Q.reply result.0) result.1 self.new }
     {
-        if !self.has_room(&event) {
-            return (refuse(event, Refusal::JournalFull), None);
+        let asked = question.asked(&self.content);
+        if !self.has_room(asked.entries_needed()) {
+            return (question.refuse(Refusal::JournalFull), None);
         }
-        match make_room(&mut self.journal, &self.content, &event) {
-            Ok(()) => answer(&mut self.content, &mut self.journal, event),
-            Err(_) => (refuse(event, Refusal::Memory), None),
+        match make_room(&mut self.journal, &self.content, &asked) {
+            Ok(()) => answer(&mut self.content, &mut self.journal, asked, question),
+            Err(_) => (question.refuse(Refusal::Memory), None),
         }
     }
 
     /// One step of the machine. Room is made before anything changes, so a refusal for want of memory, or of room in the
     /// journal, leaves the book as it was, and keeps no entry.
-    pub fn step(&mut self, event: Event) -> Reply
-        ensures { Step self.old event result self.new }
+    pub fn step<Q: Question>(&mut self, question: Q) -> Q::Answer
+        ensures { Step self.old (Q.event question) (Q.reply result) self.new }
     {
-        let (reply, kept) = self.step_kept(event);
+        let (answer, kept) = self.step_kept(question);
         drop(kept);
-        reply
+        answer
     }
 
     /// Takes in what was found in packages of these files, if they are those of the current state. It is no event: it decides how

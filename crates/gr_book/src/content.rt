@@ -1,14 +1,14 @@
 //! The states of a workspace with the Jobs that are out, and what events make of them.
-ghost use Rattle.std.specs.Prelude.{◌≡◌, ℕ, ◌+◌, ◌≤◌, ◌↔◌, IfOk, IsTrue, length, vec_len};
+ghost use Rattle.std.specs.Prelude.{◌≡◌, ◌+◌, ◌≤◌, ◌↔◌, IfOk, IsTrue, length, vec_len};
 ghost use Rattle.gr_verdict.specs.Found.{KnowsVerdicts};
 ghost use Rattle.gr_compile.specs.Jobs.{IsOut};
 ghost use Rattle.gr_book.specs.Machine.{HasNumbers, content, newest, opening};
-ghost use Rattle.gr_book.specs.Journal.{ShowsLine, edits_of, line_at};
-ghost use Rattle.gr_book.specs.Step.{AnswersOrLacks, BringsOut, committed, done, looked, taken};
+ghost use Rattle.gr_book.specs.Questions.{handed};
+ghost use Rattle.gr_book.specs.Step.{AnswersOrLacks, committed, done, looked, taken};
+ghost use Rattle.gr_book.specs.declared.event.Event.TheVariants.{Commit, Deliver, GiveBack, Look, Redo, Take, Undo};
 
-use crate::deliveries::{outcome_of, settle};
-use crate::entry::{Entry, Line};
-use crate::event::{Event, Reply};
+use crate::deliveries::outcome_of;
+use crate::handed::{Handed, take_in};
 use crate::made::MadeEdits;
 use crate::state::State;
 use crate::view::View;
@@ -24,7 +24,7 @@ use std::marker::Model;
 use std::mem;
 
 /// The states of a workspace, with a cursor on the current one, and the Jobs that are out.
-pub(crate) struct Content {
+pub struct Content {
     pub(crate) alloc: Global,
     pub(crate) limits: Limits,
     pub(crate) earlier: Vec<State>,
@@ -60,48 +60,11 @@ fn keep_newest(states: &mut Vec<State>, depth: usize)
     }
 }
 
-/// What is shown of the entry of a number.
-fn line_at(journal: &[Entry], number: u64) -> Option<Line>
-    ensures { result ≡ line_at journal.now number }
-{
-    match journal.get(number as usize) {
-        Some(entry) => Some(entry.line),
-        None => None,
-    }
-}
-
 /// Whether a change was planned on some files.
 fn is_based(change: &MadeChange, files: &Graph) -> bool
     ensures { IsTrue result ↔ (change.now.base ≡ files.now) }
 {
     change.get().base.files().same(files.files())
-}
-
-fn looked_reply(outcome: Result<View, Refusal>) -> Reply
-    ensures { result ≡ looked outcome }
-{
-    match outcome {
-        Ok(view) => Reply::Looked(view),
-        Err(refusal) => Reply::Refused(refusal),
-    }
-}
-
-fn done_reply(outcome: Result<u64, Refusal>) -> Reply
-    ensures { result ≡ done outcome }
-{
-    match outcome {
-        Ok(number) => Reply::Done(number),
-        Err(refusal) => Reply::Refused(refusal),
-    }
-}
-
-fn taken_reply(outcome: Result<Job, Refusal>) -> Reply
-    ensures { result ≡ taken outcome }
-{
-    match outcome {
-        Ok(job) => Reply::Taken(job),
-        Err(refusal) => Reply::Refused(refusal),
-    }
 }
 
 impl Content {
@@ -144,19 +107,15 @@ impl Content {
         self.out.len()
     }
 
-    /// Whether an event brings a Job that is out.
-    pub(crate) fn brings_out(&self, event: &Event) -> bool
-        ensures { IsTrue result ↔ BringsOut self.now.out event.now }
+    /// Whether a Job is out.
+    pub(crate) fn is_out(&self, job: &Job) -> bool
+        ensures { IsTrue result ↔ IsOut self.now.out job.now }
     {
-        match event {
-            Event::Deliver(job, _) => self.out.is_out(job),
-            Event::GiveBack(job) => self.out.is_out(job),
-            _ => false,
-        }
+        self.out.is_out(job)
     }
 
-    fn look(&self) -> Result<View, Refusal>
-        ensures { AnswersOrLacks self.now Event.Look (looked result) self.now }
+    pub(crate) fn look(&self) -> Result<View, Refusal>
+        ensures { AnswersOrLacks self.now Look (looked result) self.now }
     {
         let snapshot = self.current.snapshot(self.limits)?;
         let finished = self.current.finished.clone()?;
@@ -169,9 +128,13 @@ impl Content {
     }
 
     /// Besides the number of the new state it gives the edits, for the entry.
-    fn commit(&mut self, basis: u64, change: MadeChange) -> Result<(u64, MadeEdits), Refusal>
+    pub(crate) fn commit(
+        &mut self,
+        basis: u64,
+        change: MadeChange,
+    ) -> Result<(u64, MadeEdits), Refusal>
         requires { HasNumbers self.old }
-        ensures answer { AnswersOrLacks self.old (Event.Commit basis change) (committed result) self.new }
+        ensures answer { AnswersOrLacks self.old (Commit basis change) (committed result) self.new }
         ensures edits { IfOk result (λ made. made.1 ≡ change.edits) }
     {
         let current = &self.current;
@@ -208,9 +171,9 @@ impl Content {
         Ok((number, edits))
     }
 
-    fn undo(&mut self, basis: u64) -> Result<u64, Refusal>
+    pub(crate) fn undo(&mut self, basis: u64) -> Result<u64, Refusal>
         requires { HasNumbers self.old }
-        ensures { AnswersOrLacks self.old (Event.Undo basis) (done result) self.new }
+        ensures { AnswersOrLacks self.old (Undo basis) (done result) self.new }
     {
         let number = self.current.number;
         if basis != number {
@@ -228,9 +191,9 @@ impl Content {
         Ok(number)
     }
 
-    fn redo(&mut self, basis: u64) -> Result<u64, Refusal>
+    pub(crate) fn redo(&mut self, basis: u64) -> Result<u64, Refusal>
         requires { HasNumbers self.old }
-        ensures { AnswersOrLacks self.old (Event.Redo basis) (done result) self.new }
+        ensures { AnswersOrLacks self.old (Redo basis) (done result) self.new }
     {
         let number = self.current.number;
         if basis != number {
@@ -248,9 +211,9 @@ impl Content {
         Ok(number)
     }
 
-    fn take(&mut self) -> Result<Job, Refusal>
+    pub(crate) fn take(&mut self) -> Result<Job, Refusal>
         requires { HasNumbers self.old }
-        ensures { AnswersOrLacks self.old Event.Take (taken result) self.new }
+        ensures { AnswersOrLacks self.old Take (taken result) self.new }
     {
         let current = &self.current;
         let Some(number) = first_waiting(current, &self.out, self.visit) else {
@@ -265,77 +228,44 @@ impl Content {
         Ok(job)
     }
 
-    /// Takes in a delivery for a Job that is out.
-    fn enter(&mut self, job: Job, built: Built) -> Reply
-        requires { IsOut self.old.out job }
-        ensures { AnswersOrLacks self.old (Event.Deliver job built) result self.new }
+    /// Takes in a delivery, if its Job is out.
+    fn enter(&mut self, job: Job, built: Built) -> Handed
+        ensures { AnswersOrLacks self.old (Deliver job built) (handed result) self.new }
     {
         match outcome_of(self.alloc, &self.current, &job, &built) {
-            Err(_) => Reply::Back(Refusal::Memory, job, Some(built)),
+            Err(_) => Handed::Back(Refusal::Memory, job, Some(built)),
             Ok(outcome) => match self.out.take_back(job) {
-                Err(_job) => unreachable!(),
+                Err(job) => Handed::Back(Refusal::NoJob, job, Some(built)),
                 Ok(record) => {
                     drop(record);
                     drop(built);
-                    settle(&mut self.current, outcome)
+                    take_in(&mut self.current, outcome)
                 }
             },
         }
     }
 
-    fn deliver(&mut self, job: Job, built: Built) -> Reply
-        ensures { AnswersOrLacks self.old (Event.Deliver job built) result self.new }
+    /// A Job that is not out comes back before anything is made.
+    pub(crate) fn deliver(&mut self, job: Job, built: Built) -> Handed
+        ensures { AnswersOrLacks self.old (Deliver job built) (handed result) self.new }
     {
         if !self.out.is_out(&job) {
-            return Reply::Back(Refusal::NoJob, job, Some(built));
+            return Handed::Back(Refusal::NoJob, job, Some(built));
         }
         self.enter(job, built)
     }
 
     /// It takes no memory, and always succeeds for a Job that is out.
-    fn give_back(&mut self, job: Job) -> Reply
-        ensures { AnswersOrLacks self.old (Event.GiveBack job) result self.new }
+    pub(crate) fn give_back(&mut self, job: Job) -> Handed
+        ensures { AnswersOrLacks self.old (GiveBack job) (handed result) self.new }
     {
         let number = self.current.number();
         let record = match self.out.take_back(job) {
             Ok(record) => record,
-            Err(job) => return Reply::Back(Refusal::NoJob, job, None),
+            Err(job) => return Handed::Back(Refusal::NoJob, job, None),
         };
         drop(record);
-        Reply::Done(number)
-    }
-
-    /// Answers a change, and gives its edits if it is admitted.
-    fn change(&mut self, basis: u64, change: MadeChange) -> (Reply, Option<MadeEdits>)
-        requires { HasNumbers self.old }
-        ensures answer { AnswersOrLacks self.old (Event.Commit basis change) result.0 self.new }
-        ensures edits { result.1 ≡ edits_of (Event.Commit basis change) result.0 }
-    {
-        match self.commit(basis, change) {
-            Ok((number, edits)) => (Reply::Done(number), Some(edits)),
-            Err(refusal) => (Reply::Refused(refusal), None),
-        }
-    }
-
-    /// Answers an event, and gives the edits of an admitted change. A log is shown an entry of the journal. Room is made before
-    /// anything changes, so want of memory leaves all as it was.
-    pub(crate) fn answer(&mut self, journal: &[Entry], event: Event) -> (Reply, Option<MadeEdits>)
-        requires { HasNumbers self.old }
-        ensures answer { AnswersOrLacks self.old event result.0 self.new }
-        ensures shows { ShowsLine journal.now event result.0 }
-        ensures edits { result.1 ≡ edits_of event result.0 }
-    {
-        let reply = match event {
-            Event::Commit(basis, change) => return self.change(basis, change),
-            Event::Look => looked_reply(self.look()),
-            Event::Log(number) => Reply::Logged(self.current.number(), line_at(journal, number)),
-            Event::Undo(basis) => done_reply(self.undo(basis)),
-            Event::Redo(basis) => done_reply(self.redo(basis)),
-            Event::Take => taken_reply(self.take()),
-            Event::Deliver(job, built) => self.deliver(job, built),
-            Event::GiveBack(job) => self.give_back(job),
-        };
-        (reply, None)
+        Handed::Done(number)
     }
 
     /// Takes in what was found in packages of some files, if they are those of the current state.

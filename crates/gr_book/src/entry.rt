@@ -11,7 +11,7 @@ use std::sync::Arc;
 
 /// What kind of event an entry is of.
 #[derive(Clone, Copy, Debug, PartialEq, Eq)]
-pub enum Kind {
+pub enum EntryKind {
     Look,
     Log,
     Commit,
@@ -22,20 +22,20 @@ pub enum Kind {
     GiveBack,
 }
 
-impl Kind {
+impl EntryKind {
     /// How the kind is spelled in replies.
     pub fn name(self) -> &'static str
         ensures { result.now ≡ kind_name self }
     {
         match self {
-            Kind::Look => "look",
-            Kind::Log => "log",
-            Kind::Commit => "commit",
-            Kind::Undo => "undo",
-            Kind::Redo => "redo",
-            Kind::Take => "take",
-            Kind::Deliver => "deliver",
-            Kind::GiveBack => "give",
+            EntryKind::Look => "look",
+            EntryKind::Log => "log",
+            EntryKind::Commit => "commit",
+            EntryKind::Undo => "undo",
+            EntryKind::Redo => "redo",
+            EntryKind::Take => "take",
+            EntryKind::Deliver => "deliver",
+            EntryKind::GiveBack => "give",
         }
     }
 }
@@ -78,7 +78,7 @@ pub enum Told {
 /// delivery, or of a Job that was given back, the Job's.
 #[derive(Clone, Copy, Debug, PartialEq, Eq)]
 pub struct Line {
-    pub kind: Kind,
+    pub kind: EntryKind,
     pub basis: u64,
     pub out: Told,
 }

@@ -9,7 +9,7 @@ use std::marker::Model;
 /// The edits of a change, held twice: for the entry of the journal, and for its copy. So the copy takes no memory once the change
 /// is admitted.
 #[derive(Drop)]
-pub(crate) struct MadeEdits {
+pub struct MadeEdits {
     kept: SharedEdits,
     copy: SharedEdits,
 }

@@ -1,10 +1,12 @@
-//! What the tests of histories do with a book, and what the replies to it tell. A book and a Job are no values that may be
+//! What the tests of histories do with a book, and what its answers tell. A book and a Job are no values that may be
 //! dropped, so no test ends by `?` while it has one.
 ghost use Rattle.std.specs.Prelude.{IfOk};
 ghost use Rattle.gr_verdict.specs.Found.{IsFound};
 
-use crate::calls::{planned, view_of};
-use gr_book::{Book, Entry, Event, Kind, Line, Reply, Told, View};
+use crate::calls::planned;
+use gr_book::{
+    Book, Changing, Entry, EntryKind, Handed, HandingIn, Line, Logging, Looking, Taking, Told, View,
+};
 use gr_check::Planned;
 use gr_compile::{Built, Job, build};
 use gr_rename::plan_rename;
@@ -37,10 +39,9 @@ pub(crate) enum Act {
     Log(u64),
 }
 
-/// What the reply tells. A Job that is taken has a ticket, the number of a state, and a visit.
+/// What the answer tells. A Job that is taken has a ticket, the number of a state, and a visit.
 #[derive(Clone, Copy, Debug, PartialEq, Eq)]
 pub(crate) enum Outcome {
-    Looked,
     Logged(u64, Option<Line>),
     Done(u64),
     Taken(u64, u64, u64),
@@ -117,28 +118,36 @@ fn taken(jobs: &mut Vec<Job>, job: Job) -> Outcome {
     outcome
 }
 
-fn told(jobs: &mut Vec<Job>, reply: Reply) -> Outcome {
-    match reply {
-        Reply::Looked(view) => {
-            drop(view);
-            Outcome::Looked
-        }
-        Reply::Logged(number, line) => Outcome::Logged(number, line),
-        Reply::Done(number) => Outcome::Done(number),
-        Reply::Taken(job) => taken(jobs, job),
-        Reply::Refused(refusal) => refused(&refusal),
-        Reply::Back(refusal, job, unit) => back(jobs, &refusal, job, unit),
+fn done(answer: Result<u64, Refusal>) -> Outcome {
+    match answer {
+        Ok(number) => Outcome::Done(number),
+        Err(refusal) => refused(&refusal),
+    }
+}
+
+fn logged(answer: Result<(u64, Option<Line>), Refusal>) -> Outcome {
+    match answer {
+        Ok((number, line)) => Outcome::Logged(number, line),
+        Err(refusal) => refused(&refusal),
+    }
+}
+
+fn handed(jobs: &mut Vec<Job>, answer: Handed) -> Outcome {
+    match answer {
+        Handed::Done(number) => Outcome::Done(number),
+        Handed::Refused(refusal) => refused(&refusal),
+        Handed::Back(refusal, job, unit) => back(jobs, &refusal, job, unit),
     }
 }
 
 fn looked(rt: &impl Abort, book: &mut Book) -> View {
-    view_of(book.step(Event::Look)).expect(rt, "a view")
+    book.step(Looking).ok().expect(rt, "a view")
 }
 
-fn put(rt: &(impl Abort + AllocGlobal), book: &mut Book, path: &str, bytes: &str) -> Reply {
+fn put(rt: &(impl Abort + AllocGlobal), book: &mut Book, path: &str, bytes: &str) -> Outcome {
     let view = looked(rt, book);
     let change = planned(rt, rt.alloc(), &view, path, bytes);
-    book.step(Event::Commit(view.snapshot.number(), change))
+    done(book.step(Changing::Commit(view.snapshot.number(), change)))
 }
 
 /// Has the other book put a file, and the book commit the same change, planned there.
@@ -147,16 +156,16 @@ fn put_as_elsewhere(
     bench: &mut Bench,
     path: &str,
     bytes: &str,
-) -> Reply {
+) -> Outcome {
     let view = looked(rt, &mut bench.other);
     let number = view.snapshot.number();
-    let there = Event::Commit(number, planned(rt, rt.alloc(), &view, path, bytes));
-    let reply = bench.other.step(there);
+    let there = Changing::Commit(number, planned(rt, rt.alloc(), &view, path, bytes));
     assert_eq!(rt;
-        told(&mut bench.jobs, reply),
+        done(bench.other.step(there)),
         Outcome::Done(number.wrapping_add(1))
     );
-    bench.book.step(Event::Commit(number, planned(rt, rt.alloc(), &view, path, bytes)))
+    let here = Changing::Commit(number, planned(rt, rt.alloc(), &view, path, bytes));
+    done(bench.book.step(here))
 }
 
 /// What is found in the packages of a view's files.
@@ -189,25 +198,22 @@ fn rename_as_elsewhere(
     path: &str,
     offset: usize,
     name: &str,
-) -> Reply {
+) -> Outcome {
     let view = looked(rt, &mut bench.other);
     let change = renamed(rt, &view, path, offset, name);
-    let event = Event::Commit(view.snapshot.number(), change);
-    bench.book.step(event)
+    let asked = Changing::Commit(view.snapshot.number(), change);
+    done(bench.book.step(asked))
 }
 
-/// Whether a Job is one of some package, where one came.
-fn is_of(reply: &Reply, path: &str) -> bool {
-    match reply {
-        Reply::Taken(job) => job.package().path() == path.as_bytes(),
-        _ => true,
+/// Takes a Job, which has to be one of some package, if one comes.
+fn take(rt: &impl Abort, bench: &mut Bench, path: &str) -> Outcome {
+    match bench.book.step(Taking) {
+        Ok(job) => {
+            assert!(rt; job.package().path() == path.as_bytes());
+            taken(&mut bench.jobs, job)
+        }
+        Err(refusal) => refused(&refusal),
     }
-}
-
-fn take(rt: &impl Abort, book: &mut Book, path: &str) -> Reply {
-    let reply = book.step(Event::Take);
-    assert!(rt; is_of(&reply, path));
-    reply
 }
 
 /// Takes a Job from those that are held.
@@ -230,51 +236,48 @@ fn built(rt: &(impl Abort + AllocGlobal), job: &Job) -> Built {
     unit
 }
 
-/// The event that delivers a Job that is held.
-fn delivery(rt: &(impl Abort + AllocGlobal), jobs: &mut Vec<Job>, ticket: u64) -> Event {
+/// Builds what a Job is of that is held, and delivers it to a book.
+fn deliver(
+    rt: &(impl Abort + AllocGlobal),
+    jobs: &mut Vec<Job>,
+    book: &mut Book,
+    ticket: u64,
+) -> Outcome {
     let job = held(rt, jobs, ticket);
     let unit = built(rt, &job);
-    Event::Deliver(job, unit)
+    handed(jobs, book.step(HandingIn::Deliver(job, unit)))
 }
 
-fn replied(rt: &(impl Abort + AllocGlobal), bench: &mut Bench, act: Act) -> Reply {
+fn give_back(rt: &impl Abort, jobs: &mut Vec<Job>, book: &mut Book, ticket: u64) -> Outcome {
+    let job = held(rt, jobs, ticket);
+    handed(jobs, book.step(HandingIn::GiveBack(job)))
+}
+
+fn told(rt: &(impl Abort + AllocGlobal), bench: &mut Bench, act: Act) -> Outcome {
     match act {
         Act::Put(path, bytes) => put(rt, &mut bench.book, path, bytes),
         Act::PutAsElsewhere(path, bytes) => put_as_elsewhere(rt, bench, path, bytes),
         Act::RenameAsElsewhere(path, offset, name) => {
             rename_as_elsewhere(rt, bench, path, offset, name)
         }
-        Act::Take(path) => take(rt, &mut bench.book, path),
-        Act::Log(number) => bench.book.step(Event::Log(number)),
-        Act::Undo(basis) => bench.book.step(Event::Undo(basis)),
-        Act::Redo(basis) => bench.book.step(Event::Redo(basis)),
-        Act::Deliver(ticket) => {
-            let event = delivery(rt, &mut bench.jobs, ticket);
-            bench.book.step(event)
-        }
-        Act::GiveBack(ticket) => {
-            let job = held(rt, &mut bench.jobs, ticket);
-            bench.book.step(Event::GiveBack(job))
-        }
-        Act::DeliverElsewhere(ticket) => {
-            let event = delivery(rt, &mut bench.jobs, ticket);
-            bench.other.step(event)
-        }
-        Act::GiveBackElsewhere(ticket) => {
-            let job = held(rt, &mut bench.jobs, ticket);
-            bench.other.step(Event::GiveBack(job))
-        }
+        Act::Take(path) => take(rt, bench, path),
+        Act::Log(number) => logged(bench.book.step(Logging(number))),
+        Act::Undo(basis) => done(bench.book.step(Changing::Undo(basis))),
+        Act::Redo(basis) => done(bench.book.step(Changing::Redo(basis))),
+        Act::Deliver(ticket) => deliver(rt, &mut bench.jobs, &mut bench.book, ticket),
+        Act::GiveBack(ticket) => give_back(rt, &mut bench.jobs, &mut bench.book, ticket),
+        Act::DeliverElsewhere(ticket) => deliver(rt, &mut bench.jobs, &mut bench.other, ticket),
+        Act::GiveBackElsewhere(ticket) => give_back(rt, &mut bench.jobs, &mut bench.other, ticket),
     }
 }
 
-/// Does that, and asserts what the reply tells.
+/// Does that, and asserts what the answer tells.
 pub(crate) fn does(rt: &(impl Abort + AllocGlobal), bench: &mut Bench, act: Act, outcome: Outcome) {
-    let reply = replied(rt, bench, act);
-    assert_eq!(rt; told(&mut bench.jobs, reply), outcome);
+    assert_eq!(rt; told(rt, bench, act), outcome);
 }
 
 /// The kind of an entry, its basis, and how its event was answered.
-pub(crate) type Shown = (Kind, u64, Told);
+pub(crate) type Shown = (EntryKind, u64, Told);
 
 fn is_shown(entry: &Entry, shown: &Shown) -> bool {
     entry.line.kind == shown.0 && entry.line.basis == shown.1 && entry.line.out == shown.2

@@ -1,40 +1,11 @@
 //! What the tests do with a view and at a seat: a look, and the put of a file.
 use crate::texts::text;
-use gr_book::{Event, Reply, View};
+use gr_book::{Changing, Looking, View};
 use gr_pool::{Opening, Seat, Shared};
 use gr_space::{MadeChange, plan_put};
 use std::alloc::Global;
 use std::process::Abort;
 use std::sync::Wait;
-
-/// The number that an event was answered with, if it was done. A Job that came is retired.
-fn done(reply: Reply) -> Option<u64> {
-    match reply {
-        Reply::Done(number) => Some(number),
-        Reply::Looked(_view) => None,
-        Reply::Logged(_number, _line) => None,
-        Reply::Refused(_refusal) => None,
-        Reply::Taken(job) => {
-            drop(job.retire());
-            None
-        }
-        Reply::Back(_refusal, job, _built) => {
-            drop(job.retire());
-            None
-        }
-    }
-}
-
-/// The view that a look showed.
-pub(crate) fn view_of(reply: Reply) -> Option<View> {
-    match reply {
-        Reply::Looked(view) => Some(view),
-        other => {
-            let _number = done(other);
-            None
-        }
-    }
-}
 
 /// A look at a seat.
 pub(crate) fn look<L: Opening, R: Wait>(
@@ -42,7 +13,7 @@ pub(crate) fn look<L: Opening, R: Wait>(
     shared: &Shared<L>,
     seat: &mut Seat<L>,
 ) -> Option<View> {
-    view_of(shared.call(rt, seat, Event::Look).0)
+    shared.call(rt, seat, Looking).0.ok()
 }
 
 /// The put of a file on a view.
@@ -70,8 +41,8 @@ fn try_put<L: Opening, R: Wait + Abort>(
 ) -> Option<u64> {
     let view = look(rt, shared, seat).expect(rt, "a view");
     let change = planned(rt, alloc, &view, path, bytes);
-    let event = Event::Commit(view.snapshot.number(), change);
-    done(shared.call(rt, seat, event).0)
+    let asked = Changing::Commit(view.snapshot.number(), change);
+    shared.call(rt, seat, asked).0.ok()
 }
 
 /// Puts a file, and again where another change came first, at most 100 times.

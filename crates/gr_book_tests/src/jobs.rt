@@ -2,7 +2,7 @@
 //! journal, or one where it is planned on another book; each other act is one.
 use crate::bench::{Act, Bench, Outcome, Shown, does, ends, has_entries, opened, retires};
 use crate::texts::A;
-use gr_book::{Kind, Line, Reason, Told};
+use gr_book::{EntryKind, Line, Reason, Told};
 use gr_compile::{Job, Out, SharedPath};
 use gr_graph::Graph;
 use gr_text::Files;
@@ -12,21 +12,21 @@ use std::process::Abort;
 /// What `deliveries_that_come_late` leaves: of the Jobs 1, 2 and 0, which are handed in in this order, the first and the last are of a
 /// state that is not current, or of a package that is finished.
 const ENTRIES: [Shown; 11] = [
-    (Kind::Commit, 0, Told::Done(1)),
-    (Kind::Commit, 1, Told::Done(2)),
-    (Kind::Take, 2, Told::Done(2)),
-    (Kind::Undo, 2, Told::Done(1)),
-    (Kind::Take, 1, Told::Done(1)),
-    (Kind::Redo, 1, Told::Done(2)),
+    (EntryKind::Commit, 0, Told::Done(1)),
+    (EntryKind::Commit, 1, Told::Done(2)),
+    (EntryKind::Take, 2, Told::Done(2)),
+    (EntryKind::Undo, 2, Told::Done(1)),
+    (EntryKind::Take, 1, Told::Done(1)),
+    (EntryKind::Redo, 1, Told::Done(2)),
     (
-        Kind::Deliver,
+        EntryKind::Deliver,
         1,
         Told::Refused(Reason::Stale { current: 2 }),
     ),
-    (Kind::Take, 2, Told::Done(2)),
-    (Kind::Deliver, 2, Told::Done(2)),
-    (Kind::Deliver, 2, Told::Refused(Reason::Already)),
-    (Kind::Take, 2, Told::Refused(Reason::NoJob)),
+    (EntryKind::Take, 2, Told::Done(2)),
+    (EntryKind::Deliver, 2, Told::Done(2)),
+    (EntryKind::Deliver, 2, Told::Refused(Reason::Already)),
+    (EntryKind::Take, 2, Told::Refused(Reason::NoJob)),
 ];
 
 /// A put and a rename that were planned on another book, with an undo and a redo between the Jobs.
@@ -87,7 +87,7 @@ fn shows(
     rt: &(impl Abort + AllocGlobal),
     bench: &mut Bench,
     entry: u64,
-    kind: Kind,
+    kind: EntryKind,
     basis: u64,
     out: Told,
 ) {
@@ -106,13 +106,13 @@ fn entries_tell_of_each_event(rt: HostRuntime) {
     does(&rt, &mut bench, Act::Redo(0), Outcome::Done(1));
     does(&rt, &mut bench, Act::Take("a"), Outcome::Taken(1, 1, 3));
     does(&rt, &mut bench, Act::GiveBack(1), Outcome::Done(1));
-    shows(&rt, &mut bench, 1, Kind::Commit, 0, Told::Done(1));
-    shows(&rt, &mut bench, 2, Kind::Take, 1, Told::Done(1));
-    shows(&rt, &mut bench, 3, Kind::Undo, 1, Told::Done(0));
+    shows(&rt, &mut bench, 1, EntryKind::Commit, 0, Told::Done(1));
+    shows(&rt, &mut bench, 2, EntryKind::Take, 1, Told::Done(1));
+    shows(&rt, &mut bench, 3, EntryKind::Undo, 1, Told::Done(0));
     let stale = Told::Refused(Reason::Stale { current: 0 });
-    shows(&rt, &mut bench, 4, Kind::Deliver, 1, stale);
-    shows(&rt, &mut bench, 7, Kind::GiveBack, 1, Told::Done(1));
-    shows(&rt, &mut bench, 8, Kind::Log, 1, Told::Done(1));
+    shows(&rt, &mut bench, 4, EntryKind::Deliver, 1, stale);
+    shows(&rt, &mut bench, 7, EntryKind::GiveBack, 1, Told::Done(1));
+    shows(&rt, &mut bench, 8, EntryKind::Log, 1, Told::Done(1));
     does(&rt, &mut bench, Act::Log(14), Outcome::Logged(1, None));
     ends(&rt, bench, (15, 0))
 }

@@ -2,7 +2,7 @@
 ghost use Rattle.std.specs.Prelude.{◌≡◌};
 
 use crate::calls::look;
-use gr_book::{Book, Kind};
+use gr_book::{Book, EntryKind};
 use gr_pool::{Opening, Seat, Shared, Unsettled};
 use gr_text::Limits;
 use std::alloc::Global;
@@ -39,7 +39,7 @@ fn looked_twice(book: &Book) -> bool {
         && book
             .journal()
             .iter()
-            .all(|entry| entry.line.kind == Kind::Look)
+            .all(|entry| entry.line.kind == EntryKind::Look)
 }
 
 fn left_out<L: Opening, R: Wait + Abort>(rt: &R, alloc: Global, blank: Blank)

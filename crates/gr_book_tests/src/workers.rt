@@ -5,7 +5,7 @@ use crate::calls::put;
 use crate::meeting::Meeting;
 use crate::settling::settled;
 use crate::texts::A;
-use gr_book::{Book, Entry, Kind, Reason, Told, View};
+use gr_book::{Book, Entry, EntryKind, Reason, Told, View};
 use gr_pool::{Opening, Seat, Shared, worker};
 use gr_text::Limits;
 use std::alloc::Global;
@@ -94,7 +94,7 @@ fn all_at_work<L: Opening + Send + Sync, R: Threads + Wait + Abort + Sync>(
 
 /// Whether an entry tells of a Job that was delivered or given back and was not out.
 fn is_of_no_job(entry: &Entry) -> bool {
-    entry.line.kind != Kind::Take && entry.line.out == Told::Refused(Reason::NoJob)
+    entry.line.kind != EntryKind::Take && entry.line.out == Told::Refused(Reason::NoJob)
 }
 
 /// Each Job that came in was out, by the journal.

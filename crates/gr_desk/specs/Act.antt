@@ -51,13 +51,6 @@ TellsReply (Taken job) answer = ⊥
 TellsReply (Refused refusal) answer = answer ≡ response.Refused refusal
 TellsReply (Back refusal job unit) answer = ⊥
 
--- an event that changes the workspace
-abbrev pub IsChanging : Event → Type 0
-IsChanging (Commit basis change) = ⊤
-IsChanging (Undo basis) = ⊤
-IsChanging (Redo basis) = ⊤
-IsChanging event = ⊥
-
 abbrev pub file_response : ℕ → Result (List ℕ) Refusal → Response
 file_response number (Ok text) = response.File number text
 file_response number (Err refusal) = response.Refused refusal

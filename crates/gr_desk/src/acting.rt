@@ -5,6 +5,8 @@ ghost use Rattle.gr_move.specs.Plan.{PlansMove};
 ghost use Rattle.gr_rename.specs.Plan.{PlansRename};
 ghost use Rattle.gr_check.specs.Planned.{change_in};
 ghost use Rattle.gr_verdict.specs.Found.{AreFindings, IsFound, KnowsVerdicts};
+ghost use Rattle.gr_book.specs.Questions.{changing_event};
+ghost use Rattle.gr_book.specs.declared.event.Event.TheVariants.{Commit, Redo, Undo};
 ghost use Rattle.gr_space.specs.Plan.{PlansDel};
 ghost use Rattle.gr_space.specs.declared.change.Change.{Change as PlannedChange};
 ghost use Rattle.gr_line.specs.Commands.{entry_asked, is_wait};
@@ -15,7 +17,6 @@ ghost use Rattle.gr_desk.specs.Act.{
   AnswersFaults,
   Commits,
   FitsView,
-  IsChanging,
   Looks,
   PlansBody,
   Sends,
@@ -30,7 +31,7 @@ use crate::desk::Desk;
 use crate::logging::log;
 use crate::queries::{cat, faults, found, list, object, uses};
 use crate::working::work;
-use gr_book::{Event, Reply, View};
+use gr_book::{Changing, Looking, View};
 use gr_check::Planned;
 use gr_graph::Graph;
 use gr_line::{Bytes, Command, Response, Word};
@@ -70,31 +71,26 @@ fn plan_body(
     }
 }
 
-/// Sends an event that changes the workspace. No view, no line of the journal and no Job answers it.
-fn send<D: Desk>(desk: &mut D, event: Event) -> Response
-    requires { IsChanging event }
-    ensures { Sends D.steps desk.old event result desk.new }
+/// Sends what changes the workspace.
+fn send<D: Desk>(desk: &mut D, asked: Changing) -> Response
+    ensures { Sends D.steps desk.old (changing_event asked) result desk.new }
 {
-    match desk.step(event) {
-        Reply::Done(number) => Response::Done { number },
-        Reply::Refused(refusal) => Response::Refused { refusal },
-        Reply::Looked(_view) => unreachable!(),
-        Reply::Logged(_, _) => unreachable!(),
-        Reply::Taken(_job) => unreachable!(),
-        Reply::Back(_refusal, _job, _built) => unreachable!(),
+    match desk.step(asked) {
+        Ok(number) => Response::Done { number },
+        Err(refusal) => Response::Refused { refusal },
     }
 }
 
 fn undo<D: Desk>(desk: &mut D, basis: u64) -> Response
-    ensures { Sends D.steps desk.old (Event.Undo basis) result desk.new }
+    ensures { Sends D.steps desk.old (Undo basis) result desk.new }
 {
-    send(desk, Event::Undo(basis))
+    send(desk, Changing::Undo(basis))
 }
 
 fn redo<D: Desk>(desk: &mut D, basis: u64) -> Response
-    ensures { Sends D.steps desk.old (Event.Redo basis) result desk.new }
+    ensures { Sends D.steps desk.old (Redo basis) result desk.new }
 {
-    send(desk, Event::Redo(basis))
+    send(desk, Changing::Redo(basis))
 }
 
 /// Commits a change that was planned.
@@ -102,7 +98,7 @@ fn commit<D: Desk>(desk: &mut D, basis: u64, planned: Result<MadeChange, Refusal
     ensures { Commits D.steps desk.old basis planned result desk.new }
 {
     match planned {
-        Ok(change) => send(desk, Event::Commit(basis, change)),
+        Ok(change) => send(desk, Changing::Commit(basis, change)),
         Err(refusal) => Response::Refused { refusal },
     }
 }
@@ -116,9 +112,9 @@ fn commit_learning<D: Desk>(
     known: Known,
 ) -> Response
     requires { KnowsVerdicts files.now known }
-    ensures { Sends D.steps desk.old (Event.Commit basis change) result desk.new }
+    ensures { Sends D.steps desk.old (Commit basis change) result desk.new }
 {
-    let response = send(desk, Event::Commit(basis, change));
+    let response = send(desk, Changing::Commit(basis, change));
     desk.learn(files, known);
     response
 }
@@ -126,12 +122,12 @@ fn commit_learning<D: Desk>(
 /// Commits a planned change. The desk learns what is known of its files, unless a clone of these finds no memory.
 fn commit_planned<D: Desk>(desk: &mut D, basis: u64, planned: Planned) -> Response
     requires { KnowsVerdicts planned.change.files planned.known }
-    ensures { Sends D.steps desk.old (Event.Commit basis planned.change) result desk.new }
+    ensures { Sends D.steps desk.old (Commit basis planned.change) result desk.new }
 {
     let Planned { change, known } = planned;
     match change.get().files.clone() {
         Ok(files) => commit_learning(desk, basis, change, &files, known),
-        Err(_) => send(desk, Event::Commit(basis, change)),
+        Err(_) => send(desk, Changing::Commit(basis, change)),
     }
 }
 
@@ -427,13 +423,9 @@ fn act_looking<D: Desk>(alloc: Global, desk: &mut D, command: Command) -> Respon
     requires wait { is_wait command ≡ false }
     ensures { Looks D.steps desk.old command result desk.new }
 {
-    match desk.step(Event::Look) {
-        Reply::Looked(view) => act_after(alloc, desk, &view, command),
-        Reply::Refused(refusal) => Response::Refused { refusal },
-        Reply::Logged(_, _) => unreachable!(),
-        Reply::Done(_) => unreachable!(),
-        Reply::Taken(_job) => unreachable!(),
-        Reply::Back(_refusal, _job, _built) => unreachable!(),
+    match desk.step(Looking) {
+        Ok(view) => act_after(alloc, desk, &view, command),
+        Err(refusal) => Response::Refused { refusal },
     }
 }
 

@@ -6,7 +6,7 @@ ghost use Rattle.gr_book.specs.declared.event.Reply.{Reply};
 ghost use Rattle.gr_book.specs.MayReply.{MayReply};
 ghost use Rattle.gr_verdict.specs.Found.{KnowsVerdicts};
 
-use gr_book::{Book, Event, Reply};
+use gr_book::{Book, Question};
 use gr_graph::Graph;
 use gr_text::Refusal;
 use gr_verdict::Known;
@@ -21,9 +21,10 @@ pub trait Desk {
     /// after.
     ghost waits: { Self → Result ℕ WhyRefused → Self → Type 0 };
 
-    fn step(&mut self, event: Event) -> Reply
-        ensures step { steps self.old event result self.new }
-        ensures kind { MayReply event result };
+    /// One event. The type of the answer tells which replies it may get.
+    fn step<Q: Question>(&mut self, question: Q) -> Q::Answer
+        ensures step { steps self.old (Q.event question) (Q.reply result) self.new }
+        ensures kind { MayReply (Q.event question) (Q.reply result) };
 
     /// Waits until every package of the current state is finished.
     fn wait(&mut self) -> Result<u64, Refusal>
@@ -78,8 +79,8 @@ impl Desk for Solo {
 
     ghost waits = { RefusesWait };
 
-    fn step(&mut self, event: Event) -> Reply {
-        self.book.step(event)
+    fn step<Q: Question>(&mut self, question: Q) -> Q::Answer {
+        self.book.step(question)
     }
 
     /// No one else builds.

@@ -1,10 +1,11 @@
 //! The command `log`: an entry of the journal is shown.
 ghost use Rattle.std.specs.Prelude.{◌≡◌, ◌++◌, IfOk, OnOk};
+ghost use Rattle.gr_book.specs.declared.event.Event.TheVariants.{Log};
 ghost use Rattle.gr_desk.specs.Act.{Sends, TellsLines};
 ghost use Rattle.gr_desk.specs.Logging.{entry_line, entry_text, number_and, told_number, told_word};
 
 use crate::desk::Desk;
-use gr_book::{Event, Line, Reply, Told};
+use gr_book::{Line, Logging, Told};
 use gr_line::{Bytes, Response, refusal_code};
 use gr_text::Refusal;
 use itoa::Buffer;
@@ -75,14 +76,10 @@ fn tell_entry(alloc: Global, number: u64, line: Option<Line>) -> Response
 
 /// Shows an entry of the journal. No look comes before it.
 pub(crate) fn log<D: Desk>(alloc: Global, desk: &mut D, number: u64) -> Response
-    ensures { Sends D.steps desk.old (Event.Log number) result desk.new }
+    ensures { Sends D.steps desk.old (Log number) result desk.new }
 {
-    match desk.step(Event::Log(number)) {
-        Reply::Logged(current, line) => tell_entry(alloc, current, line),
-        Reply::Refused(refusal) => Response::Refused { refusal },
-        Reply::Looked(_view) => unreachable!(),
-        Reply::Done(_) => unreachable!(),
-        Reply::Taken(_job) => unreachable!(),
-        Reply::Back(_refusal, _job, _built) => unreachable!(),
+    match desk.step(Logging(number)) {
+        Ok((current, line)) => tell_entry(alloc, current, line),
+        Err(refusal) => Response::Refused { refusal },
     }
 }

@@ -4,7 +4,7 @@ ghost use Rattle.gr_compile.specs.Builds.{IsBuiltOf};
 ghost use Rattle.gr_desk.specs.Work.{Builds, Delivers, GivesBack, Works, package_line};
 
 use crate::desk::Desk;
-use gr_book::{Event, Reply};
+use gr_book::{Handed, HandingIn, Taking};
 use gr_compile::{Built, Job, build};
 use gr_line::{Bytes, Response};
 use gr_text::Refusal;
@@ -14,17 +14,14 @@ use std::alloc::{AllocError, Global};
 fn give_back<D: Desk>(desk: &mut D, job: Job)
     ensures { GivesBack D.steps desk.old job desk.new }
 {
-    match desk.step(Event::GiveBack(job)) {
-        Reply::Done(_) => {}
-        Reply::Back(refusal, job, built) => {
+    match desk.step(HandingIn::GiveBack(job)) {
+        Handed::Done(_) => {}
+        Handed::Refused(_refusal) => {}
+        Handed::Back(refusal, job, built) => {
             drop(refusal);
             drop(built);
             drop(job.retire());
         }
-        Reply::Looked(_view) => unreachable!(),
-        Reply::Logged(_, _) => unreachable!(),
-        Reply::Taken(_job) => unreachable!(),
-        Reply::Refused(_refusal) => unreachable!(),
     }
 }
 
@@ -51,17 +48,14 @@ fn deliver<D: Desk>(desk: &mut D, job: Job, built: Built, line: Bytes) -> Respon
     requires { line ≡ package_line job.package }
     ensures { Delivers D.steps desk.old job built result desk.new }
 {
-    match desk.step(Event::Deliver(job, built)) {
-        Reply::Done(number) => Response::Lines { number, text: line },
-        Reply::Refused(refusal) => Response::Refused { refusal },
-        Reply::Back(refusal, job, built) => {
+    match desk.step(HandingIn::Deliver(job, built)) {
+        Handed::Done(number) => Response::Lines { number, text: line },
+        Handed::Refused(refusal) => Response::Refused { refusal },
+        Handed::Back(refusal, job, built) => {
             drop(built);
             give_back(desk, job);
             Response::Refused { refusal }
         }
-        Reply::Looked(_view) => unreachable!(),
-        Reply::Logged(_, _) => unreachable!(),
-        Reply::Taken(_job) => unreachable!(),
     }
 }
 
@@ -84,12 +78,8 @@ fn build_in<D: Desk>(alloc: Global, desk: &mut D, job: Job) -> Response
 pub(crate) fn work<D: Desk>(alloc: Global, desk: &mut D) -> Response
     ensures { Works D.steps desk.old result desk.new }
 {
-    match desk.step(Event::Take) {
-        Reply::Taken(job) => build_in(alloc, desk, job),
-        Reply::Refused(refusal) => Response::Refused { refusal },
-        Reply::Looked(_view) => unreachable!(),
-        Reply::Logged(_, _) => unreachable!(),
-        Reply::Done(_) => unreachable!(),
-        Reply::Back(_refusal, _job, _built) => unreachable!(),
+    match desk.step(Taking) {
+        Ok(job) => build_in(alloc, desk, job),
+        Err(refusal) => Response::Refused { refusal },
     }
 }

@@ -1,5 +1,5 @@
 //! A desk at a seat.
-use gr_book::{Event, Reply};
+use gr_book::Question;
 use gr_desk::Desk;
 use gr_graph::Graph;
 use gr_pool::{Opening, Seat, Shared};
@@ -25,8 +25,8 @@ impl<'a, L: Opening, R: Wait> Desk for Held<'a, L, R> {
 
     ghost waits = { λ old outcome new. (new.seat.ghost_name ≡ old.seat.ghost_name) × WaitsUntilBuilt old.seat.now outcome new.seat.now };
 
-    fn step(&mut self, event: Event) -> Reply {
-        self.shared.call(self.rt, self.seat, event).0
+    fn step<Q: Question>(&mut self, question: Q) -> Q::Answer {
+        self.shared.call(self.rt, self.seat, question).0
     }
 
     fn wait(&mut self) -> Result<u64, Refusal> {

@@ -4,7 +4,7 @@ use Rattle.std.proofs.Common.{refl, sym, ap, ◌∙◌, arith, append-nil, lengt
 use Rattle.std.proofs.lemmas.List.{length-take, take_all, drop_all, take-append-le}
 use Rattle.std.proofs.lemmas.Bool.{ltb-true}
 use Rattle.std.proofs.Math.Seq.{drop-append-add}
-use Rattle.gr_line.specs.declared.input.Line.{Line}
+use Rattle.gr_line.specs.declared.input.ReadLine.{ReadLine}
 use Rattle.std.proofs.lemmas.Grind.{common_steps}
 use Rattle.std.proofs.lemmas.List.Folds.{position_or_len_push, prefix_len-append}
 use Rattle.std.specs.List.{position_or_len}
@@ -12,7 +12,7 @@ use Rattle.std.specs.Io.KnownBytes.{Consumes, Keeps, IsAtEnd}
 use Rattle.std.proofs.KnownBytes.{Consumes-nil, Consumes-trans}
 use Rattle.gr_line.specs.Limit.{is_newline, line_of, after_line}
 use Rattle.gr_line.specs.Incoming.{ReadsLine}
-use Rattle.gr_line.specs.declared.input.Line.TheVariants.{Nothing, Whole, TooLong}
+use Rattle.gr_line.specs.declared.input.ReadLine.TheVariants.{Nothing, Whole, TooLong}
 
 -- these bytes of a line are read, and of them as many as the limit allows are kept
 pub record LineSoFar (limit : ℕ) (before now : Option (List ℕ)) (line : List ℕ) (is_too_long : Bool) : Type 0 where
@@ -129,7 +129,7 @@ line_read limit (Some input) (Some mid) (Some rest) line false h c =
     rw e (not_empty h.bytes rest, short, all ∙ sym (line_of-append h.bytes rest h.plain), ap Some (sym (after_line-append h.bytes rest h.plain)))
 
 -- the line at the end of the input
-abbrev pub end_of : Bool → ℕ → Line
+abbrev pub end_of : Bool → ℕ → ReadLine
 end_of is_too_long size = cond is_too_long TooLong (cond (eqb size 0) Nothing Whole)
 
 nil_of : (bytes : List ℕ) → length bytes ≡ 0 → bytes ≡ []

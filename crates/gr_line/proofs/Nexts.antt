@@ -11,7 +11,7 @@ use Rattle.gr_text.specs.declared.limits.Limits.{Limits}
 use Rattle.gr_line.specs.declared.command.Command.{Command}
 use Rattle.gr_line.specs.declared.command.Command.TheVariants as command
 use Rattle.gr_line.specs.declared.input.InputFault.{InputFault}
-use Rattle.gr_line.specs.declared.input.Line.TheVariants.{Whole}
+use Rattle.gr_line.specs.declared.input.ReadLine.TheVariants.{Whole}
 use Rattle.gr_line.specs.declared.message.Message.{Message}
 use Rattle.gr_line.specs.declared.message.Message.TheVariants.{Ask, Unknown, CutShort}
 use Rattle.gr_line.specs.declared.next.Next.{Next}

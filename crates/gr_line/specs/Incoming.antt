@@ -3,8 +3,8 @@ use Rattle.std.specs.Prelude.{◌≡◌, ◌≢◌, ◌<◌, ◌≤◌, ℕ, Lis
 use Rattle.std.specs.Io.KnownBytes.{Consumes, Keeps, IsAtEnd}
 use Rattle.gr_line.specs.Stops.{StopsInLine}
 use Rattle.gr_line.specs.Limit.{line_of, after_line}
-use Rattle.gr_line.specs.declared.input.Line.{Line}
-use Rattle.gr_line.specs.declared.input.Line.TheVariants.{Nothing, Whole, TooLong}
+use Rattle.gr_line.specs.declared.input.ReadLine.{ReadLine}
+use Rattle.gr_line.specs.declared.input.ReadLine.TheVariants.{Nothing, Whole, TooLong}
 use Rattle.gr_text.specs.declared.limits.Limits.{Limits}
 use Rattle.gr_line.specs.declared.command.Command.{Command}
 use Rattle.gr_line.specs.declared.message.Message.TheVariants.{Ask}
@@ -29,7 +29,7 @@ TakesByte before after (Ok None) = Keeps before after × IsAtEnd after
 TakesByte before after (Err fault) = Keeps before after
 
 -- the first line is read; `line` is what is kept of it
-abbrev pub ReadsLine : ℕ → (before after : Option (List ℕ)) → List ℕ → Result Line InputFault → Type 0
+abbrev pub ReadsLine : ℕ → (before after : Option (List ℕ)) → List ℕ → Result ReadLine InputFault → Type 0
 ReadsLine limit before after line (Ok Nothing) = IfSome before (λ input. (input ≡ []) × (after ≡ Some []))
 ReadsLine limit before after line (Ok Whole) = IfSome before (λ input.
     (input ≢ []) × (length line ≤ limit) × (line ≡ line_of input) × (after ≡ Some (after_line input)))

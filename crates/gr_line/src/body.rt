@@ -4,7 +4,7 @@ ghost use Rattle.gr_line.specs.Failures.{CountsReadFault};
 ghost use Rattle.gr_line.specs.Bodies.{Fills, Skips, ReadsBody, IsKeptOrNoRoom};
 
 use crate::input::{InputFault, read_some};
-use crate::stream::Source;
+use crate::stream::ByteSource;
 use gr_text::FileText;
 use std::alloc::Global;
 
@@ -24,7 +24,11 @@ pub enum Body {
 const DROPPED_AT_ONCE: usize = 512;
 
 /// Fills the buffer. It is false where the input ends before that.
-fn fill<S: Source>(source: &mut S, reads_left: &mut u64, buf: &mut [u8]) -> Result<bool, InputFault>
+fn fill<S: ByteSource>(
+    source: &mut S,
+    reads_left: &mut u64,
+    buf: &mut [u8],
+) -> Result<bool, InputFault>
     requires reads { S.reads source.old + reads_left.old < 2 ^ 64 }
     ensures fills { Fills (S.remaining source.old) (S.remaining source.new) buf.new result }
     ensures counted { CountsReadFault (S.failures source.old) (S.failures source.new) result }
@@ -44,7 +48,7 @@ fn fill<S: Source>(source: &mut S, reads_left: &mut u64, buf: &mut [u8]) -> Resu
 }
 
 /// Reads and drops `size` bytes. It is false where the input ends before that.
-pub fn skip<S: Source>(
+pub fn skip<S: ByteSource>(
     source: &mut S,
     reads_left: &mut u64,
     size: usize,
@@ -79,7 +83,7 @@ fn keep(alloc: Global, bytes: Vec<u8>) -> Body
 }
 
 /// Reads a body of `size` bytes, and keeps it if asked.
-pub fn read_body<S: Source>(
+pub fn read_body<S: ByteSource>(
     alloc: Global,
     source: &mut S,
     reads_left: &mut u64,

@@ -5,7 +5,7 @@ ghost use Rattle.std.specs.Io.KnownBytes.{ReadConsumes};
 ghost use Rattle.gr_line.specs.Failures.{CountsReadFault};
 ghost use Rattle.gr_line.specs.Incoming.{TakesByte, ReadsLine};
 
-use crate::stream::Source;
+use crate::stream::ByteSource;
 
 /// Why an input cannot be read on.
 #[derive(Clone, Copy, Debug, PartialEq, Eq)]
@@ -18,7 +18,7 @@ pub enum InputFault {
 
 /// What a line is.
 #[derive(Clone, Copy, Debug, PartialEq, Eq)]
-pub enum Line {
+pub enum ReadLine {
     /// The input is over.
     Nothing,
     Whole,
@@ -26,7 +26,7 @@ pub enum Line {
 }
 
 /// Makes one of the reads that are left.
-pub fn read_some<S: Source>(
+pub fn read_some<S: ByteSource>(
     source: &mut S,
     reads_left: &mut u64,
     buf: &mut [u8],
@@ -50,7 +50,7 @@ pub fn read_some<S: Source>(
 }
 
 /// Reads one byte, or None at the end of the input.
-fn read_byte<S: Source>(source: &mut S, reads_left: &mut u64) -> Result<Option<u8>, InputFault>
+fn read_byte<S: ByteSource>(source: &mut S, reads_left: &mut u64) -> Result<Option<u8>, InputFault>
     requires reads { S.reads source.old + reads_left.old < 2 ^ 64 }
     ensures byte { TakesByte (S.remaining source.old) (S.remaining source.new) result }
     ensures counted { CountsReadFault (S.failures source.old) (S.failures source.new) result }
@@ -67,12 +67,12 @@ fn read_byte<S: Source>(source: &mut S, reads_left: &mut u64) -> Result<Option<u
 }
 
 /// Reads a line and its newline. `line` then has the line, if it is no longer than the limit.
-pub fn read_line<S: Source>(
+pub fn read_line<S: ByteSource>(
     source: &mut S,
     reads_left: &mut u64,
     line: &mut Vec<u8>,
     limit: usize,
-) -> Result<Line, InputFault>
+) -> Result<ReadLine, InputFault>
     requires reads { S.reads source.old + reads_left.old < 2 ^ 64 }
     requires line_room { limit ≤ vec_capacity line.old }
     ensures room { vec_capacity line.old ≤ vec_capacity line.new }
@@ -99,21 +99,21 @@ pub fn read_line<S: Source>(
     }
 }
 
-fn whole_line(is_too_long: bool) -> Line
-    ensures { result ≡ (if is_too_long then Line.TooLong else Line.Whole) }
+fn whole_line(is_too_long: bool) -> ReadLine
+    ensures { result ≡ (if is_too_long then ReadLine.TooLong else ReadLine.Whole) }
 {
     if is_too_long {
-        Line::TooLong
+        ReadLine::TooLong
     } else {
-        Line::Whole
+        ReadLine::Whole
     }
 }
 
-fn last_line(line: &[u8], is_too_long: bool) -> Line
-    ensures { result ≡ (if is_too_long then Line.TooLong else (if length line.now == 0 then Line.Nothing else Line.Whole)) }
+fn last_line(line: &[u8], is_too_long: bool) -> ReadLine
+    ensures { result ≡ (if is_too_long then ReadLine.TooLong else (if length line.now == 0 then ReadLine.Nothing else ReadLine.Whole)) }
 {
     if !is_too_long && line.is_empty() {
-        Line::Nothing
+        ReadLine::Nothing
     } else {
         whole_line(is_too_long)
     }

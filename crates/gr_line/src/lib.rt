@@ -22,5 +22,5 @@ pub use message::Message;
 pub use next::{LineBuffer, Next, read_command};
 pub use output::print_reply;
 pub use refusal::refusal_code;
-pub use stream::{ReadFailed, Reading, Sink, Source, WriteFailed, Writing};
+pub use stream::{ByteSource, ReadFailed, Reading, Sink, WriteFailed, Writing};
 pub use word::Word;

@@ -8,10 +8,10 @@ ghost use Rattle.gr_line.specs.Parsing.{ReadsLineText};
 
 use crate::body::{Body, read_body, skip};
 use crate::command::Command;
-use crate::input::{InputFault, Line, read_line};
+use crate::input::{InputFault, ReadLine, read_line};
 use crate::message::Message;
 use crate::parse::{CommandLine, parse_command_line};
-use crate::stream::{Sink, Source};
+use crate::stream::{ByteSource, Sink};
 use crate::word::Word;
 use gr_text::{Limits, Path, Refusal};
 use std::alloc::{AllocError, Global};
@@ -92,7 +92,7 @@ struct PutLine<'a> {
 }
 
 /// Reads the body that a line announces, and makes the command.
-fn read_put<S: Source>(
+fn read_put<S: ByteSource>(
     alloc: Global,
     source: &mut S,
     reads_left: &mut u64,
@@ -137,7 +137,7 @@ fn two_words(alloc: Global, one: &str, other: &str) -> Result<(Word, Word), Allo
 }
 
 /// What a command line says, once the bytes that it announces are read.
-fn command_after<S: Source>(
+fn command_after<S: ByteSource>(
     alloc: Global,
     source: &mut S,
     reads_left: &mut u64,
@@ -220,7 +220,7 @@ fn command_line_of(line: &[u8]) -> Option<CommandLine<'_>>
 
 /// Reads the next message whole, and nothing beyond it. A read is taken from `reads_left` for each read of the source.
 /// Each read may wait for the other side, so all that was written to the sink has to be sent before.
-pub fn read_command<S: Source, T: Sink>(
+pub fn read_command<S: ByteSource, T: Sink>(
     alloc: Global,
     source: &mut S,
     _sink: &T,
@@ -238,9 +238,9 @@ pub fn read_command<S: Source, T: Sink>(
 {
     match read_line(source, reads_left, &mut line.bytes, limits.command_bytes) {
         Err(fault) => Err(fault),
-        Ok(Line::Nothing) => Ok(Next::End),
-        Ok(Line::TooLong) => Ok(Next::Message(Message::Unknown)),
-        Ok(Line::Whole) => match command_line_of(&line.bytes) {
+        Ok(ReadLine::Nothing) => Ok(Next::End),
+        Ok(ReadLine::TooLong) => Ok(Next::Message(Message::Unknown)),
+        Ok(ReadLine::Whole) => match command_line_of(&line.bytes) {
             None => Ok(Next::Message(Message::Unknown)),
             Some(command) => command_after(alloc, source, reads_left, command, limits),
         },

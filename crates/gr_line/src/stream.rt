@@ -13,7 +13,7 @@ pub struct ReadFailed;
 #[derive(Clone, Copy, Debug, PartialEq, Eq)]
 pub struct WriteFailed;
 
-pub trait Source {
+pub trait ByteSource {
     /// The bytes that reads will give from here on, where they are known.
     ghost remaining: { Self → Option (List ℕ) };
 
@@ -65,9 +65,9 @@ pub struct Reading<R> {
 
 impl<R: Read> Reading<R> {
     pub fn new(reader: R) -> Self
-        ensures bytes { ⟦<Reading<R> as Source>⟧.remaining result ≡ R.remaining reader }
-        ensures none { ⟦<Reading<R> as Source>⟧.failures result ≡ 0 }
-        ensures unread { ⟦<Reading<R> as Source>⟧.reads result ≡ 0 }
+        ensures bytes { ⟦<Reading<R> as ByteSource>⟧.remaining result ≡ R.remaining reader }
+        ensures none { ⟦<Reading<R> as ByteSource>⟧.failures result ≡ 0 }
+        ensures unread { ⟦<Reading<R> as ByteSource>⟧.reads result ≡ 0 }
     {
         Reading {
             reader,
@@ -77,7 +77,7 @@ impl<R: Read> Reading<R> {
     }
 }
 
-impl<R: Read> Source for Reading<R> {
+impl<R: Read> ByteSource for Reading<R> {
     ghost remaining = { λ r. R.remaining r.reader };
 
     ghost failures = { λ r. r.failures };

@@ -1,7 +1,6 @@
 -- What a call leaves at its seat.
-use Rattle.std.proofs.Common.{◌≡◌, ℕ, Bool, true, List, [], ◌∷◌, ◌++◌, ◌⊎◌, inl, inr, Option, Some, None, Result, Ok, Err, refl, sym, ap, subst, ◌∙◌}
-use Rattle.std.proofs.Common.{⊎_elim, append_assoc}
-use Rattle.std.specs.Prelude.{All}
+use Rattle.std.proofs.Common.{◌≡◌, ℕ, true, List, [], ◌∷◌, ◌++◌, inl, inr, Option, Some, None, Result, Ok, Err, refl, sym, ap, subst, ◌∙◌}
+use Rattle.std.proofs.Common.{⊎_elim}
 use Rattle.std.proofs.lemmas.List.{append-nil}
 use Rattle.std.proofs.lemmas.List.Elements.{All-cons, All-nil}
 use Rattle.std.proofs.lemmas.Option.{none-some}
@@ -12,14 +11,13 @@ use Rattle.gr_book.specs.declared.entry.Told.{Told}
 use Rattle.gr_book.specs.declared.event.Event.{Event}
 use Rattle.gr_book.specs.declared.event.Event.TheVariants.{Look}
 use Rattle.gr_book.specs.declared.event.Reply.{Reply}
-use Rattle.gr_book.specs.declared.event.Reply.TheVariants.{Looked, Logged, Done, Taken, Refused, Back}
+use Rattle.gr_book.specs.declared.event.Reply.TheVariants.{Looked, Refused}
 use Rattle.gr_book.specs.declared.view.View.{View}
 use Rattle.gr_book.specs.Journal.{kind_of, told_of}
-use Rattle.gr_book.specs.Kept.{IsTurnedAway}
 use Rattle.gr_book.specs.Machine.{Machine}
-use Rattle.gr_book.specs.Step.{Step}
+use Rattle.gr_book.specs.Step.{Step, looked}
 use Rattle.gr_pool.specs.declared.receipt.Receipt.{Receipt}
-use Rattle.gr_pool.specs.Call.{Calls, Gains, IsBuilt, IsLack, IsLook, IsReceiptOf, IsStepOf, IsWork, Looks, LooksUntilBuilt, StepsAt, is_work}
+use Rattle.gr_pool.specs.Call.{Calls, Gains, IsBuilt, IsLook, IsReceiptOf, IsStepOf, IsWork, Looks, LooksUntilBuilt, StepsAt, is_work}
 use Rattle.gr_pool.specs.Working.{Replies}
 use Rattle.gr_pool.proofs.GainsLaws.{gains_more}
 
@@ -60,7 +58,7 @@ shows_view old view None new calls =
     absurd (⊎_elim (λ (e : Looked view ≡ Refused Memory). none-some _ (sym (ap told_of e)))
     (λ (e : Looked view ≡ Refused JournalFull). none-some _ (sym (ap told_of e))) calls.0)
 
-pub looked_view : (old : List Receipt) (view : View) (new : List Receipt) → Replies old Look (Looked view) new → Looks old (Ok view) new
+looked_view : (old : List Receipt) (view : View) (new : List Receipt) → Replies old Look (Looked view) new → Looks old (Ok view) new
 looked_view old view new replied = shows_view old view replied.0 new replied.1
 
 look_refused : (old : Machine) (refusal : Refusal) (new : Machine) (told : Told) → Step old Look (Refused refusal) new →
@@ -81,8 +79,13 @@ turns_away old refusal None new calls = (
   calls.1,
 )
 
-pub looked_refusal : (old : List Receipt) (refusal : Refusal) (new : List Receipt) → Replies old Look (Refused refusal) new → Looks old (Err refusal) new
+looked_refusal : (old : List Receipt) (refusal : Refusal) (new : List Receipt) → Replies old Look (Refused refusal) new → Looks old (Err refusal) new
 looked_refusal old refusal new replied = turns_away old refusal replied.0 new replied.1
+
+-- the answer to a look
+pub looks_is : (old : List Receipt) (outcome : Result View Refusal) (new : List Receipt) → Replies old Look (looked outcome) new → Looks old outcome new
+looks_is old (Ok view) new replied = looked_view old view new replied
+looks_is old (Err refusal) new replied = looked_refusal old refusal new replied
 
 -- one look more
 pub looks_on : (old mid : List Receipt) (view : View) (new : List Receipt) → Gains IsLook old mid → Looks mid (Ok view) new → Gains IsLook old new

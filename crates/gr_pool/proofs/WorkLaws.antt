@@ -1,5 +1,5 @@
 -- What a worker's calls leave at its seat.
-use Rattle.std.proofs.Common.{ℕ, zero, suc, List, [], ◌⊎◌, inl, inr, sym, ◌∙◌, refl, ◌≡◌, true}
+use Rattle.std.proofs.Common.{ℕ, zero, suc, List, [], inl, inr, sym, ◌∙◌, refl, ◌≡◌, true}
 use Rattle.std.proofs.lemmas.List.{append-nil}
 use Rattle.std.proofs.lemmas.List.Elements.{All-nil}
 use Rattle.gr_compile.specs.declared.job.JobRecord.{JobRecord}

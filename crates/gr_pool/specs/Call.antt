@@ -5,9 +5,8 @@ use Rattle.gr_text.specs.declared.refusal.Refusal.TheVariants.{Memory, JournalFu
 use Rattle.gr_text.specs.Packages.{package_paths}
 use Rattle.gr_compile.specs.declared.unit.Unit.{Unit as PackageUnit}
 use Rattle.gr_keep.specs.Finished.{Table}
-use Rattle.gr_book.specs.declared.entry.Entry.{Entry}
-use Rattle.gr_book.specs.declared.entry.Kind.{Kind}
-use Rattle.gr_book.specs.declared.entry.Kind.TheVariants as kind
+use Rattle.gr_book.specs.declared.entry.EntryKind.{EntryKind}
+use Rattle.gr_book.specs.declared.entry.EntryKind.TheVariants as kind
 use Rattle.gr_book.specs.declared.event.Event.{Event}
 use Rattle.gr_book.specs.declared.event.Event.TheVariants.{Look}
 use Rattle.gr_book.specs.declared.event.Reply.{Reply}
@@ -74,7 +73,7 @@ abbrev pub Gains : (Receipt → Type 0) → List Receipt → List Receipt → Ty
 Gains P old new = (gained : List Receipt) × (new ≡ old ++ gained) × All P gained
 
 -- a worker's events
-abbrev pub is_work : Kind → Bool
+abbrev pub is_work : EntryKind → Bool
 is_work kind.Take = true
 is_work kind.Deliver = true
 is_work kind.GiveBack = true

@@ -2,13 +2,15 @@
 ghost use Rattle.std.specs.Prelude.{◌≡◌, IfOk, MatchOption, MatchResult};
 ghost use Rattle.gr_text.specs.declared.refusal.Refusal.{Refusal as WhyRefused};
 ghost use Rattle.gr_compile.specs.Builds.{IsBuiltOf};
-ghost use Rattle.gr_book.specs.declared.event.Reply.{Reply as Answer};
+ghost use Rattle.gr_book.specs.declared.event.Event.TheVariants.{Deliver, GiveBack, Take};
+ghost use Rattle.gr_book.specs.declared.event.Reply.{Reply};
+ghost use Rattle.gr_book.specs.declared.event.Reply.TheVariants.{Refused, Taken};
 ghost use Rattle.gr_pool.specs.Working.{ComesBack, Replies, Sends};
 
 use crate::opening::Opening;
 use crate::seat::Seat;
 use crate::shared::Shared;
-use gr_book::{Event, Reply};
+use gr_book::{Handed, HandingIn, Taking};
 use gr_compile::{Built, Job, build};
 use std::alloc::{AllocError, Global};
 use std::sync::Wait;
@@ -25,18 +27,14 @@ pub(crate) fn take<L: Opening, R: Wait>(
     shared: &Shared<L>,
     seat: &mut Seat<L>,
 ) -> Option<InHand>
-    ensures { MatchOption result ((refusal : WhyRefused) × Replies seat.old Event.Take (Reply.Refused refusal) seat.new) (λ hand. Replies seat.old Event.Take (Reply.Taken hand.job) seat.new) }
+    ensures { MatchOption result ((refusal : WhyRefused) × Replies seat.old Take (Refused refusal) seat.new) (λ hand. Replies seat.old Take (Taken hand.job) seat.new) }
 {
-    match shared.send(rt, seat, Event::Take) {
-        Reply::Taken(job) => Some(InHand { job }),
-        Reply::Refused(refusal) => {
+    match shared.send(rt, seat, Taking) {
+        Ok(job) => Some(InHand { job }),
+        Err(refusal) => {
             drop(refusal);
             None
         }
-        Reply::Back(_refusal, _job, _built) => unreachable!(),
-        Reply::Looked(_view) => unreachable!(),
-        Reply::Logged(_, _) => unreachable!(),
-        Reply::Done(_) => unreachable!(),
     }
 }
 
@@ -61,37 +59,31 @@ impl InHand {
         seat: &mut Seat<L>,
         built: Built,
     ) -> Result<(), InHand>
-        ensures { (reply : Answer) × Replies seat.old (Event.Deliver self.job built) reply seat.new × MatchResult result (λ _. ¬ (ComesBack reply)) (λ hand. ComesBack reply × (hand.job ≡ self.job)) }
+        ensures { (reply : Reply) × Replies seat.old (Deliver self.job built) reply seat.new × MatchResult result (λ _. ¬ (ComesBack reply)) (λ hand. ComesBack reply × (hand.job ≡ self.job)) }
     {
         let InHand { job } = self;
-        match shared.send(rt, seat, Event::Deliver(job, built)) {
-            Reply::Done(_) => Ok(()),
-            Reply::Refused(_refusal) => Ok(()),
-            Reply::Back(_refusal, job, built) => {
+        match shared.send(rt, seat, HandingIn::Deliver(job, built)) {
+            Handed::Done(_) => Ok(()),
+            Handed::Refused(_refusal) => Ok(()),
+            Handed::Back(_refusal, job, built) => {
                 drop(built);
                 Err(InHand { job })
             }
-            Reply::Taken(_job) => unreachable!(),
-            Reply::Looked(_view) => unreachable!(),
-            Reply::Logged(_, _) => unreachable!(),
         }
     }
 
     /// Gives the Job back. Where the book does not take it, it is retired.
     pub fn give_back<L: Opening, R: Wait>(self, rt: &R, shared: &Shared<L>, seat: &mut Seat<L>)
-        ensures { Sends seat.old (Event.GiveBack self.job) seat.new }
+        ensures { Sends seat.old (GiveBack self.job) seat.new }
     {
         let InHand { job } = self;
-        match shared.send(rt, seat, Event::GiveBack(job)) {
-            Reply::Done(_) => {}
-            Reply::Back(_refusal, job, built) => {
+        match shared.send(rt, seat, HandingIn::GiveBack(job)) {
+            Handed::Done(_) => {}
+            Handed::Refused(_refusal) => {}
+            Handed::Back(_refusal, job, built) => {
                 drop(built);
                 drop(job.retire());
             }
-            Reply::Taken(_job) => unreachable!(),
-            Reply::Looked(_view) => unreachable!(),
-            Reply::Logged(_, _) => unreachable!(),
-            Reply::Refused(_refusal) => unreachable!(),
         }
     }
 }

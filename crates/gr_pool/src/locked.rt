@@ -11,7 +11,7 @@ use crate::opening::Opening;
 use crate::receipt::Receipt;
 use crate::seat::Seat;
 use crate::settle::{Unsettled, is_settled, merged};
-use gr_book::{Book, Entry, Event, Reply};
+use gr_book::{Book, Entry, EntryKind, Line, Question, Told};
 use gr_graph::Graph;
 use gr_verdict::Known;
 use std::alloc::Global;
@@ -35,11 +35,20 @@ pub(crate) struct Locked<L: Opening> {
 }
 
 /// One step of a book, with a copy of the entry that it added.
-fn step_book(book: &mut Book, event: Event) -> (Reply, Option<Entry>)
-    ensures step { StepKept book.old event result.0 result.1 book.new }
-    ensures kind { MayReply event result.0 }
+fn step_book<Q: Question>(book: &mut Book, question: Q) -> (Q::Answer, Option<Entry>)
+    ensures step { StepKept book.old (Q.event question) (Q.reply result.0) result.1 book.new }
+    ensures kind { MayReply (Q.event question) (Q.reply result.0) }
 {
-    book.step_kept(event)
+    book.step_kept(question)
+}
+
+/// Whether an entry is of an event that may give others something to do: it changed the workspace, or handed a Job in.
+pub(crate) fn is_done(line: &Line) -> bool {
+    match (line.kind, line.out) {
+        (EntryKind::Look | EntryKind::Log | EntryKind::Take, _) => false,
+        (_, Told::Done(_)) => true,
+        (_, Told::Refused(_)) => false,
+    }
 }
 
 impl<L: Opening> Locked<L> {
@@ -55,10 +64,14 @@ impl<L: Opening> Locked<L> {
     }
 
     /// One step of the book, with a receipt of the entry that it added, which counts in the share.
-    pub fn step(&mut self, share: &mut Share<L>, event: Event) -> (Reply, Option<Receipt>)
+    pub fn step<Q: Question>(
+        &mut self,
+        share: &mut Share<L>,
+        question: Q,
+    ) -> (Q::Answer, Option<Receipt>)
         requires { 0 < share.old.parts }
-        ensures step { StepsAt self.old.book event result.0 result.1 self.new.book }
-        ensures kind { MayReply event result.0 }
+        ensures step { StepsAt self.old.book (Q.event question) (Q.reply result.0) result.1 self.new.book }
+        ensures kind { MayReply (Q.event question) (Q.reply result.0) }
         ensures amount { share.new.amount ≡ share.old.amount + (if is_some result.1 then 1 else 0) }
         ensures parts { share.new.parts ≡ share.old.parts }
     {
@@ -69,28 +82,32 @@ impl<L: Opening> Locked<L> {
             done,
             ..
         } = self;
-        let (reply, kept) = step_book(book, event);
-        if let Reply::Done(_) = &reply {
-            *done = done.wrapping_add(1);
-        }
+        let (answer, kept) = step_book(book, question);
         match kept {
-            None => (reply, None),
+            None => (answer, None),
             Some(entry) => {
+                if is_done(&entry.line) {
+                    *done = done.wrapping_add(1);
+                }
                 count.add(share, 1);
-                (reply, Some(Receipt { index, entry }))
+                (answer, Some(Receipt { index, entry }))
             }
         }
     }
 
     /// The same, for callers who cannot name the book.
-    pub fn call(&mut self, share: &mut Share<L>, event: Event) -> (Reply, Option<Receipt>)
+    pub fn call<Q: Question>(
+        &mut self,
+        share: &mut Share<L>,
+        question: Q,
+    ) -> (Q::Answer, Option<Receipt>)
         requires { 0 < share.old.parts }
-        ensures step { IsStepOf event result.0 result.1 }
-        ensures kind { MayReply event result.0 }
+        ensures step { IsStepOf (Q.event question) (Q.reply result.0) result.1 }
+        ensures kind { MayReply (Q.event question) (Q.reply result.0) }
         ensures amount { share.new.amount ≡ share.old.amount + (if is_some result.1 then 1 else 0) }
         ensures parts { share.new.parts ≡ share.old.parts }
     {
-        self.step(share, event)
+        self.step(share, question)
     }
 
     /// The book takes in what was found in packages of these files. It is no event.

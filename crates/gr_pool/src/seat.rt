@@ -1,10 +1,10 @@
 //! A seat at a shared book.
 ghost use Rattle.std.specs.Prelude.{◌≡◌, ◌+◌, ◌<◌, ◌≤◌, [], length, vec_len, vec_capacity, IfOk, IsOk};
-ghost use Rattle.gr_pool.specs.Reserved.{receipts_needed, GivesBack};
+ghost use Rattle.gr_pool.specs.Reserved.{GivesBack, receipts_needed};
 
 use crate::opening::Opening;
 use crate::receipt::Receipt;
-use gr_book::{Event, Reply};
+use gr_book::{EntryKind, Line, Reason, Told};
 use std::alloc::{AllocError, Global};
 use std::marker::Model;
 use std::sync::ledger::Share;
@@ -69,20 +69,16 @@ fn sum(one: u64, other: u64) -> Result<u64, AllocError>
     one.checked_add(other).ok_or(AllocError)
 }
 
-/// For how many receipts there must be room before an event. Where one of the Jobs is given back, there is such room already.
-fn receipts_needed(jobs: u64, event: &Event) -> Result<u64, AllocError>
-    ensures needed { IfOk result (λ needed. (needed ≡ receipts_needed event.now jobs) × (0 < needed)) }
-    ensures given_back { GivesBack event.now → IsOk result }
+/// For how many receipts there must be room before an event of a kind. Where one of the Jobs is given back, there is such room
+/// already.
+fn receipts_needed(jobs: u64, kind: EntryKind) -> Result<u64, AllocError>
+    ensures needed { IfOk result (λ needed. (needed ≡ receipts_needed kind jobs) × (0 < needed)) }
+    ensures given_back { GivesBack kind → IsOk result }
 {
-    match event {
-        Event::Take => sum(jobs, 2),
-        Event::GiveBack(_) => Ok(jobs.max(1)),
-        Event::Look
-        | Event::Log(_)
-        | Event::Commit(..)
-        | Event::Undo(_)
-        | Event::Redo(_)
-        | Event::Deliver(..) => sum(jobs, 1),
+    match kind {
+        EntryKind::Take => sum(jobs, 2),
+        EntryKind::GiveBack => Ok(jobs.max(1)),
+        _ => sum(jobs, 1),
     }
 }
 
@@ -91,40 +87,30 @@ fn receipts_needed(jobs: u64, event: &Event) -> Result<u64, AllocError>
 pub(crate) fn reserve(
     receipts: &mut Vec<Receipt>,
     jobs: u64,
-    event: &Event,
+    kind: EntryKind,
 ) -> Result<u64, AllocError>
     requires { vec_len receipts.old + jobs ≤ vec_capacity receipts.old }
     ensures items { receipts.new.items ≡ receipts.old.items }
     ensures kept { vec_len receipts.old + jobs ≤ vec_capacity receipts.new }
-    ensures needed { IfOk result (λ needed. (needed ≡ receipts_needed event.now jobs) × (0 < needed)) }
+    ensures needed { IfOk result (λ needed. (needed ≡ receipts_needed kind jobs) × (0 < needed)) }
     ensures room { IfOk result (λ needed. vec_len receipts.old + needed ≤ vec_capacity receipts.new) }
-    ensures given_back { GivesBack event.now → 0 < jobs → IsOk result }
+    ensures given_back { GivesBack kind → 0 < jobs → IsOk result }
 {
-    let needed = receipts_needed(jobs, event)?;
+    let needed = receipts_needed(jobs, kind)?;
     receipts.reserve(needed as usize)?;
     Ok(needed)
 }
 
-/// How many Jobs are in hand after the reply to an event, for which there was room for so many receipts.
-pub(crate) fn jobs_after(jobs: u64, needed: u64, is_delivery: bool, reply: &Reply) -> u64
+/// How many Jobs are in hand after the event of an entry, for which there was room for so many receipts.
+pub(crate) fn jobs_after(jobs: u64, needed: u64, line: &Line) -> u64
     requires { 0 < needed }
     ensures { result < needed }
 {
-    let in_hand = match reply {
-        Reply::Taken(_) => jobs.saturating_add(1),
-        Reply::Done(_) => if is_delivery {
-            jobs.saturating_sub(1)
-        } else {
-            jobs
-        },
-        Reply::Refused(_) => if is_delivery {
-            jobs.saturating_sub(1)
-        } else {
-            jobs
-        },
-        Reply::Looked(_) => jobs,
-        Reply::Logged(..) => jobs,
-        Reply::Back(..) => jobs,
+    let in_hand = match (line.kind, line.out) {
+        (EntryKind::Take, Told::Done(_)) => jobs.saturating_add(1),
+        (EntryKind::Deliver, Told::Refused(Reason::NoJob)) => jobs,
+        (EntryKind::Deliver, _) => jobs.saturating_sub(1),
+        _ => jobs,
     };
     in_hand.min(needed - 1)
 }

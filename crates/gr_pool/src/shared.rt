@@ -8,12 +8,12 @@ ghost use Rattle.gr_pool.specs.Settled.{IsSettled, receipt_count};
 ghost use Rattle.gr_pool.specs.Outcome.{book_in};
 
 use crate::built::is_built;
-use crate::locked::Locked;
+use crate::locked::{Locked, is_done};
 use crate::opening::Opening;
 use crate::receipt::Receipt;
 use crate::seat::{Seat, jobs_after, reserve};
 use crate::settle::Unsettled;
-use gr_book::{Book, Event, Reply, View, refuse};
+use gr_book::{Book, Line, Looking, Question, View};
 use gr_graph::Graph;
 use gr_text::Refusal;
 use gr_verdict::Known;
@@ -63,48 +63,69 @@ impl<L: Opening> Shared<L> {
         self.locked.get_mut().seat(self.alloc)
     }
 
-    /// One event of the book, at a seat. With a reply that the journal keeps comes the index of its entry.
-    pub fn call<R: Wait>(&self, rt: &R, seat: &mut Seat<L>, event: Event) -> (Reply, Option<u64>)
-        ensures receipt { Calls seat.old event result.0 result.1 seat.new }
-        ensures kind { MayReply event result.0 }
+    /// One event of the book, at a seat. With an answer that the journal keeps comes the index of its entry.
+    pub fn call<R: Wait, Q: Question>(
+        &self,
+        rt: &R,
+        seat: &mut Seat<L>,
+        question: Q,
+    ) -> (Q::Answer, Option<u64>)
+        ensures receipt { Calls seat.old (Q.event question) (Q.reply result.0) result.1 seat.new }
+        ensures kind { MayReply (Q.event question) (Q.reply result.0) }
     {
-        let needed = match reserve(&mut seat.receipts, seat.jobs, &event) {
-            Err(_) => return (refuse(event, Refusal::Memory), None),
+        let needed = match reserve(&mut seat.receipts, seat.jobs, question.kind()) {
+            Err(_) => return (question.refuse(Refusal::Memory), None),
             Ok(needed) => needed,
         };
-        let is_delivery = matches!(&event, Event::Deliver(..));
-        let (reply, kept) = self.step(rt, &mut seat.share, event);
+        let (answer, kept) = self.step(rt, &mut seat.share, question);
         let Some(receipt) = kept else {
-            return (reply, None);
+            return (answer, None);
         };
         let index = receipt.index;
-        seat.jobs = jobs_after(seat.jobs, needed, is_delivery, &reply);
+        seat.jobs = jobs_after(seat.jobs, needed, &receipt.entry.line);
         seat.receipts.push_reserved(receipt);
-        (reply, Some(index))
+        (answer, Some(index))
     }
 
     /// One event under the lock. Who waits is told where it was done.
-    fn step<R: Wait>(&self, rt: &R, share: &mut Share<L>, event: Event) -> (Reply, Option<Receipt>)
+    fn step<R: Wait, Q: Question>(
+        &self,
+        rt: &R,
+        share: &mut Share<L>,
+        question: Q,
+    ) -> (Q::Answer, Option<Receipt>)
         requires { 0 < share.old.parts }
-        ensures step { IsStepOf event result.0 result.1 }
-        ensures kind { MayReply event result.0 }
+        ensures step { IsStepOf (Q.event question) (Q.reply result.0) result.1 }
+        ensures kind { MayReply (Q.event question) (Q.reply result.0) }
         ensures amount { share.new.amount ≡ share.old.amount + (if is_some result.1 then 1 else 0) }
         ensures parts { share.new.parts ≡ share.old.parts }
     {
-        let (reply, kept) = self.locked.lock(rt).call(share, event);
-        if let Reply::Done(_) = &reply {
+        let (answer, kept) = self.locked.lock(rt).call(share, question);
+        if let Some(receipt) = &kept {
+            self.wake(&receipt.entry.line);
+        }
+        (answer, kept)
+    }
+
+    /// Wakes who waits, where the event of an entry was done.
+    fn wake(&self, line: &Line) {
+        if is_done(line) {
             self.changed.notify_all();
         }
-        (reply, kept)
     }
 
     /// The same, for callers who need no index.
-    pub(crate) fn send<R: Wait>(&self, rt: &R, seat: &mut Seat<L>, event: Event) -> Reply
-        ensures replies { Replies seat.old event result seat.new }
-        ensures kind { MayReply event result }
+    pub(crate) fn send<R: Wait, Q: Question>(
+        &self,
+        rt: &R,
+        seat: &mut Seat<L>,
+        question: Q,
+    ) -> Q::Answer
+        ensures replies { Replies seat.old (Q.event question) (Q.reply result) seat.new }
+        ensures kind { MayReply (Q.event question) (Q.reply result) }
     {
-        let (reply, _index) = self.call(rt, seat, event);
-        reply
+        let (answer, _index) = self.call(rt, seat, question);
+        answer
     }
 
     /// Has the book take in what was found in packages of these files. It is no event, and no seat gains a receipt.
@@ -173,14 +194,7 @@ impl<L: Opening> Shared<L> {
     pub(crate) fn look<R: Wait>(&self, rt: &R, seat: &mut Seat<L>) -> Result<View, Refusal>
         ensures { Looks seat.old result seat.new }
     {
-        match self.send(rt, seat, Event::Look) {
-            Reply::Looked(view) => Ok(view),
-            Reply::Refused(refusal) => Err(refusal),
-            Reply::Taken(_job) => unreachable!(),
-            Reply::Back(_refusal, _job, _built) => unreachable!(),
-            Reply::Done(_number) => unreachable!(),
-            Reply::Logged(_number, _line) => unreachable!(),
-        }
+        self.send(rt, seat, Looking)
     }
 
     fn done_by_now<R: Wait>(&self, rt: &R) -> u64 {

@@ -8,7 +8,7 @@ ghost use Rattle.gr_wire.specs.Transcript.{SessionEnds, CountsFaults, StepEnds};
 
 use gr_desk::{Desk, act};
 use gr_line::{
-    InputFault, LineBuffer, Message, Next, Response, Sink, Source, WriteFailed, print_reply,
+    ByteSource, InputFault, LineBuffer, Message, Next, Response, Sink, WriteFailed, print_reply,
     read_command,
 };
 use gr_text::{Limits, Refusal};
@@ -61,7 +61,7 @@ struct Allowance {
 }
 
 /// Has all sent that was written, since a read may wait for the other side, and reads the next message.
-fn await_message<S: Source, T: Sink>(
+fn await_message<S: ByteSource, T: Sink>(
     alloc: Global,
     source: &mut S,
     sink: &mut T,
@@ -104,7 +104,7 @@ fn send_reply<T: Sink>(sink: &mut T, reply: &Response, is_last: bool) -> Result<
 }
 
 /// Reads the next message, has it answered, and writes the reply. It is false where the session ends.
-fn serve_next<S: Source, T: Sink, D: Desk>(
+fn serve_next<S: ByteSource, T: Sink, D: Desk>(
     alloc: Global,
     source: &mut S,
     sink: &mut T,
@@ -139,7 +139,7 @@ fn serve_next<S: Source, T: Sink, D: Desk>(
 
 /// Serves one session: reads commands to the end, has each answered, and writes the replies.
 /// What was done before a fault stands. Each reply is sent before the next message is waited for, and the last at the end.
-pub fn session<S: Source, T: Sink, D: Desk>(
+pub fn session<S: ByteSource, T: Sink, D: Desk>(
     alloc: Global,
     source: &mut S,
     sink: &mut T,

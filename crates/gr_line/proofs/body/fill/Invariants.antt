@@ -5,10 +5,10 @@ use Rattle.gr_line.proofs.body.fill.Given as goal
 
 abbrev pub invariant-loop-at : goal.invariant-loop-at
 invariant-loop-at g l = record {
-  reads : g.S.Source.reads l.source + l.reads_left ≡ g.S.Source.reads l.initial.source + l.initial.reads_left;
+  reads : g.S.ByteSource.reads l.source + l.reads_left ≡ g.S.ByteSource.reads l.initial.source + l.initial.reads_left;
   within : l.at ≤ length l.buf;
-  taken : Consumes (g.S.Source.remaining l.initial.source) (g.S.Source.remaining l.source) (take l.at l.buf);
-  reader : g.S.Source.failures l.source ≡ g.S.Source.failures l.initial.source;
+  taken : Consumes (g.S.ByteSource.remaining l.initial.source) (g.S.ByteSource.remaining l.source) (take l.at l.buf);
+  reader : g.S.ByteSource.failures l.source ≡ g.S.ByteSource.failures l.initial.source;
   turns : l.reads_left ≤ l.initial.reads_left;
 }
 

@@ -5,9 +5,9 @@ use Rattle.gr_line.proofs.body.skip.Given as goal
 
 abbrev pub invariant-loop-left : goal.invariant-loop-left
 invariant-loop-left g l = record {
-  reads : g.S.Source.reads l.source + l.reads_left ≡ g.S.Source.reads l.initial.source + l.initial.reads_left;
-  taken : (bytes : List ℕ) × (length bytes + l.left ≡ l.fn.size) × Consumes (g.S.Source.remaining l.initial.source) (g.S.Source.remaining l.source) bytes;
-  reader : g.S.Source.failures l.source ≡ g.S.Source.failures l.initial.source;
+  reads : g.S.ByteSource.reads l.source + l.reads_left ≡ g.S.ByteSource.reads l.initial.source + l.initial.reads_left;
+  taken : (bytes : List ℕ) × (length bytes + l.left ≡ l.fn.size) × Consumes (g.S.ByteSource.remaining l.initial.source) (g.S.ByteSource.remaining l.source) bytes;
+  reader : g.S.ByteSource.failures l.source ≡ g.S.ByteSource.failures l.initial.source;
   turns : l.reads_left ≤ l.initial.reads_left;
 }
 

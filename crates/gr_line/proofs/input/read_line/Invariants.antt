@@ -5,11 +5,11 @@ use Rattle.gr_line.proofs.input.read_line.Given as goal
 
 abbrev pub invariant-loop-line : goal.invariant-loop-line
 invariant-loop-line g l = record {
-  reads : g.S.Source.reads l.source + l.reads_left ≡ g.S.Source.reads l.initial.source + l.initial.reads_left;
+  reads : g.S.ByteSource.reads l.source + l.reads_left ≡ g.S.ByteSource.reads l.initial.source + l.initial.reads_left;
   grown : vec_capacity l.initial.line ≤ vec_capacity l.line;
   room : l.fn.limit ≤ vec_capacity l.line;
-  so_far : LineSoFar l.fn.limit (g.S.Source.remaining l.initial.source) (g.S.Source.remaining l.source) l.line.items l.is_too_long;
-  reader : g.S.Source.failures l.source ≡ g.S.Source.failures l.initial.source;
+  so_far : LineSoFar l.fn.limit (g.S.ByteSource.remaining l.initial.source) (g.S.ByteSource.remaining l.source) l.line.items l.is_too_long;
+  reader : g.S.ByteSource.failures l.source ≡ g.S.ByteSource.failures l.initial.source;
   turns : l.reads_left ≤ l.initial.reads_left;
 }
 

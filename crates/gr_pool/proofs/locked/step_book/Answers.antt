@@ -3,4 +3,5 @@ use Rattle.gr_book.proofs.Replies.{may_reply}
 use Rattle.gr_pool.proofs.locked.step_book.Goals as goal
 
 pub returns-clause-kind : goal.returns-clause-kind
-returns-clause-kind c = may_reply c.args.book.now c.args.event c.step_kept.result.0 c.step_kept.new.self c.step_kept.ensures.0
+returns-clause-kind g c =
+    may_reply c.args.book.now (g.Q.Question.event c.args.question) (g.Q.Question.reply c.step_kept.result.0) c.step_kept.new.self c.step_kept.ensures.0

@@ -5,10 +5,10 @@ use Rattle.gr_wire.proofs.exchange.session.Given as goal
 
 abbrev pub invariant-loop-reading : goal.invariant-loop-reading
 invariant-loop-reading g l = record {
-  reads : g.S.Source.reads l.source + l.reading.reads_left ≡ g.S.Source.reads l.initial.source + l.initial.reading.reads_left;
-  step : StepEnds g.D.Desk.steps g.D.Desk.waits l.limits (g.S.Source.remaining l.initial.source) (g.S.Source.remaining l.source)
+  reads : g.S.ByteSource.reads l.source + l.reading.reads_left ≡ g.S.ByteSource.reads l.initial.source + l.initial.reading.reads_left;
+  step : StepEnds g.D.Desk.steps g.D.Desk.waits l.limits (g.S.ByteSource.remaining l.initial.source) (g.S.ByteSource.remaining l.source)
       (g.T.Sink.contents l.initial.sink) (g.T.Sink.contents l.sink) l.initial.desk l.desk (Ok true);
-  reader : g.S.Source.failures l.source ≡ g.S.Source.failures l.initial.source;
+  reader : g.S.ByteSource.failures l.source ≡ g.S.ByteSource.failures l.initial.source;
   writer : g.T.Sink.failures l.sink ≡ g.T.Sink.failures l.initial.sink;
 }
 

@@ -1,6 +1,7 @@
 -- The Job is out no more, and the current state takes in what the delivery came to.
 use Rattle.std.proofs.Common.{subst}
 use Rattle.gr_book.specs.Machine.{Content}
+use Rattle.gr_book.specs.Questions.{handed}
 use Rattle.gr_book.specs.Step.{AnswersOrLacks}
 use Rattle.gr_book.specs.declared.event.Event.TheVariants.{Deliver}
 use Rattle.gr_book.proofs.Settled.{settled}
@@ -19,7 +20,8 @@ returns-in-Ok-take_back c =
       visit = c.self.inside.visit;
       out = c.self.inside.out;
     } in
-    let new : Content = record old { current = c.settle.new.current; out = c.take_back.new.self } in
-    subst (λ (x : Content). AnswersOrLacks x (Deliver job c.args.built) c.settle.result new) c.self.view_is
-    (settled old job c.args.built c.take_back.new.self c.in-Ok-take_back.ensures.1 c.in-Ok.outcome c.settle.result c.settle.new.current c.in-Ok.ensures
-    c.settle.ensures)
+    let new : Content = record old { current = c.take_in.new.current; out = c.take_back.new.self } in
+    subst (λ (x : Content). AnswersOrLacks x (Deliver job c.args.built) (handed c.take_in.result) new) c.self.view_is
+    (settled old job c.args.built c.take_back.new.self c.in-Ok-take_back.ensures.1 c.in-Ok.outcome (handed c.take_in.result) c.take_in.new.current
+    c.in-Ok.ensures
+    c.take_in.ensures)

@@ -3,4 +3,6 @@ use Rattle.gr_pool.proofs.CallLaws.{step_of}
 use Rattle.gr_pool.proofs.locked.Locked.call.Goals as goal
 
 pub returns-clause-step : goal.returns-clause-step
-returns-clause-step g c = step_of c.args.self.now.book c.args.event c.step.result.0 c.step.result.1 c.step.new.self.book c.step.ensures.step
+returns-clause-step g c =
+    step_of c.args.self.now.book (g.Q.Question.event c.args.question) (g.Q.Question.reply c.step.result.0) c.step.result.1 c.step.new.self.book
+    c.step.ensures.step

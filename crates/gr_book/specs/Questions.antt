@@ -1,0 +1,36 @@
+-- The events that questions are, and the replies that their answers are.
+use Rattle.std.specs.Prelude.{ℕ, Option, Result, Ok, Err}
+use Rattle.gr_text.specs.declared.refusal.Refusal.{Refusal}
+use Rattle.gr_book.specs.declared.changing.Changing.{Changing}
+use Rattle.gr_book.specs.declared.changing.Changing.TheVariants as changing
+use Rattle.gr_book.specs.declared.entry.Line.{Line}
+use Rattle.gr_book.specs.declared.event.Event.{Event}
+use Rattle.gr_book.specs.declared.event.Event.TheVariants.{Commit, Undo, Redo, Deliver, GiveBack}
+use Rattle.gr_book.specs.declared.event.Reply.{Reply}
+use Rattle.gr_book.specs.declared.event.Reply.TheVariants.{Logged, Done, Refused, Back}
+use Rattle.gr_book.specs.declared.handed.Handed.{Handed}
+use Rattle.gr_book.specs.declared.handed.Handed.TheVariants as handed_in
+use Rattle.gr_book.specs.declared.handing.HandingIn.{HandingIn}
+use Rattle.gr_book.specs.declared.handing.HandingIn.TheVariants as handing
+
+-- a change of the workspace
+abbrev pub changing_event : Changing → Event
+changing_event (changing.Commit basis change) = Commit basis change
+changing_event (changing.Undo basis) = Undo basis
+changing_event (changing.Redo basis) = Redo basis
+
+-- a Job that is handed in
+abbrev pub handing_event : HandingIn → Event
+handing_event (handing.Deliver job built) = Deliver job built
+handing_event (handing.GiveBack job) = GiveBack job
+
+-- the number of the current state, and the line of an entry, if there is one
+abbrev pub logged : Result (ℕ × Option Line) Refusal → Reply
+logged (Ok shown) = Logged shown.0 shown.1
+logged (Err refusal) = Refused refusal
+
+-- the answer to a Job that was handed in
+abbrev pub handed : Handed → Reply
+handed (handed_in.Done number) = Done number
+handed (handed_in.Refused refusal) = Refused refusal
+handed (handed_in.Back refusal job built) = Back refusal job built

@@ -1,0 +1,98 @@
+//! The questions that bring a Job back.
+ghost use Rattle.std.specs.Prelude.{◌≡◌, ◌↔◌, IsTrue, None, Some};
+ghost use Rattle.gr_compile.specs.Jobs.{IsOut};
+ghost use Rattle.gr_book.specs.Journal.{subject_after, told_of};
+ghost use Rattle.gr_book.specs.Questions.{handed, handing_event};
+
+use crate::content::Content;
+use crate::entry::{Entry, EntryKind, Told};
+use crate::handed::Handed;
+use crate::question::{Answered, Asked, Question};
+use crate::told::refusal_told;
+use gr_compile::{Built, Job};
+use gr_text::Refusal;
+
+/// A Job that is handed in.
+pub enum HandingIn {
+    /// With what was built for it.
+    Deliver(Job, Built),
+    GiveBack(Job),
+}
+
+/// What is known of a Job that is handed in.
+fn asked_of(kind: EntryKind, job: &Job, content: &Content) -> Asked
+    ensures kind { result.kind ≡ kind }
+    ensures basis { result.basis ≡ job.now.number }
+    ensures out { IsTrue result.is_out ↔ IsOut content.now.out job.now }
+{
+    Asked {
+        kind,
+        basis: job.number(),
+        is_out: content.is_out(job),
+    }
+}
+
+/// What is answered to a Job with this ticket that was handed in.
+fn answered(ticket: u64, outcome: Handed) -> Answered<Handed>
+    ensures answer { result.answer ≡ outcome }
+    ensures out { result.out ≡ told_of (handed outcome) }
+    ensures subject { result.subject ≡ subject_after (Some ticket) (handed outcome) }
+    ensures made { result.made ≡ None }
+{
+    let subject = Some(ticket);
+    match outcome {
+        Handed::Done(number) => {
+            Answered::new(Handed::Done(number), Some(Told::Done(number)), subject)
+        }
+        Handed::Refused(refusal) => {
+            let out = refusal_told(&refusal);
+            Answered::new(Handed::Refused(refusal), out, subject)
+        }
+        Handed::Back(refusal, job, built) => {
+            let out = refusal_told(&refusal);
+            Answered::new(Handed::Back(refusal, job, built), out, subject)
+        }
+    }
+}
+
+impl Question for HandingIn {
+    type Answer = Handed;
+
+    ghost event = { handing_event };
+
+    ghost reply = { handed };
+
+    fn kind(&self) -> EntryKind {
+        match self {
+            HandingIn::Deliver(..) => EntryKind::Deliver,
+            HandingIn::GiveBack(_) => EntryKind::GiveBack,
+        }
+    }
+
+    fn asked(&self, content: &Content) -> Asked {
+        match self {
+            HandingIn::Deliver(job, _) => asked_of(EntryKind::Deliver, job, content),
+            HandingIn::GiveBack(job) => asked_of(EntryKind::GiveBack, job, content),
+        }
+    }
+
+    fn ask(self, content: &mut Content, _journal: &[Entry]) -> Answered<Handed> {
+        match self {
+            HandingIn::Deliver(job, built) => {
+                let ticket = job.ticket();
+                answered(ticket, content.deliver(job, built))
+            }
+            HandingIn::GiveBack(job) => {
+                let ticket = job.ticket();
+                answered(ticket, content.give_back(job))
+            }
+        }
+    }
+
+    fn refuse(self, refusal: Refusal) -> Handed {
+        match self {
+            HandingIn::Deliver(job, built) => Handed::Back(refusal, job, Some(built)),
+            HandingIn::GiveBack(job) => Handed::Back(refusal, job, None),
+        }
+    }
+}
