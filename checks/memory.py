@@ -70,7 +70,7 @@ def around(lines, number):
 
 def is_sound(lines, number, crate, answers):
     """Whether the place on the line makes want of memory of an allocation that was refused."""
-    if re.search(r"\.checked_add\(.*\)\.ok_or\(AllocError\)$", lines[number].strip()):
+    if re.search(r"\.checked_add\(.*\)\.ok_or\(AllocError\)(\?;)?$", lines[number].strip()):
         return True
     mapped = re.search(r"(.*)\.map_err\(\|_\|", lines[number])
     if mapped:
