@@ -19,7 +19,7 @@ use Rattle.gr_declared.specs.declared.interfaces.Interfaces.{Interfaces}
 use Rattle.gr_types.specs.declared.checking.Checked.{Checked}
 use Rattle.gr_types.specs.Check.{IsFoundIn}
 use Rattle.gr_verdict.specs.Faults.{placed, placed_in}
-use Rattle.gr_verdict.specs.Verdicts.{Verdicts, BuildsOn, IsFaultBy, HasInterface, IsVerdictBy, IsVerdict, AreStates, AreSeen, AreVerdictsBelow}
+use Rattle.gr_verdict.specs.Verdicts.{Verdicts, BuildsOn, IsFaultBy, HasInterface, IsVerdictBy, IsVerdict, AreStates, AreSeen}
 use Rattle.gr_verdict.specs.FaultLists.{AreListed}
 use Rattle.gr_verdict.specs.Told.{known_by, AreWhole, AreUsesOf, IsFinding, IsFindingOf}
 use Rattle.gr_verdict.specs.declared.fault.FileFault.{FileFault}
@@ -93,7 +93,8 @@ AddsPlaced files fault old new = (f : FileFault) → Contains new f ↔ (Contain
 -- One package
 
 -- what checking found in p, each of whose files has a tree, by what p sees of others
-pub record IsCheckedIn (w : Workspace) (known : Verdicts) (p : List ℕ) (files : List FileParts) (c : Checked) : Type 0 where
+pub record IsCheckedIn (w : Workspace) (known : Verdicts) (p : List ℕ) (c : Checked) : Type 0 where
+  pub files : List FileParts
   pub parsed : AreParsed (package_files w p) files []
   pub state : List ℕ → ImportState
   pub are_states : AreStates w known p state

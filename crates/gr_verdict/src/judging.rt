@@ -1,8 +1,9 @@
 //! The faults of one package, or its interface and its uses of members.
 ghost use Rattle.std.specs.Prelude.{ℕ, ◌≡◌, ◌<◌, List, [], length, Contains, IfOk};
-ghost use Rattle.gr_text.specs.Packages.{package_paths};
+ghost use Rattle.gr_text.specs.Packages.{package_files, package_paths};
 ghost use Rattle.gr_text.specs.Workspace.{Workspace};
 ghost use Rattle.gr_graph.specs.Graphs.{IsPackage, OfPackage};
+ghost use Rattle.gr_graph.specs.Parsed.{AreParsed};
 ghost use Rattle.gr_verdict.specs.Verdicts.{Verdicts};
 ghost use Rattle.gr_verdict.specs.Told.{known_by, AreWhole};
 ghost use Rattle.gr_verdict.specs.Steps.{IsCheckedIn, IsJudged};
@@ -45,7 +46,7 @@ pub(crate) fn place_checked(
     files: &Package,
     checked: Checked,
 ) -> Result<Judged, AllocError>
-    ensures { IfOk result (λ j. (w : Workspace) → (known : Verdicts) → (p : List ℕ) → Contains (package_paths w) p → IsCheckedIn w known p files.now.trees.items checked → IsJudged w known p j) }
+    ensures { IfOk result (λ j. (w : Workspace) → (known : Verdicts) → (p : List ℕ) → Contains (package_paths w) p → AreParsed (package_files w p) files.now.trees.items [] → IsCheckedIn w known p checked → IsJudged w known p j) }
 {
     let Checked {
         faults,

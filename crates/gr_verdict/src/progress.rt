@@ -1,8 +1,7 @@
 //! What is found in packages while they are judged one after the other, where a caller checks one of them itself.
 ghost use Rattle.std.specs.Prelude.{◌≡◌, ◌<◌, ◌↔◌, length, IfOk, IsTrue, OnOk};
 ghost use Rattle.gr_text.specs.Packages.{package_paths};
-ghost use Rattle.gr_graph.specs.declared.package.Package.{Package};
-ghost use Rattle.gr_graph.specs.Graphs.{IsPackage, OfPackage};
+ghost use Rattle.gr_graph.specs.Graphs.{OfPackage};
 ghost use Rattle.gr_verdict.specs.Found.{IsFound, KnowsVerdicts};
 ghost use Rattle.gr_verdict.specs.Steps.{AreGathered, AreKnownBelow, IsBuildOrder, IsCheckedIn, IsGathered, IsUnderway, LearnsOf};
 ghost use Rattle.gr_verdict.specs.Told.{known_by};
@@ -62,7 +61,7 @@ fn learn_checked(
     requires all { AreGathered graph.now (length (package_paths graph.now)) all.old }
     requires unknown { IsGathered all.old.findings.items number → ⊥ }
     requires path { OfPackage graph.now number (λ p. path ≡ p) }
-    requires checked { (files : Package) → IsPackage graph.now number files → OfPackage graph.now number (λ p. IsCheckedIn graph.now (known_by all.old.interfaces) p files.trees.items checked) }
+    requires checked { OfPackage graph.now number (λ p. IsCheckedIn graph.now (known_by all.old.interfaces) p checked) }
     ensures { OnOk result (OfPackage graph.now number (λ p. LearnsOf graph.now p number all.old all.new)) }
 {
     let judged = place_checked(alloc, graph.package(number), checked)?;
@@ -106,7 +105,7 @@ impl Progress {
         &self.all.interfaces
     }
 
-    /// Takes in what checking found in a package, each of whose files has a tree, and of which nothing is known yet.
+    /// Takes in what checking found in a package, of which nothing is known yet.
     pub fn learn(
         &mut self,
         alloc: Global,
@@ -120,7 +119,7 @@ impl Progress {
         requires below { OfPackage graph.now number (λ p. AreKnownBelow graph.now p self.old.all) }
         requires unknown { IsGathered self.old.all.findings.items number → ⊥ }
         requires path { OfPackage graph.now number (λ p. path ≡ p) }
-        requires checked { (files : Package) → IsPackage graph.now number files → OfPackage graph.now number (λ p. IsCheckedIn graph.now (known_by self.old.all.interfaces) p files.trees.items checked) }
+        requires checked { OfPackage graph.now number (λ p. IsCheckedIn graph.now (known_by self.old.all.interfaces) p checked) }
         ensures { OnOk result (IsUnderway graph.now self.new) }
     {
         learn_checked(alloc, graph, number, path, checked, &mut self.all)?;

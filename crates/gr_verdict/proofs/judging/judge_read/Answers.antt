@@ -25,7 +25,8 @@ returns c =
     let found = subst (λ q. IsFoundIn q files.trees.items (state_in i.states) (name_in i) (interface_in i) checked) (c.requires.path p at)
     (subst (λ ts. IsFoundIn c.args.path.now ts (state_in i.states) (name_in i) (interface_in i) checked) c.deref.ensures.value
     c.in_ok-checked.ensures.found) in
-    is w (known_by c.args.all.now) p (at_contains w c.args.number p at) (record {
+    is w (known_by c.args.all.now) p (at_contains w c.args.number p at) parsed (record {
+      files = files.trees.items;
       parsed = parsed;
       state = state_in i.states;
       are_states = c.in_ok-interfaces.ensures.states p at;
