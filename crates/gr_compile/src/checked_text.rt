@@ -151,14 +151,15 @@ fn read_text(
     ensures checked { IfOk result (λ made. IsCheckedIn graph.now (known_by all.now) path.now made.checked) }
     ensures text { IfOk result (λ made. AreVerdictsBelow graph.now path.now (known_by all.now) → MayBeText graph.now path.now made.text) }
 {
+    let trees = files.trees.as_slice();
     let interfaces = seen_imports(alloc, graph, number, all)?;
-    let found = table_of(alloc, &files.trees, &interfaces)?;
+    let found = table_of(alloc, trees, &interfaces)?;
     let Some(table) = found else {
         return no_text(alloc, path, files, &interfaces);
     };
     let unit = Package {
         path,
-        files: &files.trees,
+        files: trees,
         table: &table,
         interfaces: &interfaces,
     };
