@@ -153,7 +153,7 @@ fn read_text(
 {
     let trees = files.trees.as_slice();
     let interfaces = seen_imports(alloc, graph, number, all)?;
-    let found = table_of(alloc, trees, &interfaces)?;
+    let found = table_of(alloc, interfaces.states(), trees, &interfaces)?;
     let Some(table) = found else {
         return no_text(alloc, path, files, &interfaces);
     };

@@ -29,7 +29,7 @@ use gr_expr::found::MemberUse;
 use gr_expr::symbol::SharedPath;
 use gr_expr::world::Definition;
 use gr_fault::Fault;
-use gr_imports::lay_names;
+use gr_imports::{ImportStates, lay_names};
 use gr_meanings::{Bounds, bounds_of};
 use gr_members::{Members, member_faults};
 use gr_scope::declare::declare;
@@ -215,12 +215,13 @@ fn laid<'a>(
 /// imported package.
 pub fn table_of<'a>(
     alloc: Global,
+    states: &ImportStates,
     files: &'a [FileTree],
     interfaces: &'a Interfaces,
 ) -> Result<Option<ScopeTable<'a>>, AllocError>
-    ensures { IfOk result (MayLay files.now (state_in interfaces.now.states) (name_in interfaces.now)) }
+    ensures { IfOk result (MayLay files.now (state_in states.now) (name_in interfaces.now)) }
 {
-    let faults = outer_faults(alloc, interfaces.states(), files)?;
+    let faults = outer_faults(alloc, states, files)?;
     if !faults.is_empty() {
         return Ok(None);
     }
