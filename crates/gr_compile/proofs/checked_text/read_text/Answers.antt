@@ -10,9 +10,7 @@ use Rattle.gr_imports.specs.States.{state_in}
 use Rattle.gr_declared.specs.InterfacesView.{name_in, interface_in}
 use Rattle.gr_declared.specs.Package.{Package}
 use Rattle.gr_meanings.specs.PackageOf.{IsPackageOf, package_in}
-use Rattle.gr_fault.specs.Stage.{HasNone}
-use Rattle.gr_stages.specs.Stages.{IsOuterFault}
-use Rattle.gr_types.specs.Check.{inside}
+use Rattle.gr_types.specs.Check.{IsLaid, inside}
 use Rattle.gr_verdict.specs.Told.{known_by}
 use Rattle.gr_compile.proofs.CheckedText.{parsed_all}
 use Rattle.gr_compile.proofs.checked_text.read_text.Goals as goal
@@ -54,7 +52,7 @@ returns c =
     let trees = c.as_slice-trees.result.now in
     let i = c.in_ok-interfaces.interfaces in
     let table = c.in-Some.table in
-    let laid = c.in_ok-found.ensures table c.in-Some.is in
+    let laid = subst (λ s. IsLaid trees (state_in s) (name_in i) table) c.states.ensures (c.in_ok-found.ensures table c.in-Some.is) in
     let parsed : AreParsed (package_files w p) trees [] =
     subst (λ ts. AreParsed (package_files w p) ts []) (sym c.as_slice-trees.ensures.value)
     (parsed_all w c.args.number p c.args.files.now at c.requires.files c.requires.read) in
@@ -69,7 +67,7 @@ returns c =
         name_of = name_in i;
         interface_of = interface_in i;
         are_seen = c.in_ok-interfaces.ensures.seen p at;
-        is_found = inside {p = own} (subst (λ s. HasNone (IsOuterFault (state_in s) (map source_of trees))) c.states.ensures laid.faultless) mine checked;
+        is_found = inside {p = own} laid.faultless mine checked;
       }) c.unit_text.ensures.checked;
       text = IfOk-weaker c.unit_text.result _ _ (λ made printed right text is. record {
         known = known_by c.args.all.now;
