@@ -47,7 +47,7 @@ fn found_definitions(interface: &Option<Interface>) -> &[Definition]
 }
 
 /// The text of the object of a package without faults, by what checking found.
-fn print(
+fn printed(
     alloc: Global,
     unit: Package<'_>,
     index: &Index<'_>,
@@ -95,7 +95,7 @@ fn with_text(
     };
     let mut bounds = meant;
     let packages = names_below(alloc, graph, number)?;
-    let text = print(alloc, unit, index, &checked, &mut bounds, &packages)?;
+    let text = printed(alloc, unit, index, &checked, &mut bounds, &packages)?;
     Ok(CheckedText {
         checked,
         text: Some(text),

@@ -9,8 +9,8 @@ use Rattle.gr_compile.proofs.checked_text.with_text.Goals as goal
 pub returns-in_default : goal.returns-in_default
 returns-in_default c = record { checked = c.requires.checked; text = λ p at text is. absurd (none-some text is) }
 
-pub print-requires : goal.print-requires
-print-requires c =
+pub printed-requires : goal.printed-requires
+printed-requires c =
     let checked = c.args.found.checked in
     let kept = c.requires.bounds c.in-Some.meant c.in-Some.is in
     record {

@@ -1,4 +1,4 @@
--- The answers to the goals of `checked_text::print`.
+-- The answers to the goals of `checked_text::printed`.
 use Rattle.std.proofs.Common.{sym, subst}
 use Rattle.std.specs.Prelude.{map}
 use Rattle.std.proofs.lemmas.Result.{IfOk-weaker}
@@ -6,7 +6,7 @@ use Rattle.gr_declared.specs.PackageView.{package_of}
 use Rattle.gr_meanings.specs.MemberUses.{AreMemberUses, uses_in}
 use Rattle.gr_object.specs.ObjectView.{AreOwnDefinitions}
 use Rattle.gr_object.specs.Sources.{IsObjectText}
-use Rattle.gr_compile.proofs.checked_text.print.Goals as goal
+use Rattle.gr_compile.proofs.checked_text.printed.Goals as goal
 
 pub checked_object-requires : goal.checked_object-requires
 checked_object-requires c = record {
