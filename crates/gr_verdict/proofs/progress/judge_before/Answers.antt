@@ -1,5 +1,6 @@
 -- The answers to the goals of `progress::judge_before`.
-use Rattle.std.proofs.Common.{◌≡◌, ◌+◌, ◌<◌, take, length, get_or, refl, subst, ◌∙◌, arith}
+use Rattle.std.proofs.Common.{◌≡◌, ◌+◌, ◌<◌, take, length, get_or, refl, ap, subst, ◌∙◌, arith}
+use Rattle.std.specs.Prelude.{Some}
 use Rattle.std.proofs.lemmas.List.{take_all}
 use Rattle.std.proofs.lemmas.List.Elements.{Contains-get_or}
 use Rattle.std.proofs.lemmas.Option.{slice_get-get_or, slice_get_within}
@@ -38,15 +39,13 @@ loop-next-preserved c =
     (λ r on. below_before w order built k n q.0 r there q.1 on)
     c.loop-next.all c.judge_next.new.all c.loop-next.invariant (c.in_ok-judge_next.ensures q.0 q.1)
 
-pub returns-then-eq : goal.returns-then-eq
-returns-then-eq c =
+pub returns-then-next-number-clause-below : goal.returns-then-next-number-clause-below
+returns-then-next-number-clause-below c =
     let order = c.args.order.now in
     let k = c.loop-next.next-index in
     let lt : k < length order = omega arith in
-    record {
-      right = c.loop-next.invariant.right;
-      below = below_passed c.args.graph.now order c.requires.order c.args.number k (slice_get-get_or order k 0 lt) c.loop-next.all c.loop-next.invariant;
-    }
+    below_passed c.args.graph.now order c.requires.order c.args.number k (slice_get-get_or order k 0 lt ∙ ap Some c.if-next-number.true) c.loop-next.all
+    c.loop-next.invariant
 
 pub returns : goal.returns
 returns c =
