@@ -47,13 +47,13 @@ fn found_definitions(interface: &Option<Interface>) -> &[Definition]
 }
 
 /// The text of the object of a package without faults, by what checking found.
-fn printed(
+fn printed<'a>(
     alloc: Global,
-    unit: Package<'_>,
-    index: &Index<'_>,
-    checked: &Checked,
+    unit: Package<'a>,
+    index: &'a Index<'a>,
+    checked: &'a Checked,
     bounds: &mut Bounds,
-    packages: &Packages<'_>,
+    packages: &'a Packages<'a>,
 ) -> Result<FileText, AllocError>
     requires index { IsIndexOf (package_of unit) index.now }
     requires bounds { AreBounds (package_of unit) bounds.old.list.items bounds.old.of.items }
@@ -136,12 +136,12 @@ fn no_text(
 }
 
 /// What checking finds in a package each of whose files has a tree, with the text of its object if it has no fault.
-fn read_text(
+fn read_text<'a>(
     alloc: Global,
     graph: &Graph,
     number: usize,
-    path: &SharedPath,
-    files: &Folder,
+    path: &'a SharedPath,
+    files: &'a Folder,
     all: &Interfaces,
 ) -> Result<CheckedText, AllocError>
     requires at { slice_get (package_paths graph.now) number ≡ Some path.now }

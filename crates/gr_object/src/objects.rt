@@ -212,13 +212,13 @@ fn all_bounds(alloc: Global, unit: Package<'_>, index: &Index<'_>) -> Result<Bou
 
 /// The text of the object of a package that has no fault, by what is found once in it and by what its declarations mean. What other
 /// packages export may be added to the list of meanings.
-pub fn checked_object(
+pub fn checked_object<'a>(
     alloc: Global,
-    unit: Package<'_>,
-    index: &Index<'_>,
+    unit: Package<'a>,
+    index: &'a Index<'a>,
     bounds: &mut Bounds,
-    given: Faultless<'_>,
-    packages: &Packages<'_>,
+    given: Faultless<'a>,
+    packages: &'a Packages<'a>,
 ) -> Result<Vec<u8>, AllocError>
     requires index { IsIndexOf (package_of unit) index.now }
     requires bounds { AreBounds (package_of unit) bounds.old.list.items bounds.old.of.items }
