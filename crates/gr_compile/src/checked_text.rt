@@ -11,7 +11,7 @@ ghost use Rattle.gr_meanings.specs.MemberUses.{AreMemberUses, uses_in};
 ghost use Rattle.gr_types.specs.Check.{IsCheckedBy, IsFoundIn, IsLaterFault, MayMean};
 ghost use Rattle.gr_verdict.specs.Steps.{AreKnownBelow, IsCheckedIn, IsGathered, IsUnderway};
 ghost use Rattle.gr_verdict.specs.Told.{known_by, AreWhole};
-ghost use Rattle.gr_verdict.specs.Verdicts.{AreVerdictsBelow};
+ghost use Rattle.gr_verdict.specs.Verdicts.{AreSeen, AreStates, AreVerdictsBelow, Verdicts};
 ghost use Rattle.gr_object.specs.ObjectView.{AreOwnDefinitions, HaveNames};
 ghost use Rattle.gr_object.specs.Sources.{IsObjectText};
 ghost use Rattle.gr_compile.specs.Compiling.{MayBeText, MayPrint, found_definitions};
@@ -135,13 +135,43 @@ fn no_text(
     })
 }
 
-/// What checking finds in a package each of whose files has a tree, with the text of its object if it has no fault.
-fn read_text<'a>(
+/// What checking finds in a package each of whose files has a tree, by what it sees of others, with the text of its object if it has
+/// no fault.
+fn seen_text<'a>(
     alloc: Global,
     graph: &Graph,
     number: usize,
     path: &'a SharedPath,
     files: &'a Folder,
+    interfaces: &'a Interfaces,
+) -> Result<CheckedText, AllocError>
+    requires at { slice_get (package_paths graph.now) number ≡ Some path.now }
+    requires files { IsPackage graph.now number files.now }
+    requires read { files.now.faulty.items ≡ [] }
+    ensures checked { IfOk result (λ made. (known : Verdicts) → AreSeen graph.now known path.now (name_in interfaces.now) (interface_in interfaces.now) → AreStates graph.now known path.now (state_in interfaces.now.states) → IsCheckedIn graph.now known path.now made.checked) }
+    ensures text { IfOk result (λ made. (known : Verdicts) → AreSeen graph.now known path.now (name_in interfaces.now) (interface_in interfaces.now) → AreVerdictsBelow graph.now path.now known → MayBeText graph.now path.now made.text) }
+{
+    let trees = files.trees.as_slice();
+    let found = table_of(alloc, interfaces.states(), trees, interfaces)?;
+    let Some(table) = found else {
+        return no_text(alloc, path, files, interfaces);
+    };
+    let unit = Package {
+        path,
+        files: trees,
+        table: &table,
+        interfaces,
+    };
+    unit_text(alloc, graph, number, unit)
+}
+
+/// What checking finds in a package each of whose files has a tree, with the text of its object if it has no fault.
+fn read_text(
+    alloc: Global,
+    graph: &Graph,
+    number: usize,
+    path: &SharedPath,
+    files: &Folder,
     all: &Interfaces,
 ) -> Result<CheckedText, AllocError>
     requires at { slice_get (package_paths graph.now) number ≡ Some path.now }
@@ -151,19 +181,8 @@ fn read_text<'a>(
     ensures checked { IfOk result (λ made. IsCheckedIn graph.now (known_by all.now) path.now made.checked) }
     ensures text { IfOk result (λ made. AreVerdictsBelow graph.now path.now (known_by all.now) → MayBeText graph.now path.now made.text) }
 {
-    let trees = files.trees.as_slice();
     let interfaces = seen_imports(alloc, graph, number, all)?;
-    let found = table_of(alloc, interfaces.states(), trees, &interfaces)?;
-    let Some(table) = found else {
-        return no_text(alloc, path, files, &interfaces);
-    };
-    let unit = Package {
-        path,
-        files: trees,
-        table: &table,
-        interfaces: &interfaces,
-    };
-    unit_text(alloc, graph, number, unit)
+    seen_text(alloc, graph, number, path, files, &interfaces)
 }
 
 /// Checks a package each of whose files has a tree, and of which nothing is known yet, and tells the text of its object if it has

@@ -1,5 +1,5 @@
 -- The answers to the goals of `checked_text::printed`.
-use Rattle.std.proofs.Common.{sym, subst}
+use Rattle.std.proofs.Common.{◌≡◌, sym, subst}
 use Rattle.std.specs.Prelude.{map}
 use Rattle.std.proofs.lemmas.Result.{IfOk-weaker}
 use Rattle.gr_declared.specs.PackageView.{package_of}

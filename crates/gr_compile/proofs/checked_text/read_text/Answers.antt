@@ -1,18 +1,8 @@
 -- The answers to the goals of `checked_text::read_text`.
-use Rattle.std.proofs.Common.{◌≡◌, List, ℕ, map, refl, sym, subst, ◌∙◌}
-use Rattle.std.specs.Prelude.{Some}
-use Rattle.std.proofs.lemmas.Option.{none-some, slice_get_within}
+use Rattle.std.proofs.lemmas.Option.{slice_get_within}
 use Rattle.std.proofs.lemmas.Result.{IfOk-weaker}
-use Rattle.gr_text.specs.Packages.{package_paths, package_files}
-use Rattle.gr_tree.specs.SourceFile.{source_of}
-use Rattle.gr_graph.specs.Parsed.{AreParsed}
-use Rattle.gr_imports.specs.States.{state_in}
-use Rattle.gr_declared.specs.InterfacesView.{name_in, interface_in}
-use Rattle.gr_declared.specs.Package.{Package}
-use Rattle.gr_meanings.specs.PackageOf.{IsPackageOf, package_in}
-use Rattle.gr_types.specs.Check.{IsLaid, inside}
+use Rattle.gr_text.specs.Packages.{package_paths}
 use Rattle.gr_verdict.specs.Told.{known_by}
-use Rattle.gr_compile.proofs.CheckedText.{parsed_all}
 use Rattle.gr_compile.proofs.checked_text.read_text.Goals as goal
 
 pub seen_imports-requires : goal.seen_imports-requires
@@ -21,66 +11,12 @@ seen_imports-requires c = record {
   whole = c.requires.whole;
 }
 
-pub unit_text-requires : goal.unit_text-requires
-unit_text-requires c = slice_get_within (package_paths c.args.graph.now) c.args.number c.args.path.now c.requires.at
-
-pub returns-in_default : goal.returns-in_default
-returns-in_default c =
-    let w = c.args.graph.now in
-    let p = c.args.path.now in
-    let files = c.args.files.now in
-    let i = c.in_ok-interfaces.interfaces in
-    record {
-      checked = IfOk-weaker c.no_text.result _ _ (λ made found. record {
-        files = files.trees.items;
-        parsed = parsed_all w c.args.number p files c.requires.at c.requires.files c.requires.read;
-        state = state_in i.states;
-        are_states = c.in_ok-interfaces.ensures.states p c.requires.at;
-        name_of = name_in i;
-        interface_of = interface_in i;
-        are_seen = c.in_ok-interfaces.ensures.seen p c.requires.at;
-        is_found = found;
-      }) c.no_text.ensures.found;
-      text = IfOk-weaker c.no_text.result _ _ (λ made none right text is. absurd (none-some text (sym none ∙ is))) c.no_text.ensures.text;
-    }
-
 pub returns : goal.returns
 returns c =
-    let w = c.args.graph.now in
-    let p = c.args.path.now in
-    let at = c.requires.at in
-    let trees = c.as_slice-trees.result.now in
-    let i = c.in_ok-interfaces.interfaces in
-    let table = c.in-Some.table in
-    let laid = subst (λ s. IsLaid trees (state_in s) (name_in i) table) c.states.ensures (c.in_ok-found.ensures table c.in-Some.is) in
-    let parsed : AreParsed (package_files w p) trees [] =
-    subst (λ ts. AreParsed (package_files w p) ts []) (sym c.as_slice-trees.ensures.value)
-    (parsed_all w c.args.number p c.args.files.now at c.requires.files c.requires.read) in
-    let own = package_in p (map source_of trees) table (interface_in i) in
-    let mine : IsPackageOf p trees (name_in i) (interface_in i) own = record { laid = table; is_laid = laid.is_laid; is_package = refl } in
+    let known = known_by c.args.all.now in
+    let seen = c.in_ok-interfaces.ensures.seen c.args.path.now c.requires.at in
     record {
-      checked = IfOk-weaker c.unit_text.result _ _ (λ made checked. record {
-        files = trees;
-        parsed = parsed;
-        state = state_in i.states;
-        are_states = c.in_ok-interfaces.ensures.states p at;
-        name_of = name_in i;
-        interface_of = interface_in i;
-        are_seen = c.in_ok-interfaces.ensures.seen p at;
-        is_found = inside {p = own} laid.faultless mine checked;
-      }) c.unit_text.ensures.checked;
-      text = IfOk-weaker c.unit_text.result _ _ (λ made printed right text is. record {
-        known = known_by c.args.all.now;
-        right = right;
-        checked = own;
-        is_package = record {
-          files = trees;
-          parsed = parsed;
-          name_of = name_in i;
-          interface_of = interface_in i;
-          are_seen = c.in_ok-interfaces.ensures.seen p at;
-          is_package = mine;
-        };
-        is_printed = printed p at text is;
-      }) c.unit_text.ensures.text;
+      checked = IfOk-weaker c.seen_text.result _ _ (λ made h. h known seen (c.in_ok-interfaces.ensures.states c.args.path.now c.requires.at))
+          c.seen_text.ensures.checked;
+      text = IfOk-weaker c.seen_text.result _ _ (λ made h right. h known seen right) c.seen_text.ensures.text;
     }

@@ -75,7 +75,7 @@ faultless_unit-requires c =
     let empty = vec_empty f.faults c.is_empty.result c.is_empty.ensures c.if-not-is_empty.false in
     record {
       at = c.requires.at;
-      found = subst (IsFaultless w found.interfaces p) (sym c.deref-2.ensures.value) (without_faults w p found f is empty);
+      found = subst (IsFaultless w found.interfaces p) (sym c.deref-in-None.ensures.value) (without_faults w p found f is empty);
     }
 
 pub returns-in-Some : goal.returns-in-Some
