@@ -6,10 +6,9 @@ use Rattle.std.specs.Prelude.{Option, slice_get}
 use Rattle.std.proofs.lemmas.Bool.{cases_Bool}
 use Rattle.gr_text.specs.Workspace.{Workspace}
 use Rattle.gr_text.specs.Packages.{package_files}
-use Rattle.gr_tree.specs.SourceFile.{FileParts, source_of}
+use Rattle.gr_tree.specs.SourceFile.{FileParts}
 use Rattle.gr_graph.specs.FaultyFiles.{FaultyParts}
-use Rattle.gr_graph.specs.Parsed.{AreParsed, none, tree, fault}
-use Rattle.gr_graph.proofs.OneFile.{file_or_fault}
+use Rattle.gr_graph.specs.Parsed.{AreParsed}
 use Rattle.gr_expr.specs.declared.found.MemberUse.{MemberUse}
 use Rattle.gr_expr.specs.declared.world.Definition.{Definition}
 use Rattle.gr_expr.specs.WorldView.{definition_or_none, definitions_at, ranked}
@@ -23,18 +22,12 @@ use Rattle.gr_declared.specs.Package.{Package, Interface, symbol_in}
 use Rattle.gr_verdict.specs.Told.{known_by}
 use Rattle.gr_verdict.specs.Verdicts.{Verdicts, AreSeen, HasInterface, IsPackageIn, IsVerdictBy}
 use Rattle.gr_verdict.proofs.Members.{nothing_in}
-use Rattle.gr_verdict.proofs.OnePackage.{one_checked}
-use Rattle.gr_verdict.proofs.OneVerdict.{verdict_by}
+use Rattle.gr_verdict.proofs.OnePackage.{all_read, one_checked}
+use Rattle.gr_verdict.proofs.OneVerdict.{checked_as_one, verdict_by}
 use Rattle.gr_object.specs.declared.packages.Packages.{Packages}
 use Rattle.gr_object.specs.ObjectView.{AreOwnDefinitions, IsObjectTextOf, OwnDefinitionsOf}
-use Rattle.gr_compile.specs.Compiling.{HaveNamesBelow, IsFaultless}
+use Rattle.gr_compile.specs.Compiling.{HaveNamesBelow, IsFaultless, IsTextOf}
 use Rattle.gr_compile.specs.Units.{IsCompiled}
-
--- where all files of a package have trees, none is without
-all_read : {es : List (List ℕ × List ℕ)} {ts us : List FileParts} {fs : List FaultyParts} → AreParsed es ts fs → AreParsed es us [] → fs ≡ []
-all_read none none = refl
-all_read (tree is rest) (tree so others) = all_read rest others
-all_read (fault {e = e} {f = f} is rest) (tree {t = u} so others) = absurd (file_or_fault e.0 e.1 (source_of u) f.fault so is.is_fault)
 
 -- the definitions of an interface are those of the package, by their ranks
 own_definitions : (p : Package) (all : Interfaces) (list : List Definition) → IsInterface p (interface_in all p.path) →
@@ -57,6 +50,22 @@ module _ (w : Workspace) (p : List ℕ) (all : Interfaces) (members : List (Vec 
         | inl e ↦ (let f = verdict.has_faults.0 e in absurd (nothing_in f.0 ((found.listed.each f.0).1 f.1)))
         | inr e ↦ e
       ])
+
+  -- the object that was printed where it was checked is its object
+  pub compiled_as : (text : List ℕ) → IsTextOf w p text → IsCompiled w p (interface_in all p) text
+  compiled_as text t =
+      let same : own.checked ≡ t.checked = checked_as_one w p known t.known found.below t.right own.checked t.checked own.is_package t.is_package in
+      record {
+        known = t.known;
+        right = t.right;
+        faultless = record { known = known; right = found.below; listed = found.listed };
+        checked = t.checked;
+        is_package = t.is_package;
+        interface = subst (λ d. IsInterface d (interface_in all p)) same own.is_interface;
+        files_of = t.is_printed.files_of;
+        are_files = t.is_printed.are_files;
+        is_object = t.is_printed.is_object;
+      }
 
   module _ (trees : List FileParts) (faulty : List FaultyParts) (parsed : AreParsed (package_files w p) trees faulty) (name_of : List ℕ → Option (List ℕ))
       (interface_of : List ℕ → Interface) (are_seen : AreSeen w known p name_of interface_of) where

@@ -1,6 +1,7 @@
 -- The lemmas of this crate.
 pub mod Named
 pub mod Faultless
+pub mod CheckedText
 pub mod ClosureFiles
 pub mod Locality
 pub mod OneUnit

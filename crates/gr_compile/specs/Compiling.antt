@@ -1,18 +1,22 @@
 -- What is found on the way to a unit.
-use Rattle.std.specs.Prelude.{ℕ, ◌≡◌, List, []}
+use Rattle.std.specs.Prelude.{ℕ, ◌≡◌, List, [], Option, None, Some}
 use Rattle.std.specs.Global.{Vec}
 use Rattle.gr_text.specs.Workspace.{Workspace}
 use Rattle.gr_tree.specs.SourceFile.{SourceFile}
 use Rattle.gr_expr.specs.declared.found.MemberUse.{MemberUse}
+use Rattle.gr_expr.specs.declared.world.Definition.{Definition}
+use Rattle.gr_declared.specs.Package.{Package}
+use Rattle.gr_declared.specs.declared.interfaces.Interface.{Interface}
 use Rattle.gr_declared.specs.declared.interfaces.Interfaces.{Interfaces}
 use Rattle.gr_declared.specs.InterfacesView.{interface_in}
 use Rattle.gr_verdict.specs.declared.fault.FileFault.{FileFault}
 use Rattle.gr_verdict.specs.FaultLists.{AreListed}
 use Rattle.gr_verdict.specs.Found.{KnowsVerdicts}
 use Rattle.gr_verdict.specs.Told.{known_by, AreWhole, AreUsesOf}
-use Rattle.gr_verdict.specs.Verdicts.{IsFaultBy, IsVerdict, AreVerdictsBelow}
+use Rattle.gr_verdict.specs.Verdicts.{Verdicts, IsFaultBy, IsPackageIn, IsVerdict, AreVerdictsBelow}
 use Rattle.gr_object.specs.declared.packages.Packages.{Packages}
 use Rattle.gr_object.specs.ObjectView.{HaveNames}
+use Rattle.gr_object.specs.Sources.{IsObjectText}
 use Rattle.gr_compile.specs.declared.compiling.Made.{Made}
 use Rattle.gr_compile.specs.declared.unit.Unit.{Unit as PackageUnit}
 use Rattle.gr_compile.specs.Units.{AreFilesBelow, IsUnitIn, IsUnitOf, KnowsOnly, unit_value, Faults}
@@ -50,3 +54,31 @@ pub record IsMade (w : Workspace) (p : List ℕ) (made : Made) : Type 0 where
 pub record IsMadeIn (w : Workspace) (p : List ℕ) (made : Made) : Type 0 where
   pub unit : IsUnitIn w p made.unit
   pub verdicts : KnowsVerdicts w made.known
+
+-- Where a package is checked and its object printed in one
+
+-- the type definitions of an interface that was found
+abbrev pub found_definitions : Option Interface → List Definition
+found_definitions None = []
+found_definitions (Some i) = i.definitions.items
+
+-- the text of the object of p, which is checked as c
+pub record IsPrintedAs (w : Workspace) (p : List ℕ) (c : Package) (text : List ℕ) : Type 0 where
+  pub files_of : List ℕ → List SourceFile
+  pub are_files : AreFilesBelow w p files_of
+  pub is_object : IsObjectText c files_of text
+
+abbrev pub MayPrint : Workspace → List ℕ → Package → Option (List ℕ) → Type 0
+MayPrint w p c found = (text : List ℕ) → found ≡ Some text → IsPrintedAs w p c text
+
+-- the text of the object of p
+pub record IsTextOf (w : Workspace) (p : List ℕ) (text : List ℕ) : Type 0 where
+  pub known : Verdicts
+  pub right : AreVerdictsBelow w p known
+  pub checked : Package
+  pub is_package : IsPackageIn w known p checked
+  pub is_printed : IsPrintedAs w p checked text
+
+-- if it was printed
+abbrev pub MayBeText : Workspace → List ℕ → Option (List ℕ) → Type 0
+MayBeText w p found = (text : List ℕ) → found ≡ Some text → IsTextOf w p text

@@ -4,10 +4,11 @@ ghost use Rattle.gr_text.specs.Packages.{package_paths};
 ghost use Rattle.gr_text.specs.Workspace.{Workspace};
 ghost use Rattle.gr_expr.specs.WorldView.{definitions_at, ranked};
 ghost use Rattle.gr_declared.specs.InterfacesView.{interface_in};
-ghost use Rattle.gr_verdict.specs.Found.{IsFoundBy, KnowsVerdicts};
-ghost use Rattle.gr_compile.specs.Compiling.{HasJust, HoldsFaults, IsFaultless, IsMade, IsMadeIn};
+ghost use Rattle.gr_verdict.specs.Found.{AreFindings, KnowsVerdicts};
+ghost use Rattle.gr_compile.specs.Compiling.{HasJust, HoldsFaults, IsFaultless, IsMade, IsMadeIn, MayBeText};
 ghost use Rattle.gr_compile.specs.Units.{IsCompiled, IsUnitOf};
 
+use crate::checked_text::text_first;
 use crate::naming::names_below;
 use crate::unit::{Compiled, Unit};
 use gr_declared::Interfaces;
@@ -17,7 +18,7 @@ use gr_expr::world::Definition;
 use gr_graph::Graph;
 use gr_object::objects::{Faultless, object};
 use gr_text::FileText;
-use gr_verdict::{FileFault, Finding, Found, Known, seen, verdicts};
+use gr_verdict::{FileFault, Findings, Found, Known, Progress, seen};
 use std::alloc::{AllocError, Global};
 
 /// The type definitions of a package, by their ranks.
@@ -71,7 +72,20 @@ fn object_of(
     FileText::new(alloc, text)
 }
 
-/// The unit of a package without faults.
+/// The unit of a package that has this object, with what others see of it.
+fn done_unit(
+    alloc: Global,
+    path: &SharedPath,
+    all: &Interfaces,
+    object: FileText,
+) -> Result<Unit, AllocError>
+    ensures { IfOk result (λ unit. (w : Workspace) → IsCompiled w path.now (interface_in all.now path.now) object → IsUnitOf w path.now unit) }
+{
+    let interface = interface_of(alloc, all, path)?;
+    Unit::new(alloc, Compiled::Done { interface, object })
+}
+
+/// The unit of a package without faults, of which no object was printed.
 fn faultless_unit(
     alloc: Global,
     graph: &Graph,
@@ -85,8 +99,7 @@ fn faultless_unit(
     ensures { IfOk result (IsUnitOf graph.now path.now) }
 {
     let object = object_of(alloc, graph, number, path, all, members)?;
-    let interface = interface_of(alloc, all, path)?;
-    Unit::new(alloc, Compiled::Done { interface, object })
+    done_unit(alloc, path, all, object)
 }
 
 /// The unit of a package with these faults.
@@ -117,28 +130,42 @@ pub(crate) struct Made {
     pub(crate) known: Known,
 }
 
-/// The unit of a package of a graph, by what was found in it.
+/// The unit of a package with copies of these faults.
+fn copied_unit(alloc: Global, faults: &[FileFault]) -> Result<Unit, AllocError>
+    requires { faults.now ≡ [] → ⊥ }
+    ensures { IfOk result (HoldsFaults faults.now) }
+{
+    let faults = copied(alloc, faults)?;
+    faulty_unit(alloc, faults)
+}
+
+/// The unit of a package of a graph, by what was found in it, and by the text of its object if that was printed.
 fn unit_by(
     alloc: Global,
     graph: &Graph,
     number: usize,
     path: &SharedPath,
-    finding: &Finding,
-    all: &Interfaces,
+    findings: &Findings,
+    text: Option<FileText>,
 ) -> Result<Unit, AllocError>
     requires at { slice_get (package_paths graph.now) number ≡ Some path.now }
-    requires found { IsFoundBy graph.now path.now all.now finding.now }
+    requires found { AreFindings graph.now findings.now }
+    requires text { MayBeText graph.now path.now text }
     ensures { IfOk result (IsUnitOf graph.now path.now) }
 {
-    if finding.faults.is_empty() {
-        faultless_unit(alloc, graph, number, path, all, &finding.members)
-    } else {
-        let faults = copied(alloc, &finding.faults)?;
-        faulty_unit(alloc, faults)
+    let finding = findings.packages[number].get();
+    if !finding.faults.is_empty() {
+        return copied_unit(alloc, &finding.faults);
+    }
+    let all = &findings.interfaces;
+    match text {
+        Some(object) => done_unit(alloc, path, all, object),
+        None => faultless_unit(alloc, graph, number, path, all, &finding.members),
     }
 }
 
-/// The unit of a package of a graph. What is known of packages is not found again.
+/// The unit of a package of a graph. What is known of packages is not found again, and what is found where the package is checked
+/// serves to print its object.
 fn unit_of(
     alloc: Global,
     graph: &Graph,
@@ -150,9 +177,10 @@ fn unit_of(
     requires known { KnowsVerdicts graph.now known.now }
     ensures { IfOk result (IsMade graph.now path.now) }
 {
-    let Found { findings, known } = verdicts(alloc, graph, known)?;
-    let finding = findings.packages[number].get();
-    let unit = unit_by(alloc, graph, number, path, finding, &findings.interfaces)?;
+    let mut progress = Progress::before(alloc, graph, number, known)?;
+    let text = text_first(alloc, graph, number, path, &mut progress)?;
+    let Found { findings, known } = progress.finish(alloc, graph, known)?;
+    let unit = unit_by(alloc, graph, number, path, &findings, text)?;
     Ok(Made { unit, known })
 }
 

@@ -2,6 +2,7 @@
 #![tactic(auto)]
 
 mod built;
+mod checked_text;
 mod compiling;
 mod job;
 pub mod laws;

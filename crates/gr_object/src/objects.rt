@@ -24,7 +24,6 @@ ghost use Rattle.gr_object.specs.Sources.{IsObjectText};
 
 use crate::declarations::push_decls;
 use crate::imports::push_imports;
-use crate::instructions::FunctionName;
 use crate::names::function_names;
 use crate::origin::Origin;
 use crate::packages::{Packages, path_bytes};
@@ -211,62 +210,37 @@ fn all_bounds(alloc: Global, unit: Package<'_>, index: &Index<'_>) -> Result<Bou
     bounds_of(alloc, unit, index, &broken)
 }
 
-/// The text of the object of a package, where it is known what its functions are called.
-fn named_text(alloc: Global, origin: Origin<'_>) -> Result<Vec<u8>, AllocError>
-    requires index { IsIndexOf (package_of origin.unit) origin.index.now }
-    requires definitions { AreOwnDefinitions (package_of origin.unit) origin.definitions.now }
-    requires names { map function_of origin.names.now ≡ function_names origin.unit.path.now (map source_of origin.unit.files.now) }
-    ensures { IfOk result (λ text. (files_of : List ℕ → List SourceFile) → AreMemberUses (package_of origin.entry.unit) (map uses_in origin.entry.members.now) → HaveNames origin.entry.packages.now files_of → IsObjectText (package_of origin.entry.unit) files_of text.items) }
-{
-    one_world(origin.unit);
-    let mut bounds = all_bounds(alloc, origin.unit, origin.index)?;
-    meant_text(alloc, origin, &mut bounds)
-}
-
-/// The text of the object of a package whose functions have these names.
-fn text_with<'a>(
+/// The text of the object of a package that has no fault, by what is found once in it and by what its declarations mean. What other
+/// packages export may be added to the list of meanings.
+pub fn checked_object<'a>(
     alloc: Global,
     unit: Package<'a>,
     index: &'a Index<'a>,
-    given: Faultless<'a>,
-    packages: &'a Packages<'a>,
-    names: &'a [FunctionName<'a>],
-) -> Result<Vec<u8>, AllocError>
-    requires index { IsIndexOf (package_of unit) index.now }
-    requires definitions { AreOwnDefinitions (package_of unit) given.definitions.now }
-    requires names { map function_of names.now ≡ function_names unit.path.now (map source_of unit.files.now) }
-    ensures { IfOk result (λ text. (files_of : List ℕ → List SourceFile) → AreMemberUses (package_of unit.entry) (map uses_in given.entry.members.now) → HaveNames packages.now files_of → IsObjectText (package_of unit.entry) files_of text.items) }
-{
-    let origin = Origin {
-        unit,
-        index,
-        definitions: given.definitions,
-        members: given.members,
-        packages,
-        names,
-    };
-    named_text(alloc, origin)
-}
-
-/// The text of the object of a package in which this is found once.
-fn indexed_text<'a>(
-    alloc: Global,
-    unit: Package<'a>,
-    index: &'a Index<'a>,
+    bounds: &mut Bounds,
     given: Faultless<'a>,
     packages: &'a Packages<'a>,
 ) -> Result<Vec<u8>, AllocError>
     requires index { IsIndexOf (package_of unit) index.now }
+    requires bounds { AreBounds (package_of unit) bounds.old.list.items bounds.old.of.items }
     requires definitions { AreOwnDefinitions (package_of unit) given.definitions.now }
     ensures { IfOk result (λ text. (files_of : List ℕ → List SourceFile) → AreMemberUses (package_of unit.entry) (map uses_in given.entry.members.now) → HaveNames packages.now files_of → IsObjectText (package_of unit.entry) files_of text.items) }
 {
+    one_world(unit);
     let names = function_names(
         alloc,
         path_bytes(unit.path),
         unit.files,
         &index.declared.functions,
     )?;
-    text_with(alloc, unit, index, given, packages, &names)
+    let origin = Origin {
+        unit,
+        index,
+        definitions: given.definitions,
+        members: given.members,
+        packages,
+        names: names.as_slice(),
+    };
+    meant_text(alloc, origin, bounds)
 }
 
 /// The text of the object of a package.
@@ -280,7 +254,8 @@ fn package_text(
     ensures { IfOk result (λ text. (files_of : List ℕ → List SourceFile) → AreMemberUses (package_of unit.entry) (map uses_in given.entry.members.now) → HaveNames packages.now files_of → IsObjectText (package_of unit.entry) files_of text.items) }
 {
     let index = Index::of(alloc, unit)?;
-    indexed_text(alloc, unit, &index, given, packages)
+    let mut bounds = all_bounds(alloc, unit, &index)?;
+    checked_object(alloc, unit, &index, &mut bounds, given, packages)
 }
 
 /// The table of a package in which each import without a name declares the name of the imported package.

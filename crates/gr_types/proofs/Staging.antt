@@ -5,16 +5,18 @@ use Rattle.std.specs.Global.{Vec}
 use Rattle.std.specs.List.Sorted.{IsStrictlySortedBy}
 use Rattle.std.proofs.lemmas.Bool.{eqb-true, eqb-false}
 use Rattle.std.proofs.lemmas.List.{nil_from_length}
+use Rattle.std.proofs.lemmas.Option.{none-some}
 use Rattle.gr_fault.specs.declared.fault.Fault.{Fault}
 use Rattle.gr_fault.specs.contracts.fault.FaultOrd.TheImpl as order
 use Rattle.gr_fault.specs.Listing.{Lists}
 use Rattle.gr_fault.specs.Stage.{FirstOf}
 use Rattle.gr_fault.proofs.Stages.{first_listed}
 use Rattle.gr_types.specs.declared.checking.Checked.{Checked}
+use Rattle.gr_types.specs.declared.checking.CheckedPackage.{CheckedPackage}
 use Rattle.gr_declared.specs.Package.{Package}
 use Rattle.gr_declared.specs.InterfacesView.{interface_of}
 use Rattle.gr_types.specs.Interfaces.{IsInterface}
-use Rattle.gr_types.specs.Check.{IsCheckedBy}
+use Rattle.gr_types.specs.Check.{IsCheckedBy, MayMean}
 
 pub nothing_in : (f : Fault) → Contains [] f → ⊥
 nothing_in f c = let lt : c.0 < 0 = c.1 in omega arith
@@ -49,6 +51,10 @@ ends_with P Q p c found b same none is fails h sorted =
     let listed : Lists P c.faults.items = subst (λ (v : Vec Fault). Lists P v.items) (sym same) h in
     faulty_by (FirstOf P Q) p c ne (lists_first P Q c.faults.items ne listed)
     (subst (λ (v : Vec Fault). IsStrictlySortedBy order.ghosts.cmp v.items) (sym same) sorted) none
+
+-- of such a package nothing is handed back
+pub none_kept : (p : Package) (c : CheckedPackage) → c.bounds ≡ None → MayMean p c
+none_kept p c none b is = absurd (none-some b (sym none ∙ is))
 
 -- the same faults, told otherwise
 pub checked_same : (P Q : Fault → Type 0) (p : Package) (c : Checked) → ((f : Fault) → P f ↔ Q f) → IsCheckedBy P p c → IsCheckedBy Q p c

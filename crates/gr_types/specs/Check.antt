@@ -1,19 +1,24 @@
 -- All the faults of a package, and what is found when it is checked.
-use Rattle.std.specs.Prelude.{ℕ, ◌≡◌, Bool, List, [], Option, None, is_some, map, MatchOption}
+use Rattle.std.specs.Prelude.{ℕ, ◌≡◌, Bool, List, [], Option, None, Some, is_some, map, MatchOption}
 use Rattle.std.specs.List.Sorted.{IsStrictlySortedBy}
 use Rattle.gr_fault.specs.declared.fault.Fault.{Fault}
 use Rattle.gr_fault.specs.contracts.fault.FaultOrd.TheImpl as order
 use Rattle.gr_fault.specs.Listing.{Lists}
 use Rattle.gr_fault.specs.Stage.{HasNone, FirstOf}
 use Rattle.gr_tree.specs.SourceFile.{FileParts, source_of}
+use Rattle.gr_scope.specs.Scoped.{ScopedPackage, scoped}
+use Rattle.gr_imports.specs.PackageNames.{IsLaidOver}
 use Rattle.gr_imports.specs.declared.states.ImportState.{ImportState}
 use Rattle.gr_stages.specs.Stages.{IsOuterFault, IsInnerFault, IsFaultIn}
 use Rattle.gr_types.specs.declared.checking.Checked.{Checked}
+use Rattle.gr_types.specs.declared.checking.CheckedPackage.{CheckedPackage}
 use Rattle.gr_declared.specs.Package.{Package, Interface, laid_of}
 use Rattle.gr_declared.specs.InterfacesView.{interface_of}
 use Rattle.gr_types.specs.Interfaces.{IsInterface}
 use Rattle.gr_members.specs.Members.{IsMemberFault}
 use Rattle.gr_types.specs.Faults.{IsTypeFault}
+use Rattle.gr_meanings.specs.declared.bounds.Bounds.{Bounds}
+use Rattle.gr_meanings.specs.BoundsView.{AreBounds}
 use Rattle.gr_meanings.specs.MemberUses.{AreMemberUses, uses_in}
 use Rattle.gr_meanings.specs.PackageOf.{IsPackageOf}
 
@@ -48,3 +53,22 @@ pub data IsFoundIn (path : List ℕ) (files : List FileParts) (state : List ℕ 
       IsFoundIn path files state name_of interface_of c
   inside : {p : Package} → HasNone (IsOuterFault state (map source_of files)) → IsPackageOf path files name_of interface_of p →
       IsCheckedBy (IsLaterFault p) p c → IsFoundIn path files state name_of interface_of c
+
+-- what the declarations of p mean, which has no fault
+pub record IsMeant (p : Package) (c : Checked) (b : Bounds) : Type 0 where
+  pub faultless : c.faults.items ≡ []
+  pub bounds : AreBounds p b.list.items b.of.items
+
+-- what the declarations of p mean, if it is handed back
+abbrev pub MayMean : Package → CheckedPackage → Type 0
+MayMean p c = (b : Bounds) → c.bounds ≡ Some b → IsMeant p c.checked b
+
+-- the table of files whose clauses and imports have no faults: their scopes, in which each import without a name declares the name
+-- of its package
+pub record IsLaid (files : List FileParts) (state : List ℕ → ImportState) (name_of : List ℕ → Option (List ℕ)) (table : ScopedPackage) : Type 0 where
+  pub faultless : HasNone (IsOuterFault state (map source_of files))
+  pub is_laid : IsLaidOver (map source_of files) name_of (scoped files) table
+
+-- the table, if there is one
+abbrev pub MayLay : List FileParts → (List ℕ → ImportState) → (List ℕ → Option (List ℕ)) → Option ScopedPackage → Type 0
+MayLay files state name_of found = (table : ScopedPackage) → found ≡ Some table → IsLaid files state name_of table

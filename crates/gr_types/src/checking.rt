@@ -15,7 +15,7 @@ ghost use Rattle.gr_members.specs.Members.{IsMemberFault};
 ghost use Rattle.gr_meanings.specs.DefinitionsView.{HaveDefinitions};
 ghost use Rattle.gr_types.specs.Faults.{IsTypeFault};
 ghost use Rattle.gr_meanings.specs.PackageOf.{package_in, IsPackageOf};
-ghost use Rattle.gr_types.specs.Check.{IsCheckedBy, IsCheckedPackage, IsLaterFault, IsFoundIn};
+ghost use Rattle.gr_types.specs.Check.{IsCheckedBy, IsCheckedPackage, IsLaterFault, IsFoundIn, MayLay, MayMean};
 ghost use Rattle.gr_members.specs.Found.{AreMembers};
 ghost use Rattle.gr_meanings.specs.BoundsView.{AreBounds};
 ghost use Rattle.gr_meanings.specs.MemberUses.{AreMemberUses, uses_in};
@@ -29,7 +29,7 @@ use gr_expr::found::MemberUse;
 use gr_expr::symbol::SharedPath;
 use gr_expr::world::Definition;
 use gr_fault::Fault;
-use gr_imports::lay_names;
+use gr_imports::{ImportStates, lay_names};
 use gr_meanings::{Bounds, bounds_of};
 use gr_members::{Members, member_faults};
 use gr_scope::declare::declare;
@@ -61,29 +61,55 @@ impl Checked {
     }
 }
 
+/// What is found in a package; and where it has no fault, what its declarations mean, to be used again.
+#[derive(Drop)]
+pub struct CheckedPackage {
+    pub checked: Checked,
+    pub bounds: Option<Bounds>,
+}
+
+impl CheckedPackage {
+    /// What is found of a package that has faults.
+    fn faulty(alloc: Global, faults: Vec<Fault>) -> CheckedPackage
+        ensures faults { result.checked.faults ≡ faults }
+        ensures interface { result.checked.interface ≡ None }
+        ensures bounds { result.bounds ≡ None }
+    {
+        CheckedPackage {
+            checked: Checked::faulty(alloc, faults),
+            bounds: None,
+        }
+    }
+}
+
 /// What is found in a package whose files were judged.
 fn judged(
     alloc: Global,
     unit: Package<'_>,
-    bounds: &Bounds,
+    bounds: Bounds,
     definitions: Vec<Definition>,
     typed: Typed,
-) -> Result<Checked, AllocError>
-    requires bounds { AreBounds (package_of unit) bounds.now.list.items bounds.now.of.items }
+) -> Result<CheckedPackage, AllocError>
+    requires bounds { AreBounds (package_of unit) bounds.list.items bounds.of.items }
     requires definitions { HaveDefinitions (package_of unit) definitions.items }
     requires listed { Lists (IsTypeFault (package_of unit)) typed.faults.items }
     requires order { IsStrictlySortedBy order.ghosts.cmp typed.faults.items }
     requires members { AreMemberUses (package_of unit) (map uses_in typed.members.items) }
-    ensures { IfOk result (λ c. IsCheckedBy (IsTypeFault (package_of unit.entry)) (package_of unit.entry) c) }
+    ensures checked { IfOk result (λ c. IsCheckedBy (IsTypeFault (package_of unit.entry)) (package_of unit.entry) c.checked) }
+    ensures bounds { IfOk result (MayMean (package_of unit.entry)) }
 {
     if !typed.faults.is_empty() {
-        return Ok(Checked::faulty(alloc, typed.faults));
+        return Ok(CheckedPackage::faulty(alloc, typed.faults));
     }
-    let interface = interface(alloc, unit, bounds, definitions)?;
-    Ok(Checked {
+    let interface = interface(alloc, unit, &bounds, definitions)?;
+    let checked = Checked {
         faults: typed.faults,
         interface: Some(interface),
         members: typed.members,
+    };
+    Ok(CheckedPackage {
+        checked,
+        bounds: Some(bounds),
     })
 }
 
@@ -94,15 +120,16 @@ fn check_types(
     index: &Index<'_>,
     broken: &[bool],
     definitions: Vec<Definition>,
-) -> Result<Checked, AllocError>
+) -> Result<CheckedPackage, AllocError>
     requires index { IsIndexOf (package_of unit) index.now }
     requires broken { AreBroken (package_of unit) broken.now }
     requires definitions { HaveDefinitions (package_of unit) definitions.items }
-    ensures { IfOk result (λ c. IsCheckedBy (IsTypeFault (package_of unit.entry)) (package_of unit.entry) c) }
+    ensures checked { IfOk result (λ c. IsCheckedBy (IsTypeFault (package_of unit.entry)) (package_of unit.entry) c.checked) }
+    ensures bounds { IfOk result (MayMean (package_of unit.entry)) }
 {
     let mut bounds = bounds_of(alloc, unit, index, broken)?;
     let typed = type_faults(alloc, unit, index, &mut bounds, &definitions)?;
-    judged(alloc, unit, &bounds, definitions, typed)
+    judged(alloc, unit, bounds, definitions, typed)
 }
 
 /// The last stage, of a package of which the members are known.
@@ -111,10 +138,11 @@ fn check_definitions(
     unit: Package<'_>,
     index: &Index<'_>,
     members: &Members<'_>,
-) -> Result<Checked, AllocError>
+) -> Result<CheckedPackage, AllocError>
     requires index { IsIndexOf (package_of unit) index.now }
     requires members { AreMembers (package_of unit) members.now }
-    ensures { IfOk result (λ c. IsCheckedBy (IsTypeFault (package_of unit.entry)) (package_of unit.entry) c) }
+    ensures checked { IfOk result (λ c. IsCheckedBy (IsTypeFault (package_of unit.entry)) (package_of unit.entry) c.checked) }
+    ensures bounds { IfOk result (MayMean (package_of unit.entry)) }
 {
     let broken = broken_definitions(alloc, unit, index)?;
     let definitions = definitions(alloc, unit, index, &broken, members)?;
@@ -127,36 +155,48 @@ fn check_known(
     unit: Package<'_>,
     index: &Index<'_>,
     members: &Members<'_>,
-) -> Result<Checked, AllocError>
+) -> Result<CheckedPackage, AllocError>
     requires index { IsIndexOf (package_of unit) index.now }
     requires members { AreMembers (package_of unit) members.now }
-    ensures { IfOk result (λ c. IsCheckedBy (FirstOf (IsMemberFault (package_of unit.entry)) (IsTypeFault (package_of unit.entry))) (package_of unit.entry) c) }
+    ensures checked { IfOk result (λ c. IsCheckedBy (FirstOf (IsMemberFault (package_of unit.entry)) (IsTypeFault (package_of unit.entry))) (package_of unit.entry) c.checked) }
+    ensures bounds { IfOk result (MayMean (package_of unit.entry)) }
 {
     let faults = member_faults(alloc, unit, index, members)?;
     if !faults.is_empty() {
-        return Ok(Checked::faulty(alloc, faults));
+        return Ok(CheckedPackage::faulty(alloc, faults));
     }
     check_definitions(alloc, unit, index, members)
 }
 
 /// The last two stages: the faults of members, and without one those of types.
-fn check_members(alloc: Global, unit: Package<'_>) -> Result<Checked, AllocError>
-    ensures { IfOk result (λ c. IsCheckedBy (FirstOf (IsMemberFault (package_of unit.entry)) (IsTypeFault (package_of unit.entry))) (package_of unit.entry) c) }
+fn check_members(
+    alloc: Global,
+    unit: Package<'_>,
+    index: &Index<'_>,
+) -> Result<CheckedPackage, AllocError>
+    requires { IsIndexOf (package_of unit) index.now }
+    ensures checked { IfOk result (λ c. IsCheckedBy (FirstOf (IsMemberFault (package_of unit.entry)) (IsTypeFault (package_of unit.entry))) (package_of unit.entry) c.checked) }
+    ensures bounds { IfOk result (MayMean (package_of unit.entry)) }
 {
-    let index = Index::of(alloc, unit)?;
-    let members = Members::of(alloc, unit, &index)?;
-    check_known(alloc, unit, &index, &members)
+    let members = Members::of(alloc, unit, index)?;
+    check_known(alloc, unit, index, &members)
 }
 
-/// The stages behind those of clauses and imports.
-fn check_package(alloc: Global, unit: Package<'_>) -> Result<Checked, AllocError>
-    ensures { IfOk result (λ c. IsCheckedBy (IsLaterFault (package_of unit.entry)) (package_of unit.entry) c) }
+/// What is found in a package whose clauses and imports have no faults, by what is found once in it: the stages behind those.
+pub fn check_package(
+    alloc: Global,
+    unit: Package<'_>,
+    index: &Index<'_>,
+) -> Result<CheckedPackage, AllocError>
+    requires { IsIndexOf (package_of unit) index.now }
+    ensures checked { IfOk result (λ c. IsCheckedBy (IsLaterFault (package_of unit.entry)) (package_of unit.entry) c.checked) }
+    ensures bounds { IfOk result (MayMean (package_of unit.entry)) }
 {
     let faults = inner_faults(alloc, unit.table, unit.files, unit.interfaces)?;
     if !faults.is_empty() {
-        return Ok(Checked::faulty(alloc, faults));
+        return Ok(CheckedPackage::faulty(alloc, faults));
     }
-    check_members(alloc, unit)
+    check_members(alloc, unit, index)
 }
 
 /// The table of a package in which each import without a name declares the name of the imported package.
@@ -169,6 +209,24 @@ fn laid<'a>(
 {
     let plain = declare(alloc, files)?;
     lay_names(alloc, &plain, files, interfaces)
+}
+
+/// The table of a package, if its clauses and imports have no faults: in it each import without a name declares the name of the
+/// imported package.
+pub fn table_of<'a>(
+    alloc: Global,
+    states: &ImportStates,
+    files: &'a [FileTree],
+    interfaces: &'a Interfaces,
+) -> Result<Option<ScopeTable<'a>>, AllocError>
+    ensures { IfOk result (MayLay files.now (state_in states.now) (name_in interfaces.now)) }
+{
+    let faults = outer_faults(alloc, states, files)?;
+    if !faults.is_empty() {
+        return Ok(None);
+    }
+    let table = laid(alloc, files, interfaces)?;
+    Ok(Some(table))
 }
 
 /// What is found in the package of a path whose clauses and imports have no faults.
@@ -187,7 +245,9 @@ fn check_laid(
         table,
         interfaces,
     };
-    check_package(alloc, unit)
+    let index = Index::of(alloc, unit)?;
+    let CheckedPackage { checked, bounds: _ } = check_package(alloc, unit, &index)?;
+    Ok(checked)
 }
 
 /// What is found in the package of a path, where its files and what it sees last equally long.

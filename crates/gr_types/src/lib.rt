@@ -8,7 +8,7 @@ pub mod laws;
 mod type_faults;
 mod worlds;
 
-pub use checking::{Checked, check, packages_are_unique};
+pub use checking::{Checked, CheckedPackage, check, check_package, packages_are_unique, table_of};
 pub use exporting::{exports_once, is_seen};
 pub use type_faults::Typed;
 pub use worlds::file_world;

@@ -5,9 +5,10 @@ use Rattle.std.proofs.Math.ListN.{set}
 use Rattle.std.proofs.lemmas.Bool.{cases_eq}
 use Rattle.std.proofs.Math.Path.{ap₂}
 use Rattle.std.proofs.lemmas.List.{length-map, length-set, map-append, take_more}
-use Rattle.std.proofs.lemmas.Option.{same_Some, slice_get_within, slice_get-map}
+use Rattle.std.proofs.lemmas.Option.{same_Some, slice_get_within, slice_get-get_or, slice_get-map}
 use Rattle.gr_text.specs.Workspace.{Workspace}
 use Rattle.gr_text.specs.Packages.{package_paths}
+use Rattle.gr_graph.specs.Graphs.{OfPackage}
 use Rattle.gr_graph.proofs.Asked.{number, at_contains}
 use Rattle.gr_declared.proofs.Mentioning.{get_set_same, get_set_other}
 use Rattle.gr_verdict.specs.declared.finding.Finding.{Finding}
@@ -16,8 +17,8 @@ use Rattle.gr_verdict.specs.declared.gathered.Gathered.{Gathered}
 use Rattle.gr_verdict.specs.Verdicts.{BuildsOn, AreVerdictsBelow, AreVerdicts}
 use Rattle.gr_verdict.specs.Found.{IsFoundBy, AreFindings}
 use Rattle.gr_verdict.specs.Told.{known_by, AreWhole, IsFindingOf}
-use Rattle.gr_verdict.specs.Steps.{AreKnown, AreGathered, AreAllGathered, IsGathered, IsBuildOrder, LearnsOf, MayLearn, somes}
-use Rattle.gr_verdict.proofs.Adding.{finding_as}
+use Rattle.gr_verdict.specs.Steps.{AreKnown, AreGathered, AreAllGathered, AreKnownBelow, IsGathered, IsBuildOrder, LearnsOf, MayLearn, somes}
+use Rattle.gr_verdict.proofs.Adding.{below_before, finding_as}
 use Rattle.gr_verdict.proofs.Knowing.{learnt_next}
 use Rattle.gr_verdict.proofs.Members.{nothing_in}
 use Rattle.gr_verdict.proofs.OneVerdict.{right_alike, right_below}
@@ -65,7 +66,7 @@ module _ (w : Workspace) (q : List ℕ) (n : ℕ) (old new : Gathered) (at : sli
         | inr ne ↦ h.each m r f at_m (sym (get_set_other fs n m (Some l.finding) ne) ∙ is_set)
       ]
 
-  learnt_of : AreGathered w (length (package_paths w)) new
+  pub learnt_of : AreGathered w (length (package_paths w)) new
   learnt_of =
       let gs : List (Option Finding) = set fs n (Some l.finding) in
       record {
@@ -112,6 +113,25 @@ module _ (w : Workspace) (q : List ℕ) (xs ys : List ℕ) (n : ℕ) (at : slice
     }
     | inr s ↦ subst (AreAllGathered w ys) (sym s.1) (passed_over s.0)
   ]
+
+-- all that one package builds on
+
+pub known_right : (w : Workspace) (p : List ℕ) (all : Gathered) → AreGathered w (length (package_paths w)) all → AreKnownBelow w p all →
+    AreVerdictsBelow w p (known_by all.interfaces)
+known_right w p all h below q on = let k = below q on in h.verdicts.right k.0 q k.1.0 k.1.1
+
+pub below_passed : (w : Workspace) (order : List ℕ) → IsBuildOrder w order → (n k : ℕ) → slice_get order k ≡ Some n → (all : Gathered) →
+    AreAllGathered w (take k order) all → OfPackage w n (λ p. AreKnownBelow w p all)
+below_passed w order built n k there all h p at q on =
+    let b = below_before w order built k n p q there at on in
+    (b.0, (h.each b.0 b.1.0, b.1.1))
+
+pub below_all : (w : Workspace) (order : List ℕ) → IsBuildOrder w order → (n : ℕ) → n < length (package_paths w) → (all : Gathered) →
+    AreAllGathered w order all → OfPackage w n (λ p. AreKnownBelow w p all)
+below_all w order built n within all h p at q on =
+    let i = (built.each n).1 within in
+    let b = below_before w order built i.0 n p q (slice_get-get_or order i.0 n i.1 ∙ ap Some i.2) at on in
+    (b.0, (h.each b.0 ((built.each b.0).1 (slice_get_within (package_paths w) b.0 q b.1.1)), b.1.1))
 
 -- all packages
 

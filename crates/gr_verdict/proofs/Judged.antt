@@ -33,6 +33,19 @@ use Rattle.gr_verdict.proofs.OnePackage.{one_sources, one_checked}
 use Rattle.gr_verdict.proofs.PackageFiles.{package_file, some_tree}
 use Rattle.gr_verdict.proofs.Unread.{none_unread}
 
+-- what is placed in files that stand for the same
+pub placed_as : (ts us : List FileParts) (faults : List Fault) (y : FileFault) → map source_of ts ≡ map source_of us → IsPlacedOf ts faults y →
+    IsPlacedOf us faults y
+placed_as ts us faults y e h = record {
+  fault = h.fault;
+  among = h.among;
+  is_placed = record {
+    source = h.is_placed.source;
+    in_file = subst (λ ss. slice_get ss h.fault.file ≡ Some h.is_placed.source) e h.is_placed.in_file;
+    at = h.is_placed.at;
+  };
+}
+
 module _ (w : Workspace) (known : Verdicts) (p : List ℕ) (own : Contains (package_paths w) p) (files : List FileParts)
     (parsed : AreParsed (package_files w p) files [])
     (name_of : List ℕ → Option (List ℕ)) (interface_at : List ℕ → Interface) (are_seen : AreSeen w known p name_of interface_at)

@@ -7,8 +7,9 @@ use Rattle.std.proofs.lemmas.Option.{same_Some, none-some}
 use Rattle.gr_text.specs.Workspace.{Workspace}
 use Rattle.gr_tree.specs.Flatten.{flatten}
 use Rattle.gr_tree.specs.SourceFile.{SourceFile, FileParts, source_of, spelling_of}
-use Rattle.gr_graph.specs.Parsed.{AreParsed, none, tree}
-use Rattle.gr_graph.proofs.OneFile.{one_file}
+use Rattle.gr_graph.specs.FaultyFiles.{FaultyParts}
+use Rattle.gr_graph.specs.Parsed.{AreParsed, none, tree, fault}
+use Rattle.gr_graph.proofs.OneFile.{one_file, file_or_fault}
 use Rattle.gr_scope.specs.FileSites.{SpelledFile, package_sites}
 use Rattle.gr_scope.specs.Named.{named_sites}
 use Rattle.gr_scope.specs.Parsed.{spelled_file}
@@ -38,6 +39,12 @@ pub one_sources : {es : List (List ℕ × List ℕ)} {ts us : List FileParts} �
 one_sources none none = refl
 one_sources (tree {e = e} {t = t} is rest) (tree {t = u} so others) =
     ap₂ (λ s ss. s ∷ ss) (one_file e.0 e.1 (source_of t) (source_of u) is so) (one_sources rest others)
+
+-- where all of them have trees, none is without
+pub all_read : {es : List (List ℕ × List ℕ)} {ts us : List FileParts} {fs : List FaultyParts} → AreParsed es ts fs → AreParsed es us [] → fs ≡ []
+all_read none none = refl
+all_read (tree is rest) (tree so others) = all_read rest others
+all_read (fault {e = e} {f = f} is rest) (tree {t = u} so others) = absurd (file_or_fault e.0 e.1 (source_of u) f.fault so is.is_fault)
 
 numbered : {es : List (List ℕ × List ℕ)} {ts : List FileParts} → AreParsed es ts [] → AreNumbered (map spelled_file ts)
 numbered none = All-nil IsNumbered

@@ -4,23 +4,29 @@ use Rattle.std.specs.Prelude.{ℕ, ◌≡◌, ◌<◌, ◌↔◌, ◌⊎◌, Lis
 use Rattle.std.specs.List.Sorted.{IsStrictlyIncreasing}
 use Rattle.std.proofs.Math.ListN.{set}
 use Rattle.gr_text.specs.Workspace.{Workspace}
-use Rattle.gr_text.specs.Packages.{package_paths}
+use Rattle.gr_text.specs.Packages.{package_paths, package_files}
 use Rattle.gr_fault.specs.declared.fault.Fault.{Fault}
 use Rattle.gr_tree.specs.SourceFile.{SourceFile, FileParts, source_of}
 use Rattle.gr_graph.specs.FaultyFiles.{FaultyParts}
 use Rattle.gr_graph.specs.Graphs.{HoldsPackages}
 use Rattle.gr_graph.specs.Packages.{IsInClosure}
+use Rattle.gr_graph.specs.Parsed.{AreParsed}
+use Rattle.gr_imports.specs.declared.states.ImportState.{ImportState}
 use Rattle.gr_declared.specs.InterfacesView.{name_in, interface_in, interface_of, KnowsSame, Shares, AddsInterface}
+use Rattle.gr_declared.specs.Package.{Interface as Seen}
 use Rattle.gr_declared.specs.declared.interfaces.Interface.{Interface}
 use Rattle.gr_declared.specs.declared.interfaces.Interfaces.{Interfaces}
+use Rattle.gr_types.specs.declared.checking.Checked.{Checked}
+use Rattle.gr_types.specs.Check.{IsFoundIn}
 use Rattle.gr_verdict.specs.Faults.{placed, placed_in}
-use Rattle.gr_verdict.specs.Verdicts.{Verdicts, BuildsOn, IsFaultBy, HasInterface, IsVerdictBy, IsVerdict}
+use Rattle.gr_verdict.specs.Verdicts.{Verdicts, BuildsOn, IsFaultBy, HasInterface, IsVerdictBy, IsVerdict, AreStates, AreSeen}
 use Rattle.gr_verdict.specs.FaultLists.{AreListed}
 use Rattle.gr_verdict.specs.Told.{known_by, AreWhole, AreUsesOf, IsFinding, IsFindingOf}
 use Rattle.gr_verdict.specs.declared.fault.FileFault.{FileFault}
 use Rattle.gr_verdict.specs.declared.finding.Finding.{Finding}
 use Rattle.gr_verdict.specs.declared.judging.Judged.{Judged}
 use Rattle.gr_verdict.specs.declared.gathered.Gathered.{Gathered}
+use Rattle.gr_verdict.specs.declared.progress.Progress.{Progress}
 
 -- An order
 
@@ -86,6 +92,17 @@ AddsPlaced files fault old new = (f : FileFault) → Contains new f ↔ (Contain
 
 -- One package
 
+-- what checking found in p, each of whose files has a tree, by what p sees of others
+pub record IsCheckedIn (w : Workspace) (known : Verdicts) (p : List ℕ) (c : Checked) : Type 0 where
+  pub files : List FileParts
+  pub parsed : AreParsed (package_files w p) files []
+  pub state : List ℕ → ImportState
+  pub are_states : AreStates w known p state
+  pub name_of : List ℕ → Option (List ℕ)
+  pub interface_of : List ℕ → Seen
+  pub are_seen : AreSeen w known p name_of interface_of
+  pub is_found : IsFoundIn p files state name_of interface_of c
+
 -- the faults of p, or what others see of it and its uses of members
 pub record IsJudged (w : Workspace) (known : Verdicts) (p : List ℕ) (j : Judged) : Type 0 where
   pub listed : AreListed (IsFaultBy w known p) j.faults.items
@@ -140,3 +157,12 @@ pub record AreAllGathered (w : Workspace) (numbers : List ℕ) (all : Gathered) 
 -- each finding, as one that is there
 abbrev pub somes : List Finding → List (Option Finding)
 somes findings = map (λ (f : Finding). Some f) findings
+
+-- what is found in packages while they are judged, and the order in which they are
+pub record IsUnderway (w : Workspace) (progress : Progress) : Type 0 where
+  pub order : IsBuildOrder w progress.order.items
+  pub right : AreGathered w (length (package_paths w)) progress.all
+
+-- of all that p builds on the verdicts are known
+abbrev pub AreKnownBelow : Workspace → List ℕ → Gathered → Type 0
+AreKnownBelow w p all = (q : List ℕ) → BuildsOn w p q → (n : ℕ) × (IsGathered all.findings.items n × (slice_get (package_paths w) n ≡ Some q))

@@ -1,12 +1,13 @@
 //! What is found in each package of a workspace, where it is known of some.
-ghost use Rattle.std.specs.Prelude.{ℕ, ◌≡◌, ◌<◌, length, map, None, IfOk, OnOk};
+ghost use Rattle.std.specs.Prelude.{ℕ, ◌≡◌, ◌<◌, List, length, map, None, IfOk, OnOk};
 ghost use Rattle.gr_text.specs.Packages.{package_paths};
+ghost use Rattle.gr_text.specs.Workspace.{Workspace};
 ghost use Rattle.gr_graph.specs.Graphs.{OfPackage};
 ghost use Rattle.gr_declared.specs.InterfacesView.{name_in};
 ghost use Rattle.gr_verdict.specs.Earlier.{AreSteady, HaveSameImports};
 ghost use Rattle.gr_verdict.specs.Found.{IsFound, KnowsVerdicts};
-ghost use Rattle.gr_verdict.specs.Told.{AreWhole};
-ghost use Rattle.gr_verdict.specs.Steps.{AreAllGathered, AreGathered, IsBuildOrder, IsGathered, MayAdd, Learns, LearnsOf, MayLearn, somes};
+ghost use Rattle.gr_verdict.specs.Told.{known_by, AreWhole};
+ghost use Rattle.gr_verdict.specs.Steps.{AreAllGathered, AreGathered, IsBuildOrder, IsGathered, IsJudged, MayAdd, Learns, LearnsOf, MayLearn, somes};
 
 use crate::earlier::Earlier;
 use crate::finding::{Finding, SharedFinding};
@@ -49,6 +50,28 @@ fn add(
     }
 }
 
+/// Adds the interface of a package that was judged, and tells what is found in it.
+pub(crate) fn enter_judged(
+    alloc: Global,
+    path: SharedPath,
+    judged: Judged,
+    all: &mut Interfaces,
+) -> Result<Finding, AllocError>
+    ensures { IfOk result (λ finding. (w : Workspace) → (p : List ℕ) → path ≡ p → AreWhole all.old → name_in all.old p ≡ None → IsJudged w (known_by all.old) p judged → Learns w p finding all.old all.new) }
+{
+    let Judged {
+        faults,
+        interface,
+        members,
+    } = judged;
+    add(alloc, all, &path, interface)?;
+    Ok(Finding {
+        path,
+        faults,
+        members,
+    })
+}
+
 /// Judges a package by what is known of all that it builds on, and adds its interface.
 fn judge_one(
     alloc: Global,
@@ -63,17 +86,8 @@ fn judge_one(
     requires fresh { OfPackage graph.now number (λ p. name_in all.old p ≡ None) }
     ensures { IfOk result (λ finding. OfPackage graph.now number (λ p. Learns graph.now p finding all.old all.new)) }
 {
-    let Judged {
-        faults,
-        interface,
-        members,
-    } = judge(alloc, graph, number, &path, all)?;
-    add(alloc, all, &path, interface)?;
-    Ok(Finding {
-        path,
-        faults,
-        members,
-    })
+    let judged = judge(alloc, graph, number, &path, all)?;
+    enter_judged(alloc, path, judged, all)
 }
 
 /// Judges a package of which nothing is known yet, where all that it builds on are known.
@@ -96,7 +110,7 @@ fn judge_unknown(
 }
 
 /// Judges a package, if nothing is known of it.
-fn judge_next(
+pub(crate) fn judge_next(
     alloc: Global,
     graph: &Graph,
     number: usize,
@@ -212,16 +226,21 @@ fn all_there(
     Ok(packages)
 }
 
-/// What is found in each package. One of which nothing is known is checked once, behind all that it builds on, unless what was known
-/// of it before the workspace changed stands, since its files are the same and what it sees of its imports; what is known of the
-/// others is shared.
-pub fn verdicts(alloc: Global, graph: &Graph, known: &Known) -> Result<Found, AllocError>
-    requires { KnowsVerdicts graph.now known.now }
+/// What is found in each package, where it is known of some, and the others are judged in an order.
+pub(crate) fn verdicts_from(
+    alloc: Global,
+    graph: &Graph,
+    order: &[usize],
+    known: &Known,
+    gathered: Gathered,
+) -> Result<Found, AllocError>
+    requires order { IsBuildOrder graph.now order.now }
+    requires known { KnowsVerdicts graph.now known.now }
+    requires gathered { AreGathered graph.now (length (package_paths graph.now)) gathered }
     ensures { IfOk result (IsFound graph.now) }
 {
-    let mut all = gather(alloc, graph, known)?;
-    let order = order(alloc, graph)?;
-    judge_rest(alloc, graph, &order, known, &mut all)?;
+    let mut all = gathered;
+    judge_rest(alloc, graph, order, known, &mut all)?;
     let known = known_now(alloc, graph, known, &all)?;
     let packages = all_there(alloc, &all.findings)?;
     let interfaces = all.interfaces;
@@ -230,4 +249,16 @@ pub fn verdicts(alloc: Global, graph: &Graph, known: &Known) -> Result<Found, Al
         interfaces,
     };
     Ok(Found { findings, known })
+}
+
+/// What is found in each package. One of which nothing is known is checked once, behind all that it builds on, unless what was known
+/// of it before the workspace changed stands, since its files are the same and what it sees of its imports; what is known of the
+/// others is shared.
+pub fn verdicts(alloc: Global, graph: &Graph, known: &Known) -> Result<Found, AllocError>
+    requires { KnowsVerdicts graph.now known.now }
+    ensures { IfOk result (IsFound graph.now) }
+{
+    let all = gather(alloc, graph, known)?;
+    let order = order(alloc, graph)?;
+    verdicts_from(alloc, graph, &order, known, all)
 }

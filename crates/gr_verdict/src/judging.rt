@@ -1,15 +1,16 @@
 //! The faults of one package, or its interface and its uses of members.
-ghost use Rattle.std.specs.Prelude.{ℕ, ◌≡◌, ◌<◌, [], length, IfOk};
-ghost use Rattle.gr_text.specs.Packages.{package_paths};
+ghost use Rattle.std.specs.Prelude.{ℕ, ◌≡◌, ◌<◌, List, [], length, Contains, IfOk};
+ghost use Rattle.gr_text.specs.Packages.{package_files, package_paths};
 ghost use Rattle.gr_text.specs.Workspace.{Workspace};
 ghost use Rattle.gr_graph.specs.Graphs.{IsPackage, OfPackage};
+ghost use Rattle.gr_graph.specs.Parsed.{AreParsed};
 ghost use Rattle.gr_verdict.specs.Verdicts.{Verdicts};
 ghost use Rattle.gr_verdict.specs.Told.{known_by, AreWhole};
-ghost use Rattle.gr_verdict.specs.Steps.{IsJudged};
+ghost use Rattle.gr_verdict.specs.Steps.{IsCheckedIn, IsJudged};
 
 use crate::fault::{FileFault, sort};
 use crate::placing::{placed_faults, unread_faults};
-use crate::seeing::{note_imports, seen};
+use crate::seeing::seen_imports;
 use gr_declared::{Interface, Interfaces};
 use gr_expr::found::MemberUse;
 use gr_expr::symbol::SharedPath;
@@ -39,6 +40,28 @@ fn judge_unread(alloc: Global, files: &Package) -> Result<Judged, AllocError>
     })
 }
 
+/// What is found in a package each of whose files has a tree, by what checking found: its faults get their places.
+pub(crate) fn place_checked(
+    alloc: Global,
+    files: &Package,
+    checked: Checked,
+) -> Result<Judged, AllocError>
+    ensures { IfOk result (λ j. (w : Workspace) → (known : Verdicts) → (p : List ℕ) → Contains (package_paths w) p → AreParsed (package_files w p) files.now.trees.items [] → IsCheckedIn w known p checked → IsJudged w known p j) }
+{
+    let Checked {
+        faults,
+        interface,
+        members,
+    } = checked;
+    let mut faults = placed_faults(alloc, &files.trees, &faults)?;
+    sort(&mut faults);
+    Ok(Judged {
+        faults,
+        interface,
+        members,
+    })
+}
+
 /// What is found in a package each of whose files has a tree.
 fn judge_read(
     alloc: Global,
@@ -55,20 +78,9 @@ fn judge_read(
     requires whole { AreWhole all.now }
     ensures { IfOk result (λ j. OfPackage graph.now number (λ p. IsJudged graph.now (known_by all.now) p j)) }
 {
-    let mut interfaces = seen(alloc, graph, number, all)?;
-    note_imports(alloc, &mut interfaces, graph, number, all)?;
-    let Checked {
-        faults,
-        interface,
-        members,
-    } = check(alloc, path, &files.trees, &interfaces)?;
-    let mut faults = placed_faults(alloc, &files.trees, &faults)?;
-    sort(&mut faults);
-    Ok(Judged {
-        faults,
-        interface,
-        members,
-    })
+    let interfaces = seen_imports(alloc, graph, number, all)?;
+    let checked = check(alloc, path, &files.trees, &interfaces)?;
+    place_checked(alloc, files, checked)
 }
 
 /// What is found in a package, by the interfaces of those that it builds on.

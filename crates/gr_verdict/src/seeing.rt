@@ -71,7 +71,7 @@ fn state_of(graph: &Graph, number: usize, import: usize, all: &Interfaces) -> Im
 }
 
 /// Notes what each path is that a package imports.
-pub(crate) fn note_imports(
+fn note_imports(
     alloc: Global,
     seen: &mut Interfaces,
     graph: &Graph,
@@ -88,4 +88,22 @@ pub(crate) fn note_imports(
         seen.note(path, state_of(graph, number, *import, all))?;
     }
     Ok(())
+}
+
+/// What a package sees of others: the names and the interfaces of those without faults that it builds on, and what each path is that
+/// it imports.
+pub fn seen_imports(
+    alloc: Global,
+    graph: &Graph,
+    number: usize,
+    all: &Interfaces,
+) -> Result<Interfaces, AllocError>
+    requires in_range { number < length (package_paths graph.now) }
+    requires whole { AreWhole all.now }
+    ensures seen { IfOk result (λ i. OfPackage graph.now number (λ p. AreSeen graph.now (known_by all.now) p (name_in i) (interface_in i))) }
+    ensures states { IfOk result (λ i. OfPackage graph.now number (λ p. AreStates graph.now (known_by all.now) p (state_in i.states))) }
+{
+    let mut interfaces = seen(alloc, graph, number, all)?;
+    note_imports(alloc, &mut interfaces, graph, number, all)?;
+    Ok(interfaces)
 }

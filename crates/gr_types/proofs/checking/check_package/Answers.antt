@@ -7,21 +7,27 @@ use Rattle.gr_members.specs.Members.{IsMemberFault}
 use Rattle.gr_types.specs.Faults.{IsTypeFault}
 use Rattle.gr_types.specs.Check.{exports_in, IsCheckedBy, IsLaterFault}
 use Rattle.gr_declared.specs.PackageView.{package_of}
-use Rattle.gr_types.proofs.Staging.{ends_with, goes_on}
+use Rattle.gr_types.proofs.Staging.{ends_with, goes_on, none_kept}
 use Rattle.gr_types.proofs.checking.check_package.Goals as goal
 
 pub returns-then-not-is_empty : goal.returns-then-not-is_empty
 returns-then-not-is_empty c =
     let p = package_of c.args.unit in
-    ends_with (IsInnerFault p.files (exports_in p) (laid_of p)) (FirstOf (IsMemberFault p) (IsTypeFault p)) p c.faulty.result c.in_ok-faults.faults
-    c.is_empty.result c.faulty.ensures.faults c.faulty.ensures.interface
-    c.is_empty.ensures c.if-not-is_empty.true c.in_ok-faults.ensures.listed c.in_ok-faults.ensures.order
+    record {
+      checked = ends_with (IsInnerFault p.files (exports_in p) (laid_of p)) (FirstOf (IsMemberFault p) (IsTypeFault p)) p c.faulty.result.checked
+          c.in_ok-faults.faults c.is_empty.result c.faulty.ensures.faults c.faulty.ensures.interface
+          c.is_empty.ensures c.if-not-is_empty.true c.in_ok-faults.ensures.listed c.in_ok-faults.ensures.order;
+      bounds = none_kept p c.faulty.result c.faulty.ensures.bounds;
+    }
 
 pub returns : goal.returns
 returns c =
     let p = package_of c.args.unit in
     let later = FirstOf (IsMemberFault p) (IsTypeFault p) in
-    IfOk-weaker c.check_members.result (λ x. IsCheckedBy later p x) (λ x. IsCheckedBy (IsLaterFault p) p x)
-    (λ x h. goes_on (IsInnerFault p.files (exports_in p) (laid_of p)) later p c.in_ok-faults.faults c.is_empty.result c.is_empty.ensures
-    c.if-not-is_empty.false c.in_ok-faults.ensures.listed x h)
-    c.check_members.ensures
+    record {
+      checked = IfOk-weaker c.check_members.result (λ x. IsCheckedBy later p x.checked) (λ x. IsCheckedBy (IsLaterFault p) p x.checked)
+          (λ x h. goes_on (IsInnerFault p.files (exports_in p) (laid_of p)) later p c.in_ok-faults.faults c.is_empty.result c.is_empty.ensures
+          c.if-not-is_empty.false c.in_ok-faults.ensures.listed x.checked h)
+          c.check_members.ensures.checked;
+      bounds = c.check_members.ensures.bounds;
+    }

@@ -1,14 +1,14 @@
--- The answers to the goals of `objects::indexed_text`.
+-- The answers to the goals of `objects::checked_object`.
 use Rattle.std.proofs.Common.{ap, ◌∙◌, map}
 use Rattle.gr_tree.specs.SourceFile.{source_of}
 use Rattle.gr_declared.specs.DeclaredView.{function_of as placed}
 use Rattle.gr_object.specs.LineView.{function_of}
 use Rattle.gr_object.specs.Names.{functions_behind}
-use Rattle.gr_object.proofs.objects.indexed_text.Goals as goal
+use Rattle.gr_object.proofs.objects.checked_object.Goals as goal
 
-pub text_with-requires-clause-names : goal.text_with-requires-clause-names
-text_with-requires-clause-names c =
+pub meant_text-requires-clause-names : goal.meant_text-requires-clause-names
+meant_text-requires-clause-names c =
     let files = map source_of c.args.unit.files.now in
-    ap (map function_of) c.deref-2.ensures.value ∙ (c.in_ok-names.ensures
+    ap (map function_of) c.as_slice.ensures.value ∙ (c.in_ok-names.ensures
     ∙ (ap (λ q. functions_behind q files 0 (map placed c.deref.result.now)) c.path_bytes.ensures
     ∙ ap (functions_behind c.args.unit.path.now files 0) (ap (map placed) c.deref.ensures.value ∙ c.requires.index.functions)))

@@ -1,0 +1,236 @@
+//! A package of which nothing is known yet: it is checked, and where it has no fault its object is printed by what was found for that.
+ghost use Rattle.std.specs.Prelude.{◌≡◌, ◌<◌, [], List, None, ℕ, Some, length, map, slice_get, IfOk, OnOk};
+ghost use Rattle.gr_text.specs.Packages.{package_paths};
+ghost use Rattle.gr_tree.specs.SourceFile.{SourceFile};
+ghost use Rattle.gr_graph.specs.Graphs.{IsPackage, OfPackage};
+ghost use Rattle.gr_imports.specs.States.{state_in};
+ghost use Rattle.gr_declared.specs.InterfacesView.{interface_in, name_in};
+ghost use Rattle.gr_declared.specs.PackageView.{package_of, IsIndexOf};
+ghost use Rattle.gr_meanings.specs.BoundsView.{AreBounds};
+ghost use Rattle.gr_meanings.specs.MemberUses.{AreMemberUses, uses_in};
+ghost use Rattle.gr_types.specs.Check.{IsCheckedBy, IsFoundIn, IsLaterFault, MayMean};
+ghost use Rattle.gr_verdict.specs.Steps.{AreKnownBelow, IsCheckedIn, IsGathered, IsUnderway};
+ghost use Rattle.gr_verdict.specs.Told.{known_by, AreWhole};
+ghost use Rattle.gr_verdict.specs.Verdicts.{AreSeen, AreStates, AreVerdictsBelow, Verdicts};
+ghost use Rattle.gr_object.specs.ObjectView.{AreOwnDefinitions, HaveNames};
+ghost use Rattle.gr_object.specs.Sources.{IsObjectText};
+ghost use Rattle.gr_compile.specs.Compiling.{MayBeText, MayPrint, found_definitions};
+
+use crate::naming::names_below;
+use gr_declared::{Index, Interface, Interfaces, Package};
+use gr_expr::symbol::SharedPath;
+use gr_expr::world::Definition;
+use gr_graph::{Graph, Package as Folder};
+use gr_meanings::Bounds;
+use gr_object::objects::{Faultless, checked_object};
+use gr_object::packages::Packages;
+use gr_text::FileText;
+use gr_types::{Checked, CheckedPackage, check, check_package, table_of};
+use gr_verdict::{Progress, seen_imports};
+use std::alloc::{AllocError, Global};
+
+/// What checking found in a package, and the text of its object where it has no fault.
+#[derive(Drop)]
+pub(crate) struct CheckedText {
+    checked: Checked,
+    text: Option<FileText>,
+}
+
+/// The type definitions of an interface, if there is one.
+fn found_definitions(interface: &Option<Interface>) -> &[Definition]
+    ensures { result.now ≡ found_definitions interface.now }
+{
+    match interface {
+        None => &[],
+        Some(interface) => interface.definitions.as_slice(),
+    }
+}
+
+/// The text of the object of a package without faults, by what checking found.
+fn printed<'a>(
+    alloc: Global,
+    unit: Package<'a>,
+    index: &'a Index<'a>,
+    checked: &'a Checked,
+    bounds: &mut Bounds,
+    packages: &'a Packages<'a>,
+) -> Result<FileText, AllocError>
+    requires index { IsIndexOf (package_of unit) index.now }
+    requires bounds { AreBounds (package_of unit) bounds.old.list.items bounds.old.of.items }
+    requires definitions { AreOwnDefinitions (package_of unit) (found_definitions checked.now.interface) }
+    ensures { IfOk result (λ text. (files_of : List ℕ → List SourceFile) → AreMemberUses (package_of unit.entry) (map uses_in checked.now.members.items) → HaveNames packages.now files_of → IsObjectText (package_of unit.entry) files_of text) }
+{
+    let given = Faultless {
+        path: unit.path,
+        files: unit.files,
+        definitions: found_definitions(&checked.interface),
+        members: checked.members.as_slice(),
+    };
+    let text = checked_object(alloc, unit, index, bounds, given, packages)?;
+    FileText::new(alloc, text)
+}
+
+/// What checking found in a package, with the text of its object if it has no fault.
+fn with_text(
+    alloc: Global,
+    graph: &Graph,
+    number: usize,
+    unit: Package<'_>,
+    index: &Index<'_>,
+    found: CheckedPackage,
+) -> Result<CheckedText, AllocError>
+    requires in_range { number < length (package_paths graph.now) }
+    requires index { IsIndexOf (package_of unit) index.now }
+    requires checked { IsCheckedBy (IsLaterFault (package_of unit)) (package_of unit) found.checked }
+    requires bounds { MayMean (package_of unit) found }
+    ensures checked { IfOk result (λ made. IsCheckedBy (IsLaterFault (package_of unit.entry)) (package_of unit.entry) made.checked) }
+    ensures text { IfOk result (λ made. OfPackage graph.now number (λ p. MayPrint graph.now p (package_of unit.entry) made.text)) }
+{
+    let CheckedPackage { checked, bounds } = found;
+    let Some(meant) = bounds else {
+        return Ok(CheckedText {
+            checked,
+            text: None,
+        });
+    };
+    let mut bounds = meant;
+    let packages = names_below(alloc, graph, number)?;
+    let text = printed(alloc, unit, index, &checked, &mut bounds, &packages)?;
+    Ok(CheckedText {
+        checked,
+        text: Some(text),
+    })
+}
+
+/// What checking finds in a package whose clauses and imports have no faults, with the text of its object if it has none at all.
+fn unit_text(
+    alloc: Global,
+    graph: &Graph,
+    number: usize,
+    unit: Package<'_>,
+) -> Result<CheckedText, AllocError>
+    requires { number < length (package_paths graph.now) }
+    ensures checked { IfOk result (λ made. IsCheckedBy (IsLaterFault (package_of unit.entry)) (package_of unit.entry) made.checked) }
+    ensures text { IfOk result (λ made. OfPackage graph.now number (λ p. MayPrint graph.now p (package_of unit.entry) made.text)) }
+{
+    let index = Index::of(alloc, unit)?;
+    let found = check_package(alloc, unit, &index)?;
+    with_text(alloc, graph, number, unit, &index, found)
+}
+
+/// What checking finds in the package of a path, which has no object.
+fn no_text(
+    alloc: Global,
+    path: &SharedPath,
+    files: &Folder,
+    interfaces: &Interfaces,
+) -> Result<CheckedText, AllocError>
+    ensures found { IfOk result (λ made. IsFoundIn path.now files.now.trees.items (state_in interfaces.now.states) (name_in interfaces.now) (interface_in interfaces.now) made.checked) }
+    ensures text { IfOk result (λ made. made.text ≡ None) }
+{
+    let checked = check(alloc, path, &files.trees, interfaces)?;
+    Ok(CheckedText {
+        checked,
+        text: None,
+    })
+}
+
+/// What checking finds in a package each of whose files has a tree, by what it sees of others, with the text of its object if it has
+/// no fault.
+fn seen_text<'a>(
+    alloc: Global,
+    graph: &Graph,
+    number: usize,
+    path: &'a SharedPath,
+    files: &'a Folder,
+    interfaces: &'a Interfaces,
+) -> Result<CheckedText, AllocError>
+    requires at { slice_get (package_paths graph.now) number ≡ Some path.now }
+    requires files { IsPackage graph.now number files.now }
+    requires read { files.now.faulty.items ≡ [] }
+    ensures checked { IfOk result (λ made. (known : Verdicts) → AreSeen graph.now known path.now (name_in interfaces.now) (interface_in interfaces.now) → AreStates graph.now known path.now (state_in interfaces.now.states) → IsCheckedIn graph.now known path.now made.checked) }
+    ensures text { IfOk result (λ made. (known : Verdicts) → AreSeen graph.now known path.now (name_in interfaces.now) (interface_in interfaces.now) → AreVerdictsBelow graph.now path.now known → MayBeText graph.now path.now made.text) }
+{
+    let trees = files.trees.as_slice();
+    let found = table_of(alloc, interfaces.states(), trees, interfaces)?;
+    let Some(table) = found else {
+        return no_text(alloc, path, files, interfaces);
+    };
+    let unit = Package {
+        path,
+        files: trees,
+        table: &table,
+        interfaces,
+    };
+    unit_text(alloc, graph, number, unit)
+}
+
+/// What checking finds in a package each of whose files has a tree, with the text of its object if it has no fault.
+fn read_text(
+    alloc: Global,
+    graph: &Graph,
+    number: usize,
+    path: &SharedPath,
+    files: &Folder,
+    all: &Interfaces,
+) -> Result<CheckedText, AllocError>
+    requires at { slice_get (package_paths graph.now) number ≡ Some path.now }
+    requires files { IsPackage graph.now number files.now }
+    requires read { files.now.faulty.items ≡ [] }
+    requires whole { AreWhole all.now }
+    ensures checked { IfOk result (λ made. IsCheckedIn graph.now (known_by all.now) path.now made.checked) }
+    ensures text { IfOk result (λ made. AreVerdictsBelow graph.now path.now (known_by all.now) → MayBeText graph.now path.now made.text) }
+{
+    let interfaces = seen_imports(alloc, graph, number, all)?;
+    seen_text(alloc, graph, number, path, files, &interfaces)
+}
+
+/// Checks a package each of whose files has a tree, and of which nothing is known yet, and tells the text of its object if it has
+/// no fault.
+fn learn_text(
+    alloc: Global,
+    graph: &Graph,
+    number: usize,
+    path: &SharedPath,
+    files: &Folder,
+    progress: &mut Progress,
+) -> Result<Option<FileText>, AllocError>
+    requires at { slice_get (package_paths graph.now) number ≡ Some path.now }
+    requires files { IsPackage graph.now number files.now }
+    requires read { files.now.faulty.items ≡ [] }
+    requires right { IsUnderway graph.now progress.old }
+    requires below { AreKnownBelow graph.now path.now progress.old.all }
+    requires unknown { IsGathered progress.old.all.findings.items number → ⊥ }
+    ensures right { OnOk result (IsUnderway graph.now progress.new) }
+    ensures text { IfOk result (MayBeText graph.now path.now) }
+{
+    let made = read_text(alloc, graph, number, path, files, progress.interfaces())?;
+    let CheckedText { checked, text } = made;
+    let own = path.clone()?;
+    progress.learn(alloc, graph, number, own, checked)?;
+    Ok(text)
+}
+
+/// Checks a package, if nothing is known of it yet and each of its files has a tree, and tells the text of its object if it has no fault.
+pub(crate) fn text_first(
+    alloc: Global,
+    graph: &Graph,
+    number: usize,
+    path: &SharedPath,
+    progress: &mut Progress,
+) -> Result<Option<FileText>, AllocError>
+    requires at { slice_get (package_paths graph.now) number ≡ Some path.now }
+    requires right { IsUnderway graph.now progress.old }
+    requires below { AreKnownBelow graph.now path.now progress.old.all }
+    ensures right { OnOk result (IsUnderway graph.now progress.new) }
+    ensures text { IfOk result (MayBeText graph.now path.now) }
+{
+    let files = graph.package(number);
+    if progress.knows(number) {
+        return Ok(None);
+    }
+    if !files.faulty.is_empty() {
+        return Ok(None);
+    }
+    learn_text(alloc, graph, number, path, files, progress)
+}
