@@ -18,3 +18,4 @@ pub mod StayingPackages
 pub mod PartPackages
 pub mod Asked
 pub mod ChangedPackages
+pub mod Told

@@ -1,11 +1,11 @@
-//! What a package imports directly or indirectly.
-ghost use Rattle.std.specs.Prelude.{◌<◌, length, IfOk};
+//! What packages reach along links.
+ghost use Rattle.std.specs.Prelude.{◌≡◌, ◌<◌, length, IfOk};
 ghost use Rattle.gr_graph.specs.Imports.{AreLinked};
-ghost use Rattle.gr_graph.specs.Closures.{AreClosures, IsClosed};
-ghost use Rattle.gr_graph.specs.Search.{HoldsMarked};
+ghost use Rattle.gr_graph.specs.Closures.{IsClosed};
+ghost use Rattle.gr_graph.specs.Search.{AreReached, HoldsMarked};
 
 use crate::package_list::PackageList;
-use crate::search::Search;
+use crate::search::reach;
 use std::alloc::{AllocError, Global};
 
 /// The marked packages, by number.
@@ -22,7 +22,7 @@ fn marked(alloc: Global, marks: &[bool]) -> Result<PackageList, AllocError>
 }
 
 /// What a package imports directly or indirectly, itself among it, by number.
-fn closure_of(
+pub(crate) fn closure_of(
     alloc: Global,
     imports: &[PackageList],
     number: usize,
@@ -31,21 +31,26 @@ fn closure_of(
     requires number { number < length imports.now }
     ensures { IfOk result (IsClosed imports.now number) }
 {
-    let search = Search::run(alloc, imports, number)?;
-    marked(alloc, &search.marks)
+    let mut marks = vec![in alloc; false; imports.len()]?;
+    reach(alloc, imports, &mut marks, number)?;
+    marked(alloc, &marks)
 }
 
-/// The closure of each package.
-pub(crate) fn closures(
+/// A mark for each package that a marked one reaches.
+pub(crate) fn reached_by(
     alloc: Global,
-    imports: &[PackageList],
-) -> Result<Vec<PackageList>, AllocError>
-    requires { AreLinked imports.now }
-    ensures { IfOk result (λ closures. AreClosures imports.now closures.items) }
+    links: &[PackageList],
+    starts: &[bool],
+) -> Result<Vec<bool>, AllocError>
+    requires linked { AreLinked links.now }
+    requires size { length starts.now ≡ length links.now }
+    ensures { IfOk result (λ marks. AreReached links.now starts.now (length links.now) marks.items) }
 {
-    let mut closures = Vec::new(alloc);
-    for number in 0..imports.len() {
-        closures.push(closure_of(alloc, imports, number)?)?;
+    let mut marks = vec![in alloc; false; links.len()]?;
+    for start in 0..links.len() {
+        if starts[start] {
+            reach(alloc, links, &mut marks, start)?;
+        }
     }
-    Ok(closures)
+    Ok(marks)
 }
