@@ -27,3 +27,8 @@ AreMarkedAbove w marks = (i j : ℕ) (p q : List ℕ) → slice_get (package_pat
 pub record MarksAbove (w : Workspace) (q : List ℕ) (old new : List Bool) : Type 0 where
   pub size : length new ≡ length old
   pub each : (i : ℕ) (p : List ℕ) → slice_get (package_paths w) i ≡ Some p → IsMarked new i ↔ (IsMarked old i ⊎ IsInClosure w p q)
+
+-- a mark for each package that imports q, directly or indirectly, or is it
+pub record MarkImporting (w : Workspace) (q : List ℕ) (marks : List Bool) : Type 0 where
+  pub size : length marks ≡ length (package_paths w)
+  pub each : (i : ℕ) (p : List ℕ) → slice_get (package_paths w) i ≡ Some p → IsMarked marks i ↔ IsInClosure w p q

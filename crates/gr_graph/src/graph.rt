@@ -8,7 +8,7 @@ ghost use Rattle.gr_graph.specs.Packages.{PackageImports, IsInClosure, AreLinksO
 ghost use Rattle.gr_graph.specs.Changed.{KeepsPath};
 ghost use Rattle.gr_graph.specs.Filling.{names};
 ghost use Rattle.gr_graph.specs.Parts.{HasFilesOf};
-ghost use Rattle.gr_graph.specs.Reaching.{AreMarkedAbove, MarkReaching, MarksAbove};
+ghost use Rattle.gr_graph.specs.Reaching.{AreMarkedAbove, MarkImporting, MarkReaching, MarksAbove};
 ghost use Rattle.gr_graph.specs.Staying.{DiffersOnlyIn, HasFiles};
 ghost use Rattle.gr_graph.specs.declared.package.Package.{Package};
 ghost use Rattle.gr_graph.specs.Graphs.{
@@ -269,6 +269,16 @@ impl Graph {
         ensures { OnOk result (OfPackage self.now number (λ q. MarksAbove self.now q marks.old.items marks.new.items)) }
     {
         self.links().mark_importing(alloc, marks, number)
+    }
+
+    /// A mark for each package that imports one, directly or indirectly, or is it.
+    pub fn importing(&self, alloc: Global, number: usize) -> Result<Vec<bool>, AllocError>
+        requires { number < length (package_paths self.now) }
+        ensures { IfOk result (λ marks. OfPackage self.now number (λ q. MarkImporting self.now q marks.items)) }
+    {
+        let mut marks = vec![in alloc; false; self.len()]?;
+        self.mark_importing(alloc, &mut marks, number)?;
+        Ok(marks)
     }
 }
 
