@@ -25,5 +25,5 @@ pub use finding::{Finding, SharedFinding};
 pub use findings::{Findings, Found, verdicts};
 pub use known::{Known, KnownVerdict};
 pub use marks::is_marked;
-pub use reaching::{is_among, reaches};
+pub use reaching::is_among;
 pub use seeing::seen;
