@@ -13,8 +13,9 @@ use Rattle.gr_graph.specs.Imports.{Links, Imports, imports_of, Reaches, itself, 
 use Rattle.gr_graph.specs.Packages as packages
 use Rattle.gr_text.specs.Packages.{is_go, package_paths, package_files}
 use Rattle.gr_graph.specs.Packages.{PackageImports, AreLinksOf, IsInClosure}
+use Rattle.gr_graph.specs.Closures.{IsBuiltOn}
 use Rattle.gr_graph.specs.Graphs.{HoldsPackages}
-use Rattle.gr_graph.specs.Reaching.{MarkReaching, AreMarkedAbove, MarksAbove}
+use Rattle.gr_graph.specs.Reaching.{IsBelow, MarkReaching, AreMarkedAbove, MarksAbove}
 use Rattle.gr_graph.specs.Search.{IsMarked, AreReaching, MarksImporting}
 use Rattle.gr_graph.proofs.Reached.{reached_within}
 use Rattle.gr_graph.proofs.PackagePaths.{all_there, AreThere, paths_sorted, one_number}
@@ -116,6 +117,15 @@ module _ (w : Workspace) (g : Links) (links : AreLinksOf w g) where
   closure_is n p found at is i = (
     λ h. let reaches = (is i).0 h in let q = name i (reached_within reaches) in (q.0, q.1, in_closure reaches p q.0 at q.1),
     λ s. (is i).1 (reached_at p s.0 n i s.2 at s.1),
+  )
+
+  pub below_is : (n : ℕ) (p : List ℕ) (found : List ℕ) → At n p → IsBuiltOn g n found → HoldsPackages w (IsBelow w p) found
+  below_is n p found at is i = (
+    λ h.
+        let r = (is.each i).0 h in
+        let q = name i (reached_within r.0) in
+        (q.0, q.1, record { imported = in_closure r.0 p q.0 at q.1; not_back = λ back. r.1 (reached_at q.0 p i n back q.1 at) }),
+    λ s. (is.each i).1 (reached_at p s.0 n i s.2.imported at s.1, λ back. s.2.not_back (in_closure back s.0 p s.1 at)),
   )
 
   -- ---- marks

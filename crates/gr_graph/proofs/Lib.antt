@@ -19,3 +19,4 @@ pub mod PartPackages
 pub mod Asked
 pub mod ChangedPackages
 pub mod Told
+pub mod Below

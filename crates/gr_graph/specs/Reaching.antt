@@ -1,9 +1,14 @@
--- Marks of packages that import marked ones.
+-- What packages build on, and marks of packages that import marked ones.
 use Rattle.std.specs.Prelude.{◌≡◌, ℕ, ◌↔◌, ◌⊎◌, Bool, List, Some, length, slice_get}
 use Rattle.gr_text.specs.Packages.{package_paths}
 use Rattle.gr_text.specs.Workspace.{Workspace}
 use Rattle.gr_graph.specs.Packages.{PackageImports, IsInClosure}
 use Rattle.gr_graph.specs.Search.{IsMarked}
+
+-- p imports q, directly or indirectly, and q does not so import p
+pub record IsBelow (w : Workspace) (p q : List ℕ) : Type 0 where
+  pub imported : IsInClosure w p q
+  pub not_back : IsInClosure w q p → ⊥
 
 -- p imports a marked package, directly or indirectly, or is one
 pub record ReachesMarked (w : Workspace) (marks : List Bool) (p : List ℕ) : Type 0 where

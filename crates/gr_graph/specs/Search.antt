@@ -1,5 +1,5 @@
 -- What a search along links finds and marks.
-use Rattle.std.specs.Prelude.{ℕ, ◌≡◌, ◌+◌, ◌<◌, ◌≤◌, ◌⊎◌, ◌↔◌, Bool, true, false, List, length, count_by, slice_index_or}
+use Rattle.std.specs.Prelude.{ℕ, ◌≡◌, ◌+◌, ◌<◌, ◌≤◌, ◌⊎◌, ◌↔◌, Bool, true, false, not, List, length, count_by, slice_index_or}
 use Rattle.std.specs.List.{Contains}
 use Rattle.gr_graph.specs.Imports.{Links, Imports, Reaches, HoldsBelow}
 
@@ -59,6 +59,11 @@ pub record AreReaching (g : Links) (starts marks : List Bool) : Type 0 where
 pub record MarksImporting (g : Links) (start : ℕ) (old new : List Bool) : Type 0 where
   pub size : length new ≡ length old
   pub each : (q : ℕ) → IsMarked new q ↔ (IsMarked old q ⊎ Reaches g q start)
+
+-- just what had no mark has one
+pub record Flips (old new : List Bool) : Type 0 where
+  pub size : length new ≡ length old
+  pub each : (q : ℕ) → q < length old → slice_index_or new q false ≡ not (slice_index_or old q false)
 
 -- the marked packages below a number, in order
 abbrev pub HoldsMarked : List Bool → ℕ → List ℕ → Type 0

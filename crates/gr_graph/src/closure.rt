@@ -1,11 +1,11 @@
 //! What packages reach along links.
 ghost use Rattle.std.specs.Prelude.{◌≡◌, ◌<◌, length, IfOk};
-ghost use Rattle.gr_graph.specs.Imports.{AreLinked};
-ghost use Rattle.gr_graph.specs.Closures.{IsClosed};
-ghost use Rattle.gr_graph.specs.Search.{AreReached, HoldsMarked};
+ghost use Rattle.gr_graph.specs.Imports.{AreLinked, HoldImporters};
+ghost use Rattle.gr_graph.specs.Closures.{IsBuiltOn, IsClosed};
+ghost use Rattle.gr_graph.specs.Search.{AreReached, Flips, HoldsMarked};
 
 use crate::package_list::PackageList;
-use crate::search::reach;
+use crate::search::{reach, spread};
 use std::alloc::{AllocError, Global};
 
 /// The marked packages, by number.
@@ -33,6 +33,35 @@ pub(crate) fn closure_of(
 {
     let mut marks = vec![in alloc; false; imports.len()]?;
     reach(alloc, imports, &mut marks, number)?;
+    marked(alloc, &marks)
+}
+
+/// Marks what has no mark, and takes the other marks off.
+fn flip(marks: &mut Vec<bool>)
+    ensures { Flips marks.old.items marks.new.items }
+{
+    for number in 0..marks.len() {
+        marks[number] = !marks[number];
+    }
+}
+
+/// What a package reaches and what does not reach it, by number. The way back is sought among what it reaches alone.
+pub(crate) fn built_on(
+    alloc: Global,
+    imports: &[PackageList],
+    importers: &[PackageList],
+    number: usize,
+) -> Result<PackageList, AllocError>
+    requires linked { AreLinked imports.now }
+    requires back { HoldImporters imports.now (length imports.now) importers.now }
+    requires number { number < length imports.now }
+    ensures { IfOk result (IsBuiltOn imports.now number) }
+{
+    let mut marks = vec![in alloc; false; imports.len()]?;
+    reach(alloc, imports, &mut marks, number)?;
+    flip(&mut marks);
+    spread(alloc, importers, &mut marks, number)?;
+    flip(&mut marks);
     marked(alloc, &marks)
 }
 

@@ -8,7 +8,7 @@ ghost use Rattle.gr_graph.specs.Packages.{PackageImports, IsInClosure, AreLinksO
 ghost use Rattle.gr_graph.specs.Changed.{KeepsPath};
 ghost use Rattle.gr_graph.specs.Filling.{names};
 ghost use Rattle.gr_graph.specs.Parts.{HasFilesOf};
-ghost use Rattle.gr_graph.specs.Reaching.{AreMarkedAbove, MarkImporting, MarkReaching, MarksAbove};
+ghost use Rattle.gr_graph.specs.Reaching.{AreMarkedAbove, IsBelow, MarkImporting, MarkReaching, MarksAbove};
 ghost use Rattle.gr_graph.specs.Staying.{DiffersOnlyIn, HasFiles};
 ghost use Rattle.gr_graph.specs.declared.package.Package.{Package};
 ghost use Rattle.gr_graph.specs.Graphs.{
@@ -245,6 +245,15 @@ impl Graph {
         ensures rising { IfOk result IsStrictlyIncreasing }
     {
         self.links().closure(alloc, number)
+    }
+
+    /// What a package imports, directly or indirectly, and what does not so import it, in their order. It is searched for.
+    pub fn built_on(&self, alloc: Global, number: usize) -> Result<PackageList, AllocError>
+        requires { number < length (package_paths self.now) }
+        ensures below { IfOk result (λ below. OfPackage self.now number (λ p. HoldsPackages self.now (IsBelow self.now p) below)) }
+        ensures rising { IfOk result IsStrictlyIncreasing }
+    {
+        self.links().built_on(alloc, number)
     }
 
     /// A mark for each package that is marked, or imports a marked one, directly or indirectly. One search finds them all.

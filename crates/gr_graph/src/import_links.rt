@@ -1,6 +1,7 @@
 //! Which packages import which, with all that is asked of it.
 ghost use Rattle.std.specs.Prelude.{ℕ, ◌≡◌, ◌<◌, IfOk, IfSome, OnOk, length};
 ghost use Rattle.std.specs.List.Sorted.{IsStrictlyIncreasing};
+ghost use Rattle.gr_graph.specs.Closures.{IsBuiltOn};
 ghost use Rattle.gr_graph.specs.Orders.{IsOrder};
 ghost use Rattle.gr_graph.specs.Imports.{
   AreLinked,
@@ -11,7 +12,7 @@ ghost use Rattle.gr_graph.specs.Imports.{
 };
 ghost use Rattle.gr_graph.specs.Search.{AreReaching, IsMarked, MarksImporting};
 
-use crate::closure::{closure_of, reached_by};
+use crate::closure::{built_on, closure_of, reached_by};
 use crate::importers::importers;
 use crate::order::order;
 use crate::package_list::PackageList;
@@ -79,6 +80,14 @@ impl ImportLinks {
         ensures rising { IfOk result IsStrictlyIncreasing }
     {
         closure_of(alloc, &self.imports, number)
+    }
+
+    /// What a package imports, directly or indirectly, and what does not so import it, by number. It is searched for.
+    pub fn built_on(&self, alloc: Global, number: usize) -> Result<PackageList, AllocError>
+        requires { number < length self.now }
+        ensures { IfOk result (IsBuiltOn self.now number) }
+    {
+        built_on(alloc, &self.imports, &self.importers, number)
     }
 
     /// A mark for each package that is marked, or imports a marked one, directly or indirectly. One search finds them all.
