@@ -15,8 +15,8 @@ use Rattle.gr_text.specs.Packages.{is_go, package_paths, package_files}
 use Rattle.gr_graph.specs.Packages.{PackageImports, AreLinksOf, IsInClosure}
 use Rattle.gr_graph.specs.Closures.{IsBuiltOn}
 use Rattle.gr_graph.specs.Graphs.{HoldsPackages}
-use Rattle.gr_graph.specs.Reaching.{IsBelow, MarkReaching, AreMarkedAbove, MarksAbove}
-use Rattle.gr_graph.specs.Search.{IsMarked, AreReaching, MarksImporting}
+use Rattle.gr_graph.specs.Reaching.{AreBackMarks, BuildsOn, MarkReaching, AreMarkedAbove, MarksAbove}
+use Rattle.gr_graph.specs.Search.{IsMarked, AreReaching, MarksImporting, TellBack}
 use Rattle.gr_graph.proofs.Reached.{reached_within}
 use Rattle.gr_graph.proofs.PackagePaths.{all_there, AreThere, paths_sorted, one_number}
 
@@ -119,7 +119,14 @@ module _ (w : Workspace) (g : Links) (links : AreLinksOf w g) where
     λ s. (is i).1 (reached_at p s.0 n i s.2 at s.1),
   )
 
-  pub below_is : (n : ℕ) (p : List ℕ) (found : List ℕ) → At n p → IsBuiltOn g n found → HoldsPackages w (IsBelow w p) found
+  pub back_are : (n : ℕ) (p : List ℕ) (marks : List Bool) → At n p → TellBack g n marks → AreBackMarks w p marks
+  back_are n p marks at are i q there c =
+      let told = are.back i (reached_at p q n i c at there) in (
+        λ m. in_closure (told.0 m) q p there at,
+        λ back. told.1 (reached_at q p i n back there at),
+      )
+
+  pub below_is : (n : ℕ) (p : List ℕ) (found : List ℕ) → At n p → IsBuiltOn g n found → HoldsPackages w (BuildsOn w p) found
   below_is n p found at is i = (
     λ h.
         let r = (is.each i).0 h in

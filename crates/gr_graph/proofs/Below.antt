@@ -4,7 +4,7 @@ use Rattle.std.proofs.lemmas.Bool.{cases_Bool, false≢true, true≢false}
 use Rattle.std.proofs.lemmas.List.{get_or_default}
 use Rattle.gr_graph.specs.Closures.{IsBuiltOn}
 use Rattle.gr_graph.specs.Imports.{Links, AreLinked, Imports, HoldImporters, Reaches, itself, through}
-use Rattle.gr_graph.specs.Search.{IsMarked, Finds, Flips, Spreads, HoldsMarked}
+use Rattle.gr_graph.specs.Search.{IsMarked, Flips, Spreads, HoldsMarked, TellBack}
 use Rattle.gr_graph.proofs.Answered.{importer_below}
 use Rattle.gr_graph.proofs.Reached.{Reaches-more, reached_within, back_reaches}
 use Rattle.gr_graph.proofs.SearchSteps.{linked_below, marked_within}
@@ -20,16 +20,16 @@ flipped_off : (old new : List Bool) → Flips old new → (q : ℕ) → IsMarked
 flipped_off old new flips q marked also =
     true≢false (sym also ∙ flips.each q (marked_within old q marked) ∙ ap not marked)
 
-module _ (g noted : Links) (linked : AreLinked g) (back : HoldImporters g (length g) noted) (p : ℕ) (reached barred found_marks last : List Bool)
+module _ (g noted : Links) (linked : AreLinked g) (back : HoldImporters g (length g) noted) (p : ℕ) (reached barred marks : List Bool)
     (found : List ℕ) (size : length reached ≡ length g) (reaches : (q : ℕ) → IsMarked reached q ↔ Reaches g p q) (first : Flips reached barred)
-    (s : Spreads noted p barred found found_marks) (second : Flips found_marks last) where
+    (s : Spreads noted p barred found marks) where
   -- what is barred is not reached
   barred_off : (q : ℕ) → Reaches g p q → IsMarked barred q → ⊥
   barred_off q r m = flipped_off reached barred first q ((reaches q).1 r) m
 
   -- all that leads back within what is reached is found
-  leads_back : {q r : ℕ} → Reaches g q r → r ≡ p → Reaches g p q → IsMarked found_marks q
-  leads_back (itself h) is from = subst (IsMarked found_marks) (sym is) s.begun
+  leads_back : {q r : ℕ} → Reaches g q r → r ≡ p → Reaches g p q → IsMarked marks q
+  leads_back (itself h) is from = subst (IsMarked marks) (sym is) s.begun
   leads_back (through {p = q} {q = k} i rest) is from =
       let there = Reaches-more (linked_below g q k linked i) from i in
       elim (s.finds.places k (leads_back rest is there)) [
@@ -40,29 +40,40 @@ module _ (g noted : Links) (linked : AreLinked g) (back : HoldImporters g (lengt
             s.followed has.0 within q (subst (λ (a : ℕ). Imports noted a q) (sym at) ((back.each k q).1 (importer_below g q k i, i))))
       ]
 
-  pub built_on_is : (numbers : List ℕ) → HoldsMarked last (length last) numbers → IsBuiltOn g p numbers
-  built_on_is numbers held = record {
-    each = λ q. (
-      λ has.
-          let m = ((held.each q).0 has).1 in
-          let within : q < length g = omega (arith, marked_within last q m, second.size, s.finds.size, first.size, size) in
-          let off : IsMarked found_marks q → ⊥ = λ k. flipped_off found_marks last second q k m in
-          let r : Reaches g p q = elim (cases_Bool (get_or reached q false)) [
-            | inl marked ↦ (reaches q).0 marked
-            | inr clear ↦ absurd (off (s.finds.kept q (flipped_on reached barred first q (omega (arith, size)) (λ k. false≢true (sym clear ∙ k)))))
-          ] in
-          (r, λ returns. off (leads_back returns refl r)),
-      λ h.
-          let within : q < length found_marks = omega (arith, reached_within h.0, size, first.size, s.finds.size) in
-          let off : IsMarked found_marks q → ⊥ = λ k. elim (s.finds.places q k) [
-            | inl before ↦ barred_off q h.0 before
-            | inr has ↦ (
-                let inside : has.0 < length found = has.1 in
-                let at : get_or found has.0 0 ≡ q = get_or_default found has.0 0 q inside ∙ has.2 in
-                h.1 (back_reaches g noted linked back (subst (Reaches noted p) at (s.reached has.0 inside))))
-          ] in
-          let m = flipped_on found_marks last second q within off in
-          (held.each q).1 (marked_within last q m, m),
+  pub tell_back : TellBack g p marks
+  tell_back = record {
+    size = s.finds.size ∙ first.size ∙ size;
+    back = λ q r. (
+      λ m. elim (s.finds.places q m) [
+        | inl before ↦ absurd (barred_off q r before)
+        | inr has ↦ (
+            let inside : has.0 < length found = has.1 in
+            let at : get_or found has.0 0 ≡ q = get_or_default found has.0 0 q inside ∙ has.2 in
+            back_reaches g noted linked back (subst (Reaches noted p) at (s.reached has.0 inside)))
+      ],
+      λ returns. leads_back returns refl r,
     );
-    rising = held.rising;
+    others = λ q within off. elim (cases_Bool (get_or reached q false)) [
+      | inl marked ↦ (reaches q).0 marked
+      | inr clear ↦ absurd (off (s.finds.kept q (flipped_on reached barred first q (omega (arith, size)) (λ k. false≢true (sym clear ∙ k)))))
+    ];
   }
+
+-- what is left where these marks are flipped
+pub built_on_is : (g : Links) (p : ℕ) (marks last : List Bool) (numbers : List ℕ) → TellBack g p marks → Flips marks last →
+    HoldsMarked last (length last) numbers → IsBuiltOn g p numbers
+built_on_is g p marks last numbers told flips held = record {
+  each = λ q. (
+    λ has.
+        let m = ((held.each q).0 has).1 in
+        let within : q < length g = omega (arith, marked_within last q m, flips.size, told.size) in
+        let off : IsMarked marks q → ⊥ = λ k. flipped_off marks last flips q k m in
+        let r = told.others q within off in
+        (r, λ returns. off ((told.back q r).1 returns)),
+    λ h.
+        let within : q < length marks = omega (arith, reached_within h.0, told.size) in
+        let m = flipped_on marks last flips q within (λ k. h.1 ((told.back q h.0).0 k)) in
+        (held.each q).1 (marked_within last q m, m),
+  );
+  rising = held.rising;
+}

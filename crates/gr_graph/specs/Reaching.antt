@@ -5,10 +5,14 @@ use Rattle.gr_text.specs.Workspace.{Workspace}
 use Rattle.gr_graph.specs.Packages.{PackageImports, IsInClosure}
 use Rattle.gr_graph.specs.Search.{IsMarked}
 
--- p imports q, directly or indirectly, and q does not so import p
-pub record IsBelow (w : Workspace) (p q : List ℕ) : Type 0 where
+-- p builds on q: it imports q, directly or indirectly, and q does not so import p
+pub record BuildsOn (w : Workspace) (p q : List ℕ) : Type 0 where
   pub imported : IsInClosure w p q
   pub not_back : IsInClosure w q p → ⊥
+
+-- of each package that p imports, directly or indirectly, the mark tells whether it so imports p
+abbrev pub AreBackMarks : Workspace → List ℕ → List Bool → Type 0
+AreBackMarks w p marks = (i : ℕ) (q : List ℕ) → slice_get (package_paths w) i ≡ Some q → IsInClosure w p q → IsMarked marks i ↔ IsInClosure w q p
 
 -- p imports a marked package, directly or indirectly, or is one
 pub record ReachesMarked (w : Workspace) (marks : List Bool) (p : List ℕ) : Type 0 where

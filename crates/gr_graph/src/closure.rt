@@ -2,7 +2,7 @@
 ghost use Rattle.std.specs.Prelude.{◌≡◌, ◌<◌, length, IfOk};
 ghost use Rattle.gr_graph.specs.Imports.{AreLinked, HoldImporters};
 ghost use Rattle.gr_graph.specs.Closures.{IsBuiltOn, IsClosed};
-ghost use Rattle.gr_graph.specs.Search.{AreReached, Flips, HoldsMarked};
+ghost use Rattle.gr_graph.specs.Search.{AreReached, Flips, HoldsMarked, TellBack};
 
 use crate::package_list::PackageList;
 use crate::search::{reach, spread};
@@ -45,7 +45,26 @@ fn flip(marks: &mut Vec<bool>)
     }
 }
 
-/// What a package reaches and what does not reach it, by number. The way back is sought among what it reaches alone.
+/// Marks that tell of what a package reaches whether it reaches that package. The way back is sought among what it reaches alone.
+pub(crate) fn back_marks(
+    alloc: Global,
+    imports: &[PackageList],
+    importers: &[PackageList],
+    number: usize,
+) -> Result<Vec<bool>, AllocError>
+    requires linked { AreLinked imports.now }
+    requires back { HoldImporters imports.now (length imports.now) importers.now }
+    requires number { number < length imports.now }
+    ensures { IfOk result (λ marks. TellBack imports.now number marks.items) }
+{
+    let mut marks = vec![in alloc; false; imports.len()]?;
+    reach(alloc, imports, &mut marks, number)?;
+    flip(&mut marks);
+    spread(alloc, importers, &mut marks, number)?;
+    Ok(marks)
+}
+
+/// What a package reaches and what does not reach it, by number.
 pub(crate) fn built_on(
     alloc: Global,
     imports: &[PackageList],
@@ -57,10 +76,7 @@ pub(crate) fn built_on(
     requires number { number < length imports.now }
     ensures { IfOk result (IsBuiltOn imports.now number) }
 {
-    let mut marks = vec![in alloc; false; imports.len()]?;
-    reach(alloc, imports, &mut marks, number)?;
-    flip(&mut marks);
-    spread(alloc, importers, &mut marks, number)?;
+    let mut marks = back_marks(alloc, imports, importers, number)?;
     flip(&mut marks);
     marked(alloc, &marks)
 }

@@ -8,7 +8,7 @@ ghost use Rattle.gr_graph.specs.Packages.{PackageImports, IsInClosure, AreLinksO
 ghost use Rattle.gr_graph.specs.Changed.{KeepsPath};
 ghost use Rattle.gr_graph.specs.Filling.{names};
 ghost use Rattle.gr_graph.specs.Parts.{HasFilesOf};
-ghost use Rattle.gr_graph.specs.Reaching.{AreMarkedAbove, IsBelow, MarkImporting, MarkReaching, MarksAbove};
+ghost use Rattle.gr_graph.specs.Reaching.{AreBackMarks, AreMarkedAbove, BuildsOn, MarkImporting, MarkReaching, MarksAbove};
 ghost use Rattle.gr_graph.specs.Staying.{DiffersOnlyIn, HasFiles};
 ghost use Rattle.gr_graph.specs.declared.package.Package.{Package};
 ghost use Rattle.gr_graph.specs.Graphs.{
@@ -247,10 +247,18 @@ impl Graph {
         self.links().closure(alloc, number)
     }
 
+    /// Marks that tell of what a package imports, directly or indirectly, whether it so imports that package.
+    pub fn back_marks(&self, alloc: Global, number: usize) -> Result<Vec<bool>, AllocError>
+        requires { number < length (package_paths self.now) }
+        ensures { IfOk result (λ marks. OfPackage self.now number (λ p. AreBackMarks self.now p marks.items)) }
+    {
+        self.links().back_marks(alloc, number)
+    }
+
     /// What a package imports, directly or indirectly, and what does not so import it, in their order. It is searched for.
     pub fn built_on(&self, alloc: Global, number: usize) -> Result<PackageList, AllocError>
         requires { number < length (package_paths self.now) }
-        ensures below { IfOk result (λ below. OfPackage self.now number (λ p. HoldsPackages self.now (IsBelow self.now p) below)) }
+        ensures below { IfOk result (λ below. OfPackage self.now number (λ p. HoldsPackages self.now (BuildsOn self.now p) below)) }
         ensures rising { IfOk result IsStrictlyIncreasing }
     {
         self.links().built_on(alloc, number)

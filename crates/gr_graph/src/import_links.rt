@@ -10,9 +10,9 @@ ghost use Rattle.gr_graph.specs.Imports.{
   IsClosure,
   imports_of,
 };
-ghost use Rattle.gr_graph.specs.Search.{AreReaching, IsMarked, MarksImporting};
+ghost use Rattle.gr_graph.specs.Search.{AreReaching, IsMarked, MarksImporting, TellBack};
 
-use crate::closure::{built_on, closure_of, reached_by};
+use crate::closure::{back_marks, built_on, closure_of, reached_by};
 use crate::importers::importers;
 use crate::order::order;
 use crate::package_list::PackageList;
@@ -80,6 +80,14 @@ impl ImportLinks {
         ensures rising { IfOk result IsStrictlyIncreasing }
     {
         closure_of(alloc, &self.imports, number)
+    }
+
+    /// Marks that tell of what a package imports, directly or indirectly, whether it so imports that package.
+    pub fn back_marks(&self, alloc: Global, number: usize) -> Result<Vec<bool>, AllocError>
+        requires { number < length self.now }
+        ensures { IfOk result (λ marks. TellBack self.now number marks.items) }
+    {
+        back_marks(alloc, &self.imports, &self.importers, number)
     }
 
     /// What a package imports, directly or indirectly, and what does not so import it, by number. It is searched for.

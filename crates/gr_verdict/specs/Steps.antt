@@ -1,6 +1,6 @@
 -- What is found on the way: an order of the packages, what one of them sees, its faults with their places, and what is found
 -- with one package more.
-use Rattle.std.specs.Prelude.{ℕ, ◌≡◌, ◌<◌, ◌↔◌, ◌⊎◌, Bool, List, [], length, map, Option, Some, None, slice_get, slice_index_or, MatchOption, Contains}
+use Rattle.std.specs.Prelude.{ℕ, ◌≡◌, ◌<◌, ◌↔◌, ◌⊎◌, List, [], length, map, Option, Some, None, slice_get, slice_index_or, MatchOption, Contains}
 use Rattle.std.specs.List.Sorted.{IsStrictlyIncreasing}
 use Rattle.std.proofs.Math.ListN.{set}
 use Rattle.gr_text.specs.Workspace.{Workspace}
@@ -10,7 +10,6 @@ use Rattle.gr_tree.specs.SourceFile.{SourceFile, FileParts, source_of}
 use Rattle.gr_graph.specs.FaultyFiles.{FaultyParts}
 use Rattle.gr_graph.specs.Graphs.{HoldsPackages}
 use Rattle.gr_graph.specs.Packages.{IsInClosure}
-use Rattle.gr_graph.specs.Search.{IsMarked}
 use Rattle.gr_declared.specs.InterfacesView.{name_in, interface_in, interface_of, KnowsSame, AddsInterface}
 use Rattle.gr_declared.specs.declared.interfaces.Interface.{Interface}
 use Rattle.gr_declared.specs.declared.interfaces.Interfaces.{Interfaces}
@@ -46,10 +45,6 @@ pub record IsBuildOrder (w : Workspace) (order : List ℕ) : Type 0 where
       (j : ℕ) × (j < i) × (slice_get order j ≡ Some m)
 
 -- What a package sees
-
--- those of some packages that are not marked
-abbrev pub AreUnmarkedOf : List ℕ → List Bool → List ℕ → Type 0
-AreUnmarkedOf numbers marks left = (n : ℕ) → Contains left n ↔ (Contains numbers n × (IsMarked marks n → ⊥))
 
 -- one of some packages, by their numbers, on which p builds
 pub record IsSharedOf (w : Workspace) (p : List ℕ) (numbers : List ℕ) (q : List ℕ) : Type 0 where

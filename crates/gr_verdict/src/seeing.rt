@@ -3,7 +3,7 @@ ghost use Rattle.std.specs.Prelude.{ℕ, ◌≡◌, ◌<◌, List, length, IfOk,
 ghost use Rattle.gr_text.specs.Packages.{package_paths};
 ghost use Rattle.gr_graph.specs.Graphs.{OfPackage};
 ghost use Rattle.gr_graph.specs.Packages.{PackageImports};
-ghost use Rattle.gr_graph.specs.Reaching.{MarkImporting};
+ghost use Rattle.gr_graph.specs.Reaching.{AreBackMarks};
 ghost use Rattle.gr_imports.specs.States.{state_in};
 ghost use Rattle.gr_imports.specs.declared.states.ImportState.TheVariants.{Missing};
 ghost use Rattle.gr_declared.specs.InterfacesView.{name_in, interface_in};
@@ -12,7 +12,6 @@ ghost use Rattle.gr_verdict.specs.Told.{known_by, AreWhole};
 ghost use Rattle.gr_verdict.specs.Steps.{KnowsSameOfOthers};
 
 use crate::marks::is_marked;
-use crate::reaching::below;
 use gr_declared::Interfaces;
 use gr_graph::Graph;
 use gr_imports::{ImportState, PackageNames};
@@ -32,14 +31,14 @@ pub fn seen(
     ensures states { IfOk result (λ i. (path : List ℕ) → state_in i.states path ≡ Missing) }
 {
     let mut seen = Interfaces::new(alloc);
-    let below = below(alloc, graph, number)?;
-    for other in &below {
+    let below = graph.built_on(alloc, number)?;
+    for other in below.as_slice() {
         seen.share(alloc, all, &graph.package(*other).path)?;
     }
     Ok(seen)
 }
 
-/// What an imported package is to the one that imports it. Those are marked that import that one.
+/// What an imported package is to the one that imports it. The marks tell which packages import that one.
 fn state_of(
     graph: &Graph,
     number: usize,
@@ -48,7 +47,7 @@ fn state_of(
     all: &Interfaces,
 ) -> ImportState
     requires in_range { import < length (package_paths graph.now) }
-    requires back { OfPackage graph.now number (λ p. MarkImporting graph.now p back.now) }
+    requires back { OfPackage graph.now number (λ p. AreBackMarks graph.now p back.now) }
     requires imports { OfPackage graph.now number (λ p. OfPackage graph.now import (λ q. PackageImports graph.now p q)) }
     ensures { OfPackage graph.now number (λ p. OfPackage graph.now import (λ q. IsStateOf graph.now (known_by all.now) p q result)) }
 {
@@ -74,7 +73,7 @@ pub(crate) fn note_imports(
     ensures states { OnOk result (OfPackage graph.now number (λ p. AreStates graph.now (known_by all.now) p (state_in seen.new.states))) }
     ensures kept { OnOk result (KnowsSameOfOthers seen.old seen.new) }
 {
-    let back = graph.importing(alloc, number)?;
+    let back = graph.back_marks(alloc, number)?;
     for import in graph.imports(number) {
         let path = Vec::from_slice(alloc, &graph.package(*import).path)?;
         seen.note(path, state_of(graph, number, &back, *import, all))?;

@@ -1,40 +1,15 @@
--- What is marked in the end is reached, and does not lead back.
-use Rattle.std.proofs.Common.{Bool, List, ℕ, ◌≡◌, false, length, sym, subst, ◌∙◌}
-use Rattle.std.proofs.lemmas.List.{length-replicate}
+-- What is left where the marks are flipped is reached, and does not lead back.
+use Rattle.std.proofs.Common.{Bool, List, length, subst}
 use Rattle.std.proofs.lemmas.Result.{IfOk-weaker}
 use Rattle.gr_graph.specs.Search.{HoldsMarked}
 use Rattle.gr_graph.specs.Closures.{IsBuiltOn}
 use Rattle.gr_graph.proofs.Below.{built_on_is}
-use Rattle.gr_graph.proofs.Reached.{none_closed, noted_linked, reached_alone}
 use Rattle.gr_graph.proofs.closure.built_on.Goals as goal
-
-pub reach-requires : goal.reach-requires
-reach-requires c =
-    let g = c.args.imports.now in
-    record {
-      linked = c.requires.linked;
-      size = length-replicate (length g) false;
-      start = c.requires.number;
-      closed = none_closed g (length g);
-    }
-
-pub spread-requires : goal.spread-requires
-spread-requires c =
-    let g = c.args.imports.now in
-    let size = c.requires.back.size in
-    record {
-      linked = noted_linked g c.args.importers.now c.requires.linked c.requires.back;
-      size = c.flip.ensures.size ∙ c.in_ok-reach.ensures.reached.size ∙ length-replicate (length g) false ∙ sym size;
-      start = subst (λ (n : ℕ). c.args.number < n) (sym size) c.requires.number;
-    }
 
 pub returns : goal.returns
 returns c =
     let g = c.args.imports.now in
     let number = c.args.number in
-    let reached = c.reach.new.marks.items in
     IfOk-weaker c.marked.result (HoldsMarked c.deref.result.now (length c.deref.result.now)) (IsBuiltOn g number)
-    (λ numbers held. built_on_is g c.args.importers.now c.requires.linked c.requires.back number reached c.flip.new.marks.items c.spread.new.marks.items
-    c.flip-2.new.marks.items c.in_ok-spread.field-0.items (c.in_ok-reach.ensures.reached.size ∙ length-replicate (length g) false)
-    (reached_alone g number (length g) reached c.in_ok-reach.ensures.reached) c.flip.ensures c.in_ok-spread.ensures c.flip-2.ensures numbers
+    (λ numbers held. built_on_is g number c.in_ok-marks.marks.items c.flip.new.marks.items numbers c.in_ok-marks.ensures c.flip.ensures
     (subst (λ (ms : List Bool). HoldsMarked ms (length ms) numbers) c.deref.ensures.value held)) c.marked.ensures

@@ -19,24 +19,24 @@ loop-other-init c = λ p at. none_shared c.args.graph.now p _ c.args.all.now c.n
 pub package-requires : goal.package-requires
 package-requires c =
     let w = c.args.graph.now in
-    let items = c.deref-other-items.result.now in
+    let items = c.as_slice-other-items.result.now in
     let k = c.loop-other.other-index in
-    let own = rw (sym c.deref-other-items.ensures.value) (Contains-get_or items k 0 (omega arith)) in
+    let own = rw (sym c.as_slice-other-items.ensures) (Contains-get_or items k 0 (omega arith)) in
     let p = slice_get_some (package_paths w) c.args.number c.requires.in_range in
-    let s = (c.in_ok-below.ensures p.0 p.1 (get_or items k 0)).0 own in
+    let s = (c.in_ok-below.ensures.below p.0 p.1 (get_or items k 0)).0 own in
     slice_get_within (package_paths w) (get_or items k 0) s.0 s.1
 
 pub loop-other-preserved : goal.loop-other-preserved
 loop-other-preserved c = λ p at.
     let w = c.args.graph.now in
     let all = c.args.all.now in
-    let items = c.deref-other-items.result.now in
+    let items = c.as_slice-other-items.result.now in
     let k = c.loop-other.other-index in
     let lt : k < length items = omega arith in
     let n = get_or items k 0 in
     let old = c.loop-other.seen in
     let new = c.share.new.self in
-    let s = (c.in_ok-below.ensures p at n).0 (rw (sym c.deref-other-items.ensures.value) (Contains-get_or items k 0 lt)) in
+    let s = (c.in_ok-below.ensures.below p at n).0 (rw (sym c.as_slice-other-items.ensures) (Contains-get_or items k 0 lt)) in
     let path : c.deref.result.now ≡ s.0 = c.deref.ensures.value ∙ same_Some c.package.result.now.path.items s.0 (sym c.package.ensures.path ∙ s.1) in
     shared_next w p (take k items) (take (k + 1) items) n s.0 s.1 (λ m h. taken_or_next items k 0 m lt h) (λ m h. still_taken items k 0 m lt h)
     (next_taken items k 0 lt) all old new s.2 (subst (Shares all old new) path c.in_ok-share.ensures.shared) (c.loop-other.invariant p at)
@@ -44,11 +44,11 @@ loop-other-preserved c = λ p at.
 pub returns-clause-seen : goal.returns-clause-seen
 returns-clause-seen c = λ p at.
     let w = c.args.graph.now in
-    let items = c.deref-other-items.result.now in
+    let items = c.as_slice-other-items.result.now in
     let whole = subst (λ l. AreShared w p l c.args.all.now c.loop-other.seen) (take_all c.loop-other.other-index items (omega arith))
     (c.loop-other.invariant p at) in
     all_seen w p items c.args.all.now c.loop-other.seen
-    (subst (HoldsPackages w (BuildsOn w p)) (sym c.deref-other-items.ensures.value) (c.in_ok-below.ensures p at)) c.requires.whole whole
+    (subst (HoldsPackages w (BuildsOn w p)) (sym c.as_slice-other-items.ensures) (c.in_ok-below.ensures.below p at)) c.requires.whole whole
 
 pub returns-clause-states : goal.returns-clause-states
 returns-clause-states c =

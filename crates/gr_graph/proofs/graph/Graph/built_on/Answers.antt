@@ -4,7 +4,7 @@ use Rattle.std.specs.List.Sorted.{IsStrictlyIncreasing}
 use Rattle.std.proofs.lemmas.Result.{IfOk-weaker}
 use Rattle.gr_graph.specs.Graphs.{HoldsPackages, OfPackage}
 use Rattle.gr_graph.specs.Closures.{IsBuiltOn}
-use Rattle.gr_graph.specs.Reaching.{IsBelow}
+use Rattle.gr_graph.specs.Reaching.{BuildsOn}
 use Rattle.gr_graph.proofs.Asked.{below_is}
 use Rattle.gr_graph.proofs.graph.Graph.built_on.Goals as goal
 
@@ -16,7 +16,7 @@ returns-clause-below c =
     let w = c.args.self.now in
     let g = c.links.result.now in
     let number = c.args.number in
-    IfOk-weaker c.built_on.result (IsBuiltOn g number) (λ below. OfPackage w number (λ p. HoldsPackages w (IsBelow w p) below))
+    IfOk-weaker c.built_on.result (IsBuiltOn g number) (λ below. OfPackage w number (λ p. HoldsPackages w (BuildsOn w p) below))
     (λ below is p at. below_is w g c.links.ensures.links number p below at is) c.built_on.ensures
 
 pub returns-clause-rising : goal.returns-clause-rising
