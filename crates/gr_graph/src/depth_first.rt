@@ -72,7 +72,8 @@ impl DepthFirst {
         }
         let row = imports_of(links, top.number);
         let Some(place) = unmarked_from(row, top.next, &self.marks) else {
-            return self.left.push(top.number);
+            self.left.push(top.number)?;
+            return Ok(());
         };
         let next = place + 1;
         self.path.push(Entered {
