@@ -81,28 +81,29 @@ none_marked zero q m = false≢true m
 none_marked (suc n) zero m = false≢true m
 none_marked (suc n) (suc q) m = none_marked n q m
 
-pub none_closed : (g : Links) (n : ℕ) → AreClosedUnder g (replicate n false)
-none_closed g n p q m i = absurd (none_marked n p m)
+pub none_in : (marks : List Bool) (n : ℕ) → marks ≡ replicate n false → (q : ℕ) → IsMarked marks q → ⊥
+none_in marks n is q m = none_marked n q (subst (λ (ms : List Bool). IsMarked ms q) is m)
+
+pub none_closed : (g : Links) (marks : List Bool) → ((q : ℕ) → IsMarked marks q → ⊥) → AreClosedUnder g marks
+none_closed g marks none p q m i = absurd (none p m)
 
 -- what is marked from nothing on
-pub reached_alone : (g : Links) (start n : ℕ) (marks : List Bool) → MarksReached g start (replicate n false) marks → (q : ℕ) → IsMarked marks q ↔ Reaches g start q
-reached_alone g start n marks are q = (
-  λ m. elim ((are.each q).0 m) [ inl none ↦ absurd (none_marked n q none) | inr r ↦ r ],
+pub reached_alone : (g : Links) (start : ℕ) (old marks : List Bool) → ((q : ℕ) → IsMarked old q → ⊥) → MarksReached g start old marks → (q : ℕ) →
+    IsMarked marks q ↔ Reaches g start q
+reached_alone g start old marks none are q = (
+  λ m. elim ((are.each q).0 m) [ inl before ↦ absurd (none q before) | inr r ↦ r ],
   λ r. (are.each q).1 (inr r),
 )
 
 -- ---- what the marked ones of the first packages reach
 module _ (g : Links) (starts : List Bool) where
-  pub reached_none : AreReached g starts 0 (replicate (length g) false)
-  reached_none = record {
-    size = length-replicate (length g) false;
-    each = λ q. ((λ m. absurd (none_marked (length g) q m)), (λ r. absurd (omega (arith, r.1))));
-  }
+  pub reached_none : (marks : List Bool) → length marks ≡ length g → ((q : ℕ) → IsMarked marks q → ⊥) → AreReached g starts 0 marks
+  reached_none marks size none = record { size = size; each = λ q. ((λ m. absurd (none q m)), (λ r. absurd (omega (arith, r.1)))) }
 
   pub reached_closed : (count : ℕ) (marks : List Bool) → AreLinked g → AreReached g starts count marks → AreClosedUnder g marks
   reached_closed count marks linked are p q m i =
       let r = (are.each p).0 m in
-      (are.each q).1 (r.0, r.1, r.2.0, Reaches-more (linked_below g p q linked i) r.2.1 i)
+      (are.each q).1 (r.0, r.1, r.2, Reaches-more (linked_below g p q linked i) r.3 i)
 
   pub reached_more : (count : ℕ) (old new : List Bool) → AreReached g starts count old → IsMarked starts count → MarksReached g count old new →
       AreReached g starts (count + 1) new
@@ -110,13 +111,13 @@ module _ (g : Links) (starts : List Bool) where
     size = more.size ∙ are.size;
     each = λ q. (
       λ m. elim ((more.each q).0 m) [
-        | inl before ↦ (let r = (are.each q).0 before in let lt : r.0 < count = r.1 in (r.0, omega arith, r.2))
+        | inl before ↦ (let r = (are.each q).0 before in let lt : r.0 < count = r.1 in (r.0, omega arith, r.2, r.3))
         | inr r ↦ (count, omega arith, marked, r)
       ],
       λ r. (let below : r.0 < count + 1 = r.1 in
           elim (cases_lt r.0 count) [
-            | inl lt ↦ (more.each q).1 (inl ((are.each q).1 (r.0, lt, r.2)))
-            | inr ge ↦ (let e : r.0 ≡ count = omega arith in (more.each q).1 (inr (subst (λ (p : ℕ). Reaches g p q) e r.2.1)))
+            | inl lt ↦ (more.each q).1 (inl ((are.each q).1 (r.0, lt, r.2, r.3)))
+            | inr ge ↦ (let e : r.0 ≡ count = omega arith in (more.each q).1 (inr (subst (λ (p : ℕ). Reaches g p q) e r.3)))
           ]),
     );
   }
@@ -125,11 +126,11 @@ module _ (g : Links) (starts : List Bool) where
   reached_skip count marks are none = record {
     size = are.size;
     each = λ q. (
-      λ m. (let r = (are.each q).0 m in let lt : r.0 < count = r.1 in (r.0, omega arith, r.2)),
+      λ m. (let r = (are.each q).0 m in let lt : r.0 < count = r.1 in (r.0, omega arith, r.2, r.3)),
       λ r. (let below : r.0 < count + 1 = r.1 in
           elim (cases_lt r.0 count) [
-            | inl lt ↦ (are.each q).1 (r.0, lt, r.2)
-            | inr ge ↦ (let e : r.0 ≡ count = omega arith in absurd (none (subst (IsMarked starts) e r.2.0)))
+            | inl lt ↦ (are.each q).1 (r.0, lt, r.2, r.3)
+            | inr ge ↦ (let e : r.0 ≡ count = omega arith in absurd (none (subst (IsMarked starts) e r.2)))
           ]),
     );
   }
@@ -159,7 +160,7 @@ module _ (g noted : Links) (linked : AreLinked g) (back : HoldImporters g (lengt
   are_reaching starts marks size are = record {
     size = are.size ∙ back.size;
     each = λ q. (
-      λ m. (let r = (are.each q).0 m in (r.0, r.2.0, back_reaches r.2.1)),
+      λ m. (let r = (are.each q).0 m in (r.0, r.2, back_reaches r.3)),
       λ r. (are.each q).1 (r.0, (let lt : r.0 < length noted = omega (arith, marked_within starts r.0 r.1, size, back.size) in lt), r.1, reaches_back r.2),
     );
   }

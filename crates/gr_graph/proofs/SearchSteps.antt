@@ -39,7 +39,7 @@ counted_set marks n within clear =
 pub finds_none : (marks : List Bool) → Finds marks [] marks
 finds_none marks = record {
   size = refl;
-  counted = refl;
+  counted = omega arith;
   kept = λ q m. m;
   fresh = λ i lt m. absurd (omega arith);
   marked = λ i lt. absurd (omega arith);

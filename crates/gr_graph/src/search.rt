@@ -17,6 +17,7 @@ pub(crate) fn imports_of(imports: &[PackageList], importer: usize) -> &[usize]
 /// Notes that a package was found, unless it is marked.
 fn note(found: &mut Vec<usize>, marks: &mut Vec<bool>, number: usize) -> Result<(), AllocError>
     requires { number < length marks.old.items }
+    ensures size { OnOk result (length marks.new.items ≡ length marks.old.items) }
     ensures finds { OnOk result ((first : List Bool) → Finds first found.old.items marks.old.items → Finds first found.new.items marks.new.items) }
     ensures noted { OnOk result (Notes found.old.items marks.old.items found.new.items marks.new.items (λ q. q ≡ number)) }
 {

@@ -1,14 +1,18 @@
 -- One package further.
-use Rattle.std.proofs.Common.{◌≡◌, ℕ, length, true, false, sym, subst, ◌∙◌, arith}
+use Rattle.std.proofs.Common.{rules, ◌≡◌, ℕ, length, get_or, replicate, false, ap, sym, subst, ◌∙◌, arith}
 use Rattle.std.proofs.lemmas.Bool.{false≢true}
-use Rattle.gr_graph.specs.Search.{AreReached}
-use Rattle.gr_graph.proofs.Reached.{reached_none, reached_closed, reached_more, reached_skip}
-use Rattle.gr_graph.proofs.SearchSteps.{mark_read}
+use Rattle.std.proofs.lemmas.List.{length-replicate}
+use Rattle.gr_graph.specs.Search.{AreReached, IsMarked}
+use Rattle.gr_graph.proofs.Reached.{none_in, reached_none, reached_closed, reached_more, reached_skip}
 use Rattle.gr_graph.proofs.closure.reached_by.Goals as goal
-use Rattle.gr_graph.proofs.closure.reached_by.Goals.{then-index+in_ok-reach, else-index}
+use Rattle.gr_graph.proofs.closure.reached_by.Goals.{then-starts-start+in_ok-reach, else-starts-start}
 
 pub loop-start-init : goal.loop-start-init
-loop-start-init c = reached_none c.args.links.now c.args.starts.now
+loop-start-init c =
+    let g = c.args.links.now in
+    let marks = c.in_ok-marks.marks.items in
+    let is : marks ≡ replicate (length g) false = c.in_ok-marks.ensures.items_if_clones_equal (search rules) in
+    reached_none g c.args.starts.now marks (ap length is ∙ length-replicate (length g) false) (none_in marks (length g) is)
 
 pub reach-requires : goal.reach-requires
 reach-requires c = record {
@@ -24,12 +28,12 @@ loop-start-preserved c =
     let starts = c.args.starts.now in
     let n = c.loop-start.start in
     let m = c.loop-start.marks.items in
-    elim c.if-index.branch [
-      | then-index+in_ok-reach w ↦
-          let marked = mark_read starts n c.index.result.now true (omega (arith, c.requires.size)) c.index.ensures w.if-index.true in
+    elim c.if-starts-start.branch [
+      | then-starts-start+in_ok-reach w ↦
+          let marked : IsMarked starts n = w.if-starts-start.true in
           rw w.marks-is (reached_more g starts n m w.reach.new.marks.items c.loop-start.invariant marked w.in_ok-reach.ensures.reached)
-      | else-index w ↦
-          let clear = mark_read starts n c.index.result.now false (omega (arith, c.requires.size)) c.index.ensures w.if-index.false in
+      | else-starts-start w ↦
+          let clear : get_or starts n false ≡ false = w.if-starts-start.false in
           rw w.marks-is (reached_skip g starts n m c.loop-start.invariant (λ m. false≢true (sym clear ∙ m)))
     ]
 

@@ -3,7 +3,6 @@ use Rattle.std.proofs.Common.{◌≡◌, ◌<◌, inl, inr, ℕ, true, length, g
 use Rattle.std.proofs.lemmas.Bool.{cases_lt}
 use Rattle.std.proofs.lemmas.List.{get_or_default}
 use Rattle.gr_graph.specs.Search.{IsMarked}
-use Rattle.gr_graph.proofs.SearchSteps.{mark_read}
 use Rattle.gr_graph.proofs.order.are_marked.Goals as goal
 
 pub loop-number-preserved : goal.loop-number-preserved
@@ -11,12 +10,11 @@ loop-number-preserved c = λ k below.
     let marks = c.args.marks.now in
     let numbers = c.args.numbers.now in
     let i = c.loop-number.number-index in
-    let within = c.requires i 0 c.loop-number-test.true in
     elim (cases_lt k i) [
       | inl before ↦ c.loop-number.invariant k before
       | inr ge ↦ (let e : k ≡ i = omega arith in
           subst (λ (j : ℕ). IsMarked marks (get_or numbers j 0)) (sym e)
-          (mark_read marks (get_or numbers i 0) c.index.result.now true within c.index.ensures c.if-not-index.false))
+          (let marked : IsMarked marks (get_or numbers i 0) = c.if-not-marks-number.false in marked))
     ]
 
 pub returns : goal.returns

@@ -35,7 +35,7 @@ loop-number-preserved c =
     let inv = c.loop-number.invariant in
     let lt = c.loop-number-test.true in
     record {
-      size = c.note.new.marks.ok.0 ∙ inv.size;
+      size = c.in_ok-note.ensures.size ∙ inv.size;
       finds = λ first h. c.in_ok-note.ensures.finds first (inv.finds first h);
       noted = notes_then c.args.found.now.items c.args.marks.now.items c.loop-number.found.items c.loop-number.marks.items c.note.new.found.items
           c.note.new.marks.items (Contains (take i row)) (λ q. q ≡ get_or row i 0) (Contains (take (i + 1) row)) inv.noted c.in_ok-note.ensures.noted

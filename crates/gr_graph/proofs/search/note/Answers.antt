@@ -1,5 +1,5 @@
 -- A package that was not marked is noted, and one that was is not.
-use Rattle.std.proofs.Common.{List, Bool, Vec, ℕ, ◌∷◌, [], ◌++◌, true, sym, subst}
+use Rattle.std.proofs.Common.{List, Bool, Vec, ℕ, ◌∷◌, [], ◌++◌, true, false, sym, subst}
 use Rattle.std.specs.Prelude.{slice_set}
 use Rattle.gr_graph.specs.Search.{Finds, Notes}
 use Rattle.gr_graph.proofs.SearchSteps.{finds_more, notes_one, notes_same, mark_read}
@@ -19,7 +19,7 @@ returns-in_ok-push-clause-noted c =
     let clear = mark_read marks c.args.number c.index.result.now false c.requires c.index.ensures c.if-not-index.true in
     rw c.in_ok-push.ensures.items (notes_one found marks c.args.number c.requires clear)
 
-pub returns-clause-noted : goal.returns-clause-noted
-returns-clause-noted c =
+pub returns-else-not-index-clause-noted : goal.returns-else-not-index-clause-noted
+returns-else-not-index-clause-noted c =
     notes_same c.args.found.now.items c.args.marks.now.items c.args.number
     (mark_read c.args.marks.now.items c.args.number c.index.result.now true c.requires c.index.ensures c.if-not-index.false)

@@ -6,8 +6,8 @@ use Rattle.std.proofs.lemmas.List.Sums.{count_by-le-length}
 use Rattle.gr_graph.proofs.SearchSteps.{counted_set}
 use Rattle.gr_graph.proofs.depth_first.DepthFirst.enter.Goals as goal
 
-pub returns-in_ok-push-clause-steps : goal.returns-in_ok-push-clause-steps
-returns-in_ok-push-clause-steps c =
+pub returns-clause-steps : goal.returns-clause-steps
+returns-clause-steps c =
     let marks = c.args.self.now.marks.items in
     let path = c.args.self.now.path.items in
     let counted = counted_set marks c.args.number c.requires.within c.requires.clear in

@@ -1,7 +1,8 @@
 -- A search along importers finds what reaches the package.
 use Rattle.std.proofs.Common.{ℕ, List, ◌<◌, length, ap, sym, subst, ◌∙◌}
+use Rattle.std.proofs.lemmas.Result.{on_ok_weaker}
 use Rattle.gr_graph.specs.Imports.{Links, Imports}
-use Rattle.gr_graph.specs.Search.{IsMarked, AreClosedUnder, MarksReached, MarksImporting}
+use Rattle.gr_graph.specs.Search.{IsMarked, MarksReached, MarksImporting}
 use Rattle.gr_graph.proofs.Reached.{noted_linked, closed_back, marks_importing}
 use Rattle.gr_graph.proofs.import_links.ImportLinks.mark_importing.Goals as goal
 
@@ -19,3 +20,16 @@ reach-requires c =
       closed = rw c.deref.ensures.value (closed_back g noted c.self.invariant.linked back marks
           (subst (λ (h : Links). (p q : ℕ) → Imports h p q → IsMarked marks q → IsMarked marks p) (sym c.self.view_is) c.requires.above));
     }
+
+pub returns : goal.returns
+returns c =
+    let g = c.self.inside.imports.items in
+    let noted = c.self.inside.importers.items in
+    let number = c.args.number in
+    let old = c.args.marks.now.items in
+    let new = c.reach.new.marks.items in
+    on_ok_weaker c.reach.result
+    (λ are. subst (λ (h : Links). MarksImporting h number old new) c.self.view_is
+    (marks_importing g noted c.self.invariant.linked c.self.invariant.importers number old new
+    (subst (λ (h : Links). MarksReached h number old new) c.deref.ensures.value are)))
+    c.reach.ensures.reached
