@@ -113,10 +113,9 @@ impl Steady {
         ensures none { IfOk result (λ steady. (n : ℕ) → IsMarked steady.marks.items n → ⊥) }
         ensures stirs { IfOk result (Stirs graph.now) }
     {
-        Ok(Steady {
-            marks: vec![in alloc; false; graph.len()]?,
-            stirred: vec![in alloc; false; graph.len()]?,
-        })
+        let marks = vec![in alloc; false; graph.len()]?;
+        let stirred = vec![in alloc; false; graph.len()]?;
+        Ok(Steady { marks, stirred })
     }
 
     /// Passes a package.
