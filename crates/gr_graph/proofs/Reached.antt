@@ -1,12 +1,12 @@
 -- What a search that is over says of the packages that are reached.
-use Rattle.std.proofs.Common.{◌≡◌, ℕ, zero, suc, ◌+◌, ◌<◌, ◌≤◌, ◌⊎◌, inl, inr, ◌↔◌, Bool, true, false, List, [], length, get_or, sym, subst, ◌∙◌, arith}
-use Rattle.std.specs.List.{All, Contains}
+use Rattle.std.proofs.Common.{◌≡◌, ℕ, zero, suc, ◌+◌, ◌<◌, inl, inr, ◌↔◌, Bool, true, false, List, [], length, get_or, sym, subst, ◌∙◌, arith}
+use Rattle.std.specs.List.{All}
 use Rattle.std.proofs.lemmas.List.Elements.{All-from_get_or, Contains-get_or}
 use Rattle.std.proofs.Math.ListN.{replicate}
 use Rattle.std.proofs.lemmas.Bool.{cases_lt, false≢true}
-use Rattle.std.proofs.lemmas.List.{get_or_default, length-replicate}
+use Rattle.std.proofs.lemmas.List.{get_or_default}
 use Rattle.gr_graph.specs.Imports.{Links, AreLinked, Imports, imports_of, Reaches, itself, through, HoldImporters}
-use Rattle.gr_graph.specs.Search.{IsMarked, Finds, Notes, IsFollowed, Spreads, AreClosedUnder, MarksReached, AreReached, AreReaching, MarksImporting}
+use Rattle.gr_graph.specs.Search.{IsMarked, Notes, Spreads, AreClosedUnder, MarksReached, AreReached, AreReaching, MarksImporting}
 use Rattle.gr_graph.proofs.Answered.{importer_below}
 use Rattle.gr_graph.proofs.SearchSteps.{marked_within, linked_below}
 

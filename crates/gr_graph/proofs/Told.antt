@@ -1,5 +1,5 @@
 -- An order of packages, block after block: a block is what a package reaches and is not told, where all of it reaches that package.
-use Rattle.std.proofs.Common.{ℕ, ◌≡◌, ◌+◌, ◌-◌, ◌<◌, ◌≤◌, ◌⊎◌, inl, inr, ◌↔◌, Bool, true, false, List, [], ◌∷◌, ◌++◌, length, get_or, Some, slice_get, refl, sym}
+use Rattle.std.proofs.Common.{ℕ, ◌≡◌, ◌+◌, ◌-◌, ◌<◌, ◌≤◌, inl, inr, ◌↔◌, Bool, true, false, List, ◌++◌, length, get_or, Some, sym}
 use Rattle.std.proofs.Common.{ap, subst, ◌∙◌, arith, length-append}
 use Rattle.std.specs.List.{All, Contains}
 use Rattle.std.proofs.Math.ListN.{set}
@@ -9,7 +9,7 @@ use Rattle.std.proofs.lemmas.List.Elements.{Contains-get_or, Contains-append_lef
 use Rattle.std.proofs.lemmas.Option.{get_or_from_slice_get, slice_get-get_or, slice_get_within}
 use Rattle.gr_graph.specs.Imports.{Links, AreLinked, HoldImporters, Reaches}
 use Rattle.gr_graph.specs.Orders.{IsOrder, IsBefore, AreTold, AreClear}
-use Rattle.gr_graph.specs.Search.{IsMarked, Finds, Spreads}
+use Rattle.gr_graph.specs.Search.{IsMarked, Spreads}
 use Rattle.gr_graph.specs.declared.order.Blocks.{Blocks}
 use Rattle.gr_graph.proofs.Reached.{Reaches-trans, reached_within, closed_still, marks_reached, back_reaches}
 use Rattle.gr_graph.proofs.SearchSteps.{marked_within}

@@ -1,5 +1,5 @@
 -- All of the block is found by a search from the root that goes through the block alone.
-use Rattle.std.proofs.Common.{◌<◌, ℕ, Bool, List, length, IfOk, sym, subst, ◌∙◌}
+use Rattle.std.proofs.Common.{◌<◌, ℕ, Bool, List, sym, subst, ◌∙◌}
 use Rattle.std.specs.List.{All, Contains}
 use Rattle.gr_graph.specs.Search.{IsMarked}
 use Rattle.gr_graph.proofs.Told.{found_back}

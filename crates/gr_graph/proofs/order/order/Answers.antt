@@ -1,6 +1,5 @@
 -- From nothing told, block after block, until all are told.
 use Rattle.std.proofs.Common.{Bool, List, ℕ, ◌<◌, length, subst}
-use Rattle.gr_graph.specs.Orders.{AreTold}
 use Rattle.gr_graph.specs.Search.{IsMarked}
 use Rattle.gr_graph.proofs.Reached.{noted_linked}
 use Rattle.gr_graph.proofs.Told.{told_none, order_is}

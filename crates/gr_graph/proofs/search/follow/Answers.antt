@@ -1,5 +1,5 @@
 -- Following one package: each import is a package, and the loop's step by what one more package does.
-use Rattle.std.proofs.Common.{◌≡◌, ◌+◌, ◌<◌, ◌≤◌, ◌⊎◌, length, ℕ, List, get_or, take, arith, sym, subst, ap, ◌∙◌}
+use Rattle.std.proofs.Common.{◌≡◌, ◌+◌, ◌≤◌, length, ℕ, List, get_or, take, arith, sym, subst, ap, ◌∙◌}
 use Rattle.std.specs.List.{Contains}
 use Rattle.std.proofs.lemmas.List.{get_or_read}
 use Rattle.gr_graph.specs.Imports.{Imports, imports_of}

@@ -1,7 +1,5 @@
 -- A package that was not marked is noted, and one that was is not.
-use Rattle.std.proofs.Common.{List, Bool, Vec, ℕ, ◌∷◌, [], ◌++◌, true, false, sym, subst}
-use Rattle.std.specs.Prelude.{slice_set}
-use Rattle.gr_graph.specs.Search.{Finds, Notes}
+use Rattle.std.proofs.Common.{true, false}
 use Rattle.gr_graph.proofs.SearchSteps.{finds_more, notes_one, notes_same, mark_read}
 use Rattle.gr_graph.proofs.search.note.Goals as goal
 

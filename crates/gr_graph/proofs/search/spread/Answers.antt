@@ -1,7 +1,7 @@
 -- A search is over where all that was found is followed.
-use Rattle.std.proofs.Common.{◌≡◌, ◌<◌, ◌≤◌, ℕ, List, Bool, [], length, get_or, ap, sym, subst, ◌∙◌, arith, refl}
+use Rattle.std.proofs.Common.{◌≡◌, ◌<◌, ℕ, List, [], length, get_or, ap, sym, subst, ◌∙◌, arith, refl}
 use Rattle.std.proofs.lemmas.List.Sums.{count_by-le-length}
-use Rattle.gr_graph.specs.Search.{Finds, Notes, IsFollowed}
+use Rattle.gr_graph.specs.Search.{Finds, IsFollowed}
 use Rattle.gr_graph.proofs.SearchSteps.{finds_none, followed_more, marked_within}
 use Rattle.gr_graph.proofs.Reached.{found_first, found_more}
 use Rattle.gr_graph.proofs.search.spread.Goals as goal

@@ -1,5 +1,5 @@
 -- What a search keeps: what was passed is followed, and all that was found is reached.
-use Rattle.std.proofs.Common.{◌≡◌, ◌-◌, ◌≤◌, length}
+use Rattle.std.proofs.Common.{◌-◌, ◌≤◌, length}
 use Rattle.gr_graph.specs.Search.{Finds, IsFollowed, IsMarked}
 use Rattle.gr_graph.proofs.Reached.{AreFoundFrom}
 use Rattle.gr_graph.proofs.search.spread.Given as goal

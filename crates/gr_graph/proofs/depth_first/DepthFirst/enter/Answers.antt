@@ -1,5 +1,5 @@
 -- One mark more, and one more on the path.
-use Rattle.std.proofs.Common.{◌≡◌, ◌+◌, Bool, true, length, arith}
+use Rattle.std.proofs.Common.{true, arith}
 use Rattle.std.proofs.Math.ListN.{set}
 use Rattle.std.proofs.lemmas.List.{length-set, length_push}
 use Rattle.std.proofs.lemmas.List.Sums.{count_by-le-length}

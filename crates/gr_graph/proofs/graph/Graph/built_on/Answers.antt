@@ -1,5 +1,4 @@
 -- What a package builds on, in the words of the workspace.
-use Rattle.std.proofs.Common.{ℕ, List}
 use Rattle.std.specs.List.Sorted.{IsStrictlyIncreasing}
 use Rattle.std.proofs.lemmas.Result.{IfOk-weaker}
 use Rattle.gr_graph.specs.Graphs.{HoldsPackages, OfPackage}

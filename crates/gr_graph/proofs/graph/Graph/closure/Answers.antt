@@ -1,5 +1,4 @@
 -- The closure of a package, in the words of the workspace.
-use Rattle.std.proofs.Common.{ℕ, List}
 use Rattle.std.proofs.lemmas.Result.{IfOk-weaker}
 use Rattle.gr_graph.specs.Graphs.{HoldsPackages, OfPackage}
 use Rattle.gr_graph.specs.Imports.{IsClosure}

@@ -1,7 +1,7 @@
 -- What is found of these links.
-use Rattle.std.proofs.Common.{ℕ, List, ◌<◌, length, sym, subst, ◌∙◌}
+use Rattle.std.proofs.Common.{◌<◌, length, sym, subst, ◌∙◌}
 use Rattle.std.proofs.lemmas.Result.{IfOk-weaker}
-use Rattle.gr_graph.specs.Imports.{Links, HoldImporters}
+use Rattle.gr_graph.specs.Imports.{Links}
 use Rattle.gr_graph.specs.Search.{TellBack}
 use Rattle.gr_graph.proofs.import_links.ImportLinks.back_marks.Goals as goal
 

@@ -1,5 +1,5 @@
 -- A search along importers finds what reaches the package.
-use Rattle.std.proofs.Common.{ℕ, List, ◌<◌, length, ap, sym, subst, ◌∙◌}
+use Rattle.std.proofs.Common.{ℕ, ◌<◌, length, ap, sym, subst, ◌∙◌}
 use Rattle.std.proofs.lemmas.Result.{on_ok_weaker}
 use Rattle.gr_graph.specs.Imports.{Links, Imports}
 use Rattle.gr_graph.specs.Search.{IsMarked, MarksReached, MarksImporting}

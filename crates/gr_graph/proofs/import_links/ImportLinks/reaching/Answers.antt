@@ -1,5 +1,5 @@
 -- A search along importers finds what reaches the marked ones.
-use Rattle.std.proofs.Common.{ℕ, List, length, ap, sym, subst, ◌∙◌}
+use Rattle.std.proofs.Common.{length, ap, sym, subst, ◌∙◌}
 use Rattle.std.proofs.lemmas.Result.{IfOk-weaker}
 use Rattle.gr_graph.specs.Imports.{Links}
 use Rattle.gr_graph.specs.Search.{AreReached, AreReaching}

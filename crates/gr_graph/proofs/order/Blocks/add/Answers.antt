@@ -1,5 +1,5 @@
 -- One block more is told.
-use Rattle.std.proofs.Common.{◌≡◌, ◌<◌, ◌++◌, ℕ, List, Bool, length, ap, sym, subst, ◌∙◌, arith}
+use Rattle.std.proofs.Common.{◌≡◌, ◌<◌, ◌++◌, ℕ, List, length, ap, sym, subst, ◌∙◌}
 use Rattle.std.specs.List.{All, Contains}
 use Rattle.gr_graph.specs.Imports.{Reaches}
 use Rattle.gr_graph.proofs.Filled.{ok_both}
