@@ -13,17 +13,14 @@ use Rattle.gr_text.specs.Workspace.{Workspace}
 use Rattle.gr_edit.specs.EditSet.{FileChanges, change_of}
 use Rattle.gr_edit.specs.declared.change.FileChange.{FileChange}
 use Rattle.gr_edit.proofs.Changes.{change_found, none_changed}
-use Rattle.gr_graph.specs.Graphs.{HoldsPackages, OfPackage}
+use Rattle.gr_graph.specs.Graphs.{OfPackage}
 use Rattle.gr_graph.specs.Packages.{IsInClosure}
 use Rattle.gr_graph.specs.Search.{IsMarked}
-use Rattle.gr_graph.proofs.Asked.{number}
 use Rattle.gr_verdict.specs.Closures.{HasSameClosure}
-use Rattle.gr_verdict.proofs.Closed.{to_package}
 use Rattle.gr_verdict.proofs.Local.{same_back}
 use Rattle.gr_verdict.proofs.Members.{first_in, later_in, first_or_later, nothing_in}
 use Rattle.gr_verdict.proofs.PackageFiles.{mapped}
-use Rattle.gr_keep.specs.Changes.{MarkFolders}
-use Rattle.gr_keep.proofs.Carrying.{AreUnmarked}
+use Rattle.gr_keep.specs.Changes.{MarkClosures, MarkFolders}
 use Rattle.gr_keep.proofs.Changed.{marks_skip, marks_more}
 use Rattle.gr_keep.proofs.ClosureTexts.{package_there}
 use Rattle.gr_affected.specs.Affected.{IsUnaffected, AreAffected}
@@ -37,27 +34,26 @@ folder_among (d ∷ ds) c has = elim (first_or_later d ds c has) [
   | inr rest ↦ later_in (folder d.path) (folders_of ds) (folder c.path) (folder_among ds c rest)
 ]
 
-module _ (w : Workspace) (s : FileChanges) (p : List ℕ) (touched : List Bool) (numbers : List ℕ) (marks : MarkFolders w (folders_of s.changed) touched)
-    (closed : HoldsPackages w (IsInClosure w p) numbers) where
-  -- where no package of the closure is marked that holds a changed file, no file of it is changed
-  unchanged : AreUnmarked touched numbers → (path : List ℕ) → IsInClosure w p (folder path) → change_of s path ≡ None
+module _ (w : Workspace) (s : FileChanges) (n : ℕ) (p : List ℕ) (at : slice_get (package_paths w) n ≡ Some p) (touched : List Bool)
+    (marks : MarkClosures w (folders_of s.changed) touched) where
+  -- where the package is not marked no file of its closure is changed
+  unchanged : (IsMarked touched n → ⊥) → (path : List ℕ) → IsInClosure w p (folder path) → change_of s path ≡ None
   unchanged none path inside = of_change (change_of s path) refl
     where
       of_change : (o : Option FileChange) → change_of s path ≡ o → change_of s path ≡ None
       of_change None e = e
       of_change (Some c) e =
           let found = change_found s.changed path c e in
-          let n = number w (folder path) (to_package w p (folder path) inside) in
           let among : Contains (folders_of s.changed) (folder path) =
           subst (λ (q : List ℕ). Contains (folders_of s.changed) (folder q)) found.1 (folder_among s.changed c found.0) in
-          absurd (none n.0 ((closed n.0).1 (folder path, n.1, inside)) ((marks.each n.0 (folder path) n.1).1 among))
+          absurd (none ((marks.each n p at).1 (record { path = folder path; among = among; in_closure = inside })))
 
   -- and the other way round
-  untouched : ((path : List ℕ) → IsInClosure w p (folder path) → change_of s path ≡ None) → AreUnmarked touched numbers
-  untouched none i has marked =
-      let q = (closed i).0 has in
-      let c = mapped (λ (f : FileChange). folder f.path) s.changed q.0 ((marks.each i q.0 q.1).0 marked) in
-      none_changed s.changed c.0.path c.0 (none c.0.path (subst (IsInClosure w p) (sym c.1.1) q.2)) c.1.0 refl
+  untouched : ((path : List ℕ) → IsInClosure w p (folder path) → change_of s path ≡ None) → IsMarked touched n → ⊥
+  untouched none marked =
+      let h = (marks.each n p at).0 marked in
+      let c = mapped (λ (f : FileChange). folder f.path) s.changed h.path h.among in
+      none_changed s.changed c.0.path c.0 (none c.0.path (subst (IsInClosure w p) (sym c.1.1) h.in_closure)) c.1.0 refl
 
 -- what is told of a package that is there before and after
 module _ (w x : Workspace) (s : FileChanges) (n : ℕ) where
@@ -68,18 +64,17 @@ module _ (w x : Workspace) (s : FileChanges) (n : ℕ) where
   pub tells_one : (p : List ℕ) → slice_get (package_paths w) n ≡ Some p → (answer : Bool) → TellsAffected w x s p answer → Tells answer
   tells_one p at answer told q there = subst (λ r. TellsAffected w x s r answer) (same_Some p q (sym at ∙ there)) told
 
-  pub by_touched : (p : List ℕ) → slice_get (package_paths w) n ≡ Some p → (touched : List Bool) (numbers : List ℕ) →
-      MarkFolders w (folders_of s.changed) touched → HoldsPackages w (IsInClosure w p) numbers → (AreUnmarked touched numbers → ⊥) → Tells true
-  by_touched p at touched numbers marks closed some =
-      tells_one p at true (λ (is : IsUnaffected w x s p). some (untouched w s p touched numbers marks closed is.unchanged))
+  pub by_touched : (p : List ℕ) → slice_get (package_paths w) n ≡ Some p → (touched : List Bool) →
+      MarkClosures w (folders_of s.changed) touched → IsMarked touched n → Tells true
+  by_touched p at touched marks marked =
+      tells_one p at true (λ (is : IsUnaffected w x s p). untouched w s n p at touched marks is.unchanged marked)
 
-  pub by_texts : (p : List ℕ) → slice_get (package_paths w) n ≡ Some p → (touched : List Bool) (numbers : List ℕ) →
-      MarkFolders w (folders_of s.changed) touched → HoldsPackages w (IsInClosure w p) numbers → AreUnmarked touched numbers →
-      (kept : Bool) → IsTrue kept ↔ OfPackage w n (HasSameClosure w x) → Tells (not kept)
-  by_texts p at touched numbers marks closed none true is =
-      tells_one p at false (record { same = is.0 refl p at; unchanged = unchanged w s p touched numbers marks closed none })
-  by_texts p at touched numbers marks closed none false is =
-      tells_one p at true (λ (h : IsUnaffected w x s p). false≢true (is.1 (λ q there. subst (HasSameClosure w x) (same_Some p q (sym at ∙ there)) h.same)))
+  pub by_texts : (p : List ℕ) → slice_get (package_paths w) n ≡ Some p → (touched : List Bool) →
+      MarkClosures w (folders_of s.changed) touched → (IsMarked touched n → ⊥) → (kept : Bool) → IsTrue kept ↔ HasSameClosure w x p → Tells (not kept)
+  by_texts p at touched marks none true is =
+      tells_one p at false (record { same = is.0 refl; unchanged = unchanged w s n p at touched marks none })
+  by_texts p at touched marks none false is =
+      tells_one p at true (λ (h : IsUnaffected w x s p). false≢true (is.1 h.same))
 
 -- a package that is there on one side alone is affected
 pub gone : (w x : Workspace) (s : FileChanges) (p : List ℕ) → Contains (package_paths w) p → (Contains (package_paths x) p → ⊥) → TellsAffected w x s p true

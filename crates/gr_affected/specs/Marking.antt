@@ -1,10 +1,10 @@
--- A change with the packages that it changes itself, and what it tells of a package.
+-- A change with the packages in whose closures it changes files, and what it tells of a package.
 use Rattle.std.specs.Prelude.{ℕ, Bool, List, MatchBool, map}
 use Rattle.gr_text.specs.Path.{folder}
 use Rattle.gr_text.specs.Workspace.{Workspace}
 use Rattle.gr_edit.specs.EditSet.{FileChanges}
 use Rattle.gr_edit.specs.declared.change.FileChange.{FileChange}
-use Rattle.gr_keep.specs.Changes.{AreMarks, MarkFolders}
+use Rattle.gr_keep.specs.Changes.{AreMarks, MarkClosures}
 use Rattle.gr_affected.specs.Affected.{IsUnaffected}
 use Rattle.gr_affected.specs.declared.marking.MarkedChange.{MarkedChange}
 
@@ -12,11 +12,12 @@ use Rattle.gr_affected.specs.declared.marking.MarkedChange.{MarkedChange}
 abbrev pub folders_of : List FileChange → List (List ℕ)
 folders_of changed = map (λ c. folder c.path) changed
 
--- the packages that have other files then, before and after, and those that hold a file that is among the changed ones
+-- the packages in whose closures some has other files then, before and after, and those whose closures hold a file that is among the
+-- changed ones
 pub record IsRead (c : MarkedChange) : Type 0 where
   pub before_marks : AreMarks c.before.now c.after.now c.marks.before.items
   pub after_marks : AreMarks c.after.now c.before.now c.marks.after.items
-  pub touched : MarkFolders c.before.now (folders_of c.edits.now.changed) c.touched.items
+  pub touched : MarkClosures c.before.now (folders_of c.edits.now.changed) c.touched.items
 
 -- whether the package of a path is affected
 abbrev pub TellsAffected : Workspace → Workspace → FileChanges → List ℕ → Bool → Type 0

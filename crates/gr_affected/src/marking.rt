@@ -3,13 +3,14 @@
 ghost use Rattle.std.specs.Prelude.{◌≡◌, ◌<◌, IfOk, List, length, slice_get};
 ghost use Rattle.gr_text.specs.Packages.{package_paths};
 ghost use Rattle.gr_graph.specs.Graphs.{OfPackage};
-ghost use Rattle.gr_keep.specs.Changes.{MarkFolders};
+ghost use Rattle.gr_keep.specs.Changes.{MarkClosures, MarkFolders};
 ghost use Rattle.gr_affected.specs.Affected.{AreAffected};
 ghost use Rattle.gr_affected.specs.Marking.{IsRead, TellsAffected, folders_of};
 
 use gr_edit::{EditSet, FileChange};
 use gr_graph::Graph;
-use gr_keep::{Marks, are_unmarked, changed_marks, keeps_texts};
+use gr_keep::{Marks, changed_marks, keeps_texts};
+use gr_verdict::is_marked;
 use std::alloc::{AllocError, Global};
 
 /// A mark for each package that holds a file that is among the changed ones.
@@ -29,7 +30,19 @@ fn touched_marks(
     Ok(marks)
 }
 
-/// A change of a workspace, with the packages that it changes itself.
+/// A mark for each package whose closure holds a file that is among the changed ones.
+fn reaching_marks(
+    alloc: Global,
+    graph: &Graph,
+    changed: &[FileChange],
+) -> Result<Vec<bool>, AllocError>
+    ensures { IfOk result (λ marks. MarkClosures graph.now (folders_of changed.now) marks.items) }
+{
+    let marks = touched_marks(alloc, graph, changed)?;
+    graph.reaching(alloc, &marks)
+}
+
+/// A change of a workspace, with marks for the packages in whose closures it changes files.
 #[derive(Drop)]
 struct MarkedChange<'a> {
     before: &'a Graph,
@@ -52,7 +65,7 @@ impl<'a> MarkedChange<'a> {
         ensures read { IfOk result (λ change. IsRead change) }
     {
         let marks = changed_marks(alloc, before, after)?;
-        let touched = touched_marks(alloc, before, edits.changed())?;
+        let touched = reaching_marks(alloc, before, edits.changed())?;
         Ok(MarkedChange {
             before,
             edits,
@@ -70,10 +83,10 @@ impl<'a> MarkedChange<'a> {
         requires read { IsRead self.now }
         ensures { OfPackage self.now.before.now old (λ p. TellsAffected self.now.before.now self.now.after.now self.now.edits.now p result) }
     {
-        if !are_unmarked(&self.touched, self.before.closure(old)) {
+        if is_marked(&self.touched, old) {
             return true;
         }
-        !keeps_texts(self.before, old, self.after, new, &self.marks)
+        !keeps_texts(&self.marks, old, new)
     }
 
     /// Whether a package of the workspace before is affected.

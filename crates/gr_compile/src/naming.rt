@@ -18,7 +18,8 @@ pub(crate) fn names_below<'a>(
     ensures { IfOk result (λ packages. OfPackage graph.now number (λ p. HaveNamesBelow graph.now p packages)) }
 {
     let mut packages = Packages::new(alloc);
-    for other in graph.closure(number) {
+    let closure = graph.closure(alloc, number)?;
+    for other in closure.as_slice() {
         let files = graph.package(*other);
         let path = Vec::from_slice(alloc, &files.path)?;
         let names = PackageNames::of(alloc, &files.path, &files.trees)?;

@@ -1,19 +1,13 @@
--- What was found, as it is read back.
-use Rattle.std.proofs.Common.{◌≡◌, ℕ, ◌<◌, ◌≤◌, List, [], length, get_or, sym, subst, ⊎_elim, arith}
+-- What is kept of links, as it is asked.
+use Rattle.std.proofs.Common.{ℕ, ◌<◌, ◌≤◌, List, [], length, sym, subst, ⊎_elim, arith}
 use Rattle.std.specs.List.{Contains}
 use Rattle.std.specs.List.Sorted.{IsStrictlyIncreasing}
 use Rattle.std.proofs.lemmas.Bool.{cases_lt}
-use Rattle.std.proofs.lemmas.List.{get_or_read, get_or_past}
+use Rattle.std.proofs.lemmas.List.{get_or_past}
 use Rattle.gr_graph.specs.Imports.{Links, Imports, imports_of, AreImporters, HoldImporters}
-use Rattle.gr_graph.specs.Closures.{AreClosures, IsClosed}
-
-pub closure_read : (g closures : Links) (number : ℕ) (x : List ℕ) → AreClosures g closures → number < length g → x ≡ get_or closures number x →
-    IsClosed g number x
-closure_read g closures number x closed within e =
-    subst (IsClosed g number) (sym (get_or_read closures number x (omega (arith, closed.size)) e [])) (closed.each number within)
 
 -- only a package imports
-importer_below : (g : Links) (p q : ℕ) → Imports g p q → p < length g
+pub importer_below : (g : Links) (p q : ℕ) → Imports g p q → p < length g
 importer_below g p q i =
     ⊎_elim
     (λ (h : p < length g). h)

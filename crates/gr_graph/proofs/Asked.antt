@@ -1,6 +1,6 @@
 -- What is asked of a workspace's links by number, in the words of the workspace.
 use Rattle.std.proofs.Common.{◌≡◌, ℕ, ◌<◌, Bool, true, false, ◌&&◌, List, [], ◌∷◌, length, filter, cond, Some, slice_get, get_or, refl, sym}
-use Rattle.std.proofs.Common.{subst, ◌∙◌, arith, zero, suc, ◌==◌}
+use Rattle.std.proofs.Common.{subst, ◌∙◌, arith, zero, suc, ◌==◌, ◌↔◌, inl, inr}
 use Rattle.std.specs.FinMap.{entries}
 use Rattle.std.specs.List.{Contains, AllByRecursion}
 use Rattle.std.specs.Cmp.Lexicographic.{pointwise, bytes_decides}
@@ -13,7 +13,11 @@ use Rattle.gr_graph.specs.Imports.{Links, Imports, imports_of, Reaches, itself, 
 use Rattle.gr_graph.specs.Packages as packages
 use Rattle.gr_text.specs.Packages.{is_go, package_paths, package_files}
 use Rattle.gr_graph.specs.Packages.{PackageImports, AreLinksOf, IsInClosure}
+use Rattle.gr_graph.specs.Closures.{IsBuiltOn}
 use Rattle.gr_graph.specs.Graphs.{HoldsPackages}
+use Rattle.gr_graph.specs.Reaching.{AreBackMarks, BuildsOn, MarkReaching, AreMarkedAbove, MarksAbove}
+use Rattle.gr_graph.specs.Search.{IsMarked, AreReaching, MarksImporting, TellBack}
+use Rattle.gr_graph.proofs.Reached.{reached_within}
 use Rattle.gr_graph.proofs.PackagePaths.{all_there, AreThere, paths_sorted, one_number}
 
 -- ---- a package with a file is a package
@@ -109,12 +113,56 @@ module _ (w : Workspace) (g : Links) (links : AreLinksOf w g) where
   reached_at : (p q : List ℕ) (i j : ℕ) → IsInClosure w p q → At i p → At j q → Reaches g i j
   reached_at p q i j c a b = let found = reached c i a in subst (Reaches g i) (one found.0 j q found.1 b) found.2
 
-  reach_within : {i j : ℕ} → Reaches g i j → j < length g
-  reach_within (itself h) = h
-  reach_within (through imports rest) = reach_within rest
-
   pub closure_is : (n : ℕ) (p : List ℕ) (found : List ℕ) → At n p → IsClosure g n found → HoldsPackages w (IsInClosure w p) found
   closure_is n p found at is i = (
-    λ h. let reaches = (is i).0 h in let q = name i (reach_within reaches) in (q.0, q.1, in_closure reaches p q.0 at q.1),
+    λ h. let reaches = (is i).0 h in let q = name i (reached_within reaches) in (q.0, q.1, in_closure reaches p q.0 at q.1),
     λ s. (is i).1 (reached_at p s.0 n i s.2 at s.1),
   )
+
+  pub back_are : (n : ℕ) (p : List ℕ) (marks : List Bool) → At n p → TellBack g n marks → AreBackMarks w p marks
+  back_are n p marks at are i q there c =
+      let told = are.back i (reached_at p q n i c at there) in (
+        λ m. in_closure (told.0 m) q p there at,
+        λ back. told.1 (reached_at q p i n back there at),
+      )
+
+  pub below_is : (n : ℕ) (p : List ℕ) (found : List ℕ) → At n p → IsBuiltOn g n found → HoldsPackages w (BuildsOn w p) found
+  below_is n p found at is i = (
+    λ h.
+        let r = (is.each i).0 h in
+        let q = name i (reached_within r.0) in
+        (q.0, q.1, record { imported = in_closure r.0 p q.0 at q.1; not_back = λ back. r.1 (reached_at q.0 p i n back q.1 at) }),
+    λ s. (is.each i).1 (reached_at p s.0 n i s.2.imported at s.1, λ back. s.2.not_back (in_closure back s.0 p s.1 at)),
+  )
+
+  -- ---- marks
+  pub reaching_are : (starts marks : List Bool) → AreReaching g starts marks → MarkReaching w starts marks
+  reaching_are starts marks are = record {
+    size = are.size ∙ links.size;
+    each = λ i p at. (
+      λ m.
+          let r = (are.each i).0 m in
+          let q = name r.0 (reached_within r.2) in
+          record { number = r.0; path = q.0; has_path = q.1; marked = r.1; in_closure = in_closure r.2 p q.0 at q.1 },
+      λ h. (are.each i).1 (h.number, h.marked, reached_at p h.path i h.number h.in_closure at h.has_path),
+    );
+  }
+
+  pub importing_are : (n : ℕ) (q : List ℕ) → At n q → (old new : List Bool) → MarksImporting g n old new → MarksAbove w q old new
+  importing_are n q there old new are = record {
+    size = are.size;
+    each = λ i p at. (
+      λ m. elim ((are.each i).0 m) [ inl before ↦ inl before | inr r ↦ inr (in_closure r p q at there) ],
+      λ h. elim h [ inl before ↦ (are.each i).1 (inl before) | inr c ↦ (are.each i).1 (inr (reached_at p q i n c at there)) ],
+    );
+  }
+
+  pub above_are : (marks : List Bool) → AreMarkedAbove w marks → (i j : ℕ) → Imports g i j → IsMarked marks j → IsMarked marks i
+  above_are marks above i j imports m =
+      let p = name i (from_within i j imports) in
+      let q = name j (to_within i j imports) in
+      above i j p.0 q.0 p.1 q.1 ((links.each i j p.0 q.0 p.1 q.1).0 imports) m
+
+  -- ---- the order
+  pub reaches_are : (i j : ℕ) (p q : List ℕ) → At i p → At j q → Reaches g i j ↔ IsInClosure w p q
+  reaches_are i j p q at there = ((λ r. in_closure r p q at there), (λ c. reached_at p q i j c at there))

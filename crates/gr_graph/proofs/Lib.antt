@@ -18,3 +18,5 @@ pub mod StayingPackages
 pub mod PartPackages
 pub mod Asked
 pub mod ChangedPackages
+pub mod Told
+pub mod Below

@@ -14,3 +14,5 @@ pub mod Filling
 pub mod Staying
 pub mod Changed
 pub mod Parts
+pub mod Reaching
+pub mod Orders

@@ -1,11 +1,11 @@
-//! What a package imports directly or indirectly.
-ghost use Rattle.std.specs.Prelude.{◌<◌, length, IfOk};
-ghost use Rattle.gr_graph.specs.Imports.{AreLinked};
-ghost use Rattle.gr_graph.specs.Closures.{AreClosures, IsClosed};
-ghost use Rattle.gr_graph.specs.Search.{HoldsMarked};
+//! What packages reach along links.
+ghost use Rattle.std.specs.Prelude.{◌≡◌, ◌<◌, length, IfOk};
+ghost use Rattle.gr_graph.specs.Imports.{AreLinked, HoldImporters};
+ghost use Rattle.gr_graph.specs.Closures.{IsBuiltOn, IsClosed};
+ghost use Rattle.gr_graph.specs.Search.{AreReached, Flips, HoldsMarked, TellBack};
 
 use crate::package_list::PackageList;
-use crate::search::Search;
+use crate::search::{reach, spread};
 use std::alloc::{AllocError, Global};
 
 /// The marked packages, by number.
@@ -22,7 +22,7 @@ fn marked(alloc: Global, marks: &[bool]) -> Result<PackageList, AllocError>
 }
 
 /// What a package imports directly or indirectly, itself among it, by number.
-fn closure_of(
+pub(crate) fn closure_of(
     alloc: Global,
     imports: &[PackageList],
     number: usize,
@@ -31,21 +31,71 @@ fn closure_of(
     requires number { number < length imports.now }
     ensures { IfOk result (IsClosed imports.now number) }
 {
-    let search = Search::run(alloc, imports, number)?;
-    marked(alloc, &search.marks)
+    let mut marks = vec![in alloc; false; imports.len()]?;
+    reach(alloc, imports, &mut marks, number)?;
+    marked(alloc, &marks)
 }
 
-/// The closure of each package.
-pub(crate) fn closures(
+/// Marks what has no mark, and takes the other marks off.
+fn flip(marks: &mut Vec<bool>)
+    ensures { Flips marks.old.items marks.new.items }
+{
+    for number in 0..marks.len() {
+        marks[number] = !marks[number];
+    }
+}
+
+/// Marks that tell of what a package reaches whether it reaches that package. The way back is sought among what it reaches alone.
+pub(crate) fn back_marks(
     alloc: Global,
     imports: &[PackageList],
-) -> Result<Vec<PackageList>, AllocError>
-    requires { AreLinked imports.now }
-    ensures { IfOk result (λ closures. AreClosures imports.now closures.items) }
+    importers: &[PackageList],
+    number: usize,
+) -> Result<Vec<bool>, AllocError>
+    requires linked { AreLinked imports.now }
+    requires back { HoldImporters imports.now (length imports.now) importers.now }
+    requires number { number < length imports.now }
+    ensures { IfOk result (λ marks. TellBack imports.now number marks.items) }
 {
-    let mut closures = Vec::new(alloc);
-    for number in 0..imports.len() {
-        closures.push(closure_of(alloc, imports, number)?)?;
+    let mut marks = vec![in alloc; false; imports.len()]?;
+    reach(alloc, imports, &mut marks, number)?;
+    flip(&mut marks);
+    spread(alloc, importers, &mut marks, number)?;
+    Ok(marks)
+}
+
+/// What a package reaches and what does not reach it, by number.
+pub(crate) fn built_on(
+    alloc: Global,
+    imports: &[PackageList],
+    importers: &[PackageList],
+    number: usize,
+) -> Result<PackageList, AllocError>
+    requires linked { AreLinked imports.now }
+    requires back { HoldImporters imports.now (length imports.now) importers.now }
+    requires number { number < length imports.now }
+    ensures { IfOk result (IsBuiltOn imports.now number) }
+{
+    let mut marks = back_marks(alloc, imports, importers, number)?;
+    flip(&mut marks);
+    marked(alloc, &marks)
+}
+
+/// A mark for each package that a marked one reaches.
+pub(crate) fn reached_by(
+    alloc: Global,
+    links: &[PackageList],
+    starts: &[bool],
+) -> Result<Vec<bool>, AllocError>
+    requires linked { AreLinked links.now }
+    requires size { length starts.now ≡ length links.now }
+    ensures { IfOk result (λ marks. AreReached links.now starts.now (length links.now) marks.items) }
+{
+    let mut marks = vec![in alloc; false; links.len()]?;
+    for start in 0..links.len() {
+        if starts[start] {
+            reach(alloc, links, &mut marks, start)?;
+        }
     }
-    Ok(closures)
+    Ok(marks)
 }

@@ -1,5 +1,5 @@
 //! The graph of a workspace: its packages with their parsed files, and which imports which.
-ghost use Rattle.std.specs.Prelude.{◌≡◌, ◌<◌, ℕ, length, IfOk, MatchOption, Some, slice_get};
+ghost use Rattle.std.specs.Prelude.{◌≡◌, ◌<◌, ℕ, length, IfOk, OnOk, MatchOption, Some, slice_get};
 ghost use Rattle.std.specs.List.{All, Contains};
 ghost use Rattle.std.specs.List.Sorted.{IsStrictlyIncreasing};
 ghost use Rattle.gr_graph.specs.Imports.{imports_of};
@@ -8,6 +8,7 @@ ghost use Rattle.gr_graph.specs.Packages.{PackageImports, IsInClosure, AreLinksO
 ghost use Rattle.gr_graph.specs.Changed.{KeepsPath};
 ghost use Rattle.gr_graph.specs.Filling.{names};
 ghost use Rattle.gr_graph.specs.Parts.{HasFilesOf};
+ghost use Rattle.gr_graph.specs.Reaching.{AreBackMarks, AreMarkedAbove, BuildsOn, MarkImporting, MarkReaching, MarksAbove};
 ghost use Rattle.gr_graph.specs.Staying.{DiffersOnlyIn, HasFiles};
 ghost use Rattle.gr_graph.specs.declared.package.Package.{Package};
 ghost use Rattle.gr_graph.specs.Graphs.{
@@ -20,6 +21,7 @@ ghost use Rattle.gr_graph.specs.Graphs.{
 use crate::changed::{folder_packages, keep_paths, keep_rows, replaced};
 use crate::import_links::ImportLinks;
 use crate::package::Package;
+use crate::package_list::PackageList;
 use crate::packages::packages;
 use crate::part::numbered;
 use crate::rows::rows;
@@ -236,13 +238,64 @@ impl Graph {
         self.links().importers(number)
     }
 
-    /// A package, and all that it imports directly or indirectly, in their order.
-    pub fn closure(&self, number: usize) -> &[usize]
+    /// A package, and all that it imports directly or indirectly, in their order. It is searched for.
+    pub fn closure(&self, alloc: Global, number: usize) -> Result<PackageList, AllocError>
         requires { number < length (package_paths self.now) }
-        ensures closure { OfPackage self.now number (λ p. HoldsPackages self.now (IsInClosure self.now p) result.now) }
-        ensures rising { IsStrictlyIncreasing result.now }
+        ensures closure { IfOk result (λ closure. OfPackage self.now number (λ p. HoldsPackages self.now (IsInClosure self.now p) closure)) }
+        ensures rising { IfOk result IsStrictlyIncreasing }
     {
-        self.links().closure(number)
+        self.links().closure(alloc, number)
+    }
+
+    /// Marks that tell of what a package imports, directly or indirectly, whether it so imports that package.
+    pub fn back_marks(&self, alloc: Global, number: usize) -> Result<Vec<bool>, AllocError>
+        requires { number < length (package_paths self.now) }
+        ensures { IfOk result (λ marks. OfPackage self.now number (λ p. AreBackMarks self.now p marks.items)) }
+    {
+        self.links().back_marks(alloc, number)
+    }
+
+    /// What a package imports, directly or indirectly, and what does not so import it, in their order. It is searched for.
+    pub fn built_on(&self, alloc: Global, number: usize) -> Result<PackageList, AllocError>
+        requires { number < length (package_paths self.now) }
+        ensures below { IfOk result (λ below. OfPackage self.now number (λ p. HoldsPackages self.now (BuildsOn self.now p) below)) }
+        ensures rising { IfOk result IsStrictlyIncreasing }
+    {
+        self.links().built_on(alloc, number)
+    }
+
+    /// A mark for each package that is marked, or imports a marked one, directly or indirectly. One search finds them all.
+    pub fn reaching(&self, alloc: Global, marks: &[bool]) -> Result<Vec<bool>, AllocError>
+        requires { length marks.now ≡ length (package_paths self.now) }
+        ensures { IfOk result (λ reaching. MarkReaching self.now marks.now reaching.items) }
+    {
+        self.links().reaching(alloc, marks)
+    }
+
+    /// Marks a package, and all that import it, directly or indirectly, where what imports a marked package is marked. No marked
+    /// package is looked at again.
+    pub fn mark_importing(
+        &self,
+        alloc: Global,
+        marks: &mut Vec<bool>,
+        number: usize,
+    ) -> Result<(), AllocError>
+        requires number { number < length (package_paths self.now) }
+        requires size { length marks.old.items ≡ length (package_paths self.now) }
+        requires above { AreMarkedAbove self.now marks.old.items }
+        ensures { OnOk result (OfPackage self.now number (λ q. MarksAbove self.now q marks.old.items marks.new.items)) }
+    {
+        self.links().mark_importing(alloc, marks, number)
+    }
+
+    /// A mark for each package that imports one, directly or indirectly, or is it.
+    pub fn importing(&self, alloc: Global, number: usize) -> Result<Vec<bool>, AllocError>
+        requires { number < length (package_paths self.now) }
+        ensures { IfOk result (λ marks. OfPackage self.now number (λ q. MarkImporting self.now q marks.items)) }
+    {
+        let mut marks = vec![in alloc; false; self.len()]?;
+        self.mark_importing(alloc, &mut marks, number)?;
+        Ok(marks)
     }
 }
 

@@ -1,27 +1,31 @@
 //! Which packages import which, with all that is asked of it.
-ghost use Rattle.std.specs.Prelude.{ℕ, ◌≡◌, ◌<◌, length, IfOk};
+ghost use Rattle.std.specs.Prelude.{ℕ, ◌≡◌, ◌<◌, IfOk, IfSome, OnOk, length};
 ghost use Rattle.std.specs.List.Sorted.{IsStrictlyIncreasing};
+ghost use Rattle.gr_graph.specs.Closures.{IsBuiltOn};
+ghost use Rattle.gr_graph.specs.Orders.{IsOrder};
 ghost use Rattle.gr_graph.specs.Imports.{
   AreLinked,
   AreImporters,
+  Imports,
   IsClosure,
   imports_of,
 };
+ghost use Rattle.gr_graph.specs.Search.{AreReaching, IsMarked, MarksImporting, TellBack};
 
-use crate::closure::closures;
+use crate::closure::{back_marks, built_on, closure_of, reached_by};
 use crate::importers::importers;
+use crate::order::order;
 use crate::package_list::PackageList;
-use crate::search::imports_of;
+use crate::search::{imports_of, reach};
 use std::alloc::{AllocError, Global};
 use std::marker::Model;
 
-/// The direct imports of each package, packages being numbered from 0. What is asked of them is found beforehand, so
-/// that no answer takes memory.
+/// The direct imports of each package, packages being numbered from 0. Who imports each is found beforehand, so that this takes no
+/// memory; what a package reaches is searched for when it is asked.
 #[derive(Drop)]
 pub struct ImportLinks {
     imports: Vec<PackageList>,
     importers: Vec<PackageList>,
-    closures: Vec<PackageList>,
 }
 
 impl Model for ImportLinks {
@@ -32,22 +36,17 @@ impl Model for ImportLinks {
 
     ghost view = { λ a. a.imports.items };
 
-    ghost invariant = { λ a. AreAnswers a.imports.items a.importers.items a.closures.items };
+    ghost invariant = { λ a. AreAnswers a.imports.items a.importers.items };
 }
 
 impl ImportLinks {
-    /// Finds the answers.
+    /// Finds who imports each.
     pub fn new(alloc: Global, imports: Vec<PackageList>) -> Result<ImportLinks, AllocError>
         requires { AreLinked imports.items }
         ensures { IfOk result (λ links. links ≡ imports.items) }
     {
         let importers = importers(alloc, &imports)?;
-        let closures = closures(alloc, &imports)?;
-        Ok(ImportLinks {
-            imports,
-            importers,
-            closures,
-        })
+        Ok(ImportLinks { imports, importers })
     }
 
     /// How many packages there are.
@@ -74,12 +73,60 @@ impl ImportLinks {
         imports_of(&self.importers, number)
     }
 
-    /// A package, and all that it imports directly or indirectly, by number.
-    pub fn closure(&self, number: usize) -> &[usize]
+    /// A package, and all that it imports directly or indirectly, by number. It is searched for.
+    pub fn closure(&self, alloc: Global, number: usize) -> Result<PackageList, AllocError>
         requires { number < length self.now }
-        ensures closure { IsClosure self.now number result.now }
-        ensures rising { IsStrictlyIncreasing result.now }
+        ensures closure { IfOk result (IsClosure self.now number) }
+        ensures rising { IfOk result IsStrictlyIncreasing }
     {
-        self.closures[number].as_slice()
+        closure_of(alloc, &self.imports, number)
+    }
+
+    /// Marks that tell of what a package imports, directly or indirectly, whether it so imports that package.
+    pub fn back_marks(&self, alloc: Global, number: usize) -> Result<Vec<bool>, AllocError>
+        requires { number < length self.now }
+        ensures { IfOk result (λ marks. TellBack self.now number marks.items) }
+    {
+        back_marks(alloc, &self.imports, &self.importers, number)
+    }
+
+    /// What a package imports, directly or indirectly, and what does not so import it, by number. It is searched for.
+    pub fn built_on(&self, alloc: Global, number: usize) -> Result<PackageList, AllocError>
+        requires { number < length self.now }
+        ensures { IfOk result (IsBuiltOn self.now number) }
+    {
+        built_on(alloc, &self.imports, &self.importers, number)
+    }
+
+    /// A mark for each package that is marked, or imports a marked one, directly or indirectly. One search finds them all.
+    pub fn reaching(&self, alloc: Global, marks: &[bool]) -> Result<Vec<bool>, AllocError>
+        requires { length marks.now ≡ length self.now }
+        ensures { IfOk result (λ reaching. AreReaching self.now marks.now reaching.items) }
+    {
+        reached_by(alloc, &self.importers, marks)
+    }
+
+    /// Marks a package, and all that import it, directly or indirectly, where what imports a marked package is marked. No marked
+    /// package is looked at again.
+    pub fn mark_importing(
+        &self,
+        alloc: Global,
+        marks: &mut Vec<bool>,
+        number: usize,
+    ) -> Result<(), AllocError>
+        requires number { number < length self.now }
+        requires size { length marks.old.items ≡ length self.now }
+        requires above { (p q : ℕ) → Imports self.now p q → IsMarked marks.old.items q → IsMarked marks.old.items p }
+        ensures { OnOk result (MarksImporting self.now number marks.old.items marks.new.items) }
+    {
+        reach(alloc, &self.importers, marks, number)
+    }
+
+    /// All packages, each behind those that it imports, directly or indirectly, and that do not so import it; if a search finds such an
+    /// order, which only speed rests on.
+    pub fn order(&self, alloc: Global) -> Result<Option<Vec<usize>>, AllocError>
+        ensures { IfOk result (λ found. IfSome found (λ order. IsOrder self.now order.items)) }
+    {
+        order(alloc, &self.imports, &self.importers)
     }
 }

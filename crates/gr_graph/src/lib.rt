@@ -3,6 +3,7 @@
 
 mod changed;
 mod closure;
+mod depth_first;
 mod faulty_file;
 mod file_imports;
 mod graph;
@@ -10,6 +11,7 @@ mod import_links;
 pub mod import_paths;
 mod importers;
 mod kept;
+mod order;
 mod package;
 mod package_list;
 mod packages;

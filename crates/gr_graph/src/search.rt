@@ -1,7 +1,7 @@
-//! A search among packages, from one along imports.
-ghost use Rattle.std.specs.Prelude.{◌≡◌, ◌+◌, ◌<◌, length, IfOk, OnOk};
-ghost use Rattle.gr_graph.specs.Imports.{AreLinked, imports_of};
-ghost use Rattle.gr_graph.specs.Search.{IsSearch, IsFollowed, package_at};
+//! A search among packages, from one along links, which stops at what is marked.
+ghost use Rattle.std.specs.Prelude.{◌≡◌, ◌<◌, Bool, List, length, slice_index_or, IfOk, OnOk};
+ghost use Rattle.gr_graph.specs.Imports.{AreLinked, Imports, imports_of};
+ghost use Rattle.gr_graph.specs.Search.{Finds, Notes, Spreads, AreClosedUnder, MarksReached};
 
 use crate::package_list::PackageList;
 use std::alloc::{AllocError, Global};
@@ -14,80 +14,77 @@ pub(crate) fn imports_of(imports: &[PackageList], importer: usize) -> &[usize]
     imports[importer].as_slice()
 }
 
-/// A package that was found, and the place among what was found of one that imports it.
-#[derive(Clone, Copy)]
-pub(crate) struct Found {
-    pub(crate) number: usize,
-    pub(crate) importer: usize,
+/// Notes that a package was found, unless it is marked.
+fn note(found: &mut Vec<usize>, marks: &mut Vec<bool>, number: usize) -> Result<(), AllocError>
+    requires { number < length marks.old.items }
+    ensures size { OnOk result (length marks.new.items ≡ length marks.old.items) }
+    ensures finds { OnOk result ((first : List Bool) → Finds first found.old.items marks.old.items → Finds first found.new.items marks.new.items) }
+    ensures noted { OnOk result (Notes found.old.items marks.old.items found.new.items marks.new.items (λ q. q ≡ number)) }
+{
+    if !marks[number] {
+        found.push(number)?;
+        marks[number] = true;
+    }
+    Ok(())
 }
 
-/// What was found so far, in order, with a mark for each package that was.
-#[derive(Drop)]
-pub(crate) struct Search {
-    pub(crate) found: Vec<Found>,
-    pub(crate) marks: Vec<bool>,
+/// Finds all that the package found at a place leads to.
+fn follow(
+    links: &[PackageList],
+    found: &mut Vec<usize>,
+    marks: &mut Vec<bool>,
+    place: usize,
+) -> Result<(), AllocError>
+    requires linked { AreLinked links.now }
+    requires size { length marks.old.items ≡ length links.now }
+    requires within { slice_index_or found.old.items place 0 < length links.now }
+    requires place { place < length found.old.items }
+    ensures size { OnOk result (length marks.new.items ≡ length links.now) }
+    ensures finds { OnOk result ((first : List Bool) → Finds first found.old.items marks.old.items → Finds first found.new.items marks.new.items) }
+    ensures noted { OnOk result (Notes found.old.items marks.old.items found.new.items marks.new.items (Imports links.now (slice_index_or found.old.items place 0))) }
+{
+    for number in imports_of(links, found[place]) {
+        note(found, marks, *number)?;
+    }
+    Ok(())
 }
 
-impl Search {
-    fn begin(alloc: Global, imports: &[PackageList], start: usize) -> Result<Search, AllocError>
-        requires { start < length imports.now }
-        ensures search { IfOk result (λ search. IsSearch imports.now search.found.items search.marks.items) }
-        ensures first { IfOk result (λ search. package_at search.found.items 0 ≡ start) }
-        ensures one { IfOk result (λ search. length search.found.items ≡ 1) }
-    {
-        let mut marks = vec![in alloc; false; imports.len()]?;
-        marks[start] = true;
-        let first = Found {
-            number: start,
-            importer: 0,
-        };
-        let found = vec![in alloc; first]?;
-        Ok(Search { found, marks })
+/// Marks a package and all that it leads to, as far as no marked package bars the way, and lists what it marks.
+pub(crate) fn spread(
+    alloc: Global,
+    links: &[PackageList],
+    marks: &mut Vec<bool>,
+    start: usize,
+) -> Result<Vec<usize>, AllocError>
+    requires linked { AreLinked links.now }
+    requires size { length marks.old.items ≡ length links.now }
+    requires start { start < length links.now }
+    ensures { IfOk result (λ found. Spreads links.now start marks.old.items found.items marks.new.items) }
+{
+    let mut found = Vec::new(alloc);
+    note(&mut found, marks, start)?;
+    let mut place = 0;
+    while place < found.len() {
+        follow(links, &mut found, marks, place)?;
+        place += 1;
     }
+    Ok(found)
+}
 
-    /// Finds all that the package found at a place imports.
-    fn follow(&mut self, imports: &[PackageList], place: usize) -> Result<(), AllocError>
-        requires linked { AreLinked imports.now }
-        requires search { IsSearch imports.now self.old.found.items self.old.marks.items }
-        requires place { place < length self.old.found.items }
-        requires followed { IsFollowed imports.now self.old.found.items self.old.marks.items place }
-        ensures search { OnOk result (IsSearch imports.now self.new.found.items self.new.marks.items) }
-        ensures followed { OnOk result (IsFollowed imports.now self.new.found.items self.new.marks.items (place + 1)) }
-        ensures first { OnOk result (package_at self.new.found.items 0 ≡ package_at self.old.found.items 0) }
-        ensures place { OnOk result (place < length self.new.found.items) }
-    {
-        let importer = self.found[place].number;
-        for number in imports_of(imports, importer) {
-            let number = *number;
-            if !self.marks[number] {
-                self.found.push(Found {
-                    number,
-                    importer: place,
-                })?;
-                self.marks[number] = true;
-            }
-        }
-        Ok(())
-    }
-
-    /// Finds all that a package reaches.
-    pub(crate) fn run(
-        alloc: Global,
-        imports: &[PackageList],
-        start: usize,
-    ) -> Result<Search, AllocError>
-        requires linked { AreLinked imports.now }
-        requires start { start < length imports.now }
-        ensures search { IfOk result (λ search. IsSearch imports.now search.found.items search.marks.items) }
-        ensures first { IfOk result (λ search. package_at search.found.items 0 ≡ start) }
-        ensures followed { IfOk result (λ search. IsFollowed imports.now search.found.items search.marks.items (length search.found.items)) }
-    {
-        let mut search = Search::begin(alloc, imports, start)?;
-        let mut place = 0;
-        while place < search.found.len() {
-            search.follow(imports, place)?;
-            place += 1;
-        }
-        Ok(search)
-    }
+/// Marks a package and all that it leads to, where all that marked ones lead to is marked.
+pub(crate) fn reach(
+    alloc: Global,
+    links: &[PackageList],
+    marks: &mut Vec<bool>,
+    start: usize,
+) -> Result<(), AllocError>
+    requires linked { AreLinked links.now }
+    requires size { length marks.old.items ≡ length links.now }
+    requires start { start < length links.now }
+    requires closed { AreClosedUnder links.now marks.old.items }
+    ensures reached { OnOk result (MarksReached links.now start marks.old.items marks.new.items) }
+    ensures closed { OnOk result (AreClosedUnder links.now marks.new.items) }
+{
+    spread(alloc, links, marks, start)?;
+    Ok(())
 }

@@ -7,49 +7,29 @@ use Rattle.std.proofs.lemmas.List.{get_or_append_left, get_or_push}
 use Rattle.std.proofs.lemmas.Option.{none-some, same_Some, slice_get_within, slice_get-get_or, get_or_from_slice_get}
 use Rattle.gr_text.specs.Packages.{package_paths}
 use Rattle.gr_text.specs.Workspace.{Workspace}
-use Rattle.gr_graph.specs.Graphs.{HoldsPackages, OfPackage}
-use Rattle.gr_graph.specs.Packages.{IsInClosure}
+use Rattle.gr_graph.specs.Graphs.{OfPackage}
 use Rattle.gr_graph.specs.Search.{IsMarked}
 use Rattle.gr_graph.proofs.Asked.{number, at_contains}
 use Rattle.gr_verdict.specs.Closures.{HasSameClosure}
-use Rattle.gr_verdict.proofs.Closed.{to_package}
 use Rattle.gr_verdict.proofs.Local.{same_back}
 use Rattle.gr_compile.specs.declared.unit.Unit.{Unit as PackageUnit}
 use Rattle.gr_keep.specs.Finished.{Table, IsFinished}
 use Rattle.gr_keep.proofs.FinishedUnits.{unit_at}
 use Rattle.gr_keep.specs.Carried.{IsCarried}
 use Rattle.gr_keep.specs.Changes.{AreMarks, KeepsUnit}
-use Rattle.gr_keep.proofs.ClosureTexts.{KeepsClosure, same_texts, same_files, package_there}
+use Rattle.gr_keep.proofs.ClosureTexts.{same_texts, same_files, package_there}
 
-abbrev pub AreUnmarked : List Bool → List ℕ → Type 0
-AreUnmarked marks numbers = (i : ℕ) → Contains numbers i → IsMarked marks i → ⊥
+-- the closures have the same texts just where the package is marked neither before nor after
+module _ (v w : Workspace) (p : List ℕ) (before after : List Bool) (old new : ℕ) (a : AreMarks v w before) (b : AreMarks w v after)
+    (at : slice_get (package_paths v) old ≡ Some p) (then : slice_get (package_paths w) new ≡ Some p) where
+  pub same_by_marks : (IsMarked before old → ⊥) → (IsMarked after new → ⊥) → HasSameClosure v w p
+  same_by_marks there here = same_texts v w p (a.same old p at there) (b.same new p then here)
 
-unmarked_keeps : (v w : Workspace) (p : List ℕ) (marks : List Bool) (numbers : List ℕ) → AreMarks v w marks → HoldsPackages v (IsInClosure v p) numbers →
-    AreUnmarked marks numbers → KeepsClosure v w p
-unmarked_keeps v w p marks numbers are holds none q c =
-    let n = number v q (to_package v p q c) in
-    are.same n.0 q n.1 (none n.0 ((holds n.0).1 (q, n.1, c)))
+  pub before_unmarked : HasSameClosure v w p → IsMarked before old → ⊥
+  before_unmarked same marked = a.changed old p at marked (same_files v w p same)
 
-keeps_unmarked : (v w : Workspace) (p : List ℕ) (marks : List Bool) (numbers : List ℕ) → AreMarks v w marks → HoldsPackages v (IsInClosure v p) numbers →
-    KeepsClosure v w p → AreUnmarked marks numbers
-keeps_unmarked v w p marks numbers are holds keeps i has marked =
-    let q = (holds i).0 has in
-    are.changed i q.0 q.1 marked (keeps q.0 q.2)
-
--- the closures have the same texts just where none of their packages is marked
-pub same_by_marks : (v w : Workspace) (p : List ℕ) (before after : List Bool) (there here : List ℕ) → AreMarks v w before → AreMarks w v after
-    → HoldsPackages v (IsInClosure v p) there → HoldsPackages w (IsInClosure w p) here → AreUnmarked before there → AreUnmarked after here →
-    HasSameClosure v w p
-same_by_marks v w p before after there here a b there_are here_are there_none here_none =
-    same_texts v w p (unmarked_keeps v w p before there a there_are there_none) (unmarked_keeps w v p after here b here_are here_none)
-
-pub before_unmarked : (v w : Workspace) (p : List ℕ) (before : List Bool) (there : List ℕ) → AreMarks v w before → HoldsPackages v (IsInClosure v p) there →
-    HasSameClosure v w p → AreUnmarked before there
-before_unmarked v w p before there a there_are same = keeps_unmarked v w p before there a there_are (same_files v w p same)
-
-pub after_unmarked : (v w : Workspace) (p : List ℕ) (after : List Bool) (here : List ℕ) → AreMarks w v after → HoldsPackages w (IsInClosure w p) here →
-    HasSameClosure v w p → AreUnmarked after here
-after_unmarked v w p after here b here_are same = keeps_unmarked w v p after here b here_are (same_files w v p (same_back v w p same))
+  pub after_unmarked : HasSameClosure v w p → IsMarked after new → ⊥
+  after_unmarked same marked = b.changed new p then marked (same_files w v p (same_back v w p same))
 
 -- ---- the unit of one package
 module _ (v : Workspace) (old : Table) (w : Workspace) (p : List ℕ) where

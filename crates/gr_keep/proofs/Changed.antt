@@ -13,11 +13,13 @@ use Rattle.gr_text.specs.Path.{folder}
 use Rattle.gr_text.specs.Packages.{is_go, is_of_package, package_paths, package_files}
 use Rattle.gr_text.specs.Workspace.{Workspace}
 use Rattle.gr_graph.specs.Filling.{names}
+use Rattle.gr_graph.specs.Reaching.{MarkReaching}
 use Rattle.gr_graph.specs.Search.{IsMarked}
 use Rattle.gr_graph.proofs.PackagePaths.{one_number, paths_sorted}
-use Rattle.gr_graph.proofs.Asked.{at_contains}
+use Rattle.gr_graph.proofs.Asked.{at_contains, number}
+use Rattle.gr_verdict.proofs.Closed.{to_package}
 use Rattle.gr_verdict.proofs.Members.{nothing_in, first_in, later_in, first_or_later, passes, passed}
-use Rattle.gr_keep.specs.Changes.{HasSameFiles, HasText, HasPath, AddsFolders, AreChanged, AreMarks, MarkFolders}
+use Rattle.gr_keep.specs.Changes.{HasSameFiles, HasText, HasPath, AddsFolders, AreChanged, AreMarks, MarkClosures, MarkFolders}
 use Rattle.gr_edit.proofs.Entries.{entry_of, get_entry}
 use Rattle.gr_keep.proofs.ClosureTexts.{of_folder}
 
@@ -211,19 +213,37 @@ module _ (w : Workspace) (fs : List (Bor (List ℕ))) (i : ℕ) (d : Bor (List �
   mark_none none so =
       subst (λ (l : List (List ℕ)). MarkFolders w l marks) (sym one_more) (marks_skip w (names (take i fs)) marks (get_or fs i d).now none so)
 
-pub marks_before : (v w : Workspace) (folders : List (List ℕ)) (marks : List Bool) → AreChanged v w folders → MarkFolders v folders marks → AreMarks v w marks
+-- ---- the packages that reach marked ones
+pub closures_marked : (w : Workspace) (folders : List (List ℕ)) (marks reaching : List Bool) → MarkFolders w folders marks → MarkReaching w marks reaching →
+    MarkClosures w folders reaching
+closures_marked w folders marks reaching so are = record {
+  size = are.size;
+  each = λ i p at. (
+    λ m.
+        let r = (are.each i p at).0 m in
+        record { path = r.path; among = (so.each r.number r.path r.has_path).0 r.marked; in_closure = r.in_closure },
+    λ h.
+        let n = number w h.path (to_package w p h.path h.in_closure) in
+        (are.each i p at).1 (record {
+          number = n.0;
+          path = h.path;
+          has_path = n.1;
+          marked = (so.each n.0 h.path n.1).1 h.among;
+          in_closure = h.in_closure;
+        }),
+  );
+}
+
+pub marks_before : (v w : Workspace) (folders : List (List ℕ)) (marks : List Bool) → AreChanged v w folders → MarkClosures v folders marks → AreMarks v w marks
 marks_before v w folders marks are so = record {
   size = so.size;
-  changed = λ i q at marked same. are.changed q ((so.each i q at).0 marked) same;
-  same = λ i q at not. are.same q (λ has. not ((so.each i q at).1 has));
+  changed = λ i p at marked keeps. (let h = (so.each i p at).0 marked in are.changed h.path h.among (keeps h.path h.in_closure));
+  same = λ i p at not q c. are.same q (λ has. not ((so.each i p at).1 (record { path = q; among = has; in_closure = c })));
 }
 
 other_way : (v w : Workspace) (q : List ℕ) → HasSameFiles v w q → HasSameFiles w v q
 other_way v w q same e = ((same e).1, (same e).0)
 
-pub marks_after : (v w : Workspace) (folders : List (List ℕ)) (marks : List Bool) → AreChanged v w folders → MarkFolders w folders marks → AreMarks w v marks
-marks_after v w folders marks are so = record {
-  size = so.size;
-  changed = λ i q at marked same. are.changed q ((so.each i q at).0 marked) (other_way w v q same);
-  same = λ i q at not. other_way v w q (are.same q (λ has. not ((so.each i q at).1 has)));
-}
+pub marks_after : (v w : Workspace) (folders : List (List ℕ)) (marks : List Bool) → AreChanged v w folders → MarkClosures w folders marks → AreMarks w v marks
+marks_after v w folders marks are so = marks_before w v folders marks
+    (record { changed = λ q has same. are.changed q has (other_way w v q same); same = λ q none. other_way v w q (are.same q none) }) so

@@ -16,7 +16,7 @@ use Rattle.gr_verdict.proofs.PackageFiles.{package_file}
 use Rattle.gr_verdict.proofs.Closed.{to_package}
 use Rattle.gr_verdict.proofs.Local.{closed_there}
 use Rattle.gr_compile.specs.Inputs.{AreInputs}
-use Rattle.gr_keep.specs.Changes.{HasSameFiles}
+use Rattle.gr_keep.specs.Changes.{HasSameFiles, KeepsClosure}
 
 -- ---- the files of a package
 pub of_folder : (p path : List ℕ) → is_of_package p path ≡ true → folder path ≡ p
@@ -31,10 +31,6 @@ package_same : (v w : Workspace) (p : List ℕ) → HasSameFiles v w p → Conta
 package_same v w p same has =
     let e = package_file v p has in
     has_file w p e.0 ((same e.0).0 e.1)
-
--- the packages of the closure of p have the same files in both workspaces
-abbrev pub KeepsClosure : Workspace → Workspace → List ℕ → Type 0
-KeepsClosure v w p = (q : List ℕ) → IsInClosure v p q → HasSameFiles v w q
 
 pub closure_stays : (v w : Workspace) (p q : List ℕ) → KeepsClosure v w p → IsInClosure v p q → IsInClosure w p q
 closure_stays v w p q keeps (itself has) = itself (package_same v w p (keeps p (itself has)) has)

@@ -1,10 +1,18 @@
 -- The finished units that a change carries over.
-use Rattle.std.specs.Prelude.{◌≡◌, ◌↔◌, ℕ, List, length}
+use Rattle.std.specs.Prelude.{◌≡◌, ◌↔◌, ℕ, Bool, List, Some, IsTrue, length, slice_get}
 use Rattle.gr_text.specs.Workspace.{Workspace}
 use Rattle.gr_text.specs.Packages.{package_paths}
 use Rattle.gr_verdict.specs.Closures.{HasSameClosure}
 use Rattle.gr_compile.specs.declared.unit.Unit.{Unit as PackageUnit}
+use Rattle.gr_keep.specs.Changes.{AreMarks}
 use Rattle.gr_keep.specs.Finished.{Table, IsFinished}
+use Rattle.gr_keep.specs.declared.changes.Marks.{Marks}
+
+-- Whether the closure of a package has the same texts before and after a change, where these are the marks of the change, and the
+-- numbers are those of the package before and after.
+abbrev pub TellsKept : Marks → (old new : ℕ) → Bool → Type 0
+TellsKept marks old new kept = (v w : Workspace) → AreMarks v w marks.before.items → AreMarks w v marks.after.items → (p : List ℕ) →
+    slice_get (package_paths v) old ≡ Some p → slice_get (package_paths w) new ≡ Some p → IsTrue kept ↔ HasSameClosure v w p
 
 -- Of a change from the files v to the files w: the unit of each finished package whose closure has the same texts, and of no
 -- other. There is one such table.

@@ -1,9 +1,10 @@
--- Which packages have other files after a change.
+-- Which packages have other files after a change, and in whose closures these are.
 use Rattle.std.specs.Prelude.{◌≡◌, ℕ, ◌↔◌, ◌⊎◌, Bool, true, false, MatchBool, List, length, Option, Some, slice_get}
 use Rattle.std.specs.List.{Contains}
 use Rattle.std.specs.FinMap as map
 use Rattle.gr_text.specs.Packages.{is_go, package_paths, package_files}
 use Rattle.gr_text.specs.Workspace.{Workspace}
+use Rattle.gr_graph.specs.Packages.{IsInClosure}
 use Rattle.gr_graph.specs.Search.{IsMarked}
 use Rattle.gr_verdict.specs.Closures.{HasSameClosure}
 use Rattle.gr_compile.specs.declared.unit.Unit.{Unit as PackageUnit}
@@ -39,16 +40,31 @@ pub record AreChanged (v w : Workspace) (folders : List (List ℕ)) : Type 0 whe
   pub changed : (q : List ℕ) → Contains folders q → HasSameFiles v w q → ⊥
   pub same : (q : List ℕ) → (Contains folders q → ⊥) → HasSameFiles v w q
 
--- a mark for each package of v that has other files in w
+-- the packages of the closure of p have the same files in both workspaces
+abbrev pub KeepsClosure : Workspace → Workspace → List ℕ → Type 0
+KeepsClosure v w p = (q : List ℕ) → IsInClosure v p q → HasSameFiles v w q
+
+-- a mark for each package of v in whose closure one has other files in w
 pub record AreMarks (v w : Workspace) (marks : List Bool) : Type 0 where
   pub size : length marks ≡ length (package_paths v)
-  pub changed : (i : ℕ) (q : List ℕ) → slice_get (package_paths v) i ≡ Some q → IsMarked marks i → HasSameFiles v w q → ⊥
-  pub same : (i : ℕ) (q : List ℕ) → slice_get (package_paths v) i ≡ Some q → (IsMarked marks i → ⊥) → HasSameFiles v w q
+  pub changed : (i : ℕ) (p : List ℕ) → slice_get (package_paths v) i ≡ Some p → IsMarked marks i → KeepsClosure v w p → ⊥
+  pub same : (i : ℕ) (p : List ℕ) → slice_get (package_paths v) i ≡ Some p → (IsMarked marks i → ⊥) → KeepsClosure v w p
 
 -- a mark for each package that is among some folders
 pub record MarkFolders (w : Workspace) (folders : List (List ℕ)) (marks : List Bool) : Type 0 where
   pub size : length marks ≡ length (package_paths w)
   pub each : (i : ℕ) (q : List ℕ) → slice_get (package_paths w) i ≡ Some q → IsMarked marks i ↔ Contains folders q
+
+-- one of some folders is that of a package in the closure of p
+pub record HoldsFolder (w : Workspace) (folders : List (List ℕ)) (p : List ℕ) : Type 0 where
+  pub path : List ℕ
+  pub among : Contains folders path
+  pub in_closure : IsInClosure w p path
+
+-- a mark for each package whose closure holds one that is among some folders
+pub record MarkClosures (w : Workspace) (folders : List (List ℕ)) (marks : List Bool) : Type 0 where
+  pub size : length marks ≡ length (package_paths w)
+  pub each : (i : ℕ) (p : List ℕ) → slice_get (package_paths w) i ≡ Some p → IsMarked marks i ↔ HoldsFolder w folders p
 
 -- the unit that the package p keeps, if it is finished and its closure has the same texts
 abbrev pub KeepsUnit : Workspace → Table → Workspace → List ℕ → Option PackageUnit → Type 0

@@ -1,11 +1,8 @@
 //! The finished units that a change carries over: those of the packages whose closure holds no changed package.
-ghost use Rattle.std.specs.Prelude.{◌≡◌, ℕ, ◌↔◌, ◌<◌, IfOk, IsTrue, length, slice_get};
-ghost use Rattle.std.specs.List.{Contains};
+ghost use Rattle.std.specs.Prelude.{◌<◌, IfOk, length};
 ghost use Rattle.gr_text.specs.Packages.{package_paths};
 ghost use Rattle.gr_graph.specs.Graphs.{OfPackage};
-ghost use Rattle.gr_graph.specs.Search.{IsMarked};
-ghost use Rattle.gr_verdict.specs.Closures.{HasSameClosure};
-ghost use Rattle.gr_keep.specs.Carried.{IsCarried};
+ghost use Rattle.gr_keep.specs.Carried.{IsCarried, TellsKept};
 ghost use Rattle.gr_keep.specs.Changes.{AreMarks, KeepsUnit};
 
 use crate::changes::Marks;
@@ -15,30 +12,18 @@ use gr_graph::Graph;
 use gr_verdict::is_marked;
 use std::alloc::{AllocError, Global};
 
-/// Whether none of some packages is marked.
-pub fn are_unmarked(marks: &[bool], numbers: &[usize]) -> bool
-    ensures { IsTrue result ↔ ((i : ℕ) → Contains numbers.now i → IsMarked marks.now i → ⊥) }
-{
-    for number in numbers {
-        if is_marked(marks, *number) {
-            return false;
-        }
-    }
-    true
-}
-
 /// Whether the closure of a package has the same texts before and after a change. The numbers are those that the package has
 /// before and after.
-pub fn keeps_texts(before: &Graph, old: usize, after: &Graph, new: usize, marks: &Marks) -> bool
-    requires old { old < length (package_paths before.now) }
-    requires same { slice_get (package_paths before.now) old ≡ slice_get (package_paths after.now) new }
-    requires new { new < length (package_paths after.now) }
-    requires before_marks { AreMarks before.now after.now marks.now.before.items }
-    requires after_marks { AreMarks after.now before.now marks.now.after.items }
-    ensures { IsTrue result ↔ OfPackage before.now old (HasSameClosure before.now after.now) }
+pub fn keeps_texts(marks: &Marks, old: usize, new: usize) -> bool
+    ensures { TellsKept marks.now old new result }
 {
-    are_unmarked(&marks.before, before.closure(old))
-        && are_unmarked(&marks.after, after.closure(new))
+    if is_marked(&marks.before, old) {
+        return false;
+    }
+    if is_marked(&marks.after, new) {
+        return false;
+    }
+    true
 }
 
 /// The unit that a package keeps: it is finished before, and its closure has the same texts after.
@@ -61,7 +46,7 @@ fn kept_unit(
     let Some(unit) = finished.get(old) else {
         return Ok(None);
     };
-    if !keeps_texts(before, old, after, number, marks) {
+    if !keeps_texts(marks, old, number) {
         return Ok(None);
     }
     let unit = unit.clone()?;

@@ -1,8 +1,8 @@
-//! Which packages have other files after a change.
+//! Which packages have other files after a change, and in whose closures these are.
 ghost use Rattle.std.specs.Prelude.{◌≡◌, ℕ, ◌↔◌, IfOk, List, OnOk, IsTrue, Some};
 ghost use Rattle.std.specs.FinMap as map;
 ghost use Rattle.gr_graph.specs.Filling.{names};
-ghost use Rattle.gr_keep.specs.Changes.{AddsFolders, AreChanged, AreMarks, HasPath, HasText, MarkFolders, TellsLacking};
+ghost use Rattle.gr_keep.specs.Changes.{AddsFolders, AreChanged, AreMarks, HasPath, HasText, MarkClosures, MarkFolders, TellsLacking};
 
 use gr_graph::Graph;
 use gr_text::{FileText, Files, Path};
@@ -79,11 +79,7 @@ fn changed_folders<'a>(
 }
 
 /// A mark for each package that is among some folders.
-pub(crate) fn folder_marks(
-    alloc: Global,
-    graph: &Graph,
-    folders: &[&[u8]],
-) -> Result<Vec<bool>, AllocError>
+fn folder_marks(alloc: Global, graph: &Graph, folders: &[&[u8]]) -> Result<Vec<bool>, AllocError>
     ensures { IfOk result (λ marks. MarkFolders graph.now (names folders.now) marks.items) }
 {
     let mut marks = vec![in alloc; false; graph.len()]?;
@@ -95,21 +91,33 @@ pub(crate) fn folder_marks(
     Ok(marks)
 }
 
-/// The packages of two workspaces that have not the same files in both, marked in each of them.
+/// A mark for each package whose closure holds one that is among some folders. One search finds them all.
+pub fn closure_marks(
+    alloc: Global,
+    graph: &Graph,
+    folders: &[&[u8]],
+) -> Result<Vec<bool>, AllocError>
+    ensures { IfOk result (λ marks. MarkClosures graph.now (names folders.now) marks.items) }
+{
+    let marks = folder_marks(alloc, graph, folders)?;
+    graph.reaching(alloc, &marks)
+}
+
+/// The packages of two workspaces in whose closures one has not the same files in both, marked in each of them.
 #[derive(Drop)]
 pub struct Marks {
     pub before: Vec<bool>,
     pub after: Vec<bool>,
 }
 
-/// Marks the packages that a change changes itself.
+/// Marks the packages in whose closures a change changes one.
 pub fn changed_marks(alloc: Global, before: &Graph, after: &Graph) -> Result<Marks, AllocError>
     ensures before { IfOk result (λ marks. AreMarks before.now after.now marks.before.items) }
     ensures after { IfOk result (λ marks. AreMarks after.now before.now marks.after.items) }
 {
     let folders = changed_folders(alloc, before.files(), after.files())?;
     Ok(Marks {
-        before: folder_marks(alloc, before, &folders)?,
-        after: folder_marks(alloc, after, &folders)?,
+        before: closure_marks(alloc, before, &folders)?,
+        after: closure_marks(alloc, after, &folders)?,
     })
 }

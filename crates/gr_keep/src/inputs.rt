@@ -54,7 +54,8 @@ pub fn closure_files(alloc: Global, graph: &Graph, number: usize) -> Result<File
     ensures { IfOk result (λ files. OfPackage graph.now number (λ p. AreClosureTexts graph.now p (map.entries files))) }
 {
     let mut files = Files::new(alloc);
-    for other in graph.closure(number) {
+    let closure = graph.closure(alloc, number)?;
+    for other in closure.as_slice() {
         add_package(&mut files, graph, *other)?;
     }
     Ok(files)
@@ -66,5 +67,6 @@ pub fn inputs_of(alloc: Global, graph: &Graph, number: usize) -> Result<Graph, A
     ensures { IfOk result (λ inputs. OfPackage graph.now number (λ p. AreInputs graph.now p inputs)) }
 {
     let files = closure_files(alloc, graph, number)?;
-    Graph::part(alloc, graph, graph.closure(number), files)
+    let closure = graph.closure(alloc, number)?;
+    Graph::part(alloc, graph, closure.as_slice(), files)
 }

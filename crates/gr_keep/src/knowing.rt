@@ -116,7 +116,7 @@ fn kept_verdict(
     let Some(verdict) = known.get(old) else {
         return Ok(None);
     };
-    if !keeps_texts(before, old, after, number, marks) {
+    if !keeps_texts(marks, old, number) {
         return Ok(None);
     }
     let verdict = verdict.clone()?;

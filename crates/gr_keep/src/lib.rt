@@ -9,8 +9,8 @@ mod knowing;
 mod named;
 mod shared_known;
 
-pub use carried::{are_unmarked, carried_units, keeps_texts};
-pub use changes::{Marks, changed_marks};
+pub use carried::{carried_units, keeps_texts};
+pub use changes::{Marks, changed_marks, closure_marks};
 pub use finished::Finished;
 pub use inputs::{closure_files, inputs_of};
 pub use knowing::{kept, known_after, known_within, learned};

@@ -9,7 +9,7 @@ ghost use Rattle.gr_verdict.specs.Earlier.{tree_file};
 ghost use Rattle.gr_keep.specs.Changes.{AreChanged, AreMarks, HasSameFiles, HaveTexts};
 ghost use Rattle.gr_keep.specs.Inputs.{faulty_file};
 
-use crate::changes::{Marks, folder_marks, has_text};
+use crate::changes::{Marks, closure_marks, has_text};
 use gr_graph::{FaultyFile, Graph};
 use gr_space::MadeChange;
 use gr_text::Files;
@@ -108,7 +108,8 @@ fn changed_among<'a>(
     Ok(changed)
 }
 
-/// Marks the packages that have not the same files before and after a change. Only those of the folders are looked at.
+/// Marks the packages in whose closures one has not the same files before and after a change. Only the files of the folders are
+/// looked at.
 fn marks_among(
     alloc: Global,
     before: &Graph,
@@ -121,13 +122,13 @@ fn marks_among(
 {
     let changed = changed_among(alloc, before, after, folders)?;
     Ok(Marks {
-        before: folder_marks(alloc, before, &changed)?,
-        after: folder_marks(alloc, after, &changed)?,
+        before: closure_marks(alloc, before, &changed)?,
+        after: closure_marks(alloc, after, &changed)?,
     })
 }
 
-/// Marks the packages that a change changes itself, in its base and afterwards. Only those are looked at in whose folders its edit
-/// set names files.
+/// Marks the packages in whose closures a change changes one, in its base and afterwards. Only those files are looked at in whose
+/// folders its edit set names files.
 pub fn marks_of(alloc: Global, base: &Graph, change: &MadeChange) -> Result<Marks, AllocError>
     requires { change.now.base ≡ base.now }
     ensures before { IfOk result (λ marks. AreMarks base.now change.now.files marks.before.items) }

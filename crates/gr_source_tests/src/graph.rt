@@ -65,35 +65,38 @@ fn is_e(package: &Package) -> bool {
         && package.faulty.iter().all(is_fault_of_e)
 }
 
-fn import_each_other(rt: &impl Abort, graph: &Graph) {
+fn import_each_other(rt: &impl Abort, alloc: Global, graph: &Graph) -> Result<(), Fail> {
     holds(rt, graph.len() == 5);
     holds(rt, graph.imports(2) == [0, 1].as_slice());
     holds(rt, graph.imports(4).is_empty());
     holds(rt, graph.importers(1) == [0, 2].as_slice());
-    holds(rt, graph.closure(2) == [0, 1, 2].as_slice());
+    let closure = graph.closure(alloc, 2)?;
+    holds(rt, closure.as_slice() == [0, 1, 2].as_slice());
     holds(rt, is_e(graph.package(4)));
+    Ok(())
 }
 
 #[test]
 fn packages_and_their_imports(rt: HostRuntime) -> Result<(), Fail> {
     let graph = five_packages(rt.alloc())?;
     are_numbered(&rt, &graph);
-    import_each_other(&rt, &graph);
-    Ok(())
+    import_each_other(&rt, rt.alloc(), &graph)
 }
 
-fn are_other_packages(rt: &impl Abort, graph: &Graph) {
+fn are_other_packages(rt: &impl Abort, alloc: Global, graph: &Graph) -> Result<(), Fail> {
     holds(rt, graph.len() == 5);
     holds(rt, graph.imports(1) == [0].as_slice());
     holds(rt, graph.package(4).faulty.is_empty());
-    holds(rt, graph.closure(0) == [0, 1].as_slice());
+    let closure = graph.closure(alloc, 0)?;
+    holds(rt, closure.as_slice() == [0, 1].as_slice());
+    Ok(())
 }
 
 #[test]
 fn a_graph_after_another_is_of_the_new_files(rt: HostRuntime) -> Result<(), Fail> {
     let before = five_packages(rt.alloc())?;
     let graph = after(rt.alloc(), &before, OTHER_TEXTS)?;
-    are_other_packages(&rt, &graph);
+    are_other_packages(&rt, rt.alloc(), &graph)?;
     Ok(())
 }
 
@@ -102,8 +105,7 @@ fn a_graph_after_another_is_of_the_new_files(rt: HostRuntime) -> Result<(), Fail
 fn a_graph_after_one_of_the_same_files(rt: HostRuntime) -> Result<(), Fail> {
     let before = five_packages(rt.alloc())?;
     let graph = after(rt.alloc(), &before, "")?;
-    import_each_other(&rt, &graph);
-    Ok(())
+    import_each_other(&rt, rt.alloc(), &graph)
 }
 
 /// How many imports the files of a package have.

@@ -3,9 +3,11 @@ use Rattle.gr_text.specs.Workspace.{Workspace}
 use Rattle.gr_scope.specs.Named.{name_value}
 use Rattle.gr_verdict.specs.Verdicts.{Verdicts}
 use Rattle.gr_bound.specs.Workspaces.{IsHome, IsExportedUnder}
+use Rattle.gr_uses.specs.Importing.{AreImporting}
 use Rattle.gr_uses.specs.declared.may_use.Sought.{Sought}
 
--- a declaration has that name abroad, and its package that number
+-- a declaration has that name abroad, and its package that number, and those that import it are marked
 pub record IsSought (w : Workspace) (known : Verdicts) (sought : Sought) : Type 0 where
   pub name : IsExportedUnder w known sought.declaration.now (name_value sought.name)
   pub home : IsHome w sought.declaration.now sought.home
+  pub importing : AreImporting w sought.home sought.importing.now

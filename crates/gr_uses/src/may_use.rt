@@ -1,27 +1,49 @@
 //! Which packages may use a declaration, by what they import and by the members that are used in them.
-ghost use Rattle.std.specs.Prelude.{ℕ, ◌≡◌, ◌≢◌, ◌<◌, ◌↔◌, [], false, length, slice_get, IsTrue};
+ghost use Rattle.std.specs.Prelude.{ℕ, ◌≡◌, ◌≢◌, ◌<◌, ◌↔◌, [], false, length, slice_get, IfOk, IsTrue};
 ghost use Rattle.gr_text.specs.declared.place.Place.{Place};
 ghost use Rattle.gr_text.specs.Packages.{package_paths};
 ghost use Rattle.gr_scope.specs.Named.{name_value};
 ghost use Rattle.gr_graph.specs.Graphs.{OfPackage};
 ghost use Rattle.gr_graph.specs.Packages.{PackageImports};
+ghost use Rattle.gr_graph.specs.Reaching.{MarkImporting};
 ghost use Rattle.gr_declared.specs.Package.{Package as Checked};
 ghost use Rattle.gr_bound.specs.declared.declaration.Declaration.{Declaration as Bound};
 ghost use Rattle.gr_bound.specs.Binding.{IsMemberAt};
 ghost use Rattle.gr_bound.specs.Members.{uses_or_none};
+ghost use Rattle.gr_uses.specs.Importing.{AreImporting};
 ghost use Rattle.gr_bound.specs.Workspaces.{IsSound, IsPackageAt, known_in, home_path, IsHome, IsUseAt};
 
 use gr_bound::{Declaration, members_of};
 use gr_expr::found::MemberUse;
 use gr_graph::Graph;
-use gr_verdict::{Findings, is_among, reaches};
+use gr_verdict::{Findings, is_among, is_marked};
+use std::alloc::{AllocError, Global};
 
-/// A declaration that is sought, with the name under which it is exported and the number of its package, if it has them.
+/// A declaration that is sought, with the name under which it is exported and the number of its package, if it has them, and marks for
+/// the packages that import that one.
 #[derive(Clone, Copy)]
 pub struct Sought<'a> {
     pub declaration: &'a Declaration,
     pub name: Option<&'a [u8]>,
     pub home: Option<usize>,
+    pub importing: &'a [bool],
+}
+
+/// Marks for the packages that import one, directly or indirectly, if there is one.
+pub(crate) fn importing_home(
+    alloc: Global,
+    graph: &Graph,
+    home: Option<usize>,
+) -> Result<Vec<bool>, AllocError>
+    ensures { IfOk result (λ marks. AreImporting graph.now home marks.items) }
+{
+    let Some(home) = home else {
+        return Ok(Vec::new(alloc));
+    };
+    if home >= graph.len() {
+        return Ok(Vec::new(alloc));
+    }
+    graph.importing(alloc, home)
 }
 
 /// Whether a package imports another directly.
@@ -44,13 +66,20 @@ fn uses_members(members: &[Vec<MemberUse>]) -> bool
     false
 }
 
-/// Whether a member of the package of another number may be used in a package.
-fn may_use_member(graph: &Graph, found: &Findings, number: usize, home: usize) -> bool
+/// Whether a member of the package of another number may be used in a package. Those are marked that import that one.
+fn may_use_member(
+    graph: &Graph,
+    found: &Findings,
+    number: usize,
+    home: usize,
+    importing: &[bool],
+) -> bool
     requires in_range { number < length (package_paths graph.now) }
     requires sound { IsSound graph.now found.now }
+    requires importing { OfPackage graph.now home (λ q. MarkImporting graph.now q importing.now) }
     ensures { (p : Checked) → IsPackageAt graph.now (known_in found.now) number p → (file token : ℕ) (d : Bound) → IsMemberAt p file token d → slice_get (package_paths graph.now) home ≡ home_path d → IsTrue result }
 {
-    reaches(graph, number, home) && uses_members(members_of(graph, found, number))
+    is_marked(importing, number) && uses_members(members_of(graph, found, number))
 }
 
 /// Whether a declaration of the package of another number may be used in a package.
@@ -65,13 +94,14 @@ fn may_use_other(
     requires sound { IsSound graph.now found.now }
     requires home { slice_get (package_paths graph.now) home ≡ home_path sought.now.declaration.now }
     requires other { home ≢ number }
+    requires importing { OfPackage graph.now home (λ q. MarkImporting graph.now q sought.now.importing.now) }
     ensures { (place : Place) → IsUseAt graph.now (known_in found.now) sought.now.declaration.now (name_value sought.now.name) number place → IsTrue result }
 {
     match sought.declaration {
         Declaration::Predeclared(_) => true,
         Declaration::Declared(_, _) => sought.name.is_some() && imports(graph, number, home),
-        Declaration::Field(_) => may_use_member(graph, found, number, home),
-        Declaration::Method(_) => may_use_member(graph, found, number, home),
+        Declaration::Field(_) => may_use_member(graph, found, number, home, sought.importing),
+        Declaration::Method(_) => may_use_member(graph, found, number, home, sought.importing),
     }
 }
 
@@ -92,6 +122,7 @@ pub(crate) fn may_use(graph: &Graph, found: &Findings, number: usize, sought: &S
     requires in_range { number < length (package_paths graph.now) }
     requires sound { IsSound graph.now found.now }
     requires home { IsHome graph.now sought.now.declaration.now sought.now.home }
+    requires importing { AreImporting graph.now sought.now.home sought.now.importing.now }
     ensures { (place : Place) → IsUseAt graph.now (known_in found.now) sought.now.declaration.now (name_value sought.now.name) number place → IsTrue result }
 {
     match sought.home {

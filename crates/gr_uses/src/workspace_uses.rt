@@ -14,7 +14,7 @@ ghost use Rattle.gr_bound.specs.Uses.{IsUseOf, TellsUses, TellsUsesAt};
 ghost use Rattle.gr_bound.specs.Workspaces.{IsSound, known_in, bytes_of, IsExportedUnder, IsUseAt, ListsFound, TellsUsesIn};
 
 use crate::exported_name::{declared_name, exported_under, own_name};
-use crate::may_use::{Sought, home_of, may_use};
+use crate::may_use::{Sought, home_of, importing_home, may_use};
 use crate::own_names::is_own;
 use crate::places::Places;
 use crate::sorting::places;
@@ -251,10 +251,12 @@ fn list_named(
     ensures { IfOk result (ListsFound read.entry.graph.now (known_in read.entry.found.now) declaration.now) }
 {
     let home = home_of(read.graph, declaration);
+    let importing = importing_home(alloc, read.graph, home)?;
     let sought = Sought {
         declaration,
         name,
         home,
+        importing: &importing,
     };
     let mut spots = Vec::new(alloc);
     add_uses_beyond(alloc, &mut spots, read, of, &sought)?;
@@ -290,10 +292,12 @@ fn list_everywhere(
     ensures { IfOk result (ListsFound graph.now (known_in found.now) declaration.now) }
 {
     let home = home_of(graph, declaration);
+    let importing = importing_home(alloc, graph, home)?;
     let sought = Sought {
         declaration,
         name,
         home,
+        importing: &importing,
     };
     let mut spots = Vec::new(alloc);
     add_all_uses(alloc, &mut spots, graph, found, &sought)?;

@@ -1,11 +1,11 @@
 -- What was known of a package stands, where its files are the same and it sees the same.
-use Rattle.std.proofs.Common.{ℕ, ◌≡◌, ◌<◌, inl, inr, Bool, true, false, List, length, replicate, sym, ap, subst, ◌∙◌}
+use Rattle.std.proofs.Common.{ℕ, ◌≡◌, ◌<◌, inl, inr, Bool, true, false, List, length, sym, ap, subst, ◌∙◌}
 use Rattle.std.specs.Prelude.{Option, Some, slice_get}
 use Rattle.std.proofs.Math.ListN.{set}
 use Rattle.std.proofs.Math.Path.{ap₂}
-use Rattle.std.proofs.lemmas.Bool.{cases_eq, true≢false}
-use Rattle.std.proofs.lemmas.List.{get_or-set_same, get_or-set_other, get_or-replicate}
-use Rattle.std.proofs.lemmas.Option.{same_Some, slice_get_within}
+use Rattle.std.proofs.lemmas.Bool.{cases_eq}
+use Rattle.std.proofs.lemmas.List.{get_or-set_same, get_or-set_other}
+use Rattle.std.proofs.lemmas.Option.{same_Some}
 use Rattle.gr_text.specs.Workspace.{Workspace}
 use Rattle.gr_text.specs.Packages.{package_paths, package_files}
 use Rattle.gr_graph.specs.Search.{IsMarked}
@@ -115,7 +115,6 @@ module _ (w : Workspace) (verdicts : List (Option KnownVerdict)) (n : ℕ) (p : 
         still_known m q other at_m was.0 was.1)
   ]
 
-pub none_steady : (w : Workspace) (verdicts : List (Option KnownVerdict)) (all : Gathered) (count : ℕ) → count ≡ length (package_paths w) →
-    AreSteady w verdicts all (replicate count false)
-none_steady w verdicts all count size m q at marked =
-    absurd (true≢false (sym marked ∙ get_or-replicate count m false false (subst (λ k. m < k) (sym size) (slice_get_within (package_paths w) m q at))))
+pub none_steady : (w : Workspace) (verdicts : List (Option KnownVerdict)) (all : Gathered) (marks : List Bool) → ((n : ℕ) → IsMarked marks n → ⊥) →
+    AreSteady w verdicts all marks
+none_steady w verdicts all marks none m q at marked = absurd (none m marked)

@@ -30,5 +30,6 @@ pub mod Telling
 pub mod Gathering
 pub mod SameImports
 pub mod Keeping
+pub mod Passing
 pub mod Listing
 pub mod Examples

@@ -53,9 +53,12 @@ all_noted w known p numbers state holds h q imports = elim (cases_contains (pack
 
 -- what an imported package is
 
+pub imported : (w : Workspace) (p q : List ℕ) (n : ℕ) → slice_get (package_paths w) n ≡ Some q → PackageImports w p q → IsInClosure w p q
+imported w p q n at imports = imports_closed w p q imports (at_contains w n q at)
+
 pub builds_by : (w : Workspace) (p q : List ℕ) (n : ℕ) → slice_get (package_paths w) n ≡ Some q → PackageImports w p q → (IsInClosure w q p → ⊥) →
     BuildsOn w p q
-builds_by w p q n at imports not_back = record { imported = imports_closed w p q imports (at_contains w n q at); not_back = not_back }
+builds_by w p q n at imports not_back = record { imported = imported w p q n at imports; not_back = not_back }
 
 pub unknown_by : (all : Interfaces) (q : List ℕ) → name_in all q ≡ None → (known_by all q).faulty ≡ true
 unknown_by all q e = ap is_unknown e

@@ -5,16 +5,15 @@ use Rattle.std.proofs.lemmas.Option.{same_Some}
 use Rattle.gr_text.specs.Workspace.{Workspace}
 use Rattle.gr_text.specs.Packages.{package_paths}
 use Rattle.gr_graph.specs.Graphs.{HoldsPackages}
-use Rattle.gr_graph.specs.Packages.{IsInClosure}
 use Rattle.gr_graph.proofs.Asked.{number}
 use Rattle.gr_imports.specs.States.{state_in}
 use Rattle.gr_imports.specs.declared.states.ImportState.TheVariants.{Missing}
-use Rattle.gr_declared.specs.InterfacesView.{name_in, interface_in, name_or_none, no_interface, KnowsSame}
+use Rattle.gr_declared.specs.InterfacesView.{name_in, interface_in, name_or_none, no_interface, KnowsSame, Shares}
 use Rattle.gr_declared.specs.declared.interfaces.Interfaces.{Interfaces}
 use Rattle.gr_declared.proofs.ByteKeys.{cases_bytes}
 use Rattle.gr_verdict.specs.Verdicts.{BuildsOn, IsSeenAs, seen, unseen, AreSeen}
 use Rattle.gr_verdict.specs.Told.{is_unknown, known_by, AreWhole}
-use Rattle.gr_verdict.specs.Steps.{MayShare, IsSharedOf}
+use Rattle.gr_verdict.specs.Steps.{IsSharedOf}
 use Rattle.gr_verdict.proofs.Closed.{to_package}
 use Rattle.gr_verdict.proofs.Members.{nothing_in}
 
@@ -70,33 +69,19 @@ module _ (w : Workspace) (p : List ℕ) (xs ys : List ℕ) (n : ℕ) (q : List �
     | inr s ↦ inr (λ t. elim (earlier r t) [ inl x ↦ s.0 x | inr e ↦ other t e ], nothing_still r k s.1)
   ]
 
-  same_when : new ≡ old → (r : List ℕ) → KnowsSame old new r
-  same_when e r = record { interface = ap (λ i. interface_in i r) e; name = ap (λ i. name_in i r) e; state = ap (λ (i : Interfaces). state_in i.states r) e }
+  pub shared_next : BuildsOn w p q → Shares all old new q → AreShared w p xs all old → AreShared w p ys all new
+  shared_next on set h = record {
+    each = λ r. elim (cases_bytes r q) [
+      | inl e ↦ inl (
+        record { number = n; among = here; has_path = at ∙ ap Some (sym e); builds_on = subst (BuildsOn w p) (sym e) on },
+        subst (IsKnownAs all new) (sym e) (record { name = set.has_name; interface = set.has_interface }),
+      )
+      | inr ne ↦ other_path r (set.elsewhere r ne) (λ t e. ne e) (h.each r)
+    ];
+    states = λ r. set.states r ∙ h.states r;
+  }
 
-  pub shared_next : MayShare w p q all old new → AreShared w p xs all old → AreShared w p ys all new
-  shared_next may h = elim may [
-    | inl given ↦ (
-        let on = given.0 in
-        let set = given.1 in
-        record {
-          each = λ r. elim (cases_bytes r q) [
-            | inl e ↦ inl (
-              record { number = n; among = here; has_path = at ∙ ap Some (sym e); builds_on = subst (BuildsOn w p) (sym e) on },
-              subst (IsKnownAs all new) (sym e) (record { name = set.has_name; interface = set.has_interface }),
-            )
-            | inr ne ↦ other_path r (set.elsewhere r ne) (λ t e. ne e) (h.each r)
-          ];
-          states = λ r. set.states r ∙ h.states r;
-        })
-    | inr not ↦ (
-        let same = same_when not.1 in
-        record {
-          each = λ r. other_path r (same r) (λ t e. not.0 (subst (BuildsOn w p) e t.builds_on)) (h.each r);
-          states = λ r. (same r).state ∙ h.states r;
-        })
-  ]
-
--- all packages of the closure
+-- all packages that p builds on
 
 seen_by : (w : Workspace) (p : List ℕ) (all i : Interfaces) (r : List ℕ) → AreWhole all → BuildsOn w p r → IsKnownAs all i r → (o : Option (List ℕ)) →
     name_in all r ≡ o → IsSeenAs w (known_by all) p r (name_in i r) (interface_in i r)
@@ -114,11 +99,11 @@ unseen_by w p all i r not h =
     subst (λ x. IsSeenAs w (known_by all) p r (name_in i r) x) (sym h.interface)
     (subst (λ m. IsSeenAs w (known_by all) p r m (no_interface r)) (sym h.name) (unseen (λ on. absurd (not on))))
 
-pub all_seen : (w : Workspace) (p : List ℕ) (numbers : List ℕ) (all i : Interfaces) → HoldsPackages w (IsInClosure w p) numbers → AreWhole all →
+pub all_seen : (w : Workspace) (p : List ℕ) (numbers : List ℕ) (all i : Interfaces) → HoldsPackages w (BuildsOn w p) numbers → AreWhole all →
     AreShared w p numbers all i → AreSeen w (known_by all) p (name_in i) (interface_in i)
 all_seen w p numbers all i holds whole h r = elim (h.each r) [
   | inl s ↦ seen_by w p all i r whole s.0.builds_on s.1 (name_in all r) refl
   | inr s ↦ unseen_by w p all i r (λ on.
       let n = number w r (to_package w p r on.imported) in
-      s.0 (record { number = n.0; among = (holds n.0).1 (r, n.1, on.imported); has_path = n.1; builds_on = on })) s.1
+      s.0 (record { number = n.0; among = (holds n.0).1 (r, n.1, on); has_path = n.1; builds_on = on })) s.1
 ]

@@ -1,4 +1,5 @@
--- What a package builds on reaches fewer than it, so an order by how many each reaches has each behind those.
+-- What a package builds on reaches fewer than it, so an order by how many each reaches has each behind those; and so has an order by
+-- what packages reach.
 use Rattle.std.proofs.Common.{ℕ, ◌≡◌, ◌+◌, ◌<◌, ◌≤◌, ◌↔◌, inl, inr, Bool, false, List, [], ◌∷◌, ◌++◌, length, get_or, sym, ap, subst, ◌∙◌, arith, Result}
 use Rattle.std.proofs.Common.{Ok, Err, is_ok, IsTrue, MatchResult}
 use Rattle.std.specs.Prelude.{Contains, nat_eq, Some, slice_get}
@@ -17,9 +18,10 @@ use Rattle.std.proofs.lemmas.Map.Made.{length-le_from_is_member, is_member-Decid
 use Rattle.std.proofs.lemmas.Option.{same_Some, get_or_from_slice_get, slice_get-get_or, slice_get_within}
 use Rattle.gr_text.specs.Workspace.{Workspace}
 use Rattle.gr_text.specs.Packages.{package_paths}
-use Rattle.gr_graph.specs.Imports.{HoldsBelow}
-use Rattle.gr_graph.specs.Packages.{IsInClosure, itself}
-use Rattle.gr_graph.proofs.Asked.{number}
+use Rattle.gr_graph.specs.Imports.{Links, HoldsBelow}
+use Rattle.gr_graph.specs.Orders.{IsOrder}
+use Rattle.gr_graph.specs.Packages.{AreLinksOf, IsInClosure, itself}
+use Rattle.gr_graph.proofs.Asked.{number, reaches_are}
 use Rattle.gr_verdict.specs.Verdicts.{BuildsOn}
 use Rattle.gr_verdict.specs.Steps.{IsSize, AreSizes, IsBuildOrder}
 use Rattle.gr_verdict.proofs.Closed.{from_package, in_closure_then}
@@ -143,3 +145,15 @@ next_size w old new n size e h here =
             subst (IsSize w p) (sym last) (here p (subst (λ k. slice_get (package_paths w) k ≡ Some p) (sym is) at)))
       ]);
     }
+
+-- an order of packages by what they reach
+pub build_order : (w : Workspace) (g : Links) → AreLinksOf w g → (order : List ℕ) → IsOrder g order → IsBuildOrder w order
+build_order w g links order is = record {
+  each = λ n. (
+    λ has. subst (λ (k : ℕ). n < k) links.size ((is.each n).0 has),
+    λ lt. (is.each n).1 (subst (λ (k : ℕ). n < k) (sym links.size) lt),
+  );
+  once = is.once;
+  behind = λ i n m p q at at_n at_m on. is.behind i n m at ((reaches_are w g links n m p q at_n at_m).1 on.imported)
+      (λ back. on.not_back ((reaches_are w g links m n q p at_m at_n).0 back));
+}

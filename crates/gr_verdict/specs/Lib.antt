@@ -8,3 +8,4 @@ pub mod Told
 pub mod Found
 pub mod Steps
 pub mod Earlier
+pub mod Steady

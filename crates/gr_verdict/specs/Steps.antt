@@ -12,7 +12,7 @@ use Rattle.gr_graph.specs.Graphs.{HoldsPackages}
 use Rattle.gr_graph.specs.Packages.{IsInClosure}
 use Rattle.gr_graph.specs.Parsed.{AreParsed}
 use Rattle.gr_imports.specs.declared.states.ImportState.{ImportState}
-use Rattle.gr_declared.specs.InterfacesView.{name_in, interface_in, interface_of, KnowsSame, Shares, AddsInterface}
+use Rattle.gr_declared.specs.InterfacesView.{name_in, interface_in, interface_of, KnowsSame, AddsInterface}
 use Rattle.gr_declared.specs.Package.{Interface as Seen}
 use Rattle.gr_declared.specs.declared.interfaces.Interface.{Interface}
 use Rattle.gr_declared.specs.declared.interfaces.Interfaces.{Interfaces}
@@ -51,10 +51,6 @@ pub record IsBuildOrder (w : Workspace) (order : List ℕ) : Type 0 where
       (j : ℕ) × (j < i) × (slice_get order j ≡ Some m)
 
 -- What a package sees
-
--- what all know of q is shared, if p builds on q
-abbrev pub MayShare : Workspace → (p q : List ℕ) → (all old new : Interfaces) → Type 0
-MayShare w p q all old new = (BuildsOn w p q × Shares all old new q) ⊎ ((BuildsOn w p q → ⊥) × (new ≡ old))
 
 -- one of some packages, by their numbers, on which p builds
 pub record IsSharedOf (w : Workspace) (p : List ℕ) (numbers : List ℕ) (q : List ℕ) : Type 0 where

@@ -7,6 +7,7 @@ use Rattle.gr_scan.specs.declared.refusal.Fault.{Fault as TextFault}
 use Rattle.gr_tree.specs.Faults.{IsFaultOf}
 use Rattle.gr_tree.specs.SourceFile.{SourceFile, FileParts, source_of}
 use Rattle.gr_graph.specs.Packages.{PackageImports, IsInClosure}
+pub use Rattle.gr_graph.specs.Reaching.{BuildsOn}
 use Rattle.gr_graph.specs.Parsed.{AreParsed}
 use Rattle.gr_fault.specs.declared.fault.Fault.{Fault}
 use Rattle.gr_fault.specs.Stage.{FirstOf}
@@ -20,11 +21,6 @@ use Rattle.gr_meanings.specs.PackageOf.{IsPackageOf}
 use Rattle.gr_types.specs.Check.{IsLaterFault}
 use Rattle.gr_verdict.specs.declared.fault.FileFault.{FileFault}
 use Rattle.gr_verdict.specs.Faults.{placed, placed_in}
-
--- p builds on q: it imports q, directly or indirectly, and q does not so import p
-pub record BuildsOn (w : Workspace) (p q : List ℕ) : Type 0 where
-  pub imported : IsInClosure w p q
-  pub not_back : IsInClosure w q p → ⊥
 
 -- whether a package has faults, and what other packages see of it where it has none
 pub record Verdict : Type 0 where

@@ -6,6 +6,7 @@ ghost use Rattle.gr_graph.specs.Graphs.{OfPackage};
 ghost use Rattle.gr_declared.specs.InterfacesView.{name_in};
 ghost use Rattle.gr_verdict.specs.Earlier.{AreSteady, HaveSameImports};
 ghost use Rattle.gr_verdict.specs.Found.{IsFound, KnowsVerdicts};
+ghost use Rattle.gr_verdict.specs.Steady.{ArePassedBelow};
 ghost use Rattle.gr_verdict.specs.Told.{known_by, AreWhole};
 ghost use Rattle.gr_verdict.specs.Steps.{AreAllGathered, AreGathered, IsBuildOrder, IsGathered, IsJudged, MayAdd, Learns, LearnsOf, MayLearn, somes};
 
@@ -15,7 +16,7 @@ use crate::gathered::{Gathered, gather, known_now};
 use crate::judging::{Judged, judge};
 use crate::known::Known;
 use crate::order::order;
-use crate::steady::{is_steady, standing};
+use crate::steady::{Steady, is_steady, standing};
 use gr_declared::{Interface, Interfaces};
 use gr_expr::symbol::SharedPath;
 use gr_graph::Graph;
@@ -150,13 +151,14 @@ fn keep_or_judge(
     graph: &Graph,
     number: usize,
     earlier: &Earlier,
-    steady: &[bool],
+    steady: &Steady,
     all: &mut Gathered,
 ) -> Result<(), AllocError>
     requires in_range { number < length (package_paths graph.now) }
     requires all { AreGathered graph.now (length (package_paths graph.now)) all.old }
     requires same { HaveSameImports earlier.now.graph graph.now }
-    requires steady { AreSteady graph.now earlier.now.verdicts.items all.old steady.now }
+    requires steady { AreSteady graph.now earlier.now.verdicts.items all.old steady.now.marks.items }
+    requires below { OfPackage graph.now number (λ p. ArePassedBelow graph.now p number steady.now) }
     ensures { OnOk result (OfPackage graph.now number (λ p. MayLearn graph.now p number all.old all.new)) }
 {
     if all.knows(number) {
@@ -183,10 +185,11 @@ fn judge_changed(
     requires same { HaveSameImports earlier.now.graph graph.now }
     ensures { OnOk result (AreAllGathered graph.now order.now all.new) }
 {
-    let mut steady = vec![in alloc; false; graph.len()]?;
+    let mut steady = Steady::new(alloc, graph)?;
     for number in order {
         keep_or_judge(alloc, graph, *number, earlier, &steady, all)?;
-        steady[*number] = is_steady(earlier, graph, *number, &all.interfaces);
+        let same = is_steady(earlier, graph, *number, &all.interfaces);
+        steady.pass(alloc, graph, *number, same)?;
     }
     Ok(())
 }

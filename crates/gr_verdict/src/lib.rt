@@ -27,5 +27,5 @@ pub use findings::{Findings, Found, verdicts};
 pub use known::{Known, KnownVerdict};
 pub use marks::is_marked;
 pub use progress::Progress;
-pub use reaching::{is_among, reaches};
+pub use reaching::is_among;
 pub use seeing::{seen, seen_imports};

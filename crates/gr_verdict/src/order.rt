@@ -7,13 +7,14 @@ ghost use Rattle.gr_verdict.specs.Steps.{AreSizes, IsBuildOrder};
 use gr_graph::Graph;
 use std::alloc::{AllocError, Global};
 
-/// How many packages each one reaches.
+/// How many packages each one reaches: one search for each.
 fn sizes(alloc: Global, graph: &Graph) -> Result<Vec<usize>, AllocError>
     ensures { IfOk result (λ sizes. AreSizes graph.now (length (package_paths graph.now)) sizes.items) }
 {
     let mut sizes = Vec::new(alloc);
     for number in 0..graph.len() {
-        sizes.push(graph.closure(number).len())?;
+        let closure = graph.closure(alloc, number)?;
+        sizes.push(closure.as_slice().len())?;
     }
     Ok(sizes)
 }
@@ -39,11 +40,22 @@ fn numbers(alloc: Global, count: usize) -> Result<Vec<usize>, AllocError>
 }
 
 /// All packages, those first that reach the fewest: what a package builds on reaches fewer than it.
-pub(crate) fn order(alloc: Global, graph: &Graph) -> Result<Vec<usize>, AllocError>
+fn order_by_sizes(alloc: Global, graph: &Graph) -> Result<Vec<usize>, AllocError>
     ensures { IfOk result (λ order. IsBuildOrder graph.now order.items) }
 {
     let sizes = sizes(alloc, graph)?;
     let mut order = numbers(alloc, graph.len())?;
     order.sort_by_key(|number| size_at(&sizes, *number))?;
     Ok(order)
+}
+
+/// All packages, each behind those that it builds on. One search finds such an order; were there none, each package is searched from.
+pub(crate) fn order(alloc: Global, graph: &Graph) -> Result<Vec<usize>, AllocError>
+    ensures { IfOk result (λ order. IsBuildOrder graph.now order.items) }
+{
+    let found = graph.links().order(alloc)?;
+    match found {
+        Some(order) => Ok(order),
+        None => order_by_sizes(alloc, graph),
+    }
 }

@@ -2,38 +2,20 @@
 ghost use Rattle.std.specs.Prelude.{ℕ, ◌≡◌, ◌<◌, List, length, IfOk, OnOk};
 ghost use Rattle.gr_text.specs.Packages.{package_paths};
 ghost use Rattle.gr_graph.specs.Graphs.{OfPackage};
-ghost use Rattle.gr_graph.specs.Packages.{PackageImports, IsInClosure};
+ghost use Rattle.gr_graph.specs.Packages.{PackageImports};
+ghost use Rattle.gr_graph.specs.Reaching.{AreBackMarks};
 ghost use Rattle.gr_imports.specs.States.{state_in};
 ghost use Rattle.gr_imports.specs.declared.states.ImportState.TheVariants.{Missing};
 ghost use Rattle.gr_declared.specs.InterfacesView.{name_in, interface_in};
 ghost use Rattle.gr_verdict.specs.Verdicts.{IsStateOf, AreStates, AreSeen};
 ghost use Rattle.gr_verdict.specs.Told.{known_by, AreWhole};
-ghost use Rattle.gr_verdict.specs.Steps.{MayShare, KnowsSameOfOthers};
+ghost use Rattle.gr_verdict.specs.Steps.{KnowsSameOfOthers};
 
-use crate::reaching::reaches;
+use crate::marks::is_marked;
 use gr_declared::Interfaces;
 use gr_graph::Graph;
 use gr_imports::{ImportState, PackageNames};
 use std::alloc::{AllocError, Global};
-
-/// Shares what all know of a package in the closure of another with what that one sees, if that one builds on it.
-fn share(
-    alloc: Global,
-    seen: &mut Interfaces,
-    graph: &Graph,
-    number: usize,
-    other: usize,
-    all: &Interfaces,
-) -> Result<(), AllocError>
-    requires in_range { other < length (package_paths graph.now) }
-    requires in_closure { OfPackage graph.now number (λ p. OfPackage graph.now other (λ q. IsInClosure graph.now p q)) }
-    ensures { OnOk result (OfPackage graph.now number (λ p. OfPackage graph.now other (λ q. MayShare graph.now p q all.now seen.old seen.new))) }
-{
-    if reaches(graph, other, number) {
-        return Ok(());
-    }
-    seen.share(alloc, all, &graph.package(other).path)
-}
 
 /// What a package sees of others: the names and the interfaces of those without faults that it builds on. What the imported
 /// paths are is not noted.
@@ -49,19 +31,27 @@ pub fn seen(
     ensures states { IfOk result (λ i. (path : List ℕ) → state_in i.states path ≡ Missing) }
 {
     let mut seen = Interfaces::new(alloc);
-    for other in graph.closure(number) {
-        share(alloc, &mut seen, graph, number, *other, all)?;
+    let below = graph.built_on(alloc, number)?;
+    for other in below.as_slice() {
+        seen.share(alloc, all, &graph.package(*other).path)?;
     }
     Ok(seen)
 }
 
-/// What an imported package is to the one that imports it.
-fn state_of(graph: &Graph, number: usize, import: usize, all: &Interfaces) -> ImportState
+/// What an imported package is to the one that imports it. The marks tell which packages import that one.
+fn state_of(
+    graph: &Graph,
+    number: usize,
+    back: &[bool],
+    import: usize,
+    all: &Interfaces,
+) -> ImportState
     requires in_range { import < length (package_paths graph.now) }
+    requires back { OfPackage graph.now number (λ p. AreBackMarks graph.now p back.now) }
     requires imports { OfPackage graph.now number (λ p. OfPackage graph.now import (λ q. PackageImports graph.now p q)) }
     ensures { OfPackage graph.now number (λ p. OfPackage graph.now import (λ q. IsStateOf graph.now (known_by all.now) p q result)) }
 {
-    if reaches(graph, import, number) {
+    if is_marked(back, import) {
         return ImportState::OnCycle;
     }
     match all.name(&graph.package(import).path) {
@@ -83,9 +73,10 @@ fn note_imports(
     ensures states { OnOk result (OfPackage graph.now number (λ p. AreStates graph.now (known_by all.now) p (state_in seen.new.states))) }
     ensures kept { OnOk result (KnowsSameOfOthers seen.old seen.new) }
 {
+    let back = graph.back_marks(alloc, number)?;
     for import in graph.imports(number) {
         let path = Vec::from_slice(alloc, &graph.package(*import).path)?;
-        seen.note(path, state_of(graph, number, *import, all))?;
+        seen.note(path, state_of(graph, number, &back, *import, all))?;
     }
     Ok(())
 }

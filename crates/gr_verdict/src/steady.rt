@@ -1,21 +1,21 @@
 //! What of an earlier workspace stays: whether packages import the same, have the same files, and see the same. Each question here may
 //! be answered with no where it could be yes: only speed rests on that.
-ghost use Rattle.std.specs.Prelude.{ℕ, ◌≡◌, ◌<◌, ◌⊎◌, IsTrue, IfSome, length, map, slice_get};
+ghost use Rattle.std.specs.Prelude.{ℕ, ◌≡◌, ◌<◌, IsTrue, IfOk, IfSome, OnOk, length, map, slice_get, slice_set};
 ghost use Rattle.gr_text.specs.Packages.{package_files, package_paths};
 ghost use Rattle.gr_text.specs.Workspace.{Workspace};
 ghost use Rattle.gr_graph.specs.Graphs.{IsPackage, OfPackage};
-ghost use Rattle.gr_graph.specs.Packages.{IsInClosure};
 ghost use Rattle.gr_graph.specs.Search.{IsMarked};
-ghost use Rattle.gr_verdict.specs.Earlier.{AreMarkedBelow, AreTold, HaveSameImports, StandsWith, WasKnown, tree_file};
+ghost use Rattle.gr_verdict.specs.Earlier.{AreTold, HaveSameImports, StandsWith, WasKnown, tree_file};
+ghost use Rattle.gr_verdict.specs.Steady.{ArePassedBelow, Passes, Stirs};
 
 use crate::earlier::Earlier;
 use crate::known::KnownVerdict;
 use crate::marks::is_marked;
-use crate::reaching::reaches;
 use gr_alike::are_alike;
 use gr_declared::Interfaces;
 use gr_graph::{Graph, ImportLinks, Package};
 use gr_tree::FileTree;
+use std::alloc::{AllocError, Global};
 
 /// Whether the packages of a number have the same path.
 fn is_same_path(before: &Graph, after: &Graph, number: usize) -> bool
@@ -99,28 +99,52 @@ fn has_same_files(before: &Package, after: &Package) -> bool
     are_same_trees(&before.trees, &after.trees)
 }
 
-/// Whether a package is marked, or reaches another.
-fn is_marked_or_reaches(graph: &Graph, number: usize, other: usize, steady: &[bool]) -> bool
-    requires { other < length (package_paths graph.now) }
-    ensures { IsTrue result → IsMarked steady.now other ⊎ OfPackage graph.now other (λ q. OfPackage graph.now number (IsInClosure graph.now q)) }
-{
-    if is_marked(steady, other) {
-        return true;
-    }
-    reaches(graph, other, number)
+/// Of the packages that were passed those are marked of which the same was known; and those are stirred that reach one of which it was
+/// not.
+#[derive(Drop)]
+pub(crate) struct Steady {
+    pub(crate) marks: Vec<bool>,
+    pub(crate) stirred: Vec<bool>,
 }
 
-/// Whether all that a package builds on is marked.
-fn is_marked_below(graph: &Graph, number: usize, steady: &[bool]) -> bool
-    requires { number < length (package_paths graph.now) }
-    ensures { IsTrue result → OfPackage graph.now number (λ p. AreMarkedBelow graph.now p steady.now) }
-{
-    for other in graph.closure(number) {
-        if !is_marked_or_reaches(graph, number, *other, steady) {
-            return false;
-        }
+impl Steady {
+    /// No package was passed yet.
+    pub(crate) fn new(alloc: Global, graph: &Graph) -> Result<Steady, AllocError>
+        ensures none { IfOk result (λ steady. (n : ℕ) → IsMarked steady.marks.items n → ⊥) }
+        ensures stirs { IfOk result (Stirs graph.now) }
+    {
+        let marks = vec![in alloc; false; graph.len()]?;
+        let stirred = vec![in alloc; false; graph.len()]?;
+        Ok(Steady { marks, stirred })
     }
-    true
+
+    /// Passes a package.
+    pub(crate) fn pass(
+        &mut self,
+        alloc: Global,
+        graph: &Graph,
+        number: usize,
+        same: bool,
+    ) -> Result<(), AllocError>
+        requires number { number < length (package_paths graph.now) }
+        requires stirs { Stirs graph.now self.old }
+        ensures marks { OnOk result (self.new.marks.items ≡ slice_set self.old.marks.items number same) }
+        ensures stirs { OnOk result (Stirs graph.now self.new) }
+        ensures passes { OnOk result (Passes graph.now number self.old self.new) }
+    {
+        self.marks[number] = same;
+        if !same {
+            graph.mark_importing(alloc, &mut self.stirred, number)?;
+        }
+        Ok(())
+    }
+
+    /// Whether all that a package builds on is marked. All of it was passed.
+    fn is_marked_below(&self, number: usize) -> bool
+        ensures { IsTrue result → IsMarked self.now.stirred.items number → ⊥ }
+    {
+        !is_marked(&self.stirred, number)
+    }
 }
 
 /// What was known of a package, if its files are the same and all that it builds on is marked.
@@ -128,16 +152,17 @@ pub(crate) fn standing<'a>(
     earlier: &'a Earlier,
     graph: &Graph,
     number: usize,
-    steady: &[bool],
+    steady: &Steady,
 ) -> Option<&'a KnownVerdict>
     requires number { number < length (package_paths graph.now) }
     requires same { HaveSameImports earlier.now.graph graph.now }
-    ensures stands { IfSome result (λ one. OfPackage graph.now number (λ p. StandsWith earlier.now.graph graph.now steady.now p one.now)) }
+    requires below { OfPackage graph.now number (λ p. ArePassedBelow graph.now p number steady.now) }
+    ensures stands { IfSome result (λ one. OfPackage graph.now number (λ p. StandsWith earlier.now.graph graph.now steady.now.marks.items p one.now)) }
     ensures told { AreTold earlier.now.graph earlier.now.verdicts.items }
 {
     let verdict = earlier.verdict(number)?;
     let before = earlier.graph().package(number);
-    if has_same_files(before, graph.package(number)) && is_marked_below(graph, number, steady) {
+    if has_same_files(before, graph.package(number)) && steady.is_marked_below(number) {
         Some(verdict)
     } else {
         None

@@ -4,6 +4,8 @@ use Rattle.std.proofs.lemmas.List.{take_all}
 use Rattle.std.proofs.lemmas.List.Elements.{Contains-get_or}
 use Rattle.std.proofs.lemmas.Option.{slice_get_within}
 use Rattle.gr_text.specs.Packages.{package_paths}
+use Rattle.gr_graph.specs.Graphs.{HoldsPackages}
+use Rattle.gr_graph.specs.Packages.{IsInClosure}
 use Rattle.gr_tree.specs.SourceFile.{source_of}
 use Rattle.gr_meanings.proofs.BoundLists.{slice_get_some}
 use Rattle.gr_verdict.proofs.Members.{taken_or_next, still_taken, next_taken}
@@ -19,16 +21,17 @@ loop-other-init c = none_named c.args.graph.now _ c.new-packages.result refl c.n
 pub package-files-requires : goal.package-files-requires
 package-files-requires c =
     let w = c.args.graph.now in
-    let items = c.closure-other-items.result.now in
+    let items = c.as_slice-other-items.result.now in
     let n = get_or items c.loop-other.other-index 0 in
     let p = slice_get_some (package_paths w) c.args.number c.requires in
-    let s = (c.closure-other-items.ensures.closure p.0 p.1 n).0 (Contains-get_or items c.loop-other.other-index 0 (omega arith)) in
+    let s = (c.in_ok-closure.ensures.closure p.0 p.1 n).0
+    (rw (sym c.as_slice-other-items.ensures) (Contains-get_or items c.loop-other.other-index 0 (omega arith))) in
     slice_get_within (package_paths w) n s.0 s.1
 
 pub loop-other-preserved : goal.loop-other-preserved
 loop-other-preserved c =
     let w = c.args.graph.now in
-    let items = c.closure-other-items.result.now in
+    let items = c.as_slice-other-items.result.now in
     let k = c.loop-other.other-index in
     let lt : k < length items = omega arith in
     let n = get_or items k 0 in
@@ -54,7 +57,8 @@ loop-other-preserved c =
 pub returns : goal.returns
 returns c = λ p at.
     let w = c.args.graph.now in
-    let items = c.closure-other-items.result.now in
+    let items = c.as_slice-other-items.result.now in
     let packages = c.loop-other.packages in
-    all_named w p items packages (c.closure-other-items.ensures.closure p at)
+    all_named w p items packages
+    (subst (HoldsPackages w (IsInClosure w p)) (sym c.as_slice-other-items.ensures) (c.in_ok-closure.ensures.closure p at))
     (subst (λ l. AreNamed w l packages) (take_all c.loop-other.other-index items (omega arith)) c.loop-other.invariant)

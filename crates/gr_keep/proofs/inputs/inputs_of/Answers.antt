@@ -1,11 +1,13 @@
 -- The files of the closure are those of its packages.
 use Rattle.std.proofs.Common.{[], get_or, sym, subst}
 use Rattle.std.specs.FinMap.{entries}
+use Rattle.std.specs.List.Sorted.{IsStrictlyIncreasing}
 use Rattle.std.proofs.lemmas.List.Elements.{Contains-get_or}
 use Rattle.std.proofs.lemmas.Option.{slice_get-get_or, slice_get_within}
 use Rattle.gr_text.specs.Packages.{package_paths}
 use Rattle.gr_text.specs.Workspace.{Workspace}
-use Rattle.gr_graph.specs.Packages.{AreClosureTexts}
+use Rattle.gr_graph.specs.Graphs.{HoldsPackages}
+use Rattle.gr_graph.specs.Packages.{AreClosureTexts, IsInClosure}
 use Rattle.gr_graph.proofs.Asked.{at_contains}
 use Rattle.gr_graph.proofs.Filled.{ok_both}
 use Rattle.gr_keep.proofs.PartFiles.{closure_files_of}
@@ -16,13 +18,15 @@ part-requires c =
     let w = c.args.graph.now in
     let p = get_or (package_paths w) c.args.number [] in
     let at = slice_get-get_or (package_paths w) c.args.number [] c.requires in
-    let numbers = c.closure.result.now in
+    let numbers = c.as_slice.result.now in
+    let is = c.as_slice.ensures in
+    let holds = subst (HoldsPackages w (IsInClosure w p)) (sym is) (c.in_ok-closure.ensures.closure p at) in
     record {
       numbers = λ i d lt.
-          let s = (c.closure.ensures.closure p at (get_or numbers i d)).0 (Contains-get_or numbers i d lt) in
+          let s = (holds (get_or numbers i d)).0 (Contains-get_or numbers i d lt) in
           slice_get_within (package_paths w) (get_or numbers i d) s.0 s.1;
-      rising = c.closure.ensures.rising;
-      files = closure_files_of w p numbers c.in_ok-files.files (c.in_ok-files.ensures p at) (c.closure.ensures.closure p at);
+      rising = subst IsStrictlyIncreasing (sym is) c.in_ok-closure.ensures.rising;
+      files = closure_files_of w p numbers c.in_ok-files.files (c.in_ok-files.ensures p at) holds;
     }
 
 pub returns : goal.returns

@@ -1,6 +1,6 @@
 -- The verdict of before, where the closure stays.
 use Rattle.std.proofs.Common.{◌≡◌, Some, slice_get, sym, ap, subst, ◌∙◌}
-use Rattle.std.proofs.lemmas.Option.{none-some, same_Some, slice_get_within}
+use Rattle.std.proofs.lemmas.Option.{none-some, same_Some}
 use Rattle.gr_text.specs.Packages.{package_paths}
 use Rattle.gr_graph.proofs.Asked.{at_contains}
 use Rattle.gr_verdict.specs.Told.{TellsVerdict}
@@ -13,9 +13,6 @@ returns-in_default c = λ p at one is. absurd (none-some one is)
 pub returns-in_default-get : goal.returns-in_default-get
 returns-in_default-get c = λ p at one is. absurd (none-some one is)
 
-pub keeps_texts-requires-clause-old : goal.keeps_texts-requires-clause-old
-keeps_texts-requires-clause-old c = slice_get_within (package_paths c.args.before.now) c.in-Some.old _ c.in-Some.ensures
-
 pub returns-then-not-keeps_texts : goal.returns-then-not-keeps_texts
 returns-then-not-keeps_texts c = λ p at one is. absurd (none-some one is)
 
@@ -27,4 +24,5 @@ returns c = λ p at one is.
     let before : slice_get (package_paths v) old ≡ Some p = c.in-Some.ensures ∙ ap Some path in
     let told = c.requires.known old p c.in-Some-get.verdict.now before c.in-Some-get.ensures in
     let tells = subst (TellsVerdict v p) (sym c.in_ok-verdict.ensures.cases ∙ same_Some c.in_ok-verdict.verdict one is) told in
-    told_there v c.args.after.now p one (at_contains v old p before) (c.keeps_texts.ensures.0 c.if-not-keeps_texts.false p before) tells
+    let kept = c.keeps_texts.ensures v c.args.after.now c.requires.before_marks c.requires.after_marks p before at in
+    told_there v c.args.after.now p one (at_contains v old p before) (kept.0 c.if-not-keeps_texts.false) tells

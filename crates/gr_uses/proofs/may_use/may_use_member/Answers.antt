@@ -5,14 +5,14 @@ use Rattle.gr_bound.specs.Workspaces.{known_in}
 use Rattle.gr_uses.proofs.MayUse.{member_reached, one_used}
 use Rattle.gr_uses.proofs.may_use.may_use_member.Goals as goal
 
-pub returns-then-reaches : goal.returns-then-reaches
-returns-then-reaches c = λ p is file token d m at. elim (cases_Bool c.uses_members.result) [
+pub returns-then-is_marked : goal.returns-then-is_marked
+returns-then-is_marked c = λ p is file token d m at. elim (cases_Bool c.uses_members.result) [
   | inl holds ↦ holds
   | inr none ↦ absurd (one_used c.args.graph.now (known_in c.args.found.now) c.requires.sound.findings.right c.args.number p is c.members_of.result.now
       (c.members_of.ensures p is) file token d m (c.uses_members.ensures none file))
 ]
 
-pub returns-else-reaches : goal.returns-else-reaches
-returns-else-reaches c = λ p is file token d m at.
+pub returns-else-is_marked : goal.returns-else-is_marked
+returns-else-is_marked c = λ p is file token d m at.
     let r = member_reached c.args.graph.now (known_in c.args.found.now) c.requires.sound.findings.right c.args.number p is c.args.home file token d m at in
-    (c.reaches.ensures p.path is.has_number r.0 r.1.0).1 r.1.1
+    c.is_marked.ensures.1 (((c.requires.importing r.0 r.1.0).each c.args.number p.path is.has_number).1 r.1.1)

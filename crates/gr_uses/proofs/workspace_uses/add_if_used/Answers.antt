@@ -7,7 +7,12 @@ use Rattle.gr_bound.proofs.Adding.{adds_none}
 use Rattle.gr_uses.proofs.workspace_uses.add_if_used.Goals as goal
 
 pub may_use-requires : goal.may_use-requires
-may_use-requires c = record { in_range = c.requires.numbered.in_range; sound = c.requires.numbered.sound; home = c.requires.sought.home }
+may_use-requires c = record {
+  in_range = c.requires.numbered.in_range;
+  sound = c.requires.numbered.sound;
+  home = c.requires.sought.home;
+  importing = c.requires.sought.importing;
+}
 
 pub returns-else-may_use : goal.returns-else-may_use
 returns-else-may_use c =

@@ -1,11 +1,16 @@
 -- The answers to the goals of `workspace_uses::list_everywhere`.
 use Rattle.std.proofs.Common.{sym, subst}
 use Rattle.gr_bound.specs.Workspaces.{known_in, ListsFound}
+use Rattle.gr_uses.specs.Importing.{AreImporting}
 use Rattle.gr_asked.proofs.Asking.{lists_found}
 use Rattle.gr_uses.proofs.workspace_uses.list_everywhere.Goals as goal
 
 pub add_all_uses-requires-clause-sought : goal.add_all_uses-requires-clause-sought
-add_all_uses-requires-clause-sought c = record { name = c.requires.name; home = c.home_of-home.ensures }
+add_all_uses-requires-clause-sought c = record {
+  name = c.requires.name;
+  home = c.home_of-home.ensures;
+  importing = subst (AreImporting c.args.graph.now c.home_of-home.result) (sym c.deref.ensures.value) c.in_ok-importing.ensures;
+}
 
 pub returns : goal.returns
 returns c =

@@ -1,11 +1,16 @@
 -- The answers to the goals of `workspace_uses::list_named`.
 use Rattle.std.proofs.Common.{sym, subst}
 use Rattle.gr_bound.specs.Workspaces.{known_in, ListsFound}
+use Rattle.gr_uses.specs.Importing.{AreImporting}
 use Rattle.gr_asked.proofs.Asking.{lists_found}
 use Rattle.gr_uses.proofs.workspace_uses.list_named.Goals as goal
 
 pub add_uses_beyond-requires-clause-sought : goal.add_uses_beyond-requires-clause-sought
-add_uses_beyond-requires-clause-sought c = record { name = c.requires.name; home = c.home_of-home.ensures }
+add_uses_beyond-requires-clause-sought c = record {
+  name = c.requires.name;
+  home = c.home_of-home.ensures;
+  importing = subst (AreImporting c.args.read.graph.now c.home_of-home.result) (sym c.deref.ensures.value) c.in_ok-importing.ensures;
+}
 
 pub returns : goal.returns
 returns c =

@@ -21,7 +21,7 @@ returns-in-Some c = λ p at.
         finding = one.finding;
         is_set = c.in_ok-keep.ensures.findings;
         learns = stands_learnt c.args.earlier.now.graph c.args.graph.now c.requires.same c.args.earlier.now.verdicts.items c.in-Some.ensures.told
-            c.args.steady.now old c.requires.steady p one new c.requires.all.verdicts.whole (c.in-Some.ensures.stands p at)
+            c.args.steady.now.marks.items old c.requires.steady p one new c.requires.all.verdicts.whole (c.in-Some.ensures.stands p at)
             (subst (λ (q : List ℕ). Shares one.interfaces old.interfaces new.interfaces q) path c.in_ok-keep.ensures.interfaces);
       },
     )

@@ -1,12 +1,12 @@
 -- The answers to the goals of `order::order`.
-use Rattle.std.proofs.Common.{get_or, rules}
-use Rattle.std.proofs.lemmas.List.Sorted.{IsNonDecreasingBy-from_sort_by_key}
-use Rattle.gr_verdict.proofs.Sizes.{order_is}
+use Rattle.std.proofs.Common.{subst}
+use Rattle.std.specs.Prelude.{IfSome}
+use Rattle.gr_graph.specs.Orders.{IsOrder}
+use Rattle.gr_verdict.proofs.Sizes.{build_order}
 use Rattle.gr_verdict.proofs.order.order.Goals as goal
 
-pub returns : goal.returns
-returns c =
-    let sizes = c.in_ok-sizes.sizes.items in
-    let sorted = IsNonDecreasingBy-from_sort_by_key (λ n. get_or sizes n 0) _ c.in_ok-sort_by_key.ensures.sorted (λ a r q k. search rules) in
-    order_is c.args.graph.now c.len.result sizes c.in_ok-order.order.items _ c.len.ensures c.in_ok-sizes.ensures c.in_ok-order.ensures
-    c.in_ok-sort_by_key.ensures.permutation sorted
+pub returns-in-Some : goal.returns-in-Some
+returns-in-Some c =
+    let g = c.links.result.now in
+    build_order c.args.graph.now g c.links.ensures.links c.in-Some.order.items
+    (subst (λ found. IfSome found (λ order. IsOrder g order.items)) c.in-Some.is c.in_ok-found.ensures)

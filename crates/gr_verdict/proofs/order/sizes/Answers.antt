@@ -1,5 +1,5 @@
 -- The answers to the goals of `order::sizes`.
-use Rattle.std.proofs.Common.{ap, arith, refl}
+use Rattle.std.proofs.Common.{ap, arith}
 use Rattle.std.specs.Prelude.{length}
 use Rattle.gr_verdict.proofs.Sizes.{next_size}
 use Rattle.gr_verdict.proofs.order.sizes.Goals as goal
@@ -9,6 +9,12 @@ loop-number-init c = record { size = ap length c.new-sizes.ensures.items; each =
 
 pub loop-number-preserved : goal.loop-number-preserved
 loop-number-preserved c =
-    next_size c.args.graph.now c.loop-number.sizes.items c.push.new.self.items c.loop-number.number (length c.closure.result.now) c.in_ok-push.ensures.items
-    c.loop-number.invariant
-    (λ p at. record { numbers = c.closure.result.now; rising = c.closure.ensures.rising; holds = c.closure.ensures.closure p at; is = refl })
+    let closure = c.in_ok-closure.closure in
+    next_size c.args.graph.now c.loop-number.sizes.items c.push.new.self.items c.loop-number.number (length c.as_slice.result.now)
+    c.in_ok-push.ensures.items c.loop-number.invariant
+    (λ p at. record {
+      numbers = closure;
+      rising = c.in_ok-closure.ensures.rising;
+      holds = c.in_ok-closure.ensures.closure p at;
+      is = ap length c.as_slice.ensures;
+    })

@@ -1,11 +1,13 @@
 -- The answers to the goals of `seeing::seen`.
-use Rattle.std.proofs.Common.{◌+◌, ◌<◌, take, length, get_or, refl, sym, subst, ◌∙◌, arith}
+use Rattle.std.proofs.Common.{◌≡◌, ◌+◌, ◌<◌, take, length, get_or, refl, sym, subst, ◌∙◌, arith}
 use Rattle.std.proofs.lemmas.List.{take_all}
 use Rattle.std.proofs.lemmas.List.Elements.{Contains-get_or}
 use Rattle.std.proofs.lemmas.Option.{same_Some, slice_get_within}
 use Rattle.gr_text.specs.Packages.{package_paths}
-use Rattle.gr_graph.specs.Packages.{IsInClosure}
+use Rattle.gr_graph.specs.Graphs.{HoldsPackages}
+use Rattle.gr_declared.specs.InterfacesView.{Shares}
 use Rattle.gr_meanings.proofs.BoundLists.{slice_get_some}
+use Rattle.gr_verdict.specs.Verdicts.{BuildsOn}
 use Rattle.gr_verdict.proofs.Members.{taken_or_next, still_taken, next_taken}
 use Rattle.gr_verdict.proofs.Sharing.{none_shared, shared_next, all_seen, AreShared}
 use Rattle.gr_verdict.proofs.seeing.seen.Goals as goal
@@ -14,40 +16,39 @@ pub loop-other-init : goal.loop-other-init
 loop-other-init c = λ p at. none_shared c.args.graph.now p _ c.args.all.now c.new-seen.result refl c.new-seen.ensures.names c.new-seen.ensures.interfaces
     c.new-seen.ensures.states
 
-pub share-requires : goal.share-requires
-share-requires c =
+pub package-requires : goal.package-requires
+package-requires c =
     let w = c.args.graph.now in
-    let items = c.closure-other-items.result.now in
+    let items = c.as_slice-other-items.result.now in
     let k = c.loop-other.other-index in
-    let own = Contains-get_or items k 0 (omega arith) in
-    record {
-      in_range =
-          let p = slice_get_some (package_paths w) c.args.number c.requires.in_range in
-          let s = (c.closure-other-items.ensures.closure p.0 p.1 (get_or items k 0)).0 own in
-          slice_get_within (package_paths w) (get_or items k 0) s.0 s.1;
-      in_closure = λ p at q there.
-          let s = (c.closure-other-items.ensures.closure p at (get_or items k 0)).0 own in
-          subst (IsInClosure w p) (same_Some s.0 q (sym s.1 ∙ there)) s.2;
-    }
+    let own = rw (sym c.as_slice-other-items.ensures) (Contains-get_or items k 0 (omega arith)) in
+    let p = slice_get_some (package_paths w) c.args.number c.requires.in_range in
+    let s = (c.in_ok-below.ensures.below p.0 p.1 (get_or items k 0)).0 own in
+    slice_get_within (package_paths w) (get_or items k 0) s.0 s.1
 
 pub loop-other-preserved : goal.loop-other-preserved
 loop-other-preserved c = λ p at.
     let w = c.args.graph.now in
-    let items = c.closure-other-items.result.now in
+    let all = c.args.all.now in
+    let items = c.as_slice-other-items.result.now in
     let k = c.loop-other.other-index in
     let lt : k < length items = omega arith in
     let n = get_or items k 0 in
-    let s = (c.closure-other-items.ensures.closure p at n).0 (Contains-get_or items k 0 lt) in
+    let old = c.loop-other.seen in
+    let new = c.share.new.self in
+    let s = (c.in_ok-below.ensures.below p at n).0 (rw (sym c.as_slice-other-items.ensures) (Contains-get_or items k 0 lt)) in
+    let path : c.deref.result.now ≡ s.0 = c.deref.ensures.value ∙ same_Some c.package.result.now.path.items s.0 (sym c.package.ensures.path ∙ s.1) in
     shared_next w p (take k items) (take (k + 1) items) n s.0 s.1 (λ m h. taken_or_next items k 0 m lt h) (λ m h. still_taken items k 0 m lt h)
-    (next_taken items k 0 lt) c.args.all.now c.loop-other.seen c.share.new.seen
-    (c.in_ok-share.ensures p at s.0 s.1) (c.loop-other.invariant p at)
+    (next_taken items k 0 lt) all old new s.2 (subst (Shares all old new) path c.in_ok-share.ensures.shared) (c.loop-other.invariant p at)
 
 pub returns-clause-seen : goal.returns-clause-seen
 returns-clause-seen c = λ p at.
-    let items = c.closure-other-items.result.now in
-    let whole = subst (λ l. AreShared c.args.graph.now p l c.args.all.now c.loop-other.seen) (take_all c.loop-other.other-index items (omega arith))
+    let w = c.args.graph.now in
+    let items = c.as_slice-other-items.result.now in
+    let whole = subst (λ l. AreShared w p l c.args.all.now c.loop-other.seen) (take_all c.loop-other.other-index items (omega arith))
     (c.loop-other.invariant p at) in
-    all_seen c.args.graph.now p items c.args.all.now c.loop-other.seen (c.closure-other-items.ensures.closure p at) c.requires.whole whole
+    all_seen w p items c.args.all.now c.loop-other.seen
+    (subst (HoldsPackages w (BuildsOn w p)) (sym c.as_slice-other-items.ensures) (c.in_ok-below.ensures.below p at)) c.requires.whole whole
 
 pub returns-clause-states : goal.returns-clause-states
 returns-clause-states c =

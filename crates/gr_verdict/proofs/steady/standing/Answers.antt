@@ -1,5 +1,5 @@
 -- The answers to the goals of `steady::standing`.
-use Rattle.std.proofs.Common.{◌≡◌, Some, slice_get, sym, ap, subst, ◌∙◌}
+use Rattle.std.proofs.Common.{◌≡◌, inl, inr, Some, slice_get, sym, ap, subst, ◌∙◌}
 use Rattle.std.proofs.lemmas.Option.{same_Some}
 use Rattle.gr_text.specs.Packages.{package_files}
 use Rattle.gr_graph.specs.Graphs.{IsPackage}
@@ -19,5 +19,8 @@ returns-then-is_marked_below-clause-stands c = λ p at.
       files = ap (package_files v) (same_Some p before.path.items (sym there ∙ is.path)) ∙ files ∙
           ap (package_files w) (same_Some after.path.items p (sym c.package.ensures.path ∙ at));
       told = c.in_ok-verdict.ensures.told n p c.in_ok-verdict.verdict.now there c.in_ok-verdict.ensures.verdict;
-      below = c.is_marked_below.ensures c.if-is_marked_below.true p at;
+      below = λ m q there on. elim (c.requires.below p at m q there on) [
+        | inl marked ↦ marked
+        | inr stirred ↦ absurd (c.is_marked_below.ensures c.if-is_marked_below.true stirred)
+      ];
     }

@@ -1,22 +1,23 @@
--- The closure that was found.
-use Rattle.std.proofs.Common.{◌<◌, length, sym, subst}
+-- The closure that is found.
+use Rattle.std.proofs.Common.{◌<◌, length, sym, subst, ◌∙◌}
 use Rattle.std.specs.List.Sorted.{IsStrictlyIncreasing}
+use Rattle.std.proofs.lemmas.Result.{IfOk-weaker}
 use Rattle.gr_graph.specs.Imports.{Links, IsClosure}
-use Rattle.gr_graph.proofs.Answered.{closure_read}
+use Rattle.gr_graph.specs.Closures.{IsClosed}
 use Rattle.gr_graph.proofs.import_links.ImportLinks.closure.Goals as goal
+
+pub closure_of-requires : goal.closure_of-requires
+closure_of-requires c = record {
+  linked = rw c.deref.ensures.value c.self.invariant.linked;
+  number = subst (λ (g : Links). c.args.number < length g) (sym (c.deref.ensures.value ∙ c.self.view_is)) c.requires;
+}
 
 pub returns-clause-closure : goal.returns-clause-closure
 returns-clause-closure c =
-    let g = c.self.inside.imports.items in
     let number = c.args.number in
-    let within = subst (λ (h : Links). number < length h) (sym c.self.view_is) c.requires in
-    let closed = closure_read g c.self.inside.closures.items number c.index.result.now c.self.invariant.closures within c.index.ensures in
-    subst (λ (h : Links). IsClosure h number c.as_slice.result.now) c.self.view_is (subst (IsClosure g number) (sym c.as_slice.ensures) closed.reached)
+    IfOk-weaker c.closure_of.result (IsClosed c.deref.result.now number) (IsClosure c.args.self.now number)
+    (λ closure is. subst (λ (g : Links). IsClosure g number closure) (c.deref.ensures.value ∙ c.self.view_is) is.reached) c.closure_of.ensures
 
 pub returns-clause-rising : goal.returns-clause-rising
 returns-clause-rising c =
-    let g = c.self.inside.imports.items in
-    let number = c.args.number in
-    let within = subst (λ (h : Links). number < length h) (sym c.self.view_is) c.requires in
-    let closed = closure_read g c.self.inside.closures.items number c.index.result.now c.self.invariant.closures within c.index.ensures in
-    subst IsStrictlyIncreasing (sym c.as_slice.ensures) closed.rising
+    IfOk-weaker c.closure_of.result (IsClosed c.deref.result.now c.args.number) IsStrictlyIncreasing (λ closure is. is.rising) c.closure_of.ensures
