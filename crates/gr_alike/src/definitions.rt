@@ -12,9 +12,9 @@ use gr_expr::types::{GoType, Signature};
 use gr_expr::world::{Definition, Field, Method, Underlying};
 use std::collections::BTreeMap;
 
-type Fields = BTreeMap<Vec<u8>, Field>;
+type FieldPairs = BTreeMap<Vec<u8>, Field>;
 
-type Methods = BTreeMap<Vec<u8>, Method>;
+type MethodPairs = BTreeMap<Vec<u8>, Method>;
 
 fn is_same_symbol(one: &Symbol, other: &Symbol) -> bool
     ensures { IsTrue result ↔ (one.now ≡ other.now) }
@@ -99,13 +99,13 @@ impl Alike for Method {
     }
 }
 
-fn are_same_fields(one: &Fields, other: &Fields) -> bool
+fn are_same_fields(one: &FieldPairs, other: &FieldPairs) -> bool
     ensures { IsTrue result ↔ (map (entry_value field_of) one.now.entries ≡ map (entry_value field_of) other.now.entries) }
 {
     are_maps_alike(one, other)
 }
 
-fn are_same_methods(one: &Methods, other: &Methods) -> bool
+fn are_same_methods(one: &MethodPairs, other: &MethodPairs) -> bool
     ensures { IsTrue result ↔ (map (entry_value method_of) one.now.entries ≡ map (entry_value method_of) other.now.entries) }
 {
     are_maps_alike(one, other)

@@ -10,7 +10,11 @@ use Rattle.std.proofs.lemmas.Option.{same_Some, none-some, slice_get_within, sli
 use Rattle.gr_text.specs.declared.place.Place.{Place}
 use Rattle.gr_bound.specs.Places.{place_cmp}
 use Rattle.gr_bound.proofs.PlaceOrder.{place_cmp_total, place_cmp_exact}
-use Rattle.gr_conflict.specs.Firsts.{IsNotBefore, IsFirstPlace, IsEarlier, IsAmong}
+use Rattle.gr_conflict.specs.Firsts.{IsNotBefore, IsFirstPlace, IsEarlier}
+
+-- one of the first places of a list
+abbrev pub IsAmong : List Place → (count : ℕ) → Place → Type 0
+IsAmong places count x = (k : ℕ) × ((k < count) × (slice_get places k ≡ Some x))
 
 equal_less : Equal ≡ Less → ⊥
 equal_less e = true≢false (sym (ap is_lt e))

@@ -1,5 +1,5 @@
 -- The first of some places, by their paths' bytes and their offsets.
-use Rattle.std.specs.Prelude.{ℕ, ◌≡◌, ◌⊎◌, ◌<◌, List, Option, Some, MatchOption, slice_get}
+use Rattle.std.specs.Prelude.{◌≡◌, ◌⊎◌, Option, Some, MatchOption}
 use Rattle.std.specs.declared.cmp.Ordering.TheVariants.{Less}
 use Rattle.gr_text.specs.declared.place.Place.{Place}
 use Rattle.gr_bound.specs.Places.{place_cmp}
@@ -17,7 +17,3 @@ pub record IsEarlier (old : Option Place) (place x : Place) : Type 0 where
   pub one : (x ≡ place) ⊎ (old ≡ Some x)
   pub this : IsNotBefore place x
   pub other : (y : Place) → old ≡ Some y → IsNotBefore y x
-
--- one of the first places of a list
-abbrev pub IsAmong : List Place → (count : ℕ) → Place → Type 0
-IsAmong places count x = (k : ℕ) × ((k < count) × (slice_get places k ≡ Some x))

@@ -36,7 +36,7 @@ use std::alloc::{AllocError, Global};
 
 /// A name that is seen in other packages, with the path of its package.
 #[derive(Clone, Copy)]
-struct Export<'a> {
+struct OldExport<'a> {
     path: &'a [u8],
     name: &'a [u8],
 }
@@ -128,7 +128,7 @@ fn note_by_package(
     alloc: Global,
     first: &mut Option<Conflict>,
     judge: &Judge<'_, '_, '_>,
-    export: Export<'_>,
+    export: OldExport<'_>,
     place: Place,
     old: &Declaration,
 ) -> Result<(), AllocError>
@@ -162,7 +162,7 @@ fn judge_exported(
     match beginning(of.unit, of.u)? {
         None => Ok(()),
         Some(place) => {
-            let export = Export {
+            let export = OldExport {
                 path: of.behind,
                 name: of.unit.table.name(of.u),
             };

@@ -7,10 +7,14 @@ use Rattle.std.proofs.lemmas.List.{get_or-set_same, get_or-set_other, get_or_app
 use Rattle.std.proofs.lemmas.List.Sums.{sum_by-set}
 use Rattle.std.specs.List.{count_by}
 use Rattle.std.specs.List.{Contains}
-use Rattle.std.specs.Prelude.{◌↔◌}
+use Rattle.std.specs.Prelude.{◌↔◌, slice_index_or}
 use Rattle.std.specs.Global.{Vec}
 use Rattle.std.proofs.lemmas.List.Elements.{Contains-get_or}
-use Rattle.gr_declared.specs.Spread.{IsMarked, IsListed, Marks, IsFollowed, IsOrdered, IsOrderOf, Leads, IsReached, first, behind}
+use Rattle.gr_declared.specs.Spread.{IsMarked, IsListed, Marks, IsOrdered, IsOrderOf, Leads, IsReached, first, behind}
+
+-- all that the first of what was found lead to is marked
+abbrev pub IsFollowed : List (Vec ℕ) → List ℕ → List Bool → ℕ → Type 0
+IsFollowed links found marks count = (i q : ℕ) → i < count → Leads links (slice_index_or found i 0) q → IsMarked marks q
 
 pub marked_within : (marks : List Bool) (q : ℕ) → IsMarked marks q → q < length marks
 marked_within marks q m = elim (cases_lt q (length marks)) [ inl h ↦ h | inr h ↦ absurd (false≢true (sym (get_or_past marks q false h) ∙ m)) ]

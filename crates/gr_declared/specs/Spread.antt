@@ -33,10 +33,6 @@ pub record Marks (found : List ℕ) (marks : List Bool) (more : List ℕ) (marke
   pub holds : (q : ℕ) → P q → IsMarked marked q
   pub only : (q : ℕ) → IsMarked marked q → IsMarked marks q ⊎ P q
 
--- all that the first of what was found lead to is marked
-abbrev pub IsFollowed : List (Vec ℕ) → List ℕ → List Bool → ℕ → Type 0
-IsFollowed links found marks count = (i q : ℕ) → i < count → Leads links (slice_index_or found i 0) q → IsMarked marks q
-
 -- what begins, and what it leads to, directly or through others
 pub data IsReached (links : List (Vec ℕ)) (Begins : ℕ → Type 0) : ℕ → Type 0 where
   first : {q : ℕ} → Begins q → IsReached links Begins q

@@ -10,6 +10,7 @@ pub mod PackagePaths
 pub mod Filled
 pub mod Numbers
 pub mod Collected
+pub mod SortedLists
 pub mod OneFile
 pub mod ImportedPaths
 pub mod Linked

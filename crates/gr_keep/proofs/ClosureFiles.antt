@@ -19,9 +19,21 @@ use Rattle.gr_graph.proofs.Asked.{number}
 use Rattle.gr_verdict.proofs.Closed.{to_package}
 use Rattle.gr_verdict.proofs.Members.{nothing_in, first_in, later_in, first_or_later, passes}
 use Rattle.gr_keep.specs.Changes.{HasText}
-use Rattle.gr_keep.specs.Inputs.{faulty_file, IsPartOf, Adds, AreGathered}
+use Rattle.gr_keep.specs.Inputs.{faulty_file, IsPartOf, Adds}
 use Rattle.gr_verdict.specs.Earlier.{tree_file}
 use Rattle.gr_edit.proofs.Entries.{exact_path, same_path, entry_of, get_entry}
+
+-- a file of one of some packages, by their numbers
+pub record IsFileOf (w : Workspace) (numbers : List ℕ) (file : List ℕ × List ℕ) : Type 0 where
+  pub number : ℕ
+  pub path : List ℕ
+  pub among : Contains numbers number
+  pub has_path : slice_get (package_paths w) number ≡ Some path
+  pub of_package : Contains (package_files w path) file
+
+-- exactly the files of some packages
+abbrev pub AreGathered : Workspace → List ℕ → Workspace → Type 0
+AreGathered w numbers files = (e : List ℕ × List ℕ) → HasText files e ↔ IsFileOf w numbers e
 
 -- ---- one file more
 module _ (w old : Workspace) (d : List ℕ × List ℕ) (part : IsPartOf old w) (has : HasText w d) where

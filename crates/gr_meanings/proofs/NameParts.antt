@@ -23,10 +23,15 @@ use Rattle.gr_declared.specs.Bound.{IsMeantBy}
 use Rattle.gr_declared.specs.ByToken.{IsFirstBelow}
 use Rattle.gr_meanings.specs.BoundsView.{Extends}
 use Rattle.gr_meanings.specs.Worlds.{IsSelected, IsBoundAt, by_scope, by_package, IsName, is_bound, is_unbound}
-use Rattle.gr_meanings.specs.NamesView.{tokens_at, bound_by, IsBehindDot, IsBoundInScope, IsScopeFound, IsPlaced, IsNameAt, AreNamesBelow, AreNames}
+use Rattle.gr_meanings.specs.NamesView.{tokens_at, bound_by, IsBehindDot, IsBoundInScope, IsScopeFound, IsPlaced, IsNameAt, AreNames}
 use Rattle.gr_declared.proofs.Binding.{one_first}
 use Rattle.gr_meanings.proofs.BoundLists.{bound_stays, slice_get_some}
 use Rattle.gr_declared.proofs.Paths.{get_before, get_last}
+
+-- the names at the tokens below n
+pub record AreNamesBelow (p : Package) (file n : ℕ) (list : List Bound) (names : List Name) : Type 0 where
+  pub all : length names ≡ n
+  pub each : (token : ℕ) (name : Name) → slice_get names token ≡ Some name → IsNameAt p file token list name
 
 -- names behind dots
 

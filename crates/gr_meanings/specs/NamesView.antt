@@ -50,11 +50,6 @@ pub record IsNameAt (p : Package) (file token : ℕ) (list : List Bound) (name :
   pub placed : IsPlaced p file token list name.bound
   pub spelling : name.spelling.now ≡ spelled p file token
 
--- the names at the tokens below n
-pub record AreNamesBelow (p : Package) (file n : ℕ) (list : List Bound) (names : List Name) : Type 0 where
-  pub all : length names ≡ n
-  pub each : (token : ℕ) (name : Name) → slice_get names token ≡ Some name → IsNameAt p file token list name
-
 -- the names at all tokens of a file
 pub record AreNames (p : Package) (file : ℕ) (list : List Bound) (names : List Name) : Type 0 where
   pub bound : (token : ℕ) → IsName p file token (bound_by list (bound_index (slice_get names token)))

@@ -12,10 +12,31 @@ use Rattle.gr_declared.specs.Package.{Package, PlacedType, PlacedFunction, packa
 use Rattle.gr_declared.specs.Definitions.{PlacedField, package_fields, IsCountingField, IsMethodOf, IsCountingMethod}
 use Rattle.gr_members.specs.Members.{Holds, IsRepeatedField, IsRepeatedMethod, IsRecursive}
 use Rattle.gr_members.specs.MembersView.{CountsAsField, IsMethodOn, CountsAsMethod}
-use Rattle.gr_members.specs.MemberFaults.{IsFieldFault, IsMethodFault, IsRecursionFault}
 use Rattle.gr_members.proofs.FieldNames.{one_name}
 use Rattle.gr_members.proofs.Owning.{HasOwner}
 use Rattle.gr_members.proofs.MethodNames.{one_owner, one_method_name}
+
+-- the faults of members by the ranks of fields, functions and type definitions
+
+pub record IsFieldFault (p : Package) (rank : ℕ) (f : Fault) : Type 0 where
+  pub field : PlacedField
+  pub has_rank : slice_get (package_fields p) rank ≡ Some field
+  pub displaced : CountsAsField p rank → ⊥
+  pub at : f ≡ record { file = field.file; token = field.name; kind = kind.Repeated }
+
+pub record IsMethodFault (p : Package) (rank : ℕ) (f : Fault) : Type 0 where
+  pub method : PlacedFunction
+  pub has_rank : slice_get (package_functions p) rank ≡ Some method
+  pub definition : ℕ
+  pub is_method : IsMethodOn p rank definition
+  pub displaced : CountsAsMethod p rank → ⊥
+  pub at : f ≡ record { file = method.file; token = method.function.name; kind = kind.Repeated }
+
+pub record IsRecursionFault (p : Package) (rank : ℕ) (f : Fault) : Type 0 where
+  pub definition : PlacedType
+  pub has_rank : slice_get (package_types p) rank ≡ Some definition
+  pub holds_itself : Holds p rank rank
+  pub at : f ≡ record { file = definition.file; token = definition.spec.name; kind = kind.Recursive }
 
 -- a fault that is added by a test
 

@@ -1,6 +1,6 @@
 -- Underlying types that are found, one definition after the other in an order of their steps.
 use Rattle.std.proofs.Common.{ℕ, ◌≡◌, ◌+◌, ◌<◌, inl, inr, List, [], length, get_or, ap, sym, subst, refl, ◌∙◌, arith}
-use Rattle.std.specs.Prelude.{Option, Some, None, option_map, slice_get}
+use Rattle.std.specs.Prelude.{Option, Some, None, option_map, slice_get, slice_index_or}
 use Rattle.std.proofs.Math.ListN.{set}
 use Rattle.std.proofs.lemmas.Bool.{cases_lt, cases_eq}
 use Rattle.std.proofs.lemmas.List.{get_or-set_same, get_or-set_other, length-set}
@@ -17,8 +17,14 @@ use Rattle.gr_declared.specs.Package.{Package, PlacedType, package_types, symbol
 use Rattle.gr_declared.specs.Written.{Names}
 use Rattle.gr_declared.specs.Definitions.{HasUnderlying, basic, pointer, slice, struct, named, imported}
 use Rattle.gr_members.specs.MembersView.{IsUnderlyingFound, AreUnderlying}
-use Rattle.gr_members.specs.Steps.{NamesDefinition, IsStep, AreSteps, IsBehind, IsInOrder, IsStepOrder, taken, AreFilled}
+use Rattle.gr_members.specs.Steps.{NamesDefinition, IsStep, AreSteps, IsBehind, IsInOrder, IsStepOrder, taken}
 use Rattle.gr_declared.proofs.Naming.{one_named}
+
+-- the underlying types of the first so many definitions of an order
+pub record AreFilled (p : Package) (order : List ℕ) (count : ℕ) (found : List (Option Underlying)) : Type 0 where
+  pub size : length found ≡ length (package_types p)
+  pub sound : (rank : ℕ) (u : Underlying) → slice_index_or found rank None ≡ Some u → HasUnderlying p (Defined (symbol_in p rank)) (underlying_of u)
+  pub filled : (i : ℕ) → i < count → slice_index_or found (slice_index_or order i 0) None ≡ None → ⊥
 
 -- what a step leads to is an underlying type
 

@@ -4,7 +4,6 @@ pub mod FieldsView
 pub mod MemberNames
 pub mod MethodsView
 pub mod Recursion
-pub mod MemberFaults
 pub mod MembersView
 pub mod Found
 pub mod Steps

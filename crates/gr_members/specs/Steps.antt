@@ -79,9 +79,3 @@ taken Nothing found = None
 abbrev pub taken_at : Option Step → List (Option Underlying) → Option types.Underlying
 taken_at None found = None
 taken_at (Some s) found = taken s found
-
--- the underlying types of the first so many definitions of an order
-pub record AreFilled (p : Package) (order : List ℕ) (count : ℕ) (found : List (Option Underlying)) : Type 0 where
-  pub size : length found ≡ length (package_types p)
-  pub sound : (rank : ℕ) (u : Underlying) → slice_index_or found rank None ≡ Some u → HasUnderlying p (Defined (symbol_in p rank)) (underlying_of u)
-  pub filled : (i : ℕ) → i < count → slice_index_or found (slice_index_or order i 0) None ≡ None → ⊥

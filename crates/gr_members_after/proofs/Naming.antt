@@ -18,9 +18,13 @@ use Rattle.gr_standing.specs.Standing.{TokenBegins}
 use Rattle.gr_bound.specs.Binding.{field_place}
 use Rattle.gr_members_after.specs.declared.new_names.NewName.{NewName}
 use Rattle.gr_members_after.specs.MembersAfter.{IsCalledAfter, IsFieldAfter, IsMethodAfter}
-use Rattle.gr_members_after.specs.NewNames.{HasNewName, IsNewNameOf, AddsName, AreNamedBelow, AreNamed}
+use Rattle.gr_members_after.specs.NewNames.{HasNewName, IsNewNameOf, AddsName, AreNamed}
 use Rattle.gr_members_after.specs.NewMembers.{IsNameAfter}
 use Rattle.gr_members_after.proofs.Firsts.{keeps, had, is_last}
+
+-- the ranks below a number have the definitions and names of which K tells
+abbrev pub AreNamedBelow : List (Option NewName) → (count : ℕ) → ((definition : ℕ) → List ℕ → (rank : ℕ) → Type 0) → Type 0
+AreNamedBelow names count K = (definition : ℕ) (name : List ℕ) (rank : ℕ) → rank < count → HasNewName names definition name rank ↔ K definition name rank
 
 -- what is called so
 

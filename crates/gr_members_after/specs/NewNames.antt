@@ -61,10 +61,6 @@ IsNewNameOf (Some definition) (Some name) new = IsSomeAnd new (λ x. (x.definiti
 abbrev pub AddsName : List (Option NewName) → List (Option NewName) → Option ℕ → Option (List ℕ) → Type 0
 AddsName old new definition name = (x : Option NewName) × (IsNewNameOf definition name x × (new ≡ old ++ (x ∷ [])))
 
--- the ranks below a number have the definitions and names of which K tells
-abbrev pub AreNamedBelow : List (Option NewName) → (count : ℕ) → ((definition : ℕ) → List ℕ → (rank : ℕ) → Type 0) → Type 0
-AreNamedBelow names count K = (definition : ℕ) (name : List ℕ) (rank : ℕ) → rank < count → HasNewName names definition name rank ↔ K definition name rank
-
 -- the same of all ranks
 abbrev pub AreNamed : List (Option NewName) → ((definition : ℕ) → List ℕ → (rank : ℕ) → Type 0) → Type 0
 AreNamed names K = (definition : ℕ) (name : List ℕ) (rank : ℕ) → HasNewName names definition name rank ↔ K definition name rank

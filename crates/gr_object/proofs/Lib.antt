@@ -21,7 +21,6 @@ pub mod NameParts
 pub mod OwnDefinitions
 pub mod Sourced
 pub mod Whole
-pub mod SortedLists
 pub mod OneObject
 pub mod Named
 pub mod FittingParts

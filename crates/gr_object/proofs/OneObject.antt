@@ -30,7 +30,7 @@ use Rattle.gr_object.specs.Objects.{Object, object_of}
 use Rattle.gr_object.specs.ObjectText.{object_text}
 use Rattle.gr_object.specs.Sources.{type_before, IsBehindImport, IsGlobalAt, IsGlobal, IsTextAt, IsSourceOf, AreImports, IsObjectOf, IsObjectText}
 use Rattle.gr_object.specs.Sources as source
-use Rattle.gr_object.proofs.SortedLists.{one_in_order}
+use Rattle.gr_graph.proofs.SortedLists.{one_sorted}
 
 -- the declaration of a package's block that a name is bound to
 
@@ -191,7 +191,7 @@ same_items (x ∷ xs) (y ∷ ys) e h =
     ap₂ (λ z zs. z ∷ zs) (h 0 x y refl refl) (same_items xs ys rest (λ k. h (suc k)))
 
 one_imports : (files : List SourceFile) (v w : List (List ℕ)) → AreImports files v → AreImports files w → v ≡ w
-one_imports files v w a b = one_in_order path_cmp_total v w a.sorted b.sorted (λ path h. (b.each path).1 ((a.each path).0 h))
+one_imports files v w a b = one_sorted path_cmp_total v w a.sorted b.sorted (λ path h. (b.each path).1 ((a.each path).0 h))
     (λ path h. (a.each path).1 ((b.each path).0 h))
 
 pub one_object : (p : Package) → WellFormed p.layout → AreInOrder p.files → (files_of : List ℕ → List SourceFile) (o u : Object) → IsObjectOf p files_of o →

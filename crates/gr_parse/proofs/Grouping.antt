@@ -31,8 +31,15 @@ use Rattle.gr_tree.specs.Tree.{OperandTrees}
 use Rattle.gr_tree.specs.View.{type_view, expr_view, literal_view, link_view, links_view, operands_view, arguments_view, elements_view}
 use Rattle.gr_tree.specs.WellFormed.{strength, strength_of, is_operand, is_binary_tree, IsExpr, IsExprIn, AreOperands, AreLinks, AreArguments, IsLiteral}
 use Rattle.gr_tree.specs.WellFormed.{IsLiteralType, AreElements, IsUnnamed, HasNoNamedLiteral, HaveNoNamedLiteral}
-use Rattle.gr_parse.specs.Grouping.{is_slice, is_literal_type, literal_type_of, IsUnary, IsOperand, IsLiteralIn, IsLink, IsJoined, IsSeparatedBy}
+use Rattle.gr_parse.specs.Grouping.{is_slice, is_literal_type, literal_type_of, IsUnary, IsOperand, IsLiteralIn, IsLink, IsSeparatedBy}
 use Rattle.gr_parse.specs.Grouping.{IsSeparatedSoFar, AreItems, Each}
+use Rattle.gr_tree.specs.declared.tree.Operand.{Operand}
+
+-- an operator of that strength, and an operand that binds more strongly
+pub record IsJoined (h : Bool) (k : ℕ) (o : Operand) : Type 0 where
+  pub same : strength o.op ≡ k
+  pub stronger : k < strength_of (expr_view o.value)
+  pub expr : IsExprIn h (expr_view o.value)
 
 clash : {X : Type 0} → false ≡ true → X
 clash e = absurd (let f : ⊥ = cc in f)

@@ -4,10 +4,15 @@ use Rattle.gr_tree.specs.declared.syntax.Kind.{Kind}
 use Rattle.gr_tree.specs.declared.syntax.Token.{Token}
 use Rattle.gr_tree.specs.Grammar.{is, One, A, Symbol, Part, rules}
 use Rattle.gr_parse.specs.Machine.{Run, expand, at, Selects}
-use Rattle.gr_parse.specs.Parsing.{Leads, Read, Separates, list_rest, items_rest}
+use Rattle.gr_parse.specs.Parsing.{Leads, Read, Separates, list_rest}
 use Rattle.gr_tree.specs.Flatten.{sign, sign_if}
 use Rattle.gr_parse.proofs.KindTests.{is_itself}
 use Rattle.gr_parse.proofs.MachineSteps.{leads_rule, leads_then, leads_here, passes_one}
+
+-- What is left of a list without brackets: another item and what may follow it, or nothing.
+abbrev pub items_rest : List Symbol → Bool → List Symbol
+items_rest item true = item
+items_rest item false = []
 
 -- a separator's token
 pub separator_read : (k : Kind) (p : ℕ) (d : ℕ) (ts rest : List Token) → ts ≡ sign k p ∷ rest → Read (One (is k) ∷ []) (sign k p ∷ []) d ts d rest

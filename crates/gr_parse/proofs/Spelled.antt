@@ -16,12 +16,16 @@ use Rattle.gr_tree.specs.declared.tree.Link.TheVariants as link
 use Rattle.gr_tree.specs.declared.tree.CompositeLit.{CompositeLit, Row_of-Element, end_of-Element, more_of-Element, items-the_row-Element}
 use Rattle.gr_tree.specs.declared.tree.CompositeLit.{items_hidden-the_row-Element-3}
 use Rattle.gr_tree.specs.Tree.{LinkTrees}
-use Rattle.gr_parse.specs.Spelling.{type_spelled, expr_spelled, literal_spelled, operand_spelled, link_spelled, expr_item_spelled, element_spelled}
+use Rattle.gr_parse.specs.Spelling.{type_spelled, expr_spelled, literal_spelled, link_spelled, expr_item_spelled, element_spelled}
 use Rattle.gr_tree.specs.Grammar.{is_leaf, is_some}
 use Rattle.gr_parse.specs.Leaf.{leaf_of}
 use Rattle.gr_tree.specs.Flatten.{sign, sign_if, binary_kind, prefix_kind, all_tokens, type_tokens, key_tokens, expr_tokens, operand_tokens, link_tokens}
 use Rattle.gr_tree.specs.Flatten.{argument_tokens, literal_tokens, element_tokens}
 use Rattle.gr_tree.specs.View.{type_view, key_view, expr_view, literal_view, link_view, links_view, operands_view, arguments_view, elements_view}
+use Rattle.gr_tree.specs.declared.tree.Operand.{Operand}
+
+abbrev pub operand_spelled : Operand → List Token
+operand_spelled o = sign (binary_kind o.op) o.at ∷ expr_spelled o.value
 
 -- types
 

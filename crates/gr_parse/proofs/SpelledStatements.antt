@@ -1,5 +1,5 @@
 -- What the program's statements and files write out, by their parts.
-use Rattle.std.proofs.Common.{append_assoc, ℕ, ◌≡◌, ◌∷◌, ◌++◌, [], Option, ap, sym, ◌∙◌, refl, map}
+use Rattle.std.proofs.Common.{append_assoc, ℕ, ◌≡◌, ◌∷◌, ◌++◌, [], List, Option, ap, sym, ◌∙◌, refl, map}
 use Rattle.gr_tree.specs.declared.syntax.Kind.TheVariants as kind
 use Rattle.gr_tree.specs.declared.tree.Expr.{Expr}
 use Rattle.gr_tree.specs.declared.tree.IfInit.{IfInit}
@@ -24,12 +24,17 @@ use Rattle.gr_tree.specs.Flatten.{receiver_tokens, param_tokens, func_tokens, im
 use Rattle.gr_tree.specs.View.{option_view, item_view, expr_view}
 use Rattle.gr_tree.specs.FileView.{simple_view, init_view, for_view, stmt_view, block_view, statements_view, if_view, else_view, local_view, import_view}
 use Rattle.gr_tree.specs.FileView.{global_view, type_spec_view, receiver_view, param_view, func_view, imports_view, decl_view, file_view}
-use Rattle.gr_parse.specs.Spelling.{expr_spelled, exprs_spelled, simple_spelled, init_spelled, for_spelled, stmt_spelled, block_spelled, block_item_spelled}
+use Rattle.gr_parse.specs.Spelling.{expr_spelled, exprs_spelled, simple_spelled, init_spelled, for_spelled, stmt_spelled, block_spelled}
 use Rattle.gr_parse.specs.Spelling.{if_spelled, else_spelled, local_spelled, import_spelled, global_spelled, type_spec_spelled, param_spelled}
 use Rattle.gr_parse.specs.Spelling.{results_spelled, func_spelled, imports_spelled, decl_spelled, file_spelled}
 use Rattle.gr_parse.specs.ListSpelling.{items_spelled, group_spelled}
 use Rattle.gr_parse.proofs.StatementSteps.{all_tokens_map}
 use Rattle.gr_parse.proofs.SpelledDeclarations.{group_spelled_as}
+use Rattle.gr_tree.specs.declared.syntax.Token.{Token}
+use Rattle.gr_tree.specs.declared.tree.BlockItem.{BlockItem}
+
+abbrev pub block_item_spelled : BlockItem → List Token
+block_item_spelled i = stmt_spelled i.statement ++ sign_if kind.Semicolon i.semicolon
 
 -- headers
 

@@ -6,9 +6,10 @@ use Rattle.gr_tree.specs.declared.syntax.Token.{Token}
 use Rattle.gr_parse.specs.declared.parse_error.ParseError.{ParseError}
 use Rattle.gr_tree.specs.Grammar.{is, One, Close, A, Symbol, Part, rules}
 use Rattle.gr_parse.specs.Machine.{Run, Stopped, take, expand, closes, at, Selects}
-use Rattle.gr_parse.specs.Parsing.{Leads, Continued, Read, Fails, Passes, Parses, Continues, Separates, list_rest, items_rest}
+use Rattle.gr_parse.specs.Parsing.{Leads, Continued, Read, Fails, Passes, Parses, Continues, Separates, list_rest}
 use Rattle.gr_tree.specs.Flatten.{sign, sign_if, all_tokens}
 use Rattle.gr_parse.proofs.KindTests.{is_itself}
+use Rattle.gr_parse.proofs.Lists.{items_rest}
 
 -- several symbols, and then others
 

@@ -1,11 +1,10 @@
 -- What the parser keeps of well-formed expressions, by the part that it reads.
-use Rattle.std.specs.Prelude.{ℕ, ◌≡◌, ◌≢◌, ◌<◌, Bool, true, false, List, [], ◌∷◌, Option, None}
+use Rattle.std.specs.Prelude.{ℕ, ◌≡◌, ◌≢◌, Bool, true, false, List, [], ◌∷◌, Option, None}
 use Rattle.gr_tree.specs.declared.tree.ExprItem.{ExprItem}
 use Rattle.gr_tree.specs.declared.tree.Link.{Link}
-use Rattle.gr_tree.specs.declared.tree.Operand.{Operand}
 use Rattle.gr_tree.specs.Tree.{TypeTree, Pointer, Slice, ExprTree, no_link, LiteralTree, literal}
 use Rattle.gr_tree.specs.View.{expr_view, link_view}
-use Rattle.gr_tree.specs.WellFormed.{strength, strength_of, is_operand, is_binary_tree, IsExpr, IsExprIn, AreLinks, IsLiteral}
+use Rattle.gr_tree.specs.WellFormed.{is_operand, is_binary_tree, IsExpr, IsExprIn, AreLinks, IsLiteral}
 
 abbrev pub is_slice : TypeTree → Bool
 is_slice (Slice o c t) = true
@@ -39,12 +38,6 @@ IsLink l = AreLinks (link_view l no_link)
 abbrev pub Each : {X : Type 0} → (X → Type 0) → List X → Type 0
 Each P [] = Unit {0}
 Each P (x ∷ xs) = P x × Each P xs
-
--- an operator of that strength, and an operand that binds more strongly
-pub record IsJoined (h : Bool) (k : ℕ) (o : Operand) : Type 0 where
-  pub same : strength o.op ≡ k
-  pub stronger : k < strength_of (expr_view o.value)
-  pub expr : IsExprIn h (expr_view o.value)
 
 -- only the last may lack its separator
 abbrev pub IsSeparatedBy : {X : Type 0} → (X → Option ℕ) → List X → Type 0

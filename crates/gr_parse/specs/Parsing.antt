@@ -70,11 +70,6 @@ abbrev pub list_rest : Part → Kind → Bool → List Symbol
 list_rest list closer true = A list ∷ []
 list_rest list closer false = One (is closer) ∷ []
 
--- What is left of a list without brackets: another item and what may follow it, or nothing.
-abbrev pub items_rest : List Symbol → Bool → List Symbol
-items_rest item true = item
-items_rest item false = []
-
 -- Item by item: what is left depends on whether a separator followed.
 abbrev pub LeadsBy : {Y : Type 0} → List Symbol → (Bool → List Symbol) → (Y → Option ℕ) → (Y → List Token) → (Y → List Token) → ℕ → List Token →
     Result Y ParseError → Type 0

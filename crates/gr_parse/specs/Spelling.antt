@@ -1,5 +1,5 @@
 -- The tokens that a value of the program writes out: those of the tree that it stands for.
-use Rattle.std.specs.Prelude.{ℕ, List, ◌∷◌, ◌++◌}
+use Rattle.std.specs.Prelude.{ℕ, List, ◌++◌}
 use Rattle.gr_tree.specs.declared.syntax.Kind.TheVariants as kind
 use Rattle.gr_tree.specs.declared.syntax.Token.{Token}
 use Rattle.gr_tree.specs.declared.tree.Item.{Item}
@@ -8,7 +8,6 @@ use Rattle.gr_tree.specs.declared.tree.TypeExpr.{TypeExpr}
 use Rattle.gr_tree.specs.declared.tree.Expr.{Expr}
 use Rattle.gr_tree.specs.declared.tree.ExprItem.{ExprItem}
 use Rattle.gr_tree.specs.declared.tree.Link.{Link}
-use Rattle.gr_tree.specs.declared.tree.Operand.{Operand}
 use Rattle.gr_tree.specs.declared.tree.Element.{Element}
 use Rattle.gr_tree.specs.declared.tree.CompositeLit.{CompositeLit}
 use Rattle.gr_tree.specs.declared.tree.LocalSpec.{LocalSpec}
@@ -17,7 +16,6 @@ use Rattle.gr_tree.specs.declared.tree.IfInit.{IfInit}
 use Rattle.gr_tree.specs.declared.tree.ForHeader.{ForHeader}
 use Rattle.gr_tree.specs.declared.tree.Stmt.{Stmt}
 use Rattle.gr_tree.specs.declared.tree.Block.{Block}
-use Rattle.gr_tree.specs.declared.tree.BlockItem.{BlockItem}
 use Rattle.gr_tree.specs.declared.tree.IfStmt.{IfStmt}
 use Rattle.gr_tree.specs.declared.tree.Else.{Else}
 use Rattle.gr_tree.specs.declared.tree.ImportSpec.{ImportSpec}
@@ -35,7 +33,7 @@ use Rattle.gr_tree.specs.declared.tree.Decl.{Decl}
 use Rattle.gr_tree.specs.declared.tree.File.{File}
 use Rattle.gr_tree.specs.Tree as tree
 use Rattle.gr_tree.specs.Flatten as flat
-use Rattle.gr_tree.specs.Flatten.{sign, sign_if, binary_kind, all_tokens}
+use Rattle.gr_tree.specs.Flatten.{sign_if}
 use Rattle.gr_tree.specs.View.{list_view, ident_view, type_view, key_view, expr_view, literal_view, link_view, exprs_view}
 use Rattle.gr_tree.specs.FileView.{same_place, local_view, simple_view, init_view, for_view, stmt_view, block_view, if_view, else_view, import_view}
 use Rattle.gr_tree.specs.FileView.{basic_view, global_view, field_view, body_view, type_spec_view, receiver_view, param_view, results_view, func_view}
@@ -49,9 +47,6 @@ expr_spelled e = flat.expr_tokens (expr_view e)
 
 abbrev pub literal_spelled : CompositeLit → List Token
 literal_spelled l = flat.literal_tokens (literal_view l)
-
-abbrev pub operand_spelled : Operand → List Token
-operand_spelled o = sign (binary_kind o.op) o.at ∷ expr_spelled o.value
 
 abbrev pub link_spelled : Link → List Token
 link_spelled l = flat.link_tokens (link_view l tree.no_link)
@@ -94,9 +89,6 @@ stmt_spelled s = flat.statement_tokens (stmt_view s)
 
 abbrev pub block_spelled : Block → List Token
 block_spelled b = flat.block_tokens (block_view b)
-
-abbrev pub block_item_spelled : BlockItem → List Token
-block_item_spelled i = stmt_spelled i.statement ++ sign_if kind.Semicolon i.semicolon
 
 abbrev pub if_spelled : IfStmt → List Token
 if_spelled i = flat.if_tokens (if_view i)

@@ -9,8 +9,8 @@ use Rattle.gr_scope.specs.Table.{layout_of, IsCandidate, IsInner, IsNearest, Pre
 use Rattle.gr_scope.specs.WellFormed.{FollowBlocks}
 use Rattle.std.specs.Option.{ForSome}
 use Rattle.std.proofs.lemmas.Bool.{cases_order}
-use Rattle.gr_scope.specs.Chains.{IsLinked, IsChain, IsLeft}
-use Rattle.gr_scope.proofs.Chains.{IsKnown, chain_left, walk_left, walk_before}
+use Rattle.gr_scope.specs.Chains.{IsLinked, IsChain}
+use Rattle.gr_scope.proofs.Chains.{IsKnown, chain_left, walk_left, walk_before, IsLeft}
 use Rattle.gr_scope.proofs.Following.{not_seen_within}
 use Rattle.gr_scope.proofs.Leading.{leads_once}
 use Rattle.gr_scope.proofs.Nesting.{Nested}

@@ -2,7 +2,12 @@
 use Rattle.std.proofs.Common.{ℕ, ◌≡◌, ◌<◌, ◌≤◌, inl, inr, List, get_or, Option, Some, None, sym, subst, arith, suc, refl}
 use Rattle.std.specs.Option.{ForSome}
 use Rattle.std.proofs.lemmas.Bool.{cases_order}
-use Rattle.gr_scope.specs.Chains.{IsKeyed, IsLastBelow, IsLinked, IsChain, IsLeft}
+use Rattle.gr_scope.specs.Chains.{IsKeyed, IsLastBelow, IsLinked, IsChain}
+
+-- d is the next in the chain or stands further on
+abbrev pub IsLeft : Option ℕ → ℕ → Type 0
+IsLeft None d = ⊥
+IsLeft (Some k) d = d ≤ k
 
 -- how many identifiers stand before what is left
 abbrev pub left_of : Option ℕ → ℕ

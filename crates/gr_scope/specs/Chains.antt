@@ -1,5 +1,5 @@
 -- The identifiers that come first of one name in one region, in their blocks, from the last to the first.
-use Rattle.std.specs.Prelude.{ℕ, ◌≡◌, ◌<◌, ◌≤◌, List, length, Option, Some, None, slice_index_or}
+use Rattle.std.specs.Prelude.{ℕ, ◌≡◌, ◌<◌, List, length, Option, Some, None, slice_index_or}
 use Rattle.indexmap.specs.IndexMap.{IndexMap, get}
 use Rattle.gr_scope.specs.Bindings.{Layout, Names, MayDeclare, block_of}
 use Rattle.gr_scope.specs.Leading.{Leads}
@@ -41,11 +41,6 @@ pub record AreLinks {S : Type 0} (l : Layout) (names : Names) (last : IndexMap K
 pub record AreAllLinks {S : Type 0} (xs : List Identifier) (names : Names) (last : IndexMap Key ℕ S) (previous : List (Option ℕ)) : Type 0 where
   pub links : AreLinks (layout_of xs) names last previous
   pub sized : length previous ≡ length xs
-
--- d is the next in the chain or stands further on
-abbrev pub IsLeft : Option ℕ → ℕ → Type 0
-IsLeft None d = ⊥
-IsLeft (Some k) d = d ≤ k
 
 -- of so many identifiers none declares in a block before one that declares in an inner block round it
 abbrev pub StaysOpen : Layout → ℕ → Block → Type 0

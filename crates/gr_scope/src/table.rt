@@ -141,17 +141,6 @@ impl<'a> ScopeTable<'a> {
         self.known.bindings[u]
     }
 
-    /// The declaration to which the identifier at a token is bound.
-    pub fn resolve_at(&self, place: Position) -> Option<DeclId>
-        ensures { let found = IsFoundAt (layout_in self.now) (length self.now.sites) place in
-            MatchOption result ((u d : ℕ) → found u → IsBoundIn self.now u d → ⊥) (λ d. (u : ℕ) × (found u × IsBoundIn self.now u d)) }
-    {
-        match self.identifier_at(place) {
-            None => None,
-            Some(u) => self.binding(u),
-        }
-    }
-
     /// The declaration to which the identifier that begins at a place is bound.
     pub fn resolve(&self, place: &Place) -> Option<DeclId>
         ensures { let found = IsFirstOf (BeginsAt self.now place.now.path place.now.offset) (length self.now.sites) in

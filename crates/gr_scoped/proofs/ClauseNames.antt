@@ -17,7 +17,12 @@ use Rattle.gr_declared.specs.InterfacesView.{name_in, AddsInterface}
 use Rattle.gr_declared.specs.declared.interfaces.Interface.{Interface}
 use Rattle.gr_declared.specs.declared.interfaces.Interfaces.{Interfaces}
 use Rattle.gr_verdict.proofs.Members.{cases_contains}
-use Rattle.gr_scoped.specs.ScopedPackages.{IsClauseName, named, unnamed, AreClauseNamesBelow, AreClauseNames, AddsClauseName, added, nothing}
+use Rattle.gr_scoped.specs.ScopedPackages.{IsClauseName, named, unnamed, AreClauseNames, AddsClauseName, added, nothing}
+
+-- names that are those of packages, at least of those whose number is below n
+pub record AreClauseNamesBelow (w : Workspace) (n : ℕ) (name_of : List ℕ → Option (List ℕ)) : Type 0 where
+  pub right : (path name : List ℕ) → name_of path ≡ Some name → IsClauseName w path (Some name)
+  pub each : (number : ℕ) (path : List ℕ) → number < n → slice_get (package_paths w) number ≡ Some path → IsClauseName w path (name_of path)
 
 pub no_names : (w : Workspace) (name_of : List ℕ → Option (List ℕ)) → ((path : List ℕ) → name_of path ≡ None) → AreClauseNamesBelow w 0 name_of
 no_names w name_of empty = record { right = λ path name e. absurd (none-some name (sym (empty path) ∙ e)); each = λ n path lt at. absurd (omega arith) }

@@ -1,6 +1,6 @@
 -- The packages of a workspace as their scopes are, whatever faults there are: an import without a name declares the name in
 -- the clause of the package that it imports.
-use Rattle.std.specs.Prelude.{ℕ, ◌≡◌, ◌<◌, List, [], Option, Some, None, map, Contains, slice_get}
+use Rattle.std.specs.Prelude.{ℕ, ◌≡◌, List, [], Option, Some, None, map, Contains}
 use Rattle.gr_text.specs.Packages.{package_paths, package_files}
 use Rattle.gr_text.specs.Workspace.{Workspace}
 use Rattle.gr_tree.specs.SourceFile.{FileParts, source_of}
@@ -26,11 +26,6 @@ pub record IsScopedIn (w : Workspace) (p : Package) : Type 0 where
   pub is_package : IsPackageOf p.path files name_of no_interface p
 
 -- The same, as it is found
-
--- names that are those of packages, at least of those whose number is below n
-pub record AreClauseNamesBelow (w : Workspace) (n : ℕ) (name_of : List ℕ → Option (List ℕ)) : Type 0 where
-  pub right : (path name : List ℕ) → name_of path ≡ Some name → IsClauseName w path (Some name)
-  pub each : (number : ℕ) (path : List ℕ) → number < n → slice_get (package_paths w) number ≡ Some path → IsClauseName w path (name_of path)
 
 -- for each path the name of its package
 abbrev pub AreClauseNames : Workspace → (List ℕ → Option (List ℕ)) → Type 0

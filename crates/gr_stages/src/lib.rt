@@ -10,4 +10,4 @@ mod table;
 mod unknown;
 mod uses;
 
-pub use stages::{inner_faults, outer_faults, own_faults};
+pub use stages::{inner_faults, outer_faults};

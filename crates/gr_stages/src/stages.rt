@@ -1,5 +1,5 @@
 //! The stages of a package's faults: a later one has faults only where the earlier ones have none.
-ghost use Rattle.std.specs.Prelude.{ℕ, ◌≡◌, ◌↔◌, [], IsTrue, IfOk, map};
+ghost use Rattle.std.specs.Prelude.{◌≡◌, ◌↔◌, [], IsTrue, IfOk, map};
 ghost use Rattle.std.specs.List.Sorted.{IsStrictlySortedBy};
 ghost use Rattle.gr_fault.specs.contracts.fault.FaultOrd.TheImpl as order;
 ghost use Rattle.gr_fault.specs.Listing.{Lists};
@@ -68,21 +68,6 @@ fn own_found(
     let mut found = Vec::new(alloc);
     add_scopes(alloc, &mut found, table)?;
     add_marks(&mut found, table, files)?;
-    Ok(found)
-}
-
-/// The faults that a package's own scopes tell, by file and token. In the table each import without a name declares the
-/// name of the imported package.
-pub fn own_faults(
-    alloc: Global,
-    table: &ScopeTable,
-    files: &[FileTree],
-) -> Result<Vec<Fault>, AllocError>
-    ensures listed { IfOk result (λ found. Lists (IsOwnFault (map source_of files.now) (laid_in table.now)) found.items) }
-    ensures order { IfOk result (λ found. IsStrictlySortedBy order.ghosts.cmp found.items) }
-{
-    let mut found = own_found(alloc, table, files)?;
-    sort(&mut found);
     Ok(found)
 }
 

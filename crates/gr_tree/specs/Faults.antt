@@ -1,5 +1,5 @@
 -- The first fault of a text.
-use Rattle.std.specs.Prelude.{◌≡◌, ℕ, ◌⊎◌, List, Option, Some, None}
+use Rattle.std.specs.Prelude.{◌≡◌, ℕ, ◌⊎◌, List}
 use Rattle.gr_scan.specs.Cuts.{IsCut, IsFirstFault}
 use Rattle.gr_scan.specs.CutText.{CutText}
 use Rattle.gr_scan.specs.declared.refusal.Fault.{Fault}
@@ -41,8 +41,3 @@ pub record IsFaultOfTokens (text : List ℕ) (fault : Fault) : Type 0 where
 -- the first fault of a text: a fault of its pieces comes before one of its tokens
 abbrev pub IsFaultOf : List ℕ → Fault → Type 0
 IsFaultOf text fault = IsFirstFault text fault ⊎ IsFaultOfTokens text fault
-
--- the first fault of a text, or none where it is sound
-abbrev pub FindsFault : List ℕ → Option Fault → Type 0
-FindsFault text None = IsSound text
-FindsFault text (Some fault) = IsFaultOf text fault

@@ -8,8 +8,7 @@ use Rattle.gr_text.specs.Workspace.{Workspace}
 use Rattle.gr_graph.specs.Graphs.{HoldsPackages}
 use Rattle.gr_graph.specs.Packages.{IsInClosure}
 use Rattle.gr_verdict.proofs.Members.{taken_or_next, still_taken, next_taken}
-use Rattle.gr_keep.specs.Inputs.{AreGathered}
-use Rattle.gr_keep.proofs.ClosureFiles.{none_gathered, gathered_next, closure_texts}
+use Rattle.gr_keep.proofs.ClosureFiles.{none_gathered, gathered_next, closure_texts, AreGathered}
 use Rattle.gr_keep.proofs.inputs.closure_files.Goals as goal
 
 pub loop-other-init : goal.loop-other-init

@@ -1,7 +1,7 @@
 -- The invariants of the loops of `names::file_names`.
 use Rattle.gr_meanings.specs.BoundsView.{AreBounds}
-use Rattle.gr_meanings.specs.NamesView.{AreNamesBelow}
 use Rattle.gr_declared.specs.PackageView.{package_of}
+use Rattle.gr_meanings.proofs.NameParts.{AreNamesBelow}
 use Rattle.gr_meanings.proofs.names.file_names.Given as goal
 
 abbrev pub invariant-loop-token : goal.invariant-loop-token

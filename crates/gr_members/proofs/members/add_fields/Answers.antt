@@ -5,10 +5,9 @@ use Rattle.std.proofs.Math.ListN.{length-map}
 use Rattle.gr_fault.proofs.Each.{below_none, below_next}
 use Rattle.gr_declared.specs.Definitions.{package_fields}
 use Rattle.gr_members.specs.FieldsView.{field_of}
-use Rattle.gr_members.specs.MemberFaults.{IsFieldFault}
 use Rattle.gr_declared.specs.PackageView.{package_of}
 use Rattle.gr_declared.proofs.Items.{item_at}
-use Rattle.gr_members.proofs.Displacing.{by_test, field_fault, of_field_fault, all_field_faults}
+use Rattle.gr_members.proofs.Displacing.{by_test, field_fault, of_field_fault, all_field_faults, IsFieldFault}
 use Rattle.gr_members.proofs.members.add_fields.Goals as goal
 
 pub loop-rank-init : goal.loop-rank-init

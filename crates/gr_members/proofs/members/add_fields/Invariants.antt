@@ -1,7 +1,7 @@
 -- The invariants of the loops of `members::add_fields`.
 use Rattle.gr_fault.specs.Listing.{Adds, Below}
-use Rattle.gr_members.specs.MemberFaults.{IsFieldFault}
 use Rattle.gr_declared.specs.PackageView.{package_of}
+use Rattle.gr_members.proofs.Displacing.{IsFieldFault}
 use Rattle.gr_members.proofs.members.add_fields.Given as goal
 
 abbrev pub invariant-loop-rank : goal.invariant-loop-rank

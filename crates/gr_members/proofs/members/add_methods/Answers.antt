@@ -6,10 +6,9 @@ use Rattle.gr_tree.specs.FileView.{func_view}
 use Rattle.gr_fault.proofs.Each.{below_none, below_next}
 use Rattle.gr_declared.specs.Package.{package_functions}
 use Rattle.gr_declared.specs.DeclaredView.{function_of}
-use Rattle.gr_members.specs.MemberFaults.{IsMethodFault}
 use Rattle.gr_declared.specs.PackageView.{package_of}
 use Rattle.gr_declared.proofs.Items.{item_at}
-use Rattle.gr_members.proofs.Displacing.{by_test, method_fault, of_method_fault, all_method_faults}
+use Rattle.gr_members.proofs.Displacing.{by_test, method_fault, of_method_fault, all_method_faults, IsMethodFault}
 use Rattle.gr_members.proofs.members.add_methods.Goals as goal
 
 pub loop-rank-init : goal.loop-rank-init

@@ -5,11 +5,10 @@ use Rattle.gr_tree.specs.FileView.{type_spec_view}
 use Rattle.gr_fault.proofs.Each.{below_none, below_next}
 use Rattle.gr_declared.specs.Package.{package_types}
 use Rattle.gr_declared.specs.DeclaredView.{type_of}
-use Rattle.gr_members.specs.MemberFaults.{IsRecursionFault}
 use Rattle.gr_declared.specs.PackageView.{package_of}
 use Rattle.gr_declared.proofs.Breaking.{definition_count}
 use Rattle.gr_declared.proofs.Items.{item_at}
-use Rattle.gr_members.proofs.Displacing.{by_test, recursion_fault, of_recursion_fault, all_recursion_faults}
+use Rattle.gr_members.proofs.Displacing.{by_test, recursion_fault, of_recursion_fault, all_recursion_faults, IsRecursionFault}
 use Rattle.gr_members.proofs.members.add_recursive.Goals as goal
 
 pub loop-rank-init : goal.loop-rank-init

@@ -1,6 +1,6 @@
 -- The invariants of the loops of `underlying::fill`.
 use Rattle.gr_declared.specs.PackageView.{package_of}
-use Rattle.gr_members.specs.Steps.{AreFilled}
+use Rattle.gr_members.proofs.Filling.{AreFilled}
 use Rattle.gr_members.proofs.underlying.fill.Given as goal
 
 abbrev pub invariant-loop-rank : goal.invariant-loop-rank

@@ -4,7 +4,8 @@ use Rattle.gr_text.specs.Workspace.{Workspace}
 use Rattle.gr_declared.specs.PackageView.{package_of}
 use Rattle.gr_revision.specs.RevisionsOfEdits.{revision_of}
 use Rattle.gr_members_after.specs.MembersAfter.{IsFieldAfter}
-use Rattle.gr_members_after.specs.NewNames.{AreNewNames, AreNamedBelow}
+use Rattle.gr_members_after.specs.NewNames.{AreNewNames}
+use Rattle.gr_members_after.proofs.Naming.{AreNamedBelow}
 use Rattle.gr_members_after.proofs.members.new_fields.Given as goal
 
 abbrev pub invariant-loop-rank : goal.invariant-loop-rank

@@ -9,13 +9,13 @@ use Rattle.gr_parse.specs.Parsing.{list_rest}
 use Rattle.gr_tree.specs.Flatten.{sign, prefix_kind, all_tokens, expr_tokens, type_tokens}
 use Rattle.gr_tree.specs.View.{expr_view}
 use Rattle.gr_tree.specs.WellFormed.{IsExpr, IsExprIn, strength_of}
-use Rattle.gr_parse.specs.Grouping.{Each, IsJoined, IsLink, IsSeparatedSoFar, IsUnary, IsOperand, is_slice, is_literal_type}
+use Rattle.gr_parse.specs.Grouping.{Each, IsLink, IsSeparatedSoFar, IsUnary, IsOperand, is_slice, is_literal_type}
 use Rattle.gr_tree.specs.declared.tree.Element.{Element}
 use Rattle.gr_tree.specs.declared.tree.ExprItem.{ExprItem}
 use Rattle.gr_parse.proofs.Grouping.{so_far_none, so_far_push, each_push, composite_grouped, name_grouped, prefix_grouped, address_grouped, paren_grouped}
-use Rattle.gr_parse.proofs.Grouping.{chain_grouped, binary_grouped, binary_strength, literal_wf, literal_typed, selector_wf, index_wf, call_wf}
+use Rattle.gr_parse.proofs.Grouping.{chain_grouped, binary_grouped, binary_strength, literal_wf, literal_typed, selector_wf, index_wf, call_wf, IsJoined}
 use Rattle.gr_parse.proofs.Grouping.{named_not_in_header, not_zero, operator_strength}
-use Rattle.gr_parse.specs.Spelling.{expr_spelled, operand_spelled, link_spelled, expr_item_spelled, element_spelled}
+use Rattle.gr_parse.specs.Spelling.{expr_spelled, link_spelled, expr_item_spelled, element_spelled}
 use Rattle.gr_parse.proofs.MachineSteps.{exits, fails_first, fails_later, fails_rule, fails_leads, fails_more, fails_after, read_then, read_rule}
 use Rattle.gr_parse.proofs.MachineSteps.{read_to_close, read_as, read_on, read_led, read_through, leads_here, leads_then, leads_close, leads_rule, leads_on}
 use Rattle.gr_parse.proofs.MachineSteps.{leads_as, leads_after, leads_to_end, tail_rule, tail_on, tail_through, continued_by}
@@ -24,7 +24,7 @@ use Rattle.gr_parse.proofs.Passages.{unary_literal, unary_name, address_name, ad
 use Rattle.gr_parse.proofs.Lengths.{expr_some, element_some, read_no_longer, read_shorter, leads_no_longer, leads_shorter, separator_no_longer}
 use Rattle.gr_parse.proofs.Strengths.{some_operator, as_expression}
 use Rattle.gr_parse.proofs.Spelled.{all_tokens_push, no_tokens, none_tokens, name_tokens, composite_tokens, address_tokens, paren_tokens, prefix_tokens}
-use Rattle.gr_parse.proofs.Spelled.{chain_tokens, binary_tokens, selector_tokens, index_tokens, call_tokens, literal_row_tokens}
+use Rattle.gr_parse.proofs.Spelled.{chain_tokens, binary_tokens, selector_tokens, index_tokens, call_tokens, literal_row_tokens, operand_spelled}
 use Rattle.gr_parse.proofs.expressions.+expression.Goals as goal
 
 pub addressed-returns-in_err-literal_type-clause-exact : goal.addressed-returns-in_err-literal_type-clause-exact

@@ -4,13 +4,15 @@ use Rattle.gr_tree.specs.Grammar.{A, Binaries, Links, Arguments, ElementList}
 use Rattle.gr_tree.specs.declared.syntax.Kind.TheVariants as kind
 use Rattle.gr_parse.specs.Parsing.{Leads, list_rest}
 use Rattle.gr_tree.specs.Flatten.{all_tokens}
-use Rattle.gr_parse.specs.Spelling.{operand_spelled, link_spelled, expr_item_spelled, element_spelled}
+use Rattle.gr_parse.specs.Spelling.{link_spelled, expr_item_spelled, element_spelled}
 use Rattle.gr_tree.specs.View.{type_view, expr_view}
 use Rattle.gr_tree.specs.WellFormed.{IsExpr}
-use Rattle.gr_parse.specs.Grouping.{Each, IsJoined, IsLink, IsSeparatedSoFar}
+use Rattle.gr_parse.specs.Grouping.{Each, IsLink, IsSeparatedSoFar}
 use Rattle.gr_tree.specs.declared.tree.Element.{Element}
 use Rattle.gr_tree.specs.declared.tree.ExprItem.{ExprItem}
 use Rattle.gr_parse.specs.Strength.{strength_at}
+use Rattle.gr_parse.proofs.Grouping.{IsJoined}
+use Rattle.gr_parse.proofs.Spelled.{operand_spelled}
 use Rattle.gr_parse.proofs.expressions.+expression.Given as goal
 
 abbrev pub decreases-literal : goal.decreases-literal

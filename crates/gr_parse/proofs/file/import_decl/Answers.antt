@@ -1,4 +1,5 @@
--- The answers to the goals of `file::import_decl`.
+-- The answers to the goals of `file::import_decl`. They are worded as those of `file::var_decl`, which also reads a word, a group and
+-- a semicolon: an answer speaks of the values of its own function, so none can serve both.
 use Rattle.std.proofs.Common.{sym}
 use Rattle.gr_parse.specs.Machine.{first}
 use Rattle.gr_parse.proofs.MachineSteps.{exits, fails_first, fails_later, fails_rule, leads_as, leads_here, leads_rule, leads_then}

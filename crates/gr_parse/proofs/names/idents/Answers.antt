@@ -6,12 +6,12 @@ use Rattle.gr_tree.specs.Flatten.{ident_tokens, item_tokens}
 use Rattle.gr_tree.specs.View.{ident_view}
 use Rattle.gr_parse.specs.Spelling.{ident_spelled}
 use Rattle.gr_parse.specs.Machine.{first, later, last}
-use Rattle.gr_parse.specs.Parsing.{items_rest}
 use Rattle.gr_parse.specs.ListSpelling.{item_spelled}
 use Rattle.gr_tree.specs.View.{item_view}
 use Rattle.gr_parse.proofs.MachineSteps.{read_as}
 use Rattle.gr_parse.proofs.ListedSteps.{listed_none, listed_push, listed_list}
 use Rattle.gr_parse.proofs.StatementSteps.{leads_none, leads_push, leads_more, leads_item, read_items, all_tokens_map}
+use Rattle.gr_parse.proofs.Lists.{items_rest}
 use Rattle.gr_parse.proofs.names.idents.Goals as goal
 
 pub idents-init : goal.idents-init

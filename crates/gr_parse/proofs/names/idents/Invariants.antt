@@ -5,11 +5,12 @@ use Rattle.gr_tree.specs.Grammar.{A, One, is_ident, MoreIdents}
 use Rattle.gr_parse.specs.ListSpelling.{item_spelled}
 use Rattle.gr_parse.specs.Spelling.{ident_spelled}
 use Rattle.gr_tree.specs.Flatten.{all_tokens}
-use Rattle.gr_parse.specs.Parsing.{Leads, items_rest}
+use Rattle.gr_parse.specs.Parsing.{Leads}
 use Rattle.gr_parse.specs.Listed.{IsListed}
 use Rattle.gr_tree.specs.View.{item_view, ident_view}
 use Rattle.gr_tree.specs.WellFormed.{Any}
 use Rattle.gr_parse.proofs.StatementSteps.{flag}
+use Rattle.gr_parse.proofs.Lists.{items_rest}
 use Rattle.gr_parse.proofs.names.idents.Given as goal
 
 abbrev pub invariant-idents : goal.invariant-idents

@@ -5,12 +5,13 @@ use Rattle.gr_tree.specs.Grammar.{A, One, is_literal, MoreLiterals}
 use Rattle.gr_parse.specs.ListSpelling.{item_spelled}
 use Rattle.gr_parse.specs.Spelling.{basic_spelled}
 use Rattle.gr_tree.specs.Flatten.{all_tokens}
-use Rattle.gr_parse.specs.Parsing.{Leads, items_rest}
+use Rattle.gr_parse.specs.Parsing.{Leads}
 use Rattle.gr_parse.specs.Listed.{IsListed}
 use Rattle.gr_tree.specs.View.{item_view}
 use Rattle.gr_tree.specs.FileView.{basic_view}
 use Rattle.gr_tree.specs.WellFormed.{Any}
 use Rattle.gr_parse.proofs.StatementSteps.{flag}
+use Rattle.gr_parse.proofs.Lists.{items_rest}
 use Rattle.gr_parse.proofs.names.literals.Given as goal
 
 abbrev pub invariant-literals : goal.invariant-literals

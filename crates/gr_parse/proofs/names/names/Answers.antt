@@ -5,12 +5,12 @@ use Rattle.gr_tree.specs.Grammar.{A, One, is, MoreNames}
 use Rattle.gr_tree.specs.Flatten.{name_tokens, item_tokens}
 use Rattle.gr_tree.specs.FileView.{same_place}
 use Rattle.gr_parse.specs.Machine.{first, later, last}
-use Rattle.gr_parse.specs.Parsing.{items_rest}
 use Rattle.gr_parse.specs.ListSpelling.{item_spelled}
 use Rattle.gr_tree.specs.View.{item_view}
 use Rattle.gr_parse.proofs.MachineSteps.{read_as}
 use Rattle.gr_parse.proofs.ListedSteps.{listed_none, listed_push, listed_list}
 use Rattle.gr_parse.proofs.StatementSteps.{leads_none, leads_push, leads_more, leads_item, read_items, all_tokens_map}
+use Rattle.gr_parse.proofs.Lists.{items_rest}
 use Rattle.gr_parse.proofs.names.names.Goals as goal
 
 pub names-init : goal.names-init

@@ -5,12 +5,13 @@ use Rattle.gr_tree.specs.Grammar.{A, One, is, MoreNames}
 use Rattle.gr_parse.specs.ListSpelling.{item_spelled}
 use Rattle.gr_tree.specs.Flatten.{name_tokens}
 use Rattle.gr_tree.specs.Flatten.{all_tokens}
-use Rattle.gr_parse.specs.Parsing.{Leads, items_rest}
+use Rattle.gr_parse.specs.Parsing.{Leads}
 use Rattle.gr_parse.specs.Listed.{IsListed}
 use Rattle.gr_tree.specs.View.{item_view}
 use Rattle.gr_tree.specs.FileView.{same_place}
 use Rattle.gr_tree.specs.WellFormed.{Any}
 use Rattle.gr_parse.proofs.StatementSteps.{flag}
+use Rattle.gr_parse.proofs.Lists.{items_rest}
 use Rattle.gr_parse.proofs.names.names.Given as goal
 
 abbrev pub invariant-names : goal.invariant-names

@@ -3,12 +3,12 @@ use Rattle.std.proofs.Common.{◌∷◌, [], refl}
 use Rattle.gr_tree.specs.declared.syntax.Kind.TheVariants as kind
 use Rattle.gr_tree.specs.Grammar.{A, Expression, MoreExpressions, in_head}
 use Rattle.gr_parse.specs.Machine.{first, last, later}
-use Rattle.gr_parse.specs.Parsing.{items_rest}
 use Rattle.gr_parse.specs.Words.{setting_of}
 use Rattle.gr_parse.proofs.MachineSteps.{exits, fails_first, fails_leads, fails_rule}
 use Rattle.gr_parse.proofs.StatementSteps.{continued_items, continued_rule, from_begun, from_more, from_push, leads_item}
 use Rattle.gr_parse.proofs.ListedSteps.{listed_list, listed_push}
 use Rattle.gr_parse.proofs.SpelledSimple.{exprs_push}
+use Rattle.gr_parse.proofs.Lists.{items_rest}
 use Rattle.gr_parse.proofs.simple.more_exprs.Goals as goal
 
 pub exprs-init : goal.exprs-init

@@ -1,13 +1,13 @@
 -- The invariants of the loops of `simple::more_exprs`.
 use Rattle.std.proofs.Common.{◌∷◌, [], length, ◌+◌}
 use Rattle.gr_tree.specs.Grammar.{A, Expression, MoreExpressions, in_head}
-use Rattle.gr_parse.specs.Parsing.{items_rest}
 use Rattle.gr_parse.specs.Spelling.{exprs_spelled}
 use Rattle.gr_parse.specs.Words.{setting_of}
 use Rattle.gr_parse.specs.Listed.{IsListed}
 use Rattle.gr_tree.specs.View.{expr_item_view}
 use Rattle.gr_tree.specs.WellFormed.{IsExprIn}
 use Rattle.gr_parse.proofs.StatementSteps.{flag, LeadsFrom}
+use Rattle.gr_parse.proofs.Lists.{items_rest}
 use Rattle.gr_parse.proofs.simple.more_exprs.Given as goal
 
 abbrev pub invariant-exprs : goal.invariant-exprs

@@ -3,9 +3,8 @@ use Rattle.std.proofs.Common.{◌∷◌, [], ap, sym, ◌∙◌, refl}
 use Rattle.gr_tree.specs.declared.syntax.Kind.TheVariants as kind
 use Rattle.gr_tree.specs.Grammar.{A, Close, MoreStatements, One, Statement, is}
 use Rattle.gr_parse.specs.Machine.{first, last, later}
-use Rattle.gr_parse.specs.Parsing.{items_rest}
 use Rattle.gr_tree.specs.Flatten.{sign}
-use Rattle.gr_parse.specs.Spelling.{block_item_spelled, if_spelled}
+use Rattle.gr_parse.specs.Spelling.{if_spelled}
 use Rattle.gr_parse.proofs.MachineSteps.{exits, fails_first, fails_later, fails_leads, fails_rule, read_as, read_end, read_rule, read_then, read_to_close}
 use Rattle.gr_parse.proofs.MachineSteps.{tail_rule}
 use Rattle.gr_parse.proofs.StatementSteps.{continued, fails_in, fails_on, item_shorter, leads_item, leads_more, leads_none, leads_push, read_continued}
@@ -14,10 +13,11 @@ use Rattle.gr_parse.proofs.FormedStatements.{block_formed, block_stmt_formed, el
 use Rattle.gr_parse.proofs.FormedStatements.{no_else_formed, var_formed}
 use Rattle.gr_parse.proofs.ListedSteps.{listed_false, listed_none, listed_push}
 use Rattle.gr_parse.proofs.SpelledStatements.{block_spelled_as, block_stmt_spelled, else_block_spelled, else_if_spelled, for_stmt_spelled, if_spelled_as}
-use Rattle.gr_parse.proofs.SpelledStatements.{if_stmt_spelled, no_else_spelled, var_spelled}
+use Rattle.gr_parse.proofs.SpelledStatements.{if_stmt_spelled, no_else_spelled, var_spelled, block_item_spelled}
 use Rattle.std.proofs.Common.{arith, length, ◌≤◌, subst}
 use Rattle.gr_tree.specs.WellFormed.{IsIf}
 use Rattle.gr_tree.specs.FileView.{if_view}
+use Rattle.gr_parse.proofs.Lists.{items_rest}
 use Rattle.gr_parse.proofs.statements.+statement.Goals as goal
 
 pub block-returns-in_err-open-clause-exact : goal.block-returns-in_err-open-clause-exact

@@ -1,13 +1,14 @@
 -- The invariants of the loops of `statements::statement`.
 use Rattle.std.proofs.Common.{◌∷◌, ◌<◌, ◌+◌, ◌*◌, [], length}
 use Rattle.gr_tree.specs.Grammar.{A, Statement, MoreStatements}
-use Rattle.gr_parse.specs.Parsing.{Leads, items_rest}
+use Rattle.gr_parse.specs.Parsing.{Leads}
 use Rattle.gr_tree.specs.Flatten.{all_tokens}
-use Rattle.gr_parse.specs.Spelling.{block_item_spelled}
 use Rattle.gr_tree.specs.WellFormed.{IsStatement}
 use Rattle.gr_parse.specs.Listed.{IsListed}
 use Rattle.gr_parse.proofs.StatementSteps.{flag}
 use Rattle.gr_parse.proofs.FormedStatements.{block_item_view}
+use Rattle.gr_parse.proofs.Lists.{items_rest}
+use Rattle.gr_parse.proofs.SpelledStatements.{block_item_spelled}
 use Rattle.gr_parse.proofs.statements.+statement.Given as goal
 
 abbrev pub decreases-block : goal.decreases-block

@@ -4,13 +4,12 @@ use Rattle.std.proofs.lemmas.Bool.{cases_order}
 use Rattle.gr_scope.specs.declared.model.Block.{Block}
 use Rattle.gr_scope.specs.declared.model.Block.TheVariants.{Package}
 use Rattle.gr_scope.specs.Bindings.{block_of}
-use Rattle.gr_scope.specs.Chains.{IsLeft}
 use Rattle.gr_scope.specs.Leading.{Leads, LeadsIn}
 use Rattle.gr_scope.specs.Regions.{key_of, keys_of}
 use Rattle.gr_scope.specs.Scopes.{Nests}
 use Rattle.gr_scope.specs.Numbering.{told}
 use Rattle.gr_scope.specs.Table.{layout_of}
-use Rattle.gr_scope.proofs.Chains.{chain_left, chain_known, walk_left, walk_known, walk_ends}
+use Rattle.gr_scope.proofs.Chains.{chain_left, chain_known, walk_left, walk_known, walk_ends, IsLeft}
 use Rattle.gr_scope.proofs.links.first_in.Goals as goal
 
 pub loop-at-init : goal.loop-at-init

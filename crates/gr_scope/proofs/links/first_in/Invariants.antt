@@ -1,11 +1,10 @@
 -- The invariants of the loops of `links::first_in`.
 use Rattle.std.proofs.Common.{ℕ, ◌<◌, length}
-use Rattle.gr_scope.specs.Chains.{IsLeft}
 use Rattle.gr_scope.specs.Leading.{Leads, LeadsIn}
 use Rattle.gr_scope.specs.Regions.{key_of, keys_of}
 use Rattle.gr_scope.specs.Numbering.{told}
 use Rattle.gr_scope.specs.Table.{layout_of}
-use Rattle.gr_scope.proofs.Chains.{IsKnown, left_of}
+use Rattle.gr_scope.proofs.Chains.{IsKnown, left_of, IsLeft}
 use Rattle.gr_scope.proofs.links.first_in.Given as goal
 
 abbrev pub invariant-loop-at : goal.invariant-loop-at

@@ -1,6 +1,6 @@
 -- The invariants of the loops of `names::clause_names`.
 use Rattle.gr_declared.specs.InterfacesView.{name_in}
-use Rattle.gr_scoped.specs.ScopedPackages.{AreClauseNamesBelow}
+use Rattle.gr_scoped.proofs.ClauseNames.{AreClauseNamesBelow}
 use Rattle.gr_scoped.proofs.names.clause_names.Given as goal
 
 abbrev pub invariant-loop-number : goal.invariant-loop-number

@@ -1,7 +1,7 @@
 -- The answers to the goals of `spread::Spread::over`.
 use Rattle.std.proofs.Common.{◌≡◌, ◌<◌, length, get_or, ◌∙◌, arith, inl, inr, subst}
-use Rattle.gr_declared.specs.Spread.{IsMarked, IsFollowed, first}
-use Rattle.gr_declared.proofs.Spreading.{followed_more, reached_more, ordered_more, holds_reached}
+use Rattle.gr_declared.specs.Spread.{IsMarked, first}
+use Rattle.gr_declared.proofs.Spreading.{followed_more, reached_more, ordered_more, holds_reached, IsFollowed}
 use Rattle.gr_declared.proofs.spread.Spread.over.Goals as goal
 
 pub loop-place-init : goal.loop-place-init

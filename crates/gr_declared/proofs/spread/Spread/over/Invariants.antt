@@ -1,6 +1,7 @@
 -- The invariants of the loops of `spread::Spread::over`.
 use Rattle.std.proofs.Common.{ℕ, ◌≡◌, ◌≤◌, ◌-◌, length}
-use Rattle.gr_declared.specs.Spread.{IsMarked, IsListed, IsFollowed, IsOrdered, IsReached}
+use Rattle.gr_declared.specs.Spread.{IsMarked, IsListed, IsOrdered, IsReached}
+use Rattle.gr_declared.proofs.Spreading.{IsFollowed}
 use Rattle.gr_declared.proofs.spread.Spread.over.Given as goal
 
 abbrev pub invariant-loop-place : goal.invariant-loop-place

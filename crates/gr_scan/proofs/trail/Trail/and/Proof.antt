@@ -1,4 +1,6 @@
 -- `and` makes the empty struct, with the items that its clause names. Assumes `Logic`.
+-- Many of its lines are those of `new`: a walk speaks of the code, the clauses and the signature of its own function, which no
+-- lemma could name for both.
 use Rattle.std.proofs.Common.{List, [], ◌∷◌, ◌++◌, refl}
 use seplogic.Ra.Ura.{Ura}
 use mir.Syntax.{Fn, Args, a_type}

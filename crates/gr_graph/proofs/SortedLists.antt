@@ -1,5 +1,5 @@
 -- Lists in order that hold the same are the same.
-use Rattle.std.proofs.Common.{ℕ, zero, suc, ◌≡◌, ◌<◌, ◌⊎◌, inl, inr, List, [], ◌∷◌, length, refl, sym, ap, subst, ◌∙◌, arith}
+use Rattle.std.proofs.Common.{zero, suc, ◌≡◌, ◌<◌, ◌⊎◌, inl, inr, List, [], ◌∷◌, length, refl, sym, ap, subst, ◌∙◌, arith}
 use Rattle.std.specs.Prelude.{Contains}
 use Rattle.std.specs.Cmp.{IsTotalOrder, tied_itself}
 use Rattle.std.specs.List.Sorted.{IsStrictlySortedBy}
@@ -14,15 +14,17 @@ use Rattle.gr_graph.proofs.Collected.{none_held}
 
 -- the first, or one behind it
 
-first_in : {X : Type 0} (x : X) (xs : List X) → Contains (x ∷ xs) x
+pub first_in : {X : Type 0} (x : X) (xs : List X) → Contains (x ∷ xs) x
 first_in x xs = (0, omega arith, refl)
 
-later_in : {X : Type 0} (x : X) (xs : List X) (y : X) → Contains xs y → Contains (x ∷ xs) y
+pub later_in : {X : Type 0} (x : X) (xs : List X) (y : X) → Contains xs y → Contains (x ∷ xs) y
 later_in x xs y h = (suc h.0, (let lt : h.0 < length xs = h.1 in omega arith), h.2)
 
-first_or_later : {X : Type 0} (x : X) (xs : List X) (y : X) → Contains (x ∷ xs) y → (x ≡ y) ⊎ Contains xs y
+pub first_or_later : {X : Type 0} (x : X) (xs : List X) (y : X) → Contains (x ∷ xs) y → (x ≡ y) ⊎ Contains xs y
 first_or_later x xs y (zero, lt, e) = inl e
 first_or_later x xs y (suc k, lt, e) = inr (k, omega arith, e)
+
+-- in order
 
 module _ {K : Type 0} {R : K → K → Ordering} (o : IsTotalOrder R) where
   above : (x : K) (xs : List K) (y : K) → IsStrictlySortedBy R (x ∷ xs) → Contains xs y → R x y ≡ Less
@@ -46,14 +48,14 @@ module _ {K : Type 0} {R : K → K → Ordering} (o : IsTotalOrder R) where
     ]
   ]
 
-  pub one_in_order : (xs ys : List K) → IsStrictlySortedBy R xs → IsStrictlySortedBy R ys → ((x : K) → Contains xs x → Contains ys x) →
+  pub one_sorted : (xs ys : List K) → IsStrictlySortedBy R xs → IsStrictlySortedBy R ys → ((x : K) → Contains xs x → Contains ys x) →
       ((x : K) → Contains ys x → Contains xs x) → xs ≡ ys
-  one_in_order [] [] s t f g = refl
-  one_in_order [] (y ∷ ys) s t f g = absurd (none_held y (g y (first_in y ys)))
-  one_in_order (x ∷ xs) [] s t f g = absurd (none_held x (f x (first_in x xs)))
-  one_in_order (x ∷ xs) (y ∷ ys) s t f g =
+  one_sorted [] [] s t f g = refl
+  one_sorted [] (y ∷ ys) s t f g = absurd (none_held y (g y (first_in y ys)))
+  one_sorted (x ∷ xs) [] s t f g = absurd (none_held x (f x (first_in x xs)))
+  one_sorted (x ∷ xs) (y ∷ ys) s t f g =
       let e : x ≡ y = same_first x xs y ys s t (f x (first_in x xs)) (g y (first_in y ys)) in
       ap₂ (λ z zs. z ∷ zs) e
-      (one_in_order xs ys (sorted_tail R x xs s) (sorted_tail R y ys t)
+      (one_sorted xs ys (sorted_tail R x xs s) (sorted_tail R y ys t)
       (λ z c. elim (first_or_later y ys z (f z (later_in x xs z c))) [ inl h ↦ absurd (not_itself x xs z s c (e ∙ h)) | inr d ↦ d ])
       (λ z c. elim (first_or_later x xs z (g z (later_in y ys z c))) [ inl h ↦ absurd (not_itself y ys z t c (sym e ∙ h)) | inr d ↦ d ]))
