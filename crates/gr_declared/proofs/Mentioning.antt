@@ -60,9 +60,6 @@ target_named p file tree u (Some r) names h = (
 
 -- links that were added
 
-pub adds_none : (links : List (Vec ℕ)) (to : ℕ) (T : ℕ → Type 0) → ((a : ℕ) → T a → ⊥) → AddsLinks links links to T
-adds_none links to T none = record { size = refl; keeps = λ a b h. h; holds = λ a t. absurd (none a t); only = λ a b h. inl h }
-
 pub adds_as : (old new : List (Vec ℕ)) (to : ℕ) (T U : ℕ → Type 0) → ((a : ℕ) → T a → U a) → ((a : ℕ) → U a → T a) → AddsLinks old new to T →
     AddsLinks old new to U
 adds_as old new to T U from back h = record {

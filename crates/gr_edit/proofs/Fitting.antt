@@ -32,10 +32,6 @@ head_differs p ps distinct has =
     (All-from_recursion (λ y. path_eq p y ≡ false) ps (IsDistinct-head path_eq p ps distinct)) has in
     true≢false (sym ((bytes_decides p p).1 refl) ∙ apart)
 
-tail_distinct : (o : Option (List ℕ)) (ps : List (List ℕ)) → IsDistinct path_eq (cons_option o ps) → IsDistinct path_eq ps
-tail_distinct None ps distinct = distinct
-tail_distinct (Some p) ps distinct = IsDistinct-tail path_eq p ps distinct
-
 right_distinct : (xs ys : List (List ℕ)) → IsDistinct path_eq (xs ++ ys) → IsDistinct path_eq ys
 right_distinct [] ys distinct = distinct
 right_distinct (x ∷ xs) ys distinct = right_distinct xs ys (IsDistinct-tail path_eq x (xs ++ ys) distinct)

@@ -1,15 +1,13 @@
 -- One step of the loops over edits and changes.
-use Rattle.std.proofs.Common.{◌≡◌, ℕ, ◌+◌, ◌-◌, ◌<◌, ◌≤◌, List, [], ◌∷◌, ◌++◌, length, drop, get_or, Option, Some, None, refl, sym, ap, subst, ◌∙◌, arith}
-use Rattle.std.specs.List.{slice_range, All, filter_map, cons_option}
-use Rattle.std.specs.Option.{option_and_then}
-use Rattle.std.specs.FinMap.{get}
-use Rattle.std.proofs.lemmas.List.{drop_more, drop_all, append_assoc, append-nil, length-append}
+use Rattle.std.proofs.Common.{◌≡◌, ℕ, ◌+◌, ◌-◌, ◌<◌, ◌≤◌, List, [], ◌∷◌, ◌++◌, length, drop, get_or, sym, ap, subst, ◌∙◌, arith}
+use Rattle.std.specs.List.{slice_range, All}
+use Rattle.std.proofs.lemmas.List.{drop_more, drop_all, append_assoc, length-append}
 use Rattle.gr_text.specs.Workspace.{Workspace}
 use Rattle.gr_edit.specs.Edits.{AreInOrder, LieWithin, edited_from}
-use Rattle.gr_edit.specs.EditSet.{FileChanges, file_by, edited}
+use Rattle.gr_edit.specs.EditSet.{FileChanges, edited}
 use Rattle.gr_edit.specs.Fits.{Fits, IsThere}
-use Rattle.gr_edit.specs.Inverse.{AreChanges, LeadsBack, reversed, reversed_from, back_by, back_of, lost_by, lost_of, inverse}
-use Rattle.gr_edit.specs.Made.{with_files, made_of, made}
+use Rattle.gr_edit.specs.Inverse.{AreChanges, LeadsBack, reversed, reversed_from, inverse}
+use Rattle.gr_edit.specs.Made.{made}
 use Rattle.gr_edit.specs.Moved.{moved_offset}
 use Rattle.gr_edit.specs.Moving.{IsPast, moved_from}
 use Rattle.gr_edit.specs.Prepared.{IsPrepared}
@@ -87,46 +85,6 @@ size_more edits i at old e next =
     let len : length kept ≡ e.span.start - at = length_range old at e.span.start first (omega arith) in
     ap (λ (es : List Edit). length (edited_from at es old)) next.left
     ∙ length-append kept (e.text ++ rest) ∙ ap (λ n. n + length (e.text ++ rest)) len ∙ ap (λ n. (e.span.start - at) + n) (length-append e.text rest)
-
--- ---- changes
-with_next : (o : Option (List ℕ × List ℕ)) (rest : List (List ℕ × List ℕ)) (w : Workspace) →
-    with_files rest (with_files (cons_option o []) w) ≡ with_files (cons_option o rest) w
-with_next None rest w = refl
-with_next (Some file) rest w = refl
-
-pushed_next : {X : Type 0} (before : List X) (o : Option X) (rest : List X) → (before ++ cons_option o []) ++ rest ≡ before ++ cons_option o rest
-pushed_next before None rest = ap (λ xs. xs ++ rest) (append-nil before)
-pushed_next before (Some x) rest = append_assoc before (x ∷ []) rest
-
-pub files_more : (w old new all : Workspace) (changes : List FileChange) (i : ℕ) (c : FileChange) (text : List ℕ) →
-    drop i changes ≡ c ∷ drop (i + 1) changes → get w c.path ≡ Some text
-    → new ≡ with_files (cons_option (file_by (Some c) (c.path, text)) []) old → with_files (filter_map (made_of w) (drop i changes)) old ≡ all
-    → with_files (filter_map (made_of w) (drop (i + 1) changes)) new ≡ all
-files_more w old new all changes i c text left is made so_far =
-    let rest = filter_map (made_of w) (drop (i + 1) changes) in
-    ap (with_files rest) made ∙ with_next (file_by (Some c) (c.path, text)) rest old
-    ∙ ap (λ (o : Option (List ℕ)). with_files (cons_option (option_and_then (λ t. file_by (Some c) (c.path, t)) o) rest) old) (sym is)
-    ∙ ap (λ (cs : List FileChange). with_files (filter_map (made_of w) cs) old) (sym left) ∙ so_far
-
-pub back_more : (w : Workspace) (old new all : List FileChange) (changes : List FileChange) (i : ℕ) (c : FileChange) (text : List ℕ) →
-    drop i changes ≡ c ∷ drop (i + 1) changes → get w c.path ≡ Some text
-    → new ≡ old ++ cons_option (back_by c.fate c.path (reversed c.edits text)) [] → old ++ filter_map (back_of w) (drop i changes) ≡ all
-    → new ++ filter_map (back_of w) (drop (i + 1) changes) ≡ all
-back_more w old new all changes i c text left is made so_far =
-    let rest = filter_map (back_of w) (drop (i + 1) changes) in
-    ap (λ xs. xs ++ rest) made ∙ pushed_next old (back_by c.fate c.path (reversed c.edits text)) rest
-    ∙ ap (λ (o : Option (List ℕ)). old ++ cons_option (option_and_then (λ t. back_by c.fate c.path (reversed c.edits t)) o) rest) (sym is)
-    ∙ ap (λ (cs : List FileChange). old ++ filter_map (back_of w) cs) (sym left) ∙ so_far
-
-pub lost_more : (w : Workspace) (old new all : List (List ℕ × List ℕ)) (changes : List FileChange) (i : ℕ) (c : FileChange) (text : List ℕ) →
-    drop i changes ≡ c ∷ drop (i + 1) changes → get w c.path ≡ Some text
-    → new ≡ old ++ cons_option (lost_by c.fate (c.path, text)) [] → old ++ filter_map (lost_of w) (drop i changes) ≡ all
-    → new ++ filter_map (lost_of w) (drop (i + 1) changes) ≡ all
-lost_more w old new all changes i c text left is made so_far =
-    let rest = filter_map (lost_of w) (drop (i + 1) changes) in
-    ap (λ xs. xs ++ rest) made ∙ pushed_next old (lost_by c.fate (c.path, text)) rest
-    ∙ ap (λ (o : Option (List ℕ)). old ++ cons_option (option_and_then (λ t. lost_by c.fate (c.path, t)) o) rest) (sym is)
-    ∙ ap (λ (cs : List FileChange). old ++ filter_map (lost_of w) cs) (sym left) ∙ so_far
 
 -- what the list of changes says of one
 pub order_at : (changes : List FileChange) (i : ℕ) (c : FileChange) → i < length changes → c ≡ get_or changes i c →

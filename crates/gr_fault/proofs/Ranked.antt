@@ -1,13 +1,12 @@
 -- The faults of the files of a package, added one file after the other.
-use Rattle.std.proofs.Common.{ℕ, ◌≡◌, ◌+◌, ◌<◌, ◌⊎◌, inl, inr, List, [], ◌∷◌, ◌++◌, length, take, get_or, ap, subst, sym, ◌∙◌, arith, refl}
+use Rattle.std.proofs.Common.{ℕ, ◌≡◌, ◌+◌, ◌<◌, List, [], ◌∷◌, ◌++◌, length, take, get_or, ap, subst, sym, ◌∙◌, arith, refl}
 use Rattle.std.specs.Prelude.{map}
 use Rattle.std.specs.List.{flat_map, enumerate_from}
 use Rattle.std.proofs.lemmas.List.FromFn.{length-enumerate_from, get_or-enumerate_from}
 use Rattle.std.proofs.Math.ListN.{get_or-map, length-map}
 use Rattle.gr_fault.specs.declared.fault.Fault.{Fault}
-use Rattle.gr_fault.specs.Listing.{Adds, SomeOf, AddsEach}
-use Rattle.gr_fault.proofs.Listings.{adds_as}
-use Rattle.gr_fault.proofs.Each.{each_next, each_all, some_left, some_right, some_cases}
+use Rattle.gr_fault.specs.Listing.{AddsEach}
+use Rattle.gr_fault.proofs.Each.{each_next, each_all}
 
 at_rank : {Y : Type 0} (ys : List Y) (i : ℕ) (y : Y) → i < length ys → y ≡ get_or ys i y → get_or (enumerate_from 0 ys) i (i, y) ≡ (i, y)
 at_rank ys i y lt e =
@@ -51,14 +50,3 @@ pub map-flat_map-map : {X Y Z V : Type 0} (f : Y → Z) (g : X → List Y) (h : 
     map f (flat_map g (map h vs)) ≡ flat_map (λ v. map f (g (h v))) vs
 map-flat_map-map f g h [] = refl
 map-flat_map-map f g h (v ∷ vs) = map-append f (g (h v)) (flat_map g (map h vs)) ∙ ap (λ z. map f (g (h v)) ++ z) (map-flat_map-map f g h vs)
-
--- the faults of the items of each part
-pub some_flat : {X Y : Type 0} (Q : X → Fault → Type 0) (g : Y → List X) (ys : List Y) (f : Fault) → SomeOf (λ y. SomeOf Q (g y)) ys f →
-    SomeOf Q (flat_map g ys) f
-some_flat Q g [] f h = h
-some_flat Q g (y ∷ ys) f h = elim h [ inl q ↦ some_left Q (g y) (flat_map g ys) f q | inr r ↦ some_right Q (g y) (flat_map g ys) f (some_flat Q g ys f r) ]
-
-pub some_parts : {X Y : Type 0} (Q : X → Fault → Type 0) (g : Y → List X) (ys : List Y) (f : Fault) → SomeOf Q (flat_map g ys) f →
-    SomeOf (λ y. SomeOf Q (g y)) ys f
-some_parts Q g [] f h = h
-some_parts Q g (y ∷ ys) f h = elim (some_cases Q (g y) (flat_map g ys) f h) [ inl q ↦ inl q | inr r ↦ inr (some_parts Q g ys f r) ]

@@ -20,7 +20,7 @@ use Rattle.gr_statement_rules.proofs.Locals.{local_true}
 use Rattle.gr_statement_rules.proofs.Statements.{AreTargets, statement_true, block_true}
 use Rattle.gr_balance.specs.Asked.{Question, Asks, for_integer, for_text, for_name, in_composite, in_paren, in_prefix, in_address, in_chain, in_links}
 use Rattle.gr_balance.specs.Asked.{in_binary, in_operands}
-use Rattle.gr_balance.specs.StatementsAsked.{Asking, AskInTurn, this_item, later_item, AskInGroup, asks_alone, asks_together, AskIfPresent, asks_present}
+use Rattle.gr_balance.specs.StatementsAsked.{AskInTurn, this_item, later_item, AskInGroup, asks_alone, asks_together, AskIfPresent, asks_present}
 use Rattle.gr_balance.specs.StatementsAsked.{AnyAsks, this_one, a_later_one, SimpleAsks, in_call, in_step, in_updated, in_update, in_assigned}
 use Rattle.gr_balance.specs.StatementsAsked.{in_assignment, for_left, in_definition, LocalAsks, for_declared, in_values, InitAsks, in_init, HeaderAsks}
 use Rattle.gr_balance.specs.StatementsAsked.{in_while, in_first, in_test, in_post, StatementAsks, in_declaration, in_simple, in_inner, in_choice, in_header}
@@ -79,13 +79,6 @@ assigned_met : (w : World) (ls : Locals) {is : List (Item ExprTree)} {q : Questi
 unfolding assigned
 assigned_met w ls (this_one {i} {is} {q} a) = met_left q (assigned_one w ls i.value).uses (assigned w ls is).uses (one_assigned w ls a)
 assigned_met w ls (a_later_one {i} {is} {q} a) = met_right q (assigned_one w ls i.value).uses (assigned w ls is).uses (assigned_met w ls a)
-
--- a part that asks where those locals are, met in what is checked there
-abbrev pub Meets : {X : Type 0} → World → Asking X → (Checked → X → Checked) → Type 0
-Meets {X} w A check = (q : Question) (s : Checked) (x : X) → A s.locals x q → Met q (check s x).uses
-
-here : {X : Type 0} (A : Asking X) {before : Locals} {x : X} {q : Question} (s : Checked) → s.locals ≡ before → A before x q → A s.locals x q
-here A {x = x} {q} s e a = subst (λ z. A z x q) (sym e) a
 
 alone_met : (q : Question) (w : World) (s : Checked) (ls : Locals) (e : ExprTree) → s.locals ≡ ls → Asks w ls e q → Met q (check_alone w s e).uses
 unfolding check_alone

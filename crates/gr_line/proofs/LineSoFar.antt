@@ -1,18 +1,17 @@
 -- The part of a line that is read so far.
-use Rattle.std.proofs.Common.{◌≡◌, ◌≢◌, ℕ, ◌+◌, ◌<◌, ◌≤◌, List, [], ◌∷◌, ◌++◌, length, take, Option, None, Some, Ok, Bool, true, false, cond, eqb, nat_lt}
-use Rattle.std.proofs.Common.{refl, sym, ap, ◌∙◌, arith, append-nil, length-append, length-take, min}
-use Rattle.std.proofs.lemmas.List.{length-take, take_all, drop_all, take-append-le}
+use Rattle.std.proofs.Common.{◌≡◌, ◌≢◌, ℕ, ◌+◌, ◌<◌, ◌≤◌, List, [], ◌∷◌, ◌++◌, length, take, Option, None, Some, Ok, Bool, true, false, cond, nat_lt}
+use Rattle.std.proofs.Common.{sym, ap, ◌∙◌, arith, length-append, length-take, min}
+use Rattle.std.proofs.lemmas.List.{length-take, take_all, take-append-le}
 use Rattle.std.proofs.lemmas.Bool.{ltb-true}
 use Rattle.std.proofs.Math.Seq.{drop-append-add}
-use Rattle.gr_line.specs.declared.input.ReadLine.{ReadLine}
 use Rattle.std.proofs.lemmas.Grind.{common_steps}
 use Rattle.std.proofs.lemmas.List.Folds.{position_or_len_push, prefix_len-append}
 use Rattle.std.specs.List.{position_or_len}
-use Rattle.std.specs.Io.KnownBytes.{Consumes, Keeps, IsAtEnd}
-use Rattle.std.proofs.KnownBytes.{Consumes-nil, Consumes-trans}
+use Rattle.std.specs.Io.KnownBytes.{Consumes}
+use Rattle.std.proofs.KnownBytes.{Consumes-trans}
 use Rattle.gr_line.specs.Limit.{is_newline, line_of, after_line}
 use Rattle.gr_line.specs.Incoming.{ReadsLine}
-use Rattle.gr_line.specs.declared.input.ReadLine.TheVariants.{Nothing, Whole, TooLong}
+use Rattle.gr_line.specs.declared.input.ReadLine.TheVariants.{Whole, TooLong}
 
 -- these bytes of a line are read, and of them as many as the limit allows are kept
 pub record LineSoFar (limit : ℕ) (before now : Option (List ℕ)) (line : List ℕ) (is_too_long : Bool) : Type 0 where
@@ -24,9 +23,6 @@ pub record LineSoFar (limit : ℕ) (before now : Option (List ℕ)) (line : List
 
 is_long : (limit n : ℕ) → limit < n → true ≡ nat_lt limit n
 is_long limit n h = grind (arith, common_steps)
-
-not_long : (limit m n : ℕ) → m < limit → n ≤ limit → nat_lt limit m ≡ nat_lt limit n
-not_long limit m n h k = grind (arith, common_steps)
 
 whole_input : (input mid rest bytes : List ℕ) → input ≡ bytes ++ mid → mid ≡ 10 ∷ rest → input ≡ bytes ++ 10 ∷ rest
 whole_input input mid rest bytes e f = e ∙ ap (λ l. bytes ++ l) f
@@ -40,16 +36,6 @@ long_is limit n e = ltb-true limit n (sym e)
 short_is : (limit n : ℕ) → false ≡ nat_lt limit n → n ≤ limit
 short_is limit n e = grind (arith, common_steps)
 
-pub LineSoFar-none : (limit : ℕ) (before : Option (List ℕ)) (line : List ℕ) → line ≡ [] → LineSoFar limit before before line false
-LineSoFar-none limit before line e = record {
-  bytes = [];
-  consumed = Consumes-nil before;
-  plain = refl;
-  kept = grind (arith, common_steps);
-  long =
-      grind (arith, common_steps);
-}
-
 plain_push : (bytes : List ℕ) (byte : ℕ) → position_or_len is_newline bytes ≡ length bytes → byte ≢ 10 →
     position_or_len is_newline (bytes ++ byte ∷ []) ≡ length (bytes ++ byte ∷ [])
 plain_push bytes byte p n = grind (arith, common_steps, position_or_len_push)
@@ -57,22 +43,6 @@ plain_push bytes byte p n = grind (arith, common_steps, position_or_len_push)
 -- the kept part is as long as the limit allows
 length_kept : (limit : ℕ) (bytes line : List ℕ) → line ≡ take limit bytes → length line ≡ min limit (length bytes)
 length_kept limit bytes line e = ap length e ∙ length-take limit bytes
-
-pub kept_push : (limit : ℕ) (before mid now : Option (List ℕ)) (line : List ℕ) (is_too_long : Bool) (byte : ℕ)
-    → LineSoFar limit before mid line is_too_long → Consumes mid now (byte ∷ []) → byte ≢ 10 → length line < limit
-    → LineSoFar limit before now (line ++ byte ∷ []) is_too_long
-kept_push limit before mid now line is_too_long byte h c n room =
-    let is_min = length_kept limit h.bytes line h.kept in
-    let short : length h.bytes < limit = omega arith in
-    let all : line ≡ h.bytes = h.kept ∙ take_all limit h.bytes (omega arith) in
-    let length_more = length-append h.bytes (byte ∷ []) in
-    record {
-      bytes = h.bytes ++ byte ∷ [];
-      consumed = Consumes-trans before mid now h.bytes (byte ∷ []) h.consumed c;
-      plain = plain_push h.bytes byte h.plain n;
-      kept = ap (λ l. l ++ byte ∷ []) all ∙ sym (take_all limit (h.bytes ++ byte ∷ []) (omega (arith, length_more)));
-      long = h.long ∙ not_long limit (length h.bytes) (length (h.bytes ++ byte ∷ [])) short (omega (arith, length_more));
-    }
 
 pub long_push : (limit : ℕ) (before mid now : Option (List ℕ)) (line : List ℕ) (is_too_long : Bool) (byte : ℕ)
     → LineSoFar limit before mid line is_too_long → Consumes mid now (byte ∷ []) → byte ≢ 10 → limit ≤ length line
@@ -100,13 +70,6 @@ line_of-append bytes rest p = rw (position_there bytes rest p)
 pub after_line-append : (bytes rest : List ℕ) → position_or_len is_newline bytes ≡ length bytes → after_line (bytes ++ 10 ∷ rest) ≡ rest
 after_line-append bytes rest p = rw (position_there bytes rest p) (drop-append-add bytes (10 ∷ rest) 1)
 
--- a last line without a newline
-pub line_of-last : (bytes : List ℕ) → position_or_len is_newline bytes ≡ length bytes → line_of bytes ≡ bytes
-line_of-last bytes p = rw p (take_all (length bytes) bytes (omega arith))
-
-pub after_line-last : (bytes : List ℕ) → position_or_len is_newline bytes ≡ length bytes → after_line bytes ≡ []
-after_line-last bytes p = rw p (drop_all (length bytes + 1) bytes (omega arith))
-
 -- what a finished line says
 pub line_read : (limit : ℕ) (before mid after : Option (List ℕ)) (line : List ℕ) (is_too_long : Bool)
     → LineSoFar limit before mid line is_too_long → Consumes mid after (10 ∷ [])
@@ -127,48 +90,3 @@ line_read limit (Some input) (Some mid) (Some rest) line false h c =
     let all : line ≡ h.bytes = h.kept ∙ take_all limit h.bytes (short_is limit (length h.bytes) h.long) in
     let short : length line ≤ limit = rw all (short_is limit (length h.bytes) h.long) in
     rw e (not_empty h.bytes rest, short, all ∙ sym (line_of-append h.bytes rest h.plain), ap Some (sym (after_line-append h.bytes rest h.plain)))
-
--- the line at the end of the input
-abbrev pub end_of : Bool → ℕ → ReadLine
-end_of is_too_long size = cond is_too_long TooLong (cond (eqb size 0) Nothing Whole)
-
-nil_of : (bytes : List ℕ) → length bytes ≡ 0 → bytes ≡ []
-nil_of [] e = refl
-nil_of (b ∷ bytes) e = absurd (omega (arith, e))
-
-not_nil : (bytes : List ℕ) → 0 < length bytes → bytes ≢ []
-not_nil bytes h = λ f. absurd (omega (arith, ap length f))
-
-is_zero : (n : ℕ) → eqb n 0 ≡ true → n ≡ 0
-is_zero n e = grind (arith, common_steps)
-
-above_zero : (n : ℕ) → eqb n 0 ≡ false → 0 < n
-above_zero n e = grind (arith, common_steps)
-
-line_ended_by : (limit : ℕ) (before mid after : Option (List ℕ)) (line : List ℕ) (is_too_long is_empty : Bool) → eqb (length line) 0 ≡ is_empty
-    → LineSoFar limit before mid line is_too_long → Keeps mid after × IsAtEnd after
-    → ReadsLine limit before after line (Ok (cond is_too_long TooLong (cond is_empty Nothing Whole)))
-line_ended_by limit None mid after line true is_empty q h c = tt
-line_ended_by limit None mid after line false true q h c = tt
-line_ended_by limit None mid after line false false q h c = tt
-line_ended_by limit (Some input) None after line is_too_long is_empty q h c = absurd h.consumed
-line_ended_by limit (Some input) (Some mid) None line is_too_long is_empty q h c = absurd c.0
-line_ended_by limit (Some input) (Some mid) (Some rest) line true is_empty q h c =
-    let e : input ≡ h.bytes = h.consumed ∙ ap (λ l. h.bytes ++ l) (sym c.0 ∙ c.1) ∙ append-nil h.bytes in
-    let long = long_is limit (length h.bytes) h.long in
-    rw e (not_nil h.bytes (omega arith), rw (line_of-last h.bytes h.plain) long, ap Some (c.1 ∙ sym (after_line-last h.bytes h.plain)))
-line_ended_by limit (Some input) (Some mid) (Some rest) line false true q h c =
-    let e : input ≡ h.bytes = h.consumed ∙ ap (λ l. h.bytes ++ l) (sym c.0 ∙ c.1) ∙ append-nil h.bytes in
-    let all : line ≡ h.bytes = h.kept ∙ take_all limit h.bytes (short_is limit (length h.bytes) h.long) in
-    (e ∙ nil_of h.bytes (ap length (sym all) ∙ is_zero (length line) q), ap Some c.1)
-line_ended_by limit (Some input) (Some mid) (Some rest) line false false q h c =
-    let e : input ≡ h.bytes = h.consumed ∙ ap (λ l. h.bytes ++ l) (sym c.0 ∙ c.1) ∙ append-nil h.bytes in
-    let all : line ≡ h.bytes = h.kept ∙ take_all limit h.bytes (short_is limit (length h.bytes) h.long) in
-    let short : length line ≤ limit = rw all (short_is limit (length h.bytes) h.long) in
-    let some : 0 < length h.bytes = omega (arith, ap length all, above_zero (length line) q) in
-    rw e (not_nil h.bytes some, short, all ∙ sym (line_of-last h.bytes h.plain), ap Some (c.1 ∙ sym (after_line-last h.bytes h.plain)))
-
-pub line_ended : (limit : ℕ) (before mid after : Option (List ℕ)) (line : List ℕ) (is_too_long : Bool)
-    → LineSoFar limit before mid line is_too_long → Keeps mid after × IsAtEnd after
-    → ReadsLine limit before after line (Ok (end_of is_too_long (length line)))
-line_ended limit before mid after line is_too_long h c = line_ended_by limit before mid after line is_too_long (eqb (length line) 0) refl h c

@@ -1,12 +1,12 @@
 -- The words of a command line.
-use Rattle.std.proofs.Common.{◌≡◌, ◌≢◌, ℕ, ◌^◌, ◌+◌, ◌*◌, ◌<◌, List, [], ◌∷◌, ◌++◌, Option, None, Some, refl, sym, ap, ◌∙◌, arith, decimal, codes}
+use Rattle.std.proofs.Common.{◌≡◌, ◌≢◌, ℕ, ◌+◌, ◌*◌, ◌<◌, List, [], ◌∷◌, ◌++◌, Option, None, Some, refl, sym, ap, ◌∙◌, arith, decimal, codes}
 use Rattle.std.specs.List.{AllByRecursion}
 use Rattle.gr_line.specs.declared.parse.CommandLine.{CommandLine}
 use Rattle.gr_line.specs.declared.parse.CommandLine.TheVariants.{Look, Put, Del, Rename, Move, Undo, Redo, Cat, Uses, End}
 use Rattle.gr_line.specs.declared.parse.CommandLine.TheVariants as line
-use Rattle.gr_line.specs.Words.{HasNoSpace, IsWord, spaced}
+use Rattle.gr_line.specs.Words.{HasNoSpace, spaced}
 use Rattle.gr_line.specs.Lines.{verb_of, args_of, place_word, FitsLine, IsCommandLine}
-use Rattle.gr_line.specs.Parsing.{HasWords, ParsesArgs, ParsesBare, ParsesLine, IsSpaced}
+use Rattle.gr_line.specs.Parsing.{HasWords, ParsesArgs, ParsesLine, IsSpaced}
 use Rattle.gr_line.proofs.Words.{split_unique, no_space, decimal_word}
 use Rattle.gr_line.proofs.Places.{place_word_no_space}
 
@@ -171,80 +171,6 @@ rename_words words never command h = only_rename command (λ c. FitsLine c → I
 pub move_words : (words : List ℕ) → ((basis : ℕ) (from to : List ℕ) → FitsLine (Move basis from to) → words ≡ decimal basis ++ 32 ∷ (from ++ 32 ∷ to) → ⊥)
     → (command : CommandLine) → HasWords (codes "move") words command → ⊥
 move_words words never command h = only_move command (λ c. FitsLine c → IsSpaced (args_of c) words → ⊥) h.first never h.fits h.others
-
-pub undo_words : (words : List ℕ) → ((basis : ℕ) → basis < 2 ^ 64 → words ≡ decimal basis → ⊥)
-    → (command : CommandLine) → HasWords (codes "undo") words command → ⊥
-undo_words words never command h = only_undo command (λ c. FitsLine c → IsSpaced (args_of c) words → ⊥) h.first never h.fits h.others
-
-pub redo_words : (words : List ℕ) → ((basis : ℕ) → basis < 2 ^ 64 → words ≡ decimal basis → ⊥)
-    → (command : CommandLine) → HasWords (codes "redo") words command → ⊥
-redo_words words never command h = only_redo command (λ c. FitsLine c → IsSpaced (args_of c) words → ⊥) h.first never h.fits h.others
-
-pub cat_words : (words : List ℕ) → ((path : List ℕ) → IsWord path → words ≡ path → ⊥)
-    → (command : CommandLine) → HasWords (codes "cat") words command → ⊥
-cat_words words never command h = only_cat command (λ c. FitsLine c → IsSpaced (args_of c) words → ⊥) h.first never h.fits h.others
-
-pub uses_words : (words : List ℕ) → ((path : List ℕ) (offset : ℕ) → FitsLine (Uses path offset) → words ≡ place_word path offset → ⊥)
-    → (command : CommandLine) → HasWords (codes "uses") words command → ⊥
-uses_words words never command h = only_uses command (λ c. FitsLine c → IsSpaced (args_of c) words → ⊥) h.first never h.fits h.others
-
-pub object_words : (words : List ℕ) → ((path : List ℕ) → IsWord path → words ≡ path → ⊥)
-    → (command : CommandLine) → HasWords (codes "object") words command → ⊥
-object_words words never command h = only_object command (λ c. FitsLine c → IsSpaced (args_of c) words → ⊥) h.first never h.fits h.others
-
-pub log_words : (words : List ℕ) → ((number : ℕ) → number < 2 ^ 64 → words ≡ decimal number → ⊥)
-    → (command : CommandLine) → HasWords (codes "log") words command → ⊥
-log_words words never command h = only_log command (λ c. FitsLine c → IsSpaced (args_of c) words → ⊥) h.first never h.fits h.others
-
--- lines of several words begin with one of these
-pub no_verb : (verb words : List ℕ) → verb ≢ codes "put" → verb ≢ codes "del" → verb ≢ codes "rename" → verb ≢ codes "move" → verb ≢ codes "undo" →
-    verb ≢ codes "redo" → verb ≢ codes "cat" → verb ≢ codes "uses" → verb ≢ codes "object" → verb ≢ codes "log"
-    → (command : CommandLine) → HasWords verb words command → ⊥
-no_verb verb words put del rename move undo redo cat uses object log (Put basis path size) h = put (sym h.first)
-no_verb verb words put del rename move undo redo cat uses object log (Del basis path) h = del (sym h.first)
-no_verb verb words put del rename move undo redo cat uses object log (Rename basis path offset name) h = rename (sym h.first)
-no_verb verb words put del rename move undo redo cat uses object log (Move basis from to) h = move (sym h.first)
-no_verb verb words put del rename move undo redo cat uses object log (Undo basis) h = undo (sym h.first)
-no_verb verb words put del rename move undo redo cat uses object log (Redo basis) h = redo (sym h.first)
-no_verb verb words put del rename move undo redo cat uses object log (Cat path) h = cat (sym h.first)
-no_verb verb words put del rename move undo redo cat uses object log (Uses path offset) h = uses (sym h.first)
-no_verb verb words put del rename move undo redo cat uses object log Look h = h.others
-no_verb verb words put del rename move undo redo cat uses object log line.List h = h.others
-no_verb verb words put del rename move undo redo cat uses object log line.Faults h = h.others
-no_verb verb words put del rename move undo redo cat uses object log (line.Object path) h = object (sym h.first)
-no_verb verb words put del rename move undo redo cat uses object log line.Work h = h.others
-no_verb verb words put del rename move undo redo cat uses object log line.Wait h = h.others
-no_verb verb words put del rename move undo redo cat uses object log (line.Log number) h = log (sym h.first)
-no_verb verb words put del rename move undo redo cat uses object log End h = h.others
-
-pub no_bare : (verb : List ℕ) → verb ≢ codes "look" → verb ≢ codes "list" → verb ≢ codes "faults" → verb ≢ codes "work" → verb ≢ codes "wait" →
-    verb ≢ codes "end"
-    → (command : CommandLine) → args_of command ≡ [] → verb_of command ≢ verb
-no_bare verb look list faults work wait end Look a = λ e. look (sym e)
-no_bare verb look list faults work wait end line.List a = λ e. list (sym e)
-no_bare verb look list faults work wait end line.Faults a = λ e. faults (sym e)
-no_bare verb look list faults work wait end (line.Object path) a = absurd cc
-no_bare verb look list faults work wait end line.Work a = λ e. work (sym e)
-no_bare verb look list faults work wait end line.Wait a = λ e. wait (sym e)
-no_bare verb look list faults work wait end End a = λ e. end (sym e)
-no_bare verb look list faults work wait end (Put basis path size) a = absurd cc
-no_bare verb look list faults work wait end (Del basis path) a = absurd cc
-no_bare verb look list faults work wait end (Rename basis path offset name) a = absurd cc
-no_bare verb look list faults work wait end (Move basis from to) a = absurd cc
-no_bare verb look list faults work wait end (Undo basis) a = absurd cc
-no_bare verb look list faults work wait end (line.Log number) a = absurd cc
-no_bare verb look list faults work wait end (Redo basis) a = absurd cc
-no_bare verb look list faults work wait end (Cat path) a = absurd cc
-no_bare verb look list faults work wait end (Uses path offset) a = absurd cc
-
--- a line without a space has no other words
-bare_words : (text verb : List ℕ) (words : List (List ℕ)) → HasNoSpace text → text ≡ spaced verb words → (words ≡ []) × (text ≡ verb)
-bare_words text verb [] h e = (refl, e)
-bare_words text verb (w ∷ words) h e = absurd (no_space text verb (spaced w words) h e)
-
-pub bare_line : (text : List ℕ) (r : Option CommandLine) → HasNoSpace text → ParsesBare text r → ParsesLine text r
-bare_line text None h p = λ command k. let b = bare_words text (verb_of command) (args_of command) h k.spelled in p command b.0 (sym b.1)
-bare_line text (Some command) h p = p
 
 -- a line with a space has other words
 spelled_by : (text verb words first : List ℕ) (others : List (List ℕ)) → text ≡ verb ++ 32 ∷ words → first ≡ verb → IsSpaced others words →

@@ -6,28 +6,19 @@ use Rattle.std.proofs.Math.ListN.{get_or-append}
 use Rattle.std.proofs.lemmas.List.{get_or_past}
 use Rattle.std.proofs.Math.Seq.{get_or-append_seam}
 use Rattle.std.proofs.lemmas.Bool.{cases_lt}
-use Rattle.std.proofs.lemmas.Option.{slice_get_within, none-some}
+use Rattle.std.proofs.lemmas.Option.{none-some}
 use Rattle.gr_expr.specs.declared.world.Bound.{Bound}
 use Rattle.gr_expr.specs.World as plain
 use Rattle.gr_expr.specs.WorldView.{bound_of, bound_at}
 use Rattle.gr_declared.specs.Package.{Package}
 use Rattle.gr_declared.specs.Bound.{IsMeantBy}
 use Rattle.gr_meanings.specs.BoundsView.{IsMeaningFound, AreBoundsBelow, AreBounds, Extends, AddsMeaning}
-use Rattle.gr_declared.proofs.Paths.{get_before, get_last}
+use Rattle.gr_declared.proofs.Paths.{get_last}
 
 -- lists that grow
 
 pub extends_itself : {X : Type 0} (xs : List X) → Extends xs xs
 extends_itself xs = record { longer = omega arith; keeps = λ i x e. e }
-
-pub extends_push : {X : Type 0} (xs ys : List X) (x : X) → ys ≡ xs ++ (x ∷ []) → Extends xs ys
-extends_push xs ys x e = record {
-  longer = let l : length ys ≡ length xs + 1 = ap length e ∙ length-append xs (x ∷ []) in omega (arith, l);
-  keeps = λ i y is. ap (λ z. slice_get z i) e ∙ get_before xs x i (slice_get_within xs i y is) ∙ is;
-}
-
-pub extends_then : {X : Type 0} (xs ys zs : List X) → Extends xs ys → Extends ys zs → Extends xs zs
-extends_then xs ys zs a b = record { longer = omega (arith, a.longer, b.longer); keeps = λ i x e. b.keeps i x (a.keeps i x e) }
 
 pub pushed_at : {X : Type 0} (xs ys : List X) (x : X) → ys ≡ xs ++ (x ∷ []) → slice_get ys (length xs) ≡ Some x
 pushed_at xs ys x e = ap (λ z. slice_get z (length xs)) e ∙ get_last xs x
@@ -82,14 +73,6 @@ next_meaning p n list of found new_list new_of a f h =
             (meaning_at p n (bound_at new_list (slice_index_or new_of n None)) found (ap (λ o. option_map bound_of (bound_at new_list o)) here ∙ a.means) f)
       ];
     }
-
--- no declaration yet
-pub no_meanings : (p : Package) (list : List Bound) (of : List (Option ℕ)) → of ≡ [] → AreBoundsBelow p 0 list of
-no_meanings p list of e = record {
-  all = ap length e;
-  within = λ d i is. absurd (none-some i (ap (λ z. slice_index_or z d None) (sym e) ∙ is));
-  each = λ d lt. absurd (omega arith);
-}
 
 -- more may stand in the list
 pub bounds_stay : (p : Package) (list : List Bound) (of : List (Option ℕ)) (new_list : List Bound) (new_of : List (Option ℕ)) → Extends list new_list →

@@ -1,10 +1,10 @@
 -- The edits of files by their paths, and what is added to them.
-use Rattle.std.proofs.Common.{ℕ, ◌≡◌, ◌<◌, ◌+◌, ◌⊎◌, inl, inr, Bool, true, false, cond, List, length, Option, Some, None, is_some, IsSome, refl, sym, ap}
+use Rattle.std.proofs.Common.{ℕ, ◌≡◌, ◌<◌, ◌+◌, ◌⊎◌, inl, inr, Bool, true, false, cond, List, length, Option, Some, is_some, IsSome, refl, sym, ap}
 use Rattle.std.proofs.Common.{subst, ◌∙◌, arith}
 use Rattle.std.specs.Prelude.{slice_get}
-use Rattle.std.specs.BTreeMap.{BTreeMap, Updates, is_at}
-use Rattle.std.proofs.lemmas.Bool.{cases_lt, true≢false}
-use Rattle.std.proofs.lemmas.Option.{same_Some, none-some, slice_get_within}
+use Rattle.std.specs.BTreeMap.{Updates, is_at}
+use Rattle.std.proofs.lemmas.Bool.{cases_lt}
+use Rattle.std.proofs.lemmas.Option.{same_Some, slice_get_within}
 use Rattle.gr_text.specs.Workspace.{Workspace, path_cmp}
 use Rattle.gr_tree.specs.SourceFile.{SourceFile}
 use Rattle.gr_declared.specs.Package.{Package}
@@ -41,9 +41,6 @@ adds_entry old new path edits K F u is one = record {
 
 -- nothing, more, and the same told otherwise
 
-pub adds_nothing : (a : EditMap) (K : List ℕ → List Edit → Type 0) (F : List ℕ → Type 0) → ((q : List ℕ) → F q → ⊥) → AddsEdits a a K F
-adds_nothing a K F none = record { keeps = λ q h. h; holds = λ q f. absurd (none q f); only = λ q found e. inl e }
-
 pub adds_then : (a b c : EditMap) (K : List ℕ → List Edit → Type 0) (F G H : List ℕ → Type 0) → ((q : List ℕ) → H q → F q ⊎ G q) → AddsEdits a b K F →
     AddsEdits b c K G → AddsEdits a c K H
 adds_then a b c K F G H split h k = record {
@@ -66,9 +63,6 @@ pub record IsFileBelow (p : Package) (count : ℕ) (path : List ℕ) : Type 0 wh
   pub rank : ℕ
   pub below : rank < count
   pub file : IsFileAt p rank path
-
-pub no_file_below : (p : Package) (path : List ℕ) → IsFileBelow p 0 path → ⊥
-no_file_below p path h = let lt = h.below in absurd (omega arith)
 
 below_split : (p : Package) (n : ℕ) (path : List ℕ) → IsFileBelow p (n + 1) path → IsFileBelow p n path ⊎ IsFileAt p n path
 below_split p n path h = elim (cases_lt h.rank n) [
@@ -96,12 +90,6 @@ pub all_below : (p : Package) (n : ℕ) → n ≡ length p.files → (path : Lis
 all_below p n end path h = record { rank = h.0; below = subst (λ k. h.0 < k) (sym end) (slice_get_within p.files h.0 h.1.source h.1.has_rank); file = h.1 }
 
 -- the packages of a workspace, up to a number
-
-pub knows_none : (w : Workspace) (known : Verdicts) (m : Moved) (map : EditMap) → ((q : List ℕ) → edits_for map q ≡ None) → KnowsEdits w known m 0 map
-knows_none w known m map empty = record {
-  right = λ path edits e. absurd (none-some edits (sym (empty path) ∙ e));
-  all = λ n p path lt is has. absurd (omega arith);
-}
 
 are_go : (w : Workspace) (known : Verdicts) (m : Moved) (n : ℕ) (p : Package) → IsPackageAt w known n p → (path : List ℕ) (edits : List Edit) →
     AreEditsIn p m path edits → AreGoEdits w known m path edits

@@ -1,5 +1,5 @@
 -- The parts of paths that move.
-use Rattle.std.proofs.Common.{ℕ, ◌≡◌, ◌+◌, inl, inr, true, false, List, [], ◌∷◌, ◌++◌, length, take, drop, Option, Some, None, Bor, refl, sym, ap, subst, ◌∙◌}
+use Rattle.std.proofs.Common.{ℕ, ◌≡◌, ◌+◌, inl, inr, true, false, List, [], ◌∷◌, ◌++◌, length, take, drop, Option, Some, None, Bor, refl, sym, ap, ◌∙◌}
 use Rattle.std.specs.Prelude.{MatchOption, ◌==◌}
 use Rattle.std.specs.Cmp.Lexicographic.{pointwise, bytes_decides}
 use Rattle.std.proofs.Math.Seq.{take-append_seam}
@@ -27,10 +27,6 @@ rest_found front text (Some x) h =
 
 -- what stands behind a folder
 
-pub behind_moves : (from to old rest : List ℕ) → old ≡ from ++ rest → IsBehind rest → HasMovedPackage from to old (to ++ rest)
-behind_moves from to old rest e (inl none) = inl (e ∙ ap (λ r. from ++ r) none ∙ append-nil from, ap (λ r. to ++ r) none ∙ append-nil to)
-behind_moves from to old rest e (inr h) = inr (record { rest = h.0; was = e ∙ ap (λ r. from ++ r) h.1; is = ap (λ r. to ++ r) h.1 })
-
 pub record MovesBehind (from to old new : List ℕ) : Type 0 where
   pub rest : List ℕ
   pub was : old ≡ from ++ rest
@@ -50,17 +46,11 @@ one_moved_package from to old one other h k =
     let same = append_cancel_left from a.rest b.rest (sym a.was ∙ b.was) in
     a.is ∙ ap (λ r. to ++ r) same ∙ sym b.is
 
-pub one_moved : (from to old one other : List ℕ) → HasMoved from to old one → HasMoved from to old other → one ≡ other
-one_moved from to old one other h k = one_moved_package from to old one other (inr h) (inr k)
-
 -- and from one
 pub one_source : (from to one other new : List ℕ) → HasMoved from to one new → HasMoved from to other new → one ≡ other
 one_source from to one other new h k =
     let same = append_cancel_left to (47 ∷ h.rest) (47 ∷ k.rest) (sym h.is ∙ k.is) in
     h.was ∙ ap (λ r. from ++ r) same ∙ sym k.was
-
-pub moves_under : (from to old new : List ℕ) → HasMoved from to old new → IsUnder from old
-moves_under from to old new h = (h.rest, h.was)
 
 pub moved_under : (from to old new : List ℕ) → HasMoved from to old new → IsUnder to new
 moved_under from to old new h = (h.rest, h.is)

@@ -1,6 +1,6 @@
 -- What the edit set of a move answers.
-use Rattle.std.proofs.Common.{ℕ, ◌≡◌, Global, List, [], length, sym, subst, ◌∙◌}
-use Rattle.std.specs.Prelude.{Contains, Ok, Err}
+use Rattle.std.proofs.Common.{ℕ, ◌≡◌, Global, List, [], length, sym, subst}
+use Rattle.std.specs.Prelude.{Ok, Err}
 use Rattle.std.specs.FinMap.{entries, get}
 use Rattle.gr_text.specs.Packages.{package_paths}
 use Rattle.gr_text.specs.Workspace.{Workspace}
@@ -9,7 +9,6 @@ use Rattle.gr_text.specs.declared.refusal.Refusal.TheVariants.{Memory, TooLarge}
 use Rattle.gr_verdict.specs.declared.findings.Findings.{Findings}
 use Rattle.gr_verdict.specs.Verdicts.{Verdicts}
 use Rattle.gr_edit.specs.EditSet.{FileChanges}
-use Rattle.gr_edit.specs.Fits.{IsEditSet}
 use Rattle.gr_edit.specs.declared.change.FileChange.{FileChange}
 use Rattle.gr_edit.proofs.Entries.{get_entry, some_is}
 use Rattle.gr_bound.specs.Workspaces.{IsSound, known_in}
@@ -17,7 +16,7 @@ use Rattle.gr_moving.specs.declared.moved.Moved.{Moved}
 use Rattle.gr_moving.specs.Paths.{HasMoved}
 use Rattle.gr_moving.specs.MoveEdits.{IsMoveOf, HoldsNoOther, PlansMoveEdits}
 use Rattle.gr_moving.specs.Steps.{EditMap, KnowsEdits, AreChangesOf, TellsChanges}
-use Rattle.gr_moving.proofs.Fitting.{is_edit_set, are_move_edits, fits}
+use Rattle.gr_moving.proofs.Fitting.{are_move_edits, fits}
 
 abbrev set_with : List FileChange → FileChanges
 set_with cs = record { changed = cs; added = [] }
@@ -38,12 +37,6 @@ refused_set w known m edits from to called is TooLarge h =
     }
 refused_set w known m edits from to called is Memory h = h
 refused_set w known m edits from to called is _ h = h
-
-pub set_is_one : (w : Workspace) (found : Findings) → IsSound w found → (m : Moved) (edits : EditMap) →
-    KnowsEdits w (known_in found) m (length (package_paths w)) edits → (cs : List FileChange) → AreChangesOf m edits (entries w) cs →
-    (added : List (List ℕ × List ℕ)) → added ≡ [] → IsEditSet (record { changed = cs; added = added })
-set_is_one w found sound m edits knows cs are added e = subst (λ l. IsEditSet (record { changed = cs; added = l })) (sym e)
-    (is_edit_set w found sound m edits knows cs are)
 
 pub planned_set : (w : Workspace) (found : Findings) → IsSound w found → (m : Moved) (edits : EditMap) →
     KnowsEdits w (known_in found) m (length (package_paths w)) edits → (cs : List FileChange) → AreChangesOf m edits (entries w) cs →

@@ -1,8 +1,7 @@
 -- The edits of a file, token by token. Q: the edits of each token.
 use Rattle.std.proofs.Common.{◌≡◌, ℕ, ◌<◌, ◌≤◌, ◌+◌, inl, inr, List, [], ◌∷◌, ◌++◌, length, drop, get_or, Global, refl, sym, ap, subst, ◌∙◌, arith}
-use Rattle.std.specs.Prelude.{Option, Some, None, Vec, Contains, MatchOption, slice_get, ◌↔◌}
+use Rattle.std.specs.Prelude.{Option, Some, None, Vec, Contains, MatchOption, slice_get}
 use Rattle.std.proofs.lemmas.List.{append-nil}
-use Rattle.std.proofs.lemmas.List.Elements.{All-nil}
 use Rattle.std.proofs.lemmas.Option.{same_Some, slice_get_within, get_or_from_slice_get}
 use Rattle.gr_text.specs.declared.place.Span.{Span}
 use Rattle.gr_scan.specs.declared.piece.Piece.{Piece}
@@ -19,7 +18,7 @@ use Rattle.gr_imports.specs.Files.{HasLiteral}
 use Rattle.gr_edit.specs.declared.edit.Edit.{Edit}
 use Rattle.gr_declared.specs.Package.{Package}
 use Rattle.gr_bound.specs.Bindings.{AddsAll}
-use Rattle.gr_bound.proofs.AddingAll.{BelowAll, none_below, next_below, all_none, all_as}
+use Rattle.gr_bound.proofs.AddingAll.{BelowAll, next_below, all_none, all_as}
 use Rattle.gr_renaming.specs.FileEdits.{EndBy}
 use Rattle.gr_renaming.proofs.Editing.{all_one, end_more, end_push, follow_at}
 use Rattle.gr_moving.specs.declared.moved.Moved.{Moved}
@@ -42,12 +41,6 @@ one_path f m i d e h k =
     let old : h.old ≡ k.old = one_string_value (bytes_of f.cut.text (token_at f.cut i)) h.old k.old h.stands_for.stands_for k.stands_for.stands_for in
     let new : h.new ≡ k.new = one_moved_package m.from m.to k.old h.new k.new (subst (λ o. HasMovedPackage m.from m.to o h.new) old h.moves) k.moves in
     h.is_edit ∙ same_edit h.token k.token (quoted h.new) (quoted k.new) token (ap quoted new) ∙ sym k.is_edit
-
-pub one_name : (p : Package) (rank : ℕ) (f : SourceFile) (m : Moved) (i : ℕ) (d e : Edit) → ReplacesName p rank f m i d → ReplacesName p rank f m i e → d ≡ e
-one_name p rank f m i d e h k =
-    let token : h.token ≡ k.token = same_Some h.token k.token (sym h.at ∙ k.at) in
-    let name : h.name ≡ k.name = same_Some h.name k.name (sym h.follows ∙ k.follows) in
-    h.is_edit ∙ same_edit h.token k.token h.name k.name token name ∙ sym k.is_edit
 
 -- the literal at a token
 
@@ -114,19 +107,10 @@ no_path_at_name f m i token e at name h =
     let here : token_at f.cut i ≡ token = get_or_from_slice_get (tokens_in f.cut) i token _ at in
     no_string token.class name (subst (λ (t : Piece). IsStringClass t.class) here h.stands_for.is_string)
 
-pub no_name_elsewhere : (p : Package) (rank : ℕ) (f : SourceFile) (m : Moved) (i : ℕ) (token : Piece) (e : Edit) →
-    slice_get (tokens_in f.cut) i ≡ Some token → (token.class ≡ Name → ⊥) → ReplacesName p rank f m i e → ⊥
-no_name_elsewhere p rank f m i token e at other h = other (ap (λ (t : Piece). t.class) (same_Some token h.token (sym at ∙ h.at)) ∙ h.is_name)
-
 pub names_are_edits : (p : Package) (rank : ℕ) (f : SourceFile) (m : Moved) (i : ℕ) (a b : List Edit) → ((e : Edit) → ReplacesPath f m i e → ⊥) →
     AddsAll a b (ReplacesName p rank f m i) → AddsAll a b (IsEditAt p rank f m i)
 names_are_edits p rank f m i a b never h = all_as a b (ReplacesName p rank f m i) (IsEditAt p rank f m i) (λ e n. inr n)
     (λ e x. elim x [ inl path ↦ absurd (never e path) | inr n ↦ n ]) h
-
-pub paths_are_edits : (p : Package) (rank : ℕ) (f : SourceFile) (m : Moved) (i : ℕ) (a b : List Edit) → ((e : Edit) → ReplacesName p rank f m i e → ⊥) →
-    AddsAll a b (ReplacesPath f m i) → AddsAll a b (IsEditAt p rank f m i)
-paths_are_edits p rank f m i a b never h = all_as a b (ReplacesPath f m i) (IsEditAt p rank f m i) (λ e n. inl n)
-    (λ e x. elim x [ inl path ↦ path | inr n ↦ absurd (never e n) ]) h
 
 -- the tokens so far
 
@@ -135,15 +119,6 @@ pub record Going (Q : ℕ → Edit → Type 0) (f : SourceFile) (ts : List Piece
   pub end_by : EndBy edits at
   pub follow : FollowFrom at (drop i ts) (length f.cut.text)
   pub adds : AddsAll [] edits (BelowAll Q i)
-
-pub going_first : (Q : ℕ → Edit → Type 0) (f : SourceFile) (ts : List Piece) (edits : List Edit) → edits ≡ [] → FollowFrom 0 ts (length f.cut.text) →
-    Going Q f ts 0 edits
-going_first Q f ts edits e follow = subst (Going Q f ts 0) (sym e) (record {
-  at = 0;
-  end_by = record { in_order = tt; ends = All-nil (λ (d : Edit). d.span.end ≤ 0) };
-  follow = follow;
-  adds = none_below Q [];
-})
 
 pub going_next : (Q : ℕ → Edit → Type 0) (f : SourceFile) (ts : List Piece) (i : ℕ) (d : Piece) (old new : List Edit) → i < length ts → Going Q f ts i old →
     EndBy new (get_or ts i d).span.end → AddsAll old new (Q i) → Going Q f ts (i + 1) new

@@ -57,9 +57,6 @@ record Front (text other : List ℕ) (ps qs rs : List Piece) : Type 0 where
   new : tokens_of other (ps ++ rs) ≡ ones ++ tokens_of other rs
   same : AllByRecursion (SameBytes text other) ones
 
-abbrev token_then : Piece → Bool → List Piece → List Piece
-token_then p ends ts = p ∷ cond (ends_statement p.class && ends) (semicolon p.span.end ∷ ts) ts
-
 front_tokens : (text other : List ℕ) (ps qs rs : List Piece) → AllByRecursion (λ q. bytes_of text q ≡ bytes_of other q) ps →
     line_ends text qs ≡ false → line_ends other rs ≡ false → Front text other ps qs rs
 unfolding line_ends tokens_of

@@ -1,5 +1,5 @@
 -- Words and keywords.
-use Rattle.std.proofs.Common.{ℕ, ◌≡◌, Bool, true, false, ◌&&◌, ◌||◌, List, [], ◌∷◌, sym, subst, refl, ◌↔◌}
+use Rattle.std.proofs.Common.{ℕ, ◌≡◌, Bool, true, false, ◌&&◌, ◌||◌, List, [], ◌∷◌, sym, subst, refl}
 use Rattle.std.specs.List.{list_all}
 use Rattle.std.specs.Str.{IsUtf8, chars, bytes_eq, all_scalars}
 use Rattle.std.proofs.lemmas.Bool.{false≢true, and_parts}
@@ -58,12 +58,6 @@ other_of a b apart = by_test (bytes_eq a b)
 
 differ : (a b : List ℕ) → is_other_text a b ≡ true → a ≡ b → ⊥
 differ a b e same = let yes : bytes_eq a b ≡ true = (bytes_decides a b).1 same in false≢true (rw yes at e)
-
-pub other_by : (a b : List ℕ) (r : Bool) → (r ≡ true) ↔ (a ≡ b → ⊥) → r ≡ is_other_text a b
-other_by a b true h = sym (other_of a b (h.0 refl))
-other_by a b false h = by_test (is_other_text a b)
-    (λ is. absurd (false≢true (h.1 (differ a b is))))
-    (λ not. sym not)
 
 all_of : {X : Type 0} (p : X → Bool) (xs : List X) → ((x : X) → p x ≡ true) → list_all p xs ≡ true
 all_of p [] h = refl

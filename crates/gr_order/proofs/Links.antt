@@ -132,10 +132,6 @@ not_key r k e = true≢false (sym (ap is_linked e) ∙ k)
 selected_no_key : (r : Role) → r ≡ NotLexical purpose.Selected → r ≡ NotLexical purpose.Key → ⊥
 selected_no_key r e f = let same : NotLexical purpose.Selected ≡ NotLexical purpose.Key = sym e ∙ f in let z : ⊥ = cc in z
 
--- a token that is no dot does not stand before a name
-no_dot : (t : Token) → is_link t.kind ≡ false → (index : ℕ) → t.kind ≡ kind.Dot → suc t.place < index
-no_dot t k index e = absurd (true≢false (sym (ap is_link e) ∙ k))
-
 told_here : (s : Source) (n : ℕ) (x : Site) (xs : List Site) (t : Token) (ts : List Token) → is_link t.kind ≡ false → is_linked x.role ≡ false →
     x.place.index ≡ t.place → Linked s xs ts →
     t.place ≡ n → AreConsecutive (suc n) ts → Told (t ∷ ts) x.place.index x.role

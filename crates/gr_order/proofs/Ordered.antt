@@ -80,10 +80,6 @@ behind a r n (x ∷ xs) e lt h =
     let at : n ≤ x.place.index = h.1 in
     (inr (e ∙ sym h.0, omega arith), behind a r (suc x.place.index) xs e (omega arith) h.2)
 
-in_order : (r n : ℕ) (xs : List Site) → RisesFrom r n xs → InOrder xs
-in_order r n [] h = tt
-in_order r n (x ∷ xs) h = ((λ i. behind x.place r (suc x.place.index) xs h.0 (omega arith) h.2), in_order r (suc x.place.index) xs h.2)
-
 -- identifiers of files from a rank on
 abbrev AllFrom : ℕ → List Site → Type 0
 AllFrom r [] = Unit {0}

@@ -151,9 +151,6 @@ return_formed p es h = h
 
 -- blocks
 
-abbrev IsItem : BlockItem → Type 0
-IsItem i = IsStatement (stmt_view i.statement)
-
 abbrev pub block_item_view : BlockItem → tree.Item tree.StatementTree
 block_item_view i = record { value = stmt_view i.statement; separator = i.semicolon }
 

@@ -1,7 +1,6 @@
 -- How well-formed expressions are made from their parts.
-use Rattle.std.proofs.Common.{ℕ, ◌≡◌, ◌≢◌, ◌<◌, ◌≤◌, ap, sym, ◌∙◌, subst, Bool, true, false, List, [], ◌∷◌, ◌++◌, refl, Option, Some, None, arith, Result}
-use Rattle.std.proofs.Common.{Ok, Err, is_some, cond, ◌==◌}
-use Rattle.std.specs.Result.{IfOk}
+use Rattle.std.proofs.Common.{ℕ, ◌≡◌, ◌≢◌, ◌<◌, ap, sym, ◌∙◌, subst, Bool, true, false, List, [], ◌∷◌, ◌++◌, refl, Option, Some, None}
+use Rattle.std.proofs.Common.{is_some, cond, ◌==◌}
 use Rattle.gr_tree.specs.declared.syntax.Kind.{Kind}
 use Rattle.gr_tree.specs.declared.syntax.Kind.TheVariants as kind
 use Rattle.gr_tree.specs.declared.syntax.PrefixOp.{PrefixOp}
@@ -26,10 +25,9 @@ use Rattle.gr_tree.specs.declared.tree.CompositeLit.{CompositeLit, Row_of-Elemen
 use Rattle.gr_tree.specs.declared.tree.CompositeLit.{items_hidden-the_row-Element-3}
 use Rattle.gr_parse.specs.Leaf.{leaf_of}
 use Rattle.gr_tree.specs.Tree as tree
-use Rattle.gr_tree.specs.Tree.{TypeTree, Local, Imported, Pointer, Slice, ExprTree, LinkTrees, no_link, LiteralTree, literal, ArgumentTrees, ElementTrees}
-use Rattle.gr_tree.specs.Tree.{OperandTrees}
+use Rattle.gr_tree.specs.Tree.{TypeTree, Local, Imported, Pointer, Slice, ExprTree, no_link, LiteralTree, literal}
 use Rattle.gr_tree.specs.View.{type_view, expr_view, literal_view, link_view, links_view, operands_view, arguments_view, elements_view}
-use Rattle.gr_tree.specs.WellFormed.{strength, strength_of, is_operand, is_binary_tree, IsExpr, IsExprIn, AreOperands, AreLinks, AreArguments, IsLiteral}
+use Rattle.gr_tree.specs.WellFormed.{strength, strength_of, IsExpr, IsExprIn, AreOperands, AreLinks, AreArguments, IsLiteral}
 use Rattle.gr_tree.specs.WellFormed.{IsLiteralType, AreElements, IsUnnamed, HasNoNamedLiteral, HaveNoNamedLiteral}
 use Rattle.gr_parse.specs.Grouping.{is_slice, is_literal_type, literal_type_of, IsUnary, IsOperand, IsLiteralIn, IsLink, IsSeparatedBy}
 use Rattle.gr_parse.specs.Grouping.{IsSeparatedSoFar, AreItems, Each}
@@ -64,12 +62,6 @@ literal_type_is (Imported p d n) e = tt
 literal_type_is (Pointer s t) e = clash e
 literal_type_is (Slice o c t) e = tt
 
-pub slice_is_literal_type : (t : TypeTree) → is_slice t ≡ true → is_literal_type t ≡ true
-slice_is_literal_type (Local n) e = clash e
-slice_is_literal_type (Imported p d n) e = clash e
-slice_is_literal_type (Pointer s t) e = clash e
-slice_is_literal_type (Slice o c t) e = refl
-
 unnamed_slice : (l : LiteralTree) → is_slice (literal_type_of l) ≡ true → IsUnnamed l
 unnamed_slice (literal (Local n) o es c) e = clash e
 unnamed_slice (literal (Imported p d n) o es c) e = clash e
@@ -97,36 +89,6 @@ prefix_grouped h op p e w = record { expr = record { grouped = (w.single, w.expr
 pub address_grouped : (h : Bool) (p : ℕ) (l : CompositeLit) → IsLiteralIn h (literal_view l) → IsUnary h (expr_view (expr.Address p l))
 unfolding expr_view IsExpr HasNoNamedLiteral
 address_grouped h p l w = record { expr = record { grouped = w.grouped; unnamed = λ e. unnamed_slice (literal_view l) (w.unnamed e) }; single = refl }
-
-operand_single : (e : ExprTree) → is_operand e ≡ true → is_binary_tree e ≡ false
-operand_single (tree.Number n) h = refl
-operand_single (tree.Text n) h = refl
-operand_single (tree.Name n) h = refl
-operand_single (tree.Blank n) h = refl
-operand_single (tree.Composite l) h = refl
-operand_single (tree.Paren o e c) h = refl
-operand_single (tree.Prefix op p e) h = refl
-operand_single (tree.Address p l) h = refl
-operand_single (tree.Chain e ls) h = refl
-operand_single (tree.Binary e os) h = clash h
-
-pub operand_unary : (h : Bool) (e : ExprTree) → IsOperand h e → IsUnary h e
-operand_unary h e w = record { expr = w.expr; single = operand_single e w.bare }
-
-unary_strong : (e : ExprTree) → is_binary_tree e ≡ false → strength_of e ≡ 6
-unary_strong (tree.Number n) h = refl
-unary_strong (tree.Text n) h = refl
-unary_strong (tree.Name n) h = refl
-unary_strong (tree.Blank n) h = refl
-unary_strong (tree.Composite l) h = refl
-unary_strong (tree.Paren o e c) h = refl
-unary_strong (tree.Prefix op p e) h = refl
-unary_strong (tree.Address p l) h = refl
-unary_strong (tree.Chain e ls) h = refl
-unary_strong (tree.Binary e os) h = clash (sym h)
-
-pub unary_strength : (h : Bool) (e : ExprTree) → IsUnary h e → 6 ≤ strength_of e
-unary_strength h e w = let s = unary_strong e w.single in omega (arith, s)
 
 -- operands of one token
 
@@ -356,10 +318,6 @@ unfolding literal_view roll-CompositeLit denote.Hole.Carrier.roll
 literal_typed t o es c = refl
 
 -- through a last call
-
-pub if_ok : {Y E : Type 0} (P Q : Y → Type 0) (r : Result Y E) → IfOk r P → ((y : Y) → P y → Q y) → IfOk r Q
-if_ok P Q (Ok y) w f = f y w
-if_ok P Q (Err e) w f = tt
 
 pub named_not_in_header : {X : Type 0} (h b : Bool) → cond h false b ≡ true → h ≡ true → X
 named_not_in_header true b e f = clash e

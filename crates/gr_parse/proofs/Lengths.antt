@@ -4,14 +4,12 @@ use Rattle.gr_tree.specs.declared.syntax.Kind.{Kind}
 use Rattle.gr_tree.specs.declared.syntax.Kind.TheVariants as kind
 use Rattle.gr_tree.specs.declared.syntax.Token.{Token}
 use Rattle.gr_tree.specs.declared.tree.Expr.{Expr}
-use Rattle.gr_tree.specs.declared.tree.ExprItem.{ExprItem}
 use Rattle.gr_tree.specs.declared.tree.Element.{Element}
-use Rattle.gr_tree.specs.declared.tree.TypeExpr.{TypeExpr}
 use Rattle.gr_tree.specs.Tree.{TypeTree, Local, Imported, Pointer, Slice, ExprTree, Number, Text, Name, Blank, Composite, Paren, Prefix, Address, Chain}
 use Rattle.gr_tree.specs.Tree.{Binary, LiteralTree, literal}
 use Rattle.gr_tree.specs.Flatten.{sign, sign_if, type_tokens, expr_tokens, literal_tokens, link_tokens, operand_tokens, element_tokens, key_tokens, prefix_kind}
-use Rattle.gr_tree.specs.View.{type_view, expr_view, key_view}
-use Rattle.gr_parse.specs.Spelling.{type_spelled, expr_spelled, expr_item_spelled, element_spelled}
+use Rattle.gr_tree.specs.View.{expr_view, key_view}
+use Rattle.gr_parse.specs.Spelling.{expr_spelled, element_spelled}
 use Rattle.gr_tree.specs.Grammar.{Symbol}
 use Rattle.gr_parse.specs.Parsing.{Separates, Read, Leads}
 
@@ -52,14 +50,8 @@ expr_tree_some (Address p l) = some_here (sign kind.Ampersand p) (literal_tokens
 expr_tree_some (Chain e ls) = some_left (expr_tokens e) (link_tokens ls) (expr_tree_some e)
 expr_tree_some (Binary e os) = some_left (expr_tokens e) (operand_tokens os) (expr_tree_some e)
 
-pub type_some : (t : TypeExpr) → 1 ≤ length (type_spelled t)
-type_some t = type_tree_some (type_view t)
-
 pub expr_some : (e : Expr) → 1 ≤ length (expr_spelled e)
 expr_some e = expr_tree_some (expr_view e)
-
-pub expr_item_some : (i : ExprItem) → 1 ≤ length (expr_item_spelled i)
-expr_item_some i = some_left (expr_spelled i.value) (sign_if kind.Comma i.comma) (expr_some i.value)
 
 pub element_some : (e : Element) → 1 ≤ length (element_spelled e)
 element_some e = some_right (key_tokens (key_view e.key)) (expr_spelled e.value ++ sign_if kind.Comma e.comma)

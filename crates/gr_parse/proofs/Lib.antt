@@ -14,7 +14,6 @@ pub mod MadeStatements
 pub mod MadeBlocks
 pub mod MadeDecls
 pub mod OneTree
-pub mod Written
 pub mod KindFacts
 pub mod KindSteps
 pub mod MachineSteps

@@ -31,16 +31,6 @@ list_separated list more sep closer None d ts rest selected unselected h =
 list_separated list more sep closer (Some p) d ts rest selected unselected h =
     leads_rule (selected ts (separator_at sep p ts rest h)) (leads_then (separator_read sep p d ts rest h) leads_here)
 
--- What comes behind an item of a list without brackets: a separator and another item, or nothing.
-pub items_separated : (item : List Symbol) (more : Part) (sep : Kind) (s : Option ℕ) (d : ℕ) (ts rest : List Token) →
-    ((ts : List Token) → at (is sep) ts ≡ true → Selects (rules more) ts (One (is sep) ∷ item)) →
-    ((ts : List Token) → at (is sep) ts ≡ false → Selects (rules more) ts []) →
-    Separates sep s ts rest → Leads (A more ∷ []) (items_rest item (is_some s)) (sign_if sep s) d ts d rest
-items_separated item more sep None d ts rest selected unselected h =
-    record { text = h.1; leads = λ after o r. expand (unselected ts h.0) (subst (λ x. Run d after x o) (sym h.1) r) }
-items_separated item more sep (Some p) d ts rest selected unselected h =
-    leads_rule (selected ts (separator_at sep p ts rest h)) (leads_then (separator_read sep p d ts rest h) leads_here)
-
 -- the end of a list in brackets
 pub list_ends : (list : Part) (closer : Kind) (from : List Symbol) (more : Bool) (a : List Token) (d : ℕ) (ts rest : List Token) →
     ((ts : List Token) → at (is closer) ts ≡ true → Selects (rules list) ts (One (is closer) ∷ [])) →

@@ -114,16 +114,6 @@ pub exits : {Y : Type 0} (found : Y → Type 0) (symbols : List Symbol) (d : ℕ
 exits found symbols d ts e (Ok y) a f = absurd a
 exits found symbols d ts e (Err x) a f = subst (λ e. Fails symbols d ts e) (sym a) f
 
--- the last call of a function whose rule begins with one symbol
-pub ends_with : {Y : Type 0} (p : Part) (s : Symbol) (ss : List Symbol) (begun : List Token) (spelled rest : Y → List Token) (d : ℕ) (ts mid : List Token)
-    (r : Result Y ParseError) →
-    Selects (rules p) ts (s ∷ ss) → Read (s ∷ []) begun d ts d mid → Continues ss begun spelled rest d mid r → Parses (A p ∷ []) spelled rest d ts r
-ends_with p s ss begun spelled rest d ts mid (Ok y) chosen h c = record {
-  text = h.text ∙ c.text;
-  passes = record { runs = λ after o r. expand chosen (h.passes.runs (ss ++ after) o (c.passes.runs after o r)) };
-}
-ends_with p s ss begun spelled rest d ts mid (Err e) chosen h c = fails_rule chosen (fails_later h c)
-
 -- from symbols to symbols
 
 pub leads_here : {ss : List Symbol} {d : ℕ} {ts : List Token} → Leads ss ss [] d ts d ts
@@ -166,9 +156,6 @@ pub fails_leads : {x y : List Symbol} {a : List Token} {d f : ℕ} {ts mid : Lis
     Fails x d ts e
 fails_leads l f = record { stops = λ k n same after. l.leads after _ (f.stops k n same after) }
 
-pub begins_with : {t : Token} (c : Kind → Bool) (ts rest : List Token) → c t.kind ≡ true → ts ≡ t ∷ rest → at c ts ≡ true
-begins_with c ts rest h e = ap (at c) e ∙ h
-
 -- a last call that reads what a rule's symbols are
 pub tail_rule : {Y : Type 0} (p : Part) (then : List Symbol) (spelled rest : Y → List Token) (d : ℕ) (ts : List Token) (r : Result Y ParseError) →
     Selects (rules p) ts then → Parses then spelled rest d ts r → Parses (A p ∷ []) spelled rest d ts r
@@ -189,13 +176,6 @@ pub opened_one : (c : Kind → Bool) (k : Kind) (t : Token) (d : ℕ) (ts rest :
 opened_one c k t d ts rest e same named below = record {
   text = e ∙ ap (λ j. sign j t.place ∷ rest) named;
   passes = record { runs = λ after o r. subst (λ ts. Run d (Opening c ∷ after) ts o) (sym e) (opens same below (rw (← add-one) r)) };
-}
-
-pub read_append : {xs ys : List Symbol} {a b : List Token} {d e f : ℕ} {ts mid rest : List Token} →
-    Read xs a d ts e mid → Read ys b e mid f rest → Read (xs ++ ys) (a ++ b) d ts f rest
-read_append {xs = xs} {ys = ys} {a = a} {b = b} {d = d} {ts = ts} {rest = rest} p q = record {
-  text = p.text ∙ (ap (λ x. a ++ x) q.text ∙ sym (append_assoc a b rest));
-  passes = record { runs = λ after o r. subst (λ s. Run d s ts o) (sym (append_assoc xs ys after)) (p.passes.runs (ys ++ after) o (q.passes.runs after o r)) };
 }
 
 -- sequences of several symbols

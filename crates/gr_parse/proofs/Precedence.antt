@@ -71,10 +71,6 @@ alike_behind : (k : ℕ) (a b : OperandTrees) → Alike k a → Alike k b → Al
 alike_behind k no_operand b x y = y
 alike_behind k (operand op p e rest) b x y = (x.0, alike_behind k rest b x.1 y)
 
-alikes_behind : (k : ℕ) (a b : OperandTrees) → Alikes k a → Alike k b → Alikes k (behind a b)
-alikes_behind k no_operand b x y = absurd x
-alikes_behind k (operand op p e rest) b x y = (x.0, alike_behind k rest b x.1 y)
-
 -- joining
 
 join_weaker : (t : ExprTree) (op : BinaryOp) (p : ℕ) (u : ExprTree) → strength op < strength_of t → join t op p u ≡ Binary t (one_operand op p u)

@@ -10,7 +10,7 @@ use Rattle.gr_parse.specs.Machine.{at, later, last, expand}
 use Rattle.gr_parse.specs.Parsing.{LeadsTo, Parses}
 use Rattle.gr_tree.specs.WellFormed.{strength}
 use Rattle.gr_parse.specs.Strength.{strength_if, strength_at}
-use Rattle.gr_parse.proofs.MachineSteps.{fails_rule, fails_more}
+use Rattle.gr_parse.proofs.MachineSteps.{fails_rule}
 
 pub strength_some : (op : BinaryOp) → 1 ≤ strength op
 strength_some binary.Multiply = lit≤ tt
@@ -52,9 +52,3 @@ as_expression h spelled rest d ts (Ok y) l w = record {
   passes = record { runs = λ after o r. expand last (l.leads after o (expand (later (no_operator (rest y) w) last) r)) };
 }
 as_expression h spelled rest d ts (Err e) f w = fails_rule last f
-
--- one operand
-pub as_operands : {Y : Type 0} (h : Bool) (spelled rest : Y → List Token) (d : ℕ) (ts : List Token) (r : Result Y ParseError) →
-    Parses (A (Unary h) ∷ []) spelled rest d ts r → LeadsTo (A (Unary h) ∷ A (Binaries h) ∷ []) (A (Binaries h) ∷ []) spelled rest d ts r
-as_operands h spelled rest d ts (Ok y) p = record { text = p.text; leads = λ after o r. p.passes.runs (A (Binaries h) ∷ after) o r }
-as_operands h spelled rest d ts (Err e) f = fails_more (A (Binaries h) ∷ []) f

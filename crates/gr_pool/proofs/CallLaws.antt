@@ -1,5 +1,5 @@
 -- What a call leaves at its seat.
-use Rattle.std.proofs.Common.{◌≡◌, ℕ, true, List, [], ◌∷◌, ◌++◌, inl, inr, Option, Some, None, Result, Ok, Err, refl, sym, ap, subst, ◌∙◌}
+use Rattle.std.proofs.Common.{◌≡◌, ℕ, true, List, [], ◌∷◌, ◌⊎◌, inl, inr, Option, Some, None, Result, Ok, Err, sym, ap, ◌∙◌}
 use Rattle.std.proofs.Common.{⊎_elim}
 use Rattle.std.proofs.lemmas.List.{append-nil}
 use Rattle.std.proofs.lemmas.List.Elements.{All-cons, All-nil}
@@ -17,7 +17,7 @@ use Rattle.gr_book.specs.Journal.{kind_of, told_of}
 use Rattle.gr_book.specs.Machine.{Machine}
 use Rattle.gr_book.specs.Step.{Step, looked}
 use Rattle.gr_pool.specs.declared.receipt.Receipt.{Receipt}
-use Rattle.gr_pool.specs.Call.{Calls, Gains, IsBuilt, IsLook, IsReceiptOf, IsStepOf, IsWork, Looks, LooksUntilBuilt, StepsAt, is_work}
+use Rattle.gr_pool.specs.Call.{Calls, Gains, IsLook, IsReceiptOf, IsStepOf, IsWork, Looks, StepsAt, is_work}
 use Rattle.gr_pool.specs.Working.{Replies}
 use Rattle.gr_pool.proofs.GainsLaws.{gains_more}
 
@@ -41,11 +41,6 @@ gains_of P old event reply None new each calls = ([], calls.1 ∙ sym (append-ni
 pub works : (old : List Receipt) (event : Event) (reply : Reply) (index : Option ℕ) (new : List Receipt) → is_work (kind_of event) ≡ true →
     Calls old event reply index new → Gains IsWork old new
 works old event reply index new work calls = gains_of IsWork old event reply index new (λ receipt is. ap is_work is ∙ work) calls
-
--- a step that left this receipt at the end of the seat
-pub called : (old : List Receipt) (event : Event) (reply : Reply) (receipt : Receipt) (new : List Receipt) → IsStepOf event reply (Some receipt) →
-    new ≡ old ++ receipt ∷ [] → Calls old event reply (Some receipt.index) new
-called old event reply receipt new step is = (receipt, refl, step, is)
 
 -- ---- looks
 refusal_in : Reply → Refusal
@@ -91,12 +86,3 @@ looks_is old (Err refusal) new replied = looked_refusal old refusal new replied
 pub looks_on : (old mid : List Receipt) (view : View) (new : List Receipt) → Gains IsLook old mid → Looks mid (Ok view) new → Gains IsLook old new
 looks_on old mid view new gained look =
     gains_more IsLook old mid new gained (gains_of IsLook mid Look (Looked view) (Some look.0) new (λ receipt is. is) look.1)
-
-pub looks_until : (old mid : List Receipt) (view : View) (new : List Receipt) → Gains IsLook old mid → Looks mid (Ok view) new → IsBuilt view →
-    LooksUntilBuilt old (Ok view) new
-looks_until old mid view new gained look built =
-    (gained.0, gained.2, (look.0, subst (λ (x : List Receipt). Calls x Look (Looked view) (Some look.0) new) gained.1 look.1), built)
-
-pub looks_turned : (old mid : List Receipt) (refusal : Refusal) (new : List Receipt) → Gains IsLook old mid → Looks mid (Err refusal) new →
-    LooksUntilBuilt old (Err refusal) new
-looks_turned old mid refusal new gained look = (gained.0, gained.2, look.1 ∙ gained.1, look.0)

@@ -1,19 +1,13 @@
 -- The edit that takes the place of bytes that begin at an offset.
-use Rattle.std.proofs.Common.{ℕ, zero, suc, ◌≡◌, ◌+◌, ◌<◌, ◌≤◌, Bool, true, false, List, [], ◌∷◌, length, get_or, refl, sym, ap, subst, ◌∙◌, arith}
+use Rattle.std.proofs.Common.{ℕ, zero, suc, ◌≡◌, ◌+◌, ◌<◌, ◌≤◌, Bool, true, false, List, [], ◌∷◌, length, refl, sym, ap, subst, ◌∙◌, arith}
 use Rattle.std.specs.Prelude.{Option, Some, None, slice_get, find, ◌==◌, nat_lt, ◌&&◌, if◌then◌else◌}
 use Rattle.std.proofs.lemmas.Bool.Decides.{nat_tests}
-use Rattle.std.proofs.lemmas.Option.{none-some, same_Some, slice_get_read}
-use Rattle.std.specs.List.{All}
+use Rattle.std.proofs.lemmas.Option.{none-some, same_Some}
 use Rattle.gr_edit.specs.Edits.{AreInOrder}
-use Rattle.gr_edit.specs.EditSet.{FileChanges, change_of}
-use Rattle.gr_edit.specs.Fits.{IsEditSet}
-use Rattle.gr_edit.specs.Moved.{edits_by}
-use Rattle.gr_edit.specs.declared.change.FileChange.{FileChange}
 use Rattle.gr_edit.specs.declared.edit.Edit.{Edit}
 use Rattle.gr_revision.specs.declared.moves.End.{End}
-use Rattle.gr_revision.specs.Ends.{AreEnds, IsLastEnd, IsChangeOf}
-use Rattle.gr_revision.specs.RevisionsOfEdits.{replaces_at, text_or, called_by}
-use Rattle.gr_revision.specs.FilesMoved.{HasEnds}
+use Rattle.gr_revision.specs.Ends.{AreEnds, IsLastEnd}
+use Rattle.gr_revision.specs.RevisionsOfEdits.{replaces_at, text_or}
 use Rattle.gr_revision.proofs.Ending.{element, stops}
 
 passed_by : (offset start end : ℕ) → end ≤ offset → ((start == offset) && nat_lt start end) ≡ false
@@ -132,19 +126,3 @@ pub other_text : (name : List ℕ) (edits : List Edit) (ends : List End) (offset
 other_text name edits ends offset n e is at order are last =
     let false_at : (e.span.start == offset) ≡ false = grind (arith, nat_tests) in
     ap (text_or name) (sym (found_edit edits ends offset n order are last ∙ ap (found_at offset) is ∙ ap (λ t. if t then Some e else None) false_at))
-
--- the text at a place
-pub text_called : (s t : FileChanges) (path : List ℕ) (number : ℕ) (changed : List FileChange) (c : FileChange) (edits : List Edit) (ends : List End)
-    (offset last : ℕ) (name text : List ℕ) → IsEditSet s → changed ≡ s.changed → s ≡ t →
-    IsChangeOf t path number → number < length changed → c ≡ get_or changed number c → edits ≡ c.edits → HasEnds t path ends → IsLastEnd ends offset last →
-    ((all : List End) → AreInOrder 0 edits → AreEnds edits all → IsLastEnd all offset last → text ≡ text_or name (find (replaces_at offset) edits)) →
-    text ≡ called_by t (record { path = path; offset = offset }) name
-text_called s t path number changed c edits ends offset last name text set same view is lt at read has is_last told =
-    let here : change_of t path ≡ Some c = sym is.is ∙ ap (λ (u : FileChanges). slice_get u.changed number) (sym view)
-    ∙ ap (λ l. slice_get l number) (sym same) ∙ slice_get_read changed (length changed) number c refl lt at in
-    let one : has.change ≡ c = same_Some has.change c (sym has.is ∙ here) in
-    let order : AreInOrder 0 c.edits = subst (λ (x : FileChange). AreInOrder 0 x.edits) (sym at) (subst (All (λ x. AreInOrder 0 x.edits))
-    (sym same) set.in_order number c lt) in
-    let are : AreEnds c.edits ends = subst (λ (x : FileChange). AreEnds x.edits ends) one has.are in
-    told ends (subst (AreInOrder 0) (sym read) order) (subst (λ l. AreEnds l ends) (sym read) are) is_last
-    ∙ ap (λ l. text_or name (find (replaces_at offset) l)) (read ∙ ap edits_by (sym here))

@@ -148,29 +148,8 @@ moved_last edits ends offset n end are last is =
       | inr ge ↦ sym (past_all edits offset (past_at n end) past ge)
     ]
 
-pub ends_at : (s : FileChanges) (all : List (Vec End)) (path : List ℕ) (n : ℕ) (here : Vec End) → AreEndsOf s.changed (length s.changed) all →
-    IsChangeOf s path n → slice_get all n ≡ Some here → HasEnds s path here.items
-ends_at s all path n here are is has =
-    let c = element s.changed n is.within in
-    record {
-      change = c.0;
-      is = sym is.is ∙ c.1;
-      are = are.each n c.0 here c.1 has;
-    }
-
 pub some_ends : (s : FileChanges) (path : List ℕ) (ends : List End) → HasEnds s path ends → 0 < length ends
 some_ends s path ends h = let size = h.are.size in omega arith
-
--- the ends of the file of a path, as they are read
-pub ends_read : (s t : FileChanges) (all : List (Vec End)) (path : List ℕ) (n : ℕ) (here : Vec End) (ends : List End) → s ≡ t →
-    AreEndsOf s.changed (length s.changed) all → IsChangeOf t path n →
-    here ≡ get_or all n here → ends ≡ here.items → HasEnds t path ends
-ends_read s t all path n here ends view are is at same =
-    let mine : IsChangeOf s path n = subst (λ u. IsChangeOf u path n) (sym view) is in
-    let size = are.size in
-    let within = mine.within in
-    subst (λ u. HasEnds u path ends) view (subst (HasEnds s path) (sym same) (ends_at s all path n here are mine (slice_get_read all
-    (length all) n here refl (omega arith) at)))
 
 pub first_at : (s : FileChanges) (path : List ℕ) (ends : List End) → HasEnds s path ends → (end : End) → slice_get ends 0 ≡ Some end → end.old ≡ 0
 first_at s path ends h = h.are.first

@@ -4,7 +4,7 @@ use Rattle.std.proofs.Common.{true≢false, if◌then◌else◌, All, eqb-true, 
 use Rattle.std.proofs.lemmas.List.Elements.{All-nil, All-cons}
 use Rattle.gr_tree.specs.declared.syntax.BinaryOp.{BinaryOp}
 use Rattle.gr_tree.specs.declared.syntax.PrefixOp.{PrefixOp}
-use Rattle.gr_tree.specs.Tree.{TypeTree, ExprTree, LinkTrees, ArgumentTrees}
+use Rattle.gr_tree.specs.Tree.{ExprTree, LinkTrees}
 use Rattle.gr_tree.specs.Tree as tree
 use Rattle.gr_expr.specs.declared.types.Basic.TheVariants as basic
 use Rattle.gr_expr.specs.declared.types.Builtin.{Builtin}
@@ -43,10 +43,6 @@ each_all P (x ∷ xs) h = All-cons P x xs h.0 (each_all P xs h.1)
 pub each_append : (P : ℕ → Type 0) (xs ys : List ℕ) → Each P xs → Each P ys → Each P (xs ++ ys)
 each_append P [] ys h k = k
 each_append P (x ∷ xs) ys h k = (h.0, each_append P xs ys h.1 k)
-
-pub each_map : (P Q : ℕ → Type 0) → ((p : ℕ) → P p → Q p) → (xs : List ℕ) → Each P xs → Each Q xs
-each_map P Q f [] h = tt
-each_map P Q f (x ∷ xs) h = (f x h.0, each_map P Q f xs h.1)
 
 -- what an operand means for the rules behind it
 abbrev pub status : Meaning → Option Meaning

@@ -16,9 +16,6 @@ function_whole {s} h = cc
 pub results_whole : {ts : List PlainType} → IsWhole (Results ts)
 results_whole {ts} h = cc
 
-pub broken_only : {A : Type 0} {m : Meaning} → m ≡ Broken → IsWhole m → A
-broken_only e n = absurd (n e)
-
 pub agrees_as : {j k : Judged} {m : Meaning} → j ≡ k → Agrees k m → Agrees j m
 agrees_as {j} {k} {m} e a = subst (λ (x : Judged). Agrees x m) (sym e) a
 

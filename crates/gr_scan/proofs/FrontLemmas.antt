@@ -400,9 +400,6 @@ general_comment_stands text n opens long =
           (no_open_raw_string text (λ e. omega (arith, e, slash)));
     }
 
-pub comment_breaks : (text : List ℕ) → IsOpenComment text → Breaks kind.Comment 0 text
-comment_breaks text bad = (refl, bad)
-
 -- Operators.
 pub begins_spelled : (text : List ℕ) (o : Operator) → starts_with nat_eq text (operator_spelling o) ≡ true →
     take (length (operator_spelling o)) text ≡ operator_spelling o

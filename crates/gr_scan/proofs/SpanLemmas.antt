@@ -3,7 +3,7 @@ use Rattle.std.proofs.Common.{◌≡◌, ℕ, zero, suc, ◌-◌, ◌<◌, ◌�
 use Rattle.std.proofs.Common.{get_or, arith, inl, inr, ⊎_elim}
 use Rattle.std.specs.Prelude.{nat_eq}
 use Rattle.std.specs.Cmp.{nat_cmp_is}
-use Rattle.std.specs.List.{All, AllByRecursion, starts_with}
+use Rattle.std.specs.List.{AllByRecursion, starts_with}
 use Rattle.std.specs.List.Sorted.{IsStrictlySortedBy}
 use Rattle.std.specs.Ordering.{nat_cmp}
 use Rattle.std.specs.declared.cmp.Ordering.TheVariants.{Less}
@@ -173,9 +173,6 @@ all_at : {X : Type 0} (P : X → Type 0) (xs : List X) (i : ℕ) (d : X) → All
 all_at P [] i d all fits = absurd (omega (arith, fits))
 all_at P (x ∷ xs) zero d all fits = all.0
 all_at P (x ∷ xs) (suc i) d all fits = all_at P xs i d all.1 (omega (arith, fits))
-
-pub pieces_fit : (text : List ℕ) (ps : List Piece) → IsCut text ps → All (λ p. (p.span.start ≤ p.span.end) × (p.span.end ≤ length text)) ps
-pieces_fit text ps cut k d fits = covers_at 0 (length text) ps k d (cut_covers text ps cut) fits
 
 pub record IsToken (text : List ℕ) (t : Piece) : Type 0 where
   pub order : t.span.start ≤ t.span.end

@@ -78,10 +78,6 @@ no_octal b rest not = by_test (octal_at (b ∷ rest)) (λ is. absurd (false≢tr
 digits_long : (n base : ℕ) (xs : List ℕ) → are_digits n base xs ≡ true → length xs ≡ n
 digits_long n base xs is = eqb-true (length xs) n (and_parts (eqb (length xs) n) (list_all (λ b. is_digit b base) xs) is).0
 
-nil_from_zero : (xs : List ℕ) → length xs ≡ 0 → xs ≡ []
-nil_from_zero [] h = refl
-nil_from_zero (x ∷ xs) h = absurd (omega (arith, h))
-
 -- a letter behind a backslash is tried after the plain escapes and the octal ones
 letter : (b x : ℕ) (rest : List ℕ) → b ≡ x → is_plain_escape x ≡ false → is_digit x 8 ≡ false → (P : ℕ → Type 0)
     → P (cond (eqb x 120 && digits_at 2 16 rest) 3 (cond (eqb x 117 && character_at 4 rest) 5 (cond (eqb x 85 && character_at 8 rest) 9 0))) →

@@ -1,20 +1,19 @@
 -- The values of string literals.
-use Rattle.std.proofs.Common.{◌≡◌, ℕ, ◌+◌, ◌*◌, ◌-◌, ◌<◌, ◌≤◌, ◌^◌, List, [], ◌∷◌, ◌++◌, true, false, ◌&&◌, eqb, refl, sym, ap, ◌∙◌, subst, drop, take}
-use Rattle.std.proofs.Common.{length, arith, inr, ⊎_elim, ltb-true, leb-true, append-nil, length-append, Result, Ok, Err, IfOk}
+use Rattle.std.proofs.Common.{◌≡◌, ℕ, ◌+◌, ◌-◌, ◌<◌, ◌≤◌, List, [], ◌∷◌, ◌++◌, true, false, ◌&&◌, eqb, refl, sym, ap, ◌∙◌, subst, drop, take}
+use Rattle.std.proofs.Common.{length, arith, inr, ⊎_elim, leb-true, append-nil, length-append, Result, Ok, Err, IfOk}
 use borrow.Author.Tests.{eqb-true}
 use Rattle.std.specs.Prelude.{nat_le, slice_index, flat_map}
 use Rattle.std.specs.List.{list_all, concat}
-use Rattle.std.specs.Char.{is_digit, digit_value, encode_utf8}
+use Rattle.std.specs.Char.{is_digit, encode_utf8}
 use Rattle.std.proofs.lemmas.Bool.{and_parts, or_cases, false≢true}
-use Rattle.std.proofs.lemmas.Bool.Decides.{nat_tests}
 use Rattle.std.proofs.lemmas.Grind.{flat_map-append}
 use Rattle.std.proofs.lemmas.List.{append_cancel_right, take_at, take_rest}
-use Rattle.gr_scan.specs.Integers.{number_in, next_value}
+use Rattle.gr_scan.specs.Integers.{number_in}
 use Rattle.gr_scan.specs.Strings.{are_digits, is_character, is_plain_escape, is_escape, IsString, IsRawString}
 use Rattle.gr_scan.specs.Lengths.{part_len}
 use Rattle.gr_scan.specs.StringValues.{escape_value, part_value, raw_value, IsStringPiece, HasStringValue, HasPartsValue, HasRawValue}
 use Rattle.gr_scan.proofs.IntegerLemmas.{by_test}
-use Rattle.gr_scan.proofs.StringLemmas.{StringSoFar, string_opens, string_grows, stops_from, quote_stops, same_parts, plain_or_digit, part_is}
+use Rattle.gr_scan.proofs.StringLemmas.{StringSoFar, string_opens, string_grows, stops_from, quote_stops, same_parts, part_is}
 
 -- by the forms of an escape
 by_form : (b : ℕ) (rest : List ℕ) {P : Type 0} → is_escape (b ∷ rest) ≡ true
@@ -44,40 +43,6 @@ by_form b rest {P} is plain octal byte short long =
     (or_cases _ _ others))
     (or_cases _ _ is)
 
-pub octal_small : (b : ℕ) (rest : List ℕ) → is_escape (b ∷ rest) ≡ true → is_digit b 8 ≡ true → number_in 8 (b ∷ rest) < 256
-octal_small b rest is digit =
-    by_form b rest is
-    (λ plain. absurd (false≢true (sym (plain_or_digit b digit) ∙ plain)))
-    (λ small _. omega (arith, small))
-    (λ b_is _. absurd (false≢true (ap (λ x. is_digit x 8) (sym b_is) ∙ digit)))
-    (λ b_is _. absurd (false≢true (ap (λ x. is_digit x 8) (sym b_is) ∙ digit)))
-    (λ b_is _. absurd (false≢true (ap (λ x. is_digit x 8) (sym b_is) ∙ digit)))
-
-next_small : (n c : ℕ) → is_digit c 16 ≡ true → next_value 16 n c ≤ n * 16 + 15
-next_small n c digit = let value = ltb-true (digit_value c) 16 digit in
-    by_test (eqb c 95) (λ under. rw under (omega arith)) (λ other. rw other (omega (arith, value)))
-
-two_small : (xs : List ℕ) → are_digits 2 16 xs ≡ true → number_in 16 xs < 256
-two_small [] is = absurd (false≢true is)
-two_small (c ∷ []) is = absurd (false≢true is)
-two_small (c ∷ d ∷ []) is =
-    let first = and_parts (is_digit c 16) (is_digit d 16 && true) is in
-    let second = and_parts (is_digit d 16) true first.1 in
-    omega (arith, next_small 0 c first.0, next_small (next_value 16 0 c) d second.0)
-two_small (c ∷ d ∷ e ∷ xs) is = absurd (omega (
-  arith,
-  eqb-true (length (c ∷ d ∷ e ∷ xs)) 2 (and_parts (eqb (length (c ∷ d ∷ e ∷ xs)) 2) (list_all (λ b. is_digit b 16) (c ∷ d ∷ e ∷ xs)) is).0,
-))
-
-pub byte_small : (b : ℕ) (rest : List ℕ) → is_escape (b ∷ rest) ≡ true → b ≡ 120 → number_in 16 rest < 256
-byte_small b rest is letter =
-    by_form b rest is
-    (λ plain. absurd (false≢true (ap is_plain_escape (sym letter) ∙ plain)))
-    (λ _ digit. absurd (false≢true (ap (λ x. is_digit x 8) (sym letter) ∙ digit)))
-    (λ _ digits. two_small rest digits)
-    (λ b_is _. absurd (omega (arith, letter, b_is)))
-    (λ b_is _. absurd (omega (arith, letter, b_is)))
-
 pub escape_character : (b : ℕ) (rest : List ℕ) → is_escape (b ∷ rest) ≡ true → is_plain_escape b ≡ false → is_digit b 8 ≡ false → (b ≡ 120 → ⊥) →
     is_character (number_in 16 rest) ≡ true
 escape_character b rest is not_plain not_digit not_byte =
@@ -87,9 +52,6 @@ escape_character b rest is not_plain not_digit not_byte =
     (λ b_is _. absurd (not_byte b_is))
     (λ _ char. char)
     (λ _ char. char)
-
-pub character_small : (c : ℕ) → is_character c ≡ true → c < 2 ^ 32
-character_small c is = grind (arith, nat_tests)
 
 -- the value of the parts so far
 pub record ValueSoFar (text : List ℕ) (n : ℕ) (value : List ℕ) : Type 0 where

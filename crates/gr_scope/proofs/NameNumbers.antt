@@ -1,5 +1,5 @@
 -- Numbers that stand for names: found one after the other; and what is found by numbers is found by names.
-use Rattle.std.proofs.Common.{rules, ℕ, zero, suc, ◌≡◌, ◌+◌, ◌<◌, inl, inr, List, [], ◌∷◌, length, Bool, true, false, cond, Option, Some, None, ap, sym}
+use Rattle.std.proofs.Common.{rules, ℕ, zero, suc, ◌≡◌, ◌+◌, ◌<◌, inl, inr, List, [], ◌∷◌, length, Bool, true, false, Option, Some, None, ap, sym}
 use Rattle.std.proofs.Common.{◌∙◌, refl}
 use Rattle.std.proofs.Common.{subst, arith}
 use Rattle.std.specs.Prelude.{◌↔◌, slice_index_or}
@@ -29,16 +29,6 @@ module _ (l : Layout) (names : Names) (u : ℕ) (own : List ℕ) (is : names u �
   later_by key first o true d f h = still (HasName l names key) u first o f.within (f.holds.0, f.holds.1 ∙ d.0 refl) h
   later_by key first o false d f h = widen (HasName l names key) u o (λ has. let t : false ≡ true = d.1 (sym is ∙ has.1) in cc) h
 
-  -- one more identifier, whose name is new
-  first_by : (key : List ℕ) (o : Option ℕ) (b : Bool) → (b ≡ true → own ≡ key) × (own ≡ key → b ≡ true) → IsLexical l u →
-      ((v : ℕ) → v < u → HasName l names own v → ⊥) → IsFirstBelow (HasName l names key) u o → IsFirstBelow (HasName l names key) (u + 1) (cond b (Some u) o)
-  first_by key o true d lexical none h = record {
-    within = omega arith;
-    holds = (lexical, is ∙ d.0 refl);
-    first = λ v lt has. none v lt (has.0, has.1 ∙ sym (d.0 refl));
-  }
-  first_by key o false d lexical none h = widen (HasName l names key) u o (λ has. let t : false ≡ true = d.1 (sym is ∙ has.1) in cc) h
-
 equal_bytes : (x y : Spelled) → equal.ghosts.eq x y ≡ true ↔ (x.bytes.now ≡ y.bytes.now)
 equal_bytes x y = search rules
 
@@ -46,9 +36,6 @@ module _ {S : Type 0} (l : Layout) (names : Names) (u : ℕ) (firsts : IndexMap 
     (h : AreFirsts l names u firsts) where
   found_here : (first : ℕ) → get equal.ghosts.eq firsts name ≡ Some first → IsFirstOf (HasName l names name.bytes.now) u first
   found_here first e = let P : Option ℕ → Type 0 = λ o. IsFirstBelow (HasName l names name.bytes.now) u o in subst P e (h name)
-
-  none_here : get equal.ghosts.eq firsts name ≡ None → (v : ℕ) → v < u → HasName l names name.bytes.now v → ⊥
-  none_here e = let P : Option ℕ → Type 0 = λ o. IsFirstBelow (HasName l names name.bytes.now) u o in subst P e (h name)
 
   -- the name is noted
   pub firsts_later : (first : ℕ) → get equal.ghosts.eq firsts name ≡ Some first → AreFirsts l names (u + 1) firsts
@@ -60,22 +47,6 @@ module _ {S : Type 0} (l : Layout) (names : Names) (u : ℕ) (firsts : IndexMap 
   number_later first e =
       let P : List ℕ → Type 0 = λ n. IsFirstOf (HasName l names n) (u + 1) first in
       subst P is (widen_found (HasName l names name.bytes.now) u first (found_here first e))
-
-  -- the name is not noted yet
-  pub firsts_first : (new : IndexMap Spelled ℕ S) → IsLexical l u → get equal.ghosts.eq firsts name ≡ None →
-      ((key : Spelled) → get equal.ghosts.eq new key ≡ cond (equal.ghosts.eq name key) (Some u) (get equal.ghosts.eq firsts key)) →
-      AreFirsts l names (u + 1) new
-  firsts_first new lexical e up key =
-      let P : Option ℕ → Type 0 = λ o. IsFirstBelow (HasName l names key.bytes.now) (u + 1) o in
-      subst P (sym (up key)) (first_by l names u name.bytes.now (sym is) key.bytes.now (get equal.ghosts.eq firsts key) (equal.ghosts.eq name key)
-      (equal_bytes name key) lexical (none_here e) (h key))
-
-  pub number_first : IsLexical l u → get equal.ghosts.eq firsts name ≡ None → IsFirstOf (HasName l names (names u)) (u + 1) u
-  number_first lexical e = record {
-    within = omega arith;
-    holds = (lexical, refl);
-    first = λ v lt has. none_here e v lt (has.0, has.1 ∙ sym is);
-  }
 
 -- a name that is not looked up is not noted
 pub firsts_skip : {S : Type 0} (l : Layout) (names : Names) (u : ℕ) (firsts : IndexMap Spelled ℕ S) → (IsLexical l u → ⊥) → AreFirsts l names u firsts →

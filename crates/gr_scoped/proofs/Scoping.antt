@@ -49,7 +49,6 @@ is_scoped w path files name_of s has parsed names h =
         };
       };
       parsed = own;
-      users = h.are_scopes.users;
       exports = h.are_scopes.exports;
     }
 

@@ -4,11 +4,10 @@ use Rattle.gr_text.specs.Packages.{package_paths, package_files}
 use Rattle.gr_text.specs.Workspace.{Workspace}
 use Rattle.gr_tree.specs.SourceFile.{FileParts, source_of}
 use Rattle.gr_graph.specs.Parsed.{AreParsed}
-use Rattle.gr_scope.specs.Scoped.{ScopedPackage, scoped, layout_in}
+use Rattle.gr_scope.specs.Scoped.{ScopedPackage, scoped}
 use Rattle.gr_imports.specs.PackageNames.{IsLaidOver}
 use Rattle.gr_declared.specs.Package.{Package}
 use Rattle.gr_declared.specs.InterfacesView.{no_interface}
-use Rattle.gr_declared.specs.ByToken.{number_at, AreIdentifiers}
 use Rattle.gr_meanings.specs.PackageOf.{package_in}
 use Rattle.gr_bound.specs.Exports.{number_named, AreNumbers}
 use Rattle.gr_scoped.specs.ScopedPackages.{IsScopedIn}
@@ -21,11 +20,10 @@ package_by path files table = package_in path (map source_of files) table no_int
 abbrev pub package_scoped : (path : List ℕ) → PackageScopes → Package
 package_scoped path s = package_by path s.files.now s.table
 
--- the identifier at each token of a package's files, and what it exports, by its table
+-- the files of a package, its table, and what it exports, by that
 pub record AreScopesOf (path : List ℕ) (files : List FileParts) (table : ScopedPackage) (s : PackageScopes) : Type 0 where
   pub same_files : s.files.now ≡ files
   pub same_table : s.table ≡ table
-  pub users : AreIdentifiers (layout_in s.table) (length s.table.sites) (number_at s.users)
   pub exports : AreNumbers (package_scoped path s) (number_named s.exports)
 
 -- the same by a table in which these names are given to the imports without a name
@@ -38,7 +36,6 @@ pub record AreScopesNamed (path : List ℕ) (files : List FileParts) (name_of : 
 pub record AreScopes (w : Workspace) (path : List ℕ) (s : PackageScopes) : Type 0 where
   pub is_scoped : IsScopedIn w (package_scoped path s)
   pub parsed : AreParsed (package_files w path) s.files.now []
-  pub users : AreIdentifiers (layout_in s.table) (length s.table.sites) (number_at s.users)
   pub exports : AreNumbers (package_scoped path s) (number_named s.exports)
 
 -- some file of the package of a path has no tree, or there is no such package

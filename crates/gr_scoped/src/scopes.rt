@@ -11,7 +11,7 @@ ghost use Rattle.gr_scoped.specs.Scopes.{AreScopes, AreScopesOf, AreScopesNamed,
 
 use gr_bound::exports::numbers_by;
 use gr_bound::laid_table;
-use gr_declared::{ByToken, Interfaces, identifiers_by_token};
+use gr_declared::Interfaces;
 use gr_expr::symbol::SharedPath;
 use gr_graph::Graph;
 use gr_scope::table::ScopeTable;
@@ -19,12 +19,11 @@ use gr_tree::FileTree;
 use std::alloc::{AllocError, Global};
 use std::collections::BTreeMap;
 
-/// The scopes of a package: its table, the identifier at each token, and what it exports, by name.
+/// The scopes of a package: its table, and what it exports, by name.
 #[derive(Drop)]
 pub struct PackageScopes<'a> {
     pub files: &'a [FileTree],
     pub table: ScopeTable<'a>,
-    pub users: ByToken,
     pub exports: BTreeMap<Vec<u8>, usize>,
 }
 
@@ -51,12 +50,10 @@ fn scopes_by<'a>(
 ) -> Result<PackageScopes<'a>, AllocError>
     ensures { IfOk result (AreScopesOf path.now files.now table.entry) }
 {
-    let users = identifiers_by_token(alloc, &table)?;
     let exports = exports_in(alloc, path, files, &table)?;
     Ok(PackageScopes {
         files,
         table,
-        users,
         exports,
     })
 }

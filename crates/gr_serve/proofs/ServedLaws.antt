@@ -1,5 +1,5 @@
 -- What a server tells, by what settling tells.
-use Rattle.std.proofs.Common.{◌≡◌, ◌≢◌, ◌↔◌, ◌+◌, ◌≤◌, ℕ, List, length, Result, Ok, Err, IfOk, IfErr, IsOk, IsErr, refl, subst, sym, zero-add}
+use Rattle.std.proofs.Common.{◌≡◌, ◌↔◌, ◌+◌, ◌≤◌, ℕ, List, length, Result, Ok, Err, IfOk, IfErr, IsOk, IsErr, subst, sym, zero-add}
 use Rattle.gr_book.specs.Machine.{Machine}
 use Rattle.gr_pool.specs.declared.receipt.Receipt.{Receipt}
 use Rattle.gr_pool.specs.declared.settle.Unsettled.{Unsettled as Leftover}
@@ -9,12 +9,6 @@ use Rattle.gr_pool.specs.Settled.{IsSettled, receipt_count}
 use Rattle.gr_serve.specs.declared.fault.ServeFault.{ServeFault}
 use Rattle.gr_serve.specs.declared.fault.ServeFault.TheVariants.{Memory, Socket, Unsettled}
 use Rattle.gr_serve.specs.Served.{IsHandedBack, Serves, Settles}
-
--- a fault before the settling
-pub hindered : (parts : ℕ) (fault : ServeFault) → fault ≢ Unsettled → Serves parts (Err fault)
-hindered parts Memory other = tt
-hindered parts Socket other = tt
-hindered parts Unsettled other = absurd (other refl)
 
 -- a settling with all seats
 pub served : (parts : ℕ) (seats : List (List Receipt)) (told : Result ℕ ServeFault) → length seats ≡ parts → Settles parts seats told → Serves parts told

@@ -1,5 +1,5 @@
 -- Which expressions stand as statements, and which operators update.
-use Rattle.std.proofs.Common.{ℕ, ◌≡◌, Bool, true, false, ◌||◌, if◌then◌else◌, [], refl, sym, ap, ◌∙◌, subst, true≢false}
+use Rattle.std.proofs.Common.{ℕ, ◌≡◌, Bool, true, false, if◌then◌else◌, [], refl, sym, ap, ◌∙◌, subst, true≢false}
 use Rattle.gr_tree.specs.declared.syntax.BinaryOp.{BinaryOp}
 use Rattle.gr_tree.specs.declared.syntax.UpdateOp.{UpdateOp}
 use Rattle.gr_tree.specs.declared.syntax.UpdateOp.TheVariants as update
@@ -9,7 +9,7 @@ use Rattle.gr_expr.specs.declared.types.Builtin.TheVariants as builtin
 use Rattle.gr_expr.specs.Types.{PlainType, Kind, Typed, Meaning, Value, TypeName, Function, BuiltinName, Package, Results, Broken}
 use Rattle.gr_expr.specs.World.{World, Locals}
 use Rattle.gr_expr.specs.Judge.{judge}
-use Rattle.gr_stmt.specs.Simple.{is_end, ends_in_call, unless_end, without_last, may_stand, is_statement, stands_faults, binary_of}
+use Rattle.gr_stmt.specs.Simple.{ends_in_call, unless_end, without_last, may_stand, is_statement, stands_faults, binary_of}
 use Rattle.gr_rules.specs.Names.{IsWhole}
 use Rattle.gr_rules.specs.Fits.{Fits, identical}
 use Rattle.gr_rules.specs.Operators.{IsUntyped, GoTogether, of_one_type, right_fits, left_fits, of_one_kind, IsOrder, IsEquality, IsLogic, Operates, adds}
@@ -51,12 +51,6 @@ front_is (behind_call {o} {c} {xs} {rest} e) = kept rest (tree.call o xs c (with
 
 before_last : (links whole rest : LinkTrees) → unless_end rest whole ≡ whole → EndsInCall links whole → EndsInCall links (unless_end rest whole)
 before_last links whole rest e h = subst (λ z. EndsInCall links z) (sym e) h
-
-behind_end : (rest : LinkTrees) → (is_end rest || ends_in_call rest) ≡ true → is_end rest ≡ false → ends_in_call rest ≡ true
-behind_end tree.no_link h e = absurd (true≢false e)
-behind_end (tree.selector d n more) h e = h
-behind_end (tree.index o x c more) h e = h
-behind_end (tree.call o xs c more) h e = h
 
 pub true_end : (links : LinkTrees) → ends_in_call links ≡ true → EndsInCall links (without_last links)
 unfolding ends_in_call without_last

@@ -2,9 +2,9 @@
 use Rattle.std.proofs.Common.{ℕ, ◌≡◌, List, [], ◌∷◌, ◌++◌, ap, sym, ◌∙◌, refl, subst, append_assoc, append-nil, map, Option}
 use Rattle.gr_expr.specs.declared.found.Found.{Found}
 use Rattle.gr_expr.specs.Types.{Meaning, PlainType, Results}
-use Rattle.gr_expr.specs.Judge.{Judged, JudgedList, TypeJudged, Argued, value_kind, means}
+use Rattle.gr_expr.specs.Judge.{Judged, JudgedList, TypeJudged, Argued, means}
 use Rattle.gr_expr.specs.Found.{use_of, Adds, AddsList, AddsType}
-use Rattle.gr_stmt.specs.Sides.{Target, Wants, Lefts, left_side, lefts_then, one_value, list_followed, values_of, results_at}
+use Rattle.gr_stmt.specs.Sides.{Target, Wants, Lefts, left_side, lefts_then, list_followed, values_of, results_at}
 use Rattle.gr_stmt.specs.Headers.{ResultsJudged, result_then}
 use Rattle.gr_stmt.specs.View.{AddsLefts, AddsResults, Notes}
 
@@ -17,9 +17,6 @@ pub record GrownLefts (rest total : Lefts) (old now : Found) (ts : List Target) 
   pub targets : ts ++ rest.targets ≡ total.targets
   pub faults : now.faults.items ++ rest.faults ≡ old.faults.items ++ total.faults
   pub uses : map use_of now.uses.items ++ rest.uses ≡ map use_of old.uses.items ++ total.uses
-
-pub grown_lefts_start : {f : Found} (l : Lefts) → GrownLefts l l f f []
-grown_lefts_start l = record { targets = refl; faults = refl; uses = refl }
 
 pub grown_lefts_step : {rest more total : Lefts} (one : Lefts) {old now new : Found} {ts us : List Target} →
     GrownLefts rest total old now ts → AddsLefts one now new us → rest ≡ lefts_then one more → GrownLefts more total old new (ts ++ us)
@@ -50,10 +47,6 @@ lefts_as {old = old} {new = new} {ts = ts} a e = subst (λ (x : Lefts). AddsLeft
 
 -- values
 
-pub adds_one : {j : Judged} (place : ℕ) {old new : Found} {m : Meaning} {vs : List Argued} → Adds j old new m →
-    vs ≡ record { place = place; kind = value_kind m } ∷ [] → AddsList (one_value place j) old new vs
-adds_one place a e = record { values = e ∙ ap (λ k. record { place = place; kind = value_kind k } ∷ []) a.meaning; faults = a.faults; uses = a.uses }
-
 pub adds_followed : {j : Judged} (rule : Meaning → JudgedList) {old mid new : Found} {m : Meaning} {vs : List Argued} → Adds j old mid m →
     AddsList (rule m) mid new vs → AddsList (list_followed j rule) old new vs
 adds_followed {j} rule {old} {mid} {new} {m} {vs} a b =
@@ -80,9 +73,6 @@ pub record GrownFaults (rest total : List ℕ) (old now : Found) : Type 0 where
   pub faults : now.faults.items ++ rest ≡ old.faults.items ++ total
   pub uses : now.uses.items ≡ old.uses.items
 
-pub grown_faults_start : {f : Found} (places : List ℕ) → GrownFaults places places f f
-grown_faults_start places = record { faults = refl; uses = refl }
-
 pub grown_faults_step : {rest more total : List ℕ} (places : List ℕ) {old now new : Found} → GrownFaults rest total old now → Notes places now new →
     rest ≡ places ++ more → GrownFaults more total old new
 grown_faults_step {rest} {more} {total} places {old} {now} {new} g a e = record {
@@ -100,9 +90,6 @@ pub record GrownResults (rest total : ResultsJudged) (old now : Found) (ts : Lis
   pub wanted : ts ++ rest.wanted ≡ total.wanted
   pub faults : now.faults.items ++ rest.faults ≡ old.faults.items ++ total.faults
   pub uses : now.uses.items ≡ old.uses.items
-
-pub grown_results_start : {f : Found} (j : ResultsJudged) → GrownResults j j f f []
-grown_results_start j = record { wanted = refl; faults = refl; uses = refl }
 
 pub grown_results_step : {rest more total : ResultsJudged} (j : TypeJudged) {old now new : Found} {ts : List Target} (t : Target) {own : Option PlainType} →
     GrownResults rest total old now ts → AddsType j now new own → t ≡ Wants own → rest ≡ result_then j more → GrownResults more total old new (ts ++ (t ∷ []))

@@ -10,7 +10,7 @@ use Rattle.gr_stmt.specs.Checked.{Checked, finding, noting, reaching}
 use Rattle.gr_stmt.specs.Sides.{Target, Wants, Lefts, given_to}
 use Rattle.gr_stmt.specs.Simple.{giving, name_targets, written_targets}
 use Rattle.gr_stmt.specs.Statements.{returned, returning}
-use Rattle.gr_stmt.specs.Headers.{ResultsJudged, received, receiving}
+use Rattle.gr_stmt.specs.Headers.{ResultsJudged}
 use Rattle.gr_stmt.specs.View.{checked_with, AddsLefts, AddsResults, Notes}
 
 pub checked_path : {ls ks : Locals} {fs gs : List ℕ} {us vs : List MemberUse} → ls ≡ ks → fs ≡ gs → us ≡ vs →
@@ -80,20 +80,6 @@ signed {j} ls {old} {mid} {new} {ts} {places} a n =
 pub declared_then : {j : TypeJudged} (ls : Locals) {old new : Found} {t : Option PlainType} → AddsType j old new t → (ks : Locals) →
     checked_with ks new ≡ reaching (checked_with ls old) ks j.faults []
 declared_then ls {old} {new} a ks = checked_path refl a.faults (ap (map use_of) a.uses ∙ sym (append-nil (map use_of old.uses.items)))
-
-pub adds_no_fault : (t : Option PlainType) (f : Found) → AddsType (record { type_of = t; faults = [] }) f f t
-adds_no_fault t f = record { found = refl; faults = sym (append-nil f.faults.items); uses = refl }
-
-pub adds_received : {j : TypeJudged} (w : World) (place : ℕ) {old mid new : Found} {t r : Option PlainType} → AddsType j old mid t →
-    AddsType (receiving w place t) mid new r → AddsType (received w place j) old new r
-adds_received {j} w place {old} {mid} {new} {t} {r} a b =
-    let b' : AddsType (receiving w place j.type_of) mid new r = subst (λ (x : Option PlainType). AddsType (receiving w place x) mid new r) a.found b in
-    record {
-      found = b'.found;
-      faults = b'.faults ∙ (ap (λ x. x ++ (receiving w place j.type_of).faults) a.faults ∙
-          append_assoc old.faults.items j.faults (receiving w place j.type_of).faults);
-      uses = b'.uses ∙ a.uses;
-    }
 
 -- the faults of a written type
 pub type_notes : {j : TypeJudged} {old new : Found} {t : Option PlainType} → AddsType j old new t → Notes j.faults old new

@@ -1,5 +1,5 @@
 -- What a package exports, from its parts.
-use Rattle.std.proofs.Common.{ℕ, ◌≡◌, ◌+◌, ◌<◌, ◌≤◌, inl, inr, List, length, ap, sym, subst, refl, ◌∙◌, arith, MatchOption}
+use Rattle.std.proofs.Common.{ℕ, ◌≡◌, ◌+◌, ◌<◌, ◌≤◌, inl, inr, List, length, ap, sym, subst, ◌∙◌, arith, MatchOption}
 use Rattle.std.specs.Prelude.{Option, Some, None, option_map, slice_get}
 use Rattle.std.specs.Global.{Vec}
 use Rattle.std.specs.BTreeMap.{BTreeMap, Updates}
@@ -9,7 +9,7 @@ use Rattle.std.proofs.lemmas.Bool.{cases_lt, cases_order}
 use Rattle.std.proofs.lemmas.Option.{slice_get_past, slice_get_within}
 use Rattle.gr_scope.specs.declared.model.Block.{Block}
 use Rattle.gr_scope.specs.declared.model.Block.TheVariants as block
-use Rattle.gr_scope.specs.Bindings.{Layout, Names, Counts, IsPackageLevel, Declares, IsBoundTo, block_of}
+use Rattle.gr_scope.specs.Bindings.{Layout, Names, Counts, IsPackageLevel, block_of}
 use Rattle.gr_scope.specs.Site.{Site, found_site, sites_layout}
 use Rattle.gr_expr.specs.Types.{Meaning}
 use Rattle.gr_expr.specs.World.{Bound}
@@ -31,13 +31,6 @@ use Rattle.gr_declared.proofs.ByteKeys.{cases_bytes, others_stay}
 
 -- whether a declaration counts
 
-pub counts_by : (l : Layout) (names : Names) (d : ℕ) (o : Option ℕ) →
-    ((u e : ℕ) → Declares l names u → (IsBoundTo l names u e → (u ≡ e) × Counts l names e) × ((u ≡ e) × Counts l names e → IsBoundTo l names u e)) →
-    Declares l names d → MatchOption o ((e : ℕ) → IsBoundTo l names d e → ⊥) (λ e. IsBoundTo l names d e) →
-    MatchOption o (Counts l names d → ⊥) (λ e. Counts l names d)
-counts_by l names d None law declares h = λ counts. h d ((law d d declares).1 (refl, counts))
-counts_by l names d (Some e) law declares h = let is : (d ≡ e) × Counts l names e = (law d e declares).0 h in subst (Counts l names) (sym is.0) is.1
-
 -- what a declaration of the package's block means
 
 abbrev is_package : Block → Type 0
@@ -57,12 +50,6 @@ global_by p d level _ (bound.function is s) = function
 global_by p d level _ (bound.definition at is whole) = type_name
 
 -- what a declaration is in other packages
-
-pub not_seen : (p : Package) (d : ℕ) → (IsSeen p d → ⊥) → IsExportFound p d None
-not_seen p d not = λ e by. not by.seen
-
-pub means_nothing : (p : Package) (d : ℕ) → ((b : Bound) → IsMeantBy p d b → ⊥) → IsExportFound p d None
-means_nothing p d none = λ e by. none (Stands e.meaning) by.means
 
 pub no_export : (p : Package) (d : ℕ) (b : Bound) → ((b c : Bound) → IsMeantBy p d b → IsMeantBy p d c → b ≡ c) → IsMeantBy p d b → IsGlobalFound b None →
     IsExportFound p d None

@@ -5,7 +5,7 @@ use Rattle.std.specs.Global.{Vec}
 use Rattle.std.proofs.Math.Seq.{take-suc, take-length}
 use Rattle.std.proofs.lemmas.Bool.{cases_lt}
 use Rattle.std.proofs.lemmas.List.Elements.{Contains-append_left, Contains-push, Contains-push_cases}
-use Rattle.std.proofs.lemmas.Option.{slice_get_within, same_Some, none-some}
+use Rattle.std.proofs.lemmas.Option.{slice_get_within, same_Some}
 use Rattle.gr_text.specs.declared.fault_kind.FaultKind.TheVariants as kind
 use Rattle.gr_fault.specs.declared.fault.Fault.{Fault}
 use Rattle.gr_fault.specs.Listing.{Adds, Below, Lists}
@@ -113,12 +113,6 @@ uses_of_file p file c old new ch h = (
         { source = ch.source; in_file = ch.in_file; world = ch.world; judged_by = ch.judged_by; found = ap (λ z. z.uses) ch.is },
   ),
 )
-
-pub no_uses : (p : Package) (members : List (Vec FoundUse)) → members ≡ [] → AreMemberUsesBelow p 0 (map uses_in members)
-no_uses p members e = record {
-  all = ap (λ ms. length (map uses_in ms)) e;
-  each = λ file uses at. absurd (none-some uses (ap (λ ms. slice_get (map uses_in ms) file) (sym e) ∙ at));
-}
 
 pub next_uses : (p : Package) (n : ℕ) (old new : List (Vec FoundUse)) → AddsFile p n old new → AreMemberUsesBelow p n (map uses_in old) →
     AreMemberUsesBelow p (n + 1) (map uses_in new)

@@ -27,10 +27,3 @@ imports_closed w p q imports has = through imports (itself has)
 -- a package does not build on itself
 pub not_on_itself : (w : Workspace) (p q : List ℕ) → BuildsOn w p q → q ≡ p → ⊥
 not_on_itself w p q on e = on.not_back (subst (λ r. IsInClosure w q r) e (subst (λ r. IsInClosure w r r) (sym e) (itself (from_package w p q on.imported))))
-
--- what it builds on builds on no less
-pub builds_then : (w : Workspace) (p q r : List ℕ) → BuildsOn w p q → BuildsOn w q r → BuildsOn w p r
-builds_then w p q r a b = record {
-  imported = in_closure_then w p q r a.imported b.imported;
-  not_back = λ back. b.not_back (in_closure_then w r p q back a.imported);
-}

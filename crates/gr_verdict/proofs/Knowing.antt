@@ -12,7 +12,6 @@ use Rattle.gr_declared.specs.InterfacesView.{name_in, interface_in, KnowsSame}
 use Rattle.gr_declared.specs.declared.interfaces.Interfaces.{Interfaces}
 use Rattle.gr_verdict.specs.declared.finding.Finding.{Finding}
 use Rattle.gr_verdict.specs.Verdicts.{BuildsOn, Verdict, IsVerdict, follows}
-use Rattle.gr_verdict.specs.Laws.{IsSameVerdict}
 use Rattle.gr_verdict.specs.Told.{is_unknown, known_by, AreWhole}
 use Rattle.gr_verdict.specs.Steps.{AreKnown, Learns}
 
@@ -25,9 +24,6 @@ same_known all more e q = record {
   state =
       ap (λ (i : Interfaces). state_in i.states q) e;
 }
-
-pub verdict_alike : (all more : Interfaces) (q : List ℕ) → KnowsSame all more q → IsSameVerdict (known_by all q) (known_by more q)
-verdict_alike all more q same = record { faulty = sym (ap is_unknown same.name); interface = λ e. sym same.interface }
 
 abbrev pub verdict_of : Bool → Interface → Verdict
 verdict_of faulty interface = record { faulty = faulty; interface = interface }

@@ -16,7 +16,7 @@ use Rattle.gr_expr.specs.Places.{place_of}
 use Rattle.gr_expr.specs.Types.{Meaning, Value, Results, Broken}
 use Rattle.gr_expr.specs.World.{World, Locals}
 use Rattle.gr_expr.specs.Judge.{MemberUse, TypeJudged, judge, judge_value, judge_type, as_value, followed}
-use Rattle.gr_stmt.specs.Checked.{Checked, reaching, check_items, check_group}
+use Rattle.gr_stmt.specs.Checked.{Checked, check_items, check_group}
 use Rattle.gr_stmt.specs.Sides.{Target, Lefts, values_of, judge_each, rights, assignable, judge_operand, assigned_one, assigned, no_name, declares, renewed}
 use Rattle.gr_stmt.specs.Sides.{defined_one, defined}
 use Rattle.gr_stmt.specs.Simple.{check_condition, check_step, check_update, check_alone, check_assign, check_define, check_simple, check_optional}
@@ -127,10 +127,6 @@ Grows w a b rs = (ts : List Token) → Passes w a.uses ts → Passes w b.uses (t
 
 grows_none : (w : World) (s : Checked) (rs : List Token) → Grows w s s rs
 grows_none w s rs ts h = pass_behind w s.uses ts rs h
-
-grows_by : (w : World) (s : Checked) (ls : Locals) (faults : List ℕ) (us : List MemberUse) (rs : List Token) → Passes w us rs →
-    Grows w s (reaching s ls faults us) rs
-grows_by w s ls faults us rs p ts h = pass_append w s.uses us ts rs h p
 
 grows_then : (w : World) (a b c : Checked) (us vs : List Token) → Grows w a b us → Grows w b c vs → Grows w a c (us ++ vs)
 grows_then w a b c us vs f g ts h = subst (λ xs. Passes w c.uses xs) (append_assoc ts us vs) (g (ts ++ us) (f ts h))
