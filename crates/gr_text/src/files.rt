@@ -49,7 +49,8 @@ impl Files {
         ensures ok { OnOk result (self.new ≡ map.insert self.old path text) }
         ensures err { OnErr result (self.new ≡ self.old) }
     {
-        self.texts.insert(path, text)
+        self.texts.insert(path, text)?;
+        Ok(())
     }
 
     /// Takes one path out.
@@ -57,7 +58,8 @@ impl Files {
         ensures ok { OnOk result (self.new ≡ map.remove self.old path.now) }
         ensures err { OnErr result (self.new ≡ self.old) }
     {
-        self.texts.remove(path)
+        self.texts.remove(path)?;
+        Ok(())
     }
 
     pub fn len(&self) -> usize

@@ -141,7 +141,7 @@ impl Share for Path {
 
 impl Same for Path {
     fn same(&self, other: &Path) -> bool {
-        self.text == other.text
+        *self == *other
     }
 }
 
