@@ -4,6 +4,7 @@ ghost use Rattle.std.proofs.Common.{rules};
 ghost use Rattle.std.specs.Cmp.Rules.{comparing};
 ghost use Rattle.std.specs.Cmp.Lexicographic.{pointwise};
 
+use gr_chunks::{Same, Share};
 use std::alloc::{AllocError, Global};
 use std::marker::Model;
 use std::sync::Arc;
@@ -62,6 +63,18 @@ impl Clone for FileText {
     fn clone(&self) -> Result<FileText, AllocError> {
         let bytes = Arc::try_clone(&self.bytes)?;
         Ok(FileText { bytes })
+    }
+}
+
+impl Share for FileText {
+    fn share(&self) -> Result<FileText, AllocError> {
+        self.clone()
+    }
+}
+
+impl Same for FileText {
+    fn same(&self, other: &FileText) -> bool {
+        self.bytes() == other.bytes()
     }
 }
 

@@ -6,15 +6,14 @@ ghost use Rattle.std.specs.FinMap as map;
 
 use crate::file_text::FileText;
 use crate::path::Path;
+use gr_chunks::{Entries, SharedMap};
 use std::alloc::{AllocError, Global};
-use std::collections::BTreeMap;
-use std::collections::btree_map::Iter;
 use std::marker::Model;
 
 /// A finite map from paths to texts.
 #[derive(Drop)]
 pub struct Files {
-    texts: BTreeMap<Path, FileText>,
+    texts: SharedMap<Path, FileText>,
 }
 
 impl Model for Files {
@@ -27,7 +26,7 @@ impl Model for Files {
 
     ghost coded = { map.code (coded_list coded_ℕ) (coded_list coded_ℕ) };
 
-    ghost view = { λ a. map.from_entries a.texts.entries };
+    ghost view = { λ a. map.from_entries a.texts };
 }
 
 impl Files {
@@ -35,7 +34,7 @@ impl Files {
         ensures { result ≡ map.empty }
     {
         Files {
-            texts: BTreeMap::new(alloc),
+            texts: SharedMap::new(alloc),
         }
     }
 
@@ -50,17 +49,17 @@ impl Files {
         ensures ok { OnOk result (self.new ≡ map.insert self.old path text) }
         ensures err { OnErr result (self.new ≡ self.old) }
     {
-        let before = self.texts.insert(path, text)?;
-        drop(before);
+        self.texts.insert(path, text)?;
         Ok(())
     }
 
     /// Takes one path out.
-    pub fn remove(&mut self, path: &Path)
-        ensures { self.new ≡ map.remove self.old path.now }
+    pub fn remove(&mut self, path: &Path) -> Result<(), AllocError>
+        ensures ok { OnOk result (self.new ≡ map.remove self.old path.now) }
+        ensures err { OnErr result (self.new ≡ self.old) }
     {
-        let before = self.texts.remove(path);
-        drop(before);
+        self.texts.remove(path)?;
+        Ok(())
     }
 
     pub fn len(&self) -> usize
@@ -70,7 +69,7 @@ impl Files {
     }
 
     /// The files in the order of their paths' bytes.
-    pub fn iter(&self) -> Iter<'_, Path, FileText>
+    pub fn iter(&self) -> Entries<'_, Path, FileText>
         ensures files { result ≡ map.entries self.now }
         ensures runs { ShowsInOrder (deref_pair {K = List ℕ} {X = List ℕ}) }
     {
@@ -81,7 +80,7 @@ impl Files {
     pub fn copy(&self) -> Result<Files, AllocError>
         ensures { IfOk result (λ copy. copy ≡ self.now) }
     {
-        let texts = self.texts.clone()?;
+        let texts = self.texts.copy()?;
         Ok(Files { texts })
     }
 
@@ -89,6 +88,6 @@ impl Files {
     pub fn same(&self, other: &Files) -> bool
         ensures { IsTrue result ↔ (self.now ≡ other.now) }
     {
-        other.texts.len() == self.texts.len() && self.texts == other.texts
+        other.texts.len() == self.texts.len() && self.texts.same(&other.texts)
     }
 }

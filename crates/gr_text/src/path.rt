@@ -11,6 +11,7 @@ ghost use Rattle.std.specs.Cmp.Lexicographic.{pointwise, slice_cmp};
 ghost use Rattle.std.specs.Ordering.{nat_cmp, as_partial_cmp};
 
 use crate::refusal::Refusal;
+use gr_chunks::{Same, Share};
 use std::alloc::{AllocError, Global};
 use std::cmp::Ordering;
 use std::marker::Model;
@@ -129,6 +130,18 @@ impl Clone for Path {
     fn clone(&self) -> Result<Path, AllocError> {
         let text = self.text.clone()?;
         Ok(Path { text })
+    }
+}
+
+impl Share for Path {
+    fn share(&self) -> Result<Path, AllocError> {
+        self.clone()
+    }
+}
+
+impl Same for Path {
+    fn same(&self, other: &Path) -> bool {
+        *self == *other
     }
 }
 
