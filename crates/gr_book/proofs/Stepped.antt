@@ -2,9 +2,10 @@
 use Rattle.std.proofs.Common.{◌≡◌, ℕ, ◌+◌, ◌≤◌, ◌<◌, ◌⊎◌, inl, inr, List, [], ◌∷◌, ◌++◌, length, Option, MatchOption, Some, None, refl, sym, ap, subst, ◌∙◌}
 use Rattle.std.proofs.Common.{⊎_elim, arith, length-append}
 use Rattle.std.proofs.lemmas.List.Edits.{length-remove}
+use Rattle.std.proofs.lemmas.List.Elements.{at_from_Contains}
 use Rattle.std.proofs.lemmas.Option.{none-some, same_Some, slice_get_within}
 use Rattle.gr_text.specs.declared.refusal.Refusal.TheVariants.{Memory, Moved, NothingToUndo, NothingToRedo, JournalFull, Stale, Already, NoJob}
-use Rattle.gr_compile.specs.Jobs.{JobsOut, Loses, label_of}
+use Rattle.gr_compile.specs.Jobs.{IsOut, JobsOut, Loses, label_of}
 use Rattle.gr_compile.specs.declared.built.Built.{Built}
 use Rattle.gr_compile.specs.declared.job.JobRecord.{JobRecord}
 use Rattle.gr_book.specs.declared.event.Event.{Event}
@@ -15,7 +16,7 @@ use Rattle.gr_book.specs.declared.entry.Entry.{Entry}
 use Rattle.gr_book.specs.declared.entry.Told.{Told}
 use Rattle.gr_book.specs.Journal.{Records, ShowsLine, entry_of, told_of}
 use Rattle.gr_book.specs.Machine.{Content, Machine, content, with_journal}
-use Rattle.gr_book.specs.Step.{Answers, HasPlace, HasRoom, Keeps, Step, entries_due}
+use Rattle.gr_book.specs.Step.{Answers, AnswersOrLacks, BringsOut, HasPlace, HasRoom, Keeps, MayLackMemory, Step, entries_due, refused}
 
 -- ---- the entry
 
@@ -92,6 +93,70 @@ kept_step old event (Refused JournalFull) c journal room k = absurd (no_room (co
 kept_step old event (Back Memory job unit) c journal room k = (k.0.0, k.0.1, same_machine old c journal k.0.2 k.2)
 kept_step old event (Back JournalFull job unit) c journal room k = absurd (no_room_back (content old) event job unit c k.0)
 kept_step old event reply c journal room k = (room, k.0, records (content old) old.journal event reply c journal k.0 k.1 k.2)
+
+-- want of memory for the entry
+pub lacking_step : (m : Machine) (event : Event) → (BringsOut m.out event → ⊥) → Step m event (refused event Memory) m
+lacking_step m Look none = (λ brings. brings, refl)
+lacking_step m (Log asked) none = (λ brings. brings, refl)
+lacking_step m (Commit basis change) none = (λ brings. brings, refl)
+lacking_step m (Undo basis) none = (λ brings. brings, refl)
+lacking_step m (Redo basis) none = (λ brings. brings, refl)
+lacking_step m Take none = (λ brings. brings, refl)
+lacking_step m (Deliver job built) none = ((refl, refl), tt, refl)
+lacking_step m (GiveBack job) none = ((refl, refl), none, refl)
+
+pub full_step : (m : Machine) (event : Event) → (HasRoom m event → ⊥) → Step m event (refused event JournalFull) m
+full_step m Look none = (λ brings. brings, none, refl)
+full_step m (Log asked) none = (λ brings. brings, none, refl)
+full_step m (Commit basis change) none = (λ brings. brings, none, refl)
+full_step m (Undo basis) none = (λ brings. brings, none, refl)
+full_step m (Redo basis) none = (λ brings. brings, none, refl)
+full_step m Take none = (λ brings. brings, none, refl)
+full_step m (Deliver job built) none = ((refl, refl), none, refl)
+full_step m (GiveBack job) none = ((refl, refl), none, refl)
+
+-- ---- places for entries
+pub place_there : (most due : ℕ) (out : JobsOut) (event : Event) → BringsOut out event → HasPlace most due out event
+place_there most due out Look brings = absurd brings
+place_there most due out (Log asked) brings = absurd brings
+place_there most due out (Commit basis change) brings = absurd brings
+place_there most due out (Undo basis) brings = absurd brings
+place_there most due out (Redo basis) brings = absurd brings
+place_there most due out Take brings = absurd brings
+place_there most due out (Deliver job built) brings = inl brings
+place_there most due out (GiveBack job) brings = inl brings
+
+pub place_made : (most due : ℕ) (out : JobsOut) (event : Event) → due + 2 ≤ most → HasPlace most due out event
+place_made most due out Look more = omega (arith, more)
+place_made most due out (Log asked) more = omega (arith, more)
+place_made most due out (Commit basis change) more = omega (arith, more)
+place_made most due out (Undo basis) more = omega (arith, more)
+place_made most due out (Redo basis) more = omega (arith, more)
+place_made most due out Take more = more
+place_made most due out (Deliver job built) more = inr (omega (arith, more))
+place_made most due out (GiveBack job) more = inr (omega (arith, more))
+
+some_out : (out : JobsOut) (job : JobRecord) → IsOut out job → 1 ≤ length out.jobs
+some_out out job has =
+    let at = at_from_Contains out.jobs (label_of job) has in
+    omega (arith, at.1)
+
+one_of : (most entries jobs : ℕ) → 1 ≤ jobs → entries + jobs ≤ most → entries + 1 ≤ most
+one_of most entries jobs some due = omega (arith, some, due)
+
+-- then one entry more has room
+pub place_for_one : (most entries : ℕ) (out : JobsOut) (event : Event) → entries + length out.jobs ≤ most →
+    HasPlace most (entries + length out.jobs) out event → entries + 1 ≤ most
+place_for_one most entries out Look due has = omega (arith, has)
+place_for_one most entries out (Log asked) due has = omega (arith, has)
+place_for_one most entries out (Commit basis change) due has = omega (arith, has)
+place_for_one most entries out (Undo basis) due has = omega (arith, has)
+place_for_one most entries out (Redo basis) due has = omega (arith, has)
+place_for_one most entries out Take due has = omega (arith, has)
+place_for_one most entries out (Deliver job built) due has =
+    ⊎_elim (λ is. one_of most entries (length out.jobs) (some_out out job is) due) (λ more. omega (arith, more)) has
+place_for_one most entries out (GiveBack job) due has =
+    ⊎_elim (λ is. one_of most entries (length out.jobs) (some_out out job is) due) (λ more. omega (arith, more)) has
 
 -- ---- what the journal bounds
 record Fits (m : Machine) (most : ℕ) (c : Content) : Type 0 where
