@@ -23,12 +23,13 @@ pub(crate) struct Making {
     pub(crate) lost: Vec<(Path, FileText)>,
 }
 
-fn take_out(files: &mut Files, changed: &[FileChange])
-    ensures { files.new ≡ without changed.now files.old }
+fn take_out(files: &mut Files, changed: &[FileChange]) -> Result<(), AllocError>
+    ensures { OnOk result (files.new ≡ without changed.now files.old) }
 {
     for change in changed {
-        files.remove(&change.path);
+        files.remove(&change.path)?;
     }
+    Ok(())
 }
 
 fn put_added(files: &mut Files, added: &[(Path, FileText)]) -> Result<(), AllocError>
@@ -145,7 +146,7 @@ pub(crate) fn made(
         back: Vec::new(alloc),
         lost: Vec::new(alloc),
     };
-    take_out(&mut making.files, changed);
+    take_out(&mut making.files, changed)?;
     make_changes(alloc, &mut making, files, changed)?;
     put_added(&mut making.files, added)?;
     drop_added(&mut making.back, added)?;
