@@ -4,7 +4,7 @@ use Rattle.std.specs.Prelude.{Option, Some, None, slice_get}
 use Rattle.std.proofs.lemmas.Option.{same_Some}
 use Rattle.gr_text.specs.Workspace.{Workspace}
 use Rattle.gr_text.specs.Packages.{package_paths, package_files}
-use Rattle.gr_graph.specs.declared.package.Package.{Package as Folder}
+use Rattle.gr_graph.specs.declared.package.ParsedPackage.{ParsedPackage as Folder}
 use Rattle.gr_graph.specs.Graphs.{IsPackage}
 use Rattle.gr_graph.specs.Parsed.{AreParsed}
 use Rattle.gr_declared.specs.Package.{Package}

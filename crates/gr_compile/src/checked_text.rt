@@ -20,7 +20,7 @@ use crate::naming::names_below;
 use gr_declared::{Index, Interface, Interfaces, Package};
 use gr_expr::symbol::SharedPath;
 use gr_expr::world::Definition;
-use gr_graph::{Graph, Package as Folder};
+use gr_graph::{Graph, ParsedPackage as Folder};
 use gr_meanings::Bounds;
 use gr_object::objects::{Faultless, checked_object};
 use gr_object::packages::Packages;

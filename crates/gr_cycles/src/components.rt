@@ -6,7 +6,7 @@ ghost use Rattle.gr_declared.specs.Spread.{AreLinked};
 ghost use Rattle.gr_cycles.specs.Cycles.{AreOrigins, IsTurned, Tells};
 
 use crate::origins::{numbers, origins};
-use crate::search::{Search, search_from};
+use crate::search::{RingSearch, search_from};
 use crate::values::falls;
 use gr_declared::{no_links, note, row};
 use std::alloc::{AllocError, Global};
@@ -39,7 +39,7 @@ fn reversed(alloc: Global, links: &[Vec<usize>]) -> Result<Vec<Vec<usize>>, Allo
 }
 
 /// A search along links, in the order in which one against them left numbers.
-fn along(alloc: Global, links: &[Vec<usize>], back: &[Vec<usize>]) -> Result<Search, AllocError> {
+fn along(alloc: Global, links: &[Vec<usize>], back: &[Vec<usize>]) -> Result<RingSearch, AllocError> {
     let order = numbers(alloc, back.len())?;
     let against = search_from(alloc, back, &order)?;
     search_from(alloc, links, &against.left)

@@ -2,7 +2,7 @@
 ghost use Rattle.std.specs.Prelude.{◌≡◌, ◌<◌, ℕ, length, slice_index_or, IfOk};
 ghost use Rattle.gr_cycles.specs.Cycles.{AreOrigins};
 
-use crate::search::Link;
+use crate::search::SearchLink;
 use gr_declared::row;
 use std::alloc::{AllocError, Global};
 
@@ -19,7 +19,7 @@ pub(crate) fn numbers(alloc: Global, size: usize) -> Result<Vec<usize>, AllocErr
 }
 
 /// Gives the number that a link leads to the origin of the one that it leads from.
-fn follow(links: &[Vec<usize>], origins: &mut [usize], link: Link)
+fn follow(links: &[Vec<usize>], origins: &mut [usize], link: SearchLink)
     requires { AreOrigins links.now origins.old }
     ensures { AreOrigins links.now origins.new }
 {
@@ -37,7 +37,7 @@ fn follow(links: &[Vec<usize>], origins: &mut [usize], link: Link)
 pub(crate) fn origins(
     alloc: Global,
     links: &[Vec<usize>],
-    followed: &[Link],
+    followed: &[SearchLink],
 ) -> Result<Vec<usize>, AllocError>
     ensures { IfOk result (λ origins. AreOrigins links.now origins.items) }
 {

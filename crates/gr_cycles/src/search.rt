@@ -4,28 +4,28 @@ use std::alloc::{AllocError, Global};
 
 /// A link: the number that it leads from, and its place among those that lead from there.
 #[derive(Clone, Copy)]
-pub(crate) struct Link {
+pub(crate) struct SearchLink {
     pub(crate) from: usize,
     pub(crate) place: usize,
 }
 
 /// What a search has found.
 #[derive(Drop)]
-pub(crate) struct Search {
+pub(crate) struct RingSearch {
     /// For each number from which beginning it was found, counted from one: zero for none.
     pub(crate) turns: Vec<usize>,
     /// The links by which numbers were found, in that order.
-    pub(crate) followed: Vec<Link>,
+    pub(crate) followed: Vec<SearchLink>,
     /// The numbers that the search left, with all that they lead to behind it, in that order.
     pub(crate) left: Vec<usize>,
     /// The links to look at next, of each number from the beginning to where the search stands.
-    path: Vec<Link>,
+    path: Vec<SearchLink>,
 }
 
-impl Search {
+impl RingSearch {
     /// Nothing found yet, of so many numbers.
-    fn new(alloc: Global, size: usize) -> Result<Search, AllocError> {
-        Ok(Search {
+    fn new(alloc: Global, size: usize) -> Result<RingSearch, AllocError> {
+        Ok(RingSearch {
             turns: vec![in alloc; 0; size]?,
             followed: Vec::new(alloc),
             left: Vec::new(alloc),
@@ -39,7 +39,7 @@ impl Search {
             return Ok(false);
         }
         self.turns[number] = turn;
-        self.path.push(Link {
+        self.path.push(SearchLink {
             from: number,
             place: 0,
         })?;
@@ -47,8 +47,8 @@ impl Search {
     }
 
     /// Looks at a link to a number.
-    fn pass(&mut self, link: Link, to: usize, turn: usize) -> Result<(), AllocError> {
-        self.path.push(Link {
+    fn pass(&mut self, link: SearchLink, to: usize, turn: usize) -> Result<(), AllocError> {
+        self.path.push(SearchLink {
             from: link.from,
             place: link.place.saturating_add(1),
         })?;
@@ -59,7 +59,7 @@ impl Search {
     }
 
     /// Looks at a link, or leaves the number that it would lead from.
-    fn look(&mut self, links: &[Vec<usize>], link: Link, turn: usize) -> Result<(), AllocError> {
+    fn look(&mut self, links: &[Vec<usize>], link: SearchLink, turn: usize) -> Result<(), AllocError> {
         match row(links, link.from).get(link.place) {
             None => self.left.push(link.from)?,
             Some(to) => self.pass(link, *to, turn)?,
@@ -90,8 +90,8 @@ pub(crate) fn search_from(
     alloc: Global,
     links: &[Vec<usize>],
     order: &[usize],
-) -> Result<Search, AllocError> {
-    let mut search = Search::new(alloc, links.len())?;
+) -> Result<RingSearch, AllocError> {
+    let mut search = RingSearch::new(alloc, links.len())?;
     for place in 0..order.len() {
         search.begin(links, order[order.len() - 1 - place], place + 1)?;
     }

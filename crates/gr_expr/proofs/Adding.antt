@@ -1,7 +1,7 @@
 -- What several calls in turn add to what was found.
 use Rattle.std.proofs.Common.{ℕ, ◌≡◌, ◌∷◌, ◌++◌, [], List, ap, sym, ◌∙◌, refl, append_assoc, append-nil, subst, Option, option_map, map, Bool, true, false}
 use Rattle.std.proofs.Common.{◌&&◌, ◌||◌}
-use Rattle.gr_expr.specs.declared.found.Found.{Found}
+use Rattle.gr_expr.specs.declared.found.FoundInFile.{FoundInFile}
 use Rattle.gr_expr.specs.declared.keys.ElementKey.{ElementKey}
 use Rattle.gr_expr.specs.Types.{Meaning, Kind, PlainType}
 use Rattle.gr_expr.specs.World.{World, Member, member_symbol}
@@ -12,25 +12,25 @@ use Rattle.gr_expr.specs.Judge.{is_whole, is_empty}
 use Rattle.gr_expr.specs.Found.{Adds, AddsList, AddsType, AddsKey, AddsElements, AddsPlaces, Continues, use_of}
 
 -- a meaning alone
-pub adds_meaning : {m n : Meaning} (f : Found) → n ≡ m → Adds (means m) f f n
+pub adds_meaning : {m n : Meaning} (f : FoundInFile) → n ≡ m → Adds (means m) f f n
 adds_meaning f e = record { meaning = e; faults = sym (append-nil _); uses = sym (append-nil _) }
 
 joined : {X : Type 0} (a d e : List X) {b c : List X} → b ≡ a ++ d → c ≡ b ++ e → c ≡ a ++ (d ++ e)
 joined a d e p q = q ∙ (ap (λ x. x ++ e) p ∙ append_assoc a d e)
 
-pub adds_then : {j : Judged} (rule : Meaning → Judged) {old mid new : Found} {m r : Meaning} → Adds j old mid m → Adds (rule m) mid new r →
+pub adds_then : {j : Judged} (rule : Meaning → Judged) {old mid new : FoundInFile} {m r : Meaning} → Adds j old mid m → Adds (rule m) mid new r →
     Adds (followed j rule) old new r
 adds_then {j} rule {old} {mid} {new} {m} {r} a b =
     let b' : Adds (rule j.meaning) mid new r = subst (λ (x : Meaning). Adds (rule x) mid new r) a.meaning b in
     record { meaning = b'.meaning; faults = joined _ _ _ a.faults b'.faults; uses = joined _ _ _ a.uses b'.uses }
 
 -- the use of a member, and then what the member means
-adds_use : {u : MemberUse} {j : Judged} {old mid new : Found} {m : Meaning} → mid.faults.items ≡ old.faults.items →
+adds_use : {u : MemberUse} {j : Judged} {old mid new : FoundInFile} {m : Meaning} → mid.faults.items ≡ old.faults.items →
     map use_of mid.uses.items ≡ map use_of old.uses.items ++ (u ∷ []) → Adds j mid new m → Adds (with_use u j) old new m
 adds_use {u} {j} {old} {mid} {new} {m} faults uses b =
     record { meaning = b.meaning; faults = b.faults ∙ ap (λ x. x ++ j.faults) faults; uses = joined (map use_of old.uses.items) (u ∷ []) j.uses uses b.uses }
 
-pub adds_member : (w : World) (t : PlainType) (name : ℕ) (a : Bool) (o : Option Member) (x : Option Meaning) {old mid new : Found} {m : Meaning} →
+pub adds_member : (w : World) (t : PlainType) (name : ℕ) (a : Bool) (o : Option Member) (x : Option Meaning) {old mid new : FoundInFile} {m : Meaning} →
     o ≡ w.member name t → x ≡ member_meaning w t a o → mid.faults.items ≡ old.faults.items →
     map use_of mid.uses.items ≡ map use_of old.uses.items ++ (record { place = name; before = t; member = option_map member_symbol o } ∷ []) →
     Adds (means_or_wrong x name) mid new m → Adds (select_member w name t a) old new m
@@ -40,23 +40,23 @@ adds_member w t name a o x {old} {mid} {new} {m} o_is x_is faults uses b =
     (means_or_wrong (member_meaning w t a z) name)) old new m) o_is
     (adds_use faults uses (subst (λ (z : Option Meaning). Adds (means_or_wrong z name) mid new m) x_is b))
 
-pub continues_here : {m : Meaning} {old : Found} → Continues (λ j. j) m old old m
+pub continues_here : {m : Meaning} {old : FoundInFile} → Continues (λ j. j) m old old m
 continues_here = record { after = λ j before a. a }
 
 -- how far a loop over the parts of a whole has come: what was found so far, and the rest still to be done gives the whole
-pub record Reached (total : Judged) (rest : Judged → Judged) (before now : Found) (m : Meaning) : Type 0 where
+pub record Reached (total : Judged) (rest : Judged → Judged) (before now : FoundInFile) (m : Meaning) : Type 0 where
   pub so_far : Judged
   pub adds : Adds so_far before now m
   pub goes_on : rest so_far ≡ total
 
-pub reached_start : (rest : Judged → Judged) {j : Judged} {before now : Found} {m : Meaning} → Adds j before now m → Reached (rest j) rest before now m
+pub reached_start : (rest : Judged → Judged) {j : Judged} {before now : FoundInFile} {m : Meaning} → Adds j before now m → Reached (rest j) rest before now m
 reached_start rest {j} a = record { so_far = j; adds = a; goes_on = refl }
 
-pub reached_step : {total : Judged} (rest more : Judged → Judged) (rule : Meaning → Judged) {before now new : Found} {m r : Meaning} →
+pub reached_step : {total : Judged} (rest more : Judged → Judged) (rule : Meaning → Judged) {before now new : FoundInFile} {m r : Meaning} →
     Reached total rest before now m → Adds (rule m) now new r → ((k : Judged) → rest k ≡ more (followed k rule)) → Reached total more before new r
 reached_step rest more rule c a e = record { so_far = followed c.so_far rule; adds = adds_then rule c.adds a; goes_on = sym (e c.so_far) ∙ c.goes_on }
 
-pub reached_end : {total : Judged} (rest : Judged → Judged) {before now : Found} {m : Meaning} → Reached total rest before now m →
+pub reached_end : {total : Judged} (rest : Judged → Judged) {before now : FoundInFile} {m : Meaning} → Reached total rest before now m →
     ((k : Judged) → rest k ≡ k) → Adds total before now m
 reached_end {total} rest {before} {now} {m} c e = subst (λ (j : Judged). Adds j before now m) (sym (e c.so_far) ∙ c.goes_on) c.adds
 
@@ -64,7 +64,7 @@ reached_end {total} rest {before} {now} {m} c e = subst (λ (j : Judged). Adds j
 abbrev pub list_then : JudgedList → JudgedList → JudgedList
 list_then a b = record { values = a.values ++ b.values; faults = a.faults ++ b.faults; uses = a.uses ++ b.uses }
 
-pub record ReachedList (total rest : JudgedList) (before now : Found) (vs : List Argued) : Type 0 where
+pub record ReachedList (total rest : JudgedList) (before now : FoundInFile) (vs : List Argued) : Type 0 where
   pub so_far : JudgedList
   pub adds : AddsList so_far before now vs
   pub goes_on : list_then so_far rest ≡ total
@@ -72,7 +72,7 @@ pub record ReachedList (total rest : JudgedList) (before now : Found) (vs : List
 abbrev one_value : ℕ → Judged → JudgedList
 one_value place j = record { values = record { place = place; kind = value_kind j.meaning } ∷ []; faults = j.faults; uses = j.uses }
 
-pub reached_list_start : {f : Found} (total : JudgedList) → ReachedList total total f f []
+pub reached_list_start : {f : FoundInFile} (total : JudgedList) → ReachedList total total f f []
 reached_list_start total = record {
   so_far = record { values = []; faults = []; uses = [] };
   adds =
@@ -80,7 +80,7 @@ reached_list_start total = record {
   goes_on = refl;
 }
 
-pub reached_list_step : {total rest more : JudgedList} (place : ℕ) (j : Judged) {before now new : Found} {vs : List Argued} (v : Argued) {m : Meaning} →
+pub reached_list_step : {total rest more : JudgedList} (place : ℕ) (j : Judged) {before now new : FoundInFile} {vs : List Argued} (v : Argued) {m : Meaning} →
     ReachedList total rest before now vs → Adds j now new m → v ≡ record { place = place; kind = value_kind m } → rest ≡ value_before place j more →
     ReachedList total more before new (vs ++ (v ∷ []))
 reached_list_step {total} {rest} {more} place j v c a e r = record {
@@ -108,7 +108,7 @@ reached_list_step {total} {rest} {more} place j v c a e r = record {
       ∙ (ap (λ x. list_then c.so_far x) (sym r) ∙ c.goes_on))));
 }
 
-pub adds_values : {vs : JudgedList} (rule : List Argued → Judged) {old mid new : Found} {xs : List Argued} {r : Meaning} → AddsList vs old mid xs →
+pub adds_values : {vs : JudgedList} (rule : List Argued → Judged) {old mid new : FoundInFile} {xs : List Argued} {r : Meaning} → AddsList vs old mid xs →
     Adds (rule xs) mid new r → Adds (with_values vs rule) old new r
 adds_values {vs} rule {old} {mid} {new} {xs} {r} a b =
     let b' : Adds (rule vs.values) mid new r = subst (λ (x : List Argued). Adds (rule x) mid new r) a.values b in
@@ -120,7 +120,7 @@ Same a b = a ≡ b
 pub argued_at : {p q : ℕ} {k l : Option Kind} → p ≡ q → k ≡ l → Same (record { place = p; kind = k }) (record { place = q; kind = l })
 argued_at {p} {q} {k} {l} e f = ap (λ x. record { place = x; kind = k }) e ∙ ap (λ x. record { place = q; kind = x }) f
 
-pub reached_list_end : {total rest : JudgedList} {before now : Found} {vs : List Argued} → ReachedList total rest before now vs →
+pub reached_list_end : {total rest : JudgedList} {before now : FoundInFile} {vs : List Argued} → ReachedList total rest before now vs →
     rest ≡ record { values = []; faults = []; uses = [] } → AddsList total before now vs
 reached_list_end {total} {rest} {before} {now} {vs} c e =
     let t : list_then c.so_far (record { values = []; faults = []; uses = [] }) ≡ total = ap (λ r. list_then c.so_far r) (sym e) ∙ c.goes_on in
@@ -179,12 +179,12 @@ element_split w a k place j more = same_elements
     (four a.faults k.faults j.faults (misfit_if w place (value_kind j.meaning) k.wanted) more.faults)
     (three a.uses k.uses j.uses more.uses)
 
-pub record ReachedElements (total rest : JudgedElements) (before now : Found) (all_whole some_unkeyed : Bool) : Type 0 where
+pub record ReachedElements (total rest : JudgedElements) (before now : FoundInFile) (all_whole some_unkeyed : Bool) : Type 0 where
   pub so_far : JudgedElements
   pub adds : AddsElements so_far before now all_whole some_unkeyed
   pub goes_on : elements_then so_far rest ≡ total
 
-pub reached_elements_start : {f : Found} (total : JudgedElements) → ReachedElements total total f f true false
+pub reached_elements_start : {f : FoundInFile} (total : JudgedElements) → ReachedElements total total f f true false
 reached_elements_start total = record {
   so_far = no_elements;
   adds =
@@ -194,7 +194,7 @@ reached_elements_start total = record {
 
 -- an element: its key, its value, and whether that fits
 pub reached_element : (w : World) (k : JudgedKey) (place at : ℕ) (j : Judged) (kind : Option Kind) (wanted : Option PlainType)
-    {total rest more : JudgedElements} {before now keyed valued new : Found} {whole unkeyed key_whole key_unkeyed fits : Bool} {m : Meaning} →
+    {total rest more : JudgedElements} {before now keyed valued new : FoundInFile} {whole unkeyed key_whole key_unkeyed fits : Bool} {m : Meaning} →
     ReachedElements total rest before now whole unkeyed → (key : ElementKey) → AddsKey k now keyed key → Adds j keyed valued m →
     AddsPlaces (misfit_if w at kind wanted) valued new fits →
     at ≡ place → kind ≡ value_kind m → wanted ≡ option_map (λ t. type_of t.now) key.wanted → key_whole ≡ key.whole → key_unkeyed ≡ key.unkeyed →
@@ -223,7 +223,7 @@ reached_element w k place at j kind wanted {total} {rest} {more} {before} {now} 
       goes_on = element_split w c.so_far k place j more ∙ (ap (λ x. elements_then c.so_far x) (sym r) ∙ c.goes_on);
     }
 
-pub reached_elements_as : {total rest : JudgedElements} {before now : Found} {a b c d : Bool} → c ≡ a → d ≡ b → ReachedElements total rest before now a b →
+pub reached_elements_as : {total rest : JudgedElements} {before now : FoundInFile} {a b c d : Bool} → c ≡ a → d ≡ b → ReachedElements total rest before now a b →
     ReachedElements total rest before now c d
 reached_elements_as {total} {rest} {before} {now} {a} {b} {c} {d} e f r =
     subst (λ (x : Bool). ReachedElements total rest before now c x) (sym f) (subst (λ (x : Bool). ReachedElements total rest before now x b) (sym e) r)
@@ -236,7 +236,7 @@ and_end : (a : Bool) → (a && true) ≡ a
 and_end true = refl
 and_end false = refl
 
-pub reached_elements_end : {total rest : JudgedElements} {before now : Found} {whole unkeyed : Bool} → ReachedElements total rest before now whole unkeyed →
+pub reached_elements_end : {total rest : JudgedElements} {before now : FoundInFile} {whole unkeyed : Bool} → ReachedElements total rest before now whole unkeyed →
     rest ≡ no_elements → AddsElements total before now whole unkeyed
 reached_elements_end {total} {rest} {before} {now} {whole} {unkeyed} c e =
     let t : elements_then c.so_far no_elements ≡ total = ap (λ r. elements_then c.so_far r) (sym e) ∙ c.goes_on in
@@ -248,7 +248,7 @@ reached_elements_end {total} {rest} {before} {now} {whole} {unkeyed} c e =
     }
 
 -- a literal: its type, its elements, and what they make
-pub adds_literal : (w : World) (start : ℕ) (t : TypeJudged) (rest : Option PlainType → JudgedElements) {old typed filled new : Found}
+pub adds_literal : (w : World) (start : ℕ) (t : TypeJudged) (rest : Option PlainType → JudgedElements) {old typed filled new : FoundInFile}
     {own : Option PlainType} {whole unkeyed : Bool} {m : Meaning} →
     AddsType t old typed own → AddsElements (rest own) typed filled whole unkeyed → Adds (literal_meaning w start own whole unkeyed) filled new m →
     Adds (literal_of w start t (rest t.type_of)) old new m

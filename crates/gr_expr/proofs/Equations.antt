@@ -12,7 +12,7 @@ use Rattle.gr_tree.specs.declared.tree.CompositeLit.{CompositeLit, out-Composite
 use Rattle.gr_tree.specs.Tree as tree
 use Rattle.gr_tree.specs.View.{type_view, expr_view, link_view, literal_view, key_view}
 use Rattle.gr_expr.specs.declared.types.Basic.TheVariants as basic
-use Rattle.gr_expr.specs.declared.found.Found.{Found}
+use Rattle.gr_expr.specs.declared.found.FoundInFile.{FoundInFile}
 use Rattle.gr_expr.specs.Lists.{links_in, operands_in, arguments_in, elements_in}
 use Rattle.gr_expr.specs.Places.{first_token, first_of_type, place_of, place_behind}
 use Rattle.gr_expr.specs.Types.{Meaning, Value, Untyped, Broken, PlainType}
@@ -27,10 +27,10 @@ pub ok_map : {X E : Type 0} {P Q : X → Type 0} (r : Result X E) → ((x : X) �
 ok_map (Ok x) f p = f x p
 ok_map (Err e) f p = tt
 
-pub adds_as : {j k : Judged} {old new : Found} {m : Meaning} → j ≡ k → Adds k old new m → Adds j old new m
+pub adds_as : {j k : Judged} {old new : FoundInFile} {m : Meaning} → j ≡ k → Adds k old new m → Adds j old new m
 adds_as {j} {k} {old} {new} {m} e a = subst (λ (x : Judged). Adds x old new m) (sym e) a
 
-pub list_as : {j k : JudgedList} {vs us : List Argued} {old new : Found} → j ≡ k → vs ≡ us → AddsList k old new us → AddsList j old new vs
+pub list_as : {j k : JudgedList} {vs us : List Argued} {old new : FoundInFile} → j ≡ k → vs ≡ us → AddsList k old new us → AddsList j old new vs
 list_as {j} {k} {vs} {us} {old} {new} e f a = subst (λ (x : JudgedList). AddsList x old new vs) (sym e)
     (subst (λ (x : List Argued). AddsList k old new x) (sym f) a)
 

@@ -1,7 +1,7 @@
 -- How far the values of a list are compared with types.
 use Rattle.std.proofs.Common.{ℕ, ◌≡◌, ◌∷◌, [], List, Bool, true, ◌&&◌, ap, sym, refl, map, ◌++◌, append_assoc, append-nil, option_map, ◌∙◌}
 use Rattle.gr_expr.specs.declared.meaning.Argued.{Argued}
-use Rattle.gr_expr.specs.declared.found.Found.{Found}
+use Rattle.gr_expr.specs.declared.found.FoundInFile.{FoundInFile}
 use Rattle.gr_expr.specs.declared.types.GoType.{GoType}
 use Rattle.gr_expr.specs.Judge.{is_empty, misfit, misfits, all_misfits, Argued as PlainArgued}
 use Rattle.gr_expr.specs.Types.{PlainType}
@@ -14,15 +14,15 @@ both_empty [] b = refl
 both_empty (x ∷ a) b = refl
 
 -- the places found so far, and the rest
-pub record Compared (total rest : List ℕ) (old new : Found) (fits : Bool) : Type 0 where
+pub record Compared (total rest : List ℕ) (old new : FoundInFile) (fits : Bool) : Type 0 where
   pub so_far : List ℕ
   pub adds : AddsPlaces so_far old new fits
   pub goes_on : so_far ++ rest ≡ total
 
-pub compared_start : (total : List ℕ) {f : Found} → Compared total total f f true
+pub compared_start : (total : List ℕ) {f : FoundInFile} → Compared total total f f true
 compared_start total = record { so_far = []; adds = record { faults = sym (append-nil _); uses = refl; none = refl }; goes_on = refl }
 
-pub compared_step : {total rest more : List ℕ} (places : List ℕ) {old now new : Found} {a b : Bool} → Compared total rest old now a →
+pub compared_step : {total rest more : List ℕ} (places : List ℕ) {old now new : FoundInFile} {a b : Bool} → Compared total rest old now a →
     AddsPlaces places now new b → rest ≡ places ++ more → Compared total more old new (a && b)
 compared_step {total} {rest} {more} places {old} {now} {new} {a} {b} c d e = record {
   so_far = c.so_far ++ places;
@@ -34,7 +34,7 @@ compared_step {total} {rest} {more} places {old} {now} {new} {a} {b} c d e = rec
   goes_on = append_assoc c.so_far places more ∙ (ap (λ x. c.so_far ++ x) (sym e) ∙ c.goes_on);
 }
 
-pub compared_end : {total rest : List ℕ} {old new : Found} {a : Bool} → Compared total rest old new a → rest ≡ [] → AddsPlaces total old new a
+pub compared_end : {total rest : List ℕ} {old new : FoundInFile} {a : Bool} → Compared total rest old new a → rest ≡ [] → AddsPlaces total old new a
 compared_end {total} {rest} {old} {new} {a} c e =
     let t : c.so_far ≡ total = sym (append-nil c.so_far) ∙ (ap (λ x. c.so_far ++ x) (sym e) ∙ c.goes_on) in
     record { faults = c.adds.faults ∙ ap (λ x. old.faults.items ++ x) t; uses = c.adds.uses; none = c.adds.none ∙ ap is_empty t }

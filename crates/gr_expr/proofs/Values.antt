@@ -2,13 +2,13 @@
 use Rattle.std.proofs.Common.{◌≡◌, ◌∷◌, [], List, ◌&&◌, ap, refl, map, Option, Some, None, is_some, option_map, ◌∙◌}
 use Rattle.std.specs.List.{list_all}
 use Rattle.gr_expr.specs.declared.meaning.Argued.{Argued}
-use Rattle.gr_expr.specs.declared.types.Kind.{Kind}
+use Rattle.gr_expr.specs.declared.types.ValueKind.{ValueKind}
 use Rattle.gr_expr.specs.Judge.{all_whole, is_whole, all_printed, is_printed_value}
 use Rattle.gr_expr.specs.Found.{argued_of}
 use Rattle.gr_expr.specs.View.{kind_of}
 use Rattle.gr_expr.specs.World.{World}
 
-whole_one : (k : Option Kind) → is_whole (option_map kind_of k) ≡ is_some k
+whole_one : (k : Option ValueKind) → is_whole (option_map kind_of k) ≡ is_some k
 whole_one None = refl
 whole_one (Some k) = refl
 

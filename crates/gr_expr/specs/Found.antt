@@ -8,10 +8,10 @@ use Rattle.gr_expr.specs.declared.meaning.Meaning.{Meaning}
 use Rattle.gr_expr.specs.declared.meaning.Meaning.TheVariants as meaning
 use Rattle.gr_expr.specs.declared.meaning.Argued.{Argued}
 use Rattle.gr_expr.specs.declared.found.MemberUse.{MemberUse}
-use Rattle.gr_expr.specs.declared.found.Found.{Found}
+use Rattle.gr_expr.specs.declared.found.FoundInFile.{FoundInFile}
 use Rattle.gr_expr.specs.declared.keys.SeenFields.{SeenFields}
-use Rattle.gr_expr.specs.declared.keys.Key.{Key}
-use Rattle.gr_expr.specs.declared.keys.Key.TheVariants as key
+use Rattle.gr_expr.specs.declared.keys.LiteralKey.{LiteralKey}
+use Rattle.gr_expr.specs.declared.keys.LiteralKey.TheVariants as key
 use Rattle.gr_expr.specs.declared.keys.ElementKey.{ElementKey}
 use Rattle.gr_expr.specs.Types as types
 use Rattle.gr_expr.specs.Judge as judge
@@ -33,7 +33,7 @@ meaning_of meaning.Broken = types.Broken
 unfoldable pub seen_of : SeenFields → judge.Seen
 seen_of s rank = contains nat_cmp s.ranks rank
 
-unfoldable pub key_of : Key → judge.Key
+unfoldable pub key_of : LiteralKey → judge.Key
 key_of (key.Field rank t) = judge.FieldKey rank (type_of t.now)
 key_of key.Broken = judge.BrokenKey
 key_of key.Wrong = judge.WrongKey
@@ -45,30 +45,30 @@ abbrev pub argued_of : Argued → judge.Argued
 argued_of v = record { place = v.place; kind = option_map kind_of v.kind }
 
 -- what a call added to what was found: the faults and uses of j, and its meaning as the result
-pub record Adds (j : judge.Judged) (old new : Found) (m : types.Meaning) : Type 0 where
+pub record Adds (j : judge.Judged) (old new : FoundInFile) (m : types.Meaning) : Type 0 where
   pub meaning : m ≡ j.meaning
   pub faults : new.faults.items ≡ old.faults.items ++ j.faults
   pub uses : map use_of new.uses.items ≡ map use_of old.uses.items ++ j.uses
 
 -- the same of a list of values
-pub record AddsList (j : judge.JudgedList) (old new : Found) (vs : List judge.Argued) : Type 0 where
+pub record AddsList (j : judge.JudgedList) (old new : FoundInFile) (vs : List judge.Argued) : Type 0 where
   pub values : vs ≡ j.values
   pub faults : new.faults.items ≡ old.faults.items ++ j.faults
   pub uses : map use_of new.uses.items ≡ map use_of old.uses.items ++ j.uses
 
 -- what a call adds behind any j that was found before and has that meaning
-pub record Continues (rule : judge.Judged → judge.Judged) (m : types.Meaning) (old new : Found) (r : types.Meaning) : Type 0 where
-  pub after : (j : judge.Judged) (before : Found) → Adds j before old m → Adds (rule j) before new r
+pub record Continues (rule : judge.Judged → judge.Judged) (m : types.Meaning) (old new : FoundInFile) (r : types.Meaning) : Type 0 where
+  pub after : (j : judge.Judged) (before : FoundInFile) → Adds j before old m → Adds (rule j) before new r
 
 -- places were noted as faults; fits: whether there is none
-pub record AddsPlaces (places : List ℕ) (old new : Found) (fits : Bool) : Type 0 where
+pub record AddsPlaces (places : List ℕ) (old new : FoundInFile) (fits : Bool) : Type 0 where
   pub faults : new.faults.items ≡ old.faults.items ++ places
   pub uses : new.uses.items ≡ old.uses.items
   pub none : fits ≡ judge.is_empty places
 
 -- the key of an element was judged: its faults and uses were noted; whether it is whole, whether there is none, and what the
 -- value behind it has to fit
-pub record AddsKey (j : judge.JudgedKey) (old new : Found) (k : ElementKey) : Type 0 where
+pub record AddsKey (j : judge.JudgedKey) (old new : FoundInFile) (k : ElementKey) : Type 0 where
   pub whole : k.whole ≡ j.whole
   pub unkeyed : k.unkeyed ≡ j.unkeyed
   pub wanted : option_map (λ t. type_of t.now) k.wanted ≡ j.wanted
@@ -76,14 +76,14 @@ pub record AddsKey (j : judge.JudgedKey) (old new : Found) (k : ElementKey) : Ty
   pub uses : map use_of new.uses.items ≡ map use_of old.uses.items ++ j.uses
 
 -- the same of the elements of a literal
-pub record AddsElements (j : judge.JudgedElements) (old new : Found) (all_whole some_unkeyed : Bool) : Type 0 where
+pub record AddsElements (j : judge.JudgedElements) (old new : FoundInFile) (all_whole some_unkeyed : Bool) : Type 0 where
   pub whole : all_whole ≡ j.whole
   pub unkeyed : some_unkeyed ≡ j.unkeyed
   pub faults : new.faults.items ≡ old.faults.items ++ j.faults
   pub uses : map use_of new.uses.items ≡ map use_of old.uses.items ++ j.uses
 
 -- a type was judged: its faults were noted
-pub record AddsType (j : judge.TypeJudged) (old new : Found) (own : Option types.PlainType) : Type 0 where
+pub record AddsType (j : judge.TypeJudged) (old new : FoundInFile) (own : Option types.PlainType) : Type 0 where
   pub found : own ≡ j.type_of
   pub faults : new.faults.items ≡ old.faults.items ++ j.faults
   pub uses : new.uses.items ≡ old.uses.items

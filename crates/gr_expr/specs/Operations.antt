@@ -5,8 +5,8 @@ use Rattle.gr_tree.specs.declared.syntax.BinaryOp.TheVariants as op
 use Rattle.gr_tree.specs.declared.syntax.PrefixOp.{PrefixOp}
 use Rattle.gr_tree.specs.declared.syntax.PrefixOp.TheVariants as prefix
 use Rattle.gr_expr.specs.declared.types.Basic.TheVariants as basic
-use Rattle.gr_expr.specs.declared.classes.Class.{Class}
-use Rattle.gr_expr.specs.declared.classes.Class.TheVariants as class
+use Rattle.gr_expr.specs.declared.classes.TypeClass.{TypeClass}
+use Rattle.gr_expr.specs.declared.classes.TypeClass.TheVariants as class
 use Rattle.gr_expr.specs.declared.classes.Family.{Family}
 use Rattle.gr_expr.specs.declared.classes.Family.TheVariants as family
 use Rattle.gr_expr.specs.Types.{PlainType, Underlying, Plain, PointerTo, SliceOf, Struct, Kind, Typed, Untyped, Nil, Meaning, Value, same_basic, same_type}
@@ -38,45 +38,45 @@ unfoldable pub is_nil : Kind → Bool
 is_nil Nil = true
 is_nil v = false
 
-abbrev pub class_of_underlying : Underlying → Class
+abbrev pub class_of_underlying : Underlying → TypeClass
 class_of_underlying (Plain b) = class.Of b
 class_of_underlying (PointerTo t) = class.Pointer
 class_of_underlying (SliceOf t) = class.Slice
 class_of_underlying (Struct s) = class.Struct
 
-unfoldable pub class_of : World → Kind → Class
+unfoldable pub class_of : World → Kind → TypeClass
 class_of w (Typed t) = class_of_underlying (underlying w t)
 class_of w (Untyped b) = class.Of b
 class_of w Nil = class.Nil
 
 -- the class of `==` and `!=` operands; with_nil: one of the two is nil
-abbrev pub compares : Bool → Class → Bool
+abbrev pub compares : Bool → TypeClass → Bool
 compares with_nil (class.Of b) = true
 compares with_nil class.Pointer = true
 compares with_nil class.Slice = with_nil
 compares with_nil c = false
 
-abbrev pub is_int : Class → Bool
+abbrev pub is_int : TypeClass → Bool
 is_int (class.Of basic.Int) = true
 is_int c = false
 
-abbrev pub is_bool : Class → Bool
+abbrev pub is_bool : TypeClass → Bool
 is_bool (class.Of basic.Bool) = true
 is_bool c = false
 
-abbrev pub is_ordered : Class → Bool
+abbrev pub is_ordered : TypeClass → Bool
 is_ordered (class.Of basic.Int) = true
 is_ordered (class.Of basic.String) = true
 is_ordered c = false
 
 -- the operands of `len`
-abbrev pub has_length : Class → Bool
+abbrev pub has_length : TypeClass → Bool
 has_length (class.Of basic.String) = true
 has_length class.Slice = true
 has_length c = false
 
 -- the operands of `print` and `println`
-abbrev pub is_printed : Class → Bool
+abbrev pub is_printed : TypeClass → Bool
 is_printed (class.Of b) = true
 is_printed c = false
 
@@ -99,7 +99,7 @@ abbrev pub when : {A : Type 0} → Bool → A → Option A
 when test a = if test then Some a else None
 
 -- the kind of the result of an operation on operands of the class c and the common kind k
-unfoldable pub result_of : Family → Bool → Class → Kind → Option Kind
+unfoldable pub result_of : Family → Bool → TypeClass → Kind → Option Kind
 result_of family.Arithmetic with_nil c k = when (is_int c) k
 result_of family.Addition with_nil c k = when (is_ordered c) k
 result_of family.Equality with_nil c k = when (compares with_nil c) (Untyped basic.Bool)

@@ -2,8 +2,8 @@
 use Rattle.std.specs.Prelude.{map}
 use Rattle.gr_expr.specs.declared.types.GoType.{GoType}
 use Rattle.gr_expr.specs.declared.types.GoType.TheVariants as type
-use Rattle.gr_expr.specs.declared.types.Kind.{Kind}
-use Rattle.gr_expr.specs.declared.types.Kind.TheVariants as kind
+use Rattle.gr_expr.specs.declared.types.ValueKind.{ValueKind}
+use Rattle.gr_expr.specs.declared.types.ValueKind.TheVariants as kind
 use Rattle.gr_expr.specs.declared.types.Signature.{Signature}
 use Rattle.gr_expr.specs.Types as types
 
@@ -13,7 +13,7 @@ type_of (type.Defined s) = types.Defined s
 type_of (type.Pointer' p t) = types.Pointer (type_of t)
 type_of (type.Slice' p t) = types.Slice (type_of t)
 
-unfoldable pub kind_of : Kind → types.Kind
+unfoldable pub kind_of : ValueKind → types.Kind
 kind_of (kind.Typed t) = types.Typed (type_of t)
 kind_of (kind.Untyped b) = types.Untyped b
 kind_of kind.Nil = types.Nil

@@ -7,16 +7,16 @@ ghost use Rattle.gr_expr.specs.View.{type_of, kind_of, signature_of};
 ghost use Rattle.gr_expr.specs.WorldView.{world_of};
 ghost use Rattle.gr_expr.specs.Found.{meaning_of, argued_of, Adds, AddsPlaces};
 
-use crate::found::Found;
+use crate::found::FoundInFile;
 use crate::meaning::{Argued, Meaning, all_whole, result_meaning};
 use crate::places::FaultPlaces;
-use crate::types::{Basic, Builtin, GoType, Kind, Signature};
+use crate::types::{Basic, Builtin, GoType, ValueKind, Signature};
 use crate::world::World;
 use std::alloc::{AllocError, Global};
 
 impl World<'_> {
     /// Whether `print` and `println` take such a value; a broken one is let pass.
-    fn prints_value(&self, kind: &Option<Kind>) -> bool
+    fn prints_value(&self, kind: &Option<ValueKind>) -> bool
         ensures { result ≡ is_printed_value (world_of self.now) (option_map kind_of kind.now) }
     {
         match kind {
@@ -52,7 +52,7 @@ impl World<'_> {
     }
 }
 
-impl Found {
+impl FoundInFile {
     /// A wrong operation is a fault only where its parts are whole.
     #[tactic(auto, unfolding(crate::specs::Found::meaning_of))]
     fn wrong_if_whole<'w>(
@@ -165,7 +165,7 @@ impl Found {
         match &value.kind {
             None => Ok(Meaning::Broken),
             Some(kind) if world.converts(kind, wanted) => {
-                Ok(Meaning::value(Kind::Typed(wanted.copy(alloc)?)))
+                Ok(Meaning::value(ValueKind::Typed(wanted.copy(alloc)?)))
             }
             Some(_) => self.wrong(start),
         }
@@ -178,7 +178,7 @@ impl Found {
         alloc: Global,
         world: &World<'w>,
         start: usize,
-        slice: &Kind,
+        slice: &ValueKind,
         values: &[Argued],
     ) -> Result<Meaning<'w>, AllocError>
         ensures { IfOk result (λ m. Adds (append_to (world_of world.now) start (kind_of slice.now) (element_of_kind (world_of world.now) (kind_of slice.now)) (map argued_of values.now)) self.old self.new (meaning_of m)) }
@@ -248,7 +248,7 @@ impl Found {
                 world.measures(values),
                 values,
                 start,
-                Meaning::value(Kind::Typed(GoType::Basic(Basic::Int))),
+                Meaning::value(ValueKind::Typed(GoType::Basic(Basic::Int))),
             ),
             Builtin::Panic => {
                 self.call_when(values.len() == 1, values, start, Meaning::Results(&[]))

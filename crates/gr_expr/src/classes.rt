@@ -3,7 +3,7 @@ use crate::types::Basic;
 
 /// The values of one underlying type or kind, as operators tell them apart.
 #[derive(Clone, Copy, PartialEq, Eq, Debug)]
-pub enum Class {
+pub enum TypeClass {
     Of(Basic),
     Pointer,
     Slice,

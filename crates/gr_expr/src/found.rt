@@ -10,7 +10,7 @@ ghost use Rattle.gr_expr.specs.Found.{locals_of, meaning_of, use_of, Adds};
 use crate::locals::Locals;
 use crate::meaning::Meaning;
 use crate::symbol::Symbol;
-use crate::types::{Basic, GoType, Kind};
+use crate::types::{Basic, GoType, ValueKind};
 use crate::world::{Bound, Field, Member, Method, World};
 use std::alloc::{AllocError, Global};
 
@@ -24,14 +24,14 @@ pub struct MemberUse {
 
 /// What was found so far. A fault is told by its token.
 #[derive(Drop)]
-pub struct Found {
+pub struct FoundInFile {
     pub faults: Vec<usize>,
     pub uses: Vec<MemberUse>,
 }
 
 /// What an expression is judged by: the world of its file, and the locals that were declared before it.
 #[derive(Clone, Copy)]
-pub struct Scope<'w> {
+pub struct LocalNames<'w> {
     pub world: &'w World<'w>,
     pub locals: &'w Locals,
 }
@@ -55,7 +55,7 @@ fn field_meaning<'w>(
 ) -> Result<Meaning<'w>, AllocError>
     ensures { IfOk result (λ m. meaning_of m ≡ Value (Typed (type_of field.now.field_type)) addressable) }
 {
-    let kind = Kind::Typed(field.field_type.copy(alloc)?);
+    let kind = ValueKind::Typed(field.field_type.copy(alloc)?);
     Ok(Meaning::Value { kind, addressable })
 }
 
@@ -96,7 +96,7 @@ impl World<'_> {
     }
 }
 
-impl Found {
+impl FoundInFile {
     /// Notes a fault.
     #[tactic(auto, unfolding(crate::specs::Found::meaning_of))]
     pub fn wrong<'w>(&mut self, place: usize) -> Result<Meaning<'w>, AllocError>
@@ -177,7 +177,7 @@ impl Found {
     pub(crate) fn select<'w>(
         &mut self,
         alloc: Global,
-        scope: Scope<'w>,
+        scope: LocalNames<'w>,
         place: usize,
         name: usize,
         meaning: Meaning<'w>,
@@ -186,7 +186,7 @@ impl Found {
     {
         match meaning {
             Meaning::Value { kind, addressable } => match kind {
-                Kind::Typed(before) => self.member(alloc, scope.world, name, before, addressable),
+                ValueKind::Typed(before) => self.member(alloc, scope.world, name, before, addressable),
                 _ => self.wrong(name),
             },
             Meaning::Package => scope.name_meaning(alloc, name),
@@ -196,7 +196,7 @@ impl Found {
     }
 }
 
-impl<'w> Scope<'w> {
+impl<'w> LocalNames<'w> {
     /// What the local that a token declares means.
     #[tactic(auto, unfolding(crate::specs::Found::meaning_of, crate::specs::View::kind_of))]
     fn local_meaning(&self, alloc: Global, place: usize) -> Result<Meaning<'w>, AllocError>
@@ -204,7 +204,7 @@ impl<'w> Scope<'w> {
     {
         match self.locals.get(place) {
             Some(own) => Ok(Meaning::Value {
-                kind: Kind::Typed(own.copy(alloc)?),
+                kind: ValueKind::Typed(own.copy(alloc)?),
                 addressable: true,
             }),
             None => Ok(Meaning::Broken),
@@ -224,11 +224,11 @@ impl<'w> Scope<'w> {
             None => Ok(Meaning::Broken),
             Some(Bound::Local(declared)) => self.local_meaning(alloc, *declared),
             Some(Bound::Variable(own)) => Ok(Meaning::Value {
-                kind: Kind::Typed(own.copy(alloc)?),
+                kind: ValueKind::Typed(own.copy(alloc)?),
                 addressable: true,
             }),
-            Some(Bound::Truth) => Ok(Meaning::value(Kind::Untyped(Basic::Bool))),
-            Some(Bound::Nil) => Ok(Meaning::value(Kind::Nil)),
+            Some(Bound::Truth) => Ok(Meaning::value(ValueKind::Untyped(Basic::Bool))),
+            Some(Bound::Nil) => Ok(Meaning::value(ValueKind::Nil)),
             Some(Bound::TypeName(own)) => Ok(Meaning::TypeName(own)),
             Some(Bound::Function(signature)) => Ok(Meaning::Function(signature)),
             Some(Bound::Builtin(builtin)) => Ok(Meaning::Builtin(*builtin)),

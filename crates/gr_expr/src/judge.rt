@@ -8,12 +8,12 @@ ghost use Rattle.gr_expr.specs.WorldView.{world_of};
 ghost use Rattle.gr_expr.specs.Lists.{links_in, operands_in, arguments_in, elements_in};
 ghost use Rattle.gr_expr.specs.Found.{locals_of, meaning_of, argued_of, Adds, AddsList, AddsElements, Continues};
 
-use crate::found::{Found, Scope};
+use crate::found::{FoundInFile, LocalNames};
 use crate::keys::SeenFields;
 use crate::literals::Elements;
 use crate::meaning::{Argued, Meaning};
 use crate::places::{FaultPlaces, first_of_type, first_token, place_behind, place_of};
-use crate::types::{Basic, GoType, Kind};
+use crate::types::{Basic, GoType, ValueKind};
 use gr_tree::tree::{CompositeLit, Element, Expr, ExprItem, Link, Operand};
 use std::alloc::{AllocError, Global};
 
@@ -21,15 +21,15 @@ use std::alloc::{AllocError, Global};
 #[cycle(judging)]
 pub fn judge<'w>(
     alloc: Global,
-    scope: Scope<'w>,
+    scope: LocalNames<'w>,
     e: &Expr,
-    found: &mut Found,
+    found: &mut FoundInFile,
 ) -> Result<Meaning<'w>, AllocError>
     ensures { IfOk result (λ m. Adds (judge (world_of scope.entry.world.now) (locals_of scope.entry.locals.now) (expr_view e.now)) found.old found.new (meaning_of m)) }
 {
     match e {
-        Expr::Number(_) => Ok(Meaning::value(Kind::Untyped(Basic::Int))),
-        Expr::Text(_) => Ok(Meaning::value(Kind::Untyped(Basic::String))),
+        Expr::Number(_) => Ok(Meaning::value(ValueKind::Untyped(Basic::Int))),
+        Expr::Text(_) => Ok(Meaning::value(ValueKind::Untyped(Basic::String))),
         Expr::Name(place) => scope.name_meaning(alloc, *place),
         Expr::Blank(_) => Ok(Meaning::Broken),
         Expr::Composite(lit) => literal(alloc, scope, lit, found),
@@ -60,9 +60,9 @@ pub fn judge<'w>(
 #[cycle(judging)]
 pub fn judge_value<'w>(
     alloc: Global,
-    scope: Scope<'w>,
+    scope: LocalNames<'w>,
     e: &Expr,
-    found: &mut Found,
+    found: &mut FoundInFile,
 ) -> Result<Meaning<'w>, AllocError>
     ensures { IfOk result (λ m. Adds (judge_value (world_of scope.entry.world.now) (locals_of scope.entry.locals.now) (expr_view e.now)) found.old found.new (meaning_of m)) }
 {
@@ -74,11 +74,11 @@ pub fn judge_value<'w>(
 #[cycle(judging)]
 pub fn chain<'w>(
     alloc: Global,
-    scope: Scope<'w>,
+    scope: LocalNames<'w>,
     at: FaultPlaces,
     meaning: Meaning<'w>,
     links: &[Link],
-    found: &mut Found,
+    found: &mut FoundInFile,
 ) -> Result<Meaning<'w>, AllocError>
     ensures { IfOk result (λ m. Continues (λ j. judge_links (world_of scope.entry.world.now) (locals_of scope.entry.locals.now) at.start at.place j (links_in links.now)) (meaning_of meaning.entry) found.old found.new (meaning_of m)) }
 {
@@ -97,11 +97,11 @@ pub fn chain<'w>(
 #[cycle(judging)]
 fn binary<'w>(
     alloc: Global,
-    scope: Scope<'w>,
+    scope: LocalNames<'w>,
     start: usize,
     meaning: Meaning<'w>,
     rest: &[Operand],
-    found: &mut Found,
+    found: &mut FoundInFile,
 ) -> Result<Meaning<'w>, AllocError>
     ensures { IfOk result (λ m. Continues (λ j. judge_operands (world_of scope.entry.world.now) (locals_of scope.entry.locals.now) start j (operands_in rest.now)) (meaning_of meaning.entry) found.old found.new (meaning_of m)) }
 {
@@ -117,11 +117,11 @@ fn binary<'w>(
 #[cycle(judging)]
 pub fn judge_link<'w>(
     alloc: Global,
-    scope: Scope<'w>,
+    scope: LocalNames<'w>,
     at: FaultPlaces,
     meaning: Meaning<'w>,
     next: &Link,
-    found: &mut Found,
+    found: &mut FoundInFile,
 ) -> Result<Meaning<'w>, AllocError>
     ensures { IfOk result (λ m. Adds (judge_link (world_of scope.entry.world.now) (locals_of scope.entry.locals.now) at.start at.place (link_view next.now no_link) (meaning_of meaning.entry)) found.old found.new (meaning_of m)) }
 {
@@ -149,9 +149,9 @@ pub fn judge_link<'w>(
 #[cycle(judging)]
 pub fn arguments<'w>(
     alloc: Global,
-    scope: Scope<'w>,
+    scope: LocalNames<'w>,
     list: &[ExprItem],
-    found: &mut Found,
+    found: &mut FoundInFile,
 ) -> Result<Vec<Argued>, AllocError>
     ensures { IfOk result (λ vs. AddsList (judge_arguments (world_of scope.entry.world.now) (locals_of scope.entry.locals.now) (arguments_in list.now)) found.old found.new (map argued_of vs.items)) }
 {
@@ -168,9 +168,9 @@ pub fn arguments<'w>(
 #[cycle(judging)]
 fn literal<'w>(
     alloc: Global,
-    scope: Scope<'w>,
+    scope: LocalNames<'w>,
     lit: &CompositeLit,
-    found: &mut Found,
+    found: &mut FoundInFile,
 ) -> Result<Meaning<'w>, AllocError>
     ensures { IfOk result (λ m. Adds (judge_literal (world_of scope.entry.world.now) (locals_of scope.entry.locals.now) (literal_view lit.now)) found.old found.new (meaning_of m)) }
 {
@@ -184,10 +184,10 @@ fn literal<'w>(
 #[cycle(judging)]
 fn elements<'w>(
     alloc: Global,
-    scope: Scope<'w>,
+    scope: LocalNames<'w>,
     list: &[Element],
     own: &Option<GoType>,
-    found: &mut Found,
+    found: &mut FoundInFile,
 ) -> Result<Elements, AllocError>
     ensures { IfOk result (λ es. AddsElements (judge_elements (world_of scope.entry.world.now) (locals_of scope.entry.locals.now) (option_map type_of own.now) none_seen (elements_in list.now)) found.old found.new es.whole es.unkeyed) }
 {

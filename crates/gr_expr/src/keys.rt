@@ -8,7 +8,7 @@ ghost use Rattle.gr_expr.specs.View.{type_of};
 ghost use Rattle.gr_expr.specs.WorldView.{world_of};
 ghost use Rattle.gr_expr.specs.Found.{seen_of, key_of, use_of, AddsKey};
 
-use crate::found::{Found, symbol_of};
+use crate::found::{FoundInFile, symbol_of};
 use crate::symbol::Symbol;
 use crate::types::GoType;
 use crate::world::{Member, Shape, World};
@@ -24,7 +24,7 @@ pub struct SeenFields {
 
 /// What a key is: a field that no earlier key named, a method that has a broken part, or a fault.
 #[derive(Clone, Copy)]
-pub enum Key<'w> {
+pub enum LiteralKey<'w> {
     Field { rank: usize, field_type: &'w GoType },
     Broken,
     Wrong,
@@ -59,49 +59,49 @@ impl SeenFields {
 
     /// Notes what a key names.
     #[tactic(auto, unfolding(crate::specs::Found::key_of))]
-    fn add(&mut self, key: Key<'_>) -> Result<(), AllocError>
+    fn add(&mut self, key: LiteralKey<'_>) -> Result<(), AllocError>
         ensures { OnOk result (seen_of self.new ≡ seen_with (key_of key.entry) (seen_of self.old)) }
     {
-        if let Key::Field { rank, .. } = key {
+        if let LiteralKey::Field { rank, .. } = key {
             self.ranks.insert(rank)?;
         }
         Ok(())
     }
 }
 
-impl Key<'_> {
+impl LiteralKey<'_> {
     #[tactic(auto, unfolding(crate::specs::Found::key_of))]
     fn is_whole(&self) -> bool
         ensures { result ≡ is_whole_key (key_of self.now) }
     {
-        matches!(self, Key::Field { .. })
+        matches!(self, LiteralKey::Field { .. })
     }
 }
 
 impl<'w> World<'w> {
     /// What the key at a token is, in a literal of that type.
     #[tactic(auto, unfolding(crate::specs::Found::key_of, crate::specs::WorldView::shape_of, crate::specs::WorldView::member_of))]
-    fn key(&self, literal_type: &GoType, seen: &SeenFields, place: usize) -> Key<'w>
+    fn key(&self, literal_type: &GoType, seen: &SeenFields, place: usize) -> LiteralKey<'w>
         ensures { key_of result ≡ key_at (world_of self.now) (seen_of seen.now) (type_of literal_type.now) place }
     {
         let Shape::Struct(_) = self.underlying(literal_type) else {
-            return Key::Wrong;
+            return LiteralKey::Wrong;
         };
         match self.member(place, literal_type) {
-            None => Key::Wrong,
+            None => LiteralKey::Wrong,
             Some(Member::Field(field)) => {
                 if seen.contains(field.symbol.rank) {
-                    Key::Wrong
+                    LiteralKey::Wrong
                 } else {
-                    Key::Field {
+                    LiteralKey::Field {
                         rank: field.symbol.rank,
                         field_type: &field.field_type,
                     }
                 }
             }
             Some(Member::Method(method)) => match &method.signature {
-                Some(_) => Key::Wrong,
-                None => Key::Broken,
+                Some(_) => LiteralKey::Wrong,
+                None => LiteralKey::Broken,
             },
         }
     }
@@ -130,17 +130,17 @@ impl<'w> World<'w> {
 
     /// What the value behind a key has to fit.
     #[tactic(auto, unfolding(crate::specs::Found::key_of))]
-    fn wanted_behind<'a>(&'a self, key: Key<'a>, literal_type: &'a GoType) -> Option<&'a GoType>
+    fn wanted_behind<'a>(&'a self, key: LiteralKey<'a>, literal_type: &'a GoType) -> Option<&'a GoType>
         ensures { option_map (λ t. type_of t.now) result ≡ wanted_behind (key_of key.entry) (underlying (world_of self.now) (type_of literal_type.now)) }
     {
         match key {
-            Key::Field { field_type, .. } => Some(field_type),
+            LiteralKey::Field { field_type, .. } => Some(field_type),
             _ => self.element_type(literal_type),
         }
     }
 }
 
-impl Found {
+impl FoundInFile {
     /// Notes the use of a key, and its fault if it is one.
     #[tactic(auto, unfolding(crate::specs::Found::key_of))]
     fn note_key(
@@ -149,7 +149,7 @@ impl Found {
         world: &World<'_>,
         literal_type: &GoType,
         place: usize,
-        key: Key<'_>,
+        key: LiteralKey<'_>,
     ) -> Result<(), AllocError>
         ensures faults { OnOk result (self.new.faults.items ≡ self.old.faults.items ++ key_faults (key_of key.entry) place) }
         ensures uses { OnOk result (map use_of self.new.uses.items ≡ map use_of self.old.uses.items ++
@@ -158,7 +158,7 @@ impl Found {
         let member = world.key_symbol(literal_type, place)?;
         let before = literal_type.copy(alloc)?;
         self.note_use(place, before, member)?;
-        if let Key::Wrong = key {
+        if let LiteralKey::Wrong = key {
             self.faults.push(place)?;
         }
         Ok(())

@@ -5,10 +5,10 @@ ghost use Rattle.gr_expr.specs.View.{type_of, kind_of};
 ghost use Rattle.gr_expr.specs.WorldView.{world_of};
 ghost use Rattle.gr_expr.specs.Found.{meaning_of, Adds, AddsPlaces};
 
-use crate::found::Found;
+use crate::found::FoundInFile;
 use crate::keys::ElementKey;
 use crate::meaning::{Argued, Meaning};
-use crate::types::{GoType, Kind};
+use crate::types::{GoType, ValueKind};
 use crate::world::{Shape, World};
 use std::alloc::AllocError;
 
@@ -33,7 +33,7 @@ impl Elements {
     }
 }
 
-impl Found {
+impl FoundInFile {
     /// Notes a value that does not fit what it has to, if that is known; whether it fits or is broken.
     pub(crate) fn misfit_if(
         &mut self,
@@ -72,7 +72,7 @@ impl Found {
             Shape::Plain(_) | Shape::PointerTo(_) => false,
         };
         if fine {
-            Ok(Meaning::value(Kind::Typed(own)))
+            Ok(Meaning::value(ValueKind::Typed(own)))
         } else {
             self.wrong(start)
         }

@@ -6,14 +6,14 @@ ghost use Rattle.gr_expr.specs.View.{type_of, kind_of};
 ghost use Rattle.gr_expr.specs.Found.{meaning_of, argued_of};
 ghost use Rattle.gr_expr.specs.Types.{Value};
 
-use crate::types::{Builtin, GoType, Kind, Signature};
+use crate::types::{Builtin, GoType, ValueKind, Signature};
 use std::alloc::{AllocError, Global};
 
 /// What an expression stands for. `Results` is a call with none or several results; `Broken` is what is or has a fault, or
 /// uses a declaration that has a broken part.
 #[derive(Drop)]
 pub enum Meaning<'w> {
-    Value { kind: Kind, addressable: bool },
+    Value { kind: ValueKind, addressable: bool },
     TypeName(&'w GoType),
     Function(&'w Signature),
     Builtin(Builtin),
@@ -26,13 +26,13 @@ pub enum Meaning<'w> {
 #[derive(Drop)]
 pub struct Argued {
     pub place: usize,
-    pub kind: Option<Kind>,
+    pub kind: Option<ValueKind>,
 }
 
 impl<'w> Meaning<'w> {
     /// A value that can't be assigned.
     #[tactic(auto, unfolding(crate::specs::Found::meaning_of))]
-    pub fn value(kind: Kind) -> Meaning<'w>
+    pub fn value(kind: ValueKind) -> Meaning<'w>
         ensures { meaning_of result ≡ Value (kind_of kind) false }
     {
         Meaning::Value {
@@ -43,7 +43,7 @@ impl<'w> Meaning<'w> {
 
     /// A value that can be assigned, and whose address can be taken.
     #[tactic(auto, unfolding(crate::specs::Found::meaning_of))]
-    pub(crate) fn variable(kind: Kind) -> Meaning<'w>
+    pub(crate) fn variable(kind: ValueKind) -> Meaning<'w>
         ensures { meaning_of result ≡ Value (kind_of kind) true }
     {
         Meaning::Value {
@@ -54,7 +54,7 @@ impl<'w> Meaning<'w> {
 
     /// The kind of a value.
     #[tactic(auto, unfolding(crate::specs::Found::meaning_of, crate::specs::Judge::value_kind))]
-    pub fn into_kind(self) -> Option<Kind>
+    pub fn into_kind(self) -> Option<ValueKind>
         ensures { option_map kind_of result ≡ value_kind (meaning_of self.entry) }
     {
         match self {
@@ -73,7 +73,7 @@ pub(crate) fn result_meaning<'w>(
     ensures { IfOk result (λ m. meaning_of m ≡ result_meaning (map type_of results.now)) }
 {
     match results {
-        [only] => Ok(Meaning::value(Kind::Typed(only.copy(alloc)?))),
+        [only] => Ok(Meaning::value(ValueKind::Typed(only.copy(alloc)?))),
         _ => Ok(Meaning::Results(results)),
     }
 }

@@ -5,8 +5,8 @@ ghost use Rattle.gr_expr.specs.Operations.{fits, converts, joined, operate, clas
 ghost use Rattle.gr_expr.specs.View.{type_of, kind_of};
 ghost use Rattle.gr_expr.specs.WorldView.{world_of, shape_of};
 
-use crate::classes::{Class, Family};
-use crate::types::{Basic, GoType, Kind};
+use crate::classes::{TypeClass, Family};
+use crate::types::{Basic, GoType, ValueKind};
 use crate::world::{Shape, World};
 use gr_tree::syntax::BinaryOp;
 
@@ -42,58 +42,58 @@ impl Shape<'_> {
 
     /// The values of such a type, as operators tell them apart.
     #[tactic(auto, unfolding(crate::specs::WorldView::shape_of))]
-    fn class(self) -> Class
+    fn class(self) -> TypeClass
         ensures { result ≡ class_of_underlying (shape_of self.entry) }
     {
         match self {
-            Shape::Plain(basic) => Class::Of(basic),
-            Shape::PointerTo(_) => Class::Pointer,
-            Shape::SliceOf(_) => Class::Slice,
-            Shape::Struct(_) => Class::Struct,
+            Shape::Plain(basic) => TypeClass::Of(basic),
+            Shape::PointerTo(_) => TypeClass::Pointer,
+            Shape::SliceOf(_) => TypeClass::Slice,
+            Shape::Struct(_) => TypeClass::Struct,
         }
     }
 }
 
-impl Class {
+impl TypeClass {
     pub fn is_int(self) -> bool
         ensures { result ≡ is_int self }
     {
-        matches!(self, Class::Of(Basic::Int))
+        matches!(self, TypeClass::Of(Basic::Int))
     }
 
     pub fn is_bool(self) -> bool
         ensures { result ≡ is_bool self }
     {
-        matches!(self, Class::Of(Basic::Bool))
+        matches!(self, TypeClass::Of(Basic::Bool))
     }
 
     fn is_ordered(self) -> bool
         ensures { result ≡ is_ordered self }
     {
-        matches!(self, Class::Of(Basic::Int | Basic::String))
+        matches!(self, TypeClass::Of(Basic::Int | Basic::String))
     }
 
     /// Whether `len` takes such a value.
     pub(crate) fn has_length(self) -> bool
         ensures { result ≡ has_length self }
     {
-        matches!(self, Class::Of(Basic::String) | Class::Slice)
+        matches!(self, TypeClass::Of(Basic::String) | TypeClass::Slice)
     }
 
     /// Whether `print` and `println` take such a value.
     pub(crate) fn is_printed(self) -> bool
         ensures { result ≡ is_printed self }
     {
-        matches!(self, Class::Of(_))
+        matches!(self, TypeClass::Of(_))
     }
 
     fn compares(self, with_nil: bool) -> bool
         ensures { result ≡ compares with_nil self }
     {
         match self {
-            Class::Of(_) | Class::Pointer => true,
-            Class::Slice => with_nil,
-            Class::Struct | Class::Nil => false,
+            TypeClass::Of(_) | TypeClass::Pointer => true,
+            TypeClass::Slice => with_nil,
+            TypeClass::Struct | TypeClass::Nil => false,
         }
     }
 }
@@ -117,7 +117,7 @@ fn family_of(op: BinaryOp) -> Family
 
 /// The kind of an operation on operands of one class, none where the class has no such operation.
 #[tactic(auto, unfolding(crate::specs::View::kind_of, crate::specs::Operations::result_of))]
-fn result_of(family: Family, with_nil: bool, class: Class, kind: Kind) -> Option<Kind>
+fn result_of(family: Family, with_nil: bool, class: TypeClass, kind: ValueKind) -> Option<ValueKind>
     ensures { option_map kind_of result ≡ result_of family with_nil class (kind_of kind) }
 {
     let fine = match family {
@@ -130,7 +130,7 @@ fn result_of(family: Family, with_nil: bool, class: Class, kind: Kind) -> Option
         return None;
     }
     match family {
-        Family::Equality | Family::Order => Some(Kind::Untyped(Basic::Bool)),
+        Family::Equality | Family::Order => Some(ValueKind::Untyped(Basic::Bool)),
         _ => Some(kind),
     }
 }
@@ -142,39 +142,39 @@ fn either_unnamed(a: &GoType, b: &GoType) -> bool
     !(a.is_named() && b.is_named())
 }
 
-impl Kind {
+impl ValueKind {
     #[tactic(auto, unfolding(crate::specs::View::kind_of, crate::specs::Operations::is_nil))]
     fn is_nil(&self) -> bool
         ensures { result ≡ is_nil (kind_of self.now) }
     {
-        matches!(self, Kind::Nil)
+        matches!(self, ValueKind::Nil)
     }
 }
 
 impl World<'_> {
     /// Whether a value of that kind fits the type.
     #[tactic(auto, unfolding(crate::specs::View::kind_of, crate::specs::WorldView::shape_of, crate::specs::Operations::fits))]
-    pub fn fits(&self, kind: &Kind, wanted: &GoType) -> bool
+    pub fn fits(&self, kind: &ValueKind, wanted: &GoType) -> bool
         ensures { result ≡ fits (world_of self.now) (kind_of kind.now) (type_of wanted.now) }
     {
         match kind {
-            Kind::Typed(own) => {
+            ValueKind::Typed(own) => {
                 own.same(wanted)
                     || (either_unnamed(own, wanted)
                         && same_shape(self.underlying(own), self.underlying(wanted)))
             }
-            Kind::Untyped(basic) => same_shape(Shape::Plain(*basic), self.underlying(wanted)),
-            Kind::Nil => self.underlying(wanted).has_nil(),
+            ValueKind::Untyped(basic) => same_shape(Shape::Plain(*basic), self.underlying(wanted)),
+            ValueKind::Nil => self.underlying(wanted).has_nil(),
         }
     }
 
     /// Whether a value of that kind converts to the type.
     #[tactic(auto, unfolding(crate::specs::View::kind_of))]
-    pub(crate) fn converts(&self, kind: &Kind, wanted: &GoType) -> bool
+    pub(crate) fn converts(&self, kind: &ValueKind, wanted: &GoType) -> bool
         ensures { result ≡ converts (world_of self.now) (kind_of kind.now) (type_of wanted.now) }
     {
         match kind {
-            Kind::Typed(own) => {
+            ValueKind::Typed(own) => {
                 self.fits(kind, wanted) || same_shape(self.underlying(own), self.underlying(wanted))
             }
             _ => self.fits(kind, wanted),
@@ -183,41 +183,41 @@ impl World<'_> {
 
     /// The values of that kind, as operators tell them apart.
     #[tactic(auto, unfolding(crate::specs::View::kind_of, crate::specs::Operations::class_of))]
-    pub fn class_of(&self, kind: &Kind) -> Class
+    pub fn class_of(&self, kind: &ValueKind) -> TypeClass
         ensures { result ≡ class_of (world_of self.now) (kind_of kind.now) }
     {
         match kind {
-            Kind::Typed(own) => self.underlying(own).class(),
-            Kind::Untyped(basic) => Class::Of(*basic),
-            Kind::Nil => Class::Nil,
+            ValueKind::Typed(own) => self.underlying(own).class(),
+            ValueKind::Untyped(basic) => TypeClass::Of(*basic),
+            ValueKind::Nil => TypeClass::Nil,
         }
     }
 
     /// The kind that two operands have in common, none where they do not go together.
     #[tactic(auto, unfolding(crate::specs::View::kind_of, crate::specs::Operations::joined))]
-    fn joined(&self, left: Kind, right: Kind) -> Option<Kind>
+    fn joined(&self, left: ValueKind, right: ValueKind) -> Option<ValueKind>
         ensures { option_map kind_of result ≡ joined (world_of self.now) (kind_of left) (kind_of right) }
     {
         let together = match (&left, &right) {
-            (Kind::Typed(a), Kind::Typed(b)) => a.same(b),
-            (Kind::Typed(a), _) => self.fits(&right, a),
-            (_, Kind::Typed(b)) => self.fits(&left, b),
-            (Kind::Untyped(a), Kind::Untyped(b)) => a.same(*b),
-            (Kind::Nil, Kind::Nil) => true,
+            (ValueKind::Typed(a), ValueKind::Typed(b)) => a.same(b),
+            (ValueKind::Typed(a), _) => self.fits(&right, a),
+            (_, ValueKind::Typed(b)) => self.fits(&left, b),
+            (ValueKind::Untyped(a), ValueKind::Untyped(b)) => a.same(*b),
+            (ValueKind::Nil, ValueKind::Nil) => true,
             _ => false,
         };
         if !together {
             return None;
         }
         match left {
-            Kind::Typed(_) => Some(left),
+            ValueKind::Typed(_) => Some(left),
             _ => Some(right),
         }
     }
 
     /// The kind of a binary operation, none where it breaks a rule.
     #[tactic(auto, unfolding(crate::specs::Operations::operate))]
-    pub fn operate(&self, op: BinaryOp, left: Kind, right: Kind) -> Option<Kind>
+    pub fn operate(&self, op: BinaryOp, left: ValueKind, right: ValueKind) -> Option<ValueKind>
         ensures { option_map kind_of result ≡ operate (world_of self.now) op (kind_of left) (kind_of right) }
     {
         let with_nil = left.is_nil() || right.is_nil();
@@ -228,10 +228,10 @@ impl World<'_> {
 
     /// The element type of a slice value.
     #[tactic(auto, unfolding(crate::specs::View::kind_of, crate::specs::WorldView::shape_of))]
-    pub(crate) fn element_of<'a>(&'a self, kind: &'a Kind) -> Option<&'a GoType>
+    pub(crate) fn element_of<'a>(&'a self, kind: &'a ValueKind) -> Option<&'a GoType>
         ensures { option_map (λ t. type_of t.now) result ≡ element_of_kind (world_of self.now) (kind_of kind.now) }
     {
-        let Kind::Typed(own) = kind else {
+        let ValueKind::Typed(own) = kind else {
             return None;
         };
         match self.underlying(own) {

@@ -6,10 +6,10 @@ ghost use Rattle.gr_expr.specs.View.{type_of, kind_of};
 ghost use Rattle.gr_expr.specs.WorldView.{world_of};
 ghost use Rattle.gr_expr.specs.Found.{meaning_of, Adds};
 
-use crate::found::Found;
+use crate::found::FoundInFile;
 use crate::meaning::Meaning;
 use crate::places::FaultPlaces;
-use crate::types::{GoType, Kind, pointer_to};
+use crate::types::{GoType, ValueKind, pointer_to};
 use crate::world::{Shape, World};
 use gr_tree::syntax::{BinaryOp, PrefixOp};
 use std::alloc::{AllocError, Global};
@@ -21,7 +21,7 @@ impl World<'_> {
         &self,
         alloc: Global,
         op: PrefixOp,
-        kind: Kind,
+        kind: ValueKind,
     ) -> Result<Option<Meaning<'w>>, AllocError>
         ensures { IfOk result (λ m. option_map meaning_of m ≡ prefixed (world_of self.now) op (kind_of kind)) }
     {
@@ -47,12 +47,12 @@ impl World<'_> {
 
     /// What a pointer points to: of one that is written as a pointer the very part of its type.
     #[tactic(auto, unfolding(crate::specs::View::kind_of, crate::specs::View::type_of))]
-    fn behind<'w>(&self, alloc: Global, kind: Kind) -> Result<Option<Meaning<'w>>, AllocError>
+    fn behind<'w>(&self, alloc: Global, kind: ValueKind) -> Result<Option<Meaning<'w>>, AllocError>
         ensures { IfOk result (λ m. option_map meaning_of m ≡ pointee_of_kind (world_of self.now) (kind_of kind)) }
     {
         match kind {
-            Kind::Typed(GoType::Pointer(target)) => {
-                let target = Kind::Typed(Box::into_inner(target));
+            ValueKind::Typed(GoType::Pointer(target)) => {
+                let target = ValueKind::Typed(Box::into_inner(target));
                 Ok(Some(Meaning::variable(target)))
             }
             kind => self.copied_behind(alloc, &kind),
@@ -64,16 +64,16 @@ impl World<'_> {
     fn copied_behind<'w>(
         &self,
         alloc: Global,
-        kind: &Kind,
+        kind: &ValueKind,
     ) -> Result<Option<Meaning<'w>>, AllocError>
         ensures { IfOk result (λ m. option_map meaning_of m ≡ pointee_of_kind (world_of self.now) (kind_of kind.now)) }
     {
-        let Kind::Typed(own) = kind else {
+        let ValueKind::Typed(own) = kind else {
             return Ok(None);
         };
         match self.underlying(own) {
             Shape::PointerTo(target) => {
-                let target = Kind::Typed(target.copy(alloc)?);
+                let target = ValueKind::Typed(target.copy(alloc)?);
                 Ok(Some(Meaning::variable(target)))
             }
             _ => Ok(None),
@@ -81,7 +81,7 @@ impl World<'_> {
     }
 }
 
-impl Found {
+impl FoundInFile {
     /// The meaning of a binary operation in an expression that begins at `start`.
     #[tactic(auto, unfolding(crate::specs::Found::meaning_of, crate::specs::Judge::operation))]
     pub fn operation<'w>(
@@ -134,13 +134,13 @@ impl Found {
         alloc: Global,
         world: &World<'w>,
         start: usize,
-        slice: Kind,
+        slice: ValueKind,
     ) -> Result<Meaning<'w>, AllocError>
         ensures { IfOk result (λ m. Adds (element_meaning (element_of_kind (world_of world.now) (kind_of slice)) start) self.old self.new (meaning_of m)) }
     {
         match slice {
-            Kind::Typed(GoType::Slice(element)) => {
-                Ok(Meaning::variable(Kind::Typed(Box::into_inner(element))))
+            ValueKind::Typed(GoType::Slice(element)) => {
+                Ok(Meaning::variable(ValueKind::Typed(Box::into_inner(element))))
             }
             slice => self.copied_element(alloc, world, start, &slice),
         }
@@ -153,13 +153,13 @@ impl Found {
         alloc: Global,
         world: &World<'w>,
         start: usize,
-        slice: &Kind,
+        slice: &ValueKind,
     ) -> Result<Meaning<'w>, AllocError>
         ensures { IfOk result (λ m. Adds (element_meaning (element_of_kind (world_of world.now) (kind_of slice.now)) start) self.old self.new (meaning_of m)) }
     {
         match world.element_of(slice) {
             Some(element) => {
-                let element = Kind::Typed(element.copy(alloc)?);
+                let element = ValueKind::Typed(element.copy(alloc)?);
                 Ok(Meaning::variable(element))
             }
             None => self.wrong(start),
@@ -199,9 +199,9 @@ impl<'w> Meaning<'w> {
     {
         match self {
             Meaning::Value { kind, .. } => match kind {
-                Kind::Typed(own) => {
+                ValueKind::Typed(own) => {
                     let pointer = pointer_to(alloc, own)?;
-                    Ok(Meaning::value(Kind::Typed(pointer)))
+                    Ok(Meaning::value(ValueKind::Typed(pointer)))
                 }
                 _ => Ok(Meaning::Broken),
             },

@@ -7,7 +7,7 @@ ghost use Rattle.gr_expr.specs.View.{type_of};
 ghost use Rattle.gr_expr.specs.WorldView.{world_of, bound_in};
 ghost use Rattle.gr_expr.specs.Found.{AddsType};
 
-use crate::found::Found;
+use crate::found::FoundInFile;
 use crate::types::{GoType, pointer_to, slice_of};
 use crate::world::{Bound, World};
 use gr_tree::tree::TypeExpr;
@@ -33,7 +33,7 @@ fn slice_if(alloc: Global, element: Option<GoType>) -> Result<Option<GoType>, Al
     }
 }
 
-impl Found {
+impl FoundInFile {
     /// Notes that no type stands at a token.
     fn no_type(&mut self, place: usize) -> Result<Option<GoType>, AllocError>
         ensures { IfOk result (λ own. AddsType (no_type_at place) self.old self.new (option_map type_of own)) }

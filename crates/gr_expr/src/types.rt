@@ -25,7 +25,7 @@ pub enum GoType {
 
 /// What a value has: a type, or a kind without one.
 #[derive(Drop)]
-pub enum Kind {
+pub enum ValueKind {
     Typed(GoType),
     Untyped(Basic),
     Nil,
@@ -120,16 +120,16 @@ impl GoType {
     }
 }
 
-impl Kind {
+impl ValueKind {
     /// The same kind, in other memory.
     #[tactic(auto, unfolding(crate::specs::View::kind_of))]
-    pub fn copy(&self, alloc: Global) -> Result<Kind, AllocError>
+    pub fn copy(&self, alloc: Global) -> Result<ValueKind, AllocError>
         ensures { IfOk result (λ k. kind_of k ≡ kind_of self.now) }
     {
         match self {
-            Kind::Typed(own) => Ok(Kind::Typed(own.copy(alloc)?)),
-            Kind::Untyped(basic) => Ok(Kind::Untyped(*basic)),
-            Kind::Nil => Ok(Kind::Nil),
+            ValueKind::Typed(own) => Ok(ValueKind::Typed(own.copy(alloc)?)),
+            ValueKind::Untyped(basic) => Ok(ValueKind::Untyped(*basic)),
+            ValueKind::Nil => Ok(ValueKind::Nil),
         }
     }
 }

@@ -22,7 +22,7 @@ use Rattle.gr_graph.specs.Imports.{Links, Imports, imports_of}
 use Rattle.gr_graph.specs.Packages.{PackageImports}
 use Rattle.gr_graph.specs.Parsed.{AreParsed, none, tree, fault}
 use Rattle.gr_graph.specs.Staying.{DiffersOnlyIn, HasFiles}
-use Rattle.gr_graph.specs.declared.package.Package.{Package}
+use Rattle.gr_graph.specs.declared.package.ParsedPackage.{ParsedPackage}
 use Rattle.gr_graph.proofs.Collected.{none_held}
 use Rattle.gr_graph.proofs.Filled.{path_at, set_there, set_elsewhere}
 use Rattle.gr_graph.proofs.Linked.{package_at, row_imports}
@@ -58,48 +58,48 @@ not_false false h = refl
 pub at_path : (paths : List (List ℕ)) (n : ℕ) (q : List ℕ) → slice_get paths n ≡ Some q → Contains paths q
 at_path paths n q at = (n, slice_get_within paths n q at, get_or_from_slice_get paths n q q at)
 
-pub all_more : (P : Package → Type 0) (xs : List Package) (k : ℕ) (x : Package) → k < length xs → x ≡ get_or xs k x → All P (take k xs) → P x →
+pub all_more : (P : ParsedPackage → Type 0) (xs : List ParsedPackage) (k : ℕ) (x : ParsedPackage) → k < length xs → x ≡ get_or xs k x → All P (take k xs) → P x →
     All P (take (k + 1) xs)
 all_more P xs k x below is all here =
     subst (All P) (sym (take_more xs k x below ∙ ap (λ y. take k xs ++ y ∷ []) (sym is))) (All-push P (take k xs) x all here)
 
 -- ---- one package after another in the place of what was there
-paths_put : (ps : List Package) (n : ℕ) (a : Package) → slice_get (paths_of ps) n ≡ Some a.path.items → paths_of (set ps n a) ≡ paths_of ps
+paths_put : (ps : List ParsedPackage) (n : ℕ) (a : ParsedPackage) → slice_get (paths_of ps) n ≡ Some a.path.items → paths_of (set ps n a) ≡ paths_of ps
 paths_put [] n a at = refl
 paths_put (p ∷ ps) zero a at = ap (λ path. path ∷ paths_of ps) (sym (same_Some _ _ at))
 paths_put (p ∷ ps) (suc n) a at = ap (λ rest. p.path.items ∷ rest) (paths_put ps n a at)
 
 -- a clone holds the same
-pub clones_are : (xs ys : List Package) → AllZip (λ x y. y ≡ x) xs ys → ys ≡ xs
+pub clones_are : (xs ys : List ParsedPackage) → AllZip (λ x y. y ≡ x) xs ys → ys ≡ xs
 clones_are [] [] are = refl
 clones_are [] (y ∷ ys) are = absurd are
 clones_are (x ∷ xs) [] are = absurd are
 clones_are (x ∷ xs) (y ∷ ys) are = ap (λ z. z ∷ ys) are.0 ∙ ap (λ zs. x ∷ zs) (clones_are xs ys are.1)
 
-pub none_replaced : (before packages : List Package) → packages ≡ before → AreReplaced before [] packages
+pub none_replaced : (before packages : List ParsedPackage) → packages ≡ before → AreReplaced before [] packages
 none_replaced before packages same = record {
   paths = ap paths_of same;
   each = λ i p at. inr (ap (λ ps. slice_get ps i) (sym same) ∙ at, λ has. none_held p.path.items has);
 }
 
 -- one more of the others
-module _ (before fresh packages : List Package) (k : ℕ) (x : Package) (below : k < length fresh) (is : x ≡ get_or fresh k x)
+module _ (before fresh packages : List ParsedPackage) (k : ℕ) (x : ParsedPackage) (below : k < length fresh) (is : x ≡ get_or fresh k x)
     (so : AreReplaced before (take k fresh) packages) where
   more_is : take (k + 1) fresh ≡ take k fresh ++ x ∷ []
   more_is = take_more fresh k x below ∙ ap (λ y. take k fresh ++ y ∷ []) (sym is)
 
   apart_more : (q : List ℕ) → (Contains (paths_of (take k fresh)) q → ⊥) → (x.path.items ≡ q → ⊥) → Contains (paths_of (take (k + 1) fresh)) q → ⊥
   apart_more q old new has = ⊎_elim old new (Contains-push_cases (paths_of (take k fresh)) x.path.items q
-      (subst (λ l. Contains l q) (ap paths_of more_is ∙ map_push (λ (p : Package). p.path.items) (take k fresh) x) has))
+      (subst (λ l. Contains l q) (ap paths_of more_is ∙ map_push (λ (p : ParsedPackage). p.path.items) (take k fresh) x) has))
 
-  kept_in : (p : Package) → Contains (take k fresh) p → Contains (take (k + 1) fresh) p
+  kept_in : (p : ParsedPackage) → Contains (take k fresh) p → Contains (take (k + 1) fresh) p
   kept_in p has = subst (λ l. Contains l p) (sym more_is) (Contains-append_left (take k fresh) (x ∷ []) p has)
 
   own_in : Contains (take (k + 1) fresh) x
   own_in = subst (λ l. Contains l x) (sym more_is) (Contains-push (take k fresh) x)
 
   -- at another place
-  elsewhere : (i : ℕ) (p : Package) → slice_get packages i ≡ Some p → (slice_get (paths_of before) i ≡ Some x.path.items → ⊥) →
+  elsewhere : (i : ℕ) (p : ParsedPackage) → slice_get packages i ≡ Some p → (slice_get (paths_of before) i ≡ Some x.path.items → ⊥) →
       Contains (take (k + 1) fresh) p ⊎ ((slice_get before i ≡ Some p) × (Contains (paths_of (take (k + 1) fresh)) p.path.items → ⊥))
   elsewhere i p at other = ⊎_elim
       (λ (has : Contains (take k fresh) p). inl (kept_in p has))
@@ -128,19 +128,19 @@ module _ (before fresh packages : List Package) (k : ℕ) (x : Package) (below :
   }
 
 -- ---- the packages afterwards
-module _ (v w : Workspace) (before fresh packages : List Package) (g : Links) (graph : IsGraph v before g) (differs : DiffersOnlyIn (paths_of fresh) v w)
+module _ (v w : Workspace) (before fresh packages : List ParsedPackage) (g : Links) (graph : IsGraph v before g) (differs : DiffersOnlyIn (paths_of fresh) v w)
     (files : All (HasFiles w) fresh) (kept : All (KeepsPath (package_paths v)) fresh) (are : AreReplaced before fresh packages) where
   abbrev among : List ℕ → List (List ℕ) → Bool
   among q ks = list_any (eq_by_cmp path_cmp q) ks
 
-  own_files : (p : Package) → Contains fresh p → HasFiles w p
+  own_files : (p : ParsedPackage) → Contains fresh p → HasFiles w p
   own_files p has = All-contains (HasFiles w) fresh p files has
 
   -- whether a folder has a Go file
   some_before : (q : List ℕ) → among q (package_paths v) ≡ has_some (package_files v q)
   some_before q = sym (contains_key-keys (folders v) q) ∙ has_folder v q ∙ folder_found q (entries v)
 
-  some_at : (p : Package) → Contains fresh p → has_some (package_files v p.path.items) ≡ has_some (package_files w p.path.items)
+  some_at : (p : ParsedPackage) → Contains fresh p → has_some (package_files v p.path.items) ≡ has_some (package_files w p.path.items)
   some_at p has =
       let own : has_some (package_files w p.path.items) ≡ has_file p = some_parsed (own_files p has) in
       ⊎_elim
@@ -156,7 +156,7 @@ module _ (v w : Workspace) (before fresh packages : List Package) (g : Links) (g
         | false ↦ λ is. refl
       ] refl
 
-  fresh_at : (ps : List Package) (q : List ℕ) → Contains (paths_of ps) q → (p : Package) × Contains ps p × (p.path.items ≡ q)
+  fresh_at : (ps : List ParsedPackage) (q : List ℕ) → Contains (paths_of ps) q → (p : ParsedPackage) × Contains ps p × (p.path.items ≡ q)
   fresh_at [] q has = absurd (none_held q has)
   fresh_at (p ∷ ps) q (zero, within, is) = (p, (0, omega arith, refl), is)
   fresh_at (p ∷ ps) q (suc k, within, is) =
@@ -179,10 +179,10 @@ module _ (v w : Workspace) (before fresh packages : List Package) (g : Links) (g
   pub packages_paths : paths_of packages ≡ package_paths w
   packages_paths = are.paths ∙ graph.paths ∙ same_paths
 
-  stays : (p : Package) → (Contains (paths_of fresh) p.path.items → ⊥) → package_files w p.path.items ≡ package_files v p.path.items
+  stays : (p : ParsedPackage) → (Contains (paths_of fresh) p.path.items → ⊥) → package_files w p.path.items ≡ package_files v p.path.items
   stays p apart = same_files (paths_of fresh) v w differs p.path.items apart
 
-  pub packages_files : (i : ℕ) (p : Package) → slice_get packages i ≡ Some p → HasFiles w p
+  pub packages_files : (i : ℕ) (p : ParsedPackage) → slice_get packages i ≡ Some p → HasFiles w p
   packages_files i p at = ⊎_elim
       (λ (has : Contains fresh p). own_files p has)
       (λ (old : (slice_get before i ≡ Some p) × (Contains (paths_of fresh) p.path.items → ⊥)).

@@ -19,9 +19,9 @@ use Rattle.gr_text.specs.Packages.{files_in}
 use Rattle.gr_graph.specs.Filling.{IsWithFile, AddsFile, AreFilled}
 use Rattle.gr_graph.specs.Graphs.{paths_of, IsEmpty}
 use Rattle.gr_graph.specs.Staying.{IsOfNone, IsOfOne}
-use Rattle.gr_graph.specs.declared.package.Package.{Package}
-use Rattle.gr_graph.specs.declared.parsed.Parsed.{Parsed}
-use Rattle.gr_graph.specs.declared.parsed.Parsed.TheVariants.{Sound, Faulty}
+use Rattle.gr_graph.specs.declared.package.ParsedPackage.{ParsedPackage}
+use Rattle.gr_graph.specs.declared.parsed.ParsedFile.{ParsedFile}
+use Rattle.gr_graph.specs.declared.parsed.ParsedFile.TheVariants.{Sound, Faulty}
 use Rattle.gr_graph.proofs.PackagePaths.{one_number}
 
 -- ---- lists
@@ -41,22 +41,22 @@ abbrev or_this : {X : Type 0} → X → Option X → X
 or_this d None = d
 or_this d (Some x) = x
 
-pub paths_set : (ps : List Package) (n : ℕ) (b a : Package) → slice_get ps n ≡ Some b → a.path ≡ b.path → paths_of (set ps n a) ≡ paths_of ps
+pub paths_set : (ps : List ParsedPackage) (n : ℕ) (b a : ParsedPackage) → slice_get ps n ≡ Some b → a.path ≡ b.path → paths_of (set ps n a) ≡ paths_of ps
 paths_set [] n b a h e = refl
-paths_set (p ∷ ps) zero b a h e = ap (λ path. path.items ∷ paths_of ps) (e ∙ ap (λ (o : Option Package). (or_this b o).path) (sym h))
+paths_set (p ∷ ps) zero b a h e = ap (λ path. path.items ∷ paths_of ps) (e ∙ ap (λ (o : Option ParsedPackage). (or_this b o).path) (sym h))
 paths_set (p ∷ ps) (suc n) b a h e = ap (λ rest. p.path.items ∷ rest) (paths_set ps n b a h e)
 
-pub path_at : (ps : List Package) (i : ℕ) (p : Package) → slice_get ps i ≡ Some p → slice_get (paths_of ps) i ≡ Some p.path.items
-path_at ps i p h = slice_get-map (λ (q : Package). q.path.items) ps i ∙ ap (option_map (λ (q : Package). q.path.items)) h
+pub path_at : (ps : List ParsedPackage) (i : ℕ) (p : ParsedPackage) → slice_get ps i ≡ Some p → slice_get (paths_of ps) i ≡ Some p.path.items
+path_at ps i p h = slice_get-map (λ (q : ParsedPackage). q.path.items) ps i ∙ ap (option_map (λ (q : ParsedPackage). q.path.items)) h
 
 -- ---- nothing is there yet
-pub filled_start : (staying : List Package) (all : List (List ℕ × List ℕ)) (ps : List Package) → All IsEmpty ps → AreFilled staying all all ps
+pub filled_start : (staying : List ParsedPackage) (all : List (List ℕ × List ℕ)) (ps : List ParsedPackage) → All IsEmpty ps → AreFilled staying all all ps
 filled_start staying all ps empty i p at apart_p ts fs parsed =
     let here : IsEmpty p = subst IsEmpty (get_or_from_slice_get ps i p p at) (empty i p (slice_get_within ps i p at)) in
     rw (here.0, here.1) parsed
 
 -- ---- a Go file
-with_one : (all : List (List ℕ × List ℕ)) (e : List ℕ × List ℕ) (rest : List (List ℕ × List ℕ)) (file : Parsed) (b a : Package) → IsWithFile file b a →
+with_one : (all : List (List ℕ × List ℕ)) (e : List ℕ × List ℕ) (rest : List (List ℕ × List ℕ)) (file : ParsedFile) (b a : ParsedPackage) → IsWithFile file b a →
     IsParsedAs e.0 e.1 file
     → ((ts : List FileParts) (fs : List FaultyParts) → AreParsed (e ∷ rest) ts fs → AreParsed all (b.trees.items ++ ts) (b.faulty.items ++ fs))
     → (ts : List FileParts) (fs : List FaultyParts) → AreParsed rest ts fs → AreParsed all (a.trees.items ++ ts) (a.faulty.items ++ fs)
@@ -64,7 +64,7 @@ with_one all e rest (Sound file) b a w is gives ts fs parsed = rw (w.1, w.2, app
 with_one all e rest (Faulty file) b a w is gives ts fs parsed =
     rw (w.1, w.2, append_assoc b.faulty.items (file ∷ []) fs) (gives ts (file ∷ fs) (fault is parsed))
 
-same_path : (file : Parsed) (b a : Package) → IsWithFile file b a → a.path ≡ b.path
+same_path : (file : ParsedFile) (b a : ParsedPackage) → IsWithFile file b a → a.path ≡ b.path
 same_path (Sound file) b a w = w.0
 same_path (Faulty file) b a w = w.0
 
@@ -83,18 +83,18 @@ not_in_folder e left path apart =
           [ true ↦ refl | false ↦ refl ]
     ] refl
 
-pub paths_added : (n : ℕ) (file : Parsed) (old new : List Package) → AddsFile n file old new → paths_of new ≡ paths_of old
+pub paths_added : (n : ℕ) (file : ParsedFile) (old new : List ParsedPackage) → AddsFile n file old new → paths_of new ≡ paths_of old
 paths_added n file old new adds = ap paths_of adds.new_is ∙ paths_set old n adds.before adds.after adds.at (same_path file _ _ adds.with_file)
 
-pub filled_add : (staying : List Package) (all : List (List ℕ × List ℕ)) (e : List ℕ × List ℕ) (left : List (List ℕ × List ℕ)) (old new : List Package)
-    (n : ℕ) (file : Parsed)
+pub filled_add : (staying : List ParsedPackage) (all : List (List ℕ × List ℕ)) (e : List ℕ × List ℕ) (left : List (List ℕ × List ℕ)) (old new : List ParsedPackage)
+    (n : ℕ) (file : ParsedFile)
     → IsStrictlySortedBy path_cmp (paths_of old) → IsOfNone staying e.0 → slice_get (paths_of old) n ≡ Some (folder e.0) → AddsFile n file old new →
     IsParsedAs e.0 e.1 file
     → AreFilled staying all (e ∷ left) old → AreFilled staying all left new
 filled_add staying all e left old new n file sorted of_none at adds is filled i p there apart_p =
     let b = adds.before in
     let a = adds.after in
-    let now : slice_get (set old n a) i ≡ Some p = subst (λ (ps : List Package). slice_get ps i ≡ Some p) adds.new_is there in
+    let now : slice_get (set old n a) i ≡ Some p = subst (λ (ps : List ParsedPackage). slice_get ps i ≡ Some p) adds.new_is there in
     let path : a.path ≡ b.path = same_path file b a adds.with_file in
     ⊎_elim
     (λ (here : i ≡ n).
@@ -103,7 +103,7 @@ filled_add staying all e left old new n file sorted of_none at adds is filled i 
     let gives = with_one (files_in b.path.items all) e (files_in b.path.items left) file b a adds.with_file is
     (λ ts fs parsed. filled n b adds.at (λ stays. of_none.1 (subst (Contains (paths_of staying)) (sym folder_is) stays)) ts fs
     (subst (λ es. AreParsed es ts fs) (sym (in_folder e left b.path.items of_none.0 folder_is)) parsed)) in
-    subst (λ (q : Package). (ts : List FileParts) (fs : List FaultyParts) → AreParsed (files_in q.path.items left) ts fs →
+    subst (λ (q : ParsedPackage). (ts : List FileParts) (fs : List FaultyParts) → AreParsed (files_in q.path.items left) ts fs →
     AreParsed (files_in q.path.items all) (q.trees.items ++ ts) (q.faulty.items ++ fs)) is_a
     (subst (λ path. (ts : List FileParts) (fs : List FaultyParts) → AreParsed (files_in path.items left) ts fs →
     AreParsed (files_in path.items all) (a.trees.items ++ ts) (a.faulty.items ++ fs)) (sym path) gives))
@@ -115,7 +115,7 @@ filled_add staying all e left old new n file sorted of_none at adds is filled i 
     (cases_eq i n)
 
 -- ---- a file that is of no package that is made anew
-pub filled_skip : (staying : List Package) (all : List (List ℕ × List ℕ)) (e : List ℕ × List ℕ) (left : List (List ℕ × List ℕ)) (ps : List Package) →
+pub filled_skip : (staying : List ParsedPackage) (all : List (List ℕ × List ℕ)) (e : List ℕ × List ℕ) (left : List (List ℕ × List ℕ)) (ps : List ParsedPackage) →
     IsOfOne staying e.0 → AreFilled staying all (e ∷ left) ps → AreFilled staying all left ps
 filled_skip staying all e left ps of_one filled i p at apart_p ts fs parsed =
     ⊎_elim
@@ -128,7 +128,7 @@ filled_skip staying all e left ps of_one filled i p at apart_p ts fs parsed =
     of_one
 
 -- ---- a file of another folder than those of the packages
-pub filled_other : (staying : List Package) (all : List (List ℕ × List ℕ)) (e : List ℕ × List ℕ) (left : List (List ℕ × List ℕ)) (ps : List Package) →
+pub filled_other : (staying : List ParsedPackage) (all : List (List ℕ × List ℕ)) (e : List ℕ × List ℕ) (left : List (List ℕ × List ℕ)) (ps : List ParsedPackage) →
     (Contains (paths_of ps) (folder e.0) → ⊥) → AreFilled staying all (e ∷ left) ps → AreFilled staying all left ps
 filled_other staying all e left ps never filled i p at apart_p ts fs parsed =
     let there : Contains (paths_of ps) p.path.items = (
@@ -140,7 +140,7 @@ filled_other staying all e left ps never filled i p at apart_p ts fs parsed =
     (sym (not_in_folder e left p.path.items (λ same. never (subst (Contains (paths_of ps)) (sym same) there)))) parsed)
 
 -- ---- nothing is left
-pub filled_end : (staying : List Package) (all : List (List ℕ × List ℕ)) (ps : List Package) → AreFilled staying all [] ps → (i : ℕ) (p : Package) →
+pub filled_end : (staying : List ParsedPackage) (all : List (List ℕ × List ℕ)) (ps : List ParsedPackage) → AreFilled staying all [] ps → (i : ℕ) (p : ParsedPackage) →
     slice_get ps i ≡ Some p → (Contains (paths_of staying) p.path.items → ⊥)
     → AreParsed (files_in p.path.items all) p.trees.items p.faulty.items
 filled_end staying all ps filled i p at apart_p =
@@ -148,7 +148,7 @@ filled_end staying all ps filled i p at apart_p =
     (subst (λ fs. AreParsed (files_in p.path.items all) (p.trees.items ++ []) fs) (append-nil p.faulty.items) (filled i p at apart_p [] [] none))
 
 -- one more path
-pub paths_push : (ps : List Package) (p : Package) (rest : List (List ℕ)) → paths_of (ps ++ p ∷ []) ++ rest ≡ paths_of ps ++ p.path.items ∷ rest
+pub paths_push : (ps : List ParsedPackage) (p : ParsedPackage) (rest : List (List ℕ)) → paths_of (ps ++ p ∷ []) ++ rest ≡ paths_of ps ++ p.path.items ∷ rest
 paths_push [] p rest = refl
 paths_push (q ∷ ps) p rest = ap (λ paths. q.path.items ∷ paths) (paths_push ps p rest)
 

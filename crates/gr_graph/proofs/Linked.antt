@@ -14,7 +14,7 @@ use Rattle.gr_graph.specs.Packages.{IsParsed, ImportsPath, PackageImports, AreLi
 use Rattle.gr_graph.specs.Parsed.{AreParsed, none, tree, fault}
 use Rattle.gr_graph.specs.Graphs.{paths_of, IsGraph}
 use Rattle.gr_graph.specs.Rows.{IsRow}
-use Rattle.gr_graph.specs.declared.package.Package.{Package}
+use Rattle.gr_graph.specs.declared.package.ParsedPackage.{ParsedPackage}
 use Rattle.gr_graph.proofs.Collected.{zip_at, zip_length, none_held}
 use Rattle.gr_graph.proofs.OneFile.{one_file, file_or_fault}
 
@@ -55,13 +55,13 @@ tree_of (fault {e = d} {es = es} {ts = ts} {f = f} is rest) e has file parsed =
     e has parsed
 
 -- ---- packages by number
-pub package_at : (ps : List Package) (i : ℕ) (p : List ℕ) → slice_get (paths_of ps) i ≡ Some p → (q : Package) × (slice_get ps i ≡ Some q) × (q.path.items ≡ p)
+pub package_at : (ps : List ParsedPackage) (i : ℕ) (p : List ℕ) → slice_get (paths_of ps) i ≡ Some p → (q : ParsedPackage) × (slice_get ps i ≡ Some q) × (q.path.items ≡ p)
 package_at [] i p h = absurd (none-some p h)
 package_at (q ∷ ps) zero p h = (q, refl, same_Some _ _ h)
 package_at (q ∷ ps) (suc i) p h = package_at ps i p h
 
 -- the row of a package tells what it imports
-pub row_imports : (w : Workspace) (paths : List (List ℕ)) (p : Package) (row : List ℕ) → AreParsed (package_files w p.path.items) p.trees.items p.faulty.items →
+pub row_imports : (w : Workspace) (paths : List (List ℕ)) (p : ParsedPackage) (row : List ℕ) → AreParsed (package_files w p.path.items) p.trees.items p.faulty.items →
     IsRow paths p.trees.items row → (j : ℕ) (q : List ℕ) → slice_get paths j ≡ Some q → Contains row j ↔ PackageImports w p.path.items q
 row_imports w paths p row parsed is j q at = (
   λ has.
@@ -79,17 +79,17 @@ row_imports w paths p row parsed is j q at = (
       (is.each j).1 (found.0, found.1, (q, at, subst (λ (f : SourceFile). ImportsPath f q) found.2 pi.imports)),
 )
 
-module _ (w : Workspace) (ps : List Package) (g : Links) (paths : paths_of ps ≡ package_paths w)
-    (parsed : (i : ℕ) (p : Package) → slice_get ps i ≡ Some p → AreParsed (package_files w p.path.items) p.trees.items p.faulty.items)
+module _ (w : Workspace) (ps : List ParsedPackage) (g : Links) (paths : paths_of ps ≡ package_paths w)
+    (parsed : (i : ℕ) (p : ParsedPackage) → slice_get ps i ≡ Some p → AreParsed (package_files w p.path.items) p.trees.items p.faulty.items)
     (rows : AllZip (λ p row. IsRow (paths_of ps) p.trees.items row) ps g) where
-  abbrev R : Package → List ℕ → Type 0
+  abbrev R : ParsedPackage → List ℕ → Type 0
   R = λ p row. IsRow (paths_of ps) p.trees.items row
 
-  row_at : (i : ℕ) (p : Package) → slice_get ps i ≡ Some p → IsRow (paths_of ps) p.trees.items (imports_of g i)
-  row_at i p at = subst (λ (q : Package). R q (imports_of g i)) (get_or_from_slice_get ps i p p at) (zip_at R ps g rows i p [] (slice_get_within ps i p at))
+  row_at : (i : ℕ) (p : ParsedPackage) → slice_get ps i ≡ Some p → IsRow (paths_of ps) p.trees.items (imports_of g i)
+  row_at i p at = subst (λ (q : ParsedPackage). R q (imports_of g i)) (get_or_from_slice_get ps i p p at) (zip_at R ps g rows i p [] (slice_get_within ps i p at))
 
   size : length g ≡ length (paths_of ps)
-  size = sym (zip_length R ps g rows) ∙ sym (length-map ps (λ (p : Package). p.path.items))
+  size = sym (zip_length R ps g rows) ∙ sym (length-map ps (λ (p : ParsedPackage). p.path.items))
 
   imports_is : (i j : ℕ) (p q : List ℕ) → slice_get (paths_of ps) i ≡ Some p → slice_get (paths_of ps) j ≡ Some q → Imports g i j → PackageImports w p q
   imports_is i j p q at_i at_j has =

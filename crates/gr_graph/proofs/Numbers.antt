@@ -14,14 +14,14 @@ use Rattle.std.proofs.lemmas.List.{get_or-map, length-map}
 use Rattle.gr_text.specs.Workspace.{path_cmp}
 use Rattle.gr_text.proofs.WorkspaceLaws.{path_cmp_total, path_cmp_exact}
 use Rattle.gr_graph.specs.Graphs.{paths_of}
-use Rattle.gr_graph.specs.declared.package.Package.{Package}
+use Rattle.gr_graph.specs.declared.package.ParsedPackage.{ParsedPackage}
 use Rattle.gr_graph.proofs.Filled.{path_at}
 
 -- how a package's path compares with another path
-abbrev pub search_cmp : List ℕ → Package → Ordering
+abbrev pub search_cmp : List ℕ → ParsedPackage → Ordering
 search_cmp path p = path_cmp p.path.items path
 
-pub found_is : (ps : List Package) (path : List ℕ) (n : ℕ) → n < length ps → HoldsAt (λ p. search_cmp path p ≡ Equal) ps n →
+pub found_is : (ps : List ParsedPackage) (path : List ℕ) (n : ℕ) → n < length ps → HoldsAt (λ p. search_cmp path p ≡ Equal) ps n →
     slice_get (paths_of ps) n ≡ Some path
 found_is [] path n within at = absurd (omega arith)
 found_is (p ∷ ps) path n within at =
@@ -29,12 +29,12 @@ found_is (p ∷ ps) path n within at =
     ∙ ap Some (path_cmp_exact _ _ (at p))
 
 -- the search may go by halves
-rises : (ps : List Package) (path : List ℕ) → IsStrictlySortedBy path_cmp (paths_of ps) → IsNonDecreasingBy (λ y. ordering_index (search_cmp path y)) ps
-rises ps path sorted = searchable_from_sorted path_cmp_total (λ (p : Package). p.path.items) ps path (λ k d low within.
-    let first = get_or-map (λ (p : Package). p.path.items) ps k d d.path.items (omega arith) in
-    let second = get_or-map (λ (p : Package). p.path.items) ps (k + 1) d d.path.items within in
+rises : (ps : List ParsedPackage) (path : List ℕ) → IsStrictlySortedBy path_cmp (paths_of ps) → IsNonDecreasingBy (λ y. ordering_index (search_cmp path y)) ps
+rises ps path sorted = searchable_from_sorted path_cmp_total (λ (p : ParsedPackage). p.path.items) ps path (λ k d low within.
+    let first = get_or-map (λ (p : ParsedPackage). p.path.items) ps k d d.path.items (omega arith) in
+    let second = get_or-map (λ (p : ParsedPackage). p.path.items) ps (k + 1) d d.path.items within in
     let less = Less-from_sorted path_cmp (paths_of ps) k (k + 1) d.path.items sorted (omega arith)
-    (subst (λ (n : ℕ). k + 1 < n) (sym (length-map ps (λ (p : Package). p.path.items))) within) in
+    (subst (λ (n : ℕ). k + 1 < n) (sym (length-map ps (λ (p : ParsedPackage). p.path.items))) within) in
     let here : path_cmp (get_or ps k d).path.items (get_or ps (k + 1) d).path.items ≡ Less =
     subst (λ (x : List ℕ). path_cmp x (get_or ps (k + 1) d).path.items ≡ Less) first
     (subst (λ (y : List ℕ). path_cmp (get_or (paths_of ps) k d.path.items) y ≡ Less) second less) in
@@ -49,20 +49,20 @@ less_differs e = true≢false (ap is_lt e)
 greater_differs : Greater ≡ Equal → ⊥
 greater_differs e = true≢false (ap is_gt e)
 
-none_in : (ps : List Package) (path : List ℕ) (i : ℕ) → IsPartitionPoint (λ p. search_cmp path p ≡ Less) (λ p. search_cmp path p ≡ Greater) ps i →
+none_in : (ps : List ParsedPackage) (path : List ℕ) (i : ℕ) → IsPartitionPoint (λ p. search_cmp path p ≡ Less) (λ p. search_cmp path p ≡ Greater) ps i →
     Contains (paths_of ps) path → ⊥
 none_in [] path i split has = absurd (omega (arith, has.1))
 none_in (p ∷ ps) path i split has =
     let k = has.0 in
-    let within : k < length (p ∷ ps) = subst (λ (n : ℕ). k < n) (length-map (p ∷ ps) (λ (q : Package). q.path.items)) has.1 in
+    let within : k < length (p ∷ ps) = subst (λ (n : ℕ). k < n) (length-map (p ∷ ps) (λ (q : ParsedPackage). q.path.items)) has.1 in
     let x = get_or (p ∷ ps) k p in
-    let same : x.path.items ≡ path = sym (get_or-map (λ (q : Package). q.path.items) (p ∷ ps) k p path within) ∙ has.2 in
+    let same : x.path.items ≡ path = sym (get_or-map (λ (q : ParsedPackage). q.path.items) (p ∷ ps) k p path within) ∙ has.2 in
     ⊎_elim
     (λ (h : k < i). not_tied Less x.path.items path (split.0 k p (omega arith) h) less_differs same)
     (λ (h : i ≤ k). not_tied Greater x.path.items path (split.1 k p h within) greater_differs same)
     (cases_lt k i)
 
-pub none_is : (ps : List Package) (path : List ℕ) (i : ℕ) → IsStrictlySortedBy path_cmp (paths_of ps)
+pub none_is : (ps : List ParsedPackage) (path : List ℕ) (i : ℕ) → IsStrictlySortedBy path_cmp (paths_of ps)
     → (IsNonDecreasingBy (λ y. ordering_index (search_cmp path y)) ps →
     IsPartitionPoint (λ p. search_cmp path p ≡ Less) (λ p. search_cmp path p ≡ Greater) ps i)
     → Contains (paths_of ps) path → ⊥

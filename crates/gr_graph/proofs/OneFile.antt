@@ -1,7 +1,7 @@
 -- A path and a text have one parsed file at most, and a text with a fault has none.
 use Rattle.std.proofs.Common.{◌≡◌, ℕ, Bool, true, false, List, sym, ap, subst, ◌∙◌, ⊎_elim}
 use Rattle.std.proofs.lemmas.Bool.{true≢false}
-use Rattle.gr_scan.specs.declared.refusal.Fault.{Fault}
+use Rattle.gr_scan.specs.declared.refusal.TextFault.{TextFault}
 use Rattle.gr_scan.specs.Cuts.{IsCut, IsFirstFault}
 use Rattle.gr_scan.specs.CutText.{CutText}
 use Rattle.gr_scan.proofs.OneCutLemmas.{one_cut, cut_or_fault}
@@ -31,7 +31,7 @@ is_whole Whole = true
 is_whole (Faulty kind left) = false
 
 -- a text without fault has none
-pub sound_or_fault : (text : List ℕ) (fault : Fault) → IsSound text → IsFaultOf text fault → ⊥
+pub sound_or_fault : (text : List ℕ) (fault : TextFault) → IsSound text → IsFaultOf text fault → ⊥
 sound_or_fault text fault sound faulty =
     ⊎_elim
     (λ (first : IsFirstFault text fault). cut_or_fault text sound.cut.pieces fault
@@ -46,5 +46,5 @@ sound_or_fault text fault sound faulty =
 pub parsed_sound : (path text : List ℕ) (f : SourceFile) → IsParsed path text f → IsSound text
 parsed_sound path text f parsed = record { cut = f.cut; of_text = parsed.of_text; is_cut = parsed.is_file.is_cut; whole = parsed.is_file.whole }
 
-pub file_or_fault : (path text : List ℕ) (f : SourceFile) (fault : Fault) → IsParsed path text f → IsFaultOf text fault → ⊥
+pub file_or_fault : (path text : List ℕ) (f : SourceFile) (fault : TextFault) → IsParsed path text f → IsFaultOf text fault → ⊥
 file_or_fault path text f fault parsed faulty = sound_or_fault text fault (parsed_sound path text f parsed) faulty

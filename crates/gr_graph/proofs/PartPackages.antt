@@ -23,7 +23,7 @@ use Rattle.gr_graph.specs.Graphs.{paths_of}
 use Rattle.gr_graph.specs.Parsed.{AreParsed}
 use Rattle.gr_graph.specs.Parts.{IsNumbered, HasFilesOf, AreNumbered}
 use Rattle.gr_graph.specs.Staying.{HasFiles}
-use Rattle.gr_graph.specs.declared.package.Package.{Package}
+use Rattle.gr_graph.specs.declared.package.ParsedPackage.{ParsedPackage}
 use Rattle.gr_graph.proofs.Asked.{at_contains}
 use Rattle.gr_graph.proofs.Filled.{path_at}
 use Rattle.gr_graph.proofs.PackagePaths.{go_folders, has_folder, exact_names, paths_are, paths_sorted}
@@ -31,9 +31,9 @@ use Rattle.gr_graph.proofs.SameFiles.{one_list}
 use Rattle.gr_graph.proofs.StayingPackages.{any_of}
 
 -- ---- the packages
-module _ (old : List Package) where
+module _ (old : List ParsedPackage) where
   -- each has a number
-  has_number : (ns : List ℕ) (ps : List Package) → AreNumbered old ns ps → (i : ℕ) (p : Package) → slice_get ps i ≡ Some p → (n : ℕ) × Contains ns n ×
+  has_number : (ns : List ℕ) (ps : List ParsedPackage) → AreNumbered old ns ps → (i : ℕ) (p : ParsedPackage) → slice_get ps i ≡ Some p → (n : ℕ) × Contains ns n ×
       (slice_get old n ≡ Some p)
   has_number [] [] are i p at = absurd (none-some p at)
   has_number [] (q ∷ ps) are i p at = absurd are
@@ -45,7 +45,7 @@ module _ (old : List Package) where
       (r.0, (suc r.1.0, omega arith, r.1.2), r.2)
 
   -- each number has its path
-  has_path : (ns : List ℕ) (ps : List Package) → AreNumbered old ns ps → (n : ℕ) (q : List ℕ) → Contains ns n → slice_get (paths_of old) n ≡ Some q →
+  has_path : (ns : List ℕ) (ps : List ParsedPackage) → AreNumbered old ns ps → (n : ℕ) (q : List ℕ) → Contains ns n → slice_get (paths_of old) n ≡ Some q →
       Contains (paths_of ps) q
   has_path [] ps are n q has at = absurd (omega (arith, has.1))
   has_path (m ∷ ns) [] are n q has at = absurd are
@@ -57,17 +57,17 @@ module _ (old : List Package) where
       (suc r.0, omega arith, r.2)
 
   -- place by place
-  at_place : (ns : List ℕ) (ps : List Package) → AreNumbered old ns ps → (k : ℕ) → k < length ns →
+  at_place : (ns : List ℕ) (ps : List ParsedPackage) → AreNumbered old ns ps → (k : ℕ) → k < length ns →
       slice_get (paths_of old) (get_or ns k 0) ≡ Some (get_or (paths_of ps) k [])
   at_place [] ps are k below = absurd (omega arith)
   at_place (n ∷ ns) [] are k below = absurd are
   at_place (n ∷ ns) (p ∷ ps) are zero below = path_at old n p are.0
   at_place (n ∷ ns) (p ∷ ps) are (suc k) below = at_place ns ps are.1 k (omega arith)
 
-  numbered_sorted : (ns : List ℕ) (ps : List Package) → IsStrictlySortedBy path_cmp (paths_of old) → IsStrictlyIncreasing ns → AreNumbered old ns ps →
+  numbered_sorted : (ns : List ℕ) (ps : List ParsedPackage) → IsStrictlySortedBy path_cmp (paths_of old) → IsStrictlyIncreasing ns → AreNumbered old ns ps →
       IsStrictlySortedBy path_cmp (paths_of ps)
   numbered_sorted ns ps sorted rising are = sorted_from_all_adjacent path_cmp_total (paths_of ps) [] (λ k below.
-      let size : length (paths_of ps) ≡ length ns = length-map ps (λ (p : Package). p.path.items) ∙
+      let size : length (paths_of ps) ≡ length ns = length-map ps (λ (p : ParsedPackage). p.path.items) ∙
       AllZip-long (λ number p. slice_get old number ≡ Some p) ns ps are in
       let next : k + 1 < length ns = omega arith in
       let here = at_place ns ps are k (omega arith) in
@@ -137,9 +137,9 @@ module _ (w part : Workspace) (numbers : List ℕ) (has : HasFilesOf w numbers p
     ] refl))
 
 -- ---- the graph of the part
-module _ (w part : Workspace) (numbers : List ℕ) (old packages : List Package) (has : HasFilesOf w numbers part) (are : AreNumbered old numbers packages)
+module _ (w part : Workspace) (numbers : List ℕ) (old packages : List ParsedPackage) (has : HasFilesOf w numbers part) (are : AreNumbered old numbers packages)
     (paths : paths_of old ≡ package_paths w) where
-  numbered : (n : ℕ) (p : Package) → Contains numbers n → slice_get old n ≡ Some p → IsNumbered w numbers p.path.items
+  numbered : (n : ℕ) (p : ParsedPackage) → Contains numbers n → slice_get old n ≡ Some p → IsNumbered w numbers p.path.items
   numbered n p among at = record {
     number = n;
     among = among;
@@ -149,7 +149,7 @@ module _ (w part : Workspace) (numbers : List ℕ) (old packages : List Package)
 
   path_numbered : (q : List ℕ) → Contains (paths_of packages) q → IsNumbered w numbers q
   path_numbered q (i, within, is) =
-      let size : length (paths_of packages) ≡ length numbers = length-map packages (λ (p : Package). p.path.items) ∙
+      let size : length (paths_of packages) ≡ length numbers = length-map packages (λ (p : ParsedPackage). p.path.items) ∙
       AllZip-long (λ number p. slice_get old number ≡ Some p) numbers packages are in
       let below : i < length numbers = omega (arith, within) in
       let at = at_place old numbers packages are i below in
@@ -167,7 +167,7 @@ module _ (w part : Workspace) (numbers : List ℕ) (old packages : List Package)
       path_numbered
       (λ q is. has_path old numbers packages are is.number q is.among (subst (λ (ks : List (List ℕ)). slice_get ks is.number ≡ Some q) (sym paths) is.has_path))
 
-  pub numbered_files : ((i : ℕ) (p : Package) → slice_get old i ≡ Some p → HasFiles w p) → (i : ℕ) (p : Package) → slice_get packages i ≡ Some p →
+  pub numbered_files : ((i : ℕ) (p : ParsedPackage) → slice_get old i ≡ Some p → HasFiles w p) → (i : ℕ) (p : ParsedPackage) → slice_get packages i ≡ Some p →
       HasFiles part p
   numbered_files each i p at =
       let n = has_number old numbers packages are i p at in

@@ -17,7 +17,7 @@ use Rattle.gr_graph.specs.Parsed.{AreParsed}
 use Rattle.gr_graph.specs.Filling.{names}
 use Rattle.gr_graph.specs.Graphs.{paths_of}
 use Rattle.gr_graph.specs.Staying.{DiffersOnlyIn, HasFiles, is_outside}
-use Rattle.gr_graph.specs.declared.package.Package.{Package}
+use Rattle.gr_graph.specs.declared.package.ParsedPackage.{ParsedPackage}
 use Rattle.gr_graph.proofs.SameFiles.{same_files}
 
 -- ---- whether a path is among some
@@ -36,20 +36,20 @@ any_of q (k ∷ ks) (zero, within, is) = ap (λ b. b || list_any (eq_by_cmp path
     (ap (eq_by_cmp path_cmp q) is ∙ ap is_eq (tied_itself path_cmp_total q))
 any_of q (k ∷ ks) (suc i, within, is) = ap (λ b. eq_by_cmp path_cmp q k || b) (any_of q ks (i, omega (arith, within), is)) ∙ or_true _
 
-outside_not_among : (folders : List (List ℕ)) (p : Package) → is_outside folders p ≡ true → Contains folders p.path.items → ⊥
+outside_not_among : (folders : List (List ℕ)) (p : ParsedPackage) → is_outside folders p ≡ true → Contains folders p.path.items → ⊥
 outside_not_among folders p outside has = true≢false (sym outside ∙ ap not (any_of p.path.items folders has))
 
 -- ---- one package more
-pub outside_more : (test : Package → Bool) (ps : List Package) (i : ℕ) (p : Package) (b : Bool) → i < length ps → p ≡ get_or ps i p → test p ≡ b
+pub outside_more : (test : ParsedPackage → Bool) (ps : List ParsedPackage) (i : ℕ) (p : ParsedPackage) (b : Bool) → i < length ps → p ≡ get_or ps i p → test p ≡ b
     → filter test (take (i + 1) ps) ≡ filter test (take i ps) ++ cond b (p ∷ []) []
 outside_more test ps i p b below is passes =
     ap (filter test) (take_more ps i p below)
     ∙ filter-append test (take i ps) (get_or ps i p ∷ [])
-    ∙ ap (λ (q : Package). filter test (take i ps) ++ cond (test q) (q ∷ []) []) (sym is)
+    ∙ ap (λ (q : ParsedPackage). filter test (take i ps) ++ cond (test q) (q ∷ []) []) (sym is)
     ∙ ap (λ t. filter test (take i ps) ++ cond t (p ∷ []) []) passes
 
 -- ---- the order
-below_outside : (test : Package → Bool) (k : List ℕ) (ps : List Package) → AllByRecursion (λ y. path_cmp k y ≡ Less) (paths_of ps) →
+below_outside : (test : ParsedPackage → Bool) (k : List ℕ) (ps : List ParsedPackage) → AllByRecursion (λ y. path_cmp k y ≡ Less) (paths_of ps) →
     AllByRecursion (λ y. path_cmp k y ≡ Less) (paths_of (filter test ps))
 below_outside test k [] below = tt
 below_outside test k (p ∷ ps) below = elim (test p) as
@@ -58,7 +58,7 @@ below_outside test k (p ∷ ps) below = elim (test p) as
       | false ↦ below_outside test k ps below.1
     ]
 
-pub outside_sorted : (test : Package → Bool) (ps : List Package) → IsStrictlySortedBy path_cmp (paths_of ps) →
+pub outside_sorted : (test : ParsedPackage → Bool) (ps : List ParsedPackage) → IsStrictlySortedBy path_cmp (paths_of ps) →
     IsStrictlySortedBy path_cmp (paths_of (filter test ps))
 unfolding IsStrictlySortedBy
 outside_sorted test [] sorted = tt
@@ -68,7 +68,7 @@ outside_sorted test (p ∷ ps) sorted = elim (test p) as (λ b. IsStrictlySorted
 ]
 
 -- ---- the files
-kept_all : (test : Package → Bool) (P Q : Package → Type 0) (ps : List Package) → ((p : Package) → test p ≡ true → P p → Q p) → AllByRecursion P ps →
+kept_all : (test : ParsedPackage → Bool) (P Q : ParsedPackage → Type 0) (ps : List ParsedPackage) → ((p : ParsedPackage) → test p ≡ true → P p → Q p) → AllByRecursion P ps →
     AllByRecursion Q (filter test ps)
 kept_all test P Q [] gives all = tt
 kept_all test P Q (p ∷ ps) gives all = elim (test p) as (λ b. test p ≡ b → AllByRecursion Q (cond b (p ∷ filter test ps) (filter test ps))) [
@@ -76,10 +76,10 @@ kept_all test P Q (p ∷ ps) gives all = elim (test p) as (λ b. test p ≡ b �
   | false ↦ λ is. kept_all test P Q ps gives all.1
 ] refl
 
-pub all_at : (P : Package → Type 0) (ps : List Package) → ((i : ℕ) (p : Package) → slice_get ps i ≡ Some p → P p) → All P ps
+pub all_at : (P : ParsedPackage → Type 0) (ps : List ParsedPackage) → ((i : ℕ) (p : ParsedPackage) → slice_get ps i ≡ Some p → P p) → All P ps
 all_at P ps each i d within = each i (get_or ps i d) (slice_get-get_or ps i d within)
 
-pub stay_files : (folders : List (List ℕ)) (v w : Workspace) (ps : List Package) → DiffersOnlyIn folders v w → All (HasFiles v) ps →
+pub stay_files : (folders : List (List ℕ)) (v w : Workspace) (ps : List ParsedPackage) → DiffersOnlyIn folders v w → All (HasFiles v) ps →
     All (HasFiles w) (filter (is_outside folders) ps)
 stay_files folders v w ps same all =
     All-from_recursion (HasFiles w) (filter (is_outside folders) ps) (kept_all (is_outside folders) (HasFiles v) (HasFiles w) ps

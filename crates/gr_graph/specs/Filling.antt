@@ -8,29 +8,29 @@ use Rattle.gr_graph.specs.FaultyFiles.{FaultyParts}
 use Rattle.gr_text.specs.Packages.{files_in}
 use Rattle.gr_graph.specs.Parsed.{AreParsed}
 use Rattle.gr_graph.specs.Graphs.{paths_of}
-use Rattle.gr_graph.specs.declared.package.Package.{Package}
-use Rattle.gr_graph.specs.declared.parsed.Parsed.{Parsed}
-use Rattle.gr_graph.specs.declared.parsed.Parsed.TheVariants.{Sound, Faulty}
+use Rattle.gr_graph.specs.declared.package.ParsedPackage.{ParsedPackage}
+use Rattle.gr_graph.specs.declared.parsed.ParsedFile.{ParsedFile}
+use Rattle.gr_graph.specs.declared.parsed.ParsedFile.TheVariants.{Sound, Faulty}
 
 -- folders by what they point to
 abbrev pub names : List (Bor (List ℕ)) → List (List ℕ)
 names folders = map (λ folder. folder.now) folders
 
 -- the file is the last in its list
-abbrev pub IsWithFile : Parsed → Package → Package → Type 0
+abbrev pub IsWithFile : ParsedFile → ParsedPackage → ParsedPackage → Type 0
 IsWithFile (Sound file) old new = (new.path ≡ old.path) × (new.trees.items ≡ old.trees.items ++ file ∷ []) × (new.faulty.items ≡ old.faulty.items)
 IsWithFile (Faulty file) old new = (new.path ≡ old.path) × (new.trees.items ≡ old.trees.items) × (new.faulty.items ≡ old.faulty.items ++ file ∷ [])
 
 -- the package of a number has one file more
-pub record AddsFile (number : ℕ) (file : Parsed) (old new : List Package) : Type 0 where
-  pub before : Package
+pub record AddsFile (number : ℕ) (file : ParsedFile) (old new : List ParsedPackage) : Type 0 where
+  pub before : ParsedPackage
   pub at : slice_get old number ≡ Some before
-  pub after : Package
+  pub after : ParsedPackage
   pub with_file : IsWithFile file before after
   pub new_is : new ≡ set old number after
 
 -- A package whose path is not among those of the packages that stay has, with the files that are left, all its files.
-abbrev pub AreFilled : List Package → List (List ℕ × List ℕ) → List (List ℕ × List ℕ) → List Package → Type 0
-AreFilled staying all left packages = (i : ℕ) (p : Package) → slice_get packages i ≡ Some p → (Contains (paths_of staying) p.path.items → ⊥)
+abbrev pub AreFilled : List ParsedPackage → List (List ℕ × List ℕ) → List (List ℕ × List ℕ) → List ParsedPackage → Type 0
+AreFilled staying all left packages = (i : ℕ) (p : ParsedPackage) → slice_get packages i ≡ Some p → (Contains (paths_of staying) p.path.items → ⊥)
     → (ts : List FileParts) (fs : List FaultyParts) → AreParsed (files_in p.path.items left) ts fs
     → AreParsed (files_in p.path.items all) (p.trees.items ++ ts) (p.faulty.items ++ fs)

@@ -7,25 +7,25 @@ use Rattle.gr_graph.specs.Imports.{Links, imports_of}
 use Rattle.gr_text.specs.Packages.{package_paths, package_files}
 use Rattle.gr_graph.specs.Packages.{AreLinksOf}
 use Rattle.gr_graph.specs.Parsed.{AreParsed}
-use Rattle.gr_graph.specs.declared.package.Package.{Package}
+use Rattle.gr_graph.specs.declared.package.ParsedPackage.{ParsedPackage}
 
 -- the paths of packages
-abbrev pub paths_of : List Package → List (List ℕ)
+abbrev pub paths_of : List ParsedPackage → List (List ℕ)
 paths_of packages = map (λ p. p.path.items) packages
 
 -- a package with no file yet
-abbrev pub IsEmpty : Package → Type 0
+abbrev pub IsEmpty : ParsedPackage → Type 0
 IsEmpty p = (p.trees.items ≡ []) × (p.faulty.items ≡ [])
 
 -- the package of that number, with the files of its folder
-pub record IsPackage (w : Workspace) (number : ℕ) (p : Package) : Type 0 where
+pub record IsPackage (w : Workspace) (number : ℕ) (p : ParsedPackage) : Type 0 where
   pub path : slice_get (package_paths w) number ≡ Some p.path.items
   pub files : AreParsed (package_files w p.path.items) p.trees.items p.faulty.items
 
 -- all packages of a workspace in the order of their paths, and which imports which
-pub record IsGraph (w : Workspace) (packages : List Package) (links : Links) : Type 0 where
+pub record IsGraph (w : Workspace) (packages : List ParsedPackage) (links : Links) : Type 0 where
   pub paths : paths_of packages ≡ package_paths w
-  pub each : (i : ℕ) (p : Package) → slice_get packages i ≡ Some p → AreParsed (package_files w p.path.items) p.trees.items p.faulty.items
+  pub each : (i : ℕ) (p : ParsedPackage) → slice_get packages i ≡ Some p → AreParsed (package_files w p.path.items) p.trees.items p.faulty.items
   pub linked : AreLinksOf w links
   pub rising : (i : ℕ) → i < length links → IsStrictlyIncreasing (imports_of links i)
 

@@ -3,8 +3,8 @@ use Rattle.std.specs.Prelude.{◌≡◌, ℕ, List, [], ◌∷◌}
 use Rattle.gr_tree.specs.Faults.{IsFaultOf}
 use Rattle.gr_tree.specs.SourceFile.{FileParts, source_of}
 use Rattle.gr_graph.specs.FaultyFiles.{FaultyParts}
-use Rattle.gr_graph.specs.declared.parsed.Parsed.{Parsed}
-use Rattle.gr_graph.specs.declared.parsed.Parsed.TheVariants as parsed
+use Rattle.gr_graph.specs.declared.parsed.ParsedFile.{ParsedFile}
+use Rattle.gr_graph.specs.declared.parsed.ParsedFile.TheVariants as parsed
 use Rattle.gr_graph.specs.Packages.{IsParsed}
 
 -- a file without a tree, with its path, its text and that text's first fault
@@ -22,6 +22,6 @@ pub data AreParsed : List (List ℕ × List ℕ) → List FileParts → List Fau
       AreParsed es ts fs → AreParsed (e ∷ es) ts (f ∷ fs)
 
 -- the tree of a text, or its first fault
-abbrev pub IsParsedAs : List ℕ → List ℕ → Parsed → Type 0
+abbrev pub IsParsedAs : List ℕ → List ℕ → ParsedFile → Type 0
 IsParsedAs path text (parsed.Sound file) = IsParsed path text (source_of file)
 IsParsedAs path text (parsed.Faulty file) = IsFaulty path text file

@@ -5,7 +5,7 @@ use Rattle.std.specs.List.{Contains, AllZip}
 use Rattle.gr_text.specs.Path.{folder}
 use Rattle.gr_text.specs.Packages.{is_go, package_paths, package_files}
 use Rattle.gr_text.specs.Workspace.{Workspace}
-use Rattle.gr_graph.specs.declared.package.Package.{Package}
+use Rattle.gr_graph.specs.declared.package.ParsedPackage.{ParsedPackage}
 
 -- p is a package with one of the numbers
 pub record IsNumbered (w : Workspace) (numbers : List ℕ) (p : List ℕ) : Type 0 where
@@ -19,5 +19,5 @@ pub record HasFilesOf (w : Workspace) (numbers : List ℕ) (part : Workspace) : 
   pub others : (p : List ℕ) (e : List ℕ × List ℕ) → Contains (package_files part p) e → IsNumbered w numbers p
 
 -- the packages with the numbers, in the order of these
-abbrev pub AreNumbered : List Package → List ℕ → List Package → Type 0
+abbrev pub AreNumbered : List ParsedPackage → List ℕ → List ParsedPackage → Type 0
 AreNumbered packages numbers part = AllZip (λ number p. slice_get packages number ≡ Some p) numbers part

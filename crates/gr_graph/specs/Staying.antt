@@ -8,24 +8,24 @@ use Rattle.gr_text.specs.Packages.{is_go, package_files}
 use Rattle.gr_text.specs.Workspace.{Workspace, path_cmp}
 use Rattle.gr_graph.specs.Parsed.{AreParsed}
 use Rattle.gr_graph.specs.Graphs.{paths_of}
-use Rattle.gr_graph.specs.declared.package.Package.{Package}
+use Rattle.gr_graph.specs.declared.package.ParsedPackage.{ParsedPackage}
 
 -- a Go file whose folder is not among these has the same text before and after, or is in neither
 abbrev pub DiffersOnlyIn : List (List ℕ) → Workspace → Workspace → Type 0
 DiffersOnlyIn folders before after = (path : List ℕ) → is_go path ≡ true → (Contains folders (folder path) → ⊥) → files.get after path ≡ files.get before path
 
 -- the package has the files of its folder, parsed
-abbrev pub HasFiles : Workspace → Package → Type 0
+abbrev pub HasFiles : Workspace → ParsedPackage → Type 0
 HasFiles w p = AreParsed (package_files w p.path.items) p.trees.items p.faulty.items
 
 -- whether the package's path is not among the folders
-abbrev pub is_outside : List (List ℕ) → Package → Bool
+abbrev pub is_outside : List (List ℕ) → ParsedPackage → Bool
 is_outside folders p = not (list_any (eq_by_cmp path_cmp p.path.items) folders)
 
 -- a Go file of none of the packages
-abbrev pub IsOfNone : List Package → List ℕ → Type 0
+abbrev pub IsOfNone : List ParsedPackage → List ℕ → Type 0
 IsOfNone packages path = (is_go path ≡ true) × (Contains (paths_of packages) (folder path) → ⊥)
 
 -- no Go file, or one of the packages has its folder
-abbrev pub IsOfOne : List Package → List ℕ → Type 0
+abbrev pub IsOfOne : List ParsedPackage → List ℕ → Type 0
 IsOfOne packages path = (is_go path ≡ false) ⊎ Contains (paths_of packages) (folder path)

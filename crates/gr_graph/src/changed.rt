@@ -8,7 +8,7 @@ ghost use Rattle.gr_graph.specs.Filling.{names};
 ghost use Rattle.gr_graph.specs.Graphs.{paths_of};
 
 use crate::import_links::ImportLinks;
-use crate::package::Package;
+use crate::package::ParsedPackage;
 use crate::packages::{filled, packages_at};
 use crate::rows::row_of;
 use crate::shared_package::{SharedPackage, number_of};
@@ -17,7 +17,7 @@ use std::alloc::{AllocError, Global};
 use std::collections::BTreeSet;
 
 /// Packages that no longer change.
-fn shared(alloc: Global, drafts: Vec<Package>) -> Result<Vec<SharedPackage>, AllocError>
+fn shared(alloc: Global, drafts: Vec<ParsedPackage>) -> Result<Vec<SharedPackage>, AllocError>
     ensures { IfOk result (λ packages. packages.items ≡ drafts.items) }
 {
     let mut packages = Vec::new(alloc);
@@ -44,7 +44,7 @@ pub(crate) fn folder_packages(
     shared(alloc, drafts)
 }
 
-fn has_file(one: &Package) -> bool
+fn has_file(one: &ParsedPackage) -> bool
     ensures { result ≡ has_file one.now }
 {
     if !one.trees.is_empty() {

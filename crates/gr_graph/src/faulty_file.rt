@@ -2,7 +2,7 @@
 ghost use Rattle.std.specs.Prelude.{◌≡◌, IfOk};
 ghost use Rattle.gr_tree.specs.Faults.{IsFaultOf};
 
-use gr_scan::Fault;
+use gr_scan::TextFault;
 use gr_text::{FileText, Path};
 use std::alloc::AllocError;
 use std::marker::Model;
@@ -12,7 +12,7 @@ use std::marker::Model;
 pub struct FaultyFile {
     path: Path,
     text: FileText,
-    fault: Fault,
+    fault: TextFault,
 }
 
 impl Model for FaultyFile {
@@ -27,7 +27,7 @@ impl Model for FaultyFile {
 }
 
 impl FaultyFile {
-    pub(crate) fn new(path: &Path, text: &FileText, fault: Fault) -> Result<FaultyFile, AllocError>
+    pub(crate) fn new(path: &Path, text: &FileText, fault: TextFault) -> Result<FaultyFile, AllocError>
         requires { IsFaultOf text.now fault }
         ensures path { IfOk result (λ file. file.path ≡ path.now) }
         ensures text { IfOk result (λ file. file.text ≡ text.now) }
@@ -51,7 +51,7 @@ impl FaultyFile {
     }
 
     /// The first fault of the text.
-    pub fn fault(&self) -> Fault
+    pub fn fault(&self) -> TextFault
         ensures fault { result ≡ self.now.fault }
         ensures is_fault { IsFaultOf self.now.text self.now.fault }
     {

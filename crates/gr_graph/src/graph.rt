@@ -10,7 +10,7 @@ ghost use Rattle.gr_graph.specs.Filling.{names};
 ghost use Rattle.gr_graph.specs.Parts.{HasFilesOf};
 ghost use Rattle.gr_graph.specs.Reaching.{AreBackMarks, AreMarkedAbove, BuildsOn, MarkImporting, MarkReaching, MarksAbove};
 ghost use Rattle.gr_graph.specs.Staying.{DiffersOnlyIn, HasFiles};
-ghost use Rattle.gr_graph.specs.declared.package.Package.{Package};
+ghost use Rattle.gr_graph.specs.declared.package.ParsedPackage.{ParsedPackage};
 ghost use Rattle.gr_graph.specs.Graphs.{
   paths_of,
   IsPackage,
@@ -20,7 +20,7 @@ ghost use Rattle.gr_graph.specs.Graphs.{
 
 use crate::changed::{folder_packages, keep_paths, keep_rows, replaced};
 use crate::import_links::ImportLinks;
-use crate::package::Package;
+use crate::package::ParsedPackage;
 use crate::package_list::PackageList;
 use crate::packages::packages;
 use crate::part::numbered;
@@ -169,7 +169,7 @@ impl Graph {
         packages: Vec<SharedPackage>,
     ) -> Result<Graph, AllocError>
         requires paths { paths_of packages.items ≡ package_paths files }
-        requires files { (i : ℕ) (p : Package) → slice_get packages.items i ≡ Some p → HasFiles files p }
+        requires files { (i : ℕ) (p : ParsedPackage) → slice_get packages.items i ≡ Some p → HasFiles files p }
         ensures { IfOk result (λ graph. graph ≡ files) }
     {
         let links = SharedLinks::of(alloc, links_before, rows(alloc, &packages)?)?;
@@ -205,7 +205,7 @@ impl Graph {
     }
 
     /// A package with its parsed files.
-    pub fn package(&self, number: usize) -> &Package
+    pub fn package(&self, number: usize) -> &ParsedPackage
         requires { number < length (package_paths self.now) }
         ensures { IsPackage self.now number result.now }
     {

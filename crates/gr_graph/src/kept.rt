@@ -8,7 +8,7 @@ ghost use Rattle.gr_graph.specs.Parsed.{IsFaulty, IsParsedAs};
 ghost use Rattle.gr_graph.specs.Graphs.{paths_of};
 
 use crate::faulty_file::FaultyFile;
-use crate::parsed::{Parsed, parse};
+use crate::parsed::{ParsedFile, parse};
 use crate::shared_package::{SharedPackage, number_of};
 use gr_text::{FileText, Path};
 use gr_tree::FileTree;
@@ -55,7 +55,7 @@ fn kept(
     before: &[SharedPackage],
     path: &Path,
     text: &FileText,
-) -> Result<Option<Parsed>, AllocError>
+) -> Result<Option<ParsedFile>, AllocError>
     requires { IsStrictlySortedBy path_cmp (paths_of before.now) }
     ensures { IfOk result (λ kept. IfSome kept (IsParsedAs path.now text.now)) }
 {
@@ -66,11 +66,11 @@ fn kept(
     let package = before[number].package();
     if let Some(tree) = kept_tree(&package.trees, path, text) {
         let tree = tree.clone()?;
-        return Ok(Some(Parsed::Sound(tree)));
+        return Ok(Some(ParsedFile::Sound(tree)));
     }
     if let Some(file) = kept_fault(&package.faulty, path, text) {
         let file = file.clone()?;
-        return Ok(Some(Parsed::Faulty(file)));
+        return Ok(Some(ParsedFile::Faulty(file)));
     }
     Ok(None)
 }
@@ -81,7 +81,7 @@ pub(crate) fn parse_unless_kept(
     before: &[SharedPackage],
     path: &Path,
     text: &FileText,
-) -> Result<Parsed, AllocError>
+) -> Result<ParsedFile, AllocError>
     requires { IsStrictlySortedBy path_cmp (paths_of before.now) }
     ensures { IfOk result (IsParsedAs path.now text.now) }
 {

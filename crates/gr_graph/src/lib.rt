@@ -27,5 +27,5 @@ pub use faulty_file::FaultyFile;
 pub use file_imports::{FileImport, read_imports};
 pub use graph::Graph;
 pub use import_links::ImportLinks;
-pub use package::Package;
+pub use package::ParsedPackage;
 pub use package_list::PackageList;

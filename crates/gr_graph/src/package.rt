@@ -10,14 +10,14 @@ use gr_tree::FileTree;
 
 /// The Go files of a folder in the order of their paths: those that have a tree, and the others.
 #[derive(Drop)]
-pub struct Package {
+pub struct ParsedPackage {
     pub path: Vec<u8>,
     pub trees: Vec<FileTree>,
     pub faulty: Vec<FaultyFile>,
 }
 
 /// The number of the package that has a path, among packages that are being made.
-pub(crate) fn draft_number(packages: &[Package], path: &[u8]) -> Option<usize>
+pub(crate) fn draft_number(packages: &[ParsedPackage], path: &[u8]) -> Option<usize>
     requires { IsStrictlySortedBy path_cmp (paths_of packages.now) }
     ensures { MatchOption result (Contains (paths_of packages.now) path.now → ⊥) (λ number. slice_get (paths_of packages.now) number ≡ Some path.now) }
 {

@@ -6,12 +6,12 @@ ghost use Rattle.gr_text.specs.Packages.{package_paths};
 ghost use Rattle.gr_graph.specs.Staying.{HasFiles, IsOfNone, IsOfOne};
 ghost use Rattle.gr_graph.specs.Filling.{AddsFile, names};
 ghost use Rattle.gr_graph.specs.Graphs.{paths_of, IsEmpty};
-ghost use Rattle.gr_graph.specs.declared.package.Package.{Package};
+ghost use Rattle.gr_graph.specs.declared.package.ParsedPackage.{ParsedPackage};
 ghost use Rattle.std.specs.List.{All, Contains};
 
 use crate::kept::parse_unless_kept;
-use crate::package::{Package, draft_number};
-use crate::parsed::Parsed;
+use crate::package::{ParsedPackage, draft_number};
+use crate::parsed::ParsedFile;
 use crate::shared_package::{SharedPackage, number_of};
 use gr_text::{Files, Path};
 use std::alloc::{AllocError, Global};
@@ -21,14 +21,14 @@ use std::collections::BTreeSet;
 pub(crate) fn packages_at(
     alloc: Global,
     folders: &BTreeSet<&[u8]>,
-) -> Result<Vec<Package>, AllocError>
+) -> Result<Vec<ParsedPackage>, AllocError>
     ensures paths { IfOk result (λ packages. paths_of packages.items ≡ names folders.now.keys) }
     ensures empty { IfOk result (λ packages. All IsEmpty packages.items) }
     ensures rising { IfOk result (λ _. IsStrictlySortedBy path_cmp (names folders.now.keys)) }
 {
     let mut packages = Vec::new(alloc);
     for folder in folders.iter() {
-        packages.push(Package {
+        packages.push(ParsedPackage {
             path: Vec::from_slice(alloc, folder)?,
             trees: Vec::new(alloc),
             faulty: Vec::new(alloc),
@@ -38,7 +38,7 @@ pub(crate) fn packages_at(
 }
 
 /// The packages of some files in the order of their paths, with no file yet.
-fn empty_packages(alloc: Global, files: &Files) -> Result<Vec<Package>, AllocError>
+fn empty_packages(alloc: Global, files: &Files) -> Result<Vec<ParsedPackage>, AllocError>
     ensures paths { IfOk result (λ packages. paths_of packages.items ≡ package_paths files.now) }
     ensures empty { IfOk result (λ packages. All IsEmpty packages.items) }
 {
@@ -52,16 +52,16 @@ fn empty_packages(alloc: Global, files: &Files) -> Result<Vec<Package>, AllocErr
 }
 
 /// Adds a file to the package of a number.
-fn add_file(packages: &mut Vec<Package>, number: usize, file: Parsed) -> Result<(), AllocError>
+fn add_file(packages: &mut Vec<ParsedPackage>, number: usize, file: ParsedFile) -> Result<(), AllocError>
     requires { number < vec_len packages.old }
     ensures { OnOk result (AddsFile number file packages.old.items packages.new.items) }
 {
     match file {
-        Parsed::Sound(tree) => {
+        ParsedFile::Sound(tree) => {
             packages[number].trees.push(tree)?;
             Ok(())
         }
-        Parsed::Faulty(file) => {
+        ParsedFile::Faulty(file) => {
             packages[number].faulty.push(file)?;
             Ok(())
         }
@@ -82,15 +82,15 @@ pub(crate) fn filled(
     alloc: Global,
     before: &[SharedPackage],
     staying: &[SharedPackage],
-    empty: Vec<Package>,
+    empty: Vec<ParsedPackage>,
     files: &Files,
-) -> Result<Vec<Package>, AllocError>
+) -> Result<Vec<ParsedPackage>, AllocError>
     requires before { IsStrictlySortedBy path_cmp (paths_of before.now) }
     requires staying { IsStrictlySortedBy path_cmp (paths_of staying.now) }
     requires paths { IsStrictlySortedBy path_cmp (paths_of empty.items) }
     requires empty { All IsEmpty empty.items }
     ensures paths { IfOk result (λ filled. paths_of filled.items ≡ paths_of empty.items) }
-    ensures files { IfOk result (λ filled. (i : ℕ) (p : Package) → slice_get filled.items i ≡ Some p → (Contains (paths_of staying.now) p.path.items → ⊥) → HasFiles files.now p) }
+    ensures files { IfOk result (λ filled. (i : ℕ) (p : ParsedPackage) → slice_get filled.items i ≡ Some p → (Contains (paths_of staying.now) p.path.items → ⊥) → HasFiles files.now p) }
 {
     let mut drafts = empty;
     for (path, text) in files.iter() {
@@ -108,7 +108,7 @@ pub(crate) fn filled(
 fn staying_or(
     alloc: Global,
     staying: &[SharedPackage],
-    draft: Package,
+    draft: ParsedPackage,
 ) -> Result<SharedPackage, AllocError>
     requires { IsStrictlySortedBy path_cmp (paths_of staying.now) }
     ensures path { IfOk result (λ shared. shared.path.items ≡ draft.path.items) }
@@ -131,7 +131,7 @@ pub(crate) fn packages(
     requires staying { IsStrictlySortedBy path_cmp (paths_of staying.now) }
     requires files { All (HasFiles files.now) staying.now }
     ensures paths { IfOk result (λ packages. paths_of packages.items ≡ package_paths files.now) }
-    ensures files { IfOk result (λ packages. (i : ℕ) (p : Package) → slice_get packages.items i ≡ Some p → HasFiles files.now p) }
+    ensures files { IfOk result (λ packages. (i : ℕ) (p : ParsedPackage) → slice_get packages.items i ≡ Some p → HasFiles files.now p) }
 {
     let mut packages = Vec::new(alloc);
     let empty = empty_packages(alloc, files)?;

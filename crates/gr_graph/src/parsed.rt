@@ -6,14 +6,14 @@ ghost use Rattle.gr_graph.specs.Parsed.{IsParsedAs};
 
 use crate::faulty_file::FaultyFile;
 use gr_parse::{ParseRefusal, parse_file};
-use gr_scan::Fault;
+use gr_scan::TextFault;
 use gr_text::{FileText, Path};
 use gr_tree::FileTree;
 use std::alloc::{AllocError, Global};
 
 /// A Go file's tree, or its first fault.
 #[derive(Drop)]
-pub(crate) enum Parsed {
+pub(crate) enum ParsedFile {
     Sound(FileTree),
     Faulty(FaultyFile),
 }
@@ -26,22 +26,22 @@ fn is_source_file(tree: &FileTree)
 }
 
 /// A file without a tree, with its first fault.
-fn faulty(path: &Path, text: &FileText, fault: Fault) -> Result<Parsed, AllocError>
+fn faulty(path: &Path, text: &FileText, fault: TextFault) -> Result<ParsedFile, AllocError>
     requires { IsFaultOf text.now fault }
     ensures { IfOk result (IsParsedAs path.now text.now) }
 {
     let file = FaultyFile::new(path, text, fault)?;
-    Ok(Parsed::Faulty(file))
+    Ok(ParsedFile::Faulty(file))
 }
 
 /// Parses a file.
-pub(crate) fn parse(alloc: Global, path: &Path, text: &FileText) -> Result<Parsed, AllocError>
+pub(crate) fn parse(alloc: Global, path: &Path, text: &FileText) -> Result<ParsedFile, AllocError>
     ensures { IfOk result (IsParsedAs path.now text.now) }
 {
     match parse_file(alloc, path, text) {
         Ok(tree) => {
             is_source_file(&tree);
-            Ok(Parsed::Sound(tree))
+            Ok(ParsedFile::Sound(tree))
         }
         Err(ParseRefusal::Fault(fault)) => faulty(path, text, fault),
         Err(ParseRefusal::Memory) => Err(AllocError),

@@ -7,7 +7,7 @@ ghost use Rattle.gr_graph.specs.Graphs.{paths_of};
 ghost use Rattle.gr_graph.specs.ImportPaths.{HoldsPaths, SomeImport};
 
 use crate::import_paths::import_paths;
-use crate::package::Package;
+use crate::package::ParsedPackage;
 use std::alloc::{AllocError, Global};
 use std::collections::BTreeSet;
 use std::marker::Model;
@@ -16,7 +16,7 @@ use std::sync::Arc;
 /// A package with the paths that its files import.
 #[derive(Drop)]
 struct PackageParts {
-    package: Package,
+    package: ParsedPackage,
     imports: BTreeSet<Vec<u8>>,
 }
 
@@ -29,10 +29,10 @@ pub(crate) struct SharedPackage {
 impl Model for SharedPackage {
     ghost use Rattle.std.specs.Arc.{arc_value};
     ghost use Rattle.gr_graph.specs.ImportPaths.{HoldsPaths, SomeImport};
-    ghost use Rattle.gr_graph.specs.declared.package.Package.{Package};
-    ghost use Rattle.gr_graph.specs.contracts.package.Package.{the_row};
+    ghost use Rattle.gr_graph.specs.declared.package.ParsedPackage.{ParsedPackage};
+    ghost use Rattle.gr_graph.specs.contracts.package.ParsedPackage.{the_row};
 
-    ghost Value = { Package };
+    ghost Value = { ParsedPackage };
 
     ghost coded = { the_row.coded };
 
@@ -43,7 +43,7 @@ impl Model for SharedPackage {
 
 impl SharedPackage {
     /// Reads what the files import.
-    pub(crate) fn new(alloc: Global, whole: Package) -> Result<SharedPackage, AllocError>
+    pub(crate) fn new(alloc: Global, whole: ParsedPackage) -> Result<SharedPackage, AllocError>
         ensures { IfOk result (λ shared. shared ≡ whole) }
     {
         let imports = import_paths(alloc, &whole.trees)?;
@@ -55,7 +55,7 @@ impl SharedPackage {
         Ok(SharedPackage { parts })
     }
 
-    pub(crate) fn package(&self) -> &Package
+    pub(crate) fn package(&self) -> &ParsedPackage
         ensures { result.now ≡ self.now }
     {
         &self.parts.package

@@ -6,12 +6,12 @@ use Rattle.gr_tree.specs.Tree.{ExprTree, BlockTree}
 use Rattle.gr_tree.specs.View.{expr_view, option_view}
 use Rattle.gr_tree.specs.FileView.{init_view, stmt_view, block_view, statements_view, if_view, else_view}
 use Rattle.gr_tree.specs.declared.tree.BlockItem.{BlockItem}
-use Rattle.gr_tree.specs.declared.tree.Block as trees
-use Rattle.gr_tree.specs.declared.tree.Block.{Block', out-Block, outs-Block', Row_of-BlockItem, end_of-BlockItem, more_of-BlockItem}
-use Rattle.gr_tree.specs.declared.tree.Block.{items-the_row-BlockItem, items_shown-the_row-BlockItem-0}
+use Rattle.gr_tree.specs.declared.tree.BlockTree as trees
+use Rattle.gr_tree.specs.declared.tree.BlockTree.{BlockTree', out-BlockTree, outs-BlockTree', Row_of-BlockItem, end_of-BlockItem, more_of-BlockItem}
+use Rattle.gr_tree.specs.declared.tree.BlockTree.{items-the_row-BlockItem, items_shown-the_row-BlockItem-0}
 use Rattle.gr_tree.specs.declared.tree.IfStmt.{IfStmt, IfStmt', out-IfStmt, outs-IfStmt'}
 use Rattle.gr_expr.proofs.Items.{next_item}
-use Rattle.gr_object.specs.declared.statements.Marks.{Marks}
+use Rattle.gr_object.specs.declared.statements.JumpMarks.{JumpMarks}
 use Rattle.gr_object.specs.Lines.{Line, End, Jump, JumpBack, JumpUnless}
 use Rattle.gr_object.specs.Source.{Source}
 use Rattle.gr_object.specs.Expressions.{value_lines}
@@ -68,7 +68,7 @@ if_from s slots r x (IfStmt' p init e b rest) =
 sub_more : (a n m : ℕ) → m ≤ n → (a + n) - m ≡ a + (n - m)
 sub_more a n m h = omega arith
 
-exits_more : (marks : Marks) (a n : ℕ) → AreWithin marks n → exits_of marks (a + n) ≡ further a (exits_of marks n)
+exits_more : (marks : JumpMarks) (a n : ℕ) → AreWithin marks n → exits_of marks (a + n) ≡ further a (exits_of marks n)
 exits_more marks a n w =
     let first : exits_of marks (a + n) ≡ record { next = a + (n - marks.next); out = (a + n) - marks.out } =
     ap (λ k. record { next = k; out = (a + n) - marks.out }) (sub_more a n marks.next w.next) in
@@ -76,15 +76,15 @@ exits_more marks a n w =
     ap (λ k. record { next = a + (n - marks.next); out = k }) (sub_more a n marks.out w.out) in
     first ∙ second
 
-pub within_more : {marks : Marks} {m n : ℕ} → m ≤ n → AreWithin marks m → AreWithin marks n
+pub within_more : {marks : JumpMarks} {m n : ℕ} → m ≤ n → AreWithin marks m → AreWithin marks n
 within_more {marks} {m} {n} h w = record { next = let k = w.next in omega arith; out = let k = w.out in omega arith }
 
-pub within_put : {marks : Marks} {lines : List Line} {old new : Code} → AreWithin marks (length (lines_in old)) → Puts lines old new →
+pub within_put : {marks : JumpMarks} {lines : List Line} {old new : Code} → AreWithin marks (length (lines_in old)) → Puts lines old new →
     AreWithin marks (length (lines_in new))
 within_put {marks} {lines} {old} {new} w p = within_more (let h = puts_length p in omega arith) w
 
 -- one more statement before others
-pub each_turn : (s : Source) (slots : List ℕ) (r : ℕ) (marks : Marks) {old mid new : Code} (xs : List BlockItem) (i : ℕ) (x : BlockItem) → 0 < i →
+pub each_turn : (s : Source) (slots : List ℕ) (r : ℕ) (marks : JumpMarks) {old mid new : Code} (xs : List BlockItem) (i : ℕ) (x : BlockItem) → 0 < i →
     i - 1 < length xs → x ≡ get_or xs (i - 1) x →
     AreWithin marks (length (lines_in old)) → Puts (lines_of_each s slots r (exits_of marks (length (lines_in old))) (drop i xs)) old mid →
     Puts (statement_lines s slots r (exits_of marks (length (lines_in mid))) (stmt_view x.statement)) mid new →
@@ -121,7 +121,7 @@ else_none : {body : List Line} {c0 c1 c2 c3 : Code} → PutsElse None false c0 c
 else_none {body} e j b = record { put = b.put ∙ ap (λ z. body ++ z) (j.put ∙ e.put) }
 
 -- where jumps out of the block of an `if` lead
-else_exits : (marks : Marks) (other : Option (List Line)) (has : Bool) (k : ℕ) {c0 c1 c2 : Code} → AreWithin marks (length (lines_in c0)) →
+else_exits : (marks : JumpMarks) (other : Option (List Line)) (has : Bool) (k : ℕ) {c0 c1 c2 : Code} → AreWithin marks (length (lines_in c0)) →
     PutsElse other has c0 c1 → Puts (else_jump has k) c1 c2 →
     block_exits other (exits_of marks (length (lines_in c0))) ≡ exits_of marks (length (lines_in c2))
 else_exits marks None true k w e j = absurd (true≢false e.has)
@@ -158,7 +158,7 @@ branches_put (Some other) true body condition first {c0} {c1} {c2} {c3} e j b t 
     (puts_then (puts_then (puts_then (puts_then there j) b) t) f)
 
 -- an `if`; end and skipped: how many lines there were at first, and with what stands behind `else`
-pub if_put : (s : Source) (slots : List ℕ) (r : ℕ) (marks : Marks) (i : IfStmt) (end skipped : ℕ) (has : Bool) {c0 c1 c2 c3 c4 c5 : Code} →
+pub if_put : (s : Source) (slots : List ℕ) (r : ℕ) (marks : JumpMarks) (i : IfStmt) (end skipped : ℕ) (has : Bool) {c0 c1 c2 c3 c4 c5 : Code} →
     AreWithin marks (length (lines_in c0)) →
     end ≡ length (lines_in c0) → skipped ≡ length (lines_in c1) →
     PutsElse (else_lines s slots r (exits_of marks (length (lines_in c0))) (else_view (out-IfStmt i).otherwise)) has c0 c1 →
@@ -181,7 +181,7 @@ if_put s slots r marks i end skipped has {c0} {c1} {c2} {c3} w first behind e j 
 -- Loops
 
 -- where jumps out of the body of a loop lead
-body_leads : (marks : Marks) (n k : ℕ) → marks.next ≡ n → n ≡ k + marks.out → exits_of marks n ≡ record { next = 0; out = k }
+body_leads : (marks : JumpMarks) (n k : ℕ) → marks.next ≡ n → n ≡ k + marks.out → exits_of marks n ≡ record { next = 0; out = k }
 body_leads marks n k e f =
     let here : n - marks.next ≡ 0 = omega arith in
     let there : n - marks.out ≡ k = omega arith in
@@ -189,7 +189,7 @@ body_leads marks n k e f =
     first ∙ ap (λ m. record { next = 0; out = m }) there
 
 -- what a loop repeats, as it is put: the jump back before it leads anywhere, what is done after each turn, the body, the condition
-pub turns_put : (s : Source) (slots : List ℕ) (r : ℕ) (b : BlockTree) (tested : Option ExprTree) (post : List Line) (l : Line) (marks : Marks)
+pub turns_put : (s : Source) (slots : List ℕ) (r : ℕ) (b : BlockTree) (tested : Option ExprTree) (post : List Line) (l : Line) (marks : JumpMarks)
     {c0 c1 c2 c3 c4 c5 : Code} →
     marks.out ≡ length (lines_in c0) → marks.next ≡ length (lines_in c2) → Puts (l ∷ []) c0 c1 → Puts post c1 c2 →
     Puts (block_lines s slots r (exits_of marks (length (lines_in c2))) b) c2 c3 →
@@ -213,7 +213,7 @@ turns_put s slots r b tested post l marks {c0} {c1} {c2} {c3} {c4} {c5} out next
 
 -- The code of a function: its end, and before it its block
 
-pub body_put : (s : Source) (slots : List ℕ) (r : ℕ) (b : BlockTree) (marks : Marks) {c0 c1 c2 : Code} → lines_in c0 ≡ [] → Puts (End ∷ []) c0 c1 →
+pub body_put : (s : Source) (slots : List ℕ) (r : ℕ) (b : BlockTree) (marks : JumpMarks) {c0 c1 c2 : Code} → lines_in c0 ≡ [] → Puts (End ∷ []) c0 c1 →
     marks.next ≡ length (lines_in c1) → marks.out ≡ length (lines_in c1) → Puts (block_lines s slots r (exits_of marks (length (lines_in c1))) b) c1 c2 →
     lines_in c2 ≡ body_lines s slots r b
 body_put s slots r b marks {c0} {c1} {c2} none p next out q =

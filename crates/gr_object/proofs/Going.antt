@@ -7,7 +7,7 @@ use Rattle.gr_tree.specs.View.{link_view}
 use Rattle.gr_expr.specs.Lists.{links_in}
 use Rattle.gr_object.specs.declared.operands.Wanted.{Wanted}
 use Rattle.gr_object.specs.declared.operands.Wanted.TheVariants as wanted
-use Rattle.gr_object.specs.declared.operands.Standing.{Standing}
+use Rattle.gr_object.specs.declared.operands.OperandPlace.{OperandPlace}
 use Rattle.gr_object.specs.declared.code.Code.{Code}
 use Rattle.gr_object.specs.Lines.{Line}
 use Rattle.gr_object.specs.LineView.{lines_in, Puts}
@@ -19,12 +19,12 @@ use Rattle.gr_object.specs.Making.{lines_for, standing_of, before_link, index_li
 use Rattle.gr_object.proofs.Standings.{linked_end, linked_last, same_qualifies, same_calling}
 
 -- the links from number i on were gone over
-pub record GoesOver (s : Source) (slots : List ℕ) (links : List Link) (i : ℕ) (head : Standing) (first left : Wanted) (old new : Code) : Type 0 where
+pub record GoesOver (s : Source) (slots : List ℕ) (links : List Link) (i : ℕ) (head : OperandPlace) (first left : Wanted) (old new : Code) : Type 0 where
   pub over : (o : Operand) → before_link o.standing ≡ before_link (standing_of head) →
       lines_for first (linked s slots o (links_in links)) ++ lines_in old ≡ lines_for left (linked s slots o (links_in (take i links))) ++ lines_in new
 
 -- one more link
-pub over_more : (s : Source) (slots : List ℕ) (links : List Link) (i : ℕ) (x : Link) (head stands : Standing) (first left next : Wanted) (old mid new : Code) →
+pub over_more : (s : Source) (slots : List ℕ) (links : List Link) (i : ℕ) (x : Link) (head stands : OperandPlace) (first left next : Wanted) (old mid new : Code) →
     i < length links → x ≡ get_or links i x → GoesOver s slots links (i + 1) head first left old mid →
     ((o : Operand) → before_link o.standing ≡ before_link (standing_of head) →
     before_link (linked s slots o (links_in (take i links))).standing ≡ before_link (standing_of stands)) →
@@ -96,12 +96,12 @@ no_lines wanted.Address s = refl
 
 -- all links, and none of them
 
-pub over_none : (s : Source) (slots : List ℕ) (links : List Link) (n : ℕ) (head : Standing) (first : Wanted) (code : Code) → take n links ≡ links →
+pub over_none : (s : Source) (slots : List ℕ) (links : List Link) (n : ℕ) (head : OperandPlace) (first : Wanted) (code : Code) → take n links ≡ links →
     GoesOver s slots links n head first first code code
 over_none s slots links n head first code all = record
     { over = λ o same. ap (λ ls. lines_for first (linked s slots o (links_in ls)) ++ lines_in code) (sym all) }
 
-pub over_all : (s : Source) (slots : List ℕ) (links : List Link) (head : Standing) (first left : Wanted) (old new : Code) →
+pub over_all : (s : Source) (slots : List ℕ) (links : List Link) (head : OperandPlace) (first left : Wanted) (old new : Code) →
     ((o : Operand) → linked s slots o (links_in []) ≡ o) → GoesOver s slots links 0 head first left old new →
     GoesOn (λ o. linked s slots o (links_in links)) (standing_of head) first left old new
 over_all s slots links head first left old new none g = record { on = λ o same. g.over o same ∙ ap (λ p. lines_for left p ++ lines_in new) (none o) }
@@ -116,7 +116,7 @@ pub goes_behind_as : {rule : Operand → Operand} {b d : Bool} {first left : Wan
 goes_behind_as {rule} {b} {d} e g = record { on = λ o q. g.on o (q ∙ sym e) }
 
 -- the same in a loop whose numbers fall
-pub over_turn : (s : Source) (slots : List ℕ) (links : List Link) (i : ℕ) (x : Link) (head stands : Standing) (first left next : Wanted) (old mid new : Code) →
+pub over_turn : (s : Source) (slots : List ℕ) (links : List Link) (i : ℕ) (x : Link) (head stands : OperandPlace) (first left next : Wanted) (old mid new : Code) →
     0 < i → i - 1 < length links → x ≡ get_or links (i - 1) x → GoesOver s slots links i head first left old mid →
     ((o : Operand) → before_link o.standing ≡ before_link (standing_of head) →
     before_link (linked s slots o (links_in (take (i - 1) links))).standing ≡ before_link (standing_of stands)) →
@@ -126,7 +126,7 @@ over_turn s slots links i x head stands first left next old mid new some lt is o
     over_more s slots links (i - 1) x head stands first left next old mid new lt is (subst (λ k. GoesOver s slots links k head first left old mid) e over)
     known goes
 
-pub over_end : (s : Source) (slots : List ℕ) (links : List Link) (i : ℕ) (head : Standing) (first left : Wanted) (old new : Code) → i ≤ 0 →
+pub over_end : (s : Source) (slots : List ℕ) (links : List Link) (i : ℕ) (head : OperandPlace) (first left : Wanted) (old new : Code) → i ≤ 0 →
     GoesOver s slots links i head first left old new → GoesOn (λ o. linked s slots o (links_in links)) (standing_of head) first left old new
 over_end s slots links i head first left old new none over =
     let e : i ≡ 0 = omega arith in

@@ -10,7 +10,7 @@ use Rattle.std.specs.Ordering.{nat_cmp}
 use Rattle.std.proofs.lemmas.Option.{none-some, same_Some}
 use Rattle.gr_declared.proofs.ByteKeys.{cases_bytes}
 use Rattle.gr_declared.proofs.Paths.{get_before, get_last}
-use Rattle.gr_object.specs.declared.called.PackageNames.{PackageNames}
+use Rattle.gr_object.specs.declared.called.CalledNames.{CalledNames}
 use Rattle.gr_object.specs.PackagesView.{names_at}
 
 -- the number of a path
@@ -21,18 +21,18 @@ pub no_number : (numbers : BTreeMap (Vec ℕ) ℕ) → numbers.entries ≡ [] �
 no_number numbers empty path = ap (λ (es : List (Vec ℕ × ℕ)). lookup (is_at (λ (key : Vec ℕ). slice_cmp nat_cmp path key.items)) es) empty
 
 -- the names that were added last
-pub added_here : (old new : List PackageNames) (x : PackageNames) (o : Option ℕ) (n : ℕ) → new ≡ old ++ (x ∷ []) → n ≡ length old → o ≡ Some n →
+pub added_here : (old new : List CalledNames) (x : CalledNames) (o : Option ℕ) (n : ℕ) → new ≡ old ++ (x ∷ []) → n ≡ length old → o ≡ Some n →
     names_at new o ≡ Some x
 added_here old new x o n e size at =
-    ap (names_at new) (at ∙ ap Some size) ∙ (ap (λ (l : List PackageNames). slice_get l (length old)) e ∙ get_last old x)
+    ap (names_at new) (at ∙ ap Some size) ∙ (ap (λ (l : List CalledNames). slice_get l (length old)) e ∙ get_last old x)
 
-kept : (old new : List PackageNames) (x : PackageNames) (o : Option ℕ) → new ≡ old ++ (x ∷ []) → ((m : ℕ) → o ≡ Some m → m < length old) →
+kept : (old new : List CalledNames) (x : CalledNames) (o : Option ℕ) → new ≡ old ++ (x ∷ []) → ((m : ℕ) → o ≡ Some m → m < length old) →
     names_at new o ≡ names_at old o
 kept old new x None e below = refl
-kept old new x (Some m) e below = ap (λ (l : List PackageNames). slice_get l m) e ∙ get_before old x m (below m refl)
+kept old new x (Some m) e below = ap (λ (l : List CalledNames). slice_get l m) e ∙ get_before old x m (below m refl)
 
 -- and those of other paths
-pub added_elsewhere : (old new : List PackageNames) (x : PackageNames) (o p : Option ℕ) → new ≡ old ++ (x ∷ []) → ((m : ℕ) → o ≡ Some m → m < length old) →
+pub added_elsewhere : (old new : List CalledNames) (x : CalledNames) (o p : Option ℕ) → new ≡ old ++ (x ∷ []) → ((m : ℕ) → o ≡ Some m → m < length old) →
     p ≡ o → names_at new p ≡ names_at old o
 added_elsewhere old new x o p e below same = ap (names_at new) same ∙ kept old new x o e below
 

@@ -21,8 +21,8 @@ use Rattle.gr_declared.specs.Package.{Package, declared_types, declared_function
 use Rattle.gr_meanings.specs.Worlds.{IsWorldOf, is_init}
 use Rattle.gr_meanings.specs.MemberUses.{AreUsesIn}
 use Rattle.gr_meanings.specs.Uniqueness.{IsOneWorld}
-use Rattle.gr_object.specs.declared.called.Packages.{Packages}
-use Rattle.gr_object.specs.declared.called.PackageNames.{PackageNames}
+use Rattle.gr_object.specs.declared.called.CalledPackages.{CalledPackages}
+use Rattle.gr_object.specs.declared.called.CalledNames.{CalledNames}
 use Rattle.gr_object.specs.declared.source.Source.{Source}
 use Rattle.gr_object.specs.Lines.{GlobalName, FunctionName}
 use Rattle.gr_object.specs.Literals.{number_of}
@@ -70,7 +70,7 @@ uses_found p file f w uses one at judged are =
 
 -- names of packages
 
-type_at_names : (path : List ℕ) (files : List SourceFile) (o : Option PackageNames) (rank : ℕ) →
+type_at_names : (path : List ℕ) (files : List SourceFile) (o : Option CalledNames) (rank : ℕ) →
     MatchOption o (files ≡ []) (λ names. AreNamesOf path files names) →
     type_at o rank ≡ slice_get (type_names path files) rank
 type_at_names path files None rank e = ap (λ fs. slice_get (type_names path fs) rank) (sym e)
@@ -84,7 +84,7 @@ type_at_names path files (Some names) rank h =
     ∙ (ap (λ p. map (type_called p F) (declared_types files)) h.has_path
     ∙ ap (λ fs. map (type_called path fs) (declared_types files)) h.has_files)))
 
-function_at_names : (path : List ℕ) (files : List SourceFile) (o : Option PackageNames) (rank : ℕ) →
+function_at_names : (path : List ℕ) (files : List SourceFile) (o : Option CalledNames) (rank : ℕ) →
     MatchOption o (files ≡ []) (λ names. AreNamesOf path files names) →
     function_at o rank ≡ slice_get (function_names path files) rank
 function_at_names path files None rank e = ap (λ fs. slice_get (function_names path fs) rank) (sym e)
@@ -95,18 +95,18 @@ function_at_names path files (Some names) rank h =
     ∙ (ap (λ p. slice_get (functions_behind p F 0 (declared_functions files)) rank) h.has_path
     ∙ ap (λ fs. slice_get (functions_behind path fs 0 (declared_functions files)) rank) h.has_files)
 
-position_at_names : (path : List ℕ) (files : List SourceFile) (o : Option PackageNames) (rank : ℕ) →
+position_at_names : (path : List ℕ) (files : List SourceFile) (o : Option CalledNames) (rank : ℕ) →
     MatchOption o (files ≡ []) (λ names. AreNamesOf path files names) →
     position_at o rank ≡ slice_get (field_positions files) rank
 position_at_names path files None rank e = ap (λ fs. slice_get (field_positions fs) rank) (sym e)
 position_at_names path files (Some names) rank h = ap (λ xs. slice_get xs rank) h.positions
 
-pub types_named : (packages : Packages) (files_of : List ℕ → List SourceFile) → HaveNames packages files_of → type_in packages ≡ type_name files_of
+pub types_named : (packages : CalledPackages) (files_of : List ℕ → List SourceFile) → HaveNames packages files_of → type_in packages ≡ type_name files_of
 types_named packages files_of have = fun_ext (λ (s : Symbol).
     type_at_names s.package (files_of s.package) (package_in packages s.package) s.rank (have s.package))
 
 -- all of it
-pub is_source : (p : Package) (n : ℕ) (f : SourceFile) (w : World) (uses : List MemberUse) (packages : Packages) (s : Source) → IsOneWorld p →
+pub is_source : (p : Package) (n : ℕ) (f : SourceFile) (w : World) (uses : List MemberUse) (packages : CalledPackages) (s : Source) → IsOneWorld p →
     slice_get p.files n ≡ Some f →
     IsTabled p n w uses packages s → IsWorldOf p n f (world_of w) → ((token : ℕ) → spelling_of (name_in w token) ≡ spelled p n token) →
     (files_of : List ℕ → List SourceFile) → HaveNames packages files_of → AreUsesIn p n (map use_of uses) → IsSourceOf p files_of n f (source_of s)

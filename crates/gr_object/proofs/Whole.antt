@@ -21,7 +21,7 @@ use Rattle.gr_meanings.specs.MemberUses.{AreUsesIn, AreMemberUses, uses_in}
 use Rattle.gr_meanings.proofs.BoundLists.{slice_get_some}
 use Rattle.gr_declared.proofs.Paths.{get_before, get_last}
 use Rattle.gr_object.specs.declared.instructions.FunctionName as program
-use Rattle.gr_object.specs.declared.called.Packages.{Packages}
+use Rattle.gr_object.specs.declared.called.CalledPackages.{CalledPackages}
 use Rattle.gr_object.specs.Lines.{FunctionName}
 use Rattle.gr_object.specs.LineView.{function_of}
 use Rattle.gr_object.specs.Names.{function_names, type_name}
@@ -84,7 +84,7 @@ uses_are p members file f are at =
 
 -- no file yet, and one more
 
-pub no_files : (p : Package) (members : List (Vec MemberUse)) (packages : Packages) (names : List program.FunctionName) (text : List ℕ) →
+pub no_files : (p : Package) (members : List (Vec MemberUse)) (packages : CalledPackages) (names : List program.FunctionName) (text : List ℕ) →
     PutsFiles p 0 members packages names 0 text text
 unfolding declared_from names_after
 no_files p members packages names text = record {
@@ -99,7 +99,7 @@ no_files p members packages names text = record {
 tree_at : (files : List SourceFile) (n : ℕ) (f : SourceFile) → slice_get files n ≡ Some f → slice_get (map (λ (g : SourceFile). g.tree) files) n ≡ Some f.tree
 tree_at files n f at = slice_get-map (λ (g : SourceFile). g.tree) files n ∙ ap (option_map (λ (g : SourceFile). g.tree)) at
 
-pub one_file_more : (p : Package) (n : ℕ) (members : List (Vec MemberUse)) (packages : Packages) (names : List program.FunctionName) (number others : ℕ)
+pub one_file_more : (p : Package) (n : ℕ) (members : List (Vec MemberUse)) (packages : CalledPackages) (names : List program.FunctionName) (number others : ℕ)
     (old mid new : List ℕ) →
     PutsFiles p n members packages names number old mid → PutsFile p n (uses_or_none (slice_get members n)) packages names number others mid new →
     PutsFiles p (n + 1) members packages names others old new
@@ -162,7 +162,7 @@ head_put p files keys old mid new are holds sorted first e = record {
 
 -- the whole text
 
-pub whole_text : (p : Package) (members : List (Vec MemberUse)) (packages : Packages) (names : List program.FunctionName) (others : ℕ) (mid new : List ℕ) →
+pub whole_text : (p : Package) (members : List (Vec MemberUse)) (packages : CalledPackages) (names : List program.FunctionName) (others : ℕ) (mid new : List ℕ) →
     map function_of names ≡ function_names p.path p.files →
     PutsHead p [] mid → PutsFiles p (length p.files) members packages names others mid new →
     (files_of : List ℕ → List SourceFile) → AreMemberUses p (map uses_in members) → HaveNames packages files_of → IsObjectText p files_of new

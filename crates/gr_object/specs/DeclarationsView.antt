@@ -8,9 +8,9 @@ use Rattle.gr_expr.specs.View.{type_of}
 use Rattle.gr_expr.specs.World.{World}
 use Rattle.gr_object.specs.declared.declarations.Initial.{Initial}
 use Rattle.gr_object.specs.declared.declarations.Initial.TheVariants as initial
-use Rattle.gr_object.specs.declared.declarations.Definition.{Definition}
-use Rattle.gr_object.specs.declared.declarations.Definition.TheVariants as definition
-use Rattle.gr_object.specs.declared.declarations.Signature.{Signature}
+use Rattle.gr_object.specs.declared.declarations.DefinitionLine.{DefinitionLine}
+use Rattle.gr_object.specs.declared.declarations.DefinitionLine.TheVariants as definition
+use Rattle.gr_object.specs.declared.declarations.FunctionSignature.{FunctionSignature}
 use Rattle.gr_object.specs.Lines.{FunctionName}
 use Rattle.gr_object.specs.LineView.{function_of}
 use Rattle.gr_object.specs.Source.{Source}
@@ -20,7 +20,7 @@ unfoldable pub initial_view : Initial → object.Initial
 initial_view (initial.Integer n) = object.IntegerValue n
 initial_view (initial.Text bytes) = object.TextValue bytes.now
 
-unfoldable pub definition_view : Definition → object.Definition
+unfoldable pub definition_view : DefinitionLine → object.Definition
 definition_view (definition.SameAs t) = object.SameAs (type_of t)
 definition_view (definition.Fields ts) = object.Fields (map type_of ts.items)
 
@@ -30,7 +30,7 @@ literal_at s None = None
 literal_at s (Some i) = object.initial_of s (basic_view i.value)
 
 -- what stands on the first line of a function of that name with so many slots
-pub record IsSignature (w : World) (f : FuncTree) (name : FunctionName) (slots : ℕ) (s : Signature) : Type 0 where
+pub record IsSignature (w : World) (f : FuncTree) (name : FunctionName) (slots : ℕ) (s : FunctionSignature) : Type 0 where
   pub named : function_of s.name ≡ name
   pub parameters : map type_of s.parameters.items ≡ object.parameters_of w f
   pub results : map type_of s.results.items ≡ object.results_of w f

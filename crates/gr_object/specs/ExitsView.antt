@@ -3,18 +3,18 @@ use Rattle.std.specs.Prelude.{ℕ, ◌≡◌, ◌≤◌, ◌-◌, Bool, true, fa
 use Rattle.gr_tree.specs.FileView.{stmt_view}
 use Rattle.gr_tree.specs.declared.tree.BlockItem.{BlockItem}
 use Rattle.gr_object.specs.declared.code.Code.{Code}
-use Rattle.gr_object.specs.declared.statements.Marks.{Marks}
+use Rattle.gr_object.specs.declared.statements.JumpMarks.{JumpMarks}
 use Rattle.gr_object.specs.Lines.{Line, Jump}
 use Rattle.gr_object.specs.LineView.{lines_in}
 use Rattle.gr_object.specs.Source.{Source}
 use Rattle.gr_object.specs.Statements.{Exits, further, statement_lines}
 
 -- how many lines lie behind where `continue` and `break` lead, as the exits of a statement behind which n lines lie
-abbrev pub exits_of : Marks → ℕ → Exits
+abbrev pub exits_of : JumpMarks → ℕ → Exits
 exits_of marks n = record { next = n - marks.next; out = n - marks.out }
 
 -- both lie within n lines
-pub record AreWithin (marks : Marks) (n : ℕ) : Type 0 where
+pub record AreWithin (marks : JumpMarks) (n : ℕ) : Type 0 where
   pub next : marks.next ≤ n
   pub out : marks.out ≤ n
 

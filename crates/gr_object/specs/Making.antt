@@ -4,8 +4,8 @@ use Rattle.gr_tree.specs.declared.syntax.BinaryOp.{BinaryOp}
 use Rattle.gr_tree.specs.declared.syntax.BinaryOp.TheVariants as op
 use Rattle.gr_object.specs.declared.operands.Wanted.{Wanted}
 use Rattle.gr_object.specs.declared.operands.Wanted.TheVariants as wanted
-use Rattle.gr_object.specs.declared.operands.Standing.{Standing}
-use Rattle.gr_object.specs.declared.operands.Standing.TheVariants as standing
+use Rattle.gr_object.specs.declared.operands.OperandPlace.{OperandPlace}
+use Rattle.gr_object.specs.declared.operands.OperandPlace.TheVariants as standing
 use Rattle.gr_object.specs.declared.code.Code.{Code}
 use Rattle.gr_object.specs.Lines.{Line, Field, FieldThrough, FieldAddress, Index, IndexAddress, Duplicate, Pop, JumpUnless, JumpIf, line_if_known}
 use Rattle.gr_object.specs.LineView.{function_of, lines_in}
@@ -16,7 +16,7 @@ abbrev pub lines_for : Wanted → Operand → List Line
 lines_for wanted.Value o = o.value
 lines_for wanted.Address o = o.address
 
-unfoldable pub standing_of : Standing → pure.Standing
+unfoldable pub standing_of : OperandPlace → pure.Standing
 standing_of (standing.Values n) = Values n
 standing_of (standing.Called received f results) = Called received (function_of f) results
 standing_of standing.Converts = Converts

@@ -9,7 +9,7 @@ use Rattle.gr_expr.specs.declared.found.MemberUse.{MemberUse}
 use Rattle.gr_declared.specs.Package.{Package}
 use Rattle.gr_meanings.specs.MemberUses.{AreMemberUses, uses_in}
 use Rattle.gr_object.specs.declared.instructions.FunctionName as program
-use Rattle.gr_object.specs.declared.called.Packages.{Packages}
+use Rattle.gr_object.specs.declared.called.CalledPackages.{CalledPackages}
 use Rattle.gr_object.specs.Lines.{FunctionName}
 use Rattle.gr_object.specs.LineView.{function_of}
 use Rattle.gr_object.specs.Source.{Source}
@@ -37,7 +37,7 @@ names_after names [] = names
 names_after names (t ∷ ts) = names_after (names_behind_all names t.decls) ts
 
 -- what the files below n declare was added; the names of the functions behind them begin at a number
-pub record PutsFiles (p : Package) (n : ℕ) (members : List (Vec MemberUse)) (packages : Packages) (names : List program.FunctionName) (others : ℕ)
+pub record PutsFiles (p : Package) (n : ℕ) (members : List (Vec MemberUse)) (packages : CalledPackages) (names : List program.FunctionName) (others : ℕ)
     (old new : List ℕ) : Type 0 where
   pub sources : List Source
   pub all : length sources ≡ n

@@ -11,8 +11,8 @@ use Rattle.gr_meanings.specs.PackageOf.{IsPackageOf}
 use Rattle.gr_declared.specs.Package.{Interface, Package, PlacedType, package_types, symbol_in}
 use Rattle.gr_declared.specs.Definitions.{IsDefinition}
 use Rattle.gr_meanings.specs.MemberUses.{AreMemberUses, AreUsesIn}
-use Rattle.gr_object.specs.declared.called.Packages.{Packages}
-use Rattle.gr_object.specs.declared.called.PackageNames.{PackageNames}
+use Rattle.gr_object.specs.declared.called.CalledPackages.{CalledPackages}
+use Rattle.gr_object.specs.declared.called.CalledNames.{CalledNames}
 use Rattle.gr_object.specs.declared.instructions.FunctionName.{FunctionName}
 use Rattle.gr_object.specs.LineView.{function_of}
 use Rattle.gr_object.specs.Source.{Source}
@@ -30,12 +30,12 @@ pub record AreOwnDefinitions (p : Package) (found : List Definition) : Type 0 wh
       definition_or_none (symbol_in p rank) (slice_get found rank) ≡ no_definition (symbol_in p rank)
 
 -- the names of the packages whose files are known
-abbrev pub HaveNames : Packages → (List ℕ → List SourceFile) → Type 0
+abbrev pub HaveNames : CalledPackages → (List ℕ → List SourceFile) → Type 0
 HaveNames packages files_of = (path : List ℕ) → MatchOption (package_in packages path) (files_of path ≡ []) (λ names. AreNamesOf path (files_of path) names)
 
 -- the text of what a file of the package declares was added; its functions are those behind so many, and those of the files
 -- behind it are the others
-pub record PutsFile (p : Package) (file : ℕ) (members : List MemberUse) (packages : Packages) (names : List FunctionName) (number others : ℕ)
+pub record PutsFile (p : Package) (file : ℕ) (members : List MemberUse) (packages : CalledPackages) (names : List FunctionName) (number others : ℕ)
     (old new : List ℕ) : Type 0 where
   pub file_at : SourceFile
   pub in_file : slice_get p.files file ≡ Some file_at
@@ -54,7 +54,7 @@ abbrev pub OwnDefinitionsOf : (path : List ℕ) → List FileParts → (List ℕ
 OwnDefinitionsOf path files name_of interface_of found = (p : Package) → IsPackageOf path files name_of interface_of p → AreOwnDefinitions p found
 
 -- the text of its object, where these are its uses of members, and the files of packages have these names
-abbrev pub IsObjectTextOf : (path : List ℕ) → List FileParts → (List ℕ → Option (List ℕ)) → (List ℕ → Interface) → List (List plain.MemberUse) → Packages →
+abbrev pub IsObjectTextOf : (path : List ℕ) → List FileParts → (List ℕ → Option (List ℕ)) → (List ℕ → Interface) → List (List plain.MemberUse) → CalledPackages →
     List ℕ → Type 0
 IsObjectTextOf path files name_of interface_of uses packages text =
     (p : Package) × IsPackageOf path files name_of interface_of p ×

@@ -5,7 +5,7 @@ use Rattle.gr_tree.specs.SourceFile.{SourceFile}
 use Rattle.gr_expr.specs.declared.world.World.{World}
 use Rattle.gr_expr.specs.declared.found.MemberUse.{MemberUse}
 use Rattle.gr_declared.specs.Package.{Package}
-use Rattle.gr_object.specs.declared.called.Packages.{Packages}
+use Rattle.gr_object.specs.declared.called.CalledPackages.{CalledPackages}
 use Rattle.gr_object.specs.declared.source.Mark.{Mark}
 use Rattle.gr_object.specs.declared.source.Source.{Source}
 use Rattle.gr_object.specs.Sources.{IsGlobal, IsTextAt, IsTrueAt}
@@ -24,7 +24,7 @@ abbrev pub AreTexts : SourceFile → List (Option (Vec ℕ)) → Type 0
 AreTexts f texts = (token : ℕ) → IsTextAt f token (option_map (λ v. v.items) (slice_index_or texts token None))
 
 -- what the code of a file is made of, by tables
-pub record IsTabled (p : Package) (file : ℕ) (judged_by : World) (found : List MemberUse) (known : Packages) (s : Source) : Type 0 where
+pub record IsTabled (p : Package) (file : ℕ) (judged_by : World) (found : List MemberUse) (known : CalledPackages) (s : Source) : Type 0 where
   pub world : s.world ≡ judged_by
   pub uses : s.uses.now ≡ found
   pub used : s.used.places.items ≡ map (λ u. u.place) found

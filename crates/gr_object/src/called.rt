@@ -11,7 +11,7 @@ use std::collections::BTreeMap;
 /// What a package declares, by ranks, of which each name is made where it is asked for; and for each field where it stands in its
 /// struct.
 #[derive(Drop)]
-pub struct PackageNames<'a> {
+pub struct CalledNames<'a> {
     pub path: &'a [u8],
     pub files: &'a [FileTree],
     pub declared: Declared<'a>,
@@ -20,8 +20,8 @@ pub struct PackageNames<'a> {
 
 /// The same of packages, by the numbers that their paths have.
 #[derive(Drop)]
-pub struct Packages<'a> {
+pub struct CalledPackages<'a> {
     pub numbers: BTreeMap<Vec<u8>, usize>,
-    pub names: Vec<PackageNames<'a>>,
+    pub names: Vec<CalledNames<'a>>,
     ghost within: { (path : List ℕ) (n : ℕ) → get_by (λ key. slice_cmp nat_cmp path key.items) numbers ≡ Some n → n < length names.items },
 }

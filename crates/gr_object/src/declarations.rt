@@ -20,20 +20,20 @@ ghost use Rattle.gr_object.specs.DeclarationsView.{initial_view, definition_view
 use crate::code::Code;
 use crate::functions::{add_written, body, parameters, results};
 use crate::instructions::{FunctionName, GlobalName};
-use crate::numbered::Numbered;
+use crate::numbered::NumberedUses;
 use crate::packages::Packages;
 use crate::printing::{
     push_code, push_numbered, push_type, push_type_list, push_types, push_word, push_word_bytes,
     push_word_function, push_word_global, push_word_integer, push_word_type,
 };
-use crate::scope::Scope;
+use crate::scope::SlotScope;
 use crate::slots::slots;
 use crate::source::Source;
 use crate::types::written_type;
 use gr_expr::types::GoType;
 use gr_expr::world::World;
 use gr_tree::tree::{
-    BasicLit, Decl, Field, FuncDecl, Group, Item, TypeBody, TypeExpr, TypeSpec, VarSpec, VarValues,
+    BasicLit, Decl, FieldTree, FuncDecl, Group, Item, TypeBody, TypeExpr, TypeSpec, VarSpec, VarValues,
 };
 use std::alloc::{AllocError, Global};
 
@@ -46,14 +46,14 @@ pub enum Initial<'a> {
 
 /// What a type is defined as.
 #[derive(Drop)]
-pub enum Definition {
+pub enum DefinitionLine {
     SameAs(GoType),
     Fields(Vec<GoType>),
 }
 
 /// What stands on the first line of a function, but for how many lines of code it has.
 #[derive(Drop)]
-pub struct Signature<'a> {
+pub struct FunctionSignature<'a> {
     pub name: FunctionName<'a>,
     pub parameters: Vec<GoType>,
     pub results: Vec<GoType>,
@@ -66,7 +66,7 @@ fn add_field(
     alloc: Global,
     world: &World<'_>,
     types: &mut Vec<GoType>,
-    field: &Field,
+    field: &FieldTree,
 ) -> Result<(), AllocError>
     ensures { OnOk result (map type_of types.new.items ≡ map type_of types.old.items ++ flat_map (λ n. written (world_of world.now) (field_view field.now).type_use) (field_view field.now).names) }
 {
@@ -80,7 +80,7 @@ fn add_field(
 fn field_types(
     alloc: Global,
     world: &World<'_>,
-    fields: &[Item<Field>],
+    fields: &[Item<FieldTree>],
 ) -> Result<Vec<GoType>, AllocError>
     ensures { IfOk result (λ types. map type_of types.items ≡ field_types (world_of world.now) (list_view field_view fields.now)) }
 {
@@ -97,12 +97,12 @@ fn same_as(
     alloc: Global,
     world: &World<'_>,
     written: &TypeExpr,
-) -> Result<Option<Definition>, AllocError>
+) -> Result<Option<DefinitionLine>, AllocError>
     ensures { IfOk result (λ d. option_map definition_view d ≡ option_map SameAs (judge_type (world_of world.now) (type_view written.now)).type_of) }
 {
     match written_type(alloc, world, written)? {
         None => Ok(None),
-        Some(own) => Ok(Some(Definition::SameAs(own))),
+        Some(own) => Ok(Some(DefinitionLine::SameAs(own))),
     }
 }
 
@@ -112,14 +112,14 @@ fn defined_as(
     alloc: Global,
     world: &World<'_>,
     body: &TypeBody,
-) -> Result<Option<Definition>, AllocError>
+) -> Result<Option<DefinitionLine>, AllocError>
     ensures { IfOk result (λ d. option_map definition_view d ≡ definition_of (world_of world.now) (body_view body.now)) }
 {
     match body {
         TypeBody::Type(written) => same_as(alloc, world, written),
         TypeBody::Struct { fields, .. } => {
             let types = field_types(alloc, world, fields)?;
-            Ok(Some(Definition::Fields(types)))
+            Ok(Some(DefinitionLine::Fields(types)))
         }
     }
 }
@@ -129,13 +129,13 @@ fn defined_as(
 fn push_definition(
     text: &mut Vec<u8>,
     packages: &Packages<'_>,
-    definition: &Definition,
+    definition: &DefinitionLine,
 ) -> Result<(), AllocError>
     ensures { OnOk result (text.new.items ≡ text.old.items ++ definition_text (type_in packages.now) (definition_view definition.now)) }
 {
     match definition {
-        Definition::SameAs(own) => push_type(text, packages, own),
-        Definition::Fields(types) => {
+        DefinitionLine::SameAs(own) => push_type(text, packages, own),
+        DefinitionLine::Fields(types) => {
             push_word(text, b"struct{")?;
             push_types(text, packages, b";", types)?;
             push_word(text, b"}")
@@ -149,7 +149,7 @@ fn push_type_line(
     text: &mut Vec<u8>,
     packages: &Packages<'_>,
     name: GlobalName<'_>,
-    definition: &Definition,
+    definition: &DefinitionLine,
 ) -> Result<(), AllocError>
     ensures { OnOk result (text.new.items ≡ text.old.items ++ declaration_text (type_in packages.now) (TypeOf (global_of name.entry) (definition_view definition.now))) }
 {
@@ -371,7 +371,7 @@ fn push_counts(text: &mut Vec<u8>, slots: usize, lines: usize) -> Result<(), All
 fn push_header(
     text: &mut Vec<u8>,
     packages: &Packages<'_>,
-    signature: &Signature<'_>,
+    signature: &FunctionSignature<'_>,
     lines: usize,
 ) -> Result<(), AllocError>
     ensures { OnOk result (text.new.items ≡ text.old.items ++ ended (header_text (type_in packages.now) (function_of signature.now.name) (map type_of signature.now.parameters.items) (map type_of signature.now.results.items) signature.now.slots lines)) }
@@ -386,7 +386,7 @@ fn push_header(
 fn push_lines(
     text: &mut Vec<u8>,
     packages: &Packages<'_>,
-    signature: &Signature<'_>,
+    signature: &FunctionSignature<'_>,
     code: &Code<'_>,
 ) -> Result<(), AllocError>
     ensures { OnOk result (text.new.items ≡ text.old.items ++ (ended (header_text (type_in packages.now) (function_of signature.now.name) (map type_of signature.now.parameters.items) (map type_of signature.now.results.items) signature.now.slots (length (lines_in code.now))) ++ code_text (type_in packages.now) (lines_in code.now))) }
@@ -402,12 +402,12 @@ fn signature_of<'a>(
     func: &FuncDecl,
     name: FunctionName<'a>,
     slots: usize,
-) -> Result<Signature<'a>, AllocError>
+) -> Result<FunctionSignature<'a>, AllocError>
     ensures { IfOk result (IsSignature (world_of world.now) (func_view func.now) (function_of name.entry) slots) }
 {
     let parameters = parameters(alloc, world, func)?;
     let results = results(alloc, world, func)?;
-    Ok(Signature {
+    Ok(FunctionSignature {
         name,
         parameters,
         results,
@@ -418,7 +418,7 @@ fn signature_of<'a>(
 /// Adds the lines of a function, whose slots are those of the scope.
 fn push_scoped(
     alloc: Global,
-    scope: Scope<'_>,
+    scope: SlotScope<'_>,
     name: FunctionName<'_>,
     func: &FuncDecl,
     text: &mut Vec<u8>,
@@ -436,7 +436,7 @@ fn push_scoped(
 fn push_placed<'a>(
     alloc: Global,
     source: &'a Source<'a>,
-    places: &'a Numbered,
+    places: &'a NumberedUses,
     name: FunctionName<'_>,
     func: &FuncDecl,
     text: &mut Vec<u8>,
@@ -444,7 +444,7 @@ fn push_placed<'a>(
     requires { places.now.places.items ≡ slots_of (world_of source.now.world) (func_view func.now) }
     ensures { OnOk result (text.new.items ≡ text.old.items ++ declaration_text (type_in source.now.packages.now) (FunctionOf (object.function_of (source_of source.now) (func_view func.now) (function_of name.entry)))) }
 {
-    let scope = Scope {
+    let scope = SlotScope {
         source,
         slots: places,
     };

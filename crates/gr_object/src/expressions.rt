@@ -13,23 +13,23 @@ ghost use Rattle.gr_object.specs.Making.{index_lines, test_lines, lines_for, sta
 
 use crate::code::Code;
 use crate::instructions::Instruction;
-use crate::operands::{Standing, Wanted};
-use crate::scope::Scope;
+use crate::operands::{OperandPlace, Wanted};
+use crate::scope::SlotScope;
 use crate::types::{is_struct, written_type};
 use gr_tree::syntax::{BinaryOp, PrefixOp};
 use gr_tree::tree::{CompositeLit, Element, Expr, ExprItem, Link, Operand};
 use std::alloc::{AllocError, Global};
 
 /// Whether an operand that stands so is the name of a package when so many links stand behind it.
-fn is_qualifier(head: Standing<'_>, links: usize) -> bool
+fn is_qualifier(head: OperandPlace<'_>, links: usize) -> bool
     ensures { result ≡ (links == 0 && qualifies (standing_of head.entry)) }
 {
     links == 0 && head.qualifies()
 }
 
-impl<'a> Scope<'a> {
+impl<'a> SlotScope<'a> {
     /// What an operand behind which links stand is to the code before the link of that number, as that link sees it.
-    fn standing_before(self, head: Standing<'a>, links: &[Link], number: usize) -> Standing<'a>
+    fn standing_before(self, head: OperandPlace<'a>, links: &[Link], number: usize) -> OperandPlace<'a>
         requires { number ≤ length links.now }
         ensures { (o : operands.Operand) → before_link o.standing ≡ before_link (standing_of head.entry) →
             before_link (linked (source_of self.entry.source.now) self.entry.slots.now.places.items o (links_in (take number links.now))).standing ≡ before_link (standing_of result) }
@@ -42,13 +42,13 @@ impl<'a> Scope<'a> {
             Link::Selector { name, .. } => {
                 self.selector_standing(*name, is_qualifier(head, last))
             }
-            Link::Index { .. } => Standing::Values(1),
-            Link::Call { .. } => Standing::Values(1),
+            Link::Index { .. } => OperandPlace::Values(1),
+            Link::Call { .. } => OperandPlace::Values(1),
         }
     }
 
     /// How many values the last of some links leaves.
-    fn left_by_links(self, head: Standing<'a>, links: &[Link], last: usize) -> usize
+    fn left_by_links(self, head: OperandPlace<'a>, links: &[Link], last: usize) -> usize
         requires { last < length links.now }
         ensures { (o : operands.Operand) → before_link o.standing ≡ before_link (standing_of head.entry) →
             value_count (linked (source_of self.entry.source.now) self.entry.slots.now.places.items o (links_in (take (last + 1) links.now))).standing ≡ result }
@@ -63,18 +63,18 @@ impl<'a> Scope<'a> {
     }
 
     /// What an expression is to the code.
-    pub fn standing(self, e: &Expr) -> Standing<'a>
+    pub fn standing(self, e: &Expr) -> OperandPlace<'a>
         ensures { standing_of result ≡ (operand_of (source_of self.entry.source.now) self.entry.slots.now.places.items (expr_view e.now)).standing }
     {
         match e {
             Expr::Name(place) => self.name_standing(*place),
-            Expr::Blank(_) => Standing::Values(0),
+            Expr::Blank(_) => OperandPlace::Values(0),
             Expr::Chain { first, links } => {
                 let head = self.standing(first);
                 if links.is_empty() {
-                    return Standing::Values(head.values());
+                    return OperandPlace::Values(head.values());
                 }
-                Standing::Values(self.left_by_links(head, links, links.len() - 1))
+                OperandPlace::Values(self.left_by_links(head, links, links.len() - 1))
             }
             Expr::Number(_)
             | Expr::Text(_)
@@ -82,7 +82,7 @@ impl<'a> Scope<'a> {
             | Expr::Paren { .. }
             | Expr::Prefix { .. }
             | Expr::Address { .. }
-            | Expr::Binary { .. } => Standing::Values(1),
+            | Expr::Binary { .. } => OperandPlace::Values(1),
         }
     }
 }
@@ -102,12 +102,12 @@ fn put_prefix(op: PrefixOp, want: Wanted, code: &mut Code<'_>) -> Result<(), All
 
 /// Puts the line of a call with so many arguments of what stands so.
 #[tactic(auto, unfolding(crate::specs::LineView::line_of, crate::specs::Operands::calling, crate::specs::Making::standing_of))]
-fn put_call<'a>(standing: Standing<'a>, count: usize, code: &mut Code<'a>) -> Result<(), AllocError>
+fn put_call<'a>(standing: OperandPlace<'a>, count: usize, code: &mut Code<'a>) -> Result<(), AllocError>
     requires { count < 2 ^ 63 }
     ensures { OnOk result (Puts (calling count (standing_of standing.entry)) code.old code.new) }
 {
     match standing {
-        Standing::Called {
+        OperandPlace::Called {
             received,
             function,
             ..
@@ -118,11 +118,11 @@ fn put_call<'a>(standing: Standing<'a>, count: usize, code: &mut Code<'a>) -> Re
                 arguments,
             })
         }
-        Standing::Predeclared(builtin) => code.put(Instruction::CallBuiltin {
+        OperandPlace::Predeclared(builtin) => code.put(Instruction::CallBuiltin {
             builtin,
             arguments: count,
         }),
-        Standing::Values(_) | Standing::Converts | Standing::Qualifies => Ok(()),
+        OperandPlace::Values(_) | OperandPlace::Converts | OperandPlace::Qualifies => Ok(()),
     }
 }
 
@@ -163,7 +163,7 @@ fn put_test(op: BinaryOp, end: usize, code: &mut Code<'_>) -> Result<(), AllocEr
 #[cycle(expression)]
 pub fn operand<'a>(
     alloc: Global,
-    scope: Scope<'a>,
+    scope: SlotScope<'a>,
     e: &Expr,
     want: Wanted,
     code: &mut Code<'a>,
@@ -205,9 +205,9 @@ pub fn operand<'a>(
 #[cycle(expression)]
 fn chain<'a>(
     alloc: Global,
-    scope: Scope<'a>,
+    scope: SlotScope<'a>,
     links: &[Link],
-    head: Standing<'a>,
+    head: OperandPlace<'a>,
     want: Wanted,
     code: &mut Code<'a>,
 ) -> Result<Wanted, AllocError>
@@ -225,9 +225,9 @@ fn chain<'a>(
 #[cycle(expression)]
 fn link<'a>(
     alloc: Global,
-    scope: Scope<'a>,
+    scope: SlotScope<'a>,
     next: &Link,
-    standing: Standing<'a>,
+    standing: OperandPlace<'a>,
     want: Wanted,
     code: &mut Code<'a>,
 ) -> Result<Wanted, AllocError>
@@ -255,7 +255,7 @@ fn link<'a>(
 #[cycle(expression)]
 fn operations<'a>(
     alloc: Global,
-    scope: Scope<'a>,
+    scope: SlotScope<'a>,
     rest: &[Operand],
     code: &mut Code<'a>,
 ) -> Result<(), AllocError>
@@ -271,7 +271,7 @@ fn operations<'a>(
 #[cycle(expression)]
 fn operation<'a>(
     alloc: Global,
-    scope: Scope<'a>,
+    scope: SlotScope<'a>,
     next: &Operand,
     code: &mut Code<'a>,
 ) -> Result<(), AllocError>
@@ -294,7 +294,7 @@ fn operation<'a>(
 #[cycle(expression)]
 pub fn arguments<'a>(
     alloc: Global,
-    scope: Scope<'a>,
+    scope: SlotScope<'a>,
     list: &[ExprItem],
     code: &mut Code<'a>,
 ) -> Result<(), AllocError>
@@ -310,7 +310,7 @@ pub fn arguments<'a>(
 #[cycle(expression)]
 fn literal<'a>(
     alloc: Global,
-    scope: Scope<'a>,
+    scope: SlotScope<'a>,
     lit: &CompositeLit,
     code: &mut Code<'a>,
 ) -> Result<(), AllocError>
@@ -331,7 +331,7 @@ fn literal<'a>(
 #[cycle(expression)]
 fn keyed<'a>(
     alloc: Global,
-    scope: Scope<'a>,
+    scope: SlotScope<'a>,
     list: &[Element],
     code: &mut Code<'a>,
 ) -> Result<(), AllocError>
@@ -348,7 +348,7 @@ fn keyed<'a>(
 #[cycle(expression)]
 fn bare<'a>(
     alloc: Global,
-    scope: Scope<'a>,
+    scope: SlotScope<'a>,
     list: &[Element],
     code: &mut Code<'a>,
 ) -> Result<(), AllocError>

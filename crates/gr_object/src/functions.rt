@@ -13,8 +13,8 @@ ghost use Rattle.gr_object.specs.Objects.{all_written, parameters_of, received_t
 
 use crate::code::Code;
 use crate::instructions::Instruction;
-use crate::scope::Scope;
-use crate::statements::{Marks, block};
+use crate::scope::SlotScope;
+use crate::statements::{JumpMarks, block};
 use crate::types::{nothing, written_type};
 use gr_expr::types::GoType;
 use gr_expr::world::World;
@@ -35,13 +35,13 @@ fn result_count(results: &Results) -> usize
 
 /// The code of a function's body.
 #[tactic(auto, unfolding(gr_tree::specs::FileView::func_view, crate::specs::LineView::line_of))]
-pub fn body<'a>(alloc: Global, scope: Scope<'a>, func: &FuncDecl) -> Result<Code<'a>, AllocError>
+pub fn body<'a>(alloc: Global, scope: SlotScope<'a>, func: &FuncDecl) -> Result<Code<'a>, AllocError>
     ensures { IfOk result (λ code. lines_in code ≡ body_lines (source_of scope.entry.source.now) scope.entry.slots.now.places.items (length (result_types (func_view func.now).result)) (func_view func.now).body) }
 {
     let mut code = Code::new(alloc);
     code.put(Instruction::End)?;
     let end = code.len();
-    let marks = Marks {
+    let marks = JumpMarks {
         next: end,
         out: end,
     };

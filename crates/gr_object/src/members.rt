@@ -12,8 +12,8 @@ ghost use Rattle.gr_object.specs.Making.{field_lines, lines_for, standing_of, Go
 
 use crate::code::Code;
 use crate::instructions::Instruction;
-use crate::operands::{Standing, Wanted};
-use crate::scope::Scope;
+use crate::operands::{OperandPlace, Wanted};
+use crate::scope::SlotScope;
 use gr_expr::types::GoType;
 use gr_expr::world::Member;
 use gr_tree::tree::Key;
@@ -65,7 +65,7 @@ fn put_receiver(
     }
 }
 
-impl<'a> Scope<'a> {
+impl<'a> SlotScope<'a> {
     /// Puts the line of a member of values of that type, and answers what is wanted of the value before it.
     #[tactic(auto, unfolding(gr_expr::specs::WorldView::member_of, crate::specs::Operands::member_operand))]
     fn put_member(
@@ -133,14 +133,14 @@ impl<'a> Scope<'a> {
 
     /// What a member of values is to the code.
     #[tactic(auto, unfolding(gr_expr::specs::WorldView::member_of, crate::specs::Operands::member_operand, crate::specs::Making::standing_of))]
-    fn member_standing(self, before: &GoType, member: Member<'_>) -> Standing<'a>
+    fn member_standing(self, before: &GoType, member: Member<'_>) -> OperandPlace<'a>
         ensures { (o : Operand) → (member_operand (source_of self.entry.source.now) o (type_of before.now) (Some (member_of member.entry))).standing ≡ standing_of result }
     {
         match member {
-            Member::Field(_) => Standing::Values(1),
+            Member::Field(_) => OperandPlace::Values(1),
             Member::Method(method) => match &method.signature {
-                None => Standing::Values(0),
-                Some(signature) => Standing::of_function(
+                None => OperandPlace::Values(0),
+                Some(signature) => OperandPlace::of_function(
                     self.source.packages.function(&method.symbol),
                     true,
                     signature.results.len(),
@@ -151,21 +151,21 @@ impl<'a> Scope<'a> {
 
     /// What the name at a token behind a dot is to the code.
     #[tactic(auto, unfolding(crate::specs::Operands::typed_selector, crate::specs::Operands::member_operand, crate::specs::Making::standing_of))]
-    fn typed_standing(self, token: usize) -> Standing<'a>
+    fn typed_standing(self, token: usize) -> OperandPlace<'a>
         ensures { (o : Operand) → (typed_selector (source_of self.entry.source.now) token o ((source_of self.entry.source.now).before token)).standing ≡ standing_of result }
     {
         let Some(before) = self.source.before(token) else {
-            return Standing::Values(0);
+            return OperandPlace::Values(0);
         };
         match self.source.world.member(token, before) {
-            None => Standing::Values(0),
+            None => OperandPlace::Values(0),
             Some(member) => self.member_standing(before, member),
         }
     }
 
     /// What a selector is to the code behind the name of a package or another operand.
     #[tactic(auto, unfolding(crate::specs::Operands::selected_by))]
-    pub fn selector_standing(self, token: usize, qualified: bool) -> Standing<'a>
+    pub fn selector_standing(self, token: usize, qualified: bool) -> OperandPlace<'a>
         ensures { (o : Operand) → qualifies o.standing ≡ qualified →
             (selected (source_of self.entry.source.now) self.entry.slots.now.places.items token o).standing ≡ standing_of result }
     {

@@ -9,19 +9,19 @@ use std::collections::BTreeMap;
 
 /// Places, each numbered by where it first stands in the list.
 #[derive(Drop)]
-pub struct Numbered {
+pub struct NumberedUses {
     pub places: Vec<usize>,
     numbers: BTreeMap<usize, usize>,
     ghost numbered: { (place : ℕ) → get nat_cmp numbers place ≡ slot_of places.items place },
 }
 
-impl Numbered {
+impl NumberedUses {
     /// These places.
-    pub fn of(alloc: Global, places: Vec<usize>) -> Result<Numbered, AllocError>
+    pub fn of(alloc: Global, places: Vec<usize>) -> Result<NumberedUses, AllocError>
         ensures { IfOk result (λ n. n.places.items ≡ places.items) }
     {
         let numbers = number(alloc, &places)?;
-        Ok(Numbered { places, numbers })
+        Ok(NumberedUses { places, numbers })
     }
 
     /// How many places there are.

@@ -17,7 +17,7 @@ pub enum Wanted {
 /// What stands there: so many values; a function, or a method whose receiver is there, with how many results it has; a type,
 /// whose call is a conversion; a predeclared function; the name of a package.
 #[derive(Clone, Copy)]
-pub enum Standing<'a> {
+pub enum OperandPlace<'a> {
     Values(usize),
     Called {
         received: bool,
@@ -29,19 +29,19 @@ pub enum Standing<'a> {
     Qualifies,
 }
 
-impl<'a> Standing<'a> {
+impl<'a> OperandPlace<'a> {
     /// A function or method of that name.
     #[tactic(auto, unfolding(crate::specs::Making::standing_of))]
     pub fn of_function(
         name: Option<FunctionName<'a>>,
         received: bool,
         results: usize,
-    ) -> Standing<'a>
+    ) -> OperandPlace<'a>
         ensures { standing_of result ≡ function_standing (option_map function_of name.entry) received results }
     {
         match name {
-            None => Standing::Values(0),
-            Some(function) => Standing::Called {
+            None => OperandPlace::Values(0),
+            Some(function) => OperandPlace::Called {
                 received,
                 function,
                 results,
@@ -54,16 +54,16 @@ impl<'a> Standing<'a> {
     pub fn qualifies(self) -> bool
         ensures { result ≡ qualifies (standing_of self.entry) }
     {
-        matches!(self, Standing::Qualifies)
+        matches!(self, OperandPlace::Qualifies)
     }
 
     /// What stands behind a package's name alone.
     #[tactic(auto, unfolding(crate::specs::Making::standing_of))]
-    pub fn unqualified(self) -> Standing<'a>
+    pub fn unqualified(self) -> OperandPlace<'a>
         ensures { standing_of result ≡ unqualified (standing_of self.entry) }
     {
         match self {
-            Standing::Qualifies => Standing::Values(0),
+            OperandPlace::Qualifies => OperandPlace::Values(0),
             _ => self,
         }
     }
@@ -74,10 +74,10 @@ impl<'a> Standing<'a> {
         ensures { result ≡ left_by_call (standing_of self.entry) }
     {
         match self {
-            Standing::Called { results, .. } => results,
-            Standing::Predeclared(builtin) => results_of(builtin),
-            Standing::Converts => 1,
-            Standing::Values(_) | Standing::Qualifies => 0,
+            OperandPlace::Called { results, .. } => results,
+            OperandPlace::Predeclared(builtin) => results_of(builtin),
+            OperandPlace::Converts => 1,
+            OperandPlace::Values(_) | OperandPlace::Qualifies => 0,
         }
     }
 
@@ -87,7 +87,7 @@ impl<'a> Standing<'a> {
         ensures { result ≡ value_count (standing_of self.entry) }
     {
         match self {
-            Standing::Values(count) => count,
+            OperandPlace::Values(count) => count,
             _ => 0,
         }
     }

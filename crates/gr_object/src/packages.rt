@@ -6,7 +6,7 @@ ghost use Rattle.gr_object.specs.LineView.{global_of, function_of};
 ghost use Rattle.gr_object.specs.Names.{functions_behind};
 ghost use Rattle.gr_object.specs.PackagesView.{package_in, type_at, type_in, function_at, function_in, position_at, position_in};
 
-pub use crate::called::{PackageNames, Packages};
+pub use crate::called::{CalledNames, CalledPackages};
 use crate::instructions::{FunctionName, GlobalName};
 use crate::names::{function_called, initializers, is_initializer, type_called};
 use gr_declared::Function;
@@ -49,7 +49,7 @@ fn function_at<'a>(
     }
 }
 
-impl<'a> PackageNames<'a> {
+impl<'a> CalledNames<'a> {
     /// What the type definition of a rank is called.
     fn type_name(&self, rank: usize) -> Option<GlobalName<'a>>
         ensures { option_map global_of result ≡ type_at (Some self.now) rank }
@@ -80,19 +80,19 @@ pub(crate) fn path_bytes(path: &SharedPath) -> &[u8]
     path.path()
 }
 
-impl<'a> Packages<'a> {
+impl<'a> CalledPackages<'a> {
     /// The names of no package.
-    pub fn new(alloc: Global) -> Packages<'a>
+    pub fn new(alloc: Global) -> CalledPackages<'a>
         ensures { (path : List ℕ) → package_in result path ≡ None }
     {
-        Packages {
+        CalledPackages {
             numbers: BTreeMap::new(alloc),
             names: Vec::new(alloc),
         }
     }
 
     /// Adds the names of a package, in the place of those that are there.
-    pub fn add(&mut self, path: Vec<u8>, names: PackageNames<'a>) -> Result<(), AllocError>
+    pub fn add(&mut self, path: Vec<u8>, names: CalledNames<'a>) -> Result<(), AllocError>
         ensures here { OnOk result (package_in self.new path.items ≡ Some names.entry) }
         ensures elsewhere { OnOk result ((other : List ℕ) → (other ≡ path.items → ⊥) → package_in self.new other ≡ package_in self.old other) }
     {
@@ -103,7 +103,7 @@ impl<'a> Packages<'a> {
     }
 
     /// The names of a package.
-    fn get(&self, path: &[u8]) -> Option<&PackageNames<'a>>
+    fn get(&self, path: &[u8]) -> Option<&CalledNames<'a>>
         ensures { option_copied result ≡ package_in self.now path.now }
     {
         match self.numbers.get(path) {

@@ -10,20 +10,20 @@ ghost use Rattle.gr_object.specs.Making.{lines_for, standing_of};
 
 use crate::code::Code;
 use crate::instructions::{FunctionName, Instruction};
-use crate::numbered::Numbered;
-use crate::operands::{Standing, Wanted};
+use crate::numbered::NumberedUses;
+use crate::operands::{OperandPlace, Wanted};
 use crate::source::Source;
 use gr_expr::world::Bound;
 use std::alloc::AllocError;
 
 /// What the code of a function is made of beside its tree: that of its file, and the places of its parameters and locals.
 #[derive(Clone, Copy)]
-pub struct Scope<'a> {
+pub struct SlotScope<'a> {
     pub source: &'a Source<'a>,
-    pub slots: &'a Numbered,
+    pub slots: &'a NumberedUses,
 }
 
-impl<'a> Scope<'a> {
+impl<'a> SlotScope<'a> {
     /// What a function of the package, or of an imported one, is called.
     #[tactic(auto, unfolding(crate::specs::LineView::function_of))]
     fn plain_function(self, token: usize) -> Option<FunctionName<'a>>
@@ -37,20 +37,20 @@ impl<'a> Scope<'a> {
 
     /// What a name that is bound so is to the code.
     #[tactic(auto, unfolding(crate::specs::Making::standing_of, crate::specs::Operands::bound_name, crate::specs::Operands::named_meaning, gr_expr::specs::WorldView::bound_of))]
-    fn bound_standing(self, token: usize, bound: &Bound) -> Standing<'a>
+    fn bound_standing(self, token: usize, bound: &Bound) -> OperandPlace<'a>
         ensures { standing_of result ≡ (bound_name (source_of self.entry.source.now) self.entry.slots.now.places.items token (bound_of bound.now)).standing }
     {
         match bound {
-            Bound::Local(_) | Bound::Variable(_) | Bound::Truth | Bound::Nil => Standing::Values(1),
-            Bound::TypeName(_) => Standing::Converts,
-            Bound::Function(signature) => Standing::of_function(
+            Bound::Local(_) | Bound::Variable(_) | Bound::Truth | Bound::Nil => OperandPlace::Values(1),
+            Bound::TypeName(_) => OperandPlace::Converts,
+            Bound::Function(signature) => OperandPlace::of_function(
                 self.plain_function(token),
                 false,
                 signature.results.len(),
             ),
-            Bound::Builtin(builtin) => Standing::Predeclared(*builtin),
-            Bound::Package => Standing::Qualifies,
-            Bound::BrokenVariable | Bound::BrokenFunction | Bound::BrokenType => Standing::Values(
+            Bound::Builtin(builtin) => OperandPlace::Predeclared(*builtin),
+            Bound::Package => OperandPlace::Qualifies,
+            Bound::BrokenVariable | Bound::BrokenFunction | Bound::BrokenType => OperandPlace::Values(
                 0,
             ),
         }
@@ -58,11 +58,11 @@ impl<'a> Scope<'a> {
 
     /// What the name at a token is to the code.
     #[tactic(auto, unfolding(crate::specs::Making::standing_of, crate::specs::Operands::bound_name, crate::specs::Operands::named_meaning))]
-    pub fn name_standing(self, token: usize) -> Standing<'a>
+    pub fn name_standing(self, token: usize) -> OperandPlace<'a>
         ensures { standing_of result ≡ (name_operand (source_of self.entry.source.now) self.entry.slots.now.places.items token).standing }
     {
         match self.source.world.bound(token) {
-            None => Standing::Values(0),
+            None => OperandPlace::Values(0),
             Some(bound) => self.bound_standing(token, bound),
         }
     }

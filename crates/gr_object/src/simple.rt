@@ -18,7 +18,7 @@ use crate::code::Code;
 use crate::expressions::{arguments, operand};
 use crate::instructions::Instruction;
 use crate::operands::Wanted;
-use crate::scope::Scope;
+use crate::scope::SlotScope;
 use crate::types::written_type;
 use gr_expr::world::Bound;
 use gr_tree::syntax::{BinaryOp, StepOp, UpdateOp};
@@ -29,7 +29,7 @@ use std::alloc::{AllocError, Global};
 #[tactic(auto, using(crate::proofs::Values::values_are_arguments))]
 pub fn values<'a>(
     alloc: Global,
-    scope: Scope<'a>,
+    scope: SlotScope<'a>,
     list: &[ExprItem],
     code: &mut Code<'a>,
 ) -> Result<(), AllocError>
@@ -40,7 +40,7 @@ pub fn values<'a>(
 
 /// Puts the line of a local that is declared with a value; a `_` drops it.
 #[tactic(auto, unfolding(crate::specs::LineView::line_of))]
-fn put_set_name<'a>(scope: Scope<'a>, ident: &Ident, code: &mut Code<'a>) -> Result<(), AllocError>
+fn put_set_name<'a>(scope: SlotScope<'a>, ident: &Ident, code: &mut Code<'a>) -> Result<(), AllocError>
     ensures { OnOk result (Puts (set_name scope.entry.slots.now.places.items (ident_view ident.now)) code.old code.new) }
 {
     match ident {
@@ -51,7 +51,7 @@ fn put_set_name<'a>(scope: Scope<'a>, ident: &Ident, code: &mut Code<'a>) -> Res
 
 /// Puts the lines of locals that are declared with values, the last one first.
 fn put_set_names<'a>(
-    scope: Scope<'a>,
+    scope: SlotScope<'a>,
     names: &[Item<Ident>],
     code: &mut Code<'a>,
 ) -> Result<(), AllocError>
@@ -65,7 +65,7 @@ fn put_set_names<'a>(
 
 /// Puts the line of the local that a name is bound to.
 #[tactic(auto, unfolding(gr_expr::specs::WorldView::bound_of))]
-fn put_set_bound<'a>(scope: Scope<'a>, bound: &Bound, code: &mut Code<'a>) -> Result<(), AllocError>
+fn put_set_bound<'a>(scope: SlotScope<'a>, bound: &Bound, code: &mut Code<'a>) -> Result<(), AllocError>
     ensures { OnOk result (Puts (set_bound scope.entry.slots.now.places.items (bound_of bound.now)) code.old code.new) }
 {
     match bound {
@@ -75,7 +75,7 @@ fn put_set_bound<'a>(scope: Scope<'a>, bound: &Bound, code: &mut Code<'a>) -> Re
 }
 
 /// Puts the line of a name on the left of `:=`.
-fn put_set_at<'a>(scope: Scope<'a>, place: usize, code: &mut Code<'a>) -> Result<(), AllocError>
+fn put_set_at<'a>(scope: SlotScope<'a>, place: usize, code: &mut Code<'a>) -> Result<(), AllocError>
     ensures { OnOk result (Puts (set_bound scope.entry.slots.now.places.items ((source_of scope.entry.source.now).world.bound place)) code.old code.new) }
 {
     match scope.source.world.bound(place) {
@@ -86,7 +86,7 @@ fn put_set_at<'a>(scope: Scope<'a>, place: usize, code: &mut Code<'a>) -> Result
 
 /// Puts the line of a left side of `:=`.
 #[tactic(auto, unfolding(crate::specs::LineView::line_of, crate::specs::Statements::set_left, gr_tree::specs::View::expr_view))]
-fn put_set_left<'a>(scope: Scope<'a>, left: &Expr, code: &mut Code<'a>) -> Result<(), AllocError>
+fn put_set_left<'a>(scope: SlotScope<'a>, left: &Expr, code: &mut Code<'a>) -> Result<(), AllocError>
     ensures { OnOk result (Puts (set_left (source_of scope.entry.source.now) scope.entry.slots.now.places.items (expr_view left.now)) code.old code.new) }
 {
     match left {
@@ -98,7 +98,7 @@ fn put_set_left<'a>(scope: Scope<'a>, left: &Expr, code: &mut Code<'a>) -> Resul
 
 /// Puts the lines of the left sides of `:=`, the last one first.
 fn put_set_lefts<'a>(
-    scope: Scope<'a>,
+    scope: SlotScope<'a>,
     left: &[ExprItem],
     code: &mut Code<'a>,
 ) -> Result<(), AllocError>
@@ -114,7 +114,7 @@ fn put_set_lefts<'a>(
 #[tactic(auto, unfolding(crate::specs::LineView::line_of, crate::specs::Statements::target_lines, gr_tree::specs::View::expr_view))]
 fn target<'a>(
     alloc: Global,
-    scope: Scope<'a>,
+    scope: SlotScope<'a>,
     left: &Expr,
     code: &mut Code<'a>,
 ) -> Result<(), AllocError>
@@ -129,7 +129,7 @@ fn target<'a>(
 /// The addresses of the left sides of `=`.
 fn targets<'a>(
     alloc: Global,
-    scope: Scope<'a>,
+    scope: SlotScope<'a>,
     left: &[ExprItem],
     code: &mut Code<'a>,
 ) -> Result<(), AllocError>
@@ -186,7 +186,7 @@ fn put_load(code: &mut Code<'_>) -> Result<(), AllocError>
 #[tactic(auto, unfolding(crate::specs::LineView::line_of))]
 fn step<'a>(
     alloc: Global,
-    scope: Scope<'a>,
+    scope: SlotScope<'a>,
     operand_expr: &Expr,
     op: StepOp,
     code: &mut Code<'a>,
@@ -202,7 +202,7 @@ fn step<'a>(
 /// `x += y` and its kin.
 fn update<'a>(
     alloc: Global,
-    scope: Scope<'a>,
+    scope: SlotScope<'a>,
     left: &Expr,
     op: UpdateOp,
     right: &Expr,
@@ -221,7 +221,7 @@ fn update<'a>(
 #[tactic(auto, unfolding(gr_tree::specs::FileView::simple_view, crate::specs::Statements::simple_lines, crate::specs::LineView::line_of))]
 pub fn simple<'a>(
     alloc: Global,
-    scope: Scope<'a>,
+    scope: SlotScope<'a>,
     statement: &SimpleStmt,
     code: &mut Code<'a>,
 ) -> Result<(), AllocError>
@@ -258,7 +258,7 @@ pub fn simple<'a>(
 /// A simple statement, where there is one.
 pub fn optional<'a>(
     alloc: Global,
-    scope: Scope<'a>,
+    scope: SlotScope<'a>,
     statement: &Option<SimpleStmt>,
     code: &mut Code<'a>,
 ) -> Result<(), AllocError>
@@ -274,7 +274,7 @@ pub fn optional<'a>(
 #[tactic(auto, unfolding(gr_tree::specs::FileView::init_view))]
 pub fn init<'a>(
     alloc: Global,
-    scope: Scope<'a>,
+    scope: SlotScope<'a>,
     init: &Option<IfInit>,
     code: &mut Code<'a>,
 ) -> Result<(), AllocError>
@@ -290,7 +290,7 @@ pub fn init<'a>(
 #[tactic(auto, unfolding(crate::specs::LineView::line_of))]
 fn put_zero<'a>(
     alloc: Global,
-    scope: Scope<'a>,
+    scope: SlotScope<'a>,
     written: &TypeExpr,
     code: &mut Code<'a>,
 ) -> Result<(), AllocError>
@@ -305,7 +305,7 @@ fn put_zero<'a>(
 /// A zero of a type for each name.
 fn put_zeros<'a>(
     alloc: Global,
-    scope: Scope<'a>,
+    scope: SlotScope<'a>,
     written: &TypeExpr,
     names: &[Item<Ident>],
     code: &mut Code<'a>,
@@ -322,7 +322,7 @@ fn put_zeros<'a>(
 #[tactic(auto, unfolding(crate::specs::Statements::zeros))]
 fn zeros<'a>(
     alloc: Global,
-    scope: Scope<'a>,
+    scope: SlotScope<'a>,
     written: &Option<TypeExpr>,
     names: &[Item<Ident>],
     code: &mut Code<'a>,
@@ -339,7 +339,7 @@ fn zeros<'a>(
 #[tactic(auto, unfolding(gr_tree::specs::FileView::local_view, crate::specs::Statements::first_values))]
 fn first_values<'a>(
     alloc: Global,
-    scope: Scope<'a>,
+    scope: SlotScope<'a>,
     local: &LocalSpec,
     code: &mut Code<'a>,
 ) -> Result<(), AllocError>
@@ -355,7 +355,7 @@ fn first_values<'a>(
 #[tactic(auto, unfolding(gr_tree::specs::FileView::local_view, crate::specs::Statements::local_lines))]
 fn local<'a>(
     alloc: Global,
-    scope: Scope<'a>,
+    scope: SlotScope<'a>,
     local: &LocalSpec,
     code: &mut Code<'a>,
 ) -> Result<(), AllocError>
@@ -368,7 +368,7 @@ fn local<'a>(
 /// Several declarations of locals.
 fn each_local<'a>(
     alloc: Global,
-    scope: Scope<'a>,
+    scope: SlotScope<'a>,
     items: &[Item<LocalSpec>],
     code: &mut Code<'a>,
 ) -> Result<(), AllocError>
@@ -384,7 +384,7 @@ fn each_local<'a>(
 #[tactic(auto, unfolding(gr_tree::specs::View::group_view))]
 pub fn locals<'a>(
     alloc: Global,
-    scope: Scope<'a>,
+    scope: SlotScope<'a>,
     group: &Group<LocalSpec>,
     code: &mut Code<'a>,
 ) -> Result<(), AllocError>

@@ -8,10 +8,10 @@ ghost use Rattle.gr_imports.specs.Files.{group_items};
 ghost use Rattle.gr_stmt.specs.Sides.{declares, defined_name, ident_place, named};
 ghost use Rattle.gr_object.specs.Slots.{receiver_places, parameter_places, local_places, simple_places, optional_places, init_places, header_places, statement_places, block_places, if_places, else_places, slots_of};
 
-use crate::numbered::Numbered;
+use crate::numbered::NumberedUses;
 use gr_expr::world::{Bound, World};
 use gr_tree::tree::{
-    Block, Else, Expr, ExprItem, ForHeader, FuncDecl, Group, Ident, IfInit, IfStmt, Item,
+    BlockTree, Else, Expr, ExprItem, ForHeader, FuncDecl, Group, Ident, IfInit, IfStmt, Item,
     LocalSpec, Param, Receiver, SimpleStmt, Stmt,
 };
 use std::alloc::{AllocError, Global};
@@ -235,7 +235,7 @@ fn add_statement(
 
 /// Adds the locals of a block.
 #[cycle(places)]
-fn add_block(places: &mut Vec<usize>, world: &World<'_>, block: &Block) -> Result<(), AllocError>
+fn add_block(places: &mut Vec<usize>, world: &World<'_>, block: &BlockTree) -> Result<(), AllocError>
     ensures { OnOk result (places.new.items ≡ places.old.items ++ block_places (world_of world.now) (block_view block.now)) }
 {
     for item in &block.statements {
@@ -268,12 +268,12 @@ fn add_else(places: &mut Vec<usize>, world: &World<'_>, otherwise: &Else) -> Res
 
 /// The slots of a function.
 #[tactic(auto, unfolding(gr_tree::specs::FileView::func_view))]
-pub fn slots(alloc: Global, world: &World<'_>, func: &FuncDecl) -> Result<Numbered, AllocError>
+pub fn slots(alloc: Global, world: &World<'_>, func: &FuncDecl) -> Result<NumberedUses, AllocError>
     ensures { IfOk result (λ slots. slots.places.items ≡ slots_of (world_of world.now) (func_view func.now)) }
 {
     let mut places = Vec::new(alloc);
     add_receiver(&mut places, &func.receiver)?;
     add_params(&mut places, &func.params)?;
     add_block(&mut places, world, &func.body)?;
-    Numbered::of(alloc, places)
+    NumberedUses::of(alloc, places)
 }

@@ -6,7 +6,7 @@ ghost use Rattle.gr_scope.specs.Named.{name_value};
 ghost use Rattle.gr_object.specs.SourceView.{source_of};
 
 use crate::instructions::GlobalName;
-use crate::numbered::Numbered;
+use crate::numbered::NumberedUses;
 use crate::packages::Packages;
 use gr_expr::found::MemberUse;
 use gr_expr::types::GoType;
@@ -27,7 +27,7 @@ pub struct Mark<'a> {
 pub struct Source<'a> {
     pub world: World<'a>,
     pub uses: &'a [MemberUse],
-    pub used: Numbered,
+    pub used: NumberedUses,
     pub marks: Vec<Mark<'a>>,
     pub texts: Vec<Option<Vec<u8>>>,
     pub packages: &'a Packages<'a>,

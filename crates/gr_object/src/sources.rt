@@ -10,7 +10,7 @@ ghost use Rattle.gr_object.specs.Sources.{IsBehindImport, IsGlobal, IsTextAt};
 ghost use Rattle.gr_object.specs.TablesView.{AreMarks, AreTexts, IsMarkAt, IsTabled};
 
 use crate::instructions::GlobalName;
-use crate::numbered::Numbered;
+use crate::numbered::NumberedUses;
 use crate::origin::Origin;
 use crate::packages::path_bytes;
 use crate::source::{Mark, Source};
@@ -46,14 +46,14 @@ fn texts(alloc: Global, file: &FileTree) -> Result<Vec<Option<Vec<u8>>>, AllocEr
 }
 
 /// The tokens of uses of members.
-fn used(alloc: Global, uses: &[MemberUse]) -> Result<Numbered, AllocError>
+fn used(alloc: Global, uses: &[MemberUse]) -> Result<NumberedUses, AllocError>
     ensures { IfOk result (λ used. used.places.items ≡ map (λ u. u.place) uses.now) }
 {
     let mut places = Vec::new(alloc);
     for next in uses {
         places.push(next.place)?;
     }
-    Numbered::of(alloc, places)
+    NumberedUses::of(alloc, places)
 }
 
 /// The path of the import that the name at a token is bound to.

@@ -13,14 +13,14 @@ use crate::code::Code;
 use crate::expressions::operand;
 use crate::instructions::Instruction;
 use crate::operands::Wanted;
-use crate::scope::Scope;
+use crate::scope::SlotScope;
 use crate::simple::{init, locals, optional, simple, values};
-use gr_tree::tree::{Block, BlockItem, Else, Expr, ExprItem, ForHeader, IfStmt, Stmt};
+use gr_tree::tree::{BlockTree, BlockItem, Else, Expr, ExprItem, ForHeader, IfStmt, Stmt};
 use std::alloc::{AllocError, Global};
 
 /// How many lines lie behind where `continue` and `break` lead.
 #[derive(Clone, Copy)]
-pub struct Marks {
+pub struct JumpMarks {
     pub next: usize,
     pub out: usize,
 }
@@ -28,7 +28,7 @@ pub struct Marks {
 /// The condition of a loop, behind which there were `end` lines.
 fn condition<'a>(
     alloc: Global,
-    scope: Scope<'a>,
+    scope: SlotScope<'a>,
     tested: &Option<Expr>,
     end: usize,
     code: &mut Code<'a>,
@@ -46,7 +46,7 @@ fn condition<'a>(
 #[tactic(auto, unfolding(crate::specs::LineView::line_of))]
 fn test<'a>(
     alloc: Global,
-    scope: Scope<'a>,
+    scope: SlotScope<'a>,
     tested: &Expr,
     end: usize,
     code: &mut Code<'a>,
@@ -63,7 +63,7 @@ fn test<'a>(
 #[tactic(auto, unfolding(gr_tree::specs::FileView::for_view))]
 fn post<'a>(
     alloc: Global,
-    scope: Scope<'a>,
+    scope: SlotScope<'a>,
     header: &ForHeader,
     code: &mut Code<'a>,
 ) -> Result<(), AllocError>
@@ -79,7 +79,7 @@ fn post<'a>(
 #[tactic(auto, unfolding(gr_tree::specs::FileView::for_view))]
 fn header_condition<'a>(
     alloc: Global,
-    scope: Scope<'a>,
+    scope: SlotScope<'a>,
     header: &ForHeader,
     end: usize,
     code: &mut Code<'a>,
@@ -101,7 +101,7 @@ fn header_condition<'a>(
 #[tactic(auto, unfolding(gr_tree::specs::FileView::for_view))]
 fn header_init<'a>(
     alloc: Global,
-    scope: Scope<'a>,
+    scope: SlotScope<'a>,
     header: &ForHeader,
     code: &mut Code<'a>,
 ) -> Result<(), AllocError>
@@ -140,7 +140,7 @@ fn put_exit(mark: usize, code: &mut Code<'_>) -> Result<(), AllocError>
 #[tactic(auto, unfolding(crate::specs::LineView::line_of))]
 fn returned<'a>(
     alloc: Global,
-    scope: Scope<'a>,
+    scope: SlotScope<'a>,
     list: &[ExprItem],
     results: usize,
     code: &mut Code<'a>,
@@ -155,10 +155,10 @@ fn returned<'a>(
 #[cycle(statement)]
 fn statement<'a>(
     alloc: Global,
-    scope: Scope<'a>,
+    scope: SlotScope<'a>,
     next: &Stmt,
     results: usize,
-    marks: Marks,
+    marks: JumpMarks,
     code: &mut Code<'a>,
 ) -> Result<(), AllocError>
     requires { AreWithin marks (length (lines_in code.old)) }
@@ -184,8 +184,8 @@ fn statement<'a>(
 #[cycle(statement)]
 fn turns<'a>(
     alloc: Global,
-    scope: Scope<'a>,
-    body: &Block,
+    scope: SlotScope<'a>,
+    body: &BlockTree,
     header: &ForHeader,
     results: usize,
     code: &mut Code<'a>,
@@ -198,7 +198,7 @@ fn turns<'a>(
     code.put(Instruction::JumpBack(0))?;
     post(alloc, scope, header, code)?;
     let next = code.len();
-    block(alloc, scope, body, results, Marks { next, out }, code)?;
+    block(alloc, scope, body, results, JumpMarks { next, out }, code)?;
     header_condition(alloc, scope, header, out, code)?;
     code.turn_back(out);
     Ok(())
@@ -208,10 +208,10 @@ fn turns<'a>(
 #[cycle(statement)]
 pub fn block<'a>(
     alloc: Global,
-    scope: Scope<'a>,
-    inner: &Block,
+    scope: SlotScope<'a>,
+    inner: &BlockTree,
     results: usize,
-    marks: Marks,
+    marks: JumpMarks,
     code: &mut Code<'a>,
 ) -> Result<(), AllocError>
     requires { AreWithin marks (length (lines_in code.old)) }
@@ -224,10 +224,10 @@ pub fn block<'a>(
 #[cycle(statement)]
 fn each<'a>(
     alloc: Global,
-    scope: Scope<'a>,
+    scope: SlotScope<'a>,
     list: &[BlockItem],
     results: usize,
-    marks: Marks,
+    marks: JumpMarks,
     code: &mut Code<'a>,
 ) -> Result<(), AllocError>
     requires { AreWithin marks (length (lines_in code.old)) }
@@ -243,10 +243,10 @@ fn each<'a>(
 #[cycle(statement)]
 fn branches<'a>(
     alloc: Global,
-    scope: Scope<'a>,
+    scope: SlotScope<'a>,
     branch: &IfStmt,
     results: usize,
-    marks: Marks,
+    marks: JumpMarks,
     code: &mut Code<'a>,
 ) -> Result<(), AllocError>
     requires { AreWithin marks (length (lines_in code.old)) }
@@ -265,10 +265,10 @@ fn branches<'a>(
 #[cycle(statement)]
 fn otherwise<'a>(
     alloc: Global,
-    scope: Scope<'a>,
+    scope: SlotScope<'a>,
     other: &Else,
     results: usize,
-    marks: Marks,
+    marks: JumpMarks,
     code: &mut Code<'a>,
 ) -> Result<bool, AllocError>
     requires { AreWithin marks (length (lines_in code.old)) }

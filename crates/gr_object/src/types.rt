@@ -7,18 +7,18 @@ ghost use Rattle.gr_expr.specs.Judge.{judge_type};
 ghost use Rattle.gr_expr.specs.View.{type_of};
 ghost use Rattle.gr_expr.specs.WorldView.{world_of};
 
-use gr_expr::found::Found;
+use gr_expr::found::FoundInFile;
 use gr_expr::types::GoType;
 use gr_expr::world::{Shape, World};
 use gr_tree::tree::TypeExpr;
 use std::alloc::{AllocError, Global};
 
 /// Nothing found yet.
-pub fn nothing(alloc: Global) -> Found
+pub fn nothing(alloc: Global) -> FoundInFile
     ensures faults { result.faults.items ≡ [] }
     ensures uses { result.uses.items ≡ [] }
 {
-    Found {
+    FoundInFile {
         faults: Vec::new(alloc),
         uses: Vec::new(alloc),
     }

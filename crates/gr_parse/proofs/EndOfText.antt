@@ -3,7 +3,7 @@ use Rattle.std.proofs.Common.{ℕ, ◌≡◌, Bool, true, false, List, [], ◌�
 use Rattle.std.specs.Prelude.{◌&&◌}
 use Rattle.gr_tree.specs.declared.syntax.Kind.TheVariants as kind
 use Rattle.gr_tree.specs.declared.syntax.Token.{Token}
-use Rattle.gr_tree.specs.declared.syntax.FaultKind.TheVariants.{Syntax}
+use Rattle.gr_tree.specs.declared.syntax.TokenFaultKind.TheVariants.{Syntax}
 use Rattle.gr_tree.specs.Grammar.{Symbol, One, Opening, Close, A, Part, Rule, Begins, Otherwise, rules, Single, ImportItem, GlobalItem, TypeItem, LocalItem}
 use Rattle.gr_tree.specs.Grammar.{AfterName, AfterSelector, Address, File}
 use Rattle.gr_tree.specs.Language.{Among, tested, untested, below, Derives, ends, token, opening, closing, by_rule, FirstFault}

@@ -2,8 +2,8 @@
 use Rattle.std.proofs.Common.{add-one, append_assoc, ℕ, ◌≡◌, Bool, true, false, List, [], ◌∷◌, ◌++◌, ◌+◌, ◌<◌, ◌≤◌, length, ap, sym, ◌∙◌, subst, refl}
 use Rattle.gr_tree.specs.declared.syntax.Kind.{Kind}
 use Rattle.gr_tree.specs.declared.syntax.Token.{Token}
-use Rattle.gr_tree.specs.declared.syntax.FaultKind.{FaultKind}
-use Rattle.gr_tree.specs.declared.syntax.FaultKind.TheVariants.{Syntax, Nesting}
+use Rattle.gr_tree.specs.declared.syntax.TokenFaultKind.{TokenFaultKind}
+use Rattle.gr_tree.specs.declared.syntax.TokenFaultKind.TheVariants.{Syntax, Nesting}
 use Rattle.gr_tree.specs.Grammar.{is, One, Opening, Close, A, Symbol, Part, rules}
 use Rattle.gr_parse.specs.Machine.{Run, Outcome, Accepted, Stopped, refused_opening, too_deep, take, refused, expand, closes, opens, at, Selects}
 use Rattle.gr_tree.specs.Verdict.{limit}
@@ -26,7 +26,7 @@ abbrev pub outcome_of : ParseError → Outcome
 outcome_of Memory = Accepted
 outcome_of (Fault k l) = Stopped k l
 
-pub fails_so : (symbols : List Symbol) (d : ℕ) (ts : List Token) (fault : FaultKind) (left : ℕ) →
+pub fails_so : (symbols : List Symbol) (d : ℕ) (ts : List Token) (fault : TokenFaultKind) (left : ℕ) →
     ((after : List Symbol) → Run d (symbols ++ after) ts (Stopped fault left)) → Fails symbols d ts (Fault fault left)
 fails_so symbols d ts fault left h = record { stops = λ k l e after. subst (λ o. Run d (symbols ++ after) ts o) (ap outcome_of e) (h after) }
 

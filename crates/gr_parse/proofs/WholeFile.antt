@@ -3,8 +3,8 @@ use Rattle.std.proofs.Common.{ℕ, ◌≡◌, ap, sym, ◌∙◌, subst, false, 
 use Rattle.std.specs.Prelude.{◌==◌}
 use Rattle.gr_scan.specs.CutText.{CutText}
 use Rattle.gr_tree.specs.declared.syntax.Token.{Token}
-use Rattle.gr_tree.specs.declared.syntax.FaultKind.{FaultKind}
-use Rattle.gr_tree.specs.declared.syntax.FaultKind.TheVariants.{Syntax, Nesting}
+use Rattle.gr_tree.specs.declared.syntax.TokenFaultKind.{TokenFaultKind}
+use Rattle.gr_tree.specs.declared.syntax.TokenFaultKind.TheVariants.{Syntax, Nesting}
 use Rattle.gr_parse.specs.declared.parse_error.ParseError.{ParseError}
 use Rattle.gr_parse.specs.declared.parse_error.ParseError.TheVariants as error
 use Rattle.gr_tree.specs.Grammar.{A, File}
@@ -31,12 +31,12 @@ whole_left (t ∷ more) e r = r.passes.runs [] _ left_over
 pub whole_text : {ts us : List Token} → ts ≡ us → Run 0 (A File ∷ []) ts Accepted → IsWhole us
 whole_text same r = subst IsWhole same (record { derived = accepts r; shallow = λ x. file_shallow r x })
 
-stopped_verdict : (k : FaultKind) (left : ℕ) (ts : List Token) → Run 0 (A File ∷ []) ts (Stopped k left) → IsVerdict ts (Faulty k left)
+stopped_verdict : (k : TokenFaultKind) (left : ℕ) (ts : List Token) → Run 0 (A File ∷ []) ts (Stopped k left) → IsVerdict ts (Faulty k left)
 stopped_verdict Syntax left ts r = file_stops r
 stopped_verdict Nesting left ts r = file_deep r
 
 pub refused_rightly : (c : CutText) (e : ParseError) (ts : List Token) → ts ≡ kinds_of c →
-    ((k : FaultKind) (left : ℕ) → e ≡ error.Fault k left → Run 0 (A File ∷ []) ts (Stopped k left)) → IsRefusedFor c (refusal_of c e)
+    ((k : TokenFaultKind) (left : ℕ) → e ≡ error.Fault k left → Run 0 (A File ∷ []) ts (Stopped k left)) → IsRefusedFor c (refusal_of c e)
 refused_rightly c error.Memory ts same h = tt
 refused_rightly c (error.Fault k left) ts same h = record {
   kind = k;

@@ -5,7 +5,7 @@ use Rattle.gr_tree.specs.declared.syntax.Kind.TheVariants as kind
 use Rattle.gr_tree.specs.declared.syntax.Token.{Token}
 use Rattle.gr_tree.specs.declared.syntax.StepOp.{StepOp}
 use Rattle.gr_tree.specs.declared.syntax.UpdateOp.{UpdateOp}
-use Rattle.gr_tree.specs.declared.syntax.FaultKind.TheVariants.{Syntax}
+use Rattle.gr_tree.specs.declared.syntax.TokenFaultKind.TheVariants.{Syntax}
 use Rattle.gr_parse.specs.declared.parse_error.ParseError.{ParseError}
 use Rattle.gr_parse.specs.declared.parse_error.ParseError.TheVariants.{Fault}
 use Rattle.gr_tree.specs.declared.tree.Ident.{Ident}

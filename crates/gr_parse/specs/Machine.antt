@@ -3,8 +3,8 @@
 use Rattle.std.specs.Prelude.{ℕ, suc, ◌≡◌, Bool, true, false, List, [], ◌∷◌, ◌++◌, ◌≤◌, ◌<◌, length}
 use Rattle.gr_tree.specs.declared.syntax.Kind.{Kind}
 use Rattle.gr_tree.specs.declared.syntax.Token.{Token}
-use Rattle.gr_tree.specs.declared.syntax.FaultKind.{FaultKind}
-use Rattle.gr_tree.specs.declared.syntax.FaultKind.TheVariants.{Syntax, Nesting}
+use Rattle.gr_tree.specs.declared.syntax.TokenFaultKind.{TokenFaultKind}
+use Rattle.gr_tree.specs.declared.syntax.TokenFaultKind.TheVariants.{Syntax, Nesting}
 use Rattle.gr_tree.specs.Grammar.{Symbol, One, Opening, Close, A, Part, Rule, Begins, Otherwise, rules}
 use Rattle.gr_tree.specs.Verdict.{limit}
 
@@ -24,7 +24,7 @@ pub data Selects : List Rule → List Token → List Symbol → Type 0 where
 -- How a run ends: all tokens taken, or a fault with that many tokens left, the one at fault among them.
 pub data Outcome : Type 0 where
   Accepted : Outcome
-  Stopped : FaultKind → ℕ → Outcome
+  Stopped : TokenFaultKind → ℕ → Outcome
 
 -- by the levels that are open, what has still to come, and the tokens left
 pub data Run : ℕ → List Symbol → List Token → Outcome → Type 0 where

@@ -2,7 +2,7 @@
 use Rattle.std.specs.Prelude.{◌≡◌, ℕ, List, [], ◌∷◌, Result, Ok, Err}
 use Rattle.gr_scan.specs.CutText.{CutText}
 use Rattle.gr_tree.specs.declared.syntax.Token.{Token}
-use Rattle.gr_tree.specs.declared.syntax.FaultKind.{FaultKind as TokenFault}
+use Rattle.gr_tree.specs.declared.syntax.TokenFaultKind.{TokenFaultKind as TokenFault}
 use Rattle.gr_parse.specs.declared.parse_error.ParseError.{ParseError}
 use Rattle.gr_parse.specs.declared.parse_error.ParseError.TheVariants as error
 use Rattle.gr_parse.specs.declared.refusal.ParseRefusal.{ParseRefusal}

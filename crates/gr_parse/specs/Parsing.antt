@@ -1,7 +1,7 @@
 -- What a parser of one part of a text gives.
 use Rattle.std.specs.Prelude.{ℕ, ◌≡◌, Bool, List, [], ◌∷◌, ◌++◌, Option, Some, None, Result, Ok, Err, ◌≤◌, ◌+◌, true, false, is_some}
 use Rattle.gr_tree.specs.declared.syntax.Token.{Token}
-use Rattle.gr_tree.specs.declared.syntax.FaultKind.{FaultKind}
+use Rattle.gr_tree.specs.declared.syntax.TokenFaultKind.{TokenFaultKind}
 use Rattle.gr_parse.specs.declared.parse_error.ParseError.{ParseError}
 use Rattle.gr_parse.specs.declared.parse_error.ParseError.TheVariants as errors
 use Rattle.gr_tree.specs.Grammar.{Symbol, A, Part, One, Opening, is}
@@ -16,7 +16,7 @@ pub record Passes (symbols : List Symbol) (d : ℕ) (ts : List Token) (e : ℕ) 
 
 -- An error that is a fault is where the machine stops, within the symbols.
 pub record Fails (symbols : List Symbol) (d : ℕ) (ts : List Token) (e : ParseError) : Type 0 where
-  pub stops : (fault : FaultKind) → (left : ℕ) → e ≡ errors.Fault fault left →
+  pub stops : (fault : TokenFaultKind) → (left : ℕ) → e ≡ errors.Fault fault left →
       (after : List Symbol) → Run d (symbols ++ after) ts (Stopped fault left)
 
 pub record Read (symbols : List Symbol) (spelled : List Token) (d : ℕ) (ts : List Token) (e : ℕ) (rest : List Token) : Type 0 where

@@ -3,7 +3,7 @@
 ghost use Rattle.std.specs.Prelude.{ℕ, ◌≡◌, ◌≤◌, List, [], ◌∷◌};
 ghost use Rattle.std.specs.List.{All};
 ghost use Rattle.gr_tree.specs.declared.syntax.Token.{Token};
-ghost use Rattle.gr_tree.specs.declared.syntax.FaultKind.TheVariants.{Syntax, Nesting};
+ghost use Rattle.gr_tree.specs.declared.syntax.TokenFaultKind.TheVariants.{Syntax, Nesting};
 ghost use Rattle.gr_tree.specs.Grammar.{A, File};
 ghost use Rattle.gr_parse.specs.Machine.{Run, Stopped, Accepted};
 ghost use Rattle.gr_tree.specs.Language.{Derives, FirstFault, DeepFault, levels};

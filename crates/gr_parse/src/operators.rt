@@ -13,7 +13,7 @@ ghost use Rattle.gr_parse.specs.Grouping.{IsOperand};
 
 use crate::parse_error::ParseError;
 use crate::take::{LIMIT, Parsed, binary_op, misplaced, next, prefix_op};
-use gr_tree::syntax::{BinaryOp, FaultKind, Kind, PrefixOp, Token};
+use gr_tree::syntax::{BinaryOp, TokenFaultKind, Kind, PrefixOp, Token};
 use gr_tree::tree::Expr;
 
 /// How strongly an operator binds, from 1 to 5.
@@ -81,7 +81,7 @@ pub(crate) fn open_prefix(tokens: &[Token], depth: u32) -> Parsed<'_, (PrefixOp,
         return Err(misplaced(tokens));
     };
     if depth >= LIMIT {
-        return Err(ParseError::Fault(FaultKind::Nesting, tokens.len()));
+        return Err(ParseError::Fault(TokenFaultKind::Nesting, tokens.len()));
     }
     Ok(((op, first.place, depth + 1), rest))
 }

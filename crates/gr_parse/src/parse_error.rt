@@ -2,14 +2,14 @@
 ghost use Rattle.std.specs.Prelude.{◌≡◌};
 ghost use Rattle.gr_parse.specs.declared.parse_error.ParseError.TheVariants.{Memory};
 
-use gr_tree::syntax::FaultKind;
+use gr_tree::syntax::TokenFaultKind;
 use std::alloc::{AllocError, AllocFailed};
 
 /// Why some tokens are not parsed: want of memory, or a fault with that many tokens left, the one at fault among them.
 #[derive(Clone, Copy, PartialEq, Eq, Debug)]
 pub enum ParseError {
     Memory,
-    Fault(FaultKind, usize),
+    Fault(TokenFaultKind, usize),
 }
 
 impl From<AllocError> for ParseError {

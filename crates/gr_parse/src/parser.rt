@@ -12,8 +12,8 @@ use crate::kinds::{kinds_of, place_of};
 use crate::parse_error::ParseError;
 use crate::refusal::ParseRefusal;
 use crate::take::misplaced;
-use gr_scan::{Fault, Pieces};
-use gr_tree::syntax::{FaultKind, Token};
+use gr_scan::{TextFault, Pieces};
+use gr_tree::syntax::{TokenFaultKind, Token};
 use gr_tree::tree::File;
 use std::alloc::{AllocError, Global};
 
@@ -47,10 +47,10 @@ fn refusal(pieces: &Pieces, error: ParseError) -> ParseRefusal
         ParseError::Fault(kind, left) => {
             let offset = place_of(pieces, left);
             let kind = match kind {
-                FaultKind::Syntax => gr_text::FaultKind::Syntax,
-                FaultKind::Nesting => gr_text::FaultKind::Nesting,
+                TokenFaultKind::Syntax => gr_text::FaultKind::Syntax,
+                TokenFaultKind::Nesting => gr_text::FaultKind::Nesting,
             };
-            ParseRefusal::Fault(Fault { offset, kind })
+            ParseRefusal::Fault(TextFault { offset, kind })
         }
     }
 }

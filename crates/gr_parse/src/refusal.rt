@@ -2,13 +2,13 @@
 ghost use Rattle.std.specs.Prelude.{◌≡◌};
 ghost use Rattle.gr_parse.specs.declared.refusal.ParseRefusal.TheVariants.{Memory};
 
-use gr_scan::Fault;
+use gr_scan::TextFault;
 use std::alloc::{AllocError, AllocFailed};
 
 /// Why a file was not parsed: its first `syntax` or `nesting` fault, or want of memory.
 #[derive(Debug, Drop)]
 pub enum ParseRefusal {
-    Fault(Fault),
+    TextFault(TextFault),
     Memory,
 }
 

@@ -7,7 +7,7 @@ ghost use Rattle.gr_parse.specs.Machine.{at};
 ghost use Rattle.gr_tree.specs.Flatten.{sign};
 
 use crate::parse_error::ParseError;
-use gr_tree::syntax::{BinaryOp, FaultKind, Kind, PrefixOp, Token};
+use gr_tree::syntax::{BinaryOp, TokenFaultKind, Kind, PrefixOp, Token};
 
 /// How many levels may be open at once.
 pub const LIMIT: u32 = 200;
@@ -26,7 +26,7 @@ pub(crate) fn next(tokens: &[Token]) -> Option<(Token, &[Token])>
 pub(crate) fn misplaced(tokens: &[Token]) -> ParseError
     ensures { result ≡ ParseError.Fault FaultKind.Syntax (length tokens.now) }
 {
-    ParseError::Fault(FaultKind::Syntax, tokens.len())
+    ParseError::Fault(TokenFaultKind::Syntax, tokens.len())
 }
 
 /// The kind as a number.
@@ -74,7 +74,7 @@ pub(crate) fn open(tokens: &[Token], kind: Kind, depth: u32) -> Parsed<'_, (usiz
         return Err(misplaced(tokens));
     }
     if depth >= LIMIT {
-        return Err(ParseError::Fault(FaultKind::Nesting, tokens.len()));
+        return Err(ParseError::Fault(TokenFaultKind::Nesting, tokens.len()));
     }
     Ok(((first.place, depth + 1), rest))
 }

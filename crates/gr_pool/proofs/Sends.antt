@@ -13,7 +13,7 @@ use Rattle.std.specs.contracts.alloc.Global as Heap
 use Rattle.std.specs.contracts.prelude.GlobalAllocator.TheImpl.{ghosts}
 use Rattle.std.proofs.sync.ledger.Book.TheSendSync.{the_send as Count-send}
 use Rattle.std.proofs.sync.ledger.Share.TheSendSync.{the_send as Share-send}
-use Rattle.gr_graph.specs.contracts.package.Package.{the_row as folder, the_field as folder_field}
+use Rattle.gr_graph.specs.contracts.package.ParsedPackage.{the_row as folder, the_field as folder_field}
 use Rattle.gr_graph.specs.contracts.shared_package.PackageParts.{the_row as package_parts}
 use Rattle.gr_graph.specs.contracts.shared_package.SharedPackage.{the_row as shared_package}
 use Rattle.gr_graph.specs.contracts.graph.Parts.{the_row as graph_parts}

@@ -2,7 +2,7 @@
 use Rattle.std.proofs.Common.{ℕ, ◌≡◌, ◌-◌, List, [], ◌∷◌, length, drop, map, refl, sym, ap, ◌∙◌, subst}
 use Rattle.std.proofs.lemmas.List.{drop-map, length-map}
 use Rattle.gr_scan.specs.declared.piece.Piece.{Piece}
-use Rattle.gr_scan.specs.declared.refusal.Fault.{Fault}
+use Rattle.gr_scan.specs.declared.refusal.TextFault.{TextFault}
 use Rattle.gr_scan.specs.Cuts.{IsCut}
 use Rattle.gr_scan.specs.CutText.{CutText, tokens_in}
 use Rattle.gr_edit.specs.Edits.{edited_text}
@@ -33,7 +33,7 @@ module _ (c : CutText) (edits : List Edit) (cut : IsCut c.text c.pieces) (are : 
       ∙ ap (begins_at new) (drop-map move (length old - left) old)
       ∙ begins_moved (drop (length old - left) old)
 
-pub fault_moves : (c : CutText) (edits : List Edit) (fault : Fault) → IsCut c.text c.pieces → AreNameEdits c.pieces edits → KeepKinds c.text edits →
+pub fault_moves : (c : CutText) (edits : List Edit) (fault : TextFault) → IsCut c.text c.pieces → AreNameEdits c.pieces edits → KeepKinds c.text edits →
     IsParseFault c fault → IsParseFault (recut edits c) (moved_fault edits fault)
 fault_moves c edits fault cut are keep is = record {
   kind = is.kind;

@@ -1,7 +1,7 @@
 -- A file in which names are replaced.
 use Rattle.std.specs.Prelude.{◌≡◌, ℕ, List}
 use Rattle.std.specs.List.{All, slice_range}
-use Rattle.gr_scan.specs.declared.refusal.Fault.{Fault}
+use Rattle.gr_scan.specs.declared.refusal.TextFault.{TextFault}
 use Rattle.gr_edit.specs.Moved.{moved_offset}
 use Rattle.gr_edit.specs.declared.edit.Edit.{Edit}
 use Rattle.gr_tree.specs.Kinds.{kind_of_name}
@@ -17,5 +17,5 @@ abbrev pub renamed_file : List Edit → SourceFile → SourceFile
 renamed_file edits f = record { path = f.path; cut = recut edits f.cut; tree = f.tree }
 
 -- a fault where edits move it
-abbrev pub moved_fault : List Edit → Fault → Fault
+abbrev pub moved_fault : List Edit → TextFault → TextFault
 moved_fault edits fault = record { kind = fault.kind; offset = moved_offset edits fault.offset }

@@ -4,7 +4,7 @@ ghost use Rattle.std.specs.List.{Contains};
 ghost use Rattle.gr_scan.specs.declared.piece.Class.{Class};
 ghost use Rattle.gr_scan.specs.declared.piece.Class.TheVariants.{ByteOrderMark, Name};
 ghost use Rattle.gr_scan.specs.declared.piece.Piece.{Piece};
-ghost use Rattle.gr_scan.specs.declared.refusal.Fault.{Fault};
+ghost use Rattle.gr_scan.specs.declared.refusal.TextFault.{TextFault};
 ghost use Rattle.gr_scan.specs.Contexts.{MayFollow};
 ghost use Rattle.gr_scan.specs.CutText.{CutText, tokens_in};
 ghost use Rattle.gr_scan.specs.Cuts.{IsCut, bytes_of};
@@ -94,6 +94,6 @@ pub fn renamed_tokens_are_spelled()
 
 /// Where the tokens of the old text are no file, those of the new one break the same rule, at the place to which the edits move it.
 pub fn renamed_fault_is_moved()
-    ensures { (c : CutText) (edits : List Edit) (fault : Fault) → IsCut c.text c.pieces → AreNameEdits c.pieces edits → KeepKinds c.text edits →
+    ensures { (c : CutText) (edits : List Edit) (fault : TextFault) → IsCut c.text c.pieces → AreNameEdits c.pieces edits → KeepKinds c.text edits →
         IsParseFault c fault → IsParseFault (recut edits c) (moved_fault edits fault) }
 {}

@@ -1,8 +1,8 @@
 -- The values of a list as they are found, by their kinds.
 use Rattle.std.proofs.Common.{ℕ, ◌≡◌, Bool, true, false, List, [], ◌∷◌, length, Option, Some, None, refl, sym, ap, ◌∙◌, true≢false, if◌then◌else◌, suc, arith}
 use Rattle.gr_expr.specs.declared.types.Basic.{Basic}
-use Rattle.gr_expr.specs.declared.classes.Class.{Class}
-use Rattle.gr_expr.specs.declared.classes.Class.TheVariants as class
+use Rattle.gr_expr.specs.declared.classes.TypeClass.{TypeClass}
+use Rattle.gr_expr.specs.declared.classes.TypeClass.TheVariants as class
 use Rattle.gr_expr.specs.Types.{PlainType, Kind}
 use Rattle.gr_expr.specs.World.{World}
 use Rattle.gr_expr.specs.Operations.{fits, class_of, is_printed}
@@ -113,7 +113,7 @@ printed_true w (v ∷ vs) a none_printed = absurd a
 printed_true w (v ∷ vs) a (also i more) = and_both (is_printed_value w v.kind) (all_printed w vs)
     (ap (is_printed_value w) a.0 ∙ ap is_printed (class_true w i)) (printed_true w vs a.1 more)
 
-printed_class : (w : World) (k : Kind) (c : Class) → class_of w k ≡ c → is_printed c ≡ true → (b : Basic) × IsOf w k b
+printed_class : (w : World) (k : Kind) (c : TypeClass) → class_of w k ≡ c → is_printed c ≡ true → (b : Basic) × IsOf w k b
 printed_class w k (class.Of b) e h = (b, class_is w k b e)
 printed_class w k c e h = absurd (true≢false (sym h))
 

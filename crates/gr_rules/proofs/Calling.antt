@@ -4,8 +4,8 @@ use Rattle.std.proofs.Common.{if◌then◌else◌, eq-eqb, eqb-true, arith}
 use Rattle.gr_expr.specs.declared.types.Basic.TheVariants as basic
 use Rattle.gr_expr.specs.declared.types.Builtin.{Builtin}
 use Rattle.gr_expr.specs.declared.types.Builtin.TheVariants as builtin
-use Rattle.gr_expr.specs.declared.classes.Class.{Class}
-use Rattle.gr_expr.specs.declared.classes.Class.TheVariants as class
+use Rattle.gr_expr.specs.declared.classes.TypeClass.{TypeClass}
+use Rattle.gr_expr.specs.declared.classes.TypeClass.TheVariants as class
 use Rattle.gr_expr.specs.Types.{PlainType, BasicType, Underlying, Plain, PointerTo, SliceOf, Struct, Kind, Typed, Untyped, Nil, Signature, Meaning, Value}
 use Rattle.gr_expr.specs.Types.{TypeName, Function, BuiltinName, Package, Results, Broken, element_of}
 use Rattle.gr_expr.specs.World.{World, underlying}
@@ -163,7 +163,7 @@ slice_length w (Typed t) e = a_slice (slice_class (underlying w t) e).1
 slice_length w (Untyped b) e = cc
 slice_length w Nil e = cc
 
-length_kind : (w : World) (k : Kind) (c : Class) → class_of w k ≡ c → has_length c ≡ true → HasLength w k
+length_kind : (w : World) (k : Kind) (c : TypeClass) → class_of w k ≡ c → has_length c ≡ true → HasLength w k
 length_kind w k (class.Of basic.String) e h = a_string (class_is w k basic.String e)
 length_kind w k class.Slice e h = slice_length w k e
 length_kind w k c e h = absurd (true≢false (sym h))

@@ -2,8 +2,8 @@
 use Rattle.std.proofs.Common.{◌≡◌, true, ◌⊎◌, inl, inr, refl, sym, ap, subst, true≢false}
 use Rattle.gr_expr.specs.declared.types.Basic.{Basic}
 use Rattle.gr_expr.specs.declared.types.Basic.TheVariants as basic
-use Rattle.gr_expr.specs.declared.classes.Class.{Class}
-use Rattle.gr_expr.specs.declared.classes.Class.TheVariants as class
+use Rattle.gr_expr.specs.declared.classes.TypeClass.{TypeClass}
+use Rattle.gr_expr.specs.declared.classes.TypeClass.TheVariants as class
 use Rattle.gr_expr.specs.Types.{PlainType, Underlying, Plain, PointerTo, SliceOf, Struct, Kind, Typed, Untyped, Nil}
 use Rattle.gr_expr.specs.World.{World, underlying}
 use Rattle.gr_expr.specs.Operations.{class_of, class_of_underlying, is_int, is_bool, is_ordered}
@@ -47,15 +47,15 @@ pointer_comparable w (Typed t) h = a_pointer (pointer_class (underlying w t) h).
 pointer_comparable w (Untyped a) h = cc
 pointer_comparable w Nil h = cc
 
-pub int_class : (c : Class) → is_int c ≡ true → c ≡ class.Of basic.Int
+pub int_class : (c : TypeClass) → is_int c ≡ true → c ≡ class.Of basic.Int
 int_class (class.Of basic.Int) h = refl
 int_class c h = absurd (true≢false (sym h))
 
-pub bool_class : (c : Class) → is_bool c ≡ true → c ≡ class.Of basic.Bool
+pub bool_class : (c : TypeClass) → is_bool c ≡ true → c ≡ class.Of basic.Bool
 bool_class (class.Of basic.Bool) h = refl
 bool_class c h = absurd (true≢false (sym h))
 
-pub ordered_class : (c : Class) → is_ordered c ≡ true → (c ≡ class.Of basic.Int) ⊎ (c ≡ class.Of basic.String)
+pub ordered_class : (c : TypeClass) → is_ordered c ≡ true → (c ≡ class.Of basic.Int) ⊎ (c ≡ class.Of basic.String)
 ordered_class (class.Of basic.Int) h = inl refl
 ordered_class (class.Of basic.String) h = inr refl
 ordered_class c h = absurd (true≢false (sym h))

@@ -6,8 +6,8 @@ use Rattle.gr_tree.specs.declared.syntax.PrefixOp.{PrefixOp}
 use Rattle.gr_tree.specs.declared.syntax.PrefixOp.TheVariants as sign
 use Rattle.gr_expr.specs.declared.types.Basic.{Basic}
 use Rattle.gr_expr.specs.declared.types.Basic.TheVariants as basic
-use Rattle.gr_expr.specs.declared.classes.Class.{Class}
-use Rattle.gr_expr.specs.declared.classes.Class.TheVariants as class
+use Rattle.gr_expr.specs.declared.classes.TypeClass.{TypeClass}
+use Rattle.gr_expr.specs.declared.classes.TypeClass.TheVariants as class
 use Rattle.gr_expr.specs.declared.classes.Family.{Family}
 use Rattle.gr_expr.specs.declared.classes.Family.TheVariants as family
 use Rattle.gr_expr.specs.Types.{PlainType, Underlying, Plain, PointerTo, SliceOf, Struct, Kind, Typed, Untyped, Nil, Meaning, Value, same_type, same_basic}
@@ -173,7 +173,7 @@ with_nil w o q (left_fits a_constant f) h c = absurd (true≢false (sym h))
 with_nil w o q (of_one_kind a_constant) h c = absurd (true≢false (sym h))
 with_nil w o q (of_one_kind a_nil) h c = no_class c
 
-comparison : (w : World) (o : BinaryOp) (a b k : Kind) (c : Class) → IsEquality o → GoTogether w a b k → class_of w k ≡ c →
+comparison : (w : World) (o : BinaryOp) (a b k : Kind) (c : TypeClass) → IsEquality o → GoTogether w a b k → class_of w k ≡ c →
     compares_class (is_nil a || is_nil b) c ≡ true → Operates w o a b (Untyped basic.Bool)
 comparison w o a b k (class.Of x) q g e h = compares q g (a_basic (class_is w k x e))
 comparison w o a b k class.Pointer q g e h = compares q g (pointer_comparable w k e)

@@ -19,7 +19,7 @@ use Rattle.gr_scan.specs.declared.operators.Operator.{Operator}
 use Rattle.gr_scan.specs.declared.piece.Class.{Class}
 use Rattle.gr_scan.specs.declared.piece.Class.TheVariants as class
 use Rattle.gr_scan.specs.declared.piece.Piece.{Piece}
-use Rattle.gr_scan.specs.declared.refusal.Fault.{Fault}
+use Rattle.gr_scan.specs.declared.refusal.TextFault.{TextFault}
 use Rattle.gr_scan.specs.Characters.{continues_name}
 use Rattle.gr_scan.specs.Words.{IsNameRun}
 use Rattle.gr_scan.specs.Integers.{integer_value}
@@ -311,7 +311,7 @@ record HasCut (text : List ℕ) : Type 0 where
   pub cut : IsCut text pieces
 
 record HasFault (text : List ℕ) : Type 0 where
-  pub fault : Fault
+  pub fault : TextFault
   pub is_first : IsFirstFault text fault
 
 grow : (text : List ℕ) (ps : List Piece) (n : ℕ) → IsWellEncoded text → n ≤ length text → CutsUpTo text ps n
@@ -399,5 +399,5 @@ ill_text (b ∷ rest) never =
 cut_or_has_fault : (text : List ℕ) → HasCut text ⊎ HasFault text
 cut_or_has_fault text = ⊎_elim (well_cut text) (λ (no : IsWellEncoded text → ⊥). inr (ill_text text no)) (decide_well text)
 
-pub has_cut_or_fault : (text : List ℕ) → ((ps : List Piece) × IsCut text ps) ⊎ ((fault : Fault) × IsFirstFault text fault)
+pub has_cut_or_fault : (text : List ℕ) → ((ps : List Piece) × IsCut text ps) ⊎ ((fault : TextFault) × IsFirstFault text fault)
 has_cut_or_fault text = ⊎_elim (λ (is : HasCut text). inl (is.pieces, is.cut)) (λ (is : HasFault text). inr (is.fault, is.is_first)) (cut_or_has_fault text)

@@ -4,7 +4,7 @@ use Rattle.std.specs.Prelude.{nat_eq, flat_map}
 use Rattle.std.specs.List.{starts_with}
 use Rattle.std.proofs.lemmas.List.{take_all, drop_all}
 use Rattle.std.proofs.lemmas.Grind.{flat_map-append}
-use Rattle.gr_scan.specs.declared.refusal.Fault.{Fault}
+use Rattle.gr_scan.specs.declared.refusal.TextFault.{TextFault}
 use Rattle.gr_text.specs.declared.fault_kind.FaultKind.{FaultKind}
 use Rattle.gr_text.specs.declared.fault_kind.FaultKind.TheVariants as kinds
 use Rattle.gr_scan.specs.Pieces.{Breaks}
@@ -165,7 +165,7 @@ no_break_in_cut text from to (p ∷ ps) (q ∷ qs) kind place a b breaks =
     let end : p.span.end ≡ q.span.end = omega (arith, same.0, a.1, b.1) in
     no_break_in_cut text q.span.end to ps qs kind place (subst (λ (k : ℕ). CutsTo text k ps to) end a.3) b.3 breaks
 
-pub cut_or_fault : (text : List ℕ) (ps : List Piece) (fault : Fault) → IsCut text ps → IsFirstFault text fault → ⊥
+pub cut_or_fault : (text : List ℕ) (ps : List Piece) (fault : TextFault) → IsCut text ps → IsFirstFault text fault → ⊥
 cut_or_fault text ps fault cut first =
     ⊎_elim
     (λ ill. ill.1.longest (length text) ill.1.short (omega arith) (subst IsWellEncoded (sym (take_all (length text) text (omega arith))) cut.encoded))

@@ -10,7 +10,7 @@ use Rattle.gr_text.specs.declared.fault_kind.FaultKind.TheVariants as kinds
 use Rattle.gr_scan.specs.declared.operators.Operator.TheVariants.{Divide, Period}
 use Rattle.gr_scan.specs.declared.piece.Class.TheVariants as class
 use Rattle.gr_scan.specs.declared.piece.Piece.{Piece}
-use Rattle.gr_scan.specs.declared.refusal.Fault.{Fault}
+use Rattle.gr_scan.specs.declared.refusal.TextFault.{TextFault}
 use Rattle.gr_scan.specs.Strings.{IsBadString}
 use Rattle.gr_scan.specs.Pieces.{Breaks, IsBadInteger, IsFraction}
 use Rattle.gr_scan.specs.Families.{family_of}
@@ -119,7 +119,7 @@ one_place text from to other (p ∷ ps) (q ∷ qs) j k m n a b left right =
     let end : p.span.end ≡ q.span.end = omega (arith, same.0, a.1, b.1) in
     one_place text q.span.end to other ps qs j k m n (subst (λ (i : ℕ). CutsTo text i ps to) end a.3) b.3 left right
 
-same_fault : (f g : Fault) → f.kind ≡ g.kind → f.offset ≡ g.offset → f ≡ g
+same_fault : (f g : TextFault) → f.kind ≡ g.kind → f.offset ≡ g.offset → f ≡ g
 same_fault f g kind offset i = record { offset = offset i; kind = kind i }
 
 -- a text is ill encoded at one place, and then no rule of its pieces is broken first
@@ -133,13 +133,13 @@ one_ill_place text m n a b =
 ill_or_well : (text : List ℕ) (n : ℕ) → IsIllEncodedAt text n → IsWellEncoded text → ⊥
 ill_or_well text n ill well = ill.longest (length text) ill.short (omega arith) (subst IsWellEncoded (sym (take_all (length text) text (omega arith))) well)
 
-one_broken : (text : List ℕ) (f g : Fault) → BreaksFirst text f → BreaksFirst text g → f ≡ g
+one_broken : (text : List ℕ) (f g : TextFault) → BreaksFirst text f → BreaksFirst text g → f ≡ g
 one_broken text f g a b =
     let to = one_place text (mark_len text) a.to b.to a.cut.0 b.cut.0 f.kind g.kind a.place b.place a.cut.2 b.cut.2 a.breaks b.breaks in
     let broken = one_break f.kind g.kind a.place b.place (drop b.to text) (subst (λ (i : ℕ). Breaks f.kind a.place (drop i text)) to a.breaks) b.breaks in
     same_fault f g broken.0 (omega (arith, a.offset_is, b.offset_is, to, broken.1))
 
-pub one_fault : (text : List ℕ) (f g : Fault) → IsFirstFault text f → IsFirstFault text g → f ≡ g
+pub one_fault : (text : List ℕ) (f g : TextFault) → IsFirstFault text f → IsFirstFault text g → f ≡ g
 one_fault text f g a b =
     ⊎_elim
     (λ (ill : (f.kind ≡ kinds.Encoding) × IsIllEncodedAt text f.offset). ⊎_elim

@@ -4,7 +4,7 @@ use Rattle.std.specs.List.{starts_with}
 use Rattle.std.specs.Str.{IsUtf8}
 use Rattle.gr_scan.specs.declared.piece.Class.TheVariants.{ByteOrderMark}
 use Rattle.gr_scan.specs.declared.piece.Piece.{Piece}
-use Rattle.gr_scan.specs.declared.refusal.Fault.{Fault}
+use Rattle.gr_scan.specs.declared.refusal.TextFault.{TextFault}
 use Rattle.gr_text.specs.declared.fault_kind.FaultKind.TheVariants.{Encoding}
 use Rattle.gr_scan.specs.Pieces.{Stands, Breaks}
 
@@ -53,7 +53,7 @@ pub record IsCut (text : List ℕ) (ps : List Piece) : Type 0 where
   pub cut : CutsUpTo text ps (length text)
 
 -- a text has no cut, and this is why: it is ill encoded, or pieces lead up to a place at which a rule is broken
-pub record BreaksFirst (text : List ℕ) (fault : Fault) : Type 0 where
+pub record BreaksFirst (text : List ℕ) (fault : TextFault) : Type 0 where
   pub encoded : IsWellEncoded text
   pub pieces : List Piece
   pub to : ℕ
@@ -62,5 +62,5 @@ pub record BreaksFirst (text : List ℕ) (fault : Fault) : Type 0 where
   pub breaks : Breaks fault.kind place (drop to text)
   pub offset_is : fault.offset ≡ to + place
 
-abbrev pub IsFirstFault : List ℕ → Fault → Type 0
+abbrev pub IsFirstFault : List ℕ → TextFault → Type 0
 IsFirstFault text fault = ((fault.kind ≡ Encoding) × IsIllEncodedAt text fault.offset) ⊎ BreaksFirst text fault

@@ -4,7 +4,7 @@ use Rattle.std.specs.Prelude.{MatchResult}
 use Rattle.bstr.specs.Find.{OccursAt}
 use Rattle.bstr.specs.Utf8.{decoded}
 use Rattle.gr_scan.specs.declared.piece.Class.{Class}
-use Rattle.gr_scan.specs.declared.refusal.Fault.{Fault}
+use Rattle.gr_scan.specs.declared.refusal.TextFault.{TextFault}
 use Rattle.gr_scan.specs.Characters.{is_letter}
 use Rattle.gr_scan.specs.Pieces.{Stands, Breaks}
 use Rattle.std.specs.Char.{is_digit}
@@ -35,5 +35,5 @@ pub record MayBeOperator (text : List ℕ) : Type 0 where
   pub no_comment : OccursAt text comment_opening 0 → ⊥
 
 -- the piece at the front and its length, or the rule that is broken there
-abbrev pub IsFront : List ℕ → Result (Class × ℕ) Fault → Type 0
+abbrev pub IsFront : List ℕ → Result (Class × ℕ) TextFault → Type 0
 IsFront text result = MatchResult result (λ p. Stands text p.0 p.1) (λ f. Breaks f.kind f.offset text)

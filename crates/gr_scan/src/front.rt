@@ -12,17 +12,17 @@ use crate::integers::{integer_len, integer_value};
 use crate::keywords::keyword_of;
 use crate::operators::operator_at;
 use crate::piece::Class;
-use crate::refusal::Fault;
+use crate::refusal::TextFault;
 use crate::strings::{raw_string, string};
 use crate::trivia::{general_comment_len, line_comment_len};
 use crate::words::name_run;
 use bstr::decode_utf8;
 use gr_text::FaultKind;
 
-fn fault(kind: FaultKind) -> Result<(Class, usize), Fault>
+fn fault(kind: FaultKind) -> Result<(Class, usize), TextFault>
     ensures { result ≡ Err (record { offset = 0; kind = kind }) }
 {
-    Err(Fault { offset: 0, kind })
+    Err(TextFault { offset: 0, kind })
 }
 
 fn begins_with_letter(bytes: &[u8]) -> bool
@@ -44,7 +44,7 @@ fn spoils_number(bytes: &[u8]) -> bool
     }
 }
 
-fn blank(bytes: &[u8]) -> Result<(Class, usize), Fault>
+fn blank(bytes: &[u8]) -> Result<(Class, usize), TextFault>
     requires some { 0 < length bytes.now }
     requires first { is_blank (slice_index bytes.now 0) ≡ true }
     ensures { IsFront bytes.now result }
@@ -52,7 +52,7 @@ fn blank(bytes: &[u8]) -> Result<(Class, usize), Fault>
     Ok((Class::Blank, 1))
 }
 
-fn newline(bytes: &[u8]) -> Result<(Class, usize), Fault>
+fn newline(bytes: &[u8]) -> Result<(Class, usize), TextFault>
     requires some { 0 < length bytes.now }
     requires first { slice_index bytes.now 0 ≡ 10 }
     ensures { IsFront bytes.now result }
@@ -61,7 +61,7 @@ fn newline(bytes: &[u8]) -> Result<(Class, usize), Fault>
 }
 
 /// A name or a keyword.
-fn word(bytes: &[u8]) -> Result<(Class, usize), Fault>
+fn word(bytes: &[u8]) -> Result<(Class, usize), TextFault>
     requires some { 0 < length bytes.now }
     requires first { starts_word (slice_index bytes.now 0) ≡ true }
     ensures { IsFront bytes.now result }
@@ -76,7 +76,7 @@ fn word(bytes: &[u8]) -> Result<(Class, usize), Fault>
     }
 }
 
-fn number(bytes: &[u8]) -> Result<(Class, usize), Fault>
+fn number(bytes: &[u8]) -> Result<(Class, usize), TextFault>
     requires some { 0 < length bytes.now }
     requires first { is_digit (slice_index bytes.now 0) 10 ≡ true }
     ensures { IsFront bytes.now result }
@@ -91,14 +91,14 @@ fn number(bytes: &[u8]) -> Result<(Class, usize), Fault>
     }
 }
 
-fn line_comment(bytes: &[u8]) -> Result<(Class, usize), Fault>
+fn line_comment(bytes: &[u8]) -> Result<(Class, usize), TextFault>
     requires { OccursAt bytes.now line_opening 0 }
     ensures { IsFront bytes.now result }
 {
     Ok((Class::LineComment, line_comment_len(bytes)))
 }
 
-fn general_comment(bytes: &[u8]) -> Result<(Class, usize), Fault>
+fn general_comment(bytes: &[u8]) -> Result<(Class, usize), TextFault>
     requires { OccursAt bytes.now comment_opening 0 }
     ensures { IsFront bytes.now result }
 {
@@ -115,7 +115,7 @@ fn is_fraction(bytes: &[u8]) -> bool
     bytes.len() > 1 && bytes[0] == b'.' && char::from(bytes[1]).is_digit(10)
 }
 
-fn operator(bytes: &[u8]) -> Result<(Class, usize), Fault>
+fn operator(bytes: &[u8]) -> Result<(Class, usize), TextFault>
     requires { MayBeOperator bytes.now }
     ensures { IsFront bytes.now result }
 {
@@ -129,7 +129,7 @@ fn operator(bytes: &[u8]) -> Result<(Class, usize), Fault>
 }
 
 /// The piece at the front of some bytes and how many bytes it has, or the rule that is broken there.
-pub fn front(bytes: &[u8]) -> Result<(Class, usize), Fault>
+pub fn front(bytes: &[u8]) -> Result<(Class, usize), TextFault>
     requires { 0 < length bytes.now }
     ensures { IsFront bytes.now result }
 {

@@ -2,7 +2,7 @@
 ghost use Rattle.std.specs.Prelude.{◌≡◌, ◌⊎◌, ◌++◌, ℕ, take, drop, List, flat_map, length};
 ghost use Rattle.gr_scan.specs.declared.piece.Class.{Class};
 ghost use Rattle.gr_scan.specs.declared.piece.Piece.{Piece};
-ghost use Rattle.gr_scan.specs.declared.refusal.Fault.{Fault};
+ghost use Rattle.gr_scan.specs.declared.refusal.TextFault.{TextFault};
 ghost use Rattle.std.specs.List.{AllByRecursion};
 ghost use Rattle.gr_scan.specs.Cuts.{bytes_of, IsCut, IsFirstFault};
 ghost use Rattle.gr_scan.specs.Spans.{CoversFrom, AreInOrder, IsPieceText, IsTokenText};
@@ -18,17 +18,17 @@ pub fn one_cut()
 
 /// A text that has a cut has no fault.
 pub fn cut_or_fault()
-    ensures { (text : List ℕ) (ps : List Piece) (fault : Fault) → IsCut text ps → IsFirstFault text fault → ⊥ }
+    ensures { (text : List ℕ) (ps : List Piece) (fault : TextFault) → IsCut text ps → IsFirstFault text fault → ⊥ }
 {}
 
 /// A text that has no cut has a first fault.
 pub fn has_cut_or_fault()
-    ensures { (text : List ℕ) → ((ps : List Piece) × IsCut text ps) ⊎ ((fault : Fault) × IsFirstFault text fault) }
+    ensures { (text : List ℕ) → ((ps : List Piece) × IsCut text ps) ⊎ ((fault : TextFault) × IsFirstFault text fault) }
 {}
 
 /// A text has at most one first fault.
 pub fn one_fault()
-    ensures { (text : List ℕ) (f g : Fault) → IsFirstFault text f → IsFirstFault text g → f ≡ g }
+    ensures { (text : List ℕ) (f g : TextFault) → IsFirstFault text f → IsFirstFault text g → f ≡ g }
 {}
 
 /// The bytes of the pieces of a cut are the text.

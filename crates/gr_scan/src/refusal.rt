@@ -7,7 +7,7 @@ use std::alloc::{AllocError, AllocFailed};
 
 /// The rule that a text breaks, and the byte offset at which it does.
 #[derive(Clone, Copy, Debug, PartialEq, Eq)]
-pub struct Fault {
+pub struct TextFault {
     pub offset: usize,
     pub kind: FaultKind,
 }
@@ -15,7 +15,7 @@ pub struct Fault {
 /// Why a text was not cut: its first fault, or want of memory.
 #[derive(Debug, Drop)]
 pub enum ScanRefusal {
-    Fault(Fault),
+    TextFault(TextFault),
     Memory,
 }
 

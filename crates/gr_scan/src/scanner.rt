@@ -8,7 +8,7 @@ use crate::encoding::encoding_fault;
 use crate::front::front;
 use crate::piece::{Class, Piece};
 use crate::pieces::Pieces;
-use crate::refusal::{Fault, ScanRefusal};
+use crate::refusal::{TextFault, ScanRefusal};
 use crate::tokens::{add_piece, semicolon};
 use crate::trail::Trail;
 use gr_text::{FaultKind, FileText, Span};
@@ -38,7 +38,7 @@ fn cut(alloc: Global, text: &[u8]) -> Result<(Trail<Piece>, Vec<Piece>), ScanRef
 {
     if let Some(offset) = encoding_fault(text) {
         let kind = FaultKind::Encoding;
-        return Err(ScanRefusal::Fault(Fault { offset, kind }));
+        return Err(ScanRefusal::Fault(TextFault { offset, kind }));
     }
     let mut tokens = Vec::new(alloc);
     let mut due = None;
@@ -53,9 +53,9 @@ fn cut(alloc: Global, text: &[u8]) -> Result<(Trail<Piece>, Vec<Piece>), ScanRef
                 pieces = pieces.and(&piece);
                 at = end;
             }
-            Err(Fault { offset, kind }) => {
+            Err(TextFault { offset, kind }) => {
                 let offset = at + offset;
-                return Err(ScanRefusal::Fault(Fault { offset, kind }));
+                return Err(ScanRefusal::Fault(TextFault { offset, kind }));
             }
         }
     }

@@ -9,7 +9,7 @@ ghost use Rattle.gr_scan.specs.Strings.{is_plain, is_plain_escape, IsStringRun};
 
 use crate::integers::{is_digit, number_in};
 use crate::piece::Class;
-use crate::refusal::Fault;
+use crate::refusal::TextFault;
 use gr_text::FaultKind;
 use memchr::memchr;
 
@@ -131,7 +131,7 @@ fn parts_end(bytes: &[u8]) -> usize
 }
 
 /// An interpreted string.
-pub fn string(bytes: &[u8]) -> Result<(Class, usize), Fault>
+pub fn string(bytes: &[u8]) -> Result<(Class, usize), TextFault>
     requires some { 0 < length bytes.now }
     requires first { slice_index bytes.now 0 ≡ 34 }
     ensures { IsFront bytes.now result }
@@ -139,27 +139,27 @@ pub fn string(bytes: &[u8]) -> Result<(Class, usize), Fault>
     let end = parts_end(bytes);
     let kind = FaultKind::String;
     if end == bytes.len() {
-        return Err(Fault { offset: 0, kind });
+        return Err(TextFault { offset: 0, kind });
     }
     let byte = bytes[end];
     if byte == b'"' {
         Ok((Class::InterpretedString, end + 1))
     } else if byte == b'\\' {
-        Err(Fault { offset: end, kind })
+        Err(TextFault { offset: end, kind })
     } else {
-        Err(Fault { offset: 0, kind })
+        Err(TextFault { offset: 0, kind })
     }
 }
 
 /// A raw string.
-pub fn raw_string(bytes: &[u8]) -> Result<(Class, usize), Fault>
+pub fn raw_string(bytes: &[u8]) -> Result<(Class, usize), TextFault>
     requires some { 0 < length bytes.now }
     requires first { slice_index bytes.now 0 ≡ 96 }
     ensures { IsFront bytes.now result }
 {
     match memchr(b'`', &bytes[1..]) {
         Some(body) => Ok((Class::RawString, body + 2)),
-        None => Err(Fault {
+        None => Err(TextFault {
             offset: 0,
             kind: FaultKind::String,
         }),

@@ -4,7 +4,7 @@ use Rattle.std.proofs.lemmas.Grind.{common_steps}
 use Rattle.std.specs.Prelude.{◌↔◌}
 use Rattle.std.proofs.lemmas.Bool.{cases_order}
 use Rattle.indexmap.specs.IndexMap.{IndexMap}
-use Rattle.gr_scope.specs.declared.links.Key.{Key}
+use Rattle.gr_scope.specs.declared.links.LinkKey.{LinkKey}
 use Rattle.gr_scope.specs.declared.model.Identifier.{Identifier}
 use Rattle.gr_scope.specs.Bindings.{Layout, Names, Declares}
 use Rattle.gr_scope.specs.Chains.{AreLinks}
@@ -53,7 +53,7 @@ pub marks_none : (P : ℕ → Type 0) (marks : List Bool) → marks ≡ [] → A
 marks_none P marks e = record { sized = ap length e; exact = λ d x lt. absurd (omega arith) }
 
 -- the links and marks of one more identifier
-pub first_next : {S : Type 0} (xs : List Identifier) (numbers : List ℕ) (n : ℕ) (after : IndexMap Key ℕ S) (new : List (Option ℕ))
+pub first_next : {S : Type 0} (xs : List Identifier) (numbers : List ℕ) (n : ℕ) (after : IndexMap LinkKey ℕ S) (new : List (Option ℕ))
     (declaring marked leading led : List Bool) (mark lead : Bool) →
     AreLinks (layout_of xs) (told numbers) after new → length new ≡ n + 1 → AreMarks (Declares (layout_of xs) (told numbers)) n declaring →
     marked ≡ declaring ++ (mark ∷ []) →

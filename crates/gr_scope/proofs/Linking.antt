@@ -4,8 +4,8 @@ use Rattle.std.proofs.Common.{true, false, cond, length-append, refl}
 use Rattle.std.proofs.lemmas.Grind.{common_steps}
 use Rattle.std.specs.Prelude.{◌↔◌}
 use Rattle.std.proofs.lemmas.Bool.{cases_order}
-use Rattle.gr_scope.specs.contracts.links.KeyPartialEq.TheImpl as equal
-use Rattle.gr_scope.specs.declared.links.Key.{Key}
+use Rattle.gr_scope.specs.contracts.links.LinkKeyPartialEq.TheImpl as equal
+use Rattle.gr_scope.specs.declared.links.LinkKey.{LinkKey}
 use Rattle.gr_scope.specs.declared.region.Region.{Region}
 use Rattle.indexmap.specs.IndexMap.{IndexMap, get}
 use Rattle.gr_scope.specs.Bindings.{Layout, Names}
@@ -78,14 +78,14 @@ module _ {K : Type 0} where
   no_links D keys = record { sized = refl; before = λ d x lt m. absurd (omega arith) }
 
 -- keys that compare as equal are one name in one region
-equal_fields : (x y : Key) → equal.ghosts.eq x y ≡ true ↔ ((x.name ≡ y.name) × (x.region ≡ y.region))
+equal_fields : (x y : LinkKey) → equal.ghosts.eq x y ≡ true ↔ ((x.name ≡ y.name) × (x.region ≡ y.region))
 equal_fields x y = search rules
 
 alone : List ℕ → ℕ
 alone [] = 0
 alone (n ∷ ns) = n
 
-key_decides : (x y : Key) → (equal.ghosts.eq x y ≡ true → key_of x ≡ key_of y) × (key_of x ≡ key_of y → equal.ghosts.eq x y ≡ true)
+key_decides : (x y : LinkKey) → (equal.ghosts.eq x y ≡ true → key_of x ≡ key_of y) × (key_of x ≡ key_of y → equal.ghosts.eq x y ≡ true)
 unfolding alone
 key_decides x y = (
   (λ e. let h = (equal_fields x y).0 e in pair_same (x.name ∷ []) (y.name ∷ []) x.region y.region (ap (λ n. n ∷ []) h.0) h.1),
@@ -93,8 +93,8 @@ key_decides x y = (
 )
 
 -- the links of no identifiers
-pub links_none : {S : Type 0} (l : Layout) (names : Names) (last : IndexMap Key ℕ S) (previous : List (Option ℕ)) → previous ≡ [] →
-    ((key : Key) → get equal.ghosts.eq last key ≡ None) →
+pub links_none : {S : Type 0} (l : Layout) (names : Names) (last : IndexMap LinkKey ℕ S) (previous : List (Option ℕ)) → previous ≡ [] →
+    ((key : LinkKey) → get equal.ghosts.eq last key ≡ None) →
     AreLinks l names last previous
 links_none l names last previous e none =
     let P : List (Option ℕ) → Type 0 = λ xs. AreLinks l names last xs in
@@ -106,15 +106,15 @@ links_none l names last previous e none =
     })
 
 -- one more identifier, which leads or not
-module _ {S : Type 0} (l : Layout) (names : Names) (d : ℕ) (last after : IndexMap Key ℕ S) (previous new : List (Option ℕ)) (before : Option ℕ) where
+module _ {S : Type 0} (l : Layout) (names : Names) (d : ℕ) (last after : IndexMap LinkKey ℕ S) (previous new : List (Option ℕ)) (before : Option ℕ) where
   links_by : length previous ≡ d → new ≡ previous ++ (before ∷ []) → AreLinks l names last previous →
-      ((key : Key) → IsLastBelow (Leads l names) (keys_of l names) (key_of key) d (get equal.ghosts.eq last key) →
+      ((key : LinkKey) → IsLastBelow (Leads l names) (keys_of l names) (key_of key) d (get equal.ghosts.eq last key) →
       IsLastBelow (Leads l names) (keys_of l names) (key_of key) (d + 1) (get equal.ghosts.eq after key)) →
       (Leads l names d → IsLastBelow (Leads l names) (keys_of l names) (keys_of l names d) d before) → AreLinks l names after new
   links_by s e h up own =
-      let N : ℕ → Type 0 = λ n. (key : Key) → IsLastBelow (Leads l names) (keys_of l names) (key_of key) n (get equal.ghosts.eq last key) in
+      let N : ℕ → Type 0 = λ n. (key : LinkKey) → IsLastBelow (Leads l names) (keys_of l names) (key_of key) n (get equal.ghosts.eq last key) in
       let L : ℕ → Type 0 = λ n. IsLinked (Leads l names) (keys_of l names) n previous in
-      let M : ℕ → Type 0 = λ n. (key : Key) → IsLastBelow (Leads l names) (keys_of l names) (key_of key) n (get equal.ghosts.eq after key) in
+      let M : ℕ → Type 0 = λ n. (key : LinkKey) → IsLastBelow (Leads l names) (keys_of l names) (key_of key) n (get equal.ghosts.eq after key) in
       let K : ℕ → Type 0 = λ n. IsLinked (Leads l names) (keys_of l names) n new in
       let z : d + 1 ≡ length new = sym (ap length e ∙ length-append previous (before ∷ []) ∙ (omega arith)) in
       record {
@@ -122,9 +122,9 @@ module _ {S : Type 0} (l : Layout) (names : Names) (d : ℕ) (last after : Index
         linked = subst K z (linked_next (Leads l names) (keys_of l names) d previous new before (subst L s h.linked) e own);
       }
 
-  pub links_with : (own : Key) → length previous ≡ d → new ≡ previous ++ (before ∷ []) → AreLinks l names last previous → Leads l names d →
+  pub links_with : (own : LinkKey) → length previous ≡ d → new ≡ previous ++ (before ∷ []) → AreLinks l names last previous → Leads l names d →
       keys_of l names d ≡ key_of own →
-      before ≡ get equal.ghosts.eq last own → ((key : Key) →
+      before ≡ get equal.ghosts.eq last own → ((key : LinkKey) →
       get equal.ghosts.eq after key ≡ cond (equal.ghosts.eq own key) (Some d) (get equal.ghosts.eq last key)) → AreLinks l names after new
   links_with own s e h m k b up =
       let N : ℕ → Type 0 = λ n. IsLastBelow (Leads l names) (keys_of l names) (key_of own) n (get equal.ghosts.eq last own) in
@@ -140,8 +140,8 @@ module _ {S : Type 0} (l : Layout) (names : Names) (d : ℕ) (last after : Index
   pub links_without : length previous ≡ d → new ≡ previous ++ (before ∷ []) → AreLinks l names last previous → (Leads l names d → ⊥) → after ≡ last →
       AreLinks l names after new
   links_without s e h m same =
-      let kept : (x : IndexMap Key ℕ S) → x ≡ last → (key : Key) → IsLastBelow (Leads l names) (keys_of l names) (key_of key) d (get equal.ghosts.eq last key) →
+      let kept : (x : IndexMap LinkKey ℕ S) → x ≡ last → (key : LinkKey) → IsLastBelow (Leads l names) (keys_of l names) (key_of key) d (get equal.ghosts.eq last key) →
       IsLastBelow (Leads l names) (keys_of l names) (key_of key) (d + 1) (get equal.ghosts.eq x key) = λ x ex key below.
-      (let P : IndexMap Key ℕ S → Type 0 = λ y. IsLastBelow (Leads l names) (keys_of l names) (key_of key) (d + 1) (get equal.ghosts.eq y key) in
+      (let P : IndexMap LinkKey ℕ S → Type 0 = λ y. IsLastBelow (Leads l names) (keys_of l names) (key_of key) (d + 1) (get equal.ghosts.eq y key) in
       subst P (sym ex) (last_kept (Leads l names) (keys_of l names) (key_of key) d (get equal.ghosts.eq last key) m below)) in
       links_by s e h (kept after same) (λ n. absurd (m n))

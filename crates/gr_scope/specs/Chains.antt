@@ -9,8 +9,8 @@ use Rattle.gr_scope.specs.Scopes.{Nests}
 use Rattle.gr_scope.specs.declared.model.Block.{Block}
 use Rattle.gr_scope.specs.declared.model.Block.TheVariants.{Package}
 use Rattle.gr_scope.specs.declared.model.Identifier.{Identifier}
-use Rattle.gr_scope.specs.declared.links.Key.{Key}
-use Rattle.gr_scope.specs.contracts.links.KeyPartialEq.TheImpl as equal
+use Rattle.gr_scope.specs.declared.links.LinkKey.{LinkKey}
+use Rattle.gr_scope.specs.contracts.links.LinkKeyPartialEq.TheImpl as equal
 
 -- d is such a number, and has the key
 abbrev pub IsKeyed : {K : Type 0} → (ℕ → Type 0) → (ℕ → K) → K → ℕ → Type 0
@@ -33,12 +33,12 @@ pub record IsChain {K : Type 0} (D : ℕ → Type 0) (keys : ℕ → K) (key : K
 
 -- of each name in each region the last of so many identifiers that comes first of its name in its block, and of each such
 -- identifier the last one before it of its name and region
-pub record AreLinks {S : Type 0} (l : Layout) (names : Names) (last : IndexMap Key ℕ S) (previous : List (Option ℕ)) : Type 0 where
-  pub lasts : (key : Key) → IsLastBelow (Leads l names) (keys_of l names) (key_of key) (length previous) (get equal.ghosts.eq last key)
+pub record AreLinks {S : Type 0} (l : Layout) (names : Names) (last : IndexMap LinkKey ℕ S) (previous : List (Option ℕ)) : Type 0 where
+  pub lasts : (key : LinkKey) → IsLastBelow (Leads l names) (keys_of l names) (key_of key) (length previous) (get equal.ghosts.eq last key)
   pub linked : IsLinked (Leads l names) (keys_of l names) (length previous) previous
 
 -- the links of all identifiers
-pub record AreAllLinks {S : Type 0} (xs : List Identifier) (names : Names) (last : IndexMap Key ℕ S) (previous : List (Option ℕ)) : Type 0 where
+pub record AreAllLinks {S : Type 0} (xs : List Identifier) (names : Names) (last : IndexMap LinkKey ℕ S) (previous : List (Option ℕ)) : Type 0 where
   pub links : AreLinks (layout_of xs) names last previous
   pub sized : length previous ≡ length xs
 

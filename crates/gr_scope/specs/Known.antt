@@ -9,7 +9,7 @@ use Rattle.gr_scope.specs.Scoped.{ScopedPackage, layout_in, names_in}
 use Rattle.gr_scope.specs.Numbering.{told}
 use Rattle.gr_scope.specs.Table.{layout_of}
 use Rattle.gr_scope.specs.declared.model.Identifier.{Identifier}
-use Rattle.gr_scope.specs.declared.links.Key.{Key}
+use Rattle.gr_scope.specs.declared.links.LinkKey.{LinkKey}
 
 -- of each of so many numbers whether it is such
 pub record AreMarks (P : ℕ → Type 0) (n : ℕ) (marks : List Bool) : Type 0 where
@@ -18,7 +18,7 @@ pub record AreMarks (P : ℕ → Type 0) (n : ℕ) (marks : List Bool) : Type 0 
 
 -- the links of so many identifiers, which of them declare, and which come first of their name in their blocks, where names are told
 -- by their numbers
-pub record AreFirst {S : Type 0} (xs : List Identifier) (numbers : List ℕ) (n : ℕ) (last : IndexMap Key ℕ S) (previous : List (Option ℕ))
+pub record AreFirst {S : Type 0} (xs : List Identifier) (numbers : List ℕ) (n : ℕ) (last : IndexMap LinkKey ℕ S) (previous : List (Option ℕ))
     (declaring leading : List Bool) : Type 0 where
   pub links : AreLinks (layout_of xs) (told numbers) last previous
   pub sized : length previous ≡ n
@@ -26,7 +26,7 @@ pub record AreFirst {S : Type 0} (xs : List Identifier) (numbers : List ℕ) (n 
   pub firsts : AreMarks (Leads (layout_of xs) (told numbers)) n leading
 
 -- those of all identifiers
-pub record AreDeclared {S : Type 0} (xs : List Identifier) (numbers : List ℕ) (last : IndexMap Key ℕ S) (previous : List (Option ℕ))
+pub record AreDeclared {S : Type 0} (xs : List Identifier) (numbers : List ℕ) (last : IndexMap LinkKey ℕ S) (previous : List (Option ℕ))
     (declaring leading : List Bool) : Type 0 where
   pub links : AreAllLinks xs (told numbers) last previous
   pub marks : AreMarks (Declares (layout_of xs) (told numbers)) (length xs) declaring

@@ -4,7 +4,7 @@ use Rattle.gr_scope.specs.declared.model.Block.{Block}
 use Rattle.gr_scope.specs.declared.model.Block.TheVariants.{Universe, Package, File, Inner}
 use Rattle.gr_scope.specs.declared.region.Region.{Region}
 use Rattle.gr_scope.specs.declared.region.Region.TheVariants as regions
-use Rattle.gr_scope.specs.declared.links.Key.{Key}
+use Rattle.gr_scope.specs.declared.links.LinkKey.{LinkKey}
 use Rattle.gr_scope.specs.Bindings.{Layout, Names, block_of}
 
 -- the smallest of runs of so many sizes that holds two runs of the smallest size, or the file
@@ -28,7 +28,7 @@ Surrounds file zero at r = r ≡ regions.File file
 Surrounds file (suc sizes) at r = (r ≡ regions.Run file sizes at) ⊎ Surrounds file sizes (at / 16) r
 
 -- a name in a region, written as its number alone
-abbrev pub key_of : Key → List ℕ × Region
+abbrev pub key_of : LinkKey → List ℕ × Region
 key_of k = (k.name ∷ [], k.region)
 
 -- of each declaration its name, in the region where it is kept

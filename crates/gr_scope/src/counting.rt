@@ -8,8 +8,8 @@ ghost use Rattle.gr_scope.specs.WellFormed.{IsLaidOut};
 ghost use Rattle.gr_scope.specs.Numbering.{told, AreInner};
 ghost use Rattle.gr_scope.specs.Table.{layout_of};
 
-use crate::declaring::Declared;
-use crate::links::{Key, Links, first_in};
+use crate::declaring::DeclaredIn;
+use crate::links::{LinkKey, Links, first_in};
 use crate::model::{Block, Identifier, Role, Scope};
 use crate::nearest::binding;
 use crate::numbering::number_at;
@@ -53,7 +53,7 @@ impl Role {
 }
 
 /// Whether a declaration comes first of its name in its block.
-fn leads(identifiers: &[Identifier], declared: &Declared, d: usize) -> bool
+fn leads(identifiers: &[Identifier], declared: &DeclaredIn, d: usize) -> bool
     requires in_range { d < length identifiers.now }
     requires declared { AreDeclared identifiers.now declared.now.links.names.items declared.now.links.last declared.now.links.previous.items declared.now.declaring.items declared.now.leading.items }
     ensures { IsTrue result ↔ Leads (layout_of identifiers.now) (told declared.now.links.names.items) d }
@@ -79,11 +79,11 @@ fn is_package_level(identifiers: &[Identifier], links: &Links, name: usize) -> b
     ensures { IsTrue result ↔ IsInPackage (layout_of identifiers.now) (told links.now.names.items) (name ∷ []) }
 {
     let region = Region::Package;
-    first_in(identifiers, links, Key { name, region }, Block::Package).is_some()
+    first_in(identifiers, links, LinkKey { name, region }, Block::Package).is_some()
 }
 
 /// Whether an identifier is a declaration that counts.
-fn counts(identifiers: &[Identifier], declared: &Declared, d: usize) -> bool
+fn counts(identifiers: &[Identifier], declared: &DeclaredIn, d: usize) -> bool
     requires in_range { d < length identifiers.now }
     requires declared { AreDeclared identifiers.now declared.now.links.names.items declared.now.links.last declared.now.links.previous.items declared.now.declaring.items declared.now.leading.items }
     ensures { IsTrue result ↔ Counts (layout_of identifiers.now) (told declared.now.links.names.items) d }
@@ -92,7 +92,7 @@ fn counts(identifiers: &[Identifier], declared: &Declared, d: usize) -> bool
 }
 
 /// Whether an identifier is a lexical use.
-fn is_use(identifiers: &[Identifier], declared: &Declared, d: usize) -> bool
+fn is_use(identifiers: &[Identifier], declared: &DeclaredIn, d: usize) -> bool
     requires in_range { d < length identifiers.now }
     requires declared { AreDeclared identifiers.now declared.now.links.names.items declared.now.links.last declared.now.links.previous.items declared.now.declaring.items declared.now.leading.items }
     ensures { IsTrue result ↔ IsUse (layout_of identifiers.now) (told declared.now.links.names.items) d }
@@ -101,7 +101,7 @@ fn is_use(identifiers: &[Identifier], declared: &Declared, d: usize) -> bool
 }
 
 /// The declaration to which an identifier is bound.
-pub(crate) fn bound_to(identifiers: &[Identifier], declared: &Declared, d: usize) -> Option<usize>
+pub(crate) fn bound_to(identifiers: &[Identifier], declared: &DeclaredIn, d: usize) -> Option<usize>
     requires in_range { d < length identifiers.now }
     requires laid_out { IsLaidOut (layout_of identifiers.now) }
     requires inner { AreInner (layout_of identifiers.now) (length identifiers.now) declared.now.links.names.items declared.now.links.inner.items }

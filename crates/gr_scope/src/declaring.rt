@@ -17,7 +17,7 @@ use std::alloc::{AllocError, Global};
 
 /// Whether each identifier declares, whether it comes first of its name in its block, and the links of those that do.
 #[derive(Drop)]
-pub struct Declared {
+pub struct DeclaredIn {
     pub links: Links,
     pub declaring: Vec<bool>,
     pub leading: Vec<bool>,
@@ -117,7 +117,7 @@ fn standing_of(identifiers: &[Identifier], links: &Links, d: usize) -> Standing
     }
 }
 
-impl Declared {
+impl DeclaredIn {
     /// Adds the next identifier: two look-ups at most.
     fn add(&mut self, identifiers: &[Identifier], d: usize) -> Result<(), AllocError>
         requires in_range { d < length identifiers.now }
@@ -140,14 +140,14 @@ pub(crate) fn declared_of(
     alloc: Global,
     identifiers: &[Identifier],
     names: Vec<usize>,
-) -> Result<Declared, AllocError>
+) -> Result<DeclaredIn, AllocError>
     requires { IsLaidOut (layout_of identifiers.now) }
     ensures declared { IfOk result (λ r. AreDeclared identifiers.now r.links.names.items r.links.last r.links.previous.items r.declaring.items r.leading.items) }
     ensures names { IfOk result (λ r. r.links.names.items ≡ names.items) }
     ensures inner { IfOk result (λ r. AreInner (layout_of identifiers.now) (length identifiers.now) r.links.names.items r.links.inner.items) }
 {
     let inner = inner_names(alloc, identifiers, &names)?;
-    let mut declared = Declared {
+    let mut declared = DeclaredIn {
         links: Links::new(alloc, names, inner),
         declaring: Vec::new(alloc),
         leading: Vec::new(alloc),

@@ -9,7 +9,7 @@ ghost use Rattle.gr_scope.specs.WellFormed.{IsLaidOut};
 
 use crate::by_token::{ByToken, identifiers_by_token};
 use crate::counting::bound_to;
-use crate::declaring::{Declared, declared_of};
+use crate::declaring::{DeclaredIn, declared_of};
 use crate::identifiers::Identifiers;
 use crate::model::Identifier;
 use crate::numbering::numbers_of;
@@ -18,7 +18,7 @@ use std::alloc::{AllocError, Global};
 
 /// Whether each identifier declares; the declaration to which each is bound; and at each token the identifier that stands there.
 #[derive(Drop)]
-pub struct Known {
+pub struct KnownTable {
     pub declaring: Vec<bool>,
     pub bindings: Vec<Option<DeclId>>,
     pub numbers: ByToken,
@@ -26,7 +26,7 @@ pub struct Known {
 
 /// Whether each identifier declares, and the declaration to which it is bound.
 #[derive(Drop)]
-struct Bound {
+struct BoundRow {
     declaring: Vec<bool>,
     bindings: Vec<Option<DeclId>>,
 }
@@ -35,7 +35,7 @@ struct Bound {
 fn bindings_of(
     alloc: Global,
     identifiers: &[Identifier],
-    declared: &Declared,
+    declared: &DeclaredIn,
 ) -> Result<Vec<Option<DeclId>>, AllocError>
     requires laid_out { IsLaidOut (layout_of identifiers.now) }
     requires inner { AreInner (layout_of identifiers.now) (length identifiers.now) declared.now.links.names.items declared.now.links.inner.items }
@@ -54,20 +54,20 @@ fn told_bound(
     alloc: Global,
     identifiers: &[Identifier],
     names: Vec<usize>,
-) -> Result<Bound, AllocError>
+) -> Result<BoundRow, AllocError>
     requires { IsLaidOut (layout_of identifiers.now) }
     ensures { IfOk result (λ bound. AreBound (layout_of identifiers.now) (told names.items) (length identifiers.now) bound.declaring.items bound.bindings.items) }
 {
     let declared = declared_of(alloc, identifiers, names)?;
     let bindings = bindings_of(alloc, identifiers, &declared)?;
-    Ok(Bound {
+    Ok(BoundRow {
         declaring: declared.declaring,
         bindings,
     })
 }
 
 /// Which identifiers declare, and to what each is bound.
-fn bound_of(alloc: Global, identifiers: &[Identifier]) -> Result<Bound, AllocError>
+fn bound_of(alloc: Global, identifiers: &[Identifier]) -> Result<BoundRow, AllocError>
     requires { IsLaidOut (layout_of identifiers.now) }
     ensures { IfOk result (λ bound. AreBound (layout_of identifiers.now) (names_of identifiers.now) (length identifiers.now) bound.declaring.items bound.bindings.items) }
 {
@@ -76,13 +76,13 @@ fn bound_of(alloc: Global, identifiers: &[Identifier]) -> Result<Bound, AllocErr
 }
 
 /// What is kept of a package's identifiers.
-pub(crate) fn known_of(alloc: Global, identifiers: &Identifiers) -> Result<Known, AllocError>
+pub(crate) fn known_of(alloc: Global, identifiers: &Identifiers) -> Result<KnownTable, AllocError>
     ensures { IfOk result (λ known. AreKnown identifiers.now known.declaring.items known.bindings.items (number_at known.numbers)) }
 {
     identifiers.are_laid_out();
     let bound = bound_of(alloc, identifiers.as_slice())?;
     let numbers = identifiers_by_token(alloc, identifiers)?;
-    Ok(Known {
+    Ok(KnownTable {
         declaring: bound.declaring,
         bindings: bound.bindings,
         numbers,

@@ -18,7 +18,7 @@ use std::alloc::{AllocError, Global};
 
 /// A name in a region, by the name's number.
 #[derive(Clone, Copy, PartialEq, Eq, Hash)]
-pub struct Key {
+pub struct LinkKey {
     pub name: usize,
     pub region: Region,
 }
@@ -30,7 +30,7 @@ pub struct Key {
 pub struct Links {
     pub names: Vec<usize>,
     pub inner: Vec<bool>,
-    pub last: IndexMap<Key, usize>,
+    pub last: IndexMap<LinkKey, usize>,
     pub previous: Vec<Option<usize>>,
 }
 
@@ -42,11 +42,11 @@ pub struct Chain<'t> {
 }
 
 /// The name of an identifier, in the region where its declaration is kept.
-pub(crate) fn key_at(identifiers: &[Identifier], names: &[usize], d: usize) -> Key
+pub(crate) fn key_at(identifiers: &[Identifier], names: &[usize], d: usize) -> LinkKey
     requires { d < length identifiers.now }
     ensures { key_of result ≡ keys_of (layout_of identifiers.now) (told names.now) d }
 {
-    Key {
+    LinkKey {
         name: number_at(names, d),
         region: role_at(identifiers, d).block().region(),
     }
@@ -69,7 +69,7 @@ impl Links {
     }
 
     /// The declarations of a name in a region.
-    pub(crate) fn chain(&self, key: Key) -> Chain<'_>
+    pub(crate) fn chain(&self, key: LinkKey) -> Chain<'_>
         ensures { (l : Layout) (names : Names) → AreLinks l names self.now.last self.now.previous.items →
             IsChain (Leads l names) (keys_of l names) (key_of key) (length self.now.previous.items) result.last result.previous.now }
     {
@@ -117,7 +117,7 @@ fn lies_in(block: Block, outer: Block) -> bool
 pub(crate) fn first_in(
     identifiers: &[Identifier],
     links: &Links,
-    key: Key,
+    key: LinkKey,
     block: Block,
 ) -> Option<usize>
     requires within { length links.now.previous.items ≤ length identifiers.now }

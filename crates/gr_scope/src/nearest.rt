@@ -8,7 +8,7 @@ ghost use Rattle.gr_scope.specs.Regions.{Surrounds};
 ghost use Rattle.gr_scope.specs.Table.{IsCandidate, IsInner, IsNearer, IsNearest, TakesOver, layout_of};
 ghost use Rattle.gr_scope.specs.WellFormed.{IsLaidOut};
 
-use crate::links::{Key, Links};
+use crate::links::{LinkKey, Links};
 use crate::model::{Block, Identifier};
 use crate::numbering::{may_be_marked, number_at};
 use crate::region::{Region, SIZES};
@@ -117,7 +117,7 @@ fn nearest_in(
     ensures { let l = layout_of identifiers.now in
         IsNearest l (IsCandidate l (told links.now.names.items) (name ∷ []) (λ r. r ≡ region) u) result }
 {
-    let chain = links.chain(Key { name, region });
+    let chain = links.chain(LinkKey { name, region });
     let mut best: Option<usize> = None;
     let mut at = chain.last;
     while let Some(d) = at {

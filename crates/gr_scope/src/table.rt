@@ -8,7 +8,7 @@ ghost use Rattle.gr_scope.specs.Table.{StandsAt, IsFirstOf, IsFoundAt};
 ghost use Rattle.gr_scope.specs.WellFormed.{WellFormed};
 
 use crate::identifiers::Identifiers;
-use crate::known::Known;
+use crate::known::KnownTable;
 use crate::model::{Position, Role, Scope};
 use gr_text::Place;
 use gr_tree::FileTree;
@@ -21,7 +21,7 @@ pub type DeclId = usize;
 #[derive(Drop)]
 pub struct ScopeTable<'a> {
     identifiers: Identifiers<'a>,
-    known: Known,
+    known: KnownTable,
 }
 
 impl<'a> Model for ScopeTable<'a> {
@@ -42,7 +42,7 @@ impl<'a> Model for ScopeTable<'a> {
 
 impl<'a> ScopeTable<'a> {
     /// The table of a package's identifiers, with what is known of them.
-    pub(crate) fn new(identifiers: Identifiers<'a>, known: Known) -> ScopeTable<'a>
+    pub(crate) fn new(identifiers: Identifiers<'a>, known: KnownTable) -> ScopeTable<'a>
         requires { AreKnown identifiers known.declaring.items known.bindings.items (number_at known.numbers) }
         ensures { result ≡ identifiers.entry }
     {

@@ -1,7 +1,7 @@
 //! The graph of a workspace: its packages with their parsed files, and which imports which.
 use crate::assertion::holds;
 use crate::text::put;
-use gr_graph::{FaultyFile, Graph, Package, read_imports};
+use gr_graph::{FaultyFile, Graph, ParsedPackage, read_imports};
 use gr_text::{FaultKind, Files};
 use std::alloc::Global;
 use std::process::Abort;
@@ -59,7 +59,7 @@ fn is_fault_of_e(file: &FaultyFile) -> bool {
 }
 
 /// A file without a tree has its first fault.
-fn is_e(package: &Package) -> bool {
+fn is_e(package: &ParsedPackage) -> bool {
     package.trees.is_empty()
         && package.faulty.len() == 1
         && package.faulty.iter().all(is_fault_of_e)
@@ -109,7 +109,7 @@ fn a_graph_after_one_of_the_same_files(rt: HostRuntime) -> Result<(), Fail> {
 }
 
 /// How many imports the files of a package have.
-fn import_count(alloc: Global, package: &Package) -> Result<usize, Fail> {
+fn import_count(alloc: Global, package: &ParsedPackage) -> Result<usize, Fail> {
     let mut count = 0usize;
     for tree in &package.trees {
         count = count.saturating_add(read_imports(alloc, tree)?.len());

@@ -10,7 +10,7 @@ use Rattle.gr_expr.specs.Places.{first_token, place_of, place_of_links, place_be
 use Rattle.gr_expr.specs.World.{World, Locals}
 use Rattle.gr_expr.specs.Judge.{Judged, judge, judge_link, judge_value, judge_links, judge_arguments, select, index_rule, call_rule, followed}
 use Rattle.gr_expr.specs.Lists.{links_in}
-use Rattle.gr_expr.specs.declared.found.Found.{Found}
+use Rattle.gr_expr.specs.declared.found.FoundInFile.{FoundInFile}
 use Rattle.gr_expr.specs.Types.{Meaning}
 use Rattle.gr_expr.specs.Found.{Adds}
 use Rattle.gr_expr.proofs.Trees.{chain_tree, place_step}
@@ -92,7 +92,7 @@ chain_judged : (w : World) (ls : Locals) (e : ExprTree) (links : LinkTrees) →
 unfolding judge
 chain_judged w ls e links = refl
 
-pub chain_adds : (w : World) (ls : Locals) (e : ExprTree) (xs : List Link) (l : Link) {start place behind : ℕ} {old mid new : Found} {m r : Meaning} →
+pub chain_adds : (w : World) (ls : Locals) (e : ExprTree) (xs : List Link) (l : Link) {start place behind : ℕ} {old mid new : FoundInFile} {m r : Meaning} →
     start ≡ first_token e → place ≡ place_of e →
     behind ≡ place_of_links start place (links_in xs) → Adds (judge_links w ls start place (judge w ls e) (links_in xs)) old mid m →
     Adds (judge_link w ls start behind (link_view l no_link) m) mid new r →
@@ -134,7 +134,7 @@ chain_stands w ls e xs l {start} {place} {m} is_start is_place is =
     ∙ sym (stands_if w ls e (links_in (xs ++ (l ∷ [])))))))
 
 -- a chain without links
-pub bare_adds : (w : World) (ls : Locals) (e : ExprTree) (xs : List Link) {old new : Found} {m : Meaning} → xs ≡ [] → Adds (judge w ls e) old new m →
+pub bare_adds : (w : World) (ls : Locals) (e : ExprTree) (xs : List Link) {old new : FoundInFile} {m : Meaning} → xs ≡ [] → Adds (judge w ls e) old new m →
     Adds (judge w ls (Chain e (links_in xs))) old new m
 bare_adds w ls e xs is a =
     adds_as a (sym (ap (λ x. judge w ls (Chain e (links_in x))) is ∙

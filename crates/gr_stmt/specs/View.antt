@@ -3,21 +3,21 @@ use Rattle.std.specs.Prelude.{ℕ, ◌≡◌, ◌==◌, Bool, List, ◌++◌, op
 use Rattle.std.specs.Cmp.Lexicographic.{pointwise}
 use Rattle.gr_expr.specs.declared.world.World.{World}
 use Rattle.gr_expr.specs.WorldView.{name_in, spelling_of}
-use Rattle.gr_expr.specs.declared.found.Found.{Found}
+use Rattle.gr_expr.specs.declared.found.FoundInFile.{FoundInFile}
 use Rattle.gr_expr.specs.World.{Locals}
 use Rattle.gr_expr.specs.View.{type_of}
 use Rattle.gr_expr.specs.Found.{use_of, locals_of}
 use Rattle.gr_stmt.specs.declared.sides.Target.{Target}
 use Rattle.gr_stmt.specs.declared.sides.Target.TheVariants as target
-use Rattle.gr_stmt.specs.declared.checked.Checked.{Checked}
+use Rattle.gr_stmt.specs.declared.checked.CheckedBody.{CheckedBody}
 use Rattle.gr_stmt.specs.Checked as pure
 use Rattle.gr_stmt.specs.Sides as sides
 use Rattle.gr_stmt.specs.Headers.{ResultsJudged}
 
-abbrev pub checked_with : Locals → Found → pure.Checked
+abbrev pub checked_with : Locals → FoundInFile → pure.Checked
 checked_with ls f = record { locals = ls; faults = f.faults.items; uses = map use_of f.uses.items }
 
-abbrev pub checked_of : Checked → pure.Checked
+abbrev pub checked_of : CheckedBody → pure.Checked
 checked_of s = checked_with (locals_of s.locals) s.found
 
 unfoldable pub target_of : Target → sides.Target
@@ -25,19 +25,19 @@ target_of target.Takes = sides.Takes
 target_of (target.Wants t) = sides.Wants (option_map type_of t)
 
 -- what a call added: left sides, with their targets as the result
-pub record AddsLefts (l : sides.Lefts) (old new : Found) (ts : List sides.Target) : Type 0 where
+pub record AddsLefts (l : sides.Lefts) (old new : FoundInFile) (ts : List sides.Target) : Type 0 where
   pub targets : ts ≡ l.targets
   pub faults : new.faults.items ≡ old.faults.items ++ l.faults
   pub uses : map use_of new.uses.items ≡ map use_of old.uses.items ++ l.uses
 
 -- results, with what they want as the result
-pub record AddsResults (j : ResultsJudged) (old new : Found) (ts : List sides.Target) : Type 0 where
+pub record AddsResults (j : ResultsJudged) (old new : FoundInFile) (ts : List sides.Target) : Type 0 where
   pub wanted : ts ≡ j.wanted
   pub faults : new.faults.items ≡ old.faults.items ++ j.faults
   pub uses : new.uses.items ≡ old.uses.items
 
 -- faults at those places, and nothing else
-pub record Notes (places : List ℕ) (old new : Found) : Type 0 where
+pub record Notes (places : List ℕ) (old new : FoundInFile) : Type 0 where
   pub faults : new.faults.items ≡ old.faults.items ++ places
   pub uses : new.uses.items ≡ old.uses.items
 

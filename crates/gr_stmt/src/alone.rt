@@ -10,8 +10,8 @@ ghost use Rattle.gr_expr.specs.Found.{locals_of, meaning_of, Adds};
 ghost use Rattle.gr_stmt.specs.Simple.{check_alone, ends_in_call, is_statement, may_stand, stands_faults};
 ghost use Rattle.gr_stmt.specs.View.{checked_of, Notes};
 
-use crate::checked::Checked;
-use gr_expr::found::{Found, Scope};
+use crate::checked::CheckedBody;
+use gr_expr::found::{FoundInFile, LocalNames};
 use gr_expr::judge::{chain, judge, judge_link};
 use gr_expr::meaning::Meaning;
 use gr_expr::places::{FaultPlaces, first_token, place_behind, place_of};
@@ -71,11 +71,11 @@ fn calls_statement(link: &Link, meaning: &Meaning<'_>) -> bool
 /// What a chain that ends in that link stands for, and whether it may stand as a statement.
 fn judge_last<'w>(
     alloc: Global,
-    scope: Scope<'w>,
+    scope: LocalNames<'w>,
     first: &Expr,
     before: &[Link],
     last: &Link,
-    found: &mut Found,
+    found: &mut FoundInFile,
 ) -> Result<Alone<'w>, AllocError>
     ensures found { IfOk result (λ a. Adds (judge (world_of scope.entry.world.now) (locals_of scope.entry.locals.now) (Chain (expr_view first.now) (links_in (before.now ++ (last.now ∷ []))))) found.old found.new (meaning_of a.meaning)) }
     ensures stands { IfOk result (λ a. a.stands ≡ is_statement (world_of scope.entry.world.now) (locals_of scope.entry.locals.now) (Chain (expr_view first.now) (links_in (before.now ++ (last.now ∷ []))))) }
@@ -98,10 +98,10 @@ fn judge_last<'w>(
 /// What a chain stands for, and whether it may stand as a statement.
 fn judge_chain<'w>(
     alloc: Global,
-    scope: Scope<'w>,
+    scope: LocalNames<'w>,
     first: &Expr,
     links: &[Link],
-    found: &mut Found,
+    found: &mut FoundInFile,
 ) -> Result<Alone<'w>, AllocError>
     ensures found { IfOk result (λ a. Adds (judge (world_of scope.entry.world.now) (locals_of scope.entry.locals.now) (Chain (expr_view first.now) (links_in links.now))) found.old found.new (meaning_of a.meaning)) }
     ensures stands { IfOk result (λ a. a.stands ≡ is_statement (world_of scope.entry.world.now) (locals_of scope.entry.locals.now) (Chain (expr_view first.now) (links_in links.now))) }
@@ -122,9 +122,9 @@ fn judge_chain<'w>(
 #[tactic(auto, unfolding(gr_tree::specs::View::expr_view, crate::specs::Simple::is_statement))]
 fn judge_alone<'w>(
     alloc: Global,
-    scope: Scope<'w>,
+    scope: LocalNames<'w>,
     expr: &Expr,
-    found: &mut Found,
+    found: &mut FoundInFile,
 ) -> Result<Alone<'w>, AllocError>
     ensures found { IfOk result (λ a. Adds (judge (world_of scope.entry.world.now) (locals_of scope.entry.locals.now) (expr_view expr.now)) found.old found.new (meaning_of a.meaning)) }
     ensures stands { IfOk result (λ a. a.stands ≡ is_statement (world_of scope.entry.world.now) (locals_of scope.entry.locals.now) (expr_view expr.now)) }
@@ -143,7 +143,7 @@ fn judge_alone<'w>(
 
 /// Notes what may not stand as a statement; nothing again where it is broken.
 #[tactic(auto, unfolding(gr_expr::specs::Found::meaning_of, crate::specs::Simple::stands_faults))]
-fn require_statement(place: usize, alone: Alone<'_>, found: &mut Found) -> Result<(), AllocError>
+fn require_statement(place: usize, alone: Alone<'_>, found: &mut FoundInFile) -> Result<(), AllocError>
     ensures { OnOk result (Notes (stands_faults place alone.entry.stands (meaning_of alone.entry.meaning)) found.old found.new) }
 {
     if alone.stands || matches!(alone.meaning, Meaning::Broken) {
@@ -153,7 +153,7 @@ fn require_statement(place: usize, alone: Alone<'_>, found: &mut Found) -> Resul
     Ok(())
 }
 
-impl Checked {
+impl CheckedBody {
     /// Checks an expression that is a statement.
     pub(crate) fn check_alone(
         &mut self,
@@ -163,7 +163,7 @@ impl Checked {
     ) -> Result<(), AllocError>
         ensures { OnOk result (checked_of self.new ≡ check_alone (world_of world.now) (checked_of self.old) (expr_view expr.now)) }
     {
-        let scope = Scope {
+        let scope = LocalNames {
             world: &*world,
             locals: &self.locals,
         };

@@ -1,10 +1,10 @@
 //! What is known after some statements.
-use gr_expr::found::Found;
+use gr_expr::found::FoundInFile;
 use gr_expr::locals::Locals;
 
 /// The types of the locals declared so far, and the faults and member uses found so far.
 #[derive(Drop)]
-pub struct Checked {
+pub struct CheckedBody {
     pub locals: Locals,
-    pub found: Found,
+    pub found: FoundInFile,
 }

@@ -10,14 +10,14 @@ ghost use Rattle.gr_stmt.specs.Checked.{check_group};
 ghost use Rattle.gr_stmt.specs.Declarations.{literal_value, first_name, literal_faults, global_faults, field_faults, body_faults, check_global, check_type};
 ghost use Rattle.gr_stmt.specs.View.{checked_of, target_of, Notes};
 
-use crate::checked::Checked;
+use crate::checked::CheckedBody;
 use crate::locals::copied;
 use crate::sides::{Target, refuse_all};
-use gr_expr::found::Found;
+use gr_expr::found::FoundInFile;
 use gr_expr::meaning::Argued;
-use gr_expr::types::{Basic, GoType, Kind};
+use gr_expr::types::{Basic, GoType, ValueKind};
 use gr_expr::world::World;
-use gr_tree::tree::{BasicLit, Field, Group, Item, TypeBody, TypeSpec, VarSpec};
+use gr_tree::tree::{BasicLit, FieldTree, Group, Item, TypeBody, TypeSpec, VarSpec};
 use std::alloc::{AllocError, Global};
 
 /// The value of a literal.
@@ -28,11 +28,11 @@ fn literal_value(literal: &BasicLit) -> Argued
     match literal {
         BasicLit::Number(place) => Argued {
             place: *place,
-            kind: Some(Kind::Untyped(Basic::Int)),
+            kind: Some(ValueKind::Untyped(Basic::Int)),
         },
         BasicLit::Text(place) => Argued {
             place: *place,
-            kind: Some(Kind::Untyped(Basic::String)),
+            kind: Some(ValueKind::Untyped(Basic::String)),
         },
     }
 }
@@ -82,7 +82,7 @@ fn note_value_faults(
     names: &[Item<usize>],
     own: &Option<GoType>,
     literals: &[Item<BasicLit>],
-    found: &mut Found,
+    found: &mut FoundInFile,
 ) -> Result<(), AllocError>
     ensures { OnOk result (Notes (literal_faults (world_of world.now) (list_view same_place names.now) (option_map type_of own.now) (list_view basic_view literals.now)) found.old found.new) }
 {
@@ -100,7 +100,7 @@ fn note_global_faults(
     alloc: Global,
     world: &World<'_>,
     spec: &VarSpec,
-    found: &mut Found,
+    found: &mut FoundInFile,
 ) -> Result<(), AllocError>
     ensures { OnOk result (Notes (global_faults (world_of world.now) (global_view spec.now)) found.old found.new) }
 {
@@ -115,8 +115,8 @@ fn note_global_faults(
 fn note_field_faults(
     alloc: Global,
     world: &World<'_>,
-    fields: &[Item<Field>],
-    found: &mut Found,
+    fields: &[Item<FieldTree>],
+    found: &mut FoundInFile,
 ) -> Result<(), AllocError>
     ensures { OnOk result (Notes (field_faults (world_of world.now) (list_view field_view fields.now)) found.old found.new) }
 {
@@ -131,7 +131,7 @@ fn note_body_faults(
     alloc: Global,
     world: &World<'_>,
     body: &TypeBody,
-    found: &mut Found,
+    found: &mut FoundInFile,
 ) -> Result<(), AllocError>
     ensures { OnOk result (Notes (body_faults (world_of world.now) (body_view body.now)) found.old found.new) }
 {
@@ -144,7 +144,7 @@ fn note_body_faults(
     }
 }
 
-impl Checked {
+impl CheckedBody {
     /// Checks package-level variables of one type.
     fn check_global(
         &mut self,

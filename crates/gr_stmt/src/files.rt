@@ -6,8 +6,8 @@ ghost use Rattle.gr_expr.specs.WorldView.{world_of};
 ghost use Rattle.gr_stmt.specs.Declarations.{check_decl, check_file};
 ghost use Rattle.gr_stmt.specs.View.{checked_of, is_init_in};
 
-use crate::checked::Checked;
-use gr_expr::found::Found;
+use crate::checked::CheckedBody;
+use gr_expr::found::FoundInFile;
 use gr_expr::locals::Locals;
 use gr_expr::world::World;
 use gr_tree::tree::{Decl, File};
@@ -20,16 +20,16 @@ fn is_init(world: &World<'_>, place: usize) -> bool
     world.spelling(place) == b"init".as_slice()
 }
 
-impl Checked {
+impl CheckedBody {
     /// Nothing known yet.
-    fn new(alloc: Global) -> Checked
+    fn new(alloc: Global) -> CheckedBody
         ensures { checked_of result ≡ record { locals = no_locals; faults = []; uses = [] } }
     {
-        let found = Found {
+        let found = FoundInFile {
             faults: Vec::new(alloc),
             uses: Vec::new(alloc),
         };
-        Checked {
+        CheckedBody {
             locals: Locals::new(alloc),
             found,
         }
@@ -56,10 +56,10 @@ impl Checked {
 }
 
 /// The types of the locals of a file, its faults of types and its member uses.
-pub fn check_file(alloc: Global, world: &World<'_>, file: &File) -> Result<Checked, AllocError>
+pub fn check_file(alloc: Global, world: &World<'_>, file: &File) -> Result<CheckedBody, AllocError>
     ensures { IfOk result (λ checked. checked_of checked ≡ check_file (world_of world.now) (is_init_in world.now) (file_view file.now)) }
 {
-    let mut checked = Checked::new(alloc);
+    let mut checked = CheckedBody::new(alloc);
     for decl in &file.decls {
         checked.check_decl(alloc, world, decl)?;
     }

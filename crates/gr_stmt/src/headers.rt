@@ -9,10 +9,10 @@ ghost use Rattle.gr_stmt.specs.Checked.{check_items};
 ghost use Rattle.gr_stmt.specs.Headers.{may_receive, receiver_base, judge_receiver, check_receiver, check_optional_receiver, check_param, judge_types, judge_results, is_bad_init, check_function};
 ghost use Rattle.gr_stmt.specs.View.{checked_of, target_of, AddsResults};
 
-use crate::checked::Checked;
+use crate::checked::CheckedBody;
 use crate::locals::{declare_if, declare_written, named};
 use crate::sides::{Target, note_if};
-use gr_expr::found::Found;
+use gr_expr::found::FoundInFile;
 use gr_expr::types::GoType;
 use gr_expr::world::World;
 use gr_tree::tree::{FuncDecl, Item, Param, Receiver, Results, TypeExpr};
@@ -35,7 +35,7 @@ fn receiver_base(
     alloc: Global,
     world: &World<'_>,
     place: usize,
-    found: &mut Found,
+    found: &mut FoundInFile,
 ) -> Result<Option<GoType>, AllocError>
     ensures { IfOk result (λ t. AddsType (receiver_base (world_of world.now) place) found.old found.new (option_map type_of t)) }
 {
@@ -55,7 +55,7 @@ fn receiver_type(
     alloc: Global,
     world: &World<'_>,
     receiver: &Receiver,
-    found: &mut Found,
+    found: &mut FoundInFile,
 ) -> Result<Option<GoType>, AllocError>
     ensures { IfOk result (λ t. AddsType (judge_receiver (world_of world.now) (receiver_view receiver.now)) found.old found.new (option_map type_of t)) }
 {
@@ -71,7 +71,7 @@ fn result_types(
     alloc: Global,
     world: &World<'_>,
     types: &[Item<TypeExpr>],
-    found: &mut Found,
+    found: &mut FoundInFile,
 ) -> Result<Vec<Target>, AllocError>
     ensures { IfOk result (λ ts. AddsResults (judge_types (world_of world.now) (list_view type_view types.now)) found.old found.new (map target_of ts.items)) }
 {
@@ -88,7 +88,7 @@ fn results_of(
     alloc: Global,
     world: &World<'_>,
     results: &Results,
-    found: &mut Found,
+    found: &mut FoundInFile,
 ) -> Result<Vec<Target>, AllocError>
     ensures { IfOk result (λ ts. AddsResults (judge_results (world_of world.now) (results_view results.now)) found.old found.new (map target_of ts.items)) }
 {
@@ -112,7 +112,7 @@ fn is_bad_init(is_init: bool, func: &FuncDecl, results: &[Target]) -> bool
     is_init && func.receiver.is_none() && !(func.params.is_empty() && results.is_empty())
 }
 
-impl Checked {
+impl CheckedBody {
     /// Declares a receiver, and notes what its type may not be.
     fn check_receiver(
         &mut self,

@@ -11,5 +11,5 @@ mod sides;
 mod simple;
 mod statements;
 
-pub use checked::Checked;
+pub use checked::CheckedBody;
 pub use files::check_file;

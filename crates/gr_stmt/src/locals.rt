@@ -11,7 +11,7 @@ ghost use Rattle.gr_stmt.specs.Simple.{written_locals};
 use gr_expr::locals::Locals;
 use gr_expr::meaning::Argued;
 use gr_expr::places::first_token;
-use gr_expr::types::{GoType, Kind};
+use gr_expr::types::{GoType, ValueKind};
 use gr_expr::world::{Bound, World};
 use gr_tree::tree::{Expr, ExprItem, Ident, Item};
 use std::alloc::{AllocError, Global};
@@ -29,13 +29,13 @@ pub(crate) fn declares(world: &World<'_>, place: usize) -> bool
 
 /// The type that a local takes from a value.
 #[tactic(auto, unfolding(crate::specs::Sides::taken_type, crate::specs::Sides::default_type, gr_expr::specs::View::kind_of, gr_expr::specs::View::type_of))]
-fn taken_type(alloc: Global, kind: &Option<Kind>) -> Result<Option<GoType>, AllocError>
+fn taken_type(alloc: Global, kind: &Option<ValueKind>) -> Result<Option<GoType>, AllocError>
     ensures { IfOk result (λ t. option_map type_of t ≡ taken_type (option_map kind_of kind.now)) }
 {
     match kind {
-        Some(Kind::Typed(own)) => Ok(Some(own.copy(alloc)?)),
-        Some(Kind::Untyped(basic)) => Ok(Some(GoType::Basic(*basic))),
-        Some(Kind::Nil) | None => Ok(None),
+        Some(ValueKind::Typed(own)) => Ok(Some(own.copy(alloc)?)),
+        Some(ValueKind::Untyped(basic)) => Ok(Some(GoType::Basic(*basic))),
+        Some(ValueKind::Nil) | None => Ok(None),
     }
 }
 

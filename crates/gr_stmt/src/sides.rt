@@ -13,11 +13,11 @@ ghost use Rattle.gr_stmt.specs.Statements.{returned};
 ghost use Rattle.gr_stmt.specs.View.{target_of, AddsLefts, Notes};
 
 use crate::locals::declares;
-use gr_expr::found::{Found, Scope};
+use gr_expr::found::{FoundInFile, LocalNames};
 use gr_expr::judge::{arguments, judge, judge_value};
 use gr_expr::meaning::{Argued, Meaning, all_whole};
 use gr_expr::places::place_of;
-use gr_expr::types::{GoType, Kind};
+use gr_expr::types::{GoType, ValueKind};
 use gr_expr::world::World;
 use gr_tree::tree::{Expr, ExprItem};
 use std::alloc::{AllocError, Global};
@@ -34,9 +34,9 @@ pub enum Target {
 #[tactic(auto, unfolding(crate::specs::Sides::rights))]
 pub(crate) fn rights(
     alloc: Global,
-    scope: Scope<'_>,
+    scope: LocalNames<'_>,
     exprs: &[ExprItem],
-    found: &mut Found,
+    found: &mut FoundInFile,
 ) -> Result<Vec<Argued>, AllocError>
     ensures { IfOk result (λ vs. AddsList (rights (world_of scope.entry.world.now) (locals_of scope.entry.locals.now) (exprs_view exprs.now)) found.old found.new (map argued_of vs.items)) }
 {
@@ -49,9 +49,9 @@ pub(crate) fn rights(
 /// The values of an expression that is the only right side.
 fn lone(
     alloc: Global,
-    scope: Scope<'_>,
+    scope: LocalNames<'_>,
     expr: &Expr,
-    found: &mut Found,
+    found: &mut FoundInFile,
 ) -> Result<Vec<Argued>, AllocError>
     ensures { IfOk result (λ vs. AddsList (list_followed (judge (world_of scope.entry.world.now) (locals_of scope.entry.locals.now) (expr_view expr.now)) (values_of (place_of (expr_view expr.now)))) found.old found.new (map argued_of vs.items)) }
 {
@@ -68,7 +68,7 @@ fn one_value(
     alloc: Global,
     place: usize,
     meaning: Meaning<'_>,
-    found: &mut Found,
+    found: &mut FoundInFile,
 ) -> Result<Vec<Argued>, AllocError>
     ensures { IfOk result (λ vs. AddsList (one_value place (as_value place (meaning_of meaning.entry))) found.old found.new (map argued_of vs.items)) }
 {
@@ -84,7 +84,7 @@ fn results_at(alloc: Global, place: usize, types: &[GoType]) -> Result<Vec<Argue
 {
     let mut values = Vec::new(alloc);
     for result_type in types {
-        let kind = Some(Kind::Typed(result_type.copy(alloc)?));
+        let kind = Some(ValueKind::Typed(result_type.copy(alloc)?));
         values.push(Argued { place, kind })?;
     }
     Ok(values)
@@ -93,9 +93,9 @@ fn results_at(alloc: Global, place: usize, types: &[GoType]) -> Result<Vec<Argue
 /// The values of expressions, each one value.
 fn each_value(
     alloc: Global,
-    scope: Scope<'_>,
+    scope: LocalNames<'_>,
     exprs: &[ExprItem],
-    found: &mut Found,
+    found: &mut FoundInFile,
 ) -> Result<Vec<Argued>, AllocError>
     ensures { IfOk result (λ vs. AddsList (judge_each (world_of scope.entry.world.now) (locals_of scope.entry.locals.now) (exprs_view exprs.now)) found.old found.new (map argued_of vs.items)) }
 {
@@ -130,7 +130,7 @@ fn refuse(
     world: &World<'_>,
     value: &Argued,
     target: &Target,
-    found: &mut Found,
+    found: &mut FoundInFile,
 ) -> Result<(), AllocError>
     ensures { OnOk result (Notes (refused (world_of world.now) value.now.place (option_map kind_of value.now.kind) (target_of target.now)) found.old found.new) }
 {
@@ -146,10 +146,10 @@ fn refuse(
 
 /// Notes nil, which has no type of its own.
 #[tactic(auto, unfolding(crate::specs::Sides::nil_refused, gr_expr::specs::View::kind_of))]
-fn refuse_nil(value: &Argued, found: &mut Found) -> Result<(), AllocError>
+fn refuse_nil(value: &Argued, found: &mut FoundInFile) -> Result<(), AllocError>
     ensures { OnOk result (Notes (nil_refused value.now.place (option_map kind_of value.now.kind)) found.old found.new) }
 {
-    if matches!(value.kind, Some(Kind::Nil)) {
+    if matches!(value.kind, Some(ValueKind::Nil)) {
         found.faults.push(value.place)?;
     }
     Ok(())
@@ -160,7 +160,7 @@ pub(crate) fn refuse_all(
     world: &World<'_>,
     values: &[Argued],
     targets: &[Target],
-    found: &mut Found,
+    found: &mut FoundInFile,
 ) -> Result<(), AllocError>
     ensures { OnOk result (Notes (all_refused (world_of world.now) (map argued_of values.now) (map target_of targets.now)) found.old found.new) }
 {
@@ -173,7 +173,7 @@ pub(crate) fn refuse_all(
 }
 
 /// Notes a fault at a place, if there is one.
-pub(crate) fn note_if(test: bool, place: usize, found: &mut Found) -> Result<(), AllocError>
+pub(crate) fn note_if(test: bool, place: usize, found: &mut FoundInFile) -> Result<(), AllocError>
     ensures { OnOk result (Notes (fault_if test place) found.old found.new) }
 {
     if test {
@@ -189,7 +189,7 @@ pub(crate) fn given_to(
     place: usize,
     values: &[Argued],
     targets: &[Target],
-    found: &mut Found,
+    found: &mut FoundInFile,
 ) -> Result<(), AllocError>
     ensures { OnOk result (Notes (given_to (world_of world.now) place (map argued_of values.now) (map target_of targets.now)) found.old found.new) }
 {
@@ -205,7 +205,7 @@ pub(crate) fn given_to(
 pub(crate) fn assignable<'w>(
     place: usize,
     meaning: Meaning<'w>,
-    found: &mut Found,
+    found: &mut FoundInFile,
 ) -> Result<Meaning<'w>, AllocError>
     ensures { IfOk result (λ m. Adds (assignable place (meaning_of meaning.entry)) found.old found.new (meaning_of m)) }
 {
@@ -222,9 +222,9 @@ pub(crate) fn assignable<'w>(
 /// What an expression stands for that is assigned.
 pub(crate) fn operand<'w>(
     alloc: Global,
-    scope: Scope<'w>,
+    scope: LocalNames<'w>,
     expr: &Expr,
-    found: &mut Found,
+    found: &mut FoundInFile,
 ) -> Result<Meaning<'w>, AllocError>
     ensures { IfOk result (λ m. Adds (judge_operand (world_of scope.entry.world.now) (locals_of scope.entry.locals.now) (expr_view expr.now)) found.old found.new (meaning_of m)) }
 {
@@ -240,7 +240,7 @@ fn own_type(meaning: Meaning<'_>) -> Option<GoType>
 {
     match meaning {
         Meaning::Value { kind, .. } => match kind {
-            Kind::Typed(own) => Some(own),
+            ValueKind::Typed(own) => Some(own),
             _ => None,
         },
         _ => None,
@@ -250,9 +250,9 @@ fn own_type(meaning: Meaning<'_>) -> Option<GoType>
 /// A left side of `=`.
 fn assigned_one(
     alloc: Global,
-    scope: Scope<'_>,
+    scope: LocalNames<'_>,
     expr: &Expr,
-    found: &mut Found,
+    found: &mut FoundInFile,
 ) -> Result<Target, AllocError>
     ensures { IfOk result (λ t. AddsLefts (assigned_one (world_of scope.entry.world.now) (locals_of scope.entry.locals.now) (expr_view expr.now)) found.old found.new (target_of t ∷ [])) }
 {
@@ -268,9 +268,9 @@ fn assigned_one(
 /// The left sides of `=`.
 pub(crate) fn assigned(
     alloc: Global,
-    scope: Scope<'_>,
+    scope: LocalNames<'_>,
     exprs: &[ExprItem],
-    found: &mut Found,
+    found: &mut FoundInFile,
 ) -> Result<Vec<Target>, AllocError>
     ensures { IfOk result (λ ts. AddsLefts (assigned (world_of scope.entry.world.now) (locals_of scope.entry.locals.now) (exprs_view exprs.now)) found.old found.new (map target_of ts.items)) }
 {
@@ -287,7 +287,7 @@ pub(crate) fn assigned(
 fn no_name<'w>(
     place: usize,
     meaning: Meaning<'w>,
-    found: &mut Found,
+    found: &mut FoundInFile,
 ) -> Result<Meaning<'w>, AllocError>
     ensures { IfOk result (λ m. Adds (no_name place (meaning_of meaning.entry)) found.old found.new (meaning_of m)) }
 {
@@ -300,9 +300,9 @@ fn no_name<'w>(
 /// A left side of `:=`.
 fn defined_one(
     alloc: Global,
-    scope: Scope<'_>,
+    scope: LocalNames<'_>,
     expr: &Expr,
-    found: &mut Found,
+    found: &mut FoundInFile,
 ) -> Result<Target, AllocError>
     ensures { IfOk result (λ t. AddsLefts (defined_one (world_of scope.entry.world.now) (locals_of scope.entry.locals.now) (expr_view expr.now)) found.old found.new (target_of t ∷ [])) }
 {
@@ -327,9 +327,9 @@ fn defined_one(
 /// The left sides of `:=`.
 pub(crate) fn defined(
     alloc: Global,
-    scope: Scope<'_>,
+    scope: LocalNames<'_>,
     exprs: &[ExprItem],
-    found: &mut Found,
+    found: &mut FoundInFile,
 ) -> Result<Vec<Target>, AllocError>
     ensures { IfOk result (λ ts. AddsLefts (defined (world_of scope.entry.world.now) (locals_of scope.entry.locals.now) (exprs_view exprs.now)) found.old found.new (map target_of ts.items)) }
 {
@@ -348,7 +348,7 @@ pub(crate) fn returned(
     place: usize,
     values: &[Argued],
     results: &[Target],
-    found: &mut Found,
+    found: &mut FoundInFile,
 ) -> Result<(), AllocError>
     ensures { OnOk result (Notes (returned (world_of world.now) place (map argued_of values.now) (map target_of results.now)) found.old found.new) }
 {

@@ -10,16 +10,16 @@ ghost use Rattle.gr_stmt.specs.Simple.{condition_faults, check_condition, step_f
 ghost use Rattle.gr_stmt.specs.View.{checked_of, target_of, Notes};
 ghost use Rattle.gr_stmt.specs.Sides.{Takes, Wants};
 
-use crate::checked::Checked;
+use crate::checked::CheckedBody;
 use crate::locals::{
     all_named, copied, declare_broken, declare_taken, declare_written, defined_names,
     first_of_exprs, first_of_idents,
 };
 use crate::sides::{Target, assigned, defined, given_to, operand, rights};
-use gr_expr::found::{Found, Scope};
+use gr_expr::found::{FoundInFile, LocalNames};
 use gr_expr::judge::judge_value;
 use gr_expr::places::{first_token, place_of};
-use gr_expr::types::{GoType, Kind};
+use gr_expr::types::{GoType, ValueKind};
 use gr_expr::world::World;
 use gr_tree::syntax::{BinaryOp, UpdateOp};
 use gr_tree::tree::{Expr, ExprItem, Ident, Item, LocalSpec, SimpleStmt, TypeExpr, Values};
@@ -30,8 +30,8 @@ use std::alloc::{AllocError, Global};
 fn require_bool(
     world: &World<'_>,
     place: usize,
-    kind: &Option<Kind>,
-    found: &mut Found,
+    kind: &Option<ValueKind>,
+    found: &mut FoundInFile,
 ) -> Result<(), AllocError>
     ensures { OnOk result (Notes (condition_faults (world_of world.now) place (option_map kind_of kind.now)) found.old found.new) }
 {
@@ -49,8 +49,8 @@ fn require_bool(
 fn require_int(
     world: &World<'_>,
     place: usize,
-    kind: &Option<Kind>,
-    found: &mut Found,
+    kind: &Option<ValueKind>,
+    found: &mut FoundInFile,
 ) -> Result<(), AllocError>
     ensures { OnOk result (Notes (step_faults (world_of world.now) place (option_map kind_of kind.now)) found.old found.new) }
 {
@@ -82,9 +82,9 @@ fn require_operation(
     world: &World<'_>,
     start: usize,
     op: BinaryOp,
-    left: Option<Kind>,
-    right: Option<Kind>,
-    found: &mut Found,
+    left: Option<ValueKind>,
+    right: Option<ValueKind>,
+    found: &mut FoundInFile,
 ) -> Result<(), AllocError>
     ensures { OnOk result (Notes (update_faults (world_of world.now) start op (option_map kind_of left) (option_map kind_of right)) found.old found.new) }
 {
@@ -100,7 +100,7 @@ fn require_operation(
     Ok(())
 }
 
-impl Checked {
+impl CheckedBody {
     /// Checks the condition of an `if` or `for`.
     pub(crate) fn check_condition(
         &mut self,
@@ -110,7 +110,7 @@ impl Checked {
     ) -> Result<(), AllocError>
         ensures { OnOk result (checked_of self.new ≡ check_condition (world_of world.now) (checked_of self.old) (expr_view expr.now)) }
     {
-        let scope = Scope {
+        let scope = LocalNames {
             world: &*world,
             locals: &self.locals,
         };
@@ -128,7 +128,7 @@ impl Checked {
     ) -> Result<(), AllocError>
         ensures { OnOk result (checked_of self.new ≡ check_step (world_of world.now) (checked_of self.old) (expr_view expr.now)) }
     {
-        let scope = Scope {
+        let scope = LocalNames {
             world: &*world,
             locals: &self.locals,
         };
@@ -148,7 +148,7 @@ impl Checked {
     ) -> Result<(), AllocError>
         ensures { OnOk result (checked_of self.new ≡ check_update (world_of world.now) (checked_of self.old) op (expr_view left.now) (expr_view right.now)) }
     {
-        let scope = Scope {
+        let scope = LocalNames {
             world: &*world,
             locals: &self.locals,
         };
@@ -168,7 +168,7 @@ impl Checked {
     ) -> Result<(), AllocError>
         ensures { OnOk result (checked_of self.new ≡ check_assign (world_of world.now) (checked_of self.old) (exprs_view left.now) (exprs_view right.now)) }
     {
-        let scope = Scope {
+        let scope = LocalNames {
             world: &*world,
             locals: &self.locals,
         };
@@ -188,7 +188,7 @@ impl Checked {
     ) -> Result<(), AllocError>
         ensures { OnOk result (checked_of self.new ≡ check_define (world_of world.now) (checked_of self.old) (exprs_view left.now) (exprs_view right.now)) }
     {
-        let scope = Scope {
+        let scope = LocalNames {
             world: &*world,
             locals: &self.locals,
         };
@@ -238,7 +238,7 @@ impl Checked {
         match values {
             None => declare_written(alloc, &mut self.locals, names, &own),
             Some(values) => {
-                let scope = Scope {
+                let scope = LocalNames {
                     world: &*world,
                     locals: &self.locals,
                 };
@@ -265,7 +265,7 @@ impl Checked {
         let Some(values) = values else {
             return declare_broken(&mut self.locals, &names);
         };
-        let scope = Scope {
+        let scope = LocalNames {
             world: &*world,
             locals: &self.locals,
         };

@@ -8,16 +8,16 @@ ghost use Rattle.gr_stmt.specs.Simple.{check_optional, check_optional_condition,
 ghost use Rattle.gr_stmt.specs.Statements.{check_return, check_init, check_header, check_statement, check_block, check_if, check_else};
 ghost use Rattle.gr_stmt.specs.View.{checked_of, target_of};
 
-use crate::checked::Checked;
+use crate::checked::CheckedBody;
 use crate::sides::{Target, returned, rights};
-use gr_expr::found::Scope;
+use gr_expr::found::LocalNames;
 use gr_expr::world::World;
 use gr_tree::tree::{
-    Block, Else, Expr, ExprItem, ForHeader, Group, IfInit, IfStmt, LocalSpec, SimpleStmt, Stmt,
+    BlockTree, Else, Expr, ExprItem, ForHeader, Group, IfInit, IfStmt, LocalSpec, SimpleStmt, Stmt,
 };
 use std::alloc::{AllocError, Global};
 
-impl Checked {
+impl CheckedBody {
     /// Checks a `return`.
     fn check_return(
         &mut self,
@@ -29,7 +29,7 @@ impl Checked {
     ) -> Result<(), AllocError>
         ensures { OnOk result (checked_of self.new ≡ check_return (world_of world.now) (checked_of self.old) place (map target_of results.now) (exprs_view values.now)) }
     {
-        let scope = Scope {
+        let scope = LocalNames {
             world: &*world,
             locals: &self.locals,
         };
@@ -160,7 +160,7 @@ impl Checked {
         alloc: Global,
         world: &World<'_>,
         results: &[Target],
-        block: &Block,
+        block: &BlockTree,
     ) -> Result<(), AllocError>
         ensures { OnOk result (checked_of self.new ≡ check_block (world_of world.now) (map target_of results.now) (checked_of self.old) (block_view block.now)) }
     {

@@ -3,7 +3,7 @@ use Rattle.std.proofs.Common.{ℕ, ◌≡◌, ◌≤◌, ◌<◌, List, [], ◌�
 use Rattle.std.proofs.lemmas.List.Elements.{All-head, All-tail}
 use Rattle.std.specs.List.{All}
 use Rattle.gr_tree.specs.declared.syntax.Token.{Token}
-use Rattle.gr_tree.specs.declared.syntax.FaultKind.TheVariants.{Syntax, Nesting}
+use Rattle.gr_tree.specs.declared.syntax.TokenFaultKind.TheVariants.{Syntax, Nesting}
 use Rattle.gr_tree.specs.Grammar.{Symbol}
 use Rattle.gr_tree.specs.Language.{Derives, FirstFault, DeepFault, levels}
 use Rattle.gr_tree.specs.Verdict.{Verdict, Whole, Faulty, IsWhole, IsVerdict}

@@ -2,11 +2,11 @@
 use Rattle.std.specs.Prelude.{◌≡◌, ℕ, ◌⊎◌, List}
 use Rattle.gr_scan.specs.Cuts.{IsCut, IsFirstFault}
 use Rattle.gr_scan.specs.CutText.{CutText}
-use Rattle.gr_scan.specs.declared.refusal.Fault.{Fault}
+use Rattle.gr_scan.specs.declared.refusal.TextFault.{TextFault}
 use Rattle.gr_text.specs.declared.fault_kind.FaultKind.{FaultKind}
 use Rattle.gr_text.specs.declared.fault_kind.FaultKind.TheVariants as kind
-use Rattle.gr_tree.specs.declared.syntax.FaultKind.{FaultKind as TokenFault}
-use Rattle.gr_tree.specs.declared.syntax.FaultKind.TheVariants.{Syntax, Nesting}
+use Rattle.gr_tree.specs.declared.syntax.TokenFaultKind.{TokenFaultKind as TokenFault}
+use Rattle.gr_tree.specs.declared.syntax.TokenFaultKind.TheVariants.{Syntax, Nesting}
 use Rattle.gr_tree.specs.Kinds.{kinds_of, place_of}
 use Rattle.gr_tree.specs.Verdict.{IsWhole, IsVerdict, Faulty}
 
@@ -17,7 +17,7 @@ kind_for Nesting = kind.Nesting
 
 -- The first fault of a file's tokens, which stands where the token at fault begins, or at the file's end where all of
 -- its tokens could be continued.
-pub record IsParseFault (c : CutText) (f : Fault) : Type 0 where
+pub record IsParseFault (c : CutText) (f : TextFault) : Type 0 where
   pub kind : TokenFault
   pub left : ℕ
   pub verdict : IsVerdict (kinds_of c) (Faulty kind left)
@@ -32,12 +32,12 @@ pub record IsSound (text : List ℕ) : Type 0 where
   pub whole : IsWhole (kinds_of cut)
 
 -- the first fault of a text that is cut
-pub record IsFaultOfTokens (text : List ℕ) (fault : Fault) : Type 0 where
+pub record IsFaultOfTokens (text : List ℕ) (fault : TextFault) : Type 0 where
   pub cut : CutText
   pub of_text : cut.text ≡ text
   pub is_cut : IsCut cut.text cut.pieces
   pub fault_is : IsParseFault cut fault
 
 -- the first fault of a text: a fault of its pieces comes before one of its tokens
-abbrev pub IsFaultOf : List ℕ → Fault → Type 0
+abbrev pub IsFaultOf : List ℕ → TextFault → Type 0
 IsFaultOf text fault = IsFirstFault text fault ⊎ IsFaultOfTokens text fault

@@ -2,8 +2,8 @@
 use Rattle.std.specs.Prelude.{ℕ, ◌≤◌, List, [], ◌∷◌}
 use Rattle.std.specs.List.{All}
 use Rattle.gr_tree.specs.declared.syntax.Token.{Token}
-use Rattle.gr_tree.specs.declared.syntax.FaultKind.{FaultKind}
-use Rattle.gr_tree.specs.declared.syntax.FaultKind.TheVariants.{Syntax, Nesting}
+use Rattle.gr_tree.specs.declared.syntax.TokenFaultKind.{TokenFaultKind}
+use Rattle.gr_tree.specs.declared.syntax.TokenFaultKind.TheVariants.{Syntax, Nesting}
 use Rattle.gr_tree.specs.Grammar.{A, File}
 use Rattle.gr_tree.specs.Language.{Derives, FirstFault, DeepFault, levels}
 
@@ -14,7 +14,7 @@ limit = 200
 -- a fault of that kind, with the number of tokens from it on
 pub data Verdict : Type 0 where
   Whole : Verdict
-  Faulty : FaultKind → ℕ → Verdict
+  Faulty : TokenFaultKind → ℕ → Verdict
 
 -- a file in which no token opens a level over the limit
 pub record IsWhole (ts : List Token) : Type 0 where

@@ -13,7 +13,7 @@ use std::sync::Arc;
 
 /// What the owners of a file's tree share.
 #[derive(Drop)]
-struct Parts {
+struct FileTreeParts {
     path: Path,
     pieces: Pieces,
     file: File,
@@ -21,7 +21,7 @@ struct Parts {
 
 /// A Go file without fault: its path, its cut and its syntax tree, which no longer change. A clone shares them.
 pub struct FileTree {
-    parts: Arc<Parts, Global>,
+    parts: Arc<FileTreeParts, Global>,
 }
 
 /// Written out, so that crates above call it and don't prove again how each part is dropped.
@@ -58,7 +58,7 @@ impl FileTree {
         requires { IsSourceFile (record { path = path; cut = pieces; tree = file_view file }) }
         ensures { IfOk result (λ made. made ≡ record { path = path; cut = pieces; file = file }) }
     {
-        let parts = Arc::new(alloc, Parts { path, pieces, file })?;
+        let parts = Arc::new(alloc, FileTreeParts { path, pieces, file })?;
         Ok(FileTree { parts })
     }
 

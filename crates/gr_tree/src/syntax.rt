@@ -108,7 +108,7 @@ pub struct Token {
 
 /// What may be wrong with a list of tokens.
 #[derive(Clone, Copy, PartialEq, Eq, Debug)]
-pub enum FaultKind {
+pub enum TokenFaultKind {
     Syntax,
     Nesting,
 }

@@ -15,11 +15,11 @@ ghost use Rattle.gr_declared.specs.PackageView.{package_of, IsIndexOf};
 
 use crate::worlds::file_world;
 use gr_declared::{Index, Package};
-use gr_expr::found::{Found, MemberUse};
+use gr_expr::found::{FoundInFile, MemberUse};
 use gr_expr::world::{Bound, Definition, Name};
 use gr_fault::{Fault, push, sort};
 use gr_meanings::{Bounds, file_names, one_world};
-use gr_stmt::{Checked, check_file};
+use gr_stmt::{CheckedBody, check_file};
 use gr_text::FaultKind;
 use std::alloc::{AllocError, Global};
 
@@ -53,7 +53,7 @@ fn check_names<'w>(
     bounds: &'w [Bound],
     definitions: &'w [Definition],
     file: usize,
-) -> Result<Checked, AllocError>
+) -> Result<CheckedBody, AllocError>
     requires names { AreNames (package_of unit) file bounds.now names.now }
     requires definitions { HaveDefinitions (package_of unit) definitions.now }
     requires in_range { file < length unit.files.now }
@@ -79,7 +79,7 @@ fn check_source(
     of: &Judging<'_>,
     bounds: &mut Bounds,
     file: usize,
-) -> Result<Checked, AllocError>
+) -> Result<CheckedBody, AllocError>
     requires index { IsIndexOf (package_of of.now.unit) of.now.index.now }
     requires bounds { AreBounds (package_of of.now.unit) bounds.old.list.items bounds.old.of.items }
     requires definitions { HaveDefinitions (package_of of.now.unit) of.now.definitions.now }
@@ -93,12 +93,12 @@ fn check_source(
 
 impl Typed {
     /// Adds what is found in a file.
-    fn add(&mut self, file: usize, checked: Checked) -> Result<(), AllocError>
+    fn add(&mut self, file: usize, checked: CheckedBody) -> Result<(), AllocError>
         ensures faults { OnOk result (Adds self.old.faults.items self.new.faults.items (IsAtToken file checked.found.faults.items)) }
         ensures members { OnOk result (AddsUses self.old.members.items self.new.members.items (uses_in checked.found.uses)) }
     {
-        let Checked { found, locals: _ } = checked;
-        let Found { faults, uses } = found;
+        let CheckedBody { found, locals: _ } = checked;
+        let FoundInFile { faults, uses } = found;
         add_tokens(&mut self.faults, file, &faults)?;
         self.members.push(uses)?;
         Ok(())

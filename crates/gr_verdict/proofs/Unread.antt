@@ -4,7 +4,7 @@ use Rattle.std.specs.Prelude.{Contains, None}
 use Rattle.std.specs.List.Sorted.{IsStrictlySortedBy}
 use Rattle.gr_text.specs.Workspace.{Workspace}
 use Rattle.gr_text.specs.Packages.{package_files}
-use Rattle.gr_scan.specs.declared.refusal.Fault.{Fault as TextFault}
+use Rattle.gr_scan.specs.declared.refusal.TextFault.{TextFault as TextFault}
 use Rattle.gr_scan.specs.Cuts.{IsCut}
 use Rattle.gr_scan.specs.CutText.{CutText}
 use Rattle.gr_scan.proofs.OneCutLemmas.{one_cut, cut_or_fault}
@@ -13,7 +13,7 @@ use Rattle.gr_tree.specs.Faults.{IsFaultOf, IsFaultOfTokens, IsParseFault, kind_
 use Rattle.gr_tree.specs.Kinds.{kinds_of, place_of}
 use Rattle.gr_tree.specs.SourceFile.{FileParts, source_of}
 use Rattle.gr_tree.specs.Verdict.{Faulty}
-use Rattle.gr_tree.specs.declared.syntax.FaultKind.{FaultKind as TokenFault}
+use Rattle.gr_tree.specs.declared.syntax.TokenFaultKind.{TokenFaultKind as TokenFault}
 use Rattle.gr_tree.proofs.OneVerdict.{one_verdict}
 use Rattle.gr_graph.specs.FaultyFiles.{FaultyParts}
 use Rattle.gr_graph.specs.Parsed.{AreParsed, none, tree, fault}

@@ -7,7 +7,7 @@ use Rattle.std.specs.declared.cmp.Ordering.{Ordering}
 use Rattle.gr_text.specs.FaultNames.{name_of}
 use Rattle.gr_text.specs.Path.{folder}
 use Rattle.gr_text.specs.Workspace.{path_cmp}
-use Rattle.gr_scan.specs.declared.refusal.Fault.{Fault as TextFault}
+use Rattle.gr_scan.specs.declared.refusal.TextFault.{TextFault as TextFault}
 use Rattle.gr_fault.specs.declared.fault.Fault.{Fault}
 use Rattle.gr_tree.specs.SourceFile.{SourceFile, offset_of}
 use Rattle.gr_verdict.specs.declared.fault.FileFault.{FileFault}

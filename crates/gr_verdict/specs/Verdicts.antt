@@ -3,7 +3,7 @@
 use Rattle.std.specs.Prelude.{ℕ, ◌≡◌, ◌⊎◌, ◌↔◌, Bool, true, false, List, [], Option, Some, None, slice_get, Contains, map}
 use Rattle.gr_text.specs.Workspace.{Workspace}
 use Rattle.gr_text.specs.Packages.{package_paths, package_files}
-use Rattle.gr_scan.specs.declared.refusal.Fault.{Fault as TextFault}
+use Rattle.gr_scan.specs.declared.refusal.TextFault.{TextFault as TextFault}
 use Rattle.gr_tree.specs.Faults.{IsFaultOf}
 use Rattle.gr_tree.specs.SourceFile.{SourceFile, FileParts, source_of}
 use Rattle.gr_graph.specs.Packages.{PackageImports, IsInClosure}

@@ -14,7 +14,7 @@ use crate::seeing::seen_imports;
 use gr_declared::{Interface, Interfaces};
 use gr_expr::found::MemberUse;
 use gr_expr::symbol::SharedPath;
-use gr_graph::{Graph, Package};
+use gr_graph::{Graph, ParsedPackage};
 use gr_types::{Checked, check};
 use std::alloc::{AllocError, Global};
 
@@ -27,7 +27,7 @@ pub(crate) struct Judged {
 }
 
 /// What is found in a package of which some file has no tree.
-fn judge_unread(alloc: Global, files: &Package) -> Result<Judged, AllocError>
+fn judge_unread(alloc: Global, files: &ParsedPackage) -> Result<Judged, AllocError>
     requires { files.now.faulty.items ≡ [] → ⊥ }
     ensures { IfOk result (λ j. (w : Workspace) → (number : ℕ) → (known : Verdicts) → IsPackage w number files.now → OfPackage w number (λ p. IsJudged w known p j)) }
 {
@@ -43,7 +43,7 @@ fn judge_unread(alloc: Global, files: &Package) -> Result<Judged, AllocError>
 /// What is found in a package each of whose files has a tree, by what checking found: its faults get their places.
 pub(crate) fn place_checked(
     alloc: Global,
-    files: &Package,
+    files: &ParsedPackage,
     checked: Checked,
 ) -> Result<Judged, AllocError>
     ensures { IfOk result (λ j. (w : Workspace) → (known : Verdicts) → (p : List ℕ) → Contains (package_paths w) p → AreParsed (package_files w p) files.now.trees.items [] → IsCheckedIn w known p checked → IsJudged w known p j) }
@@ -67,7 +67,7 @@ fn judge_read(
     alloc: Global,
     graph: &Graph,
     number: usize,
-    files: &Package,
+    files: &ParsedPackage,
     path: &SharedPath,
     all: &Interfaces,
 ) -> Result<Judged, AllocError>

@@ -13,7 +13,7 @@ use crate::known::KnownVerdict;
 use crate::marks::is_marked;
 use gr_alike::are_alike;
 use gr_declared::Interfaces;
-use gr_graph::{Graph, ImportLinks, Package};
+use gr_graph::{Graph, ImportLinks, ParsedPackage};
 use gr_tree::FileTree;
 use std::alloc::{AllocError, Global};
 
@@ -86,7 +86,7 @@ fn are_same_trees(before: &[FileTree], after: &[FileTree]) -> bool
 }
 
 /// Whether a package has the same files. One with a file that has no tree is not asked for them: it is soon judged.
-fn has_same_files(before: &Package, after: &Package) -> bool
+fn has_same_files(before: &ParsedPackage, after: &ParsedPackage) -> bool
     ensures { IsTrue result → (v w : Workspace) → (n : ℕ) → IsPackage v n before.now → IsPackage w n after.now →
         package_files v before.now.path.items ≡ package_files w after.now.path.items }
 {

@@ -1,6 +1,6 @@
 -- The invariants of the loops of `judge::judging`.
 use Rattle.std.proofs.Common.{drop, map, option_map}
-use Rattle.gr_expr.specs.declared.found.Found.{Found}
+use Rattle.gr_expr.specs.declared.found.FoundInFile.{FoundInFile}
 use Rattle.gr_expr.specs.Judge.{Judged, judge_links, judge_operands, judge_arguments, judge_elements, none_seen}
 use Rattle.gr_expr.specs.View.{type_of}
 use Rattle.gr_expr.specs.WorldView.{world_of}
@@ -16,13 +16,13 @@ invariant-arguments-loop-argument l =
     l.fn.found l.found (map argued_of l.values.items)
 
 abbrev pub invariant-binary-loop-operand : goal.invariant-binary-loop-operand
-invariant-binary-loop-operand l = (j : Judged) (before : Found) → Adds j before l.fn.found (meaning_of l.fn.meaning) →
+invariant-binary-loop-operand l = (j : Judged) (before : FoundInFile) → Adds j before l.fn.found (meaning_of l.fn.meaning) →
     Reached (judge_operands (world_of l.scope.world.now) (locals_of l.scope.locals.now) l.start j (operands_in l.rest))
     (λ k. judge_operands (world_of l.scope.world.now) (locals_of l.scope.locals.now) l.start k (operands_in (drop l.operand-index l.rest)))
     before l.found (meaning_of l.meaning)
 
 abbrev pub invariant-chain-loop-next : goal.invariant-chain-loop-next
-invariant-chain-loop-next l = (j : Judged) (before : Found) → Adds j before l.fn.found (meaning_of l.fn.meaning) →
+invariant-chain-loop-next l = (j : Judged) (before : FoundInFile) → Adds j before l.fn.found (meaning_of l.fn.meaning) →
     Reached (judge_links (world_of l.scope.world.now) (locals_of l.scope.locals.now) l.fn.at.start l.fn.at.place j (links_in l.links))
     (λ k. judge_links (world_of l.scope.world.now) (locals_of l.scope.locals.now) l.fn.at.start l.place k (links_in (drop l.next-index l.links)))
     before l.found (meaning_of l.meaning)

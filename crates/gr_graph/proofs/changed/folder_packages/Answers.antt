@@ -6,7 +6,7 @@ use Rattle.gr_graph.specs.Changed.{AreOfFolders}
 use Rattle.gr_graph.specs.Filling.{names}
 use Rattle.gr_graph.specs.Graphs.{paths_of}
 use Rattle.gr_graph.specs.Staying.{HasFiles}
-use Rattle.gr_graph.specs.declared.package.Package.{Package}
+use Rattle.gr_graph.specs.declared.package.ParsedPackage.{ParsedPackage}
 use Rattle.gr_graph.proofs.Collected.{none_held}
 use Rattle.gr_graph.proofs.PackagePaths.{none_sorted}
 use Rattle.gr_graph.proofs.StayingPackages.{all_at}
@@ -30,7 +30,7 @@ returns c =
       paths = c.in_ok-drafts.ensures.paths ∙ c.in_ok-empty.ensures.paths;
       sorted = c.in_ok-empty.ensures.rising;
       files = all_at (HasFiles w) drafts (λ i p at. c.in_ok-drafts.ensures.files i p at
-          (λ has. none_held p.path.items (subst (λ (ps : List Package). Contains (paths_of ps) p.path.items) nothing has)));
+          (λ has. none_held p.path.items (subst (λ (ps : List ParsedPackage). Contains (paths_of ps) p.path.items) nothing has)));
     } in
     IfOk-weaker c.shared.result (λ packages. packages.items ≡ drafts) (λ packages. AreOfFolders folders w packages.items)
     (λ packages is. subst (AreOfFolders folders w) (sym is) made) c.shared.ensures

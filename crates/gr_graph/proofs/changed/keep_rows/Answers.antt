@@ -4,7 +4,7 @@ use Rattle.std.specs.List.{All}
 use Rattle.std.proofs.lemmas.List.{take_all}
 use Rattle.gr_graph.specs.Changed.{HasRow}
 use Rattle.gr_graph.specs.Graphs.{paths_of}
-use Rattle.gr_graph.specs.declared.package.Package.{Package}
+use Rattle.gr_graph.specs.declared.package.ParsedPackage.{ParsedPackage}
 use Rattle.gr_graph.proofs.ChangedPackages.{all_more}
 use Rattle.gr_graph.proofs.changed.keep_rows.Goals as goal
 
@@ -15,5 +15,5 @@ loop-package-preserved c =
 
 pub returns : goal.returns
 returns c = λ _.
-    subst (λ (ps : List Package). All (HasRow (paths_of c.args.packages.now) c.args.links.now) ps)
+    subst (λ (ps : List ParsedPackage). All (HasRow (paths_of c.args.packages.now) c.args.links.now) ps)
     (take_all c.loop-package.package-index c.args.fresh.now (omega (arith, c.loop-package-test.false))) c.loop-package.invariant

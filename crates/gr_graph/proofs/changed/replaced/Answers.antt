@@ -4,7 +4,7 @@ use Rattle.std.specs.List.{Contains}
 use Rattle.std.proofs.lemmas.List.{take_all}
 use Rattle.gr_graph.specs.Changed.{AreReplaced}
 use Rattle.gr_graph.specs.Graphs.{paths_of}
-use Rattle.gr_graph.specs.declared.package.Package.{Package}
+use Rattle.gr_graph.specs.declared.package.ParsedPackage.{ParsedPackage}
 use Rattle.gr_graph.proofs.ChangedPackages.{clones_are, none_replaced, replaced_none, replaced_more}
 use Rattle.gr_graph.proofs.changed.replaced.Goals.{in-Some+in_ok-packages-2, in_default}
 use Rattle.gr_graph.proofs.changed.replaced.Goals as goal
@@ -31,5 +31,5 @@ loop-package-preserved c =
 
 pub returns : goal.returns
 returns c =
-    subst (λ (ps : List Package). AreReplaced c.args.before.now.items ps c.loop-package.packages.items)
+    subst (λ (ps : List ParsedPackage). AreReplaced c.args.before.now.items ps c.loop-package.packages.items)
     (take_all c.loop-package.package-index c.args.fresh.now (omega (arith, c.loop-package-test.false))) c.loop-package.invariant

@@ -3,14 +3,14 @@ use Rattle.std.proofs.Common.{List, [], ◌∷◌, ◌++◌, ap, sym, ◌∙◌}
 use Rattle.std.proofs.lemmas.Iterator.Adapters.{YieldsList-from_vec}
 use Rattle.std.proofs.lemmas.Iterator.Consumers.{YieldsList-end}
 use Rattle.std.proofs.lemmas.List.{map-id}
-use Rattle.gr_graph.specs.declared.package.Package.{Package}
+use Rattle.gr_graph.specs.declared.package.ParsedPackage.{ParsedPackage}
 use Rattle.gr_graph.proofs.changed.shared.Goals as goal
 
 pub loop-draft-preserved : goal.loop-draft-preserved
 loop-draft-preserved c =
-    let new : Package = c.in_ok-new.field-0 in
-    rw c.in_ok-push.ensures.items (ap (λ (l : List Package). l ++ new ∷ []) c.loop-draft.invariant
-    ∙ ap (λ (q : Package). c.loop-draft.yielded ++ q ∷ []) c.in_ok-new.ensures)
+    let new : ParsedPackage = c.in_ok-new.field-0 in
+    rw c.in_ok-push.ensures.items (ap (λ (l : List ParsedPackage). l ++ new ∷ []) c.loop-draft.invariant
+    ∙ ap (λ (q : ParsedPackage). c.loop-draft.yielded ++ q ∷ []) c.in_ok-new.ensures)
 
 pub returns : goal.returns
 returns c =

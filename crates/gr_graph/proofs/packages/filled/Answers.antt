@@ -12,7 +12,7 @@ use Rattle.gr_text.specs.Workspace.{path_cmp}
 use Rattle.gr_graph.specs.Graphs.{paths_of}
 use Rattle.gr_graph.specs.Filling.{AreFilled}
 use Rattle.gr_graph.specs.Staying.{IsOfNone, IsOfOne}
-use Rattle.gr_graph.specs.declared.package.Package.{Package}
+use Rattle.gr_graph.specs.declared.package.ParsedPackage.{ParsedPackage}
 use Rattle.gr_graph.proofs.Filled.{filled_start, filled_add, filled_other, filled_end, paths_added}
 use Rattle.gr_graph.proofs.packages.filled.Goals as goal
 
@@ -35,7 +35,7 @@ pub add_file-requires : goal.add_file-requires
 add_file-requires c =
     let within : c.in-Some-draft_number.number < length (paths_of c.deref.result.now) =
     slice_get_within (paths_of c.deref.result.now) _ _ c.in-Some-draft_number.ensures in
-    let len = length-map c.deref.result.now (λ (p : Package). p.path.items) in
+    let len = length-map c.deref.result.now (λ (p : ParsedPackage). p.path.items) in
     let value = ap length c.deref.ensures.value in
     omega (arith, c.loop-path.drafts.ok.0)
 
@@ -67,7 +67,7 @@ loop-path-preserved-in_default c =
     let e : List ℕ × List ℕ = (c.in-Some.path.now, c.in-Some.text.now) in
     let never : Contains (paths_of old) (folder e.0) → ⊥ =
     λ there. c.in_default.ensures (subst (λ (path : List ℕ). Contains (paths_of c.deref.result.now) path) (sym c.folder.ensures)
-    (subst (λ (ps : List Package). Contains (paths_of ps) (folder e.0)) (sym c.deref.ensures.value) there)) in
+    (subst (λ (ps : List ParsedPackage). Contains (paths_of ps) (folder e.0)) (sym c.deref.ensures.value) there)) in
     record {
       paths = c.loop-path.invariant.paths;
       filled = filled_other c.args.staying.now all e c.next.new.self old never

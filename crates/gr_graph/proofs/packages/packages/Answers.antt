@@ -7,7 +7,7 @@ use Rattle.std.proofs.lemmas.List.Elements.{All-push}
 use Rattle.std.proofs.lemmas.Option.{slice_get-get_or, slice_get_within, get_or_from_slice_get}
 use Rattle.gr_graph.specs.Graphs.{paths_of}
 use Rattle.gr_graph.specs.Staying.{HasFiles}
-use Rattle.gr_graph.specs.declared.package.Package.{Package}
+use Rattle.gr_graph.specs.declared.package.ParsedPackage.{ParsedPackage}
 use Rattle.gr_graph.proofs.PackagePaths.{paths_sorted}
 use Rattle.gr_graph.proofs.packages.packages.Goals as goal
 
@@ -24,9 +24,9 @@ loop-draft-preserved c =
     let turn = YieldsList-turn gives passed c.loop-draft.draft-iterator c.loop-draft.yielded_by c.next.result c.next.new.self draft c.in-Some.is
     c.next.ensures.steps in
     let at : slice_get drafts (length passed) ≡ Some draft = slice_get-get_or drafts (length passed) draft turn.0 ∙ ap Some (sym turn.1) in
-    let new : Package = c.in_ok-staying_or.field-0 in
+    let new : ParsedPackage = c.in_ok-staying_or.field-0 in
     let old = c.loop-draft.packages.items in
-    let path : Package → List ℕ = λ p. p.path.items in
+    let path : ParsedPackage → List ℕ = λ p. p.path.items in
     rw c.in_ok-push.ensures.items (record {
       paths = map_push path old new ∙ ap (λ (l : List (List ℕ)). l ++ path new ∷ []) c.loop-draft.invariant.paths
           ∙ ap (λ (q : List ℕ). paths_of passed ++ q ∷ []) c.in_ok-staying_or.ensures.path ∙ sym (map_push path passed draft);

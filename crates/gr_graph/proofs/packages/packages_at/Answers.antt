@@ -5,7 +5,7 @@ use Rattle.std.proofs.lemmas.Map.Iter.{rest_more, rest_all}
 use Rattle.std.proofs.lemmas.List.Elements.{All-push}
 use Rattle.gr_graph.specs.Filling.{names}
 use Rattle.gr_graph.specs.Graphs.{paths_of, IsEmpty}
-use Rattle.gr_graph.specs.declared.package.Package.{Package}
+use Rattle.gr_graph.specs.declared.package.ParsedPackage.{ParsedPackage}
 use Rattle.gr_graph.proofs.PackagePaths.{names_sorted}
 use Rattle.gr_graph.proofs.Filled.{paths_push}
 use Rattle.gr_graph.proofs.packages.packages_at.Goals as goal
@@ -14,7 +14,7 @@ pub loop-folder-preserved : goal.loop-folder-preserved
 loop-folder-preserved c =
     let left = rest_more deref _ _ _ c.in-Some.folder c.in-Some.is c.next.ensures.steps in
     let old = c.loop-folder.packages.items in
-    let fresh : Package = record { path = c.in_ok-from_slice.field-0; trees = c.new.result; faulty = c.new-in-loop-folder.result } in
+    let fresh : ParsedPackage = record { path = c.in_ok-from_slice.field-0; trees = c.new.result; faulty = c.new-in-loop-folder.result } in
     let path : fresh.path.items ≡ c.in-Some.folder.now.now = c.in_ok-from_slice.ensures.items in
     rw c.in_ok-push.ensures.items (record {
       paths = paths_push old fresh (names c.next.new.self) ∙ ap (λ (p : List ℕ). paths_of old ++ p ∷ names c.next.new.self) path ∙

@@ -1,6 +1,6 @@
 -- The answers to the goals of `parsed::faulty`.
 use Rattle.std.proofs.Common.{sym, subst}
-use Rattle.gr_scan.specs.declared.refusal.Fault.{Fault}
+use Rattle.gr_scan.specs.declared.refusal.TextFault.{TextFault}
 use Rattle.gr_tree.specs.Faults.{IsFaultOf}
 use Rattle.gr_graph.proofs.parsed.faulty.Goals as goal
 
@@ -8,5 +8,5 @@ pub returns : goal.returns
 returns c = record {
   of_path = c.in_ok-file.ensures.path;
   of_text = c.in_ok-file.ensures.text;
-  is_fault = subst (λ (fault : Fault). IsFaultOf c.args.text.now fault) (sym c.in_ok-file.ensures.fault) c.requires;
+  is_fault = subst (λ (fault : TextFault). IsFaultOf c.args.text.now fault) (sym c.in_ok-file.ensures.fault) c.requires;
 }

@@ -4,7 +4,7 @@ use Rattle.std.specs.List.{AllZip}
 use Rattle.std.proofs.lemmas.List.{take_more, take_all}
 use Rattle.std.proofs.lemmas.Option.{slice_get-get_or}
 use Rattle.gr_graph.specs.Parts.{AreNumbered}
-use Rattle.gr_graph.specs.declared.package.Package.{Package}
+use Rattle.gr_graph.specs.declared.package.ParsedPackage.{ParsedPackage}
 use Rattle.gr_graph.proofs.ImportViews.{zip_push}
 use Rattle.gr_graph.proofs.part.numbered.Goals as goal
 
@@ -18,8 +18,8 @@ loop-number-preserved c =
     let part = c.loop-number.part.items in
     let k = c.loop-number.number-index in
     let n = get_or numbers k 0 in
-    let copy : Package = c.in_ok-clone.field-0 in
-    let R : ℕ → Package → Type 0 = λ number p. slice_get all number ≡ Some p in
+    let copy : ParsedPackage = c.in_ok-clone.field-0 in
+    let R : ℕ → ParsedPackage → Type 0 = λ number p. slice_get all number ≡ Some p in
     let here : R n copy = slice_get-get_or all n c.index-packages-number.result (c.requires k 0 c.loop-number-test.true) ∙
     ap Some (sym c.index-packages-number.is) ∙ ap Some (sym c.in_ok-clone.ensures.cases) in
     rw c.in_ok-push.ensures.items (subst (λ ns. AllZip R ns (part ++ copy ∷ [])) (sym (take_more numbers k 0 c.loop-number-test.true))

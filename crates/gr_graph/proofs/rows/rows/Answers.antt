@@ -4,7 +4,7 @@ use Rattle.std.specs.List.{AllZip}
 use Rattle.std.proofs.lemmas.List.{take_more}
 use Rattle.gr_graph.specs.Graphs.{paths_of}
 use Rattle.gr_graph.specs.Rows.{IsRow}
-use Rattle.gr_graph.specs.declared.package.Package.{Package}
+use Rattle.gr_graph.specs.declared.package.ParsedPackage.{ParsedPackage}
 use Rattle.gr_graph.proofs.ImportViews.{zip_push}
 use Rattle.gr_graph.proofs.rows.rows.Goals as goal
 
@@ -14,7 +14,7 @@ loop-package-preserved c =
     let k = c.loop-package.package-index in
     let item = c.package-item.result in
     let row : List ℕ = c.in_ok-row_of.field-0 in
-    let R : Package → List ℕ → Type 0 = λ p row. IsRow (paths_of all) p.trees.items row in
+    let R : ParsedPackage → List ℕ → Type 0 = λ p row. IsRow (paths_of all) p.trees.items row in
     let here : R item row = c.in_ok-row_of.ensures in
     rw c.in_ok-push.ensures.items (subst (λ ps. AllZip R ps (c.loop-package.rows.items ++ row ∷ [])) (sym (take_more all k item c.loop-package-test.true))
     (zip_push R (take k all) c.loop-package.rows.items (get_or all k item) row c.loop-package.invariant (subst (λ p. R p row) c.package-item.is here)))

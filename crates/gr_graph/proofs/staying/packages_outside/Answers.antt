@@ -6,7 +6,7 @@ use Rattle.std.proofs.lemmas.List.{take_all}
 use Rattle.gr_text.specs.Workspace.{path_cmp}
 use Rattle.gr_graph.specs.Filling.{names}
 use Rattle.gr_graph.specs.Staying.{is_outside}
-use Rattle.gr_graph.specs.declared.package.Package.{Package}
+use Rattle.gr_graph.specs.declared.package.ParsedPackage.{ParsedPackage}
 use Rattle.gr_graph.proofs.StayingPackages.{outside_more}
 use Rattle.gr_graph.proofs.staying.packages_outside.Goals as goal
 use Rattle.gr_graph.proofs.staying.packages_outside.Goals.{then-not-is_among+in_ok-clone+in_ok-push, else-not-is_among}
@@ -24,8 +24,8 @@ loop-package-preserved c =
     outside_more test all k p b c.loop-package-test.true c.package-item.is (ap not (sym among ∙ tells) ∙ twice) in
     elim c.if-not-is_among.branch [
       | then-not-is_among+in_ok-clone+in_ok-push w ↦ rw (w.staying-is, w.in_ok-push.ensures.items)
-          (ap (λ (l : List Package). l ++ w.in_ok-clone.field-0 ∷ []) c.loop-package.invariant
-          ∙ ap (λ (q : Package). filter test (take k all) ++ q ∷ []) w.in_ok-clone.ensures.cases ∙ sym (more true w.if-not-is_among.true refl))
+          (ap (λ (l : List ParsedPackage). l ++ w.in_ok-clone.field-0 ∷ []) c.loop-package.invariant
+          ∙ ap (λ (q : ParsedPackage). filter test (take k all) ++ q ∷ []) w.in_ok-clone.ensures.cases ∙ sym (more true w.if-not-is_among.true refl))
       | else-not-is_among w ↦ rw w.staying-is (c.loop-package.invariant ∙ sym (more false w.if-not-is_among.false refl ∙ append-nil (filter test (take k all))))
     ]
 

@@ -7,7 +7,7 @@ use Rattle.gr_graph.specs.Changed.{KeepsPath}
 use Rattle.gr_graph.specs.Filling.{names}
 use Rattle.gr_graph.specs.Graphs.{paths_of}
 use Rattle.gr_graph.specs.Staying.{DiffersOnlyIn, HasFiles, is_outside}
-use Rattle.gr_graph.specs.declared.package.Package.{Package}
+use Rattle.gr_graph.specs.declared.package.ParsedPackage.{ParsedPackage}
 use Rattle.gr_graph.proofs.PackagePaths.{paths_sorted}
 use Rattle.gr_graph.proofs.StayingPackages.{all_at, outside_sorted, stay_files}
 use Rattle.gr_graph.proofs.graph.Graph.changed.Goals as goal
@@ -35,7 +35,7 @@ replaced-requires c =
       differs = subst (λ l. DiffersOnlyIn l v w) (sym (ap paths_of fresh ∙ c.in_ok-fresh.ensures.paths)) c.requires;
       fresh = subst (All (HasFiles w)) (sym fresh) c.in_ok-fresh.ensures.files;
       kept = subst (λ (l : List (List ℕ)). All (KeepsPath l) c.deref-then-keep_paths.result.now) paths
-          (subst (λ (ps : List Package). All (KeepsPath (paths_of c.deref-2.result.now)) ps) (c.deref-3.ensures.value ∙ sym fresh)
+          (subst (λ (ps : List ParsedPackage). All (KeepsPath (paths_of c.deref-2.result.now)) ps) (c.deref-3.ensures.value ∙ sym fresh)
           (c.keep_paths.ensures c.if-keep_paths.true));
     }
 
@@ -49,8 +49,8 @@ packages-requires c =
     c.before-2.invariant.paths ∙ ap package_paths c.before-2.view_is in
     let fresh = ap paths_of c.deref-5.ensures.value ∙ c.in_ok-fresh.ensures.paths in
     let staying : c.deref-6.result.now ≡ filter (is_outside folders) old = c.deref-6.ensures.value ∙ c.in_ok-staying.ensures in
-    let each : (i : ℕ) (p : Package) → slice_get old i ≡ Some p → HasFiles v p = λ i p at. subst (λ (x : Workspace). HasFiles x p) c.before-2.view_is
-    (c.before-2.invariant.each i p (subst (λ (ps : List Package). slice_get ps i ≡ Some p)
+    let each : (i : ℕ) (p : ParsedPackage) → slice_get old i ≡ Some p → HasFiles v p = λ i p at. subst (λ (x : Workspace). HasFiles x p) c.before-2.view_is
+    (c.before-2.invariant.each i p (subst (λ (ps : List ParsedPackage). slice_get ps i ≡ Some p)
     (c.deref-4.ensures.value ∙ ap (λ parts. parts.packages.items) c.deref-old.ensures) at)) in
     record {
       before = rw fresh c.in_ok-fresh.ensures.sorted;

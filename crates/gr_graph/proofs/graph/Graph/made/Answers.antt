@@ -3,7 +3,7 @@ use Rattle.std.proofs.Common.{List, ap, subst, ◌∙◌}
 use Rattle.std.specs.List.{AllZip}
 use Rattle.gr_graph.specs.Graphs.{paths_of}
 use Rattle.gr_graph.specs.Rows.{IsRow}
-use Rattle.gr_graph.specs.declared.package.Package.{Package}
+use Rattle.gr_graph.specs.declared.package.ParsedPackage.{ParsedPackage}
 use Rattle.gr_graph.proofs.PackagePaths.{paths_sorted}
 use Rattle.gr_graph.proofs.Linked.{are_linked, graph_is}
 use Rattle.gr_graph.proofs.graph.Graph.made.Goals as goal
@@ -16,13 +16,13 @@ rows-requires c =
 pub of-requires : goal.of-requires
 of-requires c =
     let ps = c.args.packages.items in
-    let rows = subst (λ (qs : List Package). AllZip (λ p row. IsRow (paths_of qs) p.trees.items row) qs c.in_ok-rows.field-0.items) c.deref.ensures.value
+    let rows = subst (λ (qs : List ParsedPackage). AllZip (λ p row. IsRow (paths_of qs) p.trees.items row) qs c.in_ok-rows.field-0.items) c.deref.ensures.value
     c.in_ok-rows.ensures in
     are_linked c.args.files ps c.in_ok-rows.field-0.items c.requires.paths c.requires.files rows
 
 pub invariant_of-result : goal.invariant_of-result
 invariant_of-result c =
     let ps = c.args.packages.items in
-    let rows = subst (λ (qs : List Package). AllZip (λ p row. IsRow (paths_of qs) p.trees.items row) qs c.in_ok-rows.field-0.items) c.deref.ensures.value
+    let rows = subst (λ (qs : List ParsedPackage). AllZip (λ p row. IsRow (paths_of qs) p.trees.items row) qs c.in_ok-rows.field-0.items) c.deref.ensures.value
     c.in_ok-rows.ensures in
     rw (c.in_ok-new.ensures.ok, c.in_ok-links.ensures) (graph_is c.args.files ps c.in_ok-rows.field-0.items c.requires.paths c.requires.files rows)

@@ -6,7 +6,7 @@ use Rattle.gr_text.specs.Workspace.{Workspace}
 use Rattle.gr_graph.specs.Changed.{HasRow}
 use Rattle.gr_graph.specs.Graphs.{paths_of, IsGraph}
 use Rattle.gr_graph.specs.Imports.{Links}
-use Rattle.gr_graph.specs.declared.package.Package.{Package}
+use Rattle.gr_graph.specs.declared.package.ParsedPackage.{ParsedPackage}
 use Rattle.gr_graph.proofs.ChangedPackages.{graph_stays, packages_paths, packages_files}
 use Rattle.gr_graph.proofs.PackagePaths.{paths_sorted}
 use Rattle.gr_graph.proofs.graph.Graph.replaced.Goals as goal
@@ -55,6 +55,6 @@ invariant_of-result c =
     let graph = subst (λ (x : Workspace). IsGraph x old.packages.items old.links) (ap (λ parts. parts.files) c.deref-old.ensures ∙ c.before-2.view_is) whole in
     let told = c.in_ok-keep_rows.ensures c.if-not-branch.false in
     let rows = subst (λ (g : Links). All (HasRow (paths_of packages) g) fresh) c.links.ensures
-    (subst (λ (ps : List Package). All (HasRow (paths_of ps) c.links.result.now) fresh) c.deref.ensures.value told) in
+    (subst (λ (ps : List ParsedPackage). All (HasRow (paths_of ps) c.links.result.now) fresh) c.deref.ensures.value told) in
     rw (c.in_ok-new.ensures.ok, c.in_ok-links.ensures.cases)
     (graph_stays v w old.packages.items fresh packages old.links graph c.requires.differs c.requires.fresh c.requires.kept c.in_ok-packages.ensures rows)

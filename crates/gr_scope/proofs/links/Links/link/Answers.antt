@@ -1,7 +1,7 @@
 -- The answers to the goals of `links::Links::link`.
 use Rattle.std.proofs.Common.{◌≡◌, ◌∷◌, [], ◌++◌, true, false, ap, sym, ◌∙◌}
 use Rattle.indexmap.specs.IndexMap.{get}
-use Rattle.gr_scope.specs.contracts.links.KeyPartialEq.TheImpl as equal
+use Rattle.gr_scope.specs.contracts.links.LinkKeyPartialEq.TheImpl as equal
 use Rattle.gr_scope.specs.Numbering.{told}
 use Rattle.gr_scope.specs.Regions.{keys_of}
 use Rattle.gr_scope.specs.Table.{layout_of}

@@ -1,0 +1,14 @@
+-- The invariants of the loops of `checked::Checked::check_globals`.
+use Rattle.std.proofs.Common.{◌≡◌, drop}
+use Rattle.gr_tree.specs.View.{list_view}
+use Rattle.gr_tree.specs.FileView.{global_view}
+use Rattle.gr_expr.specs.WorldView.{world_of}
+use Rattle.gr_stmt.specs.Checked.{check_items}
+use Rattle.gr_stmt.specs.Declarations.{check_global}
+use Rattle.gr_stmt.specs.View.{checked_of}
+use Rattle.gr_stmt.proofs.checked.CheckedBody.check_globals.Given as goal
+
+abbrev pub invariant-loop-item : goal.invariant-loop-item
+invariant-loop-item l =
+    check_items (check_global (world_of l.world)) (checked_of l.self) (list_view global_view (drop l.item-index l.item-items)) ≡ check_items
+    (check_global (world_of l.world)) (checked_of l.initial.self) (list_view global_view l.item-items)
