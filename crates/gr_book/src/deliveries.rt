@@ -1,8 +1,7 @@
 //! What a delivery comes to.
 ghost use Rattle.std.specs.Prelude.{◌≡◌, ◌↔◌, IfOk, IsTrue};
-ghost use Rattle.gr_book.specs.Outcomes.{ComesTo, FindsFresh, HasTable, Settles};
+ghost use Rattle.gr_book.specs.Outcomes.{ComesTo, FindsFresh};
 
-use crate::event::Reply;
 use crate::state::State;
 use gr_compile::{Built, Job};
 use gr_keep::{Finished, SharedKnown, closure_files, learned};
@@ -82,22 +81,4 @@ pub(crate) fn outcome_of(
         built.known(),
     )?;
     Ok(Outcome::Entered(finished, known))
-}
-
-/// The reply to a delivery, which the current state takes in.
-pub(crate) fn settle(current: &mut State, outcome: Outcome) -> Reply
-    requires { HasTable current.old outcome }
-    ensures { Settles current.old outcome result current.new }
-{
-    match outcome {
-        Outcome::Late => Reply::Refused(Refusal::Stale {
-            current: current.number,
-        }),
-        Outcome::Known => Reply::Refused(Refusal::Already),
-        Outcome::Entered(finished, known) => {
-            current.finished = finished;
-            current.known = known;
-            Reply::Done(current.number)
-        }
-    }
 }

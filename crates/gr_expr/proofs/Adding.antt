@@ -223,7 +223,8 @@ reached_element w k place at j kind wanted {total} {rest} {more} {before} {now} 
       goes_on = element_split w c.so_far k place j more ∙ (ap (λ x. elements_then c.so_far x) (sym r) ∙ c.goes_on);
     }
 
-pub reached_elements_as : {total rest : JudgedElements} {before now : FoundInFile} {a b c d : Bool} → c ≡ a → d ≡ b → ReachedElements total rest before now a b →
+pub reached_elements_as : {total rest : JudgedElements} {before now : FoundInFile} {a b c d : Bool} → c ≡ a → d ≡ b →
+    ReachedElements total rest before now a b →
     ReachedElements total rest before now c d
 reached_elements_as {total} {rest} {before} {now} {a} {b} {c} {d} e f r =
     subst (λ (x : Bool). ReachedElements total rest before now c x) (sym f) (subst (λ (x : Bool). ReachedElements total rest before now x b) (sym e) r)
@@ -236,7 +237,8 @@ and_end : (a : Bool) → (a && true) ≡ a
 and_end true = refl
 and_end false = refl
 
-pub reached_elements_end : {total rest : JudgedElements} {before now : FoundInFile} {whole unkeyed : Bool} → ReachedElements total rest before now whole unkeyed →
+pub reached_elements_end : {total rest : JudgedElements} {before now : FoundInFile} {whole unkeyed : Bool} →
+    ReachedElements total rest before now whole unkeyed →
     rest ≡ no_elements → AddsElements total before now whole unkeyed
 reached_elements_end {total} {rest} {before} {now} {whole} {unkeyed} c e =
     let t : elements_then c.so_far no_elements ≡ total = ap (λ r. elements_then c.so_far r) (sym e) ∙ c.goes_on in

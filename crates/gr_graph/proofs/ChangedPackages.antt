@@ -58,7 +58,8 @@ not_false false h = refl
 pub at_path : (paths : List (List ℕ)) (n : ℕ) (q : List ℕ) → slice_get paths n ≡ Some q → Contains paths q
 at_path paths n q at = (n, slice_get_within paths n q at, get_or_from_slice_get paths n q q at)
 
-pub all_more : (P : ParsedPackage → Type 0) (xs : List ParsedPackage) (k : ℕ) (x : ParsedPackage) → k < length xs → x ≡ get_or xs k x → All P (take k xs) → P x →
+pub all_more : (P : ParsedPackage → Type 0) (xs : List ParsedPackage) (k : ℕ) (x : ParsedPackage) → k < length xs → x ≡ get_or xs k x → All P (take k xs) →
+    P x →
     All P (take (k + 1) xs)
 all_more P xs k x below is all here =
     subst (All P) (sym (take_more xs k x below ∙ ap (λ y. take k xs ++ y ∷ []) (sym is))) (All-push P (take k xs) x all here)
@@ -191,7 +192,8 @@ module _ (v w : Workspace) (before fresh packages : List ParsedPackage) (g : Lin
 
   -- and the links stay where the packages of the folders import what they did
   module _ (rows : All (HasRow (paths_of packages) g) fresh) where
-    imports_stay : (i j : ℕ) (p q : List ℕ) → slice_get (package_paths w) i ≡ Some p → slice_get (package_paths w) j ≡ Some q → Imports g i j ↔ PackageImports w p q
+    imports_stay : (i j : ℕ) (p q : List ℕ) → slice_get (package_paths w) i ≡ Some p → slice_get (package_paths w) j ≡ Some q →
+        Imports g i j ↔ PackageImports w p q
     imports_stay i j p q at_i at_j =
         let here = package_at packages i p (ap (λ l. slice_get l i) packages_paths ∙ at_i) in
         ⊎_elim

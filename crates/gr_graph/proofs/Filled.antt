@@ -56,7 +56,8 @@ filled_start staying all ps empty i p at apart_p ts fs parsed =
     rw (here.0, here.1) parsed
 
 -- ---- a Go file
-with_one : (all : List (List ℕ × List ℕ)) (e : List ℕ × List ℕ) (rest : List (List ℕ × List ℕ)) (file : ParsedFile) (b a : ParsedPackage) → IsWithFile file b a →
+with_one : (all : List (List ℕ × List ℕ)) (e : List ℕ × List ℕ) (rest : List (List ℕ × List ℕ)) (file : ParsedFile) (b a : ParsedPackage) →
+    IsWithFile file b a →
     IsParsedAs e.0 e.1 file
     → ((ts : List FileParts) (fs : List FaultyParts) → AreParsed (e ∷ rest) ts fs → AreParsed all (b.trees.items ++ ts) (b.faulty.items ++ fs))
     → (ts : List FileParts) (fs : List FaultyParts) → AreParsed rest ts fs → AreParsed all (a.trees.items ++ ts) (a.faulty.items ++ fs)
@@ -86,7 +87,8 @@ not_in_folder e left path apart =
 pub paths_added : (n : ℕ) (file : ParsedFile) (old new : List ParsedPackage) → AddsFile n file old new → paths_of new ≡ paths_of old
 paths_added n file old new adds = ap paths_of adds.new_is ∙ paths_set old n adds.before adds.after adds.at (same_path file _ _ adds.with_file)
 
-pub filled_add : (staying : List ParsedPackage) (all : List (List ℕ × List ℕ)) (e : List ℕ × List ℕ) (left : List (List ℕ × List ℕ)) (old new : List ParsedPackage)
+pub filled_add : (staying : List ParsedPackage) (all : List (List ℕ × List ℕ)) (e : List ℕ × List ℕ) (left : List (List ℕ × List ℕ))
+    (old new : List ParsedPackage)
     (n : ℕ) (file : ParsedFile)
     → IsStrictlySortedBy path_cmp (paths_of old) → IsOfNone staying e.0 → slice_get (paths_of old) n ≡ Some (folder e.0) → AddsFile n file old new →
     IsParsedAs e.0 e.1 file
@@ -115,7 +117,8 @@ filled_add staying all e left old new n file sorted of_none at adds is filled i 
     (cases_eq i n)
 
 -- ---- a file that is of no package that is made anew
-pub filled_skip : (staying : List ParsedPackage) (all : List (List ℕ × List ℕ)) (e : List ℕ × List ℕ) (left : List (List ℕ × List ℕ)) (ps : List ParsedPackage) →
+pub filled_skip : (staying : List ParsedPackage) (all : List (List ℕ × List ℕ)) (e : List ℕ × List ℕ) (left : List (List ℕ × List ℕ))
+    (ps : List ParsedPackage) →
     IsOfOne staying e.0 → AreFilled staying all (e ∷ left) ps → AreFilled staying all left ps
 filled_skip staying all e left ps of_one filled i p at apart_p ts fs parsed =
     ⊎_elim
@@ -128,7 +131,8 @@ filled_skip staying all e left ps of_one filled i p at apart_p ts fs parsed =
     of_one
 
 -- ---- a file of another folder than those of the packages
-pub filled_other : (staying : List ParsedPackage) (all : List (List ℕ × List ℕ)) (e : List ℕ × List ℕ) (left : List (List ℕ × List ℕ)) (ps : List ParsedPackage) →
+pub filled_other : (staying : List ParsedPackage) (all : List (List ℕ × List ℕ)) (e : List ℕ × List ℕ) (left : List (List ℕ × List ℕ))
+    (ps : List ParsedPackage) →
     (Contains (paths_of ps) (folder e.0) → ⊥) → AreFilled staying all (e ∷ left) ps → AreFilled staying all left ps
 filled_other staying all e left ps never filled i p at apart_p ts fs parsed =
     let there : Contains (paths_of ps) p.path.items = (
@@ -140,7 +144,8 @@ filled_other staying all e left ps never filled i p at apart_p ts fs parsed =
     (sym (not_in_folder e left p.path.items (λ same. never (subst (Contains (paths_of ps)) (sym same) there)))) parsed)
 
 -- ---- nothing is left
-pub filled_end : (staying : List ParsedPackage) (all : List (List ℕ × List ℕ)) (ps : List ParsedPackage) → AreFilled staying all [] ps → (i : ℕ) (p : ParsedPackage) →
+pub filled_end : (staying : List ParsedPackage) (all : List (List ℕ × List ℕ)) (ps : List ParsedPackage) → AreFilled staying all [] ps →
+    (i : ℕ) (p : ParsedPackage) →
     slice_get ps i ≡ Some p → (Contains (paths_of staying) p.path.items → ⊥)
     → AreParsed (files_in p.path.items all) p.trees.items p.faulty.items
 filled_end staying all ps filled i p at apart_p =

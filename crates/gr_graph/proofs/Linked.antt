@@ -55,13 +55,15 @@ tree_of (fault {e = d} {es = es} {ts = ts} {f = f} is rest) e has file parsed =
     e has parsed
 
 -- ---- packages by number
-pub package_at : (ps : List ParsedPackage) (i : ℕ) (p : List ℕ) → slice_get (paths_of ps) i ≡ Some p → (q : ParsedPackage) × (slice_get ps i ≡ Some q) × (q.path.items ≡ p)
+pub package_at : (ps : List ParsedPackage) (i : ℕ) (p : List ℕ) → slice_get (paths_of ps) i ≡ Some p → (q : ParsedPackage) × (slice_get ps i ≡ Some q) ×
+    (q.path.items ≡ p)
 package_at [] i p h = absurd (none-some p h)
 package_at (q ∷ ps) zero p h = (q, refl, same_Some _ _ h)
 package_at (q ∷ ps) (suc i) p h = package_at ps i p h
 
 -- the row of a package tells what it imports
-pub row_imports : (w : Workspace) (paths : List (List ℕ)) (p : ParsedPackage) (row : List ℕ) → AreParsed (package_files w p.path.items) p.trees.items p.faulty.items →
+pub row_imports : (w : Workspace) (paths : List (List ℕ)) (p : ParsedPackage) (row : List ℕ) →
+    AreParsed (package_files w p.path.items) p.trees.items p.faulty.items →
     IsRow paths p.trees.items row → (j : ℕ) (q : List ℕ) → slice_get paths j ≡ Some q → Contains row j ↔ PackageImports w p.path.items q
 row_imports w paths p row parsed is j q at = (
   λ has.
@@ -86,7 +88,8 @@ module _ (w : Workspace) (ps : List ParsedPackage) (g : Links) (paths : paths_of
   R = λ p row. IsRow (paths_of ps) p.trees.items row
 
   row_at : (i : ℕ) (p : ParsedPackage) → slice_get ps i ≡ Some p → IsRow (paths_of ps) p.trees.items (imports_of g i)
-  row_at i p at = subst (λ (q : ParsedPackage). R q (imports_of g i)) (get_or_from_slice_get ps i p p at) (zip_at R ps g rows i p [] (slice_get_within ps i p at))
+  row_at i p at = subst (λ (q : ParsedPackage). R q (imports_of g i)) (get_or_from_slice_get ps i p p at)
+      (zip_at R ps g rows i p [] (slice_get_within ps i p at))
 
   size : length g ≡ length (paths_of ps)
   size = sym (zip_length R ps g rows) ∙ sym (length-map ps (λ (p : ParsedPackage). p.path.items))

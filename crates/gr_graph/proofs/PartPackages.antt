@@ -33,7 +33,8 @@ use Rattle.gr_graph.proofs.StayingPackages.{any_of}
 -- ---- the packages
 module _ (old : List ParsedPackage) where
   -- each has a number
-  has_number : (ns : List ℕ) (ps : List ParsedPackage) → AreNumbered old ns ps → (i : ℕ) (p : ParsedPackage) → slice_get ps i ≡ Some p → (n : ℕ) × Contains ns n ×
+  has_number : (ns : List ℕ) (ps : List ParsedPackage) → AreNumbered old ns ps → (i : ℕ) (p : ParsedPackage) → slice_get ps i ≡ Some p → (n : ℕ) ×
+      Contains ns n ×
       (slice_get old n ≡ Some p)
   has_number [] [] are i p at = absurd (none-some p at)
   has_number [] (q ∷ ps) are i p at = absurd are

@@ -40,7 +40,8 @@ outside_not_among : (folders : List (List ℕ)) (p : ParsedPackage) → is_outsi
 outside_not_among folders p outside has = true≢false (sym outside ∙ ap not (any_of p.path.items folders has))
 
 -- ---- one package more
-pub outside_more : (test : ParsedPackage → Bool) (ps : List ParsedPackage) (i : ℕ) (p : ParsedPackage) (b : Bool) → i < length ps → p ≡ get_or ps i p → test p ≡ b
+pub outside_more : (test : ParsedPackage → Bool) (ps : List ParsedPackage) (i : ℕ) (p : ParsedPackage) (b : Bool) → i < length ps → p ≡ get_or ps i p →
+    test p ≡ b
     → filter test (take (i + 1) ps) ≡ filter test (take i ps) ++ cond b (p ∷ []) []
 outside_more test ps i p b below is passes =
     ap (filter test) (take_more ps i p below)
@@ -68,7 +69,8 @@ outside_sorted test (p ∷ ps) sorted = elim (test p) as (λ b. IsStrictlySorted
 ]
 
 -- ---- the files
-kept_all : (test : ParsedPackage → Bool) (P Q : ParsedPackage → Type 0) (ps : List ParsedPackage) → ((p : ParsedPackage) → test p ≡ true → P p → Q p) → AllByRecursion P ps →
+kept_all : (test : ParsedPackage → Bool) (P Q : ParsedPackage → Type 0) (ps : List ParsedPackage) → ((p : ParsedPackage) → test p ≡ true → P p → Q p) →
+    AllByRecursion P ps →
     AllByRecursion Q (filter test ps)
 kept_all test P Q [] gives all = tt
 kept_all test P Q (p ∷ ps) gives all = elim (test p) as (λ b. test p ≡ b → AllByRecursion Q (cond b (p ∷ filter test ps) (filter test ps))) [

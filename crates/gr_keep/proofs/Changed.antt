@@ -116,7 +116,8 @@ package_has w q e has = get_entry w e (passes (λ d. is_of_package q d.0) (map_o
 pub package_path : (w : Workspace) (q : List ℕ) (e : List ℕ × List ℕ) → Contains (package_files w q) e → is_of_package q e.0 ≡ true
 package_path w q e has = (passes (λ d. is_of_package q d.0) (map_of.entries w) e has).0
 
-pub in_package : (w : Workspace) (q path text : List ℕ) → is_of_package q path ≡ true → map_of.get w path ≡ Some text → Contains (package_files w q) (path, text)
+pub in_package : (w : Workspace) (q path text : List ℕ) → is_of_package q path ≡ true → map_of.get w path ≡ Some text →
+    Contains (package_files w q) (path, text)
 in_package w q path text of got = passed (λ d. is_of_package q d.0) (map_of.entries w) (path, text) of (entry_of w path text got)
 
 -- First the files of v that w has not with the same text, then those of w that v has not at all.

@@ -24,7 +24,8 @@ pub record GoesOver (s : Source) (slots : List ℕ) (links : List Link) (i : ℕ
       lines_for first (linked s slots o (links_in links)) ++ lines_in old ≡ lines_for left (linked s slots o (links_in (take i links))) ++ lines_in new
 
 -- one more link
-pub over_more : (s : Source) (slots : List ℕ) (links : List Link) (i : ℕ) (x : Link) (head stands : OperandPlace) (first left next : Wanted) (old mid new : Code) →
+pub over_more : (s : Source) (slots : List ℕ) (links : List Link) (i : ℕ) (x : Link) (head stands : OperandPlace) (first left next : Wanted)
+    (old mid new : Code) →
     i < length links → x ≡ get_or links i x → GoesOver s slots links (i + 1) head first left old mid →
     ((o : Operand) → before_link o.standing ≡ before_link (standing_of head) →
     before_link (linked s slots o (links_in (take i links))).standing ≡ before_link (standing_of stands)) →
@@ -116,7 +117,8 @@ pub goes_behind_as : {rule : Operand → Operand} {b d : Bool} {first left : Wan
 goes_behind_as {rule} {b} {d} e g = record { on = λ o q. g.on o (q ∙ sym e) }
 
 -- the same in a loop whose numbers fall
-pub over_turn : (s : Source) (slots : List ℕ) (links : List Link) (i : ℕ) (x : Link) (head stands : OperandPlace) (first left next : Wanted) (old mid new : Code) →
+pub over_turn : (s : Source) (slots : List ℕ) (links : List Link) (i : ℕ) (x : Link) (head stands : OperandPlace) (first left next : Wanted)
+    (old mid new : Code) →
     0 < i → i - 1 < length links → x ≡ get_or links (i - 1) x → GoesOver s slots links i head first left old mid →
     ((o : Operand) → before_link o.standing ≡ before_link (standing_of head) →
     before_link (linked s slots o (links_in (take (i - 1) links))).standing ≡ before_link (standing_of stands)) →

@@ -123,7 +123,8 @@ pub fields_within : (begin k : ℕ) (now new : List ℕ) (xs : List (Item ℕ)) 
 fields_within begin k now new xs h e = let grown : length new ≡ length now + length (positions_from k xs) = ap length e ∙
     length-append now (positions_from k xs) in omega arith
 
-pub fields_step : (begin : ℕ) (now new total : List ℕ) (fs : List (items.Item FieldTree)) (i : ℕ) (f : items.Item FieldTree) → begin ≤ length now → i < length fs →
+pub fields_step : (begin : ℕ) (now new total : List ℕ) (fs : List (items.Item FieldTree)) (i : ℕ) (f : items.Item FieldTree) → begin ≤ length now →
+    i < length fs →
     f ≡ get_or fs i f →
     now ++ positions_from (length now - begin) (struct_names (drop i fs)) ≡ total →
     new ≡ now ++ positions_from (length now - begin) (field_view f.value).names →

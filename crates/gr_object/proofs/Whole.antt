@@ -162,7 +162,8 @@ head_put p files keys old mid new are holds sorted first e = record {
 
 -- the whole text
 
-pub whole_text : (p : Package) (members : List (Vec MemberUse)) (packages : CalledPackages) (names : List program.FunctionName) (others : ℕ) (mid new : List ℕ) →
+pub whole_text : (p : Package) (members : List (Vec MemberUse)) (packages : CalledPackages) (names : List program.FunctionName) (others : ℕ)
+    (mid new : List ℕ) →
     map function_of names ≡ function_names p.path p.files →
     PutsHead p [] mid → PutsFiles p (length p.files) members packages names others mid new →
     (files_of : List ℕ → List SourceFile) → AreMemberUses p (map uses_in members) → HaveNames packages files_of → IsObjectText p files_of new

@@ -54,7 +54,8 @@ abbrev pub OwnDefinitionsOf : (path : List ℕ) → List FileParts → (List ℕ
 OwnDefinitionsOf path files name_of interface_of found = (p : Package) → IsPackageOf path files name_of interface_of p → AreOwnDefinitions p found
 
 -- the text of its object, where these are its uses of members, and the files of packages have these names
-abbrev pub IsObjectTextOf : (path : List ℕ) → List FileParts → (List ℕ → Option (List ℕ)) → (List ℕ → Interface) → List (List plain.MemberUse) → CalledPackages →
+abbrev pub IsObjectTextOf : (path : List ℕ) → List FileParts → (List ℕ → Option (List ℕ)) → (List ℕ → Interface) → List (List plain.MemberUse) →
+    CalledPackages →
     List ℕ → Type 0
 IsObjectTextOf path files name_of interface_of uses packages text =
     (p : Package) × IsPackageOf path files name_of interface_of p ×

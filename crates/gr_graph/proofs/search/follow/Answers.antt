@@ -17,7 +17,8 @@ loop-number-init c = record {
   size = c.requires.size;
   finds = λ first h. h;
   noted =
-      notes_none c.args.found.now.items c.args.marks.now.items (Contains (take 0 c.imports_of-number-items.result.now)) (λ q has. absurd (omega (arith, has.1)));
+      notes_none c.args.found.now.items c.args.marks.now.items (Contains (take 0 c.imports_of-number-items.result.now))
+          (λ q has. absurd (omega (arith, has.1)));
 }
 
 pub note-requires : goal.note-requires

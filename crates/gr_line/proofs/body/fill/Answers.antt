@@ -18,7 +18,8 @@ returns-then-count-eq0-clause-fills g c =
       take at buf,
       omega (arith, length-take-le at buf within, length-filled at room buf part within, part_len),
       subst (Consumes (g.S.ByteSource.remaining c.args.source.now) (g.S.ByteSource.remaining c.read_some.new.source)) (append-nil (take at buf))
-          (Consumes-trans (g.S.ByteSource.remaining c.args.source.now) (g.S.ByteSource.remaining c.loop-at.source) (g.S.ByteSource.remaining c.read_some.new.source)
+          (Consumes-trans (g.S.ByteSource.remaining c.args.source.now) (g.S.ByteSource.remaining c.loop-at.source)
+          (g.S.ByteSource.remaining c.read_some.new.source)
           (take at buf) _ c.loop-at.invariant.taken (rw c.if-count-eq0.true at c.in_ok-count.ensures.bytes.0)),
       c.in_ok-count.ensures.bytes.1 c.if-count-eq0.true (omega (arith, part_len)),
     )
@@ -35,7 +36,8 @@ loop-at-preserved g c =
       reads = c.in_ok-count.ensures.reads ∙ c.loop-at.invariant.reads;
       within = omega (arith, length-filled at room buf part within, c.in_ok-count.ensures.bound.0);
       taken = rw (take-filled at room n buf part within c.in_ok-count.ensures.bound.0)
-          (Consumes-trans (g.S.ByteSource.remaining c.args.source.now) (g.S.ByteSource.remaining c.loop-at.source) (g.S.ByteSource.remaining c.read_some.new.source)
+          (Consumes-trans (g.S.ByteSource.remaining c.args.source.now) (g.S.ByteSource.remaining c.loop-at.source)
+          (g.S.ByteSource.remaining c.read_some.new.source)
           (take at buf) (take n part) c.loop-at.invariant.taken c.in_ok-count.ensures.bytes.0);
       reader = c.in_ok-count.ensures.counted ∙ c.loop-at.invariant.reader;
       turns = omega (arith, c.in_ok-count.ensures.turns);

@@ -17,7 +17,8 @@ loop-left-preserved g c =
       taken = (
         before.0 ++ take n part,
         omega (arith, taken, joined, before.1, enough),
-        Consumes-trans (g.S.ByteSource.remaining c.args.source.now) (g.S.ByteSource.remaining c.loop-left.source) (g.S.ByteSource.remaining c.read_some.new.source)
+        Consumes-trans (g.S.ByteSource.remaining c.args.source.now) (g.S.ByteSource.remaining c.loop-left.source)
+            (g.S.ByteSource.remaining c.read_some.new.source)
             before.0 (take n part) before.2 c.in_ok-count.ensures.bytes.0,
       );
       reader = c.in_ok-count.ensures.counted ∙ c.loop-left.invariant.reader;

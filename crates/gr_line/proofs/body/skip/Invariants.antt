@@ -6,7 +6,8 @@ use Rattle.gr_line.proofs.body.skip.Given as goal
 abbrev pub invariant-loop-left : goal.invariant-loop-left
 invariant-loop-left g l = record {
   reads : g.S.ByteSource.reads l.source + l.reads_left ≡ g.S.ByteSource.reads l.initial.source + l.initial.reads_left;
-  taken : (bytes : List ℕ) × (length bytes + l.left ≡ l.fn.size) × Consumes (g.S.ByteSource.remaining l.initial.source) (g.S.ByteSource.remaining l.source) bytes;
+  taken : (bytes : List ℕ) × (length bytes + l.left ≡ l.fn.size) ×
+      Consumes (g.S.ByteSource.remaining l.initial.source) (g.S.ByteSource.remaining l.source) bytes;
   reader : g.S.ByteSource.failures l.source ≡ g.S.ByteSource.failures l.initial.source;
   turns : l.reads_left ≤ l.initial.reads_left;
 }

@@ -6,7 +6,8 @@ use Rattle.gr_line.proofs.input.read_line.Goals as goal
 pub returns-in-Some-eq10-clause-line : goal.returns-in-Some-eq10-clause-line
 returns-in-Some-eq10-clause-line g c =
     rw c.whole_line.ensures
-    (line_read c.args.limit (g.S.ByteSource.remaining c.args.source.now) (g.S.ByteSource.remaining c.loop-line.source) (g.S.ByteSource.remaining c.read_byte.new.source)
+    (line_read c.args.limit (g.S.ByteSource.remaining c.args.source.now) (g.S.ByteSource.remaining c.loop-line.source)
+    (g.S.ByteSource.remaining c.read_byte.new.source)
     c.loop-line.line.items c.loop-line.is_too_long c.loop-line.invariant.so_far
     (rw (c.in-Some-eq10.is, c.in-Some-eq10.field-0-test) at c.in_ok-read_byte.ensures.byte))
 

@@ -16,4 +16,5 @@ returns-in-Some-clause-next g c =
 
 pub returns-in-Err-clause-next : goal.returns-in-Err-clause-next
 returns-in-Err-clause-next g c =
-    next_stops c.args.limits.now (g.S.ByteSource.remaining c.args.source.now) (g.S.ByteSource.remaining c.read_line.new.source) c.in-Err.fault c.in-Err.ensures.line
+    next_stops c.args.limits.now (g.S.ByteSource.remaining c.args.source.now) (g.S.ByteSource.remaining c.read_line.new.source) c.in-Err.fault
+    c.in-Err.ensures.line

@@ -6,4 +6,5 @@ use Rattle.gr_object.specs.ObjectText.{import_line}
 use Rattle.gr_object.proofs.imports.push_imports.Given as goal
 
 abbrev pub invariant-loop-path : goal.invariant-loop-path
-invariant-loop-path l = l.text.items ++ flat_map import_line (bytes_of_paths l.path-iterator) ≡ l.initial.text.items ++ flat_map import_line (bytes_of_paths l.paths.keys)
+invariant-loop-path l = l.text.items ++ flat_map import_line (bytes_of_paths l.path-iterator) ≡ l.initial.text.items ++ flat_map import_line
+    (bytes_of_paths l.paths.keys)

@@ -7,7 +7,8 @@ use Rattle.gr_wire.proofs.exchange.session.Goals as goal
 pub loop-reading-init : goal.loop-reading-init
 loop-reading-init g c = record {
   reads = search rules;
-  step = StepEnds-none g.D.Desk.steps g.D.Desk.waits c.args.limits (g.S.ByteSource.remaining c.args.source.now) (g.T.Sink.contents c.args.sink.now) c.args.desk.now;
+  step = StepEnds-none g.D.Desk.steps g.D.Desk.waits c.args.limits (g.S.ByteSource.remaining c.args.source.now) (g.T.Sink.contents c.args.sink.now)
+      c.args.desk.now;
   reader = search rules;
   writer = search rules;
 }

@@ -31,7 +31,8 @@ invariant_of-self g c =
     let tested : IsTrue c.has_room.result ↔ (entries_due m + c.entries_needed.result ≤ m.limits.journal) =
     subst (λ (x : Machine). IsTrue c.has_room.result ↔ (entries_due x + c.entries_needed.result ≤ x.limits.journal)) (sym c.self.view_is) c.has_room.ensures in
     let fits : HasRoom m event ↔ (entries_due m + c.entries_needed.result ≤ m.limits.journal) =
-    room_is m event c.asked-asked.result c.entries_needed.result c.asked-asked.ensures.kind c.asked-asked.ensures.out c.self.invariant.3 c.entries_needed.ensures in
+    room_is m event c.asked-asked.result c.entries_needed.result c.asked-asked.ensures.kind c.asked-asked.ensures.out c.self.invariant.3
+    c.entries_needed.ensures in
     let place = place_now (vec_capacity c.make_room.new.journal) (length c.make_room.new.journal.items + length c.self.inside.content.out.jobs)
     c.self.inside.content.out event c.asked-asked.result.is_out c.asked-asked.ensures.out c.in-Ok.ensures.ok in
     let on = holds_on c.self.inside.content c.answer.new.content c.self.inside.journal.items c.make_room.new.journal.items c.answer.new.journal.items
@@ -47,7 +48,8 @@ returns-in-Ok g c =
     let tested : IsTrue c.has_room.result ↔ (entries_due m + c.entries_needed.result ≤ m.limits.journal) =
     subst (λ (x : Machine). IsTrue c.has_room.result ↔ (entries_due x + c.entries_needed.result ≤ x.limits.journal)) (sym c.self.view_is) c.has_room.ensures in
     let fits : HasRoom m event ↔ (entries_due m + c.entries_needed.result ≤ m.limits.journal) =
-    room_is m event c.asked-asked.result c.entries_needed.result c.asked-asked.ensures.kind c.asked-asked.ensures.out c.self.invariant.3 c.entries_needed.ensures in
+    room_is m event c.asked-asked.result c.entries_needed.result c.asked-asked.ensures.kind c.asked-asked.ensures.out c.self.invariant.3
+    c.entries_needed.ensures in
     let place = place_now (vec_capacity c.make_room.new.journal) (length c.make_room.new.journal.items + length c.self.inside.content.out.jobs)
     c.self.inside.content.out event c.asked-asked.result.is_out c.asked-asked.ensures.out c.in-Ok.ensures.ok in
     let on = holds_on c.self.inside.content c.answer.new.content c.self.inside.journal.items c.make_room.new.journal.items c.answer.new.journal.items
@@ -75,6 +77,7 @@ returns-then-not-has_room g c =
     let tested : IsTrue c.has_room.result ↔ (entries_due m + c.entries_needed.result ≤ m.limits.journal) =
     subst (λ (x : Machine). IsTrue c.has_room.result ↔ (entries_due x + c.entries_needed.result ≤ x.limits.journal)) (sym c.self.view_is) c.has_room.ensures in
     let fits : HasRoom m event ↔ (entries_due m + c.entries_needed.result ≤ m.limits.journal) =
-    room_is m event c.asked-asked.result c.entries_needed.result c.asked-asked.ensures.kind c.asked-asked.ensures.out c.self.invariant.3 c.entries_needed.ensures in
+    room_is m event c.asked-asked.result c.entries_needed.result c.asked-asked.ensures.kind c.asked-asked.ensures.out c.self.invariant.3
+    c.entries_needed.ensures in
     subst (λ (x : Machine). StepKept x event (g.Q.Question.reply c.refuse.result) None x) c.self.view_is
     (full_kept m event (g.Q.Question.reply c.refuse.result) c.refuse.ensures (λ room. false≢true (sym c.if-not-has_room.true ∙ tested.1 (fits.0 room))))
