@@ -5,7 +5,6 @@ ghost use Rattle.gr_book.specs.Outcomes.{ComesTo, FindsFresh};
 use crate::state::State;
 use gr_compile::{Built, Job};
 use gr_keep::{Finished, SharedKnown, closure_files, learned};
-use gr_text::Refusal;
 use std::alloc::{AllocError, Global};
 
 /// What a delivery comes to.

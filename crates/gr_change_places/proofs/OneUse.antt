@@ -22,7 +22,7 @@ use Rattle.gr_scope.proofs.PackageRegions.{package_well_formed}
 use Rattle.gr_order.proofs.HeldBytes.{numbered_files, one_named_begins}
 use Rattle.gr_order.proofs.OwnPaths.{own_paths, package_sources}
 use Rattle.gr_declared.specs.Package.{Package}
-use Rattle.gr_keep.proofs.ClosureTexts.{of_folder}
+use Rattle.gr_text.proofs.PackageFolders.{of_folder}
 use Rattle.gr_verdict.proofs.Members.{first_in, later_in, passes}
 use Rattle.gr_bound.specs.declared.declaration.Declaration.{Declaration}
 use Rattle.gr_bound.specs.Binding.{BindsByScope}

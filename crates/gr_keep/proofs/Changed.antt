@@ -21,7 +21,7 @@ use Rattle.gr_verdict.proofs.Closed.{to_package}
 use Rattle.gr_verdict.proofs.Members.{nothing_in, first_in, later_in, first_or_later, passes, passed}
 use Rattle.gr_keep.specs.Changes.{HasSameFiles, HasText, HasPath, AddsFolders, AreChanged, AreMarks, MarkClosures, MarkFolders}
 use Rattle.gr_edit.proofs.Entries.{entry_of, get_entry}
-use Rattle.gr_keep.proofs.ClosureTexts.{of_folder}
+use Rattle.gr_text.proofs.PackageFolders.{of_folder}
 
 -- ---- one folder after another
 -- The folders of files that are not there were added, as far as the files are not left.

@@ -1,12 +1,9 @@
 -- What holds of the texts of closures: where no package of a closure has other files, the closure stays; and the inputs of a
 -- package have the same closure as the workspace that they were taken of.
-use Rattle.std.proofs.Common.{◌≡◌, ℕ, List, true, ◌==◌}
+use Rattle.std.proofs.Common.{ℕ, List}
 use Rattle.std.specs.FinMap.{entries}
 use Rattle.std.specs.List.{Contains}
-use Rattle.std.specs.Cmp.Lexicographic.{pointwise, bytes_decides}
-use Rattle.std.proofs.lemmas.Bool.{and_parts}
-use Rattle.gr_text.specs.Path.{folder}
-use Rattle.gr_text.specs.Packages.{is_go, is_of_package, package_paths, package_files}
+use Rattle.gr_text.specs.Packages.{is_of_package, package_paths, package_files}
 use Rattle.gr_text.specs.Workspace.{Workspace}
 use Rattle.gr_graph.specs.Packages.{PackageImports, IsInClosure, itself, through, AreClosureTexts}
 use Rattle.gr_graph.proofs.Asked.{has_file}
@@ -17,10 +14,6 @@ use Rattle.gr_verdict.proofs.Closed.{to_package}
 use Rattle.gr_verdict.proofs.Local.{closed_there}
 use Rattle.gr_compile.specs.Inputs.{AreInputs}
 use Rattle.gr_keep.specs.Changes.{HasSameFiles, KeepsClosure}
-
--- ---- the files of a package
-pub of_folder : (p path : List ℕ) → is_of_package p path ≡ true → folder path ≡ p
-of_folder p path h = (bytes_decides _ _).0 (and_parts (is_go path) (pointwise ◌==◌ (folder path) p) h).1
 
 -- ---- the closure
 -- what a package imports is told by its files

@@ -14,7 +14,8 @@ use Rattle.gr_verdict.proofs.Members.{passes}
 use Rattle.gr_verdict.proofs.PackageFiles.{package_file}
 use Rattle.gr_compile.specs.Inputs.{AreInputs}
 use Rattle.gr_keep.specs.Knowing.{TellsThere, HasClosuresOf}
-use Rattle.gr_keep.proofs.ClosureTexts.{inputs_same, of_folder}
+use Rattle.gr_text.proofs.PackageFolders.{of_folder}
+use Rattle.gr_keep.proofs.ClosureTexts.{inputs_same}
 
 pub tells_here : (v w : Workspace) (p : List ℕ) (found : Option KnownVerdict) → (Contains (package_paths v) p → HasSameClosure v w p) →
     TellsThere v p found → MayTell w p found
