@@ -8,7 +8,7 @@ ghost use Rattle.gr_declared.specs.InterfacesView.{interface_in, name_in};
 ghost use Rattle.gr_declared.specs.PackageView.{package_of, IsIndexOf};
 ghost use Rattle.gr_meanings.specs.BoundsView.{AreBounds};
 ghost use Rattle.gr_meanings.specs.MemberUses.{AreMemberUses, uses_in};
-ghost use Rattle.gr_types.specs.Check.{IsCheckedBy, IsFoundIn, IsLaterFault, MayMean};
+ghost use Rattle.gr_types.specs.Check.{IsCheckedBy, IsFoundIn, IsLaterFault, MayLay, MayMean};
 ghost use Rattle.gr_verdict.specs.Steps.{AreKnownBelow, IsCheckedIn, IsGathered, IsUnderway};
 ghost use Rattle.gr_verdict.specs.Told.{known_by, AreWhole};
 ghost use Rattle.gr_verdict.specs.Verdicts.{AreSeen, AreStates, AreVerdictsBelow, Verdicts};
@@ -24,6 +24,7 @@ use gr_graph::{Graph, ParsedPackage as Folder};
 use gr_meanings::Bounds;
 use gr_object::objects::{Faultless, checked_object};
 use gr_object::packages::Packages;
+use gr_scope::table::ScopeTable;
 use gr_text::FileText;
 use gr_types::{Checked, CheckedPackage, check, check_package, table_of};
 use gr_verdict::{Progress, seen_imports};
@@ -135,6 +136,42 @@ fn no_text(
     })
 }
 
+/// The path of a package, its files, and what it sees of others.
+#[derive(Clone, Copy)]
+struct Seeing<'a> {
+    path: &'a SharedPath,
+    files: &'a Folder,
+    interfaces: &'a Interfaces,
+}
+
+/// What checking finds in a package each of whose files has a tree, by its table if its clauses and imports have no faults, with the
+/// text of its object if it has no fault.
+fn laid_text<'a>(
+    alloc: Global,
+    graph: &Graph,
+    number: usize,
+    of: Seeing<'a>,
+    found: Option<ScopeTable<'a>>,
+) -> Result<CheckedText, AllocError>
+    requires at { slice_get (package_paths graph.now) number ≡ Some of.path.now }
+    requires files { IsPackage graph.now number of.files.now }
+    requires read { of.files.now.faulty.items ≡ [] }
+    requires found { MayLay of.files.now.trees.items (state_in of.interfaces.now.states) (name_in of.interfaces.now) found }
+    ensures checked { IfOk result (λ made. (known : Verdicts) → AreSeen graph.now known of.entry.path.now (name_in of.entry.interfaces.now) (interface_in of.entry.interfaces.now) → AreStates graph.now known of.entry.path.now (state_in of.entry.interfaces.now.states) → IsCheckedIn graph.now known of.entry.path.now made.checked) }
+    ensures text { IfOk result (λ made. (known : Verdicts) → AreSeen graph.now known of.entry.path.now (name_in of.entry.interfaces.now) (interface_in of.entry.interfaces.now) → AreVerdictsBelow graph.now of.entry.path.now known → MayBeText graph.now of.entry.path.now made.text) }
+{
+    let Some(table) = found else {
+        return no_text(alloc, of.path, of.files, of.interfaces);
+    };
+    let unit = Package {
+        path: of.path,
+        files: of.files.trees.as_slice(),
+        table: &table,
+        interfaces: of.interfaces,
+    };
+    unit_text(alloc, graph, number, unit)
+}
+
 /// What checking finds in a package each of whose files has a tree, by what it sees of others, with the text of its object if it has
 /// no fault.
 fn seen_text<'a>(
@@ -151,18 +188,13 @@ fn seen_text<'a>(
     ensures checked { IfOk result (λ made. (known : Verdicts) → AreSeen graph.now known path.now (name_in interfaces.now) (interface_in interfaces.now) → AreStates graph.now known path.now (state_in interfaces.now.states) → IsCheckedIn graph.now known path.now made.checked) }
     ensures text { IfOk result (λ made. (known : Verdicts) → AreSeen graph.now known path.now (name_in interfaces.now) (interface_in interfaces.now) → AreVerdictsBelow graph.now path.now known → MayBeText graph.now path.now made.text) }
 {
-    let trees = files.trees.as_slice();
-    let found = table_of(alloc, interfaces.states(), trees, interfaces)?;
-    let Some(table) = found else {
-        return no_text(alloc, path, files, interfaces);
-    };
-    let unit = Package {
+    let found = table_of(alloc, interfaces.states(), &files.trees, interfaces)?;
+    let of = Seeing {
         path,
-        files: trees,
-        table: &table,
+        files,
         interfaces,
     };
-    unit_text(alloc, graph, number, unit)
+    laid_text(alloc, graph, number, of, found)
 }
 
 /// What checking finds in a package each of whose files has a tree, with the text of its object if it has no fault.
