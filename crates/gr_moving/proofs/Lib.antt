@@ -1,5 +1,4 @@
 -- The lemmas of this crate.
-pub mod PathParts
 pub mod Marking
 pub mod TokenEdits
 pub mod EditMaps

@@ -1,5 +1,4 @@
 -- The definitions of this crate.
-pub mod Paths
 pub mod Following
 pub mod FileEdits
 pub mod Changes

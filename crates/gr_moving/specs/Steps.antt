@@ -1,9 +1,8 @@
 -- What the steps answer by which the edits of a move are found.
-use Rattle.std.specs.Prelude.{ℕ, ◌≡◌, ◌≢◌, ◌<◌, ◌↔◌, ◌⊎◌, Bool, true, false, List, [], ◌∷◌, ◌++◌, ⊤, Option, Some, None, Result, Ok, Err, IsTrue, IsSome}
+use Rattle.std.specs.Prelude.{ℕ, ◌≡◌, ◌≢◌, ◌<◌, ◌↔◌, ◌⊎◌, Bool, false, List, [], ◌∷◌, ⊤, Option, Some, None, Result, Ok, Err, IsTrue, IsSome}
 use Rattle.std.specs.Prelude.{Contains, Vec, length, codes, slice_get, slice_index_or, if◌then◌else◌}
 use Rattle.std.specs.BTreeMap.{BTreeMap, get}
 use Rattle.gr_text.specs.Packages.{is_go}
-use Rattle.gr_text.specs.Path.{IsPath}
 use Rattle.gr_text.specs.Workspace.{Workspace, path_cmp}
 use Rattle.gr_text.specs.declared.refusal.Refusal.{Refusal}
 use Rattle.gr_text.specs.declared.refusal.Refusal.TheVariants.{Memory, TooLarge}
@@ -20,35 +19,11 @@ use Rattle.gr_edit.specs.declared.change.Fate.TheVariants.{Stays, Moves}
 use Rattle.gr_edit.specs.declared.edit.Edit.{Edit}
 use Rattle.gr_bound.specs.Workspaces.{IsPackageAt}
 use Rattle.gr_naming.specs.NewName.{IsNewName, IsReserved}
-use Rattle.gr_moving.specs.declared.moved.Moved.{Moved}
-use Rattle.gr_moving.specs.Paths.{IsUnder, HasMoved, HasMovedFile, HasMovedPackage, quoted}
+use Rattle.gr_moved_paths.specs.declared.moved.Moved.{Moved}
+use Rattle.gr_moved_paths.specs.Steps.{HasNoPathFor}
+use Rattle.gr_moved_paths.specs.Paths.{IsUnder, HasMovedPackage, quoted}
 use Rattle.gr_moving.specs.FileEdits.{AreFileEdits}
 use Rattle.gr_moving.specs.Changes.{AreGoEdits, MovesOrEdits}
-
--- Paths
-
--- nothing, or a slash and more
-abbrev pub IsBehind : List ℕ → Type 0
-IsBehind rest = (rest ≡ []) ⊎ ((more : List ℕ) × (rest ≡ 47 ∷ more))
-
--- the path behind a folder and a slash, or that it is none
-abbrev pub ReadsNewPath : (folder rest : List ℕ) → Result (List ℕ) Refusal → Type 0
-ReadsNewPath folder rest (Ok path) = (path ≡ folder ++ 47 ∷ rest) × IsPath 1 path
-ReadsNewPath folder rest (Err TooLarge) = ¬ (IsPath 1 (folder ++ 47 ∷ rest))
-ReadsNewPath folder rest (Err Memory) = ⊤
-ReadsNewPath folder rest (Err refusal) = ⊥
-
--- bytes that are no path in place of one
-abbrev pub HasNoPathFor : Moved → (path : List ℕ) → Type 0
-HasNoPathFor m path = (new : List ℕ) × (HasMoved m.from m.to path new × ¬ (IsPath 1 new) × IsPath 1 path)
-
--- the path that a file gets which lies in the folder that is moved
-abbrev pub TellsNewPath : Moved → (path : List ℕ) → Result (Option (List ℕ)) Refusal → Type 0
-TellsNewPath m path (Ok None) = IsUnder m.from path → ⊥
-TellsNewPath m path (Ok (Some new)) = HasMovedFile m.from m.to path new
-TellsNewPath m path (Err TooLarge) = HasNoPathFor m path
-TellsNewPath m path (Err Memory) = ⊤
-TellsNewPath m path (Err refusal) = ⊥
 
 -- Names and literals
 

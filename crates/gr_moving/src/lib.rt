@@ -6,12 +6,8 @@ mod file_edits;
 mod following;
 mod literals;
 mod marks;
-mod moved;
 mod moving;
 mod names;
 mod package_edits;
-mod paths;
 
-pub use moved::Moved;
 pub use moving::move_edits;
-pub use paths::is_under;

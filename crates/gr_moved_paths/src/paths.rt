@@ -1,7 +1,7 @@
 //! The paths of files in the folder that is moved.
 ghost use Rattle.std.specs.Prelude.{◌≡◌, ◌↔◌, ◌++◌, ◌∷◌, IsTrue, IfOk, MatchOption, string_bytes};
-ghost use Rattle.gr_moving.specs.Paths.{IsUnder};
-ghost use Rattle.gr_moving.specs.Steps.{ReadsNewPath, TellsNewPath};
+ghost use Rattle.gr_moved_paths.specs.Paths.{IsUnder};
+ghost use Rattle.gr_moved_paths.specs.Steps.{ReadsNewPath, TellsNewPath};
 
 use crate::moved::Moved;
 use gr_text::{Path, Refusal};
@@ -44,7 +44,7 @@ fn path_in(alloc: Global, folder: &Path, rest: &str) -> Result<Path, Refusal>
 }
 
 /// The path that a file gets which lies in the folder that is moved.
-pub(crate) fn new_path(alloc: Global, moved: &Moved, path: &Path) -> Result<Option<Path>, Refusal>
+pub fn new_path(alloc: Global, moved: &Moved, path: &Path) -> Result<Option<Path>, Refusal>
     ensures { TellsNewPath moved.now path.now result }
 {
     match rest_under(moved.from.as_str(), path.as_str()) {
