@@ -44,7 +44,11 @@ fn quote(alloc: Global, folder: &[u8], rest: &[u8]) -> Result<FileText, AllocErr
 }
 
 /// The new path of a package in double quotes, if its path changes.
-pub fn quoted_path(alloc: Global, moved: &Moved, path: &[u8]) -> Result<Option<FileText>, AllocError>
+pub fn quoted_path(
+    alloc: Global,
+    moved: &Moved,
+    path: &[u8],
+) -> Result<Option<FileText>, AllocError>
     ensures { IfOk result (λ text. MatchOption text ((new : List ℕ) → HasMovedPackage moved.now.from moved.now.to path.now new → ⊥)
         (λ text. (new : List ℕ) × (HasMovedPackage moved.now.from moved.now.to path.now new × (text ≡ quoted new)))) }
 {

@@ -1,6 +1,4 @@
 -- The lemmas of this crate.
-pub mod Searching
-pub mod Editing
 pub mod Literals
 pub mod TreeSearch
 pub mod Sources

@@ -2,13 +2,9 @@
 #![tactic(auto)]
 
 mod changes;
-mod file_edits;
 mod literal;
 mod paths;
-mod renamed;
 mod renaming;
 
-pub use file_edits::edits_of;
 pub use literal::literal_of;
-pub use renamed::{Literal, Renamed};
 pub use renaming::rename_edits;
