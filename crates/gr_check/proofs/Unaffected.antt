@@ -24,7 +24,7 @@ use Rattle.gr_affected.specs.Affected.{IsUnaffected}
 use Rattle.gr_affected.proofs.Unaffected.{stays_put, declared_then}
 use Rattle.gr_sound.specs.Corresponding.{Corresponds, predeclared, stands}
 use Rattle.gr_placed.specs.Outside.{path_by}
-use Rattle.gr_kept.specs.BoundToOne.{IsBoundToOne}
+use Rattle.gr_kept_each.specs.BoundToOne.{IsBoundToOne}
 use Rattle.gr_placed.specs.Identified.{IsIdentifierAt}
 
 -- the file of a token that begins at a place

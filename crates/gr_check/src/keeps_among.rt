@@ -10,7 +10,7 @@ ghost use Rattle.gr_affected.specs.Affected.{AreAffected};
 ghost use Rattle.gr_check.specs.Among.{AreHeld, BecomesAmong, IsKeptAmong, AllWereAmong, AddsNoneAmong, KeepsMarked, AddsMarked, BothGo, IsBoundMarked, TellsMarked};
 ghost use Rattle.gr_check.specs.Answers.{Tells};
 ghost use Rattle.gr_check.specs.Preserved.{KeepsBindings};
-ghost use Rattle.gr_kept.specs.Steps.{HasBound};
+ghost use Rattle.gr_kept_each.specs.Steps.{HasBound};
 
 use crate::among::MarkedPackages;
 use crate::answer::{Answer, no_or_unknown, yes_or_unknown};
@@ -19,7 +19,7 @@ use gr_affected::affected_by;
 use gr_bound::{BoundSpot, Declaration};
 use gr_edit::EditSet;
 use gr_graph::Graph;
-use gr_kept::Near;
+use gr_kept_each::Near;
 use gr_revision::Moves;
 use gr_sound::{are_predeclared, goes_to};
 use gr_text::Place;

@@ -1,3 +1,2 @@
 -- The lemmas of this crate.
-pub mod Every
 pub mod Alignment

@@ -1,4 +1,2 @@
 -- The definitions of this crate.
-pub mod BoundToOne
-pub mod Steps
 pub mod Aligned

@@ -3,10 +3,10 @@ ghost use Rattle.std.specs.Prelude.{◌↔◌, IsTrue, IfOk};
 ghost use Rattle.gr_edit.specs.Moved.{moved};
 ghost use Rattle.gr_sound.specs.Held.{IsHeld};
 ghost use Rattle.gr_sound.specs.Sound.{view_in};
-ghost use Rattle.gr_kept.specs.Steps.{KeepsAll, AddsNowhere};
+ghost use Rattle.gr_kept_each.specs.Steps.{KeepsAll, AddsNowhere};
 
 use crate::aligned::{Compared, keep_order};
-use crate::keeping::{adds_nowhere, are_kept};
+use gr_kept_each::{adds_nowhere, are_kept};
 use gr_revision::Moves;
 use gr_sound::SoundWorkspace;
 use std::alloc::{AllocError, Global};

@@ -2,9 +2,6 @@
 #![tactic(auto)]
 
 mod aligned;
-mod keeping;
 mod kept;
-mod near;
 
 pub use kept::keeps;
-pub use near::Near;
