@@ -14,7 +14,8 @@ use Rattle.gr_bound.specs.declared.declaration.Declaration.{Declaration}
 use Rattle.gr_bound.specs.declared.declaration.Declaration.TheVariants.{Predeclared, Declared, Field, Method}
 use Rattle.gr_bound.specs.Uses.{IsPackage}
 use Rattle.gr_bound.proofs.Units.{one_package}
-use Rattle.gr_members_after.specs.MembersAfter.{IsFirst, IsFieldAfter, IsFirstField, IsMethodAfter, IsFieldIn, IsMethodIn, IsFieldOfStruct}
+use Rattle.gr_new_members.specs.NamesAfter.{IsFieldAfter, IsMethodAfter}
+use Rattle.gr_members_after.specs.MembersAfter.{IsFirst, IsFirstField, IsFieldIn, IsMethodIn, IsFieldOfStruct}
 use Rattle.gr_members_after.specs.MembersAfter.{IsMethodOfOwner, IsMemberAfter}
 
 one_first : (K : ℕ → Type 0) (a b : ℕ) → IsFirst K a → IsFirst K b → a ≡ b

@@ -1,7 +1,3 @@
 -- The lemmas of this crate.
-pub mod Firsts
-pub mod Noting
-pub mod Naming
-pub mod AllMembers
 pub mod Structs
 pub mod Looking

@@ -26,14 +26,16 @@ use Rattle.gr_bound.proofs.Units.{one_package}
 use Rattle.gr_revision.specs.Revisions.{Revision}
 use Rattle.gr_standing.specs.Standing.{InPackage}
 use Rattle.gr_standing.proofs.Packages.{in_package}
-use Rattle.gr_members_after.specs.declared.members.NewMembers.{NewMembers}
-use Rattle.gr_members_after.specs.declared.new_names.NewName.{NewName}
+use Rattle.gr_new_members.specs.declared.members.NewMembers.{NewMembers}
+use Rattle.gr_new_members.specs.declared.new_names.NewName.{NewName}
 use Rattle.gr_members_after.specs.declared.types_after.TypesAfter.{TypesAfter}
-use Rattle.gr_members_after.specs.MembersAfter.{IsFirst, IsFieldAfter, IsFirstField, IsMethodAfter, IsFirstMethod, IsFieldIn, IsMethodIn}
+use Rattle.gr_new_members.specs.NamesAfter.{IsFieldAfter, IsMethodAfter}
+use Rattle.gr_members_after.specs.MembersAfter.{IsFirst, IsFirstField, IsFirstMethod, IsFieldIn, IsMethodIn}
 use Rattle.gr_members_after.specs.MembersAfter.{HasFieldAfter, IsMemberAfter, FieldCounts, MethodCounts}
 use Rattle.gr_members_after.specs.MembersFound.{KnowsMembers, AreMembersFound, IsRankFound, IsStructFound, IsFieldBehind, IsMethodBehind}
-use Rattle.gr_members_after.specs.NewMembers.{AreNewMembers}
-use Rattle.gr_members_after.specs.NewNames.{HasNewName, IsFirstNew, IsFirstOrNone, AreNamed}
+use Rattle.gr_new_members.specs.NewMembers.{AreNewMembers}
+use Rattle.gr_new_members.specs.NewNames.{IsFirstNew, IsFirstOrNone, AreNamed}
+use Rattle.gr_new_members.proofs.FirstNames.{not_called, is_called}
 use Rattle.gr_members_after.proofs.Structs.{field_written, found_struct, struct_had}
 
 -- the members of a path
@@ -61,44 +63,6 @@ one_first K a b h k = elim (cases_lt a b) [
   | inl lt ↦ absurd (k.first a lt h.has)
   | inr ge ↦ elim (cases_lt b a) [ inl less ↦ absurd (h.first b less k.has) | inr more ↦ omega arith ]
 ]
-
--- what has a rank is the first of its name and its definition
-
-pub is_first_new : (names : List (Option NewName)) (rank : ℕ) (new : NewName) (o : Option ℕ) (b : Bool) → slice_get names rank ≡ Some (Some new) →
-    IsFirstOrNone names new.definition new.name.items o →
-    IsTrue b ↔ (o ≡ Some rank) → IsTrue b ↔ ((d : ℕ) × ((n : List ℕ) × IsFirstNew names d n rank))
-is_first_new names rank new o b at h is = (
-  (λ t. (new.definition, (new.name.items, subst (IsFirstOrNone names new.definition new.name.items) (is.0 t) h))),
-  (λ k. is.1 (found o k h)),
-)
-  where
-    own : (d : ℕ) (n : List ℕ) (x : ℕ) → x ≡ rank → (k : IsFirstNew names d n x) → (d ≡ new.definition) × (n ≡ new.name.items)
-    own d n x e k =
-        let same : k.has.new ≡ new = same_Some k.has.new new (same_Some (Some k.has.new) (Some new) (sym k.has.has_rank ∙ ap (slice_get names) e ∙ at)) in
-        (sym k.has.of_definition ∙ ap (λ (z : NewName). z.definition) same, sym k.has.named ∙ ap (λ (z : NewName). z.name.items) same)
-
-    found : (x : Option ℕ) → (k : (d : ℕ) × ((n : List ℕ) × IsFirstNew names d n rank)) → IsFirstOrNone names new.definition new.name.items x → x ≡ Some rank
-    found None k none = absurd (none rank (record { new = new; has_rank = at; of_definition = refl; named = refl }))
-    found (Some other) k f =
-        let e = own k.0 k.1.0 rank refl k.1.1 in
-        let g : IsFirstNew names new.definition new.name.items rank = subst (λ m. IsFirstNew names new.definition m rank) e.1
-        (subst (λ d. IsFirstNew names d k.1.0 rank) e.0 k.1.1) in
-        elim (cases_lt other rank) [
-          | inl lt ↦ absurd (g.first other lt f.has)
-          | inr ge ↦ elim (cases_lt rank other) [
-            | inl less ↦ absurd (f.first rank less g.has)
-            | inr more ↦
-                (let same : other ≡ rank = omega arith in ap Some same)
-          ]
-        ]
-
-pub not_called : (names : List (Option NewName)) (rank : ℕ) → None ≡ option_flatten (slice_get names rank) → (d : ℕ) (n : List ℕ) →
-    HasNewName names d n rank → ⊥
-not_called names rank e d n k = none-some k.new (e ∙ ap option_flatten k.has_rank)
-
-pub is_called : (x : Option (Option NewName)) (new : NewName) → Some new ≡ option_flatten x → x ≡ Some (Some new)
-is_called None new e = absurd (none-some new (sym e))
-is_called (Some y) new e = ap Some (sym e)
 
 -- in the package of a path
 

@@ -1,5 +1,3 @@
 -- The definitions of this crate.
 pub mod MembersAfter
-pub mod NewNames
-pub mod NewMembers
 pub mod MembersFound

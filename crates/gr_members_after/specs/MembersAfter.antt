@@ -1,50 +1,27 @@
 -- The members that types have under the new names of a change: types, their structs and their methods are those of the workspace
 -- before, and only the names are new. IsPackage: the packages of that workspace.
-use Rattle.std.specs.Prelude.{ℕ, ◌≡◌, ◌<◌, true, List, Option, Some, slice_get}
-use Rattle.gr_text.specs.declared.place.Place.{Place}
-use Rattle.gr_scope.specs.declared.model.Position.{Position}
+use Rattle.std.specs.Prelude.{ℕ, ◌≡◌, ◌<◌, true, List, Option, Some}
 use Rattle.gr_imports.specs.Laid.{is_exported}
 use Rattle.gr_expr.specs.declared.symbol.Symbol.{Symbol}
 use Rattle.gr_expr.specs.Types.{PlainType, Defined, Underlying}
 use Rattle.gr_expr.specs.Types.{Struct as StructOf}
 use Rattle.gr_expr.specs.World.{struct_behind, owner, is_seen}
-use Rattle.gr_declared.specs.Package.{Package, PlacedFunction, package_functions, function_place, symbol_in, spelled}
-use Rattle.gr_declared.specs.Definitions.{PlacedField, package_fields, HasUnderlying}
-use Rattle.gr_members.specs.MethodsView.{IsOwner}
+use Rattle.gr_declared.specs.Package.{Package, symbol_in}
+use Rattle.gr_declared.specs.Definitions.{HasUnderlying}
 use Rattle.gr_bound.specs.declared.declaration.Declaration.{Declaration}
 use Rattle.gr_bound.specs.declared.declaration.Declaration.TheVariants.{Predeclared, Declared, Field, Method}
-use Rattle.gr_bound.specs.Binding.{field_place}
 use Rattle.gr_revision.specs.Revisions.{Revision}
-use Rattle.gr_standing.specs.Standing.{InPackage, TokenAt}
-
--- what the name at a position of a package is called afterwards
-pub record IsCalledAfter (r : Revision) (p : Package) (at : Position) (name : List ℕ) : Type 0 where
-  pub place : Place
-  pub stands : TokenAt p at place
-  pub called : r.called place (spelled p at.file at.index) ≡ name
+use Rattle.gr_standing.specs.Standing.{InPackage}
+use Rattle.gr_new_members.specs.NamesAfter.{IsFieldAfter, IsMethodAfter}
 
 -- the first rank of which K holds
 pub record IsFirst (K : ℕ → Type 0) (rank : ℕ) : Type 0 where
   pub has : K rank
   pub first : (other : ℕ) → other < rank → K other → ⊥
 
--- the field of that rank has that name, in the struct that the definition writes
-pub record IsFieldAfter (r : Revision) (p : Package) (definition : ℕ) (name : List ℕ) (rank : ℕ) : Type 0 where
-  pub field : PlacedField
-  pub has_rank : slice_get (package_fields p) rank ≡ Some field
-  pub of_struct : field.definition ≡ definition
-  pub called : IsCalledAfter r p (field_place field) name
-
 -- of two fields of one name the first counts
 abbrev pub IsFirstField : Revision → Package → (definition : ℕ) → (name : List ℕ) → (rank : ℕ) → Type 0
 IsFirstField r p definition name rank = IsFirst (IsFieldAfter r p definition name) rank
-
--- the function of that rank is a method of that name of that definition
-pub record IsMethodAfter (r : Revision) (p : Package) (definition : ℕ) (name : List ℕ) (rank : ℕ) : Type 0 where
-  pub method : PlacedFunction
-  pub has_rank : slice_get (package_functions p) rank ≡ Some method
-  pub of_type : IsOwner p method definition
-  pub called : IsCalledAfter r p (function_place method) name
 
 -- The field of that rank is what a name is in a struct, where it is written in the package `own`: names of two packages are the same
 -- only where they are exported.

@@ -13,10 +13,10 @@ use Rattle.gr_bound.specs.Uses.{IsPackage}
 use Rattle.gr_bound.specs.Workspaces.{known_in}
 use Rattle.gr_revision.specs.Revisions.{Revision}
 use Rattle.gr_standing.specs.Standing.{InPackage}
-use Rattle.gr_members_after.specs.declared.members.NewMembers.{NewMembers}
+use Rattle.gr_new_members.specs.declared.members.NewMembers.{NewMembers}
 use Rattle.gr_members_after.specs.declared.types_after.TypesAfter.{TypesAfter}
 use Rattle.gr_members_after.specs.MembersAfter.{IsFieldOfStruct, IsMethodOfOwner}
-use Rattle.gr_members_after.specs.NewMembers.{AreNewMembers, AreAllNewMembers}
+use Rattle.gr_new_members.specs.NewMembers.{AreNewMembers, AreAllNewMembers}
 
 -- the packages of the workspace before
 abbrev pub known_types : TypesAfter → Package → Type 0

@@ -1,10 +1,6 @@
 //! The members that types have under the new names of a change. Types, structs and methods are those of the workspace before.
 #![tactic(auto)]
 
-mod members;
-mod new_names;
 mod types_after;
 
-pub use members::{NewMembers, new_members};
-pub use new_names::{NewName, NewNames};
 pub use types_after::{TypesAfter, Written};

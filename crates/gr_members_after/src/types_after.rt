@@ -11,17 +11,17 @@ ghost use Rattle.gr_standing.specs.Standing.{InPackage};
 ghost use Rattle.gr_bound.specs.declared.declaration.Declaration.TheVariants.{Field, Method};
 ghost use Rattle.gr_bound.specs.Steps.{IsDeclarationFound};
 ghost use Rattle.gr_bound.specs.Workspaces.{IsSound};
-ghost use Rattle.gr_members_after.specs.MembersAfter.{CountsAfter, FieldCounts, HasFieldAfter, IsFieldIn, IsFirst, IsFirstField, IsFirstMethod, IsMemberAfter, IsMethodAfter, IsMethodIn, MethodCounts};
+ghost use Rattle.gr_new_members.specs.NamesAfter.{IsMethodAfter};
+ghost use Rattle.gr_members_after.specs.MembersAfter.{CountsAfter, FieldCounts, HasFieldAfter, IsFieldIn, IsFirst, IsFirstField, IsFirstMethod, IsMemberAfter, IsMethodIn, MethodCounts};
 ghost use Rattle.gr_members_after.specs.MembersFound.{AreMembersFound, IsFieldBehind, IsMethodBehind, IsRankFound, IsStructFound, KnowsMembers, known_types};
 
-use crate::members::NewMembers;
-use crate::new_names::{NewName, is_rank};
 use gr_bound::{Declaration, own_of};
 use gr_expr::symbol::{SharedPath, Symbol};
 use gr_expr::types::GoType;
 use gr_expr::world::{Definition, Shape, Underlying, World};
 use gr_graph::Graph;
 use gr_imports::is_exported;
+use gr_new_members::{NewMembers, NewName, is_rank};
 use gr_verdict::Findings;
 use std::alloc::AllocError;
 

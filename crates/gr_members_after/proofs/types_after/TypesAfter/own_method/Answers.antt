@@ -1,7 +1,8 @@
 -- The answers to the goals of `types_after::TypesAfter::own_method`.
 use Rattle.gr_bound.specs.Workspaces.{known_in}
 use Rattle.gr_members_after.proofs.Looking.{first_is, found_in}
-use Rattle.gr_members_after.specs.MembersAfter.{IsFirst, IsMethodAfter}
+use Rattle.gr_new_members.specs.NamesAfter.{IsMethodAfter}
+use Rattle.gr_members_after.specs.MembersAfter.{IsFirst}
 use Rattle.gr_standing.proofs.Packages.{no_package}
 use Rattle.gr_members_after.proofs.types_after.TypesAfter.own_method.Goals as goal
 

@@ -1,0 +1,4 @@
+-- The definitions of this crate.
+pub mod NamesAfter
+pub mod NewNames
+pub mod NewMembers
