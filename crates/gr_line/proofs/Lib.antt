@@ -4,6 +4,4 @@ pub mod Words
 pub mod Places
 pub mod LineWords
 pub mod Filled
-pub mod Puts
-pub mod Nexts
 pub mod Unique

@@ -1,26 +1,11 @@
--- What reading the next message does.
-use Rattle.std.specs.Prelude.{◌≡◌, ◌≢◌, ◌<◌, ◌≤◌, ℕ, List, [], ◌∷◌, ◌++◌, length, Option, None, Some, IfSome, Result, Ok, Err}
+-- What reading a line of the input does. `before` and `after` are what the reader has left.
+use Rattle.std.specs.Prelude.{◌≡◌, ◌≢◌, ◌<◌, ◌≤◌, ℕ, List, [], ◌∷◌, length, Option, None, Some, IfSome, Result, Ok, Err}
 use Rattle.std.specs.Io.KnownBytes.{Consumes, Keeps, IsAtEnd}
 use Rattle.gr_line.specs.Stops.{StopsInLine}
 use Rattle.gr_line.specs.Limit.{line_of, after_line}
 use Rattle.gr_line.specs.declared.input.ReadLine.{ReadLine}
 use Rattle.gr_line.specs.declared.input.ReadLine.TheVariants.{Nothing, Whole, TooLong}
-use Rattle.gr_text.specs.declared.limits.Limits.{Limits}
-use Rattle.gr_line.specs.declared.command.Command.{Command}
-use Rattle.gr_line.specs.declared.message.Message.TheVariants.{Ask}
 use Rattle.gr_line.specs.declared.input.InputFault.{InputFault}
-use Rattle.gr_line.specs.declared.next.Next.{Next}
-use Rattle.gr_line.specs.declared.next.Next.TheVariants as next
-use Rattle.gr_line.specs.Wire.{Says, Ends, StaysWithin}
-
--- `before` and `after` are what the reader has left
-abbrev pub ReadsNext : Limits → (before after : Option (List ℕ)) → Result Next InputFault → Type 0
-ReadsNext limits before after (Ok next.End) = IfSome before (λ input. (rest : List ℕ) × Ends limits input rest × (after ≡ Some rest))
-ReadsNext limits before after (Ok (next.Message message)) = IfSome before (λ input. (rest : List ℕ) × Says limits input message rest × (after ≡ Some rest))
-ReadsNext limits before after (Ok next.NoRoom) = IfSome before
-    (λ input. (command : Command) × (rest : List ℕ) × Says limits input (Ask command) rest × (after ≡ Some rest))
-ReadsNext limits before after (Err fault) = IfSome before
-    (λ input. (part : List ℕ) × (rest : List ℕ) × (input ≡ part ++ rest) × (after ≡ Some rest) × StaysWithin limits part rest)
 
 -- one byte is taken, or at the end of the input none
 abbrev pub TakesByte : (before after : Option (List ℕ)) → Result (Option ℕ) InputFault → Type 0

@@ -12,4 +12,3 @@ pub mod Laws
 pub mod Parsing
 pub mod Stops
 pub mod Bodies
-pub mod Puts

@@ -10,7 +10,7 @@ use Rattle.gr_line.specs.declared.message.Message.{Message}
 use Rattle.gr_line.specs.declared.message.Message.TheVariants.{Ask, Unknown, CutShort}
 use Rattle.gr_line.specs.declared.command.Response.TheVariants.{Refused}
 use Rattle.gr_text.specs.declared.refusal.Refusal.TheVariants as refusal
-use Rattle.gr_line.specs.declared.next.Next.TheVariants as next
+use Rattle.gr_next_message.specs.declared.next.Next.TheVariants as next
 use Rattle.gr_wire.specs.declared.exchange.SessionFault.{SessionFault}
 use Rattle.gr_wire.specs.declared.exchange.SessionFault.TheVariants.{Memory, Read, Write, Turns}
 use Rattle.gr_wire.specs.Answers.{Answered}

@@ -3,8 +3,8 @@ use Rattle.std.specs.Prelude.{◌≡◌, ℕ, List, ⊤, Option, Result, Ok, Err
 use Rattle.std.specs.Io.KnownBytes.{Keeps}
 use Rattle.gr_text.specs.declared.limits.Limits.{Limits}
 use Rattle.gr_line.specs.declared.input.InputFault.TheVariants as input
-use Rattle.gr_line.specs.declared.next.Next.{Next}
-use Rattle.gr_line.specs.Incoming.{ReadsNext}
+use Rattle.gr_next_message.specs.declared.next.Next.{Next}
+use Rattle.gr_next_message.specs.Incoming.{ReadsNext}
 use Rattle.gr_wire.specs.declared.exchange.SessionFault.{SessionFault}
 use Rattle.gr_wire.specs.declared.exchange.SessionFault.TheVariants.{Memory, Read, Write, Turns}
 

@@ -7,10 +7,8 @@ ghost use Rattle.gr_wire.specs.Awaits.{AwaitsNext, LeavesSent, StepLeavesSent};
 ghost use Rattle.gr_wire.specs.Transcript.{SessionEnds, CountsFaults, StepEnds};
 
 use gr_desk::{Desk, act};
-use gr_line::{
-    ByteSource, InputFault, LineBuffer, Message, Next, Response, Sink, WriteFailed, print_reply,
-    read_command,
-};
+use gr_line::{ByteSource, InputFault, Message, Response, Sink, WriteFailed, print_reply};
+use gr_next_message::{LineBuffer, Next, read_command};
 use gr_text::{Limits, Refusal};
 use std::alloc::Global;
 

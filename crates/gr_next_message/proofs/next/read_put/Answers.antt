@@ -1,9 +1,9 @@
 -- The answers to the goals of `next::read_put`.
 use Rattle.std.proofs.Common.{◌≡◌, ap, ◌∙◌}
-use Rattle.gr_line.specs.Puts.{put_next}
-use Rattle.gr_line.proofs.Puts.{put_skipped, put_read}
-use Rattle.gr_line.proofs.next.read_put.Goals as goal
-use Rattle.gr_line.proofs.next.read_put.Goals.{then-is_whole, else-is_whole}
+use Rattle.gr_next_message.specs.Puts.{put_next}
+use Rattle.gr_next_message.proofs.Puts.{put_skipped, put_read}
+use Rattle.gr_next_message.proofs.next.read_put.Goals as goal
+use Rattle.gr_next_message.proofs.next.read_put.Goals.{then-is_whole, else-is_whole}
 
 pub returns-after-is_whole-clause-put : goal.returns-after-is_whole-clause-put
 returns-after-is_whole-clause-put g c =

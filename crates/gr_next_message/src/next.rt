@@ -1,18 +1,15 @@
 //! The next message of an input. A later command is an arm of `command_after` and a case of
-//! `SaysCommand` in specs/Wire.antt.
+//! `SaysCommand` in gr_line's specs/Wire.antt.
 ghost use Rattle.std.specs.Prelude.{◌≡◌, ◌+◌, ◌^◌, ◌≤◌, ◌<◌, IfOk, vec_capacity};
 ghost use Rattle.gr_line.specs.Failures.{CountsReadFault};
-ghost use Rattle.gr_line.specs.Incoming.{ReadsNext};
-ghost use Rattle.gr_line.specs.Puts.{ReadsPut, ReadsAfter, put_next, TellsKept};
+ghost use Rattle.gr_next_message.specs.Incoming.{ReadsNext};
+ghost use Rattle.gr_next_message.specs.Puts.{ReadsPut, ReadsAfter, put_next, TellsKept};
 ghost use Rattle.gr_line.specs.Parsing.{ReadsLineText};
 
-use crate::body::{Body, read_body, skip};
-use crate::command::Command;
-use crate::input::{InputFault, ReadLine, read_line};
-use crate::message::Message;
-use crate::parse::{CommandLine, parse_command_line};
-use crate::stream::{ByteSource, Sink};
-use crate::word::Word;
+use gr_line::{
+    Body, ByteSource, Command, CommandLine, InputFault, Message, ReadLine, Sink, Word,
+    parse_command_line, read_body, read_line, skip,
+};
 use gr_text::{Limits, Path, Refusal};
 use std::alloc::{AllocError, Global};
 

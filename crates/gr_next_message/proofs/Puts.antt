@@ -11,10 +11,10 @@ use Rattle.gr_line.specs.declared.command.Command.TheVariants as command
 use Rattle.gr_line.specs.declared.body.Body.{Body}
 use Rattle.gr_line.specs.declared.body.Body.TheVariants as body
 use Rattle.gr_line.specs.declared.message.Message.TheVariants.{CutShort}
-use Rattle.gr_line.specs.declared.next.Next.TheVariants as next
+use Rattle.gr_next_message.specs.declared.next.Next.TheVariants as next
 use Rattle.gr_line.specs.Bodies.{Skips, ReadsBody, Takes, FallsShort}
 use Rattle.gr_line.specs.Wire.{IsKept, KeepsBody}
-use Rattle.gr_line.specs.Puts.{ReadsPut, TellsKept, put_next}
+use Rattle.gr_next_message.specs.Puts.{ReadsPut, TellsKept, put_next}
 
 Either : Type 0 → Type 0
 Either P = P ⊎ (P → ⊥)

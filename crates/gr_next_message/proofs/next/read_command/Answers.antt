@@ -1,6 +1,6 @@
 -- The answers to the goals of `next::read_command`.
-use Rattle.gr_line.proofs.Nexts.{next_unknown, next_line, next_stops}
-use Rattle.gr_line.proofs.next.read_command.Goals as goal
+use Rattle.gr_next_message.proofs.Nexts.{next_unknown, next_line, next_stops}
+use Rattle.gr_next_message.proofs.next.read_command.Goals as goal
 
 pub returns-in-None-clause-next : goal.returns-in-None-clause-next
 returns-in-None-clause-next g c =

@@ -9,8 +9,8 @@ use Rattle.gr_line.specs.declared.input.InputFault.{InputFault}
 use Rattle.gr_line.specs.declared.body.Body.{Body}
 use Rattle.gr_line.specs.declared.body.Body.TheVariants as body
 use Rattle.gr_line.specs.declared.message.Message.TheVariants.{Ask, Unknown, CutShort}
-use Rattle.gr_line.specs.declared.next.Next.{Next}
-use Rattle.gr_line.specs.declared.next.Next.TheVariants as next
+use Rattle.gr_next_message.specs.declared.next.Next.{Next}
+use Rattle.gr_next_message.specs.declared.next.Next.TheVariants as next
 use Rattle.gr_line.specs.declared.parse.CommandLine.{CommandLine}
 use Rattle.gr_line.specs.declared.parse.CommandLine.TheVariants as line
 use Rattle.gr_line.specs.Stops.{StopsBefore}

@@ -14,8 +14,8 @@ use Rattle.gr_line.specs.declared.input.InputFault.{InputFault}
 use Rattle.gr_line.specs.declared.input.ReadLine.TheVariants.{Whole}
 use Rattle.gr_line.specs.declared.message.Message.{Message}
 use Rattle.gr_line.specs.declared.message.Message.TheVariants.{Ask, Unknown, CutShort}
-use Rattle.gr_line.specs.declared.next.Next.{Next}
-use Rattle.gr_line.specs.declared.next.Next.TheVariants as next
+use Rattle.gr_next_message.specs.declared.next.Next.{Next}
+use Rattle.gr_next_message.specs.declared.next.Next.TheVariants as next
 use Rattle.gr_line.specs.declared.parse.CommandLine.{CommandLine}
 use Rattle.gr_line.specs.declared.parse.CommandLine.TheVariants.{Look, Put, Del, Rename, Move, Undo, Redo, Cat, Uses, End}
 use Rattle.gr_line.specs.declared.parse.CommandLine.TheVariants as line
@@ -24,8 +24,9 @@ use Rattle.gr_line.specs.Lines.{IsCommandLine, size_after}
 use Rattle.gr_line.specs.Stops.{StopsInLine, StopsBefore}
 use Rattle.gr_line.specs.Wire.{IsReadable, Says, Ends, IsWhole, IsWholeEnd, StaysWithin}
 use Rattle.gr_line.specs.Parsing.{ReadsLineText}
-use Rattle.gr_line.specs.Puts.{ReadsPut, ReadsAfter, AsksOf}
-use Rattle.gr_line.specs.Incoming.{ReadsLine, ReadsNext}
+use Rattle.gr_next_message.specs.Puts.{ReadsPut, ReadsAfter, AsksOf}
+use Rattle.gr_next_message.specs.Incoming.{ReadsNext}
+use Rattle.gr_line.specs.Incoming.{ReadsLine}
 use Rattle.gr_line.proofs.LineSoFar.{after_line-append}
 use Rattle.gr_line.proofs.Unique.{line_unique, end_or_put}
 
