@@ -1,5 +1,5 @@
 //! A gate at which two workers meet.
-use gr_pool::Gate;
+use gr_workers::Gate;
 use std::process::Abort;
 use std::sync::atomic::{AtomicU64, Ordering};
 use std::thread;

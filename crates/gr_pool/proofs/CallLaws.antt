@@ -1,5 +1,5 @@
 -- What a call leaves at its seat.
-use Rattle.std.proofs.Common.{◌≡◌, ℕ, true, List, [], ◌∷◌, ◌⊎◌, inl, inr, Option, Some, None, Result, Ok, Err, sym, ap, ◌∙◌}
+use Rattle.std.proofs.Common.{◌≡◌, ℕ, List, [], ◌∷◌, ◌⊎◌, inl, inr, Option, Some, None, Result, Ok, Err, sym, ap, ◌∙◌}
 use Rattle.std.proofs.Common.{⊎_elim}
 use Rattle.std.proofs.lemmas.List.{append-nil}
 use Rattle.std.proofs.lemmas.List.Elements.{All-cons, All-nil}
@@ -17,8 +17,8 @@ use Rattle.gr_book.specs.Journal.{kind_of, told_of}
 use Rattle.gr_book.specs.Machine.{Machine}
 use Rattle.gr_book.specs.Step.{Step, looked}
 use Rattle.gr_pool.specs.declared.receipt.Receipt.{Receipt}
-use Rattle.gr_pool.specs.Call.{Calls, Gains, IsLook, IsReceiptOf, IsStepOf, IsWork, Looks, StepsAt, is_work}
-use Rattle.gr_pool.specs.Working.{Replies}
+use Rattle.gr_pool.specs.Call.{Calls, Gains, IsLook, IsReceiptOf, IsStepOf, Looks, StepsAt}
+use Rattle.gr_pool.specs.Call.{Replies}
 use Rattle.gr_pool.proofs.GainsLaws.{gains_more}
 
 -- what one step of a book is to its caller
@@ -32,15 +32,11 @@ kind_is : (event : Event) (reply : Reply) (receipt : Receipt) → IsReceiptOf ev
 kind_is event reply receipt is = ap (λ (x : Entry). x.line.kind) is.2.2.1.0.2
 
 -- a call gains receipts of its kind
-gains_of : (P : Receipt → Type 0) (old : List Receipt) (event : Event) (reply : Reply) (index : Option ℕ) (new : List Receipt)
+pub gains_of : (P : Receipt → Type 0) (old : List Receipt) (event : Event) (reply : Reply) (index : Option ℕ) (new : List Receipt)
     → ((receipt : Receipt) → receipt.entry.line.kind ≡ kind_of event → P receipt) → Calls old event reply index new → Gains P old new
 gains_of P old event reply (Some index) new each calls =
     (calls.0 ∷ [], calls.3, All-cons P calls.0 [] (each calls.0 (kind_is event reply calls.0 calls.2)) (All-nil P))
 gains_of P old event reply None new each calls = ([], calls.1 ∙ sym (append-nil old), All-nil P)
-
-pub works : (old : List Receipt) (event : Event) (reply : Reply) (index : Option ℕ) (new : List Receipt) → is_work (kind_of event) ≡ true →
-    Calls old event reply index new → Gains IsWork old new
-works old event reply index new work calls = gains_of IsWork old event reply index new (λ receipt is. ap is_work is ∙ work) calls
 
 -- ---- looks
 refusal_in : Reply → Refusal

@@ -1,11 +1,10 @@
 -- What a call does under the lock, and what it leaves at its seat.
-use Rattle.std.specs.Prelude.{◌≡◌, ◌<◌, ℕ, List, [], ◌∷◌, ◌++◌, ◌⊎◌, All, length, slice_get, true, false, Bool, Option, Some, None, Result, Ok, Err}
+use Rattle.std.specs.Prelude.{◌≡◌, ◌<◌, ℕ, List, [], ◌∷◌, ◌++◌, ◌⊎◌, All, length, slice_get, Option, Some, None, Result, Ok, Err}
 use Rattle.gr_text.specs.declared.refusal.Refusal.{Refusal}
 use Rattle.gr_text.specs.declared.refusal.Refusal.TheVariants.{Memory, JournalFull}
 use Rattle.gr_text.specs.Packages.{package_paths}
 use Rattle.gr_compile.specs.declared.unit.Unit.{Unit as PackageUnit}
 use Rattle.gr_keep.specs.Finished.{Table}
-use Rattle.gr_book.specs.declared.entry.EntryKind.{EntryKind}
 use Rattle.gr_book.specs.declared.entry.EntryKind.TheVariants as kind
 use Rattle.gr_book.specs.declared.event.Event.{Event}
 use Rattle.gr_book.specs.declared.event.Event.TheVariants.{Look}
@@ -42,6 +41,10 @@ Calls old event reply (Some index) new =
     (receipt : Receipt) × (receipt.index ≡ index) × IsReceiptOf event reply receipt × (new ≡ old ++ receipt ∷ [])
 Calls old event reply None new = IsTurnedAway event reply × (new ≡ old)
 
+-- the event was called, with this reply
+abbrev pub Replies : List Receipt → Event → Reply → List Receipt → Type 0
+Replies old event reply new = (index : Option ℕ) × Calls old event reply index new
+
 -- want of memory, or of room in the journal
 abbrev pub IsLack : Refusal → Type 0
 IsLack refusal = (refusal ≡ Memory) ⊎ (refusal ≡ JournalFull)
@@ -71,13 +74,3 @@ LooksUntilBuilt old (Err refusal) new = (looks : List Receipt) × All IsLook loo
 -- The seat has gained receipts, each with P.
 abbrev pub Gains : (Receipt → Type 0) → List Receipt → List Receipt → Type 0
 Gains P old new = (gained : List Receipt) × (new ≡ old ++ gained) × All P gained
-
--- a worker's events
-abbrev pub is_work : EntryKind → Bool
-is_work kind.Take = true
-is_work kind.Deliver = true
-is_work kind.GiveBack = true
-is_work other = false
-
-abbrev pub IsWork : Receipt → Type 0
-IsWork receipt = is_work receipt.entry.line.kind ≡ true

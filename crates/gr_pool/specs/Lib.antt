@@ -1,6 +1,5 @@
 -- The definitions of this crate.
 pub mod Settled
 pub mod Call
-pub mod Working
 pub mod Outcome
 pub mod Reserved

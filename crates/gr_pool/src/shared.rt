@@ -3,7 +3,7 @@ ghost use Rattle.std.specs.Prelude.{◌≡◌, ◌+◌, ◌<◌, ◌≤◌, ◌�
 ghost use Rattle.gr_verdict.specs.Found.{KnowsVerdicts};
 ghost use Rattle.gr_book.specs.MayReply.{MayReply};
 ghost use Rattle.gr_pool.specs.Call.{Calls, IsReplayed, IsStepOf, Looks, LooksUntilBuilt};
-ghost use Rattle.gr_pool.specs.Working.{Replies};
+ghost use Rattle.gr_pool.specs.Call.{Replies};
 ghost use Rattle.gr_pool.specs.Settled.{IsSettled, receipt_count};
 ghost use Rattle.gr_pool.specs.Outcome.{book_in};
 
@@ -115,12 +115,7 @@ impl<L: Opening> Shared<L> {
     }
 
     /// The same, for callers who need no index.
-    pub(crate) fn send<R: Wait, Q: Question>(
-        &self,
-        rt: &R,
-        seat: &mut Seat<L>,
-        question: Q,
-    ) -> Q::Answer
+    pub fn send<R: Wait, Q: Question>(&self, rt: &R, seat: &mut Seat<L>, question: Q) -> Q::Answer
         ensures replies { Replies seat.old (Q.event question) (Q.reply result) seat.new }
         ensures kind { MayReply (Q.event question) (Q.reply result) }
     {
@@ -153,7 +148,7 @@ impl<L: Opening> Shared<L> {
     }
 
     /// How many events were answered `Done`, unless the book was stopped.
-    pub(crate) fn done_so_far<R: Wait>(&self, rt: &R) -> Option<u64> {
+    pub fn done_so_far<R: Wait>(&self, rt: &R) -> Option<u64> {
         let locked = self.locked.lock(rt);
         if locked.is_stopped {
             None
@@ -163,7 +158,7 @@ impl<L: Opening> Shared<L> {
     }
 
     /// Waits until more events were answered `Done` than were seen, or the book was stopped.
-    pub(crate) fn wait_past<R: Wait>(&self, rt: &R, seen: u64) {
+    pub fn wait_past<R: Wait>(&self, rt: &R, seen: u64) {
         let locked = self.changed.wait_while(rt, self.locked.lock(rt), |locked| {
             locked.done == seen && !locked.is_stopped
         });

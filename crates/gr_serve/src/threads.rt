@@ -1,9 +1,10 @@
 //! The threads of a server.
 use crate::session::{Connection, session_at_seat};
 use crate::turns::Turns;
-use gr_pool::{Gate, Opening, Seat, Shared, worker};
+use gr_pool::{Opening, Seat, Shared};
 use gr_text::Limits;
 use gr_wire::SessionFault;
+use gr_workers::{Gate, worker};
 use std::alloc::Global;
 use std::io::{BufReader, BufWriter};
 use std::os::unix::net::UnixStream;

@@ -8,7 +8,7 @@ use denote.Param.{param}
 use denote.Param.SendFields.{as_row_send, declared_send}
 use denote.Param.Send.{sendable, param_send, arg_send, shr_send}
 use Rattle.std.proofs.Crossing.{send as Global-send}
-use Rattle.gr_pool.proofs.Sends.{seat_sent, shared_shared}
+use Rattle.gr_workers.proofs.Sends.{seat_sent, shared_shared}
 use Rattle.gr_book_tests.proofs.meeting.Meeting.TheSendSync.{the_sync as meeting-sync}
 use Rattle.gr_book_tests.proofs.workers.at_work.Goals as goal
 

@@ -4,8 +4,8 @@ use Rattle.gr_text.specs.declared.refusal.Refusal.{Refusal}
 use Rattle.gr_compile.specs.declared.job.JobRecord.{JobRecord}
 use Rattle.gr_book.specs.Step.{taken}
 use Rattle.gr_book.specs.declared.event.Event.TheVariants.{Take}
-use Rattle.gr_pool.specs.Working.{Replies}
-use Rattle.gr_pool.proofs.in_hand.take.Goals as goal
+use Rattle.gr_pool.specs.Call.{Replies}
+use Rattle.gr_workers.proofs.in_hand.take.Goals as goal
 
 pub returns-in-Ok : goal.returns-in-Ok
 returns-in-Ok g c = subst (λ (x : Result JobRecord Refusal). Replies c.args.seat.now Take (taken x) c.send.new.seat) c.in-Ok.is c.send.ensures.replies

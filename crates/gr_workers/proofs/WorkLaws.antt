@@ -1,5 +1,5 @@
 -- What a worker's calls leave at its seat.
-use Rattle.std.proofs.Common.{ℕ, zero, suc, List, [], inl, inr, sym, ◌∙◌, refl, ◌≡◌, true}
+use Rattle.std.proofs.Common.{ℕ, zero, suc, List, [], Option, inl, inr, sym, ap, ◌∙◌, refl, ◌≡◌, true}
 use Rattle.std.proofs.lemmas.List.{append-nil}
 use Rattle.std.proofs.lemmas.List.Elements.{All-nil}
 use Rattle.gr_compile.specs.declared.job.JobRecord.{JobRecord}
@@ -9,10 +9,15 @@ use Rattle.gr_book.specs.declared.event.Reply.{Reply}
 use Rattle.gr_book.specs.declared.event.Reply.TheVariants.{Looked, Logged, Done, Taken, Refused, Back}
 use Rattle.gr_book.specs.Journal.{kind_of}
 use Rattle.gr_pool.specs.declared.receipt.Receipt.{Receipt}
-use Rattle.gr_pool.specs.Call.{Gains, IsWork, is_work}
-use Rattle.gr_pool.specs.Working.{AfterDelivery, ComesBack, HandsIn, Sends, Works, WorksOften}
-use Rattle.gr_pool.proofs.CallLaws.{works}
+use Rattle.gr_pool.specs.Call.{Calls, Gains}
+use Rattle.gr_workers.specs.Working.{AfterDelivery, ComesBack, HandsIn, IsWork, Sends, Works, WorksOften, is_work}
+use Rattle.gr_pool.proofs.CallLaws.{gains_of}
 use Rattle.gr_pool.proofs.GainsLaws.{gains_more}
+
+-- a call of a worker's events gains receipts of work
+works : (old : List Receipt) (event : Event) (reply : Reply) (index : Option ℕ) (new : List Receipt) → is_work (kind_of event) ≡ true →
+    Calls old event reply index new → Gains IsWork old new
+works old event reply index new work calls = gains_of IsWork old event reply index new (λ receipt is. ap is_work is ∙ work) calls
 
 sent_gains : (old : List Receipt) (event : Event) (new : List Receipt) → is_work (kind_of event) ≡ true → Sends old event new → Gains IsWork old new
 sent_gains old event new work sent = works old event sent.0 sent.1.0 new work sent.1.1

@@ -1,19 +1,17 @@
 -- What a worker does, as it is called at its seat.
-use Rattle.std.specs.Prelude.{◌≡◌, ◌⊎◌, ℕ, zero, suc, List, Option, ⊤}
+use Rattle.std.specs.Prelude.{◌≡◌, ◌⊎◌, ℕ, zero, suc, List, ⊤, true, false, Bool}
 use Rattle.gr_text.specs.declared.refusal.Refusal.{Refusal}
 use Rattle.gr_compile.specs.Builds.{IsBuiltOf}
 use Rattle.gr_compile.specs.declared.built.Built.{Built}
 use Rattle.gr_compile.specs.declared.job.JobRecord.{JobRecord}
+use Rattle.gr_book.specs.declared.entry.EntryKind.{EntryKind}
+use Rattle.gr_book.specs.declared.entry.EntryKind.TheVariants as kind
 use Rattle.gr_book.specs.declared.event.Event.{Event}
 use Rattle.gr_book.specs.declared.event.Event.TheVariants.{Take, Deliver, GiveBack}
 use Rattle.gr_book.specs.declared.event.Reply.{Reply}
 use Rattle.gr_book.specs.declared.event.Reply.TheVariants.{Taken, Refused, Back}
 use Rattle.gr_pool.specs.declared.receipt.Receipt.{Receipt}
-use Rattle.gr_pool.specs.Call.{Calls}
-
--- the event was called, with this reply
-abbrev pub Replies : List Receipt → Event → Reply → List Receipt → Type 0
-Replies old event reply new = (index : Option ℕ) × Calls old event reply index new
+use Rattle.gr_pool.specs.Call.{Replies}
 
 -- the event was called
 abbrev pub Sends : List Receipt → Event → List Receipt → Type 0
@@ -49,3 +47,13 @@ Works old new =
 abbrev pub WorksOften : ℕ → List Receipt → List Receipt → Type 0
 WorksOften zero old new = new ≡ old
 WorksOften (suc n) old new = (mid : List Receipt) × WorksOften n old mid × Works mid new
+
+-- a worker's events
+abbrev pub is_work : EntryKind → Bool
+is_work kind.Take = true
+is_work kind.Deliver = true
+is_work kind.GiveBack = true
+is_work other = false
+
+abbrev pub IsWork : Receipt → Type 0
+IsWork receipt = is_work receipt.entry.line.kind ≡ true

@@ -1,7 +1,7 @@
 -- One turn more.
 use Rattle.std.proofs.Common.{suc, inl, inr}
-use Rattle.gr_pool.proofs.WorkLaws.{often_gains}
-use Rattle.gr_pool.proofs.working.worker.Goals as goal
+use Rattle.gr_workers.proofs.WorkLaws.{often_gains}
+use Rattle.gr_workers.proofs.working.worker.Goals as goal
 
 pub loop-preserved-in-Some-take : goal.loop-preserved-in-Some-take
 loop-preserved-in-Some-take g c =

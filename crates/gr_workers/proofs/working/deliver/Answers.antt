@@ -2,9 +2,9 @@
 use Rattle.std.proofs.Common.{subst}
 use Rattle.gr_compile.specs.declared.job.JobRecord.{JobRecord}
 use Rattle.gr_book.specs.declared.event.Event.TheVariants.{GiveBack}
-use Rattle.gr_pool.specs.Working.{Sends}
-use Rattle.gr_pool.proofs.WorkLaws.{after_back, after_taken}
-use Rattle.gr_pool.proofs.working.deliver.Goals as goal
+use Rattle.gr_workers.specs.Working.{Sends}
+use Rattle.gr_workers.proofs.WorkLaws.{after_back, after_taken}
+use Rattle.gr_workers.proofs.working.deliver.Goals as goal
 
 pub returns-in-Ok : goal.returns-in-Ok
 returns-in-Ok g c =

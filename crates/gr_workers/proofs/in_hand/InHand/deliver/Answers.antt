@@ -2,8 +2,8 @@
 use Rattle.std.proofs.Common.{subst, sym}
 use Rattle.gr_book.specs.Questions.{handed}
 use Rattle.gr_book.specs.declared.handed.Handed.{Handed}
-use Rattle.gr_pool.specs.Working.{ComesBack}
-use Rattle.gr_pool.proofs.in_hand.InHand.deliver.Goals as goal
+use Rattle.gr_workers.specs.Working.{ComesBack}
+use Rattle.gr_workers.proofs.in_hand.InHand.deliver.Goals as goal
 
 pub returns-in-Done : goal.returns-in-Done
 returns-in-Done g c =

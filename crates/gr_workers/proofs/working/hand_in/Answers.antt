@@ -1,6 +1,6 @@
 -- The Job is delivered, or given back.
 use Rattle.std.proofs.Common.{inl, inr}
-use Rattle.gr_pool.proofs.working.hand_in.Goals as goal
+use Rattle.gr_workers.proofs.working.hand_in.Goals as goal
 
 pub returns-in-Ok : goal.returns-in-Ok
 returns-in-Ok g c = inl c.deliver.ensures

@@ -5,13 +5,12 @@ ghost use Rattle.gr_compile.specs.Builds.{IsBuiltOf};
 ghost use Rattle.gr_book.specs.declared.event.Event.TheVariants.{Deliver, GiveBack, Take};
 ghost use Rattle.gr_book.specs.declared.event.Reply.{Reply};
 ghost use Rattle.gr_book.specs.declared.event.Reply.TheVariants.{Refused, Taken};
-ghost use Rattle.gr_pool.specs.Working.{ComesBack, Replies, Sends};
+ghost use Rattle.gr_pool.specs.Call.{Replies};
+ghost use Rattle.gr_workers.specs.Working.{ComesBack, Sends};
 
-use crate::opening::Opening;
-use crate::seat::Seat;
-use crate::shared::Shared;
 use gr_book::{Handed, HandingIn, Taking};
 use gr_compile::{Built, Job, build};
+use gr_pool::{Opening, Seat, Shared};
 use std::alloc::{AllocError, Global};
 use std::sync::Wait;
 

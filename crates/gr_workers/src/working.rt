@@ -1,15 +1,13 @@
 //! What builds the packages.
 ghost use Rattle.std.specs.Prelude.{ℕ};
-ghost use Rattle.gr_pool.specs.Call.{Gains, IsWork};
+ghost use Rattle.gr_pool.specs.Call.{Gains};
 ghost use Rattle.gr_compile.specs.Builds.{IsBuiltOf};
-ghost use Rattle.gr_pool.specs.Working.{Delivers, HandsIn, WorksOften};
+ghost use Rattle.gr_workers.specs.Working.{Delivers, HandsIn, IsWork, WorksOften};
 
 use crate::gate::Gate;
 use crate::in_hand::{InHand, take};
-use crate::opening::Opening;
-use crate::seat::Seat;
-use crate::shared::Shared;
 use gr_compile::Built;
+use gr_pool::{Opening, Seat, Shared};
 use std::alloc::Global;
 use std::sync::Wait;
 
