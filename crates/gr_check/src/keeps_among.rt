@@ -19,7 +19,7 @@ use gr_affected::affected_by;
 use gr_bound::{BoundSpot, Declaration};
 use gr_edit::EditSet;
 use gr_graph::Graph;
-use gr_kept_each::Near;
+use gr_kept::Near;
 use gr_revision::Moves;
 use gr_sound::{are_predeclared, goes_to};
 use gr_text::Place;

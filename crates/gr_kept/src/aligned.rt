@@ -10,10 +10,10 @@ ghost use Rattle.gr_sound.specs.Sound.{view_in};
 ghost use Rattle.gr_kept_each.specs.Steps.{KeepsAll, AddsNowhere};
 ghost use Rattle.gr_sound.specs.Becoming.{Becomes};
 
+use crate::near::Near;
 use gr_bound::bindings::find;
 use gr_bound::{BoundSpot, Declaration};
 use gr_declared::Package;
-use gr_kept_each::Near;
 use gr_placed::bound_here::is_bound;
 use gr_placed::{NameStart, start};
 use gr_revision::{FileMoves, Moves};

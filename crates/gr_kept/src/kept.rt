@@ -5,8 +5,9 @@ ghost use Rattle.gr_sound.specs.Held.{IsHeld};
 ghost use Rattle.gr_sound.specs.Sound.{view_in};
 ghost use Rattle.gr_kept_each.specs.Steps.{KeepsAll, AddsNowhere};
 
+use crate::adding::adds_nowhere;
 use crate::aligned::{Compared, keep_order};
-use gr_kept_each::{adds_nowhere, are_kept};
+use gr_kept_each::are_kept;
 use gr_revision::Moves;
 use gr_sound::SoundWorkspace;
 use std::alloc::{AllocError, Global};

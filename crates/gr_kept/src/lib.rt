@@ -1,7 +1,10 @@
 //! Whether the bound identifiers of a workspace stay bound, after a change, to what their declarations become.
 #![tactic(auto)]
 
+mod adding;
 mod aligned;
 mod kept;
+mod near;
 
 pub use kept::keeps;
+pub use near::Near;

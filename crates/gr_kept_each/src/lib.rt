@@ -2,7 +2,5 @@
 #![tactic(auto)]
 
 mod keeping;
-mod near;
 
-pub use keeping::{adds_nowhere, are_kept};
-pub use near::Near;
+pub use keeping::are_kept;

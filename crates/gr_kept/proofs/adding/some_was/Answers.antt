@@ -1,4 +1,4 @@
--- The answers to the goals of `keeping::some_was`.
+-- The answers to the goals of `adding::some_was`.
 use Rattle.std.proofs.Common.{arith}
 use Rattle.gr_edit.specs.Moved.{moved}
 use Rattle.gr_bound.specs.declared.bound_spot.BoundSpot.{BoundSpot}
@@ -6,7 +6,7 @@ use Rattle.gr_bound.specs.declared.declaration.Declaration.{Declaration}
 use Rattle.gr_sound.specs.Sound.{view_in}
 use Rattle.gr_sound.specs.Becoming.{Becomes}
 use Rattle.gr_kept_each.proofs.Every.{Not, none_yet, one_more, fails_not, one_has, none_has}
-use Rattle.gr_kept_each.proofs.keeping.some_was.Goals as goal
+use Rattle.gr_kept.proofs.adding.some_was.Goals as goal
 
 pub loop-b-init : goal.loop-b-init
 loop-b-init c = none_yet (Not (λ d. Becomes (view_in c.args.before.now) (view_in c.args.then.now) (moved c.args.moves.now) d c.args.e.now)) c.args.bound.now

@@ -1,4 +1,4 @@
--- The answers to the goals of `keeping::add_none`.
+-- The answers to the goals of `adding::add_none`.
 use Rattle.std.proofs.Common.{refl, arith}
 use Rattle.std.specs.Prelude.{Contains}
 use Rattle.gr_text.specs.declared.place.Place.{Place}
@@ -6,7 +6,7 @@ use Rattle.gr_edit.specs.Moved.{moved}
 use Rattle.gr_sound.specs.Sound.{view_in}
 use Rattle.gr_kept_each.specs.Steps.{AddsNone}
 use Rattle.gr_kept_each.proofs.Every.{none_yet, one_more, of_each, contained, fails_at}
-use Rattle.gr_kept_each.proofs.keeping.add_none.Goals as goal
+use Rattle.gr_kept.proofs.adding.add_none.Goals as goal
 
 pub loop-place-init : goal.loop-place-init
 loop-place-init c = none_yet (AddsNone (view_in c.args.before.now) (view_in c.args.then.now) (moved c.args.moves.now)) c.args.places.now

@@ -3,7 +3,7 @@ use Rattle.gr_edit.specs.Moved.{moved}
 use Rattle.gr_sound.specs.Sound.{view_in}
 use Rattle.gr_kept_each.specs.Steps.{AddsNone}
 use Rattle.gr_kept_each.proofs.Every.{HoldsBelow}
-use Rattle.gr_kept_each.proofs.keeping.add_none.Given as goal
+use Rattle.gr_kept.proofs.adding.add_none.Given as goal
 
 abbrev pub invariant-loop-place : goal.invariant-loop-place
 invariant-loop-place l = HoldsBelow (AddsNone (view_in l.before) (view_in l.then) (moved l.moves)) l.places l.place-index

@@ -1,4 +1,4 @@
--- The answers to the goals of `keeping::all_were`.
+-- The answers to the goals of `adding::all_were`.
 use Rattle.std.proofs.Common.{refl, arith}
 use Rattle.gr_edit.specs.Moved.{moved}
 use Rattle.gr_bound.specs.declared.bound_spot.BoundSpot.{BoundSpot}
@@ -6,7 +6,7 @@ use Rattle.gr_sound.specs.Sound.{view_in}
 use Rattle.gr_kept_each.specs.Steps.{HasBound, AllWere}
 use Rattle.gr_sound.specs.Becoming.{Becomes}
 use Rattle.gr_kept_each.proofs.Every.{none_yet, one_more, of_each, contained, fails_at}
-use Rattle.gr_kept_each.proofs.keeping.all_were.Goals as goal
+use Rattle.gr_kept.proofs.adding.all_were.Goals as goal
 
 pub loop-b-init : goal.loop-b-init
 loop-b-init c =

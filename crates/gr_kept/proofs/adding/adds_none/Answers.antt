@@ -1,4 +1,4 @@
--- The answers to the goals of `keeping::adds_none`.
+-- The answers to the goals of `adding::adds_none`.
 use Rattle.std.proofs.Common.{◌≡◌, subst}
 use Rattle.std.specs.Prelude.{IsTrue, ◌↔◌, Contains}
 use Rattle.std.proofs.lemmas.Result.{IfOk-weaker}
@@ -8,7 +8,7 @@ use Rattle.gr_bound.specs.declared.bound_spot.BoundSpot.{BoundSpot}
 use Rattle.gr_sound.specs.Sound.{view_in, IsBoundHere}
 use Rattle.gr_kept_each.specs.Steps.{AllWere, AddsNone}
 use Rattle.gr_kept_each.proofs.Every.{were_as}
-use Rattle.gr_kept_each.proofs.keeping.adds_none.Goals as goal
+use Rattle.gr_kept.proofs.adding.adds_none.Goals as goal
 
 pub returns : goal.returns
 returns c =

@@ -1,4 +1,4 @@
--- The answers to the goals of `keeping::adds_nowhere`.
+-- The answers to the goals of `adding::adds_nowhere`.
 use Rattle.std.proofs.Common.{List, sym, subst}
 use Rattle.std.specs.Prelude.{IsTrue, ◌↔◌, Contains}
 use Rattle.std.proofs.lemmas.Result.{IfOk-weaker}
@@ -8,7 +8,7 @@ use Rattle.gr_placed.specs.Identified.{IsIdentifierAt}
 use Rattle.gr_sound.specs.Sound.{view_in}
 use Rattle.gr_kept_each.specs.Steps.{AddsNone, AddsNowhere}
 use Rattle.gr_kept_each.proofs.Every.{nowhere_as}
-use Rattle.gr_kept_each.proofs.keeping.adds_nowhere.Goals as goal
+use Rattle.gr_kept.proofs.adding.adds_nowhere.Goals as goal
 
 pub returns : goal.returns
 returns c =
