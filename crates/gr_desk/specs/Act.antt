@@ -1,5 +1,5 @@
 -- What a command does.
-use Rattle.std.specs.Prelude.{◌≡◌, ◌⊎◌, ℕ, List, ⊤, Option, MatchBool, MatchOption, Some, None, IfSome, Result, Ok, Err}
+use Rattle.std.specs.Prelude.{◌≡◌, ◌⊎◌, ℕ, List, ⊤, Option, Some, None, IfSome, Result, Ok, Err}
 use Rattle.gr_text.specs.Path.{IsPath}
 use Rattle.gr_text.specs.declared.refusal.Refusal.{Refusal}
 use Rattle.gr_text.specs.declared.refusal.Refusal.TheVariants.{Memory, BadPath, TooLarge, Moved}
@@ -16,14 +16,16 @@ use Rattle.gr_desk.specs.Queries.{Cats, WritesUses, TellsFaults, TellsObject, li
 use Rattle.gr_desk.specs.Logging.{entry_text}
 use Rattle.gr_desk.specs.Wait.{WaitLaw, Waits}
 use Rattle.gr_desk.specs.Work.{Works}
-use Rattle.gr_line.specs.Commands.{basis_of, entry_asked, is_wait}
+use Rattle.gr_line.specs.Commands.{basis_of}
 use Rattle.gr_line.specs.declared.command.Command.{Command}
 use Rattle.gr_line.specs.declared.command.Command.TheVariants as command
+use Rattle.gr_line.specs.declared.command.StateCommand.{StateCommand}
+use Rattle.gr_line.specs.declared.command.StateCommand.TheVariants as state
 use Rattle.gr_line.specs.declared.command.Response.{Response}
 use Rattle.gr_line.specs.declared.command.Response.TheVariants as response
 
 -- the command is meant for the state that the view shows
-abbrev pub FitsView : View → Command → Type 0
+abbrev pub FitsView : View → StateCommand → Type 0
 FitsView view asked = IfSome (basis_of asked) (λ basis. basis ≡ view.snapshot.number)
 
 -- a put whose body was not kept, and so is over the limit of a file if its path is one
@@ -76,48 +78,45 @@ module _ {D : Type 0} (steps : D → Event → Reply → D → Type 0) where
   Commits old basis (Err refusal) answer new = (answer ≡ response.Refused refusal) × (new ≡ old)
 
   -- a command that is meant for the state of the view
-  abbrev pub ActsOn : D → View → Command → Response → D → Type 0
-  ActsOn old view command.Look answer new = TellsReply (Looked view) answer × (new ≡ old)
-  ActsOn old view (command.Put basis path body) answer new =
+  abbrev pub ActsOn : D → View → StateCommand → Response → D → Type 0
+  ActsOn old view state.Look answer new = TellsReply (Looked view) answer × (new ≡ old)
+  ActsOn old view (state.Put basis path body) answer new =
       (planned : Result Change Refusal) × PlansBody view path body planned × Commits old basis planned answer new
-  ActsOn old view (command.Del basis path) answer new =
+  ActsOn old view (state.Del basis path) answer new =
       (planned : Result Change Refusal) × PlansDel view.snapshot path planned × Commits old basis planned answer new
-  ActsOn old view (command.Rename basis path offset name) answer new =
+  ActsOn old view (state.Rename basis path offset name) answer new =
       (planned : Result Change Refusal) × PlansRename view.snapshot path offset name planned × Commits old basis planned answer new
-  ActsOn old view (command.Move basis from to) answer new =
+  ActsOn old view (state.Move basis from to) answer new =
       (planned : Result Change Refusal) × PlansMove view.snapshot from to planned × Commits old basis planned answer new
-  ActsOn old view (command.Undo basis) answer new = Sends old (Undo basis) answer new
-  ActsOn old view (command.Redo basis) answer new = Sends old (Redo basis) answer new
-  ActsOn old view (command.Cat path) answer new =
+  ActsOn old view (state.Undo basis) answer new = Sends old (Undo basis) answer new
+  ActsOn old view (state.Redo basis) answer new = Sends old (Redo basis) answer new
+  ActsOn old view (state.Cat path) answer new =
       ((found : Result (List ℕ) Refusal) × Cats view path found × (answer ≡ file_response view.snapshot.number found)) × (new ≡ old)
-  ActsOn old view (command.Uses path offset) answer new =
+  ActsOn old view (state.Uses path offset) answer new =
       ((found : Result (List ℕ) Refusal) × WritesUses view path offset found × (answer ≡ lines_response view.snapshot.number found)) × (new ≡ old)
-  ActsOn old view command.List answer new = TellsLines view.snapshot.number (listing view.snapshot.files) answer × (new ≡ old)
-  ActsOn old view command.Faults answer new = AnswersFaults view answer × (new ≡ old)
-  ActsOn old view (command.Object path) answer new =
+  ActsOn old view state.List answer new = TellsLines view.snapshot.number (listing view.snapshot.files) answer × (new ≡ old)
+  ActsOn old view state.Faults answer new = AnswersFaults view answer × (new ≡ old)
+  ActsOn old view (state.Object path) answer new =
       ((found : Result (List ℕ) Refusal) × TellsObject view path found × (answer ≡ file_response view.snapshot.number found)) × (new ≡ old)
-  ActsOn old view command.Work answer new = Works steps old answer new
-  -- a log and a wait are answered without a view
-  ActsOn old view (command.Log number) answer new = ⊥
-  ActsOn old view command.Wait answer new = ⊥
+  ActsOn old view state.Work answer new = Works steps old answer new
 
   -- the command after its look has shown this view: it is refused where it is meant for another state
-  abbrev pub ActsAfter : D → View → Command → Response → D → Type 0
+  abbrev pub ActsAfter : D → View → StateCommand → Response → D → Type 0
   ActsAfter old view asked answer new =
       (¬ (FitsView view asked) × (answer ≡ response.Refused (Moved view.snapshot.number)) × (new ≡ old))
       ⊎ (FitsView view asked × ActsOn old view asked answer new)
 
   -- the command after the reply to its look
-  abbrev pub Continues : D → Reply → Command → Response → D → Type 0
+  abbrev pub Continues : D → Reply → StateCommand → Response → D → Type 0
   Continues old (Looked view) asked answer new = ActsAfter old view asked answer new
   Continues old reply asked answer new = TellsReply reply answer × (new ≡ old)
 
   -- a command that begins with a look
-  abbrev pub Looks : D → Command → Response → D → Type 0
+  abbrev pub Looks : D → StateCommand → Response → D → Type 0
   Looks old asked answer new = (reply : Reply) × (mid : D) × steps old Look reply mid × Continues mid reply asked answer new
 
-  -- one command: a log is one event alone, a wait is what the desk says of it, and any other begins with a look
+  -- one command: one about the current state begins with a look, a wait is what the desk says of it, and a log is one event alone
   abbrev pub Acts : WaitLaw D → D → Command → Response → D → Type 0
-  Acts waits old asked answer new = MatchOption (entry_asked asked)
-      (MatchBool (is_wait asked) (Waits waits old answer new) (Looks old asked answer new))
-      (λ number. Sends old (Log number) answer new)
+  Acts waits old (command.OnState asked) answer new = Looks old asked answer new
+  Acts waits old command.Wait answer new = Waits waits old answer new
+  Acts waits old (command.Log number) answer new = Sends old (Log number) answer new

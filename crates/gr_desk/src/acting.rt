@@ -1,5 +1,5 @@
-//! One command. Each but a log and a wait begins with a look, and what it does is planned on the view that the look gave.
-ghost use Rattle.std.specs.Prelude.{◌≡◌, ◌↔◌, ℕ, IfOk, IsTrue, List, MatchBool, None, Result, false};
+//! One command. One about the current state begins with a look, and what it does is planned on the view that the look gave.
+ghost use Rattle.std.specs.Prelude.{◌≡◌, ◌↔◌, ℕ, IfOk, IsTrue, List, Result};
 ghost use Rattle.gr_text.specs.declared.refusal.Refusal.{Refusal as WhyRefused};
 ghost use Rattle.gr_move.specs.Plan.{PlansMove};
 ghost use Rattle.gr_rename.specs.Plan.{PlansRename};
@@ -9,7 +9,6 @@ ghost use Rattle.gr_book.specs.Questions.{changing_event};
 ghost use Rattle.gr_book.specs.declared.event.Event.TheVariants.{Commit, Redo, Undo};
 ghost use Rattle.gr_space.specs.Plan.{PlansDel};
 ghost use Rattle.gr_space.specs.declared.change.Change.{Change as PlannedChange};
-ghost use Rattle.gr_line.specs.Commands.{entry_asked, is_wait};
 ghost use Rattle.gr_desk.specs.Act.{
   Acts,
   ActsAfter,
@@ -34,7 +33,7 @@ use crate::working::work;
 use gr_book::{Changing, Looking, View};
 use gr_check::Planned;
 use gr_graph::Graph;
-use gr_line::{Bytes, Command, Response, Word};
+use gr_line::{Bytes, Command, Response, StateCommand, Word};
 use gr_move::plan_move;
 use gr_rename::plan_rename;
 use gr_space::{MadeChange, plan_del, plan_put};
@@ -43,7 +42,7 @@ use gr_verdict::{Findings, Found, Known};
 use std::alloc::{AllocError, Global};
 
 /// Whether the command is meant for the state that the view shows.
-fn fits_view(view: &View, command: &Command) -> bool
+fn fits_view(view: &View, command: &StateCommand) -> bool
     ensures { IsTrue result ↔ FitsView view.now command.now }
 {
     match command.basis() {
@@ -366,43 +365,37 @@ fn tell_faults<D: Desk>(alloc: Global, desk: &mut D, view: &View) -> Response
 }
 
 /// Acts on a command that is meant for the state of the view.
-fn act_on<D: Desk>(alloc: Global, desk: &mut D, view: &View, command: Command) -> Response
-    requires entry { entry_asked command ≡ None }
-    requires wait { is_wait command ≡ false }
+fn act_on<D: Desk>(alloc: Global, desk: &mut D, view: &View, command: StateCommand) -> Response
     ensures { ActsOn D.steps desk.old view.now command result desk.new }
 {
     match command {
-        Command::Look => Response::Steps {
+        StateCommand::Look => Response::Steps {
             number: view.snapshot.number(),
             undo: view.undo,
             redo: view.redo,
         },
-        Command::Put { basis, path, body } => put(alloc, desk, view, basis, path, body),
-        Command::Del { basis, path } => del(alloc, desk, view, basis, path),
-        Command::Rename {
+        StateCommand::Put { basis, path, body } => put(alloc, desk, view, basis, path, body),
+        StateCommand::Del { basis, path } => del(alloc, desk, view, basis, path),
+        StateCommand::Rename {
             basis,
             path,
             offset,
             name,
         } => rename(alloc, desk, view, basis, NamedByte { path, offset }, name),
-        Command::Move { basis, from, to } => move_to(alloc, desk, view, basis, from, to),
-        Command::Undo { basis } => undo(desk, basis),
-        Command::Redo { basis } => redo(desk, basis),
-        Command::Cat { path } => tell_file(alloc, view, path),
-        Command::Uses { path, offset } => tell_uses(alloc, desk, view, path, offset),
-        Command::Object { path } => tell_object(alloc, view, path),
-        Command::Work => work(alloc, desk),
-        Command::List => tell_list(alloc, view),
-        Command::Faults => tell_faults(alloc, desk, view),
-        Command::Log { number: _ } => unreachable!(),
-        Command::Wait => unreachable!(),
+        StateCommand::Move { basis, from, to } => move_to(alloc, desk, view, basis, from, to),
+        StateCommand::Undo { basis } => undo(desk, basis),
+        StateCommand::Redo { basis } => redo(desk, basis),
+        StateCommand::Cat { path } => tell_file(alloc, view, path),
+        StateCommand::Uses { path, offset } => tell_uses(alloc, desk, view, path, offset),
+        StateCommand::Object { path } => tell_object(alloc, view, path),
+        StateCommand::Work => work(alloc, desk),
+        StateCommand::List => tell_list(alloc, view),
+        StateCommand::Faults => tell_faults(alloc, desk, view),
     }
 }
 
 /// Acts on a command after its look has shown the view.
-fn act_after<D: Desk>(alloc: Global, desk: &mut D, view: &View, command: Command) -> Response
-    requires entry { entry_asked command ≡ None }
-    requires wait { is_wait command ≡ false }
+fn act_after<D: Desk>(alloc: Global, desk: &mut D, view: &View, command: StateCommand) -> Response
     ensures { ActsAfter D.steps desk.old view.now command result desk.new }
 {
     if fits_view(view, &command) {
@@ -417,10 +410,8 @@ fn act_after<D: Desk>(alloc: Global, desk: &mut D, view: &View, command: Command
     }
 }
 
-/// Acts on a command that begins with a look.
-fn act_looking<D: Desk>(alloc: Global, desk: &mut D, command: Command) -> Response
-    requires entry { entry_asked command ≡ None }
-    requires wait { is_wait command ≡ false }
+/// Acts on a command about the current state, which begins with a look.
+fn act_looking<D: Desk>(alloc: Global, desk: &mut D, command: StateCommand) -> Response
     ensures { Looks D.steps desk.old command result desk.new }
 {
     match desk.step(Looking) {
@@ -439,28 +430,13 @@ fn wait<D: Desk>(desk: &mut D) -> Response
     }
 }
 
-/// Acts on a command that is no log.
-fn act_or_wait<D: Desk>(alloc: Global, desk: &mut D, command: Command) -> Response
-    requires { entry_asked command ≡ None }
-    ensures { MatchBool (is_wait command) (Waits D.waits desk.old result desk.new) (Looks D.steps desk.old command result desk.new) }
-{
-    if command.is_wait() {
-        drop(command);
-        wait(desk)
-    } else {
-        act_looking(alloc, desk, command)
-    }
-}
-
 /// Acts on one command.
 pub fn act<D: Desk>(alloc: Global, desk: &mut D, command: Command) -> Response
     ensures { Acts D.steps D.waits desk.old command result desk.new }
 {
-    match command.entry() {
-        Some(number) => {
-            drop(command);
-            log(alloc, desk, number)
-        }
-        None => act_or_wait(alloc, desk, command),
+    match command {
+        Command::OnState(command) => act_looking(alloc, desk, command),
+        Command::Wait => wait(desk),
+        Command::Log { number } => log(alloc, desk, number),
     }
 }

@@ -15,7 +15,7 @@ mod stream;
 mod word;
 
 pub use bytes::Bytes;
-pub use command::{Command, Response};
+pub use command::{Command, Response, StateCommand};
 pub use input::InputFault;
 pub use laws::begins_one_way;
 pub use message::Message;
