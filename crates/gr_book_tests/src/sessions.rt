@@ -3,9 +3,9 @@ ghost use Rattle.std.specs.Prelude.{◌≡◌};
 
 use crate::texts::{A, text};
 use gr_book::Book;
-use gr_desk::{Desk, Solo, act};
+use gr_desk::{Desk, Response, Solo, act};
 use gr_held::Held;
-use gr_line::{Command, Response, StateCommand, Word};
+use gr_line::{Command, StateCommand, Word};
 use gr_pool::{Opening, Seat, Shared, Unsettled};
 use gr_text::{Limits, Refusal};
 use std::alloc::Global;
@@ -133,11 +133,13 @@ fn change_both<L: Opening + Send + Sync, R: Threads + Wait + Abort + Sync>(
 fn has_both<R: Abort>(rt: &R, alloc: Global, book: Book) {
     let mut solo = Solo::new(book);
     match act(alloc, &mut solo, Command::OnState(StateCommand::List)) {
-        Response::Lines { number, text } => {
+        Response::Listing { number, files } => {
             assert_eq!(rt; number, 2);
-            assert!(rt; text.as_slice() == b"a/a.go 58\nb/b.go 10\n".as_slice());
+            assert!(rt; files.len() == 2);
         }
         _ => assert!(rt; false, "refused"),
     }
+    assert!(rt; reads(rt, alloc, &mut solo, "a/a.go", A));
+    assert!(rt; reads(rt, alloc, &mut solo, "b/b.go", B));
     let _entries = solo.into_book().close();
 }

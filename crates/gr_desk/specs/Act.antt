@@ -1,6 +1,7 @@
 -- What a command does.
 use Rattle.std.specs.Prelude.{◌≡◌, ◌⊎◌, ℕ, List, ⊤, Option, Some, None, IfSome, Result, Ok, Err}
 use Rattle.gr_text.specs.Path.{IsPath}
+use Rattle.gr_text.specs.declared.place.Place.{Place}
 use Rattle.gr_text.specs.declared.refusal.Refusal.{Refusal}
 use Rattle.gr_text.specs.declared.refusal.Refusal.TheVariants.{Memory, BadPath, TooLarge, Moved}
 use Rattle.gr_move.specs.Plan.{PlansMove}
@@ -12,8 +13,10 @@ use Rattle.gr_book.specs.declared.event.Event.{Event}
 use Rattle.gr_book.specs.declared.event.Event.TheVariants.{Look, Log, Commit, Undo, Redo}
 use Rattle.gr_book.specs.declared.event.Reply.{Reply}
 use Rattle.gr_book.specs.declared.event.Reply.TheVariants.{Looked, Logged, Done, Taken, Refused, Back}
-use Rattle.gr_desk.specs.Queries.{Cats, WritesUses, TellsFaults, TellsObject, listing}
-use Rattle.gr_desk.specs.Logging.{entry_text}
+use Rattle.gr_bound.specs.Uses.{TellsUses}
+use Rattle.gr_verdict.specs.FaultLists.{ListsFaults}
+use Rattle.gr_verdict.specs.declared.fault.FileFault.{FileFault}
+use Rattle.gr_desk.specs.Queries.{Cats, TellsObject}
 use Rattle.gr_desk.specs.Wait.{WaitLaw, Waits}
 use Rattle.gr_desk.specs.Work.{Works}
 use Rattle.gr_line.specs.Commands.{basis_of}
@@ -21,8 +24,8 @@ use Rattle.gr_line.specs.declared.command.Command.{Command}
 use Rattle.gr_line.specs.declared.command.Command.TheVariants as command
 use Rattle.gr_line.specs.declared.command.StateCommand.{StateCommand}
 use Rattle.gr_line.specs.declared.command.StateCommand.TheVariants as state
-use Rattle.gr_line.specs.declared.command.Response.{Response}
-use Rattle.gr_line.specs.declared.command.Response.TheVariants as response
+use Rattle.gr_desk.specs.declared.response.Response.{Response}
+use Rattle.gr_desk.specs.declared.response.Response.TheVariants as response
 
 -- the command is meant for the state that the view shows
 abbrev pub FitsView : View → StateCommand → Type 0
@@ -40,14 +43,14 @@ abbrev pub PlansBody : View → List ℕ → Option (List ℕ) → Result Change
 PlansBody view path None planned = PlansDropped path planned
 PlansBody view path (Some text) planned = PlansPut view.snapshot path text planned
 
--- the lines, or want of memory for them
-abbrev pub TellsLines : ℕ → List ℕ → Response → Type 0
-TellsLines number lines answer = (answer ≡ response.Lines number lines) ⊎ (answer ≡ response.Refused Memory)
+-- the files of the view, or want of memory to share them
+abbrev pub TellsFiles : View → Response → Type 0
+TellsFiles view answer = (answer ≡ response.Listing view.snapshot.number view.snapshot.files) ⊎ (answer ≡ response.Refused Memory)
 
 -- the answer that tells a reply without a Job
 abbrev pub TellsReply : Reply → Response → Type 0
 TellsReply (Looked view) answer = answer ≡ response.Steps view.snapshot.number view.undo view.redo
-TellsReply (Logged current line) answer = TellsLines current (entry_text line) answer
+TellsReply (Logged current line) answer = answer ≡ response.Entry current line
 TellsReply (Done number) answer = answer ≡ response.Done number
 TellsReply (Taken job) answer = ⊥
 TellsReply (Refused refusal) answer = answer ≡ response.Refused refusal
@@ -57,14 +60,14 @@ abbrev pub file_response : ℕ → Result (List ℕ) Refusal → Response
 file_response number (Ok text) = response.File number text
 file_response number (Err refusal) = response.Refused refusal
 
-abbrev pub lines_response : ℕ → Result (List ℕ) Refusal → Response
-lines_response number (Ok lines) = response.Lines number lines
-lines_response number (Err refusal) = response.Refused refusal
+abbrev pub places_response : ℕ → Result (List Place) Refusal → Response
+places_response number (Ok places) = response.Places number places
+places_response number (Err refusal) = response.Refused refusal
 
--- the lines of the faults of the view's files, or want of memory for them
+-- the faults of the view's files, or want of memory for them
 abbrev pub AnswersFaults : View → Response → Type 0
 AnswersFaults view answer =
-    ((lines : List ℕ) × TellsFaults view.snapshot.files lines × (answer ≡ response.Lines view.snapshot.number lines))
+    ((list : List FileFault) × ListsFaults view.snapshot.files list × (answer ≡ response.Faults view.snapshot.number list))
     ⊎ (answer ≡ response.Refused Memory)
 
 module _ {D : Type 0} (steps : D → Event → Reply → D → Type 0) where
@@ -93,8 +96,9 @@ module _ {D : Type 0} (steps : D → Event → Reply → D → Type 0) where
   ActsOn old view (state.Cat path) answer new =
       ((found : Result (List ℕ) Refusal) × Cats view path found × (answer ≡ file_response view.snapshot.number found)) × (new ≡ old)
   ActsOn old view (state.Uses path offset) answer new =
-      ((found : Result (List ℕ) Refusal) × WritesUses view path offset found × (answer ≡ lines_response view.snapshot.number found)) × (new ≡ old)
-  ActsOn old view state.List answer new = TellsLines view.snapshot.number (listing view.snapshot.files) answer × (new ≡ old)
+      ((found : Result (List Place) Refusal) × TellsUses view.snapshot.files path offset found × (answer ≡ places_response view.snapshot.number found))
+      × (new ≡ old)
+  ActsOn old view state.List answer new = TellsFiles view answer × (new ≡ old)
   ActsOn old view state.Faults answer new = AnswersFaults view answer × (new ≡ old)
   ActsOn old view (state.Object path) answer new =
       ((found : Result (List ℕ) Refusal) × TellsObject view path found × (answer ≡ file_response view.snapshot.number found)) × (new ≡ old)

@@ -1,10 +1,9 @@
-//! What a session asks, and what it is answered. A later command is a variant here and a case of
+//! What a session asks. A later command is a variant here, and one about the current state also a case of
 //! `basis_of` in specs/Commands.antt.
 ghost use Rattle.std.specs.Prelude.{◌≡◌};
 
-use crate::bytes::Bytes;
 use crate::word::Word;
-use gr_text::{FileText, Refusal};
+use gr_text::FileText;
 
 /// A command about the current state, which is looked at first. Its basis is the number of the state that it is meant for.
 #[derive(Drop)]
@@ -90,31 +89,4 @@ pub enum Command {
     Wait,
     /// An entry of the journal, by its number.
     Log { number: u64 },
-}
-
-/// The answer to a command. The number is that of the current state after it.
-#[derive(Drop)]
-pub enum Response {
-    Done {
-        number: u64,
-    },
-    /// How many steps undo and redo can make.
-    Steps {
-        number: u64,
-        undo: usize,
-        redo: usize,
-    },
-    /// The text of one file, or an object.
-    File {
-        number: u64,
-        text: FileText,
-    },
-    /// Lines that were made for this answer.
-    Lines {
-        number: u64,
-        text: Bytes,
-    },
-    Refused {
-        refusal: Refusal,
-    },
 }

@@ -15,7 +15,7 @@ use Rattle.gr_line.specs.declared.command.Command.{Command}
 use Rattle.gr_line.specs.declared.command.Command.TheVariants as command
 use Rattle.gr_line.specs.declared.command.StateCommand.{StateCommand}
 use Rattle.gr_line.specs.declared.command.StateCommand.TheVariants as state
-use Rattle.gr_line.specs.declared.command.Response.{Response}
+use Rattle.gr_desk.specs.declared.response.Response.{Response}
 use Rattle.gr_line.specs.declared.message.Message.{Message}
 use Rattle.gr_line.specs.declared.message.Message.TheVariants.{Ask, Unknown, CutShort}
 use Rattle.gr_desk.specs.Wait.{WaitLaw}
@@ -121,7 +121,7 @@ module _ {D E : Type 0} (steps : D → Event → Reply → D → Type 0) (waits 
   answered : (old new : D) (message : Message) (reply : Response) → Answered steps waits old message reply new
       → Lifts old new (λ a b. Answered shown awaited a message reply b)
   answered old new (Ask asked) reply h = elim h [
-    | inl k ↦ let l = acted old new asked reply k in (l.0, inl l.1)
+    | inl k ↦ let l = acted old new asked k.0 k.1 in (l.0, inl (k.0, l.1, k.2))
     | inr k ↦ let l = same old new k.1 in (l.0, inr (k.0, l.1))
   ]
   answered old new Unknown reply h = let k = same old new h.1 in (k.0, (h.0, k.1))

@@ -19,7 +19,7 @@ use Rattle.gr_line.specs.declared.command.Command.{Command}
 use Rattle.gr_line.specs.declared.command.Command.TheVariants as command
 use Rattle.gr_line.specs.declared.command.StateCommand.{StateCommand}
 use Rattle.gr_line.specs.declared.command.StateCommand.TheVariants as state
-use Rattle.gr_line.specs.declared.command.Response.{Response}
+use Rattle.gr_desk.specs.declared.response.Response.{Response}
 use Rattle.gr_desk.specs.Act.{Acts, ActsOn, Commits, Continues, Sends}
 use Rattle.gr_desk.specs.Work.{Works, AfterTake, AfterDelivery, Builds, Delivers, GivesBack}
 use Rattle.gr_line.specs.declared.message.Message.{Message}
@@ -140,7 +140,7 @@ acted old new (command.OnState asked) answer h =
 answered : (old new : Machine) (message : Message) (reply : Response) → Answered Step RefusesWait old message reply new
     → IsRun old new (λ a b. Answered Notes RefusesWait a message reply b)
 answered old new (Ask asked) reply h = elim h [
-  | inl k ↦ let g = acted old new asked reply k in (g.0, g.1, λ before after e. inl (g.2 before after e))
+  | inl k ↦ let g = acted old new asked k.0 k.1 in (g.0, g.1, λ before after e. inl (k.0, g.2 before after e, k.2))
   | inr k ↦ ([], k.1, λ before after n. inr (k.0, nothing before after n))
 ]
 answered old new Unknown reply h = ([], h.1, λ before after n. (h.0, nothing before after n))

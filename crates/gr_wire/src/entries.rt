@@ -1,13 +1,9 @@
-//! The command `log`: an entry of the journal is shown.
+//! The line of an entry of the journal.
 ghost use Rattle.std.specs.Prelude.{◌≡◌, ◌++◌, IfOk, OnOk};
-ghost use Rattle.gr_book.specs.declared.event.Event.TheVariants.{Log};
-ghost use Rattle.gr_desk.specs.Act.{Sends, TellsLines};
-ghost use Rattle.gr_desk.specs.Logging.{entry_line, entry_text, number_and, told_number, told_word};
+ghost use Rattle.gr_wire.specs.Listings.{entry_line, entry_text, number_and, told_number, told_word};
 
-use crate::desk::Desk;
-use gr_book::{Line, Logging, Told};
-use gr_line::{Bytes, Response, refusal_code};
-use gr_text::Refusal;
+use crate::refusal::refusal_code;
+use gr_book::{Line, Told};
 use itoa::Buffer;
 use std::alloc::{AllocError, Global};
 
@@ -52,34 +48,12 @@ fn push_entry(text: &mut Vec<u8>, line: Line) -> Result<(), AllocError>
 }
 
 /// The line of an entry, or nothing where there is none.
-fn entry_text(alloc: Global, line: Option<Line>) -> Result<Bytes, AllocError>
-    ensures { IfOk result (λ text. text ≡ entry_text line) }
+pub(crate) fn entry_text(alloc: Global, line: Option<Line>) -> Result<Vec<u8>, AllocError>
+    ensures { IfOk result (λ text. text.items ≡ entry_text line) }
 {
     let mut text = Vec::new(alloc);
     if let Some(line) = line {
         push_entry(&mut text, line)?;
     }
-    Ok(Bytes::new(text))
-}
-
-/// Tells the line of an entry.
-fn tell_entry(alloc: Global, number: u64, line: Option<Line>) -> Response
-    ensures { TellsLines number (entry_text line) result }
-{
-    match entry_text(alloc, line) {
-        Ok(text) => Response::Lines { number, text },
-        Err(_) => Response::Refused {
-            refusal: Refusal::Memory,
-        },
-    }
-}
-
-/// Shows an entry of the journal. No look comes before it.
-pub(crate) fn log<D: Desk>(alloc: Global, desk: &mut D, number: u64) -> Response
-    ensures { Sends D.steps desk.old (Log number) result desk.new }
-{
-    match desk.step(Logging(number)) {
-        Ok((current, line)) => tell_entry(alloc, current, line),
-        Err(refusal) => Response::Refused { refusal },
-    }
+    Ok(text)
 }
