@@ -30,18 +30,21 @@ fn give_back<D: Desk>(desk: &mut D, job: Job)
 fn made_of(alloc: Global, job: &Job) -> Result<(Built, SharedPath), AllocError>
     ensures { IfOk result (λ made. IsBuiltOf job.now made.0 × (made.1 ≡ job.now.package)) }
 {
-    let package = job.package().clone()?;
+    let path = job.package().clone()?;
     let built = build(alloc, job)?;
-    Ok((built, package))
+    Ok((built, path))
 }
 
 /// Delivers what was built. A Job that comes back is given back.
-fn deliver<D: Desk>(desk: &mut D, job: Job, built: Built, package: SharedPath) -> Response
-    requires { package ≡ job.package }
+fn deliver<D: Desk>(desk: &mut D, job: Job, built: Built, path: SharedPath) -> Response
+    requires { path ≡ job.package }
     ensures { Delivers D.steps desk.old job built result desk.new }
 {
     match desk.step(HandingIn::Deliver(job, built)) {
-        Handed::Done(number) => Response::Built { number, package },
+        Handed::Done(number) => Response::Built {
+            number,
+            package: path,
+        },
         Handed::Refused(refusal) => Response::Refused { refusal },
         Handed::Back(refusal, job, built) => {
             drop(built);
@@ -56,7 +59,7 @@ fn build_in<D: Desk>(alloc: Global, desk: &mut D, job: Job) -> Response
     ensures { Builds D.steps desk.old job result desk.new }
 {
     match made_of(alloc, &job) {
-        Ok((built, package)) => deliver(desk, job, built, package),
+        Ok((built, path)) => deliver(desk, job, built, path),
         Err(_) => {
             give_back(desk, job);
             Response::Refused {

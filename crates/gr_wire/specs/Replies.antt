@@ -20,7 +20,7 @@ is_done (Listing number files) = true
 is_done (Places number places) = true
 is_done (Faults number faults) = true
 is_done (Entry number line) = true
-is_done (Built number package) = true
+is_done (Built number path) = true
 
 -- the current number, or the number of a refusal
 abbrev pub number_of : Response → ℕ
@@ -31,7 +31,7 @@ number_of (Listing number files) = number
 number_of (Places number places) = number
 number_of (Faults number faults) = number
 number_of (Entry number line) = number
-number_of (Built number package) = number
+number_of (Built number path) = number
 number_of (Refused refusal) = code_of refusal
 
 abbrev pub body_of : Response → List ℕ
@@ -42,7 +42,7 @@ body_of (Listing number files) = listing files
 body_of (Places number places) = place_lines places
 body_of (Faults number faults) = fault_lines faults
 body_of (Entry number line) = entry_text line
-body_of (Built number package) = package_line package
+body_of (Built number path) = package_line path
 body_of (Refused refusal) = refusal_body refusal
 
 -- the first line of a reply: whether it was done, a number, and the length of the body

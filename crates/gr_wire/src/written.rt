@@ -21,10 +21,13 @@ pub struct WrittenReply {
 
 impl Model for WrittenReply {
     ghost use Rattle.std.specs.Prelude.{◌≡◌};
+    ghost use Rattle.gr_desk.specs.contracts.response.Response.{the_row};
     ghost use Rattle.gr_desk.specs.declared.response.Response.{Response};
     ghost use Rattle.gr_wire.specs.Replies.{made_body};
 
     ghost Value = { Response };
+
+    ghost coded = { the_row.coded };
 
     ghost view = { λ a. a.response };
 
