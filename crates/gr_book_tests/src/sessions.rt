@@ -135,7 +135,7 @@ fn has_both<R: Abort>(rt: &R, alloc: Global, book: Book) {
     match act(alloc, &mut solo, Command::OnState(StateCommand::List)) {
         Response::Listing { number, files } => {
             assert_eq!(rt; number, 2);
-            assert!(rt; files.len() == 2);
+            assert!(rt; files.files().len() == 2);
         }
         _ => assert!(rt; false, "refused"),
     }

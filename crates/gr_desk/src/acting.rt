@@ -330,11 +330,11 @@ fn tell_uses<D: Desk>(
     places_response(view.snapshot.number(), found)
 }
 
-/// All files of a view. Their texts are shared.
+/// All files of a view. They are shared.
 fn tell_list(view: &View) -> Response
     ensures { TellsFiles view.now result }
 {
-    match view.snapshot.files().files().copy() {
+    match view.snapshot.files().clone() {
         Ok(files) => Response::Listing {
             number: view.snapshot.number(),
             files,

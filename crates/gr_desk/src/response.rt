@@ -3,7 +3,8 @@ ghost use Rattle.std.specs.Prelude.{◌≡◌};
 
 use gr_book::Line;
 use gr_expr::symbol::SharedPath;
-use gr_text::{FileText, Files, Refusal};
+use gr_graph::Graph;
+use gr_text::{FileText, Refusal};
 use gr_uses::Places;
 use gr_verdict::FileFault;
 use std::marker::Model;
@@ -54,10 +55,10 @@ pub enum Response {
         number: u64,
         text: FileText,
     },
-    /// All files.
+    /// All files, with their graph, which shares them.
     Listing {
         number: u64,
-        files: Files,
+        files: Graph,
     },
     /// The identifiers that are bound to one declaration.
     Places {

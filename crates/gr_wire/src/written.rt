@@ -40,7 +40,7 @@ fn made_body(alloc: Global, response: &Response) -> Result<Vec<u8>, AllocError>
     ensures wanting { OnErr result (TakesMemory response.now) }
 {
     match response {
-        Response::Listing { files, .. } => listing(alloc, files),
+        Response::Listing { files, .. } => listing(alloc, files.files()),
         Response::Places { places, .. } => place_lines(alloc, places.as_slice()),
         Response::Faults { faults, .. } => fault_lines(alloc, faults.as_slice()),
         Response::Entry { line, .. } => entry_text(alloc, *line),
