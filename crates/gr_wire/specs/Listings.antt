@@ -41,12 +41,9 @@ abbrev pub told_number : Told → ℕ
 told_number (Done number) = number
 told_number (Refused reason) = code_of (refusal_of reason)
 
-abbrev pub number_and : ℕ → ℕ → List ℕ
-number_and number end = decimal number ++ end ∷ []
-
 -- the kind of the event, its basis, and how it was answered
 abbrev pub entry_line : Line → List ℕ
-entry_line line = kind_name line.kind ++ 32 ∷ (number_and line.basis 32 ++ (told_word line.out ++ number_and (told_number line.out) 10))
+entry_line line = kind_name line.kind ++ 32 ∷ [] ++ decimal line.basis ++ 32 ∷ [] ++ told_word line.out ++ decimal (told_number line.out) ++ 10 ∷ []
 
 -- the line of an entry, or nothing past the end of the journal
 abbrev pub entry_text : Option Line → List ℕ

@@ -59,7 +59,6 @@ abbrev pub TakesMemory : Response → Type 0
 TakesMemory (Listing number files) = ⊤
 TakesMemory (Places number places) = ⊤
 TakesMemory (Faults number faults) = ⊤
-TakesMemory (Entry number line) = ⊤
 TakesMemory other = ⊥
 
 -- the body, where it takes memory to be made
@@ -67,7 +66,6 @@ abbrev pub made_body : Response → List ℕ
 made_body (Listing number files) = listing files
 made_body (Places number places) = place_lines places
 made_body (Faults number faults) = fault_lines faults
-made_body (Entry number line) = entry_text line
 made_body other = []
 
 -- what is written for an answer: the answer, or for want of memory to make its body the refusal that tells this

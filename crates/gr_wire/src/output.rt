@@ -5,6 +5,7 @@ ghost use Rattle.gr_wire.specs.Listings.{package_line};
 ghost use Rattle.gr_wire.specs.Replies.{head_of, made_body, reply_text, steps_line};
 ghost use Rattle.gr_line.specs.Failures.{CountsFailure, WritesText};
 
+use crate::entries::entry_text;
 use crate::refusal::{LONGEST_BODY, refusal_body, refusal_code};
 use arrayvec::ArrayString;
 use gr_desk::Response;
@@ -121,8 +122,10 @@ pub(crate) fn print_response<T: Sink>(
         Response::File { number, text } => print_parts(sink, *number, text.bytes()),
         Response::Listing { number, .. }
         | Response::Places { number, .. }
-        | Response::Faults { number, .. }
-        | Response::Entry { number, .. } => print_parts(sink, *number, made),
+        | Response::Faults { number, .. } => print_parts(sink, *number, made),
+        Response::Entry { number, line } => {
+            print_short(sink, true, *number, entry_text(*line).as_str())
+        }
         Response::Built { number, package } => print_line(sink, *number, package.path()),
         Response::Refused { refusal } => print_short(
             sink,

@@ -3,7 +3,6 @@ ghost use Rattle.std.specs.Prelude.{◌≡◌, IfOk, OnErr};
 ghost use Rattle.gr_line.specs.Failures.{CountsFailure, WritesText};
 ghost use Rattle.gr_wire.specs.Replies.{IsWrittenFor, TakesMemory, made_body, reply_text};
 
-use crate::entries::entry_text;
 use crate::lines::{fault_lines, listing, place_lines};
 use crate::output::print_response;
 use gr_desk::Response;
@@ -43,7 +42,6 @@ fn made_body(alloc: Global, response: &Response) -> Result<Vec<u8>, AllocError>
         Response::Listing { files, .. } => listing(alloc, files.files()),
         Response::Places { places, .. } => place_lines(alloc, places.as_slice()),
         Response::Faults { faults, .. } => fault_lines(alloc, faults.as_slice()),
-        Response::Entry { line, .. } => entry_text(alloc, *line),
         _ => Ok(Vec::new(alloc)),
     }
 }
