@@ -1,6 +1,6 @@
 //! One command. One about the current state begins with a look, and what it does is planned on the view that the look gave.
 ghost use Rattle.std.specs.Prelude.{◌≡◌, ◌↔◌, ℕ, IfOk, IsTrue, List, Result};
-ghost use Rattle.gr_text.specs.declared.place.Place.{Place as UsedPlace};
+ghost use Rattle.gr_text.specs.declared.place.Place.{Place};
 ghost use Rattle.gr_text.specs.declared.refusal.Refusal.{Refusal as WhyRefused};
 ghost use Rattle.gr_move.specs.Plan.{PlansMove};
 ghost use Rattle.gr_rename.specs.Plan.{PlansRename};
@@ -323,7 +323,7 @@ fn tell_uses<D: Desk>(
     path: Word,
     offset: usize,
 ) -> Response
-    ensures told { (found : Result (List UsedPlace) WhyRefused) × TellsUses view.now.snapshot.files path offset found × (result ≡ places_response view.now.snapshot.number found) }
+    ensures told { (found : Result (List Place) WhyRefused) × TellsUses view.now.snapshot.files path offset found × (result ≡ places_response view.now.snapshot.number found) }
     ensures same { desk.new ≡ desk.old }
 {
     let found = find_uses(alloc, desk, view, path.as_str(), offset);
