@@ -3,9 +3,9 @@ ghost use Rattle.std.specs.Prelude.{◌≡◌};
 
 use crate::texts::{A, text};
 use gr_book::Book;
-use gr_desk::{Desk, Solo, act};
+use gr_desk::{Desk, Response, Solo, act};
 use gr_held::Held;
-use gr_line::{Command, Response, Word};
+use gr_line::{Command, StateCommand, Word};
 use gr_pool::{Opening, Seat, Shared, Unsettled};
 use gr_text::{Limits, Refusal};
 use std::alloc::Global;
@@ -25,11 +25,11 @@ fn two_sessions(rt: HostRuntime) {
 
 /// The command that puts a file.
 fn put_of<R: Abort>(rt: &R, alloc: Global, basis: u64, path: &str, bytes: &str) -> Command {
-    Command::Put {
+    Command::OnState(StateCommand::Put {
         basis,
         path: Word::new(alloc, path).expect(rt, "a path"),
         body: Some(text(rt, alloc, bytes)),
-    }
+    })
 }
 
 /// The number of the current state, where a change came too late. Any other refusal fails the test.
@@ -62,7 +62,7 @@ fn put<D: Desk, R: Abort>(rt: &R, alloc: Global, desk: &mut D, path: &str, bytes
 /// Whether a session reads that text of a file.
 fn reads<D: Desk, R: Abort>(rt: &R, alloc: Global, desk: &mut D, path: &str, bytes: &str) -> bool {
     let path = Word::new(alloc, path).expect(rt, "a path");
-    match act(alloc, desk, Command::Cat { path }) {
+    match act(alloc, desk, Command::OnState(StateCommand::Cat { path })) {
         Response::File { text, .. } => text.bytes() == bytes.as_bytes(),
         _ => false,
     }
@@ -132,12 +132,14 @@ fn change_both<L: Opening + Send + Sync, R: Threads + Wait + Abort + Sync>(
 /// The book has both files, after two changes.
 fn has_both<R: Abort>(rt: &R, alloc: Global, book: Book) {
     let mut solo = Solo::new(book);
-    match act(alloc, &mut solo, Command::List) {
-        Response::Lines { number, text } => {
+    match act(alloc, &mut solo, Command::OnState(StateCommand::List)) {
+        Response::Listing { number, files } => {
             assert_eq!(rt; number, 2);
-            assert!(rt; text.as_slice() == b"a/a.go 58\nb/b.go 10\n".as_slice());
+            assert!(rt; files.files().len() == 2);
         }
         _ => assert!(rt; false, "refused"),
     }
+    assert!(rt; reads(rt, alloc, &mut solo, "a/a.go", A));
+    assert!(rt; reads(rt, alloc, &mut solo, "b/b.go", B));
     let _entries = solo.into_book().close();
 }

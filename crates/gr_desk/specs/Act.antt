@@ -1,6 +1,7 @@
 -- What a command does.
-use Rattle.std.specs.Prelude.{◌≡◌, ◌⊎◌, ℕ, List, ⊤, Option, MatchBool, MatchOption, Some, None, IfSome, Result, Ok, Err}
+use Rattle.std.specs.Prelude.{◌≡◌, ◌⊎◌, ℕ, List, ⊤, Option, Some, None, IfSome, Result, Ok, Err}
 use Rattle.gr_text.specs.Path.{IsPath}
+use Rattle.gr_text.specs.declared.place.Place.{Place}
 use Rattle.gr_text.specs.declared.refusal.Refusal.{Refusal}
 use Rattle.gr_text.specs.declared.refusal.Refusal.TheVariants.{Memory, BadPath, TooLarge, Moved}
 use Rattle.gr_move.specs.Plan.{PlansMove}
@@ -12,18 +13,22 @@ use Rattle.gr_book.specs.declared.event.Event.{Event}
 use Rattle.gr_book.specs.declared.event.Event.TheVariants.{Look, Log, Commit, Undo, Redo}
 use Rattle.gr_book.specs.declared.event.Reply.{Reply}
 use Rattle.gr_book.specs.declared.event.Reply.TheVariants.{Looked, Logged, Done, Taken, Refused, Back}
-use Rattle.gr_desk.specs.Queries.{Cats, WritesUses, TellsFaults, TellsObject, listing}
-use Rattle.gr_desk.specs.Logging.{entry_text}
+use Rattle.gr_bound.specs.Uses.{TellsUses}
+use Rattle.gr_verdict.specs.FaultLists.{ListsFaults}
+use Rattle.gr_verdict.specs.declared.fault.FileFault.{FileFault}
+use Rattle.gr_desk.specs.Queries.{Cats, TellsObject}
 use Rattle.gr_desk.specs.Wait.{WaitLaw, Waits}
 use Rattle.gr_desk.specs.Work.{Works}
-use Rattle.gr_line.specs.Commands.{basis_of, entry_asked, is_wait}
+use Rattle.gr_line.specs.Commands.{basis_of}
 use Rattle.gr_line.specs.declared.command.Command.{Command}
 use Rattle.gr_line.specs.declared.command.Command.TheVariants as command
-use Rattle.gr_line.specs.declared.command.Response.{Response}
-use Rattle.gr_line.specs.declared.command.Response.TheVariants as response
+use Rattle.gr_line.specs.declared.command.StateCommand.{StateCommand}
+use Rattle.gr_line.specs.declared.command.StateCommand.TheVariants as state
+use Rattle.gr_desk.specs.declared.response.Response.{Response}
+use Rattle.gr_desk.specs.declared.response.Response.TheVariants as response
 
 -- the command is meant for the state that the view shows
-abbrev pub FitsView : View → Command → Type 0
+abbrev pub FitsView : View → StateCommand → Type 0
 FitsView view asked = IfSome (basis_of asked) (λ basis. basis ≡ view.snapshot.number)
 
 -- a put whose body was not kept, and so is over the limit of a file if its path is one
@@ -38,14 +43,14 @@ abbrev pub PlansBody : View → List ℕ → Option (List ℕ) → Result Change
 PlansBody view path None planned = PlansDropped path planned
 PlansBody view path (Some text) planned = PlansPut view.snapshot path text planned
 
--- the lines, or want of memory for them
-abbrev pub TellsLines : ℕ → List ℕ → Response → Type 0
-TellsLines number lines answer = (answer ≡ response.Lines number lines) ⊎ (answer ≡ response.Refused Memory)
+-- the files of the view, or want of memory to share them
+abbrev pub TellsFiles : View → Response → Type 0
+TellsFiles view answer = (answer ≡ response.Listing view.snapshot.number view.snapshot.files) ⊎ (answer ≡ response.Refused Memory)
 
 -- the answer that tells a reply without a Job
 abbrev pub TellsReply : Reply → Response → Type 0
 TellsReply (Looked view) answer = answer ≡ response.Steps view.snapshot.number view.undo view.redo
-TellsReply (Logged current line) answer = TellsLines current (entry_text line) answer
+TellsReply (Logged current line) answer = answer ≡ response.Entry current line
 TellsReply (Done number) answer = answer ≡ response.Done number
 TellsReply (Taken job) answer = ⊥
 TellsReply (Refused refusal) answer = answer ≡ response.Refused refusal
@@ -55,14 +60,14 @@ abbrev pub file_response : ℕ → Result (List ℕ) Refusal → Response
 file_response number (Ok text) = response.File number text
 file_response number (Err refusal) = response.Refused refusal
 
-abbrev pub lines_response : ℕ → Result (List ℕ) Refusal → Response
-lines_response number (Ok lines) = response.Lines number lines
-lines_response number (Err refusal) = response.Refused refusal
+abbrev pub places_response : ℕ → Result (List Place) Refusal → Response
+places_response number (Ok places) = response.Places number places
+places_response number (Err refusal) = response.Refused refusal
 
--- the lines of the faults of the view's files, or want of memory for them
+-- the faults of the view's files, or want of memory for them
 abbrev pub AnswersFaults : View → Response → Type 0
 AnswersFaults view answer =
-    ((lines : List ℕ) × TellsFaults view.snapshot.files lines × (answer ≡ response.Lines view.snapshot.number lines))
+    ((list : List FileFault) × ListsFaults view.snapshot.files list × (answer ≡ response.Faults view.snapshot.number list))
     ⊎ (answer ≡ response.Refused Memory)
 
 module _ {D : Type 0} (steps : D → Event → Reply → D → Type 0) where
@@ -76,48 +81,46 @@ module _ {D : Type 0} (steps : D → Event → Reply → D → Type 0) where
   Commits old basis (Err refusal) answer new = (answer ≡ response.Refused refusal) × (new ≡ old)
 
   -- a command that is meant for the state of the view
-  abbrev pub ActsOn : D → View → Command → Response → D → Type 0
-  ActsOn old view command.Look answer new = TellsReply (Looked view) answer × (new ≡ old)
-  ActsOn old view (command.Put basis path body) answer new =
+  abbrev pub ActsOn : D → View → StateCommand → Response → D → Type 0
+  ActsOn old view state.Look answer new = TellsReply (Looked view) answer × (new ≡ old)
+  ActsOn old view (state.Put basis path body) answer new =
       (planned : Result Change Refusal) × PlansBody view path body planned × Commits old basis planned answer new
-  ActsOn old view (command.Del basis path) answer new =
+  ActsOn old view (state.Del basis path) answer new =
       (planned : Result Change Refusal) × PlansDel view.snapshot path planned × Commits old basis planned answer new
-  ActsOn old view (command.Rename basis path offset name) answer new =
+  ActsOn old view (state.Rename basis path offset name) answer new =
       (planned : Result Change Refusal) × PlansRename view.snapshot path offset name planned × Commits old basis planned answer new
-  ActsOn old view (command.Move basis from to) answer new =
+  ActsOn old view (state.Move basis from to) answer new =
       (planned : Result Change Refusal) × PlansMove view.snapshot from to planned × Commits old basis planned answer new
-  ActsOn old view (command.Undo basis) answer new = Sends old (Undo basis) answer new
-  ActsOn old view (command.Redo basis) answer new = Sends old (Redo basis) answer new
-  ActsOn old view (command.Cat path) answer new =
+  ActsOn old view (state.Undo basis) answer new = Sends old (Undo basis) answer new
+  ActsOn old view (state.Redo basis) answer new = Sends old (Redo basis) answer new
+  ActsOn old view (state.Cat path) answer new =
       ((found : Result (List ℕ) Refusal) × Cats view path found × (answer ≡ file_response view.snapshot.number found)) × (new ≡ old)
-  ActsOn old view (command.Uses path offset) answer new =
-      ((found : Result (List ℕ) Refusal) × WritesUses view path offset found × (answer ≡ lines_response view.snapshot.number found)) × (new ≡ old)
-  ActsOn old view command.List answer new = TellsLines view.snapshot.number (listing view.snapshot.files) answer × (new ≡ old)
-  ActsOn old view command.Faults answer new = AnswersFaults view answer × (new ≡ old)
-  ActsOn old view (command.Object path) answer new =
+  ActsOn old view (state.Uses path offset) answer new =
+      ((found : Result (List Place) Refusal) × TellsUses view.snapshot.files path offset found × (answer ≡ places_response view.snapshot.number found))
+      × (new ≡ old)
+  ActsOn old view state.List answer new = TellsFiles view answer × (new ≡ old)
+  ActsOn old view state.Faults answer new = AnswersFaults view answer × (new ≡ old)
+  ActsOn old view (state.Object path) answer new =
       ((found : Result (List ℕ) Refusal) × TellsObject view path found × (answer ≡ file_response view.snapshot.number found)) × (new ≡ old)
-  ActsOn old view command.Work answer new = Works steps old answer new
-  -- a log and a wait are answered without a view
-  ActsOn old view (command.Log number) answer new = ⊥
-  ActsOn old view command.Wait answer new = ⊥
+  ActsOn old view state.Work answer new = Works steps old answer new
 
   -- the command after its look has shown this view: it is refused where it is meant for another state
-  abbrev pub ActsAfter : D → View → Command → Response → D → Type 0
+  abbrev pub ActsAfter : D → View → StateCommand → Response → D → Type 0
   ActsAfter old view asked answer new =
       (¬ (FitsView view asked) × (answer ≡ response.Refused (Moved view.snapshot.number)) × (new ≡ old))
       ⊎ (FitsView view asked × ActsOn old view asked answer new)
 
   -- the command after the reply to its look
-  abbrev pub Continues : D → Reply → Command → Response → D → Type 0
+  abbrev pub Continues : D → Reply → StateCommand → Response → D → Type 0
   Continues old (Looked view) asked answer new = ActsAfter old view asked answer new
   Continues old reply asked answer new = TellsReply reply answer × (new ≡ old)
 
   -- a command that begins with a look
-  abbrev pub Looks : D → Command → Response → D → Type 0
+  abbrev pub Looks : D → StateCommand → Response → D → Type 0
   Looks old asked answer new = (reply : Reply) × (mid : D) × steps old Look reply mid × Continues mid reply asked answer new
 
-  -- one command: a log is one event alone, a wait is what the desk says of it, and any other begins with a look
+  -- one command: one about the current state begins with a look, a wait is what the desk says of it, and a log is one event alone
   abbrev pub Acts : WaitLaw D → D → Command → Response → D → Type 0
-  Acts waits old asked answer new = MatchOption (entry_asked asked)
-      (MatchBool (is_wait asked) (Waits waits old answer new) (Looks old asked answer new))
-      (λ number. Sends old (Log number) answer new)
+  Acts waits old (command.OnState asked) answer new = Looks old asked answer new
+  Acts waits old command.Wait answer new = Waits waits old answer new
+  Acts waits old (command.Log number) answer new = Sends old (Log number) answer new

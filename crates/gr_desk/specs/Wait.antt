@@ -2,8 +2,8 @@
 use Rattle.std.specs.Prelude.{◌≡◌, ℕ, Result, Ok, Err}
 use Rattle.gr_text.specs.declared.refusal.Refusal.{Refusal}
 use Rattle.gr_text.specs.declared.refusal.Refusal.TheVariants.{BadCommand}
-use Rattle.gr_line.specs.declared.command.Response.{Response}
-use Rattle.gr_line.specs.declared.command.Response.TheVariants as response
+use Rattle.gr_desk.specs.declared.response.Response.{Response}
+use Rattle.gr_desk.specs.declared.response.Response.TheVariants as response
 
 -- what a wait may do: the desk before, the number of the state whose packages are all finished, or why it was refused, and the desk after
 abbrev pub WaitLaw : Type 0 → Type 1

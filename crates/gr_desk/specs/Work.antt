@@ -1,5 +1,5 @@
 -- What the command `work` does: a Job is taken, its package is built, and what was built is delivered.
-use Rattle.std.specs.Prelude.{◌≡◌, ◌⊎◌, ℕ, List, [], ◌∷◌, ◌++◌}
+use Rattle.std.specs.Prelude.{◌≡◌, ◌⊎◌, ℕ, List}
 use Rattle.gr_text.specs.declared.refusal.Refusal.TheVariants.{Memory}
 use Rattle.gr_compile.specs.Builds.{IsBuiltOf}
 use Rattle.gr_compile.specs.declared.built.Built.{Built}
@@ -8,12 +8,8 @@ use Rattle.gr_book.specs.declared.event.Event.{Event}
 use Rattle.gr_book.specs.declared.event.Event.TheVariants.{Take, Deliver, GiveBack}
 use Rattle.gr_book.specs.declared.event.Reply.{Reply}
 use Rattle.gr_book.specs.declared.event.Reply.TheVariants.{Done, Taken, Refused, Back}
-use Rattle.gr_line.specs.declared.command.Response.{Response}
-use Rattle.gr_line.specs.declared.command.Response.TheVariants as response
-
--- the path of a package, and a newline
-abbrev pub package_line : List ℕ → List ℕ
-package_line path = path ++ 10 ∷ []
+use Rattle.gr_desk.specs.declared.response.Response.{Response}
+use Rattle.gr_desk.specs.declared.response.Response.TheVariants as response
 
 module _ {D : Type 0} (steps : D → Event → Reply → D → Type 0) where
   -- a Job is given back; where it comes back, it is retired
@@ -22,7 +18,7 @@ module _ {D : Type 0} (steps : D → Event → Reply → D → Type 0) where
 
   -- what is answered after the reply to a delivery
   abbrev pub AfterDelivery : D → List ℕ → Reply → Response → D → Type 0
-  AfterDelivery old path (Done number) answer new = (answer ≡ response.Lines number (package_line path)) × (new ≡ old)
+  AfterDelivery old path (Done number) answer new = (answer ≡ response.Built number path) × (new ≡ old)
   AfterDelivery old path (Refused refusal) answer new = (answer ≡ response.Refused refusal) × (new ≡ old)
   AfterDelivery old path (Back refusal job unit) answer new = (answer ≡ response.Refused refusal) × GivesBack old job new
   AfterDelivery old path reply answer new = ⊥

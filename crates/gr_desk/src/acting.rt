@@ -1,15 +1,17 @@
-//! One command. Each but a log and a wait begins with a look, and what it does is planned on the view that the look gave.
-ghost use Rattle.std.specs.Prelude.{◌≡◌, ◌↔◌, ℕ, IfOk, IsTrue, List, MatchBool, None, Result, false};
+//! One command. One about the current state begins with a look, and what it does is planned on the view that the look gave.
+ghost use Rattle.std.specs.Prelude.{◌≡◌, ◌↔◌, ℕ, IfOk, IsTrue, List, Result};
+ghost use Rattle.gr_text.specs.declared.place.Place.{Place};
 ghost use Rattle.gr_text.specs.declared.refusal.Refusal.{Refusal as WhyRefused};
 ghost use Rattle.gr_move.specs.Plan.{PlansMove};
 ghost use Rattle.gr_rename.specs.Plan.{PlansRename};
 ghost use Rattle.gr_check.specs.Planned.{change_in};
+ghost use Rattle.gr_verdict.specs.FaultLists.{ListsFaults};
 ghost use Rattle.gr_verdict.specs.Found.{AreFindings, IsFound, KnowsVerdicts};
+ghost use Rattle.gr_bound.specs.Uses.{TellsUses};
 ghost use Rattle.gr_book.specs.Questions.{changing_event};
-ghost use Rattle.gr_book.specs.declared.event.Event.TheVariants.{Commit, Redo, Undo};
+ghost use Rattle.gr_book.specs.declared.event.Event.TheVariants.{Commit, Log, Redo, Undo};
 ghost use Rattle.gr_space.specs.Plan.{PlansDel};
 ghost use Rattle.gr_space.specs.declared.change.Change.{Change as PlannedChange};
-ghost use Rattle.gr_line.specs.Commands.{entry_asked, is_wait};
 ghost use Rattle.gr_desk.specs.Act.{
   Acts,
   ActsAfter,
@@ -20,30 +22,31 @@ ghost use Rattle.gr_desk.specs.Act.{
   Looks,
   PlansBody,
   Sends,
-  TellsLines,
+  TellsFiles,
   file_response,
-  lines_response,
+  places_response,
 };
 ghost use Rattle.gr_desk.specs.Wait.{Waits};
-ghost use Rattle.gr_desk.specs.Queries.{Cats, TellsFaults, TellsObject, WritesUses, listing};
+ghost use Rattle.gr_desk.specs.Queries.{Cats, TellsObject};
 
 use crate::desk::Desk;
-use crate::logging::log;
-use crate::queries::{cat, faults, found, list, object, uses};
+use crate::queries::{cat, found, object};
+use crate::response::{FaultList, Response};
 use crate::working::work;
-use gr_book::{Changing, Looking, View};
+use gr_book::{Changing, Logging, Looking, View};
 use gr_check::Planned;
 use gr_graph::Graph;
-use gr_line::{Bytes, Command, Response, Word};
+use gr_line::{Command, StateCommand, Word};
 use gr_move::plan_move;
 use gr_rename::plan_rename;
 use gr_space::{MadeChange, plan_del, plan_put};
 use gr_text::{FileText, Path, Refusal};
-use gr_verdict::{Findings, Found, Known};
+use gr_uses::{Places, uses};
+use gr_verdict::{Findings, Found, Known, faults};
 use std::alloc::{AllocError, Global};
 
 /// Whether the command is meant for the state that the view shows.
-fn fits_view(view: &View, command: &Command) -> bool
+fn fits_view(view: &View, command: &StateCommand) -> bool
     ensures { IsTrue result ↔ FitsView view.now command.now }
 {
     match command.basis() {
@@ -275,11 +278,11 @@ fn file_response(number: u64, found: Result<FileText, Refusal>) -> Response
     }
 }
 
-fn lines_response(number: u64, found: Result<Bytes, Refusal>) -> Response
-    ensures { result ≡ lines_response number found }
+fn places_response(number: u64, found: Result<Places, Refusal>) -> Response
+    ensures { result ≡ places_response number found }
 {
     match found {
-        Ok(text) => Response::Lines { number, text },
+        Ok(places) => Response::Places { number, places },
         Err(refusal) => Response::Refused { refusal },
     }
 }
@@ -298,19 +301,19 @@ fn tell_object(alloc: Global, view: &View, path: Word) -> Response
     file_response(view.snapshot.number(), found)
 }
 
-/// The lines of the uses of what holds a byte of a file.
+/// The uses of what holds a byte of a file.
 fn find_uses<D: Desk>(
     alloc: Global,
     desk: &mut D,
     view: &View,
     path: &str,
     offset: usize,
-) -> Result<Bytes, Refusal>
-    ensures uses { WritesUses view.now path.now offset result }
+) -> Result<Places, Refusal>
+    ensures uses { TellsUses view.now.snapshot.files path.now offset result }
     ensures same { desk.new ≡ desk.old }
 {
     let found = find(alloc, desk, view)?;
-    uses(alloc, view, &found, path, offset)
+    uses(alloc, view.snapshot.files(), &found, path, offset)
 }
 
 fn tell_uses<D: Desk>(
@@ -320,20 +323,21 @@ fn tell_uses<D: Desk>(
     path: Word,
     offset: usize,
 ) -> Response
-    ensures told { (found : Result (List ℕ) WhyRefused) × WritesUses view.now path offset found × (result ≡ lines_response view.now.snapshot.number found) }
+    ensures told { (found : Result (List Place) WhyRefused) × TellsUses view.now.snapshot.files path offset found × (result ≡ places_response view.now.snapshot.number found) }
     ensures same { desk.new ≡ desk.old }
 {
     let found = find_uses(alloc, desk, view, path.as_str(), offset);
-    lines_response(view.snapshot.number(), found)
+    places_response(view.snapshot.number(), found)
 }
 
-fn tell_list(alloc: Global, view: &View) -> Response
-    ensures { TellsLines view.now.snapshot.number (listing view.now.snapshot.files) result }
+/// All files of a view. They are shared.
+fn tell_list(view: &View) -> Response
+    ensures { TellsFiles view.now result }
 {
-    match list(alloc, view) {
-        Ok(text) => Response::Lines {
+    match view.snapshot.files().clone() {
+        Ok(files) => Response::Listing {
             number: view.snapshot.number(),
-            text,
+            files,
         },
         Err(_) => Response::Refused {
             refusal: Refusal::Memory,
@@ -341,13 +345,14 @@ fn tell_list(alloc: Global, view: &View) -> Response
     }
 }
 
-/// The lines of the faults of a view's files.
-fn find_faults<D: Desk>(alloc: Global, desk: &mut D, view: &View) -> Result<Bytes, AllocError>
-    ensures faults { IfOk result (λ lines. TellsFaults view.now.snapshot.files lines) }
+/// The faults of a view's files, in the order of packages, paths, offsets and kinds.
+fn find_faults<D: Desk>(alloc: Global, desk: &mut D, view: &View) -> Result<FaultList, AllocError>
+    ensures faults { IfOk result (ListsFaults view.now.snapshot.files) }
     ensures same { desk.new ≡ desk.old }
 {
     let found = find(alloc, desk, view)?;
-    faults(alloc, view, &found)
+    let faults = faults(alloc, &found)?;
+    Ok(FaultList::new(faults))
 }
 
 fn tell_faults<D: Desk>(alloc: Global, desk: &mut D, view: &View) -> Response
@@ -355,9 +360,9 @@ fn tell_faults<D: Desk>(alloc: Global, desk: &mut D, view: &View) -> Response
     ensures same { desk.new ≡ desk.old }
 {
     match find_faults(alloc, desk, view) {
-        Ok(text) => Response::Lines {
+        Ok(faults) => Response::Faults {
             number: view.snapshot.number(),
-            text,
+            faults,
         },
         Err(_) => Response::Refused {
             refusal: Refusal::Memory,
@@ -366,43 +371,37 @@ fn tell_faults<D: Desk>(alloc: Global, desk: &mut D, view: &View) -> Response
 }
 
 /// Acts on a command that is meant for the state of the view.
-fn act_on<D: Desk>(alloc: Global, desk: &mut D, view: &View, command: Command) -> Response
-    requires entry { entry_asked command ≡ None }
-    requires wait { is_wait command ≡ false }
+fn act_on<D: Desk>(alloc: Global, desk: &mut D, view: &View, command: StateCommand) -> Response
     ensures { ActsOn D.steps desk.old view.now command result desk.new }
 {
     match command {
-        Command::Look => Response::Steps {
+        StateCommand::Look => Response::Steps {
             number: view.snapshot.number(),
             undo: view.undo,
             redo: view.redo,
         },
-        Command::Put { basis, path, body } => put(alloc, desk, view, basis, path, body),
-        Command::Del { basis, path } => del(alloc, desk, view, basis, path),
-        Command::Rename {
+        StateCommand::Put { basis, path, body } => put(alloc, desk, view, basis, path, body),
+        StateCommand::Del { basis, path } => del(alloc, desk, view, basis, path),
+        StateCommand::Rename {
             basis,
             path,
             offset,
             name,
         } => rename(alloc, desk, view, basis, NamedByte { path, offset }, name),
-        Command::Move { basis, from, to } => move_to(alloc, desk, view, basis, from, to),
-        Command::Undo { basis } => undo(desk, basis),
-        Command::Redo { basis } => redo(desk, basis),
-        Command::Cat { path } => tell_file(alloc, view, path),
-        Command::Uses { path, offset } => tell_uses(alloc, desk, view, path, offset),
-        Command::Object { path } => tell_object(alloc, view, path),
-        Command::Work => work(alloc, desk),
-        Command::List => tell_list(alloc, view),
-        Command::Faults => tell_faults(alloc, desk, view),
-        Command::Log { number: _ } => unreachable!(),
-        Command::Wait => unreachable!(),
+        StateCommand::Move { basis, from, to } => move_to(alloc, desk, view, basis, from, to),
+        StateCommand::Undo { basis } => undo(desk, basis),
+        StateCommand::Redo { basis } => redo(desk, basis),
+        StateCommand::Cat { path } => tell_file(alloc, view, path),
+        StateCommand::Uses { path, offset } => tell_uses(alloc, desk, view, path, offset),
+        StateCommand::Object { path } => tell_object(alloc, view, path),
+        StateCommand::Work => work(alloc, desk),
+        StateCommand::List => tell_list(view),
+        StateCommand::Faults => tell_faults(alloc, desk, view),
     }
 }
 
 /// Acts on a command after its look has shown the view.
-fn act_after<D: Desk>(alloc: Global, desk: &mut D, view: &View, command: Command) -> Response
-    requires entry { entry_asked command ≡ None }
-    requires wait { is_wait command ≡ false }
+fn act_after<D: Desk>(alloc: Global, desk: &mut D, view: &View, command: StateCommand) -> Response
     ensures { ActsAfter D.steps desk.old view.now command result desk.new }
 {
     if fits_view(view, &command) {
@@ -417,10 +416,8 @@ fn act_after<D: Desk>(alloc: Global, desk: &mut D, view: &View, command: Command
     }
 }
 
-/// Acts on a command that begins with a look.
-fn act_looking<D: Desk>(alloc: Global, desk: &mut D, command: Command) -> Response
-    requires entry { entry_asked command ≡ None }
-    requires wait { is_wait command ≡ false }
+/// Acts on a command about the current state, which begins with a look.
+fn act_looking<D: Desk>(alloc: Global, desk: &mut D, command: StateCommand) -> Response
     ensures { Looks D.steps desk.old command result desk.new }
 {
     match desk.step(Looking) {
@@ -439,16 +436,16 @@ fn wait<D: Desk>(desk: &mut D) -> Response
     }
 }
 
-/// Acts on a command that is no log.
-fn act_or_wait<D: Desk>(alloc: Global, desk: &mut D, command: Command) -> Response
-    requires { entry_asked command ≡ None }
-    ensures { MatchBool (is_wait command) (Waits D.waits desk.old result desk.new) (Looks D.steps desk.old command result desk.new) }
+/// Shows an entry of the journal. No look comes before it.
+fn log<D: Desk>(desk: &mut D, number: u64) -> Response
+    ensures { Sends D.steps desk.old (Log number) result desk.new }
 {
-    if command.is_wait() {
-        drop(command);
-        wait(desk)
-    } else {
-        act_looking(alloc, desk, command)
+    match desk.step(Logging(number)) {
+        Ok((current, line)) => Response::Entry {
+            number: current,
+            line,
+        },
+        Err(refusal) => Response::Refused { refusal },
     }
 }
 
@@ -456,11 +453,9 @@ fn act_or_wait<D: Desk>(alloc: Global, desk: &mut D, command: Command) -> Respon
 pub fn act<D: Desk>(alloc: Global, desk: &mut D, command: Command) -> Response
     ensures { Acts D.steps D.waits desk.old command result desk.new }
 {
-    match command.entry() {
-        Some(number) => {
-            drop(command);
-            log(alloc, desk, number)
-        }
-        None => act_or_wait(alloc, desk, command),
+    match command {
+        Command::OnState(command) => act_looking(alloc, desk, command),
+        Command::Wait => wait(desk),
+        Command::Log { number } => log(desk, number),
     }
 }

@@ -3,10 +3,11 @@
 
 mod acting;
 mod desk;
-mod logging;
 mod queries;
+mod response;
 mod working;
 
 pub use acting::act;
 pub use desk::{Desk, Solo};
-pub use queries::{cat, faults, list, object, uses};
+pub use queries::{cat, object};
+pub use response::{FaultList, Response};

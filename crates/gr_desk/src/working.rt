@@ -1,12 +1,13 @@
 //! The command `work`: one package is built in this session.
 ghost use Rattle.std.specs.Prelude.{◌≡◌, IfOk};
 ghost use Rattle.gr_compile.specs.Builds.{IsBuiltOf};
-ghost use Rattle.gr_desk.specs.Work.{Builds, Delivers, GivesBack, Works, package_line};
+ghost use Rattle.gr_desk.specs.Work.{Builds, Delivers, GivesBack, Works};
 
 use crate::desk::Desk;
+use crate::response::Response;
 use gr_book::{Handed, HandingIn, Taking};
 use gr_compile::{Built, Job, build};
-use gr_line::{Bytes, Response};
+use gr_expr::symbol::SharedPath;
 use gr_text::Refusal;
 use std::alloc::{AllocError, Global};
 
@@ -25,31 +26,25 @@ fn give_back<D: Desk>(desk: &mut D, job: Job)
     }
 }
 
-/// The line that tells a Job's package.
-fn line_of(alloc: Global, job: &Job) -> Result<Bytes, AllocError>
-    ensures { IfOk result (λ line. line ≡ package_line job.now.package) }
+/// What a Job is built into, and its package, which is shared before anything is delivered.
+fn made_of(alloc: Global, job: &Job) -> Result<(Built, SharedPath), AllocError>
+    ensures { IfOk result (λ made. IsBuiltOf job.now made.0 × (made.1 ≡ job.now.package)) }
 {
-    let mut line = Vec::from_slice(alloc, job.package().path())?;
-    line.push(b'\n')?;
-    Ok(Bytes::new(line))
-}
-
-/// What a Job is built into, and the line that tells its package, which is made before anything is delivered.
-fn made_of(alloc: Global, job: &Job) -> Result<(Built, Bytes), AllocError>
-    ensures { IfOk result (λ made. IsBuiltOf job.now made.0 × (made.1 ≡ package_line job.now.package)) }
-{
-    let line = line_of(alloc, job)?;
+    let path = job.package().clone()?;
     let built = build(alloc, job)?;
-    Ok((built, line))
+    Ok((built, path))
 }
 
 /// Delivers what was built. A Job that comes back is given back.
-fn deliver<D: Desk>(desk: &mut D, job: Job, built: Built, line: Bytes) -> Response
-    requires { line ≡ package_line job.package }
+fn deliver<D: Desk>(desk: &mut D, job: Job, built: Built, path: SharedPath) -> Response
+    requires { path ≡ job.package }
     ensures { Delivers D.steps desk.old job built result desk.new }
 {
     match desk.step(HandingIn::Deliver(job, built)) {
-        Handed::Done(number) => Response::Lines { number, text: line },
+        Handed::Done(number) => Response::Built {
+            number,
+            package: path,
+        },
         Handed::Refused(refusal) => Response::Refused { refusal },
         Handed::Back(refusal, job, built) => {
             drop(built);
@@ -64,7 +59,7 @@ fn build_in<D: Desk>(alloc: Global, desk: &mut D, job: Job) -> Response
     ensures { Builds D.steps desk.old job result desk.new }
 {
     match made_of(alloc, &job) {
-        Ok((built, line)) => deliver(desk, job, built, line),
+        Ok((built, path)) => deliver(desk, job, built, path),
         Err(_) => {
             give_back(desk, job);
             Response::Refused {

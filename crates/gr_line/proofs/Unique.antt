@@ -4,6 +4,7 @@ use Rattle.std.proofs.lemmas.Fmt.{decimal_injective}
 use Rattle.gr_text.specs.declared.limits.Limits.{Limits}
 use Rattle.gr_line.specs.declared.command.Command.{Command}
 use Rattle.gr_line.specs.declared.command.Command.TheVariants as command
+use Rattle.gr_line.specs.declared.command.StateCommand.TheVariants as state
 use Rattle.gr_line.specs.declared.message.Message.{Message}
 use Rattle.gr_line.specs.declared.message.Message.TheVariants.{Ask, Unknown, CutShort}
 use Rattle.gr_line.specs.declared.parse.CommandLine.{CommandLine}
@@ -88,7 +89,7 @@ KeepsBody-unique limits path bytes (Some a) (Some b) h k = ap Some (h.1 ∙ sym 
 SaysCommand-unique : (limits : Limits) (said : CommandLine) (bytes : List ℕ) (a b : Command) → SaysCommand limits said bytes a →
     SaysCommand limits said bytes b → a ≡ b
 SaysCommand-unique limits (Put basis path size) bytes a b h k =
-    h.2 ∙ ap (λ x. command.Put basis path x) (KeepsBody-unique limits path bytes h.0 k.0 h.1 k.1) ∙ sym k.2
+    h.2 ∙ ap (λ x. command.OnState (state.Put basis path x)) (KeepsBody-unique limits path bytes h.0 k.0 h.1 k.1) ∙ sym k.2
 SaysCommand-unique limits Look bytes a b h k = h ∙ sym k
 SaysCommand-unique limits (Del basis path) bytes a b h k = h ∙ sym k
 SaysCommand-unique limits (Rename basis path offset name) bytes a b h k = h ∙ sym k

@@ -6,7 +6,6 @@ pub mod Limit
 pub mod Words
 pub mod Lines
 pub mod Wire
-pub mod Replies
 pub mod Incoming
 pub mod Laws
 pub mod Parsing

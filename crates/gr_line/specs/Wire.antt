@@ -6,6 +6,7 @@ use Rattle.gr_text.specs.Path.{IsPath}
 use Rattle.gr_text.specs.declared.limits.Limits.{Limits}
 use Rattle.gr_line.specs.declared.command.Command.{Command}
 use Rattle.gr_line.specs.declared.command.Command.TheVariants as command
+use Rattle.gr_line.specs.declared.command.StateCommand.TheVariants as state
 use Rattle.gr_line.specs.declared.message.Message.{Message}
 use Rattle.gr_line.specs.declared.message.Message.TheVariants.{Ask, Unknown, CutShort}
 use Rattle.gr_line.specs.declared.parse.CommandLine.{CommandLine}
@@ -28,20 +29,20 @@ KeepsBody limits path bytes None = ¬ (IsKept limits path (length bytes))
 
 -- the line, and these bytes that it announces, say this command
 abbrev pub SaysCommand : Limits → CommandLine → List ℕ → Command → Type 0
-SaysCommand limits line.Look bytes asked = asked ≡ command.Look
+SaysCommand limits line.Look bytes asked = asked ≡ command.OnState state.Look
 SaysCommand limits (line.Put basis path size) bytes asked =
-    (body : Option (List ℕ)) × KeepsBody limits path bytes body × (asked ≡ command.Put basis path body)
-SaysCommand limits (line.Del basis path) bytes asked = asked ≡ command.Del basis path
-SaysCommand limits (line.Rename basis path offset name) bytes asked = asked ≡ command.Rename basis path offset name
-SaysCommand limits (line.Move basis from to) bytes asked = asked ≡ command.Move basis from to
-SaysCommand limits (line.Undo basis) bytes asked = asked ≡ command.Undo basis
-SaysCommand limits (line.Redo basis) bytes asked = asked ≡ command.Redo basis
-SaysCommand limits (line.Cat path) bytes asked = asked ≡ command.Cat path
-SaysCommand limits (line.Uses path offset) bytes asked = asked ≡ command.Uses path offset
-SaysCommand limits line.List bytes asked = asked ≡ command.List
-SaysCommand limits line.Faults bytes asked = asked ≡ command.Faults
-SaysCommand limits (line.Object path) bytes asked = asked ≡ command.Object path
-SaysCommand limits line.Work bytes asked = asked ≡ command.Work
+    (body : Option (List ℕ)) × KeepsBody limits path bytes body × (asked ≡ command.OnState (state.Put basis path body))
+SaysCommand limits (line.Del basis path) bytes asked = asked ≡ command.OnState (state.Del basis path)
+SaysCommand limits (line.Rename basis path offset name) bytes asked = asked ≡ command.OnState (state.Rename basis path offset name)
+SaysCommand limits (line.Move basis from to) bytes asked = asked ≡ command.OnState (state.Move basis from to)
+SaysCommand limits (line.Undo basis) bytes asked = asked ≡ command.OnState (state.Undo basis)
+SaysCommand limits (line.Redo basis) bytes asked = asked ≡ command.OnState (state.Redo basis)
+SaysCommand limits (line.Cat path) bytes asked = asked ≡ command.OnState (state.Cat path)
+SaysCommand limits (line.Uses path offset) bytes asked = asked ≡ command.OnState (state.Uses path offset)
+SaysCommand limits line.List bytes asked = asked ≡ command.OnState state.List
+SaysCommand limits line.Faults bytes asked = asked ≡ command.OnState state.Faults
+SaysCommand limits (line.Object path) bytes asked = asked ≡ command.OnState (state.Object path)
+SaysCommand limits line.Work bytes asked = asked ≡ command.OnState state.Work
 SaysCommand limits line.Wait bytes asked = asked ≡ command.Wait
 SaysCommand limits (line.Log number) bytes asked = asked ≡ command.Log number
 SaysCommand limits line.End bytes asked = ⊥

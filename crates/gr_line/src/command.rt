@@ -1,14 +1,13 @@
-//! What a session asks, and what it is answered. A later command is a variant here and a case of
+//! What a session asks. A later command is a variant here, and one about the current state also a case of
 //! `basis_of` in specs/Commands.antt.
 ghost use Rattle.std.specs.Prelude.{◌≡◌};
 
-use crate::bytes::Bytes;
 use crate::word::Word;
-use gr_text::{FileText, Refusal};
+use gr_text::FileText;
 
-/// A command. Its basis is the number of the state that it is meant for.
+/// A command about the current state, which is looked at first. Its basis is the number of the state that it is meant for.
 #[derive(Drop)]
-pub enum Command {
+pub enum StateCommand {
     Look,
     /// The body is None where it was not kept: the word is no path of a file, or it is over the limit of a file.
     Put {
@@ -55,80 +54,39 @@ pub enum Command {
     },
     /// Builds one package in this session.
     Work,
-    /// Waits until every package of the current state is finished.
-    Wait,
-    /// An entry of the journal, by its number.
-    Log {
-        number: u64,
-    },
 }
 
-impl Command {
-    ghost use Rattle.gr_line.specs.Commands.{basis_of, entry_asked, is_wait};
+impl StateCommand {
+    ghost use Rattle.gr_line.specs.Commands.{basis_of};
 
     /// The basis, where the command gives one.
     pub fn basis(&self) -> Option<u64>
         ensures { result ≡ basis_of self.now }
     {
         match self {
-            Command::Put { basis, .. }
-            | Command::Del { basis, .. }
-            | Command::Rename { basis, .. }
-            | Command::Move { basis, .. }
-            | Command::Undo { basis }
-            | Command::Redo { basis } => Some(*basis),
-            Command::Look
-            | Command::Cat { .. }
-            | Command::Uses { .. }
-            | Command::List
-            | Command::Faults
-            | Command::Object { .. }
-            | Command::Work
-            | Command::Wait
-            | Command::Log { .. } => None,
+            StateCommand::Put { basis, .. }
+            | StateCommand::Del { basis, .. }
+            | StateCommand::Rename { basis, .. }
+            | StateCommand::Move { basis, .. }
+            | StateCommand::Undo { basis }
+            | StateCommand::Redo { basis } => Some(*basis),
+            StateCommand::Look
+            | StateCommand::Cat { .. }
+            | StateCommand::Uses { .. }
+            | StateCommand::List
+            | StateCommand::Faults
+            | StateCommand::Object { .. }
+            | StateCommand::Work => None,
         }
-    }
-
-    /// The number of the entry that a log asks for.
-    pub fn entry(&self) -> Option<u64>
-        ensures { result ≡ entry_asked self.now }
-    {
-        match self {
-            Command::Log { number } => Some(*number),
-            _ => None,
-        }
-    }
-
-    pub fn is_wait(&self) -> bool
-        ensures { result ≡ is_wait self.now }
-    {
-        matches!(self, Command::Wait)
     }
 }
 
-/// The answer to a command. The number is that of the current state after it.
+/// A command.
 #[derive(Drop)]
-pub enum Response {
-    Done {
-        number: u64,
-    },
-    /// How many steps undo and redo can make.
-    Steps {
-        number: u64,
-        undo: usize,
-        redo: usize,
-    },
-    /// The text of one file, or an object.
-    File {
-        number: u64,
-        text: FileText,
-    },
-    /// Lines that were made for this answer.
-    Lines {
-        number: u64,
-        text: Bytes,
-    },
-    Refused {
-        refusal: Refusal,
-    },
+pub enum Command {
+    OnState(StateCommand),
+    /// Waits until every package of the current state is finished.
+    Wait,
+    /// An entry of the journal, by its number.
+    Log { number: u64 },
 }

@@ -10,6 +10,7 @@ use Rattle.std.specs.Io.KnownBytes.{Keeps}
 use Rattle.gr_text.specs.declared.limits.Limits.{Limits}
 use Rattle.gr_line.specs.declared.command.Command.{Command}
 use Rattle.gr_line.specs.declared.command.Command.TheVariants as command
+use Rattle.gr_line.specs.declared.command.StateCommand.TheVariants as state
 use Rattle.gr_line.specs.declared.input.InputFault.{InputFault}
 use Rattle.gr_line.specs.declared.input.ReadLine.TheVariants.{Whole}
 use Rattle.gr_line.specs.declared.message.Message.{Message}
@@ -200,7 +201,7 @@ next_line limits (Some input) mid after text End r h t k =
     let is_after = kept_is (after_line input) after (rw h.3 at k.1) in
     rw k.0 (after_line input, inr (readable_line limits text input h.1 h.2 t.0, sym h.2 ∙ t.1.spelled, refl), is_after)
 next_line limits (Some input) mid after text Look r h t k =
-    next_bare limits input command.Look after r (
+    next_bare limits input (command.OnState state.Look) after r (
       h.0,
       (
         Look,
@@ -213,7 +214,7 @@ next_line limits (Some input) mid after text Look r h t k =
     ) k.0
     (kept_is (after_line input) after (rw h.3 at k.1))
 next_line limits (Some input) mid after text line.List r h t k =
-    next_bare limits input command.List after r (
+    next_bare limits input (command.OnState state.List) after r (
       h.0,
       (
         line.List,
@@ -226,13 +227,13 @@ next_line limits (Some input) mid after text line.List r h t k =
     ) k.0
     (kept_is (after_line input) after (rw h.3 at k.1))
 next_line limits (Some input) mid after text line.Faults r h t k =
-    next_bare limits input command.Faults after r (
+    next_bare limits input (command.OnState state.Faults) after r (
       h.0,
       (line.Faults, readable_line limits text input h.1 h.2 t.0, rw (← h.2) t.1, zero_below (length (after_line input)), refl, refl),
     ) k.0
     (kept_is (after_line input) after (rw h.3 at k.1))
 next_line limits (Some input) mid after text line.Work r h t k =
-    next_bare limits input command.Work after r (
+    next_bare limits input (command.OnState state.Work) after r (
       h.0,
       (
         line.Work,
@@ -258,15 +259,15 @@ next_line limits (Some input) mid after text line.Wait r h t k =
     ) k.0
     (kept_is (after_line input) after (rw h.3 at k.1))
 next_line limits (Some input) mid after text (line.Object path) r h t k =
-    next_bare limits input (command.Object path) after r
+    next_bare limits input (command.OnState (state.Object path)) after r
     (h.0, (line.Object path, readable_line limits text input h.1 h.2 t.0, rw (← h.2) t.1, zero_below (length (after_line input)), refl, refl)) k.0
     (kept_is (after_line input) after (rw h.3 at k.1))
 next_line limits (Some input) mid after text (Rename basis path offset name) r h t k =
-    next_bare limits input (command.Rename basis path offset name) after r
+    next_bare limits input (command.OnState (state.Rename basis path offset name)) after r
     (h.0, (Rename basis path offset name, readable_line limits text input h.1 h.2 t.0, rw (← h.2) t.1, zero_below (length (after_line input)), refl, refl)) k.0
     (kept_is (after_line input) after (rw h.3 at k.1))
 next_line limits (Some input) mid after text (Move basis from to) r h t k =
-    next_bare limits input (command.Move basis from to) after r
+    next_bare limits input (command.OnState (state.Move basis from to)) after r
     (h.0, (Move basis from to, readable_line limits text input h.1 h.2 t.0, rw (← h.2) t.1, zero_below (length (after_line input)), refl, refl)) k.0
     (kept_is (after_line input) after (rw h.3 at k.1))
 next_line limits (Some input) mid after text (line.Log number) r h t k =
@@ -274,24 +275,24 @@ next_line limits (Some input) mid after text (line.Log number) r h t k =
     (h.0, (line.Log number, readable_line limits text input h.1 h.2 t.0, rw (← h.2) t.1, zero_below (length (after_line input)), refl, refl)) k.0
     (kept_is (after_line input) after (rw h.3 at k.1))
 next_line limits (Some input) mid after text (Undo basis) r h t k =
-    next_bare limits input (command.Undo basis) after r
+    next_bare limits input (command.OnState (state.Undo basis)) after r
     (h.0, (Undo basis, readable_line limits text input h.1 h.2 t.0, rw (← h.2) t.1, zero_below (length (after_line input)), refl, refl)) k.0
     (kept_is (after_line input) after (rw h.3 at k.1))
 next_line limits (Some input) mid after text (Redo basis) r h t k =
-    next_bare limits input (command.Redo basis) after r
+    next_bare limits input (command.OnState (state.Redo basis)) after r
     (h.0, (Redo basis, readable_line limits text input h.1 h.2 t.0, rw (← h.2) t.1, zero_below (length (after_line input)), refl, refl)) k.0
     (kept_is (after_line input) after (rw h.3 at k.1))
 next_line limits (Some input) mid after text (Del basis path) r h t k =
-    next_bare limits input (command.Del basis path) after r
+    next_bare limits input (command.OnState (state.Del basis path)) after r
     (h.0, (Del basis path, readable_line limits text input h.1 h.2 t.0, rw (← h.2) t.1, zero_below (length (after_line input)), refl, refl)) k.0
     (kept_is (after_line input) after (rw h.3 at k.1))
 next_line limits (Some input) mid after text (Cat path) r h t k =
-    next_bare limits input (command.Cat path) after r (
+    next_bare limits input (command.OnState (state.Cat path)) after r (
       h.0,
       (Cat path, readable_line limits text input h.1 h.2 t.0, rw (← h.2) t.1, zero_below (length (after_line input)), refl, refl),
     ) k.0
     (kept_is (after_line input) after (rw h.3 at k.1))
 next_line limits (Some input) mid after text (Uses path offset) r h t k =
-    next_bare limits input (command.Uses path offset) after r
+    next_bare limits input (command.OnState (state.Uses path offset)) after r
     (h.0, (Uses path offset, readable_line limits text input h.1 h.2 t.0, rw (← h.2) t.1, zero_below (length (after_line input)), refl, refl)) k.0
     (kept_is (after_line input) after (rw h.3 at k.1))

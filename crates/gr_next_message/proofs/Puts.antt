@@ -8,6 +8,7 @@ use Rattle.std.specs.List.{list_all}
 use Rattle.gr_text.specs.Path.{IsPath, is_segment, segments}
 use Rattle.gr_text.specs.declared.limits.Limits.{Limits}
 use Rattle.gr_line.specs.declared.command.Command.TheVariants as command
+use Rattle.gr_line.specs.declared.command.StateCommand.TheVariants as state
 use Rattle.gr_line.specs.declared.body.Body.{Body}
 use Rattle.gr_line.specs.declared.body.Body.TheVariants as body
 use Rattle.gr_line.specs.declared.message.Message.TheVariants.{CutShort}
@@ -77,12 +78,12 @@ front size input bytes rest n e = rw e (record {
 -- bytes that were taken, but not kept for want of memory
 taken_away : (limits : Limits) (basis : ℕ) (path : List ℕ) (size : ℕ) (before after : Option (List ℕ)) → Takes before after size
     → ReadsPut limits basis path size before after (Ok next.NoRoom)
-taken_away limits basis path size None after h = (command.Look, tt)
+taken_away limits basis path size None after h = (command.OnState state.Look, tt)
 taken_away limits basis path size (Some input) None h = absurd h.2
 taken_away limits basis path size (Some input) (Some rest) h =
     let f = front size input h.0 rest h.1 h.2 in
     let b = some_body limits path (take size input) in
-    (command.Put basis path b.0, (f.within, (b.0, b.1, refl), ap Some (sym f.left)))
+    (command.OnState (state.Put basis path b.0), (f.within, (b.0, b.1, refl), ap Some (sym f.left)))
 
 cut_short : (limits : Limits) (basis : ℕ) (path : List ℕ) (size : ℕ) (before after : Option (List ℕ)) → FallsShort before after size
     → ReadsPut limits basis path size before after (Ok (next.Message CutShort))

@@ -5,6 +5,7 @@ use Rattle.std.specs.Io.KnownBytes.{Keeps}
 use Rattle.gr_text.specs.declared.limits.Limits.{Limits}
 use Rattle.gr_line.specs.declared.command.Command.{Command}
 use Rattle.gr_line.specs.declared.command.Command.TheVariants as command
+use Rattle.gr_line.specs.declared.command.StateCommand.TheVariants as state
 use Rattle.gr_line.specs.declared.input.InputFault.{InputFault}
 use Rattle.gr_line.specs.declared.body.Body.{Body}
 use Rattle.gr_line.specs.declared.body.Body.TheVariants as body
@@ -21,8 +22,8 @@ TellsKept limits path size kept = IsTrue kept ↔ IsKept limits path size
 
 -- the message of a line `put` whose body became this
 abbrev pub put_next : ℕ → List ℕ → Body → Next
-put_next basis path (body.Kept text) = next.Message (Ask (command.Put basis path (Some text)))
-put_next basis path body.Dropped = next.Message (Ask (command.Put basis path None))
+put_next basis path (body.Kept text) = next.Message (Ask (command.OnState (state.Put basis path (Some text))))
+put_next basis path body.Dropped = next.Message (Ask (command.OnState (state.Put basis path None)))
 put_next basis path body.NoRoom = next.NoRoom
 put_next basis path body.Short = next.Message CutShort
 
@@ -51,17 +52,17 @@ AsksOf asked (Err fault) = ⊥
 abbrev pub ReadsAfter : Limits → CommandLine → (before after : Option (List ℕ)) → Result Next InputFault → Type 0
 ReadsAfter limits (line.Put basis path size) before after r = ReadsPut limits basis path size before after r
 ReadsAfter limits line.End before after r = (r ≡ Ok next.End) × Keeps before after
-ReadsAfter limits line.Look before after r = AsksOf command.Look r × Keeps before after
-ReadsAfter limits (line.Del basis path) before after r = AsksOf (command.Del basis path) r × Keeps before after
-ReadsAfter limits (line.Rename basis path offset name) before after r = AsksOf (command.Rename basis path offset name) r × Keeps before after
-ReadsAfter limits (line.Move basis from to) before after r = AsksOf (command.Move basis from to) r × Keeps before after
-ReadsAfter limits (line.Undo basis) before after r = AsksOf (command.Undo basis) r × Keeps before after
-ReadsAfter limits (line.Redo basis) before after r = AsksOf (command.Redo basis) r × Keeps before after
-ReadsAfter limits (line.Cat path) before after r = AsksOf (command.Cat path) r × Keeps before after
-ReadsAfter limits (line.Uses path offset) before after r = AsksOf (command.Uses path offset) r × Keeps before after
-ReadsAfter limits line.List before after r = AsksOf command.List r × Keeps before after
-ReadsAfter limits line.Faults before after r = AsksOf command.Faults r × Keeps before after
-ReadsAfter limits (line.Object path) before after r = AsksOf (command.Object path) r × Keeps before after
-ReadsAfter limits line.Work before after r = AsksOf command.Work r × Keeps before after
+ReadsAfter limits line.Look before after r = AsksOf (command.OnState state.Look) r × Keeps before after
+ReadsAfter limits (line.Del basis path) before after r = AsksOf (command.OnState (state.Del basis path)) r × Keeps before after
+ReadsAfter limits (line.Rename basis path offset name) before after r = AsksOf (command.OnState (state.Rename basis path offset name)) r × Keeps before after
+ReadsAfter limits (line.Move basis from to) before after r = AsksOf (command.OnState (state.Move basis from to)) r × Keeps before after
+ReadsAfter limits (line.Undo basis) before after r = AsksOf (command.OnState (state.Undo basis)) r × Keeps before after
+ReadsAfter limits (line.Redo basis) before after r = AsksOf (command.OnState (state.Redo basis)) r × Keeps before after
+ReadsAfter limits (line.Cat path) before after r = AsksOf (command.OnState (state.Cat path)) r × Keeps before after
+ReadsAfter limits (line.Uses path offset) before after r = AsksOf (command.OnState (state.Uses path offset)) r × Keeps before after
+ReadsAfter limits line.List before after r = AsksOf (command.OnState state.List) r × Keeps before after
+ReadsAfter limits line.Faults before after r = AsksOf (command.OnState state.Faults) r × Keeps before after
+ReadsAfter limits (line.Object path) before after r = AsksOf (command.OnState (state.Object path)) r × Keeps before after
+ReadsAfter limits line.Work before after r = AsksOf (command.OnState state.Work) r × Keeps before after
 ReadsAfter limits line.Wait before after r = AsksOf command.Wait r × Keeps before after
 ReadsAfter limits (line.Log number) before after r = AsksOf (command.Log number) r × Keeps before after

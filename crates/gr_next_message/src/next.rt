@@ -7,8 +7,8 @@ ghost use Rattle.gr_next_message.specs.Puts.{ReadsPut, ReadsAfter, put_next, Tel
 ghost use Rattle.gr_line.specs.Parsing.{ReadsLineText};
 
 use gr_line::{
-    Body, ByteSource, Command, CommandLine, InputFault, Message, ReadLine, Sink, Word,
-    parse_command_line, read_body, read_line, skip,
+    Body, ByteSource, Command, CommandLine, InputFault, Message, ReadLine, Sink, StateCommand,
+    Word, parse_command_line, read_body, read_line, skip,
 };
 use gr_text::{Limits, Path, Refusal};
 use std::alloc::{AllocError, Global};
@@ -64,7 +64,7 @@ fn put_message(basis: u64, path: Word, body: Body) -> Next
         Body::NoRoom => return Next::NoRoom,
         Body::Short => return Next::Message(Message::CutShort),
     };
-    Next::Message(Message::Ask(Command::Put { basis, path, body }))
+    ask(StateCommand::Put { basis, path, body })
 }
 
 /// The word of a put, and whether its body is kept.
@@ -119,10 +119,11 @@ fn read_put<S: ByteSource>(
     }
 }
 
-fn ask(command: Command) -> Next
-    ensures { result ≡ Next.Message (Message.Ask command) }
+/// A command about the current state, as a message.
+fn ask(command: StateCommand) -> Next
+    ensures { result ≡ Next.Message (Message.Ask (Command.OnState command)) }
 {
-    Next::Message(Message::Ask(command))
+    Next::Message(Message::Ask(Command::OnState(command)))
 }
 
 /// The words of two arguments.
@@ -155,16 +156,16 @@ fn command_after<S: ByteSource>(
             read_put(alloc, source, reads_left, line, limits)
         }
         CommandLine::End => Ok(Next::End),
-        CommandLine::Look => Ok(ask(Command::Look)),
-        CommandLine::List => Ok(ask(Command::List)),
-        CommandLine::Faults => Ok(ask(Command::Faults)),
-        CommandLine::Work => Ok(ask(Command::Work)),
-        CommandLine::Wait => Ok(ask(Command::Wait)),
-        CommandLine::Log { number } => Ok(ask(Command::Log { number })),
-        CommandLine::Undo { basis } => Ok(ask(Command::Undo { basis })),
-        CommandLine::Redo { basis } => Ok(ask(Command::Redo { basis })),
+        CommandLine::Look => Ok(ask(StateCommand::Look)),
+        CommandLine::List => Ok(ask(StateCommand::List)),
+        CommandLine::Faults => Ok(ask(StateCommand::Faults)),
+        CommandLine::Work => Ok(ask(StateCommand::Work)),
+        CommandLine::Wait => Ok(Next::Message(Message::Ask(Command::Wait))),
+        CommandLine::Log { number } => Ok(Next::Message(Message::Ask(Command::Log { number }))),
+        CommandLine::Undo { basis } => Ok(ask(StateCommand::Undo { basis })),
+        CommandLine::Redo { basis } => Ok(ask(StateCommand::Redo { basis })),
         CommandLine::Del { basis, path } => match Word::new(alloc, path.as_str()) {
-            Ok(path) => Ok(ask(Command::Del { basis, path })),
+            Ok(path) => Ok(ask(StateCommand::Del { basis, path })),
             Err(_) => Ok(Next::NoRoom),
         },
         CommandLine::Rename {
@@ -173,7 +174,7 @@ fn command_after<S: ByteSource>(
             offset,
             name,
         } => match two_words(alloc, path.as_str(), name.as_str()) {
-            Ok((path, name)) => Ok(ask(Command::Rename {
+            Ok((path, name)) => Ok(ask(StateCommand::Rename {
                 basis,
                 path,
                 offset: offset as usize,
@@ -183,20 +184,20 @@ fn command_after<S: ByteSource>(
         },
         CommandLine::Move { basis, from, to } => {
             match two_words(alloc, from.as_str(), to.as_str()) {
-                Ok((from, to)) => Ok(ask(Command::Move { basis, from, to })),
+                Ok((from, to)) => Ok(ask(StateCommand::Move { basis, from, to })),
                 Err(_) => Ok(Next::NoRoom),
             }
         }
         CommandLine::Cat { path } => match Word::new(alloc, path.as_str()) {
-            Ok(path) => Ok(ask(Command::Cat { path })),
+            Ok(path) => Ok(ask(StateCommand::Cat { path })),
             Err(_) => Ok(Next::NoRoom),
         },
         CommandLine::Object { path } => match Word::new(alloc, path.as_str()) {
-            Ok(path) => Ok(ask(Command::Object { path })),
+            Ok(path) => Ok(ask(StateCommand::Object { path })),
             Err(_) => Ok(Next::NoRoom),
         },
         CommandLine::Uses { path, offset } => match Word::new(alloc, path.as_str()) {
-            Ok(path) => Ok(ask(Command::Uses {
+            Ok(path) => Ok(ask(StateCommand::Uses {
                 path,
                 offset: offset as usize,
             })),

@@ -12,9 +12,10 @@ use Rattle.gr_book.specs.declared.event.Event.TheVariants as event
 use Rattle.gr_book.specs.declared.event.Reply.{Reply}
 use Rattle.gr_book.specs.declared.event.Reply.TheVariants.{Looked, Logged, Done, Taken, Refused, Back}
 use Rattle.gr_line.specs.declared.command.Command.{Command}
-use Rattle.gr_line.specs.declared.command.Command.TheVariants.{Look, Put, Del, Rename, Move, Undo, Redo, Cat, Uses}
 use Rattle.gr_line.specs.declared.command.Command.TheVariants as command
-use Rattle.gr_line.specs.declared.command.Response.{Response}
+use Rattle.gr_line.specs.declared.command.StateCommand.{StateCommand}
+use Rattle.gr_line.specs.declared.command.StateCommand.TheVariants as state
+use Rattle.gr_desk.specs.declared.response.Response.{Response}
 use Rattle.gr_line.specs.declared.message.Message.{Message}
 use Rattle.gr_line.specs.declared.message.Message.TheVariants.{Ask, Unknown, CutShort}
 use Rattle.gr_desk.specs.Wait.{WaitLaw}
@@ -80,25 +81,23 @@ module _ {D E : Type 0} (steps : D → Event → Reply → D → Type 0) (waits 
       let l = after_take h.1 new h.0 answer h.3 in
       (l.0 ∙ k.0, (h.0, show h.1, k.1, l.1))
 
-  acted_on : (old new : D) (view : View) (asked : Command) (answer : Response) → ActsOn steps old view asked answer new
+  acted_on : (old new : D) (view : View) (asked : StateCommand) (answer : Response) → ActsOn steps old view asked answer new
       → Lifts old new (λ a b. ActsOn shown a view asked answer b)
-  acted_on old new view Look answer h = let k = same old new h.1 in (k.0, (h.0, k.1))
-  acted_on old new view (Put basis path body) answer h = let k = committed old new basis h.0 answer h.2 in (k.0, (h.0, h.1, k.1))
-  acted_on old new view (Del basis path) answer h = let k = committed old new basis h.0 answer h.2 in (k.0, (h.0, h.1, k.1))
-  acted_on old new view (Rename basis path offset word) answer h = let k = committed old new basis h.0 answer h.2 in (k.0, (h.0, h.1, k.1))
-  acted_on old new view (Move basis from to) answer h = let k = committed old new basis h.0 answer h.2 in (k.0, (h.0, h.1, k.1))
-  acted_on old new view (Undo basis) answer h = sent old new (event.Undo basis) answer h
-  acted_on old new view (Redo basis) answer h = sent old new (event.Redo basis) answer h
-  acted_on old new view (Cat path) answer h = let k = same old new h.1 in (k.0, (h.0, k.1))
-  acted_on old new view (Uses path offset) answer h = let k = same old new h.1 in (k.0, (h.0, k.1))
-  acted_on old new view command.List answer h = let k = same old new h.1 in (k.0, (h.0, k.1))
-  acted_on old new view command.Faults answer h = let k = same old new h.1 in (k.0, (h.0, k.1))
-  acted_on old new view (command.Object path) answer h = let k = same old new h.1 in (k.0, (h.0, k.1))
-  acted_on old new view command.Work answer h = worked old new answer h
-  acted_on old new view (command.Log number) answer h = absurd h
-  acted_on old new view command.Wait answer h = absurd h
+  acted_on old new view state.Look answer h = let k = same old new h.1 in (k.0, (h.0, k.1))
+  acted_on old new view (state.Put basis path body) answer h = let k = committed old new basis h.0 answer h.2 in (k.0, (h.0, h.1, k.1))
+  acted_on old new view (state.Del basis path) answer h = let k = committed old new basis h.0 answer h.2 in (k.0, (h.0, h.1, k.1))
+  acted_on old new view (state.Rename basis path offset word) answer h = let k = committed old new basis h.0 answer h.2 in (k.0, (h.0, h.1, k.1))
+  acted_on old new view (state.Move basis from to) answer h = let k = committed old new basis h.0 answer h.2 in (k.0, (h.0, h.1, k.1))
+  acted_on old new view (state.Undo basis) answer h = sent old new (event.Undo basis) answer h
+  acted_on old new view (state.Redo basis) answer h = sent old new (event.Redo basis) answer h
+  acted_on old new view (state.Cat path) answer h = let k = same old new h.1 in (k.0, (h.0, k.1))
+  acted_on old new view (state.Uses path offset) answer h = let k = same old new h.1 in (k.0, (h.0, k.1))
+  acted_on old new view state.List answer h = let k = same old new h.1 in (k.0, (h.0, k.1))
+  acted_on old new view state.Faults answer h = let k = same old new h.1 in (k.0, (h.0, k.1))
+  acted_on old new view (state.Object path) answer h = let k = same old new h.1 in (k.0, (h.0, k.1))
+  acted_on old new view state.Work answer h = worked old new answer h
 
-  continued : (old new : D) (reply : Reply) (asked : Command) (answer : Response) → Continues steps old reply asked answer new
+  continued : (old new : D) (reply : Reply) (asked : StateCommand) (answer : Response) → Continues steps old reply asked answer new
       → Lifts old new (λ a b. Continues shown a reply asked answer b)
   continued old new (Looked view) asked answer h = elim h [
     | inl k ↦ let l = same old new k.2 in (l.0, inl (k.0, k.1, l.1))
@@ -114,7 +113,7 @@ module _ {D E : Type 0} (steps : D → Event → Reply → D → Type 0) (waits 
       → Lifts old new (λ a b. Acts shown awaited a asked answer b)
   acted old new (command.Log number) answer h = sent old new (event.Log number) answer h
   acted old new command.Wait answer h = let k = wait old h.0 new h.1 in (k.0, (h.0, k.1, h.2))
-  acted old new asked answer h =
+  acted old new (command.OnState asked) answer h =
       let k = step old event.Look h.0 h.1 h.2 in
       let l = continued h.1 new h.0 asked answer h.3 in
       (l.0 ∙ k.0, (h.0, show h.1, k.1, l.1))
@@ -122,7 +121,7 @@ module _ {D E : Type 0} (steps : D → Event → Reply → D → Type 0) (waits 
   answered : (old new : D) (message : Message) (reply : Response) → Answered steps waits old message reply new
       → Lifts old new (λ a b. Answered shown awaited a message reply b)
   answered old new (Ask asked) reply h = elim h [
-    | inl k ↦ let l = acted old new asked reply k in (l.0, inl l.1)
+    | inl k ↦ let l = acted old new asked k.0 k.1 in (l.0, inl (k.0, l.1, k.2))
     | inr k ↦ let l = same old new k.1 in (l.0, inr (k.0, l.1))
   ]
   answered old new Unknown reply h = let k = same old new h.1 in (k.0, (h.0, k.1))

@@ -6,11 +6,11 @@ use Rattle.gr_text.specs.declared.limits.Limits.{Limits}
 use Rattle.gr_book.specs.declared.event.Event.{Event}
 use Rattle.gr_book.specs.declared.event.Reply.{Reply}
 use Rattle.gr_desk.specs.Wait.{WaitLaw}
-use Rattle.gr_line.specs.declared.command.Response.{Response}
+use Rattle.gr_desk.specs.declared.response.Response.{Response}
 use Rattle.gr_line.specs.declared.message.Message.{Message}
 use Rattle.gr_line.specs.Wire.{Says, Reads}
 use Rattle.gr_wire.specs.Answers.{Answered, AnswersAll}
-use Rattle.gr_line.specs.Replies.{reply_text}
+use Rattle.gr_wire.specs.Replies.{reply_text}
 use Rattle.gr_wire.specs.Transcript.{Exchange, BreaksOff, CutsOff}
 
 pub Reads-append : (limits : Limits) (input mid rest : List ℕ) (ms ns : List Message)

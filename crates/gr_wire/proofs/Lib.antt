@@ -1,4 +1,5 @@
 -- The lemmas of this crate.
+pub mod Parts
 pub mod Exchanges
 pub mod Steps
 pub mod Sent

@@ -16,9 +16,10 @@ use Rattle.gr_book.specs.Run.{Run}
 use Rattle.gr_book.proofs.Legal.{Run-append}
 use Rattle.gr_desk.specs.Wait.{RefusesWait}
 use Rattle.gr_line.specs.declared.command.Command.{Command}
-use Rattle.gr_line.specs.declared.command.Command.TheVariants.{Look, Put, Del, Rename, Move, Undo, Redo, Cat, Uses}
 use Rattle.gr_line.specs.declared.command.Command.TheVariants as command
-use Rattle.gr_line.specs.declared.command.Response.{Response}
+use Rattle.gr_line.specs.declared.command.StateCommand.{StateCommand}
+use Rattle.gr_line.specs.declared.command.StateCommand.TheVariants as state
+use Rattle.gr_desk.specs.declared.response.Response.{Response}
 use Rattle.gr_desk.specs.Act.{Acts, ActsOn, Commits, Continues, Sends}
 use Rattle.gr_desk.specs.Work.{Works, AfterTake, AfterDelivery, Builds, Delivers, GivesBack}
 use Rattle.gr_line.specs.declared.message.Message.{Message}
@@ -92,33 +93,31 @@ worked old new answer h =
     let g = led_on old h.1 new event.Take h.0 (λ (a b : Events). AfterTake Notes a h.0 answer b) h.2 (after_take h.1 new h.0 answer h.3) in
     (g.0, g.1, λ before after e. let n = g.2 before after e in (h.0, n.0, n.1, n.2))
 
-acted_on : (old new : Machine) (view : View) (asked : Command) (answer : Response) → ActsOn Step old view asked answer new
+acted_on : (old new : Machine) (view : View) (asked : StateCommand) (answer : Response) → ActsOn Step old view asked answer new
     → IsRun old new (λ a b. ActsOn Notes a view asked answer b)
-acted_on old new view Look answer h = ([], h.1, λ before after n. (h.0, nothing before after n))
-acted_on old new view (Put basis path body) answer h =
+acted_on old new view state.Look answer h = ([], h.1, λ before after n. (h.0, nothing before after n))
+acted_on old new view (state.Put basis path body) answer h =
     let g = committed old new basis h.0 answer h.2 in
     (g.0, g.1, λ before after e. (h.0, h.1, g.2 before after e))
-acted_on old new view (Del basis path) answer h =
+acted_on old new view (state.Del basis path) answer h =
     let g = committed old new basis h.0 answer h.2 in
     (g.0, g.1, λ before after e. (h.0, h.1, g.2 before after e))
-acted_on old new view (Rename basis path offset name) answer h =
+acted_on old new view (state.Rename basis path offset name) answer h =
     let g = committed old new basis h.0 answer h.2 in
     (g.0, g.1, λ before after e. (h.0, h.1, g.2 before after e))
-acted_on old new view (Move basis from to) answer h =
+acted_on old new view (state.Move basis from to) answer h =
     let g = committed old new basis h.0 answer h.2 in
     (g.0, g.1, λ before after e. (h.0, h.1, g.2 before after e))
-acted_on old new view (Undo basis) answer h = sent old new (event.Undo basis) answer h
-acted_on old new view (Redo basis) answer h = sent old new (event.Redo basis) answer h
-acted_on old new view (Cat path) answer h = ([], h.1, λ before after n. (h.0, nothing before after n))
-acted_on old new view (Uses path offset) answer h = ([], h.1, λ before after n. (h.0, nothing before after n))
-acted_on old new view command.List answer h = ([], h.1, λ before after n. (h.0, nothing before after n))
-acted_on old new view command.Faults answer h = ([], h.1, λ before after n. (h.0, nothing before after n))
-acted_on old new view (command.Object path) answer h = ([], h.1, λ before after n. (h.0, nothing before after n))
-acted_on old new view command.Work answer h = worked old new answer h
-acted_on old new view (command.Log number) answer h = absurd h
-acted_on old new view command.Wait answer h = absurd h
+acted_on old new view (state.Undo basis) answer h = sent old new (event.Undo basis) answer h
+acted_on old new view (state.Redo basis) answer h = sent old new (event.Redo basis) answer h
+acted_on old new view (state.Cat path) answer h = ([], h.1, λ before after n. (h.0, nothing before after n))
+acted_on old new view (state.Uses path offset) answer h = ([], h.1, λ before after n. (h.0, nothing before after n))
+acted_on old new view state.List answer h = ([], h.1, λ before after n. (h.0, nothing before after n))
+acted_on old new view state.Faults answer h = ([], h.1, λ before after n. (h.0, nothing before after n))
+acted_on old new view (state.Object path) answer h = ([], h.1, λ before after n. (h.0, nothing before after n))
+acted_on old new view state.Work answer h = worked old new answer h
 
-continued : (old new : Machine) (reply : Reply) (asked : Command) (answer : Response) → Continues Step old reply asked answer new
+continued : (old new : Machine) (reply : Reply) (asked : StateCommand) (answer : Response) → Continues Step old reply asked answer new
     → IsRun old new (λ a b. Continues Notes a reply asked answer b)
 continued old new (Looked view) asked answer h = elim h [
   | inl k ↦ ([], k.2, λ before after n. inl (k.0, k.1, nothing before after n))
@@ -134,14 +133,14 @@ acted : (old new : Machine) (asked : Command) (answer : Response) → Acts Step 
     → IsRun old new (λ a b. Acts Notes RefusesWait a asked answer b)
 acted old new (command.Log number) answer h = sent old new (event.Log number) answer h
 acted old new command.Wait answer h = ([], h.1.1, λ before after n. (h.0, (h.1.0, nothing before after n), h.2))
-acted old new asked answer h =
+acted old new (command.OnState asked) answer h =
     let g = led_on old h.1 new event.Look h.0 (λ (a b : Events). Continues Notes a h.0 asked answer b) h.2 (continued h.1 new h.0 asked answer h.3) in
     (g.0, g.1, λ before after e. let n = g.2 before after e in (h.0, n.0, n.1, n.2))
 
 answered : (old new : Machine) (message : Message) (reply : Response) → Answered Step RefusesWait old message reply new
     → IsRun old new (λ a b. Answered Notes RefusesWait a message reply b)
 answered old new (Ask asked) reply h = elim h [
-  | inl k ↦ let g = acted old new asked reply k in (g.0, g.1, λ before after e. inl (g.2 before after e))
+  | inl k ↦ let g = acted old new asked k.0 k.1 in (g.0, g.1, λ before after e. inl (k.0, g.2 before after e, k.2))
   | inr k ↦ ([], k.1, λ before after n. inr (k.0, nothing before after n))
 ]
 answered old new Unknown reply h = ([], h.1, λ before after n. (h.0, nothing before after n))

@@ -5,16 +5,16 @@ use Rattle.gr_text.specs.declared.limits.Limits.{Limits}
 use Rattle.gr_book.specs.declared.event.Event.{Event}
 use Rattle.gr_book.specs.declared.event.Reply.{Reply}
 use Rattle.gr_desk.specs.Wait.{WaitLaw}
-use Rattle.gr_line.specs.declared.command.Response.{Response}
+use Rattle.gr_desk.specs.declared.response.Response.{Response}
 use Rattle.gr_line.specs.declared.message.Message.{Message}
 use Rattle.gr_line.specs.declared.message.Message.TheVariants.{Ask, Unknown, CutShort}
-use Rattle.gr_line.specs.declared.command.Response.TheVariants.{Refused}
+use Rattle.gr_desk.specs.declared.response.Response.TheVariants.{Refused}
 use Rattle.gr_text.specs.declared.refusal.Refusal.TheVariants as refusal
 use Rattle.gr_next_message.specs.declared.next.Next.TheVariants as next
 use Rattle.gr_wire.specs.declared.exchange.SessionFault.{SessionFault}
 use Rattle.gr_wire.specs.declared.exchange.SessionFault.TheVariants.{Memory, Read, Write, Turns}
 use Rattle.gr_wire.specs.Answers.{Answered}
-use Rattle.gr_line.specs.Replies.{reply_text}
+use Rattle.gr_wire.specs.Replies.{reply_text}
 use Rattle.gr_line.specs.Last.{is_last}
 use Rattle.gr_wire.specs.Awaits.{AwaitsNext}
 use Rattle.gr_wire.specs.Transcript.{StepEnds}

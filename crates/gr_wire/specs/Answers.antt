@@ -4,16 +4,19 @@ use Rattle.gr_text.specs.declared.refusal.Refusal.TheVariants.{Memory, BadComman
 use Rattle.gr_book.specs.declared.event.Event.{Event}
 use Rattle.gr_book.specs.declared.event.Reply.{Reply}
 use Rattle.gr_desk.specs.Wait.{WaitLaw}
-use Rattle.gr_line.specs.declared.command.Response.{Response}
-use Rattle.gr_line.specs.declared.command.Response.TheVariants.{Refused}
+use Rattle.gr_desk.specs.declared.response.Response.{Response}
+use Rattle.gr_desk.specs.declared.response.Response.TheVariants.{Refused}
 use Rattle.gr_desk.specs.Act.{Acts}
+use Rattle.gr_wire.specs.Replies.{IsWrittenFor}
 use Rattle.gr_line.specs.declared.message.Message.{Message}
 use Rattle.gr_line.specs.declared.message.Message.TheVariants.{Ask, Unknown, CutShort}
 
 module _ {D : Type 0} (steps : D → Event → Reply → D → Type 0) (waits : WaitLaw D) where
-  -- from old, a session may answer this message so; want of memory to keep a command changes nothing
+  -- from old, a session may answer this message so: a command is acted on, and the reply is what is written for its answer; want of memory
+  -- to keep a command changes nothing
   abbrev pub Answered : D → Message → Response → D → Type 0
-  Answered old (Ask command) reply new = Acts steps waits old command reply new ⊎ ((reply ≡ Refused Memory) × (new ≡ old))
+  Answered old (Ask command) reply new =
+      ((answer : Response) × Acts steps waits old command answer new × IsWrittenFor answer reply) ⊎ ((reply ≡ Refused Memory) × (new ≡ old))
   Answered old Unknown reply new = (reply ≡ Refused BadCommand) × (new ≡ old)
   Answered old CutShort reply new = (reply ≡ Refused BodyShort) × (new ≡ old)
 

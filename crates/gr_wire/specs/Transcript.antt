@@ -6,12 +6,12 @@ use Rattle.gr_text.specs.declared.limits.Limits.{Limits}
 use Rattle.gr_book.specs.declared.event.Event.{Event}
 use Rattle.gr_book.specs.declared.event.Reply.{Reply}
 use Rattle.gr_desk.specs.Wait.{WaitLaw}
-use Rattle.gr_line.specs.declared.command.Response.{Response}
+use Rattle.gr_desk.specs.declared.response.Response.{Response}
 use Rattle.gr_line.specs.declared.message.Message.{Message}
 use Rattle.gr_wire.specs.declared.exchange.SessionFault.{SessionFault}
 use Rattle.gr_wire.specs.declared.exchange.SessionFault.TheVariants.{Memory, Read, Write, Turns}
 use Rattle.gr_line.specs.Wire.{Reads, Ends, StaysWithin}
-use Rattle.gr_line.specs.Replies.{reply_text}
+use Rattle.gr_wire.specs.Replies.{reply_text}
 use Rattle.gr_wire.specs.Answers.{AnswersAll}
 
 -- The input up to `rest` was read as messages, answered in one run of the desk from old to new,

@@ -1,13 +1,14 @@
 //! A session: it reads messages, has them answered, and writes the replies.
 ghost use Rattle.std.specs.Prelude.{◌≡◌, ◌+◌, ◌^◌, ◌≤◌, ◌<◌, IfOk, OnOk, IsTrue};
 ghost use Rattle.gr_line.specs.Failures.{CountsFailure, WritesText};
-ghost use Rattle.gr_line.specs.Replies.{reply_text};
+ghost use Rattle.gr_wire.specs.Replies.{reply_text};
 ghost use Rattle.gr_wire.specs.Answers.{Answered};
 ghost use Rattle.gr_wire.specs.Awaits.{AwaitsNext, LeavesSent, StepLeavesSent};
 ghost use Rattle.gr_wire.specs.Transcript.{SessionEnds, CountsFaults, StepEnds};
 
+use crate::written::{WrittenReply, print_reply};
 use gr_desk::{Desk, act};
-use gr_line::{ByteSource, InputFault, Message, Response, Sink, WriteFailed, print_reply};
+use gr_line::{ByteSource, InputFault, Message, Sink, WriteFailed};
 use gr_next_message::{LineBuffer, Next, read_command};
 use gr_text::{Limits, Refusal};
 use std::alloc::Global;
@@ -35,19 +36,14 @@ impl From<WriteFailed> for SessionFault {
     }
 }
 
-fn refuse(refusal: Refusal) -> Response
-    ensures { result ≡ Response.Refused refusal }
-{
-    Response::Refused { refusal }
-}
-
-fn answer<D: Desk>(alloc: Global, desk: &mut D, message: Message) -> Response
+/// Has a message answered, and makes what takes memory to be written.
+fn answer<D: Desk>(alloc: Global, desk: &mut D, message: Message) -> WrittenReply
     ensures { Answered D.steps D.waits desk.old message result desk.new }
 {
     match message {
-        Message::Ask(command) => act(alloc, desk, command),
-        Message::Unknown => refuse(Refusal::BadCommand),
-        Message::CutShort => refuse(Refusal::BodyShort),
+        Message::Ask(command) => WrittenReply::of(alloc, act(alloc, desk, command)),
+        Message::Unknown => WrittenReply::refuse(alloc, Refusal::BadCommand),
+        Message::CutShort => WrittenReply::refuse(alloc, Refusal::BodyShort),
     }
 }
 
@@ -92,7 +88,7 @@ fn await_message<S: ByteSource, T: Sink>(
 }
 
 /// Writes a reply, and has it sent where it is the last one.
-fn send_reply<T: Sink>(sink: &mut T, reply: &Response, is_last: bool) -> Result<(), WriteFailed>
+fn send_reply<T: Sink>(sink: &mut T, reply: &WrittenReply, is_last: bool) -> Result<(), WriteFailed>
     ensures written { WritesText (T.contents sink.old) (T.contents sink.new) (reply_text reply.now) result }
     ensures sent { OnOk result (IsTrue is_last → T.sent sink.new) }
     ensures counted { CountsFailure (T.failures sink.old) (T.failures sink.new) result }
@@ -123,7 +119,7 @@ fn serve_next<S: ByteSource, T: Sink, D: Desk>(
     match await_message(alloc, source, sink, reading, limits)? {
         Next::End => Ok(false),
         Next::NoRoom => {
-            print_reply(sink, &refuse(Refusal::Memory))?;
+            print_reply(sink, &WrittenReply::refuse(alloc, Refusal::Memory))?;
             Ok(true)
         }
         Next::Message(message) => {

@@ -1,10 +1,15 @@
-//! A session: its messages are answered by a desk, and the replies are written.
+//! A session: its messages are answered by a desk, and the answers, which are data, are written as replies.
 #![tactic(auto)]
 
 mod alone;
+mod entries;
 mod exchange;
 mod laws;
+mod lines;
 mod memory;
+mod output;
+mod refusal;
+mod written;
 
 pub use alone::{converse, session_alone};
 pub use exchange::{SessionFault, session};

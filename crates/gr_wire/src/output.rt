@@ -1,13 +1,15 @@
 //! Writing replies. A later form of answer is a case of `body_of` and `number_of` in specs/Replies.antt,
-//! and an arm of `print_reply`.
+//! and an arm of `print_response`, and where its body takes memory also one of `made_body` in written.rt.
 ghost use Rattle.std.specs.Prelude.{◌≡◌, ◌++◌, ◌≤◌, true, length};
-ghost use Rattle.gr_line.specs.Replies.{reply_text, head_of, steps_line};
+ghost use Rattle.gr_wire.specs.Listings.{package_line};
+ghost use Rattle.gr_wire.specs.Replies.{head_of, made_body, reply_text, steps_line};
 ghost use Rattle.gr_line.specs.Failures.{CountsFailure, WritesText};
 
-use crate::command::Response;
+use crate::entries::entry_text;
 use crate::refusal::{LONGEST_BODY, refusal_body, refusal_code};
-use crate::stream::{Sink, WriteFailed};
 use arrayvec::ArrayString;
+use gr_desk::Response;
+use gr_line::{Sink, WriteFailed};
 use itoa::Buffer;
 
 /// The longest first line: a word, two numbers of at most 20 digits, a space and a newline.
@@ -57,14 +59,32 @@ fn steps_text(undo: usize, redo: usize) -> ArrayString<LONGEST_BODY>
     text
 }
 
+/// Writes all of two texts, one behind the other.
+fn write_both<T: Sink>(sink: &mut T, first: &[u8], second: &[u8]) -> Result<(), WriteFailed>
+    ensures written { WritesText (T.contents sink.old) (T.contents sink.new) (first.now ++ second.now) result }
+    ensures counted { CountsFailure (T.failures sink.old) (T.failures sink.new) result }
+{
+    write_whole(sink, first)?;
+    write_whole(sink, second)
+}
+
 /// Writes a reply whose body may be long.
 fn print_parts<T: Sink>(sink: &mut T, number: u64, body: &[u8]) -> Result<(), WriteFailed>
     ensures written { WritesText (T.contents sink.old) (T.contents sink.new) (head_of true number (length body.now) ++ body.now) result }
     ensures counted { CountsFailure (T.failures sink.old) (T.failures sink.new) result }
 {
     let first_line = head(true, number, body.len());
+    write_both(sink, first_line.as_str().as_bytes(), body)
+}
+
+/// Writes a reply whose body is one line, that of a package.
+fn print_line<T: Sink>(sink: &mut T, number: u64, path: &[u8]) -> Result<(), WriteFailed>
+    ensures written { WritesText (T.contents sink.old) (T.contents sink.new) (head_of true number (length (package_line path.now)) ++ package_line path.now) result }
+    ensures counted { CountsFailure (T.failures sink.old) (T.failures sink.new) result }
+{
+    let first_line = head(true, number, path.len() + 1);
     write_whole(sink, first_line.as_str().as_bytes())?;
-    write_whole(sink, body)
+    write_both(sink, path, b"\n")
 }
 
 /// Writes a reply with a short body at once.
@@ -84,18 +104,29 @@ fn print_short<T: Sink>(
     write_whole(sink, text.as_str().as_bytes())
 }
 
-/// Writes a reply. On an `Err` a first part of it is written. A reply of no lines takes no memory.
-pub fn print_reply<T: Sink>(sink: &mut T, reply: &Response) -> Result<(), WriteFailed>
-    ensures written { WritesText (T.contents sink.old) (T.contents sink.new) (reply_text reply.now) result }
+/// Writes a response, whose body was made where that takes memory. On an `Err` a first part of it is written.
+pub(crate) fn print_response<T: Sink>(
+    sink: &mut T,
+    response: &Response,
+    made: &[u8],
+) -> Result<(), WriteFailed>
+    requires { made.now ≡ made_body response.now }
+    ensures written { WritesText (T.contents sink.old) (T.contents sink.new) (reply_text response.now) result }
     ensures counted { CountsFailure (T.failures sink.old) (T.failures sink.new) result }
 {
-    match reply {
+    match response {
         Response::Done { number } => print_short(sink, true, *number, ""),
         Response::Steps { number, undo, redo } => {
             print_short(sink, true, *number, steps_text(*undo, *redo).as_str())
         }
         Response::File { number, text } => print_parts(sink, *number, text.bytes()),
-        Response::Lines { number, text } => print_parts(sink, *number, text.as_slice()),
+        Response::Listing { number, .. }
+        | Response::Places { number, .. }
+        | Response::Faults { number, .. } => print_parts(sink, *number, made),
+        Response::Entry { number, line } => {
+            print_short(sink, true, *number, entry_text(*line).as_str())
+        }
+        Response::Built { number, package } => print_line(sink, *number, package.path()),
         Response::Refused { refusal } => print_short(
             sink,
             false,

@@ -2,20 +2,20 @@
 ghost use Rattle.std.specs.Prelude.{◌≡◌, ◌+◌, ◌≤◌, ◌++◌, ◌∷◌, [], codes, decimal, length};
 ghost use Rattle.arrayvec.specs.ArrayString.{array_string_len};
 ghost use Rattle.gr_text.specs.PlaceText.{place_text};
-ghost use Rattle.gr_line.specs.Replies.{code_of, refusal_body};
+ghost use Rattle.gr_wire.specs.Refusals.{code_of, refusal_body};
 
 use arrayvec::ArrayString;
 use gr_text::{Place, Refusal};
 use itoa::Buffer;
 
 /// The longest place: a path of 255 bytes, two signs and a number.
-pub const LONGEST_PLACE: usize = 300;
+const LONGEST_PLACE: usize = 300;
 
 /// The longest body of a refusal, which has two places.
-pub const LONGEST_BODY: usize = 640;
+pub(crate) const LONGEST_BODY: usize = 640;
 
 /// The number of a refusal.
-pub fn refusal_code(refusal: &Refusal) -> u8
+pub(crate) fn refusal_code(refusal: &Refusal) -> u8
     ensures { result ≡ code_of refusal.now }
 {
     match refusal {
@@ -69,7 +69,7 @@ fn number_line(number: u64) -> ArrayString<LONGEST_BODY>
 }
 
 /// The body of the reply that tells a refusal. It takes no memory.
-pub fn refusal_body(refusal: &Refusal) -> ArrayString<LONGEST_BODY>
+pub(crate) fn refusal_body(refusal: &Refusal) -> ArrayString<LONGEST_BODY>
     ensures { result.bytes ≡ refusal_body refusal.now }
 {
     let mut text = ArrayString::new();

@@ -1,0 +1,29 @@
+-- The answers to the goals of `output::print_line`.
+use Rattle.std.proofs.Common.{◌≡◌, ◌++◌, [], ◌∷◌, true, length, ◌∙◌, sym, ap, subst, length-append}
+use Rattle.std.proofs.lemmas.Result.{err_from_is_err_and}
+use Rattle.gr_line.specs.Failures.{WritesText, WritesPart}
+use Rattle.gr_wire.specs.Listings.{package_line}
+use Rattle.gr_wire.specs.Replies.{head_of}
+use Rattle.gr_wire.proofs.Parts.{then_text, part_of}
+use Rattle.gr_wire.proofs.output.print_line.Goals as goal
+
+pub returns-in_err-write_whole-clause-written : goal.returns-in_err-write_whole-clause-written
+returns-in_err-write_whole-clause-written g c =
+    let p = err_from_is_err_and c.from_residual.result c.from_residual.ensures.1 in
+    let line = package_line c.args.path.now in
+    let is_head : c.as_bytes.result.now ≡ head_of true c.args.number (length line) =
+    cc (c.as_bytes.ensures.value, c.as_str.ensures.value, c.head-first_line.ensures)
+    ∙ ap (λ n. head_of true c.args.number n) (sym (length-append c.args.path.now (10 ∷ []))) in
+    rw p.1 (subst (λ first. WritesPart (g.T.Sink.contents c.args.sink.now) (g.T.Sink.contents c.write_whole.new.sink) (first ++ line)) is_head
+    (part_of (g.T.Sink.contents c.args.sink.now) (g.T.Sink.contents c.write_whole.new.sink) c.as_bytes.result.now line
+    c.in_err-write_whole.ensures.written))
+
+pub returns-clause-written : goal.returns-clause-written
+returns-clause-written g c =
+    let line = package_line c.args.path.now in
+    let is_head : c.as_bytes.result.now ≡ head_of true c.args.number (length line) =
+    cc (c.as_bytes.ensures.value, c.as_str.ensures.value, c.head-first_line.ensures)
+    ∙ ap (λ n. head_of true c.args.number n) (sym (length-append c.args.path.now (10 ∷ []))) in
+    subst (λ first. WritesText (g.T.Sink.contents c.args.sink.now) (g.T.Sink.contents c.write_both.new.sink) (first ++ line) c.write_both.result) is_head
+    (then_text (g.T.Sink.contents c.args.sink.now) (g.T.Sink.contents c.write_whole.new.sink) (g.T.Sink.contents c.write_both.new.sink)
+    c.as_bytes.result.now line c.write_both.result c.in_ok-write_whole.ensures.written c.write_both.ensures.written)
