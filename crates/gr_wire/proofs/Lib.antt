@@ -1,5 +1,4 @@
 -- The lemmas of this crate.
-pub mod Parts
 pub mod Exchanges
 pub mod Steps
 pub mod Sent

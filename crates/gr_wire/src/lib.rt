@@ -2,14 +2,9 @@
 #![tactic(auto)]
 
 mod alone;
-mod entries;
 mod exchange;
 mod laws;
-mod lines;
 mod memory;
-mod output;
-mod refusal;
-mod written;
 
 pub use alone::{converse, session_alone};
 pub use exchange::{SessionFault, session};

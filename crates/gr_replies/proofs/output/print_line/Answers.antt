@@ -2,10 +2,10 @@
 use Rattle.std.proofs.Common.{◌≡◌, ◌++◌, [], ◌∷◌, true, length, ◌∙◌, sym, ap, subst, length-append}
 use Rattle.std.proofs.lemmas.Result.{err_from_is_err_and}
 use Rattle.gr_line.specs.Failures.{WritesText, WritesPart}
-use Rattle.gr_wire.specs.Listings.{package_line}
-use Rattle.gr_wire.specs.Replies.{head_of}
-use Rattle.gr_wire.proofs.Parts.{then_text, part_of}
-use Rattle.gr_wire.proofs.output.print_line.Goals as goal
+use Rattle.gr_replies.specs.Listings.{package_line}
+use Rattle.gr_replies.specs.Replies.{head_of}
+use Rattle.gr_replies.proofs.Parts.{then_text, part_of}
+use Rattle.gr_replies.proofs.output.print_line.Goals as goal
 
 pub returns-in_err-write_whole-clause-written : goal.returns-in_err-write_whole-clause-written
 returns-in_err-write_whole-clause-written g c =

@@ -2,7 +2,7 @@
 ghost use Rattle.std.specs.Prelude.{◌≡◌, ◌+◌, ◌≤◌, ◌++◌, ◌∷◌, [], codes, decimal, length};
 ghost use Rattle.arrayvec.specs.ArrayString.{array_string_len};
 ghost use Rattle.gr_text.specs.PlaceText.{place_text};
-ghost use Rattle.gr_wire.specs.Refusals.{code_of, refusal_body};
+ghost use Rattle.gr_replies.specs.Refusals.{code_of, refusal_body};
 
 use arrayvec::ArrayString;
 use gr_text::{Place, Refusal};
