@@ -24,7 +24,7 @@ use Rattle.gr_verdict.specs.Verdicts.{Verdicts, AreSeen, HasInterface, IsPackage
 use Rattle.gr_verdict.proofs.Members.{nothing_in}
 use Rattle.gr_verdict.proofs.OnePackage.{all_read, one_checked}
 use Rattle.gr_verdict.proofs.OneVerdict.{checked_as_one, verdict_by}
-use Rattle.gr_object.specs.declared.packages.Packages.{Packages}
+use Rattle.gr_object.specs.declared.packages.CalledPackages.{CalledPackages}
 use Rattle.gr_object.specs.ObjectView.{AreOwnDefinitions, IsObjectTextOf, OwnDefinitionsOf}
 use Rattle.gr_compile.specs.Compiling.{HaveNamesBelow, IsFaultless, IsTextOf}
 use Rattle.gr_compile.specs.Units.{IsCompiled}
@@ -89,7 +89,7 @@ module _ (w : Workspace) (p : List ℕ) (all : Interfaces) (members : List (Vec 
         own_definitions c all list (subst (λ (q : List ℕ). IsInterface c (interface_in all q)) (sym path) (seen_as c is))
         (subst (λ (q : List ℕ). (rank : ℕ) → slice_get list rank ≡ ranked (definitions_at all.definitions q) rank) (sym path) same)
 
-    pub compiled_by : (packages : Packages) (text : List ℕ) → HaveNamesBelow w p packages →
+    pub compiled_by : (packages : CalledPackages) (text : List ℕ) → HaveNamesBelow w p packages →
         IsObjectTextOf p trees name_of interface_of (map uses_in members) packages text → IsCompiled w p (interface_in all p) text
     compiled_by packages text names made =
         let c = made.0 in

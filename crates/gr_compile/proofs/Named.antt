@@ -11,8 +11,8 @@ use Rattle.gr_graph.proofs.Asked.{number}
 use Rattle.gr_declared.proofs.ByteKeys.{cases_bytes}
 use Rattle.gr_verdict.proofs.Closed.{to_package}
 use Rattle.gr_verdict.proofs.Members.{nothing_in}
-use Rattle.gr_object.specs.declared.packages.PackageNames.{PackageNames}
-use Rattle.gr_object.specs.declared.packages.Packages.{Packages}
+use Rattle.gr_object.specs.declared.packages.CalledNames.{CalledNames}
+use Rattle.gr_object.specs.declared.packages.CalledPackages.{CalledPackages}
 use Rattle.gr_object.specs.NamesView.{AreNamesOf}
 use Rattle.gr_object.specs.PackagesView.{package_in}
 use Rattle.gr_compile.specs.Units.{AreFilesOf, IsReadBy, within, beyond}
@@ -25,24 +25,24 @@ pub record IsAmong (w : Workspace) (numbers : List ℕ) (q : List ℕ) : Type 0 
   pub has_path : slice_get (package_paths w) place ≡ Some q
 
 -- what the declarations in the files of q are called is known
-pub record IsCalled (packages : Packages) (q : List ℕ) (files : List SourceFile) : Type 0 where
-  pub names : PackageNames
+pub record IsCalled (packages : CalledPackages) (q : List ℕ) (files : List SourceFile) : Type 0 where
+  pub names : CalledNames
   pub known : package_in packages q ≡ Some names
   pub are_names : AreNamesOf q files names
 
 -- that is so of one of these packages; of any other path nothing is known
-abbrev pub IsNamed : Workspace → List ℕ → Packages → List ℕ → List SourceFile → Type 0
+abbrev pub IsNamed : Workspace → List ℕ → CalledPackages → List ℕ → List SourceFile → Type 0
 IsNamed w numbers packages q files =
     (IsAmong w numbers q × AreFilesOf w q files × IsCalled packages q files)
     ⊎ ((IsAmong w numbers q → ⊥) × (files ≡ []) × (package_in packages q ≡ None))
 
-pub record AreNamed (w : Workspace) (numbers : List ℕ) (packages : Packages) : Type 0 where
+pub record AreNamed (w : Workspace) (numbers : List ℕ) (packages : CalledPackages) : Type 0 where
   pub files_of : List ℕ → List SourceFile
   pub each : (q : List ℕ) → IsNamed w numbers packages q (files_of q)
 
 -- no package yet
 
-pub none_named : (w : Workspace) (numbers : List ℕ) (packages : Packages) → numbers ≡ [] → ((q : List ℕ) → package_in packages q ≡ None) →
+pub none_named : (w : Workspace) (numbers : List ℕ) (packages : CalledPackages) → numbers ≡ [] → ((q : List ℕ) → package_in packages q ≡ None) →
     AreNamed w numbers packages
 none_named w numbers packages e none = record {
   files_of = λ q. [];
@@ -58,7 +58,7 @@ one_more (inr other) here there = there
 
 module _ (w : Workspace) (xs ys : List ℕ) (n : ℕ) (q : List ℕ) (at : slice_get (package_paths w) n ≡ Some q)
     (more : (m : ℕ) → Contains ys m → Contains xs m ⊎ (n ≡ m)) (keeps : (m : ℕ) → Contains xs m → Contains ys m) (here : Contains ys n)
-    (old new : Packages) (files : List SourceFile) (are : AreFilesOf w q files) (called : IsCalled new q files)
+    (old new : CalledPackages) (files : List SourceFile) (are : AreFilesOf w q files) (called : IsCalled new q files)
     (elsewhere : (r : List ℕ) → (r ≡ q → ⊥) → package_in new r ≡ package_in old r) where
   still : (r : List ℕ) → IsAmong w xs r → IsAmong w ys r
   still r s = record { place = s.place; among = keeps s.place s.among; has_path = s.has_path }
@@ -90,7 +90,7 @@ module _ (w : Workspace) (xs ys : List ℕ) (n : ℕ) (q : List ℕ) (at : slice
 
 -- all packages of the closure
 
-module _ (w : Workspace) (p : List ℕ) (numbers : List ℕ) (packages : Packages) (holds : HoldsPackages w (IsInClosure w p) numbers) where
+module _ (w : Workspace) (p : List ℕ) (numbers : List ℕ) (packages : CalledPackages) (holds : HoldsPackages w (IsInClosure w p) numbers) where
   read_by : (q : List ℕ) (files : List SourceFile) → IsNamed w numbers packages q files → IsReadBy w p q files
   read_by q files h = elim h [
     | inl s ↦ (
@@ -104,8 +104,8 @@ module _ (w : Workspace) (p : List ℕ) (numbers : List ℕ) (packages : Package
   named_by : (q : List ℕ) (files : List SourceFile) → IsNamed w numbers packages q files →
       MatchOption (package_in packages q) (files ≡ []) (λ names. AreNamesOf q files names)
   named_by q files h = elim h [
-    | inl s ↦ subst (λ (o : Option PackageNames). MatchOption o (files ≡ []) (λ names. AreNamesOf q files names)) (sym s.2.known) s.2.are_names
-    | inr s ↦ subst (λ (o : Option PackageNames). MatchOption o (files ≡ []) (λ names. AreNamesOf q files names)) (sym s.2) s.1
+    | inl s ↦ subst (λ (o : Option CalledNames). MatchOption o (files ≡ []) (λ names. AreNamesOf q files names)) (sym s.2.known) s.2.are_names
+    | inr s ↦ subst (λ (o : Option CalledNames). MatchOption o (files ≡ []) (λ names. AreNamesOf q files names)) (sym s.2) s.1
   ]
 
   pub all_named : AreNamed w numbers packages → HaveNamesBelow w p packages

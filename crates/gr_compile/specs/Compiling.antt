@@ -14,7 +14,7 @@ use Rattle.gr_verdict.specs.FaultLists.{AreListed}
 use Rattle.gr_verdict.specs.Found.{KnowsVerdicts}
 use Rattle.gr_verdict.specs.Told.{known_by, AreWhole, AreUsesOf}
 use Rattle.gr_verdict.specs.Verdicts.{Verdicts, IsFaultBy, IsPackageIn, IsVerdict, AreVerdictsBelow}
-use Rattle.gr_object.specs.declared.packages.Packages.{Packages}
+use Rattle.gr_object.specs.declared.packages.CalledPackages.{CalledPackages}
 use Rattle.gr_object.specs.ObjectView.{HaveNames}
 use Rattle.gr_object.specs.Sources.{IsObjectText}
 use Rattle.gr_compile.specs.declared.compiling.Made.{Made}
@@ -22,7 +22,7 @@ use Rattle.gr_compile.specs.declared.unit.Unit.{Unit as PackageUnit}
 use Rattle.gr_compile.specs.Units.{AreFilesBelow, IsUnitIn, IsUnitOf, KnowsOnly, unit_value, Faults}
 
 -- what the declarations of the packages in the closure of p are called
-pub record HaveNamesBelow (w : Workspace) (p : List ℕ) (packages : Packages) : Type 0 where
+pub record HaveNamesBelow (w : Workspace) (p : List ℕ) (packages : CalledPackages) : Type 0 where
   pub files_of : List ℕ → List SourceFile
   pub are_files : AreFilesBelow w p files_of
   pub have_names : HaveNames packages files_of

@@ -23,7 +23,7 @@ use gr_expr::world::Definition;
 use gr_graph::{Graph, ParsedPackage as Folder};
 use gr_meanings::Bounds;
 use gr_object::objects::{Faultless, checked_object};
-use gr_object::packages::Packages;
+use gr_object::packages::CalledPackages;
 use gr_scope::table::ScopeTable;
 use gr_text::FileText;
 use gr_types::{Checked, CheckedPackage, check, check_package, table_of};
@@ -54,7 +54,7 @@ fn printed<'a>(
     index: &'a Index<'a>,
     checked: &'a Checked,
     bounds: &mut Bounds,
-    packages: &'a Packages<'a>,
+    packages: &'a CalledPackages<'a>,
 ) -> Result<FileText, AllocError>
     requires index { IsIndexOf (package_of unit) index.now }
     requires bounds { AreBounds (package_of unit) bounds.old.list.items bounds.old.of.items }

@@ -21,7 +21,7 @@ use crate::code::Code;
 use crate::functions::{add_written, body, parameters, results};
 use crate::instructions::{FunctionName, GlobalName};
 use crate::numbered::NumberedUses;
-use crate::packages::Packages;
+use crate::packages::CalledPackages;
 use crate::printing::{
     push_code, push_numbered, push_type, push_type_list, push_types, push_word, push_word_bytes,
     push_word_function, push_word_global, push_word_integer, push_word_type,
@@ -128,7 +128,7 @@ fn defined_as(
 #[tactic(auto, unfolding(crate::specs::DeclarationsView::definition_view))]
 fn push_definition(
     text: &mut Vec<u8>,
-    packages: &Packages<'_>,
+    packages: &CalledPackages<'_>,
     definition: &DefinitionLine,
 ) -> Result<(), AllocError>
     ensures { OnOk result (text.new.items ≡ text.old.items ++ definition_text (type_in packages.now) (definition_view definition.now)) }
@@ -147,7 +147,7 @@ fn push_definition(
 #[tactic(auto, unfolding(crate::specs::ObjectText::declaration_text))]
 fn push_type_line(
     text: &mut Vec<u8>,
-    packages: &Packages<'_>,
+    packages: &CalledPackages<'_>,
     name: GlobalName<'_>,
     definition: &DefinitionLine,
 ) -> Result<(), AllocError>
@@ -263,7 +263,7 @@ fn push_initial(text: &mut Vec<u8>, value: Option<Initial<'_>>) -> Result<(), Al
 #[tactic(auto, unfolding(crate::specs::ObjectText::declaration_text))]
 fn push_variable(
     text: &mut Vec<u8>,
-    packages: &Packages<'_>,
+    packages: &CalledPackages<'_>,
     name: GlobalName<'_>,
     own: &GoType,
     value: Option<Initial<'_>>,
@@ -349,7 +349,7 @@ fn push_var_specs(
 /// Adds the types of the parameters and of the results of a function.
 fn push_signature(
     text: &mut Vec<u8>,
-    packages: &Packages<'_>,
+    packages: &CalledPackages<'_>,
     parameters: &[GoType],
     results: &[GoType],
 ) -> Result<(), AllocError>
@@ -370,7 +370,7 @@ fn push_counts(text: &mut Vec<u8>, slots: usize, lines: usize) -> Result<(), All
 /// Adds the first line of a function with so many lines of code.
 fn push_header(
     text: &mut Vec<u8>,
-    packages: &Packages<'_>,
+    packages: &CalledPackages<'_>,
     signature: &FunctionSignature<'_>,
     lines: usize,
 ) -> Result<(), AllocError>
@@ -385,7 +385,7 @@ fn push_header(
 /// Adds the first line of a function and its code.
 fn push_lines(
     text: &mut Vec<u8>,
-    packages: &Packages<'_>,
+    packages: &CalledPackages<'_>,
     signature: &FunctionSignature<'_>,
     code: &Code<'_>,
 ) -> Result<(), AllocError>

@@ -11,7 +11,7 @@ ghost use Rattle.gr_object.specs.Names.{body_positions, function_behind, functio
 ghost use Rattle.gr_object.specs.NamesView.{AreNamesOf};
 
 use crate::instructions::{FunctionName, GlobalName};
-use crate::packages::PackageNames;
+use crate::packages::CalledNames;
 use gr_declared::{Declared, Function, TypeDef};
 use gr_tree::FileTree;
 use gr_tree::tree::{FieldTree, Item, Receiver, TypeBody};
@@ -218,13 +218,13 @@ fn names_of<'a>(
     path: &'a [u8],
     files: &'a [FileTree],
     declared: Declared<'a>,
-) -> Result<PackageNames<'a>, AllocError>
+) -> Result<CalledNames<'a>, AllocError>
     requires types { map type_of declared.types.items ≡ declared_types (map source_of files.now) }
     requires functions { map placed_function declared.functions.items ≡ declared_functions (map source_of files.now) }
     ensures { IfOk result (λ names. AreNamesOf path.now (map source_of files.now) names) }
 {
     let positions = field_positions(alloc, &declared.types)?;
-    Ok(PackageNames {
+    Ok(CalledNames {
         path,
         files,
         declared,
@@ -232,13 +232,13 @@ fn names_of<'a>(
     })
 }
 
-impl<'a> PackageNames<'a> {
+impl<'a> CalledNames<'a> {
     /// What the declarations of the package of a path are called. Its files are in the order of their paths.
     pub fn of(
         alloc: Global,
         path: &'a [u8],
         files: &'a [FileTree],
-    ) -> Result<PackageNames<'a>, AllocError>
+    ) -> Result<CalledNames<'a>, AllocError>
         ensures { IfOk result (λ names. AreNamesOf path.now (map source_of files.now) names) }
     {
         let declared = Declared::of(alloc, files)?;

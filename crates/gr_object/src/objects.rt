@@ -26,7 +26,7 @@ use crate::declarations::push_decls;
 use crate::imports::push_imports;
 use crate::names::function_names;
 use crate::origin::Origin;
-use crate::packages::{Packages, path_bytes};
+use crate::packages::{CalledPackages, path_bytes};
 use crate::printing::{push_between, push_words};
 use crate::sources::source;
 use gr_declared::{Index, Interfaces, Package, broken_definitions};
@@ -218,7 +218,7 @@ pub fn checked_object<'a>(
     index: &'a Index<'a>,
     bounds: &mut Bounds,
     given: Faultless<'a>,
-    packages: &'a Packages<'a>,
+    packages: &'a CalledPackages<'a>,
 ) -> Result<Vec<u8>, AllocError>
     requires index { IsIndexOf (package_of unit) index.now }
     requires bounds { AreBounds (package_of unit) bounds.old.list.items bounds.old.of.items }
@@ -248,7 +248,7 @@ fn package_text(
     alloc: Global,
     unit: Package<'_>,
     given: Faultless<'_>,
-    packages: &Packages<'_>,
+    packages: &CalledPackages<'_>,
 ) -> Result<Vec<u8>, AllocError>
     requires { AreOwnDefinitions (package_of unit) given.definitions.now }
     ensures { IfOk result (λ text. (files_of : List ℕ → List SourceFile) → AreMemberUses (package_of unit.entry) (map uses_in given.entry.members.now) → HaveNames packages.now files_of → IsObjectText (package_of unit.entry) files_of text.items) }
@@ -276,7 +276,7 @@ fn laid_text(
     given: Faultless<'_>,
     table: &ScopeTable<'_>,
     interfaces: &Interfaces,
-    packages: &Packages<'_>,
+    packages: &CalledPackages<'_>,
 ) -> Result<Vec<u8>, AllocError>
     requires { AreOwnDefinitions (package_in given.path.now (map source_of given.files.now) table.now (interface_in interfaces.now)) given.definitions.now }
     ensures { IfOk result (λ text. (files_of : List ℕ → List SourceFile) → AreMemberUses (package_in given.entry.path.now (map source_of given.entry.files.now) table.now (interface_in interfaces.now)) (map uses_in given.entry.members.now) →
@@ -297,7 +297,7 @@ pub fn object(
     alloc: Global,
     given: Faultless<'_>,
     interfaces: &Interfaces,
-    packages: &Packages<'_>,
+    packages: &CalledPackages<'_>,
 ) -> Result<Vec<u8>, AllocError>
     requires { OwnDefinitionsOf given.path.now given.files.now (known_name interfaces.now) (interface_in interfaces.now) given.definitions.now }
     ensures { IfOk result (λ text. IsObjectTextOf given.entry.path.now given.entry.files.now (known_name interfaces.now) (interface_in interfaces.now) (map uses_in given.entry.members.now) packages.now text.items) }

@@ -1,6 +1,6 @@
 //! What the object of a package comes from.
 use crate::instructions::FunctionName;
-use crate::packages::Packages;
+use crate::packages::CalledPackages;
 use gr_declared::{Index, Package};
 use gr_expr::found::MemberUse;
 use gr_expr::world::Definition;
@@ -13,6 +13,6 @@ pub struct Origin<'a> {
     pub index: &'a Index<'a>,
     pub definitions: &'a [Definition],
     pub members: &'a [Vec<MemberUse>],
-    pub packages: &'a Packages<'a>,
+    pub packages: &'a CalledPackages<'a>,
     pub names: &'a [FunctionName<'a>],
 }

@@ -10,7 +10,7 @@ ghost use Rattle.gr_object.specs.Text.{global_text, function_text, known_text, t
 
 use crate::code::Code;
 use crate::instructions::{FunctionName, GlobalName, Instruction};
-use crate::packages::Packages;
+use crate::packages::CalledPackages;
 use gr_expr::symbol::Symbol;
 use gr_expr::types::{Basic, Builtin, GoType};
 use gr_tree::syntax::BinaryOp;
@@ -114,7 +114,7 @@ fn builtin_name(builtin: Builtin) -> &'static [u8]
 /// Adds the name of a type definition.
 fn push_symbol(
     text: &mut Vec<u8>,
-    packages: &Packages<'_>,
+    packages: &CalledPackages<'_>,
     symbol: &Symbol,
 ) -> Result<(), AllocError>
     ensures { OnOk result (text.new.items ≡ text.old.items ++ known_text (type_in packages.now symbol.now)) }
@@ -129,7 +129,7 @@ fn push_symbol(
 #[tactic(auto, unfolding(gr_expr::specs::View::type_of, crate::specs::Text::type_text))]
 pub fn push_type(
     text: &mut Vec<u8>,
-    packages: &Packages<'_>,
+    packages: &CalledPackages<'_>,
     own: &GoType,
 ) -> Result<(), AllocError>
     ensures { OnOk result (text.new.items ≡ text.old.items ++ type_text (type_in packages.now) (type_of own.now)) }
@@ -151,7 +151,7 @@ pub fn push_type(
 /// Adds a separator and the text of a type.
 fn push_type_behind(
     text: &mut Vec<u8>,
-    packages: &Packages<'_>,
+    packages: &CalledPackages<'_>,
     separator: &[u8],
     own: &GoType,
 ) -> Result<(), AllocError>
@@ -164,7 +164,7 @@ fn push_type_behind(
 /// Adds types, each behind a separator.
 fn push_types_behind(
     text: &mut Vec<u8>,
-    packages: &Packages<'_>,
+    packages: &CalledPackages<'_>,
     separator: &[u8],
     types: &[GoType],
 ) -> Result<(), AllocError>
@@ -179,7 +179,7 @@ fn push_types_behind(
 /// Adds types with a separator between them.
 pub fn push_types(
     text: &mut Vec<u8>,
-    packages: &Packages<'_>,
+    packages: &CalledPackages<'_>,
     separator: &[u8],
     types: &[GoType],
 ) -> Result<(), AllocError>
@@ -195,7 +195,7 @@ pub fn push_types(
 /// Adds a blank and the list of the types of parameters or results.
 pub fn push_type_list(
     text: &mut Vec<u8>,
-    packages: &Packages<'_>,
+    packages: &CalledPackages<'_>,
     types: &[GoType],
 ) -> Result<(), AllocError>
     ensures { OnOk result (text.new.items ≡ text.old.items ++ (codes " " ++ type_list (type_in packages.now) (map type_of types.now))) }
@@ -315,7 +315,7 @@ pub fn push_word_bytes(text: &mut Vec<u8>, word: &[u8], bytes: &[u8]) -> Result<
 /// Adds a word and a type.
 pub fn push_word_type(
     text: &mut Vec<u8>,
-    packages: &Packages<'_>,
+    packages: &CalledPackages<'_>,
     word: &[u8],
     own: &GoType,
 ) -> Result<(), AllocError>
@@ -336,7 +336,7 @@ fn truth_text(truth: bool) -> &'static [u8]
 #[tactic(auto, unfolding(crate::specs::LineView::line_of, crate::specs::Text::words_of))]
 fn push_line_words(
     text: &mut Vec<u8>,
-    packages: &Packages<'_>,
+    packages: &CalledPackages<'_>,
     line: &Instruction<'_>,
 ) -> Result<(), AllocError>
     ensures { OnOk result (text.new.items ≡ text.old.items ++ words_of (type_in packages.now) (line_of line.now)) }
@@ -387,7 +387,7 @@ fn push_line_words(
 /// Adds a line.
 fn push_line(
     text: &mut Vec<u8>,
-    packages: &Packages<'_>,
+    packages: &CalledPackages<'_>,
     line: &Instruction<'_>,
 ) -> Result<(), AllocError>
     ensures { OnOk result (text.new.items ≡ text.old.items ++ ended (words_of (type_in packages.now) (line_of line.now))) }
@@ -399,7 +399,7 @@ fn push_line(
 /// Adds lines of which the last one stands first.
 fn push_lines(
     text: &mut Vec<u8>,
-    packages: &Packages<'_>,
+    packages: &CalledPackages<'_>,
     lines: &[Instruction<'_>],
 ) -> Result<(), AllocError>
     ensures { OnOk result (text.new.items ≡ text.old.items ++ code_text (type_in packages.now) (reverse (map line_of lines.now))) }
@@ -413,7 +413,7 @@ fn push_lines(
 /// Adds all lines of code.
 pub fn push_code(
     text: &mut Vec<u8>,
-    packages: &Packages<'_>,
+    packages: &CalledPackages<'_>,
     code: &Code<'_>,
 ) -> Result<(), AllocError>
     ensures { OnOk result (text.new.items ≡ text.old.items ++ code_text (type_in packages.now) (lines_in code.now)) }

@@ -7,7 +7,7 @@ ghost use Rattle.gr_object.specs.SourceView.{source_of};
 
 use crate::instructions::GlobalName;
 use crate::numbered::NumberedUses;
-use crate::packages::Packages;
+use crate::packages::CalledPackages;
 use gr_expr::found::MemberUse;
 use gr_expr::types::GoType;
 use gr_expr::world::World;
@@ -30,7 +30,7 @@ pub struct Source<'a> {
     pub used: NumberedUses,
     pub marks: Vec<Mark<'a>>,
     pub texts: Vec<Option<Vec<u8>>>,
-    pub packages: &'a Packages<'a>,
+    pub packages: &'a CalledPackages<'a>,
 }
 
 impl<'a> Source<'a> {
