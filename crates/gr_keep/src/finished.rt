@@ -1,15 +1,17 @@
 //! The packages of a workspace that are finished, with their units.
-ghost use Rattle.std.specs.Prelude.{◌≡◌, ◌<◌, IfOk, MatchOption, Some, length, slice_get, slice_set};
+ghost use Rattle.std.specs.Prelude.{◌≡◌, ◌<◌, [], IfOk, MatchOption, Some, length, slice_get, slice_set};
 ghost use Rattle.gr_compile.specs.declared.unit.Unit.{Unit as PackageUnit};
 
+use gr_chunks::SharedList;
 use gr_compile::Unit;
 use std::alloc::{AllocError, Global};
 use std::marker::Model;
 use std::sync::Arc;
 
-/// For each package of a workspace, by its number, its unit if it is finished. A clone shares the table.
+/// For each package of a workspace, by its number, its unit if it is finished. A clone shares the table, and one in which a package more
+/// is finished shares all but a chunk of it.
 pub struct Finished {
-    units: Arc<Vec<Option<Unit>>, Global>,
+    units: Arc<SharedList<Option<Unit>>, Global>,
 }
 
 /// Written out, so that crates above call it and don't prove again how each part is dropped.
@@ -31,12 +33,19 @@ impl Model for Finished {
 
     ghost coded = { Prim.hlevel (codes, unit_code) };
 
-    ghost view = { λ a. (arc_value a.units).items };
+    ghost view = { λ a. arc_value a.units };
 }
 
 impl Finished {
-    pub fn new(alloc: Global, units: Vec<Option<Unit>>) -> Result<Finished, AllocError>
-        ensures { IfOk result (λ table. table ≡ units.items) }
+    /// The table of no package.
+    pub fn new(alloc: Global) -> Result<Finished, AllocError>
+        ensures { IfOk result (λ table. table ≡ []) }
+    {
+        Finished::of(alloc, SharedList::new(alloc))
+    }
+
+    pub(crate) fn of(alloc: Global, units: SharedList<Option<Unit>>) -> Result<Finished, AllocError>
+        ensures { IfOk result (λ table. table ≡ units) }
     {
         let units = Arc::new(alloc, units)?;
         Ok(Finished { units })
@@ -62,10 +71,9 @@ impl Finished {
         requires { number < length self.now }
         ensures { IfOk result (λ table. table ≡ slice_set self.now number (Some unit)) }
     {
-        let units: &Vec<Option<Unit>> = &self.units;
-        let mut units = units.clone()?;
-        units[number] = Some(unit);
-        Finished::new(alloc, units)
+        let mut units = self.units.copy()?;
+        units.set(number, Some(unit))?;
+        Finished::of(alloc, units)
     }
 }
 
