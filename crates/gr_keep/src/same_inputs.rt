@@ -68,7 +68,10 @@ fn is_same_package(graph: &Graph, number: usize, other: &Graph, place: usize) ->
 {
     let own = graph.package(number);
     let there = other.package(place);
-    if own.path.as_slice() != there.path.as_slice() || !are_same_trees(&own.trees, &there.trees) {
+    if own.path.as_slice() != there.path.as_slice() {
+        return false;
+    }
+    if !are_same_trees(&own.trees, &there.trees) {
         return false;
     }
     are_same_faulty(&own.faulty, &there.faulty)
