@@ -1,5 +1,4 @@
 -- The lemmas of this crate.
-pub mod Entries
 pub mod Waits
 pub mod Fresh
 pub mod Settled

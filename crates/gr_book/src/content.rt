@@ -73,7 +73,7 @@ impl Content {
         ensures { IfOk result (λ states. states ≡ content (opening limits)) }
     {
         let files = Graph::of(alloc, Files::new(alloc))?;
-        let finished = Finished::new(alloc, Vec::new(alloc))?;
+        let finished = Finished::new(alloc)?;
         let nothing = Known::new(alloc);
         let known = SharedKnown::new(alloc, nothing)?;
         Ok(Content {

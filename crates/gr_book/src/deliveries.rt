@@ -1,10 +1,17 @@
 //! What a delivery comes to.
-ghost use Rattle.std.specs.Prelude.{◌≡◌, ◌↔◌, IfOk, IsTrue};
+ghost use Rattle.std.specs.Prelude.{◌≡◌, ◌<◌, ◌↔◌, ℕ, Contains, IfOk, IsTrue, List, length};
+ghost use Rattle.std.specs.List.{All};
+ghost use Rattle.std.specs.List.Sorted.{IsStrictlyIncreasing};
+ghost use Rattle.gr_text.specs.Packages.{package_paths};
+ghost use Rattle.gr_graph.specs.Graphs.{HoldsPackages};
+ghost use Rattle.gr_graph.specs.Packages.{IsInClosure};
+ghost use Rattle.gr_compile.specs.Inputs.{AreInputs};
 ghost use Rattle.gr_book.specs.Outcomes.{ComesTo, FindsFresh};
 
 use crate::state::State;
 use gr_compile::{Built, Job};
-use gr_keep::{Finished, SharedKnown, closure_files, learned};
+use gr_graph::Graph;
+use gr_keep::{Finished, SharedKnown, are_inputs, learned};
 use std::alloc::{AllocError, Global};
 
 /// What a delivery comes to.
@@ -22,6 +29,18 @@ fn is_same_package(job: &Job, built: &Built) -> bool
     ensures { IsTrue result ↔ (built.now.package ≡ job.now.package) }
 {
     built.package().path() == job.package().path()
+}
+
+/// Whether a Job, and what was built, are of the inputs of a package, by the numbers of the packages in its closure.
+fn have_inputs(files: &Graph, closure: &[usize], job: &Job, built: &Built) -> bool
+    requires numbers { All (λ number. number < length (package_paths files.now)) closure.now }
+    requires rising { IsStrictlyIncreasing closure.now }
+    ensures { (p : List ℕ) → Contains (package_paths files.now) p → HoldsPackages files.now (IsInClosure files.now p) closure.now → IsTrue result ↔ (AreInputs files.now p job.now.inputs × AreInputs files.now p built.now.inputs) }
+{
+    if !are_inputs(files, closure, job.inputs()) {
+        return false;
+    }
+    are_inputs(files, closure, built.inputs())
 }
 
 /// The number of the package, where what was built may enter the state.
@@ -43,10 +62,8 @@ fn fresh_number(
     let Some(number) = state.files.number_of(job.package().path()) else {
         return Ok(None);
     };
-    let files = closure_files(alloc, &state.files, number)?;
-    let of_job = job.inputs();
-    let of_built = built.inputs();
-    if files.same(of_job.files()) && files.same(of_built.files()) {
+    let closure = state.files.closure(alloc, number)?;
+    if have_inputs(&state.files, closure.as_slice(), job, built) {
         Ok(Some(number))
     } else {
         Ok(None)

@@ -15,11 +15,11 @@ fn is_waiting(state: &State, out: &Out, visit: u64, number: usize) -> bool
     state.finished.get(number).is_none() && !out.is_taken(visit, &state.files.package(number).path)
 }
 
-/// The first package that waits to be built.
+/// The first package that waits to be built. Those at the front of the table that are finished are not looked at.
 pub(crate) fn first_waiting(state: &State, out: &Out, visit: u64) -> Option<usize>
     ensures { FindsWaiting state.now out.now visit result }
 {
-    for number in 0..state.files.len() {
+    for number in state.finished.front()..state.files.len() {
         if is_waiting(state, out, visit, number) {
             return Some(number);
         }

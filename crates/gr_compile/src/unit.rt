@@ -2,6 +2,7 @@
 ghost use Rattle.std.specs.Prelude.{◌≡◌, MatchResult, Ok, Err, IfOk};
 ghost use Rattle.gr_compile.specs.Builds.{result_of};
 
+use gr_chunks::Share;
 use gr_declared::Interfaces;
 use gr_text::FileText;
 use gr_verdict::FileFault;
@@ -80,5 +81,11 @@ impl Clone for Unit {
     fn clone(&self) -> Result<Unit, AllocError> {
         let compiled = Arc::try_clone(&self.compiled)?;
         Ok(Unit { compiled })
+    }
+}
+
+impl Share for Unit {
+    fn share(&self) -> Result<Unit, AllocError> {
+        self.clone()
     }
 }

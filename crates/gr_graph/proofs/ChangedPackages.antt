@@ -128,6 +128,16 @@ module _ (before fresh packages : List ParsedPackage) (k : ℕ) (x : ParsedPacka
         (cases_eq i n);
   }
 
+-- ---- what a package imports is told by its files
+pub moved : (x y : Workspace) (p q : List ℕ) → package_files x p ≡ package_files y p → PackageImports x p q → PackageImports y p q
+moved x y p q same pi = record {
+  entry = pi.entry;
+  of_package = subst (λ es. Contains es pi.entry) same pi.of_package;
+  file = pi.file;
+  parsed = pi.parsed;
+  imports = pi.imports;
+}
+
 -- ---- the packages afterwards
 module _ (v w : Workspace) (before fresh packages : List ParsedPackage) (g : Links) (graph : IsGraph v before g) (differs : DiffersOnlyIn (paths_of fresh) v w)
     (files : All (HasFiles w) fresh) (kept : All (KeepsPath (package_paths v)) fresh) (are : AreReplaced before fresh packages) where
@@ -208,15 +218,6 @@ module _ (v w : Workspace) (before fresh packages : List ParsedPackage) (g : Lin
           λ imports. was.1 (moved w v p q same imports),
         ))
         (are.each i here.0 here.1)
-      where
-        moved : (x y : Workspace) (p q : List ℕ) → package_files x p ≡ package_files y p → PackageImports x p q → PackageImports y p q
-        moved x y p q same pi = record {
-          entry = pi.entry;
-          of_package = subst (λ es. Contains es pi.entry) same pi.of_package;
-          file = pi.file;
-          parsed = pi.parsed;
-          imports = pi.imports;
-        }
 
     pub graph_stays : IsGraph w packages g
     graph_stays = record {

@@ -8,7 +8,7 @@ use Rattle.std.proofs.lemmas.List.Elements.{Contains-get_or, Contains-push, Cont
 use Rattle.gr_graph.specs.Imports.{HoldsBelow}
 
 -- an earlier number is below a later one
-rising_by : (list : List ℕ) → IsStrictlyIncreasing list → (d k j : ℕ) → j ≡ k + d + 1 → j < length list → get_or list k 0 < get_or list j 0
+pub rising_by : (list : List ℕ) → IsStrictlyIncreasing list → (d k j : ℕ) → j ≡ k + d + 1 → j < length list → get_or list k 0 < get_or list j 0
 rising_by list up zero k j e h =
     let next : k + 1 ≡ j = omega arith in
     let step : get_or list (k + 1) 0 ≡ get_or list j 0 = ap (λ i. get_or list i 0) next in

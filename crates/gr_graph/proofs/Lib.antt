@@ -17,6 +17,7 @@ pub mod Linked
 pub mod SameFiles
 pub mod StayingPackages
 pub mod PartPackages
+pub mod PartLinks
 pub mod Asked
 pub mod ChangedPackages
 pub mod Told

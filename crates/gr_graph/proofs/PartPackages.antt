@@ -58,7 +58,7 @@ module _ (old : List ParsedPackage) where
       (suc r.0, omega arith, r.2)
 
   -- place by place
-  at_place : (ns : List ℕ) (ps : List ParsedPackage) → AreNumbered old ns ps → (k : ℕ) → k < length ns →
+  pub at_place : (ns : List ℕ) (ps : List ParsedPackage) → AreNumbered old ns ps → (k : ℕ) → k < length ns →
       slice_get (paths_of old) (get_or ns k 0) ≡ Some (get_or (paths_of ps) k [])
   at_place [] ps are k below = absurd (omega arith)
   at_place (n ∷ ns) [] are k below = absurd are
@@ -110,7 +110,7 @@ folder_found q (e ∷ es) =
 
 -- ---- the files
 module _ (w part : Workspace) (numbers : List ℕ) (has : HasFilesOf w numbers part) where
-  same_package : (q : List ℕ) → IsNumbered w numbers q → package_files part q ≡ package_files w q
+  pub same_package : (q : List ℕ) → IsNumbered w numbers q → package_files part q ≡ package_files w q
   same_package q numbered = one_list (is_of_package q) w part (λ path is.
       let parts = and_parts (is_go path) (pointwise ◌==◌ (folder path) q) is in
       has.same path parts.0 (subst (IsNumbered w numbers) (sym ((bytes_decides (folder path) q).0 parts.1)) numbered))

@@ -23,7 +23,7 @@ use crate::import_links::ImportLinks;
 use crate::package::ParsedPackage;
 use crate::package_list::PackageList;
 use crate::packages::packages;
-use crate::part::numbered;
+use crate::part::{numbered, part_links};
 use crate::rows::rows;
 use crate::shared_links::SharedLinks;
 use crate::shared_package::{SharedPackage, number_of};
@@ -143,7 +143,7 @@ impl Graph {
     }
 
     /// The graph of a part of a workspace: its Go files are exactly those of the packages with some numbers. All packages are
-    /// shared, so no text is looked at and nothing is parsed.
+    /// shared, so no text is looked at and nothing is parsed, and which imports which is told by the numbers.
     pub fn part(
         alloc: Global,
         whole: &Graph,
@@ -157,7 +157,16 @@ impl Graph {
     {
         let whole = &whole.parts;
         let packages = numbered(alloc, &whole.packages, numbers)?;
-        Graph::made(alloc, Some(&whole.links), files, packages)
+        let rows = part_links(alloc, whole.links.links(), numbers)?;
+        let links = SharedLinks::of(alloc, Some(&whole.links), rows)?;
+        let parts = Parts {
+            files,
+            packages,
+            links,
+        };
+        Ok(Graph {
+            parts: Arc::new(alloc, parts)?,
+        })
     }
 
     /// The graph of some files from their packages. What is asked of the links before is not found again where no link

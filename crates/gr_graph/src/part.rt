@@ -1,8 +1,12 @@
-//! Some packages of a graph, by their numbers.
+//! Some packages of a graph, by their numbers, and which of them import which.
 ghost use Rattle.std.specs.Prelude.{◌<◌, length, IfOk};
 ghost use Rattle.std.specs.List.{All};
-ghost use Rattle.gr_graph.specs.Parts.{AreNumbered};
+ghost use Rattle.std.specs.List.Sorted.{IsStrictlyIncreasing};
+ghost use Rattle.gr_graph.specs.Imports.{AreLinked};
+ghost use Rattle.gr_graph.specs.Parts.{AreNumbered, ArePartLinks, ArePlaces, IsAmongPlaces};
 
+use crate::import_links::ImportLinks;
+use crate::package_list::PackageList;
 use crate::shared_package::SharedPackage;
 use std::alloc::{AllocError, Global};
 
@@ -18,6 +22,59 @@ pub(crate) fn numbered(
     let mut part = Vec::new(alloc);
     for number in numbers {
         part.push(packages[*number].clone()?)?;
+    }
+    Ok(part)
+}
+
+/// For each of so many packages its place among those with some numbers, and for the others how many there are of those.
+fn places(alloc: Global, numbers: &[usize], count: usize) -> Result<Vec<usize>, AllocError>
+    requires numbers { All (λ number. number < count) numbers.now }
+    requires rising { IsStrictlyIncreasing numbers.now }
+    ensures { IfOk result (λ places. ArePlaces numbers.now count (length numbers.now) places.items) }
+{
+    let mut places = vec![in alloc; numbers.len(); count]?;
+    for place in 0..numbers.len() {
+        places[numbers[place]] = place;
+    }
+    Ok(places)
+}
+
+/// The places of those of some packages that have one below a number.
+fn among_places(
+    alloc: Global,
+    imports: &[usize],
+    places: &[usize],
+    count: usize,
+) -> Result<PackageList, AllocError>
+    requires { All (λ number. number < length places.now) imports.now }
+    ensures { IfOk result (IsAmongPlaces imports.now places.now count) }
+{
+    let mut row = PackageList::new(alloc);
+    for number in imports {
+        let place = places[*number];
+        if place < count {
+            row.push(place)?;
+        }
+    }
+    Ok(row)
+}
+
+/// For each of the packages with some numbers, those of them that it imports, by their places.
+pub(crate) fn part_links(
+    alloc: Global,
+    links: &ImportLinks,
+    numbers: &[usize],
+) -> Result<Vec<PackageList>, AllocError>
+    requires linked { AreLinked links.now }
+    requires numbers { All (λ number. number < length links.now) numbers.now }
+    requires rising { IsStrictlyIncreasing numbers.now }
+    ensures { IfOk result (λ part. ArePartLinks links.now numbers.now (length numbers.now) part.items) }
+{
+    let places = places(alloc, numbers, links.len())?;
+    let mut part = Vec::new(alloc);
+    for number in numbers {
+        let row = among_places(alloc, links.imports(*number), &places, numbers.len())?;
+        part.push(row)?;
     }
     Ok(part)
 }

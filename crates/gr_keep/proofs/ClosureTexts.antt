@@ -55,7 +55,7 @@ pub package_there : (v w : Workspace) (p : List ℕ) → Contains (package_paths
 package_there v w p has same = to_package w p p (closed_there v w p same p (itself has))
 
 -- ---- the inputs of a package
-inputs_keep : (w : Workspace) (p : List ℕ) (inputs : Workspace) → AreClosureTexts w p (entries inputs) → KeepsClosure w inputs p
+pub inputs_keep : (w : Workspace) (p : List ℕ) (inputs : Workspace) → AreClosureTexts w p (entries inputs) → KeepsClosure w inputs p
 inputs_keep w p inputs texts q c e = (
   λ has.
       let of = passes (λ d. is_of_package q d.0) (entries w) e has in

@@ -4,6 +4,7 @@ pub mod ClosureTexts
 pub mod Learning
 pub mod ClosureFiles
 pub mod PartFiles
+pub mod SameInputs
 pub mod Changed
 pub mod AmongFolders
 pub mod Carrying

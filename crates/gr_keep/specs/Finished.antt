@@ -1,5 +1,5 @@
 -- Which packages of a workspace are finished.
-use Rattle.std.specs.Prelude.{◌≡◌, ℕ, List, Option, Some, slice_get, slice_set}
+use Rattle.std.specs.Prelude.{◌≡◌, ℕ, ◌<◌, List, Option, Some, slice_get, slice_set}
 use Rattle.gr_text.specs.Workspace.{Workspace}
 use Rattle.gr_text.specs.Packages.{package_paths}
 use Rattle.gr_compile.specs.declared.unit.Unit.{Unit as PackageUnit}
@@ -15,3 +15,7 @@ IsFinished w table p unit = (number : ℕ) × (slice_get (package_paths w) numbe
 -- the table in which the package p is finished too, with this unit
 abbrev pub Gains : Workspace → Table → List ℕ → PackageUnit → Table → Type 0
 Gains w old p unit new = (number : ℕ) × (slice_get (package_paths w) number ≡ Some p) × (new ≡ slice_set old number (Some unit))
+
+-- each package below a number is finished
+abbrev pub AreFinishedBelow : Table → ℕ → Type 0
+AreFinishedBelow table front = (i : ℕ) → i < front → (unit : PackageUnit) × (slice_get table i ≡ Some (Some unit))

@@ -1,9 +1,11 @@
--- The files of a package's closure, gathered package by package.
-use Rattle.std.specs.Prelude.{ℕ, ◌↔◌, ◌⊎◌, List}
+-- The files of a package's closure, gathered package by package, or compared with others.
+use Rattle.std.specs.Prelude.{◌≡◌, ℕ, ◌↔◌, ◌⊎◌, true, List, length, Some, slice_get}
+use Rattle.std.specs.FinMap.{entries}
 use Rattle.std.specs.List.{Contains}
+use Rattle.gr_text.specs.Packages.{is_go, package_paths}
 use Rattle.gr_text.specs.Workspace.{Workspace}
 use Rattle.gr_graph.specs.FaultyFiles.{FaultyParts}
-use Rattle.gr_keep.specs.Changes.{HasText}
+use Rattle.gr_keep.specs.Changes.{HasSameFiles, HasText}
 
 -- a file without a tree by its path and its text
 abbrev pub faulty_file : FaultyParts → List ℕ × List ℕ
@@ -17,3 +19,13 @@ IsPartOf v w = (e : List ℕ × List ℕ) → HasText v e → HasText w e
 abbrev pub Adds : List (List ℕ × List ℕ) → (old new : Workspace) → Type 0
 Adds files old new = (w : Workspace) → IsPartOf old w → ((e : List ℕ × List ℕ) → Contains files e → HasText w e) → (e : List ℕ × List ℕ) →
     HasText new e ↔ (HasText old e ⊎ Contains files e)
+
+-- the packages of v are those of w with the numbers, in the order of these, each with the same files
+pub record ArePackages (w : Workspace) (numbers : List ℕ) (v : Workspace) : Type 0 where
+  pub size : length (package_paths v) ≡ length numbers
+  pub each : (i n : ℕ) (p q : List ℕ) → slice_get numbers i ≡ Some n → slice_get (package_paths w) n ≡ Some p → slice_get (package_paths v) i ≡ Some q →
+      (q ≡ p) × HasSameFiles w v p
+
+-- all files are Go files
+abbrev pub AreGoFiles : Workspace → Type 0
+AreGoFiles w = (e : List ℕ × List ℕ) → Contains (entries w) e → is_go e.0 ≡ true

@@ -7,6 +7,7 @@ ghost use Rattle.gr_keep.specs.Changes.{AreMarks, KeepsUnit};
 
 use crate::changes::Marks;
 use crate::finished::Finished;
+use gr_chunks::SharedList;
 use gr_compile::Unit;
 use gr_graph::Graph;
 use gr_verdict::is_marked;
@@ -65,10 +66,10 @@ pub fn carried_units(
     requires after_marks { AreMarks after.now before.now marks.now.after.items }
     ensures { IfOk result (λ table. IsCarried before.now finished.now after.now table) }
 {
-    let mut units = Vec::new(alloc);
+    let mut units = SharedList::new(alloc);
     for number in 0..after.len() {
         let unit = kept_unit(before, finished, after, number, marks)?;
         units.push(unit)?;
     }
-    Finished::new(alloc, units)
+    Finished::of(alloc, units)
 }

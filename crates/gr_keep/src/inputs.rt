@@ -1,9 +1,10 @@
 //! The texts of a package's closure.
-ghost use Rattle.std.specs.Prelude.{◌<◌, IfOk, OnOk, length, map as mapped};
+ghost use Rattle.std.specs.Prelude.{◌<◌, ℕ, IfOk, List, OnOk, length, map as mapped};
 ghost use Rattle.std.specs.FinMap as map;
+ghost use Rattle.std.specs.List.{All};
 ghost use Rattle.gr_text.specs.Packages.{package_files, package_paths};
-ghost use Rattle.gr_graph.specs.Graphs.{OfPackage};
-ghost use Rattle.gr_graph.specs.Packages.{AreClosureTexts};
+ghost use Rattle.gr_graph.specs.Graphs.{HoldsPackages, OfPackage};
+ghost use Rattle.gr_graph.specs.Packages.{AreClosureTexts, IsInClosure};
 ghost use Rattle.gr_compile.specs.Inputs.{AreInputs};
 ghost use Rattle.gr_keep.specs.Inputs.{Adds, faulty_file};
 ghost use Rattle.gr_verdict.specs.Earlier.{tree_file};
@@ -48,15 +49,14 @@ fn add_package(files: &mut Files, graph: &Graph, number: usize) -> Result<(), Al
     Ok(())
 }
 
-/// The files of a package's closure.
-pub fn closure_files(alloc: Global, graph: &Graph, number: usize) -> Result<Files, AllocError>
-    requires { number < length (package_paths graph.now) }
-    ensures { IfOk result (λ files. OfPackage graph.now number (λ p. AreClosureTexts graph.now p (map.entries files))) }
+/// The files of the packages in a package's closure, by their numbers.
+fn closure_files(alloc: Global, graph: &Graph, closure: &[usize]) -> Result<Files, AllocError>
+    requires { All (λ number. number < length (package_paths graph.now)) closure.now }
+    ensures { IfOk result (λ files. (p : List ℕ) → HoldsPackages graph.now (IsInClosure graph.now p) closure.now → AreClosureTexts graph.now p (map.entries files)) }
 {
     let mut files = Files::new(alloc);
-    let closure = graph.closure(alloc, number)?;
-    for other in closure.as_slice() {
-        add_package(&mut files, graph, *other)?;
+    for number in closure {
+        add_package(&mut files, graph, *number)?;
     }
     Ok(files)
 }
@@ -66,7 +66,7 @@ pub fn inputs_of(alloc: Global, graph: &Graph, number: usize) -> Result<Graph, A
     requires { number < length (package_paths graph.now) }
     ensures { IfOk result (λ inputs. OfPackage graph.now number (λ p. AreInputs graph.now p inputs)) }
 {
-    let files = closure_files(alloc, graph, number)?;
     let closure = graph.closure(alloc, number)?;
+    let files = closure_files(alloc, graph, closure.as_slice())?;
     Graph::part(alloc, graph, closure.as_slice(), files)
 }

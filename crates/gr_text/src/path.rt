@@ -15,22 +15,24 @@ use gr_chunks::{Same, Share};
 use std::alloc::{AllocError, Global};
 use std::cmp::Ordering;
 use std::marker::Model;
+use std::sync::Arc;
 
-/// A path of a file or a package, ordered by its bytes.
+/// A path of a file or a package, ordered by its bytes. A clone shares them.
 #[derive(Drop)]
 pub struct Path {
-    text: String,
+    text: Arc<String, Global>,
 }
 
 impl Model for Path {
     ghost use Rattle.std.specs.Prelude.{List, ℕ, string_bytes};
+    ghost use Rattle.std.specs.Arc.{arc_value};
     ghost use Rattle.gr_text.specs.Path.{IsPath};
 
     ghost Value = { List ℕ };
 
-    ghost view = { λ a. string_bytes a.text };
+    ghost view = { λ a. string_bytes (arc_value a.text) };
 
-    ghost invariant = { λ a. IsPath 1 (string_bytes a.text) };
+    ghost invariant = { λ a. IsPath 1 (string_bytes (arc_value a.text)) };
 }
 
 fn is_path_byte(byte: u8) -> bool
@@ -99,6 +101,7 @@ impl Path {
             return Err(Refusal::BadPath);
         }
         let text = text.to_string(alloc)?;
+        let text = Arc::new(alloc, text)?;
         Ok(Path { text })
     }
 
@@ -128,7 +131,7 @@ impl Clone for Path {
     ghost is_clone = { λ path copy. copy ≡ path };
 
     fn clone(&self) -> Result<Path, AllocError> {
-        let text = self.text.clone()?;
+        let text = Arc::try_clone(&self.text)?;
         Ok(Path { text })
     }
 }
@@ -151,7 +154,7 @@ impl PartialEq for Path {
     ghost laws = { Prim.search (comparing, rules) };
 
     fn eq(&self, other: &Path) -> bool {
-        self.text == other.text
+        self.text.as_bytes() == other.text.as_bytes()
     }
 }
 
@@ -179,6 +182,6 @@ impl Ord for Path {
     ghost matches_eq = { Prim.search (comparing, rules) };
 
     fn cmp(&self, other: &Path) -> Ordering {
-        self.text.cmp(&other.text)
+        self.text.as_bytes().cmp(other.text.as_bytes())
     }
 }

@@ -8,7 +8,7 @@ use Rattle.gr_keep.proofs.carried.carried_units.Goals as goal
 
 pub loop-number-preserved : goal.loop-number-preserved
 loop-number-preserved c =
-    rw c.in_ok-push.ensures.items (kept_more c.args.before.now c.args.finished.now c.args.after.now c.loop-number.number c.loop-number.units.items
+    rw c.in_ok-push.ensures.ok (kept_more c.args.before.now c.args.finished.now c.args.after.now c.loop-number.number c.loop-number.units
     c.in_ok-unit.unit c.in_ok-unit.ensures c.loop-number.invariant)
 
 pub returns : goal.returns
@@ -18,5 +18,5 @@ returns c =
     let w = c.args.after.now in
     let all : c.loop-number.number ≡ length (package_paths w) =
     omega (arith, c.loop-number-test.false, c.loop-number.auto.number-end, c.len-number-end.ensures) in
-    let kept = subst (λ (k : ℕ). AreKept v old w k c.loop-number.units.items) all c.loop-number.invariant in
-    ok_both c.new.result (λ t is also. subst (IsCarried v old w) (sym is) (kept_all v old w c.loop-number.units.items kept)) c.new.ensures c.new.ensures
+    let kept = subst (λ (k : ℕ). AreKept v old w k c.loop-number.units) all c.loop-number.invariant in
+    ok_both c.of.result (λ t is also. subst (IsCarried v old w) (sym is) (kept_all v old w c.loop-number.units kept)) c.of.ensures c.of.ensures

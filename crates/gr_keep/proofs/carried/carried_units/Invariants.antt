@@ -3,4 +3,4 @@ use Rattle.gr_keep.proofs.Carrying.{AreKept}
 use Rattle.gr_keep.proofs.carried.carried_units.Given as goal
 
 abbrev pub invariant-loop-number : goal.invariant-loop-number
-invariant-loop-number l = AreKept l.before l.finished l.after l.number l.units.items
+invariant-loop-number l = AreKept l.before l.finished l.after l.number l.units

@@ -13,20 +13,32 @@ use Rattle.gr_graph.proofs.Filled.{ok_both}
 use Rattle.gr_keep.proofs.PartFiles.{closure_files_of}
 use Rattle.gr_keep.proofs.inputs.inputs_of.Goals as goal
 
+pub closure_files-requires : goal.closure_files-requires
+closure_files-requires c =
+    let w = c.args.graph.now in
+    let p = get_or (package_paths w) c.args.number [] in
+    let at = slice_get-get_or (package_paths w) c.args.number [] c.requires in
+    let numbers = c.as_slice.result.now in
+    let holds = subst (HoldsPackages w (IsInClosure w p)) (sym c.as_slice.ensures) (c.in_ok-closure.ensures.closure p at) in
+    λ i d lt.
+    let s = (holds (get_or numbers i d)).0 (Contains-get_or numbers i d lt) in
+    slice_get_within (package_paths w) (get_or numbers i d) s.0 s.1
+
 pub part-requires : goal.part-requires
 part-requires c =
     let w = c.args.graph.now in
     let p = get_or (package_paths w) c.args.number [] in
     let at = slice_get-get_or (package_paths w) c.args.number [] c.requires in
-    let numbers = c.as_slice.result.now in
-    let is = c.as_slice.ensures in
+    let numbers = c.as_slice-2.result.now in
+    let is = c.as_slice-2.ensures in
+    let among = subst (HoldsPackages w (IsInClosure w p)) (sym c.as_slice.ensures) (c.in_ok-closure.ensures.closure p at) in
     let holds = subst (HoldsPackages w (IsInClosure w p)) (sym is) (c.in_ok-closure.ensures.closure p at) in
     record {
       numbers = λ i d lt.
           let s = (holds (get_or numbers i d)).0 (Contains-get_or numbers i d lt) in
           slice_get_within (package_paths w) (get_or numbers i d) s.0 s.1;
       rising = subst IsStrictlyIncreasing (sym is) c.in_ok-closure.ensures.rising;
-      files = closure_files_of w p numbers c.in_ok-files.files (c.in_ok-files.ensures p at) holds;
+      files = closure_files_of w p numbers c.in_ok-files.files (c.in_ok-files.ensures p among) holds;
     }
 
 pub returns : goal.returns
@@ -34,5 +46,6 @@ returns c =
     let w = c.args.graph.now in
     ok_both c.part.result (λ g is also p at. record {
       is_package = at_contains w c.args.number p at;
-      texts = subst (λ (x : Workspace). AreClosureTexts w p (entries x)) (sym is) (c.in_ok-files.ensures p at);
+      texts = subst (λ (x : Workspace). AreClosureTexts w p (entries x)) (sym is) (c.in_ok-files.ensures p
+          (subst (HoldsPackages w (IsInClosure w p)) (sym c.as_slice.ensures) (c.in_ok-closure.ensures.closure p at)));
     }) c.part.ensures c.part.ensures
