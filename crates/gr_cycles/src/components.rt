@@ -39,7 +39,11 @@ fn reversed(alloc: Global, links: &[Vec<usize>]) -> Result<Vec<Vec<usize>>, Allo
 }
 
 /// A search along links, in the order in which one against them left numbers.
-fn along(alloc: Global, links: &[Vec<usize>], back: &[Vec<usize>]) -> Result<RingSearch, AllocError> {
+fn along(
+    alloc: Global,
+    links: &[Vec<usize>],
+    back: &[Vec<usize>],
+) -> Result<RingSearch, AllocError> {
     let order = numbers(alloc, back.len())?;
     let against = search_from(alloc, back, &order)?;
     search_from(alloc, links, &against.left)

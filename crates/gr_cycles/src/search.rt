@@ -59,7 +59,12 @@ impl RingSearch {
     }
 
     /// Looks at a link, or leaves the number that it would lead from.
-    fn look(&mut self, links: &[Vec<usize>], link: SearchLink, turn: usize) -> Result<(), AllocError> {
+    fn look(
+        &mut self,
+        links: &[Vec<usize>],
+        link: SearchLink,
+        turn: usize,
+    ) -> Result<(), AllocError> {
         match row(links, link.from).get(link.place) {
             None => self.left.push(link.from)?,
             Some(to) => self.pass(link, *to, turn)?,

@@ -10,7 +10,7 @@ ghost use Rattle.gr_expr.specs.Found.{meaning_of, argued_of, Adds, AddsPlaces};
 use crate::found::FoundInFile;
 use crate::meaning::{Argued, Meaning, all_whole, result_meaning};
 use crate::places::FaultPlaces;
-use crate::types::{Basic, Builtin, GoType, ValueKind, Signature};
+use crate::types::{Basic, Builtin, GoType, Signature, ValueKind};
 use crate::world::World;
 use std::alloc::{AllocError, Global};
 

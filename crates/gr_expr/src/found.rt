@@ -186,7 +186,13 @@ impl FoundInFile {
     {
         match meaning {
             Meaning::Value { kind, addressable } => match kind {
-                ValueKind::Typed(before) => self.member(alloc, scope.world, name, before, addressable),
+                ValueKind::Typed(before) => self.member(
+                    alloc,
+                    scope.world,
+                    name,
+                    before,
+                    addressable,
+                ),
                 _ => self.wrong(name),
             },
             Meaning::Package => scope.name_meaning(alloc, name),

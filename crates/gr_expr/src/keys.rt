@@ -130,7 +130,11 @@ impl<'w> World<'w> {
 
     /// What the value behind a key has to fit.
     #[tactic(auto, unfolding(crate::specs::Found::key_of))]
-    fn wanted_behind<'a>(&'a self, key: LiteralKey<'a>, literal_type: &'a GoType) -> Option<&'a GoType>
+    fn wanted_behind<'a>(
+        &'a self,
+        key: LiteralKey<'a>,
+        literal_type: &'a GoType,
+    ) -> Option<&'a GoType>
         ensures { option_map (λ t. type_of t.now) result ≡ wanted_behind (key_of key.entry) (underlying (world_of self.now) (type_of literal_type.now)) }
     {
         match key {

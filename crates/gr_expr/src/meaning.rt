@@ -6,7 +6,7 @@ ghost use Rattle.gr_expr.specs.View.{type_of, kind_of};
 ghost use Rattle.gr_expr.specs.Found.{meaning_of, argued_of};
 ghost use Rattle.gr_expr.specs.Types.{Value};
 
-use crate::types::{Builtin, GoType, ValueKind, Signature};
+use crate::types::{Builtin, GoType, Signature, ValueKind};
 use std::alloc::{AllocError, Global};
 
 /// What an expression stands for. `Results` is a call with none or several results; `Broken` is what is or has a fault, or

@@ -5,7 +5,7 @@ ghost use Rattle.gr_expr.specs.Operations.{fits, converts, joined, operate, clas
 ghost use Rattle.gr_expr.specs.View.{type_of, kind_of};
 ghost use Rattle.gr_expr.specs.WorldView.{world_of, shape_of};
 
-use crate::classes::{TypeClass, Family};
+use crate::classes::{Family, TypeClass};
 use crate::types::{Basic, GoType, ValueKind};
 use crate::world::{Shape, World};
 use gr_tree::syntax::BinaryOp;

@@ -27,7 +27,11 @@ impl Model for FaultyFile {
 }
 
 impl FaultyFile {
-    pub(crate) fn new(path: &Path, text: &FileText, fault: TextFault) -> Result<FaultyFile, AllocError>
+    pub(crate) fn new(
+        path: &Path,
+        text: &FileText,
+        fault: TextFault,
+    ) -> Result<FaultyFile, AllocError>
         requires { IsFaultOf text.now fault }
         ensures path { IfOk result (λ file. file.path ≡ path.now) }
         ensures text { IfOk result (λ file. file.text ≡ text.now) }

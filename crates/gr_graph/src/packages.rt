@@ -52,7 +52,11 @@ fn empty_packages(alloc: Global, files: &Files) -> Result<Vec<ParsedPackage>, Al
 }
 
 /// Adds a file to the package of a number.
-fn add_file(packages: &mut Vec<ParsedPackage>, number: usize, file: ParsedFile) -> Result<(), AllocError>
+fn add_file(
+    packages: &mut Vec<ParsedPackage>,
+    number: usize,
+    file: ParsedFile,
+) -> Result<(), AllocError>
     requires { number < vec_len packages.old }
     ensures { OnOk result (AddsFile number file packages.old.items packages.new.items) }
 {

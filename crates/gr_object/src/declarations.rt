@@ -33,7 +33,8 @@ use crate::types::written_type;
 use gr_expr::types::GoType;
 use gr_expr::world::World;
 use gr_tree::tree::{
-    BasicLit, Decl, FieldTree, FuncDecl, Group, Item, TypeBody, TypeExpr, TypeSpec, VarSpec, VarValues,
+    BasicLit, Decl, FieldTree, FuncDecl, Group, Item, TypeBody, TypeExpr, TypeSpec, VarSpec,
+    VarValues,
 };
 use std::alloc::{AllocError, Global};
 

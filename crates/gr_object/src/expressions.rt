@@ -29,7 +29,12 @@ fn is_qualifier(head: OperandPlace<'_>, links: usize) -> bool
 
 impl<'a> SlotScope<'a> {
     /// What an operand behind which links stand is to the code before the link of that number, as that link sees it.
-    fn standing_before(self, head: OperandPlace<'a>, links: &[Link], number: usize) -> OperandPlace<'a>
+    fn standing_before(
+        self,
+        head: OperandPlace<'a>,
+        links: &[Link],
+        number: usize,
+    ) -> OperandPlace<'a>
         requires { number ≤ length links.now }
         ensures { (o : operands.Operand) → before_link o.standing ≡ before_link (standing_of head.entry) →
             before_link (linked (source_of self.entry.source.now) self.entry.slots.now.places.items o (links_in (take number links.now))).standing ≡ before_link (standing_of result) }
@@ -102,7 +107,11 @@ fn put_prefix(op: PrefixOp, want: Wanted, code: &mut Code<'_>) -> Result<(), All
 
 /// Puts the line of a call with so many arguments of what stands so.
 #[tactic(auto, unfolding(crate::specs::LineView::line_of, crate::specs::Operands::calling, crate::specs::Making::standing_of))]
-fn put_call<'a>(standing: OperandPlace<'a>, count: usize, code: &mut Code<'a>) -> Result<(), AllocError>
+fn put_call<'a>(
+    standing: OperandPlace<'a>,
+    count: usize,
+    code: &mut Code<'a>,
+) -> Result<(), AllocError>
     requires { count < 2 ^ 63 }
     ensures { OnOk result (Puts (calling count (standing_of standing.entry)) code.old code.new) }
 {

@@ -35,7 +35,11 @@ fn result_count(results: &Results) -> usize
 
 /// The code of a function's body.
 #[tactic(auto, unfolding(gr_tree::specs::FileView::func_view, crate::specs::LineView::line_of))]
-pub fn body<'a>(alloc: Global, scope: SlotScope<'a>, func: &FuncDecl) -> Result<Code<'a>, AllocError>
+pub fn body<'a>(
+    alloc: Global,
+    scope: SlotScope<'a>,
+    func: &FuncDecl,
+) -> Result<Code<'a>, AllocError>
     ensures { IfOk result (λ code. lines_in code ≡ body_lines (source_of scope.entry.source.now) scope.entry.slots.now.places.items (length (result_types (func_view func.now).result)) (func_view func.now).body) }
 {
     let mut code = Code::new(alloc);

@@ -41,7 +41,8 @@ impl<'a> SlotScope<'a> {
         ensures { standing_of result ≡ (bound_name (source_of self.entry.source.now) self.entry.slots.now.places.items token (bound_of bound.now)).standing }
     {
         match bound {
-            Bound::Local(_) | Bound::Variable(_) | Bound::Truth | Bound::Nil => OperandPlace::Values(1),
+            Bound::Local(_) | Bound::Variable(_) | Bound::Truth | Bound::Nil =>
+                OperandPlace::Values(1),
             Bound::TypeName(_) => OperandPlace::Converts,
             Bound::Function(signature) => OperandPlace::of_function(
                 self.plain_function(token),
@@ -50,9 +51,8 @@ impl<'a> SlotScope<'a> {
             ),
             Bound::Builtin(builtin) => OperandPlace::Predeclared(*builtin),
             Bound::Package => OperandPlace::Qualifies,
-            Bound::BrokenVariable | Bound::BrokenFunction | Bound::BrokenType => OperandPlace::Values(
-                0,
-            ),
+            Bound::BrokenVariable | Bound::BrokenFunction | Bound::BrokenType =>
+                OperandPlace::Values(0),
         }
     }
 

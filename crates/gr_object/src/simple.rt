@@ -40,7 +40,11 @@ pub fn values<'a>(
 
 /// Puts the line of a local that is declared with a value; a `_` drops it.
 #[tactic(auto, unfolding(crate::specs::LineView::line_of))]
-fn put_set_name<'a>(scope: SlotScope<'a>, ident: &Ident, code: &mut Code<'a>) -> Result<(), AllocError>
+fn put_set_name<'a>(
+    scope: SlotScope<'a>,
+    ident: &Ident,
+    code: &mut Code<'a>,
+) -> Result<(), AllocError>
     ensures { OnOk result (Puts (set_name scope.entry.slots.now.places.items (ident_view ident.now)) code.old code.new) }
 {
     match ident {
@@ -65,7 +69,11 @@ fn put_set_names<'a>(
 
 /// Puts the line of the local that a name is bound to.
 #[tactic(auto, unfolding(gr_expr::specs::WorldView::bound_of))]
-fn put_set_bound<'a>(scope: SlotScope<'a>, bound: &Bound, code: &mut Code<'a>) -> Result<(), AllocError>
+fn put_set_bound<'a>(
+    scope: SlotScope<'a>,
+    bound: &Bound,
+    code: &mut Code<'a>,
+) -> Result<(), AllocError>
     ensures { OnOk result (Puts (set_bound scope.entry.slots.now.places.items (bound_of bound.now)) code.old code.new) }
 {
     match bound {
@@ -86,7 +94,11 @@ fn put_set_at<'a>(scope: SlotScope<'a>, place: usize, code: &mut Code<'a>) -> Re
 
 /// Puts the line of a left side of `:=`.
 #[tactic(auto, unfolding(crate::specs::LineView::line_of, crate::specs::Statements::set_left, gr_tree::specs::View::expr_view))]
-fn put_set_left<'a>(scope: SlotScope<'a>, left: &Expr, code: &mut Code<'a>) -> Result<(), AllocError>
+fn put_set_left<'a>(
+    scope: SlotScope<'a>,
+    left: &Expr,
+    code: &mut Code<'a>,
+) -> Result<(), AllocError>
     ensures { OnOk result (Puts (set_left (source_of scope.entry.source.now) scope.entry.slots.now.places.items (expr_view left.now)) code.old code.new) }
 {
     match left {

@@ -235,7 +235,11 @@ fn add_statement(
 
 /// Adds the locals of a block.
 #[cycle(places)]
-fn add_block(places: &mut Vec<usize>, world: &World<'_>, block: &BlockTree) -> Result<(), AllocError>
+fn add_block(
+    places: &mut Vec<usize>,
+    world: &World<'_>,
+    block: &BlockTree,
+) -> Result<(), AllocError>
     ensures { OnOk result (places.new.items ≡ places.old.items ++ block_places (world_of world.now) (block_view block.now)) }
 {
     for item in &block.statements {

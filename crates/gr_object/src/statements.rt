@@ -15,7 +15,7 @@ use crate::instructions::Instruction;
 use crate::operands::Wanted;
 use crate::scope::SlotScope;
 use crate::simple::{init, locals, optional, simple, values};
-use gr_tree::tree::{BlockTree, BlockItem, Else, Expr, ExprItem, ForHeader, IfStmt, Stmt};
+use gr_tree::tree::{BlockItem, BlockTree, Else, Expr, ExprItem, ForHeader, IfStmt, Stmt};
 use std::alloc::{AllocError, Global};
 
 /// How many lines lie behind where `continue` and `break` lead.

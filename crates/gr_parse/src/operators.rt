@@ -13,7 +13,7 @@ ghost use Rattle.gr_parse.specs.Grouping.{IsOperand};
 
 use crate::parse_error::ParseError;
 use crate::take::{LIMIT, Parsed, binary_op, misplaced, next, prefix_op};
-use gr_tree::syntax::{BinaryOp, TokenFaultKind, Kind, PrefixOp, Token};
+use gr_tree::syntax::{BinaryOp, Kind, PrefixOp, Token, TokenFaultKind};
 use gr_tree::tree::Expr;
 
 /// How strongly an operator binds, from 1 to 5.

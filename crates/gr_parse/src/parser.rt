@@ -12,8 +12,8 @@ use crate::kinds::{kinds_of, place_of};
 use crate::parse_error::ParseError;
 use crate::refusal::ParseRefusal;
 use crate::take::misplaced;
-use gr_scan::{TextFault, Pieces};
-use gr_tree::syntax::{TokenFaultKind, Token};
+use gr_scan::{Pieces, TextFault};
+use gr_tree::syntax::{Token, TokenFaultKind};
 use gr_tree::tree::File;
 use std::alloc::{AllocError, Global};
 

@@ -20,7 +20,7 @@ use crate::simple::{exprs, simple};
 use crate::take::{Parsed, at, expect, open, separator};
 use crate::words::Setting;
 use gr_tree::syntax::{Kind, Token};
-use gr_tree::tree::{BlockTree, BlockItem, Else, ExprItem, IfStmt, LocalSpec, Stmt};
+use gr_tree::tree::{BlockItem, BlockTree, Else, ExprItem, IfStmt, LocalSpec, Stmt};
 use std::alloc::Global;
 use std::mem::drop;
 

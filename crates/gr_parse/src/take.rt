@@ -7,7 +7,7 @@ ghost use Rattle.gr_parse.specs.Machine.{at};
 ghost use Rattle.gr_tree.specs.Flatten.{sign};
 
 use crate::parse_error::ParseError;
-use gr_tree::syntax::{BinaryOp, TokenFaultKind, Kind, PrefixOp, Token};
+use gr_tree::syntax::{BinaryOp, Kind, PrefixOp, Token, TokenFaultKind};
 
 /// How many levels may be open at once.
 pub const LIMIT: u32 = 200;

@@ -24,6 +24,6 @@ pub use keywords::Keyword;
 pub use operators::Operator;
 pub use piece::{Class, Piece};
 pub use pieces::Pieces;
-pub use refusal::{TextFault, ScanRefusal};
+pub use refusal::{ScanRefusal, TextFault};
 pub use scanner::scan;
 pub use string_values::string_value;

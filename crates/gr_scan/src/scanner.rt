@@ -8,7 +8,7 @@ use crate::encoding::encoding_fault;
 use crate::front::front;
 use crate::piece::{Class, Piece};
 use crate::pieces::Pieces;
-use crate::refusal::{TextFault, ScanRefusal};
+use crate::refusal::{ScanRefusal, TextFault};
 use crate::tokens::{add_piece, semicolon};
 use crate::trail::Trail;
 use gr_text::{FaultKind, FileText, Span};

@@ -141,7 +141,7 @@ module _ {S : Type 0} (l : Layout) (names : Names) (d : ℕ) (last after : Index
       AreLinks l names after new
   links_without s e h m same =
       let kept : (x : IndexMap LinkKey ℕ S) → x ≡ last → (key : LinkKey) →
-          IsLastBelow (Leads l names) (keys_of l names) (key_of key) d (get equal.ghosts.eq last key) →
+      IsLastBelow (Leads l names) (keys_of l names) (key_of key) d (get equal.ghosts.eq last key) →
       IsLastBelow (Leads l names) (keys_of l names) (key_of key) (d + 1) (get equal.ghosts.eq x key) = λ x ex key below.
       (let P : IndexMap LinkKey ℕ S → Type 0 = λ y. IsLastBelow (Leads l names) (keys_of l names) (key_of key) (d + 1) (get equal.ghosts.eq y key) in
       subst P (sym ex) (last_kept (Leads l names) (keys_of l names) (key_of key) d (get equal.ghosts.eq last key) m below)) in

@@ -143,7 +143,11 @@ fn judge_alone<'w>(
 
 /// Notes what may not stand as a statement; nothing again where it is broken.
 #[tactic(auto, unfolding(gr_expr::specs::Found::meaning_of, crate::specs::Simple::stands_faults))]
-fn require_statement(place: usize, alone: Alone<'_>, found: &mut FoundInFile) -> Result<(), AllocError>
+fn require_statement(
+    place: usize,
+    alone: Alone<'_>,
+    found: &mut FoundInFile,
+) -> Result<(), AllocError>
     ensures { OnOk result (Notes (stands_faults place alone.entry.stands (meaning_of alone.entry.meaning)) found.old found.new) }
 {
     if alone.stands || matches!(alone.meaning, Meaning::Broken) {

@@ -18,7 +18,7 @@ loop-number-init c = record {
   finds = λ first h. h;
   noted =
       notes_none c.args.found.now.items c.args.marks.now.items (Contains (take 0 c.imports_of-number-items.result.now))
-          (λ q has. absurd (omega (arith, has.1)));
+      (λ q has. absurd (omega (arith, has.1)));
 }
 
 pub note-requires : goal.note-requires

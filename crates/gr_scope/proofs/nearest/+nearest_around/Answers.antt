@@ -27,7 +27,7 @@ returns-in-Some t c =
     let N : Option ℕ → Type 0 = λ x. IsNearest l (IsCandidate l names (c.args.name ∷ []) (λ r. r ≡ regions.Run c.place_at-file.result.file rest c.args.at)
     c.args.u) x in
     around_here l c.requires.laid_out.well_formed names (c.args.name ∷ []) c.args.u (l.place c.args.u).file c.args.sizes rest c.args.at c.in-Some.d
-        (omega arith)
+    (omega arith)
     (subst F c.place_at-file.ensures (subst N c.in-Some.is c.nearest_in-else-sizes-eq0.ensures))
 
 pub returns-in-None : goal.returns-in-None

@@ -19,7 +19,7 @@ returns c =
     let B : List ℕ → Type 0 = λ n. IsNearest l (IsCandidate l names n (λ r. r ≡ regions.Package) u) c.nearest_in-outside.result in
     nearest_binds l c.requires.laid_out.well_formed names (names u) u c.nearer.result
     (nearest_of_both l (nests l c.requires.laid_out.well_formed) names (names u) u (Surrounds (l.place u).file 6 ((l.place u).index / 16))
-        (λ r. r ≡ regions.Package)
+    (λ r. r ≡ regions.Package)
     c.around-around.result c.nearest_in-outside.result c.nearer.result (subst A is c.around-around.ensures)
     (subst B is c.nearest_in-outside.ensures) c.nearer.ensures)
 
