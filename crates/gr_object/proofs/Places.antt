@@ -35,7 +35,8 @@ block_from w (Block' o shape row c) =
     ap (λ b. places_of_each w b.statements.items) (outs-BlockStmt' o shape row c) ∙
     (ap (places_of_each w) (items_shown-the_row-BlockItem-0 shape row) ∙ each_row w row)
 
-pub block_read : (w : World) (b : trees.BlockStmt) (xs : List BlockItem) → xs ≡ (out-BlockStmt b).statements.items → places_of_each w xs ≡ block_places w (block_view b)
+pub block_read : (w : World) (b : trees.BlockStmt) (xs : List BlockItem) → xs ≡ (out-BlockStmt b).statements.items →
+    places_of_each w xs ≡ block_places w (block_view b)
 block_read w b xs e = ap (places_of_each w) e ∙ block_from w b
 
 pub if_from : (w : World) (i : IfStmt) →

@@ -62,7 +62,8 @@ statement_row s b close end_of-BlockItem = refl
 statement_row s b close (more_of-BlockItem x p rest) = ap (λ z. statement_sites s b (unwrap_or p close) (stmt_view x) ++ z) (statement_row s b close rest)
 
 block_from : (s : Source) (x : trees.BlockStmt) →
-    flat_map (statement_part s (blocks.Inner s.rank (out-BlockStmt x).«open» (out-BlockStmt x).close) (out-BlockStmt x).close) (out-BlockStmt x).statements.items ≡
+    flat_map (statement_part s (blocks.Inner s.rank (out-BlockStmt x).«open» (out-BlockStmt x).close) (out-BlockStmt x).close)
+        (out-BlockStmt x).statements.items ≡
     block_sites s (block_view x)
 unfolding block_sites block_view
 block_from s (Block' o shape row c) =
@@ -72,7 +73,8 @@ block_from s (Block' o shape row c) =
 
 pub block_read : (s : Source) (x : trees.BlockStmt) (xs : List BlockItem) → xs ≡ (out-BlockStmt x).statements.items →
     flat_map (statement_part s (blocks.Inner s.rank (out-BlockStmt x).«open» (out-BlockStmt x).close) (out-BlockStmt x).close) xs ≡ block_sites s (block_view x)
-block_read s x xs e = ap (flat_map (statement_part s (blocks.Inner s.rank (out-BlockStmt x).«open» (out-BlockStmt x).close) (out-BlockStmt x).close)) e ∙ block_from s x
+block_read s x xs e = ap (flat_map (statement_part s (blocks.Inner s.rank (out-BlockStmt x).«open» (out-BlockStmt x).close) (out-BlockStmt x).close)) e ∙
+    block_from s x
 
 pub if_from : (s : Source) (q : ℕ) (x : IfStmt) →
     sites_if (init_sites s (blocks.Inner s.rank (out-IfStmt x).at q)) (option_view init_view (out-IfStmt x).init) ++
