@@ -27,9 +27,9 @@ use Rattle.gr_tree.specs.declared.tree.LocalSpec.{LocalSpec}
 use Rattle.gr_tree.specs.declared.tree.Group.{Group}
 use Rattle.gr_tree.specs.declared.tree.Group.TheVariants as group
 use Rattle.gr_tree.specs.declared.tree.BlockItem.{BlockItem}
-use Rattle.gr_tree.specs.declared.tree.BlockTree as trees
-use Rattle.gr_tree.specs.declared.tree.BlockTree.{BlockTree', out-BlockTree, outs-BlockTree', Row_of-BlockItem, end_of-BlockItem, more_of-BlockItem}
-use Rattle.gr_tree.specs.declared.tree.BlockTree.{items-the_row-BlockItem, items_shown-the_row-BlockItem-0}
+use Rattle.gr_tree.specs.declared.tree.BlockStmt as trees
+use Rattle.gr_tree.specs.declared.tree.BlockStmt.{BlockStmt', out-BlockStmt, outs-BlockStmt', Row_of-BlockItem, end_of-BlockItem, more_of-BlockItem}
+use Rattle.gr_tree.specs.declared.tree.BlockStmt.{items-the_row-BlockItem, items_shown-the_row-BlockItem-0}
 use Rattle.gr_tree.specs.declared.tree.IfStmt.{IfStmt, IfStmt', out-IfStmt, outs-IfStmt'}
 
 abbrev pub expr_part : Source → ExprItem → List Site

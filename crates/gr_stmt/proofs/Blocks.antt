@@ -3,9 +3,9 @@ use Rattle.std.proofs.Common.{◌≡◌, List, [], ◌∷◌, ap, ◌∙◌, ref
 use Rattle.gr_tree.specs.View.{expr_view, option_view}
 use Rattle.gr_tree.specs.FileView.{init_view, stmt_view, block_view, statements_view, if_view, else_view}
 use Rattle.gr_tree.specs.declared.tree.BlockItem.{BlockItem}
-use Rattle.gr_tree.specs.declared.tree.BlockTree as trees
-use Rattle.gr_tree.specs.declared.tree.BlockTree.{BlockTree', out-BlockTree, outs-BlockTree', Row_of-BlockItem, end_of-BlockItem, more_of-BlockItem}
-use Rattle.gr_tree.specs.declared.tree.BlockTree.{items-the_row-BlockItem, items_shown-the_row-BlockItem-0}
+use Rattle.gr_tree.specs.declared.tree.BlockStmt as trees
+use Rattle.gr_tree.specs.declared.tree.BlockStmt.{BlockStmt', out-BlockStmt, outs-BlockStmt', Row_of-BlockItem, end_of-BlockItem, more_of-BlockItem}
+use Rattle.gr_tree.specs.declared.tree.BlockStmt.{items-the_row-BlockItem, items_shown-the_row-BlockItem-0}
 use Rattle.gr_tree.specs.declared.tree.IfStmt.{IfStmt, IfStmt', out-IfStmt, outs-IfStmt'}
 use Rattle.gr_expr.specs.World.{World}
 use Rattle.gr_stmt.specs.Checked.{Checked}

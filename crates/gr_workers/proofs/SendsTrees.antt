@@ -22,7 +22,7 @@ use Rattle.gr_tree.specs.contracts.file_tree.FileTree.{the_row as file_tree}
 use Rattle.gr_scan.specs.contracts.trail.Trail.{the_type as trail_type}
 use Rattle.gr_tree.specs.contracts.tree.SimpleStmt.{enum as simple_enum, the_type as simple_type, the_field as simple_field}
 use Rattle.gr_tree.specs.contracts.tree.ForHeader.{the_type as header_type, the_field as header_field}
-use Rattle.gr_tree.specs.contracts.tree.BlockTree.{the_field as block_field}
+use Rattle.gr_tree.specs.contracts.tree.BlockStmt.{the_field as block_field}
 use Rattle.gr_tree.specs.contracts.tree.FuncDecl.{the_type as func_type}
 use Rattle.gr_tree.specs.contracts.tree.Decl.{enum as decl_enum}
 use Rattle.gr_text.proofs.path.Path.TheSendSync.{the_send as Path-send, the_sync as Path-sync}

@@ -6,7 +6,7 @@ use Rattle.gr_scope.specs.Found.{source_of}
 use Rattle.gr_scope.proofs.Adding.{adds_none, adds_as, call_adds, then_adds, three_then_adds, each_step, each_all}
 use Rattle.gr_scope.proofs.StatementParts.{for_from, block_read, if_from}
 use Rattle.gr_scope.specs.declared.model.Block.TheVariants as blocks
-use Rattle.gr_tree.specs.declared.tree.BlockTree.{out-BlockTree}
+use Rattle.gr_tree.specs.declared.tree.BlockStmt.{out-BlockStmt}
 use Rattle.gr_tree.specs.View.{exprs_view}
 use Rattle.gr_tree.specs.FileView.{stmt_view, if_view, else_view}
 use Rattle.gr_scope.proofs.statements.+statement.Goals as goal

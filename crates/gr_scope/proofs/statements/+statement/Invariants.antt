@@ -3,7 +3,7 @@ use Rattle.std.proofs.Common.{take}
 use Rattle.std.specs.List.{flat_map}
 use Rattle.gr_scope.specs.Found.{source_of, Adds}
 use Rattle.gr_scope.proofs.StatementParts.{statement_part}
-use Rattle.gr_tree.specs.declared.tree.BlockTree.{out-BlockTree}
+use Rattle.gr_tree.specs.declared.tree.BlockStmt.{out-BlockStmt}
 use Rattle.gr_scope.proofs.statements.+statement.Given as goal
 
 abbrev pub invariant-add_block-loop-item : goal.invariant-add_block-loop-item
