@@ -9,7 +9,7 @@ use Rattle.gr_tree.specs.declared.tree.ForHeader.TheVariants as for
 use Rattle.gr_tree.specs.declared.tree.Stmt.TheVariants as stmt
 use Rattle.gr_tree.specs.declared.tree.Else.{Else}
 use Rattle.gr_tree.specs.declared.tree.Else.TheBlock.{hidden-the_row-BlockItem-0}
-use Rattle.gr_tree.specs.declared.tree.Else.TheViews.{roll-Block, roll-IfStmt}
+use Rattle.gr_tree.specs.declared.tree.Else.TheViews.{roll-BlockStmt, roll-IfStmt}
 use Rattle.gr_tree.specs.declared.tree.Else.TheVariants as else
 use Rattle.gr_tree.specs.declared.tree.BlockStmt.{BlockStmt, Row_of-BlockItem, end_of-BlockItem, more_of-BlockItem, items-the_row-BlockItem}
 use Rattle.gr_tree.specs.declared.tree.BlockStmt.{items_hidden-the_row-BlockItem-0}

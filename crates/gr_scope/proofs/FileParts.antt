@@ -90,21 +90,23 @@ func_parts s f o c role ps =
     (list_sites (param_sites s (Inner s.rank o c) o) (list_view param_view ps) ++
     (result_sites s (results_view f.results) ++ block_sites s (block_view f.body))))
 
-close_from : (x : trees.Block) → (out-Block x).close ≡ close_of (block_view x)
+close_from : (x : trees.BlockStmt) → (out-BlockStmt x).close ≡ close_of (block_view x)
 unfolding block_view
-close_from (Block' o shape row c) = ap (λ r. r.close) (outs-Block' o shape row c)
+close_from (BlockStmt' o shape row c) = ap (λ r. r.close) (outs-BlockStmt' o shape row c)
 
 pub func_read : (s : Source) (f : FuncDecl) (role : Role) (ps : List (Item Param)) →
     role ≡ func_role (option_view receiver_view f.receiver) (s.spell f.name) → ps ≡ f.params.items →
-    sites_if (receiver_sites s (Inner s.rank (out-Block f.body).«open» (out-Block f.body).close) (out-Block f.body).«open»)
+    sites_if (receiver_sites s (Inner s.rank (out-BlockStmt f.body).«open» (out-BlockStmt f.body).close) (out-BlockStmt f.body).«open»)
     (option_view receiver_view f.receiver) ++ (site s f.name role ∷
-    (list_sites (param_sites s (Inner s.rank (out-Block f.body).«open» (out-Block f.body).close) (out-Block f.body).«open») (list_view param_view ps) ++
+    (list_sites (param_sites s (Inner s.rank (out-BlockStmt f.body).«open» (out-BlockStmt f.body).close) (out-BlockStmt f.body).«open»)
+        (list_view param_view ps) ++
     (result_sites s (results_view f.results) ++ block_sites s (block_view f.body)))) ≡ func_sites s (func_view f)
 unfolding func_sites func_view func_parts
 func_read s f role ps er ep =
-    ap (λ r. func_parts s f (out-Block f.body).«open» (out-Block f.body).close r ps) er ∙
-    ap (func_parts s f (out-Block f.body).«open» (out-Block f.body).close (func_role (option_view receiver_view f.receiver) (s.spell f.name))) ep ∙
-    ap (λ o. func_parts s f o (out-Block f.body).close (func_role (option_view receiver_view f.receiver) (s.spell f.name)) f.params.items) (open_from f.body) ∙
+    ap (λ r. func_parts s f (out-BlockStmt f.body).«open» (out-BlockStmt f.body).close r ps) er ∙
+    ap (func_parts s f (out-BlockStmt f.body).«open» (out-BlockStmt f.body).close (func_role (option_view receiver_view f.receiver) (s.spell f.name))) ep ∙
+    ap (λ o. func_parts s f o (out-BlockStmt f.body).close (func_role (option_view receiver_view f.receiver) (s.spell f.name)) f.params.items)
+        (open_from f.body) ∙
     ap (λ c. func_parts s f (open_of (block_view f.body)) c (func_role (option_view receiver_view f.receiver) (s.spell f.name)) f.params.items)
     (close_from f.body)
 

@@ -24,13 +24,13 @@ unfolding statements_marks statements_view
 statement_row b end_of-BlockItem = refl
 statement_row b (more_of-BlockItem x p rest) = ap (λ z. statement_marks b (stmt_view x) ++ z) (statement_row b rest)
 
-block_from : (b : Bool) (x : trees.Block) → flat_map (statement_part b) (out-Block x).statements.items ≡ block_marks b (block_view x)
+block_from : (b : Bool) (x : trees.BlockStmt) → flat_map (statement_part b) (out-BlockStmt x).statements.items ≡ block_marks b (block_view x)
 unfolding block_marks block_view
-block_from b (Block' o shape row c) =
-    ap (λ r. flat_map (statement_part b) r.statements.items) (outs-Block' o shape row c) ∙
+block_from b (BlockStmt' o shape row c) =
+    ap (λ r. flat_map (statement_part b) r.statements.items) (outs-BlockStmt' o shape row c) ∙
     ap (flat_map (statement_part b)) (items_shown-the_row-BlockItem-0 shape row) ∙ sym (statement_row b row)
 
-pub block_read : (b : Bool) (x : trees.Block) (xs : List BlockItem) → xs ≡ (out-Block x).statements.items →
+pub block_read : (b : Bool) (x : trees.BlockStmt) (xs : List BlockItem) → xs ≡ (out-BlockStmt x).statements.items →
     flat_map (statement_part b) xs ≡ block_marks b (block_view x)
 block_read b x xs e = ap (flat_map (statement_part b)) e ∙ block_from b x
 

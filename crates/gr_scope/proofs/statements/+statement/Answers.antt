@@ -62,8 +62,8 @@ pub add_block-loop-item-preserved : goal.add_block-loop-item-preserved
 add_block-loop-item-preserved t c =
     each_step _ c.deref-item-items.result.now c.loop-item.item-index c.item-item.result (omega arith) c.item-item.is c.loop-item.invariant
     (adds_as c.in_ok-add_statement.ensures
-    (ap (λ q. statement_sites (source_of c.args.source.now) (blocks.Inner (source_of c.args.source.now).rank (out-Block c.args.block.now).«open»
-    (out-Block c.args.block.now).close) q (stmt_view c.item-item.result.statement)) c.unwrap_or-behind.ensures))
+    (ap (λ q. statement_sites (source_of c.args.source.now) (blocks.Inner (source_of c.args.source.now).rank (out-BlockStmt c.args.block.now).«open»
+    (out-BlockStmt c.args.block.now).close) q (stmt_view c.item-item.result.statement)) c.unwrap_or-behind.ensures))
 
 pub add_block-returns : goal.add_block-returns
 add_block-returns t c =

@@ -8,4 +8,4 @@ use Rattle.gr_scope.proofs.statements.+statement.Given as goal
 
 abbrev pub invariant-add_block-loop-item : goal.invariant-add_block-loop-item
 invariant-add_block-loop-item l = Adds l.initial.found.items l.found.items
-    (flat_map (statement_part (source_of l.source) l.inner (out-Block l.block).close) (take l.item-index l.item-items))
+    (flat_map (statement_part (source_of l.source) l.inner (out-BlockStmt l.block).close) (take l.item-index l.item-items))
