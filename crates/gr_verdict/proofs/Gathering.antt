@@ -10,14 +10,13 @@ use Rattle.gr_text.specs.Workspace.{Workspace}
 use Rattle.gr_text.specs.Packages.{package_paths}
 use Rattle.gr_graph.specs.Graphs.{OfPackage}
 use Rattle.gr_graph.proofs.Asked.{number, at_contains}
-use Rattle.gr_declared.specs.declared.interfaces.Interfaces.{Interfaces}
 use Rattle.gr_declared.proofs.Mentioning.{get_set_same, get_set_other}
 use Rattle.gr_verdict.specs.declared.finding.Finding.{Finding}
 use Rattle.gr_verdict.specs.declared.findings.Findings.{Findings}
 use Rattle.gr_verdict.specs.declared.gathered.Gathered.{Gathered}
-use Rattle.gr_verdict.specs.Verdicts.{BuildsOn, IsVerdict, AreVerdictsBelow, AreVerdicts}
-use Rattle.gr_verdict.specs.Found.{AreFindings}
-use Rattle.gr_verdict.specs.Told.{known_by, AreWhole, IsFinding, IsFindingOf}
+use Rattle.gr_verdict.specs.Verdicts.{BuildsOn, AreVerdictsBelow, AreVerdicts}
+use Rattle.gr_verdict.specs.Found.{IsFoundBy, AreFindings}
+use Rattle.gr_verdict.specs.Told.{known_by, AreWhole, IsFindingOf}
 use Rattle.gr_verdict.specs.Steps.{AreKnown, AreGathered, AreAllGathered, AreKnownBelow, IsGathered, IsBuildOrder, LearnsOf, MayLearn, somes}
 use Rattle.gr_verdict.proofs.Adding.{below_before, finding_as}
 use Rattle.gr_verdict.proofs.Knowing.{learnt_next}
@@ -168,13 +167,6 @@ module _ (w : Workspace) (order : List ℕ) (all : Gathered) (built : IsBuildOrd
       }
 
 -- one package of all
-
--- what is found in p, by the verdicts on the packages that it builds on; they and that on p are known where these interfaces are
-pub record IsFoundBy (w : Workspace) (p : List ℕ) (all : Interfaces) (f : Finding) : Type 0 where
-  pub below : AreVerdictsBelow w p (known_by all)
-  pub own : IsVerdict w p (known_by all p)
-  pub whole : AreWhole all
-  pub finding : IsFinding w (known_by all) p f
 
 pub found_by : (w : Workspace) (found : Findings) → AreFindings w found → (n : ℕ) (p : List ℕ) (f : Finding) → slice_get (package_paths w) n ≡ Some p →
     slice_get found.packages.items n ≡ Some f → IsFoundBy w p found.interfaces f

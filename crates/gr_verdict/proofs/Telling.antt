@@ -12,15 +12,10 @@ use Rattle.gr_declared.specs.declared.interfaces.Interfaces.{Interfaces}
 use Rattle.gr_declared.proofs.Paths.{get_before, get_last}
 use Rattle.gr_verdict.specs.declared.known.Known.{Known}
 use Rattle.gr_verdict.specs.declared.known.KnownVerdict.{KnownVerdict}
-use Rattle.gr_verdict.specs.Found.{KnowsVerdicts}
+use Rattle.gr_verdict.specs.Found.{KnowsVerdicts, AreKnownNext}
 use Rattle.gr_verdict.specs.Told.{known_by, AreWhole, IsFindingOf, TellsVerdict, MayTell}
 use Rattle.gr_verdict.specs.Verdicts.{IsVerdict}
 use Rattle.gr_verdict.proofs.Knowing.{verdict_as}
-
--- what is known is right, and it is of the first packages, as many as are told
-pub record AreKnownNext (w : Workspace) (count : ℕ) (known : Known) : Type 0 where
-  pub size : length known.verdicts.items ≡ count
-  pub verdicts : KnowsVerdicts w known
 
 -- nothing yet: it is right of every workspace
 

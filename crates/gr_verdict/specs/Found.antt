@@ -3,7 +3,7 @@ use Rattle.std.specs.Prelude.{ℕ, ◌≡◌, List, Some, length, slice_get}
 use Rattle.gr_text.specs.Workspace.{Workspace}
 use Rattle.gr_text.specs.Packages.{package_paths}
 use Rattle.gr_declared.specs.declared.interfaces.Interfaces.{Interfaces}
-use Rattle.gr_verdict.specs.Verdicts.{AreVerdicts}
+use Rattle.gr_verdict.specs.Verdicts.{IsVerdict, AreVerdictsBelow, AreVerdicts}
 use Rattle.gr_verdict.specs.declared.finding.Finding.{Finding}
 use Rattle.gr_verdict.specs.declared.findings.Findings.{Findings}
 use Rattle.gr_verdict.specs.declared.findings.Found.{Found}
@@ -16,6 +16,11 @@ abbrev pub KnowsVerdicts : Workspace → Known → Type 0
 KnowsVerdicts w known = (n : ℕ) (p : List ℕ) (one : KnownVerdict) → slice_get (package_paths w) n ≡ Some p →
     slice_get known.verdicts.items n ≡ Some (Some one) → TellsVerdict w p one
 
+-- and it is of the first packages, as many as are told
+pub record AreKnownNext (w : Workspace) (count : ℕ) (known : Known) : Type 0 where
+  pub size : length known.verdicts.items ≡ count
+  pub verdicts : KnowsVerdicts w known
+
 -- what is found in each package of a workspace, by its number
 pub record AreFindings (w : Workspace) (found : Findings) : Type 0 where
   pub size : length found.packages.items ≡ length (package_paths w)
@@ -23,6 +28,13 @@ pub record AreFindings (w : Workspace) (found : Findings) : Type 0 where
   pub each : (n : ℕ) (p : List ℕ) (f : Finding) → slice_get (package_paths w) n ≡ Some p → slice_get found.packages.items n ≡ Some f →
       IsFinding w (known_by found.interfaces) p f
   pub whole : AreWhole found.interfaces
+
+-- what is found in p, by the verdicts on the packages that it builds on; they and that on p are known where these interfaces are
+pub record IsFoundBy (w : Workspace) (p : List ℕ) (all : Interfaces) (f : Finding) : Type 0 where
+  pub below : AreVerdictsBelow w p (known_by all)
+  pub own : IsVerdict w p (known_by all p)
+  pub whole : AreWhole all
+  pub finding : IsFinding w (known_by all) p f
 
 -- what is found in each package of a workspace, and what is known then
 pub record IsFound (w : Workspace) (found : Found) : Type 0 where

@@ -22,6 +22,10 @@ pub record Passes (w : Workspace) (number : ℕ) (old new : Steady) : Type 0 whe
   pub here : IsPassed new number
   pub kept : (n : ℕ) → IsPassed old n → IsPassed new n
 
+-- those of some packages were passed
+abbrev pub ArePassed : List ℕ → Steady → Type 0
+ArePassed numbers s = (n : ℕ) → Contains numbers n → IsPassed s n
+
 -- what p builds on was passed; what of it is stirred stirs p
 abbrev pub ArePassedBelow : Workspace → List ℕ → ℕ → Steady → Type 0
 ArePassedBelow w p number s = (n : ℕ) (q : List ℕ) → slice_get (package_paths w) n ≡ Some q → BuildsOn w p q →

@@ -8,10 +8,10 @@ use Rattle.gr_text.specs.Packages.{package_paths}
 use Rattle.gr_verdict.specs.declared.finding.Finding.{Finding}
 use Rattle.gr_verdict.specs.declared.findings.Findings.{Findings}
 use Rattle.gr_verdict.specs.FaultLists.{AreListed}
-use Rattle.gr_verdict.specs.Found.{AreFindings}
+use Rattle.gr_verdict.specs.Found.{AreFindings, IsFoundBy}
 use Rattle.gr_verdict.specs.Told.{known_by}
 use Rattle.gr_verdict.specs.Verdicts.{IsFaultBy}
-use Rattle.gr_verdict.proofs.Gathering.{IsFoundBy, found_by}
+use Rattle.gr_verdict.proofs.Gathering.{found_by}
 use Rattle.gr_verdict.proofs.Members.{vec_empty, vec_holds}
 use Rattle.gr_compile.specs.Compiling.{HoldsFaults, IsFaultless}
 use Rattle.gr_verdict.specs.declared.fault.FileFault.{FileFault}
