@@ -258,8 +258,7 @@ fn package_text(
     checked_object(alloc, unit, &index, &mut bounds, given, packages)
 }
 
-/// The table of a package in which each import without a name declares the name of the imported package; as where types are checked, whose
-/// own function is private.
+/// The table of a package in which each import without a name declares the name of the imported package.
 fn laid<'a>(
     alloc: Global,
     files: &'a [FileTree],

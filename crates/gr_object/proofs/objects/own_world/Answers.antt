@@ -1,5 +1,4 @@
--- The answers to the goals of `objects::own_world`. The world is written out as where the types of a file are checked: an answer speaks of
--- the values of its own function.
+-- The answers to the goals of `objects::own_world`.
 use Rattle.std.proofs.Common.{ap, refl}
 use Rattle.gr_expr.specs.declared.world.World.{World}
 use Rattle.gr_expr.specs.WorldView.{definition_or_none, imported_at}
