@@ -272,7 +272,12 @@ fn told(rt: &(impl Abort + AllocGlobal), bench: &mut Bench, act: Act) -> Answere
 }
 
 /// Does that, and asserts what the answer tells.
-pub(crate) fn does(rt: &(impl Abort + AllocGlobal), bench: &mut Bench, act: Act, outcome: Answered) {
+pub(crate) fn does(
+    rt: &(impl Abort + AllocGlobal),
+    bench: &mut Bench,
+    act: Act,
+    outcome: Answered,
+) {
     assert_eq!(rt; told(rt, bench, act), outcome);
 }
 

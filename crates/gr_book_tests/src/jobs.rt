@@ -1,6 +1,6 @@
 //! Jobs of a book: they are handed out, delivered late, given back and handed in elsewhere. A put is two entries of the
 //! journal, or one where it is planned on another book; each other act is one.
-use crate::bench::{Act, Bench, Answered, Shown, does, ends, has_entries, opened, retires};
+use crate::bench::{Act, Answered, Bench, Shown, does, ends, has_entries, opened, retires};
 use crate::texts::A;
 use gr_book::{EntryKind, Line, Reason, Told};
 use gr_compile::{Job, Out, SharedPath};
