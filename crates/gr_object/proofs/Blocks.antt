@@ -44,7 +44,7 @@ each_row s slots r x (more_of-BlockItem a p rest) =
 block_from : (s : Source) (slots : List ℕ) (r : ℕ) (x : Exits) (b : trees.BlockStmt) →
     lines_of_each s slots r x (out-BlockStmt b).statements.items ≡ block_lines s slots r x (block_view b)
 unfolding block_lines block_view
-block_from s slots r x (Block' o shape row c) =
+block_from s slots r x (BlockStmt' o shape row c) =
     ap (λ b. lines_of_each s slots r x b.statements.items) (outs-BlockStmt' o shape row c) ∙
     (ap (lines_of_each s slots r x) (items_shown-the_row-BlockItem-0 shape row) ∙ each_row s slots r x row)
 

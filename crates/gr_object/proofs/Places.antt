@@ -31,7 +31,7 @@ each_row w (more_of-BlockItem a p rest) = ap (λ ps. statement_places w (stmt_vi
 
 block_from : (w : World) (b : trees.BlockStmt) → places_of_each w (out-BlockStmt b).statements.items ≡ block_places w (block_view b)
 unfolding block_places block_view
-block_from w (Block' o shape row c) =
+block_from w (BlockStmt' o shape row c) =
     ap (λ b. places_of_each w b.statements.items) (outs-BlockStmt' o shape row c) ∙
     (ap (places_of_each w) (items_shown-the_row-BlockItem-0 shape row) ∙ each_row w row)
 

@@ -92,7 +92,7 @@ func_parts s f o c role ps =
 
 close_from : (x : trees.BlockStmt) → (out-BlockStmt x).close ≡ close_of (block_view x)
 unfolding block_view
-close_from (Block' o shape row c) = ap (λ r. r.close) (outs-BlockStmt' o shape row c)
+close_from (BlockStmt' o shape row c) = ap (λ r. r.close) (outs-BlockStmt' o shape row c)
 
 pub func_read : (s : Source) (f : FuncDecl) (role : Role) (ps : List (Item Param)) →
     role ≡ func_role (option_view receiver_view f.receiver) (s.spell f.name) → ps ≡ f.params.items →

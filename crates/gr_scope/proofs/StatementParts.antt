@@ -66,7 +66,7 @@ block_from : (s : Source) (x : trees.BlockStmt) →
         (out-BlockStmt x).statements.items ≡
     block_sites s (block_view x)
 unfolding block_sites block_view
-block_from s (Block' o shape row c) =
+block_from s (BlockStmt' o shape row c) =
     ap (λ r. flat_map (statement_part s (blocks.Inner s.rank r.«open» r.close) r.close) r.statements.items) (outs-BlockStmt' o shape row c) ∙
     ap (flat_map (statement_part s (blocks.Inner s.rank o c) c)) (items_shown-the_row-BlockItem-0 shape row) ∙
     sym (statement_row s (blocks.Inner s.rank o c) c row)
@@ -87,7 +87,7 @@ if_from s q (IfStmt' p init e b rest) =
 
 pub open_from : (x : trees.BlockStmt) → (out-BlockStmt x).«open» ≡ open_of (block_view x)
 unfolding block_view
-open_from (Block' o shape row c) = ap (λ r. r.«open») (outs-BlockStmt' o shape row c)
+open_from (BlockStmt' o shape row c) = ap (λ r. r.«open») (outs-BlockStmt' o shape row c)
 
 pub left_default : (s : Source) (b : Block) (q : ℕ) (e : Expr) → ((n : ℕ) → e ≡ expr.Name n → ⊥) → ((n : ℕ) → e ≡ expr.Blank n → ⊥) →
     expr_sites s (expr_view e) ≡ left_sites s b q (expr_view e)

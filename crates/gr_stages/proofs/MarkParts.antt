@@ -26,7 +26,7 @@ statement_row b (more_of-BlockItem x p rest) = ap (λ z. statement_marks b (stmt
 
 block_from : (b : Bool) (x : trees.BlockStmt) → flat_map (statement_part b) (out-BlockStmt x).statements.items ≡ block_marks b (block_view x)
 unfolding block_marks block_view
-block_from b (Block' o shape row c) =
+block_from b (BlockStmt' o shape row c) =
     ap (λ r. flat_map (statement_part b) r.statements.items) (outs-BlockStmt' o shape row c) ∙
     ap (flat_map (statement_part b)) (items_shown-the_row-BlockItem-0 shape row) ∙ sym (statement_row b row)
 

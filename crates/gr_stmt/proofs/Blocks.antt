@@ -36,7 +36,7 @@ each_row w rs s (more_of-BlockItem x p rest) = each_row w rs (check_statement w 
 block_from : (w : World) (rs : List Target) (s : Checked) (x : trees.BlockStmt) →
     check_each w rs s (out-BlockStmt x).statements.items ≡ check_block w rs s (block_view x)
 unfolding check_block block_view
-block_from w rs s (Block' o shape row c) =
+block_from w rs s (BlockStmt' o shape row c) =
     ap (λ r. check_each w rs s r.statements.items) (outs-BlockStmt' o shape row c) ∙
     (ap (check_each w rs s) (items_shown-the_row-BlockItem-0 shape row) ∙ each_row w rs s row)
 
