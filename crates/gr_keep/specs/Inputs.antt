@@ -34,8 +34,8 @@ abbrev pub AreGathered : Workspace → List ℕ → Workspace → Type 0
 AreGathered w numbers files = (e : List ℕ × List ℕ) → HasText files e ↔ IsFileOf w numbers e
 
 -- the same of what was gathered last
-abbrev pub HoldsGathered : Workspace → GatheredFiles → Type 0
-HoldsGathered w gathered = AreGathered w gathered.numbers gathered.files
+pub record HoldsGathered (w : Workspace) (gathered : GatheredFiles) : Type 0 where
+  pub exact : AreGathered w gathered.numbers gathered.files
 
 -- exactly those of both lists
 abbrev pub AreBoth : (all held others : List ℕ) → Type 0

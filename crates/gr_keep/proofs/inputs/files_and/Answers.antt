@@ -8,4 +8,4 @@ pub returns : goal.returns
 returns c =
     let w = c.args.graph.now in
     let held = c.args.before.now.numbers in
-    c.in_ok-add_packages.ensures held (subst (λ (m : Workspace). AreGathered w held m) (sym c.in_ok-files.ensures) c.requires.before)
+    c.in_ok-add_packages.ensures held (subst (λ (m : Workspace). AreGathered w held m) (sym c.in_ok-files.ensures) c.requires.before.exact)

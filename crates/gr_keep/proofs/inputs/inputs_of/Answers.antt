@@ -59,6 +59,8 @@ returns c =
             texts = subst (λ (x : Workspace). AreClosureTexts w p (entries x)) (sym c.in_ok-inputs.ensures)
                 (closure_texts w p first files among c.in_ok-files.ensures);
           };
-      gathered = subst (λ (l : List ℕ). AreGathered w l c.in_ok-kept.kept) c.as_slice.ensures
-          (subst (λ (m : Workspace). AreGathered w first m) (sym c.in_ok-kept.ensures) c.in_ok-files.ensures);
+      gathered = record {
+        exact = subst (λ (l : List ℕ). AreGathered w l c.in_ok-kept.kept) c.as_slice.ensures
+            (subst (λ (m : Workspace). AreGathered w first m) (sym c.in_ok-kept.ensures) c.in_ok-files.ensures);
+      };
     }
