@@ -161,12 +161,13 @@ impl Content {
         let known = kept(self.alloc, &current.files, &current.known, &files, &marks)?;
         self.earlier.reserve(1)?;
         let number = self.next;
+        let gathered = GatheredFiles::new(self.alloc);
         let next = State {
             number,
             files,
             finished,
             known,
-            gathered: GatheredFiles::new(self.alloc),
+            gathered,
         };
         let previous = mem::replace(&mut self.current, next);
         self.earlier.push(previous).unwrap();
