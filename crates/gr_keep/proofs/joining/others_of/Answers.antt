@@ -5,7 +5,7 @@ use Rattle.std.specs.List.{Contains}
 use Rattle.std.proofs.lemmas.List.{take_all}
 use Rattle.std.proofs.lemmas.Option.{same_Some}
 use Rattle.gr_keep.specs.Inputs.{AreBoth}
-use Rattle.gr_keep.proofs.Joining.{passed_more}
+use Rattle.gr_keep.proofs.BothLists.{passed_more}
 use Rattle.gr_keep.proofs.joining.others_of.Goals as goal
 
 none : (n : ℕ) → Contains [] n → ⊥

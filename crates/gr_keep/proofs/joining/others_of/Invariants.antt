@@ -1,5 +1,5 @@
 -- What was passed is held, or one of the others.
-use Rattle.gr_keep.proofs.Joining.{ArePassed}
+use Rattle.gr_keep.proofs.BothLists.{ArePassed}
 use Rattle.gr_keep.proofs.joining.others_of.Given as goal
 
 abbrev pub invariant-loop-number : goal.invariant-loop-number
