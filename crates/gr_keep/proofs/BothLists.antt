@@ -54,7 +54,8 @@ passed_more closure held k place next old new lt (inl at) so =
     (subst (λ l. AreBoth (take k closure ++ n ∷ []) l old) (sym taken) (both_first (take k closure) (take place held) old n so.both)) in
     record {
       within = omega (arith, at.1, inside);
-      both = subst (λ m. AreBoth (take (k + 1) closure) (take m held) new) (sym at.1) (subst (λ l. AreBoth (take (k + 1) closure) (take (place + 1) held) l) (sym at.2) both);
+      both = subst (λ m. AreBoth (take (k + 1) closure) (take m held) new) (sym at.1)
+          (subst (λ l. AreBoth (take (k + 1) closure) (take (place + 1) held) l) (sym at.2) both);
     }
 passed_more closure held k place next old new lt (inr on) so =
     let n = get_or closure k 0 in
@@ -62,5 +63,6 @@ passed_more closure held k place next old new lt (inr on) so =
     subst (λ l. AreBoth l (take place held) (old ++ n ∷ [])) (sym (take_more closure k 0 lt)) (both_second (take k closure) (take place held) old n so.both) in
     record {
       within = omega (arith, on.0, so.within);
-      both = subst (λ m. AreBoth (take (k + 1) closure) (take m held) new) (sym on.0) (subst (λ l. AreBoth (take (k + 1) closure) (take place held) l) (sym on.1) both);
+      both = subst (λ m. AreBoth (take (k + 1) closure) (take m held) new) (sym on.0)
+          (subst (λ l. AreBoth (take (k + 1) closure) (take place held) l) (sym on.1) both);
     }

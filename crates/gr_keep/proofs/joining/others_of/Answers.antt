@@ -14,7 +14,14 @@ none n h = let lt : h.0 < 0 = h.1 in omega arith
 pub loop-number-init : goal.loop-number-init
 loop-number-init c = record {
   within = omega arith;
-  both = λ n. (λ h. absurd (none n h), λ h. elim h [ inl a ↦ absurd (none n a) | inr b ↦ absurd (none n (subst (λ l. Contains l n) c.new-others.ensures.items b)) ]);
+  both = λ n. (
+    λ h. absurd (none n h),
+    λ h. elim h [
+      | inl a ↦ absurd (none n a)
+      | inr b ↦ absurd
+          (none n (subst (λ l. Contains l n) c.new-others.ensures.items b))
+    ],
+  );
 }
 
 pub loop-number-preserved : goal.loop-number-preserved
@@ -29,4 +36,5 @@ returns c = λ others is.
     let all : take c.loop-number.number-index closure ≡ closure = take_all c.loop-number.number-index closure (omega arith) in
     let each : take c.loop-number.place held ≡ held = take_all c.loop-number.place held (omega (arith, so.within)) in
     subst (λ (v : Vec ℕ). AreBoth closure held v.items) (same_Some c.loop-number.others others is)
-    (subst (λ l. AreBoth l held c.loop-number.others.items) all (subst (λ l. AreBoth (take c.loop-number.number-index closure) l c.loop-number.others.items) each so.both))
+    (subst (λ l. AreBoth l held c.loop-number.others.items) all
+    (subst (λ l. AreBoth (take c.loop-number.number-index closure) l c.loop-number.others.items) each so.both))
