@@ -26,7 +26,8 @@ later : (place used : Place) → path_cmp used.path place.path ≡ Less → plac
 later place used less = behind used place (ap (λ (o : Ordering). ordering_then o (nat_cmp used.offset place.offset)) less)
 
 -- the file in which an identifier begins
-begun_in : (o : Option SourceFile) (token : ℕ) (path : List ℕ) (offset : ℕ) → NameBegins o token path offset → (f : SourceFile) × ((o ≡ Some f) × (f.path ≡ path))
+begun_in : (o : Option SourceFile) (token : ℕ) (path : List ℕ) (offset : ℕ) → NameBegins o token path offset → (f : SourceFile) ×
+    ((o ≡ Some f) × (f.path ≡ path))
 begun_in None token path offset h = absurd h
 begun_in (Some f) token path offset h = (f, (refl, h.1))
 

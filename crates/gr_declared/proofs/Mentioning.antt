@@ -10,7 +10,7 @@ use Rattle.std.proofs.lemmas.List.{get_or-set_same, get_or-set_other, length-set
 use Rattle.std.proofs.lemmas.List.Elements.{Contains-append_left, Contains-push, Contains-push_cases}
 use Rattle.std.proofs.lemmas.Option.{slice_get_within, slice_get-get_or, slice_get_past}
 use Rattle.gr_tree.specs.declared.tree.Item.{Item}
-use Rattle.gr_tree.specs.declared.tree.FieldTree.{FieldTree}
+use Rattle.gr_tree.specs.declared.tree.FieldDecl.{FieldDecl}
 use Rattle.gr_tree.specs.View.{item_view, list_view, type_view}
 use Rattle.gr_tree.specs.FileView.{field_view}
 use Rattle.gr_tree.specs.Tree.{TypeTree}
@@ -128,10 +128,10 @@ note_one p file tree to a is only e = subst (IsTarget p file tree) (sym e) is
 
 -- Types one after the other
 
-abbrev pub field_types : List (Item FieldTree) → List TypeTree
+abbrev pub field_types : List (Item FieldDecl) → List TypeTree
 field_types fields = map (λ f. f.value.type_use) (list_view field_view fields)
 
-pub fields_next : (fields : List (Item FieldTree)) (i : ℕ) (x : Item FieldTree) → i < length fields → x ≡ get_or fields i x →
+pub fields_next : (fields : List (Item FieldDecl)) (i : ℕ) (x : Item FieldDecl) → i < length fields → x ≡ get_or fields i x →
     field_types (take (i + 1) fields) ≡ field_types (take i fields) ++ (type_view x.value.field_type ∷ [])
 unfolding field_view
 fields_next fields i x lt e =

@@ -12,7 +12,7 @@ use crate::declared::TypeDef;
 use crate::spread::reached;
 use crate::unit::{Index, Package};
 use crate::written::{mentioned, named_type};
-use gr_tree::tree::{FieldTree, Item, TypeBody, TypeExpr};
+use gr_tree::tree::{FieldDecl, Item, TypeBody, TypeExpr};
 use std::alloc::{AllocError, Global};
 
 /// Notes that a definition mentions what has a number.
@@ -90,7 +90,7 @@ fn note_fields(
     index: &Index<'_>,
     links: &mut Vec<Vec<usize>>,
     at: DefinitionPlace,
-    fields: &[Item<FieldTree>],
+    fields: &[Item<FieldDecl>],
 ) -> Result<(), AllocError>
     requires index { IsIndexOf (package_of unit) index.now }
     requires size { length links.old.items ≡ suc (length (package_types (package_of unit))) }

@@ -2,11 +2,11 @@
 use Rattle.std.proofs.Common.{◌≡◌, ℕ, ◌+◌, ◌-◌, ◌<◌, ◌≤◌, ◌↔◌, ◌⊎◌, List, [], ◌∷◌, ◌++◌, length, get_or, replicate, Some, slice_get}
 use Rattle.std.proofs.Common.{refl, sym, ap, subst, ◌∙◌, ⊎_elim, arith}
 use Rattle.std.proofs.Math.ListN.{set}
-use Rattle.std.specs.List.{Contains}
+use Rattle.std.specs.List.{All, Contains}
 use Rattle.std.specs.List.Sorted.{IsStrictlyIncreasing}
 use Rattle.std.proofs.lemmas.Bool.{cases_lt, cases_eq}
 use Rattle.std.proofs.lemmas.List.{get_or_append_left, get_or_push, length_push, length-map, length-replicate, length-set, get_or-replicate}
-use Rattle.std.proofs.lemmas.List.{get_or-set_same, get_or-set_other}
+use Rattle.std.proofs.lemmas.List.{get_or-set_same, get_or-set_other, get_or_default}
 use Rattle.std.proofs.lemmas.List.Elements.{All-from_get_or, All-contains, Contains-append_left, Contains-get_or, Contains-push, Contains-push_cases}
 use Rattle.std.proofs.lemmas.Option.{same_Some, slice_get-get_or, slice_get_within}
 use Rattle.std.proofs.lemmas.Slice.Zip.{AllZip-long}
@@ -109,12 +109,12 @@ module _ (imports places : List ℕ) (count : ℕ) where
       ArePassed imports places count (k + 1) row
   passed_skip k row none so = record {
     each = λ j. (
-      λ has. let r = (so.each j).0 has in (r.0, omega (arith, r.1), r.2),
+      λ has. (let r = (so.each j).0 has in let lt : r.0 < k = r.1 in (r.0, omega arith, r.2, r.3)),
       λ r. ⊎_elim
-          (λ (before : r.0 < k). (so.each j).1 (r.0, before, r.2))
+          (λ (before : r.0 < k). (so.each j).1 (r.0, before, r.2, r.3))
           (λ (last : k ≤ r.0).
           let is : r.0 ≡ k = omega (arith, last, r.1) in
-          absurd (none (subst (λ i. i < count) (sym r.2.0 ∙ ap (λ i. get_or places (get_or imports i 0) 0) is) r.2.1)))
+          absurd (none (subst (λ (i : ℕ). i < count) (sym r.2 ∙ ap (λ i. get_or places (get_or imports i 0) 0) is) r.3)))
           (cases_lt r.0 k),
     );
     rising = so.rising;
@@ -126,33 +126,32 @@ module _ (imports places : List ℕ) (count : ℕ) where
   passed_more k place row below inside at within so = record {
     each = λ j. (
       λ has. ⊎_elim
-          (λ (before : Contains row j). let r = (so.each j).0 before in (r.0, omega (arith, r.1), r.2))
-          (λ (is : place ≡ j). (k, omega arith, sym at ∙ is, subst (λ i. i < count) is within))
+          (λ (before : Contains row j). let r = (so.each j).0 before in let lt : r.0 < k = r.1 in (r.0, omega arith, r.2, r.3))
+          (λ (is : place ≡ j). (k, omega arith, sym at ∙ is, subst (λ (i : ℕ). i < count) is within))
           (Contains-push_cases row place j has),
       λ r. ⊎_elim
-          (λ (before : r.0 < k). Contains-append_left row (place ∷ []) j ((so.each j).1 (r.0, before, r.2)))
+          (λ (before : r.0 < k). Contains-append_left row (place ∷ []) j ((so.each j).1 (r.0, before, r.2, r.3)))
           (λ (last : k ≤ r.0).
           let is : r.0 ≡ k = omega (arith, last, r.1) in
-          subst (Contains (row ++ place ∷ [])) (at ∙ ap (λ i. get_or places (get_or imports i 0) 0) (sym is) ∙ r.2.0) (Contains-push row place))
+          subst (Contains (row ++ place ∷ [])) (at ∙ ap (λ i. get_or places (get_or imports i 0) 0) (sym is) ∙ r.2) (Contains-push row place))
           (cases_lt r.0 k),
     );
     rising = λ up rise. rising_push row place (so.rising up rise) (λ q has.
         let r = (so.each q).0 has in
         let less = rising_at imports up r.0 k r.1 below in
-        let own : get_or places (get_or imports r.0 0) 0 < count = subst (λ i. i < count) (sym r.2.0) r.2.1 in
-        let here : get_or places (get_or imports k 0) 0 < count = subst (λ i. i < count) at within in
-        omega (arith, rise (get_or imports r.0 0) (get_or imports k 0) less inside own here, r.2.0, at));
+        let own : get_or places (get_or imports r.0 0) 0 < count = subst (λ (i : ℕ). i < count) (sym r.2) r.3 in
+        let here : get_or places (get_or imports k 0) 0 < count = subst (λ (i : ℕ). i < count) at within in
+        omega (arith, rise (get_or imports r.0 0) (get_or imports k 0) less inside own here, r.2, at));
   }
 
   pub passed_all : (row : List ℕ) → ArePassed imports places count (length imports) row → IsAmongPlaces imports places count row
   passed_all row so = record {
     each = λ j. (
-      λ has. let r = (so.each j).0 has in (get_or imports r.0 0, Contains-get_or imports r.0 0 r.1, r.2),
+      λ has. (let r = (so.each j).0 has in (get_or imports r.0 0, Contains-get_or imports r.0 0 r.1, r.2, r.3)),
       λ r.
           let at = r.1 in
-          let is : get_or imports at.0 0 ≡ r.0 = same_Some _ _
-          (sym (slice_get-get_or imports at.0 0 at.1) ∙ slice_get-get_or imports at.0 r.0 at.1 ∙ ap Some at.2) in
-          (so.each j).1 (at.0, at.1, ap (λ m. get_or places m 0) is ∙ r.2.0, r.2.1),
+          let is : get_or imports at.0 0 ≡ r.0 = get_or_default imports at.0 0 r.0 at.1 ∙ at.2 in
+          (so.each j).1 (at.0, at.1, ap (λ m. get_or places m 0) is ∙ r.2, r.3),
     );
     rising = so.rising;
   }
@@ -169,7 +168,7 @@ module _ (g : Links) (ns : List ℕ) (places : List ℕ) (linked : AreLinked g) 
     (within : (i : ℕ) → i < length ns → get_or ns i 0 < length g) (are : ArePlaces ns (length g) (length ns) places) where
   import_below : (n m : ℕ) → n < length g → Imports g n m → m < length g
   import_below n m lt has = All-contains (λ q. q < length g) (imports_of g n) m
-      (All-contains _ g (imports_of g n) linked (Contains-get_or g n [] lt)) has
+      (All-contains (λ row. All (λ q. q < length g) row) g (imports_of g n) linked (Contains-get_or g n [] lt)) has
 
   pub part_more : (k : ℕ) (part : Links) (row : List ℕ) → k < length ns → IsAmongPlaces (imports_of g (get_or ns k 0)) places (length ns) row →
       ArePartLinks g ns k part → ArePartLinks g ns (k + 1) (part ++ row ∷ [])
@@ -192,9 +191,9 @@ module _ (g : Links) (ns : List ℕ) (places : List ℕ) (linked : AreLinked g) 
             let number : get_or ns i 0 ≡ n = ap (λ l. get_or ns l 0) same in (
               λ has.
                   let r = (is.each j).0 (subst (λ l. Contains l j) own has) in
-                  let place = are.of r.0 (import_below n r.0 here r.1) (subst (λ l. l < length ns) (sym r.2.0) r.2.1) in
-                  let to : r.0 ≡ get_or ns j 0 = sym place.1 ∙ ap (λ l. get_or ns l 0) r.2.0 in
-                  (r.2.1, subst (λ l. Imports g l (get_or ns j 0)) (sym number) (subst (Imports g n) to r.1)),
+                  let place = are.of r.0 (import_below n r.0 here r.1) (subst (λ (l : ℕ). l < length ns) (sym r.2) r.3) in
+                  let to : r.0 ≡ get_or ns j 0 = sym place.1 ∙ ap (λ l. get_or ns l 0) r.2 in
+                  (r.3, subst (λ l. Imports g l (get_or ns j 0)) (sym number) (subst (Imports g n) to r.1)),
               λ r. subst (λ l. Contains l j) (sym own) ((is.each j).1
                   (get_or ns j 0, subst (λ l. Imports g l (get_or ns j 0)) number r.1, are.own j r.0, r.0)),
             ))
@@ -230,7 +229,8 @@ module _ (w part : Workspace) (ns : List ℕ) (old packages : List ParsedPackage
       (below, ap (λ l. slice_get l (get_or ns i 0)) (sym graph.paths) ∙ at_place old ns packages are i below ∙ ap Some path)
 
   pub part_linked : AreLinked links
-  part_linked = All-from_get_or (λ row. _) links [] (λ i lt. All-from_get_or (λ j. j < length links) (imports_of links i) 0 (λ k h.
+  part_linked = All-from_get_or (λ row. All (λ j. j < length links) row) links []
+      (λ i lt. All-from_get_or (λ j. j < length links) (imports_of links i) 0 (λ k h.
       let r = (is.each i (get_or (imports_of links i) k 0) (omega (arith, lt, is.size))).0 (Contains-get_or (imports_of links i) k 0 h) in
       omega (arith, r.0, is.size)))
 

@@ -8,7 +8,7 @@ ghost use Rattle.gr_declared.specs.PackageView.{package_of, IsIndexOf};
 
 use gr_cycles::cycles;
 use gr_declared::{Index, Package, TypeDef, local_definition};
-use gr_tree::tree::{FieldTree, Item, TypeBody, TypeExpr};
+use gr_tree::tree::{FieldDecl, Item, TypeBody, TypeExpr};
 use std::alloc::{AllocError, Global};
 
 /// The definition that a Type is by name.
@@ -51,7 +51,7 @@ fn add_fields(
     unit: Package<'_>,
     index: &Index<'_>,
     file: usize,
-    fields: &[Item<FieldTree>],
+    fields: &[Item<FieldDecl>],
 ) -> Result<(), AllocError>
     requires { IsIndexOf (package_of unit) index.now }
     ensures { OnOk result (AddsItems found.old.items found.new.items (IsHeldAsOne (package_of unit.entry) file (map (λ f. f.value.type_use) (list_view field_view fields.now)))) }

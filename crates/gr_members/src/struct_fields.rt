@@ -8,7 +8,7 @@ ghost use Rattle.gr_members.specs.FieldsView.{field_of, field_names};
 ghost use Rattle.gr_declared.specs.PackageView.{package_of, IsIndexOf};
 
 use gr_declared::{Index, Package, TypeDef};
-use gr_tree::tree::{FieldTree, TypeBody, TypeExpr, TypeSpec};
+use gr_tree::tree::{FieldDecl, TypeBody, TypeExpr, TypeSpec};
 use std::alloc::{AllocError, Global};
 
 /// A field: the rank of the definition that writes its struct, the rank of its file, the token of its name, and its type as
@@ -27,7 +27,7 @@ fn add_names<'a>(
     found: &mut Vec<FieldDef<'a>>,
     definition: usize,
     file: usize,
-    field: &'a FieldTree,
+    field: &'a FieldDecl,
 ) -> Result<(), AllocError>
     ensures { OnOk result (Appends field_of found.old.items found.new.items (field_names definition file (field_view field.now))) }
 {

@@ -6,9 +6,9 @@ use Rattle.gr_tree.specs.Tree.{ExprTree, BlockTree}
 use Rattle.gr_tree.specs.View.{expr_view, option_view}
 use Rattle.gr_tree.specs.FileView.{init_view, stmt_view, block_view, statements_view, if_view, else_view}
 use Rattle.gr_tree.specs.declared.tree.BlockItem.{BlockItem}
-use Rattle.gr_tree.specs.declared.tree.BlockTree as trees
-use Rattle.gr_tree.specs.declared.tree.BlockTree.{BlockTree', out-BlockTree, outs-BlockTree', Row_of-BlockItem, end_of-BlockItem, more_of-BlockItem}
-use Rattle.gr_tree.specs.declared.tree.BlockTree.{items-the_row-BlockItem, items_shown-the_row-BlockItem-0}
+use Rattle.gr_tree.specs.declared.tree.BlockStmt as trees
+use Rattle.gr_tree.specs.declared.tree.BlockStmt.{BlockStmt', out-BlockStmt, outs-BlockStmt', Row_of-BlockItem, end_of-BlockItem, more_of-BlockItem}
+use Rattle.gr_tree.specs.declared.tree.BlockStmt.{items-the_row-BlockItem, items_shown-the_row-BlockItem-0}
 use Rattle.gr_tree.specs.declared.tree.IfStmt.{IfStmt, IfStmt', out-IfStmt, outs-IfStmt'}
 use Rattle.gr_expr.proofs.Items.{next_item}
 use Rattle.gr_object.specs.declared.statements.JumpMarks.{JumpMarks}
@@ -41,14 +41,14 @@ each_row s slots r x end_of-BlockItem = refl
 each_row s slots r x (more_of-BlockItem a p rest) =
     ap (λ ls. statement_lines s slots r (further (length ls) x) (stmt_view a) ++ ls) (each_row s slots r x rest)
 
-block_from : (s : Source) (slots : List ℕ) (r : ℕ) (x : Exits) (b : trees.Block) →
-    lines_of_each s slots r x (out-Block b).statements.items ≡ block_lines s slots r x (block_view b)
+block_from : (s : Source) (slots : List ℕ) (r : ℕ) (x : Exits) (b : trees.BlockStmt) →
+    lines_of_each s slots r x (out-BlockStmt b).statements.items ≡ block_lines s slots r x (block_view b)
 unfolding block_lines block_view
-block_from s slots r x (Block' o shape row c) =
-    ap (λ b. lines_of_each s slots r x b.statements.items) (outs-Block' o shape row c) ∙
+block_from s slots r x (BlockStmt' o shape row c) =
+    ap (λ b. lines_of_each s slots r x b.statements.items) (outs-BlockStmt' o shape row c) ∙
     (ap (lines_of_each s slots r x) (items_shown-the_row-BlockItem-0 shape row) ∙ each_row s slots r x row)
 
-pub block_read : (s : Source) (slots : List ℕ) (r : ℕ) (x : Exits) (b : trees.Block) (xs : List BlockItem) → xs ≡ (out-Block b).statements.items →
+pub block_read : (s : Source) (slots : List ℕ) (r : ℕ) (x : Exits) (b : trees.BlockStmt) (xs : List BlockItem) → xs ≡ (out-BlockStmt b).statements.items →
     lines_of_each s slots r x xs ≡ block_lines s slots r x (block_view b)
 block_read s slots r x b xs e = ap (lines_of_each s slots r x) e ∙ block_from s slots r x b
 

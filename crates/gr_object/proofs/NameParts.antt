@@ -5,7 +5,7 @@ use Rattle.std.specs.Prelude.{Some, option_map, slice_get}
 use Rattle.std.proofs.Math.ListN.{drop_of_length-le}
 use Rattle.std.proofs.lemmas.List.{drop_more}
 use Rattle.gr_tree.specs.declared.tree.Item as items
-use Rattle.gr_tree.specs.declared.tree.FieldTree.{FieldTree}
+use Rattle.gr_tree.specs.declared.tree.FieldDecl.{FieldDecl}
 use Rattle.gr_tree.specs.Tree.{Item}
 use Rattle.gr_tree.specs.View.{list_view}
 use Rattle.gr_tree.specs.FileView.{field_view, same_place}
@@ -116,14 +116,14 @@ positions_end begin now total xs i all h = sym (append-nil now) ∙
     (ap (λ ys. now ++ positions_from (length now - begin) (list_view same_place ys)) (sym (drop_of_length-le xs all)) ∙ h)
 
 -- the names of the fields of a struct
-abbrev pub struct_names : List (items.Item FieldTree) → List (Item ℕ)
+abbrev pub struct_names : List (items.Item FieldDecl) → List (Item ℕ)
 struct_names fs = names_of_fields (list_view field_view fs)
 
 pub fields_within : (begin k : ℕ) (now new : List ℕ) (xs : List (Item ℕ)) → begin ≤ length now → new ≡ now ++ positions_from k xs → begin ≤ length new
 fields_within begin k now new xs h e = let grown : length new ≡ length now + length (positions_from k xs) = ap length e ∙
     length-append now (positions_from k xs) in omega arith
 
-pub fields_step : (begin : ℕ) (now new total : List ℕ) (fs : List (items.Item FieldTree)) (i : ℕ) (f : items.Item FieldTree) → begin ≤ length now →
+pub fields_step : (begin : ℕ) (now new total : List ℕ) (fs : List (items.Item FieldDecl)) (i : ℕ) (f : items.Item FieldDecl) → begin ≤ length now →
     i < length fs →
     f ≡ get_or fs i f →
     now ++ positions_from (length now - begin) (struct_names (drop i fs)) ≡ total →
@@ -140,7 +140,7 @@ fields_step begin now new total fs i f within lt is h e =
     ∙ (ap (λ z. now ++ z) (sym (positions_append (length now - begin) (field_view f.value).names (struct_names (drop (i + 1) fs))))
     ∙ (ap (λ ys. now ++ positions_from (length now - begin) (struct_names ys)) (sym (next_item fs i f lt is)) ∙ h))))
 
-pub fields_end : (begin : ℕ) (now total : List ℕ) (fs : List (items.Item FieldTree)) (i : ℕ) → length fs ≤ i →
+pub fields_end : (begin : ℕ) (now total : List ℕ) (fs : List (items.Item FieldDecl)) (i : ℕ) → length fs ≤ i →
     now ++ positions_from (length now - begin) (struct_names (drop i fs)) ≡ total → now ≡ total
 fields_end begin now total fs i all h = sym (append-nil now) ∙
     (ap (λ ys. now ++ positions_from (length now - begin) (struct_names ys)) (sym (drop_of_length-le fs all)) ∙ h)

@@ -3,9 +3,9 @@ use Rattle.std.proofs.Common.{ℕ, ◌≡◌, List, [], ◌∷◌, ◌++◌, ap,
 use Rattle.gr_tree.specs.View.{option_view}
 use Rattle.gr_tree.specs.FileView.{init_view, stmt_view, block_view, statements_view, if_view, else_view}
 use Rattle.gr_tree.specs.declared.tree.BlockItem.{BlockItem}
-use Rattle.gr_tree.specs.declared.tree.BlockTree as trees
-use Rattle.gr_tree.specs.declared.tree.BlockTree.{BlockTree', out-BlockTree, outs-BlockTree', Row_of-BlockItem, end_of-BlockItem, more_of-BlockItem}
-use Rattle.gr_tree.specs.declared.tree.BlockTree.{items-the_row-BlockItem, items_shown-the_row-BlockItem-0}
+use Rattle.gr_tree.specs.declared.tree.BlockStmt as trees
+use Rattle.gr_tree.specs.declared.tree.BlockStmt.{BlockStmt', out-BlockStmt, outs-BlockStmt', Row_of-BlockItem, end_of-BlockItem, more_of-BlockItem}
+use Rattle.gr_tree.specs.declared.tree.BlockStmt.{items-the_row-BlockItem, items_shown-the_row-BlockItem-0}
 use Rattle.gr_tree.specs.declared.tree.IfStmt.{IfStmt, IfStmt', out-IfStmt, outs-IfStmt'}
 use Rattle.gr_expr.specs.World.{World}
 use Rattle.gr_object.specs.Slots.{init_places, statement_places, block_places, statements_places, if_places, else_places}
@@ -29,13 +29,14 @@ unfolding places_of_each statements_places statements_view
 each_row w end_of-BlockItem = refl
 each_row w (more_of-BlockItem a p rest) = ap (λ ps. statement_places w (stmt_view a) ++ ps) (each_row w rest)
 
-block_from : (w : World) (b : trees.Block) → places_of_each w (out-Block b).statements.items ≡ block_places w (block_view b)
+block_from : (w : World) (b : trees.BlockStmt) → places_of_each w (out-BlockStmt b).statements.items ≡ block_places w (block_view b)
 unfolding block_places block_view
-block_from w (Block' o shape row c) =
-    ap (λ b. places_of_each w b.statements.items) (outs-Block' o shape row c) ∙
+block_from w (BlockStmt' o shape row c) =
+    ap (λ b. places_of_each w b.statements.items) (outs-BlockStmt' o shape row c) ∙
     (ap (places_of_each w) (items_shown-the_row-BlockItem-0 shape row) ∙ each_row w row)
 
-pub block_read : (w : World) (b : trees.Block) (xs : List BlockItem) → xs ≡ (out-Block b).statements.items → places_of_each w xs ≡ block_places w (block_view b)
+pub block_read : (w : World) (b : trees.BlockStmt) (xs : List BlockItem) → xs ≡ (out-BlockStmt b).statements.items →
+    places_of_each w xs ≡ block_places w (block_view b)
 block_read w b xs e = ap (places_of_each w) e ∙ block_from w b
 
 pub if_from : (w : World) (i : IfStmt) →

@@ -4,7 +4,7 @@ use Rattle.std.specs.List.{flat_map}
 use Rattle.gr_tree.specs.declared.tree.Item.{Item}
 use Rattle.gr_tree.specs.declared.tree.Ident.{Ident}
 use Rattle.gr_tree.specs.declared.tree.Param.{Param}
-use Rattle.gr_tree.specs.declared.tree.FieldTree.{FieldTree}
+use Rattle.gr_tree.specs.declared.tree.FieldDecl.{FieldDecl}
 use Rattle.gr_tree.specs.declared.tree.TypeExpr.{TypeExpr}
 use Rattle.gr_tree.specs.Tree.{TypeTree}
 use Rattle.gr_tree.specs.View.{list_view, ident_view, type_view}
@@ -28,5 +28,5 @@ for_params w xs = all_written w (parameter_types (list_view param_view xs))
 abbrev pub for_results : World → List (Item TypeExpr) → List PlainType
 for_results w xs = flat_map (λ i. written w i.value) (list_view type_view xs)
 
-abbrev pub for_struct : World → List (Item FieldTree) → List PlainType
+abbrev pub for_struct : World → List (Item FieldDecl) → List PlainType
 for_struct w xs = field_types w (list_view field_view xs)

@@ -33,7 +33,7 @@ use crate::types::written_type;
 use gr_expr::types::GoType;
 use gr_expr::world::World;
 use gr_tree::tree::{
-    BasicLit, Decl, FieldTree, FuncDecl, Group, Item, TypeBody, TypeExpr, TypeSpec, VarSpec,
+    BasicLit, Decl, FieldDecl, FuncDecl, Group, Item, TypeBody, TypeExpr, TypeSpec, VarSpec,
     VarValues,
 };
 use std::alloc::{AllocError, Global};
@@ -67,7 +67,7 @@ fn add_field(
     alloc: Global,
     world: &World<'_>,
     types: &mut Vec<GoType>,
-    field: &FieldTree,
+    field: &FieldDecl,
 ) -> Result<(), AllocError>
     ensures { OnOk result (map type_of types.new.items ≡ map type_of types.old.items ++ flat_map (λ n. written (world_of world.now) (field_view field.now).type_use) (field_view field.now).names) }
 {
@@ -81,7 +81,7 @@ fn add_field(
 fn field_types(
     alloc: Global,
     world: &World<'_>,
-    fields: &[Item<FieldTree>],
+    fields: &[Item<FieldDecl>],
 ) -> Result<Vec<GoType>, AllocError>
     ensures { IfOk result (λ types. map type_of types.items ≡ field_types (world_of world.now) (list_view field_view fields.now)) }
 {

@@ -14,7 +14,7 @@ use crate::instructions::{FunctionName, GlobalName};
 use crate::packages::CalledNames;
 use gr_declared::{Declared, Function, TypeDef};
 use gr_tree::FileTree;
-use gr_tree::tree::{FieldTree, Item, Receiver, TypeBody};
+use gr_tree::tree::{FieldDecl, Item, Receiver, TypeBody};
 use std::alloc::{AllocError, Global};
 
 /// How a token of a file is spelled, by the rank of the file.
@@ -168,7 +168,7 @@ fn add_position(positions: &mut Vec<usize>, begin: usize) -> Result<(), AllocErr
 }
 
 /// Adds where fields of one type stand, the fields of whose struct begin behind so many positions.
-fn add_field(positions: &mut Vec<usize>, begin: usize, field: &FieldTree) -> Result<(), AllocError>
+fn add_field(positions: &mut Vec<usize>, begin: usize, field: &FieldDecl) -> Result<(), AllocError>
     requires { begin ≤ length positions.old.items }
     ensures { OnOk result (positions.new.items ≡ positions.old.items ++ positions_from (length positions.old.items - begin) (field_view field.now).names) }
 {
@@ -179,7 +179,7 @@ fn add_field(positions: &mut Vec<usize>, begin: usize, field: &FieldTree) -> Res
 }
 
 /// Adds where the fields of a struct stand in it.
-fn add_fields(positions: &mut Vec<usize>, fields: &[Item<FieldTree>]) -> Result<(), AllocError>
+fn add_fields(positions: &mut Vec<usize>, fields: &[Item<FieldDecl>]) -> Result<(), AllocError>
     ensures { OnOk result (positions.new.items ≡ positions.old.items ++ positions_from 0 (names_of_fields (list_view field_view fields.now))) }
 {
     let begin = positions.len();

@@ -11,7 +11,7 @@ ghost use Rattle.gr_object.specs.Slots.{receiver_places, parameter_places, local
 use crate::numbered::NumberedUses;
 use gr_expr::world::{Bound, World};
 use gr_tree::tree::{
-    BlockTree, Else, Expr, ExprItem, ForHeader, FuncDecl, Group, Ident, IfInit, IfStmt, Item,
+    BlockStmt, Else, Expr, ExprItem, ForHeader, FuncDecl, Group, Ident, IfInit, IfStmt, Item,
     LocalSpec, Param, Receiver, SimpleStmt, Stmt,
 };
 use std::alloc::{AllocError, Global};
@@ -238,7 +238,7 @@ fn add_statement(
 fn add_block(
     places: &mut Vec<usize>,
     world: &World<'_>,
-    block: &BlockTree,
+    block: &BlockStmt,
 ) -> Result<(), AllocError>
     ensures { OnOk result (places.new.items ≡ places.old.items ++ block_places (world_of world.now) (block_view block.now)) }
 {

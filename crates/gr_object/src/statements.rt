@@ -15,7 +15,7 @@ use crate::instructions::Instruction;
 use crate::operands::Wanted;
 use crate::scope::SlotScope;
 use crate::simple::{init, locals, optional, simple, values};
-use gr_tree::tree::{BlockItem, BlockTree, Else, Expr, ExprItem, ForHeader, IfStmt, Stmt};
+use gr_tree::tree::{BlockItem, BlockStmt, Else, Expr, ExprItem, ForHeader, IfStmt, Stmt};
 use std::alloc::{AllocError, Global};
 
 /// How many lines lie behind where `continue` and `break` lead.
@@ -185,7 +185,7 @@ fn statement<'a>(
 fn turns<'a>(
     alloc: Global,
     scope: SlotScope<'a>,
-    body: &BlockTree,
+    body: &BlockStmt,
     header: &ForHeader,
     results: usize,
     code: &mut Code<'a>,
@@ -209,7 +209,7 @@ fn turns<'a>(
 pub fn block<'a>(
     alloc: Global,
     scope: SlotScope<'a>,
-    inner: &BlockTree,
+    inner: &BlockStmt,
     results: usize,
     marks: JumpMarks,
     code: &mut Code<'a>,

@@ -7,7 +7,7 @@ use Rattle.gr_tree.specs.declared.tree.Item.{Item}
 use Rattle.gr_tree.specs.declared.tree.Group.{Group}
 use Rattle.gr_tree.specs.declared.tree.Group.TheVariants as group
 use Rattle.gr_tree.specs.declared.tree.VarSpec.{VarSpec}
-use Rattle.gr_tree.specs.declared.tree.FieldTree.{FieldTree}
+use Rattle.gr_tree.specs.declared.tree.FieldDecl.{FieldDecl}
 use Rattle.gr_tree.specs.declared.tree.Param.{Param}
 use Rattle.gr_tree.specs.declared.tree.TypeExpr.{TypeExpr}
 use Rattle.gr_tree.specs.declared.tree.TypeBody.TheVariants as body
@@ -75,7 +75,7 @@ pub global_formed : (g : VarSpec) → IsList Any (list_view same_place g.names.i
 unfolding global_view
 global_formed g n v = record { names = n; values = v }
 
-pub field_formed : (f : FieldTree) → IsList Any (list_view same_place f.names.items) → IsField (field_view f)
+pub field_formed : (f : FieldDecl) → IsList Any (list_view same_place f.names.items) → IsField (field_view f)
 unfolding field_view
 field_formed f h = h
 

@@ -17,10 +17,10 @@ use Rattle.gr_tree.specs.declared.tree.ForHeader.TheVariants as for
 use Rattle.gr_tree.specs.declared.tree.Stmt.TheVariants as stmt
 use Rattle.gr_tree.specs.declared.tree.Else.{Else}
 use Rattle.gr_tree.specs.declared.tree.Else.TheBlock.{hidden-the_row-BlockItem-0}
-use Rattle.gr_tree.specs.declared.tree.Else.TheViews.{roll-Block, roll-IfStmt}
+use Rattle.gr_tree.specs.declared.tree.Else.TheViews.{roll-BlockStmt, roll-IfStmt}
 use Rattle.gr_tree.specs.declared.tree.Else.TheVariants as else
-use Rattle.gr_tree.specs.declared.tree.BlockTree.{BlockTree, Row_of-BlockItem, end_of-BlockItem, more_of-BlockItem, items-the_row-BlockItem}
-use Rattle.gr_tree.specs.declared.tree.BlockTree.{items_hidden-the_row-BlockItem-0}
+use Rattle.gr_tree.specs.declared.tree.BlockStmt.{BlockStmt, Row_of-BlockItem, end_of-BlockItem, more_of-BlockItem, items-the_row-BlockItem}
+use Rattle.gr_tree.specs.declared.tree.BlockStmt.{items_hidden-the_row-BlockItem-0}
 use Rattle.gr_tree.specs.declared.tree.BlockItem.{BlockItem}
 use Rattle.gr_tree.specs.declared.tree.IfStmt.{IfStmt}
 use Rattle.gr_tree.specs.Tree as tree
@@ -125,7 +125,7 @@ pub simple_stmt_formed : (s : SimpleStmt) → IsSimple false (simple_view s) →
 unfolding IsStatement stmt_view
 simple_stmt_formed s h = h
 
-pub block_stmt_formed : (b : BlockTree) → IsBlock (block_view b) → IsStatement (stmt_view (stmt.Block b))
+pub block_stmt_formed : (b : BlockStmt) → IsBlock (block_view b) → IsStatement (stmt_view (stmt.Block b))
 unfolding IsStatement stmt_view
 block_stmt_formed b h = h
 
@@ -133,7 +133,7 @@ pub if_stmt_formed : (i : IfStmt) → IsIf (if_view i) → IsStatement (stmt_vie
 unfolding IsStatement stmt_view
 if_stmt_formed i h = h
 
-pub for_stmt_formed : (p : ℕ) (f : ForHeader) (b : BlockTree) → IsFor (for_view f) → IsBlock (block_view b) → IsStatement (stmt_view (stmt.For p f b))
+pub for_stmt_formed : (p : ℕ) (f : ForHeader) (b : BlockStmt) → IsFor (for_view f) → IsBlock (block_view b) → IsStatement (stmt_view (stmt.For p f b))
 unfolding IsStatement stmt_view
 for_stmt_formed p f b h k = (h, k)
 
@@ -173,9 +173,9 @@ row_formed (more_of-BlockItem s (Some p) (more_of-BlockItem t q rest)) a h = (
       (items-the_row-BlockItem _ (more_of-BlockItem t q rest)) a) h.1,
 )
 
-pub block_formed : (o : ℕ) (ss : _) (c : ℕ) → let x = block_view (roll-BlockTree (record { «open» = o; statements = ss; close = c })) in
+pub block_formed : (o : ℕ) (ss : _) (c : ℕ) → let x = block_view (roll-BlockStmt (record { «open» = o; statements = ss; close = c })) in
     IsListed IsStatement block_item_view false ss.items → IsBlock x
-unfolding IsBlock block_view roll-BlockTree denote.Hole.Carrier.roll
+unfolding IsBlock block_view roll-BlockStmt denote.Hole.Carrier.roll
 block_formed o ss c w =
     let same = sym (items_hidden-the_row-BlockItem-0 ss) in (
       some_row (hidden-the_row-BlockItem-0 ss) (subst (IsJoinedBy (λ (i : BlockItem). i.semicolon)) same (w.joined refl)),
@@ -185,7 +185,7 @@ block_formed o ss c w =
 
 -- `if` and `else`
 
-pub if_formed : (p : ℕ) (i : Option IfInit) (e : Expr) (b : BlockTree) (rest : Else) → Perhaps IsInit (option_view init_view i) → IsExprIn true (expr_view e) →
+pub if_formed : (p : ℕ) (i : Option IfInit) (e : Expr) (b : BlockStmt) (rest : Else) → Perhaps IsInit (option_view init_view i) → IsExprIn true (expr_view e) →
     IsBlock (block_view b) → IsElse (else_view rest) →
     IsIf (if_view (roll-IfStmt (record { at = p; init = i; condition = e; body = b; otherwise = rest })))
 unfolding IsIf if_view roll-IfStmt denote.Hole.Carrier.roll
@@ -199,6 +199,6 @@ pub else_if_formed : (p : ℕ) (i : _) → let x = else.If p i in IsIf (if_view 
 unfolding IsElse else_view
 else_if_formed p i h = h
 
-pub else_block_formed : (p : ℕ) (b : BlockTree) → IsBlock (block_view b) → IsElse (else_view (else.Block p b))
+pub else_block_formed : (p : ℕ) (b : BlockStmt) → IsBlock (block_view b) → IsElse (else_view (else.Block p b))
 unfolding IsElse else_view
 else_block_formed p b h = h

@@ -4,7 +4,7 @@ use Rattle.gr_tree.specs.declared.syntax.Kind.TheVariants as kind
 use Rattle.gr_tree.specs.declared.syntax.Token.{Token}
 use Rattle.gr_tree.specs.declared.tree.ImportSpec.{ImportSpec}
 use Rattle.gr_tree.specs.declared.tree.VarSpec.{VarSpec}
-use Rattle.gr_tree.specs.declared.tree.FieldTree.{FieldTree}
+use Rattle.gr_tree.specs.declared.tree.FieldDecl.{FieldDecl}
 use Rattle.gr_tree.specs.declared.tree.TypeExpr.{TypeExpr}
 use Rattle.gr_tree.specs.declared.tree.TypeBody.TheVariants as body
 use Rattle.gr_tree.specs.declared.tree.TypeSpec.{TypeSpec}
@@ -31,7 +31,7 @@ pub global_spelled_as : (g : VarSpec) → global_spelled g ≡ names_spelled g.n
 unfolding global_tokens global_view
 global_spelled_as g = refl
 
-pub field_spelled_as : (f : FieldTree) → field_spelled f ≡ names_spelled f.names.items ++ type_spelled f.field_type
+pub field_spelled_as : (f : FieldDecl) → field_spelled f ≡ names_spelled f.names.items ++ type_spelled f.field_type
 unfolding field_tokens field_view
 field_spelled_as f = refl
 

@@ -9,10 +9,10 @@ use Rattle.gr_tree.specs.declared.tree.ForHeader.TheVariants as for
 use Rattle.gr_tree.specs.declared.tree.Stmt.TheVariants as stmt
 use Rattle.gr_tree.specs.declared.tree.Else.{Else}
 use Rattle.gr_tree.specs.declared.tree.Else.TheBlock.{hidden-the_row-BlockItem-0}
-use Rattle.gr_tree.specs.declared.tree.Else.TheViews.{roll-Block, roll-IfStmt}
+use Rattle.gr_tree.specs.declared.tree.Else.TheViews.{roll-BlockStmt, roll-IfStmt}
 use Rattle.gr_tree.specs.declared.tree.Else.TheVariants as else
-use Rattle.gr_tree.specs.declared.tree.BlockTree.{BlockTree, Row_of-BlockItem, end_of-BlockItem, more_of-BlockItem, items-the_row-BlockItem}
-use Rattle.gr_tree.specs.declared.tree.BlockTree.{items_hidden-the_row-BlockItem-0}
+use Rattle.gr_tree.specs.declared.tree.BlockStmt.{BlockStmt, Row_of-BlockItem, end_of-BlockItem, more_of-BlockItem, items-the_row-BlockItem}
+use Rattle.gr_tree.specs.declared.tree.BlockStmt.{items_hidden-the_row-BlockItem-0}
 use Rattle.gr_tree.specs.declared.tree.IfStmt.{IfStmt}
 use Rattle.gr_tree.specs.declared.tree.FuncDecl.{FuncDecl}
 use Rattle.gr_tree.specs.declared.tree.ImportDecl.{ImportDecl}
@@ -71,7 +71,7 @@ pub simple_stmt_spelled : (s : SimpleStmt) → stmt_spelled (stmt.Simple s) ≡ 
 unfolding statement_tokens stmt_view
 simple_stmt_spelled s = refl
 
-pub block_stmt_spelled : (b : BlockTree) → stmt_spelled (stmt.Block b) ≡ block_spelled b
+pub block_stmt_spelled : (b : BlockStmt) → stmt_spelled (stmt.Block b) ≡ block_spelled b
 unfolding statement_tokens stmt_view
 block_stmt_spelled b = refl
 
@@ -79,7 +79,7 @@ pub if_stmt_spelled : (i : IfStmt) → stmt_spelled (stmt.If i) ≡ if_spelled i
 unfolding statement_tokens stmt_view
 if_stmt_spelled i = refl
 
-pub for_stmt_spelled : (p : ℕ) (h : ForHeader) (b : BlockTree) → stmt_spelled (stmt.For p h b) ≡ sign kind.For p ∷ (for_spelled h ++ block_spelled b)
+pub for_stmt_spelled : (p : ℕ) (h : ForHeader) (b : BlockStmt) → stmt_spelled (stmt.For p h b) ≡ sign kind.For p ∷ (for_spelled h ++ block_spelled b)
 unfolding statement_tokens stmt_view
 for_stmt_spelled p h b = refl
 
@@ -104,15 +104,15 @@ statement_row_tokens end_of-BlockItem = refl
 statement_row_tokens (more_of-BlockItem s p rest) = ap (λ x. stmt_spelled s ++ (sign_if kind.Semicolon p ++ x)) (statement_row_tokens rest)
     ∙ sym (append_assoc (stmt_spelled s) (sign_if kind.Semicolon p) (all_tokens block_item_spelled (items-the_row-BlockItem _ rest)))
 
-pub block_spelled_as : (o : ℕ) (ss : _) (c : ℕ) → block_spelled (roll-BlockTree (record { «open» = o; statements = ss; close = c })) ≡
+pub block_spelled_as : (o : ℕ) (ss : _) (c : ℕ) → block_spelled (roll-BlockStmt (record { «open» = o; statements = ss; close = c })) ≡
     sign kind.LeftBrace o ∷ (all_tokens block_item_spelled ss.items ++ (sign kind.RightBrace c ∷ []))
-unfolding block_tokens block_view roll-BlockTree denote.Hole.Carrier.roll
+unfolding block_tokens block_view roll-BlockStmt denote.Hole.Carrier.roll
 block_spelled_as o ss c = ap (λ x. sign kind.LeftBrace o ∷ (x ++ (sign kind.RightBrace c ∷ [])))
     (statement_row_tokens (hidden-the_row-BlockItem-0 ss) ∙ ap (λ xs. all_tokens block_item_spelled xs) (items_hidden-the_row-BlockItem-0 ss))
 
 -- `if` and `else`
 
-pub if_spelled_as : (p : ℕ) (i : Option IfInit) (e : Expr) (b : BlockTree) (rest : Else) →
+pub if_spelled_as : (p : ℕ) (i : Option IfInit) (e : Expr) (b : BlockStmt) (rest : Else) →
     if_spelled (roll-IfStmt (record { at = p; init = i; condition = e; body = b; otherwise = rest })) ≡
     sign kind.If p ∷ ((tokens_if init_tokens (option_view init_view i) ++ expr_spelled e) ++ (block_spelled b ++ else_spelled rest))
 unfolding if_tokens if_view roll-IfStmt denote.Hole.Carrier.roll
@@ -127,7 +127,7 @@ pub else_if_spelled : (p : ℕ) (i : _) → else_spelled (else.If p i) ≡ sign 
 unfolding else_tokens else_view
 else_if_spelled p i = refl
 
-pub else_block_spelled : (p : ℕ) (b : BlockTree) → else_spelled (else.Block p b) ≡ sign kind.Else p ∷ block_spelled b
+pub else_block_spelled : (p : ℕ) (b : BlockStmt) → else_spelled (else.Block p b) ≡ sign kind.Else p ∷ block_spelled b
 unfolding else_tokens else_view
 else_block_spelled p b = refl
 

@@ -15,13 +15,13 @@ use Rattle.gr_tree.specs.declared.tree.SimpleStmt.{SimpleStmt}
 use Rattle.gr_tree.specs.declared.tree.IfInit.{IfInit}
 use Rattle.gr_tree.specs.declared.tree.ForHeader.{ForHeader}
 use Rattle.gr_tree.specs.declared.tree.Stmt.{Stmt}
-use Rattle.gr_tree.specs.declared.tree.BlockTree.{BlockTree}
+use Rattle.gr_tree.specs.declared.tree.BlockStmt.{BlockStmt}
 use Rattle.gr_tree.specs.declared.tree.IfStmt.{IfStmt}
 use Rattle.gr_tree.specs.declared.tree.Else.{Else}
 use Rattle.gr_tree.specs.declared.tree.ImportSpec.{ImportSpec}
 use Rattle.gr_tree.specs.declared.tree.BasicLit.{BasicLit}
 use Rattle.gr_tree.specs.declared.tree.VarSpec.{VarSpec}
-use Rattle.gr_tree.specs.declared.tree.FieldTree.{FieldTree}
+use Rattle.gr_tree.specs.declared.tree.FieldDecl.{FieldDecl}
 use Rattle.gr_tree.specs.declared.tree.TypeBody.{TypeBody}
 use Rattle.gr_tree.specs.declared.tree.TypeSpec.{TypeSpec}
 use Rattle.gr_tree.specs.declared.tree.Receiver.{Receiver}
@@ -87,7 +87,7 @@ for_spelled h = flat.for_tokens (for_view h)
 abbrev pub stmt_spelled : Stmt → List Token
 stmt_spelled s = flat.statement_tokens (stmt_view s)
 
-abbrev pub block_spelled : BlockTree → List Token
+abbrev pub block_spelled : BlockStmt → List Token
 block_spelled b = flat.block_tokens (block_view b)
 
 abbrev pub if_spelled : IfStmt → List Token
@@ -105,7 +105,7 @@ basic_spelled b = flat.basic_tokens (basic_view b)
 abbrev pub global_spelled : VarSpec → List Token
 global_spelled g = flat.global_tokens (global_view g)
 
-abbrev pub field_spelled : FieldTree → List Token
+abbrev pub field_spelled : FieldDecl → List Token
 field_spelled f = flat.field_tokens (field_view f)
 
 abbrev pub body_spelled : TypeBody → List Token

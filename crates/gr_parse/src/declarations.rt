@@ -16,7 +16,7 @@ use crate::short_lists::push;
 use crate::take::{Parsed, at, expect, goes_on, open, separator};
 use crate::types::type_expr;
 use gr_tree::syntax::{Kind, Token};
-use gr_tree::tree::{FieldTree, ImportSpec, Item, TypeBody, TypeSpec, VarSpec, VarValues};
+use gr_tree::tree::{FieldDecl, ImportSpec, Item, TypeBody, TypeSpec, VarSpec, VarValues};
 use std::alloc::Global;
 
 impl Spec for ImportSpec {
@@ -105,7 +105,7 @@ fn type_body(alloc: Global, tokens: &[Token], depth: u32) -> Parsed<'_, TypeBody
 }
 
 /// The fields of a struct, and the closing brace.
-fn fields(alloc: Global, tokens: &[Token], depth: u32) -> Parsed<'_, (Vec<Item<FieldTree>>, usize)>
+fn fields(alloc: Global, tokens: &[Token], depth: u32) -> Parsed<'_, (Vec<Item<FieldDecl>>, usize)>
     ensures exact { Parses (A Fields ∷ []) (λ x. items_spelled Kind.Semicolon field_spelled x.0.0.items ++ (sign Kind.RightBrace x.0.1 ∷ [])) (λ x. x.1.now) depth tokens.now result }
     ensures formed { IfOk result (λ x. IsOpenList IsField (list_view field_view x.0.0.items)) }
 {
@@ -124,11 +124,11 @@ fn fields(alloc: Global, tokens: &[Token], depth: u32) -> Parsed<'_, (Vec<Item<F
 }
 
 /// Fields of one type.
-fn field(alloc: Global, tokens: &[Token], depth: u32) -> Parsed<'_, FieldTree>
+fn field(alloc: Global, tokens: &[Token], depth: u32) -> Parsed<'_, FieldDecl>
     ensures exact { Parses (One (is Kind.Name) ∷ A MoreNames ∷ A TypeUse ∷ []) (λ x. field_spelled x.0) (λ x. x.1.now) depth tokens.now result }
     ensures formed { IfOk result (λ x. IsField (field_view x.0)) }
 {
     let (names, rest) = names(alloc, tokens, depth)?;
     let (field_type, rest) = type_expr(alloc, rest, depth)?;
-    Ok((FieldTree { names, field_type }, rest))
+    Ok((FieldDecl { names, field_type }, rest))
 }

@@ -8,7 +8,7 @@ use std::alloc::{AllocError, AllocFailed};
 /// Why a file was not parsed: its first `syntax` or `nesting` fault, or want of memory.
 #[derive(Debug, Drop)]
 pub enum ParseRefusal {
-    TextFault(TextFault),
+    Fault(TextFault),
     Memory,
 }
 

@@ -20,13 +20,13 @@ use crate::simple::{exprs, simple};
 use crate::take::{Parsed, at, expect, open, separator};
 use crate::words::Setting;
 use gr_tree::syntax::{Kind, Token};
-use gr_tree::tree::{BlockItem, BlockTree, Else, ExprItem, IfStmt, LocalSpec, Stmt};
+use gr_tree::tree::{BlockItem, BlockStmt, Else, ExprItem, IfStmt, LocalSpec, Stmt};
 use std::alloc::Global;
 use std::mem::drop;
 
 /// A brace block.
 #[cycle(statement)]
-pub(crate) fn block(alloc: Global, tokens: &[Token], depth: u32) -> Parsed<'_, BlockTree>
+pub(crate) fn block(alloc: Global, tokens: &[Token], depth: u32) -> Parsed<'_, BlockStmt>
     ensures exact { Parses (A grammar.Block ∷ []) (λ x. block_spelled x.0) (λ x. x.1.now) depth tokens.now result }
     ensures formed { IfOk result (λ x. IsBlock (block_view x.0)) }
 {
@@ -48,7 +48,7 @@ pub(crate) fn block(alloc: Global, tokens: &[Token], depth: u32) -> Parsed<'_, B
         rest = after;
     }
     let (close, rest) = expect(rest, Kind::RightBrace, inside)?;
-    let block = BlockTree {
+    let block = BlockStmt {
         open,
         statements,
         close,
@@ -128,7 +128,7 @@ fn if_stmt(alloc: Global, at: usize, tokens: &[Token], depth: u32) -> Parsed<'_,
 
 /// The block of an `if`, and what stands behind it.
 #[cycle(statement)]
-fn branches(alloc: Global, tokens: &[Token], depth: u32) -> Parsed<'_, (BlockTree, Else)>
+fn branches(alloc: Global, tokens: &[Token], depth: u32) -> Parsed<'_, (BlockStmt, Else)>
     ensures exact { Parses (A IfBody ∷ []) (λ x. block_spelled x.0.0 ++ else_spelled x.0.1) (λ x. x.1.now) depth tokens.now result }
     ensures formed { IfOk result (λ x. IsBlock (block_view x.0.0) × IsElse (else_view x.0.1)) }
 {

@@ -24,7 +24,7 @@ pub(crate) fn next(tokens: &[Token]) -> Option<(Token, &[Token])>
 
 /// The syntax fault at the first of the tokens.
 pub(crate) fn misplaced(tokens: &[Token]) -> ParseError
-    ensures { result ≡ ParseError.Fault FaultKind.Syntax (length tokens.now) }
+    ensures { result ≡ ParseError.Fault TokenFaultKind.Syntax (length tokens.now) }
 {
     ParseError::Fault(TokenFaultKind::Syntax, tokens.len())
 }

@@ -15,7 +15,7 @@ pub struct TextFault {
 /// Why a text was not cut: its first fault, or want of memory.
 #[derive(Debug, Drop)]
 pub enum ScanRefusal {
-    TextFault(TextFault),
+    Fault(TextFault),
     Memory,
 }
 

@@ -23,13 +23,13 @@ use Rattle.gr_tree.specs.declared.tree.Results.{Results}
 use Rattle.gr_tree.specs.declared.tree.Results.TheVariants as results
 use Rattle.gr_tree.specs.declared.tree.FuncDecl.{FuncDecl}
 use Rattle.gr_tree.specs.declared.tree.File.{File}
-use Rattle.gr_tree.specs.declared.tree.BlockTree as trees
-use Rattle.gr_tree.specs.declared.tree.BlockTree.{BlockTree', out-BlockTree, outs-BlockTree'}
+use Rattle.gr_tree.specs.declared.tree.BlockStmt as trees
+use Rattle.gr_tree.specs.declared.tree.BlockStmt.{BlockStmt', out-BlockStmt, outs-BlockStmt'}
 use Rattle.gr_tree.specs.declared.tree.Item.{Item}
 use Rattle.gr_tree.specs.declared.tree.TypeExpr.{TypeExpr}
 use Rattle.gr_tree.specs.declared.tree.VarSpec.{VarSpec}
 use Rattle.gr_tree.specs.declared.tree.TypeSpec.{TypeSpec}
-use Rattle.gr_tree.specs.declared.tree.FieldTree.{FieldTree}
+use Rattle.gr_tree.specs.declared.tree.FieldDecl.{FieldDecl}
 use Rattle.gr_tree.specs.declared.tree.Param.{Param}
 use Rattle.gr_tree.specs.declared.tree.ImportSpec.{ImportSpec}
 use Rattle.gr_tree.specs.declared.tree.ImportDecl.{ImportDecl}
@@ -41,7 +41,7 @@ global_part s x = global_name s x.value
 abbrev pub member_part : Source → Item ℕ → List Site
 member_part s x = member_name s x.value
 
-abbrev pub field_part : Source → Item FieldTree → List Site
+abbrev pub field_part : Source → Item FieldDecl → List Site
 field_part s x = field_sites s (field_view x.value)
 
 abbrev pub param_part : Source → Block → ℕ → Item Param → List Site
@@ -72,7 +72,7 @@ unfolding group_sites group_view separated_sites
 spec_from f v g o items c xs eg ex = ap (flat_map (λ x. f (v x.value))) ex ∙ flat_map-map (λ x. f x.value) (item_view v) items.items ∙
     ap (λ z. spec_sites f (group_view v z)) (sym eg)
 
-pub struct_from : (s : Source) (b : TypeBody) (p o : ℕ) (fields : _) (c : ℕ) (xs : List (Item FieldTree)) → b ≡ body.Struct p o fields c → xs ≡ fields.items →
+pub struct_from : (s : Source) (b : TypeBody) (p o : ℕ) (fields : _) (c : ℕ) (xs : List (Item FieldDecl)) → b ≡ body.Struct p o fields c → xs ≡ fields.items →
     flat_map (field_part s) xs ≡ body_sites s (body_view b)
 unfolding body_sites body_view
 struct_from s b p o fields c xs eb ex = ap (flat_map (field_part s)) ex ∙ flat_map-map (λ x. field_sites s x.value) (item_view field_view) fields.items ∙
@@ -90,21 +90,23 @@ func_parts s f o c role ps =
     (list_sites (param_sites s (Inner s.rank o c) o) (list_view param_view ps) ++
     (result_sites s (results_view f.results) ++ block_sites s (block_view f.body))))
 
-close_from : (x : trees.Block) → (out-Block x).close ≡ close_of (block_view x)
+close_from : (x : trees.BlockStmt) → (out-BlockStmt x).close ≡ close_of (block_view x)
 unfolding block_view
-close_from (Block' o shape row c) = ap (λ r. r.close) (outs-Block' o shape row c)
+close_from (BlockStmt' o shape row c) = ap (λ r. r.close) (outs-BlockStmt' o shape row c)
 
 pub func_read : (s : Source) (f : FuncDecl) (role : Role) (ps : List (Item Param)) →
     role ≡ func_role (option_view receiver_view f.receiver) (s.spell f.name) → ps ≡ f.params.items →
-    sites_if (receiver_sites s (Inner s.rank (out-Block f.body).«open» (out-Block f.body).close) (out-Block f.body).«open»)
+    sites_if (receiver_sites s (Inner s.rank (out-BlockStmt f.body).«open» (out-BlockStmt f.body).close) (out-BlockStmt f.body).«open»)
     (option_view receiver_view f.receiver) ++ (site s f.name role ∷
-    (list_sites (param_sites s (Inner s.rank (out-Block f.body).«open» (out-Block f.body).close) (out-Block f.body).«open») (list_view param_view ps) ++
+    (list_sites (param_sites s (Inner s.rank (out-BlockStmt f.body).«open» (out-BlockStmt f.body).close) (out-BlockStmt f.body).«open»)
+        (list_view param_view ps) ++
     (result_sites s (results_view f.results) ++ block_sites s (block_view f.body)))) ≡ func_sites s (func_view f)
 unfolding func_sites func_view func_parts
 func_read s f role ps er ep =
-    ap (λ r. func_parts s f (out-Block f.body).«open» (out-Block f.body).close r ps) er ∙
-    ap (func_parts s f (out-Block f.body).«open» (out-Block f.body).close (func_role (option_view receiver_view f.receiver) (s.spell f.name))) ep ∙
-    ap (λ o. func_parts s f o (out-Block f.body).close (func_role (option_view receiver_view f.receiver) (s.spell f.name)) f.params.items) (open_from f.body) ∙
+    ap (λ r. func_parts s f (out-BlockStmt f.body).«open» (out-BlockStmt f.body).close r ps) er ∙
+    ap (func_parts s f (out-BlockStmt f.body).«open» (out-BlockStmt f.body).close (func_role (option_view receiver_view f.receiver) (s.spell f.name))) ep ∙
+    ap (λ o. func_parts s f o (out-BlockStmt f.body).close (func_role (option_view receiver_view f.receiver) (s.spell f.name)) f.params.items)
+        (open_from f.body) ∙
     ap (λ c. func_parts s f (open_of (block_view f.body)) c (func_role (option_view receiver_view f.receiver) (s.spell f.name)) f.params.items)
     (close_from f.body)
 

@@ -27,9 +27,9 @@ use Rattle.gr_tree.specs.declared.tree.LocalSpec.{LocalSpec}
 use Rattle.gr_tree.specs.declared.tree.Group.{Group}
 use Rattle.gr_tree.specs.declared.tree.Group.TheVariants as group
 use Rattle.gr_tree.specs.declared.tree.BlockItem.{BlockItem}
-use Rattle.gr_tree.specs.declared.tree.BlockTree as trees
-use Rattle.gr_tree.specs.declared.tree.BlockTree.{BlockTree', out-BlockTree, outs-BlockTree', Row_of-BlockItem, end_of-BlockItem, more_of-BlockItem}
-use Rattle.gr_tree.specs.declared.tree.BlockTree.{items-the_row-BlockItem, items_shown-the_row-BlockItem-0}
+use Rattle.gr_tree.specs.declared.tree.BlockStmt as trees
+use Rattle.gr_tree.specs.declared.tree.BlockStmt.{BlockStmt', out-BlockStmt, outs-BlockStmt', Row_of-BlockItem, end_of-BlockItem, more_of-BlockItem}
+use Rattle.gr_tree.specs.declared.tree.BlockStmt.{items-the_row-BlockItem, items_shown-the_row-BlockItem-0}
 use Rattle.gr_tree.specs.declared.tree.IfStmt.{IfStmt, IfStmt', out-IfStmt, outs-IfStmt'}
 
 abbrev pub expr_part : Source → ExprItem → List Site
@@ -61,18 +61,20 @@ unfolding statements_sites statements_view
 statement_row s b close end_of-BlockItem = refl
 statement_row s b close (more_of-BlockItem x p rest) = ap (λ z. statement_sites s b (unwrap_or p close) (stmt_view x) ++ z) (statement_row s b close rest)
 
-block_from : (s : Source) (x : trees.Block) →
-    flat_map (statement_part s (blocks.Inner s.rank (out-Block x).«open» (out-Block x).close) (out-Block x).close) (out-Block x).statements.items ≡
+block_from : (s : Source) (x : trees.BlockStmt) →
+    flat_map (statement_part s (blocks.Inner s.rank (out-BlockStmt x).«open» (out-BlockStmt x).close) (out-BlockStmt x).close)
+        (out-BlockStmt x).statements.items ≡
     block_sites s (block_view x)
 unfolding block_sites block_view
-block_from s (Block' o shape row c) =
-    ap (λ r. flat_map (statement_part s (blocks.Inner s.rank r.«open» r.close) r.close) r.statements.items) (outs-Block' o shape row c) ∙
+block_from s (BlockStmt' o shape row c) =
+    ap (λ r. flat_map (statement_part s (blocks.Inner s.rank r.«open» r.close) r.close) r.statements.items) (outs-BlockStmt' o shape row c) ∙
     ap (flat_map (statement_part s (blocks.Inner s.rank o c) c)) (items_shown-the_row-BlockItem-0 shape row) ∙
     sym (statement_row s (blocks.Inner s.rank o c) c row)
 
-pub block_read : (s : Source) (x : trees.Block) (xs : List BlockItem) → xs ≡ (out-Block x).statements.items →
-    flat_map (statement_part s (blocks.Inner s.rank (out-Block x).«open» (out-Block x).close) (out-Block x).close) xs ≡ block_sites s (block_view x)
-block_read s x xs e = ap (flat_map (statement_part s (blocks.Inner s.rank (out-Block x).«open» (out-Block x).close) (out-Block x).close)) e ∙ block_from s x
+pub block_read : (s : Source) (x : trees.BlockStmt) (xs : List BlockItem) → xs ≡ (out-BlockStmt x).statements.items →
+    flat_map (statement_part s (blocks.Inner s.rank (out-BlockStmt x).«open» (out-BlockStmt x).close) (out-BlockStmt x).close) xs ≡ block_sites s (block_view x)
+block_read s x xs e = ap (flat_map (statement_part s (blocks.Inner s.rank (out-BlockStmt x).«open» (out-BlockStmt x).close) (out-BlockStmt x).close)) e ∙
+    block_from s x
 
 pub if_from : (s : Source) (q : ℕ) (x : IfStmt) →
     sites_if (init_sites s (blocks.Inner s.rank (out-IfStmt x).at q)) (option_view init_view (out-IfStmt x).init) ++
@@ -83,9 +85,9 @@ if_from s q (IfStmt' p init e b rest) =
     ap (λ r. sites_if (init_sites s (blocks.Inner s.rank r.at q)) (option_view init_view r.init) ++ (expr_sites s (expr_view r.condition) ++
     (block_sites s (block_view r.body) ++ else_sites s q (else_view r.otherwise)))) (outs-IfStmt' p init e b rest)
 
-pub open_from : (x : trees.Block) → (out-Block x).«open» ≡ open_of (block_view x)
+pub open_from : (x : trees.BlockStmt) → (out-BlockStmt x).«open» ≡ open_of (block_view x)
 unfolding block_view
-open_from (Block' o shape row c) = ap (λ r. r.«open») (outs-Block' o shape row c)
+open_from (BlockStmt' o shape row c) = ap (λ r. r.«open») (outs-BlockStmt' o shape row c)
 
 pub left_default : (s : Source) (b : Block) (q : ℕ) (e : Expr) → ((n : ℕ) → e ≡ expr.Name n → ⊥) → ((n : ℕ) → e ≡ expr.Blank n → ⊥) →
     expr_sites s (expr_view e) ≡ left_sites s b q (expr_view e)
@@ -149,8 +151,8 @@ locals_from s b q g o items c xs eg ex =
     ap (flat_map (local_part s b c)) ex ∙ flat_map-map (λ x. local_sites s b (unwrap_or x.separator c) x.value) (item_view local_view) items.items ∙
     ap (λ z. group_sites (local_sites s b) q (group_view local_view z)) (sym eg)
 
-pub for_from : (s : Source) (b : Block) (q : ℕ) (x : Stmt) (p : ℕ) (h : ForHeader) (body : trees.Block) → x ≡ stmt.For p h body →
-    for_sites s (blocks.Inner s.rank p q) (out-Block body).«open» (for_view h) ++ block_sites s (block_view body) ≡ statement_sites s b q (stmt_view x)
+pub for_from : (s : Source) (b : Block) (q : ℕ) (x : Stmt) (p : ℕ) (h : ForHeader) (body : trees.BlockStmt) → x ≡ stmt.For p h body →
+    for_sites s (blocks.Inner s.rank p q) (out-BlockStmt body).«open» (for_view h) ++ block_sites s (block_view body) ≡ statement_sites s b q (stmt_view x)
 unfolding statement_sites stmt_view
 for_from s b q x p h body ex =
     ap (λ z. for_sites s (blocks.Inner s.rank p q) z (for_view h) ++ block_sites s (block_view body)) (open_from body) ∙

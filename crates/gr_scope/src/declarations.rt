@@ -13,7 +13,7 @@ use crate::simple::{add_ident, add_idents};
 use crate::source::RankedFile;
 use crate::statements::add_block;
 use gr_tree::tree::{
-    Decl, FieldTree, File, FuncDecl, Group, ImportDecl, ImportSpec, Item, Param, Receiver, Results,
+    Decl, FieldDecl, File, FuncDecl, Group, ImportDecl, ImportSpec, Item, Param, Receiver, Results,
     TypeBody, TypeSpec, VarSpec,
 };
 use std::alloc::AllocError;
@@ -60,7 +60,7 @@ fn add_var_spec<'a>(
 fn add_field<'a>(
     source: &RankedFile<'a>,
     found: &mut Vec<Identifier<'a>>,
-    field: &FieldTree,
+    field: &FieldDecl,
 ) -> Result<(), AllocError>
     ensures { OnOk result (Adds found.old.items found.new.items (field_sites (source_of source.now) (field_view field.now))) }
 {

@@ -45,7 +45,7 @@ pub(crate) fn add_statement<'a>(
 pub(crate) fn add_block<'a>(
     source: &RankedFile<'a>,
     found: &mut Vec<Identifier<'a>>,
-    block: &tree::Block,
+    block: &tree::BlockStmt,
 ) -> Result<(), AllocError>
     ensures { OnOk result (Adds found.old.items found.new.items (block_sites (source_of source.now) (block_view block.now))) }
 {

@@ -8,9 +8,9 @@ use Rattle.gr_tree.specs.declared.tree.Expr.{Expr}
 use Rattle.gr_tree.specs.declared.tree.Expr.TheVariants as expr
 use Rattle.gr_tree.specs.declared.tree.ExprItem.{ExprItem}
 use Rattle.gr_tree.specs.declared.tree.BlockItem.{BlockItem}
-use Rattle.gr_tree.specs.declared.tree.BlockTree as trees
-use Rattle.gr_tree.specs.declared.tree.BlockTree.{BlockTree', out-BlockTree, outs-BlockTree', Row_of-BlockItem, end_of-BlockItem, more_of-BlockItem}
-use Rattle.gr_tree.specs.declared.tree.BlockTree.{items-the_row-BlockItem, items_shown-the_row-BlockItem-0}
+use Rattle.gr_tree.specs.declared.tree.BlockStmt as trees
+use Rattle.gr_tree.specs.declared.tree.BlockStmt.{BlockStmt', out-BlockStmt, outs-BlockStmt', Row_of-BlockItem, end_of-BlockItem, more_of-BlockItem}
+use Rattle.gr_tree.specs.declared.tree.BlockStmt.{items-the_row-BlockItem, items_shown-the_row-BlockItem-0}
 use Rattle.gr_tree.specs.declared.tree.IfStmt.{IfStmt, IfStmt', out-IfStmt, outs-IfStmt'}
 use Rattle.gr_imports.specs.Laid.{Laid}
 use Rattle.gr_stages.specs.Marks.{Mark, DeclaresName, SomeDeclares, init_marks, statement_marks, statements_marks, block_marks, if_marks, else_marks}
@@ -24,13 +24,13 @@ unfolding statements_marks statements_view
 statement_row b end_of-BlockItem = refl
 statement_row b (more_of-BlockItem x p rest) = ap (λ z. statement_marks b (stmt_view x) ++ z) (statement_row b rest)
 
-block_from : (b : Bool) (x : trees.Block) → flat_map (statement_part b) (out-Block x).statements.items ≡ block_marks b (block_view x)
+block_from : (b : Bool) (x : trees.BlockStmt) → flat_map (statement_part b) (out-BlockStmt x).statements.items ≡ block_marks b (block_view x)
 unfolding block_marks block_view
-block_from b (Block' o shape row c) =
-    ap (λ r. flat_map (statement_part b) r.statements.items) (outs-Block' o shape row c) ∙
+block_from b (BlockStmt' o shape row c) =
+    ap (λ r. flat_map (statement_part b) r.statements.items) (outs-BlockStmt' o shape row c) ∙
     ap (flat_map (statement_part b)) (items_shown-the_row-BlockItem-0 shape row) ∙ sym (statement_row b row)
 
-pub block_read : (b : Bool) (x : trees.Block) (xs : List BlockItem) → xs ≡ (out-Block x).statements.items →
+pub block_read : (b : Bool) (x : trees.BlockStmt) (xs : List BlockItem) → xs ≡ (out-BlockStmt x).statements.items →
     flat_map (statement_part b) xs ≡ block_marks b (block_view x)
 block_read b x xs e = ap (flat_map (statement_part b)) e ∙ block_from b x
 

@@ -14,7 +14,7 @@ use gr_scope::table::ScopeTable;
 use gr_text::FaultKind;
 use gr_tree::FileTree;
 use gr_tree::tree::{
-    BlockTree, Decl, Else, Expr, ExprItem, ForHeader, IfInit, IfStmt, SimpleStmt, Stmt,
+    BlockStmt, Decl, Else, Expr, ExprItem, ForHeader, IfInit, IfStmt, SimpleStmt, Stmt,
 };
 use std::alloc::AllocError;
 
@@ -174,7 +174,7 @@ fn add_block(
     found: &mut Vec<Fault>,
     scope: FileScope<'_>,
     in_for: bool,
-    block: &BlockTree,
+    block: &BlockStmt,
 ) -> Result<(), AllocError>
     ensures { OnOk result (AddsEach (IsFaultOfMark (laid_in scope.entry.table.now) scope.entry.rank) found.old.items found.new.items (block_marks in_for (block_view block.now))) }
 {

@@ -3,9 +3,9 @@ use Rattle.std.proofs.Common.{◌≡◌, List, [], ◌∷◌, ap, ◌∙◌, ref
 use Rattle.gr_tree.specs.View.{expr_view, option_view}
 use Rattle.gr_tree.specs.FileView.{init_view, stmt_view, block_view, statements_view, if_view, else_view}
 use Rattle.gr_tree.specs.declared.tree.BlockItem.{BlockItem}
-use Rattle.gr_tree.specs.declared.tree.BlockTree as trees
-use Rattle.gr_tree.specs.declared.tree.BlockTree.{BlockTree', out-BlockTree, outs-BlockTree', Row_of-BlockItem, end_of-BlockItem, more_of-BlockItem}
-use Rattle.gr_tree.specs.declared.tree.BlockTree.{items-the_row-BlockItem, items_shown-the_row-BlockItem-0}
+use Rattle.gr_tree.specs.declared.tree.BlockStmt as trees
+use Rattle.gr_tree.specs.declared.tree.BlockStmt.{BlockStmt', out-BlockStmt, outs-BlockStmt', Row_of-BlockItem, end_of-BlockItem, more_of-BlockItem}
+use Rattle.gr_tree.specs.declared.tree.BlockStmt.{items-the_row-BlockItem, items_shown-the_row-BlockItem-0}
 use Rattle.gr_tree.specs.declared.tree.IfStmt.{IfStmt, IfStmt', out-IfStmt, outs-IfStmt'}
 use Rattle.gr_expr.specs.World.{World}
 use Rattle.gr_stmt.specs.Checked.{Checked}
@@ -33,14 +33,14 @@ unfolding check_each check_statements statements_view
 each_row w rs s end_of-BlockItem = refl
 each_row w rs s (more_of-BlockItem x p rest) = each_row w rs (check_statement w rs s (stmt_view x)) rest
 
-block_from : (w : World) (rs : List Target) (s : Checked) (x : trees.Block) →
-    check_each w rs s (out-Block x).statements.items ≡ check_block w rs s (block_view x)
+block_from : (w : World) (rs : List Target) (s : Checked) (x : trees.BlockStmt) →
+    check_each w rs s (out-BlockStmt x).statements.items ≡ check_block w rs s (block_view x)
 unfolding check_block block_view
-block_from w rs s (Block' o shape row c) =
-    ap (λ r. check_each w rs s r.statements.items) (outs-Block' o shape row c) ∙
+block_from w rs s (BlockStmt' o shape row c) =
+    ap (λ r. check_each w rs s r.statements.items) (outs-BlockStmt' o shape row c) ∙
     (ap (check_each w rs s) (items_shown-the_row-BlockItem-0 shape row) ∙ each_row w rs s row)
 
-pub block_read : (w : World) (rs : List Target) (s : Checked) (x : trees.Block) (xs : List BlockItem) → xs ≡ (out-Block x).statements.items →
+pub block_read : (w : World) (rs : List Target) (s : Checked) (x : trees.BlockStmt) (xs : List BlockItem) → xs ≡ (out-BlockStmt x).statements.items →
     check_each w rs s xs ≡ check_block w rs s (block_view x)
 block_read w rs s x xs e = ap (check_each w rs s) e ∙ block_from w rs s x
 

@@ -63,7 +63,8 @@ adds_as {old = old} {new = new} {m = m} a e = subst (λ (x : Judged). Adds x old
 pub list_as : {j k : JudgedList} {old new : FoundInFile} {vs : List Argued} → AddsList j old new vs → j ≡ k → AddsList k old new vs
 list_as {old = old} {new = new} {vs = vs} a e = subst (λ (x : JudgedList). AddsList x old new vs) e a
 
-pub adds_results : (place : ℕ) (ts : List PlainType) (f : FoundInFile) {vs : List Argued} → vs ≡ results_at place ts → AddsList (values_of place (Results ts)) f f vs
+pub adds_results : (place : ℕ) (ts : List PlainType) (f : FoundInFile) {vs : List Argued} → vs ≡ results_at place ts →
+    AddsList (values_of place (Results ts)) f f vs
 unfolding values_of
 adds_results place ts f e = record { values = e; faults = sym (append-nil f.faults.items); uses = sym (append-nil (map use_of f.uses.items)) }
 
@@ -91,7 +92,8 @@ pub record GrownResults (rest total : ResultsJudged) (old now : FoundInFile) (ts
   pub faults : now.faults.items ++ rest.faults ≡ old.faults.items ++ total.faults
   pub uses : now.uses.items ≡ old.uses.items
 
-pub grown_results_step : {rest more total : ResultsJudged} (j : TypeJudged) {old now new : FoundInFile} {ts : List Target} (t : Target) {own : Option PlainType} →
+pub grown_results_step : {rest more total : ResultsJudged} (j : TypeJudged) {old now new : FoundInFile} {ts : List Target} (t : Target)
+    {own : Option PlainType} →
     GrownResults rest total old now ts → AddsType j now new own → t ≡ Wants own → rest ≡ result_then j more → GrownResults more total old new (ts ++ (t ∷ []))
 grown_results_step {rest} {more} {total} j {old} {now} {new} {ts} t {own} g a is e = record {
   wanted = ap (λ x. (ts ++ (x ∷ [])) ++ more.wanted) (is ∙ ap Wants a.found) ∙

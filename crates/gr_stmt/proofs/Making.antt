@@ -58,7 +58,8 @@ returned_then {r} w place results ls {old} {mid} {new} {vs} b c =
     (ap (map use_of) c.uses ∙ b.uses)
 
 -- the names of a declaration as left sides
-pub adds_names : (names : List (Item IdentTree)) (t : Target) (f : FoundInFile) {ts : List Target} → ts ≡ map (λ i. t) names → AddsLefts (name_targets names t) f f ts
+pub adds_names : (names : List (Item IdentTree)) (t : Target) (f : FoundInFile) {ts : List Target} → ts ≡ map (λ i. t) names →
+    AddsLefts (name_targets names t) f f ts
 adds_names names t f e = record { targets = e; faults = sym (append-nil f.faults.items); uses = sym (append-nil (map use_of f.uses.items)) }
 
 pub adds_written : {j : TypeJudged} (names : List (Item IdentTree)) {old new : FoundInFile} {t : Option PlainType} {ts : List Target} → AddsType j old new t →
@@ -70,7 +71,8 @@ adds_written names {old} {new} a e = record {
 }
 
 -- results and then faults
-pub signed : {j : ResultsJudged} (ls : Locals) {old mid new : FoundInFile} {ts : List Target} {places : List ℕ} → AddsResults j old mid ts → Notes places mid new →
+pub signed : {j : ResultsJudged} (ls : Locals) {old mid new : FoundInFile} {ts : List Target} {places : List ℕ} → AddsResults j old mid ts →
+    Notes places mid new →
     checked_with ls new ≡ noting (checked_with ls old) (j.faults ++ places) []
 signed {j} ls {old} {mid} {new} {ts} {places} a n =
     checked_path refl (n.faults ∙ (ap (λ x. x ++ places) a.faults ∙ append_assoc old.faults.items j.faults places))

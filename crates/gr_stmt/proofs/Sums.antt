@@ -2,7 +2,7 @@
 use Rattle.std.proofs.Common.{ℕ, ◌≡◌, Bool, List, [], ◌∷◌, ◌++◌, ap, refl, map, Option}
 use Rattle.gr_tree.specs.View.{expr_view, exprs_view, list_view, type_view}
 use Rattle.gr_tree.specs.FileView.{field_view, decl_view}
-use Rattle.gr_tree.specs.declared.tree.FieldTree.{FieldTree}
+use Rattle.gr_tree.specs.declared.tree.FieldDecl.{FieldDecl}
 use Rattle.gr_tree.specs.declared.tree.Item.{Item}
 use Rattle.gr_tree.specs.declared.tree.Decl.{Decl}
 use Rattle.gr_tree.specs.declared.tree.TypeExpr.{TypeExpr}
@@ -92,7 +92,7 @@ pub decls_end : (w : World) (is_init : ℕ → Bool) (s : Checked) → check_dec
 unfolding check_decls
 decls_end w is_init s = refl
 
-pub field_faults_step : (w : World) (x : Item FieldTree) (xs : List (Item FieldTree)) →
+pub field_faults_step : (w : World) (x : Item FieldDecl) (xs : List (Item FieldDecl)) →
     field_faults w (list_view field_view (x ∷ xs)) ≡ (judge_type w (type_view x.value.field_type)).faults ++ field_faults w (list_view field_view xs)
 unfolding field_faults field_view
 field_faults_step w x xs = refl

@@ -17,7 +17,7 @@ use gr_expr::found::FoundInFile;
 use gr_expr::meaning::Argued;
 use gr_expr::types::{Basic, GoType, ValueKind};
 use gr_expr::world::World;
-use gr_tree::tree::{BasicLit, FieldTree, Group, Item, TypeBody, TypeSpec, VarSpec};
+use gr_tree::tree::{BasicLit, FieldDecl, Group, Item, TypeBody, TypeSpec, VarSpec};
 use std::alloc::{AllocError, Global};
 
 /// The value of a literal.
@@ -115,7 +115,7 @@ fn note_global_faults(
 fn note_field_faults(
     alloc: Global,
     world: &World<'_>,
-    fields: &[Item<FieldTree>],
+    fields: &[Item<FieldDecl>],
     found: &mut FoundInFile,
 ) -> Result<(), AllocError>
     ensures { OnOk result (Notes (field_faults (world_of world.now) (list_view field_view fields.now)) found.old found.new) }

@@ -13,7 +13,7 @@ use crate::sides::{Target, returned, rights};
 use gr_expr::found::LocalNames;
 use gr_expr::world::World;
 use gr_tree::tree::{
-    BlockTree, Else, Expr, ExprItem, ForHeader, Group, IfInit, IfStmt, LocalSpec, SimpleStmt, Stmt,
+    BlockStmt, Else, Expr, ExprItem, ForHeader, Group, IfInit, IfStmt, LocalSpec, SimpleStmt, Stmt,
 };
 use std::alloc::{AllocError, Global};
 
@@ -160,7 +160,7 @@ impl CheckedBody {
         alloc: Global,
         world: &World<'_>,
         results: &[Target],
-        block: &BlockTree,
+        block: &BlockStmt,
     ) -> Result<(), AllocError>
         ensures { OnOk result (checked_of self.new ≡ check_block (world_of world.now) (map target_of results.now) (checked_of self.old) (block_view block.now)) }
     {

@@ -14,7 +14,7 @@ use Rattle.gr_tree.specs.declared.tree.ForHeader.{ForHeader}
 use Rattle.gr_tree.specs.declared.tree.ForHeader.TheVariants as for
 use Rattle.gr_tree.specs.declared.tree.Stmt.{Stmt}
 use Rattle.gr_tree.specs.declared.tree.Stmt.TheVariants as stmt
-use Rattle.gr_tree.specs.declared.tree.BlockTree.{BlockTree, BlockTree', Row_of-BlockItem, end_of-BlockItem, more_of-BlockItem}
+use Rattle.gr_tree.specs.declared.tree.BlockStmt.{BlockStmt, BlockStmt', Row_of-BlockItem, end_of-BlockItem, more_of-BlockItem}
 use Rattle.gr_tree.specs.declared.tree.IfStmt.{IfStmt, IfStmt'}
 use Rattle.gr_tree.specs.declared.tree.Else.{Else}
 use Rattle.gr_tree.specs.declared.tree.Else.TheVariants as else
@@ -23,7 +23,7 @@ use Rattle.gr_tree.specs.declared.tree.BasicLit.{BasicLit}
 use Rattle.gr_tree.specs.declared.tree.BasicLit.TheVariants as basic
 use Rattle.gr_tree.specs.declared.tree.VarValues.{VarValues}
 use Rattle.gr_tree.specs.declared.tree.VarSpec.{VarSpec}
-use Rattle.gr_tree.specs.declared.tree.FieldTree.{FieldTree}
+use Rattle.gr_tree.specs.declared.tree.FieldDecl.{FieldDecl}
 use Rattle.gr_tree.specs.declared.tree.TypeBody.{TypeBody}
 use Rattle.gr_tree.specs.declared.tree.TypeBody.TheVariants as body
 use Rattle.gr_tree.specs.declared.tree.TypeSpec.{TypeSpec}
@@ -74,8 +74,8 @@ unfoldable mutual
   stmt_view (stmt.Continue p) = tree.Continue p
   stmt_view (stmt.Return p es) = tree.Return p (exprs_view es.items)
 
-  pub block_view : BlockTree → BlockTree
-  block_view (BlockTree' o shape row c) = tree.block o (statements_view row) c
+  pub block_view : BlockStmt → BlockTree
+  block_view (BlockStmt' o shape row c) = tree.block o (statements_view row) c
 
   pub statements_view : {m : _} → Row_of-BlockItem m → StatementTrees
   statements_view end_of-BlockItem = tree.no_statement
@@ -102,7 +102,7 @@ var_values_view v = (v.assign, list_view basic_view v.values.items)
 unfoldable pub global_view : VarSpec → GlobalTree
 global_view g = record { names = list_view same_place g.names.items; type_use = type_view g.var_type; values = option_view var_values_view g.values }
 
-unfoldable pub field_view : FieldTree → FieldTree
+unfoldable pub field_view : FieldDecl → FieldTree
 field_view f = record { names = list_view same_place f.names.items; type_use = type_view f.field_type }
 
 unfoldable pub body_view : TypeBody → BodyTree

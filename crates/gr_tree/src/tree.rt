@@ -215,12 +215,12 @@ pub enum Stmt {
         group: Group<LocalSpec>,
     },
     Simple(SimpleStmt),
-    BlockTree(BlockTree),
+    Block(BlockStmt),
     If(IfStmt),
     For {
         at: usize,
         header: ForHeader,
-        body: BlockTree,
+        body: BlockStmt,
     },
     Break(usize),
     Continue(usize),
@@ -233,7 +233,7 @@ pub enum Stmt {
 /// A brace block. `{}` has one empty statement.
 #[derive(Drop)]
 #[cycle(statement)]
-pub struct BlockTree {
+pub struct BlockStmt {
     pub open: usize,
     pub statements: Vec<BlockItem>,
     pub close: usize,
@@ -253,7 +253,7 @@ pub struct IfStmt {
     pub at: usize,
     pub init: Option<IfInit>,
     pub condition: Expr,
-    pub body: BlockTree,
+    pub body: BlockStmt,
     pub otherwise: Else,
 }
 
@@ -263,7 +263,7 @@ pub struct IfStmt {
 pub enum Else {
     None,
     If { at: usize, branch: Box<IfStmt> },
-    BlockTree { at: usize, block: BlockTree },
+    Block { at: usize, block: BlockStmt },
 }
 
 #[derive(Drop)]
@@ -296,7 +296,7 @@ pub struct VarSpec {
 
 /// Fields of one type.
 #[derive(Drop)]
-pub struct FieldTree {
+pub struct FieldDecl {
     pub names: Vec<Item<usize>>,
     pub field_type: TypeExpr,
 }
@@ -308,7 +308,7 @@ pub enum TypeBody {
     Struct {
         at: usize,
         open: usize,
-        fields: Vec<Item<FieldTree>>,
+        fields: Vec<Item<FieldDecl>>,
         close: usize,
     },
 }
@@ -355,7 +355,7 @@ pub struct FuncDecl {
     pub params: Vec<Item<Param>>,
     pub close: usize,
     pub results: Results,
-    pub body: BlockTree,
+    pub body: BlockStmt,
 }
 
 /// `import`, what is imported, and the semicolon behind it.

@@ -29,7 +29,17 @@ pub struct Sought<'a> {
     pub importing: &'a [bool],
 }
 
-/// Marks for the packages that import one, directly or indirectly, if there is one.
+/// Marks for the packages that import that of a number, directly or indirectly, if there is one.
+fn importing_number(alloc: Global, graph: &Graph, number: usize) -> Result<Vec<bool>, AllocError>
+    ensures { IfOk result (λ marks. OfPackage graph.now number (λ q. MarkImporting graph.now q marks.items)) }
+{
+    if number >= graph.len() {
+        return Ok(Vec::new(alloc));
+    }
+    graph.importing(alloc, number)
+}
+
+/// Marks for the packages that import that of a declaration, directly or indirectly, if it has one.
 pub(crate) fn importing_home(
     alloc: Global,
     graph: &Graph,
@@ -37,13 +47,10 @@ pub(crate) fn importing_home(
 ) -> Result<Vec<bool>, AllocError>
     ensures { IfOk result (λ marks. AreImporting graph.now home marks.items) }
 {
-    let Some(home) = home else {
-        return Ok(Vec::new(alloc));
-    };
-    if home >= graph.len() {
-        return Ok(Vec::new(alloc));
+    match home {
+        None => Ok(Vec::new(alloc)),
+        Some(number) => importing_number(alloc, graph, number),
     }
-    graph.importing(alloc, home)
 }
 
 /// Whether a package imports another directly.

@@ -22,7 +22,7 @@ use Rattle.gr_tree.specs.contracts.file_tree.FileTree.{the_row as file_tree}
 use Rattle.gr_scan.specs.contracts.trail.Trail.{the_type as trail_type}
 use Rattle.gr_tree.specs.contracts.tree.SimpleStmt.{enum as simple_enum, the_type as simple_type, the_field as simple_field}
 use Rattle.gr_tree.specs.contracts.tree.ForHeader.{the_type as header_type, the_field as header_field}
-use Rattle.gr_tree.specs.contracts.tree.BlockTree.{the_field as block_field}
+use Rattle.gr_tree.specs.contracts.tree.BlockStmt.{the_field as block_field}
 use Rattle.gr_tree.specs.contracts.tree.FuncDecl.{the_type as func_type}
 use Rattle.gr_tree.specs.contracts.tree.Decl.{enum as decl_enum}
 use Rattle.gr_text.proofs.path.Path.TheSendSync.{the_send as Path-send, the_sync as Path-sync}
@@ -34,7 +34,7 @@ use Rattle.gr_tree.proofs.tree.Ident.TheSendSync.{the_send as Ident-send, the_sy
 use Rattle.gr_tree.proofs.tree.Key.TheSendSync.{the_send as Key-send, the_sync as Key-sync}
 use Rattle.gr_tree.proofs.tree.VarValues.TheSendSync.{the_send as VarValues-send, the_sync as VarValues-sync}
 use Rattle.gr_tree.proofs.tree.BasicLit.TheSendSync.{the_send as BasicLit-send, the_sync as BasicLit-sync}
-use Rattle.gr_tree.proofs.tree.Else.TheLaws.TheKnot.{crosses as else_crosses, send-Block, sync-Block}
+use Rattle.gr_tree.proofs.tree.Else.TheLaws.TheKnot.{crosses as else_crosses, send-BlockStmt, sync-BlockStmt}
 use Rattle.gr_tree.proofs.tree.Expr.TheLaws.TheKnot.{crosses as expr_crosses}
 use Rattle.gr_tree.proofs.tree.TypeExpr.TheLaws.TheKnot.{crosses as type_crosses}
 
@@ -209,7 +209,7 @@ header_field_shared = enum_sync (shape header_type) (
 )
 
 pub block_sent : IsSend (block_field).row
-block_sent = send-Block
+block_sent = send-BlockStmt
     (search owned depth 30 fits 50000)
     (search owned depth 30 fits 50000)
     (search (owned, local_spec_sent) depth 30 fits 50000)
@@ -222,7 +222,7 @@ block_sent = send-Block
     (search owned depth 30 fits 50000)
 
 pub block_shared : IsSync (block_field).row
-block_shared = sync-Block
+block_shared = sync-BlockStmt
     (search owned depth 30 fits 50000)
     (search owned depth 30 fits 50000)
     (search (owned, local_spec_shared) depth 30 fits 50000)

@@ -1,27 +1,26 @@
 -- One import more.
-use Rattle.std.proofs.Common.{◌<◌, sym, subst, arith}
+use Rattle.std.proofs.Common.{◌<◌, get_or, refl, subst, arith}
 use Rattle.gr_graph.proofs.PartLinks.{ArePassed, passed_none, passed_skip, passed_more, passed_all}
 use Rattle.gr_graph.proofs.part.among_places.Goals as goal
+use Rattle.gr_graph.proofs.part.among_places.Goals.{then-place-count+in_ok-push, else-place-count}
 
 pub loop-number-init : goal.loop-number-init
 loop-number-init c = passed_none c.args.imports.now c.args.places.now c.args.count c.new-row.result c.new-row.ensures
 
-pub bounds-places-number : goal.bounds-places-number
-bounds-places-number c = c.requires c.loop-number.number-index 0 (omega arith)
-
--- with a place
-pub loop-number-preserved-in_ok-push : goal.loop-number-preserved-in_ok-push
-loop-number-preserved-in_ok-push c =
-    let k = c.loop-number.number-index in
-    rw c.in_ok-push.ensures.ok (passed_more c.args.imports.now c.args.places.now c.args.count k c.index-places-number.result c.loop-number.row (omega arith)
-    (c.requires k 0 (omega arith)) c.index-places-number.is c.if-place-count.true c.loop-number.invariant)
-
--- without one
+-- with a place or without one
 pub loop-number-preserved : goal.loop-number-preserved
 loop-number-preserved c =
+    let imports = c.args.imports.now in
+    let places = c.args.places.now in
+    let count = c.args.count in
     let k = c.loop-number.number-index in
-    passed_skip c.args.imports.now c.args.places.now c.args.count k c.loop-number.row
-    (λ lt. c.if-place-count.false (subst (λ i. i < c.args.count) (sym c.index-places-number.is) lt)) c.loop-number.invariant
+    let row = c.loop-number.row in
+    elim c.if-place-count.branch [
+      | then-place-count+in_ok-push w ↦ rw (w.row-is, w.in_ok-push.ensures.ok) (passed_more imports places count k (get_or places (get_or imports k 0) 0) row
+          c.loop-number-test.true (c.requires k 0 c.loop-number-test.true) refl w.if-place-count.true c.loop-number.invariant)
+      | else-place-count w ↦ rw w.row-is (passed_skip imports places count k row
+          (λ (lt : get_or places (get_or imports k 0) 0 < count). omega (arith, w.if-place-count.false, lt)) c.loop-number.invariant)
+    ]
 
 pub returns : goal.returns
 returns c = passed_all c.args.imports.now c.args.places.now c.args.count c.loop-number.row

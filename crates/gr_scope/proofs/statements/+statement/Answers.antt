@@ -6,7 +6,7 @@ use Rattle.gr_scope.specs.Found.{source_of}
 use Rattle.gr_scope.proofs.Adding.{adds_none, adds_as, call_adds, then_adds, three_then_adds, each_step, each_all}
 use Rattle.gr_scope.proofs.StatementParts.{for_from, block_read, if_from}
 use Rattle.gr_scope.specs.declared.model.Block.TheVariants as blocks
-use Rattle.gr_tree.specs.declared.tree.BlockTree.{out-BlockTree}
+use Rattle.gr_tree.specs.declared.tree.BlockStmt.{out-BlockStmt}
 use Rattle.gr_tree.specs.View.{exprs_view}
 use Rattle.gr_tree.specs.FileView.{stmt_view, if_view, else_view}
 use Rattle.gr_scope.proofs.statements.+statement.Goals as goal
@@ -62,8 +62,8 @@ pub add_block-loop-item-preserved : goal.add_block-loop-item-preserved
 add_block-loop-item-preserved t c =
     each_step _ c.deref-item-items.result.now c.loop-item.item-index c.item-item.result (omega arith) c.item-item.is c.loop-item.invariant
     (adds_as c.in_ok-add_statement.ensures
-    (ap (λ q. statement_sites (source_of c.args.source.now) (blocks.Inner (source_of c.args.source.now).rank (out-Block c.args.block.now).«open»
-    (out-Block c.args.block.now).close) q (stmt_view c.item-item.result.statement)) c.unwrap_or-behind.ensures))
+    (ap (λ q. statement_sites (source_of c.args.source.now) (blocks.Inner (source_of c.args.source.now).rank (out-BlockStmt c.args.block.now).«open»
+    (out-BlockStmt c.args.block.now).close) q (stmt_view c.item-item.result.statement)) c.unwrap_or-behind.ensures))
 
 pub add_block-returns : goal.add_block-returns
 add_block-returns t c =

@@ -3,9 +3,9 @@ use Rattle.std.proofs.Common.{take}
 use Rattle.std.specs.List.{flat_map}
 use Rattle.gr_scope.specs.Found.{source_of, Adds}
 use Rattle.gr_scope.proofs.StatementParts.{statement_part}
-use Rattle.gr_tree.specs.declared.tree.BlockTree.{out-BlockTree}
+use Rattle.gr_tree.specs.declared.tree.BlockStmt.{out-BlockStmt}
 use Rattle.gr_scope.proofs.statements.+statement.Given as goal
 
 abbrev pub invariant-add_block-loop-item : goal.invariant-add_block-loop-item
 invariant-add_block-loop-item l = Adds l.initial.found.items l.found.items
-    (flat_map (statement_part (source_of l.source) l.inner (out-Block l.block).close) (take l.item-index l.item-items))
+    (flat_map (statement_part (source_of l.source) l.inner (out-BlockStmt l.block).close) (take l.item-index l.item-items))

@@ -41,8 +41,8 @@ keep_or_judge-requires c =
           (λ q on. below_before w order c.requires.order k n p q there at on);
     }
 
-pub is_steady-requires : goal.is_steady-requires
-is_steady-requires c =
+pub is_steady-same-requires : goal.is_steady-same-requires
+is_steady-same-requires c =
     let order = c.args.order.now in
     let k = c.loop-number.number-index in
     (c.requires.order.each (get_or order k 0)).0 (Contains-get_or order k 0 c.loop-number-test.true)
@@ -74,8 +74,8 @@ loop-number-preserved c =
     let verdicts = c.args.earlier.now.verdicts.items in (
       all,
       subst (AreSteady w verdicts new) (sym c.in_ok-pass.ensures.marks)
-          (steady_next w verdicts n q.0 q.1 old new marks within may c.loop-number.invariant.1 c.is_steady.result
-          (λ t. c.is_steady.ensures t q.0 q.1) (all.each n (next_taken order k 0 lt))),
+          (steady_next w verdicts n q.0 q.1 old new marks within may c.loop-number.invariant.1 c.is_steady-same.result
+          (λ t. c.is_steady-same.ensures t q.0 q.1) (all.each n (next_taken order k 0 lt))),
       c.in_ok-pass.ensures.stirs,
       passed_next w (take k order) (take (k + 1) order) n c.loop-number.steady c.pass.new.self (λ m h. taken_or_next order k 0 m lt h)
           c.in_ok-pass.ensures.passes c.loop-number.invariant.3,

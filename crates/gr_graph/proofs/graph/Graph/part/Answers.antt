@@ -1,5 +1,5 @@
 -- The packages with the numbers are those of the files.
-use Rattle.std.proofs.Common.{◌≡◌, ◌<◌, List, length, get_or, ap, subst, ◌∙◌, arith}
+use Rattle.std.proofs.Common.{◌≡◌, ◌<◌, List, length, get_or, sym, ap, subst, ◌∙◌, arith}
 use Rattle.std.proofs.lemmas.List.{length-map}
 use Rattle.gr_text.specs.Packages.{package_paths}
 use Rattle.gr_text.specs.Workspace.{Workspace}
