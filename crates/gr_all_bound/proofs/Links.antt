@@ -2,10 +2,9 @@
 use Rattle.std.proofs.Common.{ℕ, ◌≡◌, inl, inr, false, List, map, ap, sym, subst, refl, ◌∙◌, arith}
 use Rattle.std.specs.Prelude.{Contains, Some, slice_get, option_map}
 use Rattle.std.specs.List.{AllByRecursion}
-use Rattle.std.proofs.lemmas.List.Elements.{recursion_from_All}
 use Rattle.std.proofs.lemmas.Option.{same_Some, slice_get-map}
 use Rattle.gr_text.specs.Workspace.{Workspace}
-use Rattle.gr_tree.specs.SourceFile.{SourceFile, FileParts, IsSourceFile, source_of}
+use Rattle.gr_tree.specs.SourceFile.{SourceFile, IsSourceFile}
 use Rattle.gr_scope.specs.declared.model.Role.{Role}
 use Rattle.gr_scope.specs.declared.model.Role.TheVariants.{NotLexical}
 use Rattle.gr_scope.specs.declared.model.Purpose.{Purpose}
@@ -17,9 +16,9 @@ use Rattle.gr_scope.specs.Parsed.{spelled_file}
 use Rattle.gr_scope.specs.Scoped.{scoped, layout_in}
 use Rattle.gr_scope.specs.Site.{Site, Source, found_site}
 use Rattle.gr_scope.specs.Table.{StandsAt, IsFoundAt}
-use Rattle.gr_order.specs.Covered.{AreSourceFiles}
+use Rattle.gr_order.proofs.HeldBytes.{source_file_at}
 use Rattle.gr_order.proofs.Lexical.{never_bound}
-use Rattle.gr_order.proofs.OwnPaths.{package_sources}
+use Rattle.gr_order.proofs.OwnPaths.{package_sources, part_at}
 use Rattle.gr_order.proofs.Places.{plainly_stands}
 use Rattle.gr_order.proofs.Roles.{role_keeps}
 use Rattle.gr_expr.specs.Types.{Broken}
@@ -34,18 +33,12 @@ use Rattle.gr_verdict.specs.Verdicts.{Verdicts, IsPackageIn}
 use Rattle.gr_bound.specs.declared.declaration.Declaration.{Declaration}
 use Rattle.gr_bound.specs.Binding.{BindsByMember, IsBehindPackage, declaration_of}
 use Rattle.gr_bound.specs.Identifiers.{Stands}
-use Rattle.gr_asked.proofs.NamedMembers.{part_at}
 use Rattle.gr_asked.proofs.OnePlace.{names_of, laid_of, same_layout, same_files}
 use Rattle.gr_all_used.specs.Linked.{IsUsedMember, IsLinked}
 use Rattle.gr_all_used.proofs.Files.{all_linked}
-use Rattle.gr_order.proofs.Elements.{all_got}
 use Rattle.gr_unique.proofs.UsedMembers.{file_at, told_at}
 use Rattle.gr_all_bound.specs.MemberNames.{IsMemberName, a_selected, a_key}
 use Rattle.gr_all_bound.proofs.Sites.{files_among, each_numbered}
-
-source_in : (ts : List FileParts) → AreSourceFiles ts → (i : ℕ) (t : FileParts) → slice_get ts i ≡ Some t → IsSourceFile (source_of t)
-source_in ts all i t is = all_got (λ (x : FileParts). IsSourceFile (source_of x)) ts i t (recursion_from_All (λ (x : FileParts). IsSourceFile
-    (source_of x)) ts all) is
 
 module _ (w : Workspace) (known : Verdicts) (path : List ℕ) (p : Package) (h : IsPackageIn w known path p) where
   -- what holds of each identifier of a file, by its place and role, holds of u
@@ -79,7 +72,7 @@ module _ (w : Workspace) (known : Verdicts) (path : List ℕ) (p : Package) (h :
   pub source_is : (file : ℕ) (s : SourceFile) → slice_get p.files file ≡ Some s → IsSourceFile s
   source_is file s is =
       let t = part_at h.files file s (subst (λ xs. slice_get xs file ≡ Some s) (same_files w known path p h) is) in
-      subst IsSourceFile t.1.1 (source_in h.files (package_sources w path h.files h.parsed) file t.0 t.1.0)
+      subst IsSourceFile t.1.1 (source_file_at h.files (package_sources w path h.files h.parsed) file t.0 t.1.0)
 
   module _ (u : ℕ) (stands : Stands p u) (uses : List MemberUse) (a : AreUsesIn p (p.layout.place u).file uses)
       (typed : FileIsTyped a.world (is_init a.source) a.source.tree) where

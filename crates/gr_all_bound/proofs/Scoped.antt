@@ -132,7 +132,7 @@ all_themselves (x ∷ xs) = (inl refl, all_as (Holds xs) (Holds (x ∷ xs)) (λ 
 
 -- identifiers with a block inside a file
 
-local_role : (r : Role) (f a c : ℕ) → may_declare r ≡ true → is_implied r ≡ false → block_of r ≡ Inner f a c → may_be_local r ≡ true
+pub local_role : (r : Role) (f a c : ℕ) → may_declare r ≡ true → is_implied r ≡ false → block_of r ≡ Inner f a c → may_be_local r ≡ true
 local_role (Declaring (Inner g d e) start) f a c m i b = refl
 local_role (LeftName (Inner g d e) start) f a c m i b = refl
 local_role (Declaring Universe start) f a c m i b = let z : ⊥ = cc in absurd z

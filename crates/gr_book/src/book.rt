@@ -25,13 +25,6 @@ pub struct Book {
     journal: Vec<Entry>,
 }
 
-/// How many steps can be made from the current state, back and forth.
-#[derive(Clone, Copy)]
-pub struct Depth {
-    pub undo: usize,
-    pub redo: usize,
-}
-
 /// It is a fact of each book that its content is the replay of its journal.
 impl Model for Book {
     ghost use Rattle.std.specs.Prelude.{◌+◌, ◌≤◌, length, vec_capacity};
@@ -123,17 +116,6 @@ impl Book {
         ensures replay { ∥ IsReplay self.now.limits self.now.journal (content self.now) ∥₁ }
     {
         self.journal.as_slice()
-    }
-
-    /// How many steps undo and redo can make, as a look tells them.
-    pub fn depth(&self) -> Depth
-        ensures undo { result.undo ≡ length self.now.earlier }
-        ensures redo { result.redo ≡ length self.now.later }
-    {
-        Depth {
-            undo: self.content.earlier.len(),
-            redo: self.content.later.len(),
-        }
     }
 
     /// How many entries the journal has, with those that are kept for the Jobs out.

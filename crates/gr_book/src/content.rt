@@ -15,7 +15,10 @@ use crate::view::View;
 use crate::waiting::first_waiting;
 use gr_compile::{Built, Job, Out, SharedPath};
 use gr_graph::Graph;
-use gr_keep::{Finished, SharedKnown, carried_units, inputs_of, kept, known_within, marks_of};
+use gr_keep::{
+    Finished, GatheredFiles, SharedKnown, TakenInputs, carried_units, inputs_of, kept,
+    known_within, marks_of,
+};
 use gr_space::MadeChange;
 use gr_text::{Files, Limits, Refusal};
 use gr_verdict::Known;
@@ -76,6 +79,7 @@ impl Content {
         let finished = Finished::new(alloc)?;
         let nothing = Known::new(alloc);
         let known = SharedKnown::new(alloc, nothing)?;
+        let gathered = GatheredFiles::new(alloc);
         Ok(Content {
             alloc,
             limits,
@@ -85,6 +89,7 @@ impl Content {
                 files,
                 finished,
                 known,
+                gathered,
             },
             later: Vec::new(alloc),
             next: 1,
@@ -156,11 +161,13 @@ impl Content {
         let known = kept(self.alloc, &current.files, &current.known, &files, &marks)?;
         self.earlier.reserve(1)?;
         let number = self.next;
+        let gathered = GatheredFiles::new(self.alloc);
         let next = State {
             number,
             files,
             finished,
             known,
+            gathered,
         };
         let previous = mem::replace(&mut self.current, next);
         self.earlier.push(previous).unwrap();
@@ -220,11 +227,17 @@ impl Content {
             return Err(Refusal::NoJob);
         };
         let package = SharedPath::new(self.alloc, &current.files.package(number).path)?;
-        let inputs = inputs_of(self.alloc, &current.files, number)?;
+        let TakenInputs { inputs, gathered } = inputs_of(
+            self.alloc,
+            &current.files,
+            number,
+            &current.gathered,
+        )?;
         let known = known_within(self.alloc, &current.files, &current.known, &inputs)?;
         let job = self
             .out
             .hand_out(current.number, self.visit, package, inputs, known)?;
+        self.current.keep(gathered);
         Ok(job)
     }
 

@@ -2,7 +2,7 @@
 ghost use Rattle.std.specs.Prelude.{◌≡◌, ◌↔◌, IfOk, IsTrue};
 ghost use Rattle.gr_book.specs.Kinds.{kind_name, refusal_of};
 
-use crate::same::{Same, same_sets};
+use crate::same::{SameParts, same_sets};
 use gr_edit::EditSet;
 use gr_text::Refusal;
 use std::alloc::{AllocError, Global};
@@ -120,7 +120,7 @@ impl SharedEdits {
     }
 }
 
-impl Same for Option<SharedEdits> {
+impl SameParts for Option<SharedEdits> {
     fn same(&self, other: &Option<SharedEdits>) -> bool {
         match (self, other) {
             (None, None) => true,

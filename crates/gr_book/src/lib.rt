@@ -20,7 +20,7 @@ mod view;
 mod waiting;
 
 pub use asking::{Logging, Looking, Taking};
-pub use book::{Book, Depth};
+pub use book::Book;
 pub use changing::Changing;
 pub use entry::{Entry, EntryKind, Line, Reason, SharedEdits, Told};
 pub use event::{Event, Reply};

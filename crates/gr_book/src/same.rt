@@ -5,12 +5,12 @@ use gr_edit::{Edit, EditSet, Edits, Fate, FileChange};
 use gr_text::{FileText, Path};
 
 /// Can be compared in all its parts.
-pub(crate) trait Same {
+pub(crate) trait SameParts {
     fn same(&self, other: &Self) -> bool
         ensures { IsTrue result ↔ (self.now ≡ other.now) };
 }
 
-fn all_same<T: Same>(one: &[T], other: &[T]) -> bool
+fn all_same<T: SameParts>(one: &[T], other: &[T]) -> bool
     ensures { IsTrue result ↔ (one.now ≡ other.now) }
 {
     if one.len() != other.len() {
@@ -52,13 +52,13 @@ fn same_edits(one: &Edits, other: &Edits) -> bool
     all_same(one.as_slice(), other.as_slice())
 }
 
-impl Same for Edit {
+impl SameParts for Edit {
     fn same(&self, other: &Edit) -> bool {
         self.span == other.span && same_text(&self.text, &other.text)
     }
 }
 
-impl Same for FileChange {
+impl SameParts for FileChange {
     fn same(&self, other: &FileChange) -> bool {
         same_path(&self.path, &other.path)
             && same_edits(&self.edits, &other.edits)
@@ -66,7 +66,7 @@ impl Same for FileChange {
     }
 }
 
-impl Same for (Path, FileText) {
+impl SameParts for (Path, FileText) {
     fn same(&self, other: &(Path, FileText)) -> bool {
         same_path(&self.0, &other.0) && same_text(&self.1, &other.1)
     }

@@ -41,7 +41,7 @@ pub(crate) enum Act {
 
 /// What the answer tells. A Job that is taken has a ticket, the number of a state, and a visit.
 #[derive(Clone, Copy, Debug, PartialEq, Eq)]
-pub(crate) enum Outcome {
+pub(crate) enum ActOutcome {
     Logged(u64, Option<Line>),
     Done(u64),
     Taken(u64, u64, u64),
@@ -86,12 +86,12 @@ fn closed(bench: Bench) -> (u64, u64) {
     (book.close(), other.close())
 }
 
-fn refused(refusal: &Refusal) -> Outcome {
+fn refused(refusal: &Refusal) -> ActOutcome {
     match refusal {
-        Refusal::Stale { current } => Outcome::Stale(*current),
-        Refusal::Already => Outcome::Already,
-        Refusal::NoJob => Outcome::NoJob,
-        _ => Outcome::Refused,
+        Refusal::Stale { current } => ActOutcome::Stale(*current),
+        Refusal::Already => ActOutcome::Already,
+        Refusal::NoJob => ActOutcome::NoJob,
+        _ => ActOutcome::Refused,
     }
 }
 
@@ -103,38 +103,38 @@ fn hold(jobs: &mut Vec<Job>, job: Job) {
 }
 
 /// What a Job that came back tells, which is held again.
-fn back(jobs: &mut Vec<Job>, refusal: &Refusal, job: Job, unit: Option<Built>) -> Outcome {
+fn back(jobs: &mut Vec<Job>, refusal: &Refusal, job: Job, unit: Option<Built>) -> ActOutcome {
     hold(jobs, job);
     match refused(refusal) {
-        Outcome::NoJob => Outcome::Back(unit.is_some()),
+        ActOutcome::NoJob => ActOutcome::Back(unit.is_some()),
         other => other,
     }
 }
 
 /// A Job that is taken is held.
-fn taken(jobs: &mut Vec<Job>, job: Job) -> Outcome {
-    let outcome = Outcome::Taken(job.ticket(), job.number(), job.visit());
+fn taken(jobs: &mut Vec<Job>, job: Job) -> ActOutcome {
+    let outcome = ActOutcome::Taken(job.ticket(), job.number(), job.visit());
     hold(jobs, job);
     outcome
 }
 
-fn done(answer: Result<u64, Refusal>) -> Outcome {
+fn done(answer: Result<u64, Refusal>) -> ActOutcome {
     match answer {
-        Ok(number) => Outcome::Done(number),
+        Ok(number) => ActOutcome::Done(number),
         Err(refusal) => refused(&refusal),
     }
 }
 
-fn logged(answer: Result<(u64, Option<Line>), Refusal>) -> Outcome {
+fn logged(answer: Result<(u64, Option<Line>), Refusal>) -> ActOutcome {
     match answer {
-        Ok((number, line)) => Outcome::Logged(number, line),
+        Ok((number, line)) => ActOutcome::Logged(number, line),
         Err(refusal) => refused(&refusal),
     }
 }
 
-fn handed(jobs: &mut Vec<Job>, answer: Handed) -> Outcome {
+fn handed(jobs: &mut Vec<Job>, answer: Handed) -> ActOutcome {
     match answer {
-        Handed::Done(number) => Outcome::Done(number),
+        Handed::Done(number) => ActOutcome::Done(number),
         Handed::Refused(refusal) => refused(&refusal),
         Handed::Back(refusal, job, unit) => back(jobs, &refusal, job, unit),
     }
@@ -144,7 +144,7 @@ fn looked(rt: &impl Abort, book: &mut Book) -> View {
     book.step(Looking).ok().expect(rt, "a view")
 }
 
-fn put(rt: &(impl Abort + AllocGlobal), book: &mut Book, path: &str, bytes: &str) -> Outcome {
+fn put(rt: &(impl Abort + AllocGlobal), book: &mut Book, path: &str, bytes: &str) -> ActOutcome {
     let view = looked(rt, book);
     let change = planned(rt, rt.alloc(), &view, path, bytes);
     done(book.step(Changing::Commit(view.snapshot.number(), change)))
@@ -156,13 +156,13 @@ fn put_as_elsewhere(
     bench: &mut Bench,
     path: &str,
     bytes: &str,
-) -> Outcome {
+) -> ActOutcome {
     let view = looked(rt, &mut bench.other);
     let number = view.snapshot.number();
     let there = Changing::Commit(number, planned(rt, rt.alloc(), &view, path, bytes));
     assert_eq!(rt;
         done(bench.other.step(there)),
-        Outcome::Done(number.wrapping_add(1))
+        ActOutcome::Done(number.wrapping_add(1))
     );
     let here = Changing::Commit(number, planned(rt, rt.alloc(), &view, path, bytes));
     done(bench.book.step(here))
@@ -198,7 +198,7 @@ fn rename_as_elsewhere(
     path: &str,
     offset: usize,
     name: &str,
-) -> Outcome {
+) -> ActOutcome {
     let view = looked(rt, &mut bench.other);
     let change = renamed(rt, &view, path, offset, name);
     let asked = Changing::Commit(view.snapshot.number(), change);
@@ -206,7 +206,7 @@ fn rename_as_elsewhere(
 }
 
 /// Takes a Job, which has to be one of some package, if one comes.
-fn take(rt: &impl Abort, bench: &mut Bench, path: &str) -> Outcome {
+fn take(rt: &impl Abort, bench: &mut Bench, path: &str) -> ActOutcome {
     match bench.book.step(Taking) {
         Ok(job) => {
             assert!(rt; job.package().path() == path.as_bytes());
@@ -242,18 +242,18 @@ fn deliver(
     jobs: &mut Vec<Job>,
     book: &mut Book,
     ticket: u64,
-) -> Outcome {
+) -> ActOutcome {
     let job = held(rt, jobs, ticket);
     let unit = built(rt, &job);
     handed(jobs, book.step(HandingIn::Deliver(job, unit)))
 }
 
-fn give_back(rt: &impl Abort, jobs: &mut Vec<Job>, book: &mut Book, ticket: u64) -> Outcome {
+fn give_back(rt: &impl Abort, jobs: &mut Vec<Job>, book: &mut Book, ticket: u64) -> ActOutcome {
     let job = held(rt, jobs, ticket);
     handed(jobs, book.step(HandingIn::GiveBack(job)))
 }
 
-fn told(rt: &(impl Abort + AllocGlobal), bench: &mut Bench, act: Act) -> Outcome {
+fn told(rt: &(impl Abort + AllocGlobal), bench: &mut Bench, act: Act) -> ActOutcome {
     match act {
         Act::Put(path, bytes) => put(rt, &mut bench.book, path, bytes),
         Act::PutAsElsewhere(path, bytes) => put_as_elsewhere(rt, bench, path, bytes),
@@ -272,7 +272,12 @@ fn told(rt: &(impl Abort + AllocGlobal), bench: &mut Bench, act: Act) -> Outcome
 }
 
 /// Does that, and asserts what the answer tells.
-pub(crate) fn does(rt: &(impl Abort + AllocGlobal), bench: &mut Bench, act: Act, outcome: Outcome) {
+pub(crate) fn does(
+    rt: &(impl Abort + AllocGlobal),
+    bench: &mut Bench,
+    act: Act,
+    outcome: ActOutcome,
+) {
     assert_eq!(rt; told(rt, bench, act), outcome);
 }
 

@@ -1,6 +1,6 @@
 //! Jobs of a book: they are handed out, delivered late, given back and handed in elsewhere. A put is two entries of the
 //! journal, or one where it is planned on another book; each other act is one.
-use crate::bench::{Act, Bench, Outcome, Shown, does, ends, has_entries, opened, retires};
+use crate::bench::{Act, ActOutcome, Bench, Shown, does, ends, has_entries, opened, retires};
 use crate::texts::A;
 use gr_book::{EntryKind, Line, Reason, Told};
 use gr_compile::{Job, Out, SharedPath};
@@ -34,20 +34,20 @@ const ENTRIES: [Shown; 11] = [
 fn deliveries_that_come_late(rt: HostRuntime) {
     let mut bench = opened(&rt);
     let put = Act::PutAsElsewhere("a/a.go", A);
-    does(&rt, &mut bench, put, Outcome::Done(1));
+    does(&rt, &mut bench, put, ActOutcome::Done(1));
     let rename = Act::RenameAsElsewhere("a/a.go", 15, "z");
-    does(&rt, &mut bench, rename, Outcome::Done(2));
-    does(&rt, &mut bench, Act::Take("a"), Outcome::Taken(0, 2, 2));
-    does(&rt, &mut bench, Act::Undo(2), Outcome::Done(1));
-    does(&rt, &mut bench, Act::Take("a"), Outcome::Taken(1, 1, 3));
-    does(&rt, &mut bench, Act::Redo(1), Outcome::Done(2));
-    does(&rt, &mut bench, Act::Deliver(1), Outcome::Stale(2));
-    does(&rt, &mut bench, Act::Take("a"), Outcome::Taken(2, 2, 4));
-    does(&rt, &mut bench, Act::Deliver(2), Outcome::Done(2));
-    does(&rt, &mut bench, Act::Deliver(0), Outcome::Already);
+    does(&rt, &mut bench, rename, ActOutcome::Done(2));
+    does(&rt, &mut bench, Act::Take("a"), ActOutcome::Taken(0, 2, 2));
+    does(&rt, &mut bench, Act::Undo(2), ActOutcome::Done(1));
+    does(&rt, &mut bench, Act::Take("a"), ActOutcome::Taken(1, 1, 3));
+    does(&rt, &mut bench, Act::Redo(1), ActOutcome::Done(2));
+    does(&rt, &mut bench, Act::Deliver(1), ActOutcome::Stale(2));
+    does(&rt, &mut bench, Act::Take("a"), ActOutcome::Taken(2, 2, 4));
+    does(&rt, &mut bench, Act::Deliver(2), ActOutcome::Done(2));
+    does(&rt, &mut bench, Act::Deliver(0), ActOutcome::Already);
     let entries = ENTRIES;
     has_entries(&rt, &bench, &entries[..10]);
-    does(&rt, &mut bench, Act::Take("a"), Outcome::NoJob);
+    does(&rt, &mut bench, Act::Take("a"), ActOutcome::NoJob);
     has_entries(&rt, &bench, &entries);
     ends(&rt, bench, (11, 3))
 }
@@ -56,15 +56,15 @@ fn deliveries_that_come_late(rt: HostRuntime) {
 #[test]
 fn a_put_of_another_package_makes_a_delivery_stale(rt: HostRuntime) {
     let mut bench = opened(&rt);
-    does(&rt, &mut bench, Act::Put("a/a.go", A), Outcome::Done(1));
-    does(&rt, &mut bench, Act::Take("a"), Outcome::Taken(0, 1, 1));
+    does(&rt, &mut bench, Act::Put("a/a.go", A), ActOutcome::Done(1));
+    does(&rt, &mut bench, Act::Take("a"), ActOutcome::Taken(0, 1, 1));
     does(
         &rt,
         &mut bench,
         Act::Put("b/b.go", "package b\n"),
-        Outcome::Done(2),
+        ActOutcome::Done(2),
     );
-    does(&rt, &mut bench, Act::Deliver(0), Outcome::Stale(2));
+    does(&rt, &mut bench, Act::Deliver(0), ActOutcome::Stale(2));
     ends(&rt, bench, (6, 0))
 }
 
@@ -72,13 +72,13 @@ fn a_put_of_another_package_makes_a_delivery_stale(rt: HostRuntime) {
 #[test]
 fn a_delivery_after_undo_and_redo_enters(rt: HostRuntime) {
     let mut bench = opened(&rt);
-    does(&rt, &mut bench, Act::Put("a/a.go", A), Outcome::Done(1));
-    does(&rt, &mut bench, Act::Take("a"), Outcome::Taken(0, 1, 1));
-    does(&rt, &mut bench, Act::Undo(1), Outcome::Done(0));
-    does(&rt, &mut bench, Act::Take("a"), Outcome::NoJob);
-    does(&rt, &mut bench, Act::Redo(0), Outcome::Done(1));
-    does(&rt, &mut bench, Act::Deliver(0), Outcome::Done(1));
-    does(&rt, &mut bench, Act::Take("a"), Outcome::NoJob);
+    does(&rt, &mut bench, Act::Put("a/a.go", A), ActOutcome::Done(1));
+    does(&rt, &mut bench, Act::Take("a"), ActOutcome::Taken(0, 1, 1));
+    does(&rt, &mut bench, Act::Undo(1), ActOutcome::Done(0));
+    does(&rt, &mut bench, Act::Take("a"), ActOutcome::NoJob);
+    does(&rt, &mut bench, Act::Redo(0), ActOutcome::Done(1));
+    does(&rt, &mut bench, Act::Deliver(0), ActOutcome::Done(1));
+    does(&rt, &mut bench, Act::Take("a"), ActOutcome::NoJob);
     ends(&rt, bench, (8, 0))
 }
 
@@ -92,20 +92,25 @@ fn shows(
     out: Told,
 ) {
     let line = Line { kind, basis, out };
-    does(rt, bench, Act::Log(entry), Outcome::Logged(1, Some(line)))
+    does(
+        rt,
+        bench,
+        Act::Log(entry),
+        ActOutcome::Logged(1, Some(line)),
+    )
 }
 
 /// A Job that is delivered late and one that is given back, as the journal shows them.
 #[test]
 fn entries_tell_of_each_event(rt: HostRuntime) {
     let mut bench = opened(&rt);
-    does(&rt, &mut bench, Act::Put("a/a.go", A), Outcome::Done(1));
-    does(&rt, &mut bench, Act::Take("a"), Outcome::Taken(0, 1, 1));
-    does(&rt, &mut bench, Act::Undo(1), Outcome::Done(0));
-    does(&rt, &mut bench, Act::Deliver(0), Outcome::Stale(0));
-    does(&rt, &mut bench, Act::Redo(0), Outcome::Done(1));
-    does(&rt, &mut bench, Act::Take("a"), Outcome::Taken(1, 1, 3));
-    does(&rt, &mut bench, Act::GiveBack(1), Outcome::Done(1));
+    does(&rt, &mut bench, Act::Put("a/a.go", A), ActOutcome::Done(1));
+    does(&rt, &mut bench, Act::Take("a"), ActOutcome::Taken(0, 1, 1));
+    does(&rt, &mut bench, Act::Undo(1), ActOutcome::Done(0));
+    does(&rt, &mut bench, Act::Deliver(0), ActOutcome::Stale(0));
+    does(&rt, &mut bench, Act::Redo(0), ActOutcome::Done(1));
+    does(&rt, &mut bench, Act::Take("a"), ActOutcome::Taken(1, 1, 3));
+    does(&rt, &mut bench, Act::GiveBack(1), ActOutcome::Done(1));
     shows(&rt, &mut bench, 1, EntryKind::Commit, 0, Told::Done(1));
     shows(&rt, &mut bench, 2, EntryKind::Take, 1, Told::Done(1));
     shows(&rt, &mut bench, 3, EntryKind::Undo, 1, Told::Done(0));
@@ -113,7 +118,7 @@ fn entries_tell_of_each_event(rt: HostRuntime) {
     shows(&rt, &mut bench, 4, EntryKind::Deliver, 1, stale);
     shows(&rt, &mut bench, 7, EntryKind::GiveBack, 1, Told::Done(1));
     shows(&rt, &mut bench, 8, EntryKind::Log, 1, Told::Done(1));
-    does(&rt, &mut bench, Act::Log(14), Outcome::Logged(1, None));
+    does(&rt, &mut bench, Act::Log(14), ActOutcome::Logged(1, None));
     ends(&rt, bench, (15, 0))
 }
 
@@ -124,47 +129,47 @@ fn each_package_goes_out_once_a_visit(rt: HostRuntime) {
         &rt,
         &mut bench,
         Act::Put("b/b.go", "package b\n"),
-        Outcome::Done(1),
+        ActOutcome::Done(1),
     );
-    does(&rt, &mut bench, Act::Put("a/a.go", A), Outcome::Done(2));
-    does(&rt, &mut bench, Act::Take("a"), Outcome::Taken(0, 2, 2));
-    does(&rt, &mut bench, Act::Take("b"), Outcome::Taken(1, 2, 2));
-    does(&rt, &mut bench, Act::Take("a"), Outcome::NoJob);
-    does(&rt, &mut bench, Act::GiveBack(0), Outcome::Done(2));
-    does(&rt, &mut bench, Act::Take("a"), Outcome::Taken(2, 2, 2));
-    does(&rt, &mut bench, Act::GiveBack(1), Outcome::Done(2));
-    does(&rt, &mut bench, Act::GiveBack(2), Outcome::Done(2));
+    does(&rt, &mut bench, Act::Put("a/a.go", A), ActOutcome::Done(2));
+    does(&rt, &mut bench, Act::Take("a"), ActOutcome::Taken(0, 2, 2));
+    does(&rt, &mut bench, Act::Take("b"), ActOutcome::Taken(1, 2, 2));
+    does(&rt, &mut bench, Act::Take("a"), ActOutcome::NoJob);
+    does(&rt, &mut bench, Act::GiveBack(0), ActOutcome::Done(2));
+    does(&rt, &mut bench, Act::Take("a"), ActOutcome::Taken(2, 2, 2));
+    does(&rt, &mut bench, Act::GiveBack(1), ActOutcome::Done(2));
+    does(&rt, &mut bench, Act::GiveBack(2), ActOutcome::Done(2));
     ends(&rt, bench, (11, 0))
 }
 
 #[test]
 fn a_job_of_another_book_comes_back(rt: HostRuntime) {
     let mut bench = opened(&rt);
-    does(&rt, &mut bench, Act::Put("a/a.go", A), Outcome::Done(1));
-    does(&rt, &mut bench, Act::Take("a"), Outcome::Taken(0, 1, 1));
+    does(&rt, &mut bench, Act::Put("a/a.go", A), ActOutcome::Done(1));
+    does(&rt, &mut bench, Act::Take("a"), ActOutcome::Taken(0, 1, 1));
     does(
         &rt,
         &mut bench,
         Act::DeliverElsewhere(0),
-        Outcome::Back(true),
+        ActOutcome::Back(true),
     );
     does(
         &rt,
         &mut bench,
         Act::GiveBackElsewhere(0),
-        Outcome::Back(false),
+        ActOutcome::Back(false),
     );
-    does(&rt, &mut bench, Act::GiveBack(0), Outcome::Done(1));
+    does(&rt, &mut bench, Act::GiveBack(0), ActOutcome::Done(1));
     ends(&rt, bench, (4, 2))
 }
 
 #[test]
 fn a_retired_job_stays_out(rt: HostRuntime) {
     let mut bench = opened(&rt);
-    does(&rt, &mut bench, Act::Put("a/a.go", A), Outcome::Done(1));
-    does(&rt, &mut bench, Act::Take("a"), Outcome::Taken(0, 1, 1));
+    does(&rt, &mut bench, Act::Put("a/a.go", A), ActOutcome::Done(1));
+    does(&rt, &mut bench, Act::Take("a"), ActOutcome::Taken(0, 1, 1));
     retires(&rt, &mut bench, 0);
-    does(&rt, &mut bench, Act::Take("a"), Outcome::NoJob);
+    does(&rt, &mut bench, Act::Take("a"), ActOutcome::NoJob);
     ends(&rt, bench, (4, 0))
 }
 

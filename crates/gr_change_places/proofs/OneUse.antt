@@ -1,9 +1,7 @@
 -- The scopes of a workspace bind what begins at a place to one declaration at most.
 use Rattle.std.proofs.Common.{ℕ, zero, suc, ◌≡◌, ◌<◌, List, [], ◌∷◌, length, map, refl, ap, sym, subst, ◌∙◌}
 use Rattle.std.specs.Prelude.{Option, Some, None, Contains, slice_get}
-use Rattle.std.specs.FinMap.{entries}
 use Rattle.std.proofs.lemmas.Option.{none-some, same_Some}
-use Rattle.gr_text.specs.Packages.{is_of_package, package_files}
 use Rattle.gr_text.specs.Path.{folder}
 use Rattle.gr_text.specs.Workspace.{Workspace}
 use Rattle.gr_text.specs.declared.place.Place.{Place}
@@ -22,8 +20,8 @@ use Rattle.gr_scope.proofs.PackageRegions.{package_well_formed}
 use Rattle.gr_order.proofs.HeldBytes.{numbered_files, one_named_begins}
 use Rattle.gr_order.proofs.OwnPaths.{own_paths, package_sources}
 use Rattle.gr_declared.specs.Package.{Package}
-use Rattle.gr_text.proofs.PackageFolders.{of_folder}
-use Rattle.gr_verdict.proofs.Members.{first_in, later_in, passes}
+use Rattle.gr_verdict.proofs.Members.{first_in, later_in}
+use Rattle.gr_verdict.proofs.PackageFiles.{in_folder}
 use Rattle.gr_bound.specs.declared.declaration.Declaration.{Declaration}
 use Rattle.gr_bound.specs.Binding.{BindsByScope}
 use Rattle.gr_bound.specs.Identifiers.{NameBegins, BeginsAt, file_of}
@@ -39,9 +37,6 @@ entry_of none i s at = absurd (none-some s at)
 entry_of (tree {e = e} {es = es} {t = t} is rest) zero s at =
     (e, (first_in e es, ap (λ (z : SourceFile). z.path) (sym (same_Some (source_of t) s at)) ∙ is.of_path))
 entry_of (tree {e = e} {es = es} is rest) (suc i) s at = let r = entry_of rest i s at in (r.0, (later_in e es r.0 r.1.0, r.1.1))
-
-in_folder : (w : Workspace) (p : List ℕ) (e : List ℕ × List ℕ) → Contains (package_files w p) e → folder e.0 ≡ p
-in_folder w p e h = of_folder p e.0 (passes (λ (d : List ℕ × List ℕ). is_of_package p d.0) (entries w) e h).0
 
 -- a name by the trees of a package's files
 place_of_name : (files : List FileParts) (i token : ℕ) (path : List ℕ) (offset : ℕ) → NameBegins (slice_get (map source_of files) i) token path offset →

@@ -60,7 +60,7 @@ fn keeps_all_bindings(
     keeps_read(alloc, &before, edits, &then)
 }
 
-/// The same, by the affected packages alone where these tell it.
+/// The same, by the affected packages alone where these tell it; asked as the function before is, since it falls back on that.
 fn keeps_bindings(
     alloc: Global,
     graph: &Graph,

@@ -8,7 +8,7 @@ ghost use Rattle.gr_declared.specs.InterfacesView.{interface_in, name_in};
 ghost use Rattle.gr_declared.specs.PackageView.{package_of, IsIndexOf};
 ghost use Rattle.gr_meanings.specs.BoundsView.{AreBounds};
 ghost use Rattle.gr_meanings.specs.MemberUses.{AreMemberUses, uses_in};
-ghost use Rattle.gr_types.specs.Check.{IsCheckedBy, IsFoundIn, IsLaterFault, MayLay, MayMean};
+ghost use Rattle.gr_types.specs.Check.{IsCheckedBy, IsFoundIn, IsLaid, IsLaterFault, MayLay, MayMean};
 ghost use Rattle.gr_verdict.specs.Steps.{AreKnownBelow, IsCheckedIn, IsGathered, IsUnderway};
 ghost use Rattle.gr_verdict.specs.Told.{known_by, AreWhole};
 ghost use Rattle.gr_verdict.specs.Verdicts.{AreSeen, AreStates, AreVerdictsBelow, Verdicts};
@@ -144,6 +144,31 @@ struct Seeing<'a> {
     interfaces: &'a Interfaces,
 }
 
+/// What checking finds in a package each of whose files has a tree, and whose clauses and imports have no faults, by its table, with
+/// the text of its object if it has no fault.
+fn table_text<'a>(
+    alloc: Global,
+    graph: &Graph,
+    number: usize,
+    of: Seeing<'a>,
+    table: ScopeTable<'a>,
+) -> Result<CheckedText, AllocError>
+    requires at { slice_get (package_paths graph.now) number ≡ Some of.path.now }
+    requires files { IsPackage graph.now number of.files.now }
+    requires read { of.files.now.faulty.items ≡ [] }
+    requires laid { IsLaid of.files.now.trees.items (state_in of.interfaces.now.states) (name_in of.interfaces.now) table }
+    ensures checked { IfOk result (λ made. (known : Verdicts) → AreSeen graph.now known of.entry.path.now (name_in of.entry.interfaces.now) (interface_in of.entry.interfaces.now) → AreStates graph.now known of.entry.path.now (state_in of.entry.interfaces.now.states) → IsCheckedIn graph.now known of.entry.path.now made.checked) }
+    ensures text { IfOk result (λ made. (known : Verdicts) → AreSeen graph.now known of.entry.path.now (name_in of.entry.interfaces.now) (interface_in of.entry.interfaces.now) → AreVerdictsBelow graph.now of.entry.path.now known → MayBeText graph.now of.entry.path.now made.text) }
+{
+    let unit = Package {
+        path: of.path,
+        files: of.files.trees.as_slice(),
+        table: &table,
+        interfaces: of.interfaces,
+    };
+    unit_text(alloc, graph, number, unit)
+}
+
 /// What checking finds in a package each of whose files has a tree, by its table if its clauses and imports have no faults, with the
 /// text of its object if it has no fault.
 fn laid_text<'a>(
@@ -160,16 +185,10 @@ fn laid_text<'a>(
     ensures checked { IfOk result (λ made. (known : Verdicts) → AreSeen graph.now known of.entry.path.now (name_in of.entry.interfaces.now) (interface_in of.entry.interfaces.now) → AreStates graph.now known of.entry.path.now (state_in of.entry.interfaces.now.states) → IsCheckedIn graph.now known of.entry.path.now made.checked) }
     ensures text { IfOk result (λ made. (known : Verdicts) → AreSeen graph.now known of.entry.path.now (name_in of.entry.interfaces.now) (interface_in of.entry.interfaces.now) → AreVerdictsBelow graph.now of.entry.path.now known → MayBeText graph.now of.entry.path.now made.text) }
 {
-    let Some(table) = found else {
-        return no_text(alloc, of.path, of.files, of.interfaces);
-    };
-    let unit = Package {
-        path: of.path,
-        files: of.files.trees.as_slice(),
-        table: &table,
-        interfaces: of.interfaces,
-    };
-    unit_text(alloc, graph, number, unit)
+    match found {
+        None => no_text(alloc, of.path, of.files, of.interfaces),
+        Some(table) => table_text(alloc, graph, number, of, table),
+    }
 }
 
 /// What checking finds in a package each of whose files has a tree, by what it sees of others, with the text of its object if it has

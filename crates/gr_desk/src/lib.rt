@@ -1,4 +1,4 @@
-//! Commands over a desk: a book, or later a share of one.
+//! Commands over a desk, which is a book of one's own or a seat at a shared one; answers are data.
 #![tactic(auto)]
 
 mod acting;

@@ -1,5 +1,5 @@
 -- Which packages with some numbers import which, by their places among the numbers.
-use Rattle.std.proofs.Common.{◌≡◌, ℕ, ◌+◌, ◌-◌, ◌<◌, ◌≤◌, ◌↔◌, ◌⊎◌, List, [], ◌∷◌, ◌++◌, length, get_or, replicate, Some, slice_get}
+use Rattle.std.proofs.Common.{◌≡◌, ℕ, ◌+◌, ◌-◌, ◌<◌, ◌≤◌, ◌↔◌, List, [], ◌∷◌, ◌++◌, length, get_or, replicate, Some, slice_get}
 use Rattle.std.proofs.Common.{refl, sym, ap, subst, ◌∙◌, ⊎_elim, arith}
 use Rattle.std.proofs.Math.ListN.{set}
 use Rattle.std.specs.List.{All, Contains}
@@ -175,7 +175,7 @@ module _ (g : Links) (ns : List ℕ) (places : List ℕ) (linked : AreLinked g) 
   part_more k part row below is so =
       let n = get_or ns k 0 in
       let here : n < length g = within k below in
-      let last : imports_of (part ++ row ∷ []) k ≡ row = get_or_push part row [] k (sym so.size) in
+      let last : imports_of (part ++ row ∷ []) k ≡ row = get_or_push part row [] k so.size in
       let front : (i : ℕ) → i < k → imports_of (part ++ row ∷ []) i ≡ imports_of part i = λ i lt.
       get_or_append_left part (row ∷ []) [] i (omega (arith, lt, so.size)) in
       record {

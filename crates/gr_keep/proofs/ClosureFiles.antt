@@ -19,21 +19,9 @@ use Rattle.gr_graph.proofs.Asked.{number}
 use Rattle.gr_verdict.proofs.Closed.{to_package}
 use Rattle.gr_verdict.proofs.Members.{nothing_in, first_in, later_in, first_or_later, passes}
 use Rattle.gr_keep.specs.Changes.{HasText}
-use Rattle.gr_keep.specs.Inputs.{faulty_file, IsPartOf, Adds}
+use Rattle.gr_keep.specs.Inputs.{faulty_file, IsPartOf, Adds, IsFileOf, AreGathered}
 use Rattle.gr_verdict.specs.Earlier.{tree_file}
 use Rattle.gr_edit.proofs.Entries.{exact_path, same_path, entry_of, get_entry}
-
--- a file of one of some packages, by their numbers
-pub record IsFileOf (w : Workspace) (numbers : List ℕ) (file : List ℕ × List ℕ) : Type 0 where
-  pub number : ℕ
-  pub path : List ℕ
-  pub among : Contains numbers number
-  pub has_path : slice_get (package_paths w) number ≡ Some path
-  pub of_package : Contains (package_files w path) file
-
--- exactly the files of some packages
-abbrev pub AreGathered : Workspace → List ℕ → Workspace → Type 0
-AreGathered w numbers files = (e : List ℕ × List ℕ) → HasText files e ↔ IsFileOf w numbers e
 
 -- ---- one file more
 module _ (w old : Workspace) (d : List ℕ × List ℕ) (part : IsPartOf old w) (has : HasText w d) where
@@ -182,6 +170,22 @@ module _ (w : Workspace) (xs ys : List ℕ) (n : ℕ) (q : List ℕ) (at : slice
               a.1 (inr (subst (λ r. Contains (package_files w r) e) path s.of_package)))
         ],
       )
+
+-- the same packages, in whatever order
+pub gathered_as : (w : Workspace) (xs ys : List ℕ) (files : Workspace) → ((n : ℕ) → Contains xs n ↔ Contains ys n) → AreGathered w xs files →
+    AreGathered w ys files
+gathered_as w xs ys files same g e = (
+  λ h.
+      let s = (g e).0 h in
+      record { number = s.number; path = s.path; among = (same s.number).0 s.among; has_path = s.has_path; of_package = s.of_package },
+  λ s. (g e).1 (record {
+    number = s.number;
+    path = s.path;
+    among = (same s.number).1 s.among;
+    has_path = s.has_path;
+    of_package = s.of_package;
+  }),
+)
 
 -- those of the whole closure are its texts
 pub closure_texts : (w : Workspace) (p : List ℕ) (numbers : List ℕ) (files : Workspace) → HoldsPackages w (IsInClosure w p) numbers →

@@ -3,6 +3,7 @@ pub mod FinishedUnits
 pub mod ClosureTexts
 pub mod Learning
 pub mod ClosureFiles
+pub mod BothLists
 pub mod PartFiles
 pub mod SameInputs
 pub mod Changed

@@ -55,7 +55,7 @@ fn struct_behind<'a>(world: &'a World<'_>, of: &'a GoType) -> Option<&'a Symbol>
     }
 }
 
-/// The definition whose methods the values of a type have.
+/// The definition whose methods the values of a type have; as where expressions are judged, whose own function is private.
 #[tactic(auto, unfolding(gr_expr::specs::View::type_of, gr_expr::specs::World::owner))]
 fn owner(of: &GoType) -> Option<&Symbol>
     ensures { option_copied result ≡ owner (type_of of.now) }

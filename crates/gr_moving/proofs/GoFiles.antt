@@ -1,9 +1,9 @@
 -- Each Go file of a workspace without faults is one of a package, with its tree.
-use Rattle.std.proofs.Common.{ℕ, zero, suc, ◌≡◌, ◌<◌, Bool, true, false, ◌&&◌, List, [], ◌∷◌, length, Some, refl, sym, ap, subst, ◌∙◌, ⊎_elim}
+use Rattle.std.proofs.Common.{ℕ, zero, suc, ◌≡◌, ◌<◌, true, List, [], ◌∷◌, length, Some, refl, sym, ap, subst, ◌∙◌, ⊎_elim}
 use Rattle.std.specs.Prelude.{Contains, map, slice_get, ◌==◌}
 use Rattle.std.specs.FinMap.{entries, get}
 use Rattle.std.specs.Cmp.Lexicographic.{pointwise, bytes_decides}
-use Rattle.std.proofs.lemmas.Bool.{and_parts}
+use Rattle.std.proofs.lemmas.Bool.{and_from, and_parts}
 use Rattle.std.proofs.lemmas.List.Elements.{Contains-get_or}
 use Rattle.std.proofs.lemmas.Option.{same_Some, get_or_from_slice_get, slice_get_within}
 use Rattle.gr_text.specs.Packages.{is_go, is_of_package, package_paths, package_files}
@@ -58,15 +58,11 @@ pub record HasPackage (w : Workspace) (known : Verdicts) (path : List ℕ) : Typ
   pub within : number < length (package_paths w)
   pub has : HasFileIn inside path
 
-both_hold : (a b : Bool) → a ≡ true → b ≡ true → (a && b) ≡ true
-both_hold true b h k = k
-both_hold false b h k = h
-
 pub package_of_file : (w : Workspace) (found : Findings) → IsSound w found → (path text : List ℕ) → get w path ≡ Some text → is_go path ≡ true →
     HasPackage w (known_in found) path
 package_of_file w found sound path text at go =
     let known = known_in found in
-    let own : is_of_package (folder path) path ≡ true = both_hold (is_go path) (pointwise ◌==◌ (folder path) (folder path)) go
+    let own : is_of_package (folder path) path ≡ true = and_from (is_go path) (pointwise ◌==◌ (folder path) (folder path)) go
     ((bytes_decides (folder path) (folder path)).1 refl) in
     let has : Contains (package_files w (folder path)) (path, text) = passed (λ (e : List ℕ × List ℕ). is_of_package (folder path) e.0) (entries w)
     (path, text) own (entry_of w path text at) in

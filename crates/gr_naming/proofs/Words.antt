@@ -2,7 +2,7 @@
 use Rattle.std.proofs.Common.{ℕ, ◌≡◌, Bool, true, false, ◌&&◌, ◌||◌, List, [], ◌∷◌, sym, subst, refl}
 use Rattle.std.specs.List.{list_all}
 use Rattle.std.specs.Str.{IsUtf8, chars, bytes_eq, all_scalars}
-use Rattle.std.proofs.lemmas.Bool.{false≢true, and_parts}
+use Rattle.std.proofs.lemmas.Bool.{false≢true, and_from, and_parts, or_left}
 use Rattle.std.proofs.lemmas.Str.{encodes-chars, scalars-chars, chars_from_encodes}
 use Rattle.gr_scan.specs.declared.keywords.Keyword.{Keyword}
 use Rattle.gr_scan.specs.Characters.{is_letter, is_decimal_number, continues_name}
@@ -14,19 +14,11 @@ use Rattle.gr_scan.proofs.IntegerLemmas.{by_test}
 use Rattle.gr_scan.proofs.TableLemmas.{each_keyword}
 use Rattle.gr_naming.specs.NewName.{begins_with_letter, is_other_text}
 
-or_true : (a b : Bool) → a ≡ true → (a || b) ≡ true
-or_true true b e = refl
-or_true false b e = absurd (false≢true e)
-
-and_true : (a b : Bool) → a ≡ true → b ≡ true → (a && b) ≡ true
-and_true true b e f = f
-and_true false b e f = absurd (false≢true e)
-
 -- characters that begin with a letter, each of which may stand in a name, are those of a word
 name_of : (cs : List ℕ) → begins_with_letter cs ≡ true → list_all continues_name cs ≡ true → all_scalars cs ≡ true → is_name cs ≡ true
 name_of [] e all sc = absurd (false≢true e)
-name_of (c ∷ cs) e all sc = and_true (is_letter c && list_all continues_name cs) (all_scalars (c ∷ cs))
-    (and_true (is_letter c) (list_all continues_name cs) e (and_parts (continues_name c) (list_all continues_name cs) all).1) sc
+name_of (c ∷ cs) e all sc = and_from (is_letter c && list_all continues_name cs) (all_scalars (c ∷ cs))
+    (and_from (is_letter c) (list_all continues_name cs) e (and_parts (continues_name c) (list_all continues_name cs) all).1) sc
 
 begins_name : (cs : List ℕ) → is_name cs ≡ true → begins_with_letter cs ≡ true
 begins_name [] e = absurd (false≢true e)
@@ -35,7 +27,7 @@ begins_name (c ∷ cs) e = (name_parts c cs e).0
 continues_all : (cs : List ℕ) → is_name cs ≡ true → list_all continues_name cs ≡ true
 continues_all [] e = refl
 continues_all (c ∷ cs) e = let parts = name_parts c cs e in
-    and_true (continues_name c) (list_all continues_name cs) (or_true (is_letter c) (is_decimal_number c) parts.0) parts.1
+    and_from (continues_name c) (list_all continues_name cs) (or_left (is_letter c) (is_decimal_number c) parts.0) parts.1
 
 pub word_of : (bs : List ℕ) → IsUtf8 bs → begins_with_letter (chars bs) ≡ true → list_all continues_name (chars bs) ≡ true → IsWord bs
 word_of bs u e all = (chars bs, name_of (chars bs) e all (scalars-chars bs u), sym (encodes-chars bs u))
@@ -61,7 +53,7 @@ differ a b e same = let yes : bytes_eq a b ≡ true = (bytes_decides a b).1 same
 
 all_of : {X : Type 0} (p : X → Bool) (xs : List X) → ((x : X) → p x ≡ true) → list_all p xs ≡ true
 all_of p [] h = refl
-all_of p (x ∷ xs) h = and_true (p x) (list_all p xs) (h x) (all_of p xs h)
+all_of p (x ∷ xs) h = and_from (p x) (list_all p xs) (h x) (all_of p xs h)
 
 -- a text is that of no keyword
 pub no_keyword : (bs : List ℕ) → list_all (λ k. is_other_text (keyword_spelling k) bs) all_keywords ≡ true → (k : Keyword) → bs ≡ keyword_spelling k → ⊥

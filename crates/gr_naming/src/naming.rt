@@ -154,7 +154,7 @@ fn refuse_in_unit(
 
 /// A declaration, and the name that it is to get.
 #[derive(Clone, Copy)]
-struct NewName<'d, 'n> {
+struct NamedDeclaration<'d, 'n> {
     declaration: &'d Declaration,
     name: &'n [u8],
 }
@@ -166,7 +166,7 @@ fn refuse_by(
     files: &[FileTree],
     table: &ScopeTable<'_>,
     interfaces: &Interfaces,
-    asked: &NewName<'_, '_>,
+    asked: &NamedDeclaration<'_, '_>,
 ) -> Result<(), Refusal>
     ensures { let p = package_in path.now (map source_of files.now) table.now (interface_in interfaces.now) in
         RefusesNameIn p asked.now.declaration.now asked.now.name.now result }
@@ -197,7 +197,7 @@ fn refuse_in_package(
     let seen = seen(alloc, graph, number, &found.interfaces)?;
     let table = laid_table(alloc, files, &seen)?;
     let path = path_of(graph, found, number);
-    let asked = NewName { declaration, name };
+    let asked = NamedDeclaration { declaration, name };
     refuse_by(alloc, path, files, &table, &seen, &asked)
 }
 

@@ -25,14 +25,14 @@ use std::alloc::{AllocError, Global};
 
 /// A byte of a file, and the name for what holds it.
 #[derive(Clone, Copy)]
-struct Asked<'a> {
+struct AskedName<'a> {
     path: &'a Path,
     offset: usize,
     name: &'a [u8],
 }
 
 /// What holds the byte is lost.
-fn asked_lost(asked: &Asked<'_>) -> Result<Conflict, AllocError>
+fn asked_lost(asked: &AskedName<'_>) -> Result<Conflict, AllocError>
     ensures { IfOk result (λ c. c ≡ record { used = asked_place asked.now; by = None }) }
 {
     Ok(Conflict {
@@ -49,7 +49,7 @@ fn conflict_of(
     alloc: Global,
     snapshot: &Snapshot,
     found: &Found,
-    asked: &Asked<'_>,
+    asked: &AskedName<'_>,
     change: &Change,
 ) -> Result<Conflict, AllocError>
     requires sound { IsSound snapshot.now.files found.now.findings }
@@ -73,7 +73,7 @@ fn refusal_of(
     alloc: Global,
     snapshot: &Snapshot,
     found: &Found,
-    asked: &Asked<'_>,
+    asked: &AskedName<'_>,
     change: &Change,
 ) -> Refusal
     requires sound { IsSound snapshot.now.files found.now.findings }
@@ -92,7 +92,7 @@ fn judged(
     alloc: Global,
     snapshot: &Snapshot,
     found: &Found,
-    asked: &Asked<'_>,
+    asked: &AskedName<'_>,
     change: MadeChange,
 ) -> Result<Planned, Refusal>
     requires sound { IsSound snapshot.now.files found.now.findings }
@@ -114,7 +114,7 @@ fn plan_declaration(
     snapshot: &Snapshot,
     found: &Found,
     declaration: &Declaration,
-    asked: &Asked<'_>,
+    asked: &AskedName<'_>,
 ) -> Result<Planned, Refusal>
     requires sound { IsSound snapshot.now.files found.now.findings }
     requires known { KnowsVerdicts snapshot.now.files found.now.known }
@@ -138,7 +138,7 @@ fn plan_named(
     snapshot: &Snapshot,
     found: &Found,
     declaration: &Declaration,
-    asked: &Asked<'_>,
+    asked: &AskedName<'_>,
 ) -> Result<Planned, Refusal>
     requires sound { IsSound snapshot.now.files found.now.findings }
     requires known { KnowsVerdicts snapshot.now.files found.now.known }
@@ -163,7 +163,7 @@ fn plan_found(
     alloc: Global,
     snapshot: &Snapshot,
     found: &Found,
-    asked: &Asked<'_>,
+    asked: &AskedName<'_>,
 ) -> Result<Planned, Refusal>
     requires sound { IsSound snapshot.now.files found.now.findings }
     requires known { KnowsVerdicts snapshot.now.files found.now.known }
@@ -187,7 +187,7 @@ fn plan_in(
     alloc: Global,
     snapshot: &Snapshot,
     found: &Found,
-    asked: &Asked<'_>,
+    asked: &AskedName<'_>,
 ) -> Result<Planned, Refusal>
     requires { IsFound snapshot.now.files found.now }
     ensures planned { PlansIn snapshot.now asked.now.path.now asked.now.offset asked.now.name.now (change_in result) }
@@ -221,7 +221,7 @@ pub fn plan_rename(
     if snapshot.files.files().get(&path).is_none() {
         return Err(Refusal::NoFile);
     }
-    let asked = Asked {
+    let asked = AskedName {
         path: &path,
         offset,
         name: name.as_bytes(),

@@ -8,12 +8,10 @@ use Rattle.std.proofs.lemmas.List.{length-map}
 use Rattle.std.proofs.lemmas.Option.{none-some, slice_get_within}
 use Rattle.gr_text.specs.Workspace.{Workspace}
 use Rattle.gr_text.specs.Packages.{package_paths, package_files}
-use Rattle.gr_tree.specs.SourceFile.{SourceFile, FileParts, source_of, spelling_of}
+use Rattle.gr_tree.specs.SourceFile.{SourceFile, spelling_of}
 use Rattle.gr_tree.specs.Tree.{Item, TypeTree, FieldTree, BodyTree, Other, Struct, ReceiverTree}
-use Rattle.gr_graph.specs.FaultyFiles.{FaultyParts}
 use Rattle.gr_graph.specs.Packages.{IsInClosure, itself}
-use Rattle.gr_graph.specs.Parsed.{AreParsed, none, tree, fault}
-use Rattle.gr_graph.proofs.OneFile.{file_or_fault}
+use Rattle.gr_graph.specs.Parsed.{AreParsed}
 use Rattle.gr_expr.specs.declared.symbol.Symbol.{Symbol}
 use Rattle.gr_expr.specs.Types.{PlainType, Signature}
 use Rattle.gr_expr.specs.World.{Definition, Field, Method, is_seen, seen_field, seen_method, struct_behind}
@@ -31,7 +29,7 @@ use Rattle.gr_verdict.specs.FaultLists.{ListsFaults}
 use Rattle.gr_verdict.specs.Verdicts.{Verdicts, AreVerdicts, IsSeenAs, seen, unseen, IsPackageIn}
 use Rattle.gr_verdict.proofs.Closed.{to_package}
 use Rattle.gr_verdict.proofs.OneList.{checked_package}
-use Rattle.gr_verdict.proofs.OnePackage.{one_sources}
+use Rattle.gr_verdict.proofs.OnePackage.{one_sources, all_read}
 use Rattle.gr_object.specs.Lines.{FunctionName}
 use Rattle.gr_object.specs.Names.{positions_from, names_of_fields, body_positions, type_positions, field_positions, initializers_with}
 use Rattle.gr_object.specs.Names.{functions_behind, function_names, function_name, field_position}
@@ -110,11 +108,6 @@ signature_arity p f s h =
     ap (λ n. let a : Arity = record { parameters = with_receiver f.function.receiver (length s.parameters); results = n } in a) rs
 
 -- files
-
-all_read : {es : List (List ℕ × List ℕ)} {ts us : List FileParts} {fs : List FaultyParts} → AreParsed es ts fs → AreParsed es us [] → fs ≡ []
-all_read none none = refl
-all_read (tree is rest) (tree so others) = all_read rest others
-all_read (fault {e = e} {f = f} is rest) (tree {t = u} so others) = absurd (file_or_fault e.0 e.1 (source_of u) f.fault so is.is_fault)
 
 read_files : (w : Workspace) (known : Verdicts) (p q : List ℕ) (files : List SourceFile) → IsReadBy w p q files → IsInClosure w p q → (c : Package) →
     IsPackageIn w known q c → files ≡ c.files

@@ -138,6 +138,7 @@ body_within s n k m (block o ss c) nk w h =
     let fits = statements_fits s o c (suc o) c ss w.1 (omega arith) (omega arith) (rises_up (suc o) (statements_tokens ss) r.0 c rc r.1.0) in
     (omega arith, omega arith, all_fit s.rank o c (suc o) c n m (statements_sites s (Inner s.rank o c) c ss) (omega arith) (omega arith) fits.0)
 
+-- the tokens are taken apart as where a function's block is shown to lie behind its name, which says another thing of the same parts
 func_within : (s : Source) (n m : ℕ) (f : FuncTree) → IsFunc f → Rises n (func_tokens f) m → AllByRecursion (IsWithin n m) (func_sites s f)
 unfolding func_tokens func_sites
 func_within s n m f w h =

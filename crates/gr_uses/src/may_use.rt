@@ -33,10 +33,11 @@ pub struct Sought<'a> {
 fn importing_number(alloc: Global, graph: &Graph, number: usize) -> Result<Vec<bool>, AllocError>
     ensures { IfOk result (λ marks. OfPackage graph.now number (λ q. MarkImporting graph.now q marks.items)) }
 {
-    if number >= graph.len() {
-        return Ok(Vec::new(alloc));
+    if number < graph.len() {
+        graph.importing(alloc, number)
+    } else {
+        Ok(Vec::new(alloc))
     }
-    graph.importing(alloc, number)
 }
 
 /// Marks for the packages that import that of a declaration, directly or indirectly, if it has one.

@@ -46,7 +46,7 @@ passed_next w xs ys n old new more passes passed m has = elim (more m has) [
 
 -- the marks of a package that is passed
 pub passes_same : (w : Workspace) (n : ℕ) (old new : Steady) → n < length old.marks.items → new.marks.items ≡ set old.marks.items n true →
-    new.stirred ≡ old.stirred → Passes w n old new
+    new.stirred.items ≡ old.stirred.items → Passes w n old new
 passes_same w n old new within marks stirred =
     let here : IsMarked new.marks.items n = subst (λ (ms : List Bool). IsMarked ms n) (sym marks) (get_or-set_same old.marks.items n true false within) in
     record {
@@ -55,7 +55,7 @@ passes_same w n old new within marks stirred =
         | inl e ↦ subst (IsPassed new) (sym e) (inl here)
         | inr ne ↦ elim passed [
           | inl marked ↦ inl (subst (λ (ms : List Bool). IsMarked ms m) (sym marks) (get_or-set_other old.marks.items n m true false ne ∙ marked))
-          | inr is ↦ inr (subst (λ s. IsMarked s.items m) (sym stirred) is)
+          | inr is ↦ inr (subst (λ (ss : List Bool). IsMarked ss m) (sym stirred) is)
         ]
       ];
     }

@@ -1,11 +1,8 @@
 -- Bytes that are held while what was written is sent.
-use Rattle.std.proofs.Common.{◌≡◌, ℕ, List, [], ◌++◌, Option, None, Some, Result, Ok, Err, refl, sym, ap, ◌∙◌, append-nil}
+use Rattle.std.proofs.Common.{ℕ, List, [], ◌++◌, Option, None, Some, Result, Ok, Err, sym, ap, ◌∙◌, append-nil}
 use Rattle.std.specs.Io.KnownBytes.{Appends, Keeps}
+use Rattle.std.proofs.KnownBytes.{Appends-kept}
 use Rattle.gr_line.specs.Failures.{WritesText}
-
-pub kept_same : (held : Option (List ℕ)) → Keeps held held
-kept_same None = tt
-kept_same (Some xs) = refl
 
 -- nothing is added
 pub kept_nil : (held holds : Option (List ℕ)) → Keeps held holds → Appends held holds []
@@ -20,20 +17,13 @@ kept_then (Some xs) None holds text k h = absurd k
 kept_then (Some xs) (Some ys) None text k h = absurd h
 kept_then (Some xs) (Some ys) (Some zs) text k h = h ∙ ap (λ l. l ++ text) k
 
--- written, and then sent
-pub then_kept : (held mid holds : Option (List ℕ)) (text : List ℕ) → Appends held mid text → Keeps mid holds → Appends held holds text
-then_kept None mid holds text h k = tt
-then_kept (Some xs) None holds text h k = absurd h
-then_kept (Some xs) (Some ys) None text h k = absurd k
-then_kept (Some xs) (Some ys) (Some zs) text h k = k ∙ h
-
 -- the text is written, and then it is sent, or not
 pub written_then_sent : {T E : Type 0} (held mid holds : Option (List ℕ)) (text : List ℕ) (r : Result T E) → Appends held mid text → Keeps mid holds
     → WritesText held holds text r
-written_then_sent held mid holds text (Ok done) h k = then_kept held mid holds text h k
+written_then_sent held mid holds text (Ok done) h k = Appends-kept held mid holds text h k
 written_then_sent held mid holds text (Err failed) h k = record {
   written = text;
   unwritten = [];
   whole = sym (append-nil text);
-  appended = then_kept held mid holds text h k;
+  appended = Appends-kept held mid holds text h k;
 }

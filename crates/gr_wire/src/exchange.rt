@@ -119,7 +119,8 @@ fn serve_next<S: ByteSource, T: Sink, D: Desk>(
     match await_message(alloc, source, sink, reading, limits)? {
         Next::End => Ok(false),
         Next::NoRoom => {
-            print_reply(sink, &WrittenReply::refuse(alloc, Refusal::Memory))?;
+            let refused = WrittenReply::refuse(alloc, Refusal::Memory);
+            print_reply(sink, &refused)?;
             Ok(true)
         }
         Next::Message(message) => {

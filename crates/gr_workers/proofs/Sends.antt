@@ -32,6 +32,7 @@ use Rattle.gr_pool.specs.contracts.seat.Seat.{the_row as seat}
 use Rattle.gr_pool.specs.contracts.shared.Shared.{the_row as shared}
 use Rattle.gr_pool.specs.contracts.locked.Locked.{the_row as locked}
 use Rattle.gr_pool.specs.declared.opening.Opening.{Ghosts as Opening}
+use Rattle.gr_chunks.proofs.list.SharedList.TheSendSync.{the_send as SharedList-send, the_sync as SharedList-sync}
 use Rattle.gr_text.proofs.file_text.FileText.TheSendSync.{the_send as FileText-send, the_sync as FileText-sync}
 use Rattle.gr_text.proofs.files.Files.TheSendSync.{the_send as Files-send, the_sync as Files-sync}
 use Rattle.gr_text.proofs.limits.Limits.TheSendSync.{the_send as Limits-send, the_sync as Limits-sync}
@@ -147,7 +148,7 @@ pub unit_shared : IsSync unit
 unit_shared = search (owned, compiled_sent, compiled_shared) depth 30 fits 50000
 
 pub finished_sent : IsSend finished
-finished_sent = search (owned, unit_sent, unit_shared) depth 30 fits 50000
+finished_sent = search (owned, SharedList-send, SharedList-sync, unit_sent, unit_shared) depth 30 fits 50000
 
 pub state_sent : IsSend state
 state_sent = search (owned, graph_sent, finished_sent, shared_known_sent) depth 30 fits 50000

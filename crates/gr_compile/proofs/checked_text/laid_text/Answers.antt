@@ -1,24 +1,22 @@
 -- The answers to the goals of `checked_text::laid_text`.
-use Rattle.std.proofs.Common.{◌≡◌, List, ℕ, map, refl, sym, subst, ◌∙◌}
-use Rattle.std.specs.Prelude.{Some}
-use Rattle.std.proofs.lemmas.Option.{none-some, slice_get_within}
+use Rattle.std.proofs.Common.{sym, ◌∙◌}
+use Rattle.std.proofs.lemmas.Option.{none-some}
 use Rattle.std.proofs.lemmas.Result.{IfOk-weaker}
-use Rattle.gr_text.specs.Packages.{package_paths, package_files}
-use Rattle.gr_tree.specs.SourceFile.{source_of}
-use Rattle.gr_graph.specs.Parsed.{AreParsed}
 use Rattle.gr_imports.specs.States.{state_in}
 use Rattle.gr_declared.specs.InterfacesView.{name_in, interface_in}
-use Rattle.gr_declared.specs.Package.{Package}
-use Rattle.gr_meanings.specs.PackageOf.{IsPackageOf, package_in}
-use Rattle.gr_types.specs.Check.{IsLaid, inside}
 use Rattle.gr_compile.proofs.CheckedText.{parsed_all}
 use Rattle.gr_compile.proofs.checked_text.laid_text.Goals as goal
 
-pub unit_text-requires : goal.unit_text-requires
-unit_text-requires c = slice_get_within (package_paths c.args.graph.now) c.args.number c.args.of.path.now c.requires.at
+pub table_text-requires : goal.table_text-requires
+table_text-requires c = record {
+  at = c.requires.at;
+  files = c.requires.files;
+  read = c.requires.read;
+  laid = c.requires.found c.in-Some.table c.in-Some.is;
+}
 
-pub returns-in_default : goal.returns-in_default
-returns-in_default c =
+pub returns-in-None : goal.returns-in-None
+returns-in-None c =
     let w = c.args.graph.now in
     let p = c.args.of.path.now in
     let files = c.args.of.files.now in
@@ -35,45 +33,4 @@ returns-in_default c =
         is_found = found;
       }) c.no_text.ensures.found;
       text = IfOk-weaker c.no_text.result _ _ (λ made none known seen right text is. absurd (none-some text (sym none ∙ is))) c.no_text.ensures.text;
-    }
-
-pub returns : goal.returns
-returns c =
-    let w = c.args.graph.now in
-    let p = c.args.of.path.now in
-    let at = c.requires.at in
-    let trees = c.as_slice.result.now in
-    let i = c.args.of.interfaces.now in
-    let table = c.in-Some.table in
-    let laid = subst (λ ts. IsLaid ts (state_in i.states) (name_in i) table) (sym c.as_slice.ensures.value) (c.requires.found table c.in-Some.is) in
-    let parsed : AreParsed (package_files w p) trees [] =
-    subst (λ ts. AreParsed (package_files w p) ts []) (sym c.as_slice.ensures.value)
-    (parsed_all w c.args.number p c.args.of.files.now at c.requires.files c.requires.read) in
-    let own = package_in p (map source_of trees) table (interface_in i) in
-    let mine : IsPackageOf p trees (name_in i) (interface_in i) own = record { laid = table; is_laid = laid.is_laid; is_package = refl } in
-    record {
-      checked = IfOk-weaker c.unit_text.result _ _ (λ made checked known seen states. record {
-        files = trees;
-        parsed = parsed;
-        state = state_in i.states;
-        are_states = states;
-        name_of = name_in i;
-        interface_of = interface_in i;
-        are_seen = seen;
-        is_found = inside {p = own} laid.faultless mine checked;
-      }) c.unit_text.ensures.checked;
-      text = IfOk-weaker c.unit_text.result _ _ (λ made printed known seen right text is. record {
-        known = known;
-        right = right;
-        checked = own;
-        is_package = record {
-          files = trees;
-          parsed = parsed;
-          name_of = name_in i;
-          interface_of = interface_in i;
-          are_seen = seen;
-          is_package = mine;
-        };
-        is_printed = printed p at text is;
-      }) c.unit_text.ensures.text;
     }

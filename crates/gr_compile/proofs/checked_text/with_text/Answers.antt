@@ -1,5 +1,5 @@
 -- The answers to the goals of `checked_text::with_text`.
-use Rattle.std.proofs.Common.{sym, subst}
+use Rattle.std.proofs.Common.{subst}
 use Rattle.std.proofs.lemmas.Option.{none-some, same_Some}
 use Rattle.gr_declared.specs.PackageView.{package_of}
 use Rattle.gr_compile.specs.Compiling.{IsPrintedAs}

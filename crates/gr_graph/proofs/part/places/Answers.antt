@@ -1,5 +1,5 @@
 -- The place of one package more.
-use Rattle.std.proofs.Common.{rules, ◌≡◌, ◌<◌, length, get_or, replicate, refl, subst, arith}
+use Rattle.std.proofs.Common.{rules, ◌≡◌, length, get_or, replicate, refl, subst, arith}
 use Rattle.gr_graph.specs.Parts.{ArePlaces}
 use Rattle.gr_graph.proofs.PartLinks.{places_none, places_more}
 use Rattle.gr_graph.proofs.part.places.Goals as goal

@@ -1,35 +1,37 @@
--- One package more, and the whole closure at the end.
-use Rattle.std.proofs.Common.{◌+◌, ◌<◌, [], take, length, get_or, refl, sym, subst, arith}
-use Rattle.std.proofs.lemmas.List.{take_all}
-use Rattle.std.proofs.lemmas.Option.{slice_get-get_or}
+-- What was gathered last, with the packages of the closure beside it, is the closure.
+use Rattle.std.proofs.Common.{ℕ, ◌<◌, List, ◌++◌, length, get_or, inl, inr, sym, subst}
+use Rattle.std.specs.List.{Contains}
+use Rattle.std.proofs.lemmas.List.Elements.{All-contains, Contains-append_left, Contains-append_right, Contains-append_cases, Contains-get_or}
+use Rattle.std.proofs.lemmas.Result.{IfOk-weaker}
 use Rattle.gr_text.specs.Packages.{package_paths}
-use Rattle.gr_text.specs.Workspace.{Workspace}
-use Rattle.gr_verdict.proofs.Members.{taken_or_next, still_taken, next_taken}
-use Rattle.gr_keep.proofs.ClosureFiles.{none_gathered, gathered_next, closure_texts, AreGathered}
+use Rattle.gr_keep.specs.Inputs.{AreBoth, AreGathered}
+use Rattle.gr_keep.proofs.ClosureFiles.{gathered_as}
 use Rattle.gr_keep.proofs.inputs.closure_files.Goals as goal
 
-pub loop-number-init : goal.loop-number-init
-loop-number-init c = subst (λ (m : Workspace). AreGathered c.args.graph.now (take 0 c.args.closure.now) m) (sym c.new-files.ensures)
-    (none_gathered c.args.graph.now _ refl)
-
-pub add_package-requires : goal.add_package-requires
-add_package-requires c = c.requires c.loop-number.number-index 0 (omega arith)
-
-pub loop-number-preserved : goal.loop-number-preserved
-loop-number-preserved c =
+pub files_and-requires : goal.files_and-requires
+files_and-requires c =
     let w = c.args.graph.now in
-    let items = c.args.closure.now in
-    let k = c.loop-number.number-index in
-    let lt : k < length items = omega arith in
-    let n = get_or items k 0 in
-    let q = get_or (package_paths w) n [] in
-    let at = slice_get-get_or (package_paths w) n [] (c.requires k 0 lt) in
-    gathered_next w (take k items) (take (k + 1) items) n q at (λ m h. taken_or_next items k 0 m lt h) (λ m h. still_taken items k 0 m lt h)
-    (next_taken items k 0 lt) c.loop-number.files c.add_package.new.files (c.in_ok-add_package.ensures q at) c.loop-number.invariant
+    let closure = c.args.closure.now in
+    let others = c.deref.result.now in
+    let both = c.in_ok-found.ensures c.in-Some.others c.in-Some.is in
+    record {
+      numbers = λ i d lt. All-contains (λ n. n < length (package_paths w)) closure (get_or others i d) c.requires.numbers
+          ((both (get_or others i d)).1 (inr (subst (λ l. Contains l (get_or others i d)) c.deref.ensures.value (Contains-get_or others i d lt))));
+      before = c.requires.before;
+    }
 
-pub returns : goal.returns
-returns c = λ p holds.
+pub returns-in-Some : goal.returns-in-Some
+returns-in-Some c =
     let w = c.args.graph.now in
-    let items = c.args.closure.now in
-    closure_texts w p items c.loop-number.files holds
-    (subst (λ l. AreGathered w l c.loop-number.files) (take_all c.loop-number.number-index items (omega arith)) c.loop-number.invariant)
+    let closure = c.args.closure.now in
+    let held = c.args.before.now.numbers in
+    let others = c.deref.result.now in
+    let both : AreBoth closure held others =
+    subst (λ l. AreBoth closure held l) (sym c.deref.ensures.value)
+    (subst (λ l. AreBoth closure l c.in-Some.others.items) c.as_slice.ensures (c.in_ok-found.ensures c.in-Some.others c.in-Some.is)) in
+    IfOk-weaker c.files_and.result (AreGathered w (held ++ others)) (AreGathered w closure)
+    (λ files g. gathered_as w (held ++ others) closure files (λ n. (
+      λ has. (both n).1 (Contains-append_cases held others n has),
+      λ has. elim ((both n).0 has) [ inl a ↦ Contains-append_left held others n a | inr b ↦ Contains-append_right held others n b ],
+    )) g)
+    c.files_and.ensures

@@ -16,15 +16,15 @@ loop-path-init c =
 pub loop-path-preserved : goal.loop-path-preserved
 loop-path-preserved c =
     let w = c.args.files.now in
-    let e : List ℕ × List ℕ = (c.in-Some.path.now, c.in-Some.field-1.now) in
-    let left = rest_more deref_pair _ _ _ (c.in-Some.path, c.in-Some.field-1) c.in-Some.is c.next.ensures.steps in
+    let e : List ℕ × List ℕ = (c.in-Some.path.now, c.in-Some.field-0-1.now) in
+    let left = rest_more deref_pair _ _ _ (c.in-Some.path, c.in-Some.field-0-1) c.in-Some.is c.next.ensures.steps in
     passed_more w e c.next.new.self (sym c.is_go.ensures ∙ c.if-not-is_go.false) (subst (ArePassed w) left c.loop-path.invariant)
 
 pub returns-then-not-is_go : goal.returns-then-not-is_go
 returns-then-not-is_go c =
     let w = c.args.files.now in
-    let e : List ℕ × List ℕ = (c.in-Some.path.now, c.in-Some.field-1.now) in
-    let left = rest_more deref_pair _ _ _ (c.in-Some.path, c.in-Some.field-1) c.in-Some.is c.next.ensures.steps in
+    let e : List ℕ × List ℕ = (c.in-Some.path.now, c.in-Some.field-0-1.now) in
+    let left = rest_more deref_pair _ _ _ (c.in-Some.path, c.in-Some.field-0-1) c.in-Some.is c.next.ensures.steps in
     let here = passed_first w e c.next.new.self (subst (ArePassed w) left c.loop-path.invariant) in (
       λ t. absurd (true≢false (sym t)),
       λ go. absurd (true≢false (sym (c.is_go.ensures ∙ go e here) ∙ c.if-not-is_go.true)),

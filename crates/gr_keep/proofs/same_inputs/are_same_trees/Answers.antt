@@ -7,10 +7,10 @@ use Rattle.gr_verdict.specs.Earlier.{tree_file}
 use Rattle.gr_keep.proofs.SameInputs.{alike_more, not_alike, same_length}
 use Rattle.gr_keep.proofs.same_inputs.are_same_trees.Goals as goal
 
-pub returns-then-len-others : goal.returns-then-len-others
-returns-then-len-others c = (
+pub returns-then-trees-others : goal.returns-then-trees-others
+returns-then-trees-others c = (
   λ t. absurd (true≢false (sym t)),
-  λ same. absurd (c.if-len-others.true (same_length tree_file c.args.trees.now c.args.others.now same)),
+  λ same. absurd (c.if-trees-others.true (same_length tree_file c.args.trees.now c.args.others.now same)),
 )
 
 pub loop-place-init : goal.loop-place-init
@@ -25,10 +25,10 @@ loop-place-preserved c =
     let u = c.index-others-place.result in
     let both = c.is_same_file.ensures.0 c.if-not-is_same_file.false in
     let text : t.cut.text ≡ u.cut.text = sym (c.file.ensures.text ∙ ap (λ (x : CutText). x.text) c.pieces.ensures) ∙ both.1 ∙
-    (c.file-2.ensures.text ∙ ap (λ (x : CutText). x.text) c.pieces-2.ensures) in
-    let path : t.path ≡ u.path = sym c.path.ensures ∙ both.0 ∙ c.path-2.ensures in
+    (c.file-in-loop-place.ensures.text ∙ ap (λ (x : CutText). x.text) c.pieces-in-loop-place.ensures) in
+    let path : t.path ≡ u.path = sym c.path.ensures ∙ both.0 ∙ c.path-in-loop-place.ensures in
     let is : tree_file t ≡ tree_file u = (λ i. (path i, text i)) in
-    alike_more tree_file xs ys k t u (omega arith) (omega (arith, c.if-len-others.false)) c.index-trees-place.is c.index-others-place.is is
+    alike_more tree_file xs ys k t u (omega arith) (omega (arith, c.if-trees-others.false)) c.index-trees-place.is c.index-others-place.is is
     c.loop-place.invariant
 
 pub returns-then-not-is_same_file : goal.returns-then-not-is_same_file
@@ -39,11 +39,11 @@ returns-then-not-is_same_file c =
     let t = c.index-trees-place.result in
     let u = c.index-others-place.result in (
       λ t. absurd (true≢false (sym t)),
-      λ same. absurd (not_alike tree_file xs ys k t u (omega arith) (omega (arith, c.if-len-others.false)) c.index-trees-place.is c.index-others-place.is
+      λ same. absurd (not_alike tree_file xs ys k t u (omega arith) (omega (arith, c.if-trees-others.false)) c.index-trees-place.is c.index-others-place.is
           (λ is. true≢false (sym (c.is_same_file.ensures.1 (
-            c.path.ensures ∙ ap (λ e. e.0) is ∙ sym c.path-2.ensures,
+            c.path.ensures ∙ ap (λ e. e.0) is ∙ sym c.path-in-loop-place.ensures,
             (c.file.ensures.text ∙ ap (λ (x : CutText). x.text) c.pieces.ensures) ∙ ap (λ e. e.1) is ∙
-                sym (c.file-2.ensures.text ∙ ap (λ (x : CutText). x.text) c.pieces-2.ensures),
+                sym (c.file-in-loop-place.ensures.text ∙ ap (λ (x : CutText). x.text) c.pieces-in-loop-place.ensures),
           )) ∙ c.if-not-is_same_file.true)) same),
     )
 
@@ -51,6 +51,6 @@ pub returns : goal.returns
 returns c =
     let k = c.loop-place.place in (
       λ _. ap (map tree_file) (sym (take_all k c.args.trees.now (omega arith))) ∙ c.loop-place.invariant ∙
-          ap (map tree_file) (take_all k c.args.others.now (omega (arith, c.if-len-others.false))),
+          ap (map tree_file) (take_all k c.args.others.now (omega (arith, c.if-trees-others.false))),
       λ _. refl,
     )

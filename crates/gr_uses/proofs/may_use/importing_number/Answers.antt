@@ -4,8 +4,8 @@ use Rattle.std.proofs.lemmas.Option.{slice_get_within}
 use Rattle.gr_text.specs.Packages.{package_paths}
 use Rattle.gr_uses.proofs.may_use.importing_number.Goals as goal
 
-pub returns-then-number-len : goal.returns-then-number-len
-returns-then-number-len c = λ q at.
+pub returns-else-number-len : goal.returns-else-number-len
+returns-else-number-len c = λ q at.
     let paths = package_paths c.args.graph.now in
     let within : c.args.number < length paths = slice_get_within paths c.args.number q at in
-    absurd (omega (arith, within, c.len.ensures, c.if-number-len.true))
+    absurd (omega (arith, within, c.len.ensures, c.if-number-len.false))

@@ -40,7 +40,7 @@ state_of-requires c =
           let p = slice_get_some (package_paths w) c.args.number c.requires.in_range in
           let s = (c.imports-import-items.ensures.imports p.0 p.1 n).0 own in
           slice_get_within (package_paths w) n s.0 s.1;
-      back = λ p at. subst (AreBackMarks w p) (sym c.deref-3.ensures.value) (c.in_ok-back.ensures p at);
+      back = λ p at. subst (AreBackMarks w p) (sym c.deref-in-loop-import.ensures.value) (c.in_ok-back.ensures p at);
       imports = λ p at q there.
           let s = (c.imports-import-items.ensures.imports p at n).0 own in
           subst (PackageImports w p) (same_Some s.0 q (sym s.1 ∙ there)) s.2;

@@ -1,5 +1,6 @@
 -- The answers to the goals of `seeing::seen`.
-use Rattle.std.proofs.Common.{◌≡◌, ◌+◌, ◌<◌, take, length, get_or, refl, sym, subst, ◌∙◌, arith}
+use Rattle.std.proofs.Common.{◌≡◌, ◌+◌, ◌<◌, ℕ, List, take, length, get_or, refl, sym, subst, ◌∙◌, arith}
+use Rattle.std.specs.Prelude.{Contains}
 use Rattle.std.proofs.lemmas.List.{take_all}
 use Rattle.std.proofs.lemmas.List.Elements.{Contains-get_or}
 use Rattle.std.proofs.lemmas.Option.{same_Some, slice_get_within}
@@ -21,10 +22,11 @@ package-requires c =
     let w = c.args.graph.now in
     let items = c.as_slice-other-items.result.now in
     let k = c.loop-other.other-index in
-    let own = rw (sym c.as_slice-other-items.ensures) (Contains-get_or items k 0 (omega arith)) in
+    let n = get_or items k 0 in
+    let own : Contains c.in_ok-below.below n = subst (λ (l : List ℕ). Contains l n) c.as_slice-other-items.ensures (Contains-get_or items k 0 (omega arith)) in
     let p = slice_get_some (package_paths w) c.args.number c.requires.in_range in
-    let s = (c.in_ok-below.ensures.below p.0 p.1 (get_or items k 0)).0 own in
-    slice_get_within (package_paths w) (get_or items k 0) s.0 s.1
+    let s = (c.in_ok-below.ensures.below p.0 p.1 n).0 own in
+    slice_get_within (package_paths w) n s.0 s.1
 
 pub loop-other-preserved : goal.loop-other-preserved
 loop-other-preserved c = λ p at.
@@ -36,7 +38,8 @@ loop-other-preserved c = λ p at.
     let n = get_or items k 0 in
     let old = c.loop-other.seen in
     let new = c.share.new.self in
-    let s = (c.in_ok-below.ensures.below p at n).0 (rw (sym c.as_slice-other-items.ensures) (Contains-get_or items k 0 lt)) in
+    let own : Contains c.in_ok-below.below n = subst (λ (l : List ℕ). Contains l n) c.as_slice-other-items.ensures (Contains-get_or items k 0 lt) in
+    let s = (c.in_ok-below.ensures.below p at n).0 own in
     let path : c.deref.result.now ≡ s.0 = c.deref.ensures.value ∙ same_Some c.package.result.now.path.items s.0 (sym c.package.ensures.path ∙ s.1) in
     shared_next w p (take k items) (take (k + 1) items) n s.0 s.1 (λ m h. taken_or_next items k 0 m lt h) (λ m h. still_taken items k 0 m lt h)
     (next_taken items k 0 lt) all old new s.2 (subst (Shares all old new) path c.in_ok-share.ensures.shared) (c.loop-other.invariant p at)

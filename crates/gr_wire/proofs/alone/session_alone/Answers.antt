@@ -2,7 +2,7 @@
 use Rattle.std.proofs.Common.{refl, subst}
 use Rattle.gr_book.specs.Machine.{Machine, opening}
 use Rattle.gr_wire.specs.Alone.{EndsOver}
-use Rattle.gr_wire.proofs.Sent.{kept_same}
+use Rattle.std.proofs.KnownBytes.{Keeps-refl}
 use Rattle.gr_wire.proofs.alone.session_alone.Goals as goal
 
 pub returns-in-Ok : goal.returns-in-Ok
@@ -14,5 +14,5 @@ returns-in-Ok g c = subst
 pub returns-in-Err : goal.returns-in-Err
 returns-in-Err g c = (
   opening c.args.limits,
-  (g.R.Read.remaining c.args.reader, (kept_same (g.R.Read.remaining c.args.reader), refl, kept_same (g.W.Write.contents c.args.writer))),
+  (g.R.Read.remaining c.args.reader, (Keeps-refl (g.R.Read.remaining c.args.reader), refl, Keeps-refl (g.W.Write.contents c.args.writer))),
 )

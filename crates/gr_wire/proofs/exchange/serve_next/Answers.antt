@@ -15,7 +15,7 @@ returns-in_err-await_message-clause-step g c =
 pub returns-in_err-print_reply-in-NoRoom-clause-step : goal.returns-in_err-print_reply-in-NoRoom-clause-step
 returns-in_err-print_reply-in-NoRoom-clause-step g c =
     let p = err_from_is_err_and c.from_residual-in_err-print_reply-in-NoRoom.result c.from_residual-in_err-print_reply-in-NoRoom.ensures.1 in
-    let cut = rw c.refuse.ensures at c.in_err-print_reply-in-NoRoom.ensures.written in
+    let cut = rw c.refuse-refused.ensures at c.in_err-print_reply-in-NoRoom.ensures.written in
     rw (p.1, p.2)
     (step_refused_cut g.D.Desk.steps g.D.Desk.waits c.args.limits.now (g.S.ByteSource.remaining c.args.source.now)
     (g.S.ByteSource.remaining c.await_message.new.source)
@@ -46,7 +46,7 @@ returns-in_ok-print_reply-in-NoRoom-clause-step g c =
     (g.S.ByteSource.remaining c.await_message.new.source)
     (g.T.Sink.contents c.args.sink.now) (g.T.Sink.contents c.await_message.new.sink) (g.T.Sink.contents c.print_reply.new.sink) c.args.desk.now
     (rw c.in-NoRoom.is at c.in_ok-await_message.ensures.awaits)
-    (rw c.refuse.ensures at c.in_ok-print_reply-in-NoRoom.ensures.written)
+    (rw c.refuse-refused.ensures at c.in_ok-print_reply-in-NoRoom.ensures.written)
 
 pub returns-in_ok-send_reply-in-Message-clause-step : goal.returns-in_ok-send_reply-in-Message-clause-step
 returns-in_ok-send_reply-in-Message-clause-step g c =

@@ -41,6 +41,7 @@ invariant_of-self g c =
     (fits.1 (tested.0 c.if-not-has_room.false)) place c.answer.ensures.keeps in
     on.0
 
+-- its facts are those of the goal before: an answer speaks of the values of its own goal
 pub returns-in-Ok : goal.returns-in-Ok
 returns-in-Ok g c =
     let m : Machine = with_journal c.self.inside.content c.self.inside.journal.items in

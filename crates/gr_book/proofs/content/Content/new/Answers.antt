@@ -11,5 +11,8 @@ pub invariant_of-result : goal.invariant_of-result
 invariant_of-result c =
     let files : length (package_paths c.in_ok-files.files) ≡ 0 = ap (λ (w : Workspace). length (package_paths w)) (c.in_ok-files.ensures ∙ c.new.ensures) ∙
     no_packages in
-    let units : length c.in_ok-finished.finished ≡ 0 = ap (λ (t : Table). length t) c.in_ok-finished.ensures in
-    (units ∙ sym files, subst (KnowsVerdicts c.in_ok-files.files) (sym c.in_ok-known.ensures) (c.new-nothing.ensures.right c.in_ok-files.files))
+    let units : length c.in_ok-finished.finished ≡ 0 = ap (λ (t : Table). length t) c.in_ok-finished.ensures in (
+      units ∙ sym files,
+      subst (KnowsVerdicts c.in_ok-files.files) (sym c.in_ok-known.ensures) (c.new-nothing.ensures.right c.in_ok-files.files),
+      c.new-gathered.ensures c.in_ok-files.files,
+    )

@@ -27,7 +27,7 @@ part_links-requires c =
     let graph = subst (λ (x : Workspace). IsGraph x c.deref.result.now.packages.items c.deref.result.now.links)
     (ap (λ parts. parts.files) c.deref.ensures ∙ c.whole.view_is)
     (subst (λ parts. IsGraph parts.files parts.packages.items parts.links) (sym c.deref.ensures) c.whole.invariant) in
-    let links : c.links.result.now ≡ c.deref.result.now.links = c.links.ensures in
+    let links : c.links.result.now ≡ c.deref.result.now.links = c.links.ensures ∙ ap (λ parts. parts.links) (c.deref-3.ensures ∙ sym c.deref.ensures) in
     record {
       linked = subst AreLinked (sym links) graph.linked.linked;
       numbers = λ k d below. (let size = ap length links in omega (arith, c.requires.numbers k d below, graph.linked.size, size));
@@ -41,7 +41,8 @@ of-requires c =
     let graph = subst (λ (x : Workspace). IsGraph x c.deref.result.now.packages.items c.deref.result.now.links)
     (ap (λ parts. parts.files) c.deref.ensures ∙ c.whole.view_is)
     (subst (λ parts. IsGraph parts.files parts.packages.items parts.links) (sym c.deref.ensures) c.whole.invariant) in
-    let whole = subst (λ (g : Links). IsGraph w old g) (sym c.links.ensures)
+    let links : c.links.result.now ≡ c.deref.result.now.links = c.links.ensures ∙ ap (λ parts. parts.links) (c.deref-3.ensures ∙ sym c.deref.ensures) in
+    let whole = subst (λ (g : Links). IsGraph w old g) (sym links)
     (subst (λ (ps : List ParsedPackage). IsGraph w ps c.deref.result.now.links) (sym c.deref-2.ensures.value) graph) in
     part_linked w c.args.files c.args.numbers.now old c.in_ok-packages.packages.items c.links.result.now c.in_ok-rows.rows.items whole c.requires.files
     c.in_ok-packages.ensures c.requires.rising c.in_ok-rows.ensures
@@ -53,7 +54,8 @@ invariant_of-result c =
     let graph = subst (λ (x : Workspace). IsGraph x c.deref.result.now.packages.items c.deref.result.now.links)
     (ap (λ parts. parts.files) c.deref.ensures ∙ c.whole.view_is)
     (subst (λ parts. IsGraph parts.files parts.packages.items parts.links) (sym c.deref.ensures) c.whole.invariant) in
-    let whole = subst (λ (g : Links). IsGraph w old g) (sym c.links.ensures)
+    let links : c.links.result.now ≡ c.deref.result.now.links = c.links.ensures ∙ ap (λ parts. parts.links) (c.deref-3.ensures ∙ sym c.deref.ensures) in
+    let whole = subst (λ (g : Links). IsGraph w old g) (sym links)
     (subst (λ (ps : List ParsedPackage). IsGraph w ps c.deref.result.now.links) (sym c.deref-2.ensures.value) graph) in
     rw (c.in_ok-new.ensures.ok, c.in_ok-links.ensures)
     (part_graph w c.args.files c.args.numbers.now old c.in_ok-packages.packages.items c.links.result.now c.in_ok-rows.rows.items whole c.requires.files
