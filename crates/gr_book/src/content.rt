@@ -227,12 +227,8 @@ impl Content {
             return Err(Refusal::NoJob);
         };
         let package = SharedPath::new(self.alloc, &current.files.package(number).path)?;
-        let TakenInputs { inputs, gathered } = inputs_of(
-            self.alloc,
-            &current.files,
-            number,
-            &current.gathered,
-        )?;
+        let taken = inputs_of(self.alloc, &current.files, number, &current.gathered)?;
+        let TakenInputs { inputs, gathered } = taken;
         let known = known_within(self.alloc, &current.files, &current.known, &inputs)?;
         let job = self
             .out

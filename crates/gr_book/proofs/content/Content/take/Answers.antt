@@ -26,10 +26,10 @@ known_within-requires c =
     let files = c.current.inside.files in
     let p = c.deref.result.now in
     let here : slice_get (package_paths files) c.in-Some.number ≡ Some p = c.package.ensures.path ∙ ap Some (sym c.deref.ensures.value) in
-    record { known = c.current.invariant.1; closures = inputs_closures files p c.in_ok-inputs.inputs (c.in_ok-inputs.ensures.inputs p here) }
+    record { known = c.current.invariant.1; closures = inputs_closures files p c.in_ok-taken.taken.inputs (c.in_ok-taken.ensures.inputs p here) }
 
 pub keep-requires : goal.keep-requires
-keep-requires c = subst (λ (s : State). HoldsGathered s.files c.in_ok-inputs.gathered) c.current.view_is c.in_ok-inputs.ensures.gathered
+keep-requires c = subst (λ (s : State). HoldsGathered s.files c.in_ok-taken.taken.gathered) c.current.view_is c.in_ok-taken.ensures.gathered
 
 pub returns : goal.returns
 returns c =
@@ -51,15 +51,15 @@ returns c =
     let here : slice_get (package_paths c.current.inside.files) n ≡ Some p = c.package.ensures.path ∙ ap Some (sym c.deref.ensures.value) in
     let at : slice_get (package_paths state.files) n ≡ Some p = subst (λ (s : State). slice_get (package_paths s.files) n ≡ Some p) c.current.view_is here in
     let named : p ≡ job.package = sym (ap (λ (j : JobRecord). j.package) handed.0 ∙ c.in_ok-package.ensures) in
-    let inputs : AreInputs state.files p c.in_ok-inputs.inputs =
-    subst (λ (s : State). AreInputs s.files p c.in_ok-inputs.inputs) c.current.view_is (c.in_ok-inputs.ensures.inputs p here) in
+    let inputs : AreInputs state.files p c.in_ok-taken.taken.inputs =
+    subst (λ (s : State). AreInputs s.files p c.in_ok-taken.taken.inputs) c.current.view_is (c.in_ok-taken.ensures.inputs p here) in
     let next : IsNextJob m job = record {
       ticket = ap (λ (j : JobRecord). j.ticket) handed.0;
       number = ap (λ (j : JobRecord). j.number) handed.0 ∙ ap (λ (s : State). s.number) c.current.view_is;
       visit = ap (λ (j : JobRecord). j.visit) handed.0;
       first = subst (IsFirstWaiting state m.out m.visit) named (c.in-Some.ensures.1 p at);
       inputs = subst (λ (x : Workspace). AreInputs state.files job.package x) (sym (ap (λ (j : JobRecord). j.inputs) handed.0))
-          (subst (λ (q : List ℕ). AreInputs state.files q c.in_ok-inputs.inputs) named inputs);
+          (subst (λ (q : List ℕ). AreInputs state.files q c.in_ok-taken.taken.inputs) named inputs);
     } in (
       subst (λ (x : Content). IsNextJob x job) c.self.view_is next,
       (λ i. record m { current = c.keep.ensures i; out = handed.1 i }) ∙ ap (λ (x : Content). record x { out = with_job x.out (label_of job) }) c.self.view_is,
