@@ -19,7 +19,7 @@ from pathlib import Path
 WANT = re.compile(r"\b(?:\w+::(?:Memory|NoRoom)|AllocError)\b")
 REFUSED = r"From<Alloc(?:Error|Failed)\b"
 # calls of the standard library that fail for want of memory alone
-STANDARD = {"BufReader::new", "BufWriter::new", "collect", "vec"}
+STANDARD = {"BufReader::new", "BufWriter::new", "clone", "collect", "vec"}
 OWNER = re.compile(r"(?:impl(?:<.*?>)?|trait)\s+(?:\S+ for )?(\w+)")
 SIGNATURE = re.compile(r"(?:^|\s)fn (\w+)[^{;]*?->\s*([^{;]*?)\s*(?:where|requires|ensures|ghost|[{;])", re.S)
 CALL = re.compile(r"\b((?:\w+::)?\w+)[(!]")

@@ -99,14 +99,14 @@ pub func_read : (s : Source) (f : FuncDecl) (role : Role) (ps : List (Item Param
     sites_if (receiver_sites s (Inner s.rank (out-BlockStmt f.body).«open» (out-BlockStmt f.body).close) (out-BlockStmt f.body).«open»)
     (option_view receiver_view f.receiver) ++ (site s f.name role ∷
     (list_sites (param_sites s (Inner s.rank (out-BlockStmt f.body).«open» (out-BlockStmt f.body).close) (out-BlockStmt f.body).«open»)
-        (list_view param_view ps) ++
+    (list_view param_view ps) ++
     (result_sites s (results_view f.results) ++ block_sites s (block_view f.body)))) ≡ func_sites s (func_view f)
 unfolding func_sites func_view func_parts
 func_read s f role ps er ep =
     ap (λ r. func_parts s f (out-BlockStmt f.body).«open» (out-BlockStmt f.body).close r ps) er ∙
     ap (func_parts s f (out-BlockStmt f.body).«open» (out-BlockStmt f.body).close (func_role (option_view receiver_view f.receiver) (s.spell f.name))) ep ∙
     ap (λ o. func_parts s f o (out-BlockStmt f.body).close (func_role (option_view receiver_view f.receiver) (s.spell f.name)) f.params.items)
-        (open_from f.body) ∙
+    (open_from f.body) ∙
     ap (λ c. func_parts s f (open_of (block_view f.body)) c (func_role (option_view receiver_view f.receiver) (s.spell f.name)) f.params.items)
     (close_from f.body)
 

@@ -63,7 +63,7 @@ statement_row s b close (more_of-BlockItem x p rest) = ap (λ z. statement_sites
 
 block_from : (s : Source) (x : trees.BlockStmt) →
     flat_map (statement_part s (blocks.Inner s.rank (out-BlockStmt x).«open» (out-BlockStmt x).close) (out-BlockStmt x).close)
-        (out-BlockStmt x).statements.items ≡
+    (out-BlockStmt x).statements.items ≡
     block_sites s (block_view x)
 unfolding block_sites block_view
 block_from s (BlockStmt' o shape row c) =

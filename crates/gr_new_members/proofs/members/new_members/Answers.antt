@@ -15,7 +15,7 @@ loop-number-init c = no_members c.args.packages.now.graph.now (known_in c.args.p
 pub loop-number-preserved : goal.loop-number-preserved
 loop-number-preserved c =
     more_members c.args.packages.now.graph.now (known_in c.args.packages.now.found.now) (revision_of c.args.packages.now.graph.now c.args.moves.now)
-        c.loop-number.number
+    c.loop-number.number
     c.loop-number.members.items c.push.new.self.items _ c.in_ok-push.ensures.items
     c.in_ok-members_at.ensures c.loop-number.invariant
 
@@ -24,4 +24,4 @@ returns c =
     let w = c.args.packages.now.graph.now in
     let end : c.loop-number.number ≡ length (package_paths w) = omega arith in
     subst (λ n. AreNewMembersBelow w (known_in c.args.packages.now.found.now) (revision_of w c.args.moves.now) n c.loop-number.members.items) end
-        c.loop-number.invariant
+    c.loop-number.invariant
