@@ -6,9 +6,9 @@ use Rattle.std.specs.Prelude.{not}
 use Rattle.std.specs.Cmp.{IsTotalOrder}
 use Rattle.std.specs.FinMap.{find, put, is_sorted}
 use Rattle.std.specs.FinMap.Entries.{is_sorted-put, is_sorted-where_key}
-use Rattle.gr_chunks.specs.Entries.{without, from_key, Rises, IsAfterAll, IsBeforeAll, is_before}
+use Rattle.gr_chunks.specs.Entries.{without, Rises, IsAfterAll, IsBeforeAll, is_before}
 use Rattle.gr_chunks.specs.Chunks.{joined, IsMap, Replaces}
-use Rattle.gr_chunks.proofs.Standing.{rises, rises_front, rises_back, put_parts, find_parts, without_parts, from_parts, after_part, before_part}
+use Rattle.gr_chunks.proofs.Standing.{rises, rises_front, rises_back, put_parts, find_parts, without_parts, after_part, before_part}
 use Rattle.gr_chunks.proofs.Joining.{joined_parts, joined_drop, all_at}
 
 is_true : (b : Bool) → T b → IsTrue b
@@ -46,11 +46,6 @@ module _ {K X : Type 0} (R : K → K → Ordering) where
       → find R k (get_or cs i []) ≡ find R k (joined cs)
   find_in_chunk k cs i f g =
       sym (ap (find R k) (part_at cs i) ∙ find_parts R k (joined (take i cs)) (get_or cs i []) (joined (drop (i + 1) cs)) f g)
-
-  pub from_in_chunk : (k : K) (cs : List (List (K × X))) (i : ℕ) → IsAfterAll R k (joined (take i cs)) → IsBeforeAll R k (joined (drop (i + 1) cs))
-      → from_key R k (get_or cs i []) ++ joined (drop (i + 1) cs) ≡ from_key R k (joined cs)
-  from_in_chunk k cs i f g =
-      sym (ap (from_key R k) (part_at cs i) ∙ from_parts R k (joined (take i cs)) (get_or cs i []) (joined (drop (i + 1) cs)) f g)
 
   -- an entry set in its chunk
   pub put_in_chunk : (k : K) (v : X) (old new : List (List (K × X))) (i : ℕ) (ws : List (K × X)) → Replaces old new i ws → ws ≡ put R k v (get_or old i [])

@@ -9,7 +9,7 @@ use Rattle.std.specs.FinMap.{find, put, is_sorted}
 use Rattle.std.specs.FinMap.Entries.{below_all, by_order}
 use Rattle.std.specs.List.{AllByRecursion}
 use Rattle.std.proofs.lemmas.List.Elements.{filter-append}
-use Rattle.gr_chunks.specs.Entries.{without, from_key, Rises, IsAfterAll, IsBeforeAll, is_before, is_after, is_at}
+use Rattle.gr_chunks.specs.Entries.{without, Rises, IsAfterAll, IsBeforeAll, is_before, is_after, is_at}
 
 and_parts : (a b : Bool) → (a && b) ≡ true → (a ≡ true) × (b ≡ true)
 and_parts true b h = (refl, h)
@@ -143,21 +143,6 @@ module _ {K X : Type 0} (R : K → K → Ordering) where
       ∙ (λ i. without_after k xs f i ++ filter-append (λ e. not (is_eq (R k e.0))) c ys i)
       ∙ ap (λ es. xs ++ (without R k c ++ es)) (without_before k ys g)
 
-  from_after : (k : K) (xs : List (K × X)) → IsAfterAll R k xs → from_key R k xs ≡ []
-  from_after k [] h = refl
-  from_after k (x ∷ xs) h = ap (λ r. cond (not (is_gt r)) (x ∷ from_key R k xs) (from_key R k xs)) h.0 ∙ from_after k xs h.1
-
-  from_before : (k : K) (xs : List (K × X)) → IsBeforeAll R k xs → from_key R k xs ≡ xs
-  from_before k [] h = refl
-  from_before k (x ∷ xs) h =
-      ap (λ r. cond (not (is_gt r)) (x ∷ from_key R k xs) (from_key R k xs)) h.0 ∙ ap (λ es. x ∷ es) (from_before k xs h.1)
-
-  pub from_parts : (k : K) (xs c ys : List (K × X)) → IsAfterAll R k xs → IsBeforeAll R k ys → from_key R k (xs ++ (c ++ ys)) ≡ from_key R k c ++ ys
-  from_parts k xs c ys f g =
-      filter-append (λ e. not (is_gt (R k e.0))) xs (c ++ ys)
-      ∙ (λ i. from_after k xs f i ++ filter-append (λ e. not (is_gt (R k e.0))) c ys i)
-      ∙ ap (λ es. from_key R k c ++ es) (from_before k ys g)
-
   -- the key does not stand before the m-th entry
   pub not_after_at : (k : K) (es : List (K × X)) (m : ℕ) (d : K × X) → m < length es → is_gt (R k (get_or es m d).0) ≡ false → is_after R k (drop m es) ≡ false
   not_after_at k [] m d lt h = absurd (omega arith)
@@ -257,18 +242,3 @@ module _ {K X : Type 0} (R : K → K → Ordering) where
     without_gap k (e ∷ es) (suc m) h f g n =
         ap (λ r. cond (not (is_eq r)) (e ∷ without R k es) (without R k es)) f.0
         ∙ ap (λ fs. e ∷ fs) (without_gap k es m h.1 f.1 g n)
-
-    from_first : (k : K) (e : K × X) (es : List (K × X)) (r : Ordering) → R k e.0 ≡ r → is_gt r ≡ false → Rises R (e ∷ es) → from_key R k (e ∷ es) ≡ e ∷ es
-    from_first k e es Less p g h = from_before k (e ∷ es) (all_before k e es h p)
-    from_first k e es Equal p g h =
-        ap (λ r. cond (not (is_gt r)) (e ∷ from_key R k es) (from_key R k es)) p
-        ∙ ap (λ fs. e ∷ fs) (from_before k es (before_tied k e.0 es p h.0))
-    from_first k e es Greater p g h = absurd (true≢false g)
-
-    pub from_place : (k : K) (es : List (K × X)) (m : ℕ) → Rises R es → IsAfterAll R k (take m es) → is_after R k (drop m es) ≡ false →
-        from_key R k es ≡ drop m es
-    from_place k [] zero h f g = refl
-    from_place k [] (suc m) h f g = refl
-    from_place k (e ∷ es) zero h f g = from_first k e es (R k e.0) refl g h
-    from_place k (e ∷ es) (suc m) h f g =
-        ap (λ r. cond (not (is_gt r)) (e ∷ from_key R k es) (from_key R k es)) f.0 ∙ from_place k es m h.1 f.1 g

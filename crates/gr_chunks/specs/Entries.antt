@@ -10,10 +10,6 @@ module _ {K X : Type 0} (R : K → K → Ordering) where
   abbrev pub without : K → List (K × X) → List (K × X)
   without k es = filter (λ e. not (eq_by_cmp R k e.0)) es
 
-  -- the entries whose keys are not below k
-  abbrev pub from_key : K → List (K × X) → List (K × X)
-  from_key k es = filter (λ e. not (is_gt (R k e.0))) es
-
   -- k is above all keys
   abbrev pub IsAfterAll : K → List (K × X) → Type 0
   IsAfterAll k es = AllByRecursion (λ e. R k e.0 ≡ Greater) es

@@ -55,17 +55,6 @@ pub(crate) fn items_at<T>(chunks: &[Chunk<T>], at: usize) -> &[T]
     }
 }
 
-/// The chunks behind one.
-pub(crate) fn chunks_behind<T>(chunks: &[Chunk<T>], at: usize) -> &[Chunk<T>]
-    ensures { result.now ≡ drop (at + 1) chunks.now }
-{
-    if at < chunks.len() {
-        &chunks[at + 1..]
-    } else {
-        &[]
-    }
-}
-
 /// Puts a chunk in place of another, or behind all.
 fn put_one<T: Drop>(
     chunks: &mut Vec<Chunk<T>>,

@@ -3,12 +3,12 @@ ghost use Rattle.std.specs.Prelude.{◌≡◌, ◌↔◌, [], length, IfOk, OnOk
 ghost use Rattle.std.specs.Option.{option_copied};
 ghost use Rattle.std.specs.Map.Iter.{ShowsInOrder, deref_pair};
 ghost use Rattle.std.specs.FinMap.{find, put, is_sorted};
-ghost use Rattle.gr_chunks.specs.Entries.{without, from_key};
+ghost use Rattle.gr_chunks.specs.Entries.{without};
 
 use crate::chunk::Chunk;
-use crate::chunks::{chunk_of, chunks_behind, items_at, put_items};
+use crate::chunks::{chunk_of, items_at, put_items};
 use crate::copies::copies;
-use crate::entries::{place, value_of, with_entry, without_key};
+use crate::entries::{value_of, with_entry, without_key};
 use crate::items::{Entries, Items};
 use crate::share::{Same, Share};
 use std::alloc::{AllocError, Global};
@@ -105,18 +105,6 @@ impl<K: Ord, V> SharedMap<K, V> {
         ensures ordered { IsTrue (is_sorted K.cmp self.now) }
     {
         Entries::new(Items::new(&[], &self.chunks))
-    }
-
-    /// The entries whose keys are not below a key, in their order.
-    pub fn iter_from(&self, key: &K) -> Entries<'_, K, V>
-        ensures entries { result ≡ from_key K.cmp key.now self.now }
-        ensures runs { ShowsInOrder (deref_pair {K = K} {X = V}) }
-        ensures ordered { IsTrue (is_sorted K.cmp self.now) }
-    {
-        let at = chunk_of(&self.chunks, key);
-        let first = items_at(&self.chunks, at);
-        let from = place(first, key);
-        Entries::new(Items::new(&first[from..], chunks_behind(&self.chunks, at)))
     }
 }
 

@@ -9,11 +9,10 @@ use Rattle.gr_edit.specs.Fits.{Fits, IsThere}
 use Rattle.gr_edit.specs.Inverse.{AreChanges, LeadsBack, reversed, reversed_from, inverse}
 use Rattle.gr_edit.specs.Made.{made}
 use Rattle.gr_edit.specs.Moved.{moved_offset}
-use Rattle.gr_edit.specs.Moving.{IsPast, moved_from}
+use Rattle.gr_edit.specs.Moving.{IsPast, moved_from, Past}
 use Rattle.gr_edit.specs.Prepared.{IsPrepared}
 use Rattle.gr_edit.specs.declared.edit.Edit.{Edit}
 use Rattle.gr_edit.specs.declared.change.FileChange.{FileChange}
-use Rattle.gr_edit.specs.declared.moving.Past.{Past}
 use Rattle.gr_edit.proofs.EditedText.{length_range}
 use Rattle.gr_edit.proofs.MovedPlaces.{at_least, step_past, stop_before, moves_all}
 use Rattle.gr_edit.proofs.MadeFiles.{made_is_edited}

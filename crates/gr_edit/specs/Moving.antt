@@ -1,14 +1,14 @@
--- A cursor over the edits of a text.
+-- How far edits of a text reach that end at an offset or before it.
 use Rattle.std.specs.Prelude.{◌≡◌, ℕ, ◌+◌, ◌-◌, ◌≤◌, List, [], ◌∷◌, length, drop, nat_le, if◌then◌else◌}
 use Rattle.gr_edit.specs.Edits.{AreInOrder}
 use Rattle.gr_edit.specs.Moved.{moved_offset}
 use Rattle.gr_edit.specs.declared.edit.Edit.{Edit}
-use Rattle.gr_edit.specs.declared.moving.Past.{Past}
 
--- the edits, and the offset that was asked for last
-pub record AsksFrom : Type 0 where
-  pub edits : List Edit
-  pub last : ℕ
+-- how many edits end at an offset or before it, and where the last of them ends in the old and in the new text
+pub record Past : Type 0 where
+  pub edits : ℕ
+  pub old : ℕ
+  pub new : ℕ
 
 -- where an offset behind those edits that end at old is, which is new in the new text, with the edits that are left
 abbrev pub moved_from : ℕ → ℕ → List Edit → ℕ → ℕ

@@ -8,7 +8,6 @@ mod fits;
 mod inverse;
 mod laws;
 mod making;
-mod moving;
 mod new_text;
 mod prepared;
 mod reversing;
@@ -20,5 +19,4 @@ pub use inverse::Inverse;
 pub use laws::{
     each_path_gets_one_file, edits_keep_order, edits_keep_other_bytes, reversed_edits_restore,
 };
-pub use moving::MovedOffsets;
 pub use prepared::{Prepared, prepare};

@@ -83,16 +83,6 @@ impl Graph {
         Graph::made(alloc, None, files, packages)
     }
 
-    /// The graph of other files. It parses only those that the graph before does not have with the same text.
-    pub fn after(alloc: Global, before: &Graph, files: Files) -> Result<Graph, AllocError>
-        ensures { IfOk result (λ graph. graph ≡ files) }
-    {
-        let before = &before.parts;
-        let none = Vec::new(alloc);
-        let packages = packages(alloc, &before.packages, &none, &files)?;
-        Graph::made(alloc, Some(&before.links), files, packages)
-    }
-
     /// The graph of other files, whose Go files differ from those of the graph before only in some folders. Packages at
     /// other paths are shared, and only files in these folders are looked at, and parsed where their text is new.
     pub fn changed(

@@ -2,10 +2,9 @@
 use Rattle.std.specs.Prelude.{ℕ, ◌≡◌, ◌+◌, ◌<◌, ◌≤◌, List, length, Some, slice_get}
 use Rattle.std.specs.Global.{Vec}
 use Rattle.gr_edit.specs.EditSet.{FileChanges, change_of}
-use Rattle.gr_edit.specs.Moving.{IsPast}
+use Rattle.gr_edit.specs.Moving.{IsPast, Past}
 use Rattle.gr_edit.specs.declared.edit.Edit.{Edit}
 use Rattle.gr_edit.specs.declared.change.FileChange.{FileChange}
-use Rattle.gr_edit.specs.declared.moving.Past.{Past}
 use Rattle.gr_revision.specs.declared.moves.End.{End}
 
 abbrev pub past_at : ℕ → End → Past

@@ -17,10 +17,6 @@ c/d.go package c$import "a"$
 d/d.go package d$import "d"$
 e/e.go package e$$)$"#;
 
-/// What is put anew: now a and b import each other, and e has no fault.
-const OTHER_TEXTS: &str = r#"b/b.go package b$import "a"$
-e/e.go package e$"#;
-
 fn put_all(alloc: Global, files: &mut Files, rows: &str) -> Result<(), Fail> {
     for row in rows.lines() {
         put(alloc, files, row)?;
@@ -32,13 +28,6 @@ fn five_packages(alloc: Global) -> Result<Graph, Fail> {
     let mut files = Files::new(alloc);
     put_all(alloc, &mut files, FIVE_PACKAGES)?;
     Ok(Graph::of(alloc, files)?)
-}
-
-/// The graph with some files put anew.
-fn after(alloc: Global, before: &Graph, rows: &str) -> Result<Graph, Fail> {
-    let mut files = before.files().copy()?;
-    put_all(alloc, &mut files, rows)?;
-    Ok(Graph::after(alloc, before, files)?)
 }
 
 fn are_numbered(rt: &impl Abort, graph: &Graph) {
@@ -80,31 +69,6 @@ fn import_each_other(rt: &impl Abort, alloc: Global, graph: &Graph) -> Result<()
 fn packages_and_their_imports(rt: HostRuntime) -> Result<(), Fail> {
     let graph = five_packages(rt.alloc())?;
     are_numbered(&rt, &graph);
-    import_each_other(&rt, rt.alloc(), &graph)
-}
-
-fn are_other_packages(rt: &impl Abort, alloc: Global, graph: &Graph) -> Result<(), Fail> {
-    holds(rt, graph.len() == 5);
-    holds(rt, graph.imports(1) == [0].as_slice());
-    holds(rt, graph.package(4).faulty.is_empty());
-    let closure = graph.closure(alloc, 0)?;
-    holds(rt, closure.as_slice() == [0, 1].as_slice());
-    Ok(())
-}
-
-#[test]
-fn a_graph_after_another_is_of_the_new_files(rt: HostRuntime) -> Result<(), Fail> {
-    let before = five_packages(rt.alloc())?;
-    let graph = after(rt.alloc(), &before, OTHER_TEXTS)?;
-    are_other_packages(&rt, rt.alloc(), &graph)?;
-    Ok(())
-}
-
-/// What is asked of the links is the same where none changed.
-#[test]
-fn a_graph_after_one_of_the_same_files(rt: HostRuntime) -> Result<(), Fail> {
-    let before = five_packages(rt.alloc())?;
-    let graph = after(rt.alloc(), &before, "")?;
     import_each_other(&rt, rt.alloc(), &graph)
 }
 
