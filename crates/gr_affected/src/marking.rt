@@ -1,6 +1,6 @@
 //! The packages that a change affects: all but those whose closure has the same texts before and after, and of whose closure no
 //! file is among the changed ones.
-ghost use Rattle.std.specs.Prelude.{◌≡◌, ◌<◌, IfOk, List, length, slice_get};
+ghost use Rattle.std.specs.Prelude.{◌≡◌, ◌<◌, IfOk, length, slice_get};
 ghost use Rattle.gr_text.specs.Packages.{package_paths};
 ghost use Rattle.gr_graph.specs.Graphs.{OfPackage};
 ghost use Rattle.gr_keep.specs.Changes.{MarkClosures, MarkFolders};

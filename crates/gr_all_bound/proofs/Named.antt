@@ -18,9 +18,9 @@ use Rattle.gr_rules.specs.Operators as operators
 use Rattle.gr_rules.specs.Names.{NameMeans, a_local, a_bound}
 use Rattle.gr_rules.specs.Links.{Selects, Indexes, Calls, Gives}
 use Rattle.gr_rules.specs.Links as links
-use Rattle.gr_rules.specs.Meanings.{HasMeaning, LeadsTo, CombinesTo, AreValues}
+use Rattle.gr_rules.specs.Meanings.{HasMeaning, LeadsTo, CombinesTo}
 use Rattle.gr_rules.specs.Meanings as means
-use Rattle.gr_rules.specs.Uses.{IsBrokenType, SelectsBroken, UsesBroken, LinksUseBroken, OperandsUseBroken, ArgumentsUseBroken, LiteralUsesBroken}
+use Rattle.gr_rules.specs.Uses.{IsBrokenType, UsesBroken, LinksUseBroken, OperandsUseBroken, ArgumentsUseBroken, LiteralUsesBroken}
 use Rattle.gr_rules.specs.Uses.{ElementsUseBroken}
 use Rattle.gr_rules.specs.Uses as uses
 use Rattle.gr_all_bound.specs.Unbroken.{IsUnbroken}

@@ -6,7 +6,7 @@ use Rattle.std.proofs.lemmas.List.Elements.{All-head, All-tail}
 use Rattle.gr_tree.specs.declared.syntax.Kind.TheVariants as kind
 use Rattle.gr_tree.specs.Flatten.{sign, tokens_if, all_tokens, list_tokens, receiver_tokens, param_tokens, result_tokens, block_tokens, func_tokens}
 use Rattle.gr_tree.specs.Flatten.{imports_tokens, decl_tokens, flatten}
-use Rattle.gr_tree.specs.Tree.{Item, Group, single, several, IdentTree, Named, Underscore, TypeTree, ReceiverTree, ParamTree, ResultTree, FuncTree}
+use Rattle.gr_tree.specs.Tree.{Item, Group, single, several, TypeTree, ReceiverTree, ParamTree, ResultTree, FuncTree}
 use Rattle.gr_tree.specs.Tree.{GlobalTree, FieldTree, BodyTree, TypeSpecTree, ImportTree, ImportsTree, DeclTree, FileTree}
 use Rattle.gr_tree.specs.Tree as tree
 use Rattle.gr_tree.specs.WellFormed.{IsDecl, IsFunc, IsFile}

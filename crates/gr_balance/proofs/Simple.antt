@@ -4,7 +4,7 @@ use Rattle.std.specs.List.{flat_map, All}
 use Rattle.std.proofs.lemmas.List.{length-map}
 use Rattle.std.proofs.lemmas.List.Elements.{All-nil, All-cons, All-head, All-tail}
 use Rattle.gr_tree.specs.declared.syntax.BinaryOp.{BinaryOp}
-use Rattle.gr_tree.specs.Tree.{Item, Group, single, several, IdentTree, TypeTree, ExprTree, LinkTrees, SimpleTree, LocalTree, InitTree}
+use Rattle.gr_tree.specs.Tree.{Item, Group, IdentTree, ExprTree, LinkTrees, SimpleTree, LocalTree}
 use Rattle.gr_tree.specs.Tree as tree
 use Rattle.gr_tree.specs.WellFormed.{IsExpr, IsExprIn, IsList, IsSimple, IsLocal, Perhaps, IsGroup}
 use Rattle.gr_imports.specs.Files.{group_items}

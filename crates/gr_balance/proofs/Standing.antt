@@ -8,7 +8,7 @@ use Rattle.gr_tree.specs.declared.syntax.PrefixOp.TheVariants as prefix
 use Rattle.gr_expr.specs.Types.{Kind, Typed, Untyped, Nil, Signature, Meaning, Value, TypeName, Function, BuiltinName, Package, Results, Broken}
 use Rattle.gr_expr.specs.World.{Locals}
 use Rattle.gr_rules.specs.Names.{IsWhole, NameMeans, a_local, a_bound}
-use Rattle.gr_object.specs.Lines.{FunctionName, Line, line_if_known}
+use Rattle.gr_object.specs.Lines.{FunctionName, Line}
 use Rattle.gr_object.specs.Lines as line
 use Rattle.gr_object.specs.Source.{Source}
 use Rattle.gr_object.specs.Numbering.{slot_of}
@@ -16,7 +16,7 @@ use Rattle.gr_object.specs.Operands.{Operand, Standing, Values, Called, Converts
 use Rattle.gr_object.specs.Operands.{function_standing, plain_function, value_name, named_meaning, bound_name, name_operand, prefixed, operated, counted}
 use Rattle.gr_balance.specs.Stack.{Arity, Moves, RunsAt}
 use Rattle.gr_balance.specs.Answered.{IsKnown, IsCalled, plain_arity, MeaningIsKnown, NameIsKnown}
-use Rattle.gr_balance.proofs.Turning.{is_behind, Scans, Turns, none_turns, turns_as, turns_joined, turns_over, line_turns, turns_then, known_turns}
+use Rattle.gr_balance.proofs.Turning.{is_behind, Turns, none_turns, turns_joined, turns_over, line_turns, known_turns}
 use Rattle.gr_balance.proofs.Turning as turning
 
 -- one value, whose address is one value too

@@ -2,7 +2,7 @@
 ghost use Rattle.std.specs.Prelude.{ℕ, ◌≡◌, ◌+◌, Bool, List, Some, length, slice_get};
 ghost use Rattle.gr_tree.specs.Tree.{ExprTree, StatementTree, FuncTree};
 ghost use Rattle.gr_tree.specs.WellFormed.{IsExpr, IsStatement, IsFunc};
-ghost use Rattle.gr_expr.specs.Types.{PlainType, Kind, Meaning, Value, Results};
+ghost use Rattle.gr_expr.specs.Types.{PlainType, Kind, Value, Results};
 ghost use Rattle.gr_expr.specs.World.{Locals};
 ghost use Rattle.gr_rules.specs.Meanings.{HasMeaning};
 ghost use Rattle.gr_statement_rules.specs.Statements.{StatementIsTyped};

@@ -1,14 +1,14 @@
 -- The journal of a run: the entries of its events, in their order.
-use Rattle.std.proofs.Common.{◌≡◌, ℕ, List, [], ◌∷◌, ◌++◌, Option, MatchOption, Some, None, refl, sym, ap, subst, ◌∙◌}
+use Rattle.std.proofs.Common.{◌≡◌, ℕ, List, [], ◌∷◌, ◌++◌, Option, MatchOption, Some, None, sym, ap, subst}
 use Rattle.gr_text.specs.declared.refusal.Refusal.TheVariants.{Memory, JournalFull}
 use Rattle.gr_book.specs.declared.entry.Entry.{Entry}
 use Rattle.gr_book.specs.declared.entry.Told.{Told}
 use Rattle.gr_book.specs.declared.event.Event.{Event}
 use Rattle.gr_book.specs.declared.event.Reply.{Reply}
-use Rattle.gr_book.specs.declared.event.Reply.TheVariants.{Looked, Logged, Done, Taken, Refused, Back}
+use Rattle.gr_book.specs.declared.event.Reply.TheVariants.{Refused, Back}
 use Rattle.gr_book.specs.Journal.{Records, entry_of, told_of}
 use Rattle.gr_book.specs.Machine.{Machine}
-use Rattle.gr_book.specs.Run.{GoesOn, HasEntries, Run}
+use Rattle.gr_book.specs.Run.{GoesOn, HasEntries}
 use Rattle.gr_book.specs.Step.{Step}
 
 -- the journal after one event

@@ -16,7 +16,7 @@ use Rattle.gr_book.specs.declared.entry.Entry.{Entry}
 use Rattle.gr_book.specs.declared.entry.Told.{Told}
 use Rattle.gr_book.specs.Journal.{Records, ShowsLine, entry_of, told_of}
 use Rattle.gr_book.specs.Machine.{Content, Machine, content, with_journal}
-use Rattle.gr_book.specs.Step.{Answers, AnswersOrLacks, BringsOut, HasPlace, HasRoom, Keeps, MayLackMemory, Step, entries_due, refused}
+use Rattle.gr_book.specs.Step.{Answers, BringsOut, HasPlace, HasRoom, Keeps, Step, entries_due, refused}
 
 -- ---- the entry
 

@@ -1,5 +1,5 @@
 -- A step with the entry that it adds to the journal.
-use Rattle.std.specs.Prelude.{◌≡◌, ◌⊎◌, ℕ, List, [], ◌∷◌, ◌++◌, Option, Some, None}
+use Rattle.std.specs.Prelude.{◌≡◌, ◌⊎◌, ℕ, [], ◌∷◌, ◌++◌, Option, Some, None}
 use Rattle.gr_text.specs.declared.refusal.Refusal.TheVariants.{Memory, JournalFull}
 use Rattle.gr_book.specs.declared.entry.Entry.{Entry}
 use Rattle.gr_book.specs.declared.entry.Told.{Told}

@@ -10,10 +10,10 @@ use Rattle.gr_verdict.specs.Verdicts.{Verdicts}
 use Rattle.gr_bound.specs.declared.declaration.Declaration.{Declaration}
 use Rattle.gr_bound.specs.declared.declaration.Declaration.TheVariants.{Predeclared, Declared, Field, Method}
 use Rattle.gr_bound.specs.declared.spot.Spot.{Spot}
-use Rattle.gr_bound.specs.Binding.{Binds, BindsByScope, BindsByPackage, BindsByMember, BindsByName, IsBehindPackage, IsExportedUse}
+use Rattle.gr_bound.specs.Binding.{Binds, BindsByScope, BindsByPackage, BindsByMember, BindsByName, IsBehindPackage}
 use Rattle.gr_bound.specs.Binding as binding
 use Rattle.gr_bound.specs.Steps as step
-use Rattle.gr_bound.specs.Steps.{Adds, UsesIn, BindsIn, BindsAs, IsExportedBy, IsOnePath, IsDeclarationFound}
+use Rattle.gr_bound.specs.Steps.{Adds, UsesIn, BindsIn, BindsAs, IsExportedBy, IsDeclarationFound}
 use Rattle.gr_bound.specs.Uses.{IsPackage, IsBoundTo, IsUseOf}
 use Rattle.gr_bound.specs.Workspaces.{IsPackageAt, ExportsAs, IsExportedUnder, IsUseAt, BindsMember}
 use Rattle.gr_bound.proofs.Adding.{Below, adds_as}

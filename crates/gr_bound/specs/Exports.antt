@@ -1,16 +1,15 @@
 -- What the packages of a workspace export, by their numbers and by names.
-use Rattle.std.specs.Prelude.{ℕ, ◌≡◌, ◌<◌, List, Option, Some, length, slice_get, MatchOption, IfSome}
+use Rattle.std.specs.Prelude.{ℕ, ◌≡◌, ◌<◌, List, Option, length, MatchOption}
 use Rattle.std.specs.Global.{Vec}
 use Rattle.std.specs.BTreeMap.{BTreeMap, get_by}
 use Rattle.std.specs.Cmp.Lexicographic.{slice_cmp}
 use Rattle.std.specs.Ordering.{nat_cmp}
 use Rattle.gr_text.specs.Packages.{package_paths}
 use Rattle.gr_text.specs.Workspace.{Workspace}
-use Rattle.gr_graph.specs.Packages.{PackageImports}
 use Rattle.gr_declared.specs.Package.{Package}
 use Rattle.gr_types.specs.Interfaces.{IsSeen}
 use Rattle.gr_verdict.specs.Verdicts.{Verdicts}
-use Rattle.gr_bound.specs.Workspaces.{IsSound, known_in, IsPackageAt}
+use Rattle.gr_bound.specs.Workspaces.{IsPackageAt}
 use Rattle.gr_bound.specs.Packages.{HoldsOfEach}
 
 -- the number that a map has for a name

@@ -1,16 +1,13 @@
 -- A package of a number, and what is known of its identifiers.
 use Rattle.std.specs.Prelude.{◌<◌, length, map}
 use Rattle.gr_text.specs.Packages.{package_paths}
-use Rattle.gr_text.specs.Workspace.{Workspace}
-use Rattle.gr_scope.specs.Named.{name_value}
 use Rattle.gr_declared.specs.Package.{Package}
 use Rattle.gr_declared.specs.PackageView.{package_of, IsIndexOf}
 use Rattle.gr_meanings.specs.MemberUses.{AreMemberUses, uses_in}
-use Rattle.gr_verdict.specs.Verdicts.{Verdicts}
 use Rattle.gr_bound.specs.declared.indexed.Numbered.{Numbered}
 use Rattle.gr_bound.specs.declared.indexed.Indexed.{Indexed}
 use Rattle.gr_bound.specs.Members.{KnowsOwn}
-use Rattle.gr_bound.specs.Workspaces.{IsSound, known_in, IsPackageAt, IsHome, IsExportedUnder}
+use Rattle.gr_bound.specs.Workspaces.{IsSound, known_in, IsPackageAt}
 
 -- the number is that of a package, in a workspace without faults
 pub record IsNumbered (at : Numbered) : Type 0 where

@@ -1,5 +1,5 @@
 //! Entries in the order of their keys.
-ghost use Rattle.std.specs.Prelude.{◌≡◌, ◌<◌, ◌≤◌, true, false, IsTrue, IfOk, length, take, drop};
+ghost use Rattle.std.specs.Prelude.{◌≡◌, ◌<◌, ◌≤◌, false, IsTrue, IfOk, length, take, drop};
 ghost use Rattle.std.specs.Option.{option_copied};
 ghost use Rattle.std.specs.FinMap.{find, put};
 ghost use Rattle.gr_chunks.specs.Entries.{without, Rises, IsAfterAll, is_after, is_at};

@@ -1,6 +1,6 @@
 -- What follows where a package has no fault: it is checked as one package, others see of it what is known, and it compiles to the
 -- object that is printed.
-use Rattle.std.proofs.Common.{ℕ, ◌≡◌, inl, inr, List, [], map, refl, sym, ap, subst, ◌∙◌}
+use Rattle.std.proofs.Common.{ℕ, ◌≡◌, inl, inr, List, map, sym, ap, subst, ◌∙◌}
 use Rattle.std.specs.Global.{Vec}
 use Rattle.std.specs.Prelude.{Option, slice_get}
 use Rattle.std.proofs.lemmas.Bool.{cases_Bool}

@@ -1,10 +1,9 @@
 -- Where declarations stand afterwards, and which have become which.
-use Rattle.std.proofs.Common.{ℕ, ◌≡◌, ◌<◌, Bool, true, false, inl, inr, List, length, map, refl, sym, ap, subst, ◌∙◌}
-use Rattle.std.specs.Prelude.{Option, Some, None, IsTrue, ◌↔◌, slice_get}
+use Rattle.std.proofs.Common.{ℕ, ◌≡◌, ◌<◌, Bool, true, false, inl, inr, List, length, refl, sym, subst, ◌∙◌}
+use Rattle.std.specs.Prelude.{Option, Some, IsTrue, ◌↔◌}
 use Rattle.std.proofs.lemmas.Bool.{false≢true}
 use Rattle.gr_text.specs.Workspace.{Workspace}
 use Rattle.gr_text.specs.declared.place.Place.{Place}
-use Rattle.gr_tree.specs.SourceFile.{source_of}
 use Rattle.gr_scope.specs.declared.model.Position.{Position}
 use Rattle.gr_scope.specs.Bindings.{Counts, own}
 use Rattle.gr_scope.specs.Scoped.{layout_in, names_in}
@@ -22,7 +21,7 @@ use Rattle.gr_scoped.specs.ScopedPackages.{IsScopedIn}
 use Rattle.gr_scoped.specs.Scopes.{package_scoped, IsNotScoped}
 use Rattle.gr_scoped.specs.declared.scopes.PackageScopes.{PackageScopes}
 use Rattle.gr_standing.specs.Standing.{TokenAt, StandsIn, IsDeclaredAt}
-use Rattle.gr_sound.specs.Corresponding.{Corresponds, stands}
+use Rattle.gr_sound.specs.Corresponding.{stands}
 use Rattle.gr_placed.specs.DeclaredPlaces.{IsFound}
 use Rattle.gr_sound.specs.Becoming.{IsSamePredeclared}
 use Rattle.gr_sound.proofs.Becoming.{StandBoth, by_cases, same_names}

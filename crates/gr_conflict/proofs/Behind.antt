@@ -1,6 +1,6 @@
 -- Packages whose files all stand behind the conflict that was found first.
-use Rattle.std.proofs.Common.{ℕ, ◌≡◌, List, refl, sym, ap, subst, ◌∙◌}
-use Rattle.std.specs.Prelude.{All, Option, Some, None, Contains, IsTrue, map, slice_get}
+use Rattle.std.proofs.Common.{ℕ, ◌≡◌, List, refl, ap, subst, ◌∙◌}
+use Rattle.std.specs.Prelude.{Option, Some, None, Contains, map}
 use Rattle.std.specs.declared.cmp.Ordering.{Ordering}
 use Rattle.std.specs.declared.cmp.Ordering.TheVariants.{Less}
 use Rattle.std.specs.Ordering.{nat_cmp, ordering_then}

@@ -15,7 +15,7 @@ use Rattle.gr_bound.specs.declared.bound_spot.BoundSpot.{BoundSpot}
 use Rattle.gr_bound.specs.declared.declaration.Declaration.{Declaration}
 use Rattle.gr_bound.specs.declared.declaration.Declaration.TheVariants.{Predeclared, Declared, Field, Method}
 use Rattle.gr_bound.specs.Bindings.{place_at}
-use Rattle.gr_bound.specs.Exports.{number_named, AreNumbers}
+use Rattle.gr_bound.specs.Exports.{AreNumbers}
 use Rattle.gr_bound.specs.Steps.{IsDeclarationFound}
 use Rattle.gr_revision.specs.Revisions.{Revision, GoesTo}
 use Rattle.gr_scoped.specs.ScopedPackages.{IsScopedIn}

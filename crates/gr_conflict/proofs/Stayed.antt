@@ -1,6 +1,6 @@
 -- Identifiers that stay bound, one after another.
-use Rattle.std.proofs.Common.{ℕ, ◌≡◌, ◌<◌, ◌+◌, inl, inr, List, length, sym, subst, arith}
-use Rattle.std.specs.Prelude.{Option, Some, None, Result, OnOk}
+use Rattle.std.proofs.Common.{ℕ, ◌≡◌, ◌<◌, ◌+◌, inl, inr, length, sym, subst, arith}
+use Rattle.std.specs.Prelude.{Option, Some, Result, OnOk}
 use Rattle.std.proofs.lemmas.Bool.{cases_lt}
 use Rattle.std.proofs.lemmas.Result.{on_ok_weaker}
 use Rattle.gr_text.specs.Packages.{package_paths}

@@ -1,8 +1,8 @@
 -- Member uses, with the type before them.
-use Rattle.std.proofs.Common.{ℕ, ◌≡◌, ◌<◌, ◌∙◌, List, length, ap, sym, refl}
-use Rattle.std.specs.Prelude.{Option, Some, None, Contains, slice_get, option_map}
+use Rattle.std.proofs.Common.{ℕ, ◌≡◌, ◌∙◌, List, ap, sym, refl}
+use Rattle.std.specs.Prelude.{Option, Some, None, Contains, option_map}
 use Rattle.std.proofs.Math.Path.{fun_ext}
-use Rattle.std.proofs.lemmas.Option.{none-some, same_Some, slice_get_within}
+use Rattle.std.proofs.lemmas.Option.{none-some, same_Some}
 use Rattle.gr_scope.specs.WellFormed.{WellFormed}
 use Rattle.gr_tree.specs.SourceFile.{spelling_of}
 use Rattle.gr_expr.specs.declared.symbol.Symbol.{Symbol}

@@ -1,5 +1,5 @@
 //! The identifiers of one package, each judged alone by the way in which it was bound.
-ghost use Rattle.std.specs.Prelude.{◌≡◌, ◌<◌, Contains, length, map, OnOk};
+ghost use Rattle.std.specs.Prelude.{◌<◌, Contains, length, map, OnOk};
 ghost use Rattle.gr_text.specs.Packages.{package_paths};
 ghost use Rattle.gr_expr.specs.Found.{use_of};
 ghost use Rattle.gr_expr.specs.View.{type_of};

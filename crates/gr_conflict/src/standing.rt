@@ -1,5 +1,5 @@
 //! Where the declarations of the workspace afterwards stand, as its scopes see them, and which those before have become.
-ghost use Rattle.std.specs.Prelude.{◌≡◌, ◌<◌, ◌↔◌, length, IsTrue, IfOk};
+ghost use Rattle.std.specs.Prelude.{◌<◌, ◌↔◌, length, IsTrue, IfOk};
 ghost use Rattle.gr_edit.specs.Moved.{moved};
 ghost use Rattle.gr_bound.specs.declared.declaration.Declaration.TheVariants.{Declared};
 ghost use Rattle.gr_bound.specs.Steps.{IsDeclarationFound};

@@ -17,7 +17,7 @@ use Rattle.gr_expr.specs.declared.types.Builtin.TheVariants as builtin
 use Rattle.gr_expr.specs.Types.{Signature, Meaning, Broken}
 use Rattle.gr_expr.specs.World.{Bound}
 use Rattle.gr_expr.specs.World.{Means as Stands}
-use Rattle.gr_declared.specs.Bound.{PredeclaredMeans, a_type, a_truth, an_untruth, a_nil, a_function, builtin_name, parameter_types, result_types}
+use Rattle.gr_declared.specs.Bound.{PredeclaredMeans, a_type, a_truth, an_untruth, a_nil, a_function, parameter_types, result_types}
 use Rattle.gr_declared.specs.Bound.{HasSignature, DeclaresVariable, DeclaresFunction, IsMeantBy}
 use Rattle.gr_declared.specs.Bound as bound
 use Rattle.gr_declared.specs.Package.{Package, Export, PlacedFunction, package_variables, package_functions, package_types, variable_place, function_place}

@@ -13,8 +13,8 @@ use Rattle.gr_tree.specs.Flatten.{block_tokens, statements_tokens, if_tokens, el
 use Rattle.gr_tree.specs.Flatten.{result_tokens, func_tokens, decl_tokens}
 use Rattle.gr_tree.specs.Tree.{Item, Group, single, several, IdentTree, Named, Underscore, ExprTree, SimpleTree, LocalTree, InitTree, ForTree}
 use Rattle.gr_tree.specs.Tree.{StatementTree, BlockTree, StatementTrees, IfTree, ElseTree, GlobalTree, FieldTree, BodyTree, Other, Struct, TypeSpecTree}
-use Rattle.gr_tree.specs.Tree.{ReceiverTree, ParamTree, ResultTree, no_result, one_result, results, FuncTree, ImportTree, ImportsTree, DeclTree, VarDecl}
-use Rattle.gr_tree.specs.Tree.{TypeDecl, FuncDecl, FileTree}
+use Rattle.gr_tree.specs.Tree.{ReceiverTree, ParamTree, ResultTree, no_result, one_result, results, FuncTree, DeclTree, VarDecl}
+use Rattle.gr_tree.specs.Tree.{TypeDecl, FuncDecl}
 use Rattle.gr_tree.specs.Tree as tree
 use Rattle.gr_scope.specs.declared.model.Block.TheVariants.{Universe, File, Inner}
 use Rattle.gr_scope.specs.declared.model.Block.TheVariants.{Package as PackageBlock}

@@ -22,7 +22,7 @@ use Rattle.gr_expr.specs.Types.{Package as PackageName}
 use Rattle.gr_expr.specs.Types.{Pointer as PointerType, Slice as SliceType}
 use Rattle.gr_declared.specs.Bound.{AreTypesOf}
 use Rattle.gr_declared.specs.Package.{Package, Export, IsRanked, package_types, type_place, symbol_in, spelled}
-use Rattle.gr_declared.specs.Written.{BindsToken, IsPredeclared, DeclaresType, ImportsPath, IsExportOf, IsExportAt, NamesExport, basic_name, Names}
+use Rattle.gr_declared.specs.Written.{BindsToken, IsPredeclared, DeclaresType, ImportsPath, IsExportAt, basic_name, Names}
 use Rattle.gr_declared.specs.Written.{Mentions, by_name, by_pointer, by_slice, IsBroken, IsTypeOf}
 use Rattle.gr_declared.specs.Written as written
 use Rattle.gr_declared.proofs.Binding.{one_first}

@@ -12,7 +12,7 @@ use Rattle.gr_tree.specs.Tree.{TypeTree, Local, Imported, Pointer, Slice}
 use Rattle.gr_expr.specs.declared.types.Basic.{Basic}
 use Rattle.gr_expr.specs.Types.{PlainType, TypeName}
 use Rattle.gr_expr.specs.Types.{Pointer as PointerType, Slice as SliceType}
-use Rattle.gr_declared.specs.Package.{Package, type_place, package_types, symbol_in, spelled}
+use Rattle.gr_declared.specs.Package.{Package, type_place, package_types, spelled}
 use Rattle.gr_declared.specs.Written.{BindsToken, IsPredeclared, DeclaresType, ImportsPath, IsExportOf, IsExportAt, NamesExport, basic_name, Names}
 use Rattle.gr_declared.specs.Written.{predeclared, defined, imported, pointer, slice, Mentions, by_name, by_pointer, by_slice}
 use Rattle.gr_declared.specs.WrittenView.{DeclaresPlain, IsTypeDeclared, IsNamedBy, IsMentionedBy, IsOneExport}

@@ -3,7 +3,6 @@
 ghost use Rattle.std.specs.Prelude.{◌≡◌, ℕ, List, None, IsSome, option_copied, option_map, is_some, IfOk, OnOk, OnErr};
 ghost use Rattle.gr_imports.specs.States.{state_in};
 ghost use Rattle.gr_imports.specs.declared.states.ImportState.TheVariants.{Missing};
-ghost use Rattle.gr_scope.specs.Named.{name_value};
 ghost use Rattle.gr_expr.specs.WorldView.{shared_definitions, definitions_at};
 ghost use Rattle.gr_declared.specs.InterfacesView.{export_of, exported_in, slot_at, held_at, shared_scope, scope_at, scope_name, scope_in, interface_by, interface_in, no_interface, name_in, Notes, KnowsSame, Sets, AddsInterface, Shares};
 

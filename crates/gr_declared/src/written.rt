@@ -1,5 +1,5 @@
 //! What the Types that are written in a package name.
-ghost use Rattle.std.specs.Prelude.{◌≡◌, ◌<◌, ◌↔◌, ℕ, length, option_map, IsTrue, IfOk, MatchOption};
+ghost use Rattle.std.specs.Prelude.{◌≡◌, ◌<◌, ◌↔◌, length, option_map, IsTrue, IfOk, MatchOption};
 ghost use Rattle.gr_tree.specs.View.{type_view};
 ghost use Rattle.gr_expr.specs.declared.types.Basic.{Basic};
 ghost use Rattle.gr_expr.specs.Types.{PlainType, Defined, TypeName};

@@ -1,21 +1,14 @@
 -- What a rename that was planned and admitted does to a history.
 use Rattle.std.proofs.Common.{ℕ, List, ◌≡◌, sym, ap, subst, ◌∙◌}
-use Rattle.std.specs.Prelude.{Ok}
 use Rattle.gr_text.specs.Workspace.{Workspace}
 use Rattle.gr_edit.specs.EditSet.{edited}
 use Rattle.gr_space.specs.declared.snapshot.Snapshot.{Snapshot}
 use Rattle.gr_space.specs.declared.change.Change.{Change}
-use Rattle.gr_book.specs.declared.event.Event.{Event}
-use Rattle.gr_book.specs.declared.event.Event.TheVariants.{Commit, Undo}
-use Rattle.gr_book.specs.declared.event.Reply.{Reply}
-use Rattle.gr_book.specs.declared.event.Reply.TheVariants.{Done}
 use Rattle.gr_book.specs.Machine.{Content, Machine}
-use Rattle.gr_book.specs.Step.{Step}
-use Rattle.gr_book.specs.Run.{Run, IsQuiet, Restores}
 use Rattle.gr_book.proofs.RunLaws.{undo_restores}
 use Rattle.gr_revision.specs.RevisionsOfEdits.{revision_of}
 use Rattle.gr_check.specs.Preserved.{Preserves}
-use Rattle.gr_rename.specs.Plan.{PlansRename, IsRenaming, IsRenamed}
+use Rattle.gr_rename.specs.Plan.{IsRenaming, IsRenamed}
 use Rattle.gr_exact.specs.Renames.{IsExactly, RenamesKeepBindings, UndoTakesRenamesBack}
 
 -- the same, from the snapshot of which the change is

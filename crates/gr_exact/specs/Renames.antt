@@ -1,6 +1,5 @@
 -- What a rename that was planned and admitted does to a history.
-use Rattle.std.specs.Prelude.{ℕ, ◌≡◌, List, Result, Ok}
-use Rattle.gr_text.specs.declared.refusal.Refusal.{Refusal}
+use Rattle.std.specs.Prelude.{ℕ, ◌≡◌, List, Ok}
 use Rattle.gr_edit.specs.EditSet.{edited}
 use Rattle.gr_space.specs.declared.snapshot.Snapshot.{Snapshot}
 use Rattle.gr_space.specs.declared.change.Change.{Change}

@@ -1,5 +1,5 @@
 //! What expressions stand for, and the faults and member uses in them.
-ghost use Rattle.std.specs.Prelude.{◌≡◌, IfOk, map, option_map};
+ghost use Rattle.std.specs.Prelude.{IfOk, map, option_map};
 ghost use Rattle.gr_tree.specs.Tree.{no_link};
 ghost use Rattle.gr_tree.specs.View.{expr_view, link_view, literal_view};
 ghost use Rattle.gr_expr.specs.Judge.{judge, judge_value, judge_link, judge_links, judge_operands, judge_arguments, judge_literal, judge_elements, none_seen};

@@ -1,5 +1,5 @@
 //! The rules of the operations, on types and kinds.
-ghost use Rattle.std.specs.Prelude.{◌≡◌, option_copied, option_map};
+ghost use Rattle.std.specs.Prelude.{◌≡◌, option_map};
 ghost use Rattle.gr_expr.specs.Types.{same_underlying, is_named, has_nil, either_unnamed, points};
 ghost use Rattle.gr_expr.specs.Operations.{fits, converts, joined, operate, class_of, class_of_underlying, family_of, result_of, is_nil, is_int, is_bool, is_ordered, has_length, is_printed, compares, element_of_kind};
 ghost use Rattle.gr_expr.specs.View.{type_of, kind_of};

@@ -1,6 +1,6 @@
 -- Lists of faults, and what is added to them.
-use Rattle.std.proofs.Common.{arith, ◌<◌, ℕ, ◌≡◌, ◌⊎◌, inl, inr, List, [], ◌∷◌, ◌++◌, IsTrue, ◌↔◌, true, false, Bool, ap, ◌∙◌}
-use Rattle.std.specs.Prelude.{Contains, Result, OnOk}
+use Rattle.std.proofs.Common.{arith, ◌<◌, ℕ, ◌≡◌, ◌⊎◌, inl, inr, List, [], IsTrue, ◌↔◌, true, false, Bool, ap, ◌∙◌}
+use Rattle.std.specs.Prelude.{Result, OnOk}
 use Rattle.std.proofs.lemmas.Result.{on_ok_weaker}
 use Rattle.gr_text.specs.declared.fault_kind.FaultKind.{FaultKind}
 use Rattle.gr_fault.specs.declared.fault.Fault.{Fault}

@@ -1,5 +1,5 @@
 -- The first stage that has faults, as a list that was found in stages.
-use Rattle.std.proofs.Common.{arith, ℕ, ◌≡◌, ◌<◌, ◌⊎◌, inl, inr, List, [], ◌∷◌, refl, subst, sym}
+use Rattle.std.proofs.Common.{arith, ◌≡◌, ◌<◌, ◌⊎◌, inl, inr, List, [], ◌∷◌, refl, subst}
 use Rattle.std.specs.Prelude.{Contains}
 use Rattle.gr_fault.specs.declared.fault.Fault.{Fault}
 use Rattle.gr_fault.specs.Listing.{Adds, Lists, HoldsSame}

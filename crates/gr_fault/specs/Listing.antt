@@ -1,5 +1,5 @@
 -- Lists of faults, told by what they hold.
-use Rattle.std.specs.Prelude.{ℕ, ◌≡◌, ◌<◌, ◌⊎◌, List, [], ◌∷◌, Contains}
+use Rattle.std.specs.Prelude.{ℕ, ◌<◌, ◌⊎◌, List, [], ◌∷◌, Contains}
 use Rattle.gr_fault.specs.declared.fault.Fault.{Fault}
 
 -- the new list holds what the old one does, and what P tells, and nothing else

@@ -1,7 +1,6 @@
 -- The edits of a file, token by token.
-use Rattle.std.proofs.Common.{◌≡◌, ℕ, suc, ◌<◌, ◌≤◌, ◌+◌, ◌⊎◌, inl, inr, List, [], ◌∷◌, ◌++◌, length, drop, get_or, sym, ap, subst, refl, ◌∙◌, add-one, arith}
-use Rattle.std.specs.Prelude.{Some, Contains, slice_get, ◌↔◌}
-use Rattle.std.specs.List.{All}
+use Rattle.std.proofs.Common.{◌≡◌, ℕ, ◌<◌, ◌≤◌, ◌+◌, inl, inr, List, [], ◌∷◌, ◌++◌, length, drop, get_or, sym, ap, subst, refl, ◌∙◌, add-one, arith}
+use Rattle.std.specs.Prelude.{Contains}
 use Rattle.std.proofs.lemmas.List.Elements.{All-nil, All-push, All-head, All-tail, All-weaker, Contains-append_left, Contains-push, Contains-push_cases}
 use Rattle.std.proofs.lemmas.Option.{same_Some, slice_get_within}
 use Rattle.std.proofs.Math.Seq.{drop-cons}
@@ -14,7 +13,7 @@ use Rattle.gr_edit.specs.declared.edit.Edit.{Edit}
 use Rattle.gr_bound.specs.Bindings.{AddsAll}
 use Rattle.gr_bound.proofs.AddingAll.{BelowAll, none_below, next_below}
 use Rattle.gr_file_renaming.specs.declared.renamed.Renamed.{Renamed}
-use Rattle.gr_file_renaming.specs.Replacements.{IsRightBehindImport, IsNameBefore, apart, joined}
+use Rattle.gr_file_renaming.specs.Replacements.{IsNameBefore, apart, joined}
 use Rattle.gr_file_renaming.specs.FileEdits.{InsertsName, IsEditAt, EndBy, AreFileEdits}
 
 -- one more edit

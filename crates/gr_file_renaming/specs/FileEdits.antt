@@ -1,7 +1,5 @@
 -- The edits of one file that give identifiers in it, and the literal of an import in it, another name.
-use Rattle.std.specs.Prelude.{ℕ, ◌≡◌, ◌↔◌, ◌⊎◌, ◌≤◌, List, Option, Some, None, Contains, length, slice_get}
-use Rattle.std.specs.List.{All}
-use Rattle.gr_text.specs.declared.place.Place.{Place}
+use Rattle.std.specs.Prelude.{ℕ, ◌≡◌, ◌↔◌, ◌⊎◌, List, Option, Some, None, Contains, length, slice_get}
 use Rattle.gr_scan.specs.declared.piece.Piece.{Piece}
 use Rattle.gr_scan.specs.declared.piece.Class.TheVariants.{Name}
 use Rattle.gr_scan.specs.CutText.{tokens_in}

@@ -1,5 +1,5 @@
 -- What takes the place of what where a declaration gets another name.
-use Rattle.std.specs.Prelude.{ℕ, suc, ◌≡◌, ◌+◌, List, [], ◌∷◌, ◌++◌, Option, Some, None, length, codes}
+use Rattle.std.specs.Prelude.{ℕ, suc, ◌≡◌, ◌+◌, List, [], ◌∷◌, ◌++◌, length, codes}
 use Rattle.gr_tree.specs.SourceFile.{SourceFile, spelling_of, offset_of}
 
 -- a token is the word `import`, and ends at that offset

@@ -1,10 +1,8 @@
 //! The edits of one file.
-ghost use Rattle.std.specs.Prelude.{ℕ, ◌≡◌, ◌<◌, ◌≤◌, ◌↔◌, ◌⊎◌, ◌++◌, ◌∷◌, [], Contains, IsTrue, IfOk, OnOk, Some, length, slice_get};
+ghost use Rattle.std.specs.Prelude.{◌≡◌, ◌<◌, ◌≤◌, ◌↔◌, ◌++◌, ◌∷◌, [], Contains, IsTrue, IfOk, OnOk, Some, slice_get};
 ghost use Rattle.std.specs.List.Sorted.{IsStrictlySortedBy};
-ghost use Rattle.gr_text.specs.declared.place.Place.{Place as Spot};
 ghost use Rattle.gr_scan.specs.CutText.{tokens_in};
 ghost use Rattle.gr_tree.specs.SourceFile.{source_of};
-ghost use Rattle.gr_edit.specs.declared.edit.Edit.{Edit as Change};
 ghost use Rattle.gr_bound.specs.Bindings.{AddsAll};
 ghost use Rattle.gr_bound.specs.Places.{place_cmp};
 ghost use Rattle.gr_file_renaming.specs.Replacements.{EndsImport, IsRightBehindImport, IsNameBefore};

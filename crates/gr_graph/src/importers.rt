@@ -1,6 +1,6 @@
 //! Which packages import each.
-ghost use Rattle.std.specs.Prelude.{◌≡◌, ◌<◌, ◌↔◌, ◌⊎◌, ◌++◌, [], ◌∷◌, ℕ, length, take, vec_len, slice_set, IfOk, OnOk};
-ghost use Rattle.std.specs.List.{All, Contains};
+ghost use Rattle.std.specs.Prelude.{◌≡◌, ◌<◌, ◌++◌, [], ◌∷◌, ℕ, length, vec_len, slice_set, IfOk, OnOk};
+ghost use Rattle.std.specs.List.{All};
 ghost use Rattle.gr_graph.specs.Imports.{AreLinked, HoldImporters, NotesRow, imports_of};
 
 use crate::package_list::PackageList;

@@ -1,5 +1,5 @@
 //! The packages of a workspace with their files, parsed.
-ghost use Rattle.std.specs.Prelude.{◌≡◌, ◌<◌, ℕ, length, vec_len, IfOk, OnOk, Some, slice_get, MatchBool};
+ghost use Rattle.std.specs.Prelude.{◌≡◌, ◌<◌, ℕ, vec_len, IfOk, OnOk, Some, slice_get, MatchBool};
 ghost use Rattle.std.specs.List.Sorted.{IsStrictlySortedBy};
 ghost use Rattle.gr_text.specs.Workspace.{path_cmp, Workspace};
 ghost use Rattle.gr_text.specs.Packages.{package_paths};

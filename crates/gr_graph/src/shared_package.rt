@@ -1,5 +1,5 @@
 //! Packages that several graphs share.
-ghost use Rattle.std.specs.Prelude.{◌≡◌, ◌↔◌, IfOk, Some, slice_get, MatchOption};
+ghost use Rattle.std.specs.Prelude.{◌≡◌, IfOk, Some, slice_get, MatchOption};
 ghost use Rattle.std.specs.List.{Contains};
 ghost use Rattle.std.specs.List.Sorted.{IsStrictlySortedBy};
 ghost use Rattle.gr_text.specs.Workspace.{path_cmp};

@@ -1,7 +1,6 @@
 //! Exported names, and what imported packages declare.
 ghost use Rattle.std.specs.Prelude.{◌≡◌, ℕ, Bool, List};
-ghost use Rattle.bstr.specs.Utf8.{decoded};
-ghost use Rattle.gr_imports.specs.Laid.{is_exported, is_upper_at};
+ghost use Rattle.gr_imports.specs.Laid.{is_exported};
 
 use bstr::decode_utf8;
 use unicode::properties::GeneralCategory;

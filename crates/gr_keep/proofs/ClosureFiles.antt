@@ -19,7 +19,7 @@ use Rattle.gr_graph.proofs.Asked.{number}
 use Rattle.gr_verdict.proofs.Closed.{to_package}
 use Rattle.gr_verdict.proofs.Members.{nothing_in, first_in, later_in, first_or_later, passes}
 use Rattle.gr_keep.specs.Changes.{HasText}
-use Rattle.gr_keep.specs.Inputs.{faulty_file, IsPartOf, Adds, IsFileOf, AreGathered}
+use Rattle.gr_keep.specs.Inputs.{faulty_file, IsPartOf, Adds, AreGathered}
 use Rattle.gr_verdict.specs.Earlier.{tree_file}
 use Rattle.gr_edit.proofs.Entries.{exact_path, same_path, entry_of, get_entry}
 

@@ -1,5 +1,5 @@
 //! Whether identifiers are bound afterwards to nothing but what their declarations become.
-ghost use Rattle.std.specs.Prelude.{◌≡◌, ◌↔◌, IsTrue, IfOk, Contains};
+ghost use Rattle.std.specs.Prelude.{◌↔◌, IsTrue, IfOk, Contains};
 ghost use Rattle.gr_text.specs.declared.place.Place.{Place as At};
 ghost use Rattle.gr_edit.specs.Moved.{moved};
 ghost use Rattle.gr_sound.specs.Held.{IsHeld};

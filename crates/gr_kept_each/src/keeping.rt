@@ -1,5 +1,5 @@
 //! Whether identifiers stay bound to what their declarations become.
-ghost use Rattle.std.specs.Prelude.{◌≡◌, ◌↔◌, IsTrue, IfOk};
+ghost use Rattle.std.specs.Prelude.{◌↔◌, IsTrue, IfOk};
 ghost use Rattle.gr_edit.specs.Moved.{moved};
 ghost use Rattle.gr_sound.specs.Held.{IsHeld};
 ghost use Rattle.gr_sound.specs.Sound.{view_in};

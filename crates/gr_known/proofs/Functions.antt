@@ -3,7 +3,7 @@ use Rattle.std.proofs.Common.{ℕ, suc, ◌≡◌, ◌<◌, inl, inr, ◌==◌, 
 use Rattle.std.proofs.Common.{eq-eqb, arith}
 use Rattle.std.proofs.lemmas.Bool.{true≢false, eqb-true}
 use Rattle.std.specs.Prelude.{Contains}
-use Rattle.gr_tree.specs.Tree.{Item, TypeTree, ReceiverTree, ParamTree, ResultTree, FuncTree, DeclTree, FileTree}
+use Rattle.gr_tree.specs.Tree.{Item, TypeTree, ResultTree, FuncTree, DeclTree, FileTree}
 use Rattle.gr_tree.specs.Tree as tree
 use Rattle.gr_tree.specs.SourceFile.{SourceFile, IsSourceFile}
 use Rattle.gr_expr.specs.Types.{PlainType}

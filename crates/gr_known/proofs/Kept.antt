@@ -1,7 +1,7 @@
 -- Uses of members that were found stay, whatever statements stand behind them.
 use Rattle.std.proofs.Common.{ℕ, Bool, List, [], ◌∷◌, Option, Some, None}
-use Rattle.gr_tree.specs.Tree.{Item, Group, single, several, IdentTree, TypeTree, ExprTree, SimpleTree, LocalTree, InitTree, ForTree, StatementTree}
-use Rattle.gr_tree.specs.Tree.{BlockTree, StatementTrees, IfTree, ElseTree, ReceiverTree, ParamTree, FuncTree, DeclTree, GlobalTree, TypeSpecTree}
+use Rattle.gr_tree.specs.Tree.{Item, Group, single, several, IdentTree, TypeTree, ExprTree, StatementTree}
+use Rattle.gr_tree.specs.Tree.{BlockTree, StatementTrees, IfTree, ElseTree, DeclTree}
 use Rattle.gr_tree.specs.Tree as tree
 use Rattle.gr_expr.specs.World.{World}
 use Rattle.gr_stmt.specs.Checked.{Checked, check_items, check_group}

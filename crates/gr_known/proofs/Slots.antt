@@ -3,7 +3,7 @@ use Rattle.std.proofs.Common.{ℕ, suc, ◌≡◌, ◌⊎◌, inl, inr, ◌==◌
 use Rattle.std.specs.Prelude.{option_to_list}
 use Rattle.std.specs.List.{flat_map}
 use Rattle.std.proofs.lemmas.Bool.{eq-eqb, true≢false}
-use Rattle.gr_tree.specs.Tree.{Item, Group, IdentTree, Named, Underscore, ExprTree, SimpleTree, LocalTree, InitTree, ForTree, StatementTree, BlockTree}
+use Rattle.gr_tree.specs.Tree.{Item, Group, IdentTree, Named, ExprTree, SimpleTree, LocalTree, InitTree, ForTree, StatementTree, BlockTree}
 use Rattle.gr_tree.specs.Tree.{StatementTrees, IfTree, ElseTree, FuncTree}
 use Rattle.gr_tree.specs.Tree as tree
 use Rattle.gr_imports.specs.Files.{group_items}

@@ -8,7 +8,7 @@ use Rattle.gr_tree.specs.Flatten.{group_tokens, ident_tokens, type_tokens, key_t
 use Rattle.gr_tree.specs.Flatten.{literal_tokens, element_tokens, exprs_tokens, simple_tokens, value_tokens, local_tokens, init_tokens, for_tokens}
 use Rattle.gr_tree.specs.Flatten.{statement_tokens, block_tokens, statements_tokens, if_tokens, else_tokens, receiver_tokens, param_tokens, result_tokens}
 use Rattle.gr_tree.specs.Flatten.{func_tokens, imports_tokens, decl_tokens, flatten}
-use Rattle.gr_tree.specs.Tree.{Item, Group, TypeTree, ExprTree, LinkTrees, OperandTrees, ArgumentTrees, LiteralTree, ElementTrees, SimpleTree, LocalTree}
+use Rattle.gr_tree.specs.Tree.{Item, Group, ExprTree, LinkTrees, OperandTrees, ArgumentTrees, LiteralTree, ElementTrees, SimpleTree, LocalTree}
 use Rattle.gr_tree.specs.Tree.{InitTree, ForTree, StatementTree, BlockTree, StatementTrees, IfTree, ElseTree, FuncTree, DeclTree, FileTree}
 use Rattle.gr_tree.specs.Tree as tree
 use Rattle.gr_expr.specs.Types.{PlainType, Meaning}

@@ -10,8 +10,8 @@ use Rattle.gr_expr.specs.declared.symbol.Symbol.{Symbol}
 use Rattle.gr_expr.specs.declared.world.World.{World}
 use Rattle.gr_expr.specs.Types.{same_path}
 use Rattle.gr_expr.specs.World.{member_by}
-use Rattle.gr_expr.specs.WorldView.{world_of, name_in, definition_of, no_definition, definition_or_none, imported_at, definition_at, definition_in}
-use Rattle.gr_expr.specs.WorldView.{member_in, bound_in, underlying_in}
+use Rattle.gr_expr.specs.WorldView.{world_of, name_in, definition_or_none, imported_at, definition_at, definition_in}
+use Rattle.gr_expr.specs.WorldView.{member_in, bound_in}
 use Rattle.gr_expr.specs.WorldView as view
 use Rattle.gr_stmt.specs.View.{is_init_in}
 use Rattle.gr_declared.specs.Package.{Package, package_types, symbol_in, spelled_at}

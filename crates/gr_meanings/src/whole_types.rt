@@ -1,5 +1,5 @@
 //! The types of Types that are written in a package and are not broken.
-ghost use Rattle.std.specs.Prelude.{◌↔◌, ℕ, option_map, IsTrue, IfOk};
+ghost use Rattle.std.specs.Prelude.{◌↔◌, option_map, IsTrue, IfOk};
 ghost use Rattle.gr_tree.specs.View.{type_view};
 ghost use Rattle.gr_expr.specs.View.{type_of};
 ghost use Rattle.gr_declared.specs.Broken.{AreBroken};

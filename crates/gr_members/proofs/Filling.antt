@@ -9,7 +9,7 @@ use Rattle.gr_scope.specs.WellFormed.{WellFormed}
 use Rattle.gr_tree.specs.Tree.{TypeTree, BodyTree, Other, Struct}
 use Rattle.gr_expr.specs.declared.world.Underlying.{Underlying}
 use Rattle.gr_expr.specs.WorldView.{underlying_of}
-use Rattle.gr_expr.specs.Types.{PlainType, BasicType, Defined, Pointer, Slice}
+use Rattle.gr_expr.specs.Types.{PlainType, Defined}
 use Rattle.gr_expr.specs.Types as types
 use Rattle.gr_members.specs.declared.underlying.Step.{Step}
 use Rattle.gr_members.specs.declared.underlying.Step.TheVariants.{Ends, Continues, Nothing}

@@ -26,7 +26,7 @@ use Rattle.gr_space.specs.declared.change.Change.{Change}
 use Rattle.gr_text.specs.Workspace.{Workspace}
 use Rattle.gr_moved_paths.specs.Paths.{IsUnder}
 use Rattle.gr_moving.specs.MoveEdits.{AreMoveEdits, HasNoNewPath, IsFree, HoldsNoOther, PlansMoveEdits}
-use Rattle.gr_move.specs.Plan.{IsAsked, IsElsewhere, IsBeside, IsMovable, IsWellAsked, IsMoving, IsNaming, PlansMove}
+use Rattle.gr_move.specs.Plan.{IsAsked, IsElsewhere, IsBeside, IsMovable, IsMoving, IsNaming, PlansMove}
 use Rattle.gr_move.specs.Steps.{moving_by, ArePaths, RefusesTarget, RefusesConflict, RefusesLength, PlansEdits, PlansIn}
 
 -- a conflict that is told

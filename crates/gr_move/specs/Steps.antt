@@ -6,14 +6,12 @@ use Rattle.gr_text.specs.Workspace.{Workspace}
 use Rattle.gr_text.specs.declared.refusal.Refusal.{Refusal}
 use Rattle.gr_text.specs.declared.refusal.Refusal.TheVariants.{Memory, NoPackage, Same, InsideItself, TargetTaken, TooLarge, Faulty, Captured, Lost}
 use Rattle.gr_verdict.specs.declared.known.Known.{Known}
-use Rattle.gr_verdict.specs.Verdicts.{Verdicts}
 use Rattle.gr_verdict.specs.FaultLists.{ListsFaults}
 use Rattle.gr_verdict.specs.Found.{KnowsVerdicts}
 use Rattle.gr_bound.specs.Uses.{HasFirstFault}
 use Rattle.gr_revision.specs.RevisionsOfEdits.{revision_of}
 use Rattle.gr_check.specs.Preserved.{Preserves}
 use Rattle.gr_edit.specs.EditSet.{FileChanges, edited}
-use Rattle.gr_edit.specs.Fits.{Fits}
 use Rattle.gr_space.specs.Fits.{FitsLimits}
 use Rattle.gr_space.specs.declared.snapshot.Snapshot.{Snapshot}
 use Rattle.gr_space.specs.declared.change.Change.{Change}

@@ -1,5 +1,5 @@
 -- The changes of files in the order of their paths.
-use Rattle.std.proofs.Common.{ℕ, ◌≡◌, ◌⊎◌, inl, inr, Bool, true, false, ◌&&◌, T, Global, List, [], ◌∷◌, ◌++◌, Option, Some, None, refl, sym, ap, subst, ◌∙◌}
+use Rattle.std.proofs.Common.{ℕ, ◌≡◌, ◌⊎◌, inl, inr, Global, List, [], ◌∷◌, ◌++◌, Option, Some, None, refl, sym, ap, subst, ◌∙◌}
 use Rattle.std.proofs.Common.{⊎_elim}
 use Rattle.std.specs.Prelude.{Contains, map, Ok, Err}
 use Rattle.std.specs.FinMap.{entries}
@@ -21,7 +21,7 @@ use Rattle.gr_edit.proofs.Entries.{none_from}
 use Rattle.gr_edit.proofs.Searched.{one_way_sorted}
 use Rattle.gr_renaming.proofs.Sources.{entries_in_order}
 use Rattle.gr_moved_paths.specs.declared.moved.Moved.{Moved}
-use Rattle.gr_moved_paths.specs.Paths.{IsUnder, HasMoved}
+use Rattle.gr_moved_paths.specs.Paths.{IsUnder}
 use Rattle.gr_moving.specs.Changes.{MovesOrEdits}
 use Rattle.gr_moved_paths.specs.Steps.{TellsNewPath}
 use Rattle.gr_moving.specs.Steps.{EditMap, edits_found, change_by, TellsChange, TellsChanges, AreChangesOf, none, kept, changed}

@@ -1,5 +1,5 @@
 -- The changes make an edit set, which is that of the move, and which fits.
-use Rattle.std.proofs.Common.{ℕ, ◌≡◌, ◌<◌, ◌≤◌, inl, inr, Bool, true, false, List, [], ◌∷◌, ◌++◌, length, get_or, Option, Some, None, IsSome, refl, sym, ap}
+use Rattle.std.proofs.Common.{ℕ, ◌≡◌, ◌≤◌, inl, inr, true, false, List, [], length, get_or, Some, IsSome, refl, sym, ap}
 use Rattle.std.proofs.Common.{subst, ◌∙◌}
 use Rattle.std.specs.Prelude.{Contains, map, if◌then◌else◌}
 use Rattle.std.specs.Option.{MatchOption}
@@ -11,8 +11,8 @@ use Rattle.gr_text.specs.Packages.{is_go, package_paths}
 use Rattle.gr_text.specs.Workspace.{Workspace}
 use Rattle.gr_verdict.specs.declared.findings.Findings.{Findings}
 use Rattle.gr_edit.specs.Edits.{AreInOrder, LieWithin}
-use Rattle.gr_edit.specs.EditSet.{FileChanges, path_by, change_in, change_of}
-use Rattle.gr_edit.specs.Fits.{IsEditSet, Fits, IsThere, Gets, path_by_change, path_after}
+use Rattle.gr_edit.specs.EditSet.{FileChanges, path_by, change_of}
+use Rattle.gr_edit.specs.Fits.{IsEditSet, Fits, IsThere, path_by_change, path_after}
 use Rattle.gr_edit.specs.Moved.{edits_by}
 use Rattle.gr_edit.specs.declared.change.FileChange.{FileChange}
 use Rattle.gr_edit.specs.declared.edit.Edit.{Edit}
@@ -26,7 +26,7 @@ use Rattle.gr_moving.specs.MoveEdits.{IsMoveOf, AreMoveEdits, HoldsNoOther}
 use Rattle.gr_moving.specs.Steps.{EditMap, edits_for, edits_or_none, edits_found, KnowsEdits, AreChangesOf}
 use Rattle.gr_moved_paths.proofs.PathParts.{one_source, moved_under}
 use Rattle.gr_moving.proofs.GoFiles.{text_of_file, package_of_file}
-use Rattle.gr_moving.proofs.Changing.{HasChange, NeedsNone, change_from, file_cases, change_is, change_is_none, changes_in_order}
+use Rattle.gr_moving.proofs.Changing.{change_from, file_cases, change_is, change_is_none, changes_in_order}
 use Rattle.gr_moving.proofs.Targets.{targets_are_distinct}
 
 -- what is found in the map

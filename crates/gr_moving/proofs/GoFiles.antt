@@ -1,29 +1,29 @@
 -- Each Go file of a workspace without faults is one of a package, with its tree.
-use Rattle.std.proofs.Common.{ℕ, zero, suc, ◌≡◌, ◌<◌, true, List, [], ◌∷◌, length, Some, refl, sym, ap, subst, ◌∙◌, ⊎_elim}
+use Rattle.std.proofs.Common.{ℕ, suc, ◌≡◌, ◌<◌, true, List, [], length, Some, refl, sym, ap, subst, ◌∙◌, ⊎_elim}
 use Rattle.std.specs.Prelude.{Contains, map, slice_get, ◌==◌}
 use Rattle.std.specs.FinMap.{entries, get}
 use Rattle.std.specs.Cmp.Lexicographic.{pointwise, bytes_decides}
-use Rattle.std.proofs.lemmas.Bool.{and_from, and_parts}
+use Rattle.std.proofs.lemmas.Bool.{and_from}
 use Rattle.std.proofs.lemmas.List.Elements.{Contains-get_or}
 use Rattle.std.proofs.lemmas.Option.{same_Some, get_or_from_slice_get, slice_get_within}
 use Rattle.gr_text.specs.Packages.{is_go, is_of_package, package_paths, package_files}
 use Rattle.gr_text.specs.Path.{folder}
 use Rattle.gr_text.specs.Workspace.{Workspace}
 use Rattle.gr_tree.specs.SourceFile.{SourceFile, FileParts, source_of}
-use Rattle.gr_graph.specs.Parsed.{AreParsed, none, tree, fault}
+use Rattle.gr_graph.specs.Parsed.{AreParsed, none, tree}
 use Rattle.gr_graph.proofs.Asked.{has_file, number}
 use Rattle.gr_declared.specs.Package.{Package}
 use Rattle.gr_verdict.specs.declared.findings.Findings.{Findings}
 use Rattle.gr_verdict.specs.Verdicts.{Verdicts}
 use Rattle.gr_verdict.proofs.Members.{passed}
-use Rattle.gr_edit.proofs.Held.{nothing_in, first_in, later_in, first_or_later}
+use Rattle.gr_edit.proofs.Held.{nothing_in, first_or_later}
 use Rattle.gr_edit.proofs.Entries.{entry_of}
 use Rattle.gr_bound.specs.Uses.{IsPackage}
 use Rattle.gr_bound.specs.Workspaces.{IsSound, IsPackageAt, known_in}
 use Rattle.gr_asked.proofs.OnePlace.{same_files}
 use Rattle.gr_standing.proofs.Packages.{package_there}
 use Rattle.gr_renaming.proofs.Sources.{source_text}
-use Rattle.gr_moving.specs.Steps.{IsFileAt, HasFileIn}
+use Rattle.gr_moving.specs.Steps.{HasFileIn}
 
 -- a file and its tree
 

@@ -1,6 +1,6 @@
 -- The last element of a path, and what the package of a path is called.
-use Rattle.std.proofs.Common.{ℕ, ◌≡◌, ◌≢◌, ◌<◌, ◌≤◌, ◌+◌, ◌-◌, ◌↔◌, Bool, true, false, not, List, [], ◌∷◌, length, drop, get_or, lit<, refl, sym, ap, subst}
-use Rattle.std.proofs.Common.{◌∙◌, arith, eqb}
+use Rattle.std.proofs.Common.{ℕ, ◌≡◌, ◌≢◌, ◌<◌, ◌≤◌, ◌+◌, ◌-◌, ◌↔◌, true, false, not, List, [], ◌∷◌, length, drop, get_or, lit<, refl, sym, ap, subst}
+use Rattle.std.proofs.Common.{◌∙◌, arith}
 use Rattle.std.specs.Prelude.{Some, map, slice_get, ◌==◌}
 use Rattle.std.specs.List.{suffix_len}
 use Rattle.std.specs.Str.{NoCharPasses}

@@ -14,8 +14,6 @@ use Rattle.gr_text.proofs.WorkspaceLaws.{path_cmp_total}
 use Rattle.gr_edit.specs.EditSet.{paths_of}
 use Rattle.gr_edit.specs.Fits.{new_path}
 use Rattle.gr_edit.specs.declared.change.FileChange.{FileChange}
-use Rattle.gr_edit.specs.declared.change.Fate.{Fate}
-use Rattle.gr_edit.specs.declared.change.Fate.TheVariants.{Stays, Moves, Dropped}
 use Rattle.gr_edit.proofs.Held.{first_in, later_in}
 use Rattle.gr_edit.proofs.Entries.{not_true}
 use Rattle.gr_moved_paths.specs.declared.moved.Moved.{Moved}

@@ -1,6 +1,5 @@
 //! Whether the name of a package follows its path.
-ghost use Rattle.std.specs.Prelude.{◌≡◌, ◌≢◌, ◌<◌, ◌↔◌, IsTrue, IfOk, length, map, codes};
-ghost use Rattle.gr_text.specs.Packages.{package_paths};
+ghost use Rattle.std.specs.Prelude.{◌≡◌, ◌<◌, ◌↔◌, IsTrue, IfOk, map};
 ghost use Rattle.gr_tree.specs.SourceFile.{source_of};
 ghost use Rattle.gr_imports.specs.Files.{package_name};
 ghost use Rattle.gr_bound.specs.Uses.{IsPackage};

@@ -1,5 +1,5 @@
 //! The new names of the fields or the methods of a package, by rank and by definition.
-ghost use Rattle.std.specs.Prelude.{ℕ, ◌≡◌, ◌↔◌, ◌<◌, ◌++◌, ◌∷◌, [], List, Some, None, IsTrue, length, slice_get, IfOk, OnOk};
+ghost use Rattle.std.specs.Prelude.{ℕ, ◌≡◌, ◌↔◌, ◌<◌, ◌++◌, ◌∷◌, [], List, Some, None, IsTrue, length, slice_get, OnOk};
 ghost use Rattle.std.specs.Option.{option_copied, option_flatten};
 ghost use Rattle.gr_bound.specs.Exports.{number_named};
 ghost use Rattle.gr_new_members.specs.NewNames.{bytes_in, rank_of, NotesRank, NotesFirst, IsFirstOrNone, AreNewNames, AddsName, IsFirstNew, IsNewNameOf};

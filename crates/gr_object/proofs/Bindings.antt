@@ -1,7 +1,6 @@
 -- What names are bound to: declarations of a package's block, imports, and the predeclared `true`.
-use Rattle.std.proofs.Common.{ℕ, ◌≡◌, ◌+◌, ◌<◌, ◌≤◌, suc, inl, inr, List, [], length, ap, sym, subst, refl, ◌∙◌, arith, Bool, true, false, ◌↔◌, MatchOption}
-use Rattle.std.proofs.Common.{get_or, map, codes}
-use Rattle.std.specs.Prelude.{Option, Some, None, option_map, slice_get}
+use Rattle.std.proofs.Common.{ℕ, ◌≡◌, ◌≤◌, suc, inl, inr, List, length, sym, subst, arith, true, false, ◌↔◌, MatchOption}
+use Rattle.std.specs.Prelude.{Option, Some, None, option_map}
 use Rattle.std.specs.Borrow.{Bor}
 use Rattle.std.specs.declared.vec.Vec.{Vec}
 use Rattle.std.specs.declared.alloc.Global.{Global}
@@ -17,8 +16,8 @@ use Rattle.gr_scope.specs.Table.{StandsAt}
 use Rattle.gr_imports.specs.Files.{HasLiteral}
 use Rattle.gr_declared.specs.ByToken.{IsFirstBelow}
 use Rattle.gr_meanings.specs.NamesView.{IsBehindDot}
-use Rattle.gr_declared.specs.Package.{Package, spelled}
-use Rattle.gr_declared.specs.Written.{BindsToken, IsPredeclared}
+use Rattle.gr_declared.specs.Package.{Package}
+use Rattle.gr_declared.specs.Written.{BindsToken}
 use Rattle.gr_declared.specs.Written.{ImportsPath as DeclaresImport}
 use Rattle.gr_declared.proofs.Binding.{bound_nowhere}
 use Rattle.gr_meanings.proofs.NameParts.{no_dot}

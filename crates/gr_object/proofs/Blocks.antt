@@ -16,7 +16,7 @@ use Rattle.gr_object.specs.Lines.{Line, End, Jump, JumpBack, JumpUnless}
 use Rattle.gr_object.specs.Source.{Source}
 use Rattle.gr_object.specs.Expressions.{value_lines}
 use Rattle.gr_object.specs.Statements.{Exits, further, block_exits, body_exits, body_lines, branched, init_lines, no_exits, loop_condition, loop_lines}
-use Rattle.gr_object.specs.Statements.{turned_back, statement_lines, block_lines, statements_lines, if_lines, else_lines}
+use Rattle.gr_object.specs.Statements.{statement_lines, block_lines, statements_lines, if_lines, else_lines}
 use Rattle.gr_object.specs.declared.code.Code.{Code}
 use Rattle.gr_object.specs.LineView.{lines_in, Puts}
 use Rattle.gr_object.specs.ExitsView.{exits_of, lines_of_each, lines_or_none, AreWithin, PutsElse, else_jump}

@@ -1,5 +1,5 @@
 -- Whole objects, and the code of each form, by computation.
-use Rattle.std.proofs.Common.{ℕ, ◌≡◌, ◌==◌, ◌||◌, [], ◌∷◌, ◌++◌, List, Option, Some, None, Bool, true, false, refl, map, if◌then◌else◌, length}
+use Rattle.std.proofs.Common.{ℕ, ◌≡◌, ◌==◌, ◌||◌, [], ◌∷◌, ◌++◌, List, Option, Some, None, Bool, true, false, refl, map, if◌then◌else◌}
 use Rattle.std.specs.Prelude.{codes}
 use Rattle.std.specs.Fmt.{digits}
 use Rattle.std.specs.List.{flat_map}
@@ -9,18 +9,18 @@ use Rattle.gr_tree.specs.declared.syntax.StepOp.TheVariants as step
 use Rattle.gr_tree.specs.declared.syntax.UpdateOp.TheVariants as update
 use Rattle.gr_tree.specs.Tree as tree
 use Rattle.gr_tree.specs.Tree.{ExprTree, Number, Text, Name, Blank, Composite, Paren, Prefix, Address, Chain, Binary, no_operand, operand, LinkTrees}
-use Rattle.gr_tree.specs.Tree.{no_link, selector, index, call, ArgumentTrees, no_argument, argument, literal, ElementTrees, no_element, element}
+use Rattle.gr_tree.specs.Tree.{no_link, selector, index, call, ArgumentTrees, no_argument, argument, literal, no_element, element}
 use Rattle.gr_tree.specs.Tree.{StatementTree, StatementTrees, no_statement, statement, BlockTree, block}
 use Rattle.gr_expr.specs.declared.types.Basic.TheVariants as basic
 use Rattle.gr_expr.specs.declared.types.Builtin.TheVariants as builtin
 use Rattle.gr_expr.specs.declared.symbol.Symbol.{Symbol}
-use Rattle.gr_expr.specs.Types.{PlainType, BasicType, Defined, Pointer, Slice, Underlying, Plain, Struct, SliceOf, Typed, Untyped, Nil, Value, TypeName}
-use Rattle.gr_expr.specs.Types.{Function, BuiltinName, Package, Broken, points}
-use Rattle.gr_expr.specs.World.{World, Bound, Means, Member, AField, AMethod}
+use Rattle.gr_expr.specs.Types.{PlainType, BasicType, Defined, Pointer, Slice, Struct, Typed, Untyped, Nil, Value, TypeName}
+use Rattle.gr_expr.specs.Types.{Function, BuiltinName, Package, Broken}
+use Rattle.gr_expr.specs.World.{Bound, Means, Member, AField, AMethod}
 use Rattle.gr_expr.specs.World.{Local as LocalName}
-use Rattle.gr_expr.specs.Judge.{judge_type, named_type, imported_type}
-use Rattle.gr_stmt.specs.Sides.{named, ident_place, defined_name}
-use Rattle.gr_object.specs.Lines.{GlobalName, FunctionName, Line, Method, Initializer}
+use Rattle.gr_expr.specs.Judge.{judge_type, named_type}
+use Rattle.gr_stmt.specs.Sides.{ident_place, defined_name}
+use Rattle.gr_object.specs.Lines.{GlobalName, Method}
 use Rattle.gr_object.specs.Lines.{Plain as PlainFunction}
 use Rattle.gr_object.specs.Lines.{pops}
 use Rattle.gr_object.specs.Lines as line
@@ -30,7 +30,7 @@ use Rattle.gr_object.specs.Expressions.{operand_of, operations, linked, argument
 use Rattle.gr_object.specs.Expressions.{bare_lines, typed_literal, value_lines, address_lines}
 use Rattle.gr_object.specs.Statements.{from_last, set_left, target_lines, simple_lines, zeros, first_values, local_lines, statement_lines, block_lines}
 use Rattle.gr_object.specs.Statements.{statements_lines, if_lines, else_lines, body_lines}
-use Rattle.gr_object.specs.Slots.{simple_places, header_places, statement_places, block_places, statements_places, if_places, else_places}
+use Rattle.gr_object.specs.Slots.{simple_places, header_places, statement_places, block_places, statements_places}
 use Rattle.gr_object.specs.Names.{body_positions, is_named_init}
 use Rattle.gr_object.specs.Objects.{Object, variables_of, declared_by, declared_in, names_behind_all, declared_from, object_of}
 use Rattle.gr_object.specs.Text.{function_text, type_text, operator_text, words_of, ended, code_text}

@@ -1,5 +1,5 @@
 -- The code of expressions stays within its function.
-use Rattle.std.proofs.Common.{ℕ, suc, ◌≡◌, ◌+◌, ◌<◌, List, [], ◌∷◌, ◌++◌, length, Bool, true, false, Option, Some, None, arith}
+use Rattle.std.proofs.Common.{ℕ, suc, ◌+◌, ◌<◌, List, [], ◌∷◌, ◌++◌, length, Bool, true, false, Option, Some, None, arith}
 use Rattle.gr_tree.specs.declared.syntax.BinaryOp.{BinaryOp}
 use Rattle.gr_tree.specs.declared.syntax.BinaryOp.TheVariants as op
 use Rattle.gr_tree.specs.declared.syntax.PrefixOp.{PrefixOp}
@@ -14,7 +14,7 @@ use Rattle.gr_expr.specs.World.{Bound, Means, BrokenVariable, BrokenFunction, Br
 use Rattle.gr_expr.specs.World.{Local as LocalName}
 use Rattle.gr_expr.specs.Judge.{judge_type}
 use Rattle.gr_object.specs.Lines.{Line, Field, FieldThrough, FieldAddress, Global, GlobalAddress, Index, IndexAddress, Load, Negate, Not, Operate}
-use Rattle.gr_object.specs.Lines.{Duplicate, Pop, JumpUnless, JumpIf, Local, LocalAddress, With, Zero, MakeSlice, New, line_if_known}
+use Rattle.gr_object.specs.Lines.{Duplicate, Pop, JumpUnless, JumpIf, Local, LocalAddress, With, MakeSlice, New, line_if_known}
 use Rattle.gr_object.specs.Lines as line
 use Rattle.gr_object.specs.Source.{Source}
 use Rattle.gr_object.specs.Numbering.{slot_of}

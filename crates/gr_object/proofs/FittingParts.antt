@@ -1,5 +1,5 @@
 -- Parts of code that stay within their function, and how they are joined.
-use Rattle.std.proofs.Common.{ℕ, zero, suc, ◌≡◌, ◌==◌, ◌+◌, ◌<◌, ◌≤◌, List, [], ◌∷◌, ◌++◌, length, ap, refl, ◌∙◌, subst, add-zero, Bool, true, false}
+use Rattle.std.proofs.Common.{ℕ, suc, ◌≡◌, ◌==◌, ◌+◌, ◌<◌, List, [], ◌∷◌, ◌++◌, length, ap, refl, ◌∙◌, subst, add-zero, true, false}
 use Rattle.std.proofs.Common.{Option, Some, None, if◌then◌else◌, arith}
 use Rattle.std.specs.Prelude.{⊤}
 use Rattle.std.specs.List.{flat_map}

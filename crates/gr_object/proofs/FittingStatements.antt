@@ -1,9 +1,9 @@
 -- The code of statements and of functions stays within its function.
-use Rattle.std.proofs.Common.{ℕ, zero, suc, ◌≡◌, ◌+◌, ◌<◌, ◌≤◌, List, [], ◌∷◌, ◌++◌, length, length-append, refl, subst, Bool, true, false, Option, Some}
+use Rattle.std.proofs.Common.{ℕ, zero, suc, ◌≡◌, ◌+◌, ◌<◌, ◌≤◌, List, [], ◌∷◌, ◌++◌, length, length-append, refl, subst, Option, Some}
 use Rattle.std.proofs.Common.{None, arith}
 use Rattle.std.specs.Prelude.{⊤}
 use Rattle.gr_tree.specs.declared.syntax.BinaryOp.{BinaryOp}
-use Rattle.gr_tree.specs.Tree.{Item, Group, IdentTree, Named, Underscore, TypeTree, ExprTree, Number, Text, Name, Blank, Composite, Paren, Prefix, Address}
+use Rattle.gr_tree.specs.Tree.{Item, IdentTree, Named, Underscore, TypeTree, ExprTree, Number, Text, Name, Blank, Composite, Paren, Prefix, Address}
 use Rattle.gr_tree.specs.Tree.{Chain, Binary, SimpleTree, Alone, Step, Update, Assign, Define, LocalTree, InitTree, ForTree, forever, while, clauses}
 use Rattle.gr_tree.specs.Tree.{StatementTree, Empty, Var, Simple, Inner, If, For, Break, Continue, Return, BlockTree, block, StatementTrees, no_statement}
 use Rattle.gr_tree.specs.Tree.{statement, IfTree, if_tree, ElseTree, no_else, else_if, else_block, FuncTree}
@@ -13,7 +13,7 @@ use Rattle.gr_expr.specs.Judge.{judge_type}
 use Rattle.gr_imports.specs.Files.{group_items}
 use Rattle.gr_stmt.specs.Simple.{binary_of}
 use Rattle.gr_declared.specs.Bound.{result_types}
-use Rattle.gr_object.specs.Lines.{Line, FunctionName, Duplicate, Load, Pop, Operate, Jump, JumpUnless, JumpBack, Zero, Set, BlankAddress, End}
+use Rattle.gr_object.specs.Lines.{Line, FunctionName, Duplicate, Load, Operate, Jump, JumpUnless, JumpBack, Zero, Set, End}
 use Rattle.gr_object.specs.Lines.{line_if_known, pops}
 use Rattle.gr_object.specs.Lines as line
 use Rattle.gr_object.specs.Source.{Source}
@@ -25,7 +25,7 @@ use Rattle.gr_object.specs.Statements.{optional_lines, init_lines, zeros, first_
 use Rattle.gr_object.specs.Statements.{for_init, for_condition, for_post, loop_condition, body_exits, turned_back, loop_lines, statement_lines, block_lines}
 use Rattle.gr_object.specs.Statements.{statements_lines, if_lines, else_lines, body_lines}
 use Rattle.gr_object.specs.Objects.{function_of}
-use Rattle.gr_object.specs.Fitting.{FitsAt, HasFittingCode}
+use Rattle.gr_object.specs.Fitting.{HasFittingCode}
 use Rattle.gr_object.proofs.FittingParts.{count, after, is_count, is_after, Within, Before, Stays, fits_at, joined, before_joined, stays_before, none_stays}
 use Rattle.gr_object.proofs.FittingParts.{stays_joined, each_stays, known_stays, is_slot, slot_stays}
 use Rattle.gr_object.proofs.FittingExpressions.{expr_sound}

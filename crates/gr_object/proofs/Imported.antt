@@ -1,5 +1,5 @@
 -- The paths that files import, as the object of their package lists them.
-use Rattle.std.proofs.Common.{ℕ, zero, suc, ◌≡◌, ◌<◌, ◌↔◌, ◌∷◌, [], List, ap, sym, subst, ◌∙◌, refl, length, get_or, map, arith, Global}
+use Rattle.std.proofs.Common.{ℕ, zero, suc, ◌≡◌, ◌<◌, ◌∷◌, [], List, ap, sym, subst, ◌∙◌, refl, length, get_or, map, arith, Global}
 use Rattle.std.proofs.lemmas.List.{get_or-map, length-map}
 use Rattle.std.specs.Prelude.{Vec}
 use Rattle.std.specs.declared.cmp.Ordering.{Ordering}

@@ -1,6 +1,6 @@
 -- What stands behind the last of some links, and the lines of tests and operators.
 use Rattle.std.proofs.Common.{ℕ, Option, Some, None, true, false, drop, ◌≡◌, ◌+◌, ◌-◌, ◌<◌, ◌≤◌, ◌∷◌, ◌++◌, [], List, ap, sym, ◌∙◌, refl, Bool, ◌==◌, ◌&&◌}
-use Rattle.std.proofs.Common.{zero, suc, take, length, get_or, subst, arith, append_assoc}
+use Rattle.std.proofs.Common.{zero, suc, take, length, get_or, arith, append_assoc}
 use Rattle.gr_tree.specs.declared.syntax.BinaryOp.{BinaryOp}
 use Rattle.gr_tree.specs.declared.syntax.BinaryOp.TheVariants as op
 use Rattle.gr_tree.specs.declared.syntax.PrefixOp.{PrefixOp}
@@ -19,7 +19,7 @@ use Rattle.gr_expr.specs.World.{underlying}
 use Rattle.gr_expr.specs.Judge.{judge_type}
 use Rattle.gr_expr.proofs.Items.{next_item}
 use Rattle.gr_object.specs.declared.code.Code.{Code}
-use Rattle.gr_object.specs.Lines.{Line, Duplicate, Pop, JumpUnless, JumpIf, Operate, Zero, MakeSlice}
+use Rattle.gr_object.specs.Lines.{Line, Duplicate, Pop, JumpUnless, Operate, Zero, MakeSlice}
 use Rattle.gr_object.specs.LineView.{lines_in, Puts}
 use Rattle.gr_object.specs.Source.{Source}
 use Rattle.gr_object.specs.Operands.{Standing, Values, Operand, qualifies, selected, operated, left_by_call, value_count, prefixed}

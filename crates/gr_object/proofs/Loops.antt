@@ -9,7 +9,7 @@ use Rattle.gr_object.proofs.Links.{same_item}
 use Rattle.gr_object.specs.Statements.{from_last}
 use Rattle.gr_object.specs.declared.code.Code.{Code}
 use Rattle.gr_object.specs.Lines.{Line}
-use Rattle.gr_object.specs.LineView.{lines_in, Puts}
+use Rattle.gr_object.specs.LineView.{Puts}
 use Rattle.gr_object.proofs.Putting.{puts_as, puts_then}
 
 -- From the front: what was added so far, with what the rest adds, is the whole. F: what a list adds, f: what an item adds.

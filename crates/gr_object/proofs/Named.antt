@@ -1,13 +1,13 @@
 -- The names of packages, by their numbers.
-use Rattle.std.proofs.Common.{ℕ, ◌≡◌, ◌+◌, ◌<◌, ◌∷◌, ◌++◌, [], List, inl, inr, length, length-append, ap, sym, subst, ◌∙◌, refl, arith, Result, Ok, Err}
+use Rattle.std.proofs.Common.{ℕ, ◌≡◌, ◌+◌, ◌<◌, ◌∷◌, ◌++◌, [], List, inl, inr, length, ap, sym, subst, ◌∙◌, refl, Result, Ok, Err}
 use Rattle.std.proofs.Common.{OnOk, OnErr}
 use Rattle.std.specs.Prelude.{Option, Some, None, slice_get}
-use Rattle.std.specs.BTreeMap.{BTreeMap, get_by, is_at, Updates}
+use Rattle.std.specs.BTreeMap.{BTreeMap, get_by, is_at}
 use Rattle.std.specs.Cmp.Lexicographic.{slice_cmp}
 use Rattle.std.specs.Global.{Vec}
 use Rattle.std.specs.Map.{lookup}
 use Rattle.std.specs.Ordering.{nat_cmp}
-use Rattle.std.proofs.lemmas.Option.{none-some, same_Some}
+use Rattle.std.proofs.lemmas.Option.{same_Some}
 use Rattle.gr_declared.proofs.ByteKeys.{cases_bytes}
 use Rattle.gr_declared.proofs.Paths.{get_before, get_last}
 use Rattle.gr_object.specs.declared.called.CalledNames.{CalledNames}

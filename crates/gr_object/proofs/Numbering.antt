@@ -1,9 +1,7 @@
 -- Where places first stand in a list.
 use Rattle.std.proofs.Common.{ℕ, ◌≡◌, ◌+◌, ◌==◌, ◌∷◌, ◌++◌, [], List, ap, sym, ◌∙◌, refl, length, suc, zero, Bool, true, false, Option, Some, None}
-use Rattle.std.proofs.Common.{if◌then◌else◌, cond, add-zero, arith}
-use Rattle.std.specs.BTreeMap.{get, is_at, Updates}
-use Rattle.std.specs.Ordering.{nat_cmp}
-use Rattle.gr_object.specs.Numbering.{slot_from, slot_of, first_of}
+use Rattle.std.proofs.Common.{if◌then◌else◌, add-zero, arith}
+use Rattle.gr_object.specs.Numbering.{slot_from, first_of}
 
 by_test : (b : Bool) (n : ℕ) (rest : Option ℕ) (here : Bool) (k : ℕ) →
     first_of (if b then Some n else rest) here k ≡ (if b then Some n else first_of rest here k)

@@ -1,6 +1,5 @@
 -- What a file is judged by, from the type definitions of its package as other packages see them.
 use Rattle.std.proofs.Common.{ℕ, ◌≡◌, List, sym, subst, ◌∙◌}
-use Rattle.std.specs.Prelude.{Some, slice_get}
 use Rattle.gr_expr.specs.declared.world.World.{World}
 use Rattle.gr_expr.specs.WorldView.{definition_or_none, imported_at, definition_in}
 use Rattle.gr_declared.specs.Package.{Package, symbol_in}

@@ -1,23 +1,18 @@
 -- What the parts of lists of src/ add to places, code and texts.
-use Rattle.std.proofs.Common.{ℕ, ◌≡◌, ◌∷◌, ◌++◌, [], List, Option, ap, refl, map}
+use Rattle.std.proofs.Common.{ℕ, ◌≡◌, ◌∷◌, ◌++◌, [], List, ap, refl, map}
 use Rattle.std.specs.Prelude.{option_to_list}
 use Rattle.std.specs.List.{flat_map}
 use Rattle.gr_tree.specs.declared.tree.Item.{Item}
 use Rattle.gr_tree.specs.declared.tree.Ident.{Ident}
 use Rattle.gr_tree.specs.declared.tree.ExprItem.{ExprItem}
-use Rattle.gr_tree.specs.declared.tree.Element.{Element}
-use Rattle.gr_tree.specs.declared.tree.Operand.{Operand}
 use Rattle.gr_tree.specs.declared.tree.Param.{Param}
 use Rattle.gr_tree.specs.declared.tree.LocalSpec.{LocalSpec}
-use Rattle.gr_tree.specs.View.{list_view, ident_view, exprs_view, expr_view}
+use Rattle.gr_tree.specs.View.{list_view, ident_view, exprs_view}
 use Rattle.gr_tree.specs.FileView.{param_view, local_view}
 use Rattle.gr_expr.specs.World.{World}
-use Rattle.gr_expr.specs.Lists.{arguments_in, elements_in}
 use Rattle.gr_stmt.specs.Sides.{ident_place, named, defined_name}
-use Rattle.gr_object.specs.Lines.{Line}
 use Rattle.gr_object.specs.Source.{Source}
-use Rattle.gr_object.specs.Expressions.{argument_lines, keyed_lines, bare_lines}
-use Rattle.gr_object.specs.Statements.{set_name, set_left, target_lines, targets_of, local_lines, from_last}
+use Rattle.gr_object.specs.Statements.{local_lines}
 use Rattle.gr_object.specs.Slots.{parameter_places, local_places}
 
 -- places

@@ -1,6 +1,6 @@
 -- Lines that are put in turn.
-use Rattle.std.proofs.Common.{ℕ, ◌≡◌, ◌+◌, ◌-◌, ◌≤◌, ◌∷◌, ◌++◌, [], List, ap, sym, ◌∙◌, refl, append_assoc, append-nil, length, length-append, subst, suc}
-use Rattle.std.proofs.Common.{zero, arith, map, reverse, set}
+use Rattle.std.proofs.Common.{ℕ, ◌≡◌, ◌+◌, ◌-◌, ◌≤◌, ◌∷◌, ◌++◌, [], List, ap, sym, ◌∙◌, refl, append_assoc, length, length-append, suc}
+use Rattle.std.proofs.Common.{arith, map, reverse, set}
 use Rattle.std.proofs.lemmas.List.{map-append, reverse-append, reverse-reverse, length-reverse, length-map, map-set, set_at}
 use Rattle.gr_object.specs.declared.instructions.Instruction.{Instruction}
 use Rattle.gr_object.specs.declared.instructions.Instruction.TheVariants as instruction

@@ -10,7 +10,6 @@ use Rattle.gr_expr.specs.declared.symbol.Symbol.{Symbol}
 use Rattle.gr_expr.specs.declared.found.MemberUse.{MemberUse}
 use Rattle.gr_expr.specs.declared.world.World.{World}
 use Rattle.gr_expr.specs.Found.{use_of}
-use Rattle.gr_expr.specs.Types.{PlainType}
 use Rattle.gr_expr.specs.View.{type_of}
 use Rattle.gr_expr.specs.World as plain
 use Rattle.gr_expr.specs.WorldView.{world_of, name_in, spelling_of}
@@ -24,9 +23,8 @@ use Rattle.gr_meanings.specs.Uniqueness.{IsOneWorld}
 use Rattle.gr_object.specs.declared.called.CalledPackages.{CalledPackages}
 use Rattle.gr_object.specs.declared.called.CalledNames.{CalledNames}
 use Rattle.gr_object.specs.declared.source.Source.{Source}
-use Rattle.gr_object.specs.Lines.{GlobalName, FunctionName}
 use Rattle.gr_object.specs.Literals.{number_of}
-use Rattle.gr_object.specs.Names.{type_called, type_name, type_names, functions_behind, function_name, function_names, field_position, field_positions}
+use Rattle.gr_object.specs.Names.{type_called, type_name, type_names, functions_behind, function_names, field_positions}
 use Rattle.gr_object.specs.NamesView.{AreNamesOf}
 use Rattle.gr_object.specs.Numbering.{slot_from}
 use Rattle.gr_object.specs.ObjectView.{HaveNames}

@@ -5,16 +5,15 @@ use Rattle.std.proofs.Math.Seq.{take-suc}
 use Rattle.std.proofs.lemmas.List.{take_more}
 use Rattle.gr_tree.specs.declared.tree.Link.{Link}
 use Rattle.gr_tree.specs.declared.tree.Link.TheVariants as link
-use Rattle.gr_tree.specs.Tree.{LinkTrees, no_link, selector, index, call}
+use Rattle.gr_tree.specs.Tree.{no_link}
 use Rattle.gr_tree.specs.View.{link_view}
 use Rattle.gr_expr.specs.Lists.{links_in}
-use Rattle.gr_expr.specs.Types.{PlainType, Signature}
+use Rattle.gr_expr.specs.Types.{PlainType}
 use Rattle.gr_expr.specs.World.{Member, AField, AMethod, ABrokenMethod}
-use Rattle.gr_expr.specs.declared.types.Builtin.{Builtin}
-use Rattle.gr_object.specs.Lines.{Line, FunctionName}
+use Rattle.gr_object.specs.Lines.{FunctionName}
 use Rattle.gr_object.specs.Source.{Source}
 use Rattle.gr_object.specs.Operands.{Standing, Values, Called, Converts, Predeclared, Qualifies, Operand, qualifies, unqualified, function_standing}
-use Rattle.gr_object.specs.Operands.{field_operand, member_operand, typed_selector, selected_by, selected, calling, left_by_call, name_operand}
+use Rattle.gr_object.specs.Operands.{field_operand, member_operand, typed_selector, selected_by, calling, left_by_call}
 use Rattle.gr_object.specs.Expressions.{linked, one_link}
 use Rattle.gr_object.specs.Making.{before_link}
 

@@ -25,7 +25,7 @@ use Rattle.gr_object.specs.PackagesView.{type_in}
 use Rattle.gr_object.specs.Slots.{slots_of}
 use Rattle.gr_object.specs.Statements.{body_lines}
 use Rattle.gr_object.specs.Objects.{Initial, FunctionOf, declared_type, declared_variables, declared_in, declared_by, first_initial, other_initials}
-use Rattle.gr_object.specs.Objects.{function_of, initial_of, initials_of, names_behind, names_behind_all, parameters_of, results_of, variable, variables_of}
+use Rattle.gr_object.specs.Objects.{function_of, initials_of, names_behind, names_behind_all, parameters_of, results_of, variable, variables_of}
 use Rattle.gr_object.specs.Text.{code_text, ended}
 use Rattle.gr_object.specs.ObjectText.{declaration_text, header_text}
 use Rattle.gr_object.specs.DeclarationsView.{literal_at}

@@ -1,5 +1,5 @@
 -- The code of expressions of src/, form by form.
-use Rattle.std.proofs.Common.{ℕ, ◌≡◌, ◌∷◌, ◌++◌, [], List, ap, sym, ◌∙◌, refl, length, suc, map, Option, Some, None}
+use Rattle.std.proofs.Common.{ℕ, ◌≡◌, ◌∷◌, ◌++◌, [], List, ap, sym, ◌∙◌, refl, length, suc}
 use Rattle.gr_tree.specs.declared.syntax.PrefixOp.{PrefixOp}
 use Rattle.gr_tree.specs.declared.tree.Expr.TheVariants as expr
 use Rattle.gr_tree.specs.declared.tree.Expr.{Expr}

@@ -1,5 +1,5 @@
 -- What the parts of headers and of structs add to lists of types.
-use Rattle.std.proofs.Common.{ℕ, ◌≡◌, ◌∷◌, ◌++◌, [], List, refl, map}
+use Rattle.std.proofs.Common.{ℕ, List, map}
 use Rattle.std.specs.List.{flat_map}
 use Rattle.gr_tree.specs.declared.tree.Item.{Item}
 use Rattle.gr_tree.specs.declared.tree.Ident.{Ident}

@@ -1,5 +1,5 @@
 -- The object of a package, file by file.
-use Rattle.std.proofs.Common.{ℕ, ◌≡◌, ◌+◌, ◌<◌, ◌≤◌, ◌∷◌, ◌++◌, [], List, inl, inr, length, length-append, append_assoc, append-nil, drop, take, ap, sym}
+use Rattle.std.proofs.Common.{ℕ, ◌≡◌, ◌+◌, ◌<◌, ◌∷◌, ◌++◌, [], List, inl, inr, length, length-append, append_assoc, append-nil, drop, take, ap, sym}
 use Rattle.std.proofs.Common.{subst, refl, ◌∙◌, zero, suc, arith, map, Result, Ok, Err, OnOk, IfOk}
 use Rattle.std.specs.Prelude.{Option, Some, None, option_map, slice_get}
 use Rattle.std.specs.List.{flat_map}
@@ -24,12 +24,12 @@ use Rattle.gr_object.specs.declared.instructions.FunctionName as program
 use Rattle.gr_object.specs.declared.called.CalledPackages.{CalledPackages}
 use Rattle.gr_object.specs.Lines.{FunctionName}
 use Rattle.gr_object.specs.LineView.{function_of}
-use Rattle.gr_object.specs.Names.{function_names, type_name}
+use Rattle.gr_object.specs.Names.{function_names}
 use Rattle.gr_object.specs.Source.{Source}
-use Rattle.gr_object.specs.Sources.{AreImports, IsSourceOf, IsObjectOf, IsObjectText}
+use Rattle.gr_object.specs.Sources.{AreImports, IsSourceOf, IsObjectText}
 use Rattle.gr_object.specs.Objects.{Object, Declaration, declared_from, declared_in, names_behind_all, object_of}
 use Rattle.gr_object.specs.ObjectSteps.{names_after, uses_or_none, PutsFiles, PutsHead}
-use Rattle.gr_object.specs.ObjectText.{declaration_text, first_line, import_line, object_text}
+use Rattle.gr_object.specs.ObjectText.{declaration_text, first_line, import_line}
 use Rattle.gr_object.specs.ObjectView.{HaveNames, PutsFile}
 use Rattle.gr_object.specs.PackagesView.{type_in}
 use Rattle.gr_object.proofs.Imported.{imports_listed}

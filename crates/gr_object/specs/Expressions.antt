@@ -3,7 +3,7 @@ use Rattle.std.specs.Prelude.{ℕ, suc, Bool, true, false, List, [], ◌∷◌, 
 use Rattle.gr_tree.specs.Tree.{ExprTree, Number, Text, Name, Blank, Composite, Paren, Prefix, Address, Chain, Binary, OperandTrees, no_operand, operand}
 use Rattle.gr_tree.specs.Tree.{LinkTrees, no_link, selector, index, call, ArgumentTrees, no_argument, argument, LiteralTree, literal, ElementTrees}
 use Rattle.gr_tree.specs.Tree.{no_element, element}
-use Rattle.gr_expr.specs.Types.{PlainType, Underlying, is_struct}
+use Rattle.gr_expr.specs.Types.{PlainType, is_struct}
 use Rattle.gr_expr.specs.World.{Member, AField, AMethod, ABrokenMethod, underlying}
 use Rattle.gr_expr.specs.Judge.{judge_type}
 use Rattle.gr_object.specs.Lines.{Line, Zero, With, MakeSlice, New, line_if_known}

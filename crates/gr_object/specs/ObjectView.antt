@@ -12,7 +12,6 @@ use Rattle.gr_declared.specs.Package.{Interface, Package, PlacedType, package_ty
 use Rattle.gr_declared.specs.Definitions.{IsDefinition}
 use Rattle.gr_meanings.specs.MemberUses.{AreMemberUses, AreUsesIn}
 use Rattle.gr_object.specs.declared.called.CalledPackages.{CalledPackages}
-use Rattle.gr_object.specs.declared.called.CalledNames.{CalledNames}
 use Rattle.gr_object.specs.declared.instructions.FunctionName.{FunctionName}
 use Rattle.gr_object.specs.LineView.{function_of}
 use Rattle.gr_object.specs.Source.{Source}

@@ -6,13 +6,12 @@ use Rattle.gr_tree.specs.declared.syntax.PrefixOp.{PrefixOp}
 use Rattle.gr_tree.specs.declared.syntax.PrefixOp.TheVariants as prefix
 use Rattle.gr_expr.specs.declared.types.Builtin.{Builtin}
 use Rattle.gr_expr.specs.declared.types.Builtin.TheVariants as builtin
-use Rattle.gr_expr.specs.declared.symbol.Symbol.{Symbol}
-use Rattle.gr_expr.specs.Types.{PlainType, Signature, Kind, Typed, Untyped, Meaning, Value, TypeName, Function, BuiltinName, Package, Results, Broken}
+use Rattle.gr_expr.specs.Types.{PlainType, Kind, Typed, Untyped, Meaning, Value, TypeName, Function, BuiltinName, Package, Results, Broken}
 use Rattle.gr_expr.specs.Types.{is_pointer, points}
 use Rattle.gr_expr.specs.Types.{Nil as NilKind}
-use Rattle.gr_expr.specs.World.{World, Bound, Means, BrokenVariable, BrokenFunction, BrokenType, Member, AField, AMethod, ABrokenMethod, underlying}
+use Rattle.gr_expr.specs.World.{Bound, Means, BrokenVariable, BrokenFunction, BrokenType, Member, AField, AMethod, ABrokenMethod, underlying}
 use Rattle.gr_expr.specs.World.{Local as LocalName}
-use Rattle.gr_object.specs.Lines.{GlobalName, FunctionName, Plain, Line, Integer, Text, Truth, Nil, Local, Global, Field, FieldThrough, Index, Load, Negate}
+use Rattle.gr_object.specs.Lines.{GlobalName, FunctionName, Plain, Line, Truth, Nil, Local, Global, Field, FieldThrough, Index, Load, Negate}
 use Rattle.gr_object.specs.Lines.{Not, Operate, Duplicate, Pop, JumpUnless, JumpIf, Call, CallBuiltin, LocalAddress, GlobalAddress, FieldAddress}
 use Rattle.gr_object.specs.Lines.{IndexAddress, line_if_known}
 use Rattle.gr_object.specs.Source.{Source}

@@ -5,11 +5,11 @@ use Rattle.gr_tree.specs.declared.syntax.BinaryOp.{BinaryOp}
 use Rattle.gr_tree.specs.declared.syntax.BinaryOp.TheVariants as op
 use Rattle.gr_tree.specs.declared.syntax.StepOp.{StepOp}
 use Rattle.gr_tree.specs.declared.syntax.StepOp.TheVariants as step
-use Rattle.gr_tree.specs.Tree.{Item, Group, IdentTree, Named, Underscore, TypeTree, ExprTree, Number, Text, Name, Blank, Composite, Paren, Prefix, Address}
-use Rattle.gr_tree.specs.Tree.{Chain, Binary, SimpleTree, Alone, Step, Update, Assign, Define, LocalTree, InitTree, ForTree, forever, while, clauses}
+use Rattle.gr_tree.specs.Tree.{Item, IdentTree, Named, Underscore, TypeTree, ExprTree, Name, Blank}
+use Rattle.gr_tree.specs.Tree.{SimpleTree, Alone, Step, Update, Assign, Define, LocalTree, InitTree, ForTree, forever, while, clauses}
 use Rattle.gr_tree.specs.Tree.{StatementTree, Empty, Var, Simple, Inner, If, For, Break, Continue, Return, BlockTree, block, StatementTrees, no_statement}
 use Rattle.gr_tree.specs.Tree.{statement, IfTree, if_tree, ElseTree, no_else, else_if, else_block}
-use Rattle.gr_expr.specs.World.{World, Bound, Local, Means, BrokenVariable, BrokenFunction, BrokenType}
+use Rattle.gr_expr.specs.World.{Bound, Local, Means, BrokenVariable, BrokenFunction, BrokenType}
 use Rattle.gr_expr.specs.Judge.{judge_type}
 use Rattle.gr_imports.specs.Files.{group_items}
 use Rattle.gr_stmt.specs.Simple.{binary_of}

@@ -1,5 +1,5 @@
 //! The text of what files declare.
-ghost use Rattle.std.specs.Prelude.{◌≡◌, ◌≤◌, ◌++◌, ◌∷◌, [], Some, drop, length, map, option_map, slice_get, IfOk, OnOk};
+ghost use Rattle.std.specs.Prelude.{◌≡◌, ◌≤◌, ◌++◌, [], Some, drop, length, map, option_map, slice_get, IfOk, OnOk};
 ghost use Rattle.std.specs.List.{flat_map};
 ghost use Rattle.gr_tree.specs.View.{list_view, option_view, group_view, type_view};
 ghost use Rattle.gr_tree.specs.FileView.{same_place, basic_view, body_view, decl_view, field_view, func_view, global_view, type_spec_view, var_values_view};

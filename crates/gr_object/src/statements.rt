@@ -1,5 +1,5 @@
 //! The code of statements, made from its last line to its first.
-ghost use Rattle.std.specs.Prelude.{◌≡◌, ◌≤◌, ◌-◌, ◌++◌, ◌∷◌, [], IfOk, OnOk, length};
+ghost use Rattle.std.specs.Prelude.{◌≤◌, ◌-◌, ◌++◌, ◌∷◌, [], IfOk, OnOk, length};
 ghost use Rattle.gr_tree.specs.View.{expr_view, exprs_view, option_view};
 ghost use Rattle.gr_tree.specs.FileView.{for_view, stmt_view, block_view, if_view, else_view};
 ghost use Rattle.gr_object.specs.Lines.{Jump, JumpUnless, Return};

@@ -1,5 +1,5 @@
 //! Declarations of packages, variables and types.
-ghost use Rattle.std.specs.Prelude.{◌≡◌, ◌∷◌, ◌++◌, [], IfOk};
+ghost use Rattle.std.specs.Prelude.{◌∷◌, ◌++◌, [], IfOk};
 ghost use Rattle.gr_tree.specs.Grammar as grammar;
 ghost use Rattle.gr_tree.specs.Grammar.{A, One, is, MoreNames, GlobalValues, TypeUse, Fields};
 ghost use Rattle.gr_parse.specs.Parsing.{Parses};

@@ -1,6 +1,6 @@
 //! Expressions.
-ghost use Rattle.std.specs.Prelude.{◌≡◌, ◌∷◌, ◌≤◌, ◌<◌, ◌+◌, ◌++◌, [], length, true, false, IfOk, cond, is_some};
-ghost use Rattle.gr_tree.specs.Grammar.{A, Opening, Close, Expression, Unary, Binaries, Links, Arguments, Address, Elements, ElementList, slice_type, is};
+ghost use Rattle.std.specs.Prelude.{◌≡◌, ◌∷◌, ◌≤◌, ◌<◌, ◌+◌, ◌++◌, [], length, true, false, IfOk, is_some};
+ghost use Rattle.gr_tree.specs.Grammar.{A, Expression, Unary, Binaries, Links, Arguments, Address, Elements, ElementList, slice_type, is};
 ghost use Rattle.gr_tree.specs.Grammar as grammar;
 ghost use Rattle.gr_parse.specs.Machine.{at};
 ghost use Rattle.gr_parse.specs.Parsing.{Parses, LeadsTo, LeadsBy, Continues, list_rest};

@@ -1,5 +1,5 @@
 //! Whole files.
-ghost use Rattle.std.specs.Prelude.{◌≡◌, ◌∷◌, ◌++◌, [], ◌<◌, length, IfOk, true, false};
+ghost use Rattle.std.specs.Prelude.{◌≡◌, ◌∷◌, [], ◌<◌, length, IfOk, true, false};
 ghost use Rattle.gr_tree.specs.Grammar as grammar;
 ghost use Rattle.gr_tree.specs.Grammar.{A, is, Imports, Tops, FuncHead};
 ghost use Rattle.gr_parse.specs.Machine.{at};

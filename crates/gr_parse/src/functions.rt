@@ -1,5 +1,5 @@
 //! The head of a function: its receiver, parameters and results.
-ghost use Rattle.std.specs.Prelude.{◌≡◌, ◌∷◌, ◌++◌, [], IfOk};
+ghost use Rattle.std.specs.Prelude.{◌∷◌, ◌++◌, [], IfOk};
 ghost use Rattle.gr_tree.specs.Grammar as grammar;
 ghost use Rattle.gr_tree.specs.Grammar.{A, One, Opening, Close, is, is_ident, FuncHead, Signature, ReceiverStar, ReceiverEnd, MoreIdents, TypeUse, Params, Result, Types};
 ghost use Rattle.gr_parse.specs.Parsing.{Parses, LeadsTo};

@@ -1,5 +1,5 @@
 //! Groups: one declaration, or any number of them in parentheses.
-ghost use Rattle.std.specs.Prelude.{◌≡◌, ◌∷◌, ◌++◌, [], List, IfOk};
+ghost use Rattle.std.specs.Prelude.{◌∷◌, ◌++◌, [], List, IfOk};
 ghost use Rattle.gr_tree.specs.Grammar as grammar;
 ghost use Rattle.gr_tree.specs.Grammar.{A, GroupOf, Single, Items};
 ghost use Rattle.gr_parse.specs.Parsing.{Parses};

@@ -1,5 +1,5 @@
 //! The kinds of a file's tokens.
-ghost use Rattle.std.specs.Prelude.{◌≡◌, ◌-◌, ◌<◌, length, drop, IfOk};
+ghost use Rattle.std.specs.Prelude.{◌≡◌, ◌-◌, ◌<◌, length, IfOk};
 ghost use Rattle.gr_scan.specs.Cuts.{bytes_of};
 ghost use Rattle.gr_scan.specs.CutText.{tokens_in, token_at};
 ghost use Rattle.gr_tree.specs.Kinds.{kind_of_keyword, kind_of_operator, kind_of_name, kind_of, kinds_of, place_of};

@@ -1,5 +1,5 @@
 //! Declarations of local variables.
-ghost use Rattle.std.specs.Prelude.{◌≡◌, ◌∷◌, ◌++◌, [], false, IfOk};
+ghost use Rattle.std.specs.Prelude.{◌∷◌, ◌++◌, [], false, IfOk};
 ghost use Rattle.gr_tree.specs.Grammar as grammar;
 ghost use Rattle.gr_tree.specs.Grammar.{A, One, is, Expressions, LocalRest, LocalValues};
 ghost use Rattle.gr_parse.specs.Parsing.{Parses};

@@ -1,6 +1,6 @@
 //! Operators and operands of one token.
-ghost use Rattle.std.specs.Prelude.{◌≡◌, ◌∷◌, ◌++◌, [], Option, Bool, IfOk};
-ghost use Rattle.gr_tree.specs.Grammar.{One, Opening, is_binary, is_prefix, is_leaf};
+ghost use Rattle.std.specs.Prelude.{◌≡◌, ◌∷◌, [], Option, Bool, IfOk};
+ghost use Rattle.gr_tree.specs.Grammar.{One, is_binary, is_prefix, is_leaf};
 ghost use Rattle.gr_parse.specs.Machine.{at};
 ghost use Rattle.gr_parse.specs.Parsing.{Parses, OpensAs};
 ghost use Rattle.gr_tree.specs.Flatten.{sign, binary_kind, prefix_kind};

@@ -1,6 +1,6 @@
 //! Steps over one token.
 
-ghost use Rattle.std.specs.Prelude.{◌≡◌, ◌∷◌, ◌≤◌, ◌<◌, ◌+◌, ◌++◌, [], length, MatchOption, IsTrue, ◌↔◌, true, false};
+ghost use Rattle.std.specs.Prelude.{◌≡◌, ◌∷◌, ◌<◌, ◌+◌, [], length, MatchOption, true, false};
 ghost use Rattle.gr_tree.specs.Grammar.{number_of, One, is, binary_of, prefix_of};
 ghost use Rattle.gr_parse.specs.Parsing.{Parses, Opens, Separates};
 ghost use Rattle.gr_parse.specs.Machine.{at};

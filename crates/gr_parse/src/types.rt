@@ -1,5 +1,5 @@
 //! Types.
-ghost use Rattle.std.specs.Prelude.{◌≡◌, ◌∷◌, ◌++◌, [], true, IfOk};
+ghost use Rattle.std.specs.Prelude.{◌≡◌, ◌∷◌, [], true, IfOk};
 ghost use Rattle.gr_tree.specs.Grammar.{A, TypeUse, AfterTypeName, One, is, slice_type};
 ghost use Rattle.gr_parse.specs.Parsing.{Parses};
 ghost use Rattle.gr_parse.specs.Spelling.{type_spelled};

@@ -1,5 +1,5 @@
 //! Where the declarations of a workspace without faults stand.
-ghost use Rattle.std.specs.Prelude.{ℕ, ◌≡◌, ◌<◌, ◌↔◌, None, Some, length, map, slice_get, slice_index_or, Contains, IsTrue, IfOk, MatchOption};
+ghost use Rattle.std.specs.Prelude.{◌≡◌, ◌<◌, ◌↔◌, None, Some, length, map, slice_get, slice_index_or, Contains, IsTrue, IfOk, MatchOption};
 ghost use Rattle.std.specs.Option.{option_copied};
 ghost use Rattle.gr_text.specs.Packages.{package_paths};
 ghost use Rattle.gr_tree.specs.SourceFile.{source_of};

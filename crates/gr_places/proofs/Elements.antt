@@ -1,6 +1,6 @@
 -- The elements of literals: where they break a rule, and when they are whole.
 use Rattle.std.proofs.Common.{ℕ, ◌≡◌, Bool, true, false, if◌then◌else◌, ◌⊎◌, inl, inr, List, [], ◌∷◌, Option, Some, None, refl, sym, ap, ◌∙◌, subst, true≢false}
-use Rattle.gr_tree.specs.Tree.{TypeTree, ExprTree, ElementTrees}
+use Rattle.gr_tree.specs.Tree.{ExprTree, ElementTrees}
 use Rattle.gr_tree.specs.Tree as tree
 use Rattle.gr_expr.specs.declared.symbol.Symbol.{Symbol}
 use Rattle.gr_expr.specs.Places.{place_of}

@@ -1,5 +1,5 @@
 //! Where an entry stands in the journal, and a copy of it.
-ghost use Rattle.std.specs.Prelude.{◌≡◌, ◌↔◌, IsTrue, All};
+ghost use Rattle.std.specs.Prelude.{◌↔◌, IsTrue, All};
 ghost use Rattle.gr_pool.specs.Settled.{Stands};
 
 use gr_book::Entry;

@@ -1,5 +1,5 @@
 //! Whether the seats' receipts are the entries that a journal gained.
-ghost use Rattle.std.specs.Prelude.{◌≡◌, ◌↔◌, ◌+◌, ◌<◌, ◌≤◌, ◌^◌, IsTrue, All, Any, AllPairs, SomeIff, map, sum_by, length, vec_len};
+ghost use Rattle.std.specs.Prelude.{◌≡◌, ◌↔◌, ◌+◌, ◌<◌, ◌≤◌, ◌^◌, IsTrue, All, AllPairs, SomeIff, length, vec_len};
 ghost use Rattle.gr_pool.specs.Settled.{Rises, HasIndex, AreApart, Stands, IsSettled, receipt_count};
 
 use crate::opening::Opening;

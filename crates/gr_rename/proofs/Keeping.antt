@@ -1,6 +1,6 @@
 -- The bytes of a file that a rename leaves.
 use Rattle.std.proofs.Common.{◌≡◌, ℕ, ◌+◌, ◌-◌, ◌<◌, ◌≤◌, inr, List, length, drop, Option, Some, None, refl, sym, ap, subst, ◌∙◌}
-use Rattle.std.specs.List.{slice_range, All}
+use Rattle.std.specs.List.{slice_range}
 use Rattle.std.specs.FinMap.{get}
 use Rattle.std.specs.Option.{option_map, MatchOption}
 use Rattle.std.proofs.lemmas.List.Elements.{All-nil, All-contains}

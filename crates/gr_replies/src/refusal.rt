@@ -1,6 +1,5 @@
 //! How a refusal is told: its number, and the body of its reply.
-ghost use Rattle.std.specs.Prelude.{◌≡◌, ◌+◌, ◌≤◌, ◌++◌, ◌∷◌, [], codes, decimal, length};
-ghost use Rattle.arrayvec.specs.ArrayString.{array_string_len};
+ghost use Rattle.std.specs.Prelude.{◌≡◌, ◌+◌, ◌++◌, ◌∷◌, [], decimal};
 ghost use Rattle.gr_text.specs.PlaceText.{place_text};
 ghost use Rattle.gr_replies.specs.Refusals.{code_of, refusal_body};
 

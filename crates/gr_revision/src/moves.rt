@@ -1,11 +1,10 @@
 //! Where edits move places, and how they call identifiers.
-ghost use Rattle.std.specs.Prelude.{ℕ, ◌≡◌, ◌+◌, ◌-◌, ◌<◌, ◌≤◌, ◌↔◌, List, length, None, Some, find, slice_get, unwrap_or, IfOk, IsTrue, MatchOption};
+ghost use Rattle.std.specs.Prelude.{◌≡◌, ◌+◌, ◌-◌, ◌<◌, ◌≤◌, ◌↔◌, List, length, None, Some, find, slice_get, unwrap_or, IfOk, IsTrue, MatchOption};
 ghost use Rattle.gr_edit.specs.EditSet.{change_of};
 ghost use Rattle.gr_edit.specs.Edits.{AreInOrder};
 ghost use Rattle.gr_edit.specs.Fits.{path_after};
 ghost use Rattle.gr_edit.specs.Moved.{moved, moved_offset, edits_by};
 ghost use Rattle.gr_edit.specs.declared.edit.Edit.{Edit as Edited};
-ghost use Rattle.gr_edit.specs.declared.change.FileChange.{FileChange as Changed};
 ghost use Rattle.gr_revision.specs.Ends.{AreEnds, AreEndsOf, IsLastEnd, IsChangeOf};
 ghost use Rattle.gr_revision.specs.FilesMoved.{AreMovesOf, goes_by};
 ghost use Rattle.gr_revision.specs.RevisionsOfEdits.{called_by, replaces_at, text_or};

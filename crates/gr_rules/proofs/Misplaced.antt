@@ -1,6 +1,6 @@
 -- Types, arguments and elements that are faults stand where they break their rules.
 use Rattle.std.proofs.Common.{ℕ, ◌≡◌, Bool, true, false, List, [], ◌∷◌, length, Option, Some, None, refl, sym, ap, ◌∙◌, subst, true≢false, if◌then◌else◌, arith}
-use Rattle.gr_tree.specs.Tree.{TypeTree, ExprTree, ArgumentTrees, ElementTrees}
+use Rattle.gr_tree.specs.Tree.{TypeTree, ArgumentTrees}
 use Rattle.gr_tree.specs.Tree as tree
 use Rattle.gr_expr.specs.Places.{place_of}
 use Rattle.gr_expr.specs.Types.{PlainType, Underlying, Plain, PointerTo, SliceOf, Struct, Kind, Meaning, Value, TypeName, Function, BuiltinName, Package}

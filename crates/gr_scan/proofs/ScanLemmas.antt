@@ -4,10 +4,10 @@ use Rattle.std.proofs.Common.{append_assoc, append-nil}
 use Rattle.std.specs.List.{starts_with}
 use Rattle.gr_scan.specs.declared.piece.Class.{Class}
 use Rattle.gr_scan.specs.declared.piece.Piece.{Piece}
-use Rattle.gr_scan.specs.Cuts.{CutsTo, CutsUpTo, IsCut, IsWellEncoded, mark_of, mark_len, byte_order_mark}
+use Rattle.gr_scan.specs.Cuts.{CutsUpTo, IsWellEncoded, mark_of, mark_len, byte_order_mark}
 use Rattle.gr_scan.specs.CutText.{IsCutText}
 use Rattle.gr_scan.specs.Pieces.{Stands}
-use Rattle.gr_scan.specs.Tokens.{tokens_of, tokens_due, semicolon, line_ends, is_trivia, GoesOn}
+use Rattle.gr_scan.specs.Tokens.{tokens_of, tokens_due, semicolon, GoesOn}
 use Rattle.gr_scan.proofs.CutLemmas.{CutsUpTo-push}
 use Rattle.gr_scan.proofs.TokenLemmas.{end_due, end_plain}
 

@@ -1,5 +1,5 @@
 //! The piece at the front of some bytes.
-ghost use Rattle.std.specs.Prelude.{◌≡◌, ◌⊎◌, ◌<◌, ◌^◌, ◌≤◌, length, take, IsTrue, MatchOption, MatchBool, slice_index, true};
+ghost use Rattle.std.specs.Prelude.{◌≡◌, ◌<◌, length, MatchBool, slice_index, true};
 ghost use Rattle.std.specs.Char.{is_digit};
 ghost use Rattle.bstr.specs.Find.{OccursAt};
 ghost use Rattle.bstr.specs.Utf8.{decoded};

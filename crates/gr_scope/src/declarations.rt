@@ -1,6 +1,5 @@
 //! The identifiers of a file's declarations.
 ghost use Rattle.std.specs.Prelude.{◌≡◌, OnOk};
-ghost use Rattle.std.specs.List.{flat_map};
 ghost use Rattle.gr_scope.specs.ExpressionSites.{sites_if, list_sites};
 ghost use Rattle.gr_scope.specs.FileSites.{global_name, member_name, spec_sites, global_sites, field_sites, body_sites, type_spec_sites, receiver_sites, param_sites, result_sites, func_role, func_sites, import_name, import_purpose, import_sites, imports_sites, decl_sites, file_sites};
 ghost use Rattle.gr_scope.specs.Found.{source_of, Adds};

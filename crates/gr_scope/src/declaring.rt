@@ -1,5 +1,5 @@
 //! Which identifiers of a package declare, found once for each, in their order.
-ghost use Rattle.std.specs.Prelude.{ℕ, ◌≡◌, ◌≤◌, ◌<◌, ◌+◌, ◌↔◌, length, IsTrue, IfOk, OnOk};
+ghost use Rattle.std.specs.Prelude.{◌≡◌, ◌<◌, ◌+◌, ◌↔◌, length, IsTrue, IfOk, OnOk};
 ghost use Rattle.std.specs.Option.{ForSome};
 ghost use Rattle.gr_scope.specs.Bindings.{Declares, MayDeclare};
 ghost use Rattle.gr_scope.specs.Chains.{AreLinks};

@@ -1,5 +1,5 @@
 //! The identifiers of types and expressions.
-ghost use Rattle.std.specs.Prelude.{◌≡◌, OnOk};
+ghost use Rattle.std.specs.Prelude.{OnOk};
 ghost use Rattle.gr_scope.specs.ExpressionSites.{type_sites, expr_sites, link_sites, literal_sites};
 ghost use Rattle.gr_scope.specs.Found.{source_of, Adds};
 ghost use Rattle.gr_tree.specs.View.{type_view, expr_view, link_view, literal_view};

@@ -1,6 +1,6 @@
 //! The laws of scopes.
 
-ghost use Rattle.std.specs.Prelude.{ℕ, List, Option, ◌≡◌, ◌<◌, ◌↔◌, ◌⊎◌};
+ghost use Rattle.std.specs.Prelude.{ℕ, List, Option, ◌≡◌, ◌↔◌, ◌⊎◌};
 ghost use Rattle.gr_scope.specs.declared.model.Position.{Position};
 ghost use Rattle.gr_scope.specs.declared.model.Block.TheVariants.{File, Inner};
 ghost use Rattle.gr_scope.specs.Scopes.{Holds, IsInside};

@@ -1,7 +1,7 @@
 //! Which identifiers of a package are the first to declare one name in their blocks, by the name's number and region.
 ghost use Rattle.std.specs.Prelude.{ℕ, ◌≡◌, ◌≤◌, ◌<◌, ◌+◌, ◌↔◌, length, IsTrue, MatchOption, OnOk};
 ghost use Rattle.gr_scope.specs.Bindings.{Layout, Names};
-ghost use Rattle.gr_scope.specs.Chains.{AreLinks, IsChain, IsKeyed, StaysOpen};
+ghost use Rattle.gr_scope.specs.Chains.{AreLinks, IsChain, StaysOpen};
 ghost use Rattle.gr_scope.specs.Leading.{Leads, LeadsIn};
 ghost use Rattle.gr_scope.specs.declared.model.Block.TheVariants.{Package};
 ghost use Rattle.gr_scope.specs.Regions.{key_of, keys_of};

@@ -1,8 +1,7 @@
 //! The table in which an import without a name declares the name of the package that it imports.
-ghost use Rattle.std.specs.Prelude.{◌≡◌, ◌<◌, ◌∷◌, [], length, map, slice_get, OnOk, IfOk};
-ghost use Rattle.gr_scope.specs.Found.{Adds, site_of};
+ghost use Rattle.std.specs.Prelude.{◌≡◌, ◌<◌, map, IfOk};
+ghost use Rattle.gr_scope.specs.Found.{site_of};
 ghost use Rattle.gr_scope.specs.Named.{is_unnamed_import, name_value, name_given, named, named_site, named_sites};
-ghost use Rattle.gr_scope.specs.Site.{found_site};
 
 use crate::identifiers::Identifiers;
 use crate::known::known_of;

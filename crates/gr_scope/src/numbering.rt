@@ -1,7 +1,7 @@
 //! Numbers that stand for the names of identifiers: found once for each, so that no look-up after that goes over the bytes of
 //! a name.
-ghost use Rattle.std.specs.Prelude.{ℕ, true, ◌≡◌, ◌<◌, ◌+◌, ◌↔◌, length, slice_index_or, IsTrue, IfOk, OnOk};
-ghost use Rattle.gr_scope.specs.Numbering.{is_lexical, number_at, AreFirsts, AreInner, HasName, IsLexical, Marks, MayBeMarked, TellApart};
+ghost use Rattle.std.specs.Prelude.{true, ◌≡◌, ◌<◌, ◌+◌, length, slice_index_or, IfOk, OnOk};
+ghost use Rattle.gr_scope.specs.Numbering.{is_lexical, number_at, AreFirsts, AreInner, HasName, IsLexical, Marks, TellApart};
 ghost use Rattle.gr_scope.specs.Table.{layout_of, names_of, IsFirstOf};
 
 use crate::model::{Block, Identifier, Role};

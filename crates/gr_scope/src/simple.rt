@@ -1,5 +1,5 @@
 //! The identifiers of simple statements and of declarations of local variables.
-ghost use Rattle.std.specs.Prelude.{◌≡◌, OnOk};
+ghost use Rattle.std.specs.Prelude.{OnOk};
 ghost use Rattle.gr_scope.specs.ExpressionSites.{sites_if, list_sites, type_sites, expr_sites, exprs_sites};
 ghost use Rattle.gr_scope.specs.StatementSites.{ident_sites, left_sites, assigned_sites, simple_sites, value_sites, local_sites, group_sites, init_sites, for_sites};
 ghost use Rattle.gr_scope.specs.Found.{source_of, Adds};

@@ -1,5 +1,5 @@
 //! The identifiers of statements and blocks.
-ghost use Rattle.std.specs.Prelude.{◌≡◌, OnOk};
+ghost use Rattle.std.specs.Prelude.{OnOk};
 ghost use Rattle.gr_scope.specs.StatementSites.{statement_sites, block_sites, if_sites, else_sites};
 ghost use Rattle.gr_scope.specs.Found.{source_of, Adds};
 ghost use Rattle.gr_tree.specs.FileView.{stmt_view, block_view, if_view, else_view};

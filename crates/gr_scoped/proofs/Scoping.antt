@@ -11,13 +11,13 @@ use Rattle.gr_text.specs.Workspace.{Workspace}
 use Rattle.gr_tree.specs.SourceFile.{FileParts, source_of}
 use Rattle.gr_graph.specs.FaultyFiles.{FaultyParts}
 use Rattle.gr_graph.specs.Parsed.{AreParsed}
-use Rattle.gr_scope.specs.Scoped.{ScopedPackage, scoped}
+use Rattle.gr_scope.specs.Scoped.{scoped}
 use Rattle.gr_imports.specs.PackageNames.{IsLaidOver}
 use Rattle.gr_meanings.proofs.BoundLists.{pushed_at}
 use Rattle.gr_declared.proofs.Paths.{get_before}
 use Rattle.gr_scoped.specs.declared.scopes.PackageScopes.{PackageScopes}
-use Rattle.gr_scoped.specs.ScopedPackages.{IsScopedIn, AreClauseNames}
-use Rattle.gr_scoped.specs.Scopes.{package_scoped, AreScopesOf, AreScopesNamed, AreScopes, IsNotScoped, MayBeScopes, AreScopesBelow}
+use Rattle.gr_scoped.specs.ScopedPackages.{AreClauseNames}
+use Rattle.gr_scoped.specs.Scopes.{AreScopesNamed, AreScopes, IsNotScoped, MayBeScopes, AreScopesBelow}
 use Rattle.gr_scoped.proofs.ClauseNames.{none_faulty}
 
 -- a file has no tree

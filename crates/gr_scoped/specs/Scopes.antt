@@ -1,5 +1,5 @@
 -- The scopes of the packages of a workspace, as they are found.
-use Rattle.std.specs.Prelude.{ℕ, ◌≡◌, List, [], Option, Some, None, Contains, length, map, slice_get, MatchOption}
+use Rattle.std.specs.Prelude.{ℕ, ◌≡◌, List, [], Option, Some, length, map, slice_get, MatchOption}
 use Rattle.gr_text.specs.Packages.{package_paths, package_files}
 use Rattle.gr_text.specs.Workspace.{Workspace}
 use Rattle.gr_tree.specs.SourceFile.{FileParts, source_of}

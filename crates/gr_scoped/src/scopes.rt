@@ -1,5 +1,5 @@
 //! The scopes of the packages of a workspace, by the packages' numbers.
-ghost use Rattle.std.specs.Prelude.{ℕ, ◌≡◌, ◌<◌, List, [], None, length, map, IfOk, MatchOption};
+ghost use Rattle.std.specs.Prelude.{◌<◌, None, length, map, IfOk, MatchOption};
 ghost use Rattle.gr_text.specs.Packages.{package_paths};
 ghost use Rattle.gr_graph.specs.Graphs.{OfPackage};
 ghost use Rattle.gr_tree.specs.SourceFile.{source_of};

@@ -2,17 +2,14 @@
 use Rattle.std.proofs.Common.{ℕ, ◌≡◌, ◌<◌, ◌≤◌, inl, inr, true, false, List, [], ◌∷◌, map, ap, sym, subst, refl, ◌∙◌, arith}
 use Rattle.std.specs.Prelude.{Some, slice_get, option_map}
 use Rattle.std.specs.List.{AllByRecursion}
-use Rattle.std.proofs.lemmas.Bool.{true≢false}
 use Rattle.std.proofs.lemmas.Option.{same_Some, slice_get-map}
 use Rattle.gr_text.specs.Workspace.{Workspace}
 use Rattle.gr_tree.specs.SourceFile.{SourceFile, source_of, spelling_of}
 use Rattle.gr_tree.specs.Flatten.{flatten}
 use Rattle.gr_tree.specs.Tree.{FuncTree, FuncDecl}
 use Rattle.gr_scope.specs.declared.model.Block.TheVariants.{Universe, File, Inner}
-use Rattle.gr_scope.specs.declared.model.Block.TheVariants.{Package as PackageBlock}
 use Rattle.gr_scope.specs.declared.model.Position.{Position}
 use Rattle.gr_scope.specs.declared.model.Role.{Role}
-use Rattle.gr_scope.specs.declared.model.Role.TheVariants.{Use, Declaring, LeftName, Implied, NotLexical}
 use Rattle.gr_scope.specs.Bindings.{MayDeclare, Counts, IsBoundTo, use_bound, own, block_of, start_of, may_declare, is_implied}
 use Rattle.gr_scope.specs.FileSites.{SpelledFile, file_sites, files_sites, universe, package_sites, func_sites}
 use Rattle.gr_scope.specs.Parsed.{spelled_file}

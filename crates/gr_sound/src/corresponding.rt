@@ -1,5 +1,5 @@
 //! Whether a declaration has become another.
-ghost use Rattle.std.specs.Prelude.{ℕ, ◌≡◌, ◌↔◌, IsTrue, IfOk};
+ghost use Rattle.std.specs.Prelude.{◌≡◌, ◌↔◌, IsTrue, IfOk};
 ghost use Rattle.gr_edit.specs.Moved.{moved};
 ghost use Rattle.gr_bound.specs.declared.declaration.Declaration.TheVariants.{Declared, Field, Method};
 ghost use Rattle.gr_sound.specs.Held.{IsHeld};

@@ -1,23 +1,16 @@
 -- The faults of names behind a package's, from their parts.
-use Rattle.std.proofs.Common.{ℕ, suc, ◌≡◌, ◌<◌, List, length, get_or, map, Bool, Option, Some, None, ap, sym, ◌∙◌, subst, arith, MatchOption}
-use Rattle.std.specs.Prelude.{slice_get, Result, OnOk}
-use Rattle.std.specs.Option.{option_map}
-use Rattle.std.specs.declared.vec.Vec.{Vec}
-use Rattle.std.specs.declared.alloc.Global.{Global}
-use Rattle.std.proofs.lemmas.List.{length-map}
-use Rattle.std.proofs.lemmas.Option.{slice_get-map, slice_get-get_or, slice_get_within}
+use Rattle.std.proofs.Common.{ℕ, suc, ◌≡◌, List, Bool, Option, ap, sym, ◌∙◌, subst, arith}
+use Rattle.std.specs.Prelude.{Result, OnOk}
 use Rattle.gr_text.specs.declared.fault_kind.FaultKind.{FaultKind}
-use Rattle.gr_scan.specs.Cuts.{bytes_of}
-use Rattle.gr_scan.specs.CutText.{token_at}
 use Rattle.gr_scan.specs.StringValues.{HasStringValue}
 use Rattle.gr_fault.specs.declared.fault.Fault.{Fault}
 use Rattle.gr_fault.specs.Listing.{Adds}
 use Rattle.gr_fault.proofs.Listings.{adds_none, call_adds}
-use Rattle.gr_tree.specs.SourceFile.{FileParts, SourceFile, source_of}
+use Rattle.gr_tree.specs.SourceFile.{SourceFile}
 use Rattle.gr_scope.specs.Bindings.{IsBoundTo}
 use Rattle.gr_imports.proofs.PathParts.{one_path}
 use Rattle.gr_stages.specs.Scoping.{IsUnknown, qualified_fault}
-use Rattle.gr_imports.specs.Laid.{Laid, literal_of, IsPathOf, is_exported}
+use Rattle.gr_imports.specs.Laid.{Laid, IsPathOf, is_exported}
 use Rattle.gr_stages.specs.Unknown.{IsFaultOfKind, IsUnknownOf, IsQualifiedBy}
 
 -- the fault of a name of the package of a path

@@ -1,5 +1,5 @@
 //! The faults of package clauses.
-ghost use Rattle.std.specs.Prelude.{ℕ, List, ◌≡◌, ◌↔◌, IsTrue, OnOk, map};
+ghost use Rattle.std.specs.Prelude.{◌≡◌, ◌↔◌, IsTrue, OnOk, map};
 ghost use Rattle.gr_fault.specs.Listing.{Adds};
 ghost use Rattle.gr_tree.specs.SourceFile.{source_of};
 ghost use Rattle.gr_imports.specs.Files.{clause_name};

@@ -1,5 +1,5 @@
 //! The faults of imports.
-ghost use Rattle.std.specs.Prelude.{ℕ, List, ◌≡◌, OnOk, map};
+ghost use Rattle.std.specs.Prelude.{OnOk, map};
 ghost use Rattle.gr_fault.specs.Listing.{Adds, AddsEach};
 ghost use Rattle.gr_tree.specs.FileView.{import_view, imports_view};
 ghost use Rattle.gr_tree.specs.SourceFile.{source_of};

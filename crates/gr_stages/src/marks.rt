@@ -1,6 +1,6 @@
 //! The faults of statements that need no types: a `:=` that declares nothing, and a `break` or `continue` outside of a
 //! `for`.
-ghost use Rattle.std.specs.Prelude.{ℕ, ◌≡◌, ◌↔◌, ◌∷◌, [], IsTrue, OnOk, map};
+ghost use Rattle.std.specs.Prelude.{◌↔◌, ◌∷◌, [], IsTrue, OnOk, map};
 ghost use Rattle.gr_fault.specs.Listing.{Adds, AddsEach};
 ghost use Rattle.gr_tree.specs.View.{expr_view, exprs_view, option_view};
 ghost use Rattle.gr_tree.specs.FileView.{simple_view, init_view, for_view, stmt_view, block_view, if_view, else_view, decl_view};

@@ -1,5 +1,5 @@
 //! The faults of scopes that a package's identifiers tell.
-ghost use Rattle.std.specs.Prelude.{ℕ, ◌≡◌, ◌<◌, ◌↔◌, IsTrue, OnOk};
+ghost use Rattle.std.specs.Prelude.{◌<◌, ◌↔◌, IsTrue, OnOk};
 ghost use Rattle.gr_fault.specs.Listing.{Adds};
 ghost use Rattle.gr_scope.specs.Bindings.{IsImport};
 ghost use Rattle.gr_stages.specs.Scoping.{AreUsed, IsUsedBelow, IsUndeclared, IsRepeated, IsUnused, IsFaultOfIdentifier, IsScopeFault};

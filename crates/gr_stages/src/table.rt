@@ -1,5 +1,5 @@
 //! What a table says of an identifier, by its number.
-ghost use Rattle.std.specs.Prelude.{ℕ, ◌≡◌, ◌<◌, ◌↔◌, ◌⊎◌, IsTrue, MatchOption};
+ghost use Rattle.std.specs.Prelude.{ℕ, ◌≡◌, ◌<◌, ◌↔◌, IsTrue, MatchOption};
 ghost use Rattle.gr_scope.specs.Bindings.{IsUse, IsBoundTo, IsPackageLevel, Declares, Counts};
 ghost use Rattle.gr_stages.specs.Scoping.{fault_at, IsRepetition};
 ghost use Rattle.gr_imports.specs.Laid.{laid_in, init_name};

@@ -1,5 +1,5 @@
 //! The faults of names behind a package's: not exported, or not declared there.
-ghost use Rattle.std.specs.Prelude.{ℕ, List, ◌≡◌, ◌<◌, ◌↔◌, suc, IsTrue, OnOk, MatchOption, map};
+ghost use Rattle.std.specs.Prelude.{ℕ, ◌≡◌, ◌<◌, ◌↔◌, IsTrue, OnOk, MatchOption, map};
 ghost use Rattle.gr_fault.specs.Listing.{Adds};
 ghost use Rattle.gr_tree.specs.SourceFile.{source_of};
 ghost use Rattle.gr_scope.specs.declared.model.Role.TheVariants.{NotLexical};

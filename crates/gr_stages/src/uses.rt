@@ -1,5 +1,5 @@
 //! Which identifiers of a table are used.
-ghost use Rattle.std.specs.Prelude.{ℕ, ◌≡◌, ◌<◌, true, length, slice_set, IfOk, MatchOption};
+ghost use Rattle.std.specs.Prelude.{ℕ, ◌≡◌, ◌<◌, true, slice_set, IfOk, MatchOption};
 ghost use Rattle.gr_scope.specs.Bindings.{IsUse, IsBoundTo};
 ghost use Rattle.gr_stages.specs.Scoping.{AreUsed};
 ghost use Rattle.gr_imports.specs.Laid.{laid_in};

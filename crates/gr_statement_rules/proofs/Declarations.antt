@@ -1,6 +1,6 @@
 -- Declarations of a package, and files: no fault is found in what is typed, and what has no fault is typed or excused.
 use Rattle.std.proofs.Common.{ℕ, ◌≡◌, ◌==◌, Bool, ◌⊎◌, inl, inr, List, [], ◌∷◌, ◌++◌, map, length, Option, Some, None, refl, sym, ap, ◌∙◌, suc, eqb-true}
-use Rattle.gr_tree.specs.Tree.{Item, Group, BasicTree, Integer, String, GlobalTree, FieldTree, BodyTree, TypeSpecTree, DeclTree, FileTree}
+use Rattle.gr_tree.specs.Tree.{Item, BasicTree, Integer, String, GlobalTree, FieldTree, BodyTree, TypeSpecTree, DeclTree, FileTree}
 use Rattle.gr_tree.specs.Tree as tree
 use Rattle.gr_expr.specs.declared.types.Basic.TheVariants as basic
 use Rattle.gr_expr.specs.Types.{PlainType, Kind, Untyped}

@@ -1,7 +1,7 @@
 -- Small statements that keep the typing rules, and some that do not.
 use Rattle.std.proofs.Common.{◌==◌, if◌then◌else◌, [], ◌∷◌, Some, None, refl}
 use Rattle.gr_tree.specs.declared.syntax.StepOp.TheVariants as step
-use Rattle.gr_tree.specs.Tree.{Item, ExprTree, SimpleTree, StatementTree, BlockTree}
+use Rattle.gr_tree.specs.Tree.{Item, ExprTree, SimpleTree}
 use Rattle.gr_tree.specs.Tree as tree
 use Rattle.gr_expr.specs.declared.types.Basic.TheVariants as basic
 use Rattle.gr_expr.specs.Types.{PlainType, BasicType, Struct, Nil, Broken}

@@ -6,8 +6,8 @@ use Rattle.gr_expr.specs.Types.{PlainType, BasicType, Kind, Typed, Untyped, Nil}
 use Rattle.gr_expr.specs.World.{World, Locals, declared}
 use Rattle.gr_expr.specs.Judge.{Argued, all_whole}
 use Rattle.gr_stmt.specs.Checked.{fault_if}
-use Rattle.gr_stmt.specs.Sides.{Target, Wants, is_sound, all_sound, nil_refused, refused, all_refused, given_to, default_type, taken_type, taken_types}
-use Rattle.gr_stmt.specs.Sides.{taken, with_locals, with_taken, declared_if, head_or_none, tail_of}
+use Rattle.gr_stmt.specs.Sides.{Target, Wants, all_sound, nil_refused, refused, all_refused, given_to, default_type, taken_type, taken_types}
+use Rattle.gr_stmt.specs.Sides.{taken, with_locals, with_taken}
 use Rattle.gr_stmt.specs.Sides.{all_named, named as named_of}
 use Rattle.gr_stmt.specs.Sides as sides
 use Rattle.gr_stmt.specs.Simple.{written_locals}

@@ -5,7 +5,7 @@ use Rattle.gr_expr.specs.Types.{PlainType}
 use Rattle.gr_expr.specs.World.{World, Locals}
 use Rattle.gr_expr.specs.Judge.{TypeJudged, judge_type, good_type}
 use Rattle.gr_stmt.specs.Checked.{Checked, reaching}
-use Rattle.gr_stmt.specs.Sides.{Target, Wants, rights, all_named, first_of_idents, with_taken, with_locals}
+use Rattle.gr_stmt.specs.Sides.{Wants, rights, all_named, first_of_idents, with_taken}
 use Rattle.gr_stmt.specs.Sides as sides
 use Rattle.gr_stmt.specs.Simple.{check_local, check_local_of, check_written, check_unwritten, written_locals, written_targets, name_targets}
 use Rattle.gr_rules.specs.Names.{IsType}

@@ -5,7 +5,7 @@ use Rattle.gr_tree.specs.declared.syntax.BinaryOp.TheVariants as binary
 use Rattle.gr_tree.specs.declared.syntax.StepOp.{StepOp}
 use Rattle.gr_tree.specs.declared.syntax.UpdateOp.{UpdateOp}
 use Rattle.gr_tree.specs.declared.syntax.UpdateOp.TheVariants as update
-use Rattle.gr_tree.specs.Tree.{Item, IdentTree, TypeTree, ExprTree, LinkTrees, ArgumentTrees, SimpleTree, LocalTree}
+use Rattle.gr_tree.specs.Tree.{Item, TypeTree, ExprTree, LinkTrees, ArgumentTrees, SimpleTree, LocalTree}
 use Rattle.gr_tree.specs.Tree as tree
 use Rattle.gr_expr.specs.declared.types.Basic.TheVariants as basic
 use Rattle.gr_expr.specs.declared.types.Builtin.TheVariants as builtin

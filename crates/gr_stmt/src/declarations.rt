@@ -1,7 +1,7 @@
 //! Package-level declarations of variables and types.
 ghost use Rattle.std.specs.Prelude.{◌≡◌, IfOk, OnOk, map, option_map};
-ghost use Rattle.gr_tree.specs.View.{list_view, option_view, group_view};
-ghost use Rattle.gr_tree.specs.FileView.{same_place, basic_view, var_values_view, global_view, field_view, body_view, type_spec_view};
+ghost use Rattle.gr_tree.specs.View.{list_view, group_view};
+ghost use Rattle.gr_tree.specs.FileView.{same_place, basic_view, global_view, field_view, body_view, type_spec_view};
 ghost use Rattle.gr_expr.specs.View.{type_of};
 ghost use Rattle.gr_expr.specs.WorldView.{world_of};
 ghost use Rattle.gr_expr.specs.Found.{argued_of};

@@ -2,7 +2,7 @@
 ghost use Rattle.std.specs.Prelude.{◌≡◌, ◌∷◌, [], IfOk, OnOk, map, option_map};
 ghost use Rattle.std.specs.List.{list_all};
 ghost use Rattle.gr_tree.specs.View.{expr_view, exprs_view};
-ghost use Rattle.gr_expr.specs.Judge.{judge, as_value, value_kind};
+ghost use Rattle.gr_expr.specs.Judge.{judge, as_value};
 ghost use Rattle.gr_expr.specs.Places.{place_of};
 ghost use Rattle.gr_expr.specs.View.{type_of, kind_of};
 ghost use Rattle.gr_expr.specs.WorldView.{world_of};

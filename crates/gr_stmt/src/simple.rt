@@ -2,10 +2,9 @@
 ghost use Rattle.std.specs.Prelude.{◌≡◌, IfOk, OnOk, map, option_map};
 ghost use Rattle.gr_tree.specs.View.{expr_view, exprs_view, option_view, list_view, ident_view, type_view};
 ghost use Rattle.gr_tree.specs.FileView.{simple_view, local_view, values_view};
-ghost use Rattle.gr_expr.specs.Judge.{value_kind, judge_type};
+ghost use Rattle.gr_expr.specs.Judge.{judge_type};
 ghost use Rattle.gr_expr.specs.View.{kind_of, type_of};
 ghost use Rattle.gr_expr.specs.WorldView.{world_of};
-ghost use Rattle.gr_expr.specs.Found.{meaning_of};
 ghost use Rattle.gr_stmt.specs.Simple.{condition_faults, check_condition, step_faults, check_step, update_faults, binary_of, check_update, check_assign, check_define, check_simple, check_written, check_unwritten, check_local};
 ghost use Rattle.gr_stmt.specs.View.{checked_of, target_of, Notes};
 ghost use Rattle.gr_stmt.specs.Sides.{Takes, Wants};

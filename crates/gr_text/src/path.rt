@@ -1,11 +1,11 @@
 //! Paths of files and packages.
-ghost use Rattle.std.specs.Prelude.{◌≡◌, ◌==◌, ℕ, List, IfOk, IsTrue, ◌↔◌, ◌≤◌, length};
+ghost use Rattle.std.specs.Prelude.{◌≡◌, ◌==◌, ℕ, List, IsTrue, ◌↔◌, ◌≤◌, length};
 ghost use Rattle.std.specs.List.{list_all};
 ghost use Rattle.gr_text.specs.Path.{is_path_byte, is_dots, is_segment, segments, IsPath, folder};
 ghost use Rattle.gr_text.specs.Packages.{is_go};
 ghost use Rattle.gr_text.specs.PathRead.{ReadsPath};
 ghost use Rattle.std.proofs.Common.{rules};
-ghost use Rattle.std.specs.Cmp.{partial_order_from_own_ties, partial_equiv_from_equiv};
+ghost use Rattle.std.specs.Cmp.{partial_order_from_own_ties};
 ghost use Rattle.std.specs.Cmp.Rules.{comparing};
 ghost use Rattle.std.specs.Cmp.Lexicographic.{pointwise, slice_cmp};
 ghost use Rattle.std.specs.Ordering.{nat_cmp, as_partial_cmp};

@@ -1,6 +1,5 @@
 //! A file with its path, its cut and its tree, shared by everyone who holds it.
 ghost use Rattle.std.specs.Prelude.{◌≡◌, ◌<◌, length, IfOk};
-ghost use Rattle.gr_scan.specs.CutText.{tokens_in};
 ghost use Rattle.gr_tree.specs.FileView.{file_view};
 ghost use Rattle.gr_tree.specs.SourceFile.{IsSourceFile, source_of, spelling_of, offset_of};
 

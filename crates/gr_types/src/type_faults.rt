@@ -1,5 +1,5 @@
 //! The faults of types of a package, and the member uses of its files.
-ghost use Rattle.std.specs.Prelude.{◌≡◌, ◌<◌, ◌∷◌, ◌++◌, [], length, map, IfOk, OnOk};
+ghost use Rattle.std.specs.Prelude.{◌<◌, length, map, IfOk, OnOk};
 ghost use Rattle.std.specs.List.Sorted.{IsStrictlySortedBy};
 ghost use Rattle.gr_fault.specs.contracts.fault.FaultOrd.TheImpl as order;
 ghost use Rattle.gr_fault.specs.Listing.{Adds, Lists};

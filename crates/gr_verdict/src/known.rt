@@ -1,6 +1,6 @@
 //! What is known of packages: what is found in some of them, with the verdicts on these, and what was known of all before the
 //! workspace changed.
-ghost use Rattle.std.specs.Prelude.{ℕ, ◌≡◌, ◌↔◌, ◌++◌, [], ◌∷◌, IfOk, IfSome, IsTrue, MatchOption, None, OnOk, Some, slice_get};
+ghost use Rattle.std.specs.Prelude.{◌≡◌, ◌++◌, [], ◌∷◌, IfOk, IfSome, MatchOption, None, OnOk, Some, slice_get};
 ghost use Rattle.gr_text.specs.Workspace.{Workspace};
 ghost use Rattle.gr_declared.specs.InterfacesView.{interface_in, name_in};
 ghost use Rattle.gr_verdict.specs.Earlier.{HaveSameImports};

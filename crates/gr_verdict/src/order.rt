@@ -1,5 +1,5 @@
 //! An order of all packages, in which each comes behind those that it builds on.
-ghost use Rattle.std.specs.Prelude.{ℕ, ◌≡◌, length, slice_index_or, IfOk};
+ghost use Rattle.std.specs.Prelude.{◌≡◌, length, slice_index_or, IfOk};
 ghost use Rattle.gr_text.specs.Packages.{package_paths};
 ghost use Rattle.gr_graph.specs.Imports.{HoldsBelow};
 ghost use Rattle.gr_verdict.specs.Steps.{AreSizes, IsBuildOrder};

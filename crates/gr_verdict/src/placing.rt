@@ -1,5 +1,5 @@
 //! The places of faults.
-ghost use Rattle.std.specs.Prelude.{◌≡◌, ◌↔◌, map, Contains, IfOk, OnOk};
+ghost use Rattle.std.specs.Prelude.{◌≡◌, ◌↔◌, Contains, IfOk, OnOk};
 ghost use Rattle.gr_verdict.specs.Steps.{IsPlacedOf, AddsPlaced, unread_faults};
 
 use crate::fault::FileFault;

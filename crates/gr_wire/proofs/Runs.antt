@@ -25,7 +25,7 @@ use Rattle.gr_desk.specs.Work.{Works, AfterTake, AfterDelivery, Builds, Delivers
 use Rattle.gr_line.specs.declared.message.Message.{Message}
 use Rattle.gr_line.specs.declared.message.Message.TheVariants.{Ask, Unknown, CutShort}
 use Rattle.gr_wire.specs.Answers.{Answered, AnswersAll}
-use Rattle.gr_wire.specs.Transcript.{Exchange, BreaksOff}
+use Rattle.gr_wire.specs.Transcript.{BreaksOff}
 use Rattle.gr_wire.specs.Laws.{Notes, RunsTheMachine, RunsUntilCutOff}
 
 abbrev Events : Type 0

@@ -10,7 +10,7 @@ use Rattle.gr_scope.specs.declared.model.Purpose.TheVariants as purpose
 use Rattle.gr_scope.specs.declared.model.Role.{Role}
 use Rattle.gr_scope.specs.declared.model.Role.TheVariants.{Use, Declaring, LeftName, Implied, NotLexical}
 use Rattle.gr_scope.specs.Bindings as scopes
-use Rattle.gr_scope.specs.Bindings.{MayDeclare, Declares, may_declare, is_use, is_left_name, own}
+use Rattle.gr_scope.specs.Bindings.{MayDeclare, may_declare, is_use, is_left_name, own}
 use Rattle.gr_scope.specs.FileSites.{universe}
 use Rattle.gr_scope.specs.WellFormed.{WellFormed}
 use Rattle.gr_expr.specs.Judge.{MemberUse}

@@ -1,5 +1,5 @@
 -- A package that is unfinished waits where no Job of it is out, and one that is finished does not.
-use Rattle.std.proofs.Common.{◌≡◌, ℕ, not, List, Some, slice_get, sym, ap, subst, ◌∙◌}
+use Rattle.std.proofs.Common.{◌≡◌, not, Some, slice_get, sym, ap, subst, ◌∙◌}
 use Rattle.std.proofs.lemmas.Bool.{false≢true}
 use Rattle.gr_text.specs.Packages.{package_paths}
 use Rattle.gr_compile.specs.declared.unit.Unit.{Unit as PackageUnit}

@@ -1,5 +1,4 @@
 -- The answers to the goals of `first::are_behind`.
-use Rattle.std.specs.Prelude.{Some}
 use Rattle.gr_conflict.proofs.first.are_behind.Goals as goal
 
 pub returns-in-Some : goal.returns-in-Some

@@ -4,7 +4,7 @@ use Rattle.std.specs.Prelude.{◌↔◌, Contains, Option, Some, None}
 use Rattle.std.specs.Option.{option_copied}
 use Rattle.gr_text.specs.declared.place.Place.{Place}
 use Rattle.gr_placed.specs.Identified.{IsIdentifierAt}
-use Rattle.gr_sound.specs.Sound.{SoundView, view_of}
+use Rattle.gr_sound.specs.Sound.{SoundView}
 use Rattle.gr_conflict.specs.Firsts.{IsFirstPlace}
 use Rattle.gr_change_places.specs.Read.{workspace_of, verdicts_of}
 use Rattle.gr_conflict.proofs.Firsts.{first_as}

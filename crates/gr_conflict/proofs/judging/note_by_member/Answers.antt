@@ -1,5 +1,5 @@
 -- The answers to the goals of `judging::note_by_member`.
-use Rattle.std.proofs.Common.{◌≡◌, List, ℕ, subst}
+use Rattle.std.proofs.Common.{◌≡◌, subst}
 use Rattle.std.specs.Prelude.{Some}
 use Rattle.std.proofs.lemmas.Result.{on_ok_weaker}
 use Rattle.gr_expr.specs.View.{type_of}

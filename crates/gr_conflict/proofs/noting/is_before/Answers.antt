@@ -1,5 +1,5 @@
 -- The answers to the goals of `noting::is_before`.
-use Rattle.std.proofs.Common.{sym, ap, ◌∙◌}
+use Rattle.std.proofs.Common.{ap, ◌∙◌}
 use Rattle.std.specs.Ordering.{is_lt}
 use Rattle.gr_conflict.proofs.Taking.{ahead_of_none, ahead_of_some}
 use Rattle.gr_conflict.proofs.noting.is_before.Goals as goal

@@ -1,5 +1,5 @@
 -- The answers to the goals of `now::exported_in`.
-use Rattle.std.proofs.Common.{sym, refl, ◌∙◌}
+use Rattle.std.proofs.Common.{sym, ◌∙◌}
 use Rattle.gr_bound.specs.Exports.{number_named}
 use Rattle.gr_scoped.specs.Scopes.{package_scoped}
 use Rattle.gr_conflict.proofs.Nowadays.{export_none, export_some}

@@ -1,6 +1,5 @@
 -- The answers to the goals of `now::goes_to`.
-use Rattle.std.proofs.Common.{◌≡◌, ◌∙◌, List, ℕ, ap, sym}
-use Rattle.std.specs.Prelude.{unwrap_or}
+use Rattle.std.proofs.Common.{◌∙◌, List, ℕ, ap, sym}
 use Rattle.gr_text.specs.Path.{folder}
 use Rattle.gr_edit.specs.Moved.{moved}
 use Rattle.gr_conflict.specs.Judging.{workspace_in, change_in}

@@ -1,5 +1,5 @@
 -- The answers to the goals of `standing::standing_in`.
-use Rattle.std.proofs.Common.{◌≡◌, ◌<◌, arith}
+use Rattle.std.proofs.Common.{◌<◌, arith}
 use Rattle.std.proofs.lemmas.Result.{IfOk-weaker}
 use Rattle.gr_bound.specs.declared.declaration.Declaration.TheVariants.{Declared}
 use Rattle.gr_bound.specs.Binding.{IsPredeclared}

@@ -1,5 +1,5 @@
 -- The answers to the goals of `file_edits::edits_of`.
-use Rattle.std.proofs.Common.{◌≡◌, length, sym, ap, subst, ◌∙◌, arith, get_or}
+use Rattle.std.proofs.Common.{length, sym, ap, subst, ◌∙◌, arith, get_or}
 use Rattle.gr_scan.specs.declared.piece.Class.TheVariants.{ByteOrderMark}
 use Rattle.gr_scan.specs.declared.piece.Piece.{Piece}
 use Rattle.gr_scan.specs.CutText.{CutText, tokens_in}

@@ -1,5 +1,5 @@
 -- The answers to the goals of `file_edits::is_among`.
-use Rattle.std.proofs.Common.{rules, refl, sym}
+use Rattle.std.proofs.Common.{rules, refl}
 use Rattle.std.proofs.lemmas.Bool.{false≢true}
 use Rattle.std.proofs.lemmas.Fn.{always_returns_same}
 use Rattle.gr_file_renaming.proofs.Searching.{compared, found_is, none_is}

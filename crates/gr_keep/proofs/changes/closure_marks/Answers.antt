@@ -1,5 +1,5 @@
 -- The packages that reach those of the folders.
-use Rattle.std.proofs.Common.{Bool, List, sym, subst, ◌∙◌, ap, length}
+use Rattle.std.proofs.Common.{Bool, List, subst, ◌∙◌, ap, length}
 use Rattle.std.proofs.lemmas.Result.{IfOk-weaker}
 use Rattle.gr_graph.specs.Filling.{names}
 use Rattle.gr_graph.specs.Reaching.{MarkReaching}

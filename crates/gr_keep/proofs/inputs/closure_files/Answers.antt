@@ -1,5 +1,5 @@
 -- What was gathered last, with the packages of the closure beside it, is the closure.
-use Rattle.std.proofs.Common.{ℕ, ◌<◌, List, ◌++◌, length, get_or, inl, inr, sym, subst}
+use Rattle.std.proofs.Common.{◌<◌, ◌++◌, length, get_or, inl, inr, sym, subst}
 use Rattle.std.specs.List.{Contains}
 use Rattle.std.proofs.lemmas.List.Elements.{All-contains, Contains-append_left, Contains-append_right, Contains-append_cases, Contains-get_or}
 use Rattle.std.proofs.lemmas.Result.{IfOk-weaker}

@@ -1,5 +1,5 @@
 -- The files of the closure are those of its packages.
-use Rattle.std.proofs.Common.{◌≡◌, ℕ, List, [], get_or, Some, slice_get, sym, subst}
+use Rattle.std.proofs.Common.{ℕ, List, [], get_or, sym, subst}
 use Rattle.std.specs.FinMap.{entries}
 use Rattle.std.specs.List.Sorted.{IsStrictlyIncreasing}
 use Rattle.std.proofs.lemmas.List.Elements.{Contains-get_or}

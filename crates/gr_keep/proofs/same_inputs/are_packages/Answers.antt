@@ -1,5 +1,5 @@
 -- One package more, and all of them at the end.
-use Rattle.std.proofs.Common.{ℕ, ◌<◌, List, [], length, get_or, refl, sym, subst, ◌∙◌, arith}
+use Rattle.std.proofs.Common.{ℕ, ◌<◌, List, [], length, get_or, refl, sym, ◌∙◌, arith}
 use Rattle.std.proofs.lemmas.Bool.{true≢false}
 use Rattle.std.proofs.lemmas.Option.{slice_get_within, slice_get-get_or}
 use Rattle.gr_text.specs.Packages.{package_paths}

@@ -1,7 +1,6 @@
 -- The answers to the goals of `plan::conflict_of`.
-use Rattle.std.proofs.Common.{◌≡◌, List, ℕ, inl, inr, subst, ap}
+use Rattle.std.proofs.Common.{List, ℕ, inl, inr, subst, ap}
 use Rattle.std.specs.Prelude.{Option, None}
-use Rattle.gr_text.specs.declared.place.Place.{Place}
 use Rattle.gr_revision.specs.RevisionsOfEdits.{revision_of}
 use Rattle.gr_bound.specs.Workspaces.{known_in}
 use Rattle.gr_conflict.specs.declared.conflict.Conflict.{Conflict}

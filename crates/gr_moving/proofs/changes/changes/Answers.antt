@@ -1,5 +1,5 @@
 -- The answers to the goals of `changes::changes`.
-use Rattle.std.proofs.Common.{ℕ, ◌≡◌, List, subst, ◌∙◌}
+use Rattle.std.proofs.Common.{ℕ, List, subst, ◌∙◌}
 use Rattle.std.specs.Prelude.{Ok, Err}
 use Rattle.std.specs.FinMap as map
 use Rattle.std.specs.Map.Iter.{deref_pair}

@@ -1,5 +1,5 @@
 -- The answers to the goals of `moving::move_edits`.
-use Rattle.std.proofs.Common.{Global, [], subst}
+use Rattle.std.proofs.Common.{Global, subst}
 use Rattle.std.specs.Prelude.{Err}
 use Rattle.std.specs.FinMap.{entries}
 use Rattle.gr_text.specs.Workspace.{Workspace}

@@ -1,5 +1,5 @@
 -- The answers to the goals of `declarations::push_var_spec`.
-use Rattle.std.proofs.Common.{◌++◌, ◌∙◌, Some, None, ap, append-nil, sym}
+use Rattle.std.proofs.Common.{◌++◌, ◌∙◌, Some, ap, append-nil, sym}
 use Rattle.std.specs.Prelude.{option_map}
 use Rattle.std.specs.List.{flat_map}
 use Rattle.std.proofs.lemmas.Result.{on_ok_weaker}

@@ -1,5 +1,5 @@
 -- The answers to the goals of `expressions::expression`.
-use Rattle.std.proofs.Common.{ℕ, ◌≡◌, ◌+◌, ◌∷◌, ◌++◌, [], List, ◌-◌, ap, sym, ◌∙◌, refl, drop, take, length, get_or, option_map, arith, append_assoc}
+use Rattle.std.proofs.Common.{◌+◌, ◌∷◌, ◌++◌, [], ◌-◌, ap, sym, ◌∙◌, length, get_or, option_map, arith, append_assoc}
 use Rattle.std.proofs.lemmas.Result.{on_ok_weaker}
 use Rattle.gr_tree.specs.View.{expr_view, key_view}
 use Rattle.gr_tree.specs.declared.tree.CompositeLit.{out-CompositeLit}
@@ -14,13 +14,13 @@ use Rattle.gr_object.specs.Operands.{calling}
 use Rattle.gr_object.proofs.Putting.{puts_none, puts_as, puts_then, puts_more}
 use Rattle.gr_expr.proofs.Equations.{ok_map}
 use Rattle.gr_object.proofs.Loops.{back_turn, back_end, back_start}
-use Rattle.gr_object.proofs.Links.{take_all, same_item, operations_turn, literal_broken, literal_keyed, literal_bare, goes_nowhere, goes_rule, goes_before}
-use Rattle.gr_object.proofs.Links.{goes_operate, goes_test, lines_since}
+use Rattle.gr_object.proofs.Links.{take_all, same_item, operations_turn, literal_broken, literal_keyed, literal_bare, goes_nowhere, goes_rule}
+use Rattle.gr_object.proofs.Links.{goes_operate}
 use Rattle.gr_object.proofs.Going.{puts_on, puts_from, plain_lines, grouped_lines, settled_lines, no_lines, goes_as, goes_behind_as, goes_selector}
 use Rattle.gr_object.proofs.Going.{goes_index, goes_call, over_none, over_turn, over_end}
 use Rattle.gr_object.proofs.Trees.{number_here, text_here, name_here, blank_here, composite_here, paren_here, prefix_here, address_here, chain_here}
 use Rattle.gr_object.proofs.Trees.{binary_here, selector_here, index_here, call_here, arguments_step, arguments_end, keyed_step, keyed_end, bare_step}
-use Rattle.gr_object.proofs.Trees.{bare_end, operations_step, operations_end}
+use Rattle.gr_object.proofs.Trees.{bare_end, operations_end}
 use Rattle.gr_object.proofs.expressions.+expression.Goals as goal
 
 pub operand-returns-in-Number : goal.operand-returns-in-Number

@@ -1,6 +1,6 @@
 -- The invariants of the loops of `expressions::expression`.
-use Rattle.std.proofs.Common.{drop, take}
-use Rattle.gr_expr.specs.Lists.{links_in, operands_in, arguments_in, elements_in}
+use Rattle.std.proofs.Common.{drop}
+use Rattle.gr_expr.specs.Lists.{operands_in, arguments_in, elements_in}
 use Rattle.gr_object.specs.LineView.{Puts}
 use Rattle.gr_object.specs.SourceView.{source_of}
 use Rattle.gr_object.specs.Expressions.{operations, argument_lines, keyed_lines, bare_lines}

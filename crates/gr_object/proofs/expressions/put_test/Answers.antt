@@ -1,7 +1,7 @@
 -- The answers to the goals of `expressions::put_test`.
-use Rattle.std.proofs.Common.{ℕ, ◌≡◌, ◌-◌, ap, ◌∙◌, length}
+use Rattle.std.proofs.Common.{◌-◌}
 use Rattle.std.proofs.lemmas.Result.{on_ok_weaker}
-use Rattle.gr_object.specs.LineView.{line_of, lines_in}
+use Rattle.gr_object.specs.LineView.{line_of}
 use Rattle.gr_object.proofs.Putting.{puts_as, puts_more}
 use Rattle.gr_object.proofs.Links.{test_passed}
 use Rattle.gr_object.proofs.expressions.put_test.Goals as goal

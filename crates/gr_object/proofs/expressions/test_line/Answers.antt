@@ -1,6 +1,6 @@
 -- The answers to the goals of `expressions::test_line`.
-use Rattle.std.proofs.Common.{ℕ, ◌≡◌, ◌∷◌, [], suc, ap, sym, ◌∙◌}
-use Rattle.gr_object.specs.Lines.{Duplicate, Pop, JumpUnless, JumpIf}
+use Rattle.std.proofs.Common.{◌∷◌, [], ap, sym, ◌∙◌}
+use Rattle.gr_object.specs.Lines.{Duplicate, Pop, JumpUnless}
 use Rattle.gr_object.specs.LineView.{line_of}
 use Rattle.gr_object.proofs.Links.{test_default}
 use Rattle.gr_object.proofs.expressions.test_line.Goals as goal

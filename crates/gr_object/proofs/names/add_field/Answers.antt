@@ -1,5 +1,5 @@
 -- The answers to the goals of `names::add_field`.
-use Rattle.std.proofs.Common.{◌-◌, ◌++◌, ◌∙◌, ap, arith, length}
+use Rattle.std.proofs.Common.{◌-◌, ◌++◌, ◌∙◌, ap, length}
 use Rattle.gr_tree.specs.View.{list_view}
 use Rattle.gr_tree.specs.FileView.{field_view, same_place}
 use Rattle.gr_object.specs.Names.{positions_from}

@@ -1,5 +1,5 @@
 -- The answers to the goals of `numbered::number`.
-use Rattle.std.proofs.Common.{ℕ, ◌≡◌, ◌==◌, ◌≤◌, ◌+◌, ap, sym, ◌∙◌, take, length, get_or, arith}
+use Rattle.std.proofs.Common.{◌≡◌, ◌==◌, ◌≤◌, ◌+◌, ap, sym, ◌∙◌, take, length, get_or, arith}
 use Rattle.std.proofs.lemmas.List.{length-take-le, take_more}
 use Rattle.gr_object.specs.Numbering.{slot_of, first_of}
 use Rattle.gr_object.proofs.Numbering.{slot_last}

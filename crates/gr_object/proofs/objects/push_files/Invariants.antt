@@ -1,5 +1,4 @@
 -- The invariants of the loops of `objects::push_files`.
-use Rattle.std.proofs.Common.{◌≤◌, length}
 use Rattle.gr_meanings.specs.BoundsView.{AreBounds}
 use Rattle.gr_declared.specs.PackageView.{package_of}
 use Rattle.gr_object.specs.ObjectSteps.{PutsFiles}

@@ -1,9 +1,9 @@
 -- The answers to the goals of `slots::places`.
 use Rattle.std.proofs.Common.{◌++◌, ap, sym, ◌∙◌, append-nil}
 use Rattle.std.proofs.lemmas.Result.{on_ok_weaker}
-use Rattle.gr_tree.specs.FileView.{stmt_view, block_view, if_view, else_view}
+use Rattle.gr_tree.specs.FileView.{stmt_view, if_view, else_view}
 use Rattle.gr_expr.specs.WorldView.{world_of}
-use Rattle.gr_object.specs.Slots.{statement_places, block_places, if_places, else_places}
+use Rattle.gr_object.specs.Slots.{statement_places, if_places, else_places}
 use Rattle.gr_object.proofs.Loops.{rest_step, rest_end}
 use Rattle.gr_object.proofs.Places.{places_of_each, each_step, each_end, block_read, if_from, added}
 use Rattle.gr_object.proofs.slots.+places.Goals as goal

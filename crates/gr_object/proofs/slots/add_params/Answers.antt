@@ -1,6 +1,5 @@
 -- The answers to the goals of `slots::add_params`.
 use Rattle.std.proofs.Common.{◌++◌, ap, ◌∙◌, refl}
-use Rattle.gr_tree.specs.View.{list_view, ident_view}
 use Rattle.gr_tree.specs.FileView.{param_view}
 use Rattle.gr_object.proofs.Loops.{rest_step, rest_end}
 use Rattle.gr_object.proofs.Parts.{name_places, param_places}

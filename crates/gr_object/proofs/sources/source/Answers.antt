@@ -1,8 +1,6 @@
 -- The answers to the goals of `sources::source`.
 use Rattle.std.proofs.Common.{◌∙◌, ap, map, refl, subst, sym}
-use Rattle.gr_tree.specs.SourceFile.{source_of}
 use Rattle.gr_imports.proofs.PathParts.{source_at}
-use Rattle.gr_declared.specs.PackageView.{package_of}
 use Rattle.std.proofs.lemmas.Option.{same_Some}
 use Rattle.gr_expr.specs.declared.found.MemberUse.{MemberUse}
 use Rattle.gr_object.specs.TablesView.{AreTexts}

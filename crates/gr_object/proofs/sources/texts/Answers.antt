@@ -1,5 +1,5 @@
 -- The answers to the goals of `sources::texts`.
-use Rattle.std.proofs.Common.{◌≤◌, ap, ◌∙◌, length, arith}
+use Rattle.std.proofs.Common.{ap, length, arith}
 use Rattle.std.specs.Prelude.{None, option_map}
 use Rattle.gr_scan.specs.CutText.{tokens_in}
 use Rattle.gr_tree.specs.SourceFile.{source_of}

@@ -8,7 +8,7 @@ use Rattle.gr_tree.specs.declared.tree.IfStmt as ifs
 use Rattle.gr_object.specs.Lines.{Return}
 use Rattle.gr_object.specs.LineView.{lines_in}
 use Rattle.gr_object.specs.SourceView.{source_of}
-use Rattle.gr_object.specs.Statements.{for_condition, for_post, statement_lines, values_of, block_lines, if_lines, else_lines}
+use Rattle.gr_object.specs.Statements.{for_condition, for_post, statement_lines, values_of, if_lines, else_lines}
 use Rattle.gr_object.specs.ExitsView.{exits_of, lines_of_each}
 use Rattle.gr_object.proofs.Putting.{puts_none, puts_as, puts_then, puts_length}
 use Rattle.gr_object.proofs.Loops.{back_end, back_start}

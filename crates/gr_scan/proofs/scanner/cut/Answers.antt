@@ -1,5 +1,5 @@
 -- The answers to the goals of `scanner::cut`.
-use Rattle.std.proofs.Common.{length, arith, ap, length-drop, refl, sym, subst, drop, inr, ◌≡◌, ◌+◌, ◌≤◌, List, ℕ}
+use Rattle.std.proofs.Common.{length, arith, ap, length-drop, refl, subst, inr, ◌≡◌, ◌+◌, ◌≤◌}
 use Rattle.std.proofs.lemmas.List.{take_rest}
 use Rattle.gr_scan.specs.Pieces.{Breaks}
 use Rattle.gr_scan.proofs.ScanLemmas.{Scanned, scanned_mark, scanned_more, whole_due, whole_plain}

@@ -1,5 +1,5 @@
 -- The answers to the goals of `names::add_clause_name`.
-use Rattle.std.proofs.Common.{◌≡◌, List, [], ap, sym, subst, refl, ◌∙◌, length, vec_len, map}
+use Rattle.std.proofs.Common.{◌≡◌, [], ap, sym, subst, refl, ◌∙◌, length, vec_len, map}
 use Rattle.std.specs.Prelude.{Contains}
 use Rattle.std.proofs.lemmas.Bool.{eqb-false}
 use Rattle.std.proofs.lemmas.Option.{same_Some}

@@ -1,5 +1,5 @@
 -- The answers to the goals of `scopes::package_scopes`.
-use Rattle.std.proofs.Common.{◌≡◌, List, [], ap, sym, subst, ◌∙◌, length, vec_len}
+use Rattle.std.proofs.Common.{◌≡◌, [], ap, sym, subst, ◌∙◌, length, vec_len}
 use Rattle.std.specs.Prelude.{Contains}
 use Rattle.std.proofs.lemmas.Bool.{eqb-false}
 use Rattle.std.proofs.lemmas.Option.{same_Some}

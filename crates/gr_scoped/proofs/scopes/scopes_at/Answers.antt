@@ -1,5 +1,5 @@
 -- The answers to the goals of `scopes::scopes_at`.
-use Rattle.std.proofs.Common.{◌≡◌, ◌<◌, length, sym, subst, refl}
+use Rattle.std.proofs.Common.{◌<◌, length, sym, subst, refl}
 use Rattle.std.proofs.lemmas.Option.{slice_get_within, slice_get_read}
 use Rattle.gr_text.specs.Packages.{package_paths}
 use Rattle.gr_scoped.proofs.Scoping.{no_package, found_at}

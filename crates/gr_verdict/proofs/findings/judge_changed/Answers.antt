@@ -1,5 +1,5 @@
 -- The answers to the goals of `findings::judge_changed`.
-use Rattle.std.proofs.Common.{◌≡◌, ◌+◌, ◌<◌, ℕ, Bool, List, take, length, get_or, refl, sym, subst, arith}
+use Rattle.std.proofs.Common.{◌+◌, ◌<◌, take, length, get_or, refl, sym, subst, arith}
 use Rattle.std.proofs.lemmas.List.{take_all}
 use Rattle.std.proofs.lemmas.List.Elements.{Contains-get_or}
 use Rattle.std.proofs.lemmas.Option.{slice_get-get_or}

@@ -1,6 +1,5 @@
 -- The copy has the same units.
 use Rattle.std.proofs.Common.{sym, subst}
-use Rattle.std.specs.Arc.{arc_value}
 use Rattle.gr_keep.specs.Finished.{Table, AreFinishedBelow}
 use Rattle.gr_keep.proofs.finished.FinishedClone.clone.Goals as goal
 

@@ -1,5 +1,5 @@
 -- The answers to the goals of `called::Packages::add`.
-use Rattle.std.proofs.Common.{◌+◌, ◌<◌, ◌∷◌, [], ◌∙◌, ap, length, length-append, arith, Some}
+use Rattle.std.proofs.Common.{◌<◌, ◌∷◌, [], ◌∙◌, ap, length, length-append, arith, Some}
 use Rattle.std.proofs.lemmas.Result.{on_ok_weaker}
 use Rattle.gr_declared.proofs.ByteKeys.{others_stay}
 use Rattle.gr_object.proofs.Named.{number_in, added_here, added_elsewhere, within_inserted}

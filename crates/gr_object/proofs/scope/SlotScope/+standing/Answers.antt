@@ -1,8 +1,8 @@
 -- The answers to the goals of `scope::Scope::standing`.
-use Rattle.std.proofs.Common.{ℕ, ◌≡◌, ◌+◌, ◌-◌, ap, sym, ◌∙◌, refl, arith, take, length, inl, inr}
+use Rattle.std.proofs.Common.{◌-◌, ap, sym, ◌∙◌, refl, arith, inl, inr}
 use Rattle.gr_object.specs.SourceView.{source_of}
 use Rattle.gr_object.specs.Operands.{Values}
-use Rattle.gr_object.specs.Making.{before_link, standing_of}
+use Rattle.gr_object.specs.Making.{standing_of}
 use Rattle.gr_object.proofs.Trees.{number_here, text_here, name_here, blank_here, composite_here, paren_here, address_here, binary_here}
 use Rattle.gr_object.proofs.Links.{chain_alone, chain_behind, prefix_stands}
 use Rattle.gr_object.proofs.scope.SlotScope.+standing.Goals as goal

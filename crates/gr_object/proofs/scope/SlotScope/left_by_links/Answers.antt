@@ -1,10 +1,8 @@
 -- The answers to the goals of `scope::Scope::left_by_links`.
-use Rattle.std.proofs.Common.{ℕ, ◌≡◌, ◌+◌, ap, sym, ◌∙◌, refl}
-use Rattle.gr_expr.specs.Lists.{links_in}
+use Rattle.std.proofs.Common.{◌+◌, ap, sym, ◌∙◌, refl}
 use Rattle.gr_object.specs.SourceView.{source_of}
 use Rattle.gr_object.specs.Operands.{value_count}
-use Rattle.gr_object.specs.Expressions.{linked}
-use Rattle.gr_object.specs.Making.{before_link, standing_of}
+use Rattle.gr_object.specs.Making.{standing_of}
 use Rattle.gr_object.proofs.Standings.{same_left}
 use Rattle.gr_object.proofs.Links.{selector_stands, index_stands, call_stands}
 use Rattle.gr_object.proofs.scope.SlotScope.left_by_links.Goals as goal

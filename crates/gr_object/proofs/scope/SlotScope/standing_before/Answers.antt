@@ -1,5 +1,5 @@
 -- The answers to the goals of `scope::Scope::standing_before`.
-use Rattle.std.proofs.Common.{ℕ, ◌≡◌, ◌+◌, ◌-◌, ap, ◌∙◌, refl, arith}
+use Rattle.std.proofs.Common.{◌-◌, ap, ◌∙◌, arith}
 use Rattle.gr_object.specs.SourceView.{source_of}
 use Rattle.gr_object.specs.Making.{before_link, standing_of}
 use Rattle.gr_object.proofs.Links.{stands_at_once, selector_stands, index_stands, call_stands}
