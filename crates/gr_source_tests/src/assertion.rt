@@ -1,6 +1,8 @@
-//! An assertion as a call: the macro is many steps to a prover, a call is one.
+//! An assertion as a call: the macro is many steps to a prover, a call is one. And a text as a file has it.
 ghost use Rattle.std.specs.Prelude.{IsTrue};
 
+use gr_text::FileText;
+use std::alloc::Global;
 use std::process::Abort;
 
 /// Ends the test where the fact does not hold.
@@ -8,4 +10,9 @@ pub(crate) fn holds(rt: &impl Abort, fact: bool)
     ensures { IsTrue fact }
 {
     assert!(rt; fact);
+}
+
+pub(crate) fn file(rt: &impl Abort, alloc: Global, text: &[u8]) -> FileText {
+    let bytes = text.to_vec(alloc).expect(rt, "memory");
+    FileText::new(alloc, bytes).expect(rt, "memory")
 }

@@ -1,18 +1,13 @@
 //! Texts with their tokens, as the Go specification cuts them. The faults and the values of literals are told by stored
 //! sessions.
-use crate::assertion::holds;
-use crate::text::file;
+use crate::assertion::{file, holds};
 use gr_scan::{Class, Keyword, Operator, Piece, Pieces, scan};
 use std::alloc::Global;
-use std::test::Fail;
+use std::process::Abort;
 
-/// The pieces of a text with `$` for each newline in it.
-pub(crate) fn pieces_of(alloc: Global, text: &[u8]) -> Result<Pieces, Fail> {
-    let file = file(alloc, text)?;
-    match scan(alloc, &file) {
-        Ok(pieces) => Ok(pieces),
-        Err(_) => Err("a fault".into()),
-    }
+fn pieces_of(rt: &impl Abort, alloc: Global, text: &[u8]) -> Pieces {
+    let file = file(rt, alloc, text);
+    scan(alloc, &file).ok().expect(rt, "no fault")
 }
 
 /// Whether a token of a text is spelled so, with `^` for an inserted semicolon.
@@ -35,88 +30,81 @@ fn has_tokens(pieces: &Pieces, words: &str) -> bool {
             .all(|pair| is_spelled(text, pair.0, pair.1))
 }
 
-/// A row a line: a text, and its tokens.
+/// Texts with their tokens, and `|` between one and the next.
 const TOKENS: &str = concat!(
-    "package a => package a ^\n",
-    "_x9 => _x9 ^\n",
-    "breaks => breaks ^\n",
-    "\u{3b1}\u{3b2} => \u{3b1}\u{3b2} ^\n",
-    "a\u{661} => a\u{661} ^\n",
-    "a\u{1d7d8} => a\u{1d7d8} ^\n",
-    "0X_67_7a => 0X_67_7a ^\n",
-    "1+2 => 1 + 2 ^\n",
-    "_42 => _42 ^\n",
-    "x...5 => x ... 5 ^\n",
-    "a..b => a . . b ^\n",
-    "a // b => a ^\n",
-    "a // b$c => a ^ c ^\n",
-    "a /* b */ c => a c ^\n",
-    "a /* $ */ c => a ^ c ^\n",
-    "/* /* */ a => a ^\n",
-    "a / b => a / b ^\n",
-    "a&^=b => a &^= b ^\n",
-    "a<-b => a <- b ^\n",
-    "a---b => a -- - b ^\n",
-    ">>> => >> >\n",
-    "!== => != =\n",
-    ".... => ... .\n",
-    "\u{feff}a => a ^\n",
-    "a$b$ => a ^ b ^\n",
-    "a \t\r$$ b => a ^ b ^\n",
-    "a;$ => a ;\n",
-    "a /* */ => a ^\n",
-    "a /*$*/ /*$*/ b => a ^ b ^\n",
-    "1$``$\"\"$ => 1 ^ `` ^ \"\" ^\n",
-    ")$]$}$ => ) ^ ] ^ } ^\n",
-    "($[${$ => ( [ {\n",
-    "x++$x--$ => x ++ ^ x -- ^\n",
-    "x+$y => x + y ^\n",
-    "return$break$ => return ^ break ^\n",
-    "continue$goto$ => continue ^ goto\n",
-    "fallthrough$else$ => fallthrough ^ else\n",
+    "package a => package a ^|",
+    "_x9 => _x9 ^|",
+    "breaks => breaks ^|",
+    "\u{3b1}\u{3b2} => \u{3b1}\u{3b2} ^|",
+    "a\u{661} => a\u{661} ^|",
+    "a\u{1d7d8} => a\u{1d7d8} ^|",
+    "0X_67_7a => 0X_67_7a ^|",
+    "1+2 => 1 + 2 ^|",
+    "_42 => _42 ^|",
+    "x...5 => x ... 5 ^|",
+    "a..b => a . . b ^|",
+    "a // b => a ^|",
+    "a // b\nc => a ^ c ^|",
+    "a /* b */ c => a c ^|",
+    "a /* \n */ c => a ^ c ^|",
+    "/* /* */ a => a ^|",
+    "a / b => a / b ^|",
+    "a&^=b => a &^= b ^|",
+    "a<-b => a <- b ^|",
+    "a---b => a -- - b ^|",
+    ">>> => >> >|",
+    "!== => != =|",
+    ".... => ... .|",
+    "\u{feff}a => a ^|",
+    "a\nb\n => a ^ b ^|",
+    "a \t\r\n\n b => a ^ b ^|",
+    "a;\n => a ;|",
+    "a /* */ => a ^|",
+    "a /*\n*/ /*\n*/ b => a ^ b ^|",
+    "1\n``\n\"\"\n => 1 ^ `` ^ \"\" ^|",
+    ")\n]\n}\n => ) ^ ] ^ } ^|",
+    "(\n[\n{\n => ( [ {|",
+    "x++\nx--\n => x ++ ^ x -- ^|",
+    "x+\ny => x + y ^|",
+    "return\nbreak\n => return ^ break ^|",
+    "continue\ngoto\n => continue ^ goto|",
+    "fallthrough\nelse\n => fallthrough ^ else",
 );
 
-fn is_right(alloc: Global, row: &str) -> Result<bool, Fail> {
+fn is_right(rt: &impl Abort, alloc: Global, row: &str) -> bool {
     match row.split_once(" => ") {
-        Some((text, words)) => Ok(has_tokens(&pieces_of(alloc, text.as_bytes())?, words)),
-        None => Ok(false),
+        Some((text, words)) => has_tokens(&pieces_of(rt, alloc, text.as_bytes()), words),
+        None => false,
     }
 }
 
 #[test]
-fn tokens(rt: HostRuntime) -> Result<(), Fail> {
-    for row in TOKENS.lines() {
-        assert!(rt; is_right(rt.alloc(), row)?, "{row}");
+fn tokens(rt: HostRuntime) {
+    for row in TOKENS.split('|') {
+        holds(&rt, is_right(&rt, rt.alloc(), row));
     }
-    Ok(())
 }
 
-/// Whether the first token is of that class.
-fn begins_with(alloc: Global, text: &[u8], class: Class) -> Result<bool, Fail> {
-    let pieces = pieces_of(alloc, text)?;
-    Ok(matches!(pieces.tokens(), [token, ..] if token.class == class))
+/// Asserts that the first token is of that class.
+fn begins_with(rt: &impl Abort, alloc: Global, text: &[u8], class: Class) {
+    let pieces = pieces_of(rt, alloc, text);
+    holds(
+        rt,
+        matches!(pieces.tokens(), [token, ..] if token.class == class),
+    );
 }
 
 #[test]
-fn every_operator_and_keyword(rt: HostRuntime) -> Result<(), Fail> {
+fn classes_of_tokens(rt: HostRuntime) {
+    let alloc = rt.alloc();
     for operator in Operator::ALL {
-        let class = Class::Operator(operator);
-        holds(&rt, begins_with(rt.alloc(), operator.spelling(), class)?);
+        begins_with(&rt, alloc, operator.spelling(), Class::Operator(operator));
     }
     for keyword in Keyword::ALL {
-        let class = Class::Keyword(keyword);
-        holds(&rt, begins_with(rt.alloc(), keyword.spelling(), class)?);
+        begins_with(&rt, alloc, keyword.spelling(), Class::Keyword(keyword));
     }
-    Ok(())
-}
-
-#[test]
-fn classes_of_names_and_literals(rt: HostRuntime) -> Result<(), Fail> {
-    let alloc = rt.alloc();
-    let name = begins_with(alloc, b"breaks", Class::Name)?;
-    let integer = begins_with(alloc, b"1_000", Class::Integer)?;
-    let interpreted = begins_with(alloc, b"\"`\"", Class::InterpretedString)?;
-    let raw = begins_with(alloc, b"`a$\"`", Class::RawString)?;
-    holds(&rt, name && integer && interpreted && raw);
-    Ok(())
+    begins_with(&rt, alloc, b"breaks", Class::Name);
+    begins_with(&rt, alloc, b"1_000", Class::Integer);
+    begins_with(&rt, alloc, b"\"`\"", Class::InterpretedString);
+    begins_with(&rt, alloc, b"`a\n\"`", Class::RawString);
 }
