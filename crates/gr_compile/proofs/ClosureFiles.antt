@@ -1,27 +1,19 @@
 -- The files of the packages in a closure that has the same texts in two workspaces.
-use Rattle.std.proofs.Common.{ℕ, ◌≡◌, true, ◌&&◌, List, sym, subst, ◌∙◌}
-use Rattle.std.specs.Prelude.{Contains, ◌==◌}
+use Rattle.std.proofs.Common.{ℕ, ◌≡◌, List, sym, subst, ◌∙◌}
+use Rattle.std.specs.Prelude.{Contains}
 use Rattle.std.specs.Cmp.{IsTotalOrder, on_total}
-use Rattle.std.specs.Cmp.Lexicographic.{pointwise, bytes_decides, nat_list_cmp_total}
-use Rattle.std.specs.FinMap.{entries}
-use Rattle.std.proofs.lemmas.Bool.{and_parts}
-use Rattle.gr_text.specs.Path.{folder}
-use Rattle.gr_text.specs.Packages.{is_go, is_of_package, package_files}
+use Rattle.std.specs.Cmp.Lexicographic.{nat_list_cmp_total}
+use Rattle.gr_text.specs.Packages.{package_files}
 use Rattle.gr_text.specs.Workspace.{Workspace}
 use Rattle.gr_graph.specs.Packages.{IsInClosure}
 use Rattle.gr_order.proofs.OwnPaths.{entry_cmp, files_sorted}
 use Rattle.gr_verdict.specs.Closures.{HasSameClosure}
 use Rattle.gr_verdict.proofs.Local.{same_back, closed_there}
-use Rattle.gr_verdict.proofs.Members.{passes, one_sorted}
+use Rattle.gr_verdict.proofs.Members.{one_sorted}
+use Rattle.gr_verdict.proofs.PackageFiles.{in_folder}
 
 entry_total : IsTotalOrder entry_cmp
 entry_total = on_total (λ (e : List ℕ × List ℕ). e.0) nat_list_cmp_total
-
--- a file lies in the folder of its package
-in_folder : (w : Workspace) (p : List ℕ) (e : List ℕ × List ℕ) → Contains (package_files w p) e → folder e.0 ≡ p
-in_folder w p e h =
-    let test : (is_go e.0 && pointwise ◌==◌ (folder e.0) p) ≡ true = (passes (λ d. is_of_package p d.0) (entries w) e h).0 in
-    (bytes_decides (folder e.0) p).0 (and_parts (is_go e.0) (pointwise ◌==◌ (folder e.0) p) test).1
 
 file_there : (w x : Workspace) (p : List ℕ) → HasSameClosure w x p → (q : List ℕ) (e : List ℕ × List ℕ) → IsInClosure w p q →
     Contains (package_files w q) e → Contains (package_files x q) e
