@@ -28,7 +28,7 @@ use Rattle.gr_order.specs.Tokens.{is_name, is_header_name, begins_declaration, n
 use Rattle.gr_order.proofs.Covering.{Pairs, file_pairs}
 use Rattle.gr_order.proofs.HeldBytes.{numbered_files}
 use Rattle.gr_order.proofs.Ordered.{package_ordered, named_ordered, one_stands}
-use Rattle.gr_order.proofs.OwnPaths.{package_sources}
+use Rattle.gr_order.proofs.OwnPaths.{package_sources, part_at}
 use Rattle.gr_order.proofs.Places.{plainly_stands}
 use Rattle.gr_expr.specs.Types.{Meaning, Broken}
 use Rattle.gr_expr.specs.World.{World, Bound, Local, Means, BrokenVariable, BrokenFunction, BrokenType}
@@ -44,7 +44,6 @@ use Rattle.gr_meanings.proofs.OneMeaning.{one_name}
 use Rattle.gr_verdict.specs.Verdicts.{Verdicts, IsPackageIn}
 use Rattle.gr_verdict.proofs.Members.{first_in, later_in}
 use Rattle.gr_verdict.proofs.OnePackage.{layout_formed, files_in_order}
-use Rattle.gr_asked.proofs.NamedMembers.{part_at}
 use Rattle.gr_asked.proofs.OnePlace.{names_of, laid_of, same_layout, same_size, same_files}
 use Rattle.gr_order.proofs.Elements.{all_append}
 use Rattle.gr_unique.proofs.Apart.{all_as}

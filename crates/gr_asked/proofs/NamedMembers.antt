@@ -3,9 +3,8 @@ use Rattle.std.proofs.Common.{ℕ, zero, suc, ◌≡◌, ◌+◌, ◌<◌, ◌�
 use Rattle.std.specs.Prelude.{Contains, Some, slice_get}
 use Rattle.std.specs.List.{flat_map, enumerate_from}
 use Rattle.std.proofs.lemmas.List.Elements.{Contains-append_right}
-use Rattle.std.proofs.lemmas.Option.{none-some, same_Some}
 use Rattle.gr_text.specs.Workspace.{Workspace}
-use Rattle.gr_tree.specs.SourceFile.{SourceFile, FileParts, source_of}
+use Rattle.gr_tree.specs.SourceFile.{SourceFile, source_of}
 use Rattle.gr_tree.specs.Tree.{Item, Group, single, several, FieldTree, BodyTree, Other, Struct, TypeSpecTree, ReceiverTree, DeclTree, VarDecl, TypeDecl}
 use Rattle.gr_tree.specs.Tree.{FuncDecl}
 use Rattle.gr_scope.specs.declared.model.Position.{Position}
@@ -15,7 +14,7 @@ use Rattle.gr_scope.specs.Table.{StandsAt}
 use Rattle.gr_order.specs.MemberNames.{in_group, field_names, body_members, method_name, decl_members, member_names}
 use Rattle.gr_order.proofs.Lexical.{never_bound}
 use Rattle.gr_order.proofs.Members.{named_member_stands}
-use Rattle.gr_order.proofs.OwnPaths.{package_sources}
+use Rattle.gr_order.proofs.OwnPaths.{package_sources, part_at}
 use Rattle.gr_imports.specs.Files.{Ranked, ranked, group_items}
 use Rattle.gr_declared.specs.Definitions.{PlacedField, body_fields, fields_from, package_fields}
 use Rattle.gr_declared.specs.Package.{Package, PlacedType, PlacedFunction, placed_type, decl_types, decl_functions, types_in, functions_in, package_types}
@@ -171,12 +170,6 @@ method_in_tree p rank f x is e =
     in_tree p.files r.0 decl.0 (function_place f) r.1.0 decl.1.0 m.0 m.1
 
 -- their roles
-
-pub part_at : (ts : List FileParts) (i : ℕ) (s : SourceFile) → slice_get (map source_of ts) i ≡ Some s → (t : FileParts) ×
-    ((slice_get ts i ≡ Some t) × (source_of t ≡ s))
-part_at [] i s at = absurd (none-some s at)
-part_at (t ∷ ts) zero s at = (t, (refl, same_Some (source_of t) s at))
-part_at (t ∷ ts) (suc i) s at = part_at ts i s at
 
 role_of : (w : Workspace) (known : Verdicts) (path : List ℕ) (p : Package) → IsPackageIn w known path p → (at : Position) → IsMemberIn p.files at →
     (u : ℕ) → u < p.size →
