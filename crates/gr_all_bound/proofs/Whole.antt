@@ -76,10 +76,10 @@ variable_in_decl file (tree.VarDecl k g c) v h =
 variable_in_decl file (tree.TypeDecl k g c) v h = absurd h
 variable_in_decl file (tree.FuncDecl k f c) v h = absurd h
 
-abbrev IsFunctionDecl : FuncTree → DeclTree → Type 0
+abbrev pub IsFunctionDecl : FuncTree → DeclTree → Type 0
 IsFunctionDecl f d = (k : ℕ) × ((c : ℕ) × (d ≡ tree.FuncDecl k f c))
 
-function_in_decl : (file : ℕ) (d : DeclTree) (f : PlacedFunction) → Holds (decl_functions file d) f → (file ≡ f.file) × IsFunctionDecl f.function d
+pub function_in_decl : (file : ℕ) (d : DeclTree) (f : PlacedFunction) → Holds (decl_functions file d) f → (file ≡ f.file) × IsFunctionDecl f.function d
 function_in_decl file (tree.VarDecl k g c) f h = absurd h
 function_in_decl file (tree.TypeDecl k g c) f h = absurd h
 function_in_decl file (tree.FuncDecl k x c) f h = elim h [

@@ -1,5 +1,5 @@
 -- What a function declares has one of its slots.
-use Rattle.std.proofs.Common.{ℕ, suc, ◌≡◌, inl, inr, ◌==◌, Bool, true, false, if◌then◌else◌, List, [], ◌∷◌, ◌++◌, Option, Some, None, ap, refl, sym}
+use Rattle.std.proofs.Common.{ℕ, suc, ◌≡◌, inl, inr, ◌==◌, true, false, if◌then◌else◌, List, [], ◌∷◌, ◌++◌, Option, Some, None, ap, refl, sym}
 use Rattle.std.proofs.Common.{◌∙◌, subst}
 use Rattle.std.specs.Prelude.{option_to_list}
 use Rattle.std.specs.List.{AllByRecursion, flat_map}
@@ -27,15 +27,12 @@ use Rattle.gr_object.specs.Numbering.{slot_from, slot_of}
 use Rattle.gr_object.specs.Slots.{receiver_places, parameter_places, local_places, simple_places, optional_places, init_places, header_places}
 use Rattle.gr_object.specs.Slots.{statement_places, block_places, statements_places, if_places, else_places, slots_of}
 use Rattle.gr_balance.specs.Answered.{IsKnown}
+use Rattle.gr_known.proofs.Slots.{some_slot}
 use Rattle.gr_all_bound.specs.Scopes.{may_be_local}
 use Rattle.gr_all_bound.proofs.Known.{local_may}
 use Rattle.gr_all_bound.proofs.Typed.{result_abroad, func_abroad}
 
 -- a place among those of a function has a slot
-some_slot : (b : Bool) (k : ℕ) (o : Option ℕ) → (b ≡ false → IsKnown o) → IsKnown (if b then Some k else o)
-some_slot true k o f = (k, refl)
-some_slot false k o f = f refl
-
 other_place : (n p : ℕ) (ps : List ℕ) → Holds (p ∷ ps) n → (p == n) ≡ false → Holds ps n
 other_place n p ps h e = elim h [ inl same ↦ absurd (true≢false (sym (eq-eqb p n same) ∙ e)) | inr more ↦ more ]
 
