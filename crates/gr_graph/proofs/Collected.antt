@@ -42,7 +42,7 @@ pub none_held : {X : Type 0} (x : X) → Contains [] x → ⊥
 none_held x has = absurd (omega (arith, has.1))
 
 -- ---- one element more of a list
-more_cases : {X : Type 0} (xs : List X) (k : ℕ) (d x : X) → k < length xs → Contains (take (k + 1) xs) x → Contains (take k xs) x ⊎ (get_or xs k d ≡ x)
+pub more_cases : {X : Type 0} (xs : List X) (k : ℕ) (d x : X) → k < length xs → Contains (take (k + 1) xs) x → Contains (take k xs) x ⊎ (get_or xs k d ≡ x)
 more_cases xs k d x within has = Contains-push_cases (take k xs) (get_or xs k d) x (subst (λ ys. Contains ys x) (take_more xs k d within) has)
 
 one_more_at : {X : Type 0} (R : X → ℕ → Type 0) (xs : List X) (k : ℕ) (d : X) → k < length xs → (j : ℕ)
