@@ -55,6 +55,25 @@ holds_ranked n (x ∷ xs) r h = elim h [
   | inr k ↦ let s = holds_ranked (n + 1) xs r k in (suc s.0, ((let z : r.0 ≡ n + 1 + s.0 = s.1.0 in omega (arith, z)), s.1.1))
 ]
 
+pub held_left : {X : Type 0} (xs ys : List X) (x : X) → Holds xs x → Holds (xs ++ ys) x
+held_left [] ys x h = absurd h
+held_left (z ∷ zs) ys x h = elim h [ inl e ↦ inl e | inr r ↦ inr (held_left zs ys x r) ]
+
+pub held_right : {X : Type 0} (xs ys : List X) (x : X) → Holds ys x → Holds (xs ++ ys) x
+held_right [] ys x h = h
+held_right (z ∷ zs) ys x h = inr (held_right zs ys x h)
+
+pub held_flat : {X Y : Type 0} (f : X → List Y) (xs : List X) (x : X) (y : Y) → Holds xs x → Holds (f x) y → Holds (flat_map f xs) y
+held_flat f [] x y h k = absurd h
+held_flat f (z ∷ zs) x y h k = elim h [
+  | inl e ↦ held_left (f z) (flat_map f zs) y (subst (λ q. Holds (f q) y) (sym e) k)
+  | inr r ↦ held_right (f z) (flat_map f zs) y (held_flat f zs x y r k)
+]
+
+pub held_map : {X Y : Type 0} (f : X → Y) (xs : List X) (x : X) → Holds xs x → Holds (map f xs) (f x)
+held_map f [] x h = absurd h
+held_map f (z ∷ zs) x h = elim h [ inl e ↦ inl (ap f e) | inr r ↦ inr (held_map f zs x r) ]
+
 -- where tokens stand
 
 abbrev pub IsAt : ℕ → List Token → Type 0
