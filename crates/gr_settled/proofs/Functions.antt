@@ -36,7 +36,7 @@ use Rattle.gr_declared.specs.Written.{BindsToken, ImportsPath}
 use Rattle.gr_declared.proofs.Naming.{one_binding, one_import_path}
 use Rattle.gr_types.specs.Interfaces.{IsExport, IsExported}
 use Rattle.gr_meanings.specs.Worlds.{IsName, IsSelected, is_bound, is_unbound, by_scope, by_package}
-use Rattle.gr_meanings.proofs.DeclKinds.{Holds, holds_got}
+use Rattle.gr_meanings.proofs.DeclKinds.{Holds, holds_got, holds_flat, holds_ranked}
 use Rattle.gr_verdict.specs.FaultLists.{ListsFaults}
 use Rattle.gr_verdict.specs.Verdicts.{Verdicts, AreVerdicts, IsSeenAs, seen, unseen, IsPackageIn}
 use Rattle.gr_verdict.proofs.Closed.{to_package}
@@ -52,7 +52,7 @@ use Rattle.gr_bound.specs.Uses.{IsPackage}
 use Rattle.gr_known.specs.Open.{HasArity}
 use Rattle.gr_decided.proofs.Numbers.{IsTold, IsKept, universal, plain, laid}
 use Rattle.gr_all_bound.proofs.Fine.{seen_interface}
-use Rattle.gr_all_bound.proofs.Lists.{all_right, all_flat, holds_flat, holds_ranked}
+use Rattle.gr_all_bound.proofs.Lists.{all_right, all_flat}
 use Rattle.gr_all_bound.proofs.Scoped.{in_order}
 use Rattle.gr_all_bound.proofs.Types.{Stands, Kept, all_kept, none_by_scope}
 use Rattle.gr_all_bound.proofs.Whole.{function_in_decl}

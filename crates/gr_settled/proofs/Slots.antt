@@ -22,7 +22,7 @@ use Rattle.gr_imports.specs.Files.{group_items}
 use Rattle.gr_expr.specs.World.{World, Local}
 use Rattle.gr_stmt.specs.Sides.{named, ident_place, is_own, declares, defined_name}
 use Rattle.gr_order.proofs.Elements.{all_append}
-use Rattle.gr_meanings.proofs.DeclKinds.{Holds}
+use Rattle.gr_meanings.proofs.DeclKinds.{Holds, held_left, held_right}
 use Rattle.gr_object.specs.Numbering.{slot_from, slot_of}
 use Rattle.gr_object.specs.Slots.{receiver_places, parameter_places, local_places, simple_places, optional_places, init_places, header_places}
 use Rattle.gr_object.specs.Slots.{statement_places, block_places, statements_places, if_places, else_places, slots_of}
@@ -43,14 +43,6 @@ slot_known n k (p ∷ ps) h = some_slot (p == n) k (slot_from (suc k) ps n) (λ 
 pub has_slot : (n : ℕ) (ps : List ℕ) → Holds ps n → IsKnown (slot_of ps n)
 has_slot n ps h = slot_known n 0 ps h
 
-held_left : (n : ℕ) (ps qs : List ℕ) → Holds ps n → Holds (ps ++ qs) n
-held_left n [] qs h = absurd h
-held_left n (p ∷ ps) qs h = elim h [ inl e ↦ inl e | inr more ↦ inr (held_left n ps qs more) ]
-
-held_right : (n : ℕ) (ps qs : List ℕ) → Holds qs n → Holds (ps ++ qs) n
-held_right n [] qs h = h
-held_right n (p ∷ ps) qs h = inr (held_right n ps qs h)
-
 module _ (w : World) where
   -- a local that is bound to its own declaration is among the places
   abbrev pub Slotted : List ℕ → Site → Type 0
@@ -61,11 +53,11 @@ module _ (w : World) where
 
   all_left : (ps qs : List ℕ) (xs : List Site) → All ps xs → All (ps ++ qs) xs
   all_left ps qs [] h = tt
-  all_left ps qs (x ∷ xs) h = ((λ may e. held_left x.place.index ps qs (h.0 may e)), all_left ps qs xs h.1)
+  all_left ps qs (x ∷ xs) h = ((λ may e. held_left ps qs x.place.index (h.0 may e)), all_left ps qs xs h.1)
 
   all_right : (ps qs : List ℕ) (xs : List Site) → All qs xs → All (ps ++ qs) xs
   all_right ps qs [] h = tt
-  all_right ps qs (x ∷ xs) h = ((λ may e. held_right x.place.index ps qs (h.0 may e)), all_right ps qs xs h.1)
+  all_right ps qs (x ∷ xs) h = ((λ may e. held_right ps qs x.place.index (h.0 may e)), all_right ps qs xs h.1)
 
   join : (ps qs : List ℕ) (xs ys : List Site) → All ps xs → All qs ys → All (ps ++ qs) (xs ++ ys)
   join ps qs xs ys h k = all_append (Slotted (ps ++ qs)) xs ys (all_left ps qs xs h) (all_right ps qs ys k)
