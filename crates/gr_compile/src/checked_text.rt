@@ -238,13 +238,13 @@ fn read_text(
 
 /// What checking finds in a package each of whose files has a tree, with the text of its object if it has no fault, where interfaces
 /// tell just what it sees of others: it is checked by these. Where its clauses or imports have a fault it is checked by its own.
-fn told_text(
+fn told_text<'a>(
     alloc: Global,
     graph: &Graph,
     number: usize,
-    path: &SharedPath,
-    files: &Folder,
-    all: &Interfaces,
+    path: &'a SharedPath,
+    files: &'a Folder,
+    all: &'a Interfaces,
 ) -> Result<CheckedText, AllocError>
     requires at { slice_get (package_paths graph.now) number ≡ Some path.now }
     requires files { IsPackage graph.now number files.now }

@@ -7,6 +7,9 @@ use Rattle.gr_verdict.specs.Told.{known_by}
 use Rattle.gr_verdict.proofs.Gathering.{known_right}
 use Rattle.gr_compile.proofs.checked_text.learn_text.Goals as goal
 
+pub known_text-requires : goal.known_text-requires
+known_text-requires c = record { at = c.requires.at; files = c.requires.files; read = c.requires.read; right = c.requires.right }
+
 pub learn-requires : goal.learn-requires
 learn-requires c =
     let w = c.args.graph.now in

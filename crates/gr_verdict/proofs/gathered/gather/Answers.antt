@@ -1,5 +1,5 @@
 -- The answers to the goals of `gathered::gather`.
-use Rattle.std.proofs.Common.{◌≡◌, ◌-◌, length, ◌∙◌, arith}
+use Rattle.std.proofs.Common.{◌≡◌, ◌-◌, length, arith}
 use Rattle.gr_text.specs.Packages.{package_paths}
 use Rattle.gr_verdict.proofs.Taking.{none_gathered}
 use Rattle.gr_verdict.proofs.gathered.gather.Goals as goal
@@ -7,9 +7,9 @@ use Rattle.gr_verdict.proofs.gathered.gather.Goals as goal
 pub loop-left-init : goal.loop-left-init
 loop-left-init c =
     let none = c.in_ok-all.ensures.none in
-    let size : length c.in_ok-all.all.findings.items ≡ length (package_paths c.args.graph.now) = c.in_ok-all.ensures.size ∙ c.len.ensures in
+    let size : length c.in_ok-all.all.findings.items ≡ length (package_paths c.args.graph.now) = omega (arith, c.in_ok-all.ensures.size) in
     record {
-      within = omega (arith, c.len-left.ensures);
+      within = omega arith;
       right = none_gathered c.args.graph.now _ c.in_ok-all.all size none c.in_ok-all.ensures.names c.in_ok-all.ensures.interfaces;
       unknown = λ n lt. none n;
     }
