@@ -19,7 +19,9 @@ use Rattle.gr_verdict.proofs.Sharing.{seen_by}
 
 gathered_at : (fs : List (Option Finding)) (n : ℕ) (o : Option (Option Finding)) → slice_get fs n ≡ o → IsGathered fs n ⊎ (IsGathered fs n → ⊥)
 gathered_at fs n None e = inr (λ g. none-some (Some g.0) (sym e ∙ g.1))
-gathered_at fs n (Some None) e = inr (λ g. none-some g.0 (same_Some None (Some g.0) (sym e ∙ g.1)))
+gathered_at fs n (Some None) e =
+    let nothing : Option Finding = None in
+    inr (λ g. none-some g.0 (same_Some nothing (Some g.0) (sym e ∙ g.1)))
 gathered_at fs n (Some (Some f)) e = inl (f, e)
 
 module _ (w : Workspace) (p : List ℕ) (below : List ℕ) (fs : List (Option Finding)) (all : Interfaces) (holds : HoldsPackages w (BuildsOn w p) below)
