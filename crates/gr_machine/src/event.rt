@@ -1,4 +1,4 @@
-//! What happens to a book, and what it replies: the words of its contracts. Code asks questions of one kind each (`question.rt`).
+//! What happens to a book, and what it replies: the words of its contracts. Code asks questions of one kind each (`Question` of gr_content).
 use crate::entry::Line;
 use crate::view::View;
 use gr_compile::{Built, Job};

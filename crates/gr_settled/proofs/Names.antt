@@ -29,14 +29,14 @@ use Rattle.gr_declared.specs.Package.{Package, PlacedType, PlacedFunction, place
 use Rattle.gr_declared.specs.Package.{type_place, function_place, spelled}
 use Rattle.gr_declared.specs.Written.{BindsToken, DeclaresType}
 use Rattle.gr_declared.proofs.Ranking.{one_rank}
-use Rattle.gr_meanings.proofs.DeclKinds.{Holds, holds_got}
+use Rattle.gr_meanings.proofs.DeclKinds.{Holds, holds_got, holds_flat, holds_map, holds_ranked}
 use Rattle.gr_verdict.specs.FaultLists.{ListsFaults}
 use Rattle.gr_verdict.specs.Verdicts.{Verdicts, AreVerdicts}
 use Rattle.gr_verdict.proofs.OnePackage.{files_in_order}
 use Rattle.gr_bound.specs.Uses.{IsPackage}
 use Rattle.gr_unique.proofs.Faultless.{no_fault_later}
 use Rattle.gr_unique.proofs.MembersApart.{one_function}
-use Rattle.gr_all_bound.proofs.Lists.{all_left, all_right, all_flat, holds_flat, holds_map, holds_ranked}
+use Rattle.gr_all_bound.proofs.Lists.{all_left, all_right, all_flat}
 use Rattle.gr_all_bound.proofs.Scoped.{in_order}
 use Rattle.gr_all_bound.proofs.Types.{Kept, all_kept}
 use Rattle.gr_all_bound.proofs.Whole.{method_of}
