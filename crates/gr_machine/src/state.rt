@@ -14,13 +14,29 @@ use std::marker::Model;
 
 /// A workspace with its number, the units of those of its packages that are finished, and what is known of packages; and the files that
 /// were gathered last for the inputs of one.
-#[derive(Drop)]
 pub struct State {
     pub number: u64,
     pub files: Graph,
     pub finished: Finished,
     pub known: SharedKnown,
     pub gathered: GatheredFiles,
+}
+
+/// Written out, so that crates above call it and don't prove again how each part is dropped.
+impl Drop for State {
+    fn drop(self) {
+        let State {
+            number: _,
+            files,
+            finished,
+            known,
+            gathered,
+        } = self;
+        drop(files);
+        drop(finished);
+        drop(known);
+        drop(gathered);
+    }
 }
 
 impl Model for State {
