@@ -1,4 +1,4 @@
-"""rt ci, with two things done otherwise that change nothing of what is proved, refused and run.
+"""rt ci, with two things done otherwise that change nothing of what is proved and refused, and one more thing run.
 
 usage: python3 checks/gate.py
 
@@ -8,6 +8,9 @@ and takes hours. Here the sum and the libraries of each crate are found once in 
 Order: a gate takes no less than its longest chain of crates, one behind another. rt tells how long a chain is by lines, plans for
 more memory than proofs take, and may give each proof one processor. Here a chain is told by the seconds of checks/gate_seconds.txt, and the
 proof with the longest chain behind it has up to three processors. checks/gate.sh runs this.
+
+Stored sessions: where rt runs a build of gr_server, all of crates/gr_server/sessions are run on the same build. One that is answered
+otherwise fails the run of the program, so the gate fails, and its last line tells of it.
 """
 import functools
 import importlib.machinery
@@ -16,14 +19,18 @@ import inspect
 import os
 import shutil
 import sys
+import tempfile
 from concurrent.futures import FIRST_COMPLETED, ThreadPoolExecutor, wait
 
 sys.dont_write_bytecode = True
+
+import replay
 
 # More memory than a proof was seen to take, in bytes.
 MEMORY_OF_ONE = 3_500_000_000
 PROCESSORS_OF_THE_FIRST = 3
 SECONDS = os.path.join(os.path.dirname(os.path.abspath(__file__)), "gate_seconds.txt")
+PROGRAM = "gr_server"
 
 
 def load(path):
@@ -104,15 +111,50 @@ def lanes_of(rt):
     return in_lanes
 
 
+def sessions_differ(rt, program):
+    """Runs the stored sessions on a copy of the program, as rt runs programs: as nobody, if it is root. It tells of each that differs."""
+    sessions = replay.stored()
+    with tempfile.TemporaryDirectory() as room:
+        os.chmod(room, 0o711)
+        copy = shutil.copy(program, room)
+        os.chmod(copy, 0o755)
+        lines = replay.differences([*rt.drop_to_nobody(), copy, "run"], sessions)
+    for line in lines:
+        rt.say(f"{os.path.basename(program)}: {line}")
+    rt.say(f"{os.path.basename(program)}: {len(sessions)} stored sessions, {len(lines)} differ")
+    return bool(lines) or not sessions
+
+
+def with_sessions(rt, asked):
+    """A way to run what a crate's proof built, for rt's own: with the stored sessions behind it where that is the program. The builds that
+    were run on them are added to the list `asked`."""
+    own = rt.run
+
+    def run(crate, tests, ending=""):
+        is_well = own(crate, tests, ending)
+        if crate.name != PROGRAM or tests or not is_well:
+            return is_well
+        asked.append(ending)
+        return not sessions_differ(rt, f"{crate.folder}/out/{crate.name}{ending}")
+
+    return run
+
+
 def main():
     rt = load(os.path.realpath(shutil.which("rt")))
+    asked = []
+    rt.run = with_sessions(rt, asked)
     crate = rt.rtlib.Crate
     crate.stamp, crate.below = once(crate.stamp), once(crate.below)
     if hasattr(rt, "in_lanes"):
         rt.in_lanes = lanes_of(rt)
     else:
         os.environ["RT_JOBS"] = str(lanes_at_once())
-    return rt.main(["ci"])
+    status = rt.main(["ci"])
+    if not status and not asked:
+        print(f"no stored session was run on {PROGRAM}\n0 passed, 1 failed")
+        return 1
+    return status
 
 
 if __name__ == "__main__":

@@ -1,31 +1,22 @@
-"""Compares the stored sessions of `crates/gr_sessions` with the model.
+"""Compares the stored sessions, those of `crates/gr_server/sessions` or of another folder, with the model.
 
     python3 checks/stored.py [FOLDER]
 
-of another folder those that its file `args` lists. It names each session that the model answers otherwise, and each that is stored and not run, and ends with status 1 where there
-is one.
+It names each session that the model answers otherwise, and ends with status 1 where there is one.
 """
 
-import pathlib
 import sys
 
 from history import replies
-
-CRATE = pathlib.Path(__file__).resolve().parent.parent / "crates" / "gr_sessions"
+from replay import FOLDER, stored
 
 
 def main():
-    folder = pathlib.Path(sys.argv[1]) if len(sys.argv) > 1 else CRATE
-    data = folder / "data" if (folder / "data").is_dir() else folder
-    names = (folder / "args").read_text().split()
-    stored = {path.stem for path in data.glob("*.*")}
-    wrong = [f"{name}: not run" for name in sorted(stored - set(names))]
-    for name in names:
-        if replies((data / f"{name}.in").read_bytes()) != (data / f"{name}.out").read_bytes():
-            wrong.append(f"{name}: the model answers otherwise")
-    for line in wrong:
-        print(line)
-    print(f"{len(names)} sessions, {len(wrong)} differ")
+    sessions = stored(sys.argv[1] if len(sys.argv) > 1 else FOLDER)
+    wrong = [name for name, (sent, wanted) in sessions.items() if replies(sent) != wanted]
+    for name in wrong:
+        print(f"{name}: the model answers otherwise")
+    print(f"{len(sessions)} sessions, {len(wrong)} differ")
     sys.exit(1 if wrong else 0)
 
 

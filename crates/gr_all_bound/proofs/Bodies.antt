@@ -60,7 +60,7 @@ module _ (w : World) (targets : List Target) where
 abbrev pub Outcome : World → (A xs : List Site) → (Locals → Type 0) → Locals → Type 0
 Outcome w A xs R after = R after × AllKnown w after (past A xs)
 
-known_join : (w : World) (ls : Locals) (A xs ys : List Site) → AllKnown w ls (past (past A xs) ys) → AllKnown w ls (past A (xs ++ ys))
+pub known_join : (w : World) (ls : Locals) (A xs ys : List Site) → AllKnown w ls (past (past A xs) ys) → AllKnown w ls (past A (xs ++ ys))
 known_join w ls A xs ys h = subst (AllKnown w ls) (sym (past_append A xs ys)) h
 
 module _ (w : World) (B : ℕ → Type 0) (s : Source) (u : IsUnbroken w) where

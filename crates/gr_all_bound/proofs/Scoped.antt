@@ -1,6 +1,6 @@
 -- In a workspace without faults the scopes tell of each identifier of a file what its names stand for.
 use Rattle.std.proofs.Common.{ℕ, zero, suc, ◌≡◌, ◌<◌, ◌≤◌, ◌⊎◌, inl, inr, Bool, true, false, List, [], ◌∷◌, ◌++◌, length, map, ap, sym, subst, refl, ◌∙◌, arith}
-use Rattle.std.specs.Prelude.{Contains, Option, Some, None, slice_get, option_map, cond}
+use Rattle.std.specs.Prelude.{Contains, Option, Some, None, slice_get, option_map}
 use Rattle.std.specs.List.{AllByRecursion}
 use Rattle.std.proofs.lemmas.Bool.{true≢false}
 use Rattle.std.proofs.lemmas.Option.{same_Some, slice_get-map}
@@ -24,11 +24,11 @@ use Rattle.gr_scope.specs.Site.{Site, Source, found_site}
 use Rattle.gr_scope.specs.Table.{StandsAt, IsFoundAt}
 use Rattle.gr_scope.specs.Trees.{AreRising}
 use Rattle.gr_order.specs.Order.{StandInOrder}
-use Rattle.gr_order.specs.Tokens.{is_name, is_header_name, begins_declaration, names_among, identifiers_among}
+use Rattle.gr_order.specs.Tokens.{identifiers_among}
 use Rattle.gr_order.proofs.Covering.{Pairs, file_pairs}
 use Rattle.gr_order.proofs.HeldBytes.{numbered_files}
-use Rattle.gr_order.proofs.Ordered.{package_ordered, named_ordered, one_stands}
-use Rattle.gr_order.proofs.OwnPaths.{package_sources}
+use Rattle.gr_order.proofs.Ordered.{rising_identifiers, package_ordered, named_ordered, one_stands}
+use Rattle.gr_order.proofs.OwnPaths.{package_sources, part_at}
 use Rattle.gr_order.proofs.Places.{plainly_stands}
 use Rattle.gr_expr.specs.Types.{Meaning, Broken}
 use Rattle.gr_expr.specs.World.{World, Bound, Local, Means, BrokenVariable, BrokenFunction, BrokenType}
@@ -44,7 +44,6 @@ use Rattle.gr_meanings.proofs.OneMeaning.{one_name}
 use Rattle.gr_verdict.specs.Verdicts.{Verdicts, IsPackageIn}
 use Rattle.gr_verdict.proofs.Members.{first_in, later_in}
 use Rattle.gr_verdict.proofs.OnePackage.{layout_formed, files_in_order}
-use Rattle.gr_asked.proofs.NamedMembers.{part_at}
 use Rattle.gr_asked.proofs.OnePlace.{names_of, laid_of, same_layout, same_size, same_files}
 use Rattle.gr_order.proofs.Elements.{all_append}
 use Rattle.gr_unique.proofs.Apart.{all_as}
@@ -63,30 +62,6 @@ use Rattle.gr_all_bound.proofs.Types.{Stands, Kept, all_kept, none_by_scope}
 abbrev Sorted : ℕ → List Site → Type 0
 Sorted n [] = Unit {0}
 Sorted n (x ∷ xs) = (n ≤ x.place.index) × Sorted (suc x.place.index) xs
-
-rising_from : (n k : ℕ) (ts : List Token) → n ≤ k → AreRising k ts → AreRising n ts
-rising_from n k [] le h = tt
-rising_from n k (t ∷ ts) le h = ((let at : k ≤ t.place = h.0 in omega arith), h.1)
-
-rising_kept : (b : Bool) (n : ℕ) (t : Token) (ts : List Token) → n ≤ t.place → AreRising (suc t.place) ts → AreRising n (cond b (t ∷ ts) ts)
-rising_kept true n t ts le h = (le, h)
-rising_kept false n t ts le h = rising_from n (suc t.place) ts (omega arith) h
-
-rising_names : (n : ℕ) (ts : List Token) → AreRising n ts → AreRising n (names_among ts)
-rising_names n [] h = tt
-rising_names n (t ∷ ts) h = rising_kept (is_name t.kind) n t (names_among ts) h.0 (rising_names (suc t.place) ts h.1)
-
-rising_choice : (b : Bool) (n : ℕ) (ts us : List Token) → AreRising n ts → AreRising n us → AreRising n (cond b ts us)
-rising_choice true n ts us h k = h
-rising_choice false n ts us h k = k
-
-rising_identifiers : (n : ℕ) (ts : List Token) → AreRising n ts → AreRising n (identifiers_among ts)
-unfolding identifiers_among
-rising_identifiers n [] h = tt
-rising_identifiers n (t ∷ ts) h =
-    rising_choice (begins_declaration t.kind) n (names_among ts) (cond (is_header_name t.kind) (t ∷ identifiers_among ts) (identifiers_among ts))
-    (rising_from n (suc t.place) (names_among ts) (let le : n ≤ t.place = h.0 in omega arith) (rising_names (suc t.place) ts h.1))
-    (rising_kept (is_header_name t.kind) n t (identifiers_among ts) h.0 (rising_identifiers (suc t.place) ts h.1))
 
 sorted : (s : Source) (n : ℕ) (xs : List Site) (ts : List Token) → Pairs s xs ts → AreRising n ts → Sorted n xs
 sorted s n [] ts p h = tt

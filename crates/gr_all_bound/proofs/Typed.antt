@@ -48,9 +48,9 @@ use Rattle.gr_all_bound.proofs.Strung.{Strung, strung_split}
 use Rattle.gr_all_bound.specs.Unbroken.{IsUnbroken}
 use Rattle.gr_all_bound.proofs.Named.{no_broken_type}
 use Rattle.gr_all_bound.specs.Scopes.{AreResolved, may_be_local}
-use Rattle.gr_all_bound.proofs.Known.{past, past_append, resolved_left, resolved_right, AllKnown, known_none, known_past, abroad_past}
+use Rattle.gr_all_bound.proofs.Known.{past, resolved_left, resolved_right, AllKnown, known_none, known_past, abroad_past}
 use Rattle.gr_all_bound.proofs.Simples.{ident_declares, idents_declare, as_all_known, as_locals_kept}
-use Rattle.gr_all_bound.proofs.Bodies.{Outcome, block_typed}
+use Rattle.gr_all_bound.proofs.Bodies.{Outcome, known_join, block_typed}
 
 -- results want the types that are written
 
@@ -179,9 +179,6 @@ imports_abroad s (x ∷ xs) =
     abroad_append (imports_sites s x) (flat_map (imports_sites s) xs) (group_abroad (import_sites s) (one_import s) x.imports) (imports_abroad s xs)
 
 -- functions
-
-known_join : (w : World) (ls : Locals) (A xs ys : List Site) → AllKnown w ls (past (past A xs) ys) → AllKnown w ls (past A (xs ++ ys))
-known_join w ls A xs ys h = subst (AllKnown w ls) (sym (past_append A xs ys)) h
 
 -- what declares no local
 items_stay : {X : Type 0} (check : Checked → X → Checked) → ((a : Checked) (x : X) → (check a x).locals ≡ a.locals) → (is : List (Item X)) (st : Checked) →

@@ -36,7 +36,7 @@ use Rattle.gr_declared.specs.Bound.{PredeclaredMeans, a_type, a_truth, an_untrut
 use Rattle.gr_declared.specs.Bound as bound
 use Rattle.gr_meanings.specs.Worlds.{IsSelected, IsName, is_bound, is_unbound, by_scope, by_package}
 use Rattle.gr_verdict.specs.Verdicts.{Verdicts, IsPackageIn}
-use Rattle.gr_asked.proofs.NamedMembers.{part_at}
+use Rattle.gr_order.proofs.OwnPaths.{part_at}
 use Rattle.gr_asked.proofs.OnePlace.{names_of, laid_of, same_layout, same_size, same_files}
 use Rattle.gr_unique.proofs.Apart.{all_as}
 use Rattle.gr_unique.proofs.UsedMembers.{file_at, told_at}

@@ -18,16 +18,16 @@ use Rattle.gr_declared.specs.Package.{Package, PlacedType, PlacedVariable, Place
 use Rattle.gr_declared.specs.Package.{variables_of, placed_type, decl_types, decl_variables, decl_functions, types_in, variables_in, functions_in}
 use Rattle.gr_declared.specs.Package.{declared_types, declared_variables, declared_functions, spelled}
 use Rattle.gr_declared.specs.Written.{BindsToken, DeclaresType, Names, predeclared, defined, written_types, IsWrittenIn, IsBroken, by_itself, through, IsTypeOf}
-use Rattle.gr_meanings.proofs.DeclKinds.{Holds, holds_got}
+use Rattle.gr_meanings.proofs.DeclKinds.{Holds, holds_got, holds_flat, held_flat, holds_map, held_map, holds_ranked}
 use Rattle.gr_meanings.specs.Worlds.{IsWorldOf, is_init}
 use Rattle.gr_verdict.specs.FaultLists.{ListsFaults}
 use Rattle.gr_verdict.specs.Verdicts.{Verdicts, AreVerdicts}
 use Rattle.gr_bound.specs.Uses.{IsPackage}
-use Rattle.gr_order.proofs.Elements.{all_append}
+use Rattle.gr_order.proofs.Elements.{all_append, all_left, all_right}
 use Rattle.gr_all_bound.specs.Worlds.{HaveWorlds}
 use Rattle.gr_all_bound.proofs.NoFaults.{no_fault_in}
 use Rattle.gr_all_bound.proofs.Links.{source_is}
-use Rattle.gr_all_bound.proofs.Lists.{contained, all_left, all_right, all_held, holds_flat, held_flat, holds_map, held_map, holds_ranked}
+use Rattle.gr_all_bound.proofs.Lists.{contained, all_held}
 use Rattle.gr_all_bound.proofs.Sound.{types_of, IsSound, types_sound, receiver_sound}
 use Rattle.gr_all_bound.proofs.Tight.{IsTight, types_tight}
 use Rattle.gr_all_bound.proofs.Types.{Kept, all_kept, type_named, receiver_named}
@@ -76,10 +76,10 @@ variable_in_decl file (tree.VarDecl k g c) v h =
 variable_in_decl file (tree.TypeDecl k g c) v h = absurd h
 variable_in_decl file (tree.FuncDecl k f c) v h = absurd h
 
-abbrev IsFunctionDecl : FuncTree → DeclTree → Type 0
+abbrev pub IsFunctionDecl : FuncTree → DeclTree → Type 0
 IsFunctionDecl f d = (k : ℕ) × ((c : ℕ) × (d ≡ tree.FuncDecl k f c))
 
-function_in_decl : (file : ℕ) (d : DeclTree) (f : PlacedFunction) → Holds (decl_functions file d) f → (file ≡ f.file) × IsFunctionDecl f.function d
+pub function_in_decl : (file : ℕ) (d : DeclTree) (f : PlacedFunction) → Holds (decl_functions file d) f → (file ≡ f.file) × IsFunctionDecl f.function d
 function_in_decl file (tree.VarDecl k g c) f h = absurd h
 function_in_decl file (tree.TypeDecl k g c) f h = absurd h
 function_in_decl file (tree.FuncDecl k x c) f h = elim h [

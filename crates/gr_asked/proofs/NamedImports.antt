@@ -27,7 +27,7 @@ use Rattle.gr_imports.specs.Laid.{is_literal, literal_of}
 use Rattle.gr_order.specs.Covered.{IsPlaceOfOne, HasOneAt}
 use Rattle.gr_order.specs.Tokens.{identifiers_among}
 use Rattle.gr_order.proofs.FileIdentifiers.{role_in}
-use Rattle.gr_order.proofs.OwnPaths.{package_sources}
+use Rattle.gr_order.proofs.OwnPaths.{package_sources, part_at}
 use Rattle.gr_order.proofs.Places.{one_has_place, named_has_one}
 use Rattle.gr_order.proofs.Roles.{role_keeps}
 use Rattle.gr_declared.specs.Package.{Package}
@@ -36,7 +36,6 @@ use Rattle.gr_verdict.specs.Verdicts.{Verdicts, IsPackageIn}
 use Rattle.gr_verdict.proofs.Importing.{literal_path}
 use Rattle.gr_verdict.proofs.PackageFiles.{entry_at}
 use Rattle.gr_bound.specs.Binding.{NamesPackage}
-use Rattle.gr_asked.proofs.NamedMembers.{part_at}
 use Rattle.gr_asked.proofs.OnePlace.{names_of, laid_of, same_layout, same_size, same_files}
 use Rattle.gr_asked.proofs.HeaderStrings.{is_import_literal}
 use Rattle.gr_asked.proofs.ImportSites.{literal_within, literal_file, import_identifies}

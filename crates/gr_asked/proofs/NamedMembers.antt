@@ -1,11 +1,9 @@
 -- The names by which fields and methods are declared: no scope binds them, and they stand behind no package's name.
-use Rattle.std.proofs.Common.{ℕ, zero, suc, ◌≡◌, ◌+◌, ◌<◌, ◌⊎◌, inl, inr, List, [], ◌∷◌, ◌++◌, map, ap, sym, subst, refl, ◌∙◌, arith}
+use Rattle.std.proofs.Common.{ℕ, zero, suc, ◌≡◌, ◌+◌, ◌<◌, inl, inr, List, [], ◌∷◌, map, ap, sym, subst, refl, ◌∙◌, arith}
 use Rattle.std.specs.Prelude.{Contains, Some, slice_get}
-use Rattle.std.specs.List.{flat_map, enumerate_from}
 use Rattle.std.proofs.lemmas.List.Elements.{Contains-append_right}
-use Rattle.std.proofs.lemmas.Option.{none-some, same_Some}
 use Rattle.gr_text.specs.Workspace.{Workspace}
-use Rattle.gr_tree.specs.SourceFile.{SourceFile, FileParts, source_of}
+use Rattle.gr_tree.specs.SourceFile.{SourceFile, source_of}
 use Rattle.gr_tree.specs.Tree.{Item, Group, single, several, FieldTree, BodyTree, Other, Struct, TypeSpecTree, ReceiverTree, DeclTree, VarDecl, TypeDecl}
 use Rattle.gr_tree.specs.Tree.{FuncDecl}
 use Rattle.gr_scope.specs.declared.model.Position.{Position}
@@ -15,62 +13,18 @@ use Rattle.gr_scope.specs.Table.{StandsAt}
 use Rattle.gr_order.specs.MemberNames.{in_group, field_names, body_members, method_name, decl_members, member_names}
 use Rattle.gr_order.proofs.Lexical.{never_bound}
 use Rattle.gr_order.proofs.Members.{named_member_stands}
-use Rattle.gr_order.proofs.OwnPaths.{package_sources}
+use Rattle.gr_order.proofs.OwnPaths.{package_sources, part_at}
 use Rattle.gr_imports.specs.Files.{Ranked, ranked, group_items}
 use Rattle.gr_declared.specs.Definitions.{PlacedField, body_fields, fields_from, package_fields}
 use Rattle.gr_declared.specs.Package.{Package, PlacedType, PlacedFunction, placed_type, decl_types, decl_functions, types_in, functions_in, package_types}
 use Rattle.gr_declared.specs.Package.{package_functions, function_place}
-use Rattle.gr_meanings.proofs.DeclKinds.{Holds, holds_got}
+use Rattle.gr_meanings.proofs.DeclKinds.{Holds, holds_got, holds_append, holds_flat, holds_map, holds_ranked, held_flat, held_map}
 use Rattle.gr_verdict.specs.Verdicts.{Verdicts, IsPackageIn}
 use Rattle.gr_bound.specs.declared.declaration.Declaration.{Declaration}
 use Rattle.gr_bound.specs.declared.declaration.Declaration.TheVariants.{Predeclared, Declared, Field, Method}
 use Rattle.gr_bound.specs.Binding.{BindsByScope, BindsByPackage, BindsByName, IsNameOf, IsFieldAt, IsMethodAt, field_place}
 use Rattle.gr_bound.proofs.Excluding.{number_bound, exported_as}
 use Rattle.gr_asked.proofs.OnePlace.{names_of, same_layout, same_size, same_files}
-
-holds_left : {X : Type 0} (xs ys : List X) (x : X) → Holds xs x → Holds (xs ++ ys) x
-holds_left [] ys x h = absurd h
-holds_left (z ∷ zs) ys x h = elim h [ inl e ↦ inl e | inr r ↦ inr (holds_left zs ys x r) ]
-
-holds_right : {X : Type 0} (xs ys : List X) (x : X) → Holds ys x → Holds (xs ++ ys) x
-holds_right [] ys x h = h
-holds_right (z ∷ zs) ys x h = inr (holds_right zs ys x h)
-
-holds_append : {X : Type 0} (xs ys : List X) (x : X) → Holds (xs ++ ys) x → Holds xs x ⊎ Holds ys x
-holds_append [] ys x h = inr h
-holds_append (z ∷ zs) ys x h = elim h [
-  | inl e ↦ inl (inl e)
-  | inr r ↦ elim (holds_append zs ys x r) [ inl a ↦ inl (inr a) | inr b ↦ inr b ]
-]
-
-holds_flat : {X Y : Type 0} (f : X → List Y) (xs : List X) (y : Y) → Holds (flat_map f xs) y → (x : X) × (Holds xs x × Holds (f x) y)
-holds_flat f [] y h = absurd h
-holds_flat f (x ∷ xs) y h = elim (holds_append (f x) (flat_map f xs) y h) [
-  | inl a ↦ (x, (inl refl, a))
-  | inr b ↦ (let r = holds_flat f xs y b in (r.0, (inr r.1.0, r.1.1)))
-]
-
-flat_holds : {X Y : Type 0} (f : X → List Y) (xs : List X) (x : X) (y : Y) → Holds xs x → Holds (f x) y → Holds (flat_map f xs) y
-flat_holds f [] x y h k = absurd h
-flat_holds f (z ∷ zs) x y h k = elim h [
-  | inl e ↦ holds_left (f z) (flat_map f zs) y (subst (λ q. Holds (f q) y) (sym e) k)
-  | inr r ↦ holds_right (f z) (flat_map f zs) y (flat_holds f zs x y r k)
-]
-
-holds_map : {X Y : Type 0} (f : X → Y) (xs : List X) (y : Y) → Holds (map f xs) y → (x : X) × (Holds xs x × (f x ≡ y))
-holds_map f [] y h = absurd h
-holds_map f (x ∷ xs) y h = elim h [ inl e ↦ (x, (inl refl, e)) | inr r ↦ (let s = holds_map f xs y r in (s.0, (inr s.1.0, s.1.1))) ]
-
-map_holds : {X Y : Type 0} (f : X → Y) (xs : List X) (x : X) → Holds xs x → Holds (map f xs) (f x)
-map_holds f [] x h = absurd h
-map_holds f (z ∷ zs) x h = elim h [ inl e ↦ inl (ap f e) | inr r ↦ inr (map_holds f zs x r) ]
-
-holds_ranked : {X : Type 0} (n : ℕ) (xs : List X) (r : ℕ × X) → Holds (enumerate_from n xs) r → (i : ℕ) × ((r.0 ≡ n + i) × (slice_get xs i ≡ Some r.1))
-holds_ranked n [] r h = absurd h
-holds_ranked n (x ∷ xs) r h = elim h [
-  | inl e ↦ (zero, ((let z : r.0 ≡ n = sym (ap (λ q. q.0) e) in omega arith), ap (λ q. Some q.1) e))
-  | inr k ↦ (let s = holds_ranked (n + 1) xs r k in (suc s.0, ((let z : r.0 ≡ n + 1 + s.0 = s.1.0 in omega arith), s.1.1)))
-]
 
 contained : {X : Type 0} (xs : List X) (x : X) → Holds xs x → Contains xs x
 contained [] x h = absurd h
@@ -99,9 +53,9 @@ body_field definition file (Struct k o fs c) f h =
           x.0.value.type_use;
     }) x.0.value.names f x.1.1 in (
       ap (λ (z : PlacedField). z.file) n.1.1,
-      flat_holds (λ (i : Item FieldTree). field_names i.value) fs x.0 f.name x.1.0
+      held_flat (λ (i : Item FieldTree). field_names i.value) fs x.0 f.name x.1.0
           (subst (λ q. Holds (field_names x.0.value) q) (ap (λ (z : PlacedField). z.name) n.1.1)
-          (map_holds (λ (i : Item ℕ). i.value) x.0.value.names n.0 n.1.0)),
+          (held_map (λ (i : Item ℕ). i.value) x.0.value.names n.0 n.1.0)),
     )
 
 type_of_field : (rank : ℕ) (ds : List PlacedType) (f : PlacedField) → Holds (fields_from rank ds) f → (d : PlacedType) ×
@@ -116,7 +70,7 @@ in_items : (f : TypeSpecTree → List ℕ) (g : Group TypeSpecTree) (t : TypeSpe
 in_items f (single x) t n h k = elim h [ inl e ↦ subst (λ q. Holds (f q) n) (sym e) k | inr z ↦ absurd z ]
 in_items f (several o xs c) t n h k =
     let i = holds_map (λ (i : Item TypeSpecTree). i.value) xs t h in
-    flat_holds (λ (i : Item TypeSpecTree). f i.value) xs i.0 n i.1.0 (subst (λ q. Holds (f q) n) (sym i.1.1) k)
+    held_flat (λ (i : Item TypeSpecTree). f i.value) xs i.0 n i.1.0 (subst (λ q. Holds (f q) n) (sym i.1.1) k)
 
 type_members : (file : ℕ) (decl : DeclTree) (d : PlacedType) (n : ℕ) → Holds (decl_types file decl) d → Holds (body_members d.spec.body) n →
     (file ≡ d.file) × Holds (decl_members decl) n
@@ -151,7 +105,7 @@ in_tree files r decl at hr hd e m =
     record {
       source = r.1;
       of_rank = subst (λ k. slice_get files k ≡ Some r.1) same i.1.1;
-      member = contained (member_names r.1.tree) at.index (flat_holds decl_members r.1.tree.decls decl at.index hd m);
+      member = contained (member_names r.1.tree) at.index (held_flat decl_members r.1.tree.decls decl at.index hd m);
     }
 
 field_in_tree : (p : Package) (rank : ℕ) (f : PlacedField) → slice_get (package_fields p) rank ≡ Some f → IsMemberIn p.files (field_place f)
@@ -171,12 +125,6 @@ method_in_tree p rank f x is e =
     in_tree p.files r.0 decl.0 (function_place f) r.1.0 decl.1.0 m.0 m.1
 
 -- their roles
-
-pub part_at : (ts : List FileParts) (i : ℕ) (s : SourceFile) → slice_get (map source_of ts) i ≡ Some s → (t : FileParts) ×
-    ((slice_get ts i ≡ Some t) × (source_of t ≡ s))
-part_at [] i s at = absurd (none-some s at)
-part_at (t ∷ ts) zero s at = (t, (refl, same_Some (source_of t) s at))
-part_at (t ∷ ts) (suc i) s at = part_at ts i s at
 
 role_of : (w : Workspace) (known : Verdicts) (path : List ℕ) (p : Package) → IsPackageIn w known path p → (at : Position) → IsMemberIn p.files at →
     (u : ℕ) → u < p.size →

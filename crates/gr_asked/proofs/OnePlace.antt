@@ -1,11 +1,11 @@
 -- A place of a package, and a byte of its files, is that of one identifier.
-use Rattle.std.proofs.Common.{ℕ, zero, suc, ◌≡◌, ◌<◌, List, [], ◌∷◌, length, ap, sym, subst, ◌∙◌}
+use Rattle.std.proofs.Common.{ℕ, ◌≡◌, ◌<◌, List, length, ap, sym, subst, ◌∙◌}
 use Rattle.std.specs.Prelude.{Option, map, slice_get}
 use Rattle.gr_text.specs.Workspace.{Workspace}
-use Rattle.gr_tree.specs.SourceFile.{SourceFile, FileParts, source_of}
+use Rattle.gr_tree.specs.SourceFile.{SourceFile, source_of}
 use Rattle.gr_scope.specs.Bindings.{Layout, IsIdentifier}
 use Rattle.gr_scope.specs.Named.{named}
-use Rattle.gr_scope.specs.Scoped.{ScopedPackage, scoped, layout_in, IsPlaceOf}
+use Rattle.gr_scope.specs.Scoped.{ScopedPackage, scoped, layout_in}
 use Rattle.gr_order.specs.Bytes as bytes
 use Rattle.gr_order.proofs.HeldBytes.{one_named_begins}
 use Rattle.gr_order.proofs.OwnPaths.{own_paths, package_sources, package_byte}
@@ -14,6 +14,7 @@ use Rattle.gr_verdict.specs.Verdicts.{Verdicts, IsPackageIn}
 use Rattle.gr_verdict.proofs.OnePackage.{one_checked}
 use Rattle.gr_bound.specs.Identifiers.{NameBegins, BeginsAt, HoldsByte}
 use Rattle.gr_bound.specs.Uses.{IsAskedIn}
+use Rattle.gr_bound.proofs.Files.{place_of_name}
 
 -- what a package is made of
 
@@ -38,12 +39,6 @@ same_files w known path p h = ap (λ (x : Package). x.files) h.is_package.is_pac
 
 abbrev Begins : List SourceFile → Layout → (path : List ℕ) → (offset u : ℕ) → Type 0
 Begins files l path offset u = IsIdentifier l u × NameBegins (slice_get files (l.place u).file) (l.place u).index path offset
-
-place_of_name : (files : List FileParts) (i token : ℕ) (path : List ℕ) (offset : ℕ) → NameBegins (slice_get (map source_of files) i) token path offset →
-    IsPlaceOf (slice_get files i) token path offset
-place_of_name [] i token path offset h = absurd h
-place_of_name (f ∷ fs) zero token path offset h = (h.1, h.2)
-place_of_name (f ∷ fs) (suc i) token path offset h = place_of_name fs i token path offset h
 
 begins_laid : (w : Workspace) (known : Verdicts) (path : List ℕ) (p : Package) (h : IsPackageIn w known path p) (file : List ℕ) (offset u : ℕ) →
     BeginsAt p file offset u →

@@ -1,17 +1,16 @@
 -- The members that are used at a token: one declaration at most, and no other way binds the name but one behind a package's name.
-use Rattle.std.proofs.Common.{ℕ, zero, suc, ◌≡◌, ◌<◌, ◌⊎◌, inl, inr, List, [], ◌∷◌, ap, sym, subst, ◌∙◌}
+use Rattle.std.proofs.Common.{ℕ, ◌≡◌, ◌<◌, ◌⊎◌, inl, inr, List, ap, sym, subst, ◌∙◌}
 use Rattle.std.specs.Prelude.{Contains, Some, slice_get}
-use Rattle.std.proofs.lemmas.List.Elements.{All-head, All-tail}
-use Rattle.std.proofs.lemmas.Option.{none-some, same_Some}
+use Rattle.std.proofs.lemmas.Option.{same_Some}
 use Rattle.gr_text.specs.Workspace.{Workspace}
 use Rattle.gr_tree.specs.SourceFile.{SourceFile, FileParts, IsSourceFile, source_of}
 use Rattle.gr_scope.specs.declared.model.Purpose.TheVariants as purpose
 use Rattle.gr_scope.specs.declared.model.Role.TheVariants.{NotLexical}
 use Rattle.gr_scope.specs.Bindings.{IsIdentifier}
-use Rattle.gr_order.specs.Covered.{AreSourceFiles}
 use Rattle.gr_order.specs.Roles.{IsToldByTokens}
+use Rattle.gr_order.proofs.HeldBytes.{source_file_at}
 use Rattle.gr_order.proofs.Lexical.{never_bound}
-use Rattle.gr_order.proofs.OwnPaths.{package_sources}
+use Rattle.gr_order.proofs.OwnPaths.{package_sources, part_at}
 use Rattle.gr_order.proofs.Roles.{named_role_told}
 use Rattle.gr_expr.specs.Judge.{MemberUse}
 use Rattle.gr_expr.specs.World.{World}
@@ -29,14 +28,8 @@ use Rattle.gr_bound.specs.Binding.{BindsByScope, BindsByMember, BindsByName, IsM
 use Rattle.gr_bound.specs.Identifiers.{Stands}
 use Rattle.gr_bound.proofs.Excluding.{number_bound}
 use Rattle.gr_bound.proofs.MemberParts.{one_list}
-use Rattle.gr_asked.proofs.NamedMembers.{part_at, name_member}
+use Rattle.gr_asked.proofs.NamedMembers.{name_member}
 use Rattle.gr_asked.proofs.OnePlace.{names_of, same_layout, same_size, same_files}
-
-source_at : (ts : List FileParts) → AreSourceFiles ts → (i : ℕ) (t : FileParts) → slice_get ts i ≡ Some t → IsSourceFile (source_of t)
-source_at [] w i t is = absurd (none-some t is)
-source_at (x ∷ xs) w zero t is =
-    subst (λ (y : FileParts). IsSourceFile (source_of y)) (same_Some x t is) (All-head (λ (g : FileParts). IsSourceFile (source_of g)) x xs w)
-source_at (x ∷ xs) w (suc i) t is = source_at xs (All-tail (λ (g : FileParts). IsSourceFile (source_of g)) x xs w) i t is
 
 module _ (w : Workspace) (known : Verdicts) (path : List ℕ) (p : Package) (h : IsPackageIn w known path p) where
   -- the tree of a file of the package
@@ -46,7 +39,7 @@ module _ (w : Workspace) (known : Verdicts) (path : List ℕ) (p : Package) (h :
   is_source : (file : ℕ) (s : SourceFile) → slice_get p.files file ≡ Some s → IsSourceFile s
   is_source file s is =
       let t = part_of file s is in
-      subst IsSourceFile t.1.1 (source_at h.files (package_sources w path h.files h.parsed) file t.0 t.1.0)
+      subst IsSourceFile t.1.1 (source_file_at h.files (package_sources w path h.files h.parsed) file t.0 t.1.0)
 
   is_one_world : IsOneWorld p
   is_one_world = one_world p (layout_formed w known path p h) (files_in_order w known path p h)

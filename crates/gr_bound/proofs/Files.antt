@@ -1,24 +1,29 @@
 -- The names among the tokens of a package's files, by the file's number.
-use Rattle.std.proofs.Common.{◌≡◌, ◌↔◌, ◌<◌, ◌≤◌, ℕ, Bool, false, List, [], ◌∷◌, ◌++◌, length, map, refl, sym, ap, subst, ◌∙◌}
+use Rattle.std.proofs.Common.{◌≡◌, ◌↔◌, ◌<◌, ◌≤◌, ℕ, zero, suc, Bool, false, List, [], ◌∷◌, ◌++◌, length, map, sym, ap, subst, ◌∙◌}
 use Rattle.std.specs.Prelude.{Option, Some, None, Result, OnOk, IsTrue, slice_get, get_or}
 use Rattle.std.proofs.lemmas.Bool.{false≢true}
 use Rattle.std.specs.Option.{option_map}
-use Rattle.std.proofs.lemmas.Option.{slice_get-map, slice_get_read, slice_get_past}
+use Rattle.std.proofs.lemmas.Option.{slice_get-map, slice_get_past}
 use Rattle.gr_scan.specs.declared.piece.Class.TheVariants.{Name}
 use Rattle.gr_scan.specs.declared.piece.Piece.{Piece}
 use Rattle.gr_scan.specs.CutText.{tokens_in}
 use Rattle.gr_tree.specs.SourceFile.{SourceFile, FileParts, source_of, offset_of}
+use Rattle.gr_scope.specs.Scoped.{IsPlaceOf}
+use Rattle.gr_imports.proofs.PathParts.{source_at as file_at}
 use Rattle.gr_bound.specs.declared.spot.Spot.{Spot}
 use Rattle.gr_bound.specs.Identifiers.{IsName, NameBegins}
 use Rattle.gr_bound.specs.Steps.{Adds}
 use Rattle.gr_bound.proofs.Adding.{adds_none, adds_one}
 
-pub file_at : (files : List FileParts) (k : ℕ) (f : FileParts) → k < length files → f ≡ get_or files k f →
-    slice_get (map source_of files) k ≡ Some (source_of f)
-file_at files k f lt e = slice_get-map source_of files k ∙ ap (option_map source_of) (slice_get_read files (length files) k f refl lt e)
-
 pub no_file : (files : List FileParts) (k : ℕ) → length files ≤ k → slice_get (map source_of files) k ≡ None
 no_file files k le = slice_get-map source_of files k ∙ ap (option_map source_of) (slice_get_past files k le)
+
+-- a name by the trees of files
+pub place_of_name : (files : List FileParts) (i token : ℕ) (path : List ℕ) (offset : ℕ) → NameBegins (slice_get (map source_of files) i) token path offset →
+    IsPlaceOf (slice_get files i) token path offset
+place_of_name [] i token path offset h = absurd h
+place_of_name (f ∷ fs) zero token path offset h = (h.1, h.2)
+place_of_name (f ∷ fs) (suc i) token path offset h = place_of_name fs i token path offset h
 
 -- whether a token is a name
 

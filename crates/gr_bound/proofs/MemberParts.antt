@@ -1,5 +1,5 @@
 -- Members that are used, from the member uses and the definitions that the program has.
-use Rattle.std.proofs.Common.{ℕ, ◌≡◌, ◌<◌, List, [], length, ap, sym, subst, refl, ◌∙◌, arith, true, false, Bool, if◌then◌else◌}
+use Rattle.std.proofs.Common.{ℕ, ◌≡◌, ◌<◌, List, [], length, ap, sym, subst, refl, ◌∙◌, arith, Bool, if◌then◌else◌}
 use Rattle.std.specs.Prelude.{Option, Some, None, Contains, option_map, slice_get, map}
 use Rattle.std.specs.Global.{Vec}
 use Rattle.std.specs.Cmp.Lexicographic.{bytes_decides}
@@ -26,6 +26,7 @@ use Rattle.gr_meanings.specs.Worlds.{IsWorldOf, is_init}
 use Rattle.gr_meanings.specs.Uniqueness.{IsOneWorld}
 use Rattle.gr_meanings.proofs.BoundLists.{slice_get_some}
 use Rattle.gr_meanings.proofs.OneWorld.{one_definitions}
+use Rattle.gr_meanings.proofs.WorldParts.{is_other}
 use Rattle.gr_bound.specs.declared.declaration.Declaration.{Declaration}
 use Rattle.gr_bound.specs.declared.declaration.Declaration.TheVariants.{Declared, Method}
 use Rattle.gr_bound.specs.Binding.{declaration_of, IsMemberAt}
@@ -51,15 +52,11 @@ seen_own : (unit : PackageUnit) (own : List Definition) (s : Symbol) → unit.pa
 seen_own unit own s e = ap (λ t. definition_or_none s (if t then slice_get own s.rank else imported_at unit.interfaces.now.definitions s))
     ((bytes_decides unit.path.now s.package).1 e)
 
-differs : (a b : List ℕ) → (a ≡ b → ⊥) → (t : Bool) → same_path a b ≡ t → t ≡ false
-differs a b n true e = absurd (n ((bytes_decides a b).0 e))
-differs a b n false e = refl
-
 seen_other : (unit : PackageUnit) (own : List Definition) (s : Symbol) → (unit.path.now ≡ s.package → ⊥) →
     definitions_seen unit own s ≡ definition_or_none s (imported_at unit.interfaces.now.definitions s)
 seen_other unit own s n =
     ap (λ t. definition_or_none s (if t then slice_get own s.rank else imported_at unit.interfaces.now.definitions s))
-    (differs unit.path.now s.package n (same_path unit.path.now s.package) refl)
+    (is_other unit.path.now s.package n (same_path unit.path.now s.package) refl)
 
 pub seen_definitions : (unit : PackageUnit) (own : List Definition) → KnowsOwn (package_of unit) own →
     AreDefinitions (package_of unit) (definitions_seen unit own)

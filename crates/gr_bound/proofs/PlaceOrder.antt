@@ -2,22 +2,18 @@
 use Rattle.std.proofs.Common.{◌≡◌, ap, refl, ◌∙◌}
 use Rattle.std.specs.declared.cmp.Ordering.{Ordering}
 use Rattle.std.specs.declared.cmp.Ordering.TheVariants.{Less, Equal, Greater}
-use Rattle.std.specs.Ordering.{nat_cmp, ordering_then, ordering_reverse}
+use Rattle.std.specs.Ordering.{nat_cmp, ordering_reverse}
 use Rattle.std.specs.Cmp.{IsTotalOrder, on_total, then_total, nat_cmp_total}
 use Rattle.std.specs.Cmp.Lexicographic.{nat_list_cmp_total}
 use Rattle.std.specs.FinMap.{nat_cmp-IsAntisymmetric}
 use Rattle.gr_text.specs.Workspace.{path_cmp}
 use Rattle.gr_text.specs.declared.place.Place.{Place}
 use Rattle.gr_text.proofs.WorkspaceLaws.{path_cmp_exact}
+use Rattle.gr_verdict.proofs.FaultOrder.{both_equal}
 use Rattle.gr_bound.specs.Places.{place_cmp}
 
 pub place_cmp_total : IsTotalOrder place_cmp
 place_cmp_total = then_total (on_total (λ (p : Place). p.path) nat_list_cmp_total) (on_total (λ (p : Place). p.offset) nat_cmp_total)
-
-both_equal : (a b : Ordering) → ordering_then a b ≡ Equal → (a ≡ Equal) × (b ≡ Equal)
-both_equal Less b e = let z : ⊥ = cc in absurd z
-both_equal Equal b e = (refl, e)
-both_equal Greater b e = let z : ⊥ = cc in absurd z
 
 pub place_is : (a b : Place) → a.path ≡ b.path → a.offset ≡ b.offset → a ≡ b
 place_is a b e f = ap (λ p. record { path = p; offset = a.offset }) e ∙ ap (λ o. record { path = b.path; offset = o }) f

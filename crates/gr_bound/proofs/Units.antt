@@ -1,5 +1,5 @@
 -- The packages of a workspace without faults, read again.
-use Rattle.std.proofs.Common.{ℕ, ◌≡◌, ◌<◌, inl, inr, Bool, true, false, List, [], ◌+◌, length, get_or, ap, sym, subst, refl, ◌∙◌, arith}
+use Rattle.std.proofs.Common.{ℕ, ◌≡◌, ◌<◌, inl, inr, List, [], ◌+◌, length, get_or, ap, sym, subst, refl, ◌∙◌, arith}
 use Rattle.std.specs.Prelude.{Option, Some, None, Contains, map, slice_get}
 use Rattle.std.specs.List.Sorted.{IsStrictlySortedBy}
 use Rattle.std.proofs.lemmas.Bool.{cases_lt}
@@ -30,11 +30,11 @@ use Rattle.gr_verdict.specs.Faults.{placed, fault_cmp}
 use Rattle.gr_verdict.specs.FaultLists.{AreListed, ListsFaults}
 use Rattle.gr_verdict.specs.Found.{AreFindings}
 use Rattle.gr_verdict.specs.Told.{IsFinding, known_by}
-use Rattle.gr_verdict.specs.Verdicts.{Verdict, Verdicts, AreSeen, IsPackageIn, IsFaultBy, IsVerdictBy}
+use Rattle.gr_verdict.specs.Verdicts.{Verdicts, AreSeen, IsPackageIn, IsFaultBy}
 use Rattle.gr_verdict.proofs.Alike.{fault_as}
 use Rattle.gr_verdict.proofs.Members.{empty_by, nothing_in, first_in, later_in}
 use Rattle.gr_verdict.proofs.OnePackage.{one_checked}
-use Rattle.gr_verdict.proofs.OneVerdict.{right_alike, right_below, verdict_by}
+use Rattle.gr_verdict.proofs.OneVerdict.{right_alike, right_below, verdict_by, without_faults}
 use Rattle.gr_bound.specs.Members.{KnowsOwn, definitions_or_none}
 use Rattle.gr_bound.specs.Uses.{IsPackage}
 use Rattle.gr_bound.specs.Packages.{IsSeenBy, IsTableAs}
@@ -201,11 +201,6 @@ own_known all p own is e =
     }
 
 -- what others see of a package without faults
-
-without_faults : (w : Workspace) (known : Verdicts) (p : List ℕ) (v : Verdict) → IsVerdictBy w known p v → ((f : FileFault) → IsFaultBy w known p f → ⊥) →
-    (b : Bool) → v.faulty ≡ b → v.faulty ≡ false
-without_faults w known p v by sound true e = let f = by.has_faults.0 e in absurd (sound f.0 f.1)
-without_faults w known p v by sound false e = e
 
 pub interface_at : (w : Workspace) (found : Findings) → IsSound w found → (n : ℕ) (p : Package) → IsPackageAt w (known_by found.interfaces) n p →
     IsInterface p (interface_in found.interfaces p.path)

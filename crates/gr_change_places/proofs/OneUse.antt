@@ -1,5 +1,5 @@
 -- The scopes of a workspace bind what begins at a place to one declaration at most.
-use Rattle.std.proofs.Common.{ℕ, zero, suc, ◌≡◌, ◌<◌, List, [], ◌∷◌, length, map, refl, ap, sym, subst, ◌∙◌}
+use Rattle.std.proofs.Common.{ℕ, zero, suc, ◌≡◌, ◌<◌, List, [], length, map, refl, ap, sym, subst, ◌∙◌}
 use Rattle.std.specs.Prelude.{Option, Some, None, Contains, slice_get}
 use Rattle.std.proofs.lemmas.Option.{none-some, same_Some}
 use Rattle.gr_text.specs.Path.{folder}
@@ -11,7 +11,7 @@ use Rattle.gr_scope.specs.Bindings.{Layout, IsIdentifier}
 use Rattle.gr_scope.specs.FileSites.{package_sites}
 use Rattle.gr_scope.specs.Named.{named, named_sites}
 use Rattle.gr_scope.specs.Parsed.{spelled_file}
-use Rattle.gr_scope.specs.Scoped.{ScopedPackage, scoped, layout_in, IsPlaceOf}
+use Rattle.gr_scope.specs.Scoped.{ScopedPackage, scoped, layout_in}
 use Rattle.gr_scope.specs.Site.{sites_layout}
 use Rattle.gr_scope.specs.Trees.{AreNumbered}
 use Rattle.gr_scope.specs.WellFormed.{WellFormed}
@@ -26,6 +26,7 @@ use Rattle.gr_bound.specs.declared.declaration.Declaration.{Declaration}
 use Rattle.gr_bound.specs.Binding.{BindsByScope}
 use Rattle.gr_bound.specs.Identifiers.{NameBegins, BeginsAt, file_of}
 use Rattle.gr_bound.proofs.Excluding.{one_by_scope}
+use Rattle.gr_bound.proofs.Files.{place_of_name}
 use Rattle.gr_scoped.specs.ScopedPackages.{IsScopedIn}
 use Rattle.gr_change_places.specs.ScopeBindings.{IsScopeUse}
 use Rattle.gr_change_places.proofs.OneScoped.{one_scoped}
@@ -37,13 +38,6 @@ entry_of none i s at = absurd (none-some s at)
 entry_of (tree {e = e} {es = es} {t = t} is rest) zero s at =
     (e, (first_in e es, ap (λ (z : SourceFile). z.path) (sym (same_Some (source_of t) s at)) ∙ is.of_path))
 entry_of (tree {e = e} {es = es} is rest) (suc i) s at = let r = entry_of rest i s at in (r.0, (later_in e es r.0 r.1.0, r.1.1))
-
--- a name by the trees of a package's files
-place_of_name : (files : List FileParts) (i token : ℕ) (path : List ℕ) (offset : ℕ) → NameBegins (slice_get (map source_of files) i) token path offset →
-    IsPlaceOf (slice_get files i) token path offset
-place_of_name [] i token path offset h = absurd h
-place_of_name (f ∷ fs) zero token path offset h = (h.1, h.2)
-place_of_name (f ∷ fs) (suc i) token path offset h = place_of_name fs i token path offset h
 
 abbrev Begins : List SourceFile → Layout → List ℕ → ℕ → ℕ → Type 0
 Begins files l path offset u = IsIdentifier l u × NameBegins (slice_get files (l.place u).file) (l.place u).index path offset

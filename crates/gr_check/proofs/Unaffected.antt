@@ -1,6 +1,6 @@
 -- The bindings of packages that a change does not affect.
-use Rattle.std.proofs.Common.{ℕ, ◌≡◌, List, refl, sym, ap, subst, ◌∙◌}
-use Rattle.std.specs.Prelude.{Option, Some, None, Contains, slice_get}
+use Rattle.std.proofs.Common.{ℕ, ◌≡◌, List, sym, ap, subst, ◌∙◌}
+use Rattle.std.specs.Prelude.{Some, Contains, slice_get}
 use Rattle.std.proofs.lemmas.Option.{same_Some}
 use Rattle.gr_text.specs.Packages.{package_paths}
 use Rattle.gr_text.specs.Path.{folder}
@@ -8,29 +8,23 @@ use Rattle.gr_text.specs.Workspace.{Workspace}
 use Rattle.gr_text.specs.declared.place.Place.{Place}
 use Rattle.gr_edit.specs.EditSet.{FileChanges}
 use Rattle.gr_edit.specs.Moved.{moved}
-use Rattle.gr_tree.specs.SourceFile.{SourceFile}
 use Rattle.gr_graph.specs.Packages.{IsInClosure, itself}
 use Rattle.gr_verdict.specs.Verdicts.{Verdicts, AreVerdicts}
 use Rattle.gr_verdict.proofs.Local.{same_back}
 use Rattle.gr_bound.specs.declared.declaration.Declaration.{Declaration}
 use Rattle.gr_bound.specs.declared.declaration.Declaration.TheVariants.{Predeclared, Declared, Field, Method}
 use Rattle.gr_bound.specs.Uses.{IsPackage, IsUseOf}
-use Rattle.gr_standing.specs.Standing.{InPackage, TokenBegins, StandsIn, IsDeclaredAt}
+use Rattle.gr_standing.specs.Standing.{InPackage, StandsIn, IsDeclaredAt}
 use Rattle.gr_steady.specs.Within.{StandsWithin, IsDeclaredWithin, predeclared as predeclared_within, stands as stands_within}
 use Rattle.gr_standing.proofs.Folders.{begins_in_folder, file_in_folder}
 use Rattle.gr_steady.proofs.Bindings.{use_stays}
-use Rattle.gr_steady.proofs.Standing.{bound_within}
+use Rattle.gr_steady.proofs.Standing.{token_file, bound_within}
 use Rattle.gr_affected.specs.Affected.{IsUnaffected}
 use Rattle.gr_affected.proofs.Unaffected.{stays_put, declared_then}
 use Rattle.gr_sound.specs.Corresponding.{Corresponds, predeclared, stands}
 use Rattle.gr_placed.specs.Outside.{path_by}
 use Rattle.gr_kept_each.specs.BoundToOne.{IsBoundToOne}
 use Rattle.gr_placed.specs.Identified.{IsIdentifierAt}
-
--- the file of a token that begins at a place
-token_file : (o : Option SourceFile) (token : ℕ) (place : Place) → TokenBegins o token place → (f : SourceFile) × ((o ≡ Some f) × (f.path ≡ place.path))
-token_file None token place h = absurd h
-token_file (Some f) token place h = (f, (refl, h.0))
 
 -- what is declared in a package stands in its folder
 pub record StandsInFolder (w : Workspace) (path : List ℕ) (place : Place) : Type 0 where

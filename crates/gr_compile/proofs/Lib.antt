@@ -2,6 +2,5 @@
 pub mod Named
 pub mod Faultless
 pub mod CheckedText
-pub mod ClosureFiles
 pub mod Locality
 pub mod OneUnit

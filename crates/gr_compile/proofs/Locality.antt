@@ -7,10 +7,9 @@ use Rattle.gr_tree.specs.SourceFile.{SourceFile}
 use Rattle.gr_graph.specs.Packages.{IsInClosure}
 use Rattle.gr_graph.specs.Parsed.{AreParsed}
 use Rattle.gr_verdict.specs.Closures.{HasSameClosure}
-use Rattle.gr_verdict.proofs.Local.{same_back, closed_there, local_list, locally_checked}
+use Rattle.gr_verdict.proofs.Local.{same_back, closed_there, files_there, local_list, locally_checked}
 use Rattle.gr_compile.specs.Laws.{AreLocalUnits}
 use Rattle.gr_compile.specs.Units.{AreFilesOf, IsReadBy, within, beyond, UnitValue, Faults, Done, IsUnitValue, unit_value}
-use Rattle.gr_compile.proofs.ClosureFiles.{files_there}
 
 files_local : (w x : Workspace) (p : List ℕ) → HasSameClosure w x p → (q : List ℕ) (files : List SourceFile) → IsInClosure w p q → AreFilesOf w q files →
     AreFilesOf x q files

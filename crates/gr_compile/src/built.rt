@@ -1,4 +1,4 @@
-//! What a Job is of, built.
+//! What comes of a Job: the unit of its package, and what was found of packages beside.
 ghost use Rattle.std.specs.Prelude.{◌≡◌, IfOk};
 ghost use Rattle.gr_verdict.specs.Found.{KnowsVerdicts};
 ghost use Rattle.gr_compile.specs.Builds.{IsBuiltOf};

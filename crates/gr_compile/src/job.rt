@@ -1,4 +1,4 @@
-//! A package that is handed out to be built.
+//! A Job: a package that is handed out to be built, with the texts of its closure.
 ghost use Rattle.std.specs.Prelude.{◌≡◌};
 ghost use Rattle.gr_verdict.specs.Found.{KnowsVerdicts};
 

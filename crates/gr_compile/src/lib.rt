@@ -1,4 +1,5 @@
-//! Units of packages, and the Jobs that build them.
+//! The unit of a package, which is what building it makes: its faults, or where it has none what other packages see of it, and its object.
+//! And the Jobs, each of which asks for the unit of one package.
 #![tactic(auto)]
 
 mod built;

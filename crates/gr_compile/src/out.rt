@@ -1,4 +1,4 @@
-//! The Jobs that are out.
+//! The Jobs that are out: handed out, and not back yet.
 ghost use Rattle.std.specs.Prelude.{◌≡◌, ◌↔◌, ◌<◌, [], IsTrue, MatchOption, Some, length, slice_get};
 ghost use Rattle.gr_verdict.specs.Found.{KnowsVerdicts};
 ghost use Rattle.gr_compile.specs.Jobs.{HandsOut, IsOut, IsTaken, TakesBack, label_of};

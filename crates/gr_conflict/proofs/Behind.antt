@@ -1,6 +1,6 @@
 -- Packages whose files all stand behind the conflict that was found first.
-use Rattle.std.proofs.Common.{ℕ, ◌≡◌, List, refl, ap, subst, ◌∙◌}
-use Rattle.std.specs.Prelude.{Option, Some, None, Contains, map}
+use Rattle.std.proofs.Common.{ℕ, ◌≡◌, List, ap, subst, ◌∙◌}
+use Rattle.std.specs.Prelude.{Option, Contains, map}
 use Rattle.std.specs.declared.cmp.Ordering.{Ordering}
 use Rattle.std.specs.declared.cmp.Ordering.TheVariants.{Less}
 use Rattle.std.specs.Ordering.{nat_cmp, ordering_then}
@@ -12,8 +12,9 @@ use Rattle.gr_tree.specs.SourceFile.{SourceFile, FileParts, source_of}
 use Rattle.gr_declared.specs.Package.{Package}
 use Rattle.gr_verdict.specs.Verdicts.{Verdicts}
 use Rattle.gr_verdict.proofs.PackageFiles.{mapped}
-use Rattle.gr_bound.specs.Identifiers.{BeginsAt, NameBegins, file_of}
+use Rattle.gr_bound.specs.Identifiers.{BeginsAt, file_of}
 use Rattle.gr_bound.specs.Places.{place_cmp}
+use Rattle.gr_standing.proofs.Folders.{some_file}
 use Rattle.gr_revision.specs.Revisions.{Revision}
 use Rattle.gr_change_places.specs.Behind.{LiesBehind}
 use Rattle.gr_conflict.specs.Conflicts.{AreBehind, IsAhead, HoldsAhead}
@@ -25,16 +26,10 @@ use Rattle.gr_conflict.proofs.Firsts.{behind, less_of}
 later : (place used : Place) → path_cmp used.path place.path ≡ Less → place_cmp place used ≡ Less → ⊥
 later place used less = behind used place (ap (λ (o : Ordering). ordering_then o (nat_cmp used.offset place.offset)) less)
 
--- the file in which an identifier begins
-begun_in : (o : Option SourceFile) (token : ℕ) (path : List ℕ) (offset : ℕ) → NameBegins o token path offset → (f : SourceFile) ×
-    ((o ≡ Some f) × (f.path ≡ path))
-begun_in None token path offset h = absurd h
-begun_in (Some f) token path offset h = (f, (refl, h.1))
-
 module _ (files : List FileParts) (p : Package) (own : p.files ≡ map source_of files) where
   file_there : (place : Place) (u : ℕ) → BeginsAt p place.path place.offset u → (f : FileParts) × (Contains files f × (f.path ≡ place.path))
   file_there place u begins =
-      let s = begun_in (file_of p u) (p.layout.place u).index place.path place.offset begins.1 in
+      let s = some_file (file_of p u) (p.layout.place u).index place.path place.offset begins.1 in
       let k = (p.layout.place u).file in
       let has : Contains p.files s.0 = (k, slice_get_within p.files k s.0 s.1.0, get_or_from_slice_get p.files k s.0 s.0 s.1.0) in
       let f = mapped source_of files s.0 (subst (λ (l : List SourceFile). Contains l s.0) own has) in

@@ -1,7 +1,6 @@
 -- A name is one member of a type at most, also under new names.
-use Rattle.std.proofs.Common.{ℕ, ◌≡◌, ◌∙◌, inl, inr, List, ap, sym, subst}
+use Rattle.std.proofs.Common.{ℕ, ◌≡◌, ◌∙◌, List, ap, sym, subst}
 use Rattle.std.specs.Prelude.{Option}
-use Rattle.std.proofs.lemmas.Bool.{cases_order}
 use Rattle.std.proofs.lemmas.Option.{same_Some}
 use Rattle.gr_text.specs.Workspace.{Workspace}
 use Rattle.gr_expr.specs.declared.symbol.Symbol.{Symbol}
@@ -17,12 +16,7 @@ use Rattle.gr_bound.proofs.Units.{one_package}
 use Rattle.gr_new_members.specs.NamesAfter.{IsFieldAfter, IsMethodAfter}
 use Rattle.gr_members_after.specs.MembersAfter.{IsFirst, IsFirstField, IsFieldIn, IsMethodIn, IsFieldOfStruct}
 use Rattle.gr_members_after.specs.MembersAfter.{IsMethodOfOwner, IsMemberAfter}
-
-one_first : (K : ℕ → Type 0) (a b : ℕ) → IsFirst K a → IsFirst K b → a ≡ b
-one_first K a b h k = elim (cases_order a b) [
-  | inl same ↦ same
-  | inr o ↦ elim o [ inl lt ↦ absurd (k.first a lt h.has) | inr gt ↦ absurd (h.first b gt k.has) ]
-]
+use Rattle.gr_members_after.proofs.Looking.{one_first}
 
 same_symbol : (s u : Symbol) → s.package ≡ u.package → s.rank ≡ u.rank → s ≡ u
 same_symbol s u e f =

@@ -1,4 +1,4 @@
-//! The identifiers that a change would lose or capture.
+//! The identifiers that a change would lose, since nothing would bind them any more, or capture, since another declaration would.
 #![tactic(auto)]
 
 mod beginning;

@@ -1,7 +1,7 @@
 -- What a tree declares in the package's block is among the variables, functions or types of the package.
-use Rattle.std.proofs.Common.{ℕ, zero, suc, ◌≡◌, ◌+◌, ◌⊎◌, inl, inr, List, [], ◌∷◌, ◌++◌, map, ap, sym, subst, refl, arith}
+use Rattle.std.proofs.Common.{ℕ, zero, suc, ◌≡◌, ◌+◌, ◌⊎◌, inl, inr, List, [], ◌∷◌, ap, subst, refl, arith}
 use Rattle.std.specs.Prelude.{Some, slice_get}
-use Rattle.std.specs.List.{flat_map, enumerate_from}
+use Rattle.std.specs.List.{enumerate_from}
 use Rattle.std.proofs.lemmas.Option.{none-some, same_Some}
 use Rattle.gr_tree.specs.SourceFile.{SourceFile}
 use Rattle.gr_tree.specs.Tree.{Item, DeclTree, VarDecl, TypeDecl, FuncDecl}
@@ -10,28 +10,9 @@ use Rattle.gr_imports.specs.Files.{Ranked, ranked, group_items}
 use Rattle.gr_declared.specs.Package.{Package, PlacedVariable, PlacedType, PlacedFunction, variables_of, placed_type, decl_variables, decl_types}
 use Rattle.gr_declared.specs.Package.{decl_functions, variables_in, types_in, functions_in, package_variables, package_types, package_functions}
 use Rattle.gr_declared.specs.Package.{variable_place, function_place, type_place}
-use Rattle.gr_meanings.proofs.DeclKinds.{Holds}
+use Rattle.gr_meanings.proofs.DeclKinds.{Holds, held_flat, held_map}
 use Rattle.gr_decided.proofs.Told.{IsNameIn}
 use Rattle.gr_decided.proofs.Files.{IsGlobal}
-
-held_left : {X : Type 0} (xs ys : List X) (x : X) → Holds xs x → Holds (xs ++ ys) x
-held_left [] ys x h = absurd h
-held_left (z ∷ zs) ys x h = elim h [ inl e ↦ inl e | inr r ↦ inr (held_left zs ys x r) ]
-
-held_right : {X : Type 0} (xs ys : List X) (x : X) → Holds ys x → Holds (xs ++ ys) x
-held_right [] ys x h = h
-held_right (z ∷ zs) ys x h = inr (held_right zs ys x h)
-
-held_flat : {X Y : Type 0} (f : X → List Y) (xs : List X) (x : X) (y : Y) → Holds xs x → Holds (f x) y → Holds (flat_map f xs) y
-held_flat f [] x y h k = absurd h
-held_flat f (z ∷ zs) x y h k = elim h [
-  | inl e ↦ held_left (f z) (flat_map f zs) y (subst (λ q. Holds (f q) y) (sym e) k)
-  | inr r ↦ held_right (f z) (flat_map f zs) y (held_flat f zs x y r k)
-]
-
-held_map : {X Y : Type 0} (f : X → Y) (xs : List X) (x : X) → Holds xs x → Holds (map f xs) (f x)
-held_map f [] x h = absurd h
-held_map f (z ∷ zs) x h = elim h [ inl e ↦ inl (ap f e) | inr r ↦ inr (held_map f zs x r) ]
 
 pub held_ranked : {X : Type 0} (n : ℕ) (xs : List X) (i : ℕ) (x : X) → slice_get xs i ≡ Some x → (k : ℕ) × ((k ≡ n + i) × Holds (enumerate_from n xs) (k, x))
 held_ranked n [] i x e = absurd (none-some x e)

@@ -1,4 +1,4 @@
-//! What the names of a package are bound to is decided: laws alone.
+//! Whether scopes bind an identifier is decided, and so is what the name at a token is bound to: laws alone.
 #![tactic(auto)]
 
 pub mod laws;

@@ -1,4 +1,4 @@
-//! What other packages see of a package is its own: laws alone.
+//! What other packages see of a package is what it declares itself: laws alone.
 #![tactic(auto)]
 
 pub mod laws;

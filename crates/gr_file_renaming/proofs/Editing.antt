@@ -100,7 +100,7 @@ going_next f r ts i d old new lt h ends added =
 
 -- all tokens
 
-at_end : (n size : ℕ) (ts : List Piece) → FollowFrom n ts size → n ≤ size
+pub at_end : (n size : ℕ) (ts : List Piece) → FollowFrom n ts size → n ≤ size
 at_end n size [] h = h
 at_end n size (t ∷ ts) h =
     let one : n ≤ t.span.start = h.0 in

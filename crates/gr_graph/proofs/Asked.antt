@@ -49,7 +49,7 @@ has_file w p e has =
     (in_folder (package_paths w) p (entries w) (all_there w)))
     e has.0 has.1 has.2
 
-is_package : (w : Workspace) (p q : List ℕ) → IsInClosure w p q → Contains (package_paths w) p
+pub is_package : (w : Workspace) (p q : List ℕ) → IsInClosure w p q → Contains (package_paths w) p
 is_package w p q (packages.itself has) = has
 is_package w p q (packages.through pi rest) = has_file w p pi.entry pi.of_package
 

@@ -22,7 +22,7 @@ use Rattle.gr_graph.specs.FileImports.{import_literals, HasValue, HasPieceValue,
 use Rattle.gr_graph.specs.Imports.{Holds}
 use Rattle.gr_graph.specs.ImportPaths.{bytes_of_paths, HoldsPaths, IsOneOf, SomeImport}
 use Rattle.gr_graph.specs.Packages.{ImportsPath}
-use Rattle.gr_graph.specs.Rows.{AddsNumbers, HasNumber, AreImported, FileImports, SomeImports, IsRow}
+use Rattle.gr_graph.specs.Rows.{AddsNumbers, HasNumber, FileImports, SomeImports, IsRow}
 use Rattle.gr_graph.specs.declared.file_imports.FileImport.{FileImport}
 
 -- ---- numbers
@@ -42,7 +42,7 @@ pub none_held : {X : Type 0} (x : X) → Contains [] x → ⊥
 none_held x has = absurd (omega (arith, has.1))
 
 -- ---- one element more of a list
-more_cases : {X : Type 0} (xs : List X) (k : ℕ) (d x : X) → k < length xs → Contains (take (k + 1) xs) x → Contains (take k xs) x ⊎ (get_or xs k d ≡ x)
+pub more_cases : {X : Type 0} (xs : List X) (k : ℕ) (d x : X) → k < length xs → Contains (take (k + 1) xs) x → Contains (take k xs) x ⊎ (get_or xs k d ≡ x)
 more_cases xs k d x within has = Contains-push_cases (take k xs) (get_or xs k d) x (subst (λ ys. Contains ys x) (take_more xs k d within) has)
 
 one_more_at : {X : Type 0} (R : X → ℕ → Type 0) (xs : List X) (k : ℕ) (d : X) → k < length xs → (j : ℕ)
@@ -94,6 +94,10 @@ number_at file q paths j (Some v) i stands at = at ∙ ap Some (one_string_value
 
 abbrev tells : SourceFile → ℕ → FileImport → Type 0
 tells file token found = (found.literal ≡ token) × HasValue file token found.path
+
+-- one of the imports is that of the package of a number
+abbrev AreImported : List (List ℕ) → List FileImport → ℕ → Type 0
+AreImported paths imports j = (found : FileImport) × Contains imports found × HasNumber paths j found.path
 
 imported : (file : SourceFile) (paths : List (List ℕ)) (imports : List FileImport) → ListsImports file imports → (j : ℕ) (q : List ℕ) →
     slice_get paths j ≡ Some q → ImportsPath file q → AreImported paths imports j

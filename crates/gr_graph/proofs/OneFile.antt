@@ -14,7 +14,7 @@ use Rattle.gr_parse.proofs.OneTree.{one_tree}
 use Rattle.gr_tree.proofs.OneVerdict.{one_verdict}
 use Rattle.gr_graph.specs.Packages.{IsParsed}
 
-same_cut : (c d : CutText) → c.text ≡ d.text → IsCut c.text c.pieces → IsCut d.text d.pieces → c ≡ d
+pub same_cut : (c d : CutText) → c.text ≡ d.text → IsCut c.text c.pieces → IsCut d.text d.pieces → c ≡ d
 same_cut c d texts a b =
     let pieces : c.pieces ≡ d.pieces = one_cut d.text c.pieces d.pieces (subst (λ (t : List ℕ). IsCut t c.pieces) texts a) b in
     λ i. record { text = texts i; pieces = pieces i }

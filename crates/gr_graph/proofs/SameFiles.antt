@@ -1,12 +1,12 @@
 -- Where two workspaces have the same Go files in a folder, its package has the same files in both.
-use Rattle.std.proofs.Common.{◌≡◌, ℕ, Bool, true, false, ◌&&◌, List, [], ◌∷◌, filter, cond, Option, Some, None, refl, sym, ap, subst, ◌∙◌, ◌==◌, T}
+use Rattle.std.proofs.Common.{◌≡◌, ℕ, Bool, true, false, List, [], ◌∷◌, filter, cond, Option, Some, None, refl, sym, ap, subst, ◌∙◌, ◌==◌, T}
 use Rattle.std.specs.Cmp.{Equal-is}
 use Rattle.std.specs.Cmp.Lexicographic.{pointwise, bytes_decides}
 use Rattle.std.specs.FinMap.{entries, entries_sorted, entries-from_sorted, find, from_sorted, get, get-entries, get-from_sorted, is_sorted, same_map}
 use Rattle.std.specs.FinMap.Entries.{below_all}
 use Rattle.std.specs.List.{Contains}
 use Rattle.std.specs.Ordering.{eq_by_cmp, is_lt}
-use Rattle.std.proofs.lemmas.Bool.{and_parts}
+use Rattle.std.proofs.lemmas.Bool.{and_from, and_parts}
 use Rattle.gr_text.specs.Path.{folder}
 use Rattle.gr_text.specs.Packages.{is_go, is_of_package, package_files}
 use Rattle.gr_text.specs.Workspace.{Workspace, path_cmp}
@@ -21,15 +21,12 @@ module _ (test : List ℕ → Bool) where
   abbrev passed : Files → Files
   passed es = filter (λ e. test e.0) es
 
-  both : (a b : Bool) → a ≡ true → b ≡ true → (a && b) ≡ true
-  both a b x y = ap (λ z. z && b) x ∙ y
-
   below_passed : (k : List ℕ) (es : Files) → below_all path_cmp k es ≡ true → below_all path_cmp k (passed es) ≡ true
   below_passed k [] h = refl
   below_passed k (e ∷ es) h =
       let parts = and_parts (is_lt (path_cmp k e.0)) (below_all path_cmp k es) h in
       elim (test e.0) as (λ b. below_all path_cmp k (cond b (e ∷ passed es) (passed es)) ≡ true) [
-        | true ↦ both _ _ parts.0 (below_passed k es parts.1)
+        | true ↦ and_from _ _ parts.0 (below_passed k es parts.1)
         | false ↦ below_passed k es parts.1
       ]
 
@@ -38,7 +35,7 @@ module _ (test : List ℕ → Bool) where
   sorted_passed (e ∷ es) h =
       let parts = and_parts (below_all path_cmp e.0 es) (is_sorted path_cmp es) h in
       elim (test e.0) as (λ b. is_sorted path_cmp (cond b (e ∷ passed es) (passed es)) ≡ true) [
-        | true ↦ both _ _ (below_passed e.0 es parts.0) (sorted_passed es parts.1)
+        | true ↦ and_from _ _ (below_passed e.0 es parts.0) (sorted_passed es parts.1)
         | false ↦ sorted_passed es parts.1
       ]
 

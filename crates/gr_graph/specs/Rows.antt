@@ -5,7 +5,6 @@ use Rattle.std.specs.List.Sorted.{IsStrictlyIncreasing}
 use Rattle.gr_tree.specs.SourceFile.{FileParts, source_of}
 use Rattle.gr_graph.specs.Imports.{Holds}
 use Rattle.gr_graph.specs.Packages.{ImportsPath}
-use Rattle.gr_graph.specs.declared.file_imports.FileImport.{FileImport}
 
 -- the numbers of which something holds were added
 abbrev pub AddsNumbers : (ℕ → Type 0) → List ℕ → List ℕ → Type 0
@@ -15,10 +14,6 @@ AddsNumbers P old new = (j : ℕ) → Contains new j ↔ (Contains old j ⊎ P j
 abbrev pub HasNumber : {Z : Type 0} → List (List ℕ) → ℕ → Option (Vec ℕ Z) → Type 0
 HasNumber paths j None = ⊥
 HasNumber paths j (Some value) = slice_get paths j ≡ Some value.items
-
--- one of the imports is that of the package of a number
-abbrev pub AreImported : List (List ℕ) → List FileImport → ℕ → Type 0
-AreImported paths imports j = (found : FileImport) × Contains imports found × HasNumber paths j found.path
 
 -- a file imports the package of a number
 abbrev pub FileImports : List (List ℕ) → FileParts → ℕ → Type 0

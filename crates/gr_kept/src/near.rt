@@ -1,6 +1,6 @@
-//! Where something was found last.
+//! Where something was found last: the next is looked for there first.
 
-/// Where it was found last before, and then: it is looked for there first.
+/// In the workspace before the change, and in that afterwards.
 #[derive(Drop)]
 pub struct Near {
     pub before: usize,

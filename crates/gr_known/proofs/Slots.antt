@@ -43,7 +43,7 @@ among_right n [] qs h = h
 among_right n (p ∷ ps) qs h = inr (among_right n ps qs h)
 
 -- a place among those of a function has a slot
-some_slot : (b : Bool) (k : ℕ) (o : Option ℕ) → (b ≡ false → IsKnown o) → IsKnown (if b then Some k else o)
+pub some_slot : (b : Bool) (k : ℕ) (o : Option ℕ) → (b ≡ false → IsKnown o) → IsKnown (if b then Some k else o)
 some_slot true k o f = (k, refl)
 some_slot false k o f = f refl
 

@@ -27,33 +27,52 @@ holds_got [] k x e = absurd (none-some x e)
 holds_got (y ∷ ys) zero x e = inl (same_Some y x e)
 holds_got (y ∷ ys) (suc k) x e = inr (holds_got ys k x e)
 
-holds_append : {X : Type 0} (xs ys : List X) (x : X) → Holds (xs ++ ys) x → Holds xs x ⊎ Holds ys x
+pub holds_append : {X : Type 0} (xs ys : List X) (x : X) → Holds (xs ++ ys) x → Holds xs x ⊎ Holds ys x
 holds_append [] ys x h = inr h
 holds_append (z ∷ zs) ys x h = elim h [
   | inl e ↦ inl (inl e)
   | inr r ↦ elim (holds_append zs ys x r) [ inl a ↦ inl (inr a) | inr b ↦ inr b ]
 ]
 
-holds_flat : {X Y : Type 0} (f : X → List Y) (xs : List X) (y : Y) → Holds (flat_map f xs) y → (x : X) × (Holds xs x × Holds (f x) y)
+pub holds_flat : {X Y : Type 0} (f : X → List Y) (xs : List X) (y : Y) → Holds (flat_map f xs) y → (x : X) × (Holds xs x × Holds (f x) y)
 holds_flat f [] y h = absurd h
 holds_flat f (x ∷ xs) y h = elim (holds_append (f x) (flat_map f xs) y h) [
   | inl a ↦ (x, (inl refl, a))
   | inr b ↦ let r = holds_flat f xs y b in (r.0, (inr r.1.0, r.1.1))
 ]
 
-holds_map : {X Y : Type 0} (f : X → Y) (xs : List X) (y : Y) → Holds (map f xs) y → (x : X) × (Holds xs x × (f x ≡ y))
+pub holds_map : {X Y : Type 0} (f : X → Y) (xs : List X) (y : Y) → Holds (map f xs) y → (x : X) × (Holds xs x × (f x ≡ y))
 holds_map f [] y h = absurd h
 holds_map f (x ∷ xs) y h = elim h [
   | inl e ↦ (x, (inl refl, e))
   | inr r ↦ let s = holds_map f xs y r in (s.0, (inr s.1.0, s.1.1))
 ]
 
-holds_ranked : {X : Type 0} (n : ℕ) (xs : List X) (r : ℕ × X) → Holds (enumerate_from n xs) r → (i : ℕ) × ((r.0 ≡ n + i) × (slice_get xs i ≡ Some r.1))
+pub holds_ranked : {X : Type 0} (n : ℕ) (xs : List X) (r : ℕ × X) → Holds (enumerate_from n xs) r → (i : ℕ) × ((r.0 ≡ n + i) × (slice_get xs i ≡ Some r.1))
 holds_ranked n [] r h = absurd h
 holds_ranked n (x ∷ xs) r h = elim h [
   | inl e ↦ (0, ((let z : r.0 ≡ n = ap (λ q. q.0) (sym e) in omega (arith, z)), ap (λ q. Some q.1) e))
   | inr k ↦ let s = holds_ranked (n + 1) xs r k in (suc s.0, ((let z : r.0 ≡ n + 1 + s.0 = s.1.0 in omega (arith, z)), s.1.1))
 ]
+
+pub held_left : {X : Type 0} (xs ys : List X) (x : X) → Holds xs x → Holds (xs ++ ys) x
+held_left [] ys x h = absurd h
+held_left (z ∷ zs) ys x h = elim h [ inl e ↦ inl e | inr r ↦ inr (held_left zs ys x r) ]
+
+pub held_right : {X : Type 0} (xs ys : List X) (x : X) → Holds ys x → Holds (xs ++ ys) x
+held_right [] ys x h = h
+held_right (z ∷ zs) ys x h = inr (held_right zs ys x h)
+
+pub held_flat : {X Y : Type 0} (f : X → List Y) (xs : List X) (x : X) (y : Y) → Holds xs x → Holds (f x) y → Holds (flat_map f xs) y
+held_flat f [] x y h k = absurd h
+held_flat f (z ∷ zs) x y h k = elim h [
+  | inl e ↦ held_left (f z) (flat_map f zs) y (subst (λ q. Holds (f q) y) (sym e) k)
+  | inr r ↦ held_right (f z) (flat_map f zs) y (held_flat f zs x y r k)
+]
+
+pub held_map : {X Y : Type 0} (f : X → Y) (xs : List X) (x : X) → Holds xs x → Holds (map f xs) (f x)
+held_map f [] x h = absurd h
+held_map f (z ∷ zs) x h = elim h [ inl e ↦ inl (ap f e) | inr r ↦ inr (held_map f zs x r) ]
 
 -- where tokens stand
 
@@ -212,7 +231,7 @@ function_at files rank f e =
     in_ranked files 2 f.function.name f.file r.0 d.0 r.1.0 d.1.0 n.0 n.1
 
 -- the declarations of a tree, by its tokens
-decls_rise : (tree : FileTree) → AreRising 0 (flatten tree) → (a : ℕ) × ((b : ℕ) × Rises a (all_tokens decl_tokens tree.decls) b)
+pub decls_rise : (tree : FileTree) → AreRising 0 (flatten tree) → (a : ℕ) × ((b : ℕ) × Rises a (all_tokens decl_tokens tree.decls) b)
 unfolding flatten
 decls_rise tree h =
     let r = rises_of 0 (flatten tree) h in

@@ -220,7 +220,7 @@ one_meaning p w rising d b c x y = by_block p w rising d b c x y (block_of (p.la
 
 -- the name at a token
 
-lexical : (l : Layout) (names : Names) (u d : ℕ) → l.role u ≡ NotLexical purpose.Selected → IsBoundTo l names u d → ⊥
+pub lexical : (l : Layout) (names : Names) (u d : ℕ) → l.role u ≡ NotLexical purpose.Selected → IsBoundTo l names u d → ⊥
 lexical l names u d e (use_bound is b) = elim is [
   | inl h ↦ false≢true (sym (ap is_use e) ∙ h)
   | inr h ↦ false≢true (sym (ap is_left_name e) ∙ h.0)

@@ -28,7 +28,7 @@ unfolding definition_in definition_at
 at_own w s e = ap (λ t. definition_or_none s (if t then slice_get w.own.now s.rank else imported_at w.imported.now s))
     ((bytes_decides w.package.now s.package).1 e)
 
-is_other : (a b : List ℕ) → (a ≡ b → ⊥) → (t : Bool) → same_path a b ≡ t → t ≡ false
+pub is_other : (a b : List ℕ) → (a ≡ b → ⊥) → (t : Bool) → same_path a b ≡ t → t ≡ false
 is_other a b n true e = absurd (n ((bytes_decides a b).0 e))
 is_other a b n false e = refl
 

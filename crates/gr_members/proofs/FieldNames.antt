@@ -5,8 +5,8 @@ use Rattle.std.proofs.lemmas.Option.{same_Some}
 use Rattle.gr_declared.specs.Package.{Package, spelled}
 use Rattle.gr_declared.specs.Definitions.{PlacedField, package_fields}
 use Rattle.gr_members.specs.FieldsView.{IsFieldNamed}
-use Rattle.gr_members.specs.MemberNames.{IsFirstNamed}
 use Rattle.gr_members.specs.MembersView.{CountsAsField, AreCountingFields}
+use Rattle.gr_members.proofs.Noting.{IsFirstNamed}
 use Rattle.gr_cycles.proofs.Marking.{MarksBelow}
 
 pub field_named : (p : Package) (rank : ℕ) (f : PlacedField) → slice_get (package_fields p) rank ≡ Some f →

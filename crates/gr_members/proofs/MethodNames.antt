@@ -9,12 +9,17 @@ use Rattle.gr_declared.specs.Written.{BindsToken, DeclaresType}
 use Rattle.gr_declared.specs.Definitions.{IsMethodOf, HasFieldNamed}
 use Rattle.gr_members.specs.MemberNames.{NotesName, AreNamesBelow}
 use Rattle.gr_members.specs.MembersView.{IsMethodOn, CountsAsMethod, AreCountingMethods}
-use Rattle.gr_members.specs.MethodsView.{IsMethodNamed, NotesMethod, no_method, method}
+use Rattle.gr_members.specs.MethodsView.{NotesMethod, no_method, method}
 use Rattle.gr_declared.proofs.Naming.{one_binding}
 use Rattle.gr_declared.proofs.Ranking.{one_rank}
 use Rattle.gr_cycles.proofs.Marking.{MarksBelow}
 use Rattle.gr_members.proofs.Noting.{names_next, names_skip}
 use Rattle.gr_members.proofs.Owning.{HasOwner}
+
+-- the function of that rank is a method of that name of that definition
+pub record IsMethodNamed (p : Package) (rank definition : ℕ) (name : List ℕ) : Type 0 where
+  pub method : PlacedFunction
+  pub is_method : IsMethodOf p definition name rank method
 
 pub same_function : (p : Package) (rank : ℕ) (f g : PlacedFunction) → slice_get (package_functions p) rank ≡ Some f →
     slice_get (package_functions p) rank ≡ Some g → g ≡ f

@@ -2,8 +2,15 @@
 use Rattle.std.proofs.Common.{ℕ, ◌≡◌, ◌+◌, ◌<◌, inl, inr, Bool, true, false, not, List, sym, subst, ◌∙◌, arith}
 use Rattle.std.specs.Prelude.{◌↔◌}
 use Rattle.std.proofs.lemmas.Bool.{cases_lt, cases_eq, true≢false, false≢true, not-true, not_from_false, false_from_ne_true}
-use Rattle.gr_members.specs.MemberNames.{Naming, NotesName, AreNamesBelow, IsFirstNamed}
+use Rattle.gr_members.specs.MemberNames.{Naming, NotesName, AreNamesBelow}
 use Rattle.gr_declared.proofs.ByteKeys.{cases_bytes}
+
+-- an item whose name no earlier item has for the same definition
+pub record IsFirstNamed (K : Naming) (item : ℕ) : Type 0 where
+  pub definition : ℕ
+  pub name : List ℕ
+  pub named : K item definition name
+  pub first : (other : ℕ) → other < item → K other definition name → ⊥
 
 pub names_none : (K : Naming) (noted : ℕ → List ℕ → Bool) → ((d : ℕ) (n : List ℕ) → noted d n ≡ false) → AreNamesBelow K 0 noted
 names_none K noted none = record { holds = λ i d n lt k. absurd (omega arith); only = λ d n e. absurd (false≢true (sym (none d n) ∙ e)) }

@@ -34,10 +34,3 @@ Naming = (item definition : ℕ) → List ℕ → Type 0
 pub record AreNamesBelow (K : Naming) (count : ℕ) (noted : ℕ → List ℕ → Bool) : Type 0 where
   pub holds : (item d : ℕ) (n : List ℕ) → item < count → K item d n → noted d n ≡ true
   pub only : (d : ℕ) (n : List ℕ) → noted d n ≡ true → (item : ℕ) × ((item < count) × K item d n)
-
--- an item whose name no earlier item has for the same definition
-pub record IsFirstNamed (K : Naming) (item : ℕ) : Type 0 where
-  pub definition : ℕ
-  pub name : List ℕ
-  pub named : K item definition name
-  pub first : (other : ℕ) → other < item → K other definition name → ⊥

@@ -7,7 +7,7 @@ use Rattle.gr_expr.specs.Types.{Struct as StructOf}
 use Rattle.gr_expr.specs.World.{Field}
 use Rattle.gr_declared.specs.Package.{Package, PlacedFunction, spelled}
 use Rattle.gr_declared.specs.Written.{BindsToken, DeclaresType}
-use Rattle.gr_declared.specs.Definitions.{PlacedField, IsFieldOf, IsMethodOf, HasFieldNamed}
+use Rattle.gr_declared.specs.Definitions.{PlacedField, IsFieldOf, HasFieldNamed}
 use Rattle.gr_members.specs.MemberNames.{NotesName}
 
 -- a function is a method of the definition of that rank
@@ -21,11 +21,6 @@ pub record IsOwner (p : Package) (f : PlacedFunction) (definition : ℕ) : Type 
 -- the one definition whose method a function is; none where it is no method
 abbrev pub IsOwnedBy : Package → PlacedFunction → Option ℕ → Type 0
 IsOwnedBy p f found = MatchOption found ((d : ℕ) → IsOwner p f d → ⊥) (λ d. IsOwner p f d × ((other : ℕ) → IsOwner p f other → other ≡ d))
-
--- the function of that rank is a method of that name of that definition
-pub record IsMethodNamed (p : Package) (rank definition : ℕ) (name : List ℕ) : Type 0 where
-  pub method : PlacedFunction
-  pub is_method : IsMethodOf p definition name rank method
 
 -- whether there is a field, and it is exported
 abbrev pub exported_field : Option Field → Bool

@@ -58,7 +58,7 @@ pub first_is : (names : List (Option NewName)) (K : (definition : ℕ) → List 
 first_is names K named d n None h = λ rank k. h rank ((named d n rank).1 k.has)
 first_is names K named d n (Some rank) h = record { has = (named d n rank).0 h.has; first = λ other lt k. h.first other lt ((named d n other).1 k) }
 
-one_first : (K : ℕ → Type 0) (a b : ℕ) → IsFirst K a → IsFirst K b → a ≡ b
+pub one_first : (K : ℕ → Type 0) (a b : ℕ) → IsFirst K a → IsFirst K b → a ≡ b
 one_first K a b h k = elim (cases_lt a b) [
   | inl lt ↦ absurd (k.first a lt h.has)
   | inr ge ↦ elim (cases_lt b a) [ inl less ↦ absurd (h.first b less k.has) | inr more ↦ omega arith ]

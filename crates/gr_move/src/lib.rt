@@ -1,4 +1,4 @@
-//! Plans of moves.
+//! Plans a move: the edit set that moves a package to another folder, or why there is none.
 #![tactic(auto)]
 
 mod plan;

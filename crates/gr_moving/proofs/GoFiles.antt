@@ -4,8 +4,7 @@ use Rattle.std.specs.Prelude.{Contains, map, slice_get, ◌==◌}
 use Rattle.std.specs.FinMap.{entries, get}
 use Rattle.std.specs.Cmp.Lexicographic.{pointwise, bytes_decides}
 use Rattle.std.proofs.lemmas.Bool.{and_from}
-use Rattle.std.proofs.lemmas.List.Elements.{Contains-get_or}
-use Rattle.std.proofs.lemmas.Option.{same_Some, get_or_from_slice_get, slice_get_within}
+use Rattle.std.proofs.lemmas.Option.{same_Some, slice_get_within}
 use Rattle.gr_text.specs.Packages.{is_go, is_of_package, package_paths, package_files}
 use Rattle.gr_text.specs.Path.{folder}
 use Rattle.gr_text.specs.Workspace.{Workspace}
@@ -16,6 +15,7 @@ use Rattle.gr_declared.specs.Package.{Package}
 use Rattle.gr_verdict.specs.declared.findings.Findings.{Findings}
 use Rattle.gr_verdict.specs.Verdicts.{Verdicts}
 use Rattle.gr_verdict.proofs.Members.{passed}
+use Rattle.gr_verdict.proofs.PackageFiles.{at_rank}
 use Rattle.gr_edit.proofs.Held.{nothing_in, first_or_later}
 use Rattle.gr_edit.proofs.Entries.{entry_of}
 use Rattle.gr_bound.specs.Uses.{IsPackage}
@@ -42,12 +42,9 @@ tree_of (tree {e = d} {es = es} {t = t} is rest) e has = ⊎_elim
 
 -- the file of a package is one of the workspace
 
-listed : {X : Type 0} (xs : List X) (i : ℕ) (x : X) → slice_get xs i ≡ Some x → Contains xs x
-listed xs i x at = subst (Contains xs) (get_or_from_slice_get xs i x x at) (Contains-get_or xs i x (slice_get_within xs i x at))
-
 pub text_of_file : (w : Workspace) (known : Verdicts) (p : Package) → IsPackage w known p → (rank : ℕ) (f : SourceFile) → slice_get p.files rank ≡ Some f →
     get w f.path ≡ Some f.cut.text
-text_of_file w known p is rank f at = source_text w known f (record { inside = p; is_package = is; has = listed p.files rank f at })
+text_of_file w known p is rank f at = source_text w known f (record { inside = p; is_package = is; has = at_rank p.files rank f at })
 
 -- a Go file of the workspace is one of a package
 

@@ -1,5 +1,5 @@
 -- The edits of a file, token by token. Q: the edits of each token.
-use Rattle.std.proofs.Common.{◌≡◌, ℕ, ◌<◌, ◌≤◌, ◌+◌, inl, inr, List, [], ◌∷◌, ◌++◌, length, drop, get_or, Global, refl, sym, ap, subst, ◌∙◌, arith}
+use Rattle.std.proofs.Common.{◌≡◌, ℕ, ◌<◌, ◌≤◌, ◌+◌, inl, inr, List, [], ◌++◌, length, drop, get_or, Global, refl, sym, ap, subst, ◌∙◌, arith}
 use Rattle.std.specs.Prelude.{Option, Some, None, Vec, Contains, MatchOption, slice_get}
 use Rattle.std.proofs.lemmas.List.{append-nil}
 use Rattle.std.proofs.lemmas.Option.{same_Some, slice_get_within, get_or_from_slice_get}
@@ -20,7 +20,7 @@ use Rattle.gr_declared.specs.Package.{Package}
 use Rattle.gr_bound.specs.Bindings.{AddsAll}
 use Rattle.gr_bound.proofs.AddingAll.{BelowAll, next_below, all_none, all_as}
 use Rattle.gr_file_renaming.specs.FileEdits.{EndBy}
-use Rattle.gr_file_renaming.proofs.Editing.{all_one, end_more, end_push, follow_at}
+use Rattle.gr_file_renaming.proofs.Editing.{all_one, end_more, end_push, follow_at, at_end}
 use Rattle.gr_moved_paths.specs.declared.moved.Moved.{Moved}
 use Rattle.gr_moved_paths.specs.Paths.{quoted, HasMovedPackage}
 use Rattle.gr_moving.specs.FileEdits.{ReplacesPath, ReplacesName, IsEditAt, AreFileEdits}
@@ -132,14 +132,6 @@ going_next Q f ts i d old new lt h ends added =
     }
 
 -- all tokens
-
-at_end : (n size : ℕ) (ts : List Piece) → FollowFrom n ts size → n ≤ size
-at_end n size [] h = h
-at_end n size (t ∷ ts) h =
-    let one : n ≤ t.span.start = h.0 in
-    let two : t.span.start ≤ t.span.end = h.1 in
-    let rest = at_end t.span.end size ts h.2 in
-    omega arith
 
 within_tokens : (p : Package) (rank : ℕ) (f : SourceFile) (m : Moved) (i : ℕ) (e : Edit) → IsEditAt p rank f m i e → i < length (tokens_in f.cut)
 within_tokens p rank f m i e (inl h) = slice_get_within (tokens_in f.cut) i h.token h.at

@@ -1,4 +1,5 @@
-//! The new names of the fields and methods of a workspace's packages, by rank and by definition.
+//! What the fields and methods of a workspace's packages are called after a change: by their numbers in the package, which are their ranks,
+//! and by the type definitions that they belong to.
 #![tactic(auto)]
 
 mod members;

@@ -1,6 +1,6 @@
 -- What stands behind the last of some links, and the lines of tests and operators.
 use Rattle.std.proofs.Common.{ℕ, Option, Some, None, true, false, drop, ◌≡◌, ◌+◌, ◌-◌, ◌<◌, ◌≤◌, ◌∷◌, ◌++◌, [], List, ap, sym, ◌∙◌, refl, Bool, ◌==◌, ◌&&◌}
-use Rattle.std.proofs.Common.{zero, suc, take, length, get_or, arith, append_assoc}
+use Rattle.std.proofs.Common.{zero, suc, take, take_all, length, get_or, arith, append_assoc}
 use Rattle.gr_tree.specs.declared.syntax.BinaryOp.{BinaryOp}
 use Rattle.gr_tree.specs.declared.syntax.BinaryOp.TheVariants as op
 use Rattle.gr_tree.specs.declared.syntax.PrefixOp.{PrefixOp}
@@ -129,12 +129,6 @@ goes_rule {rule} {other} {old} e g = record { on = λ a. ap (λ z. z ++ lines_in
 pub goes_nowhere : {rule : List Line → List Line} (code : Code) → ((a : List Line) → rule a ≡ a) → GoesOnFrom rule code code
 goes_nowhere code e = record { on = λ a. ap (λ z. z ++ lines_in code) (e a) }
 
-pub take_all : {X : Type 0} (xs : List X) (n : ℕ) → length xs ≤ n → take n xs ≡ xs
-take_all [] zero h = refl
-take_all [] (suc n) h = refl
-take_all (x ∷ xs) zero h = let no : ⊥ = omega arith in absurd no
-take_all (x ∷ xs) (suc n) h = ap (λ ys. x ∷ ys) (take_all xs n (omega arith))
-
 prefixed_stands : (o : PrefixOp) (a : List Line) → Values 1 ≡ (prefixed o a).standing
 prefixed_stands prefix.Plus a = refl
 prefixed_stands prefix.Minus a = refl
@@ -159,7 +153,7 @@ pub chain_behind : (s : Source) (slots : List ℕ) {e : Expr} (b : _) (links : _
     ((o : Operand) → before_link o.standing ≡ before_link head → value_count (linked s slots o (links_in (take (last + 1) xs))).standing ≡ k) →
     (operand_of s slots (expr_view e)).standing ≡ Values k
 chain_behind s slots b links is x hx xs hxs last size head known k rule =
-    let all : take (last + 1) xs ≡ xs = take_all xs (last + 1) (let h = ap length hxs ∙ size in omega arith) in
+    let all : take (last + 1) xs ≡ xs = take_all (last + 1) xs (let h = ap length hxs ∙ size in omega arith) in
     ap (λ p. p.standing) (chain_here s slots b links is x xs hx hxs)
     ∙ (ap (λ ys. Values (value_count (linked s slots (operand_of s slots (expr_view x)) (links_in ys)).standing)) (sym all) ∙
     ap Values (rule (operand_of s slots (expr_view x)) (ap before_link known)))

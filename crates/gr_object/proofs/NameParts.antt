@@ -83,7 +83,7 @@ module _ (path : List ℕ) (files : List SourceFile) (fs : List Function) (n : �
 
 -- Fields
 
-positions_length : (k : ℕ) (xs : List (Item ℕ)) → length (positions_from k xs) ≡ length xs
+pub positions_length : (k : ℕ) (xs : List (Item ℕ)) → length (positions_from k xs) ≡ length xs
 positions_length k [] = refl
 positions_length k (x ∷ xs) = ap suc (positions_length (suc k) xs)
 

@@ -1,16 +1,12 @@
 -- A package has one object at most, and one text.
-use Rattle.std.proofs.Common.{ℕ, suc, ◌≡◌, ◌<◌, inl, inr, List, [], ◌∷◌, length, map, refl, sym, ap, subst, ◌∙◌, arith}
+use Rattle.std.proofs.Common.{ℕ, suc, ◌≡◌, ◌<◌, List, [], ◌∷◌, length, map, refl, sym, ap, subst, ◌∙◌, arith}
 use Rattle.std.specs.Prelude.{Option, Some, None, slice_get}
 use Rattle.std.proofs.Math.Path.{ap₂, fun_ext}
-use Rattle.std.proofs.lemmas.Bool.{false≢true}
 use Rattle.std.proofs.lemmas.Bool.Decides.{same_from_decides}
 use Rattle.std.proofs.lemmas.Option.{slice_get_within}
 use Rattle.gr_text.proofs.WorkspaceLaws.{path_cmp_total}
 use Rattle.gr_scan.proofs.StringValueLemmas.{one_string_value}
 use Rattle.gr_tree.specs.SourceFile.{SourceFile}
-use Rattle.gr_scope.specs.declared.model.Role.TheVariants.{NotLexical}
-use Rattle.gr_scope.specs.declared.model.Purpose.TheVariants as purpose
-use Rattle.gr_scope.specs.Bindings.{Layout, Names, IsBoundTo, use_bound, own, may_declare, is_use, is_left_name}
 use Rattle.gr_scope.specs.Table.{StandsAt}
 use Rattle.gr_scope.specs.WellFormed.{WellFormed}
 use Rattle.gr_imports.specs.Files.{HasLiteral, package_name}
@@ -22,6 +18,7 @@ use Rattle.gr_meanings.specs.Uniqueness.{AreInOrder}
 use Rattle.gr_declared.proofs.Binding.{one_first}
 use Rattle.gr_meanings.proofs.BoundLists.{slice_get_some}
 use Rattle.gr_declared.proofs.Naming.{one_binding, one_import_path}
+use Rattle.gr_meanings.proofs.OneMeaning.{lexical}
 use Rattle.gr_meanings.proofs.OneWorld.{one_world}
 use Rattle.gr_object.specs.Lines.{GlobalName}
 use Rattle.gr_object.specs.Source.{Source}
@@ -34,18 +31,11 @@ use Rattle.gr_graph.proofs.SortedLists.{one_sorted}
 
 -- the declaration of a package's block that a name is bound to
 
-not_lexical : (l : Layout) (names : Names) (u d : ℕ) → l.role u ≡ NotLexical purpose.Selected → IsBoundTo l names u d → ⊥
-not_lexical l names u d e (use_bound is b) = elim is [
-  | inl h ↦ false≢true (sym (ap is_use e) ∙ h)
-  | inr h ↦ false≢true (sym (ap is_left_name e) ∙ h.0)
-]
-not_lexical l names u d e (own same counts) = false≢true (sym (ap may_declare e) ∙ ap (λ v. may_declare (l.role v)) same ∙ counts.declares.may)
-
 pub own_or_imported : (p : Package) (file token d : ℕ) (path : List ℕ) → BindsToken p file token d → IsBehindImport p file token path → ⊥
 own_or_imported p file token d path b s =
     let same : b.identifier ≡ s.identifier = one_first (StandsAt p.layout (record { file = file; index = token })) p.size b.identifier s.identifier b.found
     s.found in
-    not_lexical p.layout p.names b.identifier d (ap p.layout.role same ∙ s.selected) b.bound
+    lexical p.layout p.names b.identifier d (ap p.layout.role same ∙ s.selected) b.bound
 
 one_path_behind : (p : Package) → WellFormed p.layout → (file token : ℕ) (v w : List ℕ) → IsBehindImport p file token v → IsBehindImport p file token w → v ≡ w
 one_path_behind p formed file token v w a b =

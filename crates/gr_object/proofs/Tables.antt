@@ -3,7 +3,7 @@ use Rattle.std.proofs.Common.{ℕ, ◌≡◌, ◌+◌, ◌<◌, ◌≤◌, ◌�
 use Rattle.std.proofs.Common.{arith, map, take}
 use Rattle.std.specs.Prelude.{Option, Some, None, slice_get}
 use Rattle.std.proofs.lemmas.Bool.{cases_lt}
-use Rattle.std.proofs.lemmas.Option.{slice_get_past}
+use Rattle.std.proofs.lemmas.Option.{slice_get_past, slice_get-get_or}
 use Rattle.std.proofs.lemmas.List.{get_or_past, get_or_push, map-append, take_more}
 
 -- what a table has at each token below n; d: what it has at each further one
@@ -37,15 +37,10 @@ all_rows P d n xs past h t = elim (cases_lt t n) [
   | inr ge ↦ subst (P t) (sym (get_or_past xs t d (subst (λ m. m ≤ t) (sym h.all) ge))) (past t ge)
 ]
 
-get_here : {X : Type 0} (xs : List X) (t : ℕ) (d : X) → t < length xs → slice_get xs t ≡ Some (get_or xs t d)
-get_here [] t d lt = let no : ⊥ = omega arith in absurd no
-get_here (x ∷ xs) zero d lt = refl
-get_here (x ∷ xs) (suc t) d lt = get_here xs t d (omega arith)
-
 pub all_got : {X : Type 0} (Q : ℕ → Option X → Type 0) (d : X) (n : ℕ) (xs : List X) → ((t : ℕ) → n ≤ t → Q t None) →
     IsTableBelow (λ t x. Q t (Some x)) d n xs → (t : ℕ) → Q t (slice_get xs t)
 all_got Q d n xs past h t = elim (cases_lt t n) [
-  | inl below ↦ subst (Q t) (sym (get_here xs t d (subst (λ m. t < m) (sym h.all) below))) (h.each t below)
+  | inl below ↦ subst (Q t) (sym (slice_get-get_or xs t d (subst (λ m. t < m) (sym h.all) below))) (h.each t below)
   | inr ge ↦ subst (Q t) (sym (slice_get_past xs t (subst (λ m. m ≤ t) (sym h.all) ge))) (past t ge)
 ]
 

@@ -1,4 +1,4 @@
-//! The object of a package: the code of its functions, and its text.
+//! The object of a package, which is what building it makes: the code of its functions, for a machine with a stack, and its text.
 #![tactic(auto)]
 
 mod called;

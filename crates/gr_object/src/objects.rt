@@ -258,7 +258,8 @@ fn package_text(
     checked_object(alloc, unit, &index, &mut bounds, given, packages)
 }
 
-/// The table of a package in which each import without a name declares the name of the imported package.
+/// The table of a package in which each import without a name declares the name of the imported package. `gr_types` lays the same
+/// for itself, in two calls: neither crate lists the other.
 fn laid<'a>(
     alloc: Global,
     files: &'a [FileTree],

@@ -32,19 +32,19 @@ from_before r n k (x ∷ xs) le h = (h.0, (let at : k ≤ x.place.index = h.1 in
 
 -- the identifiers among tokens are numbered as these are
 
-rising_from : (n k : ℕ) (ts : List Token) → n ≤ k → AreRising k ts → AreRising n ts
+pub rising_from : (n k : ℕ) (ts : List Token) → n ≤ k → AreRising k ts → AreRising n ts
 rising_from n k [] le h = tt
 rising_from n k (t ∷ ts) le h = ((let at : k ≤ t.place = h.0 in omega arith), h.1)
 
-rising_kept : (b : Bool) (n : ℕ) (t : Token) (ts : List Token) → n ≤ t.place → AreRising (suc t.place) ts → AreRising n (cond b (t ∷ ts) ts)
+pub rising_kept : (b : Bool) (n : ℕ) (t : Token) (ts : List Token) → n ≤ t.place → AreRising (suc t.place) ts → AreRising n (cond b (t ∷ ts) ts)
 rising_kept true n t ts le h = (le, h)
 rising_kept false n t ts le h = rising_from n (suc t.place) ts (omega arith) h
 
-rising_names : (n : ℕ) (ts : List Token) → AreRising n ts → AreRising n (names_among ts)
+pub rising_names : (n : ℕ) (ts : List Token) → AreRising n ts → AreRising n (names_among ts)
 rising_names n [] h = tt
 rising_names n (t ∷ ts) h = rising_kept (is_name t.kind) n t (names_among ts) h.0 (rising_names (suc t.place) ts h.1)
 
-rising_identifiers : (n : ℕ) (ts : List Token) → AreRising n ts → AreRising n (identifiers_among ts)
+pub rising_identifiers : (n : ℕ) (ts : List Token) → AreRising n ts → AreRising n (identifiers_among ts)
 unfolding identifiers_among
 rising_identifiers n [] h = tt
 rising_identifiers n (t ∷ ts) h =

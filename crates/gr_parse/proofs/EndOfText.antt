@@ -1,6 +1,7 @@
 -- What the machine stops in for syntax is no whole text: at the end of a text, too, a derivation goes by the selected rule.
 use Rattle.std.proofs.Common.{ℕ, ◌≡◌, Bool, true, false, List, [], ◌∷◌, ◌++◌, refl, sym, ◌∙◌, subst}
 use Rattle.std.specs.Prelude.{◌&&◌}
+use Rattle.std.proofs.lemmas.Bool.{and_from}
 use Rattle.gr_tree.specs.declared.syntax.Kind.TheVariants as kind
 use Rattle.gr_tree.specs.declared.syntax.Token.{Token}
 use Rattle.gr_tree.specs.declared.syntax.TokenFaultKind.TheVariants.{Syntax}
@@ -9,7 +10,7 @@ use Rattle.gr_tree.specs.Grammar.{AfterName, AfterSelector, Address, File}
 use Rattle.gr_tree.specs.Language.{Among, tested, untested, below, Derives, ends, token, opening, closing, by_rule, FirstFault}
 use Rattle.gr_parse.specs.Machine.{Run, take, opens, closes, expand, refused, refused_opening, left_over, Stopped, Selects, first as selects_first, later, last}
 use Rattle.gr_parse.proofs.Tables.{first, firsts, followed, nullable, nullables, implies, symbols_of}
-use Rattle.gr_parse.proofs.Predictive.{and_left, and_right, and_both, rule_at, implied, no, Good, good_rule, followed_at, selected, goes_by, after_token}
+use Rattle.gr_parse.proofs.Predictive.{and_left, and_right, rule_at, implied, no, Good, good_rule, followed_at, selected, goes_by, after_token}
 use Rattle.gr_parse.proofs.Predictive.{after_opening, after_closing, stops_at}
 
 -- at the end only the last rule may be applied
@@ -54,14 +55,14 @@ nullables_append (Opening c ∷ a) b e = absurd (no e)
 nullables_append (Close ∷ a) b e = nullables_append a b e
 nullables_append (A p ∷ a) b e =
     let r = nullables_append a b (and_right (nullable p) (nullables (a ++ b)) e) in
-    (and_both (nullable p) (nullables a) (and_left (nullable p) (nullables (a ++ b)) e) r.0, r.1)
+    (and_from (nullable p) (nullables a) (and_left (nullable p) (nullables (a ++ b)) e) r.0, r.1)
 
 pub derives_empty : {ss : List Symbol} → Derives ss [] → nullables ss ≡ true
 derives_empty ends = refl
 derives_empty (closing x) = derives_empty x
 derives_empty (by_rule {p = p} {then = then} {ss = ss} a x) =
     let r = nullables_append then ss (derives_empty x) in
-    and_both (nullable p) (nullables ss)
+    and_from (nullable p) (nullables ss)
     (implied (nullables then) (nullable p) (and_left (implies (nullables then) (nullable p)) (followed p then kind.Name)
     (and_right (implies (firsts then kind.Name) (first p kind.Name)) (implies (nullables then) (nullable p) && followed p then kind.Name)
     (rule_at p then kind.Name a))) r.0)

@@ -30,8 +30,13 @@ use Rattle.gr_tree.specs.View.{type_view, expr_view, literal_view, link_view, li
 use Rattle.gr_tree.specs.WellFormed.{strength, strength_of, IsExpr, IsExprIn, AreOperands, AreLinks, AreArguments, IsLiteral}
 use Rattle.gr_tree.specs.WellFormed.{IsLiteralType, AreElements, IsUnnamed, HasNoNamedLiteral, HaveNoNamedLiteral}
 use Rattle.gr_parse.specs.Grouping.{is_slice, is_literal_type, literal_type_of, IsUnary, IsOperand, IsLiteralIn, IsLink, IsSeparatedBy}
-use Rattle.gr_parse.specs.Grouping.{IsSeparatedSoFar, AreItems, Each}
+use Rattle.gr_parse.specs.Grouping.{AreItems, Each}
 use Rattle.gr_tree.specs.declared.tree.Operand.{Operand}
+
+-- only the last may lack its separator, and where more may follow none lacks it
+pub record IsSeparatedSoFar {X : Type 0} (f : X → Option ℕ) (more : Bool) (xs : List X) : Type 0 where
+  pub separated : IsSeparatedBy f xs
+  pub complete : more ≡ true → Each (λ x. f x ≢ None) xs
 
 -- an operator of that strength, and an operand that binds more strongly
 pub record IsJoined (h : Bool) (k : ℕ) (o : Operand) : Type 0 where

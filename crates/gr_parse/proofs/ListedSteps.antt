@@ -7,13 +7,10 @@ use Rattle.gr_tree.specs.Tree.{Item}
 use Rattle.gr_parse.specs.Grouping.{Each}
 use Rattle.gr_tree.specs.WellFormed.{IsNonEmpty, IsSeparated, IsJoined, IsList, IsOpenList}
 use Rattle.gr_parse.specs.Listed.{IsJoinedBy, IsListed}
+use Rattle.gr_parse.proofs.Grouping.{each_push}
 
 clash : {X : Type 0} → true ≡ false → X
 clash e = absurd (let f : ⊥ = cc in f)
-
-push_each : {X : Type 0} (P : X → Type 0) (xs : List X) (x : X) → Each P xs → P x → Each P (xs ++ (x ∷ []))
-push_each P [] x w h = (h, tt)
-push_each P (y ∷ ys) x w h = (w.0, push_each P ys x w.1 h)
 
 push_joined : {X : Type 0} (f : X → Option ℕ) (xs : List X) (x : X) → Each (λ y. IsSome (f y)) xs → f x ≡ None → IsJoinedBy f (xs ++ (x ∷ []))
 push_joined f [] x w e = e
@@ -36,7 +33,7 @@ listed_more : {X Y : Type 0} (P : Y → Type 0) (item : X → Item Y) (xs : List
     b ≡ is_some (item x).separator → IsListed P item b (xs ++ (x ∷ []))
 listed_more P item xs x more b w go h same = record {
   each = All-append (λ x. P (item x).value) xs (x ∷ []) w.each (All-cons (λ x. P (item x).value) x [] h (All-nil (λ x. P (item x).value)));
-  complete = λ e. push_each (λ x. IsSome (item x).separator) xs x (w.complete go) (sym same ∙ e);
+  complete = λ e. each_push (λ x. IsSome (item x).separator) xs x (w.complete go) (sym same ∙ e);
   joined = λ e. push_joined (λ x. (item x).separator) xs x (w.complete go) (not_some (item x).separator (sym same ∙ e));
 }
 

@@ -18,9 +18,10 @@ use Rattle.gr_tree.specs.WellFormed.{IsDecl, IsFile}
 use Rattle.gr_parse.proofs.Values.{basic}
 use Rattle.gr_parse.proofs.OneValue.{Values}
 use Rattle.gr_parse.proofs.Made.{Made, one, opens, closes, rule, along, made_type}
-use Rattle.gr_parse.proofs.MadeLists.{Behind, all_head, all_tail, apart, behind_item, joined_more, open_list, made_group, with_separator}
+use Rattle.gr_parse.proofs.MadeLists.{Behind, apart, behind_item, joined_more, open_list, made_group, with_separator}
 use Rattle.gr_parse.proofs.MadeStatements.{one_ident, ident_back, more_idents}
 use Rattle.gr_parse.proofs.MadeBlocks.{made_block}
+use Rattle.gr_parse.proofs.FormedParts.{head_of, tail_of}
 
 -- imports
 
@@ -73,7 +74,7 @@ unfolding all_tokens
 global_list p [] w m = absurd w.some
 global_list p (x ∷ xs) w {vs = vs} {ts = ts} m =
     along (ap (λ z. sign kind.Assign p ∷ z) (apart (basic_tokens x.value) (sign_if kind.Comma x.separator) (list_tokens kind.Comma basic_tokens xs) ts))
-    (rule tested (one refl (one_basic x.value (more_literals x.separator xs (behind_item x xs w.joined) (all_tail (λ x. Any x.value) x xs w.each) m)))
+    (rule tested (one refl (one_basic x.value (more_literals x.separator xs (behind_item x xs w.joined) (tail_of (λ x. Any x.value) x xs w.each) m)))
     (ap (λ z. (Some (p, with_separator z x.separator ∷ xs), vs)) (basic_back x.value)))
 
 global_values : (v : Option (ℕ × List (Item BasicTree))) → Perhaps (λ v. IsList Any v.1) v → {ss : List Symbol} {vs : Values ss} {ts : List Token} →
@@ -93,7 +94,7 @@ global_names (x ∷ xs) t v w u ss vs ts m =
     along (append_assoc (list_tokens kind.Comma name_tokens (x ∷ xs)) (type_tokens t ++ b) ts
     ∙ (ap (λ z. list_tokens kind.Comma name_tokens (x ∷ xs) ++ z) (append_assoc (type_tokens t) b ts)
     ∙ apart (name_tokens x.value) (sign_if kind.Comma x.separator) (list_tokens kind.Comma name_tokens xs) (type_tokens t ++ (b ++ ts))))
-    (rule untested (one refl (more_names x.separator xs (behind_item x xs w.joined) (all_tail (λ x. Any x.value) x xs w.each)
+    (rule untested (one refl (more_names x.separator xs (behind_item x xs w.joined) (tail_of (λ x. Any x.value) x xs w.each)
     (made_type t (global_values v u m)))) refl)
 
 made_global : (g : GlobalTree) → IsGlobal g → (ss : List Symbol) (vs : Values ss) (ts : List Token) → Made ss vs ts →
@@ -112,7 +113,7 @@ field_names [] t w m = absurd w.some
 field_names (x ∷ xs) t w {ts = ts} m =
     along (append_assoc (list_tokens kind.Comma name_tokens (x ∷ xs)) (type_tokens t) ts
     ∙ apart (name_tokens x.value) (sign_if kind.Comma x.separator) (list_tokens kind.Comma name_tokens xs) (type_tokens t ++ ts))
-    (rule (below untested) (one refl (more_names x.separator xs (behind_item x xs w.joined) (all_tail (λ x. Any x.value) x xs w.each) (made_type t m))) refl)
+    (rule (below untested) (one refl (more_names x.separator xs (behind_item x xs w.joined) (tail_of (λ x. Any x.value) x xs w.each) (made_type t m))) refl)
 
 made_body : (b : BodyTree) → IsBody b → {ss : List Symbol} {vs : Values ss} {ts : List Token} → Made ss vs ts →
     Made (A TypeBody ∷ ss) (b, vs) (body_tokens b ++ ts)
@@ -146,7 +147,7 @@ param_names [] t w m = absurd w.some
 param_names (x ∷ xs) t w {vs = vs} {g = g} {ts = ts} m =
     along (append_assoc (list_tokens kind.Comma ident_tokens (x ∷ xs)) (type_tokens t) ts
     ∙ apart (ident_tokens x.value) (sign_if kind.Comma x.separator) (list_tokens kind.Comma ident_tokens xs) (type_tokens t ++ ts))
-    (rule (below untested) (one_ident x.value (more_idents x.separator xs (behind_item x xs w.joined) (all_tail (λ x. Any x.value) x xs w.each)
+    (rule (below untested) (one_ident x.value (more_idents x.separator xs (behind_item x xs w.joined) (tail_of (λ x. Any x.value) x xs w.each)
     (made_type t m)))
     (ap (λ z. (g (record { names = with_separator z x.separator ∷ xs; type_use = t }), vs)) (ident_back x.value)))
 
@@ -233,22 +234,22 @@ made_decls : (ds : List DeclTree) → All IsDecl ds → {ss : List Symbol} {vs :
 unfolding all_tokens decl_tokens
 made_decls [] a m = rule (below (below (below untested))) m refl
 made_decls (VarDecl k g s ∷ ds) a {ts = ts} m =
-    let w = all_head IsDecl (VarDecl k g s) ds a in
+    let w = head_of IsDecl (VarDecl k g s) ds a in
     along (append_assoc (decl_tokens (VarDecl k g s)) (all_tokens decl_tokens ds) ts
     ∙ ap (λ z. sign kind.Var k ∷ z) (append_assoc (group_tokens global_tokens g) (sign kind.Semicolon s ∷ []) (all_tokens decl_tokens ds ++ ts)))
     (rule tested (one refl (made_group GlobalItem IsGlobal global_tokens made_global g w
-    (one refl (made_decls ds (all_tail IsDecl (VarDecl k g s) ds a) m)))) refl)
+    (one refl (made_decls ds (tail_of IsDecl (VarDecl k g s) ds a) m)))) refl)
 made_decls (TypeDecl k g s ∷ ds) a {ts = ts} m =
-    let w = all_head IsDecl (TypeDecl k g s) ds a in
+    let w = head_of IsDecl (TypeDecl k g s) ds a in
     along (append_assoc (decl_tokens (TypeDecl k g s)) (all_tokens decl_tokens ds) ts
     ∙ ap (λ z. sign kind.TypeWord k ∷ z) (append_assoc (group_tokens type_spec_tokens g) (sign kind.Semicolon s ∷ []) (all_tokens decl_tokens ds ++ ts)))
     (rule (below tested) (one refl (made_group TypeItem IsTypeSpec type_spec_tokens made_type_spec g w
-    (one refl (made_decls ds (all_tail IsDecl (TypeDecl k g s) ds a) m)))) refl)
+    (one refl (made_decls ds (tail_of IsDecl (TypeDecl k g s) ds a) m)))) refl)
 made_decls (FuncDecl k f s ∷ ds) a {ts = ts} m =
-    let w = all_head IsDecl (FuncDecl k f s) ds a in
+    let w = head_of IsDecl (FuncDecl k f s) ds a in
     along (append_assoc (decl_tokens (FuncDecl k f s)) (all_tokens decl_tokens ds) ts
     ∙ ap (λ z. sign kind.Func k ∷ z) (append_assoc (func_tokens f) (sign kind.Semicolon s ∷ []) (all_tokens decl_tokens ds ++ ts)))
-    (rule (below (below tested)) (one refl (made_func f w (one refl (made_decls ds (all_tail IsDecl (FuncDecl k f s) ds a) m)))) refl)
+    (rule (below (below tested)) (one refl (made_func f w (one refl (made_decls ds (tail_of IsDecl (FuncDecl k f s) ds a) m)))) refl)
 
 made_imports : (is : List ImportsTree) → All IsImports is → {ds : List DeclTree} {ss : List Symbol} {vs : Values ss} {ts : List Token} →
     Made (A Tops ∷ ss) (ds, vs) ts →
@@ -259,8 +260,8 @@ made_imports (i ∷ is) a {ts = ts} m =
     along (append_assoc (imports_tokens i) (all_tokens imports_tokens is) ts
     ∙ ap (λ z. sign kind.Import i.keyword ∷ z) (append_assoc (group_tokens import_tokens i.imports) (sign kind.Semicolon i.semicolon ∷ [])
     (all_tokens imports_tokens is ++ ts)))
-    (rule tested (one refl (made_group ImportItem Any import_tokens made_import i.imports (all_head IsImports i is a)
-    (one refl (made_imports is (all_tail IsImports i is a) m)))) refl)
+    (rule tested (one refl (made_group ImportItem Any import_tokens made_import i.imports (head_of IsImports i is a)
+    (one refl (made_imports is (tail_of IsImports i is a) m)))) refl)
 
 pub made_file : (f : FileTree) → IsFile f → {ss : List Symbol} {vs : Values ss} {ts : List Token} → Made ss vs ts → Made (A File ∷ ss) (f, vs) (flatten f ++ ts)
 unfolding flatten

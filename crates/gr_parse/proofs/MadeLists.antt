@@ -14,12 +14,7 @@ use Rattle.gr_parse.proofs.Predictive.{no}
 use Rattle.gr_parse.proofs.Values.{Closed, ItemOf}
 use Rattle.gr_parse.proofs.OneValue.{Values}
 use Rattle.gr_parse.proofs.Made.{Made, one, opens, closes, rule, along}
-
-pub all_head : {X : Type 0} (P : X → Type 0) (x : X) (xs : List X) → All P (x ∷ xs) → P x
-all_head P x xs a = a 0 x (omega arith)
-
-pub all_tail : {X : Type 0} (P : X → Type 0) (x : X) (xs : List X) → All P (x ∷ xs) → All P xs
-all_tail P x xs a = λ k d h. a (suc k) d (omega (arith, h))
+use Rattle.gr_parse.proofs.FormedParts.{head_of, tail_of}
 
 pub apart : (a b c d : List Token) → ((a ++ b) ++ c) ++ d ≡ a ++ (b ++ (c ++ d))
 apart a b c d = append_assoc (a ++ b) c d ∙ append_assoc a b (c ++ d)
@@ -52,8 +47,8 @@ joined_more P f M ts end more None (y ∷ ys) b a = absurd (no b.0)
 joined_more P f M ts end more (Some p) (y ∷ ys) b a =
     subst (λ us. M (λ x. with_separator x (Some p) ∷ (y ∷ ys)) (sign kind.Comma p ∷ us))
     (sym (apart (f y.value) (sign_if kind.Comma y.separator) (list_tokens kind.Comma f ys) ts))
-    (more p y.value (all_head (λ x. P x.value) y ys a) (λ x. with_separator x y.separator ∷ ys) _
-    (joined_more P f M ts end more y.separator ys (behind_item y ys b.1) (all_tail (λ x. P x.value) y ys a)))
+    (more p y.value (head_of (λ x. P x.value) y ys a) (λ x. with_separator x y.separator ∷ ys) _
+    (joined_more P f M ts end more y.separator ys (behind_item y ys b.1) (tail_of (λ x. P x.value) y ys a)))
 
 -- behind an item of an open list: its separator and the rest of the list, or the end
 open_more : {X : Type 0} (f : X → List Token) (k : Kind) (c : ℕ) (M : Closed X → List Token → Type 0) (N : (X → Closed X) → List Token → Type 0)
@@ -79,8 +74,8 @@ unfolding all_tokens
 open_list P f k c M N ts empty item more last [] s a = empty
 open_list P f k c M N ts empty item more last (x ∷ xs) s a =
     subst (λ us. M (x ∷ xs, c) us) (sym (apart (f x.value) (sign_if k x.separator) (list_tokens k f xs) ts))
-    (item x.value (all_head (λ x. P x.value) x xs a) (λ y. (with_separator y x.separator ∷ xs, c)) _
-    (open_more f k c M N ts more last x.separator xs s.0 (open_list P f k c M N ts empty item more last xs s.1 (all_tail (λ x. P x.value) x xs a))))
+    (item x.value (head_of (λ x. P x.value) x xs a) (λ y. (with_separator y x.separator ∷ xs, c)) _
+    (open_more f k c M N ts more last x.separator xs s.0 (open_list P f k c M N ts empty item more last xs s.1 (tail_of (λ x. P x.value) x xs a))))
 
 -- a group in parentheses, or one item
 pub made_group : (i : Sort) (P : ItemOf i → Type 0) (f : ItemOf i → List Token) →

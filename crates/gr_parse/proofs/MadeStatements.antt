@@ -21,7 +21,8 @@ use Rattle.gr_parse.proofs.Values.{step_op, update_op, ident, set_by}
 use Rattle.gr_parse.proofs.OneValue.{Values}
 use Rattle.gr_parse.proofs.Made.{Made, one, rule, along, made_type}
 use Rattle.gr_parse.proofs.MadeExprs.{made_expr}
-use Rattle.gr_parse.proofs.MadeLists.{Behind, all_head, all_tail, apart, behind_item, joined_more, with_separator}
+use Rattle.gr_parse.proofs.MadeLists.{Behind, apart, behind_item, joined_more, with_separator}
+use Rattle.gr_parse.proofs.FormedParts.{head_of, tail_of}
 
 -- lists of expressions
 
@@ -31,11 +32,11 @@ unfolding all_tokens
 made_exprs h [] w ss vs ts m = absurd w.some
 made_exprs h (x ∷ xs) w ss vs ts m =
     along (apart (expr_tokens x.value) (sign_if kind.Comma x.separator) (list_tokens kind.Comma expr_tokens xs) ts)
-    (rule untested (made_expr h x.value (all_head (λ x. IsExprIn h x.value) x xs w.each) _ _ _
+    (rule untested (made_expr h x.value (head_of (λ x. IsExprIn h x.value) x xs w.each) _ _ _
     (joined_more (IsExprIn h) expr_tokens (λ g us. Made (A (MoreExpressions h) ∷ ss) (g, vs) us) ts
     (rule (below untested) m refl)
     (λ p y v g us n. rule tested (one refl (made_expr h y v _ _ _ n)) refl)
-    x.separator xs (behind_item x xs w.joined) (all_tail (λ x. IsExprIn h x.value) x xs w.each)))
+    x.separator xs (behind_item x xs w.joined) (tail_of (λ x. IsExprIn h x.value) x xs w.each)))
     refl)
 
 -- simple statements
@@ -121,7 +122,7 @@ unfolding all_tokens
 set_starts s k p a [] fs v w ss vs ts m = absurd v.some
 set_starts s k p a (x ∷ []) fs v w ss vs ts m = record {
   e = x.value;
-  proper = all_head (λ x. IsExprIn (in_head s) x.value) x [] v.each;
+  proper = head_of (λ x. IsExprIn (in_head s) x.value) x [] v.each;
   others = sign k p ∷ (exprs_tokens fs ++ ts);
   same = set_tokens_apart x.value x.separator [] fs (sign k p) ts ∙
       ap (λ c. expr_tokens x.value ++ (sign_if kind.Comma c ++ (sign k p ∷ (exprs_tokens fs ++ ts)))) v.joined;
@@ -130,8 +131,8 @@ set_starts s k p a (x ∷ []) fs v w ss vs ts m = record {
   says = ap (λ c. set_by (sign k p) (with_separator x.value c ∷ []) fs) (sym v.joined);
 }
 set_starts s k p a (x ∷ (y ∷ ys)) fs v w ss vs ts m =
-    set_more s k p a x.value x.separator (y ∷ ys) fs (all_head (λ x. IsExprIn (in_head s) x.value) x (y ∷ ys) v.each) v.joined.0
-    (record { some = tt; joined = v.joined.1; each = all_tail (λ x. IsExprIn (in_head s) x.value) x (y ∷ ys) v.each }) w ss vs ts m
+    set_more s k p a x.value x.separator (y ∷ ys) fs (head_of (λ x. IsExprIn (in_head s) x.value) x (y ∷ ys) v.each) v.joined.0
+    (record { some = tt; joined = v.joined.1; each = tail_of (λ x. IsExprIn (in_head s) x.value) x (y ∷ ys) v.each }) w ss vs ts m
 
 pub speaks : (s : Setting) (t : SimpleTree) → IsSimpleAt s t → (ss : List Symbol) (vs : Values ss) (ts : List Token) → Made ss vs ts →
     Spoken s ss vs t (simple_tokens t ++ ts)
@@ -219,7 +220,7 @@ local_names (x ∷ xs) t v w q u ss vs ts m =
     along (append_assoc (list_tokens kind.Comma ident_tokens (x ∷ xs)) (a ++ b) ts
     ∙ (ap (λ z. list_tokens kind.Comma ident_tokens (x ∷ xs) ++ z) (append_assoc a b ts)
     ∙ apart (ident_tokens x.value) (sign_if kind.Comma x.separator) (list_tokens kind.Comma ident_tokens xs) (a ++ (b ++ ts))))
-    (rule untested (one_ident x.value (more_idents x.separator xs (behind_item x xs w.joined) (all_tail (λ x. Any x.value) x xs w.each) (local_rest t v q u m)))
+    (rule untested (one_ident x.value (more_idents x.separator xs (behind_item x xs w.joined) (tail_of (λ x. Any x.value) x xs w.each) (local_rest t v q u m)))
     (ap (λ z. (record { names = with_separator z x.separator ∷ xs; type_use = t; values = v }, vs)) (ident_back x.value)))
 
 pub made_local : (l : LocalTree) → IsLocal l → (ss : List Symbol) (vs : Values ss) (ts : List Token) → Made ss vs ts →

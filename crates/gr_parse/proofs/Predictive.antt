@@ -3,6 +3,7 @@
 use Rattle.std.proofs.Common.{◌≤◌, ◌<◌, arith, ℕ, ◌≡◌, ◌⊎◌, inl, inr, Bool, true, false, List, [], ◌∷◌, ◌++◌, length, refl, ap, sym, ◌∙◌, subst, get_or}
 use Rattle.std.proofs.Common.{zero, suc, append_assoc, drop}
 use Rattle.std.specs.Prelude.{◌&&◌, ◌||◌}
+use Rattle.std.proofs.lemmas.Bool.{and_from, or_cases, or_left, or_right}
 use Rattle.gr_tree.specs.declared.syntax.Kind.{Kind}
 use Rattle.gr_tree.specs.declared.syntax.Kind.TheVariants as kind
 use Rattle.gr_tree.specs.declared.syntax.Token.{Token}
@@ -31,22 +32,6 @@ pub and_right : (a b : Bool) → (a && b) ≡ true → b ≡ true
 and_right true b e = e
 and_right false b e = cc
 
-or_cases : (a b : Bool) → (a || b) ≡ true → (a ≡ true) ⊎ (b ≡ true)
-or_cases true b e = inl refl
-or_cases false b e = inr e
-
-or_left : (a b : Bool) → a ≡ true → (a || b) ≡ true
-or_left true b e = refl
-or_left false b e = cc
-
-or_right : (a b : Bool) → b ≡ true → (a || b) ≡ true
-or_right true b e = refl
-or_right false b e = e
-
-pub and_both : (a b : Bool) → a ≡ true → b ≡ true → (a && b) ≡ true
-and_both true b e f = f
-and_both false b e f = cc
-
 pub implied : (a b : Bool) → implies a b ≡ true → a ≡ true → b ≡ true
 implied true b e f = e
 implied false b e f = cc
@@ -70,8 +55,8 @@ firsts_append (Close ∷ a) b k e = firsts_append a b k e
 firsts_append (A p ∷ a) b k e = elim (or_cases (first p k) (nullable p && firsts (a ++ b) k) e) [
   | inl h ↦ inl (or_left (first p k) (nullable p && firsts a k) h)
   | inr h ↦ elim (firsts_append a b k (and_right (nullable p) (firsts (a ++ b) k) h)) [
-    | inl g ↦ inl (or_right (first p k) (nullable p && firsts a k) (and_both (nullable p) (firsts a k) (and_left (nullable p) (firsts (a ++ b) k) h) g))
-    | inr g ↦ inr (and_both (nullable p) (nullables a) (and_left (nullable p) (firsts (a ++ b) k) h) g.0, g.1)
+    | inl g ↦ inl (or_right (first p k) (nullable p && firsts a k) (and_from (nullable p) (firsts a k) (and_left (nullable p) (firsts (a ++ b) k) h) g))
+    | inr g ↦ inr (and_from (nullable p) (nullables a) (and_left (nullable p) (firsts (a ++ b) k) h) g.0, g.1)
   ]
 ]
 
@@ -79,7 +64,7 @@ pub looks_append : (p : Part) (a b : List Symbol) (k : Kind) → ((k : Kind) →
     firsts (a ++ b) k ≡ true → looks p a k ≡ true
 looks_append p a b k good e = elim (firsts_append a b k e) [
   | inl h ↦ or_left (firsts a k) (nullables a && follow p k) h
-  | inr h ↦ or_right (firsts a k) (nullables a && follow p k) (and_both (nullables a) (follow p k) h.0 (good k h.1))
+  | inr h ↦ or_right (firsts a k) (nullables a && follow p k) (and_from (nullables a) (follow p k) h.0 (good k h.1))
 ]
 
 -- the checks, at a rule
@@ -101,7 +86,7 @@ firsts_rule : (p : Part) (then ss : List Symbol) (k : Kind) → rule_fits p then
 firsts_rule p then ss k fits e = elim (firsts_append then ss k e) [
   | inl h ↦ or_left (first p k) (nullable p && firsts ss k)
       (implied (firsts then k) (first p k) (and_left (implies (firsts then k) (first p k)) (implies (nullables then) (nullable p) && followed p then k) fits) h)
-  | inr h ↦ or_right (first p k) (nullable p && firsts ss k) (and_both (nullable p) (firsts ss k)
+  | inr h ↦ or_right (first p k) (nullable p && firsts ss k) (and_from (nullable p) (firsts ss k)
       (implied (nullables then) (nullable p) (and_left (implies (nullables then) (nullable p)) (followed p then k)
       (and_right (implies (firsts then k) (first p k)) (implies (nullables then) (nullable p) && followed p then k) fits)) h.0)
       h.1)
@@ -469,9 +454,9 @@ alive_in (r ∷ rs) then (below a) e = alive_in rs then a (and_right (alive (sym
 
 alive_append : (a b : List Symbol) → alive a ≡ true → alive b ≡ true → alive (a ++ b) ≡ true
 alive_append [] b e f = f
-alive_append (One c ∷ a) b e f = and_both (some_kind c kinds) (alive (a ++ b)) (and_left (some_kind c kinds) (alive a) e)
+alive_append (One c ∷ a) b e f = and_from (some_kind c kinds) (alive (a ++ b)) (and_left (some_kind c kinds) (alive a) e)
     (alive_append a b (and_right (some_kind c kinds) (alive a) e) f)
-alive_append (Opening c ∷ a) b e f = and_both (some_kind c kinds) (alive (a ++ b)) (and_left (some_kind c kinds) (alive a) e)
+alive_append (Opening c ∷ a) b e f = and_from (some_kind c kinds) (alive (a ++ b)) (and_left (some_kind c kinds) (alive a) e)
     (alive_append a b (and_right (some_kind c kinds) (alive a) e) f)
 alive_append (Close ∷ a) b e f = alive_append a b e f
 alive_append (A p ∷ a) b e f = alive_append a b e f

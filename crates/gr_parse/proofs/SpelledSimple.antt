@@ -12,7 +12,8 @@ use Rattle.gr_tree.specs.Flatten.{local_tokens}
 use Rattle.gr_tree.specs.View.{option_view, type_view, expr_item_view}
 use Rattle.gr_tree.specs.FileView.{simple_view, values_view, local_view}
 use Rattle.gr_parse.specs.Spelling.{expr_spelled, expr_item_spelled, exprs_spelled, idents_spelled, simple_spelled, local_spelled}
-use Rattle.gr_parse.proofs.StatementSteps.{all_tokens_map, tokens_push}
+use Rattle.gr_parse.proofs.StatementSteps.{all_tokens_map}
+use Rattle.gr_parse.proofs.Spelled.{all_tokens_push}
 
 -- a list of expressions, item by item
 exprs_by_item : (xs : List ExprItem) → all_tokens expr_item_spelled xs ≡ exprs_spelled xs
@@ -20,7 +21,7 @@ exprs_by_item xs = all_tokens_map (item_tokens kind.Comma expr_tokens) expr_item
 
 pub exprs_push : (xs ys : List ExprItem) (x : ExprItem) → ys ≡ xs ++ (x ∷ []) → exprs_spelled ys ≡ exprs_spelled xs ++ expr_item_spelled x
 exprs_push xs ys x e = ap exprs_spelled e ∙ (sym (exprs_by_item (xs ++ (x ∷ []))) ∙
-    (sym (tokens_push expr_item_spelled xs x) ∙ ap (λ z. z ++ expr_item_spelled x) (exprs_by_item xs)))
+    (sym (all_tokens_push expr_item_spelled xs x) ∙ ap (λ z. z ++ expr_item_spelled x) (exprs_by_item xs)))
 
 pub exprs_none : (xs : List ExprItem) → xs ≡ [] → exprs_spelled xs ≡ []
 unfolding all_tokens

@@ -10,6 +10,8 @@ use Rattle.gr_parse.specs.Parsing.{Leads, Continued, Read, Fails, Passes, Parses
 use Rattle.gr_tree.specs.Flatten.{sign, sign_if, all_tokens}
 use Rattle.gr_parse.proofs.KindTests.{is_itself}
 use Rattle.gr_parse.proofs.Lists.{items_rest}
+use Rattle.gr_parse.proofs.MachineSteps.{fails_after}
+use Rattle.gr_parse.proofs.Spelled.{all_tokens_push}
 
 -- several symbols, and then others
 
@@ -24,24 +26,9 @@ read_on {a = a} {b = b} {rest = rest} p q = record {
   passes = record { runs = λ after o r. runs_on _ p.passes after o (q.passes.runs after o r) };
 }
 
-pub fails_on : {xs ys : List Symbol} {a : List Token} {d f : ℕ} {ts mid : List Token} {e : ParseError} →
-    Read xs a d ts f mid → Fails ys f mid e → Fails (xs ++ ys) d ts e
-fails_on p f = record { stops = λ k l same after. runs_on _ p.passes after _ (f.stops k l same after) }
-
-pub fails_in : {xs : List Symbol} (ys : List Symbol) {d : ℕ} {ts : List Token} {e : ParseError} → Fails xs d ts e → Fails (xs ++ ys) d ts e
-fails_in {xs = xs} ys {d = d} {ts = ts} f = record
-    { stops = λ k l same after. subst (λ ss. Run d ss ts (Stopped k l)) (sym (append_assoc xs ys after)) (f.stops k l same (ys ++ after)) }
-
 pub leads_read : {xs : List Symbol} (ys : List Symbol) {a : List Token} {d e : ℕ} {ts rest : List Token} →
     Read xs a d ts e rest → Leads (xs ++ ys) ys a d ts e rest
 leads_read ys p = record { text = p.text; leads = λ after o r. runs_on _ p.passes after o r }
-
-pub read_leads : {x y : List Symbol} {a b : List Token} {d e f : ℕ} {ts mid rest : List Token} →
-    Leads x y a d ts e mid → Read y b e mid f rest → Read x (a ++ b) d ts f rest
-read_leads {a = a} {b = b} {rest = rest} p q = record {
-  text = p.text ∙ (ap (λ x. a ++ x) q.text ∙ sym (append_assoc a b rest));
-  passes = record { runs = λ after o r. p.leads after o (q.passes.runs after o r) };
-}
 
 -- from what has been read before
 
@@ -60,7 +47,7 @@ then_continues xs ss begun spelled rest d ts mid (Ok y) h c = record {
   text = h.text ∙ c.text;
   passes = record { runs = λ after o r. runs_on _ h.passes after o (c.passes.runs after o r) };
 }
-then_continues xs ss begun spelled rest d ts mid (Err e) h c = fails_on h c
+then_continues xs ss begun spelled rest d ts mid (Err e) h c = fails_after h c
 
 pub continues_rule : {Y : Type 0} (p : Part) (then : List Symbol) (begun : List Token) (spelled rest : Y → List Token) (d : ℕ) (ts : List Token)
     (r : Result Y ParseError) →
@@ -74,11 +61,6 @@ pub all_tokens_map : {X Y : Type 0} (f : Y → List Token) (g : X → Y) (xs : L
 unfolding all_tokens
 all_tokens_map f g [] = refl
 all_tokens_map f g (x ∷ xs) = ap (λ z. f (g x) ++ z) (all_tokens_map f g xs)
-
-pub tokens_push : {X : Type 0} (f : X → List Token) (xs : List X) (x : X) → all_tokens f xs ++ f x ≡ all_tokens f (xs ++ (x ∷ []))
-unfolding all_tokens
-tokens_push f [] x = sym (append-nil (f x))
-tokens_push f (y ∷ xs) x = append_assoc (f y) (all_tokens f xs) (f x) ∙ ap (λ z. f y ++ z) (tokens_push f xs x)
 
 tokens_of_none : {X : Type 0} (f : X → List Token) → all_tokens f [] ≡ []
 unfolding all_tokens
@@ -94,7 +76,7 @@ pub leads_push : {X : Type 0} (f : X → List Token) {from between to : List Sym
     Leads from between (all_tokens f xs) d ts e mid → Leads between to (f x) e mid g rest → ys ≡ xs ++ (x ∷ []) → Leads from to (all_tokens f ys) d ts g rest
 leads_push f {rest = rest} xs ys x p q e = record {
   text = p.text ∙ (ap (λ z. all_tokens f xs ++ z) q.text ∙
-      (sym (append_assoc (all_tokens f xs) (f x) rest) ∙ ap (λ z. z ++ rest) (tokens_push f xs x ∙ sym (ap (all_tokens f) e))));
+      (sym (append_assoc (all_tokens f xs) (f x) rest) ∙ ap (λ z. z ++ rest) (all_tokens_push f xs x ∙ sym (ap (all_tokens f) e))));
   leads = λ after o r. p.leads after o (q.leads after o r);
 }
 

@@ -1,5 +1,5 @@
 -- What the parser keeps of well-formed expressions, by the part that it reads.
-use Rattle.std.specs.Prelude.{ℕ, ◌≡◌, ◌≢◌, Bool, true, false, List, [], ◌∷◌, Option, None}
+use Rattle.std.specs.Prelude.{ℕ, ◌≡◌, Bool, true, false, List, [], ◌∷◌, Option, None}
 use Rattle.gr_tree.specs.declared.tree.ExprItem.{ExprItem}
 use Rattle.gr_tree.specs.declared.tree.Link.{Link}
 use Rattle.gr_tree.specs.Tree.{TypeTree, Pointer, Slice, ExprTree, no_link, LiteralTree, literal}
@@ -43,11 +43,6 @@ Each P (x ∷ xs) = P x × Each P xs
 abbrev pub IsSeparatedBy : {X : Type 0} → (X → Option ℕ) → List X → Type 0
 IsSeparatedBy f [] = Unit {0}
 IsSeparatedBy f (x ∷ xs) = (f x ≡ None → xs ≡ []) × IsSeparatedBy f xs
-
--- only the last may lack its separator, and where more may follow none lacks it
-pub record IsSeparatedSoFar {X : Type 0} (f : X → Option ℕ) (more : Bool) (xs : List X) : Type 0 where
-  pub separated : IsSeparatedBy f xs
-  pub complete : more ≡ true → Each (λ x. f x ≢ None) xs
 
 pub record AreItems (items : List ExprItem) : Type 0 where
   pub each : Each (λ i. IsExpr (expr_view i.value)) items

@@ -7,9 +7,10 @@ use Rattle.gr_scan.specs.CutText.{tokens_in}
 use Rattle.gr_tree.specs.SourceFile.{SourceFile, FileParts, source_of}
 use Rattle.gr_scope.specs.declared.model.Position.{Position}
 use Rattle.gr_scope.specs.Bindings.{is_implied}
+use Rattle.gr_imports.proofs.PathParts.{source_at as file_at}
 use Rattle.gr_declared.specs.Package.{Package}
 use Rattle.gr_bound.specs.Identifiers.{IsName, NameBegins, BeginsAt, file_of}
-use Rattle.gr_bound.proofs.Files.{file_at, no_file}
+use Rattle.gr_bound.proofs.Files.{no_file}
 use Rattle.gr_bound.proofs.PlaceOrder.{place_is}
 use Rattle.gr_standing.specs.Standing.{TokenBegins}
 use Rattle.gr_placed.specs.DeclaredPlaces.{IsFound}

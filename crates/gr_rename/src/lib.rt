@@ -1,4 +1,4 @@
-//! Plans of renames.
+//! Plans a rename: the edit set that gives the declaration at a byte another name, or why there is none.
 #![tactic(auto)]
 
 pub mod laws;

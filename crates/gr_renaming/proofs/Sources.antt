@@ -1,5 +1,5 @@
 -- The files of a workspace's packages, with their trees.
-use Rattle.std.proofs.Common.{◌≡◌, ◌&&◌, ℕ, inl, inr, Bool, true, false, List, [], ◌∷◌, map, filter, cond, Bor, T, refl, sym, ap, subst, ◌∙◌}
+use Rattle.std.proofs.Common.{◌≡◌, ◌&&◌, ℕ, Bool, true, false, List, [], ◌∷◌, map, filter, cond, Bor, T, refl, sym, ap, subst, ◌∙◌}
 use Rattle.std.specs.Prelude.{Contains, ◌==◌, Option, Some, None, MatchOption}
 use Rattle.std.specs.Cmp.Lexicographic.{pointwise, bytes_decides}
 use Rattle.std.specs.FinMap.{entries, entries_sorted, get, is_sorted}
@@ -24,8 +24,9 @@ use Rattle.gr_edit.proofs.Entries.{get_entry}
 use Rattle.gr_edit.proofs.Held.{mapped_from, is_mapped}
 use Rattle.gr_declared.specs.Package.{Package}
 use Rattle.gr_verdict.specs.Verdicts.{Verdicts}
-use Rattle.gr_verdict.proofs.Members.{nothing_in, first_in, later_in, first_or_later, passes}
+use Rattle.gr_verdict.proofs.Members.{passes}
 use Rattle.gr_verdict.proofs.OnePackage.{one_sources}
+use Rattle.gr_verdict.proofs.PackageFiles.{text_of}
 use Rattle.gr_bound.specs.Uses.{IsPackage}
 use Rattle.gr_bound.specs.Workspaces.{IsPackageAt}
 use Rattle.gr_bound.proofs.Units.{one_package}
@@ -80,14 +81,6 @@ trees_in_order w p ts parsed =
 
 -- each file is parsed from its text
 
-some_parsed : {es : List (List ℕ × List ℕ)} {ts : List FileParts} → AreParsed es ts [] → (t : FileParts) → Contains ts t → (e : List ℕ × List ℕ) ×
-    (Contains es e × IsParsed e.0 e.1 (source_of t))
-some_parsed none t has = absurd (nothing_in t has)
-some_parsed (tree {e = e} {es = es} {t = u} {ts = ts} is rest) t has = elim (first_or_later u ts t has) [
-  | inl same ↦ (e, (first_in e es, subst (λ (x : FileParts). IsParsed e.0 e.1 (source_of x)) same is))
-  | inr later ↦ let r = some_parsed rest t later in (r.0, (later_in e es r.0 r.1.0, r.1.1))
-]
-
 pub record IsFileIn (w : Workspace) (p : List ℕ) (f : SourceFile) : Type 0 where
   pub text : List ℕ
   pub of_package : Contains (package_files w p) (f.path, text)
@@ -97,7 +90,7 @@ file_in : (w : Workspace) (p : List ℕ) (ts : List FileParts) → AreParsed (pa
     IsFileIn w p f
 file_in w p ts parsed f has =
     let t = mapped_from source_of ts f has in
-    let r = some_parsed parsed t.0 t.1 in
+    let r = text_of parsed t.0 t.1 in
     let here : IsParsed r.0.0 r.0.1 f = subst (IsParsed r.0.0 r.0.1) t.2 r.1.1 in
     record {
       text = r.0.1;

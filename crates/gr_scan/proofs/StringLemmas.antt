@@ -6,7 +6,7 @@ use borrow.Author.Tests.{eqb-true}
 use Rattle.std.specs.Prelude.{nat_le, slice_index}
 use Rattle.std.specs.List.{list_all, concat}
 use Rattle.std.specs.Char.{is_digit}
-use Rattle.std.proofs.lemmas.Bool.{and_parts, or_cases, or_left, false≢true}
+use Rattle.std.proofs.lemmas.Bool.{and_from, and_parts, or_cases, or_left, false≢true}
 use Rattle.std.proofs.lemmas.Bool.Decides.{nat_tests}
 use Rattle.std.proofs.lemmas.List.{take_at, append_cancel_left, drop_more, drop_all}
 use Rattle.gr_scan.specs.Integers.{number_in}
@@ -14,9 +14,6 @@ use Rattle.gr_scan.specs.Strings.{are_digits, is_character, is_plain_escape, is_
 use Rattle.gr_scan.specs.Strings.{IsStringRun, IsString, IsBadString}
 use Rattle.gr_scan.specs.Lengths.{digits_at, octal_at, character_at, escape_len, part_len}
 use Rattle.gr_scan.proofs.IntegerLemmas.{by_test}
-
-both_true : (a b : Bool) → a ≡ true → b ≡ true → (a && b) ≡ true
-both_true a b h k = rw (h, k) refl
 
 -- one of five tests passes
 in_place : (a b c d e : Bool) → ((b ≡ true) ⊎ (c ≡ true)) ⊎ ((d ≡ true) ⊎ (e ≡ true)) → (a || (b || (c || (d || e)))) ≡ true
@@ -39,7 +36,7 @@ escape_is : (bs : List ℕ) → 0 < escape_len bs → is_escape (take (escape_le
 unfolding escape_len
 escape_is [] some = absurd (omega (arith, some))
 escape_is (b ∷ rest) some =
-    by_test (is_plain_escape b) (λ plain. rw plain (or_left _ _ (both_true (is_plain_escape b) true plain refl)))
+    by_test (is_plain_escape b) (λ plain. rw plain (or_left _ _ (and_from (is_plain_escape b) true plain refl)))
     (λ not_plain. by_test (octal_at (b ∷ rest)) (λ octal. rw (not_plain, octal) (escape_by b (take 2 rest) (inl (inl octal))))
     (λ not_octal. by_test (eqb b 120 && digits_at 2 16 rest) (λ hex. rw (not_plain, not_octal, hex) (escape_by b (take 2 rest) (inl (inr hex))))
     (λ not_hex. by_test (eqb b 117 && character_at 4 rest) (λ short. rw (not_plain, not_octal, not_hex, short) (escape_by b (take 4 rest) (inr (inl short))))

@@ -7,7 +7,7 @@ use Rattle.std.proofs.lemmas.Bool.{true≢false}
 use Rattle.std.proofs.lemmas.Option.{none-some, same_Some}
 use Rattle.gr_text.specs.Workspace.{Workspace}
 use Rattle.gr_tree.specs.SourceFile.{SourceFile, source_of, spelling_of}
-use Rattle.gr_tree.specs.Tree.{ReceiverTree, FuncTree, DeclTree, VarDecl, TypeDecl, FuncDecl}
+use Rattle.gr_tree.specs.Tree.{ReceiverTree, FuncTree, FuncDecl}
 use Rattle.gr_scope.specs.declared.model.Block.TheVariants.{File, Inner}
 use Rattle.gr_scope.specs.declared.model.Block.TheVariants.{Package as PackageBlock}
 use Rattle.gr_scope.specs.declared.model.Position.{Position}
@@ -25,6 +25,7 @@ use Rattle.gr_scope.specs.Table.{StandsAt}
 use Rattle.gr_scope.specs.WellFormed.{WellFormed}
 use Rattle.gr_imports.specs.Files.{ranked}
 use Rattle.gr_order.proofs.Ordered.{one_stands}
+use Rattle.gr_order.proofs.Elements.{all_right}
 use Rattle.gr_expr.specs.Types.{Signature, Meaning, Value, TypeName, Function, BuiltinName, Results, Broken}
 use Rattle.gr_expr.specs.Types.{Package as PackageName}
 use Rattle.gr_expr.specs.World.{Bound, Means}
@@ -36,7 +37,7 @@ use Rattle.gr_declared.specs.Written.{BindsToken, ImportsPath}
 use Rattle.gr_declared.proofs.Naming.{one_binding, one_import_path}
 use Rattle.gr_types.specs.Interfaces.{IsExport, IsExported}
 use Rattle.gr_meanings.specs.Worlds.{IsName, IsSelected, is_bound, is_unbound, by_scope, by_package}
-use Rattle.gr_meanings.proofs.DeclKinds.{Holds, holds_got}
+use Rattle.gr_meanings.proofs.DeclKinds.{Holds, holds_got, holds_flat, holds_ranked}
 use Rattle.gr_verdict.specs.FaultLists.{ListsFaults}
 use Rattle.gr_verdict.specs.Verdicts.{Verdicts, AreVerdicts, IsSeenAs, seen, unseen, IsPackageIn}
 use Rattle.gr_verdict.proofs.Closed.{to_package}
@@ -52,9 +53,10 @@ use Rattle.gr_bound.specs.Uses.{IsPackage}
 use Rattle.gr_known.specs.Open.{HasArity}
 use Rattle.gr_decided.proofs.Numbers.{IsTold, IsKept, universal, plain, laid}
 use Rattle.gr_all_bound.proofs.Fine.{seen_interface}
-use Rattle.gr_all_bound.proofs.Lists.{all_right, all_flat, holds_flat, holds_ranked}
+use Rattle.gr_all_bound.proofs.Lists.{all_flat}
 use Rattle.gr_all_bound.proofs.Scoped.{in_order}
 use Rattle.gr_all_bound.proofs.Types.{Stands, Kept, all_kept, none_by_scope}
+use Rattle.gr_all_bound.proofs.Whole.{function_in_decl}
 use Rattle.gr_worlds.proofs.Declared.{given, old_site, new_site, role_is, place_is, name_is, kept, may_within, file_of_told}
 use Rattle.gr_worlds.proofs.Worlds.{have_all_worlds}
 use Rattle.gr_settled.specs.Arities.{with_receiver, AreArities}
@@ -156,17 +158,6 @@ pub function_kept : (K : Site → Type 0) (s : Source) (tree : _) (k : ℕ) (f :
 unfolding file_sites decl_sites
 function_kept K s tree k f c h held =
     all_flat K (decl_sites s) tree.decls (FuncDecl k f c) (all_right K (flat_map (imports_sites s) tree.imports) (flat_map (decl_sites s) tree.decls) h.1) held
-
-abbrev IsFunctionDecl : FuncTree → DeclTree → Type 0
-IsFunctionDecl f d = (k : ℕ) × ((c : ℕ) × (d ≡ FuncDecl k f c))
-
-function_in_decl : (file : ℕ) (d : DeclTree) (f : PlacedFunction) → Holds (decl_functions file d) f → (file ≡ f.file) × IsFunctionDecl f.function d
-function_in_decl file (VarDecl k g c) f h = absurd h
-function_in_decl file (TypeDecl k g c) f h = absurd h
-function_in_decl file (FuncDecl k x c) f h = elim h [
-  | inl e ↦ (ap (λ (z : PlacedFunction). z.file) e, (k, (c, ap (λ (z : PlacedFunction). FuncDecl k z.function c) e)))
-  | inr z ↦ absurd z
-]
 
 -- where a function is declared
 pub record IsInFile (p : Package) (f : PlacedFunction) : Type 0 where

@@ -31,10 +31,11 @@ use Rattle.gr_verdict.proofs.Closed.{to_package}
 use Rattle.gr_verdict.proofs.OneList.{checked_package}
 use Rattle.gr_verdict.proofs.OnePackage.{one_sources, all_read}
 use Rattle.gr_object.specs.Lines.{FunctionName}
-use Rattle.gr_object.specs.Names.{positions_from, names_of_fields, body_positions, type_positions, field_positions, initializers_with}
+use Rattle.gr_object.specs.Names.{names_of_fields, body_positions, type_positions, field_positions, initializers_with}
 use Rattle.gr_object.specs.Names.{functions_behind, function_names, function_name, field_position}
 use Rattle.gr_object.specs.Source.{Source}
 use Rattle.gr_object.specs.Sources.{IsSourceOf}
+use Rattle.gr_object.proofs.NameParts.{positions_length}
 use Rattle.gr_balance.specs.Answered.{IsKnown, IsCalled, method_arity, MemberIsKnown}
 use Rattle.gr_balance.specs.Stack.{Arity}
 use Rattle.gr_bound.specs.Uses.{IsPackage}
@@ -46,10 +47,6 @@ use Rattle.gr_worlds.proofs.Worlds.{have_all_worlds}
 use Rattle.gr_settled.specs.Arities.{with_receiver, written_arity, AreArities}
 
 -- as many places as fields
-
-positions_long : (k : ℕ) (xs : List (Item ℕ)) → length (positions_from k xs) ≡ length xs
-positions_long k [] = refl
-positions_long k (x ∷ xs) = ap suc (positions_long (suc k) xs)
 
 names_long : (rank file : ℕ) (fs : List (Item FieldTree)) → length (names_of_fields fs) ≡
     length (flat_map (λ (i : Item FieldTree). map (λ (n : Item ℕ).
@@ -68,7 +65,7 @@ names_long rank file (i ∷ is) =
 
 body_long : (rank file : ℕ) (b : BodyTree) → length (body_positions b) ≡ length (body_fields rank file b)
 body_long rank file (Other t) = refl
-body_long rank file (Struct k o fs c) = positions_long 0 (names_of_fields fs) ∙ names_long rank file fs
+body_long rank file (Struct k o fs c) = positions_length 0 (names_of_fields fs) ∙ names_long rank file fs
 
 fields_long : (rank : ℕ) (ds : List PlacedType) → length (flat_map type_positions ds) ≡ length (fields_from rank ds)
 fields_long rank [] = refl

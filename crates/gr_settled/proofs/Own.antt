@@ -31,7 +31,7 @@ use Rattle.gr_meanings.proofs.OneMeaning.{one_name}
 use Rattle.gr_verdict.specs.Verdicts.{Verdicts, IsPackageIn}
 use Rattle.gr_verdict.proofs.OnePackage.{layout_formed, files_in_order}
 use Rattle.gr_object.specs.Slots.{slots_of}
-use Rattle.gr_asked.proofs.NamedMembers.{part_at}
+use Rattle.gr_order.proofs.OwnPaths.{part_at}
 use Rattle.gr_asked.proofs.OnePlace.{same_size, same_files}
 use Rattle.gr_decided.proofs.Files.{IsGlobal}
 use Rattle.gr_decided.proofs.Numbers.{OfKind, IsTold, IsKept, universal, plain, laid, kept_at}

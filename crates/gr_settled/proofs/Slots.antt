@@ -1,5 +1,5 @@
 -- What a function declares has one of its slots.
-use Rattle.std.proofs.Common.{ℕ, suc, ◌≡◌, inl, inr, ◌==◌, Bool, true, false, if◌then◌else◌, List, [], ◌∷◌, ◌++◌, Option, Some, None, ap, refl, sym}
+use Rattle.std.proofs.Common.{ℕ, suc, ◌≡◌, inl, inr, ◌==◌, true, false, if◌then◌else◌, List, [], ◌∷◌, ◌++◌, Option, Some, None, ap, refl, sym}
 use Rattle.std.proofs.Common.{◌∙◌, subst}
 use Rattle.std.specs.Prelude.{option_to_list}
 use Rattle.std.specs.List.{AllByRecursion, flat_map}
@@ -22,20 +22,17 @@ use Rattle.gr_imports.specs.Files.{group_items}
 use Rattle.gr_expr.specs.World.{World, Local}
 use Rattle.gr_stmt.specs.Sides.{named, ident_place, is_own, declares, defined_name}
 use Rattle.gr_order.proofs.Elements.{all_append}
-use Rattle.gr_meanings.proofs.DeclKinds.{Holds}
+use Rattle.gr_meanings.proofs.DeclKinds.{Holds, held_left, held_right}
 use Rattle.gr_object.specs.Numbering.{slot_from, slot_of}
 use Rattle.gr_object.specs.Slots.{receiver_places, parameter_places, local_places, simple_places, optional_places, init_places, header_places}
 use Rattle.gr_object.specs.Slots.{statement_places, block_places, statements_places, if_places, else_places, slots_of}
 use Rattle.gr_balance.specs.Answered.{IsKnown}
+use Rattle.gr_known.proofs.Slots.{some_slot}
 use Rattle.gr_all_bound.specs.Scopes.{may_be_local}
 use Rattle.gr_all_bound.proofs.Known.{local_may}
 use Rattle.gr_all_bound.proofs.Typed.{result_abroad, func_abroad}
 
 -- a place among those of a function has a slot
-some_slot : (b : Bool) (k : ℕ) (o : Option ℕ) → (b ≡ false → IsKnown o) → IsKnown (if b then Some k else o)
-some_slot true k o f = (k, refl)
-some_slot false k o f = f refl
-
 other_place : (n p : ℕ) (ps : List ℕ) → Holds (p ∷ ps) n → (p == n) ≡ false → Holds ps n
 other_place n p ps h e = elim h [ inl same ↦ absurd (true≢false (sym (eq-eqb p n same) ∙ e)) | inr more ↦ more ]
 
@@ -45,14 +42,6 @@ slot_known n k (p ∷ ps) h = some_slot (p == n) k (slot_from (suc k) ps n) (λ 
 
 pub has_slot : (n : ℕ) (ps : List ℕ) → Holds ps n → IsKnown (slot_of ps n)
 has_slot n ps h = slot_known n 0 ps h
-
-held_left : (n : ℕ) (ps qs : List ℕ) → Holds ps n → Holds (ps ++ qs) n
-held_left n [] qs h = absurd h
-held_left n (p ∷ ps) qs h = elim h [ inl e ↦ inl e | inr more ↦ inr (held_left n ps qs more) ]
-
-held_right : (n : ℕ) (ps qs : List ℕ) → Holds qs n → Holds (ps ++ qs) n
-held_right n [] qs h = h
-held_right n (p ∷ ps) qs h = inr (held_right n ps qs h)
 
 module _ (w : World) where
   -- a local that is bound to its own declaration is among the places
@@ -64,11 +53,11 @@ module _ (w : World) where
 
   all_left : (ps qs : List ℕ) (xs : List Site) → All ps xs → All (ps ++ qs) xs
   all_left ps qs [] h = tt
-  all_left ps qs (x ∷ xs) h = ((λ may e. held_left x.place.index ps qs (h.0 may e)), all_left ps qs xs h.1)
+  all_left ps qs (x ∷ xs) h = ((λ may e. held_left ps qs x.place.index (h.0 may e)), all_left ps qs xs h.1)
 
   all_right : (ps qs : List ℕ) (xs : List Site) → All qs xs → All (ps ++ qs) xs
   all_right ps qs [] h = tt
-  all_right ps qs (x ∷ xs) h = ((λ may e. held_right x.place.index ps qs (h.0 may e)), all_right ps qs xs h.1)
+  all_right ps qs (x ∷ xs) h = ((λ may e. held_right ps qs x.place.index (h.0 may e)), all_right ps qs xs h.1)
 
   join : (ps qs : List ℕ) (xs ys : List Site) → All ps xs → All qs ys → All (ps ++ qs) (xs ++ ys)
   join ps qs xs ys h k = all_append (Slotted (ps ++ qs)) xs ys (all_left ps qs xs h) (all_right ps qs ys k)

@@ -14,7 +14,7 @@ pub file_in_folder : (w : Workspace) (known : Verdicts) (p : Package) → IsPack
     folder f.path ≡ p.path
 file_in_folder w known p is rank f at = checked.file_in_folder w known p.path p is.is_checked rank f at
 
-some_file : (o : Option SourceFile) (token : ℕ) (path : List ℕ) (offset : ℕ) → NameBegins o token path offset →
+pub some_file : (o : Option SourceFile) (token : ℕ) (path : List ℕ) (offset : ℕ) → NameBegins o token path offset →
     (f : SourceFile) × ((o ≡ Some f) × (f.path ≡ path))
 some_file None token path offset h = absurd h
 some_file (Some f) token path offset h = (f, (refl, h.1))

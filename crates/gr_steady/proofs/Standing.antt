@@ -160,7 +160,7 @@ module _ (w : Workspace) (known : Verdicts) (right : AreVerdicts w known) (p : P
 
 -- and it stands there in both workspaces
 
-token_file : (o : Option SourceFile) (token : ℕ) (place : Place) → TokenBegins o token place → (f : SourceFile) × ((o ≡ Some f) × (f.path ≡ place.path))
+pub token_file : (o : Option SourceFile) (token : ℕ) (place : Place) → TokenBegins o token place → (f : SourceFile) × ((o ≡ Some f) × (f.path ≡ place.path))
 token_file None token place h = absurd h
 token_file (Some f) token place h = (f, (refl, h.0))
 

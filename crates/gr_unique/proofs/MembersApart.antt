@@ -4,18 +4,18 @@ use Rattle.std.specs.Prelude.{Some, slice_get}
 use Rattle.std.specs.List.{flat_map, enumerate_from}
 use Rattle.gr_tree.specs.declared.syntax.Kind.TheVariants as kind
 use Rattle.gr_tree.specs.Flatten.{sign, sign_if, tokens_if, all_tokens, item_tokens, list_tokens, group_tokens, name_tokens, type_tokens, field_tokens}
-use Rattle.gr_tree.specs.Flatten.{body_tokens, type_spec_tokens, receiver_tokens, param_tokens, result_tokens, block_tokens, func_tokens, imports_tokens}
-use Rattle.gr_tree.specs.Flatten.{decl_tokens, flatten}
+use Rattle.gr_tree.specs.Flatten.{body_tokens, type_spec_tokens, receiver_tokens, param_tokens, result_tokens, block_tokens, func_tokens}
+use Rattle.gr_tree.specs.Flatten.{decl_tokens}
 use Rattle.gr_tree.specs.SourceFile.{SourceFile}
 use Rattle.gr_tree.specs.Tree.{Item, Group, single, several, TypeTree, FieldTree, BodyTree, Other, Struct, TypeSpecTree, DeclTree, VarDecl, TypeDecl}
-use Rattle.gr_tree.specs.Tree.{FuncDecl, FileTree}
-use Rattle.gr_scope.specs.Trees.{AreRising}
-use Rattle.gr_scope.proofs.Rising.{Rises, rises_le, rises_split, rises_of}
+use Rattle.gr_tree.specs.Tree.{FuncDecl}
+use Rattle.gr_scope.proofs.Rising.{Rises, rises_le, rises_split}
 use Rattle.gr_imports.specs.Files.{group_items}
 use Rattle.gr_declared.specs.Definitions.{PlacedField, body_fields, fields_from}
 use Rattle.gr_declared.specs.Package.{PlacedType, PlacedFunction, placed_type, decl_types, decl_functions, types_in, functions_in, declared_types}
 use Rattle.gr_declared.specs.Package.{declared_functions, function_place}
 use Rattle.gr_meanings.specs.Uniqueness.{AreInOrder}
+use Rattle.gr_meanings.proofs.DeclKinds.{decls_rise}
 use Rattle.gr_bound.specs.Binding.{field_place}
 use Rattle.gr_unique.proofs.Apart.{Disjoint, disjoint_none, disjoint_append, disjoint_got, Apart, apart_append, one_rank, RiseIn, rise_down, rise_up}
 use Rattle.gr_unique.proofs.Apart.{rise_append, rise_lies, lies_before, lies_behind, rise_apart, FromFile, rise_in_file, file_before, file_behind}
@@ -188,13 +188,6 @@ decls_disjoint definition file (d ∷ ds) a b r =
 
 -- of all files of a package
 
-tree_rises : (tree : FileTree) → AreRising 0 (flatten tree) → (a : ℕ) × ((b : ℕ) × Rises a (all_tokens decl_tokens tree.decls) b)
-unfolding flatten
-tree_rises tree h =
-    let r = rises_of 0 (flatten tree) h in
-    let s = rises_split (suc tree.semicolon) (all_tokens imports_tokens tree.imports) (all_tokens decl_tokens tree.decls) r.0 r.1.1.1.1 in
-    (s.0, (r.0, s.1.1))
-
 abbrev fields_in : (definition rank : ℕ) → List SourceFile → List PlacedField
 fields_in definition rank files = fields_from definition (flat_map types_in (enumerate_from rank files))
 
@@ -205,7 +198,7 @@ fields_apart : (definition rank : ℕ) (files : List SourceFile) → AreInOrder 
     Apart field_place (fields_in definition rank files) × FromFile field_place rank (fields_in definition rank files)
 fields_apart definition rank [] h = (tt, tt)
 fields_apart definition rank (s ∷ files) h =
-    let t = tree_rises s.tree (h zero s refl) in
+    let t = decls_rise s.tree (h zero s refl) in
     let types = flat_map (decl_types rank) s.tree.decls in
     let j = fields_split definition types (flat_map types_in (enumerate_from (rank + 1) files)) in
     let own = fields_from definition types in
@@ -223,7 +216,7 @@ functions_apart : (rank : ℕ) (files : List SourceFile) → AreInOrder files �
     Apart function_place (functions_from rank files) × FromFile function_place rank (functions_from rank files)
 functions_apart rank [] h = (tt, tt)
 functions_apart rank (s ∷ files) h =
-    let t = tree_rises s.tree (h zero s refl) in
+    let t = decls_rise s.tree (h zero s refl) in
     let own = flat_map (decl_functions rank) s.tree.decls in
     let more = functions_from (rank + 1) files in
     let r = decls_functions_rise rank s.tree.decls t.0 t.1.0 t.1.1 in
@@ -238,7 +231,7 @@ files_disjoint : (definition rank : ℕ) (files : List SourceFile) → AreInOrde
     Disjoint field_place function_place (fields_in definition rank files) (functions_from rank files)
 files_disjoint definition rank [] h = tt
 files_disjoint definition rank (s ∷ files) h =
-    let t = tree_rises s.tree (h zero s refl) in
+    let t = decls_rise s.tree (h zero s refl) in
     let types = flat_map (decl_types rank) s.tree.decls in
     let j = fields_split definition types (flat_map types_in (enumerate_from (rank + 1) files)) in
     let fs = fields_from definition types in

@@ -17,7 +17,7 @@ use Rattle.gr_order.specs.Roles.{IsOfKind, IsToldByTokens}
 use Rattle.gr_order.specs.Tokens.{identifiers_among}
 use Rattle.gr_order.proofs.HeldBytes.{source_file_at}
 use Rattle.gr_order.proofs.Lexical.{never_bound}
-use Rattle.gr_order.proofs.OwnPaths.{package_sources}
+use Rattle.gr_order.proofs.OwnPaths.{package_sources, part_at}
 use Rattle.gr_order.proofs.Places.{Marks, marked, one_has_place, named_has_one}
 use Rattle.gr_order.proofs.Roles.{named_role_told}
 use Rattle.gr_expr.specs.Types.{Package as PackageName}
@@ -35,7 +35,6 @@ use Rattle.gr_bound.specs.declared.declaration.Declaration.{Declaration}
 use Rattle.gr_bound.specs.Binding.{BindsByPackage, BindsByMember, IsBehindPackage, NamesPackage}
 use Rattle.gr_bound.specs.Identifiers.{Stands}
 use Rattle.gr_bound.proofs.Excluding.{exported_as}
-use Rattle.gr_asked.proofs.NamedMembers.{part_at}
 use Rattle.gr_asked.proofs.OnePlace.{names_of, laid_of, same_layout, same_size, same_files}
 use Rattle.gr_unique.proofs.Headers.{name_before_dot}
 

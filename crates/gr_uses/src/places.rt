@@ -1,4 +1,4 @@
-//! A list of places, which contracts see as a list.
+//! A list of places, of which contracts speak as of a list, without the memory that holds it.
 ghost use Rattle.std.specs.Prelude.{◌≡◌};
 
 use gr_text::Place;

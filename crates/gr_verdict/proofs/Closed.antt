@@ -4,14 +4,10 @@ use Rattle.std.specs.Prelude.{Contains}
 use Rattle.gr_text.specs.Workspace.{Workspace}
 use Rattle.gr_text.specs.Packages.{package_paths}
 use Rattle.gr_graph.specs.Packages.{PackageImports, IsInClosure, itself, through}
-use Rattle.gr_graph.proofs.Asked.{has_file}
+pub use Rattle.gr_graph.proofs.Asked.{is_package as from_package}
 use Rattle.gr_verdict.specs.Verdicts.{BuildsOn}
 
 -- both ends are packages
-
-pub from_package : (w : Workspace) (p q : List ℕ) → IsInClosure w p q → Contains (package_paths w) p
-from_package w p q (itself has) = has
-from_package w p q (through imports rest) = has_file w p imports.entry imports.of_package
 
 pub to_package : (w : Workspace) (p q : List ℕ) → IsInClosure w p q → Contains (package_paths w) q
 to_package w p q (itself has) = has

@@ -66,7 +66,7 @@ one_kind j k e = sym (named_kind j) ∙ ap kind_named e ∙ named_kind k
 
 -- the parts of a comparison
 
-both_equal : (a b : Ordering) → ordering_then a b ≡ Equal → (a ≡ Equal) × (b ≡ Equal)
+pub both_equal : (a b : Ordering) → ordering_then a b ≡ Equal → (a ≡ Equal) × (b ≡ Equal)
 both_equal Less b e = absurd (true≢false (ap is_lt e))
 both_equal Equal b e = (refl, e)
 both_equal Greater b e = absurd (true≢false (ap is_gt e))

@@ -43,7 +43,7 @@ closed_there w x p same q closed =
     let file = package_file w q (to_package w p q closed) in
     (carried w x p same q file.0 closed file.1).0
 
-files_there : (w x : Workspace) (p : List ℕ) → HasSameClosure w x p → (q : List ℕ) → IsInClosure w p q → package_files w q ≡ package_files x q
+pub files_there : (w x : Workspace) (p : List ℕ) → HasSameClosure w x p → (q : List ℕ) → IsInClosure w p q → package_files w q ≡ package_files x q
 files_there w x p same q closed =
     one_sorted entry_total (package_files w q) (package_files x q) (files_sorted w q) (files_sorted x q)
     (λ e has. (carried w x p same q e closed has).1)

@@ -5,7 +5,8 @@ use Rattle.std.specs.Prelude.{Contains}
 use Rattle.std.specs.Global.{Vec}
 use Rattle.std.proofs.lemmas.Bool.{true≢false, cases_lt, eqb-true, eqb-false}
 use Rattle.std.proofs.lemmas.List.{take_more, nil_from_length}
-use Rattle.std.proofs.lemmas.List.Elements.{Contains-append_left, Contains-push, Contains-push_cases}
+use Rattle.std.proofs.lemmas.List.Elements.{Contains-append_left, Contains-push}
+pub use Rattle.gr_graph.proofs.Collected.{more_cases as taken_or_next}
 pub use Rattle.gr_graph.proofs.SortedLists.{first_in, later_in, first_or_later, one_sorted}
 use Rattle.gr_declared.proofs.ByteKeys.{cases_bytes}
 
@@ -26,9 +27,6 @@ pub not_empty_by : {X : Type 0} (xs : List X) (x : X) → Contains xs x → xs �
 not_empty_by xs x h e = nothing_in x (subst (λ l. Contains l x) e h)
 
 -- a list one item further
-
-pub taken_or_next : {X : Type 0} (xs : List X) (k : ℕ) (d x : X) → k < length xs → Contains (take (k + 1) xs) x → Contains (take k xs) x ⊎ (get_or xs k d ≡ x)
-taken_or_next xs k d x lt h = Contains-push_cases (take k xs) (get_or xs k d) x (subst (λ l. Contains l x) (take_more xs k d lt) h)
 
 pub still_taken : {X : Type 0} (xs : List X) (k : ℕ) (d x : X) → k < length xs → Contains (take k xs) x → Contains (take (k + 1) xs) x
 still_taken xs k d x lt h = subst (λ l. Contains l x) (sym (take_more xs k d lt)) (Contains-append_left (take k xs) (get_or xs k d ∷ []) x h)

@@ -70,7 +70,7 @@ some_tree (tree is rest) e h = omega arith
 
 -- the text of a parsed file
 
-text_of : {es : List (List ℕ × List ℕ)} {ts : List FileParts} → AreParsed es ts [] → (t : FileParts) → Contains ts t →
+pub text_of : {es : List (List ℕ × List ℕ)} {ts : List FileParts} → AreParsed es ts [] → (t : FileParts) → Contains ts t →
     (e : List ℕ × List ℕ) × (Contains es e × IsParsed e.0 e.1 (source_of t))
 text_of none t h = absurd (nothing_in t h)
 text_of (tree {e = e} {es = es} {t = first} {ts = ts} is rest) t h = elim (first_or_later first ts t h) [
@@ -85,7 +85,7 @@ file_among {ts = ts} parsed s h =
     let r = text_of parsed t.0 t.1.0 in
     (r.0, (r.1.0, subst (IsParsed r.0.0 r.0.1) t.1.1 r.1.1))
 
-at_rank : {X : Type 0} (xs : List X) (i : ℕ) (x : X) → slice_get xs i ≡ Some x → Contains xs x
+pub at_rank : {X : Type 0} (xs : List X) (i : ℕ) (x : X) → slice_get xs i ≡ Some x → Contains xs x
 at_rank xs i x at = (i, slice_get_within xs i x at, get_or_from_slice_get xs i x x at)
 
 pub entry_at : {es : List (List ℕ × List ℕ)} {ts : List FileParts} → AreParsed es ts [] → (i : ℕ) (t : FileParts) → slice_get ts i ≡ Some t →

@@ -13,9 +13,15 @@ use Rattle.gr_declared.specs.declared.interfaces.Interfaces.{Interfaces}
 use Rattle.gr_declared.proofs.ByteKeys.{cases_bytes}
 use Rattle.gr_verdict.specs.Verdicts.{BuildsOn, IsSeenAs, seen, unseen, AreSeen}
 use Rattle.gr_verdict.specs.Told.{is_unknown, known_by, AreWhole}
-use Rattle.gr_verdict.specs.Steps.{IsSharedOf}
 use Rattle.gr_verdict.proofs.Closed.{to_package}
 use Rattle.gr_verdict.proofs.Members.{nothing_in}
+
+-- one of some packages, by their numbers, on which p builds
+pub record IsSharedOf (w : Workspace) (p : List ℕ) (numbers : List ℕ) (q : List ℕ) : Type 0 where
+  pub number : ℕ
+  pub among : Contains numbers number
+  pub has_path : slice_get (package_paths w) number ≡ Some q
+  pub builds_on : BuildsOn w p q
 
 -- of a path what all know, or nothing
 pub record IsKnownAs (all i : Interfaces) (r : List ℕ) : Type 0 where

@@ -7,6 +7,7 @@ use Rattle.gr_fault.specs.declared.fault.Fault.{Fault}
 use Rattle.gr_tree.specs.SourceFile.{source_of}
 use Rattle.gr_graph.specs.Packages.{PackageImports, IsInClosure}
 use Rattle.gr_graph.specs.Parsed.{AreParsed}
+use Rattle.gr_graph.proofs.ChangedPackages.{moved as imports_by}
 use Rattle.gr_imports.specs.declared.states.ImportState.{ImportState}
 use Rattle.gr_stages.specs.Stages.{IsOuterFault}
 use Rattle.gr_declared.specs.Package.{Package, Interface}
@@ -25,15 +26,6 @@ pub record StandsAlike (w x : Workspace) (p : List ℕ) : Type 0 where
   pub round : (q : List ℕ) → PackageImports w p q → IsInClosure w q p → IsInClosure x q p
   pub builds : (q : List ℕ) → BuildsOn w p q → BuildsOn x p q
   pub back : (q : List ℕ) → BuildsOn x p q → BuildsOn w p q
-
-imports_by : (w x : Workspace) (p q : List ℕ) → package_files w p ≡ package_files x p → PackageImports w p q → PackageImports x p q
-imports_by w x p q files i = record {
-  entry = i.entry;
-  of_package = subst (λ es. Contains es i.entry) files i.of_package;
-  file = i.file;
-  parsed = i.parsed;
-  imports = i.imports;
-}
 
 module _ (w x : Workspace) (p : List ℕ) (stands : StandsAlike w x p) (known : Verdicts) where
   state_there : (q : List ℕ) (s : ImportState) → PackageImports w p q → IsStateOf w known p q s → IsStateOf x known p q s

@@ -7,7 +7,7 @@ use Rattle.gr_text.specs.Packages.{package_files}
 use Rattle.gr_scan.specs.declared.refusal.TextFault.{TextFault as TextFault}
 use Rattle.gr_scan.specs.Cuts.{IsCut}
 use Rattle.gr_scan.specs.CutText.{CutText}
-use Rattle.gr_scan.proofs.OneCutLemmas.{one_cut, cut_or_fault}
+use Rattle.gr_scan.proofs.OneCutLemmas.{cut_or_fault}
 use Rattle.gr_scan.proofs.OneFaultLemmas.{one_fault}
 use Rattle.gr_tree.specs.Faults.{IsFaultOf, IsFaultOfTokens, IsParseFault, kind_for}
 use Rattle.gr_tree.specs.Kinds.{kinds_of, place_of}
@@ -17,7 +17,7 @@ use Rattle.gr_tree.specs.declared.syntax.TokenFaultKind.{TokenFaultKind as Token
 use Rattle.gr_tree.proofs.OneVerdict.{one_verdict}
 use Rattle.gr_graph.specs.FaultyFiles.{FaultyParts}
 use Rattle.gr_graph.specs.Parsed.{AreParsed, none, tree, fault}
-use Rattle.gr_graph.proofs.OneFile.{file_or_fault}
+use Rattle.gr_graph.proofs.OneFile.{same_cut, file_or_fault}
 use Rattle.gr_verdict.specs.declared.fault.FileFault.{FileFault}
 use Rattle.gr_verdict.specs.declared.judging.Judged.{Judged}
 use Rattle.gr_verdict.specs.Faults.{placed, fault_cmp}
@@ -30,11 +30,6 @@ use Rattle.gr_verdict.proofs.Members.{nothing_in, first_in, later_in, first_or_l
 
 same_fault : (f g : TextFault) → f.offset ≡ g.offset → f.kind ≡ g.kind → f ≡ g
 same_fault f g offsets kinds i = record { offset = offsets i; kind = kinds i }
-
-same_cut : (c d : CutText) → c.text ≡ d.text → IsCut c.text c.pieces → IsCut d.text d.pieces → c ≡ d
-same_cut c d texts a b =
-    let pieces = one_cut d.text c.pieces d.pieces (subst (λ (t : List ℕ). IsCut t c.pieces) texts a) b in
-    λ i. record { text = texts i; pieces = pieces i }
 
 kind_in : (j k : TokenFault) (m n : ℕ) → Faulty j m ≡ Faulty k n → j ≡ k
 kind_in j k m n e = cc

@@ -16,7 +16,7 @@ abbrev pub KnowsVerdicts : Workspace → Known → Type 0
 KnowsVerdicts w known = (n : ℕ) (p : List ℕ) (one : KnownVerdict) → slice_get (package_paths w) n ≡ Some p →
     slice_get known.verdicts.items n ≡ Some (Some one) → TellsVerdict w p one
 
--- and it is of the first packages, as many as are told
+-- and it is of the first packages, as many as are told: no contract names it, loops here and in gr_keep keep it
 pub record AreKnownNext (w : Workspace) (count : ℕ) (known : Known) : Type 0 where
   pub size : length known.verdicts.items ≡ count
   pub verdicts : KnowsVerdicts w known
@@ -29,7 +29,8 @@ pub record AreFindings (w : Workspace) (found : Findings) : Type 0 where
       IsFinding w (known_by found.interfaces) p f
   pub whole : AreWhole found.interfaces
 
--- what is found in p, by the verdicts on the packages that it builds on; they and that on p are known where these interfaces are
+-- what is found in p, by the verdicts on the packages that it builds on; they and that on p are known where these interfaces are.
+-- No contract names it: gr_compile is given it of the package that it builds.
 pub record IsFoundBy (w : Workspace) (p : List ℕ) (all : Interfaces) (f : Finding) : Type 0 where
   pub below : AreVerdictsBelow w p (known_by all)
   pub own : IsVerdict w p (known_by all p)

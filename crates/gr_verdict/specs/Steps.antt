@@ -52,13 +52,6 @@ pub record IsBuildOrder (w : Workspace) (order : List ℕ) : Type 0 where
 
 -- What a package sees
 
--- one of some packages, by their numbers, on which p builds
-pub record IsSharedOf (w : Workspace) (p : List ℕ) (numbers : List ℕ) (q : List ℕ) : Type 0 where
-  pub number : ℕ
-  pub among : Contains numbers number
-  pub has_path : slice_get (package_paths w) number ≡ Some q
-  pub builds_on : BuildsOn w p q
-
 -- the names and the interfaces stay
 pub record KnowsSameOfOthers (old new : Interfaces) : Type 0 where
   pub names : (q : List ℕ) → name_in new q ≡ name_in old q

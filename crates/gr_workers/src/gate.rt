@@ -1,4 +1,4 @@
-//! Where a worker may be held.
+//! Where a worker may be held: a test has two meet there, and a server holds none.
 
 /// Is told of a worker's progress, while it holds no lock.
 pub trait Gate {

@@ -10,7 +10,7 @@ use Rattle.gr_imports.specs.Files.{Ranked, ranked, group_items}
 use Rattle.gr_declared.specs.Definitions.{PlacedField, body_fields, fields_from, package_fields}
 use Rattle.gr_declared.specs.Package.{Package, PlacedType, PlacedFunction, placed_type, decl_types, decl_functions, types_in, functions_in, package_types}
 use Rattle.gr_declared.specs.Package.{package_functions, spelled}
-use Rattle.gr_meanings.proofs.DeclKinds.{Holds}
+use Rattle.gr_meanings.proofs.DeclKinds.{Holds, held_left, held_right, held_flat, held_map}
 use Rattle.gr_verdict.specs.FaultLists.{ListsFaults}
 use Rattle.gr_verdict.specs.Verdicts.{Verdicts, AreVerdicts}
 use Rattle.gr_bound.specs.declared.declaration.Declaration.{Declaration}
@@ -19,7 +19,6 @@ use Rattle.gr_bound.specs.Uses.{IsPackage, IsBoundTo}
 use Rattle.gr_unique.proofs.DeclaredMembers.{field_bound, method_bound}
 use Rattle.gr_decided.proofs.Globals.{held_ranked, held_number}
 use Rattle.gr_all_bound.proofs.Links.{at_number}
-use Rattle.gr_all_bound.proofs.Lists.{held_left, held_right, held_flat, held_map}
 use Rattle.gr_all_bound.proofs.Whole.{method_of}
 use Rattle.gr_worlds.proofs.Bound.{source_at}
 use Rattle.gr_worlds.proofs.Members.{IsFieldIn, IsMemberIn, members_in}

@@ -4,11 +4,11 @@ use Rattle.std.proofs.Math.ListN.{length-map}
 use Rattle.gr_declared.specs.Package.{spelled}
 use Rattle.gr_declared.specs.Definitions.{package_fields}
 use Rattle.gr_members.specs.FieldsView.{field_of, IsFieldNamed}
-use Rattle.gr_members.specs.MemberNames.{is_noted, IsFirstNamed}
+use Rattle.gr_members.specs.MemberNames.{is_noted}
 use Rattle.gr_declared.specs.PackageView.{package_of}
 use Rattle.gr_declared.proofs.Items.{item_at}
 use Rattle.gr_cycles.proofs.Marking.{marks_none, marks_next}
-use Rattle.gr_members.proofs.Noting.{names_none, names_next, first_if_new}
+use Rattle.gr_members.proofs.Noting.{IsFirstNamed, names_none, names_next, first_if_new}
 use Rattle.gr_members.proofs.FieldNames.{field_named, one_name, are_counting}
 use Rattle.gr_members.proofs.field_marks.counting_fields.Goals as goal
 

@@ -1,6 +1,7 @@
 -- The invariants of the loops of `field_marks::counting_fields`.
 use Rattle.gr_members.specs.FieldsView.{IsFieldNamed}
-use Rattle.gr_members.specs.MemberNames.{is_noted, AreNamesBelow, IsFirstNamed}
+use Rattle.gr_members.specs.MemberNames.{is_noted, AreNamesBelow}
+use Rattle.gr_members.proofs.Noting.{IsFirstNamed}
 use Rattle.gr_declared.specs.PackageView.{package_of}
 use Rattle.gr_cycles.proofs.Marking.{MarksBelow}
 use Rattle.gr_members.proofs.field_marks.counting_fields.Given as goal

@@ -6,12 +6,11 @@ use Rattle.gr_declared.specs.Package.{package_functions}
 use Rattle.gr_declared.specs.DeclaredView.{function_of}
 use Rattle.gr_members.specs.MemberNames.{is_noted}
 use Rattle.gr_members.specs.MembersView.{CountsAsMethod}
-use Rattle.gr_members.specs.MethodsView.{IsMethodNamed}
 use Rattle.gr_declared.specs.PackageView.{package_of}
 use Rattle.gr_declared.proofs.Items.{item_at}
 use Rattle.gr_cycles.proofs.Marking.{marks_none, marks_next}
 use Rattle.gr_members.proofs.Noting.{names_none}
-use Rattle.gr_members.proofs.MethodNames.{owner_in_range, names_after, counts_here, are_counting_methods}
+use Rattle.gr_members.proofs.MethodNames.{IsMethodNamed, owner_in_range, names_after, counts_here, are_counting_methods}
 use Rattle.gr_members.proofs.method_marks.method_marks.Goals as goal
 
 pub note_function-requires-clause-owner : goal.note_function-requires-clause-owner

@@ -1,9 +1,9 @@
 -- The invariants of the loops of `method_marks::method_marks`.
 use Rattle.gr_members.specs.MemberNames.{is_noted, AreNamesBelow}
 use Rattle.gr_members.specs.MembersView.{CountsAsMethod}
-use Rattle.gr_members.specs.MethodsView.{IsMethodNamed}
 use Rattle.gr_declared.specs.PackageView.{package_of}
 use Rattle.gr_cycles.proofs.Marking.{MarksBelow}
+use Rattle.gr_members.proofs.MethodNames.{IsMethodNamed}
 use Rattle.gr_members.proofs.method_marks.method_marks.Given as goal
 
 abbrev pub invariant-loop-rank : goal.invariant-loop-rank

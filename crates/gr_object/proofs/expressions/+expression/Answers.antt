@@ -1,5 +1,5 @@
 -- The answers to the goals of `expressions::expression`.
-use Rattle.std.proofs.Common.{◌+◌, ◌∷◌, ◌++◌, [], ◌-◌, ap, sym, ◌∙◌, length, get_or, option_map, arith, append_assoc}
+use Rattle.std.proofs.Common.{◌+◌, ◌∷◌, ◌++◌, [], ◌-◌, ap, sym, ◌∙◌, length, get_or, take_all, option_map, arith, append_assoc}
 use Rattle.std.proofs.lemmas.Result.{on_ok_weaker}
 use Rattle.gr_tree.specs.View.{expr_view, key_view}
 use Rattle.gr_tree.specs.declared.tree.CompositeLit.{out-CompositeLit}
@@ -14,8 +14,7 @@ use Rattle.gr_object.specs.Operands.{calling}
 use Rattle.gr_object.proofs.Putting.{puts_none, puts_as, puts_then, puts_more}
 use Rattle.gr_expr.proofs.Equations.{ok_map}
 use Rattle.gr_object.proofs.Loops.{back_turn, back_end, back_start}
-use Rattle.gr_object.proofs.Links.{take_all, same_item, operations_turn, literal_broken, literal_keyed, literal_bare, goes_nowhere, goes_rule}
-use Rattle.gr_object.proofs.Links.{goes_operate}
+use Rattle.gr_object.proofs.Links.{same_item, operations_turn, literal_broken, literal_keyed, literal_bare, goes_nowhere, goes_rule, goes_operate}
 use Rattle.gr_object.proofs.Going.{puts_on, puts_from, plain_lines, grouped_lines, settled_lines, no_lines, goes_as, goes_behind_as, goes_selector}
 use Rattle.gr_object.proofs.Going.{goes_index, goes_call, over_none, over_turn, over_end}
 use Rattle.gr_object.proofs.Trees.{number_here, text_here, name_here, blank_here, composite_here, paren_here, prefix_here, address_here, chain_here}
@@ -100,7 +99,7 @@ link-returns-in_ok-arguments-in-Call t c = goes_as
 
 pub chain-loop-i-init : goal.chain-loop-i-init
 chain-loop-i-init t c = over_none (source_of c.args.scope.source.now) c.args.scope.slots.now.places.items c.args.links.now _ c.args.head c.args.want
-    c.args.code.now (take_all c.args.links.now _ (omega arith))
+    c.args.code.now (take_all _ c.args.links.now (omega arith))
 
 pub chain-loop-i-preserved : goal.chain-loop-i-preserved
 chain-loop-i-preserved t c = over_turn (source_of c.args.scope.source.now) c.args.scope.slots.now.places.items c.args.links.now c.loop-i.i _ c.args.head

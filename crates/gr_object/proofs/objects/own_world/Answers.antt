@@ -1,4 +1,5 @@
--- The answers to the goals of `objects::own_world`.
+-- The answers to the goals of `objects::own_world`. They begin as those of gr_types' `worlds::file_world`: an answer speaks of the values of
+-- its own function, so none can serve both.
 use Rattle.std.proofs.Common.{ap, refl}
 use Rattle.gr_expr.specs.declared.world.World.{World}
 use Rattle.gr_expr.specs.WorldView.{definition_or_none, imported_at}

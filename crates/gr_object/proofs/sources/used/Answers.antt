@@ -1,8 +1,7 @@
 -- The answers to the goals of `sources::used`.
-use Rattle.std.proofs.Common.{◌∷◌, ◌++◌, [], ap, sym, ◌∙◌, map}
+use Rattle.std.proofs.Common.{◌∷◌, ◌++◌, [], ap, sym, ◌∙◌, map, take_all}
 use Rattle.gr_expr.specs.declared.found.MemberUse.{MemberUse}
 use Rattle.gr_expr.proofs.Equations.{ok_map}
-use Rattle.gr_object.proofs.Links.{take_all}
 use Rattle.gr_object.proofs.Tables.{map_next}
 use Rattle.gr_object.proofs.sources.used.Goals as goal
 
@@ -12,4 +11,4 @@ loop-next-preserved c = c.in_ok-push.ensures.items ∙ (ap (λ z. z ++ (c.next-i
 
 pub returns : goal.returns
 returns c = ok_map c.of.result (λ n e. e ∙ (c.loop-next.invariant ∙
-    ap (map (λ (u : MemberUse). u.place)) (take_all c.args.uses.now c.loop-next.next-index c.loop-next-test.false))) c.of.ensures
+    ap (map (λ (u : MemberUse). u.place)) (take_all c.loop-next.next-index c.args.uses.now c.loop-next-test.false))) c.of.ensures

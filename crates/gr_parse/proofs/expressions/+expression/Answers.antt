@@ -9,12 +9,12 @@ use Rattle.gr_parse.specs.Parsing.{list_rest}
 use Rattle.gr_tree.specs.Flatten.{sign, prefix_kind, all_tokens, expr_tokens, type_tokens}
 use Rattle.gr_tree.specs.View.{expr_view}
 use Rattle.gr_tree.specs.WellFormed.{IsExpr, IsExprIn, strength_of}
-use Rattle.gr_parse.specs.Grouping.{Each, IsLink, IsSeparatedSoFar, IsUnary, IsOperand, is_slice, is_literal_type}
+use Rattle.gr_parse.specs.Grouping.{Each, IsLink, IsUnary, IsOperand, is_slice, is_literal_type}
 use Rattle.gr_tree.specs.declared.tree.Element.{Element}
 use Rattle.gr_tree.specs.declared.tree.ExprItem.{ExprItem}
 use Rattle.gr_parse.proofs.Grouping.{so_far_none, so_far_push, each_push, composite_grouped, name_grouped, prefix_grouped, address_grouped, paren_grouped}
 use Rattle.gr_parse.proofs.Grouping.{chain_grouped, binary_grouped, binary_strength, literal_wf, literal_typed, selector_wf, index_wf, call_wf, IsJoined}
-use Rattle.gr_parse.proofs.Grouping.{named_not_in_header, not_zero, operator_strength}
+use Rattle.gr_parse.proofs.Grouping.{IsSeparatedSoFar, named_not_in_header, not_zero, operator_strength}
 use Rattle.gr_parse.specs.Spelling.{expr_spelled, link_spelled, expr_item_spelled, element_spelled}
 use Rattle.gr_parse.proofs.MachineSteps.{exits, fails_first, fails_later, fails_rule, fails_leads, fails_more, fails_after, read_then, read_rule}
 use Rattle.gr_parse.proofs.MachineSteps.{read_to_close, read_as, read_on, read_led, read_through, leads_here, leads_then, leads_close, leads_rule, leads_on}

@@ -7,7 +7,8 @@ use Rattle.gr_tree.specs.Flatten.{all_tokens}
 use Rattle.gr_parse.specs.Spelling.{link_spelled, expr_item_spelled, element_spelled}
 use Rattle.gr_tree.specs.View.{type_view, expr_view}
 use Rattle.gr_tree.specs.WellFormed.{IsExpr}
-use Rattle.gr_parse.specs.Grouping.{Each, IsLink, IsSeparatedSoFar}
+use Rattle.gr_parse.specs.Grouping.{Each, IsLink}
+use Rattle.gr_parse.proofs.Grouping.{IsSeparatedSoFar}
 use Rattle.gr_tree.specs.declared.tree.Element.{Element}
 use Rattle.gr_tree.specs.declared.tree.ExprItem.{ExprItem}
 use Rattle.gr_parse.specs.Strength.{strength_at}

@@ -1,8 +1,7 @@
 -- The answers to the goals of `file::file`.
 use Rattle.std.proofs.Common.{sym}
 use Rattle.gr_parse.specs.Machine.{last}
-use Rattle.gr_parse.proofs.MachineSteps.{exits, fails_first, fails_later, fails_leads, fails_rule, read_as, read_rule, read_then}
-use Rattle.gr_parse.proofs.StatementSteps.{read_leads}
+use Rattle.gr_parse.proofs.MachineSteps.{exits, fails_first, fails_later, fails_leads, fails_rule, read_as, read_rule, read_then, read_led}
 use Rattle.gr_parse.proofs.FormedParts.{file_formed}
 use Rattle.gr_parse.proofs.SpelledStatements.{file_spelled_as}
 use Rattle.gr_parse.proofs.file.file.Goals as goal
@@ -32,7 +31,7 @@ returns-in_err-decls-clause-exact c = exits _ _ _ _ c.in_err-decls.field-0.0 c.f
 
 pub returns-clause-exact : goal.returns-clause-exact
 returns-clause-exact c = read_as (read_rule last (read_then c.in_ok-package.ensures
-    (read_then c.in_ok-name.ensures (read_then c.in_ok-semicolon.ensures (read_leads c.in_ok-imports.ensures.exact c.in_ok-decls.ensures.exact)))))
+    (read_then c.in_ok-name.ensures (read_then c.in_ok-semicolon.ensures (read_led c.in_ok-imports.ensures.exact c.in_ok-decls.ensures.exact)))))
     (sym (file_spelled_as _))
 
 pub returns-clause-formed : goal.returns-clause-formed

@@ -2,9 +2,9 @@
 use Rattle.std.proofs.Common.{sym}
 use Rattle.gr_parse.specs.Machine.{last}
 use Rattle.gr_parse.proofs.MachineSteps.{exits, fails_close, fails_first, fails_later, fails_leads, fails_rule, read_as, read_close, read_rule, read_then}
-use Rattle.gr_parse.proofs.StatementSteps.{read_leads}
 use Rattle.gr_parse.proofs.FormedParts.{func_formed}
 use Rattle.gr_parse.proofs.SpelledStatements.{func_spelled_as}
+use Rattle.gr_parse.proofs.MachineSteps.{read_led}
 use Rattle.gr_parse.proofs.file.func.Goals as goal
 
 pub returns-in_err-receiver-clause-exact : goal.returns-in_err-receiver-clause-exact
@@ -38,7 +38,7 @@ returns-in_err-body-clause-exact c = exits _ _ _ _ c.in_err-body.field-0.0 c.fro
     (fails_close c.in_ok-open.ensures.deeper (fails_later c.in_ok-results.ensures.exact c.in_err-body.ensures.exact)))))))
 
 pub returns-clause-exact : goal.returns-clause-exact
-returns-clause-exact c = read_as (read_leads c.in_ok-receiver.ensures
+returns-clause-exact c = read_as (read_led c.in_ok-receiver.ensures
     (read_then c.in_ok-name.ensures
     (read_rule last (read_then c.in_ok-open.ensures.read
     (read_then c.in_ok-params.ensures.exact (read_close c.in_ok-open.ensures.deeper (read_then c.in_ok-results.ensures.exact c.in_ok-body.ensures.exact)))))))

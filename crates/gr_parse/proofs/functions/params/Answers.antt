@@ -6,9 +6,9 @@ use Rattle.gr_parse.specs.Spelling.{param_spelled}
 use Rattle.gr_parse.specs.Machine.{first, later, last}
 use Rattle.gr_parse.specs.Parsing.{list_rest}
 use Rattle.gr_parse.specs.ListSpelling.{item_spelled}
-use Rattle.gr_parse.proofs.MachineSteps.{exits, fails_rule, fails_leads}
+use Rattle.gr_parse.proofs.MachineSteps.{exits, fails_rule, fails_leads, fails_more, read_led}
 use Rattle.gr_parse.proofs.ListedSteps.{listed_none, listed_push, listed_open}
-use Rattle.gr_parse.proofs.StatementSteps.{leads_none, leads_push, leads_more, leads_enclosed, leads_closed, read_leads, fails_in}
+use Rattle.gr_parse.proofs.StatementSteps.{leads_none, leads_push, leads_more, leads_enclosed, leads_closed}
 use Rattle.gr_parse.proofs.functions.params.Goals as goal
 
 pub params-init : goal.params-init
@@ -32,7 +32,7 @@ params-preserved c = record {
 pub returns-in_err-value-clause-exact : goal.returns-in_err-value-clause-exact
 returns-in_err-value-clause-exact c = exits _ _ _ _ c.in_err-value.field-0.0 c.from_residual.result c.from_residual.ensures.1
     (fails_leads (leads_more (list_rest Params kind.RightParen) _ c.params.invariant.leads (c.goes_on.ensures.separated c.params-test.true))
-    (fails_rule (later (c.goes_on.ensures.open c.params-test.true) last) (fails_in (A MoreParams ∷ []) c.in_err-value.ensures.exact)))
+    (fails_rule (later (c.goes_on.ensures.open c.params-test.true) last) (fails_more (A MoreParams ∷ []) c.in_err-value.ensures.exact)))
 
 pub returns-in_err-close-clause-exact : goal.returns-in_err-close-clause-exact
 returns-in_err-close-clause-exact c = exits _ _ _ _ c.in_err-close.field-0.0 c.from_residual-in_err-close.result c.from_residual-in_err-close.ensures.1
@@ -40,7 +40,7 @@ returns-in_err-close-clause-exact c = exits _ _ _ _ c.in_err-close.field-0.0 c.f
     c.in_err-close.ensures)
 
 pub returns-clause-exact : goal.returns-clause-exact
-returns-clause-exact c = read_leads (leads_closed Params kind.RightParen _ c.params.invariant.leads (c.goes_on.ensures.ends c.params-test.false)
+returns-clause-exact c = read_led (leads_closed Params kind.RightParen _ c.params.invariant.leads (c.goes_on.ensures.ends c.params-test.false)
     (λ e. first e)) c.in_ok-close.ensures
 
 pub returns-clause-formed : goal.returns-clause-formed

@@ -3,8 +3,8 @@ use Rattle.std.proofs.Common.{◌∷◌, [], sym}
 use Rattle.gr_tree.specs.declared.syntax.Kind.TheVariants as kind
 use Rattle.gr_tree.specs.Grammar.{One, ReceiverEnd, ReceiverStar, is}
 use Rattle.gr_parse.specs.Machine.{first, last, later}
-use Rattle.gr_parse.proofs.MachineSteps.{exits, fails_first, fails_later, fails_leads, read_as, read_then, read_to_close}
-use Rattle.gr_parse.proofs.StatementSteps.{leads_optional, read_leads, read_optional}
+use Rattle.gr_parse.proofs.MachineSteps.{exits, fails_first, fails_later, fails_leads, read_as, read_then, read_to_close, read_led}
+use Rattle.gr_parse.proofs.StatementSteps.{leads_optional, read_optional}
 use Rattle.gr_parse.proofs.SpelledDeclarations.{receiver_spelled_as}
 use Rattle.gr_parse.proofs.functions.receiver.Goals as goal
 
@@ -36,5 +36,5 @@ returns c = read_as (read_then c.in_ok-open.ensures.read
     (read_then (read_optional ReceiverStar kind.Star _ (λ us e. first e) (λ us e. later e last) c.separator-star.ensures)
     (read_then c.in_ok-type_name.ensures
     (read_to_close c.in_ok-open.ensures.deeper
-    (read_leads (leads_optional ReceiverEnd kind.Comma _ (One (is kind.RightParen) ∷ []) (λ us e. first e) (λ us e. later e last) c.separator-comma.ensures)
+    (read_led (leads_optional ReceiverEnd kind.Comma _ (One (is kind.RightParen) ∷ []) (λ us e. first e) (λ us e. later e last) c.separator-comma.ensures)
     c.in_ok-close.ensures)))))) (sym (receiver_spelled_as _))

@@ -3,8 +3,8 @@ use Rattle.std.proofs.Common.{◌∷◌, [], sym, ◌∙◌}
 use Rattle.gr_tree.specs.declared.syntax.Kind.TheVariants as kind
 use Rattle.gr_tree.specs.Grammar.{A, One, Signature, is}
 use Rattle.gr_parse.specs.Machine.{first, last, later}
-use Rattle.gr_parse.proofs.MachineSteps.{exits, fails_rule, leads_here, leads_rule}
-use Rattle.gr_parse.proofs.StatementSteps.{fails_in, leads_read}
+use Rattle.gr_parse.proofs.MachineSteps.{exits, fails_rule, leads_here, leads_rule, fails_more}
+use Rattle.gr_parse.proofs.StatementSteps.{leads_read}
 use Rattle.gr_parse.proofs.functions.receiver_if.Goals as goal
 
 pub returns-then-not-at : goal.returns-then-not-at
@@ -12,7 +12,7 @@ returns-then-not-at c = leads_rule (later (sym c.at.ensures ∙ c.if-not-at.true
 
 pub returns-in_err-receiver : goal.returns-in_err-receiver
 returns-in_err-receiver c = exits _ _ _ _ c.in_err-receiver.field-0.0 c.from_residual.result c.from_residual.ensures.1
-    (fails_rule (first (sym c.at.ensures ∙ c.if-not-at.false)) (fails_in (One (is kind.Name) ∷ A Signature ∷ []) c.in_err-receiver.ensures))
+    (fails_rule (first (sym c.at.ensures ∙ c.if-not-at.false)) (fails_more (One (is kind.Name) ∷ A Signature ∷ []) c.in_err-receiver.ensures))
 
 pub returns : goal.returns
 returns c = leads_rule (first (sym c.at.ensures ∙ c.if-not-at.false)) (leads_read (One (is kind.Name) ∷ A Signature ∷ []) c.in_ok-receiver.ensures)

@@ -6,9 +6,9 @@ use Rattle.gr_parse.specs.Spelling.{type_spelled}
 use Rattle.gr_parse.specs.Machine.{first, later, last}
 use Rattle.gr_parse.specs.Parsing.{list_rest}
 use Rattle.gr_parse.specs.ListSpelling.{item_spelled}
-use Rattle.gr_parse.proofs.MachineSteps.{exits, fails_rule, fails_leads}
+use Rattle.gr_parse.proofs.MachineSteps.{exits, fails_rule, fails_leads, fails_more, read_led}
 use Rattle.gr_parse.proofs.ListedSteps.{listed_none, listed_push, listed_open}
-use Rattle.gr_parse.proofs.StatementSteps.{leads_none, leads_push, leads_more, leads_enclosed, leads_closed, read_leads, fails_in}
+use Rattle.gr_parse.proofs.StatementSteps.{leads_none, leads_push, leads_more, leads_enclosed, leads_closed}
 use Rattle.gr_parse.proofs.functions.result_types.Goals as goal
 
 pub types-init : goal.types-init
@@ -32,7 +32,7 @@ types-preserved c = record {
 pub returns-in_err-value-clause-exact : goal.returns-in_err-value-clause-exact
 returns-in_err-value-clause-exact c = exits _ _ _ _ c.in_err-value.field-0.0 c.from_residual.result c.from_residual.ensures.1
     (fails_leads (leads_more (list_rest Types kind.RightParen) _ c.types.invariant.leads (c.goes_on.ensures.separated c.types-test.true))
-    (fails_rule (later (c.goes_on.ensures.open c.types-test.true) last) (fails_in (A MoreTypes ∷ []) c.in_err-value.ensures)))
+    (fails_rule (later (c.goes_on.ensures.open c.types-test.true) last) (fails_more (A MoreTypes ∷ []) c.in_err-value.ensures)))
 
 pub returns-in_err-close-clause-exact : goal.returns-in_err-close-clause-exact
 returns-in_err-close-clause-exact c = exits _ _ _ _ c.in_err-close.field-0.0 c.from_residual-in_err-close.result c.from_residual-in_err-close.ensures.1
@@ -40,7 +40,7 @@ returns-in_err-close-clause-exact c = exits _ _ _ _ c.in_err-close.field-0.0 c.f
     c.in_err-close.ensures)
 
 pub returns-clause-exact : goal.returns-clause-exact
-returns-clause-exact c = read_leads (leads_closed Types kind.RightParen _ c.types.invariant.leads (c.goes_on.ensures.ends c.types-test.false)
+returns-clause-exact c = read_led (leads_closed Types kind.RightParen _ c.types.invariant.leads (c.goes_on.ensures.ends c.types-test.false)
     (λ e. first e)) c.in_ok-close.ensures
 
 pub returns-clause-formed : goal.returns-clause-formed

@@ -5,9 +5,9 @@ use Rattle.gr_tree.specs.Grammar.{A, Single, Items, MoreItems}
 use Rattle.gr_parse.specs.Machine.{first, later, last}
 use Rattle.gr_parse.specs.Parsing.{list_rest}
 use Rattle.gr_parse.specs.ListSpelling.{item_spelled}
-use Rattle.gr_parse.proofs.MachineSteps.{exits, fails_rule, fails_leads}
+use Rattle.gr_parse.proofs.MachineSteps.{exits, fails_rule, fails_leads, fails_more, read_led}
 use Rattle.gr_parse.proofs.ListedSteps.{listed_none, listed_push, listed_open}
-use Rattle.gr_parse.proofs.StatementSteps.{leads_none, leads_push, leads_more, leads_enclosed, leads_closed, read_leads, fails_in}
+use Rattle.gr_parse.proofs.StatementSteps.{leads_none, leads_push, leads_more, leads_enclosed, leads_closed}
 use Rattle.gr_parse.proofs.groups.specs.Goals as goal
 
 pub items-init : goal.items-init
@@ -31,7 +31,7 @@ items-preserved g c = record {
 pub returns-in_err-value-clause-exact : goal.returns-in_err-value-clause-exact
 returns-in_err-value-clause-exact g c = exits _ _ _ _ c.in_err-value.field-0.0 c.from_residual.result c.from_residual.ensures.1
     (fails_leads (leads_more (list_rest (Items g.S.Spec.item) kind.RightParen) _ c.items.invariant.leads (c.goes_on.ensures.separated c.items-test.true))
-    (fails_rule (later (c.goes_on.ensures.open c.items-test.true) last) (fails_in (A (MoreItems g.S.Spec.item) ∷ []) c.in_err-value.ensures.exact)))
+    (fails_rule (later (c.goes_on.ensures.open c.items-test.true) last) (fails_more (A (MoreItems g.S.Spec.item) ∷ []) c.in_err-value.ensures.exact)))
 
 pub returns-in_err-close-clause-exact : goal.returns-in_err-close-clause-exact
 returns-in_err-close-clause-exact g c = exits _ _ _ _ c.in_err-close.field-0.0 c.from_residual-in_err-close.result c.from_residual-in_err-close.ensures.1
@@ -39,7 +39,7 @@ returns-in_err-close-clause-exact g c = exits _ _ _ _ c.in_err-close.field-0.0 c
     c.in_err-close.ensures)
 
 pub returns-clause-exact : goal.returns-clause-exact
-returns-clause-exact g c = read_leads (leads_closed (Items g.S.Spec.item) kind.RightParen _ c.items.invariant.leads
+returns-clause-exact g c = read_led (leads_closed (Items g.S.Spec.item) kind.RightParen _ c.items.invariant.leads
     (c.goes_on.ensures.ends c.items-test.false) (λ e. first e)) c.in_ok-close.ensures
 
 pub returns-clause-formed : goal.returns-clause-formed

@@ -3,16 +3,16 @@ use Rattle.std.proofs.Common.{◌∷◌, []}
 use Rattle.gr_tree.specs.declared.syntax.Kind.TheVariants as kind
 use Rattle.gr_tree.specs.Grammar.{A, Block, ForPost, One, is}
 use Rattle.gr_parse.specs.Machine.{last}
-use Rattle.gr_parse.proofs.MachineSteps.{exits, fails_rule, leads_on, leads_rule}
-use Rattle.gr_parse.proofs.StatementSteps.{fails_in, fails_on, leads_read}
+use Rattle.gr_parse.proofs.MachineSteps.{exits, fails_rule, leads_on, leads_rule, fails_after, fails_more}
+use Rattle.gr_parse.proofs.StatementSteps.{leads_read}
 use Rattle.gr_parse.proofs.headers.for_clauses.Goals as goal
 
 pub returns-in_err-first-clause-exact : goal.returns-in_err-first-clause-exact
 returns-in_err-first-clause-exact c = exits _ _ _ _ c.in_err-first.field-0.0 c.from_residual.result c.from_residual.ensures.1
-    (fails_rule last (fails_in (One (is kind.Semicolon) ∷ A ForPost ∷ A Block ∷ []) c.in_err-first.ensures.exact))
+    (fails_rule last (fails_more (One (is kind.Semicolon) ∷ A ForPost ∷ A Block ∷ []) c.in_err-first.ensures.exact))
 
 pub returns-in-Err-clause-exact : goal.returns-in-Err-clause-exact
-returns-in-Err-clause-exact c = fails_rule last (fails_on c.in_ok-first.ensures.exact (fails_in (A Block ∷ []) c.in-Err.ensures.exact))
+returns-in-Err-clause-exact c = fails_rule last (fails_after c.in_ok-first.ensures.exact (fails_more (A Block ∷ []) c.in-Err.ensures.exact))
 
 pub returns-in-Ok-clause-exact : goal.returns-in-Ok-clause-exact
 returns-in-Ok-clause-exact c = leads_rule last (leads_on (leads_read (One (is kind.Semicolon) ∷ A ForPost ∷ A Block ∷ []) c.in_ok-first.ensures.exact)

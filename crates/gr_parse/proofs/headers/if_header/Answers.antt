@@ -4,7 +4,8 @@ use Rattle.gr_tree.specs.Grammar.{A, Expression, IfAfter, IfBody}
 use Rattle.gr_parse.specs.Machine.{first, last, later}
 use Rattle.gr_parse.specs.Spelling.{expr_spelled, init_spelled}
 use Rattle.gr_parse.proofs.MachineSteps.{exits, fails_first, fails_later, fails_leads, fails_rule, leads_as, leads_here, leads_on, leads_rule, leads_then}
-use Rattle.gr_parse.proofs.StatementSteps.{fails_in, leads_continued, leads_next, leads_read}
+use Rattle.gr_parse.proofs.StatementSteps.{leads_continued, leads_next, leads_read}
+use Rattle.gr_parse.proofs.MachineSteps.{fails_more}
 use Rattle.gr_parse.proofs.headers.if_header.Goals as goal
 
 pub returns-then-at-clause-exact : goal.returns-then-at-clause-exact
@@ -29,7 +30,7 @@ pub returns-in_err-init-clause-exact : goal.returns-in_err-init-clause-exact
 returns-in_err-init-clause-exact c = exits _ _ _ _ c.in_err-init.field-0.0 c.from_residual-in_err-init.result c.from_residual-in_err-init.ensures.1
     (fails_rule (later (sym c.at.ensures ∙ c.if-at.false) last)
     (fails_later c.in_ok-first.ensures.exact
-    (fails_rule (later (sym c.at-2.ensures ∙ c.if-at-2.false) last) (fails_in (A (Expression true) ∷ A IfBody ∷ []) c.in_err-init.ensures.exact))))
+    (fails_rule (later (sym c.at-2.ensures ∙ c.if-at-2.false) last) (fails_more (A (Expression true) ∷ A IfBody ∷ []) c.in_err-init.ensures.exact))))
 
 pub returns-in-Err-clause-exact : goal.returns-in-Err-clause-exact
 returns-in-Err-clause-exact c = fails_rule (later (sym c.at.ensures ∙ c.if-at.false) last)

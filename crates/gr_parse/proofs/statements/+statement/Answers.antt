@@ -7,8 +7,8 @@ use Rattle.gr_tree.specs.Flatten.{sign}
 use Rattle.gr_parse.specs.Spelling.{if_spelled}
 use Rattle.gr_parse.proofs.MachineSteps.{exits, fails_first, fails_later, fails_leads, fails_rule, read_as, read_end, read_rule, read_then, read_to_close}
 use Rattle.gr_parse.proofs.MachineSteps.{tail_rule}
-use Rattle.gr_parse.proofs.StatementSteps.{continued, fails_in, fails_on, item_shorter, leads_item, leads_more, leads_none, leads_push, read_continued}
-use Rattle.gr_parse.proofs.StatementSteps.{read_items, read_leads, read_level, read_on}
+use Rattle.gr_parse.proofs.StatementSteps.{continued, item_shorter, leads_item, leads_more, leads_none, leads_push, read_continued}
+use Rattle.gr_parse.proofs.StatementSteps.{read_items, read_level, read_on}
 use Rattle.gr_parse.proofs.FormedStatements.{block_formed, block_stmt_formed, else_block_formed, else_if_formed, for_stmt_formed, if_formed, if_stmt_formed}
 use Rattle.gr_parse.proofs.FormedStatements.{no_else_formed, var_formed}
 use Rattle.gr_parse.proofs.ListedSteps.{listed_false, listed_none, listed_push}
@@ -18,6 +18,9 @@ use Rattle.std.proofs.Common.{arith, length, ◌≤◌, subst}
 use Rattle.gr_tree.specs.WellFormed.{IsIf}
 use Rattle.gr_tree.specs.FileView.{if_view}
 use Rattle.gr_parse.proofs.Lists.{items_rest}
+use Rattle.gr_parse.proofs.MachineSteps.{fails_after}
+use Rattle.gr_parse.proofs.MachineSteps.{fails_more}
+use Rattle.gr_parse.proofs.MachineSteps.{read_led}
 use Rattle.gr_parse.proofs.statements.+statement.Goals as goal
 
 pub block-returns-in_err-open-clause-exact : goal.block-returns-in_err-open-clause-exact
@@ -50,14 +53,14 @@ pub block-returns-in_err-statement-clause-exact : goal.block-returns-in_err-stat
 block-returns-in_err-statement-clause-exact t c = exits _ _ _ _ c.in_err-statement.field-0.0 c.from_residual-in_err-statement.result
     c.from_residual-in_err-statement.ensures.1
     (fails_rule last (fails_later c.in_ok-open.ensures.read
-    (fails_in (One (is kind.RightBrace) ∷ Close ∷ [])
+    (fails_more (One (is kind.RightBrace) ∷ Close ∷ [])
     (fails_leads (leads_more (items_rest (A Statement ∷ A MoreStatements ∷ [])) _ c.statements.invariant.leads c.statements-test.true)
     (fails_first c.in_err-statement.ensures.exact)))))
 
 pub block-returns-in_err-close-clause-exact : goal.block-returns-in_err-close-clause-exact
 block-returns-in_err-close-clause-exact t c = exits _ _ _ _ c.in_err-close.field-0.0 c.from_residual-in_err-close.result c.from_residual-in_err-close.ensures.1
     (fails_rule last (fails_later c.in_ok-open.ensures.read
-    (fails_on (read_items (items_rest (A Statement ∷ A MoreStatements ∷ [])) _ refl c.statements.invariant.leads c.statements-test.false)
+    (fails_after (read_items (items_rest (A Statement ∷ A MoreStatements ∷ [])) _ refl c.statements.invariant.leads c.statements-test.false)
     (fails_first c.in_err-close.ensures))))
 
 pub block-returns-clause-exact : goal.block-returns-clause-exact
@@ -125,7 +128,7 @@ pub for_stmt-returns-in-Err-clause-exact : goal.for_stmt-returns-in-Err-clause-e
 for_stmt-returns-in-Err-clause-exact t c = fails_later c.in_ok-at.ensures (fails_leads c.in_ok-header.ensures.exact c.in-Err.ensures.exact)
 
 pub for_stmt-returns-in-Ok-clause-exact : goal.for_stmt-returns-in-Ok-clause-exact
-for_stmt-returns-in-Ok-clause-exact t c = read_as (read_then c.in_ok-at.ensures (read_leads c.in_ok-header.ensures.exact c.in-Ok.ensures.exact))
+for_stmt-returns-in-Ok-clause-exact t c = read_as (read_then c.in_ok-at.ensures (read_led c.in_ok-header.ensures.exact c.in-Ok.ensures.exact))
     (sym (for_stmt_spelled _ _ _))
 
 pub for_stmt-returns-in-Ok-clause-formed : goal.for_stmt-returns-in-Ok-clause-formed
@@ -152,7 +155,7 @@ pub if_stmt-returns-in-Err-clause-exact : goal.if_stmt-returns-in-Err-clause-exa
 if_stmt-returns-in-Err-clause-exact t c = fails_leads c.in_ok-init.ensures.exact c.in-Err.ensures.exact
 
 pub if_stmt-returns-in-Ok-clause-exact : goal.if_stmt-returns-in-Ok-clause-exact
-if_stmt-returns-in-Ok-clause-exact t c = continued (sign kind.If c.args.at ∷ []) (read_leads c.in_ok-init.ensures.exact c.in-Ok.ensures.exact)
+if_stmt-returns-in-Ok-clause-exact t c = continued (sign kind.If c.args.at ∷ []) (read_led c.in_ok-init.ensures.exact c.in-Ok.ensures.exact)
     (sym (if_spelled_as _ _ _ _ _))
 
 pub else_part-returns-then-not-at-clause-exact : goal.else_part-returns-then-not-at-clause-exact

@@ -3,8 +3,8 @@ use Rattle.std.proofs.Common.{◌∷◌, [], sym}
 use Rattle.gr_tree.specs.declared.syntax.Kind.TheVariants as kind
 use Rattle.gr_tree.specs.Grammar.{ImportItem, One, Single, is}
 use Rattle.gr_parse.specs.Machine.{first, last, later}
-use Rattle.gr_parse.proofs.MachineSteps.{exits, fails_leads, read_as}
-use Rattle.gr_parse.proofs.StatementSteps.{leads_optional, read_leads}
+use Rattle.gr_parse.proofs.MachineSteps.{exits, fails_leads, read_as, read_led}
+use Rattle.gr_parse.proofs.StatementSteps.{leads_optional}
 use Rattle.gr_parse.proofs.SpelledDeclarations.{import_spelled_as}
 use Rattle.gr_parse.proofs.declarations.ImportSpecSpec.parse.Goals as goal
 
@@ -14,7 +14,7 @@ returns-in_err-path-clause-exact c = exits _ _ _ _ c.in_err-path.field-0.0 c.fro
     c.separator-name.ensures) c.in_err-path.ensures)
 
 pub returns-clause-exact : goal.returns-clause-exact
-returns-clause-exact c = read_as (read_leads (leads_optional (Single ImportItem) kind.Name _ (One (is kind.Text) ∷ []) (λ us e. first e)
+returns-clause-exact c = read_as (read_led (leads_optional (Single ImportItem) kind.Name _ (One (is kind.Text) ∷ []) (λ us e. first e)
     (λ us e. later e last) c.separator-name.ensures) c.in_ok-path.ensures) (sym (import_spelled_as _))
 
 pub returns-clause-formed : goal.returns-clause-formed
