@@ -29,8 +29,7 @@ use Rattle.gr_stmt.specs.Sides.{no_name, defined_one, defined}
 use Rattle.gr_statement_rules.specs.Excused.{IsNoVariable, without_type, constant, AnyUsesBroken, this_one, a_later_one, IsBlank, underscored, IsNewName}
 use Rattle.gr_statement_rules.specs.Excused.{bound_to_itself, AssignedIsExcused, assigned_uses, assigned_without_type, later_assigned, DefinedIsExcused}
 use Rattle.gr_statement_rules.specs.Excused.{defined_uses, defined_no_variable, later_defined}
-use Rattle.gr_all_bound.proofs.Lists.{all_left, all_right}
-use Rattle.gr_order.proofs.Elements.{all_append}
+use Rattle.gr_order.proofs.Elements.{all_append, all_left, all_right}
 use Rattle.gr_all_bound.proofs.Strung.{Strung, strung_split, strung_le, stand_below}
 use Rattle.gr_all_bound.specs.Unbroken.{IsUnbroken}
 use Rattle.gr_all_bound.proofs.Named.{IsNamed, AreNamed, no_use, assignable_typed}

@@ -11,6 +11,7 @@ use Rattle.gr_scope.specs.declared.model.Role.TheVariants.{Use, LeftName, NotLex
 use Rattle.gr_scope.specs.declared.model.Purpose.TheVariants as purpose
 use Rattle.gr_scope.specs.Site.{Site, Source}
 use Rattle.gr_scope.specs.ExpressionSites.{type_sites, key_sites, expr_sites, operand_sites, link_sites, argument_sites, literal_sites, element_sites}
+use Rattle.gr_order.proofs.Elements.{all_left, all_right}
 use Rattle.gr_expr.specs.Types.{PlainType, Kind, Typed, Meaning, Value, Package}
 use Rattle.gr_expr.specs.World.{World, Locals, Local, Means}
 use Rattle.gr_rules.specs.Operators.{IsUntyped, Prefixes}
@@ -24,7 +25,6 @@ use Rattle.gr_rules.specs.Uses.{IsBrokenType, UsesBroken, LinksUseBroken, Operan
 use Rattle.gr_rules.specs.Uses.{ElementsUseBroken}
 use Rattle.gr_rules.specs.Uses as uses
 use Rattle.gr_all_bound.specs.Unbroken.{IsUnbroken}
-use Rattle.gr_all_bound.proofs.Lists.{all_left, all_right}
 use Rattle.gr_all_bound.proofs.Strung.{Strung, strung_split}
 
 -- a name means something: a lexical use, which is no `_`; one behind the name of a package; a left name that declares nothing

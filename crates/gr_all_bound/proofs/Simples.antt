@@ -31,8 +31,7 @@ use Rattle.gr_statement_rules.specs.Excused.{in_assignment, in_defined, in_defin
 use Rattle.gr_statement_rules.proofs.Simple.{simple_settled}
 use Rattle.gr_statement_rules.proofs.Locals.{local_settled}
 use Rattle.gr_meanings.proofs.DeclKinds.{Holds}
-use Rattle.gr_all_bound.proofs.Lists.{all_left, all_right}
-use Rattle.gr_order.proofs.Elements.{all_append}
+use Rattle.gr_order.proofs.Elements.{all_append, all_left, all_right}
 use Rattle.gr_unique.proofs.Apart.{all_as}
 use Rattle.gr_all_bound.proofs.Strung.{Strung, strung_split, strung_le, stand_below}
 use Rattle.gr_all_bound.specs.Unbroken.{IsUnbroken}

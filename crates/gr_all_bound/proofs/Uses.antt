@@ -16,8 +16,8 @@ use Rattle.gr_scope.specs.FileSites.{param_sites, result_sites, func_block, func
 use Rattle.gr_declared.specs.Bound.{result_types}
 use Rattle.gr_declared.specs.Written.{written_types}
 use Rattle.gr_meanings.proofs.DeclKinds.{Holds}
-use Rattle.gr_order.proofs.Elements.{all_append}
-use Rattle.gr_all_bound.proofs.Lists.{all_left, all_right, all_flat}
+use Rattle.gr_order.proofs.Elements.{all_append, all_left, all_right}
+use Rattle.gr_all_bound.proofs.Lists.{all_flat}
 use Rattle.gr_all_bound.proofs.Sound.{types_of}
 
 -- each identifier of a Type

@@ -23,11 +23,11 @@ use Rattle.gr_meanings.specs.Worlds.{IsWorldOf, is_init}
 use Rattle.gr_verdict.specs.FaultLists.{ListsFaults}
 use Rattle.gr_verdict.specs.Verdicts.{Verdicts, AreVerdicts}
 use Rattle.gr_bound.specs.Uses.{IsPackage}
-use Rattle.gr_order.proofs.Elements.{all_append}
+use Rattle.gr_order.proofs.Elements.{all_append, all_left, all_right}
 use Rattle.gr_all_bound.specs.Worlds.{HaveWorlds}
 use Rattle.gr_all_bound.proofs.NoFaults.{no_fault_in}
 use Rattle.gr_all_bound.proofs.Links.{source_is}
-use Rattle.gr_all_bound.proofs.Lists.{contained, all_left, all_right, all_held}
+use Rattle.gr_all_bound.proofs.Lists.{contained, all_held}
 use Rattle.gr_all_bound.proofs.Sound.{types_of, IsSound, types_sound, receiver_sound}
 use Rattle.gr_all_bound.proofs.Tight.{IsTight, types_tight}
 use Rattle.gr_all_bound.proofs.Types.{Kept, all_kept, type_named, receiver_named}

@@ -20,17 +20,7 @@ use Rattle.gr_tree.specs.Kinds.{kind_of, kinds_from, kinds_of}
 use Rattle.gr_tree.specs.Tree.{Item, Group, single, several, ImportTree, ImportsTree, DeclTree, VarDecl, TypeDecl, FuncDecl, FileTree}
 use Rattle.gr_graph.specs.FileImports.{paths_in, import_literals}
 use Rattle.gr_order.specs.Tokens.{is_name, is_header_name, begins_declaration, names_among, identifiers_among}
-use Rattle.gr_order.proofs.Elements.{all_append}
-
--- what holds of each item of a list
-
-first_part : {X : Type 0} (P : X → Type 0) (xs ys : List X) → AllByRecursion P (xs ++ ys) → AllByRecursion P xs
-first_part P [] ys a = tt
-first_part P (x ∷ xs) ys a = (a.0, first_part P xs ys a.1)
-
-last_part : {X : Type 0} (P : X → Type 0) (xs ys : List X) → AllByRecursion P (xs ++ ys) → AllByRecursion P ys
-last_part P [] ys a = a
-last_part P (x ∷ xs) ys a = last_part P xs ys a.1
+use Rattle.gr_order.proofs.Elements.{all_append, all_left, all_right}
 
 -- of the identifiers among tokens
 
@@ -123,10 +113,10 @@ module _ (R : ℕ → Type 0) where
       all_append Tells (imports_tokens i) (all_tokens imports_tokens is) (
         (λ e. absurd (let z : ⊥ = cc in z)),
         all_append Tells (group_tokens import_tokens i.imports) (sign kind.Semicolon i.semicolon ∷ [])
-            (group_tells i.imports (first_part R (paths_in i.imports) others r))
+            (group_tells i.imports (all_left R (paths_in i.imports) others r))
             (other_tells kind.Semicolon i.semicolon (λ e. cc)),
       )
-      (imports_tell is (last_part R (paths_in i.imports) others r))
+      (imports_tell is (all_right R (paths_in i.imports) others r))
 
   file_tells : (f : FileTree) → AllByRecursion R (import_literals f) → AllTell (identifiers_among (flatten f))
   unfolding flatten identifiers_among

@@ -2,15 +2,15 @@
 use Rattle.std.proofs.Common.{◌≡◌, ℕ, ◌+◌, ◌≤◌, ◌↔◌, inr, inl, Bool, true, false, IsTrue, refl, sym, subst, ⊎_elim, arith}
 use Rattle.std.proofs.lemmas.Bool.{false≢true}
 use Rattle.gr_compile.specs.Jobs.{JobsOut}
-use Rattle.gr_book.specs.declared.entry.EntryKind.{EntryKind}
-use Rattle.gr_book.specs.declared.event.Event.{Event}
-use Rattle.gr_book.specs.declared.event.Event.TheVariants.{Look, Log, Commit, Undo, Redo, Take, Deliver, GiveBack}
-use Rattle.gr_book.specs.declared.question.Asked.{Asked}
-use Rattle.gr_book.specs.Needed.{entries_for, entries_needed}
-use Rattle.gr_book.specs.Journal.{kind_of}
-use Rattle.gr_book.specs.Machine.{Machine}
-use Rattle.gr_book.specs.Step.{BringsOut, HasPlace, HasRoom, entries_due}
-use Rattle.gr_book.proofs.Stepped.{place_made, place_there}
+use Rattle.gr_machine.specs.declared.entry.EntryKind.{EntryKind}
+use Rattle.gr_machine.specs.declared.event.Event.{Event}
+use Rattle.gr_machine.specs.declared.event.Event.TheVariants.{Look, Log, Commit, Undo, Redo, Take, Deliver, GiveBack}
+use Rattle.gr_content.specs.declared.question.Asked.{Asked}
+use Rattle.gr_content.specs.Needed.{entries_for, entries_needed}
+use Rattle.gr_machine.specs.Journal.{kind_of}
+use Rattle.gr_machine.specs.Machine.{Machine}
+use Rattle.gr_machine.specs.Step.{BringsOut, HasPlace, HasRoom, entries_due}
+use Rattle.gr_machine.proofs.Stepped.{place_made, place_there}
 
 place_for : (most due : ℕ) (out : JobsOut) (event : Event) (is_out : Bool) → (IsTrue is_out ↔ BringsOut out event) → due ≤ most →
     (HasPlace most due out event ↔ (due + entries_for is_out (kind_of event) ≤ most))

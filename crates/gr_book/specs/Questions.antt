@@ -3,13 +3,11 @@ use Rattle.std.specs.Prelude.{ℕ, Option, Result, Ok, Err}
 use Rattle.gr_text.specs.declared.refusal.Refusal.{Refusal}
 use Rattle.gr_book.specs.declared.changing.Changing.{Changing}
 use Rattle.gr_book.specs.declared.changing.Changing.TheVariants as changing
-use Rattle.gr_book.specs.declared.entry.Line.{Line}
-use Rattle.gr_book.specs.declared.event.Event.{Event}
-use Rattle.gr_book.specs.declared.event.Event.TheVariants.{Commit, Undo, Redo, Deliver, GiveBack}
-use Rattle.gr_book.specs.declared.event.Reply.{Reply}
-use Rattle.gr_book.specs.declared.event.Reply.TheVariants.{Logged, Done, Refused, Back}
-use Rattle.gr_book.specs.declared.handed.Handed.{Handed}
-use Rattle.gr_book.specs.declared.handed.Handed.TheVariants as handed_in
+use Rattle.gr_machine.specs.declared.entry.Line.{Line}
+use Rattle.gr_machine.specs.declared.event.Event.{Event}
+use Rattle.gr_machine.specs.declared.event.Event.TheVariants.{Commit, Undo, Redo, Deliver, GiveBack}
+use Rattle.gr_machine.specs.declared.event.Reply.{Reply}
+use Rattle.gr_machine.specs.declared.event.Reply.TheVariants.{Logged, Refused}
 use Rattle.gr_book.specs.declared.handing.HandingIn.{HandingIn}
 use Rattle.gr_book.specs.declared.handing.HandingIn.TheVariants as handing
 
@@ -28,9 +26,3 @@ handing_event (handing.GiveBack job) = GiveBack job
 abbrev pub logged : Result (ℕ × Option Line) Refusal → Reply
 logged (Ok shown) = Logged shown.0 shown.1
 logged (Err refusal) = Refused refusal
-
--- the answer to a Job that was handed in
-abbrev pub handed : Handed → Reply
-handed (handed_in.Done number) = Done number
-handed (handed_in.Refused refusal) = Refused refusal
-handed (handed_in.Back refusal job built) = Back refusal job built

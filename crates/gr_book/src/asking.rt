@@ -1,16 +1,14 @@
 //! The questions that change no state: a look, a line of the journal, and a Take.
 ghost use Rattle.std.specs.Prelude.{◌≡◌};
-ghost use Rattle.gr_book.specs.Journal.{line_at};
+ghost use Rattle.gr_machine.specs.Journal.{line_at};
 ghost use Rattle.gr_book.specs.Questions.{logged};
-ghost use Rattle.gr_book.specs.Step.{looked, taken};
-ghost use Rattle.gr_book.specs.declared.event.Event.TheVariants.{Log, Look, Take};
+ghost use Rattle.gr_machine.specs.Step.{looked, taken};
+ghost use Rattle.gr_machine.specs.declared.event.Event.TheVariants.{Log, Look, Take};
 
-use crate::content::Content;
-use crate::entry::{Entry, EntryKind, Line, Told};
-use crate::question::{Answered, Asked, Question};
 use crate::told::refusal_told;
-use crate::view::View;
 use gr_compile::Job;
+use gr_content::{Answered, Asked, Content, Question};
+use gr_machine::{Entry, EntryKind, Line, Told, View};
 use gr_text::Refusal;
 
 /// A look at the current state.

@@ -1,17 +1,14 @@
 //! The book: the states of a workspace with the Jobs that are out, and the journal of the events that move among them.
 ghost use Rattle.std.specs.Prelude.{◌≡◌, ◌+◌, ◌≤◌, ◌↔◌, IfOk, IsTrue, OnErr, OnOk, length, vec_capacity};
 ghost use Rattle.gr_verdict.specs.Found.{KnowsVerdicts};
-ghost use Rattle.gr_book.specs.Machine.{HasNumbers, Machine, content, opening};
-ghost use Rattle.gr_book.specs.Kept.{IsEntryIf, StepKept};
-ghost use Rattle.gr_book.specs.Run.{IsReplay};
-ghost use Rattle.gr_book.specs.Journal.{basis_of, kind_of};
-ghost use Rattle.gr_book.specs.Step.{HasPlace, Keeps, Step, entries_due};
+ghost use Rattle.gr_machine.specs.Machine.{content, opening};
+ghost use Rattle.gr_machine.specs.Kept.{StepKept};
+ghost use Rattle.gr_machine.specs.Run.{IsReplay};
+ghost use Rattle.gr_machine.specs.Step.{Step, entries_due};
 
-use crate::content::Content;
-use crate::entry::{Entry, Line};
-use crate::made::entry_twice;
-use crate::question::{Answered, Asked, Question};
+use gr_content::{Asked, Content, Question, answer};
 use gr_graph::Graph;
+use gr_machine::Entry;
 use gr_text::{Limits, Refusal};
 use gr_verdict::Known;
 use std::alloc::{AllocError, Global};
@@ -28,9 +25,9 @@ pub struct Book {
 /// It is a fact of each book that its content is the replay of its journal.
 impl Model for Book {
     ghost use Rattle.std.specs.Prelude.{◌+◌, ◌≤◌, length, vec_capacity};
-    ghost use Rattle.gr_book.specs.Codes.{entry_code};
-    ghost use Rattle.gr_book.specs.Machine.{Machine, with_journal};
-    ghost use Rattle.gr_book.specs.Run.{IsReplay};
+    ghost use Rattle.gr_machine.specs.Codes.{entry_code};
+    ghost use Rattle.gr_machine.specs.Machine.{Machine, with_journal};
+    ghost use Rattle.gr_machine.specs.Run.{IsReplay};
     ghost use Rattle.std.specs.Coded.{codes};
     ghost use Rattle.gr_compile.specs.Codes.{unit_code, workspace_code};
 
@@ -61,41 +58,6 @@ fn make_room(journal: &mut Vec<Entry>, content: &Content, asked: &Asked) -> Resu
         return Ok(());
     }
     journal.reserve(content.jobs() + 2)
-}
-
-/// Answers an event, and adds its entry to the journal. With the answer comes a copy of the entry.
-fn answer<Q: Question>(
-    content: &mut Content,
-    journal: &mut Vec<Entry>,
-    asked: Asked,
-    question: Q,
-) -> (Q::Answer, Option<Entry>)
-    requires numbers { HasNumbers content.old }
-    requires due { length journal.old.items + length content.old.out.jobs ≤ vec_capacity journal.old }
-    requires place { HasPlace (vec_capacity journal.old) (length journal.old.items + length content.old.out.jobs) content.old.out (Q.event question) }
-    requires kind { asked.kind ≡ kind_of (Q.event question) }
-    requires basis { asked.basis ≡ basis_of content.old.current.number (Q.event question) }
-    ensures keeps { Keeps content.old journal.old.items (Q.event question) (Q.reply result.0) content.new journal.new.items }
-    ensures copy { IsEntryIf content.old.current.number (Q.event question) (Q.reply result.0) result.1 }
-    ensures capacity { vec_capacity journal.new ≡ vec_capacity journal.old }
-{
-    let Answered {
-        answer,
-        out,
-        subject,
-        made,
-    } = question.ask(content, journal.as_slice());
-    let Some(out) = out else {
-        return (answer, None);
-    };
-    let line = Line {
-        kind: asked.kind,
-        basis: asked.basis,
-        out,
-    };
-    let (entry, copy) = entry_twice(line, subject, made);
-    journal.push_reserved(entry);
-    (answer, Some(copy))
 }
 
 impl Book {

@@ -1,15 +1,14 @@
 //! The questions that change the workspace.
 ghost use Rattle.std.specs.Prelude.{◌≡◌, None};
-ghost use Rattle.gr_book.specs.Journal.{edits_of, subject_after, told_of};
+ghost use Rattle.gr_machine.specs.Journal.{edits_of, subject_after, told_of};
 ghost use Rattle.gr_book.specs.Questions.{changing_event};
-ghost use Rattle.gr_book.specs.Machine.{HasNumbers};
-ghost use Rattle.gr_book.specs.Step.{AnswersOrLacks, done};
-ghost use Rattle.gr_book.specs.declared.event.Event.TheVariants.{Commit};
+ghost use Rattle.gr_machine.specs.Machine.{HasNumbers};
+ghost use Rattle.gr_machine.specs.Step.{AnswersOrLacks, done};
+ghost use Rattle.gr_machine.specs.declared.event.Event.TheVariants.{Commit};
 
-use crate::content::Content;
-use crate::entry::{Entry, EntryKind, Told};
-use crate::question::{Answered, Asked, Question};
 use crate::told::refusal_told;
+use gr_content::{Answered, Asked, Content, Question};
+use gr_machine::{Entry, EntryKind, Told};
 use gr_space::MadeChange;
 use gr_text::Refusal;
 

@@ -1,15 +1,14 @@
 //! The questions that bring a Job back.
 ghost use Rattle.std.specs.Prelude.{◌≡◌, ◌↔◌, IsTrue, None, Some};
 ghost use Rattle.gr_compile.specs.Jobs.{IsOut};
-ghost use Rattle.gr_book.specs.Journal.{subject_after, told_of};
-ghost use Rattle.gr_book.specs.Questions.{handed, handing_event};
+ghost use Rattle.gr_machine.specs.Journal.{subject_after, told_of};
+ghost use Rattle.gr_content.specs.Handed.{handed};
+ghost use Rattle.gr_book.specs.Questions.{handing_event};
 
-use crate::content::Content;
-use crate::entry::{Entry, EntryKind, Told};
-use crate::handed::Handed;
-use crate::question::{Answered, Asked, Question};
 use crate::told::refusal_told;
 use gr_compile::{Built, Job};
+use gr_content::{Answered, Asked, Content, Handed, Question};
+use gr_machine::{Entry, EntryKind, Told};
 use gr_text::Refusal;
 
 /// A Job that is handed in.

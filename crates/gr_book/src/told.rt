@@ -1,9 +1,9 @@
 //! What an entry tells of a refusal.
 ghost use Rattle.std.specs.Prelude.{◌≡◌};
 ghost use Rattle.std.specs.Option.{option_map};
-ghost use Rattle.gr_book.specs.Journal.{reason_of};
+ghost use Rattle.gr_machine.specs.Journal.{reason_of};
 
-use crate::entry::{Reason, Told};
+use gr_machine::{Reason, Told};
 use gr_text::Refusal;
 
 fn reason_of(refusal: &Refusal) -> Option<Reason>

@@ -4,11 +4,11 @@ ghost use Rattle.std.specs.Prelude.{IfOk};
 ghost use Rattle.gr_verdict.specs.Found.{IsFound};
 
 use crate::calls::planned;
-use gr_book::{
-    Book, Changing, Entry, EntryKind, Handed, HandingIn, Line, Logging, Looking, Taking, Told, View,
-};
+use gr_book::{Book, Changing, HandingIn, Logging, Looking, Taking};
 use gr_check::Planned;
 use gr_compile::{Built, Job, build};
+use gr_content::Handed;
+use gr_machine::{Entry, EntryKind, Line, Told, View};
 use gr_rename::plan_rename;
 use gr_space::MadeChange;
 use gr_text::{Limits, Refusal};

@@ -1,7 +1,9 @@
 //! What the tests do with a view and at a seat: a look, and the put of a file.
 use crate::texts::text;
-use gr_book::{Changing, Looking, View};
-use gr_pool::{Opening, Seat, Shared};
+use gr_book::{Changing, Looking};
+use gr_machine::View;
+use gr_pool::Shared;
+use gr_seats::{Opening, Seat};
 use gr_space::{MadeChange, plan_put};
 use std::alloc::Global;
 use std::process::Abort;

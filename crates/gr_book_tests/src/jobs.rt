@@ -2,9 +2,9 @@
 //! journal, or one where it is planned on another book; each other act is one.
 use crate::bench::{Act, ActOutcome, Bench, Shown, does, ends, has_entries, opened, retires};
 use crate::texts::A;
-use gr_book::{EntryKind, Line, Reason, Told};
 use gr_compile::{Job, Out, SharedPath};
 use gr_graph::Graph;
+use gr_machine::{EntryKind, Line, Reason, Told};
 use gr_text::Files;
 use gr_verdict::Known;
 use std::process::Abort;

@@ -2,8 +2,10 @@
 ghost use Rattle.std.specs.Prelude.{◌≡◌};
 
 use crate::calls::look;
-use gr_book::{Book, EntryKind};
-use gr_pool::{Opening, Seat, Shared, Unsettled};
+use gr_book::Book;
+use gr_machine::EntryKind;
+use gr_pool::{Shared, Unsettled};
+use gr_seats::{Opening, Seat};
 use gr_text::Limits;
 use std::alloc::Global;
 use std::marker::Brand;

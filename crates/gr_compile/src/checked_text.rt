@@ -4,12 +4,13 @@ ghost use Rattle.gr_text.specs.Packages.{package_paths};
 ghost use Rattle.gr_tree.specs.SourceFile.{SourceFile};
 ghost use Rattle.gr_graph.specs.Graphs.{IsPackage, OfPackage};
 ghost use Rattle.gr_imports.specs.States.{state_in};
+ghost use Rattle.gr_imports.specs.declared.states.ImportState.{ImportState};
 ghost use Rattle.gr_declared.specs.InterfacesView.{interface_in, name_in};
 ghost use Rattle.gr_declared.specs.PackageView.{package_of, IsIndexOf};
 ghost use Rattle.gr_meanings.specs.BoundsView.{AreBounds};
 ghost use Rattle.gr_meanings.specs.MemberUses.{AreMemberUses, uses_in};
 ghost use Rattle.gr_types.specs.Check.{IsCheckedBy, IsFoundIn, IsLaid, IsLaterFault, MayLay, MayMean};
-ghost use Rattle.gr_verdict.specs.Steps.{AreKnownBelow, IsCheckedIn, IsGathered, IsUnderway};
+ghost use Rattle.gr_verdict.specs.Steps.{AreKnownBelow, IsCheckedIn, IsGathered, IsSeenIn, IsUnderway};
 ghost use Rattle.gr_verdict.specs.Told.{known_by, AreWhole};
 ghost use Rattle.gr_verdict.specs.Verdicts.{AreSeen, AreStates, AreVerdictsBelow, Verdicts};
 ghost use Rattle.gr_object.specs.ObjectView.{AreOwnDefinitions, HaveNames};
@@ -27,7 +28,7 @@ use gr_object::packages::CalledPackages;
 use gr_scope::table::ScopeTable;
 use gr_text::FileText;
 use gr_types::{Checked, CheckedPackage, check, check_package, table_of};
-use gr_verdict::{Progress, seen_imports};
+use gr_verdict::{Progress, import_states, seen_imports};
 use std::alloc::{AllocError, Global};
 
 /// What checking found in a package, and the text of its object where it has no fault.
@@ -156,9 +157,8 @@ fn table_text<'a>(
     requires at { slice_get (package_paths graph.now) number ≡ Some of.path.now }
     requires files { IsPackage graph.now number of.files.now }
     requires read { of.files.now.faulty.items ≡ [] }
-    requires laid { IsLaid of.files.now.trees.items (state_in of.interfaces.now.states) (name_in of.interfaces.now) table }
-    ensures checked { IfOk result (λ made. (known : Verdicts) → AreSeen graph.now known of.entry.path.now (name_in of.entry.interfaces.now) (interface_in of.entry.interfaces.now) → AreStates graph.now known of.entry.path.now (state_in of.entry.interfaces.now.states) → IsCheckedIn graph.now known of.entry.path.now made.checked) }
-    ensures text { IfOk result (λ made. (known : Verdicts) → AreSeen graph.now known of.entry.path.now (name_in of.entry.interfaces.now) (interface_in of.entry.interfaces.now) → AreVerdictsBelow graph.now of.entry.path.now known → MayBeText graph.now of.entry.path.now made.text) }
+    ensures checked { IfOk result (λ made. (known : Verdicts) → (state : List ℕ → ImportState) → IsLaid of.entry.files.now.trees.items state (name_in of.entry.interfaces.now) table.entry → AreSeen graph.now known of.entry.path.now (name_in of.entry.interfaces.now) (interface_in of.entry.interfaces.now) → AreStates graph.now known of.entry.path.now state → IsCheckedIn graph.now known of.entry.path.now made.checked) }
+    ensures text { IfOk result (λ made. (known : Verdicts) → (state : List ℕ → ImportState) → IsLaid of.entry.files.now.trees.items state (name_in of.entry.interfaces.now) table.entry → AreSeen graph.now known of.entry.path.now (name_in of.entry.interfaces.now) (interface_in of.entry.interfaces.now) → AreVerdictsBelow graph.now of.entry.path.now known → MayBeText graph.now of.entry.path.now made.text) }
 {
     let unit = Package {
         path: of.path,
@@ -236,6 +236,62 @@ fn read_text(
     seen_text(alloc, graph, number, path, files, &interfaces)
 }
 
+/// What checking finds in a package each of whose files has a tree, with the text of its object if it has no fault, where interfaces
+/// tell just what it sees of others: it is checked by these. Where its clauses or imports have a fault it is checked by its own.
+fn told_text<'a>(
+    alloc: Global,
+    graph: &Graph,
+    number: usize,
+    path: &'a SharedPath,
+    files: &'a Folder,
+    all: &'a Interfaces,
+) -> Result<CheckedText, AllocError>
+    requires at { slice_get (package_paths graph.now) number ≡ Some path.now }
+    requires files { IsPackage graph.now number files.now }
+    requires read { files.now.faulty.items ≡ [] }
+    requires whole { AreWhole all.now }
+    requires told { IsSeenIn graph.now path.now all.now }
+    ensures checked { IfOk result (λ made. IsCheckedIn graph.now (known_by all.now) path.now made.checked) }
+    ensures text { IfOk result (λ made. AreVerdictsBelow graph.now path.now (known_by all.now) → MayBeText graph.now path.now made.text) }
+{
+    let noted = import_states(alloc, graph, number, all)?;
+    let found = table_of(alloc, noted.states(), &files.trees, all)?;
+    let of = Seeing {
+        path,
+        files,
+        interfaces: all,
+    };
+    match found {
+        None => read_text(alloc, graph, number, path, files, all),
+        Some(table) => table_text(alloc, graph, number, of, table),
+    }
+}
+
+/// What checking finds in a package each of whose files has a tree, with the text of its object if it has no fault, by what is known.
+fn known_text(
+    alloc: Global,
+    graph: &Graph,
+    number: usize,
+    path: &SharedPath,
+    files: &Folder,
+    progress: &Progress,
+) -> Result<CheckedText, AllocError>
+    requires at { slice_get (package_paths graph.now) number ≡ Some path.now }
+    requires files { IsPackage graph.now number files.now }
+    requires read { files.now.faulty.items ≡ [] }
+    requires right { IsUnderway graph.now progress.now }
+    ensures checked { IfOk result (λ made. IsCheckedIn graph.now (known_by progress.now.all.interfaces) path.now made.checked) }
+    ensures text { IfOk result (λ made. AreVerdictsBelow graph.now path.now (known_by progress.now.all.interfaces) → MayBeText graph.now path.now made.text) }
+{
+    let all = progress.interfaces();
+    let just = progress.tells_just(alloc, graph, number)?;
+    if just {
+        told_text(alloc, graph, number, path, files, all)
+    } else {
+        read_text(alloc, graph, number, path, files, all)
+    }
+}
+
 /// Checks a package each of whose files has a tree, and of which nothing is known yet, and tells the text of its object if it has
 /// no fault.
 fn learn_text(
@@ -255,7 +311,7 @@ fn learn_text(
     ensures right { OnOk result (IsUnderway graph.now progress.new) }
     ensures text { IfOk result (MayBeText graph.now path.now) }
 {
-    let made = read_text(alloc, graph, number, path, files, progress.interfaces())?;
+    let made = known_text(alloc, graph, number, path, files, progress)?;
     let CheckedText { checked, text } = made;
     let own = path.clone()?;
     progress.learn(alloc, graph, number, own, checked)?;

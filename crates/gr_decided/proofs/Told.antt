@@ -32,7 +32,7 @@ use Rattle.gr_scope.proofs.PlainSites.{plain_append, plain_list, plain_if, plain
 use Rattle.gr_scope.proofs.Regions.{Each}
 use Rattle.gr_imports.specs.Files.{group_items}
 use Rattle.gr_meanings.proofs.DeclKinds.{Holds}
-use Rattle.gr_order.proofs.Elements.{all_append}
+use Rattle.gr_order.proofs.Elements.{all_append, all_left, all_right}
 
 -- What is told of an identifier at a token of a file by its role. K: the token is of that kind. G: it is the name of what the package's
 -- block declares. F: the file's block may declare.
@@ -57,23 +57,15 @@ IsNameIn (FuncDecl k f s) i = f.name ≡ i
 
 -- parts of lists
 
-pub first_part : {X : Type 0} (P : X → Type 0) (xs ys : List X) → AllByRecursion P (xs ++ ys) → AllByRecursion P xs
-first_part P [] ys h = tt
-first_part P (x ∷ xs) ys h = (h.0, first_part P xs ys h.1)
-
-pub last_part : {X : Type 0} (P : X → Type 0) (xs ys : List X) → AllByRecursion P (xs ++ ys) → AllByRecursion P ys
-last_part P [] ys h = h
-last_part P (x ∷ xs) ys h = last_part P xs ys h.1
-
 abbrev pub AllOf : (Kind → ℕ → Type 0) → List Token → Type 0
 AllOf K ts = AllByRecursion (λ (t : Token). K t.kind t.place) ts
 
 module _ (K : Kind → ℕ → Type 0) where
   pub front : (xs ys : List Token) → AllOf K (xs ++ ys) → AllOf K xs
-  front xs ys h = first_part (λ (t : Token). K t.kind t.place) xs ys h
+  front xs ys h = all_left (λ (t : Token). K t.kind t.place) xs ys h
 
   pub back : (xs ys : List Token) → AllOf K (xs ++ ys) → AllOf K ys
-  back xs ys h = last_part (λ (t : Token). K t.kind t.place) xs ys h
+  back xs ys h = all_right (λ (t : Token). K t.kind t.place) xs ys h
 
   module _ (G : ℕ → Type 0) (F : Type 0) (s : Source) where
     abbrev P : Site → Type 0

@@ -7,12 +7,12 @@ use Rattle.gr_text.specs.declared.refusal.Refusal.TheVariants.{Memory, BadPath, 
 use Rattle.gr_move.specs.Plan.{PlansMove}
 use Rattle.gr_rename.specs.Plan.{PlansRename}
 use Rattle.gr_space.specs.Plan.{PlansPut, PlansDel}
-use Rattle.gr_book.specs.declared.view.View.{View}
+use Rattle.gr_machine.specs.declared.view.View.{View}
 use Rattle.gr_space.specs.declared.change.Change.{Change}
-use Rattle.gr_book.specs.declared.event.Event.{Event}
-use Rattle.gr_book.specs.declared.event.Event.TheVariants.{Look, Log, Commit, Undo, Redo}
-use Rattle.gr_book.specs.declared.event.Reply.{Reply}
-use Rattle.gr_book.specs.declared.event.Reply.TheVariants.{Looked, Logged, Done, Taken, Refused, Back}
+use Rattle.gr_machine.specs.declared.event.Event.{Event}
+use Rattle.gr_machine.specs.declared.event.Event.TheVariants.{Look, Log, Commit, Undo, Redo}
+use Rattle.gr_machine.specs.declared.event.Reply.{Reply}
+use Rattle.gr_machine.specs.declared.event.Reply.TheVariants.{Looked, Logged, Done, Taken, Refused, Back}
 use Rattle.gr_bound.specs.Uses.{TellsUses}
 use Rattle.gr_verdict.specs.FaultLists.{ListsFaults}
 use Rattle.gr_verdict.specs.declared.fault.FileFault.{FileFault}

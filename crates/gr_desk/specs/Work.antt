@@ -4,10 +4,10 @@ use Rattle.gr_text.specs.declared.refusal.Refusal.TheVariants.{Memory}
 use Rattle.gr_compile.specs.Builds.{IsBuiltOf}
 use Rattle.gr_compile.specs.declared.built.Built.{Built}
 use Rattle.gr_compile.specs.declared.job.JobRecord.{JobRecord}
-use Rattle.gr_book.specs.declared.event.Event.{Event}
-use Rattle.gr_book.specs.declared.event.Event.TheVariants.{Take, Deliver, GiveBack}
-use Rattle.gr_book.specs.declared.event.Reply.{Reply}
-use Rattle.gr_book.specs.declared.event.Reply.TheVariants.{Done, Taken, Refused, Back}
+use Rattle.gr_machine.specs.declared.event.Event.{Event}
+use Rattle.gr_machine.specs.declared.event.Event.TheVariants.{Take, Deliver, GiveBack}
+use Rattle.gr_machine.specs.declared.event.Reply.{Reply}
+use Rattle.gr_machine.specs.declared.event.Reply.TheVariants.{Done, Taken, Refused, Back}
 use Rattle.gr_desk.specs.declared.response.Response.{Response}
 use Rattle.gr_desk.specs.declared.response.Response.TheVariants as response
 

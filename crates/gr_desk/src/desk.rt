@@ -1,12 +1,13 @@
 //! Where commands take their events.
 ghost use Rattle.std.specs.Prelude.{◌≡◌, ℕ, Result};
 ghost use Rattle.gr_text.specs.declared.refusal.Refusal.{Refusal as WhyRefused};
-ghost use Rattle.gr_book.specs.declared.event.Event.{Event};
-ghost use Rattle.gr_book.specs.declared.event.Reply.{Reply};
-ghost use Rattle.gr_book.specs.MayReply.{MayReply};
+ghost use Rattle.gr_machine.specs.declared.event.Event.{Event};
+ghost use Rattle.gr_machine.specs.declared.event.Reply.{Reply};
+ghost use Rattle.gr_machine.specs.MayReply.{MayReply};
 ghost use Rattle.gr_verdict.specs.Found.{KnowsVerdicts};
 
-use gr_book::{Book, Question};
+use gr_book::Book;
+use gr_content::Question;
 use gr_graph::Graph;
 use gr_text::Refusal;
 use gr_verdict::Known;
@@ -44,8 +45,8 @@ pub struct Solo {
 }
 
 impl Model for Solo {
-    ghost use Rattle.gr_book.specs.Codes.{entry_code};
-    ghost use Rattle.gr_book.specs.Machine.{Machine};
+    ghost use Rattle.gr_machine.specs.Codes.{entry_code};
+    ghost use Rattle.gr_machine.specs.Machine.{Machine};
     ghost use Rattle.std.specs.Coded.{codes};
     ghost use Rattle.gr_compile.specs.Codes.{unit_code, workspace_code};
 
@@ -72,7 +73,7 @@ impl Solo {
 }
 
 impl Desk for Solo {
-    ghost use Rattle.gr_book.specs.Step.{Step};
+    ghost use Rattle.gr_machine.specs.Step.{Step};
     ghost use Rattle.gr_desk.specs.Wait.{RefusesWait};
 
     ghost steps = { Step };

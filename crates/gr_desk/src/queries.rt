@@ -3,7 +3,7 @@ ghost use Rattle.std.specs.Prelude.{IfOk};
 ghost use Rattle.gr_verdict.specs.Found.{IsFound};
 ghost use Rattle.gr_desk.specs.Queries.{Cats, TellsObject};
 
-use gr_book::View;
+use gr_machine::View;
 use gr_text::{FileText, Path, Place, Refusal};
 use gr_verdict::{Found, verdicts};
 use std::alloc::{AllocError, Global};

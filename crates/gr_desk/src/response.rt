@@ -1,9 +1,9 @@
 //! What a command is answered: data, and no bytes of a reply.
 ghost use Rattle.std.specs.Prelude.{◌≡◌};
 
-use gr_book::Line;
 use gr_expr::symbol::SharedPath;
 use gr_graph::Graph;
+use gr_machine::Line;
 use gr_text::{FileText, Refusal};
 use gr_uses::Places;
 use gr_verdict::FileFault;

@@ -5,8 +5,9 @@ ghost use Rattle.gr_desk.specs.Work.{Builds, Delivers, GivesBack, Works};
 
 use crate::desk::Desk;
 use crate::response::Response;
-use gr_book::{Handed, HandingIn, Taking};
+use gr_book::{HandingIn, Taking};
 use gr_compile::{Built, Job, build};
+use gr_content::Handed;
 use gr_expr::symbol::SharedPath;
 use gr_text::Refusal;
 use std::alloc::{AllocError, Global};

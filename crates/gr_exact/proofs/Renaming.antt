@@ -4,8 +4,8 @@ use Rattle.gr_text.specs.Workspace.{Workspace}
 use Rattle.gr_edit.specs.EditSet.{edited}
 use Rattle.gr_space.specs.declared.snapshot.Snapshot.{Snapshot}
 use Rattle.gr_space.specs.declared.change.Change.{Change}
-use Rattle.gr_book.specs.Machine.{Content, Machine}
-use Rattle.gr_book.proofs.RunLaws.{undo_restores}
+use Rattle.gr_machine.specs.Machine.{Content, Machine}
+use Rattle.gr_machine.proofs.RunLaws.{undo_restores}
 use Rattle.gr_revision.specs.RevisionsOfEdits.{revision_of}
 use Rattle.gr_check.specs.Preserved.{Preserves}
 use Rattle.gr_rename.specs.Plan.{IsRenaming, IsRenamed}

@@ -6,14 +6,14 @@ use Rattle.gr_space.specs.declared.change.Change.{Change}
 use Rattle.gr_revision.specs.RevisionsOfEdits.{revision_of}
 use Rattle.gr_check.specs.Preserved.{Preserves}
 use Rattle.gr_move.specs.Plan.{PlansMove, IsMoving}
-use Rattle.gr_book.specs.declared.event.Event.{Event}
-use Rattle.gr_book.specs.declared.event.Event.TheVariants.{Commit, Undo}
-use Rattle.gr_book.specs.declared.event.Reply.{Reply}
-use Rattle.gr_book.specs.declared.event.Reply.TheVariants.{Done}
-use Rattle.gr_book.specs.State.{State}
-use Rattle.gr_book.specs.Machine.{Machine}
-use Rattle.gr_book.specs.Step.{Step}
-use Rattle.gr_book.specs.Run.{Run, IsQuiet, Restores}
+use Rattle.gr_machine.specs.declared.event.Event.{Event}
+use Rattle.gr_machine.specs.declared.event.Event.TheVariants.{Commit, Undo}
+use Rattle.gr_machine.specs.declared.event.Reply.{Reply}
+use Rattle.gr_machine.specs.declared.event.Reply.TheVariants.{Done}
+use Rattle.gr_machine.specs.State.{State}
+use Rattle.gr_machine.specs.Machine.{Machine}
+use Rattle.gr_machine.specs.Step.{Step}
+use Rattle.gr_machine.specs.Run.{Run, IsQuiet, Restores}
 
 -- the state behind has the files of edits that move the package of the state before, and bindings are preserved
 pub record HasMovedExactly (from to : List ℕ) (change : Change) (before after : State) : Type 0 where

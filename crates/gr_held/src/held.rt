@@ -1,8 +1,9 @@
 //! A desk at a seat.
-use gr_book::Question;
+use gr_content::Question;
 use gr_desk::Desk;
 use gr_graph::Graph;
-use gr_pool::{Opening, Seat, Shared};
+use gr_pool::Shared;
+use gr_seats::{Opening, Seat};
 use gr_text::Refusal;
 use gr_verdict::Known;
 use std::sync::Wait;

@@ -3,12 +3,12 @@ ghost use Rattle.std.specs.Prelude.{◌<◌, IfOk, length};
 ghost use Rattle.gr_text.specs.Packages.{package_paths};
 ghost use Rattle.gr_graph.specs.Graphs.{OfPackage};
 ghost use Rattle.gr_keep.specs.Carried.{IsCarried, TellsKept};
-ghost use Rattle.gr_keep.specs.Changes.{AreMarks, KeepsUnit};
+ghost use Rattle.gr_finished.specs.Changes.{AreMarks, KeepsUnit};
 
 use crate::changes::Marks;
-use crate::finished::Finished;
 use gr_chunks::SharedList;
 use gr_compile::Unit;
+use gr_finished::Finished;
 use gr_graph::Graph;
 use gr_verdict::is_marked;
 use std::alloc::{AllocError, Global};

@@ -8,6 +8,14 @@ pub all_append : {X : Type 0} (P : X → Type 0) (xs ys : List X) → AllByRecur
 all_append P [] ys a b = b
 all_append P (x ∷ xs) ys a b = (a.0, all_append P xs ys a.1 b)
 
+pub all_left : {X : Type 0} (P : X → Type 0) (xs ys : List X) → AllByRecursion P (xs ++ ys) → AllByRecursion P xs
+all_left P [] ys a = tt
+all_left P (x ∷ xs) ys a = (a.0, all_left P xs ys a.1)
+
+pub all_right : {X : Type 0} (P : X → Type 0) (xs ys : List X) → AllByRecursion P (xs ++ ys) → AllByRecursion P ys
+all_right P [] ys a = a
+all_right P (x ∷ xs) ys a = all_right P xs ys a.1
+
 pub all_got : {X : Type 0} (P : X → Type 0) (xs : List X) (k : ℕ) (x : X) → AllByRecursion P xs → slice_get xs k ≡ Some x → P x
 all_got P [] k x a e = absurd (none-some x e)
 all_got P (y ∷ ys) zero x a e = subst P (same_Some y x e) a.0

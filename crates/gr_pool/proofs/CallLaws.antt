@@ -6,17 +6,17 @@ use Rattle.std.proofs.lemmas.List.Elements.{All-cons, All-nil}
 use Rattle.std.proofs.lemmas.Option.{none-some}
 use Rattle.gr_text.specs.declared.refusal.Refusal.{Refusal}
 use Rattle.gr_text.specs.declared.refusal.Refusal.TheVariants.{Memory, JournalFull}
-use Rattle.gr_book.specs.declared.entry.Entry.{Entry}
-use Rattle.gr_book.specs.declared.entry.Told.{Told}
-use Rattle.gr_book.specs.declared.event.Event.{Event}
-use Rattle.gr_book.specs.declared.event.Event.TheVariants.{Look}
-use Rattle.gr_book.specs.declared.event.Reply.{Reply}
-use Rattle.gr_book.specs.declared.event.Reply.TheVariants.{Looked, Refused}
-use Rattle.gr_book.specs.declared.view.View.{View}
-use Rattle.gr_book.specs.Journal.{kind_of, told_of}
-use Rattle.gr_book.specs.Machine.{Machine}
-use Rattle.gr_book.specs.Step.{Step, looked}
-use Rattle.gr_pool.specs.declared.receipt.Receipt.{Receipt}
+use Rattle.gr_machine.specs.declared.entry.Entry.{Entry}
+use Rattle.gr_machine.specs.declared.entry.Told.{Told}
+use Rattle.gr_machine.specs.declared.event.Event.{Event}
+use Rattle.gr_machine.specs.declared.event.Event.TheVariants.{Look}
+use Rattle.gr_machine.specs.declared.event.Reply.{Reply}
+use Rattle.gr_machine.specs.declared.event.Reply.TheVariants.{Looked, Refused}
+use Rattle.gr_machine.specs.declared.view.View.{View}
+use Rattle.gr_machine.specs.Journal.{kind_of, told_of}
+use Rattle.gr_machine.specs.Machine.{Machine}
+use Rattle.gr_machine.specs.Step.{Step, looked}
+use Rattle.gr_seats.specs.declared.receipt.Receipt.{Receipt}
 use Rattle.gr_pool.specs.Call.{Calls, Gains, IsLook, IsReceiptOf, IsStepOf, Looks, StepsAt}
 use Rattle.gr_pool.specs.Call.{Replies}
 use Rattle.gr_pool.proofs.GainsLaws.{gains_more}

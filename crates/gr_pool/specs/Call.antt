@@ -4,17 +4,17 @@ use Rattle.gr_text.specs.declared.refusal.Refusal.{Refusal}
 use Rattle.gr_text.specs.declared.refusal.Refusal.TheVariants.{Memory, JournalFull}
 use Rattle.gr_text.specs.Packages.{package_paths}
 use Rattle.gr_compile.specs.declared.unit.Unit.{Unit as PackageUnit}
-use Rattle.gr_keep.specs.Finished.{Table}
-use Rattle.gr_book.specs.declared.entry.EntryKind.TheVariants as kind
-use Rattle.gr_book.specs.declared.event.Event.{Event}
-use Rattle.gr_book.specs.declared.event.Event.TheVariants.{Look}
-use Rattle.gr_book.specs.declared.event.Reply.{Reply}
-use Rattle.gr_book.specs.declared.event.Reply.TheVariants.{Looked}
-use Rattle.gr_book.specs.declared.view.View.{View}
-use Rattle.gr_book.specs.Kept.{IsTurnedAway, StepKept}
-use Rattle.gr_book.specs.Machine.{Machine, content}
-use Rattle.gr_book.specs.Run.{IsReplay}
-use Rattle.gr_pool.specs.declared.receipt.Receipt.{Receipt}
+use Rattle.gr_finished.specs.Finished.{Table}
+use Rattle.gr_machine.specs.declared.entry.EntryKind.TheVariants as kind
+use Rattle.gr_machine.specs.declared.event.Event.{Event}
+use Rattle.gr_machine.specs.declared.event.Event.TheVariants.{Look}
+use Rattle.gr_machine.specs.declared.event.Reply.{Reply}
+use Rattle.gr_machine.specs.declared.event.Reply.TheVariants.{Looked}
+use Rattle.gr_machine.specs.declared.view.View.{View}
+use Rattle.gr_machine.specs.Kept.{IsTurnedAway, StepKept}
+use Rattle.gr_machine.specs.Machine.{Machine, content}
+use Rattle.gr_machine.specs.Run.{IsReplay}
+use Rattle.gr_seats.specs.declared.receipt.Receipt.{Receipt}
 
 -- the content is the replay of the journal
 abbrev pub IsReplayed : Machine → Type 0

@@ -1,6 +1,6 @@
 -- The book that a settling hands back.
 use Rattle.std.specs.Prelude.{Result, Ok, Err}
-use Rattle.gr_book.specs.Machine.{Machine}
+use Rattle.gr_machine.specs.Machine.{Machine}
 use Rattle.gr_pool.specs.declared.settle.Unsettled.{Unsettled}
 
 -- the book, settled or not

@@ -2,8 +2,8 @@
 ghost use Rattle.std.specs.Prelude.{◌↔◌, IsTrue};
 ghost use Rattle.gr_pool.specs.Call.{HasUnit, IsBuilt};
 
-use gr_book::View;
-use gr_keep::Finished;
+use gr_finished::Finished;
+use gr_machine::View;
 
 /// Whether the package of a number is finished.
 fn is_finished(table: &Finished, number: usize) -> bool

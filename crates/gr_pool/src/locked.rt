@@ -1,18 +1,18 @@
 //! What lies under the lock.
 ghost use Rattle.std.specs.Prelude.{◌≡◌, ◌+◌, ◌<◌, ◌≤◌, ◌↔◌, [], length, vec_len, is_some, IfSome, IsOk, if◌then◌else◌};
 ghost use Rattle.gr_verdict.specs.Found.{KnowsVerdicts};
-ghost use Rattle.gr_book.specs.Kept.{StepKept};
-ghost use Rattle.gr_book.specs.MayReply.{MayReply};
+ghost use Rattle.gr_machine.specs.Kept.{StepKept};
+ghost use Rattle.gr_machine.specs.MayReply.{MayReply};
 ghost use Rattle.gr_pool.specs.Call.{IsReplayed, IsStepOf, StepsAt};
 ghost use Rattle.gr_pool.specs.Outcome.{book_in};
-ghost use Rattle.gr_pool.specs.Settled.{IsSettled, receipt_count};
+ghost use Rattle.gr_seats.specs.Settled.{IsSettled, receipt_count};
 
-use crate::opening::Opening;
-use crate::receipt::Receipt;
-use crate::seat::Seat;
-use crate::settle::{Unsettled, is_settled, merged};
-use gr_book::{Book, Entry, EntryKind, Line, Question, Told};
+use crate::settle::{Unsettled, is_settled};
+use gr_book::Book;
+use gr_content::Question;
 use gr_graph::Graph;
+use gr_machine::{Entry, EntryKind, Line, Told};
+use gr_seats::{Opening, Receipt, Seat, merged};
 use gr_verdict::Known;
 use std::alloc::Global;
 use std::sync::ledger::{self, Share};

@@ -1,20 +1,20 @@
 //! A book that threads share.
 ghost use Rattle.std.specs.Prelude.{◌≡◌, ◌+◌, ◌<◌, ◌≤◌, ◌↔◌, [], if◌then◌else◌, length, vec_len, is_some, IfSome, IsOk};
 ghost use Rattle.gr_verdict.specs.Found.{KnowsVerdicts};
-ghost use Rattle.gr_book.specs.MayReply.{MayReply};
+ghost use Rattle.gr_machine.specs.MayReply.{MayReply};
 ghost use Rattle.gr_pool.specs.Call.{Calls, IsReplayed, IsStepOf, Looks, LooksUntilBuilt};
 ghost use Rattle.gr_pool.specs.Call.{Replies};
-ghost use Rattle.gr_pool.specs.Settled.{IsSettled, receipt_count};
+ghost use Rattle.gr_seats.specs.Settled.{IsSettled, receipt_count};
 ghost use Rattle.gr_pool.specs.Outcome.{book_in};
 
 use crate::built::is_built;
 use crate::locked::{Locked, is_done};
-use crate::opening::Opening;
-use crate::receipt::Receipt;
-use crate::seat::{Seat, jobs_after, reserve};
 use crate::settle::Unsettled;
-use gr_book::{Book, Line, Looking, Question, View};
+use gr_book::{Book, Looking};
+use gr_content::Question;
 use gr_graph::Graph;
+use gr_machine::{Line, View};
+use gr_seats::{Opening, Receipt, Seat, jobs_after, reserve};
 use gr_text::Refusal;
 use gr_verdict::Known;
 use std::alloc::Global;

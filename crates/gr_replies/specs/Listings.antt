@@ -6,10 +6,10 @@ use Rattle.gr_text.specs.PlaceText.{place_text, fault_line}
 use Rattle.gr_text.specs.Workspace.{Workspace}
 use Rattle.gr_text.specs.declared.place.Place.{Place}
 use Rattle.gr_verdict.specs.declared.fault.FileFault.{FileFault}
-use Rattle.gr_book.specs.Kinds.{kind_name, refusal_of}
-use Rattle.gr_book.specs.declared.entry.Line.{Line}
-use Rattle.gr_book.specs.declared.entry.Told.{Told}
-use Rattle.gr_book.specs.declared.entry.Told.TheVariants.{Done, Refused}
+use Rattle.gr_machine.specs.Kinds.{kind_name, refusal_of}
+use Rattle.gr_machine.specs.declared.entry.Line.{Line}
+use Rattle.gr_machine.specs.declared.entry.Told.{Told}
+use Rattle.gr_machine.specs.declared.entry.Told.TheVariants.{Done, Refused}
 use Rattle.gr_replies.specs.Refusals.{code_of}
 
 -- a path, a space, the size of its text in bytes, and a newline

@@ -4,7 +4,7 @@ ghost use Rattle.gr_replies.specs.Listings.{entry_line, entry_text, told_number,
 
 use crate::refusal::{LONGEST_BODY, refusal_code};
 use arrayvec::ArrayString;
-use gr_book::{Line, Told};
+use gr_machine::{Line, Told};
 use itoa::Buffer;
 
 fn told_word(out: Told) -> &'static str

@@ -1,9 +1,9 @@
 -- A state that is current again has the files that it had, so the same is bound to the same.
 use Rattle.std.proofs.Common.{◌≡◌, ap, sym, subst}
 use Rattle.gr_text.specs.Workspace.{Workspace}
-use Rattle.gr_book.proofs.RunLaws.{undo_restores, redo_restores}
-use Rattle.gr_book.specs.State.{State}
-use Rattle.gr_book.specs.declared.event.Reply.TheVariants.{Done}
+use Rattle.gr_machine.proofs.RunLaws.{undo_restores, redo_restores}
+use Rattle.gr_machine.specs.State.{State}
+use Rattle.gr_machine.specs.declared.event.Reply.TheVariants.{Done}
 use Rattle.gr_standing.proofs.Alike.{use_for}
 use Rattle.gr_restored.specs.Restored.{AreBoundAlike, UndoRestoresBindings, RedoRestoresBindings}
 

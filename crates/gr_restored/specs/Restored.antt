@@ -6,13 +6,13 @@ use Rattle.gr_verdict.specs.Verdicts.{Verdicts, AreVerdicts}
 use Rattle.gr_bound.specs.declared.declaration.Declaration.{Declaration}
 use Rattle.gr_bound.specs.Uses.{IsUseOf}
 use Rattle.gr_space.specs.declared.change.Change.{Change}
-use Rattle.gr_book.specs.declared.event.Event.{Event}
-use Rattle.gr_book.specs.declared.event.Event.TheVariants.{Commit, Undo, Redo}
-use Rattle.gr_book.specs.declared.event.Reply.{Reply}
-use Rattle.gr_book.specs.declared.event.Reply.TheVariants.{Done}
-use Rattle.gr_book.specs.Machine.{Machine}
-use Rattle.gr_book.specs.Run.{Run, IsQuiet}
-use Rattle.gr_book.specs.Step.{Step}
+use Rattle.gr_machine.specs.declared.event.Event.{Event}
+use Rattle.gr_machine.specs.declared.event.Event.TheVariants.{Commit, Undo, Redo}
+use Rattle.gr_machine.specs.declared.event.Reply.{Reply}
+use Rattle.gr_machine.specs.declared.event.Reply.TheVariants.{Done}
+use Rattle.gr_machine.specs.Machine.{Machine}
+use Rattle.gr_machine.specs.Run.{Run, IsQuiet}
+use Rattle.gr_machine.specs.Step.{Step}
 
 -- in both workspaces identifiers begin at the same places, and are bound to the same declarations
 abbrev pub AreBoundAlike : Workspace → Workspace → Type 0

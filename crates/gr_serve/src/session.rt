@@ -2,7 +2,8 @@
 ghost use Rattle.gr_serve.specs.Session.{ConversesAtSeat};
 
 use gr_held::Held;
-use gr_pool::{Opening, Seat, Shared};
+use gr_pool::Shared;
+use gr_seats::{Opening, Seat};
 use gr_text::Limits;
 use gr_wire::{SessionFault, converse};
 use std::alloc::Global;

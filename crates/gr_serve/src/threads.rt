@@ -1,7 +1,8 @@
 //! The threads of a server.
 use crate::session::{Connection, session_at_seat};
 use crate::turns::Turns;
-use gr_pool::{Opening, Seat, Shared};
+use gr_pool::Shared;
+use gr_seats::{Opening, Seat};
 use gr_text::Limits;
 use gr_wire::SessionFault;
 use gr_workers::{Gate, worker};

@@ -25,6 +25,7 @@ use Rattle.gr_scope.specs.Table.{StandsAt}
 use Rattle.gr_scope.specs.WellFormed.{WellFormed}
 use Rattle.gr_imports.specs.Files.{ranked}
 use Rattle.gr_order.proofs.Ordered.{one_stands}
+use Rattle.gr_order.proofs.Elements.{all_right}
 use Rattle.gr_expr.specs.Types.{Signature, Meaning, Value, TypeName, Function, BuiltinName, Results, Broken}
 use Rattle.gr_expr.specs.Types.{Package as PackageName}
 use Rattle.gr_expr.specs.World.{Bound, Means}
@@ -52,7 +53,7 @@ use Rattle.gr_bound.specs.Uses.{IsPackage}
 use Rattle.gr_known.specs.Open.{HasArity}
 use Rattle.gr_decided.proofs.Numbers.{IsTold, IsKept, universal, plain, laid}
 use Rattle.gr_all_bound.proofs.Fine.{seen_interface}
-use Rattle.gr_all_bound.proofs.Lists.{all_right, all_flat}
+use Rattle.gr_all_bound.proofs.Lists.{all_flat}
 use Rattle.gr_all_bound.proofs.Scoped.{in_order}
 use Rattle.gr_all_bound.proofs.Types.{Stands, Kept, all_kept, none_by_scope}
 use Rattle.gr_all_bound.proofs.Whole.{function_in_decl}

@@ -24,6 +24,7 @@ use Rattle.gr_scope.specs.Site.{Site, Source, site}
 use Rattle.gr_scope.specs.Table.{StandsAt}
 use Rattle.gr_imports.specs.Files.{ranked, group_items}
 use Rattle.gr_order.proofs.Ordered.{one_stands}
+use Rattle.gr_order.proofs.Elements.{all_left, all_right}
 use Rattle.gr_declared.specs.Definitions.{IsMethodOf}
 use Rattle.gr_declared.specs.Package.{Package, PlacedType, PlacedFunction, placed_type, decl_types, types_in, package_types, package_functions}
 use Rattle.gr_declared.specs.Package.{type_place, function_place, spelled}
@@ -36,7 +37,7 @@ use Rattle.gr_verdict.proofs.OnePackage.{files_in_order}
 use Rattle.gr_bound.specs.Uses.{IsPackage}
 use Rattle.gr_unique.proofs.Faultless.{no_fault_later}
 use Rattle.gr_unique.proofs.MembersApart.{one_function}
-use Rattle.gr_all_bound.proofs.Lists.{all_left, all_right, all_flat}
+use Rattle.gr_all_bound.proofs.Lists.{all_flat}
 use Rattle.gr_all_bound.proofs.Scoped.{in_order}
 use Rattle.gr_all_bound.proofs.Types.{Kept, all_kept}
 use Rattle.gr_all_bound.proofs.Whole.{method_of}

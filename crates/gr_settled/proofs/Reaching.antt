@@ -25,10 +25,9 @@ use Rattle.gr_scope.proofs.StatementRegions.{statements_fits}
 use Rattle.gr_scope.proofs.Rising.{Rises, rises_le, rises_up, rises_split}
 use Rattle.gr_order.proofs.Covers.{Covers, ends, skips, takes, selects, keys}
 use Rattle.gr_order.proofs.CoveredFiles.{decls_named}
-use Rattle.gr_order.proofs.Elements.{all_append}
+use Rattle.gr_order.proofs.Elements.{all_append, all_left}
 use Rattle.gr_meanings.proofs.DeclKinds.{Holds}
 use Rattle.gr_unique.proofs.Apart.{all_as}
-use Rattle.gr_decided.proofs.Told.{first_part}
 use Rattle.gr_all_bound.specs.Scopes.{may_be_local}
 use Rattle.gr_all_bound.proofs.Known.{local_may}
 use Rattle.gr_all_bound.proofs.Typed.{type_abroad, result_abroad, func_abroad, group_abroad, global_abroad, spec_abroad, imports_abroad}
@@ -69,7 +68,7 @@ rises_end n (t ∷ ts) m h = (h.0, rises_end (suc t.place) ts m h.1)
 
 decl_lies : (s : Source) (n m : ℕ) (d : DeclTree) → Rises n (decl_tokens d) m → AllByRecursion (Lies n m) (decl_sites s d)
 unfolding all_tokens
-decl_lies s n m d h = first_part (Lies n m) (decl_sites s d) [] (covers_lie (decls_named s (d ∷ [])) n m (rises_end n (decl_tokens d) m h))
+decl_lies s n m d h = all_left (Lies n m) (decl_sites s d) [] (covers_lie (decls_named s (d ∷ [])) n m (rises_end n (decl_tokens d) m h))
 
 -- The scope of a local begins at n or later, and its block ends before m.
 abbrev pub IsWithin : ℕ → ℕ → Site → Type 0

@@ -25,13 +25,13 @@ use Rattle.gr_verdict.proofs.OneVerdict.{right_alike, right_below}
 
 -- one finding more
 
-gathered_or_here : (fs : List (Option Finding)) (n m : ℕ) (f : Finding) → IsGathered (set fs n (Some f)) m → IsGathered fs m ⊎ (n ≡ m)
+pub gathered_or_here : (fs : List (Option Finding)) (n m : ℕ) (f : Finding) → IsGathered (set fs n (Some f)) m → IsGathered fs m ⊎ (n ≡ m)
 gathered_or_here fs n m f g = elim (cases_eq m n) [
   | inl e ↦ inr (sym e)
   | inr ne ↦ inl (g.0, sym (get_set_other fs n m (Some f) ne) ∙ g.1)
 ]
 
-gathered_stays : (fs : List (Option Finding)) (n m : ℕ) (f : Finding) → n < length fs → IsGathered fs m → IsGathered (set fs n (Some f)) m
+pub gathered_stays : (fs : List (Option Finding)) (n m : ℕ) (f : Finding) → n < length fs → IsGathered fs m → IsGathered (set fs n (Some f)) m
 gathered_stays fs n m f within g = elim (cases_eq m n) [
   | inl e ↦ subst (IsGathered (set fs n (Some f))) (sym e) (f, get_set_same fs n (Some f) within)
   | inr ne ↦ (g.0, get_set_other fs n m (Some f) ne ∙ g.1)

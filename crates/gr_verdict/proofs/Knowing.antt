@@ -1,10 +1,11 @@
 -- What is known of packages, one package further.
 use Rattle.std.proofs.Common.{ℕ, ◌≡◌, ◌⊎◌, inl, inr, Bool, List, sym, ap, subst, ◌∙◌}
-use Rattle.std.specs.Prelude.{Some, None, slice_get}
+use Rattle.std.specs.Prelude.{Contains, Some, None, slice_get}
 use Rattle.std.proofs.Math.Path.{ap₂}
 use Rattle.std.proofs.lemmas.Option.{same_Some}
 use Rattle.gr_text.specs.Workspace.{Workspace}
 use Rattle.gr_text.specs.Packages.{package_paths}
+use Rattle.gr_graph.proofs.Asked.{at_contains}
 use Rattle.gr_graph.proofs.PackagePaths.{paths_sorted, one_number}
 use Rattle.gr_imports.specs.States.{state_in}
 use Rattle.gr_declared.specs.Package.{Interface}
@@ -49,6 +50,7 @@ pub known_as : (w : Workspace) (Is So : ℕ → Type 0) (all : Interfaces) → (
 known_as w Is So all there back h = record {
   right = λ m r c at. h.right m r (there m c) at;
   fresh = λ m r none at. h.fresh m r (λ c. none (back m c)) at;
+  outside = h.outside;
   whole = h.whole;
 }
 
@@ -69,9 +71,12 @@ module _ (w : Workspace) (Is So : ℕ → Type 0) (n : ℕ) (p : List ℕ) (at :
         let other : r ≡ p → ⊥ = λ e. none (subst So (sym (one_number (package_paths w) (paths_sorted w) m n p (at_m ∙ ap Some e) at)) here) in
         (elsewhere r other).name ∙ h.fresh m r (λ c. none (keeps m c)) at_m
 
+    outside_next : (q : List ℕ) → (Contains (package_paths w) q → ⊥) → name_in more q ≡ None
+    outside_next q none = (elsewhere q (λ e. none (subst (Contains (package_paths w)) (sym e) (at_contains w n p at)))).name ∙ h.outside q none
+
     -- one of which the verdict is known now
     pub known_next : AreWhole more → IsVerdict w p (known_by more p) → AreKnown w So more
-    known_next whole own = record { right = right_next own; fresh = fresh_next; whole = whole }
+    known_next whole own = record { right = right_next own; fresh = fresh_next; outside = outside_next; whole = whole }
 
   -- one that was judged by what was known of all that it builds on
   pub learnt_next : (f : Finding) → ((q : List ℕ) → BuildsOn w p q → (k : ℕ) × (Is k × (slice_get (package_paths w) k ≡ Some q))) → Learns w p f all more →

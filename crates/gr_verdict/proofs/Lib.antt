@@ -19,15 +19,16 @@ pub mod PackageFiles
 pub mod Importing
 pub mod Sizes
 pub mod Sharing
+pub mod Just
 pub mod Noting
 pub mod Placed
 pub mod Unread
 pub mod Judged
 pub mod Knowing
 pub mod Adding
-pub mod Taking
 pub mod Telling
 pub mod Gathering
+pub mod Taking
 pub mod SameImports
 pub mod Keeping
 pub mod Passing

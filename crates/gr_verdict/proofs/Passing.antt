@@ -12,9 +12,13 @@ use Rattle.gr_graph.specs.Search.{IsMarked}
 use Rattle.gr_graph.proofs.Asked.{number}
 use Rattle.gr_graph.proofs.PackagePaths.{paths_sorted, one_number}
 use Rattle.gr_verdict.specs.declared.steady.Steady.{Steady}
-use Rattle.gr_verdict.specs.Steady.{Stirs, IsPassed, Passes, ArePassed, ArePassedBelow}
+use Rattle.gr_verdict.specs.Steady.{Stirs, IsPassed, Passes, ArePassedBelow}
 use Rattle.gr_verdict.specs.Verdicts.{BuildsOn}
 use Rattle.gr_verdict.proofs.Closed.{from_package}
+
+-- those of some packages were passed
+abbrev pub ArePassed : List ℕ → Steady → Type 0
+ArePassed numbers s = (n : ℕ) → Contains numbers n → IsPassed s n
 
 -- what reaches a stirred package is stirred
 stirred_above : (w : Workspace) (marks : List Bool) → AreMarkedAbove w marks → (p q : List ℕ) → IsInClosure w p q → (i j : ℕ) →

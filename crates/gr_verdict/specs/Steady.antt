@@ -1,5 +1,5 @@
 -- What is marked while packages are passed, each behind those that it builds on.
-use Rattle.std.specs.Prelude.{ℕ, ◌≡◌, ◌⊎◌, List, Some, length, slice_get, Contains}
+use Rattle.std.specs.Prelude.{ℕ, ◌≡◌, ◌⊎◌, List, Some, length, slice_get}
 use Rattle.gr_text.specs.Workspace.{Workspace}
 use Rattle.gr_text.specs.Packages.{package_paths}
 use Rattle.gr_graph.specs.Reaching.{AreMarkedAbove}
@@ -21,10 +21,6 @@ IsPassed s n = IsMarked s.marks.items n ⊎ IsMarked s.stirred.items n
 pub record Passes (w : Workspace) (number : ℕ) (old new : Steady) : Type 0 where
   pub here : IsPassed new number
   pub kept : (n : ℕ) → IsPassed old n → IsPassed new n
-
--- those of some packages were passed
-abbrev pub ArePassed : List ℕ → Steady → Type 0
-ArePassed numbers s = (n : ℕ) → Contains numbers n → IsPassed s n
 
 -- what p builds on was passed; what of it is stirred stirs p
 abbrev pub ArePassedBelow : Workspace → List ℕ → ℕ → Steady → Type 0

@@ -57,6 +57,10 @@ pub record KnowsSameOfOthers (old new : Interfaces) : Type 0 where
   pub names : (q : List ℕ) → name_in new q ≡ name_in old q
   pub interfaces : (q : List ℕ) → interface_in new q ≡ interface_in old q
 
+-- what is known where these interfaces are is just what p sees of others
+abbrev pub IsSeenIn : Workspace → List ℕ → Interfaces → Type 0
+IsSeenIn w p all = AreSeen w (known_by all) p (name_in all) (interface_in all)
+
 -- Faults with their places
 
 -- the faults of files that have no tree
@@ -103,10 +107,11 @@ abbrev pub MayAdd : (old new : Interfaces) (path : List ℕ) → Option Interfac
 MayAdd old new path None = new ≡ old
 MayAdd old new path (Some i) = AddsInterface old new path i
 
--- Of the packages of these numbers the verdicts are known, and of any other package nothing is.
+-- Of the packages of these numbers the verdicts are known, and of any other package, and of a path that is none, nothing is.
 pub record AreKnown (w : Workspace) (Is : ℕ → Type 0) (all : Interfaces) : Type 0 where
   pub right : (n : ℕ) (p : List ℕ) → Is n → slice_get (package_paths w) n ≡ Some p → IsVerdict w p (known_by all p)
   pub fresh : (n : ℕ) (p : List ℕ) → (Is n → ⊥) → slice_get (package_paths w) n ≡ Some p → name_in all p ≡ None
+  pub outside : (q : List ℕ) → (Contains (package_paths w) q → ⊥) → name_in all q ≡ None
   pub whole : AreWhole all
 
 -- the package p was judged by what was known, and this was found in it

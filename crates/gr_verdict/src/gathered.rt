@@ -1,5 +1,6 @@
 //! What is found in some packages, in one, by which others are judged.
-ghost use Rattle.std.specs.Prelude.{◌≡◌, ◌+◌, ◌<◌, ◌++◌, [], ◌∷◌, ◌↔◌, ℕ, List, length, IfOk, IsTrue, MatchOption, None, OnOk, Some, slice_get};
+ghost use Rattle.std.specs.Prelude.{◌≡◌, ◌<◌, ◌↔◌, ℕ, List, length, Contains, IfOk, IsTrue, MatchOption, None, OnOk, Some, slice_get};
+ghost use Rattle.std.specs.List.Sorted.{IsStrictlyIncreasing};
 ghost use Rattle.std.proofs.Math.ListN.{set};
 ghost use Rattle.gr_text.specs.Packages.{package_paths};
 ghost use Rattle.gr_graph.specs.Graphs.{OfPackage};
@@ -11,6 +12,7 @@ ghost use Rattle.gr_verdict.specs.Steps.{AreGathered, IsGathered};
 
 use crate::finding::SharedFinding;
 use crate::known::{Known, KnownVerdict};
+use crate::reaching::is_among;
 use gr_declared::Interfaces;
 use gr_graph::Graph;
 use std::alloc::{AllocError, Global};
@@ -23,17 +25,31 @@ pub(crate) struct Gathered {
     pub(crate) interfaces: Interfaces,
 }
 
+/// No finding, for so many packages.
+fn no_findings(alloc: Global, count: usize) -> Result<Vec<Option<SharedFinding>>, AllocError>
+    ensures size { IfOk result (λ findings. length findings.items ≡ count) }
+    ensures none { IfOk result (λ findings. (n : ℕ) → IsGathered findings.items n → ⊥) }
+{
+    let mut findings = Vec::new(alloc);
+    for _number in 0..count {
+        findings.push(None)?;
+    }
+    Ok(findings)
+}
+
 impl Gathered {
-    /// Nothing.
-    fn new(alloc: Global) -> Gathered
-        ensures findings { result.findings.items ≡ [] }
-        ensures names { (path : List ℕ) → name_in result.interfaces path ≡ None }
-        ensures interfaces { (path : List ℕ) → interface_in result.interfaces path ≡ no_interface path }
+    /// Nothing, for so many packages.
+    fn new(alloc: Global, count: usize) -> Result<Gathered, AllocError>
+        ensures size { IfOk result (λ all. length all.findings.items ≡ count) }
+        ensures none { IfOk result (λ all. (n : ℕ) → IsGathered all.findings.items n → ⊥) }
+        ensures names { IfOk result (λ all. (path : List ℕ) → name_in all.interfaces path ≡ None) }
+        ensures interfaces { IfOk result (λ all. (path : List ℕ) → interface_in all.interfaces path ≡ no_interface path) }
     {
-        Gathered {
-            findings: Vec::new(alloc),
+        let findings = no_findings(alloc, count)?;
+        Ok(Gathered {
+            findings,
             interfaces: Interfaces::new(alloc),
-        }
+        })
     }
 
     /// What is found in the package of a number, if it is known.
@@ -56,20 +72,29 @@ impl Gathered {
         }
     }
 
-    /// Adds the next package, of which this is known.
-    fn push_known(
-        &mut self,
-        alloc: Global,
-        path: &[u8],
-        verdict: &KnownVerdict,
-    ) -> Result<(), AllocError>
-        ensures findings { OnOk result (self.new.findings.items ≡ self.old.findings.items ++ Some verdict.now.finding ∷ []) }
-        ensures interfaces { OnOk result (Shares verdict.now.interfaces self.old.interfaces self.new.interfaces path.now) }
+    /// Whether a package is among some, if it is known what is found in it.
+    fn knows_among(&self, numbers: &[usize], number: usize) -> bool
+        requires { IsStrictlyIncreasing numbers.now }
+        ensures { IsTrue result → IsGathered self.now.findings.items number → Contains numbers.now number }
     {
-        let finding = verdict.finding.clone()?;
-        self.interfaces.share(alloc, verdict.interfaces(), path)?;
-        self.findings.push(Some(finding))?;
-        Ok(())
+        if self.knows(number) {
+            is_among(numbers, number)
+        } else {
+            true
+        }
+    }
+
+    /// Whether it is known of these packages alone what is found in them.
+    pub(crate) fn knows_just(&self, numbers: &[usize]) -> bool
+        requires { IsStrictlyIncreasing numbers.now }
+        ensures { IsTrue result → (n : ℕ) → IsGathered self.now.findings.items n → Contains numbers.now n }
+    {
+        for number in 0..self.findings.len() {
+            if !self.knows_among(numbers, number) {
+                return false;
+            }
+        }
+        true
     }
 
     /// Takes what was known of a package, of which nothing is known yet.
@@ -89,46 +114,41 @@ impl Gathered {
         self.findings[number] = Some(finding);
         Ok(())
     }
-
-    /// Adds the next package, of which nothing is known.
-    fn push_unknown(&mut self) -> Result<(), AllocError>
-        ensures findings { OnOk result (self.new.findings.items ≡ self.old.findings.items ++ None ∷ []) }
-        ensures interfaces { OnOk result (self.new.interfaces ≡ self.old.interfaces) }
-    {
-        self.findings.push(None)?;
-        Ok(())
-    }
 }
 
-/// Adds the next package, with what is known of it.
-fn push_next(
+/// Takes what is known of a package, of which nothing was taken yet.
+fn take_known(
     alloc: Global,
     graph: &Graph,
     number: usize,
     known: &Known,
-    gathered: &mut Gathered,
+    all: &mut Gathered,
 ) -> Result<(), AllocError>
     requires number { number < length (package_paths graph.now) }
     requires known { KnowsVerdicts graph.now known.now }
-    requires gathered { AreGathered graph.now number gathered.old }
-    ensures { OnOk result (AreGathered graph.now (number + 1) gathered.new) }
+    requires all { AreGathered graph.now (length (package_paths graph.now)) all.old }
+    requires unknown { IsGathered all.old.findings.items number → ⊥ }
+    ensures right { OnOk result (AreGathered graph.now (length (package_paths graph.now)) all.new) }
+    ensures others { OnOk result ((n : ℕ) → (n ≡ number → ⊥) → IsGathered all.new.findings.items n → IsGathered all.old.findings.items n) }
 {
     let Some(verdict) = known.get(number) else {
-        gathered.push_unknown()?;
         return Ok(());
     };
-    gathered.push_known(alloc, &graph.package(number).path, verdict)?;
+    all.keep(alloc, number, &graph.package(number).path, verdict)?;
     Ok(())
 }
 
-/// What is known of all packages.
+/// What is known of all packages. The last one is taken first: a table by path is searched from its front, where the paths of packages
+/// begin that stand before those in it.
 pub(crate) fn gather(alloc: Global, graph: &Graph, known: &Known) -> Result<Gathered, AllocError>
     requires { KnowsVerdicts graph.now known.now }
     ensures { IfOk result (λ all. AreGathered graph.now (length (package_paths graph.now)) all) }
 {
-    let mut all = Gathered::new(alloc);
-    for number in 0..graph.len() {
-        push_next(alloc, graph, number, known, &mut all)?;
+    let mut all = Gathered::new(alloc, graph.len())?;
+    let mut left = graph.len();
+    while left > 0 {
+        left -= 1;
+        take_known(alloc, graph, left, known, &mut all)?;
     }
     Ok(all)
 }

@@ -28,4 +28,4 @@ pub use known::{Known, KnownVerdict};
 pub use marks::is_marked;
 pub use progress::Progress;
 pub use reaching::is_among;
-pub use seeing::{seen, seen_imports};
+pub use seeing::{import_states, seen, seen_imports};

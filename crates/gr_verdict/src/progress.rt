@@ -3,7 +3,7 @@ ghost use Rattle.std.specs.Prelude.{◌≡◌, ◌<◌, ◌↔◌, length, IfOk,
 ghost use Rattle.gr_text.specs.Packages.{package_paths};
 ghost use Rattle.gr_graph.specs.Graphs.{OfPackage};
 ghost use Rattle.gr_verdict.specs.Found.{IsFound, KnowsVerdicts};
-ghost use Rattle.gr_verdict.specs.Steps.{AreGathered, AreKnownBelow, IsBuildOrder, IsCheckedIn, IsGathered, IsUnderway, LearnsOf};
+ghost use Rattle.gr_verdict.specs.Steps.{AreGathered, AreKnownBelow, IsBuildOrder, IsCheckedIn, IsGathered, IsSeenIn, IsUnderway, LearnsOf};
 ghost use Rattle.gr_verdict.specs.Told.{known_by};
 
 use crate::finding::SharedFinding;
@@ -103,6 +103,21 @@ impl Progress {
         ensures { result.now ≡ self.now.all.interfaces }
     {
         &self.all.interfaces
+    }
+
+    /// Whether what is known is just what a package sees of others: nothing is known of packages on which it does not build.
+    pub fn tells_just(
+        &self,
+        alloc: Global,
+        graph: &Graph,
+        number: usize,
+    ) -> Result<bool, AllocError>
+        requires in_range { number < length (package_paths graph.now) }
+        requires right { IsUnderway graph.now self.now }
+        ensures { IfOk result (λ just. IsTrue just → OfPackage graph.now number (λ p. IsSeenIn graph.now p self.now.all.interfaces)) }
+    {
+        let below = graph.built_on(alloc, number)?;
+        Ok(self.all.knows_just(below.as_slice()))
     }
 
     /// Takes in what checking found in a package, of which nothing is known yet.

@@ -81,6 +81,21 @@ fn note_imports(
     Ok(())
 }
 
+/// What each path is that a package imports, as interfaces that note just that.
+pub fn import_states(
+    alloc: Global,
+    graph: &Graph,
+    number: usize,
+    all: &Interfaces,
+) -> Result<Interfaces, AllocError>
+    requires { number < length (package_paths graph.now) }
+    ensures { IfOk result (λ noted. OfPackage graph.now number (λ p. AreStates graph.now (known_by all.now) p (state_in noted.states))) }
+{
+    let mut noted = Interfaces::new(alloc);
+    note_imports(alloc, &mut noted, graph, number, all)?;
+    Ok(noted)
+}
+
 /// What a package sees of others: the names and the interfaces of those without faults that it builds on, and what each path is that
 /// it imports.
 pub fn seen_imports(

@@ -4,16 +4,16 @@ use Rattle.gr_text.specs.declared.refusal.Refusal.{Refusal}
 use Rattle.gr_text.specs.declared.limits.Limits.{Limits}
 use Rattle.gr_compile.specs.declared.built.Built.{Built}
 use Rattle.gr_compile.specs.declared.job.JobRecord.{JobRecord}
-use Rattle.gr_book.specs.declared.view.View.{View}
+use Rattle.gr_machine.specs.declared.view.View.{View}
 use Rattle.gr_space.specs.declared.change.Change.{Change}
-use Rattle.gr_book.specs.declared.event.Event.{Event}
-use Rattle.gr_book.specs.declared.event.Event.TheVariants as event
-use Rattle.gr_book.specs.declared.event.Reply.{Reply}
-use Rattle.gr_book.specs.declared.event.Reply.TheVariants.{Looked, Logged, Done, Taken, Refused, Back}
-use Rattle.gr_book.specs.Machine.{Machine}
-use Rattle.gr_book.specs.Step.{Step}
-use Rattle.gr_book.specs.Run.{Run}
-use Rattle.gr_book.proofs.Legal.{Run-append}
+use Rattle.gr_machine.specs.declared.event.Event.{Event}
+use Rattle.gr_machine.specs.declared.event.Event.TheVariants as event
+use Rattle.gr_machine.specs.declared.event.Reply.{Reply}
+use Rattle.gr_machine.specs.declared.event.Reply.TheVariants.{Looked, Logged, Done, Taken, Refused, Back}
+use Rattle.gr_machine.specs.Machine.{Machine}
+use Rattle.gr_machine.specs.Step.{Step}
+use Rattle.gr_machine.specs.Run.{Run}
+use Rattle.gr_machine.proofs.Legal.{Run-append}
 use Rattle.gr_desk.specs.Wait.{RefusesWait}
 use Rattle.gr_line.specs.declared.command.Command.{Command}
 use Rattle.gr_line.specs.declared.command.Command.TheVariants as command

@@ -1,10 +1,10 @@
 -- A session over a reader and a writer, and one over a book of its own.
 use Rattle.std.specs.Prelude.{ℕ, List, Option, Result}
 use Rattle.gr_text.specs.declared.limits.Limits.{Limits}
-use Rattle.gr_book.specs.declared.event.Event.{Event}
-use Rattle.gr_book.specs.declared.event.Reply.{Reply}
-use Rattle.gr_book.specs.Machine.{Machine, opening}
-use Rattle.gr_book.specs.Step.{Step}
+use Rattle.gr_machine.specs.declared.event.Event.{Event}
+use Rattle.gr_machine.specs.declared.event.Reply.{Reply}
+use Rattle.gr_machine.specs.Machine.{Machine, opening}
+use Rattle.gr_machine.specs.Step.{Step}
 use Rattle.gr_desk.specs.Wait.{WaitLaw, RefusesWait}
 use Rattle.gr_wire.specs.declared.exchange.SessionFault.{SessionFault}
 use Rattle.gr_wire.specs.Transcript.{SessionEnds}

@@ -1,8 +1,8 @@
 -- What a session answers.
 use Rattle.std.specs.Prelude.{◌≡◌, List, [], ◌∷◌, ◌⊎◌}
 use Rattle.gr_text.specs.declared.refusal.Refusal.TheVariants.{Memory, BadCommand, BodyShort}
-use Rattle.gr_book.specs.declared.event.Event.{Event}
-use Rattle.gr_book.specs.declared.event.Reply.{Reply}
+use Rattle.gr_machine.specs.declared.event.Event.{Event}
+use Rattle.gr_machine.specs.declared.event.Reply.{Reply}
 use Rattle.gr_desk.specs.Wait.{WaitLaw}
 use Rattle.gr_desk.specs.declared.response.Response.{Response}
 use Rattle.gr_desk.specs.declared.response.Response.TheVariants.{Refused}

@@ -1,11 +1,11 @@
 -- The law of a session.
 use Rattle.std.specs.Prelude.{◌≡◌, ℕ, List, [], ◌∷◌, ◌++◌}
 use Rattle.gr_text.specs.declared.limits.Limits.{Limits}
-use Rattle.gr_book.specs.declared.event.Event.{Event}
-use Rattle.gr_book.specs.declared.event.Reply.{Reply}
-use Rattle.gr_book.specs.Machine.{Machine}
-use Rattle.gr_book.specs.Step.{Step}
-use Rattle.gr_book.specs.Run.{Run}
+use Rattle.gr_machine.specs.declared.event.Event.{Event}
+use Rattle.gr_machine.specs.declared.event.Reply.{Reply}
+use Rattle.gr_machine.specs.Machine.{Machine}
+use Rattle.gr_machine.specs.Step.{Step}
+use Rattle.gr_machine.specs.Run.{Run}
 use Rattle.gr_desk.specs.Wait.{RefusesWait}
 use Rattle.gr_wire.specs.Transcript.{Exchange, CutsOff}
 

@@ -3,8 +3,8 @@ use Rattle.std.specs.Prelude.{◌≡◌, ◌≢◌, ◌⊎◌, ℕ, List, [], �
 use Rattle.std.specs.List.{flat_map}
 use Rattle.std.specs.Io.KnownBytes.{Appends, Keeps}
 use Rattle.gr_text.specs.declared.limits.Limits.{Limits}
-use Rattle.gr_book.specs.declared.event.Event.{Event}
-use Rattle.gr_book.specs.declared.event.Reply.{Reply}
+use Rattle.gr_machine.specs.declared.event.Event.{Event}
+use Rattle.gr_machine.specs.declared.event.Reply.{Reply}
 use Rattle.gr_desk.specs.Wait.{WaitLaw}
 use Rattle.gr_desk.specs.declared.response.Response.{Response}
 use Rattle.gr_line.specs.declared.message.Message.{Message}

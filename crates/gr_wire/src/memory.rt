@@ -1,6 +1,6 @@
 //! A session over memory.
 ghost use Rattle.std.specs.Prelude.{MatchResult};
-ghost use Rattle.gr_book.specs.Step.{Step};
+ghost use Rattle.gr_machine.specs.Step.{Step};
 ghost use Rattle.gr_desk.specs.Wait.{RefusesWait};
 ghost use Rattle.gr_wire.specs.Transcript.{IsTranscript, EndsEarly};
 

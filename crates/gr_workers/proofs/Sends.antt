@@ -21,17 +21,17 @@ use Rattle.gr_graph.specs.contracts.graph.Graph.{the_row as graph}
 use Rattle.gr_verdict.specs.contracts.earlier.EarlierParts.{the_row as earlier_parts}
 use Rattle.gr_verdict.specs.contracts.earlier.Earlier.{the_row as earlier}
 use Rattle.gr_verdict.specs.contracts.known.Known.{the_row as known}
-use Rattle.gr_keep.specs.contracts.shared_known.SharedKnown.{the_row as shared_known}
+use Rattle.gr_finished.specs.contracts.shared_known.SharedKnown.{the_row as shared_known}
 use Rattle.gr_compile.specs.contracts.unit.Compiled.{the_row as compiled}
 use Rattle.gr_compile.specs.contracts.unit.Unit.{the_row as unit}
-use Rattle.gr_keep.specs.contracts.finished.Finished.{the_row as finished}
-use Rattle.gr_book.specs.contracts.state.State.{the_row as state}
-use Rattle.gr_book.specs.contracts.content.Content.{the_row as content}
+use Rattle.gr_finished.specs.contracts.finished.Finished.{the_row as finished}
+use Rattle.gr_machine.specs.contracts.state.State.{the_row as state}
+use Rattle.gr_content.specs.contracts.content.Content.{the_row as content}
 use Rattle.gr_book.specs.contracts.book.Book.{the_row as book}
-use Rattle.gr_pool.specs.contracts.seat.Seat.{the_row as seat}
+use Rattle.gr_seats.specs.contracts.seat.Seat.{the_row as seat}
 use Rattle.gr_pool.specs.contracts.shared.Shared.{the_row as shared}
 use Rattle.gr_pool.specs.contracts.locked.Locked.{the_row as locked}
-use Rattle.gr_pool.specs.declared.opening.Opening.{Ghosts as Opening}
+use Rattle.gr_seats.specs.declared.opening.Opening.{Ghosts as Opening}
 use Rattle.gr_chunks.proofs.list.SharedList.TheSendSync.{the_send as SharedList-send, the_sync as SharedList-sync}
 use Rattle.gr_text.proofs.file_text.FileText.TheSendSync.{the_send as FileText-send, the_sync as FileText-sync}
 use Rattle.gr_text.proofs.files.Files.TheSendSync.{the_send as Files-send, the_sync as Files-sync}
@@ -39,8 +39,8 @@ use Rattle.gr_text.proofs.limits.Limits.TheSendSync.{the_send as Limits-send, th
 use Rattle.gr_graph.proofs.faulty_file.FaultyFile.TheSendSync.{the_send as FaultyFile-send, the_sync as FaultyFile-sync}
 use Rattle.gr_graph.proofs.shared_links.SharedLinks.TheSendSync.{the_send as SharedLinks-send, the_sync as SharedLinks-sync}
 use Rattle.gr_compile.proofs.out.Out.TheSendSync.{the_send as Out-send}
-use Rattle.gr_book.proofs.entry.Entry.TheSendSync.{the_send as Entry-send}
-use Rattle.gr_pool.proofs.seat.Seat.TheSendSync.{the_send as Seat-send}
+use Rattle.gr_machine.proofs.entry.Entry.TheSendSync.{the_send as Entry-send}
+use Rattle.gr_seats.proofs.seat.Seat.TheSendSync.{the_send as Seat-send}
 use Rattle.gr_workers.proofs.SendsFound.{file_fault_sent, file_fault_shared, scope_sent, scope_shared, definition_sent, definition_shared, verdict_sent}
 use Rattle.gr_workers.proofs.SendsFound.{verdict_shared}
 use Rattle.gr_expr.proofs.types.GoType.TheLaws.TheKnot.{crosses as type_crosses}

@@ -3,12 +3,12 @@ use Rattle.std.proofs.Common.{ℕ, zero, suc, List, [], Option, inl, inr, sym, a
 use Rattle.std.proofs.lemmas.List.{append-nil}
 use Rattle.std.proofs.lemmas.List.Elements.{All-nil}
 use Rattle.gr_compile.specs.declared.job.JobRecord.{JobRecord}
-use Rattle.gr_book.specs.declared.event.Event.{Event}
-use Rattle.gr_book.specs.declared.event.Event.TheVariants.{Take, Deliver, GiveBack}
-use Rattle.gr_book.specs.declared.event.Reply.{Reply}
-use Rattle.gr_book.specs.declared.event.Reply.TheVariants.{Looked, Logged, Done, Taken, Refused, Back}
-use Rattle.gr_book.specs.Journal.{kind_of}
-use Rattle.gr_pool.specs.declared.receipt.Receipt.{Receipt}
+use Rattle.gr_machine.specs.declared.event.Event.{Event}
+use Rattle.gr_machine.specs.declared.event.Event.TheVariants.{Take, Deliver, GiveBack}
+use Rattle.gr_machine.specs.declared.event.Reply.{Reply}
+use Rattle.gr_machine.specs.declared.event.Reply.TheVariants.{Looked, Logged, Done, Taken, Refused, Back}
+use Rattle.gr_machine.specs.Journal.{kind_of}
+use Rattle.gr_seats.specs.declared.receipt.Receipt.{Receipt}
 use Rattle.gr_pool.specs.Call.{Calls, Gains}
 use Rattle.gr_workers.specs.Working.{AfterDelivery, ComesBack, HandsIn, IsWork, Sends, Works, WorksOften, is_work}
 use Rattle.gr_pool.proofs.CallLaws.{gains_of}

@@ -4,13 +4,13 @@ use Rattle.gr_text.specs.declared.refusal.Refusal.{Refusal}
 use Rattle.gr_compile.specs.Builds.{IsBuiltOf}
 use Rattle.gr_compile.specs.declared.built.Built.{Built}
 use Rattle.gr_compile.specs.declared.job.JobRecord.{JobRecord}
-use Rattle.gr_book.specs.declared.entry.EntryKind.{EntryKind}
-use Rattle.gr_book.specs.declared.entry.EntryKind.TheVariants as kind
-use Rattle.gr_book.specs.declared.event.Event.{Event}
-use Rattle.gr_book.specs.declared.event.Event.TheVariants.{Take, Deliver, GiveBack}
-use Rattle.gr_book.specs.declared.event.Reply.{Reply}
-use Rattle.gr_book.specs.declared.event.Reply.TheVariants.{Taken, Refused, Back}
-use Rattle.gr_pool.specs.declared.receipt.Receipt.{Receipt}
+use Rattle.gr_machine.specs.declared.entry.EntryKind.{EntryKind}
+use Rattle.gr_machine.specs.declared.entry.EntryKind.TheVariants as kind
+use Rattle.gr_machine.specs.declared.event.Event.{Event}
+use Rattle.gr_machine.specs.declared.event.Event.TheVariants.{Take, Deliver, GiveBack}
+use Rattle.gr_machine.specs.declared.event.Reply.{Reply}
+use Rattle.gr_machine.specs.declared.event.Reply.TheVariants.{Taken, Refused, Back}
+use Rattle.gr_seats.specs.declared.receipt.Receipt.{Receipt}
 use Rattle.gr_pool.specs.Call.{Replies}
 
 -- the event was called

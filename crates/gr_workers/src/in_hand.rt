@@ -2,15 +2,17 @@
 ghost use Rattle.std.specs.Prelude.{◌≡◌, IfOk, MatchOption, MatchResult};
 ghost use Rattle.gr_text.specs.declared.refusal.Refusal.{Refusal as WhyRefused};
 ghost use Rattle.gr_compile.specs.Builds.{IsBuiltOf};
-ghost use Rattle.gr_book.specs.declared.event.Event.TheVariants.{Deliver, GiveBack, Take};
-ghost use Rattle.gr_book.specs.declared.event.Reply.{Reply};
-ghost use Rattle.gr_book.specs.declared.event.Reply.TheVariants.{Refused, Taken};
+ghost use Rattle.gr_machine.specs.declared.event.Event.TheVariants.{Deliver, GiveBack, Take};
+ghost use Rattle.gr_machine.specs.declared.event.Reply.{Reply};
+ghost use Rattle.gr_machine.specs.declared.event.Reply.TheVariants.{Refused, Taken};
 ghost use Rattle.gr_pool.specs.Call.{Replies};
 ghost use Rattle.gr_workers.specs.Working.{ComesBack, Sends};
 
-use gr_book::{Handed, HandingIn, Taking};
+use gr_book::{HandingIn, Taking};
 use gr_compile::{Built, Job, build};
-use gr_pool::{Opening, Seat, Shared};
+use gr_content::Handed;
+use gr_pool::Shared;
+use gr_seats::{Opening, Seat};
 use std::alloc::{AllocError, Global};
 use std::sync::Wait;
 

@@ -7,7 +7,8 @@ ghost use Rattle.gr_workers.specs.Working.{Delivers, HandsIn, IsWork, WorksOften
 use crate::gate::Gate;
 use crate::in_hand::{InHand, take};
 use gr_compile::Built;
-use gr_pool::{Opening, Seat, Shared};
+use gr_pool::Shared;
+use gr_seats::{Opening, Seat};
 use std::alloc::Global;
 use std::sync::Wait;
 

@@ -12,7 +12,6 @@ table_text-requires c = record {
   at = c.requires.at;
   files = c.requires.files;
   read = c.requires.read;
-  laid = c.requires.found c.in-Some.table c.in-Some.is;
 }
 
 pub returns-in-None : goal.returns-in-None
@@ -33,4 +32,13 @@ returns-in-None c =
         is_found = found;
       }) c.no_text.ensures.found;
       text = IfOk-weaker c.no_text.result _ _ (λ made none known seen right text is. absurd (none-some text (sym none ∙ is))) c.no_text.ensures.text;
+    }
+
+pub returns-in-Some : goal.returns-in-Some
+returns-in-Some c =
+    let state = state_in c.args.of.interfaces.now.states in
+    let laid = c.requires.found c.in-Some.table c.in-Some.is in
+    record {
+      checked = IfOk-weaker c.table_text.result _ _ (λ made h known seen states. h known state laid seen states) c.table_text.ensures.checked;
+      text = IfOk-weaker c.table_text.result _ _ (λ made h known seen right. h known state laid seen right) c.table_text.ensures.text;
     }

@@ -3,18 +3,12 @@ use Rattle.std.proofs.Common.{sym, subst, ◌∙◌}
 use Rattle.std.proofs.lemmas.Option.{same_Some, slice_get_within}
 use Rattle.gr_text.specs.Packages.{package_paths}
 use Rattle.gr_verdict.specs.Steps.{AreKnownBelow, IsCheckedIn}
-use Rattle.gr_verdict.specs.Told.{known_by, AreWhole}
-use Rattle.gr_verdict.specs.Verdicts.{AreVerdictsBelow}
+use Rattle.gr_verdict.specs.Told.{known_by}
 use Rattle.gr_verdict.proofs.Gathering.{known_right}
 use Rattle.gr_compile.proofs.checked_text.learn_text.Goals as goal
 
-pub read_text-requires : goal.read_text-requires
-read_text-requires c = record {
-  at = c.requires.at;
-  files = c.requires.files;
-  read = c.requires.read;
-  whole = subst AreWhole (sym c.interfaces.ensures) c.requires.right.right.verdicts.whole;
-}
+pub known_text-requires : goal.known_text-requires
+known_text-requires c = record { at = c.requires.at; files = c.requires.files; read = c.requires.read; right = c.requires.right }
 
 pub learn-requires : goal.learn-requires
 learn-requires c =
@@ -22,7 +16,7 @@ learn-requires c =
     let p = c.args.path.now in
     let all = c.args.progress.now.all in
     let checked = c.in_ok-made.made.checked in
-    let is = subst (λ i. IsCheckedIn w (known_by i) p checked) c.interfaces.ensures c.in_ok-made.ensures.checked in
+    let is = c.in_ok-made.ensures.checked in
     record {
       in_range = slice_get_within (package_paths w) c.args.number p c.requires.at;
       right = c.requires.right;
@@ -33,9 +27,7 @@ learn-requires c =
     }
 
 pub returns : goal.returns
-returns c =
-    let w = c.args.graph.now in
-    let p = c.args.path.now in
-    let all = c.args.progress.now.all in
-    let right = subst (λ i. AreVerdictsBelow w p (known_by i)) (sym c.interfaces.ensures) (known_right w p all c.requires.right.right c.requires.below) in
-    record { right = c.in_ok-learn.ensures; text = c.in_ok-made.ensures.text right }
+returns c = record {
+  right = c.in_ok-learn.ensures;
+  text = c.in_ok-made.ensures.text (known_right c.args.graph.now c.args.path.now c.args.progress.now.all c.requires.right.right c.requires.below);
+}

@@ -1,11 +1,11 @@
 -- The answers to the goals of `checked_text::table_text`.
-use Rattle.std.proofs.Common.{[], map, refl, sym, subst}
+use Rattle.std.proofs.Common.{ℕ, List, [], map, refl, sym, subst}
 use Rattle.std.proofs.lemmas.Option.{slice_get_within}
 use Rattle.std.proofs.lemmas.Result.{IfOk-weaker}
 use Rattle.gr_text.specs.Packages.{package_paths, package_files}
 use Rattle.gr_tree.specs.SourceFile.{source_of}
 use Rattle.gr_graph.specs.Parsed.{AreParsed}
-use Rattle.gr_imports.specs.States.{state_in}
+use Rattle.gr_imports.specs.declared.states.ImportState.{ImportState}
 use Rattle.gr_declared.specs.InterfacesView.{name_in, interface_in}
 use Rattle.gr_meanings.specs.PackageOf.{IsPackageOf, package_in}
 use Rattle.gr_types.specs.Check.{IsLaid, inside}
@@ -23,24 +23,26 @@ returns c =
     let trees = c.as_slice.result.now in
     let i = c.args.of.interfaces.now in
     let table = c.args.table in
-    let laid = subst (λ ts. IsLaid ts (state_in i.states) (name_in i) table) (sym c.as_slice.ensures.value) c.requires.laid in
     let parsed : AreParsed (package_files w p) trees [] =
     subst (λ ts. AreParsed (package_files w p) ts []) (sym c.as_slice.ensures.value)
     (parsed_all w c.args.number p c.args.of.files.now at c.requires.files c.requires.read) in
     let own = package_in p (map source_of trees) table (interface_in i) in
-    let mine : IsPackageOf p trees (name_in i) (interface_in i) own = record { laid = table; is_laid = laid.is_laid; is_package = refl } in
+    let here = λ (state : List ℕ → ImportState) (laid : IsLaid c.args.of.files.now.trees.items state (name_in i) table).
+    subst (λ ts. IsLaid ts state (name_in i) table) (sym c.as_slice.ensures.value) laid in
+    let mine = λ (state : List ℕ → ImportState) (laid : IsLaid trees state (name_in i) table).
+    let is : IsPackageOf p trees (name_in i) (interface_in i) own = record { laid = table; is_laid = laid.is_laid; is_package = refl } in is in
     record {
-      checked = IfOk-weaker c.unit_text.result _ _ (λ made checked known seen states. record {
+      checked = IfOk-weaker c.unit_text.result _ _ (λ made checked known state laid seen states. record {
         files = trees;
         parsed = parsed;
-        state = state_in i.states;
+        state = state;
         are_states = states;
         name_of = name_in i;
         interface_of = interface_in i;
         are_seen = seen;
-        is_found = inside {p = own} laid.faultless mine checked;
+        is_found = inside {p = own} (here state laid).faultless (mine state (here state laid)) checked;
       }) c.unit_text.ensures.checked;
-      text = IfOk-weaker c.unit_text.result _ _ (λ made printed known seen right text is. record {
+      text = IfOk-weaker c.unit_text.result _ _ (λ made printed known state laid seen right text is. record {
         known = known;
         right = right;
         checked = own;
@@ -50,7 +52,7 @@ returns c =
           name_of = name_in i;
           interface_of = interface_in i;
           are_seen = seen;
-          is_package = mine;
+          is_package = mine state (here state laid);
         };
         is_printed = printed p at text is;
       }) c.unit_text.ensures.text;

@@ -1,7 +1,7 @@
 -- The packages among the folders that were passed are marked.
 use Rattle.std.proofs.Common.{take}
 use Rattle.gr_graph.specs.Filling.{names}
-use Rattle.gr_keep.specs.Changes.{MarkFolders}
+use Rattle.gr_finished.specs.Changes.{MarkFolders}
 use Rattle.gr_keep.proofs.changes.folder_marks.Given as goal
 
 abbrev pub invariant-loop-folder : goal.invariant-loop-folder

@@ -1,8 +1,9 @@
 -- The invariants of the loops of `findings::judge_changed`.
 use Rattle.std.proofs.Common.{take}
 use Rattle.gr_verdict.specs.Earlier.{AreSteady}
-use Rattle.gr_verdict.specs.Steady.{Stirs, ArePassed}
+use Rattle.gr_verdict.specs.Steady.{Stirs}
 use Rattle.gr_verdict.specs.Steps.{AreAllGathered}
+use Rattle.gr_verdict.proofs.Passing.{ArePassed}
 use Rattle.gr_verdict.proofs.findings.judge_changed.Given as goal
 
 abbrev pub invariant-loop-number : goal.invariant-loop-number

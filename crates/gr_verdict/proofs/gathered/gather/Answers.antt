@@ -1,14 +1,35 @@
 -- The answers to the goals of `gathered::gather`.
-use Rattle.std.proofs.Common.{◌≡◌, length, subst, arith}
+use Rattle.std.proofs.Common.{◌≡◌, ◌-◌, length, arith}
 use Rattle.gr_text.specs.Packages.{package_paths}
-use Rattle.gr_verdict.specs.Steps.{AreGathered}
 use Rattle.gr_verdict.proofs.Taking.{none_gathered}
 use Rattle.gr_verdict.proofs.gathered.gather.Goals as goal
 
-pub loop-number-init : goal.loop-number-init
-loop-number-init c = none_gathered c.args.graph.now c.new-all.result c.new-all.ensures.findings c.new-all.ensures.names c.new-all.ensures.interfaces
+pub loop-left-init : goal.loop-left-init
+loop-left-init c =
+    let none = c.in_ok-all.ensures.none in
+    let size : length c.in_ok-all.all.findings.items ≡ length (package_paths c.args.graph.now) = omega (arith, c.in_ok-all.ensures.size) in
+    record {
+      within = omega arith;
+      right = none_gathered c.args.graph.now _ c.in_ok-all.all size none c.in_ok-all.ensures.names c.in_ok-all.ensures.interfaces;
+      unknown = λ n lt. none n;
+    }
+
+pub take_known-requires : goal.take_known-requires
+take_known-requires c =
+    let k = c.loop-left.left - 1 in
+    record {
+      number = omega (arith, c.loop-left.invariant.within);
+      known = c.requires;
+      all = c.loop-left.invariant.right;
+      unknown = c.loop-left.invariant.unknown k (omega arith);
+    }
+
+pub loop-left-preserved : goal.loop-left-preserved
+loop-left-preserved c = record {
+  within = omega (arith, c.loop-left.invariant.within);
+  right = c.in_ok-take_known.ensures.right;
+  unknown = λ n lt g. c.loop-left.invariant.unknown n (omega arith) (c.in_ok-take_known.ensures.others n (λ e. omega arith) g);
+}
 
 pub returns : goal.returns
-returns c =
-    let all : c.loop-number.number ≡ length (package_paths c.args.graph.now) = omega arith in
-    subst (λ k. AreGathered c.args.graph.now k c.loop-number.all) all c.loop-number.invariant
+returns c = c.loop-left.invariant.right

@@ -1,6 +1,6 @@
 -- The answers to the goals of `alone::session_alone`.
 use Rattle.std.proofs.Common.{refl, subst}
-use Rattle.gr_book.specs.Machine.{Machine, opening}
+use Rattle.gr_machine.specs.Machine.{Machine, opening}
 use Rattle.gr_wire.specs.Alone.{EndsOver}
 use Rattle.std.proofs.KnownBytes.{Keeps-refl}
 use Rattle.gr_wire.proofs.alone.session_alone.Goals as goal

@@ -1,5 +1,5 @@
 -- The answers to the goals of `memory::transcript`.
-use Rattle.gr_book.specs.Step.{Step}
+use Rattle.gr_machine.specs.Step.{Step}
 use Rattle.gr_desk.specs.Wait.{RefusesWait}
 use Rattle.gr_wire.proofs.Ended.{ended_early}
 use Rattle.gr_wire.proofs.memory.transcript.Goals as goal

@@ -2,8 +2,8 @@
 use Rattle.std.proofs.Common.{Result, subst}
 use Rattle.gr_text.specs.declared.refusal.Refusal.{Refusal}
 use Rattle.gr_compile.specs.declared.job.JobRecord.{JobRecord}
-use Rattle.gr_book.specs.Step.{taken}
-use Rattle.gr_book.specs.declared.event.Event.TheVariants.{Take}
+use Rattle.gr_machine.specs.Step.{taken}
+use Rattle.gr_machine.specs.declared.event.Event.TheVariants.{Take}
 use Rattle.gr_pool.specs.Call.{Replies}
 use Rattle.gr_workers.proofs.in_hand.take.Goals as goal
 

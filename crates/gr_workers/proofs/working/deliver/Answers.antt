@@ -1,7 +1,7 @@
 -- The Job that comes back is the one that was delivered.
 use Rattle.std.proofs.Common.{subst}
 use Rattle.gr_compile.specs.declared.job.JobRecord.{JobRecord}
-use Rattle.gr_book.specs.declared.event.Event.TheVariants.{GiveBack}
+use Rattle.gr_machine.specs.declared.event.Event.TheVariants.{GiveBack}
 use Rattle.gr_workers.specs.Working.{Sends}
 use Rattle.gr_workers.proofs.WorkLaws.{after_back, after_taken}
 use Rattle.gr_workers.proofs.working.deliver.Goals as goal

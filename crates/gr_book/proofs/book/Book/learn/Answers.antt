@@ -1,7 +1,7 @@
 -- The content is the same, and so it is the replay of the journal still.
 use Rattle.std.proofs.Common.{sym, subst, vec_capacity}
-use Rattle.gr_book.specs.Machine.{Content}
-use Rattle.gr_book.proofs.Legal.{BookHolds}
+use Rattle.gr_machine.specs.Machine.{Content}
+use Rattle.gr_machine.proofs.Legal.{BookHolds}
 use Rattle.gr_book.proofs.book.Book.learn.Goals as goal
 
 pub invariant_of-self : goal.invariant_of-self

@@ -1,15 +1,15 @@
 -- The answer with its entry, and a copy of it, is a step, what the journal bounds stays within it, and the content stays its replay.
 use Rattle.std.proofs.Common.{◌+◌, ◌≤◌, ◌↔◌, IsTrue, List, length, sym, subst, ◌∙◌, vec_capacity, None}
 use Rattle.std.proofs.lemmas.Bool.{false≢true}
-use Rattle.gr_book.specs.Machine.{Machine, with_journal}
-use Rattle.gr_book.specs.Kept.{StepKept}
-use Rattle.gr_book.specs.Step.{HasRoom, entries_due}
-use Rattle.gr_book.specs.declared.entry.Entry.{Entry}
-use Rattle.gr_book.specs.declared.event.Event.{Event}
-use Rattle.gr_book.specs.declared.event.Reply.{Reply}
+use Rattle.gr_machine.specs.Machine.{Machine, with_journal}
+use Rattle.gr_machine.specs.Kept.{StepKept}
+use Rattle.gr_machine.specs.Step.{HasRoom, entries_due}
+use Rattle.gr_machine.specs.declared.entry.Entry.{Entry}
+use Rattle.gr_machine.specs.declared.event.Event.{Event}
+use Rattle.gr_machine.specs.declared.event.Reply.{Reply}
 use Rattle.gr_book.proofs.Needed.{place_now, room_is}
-use Rattle.gr_book.proofs.Kept.{full_kept, lacking_kept, step_kept}
-use Rattle.gr_book.proofs.Legal.{holds_on, holds_still}
+use Rattle.gr_machine.proofs.Kept.{full_kept, lacking_kept, step_kept}
+use Rattle.gr_machine.proofs.Legal.{holds_on, holds_still}
 use Rattle.gr_book.proofs.book.Book.step_kept.Goals as goal
 
 pub invariant_of-self-in-Err : goal.invariant_of-self-in-Err

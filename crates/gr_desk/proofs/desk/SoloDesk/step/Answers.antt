@@ -1,5 +1,5 @@
 -- Which replies a book gives.
-use Rattle.gr_book.proofs.Replies.{may_reply}
+use Rattle.gr_machine.proofs.Replies.{may_reply}
 use Rattle.gr_desk.proofs.desk.SoloDesk.step.Goals as goal
 
 pub returns-clause-kind : goal.returns-clause-kind

@@ -1,7 +1,7 @@
 -- The Job that comes back is the one that was delivered.
 use Rattle.std.proofs.Common.{subst, sym}
-use Rattle.gr_book.specs.Questions.{handed}
-use Rattle.gr_book.specs.declared.handed.Handed.{Handed}
+use Rattle.gr_content.specs.Handed.{handed}
+use Rattle.gr_content.specs.declared.handed.Handed.{Handed}
 use Rattle.gr_workers.specs.Working.{ComesBack}
 use Rattle.gr_workers.proofs.in_hand.InHand.deliver.Goals as goal
 

@@ -1,0 +1,45 @@
+//! What an event leaves of the states and of the journal.
+ghost use Rattle.std.specs.Prelude.{◌≡◌, ◌+◌, ◌≤◌, length, vec_capacity};
+ghost use Rattle.gr_machine.specs.Machine.{HasNumbers};
+ghost use Rattle.gr_machine.specs.Kept.{IsEntryIf};
+ghost use Rattle.gr_machine.specs.Journal.{basis_of, kind_of};
+ghost use Rattle.gr_machine.specs.Step.{HasPlace, Keeps};
+
+use crate::content::Content;
+use crate::question::{Answered, Asked, Question};
+use gr_machine::{Entry, Line, entry_twice};
+
+/// Answers an event, and adds its entry to the journal. With the answer comes a copy of the entry.
+pub fn answer<Q: Question>(
+    content: &mut Content,
+    journal: &mut Vec<Entry>,
+    asked: Asked,
+    question: Q,
+) -> (Q::Answer, Option<Entry>)
+    requires numbers { HasNumbers content.old }
+    requires due { length journal.old.items + length content.old.out.jobs ≤ vec_capacity journal.old }
+    requires place { HasPlace (vec_capacity journal.old) (length journal.old.items + length content.old.out.jobs) content.old.out (Q.event question) }
+    requires kind { asked.kind ≡ kind_of (Q.event question) }
+    requires basis { asked.basis ≡ basis_of content.old.current.number (Q.event question) }
+    ensures keeps { Keeps content.old journal.old.items (Q.event question) (Q.reply result.0) content.new journal.new.items }
+    ensures copy { IsEntryIf content.old.current.number (Q.event question) (Q.reply result.0) result.1 }
+    ensures capacity { vec_capacity journal.new ≡ vec_capacity journal.old }
+{
+    let Answered {
+        answer,
+        out,
+        subject,
+        made,
+    } = question.ask(content, journal.as_slice());
+    let Some(out) = out else {
+        return (answer, None);
+    };
+    let line = Line {
+        kind: asked.kind,
+        basis: asked.basis,
+        out,
+    };
+    let (entry, copy) = entry_twice(line, subject, made);
+    journal.push_reserved(entry);
+    (answer, Some(copy))
+}

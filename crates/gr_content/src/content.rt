@@ -1,0 +1,298 @@
+//! The states of a workspace with the Jobs that are out, and what events make of them.
+ghost use Rattle.std.specs.Prelude.{◌≡◌, ◌+◌, ◌≤◌, ◌↔◌, IfOk, IsTrue, length, vec_len};
+ghost use Rattle.gr_verdict.specs.Found.{KnowsVerdicts};
+ghost use Rattle.gr_compile.specs.Jobs.{IsOut};
+ghost use Rattle.gr_machine.specs.Machine.{HasNumbers, content, newest, opening};
+ghost use Rattle.gr_content.specs.Handed.{handed};
+ghost use Rattle.gr_machine.specs.Step.{AnswersOrLacks, committed, done, looked, taken};
+ghost use Rattle.gr_machine.specs.declared.event.Event.TheVariants.{Commit, Deliver, GiveBack, Look, Redo, Take, Undo};
+
+use crate::deliveries::outcome_of;
+use crate::handed::{Handed, take_in};
+use gr_compile::{Built, Job, Out, SharedPath};
+use gr_finished::{Finished, SharedKnown};
+use gr_graph::Graph;
+use gr_inputs::{GatheredFiles, TakenInputs, inputs_of, known_within, marks_of};
+use gr_keep::{carried_units, kept};
+use gr_machine::{MadeEdits, State, View, first_waiting};
+use gr_space::MadeChange;
+use gr_text::{Files, Limits, Refusal};
+use gr_verdict::Known;
+use std::alloc::{AllocError, Global};
+use std::marker::Model;
+use std::mem;
+
+/// The states of a workspace, with a cursor on the current one, and the Jobs that are out.
+pub struct Content {
+    pub(crate) alloc: Global,
+    pub limits: Limits,
+    pub(crate) earlier: Vec<State>,
+    pub(crate) current: State,
+    pub(crate) later: Vec<State>,
+    pub(crate) next: u64,
+    pub(crate) visit: u64,
+    pub out: Out,
+}
+
+impl Model for Content {
+    ghost use Rattle.std.specs.Prelude.{◌+◌, ◌≤◌, length};
+    ghost use Rattle.gr_machine.specs.Machine.{Content};
+    ghost use Rattle.std.specs.Coded.{codes};
+    ghost use Rattle.gr_compile.specs.Codes.{unit_code, workspace_code};
+
+    ghost Value = { Content };
+
+    ghost coded = { Prim.hlevel (codes, unit_code, workspace_code) };
+
+    ghost view = { λ a. record { limits = a.limits; earlier = a.earlier.items; current = a.current; later = a.later.items; next = a.next; visit = a.visit; out = a.out } };
+
+    ghost invariant = { λ a. length a.earlier.items + length a.later.items ≤ a.limits.undo_depth };
+}
+
+/// Drops the oldest state where there is one too many.
+fn keep_newest(states: &mut Vec<State>, depth: usize)
+    requires { vec_len states.old ≤ depth + 1 }
+    ensures { states.new.items ≡ newest depth states.old.items }
+{
+    if states.len() > depth {
+        drop(states.remove(0));
+    }
+}
+
+/// Whether a change was planned on some files.
+fn is_based(change: &MadeChange, files: &Graph) -> bool
+    ensures { IsTrue result ↔ (change.now.base ≡ files.now) }
+{
+    change.get().base.files().same(files.files())
+}
+
+impl Content {
+    /// One state, which has the number 0 and no files.
+    pub fn new(alloc: Global, limits: Limits) -> Result<Content, AllocError>
+        ensures { IfOk result (λ states. states ≡ content (opening limits)) }
+    {
+        let files = Graph::of(alloc, Files::new(alloc))?;
+        let finished = Finished::new(alloc)?;
+        let nothing = Known::new(alloc);
+        let known = SharedKnown::new(alloc, nothing)?;
+        let gathered = GatheredFiles::new(alloc);
+        Ok(Content {
+            alloc,
+            limits,
+            earlier: Vec::new(alloc),
+            current: State {
+                number: 0,
+                files,
+                finished,
+                known,
+                gathered,
+            },
+            later: Vec::new(alloc),
+            next: 1,
+            visit: 0,
+            out: Out::new(alloc),
+        })
+    }
+
+    /// The number of the current state.
+    pub fn number(&self) -> u64
+        ensures { result ≡ self.now.current.number }
+    {
+        self.current.number()
+    }
+
+    /// How many Jobs are out.
+    pub fn jobs(&self) -> usize
+        ensures { result ≡ length self.now.out.jobs }
+    {
+        self.out.len()
+    }
+
+    /// Whether a Job is out.
+    pub fn is_out(&self, job: &Job) -> bool
+        ensures { IsTrue result ↔ IsOut self.now.out job.now }
+    {
+        self.out.is_out(job)
+    }
+
+    pub fn look(&self) -> Result<View, Refusal>
+        ensures { AnswersOrLacks self.now Look (looked result) self.now }
+    {
+        let snapshot = self.current.snapshot(self.limits)?;
+        let finished = self.current.finished.clone()?;
+        Ok(View {
+            snapshot,
+            finished,
+            undo: self.earlier.len(),
+            redo: self.later.len(),
+        })
+    }
+
+    /// Besides the number of the new state it gives the edits, for the entry.
+    pub fn commit(&mut self, basis: u64, change: MadeChange) -> Result<(u64, MadeEdits), Refusal>
+        requires { HasNumbers self.old }
+        ensures answer { AnswersOrLacks self.old (Commit basis change) (committed result) self.new }
+        ensures edits { IfOk result (λ made. made.1 ≡ change.edits) }
+    {
+        let current = &self.current;
+        let number = current.number;
+        if basis != number || !is_based(&change, &current.files) {
+            return Err(Refusal::Moved { current: number });
+        }
+        let marks = marks_of(self.alloc, &current.files, &change)?;
+        let change = change.into_change();
+        let files = change.files;
+        let edits = MadeEdits::new(self.alloc, change.edits)?;
+        let finished = carried_units(
+            self.alloc,
+            &current.files,
+            &current.finished,
+            &files,
+            &marks,
+        )?;
+        let known = kept(self.alloc, &current.files, &current.known, &files, &marks)?;
+        self.earlier.reserve(1)?;
+        let number = self.next;
+        let gathered = GatheredFiles::new(self.alloc);
+        let next = State {
+            number,
+            files,
+            finished,
+            known,
+            gathered,
+        };
+        let previous = mem::replace(&mut self.current, next);
+        self.earlier.push(previous).unwrap();
+        keep_newest(&mut self.earlier, self.limits.undo_depth);
+        self.later.clear();
+        self.next += 1;
+        self.visit += 1;
+        Ok((number, edits))
+    }
+
+    pub fn undo(&mut self, basis: u64) -> Result<u64, Refusal>
+        requires { HasNumbers self.old }
+        ensures { AnswersOrLacks self.old (Undo basis) (done result) self.new }
+    {
+        let number = self.current.number;
+        if basis != number {
+            return Err(Refusal::Moved { current: number });
+        }
+        if self.earlier.is_empty() {
+            return Err(Refusal::NothingToUndo);
+        }
+        self.later.reserve(1)?;
+        let previous = self.earlier.pop().unwrap();
+        let number = previous.number;
+        let left = mem::replace(&mut self.current, previous);
+        self.later.push(left).unwrap();
+        self.visit += 1;
+        Ok(number)
+    }
+
+    pub fn redo(&mut self, basis: u64) -> Result<u64, Refusal>
+        requires { HasNumbers self.old }
+        ensures { AnswersOrLacks self.old (Redo basis) (done result) self.new }
+    {
+        let number = self.current.number;
+        if basis != number {
+            return Err(Refusal::Moved { current: number });
+        }
+        if self.later.is_empty() {
+            return Err(Refusal::NothingToRedo);
+        }
+        self.earlier.reserve(1)?;
+        let next = self.later.pop().unwrap();
+        let number = next.number;
+        let left = mem::replace(&mut self.current, next);
+        self.earlier.push(left).unwrap();
+        self.visit += 1;
+        Ok(number)
+    }
+
+    pub fn take(&mut self) -> Result<Job, Refusal>
+        requires { HasNumbers self.old }
+        ensures { AnswersOrLacks self.old Take (taken result) self.new }
+    {
+        let current = &self.current;
+        let Some(number) = first_waiting(current, &self.out, self.visit) else {
+            return Err(Refusal::NoJob);
+        };
+        let package = SharedPath::new(self.alloc, &current.files.package(number).path)?;
+        let taken = inputs_of(self.alloc, &current.files, number, &current.gathered)?;
+        let TakenInputs { inputs, gathered } = taken;
+        let known = known_within(self.alloc, &current.files, &current.known, &inputs)?;
+        let job = self
+            .out
+            .hand_out(current.number, self.visit, package, inputs, known)?;
+        self.current.keep(gathered);
+        Ok(job)
+    }
+
+    /// Takes in a delivery, if its Job is out.
+    fn enter(&mut self, job: Job, built: Built) -> Handed
+        ensures { AnswersOrLacks self.old (Deliver job built) (handed result) self.new }
+    {
+        match outcome_of(self.alloc, &self.current, &job, &built) {
+            Err(_) => Handed::Back(Refusal::Memory, job, Some(built)),
+            Ok(outcome) => match self.out.take_back(job) {
+                Err(job) => Handed::Back(Refusal::NoJob, job, Some(built)),
+                Ok(record) => {
+                    drop(record);
+                    drop(built);
+                    take_in(&mut self.current, outcome)
+                }
+            },
+        }
+    }
+
+    /// A Job that is not out comes back before anything is made.
+    pub fn deliver(&mut self, job: Job, built: Built) -> Handed
+        ensures { AnswersOrLacks self.old (Deliver job built) (handed result) self.new }
+    {
+        if !self.out.is_out(&job) {
+            return Handed::Back(Refusal::NoJob, job, Some(built));
+        }
+        self.enter(job, built)
+    }
+
+    /// It takes no memory, and always succeeds for a Job that is out.
+    pub fn give_back(&mut self, job: Job) -> Handed
+        ensures { AnswersOrLacks self.old (GiveBack job) (handed result) self.new }
+    {
+        let number = self.current.number();
+        let record = match self.out.take_back(job) {
+            Ok(record) => record,
+            Err(job) => return Handed::Back(Refusal::NoJob, job, None),
+        };
+        drop(record);
+        Handed::Done(number)
+    }
+
+    /// Takes in what was found in packages of some files, if they are those of the current state.
+    pub fn learn(&mut self, files: &Graph, known: Known)
+        requires { KnowsVerdicts files.now known }
+        ensures { self.new ≡ self.old }
+    {
+        if let Ok(known) = SharedKnown::new(self.alloc, known) {
+            self.current.learn(files, known);
+        }
+    }
+
+    pub fn close(self) {
+        let Content {
+            alloc: _,
+            limits: _,
+            earlier,
+            current,
+            later,
+            next: _,
+            visit: _,
+            out,
+        } = self;
+        drop(earlier);
+        drop(current);
+        drop(later);
+        drop(out);
+    }
+}

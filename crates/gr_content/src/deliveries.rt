@@ -1,0 +1,101 @@
+//! What a delivery comes to.
+ghost use Rattle.std.specs.Prelude.{◌≡◌, ◌<◌, ◌↔◌, ℕ, Contains, IfOk, IsTrue, List, length};
+ghost use Rattle.std.specs.List.{All};
+ghost use Rattle.std.specs.List.Sorted.{IsStrictlyIncreasing};
+ghost use Rattle.gr_text.specs.Packages.{package_paths};
+ghost use Rattle.gr_graph.specs.Graphs.{HoldsPackages};
+ghost use Rattle.gr_graph.specs.Packages.{IsInClosure};
+ghost use Rattle.gr_compile.specs.Inputs.{AreInputs};
+ghost use Rattle.gr_content.specs.Outcomes.{ComesTo, FindsFresh};
+
+use gr_compile::{Built, Job};
+use gr_finished::{Finished, SharedKnown};
+use gr_graph::Graph;
+use gr_inputs::{are_inputs, learned};
+use gr_machine::State;
+use std::alloc::{AllocError, Global};
+
+/// What a delivery comes to.
+#[derive(Drop)]
+pub(crate) enum Outcome {
+    /// The Job, or what was built, is not of the state.
+    Late,
+    /// The package is finished.
+    Known,
+    /// The package is finished now: this is the table, and what is known then.
+    Entered(Finished, SharedKnown),
+}
+
+fn is_same_package(job: &Job, built: &Built) -> bool
+    ensures { IsTrue result ↔ (built.now.package ≡ job.now.package) }
+{
+    built.package().path() == job.package().path()
+}
+
+/// Whether a Job, and what was built, are of the inputs of a package, by the numbers of the packages in its closure.
+fn have_inputs(files: &Graph, closure: &[usize], job: &Job, built: &Built) -> bool
+    requires numbers { All (λ number. number < length (package_paths files.now)) closure.now }
+    requires rising { IsStrictlyIncreasing closure.now }
+    ensures { (p : List ℕ) → Contains (package_paths files.now) p → HoldsPackages files.now (IsInClosure files.now p) closure.now → IsTrue result ↔ (AreInputs files.now p job.now.inputs × AreInputs files.now p built.now.inputs) }
+{
+    if !are_inputs(files, closure, job.inputs()) {
+        return false;
+    }
+    are_inputs(files, closure, built.inputs())
+}
+
+/// The number of the package, where what was built may enter the state.
+fn fresh_number(
+    alloc: Global,
+    state: &State,
+    job: &Job,
+    built: &Built,
+) -> Result<Option<usize>, AllocError>
+    ensures { IfOk result (FindsFresh state.now job.now built.now) }
+{
+    let built_number = built.number();
+    if job.number() != state.number
+        || built_number != state.number
+        || !is_same_package(job, built)
+    {
+        return Ok(None);
+    }
+    let Some(number) = state.files.number_of(job.package().path()) else {
+        return Ok(None);
+    };
+    let closure = state.files.closure(alloc, number)?;
+    if have_inputs(&state.files, closure.as_slice(), job, built) {
+        Ok(Some(number))
+    } else {
+        Ok(None)
+    }
+}
+
+/// What a delivery to a state comes to.
+pub(crate) fn outcome_of(
+    alloc: Global,
+    state: &State,
+    job: &Job,
+    built: &Built,
+) -> Result<Outcome, AllocError>
+    ensures { IfOk result (ComesTo state.now job.now built.now) }
+{
+    let Some(number) = fresh_number(alloc, state, job, built)? else {
+        return Ok(Outcome::Late);
+    };
+    if state.finished.get(number).is_some() {
+        return Ok(Outcome::Known);
+    }
+    built.is_right();
+    let made = built.unit();
+    let unit = made.clone()?;
+    let finished = state.finished.with_unit(alloc, number, unit)?;
+    let known = learned(
+        alloc,
+        &state.files,
+        &state.known,
+        built.inputs(),
+        built.known(),
+    )?;
+    Ok(Outcome::Entered(finished, known))
+}

@@ -1,0 +1,40 @@
+-- Where the unit of a finished package stands, and a number below which each package is finished.
+use Rattle.std.proofs.Common.{◌≡◌, ℕ, ◌+◌, ◌<◌, List, length, get_or, None, Some, slice_get, sym, ap, subst, ◌∙◌, inl, inr, arith}
+use Rattle.std.proofs.Math.ListN.{set}
+use Rattle.std.proofs.lemmas.Bool.{cases_eq, cases_lt}
+use Rattle.std.proofs.lemmas.List.{get_or-set_same, get_or-set_other, length-set}
+use Rattle.std.proofs.lemmas.Option.{slice_get-get_or, slice_get_within}
+use Rattle.gr_text.specs.Packages.{package_paths}
+use Rattle.gr_text.specs.Workspace.{Workspace}
+use Rattle.gr_graph.proofs.PackagePaths.{one_number, paths_sorted}
+use Rattle.gr_compile.specs.declared.unit.Unit.{Unit as PackageUnit}
+use Rattle.gr_finished.specs.Finished.{Table, AreFinishedBelow, IsFinished}
+
+-- at the package's number, and nowhere else
+pub unit_at : (w : Workspace) (table : Table) (p : List ℕ) (unit : PackageUnit) (n : ℕ) → slice_get (package_paths w) n ≡ Some p →
+    IsFinished w table p unit → slice_get table n ≡ Some (Some unit)
+unit_at w table p unit n at f = subst (λ (k : ℕ). slice_get table k ≡ Some (Some unit)) (one_number (package_paths w) (paths_sorted w) f.0 n p f.1 at) f.2
+
+-- ---- a number below which each is finished
+pub finished_more : (table : Table) (n : ℕ) (unit : PackageUnit) → slice_get table n ≡ Some (Some unit) → AreFinishedBelow table n →
+    AreFinishedBelow table (n + 1)
+finished_more table n unit at below i lt = elim (cases_lt i n) [
+  | inl before ↦ below i before
+  | inr last ↦ (let is : n ≡ i = omega (arith, lt, last) in (unit, subst (λ (k : ℕ). slice_get table k ≡ Some (Some unit)) is at))
+]
+
+-- one more finished unit takes none away
+pub finished_still : (table : Table) (n front : ℕ) (unit : PackageUnit) → n < length table → AreFinishedBelow table front →
+    AreFinishedBelow (set table n (Some unit)) front
+finished_still table n front unit within below i lt =
+    let r = below i lt in
+    let inside : i < length table = slice_get_within table i (Some r.0) r.1 in
+    let long : i < length (set table n (Some unit)) = omega (arith, inside, length-set table n (Some unit)) in
+    let here = slice_get-get_or (set table n (Some unit)) i None long in
+    elim (cases_eq i n) [
+      | inl same ↦ (
+        unit,
+        here ∙ ap Some (ap (λ k. get_or (set table n (Some unit)) k None) same ∙ get_or-set_same table n (Some unit) None within),
+      )
+      | inr apart ↦ (r.0, here ∙ ap Some (get_or-set_other table n i (Some unit) None apart) ∙ sym (slice_get-get_or table i None inside) ∙ r.1)
+    ]

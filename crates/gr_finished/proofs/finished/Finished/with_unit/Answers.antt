@@ -1,0 +1,17 @@
+-- What was finished before is finished still.
+use Rattle.std.proofs.Common.{◌≡◌, Some, sym, subst, ◌∙◌}
+use Rattle.std.proofs.Math.ListN.{set}
+use Rattle.gr_finished.specs.Finished.{Table, AreFinishedBelow}
+use Rattle.gr_finished.proofs.FinishedUnits.{finished_still}
+use Rattle.gr_finished.proofs.finished.Finished.with_unit.Goals as goal
+
+pub front_from-front-requires : goal.front_from-front-requires
+front_from-front-requires c =
+    let n = c.args.number in
+    let u = c.args.unit in
+    let front = c.self.inside.front in
+    let is : c.in_ok-units.units ≡ c.args.self.now = c.in_ok-units.ensures ∙ c.deref.ensures ∙ c.self.view_is in
+    let held : AreFinishedBelow c.args.self.now front = subst (λ (t : Table). AreFinishedBelow t front) c.self.view_is c.self.invariant in
+    subst (λ (t : Table). AreFinishedBelow t front) (sym c.in_ok-set.ensures.ok)
+    (subst (λ (t : Table). AreFinishedBelow (set t n (Some u)) front) (sym is)
+    (finished_still c.args.self.now n front u c.requires held))

@@ -1,0 +1,136 @@
+//! The packages of a workspace that are finished, with their units.
+ghost use Rattle.std.specs.Prelude.{◌≡◌, ◌<◌, [], IfOk, MatchOption, Some, length, slice_get, slice_set};
+ghost use Rattle.gr_compile.specs.declared.unit.Unit.{Unit as PackageUnit};
+ghost use Rattle.gr_finished.specs.Finished.{AreFinishedBelow};
+
+use gr_chunks::SharedList;
+use gr_compile::Unit;
+use std::alloc::{AllocError, Global};
+use std::marker::Model;
+use std::sync::Arc;
+
+/// For each package of a workspace, by its number, its unit if it is finished, and a number below which each is. A clone shares the
+/// table, and one in which a package more is finished shares all but a chunk of it.
+pub struct Finished {
+    units: Arc<SharedList<Option<Unit>>, Global>,
+    front: usize,
+}
+
+/// Written out, so that crates above call it and don't prove again how each part is dropped.
+impl Drop for Finished {
+    fn drop(self) {
+        let Finished { units, front: _ } = self;
+        drop(units);
+    }
+}
+
+impl Model for Finished {
+    ghost use Rattle.std.specs.Prelude.{List, Option};
+    ghost use Rattle.std.specs.Arc.{arc_value};
+    ghost use Rattle.std.specs.Coded.{codes};
+    ghost use Rattle.gr_compile.specs.Codes.{unit_code};
+    ghost use Rattle.gr_compile.specs.declared.unit.Unit.{Unit as PackageUnit};
+    ghost use Rattle.gr_finished.specs.Finished.{AreFinishedBelow};
+
+    ghost Value = { List (Option PackageUnit) };
+
+    ghost coded = { Prim.hlevel (codes, unit_code) };
+
+    ghost view = { λ a. arc_value a.units };
+
+    ghost invariant = { λ a. AreFinishedBelow (arc_value a.units) a.front };
+}
+
+/// The unit of a package, if it is finished.
+fn unit_at(units: &SharedList<Option<Unit>>, number: usize) -> Option<&Unit>
+    ensures { MatchOption result ((unit : PackageUnit) → slice_get units.now number ≡ Some (Some unit) → ⊥) (λ unit. slice_get units.now number ≡ Some (Some unit.now)) }
+{
+    match units.get(number) {
+        Some(unit) => unit.as_ref(),
+        None => None,
+    }
+}
+
+/// A number below which each package is finished, where each is below another.
+fn front_from(units: &SharedList<Option<Unit>>, least: usize) -> usize
+    requires { AreFinishedBelow units.now least }
+    ensures { AreFinishedBelow units.now result }
+{
+    for number in least..units.len() {
+        let Some(_) = unit_at(units, number) else {
+            return number;
+        };
+    }
+    units.len().max(least)
+}
+
+impl Finished {
+    /// The table of no package.
+    pub fn new(alloc: Global) -> Result<Finished, AllocError>
+        ensures { IfOk result (λ table. table ≡ []) }
+    {
+        Finished::of(alloc, SharedList::new(alloc))
+    }
+
+    /// The table of these units.
+    pub fn of(alloc: Global, units: SharedList<Option<Unit>>) -> Result<Finished, AllocError>
+        ensures { IfOk result (λ table. table ≡ units) }
+    {
+        let front = front_from(&units, 0);
+        Finished::shared(alloc, units, front)
+    }
+
+    fn shared(
+        alloc: Global,
+        units: SharedList<Option<Unit>>,
+        front: usize,
+    ) -> Result<Finished, AllocError>
+        requires { AreFinishedBelow units front }
+        ensures { IfOk result (λ table. table ≡ units) }
+    {
+        let units = Arc::new(alloc, units)?;
+        Ok(Finished { units, front })
+    }
+
+    /// The unit of a package, if it is finished.
+    pub fn get(&self, number: usize) -> Option<&Unit>
+        ensures { MatchOption result ((unit : PackageUnit) → slice_get self.now number ≡ Some (Some unit) → ⊥) (λ unit. slice_get self.now number ≡ Some (Some unit.now)) }
+    {
+        unit_at(&self.units, number)
+    }
+
+    /// A number below which each package is finished: to look for one that is not may begin there.
+    pub fn front(&self) -> usize
+        ensures { AreFinishedBelow self.now result }
+    {
+        self.front
+    }
+
+    /// The table in which one package more is finished.
+    pub fn with_unit(
+        &self,
+        alloc: Global,
+        number: usize,
+        unit: Unit,
+    ) -> Result<Finished, AllocError>
+        requires { number < length self.now }
+        ensures { IfOk result (λ table. table ≡ slice_set self.now number (Some unit)) }
+    {
+        let mut units = self.units.copy()?;
+        units.set(number, Some(unit))?;
+        let front = front_from(&units, self.front);
+        Finished::shared(alloc, units, front)
+    }
+}
+
+impl Clone for Finished {
+    ghost is_clone = { λ table copy. copy ≡ table };
+
+    fn clone(&self) -> Result<Finished, AllocError> {
+        let units = Arc::try_clone(&self.units)?;
+        Ok(Finished {
+            units,
+            front: self.front,
+        })
+    }
+}

@@ -1,0 +1,28 @@
+-- One package further, whose closure is that of the workspace.
+use Rattle.std.proofs.Common.{◌≡◌, ℕ, List, sym, subst, ◌∙◌}
+use Rattle.std.proofs.lemmas.Option.{same_Some}
+use Rattle.gr_graph.proofs.Asked.{at_contains}
+use Rattle.gr_verdict.specs.Found.{KnowsVerdicts}
+use Rattle.gr_verdict.proofs.Telling.{nothing_told, told_next}
+use Rattle.gr_inputs.specs.Knowing.{TellsThere}
+use Rattle.gr_inputs.proofs.Learning.{tells_here}
+use Rattle.gr_inputs.proofs.learning.known_within.Goals as goal
+
+pub loop-number-init : goal.loop-number-init
+loop-number-init c = nothing_told c.new-within.result c.new-within.ensures.nothing c.args.inputs.now
+
+pub loop-number-preserved : goal.loop-number-preserved
+loop-number-preserved c =
+    let v = c.args.files.now in
+    let w = c.args.inputs.now in
+    let n = c.loop-number.number in
+    let found = c.in_ok-verdict.verdict in
+    told_next w n c.loop-number.within c.push.new.self found c.in_ok-push.ensures c.loop-number.invariant (λ p at.
+    let path : c.deref.result.now ≡ p = c.deref.ensures.value ∙ same_Some c.package.result.now.path.items p (sym c.package.ensures.path ∙ at) in
+    tells_here v w p found (λ has. c.requires.closures p (at_contains w n p at)) (subst (λ (q : List ℕ). TellsThere v q found) path c.in_ok-verdict.ensures))
+
+pub returns : goal.returns
+returns c = c.loop-number.invariant.verdicts
+
+pub verdict_there-requires : goal.verdict_there-requires
+verdict_there-requires c = subst (KnowsVerdicts c.args.files.now) (sym c.get.ensures) c.requires.known

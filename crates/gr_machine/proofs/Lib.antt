@@ -1,0 +1,11 @@
+-- The lemmas of this crate.
+pub mod Waits
+pub mod Fresh
+pub mod Replies
+pub mod Stepped
+pub mod Legal
+pub mod Kept
+pub mod Journaled
+pub mod NumberLaws
+pub mod RunLaws
+pub mod CurrentLaws

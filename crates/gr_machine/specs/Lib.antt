@@ -1,0 +1,13 @@
+-- The definitions of this crate.
+pub mod Kinds
+pub mod Codes
+pub mod State
+pub mod Journal
+pub mod Machine
+pub mod Waiting
+pub mod Deliveries
+pub mod Step
+pub mod Kept
+pub mod MayReply
+pub mod Run
+pub mod Current

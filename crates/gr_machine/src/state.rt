@@ -1,0 +1,98 @@
+//! One state of the history.
+ghost use Rattle.std.specs.Prelude.{◌≡◌, IfOk};
+ghost use Rattle.gr_verdict.specs.Found.{KnowsVerdicts};
+ghost use Rattle.gr_inputs.specs.Inputs.{HoldsGathered};
+
+use crate::view::KnownSnapshot;
+use gr_finished::{Finished, SharedKnown};
+use gr_graph::Graph;
+use gr_inputs::GatheredFiles;
+use gr_space::Snapshot;
+use gr_text::Limits;
+use std::alloc::AllocError;
+use std::marker::Model;
+
+/// A workspace with its number, the units of those of its packages that are finished, and what is known of packages; and the files that
+/// were gathered last for the inputs of one.
+pub struct State {
+    pub number: u64,
+    pub files: Graph,
+    pub finished: Finished,
+    pub known: SharedKnown,
+    pub gathered: GatheredFiles,
+}
+
+/// Written out, so that crates above call it and don't prove again how each part is dropped.
+impl Drop for State {
+    fn drop(self) {
+        let State {
+            number: _,
+            files,
+            finished,
+            known,
+            gathered,
+        } = self;
+        drop(files);
+        drop(finished);
+        drop(known);
+        drop(gathered);
+    }
+}
+
+impl Model for State {
+    ghost use Rattle.std.specs.Prelude.{◌≡◌, length};
+    ghost use Rattle.std.specs.Coded.{codes};
+    ghost use Rattle.gr_text.specs.Packages.{package_paths};
+    ghost use Rattle.gr_verdict.specs.Found.{KnowsVerdicts};
+    ghost use Rattle.gr_compile.specs.Codes.{unit_code, workspace_code};
+    ghost use Rattle.gr_inputs.specs.Inputs.{HoldsGathered};
+    ghost use Rattle.gr_machine.specs.State.{State};
+
+    ghost Value = { State };
+
+    ghost coded = { Prim.hlevel (codes, unit_code, workspace_code) };
+
+    ghost view = { λ a. record { number = a.number; files = a.files; finished = a.finished } };
+
+    ghost invariant = { λ a. (length a.finished ≡ length (package_paths a.files)) × KnowsVerdicts a.files a.known × HoldsGathered a.files a.gathered };
+}
+
+impl State {
+    pub fn number(&self) -> u64
+        ensures { result ≡ self.now.number }
+    {
+        self.number
+    }
+
+    /// The state, shared, as a snapshot.
+    pub fn snapshot(&self, limits: Limits) -> Result<KnownSnapshot, AllocError>
+        ensures { IfOk result (λ snapshot. snapshot ≡ record { number = self.now.number; limits = limits; files = self.now.files }) }
+    {
+        let files = self.files.clone()?;
+        let known = self.known.clone()?;
+        let snapshot = Snapshot {
+            number: self.number,
+            limits,
+            files,
+        };
+        Ok(KnownSnapshot::new(snapshot, known))
+    }
+
+    /// Keeps the files that were gathered last. The next inputs begin with them.
+    pub fn keep(&mut self, gathered: GatheredFiles)
+        requires { HoldsGathered self.old.files gathered }
+        ensures { self.new ≡ self.old }
+    {
+        self.gathered = gathered;
+    }
+
+    /// Takes in what was found in packages of some files, if they are its own.
+    pub fn learn(&mut self, files: &Graph, known: SharedKnown)
+        requires { KnowsVerdicts files.now known }
+        ensures { self.new ≡ self.old }
+    {
+        if self.files.files().same(files.files()) {
+            self.known = known;
+        }
+    }
+}
