@@ -9,8 +9,8 @@ Order: a gate takes no less than its longest chain of crates, one behind another
 more memory than proofs take, and may give each proof one processor. Here a chain is told by the seconds of checks/gate_seconds.txt, and the
 proof with the longest chain behind it has up to three processors. checks/gate.sh runs this.
 
-Stored sessions: where rt runs a build of gr_server, all of crates/gr_server/sessions are run on the same build. One that is answered
-otherwise fails the run of the program, so the gate fails, and its last line tells of it.
+The program: where rt runs a build of gr_server, all of crates/gr_server/sessions and the checks of program.py are run on the same build. One
+that is answered otherwise fails the run of the program, so the gate fails, and its last line tells of it.
 """
 import functools
 import importlib.machinery
@@ -18,6 +18,7 @@ import importlib.util
 import inspect
 import os
 import shutil
+import subprocess
 import sys
 import tempfile
 from concurrent.futures import FIRST_COMPLETED, ThreadPoolExecutor, wait
@@ -29,7 +30,8 @@ import replay
 # More memory than a proof was seen to take, in bytes.
 MEMORY_OF_ONE = 3_500_000_000
 PROCESSORS_OF_THE_FIRST = 3
-SECONDS = os.path.join(os.path.dirname(os.path.abspath(__file__)), "gate_seconds.txt")
+CHECKS = os.path.dirname(os.path.abspath(__file__))
+SECONDS = os.path.join(CHECKS, "gate_seconds.txt")
 PROGRAM = "gr_server"
 
 
@@ -111,23 +113,31 @@ def lanes_of(rt):
     return in_lanes
 
 
-def sessions_differ(rt, program):
+def answers_sessions(rt, program):
     """Runs the stored sessions on a copy of the program, as rt runs programs: as nobody, if it is root. It tells of each that differs."""
-    sessions = replay.stored()
+    sessions, name = replay.stored(), os.path.basename(program)
     with tempfile.TemporaryDirectory() as room:
         os.chmod(room, 0o711)
         copy = shutil.copy(program, room)
         os.chmod(copy, 0o755)
         lines = replay.differences([*rt.drop_to_nobody(), copy, "run"], sessions)
-    for line in lines:
+    for line in [*lines, f"{len(sessions)} stored sessions, {len(lines)} differ"]:
+        rt.say(f"{name}: {line}")
+    return bool(sessions) and not lines
+
+
+def passes_checks(rt, program):
+    """Runs the checks of program.py on the program. It tells of all of them where one fails."""
+    ran = subprocess.run([sys.executable, "-B", os.path.join(CHECKS, "program.py"), program], stdout=subprocess.PIPE, text=True)
+    lines = ran.stdout.splitlines()
+    for line in lines if ran.returncode else lines[-1:]:
         rt.say(f"{os.path.basename(program)}: {line}")
-    rt.say(f"{os.path.basename(program)}: {len(sessions)} stored sessions, {len(lines)} differ")
-    return bool(lines) or not sessions
+    return ran.returncode == 0
 
 
-def with_sessions(rt, asked):
-    """A way to run what a crate's proof built, for rt's own: with the stored sessions behind it where that is the program. The builds that
-    were run on them are added to the list `asked`."""
+def with_checks(rt, asked):
+    """A way to run what a crate's proof built, for rt's own: with the stored sessions and the checks behind it where that is the program. The
+    builds that were run on them are added to the list `asked`."""
     own = rt.run
 
     def run(crate, tests, ending=""):
@@ -135,7 +145,9 @@ def with_sessions(rt, asked):
         if crate.name != PROGRAM or tests or not is_well:
             return is_well
         asked.append(ending)
-        return not sessions_differ(rt, f"{crate.folder}/out/{crate.name}{ending}")
+        program = f"{crate.folder}/out/{crate.name}{ending}"
+        # both are to be told of
+        return all([answers_sessions(rt, program), passes_checks(rt, program)])
 
     return run
 
@@ -143,7 +155,7 @@ def with_sessions(rt, asked):
 def main():
     rt = load(os.path.realpath(shutil.which("rt")))
     asked = []
-    rt.run = with_sessions(rt, asked)
+    rt.run = with_checks(rt, asked)
     crate = rt.rtlib.Crate
     crate.stamp, crate.below = once(crate.stamp), once(crate.below)
     if hasattr(rt, "in_lanes"):

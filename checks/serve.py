@@ -12,18 +12,19 @@ import sys
 
 import connections
 import editors
+import limits
 import statuses
 import story
 from server import PROGRAM, passes
 
-CHECKS = statuses.CHECKS + editors.CHECKS + connections.CHECKS + story.CHECKS
+CHECKS = statuses.CHECKS + limits.CHECKS + editors.CHECKS + connections.CHECKS + story.CHECKS
 
 
-def main():
+def main(checks=CHECKS):
     PROGRAM.extend(os.path.abspath(word) if os.path.isfile(word) else word for word in sys.argv[1:])
     if not PROGRAM:
         sys.exit(__doc__)
-    sys.exit(0 if passes(CHECKS) else 1)
+    sys.exit(0 if passes(checks) else 1)
 
 
 if __name__ == "__main__":

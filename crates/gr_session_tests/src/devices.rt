@@ -1,13 +1,10 @@
-//! Readers and writers that are slow, and that fail.
-use crate::desks::opened;
-use gr_desk::Solo;
-use gr_line::{Reading, Writing};
+//! Readers and writers that are slow, and that fail. What was read whole before is done and answered, and stands.
+use crate::assertion::{holds, opened};
 use gr_text::Limits;
-use gr_wire::{SessionFault, session, transcript};
-use std::alloc::Global;
+use gr_wire::{SessionFault, converse, transcript};
 use std::io;
 use std::io::{Read, Write};
-use std::test::Fail;
+use std::process::Abort;
 
 /// Gives one byte at a time, and fails once its reads are used up.
 #[derive(Drop)]
@@ -17,10 +14,6 @@ struct SlowReader<'a> {
 }
 
 impl Read for SlowReader<'_> {
-    ghost use Rattle.std.specs.Prelude.{Some};
-
-    ghost remaining = { λ r. Some r.bytes.now };
-
     fn read(&mut self, buf: &mut [u8]) -> io::Result<usize> {
         if self.reads_left == 0 {
             return Err(io::Error::from(io::ErrorKind::BrokenPipe));
@@ -31,21 +24,18 @@ impl Read for SlowReader<'_> {
     }
 }
 
-/// Takes one byte at a time, and fails once its writes are used up.
+/// Takes one byte at a time, and none once its writes are used up. It fails to send once its sends are used up.
 #[derive(Drop)]
 struct SlowWriter {
     taken: Vec<u8>,
     writes_left: u64,
+    sends_left: u64,
 }
 
 impl Write for SlowWriter {
-    ghost use Rattle.std.specs.Prelude.{Some};
-
-    ghost contents = { λ w. Some w.taken.items };
-
     fn write(&mut self, buf: &[u8]) -> io::Result<usize> {
         if self.writes_left == 0 {
-            return Err(io::Error::from(io::ErrorKind::BrokenPipe));
+            return Ok(0);
         }
         self.writes_left -= 1;
         let size = buf.len().min(1);
@@ -53,46 +43,27 @@ impl Write for SlowWriter {
     }
 
     fn flush(&mut self) -> io::Result<()> {
+        if self.sends_left == 0 {
+            return Err(io::Error::from(io::ErrorKind::BrokenPipe));
+        }
+        self.sends_left -= 1;
         Ok(())
     }
 }
 
-/// Takes no byte of any write.
-#[derive(Drop)]
-struct FullWriter;
+/// Two puts, the first of 18 bytes, both of 35.
+const TWO_PUTS: &[u8] = b"put 0 a/a.go 3\nabcput 1 b/b.go 2\nde";
 
-impl Write for FullWriter {
-    ghost use Rattle.std.specs.Prelude.{None};
+/// What is answered to them.
+const REPLIES: &[u8] = b"ok 1 0\nok 2 0\n";
 
-    ghost contents = { λ _. None };
-
-    fn write(&mut self, _buf: &[u8]) -> io::Result<usize> {
-        Ok(0)
+/// What a session then lists after so many of them.
+fn listed(puts: u64) -> &'static [u8] {
+    match puts {
+        0 => b"ok 0 0\n",
+        1 => b"ok 1 9\na/a.go 3\n",
+        _ => b"ok 2 18\na/a.go 3\nb/b.go 2\n",
     }
-
-    fn flush(&mut self) -> io::Result<()> {
-        Ok(())
-    }
-}
-
-/// How a session over slow devices ends, and what it wrote.
-fn slow_session(
-    alloc: Global,
-    solo: &mut Solo,
-    input: &[u8],
-    reads_left: u64,
-    writes_left: u64,
-) -> (Result<(), SessionFault>, Vec<u8>) {
-    let mut source = Reading::new(SlowReader {
-        bytes: input,
-        reads_left,
-    });
-    let mut sink = Writing::new(SlowWriter {
-        taken: Vec::new(alloc),
-        writes_left,
-    });
-    let ended = session(alloc, &mut source, &mut sink, solo, Limits::FULL);
-    (ended, sink.into_inner().taken)
 }
 
 /// How a session ended, what it wrote, and what a second one on the same book then writes.
@@ -104,115 +75,81 @@ struct Served {
 }
 
 impl Served {
-    fn is(&self, ended: Result<(), SessionFault>, taken: &[u8], listed: &[u8]) -> bool {
-        self.ended == ended && self.taken.as_slice() == taken && self.listed.as_slice() == listed
+    /// Whether it ended so, after so many bytes of replies and so many puts.
+    fn is(&self, ended: Result<(), SessionFault>, bytes: u64, puts: u64) -> bool {
+        self.ended == ended
+            && REPLIES.get(..bytes as usize) == Some(self.taken.as_slice())
+            && self.listed.as_slice() == listed(puts)
     }
 }
 
-fn run_on_devices(
-    alloc: Global,
-    input: &[u8],
-    reads_left: u64,
-    writes_left: u64,
-) -> Result<Served, Fail> {
-    let mut solo = opened(alloc, Limits::FULL)?;
-    let (ended, taken) = slow_session(alloc, &mut solo, input, reads_left, writes_left);
+/// Serves the two puts, with so many reads, writes and sends.
+fn served(rt: &(impl Abort + AllocGlobal), reads: u64, writes: u64, sends: u64) -> Served {
+    let alloc = rt.alloc();
+    let mut solo = opened(alloc).expect(rt, "a desk");
+    let reader = SlowReader {
+        bytes: TWO_PUTS,
+        reads_left: reads,
+    };
+    let writer = SlowWriter {
+        taken: Vec::new(alloc),
+        writes_left: writes,
+        sends_left: sends,
+    };
+    let (ended, writer) = converse(alloc, reader, writer, &mut solo, Limits::FULL);
     let listed = transcript(alloc, b"list\n", &mut solo, Limits::FULL);
     let _entries = solo.into_book().close();
-    Ok(Served {
+    Served {
         ended,
-        taken,
-        listed: listed?,
-    })
-}
-
-const PUT_AND_UNDO: &[u8] =
-    b"put 0 a/a.go 58\npackage a\n\nvar x int\n\nfunc F(y int) int {\n\treturn x + y\n}\nundo 1\nend\nrest";
-
-#[test]
-fn one_byte_at_a_time(rt: HostRuntime) -> Result<(), Fail> {
-    let served = run_on_devices(rt.alloc(), PUT_AND_UNDO, 1000, 1000)?;
-    assert!(rt; served.is(Ok(()), b"ok 1 0\nok 0 0\n", b"ok 0 0\n"));
-    Ok(())
-}
-
-/// Two puts, the first of 18 bytes, both of 35.
-const TWO_PUTS: &[u8] = b"put 0 a/a.go 3\nabcput 1 b/b.go 2\nde";
-
-/// What is written, and what then stands there, after so many reads of a byte, with a last one that tells the end.
-fn after_reads(reads: u64) -> (Result<(), SessionFault>, &'static [u8], &'static [u8]) {
-    let failed = Err(SessionFault::Read);
-    match reads {
-        0..18 => (failed, b"", b"ok 0 0\n"),
-        18..35 => (failed, b"ok 1 0\n", b"ok 1 9\na/a.go 3\n"),
-        _ => (
-            if reads == 35 { failed } else { Ok(()) },
-            b"ok 1 0\nok 2 0\n",
-            b"ok 2 18\na/a.go 3\nb/b.go 2\n",
-        ),
+        taken: writer.taken,
+        listed: listed.ok().expect(rt, "a session"),
     }
 }
 
+/// How many of the two puts are done at a count: the first from one number on, both from another.
+fn puts_after(count: u64, first: u64, both: u64) -> u64 {
+    if count < first {
+        0
+    } else if count < both {
+        1
+    } else {
+        2
+    }
+}
+
+fn fault_if(fails: bool, fault: SessionFault) -> Result<(), SessionFault> {
+    if fails { Err(fault) } else { Ok(()) }
+}
+
+/// A put is done once its last byte is read. Behind the last there is a read that tells the end.
 #[test]
-fn a_read_that_fails_anywhere(rt: HostRuntime) -> Result<(), Fail> {
+fn a_read_that_fails_anywhere(rt: HostRuntime) {
     for reads in 0..37 {
-        let (ended, taken, listed) = after_reads(reads);
-        let served = run_on_devices(rt.alloc(), TWO_PUTS, reads, 1000)?;
-        assert!(rt; served.is(ended, taken, listed), "at {reads}");
-    }
-    Ok(())
-}
-
-/// How a session ends, and what then stands there, after so many writes of a byte. The replies have 14.
-fn after_writes(writes: u64) -> (Result<(), SessionFault>, &'static [u8]) {
-    let ended = if writes < 14 {
-        Err(SessionFault::Write)
-    } else {
-        Ok(())
-    };
-    if writes < 7 {
-        (ended, b"ok 1 9\na/a.go 3\n")
-    } else {
-        (ended, b"ok 2 18\na/a.go 3\nb/b.go 2\n")
+        let puts = puts_after(reads, 18, 35);
+        let ended = fault_if(reads < 36, SessionFault::Read);
+        let served = served(&rt, reads, 1000, 1000);
+        holds(&rt, served.is(ended, puts.saturating_mul(7), puts));
     }
 }
 
+/// A reply is written once its put is done.
 #[test]
-fn a_write_that_fails_anywhere(rt: HostRuntime) -> Result<(), Fail> {
-    let output = b"ok 1 0\nok 2 0\n".as_slice();
+fn a_write_that_fails_anywhere(rt: HostRuntime) {
     for writes in 0..16 {
-        let (ended, listed) = after_writes(writes);
-        let taken = &output[..writes.min(14) as usize];
-        let served = run_on_devices(rt.alloc(), TWO_PUTS, 1000, writes)?;
-        assert!(rt; served.is(ended, taken, listed), "at {writes}");
+        let puts = puts_after(writes, 0, 7);
+        let ended = fault_if(writes < 14, SessionFault::Write);
+        let served = served(&rt, 1000, writes, 1000);
+        holds(&rt, served.is(ended, writes.min(14), puts));
     }
-    Ok(())
 }
 
+/// All is sent before each put is read, before the end is, and at the end.
 #[test]
-fn a_write_of_no_byte(rt: HostRuntime) -> Result<(), Fail> {
-    let mut solo = opened(rt.alloc(), Limits::FULL)?;
-    let mut source = Reading::new(b"look\n".as_slice());
-    let mut sink = Writing::new(FullWriter);
-    let ended = session(rt.alloc(), &mut source, &mut sink, &mut solo, Limits::FULL);
-    let _entries = solo.into_book().close();
-    assert_eq!(rt; ended, Err(SessionFault::Write));
-    Ok(())
-}
-
-#[test]
-fn reads_over_their_limit(rt: HostRuntime) -> Result<(), Fail> {
-    let mut limits = Limits::FULL;
-    limits.reads = 2;
-    let mut solo = opened(rt.alloc(), Limits::FULL)?;
-    let mut source = Reading::new(SlowReader {
-        bytes: b"look\n",
-        reads_left: 100,
-    });
-    let mut sink = Writing::new(Vec::new(rt.alloc()));
-    let ended = session(rt.alloc(), &mut source, &mut sink, &mut solo, limits);
-    let _entries = solo.into_book().close();
-    assert_eq!(rt; ended, Err(SessionFault::Turns));
-    assert_eq!(rt; sink.into_inner().len(), 0);
-    Ok(())
+fn a_send_that_fails_anywhere(rt: HostRuntime) {
+    for sends in 0..4 {
+        let puts = sends.min(2);
+        let ended = fault_if(sends < 3, SessionFault::Write);
+        let served = served(&rt, 1000, 1000, sends);
+        holds(&rt, served.is(ended, puts.saturating_mul(7), puts));
+    }
 }

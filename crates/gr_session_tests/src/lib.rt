@@ -1,30 +1,16 @@
-//! The tests of sessions that a stored input can't make: with lowered limits, several on one book, and with readers, writers and
-//! allocations that fail; of the server on a socket, with clients on other threads; and of the words that it is started by. They are
-//! over public calls alone. They stand apart from the crates, since a crate with tests of its own is proved twice, and together,
-//! since each crate of tests is built with all below it.
+//! The tests of what neither a stored session nor a run of the program can make: histories with Jobs, event by event; sessions whose
+//! reader or writer fails behind any byte; and sessions in which an allocation is refused. They are over public calls alone. They stand
+//! apart from the crates, since a crate with tests of its own is proved twice, and together, since each crate of tests is built with all
+//! below it.
 #![tactic(auto)]
 
 #[cfg(test)]
-mod client;
-#[cfg(test)]
-mod cut;
-#[cfg(test)]
-mod desks;
+mod assertion;
 #[cfg(test)]
 mod devices;
 #[cfg(test)]
-mod limits;
+mod histories;
+#[cfg(test)]
+mod jobs;
 #[cfg(test)]
 mod refused;
-#[cfg(test)]
-mod sends;
-#[cfg(test)]
-mod served;
-#[cfg(test)]
-mod several;
-#[cfg(test)]
-mod story;
-#[cfg(test)]
-mod together;
-#[cfg(test)]
-mod words;

@@ -1,0 +1,25 @@
+//! An assertion as a call: the macro is many steps to a prover, a call is one. And what each test begins with.
+ghost use Rattle.std.specs.Prelude.{IsTrue};
+
+use gr_book::Book;
+use gr_desk::Solo;
+use gr_text::Limits;
+use std::alloc::{AllocError, Global};
+use std::process::Abort;
+
+/// Ends the test where the fact does not hold.
+pub(crate) fn holds(rt: &impl Abort, fact: bool)
+    ensures { IsTrue fact }
+{
+    assert!(rt; fact);
+}
+
+pub(crate) fn book(rt: &(impl Abort + AllocGlobal)) -> Book {
+    Book::new(rt.alloc(), Limits::FULL).expect(rt, "a book")
+}
+
+/// What a session of its own speaks to.
+pub(crate) fn opened(alloc: Global) -> Result<Solo, AllocError> {
+    let book = Book::new(alloc, Limits::FULL)?;
+    Ok(Solo::new(book))
+}
