@@ -84,7 +84,8 @@ fn each_package_goes_out_once_a_visit(rt: HostRuntime) {
 
 #[test]
 fn a_job_of_another_book_comes_back(rt: HostRuntime) {
-    let (mut mine, mut other) = (book(&rt), book(&rt));
+    let mut mine = book(&rt);
+    let mut other = book(&rt);
     put(&rt, &mut mine, "a/a.go", A);
     let job = take(&rt, &mut mine, "a");
     let job = deliver(&rt, &mut other, job).expect(&rt, "a job");

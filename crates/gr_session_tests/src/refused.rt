@@ -36,10 +36,16 @@ fn is_kept(first: &[u8], second: &[u8], reply: &str, again: &str) -> bool {
     first == reply.as_bytes() && (second == again.as_bytes() || second == NO_MEMORY)
 }
 
-/// Sends a row's command twice, and tells whether it was answered so, or None where a session had no memory.
-fn sends_twice(alloc: Global, solo: &mut Solo, row: &str) -> Option<bool> {
+/// The command of a row and its two replies.
+fn parts(row: &str) -> Option<(&str, &str, &str)> {
     let (command, replies) = row.split_once('|')?;
     let (reply, again) = replies.split_once('|')?;
+    Some((command, reply, again))
+}
+
+/// Sends a row's command twice, and tells whether it was answered so, or None where a session had no memory.
+fn sends_twice(alloc: Global, solo: &mut Solo, row: &str) -> Option<bool> {
+    let (command, reply, again) = parts(row)?;
     let first = answer(alloc, solo, command)?;
     let second = answer(alloc, solo, command)?;
     Some(is_kept(&first, &second, reply, again))
