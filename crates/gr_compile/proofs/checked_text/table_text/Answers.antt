@@ -27,10 +27,10 @@ returns c =
     subst (λ ts. AreParsed (package_files w p) ts []) (sym c.as_slice.ensures.value)
     (parsed_all w c.args.number p c.args.of.files.now at c.requires.files c.requires.read) in
     let own = package_in p (map source_of trees) table (interface_in i) in
-    let here = λ (state : List ℕ → ImportState) (laid : IsLaid c.args.of.files.now.trees.items state (name_in i) table).
-    subst (λ ts. IsLaid ts state (name_in i) table) (sym c.as_slice.ensures.value) laid in
-    let mine = λ (state : List ℕ → ImportState) (laid : IsLaid trees state (name_in i) table).
-    let is : IsPackageOf p trees (name_in i) (interface_in i) own = record { laid = table; is_laid = laid.is_laid; is_package = refl } in is in
+    let here : (state : List ℕ → ImportState) → IsLaid c.args.of.files.now.trees.items state (name_in i) table → IsLaid trees state (name_in i) table =
+    λ state laid. subst (λ ts. IsLaid ts state (name_in i) table) (sym c.as_slice.ensures.value) laid in
+    let mine : (state : List ℕ → ImportState) → IsLaid trees state (name_in i) table → IsPackageOf p trees (name_in i) (interface_in i) own =
+    λ state laid. record { laid = table; is_laid = laid.is_laid; is_package = refl } in
     record {
       checked = IfOk-weaker c.unit_text.result _ _ (λ made checked known state laid seen states. record {
         files = trees;
