@@ -237,6 +237,31 @@ fn read_text(
 }
 
 /// What checking finds in a package each of whose files has a tree, with the text of its object if it has no fault, where interfaces
+/// tell just what it sees of others, and it is noted what each path is that it imports.
+fn noted_text<'a>(
+    alloc: Global,
+    graph: &Graph,
+    number: usize,
+    of: Seeing<'a>,
+    noted: &Interfaces,
+) -> Result<CheckedText, AllocError>
+    requires at { slice_get (package_paths graph.now) number ≡ Some of.path.now }
+    requires files { IsPackage graph.now number of.files.now }
+    requires read { of.files.now.faulty.items ≡ [] }
+    requires whole { AreWhole of.interfaces.now }
+    requires told { IsSeenIn graph.now of.path.now of.interfaces.now }
+    requires states { AreStates graph.now (known_by of.interfaces.now) of.path.now (state_in noted.now.states) }
+    ensures checked { IfOk result (λ made. IsCheckedIn graph.now (known_by of.entry.interfaces.now) of.entry.path.now made.checked) }
+    ensures text { IfOk result (λ made. AreVerdictsBelow graph.now of.entry.path.now (known_by of.entry.interfaces.now) → MayBeText graph.now of.entry.path.now made.text) }
+{
+    let found = table_of(alloc, noted.states(), &of.files.trees, of.interfaces)?;
+    match found {
+        None => read_text(alloc, graph, number, of.path, of.files, of.interfaces),
+        Some(table) => table_text(alloc, graph, number, of, table),
+    }
+}
+
+/// What checking finds in a package each of whose files has a tree, with the text of its object if it has no fault, where interfaces
 /// tell just what it sees of others: it is checked by these. Where its clauses or imports have a fault it is checked by its own.
 fn told_text<'a>(
     alloc: Global,
@@ -255,16 +280,12 @@ fn told_text<'a>(
     ensures text { IfOk result (λ made. AreVerdictsBelow graph.now path.now (known_by all.now) → MayBeText graph.now path.now made.text) }
 {
     let noted = import_states(alloc, graph, number, all)?;
-    let found = table_of(alloc, noted.states(), &files.trees, all)?;
     let of = Seeing {
         path,
         files,
         interfaces: all,
     };
-    match found {
-        None => read_text(alloc, graph, number, path, files, all),
-        Some(table) => table_text(alloc, graph, number, of, table),
-    }
+    noted_text(alloc, graph, number, of, &noted)
 }
 
 /// What checking finds in a package each of whose files has a tree, with the text of its object if it has no fault, by what is known.

@@ -1,33 +1,17 @@
 -- The answers to the goals of `checked_text::told_text`.
-use Rattle.std.proofs.Common.{subst}
 use Rattle.std.proofs.lemmas.Option.{slice_get_within}
-use Rattle.std.proofs.lemmas.Result.{IfOk-weaker}
 use Rattle.gr_text.specs.Packages.{package_paths}
-use Rattle.gr_imports.specs.States.{state_in}
-use Rattle.gr_declared.specs.InterfacesView.{name_in}
-use Rattle.gr_types.specs.Check.{MayLay}
-use Rattle.gr_verdict.specs.Told.{known_by}
 use Rattle.gr_compile.proofs.checked_text.told_text.Goals as goal
 
 pub import_states-requires : goal.import_states-requires
 import_states-requires c = slice_get_within (package_paths c.args.graph.now) c.args.number c.args.path.now c.requires.at
 
-pub read_text-requires : goal.read_text-requires
-read_text-requires c = record { at = c.requires.at; files = c.requires.files; read = c.requires.read; whole = c.requires.whole }
-
-pub table_text-requires : goal.table_text-requires
-table_text-requires c = record { at = c.requires.at; files = c.requires.files; read = c.requires.read }
-
-pub returns-in-Some : goal.returns-in-Some
-returns-in-Some c =
-    let i = c.args.all.now in
-    let noted = c.in_ok-noted.noted in
-    let known = known_by i in
-    let may = subst (λ s. MayLay c.args.files.now.trees.items (state_in s) (name_in i) c.in_ok-found.found) c.states.ensures
-    (subst (λ ts. MayLay ts (state_in c.states.result.now) (name_in i) c.in_ok-found.found) c.deref.ensures.value c.in_ok-found.ensures) in
-    let laid = may c.in-Some.table c.in-Some.is in
-    let states = c.in_ok-noted.ensures c.args.path.now c.requires.at in
-    record {
-      checked = IfOk-weaker c.table_text.result _ _ (λ made h. h known (state_in noted.states) laid c.requires.told states) c.table_text.ensures.checked;
-      text = IfOk-weaker c.table_text.result _ _ (λ made h right. h known (state_in noted.states) laid c.requires.told right) c.table_text.ensures.text;
-    }
+pub noted_text-requires : goal.noted_text-requires
+noted_text-requires c = record {
+  at = c.requires.at;
+  files = c.requires.files;
+  read = c.requires.read;
+  whole = c.requires.whole;
+  told = c.requires.told;
+  states = c.in_ok-noted.ensures c.args.path.now c.requires.at;
+}
