@@ -1,4 +1,4 @@
 -- The lemmas of this crate.
 pub mod FinishedUnits
 pub mod ClosureTexts
-pub mod Changed
+pub mod ChangedFolders

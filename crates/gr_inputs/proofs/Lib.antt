@@ -1,5 +1,5 @@
 -- The lemmas of this crate.
-pub mod Learning
+pub mod LearnedVerdicts
 pub mod ClosureFiles
 pub mod BothLists
 pub mod PartFiles

@@ -32,7 +32,7 @@ use Rattle.gr_verdict.proofs.PackageFiles.{package_file, mapped as mapped_from}
 use Rattle.gr_compile.specs.Inputs.{AreInputs}
 use Rattle.gr_finished.specs.Changes.{HasSameFiles}
 use Rattle.gr_inputs.specs.Inputs.{AreGoFiles, ArePackages, faulty_file}
-use Rattle.gr_finished.proofs.Changed.{package_has, in_package}
+use Rattle.gr_finished.proofs.ChangedFolders.{package_has, in_package}
 use Rattle.gr_inputs.proofs.ClosureFiles.{parsed_files}
 use Rattle.gr_finished.proofs.ClosureTexts.{inputs_keep}
 

@@ -11,7 +11,7 @@ use Rattle.gr_finished.specs.Finished.{Table}
 use Rattle.gr_machine.specs.State.{State}
 use Rattle.gr_inputs.specs.Knowing.{HasClosuresOf}
 use Rattle.gr_content.specs.Outcomes.{FindsFresh}
-use Rattle.gr_inputs.proofs.Learning.{inputs_closures}
+use Rattle.gr_inputs.proofs.LearnedVerdicts.{inputs_closures}
 use Rattle.gr_machine.proofs.Fresh.{is_there, not_there, no_unit}
 use Rattle.gr_content.proofs.deliveries.outcome_of.Goals as goal
 

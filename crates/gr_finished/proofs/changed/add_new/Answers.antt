@@ -5,7 +5,7 @@ use Rattle.std.specs.Map.Iter.{deref_pair}
 use Rattle.std.proofs.lemmas.Map.Iter.{rest_all, rest_more}
 use Rattle.gr_graph.specs.Filling.{names}
 use Rattle.gr_finished.specs.Changes.{HasPath}
-use Rattle.gr_finished.proofs.Changed.{AreNoted, noted_none, noted_skip, noted_more, noted_all, names_push}
+use Rattle.gr_finished.proofs.ChangedFolders.{AreNoted, noted_none, noted_skip, noted_more, noted_all, names_push}
 use Rattle.gr_finished.proofs.changed.add_new.Goals as goal
 
 pub loop-path-init : goal.loop-path-init

@@ -1,7 +1,7 @@
 -- First the files that changed or went, then those that came.
 use Rattle.std.proofs.Common.{ap}
 use Rattle.gr_graph.specs.Filling.{names}
-use Rattle.gr_finished.proofs.Changed.{changed_by}
+use Rattle.gr_finished.proofs.ChangedFolders.{changed_by}
 use Rattle.gr_finished.proofs.changed.changed_folders.Goals as goal
 
 pub returns : goal.returns

@@ -5,7 +5,7 @@ use Rattle.gr_graph.proofs.Asked.{at_contains}
 use Rattle.gr_verdict.specs.Found.{KnowsVerdicts}
 use Rattle.gr_verdict.proofs.Telling.{nothing_told, told_next}
 use Rattle.gr_inputs.specs.Knowing.{TellsThere}
-use Rattle.gr_inputs.proofs.Learning.{tells_here}
+use Rattle.gr_inputs.proofs.LearnedVerdicts.{tells_here}
 use Rattle.gr_inputs.proofs.learning.known_within.Goals as goal
 
 pub loop-number-init : goal.loop-number-init

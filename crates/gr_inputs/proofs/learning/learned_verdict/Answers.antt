@@ -8,7 +8,7 @@ use Rattle.gr_verdict.specs.Told.{MayTell}
 use Rattle.gr_verdict.specs.declared.known.KnownVerdict.{KnownVerdict}
 use Rattle.gr_verdict.proofs.Local.{same_back}
 use Rattle.gr_inputs.specs.Knowing.{TellsThere}
-use Rattle.gr_inputs.proofs.Learning.{tells_here}
+use Rattle.gr_inputs.proofs.LearnedVerdicts.{tells_here}
 use Rattle.gr_inputs.proofs.learning.learned_verdict.Goals as goal
 
 pub returns-in-Some : goal.returns-in-Some

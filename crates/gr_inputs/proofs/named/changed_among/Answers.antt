@@ -5,7 +5,7 @@ use Rattle.std.proofs.lemmas.Bool.{true≢false}
 use Rattle.std.proofs.lemmas.Map.Iter.{rest_more, rest_all}
 use Rattle.gr_graph.specs.Filling.{names}
 use Rattle.gr_finished.specs.Changes.{HasSameFiles}
-use Rattle.gr_finished.proofs.Changed.{names_push}
+use Rattle.gr_finished.proofs.ChangedFolders.{names_push}
 use Rattle.gr_inputs.proofs.AmongFolders.{AreFound, found_skip, found_more, found_all}
 use Rattle.gr_inputs.proofs.named.changed_among.Goals as goal
 

@@ -3,7 +3,7 @@ use Rattle.std.proofs.Common.{Bor, List, ℕ, subst}
 use Rattle.gr_text.specs.Workspace.{Workspace}
 use Rattle.gr_graph.specs.Filling.{names}
 use Rattle.gr_finished.specs.Changes.{AreChanged, MarkClosures}
-use Rattle.gr_finished.proofs.Changed.{marks_before, marks_after}
+use Rattle.gr_finished.proofs.ChangedFolders.{marks_before, marks_after}
 use Rattle.gr_keep.proofs.changes.changed_marks.Goals as goal
 
 pub returns-clause-before : goal.returns-clause-before

@@ -2,7 +2,7 @@
 use Rattle.std.proofs.Common.{◌+◌, Bool, Global, Vec, take, sym, subst}
 use Rattle.gr_graph.specs.Filling.{names}
 use Rattle.gr_finished.specs.Changes.{MarkFolders}
-use Rattle.gr_finished.proofs.Changed.{mark_one, mark_none}
+use Rattle.gr_finished.proofs.ChangedFolders.{mark_one, mark_none}
 use Rattle.gr_keep.proofs.changes.folder_marks.Goals.{in-Some, in_default}
 use Rattle.gr_keep.proofs.changes.folder_marks.Goals as goal
 

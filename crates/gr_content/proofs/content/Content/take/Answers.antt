@@ -9,7 +9,7 @@ use Rattle.gr_inputs.specs.Inputs.{HoldsGathered}
 use Rattle.gr_machine.specs.State.{State}
 use Rattle.gr_machine.specs.Machine.{Content}
 use Rattle.gr_machine.specs.Waiting.{WaitsIn, IsFirstWaiting, IsNextJob}
-use Rattle.gr_inputs.proofs.Learning.{inputs_closures}
+use Rattle.gr_inputs.proofs.LearnedVerdicts.{inputs_closures}
 use Rattle.gr_content.proofs.content.Content.take.Goals as goal
 
 pub returns-in_default : goal.returns-in_default
