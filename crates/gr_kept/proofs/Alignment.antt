@@ -1,4 +1,4 @@
--- Bound identifiers that go one to the next: each stays bound, and none is bound to more.
+-- Bound identifiers that go each to one: each stays bound, and none is bound to more.
 use Rattle.std.proofs.Common.{ℕ, ◌≡◌, ◌+◌, ◌<◌, ◌≤◌, inl, inr, List, [], ◌∷◌, length, get_or, refl, sym, ap, subst, ◌∙◌, arith}
 use Rattle.std.specs.Prelude.{None, Some, Contains, slice_get}
 use Rattle.std.specs.List.Sorted.{IsSortedBy}
@@ -23,7 +23,7 @@ use Rattle.gr_bound.proofs.Units.{numbered, number_within, one_at}
 use Rattle.gr_revision.proofs.Ending.{element}
 use Rattle.gr_placed.specs.Beginnings.{BeginsAmong}
 use Rattle.gr_kept.specs.declared.aligned.Compared.{Compared}
-use Rattle.gr_kept.specs.Aligned.{AreCompared, moved_in, old_of, new_of, ArePaired, AreApart, IsAlignedAt, AreAlignedBelow, GoInOrder, IsSafeAt, IsSafeIn}
+use Rattle.gr_kept.specs.Aligned.{AreCompared, moved_in, old_of, new_of, IsAligned, AreApart, AreApartBelow, AreAlignedBelow, GoInOrder, IsSafeAt, IsSafeIn}
 use Rattle.gr_kept.specs.Aligned.{IsSafeNumber, AreSafe}
 use Rattle.gr_sound.specs.Sound.{view_in}
 use Rattle.gr_kept_each.specs.Steps.{IsBoundBy, KeepsAll, AddsNowhere}
@@ -80,15 +80,27 @@ pub at_of : {X : Type 0} (xs : List X) (x : X) (h : Contains xs x) → slice_get
 at_of xs x h = slice_get_read xs (length xs) h.0 x refl h.1 (sym h.2)
 
 -- one number more
-pub none_aligned : (c : Compared) (old new : List BoundSpot) → AreAlignedBelow c old new 0
-none_aligned c old new = record { each = λ n lt. absurd (omega arith) }
+pub none_aligned : (c : Compared) (old : List BoundSpot) → AreAlignedBelow c old 0
+none_aligned c old = record { each = λ n lt. absurd (omega arith) }
 
-pub one_aligned : (c : Compared) (old new : List BoundSpot) (k : ℕ) → IsAlignedAt c old new k → AreAlignedBelow c old new k →
-    AreAlignedBelow c old new (k + 1)
-one_aligned c old new k is h = record {
+pub one_aligned : (c : Compared) (old : List BoundSpot) (k : ℕ) (x : BoundSpot) → slice_get old k ≡ Some x → IsAligned c x → AreAlignedBelow c old k →
+    AreAlignedBelow c old (k + 1)
+one_aligned c old k x has is h = record {
+  each = λ n lt b at. elim (cases_lt n k) [
+    | inl below ↦ h.each n below b at
+    | inr ge ↦ (let same : n ≡ k = omega arith in
+        subst (IsAligned c) (same_Some x b (sym has ∙ ap (slice_get old) (sym same) ∙ at)) is)
+  ];
+}
+
+pub none_apart : (new : List BoundSpot) → AreApartBelow new 0
+none_apart new = record { each = λ n lt. absurd (omega arith) }
+
+pub one_apart : (new : List BoundSpot) (k : ℕ) → AreApart new k → AreApartBelow new k → AreApartBelow new (k + 1)
+one_apart new k is h = record {
   each = λ n lt. elim (cases_lt n k) [
     | inl below ↦ h.each n below
-    | inr ge ↦ (let same : k ≡ n = omega arith in subst (IsAlignedAt c old new) same is)
+    | inr ge ↦ (let same : k ≡ n = omega arith in subst (AreApart new) same is)
   ];
 }
 
@@ -140,51 +152,39 @@ all_numbers_safe c count end h p is =
     h.each k.0 (omega arith) p k.1
 
 module _ (c : Compared) (held : AreCompared c) (go : GoInOrder c) where
-  -- the one with which an identifier is paired
-  record Paired (old : BoundSpot) (n : ℕ) : Type 0 where
-    one : BoundSpot
-    at : slice_get (new_of c) n ≡ Some one
-    pair : ArePaired c old one
-
-  paired : (b : BoundSpot) (h : Contains (old_of c) b) → Paired b h.0
-  paired b h =
-      let size = go.size in
-      let lt = h.1 in
-      let n = element (new_of c) h.0 (omega arith) in
-      record { one = n.0; at = n.1; pair = (go.each.each h.0 lt).paired b n.0 (at_of (old_of c) b h) n.1 }
+  aligned : (b : BoundSpot) → Contains (old_of c) b → IsAligned c b
+  aligned b h = go.each.each h.0 h.1 b (at_of (old_of c) b h)
 
   pub keeps_ordered : KeepsAll (view_in c.before.now) (view_in c.then.now) (moved_in c)
   keeps_ordered place d is =
       let b = spot_at d place in
-      let p = paired b ((held.before.bindings.each b).1 is) in
+      let p = aligned b ((held.before.bindings.each b).1 is) in
       let s = view_in c.then.now in
       record {
         declaration = p.one.declaration;
-        is_use = subst (IsUseOf s.workspace s.known p.one.declaration) (sym p.pair.goes)
-            ((held.then.bindings.each p.one).0 (has_at (new_of c) ((held.before.bindings.each b).1 is).0 p.one p.at));
-        holds = p.pair.becomes;
+        is_use = subst (IsUseOf s.workspace s.known p.one.declaration) (sym p.partner.goes) ((held.then.bindings.each p.one).0 p.partner.listed);
+        holds = p.becomes;
       }
-
-  all_apart : (n : ℕ) → n < length (new_of c) → AreApart (new_of c) n
-  all_apart n lt = let size = go.size in (go.each.each n (omega arith)).apart
 
   -- an identifier that is bound is bound to nothing but what its declaration has become
   adds_bound : (place : Place) (e : Declaration) → BeginsAmong (old_of c) place →
       IsUseOf (view_in c.then.now).workspace (view_in c.then.now).known e (moved_in c place) →
       IsBoundBy (view_in c.before.now) place (λ d. Becomes (view_in c.before.now) (view_in c.then.now) (moved_in c) d e)
   adds_bound place e h is =
-      let p = paired h.one h.listed in
+      let p = aligned h.one h.listed in
+      let mine = p.partner.listed in
       let f = spot_at e (moved_in c place) in
       let has : Contains (new_of c) f = (held.then.bindings.each f).1 is in
-      let same : place_at p.one ≡ place_at f = sym p.pair.goes ∙ ap (moved_in c) h.begins in
-      let number : h.listed.0 ≡ has.0 =
-      one_there (new_of c) h.listed.0 has.0 p.one f held.then.bindings.in_order all_apart p.at (at_of (new_of c) f has) same in
-      let is_f : p.one ≡ f = same_Some p.one f (sym p.at ∙ ap (slice_get (new_of c)) number ∙ at_of (new_of c) f has) in
+      let same : place_at p.one ≡ place_at f = sym p.partner.goes ∙ ap (moved_in c) h.begins in
+      let number : mine.0 ≡ has.0 =
+      one_there (new_of c) mine.0 has.0 p.one f held.then.bindings.in_order go.apart.each (at_of (new_of c) p.one mine) (at_of (new_of c) f has) same in
+      let is_f : p.one ≡ f =
+      same_Some p.one f (sym (at_of (new_of c) p.one mine) ∙ ap (slice_get (new_of c)) number ∙ at_of (new_of c) f has) in
       let s = view_in c.before.now in
       record {
         declaration = h.one.declaration;
         is_use = subst (IsUseOf s.workspace s.known h.one.declaration) h.begins ((held.before.bindings.each h.one).0 h.listed);
-        holds = subst (λ (x : BoundSpot). Becomes s (view_in c.then.now) (moved_in c) h.one.declaration x.declaration) is_f p.pair.becomes;
+        holds = subst (λ (x : BoundSpot). Becomes s (view_in c.then.now) (moved_in c) h.one.declaration x.declaration) is_f p.becomes;
       }
 
   pub adds_ordered : AreSafe c → AddsNowhere (view_in c.before.now) (view_in c.then.now) (moved_in c)

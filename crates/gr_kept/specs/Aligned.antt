@@ -1,5 +1,5 @@
--- Bound identifiers that go one to the next: what they tell.
-use Rattle.std.specs.Prelude.{ℕ, ◌≡◌, ◌+◌, ◌<◌, ◌⊎◌, List, length, Some, slice_get}
+-- Bound identifiers that go each to one: what they tell.
+use Rattle.std.specs.Prelude.{ℕ, ◌≡◌, ◌+◌, ◌<◌, ◌⊎◌, List, Contains, length, Some, slice_get}
 use Rattle.gr_text.specs.declared.place.Place.{Place}
 use Rattle.gr_edit.specs.Moved.{moved}
 use Rattle.gr_declared.specs.Package.{Package}
@@ -30,32 +30,33 @@ old_of c = c.before.now.bindings
 abbrev pub new_of : Compared → List BoundSpot
 new_of c = c.then.now.bindings
 
--- the one goes to where the other begins, which is bound to what its declaration has become
-pub record ArePaired (c : Compared) (old new : BoundSpot) : Type 0 where
-  pub goes : moved_in c (place_at old) ≡ place_at new
-  pub becomes : Becomes (view_in c.before.now) (view_in c.then.now) (moved_in c) old.declaration new.declaration
+-- one of the bound identifiers then begins where that goes
+pub record IsPartner (c : Compared) (old one : BoundSpot) : Type 0 where
+  pub listed : Contains (new_of c) one
+  pub goes : moved_in c (place_at old) ≡ place_at one
+
+-- the same, and it is bound to what its declaration has become
+pub record IsAligned (c : Compared) (old : BoundSpot) : Type 0 where
+  pub one : BoundSpot
+  pub partner : IsPartner c old one
+  pub becomes : Becomes (view_in c.before.now) (view_in c.then.now) (moved_in c) old.declaration one.declaration
 
 -- the one of a number and the next do not begin at one place
 abbrev pub AreApart : List BoundSpot → ℕ → Type 0
 AreApart new n = (this next : BoundSpot) → slice_get new n ≡ Some this → slice_get new (n + 1) ≡ Some next → place_at this ≡ place_at next → ⊥
 
--- those of a number are paired, and that of the one list is apart from the next
-pub record IsAlignedAt (c : Compared) (old new : List BoundSpot) (n : ℕ) : Type 0 where
-  pub paired : (a b : BoundSpot) → slice_get old n ≡ Some a → slice_get new n ≡ Some b → ArePaired c a b
-  pub apart : AreApart new n
-
 -- the same of each of the first numbers
-pub record AreAlignedBelow (c : Compared) (old new : List BoundSpot) (count : ℕ) : Type 0 where
-  pub each : (n : ℕ) → n < count → IsAlignedAt c old new n
+pub record AreApartBelow (new : List BoundSpot) (count : ℕ) : Type 0 where
+  pub each : (n : ℕ) → n < count → AreApart new n
 
--- the same of all
+-- each of the first numbers is aligned
+pub record AreAlignedBelow (c : Compared) (old : List BoundSpot) (count : ℕ) : Type 0 where
+  pub each : (n : ℕ) → n < count → (b : BoundSpot) → slice_get old n ≡ Some b → IsAligned c b
+
+-- all are, and no two begin at one place then
 pub record GoInOrder (c : Compared) : Type 0 where
-  pub size : length (old_of c) ≡ length (new_of c)
-  pub each : AreAlignedBelow c (old_of c) (new_of c) (length (old_of c))
-
--- the path is that of the file of the identifier of a number
-abbrev pub IsFileAt : List BoundSpot → ℕ → List ℕ → Type 0
-IsFileAt old n path = (b : BoundSpot) → slice_get old n ≡ Some b → path ≡ b.spot.path
+  pub apart : AreApartBelow (new_of c) (length (new_of c))
+  pub each : AreAlignedBelow c (old_of c) (length (old_of c))
 
 -- an identifier that is bound begins at the place, or none does where that goes
 abbrev pub IsSafe : Compared → Place → Type 0

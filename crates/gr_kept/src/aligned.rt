@@ -1,11 +1,11 @@
-//! Whether the bound identifiers of two workspaces go one to the next: then each stays bound, and none is bound to more.
-ghost use Rattle.std.specs.Prelude.{◌≡◌, ◌<◌, length, IfOk, IsTrue};
+//! Whether the bound identifiers of two workspaces go each to one, mostly one to the next: then each stays bound, and none to more.
+ghost use Rattle.std.specs.Prelude.{◌≡◌, ◌<◌, length, Contains, IfOk, IfSome, IsTrue};
 ghost use Rattle.gr_text.specs.Packages.{package_paths};
 ghost use Rattle.gr_declared.specs.PackageView.{package_of};
 ghost use Rattle.gr_placed.specs.Beginnings.{place_of};
 ghost use Rattle.gr_revision.specs.FilesMoved.{AreMovesOf};
 ghost use Rattle.gr_bound.specs.Bindings.{place_at};
-ghost use Rattle.gr_kept.specs.Aligned.{AreCompared, moved_in, ArePaired, AreApart, IsAlignedAt, AreAlignedBelow, GoInOrder, IsFileAt, IsSafe, IsSafeAt, IsSafeIn, IsSafeNumber, AreSafe};
+ghost use Rattle.gr_kept.specs.Aligned.{AreCompared, moved_in, new_of, IsPartner, IsAligned, AreApart, AreApartBelow, AreAlignedBelow, GoInOrder, IsSafe, IsSafeAt, IsSafeIn, IsSafeNumber, AreSafe};
 ghost use Rattle.gr_sound.specs.Sound.{view_in};
 ghost use Rattle.gr_kept_each.specs.Steps.{KeepsAll, AddsNowhere};
 ghost use Rattle.gr_sound.specs.Becoming.{Becomes};
@@ -18,6 +18,7 @@ use gr_placed::bound_here::is_bound;
 use gr_placed::{NameStart, start};
 use gr_revision::{FileMoves, Moves};
 use gr_sound::{SoundWorkspace, are_predeclared};
+use gr_text::Place;
 use std::alloc::AllocError;
 
 /// Two workspaces without faults, and where the places of the one go in the other.
@@ -55,26 +56,114 @@ fn became(
     }
 }
 
-/// Whether an identifier goes to where another begins, which is bound to what its declaration has become.
-fn are_paired(
+/// The identifier of the other workspace, if one goes to where it begins. Behind it the next is looked for first.
+fn partner_if<'a>(
     both: &Compared<'_, '_, '_, '_>,
-    near: &mut Near,
+    next: &mut usize,
     file: FileMoves<'_>,
     old: &BoundSpot,
-    new: &BoundSpot,
+    one: &'a BoundSpot,
+) -> Result<Option<&'a BoundSpot>, AllocError>
+    requires both { AreCompared both.now }
+    requires file { AreMovesOf both.now.moves.now file }
+    requires path { file.old.now ≡ old.now.spot.path }
+    requires listed { Contains (new_of both.now) one.now }
+    ensures { IfOk result (λ found. IfSome found (λ b. IsPartner both.now old.now b.now)) }
+{
+    if both
+        .moves
+        .goes_to(file, old.spot.offset, &one.spot.path, one.spot.offset)?
+    {
+        *next = next.saturating_add(1);
+        Ok(Some(one))
+    } else {
+        Ok(None)
+    }
+}
+
+/// The identifier that begins where another goes, if it is the one that is looked for first.
+fn near_partner<'a>(
+    both: &Compared<'a, '_, '_, '_>,
+    next: &mut usize,
+    file: FileMoves<'_>,
+    old: &BoundSpot,
+) -> Result<Option<&'a BoundSpot>, AllocError>
+    requires both { AreCompared both.now }
+    requires file { AreMovesOf both.now.moves.now file }
+    requires path { file.old.now ≡ old.now.spot.path }
+    ensures { IfOk result (λ found. IfSome found (λ b. IsPartner both.now old.now b.now)) }
+{
+    let new = both.then.bindings.as_slice();
+    match new.get(*next) {
+        None => Ok(None),
+        Some(one) => partner_if(both, next, file, old, one),
+    }
+}
+
+/// The identifier that begins at a place to which another goes.
+fn partner_at<'a>(
+    both: &Compared<'a, '_, '_, '_>,
+    next: &mut usize,
+    old: &BoundSpot,
+    to: &Place,
+) -> Option<&'a BoundSpot>
+    requires both { AreCompared both.now }
+    requires to { to.now ≡ moved_in both.now (place_at old.now) }
+    ensures { IfSome result (λ b. IsPartner both.now old.now b.now) }
+{
+    match both.then.bound_at(next, to).first() {
+        None => None,
+        Some(one) => Some(one),
+    }
+}
+
+/// The identifier that begins where another goes, by a search, as where files of a moved folder end or begin.
+fn far_partner<'a>(
+    both: &Compared<'a, '_, '_, '_>,
+    next: &mut usize,
+    old: &BoundSpot,
+) -> Result<Option<&'a BoundSpot>, AllocError>
+    requires { AreCompared both.now }
+    ensures { IfOk result (λ found. IfSome found (λ b. IsPartner both.now old.now b.now)) }
+{
+    let to = both.moves.place(&old.spot.path, old.spot.offset)?;
+    Ok(partner_at(both, next, old, &to))
+}
+
+/// An identifier that begins where another goes: looked for first at a number, which then is that of the one behind it.
+fn partner<'a>(
+    both: &Compared<'a, '_, '_, '_>,
+    next: &mut usize,
+    file: FileMoves<'_>,
+    old: &BoundSpot,
+) -> Result<Option<&'a BoundSpot>, AllocError>
+    requires both { AreCompared both.now }
+    requires file { AreMovesOf both.now.moves.now file }
+    requires path { file.old.now ≡ old.now.spot.path }
+    ensures { IfOk result (λ found. IfSome found (λ b. IsPartner both.now old.now b.now)) }
+{
+    match near_partner(both, next, file, old)? {
+        None => far_partner(both, next, old),
+        Some(one) => Ok(Some(one)),
+    }
+}
+
+/// Whether an identifier goes to where one begins that is bound to what its declaration has become.
+fn is_aligned(
+    both: &Compared<'_, '_, '_, '_>,
+    near: &mut Near,
+    next: &mut usize,
+    file: FileMoves<'_>,
+    old: &BoundSpot,
 ) -> Result<bool, AllocError>
     requires both { AreCompared both.now }
     requires file { AreMovesOf both.now.moves.now file }
     requires path { file.old.now ≡ old.now.spot.path }
-    ensures { IfOk result (λ yes. IsTrue yes → ArePaired both.now old.now new.now) }
+    ensures { IfOk result (λ yes. IsTrue yes → IsAligned both.now old.now) }
 {
-    if both
-        .moves
-        .goes_to(file, old.spot.offset, &new.spot.path, new.spot.offset)?
-    {
-        became(both, near, file, &old.declaration, &new.declaration)
-    } else {
-        Ok(false)
+    match partner(both, next, file, old)? {
+        None => Ok(false),
+        Some(one) => became(both, near, file, &old.declaration, &one.declaration),
     }
 }
 
@@ -96,65 +185,55 @@ fn are_apart(new: &[BoundSpot], number: usize) -> bool
     }
 }
 
-/// Whether the identifiers of a number are paired, and the one is not at the place of the next.
-fn is_aligned(
-    both: &Compared<'_, '_, '_, '_>,
-    near: &mut Near,
-    file: FileMoves<'_>,
-    old: &[BoundSpot],
-    new: &[BoundSpot],
-    number: usize,
-) -> Result<bool, AllocError>
-    requires both { AreCompared both.now }
-    requires file { AreMovesOf both.now.moves.now file }
-    requires old { number < length old.now }
-    requires new { number < length new.now }
-    requires path { IsFileAt old.now number file.old.now }
-    ensures { IfOk result (λ yes. IsTrue yes → IsAlignedAt both.now old.now new.now number) }
+/// Whether this is so of each.
+fn are_all_apart(new: &[BoundSpot]) -> bool
+    ensures { IsTrue result → AreApartBelow new.now (length new.now) }
 {
-    if are_apart(new, number) {
-        are_paired(both, near, file, &old[number], &new[number])
-    } else {
-        Ok(false)
+    for number in 0..new.len() {
+        if !are_apart(new, number) {
+            return false;
+        }
     }
+    true
 }
 
-/// Whether all are. The file is that of some place.
+/// Whether all are aligned. The file is that of some place.
 fn are_all_aligned<'a>(
     both: &Compared<'a, '_, '_, '_>,
     file: FileMoves<'a>,
     old: &'a [BoundSpot],
-    new: &[BoundSpot],
 ) -> Result<bool, AllocError>
     requires both { AreCompared both.now }
     requires file { AreMovesOf both.now.moves.now file }
-    requires size { length old.now ≡ length new.now }
-    ensures { IfOk result (λ yes. IsTrue yes → AreAlignedBelow both.now old.now new.now (length old.now)) }
+    ensures { IfOk result (λ yes. IsTrue yes → AreAlignedBelow both.now old.now (length old.now)) }
 {
     let mut file = file;
     let mut near = Near { before: 0, then: 0 };
+    let mut next = 0;
     for number in 0..old.len() {
-        file = both.moves.file_near(file, &old[number].spot.path);
-        if !is_aligned(both, &mut near, file, old, new, number)? {
+        let one = &old[number];
+        file = both.moves.file_near(file, &one.spot.path);
+        if !is_aligned(both, &mut near, &mut next, file, one)? {
             return Ok(false);
         }
     }
     Ok(true)
 }
 
-/// Whether the bound identifiers go one to the next, each to one that is bound to what its declaration has become.
+/// Whether each bound identifier goes to one that is bound to what its declaration has become. They are looked for in their order, in
+/// which those of a file that stays or moves go one to the next.
 fn go_in_order(both: &Compared<'_, '_, '_, '_>) -> Result<bool, AllocError>
     requires { AreCompared both.now }
     ensures { IfOk result (λ yes. IsTrue yes → GoInOrder both.now) }
 {
     let old = both.before.bindings.as_slice();
     let new = both.then.bindings.as_slice();
-    if old.len() != new.len() {
+    if !are_all_apart(new) {
         return Ok(false);
     }
     match old.first() {
         None => Ok(true),
-        Some(first) => are_all_aligned(both, both.moves.file(&first.spot.path), old, new),
+        Some(first) => are_all_aligned(both, both.moves.file(&first.spot.path), old),
     }
 }
 
