@@ -84,7 +84,7 @@ impl Served {
 }
 
 /// Serves the two puts, with so many reads, writes and sends.
-fn served(rt: &(impl Abort + AllocGlobal), reads: u64, writes: u64, sends: u64) -> Served {
+fn serve_over(rt: &(impl Abort + AllocGlobal), reads: u64, writes: u64, sends: u64) -> Served {
     let alloc = rt.alloc();
     let mut solo = opened(alloc).expect(rt, "a desk");
     let reader = SlowReader {
@@ -127,7 +127,7 @@ fn a_read_that_fails_anywhere(rt: HostRuntime) {
     for reads in 0..37 {
         let puts = puts_after(reads, 18, 35);
         let ended = fault_if(reads < 36, SessionFault::Read);
-        let served = served(&rt, reads, 1000, 1000);
+        let served = serve_over(&rt, reads, 1000, 1000);
         holds(&rt, served.is(ended, puts.saturating_mul(7), puts));
     }
 }
@@ -138,7 +138,7 @@ fn a_write_that_fails_anywhere(rt: HostRuntime) {
     for writes in 0..16 {
         let puts = puts_after(writes, 0, 7);
         let ended = fault_if(writes < 14, SessionFault::Write);
-        let served = served(&rt, 1000, writes, 1000);
+        let served = serve_over(&rt, 1000, writes, 1000);
         holds(&rt, served.is(ended, writes.min(14), puts));
     }
 }
@@ -149,7 +149,7 @@ fn a_send_that_fails_anywhere(rt: HostRuntime) {
     for sends in 0..4 {
         let puts = sends.min(2);
         let ended = fault_if(sends < 3, SessionFault::Write);
-        let served = served(&rt, 1000, 1000, sends);
+        let served = serve_over(&rt, 1000, 1000, sends);
         holds(&rt, served.is(ended, puts.saturating_mul(7), puts));
     }
 }
