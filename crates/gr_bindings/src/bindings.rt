@@ -1,5 +1,5 @@
-//! All bound identifiers of a workspace, by their places.
-ghost use Rattle.std.specs.Prelude.{◌≡◌, ◌<◌, ◌↔◌, length, Contains, IfOk, OnOk, MatchOption};
+//! Bound identifiers of packages, and of a workspace, by their places.
+ghost use Rattle.std.specs.Prelude.{◌≡◌, ◌<◌, ◌↔◌, [], length, Contains, IfOk, OnOk, MatchOption};
 ghost use Rattle.std.specs.List.Sorted.{IsSortedBy};
 ghost use Rattle.std.specs.Ordering.{is_lt};
 ghost use Rattle.gr_text.specs.Packages.{package_paths};
@@ -10,24 +10,23 @@ ghost use Rattle.gr_verdict.specs.Verdicts.{Verdicts};
 ghost use Rattle.gr_bound.specs.declared.bound_spot.BoundSpot.{BoundSpot as Bound};
 ghost use Rattle.gr_bound.specs.declared.declaration.Declaration.{Declaration as Declared};
 ghost use Rattle.gr_bound.specs.Bindings.{AddsAll, IsBoundAt, IsBoundAmong, IsBound, AreBindings, AreBindingsAmong, place_at};
-ghost use Rattle.gr_bindings.specs.KnownExports.{AreSomeExports, KnowsExports};
-ghost use Rattle.gr_bound.specs.Packages.{ArePackages, IsTableAs};
+ghost use Rattle.gr_bindings.specs.KnownExports.{KnowsExports};
+ghost use Rattle.gr_bound.specs.Packages.{IsTableAs};
 ghost use Rattle.gr_bound.specs.Places.{place_cmp};
 ghost use Rattle.gr_bound.specs.Uses.{IsUseOf};
 ghost use Rattle.gr_bound.specs.Workspaces.{IsSound, known_in, IsPackageAt};
 
 use crate::bound_unit::bind_unit;
-use crate::known_exports::{KnownExports, all_exports, imported_exports};
+use crate::known_exports::{KnownExports, imported_exports};
 use gr_bound::bindings::find;
 use gr_bound::indexed::{Numbered, known_of, unit_of};
-use gr_bound::{BoundSpot, Declaration, Packages, read_table};
+use gr_bound::{BoundSpot, Declaration, read_table};
 use gr_declared::{Index, Interfaces, Package};
 use gr_graph::Graph;
 use gr_scope::table::ScopeTable;
 use gr_text::Place;
 use gr_verdict::{Findings, is_marked, seen};
 use std::alloc::{AllocError, Global};
-use std::collections::BTreeMap;
 use std::marker::Model;
 
 /// The bound identifiers of a workspace, each by the place at which it begins and with its declaration, in the order of places.
@@ -74,58 +73,42 @@ fn bind_indexed(
     bind_unit(alloc, bound, exports, &of)
 }
 
-/// Adds the bound identifiers of a package that has a number.
-fn bind_numbered(
+/// Sorts bound identifiers by their places. Those of each package come in few runs, and packages in nearly the order of their
+/// files, which this sort makes use of.
+fn sort_runs(bound: &mut Vec<BoundSpot>) -> Result<(), AllocError>
+    ensures order { OnOk result (IsSortedBy (λ a b. is_lt (place_cmp (place_at a) (place_at b))) bound.new.items) }
+    ensures same { (b : Bound) → Contains bound.new.items b ↔ Contains bound.old.items b }
+{
+    bound.sort_by(|a, b| a.spot.cmp(&b.spot))
+}
+
+/// Adds the bound identifiers of one package in the order of their places, so that those of all come in about one run for each package.
+fn add_in_order(bound: &mut Vec<BoundSpot>, own: Vec<BoundSpot>) -> Result<(), AllocError>
+    ensures { OnOk result (AddsAll bound.old.items bound.new.items (Contains own.items)) }
+{
+    let mut own = own;
+    sort_runs(&mut own)?;
+    bound.append(&mut own)?;
+    Ok(())
+}
+
+/// Adds the bound identifiers of a package that has a number, by what was found once in it.
+pub fn bind_numbered(
     alloc: Global,
     bound: &mut Vec<BoundSpot>,
     exports: &KnownExports<'_>,
     unit: Package<'_>,
+    index: &Index<'_>,
     number: usize,
 ) -> Result<(), AllocError>
     requires exports { KnowsExports exports.now }
     requires numbered { IsPackageAt exports.now.graph.now (known_in exports.now.found.now) number (package_of unit) }
+    requires index { IsIndexOf (package_of unit) index.now }
     ensures { OnOk result (AddsAll bound.old.items bound.new.items (IsBoundAt exports.now.graph.now (known_in exports.now.found.now) number)) }
 {
-    let index = Index::of(alloc, unit)?;
-    bind_indexed(alloc, bound, exports, unit, &index, number)
-}
-
-/// Adds the bound identifiers of the package of a number.
-fn bind_package(
-    alloc: Global,
-    bound: &mut Vec<BoundSpot>,
-    packages: &Packages<'_>,
-    numbers: &[Option<BTreeMap<Vec<u8>, usize>>],
-    number: usize,
-) -> Result<(), AllocError>
-    requires in_range { number < length (package_paths packages.now.graph.now) }
-    requires read { ArePackages packages.now }
-    requires exports { AreSomeExports packages.now.graph.now (known_in packages.now.found.now) numbers.now }
-    ensures { OnOk result (AddsAll bound.old.items bound.new.items (IsBoundAt packages.now.graph.now (known_in packages.now.found.now) number)) }
-{
-    let exports = KnownExports {
-        graph: packages.graph,
-        found: packages.found,
-        numbers,
-    };
-    bind_numbered(alloc, bound, &exports, packages.unit(number), number)
-}
-
-/// Adds the bound identifiers of all packages.
-fn bind_all(
-    alloc: Global,
-    bound: &mut Vec<BoundSpot>,
-    packages: &Packages<'_>,
-    numbers: &[Option<BTreeMap<Vec<u8>, usize>>],
-) -> Result<(), AllocError>
-    requires read { ArePackages packages.now }
-    requires exports { AreSomeExports packages.now.graph.now (known_in packages.now.found.now) numbers.now }
-    ensures { OnOk result (AddsAll bound.old.items bound.new.items (IsBound packages.now.graph.now (known_in packages.now.found.now))) }
-{
-    for number in 0..packages.graph.len() {
-        bind_package(alloc, bound, packages, numbers, number)?;
-    }
-    Ok(())
+    let mut own = Vec::new(alloc);
+    bind_indexed(alloc, &mut own, exports, unit, index, number)?;
+    add_in_order(bound, own)
 }
 
 /// Adds the bound identifiers of the package of a number, by what this sees and its table.
@@ -147,7 +130,9 @@ fn bind_laid(
         found: exports.found,
         number,
     };
-    bind_numbered(alloc, bound, exports, unit_of(at, seen, table), number)
+    let unit = unit_of(at, seen, table);
+    let index = Index::of(alloc, unit)?;
+    bind_numbered(alloc, bound, exports, unit, &index, number)
 }
 
 /// Adds the bound identifiers of the package of a number, which is read for it.
@@ -203,27 +188,6 @@ fn bind_marked(
     Ok(())
 }
 
-/// Sorts bound identifiers by their places. Those of each package come in few runs, and packages in nearly the order of their
-/// files, which this sort makes use of.
-fn sort_runs(bound: &mut Vec<BoundSpot>) -> Result<(), AllocError>
-    ensures order { OnOk result (IsSortedBy (λ a b. is_lt (place_cmp (place_at a) (place_at b))) bound.new.items) }
-    ensures same { (b : Bound) → Contains bound.new.items b ↔ Contains bound.old.items b }
-{
-    bound.sort_by(|a, b| a.spot.cmp(&b.spot))
-}
-
-/// The bound identifiers of a workspace in which nothing is a fault.
-pub fn bindings_of(alloc: Global, packages: &Packages<'_>) -> Result<Bindings, AllocError>
-    requires { ArePackages packages.now }
-    ensures { IfOk result (AreBindings packages.now.graph.now (known_in packages.now.found.now)) }
-{
-    let numbers = all_exports(alloc, packages)?;
-    let mut bound = Vec::new(alloc);
-    bind_all(alloc, &mut bound, packages, &numbers)?;
-    sort_runs(&mut bound)?;
-    Ok(Bindings { bound })
-}
-
 /// The bound identifiers of the packages that are marked, by the packages' numbers, in a workspace in which nothing is a fault.
 /// Only these packages are read, and of those that they import what these export.
 pub fn bindings_among(
@@ -248,6 +212,15 @@ pub fn bindings_among(
 }
 
 impl Bindings {
+    /// Bound identifiers, which are put in the order of their places.
+    pub fn of(bound: Vec<BoundSpot>) -> Result<Bindings, AllocError>
+        ensures { IfOk result (λ all. (w : Workspace) → (known : Verdicts) → AddsAll [] bound.items (IsBound w known) → AreBindings w known all) }
+    {
+        let mut bound = bound;
+        sort_runs(&mut bound)?;
+        Ok(Bindings { bound })
+    }
+
     /// The bound identifiers in the order of their places.
     pub fn as_slice(&self) -> &[BoundSpot]
         ensures { result.now ≡ self.now }

@@ -22,7 +22,7 @@ use Rattle.gr_graph.specs.FileImports.{import_literals, HasValue, HasPieceValue,
 use Rattle.gr_graph.specs.Imports.{Holds}
 use Rattle.gr_graph.specs.ImportPaths.{bytes_of_paths, HoldsPaths, IsOneOf, SomeImport}
 use Rattle.gr_graph.specs.Packages.{ImportsPath}
-use Rattle.gr_graph.specs.Rows.{AddsNumbers, HasNumber, FileImports, SomeImports, IsRow}
+use Rattle.gr_graph.specs.Rows.{AddsNumbers, FileImports, SomeImports, IsRow}
 use Rattle.gr_graph.specs.declared.file_imports.FileImport.{FileImport}
 
 -- ---- numbers
@@ -77,6 +77,11 @@ zip_length R [] [] all = refl
 zip_length R [] (y ∷ ys) all = absurd all
 zip_length R (x ∷ xs) [] all = absurd all
 zip_length R (x ∷ xs) (y ∷ ys) all = ap suc (zip_length R xs ys all.1)
+
+-- the path of that number is what an import's literal stands for
+abbrev pub HasNumber : {Z : Type 0} → List (List ℕ) → ℕ → Option (Vec ℕ Z) → Type 0
+HasNumber paths j None = ⊥
+HasNumber paths j (Some value) = slice_get paths j ≡ Some value.items
 
 value_at : (file : SourceFile) (token : ℕ) (paths : List (List ℕ)) (j : ℕ) (value : Option (Vec ℕ Global)) (piece : Option Piece) →
     Contains (import_literals file.tree) token → slice_get (tokens_in file.cut) token ≡ piece → HasPieceValue file.cut.text piece value →

@@ -13,9 +13,8 @@ use Rattle.gr_text.proofs.WorkspaceLaws.{path_cmp_exact}
 use Rattle.gr_tree.specs.SourceFile.{FileParts, source_of}
 use Rattle.gr_graph.specs.FileImports.{ListsImports}
 use Rattle.gr_graph.specs.Packages.{ImportsPath}
-use Rattle.gr_graph.specs.Rows.{HasNumber}
 use Rattle.gr_graph.specs.declared.file_imports.FileImport.{FileImport}
-use Rattle.gr_graph.proofs.Collected.{are_imports, none_held}
+use Rattle.gr_graph.proofs.Collected.{HasNumber, are_imports, none_held}
 use Rattle.gr_graph.specs.ImportPaths.{bytes_of_paths, AddsPaths, HoldsPaths, SomeStandFor, StandsFor}
 
 -- a list with one more item before it

@@ -1,5 +1,5 @@
 -- The packages that are imported, by number, while they are collected.
-use Rattle.std.specs.Prelude.{◌≡◌, ℕ, ◌↔◌, ◌⊎◌, List, Option, Some, None, slice_get, Vec}
+use Rattle.std.specs.Prelude.{◌≡◌, ℕ, ◌↔◌, ◌⊎◌, List, Some, slice_get}
 use Rattle.std.specs.List.{Contains}
 use Rattle.std.specs.List.Sorted.{IsStrictlyIncreasing}
 use Rattle.gr_tree.specs.SourceFile.{FileParts, source_of}
@@ -9,11 +9,6 @@ use Rattle.gr_graph.specs.Packages.{ImportsPath}
 -- the numbers of which something holds were added
 abbrev pub AddsNumbers : (ℕ → Type 0) → List ℕ → List ℕ → Type 0
 AddsNumbers P old new = (j : ℕ) → Contains new j ↔ (Contains old j ⊎ P j)
-
--- the path of that number is what an import's literal stands for
-abbrev pub HasNumber : {Z : Type 0} → List (List ℕ) → ℕ → Option (Vec ℕ Z) → Type 0
-HasNumber paths j None = ⊥
-HasNumber paths j (Some value) = slice_get paths j ≡ Some value.items
 
 -- a file imports the package of a number
 abbrev pub FileImports : List (List ℕ) → FileParts → ℕ → Type 0

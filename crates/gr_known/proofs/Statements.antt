@@ -1,5 +1,5 @@
 -- The members that the code of statements asks for are among the uses of members that are found in them.
-use Rattle.std.proofs.Common.{ℕ, ◌≡◌, List, [], ◌∷◌, ◌++◌, Option, Some, None, refl, sym, subst}
+use Rattle.std.proofs.Common.{ℕ, ◌≡◌, List, [], ◌∷◌, ◌++◌, Option, Some, None, sym, subst}
 use Rattle.gr_tree.specs.Tree.{Item, Group, IdentTree, TypeTree, ExprTree, SimpleTree, LocalTree, InitTree, ForTree, StatementTree, BlockTree}
 use Rattle.gr_tree.specs.Tree.{StatementTrees, IfTree, ElseTree}
 use Rattle.gr_tree.specs.Tree as tree
@@ -12,12 +12,11 @@ use Rattle.gr_stmt.specs.Sides.{Target, values_of, judge_each, rights, assignabl
 use Rattle.gr_stmt.specs.Simple.{check_condition, check_step, check_update, check_alone, check_assign, check_define, check_simple, check_optional}
 use Rattle.gr_stmt.specs.Simple.{check_optional_condition, check_written, check_unwritten, check_local_of, check_local}
 use Rattle.gr_stmt.specs.Statements.{check_return, check_init, check_header, check_statement, check_block, check_statements, check_if, check_else}
-use Rattle.gr_statement_rules.specs.Turns.{IfPresent, absent, present}
-use Rattle.gr_statement_rules.specs.Simple.{ConditionIsTyped, SimpleIsTyped, LocalIsTyped}
-use Rattle.gr_statement_rules.specs.Statements.{InitIsTyped, an_init, HeaderIsTyped, a_while, with_clauses, a_loop, a_block, no_more}
+use Rattle.gr_statement_rules.specs.Simple.{ConditionIsTyped, LocalIsTyped}
+use Rattle.gr_statement_rules.specs.Statements.{a_while}
 use Rattle.gr_statement_rules.proofs.Reaching.{IsAt, held}
 use Rattle.gr_statement_rules.proofs.Locals.{local_true}
-use Rattle.gr_statement_rules.proofs.Statements.{AreTargets, statement_true, block_true}
+use Rattle.gr_statement_rules.proofs.Statements.{AreTargets, optional_true, optional_condition_true, init_true, header_true, statement_true, block_true}
 use Rattle.gr_balance.specs.Asked.{Question, Asks, for_integer, for_text, for_name, in_composite, in_paren, in_prefix, in_address, in_chain, in_links}
 use Rattle.gr_balance.specs.Asked.{in_binary, in_operands}
 use Rattle.gr_balance.specs.StatementsAsked.{AskInTurn, this_item, later_item, AskInGroup, asks_alone, asks_together, AskIfPresent, asks_present}
@@ -112,31 +111,10 @@ simple_met q w s at (in_definition {xs = xs} {ys} a) =
 
 -- behind typed parts
 
--- a header with an empty block is checked as the header
-header_at : (w : World) (s : Checked) {h : ForTree} {before after : Locals} → IsAt s before → HeaderIsTyped w before h after → IsAt (check_header w s h) after
-unfolding check_statement
-header_at w s a h = statement_true w [] [] refl (a_loop {p = 0} {b = tree.block 0 tree.no_statement 0} h (a_block no_more)) s a
-
--- an optional statement as a header that has nothing else
-optional_at : (w : World) (s : Checked) {x : Option SimpleTree} {before after : Locals} → IsAt s before →
-    IfPresent SimpleTree (SimpleIsTyped w) before x after → IsAt (check_optional w s x) after
-unfolding check_header
-optional_at w s a r = header_at w s a (with_clauses {p = 0} {q = 0} r absent absent)
-
-optional_condition_at : (w : World) (s : Checked) {x : Option ExprTree} {before after : Locals} → IsAt s before →
-    IfPresent ExprTree (ConditionIsTyped w) before x after → IsAt (check_optional_condition w s x) after
-unfolding check_header
-optional_condition_at w s a r = header_at w s a (with_clauses {p = 0} {q = 0} absent r absent)
-
 condition_at : (w : World) (s : Checked) {e : ExprTree} {before after : Locals} → IsAt s before → ConditionIsTyped w before e after →
     IsAt (check_condition w s e) after
 unfolding check_header
-condition_at w s a r = header_at w s a (a_while r)
-
-init_at : (w : World) (s : Checked) {x : Option InitTree} {before after : Locals} → IsAt s before → IfPresent InitTree (InitIsTyped w) before x after →
-    IsAt (check_init w s x) after
-init_at w s a absent = a
-init_at w s a (present (an_init r)) = optional_at w s a r
+condition_at w s a r = header_true w s a (a_while r)
 
 -- parts that stand one behind another
 
@@ -165,10 +143,10 @@ header_met w (in_first {init = init} {post} {condition} {q = q} a) s at =
     optional_keeps q w (check_optional_condition w first condition) post (optional_condition_keeps q w first condition (optional_met w a s at.locals_are))
 header_met w (in_test {init = init} {post} {condition} {q = q} i a) s at =
     let first = check_optional w s init in
-    optional_keeps q w (check_optional_condition w first condition) post (optional_condition_met w a first (optional_at w s at i).locals_are)
+    optional_keeps q w (check_optional_condition w first condition) post (optional_condition_met w a first (optional_true w s at i).locals_are)
 header_met w (in_post {init = init} {post} {condition} {q = q} i c a) s at =
     let first = check_optional w s init in
-    optional_met w a (check_optional_condition w first condition) (optional_condition_at w first (optional_at w s at i) c).locals_are
+    optional_met w a (check_optional_condition w first condition) (optional_condition_true w first (optional_true w s at i) c).locals_are
 
 local_of_met : (q : Question) (w : World) (s : Checked) (names : List (Item IdentTree)) (t : Option TypeTree) (v : ℕ × List (Item ExprTree)) →
     AnyAsks w s.locals v.1 q → Met q (check_local_of w s names t (Some v)).uses
@@ -208,7 +186,7 @@ mutual
   statement_met w results targets t (in_inner a) s at = block_met w results targets t a s at
   statement_met w results targets t (in_choice a) s at = if_met w results targets t a s at
   statement_met w results targets t (in_header {h = h} {b} {q} a) s at = block_keeps q w targets b (check_header w s h) (header_met w a s at)
-  statement_met w results targets t (in_loop {h = h} r a) s at = block_met w results targets t a (check_header w s h) (header_at w s at r)
+  statement_met w results targets t (in_loop {h = h} r a) s at = block_met w results targets t a (check_header w s h) (header_true w s at r)
   statement_met w results targets t (in_return {es = es} {q} a) s at = met_right q s.uses (rights w s.locals es).uses
       (rights_met q w s.locals (subst (λ z. AnyAsks w z es q) (sym at.locals_are) a))
 
@@ -235,15 +213,15 @@ mutual
   if_met w results targets t (in_condition {entered = entered} {init = init} {e} {b} {otherwise} {q} i a) s at =
       let first = check_init w s init in
       else_keeps q w targets otherwise (check_block w targets (check_condition w first e) b)
-      (block_keeps q w targets b (check_condition w first e) (condition_met q w first entered e (init_at w s at i).locals_are a))
+      (block_keeps q w targets b (check_condition w first e) (condition_met q w first entered e (init_true w s at i).locals_are a))
   if_met w results targets t (in_then {init = init} {e} {b} {otherwise} {q} i c a) s at =
       let first = check_init w s init in
       else_keeps q w targets otherwise (check_block w targets (check_condition w first e) b)
-      (block_met w results targets t a (check_condition w first e) (condition_at w first (init_at w s at i) c))
+      (block_met w results targets t a (check_condition w first e) (condition_at w first (init_true w s at i) c))
   if_met w results targets t (in_otherwise {init = init} {e} {b} i c r a) s at =
       let first = check_init w s init in
       else_met w results targets t a (check_block w targets (check_condition w first e) b)
-      (block_true w results targets t r (check_condition w first e) (condition_at w first (init_at w s at i) c))
+      (block_true w results targets t r (check_condition w first e) (condition_at w first (init_true w s at i) c))
 
   else_met : (w : World) (results : List PlainType) (targets : List Target) → AreTargets targets results → {before : Locals} {x : ElseTree} {q : Question} →
       ElseAsks w results before x q → (s : Checked) → IsAt s before →

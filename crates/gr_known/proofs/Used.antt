@@ -3,21 +3,16 @@ use Rattle.std.proofs.Common.{ℕ, ◌≡◌, ◌⊎◌, inl, inr, Bool, List, [
 use Rattle.gr_tree.specs.Tree.{ExprTree, LinkTrees, OperandTrees, ArgumentTrees, LiteralTree, ElementTrees}
 use Rattle.gr_tree.specs.Tree as tree
 use Rattle.gr_expr.specs.Places.{first_token, first_of_type, place_of}
-use Rattle.gr_expr.specs.Types.{PlainType, Kind, Typed, Meaning, Value}
+use Rattle.gr_expr.specs.Types.{PlainType, Typed, Meaning, Value}
 use Rattle.gr_expr.specs.World.{World, Locals}
-use Rattle.gr_expr.specs.Judge.{MemberUse, Judged, JudgedList, Seen, none_seen, followed, as_value, value_at, select_member, select, index_of, index_rule}
+use Rattle.gr_expr.specs.Judge.{MemberUse, Judged, Seen, none_seen, followed, as_value, value_at, select_member, select, index_of, index_rule}
 use Rattle.gr_expr.specs.Judge.{call_of, call_rule, operation, prefix_of, address_of, judge_type, literal_meaning, element_key, seen_after, judge}
 use Rattle.gr_expr.specs.Judge.{judge_operands, judge_links, judge_arguments, judge_literal, judge_elements}
-use Rattle.gr_rules.specs.Links.{Indexes, Calls}
-use Rattle.gr_rules.specs.Links.{element as slice_element}
-use Rattle.gr_rules.specs.Meanings.{AreValues, no_argument, argument}
 use Rattle.gr_rules.specs.Agrees.{Agrees}
-use Rattle.gr_rules.proofs.Steps.{followed_agrees, value_agrees, value_at_agrees, kind_known, empty_both}
+use Rattle.gr_rules.proofs.Steps.{followed_agrees, value_at_agrees}
 use Rattle.gr_rules.proofs.Naming.{type_true}
-use Rattle.gr_rules.proofs.Selecting.{selects_true, indexes_true}
-use Rattle.gr_rules.proofs.Arguments.{AreOf}
-use Rattle.gr_rules.proofs.Calling.{calls_true}
-use Rattle.gr_rules.proofs.Soundness.{sound}
+use Rattle.gr_rules.proofs.Selecting.{selects_true}
+use Rattle.gr_rules.proofs.Soundness.{index_agrees, call_agrees, sound, sound_arguments}
 use Rattle.gr_balance.specs.Asked.{Question, OfInteger, OfText, OfName, OfExport, OfMember, OfDeclared, OfLeft, Asks, for_integer, for_text, for_name}
 use Rattle.gr_balance.specs.Asked.{in_composite, in_paren, in_prefix, in_address, in_chain, in_links, in_binary, in_operands, LinksAsk, for_member}
 use Rattle.gr_balance.specs.Asked.{for_export, behind_selector, in_index, behind_index, in_arguments, behind_call, OperandsAsk, in_operand}
@@ -92,36 +87,6 @@ operands_keep q w locals (tree.operand o p e rest) start j h =
     let rule : Meaning → Judged = λ a. followed (value_at e (judge w locals e)) (operation w o start a) in
     operands_keep q w locals rest start (followed j rule) (met_left q j.uses (rule j.meaning).uses h)
 
--- what is found of an index, and of a call
-
-index_agrees : (w : World) (start place : ℕ) (e : ExprTree) {m s : Meaning} {k : Kind} {a : Bool} {i : Judged} → Indexes w m k s → Agrees i (Value k a) →
-    Agrees (index_rule w start place e i m) s
-index_agrees w start place e {a = a} {i} (slice_element {t} {a = b} h j) v =
-    followed_agrees (λ s. followed i (index_of w start (place_of e) s)) (value_agrees place)
-    (followed_agrees (index_of w start (place_of e) (Value (Typed t) b)) v (indexes_true w start (place_of e) a (slice_element h j)))
-
-record AreFound (js : JudgedList) (ks : List Kind) : Type 0 where
-  values : AreOf js.values ks
-  faultless : js.faults ≡ []
-
-arguments_found : (w : World) (locals : Locals) {xs : ArgumentTrees} {ks : List Kind} → AreValues w locals xs ks → AreFound (judge_arguments w locals xs) ks
-unfolding judge
-arguments_found w locals no_argument = record { values = tt; faultless = refl }
-arguments_found w locals (argument {e} {rest = rest} v more) =
-    let h = value_at_agrees e (sound w locals v) in
-    let others = arguments_found w locals more in
-    record {
-      values = (kind_known h.meaning, others.values);
-      faultless = empty_both (value_at e (judge w locals e)).faults
-          (judge_arguments w locals rest).faults h.faultless others.faultless;
-    }
-
-call_agrees : (w : World) (start place : ℕ) {js : JudgedList} {ks : List Kind} {m s : Meaning} → AreFound js ks → Calls w m ks s →
-    Agrees (call_rule w start place js m) s
-call_agrees w start place {js} {ks} {m} a c =
-    let r = calls_true w start place js.values a.values c in
-    record { meaning = r.meaning; faultless = empty_both js.faults (call_of w start place js.values m).faults a.faultless r.faultless; whole = r.whole }
-
 -- the selector of a member
 selected_used : (w : World) (locals : Locals) (place n : ℕ) (t : PlainType) (a : Bool) → IsUsed n t (select w locals place n (Value (Typed t) a)).uses
 unfolding select select_member
@@ -195,7 +160,7 @@ mutual
       (met_inner q j.uses args.uses (call_of w start place args.values j.meaning).uses (arguments_met w locals a))
   links_met w locals (behind_call {xs = xs} vs c a) start place j h =
       let rule = call_rule w start place (judge_arguments w locals xs) in
-      links_met w locals a start start (followed j rule) (followed_agrees rule h (call_agrees w start place (arguments_found w locals vs) c))
+      links_met w locals a start start (followed j rule) (followed_agrees rule h (call_agrees w start place (sound_arguments w locals vs) c))
 
   operands_met : (w : World) (locals : Locals) {rest : OperandTrees} {q : Question} → OperandsAsk w locals rest q → (start : ℕ) (j : Judged) →
       Met q (judge_operands w locals start j rest).uses

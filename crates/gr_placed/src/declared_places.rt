@@ -6,7 +6,7 @@ ghost use Rattle.gr_tree.specs.SourceFile.{source_of};
 ghost use Rattle.gr_scope.specs.Bindings.{Counts};
 ghost use Rattle.gr_scope.specs.Scoped.{layout_in, names_in};
 ghost use Rattle.gr_declared.specs.Package.{Package as Checked};
-ghost use Rattle.gr_declared.specs.PackageView.{package_of};
+ghost use Rattle.gr_declared.specs.PackageView.{package_of, IsIndexOf};
 ghost use Rattle.gr_text.specs.declared.place.Place.{Place as At};
 ghost use Rattle.gr_verdict.specs.Verdicts.{Verdicts};
 ghost use Rattle.gr_bound.specs.Steps.{ArePlaces};
@@ -106,19 +106,31 @@ fn places_of(
     Ok(places)
 }
 
-/// Where the declarations of a package stand.
-pub fn unit_places(alloc: Global, unit: Package<'_>) -> Result<DeclaredPlaces, AllocError>
+/// Where the declarations of a package stand, by what was found once in it.
+pub fn indexed_places(
+    alloc: Global,
+    unit: Package<'_>,
+    index: &Index<'_>,
+) -> Result<DeclaredPlaces, AllocError>
+    requires { IsIndexOf (package_of unit) index.now }
     ensures { IfOk result (AreDeclaredIn (package_of unit.entry)) }
 {
-    let index = Index::of(alloc, unit)?;
     let names = name_places(alloc, unit)?;
-    let fields = field_places(alloc, unit, &index)?;
-    let methods = method_places(alloc, unit, &index)?;
+    let fields = field_places(alloc, unit, index)?;
+    let methods = method_places(alloc, unit, index)?;
     Ok(DeclaredPlaces {
         names: places_of(alloc, unit.files, &names)?,
         fields: places_of(alloc, unit.files, &fields)?,
         methods: places_of(alloc, unit.files, &methods)?,
     })
+}
+
+/// The same of a package in which nothing was found yet.
+pub fn unit_places(alloc: Global, unit: Package<'_>) -> Result<DeclaredPlaces, AllocError>
+    ensures { IfOk result (AreDeclaredIn (package_of unit.entry)) }
+{
+    let index = Index::of(alloc, unit)?;
+    indexed_places(alloc, unit, &index)
 }
 
 /// The same of the package of a number.

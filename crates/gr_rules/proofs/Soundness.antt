@@ -34,18 +34,18 @@ operation_agrees : (w : World) {o : BinaryOp} {j k l : Kind} (start : ℕ) (a b 
 unfolding operation value_kind
 operation_agrees w start a b q = agrees_as (ap (λ z. value_or_wrong z start) (operates_true w q)) (means_it value_whole)
 
-index_agrees : (w : World) (start place : ℕ) (e : ExprTree) {m s : Meaning} {k : Kind} {a : Bool} {i : Judged} → Indexes w m k s → Agrees i (Value k a) →
+pub index_agrees : (w : World) (start place : ℕ) (e : ExprTree) {m s : Meaning} {k : Kind} {a : Bool} {i : Judged} → Indexes w m k s → Agrees i (Value k a) →
     Agrees (index_rule w start place e i m) s
 index_agrees w start place e {a = a} {i} (slice_element {t} {a = b} h j) v =
     followed_agrees (λ s. followed i (index_of w start (place_of e) s)) (value_agrees place)
     (followed_agrees (index_of w start (place_of e) (Value (Typed t) b)) v (indexes_true w start (place_of e) a (slice_element h j)))
 
 -- arguments as they are found
-record AreFound (js : JudgedList) (ks : List Kind) : Type 0 where
-  values : AreOf js.values ks
-  faultless : js.faults ≡ []
+pub record AreFound (js : JudgedList) (ks : List Kind) : Type 0 where
+  pub values : AreOf js.values ks
+  pub faultless : js.faults ≡ []
 
-call_agrees : (w : World) (start place : ℕ) {js : JudgedList} {ks : List Kind} {m s : Meaning} → AreFound js ks → Calls w m ks s →
+pub call_agrees : (w : World) (start place : ℕ) {js : JudgedList} {ks : List Kind} {m s : Meaning} → AreFound js ks → Calls w m ks s →
     Agrees (call_rule w start place js m) s
 call_agrees w start place {js} {ks} {m} a c = let r = calls_true w start place js.values a.values c in
     record { meaning = r.meaning; faultless = empty_both js.faults (call_of w start place js.values m).faults a.faultless r.faultless; whole = r.whole }
@@ -86,7 +86,7 @@ mutual
       (followed_agrees (λ z. followed (value_at e (judge w locals e)) (operation w o start z)) h
       (followed_agrees (operation w o start (Value x a)) (value_at_agrees e (sound w locals v)) (operation_agrees w start a b q)))
 
-  sound_arguments : (w : World) (locals : Locals) {xs : ArgumentTrees} {ks : List Kind} → AreValues w locals xs ks → AreFound (judge_arguments w locals xs) ks
+  pub sound_arguments : (w : World) (locals : Locals) {xs : ArgumentTrees} {ks : List Kind} → AreValues w locals xs ks → AreFound (judge_arguments w locals xs) ks
   sound_arguments w locals no_argument = record { values = tt; faultless = refl }
   sound_arguments w locals (argument {e} {rest = rest} v more) = let h = value_at_agrees e (sound w locals v) in
       let others = sound_arguments w locals more in

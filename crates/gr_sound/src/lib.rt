@@ -3,6 +3,7 @@
 
 mod corresponding;
 mod held;
+mod holding;
 mod sound_workspace;
 
 pub use corresponding::{are_predeclared, corresponds, goes_to, is_same};

@@ -10,10 +10,11 @@ ghost use Rattle.gr_placed.specs.Identified.{IsIdentifierAt};
 ghost use Rattle.gr_sound.specs.Sound.{view_in, view_of, packages_of, IsBoundIn, IsBoundHere};
 
 use crate::held::SoundWorkspace;
-use gr_bindings::bindings_of;
+use crate::holding::hold_all;
+use gr_bindings::{Bindings, all_exports};
 use gr_bound::{BoundSpot, Declaration, Packages};
 use gr_placed::bound_here::bound_here;
-use gr_placed::declared_places::{declared_at, declared_near, declared_places};
+use gr_placed::declared_places::{declared_at, declared_near};
 use gr_placed::identifier_places::identifier_places;
 use gr_text::Place;
 use std::alloc::{AllocError, Global};
@@ -24,8 +25,10 @@ impl<'a> SoundWorkspace<'a> {
         ensures view { IfOk result (λ sound. view_in sound ≡ view_of packages.now) }
         ensures held { IfOk result (λ sound. IsHeld sound) }
     {
-        let places = declared_places(alloc, packages)?;
-        let bindings = bindings_of(alloc, packages)?;
+        let numbers = all_exports(alloc, packages)?;
+        let mut bound = Vec::new(alloc);
+        let places = hold_all(alloc, &mut bound, packages, &numbers)?;
+        let bindings = Bindings::of(bound)?;
         Ok(SoundWorkspace {
             packages,
             places,

@@ -33,22 +33,22 @@ AreTargets targets results = targets ≡ map aim (map OfType results)
 
 -- parts of headers
 
-optional_true : (w : World) (s : Checked) {o : Option SimpleTree} {before after : Locals} → IsAt s before →
+pub optional_true : (w : World) (s : Checked) {o : Option SimpleTree} {before after : Locals} → IsAt s before →
     IfPresent SimpleTree (SimpleIsTyped w) before o after → IsAt (check_optional w s o) after
 optional_true w s a absent = a
 optional_true w s a (present {after = after} {x = x} r) = simple_true w s x after a.faultless (held (SimpleIsTyped w) a r)
 
-optional_condition_true : (w : World) (s : Checked) {o : Option ExprTree} {before after : Locals} → IsAt s before →
+pub optional_condition_true : (w : World) (s : Checked) {o : Option ExprTree} {before after : Locals} → IsAt s before →
     IfPresent ExprTree (ConditionIsTyped w) before o after → IsAt (check_optional_condition w s o) after
 optional_condition_true w s a absent = a
 optional_condition_true w s a (present {after = after} {x = x} r) = condition_true w s x after a.faultless (held (ConditionIsTyped w) a r)
 
-init_true : (w : World) (s : Checked) {o : Option InitTree} {before after : Locals} → IsAt s before → IfPresent InitTree (InitIsTyped w) before o after →
+pub init_true : (w : World) (s : Checked) {o : Option InitTree} {before after : Locals} → IsAt s before → IfPresent InitTree (InitIsTyped w) before o after →
     IsAt (check_init w s o) after
 init_true w s a absent = a
 init_true w s a (present (an_init r)) = optional_true w s a r
 
-header_true : (w : World) (s : Checked) {h : ForTree} {before after : Locals} → IsAt s before → HeaderIsTyped w before h after → IsAt (check_header w s h) after
+pub header_true : (w : World) (s : Checked) {h : ForTree} {before after : Locals} → IsAt s before → HeaderIsTyped w before h after → IsAt (check_header w s h) after
 unfolding check_header
 header_true w s a endless = a
 header_true w s a (a_while {after = after} {e = e} r) = condition_true w s e after a.faultless (held (ConditionIsTyped w) a r)

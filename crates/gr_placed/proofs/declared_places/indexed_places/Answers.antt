@@ -1,4 +1,4 @@
--- The answers to the goals of `declared_places::unit_places`.
+-- The answers to the goals of `declared_places::indexed_places`.
 use Rattle.std.proofs.Common.{refl}
 use Rattle.std.specs.Prelude.{map}
 use Rattle.gr_tree.specs.SourceFile.{source_of}
@@ -7,7 +7,7 @@ use Rattle.gr_bound.specs.Binding.{IsFieldAt, IsMethodAt}
 use Rattle.gr_bound.proofs.NamedPlaces.{one_field_place, one_method_place}
 use Rattle.gr_standing.specs.Standing.{IsScopeAt}
 use Rattle.gr_placed.proofs.Declared.{ranked, one_scope_place}
-use Rattle.gr_placed.proofs.declared_places.unit_places.Goals as goal
+use Rattle.gr_placed.proofs.declared_places.indexed_places.Goals as goal
 
 pub returns : goal.returns
 returns c =
