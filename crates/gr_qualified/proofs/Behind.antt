@@ -8,16 +8,7 @@ use Rattle.gr_scope.specs.declared.model.Purpose.TheVariants as purpose
 use Rattle.gr_scope.specs.Named.{name_value}
 use Rattle.gr_declared.specs.Package.{Package}
 use Rattle.gr_declared.specs.Written.{BindsToken, ImportsPath}
-use Rattle.gr_bound.specs.Binding.{NamesPackage, IsBehindPackage}
-use Rattle.gr_bound.specs.Steps.{IsOnePath}
-
--- the path of the import to which a name is bound
-pub named_by_import : (p : Package) (file token d : ℕ) (o : Option (Bor (List ℕ))) → BindsToken p file token d → ((e : ℕ) → BindsToken p file token e → e ≡ d) →
-    MatchOption o ((v : List ℕ) → ImportsPath p d v → ⊥) (λ v. ImportsPath p d v.now × ((other : List ℕ) → ImportsPath p d other → other ≡ v.now)) →
-    IsOnePath (NamesPackage p file token) o
-named_by_import p file token d None binds only h = λ path n. h path (subst (λ e. ImportsPath p e path) (only n.import n.binds) n.imports)
-named_by_import p file token d (Some v) binds only h =
-    (record { import = d; binds = binds; imports = h.0 }, λ other n. h.1 other (subst (λ e. ImportsPath p e other) (only n.import n.binds) n.imports))
+use Rattle.gr_qualified.specs.Qualified.{NamesPackage, IsBehindPackage, IsOnePath, IsDeclarationBefore}
 
 before_is : (p : Package) (u before : ℕ) (path : List ℕ) → (p.layout.place u).index ≡ suc (suc before) → IsBehindPackage p u path →
     NamesPackage p (p.layout.place u).file before path
@@ -25,17 +16,27 @@ before_is p u before path e h =
     let same : h.before ≡ before = let k : (p.layout.place u).index ≡ suc (suc h.before) = h.behind_dot in omega arith in
     subst (λ b. NamesPackage p (p.layout.place u).file b path) same h.named
 
--- the path of the package two tokens before a name behind a dot
-pub behind_from : (p : Package) (u before : ℕ) (o : Option (Bor (List ℕ))) → p.layout.role u ≡ NotLexical purpose.Selected →
+-- what the name is bound to two tokens before a name behind a dot
+pub bound_before : (p : Package) (u before : ℕ) (o : Option ℕ) → p.layout.role u ≡ NotLexical purpose.Selected →
     (p.layout.place u).index ≡ suc (suc before) →
-    IsOnePath (NamesPackage p (p.layout.place u).file before) o → IsOnePath (IsBehindPackage p u) o
-behind_from p u before None role e h = λ path b. h path (before_is p u before path e b)
-behind_from p u before (Some v) role e h =
-    (record { selected = role; before = before; behind_dot = e; named = h.0 }, λ other b. h.1 other (before_is p u before other e b))
+    MatchOption o ((d : ℕ) → BindsToken p (p.layout.place u).file before d → ⊥) (λ d. BindsToken p (p.layout.place u).file before d) →
+    MatchOption o (Unit {0}) (λ d. (e : ℕ) → BindsToken p (p.layout.place u).file before e → e ≡ d) → IsDeclarationBefore p u o
+bound_before p u before None role e bound only = λ path b. let n = before_is p u before path e b in bound n.import n.binds
+bound_before p u before (Some d) role e bound only = λ path. (
+  (λ b. let n = before_is p u before path e b in subst (λ i. ImportsPath p i path) (only n.import n.binds) n.imports),
+  (λ i. record { selected = role; before = before; behind_dot = e; named = record { import = d; binds = bound; imports = i } }),
+)
 
 -- the first two tokens of a file stand behind no package's name
 pub not_behind : (p : Package) (u : ℕ) (path : List ℕ) → (p.layout.place u).index < 2 → IsBehindPackage p u path → ⊥
 not_behind p u path lt h = let k : (p.layout.place u).index ≡ suc (suc h.before) = h.behind_dot in absurd (omega arith)
+
+-- the path of the import to which that name is bound
+pub path_before : (p : Package) (u d : ℕ) (o : Option (Bor (List ℕ))) → ((path : List ℕ) → IsBehindPackage p u path ↔ ImportsPath p d path) →
+    MatchOption o ((v : List ℕ) → ImportsPath p d v → ⊥) (λ v. ImportsPath p d v.now × ((other : List ℕ) → ImportsPath p d other → other ≡ v.now)) →
+    IsOnePath (IsBehindPackage p u) o
+path_before p u d None same h = λ path b. h path ((same path).0 b)
+path_before p u d (Some v) same h = ((same v.now).1 h.0, λ other b. h.1 other ((same other).0 b))
 
 -- the path that was found is the one
 pub path_is : (P : List ℕ → Type 0) (o : Option (Bor (List ℕ))) (path : List ℕ) → IsOnePath P o → (name_value o ≡ Some path) ↔ P path

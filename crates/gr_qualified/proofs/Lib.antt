@@ -1,0 +1,4 @@
+-- The lemmas of this crate.
+pub mod Behind
+pub mod Listing
+pub mod Gathering
