@@ -83,7 +83,7 @@ site_spelled files x h =
     h.called ∙ ap (λ (f : SpelledFile). f.spell x.place.index) (sym t.1.1) ∙ ap (λ o. spelled_at o x.place.index) (sym source)
 
 -- the name of an identifier is spelled by its token
-abbrev IsSpelled : Package → ℕ → Type 0
+abbrev pub IsSpelled : Package → ℕ → Type 0
 IsSpelled c u = c.layout.role u ≡ NotLexical Selected → c.names u ≡ spelled c (c.layout.place u).file (c.layout.place u).index
 
 pub selected_spelled : (w : Workspace) (known : Verdicts) (p : List ℕ) (c : Package) → IsPackageIn w known p c → (u : ℕ) → IsSpelled c u

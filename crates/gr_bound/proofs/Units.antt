@@ -237,11 +237,13 @@ package_there w found h n lt =
     let path = slice_get_some (package_paths w) n lt in
     let f = slice_get_some found.packages.items n (subst (λ m. n < m) (sym h.findings.size) lt) in
     let has = (h.findings.each n path.0 f.0 path.1 f.1).qualified (h.sound n f.0 f.1) in
-    let same : has.checked.path ≡ path.0 = ap (λ (c : Package). c.path) has.is_package.is_package.is_package in
-    (has.checked, record {
-      has_number = path.1 ∙ ap Some (sym same);
-      is_package = record {
-        of_workspace = subst (Contains (package_paths w)) (sym same) (at_contains w n path.0 path.1);
-        is_checked = subst (λ q. IsPackageIn w (known_by found.interfaces) q has.checked) (sym same) has.is_package;
-      };
-    })
+    let same : has.checked.path ≡ path.0 = ap (λ (c : Package). c.path) has.is_package.is_package.is_package in (
+      has.checked,
+      record {
+        has_number = path.1 ∙ ap Some (sym same);
+        is_package = record {
+          of_workspace = subst (Contains (package_paths w)) (sym same) (at_contains w n path.0 path.1);
+          is_checked = subst (λ q. IsPackageIn w (known_by found.interfaces) q has.checked) (sym same) has.is_package;
+        };
+      },
+    )

@@ -1,4 +1,4 @@
 -- The lemmas of this crate.
-pub mod Behind
+pub mod NamesBefore
 pub mod Listing
-pub mod Gathering
+pub mod Gathered

@@ -1,3 +1,4 @@
 -- The lemmas of this crate.
 pub mod Spots
 pub mod MayUse
+pub mod UsedAbroad

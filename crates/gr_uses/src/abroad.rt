@@ -4,6 +4,7 @@ ghost use Rattle.std.specs.Prelude.{ℕ, ◌≡◌, ◌↔◌, map, slice_get, I
 ghost use Rattle.gr_tree.specs.SourceFile.{source_of};
 ghost use Rattle.gr_scope.specs.Named.{name_value};
 ghost use Rattle.gr_declared.specs.Package.{Package as Checked, spelled_at};
+ghost use Rattle.gr_qualified.specs.Lists.{path_of as path_under};
 ghost use Rattle.gr_bound.specs.declared.declaration.Declaration.TheVariants.{Declared};
 ghost use Rattle.gr_bound.specs.Indexed.{IsNumbered};
 ghost use Rattle.gr_bound.specs.Steps.{Adds};
@@ -29,6 +30,13 @@ fn spelling_at(files: &[FileTree], at: Position) -> &[u8]
     }
 }
 
+/// Whether a token of one of some files is spelled as a name.
+fn is_spelled(files: &[FileTree], at: Position, name: &[u8]) -> bool
+    ensures { IsTrue result ↔ (spelled_at (slice_get (map source_of files.now) at.file) at.index ≡ name.now) }
+{
+    spelling_at(files, at) == name
+}
+
 /// Adds the place of a token, if it is spelled as a name.
 fn add_spelled(
     spots: &mut Vec<Spot>,
@@ -38,7 +46,7 @@ fn add_spelled(
 ) -> Result<(), AllocError>
     ensures { OnOk result (Adds spots.old.items spots.new.items (IsSpelledAt (map source_of files.now) name.now at)) }
 {
-    if spelling_at(files, at) == name {
+    if is_spelled(files, at, name) {
         add_place(spots, files, at)
     } else {
         Ok(())
@@ -60,6 +68,13 @@ fn add_all_spelled(
     Ok(())
 }
 
+/// Whether a list is that of a path.
+fn is_of_path(list: &Qualified, path: &[u8]) -> bool
+    ensures { IsTrue result ↔ (path_under list.now ≡ path.now) }
+{
+    list.path.as_slice() == path
+}
+
 /// Adds the places of those tokens of a list that are spelled as a name, if the list is that of a path.
 fn add_listed(
     spots: &mut Vec<Spot>,
@@ -70,7 +85,7 @@ fn add_listed(
 ) -> Result<(), AllocError>
     ensures { OnOk result (Adds spots.old.items spots.new.items (IsSpelledUnder (map source_of files.now) name.now path.now list.now)) }
 {
-    if list.path.as_slice() == path {
+    if is_of_path(list, path) {
         add_all_spelled(spots, files, name, &list.places)
     } else {
         Ok(())
@@ -127,12 +142,19 @@ pub(crate) fn add_abroad(
     }
 }
 
+/// Whether two paths are the same.
+fn is_same(own: &SharedPath, path: &SharedPath) -> bool
+    ensures { IsTrue result ↔ (own.now ≡ path.now) }
+{
+    own.path() == path.path()
+}
+
 /// Whether a path is that of the package of a number.
 fn is_home(at: Numbered<'_>, path: &SharedPath) -> bool
     requires { IsNumbered at }
     ensures { (p : Checked) → IsPackageAt at.entry.graph.now (known_in at.entry.found.now) at.entry.number p → IsTrue result ↔ (p.path ≡ path.now) }
 {
-    path_of(at.graph, at.found, at.number).path() == path.path()
+    is_same(path_of(at.graph, at.found, at.number), path)
 }
 
 /// The path of the package of a declaration of a scope, where that is not the package of the number.

@@ -1,6 +1,7 @@
 //! The identifiers of a workspace that are bound to the same declaration.
 #![tactic(auto)]
 
+mod abroad;
 mod exported_name;
 mod may_use;
 mod member_uses;

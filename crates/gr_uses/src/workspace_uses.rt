@@ -13,6 +13,7 @@ ghost use Rattle.gr_bound.specs.Steps.{Adds};
 ghost use Rattle.gr_bound.specs.Uses.{IsUseOf, TellsUses, TellsUsesAt};
 ghost use Rattle.gr_bound.specs.Workspaces.{IsSound, known_in, bytes_of, IsExportedUnder, IsUseAt, ListsFound, TellsUsesIn};
 
+use crate::abroad::{add_abroad, path_abroad};
 use crate::exported_name::{declared_name, exported_under, own_name};
 use crate::may_use::{Sought, home_of, importing_home, may_use};
 use crate::own_names::is_own;
@@ -100,6 +101,23 @@ fn add_package_uses(
     add_uses_by(alloc, spots, at, &seen, &table, sought)
 }
 
+/// The same of a package that may use the declaration. Where that is declared in a scope of another package, it is not read.
+fn add_where_used(
+    alloc: Global,
+    spots: &mut Vec<Spot>,
+    at: Numbered<'_>,
+    sought: &Sought<'_>,
+) -> Result<(), AllocError>
+    requires { IsNumbered at }
+    ensures { OnOk result (Adds spots.old.items spots.new.items
+        (IsUseAt at.entry.graph.now (known_in at.entry.found.now) sought.now.declaration.now (name_value sought.now.name) at.entry.number)) }
+{
+    match path_abroad(at, sought.declaration) {
+        None => add_package_uses(alloc, spots, at, sought),
+        Some(path) => add_abroad(spots, at, path, sought.name),
+    }
+}
+
 /// The same of a package that is not read where it cannot use the declaration.
 fn add_if_used(
     alloc: Global,
@@ -113,7 +131,7 @@ fn add_if_used(
         (IsUseAt at.entry.graph.now (known_in at.entry.found.now) sought.now.declaration.now (name_value sought.now.name) at.entry.number)) }
 {
     if may_use(at.graph, at.found, at.number, sought) {
-        add_package_uses(alloc, spots, at, sought)
+        add_where_used(alloc, spots, at, sought)
     } else {
         Ok(())
     }

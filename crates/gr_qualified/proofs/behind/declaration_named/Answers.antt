@@ -3,7 +3,7 @@ use Rattle.std.proofs.Common.{◌≡◌, ◌<◌, ◌-◌, ◌∙◌, ℕ, suc, 
 use Rattle.std.specs.Prelude.{MatchOption}
 use Rattle.gr_declared.specs.PackageView.{package_of}
 use Rattle.gr_declared.specs.Written.{BindsToken}
-use Rattle.gr_qualified.proofs.Behind.{bound_before, not_behind}
+use Rattle.gr_qualified.proofs.NamesBefore.{bound_before, not_behind}
 use Rattle.gr_qualified.proofs.behind.declaration_named.Goals as goal
 
 pub returns-then-at-lt2 : goal.returns-then-at-lt2

@@ -1,6 +1,6 @@
 -- The answers to the goals of `behind::package_before`.
 use Rattle.gr_declared.specs.PackageView.{package_of}
-use Rattle.gr_qualified.proofs.Behind.{path_before}
+use Rattle.gr_qualified.proofs.NamesBefore.{path_before}
 use Rattle.gr_qualified.proofs.behind.package_before.Goals as goal
 
 pub returns-in-None : goal.returns-in-None

@@ -2,7 +2,7 @@
 use Rattle.std.proofs.Common.{◌≡◌, ◌+◌, ◌∙◌, length, ap, subst, arith}
 use Rattle.gr_declared.specs.PackageView.{package_of}
 use Rattle.gr_qualified.specs.Qualified.{AreListsBelow}
-use Rattle.gr_qualified.proofs.Gathering.{no_lists, next_list}
+use Rattle.gr_qualified.proofs.Gathered.{no_lists, next_list}
 use Rattle.gr_qualified.proofs.gathering.empty_lists.Goals as goal
 
 pub loop-d-init : goal.loop-d-init

@@ -2,7 +2,7 @@
 use Rattle.std.proofs.Common.{◌≡◌, length, subst, arith}
 use Rattle.gr_declared.specs.PackageView.{package_of}
 use Rattle.gr_qualified.specs.Qualified.{AreQualifiedBelow}
-use Rattle.gr_qualified.proofs.Gathering.{none_passed, one_passed}
+use Rattle.gr_qualified.proofs.Gathered.{none_passed, one_passed}
 use Rattle.gr_qualified.proofs.gathering.qualified_identifiers.Goals as goal
 
 pub loop-u-init : goal.loop-u-init

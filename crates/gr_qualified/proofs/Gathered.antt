@@ -11,7 +11,7 @@ use Rattle.gr_qualified.specs.declared.lists.Qualified.{Qualified}
 use Rattle.gr_qualified.specs.declared.lists.Lists.{Lists}
 use Rattle.gr_qualified.specs.Lists.{IsListed, path_for, AreWithin, AddsDeclaration, AddsUnder}
 use Rattle.gr_qualified.specs.Qualified.{IsBehindPackage, IsOnePath, IsDeclarationBefore, StandsBehind, AreQualifiedBelow, AreListsBelow, ListsIdentifier}
-use Rattle.gr_qualified.proofs.Behind.{path_is}
+use Rattle.gr_qualified.proofs.NamesBefore.{path_is}
 
 -- a list for each import
 

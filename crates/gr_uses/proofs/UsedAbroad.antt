@@ -45,11 +45,15 @@ all_places files name places n a b e h =
       among = (q.0, slice_get_within places q.0 q.2.at q.2.has_rank, get_or_from_slice_get places q.0 q.2.at q.2.at q.2.has_rank);
       is_spelled = q.2.is_spelled;
     })
-    (λ place m. (m.among.0, subst (λ k. m.among.0 < k) (sym e) m.among.1, record {
-      at = m.at;
-      has_rank = slice_get_read places (length places) m.among.0 m.at refl m.among.1 (sym m.among.2);
-      is_spelled = m.is_spelled;
-    })) h
+    (λ place m. (
+      m.among.0,
+      subst (λ k. m.among.0 < k) (sym e) m.among.1,
+      record {
+        at = m.at;
+        has_rank = slice_get_read places (length places) m.among.0 m.at refl m.among.1 (sym m.among.2);
+        is_spelled = m.is_spelled;
+      },
+    )) h
 
 -- the list of a number
 
@@ -75,12 +79,15 @@ all_lists files name path lists n a b e h =
       is_spelled = q.2.under.1.is_spelled;
     })
     (λ place m.
-    let is = m.listed.1 in
-    (m.listed.0, subst (λ k. m.listed.0 < k) (sym e) (slice_get_within lists m.listed.0 is.list is.has_number), record {
-      list = is.list;
-      has_rank = is.has_number;
-      under = (is.of_path, record { at = m.at; among = is.holds; is_spelled = m.is_spelled });
-    })) h
+    let is = m.listed.1 in (
+      m.listed.0,
+      subst (λ k. m.listed.0 < k) (sym e) (slice_get_within lists m.listed.0 is.list is.has_number),
+      record {
+        list = is.list;
+        has_rank = is.has_number;
+        under = (is.of_path, record { at = m.at; among = is.holds; is_spelled = m.is_spelled });
+      },
+    )) h
 
 -- what is listed of a package
 
@@ -99,8 +106,13 @@ module _ (w : Workspace) (known : Verdicts) (n : ℕ) (p : Package) (is : IsPack
           record {
             used_in = p;
             is_package = is;
-            is_use = (u, (((stands.below, identifier), here.1),
-                (stands.behind, selected_spelled w known p.path p is.is_package.is_checked u stands.behind.selected ∙ here.0)));
+            is_use = (
+              u,
+              (
+                ((stands.below, identifier), here.1),
+                (stands.behind, selected_spelled w known p.path p is.is_package.is_checked u stands.behind.selected ∙ here.0),
+              ),
+            );
           }
 
       from_own : (place : Place) → UsesIn p (λ u. IsBehindPackage p u path × (p.names u ≡ name)) place → IsSpelledListed files name path lists place
