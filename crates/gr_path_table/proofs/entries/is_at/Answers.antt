@@ -1,5 +1,5 @@
 -- The paths are compared as bytes.
-use Rattle.std.proofs.Common.{drop, sym, ◌∙◌}
+use Rattle.std.proofs.Common.{sym, ◌∙◌}
 use Rattle.std.proofs.lemmas.Map.Text.{is_eq-slice_cmp}
 use Rattle.gr_text.specs.Workspace.{path_cmp}
 use Rattle.gr_chunks.proofs.Standing.{is_at_at}

@@ -1,5 +1,5 @@
 -- The last entry stands behind all others.
-use Rattle.std.proofs.Common.{◌≡◌, ◌-◌, ◌<◌, suc, true, Some, slice_get, length, get_or, sym, ap, ◌∙◌, arith}
+use Rattle.std.proofs.Common.{◌≡◌, ◌-◌, ◌<◌, true, Some, slice_get, length, get_or, sym, ap, ◌∙◌, arith}
 use Rattle.std.specs.Ordering.{is_gt}
 use Rattle.std.proofs.lemmas.Option.{slice_get_within, get_or_from_slice_get}
 use Rattle.gr_text.specs.Workspace.{path_cmp}
