@@ -8,7 +8,7 @@ ghost use Rattle.gr_graph.specs.Parsed.{IsFaulty, IsParsedAs};
 ghost use Rattle.gr_graph.specs.Graphs.{paths_of};
 
 use crate::faulty_file::FaultyFile;
-use crate::parsed::{ParsedFile, parse};
+use crate::parsed::{ParsedFile, parse_like};
 use crate::shared_package::{SharedPackage, number_of};
 use gr_text::{FileText, Path};
 use gr_tree::FileTree;
@@ -75,7 +75,19 @@ fn kept(
     Ok(None)
 }
 
-/// Parses a file, unless the same text was parsed before at the same path.
+/// The tree of the file of a path, whatever its text is, if it is among the packages.
+fn tree_before<'a>(before: &'a [SharedPackage], path: &Path) -> Option<&'a FileTree>
+    requires { IsStrictlySortedBy path_cmp (paths_of before.now) }
+{
+    let number = number_of(before, path.folder())?;
+    let trees = &before[number].package().trees;
+    match trees.binary_search_by(|tree| tree.path().cmp(path)) {
+        Ok(place) => Some(&trees[place]),
+        Err(_) => None,
+    }
+}
+
+/// Parses a file, unless the same text was parsed before at the same path. Where another text was, it may have the same tree.
 pub(crate) fn parse_unless_kept(
     alloc: Global,
     before: &[SharedPackage],
@@ -87,6 +99,6 @@ pub(crate) fn parse_unless_kept(
 {
     match kept(before, path, text)? {
         Some(file) => Ok(file),
-        None => parse(alloc, path, text),
+        None => parse_like(alloc, path, text, tree_before(before, path)),
     }
 }

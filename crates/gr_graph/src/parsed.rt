@@ -1,11 +1,12 @@
 //! A file as it was parsed.
-ghost use Rattle.std.specs.Prelude.{IfOk};
+ghost use Rattle.std.specs.Prelude.{◌≡◌, IfOk, IfErr};
+ghost use Rattle.gr_parse.specs.Parsed.{IsTextRefusedFor};
 ghost use Rattle.gr_tree.specs.Faults.{IsFaultOf};
 ghost use Rattle.gr_tree.specs.SourceFile.{IsSourceFile, source_of};
 ghost use Rattle.gr_graph.specs.Parsed.{IsParsedAs};
 
 use crate::faulty_file::FaultyFile;
-use gr_parse::{ParseRefusal, parse_file};
+use gr_parse::{ParseRefusal, parse_file, parse_file_like};
 use gr_scan::TextFault;
 use gr_text::{FileText, Path};
 use gr_tree::FileTree;
@@ -34,16 +35,49 @@ fn faulty(path: &Path, text: &FileText, fault: TextFault) -> Result<ParsedFile, 
     Ok(ParsedFile::Faulty(file))
 }
 
-/// Parses a file.
-pub(crate) fn parse(alloc: Global, path: &Path, text: &FileText) -> Result<ParsedFile, AllocError>
+/// What a file was parsed as, by the tree or the refusal.
+fn parsed(
+    path: &Path,
+    text: &FileText,
+    read: Result<FileTree, ParseRefusal>,
+) -> Result<ParsedFile, AllocError>
+    requires path { IfOk read (λ file. file.path ≡ path.now) }
+    requires text { IfOk read (λ file. file.cut.text ≡ text.now) }
+    requires refused { IfErr read (IsTextRefusedFor text.now) }
     ensures { IfOk result (IsParsedAs path.now text.now) }
 {
-    match parse_file(alloc, path, text) {
+    match read {
         Ok(tree) => {
             is_source_file(&tree);
             Ok(ParsedFile::Sound(tree))
         }
         Err(ParseRefusal::Fault(fault)) => faulty(path, text, fault),
         Err(ParseRefusal::Memory) => Err(AllocError),
+    }
+}
+
+/// Parses a file.
+fn parse(alloc: Global, path: &Path, text: &FileText) -> Result<ParsedFile, AllocError>
+    ensures { IfOk result (IsParsedAs path.now text.now) }
+{
+    let read = parse_file(alloc, path, text);
+    parsed(path, text, read)
+}
+
+/// Parses a file. One that is at hand may have the same tree: then both share it.
+pub(crate) fn parse_like(
+    alloc: Global,
+    path: &Path,
+    text: &FileText,
+    like: Option<&FileTree>,
+) -> Result<ParsedFile, AllocError>
+    ensures { IfOk result (IsParsedAs path.now text.now) }
+{
+    match like {
+        None => parse(alloc, path, text),
+        Some(like) => {
+            let read = parse_file_like(alloc, path, text, like);
+            parsed(path, text, read)
+        }
     }
 }

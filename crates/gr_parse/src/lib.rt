@@ -24,6 +24,6 @@ mod take;
 mod types;
 mod words;
 
-pub use file_tree::parse_file;
+pub use file_tree::{parse_file, parse_file_like};
 pub use parser::{Tree, flatten, parse};
 pub use refusal::ParseRefusal;

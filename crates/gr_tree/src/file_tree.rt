@@ -15,10 +15,11 @@ use std::sync::Arc;
 struct FileTreeParts {
     path: Path,
     pieces: Pieces,
-    file: File,
+    file: Arc<File, Global>,
 }
 
-/// A Go file without fault: its path, its cut and its syntax tree, which no longer change. A clone shares them.
+/// A Go file without fault: its path, its cut and its syntax tree, which no longer change. A clone shares them, and
+/// files whose tokens are alike can share their tree.
 pub struct FileTree {
     parts: Arc<FileTreeParts, Global>,
 }
@@ -41,9 +42,9 @@ impl Model for FileTree {
 
     ghost coded = { Prim.hlevel (codes, e.the_row.coded) };
 
-    ghost view = { λ a. record { path = (arc_value a.parts).path; cut = (arc_value a.parts).pieces; file = (arc_value a.parts).file } };
+    ghost view = { λ a. record { path = (arc_value a.parts).path; cut = (arc_value a.parts).pieces; file = arc_value (arc_value a.parts).file } };
 
-    ghost invariant = { λ a. IsSourceFile (source_of (record { path = (arc_value a.parts).path; cut = (arc_value a.parts).pieces; file = (arc_value a.parts).file })) };
+    ghost invariant = { λ a. IsSourceFile (source_of (record { path = (arc_value a.parts).path; cut = (arc_value a.parts).pieces; file = arc_value (arc_value a.parts).file })) };
 }
 
 impl FileTree {
@@ -57,6 +58,22 @@ impl FileTree {
         requires { IsSourceFile (record { path = path; cut = pieces; tree = file_view file }) }
         ensures { IfOk result (λ made. made ≡ record { path = path; cut = pieces; file = file }) }
     {
+        let file = Arc::new(alloc, file)?;
+        let parts = Arc::new(alloc, FileTreeParts { path, pieces, file })?;
+        Ok(FileTree { parts })
+    }
+
+    /// The file of a path and a cut whose tokens have the tree of this one, too. Both then share the tree.
+    pub fn with_cut(
+        &self,
+        alloc: Global,
+        path: Path,
+        pieces: Pieces,
+    ) -> Result<FileTree, AllocError>
+        requires { IsSourceFile (record { path = path; cut = pieces; tree = file_view self.now.file }) }
+        ensures { IfOk result (λ made. made ≡ record { path = path; cut = pieces; file = self.now.file }) }
+    {
+        let file = Arc::try_clone(&self.parts.file)?;
         let parts = Arc::new(alloc, FileTreeParts { path, pieces, file })?;
         Ok(FileTree { parts })
     }
