@@ -15,6 +15,6 @@ returns-in-Some g c t =
     let at : slice_get es m ≡ Some last = sym c.in-Some.ensures.value in
     let within : m < length es = slice_get_within es m last at in
     let gt : is_gt (path_cmp path (get_or es m last).0) ≡ true =
-        ap (λ e. is_gt (path_cmp path e.0)) (get_or_from_slice_get es m last last at)
-        ∙ sym (c.is_gt.ensures ∙ ap is_gt (c.cmp.ensures ∙ ap (path_cmp path) c.path.ensures)) ∙ t in
+    ap (λ e. is_gt (path_cmp path e.0)) (get_or_from_slice_get es m last last at)
+    ∙ sym (c.is_gt.ensures ∙ ap is_gt (c.cmp.ensures ∙ ap (path_cmp path) c.path.ensures)) ∙ t in
     after_last path es m last c.requires (omega (arith, within)) gt

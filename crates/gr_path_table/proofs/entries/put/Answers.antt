@@ -13,11 +13,11 @@ returns-then-is_at-clause-ok g c =
     let d = c.index_mut.result.now in
     let within : m < length es = subst (λ xs. m < length xs) c.deref-2.ensures.value (c.is_at.ensures.within c.if-is_at.true) in
     let front : IsAfterAll path_cmp c.args.path (take m es) = subst (λ p. IsAfterAll path_cmp p (take m es)) c.path-2.ensures
-        (subst (λ xs. IsAfterAll path_cmp c.path-2.result.now (take m xs)) c.deref.ensures.value c.place_from_end-at.ensures.front) in
+    (subst (λ xs. IsAfterAll path_cmp c.path-2.result.now (take m xs)) c.deref.ensures.value c.place_from_end-at.ensures.front) in
     let here : is_at path_cmp c.args.path (drop m es) ≡ true =
-        ap (λ p. is_at path_cmp p (drop m es)) (sym c.path-3.ensures)
-        ∙ ap (λ xs. is_at path_cmp c.path-3.result.now (drop m xs)) (sym c.deref-2.ensures.value)
-        ∙ sym c.is_at.ensures.there ∙ c.if-is_at.true in
+    ap (λ p. is_at path_cmp p (drop m es)) (sym c.path-3.ensures)
+    ∙ ap (λ xs. is_at path_cmp c.path-3.result.now (drop m xs)) (sym c.deref-2.ensures.value)
+    ∙ sym c.is_at.ensures.there ∙ c.if-is_at.true in
     set_parts es m (d.0, c.args.value) within
     ∙ ap (λ k. take m es ++ (k, c.args.value) ∷ drop (suc m) es) (ap (λ e. e.0) c.index_mut.ensures.value)
     ∙ sym (put_there path_cmp c.args.path c.args.value es m d front here)
@@ -27,13 +27,13 @@ returns-in_ok-insert-clause-ok g c =
     let es = c.args.entries.now.items in
     let m = c.place_from_end-at.result in
     let front : IsAfterAll path_cmp c.args.path (take m es) = subst (λ p. IsAfterAll path_cmp p (take m es)) c.path-2.ensures
-        (subst (λ xs. IsAfterAll path_cmp c.path-2.result.now (take m xs)) c.deref.ensures.value c.place_from_end-at.ensures.front) in
+    (subst (λ xs. IsAfterAll path_cmp c.path-2.result.now (take m xs)) c.deref.ensures.value c.place_from_end-at.ensures.front) in
     let back : is_after path_cmp c.args.path (drop m es) ≡ false =
-        ap (λ p. is_after path_cmp p (drop m es)) (sym c.path-2.ensures)
-        ∙ ap (λ xs. is_after path_cmp c.path-2.result.now (drop m xs)) (sym c.deref.ensures.value)
-        ∙ c.place_from_end-at.ensures.back in
+    ap (λ p. is_after path_cmp p (drop m es)) (sym c.path-2.ensures)
+    ∙ ap (λ xs. is_after path_cmp c.path-2.result.now (drop m xs)) (sym c.deref.ensures.value)
+    ∙ c.place_from_end-at.ensures.back in
     let none : is_at path_cmp c.args.path (drop m es) ≡ false =
-        ap (λ p. is_at path_cmp p (drop m es)) (sym c.path-3.ensures)
-        ∙ ap (λ xs. is_at path_cmp c.path-3.result.now (drop m xs)) (sym c.deref-2.ensures.value)
-        ∙ sym c.is_at.ensures.there ∙ c.if-is_at.false in
+    ap (λ p. is_at path_cmp p (drop m es)) (sym c.path-3.ensures)
+    ∙ ap (λ xs. is_at path_cmp c.path-3.result.now (drop m xs)) (sym c.deref-2.ensures.value)
+    ∙ sym c.is_at.ensures.there ∙ c.if-is_at.false in
     c.in_ok-insert.ensures.items ∙ sym (put_gap path_cmp c.args.path c.args.value es m front back none)

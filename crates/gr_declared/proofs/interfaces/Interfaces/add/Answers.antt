@@ -4,7 +4,7 @@ use Rattle.std.specs.Prelude.{Some}
 use Rattle.std.specs.Arc.{arc_value}
 use Rattle.std.specs.Global.{Vec}
 use Rattle.gr_expr.specs.declared.world.Definition.{Definition}
-use Rattle.gr_declared.specs.declared.interfaces.PackageScope.{PackageScope}
+use Rattle.gr_expr.specs.declared.interfaces.PackageScope.{PackageScope}
 use Rattle.gr_declared.proofs.AddingInterfaces.{set_as}
 use Rattle.gr_declared.proofs.interfaces.Interfaces.add.Goals as goal
 
