@@ -11,7 +11,7 @@ use Rattle.gr_expr.specs.declared.interfaces.Interface.{Interface}
 use Rattle.gr_expr.specs.WorldView.{shared_interface, known_at}
 use Rattle.gr_imports.specs.States.{state_in}
 use Rattle.gr_declared.specs.declared.interfaces.Interfaces.{Interfaces}
-use Rattle.gr_declared.specs.InterfacesView.{scope_of, scope_name, interface_in, interface_known, no_interface, KnowsSame, SetsKnown}
+use Rattle.gr_declared.specs.InterfacesView.{known_scope, scope_name, interface_in, interface_known, no_interface, KnowsSame, SetsKnown}
 
 abbrev known : List ℕ → List (List ℕ × Option (Arc Interface Global)) → Option Interface
 known path es = shared_interface (option_flatten (find path_cmp path es))
@@ -25,7 +25,7 @@ pub same_known : (old new : Interfaces) (path : List ℕ) → known_at new.defin
     KnowsSame old new path
 same_known old new path same states = record {
   interface = ap (interface_known path) same;
-  name = ap (λ k. scope_name (scope_of k)) same;
+  name = ap (λ k. scope_name (known_scope k)) same;
   state = ap (λ s. state_in s path) states;
 }
 
@@ -38,7 +38,7 @@ is_set old new path held set noted =
         ap (known path) set ∙ ap (λ o. shared_interface (option_flatten o)) (found_put path held es) in
     record {
       has_interface = ap (interface_known path) here;
-      has_name = ap (λ k. scope_name (scope_of k)) here;
+      has_name = ap (λ k. scope_name (known_scope k)) here;
       states = λ p. ap (λ s. state_in s p) noted;
       elsewhere = λ p ne. same_known old new p
           (ap (known p) set ∙ ap (λ o. shared_interface (option_flatten o)) (others_put path held es p ne)) noted;

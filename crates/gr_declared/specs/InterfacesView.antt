@@ -32,12 +32,12 @@ exports_at exports name = option_map export_of (get_by (λ key. slice_cmp nat_cm
 abbrev pub exported_in : PackageScope → List ℕ → Option seen.Export
 exported_in s name = exports_at s.exported name
 
-abbrev pub scope_of : Option Interface → Option PackageScope
-scope_of known = option_map (λ (i : Interface). i.scope) known
+abbrev pub known_scope : Option Interface → Option PackageScope
+known_scope known = option_map (λ (i : Interface). i.scope) known
 
 -- the name in the clause of a package, and its exported names, where they are known
 abbrev pub scope_in : Interfaces → List ℕ → Option PackageScope
-scope_in i path = scope_of (known_at i.definitions path)
+scope_in i path = known_scope (known_at i.definitions path)
 
 abbrev pub scope_name : Option PackageScope → Option (List ℕ)
 scope_name None = None
@@ -69,7 +69,7 @@ interface_in i path = interface_by path (scope_in i path) (definitions_at i.defi
 
 -- the same, by what is known of the package
 abbrev pub interface_known : (path : List ℕ) → Option Interface → seen.Interface
-interface_known path known = interface_by path (scope_of known) (definitions_listed known)
+interface_known path known = interface_by path (known_scope known) (definitions_listed known)
 
 -- the interface of a path of which nothing is known: no name, no export, and each definition a struct of its own, without fields
 abbrev pub no_interface : (path : List ℕ) → seen.Interface
@@ -102,7 +102,7 @@ pub record Sets (old new : Interfaces) (path : List ℕ) (interface : seen.Inter
 
 -- one path has what is known of its package, and all else stays
 abbrev pub SetsKnown : (old new : Interfaces) (path : List ℕ) → Option Interface → Type 0
-SetsKnown old new path known = Sets old new path (interface_known path known) (scope_name (scope_of known))
+SetsKnown old new path known = Sets old new path (interface_known path known) (scope_name (known_scope known))
 
 -- the interface of the package of a path is added
 abbrev pub AddsInterface : (old new : Interfaces) (path : List ℕ) → Interface → Type 0
