@@ -35,7 +35,7 @@ pub is_set : (old new : Interfaces) (path : List ℕ) (held : Option (Arc Interf
 is_set old new path held set noted =
     let es = old.definitions.packages in
     let here : known_at new.definitions path ≡ shared_interface held =
-        ap (known path) set ∙ ap (λ o. shared_interface (option_flatten o)) (found_put path held es) in
+    ap (known path) set ∙ ap (λ o. shared_interface (option_flatten o)) (found_put path held es) in
     record {
       has_interface = ap (interface_known path) here;
       has_name = ap (λ k. scope_name (known_scope k)) here;
