@@ -2,3 +2,5 @@
 pub mod Spots
 pub mod MayUse
 pub mod UsedAbroad
+pub mod NameTokens
+pub mod MembersUsed

@@ -21,7 +21,7 @@ use gr_tree::FileTree;
 use std::alloc::AllocError;
 
 /// How a token of one of some files is spelled.
-fn spelling_at(files: &[FileTree], at: Position) -> &[u8]
+pub(crate) fn spelling_at(files: &[FileTree], at: Position) -> &[u8]
     ensures { result.now ≡ spelled_at (slice_get (map source_of files.now) at.file) at.index }
 {
     match files.get(at.file) {
@@ -150,7 +150,7 @@ fn is_same(own: &SharedPath, path: &SharedPath) -> bool
 }
 
 /// Whether a path is that of the package of a number.
-fn is_home(at: Numbered<'_>, path: &SharedPath) -> bool
+pub(crate) fn is_home(at: Numbered<'_>, path: &SharedPath) -> bool
     requires { IsNumbered at }
     ensures { (p : Checked) → IsPackageAt at.entry.graph.now (known_in at.entry.found.now) at.entry.number p → IsTrue result ↔ (p.path ≡ path.now) }
 {

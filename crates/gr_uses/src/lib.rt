@@ -5,6 +5,7 @@ mod abroad;
 mod exported_name;
 mod may_use;
 mod member_uses;
+mod members_abroad;
 mod own_names;
 mod package_uses;
 mod places;

@@ -16,6 +16,7 @@ ghost use Rattle.gr_bound.specs.Workspaces.{IsSound, known_in, bytes_of, IsExpor
 use crate::abroad::{add_abroad, path_abroad};
 use crate::exported_name::{declared_name, exported_under, own_name};
 use crate::may_use::{Sought, home_of, importing_home, may_use};
+use crate::members_abroad::{add_members_abroad, is_member_abroad};
 use crate::own_names::is_own;
 use crate::places::Places;
 use crate::sorting::places;
@@ -101,7 +102,25 @@ fn add_package_uses(
     add_uses_by(alloc, spots, at, &seen, &table, sought)
 }
 
-/// The same of a package that may use the declaration. Where that is declared in a scope of another package, it is not read.
+/// The same of a package that is not read where the declaration is a field or method of another one.
+fn add_members_or_read(
+    alloc: Global,
+    spots: &mut Vec<Spot>,
+    at: Numbered<'_>,
+    sought: &Sought<'_>,
+) -> Result<(), AllocError>
+    requires { IsNumbered at }
+    ensures { OnOk result (Adds spots.old.items spots.new.items
+        (IsUseAt at.entry.graph.now (known_in at.entry.found.now) sought.now.declaration.now (name_value sought.now.name) at.entry.number)) }
+{
+    if is_member_abroad(at, sought.declaration) {
+        add_members_abroad(alloc, spots, at, sought.declaration)
+    } else {
+        add_package_uses(alloc, spots, at, sought)
+    }
+}
+
+/// The same of a package that may use the declaration. Where that is declared in another one, it is not read.
 fn add_where_used(
     alloc: Global,
     spots: &mut Vec<Spot>,
@@ -113,7 +132,7 @@ fn add_where_used(
         (IsUseAt at.entry.graph.now (known_in at.entry.found.now) sought.now.declaration.now (name_value sought.now.name) at.entry.number)) }
 {
     match path_abroad(at, sought.declaration) {
-        None => add_package_uses(alloc, spots, at, sought),
+        None => add_members_or_read(alloc, spots, at, sought),
         Some(path) => add_abroad(spots, at, path, sought.name),
     }
 }
