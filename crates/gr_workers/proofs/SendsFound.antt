@@ -11,6 +11,7 @@ use Rattle.gr_expr.specs.contracts.world.Definition.{the_row as definition}
 use Rattle.gr_expr.specs.contracts.found.MemberUse.{the_row as member_use}
 use Rattle.gr_expr.specs.contracts.interfaces.Export.{the_row as exported}
 use Rattle.gr_expr.specs.contracts.interfaces.PackageScope.{the_row as scope}
+use Rattle.gr_expr.specs.contracts.interfaces.Interface.{the_row as interface}
 use Rattle.gr_declared.specs.contracts.interfaces.Interfaces.{the_row as interfaces}
 use Rattle.gr_verdict.specs.contracts.fault.FileFault.{the_row as file_fault}
 use Rattle.gr_verdict.specs.contracts.finding.Finding.{the_row as finding}
@@ -81,11 +82,17 @@ scope_sent = search (owned, exported_sent) depth 30 fits 50000
 pub scope_shared : IsSync scope
 scope_shared = search (owned, exported_shared) depth 30 fits 50000
 
+pub interface_sent : IsSend interface
+interface_sent = search (owned, type_crosses, definition_sent) depth 30 fits 50000
+
+pub interface_shared : IsSync interface
+interface_shared = search (owned, type_crosses, definition_shared) depth 30 fits 50000
+
 pub interfaces_sent : IsSend interfaces
-interfaces_sent = search (owned, type_crosses, scope_sent, scope_shared, definition_sent, definition_shared) depth 30 fits 50000
+interfaces_sent = search (owned, type_crosses, interface_sent, interface_shared) depth 30 fits 50000
 
 pub interfaces_shared : IsSync interfaces
-interfaces_shared = search (owned, type_crosses, scope_sent, scope_shared, definition_sent, definition_shared) depth 30 fits 50000
+interfaces_shared = search (owned, type_crosses, interface_sent, interface_shared) depth 30 fits 50000
 
 pub file_fault_sent : IsSend file_fault
 file_fault_sent = FileFault-send
