@@ -22,6 +22,7 @@ use Rattle.gr_text.proofs.path.Path.TheSendSync.{the_send as Path-send, the_sync
 use Rattle.gr_path_table.proofs.shared_path.SharedPath.TheSendSync.{the_send as SharedPath-send, the_sync as SharedPath-sync}
 use Rattle.gr_expr.proofs.types.Basic.TheSendSync.{the_send as Basic-send, the_sync as Basic-sync}
 use Rattle.gr_expr.proofs.symbol.Symbol.TheSendSync.{the_send as Symbol-send, the_sync as Symbol-sync}
+use Rattle.gr_qualified.proofs.lists.Qualified.TheSendSync.{the_send as Qualified-send, the_sync as Qualified-sync}
 use Rattle.gr_verdict.proofs.fault.FileFault.TheSendSync.{the_send as FileFault-send, the_sync as FileFault-sync}
 use Rattle.gr_expr.proofs.types.GoType.TheLaws.TheKnot.{crosses as type_crosses}
 
@@ -101,10 +102,10 @@ pub file_fault_shared : IsSync file_fault
 file_fault_shared = FileFault-sync
 
 pub finding_sent : IsSend finding
-finding_sent = search (owned, file_fault_sent, member_use_sent) depth 30 fits 50000
+finding_sent = search (owned, file_fault_sent, member_use_sent, Qualified-send) depth 30 fits 50000
 
 pub finding_shared : IsSync finding
-finding_shared = search (owned, file_fault_shared, member_use_shared) depth 30 fits 50000
+finding_shared = search (owned, file_fault_shared, member_use_shared, Qualified-sync) depth 30 fits 50000
 
 pub shared_finding_sent : IsSend shared_finding
 shared_finding_sent = search (owned, finding_sent, finding_shared) depth 30 fits 50000
