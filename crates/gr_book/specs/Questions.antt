@@ -1,6 +1,7 @@
 -- The events that questions are, and the replies that their answers are.
-use Rattle.std.specs.Prelude.{ℕ, Option, Result, Ok, Err}
+use Rattle.std.specs.Prelude.{ℕ, Option, Some, None, Result, Ok, Err}
 use Rattle.gr_text.specs.declared.refusal.Refusal.{Refusal}
+use Rattle.gr_edit.specs.EditSet.{FileChanges}
 use Rattle.gr_book.specs.declared.changing.Changing.{Changing}
 use Rattle.gr_book.specs.declared.changing.Changing.TheVariants as changing
 use Rattle.gr_machine.specs.declared.entry.Line.{Line}
@@ -26,3 +27,8 @@ handing_event (handing.GiveBack job) = GiveBack job
 abbrev pub logged : Result (ℕ × Option Line) Refusal → Reply
 logged (Ok shown) = Logged shown.0 shown.1
 logged (Err refusal) = Refused refusal
+
+-- the edits of a change that was admitted
+abbrev pub edits_made : Result (ℕ × FileChanges) Refusal → Option FileChanges
+edits_made (Ok made) = Some made.1
+edits_made (Err refusal) = None

@@ -4,11 +4,14 @@ ghost use Rattle.gr_verdict.specs.Found.{KnowsVerdicts};
 ghost use Rattle.gr_machine.specs.Machine.{content, opening};
 ghost use Rattle.gr_machine.specs.Kept.{StepKept};
 ghost use Rattle.gr_machine.specs.Run.{IsReplay};
-ghost use Rattle.gr_machine.specs.Step.{Step, entries_due};
+ghost use Rattle.gr_machine.specs.Step.{Step, done, entries_due};
+ghost use Rattle.gr_machine.specs.declared.event.Event.TheVariants.{Commit};
 
+use crate::changing::enter_on_current;
 use gr_content::{Asked, Content, Question, answer};
 use gr_graph::Graph;
-use gr_machine::Entry;
+use gr_machine::{Entry, EntryKind};
+use gr_space::MadeChange;
 use gr_text::{Limits, Refusal};
 use gr_verdict::Known;
 use std::alloc::{AllocError, Global};
@@ -118,6 +121,22 @@ impl Book {
         let (answer, kept) = self.step_kept(question);
         drop(kept);
         answer
+    }
+
+    /// The step that a `Changing::Commit` is, for a change whose base is known to have the current files: the basis alone is compared with
+    /// what is current, and no text.
+    pub fn commit_on_current(&mut self, basis: u64, change: MadeChange) -> Result<u64, Refusal>
+        requires { change.base ≡ self.old.current.files }
+        ensures { Step self.old (Commit basis change) (done result) self.new }
+    {
+        let asked = Asked::alone(EntryKind::Commit, basis);
+        if !self.has_room(asked.entries_needed()) {
+            return Err(Refusal::JournalFull);
+        }
+        match make_room(&mut self.journal, &self.content, &asked) {
+            Ok(()) => enter_on_current(&mut self.content, &mut self.journal, basis, change),
+            Err(_) => Err(Refusal::Memory),
+        }
     }
 
     /// Takes in what was found in packages of these files, if they are those of the current state. It is no event: it decides how

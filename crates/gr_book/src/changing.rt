@@ -1,14 +1,14 @@
 //! The questions that change the workspace.
-ghost use Rattle.std.specs.Prelude.{◌≡◌, None};
+ghost use Rattle.std.specs.Prelude.{◌≡◌, ◌+◌, ◌≤◌, None, length, vec_capacity};
 ghost use Rattle.gr_machine.specs.Journal.{edits_of, subject_after, told_of};
-ghost use Rattle.gr_book.specs.Questions.{changing_event};
+ghost use Rattle.gr_book.specs.Questions.{changing_event, edits_made};
 ghost use Rattle.gr_machine.specs.Machine.{HasNumbers};
-ghost use Rattle.gr_machine.specs.Step.{AnswersOrLacks, done};
+ghost use Rattle.gr_machine.specs.Step.{AnswersOrLacks, Keeps, committed, done};
 ghost use Rattle.gr_machine.specs.declared.event.Event.TheVariants.{Commit};
 
 use crate::told::refusal_told;
-use gr_content::{Answered, Asked, Content, Question};
-use gr_machine::{Entry, EntryKind, Told};
+use gr_content::{Answered, Asked, Content, Question, enter};
+use gr_machine::{Entry, EntryKind, MadeEdits, Told};
 use gr_space::MadeChange;
 use gr_text::Refusal;
 
@@ -37,15 +37,14 @@ fn answered(outcome: Result<u64, Refusal>) -> Answered<Result<u64, Refusal>>
     }
 }
 
-/// Answers a change, and gives its edits if it is admitted.
-fn commit(content: &mut Content, basis: u64, change: MadeChange) -> Answered<Result<u64, Refusal>>
-    requires { HasNumbers content.old }
-    ensures answer { AnswersOrLacks content.old (Commit basis change) (done result.answer) content.new }
-    ensures out { result.out ≡ told_of (done result.answer) }
-    ensures subject { result.subject ≡ subject_after None (done result.answer) }
-    ensures made { result.made ≡ edits_of (Commit basis change) (done result.answer) }
+/// What is answered by the number of a new state, and its edits.
+fn answered_edits(outcome: Result<(u64, MadeEdits), Refusal>) -> Answered<Result<u64, Refusal>>
+    ensures answer { done result.answer ≡ committed outcome }
+    ensures out { result.out ≡ told_of (committed outcome) }
+    ensures subject { result.subject ≡ None }
+    ensures made { result.made ≡ edits_made outcome }
 {
-    match content.commit(basis, change) {
+    match outcome {
         Ok((number, edits)) => Answered {
             answer: Ok(number),
             out: Some(Told::Done(number)),
@@ -57,6 +56,52 @@ fn commit(content: &mut Content, basis: u64, change: MadeChange) -> Answered<Res
             Answered::new(Err(refusal), out, None)
         }
     }
+}
+
+/// Answers a change, and gives its edits if it is admitted.
+fn commit(content: &mut Content, basis: u64, change: MadeChange) -> Answered<Result<u64, Refusal>>
+    requires { HasNumbers content.old }
+    ensures answer { AnswersOrLacks content.old (Commit basis change) (done result.answer) content.new }
+    ensures out { result.out ≡ told_of (done result.answer) }
+    ensures subject { result.subject ≡ subject_after None (done result.answer) }
+    ensures made { result.made ≡ edits_of (Commit basis change) (done result.answer) }
+{
+    answered_edits(content.commit(basis, change))
+}
+
+/// The same for a change whose base is known to have the current files.
+fn commit_on_current(
+    content: &mut Content,
+    basis: u64,
+    change: MadeChange,
+) -> Answered<Result<u64, Refusal>>
+    requires numbers { HasNumbers content.old }
+    requires base { change.base ≡ content.old.current.files }
+    ensures answer { AnswersOrLacks content.old (Commit basis change) (done result.answer) content.new }
+    ensures out { result.out ≡ told_of (done result.answer) }
+    ensures subject { result.subject ≡ subject_after None (done result.answer) }
+    ensures made { result.made ≡ edits_of (Commit basis change) (done result.answer) }
+{
+    answered_edits(content.commit_on_current(basis, change))
+}
+
+/// Answers such a change, and adds its entry to the journal, in which there is room for it.
+pub(crate) fn enter_on_current(
+    content: &mut Content,
+    journal: &mut Vec<Entry>,
+    basis: u64,
+    change: MadeChange,
+) -> Result<u64, Refusal>
+    requires numbers { HasNumbers content.old }
+    requires base { change.base ≡ content.old.current.files }
+    requires room { length journal.old.items + 1 ≤ vec_capacity journal.old }
+    ensures keeps { Keeps content.old journal.old.items (Commit basis change) (done result) content.new journal.new.items }
+    ensures capacity { vec_capacity journal.new ≡ vec_capacity journal.old }
+{
+    let answered = commit_on_current(content, basis, change);
+    let (answer, kept) = enter(journal, Asked::alone(EntryKind::Commit, basis), answered);
+    drop(kept);
+    answer
 }
 
 impl Question for Changing {

@@ -33,7 +33,7 @@ use crate::desk::Desk;
 use crate::queries::{cat, found, object};
 use crate::response::{FaultList, Response};
 use crate::working::work;
-use gr_book::{Changing, Logging, Looking};
+use gr_book::{Changing, Logging};
 use gr_check::Planned;
 use gr_graph::Graph;
 use gr_line::{Command, StateCommand, Word};
@@ -97,12 +97,24 @@ fn redo<D: Desk>(desk: &mut D, basis: u64) -> Response
     send(desk, Changing::Redo(basis))
 }
 
+/// Sends a change of files that a look has shown.
+fn send_change<D: Desk>(desk: &mut D, basis: u64, change: MadeChange) -> Response
+    requires { D.sees desk.old change.base }
+    ensures { Sends D.steps desk.old (Commit basis change) result desk.new }
+{
+    match desk.commit(basis, change) {
+        Ok(number) => Response::Done { number },
+        Err(refusal) => Response::Refused { refusal },
+    }
+}
+
 /// Commits a change that was planned.
 fn commit<D: Desk>(desk: &mut D, basis: u64, planned: Result<MadeChange, Refusal>) -> Response
+    requires { IfOk planned (λ change. D.sees desk.old change.base) }
     ensures { Commits D.steps desk.old basis planned result desk.new }
 {
     match planned {
-        Ok(change) => send(desk, Changing::Commit(basis, change)),
+        Ok(change) => send_change(desk, basis, change),
         Err(refusal) => Response::Refused { refusal },
     }
 }
@@ -115,29 +127,32 @@ fn commit_learning<D: Desk>(
     files: &Graph,
     known: Known,
 ) -> Response
-    requires { KnowsVerdicts files.now known }
+    requires seen { D.sees desk.old change.base }
+    requires known { KnowsVerdicts files.now known }
     ensures { Sends D.steps desk.old (Commit basis change) result desk.new }
 {
-    let response = send(desk, Changing::Commit(basis, change));
+    let response = send_change(desk, basis, change);
     desk.learn(files, known);
     response
 }
 
 /// Commits a planned change. The desk learns what is known of its files, unless a clone of these finds no memory.
 fn commit_planned<D: Desk>(desk: &mut D, basis: u64, planned: Planned) -> Response
-    requires { KnowsVerdicts planned.change.files planned.known }
+    requires seen { D.sees desk.old planned.change.base }
+    requires known { KnowsVerdicts planned.change.files planned.known }
     ensures { Sends D.steps desk.old (Commit basis planned.change) result desk.new }
 {
     let Planned { change, known } = planned;
     match change.get().files.clone() {
         Ok(files) => commit_learning(desk, basis, change, &files, known),
-        Err(_) => send(desk, Changing::Commit(basis, change)),
+        Err(_) => send_change(desk, basis, change),
     }
 }
 
 /// Commits a change that was planned with what is known of its files.
 fn commit_known<D: Desk>(desk: &mut D, basis: u64, planned: Result<Planned, Refusal>) -> Response
-    requires { IfOk planned (λ p. KnowsVerdicts p.change.files p.known) }
+    requires seen { IfOk planned (λ p. D.sees desk.old p.change.base) }
+    requires known { IfOk planned (λ p. KnowsVerdicts p.change.files p.known) }
     ensures { Commits D.steps desk.old basis (change_in planned) result desk.new }
 {
     match planned {
@@ -155,6 +170,7 @@ fn put<D: Desk>(
     path: Word,
     body: Option<FileText>,
 ) -> Response
+    requires { D.sees desk.old view.now.snapshot.files }
     ensures { (planned : Result PlannedChange WhyRefused) × PlansBody view.now path body planned × Commits D.steps desk.old basis planned result desk.new }
 {
     let planned = plan_body(alloc, view, path.as_str(), body);
@@ -163,6 +179,7 @@ fn put<D: Desk>(
 
 /// The change that a del asks for, committed.
 fn del<D: Desk>(alloc: Global, desk: &mut D, view: &View, basis: u64, path: Word) -> Response
+    requires { D.sees desk.old view.now.snapshot.files }
     ensures { (planned : Result PlannedChange WhyRefused) × PlansDel view.now.snapshot path planned × Commits D.steps desk.old basis planned result desk.new }
 {
     let planned = plan_del(alloc, view.snapshot.get(), path.as_str());
@@ -224,6 +241,7 @@ fn rename<D: Desk>(
     at: NamedByte,
     name: Word,
 ) -> Response
+    requires { D.sees desk.old view.now.snapshot.files }
     ensures { (planned : Result PlannedChange WhyRefused) × PlansRename view.now.snapshot at.path at.offset name planned × Commits D.steps desk.old basis planned result desk.new }
 {
     let planned = plan_name(
@@ -264,6 +282,7 @@ fn move_to<D: Desk>(
     from: Word,
     to: Word,
 ) -> Response
+    requires { D.sees desk.old view.now.snapshot.files }
     ensures { (planned : Result PlannedChange WhyRefused) × PlansMove view.now.snapshot from to planned × Commits D.steps desk.old basis planned result desk.new }
 {
     let planned = plan_target(alloc, desk, view, from.as_str(), to.as_str());
@@ -373,6 +392,7 @@ fn tell_faults<D: Desk>(alloc: Global, desk: &mut D, view: &View) -> Response
 
 /// Acts on a command that is meant for the state of the view.
 fn act_on<D: Desk>(alloc: Global, desk: &mut D, view: &View, command: StateCommand) -> Response
+    requires { D.sees desk.old view.now.snapshot.files }
     ensures { ActsOn D.steps desk.old view.now command result desk.new }
 {
     match command {
@@ -403,6 +423,7 @@ fn act_on<D: Desk>(alloc: Global, desk: &mut D, view: &View, command: StateComma
 
 /// Acts on a command after its look has shown the view.
 fn act_after<D: Desk>(alloc: Global, desk: &mut D, view: &View, command: StateCommand) -> Response
+    requires { D.sees desk.old view.now.snapshot.files }
     ensures { ActsAfter D.steps desk.old view.now command result desk.new }
 {
     if fits_view(view, &command) {
@@ -421,7 +442,7 @@ fn act_after<D: Desk>(alloc: Global, desk: &mut D, view: &View, command: StateCo
 fn act_looking<D: Desk>(alloc: Global, desk: &mut D, command: StateCommand) -> Response
     ensures { Looks D.steps desk.old command result desk.new }
 {
-    match desk.step(Looking) {
+    match desk.look() {
         Ok(view) => act_after(alloc, desk, &view, command),
         Err(refusal) => Response::Refused { refusal },
     }

@@ -1,14 +1,19 @@
 //! Where commands take their events.
-ghost use Rattle.std.specs.Prelude.{◌≡◌, ℕ, Result};
+ghost use Rattle.std.specs.Prelude.{◌≡◌, ℕ, IfOk, Result};
+ghost use Rattle.gr_text.specs.Workspace.{Workspace};
 ghost use Rattle.gr_text.specs.declared.refusal.Refusal.{Refusal as WhyRefused};
+ghost use Rattle.gr_machine.specs.Step.{done, looked};
 ghost use Rattle.gr_machine.specs.declared.event.Event.{Event};
+ghost use Rattle.gr_machine.specs.declared.event.Event.TheVariants.{Commit, Look};
 ghost use Rattle.gr_machine.specs.declared.event.Reply.{Reply};
 ghost use Rattle.gr_machine.specs.MayReply.{MayReply};
 ghost use Rattle.gr_verdict.specs.Found.{KnowsVerdicts};
 
-use gr_book::Book;
+use gr_book::{Book, Looking};
 use gr_content::Question;
 use gr_graph::Graph;
+use gr_machine::View;
+use gr_space::MadeChange;
 use gr_text::Refusal;
 use gr_verdict::Known;
 use std::marker::Model;
@@ -22,10 +27,23 @@ pub trait Desk {
     /// after.
     ghost waits: { Self → Result ℕ WhyRefused → Self → Type 0 };
 
+    /// What is known of the current files, once a look has shown these.
+    ghost sees: { Self → Workspace → Type 0 };
+
     /// One event. The type of the answer tells which replies it may get.
     fn step<Q: Question>(&mut self, question: Q) -> Q::Answer
         ensures step { steps self.old (Q.event question) (Q.reply result) self.new }
         ensures kind { MayReply (Q.event question) (Q.reply result) };
+
+    /// A look at the current state. What is known of its files then holds until the next event.
+    fn look(&mut self) -> Result<View, Refusal>
+        ensures step { steps self.old Look (looked result) self.new }
+        ensures sees { IfOk result (λ view. sees self.new view.snapshot.files) };
+
+    /// A change of files that a look has shown.
+    fn commit(&mut self, basis: u64, change: MadeChange) -> Result<u64, Refusal>
+        requires { sees self.old change.base }
+        ensures { steps self.old (Commit basis change) (done result) self.new };
 
     /// Waits until every package of the current state is finished.
     fn wait(&mut self) -> Result<u64, Refusal>
@@ -73,6 +91,7 @@ impl Solo {
 }
 
 impl Desk for Solo {
+    ghost use Rattle.std.specs.Prelude.{◌≡◌};
     ghost use Rattle.gr_machine.specs.Step.{Step};
     ghost use Rattle.gr_desk.specs.Wait.{RefusesWait};
 
@@ -80,8 +99,20 @@ impl Desk for Solo {
 
     ghost waits = { RefusesWait };
 
+    // No one else changes the book, so these are the current files.
+    ghost sees = { λ machine files. files ≡ machine.current.files };
+
     fn step<Q: Question>(&mut self, question: Q) -> Q::Answer {
         self.book.step(question)
+    }
+
+    fn look(&mut self) -> Result<View, Refusal> {
+        self.book.step(Looking)
+    }
+
+    /// Nothing need be compared but the basis.
+    fn commit(&mut self, basis: u64, change: MadeChange) -> Result<u64, Refusal> {
+        self.book.commit_on_current(basis, change)
     }
 
     /// No one else builds.

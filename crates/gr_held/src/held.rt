@@ -1,9 +1,12 @@
 //! A desk at a seat.
+use gr_book::{Changing, Looking};
 use gr_content::Question;
 use gr_desk::Desk;
 use gr_graph::Graph;
+use gr_machine::View;
 use gr_pool::Shared;
 use gr_seats::{Opening, Seat};
+use gr_space::MadeChange;
 use gr_text::Refusal;
 use gr_verdict::Known;
 use std::sync::Wait;
@@ -17,7 +20,7 @@ pub struct Held<'a, L: Opening, R: Wait> {
 }
 
 impl<'a, L: Opening, R: Wait> Desk for Held<'a, L, R> {
-    ghost use Rattle.std.specs.Prelude.{◌≡◌};
+    ghost use Rattle.std.specs.Prelude.{◌≡◌, ⊤};
     ghost use Rattle.gr_held.specs.Step.{CallsAtSeat};
     ghost use Rattle.gr_held.specs.Wait.{WaitsUntilBuilt};
 
@@ -26,8 +29,20 @@ impl<'a, L: Opening, R: Wait> Desk for Held<'a, L, R> {
 
     ghost waits = { λ old outcome new. (new.seat.ghost_name ≡ old.seat.ghost_name) × WaitsUntilBuilt old.seat.now outcome new.seat.now };
 
+    // Others change the book too, so nothing is known of what is current.
+    ghost sees = { λ _ _. ⊤ };
+
     fn step<Q: Question>(&mut self, question: Q) -> Q::Answer {
         self.shared.call(self.rt, self.seat, question).0
+    }
+
+    fn look(&mut self) -> Result<View, Refusal> {
+        self.step(Looking)
+    }
+
+    /// Under the lock its base is compared with the current files.
+    fn commit(&mut self, basis: u64, change: MadeChange) -> Result<u64, Refusal> {
+        self.step(Changing::Commit(basis, change))
     }
 
     fn wait(&mut self) -> Result<u64, Refusal> {

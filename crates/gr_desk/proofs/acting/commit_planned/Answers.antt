@@ -5,6 +5,6 @@ use Rattle.gr_verdict.specs.Found.{KnowsVerdicts}
 use Rattle.gr_space.specs.declared.change.Change.{Change}
 use Rattle.gr_desk.proofs.acting.commit_planned.Goals as goal
 
-pub commit_learning-requires : goal.commit_learning-requires
-commit_learning-requires g c = subst (λ (w : Workspace). KnowsVerdicts w c.args.planned.known)
-    (sym (c.in-Ok.ensures.cases ∙ ap (λ (x : Change). x.files) c.get.ensures)) c.requires
+pub commit_learning-requires-clause-known : goal.commit_learning-requires-clause-known
+commit_learning-requires-clause-known g c = subst (λ (w : Workspace). KnowsVerdicts w c.args.planned.known)
+    (sym (c.in-Ok.ensures.cases ∙ ap (λ (x : Change). x.files) c.get.ensures)) c.requires.known
