@@ -20,5 +20,6 @@ pub mod PartPackages
 pub mod PartLinks
 pub mod Asked
 pub mod ChangedPackages
+pub mod NamedFiles
 pub mod Told
 pub mod Below

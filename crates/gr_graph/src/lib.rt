@@ -11,6 +11,7 @@ mod import_links;
 pub mod import_paths;
 mod importers;
 mod kept;
+mod named_files;
 mod order;
 mod package;
 mod package_list;
@@ -21,7 +22,7 @@ mod rows;
 mod search;
 mod shared_links;
 mod shared_package;
-mod staying;
+mod updated;
 
 pub use faulty_file::FaultyFile;
 pub use file_imports::{FileImport, read_imports};
