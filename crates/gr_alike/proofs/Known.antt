@@ -12,7 +12,7 @@ use Rattle.gr_expr.specs.WorldView.{no_definition, field_of, method_of, definiti
 use Rattle.gr_expr.specs.declared.symbol.Symbol.{Symbol}
 use Rattle.gr_expr.specs.declared.world.Definition.{Definition}
 use Rattle.gr_declared.specs.Package as seen
-use Rattle.gr_declared.specs.declared.interfaces.PackageScope.{PackageScope}
+use Rattle.gr_expr.specs.declared.interfaces.PackageScope.{PackageScope}
 use Rattle.gr_declared.specs.declared.interfaces.Interfaces.{Interfaces}
 use Rattle.gr_declared.specs.InterfacesView.{export_of, scope_name, name_or_none, scope_export, interface_in, scope_in}
 use Rattle.gr_alike.specs.Known.{entry_value, KnownScope, known_scope, KnownDefinition, known_definition, Known, known_in, IsKnownAlike}

@@ -6,7 +6,7 @@ use Rattle.gr_expr.specs.World as plain
 use Rattle.gr_expr.specs.WorldView.{underlying_of, field_of, method_of, definitions_at}
 use Rattle.gr_expr.specs.declared.world.Definition.{Definition}
 use Rattle.gr_declared.specs.Package as seen
-use Rattle.gr_declared.specs.declared.interfaces.PackageScope.{PackageScope}
+use Rattle.gr_expr.specs.declared.interfaces.PackageScope.{PackageScope}
 use Rattle.gr_declared.specs.declared.interfaces.Interfaces.{Interfaces}
 use Rattle.gr_declared.specs.InterfacesView.{export_of, name_in, interface_in, scope_in}
 

@@ -124,8 +124,7 @@ impl Alike for Definition {
 fn definitions<'a>(known: &'a Interfaces, path: &[u8]) -> Option<&'a [Definition]>
     ensures { option_copied result ≡ definitions_at known.now.definitions path.now }
 {
-    let definitions = known.definitions().packages.get(path)?;
-    Some(definitions.as_slice())
+    known.definitions().of(path)
 }
 
 fn are_lists_of_definitions_alike(one: &[Definition], other: &[Definition]) -> bool

@@ -59,9 +59,9 @@ pub fn laid_table<'a>(
 fn definitions_of<'a>(all: &'a Definitions, path: &[u8]) -> &'a [Definition]
     ensures { result.now ≡ definitions_or_none (definitions_at all.now path.now) }
 {
-    match all.packages.get(path) {
+    match all.of(path) {
         None => &[],
-        Some(definitions) => definitions.as_slice(),
+        Some(definitions) => definitions,
     }
 }
 

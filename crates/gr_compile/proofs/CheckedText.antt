@@ -8,7 +8,7 @@ use Rattle.gr_graph.specs.declared.package.ParsedPackage.{ParsedPackage as Folde
 use Rattle.gr_graph.specs.Graphs.{IsPackage}
 use Rattle.gr_graph.specs.Parsed.{AreParsed}
 use Rattle.gr_declared.specs.Package.{Package}
-use Rattle.gr_declared.specs.declared.interfaces.Interface.{Interface as FoundInterface}
+use Rattle.gr_expr.specs.declared.interfaces.Interface.{Interface as FoundInterface}
 use Rattle.gr_declared.specs.InterfacesView.{interface_of}
 use Rattle.gr_types.specs.Interfaces.{IsInterface}
 use Rattle.gr_object.specs.ObjectView.{AreOwnDefinitions}

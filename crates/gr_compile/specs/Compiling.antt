@@ -6,7 +6,7 @@ use Rattle.gr_tree.specs.SourceFile.{SourceFile}
 use Rattle.gr_expr.specs.declared.found.MemberUse.{MemberUse}
 use Rattle.gr_expr.specs.declared.world.Definition.{Definition}
 use Rattle.gr_declared.specs.Package.{Package}
-use Rattle.gr_declared.specs.declared.interfaces.Interface.{Interface}
+use Rattle.gr_expr.specs.declared.interfaces.Interface.{Interface}
 use Rattle.gr_declared.specs.declared.interfaces.Interfaces.{Interfaces}
 use Rattle.gr_declared.specs.InterfacesView.{interface_in}
 use Rattle.gr_verdict.specs.declared.fault.FileFault.{FileFault}

@@ -25,9 +25,9 @@ use std::alloc::{AllocError, Global};
 fn definitions_of<'a>(all: &'a Interfaces, path: &[u8]) -> &'a [Definition]
     ensures { (rank : ℕ) → slice_get result.now rank ≡ ranked (definitions_at all.now.definitions path.now) rank }
 {
-    match all.definitions().packages.get(path) {
+    match all.definitions().of(path) {
         None => &[],
-        Some(definitions) => definitions.as_slice(),
+        Some(definitions) => definitions,
     }
 }
 

@@ -13,5 +13,4 @@ pub mod Spreading
 pub mod Mentioning
 pub mod Items
 pub mod Breaking
-pub mod Rooms
 pub mod AddingInterfaces

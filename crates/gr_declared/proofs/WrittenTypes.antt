@@ -5,7 +5,7 @@ use Rattle.std.specs.Borrow.{Bor}
 use Rattle.std.proofs.lemmas.Option.{none-some}
 use Rattle.gr_expr.specs.declared.types.GoType.{GoType}
 use Rattle.gr_expr.specs.View.{type_of}
-use Rattle.gr_declared.specs.declared.interfaces.Export.{Export}
+use Rattle.gr_expr.specs.declared.interfaces.Export.{Export}
 use Rattle.gr_declared.specs.InterfacesView.{export_of}
 use Rattle.gr_declared.specs.Package as plain
 use Rattle.gr_tree.specs.Tree.{TypeTree, Local, Imported, Pointer, Slice}

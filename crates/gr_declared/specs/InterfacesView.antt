@@ -1,23 +1,20 @@
 -- What the program has of other packages, as the plain interfaces.
 use Rattle.std.specs.Prelude.{ℕ, ◌≡◌, true, List, [], Option, Some, None, option_map, slice_get}
-use Rattle.std.specs.Option.{option_flatten}
-use Rattle.std.specs.Arc.{arc_value}
-use Rattle.std.specs.Global.{Vec, Global}
+use Rattle.std.specs.Global.{Vec}
 use Rattle.std.specs.BTreeMap.{BTreeMap, get_by}
 use Rattle.std.specs.Cmp.Lexicographic.{slice_cmp}
 use Rattle.std.specs.Ordering.{nat_cmp}
-use Rattle.std.specs.declared.sync.Arc.{Arc}
 use Rattle.gr_expr.specs.Types.{Meaning, Value, Typed, TypeName, Function}
 use Rattle.gr_expr.specs.View.{type_of, signature_of}
-use Rattle.gr_expr.specs.WorldView.{no_definition, definition_or_none, ranked, definitions_at}
+use Rattle.gr_expr.specs.WorldView.{no_definition, definition_or_none, ranked, known_at, definitions_listed, definitions_at}
 use Rattle.gr_imports.specs.declared.states.ImportState.{ImportState}
 use Rattle.gr_expr.specs.declared.world.Definition.{Definition}
-use Rattle.gr_declared.specs.declared.interfaces.ExportMeaning.{ExportMeaning}
-use Rattle.gr_declared.specs.declared.interfaces.ExportMeaning.TheVariants as exported
-use Rattle.gr_declared.specs.declared.interfaces.Export.{Export}
+use Rattle.gr_expr.specs.declared.interfaces.ExportMeaning.{ExportMeaning}
+use Rattle.gr_expr.specs.declared.interfaces.ExportMeaning.TheVariants as exported
+use Rattle.gr_expr.specs.declared.interfaces.Export.{Export}
 use Rattle.gr_imports.specs.States.{state_in}
-use Rattle.gr_declared.specs.declared.interfaces.PackageScope.{PackageScope}
-use Rattle.gr_declared.specs.declared.interfaces.Interface.{Interface}
+use Rattle.gr_expr.specs.declared.interfaces.PackageScope.{PackageScope}
+use Rattle.gr_expr.specs.declared.interfaces.Interface.{Interface}
 use Rattle.gr_declared.specs.declared.interfaces.Interfaces.{Interfaces}
 use Rattle.gr_declared.specs.Package as seen
 
@@ -35,26 +32,12 @@ exports_at exports name = option_map export_of (get_by (λ key. slice_cmp nat_cm
 abbrev pub exported_in : PackageScope → List ℕ → Option seen.Export
 exported_in s name = exports_at s.exported name
 
--- The scopes of packages, each shared by all that have it. A path that has room for one, and has none, is that of no package.
-abbrev pub Scopes : Type 0
-Scopes = BTreeMap (Vec ℕ) (Option (Arc PackageScope Global))
+abbrev pub known_scope : Option Interface → Option PackageScope
+known_scope known = option_map (λ (i : Interface). i.scope) known
 
--- the room for the scope of a path
-abbrev pub slot_at : Scopes → List ℕ → Option (Option (Arc PackageScope Global))
-slot_at scopes path = get_by (λ key. slice_cmp nat_cmp path key.items) scopes
-
--- the scope that is there, as it is shared
-abbrev pub held_at : Scopes → List ℕ → Option (Arc PackageScope Global)
-held_at scopes path = option_flatten (slot_at scopes path)
-
-abbrev pub shared_scope : Option (Arc PackageScope Global) → Option PackageScope
-shared_scope held = option_map (λ s. arc_value s) held
-
-abbrev pub scope_at : Scopes → List ℕ → Option PackageScope
-scope_at scopes path = shared_scope (held_at scopes path)
-
+-- the name in the clause of a package, and its exported names, where they are known
 abbrev pub scope_in : Interfaces → List ℕ → Option PackageScope
-scope_in i path = scope_at i.scopes path
+scope_in i path = known_scope (known_at i.definitions path)
 
 abbrev pub scope_name : Option PackageScope → Option (List ℕ)
 scope_name None = None
@@ -84,6 +67,10 @@ interface_by path scope definitions = record {
 abbrev pub interface_in : Interfaces → List ℕ → seen.Interface
 interface_in i path = interface_by path (scope_in i path) (definitions_at i.definitions path)
 
+-- the same, by what is known of the package
+abbrev pub interface_known : (path : List ℕ) → Option Interface → seen.Interface
+interface_known path known = interface_by path (known_scope known) (definitions_listed known)
+
 -- the interface of a path of which nothing is known: no name, no export, and each definition a struct of its own, without fields
 abbrev pub no_interface : (path : List ℕ) → seen.Interface
 no_interface path = record {
@@ -112,6 +99,10 @@ pub record Sets (old new : Interfaces) (path : List ℕ) (interface : seen.Inter
   pub has_name : name_in new path ≡ name
   pub states : (p : List ℕ) → state_in new.states p ≡ state_in old.states p
   pub elsewhere : (p : List ℕ) → (p ≡ path → ⊥) → KnowsSame old new p
+
+-- one path has what is known of its package, and all else stays
+abbrev pub SetsKnown : (old new : Interfaces) (path : List ℕ) → Option Interface → Type 0
+SetsKnown old new path known = Sets old new path (interface_known path known) (scope_name (known_scope known))
 
 -- the interface of the package of a path is added
 abbrev pub AddsInterface : (old new : Interfaces) (path : List ℕ) → Interface → Type 0

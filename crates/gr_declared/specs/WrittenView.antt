@@ -4,7 +4,7 @@ use Rattle.gr_tree.specs.Tree.{TypeTree}
 use Rattle.gr_expr.specs.declared.types.Basic.{Basic}
 use Rattle.gr_expr.specs.Types.{PlainType, BasicType, Defined}
 use Rattle.std.specs.Borrow.{Bor}
-use Rattle.gr_declared.specs.declared.interfaces.Export.{Export}
+use Rattle.gr_expr.specs.declared.interfaces.Export.{Export}
 use Rattle.gr_declared.specs.InterfacesView.{export_of}
 use Rattle.gr_declared.specs.Package.{Package, symbol_in}
 use Rattle.gr_declared.specs.Package as plain

@@ -3,51 +3,18 @@
 ghost use Rattle.std.specs.Prelude.{◌≡◌, ℕ, List, None, IsSome, option_copied, option_map, is_some, IfOk, OnOk, OnErr};
 ghost use Rattle.gr_imports.specs.States.{state_in};
 ghost use Rattle.gr_imports.specs.declared.states.ImportState.TheVariants.{Missing};
-ghost use Rattle.gr_expr.specs.WorldView.{shared_definitions, definitions_at};
-ghost use Rattle.gr_declared.specs.InterfacesView.{export_of, exported_in, slot_at, held_at, shared_scope, scope_at, scope_name, scope_in, interface_by, interface_in, no_interface, name_in, Notes, KnowsSame, Sets, AddsInterface, Shares};
+ghost use Rattle.gr_expr.specs.WorldView.{shared_interface};
+ghost use Rattle.gr_declared.specs.InterfacesView.{export_of, exported_in, scope_in, interface_in, no_interface, name_in, Notes, KnowsSame, SetsKnown, AddsInterface, Shares};
 
-use gr_expr::types::{GoType, Signature};
-use gr_expr::world::{Definition, Definitions};
+use gr_expr::interfaces::{Export, Interface, PackageScope};
+use gr_expr::world::Definitions;
 use gr_imports::{Exports, ImportState, ImportStates, PackageNames};
+use gr_path_table::{PathTable, SharedPath};
 use std::alloc::{AllocError, Global};
-use std::collections::BTreeMap;
 use std::sync::Arc;
-
-/// What an exported name means in other packages.
-#[derive(Drop)]
-pub enum ExportMeaning {
-    Variable(GoType),
-    TypeName(GoType),
-    Function(Signature),
-}
-
-/// An exported name of a package: what it means in other packages. Where it is declared is not seen there, so that an edit inside
-/// of a function leaves what other packages see as it is.
-#[derive(Drop)]
-pub struct Export {
-    pub meaning: ExportMeaning,
-}
-
-/// The name in a package's clause, and its exported package-level names.
-#[derive(Drop)]
-pub struct PackageScope {
-    pub name: Vec<u8>,
-    pub exported: BTreeMap<Vec<u8>, Export>,
-}
-
-/// What other packages see of one. The type definitions stand at their ranks.
-#[derive(Drop)]
-pub struct Interface {
-    pub scope: PackageScope,
-    pub definitions: Vec<Definition>,
-}
-
-/// The scopes of packages by their paths, each shared by all that have it. A path without a scope is that of no package.
-type Scopes = BTreeMap<Vec<u8>, Option<Arc<PackageScope, Global>>>;
 
 /// The interfaces of imported packages, which can be shared with others, and what each imported path is.
 pub struct Interfaces {
-    scopes: Scopes,
     definitions: Definitions,
     states: ImportStates,
 }
@@ -56,115 +23,30 @@ pub struct Interfaces {
 impl Drop for Interfaces {
     fn drop(self) {
         let Interfaces {
-            scopes,
             definitions,
             states,
         } = self;
-        drop(scopes);
         drop(definitions);
         drop(states);
     }
 }
 
-impl PackageScope {
-    fn export(&self, name: &[u8]) -> Option<&Export>
-        ensures { option_map (λ e. export_of e.now) result ≡ exported_in self.now name.now }
-    {
-        self.exported.get(name)
-    }
+/// What a package exports under a name.
+fn export<'a>(scope: &'a PackageScope, name: &[u8]) -> Option<&'a Export>
+    ensures { option_map (λ e. export_of e.now) result ≡ exported_in scope.now name.now }
+{
+    scope.exported.get(name)
 }
 
-/// The scope of a package, as it is shared.
-fn held<'a>(scopes: &'a Scopes, path: &[u8]) -> Option<&'a Arc<PackageScope, Global>>
-    ensures { option_copied result ≡ held_at scopes.now path.now }
+/// What is seen of a package, shared once more.
+fn share_held(
+    held: &Option<Arc<Interface, Global>>,
+) -> Result<Option<Arc<Interface, Global>>, AllocError>
+    ensures { IfOk result (λ h. shared_interface h ≡ shared_interface held.now) }
 {
-    match scopes.get(path) {
-        None => None,
-        Some(scope) => scope.as_ref(),
-    }
-}
-
-/// The scope of a package.
-fn scope<'a>(scopes: &'a Scopes, path: &[u8]) -> Option<&'a PackageScope>
-    ensures { option_copied result ≡ scope_at scopes.now path.now }
-{
-    match held(scopes, path) {
-        None => None,
-        Some(scope) => Some(&**scope),
-    }
-}
-
-/// The scope of a package, shared once more.
-fn share_scope(
-    scopes: &Scopes,
-    path: &[u8],
-) -> Result<Option<Arc<PackageScope, Global>>, AllocError>
-    ensures { IfOk result (λ s. shared_scope s ≡ scope_at scopes.now path.now) }
-{
-    match held(scopes, path) {
+    match held {
         None => Ok(None),
-        Some(scope) => Ok(Some(Arc::try_clone(scope)?)),
-    }
-}
-
-/// The type definitions of a package, shared once more.
-fn share_definitions(
-    known: &Definitions,
-    path: &[u8],
-) -> Result<Option<Arc<Vec<Definition>, Global>>, AllocError>
-    ensures { IfOk result (λ ds. shared_definitions ds ≡ definitions_at known.now path.now) }
-{
-    match known.packages.get(path) {
-        None => Ok(None),
-        Some(definitions) => Ok(Some(Arc::try_clone(definitions)?)),
-    }
-}
-
-/// Makes room for the scope of a package.
-fn reserve(alloc: Global, scopes: &mut Scopes, path: &[u8]) -> Result<(), AllocError>
-    ensures reserved { OnOk result (IsSome (slot_at scopes.new path.now)) }
-    ensures kept { (p : List ℕ) → held_at scopes.new p ≡ held_at scopes.old p }
-{
-    if !scopes.contains_key(path) {
-        let key = Vec::from_slice(alloc, path)?;
-        scopes.insert(key, None)?;
-    }
-    Ok(())
-}
-
-/// Sets the scope of a package, for which there is room; or takes it away.
-fn set_scope(scopes: &mut Scopes, path: &[u8], scope: Option<Arc<PackageScope, Global>>)
-    requires { IsSome (slot_at scopes.old path.now) }
-    ensures here { held_at scopes.new path.now ≡ scope }
-    ensures elsewhere { (p : List ℕ) → (p ≡ path.now → ⊥) → held_at scopes.new p ≡ held_at scopes.old p }
-{
-    if let Some(slot) = scopes.get_mut(path) {
-        *slot = scope;
-    }
-}
-
-/// Sets the type definitions of a package, or takes them away.
-fn set_definitions(
-    alloc: Global,
-    known: &mut Definitions,
-    path: &[u8],
-    definitions: Option<Arc<Vec<Definition>, Global>>,
-) -> Result<(), AllocError>
-    ensures here { OnOk result (definitions_at known.new path.now ≡ shared_definitions definitions) }
-    ensures elsewhere { OnOk result ((p : List ℕ) → (p ≡ path.now → ⊥) → definitions_at known.new p ≡ definitions_at known.old p) }
-    ensures refused { OnErr result ((p : List ℕ) → definitions_at known.new p ≡ definitions_at known.old p) }
-{
-    match definitions {
-        None => {
-            let before = known.packages.remove(path);
-            drop(before);
-            Ok(())
-        }
-        Some(definitions) => {
-            let key = Vec::from_slice(alloc, path)?;
-            known.packages.insert(key, definitions)?;
-            Ok(())
-        }
+        Some(interface) => Ok(Some(Arc::try_clone(interface)?)),
     }
 }
 
@@ -176,9 +58,8 @@ impl Interfaces {
         ensures interfaces { (path : List ℕ) → interface_in result path ≡ no_interface path }
     {
         Interfaces {
-            scopes: BTreeMap::new(alloc),
             definitions: Definitions {
-                packages: BTreeMap::new(alloc),
+                packages: PathTable::new(alloc),
             },
             states: ImportStates::new(alloc),
         }
@@ -202,14 +83,17 @@ impl Interfaces {
     pub fn scope(&self, path: &[u8]) -> Option<&PackageScope>
         ensures { option_copied result ≡ scope_in self.now path.now }
     {
-        scope(&self.scopes, path)
+        match self.definitions.interface(path) {
+            None => None,
+            Some(interface) => Some(&interface.scope),
+        }
     }
 
     /// What a package exports under a name.
     pub fn export(&self, path: &[u8], name: &[u8]) -> Option<&Export>
         ensures { option_map (λ e. export_of e.now) result ≡ (interface_in self.now path.now).exported name.now }
     {
-        scope(&self.scopes, path)?.export(name)
+        export(self.scope(path)?, name)
     }
 
     /// Notes what an imported path is.
@@ -226,17 +110,13 @@ impl Interfaces {
     /// Sets what is known of the package of a path.
     fn set(
         &mut self,
-        alloc: Global,
-        path: &[u8],
-        scope: Option<Arc<PackageScope, Global>>,
-        definitions: Option<Arc<Vec<Definition>, Global>>,
+        path: SharedPath,
+        known: Option<Arc<Interface, Global>>,
     ) -> Result<(), AllocError>
-        ensures set { OnOk result (Sets self.old self.new path.now (interface_by path.now (shared_scope scope) (shared_definitions definitions)) (scope_name (shared_scope scope))) }
+        ensures set { OnOk result (SetsKnown self.old self.new path (shared_interface known)) }
         ensures refused { OnErr result ((p : List ℕ) → KnowsSame self.old self.new p) }
     {
-        reserve(alloc, &mut self.scopes, path)?;
-        set_definitions(alloc, &mut self.definitions, path, definitions)?;
-        set_scope(&mut self.scopes, path, scope);
+        self.definitions.packages.put(path, known)?;
         Ok(())
     }
 
@@ -250,10 +130,36 @@ impl Interfaces {
         ensures added { OnOk result (AddsInterface self.old self.new path.now interface) }
         ensures refused { OnErr result ((p : List ℕ) → KnowsSame self.old self.new p) }
     {
-        let scope = Arc::new(alloc, interface.scope)?;
-        let definitions = Arc::new(alloc, interface.definitions)?;
-        self.set(alloc, path, Some(scope), Some(definitions))?;
+        let path = SharedPath::new(alloc, path)?;
+        let known = Arc::new(alloc, interface)?;
+        self.set(path, Some(known))?;
         Ok(())
+    }
+
+    /// Takes what others know of the package of a path, in the place of what is known of it here. Both then share it. It is looked for
+    /// first at a number among the packages that the others know; where many are taken in the order of their paths, the number that
+    /// is answered is the one for the next.
+    pub fn share_from(
+        &mut self,
+        alloc: Global,
+        others: &Interfaces,
+        path: &[u8],
+        first: usize,
+    ) -> Result<usize, AllocError>
+        ensures shared { OnOk result (Shares others.now self.old self.new path.now) }
+        ensures refused { OnErr result ((p : List ℕ) → KnowsSame self.old self.new p) }
+    {
+        match others.definitions.packages.entry_from(path, first) {
+            None => {
+                self.set(SharedPath::new(alloc, path)?, None)?;
+                Ok(first)
+            }
+            Some(entry) => {
+                let known = share_held(entry.value)?;
+                self.set(entry.path.clone()?, known)?;
+                Ok(entry.number.wrapping_add(1))
+            }
+        }
     }
 
     /// Takes what others know of the package of a path, in the place of what is known of it here. Both then share it.
@@ -266,9 +172,7 @@ impl Interfaces {
         ensures shared { OnOk result (Shares others.now self.old self.new path.now) }
         ensures refused { OnErr result ((p : List ℕ) → KnowsSame self.old self.new p) }
     {
-        let scope = share_scope(&others.scopes, path)?;
-        let definitions = share_definitions(&others.definitions, path)?;
-        self.set(alloc, path, scope, definitions)?;
+        self.share_from(alloc, others, path, 0)?;
         Ok(())
     }
 }
@@ -285,7 +189,7 @@ impl PackageNames for Interfaces {
     ghost name_of = { name_in };
 
     fn name(&self, path: &[u8]) -> Option<&[u8]> {
-        match scope(&self.scopes, path) {
+        match self.scope(path) {
             None => None,
             Some(scope) => Some(&scope.name),
         }

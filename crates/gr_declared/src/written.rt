@@ -11,8 +11,8 @@ ghost use Rattle.gr_declared.specs.WrittenView.{IsTypeDeclared, IsNamedBy, IsMen
 ghost use Rattle.gr_declared.specs.InterfacesView.{export_of};
 ghost use Rattle.gr_declared.specs.PackageView.{package_of, IsIndexOf};
 
-use crate::interfaces::{Export, ExportMeaning};
 use crate::unit::{Index, Package};
+use gr_expr::interfaces::{Export, ExportMeaning};
 use gr_expr::symbol::Symbol;
 use gr_expr::types::{Basic, GoType};
 use gr_scope::model::Block;

@@ -1,13 +1,17 @@
 -- The world of src/ as the plain one.
 use Rattle.std.specs.Prelude.{ℕ, true, false, if◌then◌else◌, List, [], Option, Some, None, option_map, slice_get}
 use Rattle.std.specs.Arc.{arc_value}
+use Rattle.std.specs.Option.{option_flatten}
+use Rattle.std.specs.FinMap.{find}
 use Rattle.std.specs.BTreeMap.{get_by}
 use Rattle.std.specs.Cmp.Lexicographic.{slice_cmp}
-use Rattle.std.specs.Global.{Vec, Global}
+use Rattle.std.specs.Global.{Global}
 use Rattle.std.specs.Ordering.{nat_cmp}
 use Rattle.std.specs.declared.sync.Arc.{Arc}
 use Rattle.gr_expr.specs.declared.types.Basic.TheVariants as basic
+use Rattle.gr_text.specs.Workspace.{path_cmp}
 use Rattle.gr_expr.specs.declared.symbol.Symbol.{Symbol}
+use Rattle.gr_expr.specs.declared.interfaces.Interface.{Interface}
 use Rattle.gr_expr.specs.declared.world.Bound.{Bound}
 use Rattle.gr_expr.specs.declared.world.Bound.TheVariants as bound
 use Rattle.gr_expr.specs.declared.world.Name.{Name}
@@ -80,13 +84,23 @@ abbrev pub ranked : Option (List Definition) → ℕ → Option Definition
 ranked None rank = None
 ranked (Some ds) rank = slice_get ds rank
 
--- the type definitions that are shared, as a list
-abbrev pub shared_definitions : Option (Arc (Vec Definition) Global) → Option (List Definition)
-shared_definitions held = option_map (λ (v : Arc (Vec Definition) Global). (arc_value v).items) held
+-- what others see of the package of a path, as it is shared
+abbrev pub held_at : Definitions → List ℕ → Option (Arc Interface Global)
+held_at ds path = option_flatten (find path_cmp path ds.packages)
+
+abbrev pub shared_interface : Option (Arc Interface Global) → Option Interface
+shared_interface held = option_map (λ (i : Arc Interface Global). arc_value i) held
+
+-- what others see of the package of a path, where it is known
+abbrev pub known_at : Definitions → List ℕ → Option Interface
+known_at ds path = shared_interface (held_at ds path)
+
+abbrev pub definitions_listed : Option Interface → Option (List Definition)
+definitions_listed known = option_map (λ (i : Interface). i.definitions.items) known
 
 -- the type definitions of the package of a path, where they are known
 abbrev pub definitions_at : Definitions → List ℕ → Option (List Definition)
-definitions_at ds path = shared_definitions (get_by (λ key. slice_cmp nat_cmp path key.items) ds.packages)
+definitions_at ds path = definitions_listed (known_at ds path)
 
 abbrev pub imported_at : Definitions → Symbol → Option Definition
 imported_at ds s = ranked (definitions_at ds s.package) s.rank

@@ -4,6 +4,7 @@
 pub mod calls;
 pub mod classes;
 pub mod found;
+pub mod interfaces;
 pub mod judge;
 pub mod keys;
 pub mod literals;

@@ -3,10 +3,12 @@ ghost use Rattle.std.specs.Prelude.{◌≡◌, option_copied, option_map, MatchO
 ghost use Rattle.gr_expr.specs.Types.{Broken};
 ghost use Rattle.gr_expr.specs.World.{underlying, Means, is_seen, seen_field, seen_method, member_symbol, struct_behind, owner};
 ghost use Rattle.gr_expr.specs.View.{type_of};
-ghost use Rattle.gr_expr.specs.WorldView.{definition_at, definition_in, definition_of, field_of, imported_at, method_of, member_in, member_of, name_in, spelling_of, bound_in, bound_of, shape_of, underlying_of, underlying_in, world_of};
+ghost use Rattle.gr_expr.specs.WorldView.{definition_at, definition_in, definition_of, definitions_at, field_of, held_at, imported_at, known_at, method_of, member_in, member_of, name_in, spelling_of, bound_in, bound_of, shape_of, underlying_of, underlying_in, world_of};
 
+use crate::interfaces::Interface;
 use crate::symbol::{SharedPath, Symbol};
 use crate::types::{Basic, Builtin, GoType, Signature};
+use gr_path_table::PathTable;
 use std::alloc::Global;
 use std::collections::BTreeMap;
 use std::sync::Arc;
@@ -70,10 +72,11 @@ pub struct Definition {
     pub methods: BTreeMap<Vec<u8>, Method>,
 }
 
-/// The type definitions of packages by their paths, each at its rank. Those of a package are shared by all that have them.
+/// The type definitions of packages by their paths, with what else others see of these packages. What is seen of a package is
+/// shared by all that have it. A path at which nothing is held is that of no package.
 #[derive(Drop)]
 pub struct Definitions {
-    pub packages: BTreeMap<Vec<u8>, Arc<Vec<Definition>, Global>>,
+    pub packages: PathTable<Option<Arc<Interface, Global>>>,
 }
 
 /// What a file is judged by.
@@ -135,11 +138,41 @@ impl<'w> Member<'w> {
 }
 
 impl Definitions {
+    /// What others see of the package of a path, as it is shared.
+    fn held(&self, path: &[u8]) -> Option<&Arc<Interface, Global>>
+        ensures { option_copied result ≡ held_at self.now path.now }
+    {
+        match self.packages.get(path) {
+            None => None,
+            Some(held) => held.as_ref(),
+        }
+    }
+
+    /// What others see of the package of a path.
+    pub fn interface(&self, path: &[u8]) -> Option<&Interface>
+        ensures { option_copied result ≡ known_at self.now path.now }
+    {
+        match self.held(path) {
+            None => None,
+            Some(held) => Some(&**held),
+        }
+    }
+
+    /// The type definitions of the package of a path.
+    pub fn of(&self, path: &[u8]) -> Option<&[Definition]>
+        ensures { option_copied result ≡ definitions_at self.now path.now }
+    {
+        match self.interface(path) {
+            None => None,
+            Some(interface) => Some(interface.definitions.as_slice()),
+        }
+    }
+
     /// The definition of that rank in that package.
     pub fn get(&self, symbol: &Symbol) -> Option<&Definition>
         ensures { option_copied result ≡ imported_at self.now symbol.now }
     {
-        let definitions = self.packages.get(symbol.package.path())?;
+        let definitions = self.of(symbol.package.path())?;
         definitions.get(symbol.rank)
     }
 }

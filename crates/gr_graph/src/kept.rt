@@ -8,7 +8,7 @@ ghost use Rattle.gr_graph.specs.Parsed.{IsFaulty, IsParsedAs};
 ghost use Rattle.gr_graph.specs.Graphs.{paths_of};
 
 use crate::faulty_file::FaultyFile;
-use crate::parsed::{ParsedFile, parse_like};
+use crate::parsed::{ParsedFile, parse};
 use crate::shared_package::{SharedPackage, number_of};
 use gr_text::{FileText, Path};
 use gr_tree::FileTree;
@@ -99,6 +99,6 @@ pub(crate) fn parse_unless_kept(
 {
     match kept(before, path, text)? {
         Some(file) => Ok(file),
-        None => parse_like(alloc, path, text, tree_before(before, path)),
+        None => parse(alloc, path, text, tree_before(before, path)),
     }
 }

@@ -35,37 +35,25 @@ fn faulty(path: &Path, text: &FileText, fault: TextFault) -> Result<ParsedFile, 
     Ok(ParsedFile::Faulty(file))
 }
 
-/// What a file was parsed as, by the tree or the refusal.
-fn parsed(
+/// Reads a file. One that is at hand may have the same tree: then both share it.
+fn read(
+    alloc: Global,
     path: &Path,
     text: &FileText,
-    read: Result<FileTree, ParseRefusal>,
-) -> Result<ParsedFile, AllocError>
-    requires path { IfOk read (λ file. file.path ≡ path.now) }
-    requires text { IfOk read (λ file. file.cut.text ≡ text.now) }
-    requires refused { IfErr read (IsTextRefusedFor text.now) }
-    ensures { IfOk result (IsParsedAs path.now text.now) }
+    like: Option<&FileTree>,
+) -> Result<FileTree, ParseRefusal>
+    ensures path { IfOk result (λ file. file.path ≡ path.now) }
+    ensures text { IfOk result (λ file. file.cut.text ≡ text.now) }
+    ensures refused { IfErr result (IsTextRefusedFor text.now) }
 {
-    match read {
-        Ok(tree) => {
-            is_source_file(&tree);
-            Ok(ParsedFile::Sound(tree))
-        }
-        Err(ParseRefusal::Fault(fault)) => faulty(path, text, fault),
-        Err(ParseRefusal::Memory) => Err(AllocError),
+    match like {
+        None => parse_file(alloc, path, text),
+        Some(like) => parse_file_like(alloc, path, text, like),
     }
 }
 
-/// Parses a file.
-fn parse(alloc: Global, path: &Path, text: &FileText) -> Result<ParsedFile, AllocError>
-    ensures { IfOk result (IsParsedAs path.now text.now) }
-{
-    let read = parse_file(alloc, path, text);
-    parsed(path, text, read)
-}
-
-/// Parses a file. One that is at hand may have the same tree: then both share it.
-pub(crate) fn parse_like(
+/// Parses a file, unless it shares the tree of one that is at hand.
+pub(crate) fn parse(
     alloc: Global,
     path: &Path,
     text: &FileText,
@@ -73,11 +61,12 @@ pub(crate) fn parse_like(
 ) -> Result<ParsedFile, AllocError>
     ensures { IfOk result (IsParsedAs path.now text.now) }
 {
-    match like {
-        None => parse(alloc, path, text),
-        Some(like) => {
-            let read = parse_file_like(alloc, path, text, like);
-            parsed(path, text, read)
+    match read(alloc, path, text, like) {
+        Ok(tree) => {
+            is_source_file(&tree);
+            Ok(ParsedFile::Sound(tree))
         }
+        Err(ParseRefusal::Fault(fault)) => faulty(path, text, fault),
+        Err(ParseRefusal::Memory) => Err(AllocError),
     }
 }

@@ -14,7 +14,7 @@ use Rattle.gr_expr.specs.declared.world.Name.{Name}
 use Rattle.gr_expr.specs.World as plain
 use Rattle.gr_expr.specs.World.{Means as Stands}
 use Rattle.gr_expr.specs.WorldView.{bound_of, bound_at, bound_or_broken, bound_index, spelling_of}
-use Rattle.gr_declared.specs.declared.interfaces.Export.{Export}
+use Rattle.gr_expr.specs.declared.interfaces.Export.{Export}
 use Rattle.gr_declared.specs.Package.{Package, spelled, spelled_at}
 use Rattle.gr_declared.specs.Package as seen
 use Rattle.gr_declared.specs.Written.{BindsToken, IsExportAt}

@@ -1,5 +1,6 @@
 -- The lemmas of this crate.
 pub mod KindTests
+pub mod SameKinds
 pub mod Tables
 pub mod Predictive
 pub mod EndOfText

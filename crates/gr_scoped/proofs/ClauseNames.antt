@@ -14,7 +14,7 @@ use Rattle.gr_graph.proofs.Asked.{number}
 use Rattle.gr_imports.specs.Files.{package_name}
 use Rattle.gr_declared.proofs.ByteKeys.{cases_bytes}
 use Rattle.gr_declared.specs.InterfacesView.{name_in, AddsInterface}
-use Rattle.gr_declared.specs.declared.interfaces.Interface.{Interface}
+use Rattle.gr_expr.specs.declared.interfaces.Interface.{Interface}
 use Rattle.gr_declared.specs.declared.interfaces.Interfaces.{Interfaces}
 use Rattle.gr_verdict.proofs.Members.{cases_contains}
 use Rattle.gr_scoped.specs.ScopedPackages.{IsClauseName, named, unnamed, AreClauseNames, AddsClauseName, added, nothing}

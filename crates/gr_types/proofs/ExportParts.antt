@@ -14,7 +14,7 @@ use Rattle.gr_scope.specs.Site.{Site, found_site, sites_layout}
 use Rattle.gr_expr.specs.Types.{Meaning}
 use Rattle.gr_expr.specs.World.{Bound}
 use Rattle.gr_expr.specs.World.{Means as Stands}
-use Rattle.gr_declared.specs.declared.interfaces.Export.{Export}
+use Rattle.gr_expr.specs.declared.interfaces.Export.{Export}
 use Rattle.gr_declared.specs.Package as plain
 use Rattle.gr_expr.specs.declared.world.Definition.{Definition}
 use Rattle.gr_expr.specs.WorldView.{definition_or_none, no_definition}

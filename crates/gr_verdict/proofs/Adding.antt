@@ -10,7 +10,7 @@ use Rattle.gr_text.specs.Packages.{package_paths}
 use Rattle.gr_expr.specs.declared.found.MemberUse.{MemberUse}
 use Rattle.gr_graph.proofs.Asked.{number}
 use Rattle.gr_declared.specs.InterfacesView.{name_in, interface_in, interface_of, KnowsSame}
-use Rattle.gr_declared.specs.declared.interfaces.Interface.{Interface as FoundInterface}
+use Rattle.gr_expr.specs.declared.interfaces.Interface.{Interface as FoundInterface}
 use Rattle.gr_declared.specs.declared.interfaces.Interfaces.{Interfaces}
 use Rattle.gr_declared.proofs.ByteKeys.{cases_bytes}
 use Rattle.gr_verdict.specs.declared.fault.FileFault.{FileFault}

@@ -13,7 +13,7 @@ use Rattle.gr_graph.specs.Parsed.{AreParsed}
 use Rattle.gr_imports.specs.declared.states.ImportState.{ImportState}
 use Rattle.gr_stages.specs.Stages.{IsOuterFault}
 use Rattle.gr_types.specs.declared.checking.Checked.{Checked}
-use Rattle.gr_declared.specs.declared.interfaces.Interface.{Interface as FoundInterface}
+use Rattle.gr_expr.specs.declared.interfaces.Interface.{Interface as FoundInterface}
 use Rattle.gr_declared.specs.Package.{Package, Interface}
 use Rattle.gr_types.specs.Interfaces.{IsInterface}
 use Rattle.gr_declared.specs.InterfacesView.{interface_of}

@@ -14,7 +14,7 @@ use Rattle.gr_graph.specs.Parsed.{AreParsed}
 use Rattle.gr_imports.specs.declared.states.ImportState.{ImportState}
 use Rattle.gr_declared.specs.InterfacesView.{name_in, interface_in, interface_of, KnowsSame, AddsInterface}
 use Rattle.gr_declared.specs.Package.{Interface as Seen}
-use Rattle.gr_declared.specs.declared.interfaces.Interface.{Interface}
+use Rattle.gr_expr.specs.declared.interfaces.Interface.{Interface}
 use Rattle.gr_declared.specs.declared.interfaces.Interfaces.{Interfaces}
 use Rattle.gr_types.specs.declared.checking.Checked.{Checked}
 use Rattle.gr_types.specs.Check.{IsFoundIn}

@@ -138,17 +138,14 @@ fn take_known(
     Ok(())
 }
 
-/// What is known of all packages. The last one is taken first: a table by path is searched from its front, where the paths of packages
-/// begin that stand before those in it.
+/// What is known of all packages. They are taken in the order of their paths, in which a table by path grows at its end.
 pub(crate) fn gather(alloc: Global, graph: &Graph, known: &Known) -> Result<Gathered, AllocError>
     requires { KnowsVerdicts graph.now known.now }
     ensures { IfOk result (λ all. AreGathered graph.now (length (package_paths graph.now)) all) }
 {
     let mut all = Gathered::new(alloc, graph.len())?;
-    let mut left = graph.len();
-    while left > 0 {
-        left -= 1;
-        take_known(alloc, graph, left, known, &mut all)?;
+    for number in 0..graph.len() {
+        take_known(alloc, graph, number, known, &mut all)?;
     }
     Ok(all)
 }

@@ -18,7 +18,7 @@ use gr_imports::{ImportState, PackageNames};
 use std::alloc::{AllocError, Global};
 
 /// What a package sees of others: the names and the interfaces of those without faults that it builds on. What the imported
-/// paths are is not noted.
+/// paths are is not noted. The paths rise, so that each package is looked for behind the one before it.
 pub fn seen(
     alloc: Global,
     graph: &Graph,
@@ -32,8 +32,9 @@ pub fn seen(
 {
     let mut seen = Interfaces::new(alloc);
     let below = graph.built_on(alloc, number)?;
+    let mut first = 0;
     for other in below.as_slice() {
-        seen.share(alloc, all, &graph.package(*other).path)?;
+        first = seen.share_from(alloc, all, &graph.package(*other).path, first)?;
     }
     Ok(seen)
 }

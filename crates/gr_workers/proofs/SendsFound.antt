@@ -9,8 +9,8 @@ use Rattle.gr_expr.specs.contracts.world.Field.{the_row as field}
 use Rattle.gr_expr.specs.contracts.world.Method.{the_row as method}
 use Rattle.gr_expr.specs.contracts.world.Definition.{the_row as definition}
 use Rattle.gr_expr.specs.contracts.found.MemberUse.{the_row as member_use}
-use Rattle.gr_declared.specs.contracts.interfaces.Export.{the_row as exported}
-use Rattle.gr_declared.specs.contracts.interfaces.PackageScope.{the_row as scope}
+use Rattle.gr_expr.specs.contracts.interfaces.Export.{the_row as exported}
+use Rattle.gr_expr.specs.contracts.interfaces.PackageScope.{the_row as scope}
 use Rattle.gr_declared.specs.contracts.interfaces.Interfaces.{the_row as interfaces}
 use Rattle.gr_verdict.specs.contracts.fault.FileFault.{the_row as file_fault}
 use Rattle.gr_verdict.specs.contracts.finding.Finding.{the_row as finding}
@@ -18,7 +18,7 @@ use Rattle.gr_verdict.specs.contracts.finding.SharedFinding.{the_row as shared_f
 use Rattle.gr_verdict.specs.contracts.known.SharedInterfaces.{the_row as shared_interfaces}
 use Rattle.gr_verdict.specs.contracts.known.KnownVerdict.{the_row as verdict}
 use Rattle.gr_text.proofs.path.Path.TheSendSync.{the_send as Path-send, the_sync as Path-sync}
-use Rattle.gr_expr.proofs.symbol.SharedPath.TheSendSync.{the_send as SharedPath-send, the_sync as SharedPath-sync}
+use Rattle.gr_path_table.proofs.shared_path.SharedPath.TheSendSync.{the_send as SharedPath-send, the_sync as SharedPath-sync}
 use Rattle.gr_expr.proofs.types.Basic.TheSendSync.{the_send as Basic-send, the_sync as Basic-sync}
 use Rattle.gr_expr.proofs.symbol.Symbol.TheSendSync.{the_send as Symbol-send, the_sync as Symbol-sync}
 use Rattle.gr_verdict.proofs.fault.FileFault.TheSendSync.{the_send as FileFault-send, the_sync as FileFault-sync}

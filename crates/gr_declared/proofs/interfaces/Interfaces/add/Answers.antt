@@ -1,17 +1,16 @@
 -- The answers to the goals of `interfaces::Interfaces::add`.
-use Rattle.std.proofs.Common.{ap}
-use Rattle.std.specs.Prelude.{Some}
+use Rattle.std.proofs.Common.{ap, subst}
+use Rattle.std.specs.Prelude.{Option, Some}
 use Rattle.std.specs.Arc.{arc_value}
-use Rattle.std.specs.Global.{Vec}
-use Rattle.gr_expr.specs.declared.world.Definition.{Definition}
-use Rattle.gr_declared.specs.declared.interfaces.PackageScope.{PackageScope}
-use Rattle.gr_declared.proofs.AddingInterfaces.{set_as}
+use Rattle.gr_expr.specs.declared.interfaces.Interface.{Interface}
+use Rattle.gr_declared.specs.InterfacesView.{SetsKnown}
 use Rattle.gr_declared.proofs.interfaces.Interfaces.add.Goals as goal
 
 pub returns-clause-added : goal.returns-clause-added
 returns-clause-added c =
+    let old = c.args.self.now in
+    let new = c.set.new.self in
     let i = c.args.interface in
-    set_as c.args.self.now c.set.new.self c.args.path.now (Some (arc_value c.in_ok-scope.scope)) (Some i.scope)
-    (Some (arc_value c.in_ok-definitions.definitions).items) (Some i.definitions.items)
-    (ap (λ (s : PackageScope). Some s) c.in_ok-scope.ensures.ok) (ap (λ (ds : Vec Definition). Some ds.items) c.in_ok-definitions.ensures.ok)
-    c.in_ok-set.ensures.set
+    subst (λ p. SetsKnown old new p (Some i)) c.in_ok-path.ensures
+    (subst (λ (k : Option Interface). SetsKnown old new c.in_ok-path.path k)
+    (ap (λ (x : Interface). Some x) c.in_ok-known.ensures.ok) c.in_ok-set.ensures.set)

@@ -5,5 +5,5 @@ use Rattle.gr_declared.proofs.interfaces.Interfaces.new.Goals as goal
 
 pub returns-clause-interfaces : goal.returns-clause-interfaces
 returns-clause-interfaces c = λ path.
-    let i : Interfaces = record { scopes = c.new.result; definitions = record { packages = c.new-2.result }; states = c.new-3.result } in
-    nothing_known i c.new.ensures.empty c.new-2.ensures.empty path
+    let i : Interfaces = record { definitions = record { packages = c.new.result }; states = c.new-2.result } in
+    nothing_known i c.new.ensures path
