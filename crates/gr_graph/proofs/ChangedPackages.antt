@@ -46,7 +46,7 @@ or_true : (a : Bool) → (a || true) ≡ true
 or_true true = refl
 or_true false = refl
 
-some_parsed : {es : List (List ℕ × List ℕ)} {ts : List FileParts} {fs : List FaultyParts} → AreParsed es ts fs → has_some es ≡ (has_some ts || has_some fs)
+pub some_parsed : {es : List (List ℕ × List ℕ)} {ts : List FileParts} {fs : List FaultyParts} → AreParsed es ts fs → has_some es ≡ (has_some ts || has_some fs)
 some_parsed none = refl
 some_parsed (tree is rest) = refl
 some_parsed (fault {ts = ts} is rest) = sym (or_true (has_some ts))

@@ -21,5 +21,6 @@ pub mod PartLinks
 pub mod Asked
 pub mod ChangedPackages
 pub mod NamedFiles
+pub mod UpdatedPackages
 pub mod Told
 pub mod Below

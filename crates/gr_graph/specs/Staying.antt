@@ -1,11 +1,10 @@
 -- Which packages stay as they were when files change.
-use Rattle.std.specs.Prelude.{◌≡◌, ℕ, ◌⊎◌, Bool, true, false, not, List}
+use Rattle.std.specs.Prelude.{◌≡◌, ℕ, ◌⊎◌, true, false, List}
 use Rattle.std.specs.FinMap as files
-use Rattle.std.specs.List.{Contains, list_any}
-use Rattle.std.specs.Ordering.{eq_by_cmp}
+use Rattle.std.specs.List.{Contains}
 use Rattle.gr_text.specs.Path.{folder}
 use Rattle.gr_text.specs.Packages.{is_go, package_files}
-use Rattle.gr_text.specs.Workspace.{Workspace, path_cmp}
+use Rattle.gr_text.specs.Workspace.{Workspace}
 use Rattle.gr_graph.specs.Parsed.{AreParsed}
 use Rattle.gr_graph.specs.Graphs.{paths_of}
 use Rattle.gr_graph.specs.declared.package.ParsedPackage.{ParsedPackage}
@@ -21,10 +20,6 @@ DiffersOnlyAt paths before after = (path : List ℕ) → is_go path ≡ true →
 -- the package has the files of its folder, parsed
 abbrev pub HasFiles : Workspace → ParsedPackage → Type 0
 HasFiles w p = AreParsed (package_files w p.path.items) p.trees.items p.faulty.items
-
--- whether the package's path is not among the folders
-abbrev pub is_outside : List (List ℕ) → ParsedPackage → Bool
-is_outside folders p = not (list_any (eq_by_cmp path_cmp p.path.items) folders)
 
 -- a Go file of none of the packages
 abbrev pub IsOfNone : List ParsedPackage → List ℕ → Type 0

@@ -17,7 +17,7 @@ pub record IsPlace (paths : List (List ℕ)) (path : List ℕ) (place : ℕ) : T
 -- the packages that do not have the path, in order, and the path's place among them
 pub record TakesOut (path : List ℕ) (old new : List ParsedPackage) (place : ℕ) : Type 0 where
   pub sorted : IsStrictlySortedBy path_cmp (paths_of new)
-  pub place : IsPlace (paths_of new) path place
+  pub stands : IsPlace (paths_of new) path place
   pub from : (p : ParsedPackage) → Contains new p → Contains old p
   pub kept : (p : ParsedPackage) → Contains old p → (p.path.items ≡ path → ⊥) → Contains new p
 

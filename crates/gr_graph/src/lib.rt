@@ -28,5 +28,6 @@ pub use faulty_file::FaultyFile;
 pub use file_imports::{FileImport, read_imports};
 pub use graph::Graph;
 pub use import_links::ImportLinks;
+pub use named_files::folders_of;
 pub use package::ParsedPackage;
 pub use package_list::PackageList;

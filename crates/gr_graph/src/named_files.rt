@@ -10,16 +10,13 @@ ghost use Rattle.gr_edit.specs.Made.{with_files};
 
 use crate::faulty_file::FaultyFile;
 use crate::shared_package::{SharedPackage, number_of};
-use gr_text::{Files, Path};
+use gr_text::{FileText, Files, Path};
 use gr_tree::FileTree;
 use std::alloc::{AllocError, Global};
 use std::collections::BTreeSet;
 
 /// The folders of some paths.
-pub(crate) fn folders_of<'a>(
-    alloc: Global,
-    paths: &[&'a Path],
-) -> Result<BTreeSet<&'a [u8]>, AllocError>
+pub fn folders_of<'a>(alloc: Global, paths: &[&'a Path]) -> Result<BTreeSet<&'a [u8]>, AllocError>
     ensures { IfOk result (λ folders. HaveFolders (names paths.now) (names folders.keys)) }
 {
     let mut folders = BTreeSet::new(alloc);
@@ -84,12 +81,19 @@ pub(crate) fn files_at(
     Ok(part)
 }
 
+/// Sets the text of a path.
+fn set_text(part: &mut Files, path: &Path, text: &FileText) -> Result<(), AllocError>
+    ensures { OnOk result (part.new ≡ map.insert part.old path.now text.now) }
+{
+    part.insert(path.clone()?, text.clone()?)
+}
+
 /// Sets what is at a path to what other files have there.
 fn reset_path(part: &mut Files, files: &Files, path: &Path) -> Result<(), AllocError>
     ensures { OnOk result (Resets files.now (path.now ∷ []) part.old part.new) }
 {
     match files.get(path) {
-        Some(text) => part.insert(path.clone()?, text.clone()?),
+        Some(text) => set_text(part, path, text),
         None => part.remove(path),
     }
 }

@@ -37,9 +37,10 @@ fn put(packages: &mut Vec<SharedPackage>, one: &SharedPackage) -> Result<(), All
     ensures { OnOk result (Puts one.now packages.old.items packages.new.items) }
 {
     let place = take_out(packages, one.path());
-    if has_file(one.package()) {
-        packages.insert(place, one.clone()?)?;
+    if !has_file(one.package()) {
+        return Ok(());
     }
+    packages.insert(place, one.clone()?)?;
     Ok(())
 }
 

@@ -1,86 +1,56 @@
--- The files outside the folders of all that an edit set names are the same after it.
-use Rattle.std.proofs.Common.{◌≡◌, ℕ, ◌+◌, ◌<◌, ◌⊎◌, inl, inr, List, [], ◌∷◌, length, take, get_or, Option, Some, None, Bor, refl, sym, ap, subst, ◌∙◌, ⊎_elim}
-use Rattle.std.specs.declared.cmp.Ordering.TheVariants.{Less, Equal, Greater}
-use Rattle.std.specs.Ordering.{match_ordering}
-use Rattle.std.specs.BTreeSet.{insert_key}
+-- The files at no path that an edit set names are the same after it.
+use Rattle.std.proofs.Common.{◌≡◌, ℕ, ◌+◌, ◌<◌, ◌⊎◌, inl, inr, List, [], ◌∷◌, ◌++◌, length, take, get_or, Option, Some, None, Bor, refl, sym, ap, subst, ◌∙◌, ⊎_elim}
 use Rattle.std.specs.List.{Contains}
 use Rattle.std.specs.FinMap.{get}
-use Rattle.std.proofs.lemmas.List.{take_more}
-use Rattle.std.proofs.lemmas.List.Elements.{Contains-push_cases}
+use Rattle.std.proofs.lemmas.List.{map_push, take_more}
+use Rattle.std.proofs.lemmas.List.Elements.{Contains-append_left, Contains-push, Contains-push_cases}
 use Rattle.std.proofs.lemmas.Option.{none-some, same_Some}
-use Rattle.gr_text.specs.Path.{folder}
 use Rattle.gr_text.specs.Workspace.{Workspace}
-use Rattle.gr_text.proofs.WorkspaceLaws.{path_cmp_exact}
 use Rattle.gr_edit.specs.EditSet.{FileChanges, path_by, change_of, file_by, edited}
 use Rattle.gr_edit.specs.Fits.{Fits, new_path}
 use Rattle.gr_edit.specs.declared.change.FileChange.{FileChange}
 use Rattle.gr_edit.specs.declared.change.Fate.{Fate}
 use Rattle.gr_edit.specs.declared.change.Fate.TheVariants.{Stays, Moves, Dropped}
-use Rattle.gr_edit.proofs.Held.{nothing_in, first_in, later_in, first_or_later}
+use Rattle.gr_edit.proofs.Held.{nothing_in}
 use Rattle.gr_edit.proofs.Changes.{change_found, path_of_file}
 use Rattle.gr_edit.proofs.FilesAfter.{IsOldFile, comes_from, has_file}
 use Rattle.gr_graph.specs.Filling.{names}
-use Rattle.gr_graph.specs.Staying.{DiffersOnlyIn}
-use Rattle.gr_graph.proofs.PackagePaths.{folder_cmp}
+use Rattle.gr_graph.specs.Staying.{DiffersOnlyAt, DiffersOnlyIn}
 use Rattle.gr_space.specs.Made.{IsMade}
 use Rattle.gr_space.specs.declared.change.Change.{Change}
-use Rattle.gr_space.specs.Folders.{AddsFolders, HoldsFolders, IsNamed, IsOfChange}
+use Rattle.gr_space.specs.Named.{AddsPaths, HoldsFolders, HoldsPaths, IsNamed, IsOfChange}
 
--- ---- one folder more
-pub inserted : (ks : List (Bor (List ℕ))) (k : Bor (List ℕ)) (q : List ℕ) → (Contains (names ks) q ⊎ (k.now ≡ q)) →
-    Contains (names (insert_key folder_cmp ks k)) q
-inserted [] k q either = ⊎_elim (λ (none : Contains [] q). absurd (nothing_in q none))
-    (λ (same : k.now ≡ q). subst (Contains (k.now ∷ [])) same (first_in k.now [])) either
-inserted (x ∷ xs) k q either =
-    elim (folder_cmp k x) as (λ order. folder_cmp k x ≡ order →
-    Contains (names (match_ordering order (k ∷ x ∷ xs) (x ∷ xs) (x ∷ insert_key folder_cmp xs k))) q) [
-      | Less ↦ λ e. ⊎_elim
-          (λ (old : Contains (x.now ∷ names xs) q). later_in k.now (x.now ∷ names xs) q old)
-          (λ (same : k.now ≡ q). subst (Contains (k.now ∷ x.now ∷ names xs)) same (first_in k.now (x.now ∷ names xs)))
-          either
-      | Equal ↦ λ e. ⊎_elim
-          (λ (old : Contains (x.now ∷ names xs) q). old)
-          (λ (same : k.now ≡ q). subst (Contains (x.now ∷ names xs)) (sym (path_cmp_exact k.now x.now e) ∙ same) (first_in x.now (names xs)))
-          either
-      | Greater ↦ λ e. ⊎_elim
-          (λ (old : Contains (x.now ∷ names xs) q). ⊎_elim
-          (λ (same : x.now ≡ q). subst (Contains (x.now ∷ names (insert_key folder_cmp xs k))) same (first_in x.now (names (insert_key folder_cmp xs k))))
-          (λ (later : Contains (names xs) q). later_in x.now (names (insert_key folder_cmp xs k)) q (inserted xs k q (inl later)))
-          (first_or_later x.now (names xs) q old))
-          (λ (same : k.now ≡ q). later_in x.now (names (insert_key folder_cmp xs k)) q (inserted xs k q (inr same)))
-          either
-    ] refl
-
-pub adds_folder : (path : List ℕ) (ks new : List (Bor (List ℕ))) (k : Bor (List ℕ)) → k.now ≡ folder path → new ≡ insert_key folder_cmp ks k →
-    AddsFolders (λ p. path ≡ p) (names ks) (names new)
-adds_folder path ks new k is e = subst (λ (l : List (Bor (List ℕ))). AddsFolders (λ p. path ≡ p) (names ks) (names l)) (sym e) (record {
-  kept = λ f has. inserted ks k f (inl has);
-  each = λ p same. inserted ks k (folder p) (inr (is ∙ ap folder same));
-})
+-- ---- one path more
+pub adds_path : (old new : List (Bor (List ℕ))) (k : Bor (List ℕ)) → new ≡ old ++ k ∷ [] → AddsPaths (λ p. k.now ≡ p) (names old) (names new)
+adds_path old new k is =
+    subst (AddsPaths (λ p. k.now ≡ p) (names old)) (sym (ap names is ∙ map_push (λ (path : Bor (List ℕ)). path.now) old k)) (record {
+      kept = λ p has. Contains-append_left (names old) (k.now ∷ []) p has;
+      each = λ p same. subst (Contains (names old ++ k.now ∷ [])) same (Contains-push (names old) k.now);
+    })
 
 -- ---- several
-pub adds_none : (P : List ℕ → Type 0) (old : List (List ℕ)) → ((p : List ℕ) → P p → ⊥) → AddsFolders P old old
+pub adds_none : (P : List ℕ → Type 0) (old : List (List ℕ)) → ((p : List ℕ) → P p → ⊥) → AddsPaths P old old
 adds_none P old none = record { kept = λ f has. has; each = λ p is. absurd (none p is) }
 
-pub adds_more : (P Q S : List ℕ → Type 0) (a b c : List (List ℕ)) → ((p : List ℕ) → S p → P p ⊎ Q p) → AddsFolders P a b → AddsFolders Q b c → AddsFolders S a c
+pub adds_more : (P Q S : List ℕ → Type 0) (a b c : List (List ℕ)) → ((p : List ℕ) → S p → P p ⊎ Q p) → AddsPaths P a b → AddsPaths Q b c → AddsPaths S a c
 adds_more P Q S a b c cases first second = record {
   kept = λ f has. second.kept f (first.kept f has);
-  each = λ p is. ⊎_elim (λ (x : P p). second.kept (folder p) (first.each p x)) (λ (y : Q p). second.each p y) (cases p is);
+  each = λ p is. ⊎_elim (λ (x : P p). second.kept p (first.each p x)) (λ (y : Q p). second.each p y) (cases p is);
 }
 
-pub adds_fewer : (P Q : List ℕ → Type 0) (a b : List (List ℕ)) → ((p : List ℕ) → Q p → P p) → AddsFolders P a b → AddsFolders Q a b
+pub adds_fewer : (P Q : List ℕ → Type 0) (a b : List (List ℕ)) → ((p : List ℕ) → Q p → P p) → AddsPaths P a b → AddsPaths Q a b
 adds_fewer P Q a b gives adds = record { kept = adds.kept; each = λ p is. adds.each p (gives p is) }
 
--- ---- the folders of one change
-pub change_stays : (c : FileChange) (old new : List (List ℕ)) → new_path c.fate ≡ None → AddsFolders (λ p. c.path ≡ p) old new →
-    AddsFolders (IsOfChange c) old new
+-- ---- the paths of one change
+pub change_stays : (c : FileChange) (old new : List (List ℕ)) → new_path c.fate ≡ None → AddsPaths (λ p. c.path ≡ p) old new →
+    AddsPaths (IsOfChange c) old new
 change_stays c old new none adds = adds_fewer (λ p. c.path ≡ p) (IsOfChange c) old new
     (λ p named. ⊎_elim (λ (same : c.path ≡ p). same) (λ (to : new_path c.fate ≡ Some p). absurd (none-some p (sym none ∙ to))) named)
     adds
 
-pub change_moves : (c : FileChange) (to : List ℕ) (a b d : List (List ℕ)) → new_path c.fate ≡ Some to → AddsFolders (λ p. c.path ≡ p) a b →
-    AddsFolders (λ p. to ≡ p) b d
-    → AddsFolders (IsOfChange c) a d
+pub change_moves : (c : FileChange) (to : List ℕ) (a b d : List (List ℕ)) → new_path c.fate ≡ Some to → AddsPaths (λ p. c.path ≡ p) a b →
+    AddsPaths (λ p. to ≡ p) b d
+    → AddsPaths (IsOfChange c) a d
 change_moves c to a b d is first second = adds_more (λ p. c.path ≡ p) (λ p. to ≡ p) (IsOfChange c) a b d
     (λ p named. ⊎_elim (λ (same : c.path ≡ p). inl same) (λ (goes : new_path c.fate ≡ Some p). inr (same_Some to p (sym is ∙ goes))) named)
     first second
@@ -140,6 +110,12 @@ pub one_option : (x y : Option (List ℕ)) → ((t : List ℕ) → x ≡ Some t 
 one_option None None f g = refl
 one_option None (Some t) f g = absurd (none-some t (g t refl))
 one_option (Some t) y f g = sym (f t refl)
+
+pub differs_only_at : (s : FileChanges) (w : Workspace) → Fits s w → (paths : List (List ℕ)) → HoldsPaths (IsNamed s) paths →
+    DiffersOnlyAt paths w (edited s w)
+differs_only_at s w fits paths holds path go apart =
+    let not_named : IsNamed s path → ⊥ = λ named. apart (holds path named) in
+    one_option (get (edited s w) path) (get w path) (λ t. there_before s w path not_named t) (λ t. there_after s w path not_named fits t)
 
 pub differs_only_in : (s : FileChanges) (w : Workspace) → Fits s w → (folders : List (List ℕ)) → HoldsFolders (IsNamed s) folders →
     DiffersOnlyIn folders w (edited s w)

@@ -1,4 +1,4 @@
--- The folders of the files that an edit set names.
+-- The paths of the files that an edit set names, and their folders.
 use Rattle.std.specs.Prelude.{◌≡◌, ℕ, ◌⊎◌, List, Some}
 use Rattle.std.specs.List.{Contains}
 use Rattle.gr_text.specs.Path.{folder}
@@ -24,7 +24,11 @@ IsNamed s path = IsOfChanges s.changed path ⊎ IsOfAdded s.added path
 abbrev pub HoldsFolders : (List ℕ → Type 0) → List (List ℕ) → Type 0
 HoldsFolders P folders = (path : List ℕ) → P path → Contains folders (folder path)
 
--- at least these folders were added
-pub record AddsFolders (P : List ℕ → Type 0) (old new : List (List ℕ)) : Type 0 where
-  pub kept : (f : List ℕ) → Contains old f → Contains new f
-  pub each : HoldsFolders P new
+-- each path of which P holds is among the paths
+abbrev pub HoldsPaths : (List ℕ → Type 0) → List (List ℕ) → Type 0
+HoldsPaths P paths = (path : List ℕ) → P path → Contains paths path
+
+-- at least these paths were added
+pub record AddsPaths (P : List ℕ → Type 0) (old new : List (List ℕ)) : Type 0 where
+  pub kept : (path : List ℕ) → Contains old path → Contains new path
+  pub each : HoldsPaths P new
