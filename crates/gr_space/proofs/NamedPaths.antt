@@ -1,5 +1,6 @@
 -- The files at no path that an edit set names are the same after it.
-use Rattle.std.proofs.Common.{◌≡◌, ℕ, ◌+◌, ◌<◌, ◌⊎◌, inl, inr, List, [], ◌∷◌, ◌++◌, length, take, get_or, Option, Some, None, Bor, refl, sym, ap, subst, ◌∙◌, ⊎_elim}
+use Rattle.std.proofs.Common.{◌≡◌, ℕ, ◌+◌, ◌<◌, ◌⊎◌, inl, inr, List, [], ◌∷◌, ◌++◌, length, take, get_or, Option, Some, None, Bor, refl, sym, ap, subst}
+use Rattle.std.proofs.Common.{◌∙◌, ⊎_elim}
 use Rattle.std.specs.List.{Contains}
 use Rattle.std.specs.FinMap.{get}
 use Rattle.std.proofs.lemmas.List.{map_push, take_more}
@@ -11,7 +12,6 @@ use Rattle.gr_edit.specs.Fits.{Fits, new_path}
 use Rattle.gr_edit.specs.declared.change.FileChange.{FileChange}
 use Rattle.gr_edit.specs.declared.change.Fate.{Fate}
 use Rattle.gr_edit.specs.declared.change.Fate.TheVariants.{Stays, Moves, Dropped}
-use Rattle.gr_edit.proofs.Held.{nothing_in}
 use Rattle.gr_edit.proofs.Changes.{change_found, path_of_file}
 use Rattle.gr_edit.proofs.FilesAfter.{IsOldFile, comes_from, has_file}
 use Rattle.gr_graph.specs.Filling.{names}
