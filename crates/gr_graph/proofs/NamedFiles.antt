@@ -1,5 +1,5 @@
 -- The files at some folders are those of the packages before, but at the paths at which files may differ those of the new files.
-use Rattle.std.proofs.Common.{◌≡◌, ℕ, ◌⊎◌, ◌||◌, Bool, true, false, List, [], ◌∷◌, ◌++◌, cond, filter, Option, Some, None, Bor, slice_get, length, get_or}
+use Rattle.std.proofs.Common.{◌≡◌, ℕ, ◌||◌, Bool, true, false, List, [], ◌∷◌, ◌++◌, cond, filter, Option, Some, None, Bor, slice_get, length, get_or}
 use Rattle.std.proofs.Common.{refl, sym, ap, subst, ◌∙◌, ⊎_elim, ◌==◌, ◌+◌, ◌<◌, take}
 use Rattle.std.specs.BTreeSet.{insert_key}
 use Rattle.std.specs.Cmp.{tied_itself}
@@ -320,7 +320,8 @@ module _ (v w : Workspace) (packages : List ParsedPackage) (folders paths : List
       file_of v from.0.path.items e (among_files (All-contains (HasFiles v) packages from.0 are.files from.1) e from.2)
 
   is_part : IsPart v part
-  is_part = subst (IsPart v) (sym adds.new_is) (part_of v adds.added empty of_before (λ path text h. absurd (none-some text (sym (get-empty path_cmp path) ∙ h))))
+  is_part = subst (IsPart v) (sym adds.new_is) (part_of v adds.added empty of_before
+      (λ path text h. absurd (none-some text (sym (get-empty path_cmp path) ∙ h))))
 
   is_there : (path text : List ℕ) → is_go path ≡ true → Contains folders (folder path) → get v path ≡ Some text → get part path ≡ Some text
   is_there path text go has at =

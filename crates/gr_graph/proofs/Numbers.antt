@@ -1,5 +1,6 @@
 -- What a search among the packages answers.
-use Rattle.std.proofs.Common.{◌≡◌, ℕ, ◌<◌, ◌≤◌, ◌+◌, List, [], ◌∷◌, length, Some, slice_get, get_or, sym, ap, subst, ◌∙◌, ⊎_elim, arith, Result, Ok, Err, MatchResult}
+use Rattle.std.proofs.Common.{◌≡◌, ℕ, ◌<◌, ◌≤◌, ◌+◌, List, [], ◌∷◌, length, Some, slice_get, get_or, sym, ap, subst, ◌∙◌, ⊎_elim, arith, Result, Ok, Err}
+use Rattle.std.proofs.Common.{MatchResult}
 use Rattle.std.specs.declared.cmp.Ordering.{Ordering}
 use Rattle.std.specs.declared.cmp.Ordering.TheVariants.{Less, Equal, Greater}
 use Rattle.std.specs.Ordering.{is_lt, is_gt, ordering_index, ordering_reverse}

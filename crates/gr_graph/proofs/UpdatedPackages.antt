@@ -1,13 +1,12 @@
 -- The packages after files changed, where some come and some go, are those of the files.
 use Rattle.std.proofs.Common.{◌≡◌, ℕ, zero, suc, ◌+◌, ◌<◌, ◌≤◌, ◌⊎◌, inl, inr, Bool, true, false, List, [], ◌∷◌, ◌++◌, length, take, get_or, Some, slice_get}
-use Rattle.std.proofs.Common.{refl, sym, ap, subst, ◌∙◌, ⊎_elim, arith, Result}
-use Rattle.std.specs.declared.cmp.Ordering.{Ordering}
-use Rattle.std.specs.declared.cmp.Ordering.TheVariants.{Less, Equal, Greater}
+use Rattle.std.proofs.Common.{refl, sym, ap, subst, ◌∙◌, ⊎_elim, arith}
+use Rattle.std.specs.declared.cmp.Ordering.TheVariants.{Less}
 use Rattle.std.specs.Cmp.{tied_itself}
 use Rattle.std.specs.FinMap.{contains_key-keys, entries}
-use Rattle.std.specs.List.{All, Contains, insert, list_any, remove}
+use Rattle.std.specs.List.{Contains, insert, list_any, remove}
 use Rattle.std.specs.List.Sorted.{IsPermutation, IsStrictlySortedBy}
-use Rattle.std.specs.Ordering.{eq_by_cmp, is_lt, ordering_reverse}
+use Rattle.std.specs.Ordering.{eq_by_cmp, is_lt}
 use Rattle.std.proofs.lemmas.Bool.{true≢false, cases_lt}
 use Rattle.std.proofs.lemmas.List.{length-map, take_more}
 use Rattle.std.proofs.lemmas.List.Edits.{get_or-insert_above, get_or-insert_at, get_or-insert_below, get_or-remove_above, get_or-remove_below}
@@ -106,7 +105,8 @@ insert_sorted ks q i sorted place = sorted_from_all_adjacent path_cmp_total (ins
     next (suc j) within = ⊎_elim
         (λ (h : suc j < i). ⊎_elim (λ (l : suc j + 1 < i). front (suc j) l) (λ (g : i ≤ suc j + 1). before_place (suc j) (omega arith))
         (cases_lt (suc j + 1) i))
-        (λ (h : i ≤ suc j). ⊎_elim (λ (l : j < i). at_place (suc j) (omega arith) within) (λ (g : i ≤ j). behind_next j g (omega (arith, within))) (cases_lt j i))
+        (λ (h : i ≤ suc j). ⊎_elim (λ (l : j < i). at_place (suc j) (omega arith) within) (λ (g : i ≤ j). behind_next j g (omega (arith, within)))
+            (cases_lt j i))
         (cases_lt (suc j) i)
 
 module _ (ks : List (List ℕ)) (q : List ℕ) (n : ℕ) (sorted : IsStrictlySortedBy path_cmp ks) (at : slice_get ks n ≡ Some q) where
@@ -199,7 +199,8 @@ module _ (one : ParsedPackage) (old middle : List ParsedPackage) (place : ℕ) (
 
   pub puts_one : (new : List ParsedPackage) → has_file one ≡ true → new ≡ insert middle place one → Puts one old new
   puts_one new some is = subst (Puts one old) (sym is) (record {
-    sorted = subst (IsStrictlySortedBy path_cmp) (sym (paths_insert middle place one)) (insert_sorted (paths_of middle) one.path.items place out.sorted out.stands);
+    sorted = subst (IsStrictlySortedBy path_cmp) (sym (paths_insert middle place one))
+        (insert_sorted (paths_of middle) one.path.items place out.sorted out.stands);
     each = λ p has. ⊎_elim
         (λ (here : one ≡ p). inl (sym here, some))
         (λ (later : Contains middle p). inr (out.from p later, out_apart p later))

@@ -1,5 +1,5 @@
 -- One more path, and all of them at the end.
-use Rattle.std.proofs.Common.{List, ℕ, [], ◌∷◌, Bor, sym, subst, arith, take}
+use Rattle.std.proofs.Common.{List, ℕ, [], ◌∷◌, Bor, subst, arith, take}
 use Rattle.std.proofs.lemmas.List.{take_all}
 use Rattle.gr_graph.specs.Filling.{names}
 use Rattle.gr_graph.specs.NamedFiles.{Resets}

@@ -1,8 +1,6 @@
 -- The package of the number is taken out, or none.
-use Rattle.std.proofs.Common.{◌≡◌, ◌<◌, List, length, Some, slice_get, ap, sym, subst, ◌∙◌, arith}
+use Rattle.std.proofs.Common.{◌≡◌, List, Some, slice_get, ap, sym, subst, ◌∙◌, arith}
 use Rattle.std.specs.List.Sorted.{IsStrictlySortedBy}
-use Rattle.std.proofs.lemmas.List.{length-map}
-use Rattle.std.proofs.lemmas.Option.{slice_get_within}
 use Rattle.gr_text.specs.Workspace.{path_cmp}
 use Rattle.gr_graph.specs.Graphs.{paths_of}
 use Rattle.gr_graph.specs.Updated.{IsPlace}
@@ -25,7 +23,8 @@ returns-in-Ok c =
     let old = c.args.packages.now.items in
     let at : slice_get (paths_of old) c.in-Ok.number ≡ Some c.args.path.now =
     ap (λ (ps : List ParsedPackage). slice_get (paths_of ps) c.in-Ok.number) (sym c.deref.ensures.value) ∙ c.in-Ok.ensures in
-    one_out c.args.path.now old c.remove.new.self.items c.in-Ok.number c.requires at (number_within old c.in-Ok.number c.args.path.now at) c.remove.ensures.items
+    one_out c.args.path.now old c.remove.new.self.items c.in-Ok.number c.requires at (number_within old c.in-Ok.number c.args.path.now at)
+        c.remove.ensures.items
 
 pub returns-in-Err : goal.returns-in-Err
 returns-in-Err c = none_out c.args.path.now c.args.packages.now.items c.in-Err.place c.requires

@@ -1,5 +1,5 @@
 -- One more package, and all of them at the end.
-use Rattle.std.proofs.Common.{List, take, subst, arith}
+use Rattle.std.proofs.Common.{List, subst, arith}
 use Rattle.std.proofs.lemmas.List.{take_all}
 use Rattle.gr_graph.specs.Updated.{AreUpdated}
 use Rattle.gr_graph.specs.declared.package.ParsedPackage.{ParsedPackage}
