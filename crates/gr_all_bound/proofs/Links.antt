@@ -31,7 +31,8 @@ use Rattle.gr_meanings.specs.MemberUses.{AreUsesIn}
 use Rattle.gr_meanings.specs.Worlds.{IsName, is_bound, is_unbound, by_scope, by_package, is_init}
 use Rattle.gr_verdict.specs.Verdicts.{Verdicts, IsPackageIn}
 use Rattle.gr_bound.specs.declared.declaration.Declaration.{Declaration}
-use Rattle.gr_bound.specs.Binding.{BindsByMember, IsBehindPackage, declaration_of}
+use Rattle.gr_qualified.specs.Qualified.{IsBehindPackage}
+use Rattle.gr_bound.specs.Binding.{BindsByMember, declaration_of}
 use Rattle.gr_bound.specs.Identifiers.{Stands}
 use Rattle.gr_asked.proofs.OnePlace.{names_of, laid_of, same_layout, same_files}
 use Rattle.gr_all_used.specs.Linked.{IsUsedMember, IsLinked}

@@ -3,7 +3,7 @@ use Rattle.std.specs.Prelude.{ℕ, ◌≡◌, List}
 use Rattle.gr_scope.specs.declared.model.Role.TheVariants.{NotLexical}
 use Rattle.gr_scope.specs.declared.model.Purpose.TheVariants.{Selected, Key}
 use Rattle.gr_declared.specs.Package.{Package}
-use Rattle.gr_bound.specs.Binding.{IsBehindPackage}
+use Rattle.gr_qualified.specs.Qualified.{IsBehindPackage}
 
 -- u stands behind a dot, and not behind the name of a package; or it is a key of a literal
 pub data IsMemberName (p : Package) (u : ℕ) : Type 0 where

@@ -35,7 +35,7 @@ use Rattle.gr_declared.specs.Written as written
 use Rattle.gr_verdict.specs.Verdicts.{Verdicts, IsPackageIn}
 use Rattle.gr_verdict.proofs.Importing.{literal_path}
 use Rattle.gr_verdict.proofs.PackageFiles.{entry_at}
-use Rattle.gr_bound.specs.Binding.{NamesPackage}
+use Rattle.gr_qualified.specs.Qualified.{NamesPackage}
 use Rattle.gr_asked.proofs.OnePlace.{names_of, laid_of, same_layout, same_size, same_files}
 use Rattle.gr_asked.proofs.HeaderStrings.{is_import_literal}
 use Rattle.gr_asked.proofs.ImportSites.{literal_within, literal_file, import_identifies}

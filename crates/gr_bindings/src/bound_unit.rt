@@ -20,11 +20,11 @@ use gr_bound::indexed::Indexed;
 use gr_bound::own_names::{place_of, symbol};
 use gr_bound::{
     BoundSpot, Declaration, declaration_in_scope, field_places, member_declaration, method_places,
-    package_before,
 };
 use gr_declared::{Index, Package};
 use gr_expr::found::MemberUse;
 use gr_meanings::one_world;
+use gr_qualified::package_before;
 use gr_scope::model::Position;
 use std::alloc::{AllocError, Global};
 

@@ -28,7 +28,8 @@ use Rattle.gr_bound.specs.declared.bound_spot.BoundSpot.{BoundSpot}
 use Rattle.gr_bound.specs.declared.declaration.Declaration.{Declaration}
 use Rattle.gr_bound.specs.declared.declaration.Declaration.TheVariants.{Predeclared, Declared, Field, Method}
 use Rattle.gr_bound.specs.declared.spot.Spot.{Spot}
-use Rattle.gr_bound.specs.Binding.{BindsByScope, BindsByPackage, BindsByMember, BindsByName, IsBehindPackage, IsFieldAt, IsMethodAt, Binds, by_scope}
+use Rattle.gr_qualified.specs.Qualified.{IsBehindPackage}
+use Rattle.gr_bound.specs.Binding.{BindsByScope, BindsByPackage, BindsByMember, BindsByName, IsFieldAt, IsMethodAt, Binds, by_scope}
 use Rattle.gr_bound.specs.Binding.{by_package, by_member, by_name}
 use Rattle.gr_bound.specs.Bindings.{AddsAll, BoundIn, bound_to, place_at}
 use Rattle.gr_bound.specs.Identifiers.{BeginsAt}

@@ -18,7 +18,8 @@ use Rattle.gr_verdict.specs.Verdicts.{Verdicts, IsPackageIn}
 use Rattle.gr_verdict.proofs.OnePackage.{one_checked, layout_formed}
 use Rattle.gr_bound.specs.declared.declaration.Declaration.{Declaration}
 use Rattle.gr_bound.specs.declared.declaration.Declaration.TheVariants.{Predeclared, Declared, Field, Method}
-use Rattle.gr_bound.specs.Binding.{IsPredeclared, BindsByScope, BindsByPackage, IsBehindPackage, IsExportedUse}
+use Rattle.gr_qualified.specs.Qualified.{IsBehindPackage}
+use Rattle.gr_bound.specs.Binding.{IsPredeclared, BindsByScope, BindsByPackage, IsExportedUse}
 use Rattle.gr_bound.specs.Uses.{IsPackage}
 
 -- by scopes

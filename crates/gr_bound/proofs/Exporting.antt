@@ -10,7 +10,8 @@ use Rattle.gr_verdict.specs.Verdicts.{Verdicts}
 use Rattle.gr_bound.specs.declared.declaration.Declaration.{Declaration}
 use Rattle.gr_bound.specs.declared.declaration.Declaration.TheVariants.{Predeclared, Declared, Field, Method}
 use Rattle.gr_bound.specs.declared.spot.Spot.{Spot}
-use Rattle.gr_bound.specs.Binding.{Binds, BindsByScope, BindsByPackage, BindsByMember, BindsByName, IsBehindPackage}
+use Rattle.gr_qualified.specs.Qualified.{IsBehindPackage}
+use Rattle.gr_bound.specs.Binding.{Binds, BindsByScope, BindsByPackage, BindsByMember, BindsByName}
 use Rattle.gr_bound.specs.Binding as binding
 use Rattle.gr_bound.specs.Steps as step
 use Rattle.gr_bound.specs.Steps.{Adds, UsesIn, BindsIn, BindsAs, IsExportedBy, IsDeclarationFound}

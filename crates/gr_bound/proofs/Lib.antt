@@ -4,10 +4,10 @@ pub mod Each
 pub mod Files
 pub mod Tokens
 pub mod Bound
-pub mod Behind
 pub mod MemberParts
 pub mod MemberPlaces
 pub mod NamedPlaces
+pub mod Spelled
 pub mod Units
 pub mod Exporting
 pub mod Refusing

@@ -10,6 +10,7 @@ use Rattle.gr_scope.specs.WellFormed.{WellFormed}
 use Rattle.gr_expr.specs.declared.found.MemberUse.{MemberUse as FoundUse}
 use Rattle.gr_expr.specs.declared.symbol.Symbol.{Symbol}
 use Rattle.gr_expr.specs.declared.world.Definition.{Definition}
+use Rattle.gr_expr.specs.declared.world.Definitions.{Definitions}
 use Rattle.gr_expr.specs.Found.{use_of}
 use Rattle.gr_expr.specs.Judge.{MemberUse}
 use Rattle.gr_expr.specs.Types.{PlainType, Signature, same_path}
@@ -18,7 +19,9 @@ use Rattle.gr_expr.specs.World as plain
 use Rattle.gr_expr.specs.WorldView.{definition_or_none, imported_at}
 use Rattle.gr_stmt.specs.Declarations.{check_file}
 use Rattle.gr_declared.specs.declared.unit.Package.{Package as PackageUnit}
-use Rattle.gr_declared.specs.Package.{Package, symbol_in, spelled, spelled_at}
+use Rattle.gr_declared.specs.declared.interfaces.Interfaces.{Interfaces}
+use Rattle.gr_declared.specs.InterfacesView.{interface_in}
+use Rattle.gr_declared.specs.Package.{Package, Interface, symbol_in, spelled, spelled_at}
 use Rattle.gr_declared.specs.PackageView.{package_of}
 use Rattle.gr_declared.specs.Definitions.{IsDefinition, AreDefinitions}
 use Rattle.gr_meanings.specs.MemberUses.{AreUsesIn, AreMemberUses, uses_in}
@@ -30,7 +33,7 @@ use Rattle.gr_meanings.proofs.WorldParts.{is_other}
 use Rattle.gr_bound.specs.declared.declaration.Declaration.{Declaration}
 use Rattle.gr_bound.specs.declared.declaration.Declaration.TheVariants.{Declared, Method}
 use Rattle.gr_bound.specs.Binding.{declaration_of, IsMemberAt}
-use Rattle.gr_bound.specs.Members.{KnowsOwn, definitions_seen, member_at, uses_or_none, IsMemberIn}
+use Rattle.gr_bound.specs.Members.{KnowsOwn, definitions_by, definitions_seen, member_at, uses_or_none, IsMemberIn}
 use Rattle.gr_bound.specs.Steps.{IsDeclarationFound}
 
 -- a method is declared so, whether or not it has a signature
@@ -47,26 +50,30 @@ not_declared (plain.ABrokenMethod s) path d e = cc
 
 -- definitions
 
-seen_own : (unit : PackageUnit) (own : List Definition) (s : Symbol) → unit.path.now ≡ s.package →
-    definitions_seen unit own s ≡ definition_or_none s (slice_get own s.rank)
-seen_own unit own s e = ap (λ t. definition_or_none s (if t then slice_get own s.rank else imported_at unit.interfaces.now.definitions s))
-    ((bytes_decides unit.path.now s.package).1 e)
+by_own : (path : List ℕ) (own : List Definition) (imported : Definitions) (s : Symbol) → path ≡ s.package →
+    definitions_by path own imported s ≡ definition_or_none s (slice_get own s.rank)
+by_own path own imported s e =
+    ap (λ t. definition_or_none s (if t then slice_get own s.rank else imported_at imported s)) ((bytes_decides path s.package).1 e)
 
-seen_other : (unit : PackageUnit) (own : List Definition) (s : Symbol) → (unit.path.now ≡ s.package → ⊥) →
-    definitions_seen unit own s ≡ definition_or_none s (imported_at unit.interfaces.now.definitions s)
-seen_other unit own s n =
-    ap (λ t. definition_or_none s (if t then slice_get own s.rank else imported_at unit.interfaces.now.definitions s))
-    (is_other unit.path.now s.package n (same_path unit.path.now s.package) refl)
+by_other : (path : List ℕ) (own : List Definition) (imported : Definitions) (s : Symbol) → (path ≡ s.package → ⊥) →
+    definitions_by path own imported s ≡ definition_or_none s (imported_at imported s)
+by_other path own imported s n =
+    ap (λ t. definition_or_none s (if t then slice_get own s.rank else imported_at imported s))
+    (is_other path s.package n (same_path path s.package) refl)
+
+-- those of a package, by what it sees
+pub known_definitions : (p : Package) (own : List Definition) (seen : Interfaces) → KnowsOwn p own → p.interface_of ≡ interface_in seen →
+    AreDefinitions p (definitions_by p.path own seen.definitions)
+known_definitions p own seen h sees = record {
+  own = λ rank d at. subst (IsDefinition p rank) (sym (by_own p.path own seen.definitions (symbol_in p rank) refl)) (h.each rank d at);
+  beyond = λ rank none. by_own p.path own seen.definitions (symbol_in p rank) refl ∙ h.beyond rank none;
+  imported = λ path rank other. by_other p.path own seen.definitions (record { «package» = path; rank = rank }) (λ e. other (sym e)) ∙
+      ap (λ (f : List ℕ → Interface). (f path).definition rank) (sym sees);
+}
 
 pub seen_definitions : (unit : PackageUnit) (own : List Definition) → KnowsOwn (package_of unit) own →
     AreDefinitions (package_of unit) (definitions_seen unit own)
-seen_definitions unit own h =
-    let p = package_of unit in
-    record {
-      own = λ rank d at. subst (IsDefinition p rank) (sym (seen_own unit own (symbol_in p rank) refl)) (h.each rank d at);
-      beyond = λ rank none. seen_own unit own (symbol_in p rank) refl ∙ h.beyond rank none;
-      imported = λ path rank other. seen_other unit own (record { «package» = path; rank = rank }) (λ e. other (sym e));
-    }
+seen_definitions unit own h = known_definitions (package_of unit) own unit.interfaces.now h refl
 
 -- the member uses of a file are one list
 

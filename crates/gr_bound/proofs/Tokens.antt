@@ -41,13 +41,19 @@ to_token p u at place s t =
     subst (λ f. NameBegins (slice_get p.files f) at.index place.path place.offset) s.1
     (subst (λ i. NameBegins (slice_get p.files (p.layout.place u).file) i place.path place.offset) s.2 t)
 
+-- the token at which an identifier stands, and back
+pub token_begins : (p : Package) (u : ℕ) (at : Position) (place : Place) → u < p.size → StandsAt p.layout at u → Begins p at place → AtToken p at place
+token_begins p u at place lt s t = (u, (((lt, s.0), to_identifier p u at place s t), s))
+
+pub begins_token : (p : Package) (at : Position) (place : Place) → AtToken p at place → Begins p at place
+begins_token p at place q = to_token p q.0 at place q.1.1 q.1.0.1
+
 -- a token at which an identifier stands
 pub a_token : {E : Type 0} (p : Package) (u : ℕ) (at : Position) (a b : List Spot) (r : Result (Unit {0}) E) → IsFoundAt p.layout p.size at u →
     OnOk r (Adds a b (Begins p at)) → OnOk r (Adds a b (AtToken p at))
 a_token p u at a b r found h =
     call_adds a b (Begins p at) (AtToken p at) r
-    (λ place t. (u, (((found.within, found.holds.0), to_identifier p u at place found.holds t), found.holds)))
-    (λ place q. to_token p q.0 at place q.1.1 q.1.0.1) h
+    (λ place t. token_begins p u at place found.within found.holds t) (begins_token p at) h
 
 -- a token at which none stands
 pub no_token : (p : Package) (at : Position) (a : List Spot) (o : Option ℕ) → o ≡ None → IsFirstBelow (StandsAt p.layout at) p.size o → Adds a a (AtToken p at)

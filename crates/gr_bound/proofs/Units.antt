@@ -22,6 +22,7 @@ use Rattle.gr_declared.specs.Definitions.{IsDefinition}
 use Rattle.gr_types.specs.Interfaces.{IsInterface}
 use Rattle.gr_declared.specs.InterfacesView.{name_in, interface_in}
 use Rattle.gr_meanings.specs.MemberUses.{AreMemberUses, uses_in}
+use Rattle.gr_qualified.specs.Qualified.{AreQualified}
 use Rattle.gr_declared.specs.declared.interfaces.Interfaces.{Interfaces}
 use Rattle.gr_verdict.specs.declared.fault.FileFault.{FileFault}
 use Rattle.gr_verdict.specs.declared.finding.Finding.{Finding}
@@ -220,3 +221,29 @@ members_at w found h n f at p is =
     let uses = (h.findings.each n p.path f is.has_number at).members (h.sound n f at) in
     subst (λ c. AreMemberUses c (map uses_in f.members.items)) (one_checked w known p.path uses.checked p uses.is_package is.is_package.is_checked)
     uses.are_uses
+
+-- its qualified identifiers
+pub qualified_at : (w : Workspace) (found : Findings) → IsSound w found → (n : ℕ) (f : Finding) → slice_get found.packages.items n ≡ Some f →
+    (p : Package) → IsPackageAt w (known_by found.interfaces) n p → AreQualified p f.qualified.items
+qualified_at w found h n f at p is =
+    let known = known_by found.interfaces in
+    let has = (h.findings.each n p.path f is.has_number at).qualified (h.sound n f at) in
+    subst (λ c. AreQualified c f.qualified.items) (one_checked w known p.path has.checked p has.is_package is.is_package.is_checked) has.are_qualified
+
+-- the package of a number
+pub package_there : (w : Workspace) (found : Findings) → IsSound w found → (n : ℕ) → n < length (package_paths w) →
+    (p : Package) × IsPackageAt w (known_by found.interfaces) n p
+package_there w found h n lt =
+    let path = slice_get_some (package_paths w) n lt in
+    let f = slice_get_some found.packages.items n (subst (λ m. n < m) (sym h.findings.size) lt) in
+    let has = (h.findings.each n path.0 f.0 path.1 f.1).qualified (h.sound n f.0 f.1) in
+    let same : has.checked.path ≡ path.0 = ap (λ (c : Package). c.path) has.is_package.is_package.is_package in (
+      has.checked,
+      record {
+        has_number = path.1 ∙ ap Some (sym same);
+        is_package = record {
+          of_workspace = subst (Contains (package_paths w)) (sym same) (at_contains w n path.0 path.1);
+          is_checked = subst (λ q. IsPackageIn w (known_by found.interfaces) q has.checked) (sym same) has.is_package;
+        };
+      },
+    )

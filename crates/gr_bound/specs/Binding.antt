@@ -1,20 +1,18 @@
 -- What the identifiers of a package without faults are bound to: a declaration of its own scopes, a name that another package
 -- exports, a field or a method.
-use Rattle.std.specs.Prelude.{ℕ, suc, ◌≡◌, ◌<◌, List, length, Contains, Some}
+use Rattle.std.specs.Prelude.{ℕ, ◌≡◌, ◌<◌, List, length, Contains, Some}
 use Rattle.gr_scope.specs.declared.model.Position.{Position}
-use Rattle.gr_scope.specs.declared.model.Role.TheVariants.{NotLexical}
-use Rattle.gr_scope.specs.declared.model.Purpose.TheVariants as purpose
 use Rattle.gr_scope.specs.Bindings.{IsBoundTo}
 use Rattle.gr_scope.specs.FileSites.{universe}
 use Rattle.gr_scope.specs.Table.{StandsAt}
 use Rattle.gr_expr.specs.Judge.{MemberUse}
 use Rattle.gr_expr.specs.World.{Member, AField, AMethod, ABrokenMethod}
 use Rattle.gr_declared.specs.Package.{Package, function_place}
-use Rattle.gr_declared.specs.Written.{BindsToken, ImportsPath}
 use Rattle.gr_types.specs.Interfaces.{IsSeen}
 use Rattle.gr_declared.specs.Definitions.{PlacedField}
 use Rattle.gr_members.specs.MembersView.{CountsAsField, CountsAsMethod}
 use Rattle.gr_meanings.specs.MemberUses.{AreUsesIn}
+use Rattle.gr_qualified.specs.Qualified.{IsBehindPackage}
 use Rattle.gr_bound.specs.declared.declaration.Declaration.{Declaration}
 use Rattle.gr_bound.specs.declared.declaration.Declaration.TheVariants.{Predeclared, Declared, Field, Method}
 
@@ -32,19 +30,6 @@ BindsByScope p u (Field s) = ⊥
 BindsByScope p u (Method s) = ⊥
 
 -- Behind the name of a package
-
--- the name at a token is bound to an import of that path
-pub record NamesPackage (p : Package) (file token : ℕ) (path : List ℕ) : Type 0 where
-  pub import : ℕ
-  pub binds : BindsToken p file token import
-  pub imports : ImportsPath p import path
-
--- u stands behind a dot behind the name of the package of that path
-pub record IsBehindPackage (p : Package) (u : ℕ) (path : List ℕ) : Type 0 where
-  pub selected : p.layout.role u ≡ NotLexical purpose.Selected
-  pub before : ℕ
-  pub behind_dot : (p.layout.place u).index ≡ suc (suc before)
-  pub named : NamesPackage p (p.layout.place u).file before path
 
 -- u stands behind the name of another package, which declares and exports d under the name that u has
 pub record IsExportedUse (IsPackage : Package → Type 0) (p : Package) (u : ℕ) (path : List ℕ) (d : ℕ) : Type 0 where

@@ -5,6 +5,7 @@ use Rattle.gr_text.specs.declared.place.Place.{Place}
 use Rattle.gr_expr.specs.declared.found.MemberUse.{MemberUse as FoundUse}
 use Rattle.gr_expr.specs.declared.symbol.Symbol.{Symbol}
 use Rattle.gr_expr.specs.declared.world.Definition.{Definition}
+use Rattle.gr_expr.specs.declared.world.Definitions.{Definitions}
 use Rattle.gr_expr.specs.Judge.{MemberUse}
 use Rattle.gr_expr.specs.Types.{PlainType, same_path}
 use Rattle.gr_expr.specs.World.{member_by}
@@ -14,6 +15,7 @@ use Rattle.gr_declared.specs.declared.unit.Package.{Package as PackageUnit}
 use Rattle.gr_declared.specs.Package.{Package, PlacedType, package_types, symbol_in, spelled}
 use Rattle.gr_declared.specs.Definitions.{IsDefinition}
 use Rattle.gr_bound.specs.declared.declaration.Declaration.{Declaration}
+use Rattle.gr_bound.specs.declared.member_uses.KnownTypes.{KnownTypes}
 use Rattle.gr_bound.specs.Binding.{declaration_of}
 use Rattle.gr_bound.specs.Steps.{AtToken}
 
@@ -29,10 +31,15 @@ abbrev pub definitions_or_none : Option (List Definition) → List Definition
 definitions_or_none None = []
 definitions_or_none (Some own) = own
 
--- the type definitions that a package sees: its own, and those of other packages
+-- the type definitions that the package of a path knows: its own, and those of other packages
+abbrev pub definitions_by : (path : List ℕ) → List Definition → Definitions → Symbol → plain.Definition
+definitions_by path own imported s = definition_or_none s (if same_path path s.package then slice_get own s.rank else imported_at imported s)
+
+abbrev pub definitions_known : KnownTypes → Symbol → plain.Definition
+definitions_known types = definitions_by types.path.now types.own.now types.imported.now
+
 abbrev pub definitions_seen : PackageUnit → List Definition → Symbol → plain.Definition
-definitions_seen unit own s = definition_or_none s
-    (if same_path unit.path.now s.package then slice_get own s.rank else imported_at unit.interfaces.now.definitions s)
+definitions_seen unit own = definitions_by unit.path.now own unit.interfaces.now.definitions
 
 -- the declaration that the name at a token is as a member of a type; none where the type has no such member
 abbrev pub member_at : (Symbol → plain.Definition) → Package → (file token : ℕ) → PlainType → Option Declaration

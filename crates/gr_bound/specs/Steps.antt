@@ -1,6 +1,5 @@
 -- What the steps of `uses` answer.
 use Rattle.std.specs.Prelude.{ℕ, ◌≡◌, ◌⊎◌, ◌↔◌, List, Contains, Option, Some, None, slice_index_or, MatchOption}
-use Rattle.std.specs.Borrow.{Bor}
 use Rattle.gr_text.specs.declared.place.Place.{Place}
 use Rattle.gr_scope.specs.declared.model.Position.{Position}
 use Rattle.gr_scope.specs.Bindings.{IsBoundTo}
@@ -10,7 +9,8 @@ use Rattle.gr_types.specs.Interfaces.{IsSeen}
 use Rattle.gr_bound.specs.declared.declaration.Declaration.{Declaration}
 use Rattle.gr_bound.specs.declared.declaration.Declaration.TheVariants.{Predeclared, Declared, Field, Method}
 use Rattle.gr_bound.specs.declared.spot.Spot.{Spot}
-use Rattle.gr_bound.specs.Binding.{BindsByScope, BindsByMember, BindsByName, IsBehindPackage, IsNameOf, IsFieldAt, IsMethodAt}
+use Rattle.gr_qualified.specs.Qualified.{IsBehindPackage}
+use Rattle.gr_bound.specs.Binding.{BindsByScope, BindsByMember, BindsByName, IsNameOf, IsFieldAt, IsMethodAt}
 use Rattle.gr_bound.specs.Identifiers.{BeginsAt}
 
 abbrev pub place_of : Spot → Place
@@ -38,10 +38,6 @@ AtFound p (Some at) place = AtToken p at place
 -- the declaration of which K holds; none where it holds of none
 abbrev pub IsDeclarationFound : (Declaration → Type 0) → Option Declaration → Type 0
 IsDeclarationFound K found = MatchOption found ((d : Declaration) → K d → ⊥) (λ d. K d)
-
--- the one path of which P holds; none where it holds of none
-abbrev pub IsOnePath : (List ℕ → Type 0) → Option (Bor (List ℕ)) → Type 0
-IsOnePath P found = MatchOption found ((path : List ℕ) → P path → ⊥) (λ path. P path.now × ((other : List ℕ) → P other → other ≡ path.now))
 
 -- the number that a declaration has in the table of a package; none where the package's scopes do not bind to it
 abbrev pub IsNumberOf : Package → Declaration → Option ℕ → Type 0

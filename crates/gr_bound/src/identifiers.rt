@@ -54,7 +54,7 @@ fn add_name(found: &mut Vec<Spot>, file: &FileTree, token: usize) -> Result<(), 
 }
 
 /// Adds the place at which a token begins, if it has one and is a name.
-fn add_place(found: &mut Vec<Spot>, files: &[FileTree], at: Position) -> Result<(), AllocError>
+pub fn add_place(found: &mut Vec<Spot>, files: &[FileTree], at: Position) -> Result<(), AllocError>
     ensures { OnOk result (Adds found.old.items found.new.items (λ place. NameBegins (slice_get (map source_of files.now) at.file) at.index place.path place.offset)) }
 {
     if at.file < files.len() {

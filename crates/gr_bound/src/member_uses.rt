@@ -4,17 +4,44 @@ ghost use Rattle.gr_expr.specs.View.{type_of};
 ghost use Rattle.gr_expr.specs.World.{member_by};
 ghost use Rattle.gr_expr.specs.WorldView.{member_of, spelling_of};
 ghost use Rattle.gr_declared.specs.PackageView.{package_of};
-ghost use Rattle.gr_bound.specs.Members.{definitions_seen, member_at};
+ghost use Rattle.gr_bound.specs.Members.{definitions_known, definitions_seen, member_at};
 
 use crate::declaration::Declaration;
 use gr_declared::Package;
 use gr_expr::found::MemberUse;
+use gr_expr::symbol::SharedPath;
 use gr_expr::types::GoType;
-use gr_expr::world::{Definition, Member, Name, World};
+use gr_expr::world::{Definition, Definitions, Member, Name, World};
 use std::alloc::AllocError;
 
-/// The member that a name is for a type. The name is the only one of a list.
+/// The type definitions by which the members of a package's types are found: its own, and those that it sees of other packages.
+#[derive(Clone, Copy)]
+pub struct KnownTypes<'w> {
+    pub path: &'w SharedPath,
+    pub own: &'w [Definition],
+    pub imported: &'w Definitions,
+}
+
+/// The member that a name is for a type, by the type definitions that a package knows. The name is the only one of a list.
 #[tactic(auto, unfolding(gr_expr::specs::WorldView::member_in, gr_expr::specs::WorldView::definition_in, gr_expr::specs::WorldView::definition_at))]
+pub fn known_member<'w>(
+    types: KnownTypes<'w>,
+    names: &'w [Name<'w>],
+    before: &GoType,
+) -> Option<Member<'w>>
+    ensures { option_map member_of result ≡ member_by (definitions_known types.entry) types.entry.path.now (spelling_of (slice_get names.now 0)) (type_of before.now) }
+{
+    let world = World {
+        package: types.path,
+        names,
+        bounds: &[],
+        own: types.own,
+        imported: types.imported,
+    };
+    world.member(0, before)
+}
+
+/// The member that a name is for a type. The name is the only one of a list.
 pub fn member<'w>(
     unit: Package<'w>,
     own: &'w [Definition],
@@ -23,14 +50,12 @@ pub fn member<'w>(
 ) -> Option<Member<'w>>
     ensures { option_map member_of result ≡ member_by (definitions_seen unit.entry own.now) unit.entry.path.now (spelling_of (slice_get names.now 0)) (type_of before.now) }
 {
-    let world = World {
-        package: unit.path,
-        names,
-        bounds: &[],
+    let types = KnownTypes {
+        path: unit.path,
         own,
         imported: unit.interfaces.definitions(),
     };
-    world.member(0, before)
+    known_member(types, names, before)
 }
 
 /// The declaration of the member that is used, if the type before it has one.

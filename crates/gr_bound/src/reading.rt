@@ -1,4 +1,5 @@
-//! A package of a workspace without faults, read again: its trees, its table, its type definitions and its uses of members.
+//! A package of a workspace without faults, read again: its trees, its table, its type definitions, its uses of members and its qualified
+//! identifiers.
 ghost use Rattle.std.specs.Prelude.{◌≡◌, ◌<◌, [], length, map, IfOk};
 ghost use Rattle.gr_text.specs.Packages.{package_paths, package_files};
 ghost use Rattle.gr_graph.specs.Graphs.{OfPackage};
@@ -10,6 +11,7 @@ ghost use Rattle.gr_expr.specs.WorldView.{definitions_at};
 ghost use Rattle.gr_declared.specs.InterfacesView.{name_in};
 ghost use Rattle.gr_meanings.specs.MemberUses.{AreMemberUses, uses_in};
 ghost use Rattle.gr_declared.specs.Package.{Package as Checked};
+ghost use Rattle.gr_qualified.specs.Qualified.{AreQualified};
 ghost use Rattle.gr_bound.specs.Members.{KnowsOwn, definitions_or_none};
 ghost use Rattle.gr_bound.specs.Workspaces.{IsSound, known_in, IsPackageAt};
 
@@ -19,6 +21,7 @@ use gr_expr::symbol::SharedPath;
 use gr_expr::world::{Definition, Definitions};
 use gr_graph::Graph;
 use gr_imports::lay_names;
+use gr_qualified::Qualified;
 use gr_scope::declare::declare;
 use gr_scope::table::ScopeTable;
 use gr_tree::FileTree;
@@ -82,4 +85,13 @@ pub fn members_of<'a>(graph: &Graph, found: &'a Findings, number: usize) -> &'a 
     ensures { (p : Checked) → IsPackageAt graph.now (known_in found.now) number p → AreMemberUses p (map uses_in result.now) }
 {
     &found.packages[number].get().members
+}
+
+/// The qualified identifiers of a package, by the paths of the packages behind whose names they stand.
+pub fn qualified_of<'a>(graph: &Graph, found: &'a Findings, number: usize) -> &'a [Qualified]
+    requires in_range { number < length (package_paths graph.now) }
+    requires sound { IsSound graph.now found.now }
+    ensures { (p : Checked) → IsPackageAt graph.now (known_in found.now) number p → AreQualified p result.now }
+{
+    &found.packages[number].get().qualified
 }

@@ -19,7 +19,8 @@ use Rattle.gr_verdict.specs.Verdicts.{Verdicts}
 use Rattle.gr_revision.specs.Revisions.{Revision}
 use Rattle.gr_bound.specs.declared.declaration.Declaration.{Declaration}
 use Rattle.gr_bound.specs.declared.declaration.Declaration.TheVariants.{Predeclared, Declared, Field, Method}
-use Rattle.gr_bound.specs.Binding.{BindsByScope, BindsByPackage, IsBehindPackage, IsFieldAt, IsMethodAt}
+use Rattle.gr_qualified.specs.Qualified.{IsBehindPackage}
+use Rattle.gr_bound.specs.Binding.{BindsByScope, BindsByPackage, IsFieldAt, IsMethodAt}
 use Rattle.gr_bound.specs.Identifiers.{BeginsAt}
 use Rattle.gr_bound.specs.Members.{member_at}
 use Rattle.gr_bound.specs.Steps.{AtToken, IsDeclarationFound}

@@ -11,7 +11,8 @@ use Rattle.gr_types.specs.Interfaces.{IsSeen}
 use Rattle.gr_verdict.specs.Verdicts.{Verdicts}
 use Rattle.gr_bound.specs.declared.declaration.Declaration.{Declaration}
 use Rattle.gr_bound.specs.declared.declaration.Declaration.TheVariants.{Declared}
-use Rattle.gr_bound.specs.Binding.{BindsByMember, IsBehindPackage}
+use Rattle.gr_qualified.specs.Qualified.{IsBehindPackage}
+use Rattle.gr_bound.specs.Binding.{BindsByMember}
 use Rattle.gr_bound.specs.Uses.{IsPackage}
 use Rattle.gr_revision.specs.Revisions.{Revision, GoesTo}
 use Rattle.gr_members_after.specs.MembersAfter.{IsMemberAfter}

@@ -23,13 +23,14 @@ use crate::now::{now_by_member, now_by_package, now_by_scope};
 use gr_bindings::exports::exported;
 use gr_bound::{
     Declaration, declaration_in_scope, field_places, member_declaration, members_of, method_places,
-    own_of, package_before,
+    own_of,
 };
 use gr_change_places::symbol;
 use gr_declared::{Index, Package};
 use gr_expr::found::MemberUse;
 use gr_expr::world::Definition;
 use gr_placed::beginning;
+use gr_qualified::package_before;
 use gr_scope::model::Position;
 use gr_text::Place;
 use std::alloc::{AllocError, Global};

@@ -1,4 +1,4 @@
-//! A table by path.
+//! A table by path: a list of entries that is sorted by path.
 ghost use Rattle.std.specs.Prelude.{◌≡◌, [], MatchOption, None, Some, OnOk, OnErr};
 ghost use Rattle.std.specs.Option.{option_copied};
 ghost use Rattle.std.specs.FinMap.{find, put};

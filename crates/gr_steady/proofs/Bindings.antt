@@ -13,7 +13,8 @@ use Rattle.gr_verdict.proofs.Closed.{imports_closed}
 use Rattle.gr_verdict.proofs.Local.{same_within}
 use Rattle.gr_bound.specs.declared.declaration.Declaration.{Declaration}
 use Rattle.gr_bound.specs.declared.declaration.Declaration.TheVariants.{Predeclared, Declared, Field, Method}
-use Rattle.gr_bound.specs.Binding.{by_scope, by_package, by_member, by_name, BindsByPackage, IsBehindPackage, IsExportedUse}
+use Rattle.gr_qualified.specs.Qualified.{IsBehindPackage}
+use Rattle.gr_bound.specs.Binding.{by_scope, by_package, by_member, by_name, BindsByPackage, IsExportedUse}
 use Rattle.gr_bound.specs.Identifiers.{named_by}
 use Rattle.gr_bound.specs.Uses.{IsPackage, IsBoundTo, IsUseOf, HasDeclaration}
 use Rattle.gr_standing.proofs.Folders.{begins_in_folder}

@@ -33,6 +33,7 @@ faulty_by P p c ne h sorted none = record {
   order = sorted;
   interface = subst (λ o. MatchOption o (c.faults.items ≡ [] → ⊥) (λ i. (c.faults.items ≡ []) × IsInterface p (interface_of p.path i))) (sym none) ne;
   members = λ e. absurd (ne e);
+  qualified = λ e. absurd (ne e);
 }
 
 -- faults that were tested for, of which there is some, or none
@@ -63,6 +64,7 @@ checked_same P Q p c same h = record {
   order = h.order;
   interface = h.interface;
   members = h.members;
+  qualified = h.qualified;
 }
 
 -- a stage that has none

@@ -21,6 +21,7 @@ use Rattle.gr_meanings.specs.declared.bounds.Bounds.{Bounds}
 use Rattle.gr_meanings.specs.BoundsView.{AreBounds}
 use Rattle.gr_meanings.specs.MemberUses.{AreMemberUses, uses_in}
 use Rattle.gr_meanings.specs.PackageOf.{IsPackageOf}
+use Rattle.gr_qualified.specs.Qualified.{AreQualified}
 
 -- whether the package of a path exports a name
 abbrev pub exports_in : Package → (path name : List ℕ) → Bool
@@ -31,12 +32,13 @@ abbrev pub IsPackageFault : (List ℕ → ImportState) → Package → Fault →
 IsPackageFault state p = IsFaultIn state p.files (exports_in p) (laid_of p) (IsMemberFault p) (IsTypeFault p)
 
 -- What is found of a package whose faults are those of which P tells: all its faults, each once, by file and token; and where
--- it has none, what other packages see of it, and its uses of members.
+-- it has none, what other packages see of it, its uses of members, and its qualified identifiers.
 pub record IsCheckedBy (P : Fault → Type 0) (p : Package) (c : Checked) : Type 0 where
   pub faults : Lists P c.faults.items
   pub order : IsStrictlySortedBy order.ghosts.cmp c.faults.items
   pub interface : MatchOption c.interface (c.faults.items ≡ [] → ⊥) (λ i. (c.faults.items ≡ []) × IsInterface p (interface_of p.path i))
   pub members : c.faults.items ≡ [] → AreMemberUses p (map uses_in c.members.items)
+  pub qualified : c.faults.items ≡ [] → AreQualified p c.qualified.items
 
 abbrev pub IsCheckedPackage : (List ℕ → ImportState) → Package → Checked → Type 0
 IsCheckedPackage state p c = IsCheckedBy (IsPackageFault state p) p c

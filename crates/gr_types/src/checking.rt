@@ -1,4 +1,5 @@
-//! The check of a package: all its faults, and where it has none, what other packages see of it and its uses of members.
+//! The check of a package: all its faults, and where it has none, what other packages see of it, its uses of members and its qualified
+//! identifiers.
 ghost use Rattle.std.specs.Prelude.{ℕ, List, Option, None, ◌≡◌, map, IfOk};
 ghost use Rattle.std.specs.List.Sorted.{IsStrictlySortedBy};
 ghost use Rattle.gr_fault.specs.contracts.fault.FaultOrd.TheImpl as order;
@@ -32,19 +33,21 @@ use gr_fault::Fault;
 use gr_imports::{ImportStates, lay_names};
 use gr_meanings::{Bounds, bounds_of};
 use gr_members::{Members, member_faults};
+use gr_qualified::{Qualified, qualified_identifiers};
 use gr_scope::declare::declare;
 use gr_scope::table::ScopeTable;
 use gr_stages::{inner_faults, outer_faults};
 use gr_tree::FileTree;
 use std::alloc::{AllocError, Global};
 
-/// What is found in a package: its faults by file and token; where it has none, its interface, and for each file by its rank
-/// the uses of members.
+/// What is found in a package: its faults by file and token; where it has none, its interface, for each file by its rank the uses
+/// of members, and the qualified identifiers.
 #[derive(Drop)]
 pub struct Checked {
     pub faults: Vec<Fault>,
     pub interface: Option<Interface>,
     pub members: Vec<Vec<MemberUse>>,
+    pub qualified: Vec<Qualified>,
 }
 
 impl Checked {
@@ -57,6 +60,7 @@ impl Checked {
             faults,
             interface: None,
             members: Vec::new(alloc),
+            qualified: Vec::new(alloc),
         }
     }
 }
@@ -86,10 +90,12 @@ impl CheckedPackage {
 fn judged(
     alloc: Global,
     unit: Package<'_>,
+    index: &Index<'_>,
     bounds: Bounds,
     definitions: Vec<Definition>,
     typed: Typed,
 ) -> Result<CheckedPackage, AllocError>
+    requires index { IsIndexOf (package_of unit) index.now }
     requires bounds { AreBounds (package_of unit) bounds.list.items bounds.of.items }
     requires definitions { HaveDefinitions (package_of unit) definitions.items }
     requires listed { Lists (IsTypeFault (package_of unit)) typed.faults.items }
@@ -102,10 +108,12 @@ fn judged(
         return Ok(CheckedPackage::faulty(alloc, typed.faults));
     }
     let interface = interface(alloc, unit, &bounds, definitions)?;
+    let qualified = qualified_identifiers(alloc, unit, index)?;
     let checked = Checked {
         faults: typed.faults,
         interface: Some(interface),
         members: typed.members,
+        qualified,
     };
     Ok(CheckedPackage {
         checked,
@@ -129,7 +137,7 @@ fn check_types(
 {
     let mut bounds = bounds_of(alloc, unit, index, broken)?;
     let typed = type_faults(alloc, unit, index, &mut bounds, &definitions)?;
-    judged(alloc, unit, bounds, definitions, typed)
+    judged(alloc, unit, index, bounds, definitions, typed)
 }
 
 /// The last stage, of a package of which the members are known.

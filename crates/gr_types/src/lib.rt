@@ -1,4 +1,5 @@
-//! The check of a package: all its faults, and where it has none, what other packages see of it and its uses of members.
+//! The check of a package: all its faults, and where it has none, what other packages see of it, its uses of members and its qualified
+//! identifiers.
 #![tactic(auto)]
 
 mod checking;

@@ -33,7 +33,8 @@ use Rattle.gr_verdict.specs.Verdicts.{Verdicts, AreVerdicts, IsSeenAs, seen, uns
 use Rattle.gr_verdict.proofs.Closed.{to_package}
 use Rattle.gr_verdict.proofs.OneList.{checked_package}
 use Rattle.gr_bound.specs.declared.declaration.Declaration.TheVariants.{Declared}
-use Rattle.gr_bound.specs.Binding.{by_package, IsBehindPackage, IsExportedUse}
+use Rattle.gr_qualified.specs.Qualified.{IsBehindPackage}
+use Rattle.gr_bound.specs.Binding.{by_package, IsExportedUse}
 use Rattle.gr_bound.specs.Identifiers.{Stands}
 use Rattle.gr_bound.specs.Uses.{IsPackage, IsBoundTo}
 use Rattle.gr_asked.proofs.OnePlace.{names_of, laid_of as table_of, same_layout, same_size}

@@ -32,7 +32,8 @@ use Rattle.gr_meanings.proofs.OneMeaning.{one_name}
 use Rattle.gr_verdict.specs.Verdicts.{Verdicts, IsPackageIn}
 use Rattle.gr_verdict.proofs.OnePackage.{layout_formed, files_in_order}
 use Rattle.gr_bound.specs.declared.declaration.Declaration.{Declaration}
-use Rattle.gr_bound.specs.Binding.{BindsByPackage, BindsByMember, IsBehindPackage, NamesPackage}
+use Rattle.gr_qualified.specs.Qualified.{IsBehindPackage, NamesPackage}
+use Rattle.gr_bound.specs.Binding.{BindsByPackage, BindsByMember}
 use Rattle.gr_bound.specs.Identifiers.{Stands}
 use Rattle.gr_bound.proofs.Excluding.{exported_as}
 use Rattle.gr_asked.proofs.OnePlace.{names_of, laid_of, same_layout, same_size, same_files}

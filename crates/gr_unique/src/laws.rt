@@ -12,7 +12,8 @@ ghost use Rattle.gr_verdict.specs.FaultLists.{ListsFaults};
 ghost use Rattle.gr_verdict.specs.Verdicts.{Verdicts, AreVerdicts};
 ghost use Rattle.gr_bound.specs.declared.declaration.Declaration.{Declaration};
 ghost use Rattle.gr_bound.specs.declared.declaration.Declaration.TheVariants.{Declared};
-ghost use Rattle.gr_bound.specs.Binding.{BindsByPackage, BindsByMember, BindsByName, IsBehindPackage, field_place};
+ghost use Rattle.gr_qualified.specs.Qualified.{IsBehindPackage};
+ghost use Rattle.gr_bound.specs.Binding.{BindsByPackage, BindsByMember, BindsByName, field_place};
 ghost use Rattle.gr_bound.specs.Identifiers.{Stands};
 ghost use Rattle.gr_bound.specs.Uses.{IsPackage, IsBoundTo, IsUseOf, HasDeclaration, ListsUses, TellsUses};
 

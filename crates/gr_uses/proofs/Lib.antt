@@ -1,3 +1,6 @@
 -- The lemmas of this crate.
 pub mod Spots
 pub mod MayUse
+pub mod UsedAbroad
+pub mod NameTokens
+pub mod MembersUsed

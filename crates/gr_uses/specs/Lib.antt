@@ -1,3 +1,5 @@
 -- The definitions of this crate.
+pub mod Abroad
+pub mod MembersAbroad
 pub mod Importing
 pub mod Sought

@@ -1,9 +1,11 @@
 //! The identifiers of a workspace that are bound to the same declaration.
 #![tactic(auto)]
 
+mod abroad;
 mod exported_name;
 mod may_use;
 mod member_uses;
+mod members_abroad;
 mod own_names;
 mod package_uses;
 mod places;

@@ -2,14 +2,15 @@
 ghost use Rattle.std.specs.Prelude.{◌≡◌, ◌<◌, ◌↔◌, Some, length, IsTrue, OnOk};
 ghost use Rattle.gr_scope.specs.Named.{name_value};
 ghost use Rattle.gr_declared.specs.PackageView.{package_of, IsIndexOf};
-ghost use Rattle.gr_bound.specs.Binding.{IsBehindPackage};
+ghost use Rattle.gr_qualified.specs.Qualified.{IsBehindPackage};
 ghost use Rattle.gr_bound.specs.Identifiers.{BeginsAt};
 ghost use Rattle.gr_bound.specs.Steps.{Adds, UsesIn, BindsAs};
 
 use gr_asked::has_name;
 use gr_bound::identifiers::add_identifier;
-use gr_bound::{Declaration, Spot, package_before};
+use gr_bound::{Declaration, Spot};
 use gr_declared::{Index, Package};
+use gr_qualified::package_before;
 use std::alloc::AllocError;
 
 /// Whether a path was found, and is this one.

@@ -13,8 +13,10 @@ ghost use Rattle.gr_bound.specs.Steps.{Adds};
 ghost use Rattle.gr_bound.specs.Uses.{IsUseOf, TellsUses, TellsUsesAt};
 ghost use Rattle.gr_bound.specs.Workspaces.{IsSound, known_in, bytes_of, IsExportedUnder, IsUseAt, ListsFound, TellsUsesIn};
 
+use crate::abroad::{add_abroad, path_abroad};
 use crate::exported_name::{declared_name, exported_under, own_name};
 use crate::may_use::{Sought, home_of, importing_home, may_use};
+use crate::members_abroad::{add_members_abroad, is_member_abroad};
 use crate::own_names::is_own;
 use crate::places::Places;
 use crate::sorting::places;
@@ -100,6 +102,41 @@ fn add_package_uses(
     add_uses_by(alloc, spots, at, &seen, &table, sought)
 }
 
+/// The same of a package that is not read where the declaration is a field or method of another one.
+fn add_members_or_read(
+    alloc: Global,
+    spots: &mut Vec<Spot>,
+    at: Numbered<'_>,
+    sought: &Sought<'_>,
+) -> Result<(), AllocError>
+    requires { IsNumbered at }
+    ensures { OnOk result (Adds spots.old.items spots.new.items
+        (IsUseAt at.entry.graph.now (known_in at.entry.found.now) sought.now.declaration.now (name_value sought.now.name) at.entry.number)) }
+{
+    if is_member_abroad(at, sought.declaration) {
+        add_members_abroad(alloc, spots, at, sought.declaration)
+    } else {
+        add_package_uses(alloc, spots, at, sought)
+    }
+}
+
+/// The same of a package that may use the declaration. Where that is declared in another one, it is not read.
+fn add_where_used(
+    alloc: Global,
+    spots: &mut Vec<Spot>,
+    at: Numbered<'_>,
+    sought: &Sought<'_>,
+) -> Result<(), AllocError>
+    requires { IsNumbered at }
+    ensures { OnOk result (Adds spots.old.items spots.new.items
+        (IsUseAt at.entry.graph.now (known_in at.entry.found.now) sought.now.declaration.now (name_value sought.now.name) at.entry.number)) }
+{
+    match path_abroad(at, sought.declaration) {
+        None => add_members_or_read(alloc, spots, at, sought),
+        Some(path) => add_abroad(spots, at, path, sought.name),
+    }
+}
+
 /// The same of a package that is not read where it cannot use the declaration.
 fn add_if_used(
     alloc: Global,
@@ -113,7 +150,7 @@ fn add_if_used(
         (IsUseAt at.entry.graph.now (known_in at.entry.found.now) sought.now.declaration.now (name_value sought.now.name) at.entry.number)) }
 {
     if may_use(at.graph, at.found, at.number, sought) {
-        add_package_uses(alloc, spots, at, sought)
+        add_where_used(alloc, spots, at, sought)
     } else {
         Ok(())
     }

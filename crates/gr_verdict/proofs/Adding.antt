@@ -13,12 +13,13 @@ use Rattle.gr_declared.specs.InterfacesView.{name_in, interface_in, interface_of
 use Rattle.gr_expr.specs.declared.interfaces.Interface.{Interface as FoundInterface}
 use Rattle.gr_declared.specs.declared.interfaces.Interfaces.{Interfaces}
 use Rattle.gr_declared.proofs.ByteKeys.{cases_bytes}
+use Rattle.gr_qualified.specs.declared.lists.Qualified.{Qualified}
 use Rattle.gr_verdict.specs.declared.fault.FileFault.{FileFault}
 use Rattle.gr_verdict.specs.declared.finding.Finding.{Finding}
 use Rattle.gr_verdict.specs.declared.judging.Judged.{Judged}
 use Rattle.gr_verdict.specs.Verdicts.{BuildsOn, Verdicts, IsFaultBy, HasInterface, IsVerdictBy}
 use Rattle.gr_verdict.specs.FaultLists.{AreListed}
-use Rattle.gr_verdict.specs.Told.{is_unknown, known_by, AreWhole, AreUsesOf, IsFinding}
+use Rattle.gr_verdict.specs.Told.{is_unknown, known_by, AreWhole, AreUsesOf, AreQualifiedOf, IsFinding}
 use Rattle.gr_verdict.specs.Steps.{IsBuildOrder, IsJudged, MayAdd, Learns}
 use Rattle.gr_verdict.proofs.Alike.{KnowsAlike, alike_back, package_as, fault_as}
 use Rattle.gr_verdict.proofs.Closed.{to_package}
@@ -60,13 +61,16 @@ verdict_found w known p faults (Some i) all more fresh listed found s =
 
 pub learns_by : (w : Workspace) (p : List ℕ) (all more : Interfaces) (j : Judged) (f : Finding) → name_in all p ≡ None → AreWhole all →
     IsJudged w (known_by all) p j → MayAdd all more p j.interface →
-    f.path ≡ p → f.faults ≡ j.faults → f.members ≡ j.members → Learns w p f all more
-learns_by w p all more j f fresh whole h may path faults members = record {
+    f.path ≡ p → f.faults ≡ j.faults → f.members ≡ j.members → f.qualified ≡ j.qualified → Learns w p f all more
+learns_by w p all more j f fresh whole h may path faults members qualified = record {
   is_finding = record {
     has_path = path;
     listed = subst (λ (v : Vec FileFault). AreListed (IsFaultBy w (known_by all) p) v.items) (sym faults) h.listed;
     members = λ e.
         subst (λ (v : Vec (Vec MemberUse)). AreUsesOf w (known_by all) p v.items) (sym members) (h.uses (sym (ap (λ (v : Vec FileFault). v.items) faults) ∙ e));
+    qualified = λ e.
+        subst (λ (v : Vec Qualified). AreQualifiedOf w (known_by all) p v.items) (sym qualified)
+        (h.qualified (sym (ap (λ (v : Vec FileFault). v.items) faults) ∙ e));
   };
   is_verdict = verdict_found w (known_by all) p j.faults.items j.interface all more fresh h.listed h.has_interface may;
   elsewhere = elsewhere_by all more p j.interface may;
@@ -83,6 +87,8 @@ finding_as w p a b same f h = record {
     each = λ x. (λ c. fault_as w p a b same x ((h.listed.each x).0 c), λ is. (h.listed.each x).1 (fault_as w p b a (alike_back w p a b same) x is));
   };
   members = λ e. (let u = h.members e in record { checked = u.checked; is_package = package_as w p a b same u.checked u.is_package; are_uses = u.are_uses });
+  qualified = λ e. (let q = h.qualified e in record
+      { checked = q.checked; is_package = package_as w p a b same q.checked q.is_package; are_qualified = q.are_qualified });
 }
 
 -- the order

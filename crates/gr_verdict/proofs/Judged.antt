@@ -20,6 +20,8 @@ use Rattle.gr_declared.specs.InterfacesView.{interface_of}
 use Rattle.gr_expr.specs.declared.found.MemberUse.{MemberUse}
 use Rattle.gr_meanings.specs.MemberUses.{AreMemberUses, uses_in}
 use Rattle.gr_meanings.specs.PackageOf.{IsPackageOf}
+use Rattle.gr_qualified.specs.declared.lists.Qualified.{Qualified}
+use Rattle.gr_qualified.specs.Qualified.{AreQualified}
 use Rattle.gr_types.specs.Check.{IsCheckedBy, IsLaterFault, IsFoundIn, outside, inside}
 use Rattle.gr_verdict.specs.declared.fault.FileFault.{FileFault}
 use Rattle.gr_verdict.specs.declared.judging.Judged.{Judged}
@@ -142,6 +144,7 @@ module _ (w : Workspace) (known : Verdicts) (p : List ℕ) (own : Contains (pack
         has_interface = subst (λ o. MatchOption o (j.faults.items ≡ [] → ⊥) (λ i. (j.faults.items ≡ []) × HasInterface w known p (interface_of p i)))
             (sym (same ∙ gone)) filled;
         uses = λ e. absurd (filled e);
+        qualified = λ e. absurd (filled e);
       }
 
   -- those of the later stages, or none
@@ -163,9 +166,10 @@ module _ (w : Workspace) (known : Verdicts) (p : List ℕ) (own : Contains (pack
       (from m.0, record { checked = c; is_package = is_checked c h; is_interface = subst (λ q. IsInterface c (interface_of q i)) path m.1 })
 
   pub judged_inside : (c : Package) (x : Checked) (j : Judged) → HasNone Outer → IsPackageOf p files name_of interface_at c →
-      IsCheckedBy (IsLaterFault c) c x → j.interface ≡ x.interface → j.members ≡ x.members → IsStrictlySortedBy fault_cmp j.faults.items →
+      IsCheckedBy (IsLaterFault c) c x → j.interface ≡ x.interface → j.members ≡ x.members → j.qualified ≡ x.qualified →
+      IsStrictlySortedBy fault_cmp j.faults.items →
       ((y : FileFault) → Contains j.faults.items y ↔ IsPlacedOf files x.faults.items y) → IsJudged w known p j
-  judged_inside c x j sound h checked same_interface same_members sorted each =
+  judged_inside c x j sound h checked same_interface same_members same_qualified sorted each =
       let to : j.faults.items ≡ [] → x.faults.items ≡ [] = λ e.
       empty_by x.faults.items (λ f k. placed_some x.faults.items j.faults.items each f k (later_in_file c h f (checked.faults.only f k)) e) in
       let from : x.faults.items ≡ [] → j.faults.items ≡ [] = λ e.
@@ -184,11 +188,17 @@ module _ (w : Workspace) (known : Verdicts) (p : List ℕ) (own : Contains (pack
           is_package = is_checked c h;
           are_uses = subst (λ (ms : Vec (Vec MemberUse)). AreMemberUses c (map uses_in ms.items)) (sym same_members) (checked.members (to e));
         };
+        qualified = λ e. record {
+          checked = c;
+          is_package = is_checked c h;
+          are_qualified = subst (λ (qs : Vec Qualified). AreQualified c qs.items) (sym same_qualified) (checked.qualified (to e));
+        };
       }
 
   pub judged_by : (x : Checked) (j : Judged) → IsFoundIn p files state name_of interface_at x → j.interface ≡ x.interface → j.members ≡ x.members →
-      IsStrictlySortedBy fault_cmp j.faults.items →
+      j.qualified ≡ x.qualified → IsStrictlySortedBy fault_cmp j.faults.items →
       ((y : FileFault) → Contains j.faults.items y ↔ IsPlacedOf files x.faults.items y) → IsJudged w known p j
-  judged_by x j (outside some lists gone) same_interface same_members sorted each = judged_outside x j some lists gone same_interface sorted each
-  judged_by x j (inside {p = c} sound h checked) same_interface same_members sorted each =
-      judged_inside c x j sound h checked same_interface same_members sorted each
+  judged_by x j (outside some lists gone) same_interface same_members same_qualified sorted each =
+      judged_outside x j some lists gone same_interface sorted each
+  judged_by x j (inside {p = c} sound h checked) same_interface same_members same_qualified sorted each =
+      judged_inside c x j sound h checked same_interface same_members same_qualified sorted each

@@ -136,6 +136,7 @@ unread_judged w known p ts fs parsed some j sorted same gone =
       has_interface = subst (λ o. MatchOption o (j.faults.items ≡ [] → ⊥) (λ i. (j.faults.items ≡ []) × HasInterface w known p (interface_of p i)))
           (sym gone) filled;
       uses = λ e. absurd (filled e);
+      qualified = λ e. absurd (filled e);
     }
   where
     filled_by : (fs : List FaultyParts) → (fs ≡ [] → ⊥) → ((f : FileFault) → Contains (unread_faults fs) f → Contains j.faults.items f) →

@@ -21,7 +21,7 @@ use Rattle.gr_types.specs.Check.{IsFoundIn}
 use Rattle.gr_verdict.specs.Faults.{placed, placed_in}
 use Rattle.gr_verdict.specs.Verdicts.{Verdicts, BuildsOn, IsFaultBy, HasInterface, IsVerdictBy, IsVerdict, AreStates, AreSeen}
 use Rattle.gr_verdict.specs.FaultLists.{AreListed}
-use Rattle.gr_verdict.specs.Told.{known_by, AreWhole, AreUsesOf, IsFinding, IsFindingOf}
+use Rattle.gr_verdict.specs.Told.{known_by, AreWhole, AreUsesOf, AreQualifiedOf, IsFinding, IsFindingOf}
 use Rattle.gr_verdict.specs.declared.fault.FileFault.{FileFault}
 use Rattle.gr_verdict.specs.declared.finding.Finding.{Finding}
 use Rattle.gr_verdict.specs.declared.judging.Judged.{Judged}
@@ -96,11 +96,12 @@ pub record IsCheckedIn (w : Workspace) (known : Verdicts) (p : List ℕ) (c : Ch
   pub are_seen : AreSeen w known p name_of interface_of
   pub is_found : IsFoundIn p files state name_of interface_of c
 
--- the faults of p, or what others see of it and its uses of members
+-- the faults of p, or what others see of it, its uses of members and its qualified identifiers
 pub record IsJudged (w : Workspace) (known : Verdicts) (p : List ℕ) (j : Judged) : Type 0 where
   pub listed : AreListed (IsFaultBy w known p) j.faults.items
   pub has_interface : MatchOption j.interface (j.faults.items ≡ [] → ⊥) (λ i. (j.faults.items ≡ []) × HasInterface w known p (interface_of p i))
   pub uses : j.faults.items ≡ [] → AreUsesOf w known p j.members.items
+  pub qualified : j.faults.items ≡ [] → AreQualifiedOf w known p j.qualified.items
 
 -- an interface was added, if there is one
 abbrev pub MayAdd : (old new : Interfaces) (path : List ℕ) → Option Interface → Type 0

@@ -6,6 +6,8 @@ use Rattle.gr_expr.specs.declared.found.MemberUse.{MemberUse}
 use Rattle.gr_declared.specs.Package.{Package}
 use Rattle.gr_declared.specs.InterfacesView.{name_in, interface_in, no_interface}
 use Rattle.gr_meanings.specs.MemberUses.{AreMemberUses, uses_in}
+use Rattle.gr_qualified.specs.declared.lists.Qualified.{Qualified}
+use Rattle.gr_qualified.specs.Qualified.{AreQualified}
 use Rattle.gr_declared.specs.declared.interfaces.Interfaces.{Interfaces}
 use Rattle.gr_verdict.specs.Verdicts.{Verdicts, IsPackageIn, IsFaultBy, IsVerdict, AreVerdictsBelow}
 use Rattle.gr_verdict.specs.FaultLists.{AreListed}
@@ -30,11 +32,18 @@ pub record AreUsesOf (w : Workspace) (known : Verdicts) (p : List ℕ) (members 
   pub is_package : IsPackageIn w known p checked
   pub are_uses : AreMemberUses checked (map uses_in members)
 
--- the faults of p, and where it has none its uses of members
+-- the qualified identifiers of p
+pub record AreQualifiedOf (w : Workspace) (known : Verdicts) (p : List ℕ) (qualified : List Qualified) : Type 0 where
+  pub checked : Package
+  pub is_package : IsPackageIn w known p checked
+  pub are_qualified : AreQualified checked qualified
+
+-- the faults of p, and where it has none its uses of members and its qualified identifiers
 pub record IsFinding (w : Workspace) (known : Verdicts) (p : List ℕ) (f : Finding) : Type 0 where
   pub has_path : f.path ≡ p
   pub listed : AreListed (IsFaultBy w known p) f.faults.items
   pub members : f.faults.items ≡ [] → AreUsesOf w known p f.members.items
+  pub qualified : f.faults.items ≡ [] → AreQualifiedOf w known p f.qualified.items
 
 -- what is found in p, by the verdicts on the packages that it builds on
 pub record IsFindingOf (w : Workspace) (p : List ℕ) (f : Finding) : Type 0 where

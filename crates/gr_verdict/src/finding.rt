@@ -4,17 +4,19 @@ ghost use Rattle.std.specs.Prelude.{◌≡◌, IfOk};
 use crate::fault::FileFault;
 use gr_expr::found::MemberUse;
 use gr_expr::symbol::SharedPath;
+use gr_qualified::Qualified;
 use std::alloc::{AllocError, Global};
 use std::marker::Model;
 use std::sync::Arc;
 
-/// The path of a package; its faults, in their order; and where it has none, for each of its files by rank the uses of
-/// members.
+/// The path of a package; its faults, in their order; and where it has none, for each of its files by rank the uses of members, and
+/// the qualified identifiers.
 #[derive(Drop)]
 pub struct Finding {
     pub path: SharedPath,
     pub faults: Vec<FileFault>,
     pub members: Vec<Vec<MemberUse>>,
+    pub qualified: Vec<Qualified>,
 }
 
 /// What is found in a package. A clone shares it.

@@ -64,12 +64,14 @@ pub(crate) fn enter_judged(
         faults,
         interface,
         members,
+        qualified,
     } = judged;
     add(alloc, all, &path, interface)?;
     Ok(Finding {
         path,
         faults,
         members,
+        qualified,
     })
 }
 

@@ -1,4 +1,4 @@
-//! The faults of one package, or its interface and its uses of members.
+//! The faults of one package, or its interface, its uses of members and its qualified identifiers.
 ghost use Rattle.std.specs.Prelude.{ℕ, ◌≡◌, ◌<◌, List, [], length, Contains, IfOk};
 ghost use Rattle.gr_text.specs.Packages.{package_files, package_paths};
 ghost use Rattle.gr_text.specs.Workspace.{Workspace};
@@ -15,15 +15,17 @@ use gr_declared::{Interface, Interfaces};
 use gr_expr::found::MemberUse;
 use gr_expr::symbol::SharedPath;
 use gr_graph::{Graph, ParsedPackage};
+use gr_qualified::Qualified;
 use gr_types::{Checked, check};
 use std::alloc::{AllocError, Global};
 
-/// The faults of a package; where it has none its interface, and for each of its files the uses of members.
+/// The faults of a package; where it has none its interface, for each of its files the uses of members, and its qualified identifiers.
 #[derive(Drop)]
 pub(crate) struct Judged {
     pub(crate) faults: Vec<FileFault>,
     pub(crate) interface: Option<Interface>,
     pub(crate) members: Vec<Vec<MemberUse>>,
+    pub(crate) qualified: Vec<Qualified>,
 }
 
 /// What is found in a package of which some file has no tree.
@@ -37,6 +39,7 @@ fn judge_unread(alloc: Global, files: &ParsedPackage) -> Result<Judged, AllocErr
         faults,
         interface: None,
         members: Vec::new(alloc),
+        qualified: Vec::new(alloc),
     })
 }
 
@@ -52,6 +55,7 @@ pub(crate) fn place_checked(
         faults,
         interface,
         members,
+        qualified,
     } = checked;
     let mut faults = placed_faults(alloc, &files.trees, &faults)?;
     sort(&mut faults);
@@ -59,6 +63,7 @@ pub(crate) fn place_checked(
         faults,
         interface,
         members,
+        qualified,
     })
 }
 

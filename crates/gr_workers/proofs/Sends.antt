@@ -41,7 +41,7 @@ use Rattle.gr_graph.proofs.shared_links.SharedLinks.TheSendSync.{the_send as Sha
 use Rattle.gr_compile.proofs.out.Out.TheSendSync.{the_send as Out-send}
 use Rattle.gr_machine.proofs.entry.Entry.TheSendSync.{the_send as Entry-send}
 use Rattle.gr_seats.proofs.seat.Seat.TheSendSync.{the_send as Seat-send}
-use Rattle.gr_workers.proofs.SendsFound.{file_fault_sent, file_fault_shared, scope_sent, scope_shared, definition_sent, definition_shared, verdict_sent}
+use Rattle.gr_workers.proofs.SendsFound.{file_fault_sent, file_fault_shared, interface_sent, interface_shared, verdict_sent}
 use Rattle.gr_workers.proofs.SendsFound.{verdict_shared}
 use Rattle.gr_expr.proofs.types.GoType.TheLaws.TheKnot.{crosses as type_crosses}
 use Rattle.gr_workers.proofs.SendsTrees.{file_tree_sent, file_tree_shared}
@@ -136,10 +136,10 @@ pub shared_known_sent : IsSend shared_known
 shared_known_sent = search (owned, known_sent, known_shared) depth 30 fits 50000
 
 pub compiled_sent : IsSend compiled
-compiled_sent = search (owned, type_crosses, file_fault_sent, scope_sent, scope_shared, definition_sent, definition_shared) depth 30 fits 50000
+compiled_sent = search (owned, type_crosses, file_fault_sent, interface_sent, interface_shared) depth 30 fits 50000
 
 pub compiled_shared : IsSync compiled
-compiled_shared = search (owned, type_crosses, file_fault_shared, scope_sent, scope_shared, definition_sent, definition_shared) depth 30 fits 50000
+compiled_shared = search (owned, type_crosses, file_fault_shared, interface_sent, interface_shared) depth 30 fits 50000
 
 pub unit_sent : IsSend unit
 unit_sent = search (owned, compiled_sent, compiled_shared) depth 30 fits 50000

@@ -11,6 +11,7 @@ use Rattle.gr_expr.specs.contracts.world.Definition.{the_row as definition}
 use Rattle.gr_expr.specs.contracts.found.MemberUse.{the_row as member_use}
 use Rattle.gr_expr.specs.contracts.interfaces.Export.{the_row as exported}
 use Rattle.gr_expr.specs.contracts.interfaces.PackageScope.{the_row as scope}
+use Rattle.gr_expr.specs.contracts.interfaces.Interface.{the_row as interface}
 use Rattle.gr_declared.specs.contracts.interfaces.Interfaces.{the_row as interfaces}
 use Rattle.gr_verdict.specs.contracts.fault.FileFault.{the_row as file_fault}
 use Rattle.gr_verdict.specs.contracts.finding.Finding.{the_row as finding}
@@ -21,6 +22,7 @@ use Rattle.gr_text.proofs.path.Path.TheSendSync.{the_send as Path-send, the_sync
 use Rattle.gr_path_table.proofs.shared_path.SharedPath.TheSendSync.{the_send as SharedPath-send, the_sync as SharedPath-sync}
 use Rattle.gr_expr.proofs.types.Basic.TheSendSync.{the_send as Basic-send, the_sync as Basic-sync}
 use Rattle.gr_expr.proofs.symbol.Symbol.TheSendSync.{the_send as Symbol-send, the_sync as Symbol-sync}
+use Rattle.gr_qualified.proofs.lists.Qualified.TheSendSync.{the_send as Qualified-send, the_sync as Qualified-sync}
 use Rattle.gr_verdict.proofs.fault.FileFault.TheSendSync.{the_send as FileFault-send, the_sync as FileFault-sync}
 use Rattle.gr_expr.proofs.types.GoType.TheLaws.TheKnot.{crosses as type_crosses}
 
@@ -81,11 +83,17 @@ scope_sent = search (owned, exported_sent) depth 30 fits 50000
 pub scope_shared : IsSync scope
 scope_shared = search (owned, exported_shared) depth 30 fits 50000
 
+pub interface_sent : IsSend interface
+interface_sent = search (owned, type_crosses, definition_sent) depth 30 fits 50000
+
+pub interface_shared : IsSync interface
+interface_shared = search (owned, type_crosses, definition_shared) depth 30 fits 50000
+
 pub interfaces_sent : IsSend interfaces
-interfaces_sent = search (owned, type_crosses, scope_sent, scope_shared, definition_sent, definition_shared) depth 30 fits 50000
+interfaces_sent = search (owned, type_crosses, interface_sent, interface_shared) depth 30 fits 50000
 
 pub interfaces_shared : IsSync interfaces
-interfaces_shared = search (owned, type_crosses, scope_sent, scope_shared, definition_sent, definition_shared) depth 30 fits 50000
+interfaces_shared = search (owned, type_crosses, interface_sent, interface_shared) depth 30 fits 50000
 
 pub file_fault_sent : IsSend file_fault
 file_fault_sent = FileFault-send
@@ -94,10 +102,10 @@ pub file_fault_shared : IsSync file_fault
 file_fault_shared = FileFault-sync
 
 pub finding_sent : IsSend finding
-finding_sent = search (owned, file_fault_sent, member_use_sent) depth 30 fits 50000
+finding_sent = search (owned, file_fault_sent, member_use_sent, Qualified-send) depth 30 fits 50000
 
 pub finding_shared : IsSync finding
-finding_shared = search (owned, file_fault_shared, member_use_shared) depth 30 fits 50000
+finding_shared = search (owned, file_fault_shared, member_use_shared, Qualified-sync) depth 30 fits 50000
 
 pub shared_finding_sent : IsSend shared_finding
 shared_finding_sent = search (owned, finding_sent, finding_shared) depth 30 fits 50000

@@ -27,7 +27,8 @@ use Rattle.gr_verdict.specs.Verdicts.{Verdicts, AreVerdicts}
 use Rattle.gr_verdict.proofs.OnePackage.{layout_formed}
 use Rattle.gr_bound.specs.declared.declaration.Declaration.{Declaration}
 use Rattle.gr_bound.specs.declared.declaration.Declaration.TheVariants.{Predeclared, Declared}
-use Rattle.gr_bound.specs.Binding.{by_scope, by_member, IsBehindPackage}
+use Rattle.gr_qualified.specs.Qualified.{IsBehindPackage}
+use Rattle.gr_bound.specs.Binding.{by_scope, by_member}
 use Rattle.gr_bound.specs.Identifiers.{Stands}
 use Rattle.gr_bound.specs.Uses.{IsPackage, IsBoundTo}
 use Rattle.gr_asked.proofs.OnePlace.{same_files}

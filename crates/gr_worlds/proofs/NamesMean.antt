@@ -38,7 +38,7 @@ use Rattle.gr_verdict.specs.Verdicts.{Verdicts, AreVerdicts, IsSeenAs, seen, uns
 use Rattle.gr_verdict.proofs.Closed.{to_package}
 use Rattle.gr_verdict.proofs.OneList.{checked_package}
 use Rattle.gr_verdict.proofs.OnePackage.{layout_formed, files_in_order}
-use Rattle.gr_bound.specs.Binding.{IsBehindPackage}
+use Rattle.gr_qualified.specs.Qualified.{IsBehindPackage}
 use Rattle.gr_bound.specs.Uses.{IsPackage}
 use Rattle.gr_unique.proofs.ExportedNames.{is_found}
 use Rattle.gr_unique.proofs.Faultless.{no_fault_later}

@@ -3,7 +3,7 @@ use Rattle.std.proofs.Common.{◌≡◌, ap, sym, ◌∙◌}
 use Rattle.std.specs.Prelude.{Some}
 use Rattle.gr_declared.specs.PackageView.{package_of}
 use Rattle.gr_declared.specs.Written.{ImportsPath}
-use Rattle.gr_bound.proofs.Behind.{path_is}
+use Rattle.gr_qualified.proofs.NamesBefore.{path_is}
 use Rattle.gr_moving.proofs.names.is_import_of.Goals as goal
 
 pub returns-then-literal_of-d : goal.returns-then-literal_of-d

@@ -4,7 +4,7 @@ use Rattle.std.specs.Prelude.{OnOk}
 use Rattle.gr_scope.specs.Named.{name_value}
 use Rattle.gr_declared.specs.PackageView.{package_of}
 use Rattle.gr_bound.specs.declared.declaration.Declaration.TheVariants.{Declared}
-use Rattle.gr_bound.specs.Binding.{IsBehindPackage}
+use Rattle.gr_qualified.specs.Qualified.{IsBehindPackage}
 use Rattle.gr_bound.specs.Steps.{Adds, UsesIn, BindsAs}
 use Rattle.gr_uses.proofs.package_uses.add_exported_uses.Goals as goal
 

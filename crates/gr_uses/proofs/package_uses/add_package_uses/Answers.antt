@@ -1,6 +1,6 @@
 -- The answers to the goals of `package_uses::add_package_uses`.
 use Rattle.std.proofs.Common.{◌≡◌, length, arith}
-use Rattle.gr_bound.specs.Binding.{IsBehindPackage}
+use Rattle.gr_qualified.specs.Qualified.{IsBehindPackage}
 use Rattle.gr_declared.specs.PackageView.{package_of}
 use Rattle.gr_bound.specs.Identifiers.{BeginsAt}
 use Rattle.gr_bound.proofs.Adding.{below_none, below_next, all_below}

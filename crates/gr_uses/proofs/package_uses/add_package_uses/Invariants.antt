@@ -1,7 +1,7 @@
 -- The invariants of the loops of `package_uses::add_package_uses`.
 use Rattle.std.proofs.Common.{◌≡◌}
 use Rattle.gr_declared.specs.PackageView.{package_of}
-use Rattle.gr_bound.specs.Binding.{IsBehindPackage}
+use Rattle.gr_qualified.specs.Qualified.{IsBehindPackage}
 use Rattle.gr_bound.specs.Identifiers.{BeginsAt}
 use Rattle.gr_bound.specs.Steps.{Adds}
 use Rattle.gr_bound.proofs.Adding.{Below}

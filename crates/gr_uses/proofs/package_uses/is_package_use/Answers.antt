@@ -1,7 +1,7 @@
 -- The answers to the goals of `package_uses::is_package_use`.
 use Rattle.gr_declared.specs.PackageView.{package_of}
-use Rattle.gr_bound.specs.Binding.{IsBehindPackage}
-use Rattle.gr_bound.proofs.Behind.{path_is}
+use Rattle.gr_qualified.specs.Qualified.{IsBehindPackage}
+use Rattle.gr_qualified.proofs.NamesBefore.{path_is}
 use Rattle.gr_uses.proofs.package_uses.is_package_use.Goals as goal
 
 pub returns-then-has_name : goal.returns-then-has_name

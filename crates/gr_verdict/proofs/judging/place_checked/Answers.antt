@@ -16,7 +16,7 @@ returns c = λ w known p own parsed is.
     let placed : (y : FileFault) → Contains c.in_ok-faults.faults.items y ↔ IsPlacedOf trees list y = λ y.
     subst (λ fs. Contains c.in_ok-faults.faults.items y ↔ IsPlacedOf trees fs y) c.deref-2.ensures.value
     (subst (λ ts. Contains c.in_ok-faults.faults.items y ↔ IsPlacedOf ts c.deref-2.result.now y) c.deref.ensures.value (c.in_ok-faults.ensures y)) in
-    judged_by w known p own is.files is.parsed is.name_of is.interface_of is.are_seen is.state is.are_states checked _ is.is_found refl refl
+    judged_by w known p own is.files is.parsed is.name_of is.interface_of is.are_seen is.state is.are_states checked _ is.is_found refl refl refl
     c.sort.ensures.order
     (λ y. (
       λ k. placed_as trees is.files list y same ((placed y).0 ((c.sort.ensures.same y).0 k)),

@@ -1,0 +1,4 @@
+-- The lemmas of this crate.
+pub mod NamesBefore
+pub mod Listing
+pub mod Gathered
