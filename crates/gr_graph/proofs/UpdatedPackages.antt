@@ -106,7 +106,7 @@ insert_sorted ks q i sorted place = sorted_from_all_adjacent path_cmp_total (ins
         (λ (h : suc j < i). ⊎_elim (λ (l : suc j + 1 < i). front (suc j) l) (λ (g : i ≤ suc j + 1). before_place (suc j) (omega arith))
         (cases_lt (suc j + 1) i))
         (λ (h : i ≤ suc j). ⊎_elim (λ (l : j < i). at_place (suc j) (omega arith) within) (λ (g : i ≤ j). behind_next j g (omega (arith, within)))
-            (cases_lt j i))
+        (cases_lt j i))
         (cases_lt (suc j) i)
 
 module _ (ks : List (List ℕ)) (q : List ℕ) (n : ℕ) (sorted : IsStrictlySortedBy path_cmp ks) (at : slice_get ks n ≡ Some q) where

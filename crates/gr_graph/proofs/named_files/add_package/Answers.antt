@@ -27,6 +27,6 @@ returns c =
     let at : slice_get all c.in-Some.number ≡ Some p = slice_get-get_or all c.in-Some.number c.index-packages-number.result
     (omega (arith, within, size)) ∙ ap Some (sym c.index-packages-number.is ∙ own) in
     on_ok_weaker c.add_faulty.result (λ is. adds_found all path c.in-Some.number p c.args.part.now c.add_trees.new.part c.add_faulty.new.part c.requires
-        there at
+    there at
     (c.in_ok-add_trees.ensures ∙ ap (λ (ts : List FileParts). with_files (sound_files ts) c.args.part.now) c.deref.ensures.value)
     (is ∙ ap (λ (fs : List FaultyParts). with_files (faulty_files fs) c.add_trees.new.part) c.deref-2.ensures.value)) c.add_faulty.ensures

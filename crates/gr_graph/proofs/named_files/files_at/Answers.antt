@@ -17,9 +17,11 @@ pub loop-folder-preserved : goal.loop-folder-preserved
 loop-folder-preserved c =
     let left = rest_more deref _ _ _ c.in-Some.folder c.in-Some.is c.next.ensures.steps in
     let old = c.loop-folder.invariant in
-    let path : List ℕ = c.in-Some.folder.now.now in
-    (old.0 ++ path ∷ [], append_assoc old.0 (path ∷ []) (names c.next.new.self) ∙ ap (λ l. old.0 ++ names l) (sym left) ∙ old.1,
-        adds_more c.args.packages.now old.0 (path ∷ []) map.empty c.loop-folder.part c.add_package.new.part old.2 c.in_ok-add_package.ensures)
+    let path : List ℕ = c.in-Some.folder.now.now in (
+      old.0 ++ path ∷ [],
+      append_assoc old.0 (path ∷ []) (names c.next.new.self) ∙ ap (λ l. old.0 ++ names l) (sym left) ∙ old.1,
+      adds_more c.args.packages.now old.0 (path ∷ []) map.empty c.loop-folder.part c.add_package.new.part old.2 c.in_ok-add_package.ensures,
+    )
 
 pub returns : goal.returns
 returns c =

@@ -13,13 +13,13 @@ returns-then-not-has_file c =
     let old = c.args.packages.now.items in
     let middle = c.take_out-place.new.packages.items in
     puts_none one old middle c.take_out-place.result (subst (λ (q : List ℕ). TakesOut q old middle c.take_out-place.result) c.path.ensures
-        c.take_out-place.ensures)
+    c.take_out-place.ensures)
     (sym (c.has_file.ensures ∙ ap has_file c.package.ensures) ∙ c.if-not-has_file.true)
 
 pub insert-requires : goal.insert-requires
 insert-requires c =
     let within = place_within c.path.result.now c.args.packages.now.items c.take_out-place.new.packages.items c.take_out-place.result
-        c.take_out-place.ensures in
+    c.take_out-place.ensures in
     omega (arith, within, c.take_out-place.new.packages.ok.0)
 
 pub returns : goal.returns
@@ -28,6 +28,6 @@ returns c =
     let old = c.args.packages.now.items in
     let middle = c.take_out-place.new.packages.items in
     puts_one one old middle c.take_out-place.result (subst (λ (q : List ℕ). TakesOut q old middle c.take_out-place.result) c.path.ensures
-        c.take_out-place.ensures)
+    c.take_out-place.ensures)
     c.insert.new.self.items (sym (c.has_file.ensures ∙ ap has_file c.package.ensures) ∙ c.if-not-has_file.false)
     (c.in_ok-insert.ensures.items ∙ ap (insert middle c.take_out-place.result) c.in_ok-clone.ensures.cases)

@@ -24,7 +24,7 @@ returns-in-Ok c =
     let at : slice_get (paths_of old) c.in-Ok.number ≡ Some c.args.path.now =
     ap (λ (ps : List ParsedPackage). slice_get (paths_of ps) c.in-Ok.number) (sym c.deref.ensures.value) ∙ c.in-Ok.ensures in
     one_out c.args.path.now old c.remove.new.self.items c.in-Ok.number c.requires at (number_within old c.in-Ok.number c.args.path.now at)
-        c.remove.ensures.items
+    c.remove.ensures.items
 
 pub returns-in-Err : goal.returns-in-Err
 returns-in-Err c = none_out c.args.path.now c.args.packages.now.items c.in-Err.place c.requires
