@@ -24,7 +24,7 @@ pub returns-clause-units : goal.returns-clause-units
 returns-clause-units c =
     let state = c.args.current.now in
     subst (λ (x : Change). IfOk c.carried_by.result (λ carried. IsCarried state.files state.finished x.files carried.0)) c.get.ensures
-        c.carried_by.ensures.units
+    c.carried_by.ensures.units
 
 pub returns-clause-known : goal.returns-clause-known
 returns-clause-known c =

@@ -10,5 +10,5 @@ pub invariant_of-state : goal.invariant_of-state
 invariant_of-state c =
     let carried = c.in_ok-finished in
     subst (λ (x : Change). (length carried.finished ≡ length (package_paths x.files)) × KnowsVerdicts x.files carried.known ×
-        HoldsGathered x.files c.new-2.result)
+    HoldsGathered x.files c.new-2.result)
     (sym c.into_change-change.ensures) (carried.ensures.units.size, carried.ensures.known, c.new-2.ensures c.args.change.files)
