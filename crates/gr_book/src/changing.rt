@@ -41,7 +41,7 @@ fn answered(outcome: Result<u64, Refusal>) -> Answered<Result<u64, Refusal>>
 fn answered_edits(outcome: Result<(u64, MadeEdits), Refusal>) -> Answered<Result<u64, Refusal>>
     ensures answer { done result.answer ≡ committed outcome }
     ensures out { result.out ≡ told_of (committed outcome) }
-    ensures subject { result.subject ≡ None }
+    ensures subject { result.subject ≡ subject_after None (committed outcome) }
     ensures made { result.made ≡ edits_made outcome }
 {
     match outcome {
