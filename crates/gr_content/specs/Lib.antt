@@ -2,3 +2,5 @@
 pub mod Outcomes
 pub mod Needed
 pub mod Handed
+pub mod Following
+pub mod Entered

@@ -4,10 +4,38 @@ ghost use Rattle.gr_machine.specs.Machine.{HasNumbers};
 ghost use Rattle.gr_machine.specs.Kept.{IsEntryIf};
 ghost use Rattle.gr_machine.specs.Journal.{basis_of, kind_of};
 ghost use Rattle.gr_machine.specs.Step.{HasPlace, Keeps};
+ghost use Rattle.gr_content.specs.Entered.{entry_left, with_entry};
 
 use crate::content::Content;
 use crate::question::{Answered, Asked, Question};
 use gr_machine::{Entry, Line, entry_twice};
+
+/// Adds the entry of an event that was answered to the journal, if it has one. With the answer comes a copy of the entry.
+pub fn enter<A>(journal: &mut Vec<Entry>, asked: Asked, answered: Answered<A>) -> (A, Option<Entry>)
+    requires { length journal.old.items + 1 ≤ vec_capacity journal.old }
+    ensures answer { result.0 ≡ answered.answer }
+    ensures copy { result.1 ≡ entry_left asked answered.out answered.subject answered.made }
+    ensures journal { journal.new.items ≡ with_entry journal.old.items result.1 }
+    ensures capacity { vec_capacity journal.new ≡ vec_capacity journal.old }
+{
+    let Answered {
+        answer,
+        out,
+        subject,
+        made,
+    } = answered;
+    let Some(out) = out else {
+        return (answer, None);
+    };
+    let line = Line {
+        kind: asked.kind,
+        basis: asked.basis,
+        out,
+    };
+    let (entry, copy) = entry_twice(line, subject, made);
+    journal.push_reserved(entry);
+    (answer, Some(copy))
+}
 
 /// Answers an event, and adds its entry to the journal. With the answer comes a copy of the entry.
 pub fn answer<Q: Question>(
@@ -25,21 +53,6 @@ pub fn answer<Q: Question>(
     ensures copy { IsEntryIf content.old.current.number (Q.event question) (Q.reply result.0) result.1 }
     ensures capacity { vec_capacity journal.new ≡ vec_capacity journal.old }
 {
-    let Answered {
-        answer,
-        out,
-        subject,
-        made,
-    } = question.ask(content, journal.as_slice());
-    let Some(out) = out else {
-        return (answer, None);
-    };
-    let line = Line {
-        kind: asked.kind,
-        basis: asked.basis,
-        out,
-    };
-    let (entry, copy) = entry_twice(line, subject, made);
-    journal.push_reserved(entry);
-    (answer, Some(copy))
+    let answered = question.ask(content, journal.as_slice());
+    enter(journal, asked, answered)
 }

@@ -1,19 +1,19 @@
 //! The states of a workspace with the Jobs that are out, and what events make of them.
-ghost use Rattle.std.specs.Prelude.{◌≡◌, ◌+◌, ◌≤◌, ◌↔◌, IfOk, IsTrue, length, vec_len};
+ghost use Rattle.std.specs.Prelude.{◌≡◌, ◌+◌, ◌≤◌, ◌↔◌, IfOk, IsTrue, OnErr, OnOk, length, vec_len};
 ghost use Rattle.gr_verdict.specs.Found.{KnowsVerdicts};
 ghost use Rattle.gr_compile.specs.Jobs.{IsOut};
-ghost use Rattle.gr_machine.specs.Machine.{HasNumbers, content, newest, opening};
+ghost use Rattle.gr_machine.specs.Machine.{HasNumbers, changed, content, newest, opening};
 ghost use Rattle.gr_content.specs.Handed.{handed};
 ghost use Rattle.gr_machine.specs.Step.{AnswersOrLacks, committed, done, looked, taken};
 ghost use Rattle.gr_machine.specs.declared.event.Event.TheVariants.{Commit, Deliver, GiveBack, Look, Redo, Take, Undo};
 
 use crate::deliveries::outcome_of;
+use crate::following::state_after;
 use crate::handed::{Handed, take_in};
 use gr_compile::{Built, Job, Out, SharedPath};
 use gr_finished::{Finished, SharedKnown};
 use gr_graph::Graph;
-use gr_inputs::{GatheredFiles, TakenInputs, inputs_of, known_within, marks_of};
-use gr_keep::{carried_units, kept};
+use gr_inputs::{GatheredFiles, TakenInputs, inputs_of, known_within};
 use gr_machine::{MadeEdits, State, View, first_waiting};
 use gr_space::MadeChange;
 use gr_text::{Files, Limits, Refusal};
@@ -128,7 +128,39 @@ impl Content {
         })
     }
 
-    /// Besides the number of the new state it gives the edits, for the entry.
+    /// Makes a state with the next number the current one, which no redo leaves. A visit begins.
+    fn go_on(&mut self, next: State) -> Result<u64, AllocError>
+        requires numbers { HasNumbers self.old }
+        requires number { next.number ≡ self.old.next }
+        ensures number { IfOk result (λ number. number ≡ self.old.next) }
+        ensures ok { OnOk result (self.new ≡ changed self.old next.files next.finished) }
+        ensures err { OnErr result (self.new ≡ self.old) }
+    {
+        self.earlier.reserve(1)?;
+        let number = self.next;
+        let previous = mem::replace(&mut self.current, next);
+        self.earlier.push(previous).unwrap();
+        keep_newest(&mut self.earlier, self.limits.undo_depth);
+        self.later.clear();
+        self.next += 1;
+        self.visit += 1;
+        Ok(number)
+    }
+
+    /// Admits a change of the current files.
+    fn admit(&mut self, change: MadeChange) -> Result<(u64, MadeEdits), Refusal>
+        requires numbers { HasNumbers self.old }
+        requires base { change.base ≡ self.old.current.files }
+        ensures answer { AnswersOrLacks self.old (Commit self.old.current.number change) (committed result) self.new }
+        ensures edits { IfOk result (λ made. made.1 ≡ change.edits) }
+    {
+        let (state, edits) = state_after(self.alloc, &self.current, self.next, change)?;
+        let number = self.go_on(state)?;
+        Ok((number, edits))
+    }
+
+    /// The change is admitted where the basis is the current number and its base has the current files, byte for byte. Besides the
+    /// number of the new state it gives the edits, for the entry.
     pub fn commit(&mut self, basis: u64, change: MadeChange) -> Result<(u64, MadeEdits), Refusal>
         requires { HasNumbers self.old }
         ensures answer { AnswersOrLacks self.old (Commit basis change) (committed result) self.new }
@@ -139,35 +171,25 @@ impl Content {
         if basis != number || !is_based(&change, &current.files) {
             return Err(Refusal::Moved { current: number });
         }
-        let marks = marks_of(self.alloc, &current.files, &change)?;
-        let change = change.into_change();
-        let files = change.files;
-        let edits = MadeEdits::new(self.alloc, change.edits)?;
-        let finished = carried_units(
-            self.alloc,
-            &current.files,
-            &current.finished,
-            &files,
-            &marks,
-        )?;
-        let known = kept(self.alloc, &current.files, &current.known, &files, &marks)?;
-        self.earlier.reserve(1)?;
-        let number = self.next;
-        let gathered = GatheredFiles::new(self.alloc);
-        let next = State {
-            number,
-            files,
-            finished,
-            known,
-            gathered,
-        };
-        let previous = mem::replace(&mut self.current, next);
-        self.earlier.push(previous).unwrap();
-        keep_newest(&mut self.earlier, self.limits.undo_depth);
-        self.later.clear();
-        self.next += 1;
-        self.visit += 1;
-        Ok((number, edits))
+        self.admit(change)
+    }
+
+    /// The same for a change whose base is known to have the current files: the numbers alone are compared.
+    pub fn commit_on_current(
+        &mut self,
+        basis: u64,
+        change: MadeChange,
+    ) -> Result<(u64, MadeEdits), Refusal>
+        requires numbers { HasNumbers self.old }
+        requires base { change.base ≡ self.old.current.files }
+        ensures answer { AnswersOrLacks self.old (Commit basis change) (committed result) self.new }
+        ensures edits { IfOk result (λ made. made.1 ≡ change.edits) }
+    {
+        let number = self.current.number;
+        if basis == number {
+            return self.admit(change);
+        }
+        Err(Refusal::Moved { current: number })
     }
 
     pub fn undo(&mut self, basis: u64) -> Result<u64, Refusal>

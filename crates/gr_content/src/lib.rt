@@ -4,10 +4,11 @@
 mod answering;
 mod content;
 mod deliveries;
+mod following;
 mod handed;
 mod question;
 
-pub use answering::answer;
+pub use answering::{answer, enter};
 pub use content::Content;
 pub use handed::Handed;
 pub use question::{Answered, Asked, Question};

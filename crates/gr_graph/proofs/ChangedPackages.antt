@@ -46,7 +46,7 @@ or_true : (a : Bool) → (a || true) ≡ true
 or_true true = refl
 or_true false = refl
 
-some_parsed : {es : List (List ℕ × List ℕ)} {ts : List FileParts} {fs : List FaultyParts} → AreParsed es ts fs → has_some es ≡ (has_some ts || has_some fs)
+pub some_parsed : {es : List (List ℕ × List ℕ)} {ts : List FileParts} {fs : List FaultyParts} → AreParsed es ts fs → has_some es ≡ (has_some ts || has_some fs)
 some_parsed none = refl
 some_parsed (tree is rest) = refl
 some_parsed (fault {ts = ts} is rest) = sym (or_true (has_some ts))
@@ -138,6 +138,15 @@ moved x y p q same pi = record {
   imports = pi.imports;
 }
 
+-- a path among theirs is that of one of them
+pub with_path : (ps : List ParsedPackage) (q : List ℕ) → Contains (paths_of ps) q → (p : ParsedPackage) × Contains ps p × (p.path.items ≡ q)
+with_path [] q has = absurd (none_held q has)
+with_path (p ∷ ps) q (zero, within, is) = (p, (0, omega arith, refl), is)
+with_path (p ∷ ps) q (suc k, within, is) =
+    let r = with_path ps q (k, omega (arith, within), is) in
+    let there : r.1.0 < length ps = r.1.1 in
+    (r.0, (suc r.1.0, omega arith, r.1.2), r.2)
+
 -- ---- the packages afterwards
 module _ (v w : Workspace) (before fresh packages : List ParsedPackage) (g : Links) (graph : IsGraph v before g) (differs : DiffersOnlyIn (paths_of fresh) v w)
     (files : All (HasFiles w) fresh) (kept : All (KeepsPath (package_paths v)) fresh) (are : AreReplaced before fresh packages) where
@@ -167,18 +176,10 @@ module _ (v w : Workspace) (before fresh packages : List ParsedPackage) (g : Lin
         | false ↦ λ is. refl
       ] refl
 
-  fresh_at : (ps : List ParsedPackage) (q : List ℕ) → Contains (paths_of ps) q → (p : ParsedPackage) × Contains ps p × (p.path.items ≡ q)
-  fresh_at [] q has = absurd (none_held q has)
-  fresh_at (p ∷ ps) q (zero, within, is) = (p, (0, omega arith, refl), is)
-  fresh_at (p ∷ ps) q (suc k, within, is) =
-      let r = fresh_at ps q (k, omega (arith, within), is) in
-      let there : r.1.0 < length ps = r.1.1 in
-      (r.0, (suc r.1.0, omega arith, r.1.2), r.2)
-
   some_same : (q : List ℕ) → has_some (package_files v q) ≡ has_some (package_files w q)
   some_same q = elim (among q (paths_of fresh)) as (λ b. among q (paths_of fresh) ≡ b → has_some (package_files v q) ≡ has_some (package_files w q)) [
     | true ↦ λ is.
-        let p = fresh_at fresh q (Contains-from_any exact_names q (paths_of fresh) is) in
+        let p = with_path fresh q (Contains-from_any exact_names q (paths_of fresh) is) in
         subst (λ (x : List ℕ). has_some (package_files v x) ≡ has_some (package_files w x)) p.2 (some_at p.0 p.1)
     | false ↦ λ is. sym (ap has_some (same_files (paths_of fresh) v w differs q (λ has. true≢false (sym (any_of q (paths_of fresh) has) ∙ is))))
   ] refl

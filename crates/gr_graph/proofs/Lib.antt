@@ -20,5 +20,7 @@ pub mod PartPackages
 pub mod PartLinks
 pub mod Asked
 pub mod ChangedPackages
+pub mod NamedFiles
+pub mod UpdatedPackages
 pub mod Told
 pub mod Below

@@ -1,11 +1,12 @@
 -- What a search among the packages answers.
-use Rattle.std.proofs.Common.{◌≡◌, ℕ, ◌<◌, ◌≤◌, ◌+◌, List, [], ◌∷◌, length, Some, slice_get, get_or, sym, ap, subst, ◌∙◌, ⊎_elim, arith}
+use Rattle.std.proofs.Common.{◌≡◌, ℕ, ◌<◌, ◌≤◌, ◌+◌, List, [], ◌∷◌, length, Some, slice_get, get_or, sym, ap, subst, ◌∙◌, ⊎_elim, arith, Result, Ok, Err}
+use Rattle.std.proofs.Common.{MatchResult}
 use Rattle.std.specs.declared.cmp.Ordering.{Ordering}
 use Rattle.std.specs.declared.cmp.Ordering.TheVariants.{Less, Equal, Greater}
 use Rattle.std.specs.Ordering.{is_lt, is_gt, ordering_index, ordering_reverse}
 use Rattle.std.specs.Cmp.{tied_itself}
 use Rattle.std.specs.List.{Contains, HoldsAt}
-use Rattle.std.specs.List.Sorted.{IsStrictlySortedBy, IsNonDecreasingBy, IsPartitionPoint}
+use Rattle.std.specs.List.Sorted.{IsStrictlySortedBy, IsNonDecreasingBy, IsPartitionPoint, IsBinarySearchResult, IsSearchInRange}
 use Rattle.std.proofs.lemmas.Bool.{true≢false, cases_lt}
 use Rattle.std.proofs.lemmas.List.Sorted.{searchable_from_sorted}
 use Rattle.std.proofs.lemmas.Map.Keys.{Less-from_sorted}
@@ -14,6 +15,7 @@ use Rattle.std.proofs.lemmas.List.{get_or-map, length-map}
 use Rattle.gr_text.specs.Workspace.{path_cmp}
 use Rattle.gr_text.proofs.WorkspaceLaws.{path_cmp_total, path_cmp_exact}
 use Rattle.gr_graph.specs.Graphs.{paths_of}
+use Rattle.gr_graph.specs.Updated.{IsPlace}
 use Rattle.gr_graph.specs.declared.package.ParsedPackage.{ParsedPackage}
 use Rattle.gr_graph.proofs.Filled.{path_at}
 
@@ -67,3 +69,33 @@ pub none_is : (ps : List ParsedPackage) (path : List ℕ) (i : ℕ) → IsStrict
     IsPartitionPoint (λ p. search_cmp path p ≡ Less) (λ p. search_cmp path p ≡ Greater) ps i)
     → Contains (paths_of ps) path → ⊥
 none_is ps path i sorted found = none_in ps path i (found (rises ps path sorted))
+
+-- and where none has the path, those before the place come before it and those behind it come behind it
+pub place_is : (ps : List ParsedPackage) (path : List ℕ) (i : ℕ) → IsStrictlySortedBy path_cmp (paths_of ps) → i ≤ length ps
+    → (IsNonDecreasingBy (λ y. ordering_index (search_cmp path y)) ps →
+    IsPartitionPoint (λ p. search_cmp path p ≡ Less) (λ p. search_cmp path p ≡ Greater) ps i)
+    → IsPlace (paths_of ps) path i
+place_is [] path i sorted within found = record {
+  within = within;
+  below = λ k h. absurd (omega (arith, h, within));
+  above = λ k h g. absurd (omega (arith, g));
+}
+place_is (p ∷ ps) path i sorted within found =
+    let all = p ∷ ps in
+    let size : length (paths_of all) ≡ length all = length-map all (λ (q : ParsedPackage). q.path.items) in
+    let split = found (rises all path sorted) in
+    let at : (k : ℕ) → k < length all → get_or (paths_of all) k [] ≡ (get_or all k p).path.items =
+    λ k h. get_or-map (λ (q : ParsedPackage). q.path.items) all k p [] h in
+    record {
+      within = omega (arith, within, size);
+      below = λ k h. ap (λ (x : List ℕ). path_cmp x path) (at k (omega (arith, h, within))) ∙ split.0 k p (omega arith) h;
+      above = λ k h g.
+          let inside : k < length all = omega (arith, g, size) in
+          ap (path_cmp path) (at k inside) ∙ path_cmp_total.antisymm path (get_or all k p).path.items ∙ ap ordering_reverse (split.1 k p h inside);
+    }
+
+pub place_or_number : (ps : List ParsedPackage) (path : List ℕ) (r : Result ℕ ℕ) → IsStrictlySortedBy path_cmp (paths_of ps) → IsSearchInRange r (length ps) →
+    IsBinarySearchResult (search_cmp path) ps r →
+    MatchResult r (λ n. slice_get (paths_of ps) n ≡ Some path) (λ i. IsPlace (paths_of ps) path i)
+place_or_number ps path (Ok n) sorted within at = found_is ps path n within at
+place_or_number ps path (Err i) sorted within found = place_is ps path i sorted within found

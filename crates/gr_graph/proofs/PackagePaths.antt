@@ -130,7 +130,7 @@ or_false false = refl
 abbrev pub folder_cmp : Bor (List ℕ) → Bor (List ℕ) → Ordering
 folder_cmp x y = path_cmp x.now y.now
 
-has_inserted : (ks : List (Bor (List ℕ))) (k : Bor (List ℕ)) (q : List ℕ)
+pub has_inserted : (ks : List (Bor (List ℕ))) (k : Bor (List ℕ)) (q : List ℕ)
     → list_any (eq_by_cmp path_cmp q) (names (insert_key folder_cmp ks k)) ≡ (eq_by_cmp path_cmp q k.now || list_any (eq_by_cmp path_cmp q) (names ks))
 has_inserted [] k q = refl
 has_inserted (x ∷ xs) k q =

@@ -12,7 +12,9 @@ pub mod Graphs
 pub mod Rows
 pub mod Filling
 pub mod Staying
+pub mod NamedFiles
 pub mod Changed
+pub mod Updated
 pub mod Parts
 pub mod Reaching
 pub mod Orders

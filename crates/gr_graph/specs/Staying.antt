@@ -1,11 +1,10 @@
 -- Which packages stay as they were when files change.
-use Rattle.std.specs.Prelude.{◌≡◌, ℕ, ◌⊎◌, Bool, true, false, not, List}
+use Rattle.std.specs.Prelude.{◌≡◌, ℕ, ◌⊎◌, true, false, List}
 use Rattle.std.specs.FinMap as files
-use Rattle.std.specs.List.{Contains, list_any}
-use Rattle.std.specs.Ordering.{eq_by_cmp}
+use Rattle.std.specs.List.{Contains}
 use Rattle.gr_text.specs.Path.{folder}
 use Rattle.gr_text.specs.Packages.{is_go, package_files}
-use Rattle.gr_text.specs.Workspace.{Workspace, path_cmp}
+use Rattle.gr_text.specs.Workspace.{Workspace}
 use Rattle.gr_graph.specs.Parsed.{AreParsed}
 use Rattle.gr_graph.specs.Graphs.{paths_of}
 use Rattle.gr_graph.specs.declared.package.ParsedPackage.{ParsedPackage}
@@ -14,13 +13,13 @@ use Rattle.gr_graph.specs.declared.package.ParsedPackage.{ParsedPackage}
 abbrev pub DiffersOnlyIn : List (List ℕ) → Workspace → Workspace → Type 0
 DiffersOnlyIn folders before after = (path : List ℕ) → is_go path ≡ true → (Contains folders (folder path) → ⊥) → files.get after path ≡ files.get before path
 
+-- a Go file at none of these paths has the same text before and after, or is in neither
+abbrev pub DiffersOnlyAt : List (List ℕ) → Workspace → Workspace → Type 0
+DiffersOnlyAt paths before after = (path : List ℕ) → is_go path ≡ true → (Contains paths path → ⊥) → files.get after path ≡ files.get before path
+
 -- the package has the files of its folder, parsed
 abbrev pub HasFiles : Workspace → ParsedPackage → Type 0
 HasFiles w p = AreParsed (package_files w p.path.items) p.trees.items p.faulty.items
-
--- whether the package's path is not among the folders
-abbrev pub is_outside : List (List ℕ) → ParsedPackage → Bool
-is_outside folders p = not (list_any (eq_by_cmp path_cmp p.path.items) folders)
 
 -- a Go file of none of the packages
 abbrev pub IsOfNone : List ParsedPackage → List ℕ → Type 0

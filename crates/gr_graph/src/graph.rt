@@ -9,7 +9,7 @@ ghost use Rattle.gr_graph.specs.Changed.{KeepsPath};
 ghost use Rattle.gr_graph.specs.Filling.{names};
 ghost use Rattle.gr_graph.specs.Parts.{HasFilesOf};
 ghost use Rattle.gr_graph.specs.Reaching.{AreBackMarks, AreMarkedAbove, BuildsOn, MarkImporting, MarkReaching, MarksAbove};
-ghost use Rattle.gr_graph.specs.Staying.{DiffersOnlyIn, HasFiles};
+ghost use Rattle.gr_graph.specs.Staying.{DiffersOnlyAt, DiffersOnlyIn, HasFiles};
 ghost use Rattle.gr_graph.specs.declared.package.ParsedPackage.{ParsedPackage};
 ghost use Rattle.gr_graph.specs.Graphs.{
   paths_of,
@@ -27,10 +27,9 @@ use crate::part::{numbered, part_links};
 use crate::rows::rows;
 use crate::shared_links::SharedLinks;
 use crate::shared_package::{SharedPackage, number_of};
-use crate::staying::packages_outside;
-use gr_text::Files;
+use crate::updated::updated;
+use gr_text::{Files, Path};
 use std::alloc::{AllocError, Global};
-use std::collections::BTreeSet;
 use std::marker::Model;
 use std::sync::Arc;
 
@@ -83,24 +82,23 @@ impl Graph {
         Graph::made(alloc, None, files, packages)
     }
 
-    /// The graph of other files, whose Go files differ from those of the graph before only in some folders. Packages at
-    /// other paths are shared, and only files in these folders are looked at, and parsed where their text is new.
+    /// The graph of other files, whose Go files differ from those of the graph before only at some paths. Packages at the folders of
+    /// other paths are shared, and only files in the folders of these are looked at, and parsed where their text is new.
     pub fn changed(
         alloc: Global,
         before: &Graph,
         files: Files,
-        folders: &BTreeSet<&[u8]>,
+        paths: &[&Path],
     ) -> Result<Graph, AllocError>
-        requires { DiffersOnlyIn (names folders.now.keys) before.now files }
+        requires { DiffersOnlyAt (names paths.now) before.now files }
         ensures { IfOk result (λ graph. graph ≡ files) }
     {
         let old: &Parts = &before.parts;
-        let fresh = folder_packages(alloc, &old.packages, folders, &files)?;
+        let fresh = folder_packages(alloc, &old.packages, &files, paths)?;
         if keep_paths(&old.packages, &fresh) {
             return Graph::replaced(alloc, before, &fresh, files);
         }
-        let staying = packages_outside(alloc, &old.packages, folders)?;
-        let packages = packages(alloc, &fresh, &staying, &files)?;
+        let packages = updated(&old.packages, &fresh)?;
         Graph::made(alloc, Some(&old.links), files, packages)
     }
 

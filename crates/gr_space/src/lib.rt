@@ -3,8 +3,8 @@
 
 mod change;
 mod fits;
-mod folders;
 mod made_change;
+mod named;
 mod plan;
 mod snapshot;
 

@@ -6,7 +6,7 @@ ghost use Rattle.gr_graph.specs.Filling.{names};
 ghost use Rattle.gr_graph.specs.Staying.{DiffersOnlyIn};
 
 use crate::change::{Change, ChangeKind};
-use crate::folders::named_folders;
+use crate::named::{named_folders, named_paths};
 use crate::snapshot::Snapshot;
 use gr_edit::{EditSet, Prepared, prepare};
 use gr_graph::Graph;
@@ -42,8 +42,8 @@ impl Model for MadeChange {
     ghost invariant = { λ a. IsMade a.change };
 }
 
-/// The graph of the files that an edit set makes of those of a graph. Only packages in whose folder it names a file are
-/// looked at.
+/// The graph of the files that an edit set makes of those of a graph. Of the packages in whose
+/// folders it names files only these files are looked at.
 fn graph_after(
     alloc: Global,
     base: &Graph,
@@ -54,8 +54,8 @@ fn graph_after(
     requires files { files ≡ edited edits.now base.now }
     ensures { IfOk result (λ graph. graph ≡ files) }
 {
-    let folders = named_folders(alloc, edits)?;
-    Graph::changed(alloc, base, files, &folders)
+    let paths = named_paths(alloc, edits)?;
+    Graph::changed(alloc, base, files, &paths)
 }
 
 impl MadeChange {

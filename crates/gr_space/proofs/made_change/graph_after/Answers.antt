@@ -1,12 +1,15 @@
--- The files outside the folders that are named are the same after the edit set.
-use Rattle.std.proofs.Common.{sym, subst}
+-- The files at no path that is named are the same after the edit set.
+use Rattle.std.proofs.Common.{List, ℕ, Bor, sym, subst}
+use Rattle.std.specs.List.{Contains}
 use Rattle.gr_text.specs.Workspace.{Workspace}
 use Rattle.gr_graph.specs.Filling.{names}
-use Rattle.gr_graph.specs.Staying.{DiffersOnlyIn}
-use Rattle.gr_space.proofs.NamedFolders.{differs_only_in}
+use Rattle.gr_graph.specs.Staying.{DiffersOnlyAt}
+use Rattle.gr_space.proofs.NamedPaths.{differs_only_at}
 use Rattle.gr_space.proofs.made_change.graph_after.Goals as goal
 
 pub changed-requires : goal.changed-requires
 changed-requires c =
-    subst (λ (w : Workspace). DiffersOnlyIn (names c.in_ok-folders.folders.keys) c.args.base.now w) (sym c.requires.files)
-    (differs_only_in c.args.edits.now c.args.base.now c.requires.fits (names c.in_ok-folders.folders.keys) c.in_ok-folders.ensures)
+    let paths = names c.deref.result.now in
+    subst (λ (w : Workspace). DiffersOnlyAt paths c.args.base.now w) (sym c.requires.files)
+    (differs_only_at c.args.edits.now c.args.base.now c.requires.fits paths
+    (λ p named. subst (λ (ps : List (Bor (List ℕ))). Contains (names ps) p) (sym c.deref.ensures.value) (c.in_ok-paths.ensures p named)))

@@ -4,10 +4,10 @@ use Rattle.std.proofs.lemmas.Result.{IfOk-weaker}
 use Rattle.gr_edit.specs.EditSet.{FileChanges}
 use Rattle.gr_graph.specs.Filling.{names}
 use Rattle.gr_graph.specs.Staying.{DiffersOnlyIn}
-use Rattle.gr_space.specs.Folders.{HoldsFolders, IsNamed}
+use Rattle.gr_space.specs.Named.{HoldsFolders, IsNamed}
 use Rattle.gr_space.specs.Made.{IsMade}
 use Rattle.gr_space.specs.declared.change.Change.{Change}
-use Rattle.gr_space.proofs.NamedFolders.{made_differs}
+use Rattle.gr_space.proofs.NamedPaths.{made_differs}
 use Rattle.gr_space.proofs.made_change.MadeChange.folders.Goals as goal
 
 pub returns : goal.returns

@@ -1,0 +1,344 @@
+-- The packages after files changed, where some come and some go, are those of the files.
+use Rattle.std.proofs.Common.{◌≡◌, ℕ, zero, suc, ◌+◌, ◌<◌, ◌≤◌, ◌⊎◌, inl, inr, Bool, true, false, List, [], ◌∷◌, ◌++◌, length, take, get_or, Some, slice_get}
+use Rattle.std.proofs.Common.{refl, sym, ap, subst, ◌∙◌, ⊎_elim, arith}
+use Rattle.std.specs.declared.cmp.Ordering.TheVariants.{Less}
+use Rattle.std.specs.Cmp.{tied_itself}
+use Rattle.std.specs.FinMap.{contains_key-keys, entries}
+use Rattle.std.specs.List.{Contains, insert, list_any, remove}
+use Rattle.std.specs.List.Sorted.{IsPermutation, IsStrictlySortedBy}
+use Rattle.std.specs.Ordering.{eq_by_cmp, is_lt}
+use Rattle.std.proofs.lemmas.Bool.{true≢false, cases_lt}
+use Rattle.std.proofs.lemmas.List.{length-map, take_more}
+use Rattle.std.proofs.lemmas.List.Edits.{get_or-insert_above, get_or-insert_at, get_or-insert_below, get_or-remove_above, get_or-remove_below}
+use Rattle.std.proofs.lemmas.List.Edits.{length-insert, length-remove}
+use Rattle.std.proofs.lemmas.List.Elements.{All-contains, Contains-append_left, Contains-push, Contains-push_cases}
+use Rattle.std.proofs.lemmas.List.Sorted.{Contains-permutation, IsPermutation-insert, IsPermutation-remove, IsPermutation-sym}
+use Rattle.std.proofs.lemmas.Map.Keys.{Less-from_sorted, sorted_from_all_adjacent, sorted_tail}
+use Rattle.std.proofs.lemmas.Map.Views.{Contains-from_any}
+use Rattle.std.proofs.lemmas.Option.{get_or_from_slice_get, same_Some, slice_get-get_or, slice_get_within}
+use Rattle.gr_text.specs.Packages.{folders, package_files, package_paths}
+use Rattle.gr_text.specs.Workspace.{Workspace, path_cmp}
+use Rattle.gr_text.proofs.WorkspaceLaws.{path_cmp_total}
+use Rattle.gr_graph.specs.Changed.{has_file, has_some}
+use Rattle.gr_graph.specs.Graphs.{paths_of}
+use Rattle.gr_graph.specs.NamedFiles.{AreFresh, ArePackages}
+use Rattle.gr_graph.specs.Parsed.{AreParsed}
+use Rattle.gr_graph.specs.Staying.{HasFiles}
+use Rattle.gr_graph.specs.Updated.{AreUpdated, IsPlace, Puts, TakesOut}
+use Rattle.gr_graph.specs.declared.package.ParsedPackage.{ParsedPackage}
+use Rattle.gr_graph.proofs.ChangedPackages.{some_parsed, with_path}
+use Rattle.gr_graph.proofs.Collected.{none_held}
+use Rattle.gr_graph.proofs.Filled.{path_at}
+use Rattle.gr_graph.proofs.NamedFiles.{is_among, path_in}
+use Rattle.gr_graph.proofs.PackagePaths.{exact_names, has_folder, one_number, paths_are}
+use Rattle.gr_graph.proofs.PartPackages.{folder_found, not_true}
+use Rattle.gr_graph.proofs.SameFiles.{same_files}
+use Rattle.gr_graph.proofs.SortedLists.{first_in, first_or_later, later_in}
+use Rattle.gr_graph.proofs.StayingPackages.{any_of}
+
+-- ---- paths of packages after an edit
+paths_insert : (ps : List ParsedPackage) (i : ℕ) (x : ParsedPackage) → paths_of (insert ps i x) ≡ insert (paths_of ps) i x.path.items
+paths_insert [] zero x = refl
+paths_insert [] (suc i) x = refl
+paths_insert (p ∷ ps) zero x = refl
+paths_insert (p ∷ ps) (suc i) x = ap (λ ks. p.path.items ∷ ks) (paths_insert ps i x)
+
+paths_remove : (ps : List ParsedPackage) (i : ℕ) → paths_of (remove ps i) ≡ remove (paths_of ps) i
+paths_remove [] zero = refl
+paths_remove [] (suc i) = refl
+paths_remove (p ∷ ps) zero = refl
+paths_remove (p ∷ ps) (suc i) = ap (λ ks. p.path.items ∷ ks) (paths_remove ps i)
+
+less_at : (a b x y : List ℕ) → x ≡ a → y ≡ b → path_cmp a b ≡ Less → path_cmp x y ≡ Less
+less_at a b x y e f h = ap (λ z. path_cmp z y) e ∙ ap (path_cmp a) f ∙ h
+
+not_less : (x : List ℕ) → path_cmp x x ≡ Less → ⊥
+not_less x less = true≢false (ap is_lt (sym less ∙ tied_itself path_cmp_total x))
+
+-- a path that stands between others is none of them
+place_apart : (ks : List (List ℕ)) (q : List ℕ) (i : ℕ) → IsPlace ks q i → Contains ks q → ⊥
+place_apart ks q i place (k, within, is) =
+    let at : get_or ks k [] ≡ q = get_or_from_slice_get ks k q [] (slice_get-get_or ks k q within ∙ ap Some is) in
+    ⊎_elim
+    (λ (h : k < i). not_less q (less_at (get_or ks k []) q q q (sym at) refl (place.below k h)))
+    (λ (h : i ≤ k). not_less q (less_at q (get_or ks k []) q q refl (sym at) (place.above k h within)))
+    (cases_lt k i)
+
+insert_sorted : (ks : List (List ℕ)) (q : List ℕ) (i : ℕ) → IsStrictlySortedBy path_cmp ks → IsPlace ks q i → IsStrictlySortedBy path_cmp (insert ks i q)
+insert_sorted ks q i sorted place = sorted_from_all_adjacent path_cmp_total (insert ks i q) [] (λ k below. next k (omega (arith, below, long)))
+  where
+    long : length (insert ks i q) ≡ length ks + 1
+    long = length-insert ks i q place.within
+
+    behind : (j : ℕ) → i ≤ j → j + 1 < length ks → path_cmp (get_or (insert ks i q) (j + 1) []) (get_or (insert ks i q) (j + 1 + 1) []) ≡ Less
+    behind j above within = less_at (get_or ks j []) (get_or ks (j + 1) []) (get_or (insert ks i q) (j + 1) []) (get_or (insert ks i q) (j + 1 + 1) [])
+        (get_or-insert_above ks i q [] j above place.within) (get_or-insert_above ks i q [] (j + 1) (omega (arith, above)) place.within)
+        (Less-from_sorted path_cmp ks j (j + 1) [] sorted (omega arith) within)
+
+    behind_next : (j : ℕ) → i ≤ j → j + 1 < length ks → path_cmp (get_or (insert ks i q) (suc j) []) (get_or (insert ks i q) (suc j + 1) []) ≡ Less
+    behind_next j above within =
+        let e : j + 1 ≡ suc j = omega arith in
+        subst (λ (n : ℕ). path_cmp (get_or (insert ks i q) n []) (get_or (insert ks i q) (n + 1) []) ≡ Less) e (behind j above within)
+
+    at_place : (k : ℕ) → k ≡ i → k < length ks → path_cmp (get_or (insert ks i q) k []) (get_or (insert ks i q) (k + 1) []) ≡ Less
+    at_place k here within = less_at q (get_or ks k []) (get_or (insert ks i q) k []) (get_or (insert ks i q) (k + 1) [])
+        (ap (λ n. get_or (insert ks i q) n []) here ∙ get_or-insert_at ks i q [] place.within)
+        (get_or-insert_above ks i q [] k (omega (arith, here)) place.within)
+        (place.above k (omega (arith, here)) within)
+
+    before_place : (k : ℕ) → k + 1 ≡ i → path_cmp (get_or (insert ks i q) k []) (get_or (insert ks i q) (k + 1) []) ≡ Less
+    before_place k here = less_at (get_or ks k []) q (get_or (insert ks i q) k []) (get_or (insert ks i q) (k + 1) [])
+        (get_or-insert_below ks i q [] k (omega (arith, here)) place.within)
+        (ap (λ n. get_or (insert ks i q) n []) here ∙ get_or-insert_at ks i q [] place.within)
+        (place.below k (omega (arith, here)))
+
+    front : (k : ℕ) → k + 1 < i → path_cmp (get_or (insert ks i q) k []) (get_or (insert ks i q) (k + 1) []) ≡ Less
+    front k below = less_at (get_or ks k []) (get_or ks (k + 1) []) (get_or (insert ks i q) k []) (get_or (insert ks i q) (k + 1) [])
+        (get_or-insert_below ks i q [] k (omega (arith, below)) place.within) (get_or-insert_below ks i q [] (k + 1) below place.within)
+        (Less-from_sorted path_cmp ks k (k + 1) [] sorted (omega arith) (omega (arith, below, place.within)))
+
+    next : (k : ℕ) → k < length ks → path_cmp (get_or (insert ks i q) k []) (get_or (insert ks i q) (k + 1) []) ≡ Less
+    next zero within = ⊎_elim
+        (λ (h : 0 < i). ⊎_elim (λ (l : 0 + 1 < i). front 0 l) (λ (g : i ≤ 0 + 1). before_place 0 (omega arith)) (cases_lt (0 + 1) i))
+        (λ (h : i ≤ 0). at_place 0 (omega arith) within)
+        (cases_lt 0 i)
+    next (suc j) within = ⊎_elim
+        (λ (h : suc j < i). ⊎_elim (λ (l : suc j + 1 < i). front (suc j) l) (λ (g : i ≤ suc j + 1). before_place (suc j) (omega arith))
+        (cases_lt (suc j + 1) i))
+        (λ (h : i ≤ suc j). ⊎_elim (λ (l : j < i). at_place (suc j) (omega arith) within) (λ (g : i ≤ j). behind_next j g (omega (arith, within)))
+        (cases_lt j i))
+        (cases_lt (suc j) i)
+
+module _ (ks : List (List ℕ)) (q : List ℕ) (n : ℕ) (sorted : IsStrictlySortedBy path_cmp ks) (at : slice_get ks n ≡ Some q) where
+  inside : n < length ks
+  inside = slice_get_within ks n q at
+
+  shorter : length (remove ks n) + 1 ≡ length ks
+  shorter = length-remove ks n inside
+
+  own : get_or ks n [] ≡ q
+  own = get_or_from_slice_get ks n q [] at
+
+  remove_sorted : IsStrictlySortedBy path_cmp (remove ks n)
+  remove_sorted = sorted_from_all_adjacent path_cmp_total (remove ks n) [] (λ k below.
+      let within : k + 1 + 1 < length ks = omega (arith, below, shorter) in
+      ⊎_elim
+      (λ (h : k < n). ⊎_elim
+      (λ (l : k + 1 < n). less_at (get_or ks k []) (get_or ks (k + 1) []) (get_or (remove ks n) k []) (get_or (remove ks n) (k + 1) [])
+      (get_or-remove_below ks n [] k h inside) (get_or-remove_below ks n [] (k + 1) l inside)
+      (Less-from_sorted path_cmp ks k (k + 1) [] sorted (omega arith) (omega (arith, within))))
+      (λ (g : n ≤ k + 1). less_at (get_or ks k []) (get_or ks (k + 1 + 1) []) (get_or (remove ks n) k []) (get_or (remove ks n) (k + 1) [])
+      (get_or-remove_below ks n [] k h inside) (get_or-remove_above ks n [] (k + 1) g inside)
+      (Less-from_sorted path_cmp ks k (k + 1 + 1) [] sorted (omega arith) within))
+      (cases_lt (k + 1) n))
+      (λ (h : n ≤ k). less_at (get_or ks (k + 1) []) (get_or ks (k + 1 + 1) []) (get_or (remove ks n) k []) (get_or (remove ks n) (k + 1) [])
+      (get_or-remove_above ks n [] k h inside) (get_or-remove_above ks n [] (k + 1) (omega arith) inside)
+      (Less-from_sorted path_cmp ks (k + 1) (k + 1 + 1) [] sorted (omega arith) within))
+      (cases_lt k n))
+
+  remove_place : IsPlace (remove ks n) q n
+  remove_place = record {
+    within = omega (arith, inside, shorter);
+    below = λ k h. less_at (get_or ks k []) (get_or ks n []) (get_or (remove ks n) k []) q (get_or-remove_below ks n [] k h inside) (sym own)
+        (Less-from_sorted path_cmp ks k n [] sorted h inside);
+    above = λ k h within. less_at (get_or ks n []) (get_or ks (k + 1) []) q (get_or (remove ks n) k []) (sym own) (get_or-remove_above ks n [] k h inside)
+        (Less-from_sorted path_cmp ks n (k + 1) [] sorted (omega (arith, h)) (omega (arith, within, shorter)));
+  }
+
+pub number_within : (ps : List ParsedPackage) (n : ℕ) (q : List ℕ) → slice_get (paths_of ps) n ≡ Some q → n < length ps
+number_within ps n q at = subst (λ (m : ℕ). n < m) (length-map ps (λ (p : ParsedPackage). p.path.items)) (slice_get_within (paths_of ps) n q at)
+
+pub place_within : (path : List ℕ) (old new : List ParsedPackage) (place : ℕ) → TakesOut path old new place → place ≤ length new
+place_within path old new place out = subst (λ (m : ℕ). place ≤ m) (length-map new (λ (p : ParsedPackage). p.path.items)) out.stands.within
+
+-- ---- one is taken out
+pub none_out : (path : List ℕ) (ps : List ParsedPackage) (i : ℕ) → IsStrictlySortedBy path_cmp (paths_of ps) → IsPlace (paths_of ps) path i →
+    TakesOut path ps ps i
+none_out path ps i sorted place = record { sorted = sorted; stands = place; from = λ p has. has; kept = λ p has apart. has }
+
+module _ (path : List ℕ) (ps : List ParsedPackage) (n : ℕ) (at : slice_get (paths_of ps) n ≡ Some path) (below : n < length ps) (p : ParsedPackage) where
+  abbrev goes : ParsedPackage
+  goes = get_or ps n p
+
+  goes_path : goes.path.items ≡ path
+  goes_path = same_Some goes.path.items path (sym (path_at ps n goes (slice_get-get_or ps n p below)) ∙ at)
+
+  goes_out : IsPermutation ps (goes ∷ remove ps n)
+  goes_out = IsPermutation-remove ps n goes below (same_Some goes (get_or ps n goes) (sym (slice_get-get_or ps n p below) ∙ slice_get-get_or ps n goes below))
+
+  out_from : Contains (remove ps n) p → Contains ps p
+  out_from has = Contains-permutation (goes ∷ remove ps n) ps p (IsPermutation-sym ps (goes ∷ remove ps n) goes_out) (later_in goes (remove ps n) p has)
+
+  out_kept : Contains ps p → (p.path.items ≡ path → ⊥) → Contains (remove ps n) p
+  out_kept has apart = ⊎_elim
+      (λ (here : goes ≡ p). absurd (apart (ap (λ (y : ParsedPackage). y.path.items) (sym here) ∙ goes_path)))
+      (λ (later : Contains (remove ps n) p). later)
+      (first_or_later goes (remove ps n) p (Contains-permutation ps (goes ∷ remove ps n) p goes_out has))
+
+pub one_out : (path : List ℕ) (ps new : List ParsedPackage) (n : ℕ) → IsStrictlySortedBy path_cmp (paths_of ps) → slice_get (paths_of ps) n ≡ Some path →
+    n < length ps → new ≡ remove ps n → TakesOut path ps new n
+one_out path ps new n sorted at within is = subst (λ (l : List ParsedPackage). TakesOut path ps l n) (sym is) (record {
+  sorted = subst (IsStrictlySortedBy path_cmp) (sym (paths_remove ps n)) (remove_sorted (paths_of ps) path n sorted at);
+  stands = subst (λ ks. IsPlace ks path n) (sym (paths_remove ps n)) (remove_place (paths_of ps) path n sorted at);
+  from = λ p has. out_from path ps n at within p has;
+  kept = λ p has apart. out_kept path ps n at within p has apart;
+})
+
+-- ---- and another put there
+module _ (one : ParsedPackage) (old middle : List ParsedPackage) (place : ℕ) (out : TakesOut one.path.items old middle place) where
+  out_apart : (p : ParsedPackage) → Contains middle p → p.path.items ≡ one.path.items → ⊥
+  out_apart p has same = place_apart (paths_of middle) one.path.items place out.stands (subst (Contains (paths_of middle)) same (path_in middle p has))
+
+  pub puts_none : has_file one ≡ false → Puts one old middle
+  puts_none none = record {
+    sorted = out.sorted;
+    each = λ p has. inr (out.from p has, out_apart p has);
+    own = λ some. absurd (true≢false (sym some ∙ none));
+    kept = out.kept;
+  }
+
+  pub puts_one : (new : List ParsedPackage) → has_file one ≡ true → new ≡ insert middle place one → Puts one old new
+  puts_one new some is = subst (Puts one old) (sym is) (record {
+    sorted = subst (IsStrictlySortedBy path_cmp) (sym (paths_insert middle place one))
+        (insert_sorted (paths_of middle) one.path.items place out.sorted out.stands);
+    each = λ p has. ⊎_elim
+        (λ (here : one ≡ p). inl (sym here, some))
+        (λ (later : Contains middle p). inr (out.from p later, out_apart p later))
+        (first_or_later one middle p
+        (Contains-permutation (insert middle place one) (one ∷ middle) p (IsPermutation-sym (one ∷ middle) (insert middle place one) same) has));
+    own = λ _. Contains-permutation (one ∷ middle) (insert middle place one) one same (first_in one middle);
+    kept = λ p has apart. Contains-permutation (one ∷ middle) (insert middle place one) p same (later_in one middle p (out.kept p has apart));
+  })
+    where
+      same : IsPermutation (one ∷ middle) (insert middle place one)
+      same = IsPermutation-insert middle place one
+
+-- ---- one after another
+pub updated_none : (before packages : List ParsedPackage) → IsStrictlySortedBy path_cmp (paths_of before) → packages ≡ before → AreUpdated before [] packages
+updated_none before packages sorted same = subst (AreUpdated before []) (sym same) (record {
+  sorted = sorted;
+  each = λ p has. inr (has, λ none. none_held p.path.items none);
+  own = λ p none some. absurd (none_held p none);
+  kept = λ p has apart. has;
+})
+
+-- the first ones have other paths than the next
+take_apart : (ps : List ParsedPackage) (k : ℕ) (q : List ℕ) → IsStrictlySortedBy path_cmp (paths_of ps) → slice_get (paths_of ps) k ≡ Some q →
+    Contains (paths_of (take k ps)) q → ⊥
+take_apart [] zero q sorted at has = none_held q has
+take_apart [] (suc k) q sorted at has = none_held q has
+take_apart (p ∷ ps) zero q sorted at has = none_held q has
+take_apart (p ∷ ps) (suc k) q sorted at has = ⊎_elim
+    (λ (here : p.path.items ≡ q). zero_apart k (one_number (paths_of (p ∷ ps)) sorted 0 (suc k) q (ap Some here) at))
+    (λ (later : Contains (paths_of (take k ps)) q). take_apart ps k q (sorted_tail path_cmp p.path.items (paths_of ps) sorted) at later)
+    (first_or_later p.path.items (paths_of (take k ps)) q has)
+  where
+    zero_apart : (j : ℕ) → 0 ≡ suc j → ⊥
+    zero_apart j e = absurd (omega (arith, e))
+
+pub updated_more : (before fresh old new : List ParsedPackage) (k : ℕ) (x : ParsedPackage) → IsStrictlySortedBy path_cmp (paths_of fresh) → k < length fresh →
+    x ≡ get_or fresh k x → AreUpdated before (take k fresh) old → Puts x old new → AreUpdated before (take (k + 1) fresh) new
+updated_more before fresh old new k x sorted below is so puts =
+    subst (λ (l : List ParsedPackage). AreUpdated before l new) (sym more) (record {
+      sorted = puts.sorted;
+      each = λ p has. ⊎_elim
+          (λ (here : (p ≡ x) × (has_file x ≡ true)).
+          inl (subst (Contains (first ++ x ∷ [])) (sym here.0) (Contains-push first x), ap has_file here.0 ∙ here.1))
+          (λ (stays : Contains old p × (p.path.items ≡ x.path.items → ⊥)). ⊎_elim
+          (λ (fresh_one : Contains first p × (has_file p ≡ true)). inl (Contains-append_left first (x ∷ []) p fresh_one.0, fresh_one.1))
+          (λ (was : Contains before p × (Contains (paths_of first) p.path.items → ⊥)). inr (
+            was.0,
+            λ among. ⊎_elim was.1
+                (λ (same : x.path.items ≡ p.path.items). stays.1 (sym same)) (cases p.path.items among),
+          ))
+          (so.each p stays.0))
+          (puts.each p has);
+      own = λ p has some. ⊎_elim
+          (λ (early : Contains first p). puts.kept p (so.own p early some)
+          (λ same. take_apart fresh k x.path.items sorted (path_at fresh k x (slice_get-get_or fresh k x below ∙ ap Some (sym is)))
+          (subst (Contains (paths_of first)) same (path_in first p early))))
+          (λ (here : x ≡ p). subst (Contains new) here (puts.own (ap has_file here ∙ some)))
+          (Contains-push_cases first x p has);
+      kept = λ p has apart. puts.kept p (so.kept p has (λ among. apart (early_path p.path.items among)))
+          (λ same. apart (subst (Contains (paths_of (first ++ x ∷ []))) (sym same) (path_in (first ++ x ∷ []) x (Contains-push first x))));
+    })
+  where
+    first : List ParsedPackage
+    first = take k fresh
+
+    more : take (k + 1) fresh ≡ first ++ x ∷ []
+    more = take_more fresh k x below ∙ ap (λ y. first ++ y ∷ []) (sym is)
+
+    cases : (q : List ℕ) → Contains (paths_of (first ++ x ∷ [])) q → Contains (paths_of first) q ⊎ (x.path.items ≡ q)
+    cases q among =
+        let p = with_path (first ++ x ∷ []) q among in
+        ⊎_elim
+        (λ (early : Contains first p.0). inl (subst (Contains (paths_of first)) p.2 (path_in first p.0 early)))
+        (λ (here : x ≡ p.0). inr (ap (λ (y : ParsedPackage). y.path.items) here ∙ p.2))
+        (Contains-push_cases first x p.0 p.1)
+
+    early_path : (q : List ℕ) → Contains (paths_of first) q → Contains (paths_of (first ++ x ∷ [])) q
+    early_path q among =
+        let p = with_path first q among in
+        subst (Contains (paths_of (first ++ x ∷ []))) p.2 (path_in (first ++ x ∷ []) p.0 (Contains-append_left first (x ∷ []) p.0 p.1))
+
+-- ---- all of them are those of the files
+module _ (v w : Workspace) (before fresh packages : List ParsedPackage) (are : ArePackages v before) (fresh_are : AreFresh v w fresh)
+    (updated : AreUpdated before fresh packages) where
+  abbrev among : List ℕ → List (List ℕ) → Bool
+  among q ks = list_any (eq_by_cmp path_cmp q) ks
+
+  among_is : (q : List ℕ) (ks : List (List ℕ)) (b : Bool) → (b ≡ true → Contains ks q) → (Contains ks q → b ≡ true) → among q ks ≡ b
+  among_is q ks true has is = any_of q ks (has refl)
+  among_is q ks false has is = not_true (among q ks) (λ t. true≢false (sym (is (Contains-from_any exact_names q ks t))))
+
+  fresh_some : (p : ParsedPackage) → Contains fresh p → has_some (package_files w p.path.items) ≡ has_file p
+  fresh_some p has = some_parsed (All-contains (HasFiles w) fresh p fresh_are.files has)
+
+  stays : (q : List ℕ) → (Contains (paths_of fresh) q → ⊥) → package_files w q ≡ package_files v q
+  stays q apart = same_files (paths_of fresh) v w fresh_are.differs q apart
+
+  some_before : (q : List ℕ) → has_some (package_files v q) ≡ among q (paths_of before)
+  some_before q = sym (folder_found q (entries v)) ∙ sym (has_folder v q) ∙ contains_key-keys (folders v) q ∙ ap (among q) (sym are.paths)
+
+  own_path : (q : List ℕ) → (p : ParsedPackage) → Contains fresh p → p.path.items ≡ q → among q (paths_of packages) ≡ has_some (package_files w q)
+  own_path q p has same =
+      let some = ap (λ (x : List ℕ). has_some (package_files w x)) (sym same) ∙ fresh_some p has in
+      among_is q (paths_of packages) (has_some (package_files w q))
+      (λ is. subst (Contains (paths_of packages)) same (path_in packages p (updated.own p has (sym some ∙ is))))
+      (λ there.
+      let x = with_path packages q there in
+      ⊎_elim
+      (λ (new : Contains fresh x.0 × (has_file x.0 ≡ true)). ap (λ (y : List ℕ). has_some (package_files w y)) (sym x.2) ∙ fresh_some x.0 new.0 ∙ new.1)
+      (λ (old : Contains before x.0 × (Contains (paths_of fresh) x.0.path.items → ⊥)).
+      absurd (old.1 (subst (Contains (paths_of fresh)) (same ∙ sym x.2) (path_in fresh p has))))
+      (updated.each x.0 x.1))
+
+  other_path : (q : List ℕ) → (Contains (paths_of fresh) q → ⊥) → among q (paths_of packages) ≡ has_some (package_files w q)
+  other_path q apart =
+      let some : has_some (package_files w q) ≡ among q (paths_of before) = ap has_some (stays q apart) ∙ some_before q in
+      among_is q (paths_of packages) (has_some (package_files w q))
+      (λ is.
+      let x = with_path before q (Contains-from_any exact_names q (paths_of before) (sym some ∙ is)) in
+      subst (Contains (paths_of packages)) x.2
+      (path_in packages x.0 (updated.kept x.0 x.1 (λ has. apart (subst (Contains (paths_of fresh)) x.2 has)))))
+      (λ there.
+      let x = with_path packages q there in
+      ⊎_elim
+      (λ (new : Contains fresh x.0 × (has_file x.0 ≡ true)). absurd (apart (subst (Contains (paths_of fresh)) x.2 (path_in fresh x.0 new.0))))
+      (λ (old : Contains before x.0 × (Contains (paths_of fresh) x.0.path.items → ⊥)).
+      some ∙ any_of q (paths_of before) (subst (Contains (paths_of before)) x.2 (path_in before x.0 old.0)))
+      (updated.each x.0 x.1))
+
+  pub updated_paths : paths_of packages ≡ package_paths w
+  updated_paths = sym (paths_are w (paths_of packages) updated.sorted (λ q. is_among q (paths_of fresh)
+      (λ has. let p = with_path fresh q has in own_path q p.0 p.1 p.2)
+      (λ apart. other_path q apart)
+      ∙ sym (folder_found q (entries w))))
+
+  pub updated_files : (i : ℕ) (p : ParsedPackage) → slice_get packages i ≡ Some p → HasFiles w p
+  updated_files i p at = ⊎_elim
+      (λ (new : Contains fresh p × (has_file p ≡ true)). All-contains (HasFiles w) fresh p fresh_are.files new.0)
+      (λ (old : Contains before p × (Contains (paths_of fresh) p.path.items → ⊥)).
+      subst (λ es. AreParsed es p.trees.items p.faulty.items) (sym (stays p.path.items old.1)) (All-contains (HasFiles v) before p are.files old.0))
+      (updated.each p (i, slice_get_within packages i p at, get_or_from_slice_get packages i p p at))
