@@ -12,7 +12,7 @@ use Rattle.gr_graph.specs.Graphs.{HoldsPackages}
 use Rattle.gr_graph.specs.Packages.{IsInClosure, AreClosureTexts}
 use Rattle.gr_graph.specs.Parts.{HasFilesOf, IsNumbered}
 use Rattle.gr_graph.proofs.Asked.{has_file, number}
-use Rattle.gr_space.proofs.NamedFolders.{one_option}
+use Rattle.gr_space.proofs.NamedPaths.{one_option}
 use Rattle.gr_verdict.proofs.Members.{passes, passed}
 use Rattle.gr_verdict.proofs.PackageFiles.{in_folder}
 

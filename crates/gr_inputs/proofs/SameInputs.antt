@@ -24,7 +24,7 @@ use Rattle.gr_graph.proofs.Asked.{has_file, number}
 use Rattle.gr_graph.proofs.OneFile.{file_or_fault}
 use Rattle.gr_graph.proofs.PackagePaths.{paths_sorted}
 use Rattle.gr_graph.proofs.SameFiles.{one_list}
-use Rattle.gr_space.proofs.NamedFolders.{one_option}
+use Rattle.gr_space.proofs.NamedPaths.{one_option}
 use Rattle.gr_verdict.specs.Earlier.{tree_file}
 use Rattle.gr_verdict.proofs.Closed.{to_package}
 use Rattle.gr_verdict.proofs.Members.{nothing_in, first_in, later_in, first_or_later, one_sorted, passes, passed}

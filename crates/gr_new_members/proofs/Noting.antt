@@ -10,9 +10,12 @@ use Rattle.std.proofs.lemmas.Option.{slice_get_within}
 use Rattle.std.proofs.Math.ListN.{set}
 use Rattle.gr_declared.proofs.ByteKeys.{others_stay}
 use Rattle.gr_declared.proofs.Mentioning.{get_set_same, get_set_other}
-use Rattle.gr_declared.proofs.Rooms.{none_there}
 use Rattle.gr_bound.specs.Exports.{number_named}
 use Rattle.gr_new_members.specs.NewNames.{rank_in, rank_of, NotesRank, NotesFirst}
+
+none_there : {X : Type 0} (o : Option X) → is_some o ≡ false → o ≡ None
+none_there None e = refl
+none_there (Some x) e = absurd (true≢false e)
 
 -- a name that has no rank gets one
 pub gets_rank : (old new : BTreeMap (Vec ℕ) ℕ) (key : Vec ℕ) (name : List ℕ) (rank : ℕ) → key.items ≡ name → is_some (number_named old name) ≡ false →

@@ -12,5 +12,5 @@ returns-clause-held c =
       read = c.requires;
       declared = c.in_ok-places.ensures.places;
       bindings = c.in_ok-bindings.ensures w known
-          (subst (λ l. AddsAll l c.hold_all-places.new.bound.items (IsBound w known)) c.new-bound.ensures.items c.in_ok-places.ensures.bound);
+          (subst (λ l. AddsAll l c.hold_all.new.bound.items (IsBound w known)) c.new-bound.ensures.items c.in_ok-places.ensures.bound);
     }
