@@ -3,8 +3,14 @@ use Rattle.std.proofs.Common.{◌+◌, ◌≤◌, ◌↔◌, IsTrue, length, sym
 use Rattle.gr_machine.specs.Machine.{Machine, with_journal}
 use Rattle.gr_machine.specs.Step.{Step, done, entries_due}
 use Rattle.gr_machine.specs.declared.event.Event.TheVariants.{Commit}
+use Rattle.gr_machine.proofs.Legal.{holds_still}
 use Rattle.gr_book.proofs.OnCurrent.{committed_on}
 use Rattle.gr_book.proofs.book.Book.commit_on_current.Goals as goal
+
+pub invariant_of-self-in-Err-1 : goal.invariant_of-self-in-Err-1
+invariant_of-self-in-Err-1 c =
+    holds_still c.self.inside.content c.self.inside.journal.items c.make_room.new.journal.items (vec_capacity c.self.inside.journal)
+    (vec_capacity c.make_room.new.journal) c.make_room.ensures.items c.make_room.ensures.grows c.self.invariant
 
 pub invariant_of-self : goal.invariant_of-self
 invariant_of-self c =
