@@ -1,6 +1,7 @@
 -- The uses of a field or method of another package are the uses of members that are known of a package.
-use Rattle.std.proofs.Common.{ℕ, ◌≡◌, List, sym, subst}
+use Rattle.std.proofs.Common.{ℕ, ◌≡◌, Bool, true, false, not, List, sym, subst}
 use Rattle.std.specs.Prelude.{Option, Some, None}
+use Rattle.std.proofs.lemmas.Bool.{false≢true}
 use Rattle.gr_text.specs.Workspace.{Workspace}
 use Rattle.gr_expr.specs.declared.symbol.Symbol.{Symbol}
 use Rattle.gr_declared.specs.Package.{Package}
@@ -14,6 +15,11 @@ use Rattle.gr_bound.specs.Workspaces.{IsPackageAt, IsUseAt}
 use Rattle.gr_bound.proofs.Adding.{adds_as}
 use Rattle.gr_bound.proofs.Units.{one_at}
 use Rattle.gr_uses.specs.MembersAbroad.{IsMemberAbroad}
+
+-- a test and its contrary do not both hold
+pub not_both : (b : Bool) → not b ≡ true → b ≡ true → ⊥
+not_both true e f = false≢true e
+not_both false e f = false≢true f
 
 module _ (w : Workspace) (known : Verdicts) (n : ℕ) (p : Package) (is : IsPackageAt w known n p) where
   as_member : (d : Declaration) → IsMemberAbroad w known n d → (name : Option (List ℕ)) (u : ℕ) → BindsIn p d name u → BindsByMember p u d

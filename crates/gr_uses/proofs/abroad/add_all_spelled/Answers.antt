@@ -1,6 +1,6 @@
 -- The answers to the goals of `abroad::add_all_spelled`.
-use Rattle.std.proofs.Common.{◌≡◌, map, length, refl, arith}
-use Rattle.std.proofs.lemmas.Option.{slice_get_read}
+use Rattle.std.proofs.Common.{◌≡◌, map, length, arith}
+use Rattle.std.proofs.lemmas.Option.{slice_get-get_or}
 use Rattle.gr_tree.specs.SourceFile.{source_of}
 use Rattle.gr_bound.proofs.Adding.{below_none, below_next}
 use Rattle.gr_uses.proofs.UsedAbroad.{IsSpelledRank, one_place, all_places}
@@ -15,10 +15,9 @@ loop-k-preserved c =
     let name = c.args.name.now in
     let places = c.args.places.now in
     let k = c.loop-k.k in
-    let x = c.index-places-k.result in
     below_next (IsSpelledRank files name places) c.args.spots.now.items c.loop-k.spots.items c.add_spelled.new.spots.items k c.loop-k.invariant
-    (one_place files name places k x c.loop-k.spots.items c.add_spelled.new.spots.items
-    (slice_get_read places (length places) k x refl (omega arith) c.index-places-k.is) c.in_ok-add_spelled.ensures)
+    (one_place files name places k _ c.loop-k.spots.items c.add_spelled.new.spots.items (slice_get-get_or places k _ (omega arith))
+    c.in_ok-add_spelled.ensures)
 
 pub returns : goal.returns
 returns c =
