@@ -7,6 +7,7 @@ use Rattle.std.proofs.Crossing.{crosses}
 use Rattle.std.proofs.MapsCrossing.{crosses as maps}
 use Rattle.gr_scan.specs.contracts.trail.Trail.{the_row as trail}
 use Rattle.gr_scan.specs.contracts.pieces.Pieces.{the_row as pieces}
+use Rattle.gr_tree.specs.contracts.tree.File.{the_row as file}
 use Rattle.gr_tree.specs.contracts.tree.Values.{the_row as values}
 use Rattle.gr_tree.specs.contracts.tree.LocalSpec.{the_row as local_spec}
 use Rattle.gr_tree.specs.contracts.tree.SimpleStmt.{the_row as simple}
@@ -306,11 +307,17 @@ pieces_sent = search (owned, Piece-send, trail_sent) depth 30 fits 50000
 pub pieces_shared : IsSync pieces
 pieces_shared = search (owned, Piece-send, Piece-sync, trail_shared) depth 30 fits 50000
 
+pub file_sent : IsSend file
+file_sent = search (owned, decl_sent) depth 30 fits 50000
+
+pub file_shared : IsSync file
+file_shared = search (owned, decl_shared) depth 30 fits 50000
+
 pub file_parts_sent : IsSend file_parts
-file_parts_sent = search (owned, pieces_sent, decl_sent) depth 30 fits 50000
+file_parts_sent = search (owned, pieces_sent, file_sent, file_shared) depth 30 fits 50000
 
 pub file_parts_shared : IsSync file_parts
-file_parts_shared = search (owned, pieces_shared, decl_shared) depth 30 fits 50000
+file_parts_shared = search (owned, pieces_shared, file_sent, file_shared) depth 30 fits 50000
 
 pub file_tree_sent : IsSend file_tree
 file_tree_sent = search (owned, file_parts_sent, file_parts_shared) depth 30 fits 50000
