@@ -92,7 +92,8 @@ fn add_in_order(bound: &mut Vec<BoundSpot>, own: Vec<BoundSpot>) -> Result<(), A
     Ok(())
 }
 
-/// Adds the bound identifiers of a package that has a number, by what was found once in it.
+/// Adds the bound identifiers of a package that has a number, by what was found once in it; asked as `bind_indexed` is, whose
+/// identifiers it puts in order first.
 pub fn bind_numbered(
     alloc: Global,
     bound: &mut Vec<BoundSpot>,

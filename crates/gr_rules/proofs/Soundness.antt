@@ -86,7 +86,8 @@ mutual
       (followed_agrees (λ z. followed (value_at e (judge w locals e)) (operation w o start z)) h
       (followed_agrees (operation w o start (Value x a)) (value_at_agrees e (sound w locals v)) (operation_agrees w start a b q)))
 
-  pub sound_arguments : (w : World) (locals : Locals) {xs : ArgumentTrees} {ks : List Kind} → AreValues w locals xs ks → AreFound (judge_arguments w locals xs) ks
+  pub sound_arguments : (w : World) (locals : Locals) {xs : ArgumentTrees} {ks : List Kind} → AreValues w locals xs ks →
+      AreFound (judge_arguments w locals xs) ks
   sound_arguments w locals no_argument = record { values = tt; faultless = refl }
   sound_arguments w locals (argument {e} {rest = rest} v more) = let h = value_at_agrees e (sound w locals v) in
       let others = sound_arguments w locals more in

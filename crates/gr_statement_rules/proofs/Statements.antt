@@ -48,7 +48,8 @@ pub init_true : (w : World) (s : Checked) {o : Option InitTree} {before after : 
 init_true w s a absent = a
 init_true w s a (present (an_init r)) = optional_true w s a r
 
-pub header_true : (w : World) (s : Checked) {h : ForTree} {before after : Locals} → IsAt s before → HeaderIsTyped w before h after → IsAt (check_header w s h) after
+pub header_true : (w : World) (s : Checked) {h : ForTree} {before after : Locals} → IsAt s before → HeaderIsTyped w before h after →
+    IsAt (check_header w s h) after
 unfolding check_header
 header_true w s a endless = a
 header_true w s a (a_while {after = after} {e = e} r) = condition_true w s e after a.faultless (held (ConditionIsTyped w) a r)
