@@ -3,7 +3,7 @@ use Rattle.std.specs.Prelude.{◌≡◌, ℕ, ◌<◌, ◌≤◌, true, false, L
 use Rattle.std.specs.FinMap.{find}
 use Rattle.gr_text.specs.Workspace.{path_cmp}
 use Rattle.gr_chunks.specs.Entries.{IsAfterAll, is_after, is_at}
-use Rattle.gr_path_table.specs.declared.table.Entry.{Entry}
+use Rattle.gr_path_table.specs.declared.table.PathEntry.{PathEntry}
 
 -- n entries stand before the path, and the next one, if there is one, does not
 pub record IsPlace {X : Type 0} (path : List ℕ) (es : List (List ℕ × X)) (n : ℕ) : Type 0 where
@@ -18,6 +18,6 @@ pub record IsNumber {X : Type 0} (path : List ℕ) (es : List (List ℕ × X)) (
   pub here : is_at path_cmp path (drop n es) ≡ true
 
 -- the entry has the path, and what stands there
-pub record IsEntry {X : Type 0} (path : List ℕ) (es : List (List ℕ × X)) (e : Entry X) : Type 0 where
+pub record IsEntry {X : Type 0} (path : List ℕ) (es : List (List ℕ × X)) (e : PathEntry X) : Type 0 where
   pub has_path : e.path.now ≡ path
   pub has_value : find path_cmp path es ≡ Some e.value.now

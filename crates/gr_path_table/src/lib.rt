@@ -6,4 +6,4 @@ mod shared_path;
 mod table;
 
 pub use shared_path::SharedPath;
-pub use table::{Entry, PathTable};
+pub use table::{PathEntry, PathTable};

@@ -30,7 +30,7 @@ impl<V> Model for PathTable<V> {
 
 /// An entry of a table, and its number there.
 #[derive(Drop)]
-pub struct Entry<'a, V> {
+pub struct PathEntry<'a, V> {
     pub number: usize,
     pub path: &'a SharedPath,
     pub value: &'a V,
@@ -47,12 +47,12 @@ impl<V> PathTable<V> {
 
     /// The entry of a path. The one of that first number is looked at first: a caller that asks in the order of the paths gives
     /// the number behind the last one found.
-    pub fn entry_from(&self, path: &[u8], first: usize) -> Option<Entry<'_, V>>
+    pub fn entry_from(&self, path: &[u8], first: usize) -> Option<PathEntry<'_, V>>
         ensures { MatchOption result (find path_cmp path.now self.now ≡ None) (IsEntry path.now self.now) }
     {
         let number = number_from(&self.entries, path, first)?;
         let entry = &self.entries[number];
-        Some(Entry {
+        Some(PathEntry {
             number,
             path: &entry.0,
             value: &entry.1,
