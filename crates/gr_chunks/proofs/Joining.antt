@@ -127,6 +127,9 @@ module _ {X : Type 0} where
         (some, all_drop (λ c. 0 < length c) old (i + 1) h));
   }
 
+  pub replaces_set : (old : List (List X)) (i : ℕ) (c ws : List X) → i < length old → 0 < length ws → c ≡ ws → Replaces old (set old i c) i ws
+  replaces_set old i c ws lt some e = replaces_one old (set old i c) i ws some (ap (set old i) e ∙ one_at old i ws lt)
+
   pub replaces_two : (old new : List (List X)) (i : ℕ) (ws : List X) (m : ℕ) → 0 < m → m < length ws
       → new ≡ take i old ++ take m ws ∷ drop m ws ∷ drop (i + 1) old → Replaces old new i ws
   replaces_two old new i ws m low high e = record {
@@ -157,3 +160,10 @@ module _ {X : Type 0} where
         length-append (joined (take i old)) (ws ++ joined (drop (i + 1) old)),
         length-append ws (joined (drop (i + 1) old)),
       )
+
+  -- a chunk with one item more set in place of another
+  pub set_longer : (old : List (List X)) (i : ℕ) (c : List X) → i < length old → length c ≡ length (get_or old i []) + 1
+      → length (joined (set old i c)) ≡ length (joined old) + 1
+  set_longer old i c lt e =
+      let some : 0 < length c = omega (arith, e) in
+      sym (replaced_length old (set old i c) i c (length (joined old) + 1) (replaces_set old i c c lt some refl) (omega (arith, e)))

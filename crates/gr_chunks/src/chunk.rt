@@ -1,5 +1,5 @@
 //! Items that several collections share.
-ghost use Rattle.std.specs.Prelude.{◌≡◌, IfOk};
+ghost use Rattle.std.specs.Prelude.{◌≡◌, ◌≤◌, length, insert, IfOk, IfErr, OnOk, OnErr};
 
 use crate::share::Share;
 use std::alloc::{AllocError, Global};
@@ -35,6 +35,24 @@ impl<T> Chunk<T> {
         ensures { result.now ≡ self.now }
     {
         self.items.as_slice()
+    }
+}
+
+impl<T: Drop> Chunk<T> {
+    /// Puts an item at a place, unless the items are shared. An item that cannot be put there comes back.
+    pub(crate) fn insert_alone(&mut self, at: usize, item: T) -> Result<(), T>
+        requires { at ≤ length self.old }
+        ensures ok { OnOk result (self.new ≡ insert self.old at item) }
+        ensures err { OnErr result (self.new ≡ self.old) }
+        ensures back { IfErr result (λ back. back ≡ item) }
+    {
+        let Some(items) = Arc::get_mut(&mut self.items) else {
+            return Err(item);
+        };
+        match items.insert(at, item) {
+            Ok(()) => Ok(()),
+            Err(refused) => Err(refused.value),
+        }
     }
 }
 

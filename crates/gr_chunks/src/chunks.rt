@@ -5,11 +5,9 @@ ghost use Rattle.gr_chunks.specs.Chunks.{joined, IsMap, Replaces};
 
 use crate::chunk::Chunk;
 use crate::copies::copies_and;
+use crate::entries::MOST;
 use crate::share::Share;
 use std::alloc::{AllocError, Global};
-
-/// How many items a chunk of a map has at most.
-const MOST: usize = 64;
 
 /// Whether a key is below the first of the entries.
 fn is_before<K: Ord, V>(key: &K, entries: &[(K, V)]) -> bool

@@ -1,5 +1,5 @@
 //! Entries in the order of their keys.
-ghost use Rattle.std.specs.Prelude.{◌≡◌, ◌<◌, ◌≤◌, false, IsTrue, IfOk, length, take, drop};
+ghost use Rattle.std.specs.Prelude.{◌≡◌, ◌<◌, ◌≤◌, false, IsTrue, IfOk, IfSome, length, take, drop, insert};
 ghost use Rattle.std.specs.Option.{option_copied};
 ghost use Rattle.std.specs.FinMap.{find, put};
 ghost use Rattle.gr_chunks.specs.Entries.{without, Rises, IsAfterAll, is_after, is_at};
@@ -44,6 +44,23 @@ pub(crate) fn value_of<'a, K: Ord, V>(entries: &'a [(K, V)], key: &K) -> Option<
     let at = place(entries, key);
     if is_at(entries, at, key) {
         Some(&entries[at].1)
+    } else {
+        None
+    }
+}
+
+/// How many entries a chunk of a map has at most.
+pub(crate) const MOST: usize = 64;
+
+/// The place of a key among entries, if it is not there and there is room for it.
+pub(crate) fn gap<K: Ord, V>(entries: &[(K, V)], key: &K) -> Option<usize>
+    requires { Rises K.cmp entries.now }
+    ensures within { IfSome result (λ at. at ≤ length entries.now) }
+    ensures put { IfSome result (λ at. (value : V) → put K.cmp key.now value entries.now ≡ insert entries.now at (key.now, value)) }
+{
+    let at = place(entries, key);
+    if entries.len() < MOST && !is_at(entries, at, key) {
+        Some(at)
     } else {
         None
     }

@@ -4,6 +4,7 @@
 mod chunk;
 mod chunks;
 mod copies;
+mod entering;
 mod entries;
 mod items;
 mod list;

@@ -8,13 +8,14 @@ ghost use Rattle.gr_chunks.specs.Entries.{without};
 use crate::chunk::Chunk;
 use crate::chunks::{chunk_of, items_at, put_items};
 use crate::copies::copies;
-use crate::entries::{value_of, with_entry, without_key};
+use crate::entering::enter;
+use crate::entries::{value_of, without_key};
 use crate::items::{Entries, Items};
 use crate::share::{Same, Share};
 use std::alloc::{AllocError, Global};
 use std::marker::Model;
 
-/// A map in the order of its keys. A copy shares the chunks, and a change makes one anew. It is seen as its entries.
+/// A map in the order of its keys. A copy shares the chunks, and a change makes one anew where it is shared. It is seen as its entries.
 #[derive(Drop)]
 pub struct SharedMap<K: Ord, V> {
     chunks: Vec<Chunk<(K, V)>>,
@@ -65,10 +66,8 @@ impl<K: Ord + Share, V: Share> SharedMap<K, V> {
         ensures err { OnErr result (self.new ≡ self.old) }
         ensures ordered { IsTrue (is_sorted K.cmp self.old) }
     {
-        let alloc = *self.chunks.allocator();
         let at = chunk_of(&self.chunks, &key);
-        let entries = with_entry(alloc, items_at(&self.chunks, at), key, value)?;
-        self.len = put_items(&mut self.chunks, self.len, at, entries)?;
+        self.len = enter(&mut self.chunks, self.len, at, (key, value))?;
         Ok(())
     }
 

@@ -1,30 +1,24 @@
 -- The chunk of the key is another.
-use Rattle.std.proofs.Common.{◌≡◌, ◌+◌, [], get_or, take, drop, ap, sym, ◌∙◌, subst}
+use Rattle.std.proofs.Common.{◌≡◌, ◌+◌, [], get_or, take, drop, refl, ap, ◌∙◌, subst}
 use Rattle.std.specs.FinMap.{put}
 use Rattle.gr_chunks.specs.Chunks.{joined}
-use Rattle.gr_chunks.specs.Entries.{Rises, IsAfterAll, IsBeforeAll}
+use Rattle.gr_chunks.specs.Entries.{IsAfterAll, IsBeforeAll}
 use Rattle.gr_chunks.proofs.Mapping.{part_rises, put_in_chunk, map_put}
 use Rattle.gr_chunks.proofs.map.SharedMap.insert.Goals as goal
 
-pub with_entry-requires : goal.with_entry-requires
-with_entry-requires g c =
-    let cs = c.self.inside.chunks.items in
-    let i = c.chunk_of-at.result in
-    let part : c.items_at.result.now ≡ get_or cs i [] = c.items_at.ensures ∙ ap (λ bs. get_or bs i []) c.deref-2.ensures.value in
-    subst (Rises g.K.Ord.cmp) (sym part) (part_rises g.K.Ord.cmp cs i c.self.invariant.1)
+pub enter-requires-clause-rises : goal.enter-requires-clause-rises
+enter-requires-clause-rises g c = part_rises g.K.Ord.cmp c.self.inside.chunks.items c.chunk_of-at.result c.self.invariant.1
 
 pub invariant_of-self-2 : goal.invariant_of-self-2
 invariant_of-self-2 g c =
     let cs = c.self.inside.chunks.items in
-    let new = c.put_items.new.chunks.items in
+    let new = c.enter.new.chunks.items in
     let i = c.chunk_of-at.result in
     let k = c.args.key in
-    let ws = c.in_ok-entries.entries.items in
-    let part : c.items_at.result.now ≡ get_or cs i [] = c.items_at.ensures ∙ ap (λ bs. get_or bs i []) c.deref-2.ensures.value in
+    let ws = put g.K.Ord.cmp k c.args.value (get_or cs i []) in
     let front = subst (λ bs. IsAfterAll g.K.Ord.cmp k (joined (take i bs))) c.deref.ensures.value c.chunk_of-at.ensures.front in
     let back = subst (λ bs. IsBeforeAll g.K.Ord.cmp k (joined (drop (i + 1) bs))) c.deref.ensures.value c.chunk_of-at.ensures.back in
-    let made : ws ≡ put g.K.Ord.cmp k c.args.value (get_or cs i []) = c.in_ok-entries.ensures ∙ ap (put g.K.Ord.cmp k c.args.value) part in
-    let whole = put_in_chunk g.K.Ord.cmp k c.args.value cs new i ws c.in_ok-self-inside.ensures.ok made front back in (
+    let whole = put_in_chunk g.K.Ord.cmp k c.args.value cs new i ws c.in_ok-self-inside.ensures.ok refl front back in (
       c.in_ok-self-inside.ensures.count,
       map_put g.K.Ord.cmp g.met.K.Ord.total k c.args.value cs new i ws c.self.invariant.1 c.in_ok-self-inside.ensures.ok
           whole,
@@ -33,13 +27,11 @@ invariant_of-self-2 g c =
 pub returns-clause-ok : goal.returns-clause-ok
 returns-clause-ok g c =
     let cs = c.self.inside.chunks.items in
-    let new = c.put_items.new.chunks.items in
+    let new = c.enter.new.chunks.items in
     let i = c.chunk_of-at.result in
     let k = c.args.key in
-    let ws = c.in_ok-entries.entries.items in
-    let part : c.items_at.result.now ≡ get_or cs i [] = c.items_at.ensures ∙ ap (λ bs. get_or bs i []) c.deref-2.ensures.value in
+    let ws = put g.K.Ord.cmp k c.args.value (get_or cs i []) in
     let front = subst (λ bs. IsAfterAll g.K.Ord.cmp k (joined (take i bs))) c.deref.ensures.value c.chunk_of-at.ensures.front in
     let back = subst (λ bs. IsBeforeAll g.K.Ord.cmp k (joined (drop (i + 1) bs))) c.deref.ensures.value c.chunk_of-at.ensures.back in
-    let made : ws ≡ put g.K.Ord.cmp k c.args.value (get_or cs i []) = c.in_ok-entries.ensures ∙ ap (put g.K.Ord.cmp k c.args.value) part in
     let seen : joined cs ≡ c.args.self.now = c.self.view_is in
-    put_in_chunk g.K.Ord.cmp k c.args.value cs new i ws c.in_ok-self-inside.ensures.ok made front back ∙ ap (put g.K.Ord.cmp k c.args.value) seen
+    put_in_chunk g.K.Ord.cmp k c.args.value cs new i ws c.in_ok-self-inside.ensures.ok refl front back ∙ ap (put g.K.Ord.cmp k c.args.value) seen
