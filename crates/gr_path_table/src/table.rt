@@ -1,5 +1,5 @@
 //! A table by path: a list of entries that is sorted by path.
-ghost use Rattle.std.specs.Prelude.{◌≡◌, [], MatchOption, None, Some, OnOk, OnErr};
+ghost use Rattle.std.specs.Prelude.{◌≡◌, [], MatchOption, None, Some, IfOk, OnOk, OnErr};
 ghost use Rattle.std.specs.Option.{option_copied};
 ghost use Rattle.std.specs.FinMap.{find, put};
 ghost use Rattle.gr_text.specs.Workspace.{path_cmp};
@@ -43,6 +43,14 @@ impl<V> PathTable<V> {
         PathTable {
             entries: Vec::new(alloc),
         }
+    }
+
+    /// An empty table with room for so many entries.
+    pub fn with_capacity(alloc: Global, capacity: usize) -> Result<PathTable<V>, AllocError>
+        ensures { IfOk result (λ table. table ≡ []) }
+    {
+        let entries = Vec::with_capacity(alloc, capacity)?;
+        Ok(PathTable { entries })
     }
 
     /// The entry of a path. The one of that first number is looked at first: a caller that asks in the order of the paths gives
