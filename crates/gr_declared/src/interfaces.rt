@@ -65,6 +65,19 @@ impl Interfaces {
         }
     }
 
+    /// No interface, and no path that is a package, with room for so many packages.
+    pub fn with_capacity(alloc: Global, capacity: usize) -> Result<Interfaces, AllocError>
+        ensures states { IfOk result (λ i. (path : List ℕ) → state_in i.states path ≡ Missing) }
+        ensures names { IfOk result (λ i. (path : List ℕ) → name_in i path ≡ None) }
+        ensures interfaces { IfOk result (λ i. (path : List ℕ) → interface_in i path ≡ no_interface path) }
+    {
+        let packages = PathTable::with_capacity(alloc, capacity)?;
+        Ok(Interfaces {
+            definitions: Definitions { packages },
+            states: ImportStates::new(alloc),
+        })
+    }
+
     /// What each imported path is.
     pub fn states(&self) -> &ImportStates
         ensures { result.now ≡ self.now.states }
