@@ -18,7 +18,8 @@ use gr_imports::{ImportState, PackageNames};
 use std::alloc::{AllocError, Global};
 
 /// What a package sees of others: the names and the interfaces of those without faults that it builds on. What the imported
-/// paths are is not noted. The paths rise, so that each package is looked for behind the one before it.
+/// paths are is not noted. All rise by their paths, as the packages' numbers do: each package is looked for at its number, less
+/// one for each package before it of which nothing is known.
 pub fn seen(
     alloc: Global,
     graph: &Graph,
@@ -30,11 +31,13 @@ pub fn seen(
     ensures seen { IfOk result (λ i. OfPackage graph.now number (λ p. AreSeen graph.now (known_by all.now) p (name_in i) (interface_in i))) }
     ensures states { IfOk result (λ i. (path : List ℕ) → state_in i.states path ≡ Missing) }
 {
-    let mut seen = Interfaces::new(alloc);
     let below = graph.built_on(alloc, number)?;
-    let mut first = 0;
+    let mut seen = Interfaces::with_capacity(alloc, below.as_slice().len())?;
+    let mut missing: usize = 0;
     for other in below.as_slice() {
-        first = seen.share_from(alloc, all, &graph.package(*other).path, first)?;
+        let first = other.wrapping_sub(missing);
+        let next = seen.share_from(alloc, all, &graph.package(*other).path, first)?;
+        missing = other.wrapping_add(1).wrapping_sub(next);
     }
     Ok(seen)
 }

@@ -14,8 +14,8 @@ use Rattle.gr_verdict.proofs.Sharing.{none_shared, shared_next, all_seen, AreSha
 use Rattle.gr_verdict.proofs.seeing.seen.Goals as goal
 
 pub loop-other-init : goal.loop-other-init
-loop-other-init c = λ p at. none_shared c.args.graph.now p _ c.args.all.now c.new-seen.result refl c.new-seen.ensures.names c.new-seen.ensures.interfaces
-    c.new-seen.ensures.states
+loop-other-init c = λ p at. none_shared c.args.graph.now p _ c.args.all.now c.in_ok-seen.seen refl c.in_ok-seen.ensures.names c.in_ok-seen.ensures.interfaces
+    c.in_ok-seen.ensures.states
 
 pub package-requires : goal.package-requires
 package-requires c =
@@ -42,7 +42,7 @@ loop-other-preserved c = λ p at.
     let s = (c.in_ok-below.ensures.below p at n).0 own in
     let path : c.deref.result.now ≡ s.0 = c.deref.ensures.value ∙ same_Some c.package.result.now.path.items s.0 (sym c.package.ensures.path ∙ s.1) in
     shared_next w p (take k items) (take (k + 1) items) n s.0 s.1 (λ m h. taken_or_next items k 0 m lt h) (λ m h. still_taken items k 0 m lt h)
-    (next_taken items k 0 lt) all old new s.2 (subst (Shares all old new) path c.in_ok-first.ensures.shared) (c.loop-other.invariant p at)
+    (next_taken items k 0 lt) all old new s.2 (subst (Shares all old new) path c.in_ok-next.ensures.shared) (c.loop-other.invariant p at)
 
 pub returns-clause-seen : goal.returns-clause-seen
 returns-clause-seen c = λ p at.
