@@ -1,6 +1,6 @@
 -- The lists of a package's qualified identifiers while they are made.
-use Rattle.std.proofs.Common.{ℕ, ◌≡◌, ◌+◌, ◌<◌, ◌⊎◌, inl, inr, List, length, ap, sym, subst, ◌∙◌, arith}
-use Rattle.std.specs.Prelude.{Option, Some, None, ◌↔◌}
+use Rattle.std.proofs.Common.{ℕ, ◌≡◌, ◌+◌, ◌<◌, inl, inr, List, length, ap, sym, subst, ◌∙◌, arith}
+use Rattle.std.specs.Prelude.{Option, Some, ◌↔◌}
 use Rattle.std.specs.Borrow.{Bor}
 use Rattle.std.proofs.lemmas.Bool.{cases_lt}
 use Rattle.gr_scope.specs.declared.model.Position.{Position}
@@ -10,7 +10,7 @@ use Rattle.gr_declared.specs.Written.{ImportsPath}
 use Rattle.gr_qualified.specs.declared.lists.Qualified.{Qualified}
 use Rattle.gr_qualified.specs.declared.lists.Lists.{Lists}
 use Rattle.gr_qualified.specs.Lists.{IsListed, path_for, AreWithin, AddsDeclaration, AddsUnder}
-use Rattle.gr_qualified.specs.Qualified.{IsBehindPackage, IsOnePath, IsDeclarationBefore, StandsBehind, AreQualifiedBelow, AreListsBelow, ListsIdentifier}
+use Rattle.gr_qualified.specs.Qualified.{IsBehindPackage, IsOnePath, StandsBehind, AreQualifiedBelow, AreListsBelow, ListsIdentifier}
 use Rattle.gr_qualified.proofs.NamesBefore.{path_is}
 
 -- a list for each import

@@ -1,7 +1,7 @@
 -- Lists of places under paths: what is listed where a list or a place is added.
-use Rattle.std.proofs.Common.{ℕ, zero, suc, ◌≡◌, ◌+◌, ◌<◌, ◌≤◌, ◌⊎◌, inl, inr, List, [], ◌∷◌, ◌++◌, length, get_or, ap, sym, subst, refl, ◌∙◌, arith}
+use Rattle.std.proofs.Common.{ℕ, ◌≡◌, ◌+◌, ◌<◌, ◌⊎◌, inl, inr, List, [], ◌∷◌, ◌++◌, length, get_or, ap, sym, subst, refl, ◌∙◌, arith}
 use Rattle.std.proofs.Math.Seq.{get_or-append_seam}
-use Rattle.std.specs.Prelude.{Option, Some, None, Contains, slice_get, option_map, ◌↔◌}
+use Rattle.std.specs.Prelude.{Option, Some, None, Contains, slice_get, option_map}
 use Rattle.std.specs.Global.{Vec}
 use Rattle.std.proofs.lemmas.Bool.{cases_lt, cases_eq}
 use Rattle.std.proofs.lemmas.List.{length_push, get_or_append_left, get_or_past}
@@ -11,7 +11,7 @@ use Rattle.gr_scope.specs.declared.model.Position.{Position}
 use Rattle.gr_declared.proofs.Paths.{get_before, get_last}
 use Rattle.gr_qualified.specs.declared.lists.Qualified.{Qualified}
 use Rattle.gr_qualified.specs.declared.lists.Lists.{Lists}
-use Rattle.gr_qualified.specs.Lists.{path_of, IsListedIn, IsListed, path_by, path_for, AreWithin, AddsList, AddsDeclaration, AddsPlace, AddsUnder}
+use Rattle.gr_qualified.specs.Lists.{path_of, IsListed, path_by, AreWithin, AddsList, AddsDeclaration, AddsPlace, AddsUnder}
 
 -- a number that a list of numbers has where one more was pushed
 number_cases : (xs : List (Option ℕ)) (x : Option ℕ) (d k : ℕ) → get_or (xs ++ (x ∷ [])) d None ≡ Some k →

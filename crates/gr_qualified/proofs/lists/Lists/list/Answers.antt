@@ -1,5 +1,5 @@
 -- The answers to the goals of `lists::Lists::list`.
-use Rattle.std.proofs.Common.{sym, subst, ap, ◌∙◌}
+use Rattle.std.proofs.Common.{subst}
 use Rattle.std.proofs.lemmas.Result.{on_ok_weaker}
 use Rattle.gr_qualified.specs.Lists.{AddsUnder, path_by}
 use Rattle.gr_qualified.proofs.Listing.{added_place}
