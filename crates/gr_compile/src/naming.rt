@@ -10,11 +10,25 @@ use gr_graph::{Graph, ParsedPackage};
 use gr_object::packages::{CalledNames, CalledPackages};
 use std::alloc::{AllocError, Global};
 
-/// Whether much is asked of a package by one: it is that one, or is imported by it directly.
+/// Whether a package imports another directly.
+fn imports(graph: &Graph, number: usize, other: usize) -> bool {
+    number < graph.len() && graph.imports(number).binary_search(&other).is_ok()
+}
+
+/// Whether much may be asked of a package by one: it is that one, or it, or what it imports, imports it directly. Only speed rests on
+/// this.
 fn is_near(graph: &Graph, number: usize, other: usize) -> bool
     requires { number < length (package_paths graph.now) }
 {
-    other == number || graph.imports(number).binary_search(&other).is_ok()
+    if other == number || imports(graph, number, other) {
+        return true;
+    }
+    for between in graph.imports(number) {
+        if imports(graph, *between, other) {
+            return true;
+        }
+    }
+    false
 }
 
 /// What the declarations of a package are called: by tables if much is asked of it, or else by its files, at which nothing looks before
