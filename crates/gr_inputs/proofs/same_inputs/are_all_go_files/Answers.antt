@@ -12,6 +12,9 @@ returns-then-not-are_go_files c = (
 
 pub returns : goal.returns
 returns c = (
-  λ t. (subst AreGoFiles c.files.ensures (c.are_go_files.ensures.0 c.if-not-are_go_files.false), subst AreGoFiles c.files-2.ensures (c.are_go_files-2.ensures.0 t)),
+  λ t. (
+    subst AreGoFiles c.files.ensures (c.are_go_files.ensures.0 c.if-not-are_go_files.false),
+    subst AreGoFiles c.files-2.ensures (c.are_go_files-2.ensures.0 t),
+  ),
   λ both. c.are_go_files-2.ensures.1 (subst AreGoFiles (sym c.files-2.ensures) both.1),
 )
