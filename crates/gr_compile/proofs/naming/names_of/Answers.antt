@@ -7,8 +7,8 @@ use Rattle.gr_compile.proofs.naming.names_of.Goals as goal
 
 pub returns-then-near : goal.returns-then-near
 returns-then-near c = IfOk-weaker c.of.result _ _ (λ names are.
-    subst (λ (ts : List FileParts). AreNamesOf c.args.files.now.path.items (map source_of ts) names) c.deref-2.ensures.value
-    (subst (λ (x : List ℕ). AreNamesOf x (map source_of c.deref-2.result.now) names) c.deref.ensures.value are)) c.of.ensures
+    subst (λ (ts : List FileParts). AreNamesOf c.args.files.now.path.items (map source_of ts) names) c.deref-then-near.ensures.value
+    (subst (λ (x : List ℕ). AreNamesOf x (map source_of c.deref-then-near.result.now) names) c.deref.ensures.value are)) c.of.ensures
 
 pub returns-else-near : goal.returns-else-near
 returns-else-near c =
