@@ -6,5 +6,5 @@ mod changes;
 mod knowing;
 
 pub use carried::{carried_units, keeps_texts};
-pub use changes::{Marks, changed_marks, closure_marks};
+pub use changes::{Marks, closure_marks};
 pub use knowing::{kept, known_after};
