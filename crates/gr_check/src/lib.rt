@@ -3,6 +3,7 @@
 
 mod among;
 mod answer;
+mod carried_exports;
 mod keeps_among;
 mod lost;
 mod marked_change;
