@@ -14,17 +14,18 @@ ghost use Rattle.gr_bindings.specs.KnownExports.{KnowsExports};
 ghost use Rattle.gr_bound.specs.Packages.{IsTableAs};
 ghost use Rattle.gr_bound.specs.Places.{place_cmp};
 ghost use Rattle.gr_bound.specs.Uses.{IsUseOf};
-ghost use Rattle.gr_bound.specs.Workspaces.{known_in, IsPackageAt};
+ghost use Rattle.gr_bound.specs.Workspaces.{IsSound, known_in, IsPackageAt};
 
 use crate::bound_unit::bind_unit;
-use crate::known_exports::KnownExports;
+use crate::known_exports::{KnownExports, imported_exports};
 use gr_bound::bindings::find;
 use gr_bound::indexed::{Numbered, known_of, unit_of};
 use gr_bound::{BoundSpot, Declaration, read_table};
 use gr_declared::{Index, Interfaces, Package};
+use gr_graph::Graph;
 use gr_scope::table::ScopeTable;
 use gr_text::Place;
-use gr_verdict::{is_marked, seen};
+use gr_verdict::{Findings, is_marked, seen};
 use std::alloc::{AllocError, Global};
 use std::marker::Model;
 
@@ -188,18 +189,25 @@ fn bind_marked(
     Ok(())
 }
 
-/// The bound identifiers of the packages that are marked, by the packages' numbers, in a workspace in which nothing is a fault. By what
-/// packages export, as far as it is known, only these packages are read.
+/// The bound identifiers of the packages that are marked, by the packages' numbers, in a workspace in which nothing is a fault.
+/// Only these packages are read, and of those that they import what these export.
 pub fn bindings_among(
     alloc: Global,
-    exports: &KnownExports<'_>,
+    graph: &Graph,
+    found: &Findings,
     marks: &[bool],
 ) -> Result<Bindings, AllocError>
-    requires { KnowsExports exports.now }
-    ensures { IfOk result (AreBindingsAmong exports.now.graph.now (known_in exports.now.found.now) (IsMarked marks.now)) }
+    requires { IsSound graph.now found.now }
+    ensures { IfOk result (AreBindingsAmong graph.now (known_in found.now) (IsMarked marks.now)) }
 {
+    let numbers = imported_exports(alloc, graph, found, marks)?;
+    let exports = KnownExports {
+        graph,
+        found,
+        numbers: &numbers,
+    };
     let mut bound = Vec::new(alloc);
-    bind_marked(alloc, &mut bound, exports, marks)?;
+    bind_marked(alloc, &mut bound, &exports, marks)?;
     sort_runs(&mut bound)?;
     Ok(Bindings { bound })
 }

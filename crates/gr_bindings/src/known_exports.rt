@@ -30,7 +30,7 @@ fn is_imported(graph: &Graph, marks: &[bool], number: usize) -> bool
 }
 
 /// What the package of a number exports, if a marked package imports it.
-pub fn imported_numbers(
+fn imported_numbers(
     alloc: Global,
     graph: &Graph,
     found: &Findings,

@@ -8,4 +8,4 @@ pub mod exports;
 mod known_exports;
 
 pub use bindings::{Bindings, bind_numbered, bindings_among};
-pub use known_exports::{KnownExports, all_exports, imported_exports, imported_numbers};
+pub use known_exports::{KnownExports, all_exports};

@@ -4,4 +4,3 @@ pub mod Among
 pub mod Planned
 pub mod Answers
 pub mod Marked
-pub mod CarriedExports

@@ -9,7 +9,6 @@ ghost use Rattle.gr_bound.specs.declared.bound_spot.BoundSpot.{BoundSpot as Boun
 ghost use Rattle.gr_bound.specs.Bindings.{AddsAll};
 ghost use Rattle.gr_bound.specs.Packages.{IsTableAs};
 ghost use Rattle.gr_bound.specs.Workspaces.{IsSound, known_in};
-ghost use Rattle.gr_bindings.specs.KnownExports.{AreSomeExports};
 ghost use Rattle.gr_standing.specs.Standing.{IsDeclaredAt};
 ghost use Rattle.gr_check.specs.Among.{AreHeld, AreHeldOf, IsHeldOf, IsBoundMarked, IsBoundThere, IsIdentifierAmong, view_among};
 ghost use Rattle.gr_placed.specs.DeclaredPlaces.{AreDeclaredAt};
@@ -17,7 +16,7 @@ ghost use Rattle.gr_placed.specs.Outside.{IsOutside, path_by};
 ghost use Rattle.gr_sound.specs.Sound.{packages_of};
 ghost use Rattle.gr_placed.specs.Identified.{BeginsInNumber};
 
-use gr_bindings::{Bindings, KnownExports, bindings_among};
+use gr_bindings::{Bindings, bindings_among};
 use gr_bound::{BoundSpot, Declaration, path_of, read_table};
 use gr_declared::{Interfaces, Package};
 use gr_expr::symbol::SharedPath;
@@ -30,7 +29,6 @@ use gr_sound::is_same;
 use gr_text::{Path, Place};
 use gr_verdict::{Findings, is_marked, seen};
 use std::alloc::{AllocError, Global};
-use std::collections::BTreeMap;
 
 /// Where the declarations of the package of a number stand, by what this sees and its table.
 fn places_laid(
@@ -200,28 +198,20 @@ pub struct MarkedPackages<'a> {
 }
 
 impl<'a> MarkedPackages<'a> {
-    /// Reads the marked packages, and no other, by what packages export as far as it is known.
     pub fn of(
         alloc: Global,
         graph: &'a Graph,
         found: &'a Findings,
-        numbers: &[Option<BTreeMap<Vec<u8>, usize>>],
         marks: &'a [bool],
     ) -> Result<MarkedPackages<'a>, AllocError>
-        requires sound { IsSound graph.now found.now }
-        requires numbers { AreSomeExports graph.now (known_in found.now) numbers.now }
+        requires { IsSound graph.now found.now }
         ensures graph { IfOk result (λ marked. marked.graph.now ≡ graph.now) }
         ensures found { IfOk result (λ marked. marked.found.now ≡ found.now) }
         ensures marks { IfOk result (λ marked. marked.marks.now ≡ marks.now) }
         ensures held { IfOk result (λ marked. AreHeld marked) }
     {
         let places = marked_places(alloc, graph, found, marks)?;
-        let exports = KnownExports {
-            graph,
-            found,
-            numbers,
-        };
-        let bindings = bindings_among(alloc, &exports, marks)?;
+        let bindings = bindings_among(alloc, graph, found, marks)?;
         Ok(MarkedPackages {
             graph,
             found,

@@ -15,11 +15,9 @@ ghost use Rattle.gr_kept_each.specs.Steps.{HasBound};
 
 use crate::among::MarkedPackages;
 use crate::answer::{Answer, no_or_unknown, yes_or_unknown};
-use crate::carried_exports::carried_exports;
 use crate::lost::is_lost;
 use crate::marked_change::MarkedChange;
-use gr_affected::{Affected, affected_by};
-use gr_bindings::imported_exports;
+use gr_affected::affected_by;
 use gr_bound::{BoundSpot, Declaration};
 use gr_edit::EditSet;
 use gr_graph::Graph;
@@ -292,31 +290,6 @@ fn keeps_marked(
     tell_marked(alloc, &moves, before, then)
 }
 
-/// Whether the packages that an edit set affects, which are given, tell that it keeps all bindings, or that it does not.
-fn keeps_affected(
-    alloc: Global,
-    graph: &Graph,
-    found: &Findings,
-    change: &MarkedChange<'_>,
-    found_after: &Findings,
-    affected: &Affected,
-) -> Result<Answer, AllocError>
-    requires sound { IsSound graph.now found.now }
-    requires after { change.now.after.now ≡ edited change.now.edits.now graph.now }
-    requires sound_after { IsSound change.now.after.now found_after.now }
-    requires before { AreAffected graph.now graph.now change.now.after.now change.now.edits.now affected.now.before.items }
-    requires then { AreAffected change.now.after.now graph.now change.now.after.now change.now.edits.now affected.now.then.items }
-    ensures { IfOk result (λ answer. Tells answer (KeepsBindings graph.now (known_in found.now) (revision_of graph.now change.now.edits.now) (known_in found_after.now))) }
-{
-    let marks = &affected.before;
-    let marks_then = &affected.then;
-    let read = imported_exports(alloc, graph, found, marks)?;
-    let before = MarkedPackages::of(alloc, graph, found, &read, marks)?;
-    let carried = carried_exports(alloc, graph, read, change.after, found_after, marks_then)?;
-    let then = MarkedPackages::of(alloc, change.after, found_after, &carried, marks_then)?;
-    keeps_marked(alloc, &before, change.edits, &then)
-}
-
 /// Whether the packages that an edit set affects tell that it keeps all bindings, or that it does not. Where they tell neither, or are
 /// all packages, this stays unknown.
 pub fn keeps_among(
@@ -336,5 +309,7 @@ pub fn keeps_among(
     if affected.before.iter().all(|mark| *mark) {
         return Ok(Answer::Unknown);
     }
-    keeps_affected(alloc, graph, found, change, found_after, &affected)
+    let before = MarkedPackages::of(alloc, graph, found, &affected.before)?;
+    let then = MarkedPackages::of(alloc, change.after, found_after, &affected.then)?;
+    keeps_marked(alloc, &before, change.edits, &then)
 }

@@ -3,7 +3,6 @@
 
 mod among;
 mod answer;
-mod carried_exports;
 mod keeps_among;
 mod lost;
 mod marked_change;
