@@ -134,8 +134,8 @@ impl Book {
             return Err(Refusal::JournalFull);
         }
         match make_room(&mut self.journal, &self.content, &asked) {
-            Ok(()) => enter_on_current(&mut self.content, &mut self.journal, basis, change),
             Err(_) => Err(Refusal::Memory),
+            Ok(()) => enter_on_current(&mut self.content, &mut self.journal, basis, change),
         }
     }
 

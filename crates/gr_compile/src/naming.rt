@@ -1,12 +1,47 @@
 //! What the declarations of the packages in a closure are called.
-ghost use Rattle.std.specs.Prelude.{◌<◌, length, IfOk};
+ghost use Rattle.std.specs.Prelude.{◌<◌, length, map, IfOk};
 ghost use Rattle.gr_text.specs.Packages.{package_paths};
+ghost use Rattle.gr_tree.specs.SourceFile.{source_of};
 ghost use Rattle.gr_graph.specs.Graphs.{OfPackage};
+ghost use Rattle.gr_object.specs.NamesView.{AreNamesOf};
 ghost use Rattle.gr_compile.specs.Compiling.{HaveNamesBelow};
 
-use gr_graph::Graph;
+use gr_graph::{Graph, ParsedPackage};
 use gr_object::packages::{CalledNames, CalledPackages};
 use std::alloc::{AllocError, Global};
+
+/// Whether a package imports another directly.
+fn imports(graph: &Graph, number: usize, other: usize) -> bool {
+    number < graph.len() && graph.imports(number).binary_search(&other).is_ok()
+}
+
+/// Whether much may be asked of a package by one: it is that one, or it, or what it imports, imports it directly. Only speed rests on
+/// this.
+fn is_near(graph: &Graph, number: usize, other: usize) -> bool
+    requires { number < length (package_paths graph.now) }
+{
+    if other == number || imports(graph, number, other) {
+        return true;
+    }
+    for between in graph.imports(number) {
+        if imports(graph, *between, other) {
+            return true;
+        }
+    }
+    false
+}
+
+/// What the declarations of a package are called: by tables if much is asked of it, or else by its files, at which nothing looks before
+/// a name is asked for.
+fn names_of(alloc: Global, files: &ParsedPackage, near: bool) -> Result<CalledNames<'_>, AllocError>
+    ensures { IfOk result (λ names. AreNamesOf files.now.path.items (map source_of files.now.trees.items) names) }
+{
+    if near {
+        CalledNames::of(alloc, &files.path, &files.trees)
+    } else {
+        Ok(CalledNames::untold(&files.path, &files.trees))
+    }
+}
 
 /// What the declarations of a package are called, and of all that it imports, directly or indirectly.
 pub(crate) fn names_below<'a>(
@@ -22,7 +57,7 @@ pub(crate) fn names_below<'a>(
     for other in closure.as_slice() {
         let files = graph.package(*other);
         let path = Vec::from_slice(alloc, &files.path)?;
-        let names = CalledNames::of(alloc, &files.path, &files.trees)?;
+        let names = names_of(alloc, files, is_near(graph, number, *other))?;
         packages.add(path, names)?;
     }
     Ok(packages)

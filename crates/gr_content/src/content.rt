@@ -243,7 +243,13 @@ impl Content {
         let package = SharedPath::new(self.alloc, &current.files.package(number).path)?;
         let taken = inputs_of(self.alloc, &current.files, number, &current.gathered)?;
         let TakenInputs { inputs, gathered } = taken;
-        let known = known_within(self.alloc, &current.files, &current.known, &inputs)?;
+        let known = known_within(
+            self.alloc,
+            &current.files,
+            &current.known,
+            &inputs,
+            &gathered,
+        )?;
         let job = self
             .out
             .hand_out(current.number, self.visit, package, inputs, known)?;

@@ -11,7 +11,7 @@ ghost use Rattle.gr_content.specs.Outcomes.{ComesTo, FindsFresh};
 use gr_compile::{Built, Job};
 use gr_finished::{Finished, SharedKnown};
 use gr_graph::Graph;
-use gr_inputs::{are_inputs, learned};
+use gr_inputs::{are_inputs_of_both, learned};
 use gr_machine::State;
 use std::alloc::{AllocError, Global};
 
@@ -38,10 +38,7 @@ fn have_inputs(files: &Graph, closure: &[usize], job: &Job, built: &Built) -> bo
     requires rising { IsStrictlyIncreasing closure.now }
     ensures { (p : List ℕ) → Contains (package_paths files.now) p → HoldsPackages files.now (IsInClosure files.now p) closure.now → IsTrue result ↔ (AreInputs files.now p job.now.inputs × AreInputs files.now p built.now.inputs) }
 {
-    if !are_inputs(files, closure, job.inputs()) {
-        return false;
-    }
-    are_inputs(files, closure, built.inputs())
+    are_inputs_of_both(files, closure, job.inputs(), built.inputs())
 }
 
 /// The number of the package, where what was built may enter the state.

@@ -217,6 +217,13 @@ AreAlike w numbers v k = (i n : ℕ) (p q : List ℕ) → i < k → slice_get nu
     slice_get (package_paths v) i ≡ Some q
     → (q ≡ p) × HasSameFiles w v p
 
+pub all_alike : (w : Workspace) (numbers : List ℕ) (v : Workspace) (k : ℕ) → length (package_paths v) ≡ length numbers → length numbers ≤ k →
+    AreAlike w numbers v k → ArePackages w numbers v
+all_alike w numbers v k size past before = record {
+  size = size;
+  each = λ i n p q at is there. before i n p q (let within : i < length numbers = slice_get_within numbers i n at in omega (arith, within, past)) at is there;
+}
+
 pub next_alike : (w : Workspace) (numbers : List ℕ) (v : Workspace) (k m : ℕ) → slice_get numbers k ≡ Some m →
     ((p : List ℕ) → slice_get (package_paths w) m ≡ Some p → (q : List ℕ) → slice_get (package_paths v) k ≡ Some q → (q ≡ p) × HasSameFiles w v p) →
     AreAlike w numbers v k → AreAlike w numbers v (k + 1)

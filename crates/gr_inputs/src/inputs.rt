@@ -65,6 +65,14 @@ impl GatheredFiles {
         let files = Files::new(alloc);
         GatheredFiles { numbers, files }
     }
+
+    /// The number of the package at a place among them, and any number at no place.
+    pub(crate) fn number_at(&self, place: usize) -> usize {
+        match self.numbers.as_slice().get(place) {
+            Some(number) => *number,
+            None => 0,
+        }
+    }
 }
 
 /// Adds the files of packages, by their numbers.

@@ -10,4 +10,4 @@ mod same_inputs;
 pub use inputs::{GatheredFiles, TakenInputs, inputs_of};
 pub use learning::{known_within, learned};
 pub use named::marks_of;
-pub use same_inputs::are_inputs;
+pub use same_inputs::are_inputs_of_both;

@@ -1,5 +1,5 @@
 //! Whether some files are the inputs of a package, told by their packages, one after another: nothing is gathered.
-ghost use Rattle.std.specs.Prelude.{◌≡◌, ◌<◌, ◌↔◌, ℕ, Contains, IsTrue, List, length, map as mapped};
+ghost use Rattle.std.specs.Prelude.{◌≡◌, ◌<◌, ◌↔◌, ℕ, Contains, IsTrue, List, Some, length, map as mapped, slice_get};
 ghost use Rattle.std.specs.List.{All};
 ghost use Rattle.std.specs.List.Sorted.{IsStrictlyIncreasing};
 ghost use Rattle.gr_text.specs.Packages.{package_paths};
@@ -77,16 +77,40 @@ fn is_same_package(graph: &Graph, number: usize, other: &Graph, place: usize) ->
     are_same_faulty(&own.faulty, &there.faulty)
 }
 
-/// Whether the packages of a graph are those of another with some numbers, in the order of these, each with the same files.
-fn are_packages(graph: &Graph, numbers: &[usize], others: &Graph) -> bool
-    requires { All (λ number. number < length (package_paths graph.now)) numbers.now }
-    ensures { IsTrue result ↔ ArePackages graph.now numbers.now others.now }
+/// Whether a package of a graph has the path and the files of one of each of two other graphs. Where these share texts, each text is at
+/// hand when it is compared again.
+fn is_package_of_both(
+    graph: &Graph,
+    number: usize,
+    first: &Graph,
+    second: &Graph,
+    place: usize,
+) -> bool
+    requires number { number < length (package_paths graph.now) }
+    requires first { place < length (package_paths first.now) }
+    requires second { place < length (package_paths second.now) }
+    ensures { (p a b : List ℕ) → slice_get (package_paths graph.now) number ≡ Some p → slice_get (package_paths first.now) place ≡ Some a → slice_get (package_paths second.now) place ≡ Some b →
+        IsTrue result ↔ (((a ≡ p) × HasSameFiles graph.now first.now p) × ((b ≡ p) × HasSameFiles graph.now second.now p)) }
 {
-    if others.len() != numbers.len() {
+    if !is_same_package(graph, number, first, place) {
+        return false;
+    }
+    is_same_package(graph, number, second, place)
+}
+
+/// Whether the packages of each of two graphs are those of another with some numbers, in the order of these, each with the same files.
+fn are_packages_of_both(graph: &Graph, numbers: &[usize], first: &Graph, second: &Graph) -> bool
+    requires { All (λ number. number < length (package_paths graph.now)) numbers.now }
+    ensures { IsTrue result ↔ (ArePackages graph.now numbers.now first.now × ArePackages graph.now numbers.now second.now) }
+{
+    if first.len() != numbers.len() {
+        return false;
+    }
+    if second.len() != numbers.len() {
         return false;
     }
     for place in 0..numbers.len() {
-        if !is_same_package(graph, numbers[place], others, place) {
+        if !is_package_of_both(graph, numbers[place], first, second, place) {
             return false;
         }
     }
@@ -105,14 +129,24 @@ fn are_go_files(files: &Files) -> bool
     true
 }
 
-/// Whether some files are the inputs of a package, by the numbers of the packages in its closure.
-pub fn are_inputs(graph: &Graph, closure: &[usize], inputs: &Graph) -> bool
-    requires numbers { All (λ number. number < length (package_paths graph.now)) closure.now }
-    requires rising { IsStrictlyIncreasing closure.now }
-    ensures { (p : List ℕ) → Contains (package_paths graph.now) p → HoldsPackages graph.now (IsInClosure graph.now p) closure.now → IsTrue result ↔ AreInputs graph.now p inputs.now }
+/// Whether all files of two graphs are Go files.
+fn are_all_go_files(first: &Graph, second: &Graph) -> bool
+    ensures { IsTrue result ↔ (AreGoFiles first.now × AreGoFiles second.now) }
 {
-    if !are_packages(graph, closure, inputs) {
+    if !are_go_files(first.files()) {
         return false;
     }
-    are_go_files(inputs.files())
+    are_go_files(second.files())
+}
+
+/// Whether each of two graphs is of the inputs of a package, by the numbers of the packages in its closure.
+pub fn are_inputs_of_both(graph: &Graph, closure: &[usize], first: &Graph, second: &Graph) -> bool
+    requires numbers { All (λ number. number < length (package_paths graph.now)) closure.now }
+    requires rising { IsStrictlyIncreasing closure.now }
+    ensures { (p : List ℕ) → Contains (package_paths graph.now) p → HoldsPackages graph.now (IsInClosure graph.now p) closure.now → IsTrue result ↔ (AreInputs graph.now p first.now × AreInputs graph.now p second.now) }
+{
+    if !are_packages_of_both(graph, closure, first, second) {
+        return false;
+    }
+    are_all_go_files(first, second)
 }

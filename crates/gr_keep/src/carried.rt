@@ -6,6 +6,7 @@ ghost use Rattle.gr_keep.specs.Carried.{IsCarried, TellsKept};
 ghost use Rattle.gr_finished.specs.Changes.{AreMarks, KeepsUnit};
 
 use crate::changes::Marks;
+use crate::near::number_near;
 use gr_chunks::SharedList;
 use gr_compile::Unit;
 use gr_finished::Finished;
@@ -41,7 +42,7 @@ fn kept_unit(
     ensures { IfOk result (λ found. OfPackage after.now number (λ p. KeepsUnit before.now finished.now after.now p found)) }
 {
     let path = &after.package(number).path;
-    let Some(old) = before.number_of(path) else {
+    let Some(old) = number_near(before, path, number, after.len()) else {
         return Ok(None);
     };
     let Some(unit) = finished.get(old) else {

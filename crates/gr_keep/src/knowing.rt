@@ -8,6 +8,7 @@ ghost use Rattle.gr_finished.specs.Changes.{AreMarks};
 
 use crate::carried::keeps_texts;
 use crate::changes::Marks;
+use crate::near::number_near;
 use gr_finished::SharedKnown;
 use gr_graph::Graph;
 use gr_verdict::{Known, KnownVerdict};
@@ -28,7 +29,7 @@ fn kept_verdict(
     ensures { IfOk result (λ found. OfPackage after.now number (λ p. MayTell after.now p found)) }
 {
     let path = &after.package(number).path;
-    let Some(old) = before.number_of(path) else {
+    let Some(old) = number_near(before, path, number, after.len()) else {
         return Ok(None);
     };
     let Some(verdict) = known.get(old) else {

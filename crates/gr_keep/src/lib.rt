@@ -4,7 +4,9 @@
 mod carried;
 mod changes;
 mod knowing;
+mod near;
 
 pub use carried::{carried_units, keeps_texts};
 pub use changes::{Marks, closure_marks};
 pub use knowing::{kept, known_after};
+pub use near::number_near;

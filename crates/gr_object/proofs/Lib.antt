@@ -23,6 +23,7 @@ pub mod Sourced
 pub mod Whole
 pub mod OneObject
 pub mod Named
+pub mod Walking
 pub mod FittingParts
 pub mod FittingExpressions
 pub mod FittingStatements

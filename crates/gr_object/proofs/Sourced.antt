@@ -22,13 +22,14 @@ use Rattle.gr_meanings.specs.MemberUses.{AreUsesIn}
 use Rattle.gr_meanings.specs.Uniqueness.{IsOneWorld}
 use Rattle.gr_object.specs.declared.called.CalledPackages.{CalledPackages}
 use Rattle.gr_object.specs.declared.called.CalledNames.{CalledNames}
+use Rattle.gr_object.specs.declared.called.DeclaredTables.{DeclaredTables}
 use Rattle.gr_object.specs.declared.source.Source.{Source}
 use Rattle.gr_object.specs.Literals.{number_of}
 use Rattle.gr_object.specs.Names.{type_called, type_name, type_names, functions_behind, function_names, field_positions}
-use Rattle.gr_object.specs.NamesView.{AreNamesOf}
+use Rattle.gr_object.specs.NamesView.{AreNamesOf, AreTablesOf}
 use Rattle.gr_object.specs.Numbering.{slot_from}
 use Rattle.gr_object.specs.ObjectView.{HaveNames}
-use Rattle.gr_object.specs.PackagesView.{package_in, type_at, type_in, function_at, function_in, position_at, position_in}
+use Rattle.gr_object.specs.PackagesView.{package_in, type_of_rank, function_of_rank, position_of_rank, type_at, type_in, function_at, function_in, position_at, position_in}
 use Rattle.gr_object.specs.Sources.{IsSourceOf, type_before}
 use Rattle.gr_object.specs.SourceView.{source_of, type_used}
 use Rattle.gr_object.specs.TablesView.{IsTabled}
@@ -68,36 +69,47 @@ uses_found p file f w uses one at judged are =
 
 -- names of packages
 
+type_of_ranks : (files : List SourceFile) (o : Option DeclaredTables) (rank : ℕ) → ((t : DeclaredTables) → o ≡ Some t → AreTablesOf files t) →
+    type_of_rank files o rank ≡ slice_get (declared_types files) rank
+type_of_ranks files None rank are = refl
+type_of_ranks files (Some t) rank are = sym (slice_get-map definition_of t.declared.types.items rank) ∙ ap (λ xs. slice_get xs rank) (are t refl).types
+
 type_at_names : (path : List ℕ) (files : List SourceFile) (o : Option CalledNames) (rank : ℕ) →
     MatchOption o (files ≡ []) (λ names. AreNamesOf path files names) →
     type_at o rank ≡ slice_get (type_names path files) rank
 type_at_names path files None rank e = ap (λ fs. slice_get (type_names path fs) rank) (sym e)
 type_at_names path files (Some names) rank h =
-    let P = names.path.now in
-    let F = map file.source_of names.files.now in
-    let ts = names.declared.types.items in
-    sym (slice_get-map (λ t. type_called P F (definition_of t)) ts rank)
-    ∙ ap (λ xs. slice_get xs rank) (sym (map_map (type_called P F) definition_of ts)
-    ∙ (ap (λ ds. map (type_called P F) ds) h.types
-    ∙ (ap (λ p. map (type_called p F) (declared_types files)) h.has_path
-    ∙ ap (λ fs. map (type_called path fs) (declared_types files)) h.has_files)))
+    ap (λ p. option_map (type_called p (map file.source_of names.files.now)) (type_of_rank (map file.source_of names.files.now) names.tables rank)) h.has_path
+    ∙ (ap (λ fs. option_map (type_called path fs) (type_of_rank fs names.tables rank)) h.has_files
+    ∙ (ap (option_map (type_called path files)) (type_of_ranks files names.tables rank h.tables)
+    ∙ sym (slice_get-map (type_called path files) (declared_types files) rank)))
+
+function_of_ranks : (path : List ℕ) (files : List SourceFile) (o : Option DeclaredTables) (rank : ℕ) →
+    ((t : DeclaredTables) → o ≡ Some t → AreTablesOf files t) →
+    function_of_rank path files o rank ≡ slice_get (function_names path files) rank
+function_of_ranks path files None rank are = refl
+function_of_ranks path files (Some t) rank are = ap (λ fs. slice_get (functions_behind path files 0 fs) rank) (are t refl).functions
 
 function_at_names : (path : List ℕ) (files : List SourceFile) (o : Option CalledNames) (rank : ℕ) →
     MatchOption o (files ≡ []) (λ names. AreNamesOf path files names) →
     function_at o rank ≡ slice_get (function_names path files) rank
 function_at_names path files None rank e = ap (λ fs. slice_get (function_names path fs) rank) (sym e)
 function_at_names path files (Some names) rank h =
-    let P = names.path.now in
-    let F = map file.source_of names.files.now in
-    ap (λ fs. slice_get (functions_behind P F 0 fs) rank) h.functions
-    ∙ (ap (λ p. slice_get (functions_behind p F 0 (declared_functions files)) rank) h.has_path
-    ∙ ap (λ fs. slice_get (functions_behind path fs 0 (declared_functions files)) rank) h.has_files)
+    ap (λ p. function_of_rank p (map file.source_of names.files.now) names.tables rank) h.has_path
+    ∙ (ap (λ fs. function_of_rank path fs names.tables rank) h.has_files
+    ∙ function_of_ranks path files names.tables rank h.tables)
+
+position_of_ranks : (files : List SourceFile) (o : Option DeclaredTables) (rank : ℕ) → ((t : DeclaredTables) → o ≡ Some t → AreTablesOf files t) →
+    position_of_rank files o rank ≡ slice_get (field_positions files) rank
+position_of_ranks files None rank are = refl
+position_of_ranks files (Some t) rank are = ap (λ xs. slice_get xs rank) (are t refl).positions
 
 position_at_names : (path : List ℕ) (files : List SourceFile) (o : Option CalledNames) (rank : ℕ) →
     MatchOption o (files ≡ []) (λ names. AreNamesOf path files names) →
     position_at o rank ≡ slice_get (field_positions files) rank
 position_at_names path files None rank e = ap (λ fs. slice_get (field_positions fs) rank) (sym e)
-position_at_names path files (Some names) rank h = ap (λ xs. slice_get xs rank) h.positions
+position_at_names path files (Some names) rank h =
+    ap (λ fs. position_of_rank fs names.tables rank) h.has_files ∙ position_of_ranks files names.tables rank h.tables
 
 pub types_named : (packages : CalledPackages) (files_of : List ℕ → List SourceFile) → HaveNames packages files_of → type_in packages ≡ type_name files_of
 types_named packages files_of have = fun_ext (λ (s : Symbol).

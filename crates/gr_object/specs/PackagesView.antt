@@ -3,13 +3,15 @@ use Rattle.std.specs.Prelude.{ℕ, List, Option, Some, None, map, option_map, sl
 use Rattle.std.specs.BTreeMap.{get_by}
 use Rattle.std.specs.Cmp.Lexicographic.{slice_cmp}
 use Rattle.std.specs.Ordering.{nat_cmp}
-use Rattle.gr_tree.specs.SourceFile.{source_of}
+use Rattle.gr_tree.specs.SourceFile.{SourceFile, source_of}
 use Rattle.gr_declared.specs.DeclaredView.{type_of, function_of as placed_function}
+use Rattle.gr_declared.specs.Package.{PlacedType, declared_types}
 use Rattle.gr_expr.specs.declared.symbol.Symbol.{Symbol}
 use Rattle.gr_object.specs.declared.called.CalledNames.{CalledNames}
+use Rattle.gr_object.specs.declared.called.DeclaredTables.{DeclaredTables}
 use Rattle.gr_object.specs.declared.called.CalledPackages.{CalledPackages}
 use Rattle.gr_object.specs.Lines.{GlobalName, FunctionName}
-use Rattle.gr_object.specs.Names.{type_called, functions_behind}
+use Rattle.gr_object.specs.Names.{type_called, function_names, functions_behind, field_positions}
 
 -- the names of a package, by its number
 abbrev pub names_at : List CalledNames → Option ℕ → Option CalledNames
@@ -19,23 +21,37 @@ names_at names (Some n) = slice_get names n
 abbrev pub package_in : CalledPackages → List ℕ → Option CalledNames
 package_in ps path = names_at ps.names.items (get_by (λ key. slice_cmp nat_cmp path key.items) ps.numbers)
 
+-- by the tables of a package, or else by its files
+
+abbrev pub type_of_rank : List SourceFile → Option DeclaredTables → ℕ → Option PlacedType
+type_of_rank files None rank = slice_get (declared_types files) rank
+type_of_rank files (Some t) rank = option_map type_of (slice_get t.declared.types.items rank)
+
+abbrev pub function_of_rank : (path : List ℕ) → List SourceFile → Option DeclaredTables → ℕ → Option FunctionName
+function_of_rank path files None rank = slice_get (function_names path files) rank
+function_of_rank path files (Some t) rank = slice_get (functions_behind path files 0 (map placed_function t.declared.functions.items)) rank
+
+abbrev pub position_of_rank : List SourceFile → Option DeclaredTables → ℕ → Option ℕ
+position_of_rank files None rank = slice_get (field_positions files) rank
+position_of_rank files (Some t) rank = slice_get t.positions.items rank
+
 abbrev pub type_at : Option CalledNames → ℕ → Option GlobalName
 type_at None rank = None
-type_at (Some p) rank = option_map (λ t. type_called p.path.now (map source_of p.files.now) (type_of t)) (slice_get p.declared.types.items rank)
+type_at (Some p) rank = option_map (type_called p.path.now (map source_of p.files.now)) (type_of_rank (map source_of p.files.now) p.tables rank)
 
 abbrev pub type_in : CalledPackages → Symbol → Option GlobalName
 type_in ps s = type_at (package_in ps s.package) s.rank
 
 abbrev pub function_at : Option CalledNames → ℕ → Option FunctionName
 function_at None rank = None
-function_at (Some p) rank = slice_get (functions_behind p.path.now (map source_of p.files.now) 0 (map placed_function p.declared.functions.items)) rank
+function_at (Some p) rank = function_of_rank p.path.now (map source_of p.files.now) p.tables rank
 
 abbrev pub function_in : CalledPackages → Symbol → Option FunctionName
 function_in ps s = function_at (package_in ps s.package) s.rank
 
 abbrev pub position_at : Option CalledNames → ℕ → Option ℕ
 position_at None rank = None
-position_at (Some p) rank = slice_get p.positions.items rank
+position_at (Some p) rank = position_of_rank (map source_of p.files.now) p.tables rank
 
 abbrev pub position_in : CalledPackages → Symbol → Option ℕ
 position_in ps s = position_at (package_in ps s.package) s.rank

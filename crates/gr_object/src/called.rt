@@ -8,14 +8,20 @@ use gr_declared::Declared;
 use gr_tree::FileTree;
 use std::collections::BTreeMap;
 
-/// What a package declares, by ranks, of which each name is made where it is asked for; and for each field where it stands in its
-/// struct.
+/// What a package declares, by ranks; and for each field where it stands in its struct.
+#[derive(Drop)]
+pub struct DeclaredTables<'a> {
+    pub declared: Declared<'a>,
+    pub positions: Vec<usize>,
+}
+
+/// The path of a package and its files, by which what it declares is called, of which each name is made where it is asked for. Where
+/// much is asked there are tables; else its files are gone over.
 #[derive(Drop)]
 pub struct CalledNames<'a> {
     pub path: &'a [u8],
     pub files: &'a [FileTree],
-    pub declared: Declared<'a>,
-    pub positions: Vec<usize>,
+    pub tables: Option<DeclaredTables<'a>>,
 }
 
 /// The same of packages, by the numbers that their paths have.

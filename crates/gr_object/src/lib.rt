@@ -24,5 +24,6 @@ mod source;
 mod sources;
 mod statements;
 mod types;
+mod walks;
 
 pub use instructions::{FunctionName, GlobalName};

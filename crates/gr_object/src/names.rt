@@ -11,7 +11,7 @@ ghost use Rattle.gr_object.specs.Names.{body_positions, function_behind, functio
 ghost use Rattle.gr_object.specs.NamesView.{AreNamesOf};
 
 use crate::instructions::{FunctionName, GlobalName};
-use crate::packages::CalledNames;
+use crate::packages::{CalledNames, DeclaredTables};
 use gr_declared::{Declared, Function, TypeDef};
 use gr_tree::FileTree;
 use gr_tree::tree::{FieldDecl, Item, Receiver, TypeBody};
@@ -115,7 +115,7 @@ fn function_behind<'a>(
 }
 
 /// How many functions `init` there are with this function, behind so many.
-fn initializers_with(files: &[FileTree], number: usize, function: Function<'_>) -> usize
+pub(crate) fn initializers_with(files: &[FileTree], number: usize, function: Function<'_>) -> usize
     requires { number + 1 < 2 ^ 64 }
     ensures counted { result ≡ initializers_with (map source_of files.now) number (placed_function function.entry) }
     ensures bounded { result ≤ number + 1 }
@@ -212,7 +212,7 @@ fn field_positions(alloc: Global, types: &[TypeDef<'_>]) -> Result<Vec<usize>, A
     Ok(positions)
 }
 
-/// What the declarations of the package of a path are called, by what it declares.
+/// What the declarations of the package of a path are called, by tables of what it declares.
 fn names_of<'a>(
     alloc: Global,
     path: &'a [u8],
@@ -227,13 +227,15 @@ fn names_of<'a>(
     Ok(CalledNames {
         path,
         files,
-        declared,
-        positions,
+        tables: Some(DeclaredTables {
+            declared,
+            positions,
+        }),
     })
 }
 
 impl<'a> CalledNames<'a> {
-    /// What the declarations of the package of a path are called. Its files are in the order of their paths.
+    /// What the declarations of the package of a path are called, by tables. Its files are in the order of their paths.
     pub fn of(
         alloc: Global,
         path: &'a [u8],
@@ -243,5 +245,16 @@ impl<'a> CalledNames<'a> {
     {
         let declared = Declared::of(alloc, files)?;
         names_of(alloc, path, files, declared)
+    }
+
+    /// The same without tables: no file is looked at until a name is asked for.
+    pub fn untold(path: &'a [u8], files: &'a [FileTree]) -> CalledNames<'a>
+        ensures { AreNamesOf path.now (map source_of files.now) result }
+    {
+        CalledNames {
+            path,
+            files,
+            tables: None,
+        }
     }
 }

@@ -1,15 +1,18 @@
 //! What the types, functions and fields of packages are called in objects.
 ghost use Rattle.std.specs.Prelude.{◌≡◌, ℕ, List, None, Some, map, option_copied, option_map, slice_get, OnOk};
 ghost use Rattle.gr_tree.specs.SourceFile.{source_of};
-ghost use Rattle.gr_declared.specs.DeclaredView.{function_of as placed_function};
+ghost use Rattle.gr_declared.specs.DeclaredView.{type_of, function_of as placed_function};
+ghost use Rattle.gr_declared.specs.Package.{declared_functions};
 ghost use Rattle.gr_object.specs.LineView.{global_of, function_of};
-ghost use Rattle.gr_object.specs.Names.{functions_behind};
-ghost use Rattle.gr_object.specs.PackagesView.{package_in, type_at, type_in, function_at, function_in, position_at, position_in};
+ghost use Rattle.gr_object.specs.Names.{function_names, functions_behind};
+ghost use Rattle.gr_object.specs.PackagesView.{package_in, type_of_rank, type_at, type_in, function_at, function_in, position_at, position_in};
 
-pub use crate::called::{CalledNames, CalledPackages};
+pub use crate::called::{CalledNames, CalledPackages, DeclaredTables};
 use crate::instructions::{FunctionName, GlobalName};
 use crate::names::{function_called, initializers, is_initializer, type_called};
-use gr_declared::Function;
+use crate::walks;
+use crate::walks::initializers_below;
+use gr_declared::{Function, TypeDef};
 use gr_expr::symbol::{SharedPath, Symbol};
 use gr_tree::FileTree;
 use std::alloc::{AllocError, Global};
@@ -49,12 +52,70 @@ fn function_at<'a>(
     }
 }
 
+/// What the function is called that is found at a rank. How many functions `init` stand before it is counted for such a function alone.
+fn walked_function<'a>(
+    path: &'a [u8],
+    files: &'a [FileTree],
+    rank: usize,
+    function: Function<'_>,
+) -> FunctionName<'a>
+    requires { slice_get (declared_functions (map source_of files.now)) rank ≡ Some (placed_function function) }
+    ensures { Some (function_of result) ≡ slice_get (function_names path.now (map source_of files.now)) rank }
+{
+    if is_initializer(files, function) {
+        let number = initializers_below(files, rank);
+        FunctionName::Initializer { path, number }
+    } else {
+        function_called(path, files, function)
+    }
+}
+
+/// What the function of a rank is called, if there is one, by going over the files.
+fn function_walked<'a>(
+    path: &'a [u8],
+    files: &'a [FileTree],
+    rank: usize,
+) -> Option<FunctionName<'a>>
+    ensures { option_map function_of result ≡ slice_get (function_names path.now (map source_of files.now)) rank }
+{
+    match walks::function_at(files, rank) {
+        None => None,
+        Some(function) => Some(walked_function(path, files, rank, function)),
+    }
+}
+
+impl<'a> DeclaredTables<'a> {
+    /// The type definition of a rank.
+    fn type_at(&self, rank: usize) -> Option<TypeDef<'a>>
+        ensures { result ≡ slice_get self.now.declared.types.items rank }
+    {
+        Some(*self.declared.types.get(rank)?)
+    }
+
+    /// Where the field of a rank stands in its struct.
+    fn position(&self, rank: usize) -> Option<usize>
+        ensures { result ≡ slice_get self.now.positions.items rank }
+    {
+        Some(*self.positions.get(rank)?)
+    }
+}
+
 impl<'a> CalledNames<'a> {
+    /// The type definition of a rank.
+    fn type_at(&self, rank: usize) -> Option<TypeDef<'a>>
+        ensures { option_map type_of result ≡ type_of_rank (map source_of self.now.files.now) self.now.tables rank }
+    {
+        match &self.tables {
+            None => walks::type_at(self.files, rank),
+            Some(tables) => tables.type_at(rank),
+        }
+    }
+
     /// What the type definition of a rank is called.
     fn type_name(&self, rank: usize) -> Option<GlobalName<'a>>
         ensures { option_map global_of result ≡ type_at (Some self.now) rank }
     {
-        let own = *self.declared.types.get(rank)?;
+        let own = self.type_at(rank)?;
         Some(type_called(self.path, self.files, own))
     }
 
@@ -62,14 +123,20 @@ impl<'a> CalledNames<'a> {
     fn function(&self, rank: usize) -> Option<FunctionName<'a>>
         ensures { option_map function_of result ≡ function_at (Some self.now) rank }
     {
-        function_at(self.path, self.files, &self.declared.functions, rank)
+        match &self.tables {
+            None => function_walked(self.path, self.files, rank),
+            Some(tables) => function_at(self.path, self.files, &tables.declared.functions, rank),
+        }
     }
 
     /// Where the field of a rank stands in its struct.
     fn position(&self, rank: usize) -> Option<usize>
         ensures { result ≡ position_at (Some self.now) rank }
     {
-        Some(*self.positions.get(rank)?)
+        match &self.tables {
+            None => walks::position_at(self.files, rank),
+            Some(tables) => tables.position(rank),
+        }
     }
 }
 

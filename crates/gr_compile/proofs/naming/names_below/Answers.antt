@@ -9,7 +9,6 @@ use Rattle.gr_graph.specs.Packages.{IsInClosure}
 use Rattle.gr_tree.specs.SourceFile.{source_of}
 use Rattle.gr_meanings.proofs.BoundLists.{slice_get_some}
 use Rattle.gr_verdict.proofs.Members.{taken_or_next, still_taken, next_taken}
-use Rattle.gr_object.specs.NamesView.{AreNamesOf}
 use Rattle.gr_object.specs.PackagesView.{package_in}
 use Rattle.gr_compile.specs.Units.{AreFilesOf}
 use Rattle.gr_compile.proofs.Named.{AreNamed, IsCalled, none_named, named_next, all_named}
@@ -43,11 +42,8 @@ loop-other-preserved c =
     let key : c.in_ok-path.path.items ≡ q = c.in_ok-path.ensures.items ∙ c.deref.ensures.value in
     let are : AreFilesOf w q (map source_of files.trees.items) =
     record { parts = files.trees.items; faulty = files.faulty.items; parsed = c.package-files.ensures.files; are_files = refl } in
-    let are_names : AreNamesOf q (map source_of files.trees.items) names =
-    subst (λ ts. AreNamesOf q (map source_of ts) names) c.deref-in-loop-other-2.ensures.value
-    (subst (λ (x : List ℕ). AreNamesOf x (map source_of c.deref-in-loop-other-2.result.now) names) c.deref-in-loop-other.ensures.value c.in_ok-names.ensures) in
     let called : IsCalled new q (map source_of files.trees.items) =
-    record { names = names; known = ap (package_in new) (sym key) ∙ c.in_ok-add.ensures.here; are_names = are_names } in
+    record { names = names; known = ap (package_in new) (sym key) ∙ c.in_ok-add.ensures.here; are_names = c.in_ok-names.ensures } in
     named_next w (take k items) (take (k + 1) items) n q c.package-files.ensures.path (λ m h. taken_or_next items k 0 m lt h)
     (λ m h. still_taken items k 0 m lt h) (next_taken items k 0 lt)
     old new (map source_of files.trees.items) are called

@@ -2,5 +2,5 @@
 use Rattle.gr_verdict.specs.Found.{AreKnownNext}
 use Rattle.gr_inputs.proofs.learning.known_within.Given as goal
 
-abbrev pub invariant-loop-number : goal.invariant-loop-number
-invariant-loop-number l = AreKnownNext l.inputs l.number l.within
+abbrev pub invariant-loop-place : goal.invariant-loop-place
+invariant-loop-place l = AreKnownNext l.inputs l.place l.within

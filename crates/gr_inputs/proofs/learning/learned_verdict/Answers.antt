@@ -18,7 +18,7 @@ returns-in-Some c = λ p at one is.
 
 pub returns : goal.returns
 returns c =
-    let v = c.args.inputs.now in
+    let v = c.args.brought.graph.now in
     let w = c.args.files.now in
     let n = c.args.number in
     IfOk-weaker c.verdict_there.result (TellsThere v c.deref.result.now) (λ found. OfPackage w n (λ p. MayTell w p found))

@@ -1,5 +1,5 @@
 -- The change is entered once there is room: that is a step, what the journal bounds stays within it, and the content stays its replay.
-use Rattle.std.proofs.Common.{◌+◌, ◌≤◌, ◌↔◌, IsTrue, length, sym, subst, vec_capacity}
+use Rattle.std.proofs.Common.{◌+◌, ◌≤◌, ◌↔◌, IsTrue, sym, subst, vec_capacity}
 use Rattle.gr_machine.specs.Machine.{Machine, with_journal}
 use Rattle.gr_machine.specs.Step.{Step, done, entries_due}
 use Rattle.gr_machine.specs.declared.event.Event.TheVariants.{Commit}
@@ -7,13 +7,13 @@ use Rattle.gr_machine.proofs.Legal.{holds_still}
 use Rattle.gr_book.proofs.OnCurrent.{committed_on}
 use Rattle.gr_book.proofs.book.Book.commit_on_current.Goals as goal
 
-pub invariant_of-self-in-Err-1 : goal.invariant_of-self-in-Err-1
-invariant_of-self-in-Err-1 c =
+pub invariant_of-self : goal.invariant_of-self
+invariant_of-self c =
     holds_still c.self.inside.content c.self.inside.journal.items c.make_room.new.journal.items (vec_capacity c.self.inside.journal)
     (vec_capacity c.make_room.new.journal) c.make_room.ensures.items c.make_room.ensures.grows c.self.invariant
 
-pub invariant_of-self : goal.invariant_of-self
-invariant_of-self c =
+pub invariant_of-self-in-Ok : goal.invariant_of-self-in-Ok
+invariant_of-self-in-Ok c =
     let m : Machine = with_journal c.self.inside.content c.self.inside.journal.items in
     let tested : IsTrue c.has_room.result ↔ (entries_due m + c.entries_needed.result ≤ m.limits.journal) =
     subst (λ (x : Machine). IsTrue c.has_room.result ↔ (entries_due x + c.entries_needed.result ≤ x.limits.journal)) (sym c.self.view_is) c.has_room.ensures in
