@@ -15,8 +15,8 @@ folders_of changed = map (λ c. folder c.path) changed
 -- the packages in whose closures some has other files then, before and after, and those whose closures hold a file that is among the
 -- changed ones
 pub record IsRead (c : MarkedChange) : Type 0 where
-  pub before_marks : AreMarks c.before.now c.after.now c.marks.before.items
-  pub after_marks : AreMarks c.after.now c.before.now c.marks.after.items
+  pub before_marks : AreMarks c.before.now c.after.now c.marks.now.before.items
+  pub after_marks : AreMarks c.after.now c.before.now c.marks.now.after.items
   pub touched : MarkClosures c.before.now (folders_of c.edits.now.changed) c.touched.items
 
 -- whether the package of a path is affected

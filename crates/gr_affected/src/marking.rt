@@ -3,13 +3,13 @@
 ghost use Rattle.std.specs.Prelude.{◌≡◌, ◌<◌, IfOk, length, slice_get};
 ghost use Rattle.gr_text.specs.Packages.{package_paths};
 ghost use Rattle.gr_graph.specs.Graphs.{OfPackage};
-ghost use Rattle.gr_finished.specs.Changes.{MarkClosures, MarkFolders};
+ghost use Rattle.gr_finished.specs.Changes.{AreMarks, MarkClosures, MarkFolders};
 ghost use Rattle.gr_affected.specs.Affected.{AreAffected};
 ghost use Rattle.gr_affected.specs.Marking.{IsRead, TellsAffected, folders_of};
 
 use gr_edit::{EditSet, FileChange};
 use gr_graph::Graph;
-use gr_keep::{Marks, changed_marks, keeps_texts};
+use gr_keep::{Marks, keeps_texts};
 use gr_verdict::is_marked;
 use std::alloc::{AllocError, Global};
 
@@ -48,7 +48,7 @@ struct MarkedChange<'a> {
     before: &'a Graph,
     edits: &'a EditSet,
     after: &'a Graph,
-    marks: Marks,
+    marks: &'a Marks,
     touched: Vec<bool>,
 }
 
@@ -58,13 +58,15 @@ impl<'a> MarkedChange<'a> {
         before: &'a Graph,
         edits: &'a EditSet,
         after: &'a Graph,
+        marks: &'a Marks,
     ) -> Result<MarkedChange<'a>, AllocError>
+        requires before_marks { AreMarks before.now after.now marks.now.before.items }
+        requires after_marks { AreMarks after.now before.now marks.now.after.items }
         ensures before { IfOk result (λ change. change.before.now ≡ before.now) }
         ensures edits { IfOk result (λ change. change.edits.now ≡ edits.now) }
         ensures after { IfOk result (λ change. change.after.now ≡ after.now) }
         ensures read { IfOk result (λ change. IsRead change) }
     {
-        let marks = changed_marks(alloc, before, after)?;
         let touched = reaching_marks(alloc, before, edits.changed())?;
         Ok(MarkedChange {
             before,
@@ -86,7 +88,7 @@ impl<'a> MarkedChange<'a> {
         if is_marked(&self.touched, old) {
             return true;
         }
-        !keeps_texts(&self.marks, old, new)
+        !keeps_texts(self.marks, old, new)
     }
 
     /// Whether a package of the workspace before is affected.
@@ -143,17 +145,21 @@ pub struct Affected {
     pub then: Vec<bool>,
 }
 
-/// Marks the packages that an edit set affects, in a workspace and in the edited one.
+/// Marks the packages that an edit set affects, in a workspace and in the edited one, by the marks of those in whose closures one has
+/// other files then.
 pub fn affected_by(
     alloc: Global,
     before: &Graph,
     edits: &EditSet,
     after: &Graph,
+    marks: &Marks,
 ) -> Result<Affected, AllocError>
+    requires before_marks { AreMarks before.now after.now marks.now.before.items }
+    requires after_marks { AreMarks after.now before.now marks.now.after.items }
     ensures before { IfOk result (λ marks. AreAffected before.now before.now after.now edits.now marks.before.items) }
     ensures then { IfOk result (λ marks. AreAffected after.now before.now after.now edits.now marks.then.items) }
 {
-    let change = MarkedChange::of(alloc, before, edits, after)?;
+    let change = MarkedChange::of(alloc, before, edits, after, marks)?;
     Ok(Affected {
         before: change.before_marks(alloc)?,
         then: change.then_marks(alloc)?,

@@ -3,3 +3,4 @@ pub mod Preserved
 pub mod Among
 pub mod Planned
 pub mod Answers
+pub mod Marked

@@ -9,12 +9,14 @@ ghost use Rattle.gr_revision.specs.RevisionsOfEdits.{revision_of};
 ghost use Rattle.gr_affected.specs.Affected.{AreAffected};
 ghost use Rattle.gr_check.specs.Among.{AreHeld, BecomesAmong, IsKeptAmong, AllWereAmong, AddsNoneAmong, KeepsMarked, AddsMarked, BothGo, IsBoundMarked, TellsMarked};
 ghost use Rattle.gr_check.specs.Answers.{Tells};
+ghost use Rattle.gr_check.specs.Marked.{HasMarks};
 ghost use Rattle.gr_check.specs.Preserved.{KeepsBindings};
 ghost use Rattle.gr_kept_each.specs.Steps.{HasBound};
 
 use crate::among::MarkedPackages;
 use crate::answer::{Answer, no_or_unknown, yes_or_unknown};
 use crate::lost::is_lost;
+use crate::marked_change::MarkedChange;
 use gr_affected::affected_by;
 use gr_bound::{BoundSpot, Declaration};
 use gr_edit::EditSet;
@@ -294,20 +296,20 @@ pub fn keeps_among(
     alloc: Global,
     graph: &Graph,
     found: &Findings,
-    edits: &EditSet,
-    after: &Graph,
+    change: &MarkedChange<'_>,
     found_after: &Findings,
 ) -> Result<Answer, AllocError>
     requires sound { IsSound graph.now found.now }
-    requires after { after.now ≡ edited edits.now graph.now }
-    requires sound_after { IsSound after.now found_after.now }
-    ensures { IfOk result (λ answer. Tells answer (KeepsBindings graph.now (known_in found.now) (revision_of graph.now edits.now) (known_in found_after.now))) }
+    requires after { change.now.after.now ≡ edited change.now.edits.now graph.now }
+    requires marks { HasMarks graph.now change.now }
+    requires sound_after { IsSound change.now.after.now found_after.now }
+    ensures { IfOk result (λ answer. Tells answer (KeepsBindings graph.now (known_in found.now) (revision_of graph.now change.now.edits.now) (known_in found_after.now))) }
 {
-    let marks = affected_by(alloc, graph, edits, after)?;
-    if marks.before.iter().all(|mark| *mark) {
+    let affected = affected_by(alloc, graph, change.edits, change.after, change.marks)?;
+    if affected.before.iter().all(|mark| *mark) {
         return Ok(Answer::Unknown);
     }
-    let before = MarkedPackages::of(alloc, graph, found, &marks.before)?;
-    let then = MarkedPackages::of(alloc, after, found_after, &marks.then)?;
-    keeps_marked(alloc, &before, edits, &then)
+    let before = MarkedPackages::of(alloc, graph, found, &affected.before)?;
+    let then = MarkedPackages::of(alloc, change.after, found_after, &affected.then)?;
+    keeps_marked(alloc, &before, change.edits, &then)
 }

@@ -5,6 +5,7 @@ mod among;
 mod answer;
 mod keeps_among;
 mod lost;
+mod marked_change;
 mod planned;
 mod preserving;
 

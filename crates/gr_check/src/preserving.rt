@@ -5,18 +5,22 @@ ghost use Rattle.gr_verdict.specs.FaultLists.{ListsFaults};
 ghost use Rattle.gr_verdict.specs.Found.{AreFindings, IsFound, KnowsVerdicts};
 ghost use Rattle.gr_bound.specs.Packages.{ArePackages};
 ghost use Rattle.gr_bound.specs.Workspaces.{IsSound, known_in};
+ghost use Rattle.gr_check.specs.Marked.{HasMarks};
 ghost use Rattle.gr_check.specs.Preserved.{KeepsBindings, Preserves, TellsPreserved};
 ghost use Rattle.gr_revision.specs.RevisionsOfEdits.{revision_of};
 
 use crate::answer::Answer;
 use crate::keeps_among::keeps_among;
+use crate::marked_change::MarkedChange;
 use gr_bound::{Packages, all_seen, refuse_faults};
 use gr_edit::EditSet;
 use gr_graph::Graph;
+use gr_inputs::marks_of;
 use gr_keep::known_after;
 use gr_kept::keeps;
 use gr_revision::Moves;
 use gr_sound::SoundWorkspace;
+use gr_space::MadeChange;
 use gr_text::Refusal;
 use gr_verdict::{Findings, Found, Known, verdicts};
 use std::alloc::{AllocError, Global};
@@ -65,19 +69,26 @@ fn keeps_bindings(
     alloc: Global,
     graph: &Graph,
     found: &Findings,
-    edits: &EditSet,
-    after: &Graph,
+    change: &MarkedChange<'_>,
     found_after: &Findings,
 ) -> Result<bool, AllocError>
     requires sound { IsSound graph.now found.now }
-    requires after { after.now ≡ edited edits.now graph.now }
-    requires sound_after { IsSound after.now found_after.now }
-    ensures { IfOk result (λ kept. IsTrue kept ↔ KeepsBindings graph.now (known_in found.now) (revision_of graph.now edits.now) (known_in found_after.now)) }
+    requires after { change.now.after.now ≡ edited change.now.edits.now graph.now }
+    requires marks { HasMarks graph.now change.now }
+    requires sound_after { IsSound change.now.after.now found_after.now }
+    ensures { IfOk result (λ kept. IsTrue kept ↔ KeepsBindings graph.now (known_in found.now) (revision_of graph.now change.now.edits.now) (known_in found_after.now)) }
 {
-    match keeps_among(alloc, graph, found, edits, after, found_after)? {
+    match keeps_among(alloc, graph, found, change, found_after)? {
         Answer::Yes => Ok(true),
         Answer::No => Ok(false),
-        Answer::Unknown => keeps_all_bindings(alloc, graph, found, edits, after, found_after),
+        Answer::Unknown => keeps_all_bindings(
+            alloc,
+            graph,
+            found,
+            change.edits,
+            change.after,
+            found_after,
+        ),
     }
 }
 
@@ -98,13 +109,14 @@ fn found_after(
     alloc: Global,
     graph: &Graph,
     known: &Known,
-    after: &Graph,
+    change: &MarkedChange<'_>,
 ) -> Result<Found, AllocError>
-    requires { KnowsVerdicts graph.now known.now }
-    ensures { IfOk result (IsFound after.now) }
+    requires known { KnowsVerdicts graph.now known.now }
+    requires marks { HasMarks graph.now change.now }
+    ensures { IfOk result (IsFound change.now.after.now) }
 {
-    let kept = known_after(alloc, graph, known, after)?;
-    verdicts(alloc, after, &kept)
+    let kept = known_after(alloc, graph, known, change.after, change.marks)?;
+    verdicts(alloc, change.after, &kept)
 }
 
 /// Whether an edit set leaves a workspace without faults in which each identifier is bound to what its declaration has become, by
@@ -113,17 +125,17 @@ fn are_preserved(
     alloc: Global,
     graph: &Graph,
     found: &Findings,
-    edits: &EditSet,
-    after: &Graph,
+    change: &MarkedChange<'_>,
     found_after: &Findings,
 ) -> Result<bool, AllocError>
     requires sound { IsSound graph.now found.now }
-    requires after { after.now ≡ edited edits.now graph.now }
-    requires found_after { AreFindings after.now found_after.now }
-    ensures { IfOk result (λ kept. IsTrue kept ↔ Preserves graph.now (revision_of graph.now edits.now)) }
+    requires after { change.now.after.now ≡ edited change.now.edits.now graph.now }
+    requires marks { HasMarks graph.now change.now }
+    requires found_after { AreFindings change.now.after.now found_after.now }
+    ensures { IfOk result (λ kept. IsTrue kept ↔ Preserves graph.now (revision_of graph.now change.now.edits.now)) }
 {
-    if is_sound(alloc, after, found_after)? {
-        keeps_bindings(alloc, graph, found, edits, after, found_after)
+    if is_sound(alloc, change.after, found_after)? {
+        keeps_bindings(alloc, graph, found, change, found_after)
     } else {
         Ok(false)
     }
@@ -139,21 +151,44 @@ fn known_if(wanted: bool, found: Found) -> Option<Known>
 }
 
 /// Whether an edit set leaves a workspace without faults in which each identifier is bound to what its declaration has become; where
-/// it does, with what is known of the edited workspace then. `after` is that workspace. What was found before says which packages
+/// it does, with what is known of the edited workspace then. What was found before, with the marks of the change, says which packages
 /// need not be checked again.
+fn preserves_marked(
+    alloc: Global,
+    graph: &Graph,
+    found: &Found,
+    change: &MarkedChange<'_>,
+) -> Result<Option<Known>, AllocError>
+    requires sound { IsSound graph.now found.now.findings }
+    requires known { KnowsVerdicts graph.now found.now.known }
+    requires after { change.now.after.now ≡ edited change.now.edits.now graph.now }
+    requires marks { HasMarks graph.now change.now }
+    ensures { IfOk result (TellsPreserved graph.now (revision_of graph.now change.now.edits.now)) }
+{
+    let then = found_after(alloc, graph, &found.known, change)?;
+    let kept = are_preserved(alloc, graph, &found.findings, change, &then.findings)?;
+    Ok(known_if(kept, then))
+}
+
+/// The same of a change of the workspace. Texts are compared only of files in whose folders its edit set names files.
 pub fn preserves(
     alloc: Global,
     graph: &Graph,
     found: &Found,
-    edits: &EditSet,
-    after: &Graph,
+    change: &MadeChange,
 ) -> Result<Option<Known>, AllocError>
     requires sound { IsSound graph.now found.now.findings }
     requires known { KnowsVerdicts graph.now found.now.known }
-    requires after { after.now ≡ edited edits.now graph.now }
-    ensures { IfOk result (TellsPreserved graph.now (revision_of graph.now edits.now)) }
+    requires base { change.now.base ≡ graph.now }
+    requires after { change.now.files ≡ edited change.now.edits graph.now }
+    ensures { IfOk result (TellsPreserved graph.now (revision_of graph.now change.now.edits)) }
 {
-    let then = found_after(alloc, graph, &found.known, after)?;
-    let kept = are_preserved(alloc, graph, &found.findings, edits, after, &then.findings)?;
-    Ok(known_if(kept, then))
+    let marks = marks_of(alloc, graph, change)?;
+    let made = change.get();
+    let marked = MarkedChange {
+        edits: &made.edits,
+        after: &made.files,
+        marks: &marks,
+    };
+    preserves_marked(alloc, graph, found, &marked)
 }

@@ -1,8 +1,8 @@
 -- Which packages have other files after a change, and in whose closures these are.
-use Rattle.std.specs.Prelude.{◌≡◌, ℕ, ◌↔◌, ◌⊎◌, Bool, true, false, MatchBool, List, length, Option, Some, slice_get}
+use Rattle.std.specs.Prelude.{◌≡◌, ℕ, ◌↔◌, Bool, List, length, Option, Some, slice_get}
 use Rattle.std.specs.List.{Contains}
 use Rattle.std.specs.FinMap as map
-use Rattle.gr_text.specs.Packages.{is_go, package_paths, package_files}
+use Rattle.gr_text.specs.Packages.{package_paths, package_files}
 use Rattle.gr_text.specs.Workspace.{Workspace}
 use Rattle.gr_graph.specs.Packages.{IsInClosure}
 use Rattle.gr_graph.specs.Search.{IsMarked}
@@ -14,26 +14,13 @@ use Rattle.gr_finished.specs.Finished.{Table, IsFinished}
 abbrev pub HasSameFiles : Workspace → Workspace → List ℕ → Type 0
 HasSameFiles v w p = (e : List ℕ × List ℕ) → Contains (package_files v p) e ↔ Contains (package_files w p) e
 
--- the file is there with the same text, or with some text
+-- the file is there with the same text
 abbrev pub HasText : Workspace → List ℕ × List ℕ → Type 0
 HasText w e = map.get w e.0 ≡ Some e.1
-
-abbrev pub HasPath : Workspace → List ℕ × List ℕ → Type 0
-HasPath w e = (text : List ℕ) × (map.get w e.0 ≡ Some text)
 
 -- these files are there, each with its text
 abbrev pub HaveTexts : Workspace → List (List ℕ × List ℕ) → Type 0
 HaveTexts w files = (e : List ℕ × List ℕ) → Contains files e → HasText w e
-
--- a Go file that is not there; or it is no Go file, or is there
-abbrev pub TellsLacking : (List ℕ × List ℕ → Type 0) → List ℕ × List ℕ → Bool → Type 0
-TellsLacking IsThere e b = MatchBool b ((is_go e.0 ≡ true) × (IsThere e → ⊥)) ((is_go e.0 ≡ false) ⊎ IsThere e)
-
--- the folders of files that are not there were added
-pub record AddsFolders (IsThere : List ℕ × List ℕ → Type 0) (files : Workspace) (old new : List (List ℕ)) : Type 0 where
-  pub kept : (q : List ℕ) → Contains old q → Contains new q
-  pub lacking : (q : List ℕ) → Contains new q → Contains old q ⊎ ((e : List ℕ × List ℕ) × Contains (package_files files q) e × (IsThere e → ⊥))
-  pub each : (q : List ℕ) (e : List ℕ × List ℕ) → Contains (package_files files q) e → Contains new q ⊎ IsThere e
 
 -- exactly the packages that have not the same files in both
 pub record AreChanged (v w : Workspace) (folders : List (List ℕ)) : Type 0 where

@@ -1,9 +1,8 @@
 //! In whose closures the packages are that have other files after a change.
 ghost use Rattle.std.specs.Prelude.{IfOk};
 ghost use Rattle.gr_graph.specs.Filling.{names};
-ghost use Rattle.gr_finished.specs.Changes.{AreMarks, MarkClosures, MarkFolders};
+ghost use Rattle.gr_finished.specs.Changes.{MarkClosures, MarkFolders};
 
-use gr_finished::changed_folders;
 use gr_graph::Graph;
 use std::alloc::{AllocError, Global};
 
@@ -37,16 +36,4 @@ pub fn closure_marks(
 pub struct Marks {
     pub before: Vec<bool>,
     pub after: Vec<bool>,
-}
-
-/// Marks the packages in whose closures a change changes one.
-pub fn changed_marks(alloc: Global, before: &Graph, after: &Graph) -> Result<Marks, AllocError>
-    ensures before { IfOk result (λ marks. AreMarks before.now after.now marks.before.items) }
-    ensures after { IfOk result (λ marks. AreMarks after.now before.now marks.after.items) }
-{
-    let folders = changed_folders(alloc, before.files(), after.files())?;
-    Ok(Marks {
-        before: closure_marks(alloc, before, &folders)?,
-        after: closure_marks(alloc, after, &folders)?,
-    })
 }

@@ -7,7 +7,7 @@ ghost use Rattle.gr_verdict.specs.Told.{MayTell};
 ghost use Rattle.gr_finished.specs.Changes.{AreMarks};
 
 use crate::carried::keeps_texts;
-use crate::changes::{Marks, changed_marks};
+use crate::changes::Marks;
 use crate::near::number_near;
 use gr_finished::SharedKnown;
 use gr_graph::Graph;
@@ -81,16 +81,19 @@ pub fn kept(
     SharedKnown::new(alloc, carried)
 }
 
-/// What is known of the packages of a workspace in which some files of another are changed, by what is known of those.
+/// What is known of the packages of a workspace in which some files of another are changed, by what is known of those and by the marks
+/// of the change.
 pub fn known_after(
     alloc: Global,
     before: &Graph,
     known: &Known,
     after: &Graph,
+    marks: &Marks,
 ) -> Result<Known, AllocError>
-    requires { KnowsVerdicts before.now known.now }
+    requires known { KnowsVerdicts before.now known.now }
+    requires before_marks { AreMarks before.now after.now marks.now.before.items }
+    requires after_marks { AreMarks after.now before.now marks.now.after.items }
     ensures { IfOk result (KnowsVerdicts after.now) }
 {
-    let marks = changed_marks(alloc, before, after)?;
-    kept_verdicts(alloc, before, known, after, &marks)
+    kept_verdicts(alloc, before, known, after, marks)
 }

@@ -7,6 +7,6 @@ mod knowing;
 mod near;
 
 pub use carried::{carried_units, keeps_texts};
-pub use changes::{Marks, changed_marks, closure_marks};
+pub use changes::{Marks, closure_marks};
 pub use knowing::{kept, known_after};
 pub use near::number_near;

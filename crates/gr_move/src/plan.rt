@@ -79,16 +79,17 @@ fn refuse_conflict(
     snapshot: &Snapshot,
     found: &Found,
     from: &Path,
-    change: &Change,
+    change: &MadeChange,
 ) -> Result<Known, Refusal>
     requires sound { IsSound snapshot.now.files found.now.findings }
     requires known { KnowsVerdicts snapshot.now.files found.now.known }
+    requires base { change.now.base ≡ snapshot.now.files }
     requires after { change.now.files ≡ edited change.now.edits snapshot.now.files }
     ensures { RefusesConflict snapshot.now.files from.now change.now.edits result }
 {
-    match preserves(alloc, &snapshot.files, found, &change.edits, &change.files)? {
+    match preserves(alloc, &snapshot.files, found, change)? {
         Some(known) => Ok(known),
-        None => Err(refusal_of(alloc, snapshot, found, from, change)),
+        None => Err(refusal_of(alloc, snapshot, found, from, change.get())),
     }
 }
 
@@ -106,7 +107,7 @@ fn judged(
     ensures planned { PlansEdits snapshot.now from.now change.edits (change_in result) }
     ensures known { IfOk result (λ p. KnowsVerdicts p.change.files p.known) }
 {
-    match refuse_conflict(alloc, snapshot, found, from, change.get()) {
+    match refuse_conflict(alloc, snapshot, found, from, &change) {
         Err(refusal) => Err(refusal),
         Ok(known) => within_limits(&snapshot.limits, change, known),
     }
@@ -145,7 +146,7 @@ fn refuse_length(
     ensures known { IfOk result (λ p. KnowsVerdicts p.change.files p.known) }
 {
     let change = MadeChange::of(alloc, snapshot, ChangeKind::Move, edits)?;
-    match refuse_conflict(alloc, snapshot, found, from, change.get()) {
+    match refuse_conflict(alloc, snapshot, found, from, &change) {
         Err(refusal) => Err(refusal),
         Ok(_known) => Err(Refusal::TooLarge),
     }

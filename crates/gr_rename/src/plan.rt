@@ -101,10 +101,9 @@ fn judged(
     ensures planned { PlansEdits snapshot.now (known_in found.now.findings) (asked_place asked.now) change.edits (change_in result) }
     ensures known { IfOk result (λ p. KnowsVerdicts p.change.files p.known) }
 {
-    let made = change.get();
-    match preserves(alloc, &snapshot.files, found, &made.edits, &made.files)? {
+    match preserves(alloc, &snapshot.files, found, &change)? {
         Some(known) => within_limits(&snapshot.limits, change, known),
-        None => Err(refusal_of(alloc, snapshot, found, asked, made)),
+        None => Err(refusal_of(alloc, snapshot, found, asked, change.get())),
     }
 }
 

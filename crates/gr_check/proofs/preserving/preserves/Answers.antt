@@ -1,20 +1,29 @@
--- The answers to the goals of `preserving::preserves`.
-use Rattle.gr_check.proofs.Deciding.{told_preserved}
+-- The edit set and the files of the change, with its marks.
+use Rattle.std.proofs.Common.{◌≡◌, ap, sym, subst}
+use Rattle.std.specs.Prelude.{IfOk}
+use Rattle.gr_edit.specs.EditSet.{FileChanges, edited}
+use Rattle.gr_text.specs.Workspace.{Workspace}
+use Rattle.gr_finished.specs.Changes.{AreMarks}
+use Rattle.gr_revision.specs.RevisionsOfEdits.{revision_of}
+use Rattle.gr_space.specs.declared.change.Change.{Change}
+use Rattle.gr_check.specs.Preserved.{TellsPreserved}
 use Rattle.gr_check.proofs.preserving.preserves.Goals as goal
 
-pub found_after-requires : goal.found_after-requires
-found_after-requires c = c.requires.known
+pub marks_of-requires : goal.marks_of-requires
+marks_of-requires c = c.requires.base
 
-pub are_preserved-requires-clause-sound : goal.are_preserved-requires-clause-sound
-are_preserved-requires-clause-sound c = c.requires.sound
+pub preserves_marked-requires-clause-after : goal.preserves_marked-requires-clause-after
+preserves_marked-requires-clause-after c = subst (λ (x : Change). x.files ≡ edited x.edits c.args.graph.now) (sym c.get-made.ensures) c.requires.after
 
-pub are_preserved-requires-clause-after : goal.are_preserved-requires-clause-after
-are_preserved-requires-clause-after c = c.requires.after
-
-pub are_preserved-requires-clause-found_after : goal.are_preserved-requires-clause-found_after
-are_preserved-requires-clause-found_after c = c.in_ok-then.ensures.findings
+pub preserves_marked-requires-clause-marks : goal.preserves_marked-requires-clause-marks
+preserves_marked-requires-clause-marks c =
+    let files = ap (λ (x : Change). x.files) (sym c.get-made.ensures) in
+    let marks = c.in_ok-marks.marks in record {
+      before = subst (λ (w : Workspace). AreMarks c.args.graph.now w marks.before.items) files c.in_ok-marks.ensures.before;
+      after = subst (λ (w : Workspace). AreMarks w c.args.graph.now marks.after.items) files c.in_ok-marks.ensures.after;
+    }
 
 pub returns : goal.returns
 returns c =
-    told_preserved c.args.graph.now c.args.after.now c.args.edits.now c.in_ok-then.then.known c.in_ok-kept.kept c.known_if.result c.requires.after
-    c.in_ok-then.ensures.verdicts c.in_ok-kept.ensures c.known_if.ensures
+    subst (λ (x : Change). IfOk c.preserves_marked.result (TellsPreserved c.args.graph.now (revision_of c.args.graph.now x.edits))) c.get-made.ensures
+    c.preserves_marked.ensures

@@ -14,34 +14,35 @@ use Rattle.gr_rename.specs.Steps.{PlansEdits}
 use Rattle.gr_rename.proofs.Planned.{kept_planned}
 use Rattle.gr_rename.proofs.plan.judged.Goals as goal
 
+pub preserves-requires-clause-base : goal.preserves-requires-clause-base
+preserves-requires-clause-base c = ap (λ (x : Change). x.base) c.requires.is_change
+
 pub preserves-requires-clause-after : goal.preserves-requires-clause-after
-preserves-requires-clause-after c = rw c.get-made.ensures (ap (λ (x : Change). x.files) c.requires.is_change)
+preserves-requires-clause-after c = ap (λ (x : Change). x.files) c.requires.is_change
 
 pub refusal_of-requires-clause-after : goal.refusal_of-requires-clause-after
-refusal_of-requires-clause-after c = rw c.get-made.ensures (ap (λ (x : Change). x.files) c.requires.is_change)
+refusal_of-requires-clause-after c = rw c.get.ensures (ap (λ (x : Change). x.files) c.requires.is_change)
 
 pub refusal_of-requires-clause-not_preserved : goal.refusal_of-requires-clause-not_preserved
 refusal_of-requires-clause-not_preserved c =
     let w = c.args.snapshot.now.files in
-    subst (λ (o : Option Known). TellsPreserved w (revision_of w c.get-made.result.now.edits) o) c.in-None.is c.in_ok-known.ensures
+    rw c.get.ensures (subst (λ (o : Option Known). TellsPreserved w (revision_of w c.args.change.edits) o) c.in-None.is c.in_ok-known.ensures)
 
 pub returns-in-None-clause-planned : goal.returns-in-None-clause-planned
 returns-in-None-clause-planned c =
     subst (λ (x : Change). PlansEdits c.args.snapshot.now (known_in c.args.found.now.findings) (asked_place c.args.asked.now) x.edits
-    (Err c.refusal_of.result)) c.get-made.ensures c.refusal_of.ensures
+    (Err c.refusal_of.result)) c.get.ensures c.refusal_of.ensures
 
 pub within_limits-requires : goal.within_limits-requires
 within_limits-requires c =
     let w = c.args.snapshot.now.files in
-    let first = rw c.get-made.ensures at c.in_ok-known.ensures in
-    let told = subst (λ (o : Option Known). TellsPreserved w (revision_of w c.args.change.edits) o) c.in-Some.is first in
+    let told = subst (λ (o : Option Known). TellsPreserved w (revision_of w c.args.change.edits) o) c.in-Some.is c.in_ok-known.ensures in
     subst (λ (v : Workspace). KnowsVerdicts v c.in-Some.known) (sym (ap (λ (x : Change). x.files) c.requires.is_change)) told.1
 
 pub returns-in-Some-clause-planned : goal.returns-in-Some-clause-planned
 returns-in-Some-clause-planned c =
     let w = c.args.snapshot.now.files in
-    let first = rw c.get-made.ensures at c.in_ok-known.ensures in
-    let told = subst (λ (o : Option Known). TellsPreserved w (revision_of w c.args.change.edits) o) c.in-Some.is first in
+    let told = subst (λ (o : Option Known). TellsPreserved w (revision_of w c.args.change.edits) o) c.in-Some.is c.in_ok-known.ensures in
     kept_planned c.args.snapshot.now (known_in c.args.found.now.findings) (asked_place c.args.asked.now) c.args.change.edits c.args.change c.requires.is_change
     told.0 (change_in c.within_limits.result) c.within_limits.ensures.planned
 
