@@ -1,8 +1,12 @@
--- The content is the same, and so it is the replay of the journal still.
+-- The current files are those of the content, which is the same, and so it is the replay of the journal still.
 use Rattle.std.proofs.Common.{sym, subst, vec_capacity}
-use Rattle.gr_machine.specs.Machine.{Content}
+use Rattle.gr_verdict.specs.Found.{KnowsVerdicts}
+use Rattle.gr_machine.specs.Machine.{Content, Machine}
 use Rattle.gr_machine.proofs.Legal.{BookHolds}
 use Rattle.gr_book.proofs.book.Book.learn_current.Goals as goal
+
+pub learn_current-requires : goal.learn_current-requires
+learn_current-requires c = subst (λ (m : Machine). KnowsVerdicts m.current.files c.args.known) (sym c.self.view_is) c.requires
 
 pub invariant_of-self : goal.invariant_of-self
 invariant_of-self c =
