@@ -148,6 +148,14 @@ impl Book {
         self.content.learn(files, known);
     }
 
+    /// The same of files that are known to be those of the current state: they are not compared.
+    pub fn learn_current(&mut self, known: Known)
+        requires { KnowsVerdicts self.old.current.files known }
+        ensures { self.new ≡ self.old }
+    {
+        self.content.learn_current(known);
+    }
+
     /// Ends the history, and tells how many entries its journal had.
     pub fn close(self) -> u64
         ensures { result ≡ length self.journal }

@@ -307,6 +307,16 @@ impl Content {
         }
     }
 
+    /// The same of the files of the current state, which are not compared.
+    pub fn learn_current(&mut self, known: Known)
+        requires { KnowsVerdicts self.old.current.files known }
+        ensures { self.new ≡ self.old }
+    {
+        if let Ok(known) = SharedKnown::new(self.alloc, known) {
+            self.current.learn_own(known);
+        }
+    }
+
     pub fn close(self) {
         let Content {
             alloc: _,

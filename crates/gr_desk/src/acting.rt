@@ -119,7 +119,7 @@ fn commit<D: Desk>(desk: &mut D, basis: u64, planned: Result<MadeChange, Refusal
     }
 }
 
-/// Commits a change, and has the desk learn what is known of these files, which are the change's.
+/// Commits a change, and has the desk learn what is known of its files, which are these, if it is admitted.
 fn commit_learning<D: Desk>(
     desk: &mut D,
     basis: u64,
@@ -128,12 +128,17 @@ fn commit_learning<D: Desk>(
     known: Known,
 ) -> Response
     requires seen { D.sees desk.old change.base }
+    requires files { files.now ≡ change.files }
     requires known { KnowsVerdicts files.now known }
     ensures { Sends D.steps desk.old (Commit basis change) result desk.new }
 {
-    let response = send_change(desk, basis, change);
-    desk.learn(files, known);
-    response
+    match desk.commit(basis, change) {
+        Ok(number) => {
+            desk.learn(files, known);
+            Response::Done { number }
+        }
+        Err(refusal) => Response::Refused { refusal },
+    }
 }
 
 /// Commits a planned change. The desk learns what is known of its files, unless a clone of these finds no memory.
@@ -188,6 +193,7 @@ fn del<D: Desk>(alloc: Global, desk: &mut D, view: &View, basis: u64, path: Word
 
 /// What is found in the packages of a view's files. The desk learns of it.
 fn find<D: Desk>(alloc: Global, desk: &mut D, view: &View) -> Result<Findings, AllocError>
+    requires { D.sees desk.old view.now.snapshot.files }
     ensures findings { IfOk result (AreFindings view.now.snapshot.files) }
     ensures same { desk.new ≡ desk.old }
 {
@@ -198,7 +204,8 @@ fn find<D: Desk>(alloc: Global, desk: &mut D, view: &View) -> Result<Findings, A
 
 /// Has a desk learn what was found in the packages of a view's files.
 fn learn<D: Desk>(desk: &mut D, view: &View, found: Found)
-    requires { IsFound view.now.snapshot.files found }
+    requires seen { D.sees desk.old view.now.snapshot.files }
+    requires found { IsFound view.now.snapshot.files found }
     ensures { desk.new ≡ desk.old }
 {
     let Found { findings, known } = found;
@@ -215,6 +222,7 @@ fn plan_name<D: Desk>(
     offset: usize,
     name: &str,
 ) -> Result<Planned, Refusal>
+    requires { D.sees desk.old view.now.snapshot.files }
     ensures planned { PlansRename view.now.snapshot path.now offset name.now (change_in result) }
     ensures known { IfOk result (λ p. KnowsVerdicts p.change.files p.known) }
     ensures same { desk.new ≡ desk.old }
@@ -263,6 +271,7 @@ fn plan_target<D: Desk>(
     from: &str,
     to: &str,
 ) -> Result<Planned, Refusal>
+    requires { D.sees desk.old view.now.snapshot.files }
     ensures planned { PlansMove view.now.snapshot from.now to.now (change_in result) }
     ensures known { IfOk result (λ p. KnowsVerdicts p.change.files p.known) }
     ensures same { desk.new ≡ desk.old }
@@ -329,6 +338,7 @@ fn find_uses<D: Desk>(
     path: &str,
     offset: usize,
 ) -> Result<Places, Refusal>
+    requires { D.sees desk.old view.now.snapshot.files }
     ensures uses { TellsUses view.now.snapshot.files path.now offset result }
     ensures same { desk.new ≡ desk.old }
 {
@@ -343,6 +353,7 @@ fn tell_uses<D: Desk>(
     path: Word,
     offset: usize,
 ) -> Response
+    requires { D.sees desk.old view.now.snapshot.files }
     ensures told { (found : Result (List Place) WhyRefused) × TellsUses view.now.snapshot.files path offset found × (result ≡ places_response view.now.snapshot.number found) }
     ensures same { desk.new ≡ desk.old }
 {
@@ -367,6 +378,7 @@ fn tell_list(view: &View) -> Response
 
 /// The faults of a view's files, in the order of packages, paths, offsets and kinds.
 fn find_faults<D: Desk>(alloc: Global, desk: &mut D, view: &View) -> Result<FaultList, AllocError>
+    requires { D.sees desk.old view.now.snapshot.files }
     ensures faults { IfOk result (ListsFaults view.now.snapshot.files) }
     ensures same { desk.new ≡ desk.old }
 {
@@ -376,6 +388,7 @@ fn find_faults<D: Desk>(alloc: Global, desk: &mut D, view: &View) -> Result<Faul
 }
 
 fn tell_faults<D: Desk>(alloc: Global, desk: &mut D, view: &View) -> Response
+    requires { D.sees desk.old view.now.snapshot.files }
     ensures told { AnswersFaults view.now result }
     ensures same { desk.new ≡ desk.old }
 {

@@ -40,19 +40,21 @@ pub trait Desk {
         ensures step { steps self.old Look (looked result) self.new }
         ensures sees { IfOk result (λ view. sees self.new view.snapshot.files) };
 
-    /// A change of files that a look has shown.
+    /// A change of files that a look has shown. What is known of its own files then holds until the next event.
     fn commit(&mut self, basis: u64, change: MadeChange) -> Result<u64, Refusal>
         requires { sees self.old change.base }
-        ensures { steps self.old (Commit basis change) (done result) self.new };
+        ensures step { steps self.old (Commit basis change) (done result) self.new }
+        ensures sees { IfOk result (λ _. sees self.new change.files) };
 
     /// Waits until every package of the current state is finished.
     fn wait(&mut self) -> Result<u64, Refusal>
         ensures { waits self.old result self.new };
 
-    /// Takes in what was found in packages of these files. It is no event: it decides how long something takes, and the desk stays
-    /// as it is.
+    /// Takes in what was found in packages of files that a look has shown, or a change has made. It is no event: it decides how long
+    /// something takes, and the desk stays as it is.
     fn learn(&mut self, files: &Graph, known: Known)
-        requires { KnowsVerdicts files.now known }
+        requires seen { sees self.old files.now }
+        requires known { KnowsVerdicts files.now known }
         ensures { self.new ≡ self.old };
 }
 
@@ -120,7 +122,8 @@ impl Desk for Solo {
         Err(Refusal::BadCommand)
     }
 
-    fn learn(&mut self, files: &Graph, known: Known) {
-        self.book.learn(files, known);
+    /// They are the current files, so nothing is compared.
+    fn learn(&mut self, _files: &Graph, known: Known) {
+        self.book.learn_current(known);
     }
 }

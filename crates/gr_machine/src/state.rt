@@ -95,4 +95,12 @@ impl State {
             self.known = known;
         }
     }
+
+    /// The same of its own files, which are not compared.
+    pub fn learn_own(&mut self, known: SharedKnown)
+        requires { KnowsVerdicts self.old.files known }
+        ensures { self.new ≡ self.old }
+    {
+        self.known = known;
+    }
 }

@@ -1,9 +1,12 @@
--- What is known is right of a clone of the change's files.
+-- A clone of the change's files is the same, and what is known is right of it.
 use Rattle.std.proofs.Common.{sym, ap, subst, ◌∙◌}
 use Rattle.gr_text.specs.Workspace.{Workspace}
 use Rattle.gr_verdict.specs.Found.{KnowsVerdicts}
 use Rattle.gr_space.specs.declared.change.Change.{Change}
 use Rattle.gr_desk.proofs.acting.commit_planned.Goals as goal
+
+pub commit_learning-requires-clause-files : goal.commit_learning-requires-clause-files
+commit_learning-requires-clause-files g c = c.in-Ok.ensures.cases ∙ ap (λ (x : Change). x.files) c.get.ensures
 
 pub commit_learning-requires-clause-known : goal.commit_learning-requires-clause-known
 commit_learning-requires-clause-known g c = subst (λ (w : Workspace). KnowsVerdicts w c.args.planned.known)

@@ -1,9 +1,11 @@
--- What was found is right of the view's files.
+-- What was found is right of the view's files, which are seen.
 use Rattle.std.proofs.Common.{sym, subst}
 use Rattle.gr_text.specs.Workspace.{Workspace}
 use Rattle.gr_verdict.specs.Found.{KnowsVerdicts}
 use Rattle.gr_desk.proofs.acting.find.Goals as goal
 
 pub learn-requires : goal.learn-requires
-learn-requires g c =
-    subst (λ (w : Workspace). KnowsVerdicts w c.in_ok-findings.field-0.known) (sym c.files.ensures) c.in_ok-findings.ensures.verdicts
+learn-requires g c = record {
+  seen = subst (λ (w : Workspace). g.D.Desk.sees c.args.desk.now w) (sym c.files.ensures) c.requires;
+  known = subst (λ (w : Workspace). KnowsVerdicts w c.in_ok-findings.field-0.known) (sym c.files.ensures) c.in_ok-findings.ensures.verdicts;
+}
