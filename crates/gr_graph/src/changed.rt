@@ -128,8 +128,9 @@ fn keeps_row(
     let Some(number) = number_of(packages, one.path()) else {
         return Ok(true);
     };
-    let row = row_of(alloc, packages, one)?;
-    Ok(row.as_slice() == links.imports(number))
+    let earlier = links.imports(number);
+    let row = row_of(alloc, packages, one, earlier)?;
+    Ok(row.as_slice() == earlier)
 }
 
 /// Whether packages, as far as they are of those, import what the links say of them.

@@ -24,7 +24,7 @@ use crate::package::ParsedPackage;
 use crate::package_list::PackageList;
 use crate::packages::packages;
 use crate::part::{numbered, part_links};
-use crate::rows::rows;
+use crate::rows::{Earlier, rows};
 use crate::shared_links::SharedLinks;
 use crate::shared_package::{SharedPackage, number_of};
 use crate::updated::updated;
@@ -72,6 +72,25 @@ impl Model for Graph {
     ghost invariant = { λ a. IsGraph (arc_value a.parts).files (arc_value a.parts).packages.items (arc_value a.parts).links };
 }
 
+/// The packages and links of an earlier graph, if there is one.
+fn earlier_of(before: Option<&Parts>) -> Option<Earlier<'_>> {
+    match before {
+        Some(parts) => Some(Earlier {
+            packages: &parts.packages,
+            links: parts.links.links(),
+        }),
+        None => None,
+    }
+}
+
+/// Its links alone.
+fn links_of(before: Option<&Parts>) -> Option<&SharedLinks> {
+    match before {
+        Some(parts) => Some(&parts.links),
+        None => None,
+    }
+}
+
 impl Graph {
     /// Parses the Go files and finds which packages they import.
     pub fn of(alloc: Global, files: Files) -> Result<Graph, AllocError>
@@ -99,7 +118,7 @@ impl Graph {
             return Graph::replaced(alloc, before, &fresh, files);
         }
         let packages = updated(&old.packages, &fresh)?;
-        Graph::made(alloc, Some(&old.links), files, packages)
+        Graph::made(alloc, Some(old), files, packages)
     }
 
     /// The graph of other files, by the packages of the folders in which Go files differ, where no package comes and none goes.
@@ -117,7 +136,7 @@ impl Graph {
         let old: &Parts = &before.parts;
         let packages = replaced(&old.packages, fresh)?;
         if !keep_rows(alloc, &packages, old.links.links(), fresh)? {
-            return Graph::made(alloc, Some(&old.links), files, packages);
+            return Graph::made(alloc, Some(old), files, packages);
         }
         let links = old.links.clone()?;
         let parts = Parts {
@@ -158,10 +177,10 @@ impl Graph {
     }
 
     /// The graph of some files from their packages. What is asked of the links before is not found again where no link
-    /// changed.
+    /// changed, and each import is looked for first where it was before.
     fn made(
         alloc: Global,
-        links_before: Option<&SharedLinks>,
+        before: Option<&Parts>,
         files: Files,
         packages: Vec<SharedPackage>,
     ) -> Result<Graph, AllocError>
@@ -169,7 +188,9 @@ impl Graph {
         requires files { (i : ℕ) (p : ParsedPackage) → slice_get packages.items i ≡ Some p → HasFiles files p }
         ensures { IfOk result (λ graph. graph ≡ files) }
     {
-        let links = SharedLinks::of(alloc, links_before, rows(alloc, &packages)?)?;
+        let earlier = earlier_of(before);
+        let rows = rows(alloc, &packages, earlier)?;
+        let links = SharedLinks::of(alloc, links_of(before), rows)?;
         let parts = Parts {
             files,
             packages,

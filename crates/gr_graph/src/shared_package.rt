@@ -1,5 +1,5 @@
 //! Packages that several graphs share.
-ghost use Rattle.std.specs.Prelude.{◌≡◌, IfOk, Some, slice_get, MatchOption};
+ghost use Rattle.std.specs.Prelude.{◌≡◌, IfOk, IfSome, IsTrue, Some, slice_get, MatchOption};
 ghost use Rattle.std.specs.List.{Contains};
 ghost use Rattle.std.specs.List.Sorted.{IsStrictlySortedBy};
 ghost use Rattle.gr_text.specs.Workspace.{path_cmp};
@@ -92,5 +92,40 @@ pub(crate) fn number_of(packages: &[SharedPackage], path: &[u8]) -> Option<usize
     match packages.binary_search_by(|package| package.path().cmp(path)) {
         Ok(number) => Some(number),
         Err(_) => None,
+    }
+}
+
+/// Whether the package of a number has a path.
+fn is_at(packages: &[SharedPackage], number: usize, path: &[u8]) -> bool
+    ensures { IsTrue result → slice_get (paths_of packages.now) number ≡ Some path.now }
+{
+    number < packages.len() && packages[number].path() == path
+}
+
+/// The number of the package that has a path, if it is that one or one beside it.
+pub(crate) fn place_near(packages: &[SharedPackage], path: &[u8], near: usize) -> Option<usize>
+    ensures { IfSome result (λ number. slice_get (paths_of packages.now) number ≡ Some path.now) }
+{
+    let after = near.saturating_add(1);
+    let before = near.saturating_sub(1);
+    if is_at(packages, near, path) {
+        Some(near)
+    } else if is_at(packages, after, path) {
+        Some(after)
+    } else if is_at(packages, before, path) {
+        Some(before)
+    } else {
+        None
+    }
+}
+
+/// The number of the package that has a path, which is looked for first at a number and beside it.
+pub(crate) fn number_near(packages: &[SharedPackage], path: &[u8], near: usize) -> Option<usize>
+    requires { IsStrictlySortedBy path_cmp (paths_of packages.now) }
+    ensures { MatchOption result (Contains (paths_of packages.now) path.now → ⊥) (λ number. slice_get (paths_of packages.now) number ≡ Some path.now) }
+{
+    match place_near(packages, path, near) {
+        Some(number) => Some(number),
+        None => number_of(packages, path),
     }
 }

@@ -12,8 +12,8 @@ use Rattle.gr_graph.proofs.changed.keeps_row.Goals as goal
 pub returns-in_default : goal.returns-in_default
 returns-in_default c = λ _ n at. absurd (c.in_default.ensures (at_path (paths_of c.args.packages.now) n c.path.result.now (at ∙ ap Some (sym c.path.ensures))))
 
-pub imports-requires : goal.imports-requires
-imports-requires c = omega (arith, slice_get_within (paths_of c.args.packages.now) c.in-Some.number c.path.result.now c.in-Some.ensures, c.requires.size)
+pub imports-earlier-requires : goal.imports-earlier-requires
+imports-earlier-requires c = omega (arith, slice_get_within (paths_of c.args.packages.now) c.in-Some.number c.path.result.now c.in-Some.ensures, c.requires.size)
 
 pub returns : goal.returns
 returns c = λ t n at.
@@ -22,5 +22,5 @@ returns c = λ t n at.
     let same : n ≡ c.in-Some.number = one_number paths c.requires.sorted n c.in-Some.number c.path.result.now (at ∙ path) c.in-Some.ensures in
     let trees = c.args.one.now.trees.items in
     let row : c.in_ok-row.row ≡ imports_of c.args.links.now c.in-Some.number = sym c.as_slice.ensures ∙ (bytes_decides _ _).0 (sym c.eq.ensures ∙ t) ∙
-    c.imports.ensures in
+    c.imports-earlier.ensures in
     subst (λ (k : ℕ). IsRow paths trees (imports_of c.args.links.now k)) (sym same) (subst (IsRow paths trees) row c.in_ok-row.ensures)

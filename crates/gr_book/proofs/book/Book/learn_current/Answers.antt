@@ -1,4 +1,4 @@
--- What was found is of the current files. The content is the same, and so it is the replay of the journal still.
+-- The current files are those of the content, which is the same, and so it is the replay of the journal still.
 use Rattle.std.proofs.Common.{sym, subst, vec_capacity}
 use Rattle.gr_verdict.specs.Found.{KnowsVerdicts}
 use Rattle.gr_machine.specs.Machine.{Content, Machine}
