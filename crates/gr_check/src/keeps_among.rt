@@ -15,8 +15,8 @@ ghost use Rattle.gr_kept_each.specs.Steps.{HasBound};
 
 use crate::among::MarkedPackages;
 use crate::answer::{Answer, no_or_unknown, yes_or_unknown};
+use crate::edited_workspace::EditedWorkspace;
 use crate::lost::is_lost;
-use crate::marked_change::MarkedChange;
 use gr_affected::affected_by;
 use gr_bound::{BoundSpot, Declaration};
 use gr_edit::EditSet;
@@ -296,7 +296,7 @@ pub fn keeps_among(
     alloc: Global,
     graph: &Graph,
     found: &Findings,
-    change: &MarkedChange<'_>,
+    change: &EditedWorkspace<'_>,
     found_after: &Findings,
 ) -> Result<Answer, AllocError>
     requires sound { IsSound graph.now found.now }

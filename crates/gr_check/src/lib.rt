@@ -3,9 +3,9 @@
 
 mod among;
 mod answer;
+mod edited_workspace;
 mod keeps_among;
 mod lost;
-mod marked_change;
 mod planned;
 mod preserving;
 

@@ -10,8 +10,8 @@ ghost use Rattle.gr_check.specs.Preserved.{KeepsBindings, Preserves, TellsPreser
 ghost use Rattle.gr_revision.specs.RevisionsOfEdits.{revision_of};
 
 use crate::answer::Answer;
+use crate::edited_workspace::EditedWorkspace;
 use crate::keeps_among::keeps_among;
-use crate::marked_change::MarkedChange;
 use gr_bound::{Packages, all_seen, refuse_faults};
 use gr_edit::EditSet;
 use gr_graph::Graph;
@@ -69,7 +69,7 @@ fn keeps_bindings(
     alloc: Global,
     graph: &Graph,
     found: &Findings,
-    change: &MarkedChange<'_>,
+    change: &EditedWorkspace<'_>,
     found_after: &Findings,
 ) -> Result<bool, AllocError>
     requires sound { IsSound graph.now found.now }
@@ -109,7 +109,7 @@ fn found_after(
     alloc: Global,
     graph: &Graph,
     known: &Known,
-    change: &MarkedChange<'_>,
+    change: &EditedWorkspace<'_>,
 ) -> Result<Found, AllocError>
     requires known { KnowsVerdicts graph.now known.now }
     requires marks { HasMarks graph.now change.now }
@@ -125,7 +125,7 @@ fn are_preserved(
     alloc: Global,
     graph: &Graph,
     found: &Findings,
-    change: &MarkedChange<'_>,
+    change: &EditedWorkspace<'_>,
     found_after: &Findings,
 ) -> Result<bool, AllocError>
     requires sound { IsSound graph.now found.now }
@@ -157,7 +157,7 @@ fn preserves_marked(
     alloc: Global,
     graph: &Graph,
     found: &Found,
-    change: &MarkedChange<'_>,
+    change: &EditedWorkspace<'_>,
 ) -> Result<Option<Known>, AllocError>
     requires sound { IsSound graph.now found.now.findings }
     requires known { KnowsVerdicts graph.now found.now.known }
@@ -185,7 +185,7 @@ pub fn preserves(
 {
     let marks = marks_of(alloc, graph, change)?;
     let made = change.get();
-    let marked = MarkedChange {
+    let marked = EditedWorkspace {
         edits: &made.edits,
         after: &made.files,
         marks: &marks,

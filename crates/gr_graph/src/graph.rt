@@ -24,7 +24,7 @@ use crate::package::ParsedPackage;
 use crate::package_list::PackageList;
 use crate::packages::packages;
 use crate::part::{numbered, part_links};
-use crate::rows::{Earlier, rows};
+use crate::rows::{EarlierGraph, rows};
 use crate::shared_links::SharedLinks;
 use crate::shared_package::{SharedPackage, number_of};
 use crate::updated::updated;
@@ -73,9 +73,9 @@ impl Model for Graph {
 }
 
 /// The packages and links of an earlier graph, if there is one.
-fn earlier_of(before: Option<&Parts>) -> Option<Earlier<'_>> {
+fn earlier_of(before: Option<&Parts>) -> Option<EarlierGraph<'_>> {
     match before {
-        Some(parts) => Some(Earlier {
+        Some(parts) => Some(EarlierGraph {
             packages: &parts.packages,
             links: parts.links.links(),
         }),

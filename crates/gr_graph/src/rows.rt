@@ -74,13 +74,13 @@ pub(crate) fn row_of(
 
 /// Packages by number, and which imports which, as they were in an earlier graph.
 #[derive(Clone, Copy)]
-pub(crate) struct Earlier<'a> {
+pub(crate) struct EarlierGraph<'a> {
     pub(crate) packages: &'a [SharedPackage],
     pub(crate) links: &'a ImportLinks,
 }
 
 /// What the package of a path imported in an earlier graph, if it is found there at a number or beside it.
-fn earlier_row<'a>(earlier: Option<Earlier<'a>>, path: &[u8], near: usize) -> &'a [usize] {
+fn earlier_row<'a>(earlier: Option<EarlierGraph<'a>>, path: &[u8], near: usize) -> &'a [usize] {
     let Some(earlier) = earlier else {
         return &[];
     };
@@ -94,7 +94,7 @@ fn earlier_row<'a>(earlier: Option<Earlier<'a>>, path: &[u8], near: usize) -> &'
 pub(crate) fn rows(
     alloc: Global,
     packages: &[SharedPackage],
-    earlier: Option<Earlier<'_>>,
+    earlier: Option<EarlierGraph<'_>>,
 ) -> Result<Vec<PackageList>, AllocError>
     requires { IsStrictlySortedBy path_cmp (paths_of packages.now) }
     ensures { IfOk result (λ rows. AllZip (λ p row. IsRow (paths_of packages.now) p.trees.items row) packages.now rows.items) }

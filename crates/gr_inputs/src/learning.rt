@@ -14,7 +14,7 @@ use std::alloc::{AllocError, Global};
 
 /// Packages with what is known of them.
 #[derive(Clone, Copy)]
-struct Told<'a> {
+struct KnownPackages<'a> {
     graph: &'a Graph,
     known: &'a Known,
 }
@@ -31,7 +31,7 @@ fn has_path(graph: &Graph, number: usize, path: &[u8]) -> bool
 
 /// The verdict on the package of a path, if it is the package of a number and is known.
 fn verdict_there(
-    there: Told<'_>,
+    there: KnownPackages<'_>,
     number: usize,
     path: &[u8],
 ) -> Result<Option<KnownVerdict>, AllocError>
@@ -61,7 +61,7 @@ pub fn known_within(
     requires closures { HasClosuresOf files.now inputs.now }
     ensures { IfOk result (KnowsVerdicts inputs.now) }
 {
-    let there = Told {
+    let there = KnownPackages {
         graph: files,
         known: known.get(),
     };
@@ -79,7 +79,7 @@ fn learned_verdict(
     files: &Graph,
     number: usize,
     own: &Known,
-    brought: Told<'_>,
+    brought: KnownPackages<'_>,
     place: usize,
 ) -> Result<Option<KnownVerdict>, AllocError>
     requires number { number < length (package_paths files.now) }
@@ -120,7 +120,7 @@ pub fn learned(
     requires closures { HasClosuresOf files.now inputs.now }
     ensures { IfOk result (KnowsVerdicts files.now) }
 {
-    let brought = Told {
+    let brought = KnownPackages {
         graph: inputs,
         known: others,
     };

@@ -5,7 +5,7 @@ use gr_keep::Marks;
 
 /// An edit set, the edited workspace, and the marks of the packages in whose closures one has other files there.
 #[derive(Clone, Copy)]
-pub struct MarkedChange<'a> {
+pub struct EditedWorkspace<'a> {
     pub edits: &'a EditSet,
     pub after: &'a Graph,
     pub marks: &'a Marks,
