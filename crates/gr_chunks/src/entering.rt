@@ -52,7 +52,8 @@ fn enter_copied<K: Ord + Share, V: Share>(
     put_items(chunks, len, at, entries)
 }
 
-/// Sets the value at a key in its chunk, which is copied where it is shared, and tells how many entries there are then.
+/// Sets the value at a key in its chunk, which is copied where it is shared, and tells how many entries there are then; asked as the
+/// function before is, since it falls back on that.
 pub(crate) fn enter<K: Ord + Share, V: Share>(
     chunks: &mut Vec<Chunk<(K, V)>>,
     len: usize,

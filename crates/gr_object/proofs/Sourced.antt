@@ -29,7 +29,8 @@ use Rattle.gr_object.specs.Names.{type_called, type_name, type_names, functions_
 use Rattle.gr_object.specs.NamesView.{AreNamesOf, AreTablesOf}
 use Rattle.gr_object.specs.Numbering.{slot_from}
 use Rattle.gr_object.specs.ObjectView.{HaveNames}
-use Rattle.gr_object.specs.PackagesView.{package_in, type_of_rank, function_of_rank, position_of_rank, type_at, type_in, function_at, function_in, position_at, position_in}
+use Rattle.gr_object.specs.PackagesView.{package_in, type_of_rank, function_of_rank, position_of_rank, type_at, type_in, function_at, function_in}
+use Rattle.gr_object.specs.PackagesView.{position_at, position_in}
 use Rattle.gr_object.specs.Sources.{IsSourceOf, type_before}
 use Rattle.gr_object.specs.SourceView.{source_of, type_used}
 use Rattle.gr_object.specs.TablesView.{IsTabled}

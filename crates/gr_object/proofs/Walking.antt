@@ -1,5 +1,6 @@
 -- What is found by going over the parts of a list, one after another.
-use Rattle.std.proofs.Common.{Bool, true, false, if◌then◌else◌, ℕ, zero, suc, ◌≡◌, ◌+◌, ◌<◌, ◌≤◌, ◌∷◌, ◌++◌, [], List, length, take, map, get_or, refl, ap, sym, subst, ◌∙◌, arith, length-append}
+use Rattle.std.proofs.Common.{Bool, true, false, if◌then◌else◌, ℕ, zero, suc, ◌≡◌, ◌+◌, ◌<◌, ◌≤◌, ◌∷◌, ◌++◌, [], List, length, take, map, get_or, refl, ap}
+use Rattle.std.proofs.Common.{sym, subst, ◌∙◌, arith, length-append}
 use Rattle.std.specs.Prelude.{None, Some, option_map, slice_get}
 use Rattle.std.specs.List.{flat_map, enumerate_from}
 use Rattle.std.proofs.lemmas.List.{take_more, take_all}
@@ -19,7 +20,8 @@ use Rattle.gr_tree.specs.SourceFile.{FileParts, SourceFile, source_of}
 use Rattle.gr_imports.specs.Files.{group_items}
 use Rattle.gr_declared.specs.Package.{PlacedFunction, PlacedType, decl_types, declared_types, placed_type, types_in}
 use Rattle.gr_object.specs.Lines.{Initializer}
-use Rattle.gr_object.specs.Names.{field_positions, function_behind, function_called, functions_behind, is_initializer, initializers_among, initializers_with, names_of_fields, positions_from, type_positions}
+use Rattle.gr_object.specs.Names.{field_positions, function_behind, function_called, functions_behind, is_initializer, initializers_among}
+use Rattle.gr_object.specs.Names.{initializers_with, names_of_fields, positions_from, type_positions}
 use Rattle.gr_object.proofs.NameParts.{positions_length}
 use Rattle.gr_object.specs.Walks.{decl_positions, file_positions, spec_positions}
 
@@ -36,7 +38,8 @@ second_of_two (a ∷ us) vs zero m e = absurd (omega (arith, e))
 second_of_two (a ∷ us) vs (suc n) m e = second_of_two us vs n m (let z : n ≡ length us + m = omega (arith, e) in z)
 
 module _ {E Y : Type 0} (f : E → List Y) where
-  longer : (xs : List E) (i : ℕ) (x : E) → i < length xs → x ≡ get_or xs i x → length (flat_map f (take (i + 1) xs)) ≡ length (flat_map f (take i xs)) + length (f x)
+  longer : (xs : List E) (i : ℕ) (x : E) → i < length xs → x ≡ get_or xs i x →
+      length (flat_map f (take (i + 1) xs)) ≡ length (flat_map f (take i xs)) + length (f x)
   longer xs i x lt is =
       let behind : length (f (get_or xs i x) ++ []) ≡ length (f (get_or xs i x)) + 0 = length-append (f (get_or xs i x)) [] in
       let all : length (flat_map f (take (i + 1) xs)) ≡ length (flat_map f (take i xs)) + length (f (get_or xs i x) ++ []) =
@@ -123,14 +126,16 @@ module _ (path : List ℕ) (files : List SourceFile) (fs : List PlacedFunction) 
       ∙ sym (behind ∙ ap (λ b. Some (if b then Initializer path (initializers_among files 0 (take n fs)) else function_called path files f)) is)
 
   pub called_found : is_initializer files f ≡ false → Some (function_called path files f) ≡ slice_get (functions_behind path files 0 fs) n
-  called_found other = sym (behind ∙ ap (λ b. Some (if b then Initializer path (initializers_among files 0 (take n fs)) else function_called path files f)) other)
+  called_found other = sym (behind ∙ ap (λ b. Some (if b then Initializer path (initializers_among files 0 (take n fs)) else function_called path files f))
+      other)
 
 -- Fields
 
 pub position_here : (begin : ℕ) (xs : List (Item ℕ)) (n : ℕ) → n < length xs → slice_get (positions_from begin xs) n ≡ Some (begin + n)
 position_here begin [] n lt = absurd (omega (arith, lt))
 position_here begin (x ∷ xs) zero lt = ap Some (let e : begin ≡ begin + 0 = omega arith in e)
-position_here begin (x ∷ xs) (suc n) lt = position_here (suc begin) xs n (omega (arith, lt)) ∙ ap Some (let e : suc begin + n ≡ begin + suc n = omega arith in e)
+position_here begin (x ∷ xs) (suc n) lt = position_here (suc begin) xs n (omega (arith, lt)) ∙
+    ap Some (let e : suc begin + n ≡ begin + suc n = omega arith in e)
 
 abbrev pub field_names : items.Item FieldDecl → List (Item ℕ)
 field_names f = (field_view f.value).names

@@ -16,7 +16,8 @@ returns-then-branch c =
     let r = revision_of w s in
     IfOk-weaker c.keeps_bindings.result (λ kept. IsTrue kept ↔ KeepsBindings w (known_in found) r (known_in found_after))
     (λ kept. IsTrue kept ↔ Preserves w r)
-    (λ kept h. decided w c.args.change.now.after.now s found found_after kept c.requires.sound c.requires.after (rw c.if-branch.true at c.in_ok-is_sound.ensures) h)
+    (λ kept h. decided w c.args.change.now.after.now s found found_after kept c.requires.sound c.requires.after
+        (rw c.if-branch.true at c.in_ok-is_sound.ensures) h)
     c.keeps_bindings.ensures
 
 pub returns-else-branch : goal.returns-else-branch

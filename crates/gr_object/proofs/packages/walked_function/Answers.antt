@@ -11,7 +11,8 @@ pub returns-then-is_initializer : goal.returns-then-is_initializer
 unfolding function_of
 returns-then-is_initializer c =
     let files = map source_of c.args.files.now in
-    initializer_found c.args.path.now files (declared_functions files) c.args.rank (placed_function c.args.function) c.requires c.initializers_below-number.result
+    initializer_found c.args.path.now files (declared_functions files) c.args.rank (placed_function c.args.function) c.requires
+        c.initializers_below-number.result
     (sym c.is_initializer.ensures ∙ c.if-is_initializer.true) c.initializers_below-number.ensures
 
 pub returns-else-is_initializer : goal.returns-else-is_initializer
