@@ -17,7 +17,7 @@ returns-then-branch c =
     IfOk-weaker c.keeps_bindings.result (λ kept. IsTrue kept ↔ KeepsBindings w (known_in found) r (known_in found_after))
     (λ kept. IsTrue kept ↔ Preserves w r)
     (λ kept h. decided w c.args.change.now.after.now s found found_after kept c.requires.sound c.requires.after
-        (rw c.if-branch.true at c.in_ok-is_sound.ensures) h)
+    (rw c.if-branch.true at c.in_ok-is_sound.ensures) h)
     c.keeps_bindings.ensures
 
 pub returns-else-branch : goal.returns-else-branch

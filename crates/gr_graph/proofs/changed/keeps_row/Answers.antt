@@ -13,8 +13,11 @@ pub returns-in_default : goal.returns-in_default
 returns-in_default c = λ _ n at. absurd (c.in_default.ensures (at_path (paths_of c.args.packages.now) n c.path.result.now (at ∙ ap Some (sym c.path.ensures))))
 
 pub imports-earlier-requires : goal.imports-earlier-requires
-imports-earlier-requires c = omega (arith, slice_get_within (paths_of c.args.packages.now) c.in-Some.number c.path.result.now c.in-Some.ensures,
-    c.requires.size)
+imports-earlier-requires c = omega (
+  arith,
+  slice_get_within (paths_of c.args.packages.now) c.in-Some.number c.path.result.now c.in-Some.ensures,
+  c.requires.size,
+)
 
 pub returns : goal.returns
 returns c = λ t n at.

@@ -12,7 +12,7 @@ unfolding function_of
 returns-then-is_initializer c =
     let files = map source_of c.args.files.now in
     initializer_found c.args.path.now files (declared_functions files) c.args.rank (placed_function c.args.function) c.requires
-        c.initializers_below-number.result
+    c.initializers_below-number.result
     (sym c.is_initializer.ensures ∙ c.if-is_initializer.true) c.initializers_below-number.ensures
 
 pub returns-else-is_initializer : goal.returns-else-is_initializer

@@ -13,7 +13,7 @@ use Rattle.gr_object.proofs.walks.function_in_file.Goals as goal
 pub loop-decl-preserved : goal.loop-decl-preserved
 loop-decl-preserved c =
     walked_next (λ d. decl_functions c.args.file (decl_view d)) c.deref-decl-items.result.now c.loop-decl.decl-index c.decl-item.result c.args.rank
-        c.loop-decl.rest
+    c.loop-decl.rest
     c.in-Err.left (omega arith) c.decl-item.is c.loop-decl.invariant c.in-Err.ensures
 
 pub returns-in-Ok : goal.returns-in-Ok

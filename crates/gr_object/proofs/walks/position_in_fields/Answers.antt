@@ -14,7 +14,7 @@ pub returns-then-rest-count : goal.returns-then-rest-count
 returns-then-rest-count c =
     field_here c.args.fields.now c.loop-field.field-index c.field-item.result c.args.rank c.loop-field.rest (omega arith) c.field-item.is
     c.loop-field.invariant (let all : c.len-count.result ≡ length c.field-item.result.value.names.items = c.len-count.ensures ∙
-        c.field-item.result.value.names.ok.0 in
+    c.field-item.result.value.names.ok.0 in
     omega (arith, all, c.if-rest-count.true))
 
 pub returns : goal.returns
