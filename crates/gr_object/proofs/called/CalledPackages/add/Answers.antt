@@ -1,5 +1,5 @@
 -- What is found at the path, and elsewhere, where names were set.
-use Rattle.std.proofs.Common.{◌∙◌, List, ap}
+use Rattle.std.proofs.Common.{◌∙◌, ap}
 use Rattle.std.proofs.lemmas.Result.{on_ok_weaker}
 use Rattle.std.specs.FinMap.{find}
 use Rattle.gr_text.specs.Workspace.{path_cmp}
