@@ -1,5 +1,6 @@
 -- The answers to the goals of `findings::judge_rest`.
 use Rattle.std.proofs.Common.{sym, subst}
+use Rattle.std.proofs.lemmas.Result.{on_ok_weaker}
 use Rattle.gr_verdict.specs.Steps.{IsBuildOrder}
 use Rattle.gr_verdict.proofs.Gathering.{all_known, knows_each}
 use Rattle.gr_verdict.proofs.findings.judge_rest.Goals as goal
@@ -16,4 +17,6 @@ returns-then-knows_all c = knows_each c.args.graph.now c.args.all.now c.requires
 pub returns : goal.returns
 returns c =
     let w = c.args.graph.now in
-    all_known w c.deref.result.now c.judge_in.new.all (subst (IsBuildOrder w) (sym c.deref.ensures.value) c.in_ok-order.ensures) c.in_ok-judge_in.ensures
+    on_ok_weaker c.judge_in.result
+    (all_known w c.deref.result.now c.judge_in.new.all (subst (IsBuildOrder w) (sym c.deref.ensures.value) c.in_ok-order.ensures))
+    c.judge_in.ensures
