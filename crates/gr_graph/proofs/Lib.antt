@@ -1,4 +1,5 @@
 -- The lemmas of this crate.
+pub mod LinkRows
 pub mod Reached
 pub mod SearchSteps
 pub mod Held

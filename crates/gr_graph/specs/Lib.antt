@@ -1,5 +1,6 @@
 -- The definitions of this crate.
 pub mod Imports
+pub mod LinkRows
 pub mod Search
 pub mod Closures
 pub mod Examples

@@ -3,8 +3,8 @@ ghost use Rattle.std.specs.Prelude.{◌≡◌, ◌<◌, ◌++◌, [], ◌∷◌,
 ghost use Rattle.std.specs.List.{All};
 ghost use Rattle.gr_graph.specs.Imports.{AreLinked, HoldImporters, NotesRow, imports_of};
 
+use crate::link_rows::LinkRows;
 use crate::package_list::PackageList;
-use crate::search::imports_of;
 use std::alloc::{AllocError, Global};
 
 fn note(importers: &mut Vec<PackageList>, number: usize, importer: usize) -> Result<(), AllocError>
@@ -39,17 +39,33 @@ fn no_importers(alloc: Global, count: usize) -> Result<Vec<PackageList>, AllocEr
     Ok(importers)
 }
 
-/// For each package, those that import it.
-pub(crate) fn importers(
-    alloc: Global,
-    imports: &[PackageList],
-) -> Result<Vec<PackageList>, AllocError>
+/// For each package, those that import it, in lists of their own.
+fn importer_lists(alloc: Global, imports: &LinkRows) -> Result<Vec<PackageList>, AllocError>
     requires { AreLinked imports.now }
     ensures { IfOk result (λ importers. HoldImporters imports.now (length imports.now) importers.items) }
 {
     let mut importers = no_importers(alloc, imports.len())?;
     for importer in 0..imports.len() {
-        note_row(&mut importers, imports_of(imports, importer), importer)?;
+        note_row(&mut importers, imports.row(importer), importer)?;
     }
     Ok(importers)
+}
+
+fn in_rows(alloc: Global, lists: &[PackageList]) -> Result<LinkRows, AllocError>
+    ensures { IfOk result (λ rows. rows ≡ lists.now) }
+{
+    let mut rows = LinkRows::with_capacity(alloc, lists.len())?;
+    for list in lists {
+        rows.add_row(list.as_slice())?;
+    }
+    Ok(rows)
+}
+
+/// For each package, those that import it.
+pub(crate) fn importers(alloc: Global, imports: &LinkRows) -> Result<LinkRows, AllocError>
+    requires { AreLinked imports.now }
+    ensures { IfOk result (λ importers. HoldImporters imports.now (length imports.now) importers) }
+{
+    let lists = importer_lists(alloc, imports)?;
+    in_rows(alloc, &lists)
 }
