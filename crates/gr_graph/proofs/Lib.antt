@@ -5,6 +5,7 @@ pub mod SearchSteps
 pub mod Held
 pub mod Closed
 pub mod Noted
+pub mod Chained
 pub mod Answered
 pub mod ImportViews
 pub mod PackagePaths

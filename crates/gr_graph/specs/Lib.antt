@@ -2,6 +2,7 @@
 pub mod Imports
 pub mod LinkRows
 pub mod Search
+pub mod Chains
 pub mod Closures
 pub mod Examples
 pub mod FileImports

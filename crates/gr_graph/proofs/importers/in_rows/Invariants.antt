@@ -1,6 +1,0 @@
--- The lists that were passed.
-use Rattle.std.proofs.Common.{◌≡◌, take}
-use Rattle.gr_graph.proofs.importers.in_rows.Given as goal
-
-abbrev pub invariant-loop-list : goal.invariant-loop-list
-invariant-loop-list l = l.rows ≡ take l.list-index l.lists
