@@ -1,9 +1,11 @@
 -- The lemmas of this crate.
+pub mod LinkRows
 pub mod Reached
 pub mod SearchSteps
 pub mod Held
 pub mod Closed
 pub mod Noted
+pub mod Chained
 pub mod Answered
 pub mod ImportViews
 pub mod PackagePaths

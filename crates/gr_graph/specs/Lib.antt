@@ -1,6 +1,8 @@
 -- The definitions of this crate.
 pub mod Imports
+pub mod LinkRows
 pub mod Search
+pub mod Chains
 pub mod Closures
 pub mod Examples
 pub mod FileImports

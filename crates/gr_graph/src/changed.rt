@@ -13,7 +13,7 @@ use crate::import_links::ImportLinks;
 use crate::named_files::{files_at, folders_of, reset_paths};
 use crate::package::ParsedPackage;
 use crate::packages::{filled, packages_at};
-use crate::rows::row_of;
+use crate::rows::fill_row;
 use crate::shared_package::{SharedPackage, number_of};
 use gr_text::{Files, Path};
 use std::alloc::{AllocError, Global};
@@ -129,7 +129,8 @@ fn keeps_row(
         return Ok(true);
     };
     let earlier = links.imports(number);
-    let row = row_of(alloc, packages, one, earlier)?;
+    let mut row = Vec::new(alloc);
+    fill_row(packages, one, earlier, &mut row)?;
     Ok(row.as_slice() == earlier)
 }
 

@@ -4,6 +4,7 @@ ghost use Rattle.gr_graph.specs.Imports.{AreLinked, HoldImporters};
 ghost use Rattle.gr_graph.specs.Closures.{IsBuiltOn, IsClosed};
 ghost use Rattle.gr_graph.specs.Search.{AreReached, Flips, HoldsMarked, TellBack};
 
+use crate::link_rows::LinkRows;
 use crate::package_list::PackageList;
 use crate::search::{reach, spread};
 use std::alloc::{AllocError, Global};
@@ -24,7 +25,7 @@ fn marked(alloc: Global, marks: &[bool]) -> Result<PackageList, AllocError>
 /// What a package imports directly or indirectly, itself among it, by number.
 pub(crate) fn closure_of(
     alloc: Global,
-    imports: &[PackageList],
+    imports: &LinkRows,
     number: usize,
 ) -> Result<PackageList, AllocError>
     requires linked { AreLinked imports.now }
@@ -48,8 +49,8 @@ fn flip(marks: &mut Vec<bool>)
 /// Marks that tell of what a package reaches whether it reaches that package. The way back is sought among what it reaches alone.
 pub(crate) fn back_marks(
     alloc: Global,
-    imports: &[PackageList],
-    importers: &[PackageList],
+    imports: &LinkRows,
+    importers: &LinkRows,
     number: usize,
 ) -> Result<Vec<bool>, AllocError>
     requires linked { AreLinked imports.now }
@@ -67,8 +68,8 @@ pub(crate) fn back_marks(
 /// What a package reaches and what does not reach it, by number.
 pub(crate) fn built_on(
     alloc: Global,
-    imports: &[PackageList],
-    importers: &[PackageList],
+    imports: &LinkRows,
+    importers: &LinkRows,
     number: usize,
 ) -> Result<PackageList, AllocError>
     requires linked { AreLinked imports.now }
@@ -84,7 +85,7 @@ pub(crate) fn built_on(
 /// A mark for each package that a marked one reaches.
 pub(crate) fn reached_by(
     alloc: Global,
-    links: &[PackageList],
+    links: &LinkRows,
     starts: &[bool],
 ) -> Result<Vec<bool>, AllocError>
     requires linked { AreLinked links.now }

@@ -4,8 +4,7 @@ ghost use Rattle.std.specs.List.{All};
 ghost use Rattle.gr_graph.specs.Imports.{AreLinked};
 ghost use Rattle.gr_graph.specs.Orders.{steps_left};
 
-use crate::package_list::PackageList;
-use crate::search::imports_of;
+use crate::link_rows::LinkRows;
 use std::alloc::{AllocError, Global};
 
 /// A package that was entered and not left yet, and the place in its row where the search goes on.
@@ -61,7 +60,7 @@ impl DepthFirst {
     }
 
     /// Goes on from an entered package: enters the next one of its row that is not marked, or leaves it.
-    fn step(&mut self, links: &[PackageList], top: Entered) -> Result<(), AllocError>
+    fn step(&mut self, links: &LinkRows, top: Entered) -> Result<(), AllocError>
         requires linked { AreLinked links.now }
         requires size { length self.old.marks.items ≡ length links.now }
         ensures size { OnOk result (length self.new.marks.items ≡ length links.now) }
@@ -70,7 +69,7 @@ impl DepthFirst {
         if top.number >= links.len() {
             return Ok(());
         }
-        let row = imports_of(links, top.number);
+        let row = links.row(top.number);
         let Some(place) = unmarked_from(row, top.next, &self.marks) else {
             self.left.push(top.number)?;
             return Ok(());
@@ -84,7 +83,7 @@ impl DepthFirst {
     }
 
     /// Enters and leaves a package and all that it leads to, as far as that was not entered.
-    fn walk(&mut self, links: &[PackageList], start: usize) -> Result<(), AllocError>
+    fn walk(&mut self, links: &LinkRows, start: usize) -> Result<(), AllocError>
         requires linked { AreLinked links.now }
         requires size { length self.old.marks.items ≡ length links.now }
         requires start { start < length links.now }
@@ -102,7 +101,7 @@ impl DepthFirst {
 }
 
 /// Packages in an order in which, where a search in depth left a package later, it stands earlier.
-pub(crate) fn latest_first(alloc: Global, links: &[PackageList]) -> Result<Vec<usize>, AllocError>
+pub(crate) fn latest_first(alloc: Global, links: &LinkRows) -> Result<Vec<usize>, AllocError>
     requires { AreLinked links.now }
 {
     let mut walk = DepthFirst::new(alloc, links.len())?;

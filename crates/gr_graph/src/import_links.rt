@@ -1,5 +1,5 @@
 //! Which packages import which, with all that is asked of it.
-ghost use Rattle.std.specs.Prelude.{ℕ, ◌≡◌, ◌<◌, IfOk, IfSome, OnOk, length};
+ghost use Rattle.std.specs.Prelude.{ℕ, ◌≡◌, ◌<◌, IfOk, IfSome, IsTrue, OnOk, length};
 ghost use Rattle.std.specs.List.Sorted.{IsStrictlyIncreasing};
 ghost use Rattle.gr_graph.specs.Closures.{IsBuiltOn};
 ghost use Rattle.gr_graph.specs.Orders.{IsOrder};
@@ -14,9 +14,10 @@ ghost use Rattle.gr_graph.specs.Search.{AreReaching, IsMarked, MarksImporting, T
 
 use crate::closure::{back_marks, built_on, closure_of, reached_by};
 use crate::importers::importers;
+use crate::link_rows::LinkRows;
 use crate::order::order;
 use crate::package_list::PackageList;
-use crate::search::{imports_of, reach};
+use crate::search::reach;
 use std::alloc::{AllocError, Global};
 use std::marker::Model;
 
@@ -24,8 +25,8 @@ use std::marker::Model;
 /// memory; what a package reaches is searched for when it is asked.
 #[derive(Drop)]
 pub struct ImportLinks {
-    imports: Vec<PackageList>,
-    importers: Vec<PackageList>,
+    imports: LinkRows,
+    importers: LinkRows,
 }
 
 impl Model for ImportLinks {
@@ -34,16 +35,16 @@ impl Model for ImportLinks {
 
     ghost Value = { Links };
 
-    ghost view = { λ a. a.imports.items };
+    ghost view = { λ a. a.imports };
 
-    ghost invariant = { λ a. AreAnswers a.imports.items a.importers.items };
+    ghost invariant = { λ a. AreAnswers a.imports a.importers };
 }
 
 impl ImportLinks {
     /// Finds who imports each.
-    pub fn new(alloc: Global, imports: Vec<PackageList>) -> Result<ImportLinks, AllocError>
-        requires { AreLinked imports.items }
-        ensures { IfOk result (λ links. links ≡ imports.items) }
+    pub(crate) fn new(alloc: Global, imports: LinkRows) -> Result<ImportLinks, AllocError>
+        requires { AreLinked imports }
+        ensures { IfOk result (λ links. links ≡ imports) }
     {
         let importers = importers(alloc, &imports)?;
         Ok(ImportLinks { imports, importers })
@@ -56,12 +57,19 @@ impl ImportLinks {
         self.imports.len()
     }
 
+    /// Whether some rows are the direct imports of all packages.
+    pub(crate) fn are(&self, rows: &LinkRows) -> bool
+        ensures { IsTrue result → self.now ≡ rows.now }
+    {
+        self.imports.are(rows)
+    }
+
     /// The packages that one imports directly.
     pub fn imports(&self, number: usize) -> &[usize]
         requires { number < length self.now }
         ensures { result.now ≡ imports_of self.now number }
     {
-        imports_of(&self.imports, number)
+        self.imports.row(number)
     }
 
     /// The packages that import one directly.
@@ -70,7 +78,7 @@ impl ImportLinks {
         ensures importers { AreImporters self.now number result.now }
         ensures rising { ((p : ℕ) → IsStrictlyIncreasing (imports_of self.now p)) → IsStrictlyIncreasing result.now }
     {
-        imports_of(&self.importers, number)
+        self.importers.row(number)
     }
 
     /// A package, and all that it imports directly or indirectly, by number. It is searched for.

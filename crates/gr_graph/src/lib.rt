@@ -11,6 +11,7 @@ mod import_links;
 pub mod import_paths;
 mod importers;
 mod kept;
+mod link_rows;
 mod named_files;
 mod order;
 mod package;

@@ -6,7 +6,7 @@ ghost use Rattle.gr_graph.specs.Orders.{AreClear, AreTold, IsOrder};
 ghost use Rattle.gr_graph.specs.Search.{IsMarked};
 
 use crate::depth_first::latest_first;
-use crate::package_list::PackageList;
+use crate::link_rows::LinkRows;
 use crate::search::spread;
 use std::alloc::{AllocError, Global};
 
@@ -56,7 +56,7 @@ fn are_all_marked(marks: &[bool]) -> bool
 /// Whether all of a block reach one package, as far as ways within the block tell it.
 fn leads_back(
     alloc: Global,
-    importers: &[PackageList],
+    importers: &LinkRows,
     barred: &mut Vec<bool>,
     block: &[usize],
     root: usize,
@@ -91,8 +91,8 @@ impl Blocks {
     fn add(
         &mut self,
         alloc: Global,
-        imports: &[PackageList],
-        importers: &[PackageList],
+        imports: &LinkRows,
+        importers: &LinkRows,
         root: usize,
     ) -> Result<bool, AllocError>
         requires linked { AreLinked imports.now }
@@ -110,8 +110,8 @@ impl Blocks {
     fn add_all(
         &mut self,
         alloc: Global,
-        imports: &[PackageList],
-        importers: &[PackageList],
+        imports: &LinkRows,
+        importers: &LinkRows,
         roots: &[usize],
     ) -> Result<bool, AllocError>
         requires linked { AreLinked imports.now }
@@ -135,8 +135,8 @@ impl Blocks {
 /// last; only speed rests on that.
 pub(crate) fn order(
     alloc: Global,
-    imports: &[PackageList],
-    importers: &[PackageList],
+    imports: &LinkRows,
+    importers: &LinkRows,
 ) -> Result<Option<Vec<usize>>, AllocError>
     requires linked { AreLinked imports.now }
     requires back { HoldImporters imports.now (length imports.now) importers.now }

@@ -1,12 +1,12 @@
 //! Some packages of a graph, by their numbers, and which of them import which.
-ghost use Rattle.std.specs.Prelude.{◌<◌, length, IfOk};
+ghost use Rattle.std.specs.Prelude.{◌<◌, length, IfOk, OnOk};
 ghost use Rattle.std.specs.List.{All};
 ghost use Rattle.std.specs.List.Sorted.{IsStrictlyIncreasing};
 ghost use Rattle.gr_graph.specs.Imports.{AreLinked};
 ghost use Rattle.gr_graph.specs.Parts.{AreNumbered, ArePartLinks, ArePlaces, IsAmongPlaces};
 
 use crate::import_links::ImportLinks;
-use crate::package_list::PackageList;
+use crate::link_rows::LinkRows;
 use crate::shared_package::SharedPackage;
 use std::alloc::{AllocError, Global};
 
@@ -39,24 +39,24 @@ fn places(alloc: Global, numbers: &[usize], count: usize) -> Result<Vec<usize>, 
     Ok(places)
 }
 
-/// The places of those of some packages that have one below a number.
+/// Puts the places of those of some packages that have one below a number into a row in place of what is there.
 fn among_places(
-    alloc: Global,
     imports: &[usize],
     places: &[usize],
     count: usize,
-) -> Result<PackageList, AllocError>
+    row: &mut Vec<usize>,
+) -> Result<(), AllocError>
     requires { All (λ number. number < length places.now) imports.now }
-    ensures { IfOk result (IsAmongPlaces imports.now places.now count) }
+    ensures { OnOk result (IsAmongPlaces imports.now places.now count row.new.items) }
 {
-    let mut row = PackageList::new(alloc);
+    row.clear();
     for number in imports {
         let place = places[*number];
         if place < count {
             row.push(place)?;
         }
     }
-    Ok(row)
+    Ok(())
 }
 
 /// For each of the packages with some numbers, those of them that it imports, by their places.
@@ -64,17 +64,18 @@ pub(crate) fn part_links(
     alloc: Global,
     links: &ImportLinks,
     numbers: &[usize],
-) -> Result<Vec<PackageList>, AllocError>
+) -> Result<LinkRows, AllocError>
     requires linked { AreLinked links.now }
     requires numbers { All (λ number. number < length links.now) numbers.now }
     requires rising { IsStrictlyIncreasing numbers.now }
-    ensures { IfOk result (λ part. ArePartLinks links.now numbers.now (length numbers.now) part.items) }
+    ensures { IfOk result (λ part. ArePartLinks links.now numbers.now (length numbers.now) part) }
 {
     let places = places(alloc, numbers, links.len())?;
-    let mut part = Vec::new(alloc);
+    let mut part = LinkRows::with_capacity(alloc, numbers.len())?;
+    let mut row = Vec::new(alloc);
     for number in numbers {
-        let row = among_places(alloc, links.imports(*number), &places, numbers.len())?;
-        part.push(row)?;
+        among_places(links.imports(*number), &places, numbers.len(), &mut row)?;
+        part.add_row(&row)?;
     }
     Ok(part)
 }

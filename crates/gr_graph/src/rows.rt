@@ -1,7 +1,7 @@
 //! Which packages each imports, by number.
-ghost use Rattle.std.specs.Prelude.{◌≡◌, IfOk, OnOk, Some, slice_get};
+ghost use Rattle.std.specs.Prelude.{◌≡◌, IfOk, IsTrue, OnOk, Some, slice_get};
 ghost use Rattle.std.specs.List.{AllZip};
-ghost use Rattle.std.specs.List.Sorted.{IsStrictlySortedBy};
+ghost use Rattle.std.specs.List.Sorted.{IsStrictlyIncreasing, IsStrictlySortedBy};
 ghost use Rattle.gr_text.specs.Workspace.{path_cmp};
 ghost use Rattle.gr_graph.specs.Graphs.{paths_of};
 ghost use Rattle.gr_graph.specs.Imports.{Holds};
@@ -9,7 +9,7 @@ ghost use Rattle.gr_graph.specs.ImportPaths.{bytes_of_paths, IsOneOf};
 ghost use Rattle.gr_graph.specs.Rows.{AddsNumbers, IsRow};
 
 use crate::import_links::ImportLinks;
-use crate::package_list::PackageList;
+use crate::link_rows::LinkRows;
 use crate::shared_package::{SharedPackage, number_near, place_near};
 use std::alloc::{AllocError, Global};
 use std::collections::BTreeSet;
@@ -38,38 +38,54 @@ fn add_path(
     Ok(())
 }
 
-/// The packages that have some paths. Each is looked for first where a row of an earlier graph has it.
-fn numbers_of(
-    alloc: Global,
+/// Puts the packages that have some paths into a row in place of what is there. Each is looked for first where a row of an earlier
+/// graph has it.
+fn fill_numbers(
     packages: &[SharedPackage],
     paths: &BTreeSet<Vec<u8>>,
     earlier: &[usize],
-) -> Result<Vec<usize>, AllocError>
+    row: &mut Vec<usize>,
+) -> Result<(), AllocError>
     requires { IsStrictlySortedBy path_cmp (paths_of packages.now) }
-    ensures { IfOk result (λ row. Holds row.items (IsOneOf (paths_of packages.now) (bytes_of_paths paths.now.keys))) }
+    ensures { OnOk result (Holds row.new.items (IsOneOf (paths_of packages.now) (bytes_of_paths paths.now.keys))) }
 {
-    let mut row = Vec::new(alloc);
+    row.clear();
     for path in paths.iter() {
         let near = number_at(earlier, row.len());
-        add_path(packages, path, near, &mut row)?;
+        add_path(packages, path, near, row)?;
     }
-    Ok(row)
+    Ok(())
 }
 
-/// The packages that the files of one import. Each is looked for first where a row of an earlier graph has it.
-pub(crate) fn row_of(
-    alloc: Global,
+/// Whether each number is below the next.
+fn is_rising(row: &[usize]) -> bool
+    ensures { IsTrue result → IsStrictlyIncreasing row.now }
+{
+    for place in 1..row.len() {
+        if row[place - 1] >= row[place] {
+            return false;
+        }
+    }
+    true
+}
+
+/// Puts the packages that the files of one import into a row in place of what is there. Each is looked for first where a row of an
+/// earlier graph has it. Paths in their order have numbers in their order, unless two paths have one package.
+pub(crate) fn fill_row(
     packages: &[SharedPackage],
     importer: &SharedPackage,
     earlier: &[usize],
-) -> Result<PackageList, AllocError>
+    row: &mut Vec<usize>,
+) -> Result<(), AllocError>
     requires { IsStrictlySortedBy path_cmp (paths_of packages.now) }
-    ensures { IfOk result (IsRow (paths_of packages.now) importer.now.trees.items) }
+    ensures { OnOk result (IsRow (paths_of packages.now) importer.now.trees.items row.new.items) }
 {
-    let mut row = numbers_of(alloc, packages, importer.imports(), earlier)?;
-    row.sort_unstable();
-    row.dedup();
-    Ok(PackageList::from_numbers(row))
+    fill_numbers(packages, importer.imports(), earlier, row)?;
+    if !is_rising(row) {
+        row.sort_unstable();
+        row.dedup();
+    }
+    Ok(())
 }
 
 /// Packages by number, and which imports which, as they were in an earlier graph.
@@ -95,14 +111,16 @@ pub(crate) fn rows(
     alloc: Global,
     packages: &[SharedPackage],
     earlier: Option<EarlierGraph<'_>>,
-) -> Result<Vec<PackageList>, AllocError>
+) -> Result<LinkRows, AllocError>
     requires { IsStrictlySortedBy path_cmp (paths_of packages.now) }
-    ensures { IfOk result (λ rows. AllZip (λ p row. IsRow (paths_of packages.now) p.trees.items row) packages.now rows.items) }
+    ensures { IfOk result (λ rows. AllZip (λ p row. IsRow (paths_of packages.now) p.trees.items row) packages.now rows) }
 {
-    let mut rows = Vec::new(alloc);
+    let mut rows = LinkRows::with_capacity(alloc, packages.len())?;
+    let mut row = Vec::new(alloc);
     for package in packages {
         let before = earlier_row(earlier, package.path(), rows.len());
-        rows.push(row_of(alloc, packages, package, before)?)?;
+        fill_row(packages, package, before, &mut row)?;
+        rows.add_row(&row)?;
     }
     Ok(rows)
 }

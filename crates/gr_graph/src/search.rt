@@ -1,18 +1,10 @@
 //! A search among packages, from one along links, which stops at what is marked.
 ghost use Rattle.std.specs.Prelude.{◌≡◌, ◌<◌, Bool, List, length, slice_index_or, IfOk, OnOk};
-ghost use Rattle.gr_graph.specs.Imports.{AreLinked, Imports, imports_of};
+ghost use Rattle.gr_graph.specs.Imports.{AreLinked, Imports};
 ghost use Rattle.gr_graph.specs.Search.{Finds, Notes, Spreads, AreClosedUnder, MarksReached};
 
-use crate::package_list::PackageList;
+use crate::link_rows::LinkRows;
 use std::alloc::{AllocError, Global};
-
-/// The direct imports of a package.
-pub(crate) fn imports_of(imports: &[PackageList], importer: usize) -> &[usize]
-    requires { importer < length imports.now }
-    ensures { result.now ≡ imports_of imports.now importer }
-{
-    imports[importer].as_slice()
-}
 
 /// Notes that a package was found, unless it is marked.
 fn note(found: &mut Vec<usize>, marks: &mut Vec<bool>, number: usize) -> Result<(), AllocError>
@@ -30,7 +22,7 @@ fn note(found: &mut Vec<usize>, marks: &mut Vec<bool>, number: usize) -> Result<
 
 /// Finds all that the package found at a place leads to.
 fn follow(
-    links: &[PackageList],
+    links: &LinkRows,
     found: &mut Vec<usize>,
     marks: &mut Vec<bool>,
     place: usize,
@@ -43,7 +35,7 @@ fn follow(
     ensures finds { OnOk result ((first : List Bool) → Finds first found.old.items marks.old.items → Finds first found.new.items marks.new.items) }
     ensures noted { OnOk result (Notes found.old.items marks.old.items found.new.items marks.new.items (Imports links.now (slice_index_or found.old.items place 0))) }
 {
-    for number in imports_of(links, found[place]) {
+    for number in links.row(found[place]) {
         note(found, marks, *number)?;
     }
     Ok(())
@@ -52,7 +44,7 @@ fn follow(
 /// Marks a package and all that it leads to, as far as no marked package bars the way, and lists what it marks.
 pub(crate) fn spread(
     alloc: Global,
-    links: &[PackageList],
+    links: &LinkRows,
     marks: &mut Vec<bool>,
     start: usize,
 ) -> Result<Vec<usize>, AllocError>
@@ -74,7 +66,7 @@ pub(crate) fn spread(
 /// Marks a package and all that it leads to, where all that marked ones lead to is marked.
 pub(crate) fn reach(
     alloc: Global,
-    links: &[PackageList],
+    links: &LinkRows,
     marks: &mut Vec<bool>,
     start: usize,
 ) -> Result<(), AllocError>

@@ -1,9 +1,9 @@
 //! Links that several graphs share.
-ghost use Rattle.std.specs.Prelude.{◌≡◌, IfOk, IsTrue};
+ghost use Rattle.std.specs.Prelude.{◌≡◌, IfOk};
 ghost use Rattle.gr_graph.specs.Imports.{AreLinked};
 
 use crate::import_links::ImportLinks;
-use crate::package_list::PackageList;
+use crate::link_rows::LinkRows;
 use std::alloc::{AllocError, Global};
 use std::marker::Model;
 use std::sync::Arc;
@@ -23,33 +23,18 @@ impl Model for SharedLinks {
     ghost view = { λ a. arc_value a.links };
 }
 
-/// Whether the links are those of the rows.
-fn has_rows(links: &ImportLinks, rows: &[PackageList]) -> bool
-    ensures { IsTrue result → links.now ≡ rows.now }
-{
-    if links.len() != rows.len() {
-        return false;
-    }
-    for number in 0..rows.len() {
-        if links.imports(number) != rows[number].as_slice() {
-            return false;
-        }
-    }
-    true
-}
-
 impl SharedLinks {
     /// Finds what is asked of the rows, unless they are those of the links before.
     pub(crate) fn of(
         alloc: Global,
         before: Option<&SharedLinks>,
-        rows: Vec<PackageList>,
+        rows: LinkRows,
     ) -> Result<SharedLinks, AllocError>
-        requires { AreLinked rows.items }
-        ensures { IfOk result (λ shared. shared ≡ rows.items) }
+        requires { AreLinked rows }
+        ensures { IfOk result (λ shared. shared ≡ rows) }
     {
         if let Some(before) = before {
-            if has_rows(before.links(), &rows) {
+            if before.links().are(&rows) {
                 return before.clone();
             }
         }

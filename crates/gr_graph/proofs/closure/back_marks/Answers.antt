@@ -9,7 +9,8 @@ pub reach-requires : goal.reach-requires
 reach-requires c =
     let g = c.args.imports.now in
     let marks = c.in_ok-marks.marks.items in
-    let is : marks ≡ replicate (length g) false = c.in_ok-marks.ensures.items_if_clones_equal (search rules) in
+    let is : marks ≡ replicate (length g) false = subst (λ (n : ℕ). c.in_ok-marks.marks.items ≡ replicate n false) c.len.ensures
+    (c.in_ok-marks.ensures.items_if_clones_equal (search rules)) in
     record {
       linked = c.requires.linked;
       size = ap length is ∙ length-replicate (length g) false;
@@ -21,7 +22,8 @@ pub spread-requires : goal.spread-requires
 spread-requires c =
     let g = c.args.imports.now in
     let size = c.requires.back.size in
-    let is : c.in_ok-marks.marks.items ≡ replicate (length g) false = c.in_ok-marks.ensures.items_if_clones_equal (search rules) in
+    let is : c.in_ok-marks.marks.items ≡ replicate (length g) false = subst (λ (n : ℕ). c.in_ok-marks.marks.items ≡ replicate n false) c.len.ensures
+    (c.in_ok-marks.ensures.items_if_clones_equal (search rules)) in
     record {
       linked = noted_linked g c.args.importers.now c.requires.linked c.requires.back;
       size = c.flip.ensures.size ∙ c.in_ok-reach.ensures.reached.size ∙ ap length is ∙ length-replicate (length g) false ∙ sym size;
@@ -33,7 +35,8 @@ returns c =
     let g = c.args.imports.now in
     let number = c.args.number in
     let first = c.in_ok-marks.marks.items in
-    let is : first ≡ replicate (length g) false = c.in_ok-marks.ensures.items_if_clones_equal (search rules) in
+    let is : first ≡ replicate (length g) false = subst (λ (n : ℕ). c.in_ok-marks.marks.items ≡ replicate n false) c.len.ensures
+    (c.in_ok-marks.ensures.items_if_clones_equal (search rules)) in
     let reached = c.reach.new.marks.items in
     tell_back g c.args.importers.now c.requires.linked c.requires.back number reached c.flip.new.marks.items c.spread.new.marks.items
     c.in_ok-spread.field-0.items (c.in_ok-reach.ensures.reached.size ∙ ap length is ∙ length-replicate (length g) false)

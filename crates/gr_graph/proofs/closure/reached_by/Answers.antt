@@ -11,7 +11,8 @@ pub loop-start-init : goal.loop-start-init
 loop-start-init c =
     let g = c.args.links.now in
     let marks = c.in_ok-marks.marks.items in
-    let is : marks ≡ replicate (length g) false = c.in_ok-marks.ensures.items_if_clones_equal (search rules) in
+    let is : marks ≡ replicate (length g) false =
+    subst (λ (n : ℕ). marks ≡ replicate n false) c.len.ensures (c.in_ok-marks.ensures.items_if_clones_equal (search rules)) in
     reached_none g c.args.starts.now marks (ap length is ∙ length-replicate (length g) false) (none_in marks (length g) is)
 
 pub reach-requires : goal.reach-requires

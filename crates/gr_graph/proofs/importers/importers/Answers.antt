@@ -1,16 +1,21 @@
--- One more row, and all rows at the end.
-use Rattle.std.proofs.Common.{◌≡◌, ℕ, List, length, arith, subst}
-use Rattle.gr_graph.specs.Imports.{HoldImporters, NotesRow}
+-- One more row.
+use Rattle.std.proofs.Common.{ℕ, List, subst, ◌∙◌}
+use Rattle.gr_graph.specs.Imports.{NotesRow}
 use Rattle.gr_graph.proofs.Noted.{HoldImporters-more}
 use Rattle.gr_graph.proofs.importers.importers.Goals as goal
 
 pub loop-importer-preserved : goal.loop-importer-preserved
 loop-importer-preserved c =
-    HoldImporters-more c.args.imports.now c.loop-importer.importers.items c.note_row.new.importers.items c.loop-importer.importer c.loop-importer.invariant
-    (subst (λ (row : List ℕ). NotesRow c.loop-importer.importers.items row c.loop-importer.importer c.note_row.new.importers.items) c.imports_of.ensures
-    c.in_ok-note_row.ensures)
-
-pub returns : goal.returns
-returns c =
-    let all : c.loop-importer.importer ≡ length c.args.imports.now = omega (arith, c.loop-importer-test.false, c.loop-importer.auto.importer-end) in
-    subst (λ (n : ℕ). HoldImporters c.args.imports.now n c.loop-importer.importers.items) all c.loop-importer.invariant
+    let g = c.args.imports.now in
+    let n = c.loop-importer.importer in
+    let inv = c.loop-importer.invariant in
+    let got = inv.held in
+    let noted = c.in_ok-note_row.ensures.noted got.0 got.1 in
+    record {
+      size = c.in_ok-note_row.ensures.size ∙ inv.size;
+      held = (
+        noted.0,
+        noted.1,
+        HoldImporters-more g got.0 noted.0 n got.2 (subst (λ (row : List ℕ). NotesRow got.0 row n noted.0) c.row.ensures noted.2),
+      );
+    }

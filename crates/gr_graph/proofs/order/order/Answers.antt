@@ -1,5 +1,5 @@
 -- From nothing told, block after block, until all are told.
-use Rattle.std.proofs.Common.{Bool, List, ℕ, ◌<◌, length, subst}
+use Rattle.std.proofs.Common.{Bool, List, ℕ, ◌<◌, length, subst, ◌∙◌}
 use Rattle.gr_graph.specs.Search.{IsMarked}
 use Rattle.gr_graph.proofs.Reached.{noted_linked}
 use Rattle.gr_graph.proofs.Told.{told_none, order_is}
@@ -14,7 +14,7 @@ add_all-requires c =
     record {
       linked = c.requires.linked;
       back = c.requires.back;
-      told = told_none c.args.imports.now c.in_ok-blocks.blocks made.order made.told made.size made.bars;
+      told = told_none c.args.imports.now c.in_ok-blocks.blocks made.order made.told (made.size ∙ c.len.ensures) (made.bars ∙ c.len.ensures);
     }
 
 pub returns : goal.returns

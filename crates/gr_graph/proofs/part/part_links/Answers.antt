@@ -14,7 +14,7 @@ places-requires c = record {
 }
 
 pub loop-number-init : goal.loop-number-init
-loop-number-init c = part_none c.args.links.now c.args.numbers.now c.new-part.result.items c.new-part.ensures.items
+loop-number-init c = part_none c.args.links.now c.args.numbers.now c.in_ok-part.part c.in_ok-part.ensures
 
 pub imports-requires : goal.imports-requires
 imports-requires c = c.requires.numbers c.loop-number.number-index 0 (omega arith)
@@ -36,12 +36,14 @@ loop-number-preserved c =
     let k = c.loop-number.number-index in
     let places = c.in_ok-places.places.items in
     let are : ArePlaces ns (length g) (length ns) places = subst (λ (m : ℕ). ArePlaces ns m (length ns) places) c.len.ensures c.in_ok-places.ensures in
-    let row : IsAmongPlaces (imports_of g (get_or ns k 0)) places (length ns) c.in_ok-row.row =
-    subst (λ (l : List ℕ). IsAmongPlaces l places (length ns) c.in_ok-row.row) c.imports.ensures
-    (subst (λ (l : List ℕ). IsAmongPlaces c.imports.result.now l (length ns) c.in_ok-row.row) c.deref.ensures.value c.in_ok-row.ensures) in
-    rw c.in_ok-push.ensures.items (part_more g ns places c.requires.linked c.requires.rising (λ i lt. c.requires.numbers i 0 lt) are k
-    c.loop-number.part.items c.in_ok-row.row (omega arith) row c.loop-number.invariant)
+    let row : IsAmongPlaces (imports_of g (get_or ns k 0)) places (length ns) c.among_places.new.row.items =
+    subst (λ (l : List ℕ). IsAmongPlaces l places (length ns) c.among_places.new.row.items) c.imports.ensures
+    (subst (λ (l : List ℕ). IsAmongPlaces c.imports.result.now l (length ns) c.among_places.new.row.items) c.deref.ensures.value
+        c.in_ok-among_places.ensures) in
+    rw (c.in_ok-add_row.ensures, c.deref-in-loop-number.ensures.value)
+        (part_more g ns places c.requires.linked c.requires.rising (λ i lt. c.requires.numbers i 0 lt) are k
+    c.loop-number.part c.among_places.new.row.items (omega arith) row c.loop-number.invariant)
 
 pub returns : goal.returns
-returns c = subst (λ k. ArePartLinks c.args.links.now c.args.numbers.now k c.loop-number.part.items) (omega (arith, c.loop-number-test.false))
+returns c = subst (λ k. ArePartLinks c.args.links.now c.args.numbers.now k c.loop-number.part) (omega (arith, c.loop-number-test.false))
     c.loop-number.invariant

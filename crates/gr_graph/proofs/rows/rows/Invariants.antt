@@ -6,4 +6,4 @@ use Rattle.gr_graph.specs.Rows.{IsRow}
 use Rattle.gr_graph.proofs.rows.rows.Given as goal
 
 abbrev pub invariant-loop-package : goal.invariant-loop-package
-invariant-loop-package l = AllZip (λ p row. IsRow (paths_of l.packages) p.trees.items row) (take l.package-index l.packages) l.rows.items
+invariant-loop-package l = AllZip (λ p row. IsRow (paths_of l.packages) p.trees.items row) (take l.package-index l.packages) l.rows

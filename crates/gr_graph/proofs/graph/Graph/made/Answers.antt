@@ -16,13 +16,13 @@ rows-requires c =
 pub of-requires : goal.of-requires
 of-requires c =
     let ps = c.args.packages.items in
-    let rows = subst (λ (qs : List ParsedPackage). AllZip (λ p row. IsRow (paths_of qs) p.trees.items row) qs c.in_ok-rows.rows.items) c.deref.ensures.value
+    let rows = subst (λ (qs : List ParsedPackage). AllZip (λ p row. IsRow (paths_of qs) p.trees.items row) qs c.in_ok-rows.rows) c.deref.ensures.value
     c.in_ok-rows.ensures in
-    are_linked c.args.files ps c.in_ok-rows.rows.items c.requires.paths c.requires.files rows
+    are_linked c.args.files ps c.in_ok-rows.rows c.requires.paths c.requires.files rows
 
 pub invariant_of-result : goal.invariant_of-result
 invariant_of-result c =
     let ps = c.args.packages.items in
-    let rows = subst (λ (qs : List ParsedPackage). AllZip (λ p row. IsRow (paths_of qs) p.trees.items row) qs c.in_ok-rows.rows.items) c.deref.ensures.value
+    let rows = subst (λ (qs : List ParsedPackage). AllZip (λ p row. IsRow (paths_of qs) p.trees.items row) qs c.in_ok-rows.rows) c.deref.ensures.value
     c.in_ok-rows.ensures in
-    rw (c.in_ok-new.ensures.ok, c.in_ok-links.ensures) (graph_is c.args.files ps c.in_ok-rows.rows.items c.requires.paths c.requires.files rows)
+    rw (c.in_ok-new.ensures.ok, c.in_ok-links.ensures) (graph_is c.args.files ps c.in_ok-rows.rows c.requires.paths c.requires.files rows)

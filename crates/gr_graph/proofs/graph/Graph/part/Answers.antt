@@ -44,7 +44,7 @@ of-requires c =
     let links : c.links.result.now ≡ c.deref.result.now.links = c.links.ensures ∙ ap (λ parts. parts.links) (c.deref-3.ensures ∙ sym c.deref.ensures) in
     let whole = subst (λ (g : Links). IsGraph w old g) (sym links)
     (subst (λ (ps : List ParsedPackage). IsGraph w ps c.deref.result.now.links) (sym c.deref-2.ensures.value) graph) in
-    part_linked w c.args.files c.args.numbers.now old c.in_ok-packages.packages.items c.links.result.now c.in_ok-rows.rows.items whole c.requires.files
+    part_linked w c.args.files c.args.numbers.now old c.in_ok-packages.packages.items c.links.result.now c.in_ok-rows.rows whole c.requires.files
     c.in_ok-packages.ensures c.requires.rising c.in_ok-rows.ensures
 
 pub invariant_of-result : goal.invariant_of-result
@@ -58,5 +58,5 @@ invariant_of-result c =
     let whole = subst (λ (g : Links). IsGraph w old g) (sym links)
     (subst (λ (ps : List ParsedPackage). IsGraph w ps c.deref.result.now.links) (sym c.deref-2.ensures.value) graph) in
     rw (c.in_ok-new.ensures.ok, c.in_ok-links.ensures)
-    (part_graph w c.args.files c.args.numbers.now old c.in_ok-packages.packages.items c.links.result.now c.in_ok-rows.rows.items whole c.requires.files
+    (part_graph w c.args.files c.args.numbers.now old c.in_ok-packages.packages.items c.links.result.now c.in_ok-rows.rows whole c.requires.files
     c.in_ok-packages.ensures c.requires.rising c.in_ok-rows.ensures)

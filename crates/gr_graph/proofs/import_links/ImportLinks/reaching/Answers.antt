@@ -8,20 +8,20 @@ use Rattle.gr_graph.proofs.import_links.ImportLinks.reaching.Goals as goal
 
 pub reached_by-requires : goal.reached_by-requires
 reached_by-requires c =
-    let g = c.self.inside.imports.items in
-    let noted = c.self.inside.importers.items in
+    let g = c.self.inside.imports in
+    let noted = c.self.inside.importers in
     record {
-      linked = rw c.deref.ensures.value (noted_linked g noted c.self.invariant.linked c.self.invariant.importers);
-      size = c.requires ∙ sym (ap length (c.deref.ensures.value) ∙ c.self.invariant.importers.size ∙ ap length c.self.view_is);
+      linked = noted_linked g noted c.self.invariant.linked c.self.invariant.importers;
+      size = c.requires ∙ sym (c.self.invariant.importers.size ∙ ap length c.self.view_is);
     }
 
 pub returns : goal.returns
 returns c =
-    let g = c.self.inside.imports.items in
-    let noted = c.self.inside.importers.items in
+    let g = c.self.inside.imports in
+    let noted = c.self.inside.importers in
     let marks = c.args.marks.now in
-    IfOk-weaker c.reached_by.result (λ found. AreReached c.deref.result.now marks (length c.deref.result.now) found.items)
+    IfOk-weaker c.reached_by.result (λ found. AreReached c.self.inside.importers marks (length c.self.inside.importers) found.items)
     (λ found. AreReaching c.args.self.now marks found.items)
     (λ found are. subst (λ (h : Links). AreReaching h marks found.items) c.self.view_is
-    (are_reaching g noted c.self.invariant.linked c.self.invariant.importers marks found.items (c.requires ∙ sym (ap length c.self.view_is))
-    (subst (λ (h : Links). AreReached h marks (length h) found.items) c.deref.ensures.value are))) c.reached_by.ensures
+    (are_reaching g noted c.self.invariant.linked c.self.invariant.importers marks found.items (c.requires ∙ sym (ap length c.self.view_is)) are))
+        c.reached_by.ensures

@@ -7,7 +7,7 @@ use Rattle.gr_graph.specs.Graphs.{paths_of}
 use Rattle.gr_graph.specs.ImportPaths.{bytes_of_paths}
 use Rattle.gr_graph.specs.Rows.{AddsNumbers}
 use Rattle.gr_graph.proofs.Collected.{AreLeft, left_all, left_more, left_none}
-use Rattle.gr_graph.proofs.rows.numbers_of.Goals as goal
+use Rattle.gr_graph.proofs.rows.fill_numbers.Goals as goal
 
 pub loop-path-init : goal.loop-path-init
 loop-path-init c =
@@ -15,8 +15,8 @@ loop-path-init c =
     let some = bytes_of_paths c.args.paths.now.keys in
     let begun : c.args.paths.now.keys ≡ c.into_iter-path-iterator.result =
     sym (c.into_iter-path-iterator.ensures.into_iter_gives ∙ c.iter-path-items.ensures.rest) in
-    subst (λ (ks : List (Vec ℕ Global)). AreLeft paths some (bytes_of_paths ks) c.new-row.result.items) begun
-    (left_all paths some c.new-row.result.items c.new-row.ensures.items)
+    subst (λ (ks : List (Vec ℕ Global)). AreLeft paths some (bytes_of_paths ks) c.clear.new.self.items) begun
+    (left_all paths some c.clear.new.self.items c.clear.ensures.items)
 
 pub loop-path-preserved : goal.loop-path-preserved
 loop-path-preserved c =
