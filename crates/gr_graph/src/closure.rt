@@ -1,6 +1,6 @@
 //! What packages reach along links.
-ghost use Rattle.std.specs.Prelude.{◌≡◌, ◌<◌, length, IfOk};
-ghost use Rattle.gr_graph.specs.Imports.{AreLinked, HoldImporters};
+ghost use Rattle.std.specs.Prelude.{◌≡◌, ◌<◌, ℕ, length, IfOk};
+ghost use Rattle.gr_graph.specs.Imports.{AreLinked, HoldImporters, Links};
 ghost use Rattle.gr_graph.specs.Closures.{IsBuiltOn, IsClosed};
 ghost use Rattle.gr_graph.specs.Search.{AreReached, Flips, HoldsMarked, TellBack};
 
@@ -65,6 +65,15 @@ pub(crate) fn back_marks(
     Ok(marks)
 }
 
+/// What a package reaches and what does not reach it, by number, told by such marks.
+pub(crate) fn built_on_by(alloc: Global, back: &[bool]) -> Result<PackageList, AllocError>
+    ensures { IfOk result (λ below. (g : Links) (p : ℕ) → TellBack g p back.now → IsBuiltOn g p below) }
+{
+    let mut marks = Vec::from_slice(alloc, back)?;
+    flip(&mut marks);
+    marked(alloc, &marks)
+}
+
 /// What a package reaches and what does not reach it, by number.
 pub(crate) fn built_on(
     alloc: Global,
@@ -77,9 +86,8 @@ pub(crate) fn built_on(
     requires number { number < length imports.now }
     ensures { IfOk result (IsBuiltOn imports.now number) }
 {
-    let mut marks = back_marks(alloc, imports, importers, number)?;
-    flip(&mut marks);
-    marked(alloc, &marks)
+    let back = back_marks(alloc, imports, importers, number)?;
+    built_on_by(alloc, &back)
 }
 
 /// A mark for each package that a marked one reaches.

@@ -23,6 +23,7 @@ use crate::import_links::ImportLinks;
 use crate::package::ParsedPackage;
 use crate::package_list::PackageList;
 use crate::packages::packages;
+use crate::packages_below::PackagesBelow;
 use crate::part::{numbered, part_links};
 use crate::rows::{EarlierGraph, rows};
 use crate::shared_links::SharedLinks;
@@ -280,6 +281,19 @@ impl Graph {
         ensures rising { IfOk result IsStrictlyIncreasing }
     {
         self.links().built_on(alloc, number)
+    }
+
+    /// The same, with the marks of `back_marks`. One search finds both.
+    pub fn below(&self, alloc: Global, number: usize) -> Result<PackagesBelow, AllocError>
+        requires { number < length (package_paths self.now) }
+        ensures built_on { IfOk result (λ found. OfPackage self.now number (λ p. HoldsPackages self.now (BuildsOn self.now p) found.built_on)) }
+        ensures rising { IfOk result (λ found. IsStrictlyIncreasing found.built_on) }
+        ensures back { IfOk result (λ found. OfPackage self.now number (λ p. AreBackMarks self.now p found.back.items)) }
+    {
+        let links = self.links();
+        let back = links.back_marks(alloc, number)?;
+        let built_on = links.built_on_by(alloc, &back)?;
+        Ok(PackagesBelow { built_on, back })
     }
 
     /// A mark for each package that is marked, or imports a marked one, directly or indirectly. One search finds them all.

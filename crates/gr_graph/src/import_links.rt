@@ -12,7 +12,7 @@ ghost use Rattle.gr_graph.specs.Imports.{
 };
 ghost use Rattle.gr_graph.specs.Search.{AreReaching, IsMarked, MarksImporting, TellBack};
 
-use crate::closure::{back_marks, built_on, closure_of, reached_by};
+use crate::closure::{back_marks, built_on, built_on_by, closure_of, reached_by};
 use crate::importers::importers;
 use crate::link_rows::LinkRows;
 use crate::order::order;
@@ -104,6 +104,13 @@ impl ImportLinks {
         ensures { IfOk result (IsBuiltOn self.now number) }
     {
         built_on(alloc, &self.imports, &self.importers, number)
+    }
+
+    /// The same, told by the marks that tell of what it so imports whether it so imports that package.
+    pub fn built_on_by(&self, alloc: Global, back: &[bool]) -> Result<PackageList, AllocError>
+        ensures { IfOk result (λ below. (p : ℕ) → TellBack self.now p back.now → IsBuiltOn self.now p below) }
+    {
+        built_on_by(alloc, back)
     }
 
     /// A mark for each package that is marked, or imports a marked one, directly or indirectly. One search finds them all.

@@ -1,9 +1,9 @@
 //! What a package sees of others, and what each path is that it imports.
 ghost use Rattle.std.specs.Prelude.{ℕ, ◌≡◌, ◌<◌, List, length, IfOk, OnOk};
 ghost use Rattle.gr_text.specs.Packages.{package_paths};
-ghost use Rattle.gr_graph.specs.Graphs.{OfPackage};
+ghost use Rattle.gr_graph.specs.Graphs.{HoldsPackages, OfPackage};
 ghost use Rattle.gr_graph.specs.Packages.{PackageImports};
-ghost use Rattle.gr_graph.specs.Reaching.{AreBackMarks};
+ghost use Rattle.gr_graph.specs.Reaching.{AreBackMarks, BuildsOn};
 ghost use Rattle.gr_imports.specs.States.{state_in};
 ghost use Rattle.gr_imports.specs.declared.states.ImportState.TheVariants.{Missing};
 ghost use Rattle.gr_declared.specs.InterfacesView.{name_in, interface_in};
@@ -17,9 +17,33 @@ use gr_graph::Graph;
 use gr_imports::{ImportState, PackageNames};
 use std::alloc::{AllocError, Global};
 
+/// What a package sees of those that it builds on. All rise by their paths, as the packages' numbers do: each package is looked for at
+/// its number, less one for each package before it of which nothing is known.
+fn seen_of(
+    alloc: Global,
+    graph: &Graph,
+    number: usize,
+    below: &[usize],
+    all: &Interfaces,
+) -> Result<Interfaces, AllocError>
+    requires in_range { number < length (package_paths graph.now) }
+    requires below { OfPackage graph.now number (λ p. HoldsPackages graph.now (BuildsOn graph.now p) below.now) }
+    requires whole { AreWhole all.now }
+    ensures seen { IfOk result (λ i. OfPackage graph.now number (λ p. AreSeen graph.now (known_by all.now) p (name_in i) (interface_in i))) }
+    ensures states { IfOk result (λ i. (path : List ℕ) → state_in i.states path ≡ Missing) }
+{
+    let mut seen = Interfaces::with_capacity(alloc, below.len())?;
+    let mut missing: usize = 0;
+    for other in below {
+        let first = other.wrapping_sub(missing);
+        let next = seen.share_from(alloc, all, &graph.package(*other).path, first)?;
+        missing = other.wrapping_add(1).wrapping_sub(next);
+    }
+    Ok(seen)
+}
+
 /// What a package sees of others: the names and the interfaces of those without faults that it builds on. What the imported
-/// paths are is not noted. All rise by their paths, as the packages' numbers do: each package is looked for at its number, less
-/// one for each package before it of which nothing is known.
+/// paths are is not noted.
 pub fn seen(
     alloc: Global,
     graph: &Graph,
@@ -32,14 +56,7 @@ pub fn seen(
     ensures states { IfOk result (λ i. (path : List ℕ) → state_in i.states path ≡ Missing) }
 {
     let below = graph.built_on(alloc, number)?;
-    let mut seen = Interfaces::with_capacity(alloc, below.as_slice().len())?;
-    let mut missing: usize = 0;
-    for other in below.as_slice() {
-        let first = other.wrapping_sub(missing);
-        let next = seen.share_from(alloc, all, &graph.package(*other).path, first)?;
-        missing = other.wrapping_add(1).wrapping_sub(next);
-    }
-    Ok(seen)
+    seen_of(alloc, graph, number, below.as_slice(), all)
 }
 
 /// What an imported package is to the one that imports it. The marks tell which packages import that one.
@@ -64,23 +81,24 @@ fn state_of(
     }
 }
 
-/// Notes what each path is that a package imports.
+/// Notes what each path is that a package imports. The marks tell which packages import that one.
 fn note_imports(
     alloc: Global,
     seen: &mut Interfaces,
     graph: &Graph,
     number: usize,
+    back: &[bool],
     all: &Interfaces,
 ) -> Result<(), AllocError>
     requires in_range { number < length (package_paths graph.now) }
+    requires back { OfPackage graph.now number (λ p. AreBackMarks graph.now p back.now) }
     requires nothing { (path : List ℕ) → state_in seen.old.states path ≡ Missing }
     ensures states { OnOk result (OfPackage graph.now number (λ p. AreStates graph.now (known_by all.now) p (state_in seen.new.states))) }
     ensures kept { OnOk result (KnowsSameOfOthers seen.old seen.new) }
 {
-    let back = graph.back_marks(alloc, number)?;
     for import in graph.imports(number) {
         let path = Vec::from_slice(alloc, &graph.package(*import).path)?;
-        seen.note(path, state_of(graph, number, &back, *import, all))?;
+        seen.note(path, state_of(graph, number, back, *import, all))?;
     }
     Ok(())
 }
@@ -95,8 +113,9 @@ pub fn import_states(
     requires { number < length (package_paths graph.now) }
     ensures { IfOk result (λ noted. OfPackage graph.now number (λ p. AreStates graph.now (known_by all.now) p (state_in noted.states))) }
 {
+    let back = graph.back_marks(alloc, number)?;
     let mut noted = Interfaces::new(alloc);
-    note_imports(alloc, &mut noted, graph, number, all)?;
+    note_imports(alloc, &mut noted, graph, number, &back, all)?;
     Ok(noted)
 }
 
@@ -113,7 +132,8 @@ pub fn seen_imports(
     ensures seen { IfOk result (λ i. OfPackage graph.now number (λ p. AreSeen graph.now (known_by all.now) p (name_in i) (interface_in i))) }
     ensures states { IfOk result (λ i. OfPackage graph.now number (λ p. AreStates graph.now (known_by all.now) p (state_in i.states))) }
 {
-    let mut interfaces = seen(alloc, graph, number, all)?;
-    note_imports(alloc, &mut interfaces, graph, number, all)?;
+    let below = graph.below(alloc, number)?;
+    let mut interfaces = seen_of(alloc, graph, number, below.built_on.as_slice(), all)?;
+    note_imports(alloc, &mut interfaces, graph, number, &below.back, all)?;
     Ok(interfaces)
 }

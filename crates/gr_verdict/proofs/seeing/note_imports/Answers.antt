@@ -5,7 +5,6 @@ use Rattle.std.proofs.lemmas.List.Elements.{Contains-get_or}
 use Rattle.std.proofs.lemmas.Option.{same_Some, slice_get_within}
 use Rattle.gr_text.specs.Packages.{package_paths}
 use Rattle.gr_graph.specs.Packages.{PackageImports}
-use Rattle.gr_graph.specs.Reaching.{AreBackMarks}
 use Rattle.gr_imports.specs.States.{state_in}
 use Rattle.gr_declared.specs.InterfacesView.{Notes}
 use Rattle.gr_meanings.proofs.BoundLists.{slice_get_some}
@@ -40,7 +39,7 @@ state_of-requires c =
           let p = slice_get_some (package_paths w) c.args.number c.requires.in_range in
           let s = (c.imports-import-items.ensures.imports p.0 p.1 n).0 own in
           slice_get_within (package_paths w) n s.0 s.1;
-      back = λ p at. subst (AreBackMarks w p) (sym c.deref-in-loop-import.ensures.value) (c.in_ok-back.ensures p at);
+      back = c.requires.back;
       imports = λ p at q there.
           let s = (c.imports-import-items.ensures.imports p at n).0 own in
           subst (PackageImports w p) (same_Some s.0 q (sym s.1 ∙ there)) s.2;

@@ -1,7 +1,27 @@
 -- The answers to the goals of `seeing::seen_imports`.
+use Rattle.std.proofs.Common.{sym, subst}
+use Rattle.gr_graph.specs.Graphs.{HoldsPackages}
+use Rattle.gr_graph.specs.Reaching.{AreBackMarks}
+use Rattle.gr_verdict.specs.Verdicts.{BuildsOn}
 use Rattle.gr_verdict.specs.Told.{known_by}
 use Rattle.gr_verdict.proofs.Noting.{seen_still}
 use Rattle.gr_verdict.proofs.seeing.seen_imports.Goals as goal
+
+pub seen_of-requires : goal.seen_of-requires
+seen_of-requires c =
+    let w = c.args.graph.now in
+    record {
+      in_range = c.requires.in_range;
+      below = λ p at. subst (HoldsPackages w (BuildsOn w p)) (sym c.as_slice.ensures) (c.in_ok-below.ensures.built_on p at);
+      whole = c.requires.whole;
+    }
+
+pub note_imports-requires : goal.note_imports-requires
+note_imports-requires c = record {
+  in_range = c.requires.in_range;
+  back = λ p at. subst (AreBackMarks c.args.graph.now p) (sym c.deref.ensures.value) (c.in_ok-below.ensures.back p at);
+  nothing = c.in_ok-interfaces.ensures.states;
+}
 
 pub returns : goal.returns
 returns c = record {

@@ -1,0 +1,56 @@
+-- The answers to the goals of `seeing::seen_of`.
+use Rattle.std.proofs.Common.{◌≡◌, ◌+◌, ◌<◌, take, length, get_or, refl, sym, subst, ◌∙◌, arith}
+use Rattle.std.proofs.lemmas.List.{take_all}
+use Rattle.std.proofs.lemmas.List.Elements.{Contains-get_or}
+use Rattle.std.proofs.lemmas.Option.{same_Some, slice_get_within}
+use Rattle.gr_text.specs.Packages.{package_paths}
+use Rattle.gr_declared.specs.InterfacesView.{Shares}
+use Rattle.gr_meanings.proofs.BoundLists.{slice_get_some}
+use Rattle.gr_verdict.proofs.Members.{taken_or_next, still_taken, next_taken}
+use Rattle.gr_verdict.proofs.Sharing.{none_shared, shared_next, all_seen, AreShared}
+use Rattle.gr_verdict.proofs.seeing.seen_of.Goals as goal
+
+pub loop-other-init : goal.loop-other-init
+loop-other-init c = λ p at. none_shared c.args.graph.now p _ c.args.all.now c.in_ok-seen.seen refl c.in_ok-seen.ensures.names c.in_ok-seen.ensures.interfaces
+    c.in_ok-seen.ensures.states
+
+pub package-requires : goal.package-requires
+package-requires c =
+    let w = c.args.graph.now in
+    let items = c.args.below.now in
+    let k = c.loop-other.other-index in
+    let n = get_or items k 0 in
+    let own = Contains-get_or items k 0 (omega arith) in
+    let p = slice_get_some (package_paths w) c.args.number c.requires.in_range in
+    let s = (c.requires.below p.0 p.1 n).0 own in
+    slice_get_within (package_paths w) n s.0 s.1
+
+pub loop-other-preserved : goal.loop-other-preserved
+loop-other-preserved c = λ p at.
+    let w = c.args.graph.now in
+    let all = c.args.all.now in
+    let items = c.args.below.now in
+    let k = c.loop-other.other-index in
+    let lt : k < length items = omega arith in
+    let n = get_or items k 0 in
+    let old = c.loop-other.seen in
+    let new = c.share_from.new.self in
+    let own = Contains-get_or items k 0 lt in
+    let s = (c.requires.below p at n).0 own in
+    let path : c.deref.result.now ≡ s.0 = c.deref.ensures.value ∙ same_Some c.package.result.now.path.items s.0 (sym c.package.ensures.path ∙ s.1) in
+    shared_next w p (take k items) (take (k + 1) items) n s.0 s.1 (λ m h. taken_or_next items k 0 m lt h) (λ m h. still_taken items k 0 m lt h)
+    (next_taken items k 0 lt) all old new s.2 (subst (Shares all old new) path c.in_ok-next.ensures.shared) (c.loop-other.invariant p at)
+
+pub returns-clause-seen : goal.returns-clause-seen
+returns-clause-seen c = λ p at.
+    let w = c.args.graph.now in
+    let items = c.args.below.now in
+    let whole = subst (λ l. AreShared w p l c.args.all.now c.loop-other.seen) (take_all c.loop-other.other-index items (omega arith))
+    (c.loop-other.invariant p at) in
+    all_seen w p items c.args.all.now c.loop-other.seen
+    (c.requires.below p at) c.requires.whole whole
+
+pub returns-clause-states : goal.returns-clause-states
+returns-clause-states c =
+    let p = slice_get_some (package_paths c.args.graph.now) c.args.number c.requires.in_range in
+    (c.loop-other.invariant p.0 p.1).states
