@@ -12,11 +12,11 @@ use Rattle.gr_scope.specs.Bindings.{Counts, IsBoundTo, Layout, Names, block_of, 
 use Rattle.gr_scope.specs.Moves.{IsMoved, KnownIn, moved_place, moved_role}
 use Rattle.gr_scope.specs.Site.{Site, found_site, sites_layout, sites_names}
 use Rattle.gr_scope.proofs.Moved.{bindings_move}
-use Rattle.gr_named_import.specs.Around.{from_on}
-use Rattle.gr_renumbered_sites.specs.MovedSites.{moved_site}
+use Rattle.gr_gained.specs.Around.{from_on}
+use Rattle.gr_gained.specs.MovedSites.{moved_site}
 use Rattle.gr_gained.specs.Gained.{Gain, HasGained, import_site, moved_by, path_site}
 use Rattle.gr_gained.proofs.Along.{Along, IsLooked, bound_along}
-use Rattle.gr_bare_imports.proofs.Tokens.{seam}
+use Rattle.gr_gained.proofs.TokensBehind.{seam}
 use Rattle.gr_gained.proofs.Spelling.{from_first, from_suc, from_zero}
 
 -- numbers

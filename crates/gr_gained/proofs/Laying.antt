@@ -5,7 +5,7 @@ use Rattle.gr_scope.specs.declared.model.Role.TheVariants.{Use, Declaring, LeftN
 use Rattle.gr_scope.specs.Moves.{moved_role}
 use Rattle.gr_scope.specs.Named.{is_unnamed_import, named_site, named_sites, named_where}
 use Rattle.gr_scope.specs.Site.{Site, sites_layout}
-use Rattle.gr_renumbered_sites.specs.MovedSites.{moved_site}
+use Rattle.gr_gained.specs.MovedSites.{moved_site}
 use Rattle.gr_gained.specs.Gained.{AreLater, Gain, HasGained, import_site, moved_by, path_site, unnamed_site}
 use Rattle.gr_gained.proofs.Spelling.{from_first, from_suc, from_zero}
 

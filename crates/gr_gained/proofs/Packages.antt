@@ -18,10 +18,10 @@ use Rattle.gr_tree.specs.declared.syntax.Token.{Token}
 use Rattle.gr_tree.specs.Flatten.{flatten}
 use Rattle.gr_tree.specs.Kinds.{kind_of, kinds_from, kinds_of}
 use Rattle.gr_tree.specs.WellFormed.{IsTreeOf}
-use Rattle.gr_named_import.specs.Around.{AroundImport, bare_import, file_with, from_on}
-use Rattle.gr_named_import.specs.Named.{MayPut, NamePut, before_put, literal_piece}
-use Rattle.gr_renumbered_sites.specs.MovedSites.{moved_site}
-use Rattle.gr_renumbered_sites.proofs.Staying.{file_stays}
+use Rattle.gr_gained.specs.Around.{AroundImport, bare_import, file_with, from_on}
+use Rattle.gr_gained.specs.Named.{MayPut, NamePut, before_put, literal_piece}
+use Rattle.gr_gained.specs.MovedSites.{moved_site}
+use Rattle.gr_gained.proofs.Staying.{file_stays}
 use Rattle.gr_gained.specs.Gained.{Gain, HasGained, file_after, file_before, gain_of, import_site, moved_by, path_site, sites_in, unnamed_site}
 use Rattle.gr_gained.proofs.Sites.{put_sites}
 use Rattle.gr_gained.proofs.Spelling.{from_zero}

@@ -4,9 +4,9 @@ use Rattle.std.specs.Prelude.{◌↔◌}
 use Rattle.gr_scope.specs.Bindings.{IsBoundTo, Names}
 use Rattle.gr_scope.specs.Site.{Site, sites_layout, sites_names}
 use Rattle.gr_scope.proofs.Nests.{nests}
-use Rattle.gr_rescoped.specs.Renaming.{HasNoConflict, Renames}
-use Rattle.gr_rescoped.proofs.Exactness.{exact}
-use Rattle.gr_named_import.specs.Around.{from_on}
+use Rattle.gr_gained.specs.Renaming.{HasNoConflict, Renames}
+use Rattle.gr_gained.proofs.Exactness.{exact}
+use Rattle.gr_gained.specs.Around.{from_on}
 use Rattle.gr_gained.specs.Gained.{Gain, HasGained, import_site}
 use Rattle.gr_gained.proofs.Bound.{bound_gained}
 

@@ -11,13 +11,13 @@ use Rattle.gr_scope.specs.ExpressionSites.{list_sites}
 use Rattle.gr_scope.specs.StatementSites.{separated_sites, group_sites}
 use Rattle.gr_scope.specs.FileSites.{spec_sites, import_sites, imports_sites, decl_sites, file_sites}
 use Rattle.gr_tree.specs.Tree.{ImportTree, ImportsTree}
-use Rattle.gr_renumbered.specs.Renumbered.{import_by, imports_by, decl_by}
-use Rattle.gr_named_import.specs.Around.{AroundImport, AroundItem, alone, among, around_by, bare_import, file_with, from_on, group_with, imports_with}
-use Rattle.gr_named_import.specs.Around.{item_around_by}
-use Rattle.gr_named_import.specs.Around.{named_import}
-use Rattle.gr_named_import.specs.Named.{MayPut, NamePut, before_put, literal_piece}
-use Rattle.gr_renumbered_sites.specs.MovedSites.{moved_site}
-use Rattle.gr_renumbered_sites.proofs.MovedFiles.{all_moved, both, decl_moved, import_moved, imports_moved, list_moved}
+use Rattle.gr_gained.specs.Renumbered.{import_by, imports_by, decl_by}
+use Rattle.gr_gained.specs.Around.{AroundImport, AroundItem, alone, among, around_by, bare_import, file_with, from_on, group_with, imports_with}
+use Rattle.gr_gained.specs.Around.{item_around_by}
+use Rattle.gr_gained.specs.Around.{named_import}
+use Rattle.gr_gained.specs.Named.{MayPut, NamePut, before_put, literal_piece}
+use Rattle.gr_gained.specs.MovedSites.{moved_site}
+use Rattle.gr_gained.proofs.MovedFiles.{all_moved, both, decl_moved, import_moved, imports_moved, list_moved}
 use Rattle.gr_gained.specs.Gained.{Gain, HasGained, file_after, file_before, gain_of, import_site, moved_by, path_site, sites_in, unnamed_site}
 use Rattle.gr_gained.proofs.Spelling.{from_itself, spelled_kept, spelled_literal, spelled_name}
 

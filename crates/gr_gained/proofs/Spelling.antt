@@ -10,11 +10,11 @@ use Rattle.gr_scan.specs.CutText.{tokens_in}
 use Rattle.gr_scan.specs.Spans.{FollowFrom}
 use Rattle.gr_scan.proofs.SpanLemmas.{tokens_in_order}
 use Rattle.gr_tree.specs.SourceFile.{spelling_at}
-use Rattle.gr_named_import.specs.Around.{from_on}
-use Rattle.gr_named_import.specs.Named.{MayPut, NamePut, after_put, before_put, literal_piece, moved_behind, name_piece, put_bytes}
-use Rattle.gr_named_import.proofs.Behind.{AllLie, LiesBefore, LiesBehind, all_by, behind_bytes, front_bytes}
-use Rattle.gr_named_import.proofs.Gaining.{both_tokens, literal_number, name_bytes, news, same_rest, texts}
-use Rattle.gr_bare_imports.proofs.Tokens.{behind, seam}
+use Rattle.gr_gained.specs.Around.{from_on}
+use Rattle.gr_gained.specs.Named.{MayPut, NamePut, after_put, before_put, literal_piece, moved_behind, name_piece, put_bytes}
+use Rattle.gr_gained.proofs.Behind.{AllLie, LiesBefore, LiesBehind, all_by, behind_bytes, front_bytes}
+use Rattle.gr_gained.proofs.Gaining.{both_tokens, literal_number, name_bytes, news, same_rest, texts}
+use Rattle.gr_gained.proofs.TokensBehind.{behind, seam}
 use Rattle.gr_gained.specs.Gained.{spelled}
 
 -- the numbers of tokens

@@ -9,9 +9,9 @@ use Rattle.gr_scope.specs.Named.{is_unnamed_import}
 use Rattle.gr_scope.specs.Site.{Site, sites_layout}
 use Rattle.gr_tree.specs.SourceFile.{spelling_at}
 use Rattle.gr_tree.specs.Tree.{FileTree}
-use Rattle.gr_named_import.specs.Around.{AroundImport, around_by, bare_import, file_with, from_on, named_import}
-use Rattle.gr_named_import.specs.Named.{NamePut, after_put, before_put}
-use Rattle.gr_renumbered_sites.specs.MovedSites.{moved_site}
+use Rattle.gr_gained.specs.Around.{AroundImport, around_by, bare_import, file_with, from_on, named_import}
+use Rattle.gr_gained.specs.Named.{NamePut, after_put, before_put}
+use Rattle.gr_gained.specs.MovedSites.{moved_site}
 
 -- the bytes of a token, by its number; none beyond the last token
 abbrev pub spelled : CutText → ℕ → List ℕ

@@ -1,2 +1,14 @@
 -- The definitions of this crate.
+pub mod Literals
+mod Examples
+pub mod Renamings
+pub mod Trees
+pub mod Renumbered
+pub mod Around
+pub mod Named
+pub mod Put
+pub mod MovedSites
+pub mod Renaming
+pub mod Seen
+pub mod MayGain
 pub mod Gained

@@ -1,4 +1,12 @@
-//! The identifiers of a package in which an import without a name gains one: laws alone.
+//! What stays where names of a text are replaced or an import gains one: pieces, tokens and the tree, the identifiers of the package, and
+//! what these are bound to. Laws alone.
 #![tactic(auto)]
 
-pub mod laws;
+pub mod bare_imports;
+pub mod gained;
+pub mod named_import;
+pub mod quoted;
+pub mod recut;
+pub mod renumbered;
+pub mod renumbered_sites;
+pub mod rescoped;

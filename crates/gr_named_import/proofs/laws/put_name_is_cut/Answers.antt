@@ -1,9 +1,0 @@
--- The answers to the goals of `laws::put_name_is_cut`.
-use Rattle.gr_named_import.proofs.Putting.{put_apart, put_joined}
-use Rattle.gr_named_import.proofs.laws.put_name_is_cut.Goals as goal
-
-pub returns-clause-apart : goal.returns-clause-apart
-returns-clause-apart c = put_apart
-
-pub returns-clause-joined : goal.returns-clause-joined
-returns-clause-joined c = put_joined

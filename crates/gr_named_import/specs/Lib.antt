@@ -1,4 +1,0 @@
--- The definitions of this crate.
-pub mod Around
-pub mod Named
-pub mod Put
