@@ -7,7 +7,8 @@ and takes hours. Here the sum and the libraries of each crate are found once in 
 
 Order: a gate takes no less than its longest chain of crates, one behind another. rt tells how long a chain is by lines, plans for
 more memory than proofs take, and may give each proof one processor. Here a chain is told by the seconds of checks/gate_seconds.txt, and the
-proof with the longest chain behind it has up to three processors. checks/gate.sh runs this.
+proof with the longest chain behind it has up to three processors, where that chain may be longer than what is left for each processor. Else a
+proof has one: with two or three it may take up to twice the processor time, where others are proved beside it. checks/gate.sh runs this.
 
 The program: where rt runs a build of gr_server, all of crates/gr_server/sessions and the checks of program.py are run on the same build. One
 that is answered otherwise fails the run of the program, so the gate fails, and its last line tells of it.
@@ -30,6 +31,8 @@ import replay
 # More memory than a proof was seen to take, in bytes.
 MEMORY_OF_ONE = 3_500_000_000
 PROCESSORS_OF_THE_FIRST = 3
+# A chain is long that takes more than this part of what is left for each processor.
+LONG = 0.8
 CHECKS = os.path.dirname(os.path.abspath(__file__))
 SECONDS = os.path.join(CHECKS, "gate_seconds.txt")
 PROGRAM = "gr_server"
@@ -63,24 +66,33 @@ def known_seconds():
     return {(crate, kind): int(seconds) for crate, kind, seconds in words}
 
 
-def behind_each(tasks):
-    """How many seconds the longest chain takes that begins with each task. A task stands after those that it waits for."""
+def seconds_of(tasks):
+    """What each task took, or by its lines."""
     known = known_seconds()
+    return {key: known.get(key, task[1] // 10) for key, task in tasks.items()}
+
+
+def behind_each(tasks, seconds):
+    """How many seconds the longest chain takes that begins with each task. A task stands after those that it waits for."""
     behind = dict.fromkeys(tasks, 0)
     for key in reversed([*tasks]):
-        waits, lines, _, _ = tasks[key]
-        behind[key] += known.get(key, lines // 10)
-        for it in waits:
+        behind[key] += seconds[key]
+        for it in tasks[key][0]:
             behind[it] = max(behind[it], behind[key])
     return behind
 
 
+def processors():
+    return len(os.sched_getaffinity(0))
+
+
 def lanes_at_once():
     """How many proofs with one processor each are run at a time, as far as memory holds them: one more than there are processors, since
-    a proof that was given three leaves them idle for a part of its time."""
+    a proof that was given three leaves them idle for a part of its time. With two processors hardly any is given more than one."""
     with open("/proc/meminfo", encoding="utf-8") as file:
         free = next(1024 * int(line.split()[1]) for line in file if line.startswith("MemAvailable:"))
-    return max(1, min(len(os.sched_getaffinity(0)) + 1, free // MEMORY_OF_ONE))
+    more = 1 if processors() > 2 else 0
+    return max(1, min(processors() + more, free // MEMORY_OF_ONE))
 
 
 def lanes_of(rt):
@@ -93,7 +105,8 @@ def lanes_of(rt):
             # a kit whose tasks are of another form
             os.environ["RT_JOBS"] = str(lanes)
             return own(tasks)
-        behind = behind_each(tasks)
+        seconds = seconds_of(tasks)
+        behind = behind_each(tasks, seconds)
         left = sorted(tasks, key=lambda it: -behind[it])
         running, given = {}, {}
         with ThreadPoolExecutor(lanes) as pool:
@@ -103,7 +116,8 @@ def lanes_of(rt):
                     if idle < 1:
                         break
                     is_first = key[1] == "proof" and behind[key] >= 0.99 * behind[left[0]]
-                    jobs = min(idle, PROCESSORS_OF_THE_FIRST) if is_first else 1
+                    is_long = behind[key] > LONG * sum(seconds[it] for it in left) / processors()
+                    jobs = min(idle, PROCESSORS_OF_THE_FIRST) if is_first and is_long else 1
                     left.remove(key)
                     running[pool.submit(tasks[key][3], given, jobs)] = key, jobs
                 for it in wait(running, return_when=FIRST_COMPLETED).done:

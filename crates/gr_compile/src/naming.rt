@@ -6,6 +6,7 @@ ghost use Rattle.gr_graph.specs.Graphs.{OfPackage};
 ghost use Rattle.gr_object.specs.NamesView.{AreNamesOf};
 ghost use Rattle.gr_compile.specs.Compiling.{HaveNamesBelow};
 
+use gr_expr::symbol::SharedPath;
 use gr_graph::{Graph, ParsedPackage};
 use gr_object::packages::{CalledNames, CalledPackages};
 use std::alloc::{AllocError, Global};
@@ -56,7 +57,7 @@ pub(crate) fn names_below<'a>(
     let closure = graph.closure(alloc, number)?;
     for other in closure.as_slice() {
         let files = graph.package(*other);
-        let path = Vec::from_slice(alloc, &files.path)?;
+        let path = SharedPath::new(alloc, &files.path)?;
         let names = names_of(alloc, files, is_near(graph, number, *other))?;
         packages.add(path, names)?;
     }

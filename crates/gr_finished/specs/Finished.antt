@@ -16,6 +16,10 @@ IsFinished w table p unit = (number : ℕ) × (slice_get (package_paths w) numbe
 abbrev pub Gains : Workspace → Table → List ℕ → PackageUnit → Table → Type 0
 Gains w old p unit new = (number : ℕ) × (slice_get (package_paths w) number ≡ Some p) × (new ≡ slice_set old number (Some unit))
 
+-- no package is finished
+abbrev pub HasNone : Table → Type 0
+HasNone table = (i : ℕ) (unit : PackageUnit) → slice_get table i ≡ Some (Some unit) → ⊥
+
 -- each package below a number is finished
 abbrev pub AreFinishedBelow : Table → ℕ → Type 0
 AreFinishedBelow table front = (i : ℕ) → i < front → (unit : PackageUnit) × (slice_get table i ≡ Some (Some unit))

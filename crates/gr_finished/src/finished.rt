@@ -1,7 +1,7 @@
 //! The packages of a workspace that are finished, with their units.
-ghost use Rattle.std.specs.Prelude.{◌≡◌, ◌<◌, [], IfOk, MatchOption, Some, length, slice_get, slice_set};
+ghost use Rattle.std.specs.Prelude.{◌≡◌, ◌<◌, [], IfOk, IsTrue, MatchOption, Some, length, slice_get, slice_set};
 ghost use Rattle.gr_compile.specs.declared.unit.Unit.{Unit as PackageUnit};
-ghost use Rattle.gr_finished.specs.Finished.{AreFinishedBelow};
+ghost use Rattle.gr_finished.specs.Finished.{AreFinishedBelow, HasNone};
 
 use gr_chunks::SharedList;
 use gr_compile::Unit;
@@ -9,17 +9,22 @@ use std::alloc::{AllocError, Global};
 use std::marker::Model;
 use std::sync::Arc;
 
-/// For each package of a workspace, by its number, its unit if it is finished, and a number below which each is. A clone shares the
+/// For each package of a workspace, by its number, its unit if it is finished, a number below which each is, and whether none is. A clone shares the
 /// table, and one in which a package more is finished shares all but a chunk of it.
 pub struct Finished {
     units: Arc<SharedList<Option<Unit>>, Global>,
     front: usize,
+    is_empty: bool,
 }
 
 /// Written out, so that crates above call it and don't prove again how each part is dropped.
 impl Drop for Finished {
     fn drop(self) {
-        let Finished { units, front: _ } = self;
+        let Finished {
+            units,
+            front: _,
+            is_empty: _,
+        } = self;
         drop(units);
     }
 }
@@ -30,7 +35,8 @@ impl Model for Finished {
     ghost use Rattle.std.specs.Coded.{codes};
     ghost use Rattle.gr_compile.specs.Codes.{unit_code};
     ghost use Rattle.gr_compile.specs.declared.unit.Unit.{Unit as PackageUnit};
-    ghost use Rattle.gr_finished.specs.Finished.{AreFinishedBelow};
+    ghost use Rattle.std.specs.Prelude.{IsTrue};
+    ghost use Rattle.gr_finished.specs.Finished.{AreFinishedBelow, HasNone};
 
     ghost Value = { List (Option PackageUnit) };
 
@@ -38,7 +44,7 @@ impl Model for Finished {
 
     ghost view = { λ a. arc_value a.units };
 
-    ghost invariant = { λ a. AreFinishedBelow (arc_value a.units) a.front };
+    ghost invariant = { λ a. AreFinishedBelow (arc_value a.units) a.front × (IsTrue a.is_empty → HasNone (arc_value a.units)) };
 }
 
 /// The unit of a package, if it is finished.
@@ -64,6 +70,28 @@ fn front_from(units: &SharedList<Option<Unit>>, least: usize) -> usize
     units.len().max(least)
 }
 
+/// Whether a package is finished.
+fn has_unit(units: &SharedList<Option<Unit>>, number: usize) -> bool
+    ensures { (IsTrue result → ⊥) → (unit : PackageUnit) → slice_get units.now number ≡ Some (Some unit) → ⊥ }
+{
+    match unit_at(units, number) {
+        Some(_) => true,
+        None => false,
+    }
+}
+
+/// Whether no package is finished.
+fn has_none(units: &SharedList<Option<Unit>>) -> bool
+    ensures { IsTrue result → HasNone units.now }
+{
+    for number in 0..units.len() {
+        if has_unit(units, number) {
+            return false;
+        }
+    }
+    true
+}
+
 impl Finished {
     /// The table of no package.
     pub fn new(alloc: Global) -> Result<Finished, AllocError>
@@ -77,19 +105,26 @@ impl Finished {
         ensures { IfOk result (λ table. table ≡ units) }
     {
         let front = front_from(&units, 0);
-        Finished::shared(alloc, units, front)
+        let is_empty = has_none(&units);
+        Finished::shared(alloc, units, front, is_empty)
     }
 
     fn shared(
         alloc: Global,
         units: SharedList<Option<Unit>>,
         front: usize,
+        is_empty: bool,
     ) -> Result<Finished, AllocError>
-        requires { AreFinishedBelow units front }
+        requires front { AreFinishedBelow units front }
+        requires empty { IsTrue is_empty → HasNone units }
         ensures { IfOk result (λ table. table ≡ units) }
     {
         let units = Arc::new(alloc, units)?;
-        Ok(Finished { units, front })
+        Ok(Finished {
+            units,
+            front,
+            is_empty,
+        })
     }
 
     /// The unit of a package, if it is finished.
@@ -106,6 +141,13 @@ impl Finished {
         self.front
     }
 
+    /// Whether no package is finished.
+    pub fn is_empty(&self) -> bool
+        ensures { IsTrue result → HasNone self.now }
+    {
+        self.is_empty
+    }
+
     /// The table in which one package more is finished.
     pub fn with_unit(
         &self,
@@ -119,7 +161,7 @@ impl Finished {
         let mut units = self.units.copy()?;
         units.set(number, Some(unit))?;
         let front = front_from(&units, self.front);
-        Finished::shared(alloc, units, front)
+        Finished::shared(alloc, units, front, false)
     }
 }
 
@@ -131,6 +173,7 @@ impl Clone for Finished {
         Ok(Finished {
             units,
             front: self.front,
+            is_empty: self.is_empty,
         })
     }
 }

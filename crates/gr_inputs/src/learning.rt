@@ -65,7 +65,7 @@ pub fn known_within(
         graph: files,
         known: known.get(),
     };
-    let mut within = Known::new(alloc);
+    let mut within = Known::with_capacity(alloc, inputs.len())?;
     for place in 0..inputs.len() {
         let number = gathered.number_at(place);
         let verdict = verdict_there(there, number, &inputs.package(place).path)?;

@@ -41,6 +41,9 @@ fn kept_unit(
     requires after_marks { AreMarks after.now before.now marks.now.after.items }
     ensures { IfOk result (λ found. OfPackage after.now number (λ p. KeepsUnit before.now finished.now after.now p found)) }
 {
+    if finished.is_empty() {
+        return Ok(None);
+    }
     let path = &after.package(number).path;
     let Some(old) = number_near(before, path, number, after.len()) else {
         return Ok(None);

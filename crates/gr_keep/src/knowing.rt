@@ -1,6 +1,7 @@
 //! What is known of packages, as it goes from a state to the next.
 ghost use Rattle.std.specs.Prelude.{◌<◌, IfOk, length};
 ghost use Rattle.gr_text.specs.Packages.{package_paths};
+ghost use Rattle.gr_text.specs.Workspace.{Workspace};
 ghost use Rattle.gr_graph.specs.Graphs.{OfPackage};
 ghost use Rattle.gr_verdict.specs.Found.{KnowsVerdicts};
 ghost use Rattle.gr_verdict.specs.Told.{MayTell};
@@ -42,6 +43,36 @@ fn kept_verdict(
     Ok(Some(verdict))
 }
 
+/// What is known of packages, as far as their closures keep their texts.
+fn verdicts_after(
+    alloc: Global,
+    before: &Graph,
+    known: &Known,
+    after: &Graph,
+    marks: &Marks,
+) -> Result<Known, AllocError>
+    requires known { KnowsVerdicts before.now known.now }
+    requires before_marks { AreMarks before.now after.now marks.now.before.items }
+    requires after_marks { AreMarks after.now before.now marks.now.after.items }
+    ensures { IfOk result (KnowsVerdicts after.now) }
+{
+    let mut carried = Known::with_capacity(alloc, after.len())?;
+    for number in 0..after.len() {
+        let verdict = kept_verdict(before, known, after, number, marks)?;
+        carried.push(verdict)?;
+    }
+    Ok(carried)
+}
+
+/// Nothing is known of packages still. What was known before is kept, as it is kept elsewhere.
+fn still_nothing(alloc: Global, known: &Known) -> Result<Known, AllocError>
+    ensures { IfOk result (λ nothing. (w : Workspace) → KnowsVerdicts w nothing) }
+{
+    let mut nothing = Known::new(alloc);
+    nothing.share_earlier(known)?;
+    Ok(nothing)
+}
+
 /// What is known of packages, as far as their closures keep their texts. What was known before is kept with it.
 fn kept_verdicts(
     alloc: Global,
@@ -55,11 +86,10 @@ fn kept_verdicts(
     requires after_marks { AreMarks after.now before.now marks.now.after.items }
     ensures { IfOk result (KnowsVerdicts after.now) }
 {
-    let mut carried = Known::new(alloc);
-    for number in 0..after.len() {
-        let verdict = kept_verdict(before, known, after, number, marks)?;
-        carried.push(verdict)?;
+    if known.is_empty() {
+        return still_nothing(alloc, known);
     }
+    let mut carried = verdicts_after(alloc, before, known, after, marks)?;
     carried.keep_earlier(alloc, before, known)?;
     Ok(carried)
 }

@@ -22,7 +22,6 @@ pub mod OwnDefinitions
 pub mod Sourced
 pub mod Whole
 pub mod OneObject
-pub mod Named
 pub mod Walking
 pub mod FittingParts
 pub mod FittingExpressions

@@ -1,8 +1,7 @@
 -- What is known of the names of packages.
 use Rattle.std.specs.Prelude.{ℕ, List, Option, Some, None, map, option_map, slice_get}
-use Rattle.std.specs.BTreeMap.{get_by}
-use Rattle.std.specs.Cmp.Lexicographic.{slice_cmp}
-use Rattle.std.specs.Ordering.{nat_cmp}
+use Rattle.std.specs.FinMap.{find}
+use Rattle.gr_text.specs.Workspace.{path_cmp}
 use Rattle.gr_tree.specs.SourceFile.{SourceFile, source_of}
 use Rattle.gr_declared.specs.DeclaredView.{type_of, function_of as placed_function}
 use Rattle.gr_declared.specs.Package.{PlacedType, declared_types}
@@ -13,13 +12,9 @@ use Rattle.gr_object.specs.declared.called.CalledPackages.{CalledPackages}
 use Rattle.gr_object.specs.Lines.{GlobalName, FunctionName}
 use Rattle.gr_object.specs.Names.{type_called, function_names, functions_behind, field_positions}
 
--- the names of a package, by its number
-abbrev pub names_at : List CalledNames → Option ℕ → Option CalledNames
-names_at names None = None
-names_at names (Some n) = slice_get names n
-
+-- the names of the package of a path
 abbrev pub package_in : CalledPackages → List ℕ → Option CalledNames
-package_in ps path = names_at ps.names.items (get_by (λ key. slice_cmp nat_cmp path key.items) ps.numbers)
+package_in ps path = find path_cmp path ps.names
 
 -- by the tables of a package, or else by its files
 

@@ -1,12 +1,8 @@
 //! What the declarations of packages are called, as it is kept.
-ghost use Rattle.std.specs.BTreeMap.{get_by};
-ghost use Rattle.std.specs.Cmp.Lexicographic.{slice_cmp};
-ghost use Rattle.std.specs.Ordering.{nat_cmp};
-ghost use Rattle.std.specs.Prelude.{◌≡◌, ◌<◌, ℕ, List, Some, length};
 
 use gr_declared::Declared;
+use gr_path_table::PathTable;
 use gr_tree::FileTree;
-use std::collections::BTreeMap;
 
 /// What a package declares, by ranks; and for each field where it stands in its struct.
 #[derive(Drop)]
@@ -24,10 +20,8 @@ pub struct CalledNames<'a> {
     pub tables: Option<DeclaredTables<'a>>,
 }
 
-/// The same of packages, by the numbers that their paths have.
+/// The same of packages, by their paths.
 #[derive(Drop)]
 pub struct CalledPackages<'a> {
-    pub numbers: BTreeMap<Vec<u8>, usize>,
-    pub names: Vec<CalledNames<'a>>,
-    ghost within: { (path : List ℕ) (n : ℕ) → get_by (λ key. slice_cmp nat_cmp path key.items) numbers ≡ Some n → n < length names.items },
+    pub names: PathTable<CalledNames<'a>>,
 }

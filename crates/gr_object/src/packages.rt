@@ -14,9 +14,9 @@ use crate::walks;
 use crate::walks::initializers_below;
 use gr_declared::{Function, TypeDef};
 use gr_expr::symbol::{SharedPath, Symbol};
+use gr_path_table::PathTable;
 use gr_tree::FileTree;
 use std::alloc::{AllocError, Global};
-use std::collections::BTreeMap;
 
 /// What the function of a rank is called. How many functions `init` stand before it is counted for such a function alone.
 fn function_of_rank<'a>(
@@ -153,30 +153,23 @@ impl<'a> CalledPackages<'a> {
         ensures { (path : List ℕ) → package_in result path ≡ None }
     {
         CalledPackages {
-            numbers: BTreeMap::new(alloc),
-            names: Vec::new(alloc),
+            names: PathTable::new(alloc),
         }
     }
 
     /// Adds the names of a package, in the place of those that are there.
-    pub fn add(&mut self, path: Vec<u8>, names: CalledNames<'a>) -> Result<(), AllocError>
-        ensures here { OnOk result (package_in self.new path.items ≡ Some names.entry) }
-        ensures elsewhere { OnOk result ((other : List ℕ) → (other ≡ path.items → ⊥) → package_in self.new other ≡ package_in self.old other) }
+    pub fn add(&mut self, path: SharedPath, names: CalledNames<'a>) -> Result<(), AllocError>
+        ensures here { OnOk result (package_in self.new path ≡ Some names.entry) }
+        ensures elsewhere { OnOk result ((other : List ℕ) → (other ≡ path → ⊥) → package_in self.new other ≡ package_in self.old other) }
     {
-        let number = self.names.len();
-        self.names.push(names)?;
-        self.numbers.insert(path, number)?;
-        Ok(())
+        self.names.put(path, names)
     }
 
     /// The names of a package.
     fn get(&self, path: &[u8]) -> Option<&CalledNames<'a>>
         ensures { option_copied result ≡ package_in self.now path.now }
     {
-        match self.numbers.get(path) {
-            None => None,
-            Some(number) => self.names.get(*number),
-        }
+        self.names.get(path)
     }
 
     /// What a type definition is called.

@@ -17,8 +17,9 @@ use Rattle.gr_verdict.specs.declared.gathered.Gathered.{Gathered}
 use Rattle.gr_verdict.specs.Verdicts.{BuildsOn, AreVerdictsBelow, AreVerdicts}
 use Rattle.gr_verdict.specs.Found.{IsFoundBy, AreFindings}
 use Rattle.gr_verdict.specs.Told.{known_by, AreWhole, IsFindingOf}
-use Rattle.gr_verdict.specs.Steps.{AreKnown, AreGathered, AreAllGathered, AreKnownBelow, IsGathered, IsBuildOrder, LearnsOf, MayLearn, somes}
+use Rattle.gr_verdict.specs.Steps.{AreKnown, AreGathered, AreAllGathered, AreKnownBelow, IsGathered, IsBuildOrder, KnowsAll, LearnsOf, MayLearn, somes}
 use Rattle.gr_verdict.proofs.Adding.{below_before, finding_as}
+use Rattle.gr_verdict.proofs.Closed.{not_on_itself, to_package}
 use Rattle.gr_verdict.proofs.Knowing.{learnt_next}
 use Rattle.gr_verdict.proofs.Members.{nothing_in}
 use Rattle.gr_verdict.proofs.OneVerdict.{right_alike, right_below}
@@ -133,11 +134,25 @@ below_all w order built n within all h p at q on =
     let b = below_before w order built i.0 n p q (slice_get-get_or order i.0 n i.1 ∙ ap Some i.2) at on in
     (b.0, (h.each b.0 ((built.each b.0).1 (slice_get_within (package_paths w) b.0 q b.1.1)), b.1.1))
 
+pub below_others : (w : Workspace) (number : ℕ) (all : Gathered) → AreGathered w (length (package_paths w)) all →
+    ((n : ℕ) → n < length all.findings.items → (n ≡ number → ⊥) → IsGathered all.findings.items n) → OfPackage w number (λ p. AreKnownBelow w p all)
+below_others w i all h others p at q on =
+    let n = number w q (to_package w p q on.imported) in
+    let lt : n.0 < length all.findings.items = subst (λ k. n.0 < k) (sym h.size) (slice_get_within (package_paths w) n.0 q n.1) in
+    let apart : n.0 ≡ i → ⊥ = λ e. not_on_itself w p q on (same_Some q p (sym n.1 ∙ subst (λ k. slice_get (package_paths w) k ≡ Some p) (sym e) at)) in
+    (n.0, (others n.0 lt apart, n.1))
+
 -- all packages
 
-pub each_there : (w : Workspace) (order : List ℕ) (all : Gathered) → IsBuildOrder w order → AreAllGathered w order all → (n : ℕ) →
-    n < length all.findings.items → IsGathered all.findings.items n
-each_there w order all built h n lt = h.each n ((built.each n).1 (subst (λ k. n < k) h.right.size lt))
+pub all_known : (w : Workspace) (order : List ℕ) (all : Gathered) → IsBuildOrder w order → AreAllGathered w order all → KnowsAll w all
+all_known w order all built h = record { right = h.right; each = λ n lt. h.each n ((built.each n).1 lt) }
+
+pub knows_each : (w : Workspace) (all : Gathered) → AreGathered w (length (package_paths w)) all →
+    ((n : ℕ) → n < length all.findings.items → IsGathered all.findings.items n) → KnowsAll w all
+knows_each w all h each = record { right = h; each = λ n lt. each n (subst (λ k. n < k) (sym h.size) lt) }
+
+pub each_there : (w : Workspace) (all : Gathered) → KnowsAll w all → (n : ℕ) → n < length all.findings.items → IsGathered all.findings.items n
+each_there w all h n lt = h.each n (subst (λ k. n < k) h.right.size lt)
 
 pub there_next : (found new : List Finding) (f : Finding) (all : List (Option Finding)) (k : ℕ) (o : Option Finding) → somes found ≡ take k all →
     new ≡ found ++ f ∷ [] → k < length all → get_or all k o ≡ Some f → somes new ≡ take (k + 1) all
@@ -149,9 +164,9 @@ there_at : (found : List Finding) (all : List (Option Finding)) → somes found 
 there_at found all same n f is = ap (λ l. slice_get l n) (sym same) ∙ slice_get-map (λ (x : Finding). Some x) found n ∙
     ap (option_map (λ (x : Finding). Some x)) is
 
-module _ (w : Workspace) (order : List ℕ) (all : Gathered) (built : IsBuildOrder w order) (h : AreAllGathered w order all) where
+module _ (w : Workspace) (all : Gathered) (h : KnowsAll w all) where
   all_right : AreVerdicts w (known_by all.interfaces)
-  all_right p has = let n = number w p has in h.right.verdicts.right n.0 p (h.each n.0 ((built.each n.0).1 (slice_get_within (package_paths w) n.0 p n.1))) n.1
+  all_right p has = let n = number w p has in h.right.verdicts.right n.0 p (h.each n.0 (slice_get_within (package_paths w) n.0 p n.1)) n.1
 
   pub all_found : (found : Findings) → somes found.packages.items ≡ all.findings.items → found.interfaces ≡ all.interfaces → AreFindings w found
   all_found found same interfaces =

@@ -153,10 +153,14 @@ pub record AreAllGathered (w : Workspace) (numbers : List ℕ) (all : Gathered) 
 abbrev pub somes : List Finding → List (Option Finding)
 somes findings = map (λ (f : Finding). Some f) findings
 
--- what is found in packages while they are judged, and the order in which they are
-pub record IsUnderway (w : Workspace) (progress : Progress) : Type 0 where
-  pub order : IsBuildOrder w progress.order.items
-  pub right : AreGathered w (length (package_paths w)) progress.all
+-- it is known of each package what is found in it
+pub record KnowsAll (w : Workspace) (all : Gathered) : Type 0 where
+  pub right : AreGathered w (length (package_paths w)) all
+  pub each : (n : ℕ) → n < length (package_paths w) → IsGathered all.findings.items n
+
+-- what is found in packages while they are judged
+abbrev pub IsUnderway : Workspace → Progress → Type 0
+IsUnderway w progress = AreGathered w (length (package_paths w)) progress.all
 
 -- of all that p builds on the verdicts are known
 abbrev pub AreKnownBelow : Workspace → List ℕ → Gathered → Type 0

@@ -8,7 +8,7 @@ ghost use Rattle.gr_verdict.specs.Earlier.{AreSteady, HaveSameImports};
 ghost use Rattle.gr_verdict.specs.Found.{IsFound, KnowsVerdicts};
 ghost use Rattle.gr_verdict.specs.Steady.{ArePassedBelow};
 ghost use Rattle.gr_verdict.specs.Told.{known_by, AreWhole};
-ghost use Rattle.gr_verdict.specs.Steps.{AreAllGathered, AreGathered, IsBuildOrder, IsGathered, IsJudged, MayAdd, Learns, LearnsOf, MayLearn, somes};
+ghost use Rattle.gr_verdict.specs.Steps.{AreAllGathered, AreGathered, IsBuildOrder, IsGathered, IsJudged, KnowsAll, MayAdd, Learns, LearnsOf, MayLearn, somes};
 
 use crate::earlier::Earlier;
 use crate::finding::{Finding, SharedFinding};
@@ -196,8 +196,8 @@ fn judge_changed(
     Ok(())
 }
 
-/// Judges what is not known yet, behind all that it builds on.
-fn judge_rest(
+/// Judges what is not known yet in an order, behind all that it builds on.
+fn judge_in(
     alloc: Global,
     graph: &Graph,
     order: &[usize],
@@ -214,6 +214,23 @@ fn judge_rest(
     }
 }
 
+/// Judges what is not known yet. No order is looked for where all is known.
+fn judge_rest(
+    alloc: Global,
+    graph: &Graph,
+    known: &Known,
+    all: &mut Gathered,
+) -> Result<(), AllocError>
+    requires { AreGathered graph.now (length (package_paths graph.now)) all.old }
+    ensures { OnOk result (KnowsAll graph.now all.new) }
+{
+    if all.knows_all() {
+        return Ok(());
+    }
+    let order = order(alloc, graph)?;
+    judge_in(alloc, graph, &order, known, all)
+}
+
 /// Findings, each of which is there.
 fn all_there(
     alloc: Global,
@@ -222,7 +239,7 @@ fn all_there(
     requires { (n : ℕ) → n < length findings.now → IsGathered findings.now n }
     ensures { IfOk result (λ packages. somes packages.items ≡ findings.now) }
 {
-    let mut packages = Vec::new(alloc);
+    let mut packages = Vec::with_capacity(alloc, findings.len())?;
     for there in findings {
         if let Some(finding) = there {
             packages.push(finding.clone()?)?;
@@ -231,21 +248,19 @@ fn all_there(
     Ok(packages)
 }
 
-/// What is found in each package, where it is known of some, and the others are judged in an order.
+/// What is found in each package, where it is known of some, and the others are judged.
 pub(crate) fn verdicts_from(
     alloc: Global,
     graph: &Graph,
-    order: &[usize],
     known: &Known,
     gathered: Gathered,
 ) -> Result<Found, AllocError>
-    requires order { IsBuildOrder graph.now order.now }
     requires known { KnowsVerdicts graph.now known.now }
     requires gathered { AreGathered graph.now (length (package_paths graph.now)) gathered }
     ensures { IfOk result (IsFound graph.now) }
 {
     let mut all = gathered;
-    judge_rest(alloc, graph, order, known, &mut all)?;
+    judge_rest(alloc, graph, known, &mut all)?;
     let known = known_now(alloc, graph, known, &all)?;
     let packages = all_there(alloc, &all.findings)?;
     let interfaces = all.interfaces;
@@ -264,6 +279,5 @@ pub fn verdicts(alloc: Global, graph: &Graph, known: &Known) -> Result<Found, Al
     ensures { IfOk result (IsFound graph.now) }
 {
     let all = gather(alloc, graph, known)?;
-    let order = order(alloc, graph)?;
-    verdicts_from(alloc, graph, &order, known, all)
+    verdicts_from(alloc, graph, known, all)
 }

@@ -97,6 +97,40 @@ impl Gathered {
         true
     }
 
+    /// Whether it is known what is found in a package, or it is one of which that isn't asked.
+    fn knows_beside(&self, unasked: usize, number: usize) -> bool
+        ensures { IsTrue result → (number ≡ unasked → ⊥) → IsGathered self.now.findings.items number }
+    {
+        if number == unasked {
+            return true;
+        }
+        self.knows(number)
+    }
+
+    /// Whether it is known of each package but one what is found in it.
+    pub(crate) fn knows_others(&self, unasked: usize) -> bool
+        ensures { IsTrue result → (n : ℕ) → n < length self.now.findings.items → (n ≡ unasked → ⊥) → IsGathered self.now.findings.items n }
+    {
+        for number in 0..self.findings.len() {
+            if !self.knows_beside(unasked, number) {
+                return false;
+            }
+        }
+        true
+    }
+
+    /// Whether it is known of each package what is found in it.
+    pub(crate) fn knows_all(&self) -> bool
+        ensures { IsTrue result → (n : ℕ) → n < length self.now.findings.items → IsGathered self.now.findings.items n }
+    {
+        for number in 0..self.findings.len() {
+            if !self.knows(number) {
+                return false;
+            }
+        }
+        true
+    }
+
     /// Takes what was known of a package, of which nothing is known yet.
     pub(crate) fn keep(
         &mut self,
@@ -186,7 +220,7 @@ pub(crate) fn known_now(
     requires now { AreGathered graph.now (length (package_paths graph.now)) now.now }
     ensures { IfOk result (KnowsVerdicts graph.now) }
 {
-    let mut all = Known::new(alloc);
+    let mut all = Known::with_capacity(alloc, graph.len())?;
     for number in 0..graph.len() {
         let verdict = verdict_now(alloc, graph, number, before, now)?;
         all.push(verdict)?;

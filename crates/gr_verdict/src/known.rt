@@ -1,6 +1,6 @@
 //! What is known of packages: what is found in some of them, with the verdicts on these, and what was known of all before the
 //! workspace changed.
-ghost use Rattle.std.specs.Prelude.{◌≡◌, ◌++◌, [], ◌∷◌, IfOk, IfSome, MatchOption, None, OnOk, Some, slice_get};
+ghost use Rattle.std.specs.Prelude.{◌≡◌, ◌↔◌, ◌++◌, [], ◌∷◌, IfOk, IfSome, IsTrue, MatchOption, None, OnOk, Some, slice_get};
 ghost use Rattle.gr_text.specs.Workspace.{Workspace};
 ghost use Rattle.gr_declared.specs.InterfacesView.{interface_in, name_in};
 ghost use Rattle.gr_verdict.specs.Earlier.{HaveSameImports};
@@ -170,6 +170,25 @@ impl Known {
             verdicts: Vec::new(alloc),
             earlier: None,
         }
+    }
+
+    /// The same, with room for so many packages.
+    pub fn with_capacity(alloc: Global, count: usize) -> Result<Known, AllocError>
+        ensures nothing { IfOk result (λ known. known.verdicts.items ≡ []) }
+        ensures right { IfOk result (λ known. (w : Workspace) → KnowsVerdicts w known) }
+    {
+        let verdicts = Vec::with_capacity(alloc, count)?;
+        Ok(Known {
+            verdicts,
+            earlier: None,
+        })
+    }
+
+    /// Whether nothing was told of any package.
+    pub fn is_empty(&self) -> bool
+        ensures { IsTrue result ↔ (self.now.verdicts.items ≡ []) }
+    {
+        self.verdicts.is_empty()
     }
 
     /// What is known of the package of a number, if anything is.

@@ -18,10 +18,9 @@ use gr_graph::Graph;
 use gr_types::Checked;
 use std::alloc::{AllocError, Global};
 
-/// What is found in packages while they are judged, and the order in which they are.
+/// What is found in packages while they are judged.
 #[derive(Drop)]
 pub struct Progress {
-    pub(crate) order: Vec<usize>,
     pub(crate) all: Gathered,
 }
 
@@ -48,6 +47,25 @@ fn judge_before(
     Ok(())
 }
 
+/// Judges packages until each is known on which one builds. No order is looked for where all but that one are.
+fn judge_below(
+    alloc: Global,
+    graph: &Graph,
+    number: usize,
+    all: &mut Gathered,
+) -> Result<(), AllocError>
+    requires in_range { number < length (package_paths graph.now) }
+    requires all { AreGathered graph.now (length (package_paths graph.now)) all.old }
+    ensures right { OnOk result (AreGathered graph.now (length (package_paths graph.now)) all.new) }
+    ensures below { OnOk result (OfPackage graph.now number (λ p. AreKnownBelow graph.now p all.new)) }
+{
+    if all.knows_others(number) {
+        return Ok(());
+    }
+    let order = order(alloc, graph)?;
+    judge_before(alloc, graph, &order, number, all)
+}
+
 /// Takes in what checking found in a package, of which nothing is known yet.
 fn learn_checked(
     alloc: Global,
@@ -72,8 +90,7 @@ fn learn_checked(
 }
 
 impl Progress {
-    /// Where each package was judged that stands in front of one, among them all that this one builds on. What is known is not found
-    /// again.
+    /// Where each package was judged that one builds on, and it may be others. What is known is not found again.
     pub fn before(
         alloc: Global,
         graph: &Graph,
@@ -86,9 +103,8 @@ impl Progress {
         ensures below { IfOk result (λ progress. OfPackage graph.now number (λ p. AreKnownBelow graph.now p progress.all)) }
     {
         let mut all = gather(alloc, graph, known)?;
-        let order = order(alloc, graph)?;
-        judge_before(alloc, graph, &order, number, &mut all)?;
-        Ok(Progress { order, all })
+        judge_below(alloc, graph, number, &mut all)?;
+        Ok(Progress { all })
     }
 
     /// Whether it is known what is found in the package of a number.
@@ -147,7 +163,7 @@ impl Progress {
         requires known { KnowsVerdicts graph.now known.now }
         ensures { IfOk result (IsFound graph.now) }
     {
-        let Progress { order, all } = self;
-        verdicts_from(alloc, graph, &order, known, all)
+        let Progress { all } = self;
+        verdicts_from(alloc, graph, known, all)
     }
 }

@@ -19,7 +19,7 @@ told_text-requires c = record {
   at = c.requires.at;
   files = c.requires.files;
   read = c.requires.read;
-  whole = subst AreWhole (sym c.interfaces-all.ensures) c.requires.right.right.verdicts.whole;
+  whole = subst AreWhole (sym c.interfaces-all.ensures) c.requires.right.verdicts.whole;
   told = subst (IsSeenIn c.args.graph.now c.args.path.now) (sym c.interfaces-all.ensures) (c.in_ok-just.ensures c.if-just.true c.args.path.now c.requires.at);
 }
 
@@ -28,7 +28,7 @@ read_text-requires c = record {
   at = c.requires.at;
   files = c.requires.files;
   read = c.requires.read;
-  whole = subst AreWhole (sym c.interfaces-all.ensures) c.requires.right.right.verdicts.whole;
+  whole = subst AreWhole (sym c.interfaces-all.ensures) c.requires.right.verdicts.whole;
 }
 
 pub returns-then-just : goal.returns-then-just

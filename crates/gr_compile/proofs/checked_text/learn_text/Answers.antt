@@ -29,5 +29,5 @@ learn-requires c =
 pub returns : goal.returns
 returns c = record {
   right = c.in_ok-learn.ensures;
-  text = c.in_ok-made.ensures.text (known_right c.args.graph.now c.args.path.now c.args.progress.now.all c.requires.right.right c.requires.below);
+  text = c.in_ok-made.ensures.text (known_right c.args.graph.now c.args.path.now c.args.progress.now.all c.requires.right c.requires.below);
 }

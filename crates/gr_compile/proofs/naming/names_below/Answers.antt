@@ -39,7 +39,7 @@ loop-other-preserved c =
     let old = c.loop-other.packages in
     let new = c.add.new.self in
     let names = c.in_ok-names.names in
-    let key : c.in_ok-path.path.items ≡ q = c.in_ok-path.ensures.items ∙ c.deref.ensures.value in
+    let key : c.in_ok-path.path ≡ q = c.in_ok-path.ensures ∙ c.deref.ensures.value in
     let are : AreFilesOf w q (map source_of files.trees.items) =
     record { parts = files.trees.items; faulty = files.faulty.items; parsed = c.package-files.ensures.files; are_files = refl } in
     let called : IsCalled new q (map source_of files.trees.items) =

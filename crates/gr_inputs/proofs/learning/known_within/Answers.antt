@@ -9,7 +9,7 @@ use Rattle.gr_inputs.proofs.LearnedVerdicts.{tells_here}
 use Rattle.gr_inputs.proofs.learning.known_within.Goals as goal
 
 pub loop-place-init : goal.loop-place-init
-loop-place-init c = nothing_told c.new-within.result c.new-within.ensures.nothing c.args.inputs.now
+loop-place-init c = nothing_told c.in_ok-within.within c.in_ok-within.ensures.nothing c.args.inputs.now
 
 pub loop-place-preserved : goal.loop-place-preserved
 loop-place-preserved c =

@@ -6,16 +6,11 @@ use Rattle.gr_verdict.proofs.findings.verdicts_from.Goals as goal
 
 pub all_there-requires : goal.all_there-requires
 all_there-requires c = λ n lt.
-    let w = c.args.graph.now in
-    let there = each_there w c.args.order.now c.judge_rest.new.all c.requires.order c.in_ok-judge_rest.ensures n
-    (subst (λ l. n < length l) c.deref.ensures.value lt) in
+    let there = each_there c.args.graph.now c.judge_rest.new.all c.in_ok-judge_rest.ensures n (subst (λ l. n < length l) c.deref.ensures.value lt) in
     subst (λ l. IsGathered l n) (sym c.deref.ensures.value) there
 
 pub returns : goal.returns
-returns c =
-    let w = c.args.graph.now in
-    record {
-      findings = all_found w c.args.order.now c.judge_rest.new.all c.requires.order c.in_ok-judge_rest.ensures _
-          (c.in_ok-packages.ensures ∙ c.deref.ensures.value) refl;
-      verdicts = c.in_ok-known.ensures;
-    }
+returns c = record {
+  findings = all_found c.args.graph.now c.judge_rest.new.all c.in_ok-judge_rest.ensures _ (c.in_ok-packages.ensures ∙ c.deref.ensures.value) refl;
+  verdicts = c.in_ok-known.ensures;
+}

@@ -3,7 +3,7 @@ use Rattle.gr_verdict.proofs.Telling.{nothing_told, told_next}
 use Rattle.gr_verdict.proofs.gathered.known_now.Goals as goal
 
 pub loop-number-init : goal.loop-number-init
-loop-number-init c = nothing_told c.new-all.result c.new-all.ensures.nothing c.args.graph.now
+loop-number-init c = nothing_told c.in_ok-all.all c.in_ok-all.ensures.nothing c.args.graph.now
 
 pub loop-number-preserved : goal.loop-number-preserved
 loop-number-preserved c =

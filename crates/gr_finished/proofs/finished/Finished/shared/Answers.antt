@@ -1,7 +1,10 @@
 -- The table is that of the units.
 use Rattle.std.proofs.Common.{sym, subst}
-use Rattle.gr_finished.specs.Finished.{Table, AreFinishedBelow}
+use Rattle.gr_finished.specs.Finished.{Table, AreFinishedBelow, HasNone}
 use Rattle.gr_finished.proofs.finished.Finished.shared.Goals as goal
 
 pub invariant_of-result : goal.invariant_of-result
-invariant_of-result c = subst (λ (t : Table). AreFinishedBelow t c.args.front) (sym c.in_ok-units.ensures.ok) c.requires
+invariant_of-result c = (
+  subst (λ (t : Table). AreFinishedBelow t c.args.front) (sym c.in_ok-units.ensures.ok) c.requires.front,
+  λ t. subst HasNone (sym c.in_ok-units.ensures.ok) (c.requires.empty t),
+)

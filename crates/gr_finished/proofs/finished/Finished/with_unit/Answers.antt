@@ -11,7 +11,7 @@ front_from-front-requires c =
     let u = c.args.unit in
     let front = c.self.inside.front in
     let is : c.in_ok-units.units ≡ c.args.self.now = c.in_ok-units.ensures ∙ c.deref.ensures ∙ c.self.view_is in
-    let held : AreFinishedBelow c.args.self.now front = subst (λ (t : Table). AreFinishedBelow t front) c.self.view_is c.self.invariant in
+    let held : AreFinishedBelow c.args.self.now front = subst (λ (t : Table). AreFinishedBelow t front) c.self.view_is c.self.invariant.0 in
     subst (λ (t : Table). AreFinishedBelow t front) (sym c.in_ok-set.ensures.ok)
     (subst (λ (t : Table). AreFinishedBelow (set t n (Some u)) front) (sym is)
     (finished_still c.args.self.now n front u c.requires held))

@@ -1,8 +1,8 @@
--- The answers to the goals of `called::Packages::new`.
+-- Nothing is found in an empty table.
 use Rattle.std.proofs.Common.{ap}
-use Rattle.gr_object.specs.PackagesView.{names_at}
-use Rattle.gr_object.proofs.Named.{no_number}
+use Rattle.std.specs.FinMap.{find}
+use Rattle.gr_text.specs.Workspace.{path_cmp}
 use Rattle.gr_object.proofs.called.CalledPackages.new.Goals as goal
 
 pub returns : goal.returns
-returns c = λ path. ap (names_at _) (no_number c.new.result c.new.ensures.empty path)
+returns c = λ path. ap (find path_cmp path) c.new.ensures

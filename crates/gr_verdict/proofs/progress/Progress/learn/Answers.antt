@@ -7,7 +7,7 @@ use Rattle.gr_verdict.proofs.progress.Progress.learn.Goals as goal
 pub learn_checked-requires : goal.learn_checked-requires
 learn_checked-requires c = record {
   in_range = c.requires.in_range;
-  all = c.requires.right.right;
+  all = c.requires.right;
   unknown = c.requires.unknown;
   path = c.requires.path;
   checked = c.requires.checked;
@@ -18,8 +18,5 @@ returns c =
     let w = c.args.graph.now in
     let n = c.args.number in
     let p = slice_get_some (package_paths w) n c.requires.in_range in
-    record {
-      order = c.requires.right.order;
-      right = learnt_of w p.0 n c.args.self.now.all c.learn_checked.new.all p.1 c.requires.unknown (c.requires.below p.0 p.1) c.requires.right.right
-          (c.in_ok-learn_checked.ensures p.0 p.1);
-    }
+    learnt_of w p.0 n c.args.self.now.all c.learn_checked.new.all p.1 c.requires.unknown (c.requires.below p.0 p.1) c.requires.right
+    (c.in_ok-learn_checked.ensures p.0 p.1)

@@ -14,5 +14,5 @@ returns c = λ t p at.
     let w = c.args.graph.now in
     let all = c.args.self.now.all in
     just_seen w p c.as_slice.result.now all.findings.items all.interfaces
-    (subst (HoldsPackages w (BuildsOn w p)) (sym c.as_slice.ensures) (c.in_ok-below.ensures.below p at)) c.requires.right.right.verdicts
+    (subst (HoldsPackages w (BuildsOn w p)) (sym c.as_slice.ensures) (c.in_ok-below.ensures.below p at)) c.requires.right.verdicts
     (c.knows_just.ensures t)
